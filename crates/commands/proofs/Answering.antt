@@ -7,24 +7,27 @@ use Rattle.commands.specs.declared.ending.Ended.{Ended}
 use Rattle.commands.specs.declared.ending.Ended.TheVariants as ended
 use Rattle.commands.specs.Answer.{Answer}
 use Rattle.commands.specs.Course.{Command, Answered, BoardFailed}
-use Rattle.commands.specs.Ending.{Comes}
+use Rattle.commands.specs.Ending.{EndsByCourse}
 use Rattle.commands.specs.Opened.{IsBarred}
 use Rattle.commands.specs.LastLine.{refused_as, status_of}
 use Rattle.commands.specs.Stream.{Takes, bad_status}
 use Rattle.commands.proofs.Barring.{owed-barred}
 use Rattle.commands.proofs.Streams as streams
 
-module _ (c : Command) (contents left : ℕ → List ℕ) (image : List ℕ) (read_failed : ℕ → Type 0) (failed told : Type 0) (before now : List ℕ)
+module _ (c : Command) (contents left : ℕ → List ℕ) (image : List ℕ) (read_failed : ℕ → Type 0) (failed told : Type 0)
+    (before now : List ℕ)
     (untouched : Takes c.drive contents left []) (still : now ≡ before) where
   abbrev pub Stopped : Ended → Type 0
-  Stopped end = Comes c contents left image read_failed failed (λ text. told → now ≡ before ++ text) (λ text. told → Begins before now text) end
+  Stopped end = EndsByCourse c contents left image read_failed failed (λ text. told → now ≡ before ++ text)
+      (λ text. told → Begins before now text) end
 
   -- nothing was printed
   pub none : (text : List ℕ) → text ≡ [] → now ≡ before ++ text
   none text e = still ∙ sym (ap (λ (x : List ℕ). before ++ x) e ∙ append-nil before)
 
-  pub comes-refusal : (end : Ended) → c.answer contents image ≡ refused_as end → ¬ c.reads_all (status_of end) → status_of end ≢ bad_status c.drive → Stopped end
-  comes-refusal end e not_all not_bad =
+  pub course-refusal : (end : Ended) → c.answer contents image ≡ refused_as end → ¬ c.reads_all (status_of end)
+      → status_of end ≢ bad_status c.drive → Stopped end
+  course-refusal end e not_all not_bad =
       let status : (c.answer contents image).status ≡ status_of end = ap (λ (a : Answer). a.status) e in
       record {
         course = Answered;
@@ -39,19 +42,22 @@ module _ (c : Command) (contents left : ℕ → List ℕ) (image : List ℕ) (re
         });
       }
 
-  pub comes-board : failed → Stopped ended.BoardFault
-  comes-board cause = record {
+  pub course-board : failed → Stopped ended.BoardFault
+  course-board cause = record {
     course = BoardFailed [];
     may = record { failed = cause; takes = untouched };
     stands = inr (record { ended_is = refl; failed = cause; started = λ t. begins_not before now _ still });
   }
 
   -- the store bars the command, by its answer or by a fault of the board
-  pub comes-barred : ¬ c.reads_all 4 → ¬ c.reads_all 5 → (end : Ended) → IsBarred end → (end ≢ ended.BoardFault → c.answer contents image ≡ refused_as end)
+  pub course-barred : ¬ c.reads_all 4 → ¬ c.reads_all 5 → (end : Ended) → IsBarred end
+      → (end ≢ ended.BoardFault → c.answer contents image ≡ refused_as end)
       → (end ≡ ended.BoardFault → failed) → Stopped end
-  comes-barred not_4 not_5 =
+  course-barred not_4 not_5 =
       owed-barred (λ (end : Ended). c.answer contents image ≡ refused_as end) (λ (end : Ended). Stopped end) failed
-      (λ e. comes-refusal ended.NotSealed e not_4 (streams.not_bad 4 c.drive (λ z. absurd cc) (λ z. absurd cc)))
-      (λ slot e. comes-refusal (ended.BadSlot slot) e not_5 (streams.not_bad 5 c.drive (λ z. absurd cc) (λ z. absurd cc)))
-      (λ first second e. comes-refusal (ended.SameNumber first second) e not_5 (streams.not_bad 5 c.drive (λ z. absurd cc) (λ z. absurd cc)))
-      comes-board
+      (λ e. course-refusal ended.NotSealed e not_4 (streams.not_bad 4 c.drive (λ z. absurd cc) (λ z. absurd cc)))
+      (λ slot e. course-refusal (ended.BadSlot slot) e not_5
+      (streams.not_bad 5 c.drive (λ z. absurd cc) (λ z. absurd cc)))
+      (λ first second e. course-refusal (ended.SameNumber first second) e not_5
+      (streams.not_bad 5 c.drive (λ z. absurd cc) (λ z. absurd cc)))
+      course-board

@@ -9,17 +9,19 @@ use Rattle.commands.specs.declared.ending.Ended.TheVariants as ended
 use Rattle.commands.specs.Call.{HasReadFault, IsCall, IsEnd, LeavesUnread, MayLack, MayTake}
 use Rattle.commands.specs.Carried.{Carries}
 use Rattle.commands.specs.Course.{Command, Course, Answered, ReadFailed, NoMemory, BoardFailed, status_in, text_in}
-use Rattle.commands.specs.Ending.{ComesOn, HasCauseOn}
+use Rattle.commands.specs.Ending.{EndsOnDevices, HasCauseOn}
 use Rattle.commands.specs.LastLine.{line_of, status_of}
 use Rattle.commands.specs.Unwritten.{WritesNothing}
 use Rattle.commands.proofs.Counting.{rose_after, rose_before}
 use Rattle.commands.proofs.Endings.{ends-with, finishes-later, may-then}
 use Rattle.commands.proofs.Unwritten.{bytes-kept, bytes-then}
 
-module _ {E D L : Type 0} {N : ℕ} (F : FileGhosts E) (B : Ghosts D N L) (files files' : E) (old mid new : D) (end : Ended) (status : ℕ)
+module _ {E D L : Type 0} {N : ℕ} (F : FileGhosts E) (B : Ghosts D N L) (files files' : E) (old mid new : D)
+    (end : Ended) (status : ℕ)
     (cause : HasCauseOn B old mid end) (later : RisesOnlyIf (status ≢ status_of end) (B.faults mid) (B.faults new))
-    (finish : IsEnd B.tells_text (Rose (B.faults mid) (B.faults new)) (status_of end) (line_of end) status (B.printed mid) (B.printed new)) where
-  pub call_from : (command : Command) → ComesOn F B command files files' old mid end
+    (finish : IsEnd B.tells_text (Rose (B.faults mid) (B.faults new)) (status_of end) (line_of end) status
+    (B.printed mid) (B.printed new)) where
+  pub call_from : (command : Command) → EndsOnDevices F B command files files' old mid end
       → LeavesUnread command (F.rest files) (F.rest files') (B.image old)
       → IsCall F B command files files' old new status
   call_from command h unread =
@@ -29,35 +31,42 @@ module _ {E D L : Type 0} {N : ℕ} (F : FileGhosts E) (B : Ghosts D N L) (files
       rose_after B old mid new end status cause later finish in
       record {
         course = h.course;
-        may = may-then command (F.rest files) (F.rest files') (B.image old) _ (Rose (B.faults old) (B.faults mid)) (Rose (B.faults old) (B.faults new)) more h.course h.may;
-        ends = ends-with command (F.rest files) (F.rest files') (B.image old) _ (Rose (B.faults old) (B.faults mid)) (Rose (B.faults old) (B.faults new)) B.tells_text
+        may = may-then command (F.rest files) (F.rest files') (B.image old) _ (Rose (B.faults old) (B.faults mid))
+            (Rose (B.faults old) (B.faults new)) more h.course h.may;
+        ends = ends-with command (F.rest files) (F.rest files') (B.image old) _ (Rose (B.faults old) (B.faults mid))
+            (Rose (B.faults old) (B.faults new)) B.tells_text
             (B.printed old) (B.printed mid) (B.printed new) end status h more
-            (finishes-later B.tells_text (Rose (B.faults mid) (B.faults new)) (Rose (B.faults old) (B.faults new)) end status (B.printed mid) (B.printed new) after finish);
+            (finishes-later B.tells_text (Rose (B.faults mid) (B.faults new))
+            (Rose (B.faults old) (B.faults new)) end status (B.printed mid) (B.printed new) after finish);
         unread = unread;
       }
 
-  pub call_course : (command : Command) (h : ComesOn F B command files files' old mid end)
+  pub call_course : (command : Command) (h : EndsOnDevices F B command files files' old mid end)
       (unread : LeavesUnread command (F.rest files) (F.rest files') (B.image old))
       → (call_from command h unread).course ≡ h.course
   unfolding call_from
   call_course command h unread = refl
 
   -- a status with which nothing is written
-  status_before : (command : Command) → ((n : ℕ) → command.writes n → command.writes 8) → ¬ (command.writes status) → ¬ (command.writes (status_of end))
+  status_before : (command : Command) → ((n : ℕ) → command.writes n → command.writes 8) → ¬ (command.writes status)
+      → ¬ (command.writes (status_of end))
   status_before command fails not = by finish
     where
-      by : IsEnd B.tells_text (Rose (B.faults mid) (B.faults new)) (status_of end) (line_of end) status (B.printed mid) (B.printed new) → ¬ (command.writes (status_of end))
+      by : IsEnd B.tells_text (Rose (B.faults mid) (B.faults new)) (status_of end) (line_of end) status (B.printed mid)
+          (B.printed new) → ¬ (command.writes (status_of end))
       by (inl whole) w = not (subst (λ (n : ℕ). command.writes n) (sym whole.status_is) w)
       by (inr cut) w = not (subst (λ (n : ℕ). command.writes n) (sym cut.status_is) (fails (status_of end) w))
 
   no_board : status ≢ 8 → end ≢ ended.BoardFault
   no_board not_8 e = by finish
     where
-      by : IsEnd B.tells_text (Rose (B.faults mid) (B.faults new)) (status_of end) (line_of end) status (B.printed mid) (B.printed new) → ⊥
+      by : IsEnd B.tells_text (Rose (B.faults mid) (B.faults new)) (status_of end) (line_of end) status (B.printed mid)
+          (B.printed new) → ⊥
       by (inl whole) = not_8 (whole.status_is ∙ ap status_of e)
       by (inr cut) = not_8 cut.status_is
 
-  pub nothing_written : (command : Command) (before now : ℕ) → KeepsStore B mid new → Carries F B command files files' old mid before now end
+  pub nothing_written : (command : Command) (before now : ℕ) → KeepsStore B mid new
+      → Carries F B command files files' old mid before now end
       → ¬ (command.writes status) → WritesNothing B old new status
   nothing_written command before now kept carried not =
       let still = status_before command carried.fails not in
@@ -73,23 +82,29 @@ module _ {E D L : Type 0} {N : ℕ} (F : FileGhosts E) (B : Ghosts D N L) (files
       carried.at_rest known told opened (no_board not_8) place (kept.flight place flies)
 
 -- without a fault of the outside the status is that of the answer, unless memory ran out
-module _ {E D L : Type 0} {N : ℕ} (F : FileGhosts E) (B : Ghosts D N L) (c : Command) (files files' : E) (old new : D) (status : ℕ)
+module _ {E D L : Type 0} {N : ℕ} (F : FileGhosts E) (B : Ghosts D N L) (c : Command) (files files' : E)
+    (old new : D) (status : ℕ)
     (read : ¬ (HasReadFault F c files files')) (calm : ¬ (Rose (B.faults old) (B.faults new))) where
   abbrev Completes : Type 0
-  Completes = (status ≡ (c.answer (F.rest files) (B.image old)).status) ⊎ ((status ≡ 12) × MayLack c (F.rest files) (B.image old))
+  Completes = (status ≡ (c.answer (F.rest files) (B.image old)).status)
+      ⊎ ((status ≡ 12) × MayLack c (F.rest files) (B.image old))
 
   abbrev EndsWith : ℕ → List ℕ → Type 0
-  EndsWith ended text = IsEnd B.tells_text (Rose (B.faults old) (B.faults new)) ended text status (B.printed old) (B.printed new)
+  EndsWith ended text =
+      IsEnd B.tells_text (Rose (B.faults old) (B.faults new)) ended text status (B.printed old) (B.printed new)
 
   status_whole : (ended : ℕ) (text : List ℕ) → EndsWith ended text → status ≡ ended
   status_whole ended text (inl whole) = whole.status_is
   status_whole ended text (inr cut) = absurd (calm cut.failed)
 
   by_course : (course : Course)
-      → MayTake c (F.rest files) (F.rest files') (B.image old) (λ word. Rose (F.faults files word) (F.faults files' word)) (Rose (B.faults old) (B.faults new)) course
-      → EndsWith (status_in c (F.rest files) (B.image old) course) (text_in c (F.rest files) (B.image old) course) → Completes
+      → MayTake c (F.rest files) (F.rest files') (B.image old)
+      (λ word. Rose (F.faults files word) (F.faults files' word)) (Rose (B.faults old) (B.faults new)) course
+      → EndsWith (status_in c (F.rest files) (B.image old) course)
+      (text_in c (F.rest files) (B.image old) course) → Completes
   by_course Answered may ends = inl (status_whole _ _ ends)
-  by_course (ReadFailed word taken) may ends = absurd (read (record { word = word; reads = may.reads; rose = may.failed }))
+  by_course (ReadFailed word taken) may ends =
+      absurd (read (record { word = word; reads = may.reads; rose = may.failed }))
   by_course NoMemory may ends = inr (status_whole _ _ ends, (may.taken, may.may))
   by_course (BoardFailed taken) may ends = absurd (calm may.failed)
 

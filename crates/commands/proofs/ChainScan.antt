@@ -8,7 +8,7 @@ use Rattle.slot_store.specs.declared.found.SlotFault.TheVariants.{DeviceFailed}
 use Rattle.slot_store.specs.declared.pair.Place.{Place}
 use Rattle.slot_store.specs.Scan.{IsAnswer, found_at}
 use Rattle.slot_store.proofs.Laws.{answer_is, at_stands, body_found}
-use Rattle.totals_record.specs.declared.durable.Durable.{Durable}
+use Rattle.totals_record.specs.declared.durable_state.Durable.{Durable}
 use Rattle.totals_record.specs.Reading as totals
 use Rattle.meter_store.specs.Stored as states
 use Rattle.seal_record.specs.declared.seal.Seal.{Seal}
@@ -21,7 +21,8 @@ use Rattle.commands.specs.declared.opening.StoreFault.{StoreFault}
 
 -- ---- a scan of the totals
 
-module _ (image : List ℕ) (d : Durable) (r : Result (Found Durable) SlotFault) (has : states.HasState image d) (went : ¬ (r ≡ Err DeviceFailed))
+module _ (image : List ℕ) (d : Durable) (r : Result (Found Durable) SlotFault) (has : states.HasState image d)
+    (went : ¬ (r ≡ Err DeviceFailed))
     (exact : ¬ (r ≡ Err DeviceFailed) → r ≡ found_at totals.reads states.state_number_of 0 image) where
   answer : (place : Place) × (r ≡ Ok (Latest place d))
   answer = let found = body_found totals.reads states.state_number_of 0 image d has in (found.0, exact went ∙ found.1)
@@ -37,41 +38,58 @@ module _ (image : List ℕ) (d : Durable) (r : Result (Found Durable) SlotFault)
 
 -- ---- the opening of a store
 
-opened_parts : (t : Result (Found Durable) SlotFault) (l : Result (Found Seal) SlotFault) (opening : Opening) → opened t l ≡ Ok opening → (t ≡ Ok opening.totals) × (l ≡ Ok opening.seal)
+opened_parts : (t : Result (Found Durable) SlotFault) (l : Result (Found Seal) SlotFault) (opening : Opening)
+    → opened t l ≡ Ok opening → (t ≡ Ok opening.totals) × (l ≡ Ok opening.seal)
 opened_parts (Err fault) l opening e = absurd cc
 opened_parts (Ok a) (Err fault) opening e = absurd cc
 opened_parts (Ok a) (Ok b) opening e =
     let same : record { totals = a; seal = b } ≡ opening = cc in
     (ap (λ (x : Opening). Ok x.totals) same, ap (λ (x : Opening). Ok x.seal) same)
 
-state_at : (image : List ℕ) (place : Place) (d : Durable) → found_at totals.reads states.state_number_of 0 image ≡ Ok (Latest place d) → states.HasState image d
-state_at image place d e = at_stands totals.reads states.state_number_of 0 place image d (subst (λ (r : Result (Found Durable) SlotFault). IsAnswer totals.reads states.state_number_of 0 image r) e
-    ((answer_is totals.reads states.state_number_of 0 image (found_at totals.reads states.state_number_of 0 image)).0 refl))
+state_at : (image : List ℕ) (place : Place) (d : Durable)
+    → found_at totals.reads states.state_number_of 0 image ≡ Ok (Latest place d) → states.HasState image d
+state_at image place d e = at_stands totals.reads states.state_number_of 0 place image d
+    (subst (λ (r : Result (Found Durable) SlotFault). IsAnswer totals.reads states.state_number_of 0 image r) e
+    ((answer_is totals.reads states.state_number_of 0 image
+    (found_at totals.reads states.state_number_of 0 image)).0 refl))
 
-pub seal_at : (image : List ℕ) (place : Place) (seal : Seal) → found_at seals.reads seals.seal_number_of 1024 image ≡ Ok (Latest place seal) → HasSeal image seal
-seal_at image place seal e = at_stands seals.reads seals.seal_number_of 1024 place image seal (subst (λ (r : Result (Found Seal) SlotFault). IsAnswer seals.reads seals.seal_number_of 1024 image r) e
-    ((answer_is seals.reads seals.seal_number_of 1024 image (found_at seals.reads seals.seal_number_of 1024 image)).0 refl))
+pub seal_at : (image : List ℕ) (place : Place) (seal : Seal)
+    → found_at seals.reads seals.seal_number_of 1024 image ≡ Ok (Latest place seal) → HasSeal image seal
+seal_at image place seal e = at_stands seals.reads seals.seal_number_of 1024 place image seal
+    (subst (λ (r : Result (Found Seal) SlotFault). IsAnswer seals.reads seals.seal_number_of 1024 image r) e
+    ((answer_is seals.reads seals.seal_number_of 1024 image
+    (found_at seals.reads seals.seal_number_of 1024 image)).0 refl))
 
 -- a store that is found sealed
-by_parts : (image : List ℕ) (t : Found Durable) (l : Found Seal) → found_at totals.reads states.state_number_of 0 image ≡ Ok t → found_at seals.reads seals.seal_number_of 1024 image ≡ Ok l
+by_parts : (image : List ℕ) (t : Found Durable) (l : Found Seal) → found_at totals.reads states.state_number_of 0 image
+    ≡ Ok t → found_at seals.reads seals.seal_number_of 1024 image ≡ Ok l
     → is_some (sealed_store t l) ≡ true → IsSealedStore image
 by_parts image Blank l e f some = absurd cc
 by_parts image (Latest place d) Blank e f some = absurd cc
-by_parts image (Latest place d) (Latest other seal) e f some = record { durable = d; seal = seal; totals = state_at image place d e; sealed = seal_at image other seal f }
+by_parts image (Latest place d) (Latest other seal) e f some =
+    record { durable = d; seal = seal; totals = state_at image place d e; sealed = seal_at image other seal f }
 
-pub sealed_if : (image : List ℕ) (opening : Opening) → opening_of image ≡ Ok opening → is_some (sealed_store opening.totals opening.seal) ≡ true → IsSealedStore image
+pub sealed_if : (image : List ℕ) (opening : Opening) → opening_of image ≡ Ok opening
+    → is_some (sealed_store opening.totals opening.seal) ≡ true → IsSealedStore image
 sealed_if image opening e some =
-    let parts = opened_parts (found_at totals.reads states.state_number_of 0 image) (found_at seals.reads seals.seal_number_of 1024 image) opening e in
+    let parts = opened_parts (found_at totals.reads states.state_number_of 0 image)
+    (found_at seals.reads seals.seal_number_of 1024 image) opening e in
     by_parts image opening.totals opening.seal parts.0 parts.1 some
 
 -- what is found of a store that is sealed
-pub opening_found : (image : List ℕ) (h : IsSealedStore image) → (place other : Place) × (opening_of image ≡ Ok (record { totals = Latest place h.durable; seal = Latest other h.seal }))
+pub opening_found : (image : List ℕ) (h : IsSealedStore image) → (place other : Place)
+    × (opening_of image ≡ Ok (record { totals = Latest place h.durable; seal = Latest other h.seal }))
 opening_found image h =
     let t = body_found totals.reads states.state_number_of 0 image h.durable h.totals in
-    let l = body_found seals.reads seals.seal_number_of 1024 image h.seal h.sealed in
-    (t.0, l.0, ap (λ (r : Result (Found Durable) SlotFault). opened r (found_at seals.reads seals.seal_number_of 1024 image)) t.1 ∙ ap (opened (Ok (Latest t.0 h.durable))) l.1)
+    let l = body_found seals.reads seals.seal_number_of 1024 image h.seal h.sealed in (
+      t.0,
+      l.0,
+      ap (λ (r : Result (Found Durable) SlotFault). opened r (found_at seals.reads seals.seal_number_of 1024 image)) t.1
+          ∙ ap (opened (Ok (Latest t.0 h.durable))) l.1,
+    )
 
-pub sealed_then : (image : List ℕ) (opening : Opening) → opening_of image ≡ Ok opening → IsSealedStore image → is_some (sealed_store opening.totals opening.seal) ≡ true
+pub sealed_then : (image : List ℕ) (opening : Opening) → opening_of image ≡ Ok opening → IsSealedStore image
+    → is_some (sealed_store opening.totals opening.seal) ≡ true
 sealed_then image opening e h =
     let found = opening_found image h in
     let both = found.2 in

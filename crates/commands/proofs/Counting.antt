@@ -1,5 +1,6 @@
 -- What the counts of faults say of a command, from the calls that it made.
-use Rattle.std.proofs.Common.{◌≡◌, ◌≢◌, ◌⊎◌, ◌↔◌, inl, inr, ℕ, Bool, true, false, Option, Some, None, Result, Err, refl, sym, ap, subst, ◌∙◌, arith}
+use Rattle.std.proofs.Common.{◌≡◌, ◌≢◌, ◌⊎◌, ◌↔◌, inl, inr, ℕ, Bool, true, false, Option, Some, None, Result, Err, refl}
+use Rattle.std.proofs.Common.{sym, ap, subst, ◌∙◌, arith}
 use Rattle.outside.proofs.Laws.{rose_behind}
 use Rattle.outside.specs.Faults.{RisesOnlyIf, Rose}
 use Rattle.outside.specs.declared.board.Board.{Ghosts}
@@ -122,7 +123,8 @@ module _ {D L : Type 0} {N : ℕ} (B : Ghosts D N L) (old mid new : D) (end : En
       (later.rose (λ same. good.1 (sym same ∙ is)))
 
   stayed : Finishes → status ≢ 8 → B.faults new ≡ B.faults old
-  stayed (inl whole) not_8 = left whole.status_is ∙ cause.count (λ failed. not_8 (whole.status_is ∙ ap status_of failed))
+  stayed (inl whole) not_8 =
+      left whole.status_is ∙ cause.count (λ failed. not_8 (whole.status_is ∙ ap status_of failed))
   stayed (inr cut) not_8 = absurd (not_8 cut.status_is)
 
   -- the board's count rose exactly with the status 8
@@ -147,7 +149,8 @@ module _ {D L : Type 0} {N : ℕ} (B : Ghosts D N L) (old mid new : D) (end : En
   rose_after = rose_late (board_or_not end) finish
 
   -- no file's count rose, unless a read or the board failed
-  pub files_left : (counts count' : ℕ → ℕ) → (end ≢ ReadFault → end ≢ BoardFault → (word : ℕ) → count' word ≡ counts word)
+  pub files_left : (counts count' : ℕ → ℕ)
+      → (end ≢ ReadFault → end ≢ BoardFault → (word : ℕ) → count' word ≡ counts word)
       → status ≢ 7 → status ≢ 8 → (word : ℕ) → count' word ≡ counts word
   files_left counts count' stay not_7 not_8 = by finish
     where

@@ -1,5 +1,6 @@
 -- The text of hirings, line by line and hiring by hiring.
-use Rattle.std.proofs.Common.{◌≡◌, ◌∙◌, ℕ, suc, ◌+◌, ◌<◌, ◌≤◌, List, [], ◌∷◌, ◌++◌, length, map, drop, get_or, flat_map, drop-cons, refl, ap, sym, subst, append_assoc, arith}
+use Rattle.std.proofs.Common.{◌≡◌, ◌∙◌, ℕ, suc, ◌+◌, ◌<◌, ◌≤◌, List, [], ◌∷◌, ◌++◌, length, map, drop, get_or, flat_map}
+use Rattle.std.proofs.Common.{drop-cons, refl, ap, sym, subst, append_assoc, arith}
 use Rattle.std.proofs.Math.Seq.{drop-length}
 use Rattle.std.proofs.lemmas.List.{append-nil}
 use Rattle.verify_bench.specs.Explaining.{Explanation}
@@ -37,8 +38,10 @@ module _ {A : Type 0} (scale : Scale) (explanation : A → Explanation) (xs : Li
   unfolding hirings_text
   hiring_more i number d text next within so_far is =
       ap (λ (t : List ℕ). t ++ hirings_text scale (number + 1 + 1) (map explanation (drop (i + 1) xs))) is
-      ∙ append_assoc text (hiring_text scale (number + 1) (explanation (get_or xs i d))) (hirings_text scale (number + 1 + 1) (map explanation (drop (i + 1) xs)))
-      ∙ subst (λ (ys : List A). text ++ hirings_text scale (number + 1) (map explanation ys) ≡ all) (here xs i d within) so_far
+      ∙ append_assoc text (hiring_text scale (number + 1) (explanation (get_or xs i d)))
+      (hirings_text scale (number + 1 + 1) (map explanation (drop (i + 1) xs)))
+      ∙ subst (λ (ys : List A). text ++ hirings_text scale (number + 1) (map explanation ys) ≡ all)
+      (here xs i d within) so_far
 
   pub hirings_all : (i number : ℕ) (text : List ℕ) → i ≡ length xs
       → text ++ hirings_text scale number (map explanation (drop i xs)) ≡ all → text ≡ all

@@ -1,5 +1,6 @@
 -- What the command `explain` answers: why there is nothing to explain, and what it prints of a drive.
-use Rattle.std.proofs.Common.{◌≡◌, ◌≢◌, ℕ, ◌+◌, ◌<◌, ◌≤◌, List, [], ◌++◌, length, Result, Ok, Err, refl, sym, ap, subst, ◌∙◌, inl, inr, arith}
+use Rattle.std.proofs.Common.{◌≡◌, ◌≢◌, ℕ, ◌+◌, ◌<◌, ◌≤◌, List, [], ◌++◌, length, Result, Ok, Err, refl, sym, ap, subst}
+use Rattle.std.proofs.Common.{◌∙◌, inl, inr, arith}
 use Rattle.std.specs.Prelude.{◌⊎◌}
 use Rattle.std.proofs.lemmas.List.{append-nil}
 use Rattle.drive_text.specs.Ending.{StreamEnd, Whole, BadAt, Endless, IsGoing, IsSplit, TellsEnd, drive_end}
@@ -12,8 +13,9 @@ use Rattle.commands.specs.Answer.{Answer, shows}
 use Rattle.commands.specs.BenchSteps.{IsNoDrive, ended_for_drive}
 use Rattle.commands.specs.Call.{MayTake}
 use Rattle.commands.specs.Course.{Answered, NoMemory, ReadFailed}
-use Rattle.commands.specs.Ending.{ComesUnprinted, ended_for, ended_for_params}
-use Rattle.commands.specs.Explain.{HasSetting, ending_answer, explain_answer, explain_command, explain_turn, setting_from, setting_in, setting_with}
+use Rattle.commands.specs.Ending.{EndsUnprinted, ended_for, ended_for_params}
+use Rattle.commands.specs.Explain.{HasSetting, ending_answer, explain_answer, explain_command, explain_turn}
+use Rattle.commands.specs.Explain.{setting_from, setting_in, setting_with}
 use Rattle.commands.specs.ExplainSteps.{HasExplained}
 use Rattle.commands.specs.LastLine.{line_of, refused_as, status_of}
 use Rattle.commands.specs.Pieces.{pieces_of}
@@ -27,10 +29,11 @@ use Rattle.commands.specs.declared.tariff.TextFault.{TextFault}
 use Rattle.commands.specs.declared.tariff.TextFault.TheVariants as texts
 use Rattle.commands.specs.declared.whole_drive.DriveFault.{DriveFault}
 use Rattle.commands.specs.declared.whole_drive.DriveFault.TheVariants as drives
-use Rattle.commands.proofs.Refusals.{comes-no_memory, comes-refused}
+use Rattle.commands.proofs.Refusals.{course-no_memory, course-refused}
 
 -- the setting of a tariff and of parameters that were read
-pub setting_is : (tariff text : List ℕ) (t : Tree) (read : Result Params ParamFault) → tariff_in tariff ≡ Ok t → params_read text ≡ read → setting_in tariff text ≡ setting_from t read
+pub setting_is : (tariff text : List ℕ) (t : Tree) (read : Result Params ParamFault) → tariff_in tariff ≡ Ok t
+    → params_read text ≡ read → setting_in tariff text ≡ setting_from t read
 setting_is tariff text t read sound e =
     ap (λ (r : Result Tree Refusal). setting_with r (params_read text)) sound ∙ ap (setting_from t) e
 
@@ -55,13 +58,15 @@ read_fault-params params.NoMemory e = absurd cc
 
 module _ (contents left : ℕ → List ℕ) (image : List ℕ) (read_failed : ℕ → Type 0) where
   abbrev pub Ends : Ended → Type 0
-  Ends end = ComesUnprinted explain_command contents left image read_failed end
+  Ends end = EndsUnprinted explain_command contents left image read_failed end
 
   -- the tariff or the parameters are refused, or the drive is
-  refused : (end : Ended) → explain_answer (setting_in (contents 1) (contents 3)) (contents 2) ≡ refused_as end → status_of end ≢ 0
+  refused : (end : Ended) → explain_answer (setting_in (contents 1) (contents 3)) (contents 2) ≡ refused_as end
+      → status_of end ≢ 0
       → (status_of end ≡ 3 → TellsEnd (contents 2) (left 2)) → Ends end
   refused end e not_0 bad =
-      let status : (explain_answer (setting_in (contents 1) (contents 3)) (contents 2)).status ≡ status_of end = ap (λ (a : Answer). a.status) e in
+      let status : (explain_answer (setting_in (contents 1) (contents 3)) (contents 2)).status ≡ status_of end =
+      ap (λ (a : Answer). a.status) e in
       record {
         course = Answered;
         may = record {
@@ -76,51 +81,59 @@ module _ (contents left : ℕ → List ℕ) (image : List ℕ) (read_failed : �
       }
 
   -- the tariff wasn't read
-  pub comes-no_tariff : IsSplit (contents 2) [] (left 2) → (fault : TextFault) → (fault ≡ texts.ReadFault → read_failed 1)
+  pub course-no_tariff : IsSplit (contents 2) [] (left 2) → (fault : TextFault)
+      → (fault ≡ texts.ReadFault → read_failed 1)
       → ((why : Refusal) → fault ≡ texts.Refused why → tariff_in (contents 1) ≡ Err why) → Ends (ended_for fault)
-  comes-no_tariff untouched fault failed why =
-      comes-refused explain_command contents left image read_failed untouched (inl refl) (λ e. absurd cc) fault (inl refl)
+  course-no_tariff untouched fault failed why =
+      course-refused explain_command contents left image read_failed untouched (inl refl)
+      (λ e. absurd cc) fault (inl refl)
       (inl (refl, refl)) refl failed
-      (λ w e. ap (λ (r : Result Tree Refusal). explain_answer (setting_with r (params_read (contents 3))) (contents 2)) (why w e))
+      (λ w e. ap
+      (λ (r : Result Tree Refusal). explain_answer (setting_with r (params_read (contents 3))) (contents 2)) (why w e))
 
   -- the parameters weren't read
-  pub comes-no_params : IsSplit (contents 2) [] (left 2) → (t : Tree) → tariff_in (contents 1) ≡ Ok t → (fault : ParamsFault)
+  pub course-no_params : IsSplit (contents 2) [] (left 2) → (t : Tree) → tariff_in (contents 1) ≡ Ok t
+      → (fault : ParamsFault)
       → (fault ≡ params.ReadFault → read_failed 3)
-      → ((why : ParamFault) → fault ≡ params.Refused why → params_read (contents 3) ≡ Err why) → Ends (ended_for_params fault)
-  comes-no_params untouched t sound params.ReadFault failed why = record {
+      → ((why : ParamFault) → fault ≡ params.Refused why → params_read (contents 3) ≡ Err why)
+      → Ends (ended_for_params fault)
+  course-no_params untouched t sound params.ReadFault failed why = record {
     course = ReadFailed 3 [];
     may = record {
       reads = inr (inr refl);
-      comes = inr (inl (refl, (refl, record { tree = t; is = sound })));
+      comes = inr (inl (refl, (refl, record { tree = t; reads = sound })));
       failed = failed refl;
       takes = untouched;
     };
     stands = inl (record { status_is = refl; line_is = refl; shown = refl });
   }
-  comes-no_params untouched t sound (params.Refused fault) failed why =
+  course-no_params untouched t sound (params.Refused fault) failed why =
       refused (ended.BadParams fault)
-      (ap (λ (r : Result Setting Ended). explain_answer r (contents 2)) (setting_is (contents 1) (contents 3) t (Err fault) sound (why fault refl)))
+      (ap (λ (r : Result Setting Ended). explain_answer r (contents 2))
+      (setting_is (contents 1) (contents 3) t (Err fault) sound (why fault refl)))
       (λ z. absurd (omega arith)) (λ z. absurd (omega arith))
-  comes-no_params untouched t sound params.NoMemory failed why =
-      comes-no_memory explain_command contents left image read_failed untouched (inl refl)
+  course-no_params untouched t sound params.NoMemory failed why =
+      course-no_memory explain_command contents left image read_failed untouched (inl refl)
 
   -- there is a setting
   module _ (s : Setting) (is : setting_in (contents 1) (contents 3) ≡ Ok s) where
-    by_end : (reached : StreamEnd) → drive_end (contents 2) ≡ reached → explain_answer (setting_in (contents 1) (contents 3)) (contents 2) ≡ ending_answer s (contents 2) reached
+    by_end : (reached : StreamEnd) → drive_end (contents 2) ≡ reached
+        → explain_answer (setting_in (contents 1) (contents 3)) (contents 2) ≡ ending_answer s (contents 2) reached
     by_end reached e =
         ap (λ (r : Result Setting Ended). explain_answer r (contents 2)) is ∙ ap (ending_answer s (contents 2)) e
 
     -- memory ran out when these bytes of the drive were taken
-    pub comes-lacking : (taken : List ℕ) → IsSplit (contents 2) taken (left 2) → Ends ended.NoMemory
-    comes-lacking taken split = record {
+    pub course-lacking : (taken : List ℕ) → IsSplit (contents 2) taken (left 2) → Ends ended.NoMemory
+    course-lacking taken split = record {
       course = NoMemory;
       may = record { taken = taken; may = inr (record { setting = s; is = is }); takes = split };
       stands = inl (record { status_is = refl; line_is = refl; shown = refl });
     }
 
     -- the drive wasn't read
-    pub comes-no_drive : (fault : DriveFault) → IsNoDrive (contents 2) (left 2) fault → (fault ≡ drives.ReadFault → read_failed 2) → Ends (ended_for_drive fault)
-    comes-no_drive drives.ReadFault h failed = record {
+    pub course-no_drive : (fault : DriveFault) → IsNoDrive (contents 2) (left 2) fault
+        → (fault ≡ drives.ReadFault → read_failed 2) → Ends (ended_for_drive fault)
+    course-no_drive drives.ReadFault h failed = record {
       course = ReadFailed 2 h.taken;
       may = record {
         reads = inr (inl refl);
@@ -130,16 +143,17 @@ module _ (contents left : ℕ → List ℕ) (image : List ℕ) (read_failed : �
       };
       stands = inl (record { status_is = refl; line_is = refl; shown = refl });
     }
-    comes-no_drive (drives.BadLine line) h failed =
+    course-no_drive (drives.BadLine line) h failed =
         refused (ended.BadDrive line) (by_end (BadAt line) h.0) (λ z. absurd (omega arith)) (λ z. h.1)
-    comes-no_drive drives.TooLong h failed =
+    course-no_drive drives.TooLong h failed =
         refused ended.EndlessDrive (by_end Endless h.0) (λ z. absurd (omega arith)) (λ z. h.1)
-    comes-no_drive drives.NoMemory h failed = comes-lacking h.taken h.split
+    course-no_drive drives.NoMemory h failed = course-lacking h.taken h.split
 
 -- ---- what is printed
 
 -- each word of the command was read to its end
-pub each_read : (left : ℕ → List ℕ) → left 1 ≡ [] → left 2 ≡ [] → left 3 ≡ [] → (word : ℕ) → (word ≡ 1) ⊎ ((word ≡ 2) ⊎ (word ≡ 3)) → left word ≡ []
+pub each_read : (left : ℕ → List ℕ) → left 1 ≡ [] → left 2 ≡ [] → left 3 ≡ [] → (word : ℕ)
+    → (word ≡ 1) ⊎ ((word ≡ 2) ⊎ (word ≡ 3)) → left word ≡ []
 each_read left one two three word (inl e) = ap left e ∙ one
 each_read left one two three word (inr (inl e)) = ap left e ∙ two
 each_read left one two three word (inr (inr e)) = ap left e ∙ three
@@ -152,6 +166,7 @@ explained_shown contents left text h =
 
 -- in as many pieces as it has
 pub explained_pieces : (contents left : ℕ → List ℕ) (text : List ℕ) → HasExplained contents left text
-    → pieces_of (length text) ≡ pieces_of (length (explain_answer (setting_in (contents 1) (contents 3)) (contents 2)).shown)
+    → pieces_of (length text)
+    ≡ pieces_of (length (explain_answer (setting_in (contents 1) (contents 3)) (contents 2)).shown)
 explained_pieces contents left text h =
     ap (λ (a : Answer). pieces_of (length a.shown)) (sym (explained_shown contents left text h))

@@ -19,7 +19,7 @@ use Rattle.drive_text.specs.Ending.{StreamEnd, Whole, BadAt, Endless, IsGoing, T
 use Rattle.meter_run.specs.Drives.{RunsDrive, RunsTo}
 use Rattle.meter_run.specs.Texts.{drive_shown}
 use Rattle.seal_record.specs.declared.seal.Seal.{Seal}
-use Rattle.commands.specs.Ending.{Comes, ended_by}
+use Rattle.commands.specs.Ending.{EndsByCourse, ended_by}
 use Rattle.commands.specs.Fare.{drive_answer, fare_answer, fare_command, setting_of, shown_under}
 use Rattle.commands.specs.LastLine.{status_of, line_of}
 use Rattle.commands.specs.Tariffs.{bad_tariff, tariff_in}
@@ -41,7 +41,8 @@ pub shows_nothing : (k : ℕ) (o : Result Tree Refusal) → shown_under k o [] �
 shows_nothing k (Ok t) = refl
 shows_nothing k (Err why) = refl
 
-pub refused-fare : (k : ℕ) (o : Result Tree Refusal) (drive : List ℕ) (why : Refusal) → o ≡ Err why → fare_answer k o drive ≡ bad_tariff why
+pub refused-fare : (k : ℕ) (o : Result Tree Refusal) (drive : List ℕ) (why : Refusal) → o ≡ Err why
+    → fare_answer k o drive ≡ bad_tariff why
 refused-fare k o drive why e = ap (λ (x : Result Tree Refusal). fare_answer k x drive) e
 
 -- how a drive ends
@@ -54,16 +55,21 @@ end_of-status shown Endless is = absurd cc
 pub left-whole : (drive left : List ℕ) → TellsEnd drive left → drive_end drive ≡ Whole → left ≡ []
 left-whole drive left t e = subst (λ (x : StreamEnd). ShowsEnd x t.taken left) e t.shows
 
-pub one_of : (contents left : ℕ → List ℕ) (word : ℕ) → (word ≡ 1) ⊎ (word ≡ 2) → left 1 ≡ [] → left 2 ≡ [] → left word ≡ []
+pub one_of : (contents left : ℕ → List ℕ) (word : ℕ) → (word ≡ 1) ⊎ (word ≡ 2) → left 1 ≡ [] → left 2 ≡ []
+    → left word ≡ []
 one_of contents left word (inl e) one two = ap left e ∙ one
 one_of contents left word (inr e) one two = ap left e ∙ two
 
-module _ (k : ℕ) (contents left : ℕ → List ℕ) (image : List ℕ) (read_failed : ℕ → Type 0) (failed told : Type 0) (before now : List ℕ)
-    (tables : TableParts) (seal : Seal) (t : Tree) (sound : tariff_in (contents 1) ≡ Ok t) (is : IsSettingOf (setting_of k t) tables seal) (read : left 1 ≡ []) where
+module _ (k : ℕ) (contents left : ℕ → List ℕ) (image : List ℕ) (read_failed : ℕ → Type 0) (failed told : Type 0)
+    (before now : List ℕ)
+    (tables : TableParts) (seal : Seal) (t : Tree) (sound : tariff_in (contents 1) ≡ Ok t)
+    (is : IsSettingOf (setting_of k t) tables seal) (read : left 1 ≡ []) where
   abbrev Here : Ended → Type 0
-  Here end = Comes (fare_command k) contents left image read_failed failed (λ text. told → now ≡ before ++ text) (λ text. told → Begins before now text) end
+  Here end = EndsByCourse (fare_command k) contents left image read_failed failed (λ text. told → now ≡ before ++ text)
+      (λ text. told → Begins before now text) end
 
-  answer_is : fare_answer k (tariff_in (contents 1)) (contents 2) ≡ drive_answer (drive_shown (setting_of k t) (contents 2)) (drive_end (contents 2))
+  answer_is : fare_answer k (tariff_in (contents 1)) (contents 2)
+      ≡ drive_answer (drive_shown (setting_of k t) (contents 2)) (drive_end (contents 2))
   answer_is = ap (λ (x : Result Tree Refusal). fare_answer k x (contents 2)) sound
 
   shown_is : (taken : List ℕ) → shown_under k (tariff_in (contents 1)) taken ≡ drive_shown (setting_of k t) taken
@@ -73,10 +79,12 @@ module _ (k : ℕ) (contents left : ℕ → List ℕ) (image : List ℕ) (read_f
   to_end : (end : Ended) (reached : StreamEnd) → RunsTo told tables seal (contents 2) (left 2) before now reached
       → (drive_answer (drive_shown (setting_of k t) (contents 2)) reached).status ≡ status_of end
       → (drive_answer (drive_shown (setting_of k t) (contents 2)) reached).line ≡ line_of end
-      → (drive_answer (drive_shown (setting_of k t) (contents 2)) reached).shown ≡ drive_shown (setting_of k t) (contents 2) → Here end
+      → (drive_answer (drive_shown (setting_of k t) (contents 2)) reached).shown
+      ≡ drive_shown (setting_of k t) (contents 2) → Here end
   to_end end reached h status line shown =
       let e = answer_is ∙ ap (drive_answer (drive_shown (setting_of k t) (contents 2))) h.end_is in
-      let status_at : (fare_answer k (tariff_in (contents 1)) (contents 2)).status ≡ (drive_answer (drive_shown (setting_of k t) (contents 2)) reached).status = ap (λ (a : Answer). a.status) e in
+      let status_at : (fare_answer k (tariff_in (contents 1)) (contents 2)).status
+      ≡ (drive_answer (drive_shown (setting_of k t) (contents 2)) reached).status = ap (λ (a : Answer). a.status) e in
       record {
         course = Answered;
         may = record {
@@ -88,17 +96,18 @@ module _ (k : ℕ) (contents left : ℕ → List ℕ) (image : List ℕ) (read_f
         stands = inl (record {
           status_is = sym (status_at ∙ status);
           line_is = sym (ap (λ (a : Answer). a.line) e ∙ line);
-          shown = λ tells. h.printed tells (setting_of k t) is ∙ ap (λ (x : List ℕ). before ++ x) (sym (ap (λ (a : Answer). a.shown) e ∙ shown));
+          shown = λ tells. h.printed tells (setting_of k t) is
+              ∙ ap (λ (x : List ℕ). before ++ x) (sym (ap (λ (a : Answer). a.shown) e ∙ shown));
         });
       }
 
   -- by how the run of the drive ended
-  pub comes-ran : (ran : Result (Unit {0}) RunFault) → RunsDrive told tables seal (contents 2) (left 2) before now ran
+  pub course-ran : (ran : Result (Unit {0}) RunFault) → RunsDrive told tables seal (contents 2) (left 2) before now ran
       → (ran ≡ Err faults.ReadFault → read_failed 2) → (ran ≡ Err faults.BoardFault → failed) → Here (ended_by ran)
-  comes-ran (Ok u) h read_cause board_cause = to_end ended.Done Whole h refl refl refl
-  comes-ran (Err (faults.BadDrive n)) h read_cause board_cause = to_end (ended.BadDrive n) (BadAt n) h refl refl refl
-  comes-ran (Err faults.TooLong) h read_cause board_cause = to_end ended.EndlessDrive Endless h refl refl refl
-  comes-ran (Err faults.ReadFault) h read_cause board_cause = record {
+  course-ran (Ok u) h read_cause board_cause = to_end ended.Done Whole h refl refl refl
+  course-ran (Err (faults.BadDrive n)) h read_cause board_cause = to_end (ended.BadDrive n) (BadAt n) h refl refl refl
+  course-ran (Err faults.TooLong) h read_cause board_cause = to_end ended.EndlessDrive Endless h refl refl refl
+  course-ran (Err faults.ReadFault) h read_cause board_cause = record {
     course = ReadFailed 2 h.taken;
     may = record {
       reads = inr refl;
@@ -112,13 +121,15 @@ module _ (k : ℕ) (contents left : ℕ → List ℕ) (image : List ℕ) (read_f
       shown = λ tells. h.printed tells (setting_of k t) is ∙ ap (λ (x : List ℕ). before ++ x) (sym (shown_is h.taken));
     });
   }
-  comes-ran (Err faults.BoardFault) h read_cause board_cause = record {
+  course-ran (Err faults.BoardFault) h read_cause board_cause = record {
     course = BoardFailed h.taken;
     may = record { failed = board_cause refl; takes = h.split };
     stands = inr (record {
       ended_is = refl;
       failed = board_cause refl;
-      started = λ tells. subst (λ (x : List ℕ). Begins before now x) (sym (ap (λ (x : List ℕ). x ++ []) (shown_is h.taken) ∙ append-nil (drive_shown (setting_of k t) h.taken))) (h.printed tells (setting_of k t) is);
+      started = λ tells. subst (λ (x : List ℕ). Begins before now x)
+          (sym (ap (λ (x : List ℕ). x ++ []) (shown_is h.taken) ∙ append-nil (drive_shown (setting_of k t) h.taken)))
+          (h.printed tells (setting_of k t) is);
     });
   }
 

@@ -1,5 +1,6 @@
 -- The test whether a held trip fits the tables decides it.
-use Rattle.std.proofs.Common.{◌≡◌, ℕ, ◌+◌, ◌*◌, List, [], ◌∷◌, ◌↔◌, Bool, true, false, Option, Some, None, Decides, refl, subst, sym, ◌∙◌}
+use Rattle.std.proofs.Common.{◌≡◌, ℕ, ◌+◌, ◌*◌, List, [], ◌∷◌, ◌↔◌, Bool, true, false, Option, Some, None, Decides}
+use Rattle.std.proofs.Common.{refl, subst, sym, ◌∙◌}
 use Rattle.std.specs.Prelude.{IsTrue}
 use Rattle.std.specs.Option.{ForSome}
 use Rattle.std.proofs.lemmas.Bool.Decides.{Decides-and}
@@ -46,7 +47,8 @@ fits_test tables trip = stated (Fits tables trip)
       counts = all.1.1.1.1.1.1.0;
       extras_sum = all.1.1.1.1.1.1.1;
     })
-    (λ is. (is.position.0, (is.position.1, (is.zone.0, (is.zone.1, (is.rest, (is.cover, (is.counts, is.extras_sum))))))))
+    (λ is.
+    (is.position.0, (is.position.1, (is.zone.0, (is.zone.1, (is.rest, (is.cover, (is.counts, is.extras_sum))))))))
 
 -- the test of a trip decides whether it fits the tables
 pub Decides-does_fit : (tables : TableParts) (trip : Trip) → Decides (does_fit tables trip) (Fits tables trip)
@@ -58,20 +60,27 @@ one_trip a b e = cc
 no_trip : (trip : Trip) → None ≡ Some trip → ⊥
 no_trip trip e = cc
 
-pub Decides-hold : (tables : TableParts) (hold : Option Trip) → Decides (does_hold_fit tables hold) (ForSome hold (Fits tables))
+pub Decides-hold : (tables : TableParts) (hold : Option Trip)
+    → Decides (does_hold_fit tables hold) (ForSome hold (Fits tables))
 Decides-hold tables None = (λ e trip is. absurd (no_trip trip is), λ fits. refl)
-Decides-hold tables (Some trip) =
-    (λ e other is. subst (Fits tables) (one_trip trip other is) ((Decides-does_fit tables trip).0 e), λ fits. (Decides-does_fit tables trip).1 (fits trip refl))
+Decides-hold tables (Some trip) = (
+  λ e other is. subst (Fits tables) (one_trip trip other is) ((Decides-does_fit tables trip).0 e),
+  λ fits. (Decides-does_fit tables trip).1 (fits trip refl),
+)
 
-pub hold_fits : (tables : TableParts) (hold : Option Trip) → does_hold_fit tables hold ≡ true → ForSome hold (Fits tables)
+pub hold_fits : (tables : TableParts) (hold : Option Trip) → does_hold_fit tables hold ≡ true
+    → ForSome hold (Fits tables)
 hold_fits tables hold e = (Decides-hold tables hold).0 e
 
 -- a test with that value decides it
-pub hold_decided : (b : Bool) (tables : TableParts) (hold : Option Trip) → b ≡ does_hold_fit tables hold → IsTrue b ↔ ForSome hold (Fits tables)
-hold_decided b tables hold is = (λ e. hold_fits tables hold (sym is ∙ e), λ fits. is ∙ (Decides-hold tables hold).1 fits)
+pub hold_decided : (b : Bool) (tables : TableParts) (hold : Option Trip) → b ≡ does_hold_fit tables hold → IsTrue b
+    ↔ ForSome hold (Fits tables)
+hold_decided b tables hold is =
+    (λ e. hold_fits tables hold (sym is ∙ e), λ fits. is ∙ (Decides-hold tables hold).1 fits)
 
 -- the code's test and this one are the same
-pub fits_same : (b : Bool) (tables : TableParts) (trip : Trip) → (IsTrue b ↔ Fits tables trip) → b ≡ does_fit tables trip
+pub fits_same : (b : Bool) (tables : TableParts) (trip : Trip) → (IsTrue b ↔ Fits tables trip)
+    → b ≡ does_fit tables trip
 fits_same b tables trip h = by b (does_fit tables trip) (Decides-does_fit tables trip) h
   where
     by : (x y : Bool) → Decides y (Fits tables trip) → (IsTrue x ↔ Fits tables trip) → x ≡ y

@@ -1,5 +1,6 @@
 -- The command `gen`.
-use Rattle.std.proofs.Common.{◌≡◌, ◌≢◌, ℕ, ◌+◌, ◌*◌, ◌<◌, ◌≤◌, List, [], ◌∷◌, ◌++◌, length, Option, None, Some, Result, Ok, Err, refl, sym, ap, subst, ◌∙◌, inl, inr, arith}
+use Rattle.std.proofs.Common.{◌≡◌, ◌≢◌, ℕ, ◌+◌, ◌*◌, ◌<◌, ◌≤◌, List, [], ◌∷◌, ◌++◌, length, Option, None, Some, Result}
+use Rattle.std.proofs.Common.{Ok, Err, refl, sym, ap, subst, ◌∙◌, inl, inr, arith}
 use Rattle.std.specs.Prelude.{pos, zero, suc, Bool, is_ok, is_err, true, false, nat_lt}
 use Rattle.std.proofs.lemmas.Bool.{lt-ltb}
 use Rattle.std.proofs.lemmas.List.{append-nil}
@@ -21,7 +22,7 @@ use Rattle.seal_record.specs.declared.seal.Seal.{Seal}
 use Rattle.meter_states.specs.Setting.{IsSealOf, IsSettingOf, IsTariffOf}
 use Rattle.tariff_compile.specs.Tables.{IsTablesOf, TableParts, tables_of}
 use Rattle.verify_bench.specs.Generated.{generated}
-use Rattle.totals_record.specs.declared.durable.Durable.{Durable}
+use Rattle.totals_record.specs.declared.durable_state.Durable.{Durable}
 use Rattle.totals_record.specs.Reading as totals
 use Rattle.meter_store.specs.Stored as states
 use Rattle.meter_store.specs.Stored.{HasState}
@@ -34,10 +35,10 @@ use Rattle.commands.specs.declared.tariff.TextFault.{TextFault}
 use Rattle.commands.specs.declared.tariff.TextFault.TheVariants as texts
 use Rattle.commands.specs.Answer.{Answer}
 use Rattle.commands.specs.Course.{Answered}
-use Rattle.commands.specs.Ending.{Comes, ComesUnprinted, ended_for}
+use Rattle.commands.specs.Ending.{EndsByCourse, EndsUnprinted, ended_for}
 use Rattle.commands.specs.Generate.{city_text, gen_answer, gen_command, generated_setting, generated_text, state_after}
 use Rattle.commands.specs.Tariffs.{bad_tariff, tariff_in}
-use Rattle.commands.proofs.Refusals.{comes-bad_tariff, comes-no_memory}
+use Rattle.commands.proofs.Refusals.{course-bad_tariff, course-no_memory}
 
 -- local time an hour ahead of UTC
 pub is_an_hour : IsOffsetList ((first_second, pos 3600) ∷ [])
@@ -64,19 +65,25 @@ state_of (Ok found) = totals_found found
 state_of (Err fault) = None
 
 -- a scan finds the state that the image stands for
-pub state_found : (image : List ℕ) (durable : Durable) (answer : Result (Found Durable) SlotFault) → HasState image durable
+pub state_found : (image : List ℕ) (durable : Durable) (answer : Result (Found Durable) SlotFault)
+    → HasState image durable
     → answer ≡ found_at totals.reads states.state_number_of 0 image → state_of answer ≡ Some durable
-state_found image durable answer has e = let by = body_found totals.reads states.state_number_of 0 image durable has in ap state_of (e ∙ by.1)
+state_found image durable answer has e = let by = body_found totals.reads states.state_number_of 0 image durable has in
+    ap state_of (e ∙ by.1)
 
-pub state_found-ok : (image : List ℕ) (durable : Durable) (answer : Result (Found Durable) SlotFault) (found : Found Durable) → HasState image durable
-    → answer ≡ found_at totals.reads states.state_number_of 0 image → answer ≡ Ok found → totals_found found ≡ Some durable
+pub state_found-ok : (image : List ℕ) (durable : Durable) (answer : Result (Found Durable) SlotFault)
+    (found : Found Durable) → HasState image durable
+    → answer ≡ found_at totals.reads states.state_number_of 0 image → answer ≡ Ok found
+    → totals_found found ≡ Some durable
 state_found-ok image durable answer found has e is = sym (ap state_of is) ∙ state_found image durable answer has e
 
-err-not : (answer : Result (Found Durable) SlotFault) (durable : Durable) → state_of answer ≡ Some durable → is_err answer ≡ true → ⊥
+err-not : (answer : Result (Found Durable) SlotFault) (durable : Durable) → state_of answer ≡ Some durable
+    → is_err answer ≡ true → ⊥
 err-not (Ok found) durable f h = absurd (false-true h)
 err-not (Err fault) durable f h = absurd (none-some f)
 
-pub state_found-err : (image : List ℕ) (durable : Durable) (answer : Result (Found Durable) SlotFault) → HasState image durable
+pub state_found-err : (image : List ℕ) (durable : Durable) (answer : Result (Found Durable) SlotFault)
+    → HasState image durable
     → answer ≡ found_at totals.reads states.state_number_of 0 image → is_err answer ≡ true → ⊥
 state_found-err image durable answer has e = err-not answer durable (state_found image durable answer has e)
 
@@ -96,7 +103,8 @@ never_rose h = omega (arith, h)
 
 -- a drive without a bad line that is short enough is whole
 pub whole_drive : (drive : List ℕ) → bad_at_end drive ≡ None → length drive < stream_limit → drive_end drive ≡ Whole
-whole_drive drive good short = let first : nat_lt (length drive) stream_limit ≡ true = lt-ltb _ _ short in rw (first, good) refl
+whole_drive drive good short = let first : nat_lt (length drive) stream_limit ≡ true = lt-ltb _ _ short in
+    rw (first, good) refl
 
 -- a drive that was taken to its end is bounded by all of its events
 pub whole_bound : (told : Type 0) (drive left : List ℕ) (before now : ℕ) → told → left ≡ []
@@ -112,39 +120,51 @@ whole_bound told drive left before now tells e h =
 
 -- ---- how the command ends
 
-pub refused-gen : (seed trips : ℕ) (o : Result Tree Refusal) (why : Refusal) → o ≡ Err why → gen_answer seed trips o ≡ bad_tariff why
+pub refused-gen : (seed trips : ℕ) (o : Result Tree Refusal) (why : Refusal) → o ≡ Err why
+    → gen_answer seed trips o ≡ bad_tariff why
 refused-gen seed trips o why e = ap (gen_answer seed trips) e
 
 zero-three : (n : ℕ) → n ≡ 0 → n ≢ 3
 zero-three n e f = absurd cc
 
 -- the text that is printed, by the tables and the state that it is made of
-pub text_is : (seed trips decimals : ℕ) (durable : Durable) (t : Tree) (tables : TableParts) → tables ≡ tables_of t 10000 → decimals ≡ tables.decimals
-    → durable ≡ state_after (generated_setting t) (generated seed trips) → (gen_answer seed trips (Ok t)).shown ≡ generated_text seed trips decimals durable
+pub text_is : (seed trips decimals : ℕ) (durable : Durable) (t : Tree) (tables : TableParts)
+    → tables ≡ tables_of t 10000 → decimals ≡ tables.decimals
+    → durable ≡ state_after (generated_setting t) (generated seed trips)
+    → (gen_answer seed trips (Ok t)).shown ≡ generated_text seed trips decimals durable
 text_is seed trips decimals durable t tables is e f =
     ap (λ (d : Durable). generated_text seed trips t.decimals d) (sym f)
     ∙ ap (λ (n : ℕ). generated_text seed trips n durable) (sym (e ∙ ap (λ (p : TableParts). p.decimals) is))
 
 -- the meter that carries out the drive goes by the setting of the command
-pub setting_is : (t : Tree) (tables : TableParts) (seal : Seal) → IsTablesOf t tables → tables ≡ tables_of t 10000 → seal.params.constant ≡ 10000 → seal.params.mode ≡ Single
-    → seal.params.hold ≡ 60 → seal.params.offsets ≡ (first_second, pos 3600) ∷ [] → IsSettingOf (generated_setting t) tables seal
+pub setting_is : (t : Tree) (tables : TableParts) (seal : Seal) → IsTablesOf t tables → tables ≡ tables_of t 10000
+    → seal.params.constant ≡ 10000 → seal.params.mode ≡ Single
+    → seal.params.hold_time ≡ 60 → seal.params.offsets ≡ (first_second, pos 3600) ∷ []
+    → IsSettingOf (generated_setting t) tables seal
 setting_is t tables seal compiled is constant mode hold offsets =
-    let of_tariff : IsTariffOf (generated_setting t) tables = record { compiled = compiled; constant = ap (λ (p : TableParts). p.constant) is } in
-    let of_seal : IsSealOf (generated_setting t) seal = record { constant = constant; mode = mode; hold = hold; offsets = offsets } in
+    let of_tariff : IsTariffOf (generated_setting t) tables =
+    record { compiled = compiled; constant = ap (λ (p : TableParts). p.constant) is } in
+    let of_seal : IsSealOf (generated_setting t) seal =
+    record { constant = constant; mode = mode; hold_time = hold; offsets = offsets } in
     record { tariff = of_tariff; secured = of_seal }
 
 module _ (seed trips : ℕ) (contents left : ℕ → List ℕ) (image : List ℕ) (read_failed : ℕ → Type 0) where
   -- the city tariff wasn't accepted
-  pub comes-gen_refused : (fault : TextFault) → fault ≢ texts.ReadFault → ((why : Refusal) → fault ≡ texts.Refused why → tariff_in city_text ≡ Err why)
-      → ComesUnprinted (gen_command seed trips) contents left image read_failed (ended_for fault)
-  comes-gen_refused texts.ReadFault not_read refused = absurd (not_read refl)
-  comes-gen_refused (texts.Refused why) not_read refused =
-      comes-bad_tariff (gen_command seed trips) contents left image read_failed refl tt (λ e. absurd cc) why (refused-gen seed trips (tariff_in city_text) why (refused why refl))
-  comes-gen_refused texts.NoMemory not_read refused = comes-no_memory (gen_command seed trips) contents left image read_failed refl tt
+  pub course-gen_refused : (fault : TextFault) → fault ≢ texts.ReadFault
+      → ((why : Refusal) → fault ≡ texts.Refused why → tariff_in city_text ≡ Err why)
+      → EndsUnprinted (gen_command seed trips) contents left image read_failed (ended_for fault)
+  course-gen_refused texts.ReadFault not_read refused = absurd (not_read refl)
+  course-gen_refused (texts.Refused why) not_read refused =
+      course-bad_tariff (gen_command seed trips) contents left image read_failed refl tt (λ e. absurd cc) why
+      (refused-gen seed trips (tariff_in city_text) why (refused why refl))
+  course-gen_refused texts.NoMemory not_read refused =
+      course-no_memory (gen_command seed trips) contents left image read_failed refl tt
 
-  module _ (failed told : Type 0) (before now text : List ℕ) (t : Tree) (sound : tariff_in city_text ≡ Ok t) (is : (gen_answer seed trips (Ok t)).shown ≡ text) where
+  module _ (failed told : Type 0) (before now text : List ℕ) (t : Tree) (sound : tariff_in city_text ≡ Ok t)
+      (is : (gen_answer seed trips (Ok t)).shown ≡ text) where
     abbrev Here : Ended → Type 0
-    Here end = Comes (gen_command seed trips) contents left image read_failed failed (λ x. told → now ≡ before ++ x) (λ x. told → Begins before now x) end
+    Here end = EndsByCourse (gen_command seed trips) contents left image read_failed failed
+        (λ x. told → now ≡ before ++ x) (λ x. told → Begins before now x) end
 
     shown_is : (gen_answer seed trips (tariff_in city_text)).shown ≡ text
     shown_is = ap (λ (a : Answer). a.shown) (ap (gen_answer seed trips) sound) ∙ is
@@ -155,18 +175,22 @@ module _ (seed trips : ℕ) (contents left : ℕ → List ℕ) (image : List ℕ
     zero_is : (gen_answer seed trips (tariff_in city_text)).status ≡ 0
     zero_is = ap (λ (a : Answer). a.status) (ap (gen_answer seed trips) sound)
 
-    pub comes-gen : (told → now ≡ before ++ text) → Here ended.Done
-    comes-gen printed = record {
+    pub course-gen : (told → now ≡ before ++ text) → Here ended.Done
+    course-gen printed = record {
       course = Answered;
       may = record {
         whole = λ e word reads. absurd reads;
         bad = λ e. absurd (zero-three _ zero_is e);
       };
-      stands = inl (record { status_is = sym zero_is; line_is = sym no_line; shown = λ tells. printed tells ∙ ap (λ (x : List ℕ). before ++ x) (sym shown_is) });
+      stands = inl (record {
+        status_is = sym zero_is;
+        line_is = sym no_line;
+        shown = λ tells. printed tells ∙ ap (λ (x : List ℕ). before ++ x) (sym shown_is);
+      });
     }
 
-    pub comes-gen_begun : (told → Begins before now text) → failed → Here ended.BoardFault
-    comes-gen_begun begun cause = record {
+    pub course-gen_begun : (told → Begins before now text) → failed → Here ended.BoardFault
+    course-gen_begun begun cause = record {
       course = Answered;
       may = record {
         whole = λ e word reads. absurd reads;
@@ -175,7 +199,8 @@ module _ (seed trips : ℕ) (contents left : ℕ → List ℕ) (image : List ℕ
       stands = inr (record {
         ended_is = refl;
         failed = cause;
-        started = λ tells. subst (λ (x : List ℕ). Begins before now x) (sym (ap (λ (x : List ℕ). x ++ (gen_answer seed trips (tariff_in city_text)).line) shown_is
+        started = λ tells. subst (λ (x : List ℕ). Begins before now x)
+            (sym (ap (λ (x : List ℕ). x ++ (gen_answer seed trips (tariff_in city_text)).line) shown_is
             ∙ ap (λ (x : List ℕ). text ++ x) no_line ∙ append-nil text)) (begun tells);
       });
     }

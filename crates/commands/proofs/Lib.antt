@@ -53,7 +53,7 @@ mod Listing
 -- the list of a text's lines
 mod Lists
 -- what a cut leaves of calls that only look at the store
-mod Looking
+mod ReadOnlyCalls
 -- the opening of the store, from its two scans, and what is known of it behind its answer
 mod Openings
 -- the replies to requests over a sealed store, and what is left of the store

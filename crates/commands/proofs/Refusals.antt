@@ -6,7 +6,7 @@ use Rattle.commands.specs.declared.tariff.TextFault.{TextFault}
 use Rattle.commands.specs.declared.tariff.TextFault.TheVariants as texts
 use Rattle.commands.specs.Answer.{Answer}
 use Rattle.commands.specs.Course.{Command, Answered, ReadFailed, NoMemory}
-use Rattle.commands.specs.Ending.{ComesUnprinted, ended_for}
+use Rattle.commands.specs.Ending.{EndsUnprinted, ended_for}
 use Rattle.commands.specs.Stream.{Takes}
 use Rattle.commands.specs.Tariffs.{bad_tariff}
 use Rattle.commands.proofs.Streams.{not_bad}
@@ -14,16 +14,17 @@ use Rattle.commands.proofs.Streams.{not_bad}
 module _ (c : Command) (contents left : ℕ → List ℕ) (image : List ℕ) (read_failed : ℕ → Type 0)
     (untouched : Takes c.drive contents left []) (may : c.may_lack contents image []) where
   -- memory ran out before the drive
-  pub comes-no_memory : ComesUnprinted c contents left image read_failed ended.NoMemory
-  comes-no_memory = record {
+  pub course-no_memory : EndsUnprinted c contents left image read_failed ended.NoMemory
+  course-no_memory = record {
     course = NoMemory;
     may = record { taken = []; may = may; takes = untouched };
     stands = inl (record { status_is = refl; line_is = refl; shown = refl });
   }
 
   -- a tariff was refused
-  pub comes-bad_tariff : ¬ c.reads_all 2 → (why : Refusal) → c.answer contents image ≡ bad_tariff why → ComesUnprinted c contents left image read_failed (ended.BadTariff why)
-  comes-bad_tariff not_2 why e =
+  pub course-bad_tariff : ¬ c.reads_all 2 → (why : Refusal) → c.answer contents image ≡ bad_tariff why
+      → EndsUnprinted c contents left image read_failed (ended.BadTariff why)
+  course-bad_tariff not_2 why e =
       let two : (c.answer contents image).status ≡ 2 = ap (λ (a : Answer). a.status) e in
       record {
         course = Answered;
@@ -39,13 +40,16 @@ module _ (c : Command) (contents left : ℕ → List ℕ) (image : List ℕ) (re
       }
 
   -- the tariff of word 1 wasn't read
-  pub comes-refused : ¬ c.reads_all 2 → (fault : TextFault) → c.reads 1 → c.comes_to contents image 1 [] → c.shown contents image [] ≡ []
-      → (fault ≡ texts.ReadFault → read_failed 1) → ((why : Refusal) → fault ≡ texts.Refused why → c.answer contents image ≡ bad_tariff why)
-      → ComesUnprinted c contents left image read_failed (ended_for fault)
-  comes-refused not_2 texts.ReadFault reads comes nothing failed refused = record {
+  pub course-refused : ¬ c.reads_all 2 → (fault : TextFault) → c.reads 1 → c.comes_to contents image 1 []
+      → c.shown contents image [] ≡ []
+      → (fault ≡ texts.ReadFault → read_failed 1)
+      → ((why : Refusal) → fault ≡ texts.Refused why → c.answer contents image ≡ bad_tariff why)
+      → EndsUnprinted c contents left image read_failed (ended_for fault)
+  course-refused not_2 texts.ReadFault reads comes nothing failed refused = record {
     course = ReadFailed 1 [];
     may = record { reads = reads; comes = comes; failed = failed refl; takes = untouched };
     stands = inl (record { status_is = refl; line_is = refl; shown = nothing });
   }
-  comes-refused not_2 (texts.Refused why) reads comes nothing failed refused = comes-bad_tariff not_2 why (refused why refl)
-  comes-refused not_2 texts.NoMemory reads comes nothing failed refused = comes-no_memory
+  course-refused not_2 (texts.Refused why) reads comes nothing failed refused =
+      course-bad_tariff not_2 why (refused why refl)
+  course-refused not_2 texts.NoMemory reads comes nothing failed refused = course-no_memory

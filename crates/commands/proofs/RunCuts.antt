@@ -9,7 +9,7 @@ use Rattle.taxi_units.specs.declared.receipt.Receipt as receipts
 use Rattle.totals_record.specs.Reading.{reads}
 use Rattle.meter_store.specs.Stored.{HasState, state_number_of}
 use Rattle.totals_record.specs.Sums.{GrowsBy}
-use Rattle.totals_record.specs.declared.durable.Durable.{Durable}
+use Rattle.totals_record.specs.declared.durable_state.Durable.{Durable}
 use Rattle.totals_record.proofs.Laws.{changes_add_up}
 use Rattle.seal_record.specs.declared.seal.Seal.{Seal}
 use Rattle.tariff_compile.specs.Tables.{TableParts}
@@ -29,11 +29,14 @@ both_parts : (x y : Deed) (xs ys : List Deed) → x ∷ xs ≡ y ∷ ys → (x �
 both_parts x y xs ys e = (cc, cc)
 
 -- a receipt is not the last line
-before_last : (xs earlier later : List Deed) (line : List ℕ) (receipt : receipts.Receipt) → xs ++ Prints line ∷ [] ≡ earlier ++ Does (Receipt receipt) ∷ later
+before_last : (xs earlier later : List Deed) (line : List ℕ) (receipt : receipts.Receipt)
+    → xs ++ Prints line ∷ [] ≡ earlier ++ Does (Receipt receipt) ∷ later
     → (more : List Deed) × (xs ≡ earlier ++ Does (Receipt receipt) ∷ more)
-before_last [] [] later line receipt e = let heads = (both_parts (Prints line) (Does (Receipt receipt)) [] later e).0 in absurd cc
+before_last [] [] later line receipt e = let heads =
+    (both_parts (Prints line) (Does (Receipt receipt)) [] later e).0 in absurd cc
 before_last [] (x ∷ earlier) later line receipt e =
-    absurd (nothing_in earlier later (Does (Receipt receipt)) (both_parts (Prints line) x [] (earlier ++ Does (Receipt receipt) ∷ later) e).1)
+    absurd (nothing_in earlier later (Does (Receipt receipt))
+    (both_parts (Prints line) x [] (earlier ++ Does (Receipt receipt) ∷ later) e).1)
 before_last (y ∷ ys) [] later line receipt e =
     let both = both_parts y (Does (Receipt receipt)) (ys ++ Prints line ∷ []) later e in
     (ys, ap (λ (deed : Deed). deed ∷ ys) both.0)
@@ -49,7 +52,8 @@ module _ (tables : TableParts) (seal : Seal) (told : Type 0) (d : Durable) (prin
   Cut deeds i x = IsCutOfDeeds tables seal told d printed deeds i x
 
   -- nothing was done yet
-  pub first_cut : (deeds : List Deed) (i x : List ℕ) → HasState i d → ForSome d.hold (Fits tables) → (told → x ≡ printed) → Cut deeds i x
+  pub first_cut : (deeds : List Deed) (i x : List ℕ) → HasState i d → ForSome d.hold (Fits tables)
+      → (told → x ≡ printed) → Cut deeds i x
   first_cut deeds i x has fits text = record {
     done = [];
     next = [];
@@ -88,8 +92,10 @@ module _ (tables : TableParts) (seal : Seal) (told : Type 0) (d : Durable) (prin
   }
 
   -- all was done, and the last line may have begun
-  pub last_cut : (deeds : List Deed) (line i x : List ℕ) → HasState i (after_deeds d deeds) → ForSome (after_deeds d deeds).hold (Fits tables) → GrowsBy d (after_deeds d deeds) (changes_of deeds)
-      → HasEntries d.number deeds → (told → Begins (printed ++ texts seal deeds) x line) → Cut (deeds ++ Prints line ∷ []) i x
+  pub last_cut : (deeds : List Deed) (line i x : List ℕ) → HasState i (after_deeds d deeds)
+      → ForSome (after_deeds d deeds).hold (Fits tables) → GrowsBy d (after_deeds d deeds) (changes_of deeds)
+      → HasEntries d.number deeds → (told → Begins (printed ++ texts seal deeds) x line)
+      → Cut (deeds ++ Prints line ∷ []) i x
   last_cut deeds line i x has fits follows entries text = record {
     done = deeds;
     next = Prints line ∷ [];
@@ -113,7 +119,8 @@ module _ (tables : TableParts) (seal : Seal) (told : Type 0) (d : Durable) (prin
   pub cut_begins : (deeds : List Deed) (i x : List ℕ) → Cut deeds i x → told → Begins printed x (texts seal deeds)
   cut_begins deeds i x h t =
       let joined : texts seal deeds ≡ (texts seal h.done ++ texts seal h.next) ++ texts seal h.left =
-      ap (texts seal) h.split ∙ texts_joined seal h.done (h.next ++ h.left) ∙ ap (λ (l : List ℕ). texts seal h.done ++ l) (texts_joined seal h.next h.left)
+      ap (texts seal) h.split ∙ texts_joined seal h.done (h.next ++ h.left)
+      ∙ ap (λ (l : List ℕ). texts seal h.done ++ l) (texts_joined seal h.next h.left)
       ∙ sym (append_assoc (texts seal h.done) (texts seal h.next) (texts seal h.left)) in
       subst (λ (l : List ℕ). Begins printed x l) (sym joined)
       (begins_more printed x (texts seal h.done ++ texts seal h.next) (texts seal h.left)

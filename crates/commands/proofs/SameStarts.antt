@@ -1,5 +1,6 @@
 -- Runs from starts that are alike.
-use Rattle.std.proofs.Common.{◌≡◌, ℕ, ◌+◌, Bool, true, false, nat_lt, length, take, drop, List, Option, Some, None, Result, Ok, Err, if◌then◌else◌, refl, ap, sym, subst, ◌∙◌}
+use Rattle.std.proofs.Common.{◌≡◌, ℕ, ◌+◌, Bool, true, false, nat_lt, length, take, drop, List, Option, Some, None}
+use Rattle.std.proofs.Common.{Result, Ok, Err, if◌then◌else◌, refl, ap, sym, subst, ◌∙◌}
 use Rattle.std.specs.Cmp.Lexicographic.{pointwise}
 use Rattle.std.specs.Prelude.{nat_eq}
 use Rattle.sha2.specs.Sha256.{sha256}
@@ -10,7 +11,7 @@ use Rattle.slot_store.specs.Slots.{slot_at}
 use Rattle.slot_store.specs.declared.found.Found.{Found}
 use Rattle.slot_store.specs.declared.found.SlotFault.{SlotFault}
 use Rattle.slot_store.proofs.Laws.{answer_is}
-use Rattle.totals_record.specs.declared.durable.Durable.{Durable}
+use Rattle.totals_record.specs.declared.durable_state.Durable.{Durable}
 use Rattle.totals_record.specs.declared.trip.Trip.{Trip}
 use Rattle.seal_record.specs.Decoding as seals
 use Rattle.seal_record.specs.Ranges.{IsSeal}
@@ -31,7 +32,8 @@ use Rattle.same_tariffs.specs.Alike.{AreHoldsAlike, AreOutcomesAlike, AreStoresA
 use Rattle.same_tariffs.specs.Contexts.{IsSettingInRange}
 use Rattle.same_tariffs.specs.Reached.{HoldGoesOn}
 use Rattle.same_tariffs.specs.Same.{AreSameSettings}
-use Rattle.same_tariffs.proofs.Laws.{events_of_drives_are_timely, same_tariffs_run_alike-goes_on, same_tariffs_run_alike-outcomes, same_tariffs_run_alike-stores}
+use Rattle.same_tariffs.proofs.Laws.{events_of_drives_are_timely, same_tariffs_run_alike-goes_on}
+use Rattle.same_tariffs.proofs.Laws.{same_tariffs_run_alike-outcomes, same_tariffs_run_alike-stores}
 use Rattle.meter_states.proofs.Laws.{the_store_has_what_the_acts_commit-run}
 use Rattle.commands.specs.Fare.{drive_answer}
 use Rattle.commands.specs.Opening.{opening_of}
@@ -94,9 +96,12 @@ setting-range : (image tariff : List ℕ) (a : Start) → start_of (opening_of i
     → IsSettingInRange (setting_in a)
 setting-range image tariff a e =
     let h = found_in image tariff a e in
-    let at = subst (λ (r : Result (Found Seal) SlotFault). IsAnswer seals.reads seals.seal_number_of 1024 image r) h.seal.1
-    ((answer_is seals.reads seals.seal_number_of 1024 image (found_at seals.reads seals.seal_number_of 1024 image)).0 refl) in
-    let seal : IsSeal a.seal = ((seals_are_read_by_their_table (take body_size (drop (slot_at 1024 h.seal.0.slot + 1) image))
+    let at =
+    subst (λ (r : Result (Found Seal) SlotFault). IsAnswer seals.reads seals.seal_number_of 1024 image r) h.seal.1
+    ((answer_is seals.reads seals.seal_number_of 1024 image
+    (found_at seals.reads seals.seal_number_of 1024 image)).0 refl) in
+    let seal : IsSeal a.seal =
+    ((seals_are_read_by_their_table (take body_size (drop (slot_at 1024 h.seal.0.slot + 1) image))
     a.seal).0 at.latest.body_is).0 in
     let text = sealed-is (nat_lt 65536 (length tariff)) a.seal.digest tariff a.tree h.tariff_is in
     record {

@@ -1,5 +1,6 @@
 -- The command `seal`: what it answers.
-use Rattle.std.proofs.Common.{◌≡◌, ◌≢◌, ◌⊎◌, ⊎_elim, inl, inr, ℕ, List, [], ◌++◌, Option, Some, None, Bool, true, false, if◌then◌else◌, Result, Ok, Err, refl, sym, ap, subst, ◌∙◌}
+use Rattle.std.proofs.Common.{◌≡◌, ◌≢◌, ◌⊎◌, ⊎_elim, inl, inr, ℕ, List, [], ◌++◌, Option, Some, None, Bool, true, false}
+use Rattle.std.proofs.Common.{if◌then◌else◌, Result, Ok, Err, refl, sym, ap, subst, ◌∙◌}
 use Rattle.std.specs.Prelude.{◌==◌}
 use Rattle.sha2.specs.Sha256.{sha256}
 use Rattle.outside.specs.Printing.{Begins}
@@ -17,26 +18,30 @@ use Rattle.commands.specs.declared.tariff.Refusal.{Refusal}
 use Rattle.commands.specs.Answer.{Answer}
 use Rattle.commands.specs.Call.{LeavesUnread}
 use Rattle.commands.specs.Course.{Answered, NoMemory, ReadFailed}
-use Rattle.commands.specs.Ending.{Comes}
+use Rattle.commands.specs.Ending.{EndsByCourse}
 use Rattle.commands.specs.LastLine.{sealed_line, status_of}
 use Rattle.commands.specs.Opening.{opening_of, store_ended}
-use Rattle.commands.specs.Seal.{HasDecimals, are_decimals, IsSealable, base_in, over_totals, seal_answer, seal_command, seal_read, sealing_of, sealing_over, sealing_with, where_decimals, with_params, with_tariff}
+use Rattle.commands.specs.Seal.{HasDecimals, are_decimals, IsSealable, base_in, over_totals, seal_answer, seal_command}
+use Rattle.commands.specs.Seal.{seal_read, sealing_of, sealing_over, sealing_with, where_decimals, with_params}
+use Rattle.commands.specs.Seal.{with_tariff}
 use Rattle.commands.specs.SealSteps.{IsNoSeal, IsNoTariff}
-use Rattle.commands.proofs.Answering.{comes-refusal, none}
+use Rattle.commands.proofs.Answering.{course-refusal, none}
 use Rattle.commands.specs.Tariffs.{tariff_in}
 use Rattle.commands.proofs.Openings.{as_found, same_fault}
 
 -- ---- the texts
 
 -- a tariff that is refused makes no seal
-pub no_seal-tariff : (number : ℕ) (found : Option ℕ) (tariff params : List ℕ) (read_failed : ℕ → Type 0) (end : Ended) → IsNoTariff found tariff end
+pub no_seal-tariff : (number : ℕ) (found : Option ℕ) (tariff params : List ℕ) (read_failed : ℕ → Type 0) (end : Ended)
+    → IsNoTariff found tariff end
     → IsNoSeal number found tariff params read_failed end
 no_seal-tariff number found tariff params read_failed ended.NoMemory h = tt
 no_seal-tariff number found tariff params read_failed (ended.BadTariff why) h =
     ap (λ (r : Result Tree Refusal). with_tariff number found (sha256 tariff) r (params_read params)) h
 no_seal-tariff number found tariff params read_failed (ended.OtherDecimals one own) (t, sound, others) =
     ap (λ (r : Result Tree Refusal). with_tariff number found (sha256 tariff) r (params_read params)) sound
-    ∙ ap (λ (r : Result (Unit {0}) Ended). where_decimals r (with_params number (sha256 tariff) t.decimals (params_read params))) others
+    ∙ ap (λ (r : Result (Unit {0}) Ended). where_decimals r
+    (with_params number (sha256 tariff) t.decimals (params_read params))) others
 no_seal-tariff number found tariff params read_failed ended.Done h = absurd h
 no_seal-tariff number found tariff params read_failed (ended.Sound cells measure) h = absurd h
 no_seal-tariff number found tariff params read_failed ended.BadWords h = absurd h
@@ -65,11 +70,16 @@ no_seal-tariff number found tariff params read_failed ended.ReadFault h = absurd
 no_seal-tariff number found tariff params read_failed ended.BoardFault h = absurd h
 
 -- a refused tariff is no fault of a read or of the board
-pub no_tariff-fault : (found : Option ℕ) (tariff : List ℕ) (end : Ended) → IsNoTariff found tariff end → (end ≢ ended.ReadFault) × (end ≢ ended.BoardFault)
-no_tariff-fault found tariff end h = (λ e. subst (λ (x : Ended). IsNoTariff found tariff x) e h, λ e. subst (λ (x : Ended). IsNoTariff found tariff x) e h)
+pub no_tariff-fault : (found : Option ℕ) (tariff : List ℕ) (end : Ended) → IsNoTariff found tariff end
+    → (end ≢ ended.ReadFault) × (end ≢ ended.BoardFault)
+no_tariff-fault found tariff end h = (
+  λ e. subst (λ (x : Ended). IsNoTariff found tariff x) e h,
+  λ e. subst (λ (x : Ended). IsNoTariff found tariff x) e h,
+)
 
 -- a tariff of other decimals than were found is refused for them
-pub no_tariff-decimals : (found : Option ℕ) (tariff : List ℕ) (t : Tree) (end : Ended) → tariff_in tariff ≡ Ok t → are_decimals found t.decimals ≡ Err end
+pub no_tariff-decimals : (found : Option ℕ) (tariff : List ℕ) (t : Tree) (end : Ended) → tariff_in tariff ≡ Ok t
+    → are_decimals found t.decimals ≡ Err end
     → IsNoTariff found tariff end
 no_tariff-decimals None tariff t end sound h = absurd cc
 no_tariff-decimals (Some own) tariff t end sound h = by (own == t.decimals) refl h
@@ -80,7 +90,8 @@ no_tariff-decimals (Some own) tariff t end sound h = by (own == t.decimals) refl
     by : (same : Bool) → same ≡ (own == t.decimals) → answer same ≡ Err end → IsNoTariff (Some own) tariff end
     by true is h = absurd cc
     by false is h =
-        subst (λ (x : Ended). IsNoTariff (Some own) tariff x) (same_fault (answer false) (ended.OtherDecimals own t.decimals) end refl h)
+        subst (λ (x : Ended). IsNoTariff (Some own) tariff x)
+        (same_fault (answer false) (ended.OtherDecimals own t.decimals) end refl h)
         (t, sound, ap answer (sym is))
 
 -- what a tariff that fits makes with the parameters
@@ -88,20 +99,24 @@ seal_with : (number : ℕ) (found : Option ℕ) (tariff params : List ℕ) (h : 
     → seal_read number found tariff params ≡ with_params number (sha256 tariff) h.tree.decimals (params_read params)
 seal_with number found tariff params h =
     ap (λ (r : Result Tree Refusal). with_tariff number found (sha256 tariff) r (params_read params)) h.sound
-    ∙ ap (λ (r : Result (Unit {0}) Ended). where_decimals r (with_params number (sha256 tariff) h.tree.decimals (params_read params))) h.decimals
+    ∙ ap (λ (r : Result (Unit {0}) Ended). where_decimals r
+    (with_params number (sha256 tariff) h.tree.decimals (params_read params))) h.decimals
 
 -- ---- the answer
 
 -- the store speaks against a sealing
-pub sealing-barred : (r : Result Opening StoreFault) (opening : Opening) (end : Ended) (tariff text : List ℕ) → r ≡ Ok opening
+pub sealing-barred : (r : Result Opening StoreFault) (opening : Opening) (end : Ended) (tariff text : List ℕ)
+    → r ≡ Ok opening
     → over_totals opening.totals opening.seal ≡ Err end → sealing_of r tariff text ≡ Err end
 sealing-barred r opening end tariff text e f =
     ap (λ (x : Result Opening StoreFault). sealing_of x tariff text) e
     ∙ ap (λ (b : Result Base Ended). sealing_over (old_seal opening.seal) b tariff text) f
 
 -- or it goes over what was found, with what the texts say
-pub sealing-over : (r : Result Opening StoreFault) (opening : Opening) (base : Base) (tariff text : List ℕ) (s : Result Seal Ended) → r ≡ Ok opening
-    → over_totals opening.totals opening.seal ≡ Ok base → seal_read (next_number (found_number base.found)) base.decimals tariff text ≡ s
+pub sealing-over : (r : Result Opening StoreFault) (opening : Opening) (base : Base) (tariff text : List ℕ)
+    (s : Result Seal Ended) → r ≡ Ok opening
+    → over_totals opening.totals opening.seal ≡ Ok base
+    → seal_read (next_number (found_number base.found)) base.decimals tariff text ≡ s
     → sealing_of r tariff text ≡ sealing_with (old_seal opening.seal) base s
 sealing-over r opening base tariff text s e f g =
     ap (λ (x : Result Opening StoreFault). sealing_of x tariff text) e
@@ -109,11 +124,15 @@ sealing-over r opening base tariff text s e f g =
     ∙ ap (sealing_with (old_seal opening.seal) base) g
 
 -- what was opened, its base and the seal that was read make a sealing
-pub sealing-made : (image tariff text : List ℕ) (r : Result Opening StoreFault) (opening : Opening) (b : Result Base Ended) (base : Base) (number : ℕ) (seal : Seal) → r ≡ Ok opening
-    → (¬ (r ≡ Err stores.BoardFault) → r ≡ opening_of image) → b ≡ Ok base → b ≡ over_totals opening.totals opening.seal → number ≡ next_number (found_number base.found)
-    → seal_read number base.decimals tariff text ≡ Ok seal → sealing_of (opening_of image) tariff text ≡ Ok (record { totals = base.totals; old = old_seal opening.seal; new = seal })
+pub sealing-made : (image tariff text : List ℕ) (r : Result Opening StoreFault) (opening : Opening)
+    (b : Result Base Ended) (base : Base) (number : ℕ) (seal : Seal) → r ≡ Ok opening
+    → (¬ (r ≡ Err stores.BoardFault) → r ≡ opening_of image) → b ≡ Ok base → b ≡ over_totals opening.totals opening.seal
+    → number ≡ next_number (found_number base.found)
+    → seal_read number base.decimals tariff text ≡ Ok seal → sealing_of (opening_of image) tariff text
+    ≡ Ok (record { totals = base.totals; old = old_seal opening.seal; new = seal })
 sealing-made image tariff text r opening b base number seal is exact based answer counted read =
-    sealing-over (opening_of image) opening base tariff text (Ok seal) (as_found r (opening_of image) opening stores.BoardFault is exact) (sym answer ∙ based)
+    sealing-over (opening_of image) opening base tariff text (Ok seal)
+    (as_found r (opening_of image) opening stores.BoardFault is exact) (sym answer ∙ based)
     (subst (λ (n : ℕ). seal_read n base.decimals tariff text ≡ Ok seal) counted read)
 
 -- the statuses of refusals
@@ -121,11 +140,13 @@ pub not_0-barred : (end : Ended) → (end ≡ ended.TripHeld) ⊎ (end ≡ ended
 not_0-barred end (inl is) = rw is (λ z. absurd cc)
 not_0-barred end (inr is) = rw is (λ z. absurd cc)
 
-pub barred-fault : (end : Ended) → (end ≡ ended.TripHeld) ⊎ (end ≡ ended.SealEnded) → (end ≢ ended.ReadFault) × (end ≢ ended.BoardFault)
+pub barred-fault : (end : Ended) → (end ≡ ended.TripHeld) ⊎ (end ≡ ended.SealEnded)
+    → (end ≢ ended.ReadFault) × (end ≢ ended.BoardFault)
 barred-fault end (inl is) = rw is (λ e. absurd cc, λ e. absurd cc)
 barred-fault end (inr is) = rw is (λ e. absurd cc, λ e. absurd cc)
 
-pub not_0-no_seal : (number : ℕ) (found : Option ℕ) (tariff text : List ℕ) (read_failed : ℕ → Type 0) (end : Ended) → IsNoSeal number found tariff text read_failed end → status_of end ≢ 0
+pub not_0-no_seal : (number : ℕ) (found : Option ℕ) (tariff text : List ℕ) (read_failed : ℕ → Type 0) (end : Ended)
+    → IsNoSeal number found tariff text read_failed end → status_of end ≢ 0
 not_0-no_seal number found tariff text read_failed ended.Done h = absurd h
 not_0-no_seal number found tariff text read_failed (ended.Sound cells measure) h = absurd h
 not_0-no_seal number found tariff text read_failed (ended.Sealed n) h = absurd h
@@ -171,23 +192,30 @@ unread-sealing contents left image opening base e f read word never =
     read word (λ is. never [] (inl (is, record { base = base; is = based })))
     (λ h. never [] (inr (h.0, record { base = base; is = based; fits = h.1 })))
 
-module _ (contents left : ℕ → List ℕ) (image : List ℕ) (read_failed : ℕ → Type 0) (failed told : Type 0) (before now : List ℕ) (still : now ≡ before) where
+module _ (contents left : ℕ → List ℕ) (image : List ℕ) (read_failed : ℕ → Type 0) (failed told : Type 0)
+    (before now : List ℕ) (still : now ≡ before) where
   abbrev Ends : Ended → Type 0
-  Ends end = Comes seal_command contents left image read_failed failed (λ text. told → now ≡ before ++ text) (λ text. told → Begins before now text) end
+  Ends end = EndsByCourse seal_command contents left image read_failed failed (λ text. told → now ≡ before ++ text)
+      (λ text. told → Begins before now text) end
 
-  refuses-with : (end : Ended) → sealing_of (opening_of image) (contents 1) (contents 2) ≡ Err end → status_of end ≢ 0 → status_of end ≢ 3 → Ends end
+  refuses-with : (end : Ended) → sealing_of (opening_of image) (contents 1) (contents 2) ≡ Err end → status_of end ≢ 0
+      → status_of end ≢ 3 → Ends end
   refuses-with end e not_0 not_3 =
-      comes-refusal seal_command contents left image read_failed failed told before now refl still end (ap seal_answer e) not_0 not_3
+      course-refusal seal_command contents left image read_failed failed told before now refl still end
+      (ap seal_answer e) not_0 not_3
 
   -- the store speaks against it
-  pub comes-barred : (end : Ended) → sealing_of (opening_of image) (contents 1) (contents 2) ≡ Err end → (end ≡ ended.TripHeld) ⊎ (end ≡ ended.SealEnded) → Ends end
-  comes-barred end e (inl is) = rw is (refuses-with ended.TripHeld (e ∙ ap Err is) (λ z. absurd cc) (λ z. absurd cc))
-  comes-barred end e (inr is) = rw is (refuses-with ended.SealEnded (e ∙ ap Err is) (λ z. absurd cc) (λ z. absurd cc))
+  pub course-barred : (end : Ended) → sealing_of (opening_of image) (contents 1) (contents 2) ≡ Err end
+      → (end ≡ ended.TripHeld) ⊎ (end ≡ ended.SealEnded) → Ends end
+  course-barred end e (inl is) = rw is (refuses-with ended.TripHeld (e ∙ ap Err is) (λ z. absurd cc) (λ z. absurd cc))
+  course-barred end e (inr is) = rw is (refuses-with ended.SealEnded (e ∙ ap Err is) (λ z. absurd cc) (λ z. absurd cc))
 
   -- no seal was made of the texts
-  pub comes-no_seal : (opening : Opening) (base : Base) (end : Ended) → opening_of image ≡ Ok opening → over_totals opening.totals opening.seal ≡ Ok base
-      → IsNoSeal (next_number (found_number base.found)) base.decimals (contents 1) (contents 2) read_failed end → Ends end
-  comes-no_seal opening base end e f = by end
+  pub course-no_seal : (opening : Opening) (base : Base) (end : Ended) → opening_of image ≡ Ok opening
+      → over_totals opening.totals opening.seal ≡ Ok base
+      → IsNoSeal (next_number (found_number base.found)) base.decimals (contents 1)
+      (contents 2) read_failed end → Ends end
+  course-no_seal opening base end e f = by end
     where
       based : base_in (opening_of image) ≡ Ok base
       based = ap base_in e ∙ f
@@ -195,29 +223,51 @@ module _ (contents left : ℕ → List ℕ) (image : List ℕ) (read_failed : �
       may : IsSealable image
       may = record { base = base; is = based }
 
-      refusal : (end : Ended) → seal_read (next_number (found_number base.found)) base.decimals (contents 1) (contents 2) ≡ Err end
+      refusal : (end : Ended)
+          → seal_read (next_number (found_number base.found)) base.decimals (contents 1) (contents 2) ≡ Err end
           → sealing_of (opening_of image) (contents 1) (contents 2) ≡ Err end
       refusal end g = sealing-over (opening_of image) opening base (contents 1) (contents 2) (Err end) e f g
 
-      by : (end : Ended) → IsNoSeal (next_number (found_number base.found)) base.decimals (contents 1) (contents 2) read_failed end → Ends end
+      by : (end : Ended) → IsNoSeal (next_number (found_number base.found)) base.decimals (contents 1)
+          (contents 2) read_failed end → Ends end
       by ended.ReadFault (inl h) = record {
         course = ReadFailed 1 [];
         may = record { reads = inl refl; comes = inl (refl, may); failed = h; takes = refl };
-        stands = inl (record { status_is = refl; line_is = refl; shown = λ t. none seal_command contents left image read_failed failed told before now refl still [] refl });
+        stands = inl (record {
+          status_is = refl;
+          line_is = refl;
+          shown = λ t. none seal_command contents left image read_failed failed told before now refl still [] refl;
+        });
       }
       by ended.ReadFault (inr (fits, h)) = record {
         course = ReadFailed 2 [];
-        may = record { reads = inr refl; comes = inr (refl, record { base = base; is = based; fits = fits }); failed = h; takes = refl };
-        stands = inl (record { status_is = refl; line_is = refl; shown = λ t. none seal_command contents left image read_failed failed told before now refl still [] refl });
+        may = record {
+          reads = inr refl;
+          comes = inr (refl, record { base = base; is = based; fits = fits });
+          failed = h;
+          takes = refl;
+        };
+        stands = inl (record {
+          status_is = refl;
+          line_is = refl;
+          shown = λ t. none seal_command contents left image read_failed failed told before now refl still [] refl;
+        });
       }
       by ended.NoMemory h = record {
         course = NoMemory;
         may = record { taken = []; may = may; takes = refl };
-        stands = inl (record { status_is = refl; line_is = refl; shown = λ t. none seal_command contents left image read_failed failed told before now refl still [] refl });
+        stands = inl (record {
+          status_is = refl;
+          line_is = refl;
+          shown = λ t. none seal_command contents left image read_failed failed told before now refl still [] refl;
+        });
       }
-      by (ended.BadTariff why) h = refuses-with (ended.BadTariff why) (refusal (ended.BadTariff why) h) (λ z. absurd cc) (λ z. absurd cc)
-      by (ended.OtherDecimals one own) h = refuses-with (ended.OtherDecimals one own) (refusal (ended.OtherDecimals one own) h) (λ z. absurd cc) (λ z. absurd cc)
-      by (ended.BadParams fault) h = refuses-with (ended.BadParams fault) (refusal (ended.BadParams fault) h) (λ z. absurd cc) (λ z. absurd cc)
+      by (ended.BadTariff why) h =
+          refuses-with (ended.BadTariff why) (refusal (ended.BadTariff why) h) (λ z. absurd cc) (λ z. absurd cc)
+      by (ended.OtherDecimals one own) h = refuses-with (ended.OtherDecimals one own)
+          (refusal (ended.OtherDecimals one own) h) (λ z. absurd cc) (λ z. absurd cc)
+      by (ended.BadParams fault) h =
+          refuses-with (ended.BadParams fault) (refusal (ended.BadParams fault) h) (λ z. absurd cc) (λ z. absurd cc)
       by ended.Done h = absurd h
       by (ended.Sound cells measure) h = absurd h
       by ended.BadWords h = absurd h
@@ -244,9 +294,10 @@ module _ (contents left : ℕ → List ℕ) (image : List ℕ) (read_failed : �
       by ended.BoardFault h = absurd h
 
   -- the store was sealed
-  pub comes-sealed : (s : Sealing) (number : ℕ) → sealing_of (opening_of image) (contents 1) (contents 2) ≡ Ok s → s.new.seal_number ≡ number
+  pub course-sealed : (s : Sealing) (number : ℕ) → sealing_of (opening_of image) (contents 1) (contents 2) ≡ Ok s
+      → s.new.seal_number ≡ number
       → left 1 ≡ [] → left 2 ≡ [] → Ends (ended.Sealed number)
-  comes-sealed s number e is one two =
+  course-sealed s number e is one two =
       let a : seal_command.answer contents image ≡ seal_answer (Ok s) = ap seal_answer e in
       let status : (seal_command.answer contents image).status ≡ 0 = ap (λ (a : Answer). a.status) a in
       record {
@@ -258,7 +309,8 @@ module _ (contents left : ℕ → List ℕ) (image : List ℕ) (read_failed : �
         stands = inl (record {
           status_is = sym status;
           line_is = sym (ap (λ (a : Answer). a.line) a ∙ ap sealed_line is);
-          shown = λ t. none seal_command contents left image read_failed failed told before now refl still _ (ap (λ (a : Answer). a.shown) a);
+          shown = λ t. none seal_command contents left image read_failed failed told before now refl still _
+              (ap (λ (a : Answer). a.shown) a);
         });
       }
     where

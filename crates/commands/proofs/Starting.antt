@@ -1,5 +1,6 @@
 -- The command `run`: how it begins.
-use Rattle.std.proofs.Common.{◌≡◌, ◌≢◌, ℕ, ◌<◌, ◌≤◌, Bool, true, false, if◌then◌else◌, List, length, take, drop, Option, Some, Result, Ok, Err, refl, sym, ap, subst, ◌∙◌, arith}
+use Rattle.std.proofs.Common.{◌≡◌, ◌≢◌, ℕ, ◌<◌, ◌≤◌, Bool, true, false, if◌then◌else◌, List, length, take, drop, Option}
+use Rattle.std.proofs.Common.{Some, Result, Ok, Err, refl, sym, ap, subst, ◌∙◌, arith}
 use Rattle.std.specs.Option.{ForSome}
 use Rattle.std.specs.Cmp.Lexicographic.{pointwise}
 use Rattle.std.specs.Prelude.{nat_eq}
@@ -13,7 +14,7 @@ use Rattle.slot_store.specs.declared.found.SlotFault.{SlotFault}
 use Rattle.slot_store.specs.declared.pair.Place.{Place}
 use Rattle.slot_store.specs.Scan.{IsAnswer, found_at, verdict_on}
 use Rattle.slot_store.proofs.Laws.{answer_is, at_stands}
-use Rattle.totals_record.specs.declared.durable.Durable.{Durable}
+use Rattle.totals_record.specs.declared.durable_state.Durable.{Durable}
 use Rattle.totals_record.specs.Reading as totals
 use Rattle.meter_store.specs.Stored as states
 use Rattle.seal_record.specs.declared.seal.Seal.{Seal}
@@ -32,7 +33,8 @@ use Rattle.commands.specs.declared.tariff.TextFault.TheVariants as texts
 use Rattle.commands.specs.Ending.{ended_for}
 use Rattle.commands.specs.Opening.{IsSealedIn, opened, opening_of, sealed_store, store_of}
 use Rattle.commands.specs.Opened.{IsBarred}
-use Rattle.commands.specs.Run.{IsOfTotals, Start, accepted, does_hold_fit, sealed_tariff, start_of, start_over, start_with, tables_in}
+use Rattle.commands.specs.Run.{IsOfTotals, Start, accepted, does_hold_fit, sealed_tariff, start_of, start_over}
+use Rattle.commands.specs.Run.{start_with, tables_in}
 use Rattle.commands.specs.RunSteps.{AreNoTables, HasNotBegun, IsNoTables}
 use Rattle.commands.specs.Tariffs.{tariff_in}
 use Rattle.commands.proofs.Barring.{owed-refused}
@@ -41,29 +43,37 @@ use Rattle.commands.proofs.Fitting.{Decides-hold, hold_fits}
 -- ---- the sealed tariff
 
 -- a text of at most 65,536 bytes with the sealed digest
-pub tariff-accepted : (digest text : List ℕ) → length text ≤ 65536 → pointwise nat_eq digest (sha256 text) ≡ true → sealed_tariff digest text ≡ accepted (tariff_in text)
+pub tariff-accepted : (digest text : List ℕ) → length text ≤ 65536 → pointwise nat_eq digest (sha256 text) ≡ true
+    → sealed_tariff digest text ≡ accepted (tariff_in text)
 tariff-accepted digest text few same = rw (le-ltb 65536 (length text) few, same) refl
 
-pub tariff-wrong : (digest text : List ℕ) → length text ≤ 65536 → pointwise nat_eq digest (sha256 text) ≡ false → sealed_tariff digest text ≡ Err (ended.WrongTariff digest (sha256 text))
+pub tariff-wrong : (digest text : List ℕ) → length text ≤ 65536 → pointwise nat_eq digest (sha256 text) ≡ false
+    → sealed_tariff digest text ≡ Err (ended.WrongTariff digest (sha256 text))
 tariff-wrong digest text few other = rw (le-ltb 65536 (length text) few, other) refl
 
-pub tariff-long : (digest text : List ℕ) → 65536 < length text → sealed_tariff digest text ≡ Err (ended.BadTariff TooLong)
+pub tariff-long : (digest text : List ℕ) → 65536 < length text
+    → sealed_tariff digest text ≡ Err (ended.BadTariff TooLong)
 tariff-long digest text long = rw (lt-ltb 65536 (length text) long) refl
 
-pub no_tables-read : (digest text : List ℕ) (read_failed : Type 0) (fault : TextFault) → (fault ≡ texts.ReadFault → read_failed)
-    → ((why : Refusal) → fault ≡ texts.Refused why → (why ≡ TooLong) × (65536 < length text)) → AreNoTables digest text read_failed (ended_for fault)
+pub no_tables-read : (digest text : List ℕ) (read_failed : Type 0) (fault : TextFault)
+    → (fault ≡ texts.ReadFault → read_failed)
+    → ((why : Refusal) → fault ≡ texts.Refused why → (why ≡ TooLong) × (65536 < length text))
+    → AreNoTables digest text read_failed (ended_for fault)
 no_tables-read digest text read_failed texts.ReadFault failed long = failed refl
 no_tables-read digest text read_failed (texts.Refused why) failed long =
-    let both = long why refl in tariff-long digest text both.1 ∙ ap (λ (w : Refusal). Err (ended.BadTariff w)) (sym both.0)
+    let both = long why refl in
+    tariff-long digest text both.1 ∙ ap (λ (w : Refusal). Err (ended.BadTariff w)) (sym both.0)
 no_tables-read digest text read_failed texts.NoMemory failed long = tt
 
-pub no_tables-made : (digest text : List ℕ) (read_failed : Type 0) (why : Ended) → sealed_tariff digest text ≡ accepted (tariff_in text) → IsNoTables text why → AreNoTables digest text read_failed why
+pub no_tables-made : (digest text : List ℕ) (read_failed : Type 0) (why : Ended) → sealed_tariff digest text
+    ≡ accepted (tariff_in text) → IsNoTables text why → AreNoTables digest text read_failed why
 no_tables-made digest text read_failed ended.NoMemory e h = tt
 no_tables-made digest text read_failed (ended.BadTariff why) e h = e ∙ ap accepted h
 no_tables-made digest text read_failed why e h = absurd h
 
 -- more may be known of a read that failed
-pub no_tables-as : (digest text : List ℕ) (read_failed more : Type 0) (why : Ended) → (read_failed → more) → AreNoTables digest text read_failed why → AreNoTables digest text more why
+pub no_tables-as : (digest text : List ℕ) (read_failed more : Type 0) (why : Ended) → (read_failed → more)
+    → AreNoTables digest text read_failed why → AreNoTables digest text more why
 no_tables-as digest text read_failed more ended.ReadFault is h = is h
 no_tables-as digest text read_failed more ended.NoMemory is h = tt
 no_tables-as digest text read_failed more (ended.BadTariff why) is h = h
@@ -93,10 +103,12 @@ first_of a b x y e =
     ap (λ (p : Durable × Seal). p.0) same
 
 -- what is found of a store that is sealed
-pub sealed_found : (found : Found Durable) (seal : Found Seal) (d : Durable) (l : Seal) → sealed_store found seal ≡ Some (d, l) → (place : Place) × (found ≡ Latest place d)
+pub sealed_found : (found : Found Durable) (seal : Found Seal) (d : Durable) (l : Seal)
+    → sealed_store found seal ≡ Some (d, l) → (place : Place) × (found ≡ Latest place d)
 sealed_found Blank seal d l e = absurd cc
 sealed_found (Latest place durable) Blank d l e = absurd cc
-sealed_found (Latest place durable) (Latest other seal) d l e = (place, ap (λ (x : Durable). Latest place x) (first_of durable d seal l e))
+sealed_found (Latest place durable) (Latest other seal) d l e =
+    (place, ap (λ (x : Durable). Latest place x) (first_of durable d seal l e))
 
 -- what a start has
 record HasStart (d : Durable) (l : Seal) (r : Result Tree Ended) (s : Start) : Type 0 where
@@ -110,7 +122,8 @@ has_start d l (Err why) s e = absurd cc
 has_start d l (Ok t) s e = by (does_hold_fit (tables_of t l.params.constant) d.hold) refl e
   where
     by : (fit : Bool) → does_hold_fit (tables_of t l.params.constant) d.hold ≡ fit
-        → (if fit then Ok (record { durable = d; seal = l; tree = t }) else Err ended.BadTrip) ≡ Ok s → HasStart d l (Ok t) s
+        → (if fit then Ok (record { durable = d; seal = l; tree = t }) else Err ended.BadTrip) ≡ Ok s
+        → HasStart d l (Ok t) s
     by true is f =
         let same : record { durable = d; seal = l; tree = t } ≡ s = cc in
         record {
@@ -122,13 +135,15 @@ has_start d l (Ok t) s e = by (does_hold_fit (tables_of t l.params.constant) d.h
     by false is f = absurd cc
 
 -- and what was found where a run begins with it
-pub record HasFound (t : Result (Found Durable) SlotFault) (l : Result (Found Seal) SlotFault) (tariff : List ℕ) (s : Start) : Type 0 where
+pub record HasFound (t : Result (Found Durable) SlotFault) (l : Result (Found Seal) SlotFault) (tariff : List ℕ)
+    (s : Start) : Type 0 where
   pub totals : (place : Place) × (t ≡ Ok (Latest place s.durable))
   pub seal : (place : Place) × (l ≡ Ok (Latest place s.seal))
   pub tariff_is : sealed_tariff s.seal.digest tariff ≡ Ok s.tree
   pub fits : does_hold_fit (tables_in s) s.durable.hold ≡ true
 
-has_found : (t : Result (Found Durable) SlotFault) (l : Result (Found Seal) SlotFault) (tariff : List ℕ) (s : Start) → start_of (opened t l) tariff ≡ Ok s → HasFound t l tariff s
+has_found : (t : Result (Found Durable) SlotFault) (l : Result (Found Seal) SlotFault) (tariff : List ℕ) (s : Start)
+    → start_of (opened t l) tariff ≡ Ok s → HasFound t l tariff s
 has_found (Err fault) l tariff s e = absurd cc
 has_found (Ok found) (Err fault) tariff s e = absurd cc
 has_found (Ok Blank) (Ok seal) tariff s e = absurd cc
@@ -143,30 +158,42 @@ has_found (Ok (Latest place durable)) (Ok (Latest other l)) tariff s e =
     }
 
 pub found_in : (image tariff : List ℕ) (s : Start) → start_of (opening_of image) tariff ≡ Ok s
-    → HasFound (found_at totals.reads states.state_number_of 0 image) (found_at seals.reads seals.seal_number_of 1024 image) tariff s
-found_in image tariff s e = has_found (found_at totals.reads states.state_number_of 0 image) (found_at seals.reads seals.seal_number_of 1024 image) tariff s e
+    → HasFound (found_at totals.reads states.state_number_of 0 image)
+    (found_at seals.reads seals.seal_number_of 1024 image) tariff s
+found_in image tariff s e = has_found (found_at totals.reads states.state_number_of 0 image)
+    (found_at seals.reads seals.seal_number_of 1024 image) tariff s e
 
 -- the opening image has the state that the run begins with, whose held trip fits
-pub start_stands : (image tariff : List ℕ) (s : Start) → start_of (opening_of image) tariff ≡ Ok s → states.HasState image s.durable × ForSome s.durable.hold (Fits (tables_in s))
+pub start_stands : (image tariff : List ℕ) (s : Start) → start_of (opening_of image) tariff ≡ Ok s
+    → states.HasState image s.durable × ForSome s.durable.hold (Fits (tables_in s))
 start_stands image tariff s e =
     let h = found_in image tariff s e in
-    let at = subst (λ (r : Result (Found Durable) SlotFault). IsAnswer totals.reads states.state_number_of 0 image r) h.totals.1
-    ((answer_is totals.reads states.state_number_of 0 image (found_at totals.reads states.state_number_of 0 image)).0 refl) in
-    (at_stands totals.reads states.state_number_of 0 h.totals.0 image s.durable at, hold_fits (tables_in s) s.durable.hold h.fits)
+    let at =
+    subst (λ (r : Result (Found Durable) SlotFault). IsAnswer totals.reads states.state_number_of 0 image r) h.totals.1
+    ((answer_is totals.reads states.state_number_of 0 image
+    (found_at totals.reads states.state_number_of 0 image)).0 refl) in (
+      at_stands totals.reads states.state_number_of 0 h.totals.0 image s.durable at,
+      hold_fits (tables_in s) s.durable.hold h.fits,
+    )
 
 -- an image with other totals, whose held trip fits, beside the same seal: a run begins with it too
-pub starts_again : (image tariff left : List ℕ) (s : Start) (place : Place) (d : Durable) → start_of (opening_of image) tariff ≡ Ok s → SameBut IsOfTotals image left
+pub starts_again : (image tariff left : List ℕ) (s : Start) (place : Place) (d : Durable)
+    → start_of (opening_of image) tariff ≡ Ok s → SameBut IsOfTotals image left
     → found_at totals.reads states.state_number_of 0 left ≡ Ok (Latest place d) → ForSome d.hold (Fits (tables_in s))
     → start_of (opening_of left) tariff ≡ Ok (record s { durable = d })
 starts_again image tariff left s place d e same found fits =
     let h = found_in image tariff s e in
-    let first : take 512 (drop 1024 left) ≡ take 512 (drop 1024 image) = same_slice IsOfTotals image left 1024 512 same (λ byte within touched. omega (arith, within.low, touched.high)) in
-    let second : take 512 (drop 1536 left) ≡ take 512 (drop 1536 image) = same_slice IsOfTotals image left 1536 512 same (λ byte within touched. omega (arith, within.low, touched.high)) in
+    let first : take 512 (drop 1024 left) ≡ take 512 (drop 1024 image) =
+    same_slice IsOfTotals image left 1024 512 same (λ byte within touched. omega (arith, within.low, touched.high)) in
+    let second : take 512 (drop 1536 left) ≡ take 512 (drop 1536 image) =
+    same_slice IsOfTotals image left 1536 512 same (λ byte within touched. omega (arith, within.low, touched.high)) in
     let seal : found_at seals.reads seals.seal_number_of 1024 left ≡ Ok (Latest h.seal.0 s.seal) =
     ap (λ (x : List ℕ). verdict_on seals.reads seals.seal_number_of x (take 512 (drop 1536 left))) first
-    ∙ ap (λ (x : List ℕ). verdict_on seals.reads seals.seal_number_of (take 512 (drop 1024 image)) x) second ∙ h.seal.1 in
+    ∙ ap (λ (x : List ℕ). verdict_on seals.reads seals.seal_number_of (take 512 (drop 1024 image)) x)
+    second ∙ h.seal.1 in
     let opening : opening_of left ≡ Ok (record { totals = Latest place d; seal = Latest h.seal.0 s.seal }) =
-    ap (λ (r : Result (Found Durable) SlotFault). opened r (found_at seals.reads seals.seal_number_of 1024 left)) found ∙ ap (opened (Ok (Latest place d))) seal in
+    ap (λ (r : Result (Found Durable) SlotFault). opened r (found_at seals.reads seals.seal_number_of 1024 left)) found
+    ∙ ap (opened (Ok (Latest place d))) seal in
     ap (λ (r : Result Opening StoreFault). start_of r tariff) opening ∙ ap (start_with d s.seal) h.tariff_is
     ∙ rw ((Decides-hold (tables_in s) d.hold).1 fits) refl
 
@@ -174,35 +201,53 @@ starts_again image tariff left s place d e same found fits =
 
 module _ (image tariff : List ℕ) (read_failed board_failed : Type 0) where
   -- the store bars the run
-  pub not_begun-barred : (why : Ended) → IsBarred why → (why ≢ ended.BoardFault → store_of (opening_of image) ≡ Err why) → (why ≡ ended.BoardFault → board_failed)
+  pub not_begun-barred : (why : Ended) → IsBarred why → (why ≢ ended.BoardFault → store_of (opening_of image) ≡ Err why)
+      → (why ≡ ended.BoardFault → board_failed)
       → HasNotBegun image tariff read_failed board_failed why
   not_begun-barred why barred store cause =
-      owed-refused (λ (w : Ended). start_of (opening_of image) tariff ≡ Err w) (λ (w : Ended). HasNotBegun image tariff read_failed board_failed w) board_failed
-      (λ h. h) (λ slot h. h) (λ first second h. h) (λ f. f) why barred (λ good. ap (λ (r : Result (Durable × Seal) Ended). start_over r tariff) (store good)) cause
+      owed-refused (λ (w : Ended). start_of (opening_of image) tariff ≡ Err w)
+      (λ (w : Ended). HasNotBegun image tariff read_failed board_failed w) board_failed
+      (λ h. h) (λ slot h. h) (λ first second h. h) (λ f. f) why barred
+      (λ good. ap (λ (r : Result (Durable × Seal) Ended). start_over r tariff) (store good)) cause
 
   module _ (store : Durable × Seal) (e : store_of (opening_of image) ≡ Ok store) where
     sealed_in : IsSealedIn image
     sealed_in = record { store = store; is = e }
 
-    pub start_from : (r : Result Tree Ended) → sealed_tariff store.1.digest tariff ≡ r → start_of (opening_of image) tariff ≡ start_with store.0 store.1 r
-    start_from r f = ap (λ (r : Result (Durable × Seal) Ended). start_over r tariff) e ∙ ap (start_with store.0 store.1) f
+    pub start_from : (r : Result Tree Ended) → sealed_tariff store.1.digest tariff ≡ r
+        → start_of (opening_of image) tariff ≡ start_with store.0 store.1 r
+    start_from r f =
+        ap (λ (r : Result (Durable × Seal) Ended). start_over r tariff) e ∙ ap (start_with store.0 store.1) f
 
-    pub not_begun-tables : (why : Ended) → AreNoTables store.1.digest tariff read_failed why → HasNotBegun image tariff read_failed board_failed why
+    pub not_begun-tables : (why : Ended) → AreNoTables store.1.digest tariff read_failed why
+        → HasNotBegun image tariff read_failed board_failed why
     not_begun-tables ended.ReadFault h = (h, sealed_in)
     not_begun-tables ended.NoMemory h = sealed_in
-    not_begun-tables (ended.BadTariff why) h = (start_from (Err (ended.BadTariff why)) h, record { not_0 = λ z. absurd cc; not_3 = λ z. absurd cc; not_11 = λ z. absurd cc })
-    not_begun-tables (ended.WrongTariff digest own) h = (start_from (Err (ended.WrongTariff digest own)) h, record { not_0 = λ z. absurd cc; not_3 = λ z. absurd cc; not_11 = λ z. absurd cc })
+    not_begun-tables (ended.BadTariff why) h = (
+      start_from (Err (ended.BadTariff why)) h,
+      record { not_0 = λ z. absurd cc; not_3 = λ z. absurd cc; not_11 = λ z. absurd cc },
+    )
+    not_begun-tables (ended.WrongTariff digest own) h = (
+      start_from (Err (ended.WrongTariff digest own)) h,
+      record { not_0 = λ z. absurd cc; not_3 = λ z. absurd cc; not_11 = λ z. absurd cc },
+    )
     not_begun-tables why h = absurd h
 
     -- by whether the held trip fits
     fitted : (t : Tree) (fit : Bool) → does_hold_fit (tables_of t store.1.params.constant) store.0.hold ≡ fit
-        → start_with store.0 store.1 (Ok t) ≡ (if fit then Ok (record { durable = store.0; seal = store.1; tree = t }) else Err ended.BadTrip)
+        → start_with store.0 store.1 (Ok t)
+        ≡ (if fit then Ok (record { durable = store.0; seal = store.1; tree = t }) else Err ended.BadTrip)
     fitted t fit is = rw is refl
 
-    pub not_begun-trip : (t : Tree) → sealed_tariff store.1.digest tariff ≡ Ok t → does_hold_fit (tables_of t store.1.params.constant) store.0.hold ≡ false
+    pub not_begun-trip : (t : Tree) → sealed_tariff store.1.digest tariff ≡ Ok t
+        → does_hold_fit (tables_of t store.1.params.constant) store.0.hold ≡ false
         → HasNotBegun image tariff read_failed board_failed ended.BadTrip
-    not_begun-trip t f none = (start_from (Ok t) f ∙ fitted t false none, record { not_0 = λ z. absurd cc; not_3 = λ z. absurd cc; not_11 = λ z. absurd cc })
+    not_begun-trip t f none = (
+      start_from (Ok t) f ∙ fitted t false none,
+      record { not_0 = λ z. absurd cc; not_3 = λ z. absurd cc; not_11 = λ z. absurd cc },
+    )
 
-    pub has_begun : (t : Tree) → sealed_tariff store.1.digest tariff ≡ Ok t → does_hold_fit (tables_of t store.1.params.constant) store.0.hold ≡ true
+    pub has_begun : (t : Tree) → sealed_tariff store.1.digest tariff ≡ Ok t
+        → does_hold_fit (tables_of t store.1.params.constant) store.0.hold ≡ true
         → start_of (opening_of image) tariff ≡ Ok (record { durable = store.0; seal = store.1; tree = t })
     has_begun t f fits = start_from (Ok t) f ∙ fitted t true fits

@@ -12,8 +12,8 @@ abbrev pub shows : List ℕ → Answer
 shows text = record { status = 0; shown = text; line = [] }
 
 -- an answer that says a line has the status 0, and shows nothing but the line
-abbrev pub says : List ℕ → Answer
-says line = record { status = 0; shown = []; line = line }
+abbrev pub shows_line : List ℕ → Answer
+shows_line line = record { status = 0; shown = []; line = line }
 
 -- an answer that refuses its input has a status and a last line, and shows nothing else
 abbrev pub refuses : ℕ → List ℕ → Answer

@@ -5,7 +5,7 @@ use Rattle.meter_states.specs.Setting.{Setting, setting_by}
 use Rattle.seal_record.specs.declared.seal.Seal.{Seal}
 use Rattle.tariff_check.specs.DisplayStep.{display_step}
 use Rattle.tariff_syntax.specs.Tree.{Tree}
-use Rattle.totals_record.specs.declared.durable.Durable.{Durable}
+use Rattle.totals_record.specs.declared.durable_state.Durable.{Durable}
 use Rattle.verify_bench.specs.CrossOvers.{cross_overs_text}
 use Rattle.verify_bench.specs.Expecting.{expected_of}
 use Rattle.verify_bench.specs.Passing.{do_all_pass}

@@ -7,11 +7,11 @@ use Rattle.outside.specs.declared.board.Board.{Ghosts}
 use Rattle.outside.specs.declared.files.Files.{Ghosts as FileGhosts}
 use Rattle.commands.specs.Call.{LeavesUnread, StopsReading}
 use Rattle.commands.specs.Command.{command_of}
-use Rattle.commands.specs.Course.{Command, LooksOnly}
-use Rattle.commands.specs.Ending.{ComesOn, LooksAt}
+use Rattle.commands.specs.Course.{Command, IsReadOnlyCommand}
+use Rattle.commands.specs.Ending.{EndsOnDevices, LeavesImageSettled}
 use Rattle.commands.specs.LastLine.{line_of, status_of}
 use Rattle.commands.specs.Opening.{opening_of}
-use Rattle.commands.specs.RunSteps.{RunComes}
+use Rattle.commands.specs.RunSteps.{RunReachesLine}
 use Rattle.commands.specs.Seal.{Seals, sealing_of}
 use Rattle.commands.specs.SealSteps.{RestsAmid}
 use Rattle.commands.specs.Unwritten.{KeepsBytes}
@@ -26,7 +26,7 @@ module _ {E D L : Type 0} {N : ℕ} (F : FileGhosts E) (B : Ghosts D N L) where
   -- all may have written where the board fails, and one that opens the store leaves nothing in flight unless the board
   -- failed
   pub record Carries (c : Command) (files files' : E) (old new : D) (before now : ℕ) (ended : Ended) : Type 0 where
-    pub ends : c.known F.tells B.tells_image → ComesOn F B c files files' old new ended
+    pub ends : c.known F.tells B.tells_image → EndsOnDevices F B c files files' old new ended
     pub steps : (later : ℕ) → later ≤ now + 1
         → c.steps F.tells B.tells_image (F.rest files) (F.rest files') (B.image old) before later
     pub read_fault : ended ≡ ReadFault → StopsReading F c files files'
@@ -40,11 +40,11 @@ module _ {E D L : Type 0} {N : ℕ} (F : FileGhosts E) (B : Ghosts D N L) where
     pub same : ¬ c.writes (status_of ended) → ended ≢ BoardFault → B.image new ≡ B.image old
     pub fails : (status : ℕ) → c.writes status → c.writes 8
     pub at_rest : c.known F.tells B.tells_image → B.tells_image → c.opens → ended ≢ BoardFault → IsSettled B new
-    pub looks : LooksOnly c → B.tells_image → LooksAt B old new ended
+    pub looks : IsReadOnlyCommand c → B.tells_image → LeavesImageSettled B old new ended
 
   -- a sealing comes to its last line where all holds of it that `Seals` says, and a cut while that line is printed
   -- leaves what a cut of the sealing may leave
-  pub record SealComes (files : E) (old new : D) (ended : Ended) : Type 0 where
+  pub record SealReachesLine (files : E) (old new : D) (ended : Ended) : Type 0 where
     pub seals : Seals B (sealing_of (opening_of (B.image old)) (F.rest files 1) (F.rest files 2)) old new
         (status_of ended)
     pub rests : ended ≢ BoardFault → RestsAmid B
@@ -52,15 +52,16 @@ module _ {E D L : Type 0} {N : ℕ} (F : FileGhosts E) (B : Ghosts D N L) where
         (line_of ended) new
 
   -- what is said of the command of a row besides
-  abbrev pub ComesAs : Row → (files files' : E) (old new : D) → Ended → Type 0
-  ComesAs Seal files files' old new ended = F.tells → B.tells_image → SealComes files old new ended
-  ComesAs Run files files' old new ended = F.tells → B.tells_image → RunComes F B files files' old new ended
-  ComesAs row files files' old new ended = Unit {0}
+  abbrev pub RowReachesLine : Row → (files files' : E) (old new : D) → Ended → Type 0
+  RowReachesLine Seal files files' old new ended = F.tells → B.tells_image → SealReachesLine files old new ended
+  RowReachesLine Run files files' old new ended = F.tells → B.tells_image
+      → RunReachesLine F B files files' old new ended
+  RowReachesLine row files files' old new ended = Unit {0}
 
   -- a row was carried out where its command was, and what is said of it besides holds
   pub record CarriesRow (row : Row) (files files' : E) (old new : D) (before now : ℕ) (ended : Ended) : Type 0 where
     pub carries : Carries (command_of (Some row)) files files' old new before now ended
-    pub comes : ComesAs row files files' old new ended
+    pub comes : RowReachesLine row files files' old new ended
 
 -- a command that is given no files may hold any contents, and has no fault of a read
 abbrev pub no_files : (contents : ℕ → List ℕ) → FileGhosts (Unit {0})

@@ -8,7 +8,7 @@ use Rattle.seal_record.specs.declared.seal.Seal.{Seal}
 use Rattle.taxi_units.specs.declared.receipt.Receipt as receipts
 use Rattle.meter_store.specs.Stored.{HasState}
 use Rattle.totals_record.specs.declared.change.Change.{Change}
-use Rattle.totals_record.specs.declared.durable.Durable.{Durable}
+use Rattle.totals_record.specs.declared.durable_state.Durable.{Durable}
 use Rattle.meter_states.specs.declared.act.Act.TheVariants.{Receipt}
 use Rattle.meter_run.specs.Deeds.{Deed, Does, texts}
 use Rattle.commands.specs.Link.{IsLink, Link, begun_with, deeds_done, prefix_of}

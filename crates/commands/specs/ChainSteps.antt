@@ -3,7 +3,7 @@ use Rattle.std.specs.Prelude.{◌≡◌, ℕ, List, [], Option}
 use Rattle.outside.specs.MemoryBoard.{new_board}
 use Rattle.outside.specs.MemoryFiles.{FilesState}
 use Rattle.outside.specs.declared.replay.Fill.{Fill}
-use Rattle.totals_record.specs.declared.durable.Durable.{Durable}
+use Rattle.totals_record.specs.declared.durable_state.Durable.{Durable}
 use Rattle.commands.specs.Chain.{Ran}
 use Rattle.commands.specs.Link.{IsLink, Link}
 

@@ -4,7 +4,7 @@ use Rattle.commands.specs.Answer.{Answer}
 use Rattle.commands.specs.Bench.{bench_command}
 use Rattle.commands.specs.Check.{check_command}
 use Rattle.commands.specs.Compare.{compare_command}
-use Rattle.commands.specs.Course.{Command, LooksOnly}
+use Rattle.commands.specs.Course.{Command, IsReadOnlyCommand}
 use Rattle.commands.specs.Explain.{explain_command}
 use Rattle.commands.specs.Fare.{fare_command}
 use Rattle.commands.specs.Form.{form_command}
@@ -48,19 +48,19 @@ command_of (Some Explain) = explain_command
 command_of (Some (Compare k)) = compare_command k
 
 -- words only look at the store where their command opens the store and writes nothing; these commands are the six of
--- `IsLook`, as the law six_commands_only_look says
-abbrev pub OnlyLooks : Option Row → Type 0
-OnlyLooks row = LooksOnly (command_of row)
+-- `IsStoreQuery`, as the law six_commands_only_look says
+abbrev pub IsReadOnlyRow : Option Row → Type 0
+IsReadOnlyRow row = IsReadOnlyCommand (command_of row)
 
 -- a row is a look at the store where it is one of `totals`, `bench`, `port`, `mark`, `shifts` and `sealed`
-abbrev pub IsLook : Option Row → Type 0
-IsLook (Some Totals) = Unit {0}
-IsLook (Some Bench) = Unit {0}
-IsLook (Some Port) = Unit {0}
-IsLook (Some (Mark driver)) = Unit {0}
-IsLook (Some Shifts) = Unit {0}
-IsLook (Some Sealed) = Unit {0}
-IsLook row = ⊥
+abbrev pub IsStoreQuery : Option Row → Type 0
+IsStoreQuery (Some Totals) = Unit {0}
+IsStoreQuery (Some Bench) = Unit {0}
+IsStoreQuery (Some Port) = Unit {0}
+IsStoreQuery (Some (Mark driver)) = Unit {0}
+IsStoreQuery (Some Shifts) = Unit {0}
+IsStoreQuery (Some Sealed) = Unit {0}
+IsStoreQuery row = ⊥
 
 -- words call the command of the row that they are
 abbrev pub called : List (List ℕ) → Command

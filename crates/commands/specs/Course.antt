@@ -32,7 +32,7 @@ pub record Command : Type 1 where
   pub steps : (files_tell image_told : Type 0) (contents left : ℕ → List ℕ) (image : List ℕ) (before now : ℕ) → Type 0
 
 -- a command only looks at the store where it opens the store and writes nothing
-pub record LooksOnly (c : Command) : Type 0 where
+pub record IsReadOnlyCommand (c : Command) : Type 0 where
   pub opens : c.opens
   pub unwritten : (ended : ℕ) → ¬ c.writes ended
 

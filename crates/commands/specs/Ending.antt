@@ -98,47 +98,47 @@ module _ (c : Command) (contents left : ℕ → List ℕ) (image : List ℕ) (re
     pub started : begun (text_in c contents image course)
 
   -- a command comes to an end where it may take a course, and the last line of that is due or the course is broken off
-  pub record Comes (ended : Ended) : Type 0 where
+  pub record EndsByCourse (ended : Ended) : Type 0 where
     pub course : Course
     pub may : MayTake c contents left image read_failed board_failed course
     pub stands : IsDue course ended ⊎ IsBrokenOff course ended
 
 -- a command that has printed nothing, and whose board didn't fail, comes to an end
-abbrev pub ComesUnprinted : Command → (contents left : ℕ → List ℕ) → List ℕ → (ℕ → Type 0) → Ended → Type 0
-ComesUnprinted c contents left image read_failed ended =
-    Comes c contents left image read_failed ⊥ (λ text. text ≡ []) (λ text. ⊥) ended
+abbrev pub EndsUnprinted : Command → (contents left : ℕ → List ℕ) → List ℕ → (ℕ → Type 0) → Ended → Type 0
+EndsUnprinted c contents left image read_failed ended =
+    EndsByCourse c contents left image read_failed ⊥ (λ text. text ≡ []) (λ text. ⊥) ended
 
 module _ {E D L : Type 0} {N : ℕ} (F : FileGhosts E) (B : Ghosts D N L) where
   -- a command comes to an end on files and a board, whose contents, images, texts and counts of faults are those of the
   -- call
-  abbrev pub ComesOn : Command → (files files' : E) (board board' : D) → Ended → Type 0
-  ComesOn c files files' board board' ended =
-      Comes c (F.rest files) (F.rest files') (B.image board)
+  abbrev pub EndsOnDevices : Command → (files files' : E) (board board' : D) → Ended → Type 0
+  EndsOnDevices c files files' board board' ended =
+      EndsByCourse c (F.rest files) (F.rest files') (B.image board)
       (λ word. Rose (F.faults files word) (F.faults files' word)) (Rose (B.faults board) (B.faults board'))
       (λ text. B.tells_text → B.printed board' ≡ B.printed board ++ text)
       (λ text. B.tells_text → Begins (B.printed board) (B.printed board') text) ended
 
 module _ {D L : Type 0} {N : ℕ} (B : Ghosts D N L) where
   -- a command comes to an end on a board, whatever files it may have
-  abbrev pub ComesFrom : Command → (contents left : ℕ → List ℕ) → (ℕ → Type 0) → (board board' : D) → Ended → Type 0
-  ComesFrom c contents left read_failed board board' ended =
-      Comes c contents left (B.image board) read_failed (Rose (B.faults board) (B.faults board'))
+  abbrev pub EndsOnBoard : Command → (contents left : ℕ → List ℕ) → (ℕ → Type 0) → (board board' : D) → Ended → Type 0
+  EndsOnBoard c contents left read_failed board board' ended =
+      EndsByCourse c contents left (B.image board) read_failed (Rose (B.faults board) (B.faults board'))
       (λ text. B.tells_text → B.printed board' ≡ B.printed board ++ text)
       (λ text. B.tells_text → Begins (B.printed board) (B.printed board') text) ended
 
   -- a command has only looked at the store where a cut from its opening sync on leaves the image as it was, and unless
   -- the board failed the image is as it was and nothing is in flight
-  pub record LooksAt (old new : D) (ended : Ended) : Type 0 where
+  pub record LeavesImageSettled (old new : D) (ended : Ended) : Type 0 where
     pub leaves : LeavesImage B (ended ≡ BoardFault) old new
     pub same : ended ≢ BoardFault → B.image new ≡ B.image old
     pub settled : ended ≢ BoardFault → IsSettled B new
 
   -- a command keeps the store where nothing was written, unless the board failed no byte has changed, and, where the
   -- image is told, the command has only looked at the store
-  pub record OnlyLooksAt (old new : D) (ended : Ended) : Type 0 where
+  pub record LeavesStoreUnwritten (old new : D) (ended : Ended) : Type 0 where
     pub bytes : KeepsBytes B old new
     pub same : ended ≢ BoardFault → B.image new ≡ B.image old
-    pub looks : B.tells_image → LooksAt old new ended
+    pub looks : B.tells_image → LeavesImageSettled old new ended
 
   -- a command ended with its cause if the board's count of faults rose where the board failed, and is as it was where
   -- it didn't

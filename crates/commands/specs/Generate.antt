@@ -8,7 +8,7 @@ use Rattle.meter_states.specs.Setting.{Setting, under_offset}
 use Rattle.tariff_syntax.specs.Tree.{Tree}
 use Rattle.taxi_units.specs.Time.{first_second}
 use Rattle.totals_record.specs.States.{first_state}
-use Rattle.totals_record.specs.declared.durable.Durable.{Durable}
+use Rattle.totals_record.specs.declared.durable_state.Durable.{Durable}
 use Rattle.verify_bench.specs.Generated.{generated}
 use Rattle.commands.specs.Answer.{Answer, shows}
 use Rattle.commands.specs.Course.{Command}

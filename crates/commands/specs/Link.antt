@@ -3,13 +3,13 @@ use Rattle.std.specs.Prelude.{◌≡◌, ◌≢◌, ℕ, ◌+◌, ◌-◌, ◌�
 use Rattle.outside.specs.Calls.{IsInSome}
 use Rattle.outside.specs.Disk.{SameBut}
 use Rattle.outside.specs.Faults.{Rose}
-use Rattle.outside.specs.MemoryBoard.{BoardState, held_inside, image_of, left_since_of, text_of}
+use Rattle.outside.specs.MemoryBoard.{BoardState, contents_inside, image_of, left_since_of, text_of}
 use Rattle.outside.specs.MemoryFiles.{FilesState, rest_of}
 use Rattle.outside.specs.declared.replay.Fill.{Fill}
 use Rattle.meter_store.specs.Stored.{HasState}
 use Rattle.totals_record.specs.Sums.{GrowsBy}
 use Rattle.totals_record.specs.declared.change.Change.{Change}
-use Rattle.totals_record.specs.declared.durable.Durable.{Durable}
+use Rattle.totals_record.specs.declared.durable_state.Durable.{Durable}
 use Rattle.meter_run.specs.Deeds.{Deed, changes_of}
 use Rattle.commands.specs.Call.{LeavesUnread, MayTake}
 use Rattle.commands.specs.Course.{Course, line_in, status_in, text_in}
@@ -41,11 +41,12 @@ call_of board number = min number (length board.calls)
 -- the call of the cut
 abbrev pub text_before : Option (ℕ × Fill) → BoardState → List ℕ
 text_before None board = text_of board
-text_before (Some (number, fill)) board = (held_inside board (call_of board number)).text
+text_before (Some (number, fill)) board = (contents_inside board (call_of board number)).text
 
 -- an image is left inside a call of a board where it has each byte that the board holds there, but those in flight
 abbrev pub IsLeftInside : BoardState → (call : ℕ) → List ℕ → Type 0
-IsLeftInside board call image = SameBut (IsInSome (held_inside board call).ranges) (held_inside board call).image image
+IsLeftInside board call image =
+    SameBut (IsInSome (contents_inside board call).ranges) (contents_inside board call).image image
 
 -- a run does the deeds of the bytes of its drive from its start on, and nothing where it is refused before the drive
 abbrev pub deeds_from : Result Start Ended → (bytes : List ℕ) → List Deed

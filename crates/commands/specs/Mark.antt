@@ -1,6 +1,6 @@
 -- Rules: the commands `mark on DRIVER` and `mark off`.
 use Rattle.std.specs.Prelude.{true, false, [], Option, None, Some, Result, Ok, Err}
-use Rattle.totals_record.specs.declared.durable.Durable.{Durable}
+use Rattle.totals_record.specs.declared.durable_state.Durable.{Durable}
 use Rattle.seal_record.specs.declared.seal.Seal.{Seal}
 use Rattle.shift_book.specs.Following.{numbers_in}
 use Rattle.shift_book.specs.Marks.{Signing, mark_text}

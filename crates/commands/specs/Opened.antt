@@ -6,7 +6,7 @@ use Rattle.outside.specs.declared.board.Board.{Ghosts}
 use Rattle.slot_store.specs.declared.pair.Place.{Place}
 use Rattle.slot_store.specs.Scan.{IsAsFound, IsValidFinding}
 use Rattle.slot_store.specs.Syncs.{IsAsHeld, LeavesFromSync, ReadsOnly}
-use Rattle.totals_record.specs.declared.durable.Durable.{Durable}
+use Rattle.totals_record.specs.declared.durable_state.Durable.{Durable}
 use Rattle.totals_record.specs.Ranges.{IsDurable}
 use Rattle.totals_record.specs.Reading as totals
 use Rattle.meter_store.specs.Stored as states
@@ -19,7 +19,7 @@ use Rattle.commands.specs.declared.opening.Opening.{Opening}
 use Rattle.commands.specs.declared.opening.StoreFault.{StoreFault}
 
 -- an opening is sound where the durable state and the seal that it has are in their ranges
-pub record IsSoundOpening (opening : Opening) : Type 0 where
+pub record IsOpeningInRange (opening : Opening) : Type 0 where
   pub totals : IsValidFinding IsDurable opening.totals
   pub seal : IsValidFinding IsSeal opening.seal
 

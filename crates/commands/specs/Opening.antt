@@ -5,7 +5,7 @@ use Rattle.slot_store.specs.declared.found.Found.TheVariants.{Blank, Latest}
 use Rattle.slot_store.specs.declared.found.SlotFault.{SlotFault}
 use Rattle.slot_store.specs.declared.found.SlotFault.TheVariants as slots
 use Rattle.slot_store.specs.Scan.{found_at}
-use Rattle.totals_record.specs.declared.durable.Durable.{Durable}
+use Rattle.totals_record.specs.declared.durable_state.Durable.{Durable}
 use Rattle.totals_record.specs.Reading as totals
 use Rattle.meter_store.specs.Stored as states
 use Rattle.seal_record.specs.declared.seal.Seal.{Seal}

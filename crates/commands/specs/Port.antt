@@ -1,6 +1,6 @@
 -- Rules: the command `port REQUESTS`.
 use Rattle.std.specs.Prelude.{◌≡◌, ℕ, ◌+◌, List, [], Some, Result, Ok, Err}
-use Rattle.totals_record.specs.declared.durable.Durable.{Durable}
+use Rattle.totals_record.specs.declared.durable_state.Durable.{Durable}
 use Rattle.seal_record.specs.declared.seal.Seal.{Seal}
 use Rattle.data_port.specs.Reading.{requests_in}
 use Rattle.data_port.specs.Serving.{StreamEnd, Whole, BadAt, Endless, IsBoundedBy, IsGoing}

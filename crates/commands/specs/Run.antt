@@ -10,7 +10,7 @@ use Rattle.outside.specs.Runs.{IsSettled, LeavesOnly}
 use Rattle.outside.specs.declared.board.Board.{Ghosts}
 use Rattle.outside.specs.declared.files.Files.{Ghosts as FileGhosts}
 use Rattle.slot_store.specs.Syncs.{LeavesFromSync}
-use Rattle.totals_record.specs.declared.durable.Durable.{Durable}
+use Rattle.totals_record.specs.declared.durable_state.Durable.{Durable}
 use Rattle.totals_record.specs.declared.trip.Trip.{Trip}
 use Rattle.meter_store.specs.Stored.{HasState}
 use Rattle.seal_record.specs.declared.seal.Seal.{Seal}

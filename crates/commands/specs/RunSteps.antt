@@ -9,7 +9,7 @@ use Rattle.seal_record.specs.declared.seal.Seal.{Seal}
 use Rattle.tariff_compile.specs.Tables.{IsTablesOf, TableParts, tables_of}
 use Rattle.tariff_syntax.specs.Tree.{Tree}
 use Rattle.meter_run.specs.Runs.{OpensWith}
-use Rattle.commands.specs.Ending.{ComesOn}
+use Rattle.commands.specs.Ending.{EndsOnDevices}
 use Rattle.commands.specs.LastLine.{line_of, status_of}
 use Rattle.commands.specs.Opening.{IsSealedIn, opening_of}
 use Rattle.commands.specs.Run.{IsCutOfCourse, Stands, Start, bytes_in, run_command, sealed_tariff}
@@ -74,8 +74,8 @@ HasNotBegun image tariff read_failed board_failed why = (start_of (opening_of im
 module _ {E D L : Type 0} {N : ℕ} (F : FileGhosts E) (B : Ghosts D N L) where
   -- a run came to its last line, or to a fault of the board before it, where all holds of it that `IsRun` says of a run
   -- in the end
-  pub record RunComes (files files' : E) (old new : D) (ended : Ended) : Type 0 where
-    pub comes : ComesOn F B run_command files files' old new ended
+  pub record RunReachesLine (files files' : E) (old new : D) (ended : Ended) : Type 0 where
+    pub comes : EndsOnDevices F B run_command files files' old new ended
     pub stands : ended ≢ BoardFault → Stands B.tells_text (B.image old) (B.printed old) (start_at F B files old)
         (bytes_in comes.course (F.rest files 2)) (B.image new)
     pub leaves : LeavesFromSync B (status_of ended ≡ 8) old new (IsCutOfCourse F B files old comes.course)

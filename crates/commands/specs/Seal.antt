@@ -5,7 +5,7 @@ use Rattle.sha2.specs.Sha256.{sha256}
 use Rattle.slot_store.specs.declared.found.Found.{Found}
 use Rattle.slot_store.specs.declared.found.Found.TheVariants.{Blank, Latest}
 use Rattle.tariff_syntax.specs.Tree.{Tree}
-use Rattle.totals_record.specs.declared.durable.Durable.{Durable}
+use Rattle.totals_record.specs.declared.durable_state.Durable.{Durable}
 use Rattle.seal_record.specs.declared.params.Params.{Params}
 use Rattle.seal_record.specs.declared.params.ParamFault.{ParamFault}
 use Rattle.seal_record.specs.declared.seal.Seal.{Seal}
@@ -14,7 +14,7 @@ use Rattle.seal_record.specs.Reading.{params_read}
 use Rattle.meter_store.specs.Sealing.{IsAmid, IsSealed, Sealing, found_number, next_number, old_seal}
 use Rattle.outside.specs.declared.board.Board.{Ghosts}
 use Rattle.slot_store.specs.Syncs.{LeavesFromSync}
-use Rattle.commands.specs.Answer.{Answer, says}
+use Rattle.commands.specs.Answer.{Answer, shows_line}
 use Rattle.commands.specs.Course.{Command}
 use Rattle.commands.specs.LastLine.{refused_as, sealed_line}
 use Rattle.commands.specs.Opening.{opening_of, store_ended}
@@ -110,7 +110,7 @@ sealing_of (Ok opening) tariff params =
 -- the answer to a sealing is the line with the number of the new seal, or the refusal
 abbrev pub seal_answer : Result Sealing Ended → Answer
 seal_answer (Err ended) = refused_as ended
-seal_answer (Ok sealing) = says (sealed_line sealing.new.seal_number)
+seal_answer (Ok sealing) = shows_line (sealed_line sealing.new.seal_number)
 
 -- the store of an image may be sealed where it has a base of a sealing
 pub record IsSealable (image : List ℕ) : Type 0 where

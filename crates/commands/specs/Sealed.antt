@@ -1,6 +1,6 @@
 -- Rules: the command `sealed`.
 use Rattle.std.specs.Prelude.{Result, Ok, Err}
-use Rattle.totals_record.specs.declared.durable.Durable.{Durable}
+use Rattle.totals_record.specs.declared.durable_state.Durable.{Durable}
 use Rattle.seal_record.specs.declared.seal.Seal.{Seal}
 use Rattle.commands.specs.Answer.{Answer, shows}
 use Rattle.commands.specs.Course.{Command, store_command}

@@ -1,6 +1,6 @@
 -- Rules: the command `shifts BOOK`.
 use Rattle.std.specs.Prelude.{◌≡◌, ℕ, ◌+◌, ◌*◌, ◌≤◌, List, [], length, None, Result, Ok, Err}
-use Rattle.totals_record.specs.declared.durable.Durable.{Durable}
+use Rattle.totals_record.specs.declared.durable_state.Durable.{Durable}
 use Rattle.seal_record.specs.declared.seal.Seal.{Seal}
 use Rattle.shift_book.specs.BookReading.{book_read}
 use Rattle.shift_book.specs.Following.{numbers_in}

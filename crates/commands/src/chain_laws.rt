@@ -4,7 +4,7 @@ ghost use Rattle.taxi_units.specs.declared.receipt.Receipt as receipts;
 ghost use Rattle.totals_record.specs.States.{entries_of};
 ghost use Rattle.meter_store.specs.Stored.{HasState};
 ghost use Rattle.totals_record.specs.Sums.{AddsUp, GrowsBy};
-ghost use Rattle.totals_record.specs.declared.durable.Durable.{Durable};
+ghost use Rattle.totals_record.specs.declared.durable_state.Durable.{Durable};
 ghost use Rattle.meter_run.specs.Points.{HasEntryOf, IsNumberedWithin};
 ghost use Rattle.commands.specs.Chain.{HasByteOf, IsChain, last_image, last_state, prefixes_of};
 ghost use Rattle.commands.specs.Link.{Link, prefix_of};

@@ -6,7 +6,7 @@ ghost use Rattle.outside.specs.declared.replay.Fill.{Fill};
 ghost use Rattle.meter_store.specs.Sealing.{HasSeal};
 ghost use Rattle.seal_record.specs.declared.seal.Seal.{Seal};
 ghost use Rattle.meter_store.specs.Stored.{HasState};
-ghost use Rattle.totals_record.specs.declared.durable.Durable.{Durable};
+ghost use Rattle.totals_record.specs.declared.durable_state.Durable.{Durable};
 ghost use Rattle.commands.specs.Chain.{HasChain, IsSealedStore};
 ghost use Rattle.commands.specs.ChainSteps.{HasLink};
 ghost use Rattle.commands.specs.Link.{IsLeftInside, call_of, text_before};

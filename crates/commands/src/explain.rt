@@ -7,7 +7,7 @@ ghost use Rattle.verify_bench.specs.Explaining.{explanations_of};
 ghost use Rattle.verify_bench.specs.Settings.{setting_under};
 ghost use Rattle.commands.specs.Call.{LeavesUnread, StopsReading};
 ghost use Rattle.commands.specs.Carried.{Carries};
-ghost use Rattle.commands.specs.Ending.{ComesUnprinted};
+ghost use Rattle.commands.specs.Ending.{EndsUnprinted};
 ghost use Rattle.commands.specs.Explain.{explain_command};
 ghost use Rattle.commands.specs.ExplainSteps.{HasExplained};
 ghost use Rattle.commands.specs.ExplainedText.{explanations_text};
@@ -52,7 +52,7 @@ pub fn explain<F: Files, B: Board<STORE_SIZE, L>, L: Ledger>(
 fn explanation<F: Files>(alloc: Global, files: &mut F) -> Result<Vec<u8>, Ended>
     ensures explained { F.tells → IfOk result (λ text. HasExplained (F.rest files.old) (F.rest files.new) text.items) }
     ensures refused { (why : Ended) (image : List ℕ) → F.tells → result ≡ Err why
-        → ComesUnprinted explain_command (F.rest files.old) (F.rest files.new) image
+        → EndsUnprinted explain_command (F.rest files.old) (F.rest files.new) image
         (λ word. Rose (F.faults files.old word) (F.faults files.new word)) why }
     ensures read_fault { result ≡ Err Ended.ReadFault → StopsReading F.Files explain_command files.old files.new }
     ensures not_board { result ≢ Err Ended.BoardFault }

@@ -18,7 +18,7 @@ pub fn fare_seal(constant: Constant, decimals: u8) -> Seal
     ensures taxi { result.params.taxi.items ≡ codes "DRY" }
     ensures constant { result.params.constant ≡ constant }
     ensures mode { result.params.mode ≡ Single }
-    ensures hold { result.params.hold ≡ 60 }
+    ensures hold { result.params.hold_time ≡ 60 }
     ensures offsets { result.params.offsets ≡ (first_second, pos 0) ∷ [] }
     ensures secured { result.params.secured ≡ pos first_day }
     ensures digest { result.digest ≡ replicate 32 0 }
@@ -34,7 +34,7 @@ pub fn fare_seal(constant: Constant, decimals: u8) -> Seal
             taxi,
             constant,
             mode: Mode::Single,
-            hold: 60,
+            hold_time: 60,
             offsets: utc(),
             secured: FIRST_DAY,
         },

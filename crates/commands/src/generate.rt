@@ -11,7 +11,7 @@ ghost use Rattle.slot_store.specs.declared.found.Found.{Found};
 ghost use Rattle.taxi_units.specs.Line.{line_size};
 ghost use Rattle.taxi_units.specs.Time.{first_second};
 ghost use Rattle.meter_store.specs.Stored.{HasState};
-ghost use Rattle.totals_record.specs.declared.durable.Durable.{Durable};
+ghost use Rattle.totals_record.specs.declared.durable_state.Durable.{Durable};
 ghost use Rattle.verify_bench.specs.Generated.{generated};
 ghost use Rattle.arrayvec.specs.ArrayVec.{array_vec_len};
 ghost use Rattle.commands.specs.Carried.{Carries, no_files};
@@ -80,7 +80,7 @@ pub fn gen_seal(decimals: u8) -> Seal
     ensures taxi { result.params.taxi.items ≡ codes "GEN" }
     ensures constant { result.params.constant ≡ 10000 }
     ensures mode { result.params.mode ≡ Single }
-    ensures hold { result.params.hold ≡ 60 }
+    ensures hold { result.params.hold_time ≡ 60 }
     ensures offsets { result.params.offsets ≡ (first_second, pos 3600) ∷ [] }
     ensures secured { result.params.secured ≡ pos 20423 }
     ensures digest { result.digest ≡ replicate 32 0 }
@@ -96,7 +96,7 @@ pub fn gen_seal(decimals: u8) -> Seal
             taxi,
             constant: ten_thousand(),
             mode: Mode::Single,
-            hold: 60,
+            hold_time: 60,
             offsets: an_hour_ahead(),
             secured: 20_423,
         },

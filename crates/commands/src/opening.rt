@@ -7,7 +7,7 @@ ghost use Rattle.seal_record.specs.Ranges.{IsSeal};
 ghost use Rattle.totals_record.specs.Ranges.{IsDurable};
 ghost use Rattle.commands.specs.Opening as spec;
 ghost use Rattle.commands.specs.Opening.{fault_from, opening_of};
-ghost use Rattle.commands.specs.Opened.{IsOpened, IsSoundOpening};
+ghost use Rattle.commands.specs.Opened.{IsOpened, IsOpeningInRange};
 
 use outside::{Board, STORE_SIZE};
 use seal_record::Seal;
@@ -45,7 +45,7 @@ pub fn open_store<B: Board<STORE_SIZE, L>, L: Ledger>(
 ) -> Result<Opening, StoreFault>
     ensures exact { B.tells_image → ¬ IsErrOf result StoreFault.BoardFault → result ≡ opening_of (B.image board.old) }
     ensures opened { B.tells_image → IfOk result (IsOpened B.Board board.new) }
-    ensures sound { IfOk result IsSoundOpening }
+    ensures sound { IfOk result IsOpeningInRange }
     ensures reads { ReadsOnly B.Board board.old board.new }
     ensures synced { B.tells_image → LeavesFromSync B.Board (IsErrOf result StoreFault.BoardFault)
         board.old board.new (IsAsHeld B.Board board.old) }
@@ -81,7 +81,7 @@ fn fault_of_pair(first: u8, fault: SlotFault) -> StoreFault
 
 /// The totals and the seal of a store that is sealed.
 pub fn sealed_store(opening: Opening) -> Option<(Durable, Seal)>
-    requires { IsSoundOpening opening }
+    requires { IsOpeningInRange opening }
     ensures answer { result ≡ spec.sealed_store opening.totals opening.seal }
     ensures durable { IfSome result (λ store. IsDurable store.0) }
     ensures seal { IfSome result (λ store. IsSeal store.1) }

@@ -8,7 +8,7 @@ ghost use Rattle.commands.specs.Carried.{Carries};
 ghost use Rattle.commands.specs.Opened.{OnlyOpens};
 ghost use Rattle.commands.specs.Opening.{IsSealedIn};
 ghost use Rattle.commands.specs.Run.{does_hold_fit, run_command};
-ghost use Rattle.commands.specs.RunSteps.{AreNoTables, AreSealedTables, HasBegun, HasNotBegun, RunComes};
+ghost use Rattle.commands.specs.RunSteps.{AreNoTables, AreSealedTables, HasBegun, HasNotBegun, RunReachesLine};
 
 use crate::ending::{Ended, ended_of};
 use crate::sealed::open_sealed;
@@ -104,7 +104,7 @@ pub fn run<F: Files, B: Board<STORE_SIZE, L>, L: Ledger>(
     ensures carries { Carries F.Files B.Board run_command files.old files.new board.old board.new
         steps.old steps.new result }
     ensures runs { F.tells → B.tells_image
-        → RunComes F.Files B.Board files.old files.new board.old board.new result }
+        → RunReachesLine F.Files B.Board files.old files.new board.old board.new result }
 {
     let begun = match begin(alloc, files, board, steps) {
         Ok(begun) => begun,

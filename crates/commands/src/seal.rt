@@ -5,8 +5,8 @@ ghost use Rattle.slot_store.specs.Scan.{IsValidFinding};
 ghost use Rattle.seal_record.specs.Limits.{last_seal_number};
 ghost use Rattle.seal_record.specs.Ranges.{IsSeal};
 ghost use Rattle.meter_store.specs.Sealing.{found_number, next_number, seal_found, totals_found};
-ghost use Rattle.commands.specs.Carried.{Carries, SealComes};
-ghost use Rattle.commands.specs.Opened.{IsSoundOpening};
+ghost use Rattle.commands.specs.Carried.{Carries, SealReachesLine};
+ghost use Rattle.commands.specs.Opened.{IsOpeningInRange};
 ghost use Rattle.commands.specs.ReadInTurn.{HasFailed, ReadsInTurn};
 ghost use Rattle.commands.specs.SealSteps.{IsNoSeal, IsNoTariff, IsTariffWith};
 ghost use Rattle.commands.specs.Seal.{HasDecimals, seal_command, seal_read};
@@ -36,7 +36,7 @@ pub struct Base {
 
 /// What a sealing goes over, where no trip is held and there is a number for the seal.
 fn base_of(opening: Opening) -> Result<Base, Ended>
-    requires { IsSoundOpening opening }
+    requires { IsOpeningInRange opening }
     ensures answer { result ≡ spec.over_totals opening.totals opening.seal }
     ensures totals { IfOk result (λ base. base.totals ≡ totals_found opening.totals) }
     ensures found { IfOk result (λ base. base.found ≡ seal_found opening.seal) }
@@ -173,7 +173,7 @@ pub fn seal_store<F: Files, B: Board<STORE_SIZE, L>, L: Ledger>(
 ) -> Ended
     ensures carries { Carries F.Files B.Board seal_command files.old files.new board.old board.new
         steps.old steps.new result }
-    ensures comes { F.tells → B.tells_image → SealComes F.Files B.Board files.old board.old board.new result }
+    ensures comes { F.tells → B.tells_image → SealReachesLine F.Files B.Board files.old board.old board.new result }
 {
     let opening = match open_store(board, steps) {
         Ok(opening) => opening,

@@ -2,7 +2,7 @@
 ghost use Rattle.std.specs.Prelude.{◌≡◌, ◌≢◌, ◌+◌, ◌≤◌, IfErr, IfOk, IsErrOf};
 ghost use Rattle.seal_record.specs.Ranges.{IsSeal};
 ghost use Rattle.totals_record.specs.Ranges.{IsDurable};
-ghost use Rattle.commands.specs.Ending.{HasCauseOn, OnlyLooksAt};
+ghost use Rattle.commands.specs.Ending.{HasCauseOn, LeavesStoreUnwritten};
 ghost use Rattle.commands.specs.Opened.{IsBarred, IsOpenedWith, OnlyOpens};
 ghost use Rattle.commands.specs.Opening.{opening_of, store_of};
 
@@ -27,7 +27,7 @@ pub fn open_sealed<B: Board<STORE_SIZE, L>, L: Ledger>(
     ensures barred { IfErr result IsBarred }
     ensures not_read { IfErr result (λ why. why ≢ Ended.ReadFault) }
     ensures cause { IfErr result (HasCauseOn B.Board board.old board.new) }
-    ensures looks { IfErr result (OnlyLooksAt B.Board board.old board.new) }
+    ensures looks { IfErr result (LeavesStoreUnwritten B.Board board.old board.new) }
     ensures opens { OnlyOpens B.Board (IsErrOf result Ended.BoardFault) board.old board.new }
     ensures steps { steps.new ≤ steps.old + 6 }
 {

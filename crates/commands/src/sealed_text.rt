@@ -49,7 +49,7 @@ fn push_settings(line: &mut Line, params: &Params)
     push_bytes(line, b"\n");
     push_number_line(line, b"constant ", params.constant.get() as u64);
     push_mode(line, params.mode);
-    push_number_line(line, b"hold ", params.hold as u64);
+    push_number_line(line, b"hold ", params.hold_time as u64);
 }
 
 /// All lines of what a store was sealed with that stand before those of the offsets.

@@ -7,7 +7,7 @@ ghost use Rattle.outside.specs.Runs.{IsSettled, KeepsStore, LeavesOnly};
 ghost use Rattle.commands.specs.Call.{IsCall, StopsReading};
 ghost use Rattle.commands.specs.Called.{called_by, row_in, ComesToAnswer, MayLeaveSealingBy, TakesSteps, sealing_by};
 ghost use Rattle.commands.specs.Carried.{CarriesRow};
-ghost use Rattle.commands.specs.Command.{OnlyLooks};
+ghost use Rattle.commands.specs.Command.{IsReadOnlyRow};
 ghost use Rattle.commands.specs.Run.{IsRun};
 ghost use Rattle.commands.specs.Seal.{Seals};
 ghost use Rattle.commands.specs.Unwritten.{LeavesImage, WritesNothing};
@@ -180,7 +180,7 @@ pub fn taxi<F: Files, B: Board<STORE_SIZE, L>, L: Ledger>(
         → (called_by words.now).opens → result ≢ 8 → IsSettled B.Board board.new }
 
     // Where a command only looks at the store, a cut of the power from its opening sync on leaves the image as it was.
-    ensures looks { OnlyLooks (row_in words.now) → B.tells_image
+    ensures looks { IsReadOnlyRow (row_in words.now) → B.tells_image
         → LeavesImage B.Board (result ≡ 8) board.old board.new }
 
     // Sealing leaves what it says at 0. A cut of the power from its opening sync on leaves the store that was found, or

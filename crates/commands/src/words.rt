@@ -103,7 +103,7 @@ fn are_digits(word: &[u8]) -> bool
 }
 
 /// The number that digits make, where 64 bits hold it.
-fn number_of(digits: &[u8]) -> Option<u64>
+fn number_of_digits(digits: &[u8]) -> Option<u64>
     requires { digits_at_front digits.now ≡ length digits.now }
     ensures { result ≡ fitting (digits_value 10 digits.now) }
 {
@@ -124,7 +124,7 @@ fn seed(word: &[u8]) -> Option<u64>
     ensures { result ≡ seed_of word.now }
 {
     if 1 <= word.len() && word.len() <= 20 && are_digits(word) {
-        number_of(word)
+        number_of_digits(word)
     } else {
         None
     }

@@ -1,9 +1,10 @@
 -- How many bytes the items of a request have together.
-use Rattle.std.proofs.Common.{◌≡◌, ℕ, zero, suc, ◌+◌, ◌-◌, ◌<◌, ◌≤◌, List, [], ◌∷◌, length, take, get_or, map, refl, ap, ◌∙◌, arith, length-append}
+use Rattle.std.proofs.Common.{◌≡◌, ℕ, zero, suc, ◌+◌, ◌-◌, ◌<◌, ◌≤◌, List, [], ◌∷◌, length, take, get_or, map, refl, ap}
+use Rattle.std.proofs.Common.{◌∙◌, arith, length-append}
 use Rattle.std.proofs.lemmas.List.{get_or-map, take_all}
 use Rattle.seal_record.specs.declared.seal.Seal.{Seal}
 use Rattle.seal_record.specs.Ranges.{IsSeal}
-use Rattle.totals_record.specs.declared.durable.Durable.{Durable}
+use Rattle.totals_record.specs.declared.durable_state.Durable.{Durable}
 use Rattle.totals_record.specs.Ranges.{IsDurable}
 use Rattle.data_port.specs.Replies.{sizes, size_of}
 use Rattle.data_port.specs.Reply.{item_bytes, items_bytes}
@@ -48,7 +49,8 @@ more_reach above (suc k) low high =
     omega (arith, size, next_reach above k (omega arith) (omega arith))
 
 -- the items before one of them
-pub before_item : (durable : Durable) (seal : Seal) → IsDurable durable → IsSeal seal → (above : ℕ) (codes : List ℕ) (i : ℕ) → Rise above codes → i < length codes
+pub before_item : (durable : Durable) (seal : Seal) → IsDurable durable → IsSeal seal
+    → (above : ℕ) (codes : List ℕ) (i : ℕ) → Rise above codes → i < length codes
     → reach above + length (items_bytes durable seal (take i codes)) ≤ 206
 before_item durable seal d s above [] i rise lt = absurd (omega arith)
 before_item durable seal d s above (code ∷ codes) zero rise lt =
@@ -64,7 +66,8 @@ before_item durable seal d s above (code ∷ codes) (suc i) rise lt =
     )
 
 -- all items
-pub whole_items : (durable : Durable) (seal : Seal) → IsDurable durable → IsSeal seal → (above : ℕ) (codes : List ℕ) → Rise above codes → above ≤ 13
+pub whole_items : (durable : Durable) (seal : Seal) → IsDurable durable → IsSeal seal → (above : ℕ) (codes : List ℕ)
+    → Rise above codes → above ≤ 13
     → reach above + length (items_bytes durable seal codes) ≤ 447
 whole_items durable seal d s above [] rise le =
     let most : reach 13 ≡ 447 = refl in
@@ -79,10 +82,13 @@ whole_items durable seal d s above (code ∷ codes) rise le =
     )
 
 -- the line that has the items before one of them, or all items
-pub room_before : (durable : Durable) (seal : Seal) (codes : List ℕ) (i : ℕ) (line : List ℕ) → IsDurable durable → IsSeal seal → Rise 0 codes → i < length codes → line ≡ items_bytes durable seal (take i codes) → length line ≤ 206
-room_before durable seal codes i line d s rise lt is = omega (arith, ap length is, before_item durable seal d s 0 codes i rise lt)
+pub room_before : (durable : Durable) (seal : Seal) (codes : List ℕ) (i : ℕ) (line : List ℕ) → IsDurable durable
+    → IsSeal seal → Rise 0 codes → i < length codes → line ≡ items_bytes durable seal (take i codes) → length line ≤ 206
+room_before durable seal codes i line d s rise lt is =
+    omega (arith, ap length is, before_item durable seal d s 0 codes i rise lt)
 
-pub most_of_all : (durable : Durable) (seal : Seal) (codes : List ℕ) (i : ℕ) (line : List ℕ) → IsDurable durable → IsSeal seal → Rise 0 codes → length codes ≤ i → line ≡ items_bytes durable seal (take i codes) → length line ≤ 447
+pub most_of_all : (durable : Durable) (seal : Seal) (codes : List ℕ) (i : ℕ) (line : List ℕ) → IsDurable durable
+    → IsSeal seal → Rise 0 codes → length codes ≤ i → line ≡ items_bytes durable seal (take i codes) → length line ≤ 447
 most_of_all durable seal codes i line d s rise all is =
     let whole : line ≡ items_bytes durable seal codes = is ∙ ap (items_bytes durable seal) (take_all i codes all) in
     omega (arith, ap length whole, whole_items durable seal d s 0 codes rise (omega arith))

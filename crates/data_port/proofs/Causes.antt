@@ -18,5 +18,6 @@ end_is_not P (Ok done) ended fault = absurd cc
 end_is_not P (Err why) ended fault = absurd (let bad : Frame ended.0 ≡ BoardFault = cc in cc)
 
 -- one step more, of some that aren't all yet
-pub steps_within : (old before now index all : ℕ) → index < all → before ≤ old + index → now ≤ before + 1 → now ≤ old + all
+pub steps_within : (old before now index all : ℕ) → index < all → before ≤ old + index → now ≤ before + 1
+    → now ≤ old + all
 steps_within old before now index all more so_far one = omega (arith, more, so_far, one)

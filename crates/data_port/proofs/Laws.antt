@@ -1,5 +1,6 @@
 -- The laws that the public empty functions state.
-use Rattle.std.proofs.Common.{◌≡◌, ◌↔◌, ℕ, zero, suc, ◌≤◌, List, [], ◌∷◌, ◌++◌, length, take, map, true, false, Option, Some, None, refl, sym, ap, ◌∙◌, arith}
+use Rattle.std.proofs.Common.{◌≡◌, ◌↔◌, ℕ, zero, suc, ◌≤◌, List, [], ◌∷◌, ◌++◌, length, take, map, true, false, Option}
+use Rattle.std.proofs.Common.{Some, None, refl, sym, ap, ◌∙◌, arith}
 use Rattle.std.specs.Int.{w16, to_be_bytes, from_be_bytes}
 use Rattle.std.specs.List.{All, flat_map}
 use Rattle.std.proofs.lemmas.List.{take_at, drop_at}
@@ -9,12 +10,13 @@ use Rattle.drive_modes.specs.declared.charges.Mode.{Mode}
 use Rattle.seal_record.specs.declared.seal.Seal.{Seal}
 use Rattle.seal_record.specs.Ranges.{IsSeal}
 use Rattle.seal_record.specs.Spelling.{mode_byte, padded, signed_bytes}
-use Rattle.totals_record.specs.declared.durable.Durable.{Durable}
+use Rattle.totals_record.specs.declared.durable_state.Durable.{Durable}
 use Rattle.totals_record.specs.Bytes.{four, eight, sixteen}
 use Rattle.totals_record.specs.Ranges.{IsDurable}
 use Rattle.totals_record.specs.Spelling.{share_bytes}
 use Rattle.data_port.specs.declared.request.Request.{Request}
-use Rattle.data_port.specs.Replies.{AgreeOn, Agrees, taxi, constant, secured, digest, mode, number, distance, hired, hirings, supplements, fare, held, shares, answers_in, body_of, items_in, size_of}
+use Rattle.data_port.specs.Replies.{AgreeOn, Agrees, taxi, constant, secured, digest, mode, number, distance, hired}
+use Rattle.data_port.specs.Replies.{hirings, supplements, fare, held, shares, answers_in, body_of, items_in, size_of}
 use Rattle.data_port.specs.Reply.{content, framed, held_content, items_bytes, reply_to}
 use Rattle.data_port.specs.Requests.{IsRequest, Rise, codes_of}
 use Rattle.data_port.specs.Reading.{HasTaken, Standing, bad_at_end, first_bad, given_by, requests_after, requests_in}
@@ -26,7 +28,8 @@ use Rattle.data_port.proofs.Streams as streams
 
 -- ---- what replies speak of
 
-same_content : (one : Durable) (seal : Seal) (other : Durable) (another : Seal) (code : ℕ) → Agrees one seal other another code → content one seal code ≡ content other another code
+same_content : (one : Durable) (seal : Seal) (other : Durable) (another : Seal) (code : ℕ)
+    → Agrees one seal other another code → content one seal code ≡ content other another code
 same_content one seal other another code (taxi e) = ap (padded 16) e
 same_content one seal other another code (constant e) = ap four e
 same_content one seal other another code (secured e) = ap signed_bytes e
@@ -41,24 +44,29 @@ same_content one seal other another code (fare e) = ap sixteen e
 same_content one seal other another code (held e) = ap held_content e
 same_content one seal other another code (shares e f) = λ i. flat_map share_bytes (e i) ++ share_bytes (f i)
 
-same_items : (one : Durable) (seal : Seal) (other : Durable) (another : Seal) (codes : List ℕ) → All (Agrees one seal other another) codes → items_bytes one seal codes ≡ items_bytes other another codes
+same_items : (one : Durable) (seal : Seal) (other : Durable) (another : Seal) (codes : List ℕ)
+    → All (Agrees one seal other another) codes → items_bytes one seal codes ≡ items_bytes other another codes
 same_items one seal other another [] agree = refl
 same_items one seal other another (code ∷ codes) agree =
     let here = same_content one seal other another code (All-head (Agrees one seal other another) code codes agree) in
     let there = same_items one seal other another codes (All-tail (Agrees one seal other another) code codes agree) in
     λ i. code ∷ (here i ++ there i)
 
-pub replies_speak_of_their_items : (request : Request) (one other : Durable) (seal another : Seal) → AgreeOn one seal other another request → reply_to one seal request ≡ reply_to other another request
-replies_speak_of_their_items request one other seal another agree = ap framed (same_items one seal other another (codes_of request) agree)
+pub replies_speak_of_their_items : (request : Request) (one other : Durable) (seal another : Seal)
+    → AgreeOn one seal other another request → reply_to one seal request ≡ reply_to other another request
+replies_speak_of_their_items request one other seal another agree =
+    ap framed (same_items one seal other another (codes_of request) agree)
 
 -- ---- replies are read back
 
 body_back : (bytes : List ℕ) → length bytes ≤ 447 → body_of (framed bytes) ≡ bytes
 body_back bytes few =
-    let size : from_be_bytes w16 (to_be_bytes w16 (length bytes)) ≡ length bytes = from_be_bytes-to_be_bytes_2 (length bytes) (omega arith) in
+    let size : from_be_bytes w16 (to_be_bytes w16 (length bytes)) ≡ length bytes =
+    from_be_bytes-to_be_bytes_2 (length bytes) (omega arith) in
     ap (λ (n : ℕ). take n (bytes ++ 3 ∷ [])) size ∙ take_at bytes (3 ∷ []) (length bytes) refl
 
-items_back : (durable : Durable) (seal : Seal) → IsDurable durable → IsSeal seal → (most above : ℕ) (codes : List ℕ) → Rise above codes → length codes ≤ most
+items_back : (durable : Durable) (seal : Seal) → IsDurable durable → IsSeal seal → (most above : ℕ) (codes : List ℕ)
+    → Rise above codes → length codes ≤ most
     → items_in most (items_bytes durable seal codes) ≡ map (λ (code : ℕ). (code, content durable seal code)) codes
 items_back durable seal d s zero above [] rise few = refl
 items_back durable seal d s zero above (code ∷ codes) rise few = absurd (omega arith)
@@ -66,29 +74,37 @@ items_back durable seal d s (suc most) above [] rise few = refl
 items_back durable seal d s (suc most) above (code ∷ codes) rise few =
     let long = content_long durable seal code d s (omega (arith, rise.0)) rise.1.0 in
     let front = take_at (content durable seal code) (items_bytes durable seal codes) (size_of code) long in
-    let behind = ap (items_in most) (drop_at (content durable seal code) (items_bytes durable seal codes) (size_of code) long)
+    let behind =
+    ap (items_in most) (drop_at (content durable seal code) (items_bytes durable seal codes) (size_of code) long)
     ∙ items_back durable seal d s most code codes rise.1.1 (omega arith) in
     λ i. (code, front i) ∷ behind i
 
-pub replies_are_read_back : (request : Request) (durable : Durable) (seal : Seal) → IsRequest request → IsDurable durable → IsSeal seal
-    → answers_in (reply_to durable seal request) ≡ map (λ (code : ℕ). (code, content durable seal code)) (codes_of request)
+pub replies_are_read_back : (request : Request) (durable : Durable) (seal : Seal) → IsRequest request
+    → IsDurable durable → IsSeal seal
+    → answers_in (reply_to durable seal request)
+    ≡ map (λ (code : ℕ). (code, content durable seal code)) (codes_of request)
 replies_are_read_back request durable seal r d s =
-    ap (items_in 13) (body_back (items_bytes durable seal (codes_of request)) (omega (arith, whole_items durable seal d s 0 (codes_of request) r.rise (omega arith))))
-    ∙ items_back durable seal d s 13 0 (codes_of request) r.rise (omega (arith, rise_few 0 (codes_of request) r.rise (omega arith)))
+    ap (items_in 13) (body_back (items_bytes durable seal (codes_of request))
+    (omega (arith, whole_items durable seal d s 0 (codes_of request) r.rise (omega arith))))
+    ∙ items_back durable seal d s 13 0 (codes_of request) r.rise
+    (omega (arith, rise_few 0 (codes_of request) r.rise (omega arith)))
 
 -- ---- what streams say
 
 -- of streams_are_read_by_their_frames
-pub stream_so_far : (bytes : List ℕ) (bad : Option ℕ) (requests : List Request) → ((first_bad bytes ≡ bad) × (requests_in bytes ≡ requests)) ↔ IsReadAs bytes bad requests
+pub stream_so_far : (bytes : List ℕ) (bad : Option ℕ) (requests : List Request)
+    → ((first_bad bytes ≡ bad) × (requests_in bytes ≡ requests)) ↔ IsReadAs bytes bad requests
 stream_so_far = streams.so_far
 
-pub stream_at_end : (bytes : List ℕ) (requests : List Request) → ((bad_at_end bytes ≡ None) × (requests_in bytes ≡ requests)) ↔ EndsWhole bytes requests
+pub stream_at_end : (bytes : List ℕ) (requests : List Request)
+    → ((bad_at_end bytes ≡ None) × (requests_in bytes ≡ requests)) ↔ EndsWhole bytes requests
 stream_at_end = streams.at_end
 
 pub bad_streams : (bytes : List ℕ) (place : ℕ) → first_bad bytes ≡ Some place → bad_at_end bytes ≡ Some place
 bad_streams = streams.bad_end
 
-pub unfinished_streams : (bytes : List ℕ) (place : ℕ) → first_bad bytes ≡ None → bad_at_end bytes ≡ Some place → place ≡ length bytes
+pub unfinished_streams : (bytes : List ℕ) (place : ℕ) → first_bad bytes ≡ None → bad_at_end bytes ≡ Some place
+    → place ≡ length bytes
 unfinished_streams = streams.unfinished_end
 
 -- of more_bytes_add_requests
@@ -105,7 +121,8 @@ requests_are_added = streams.requests_added
 pub pieces_give_requests : (pieces : List (List ℕ)) → given_by [] pieces ≡ requests_in (bytes_of pieces)
 pieces_give_requests = streams.pieces_give
 
-pub pieces_give_the_same : (one other : List (List ℕ)) → bytes_of one ≡ bytes_of other → given_by [] one ≡ given_by [] other
+pub pieces_give_the_same : (one other : List (List ℕ)) → bytes_of one ≡ bytes_of other
+    → given_by [] one ≡ given_by [] other
 pieces_give_the_same one other e = streams.pieces_give one ∙ (ap requests_in e ∙ sym (streams.pieces_give other))
 
 -- of a_port_is_known_by_its_bytes
@@ -113,10 +130,12 @@ pub going_port : (port : Standing) (b : List ℕ) → HasTaken port b → port.f
 going_port port b h going = streams.bad_none b (sym (ap (λ (s : Standing). s.failed) h) ∙ going)
 
 pub going_count : (port : Standing) (b : List ℕ) → HasTaken port b → port.failed ≡ false → port.taken ≡ length b
-going_count port b h going = ap (λ (s : Standing). s.taken) h ∙ (streams.stands_of b (sym (ap (λ (s : Standing). s.failed) h) ∙ going)).count
+going_count port b h going =
+    ap (λ (s : Standing). s.taken) h ∙ (streams.stands_of b (sym (ap (λ (s : Standing). s.failed) h) ∙ going)).count
 
 pub failed_port : (port : Standing) (b : List ℕ) → HasTaken port b → port.failed ≡ true → first_bad b ≡ Some port.taken
-failed_port port b h failed = streams.bad_some b (sym (ap (λ (s : Standing). s.failed) h) ∙ failed) ∙ ap (λ (s : Standing). Some s.taken) (sym h)
+failed_port port b h failed =
+    streams.bad_some b (sym (ap (λ (s : Standing). s.failed) h) ∙ failed) ∙ ap (λ (s : Standing). Some s.taken) (sym h)
 
 pub failed_stays : (port : Standing) (b c : List ℕ) → HasTaken port b → port.failed ≡ true → HasTaken port (b ++ c)
 failed_stays port b c h failed = feeding.failed_taken port b c failed h

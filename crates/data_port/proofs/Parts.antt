@@ -1,12 +1,13 @@
 -- The parts of a reply: how many bytes the content of each item has.
-use Rattle.std.proofs.Common.{◌≡◌, ℕ, ◌+◌, ◌-◌, ◌*◌, ◌<◌, ◌≤◌, List, [], ◌∷◌, ◌++◌, length, take, get_or, map, replicate, Option, Some, None, refl, sym, ap, ◌∙◌, append_assoc, arith, length-append}
+use Rattle.std.proofs.Common.{◌≡◌, ℕ, ◌+◌, ◌-◌, ◌*◌, ◌<◌, ◌≤◌, List, [], ◌∷◌, ◌++◌, length, take, get_or, map}
+use Rattle.std.proofs.Common.{replicate, Option, Some, None, refl, sym, ap, ◌∙◌, append_assoc, arith, length-append}
 use Rattle.std.specs.List.{flat_map}
 use Rattle.std.proofs.lemmas.Grind.{flat_map-append}
 use Rattle.std.proofs.lemmas.List.{append-nil, take_all, take_more, get_or-map, length-replicate}
 use Rattle.seal_record.specs.declared.seal.Seal.{Seal}
 use Rattle.seal_record.specs.Ranges.{IsSeal}
 use Rattle.seal_record.specs.Spelling.{padded}
-use Rattle.totals_record.specs.declared.durable.Durable.{Durable}
+use Rattle.totals_record.specs.declared.durable_state.Durable.{Durable}
 use Rattle.totals_record.specs.declared.totals.Share.{Share}
 use Rattle.totals_record.specs.declared.totals.Totals.{Totals}
 use Rattle.totals_record.specs.Ranges.{IsDurable}
@@ -15,11 +16,13 @@ use Rattle.data_port.specs.Replies.{sizes, size_of}
 use Rattle.data_port.specs.Reply.{HeldTrip, content, held_content, held_values, item_bytes, rows, shares_content}
 
 -- what was appended, and more behind it
-pub more : {X : Type 0} (start one two middle last : List X) → middle ≡ start ++ one → last ≡ middle ++ two → last ≡ start ++ (one ++ two)
+pub more : {X : Type 0} (start one two middle last : List X) → middle ≡ start ++ one → last ≡ middle ++ two
+    → last ≡ start ++ (one ++ two)
 more start one two middle last first second = second ∙ (ap (λ l. l ++ two) first ∙ append_assoc start one two)
 
 -- seven parts, one after the other
-pub seven : (start a b c d e f g l1 l2 l3 l4 l5 l6 l7 : List ℕ) → l1 ≡ start ++ a → l2 ≡ l1 ++ b → l3 ≡ l2 ++ c → l4 ≡ l3 ++ d → l5 ≡ l4 ++ e → l6 ≡ l5 ++ f → l7 ≡ l6 ++ g
+pub seven : (start a b c d e f g l1 l2 l3 l4 l5 l6 l7 : List ℕ) → l1 ≡ start ++ a → l2 ≡ l1 ++ b → l3 ≡ l2 ++ c
+    → l4 ≡ l3 ++ d → l5 ≡ l4 ++ e → l6 ≡ l5 ++ f → l7 ≡ l6 ++ g
     → l7 ≡ start ++ (a ++ (b ++ (c ++ (d ++ (e ++ (f ++ g))))))
 seven start a b c d e f g l1 l2 l3 l4 l5 l6 l7 e1 e2 e3 e4 e5 e6 e7 =
     more start a (b ++ (c ++ (d ++ (e ++ (f ++ g))))) l1 l7 e1
@@ -29,29 +32,37 @@ seven start a b c d e f g l1 l2 l3 l4 l5 l6 l7 e1 e2 e3 e4 e5 e6 e7 =
     (more l4 e (f ++ g) l5 l7 e5 (more l5 f g l6 l7 e6 e7)))))
 
 -- one element more
-pub flat_more : {X A : Type 0} (f : X → List A) (xs : List X) (i : ℕ) (d : X) → i < length xs → flat_map f (take (i + 1) xs) ≡ flat_map f (take i xs) ++ f (get_or xs i d)
+pub flat_more : {X A : Type 0} (f : X → List A) (xs : List X) (i : ℕ) (d : X) → i < length xs
+    → flat_map f (take (i + 1) xs) ≡ flat_map f (take i xs) ++ f (get_or xs i d)
 flat_more f xs i d lt =
-    ap (flat_map f) (take_more xs i d lt) ∙ (flat_map-append f (take i xs) (get_or xs i d ∷ []) ∙ ap (λ ys. flat_map f (take i xs) ++ ys) (append-nil (f (get_or xs i d))))
+    ap (flat_map f) (take_more xs i d lt) ∙ (flat_map-append f (take i xs) (get_or xs i d ∷ [])
+    ∙ ap (λ ys. flat_map f (take i xs) ++ ys) (append-nil (f (get_or xs i d))))
 
-pub one_more : (shares : List Share) (i : ℕ) (d : Share) → i < length shares → flat_map share_bytes (take (i + 1) shares) ≡ flat_map share_bytes (take i shares) ++ share_bytes (get_or shares i d)
+pub one_more : (shares : List Share) (i : ℕ) (d : Share) → i < length shares → flat_map share_bytes
+    (take (i + 1) shares) ≡ flat_map share_bytes (take i shares) ++ share_bytes (get_or shares i d)
 one_more shares i d lt = flat_more share_bytes shares i d lt
 
 -- the shares so far, and one more
-pub shares_more : (start middle last : List ℕ) (shares : List Share) (i : ℕ) (d : Share) → i < length shares → middle ≡ start ++ flat_map share_bytes (take i shares) → last ≡ middle ++ share_bytes (get_or shares i d)
+pub shares_more : (start middle last : List ℕ) (shares : List Share) (i : ℕ) (d : Share) → i < length shares
+    → middle ≡ start ++ flat_map share_bytes (take i shares) → last ≡ middle ++ share_bytes (get_or shares i d)
     → last ≡ start ++ flat_map share_bytes (take (i + 1) shares)
 shares_more start middle last shares i d lt so_far next =
-    more start (flat_map share_bytes (take i shares)) (share_bytes (get_or shares i d)) middle last so_far next ∙ ap (λ (l : List ℕ). start ++ l) (sym (one_more shares i d lt))
+    more start (flat_map share_bytes (take i shares)) (share_bytes (get_or shares i d)) middle last so_far next
+    ∙ ap (λ (l : List ℕ). start ++ l) (sym (one_more shares i d lt))
 
 -- all shares, and what was counted before
-pub shares_all : (start middle last : List ℕ) (totals : Totals) (i : ℕ) → length totals.shares ≤ i → middle ≡ start ++ flat_map share_bytes (take i totals.shares) → last ≡ middle ++ share_bytes totals.before
+pub shares_all : (start middle last : List ℕ) (totals : Totals) (i : ℕ) → length totals.shares ≤ i
+    → middle ≡ start ++ flat_map share_bytes (take i totals.shares) → last ≡ middle ++ share_bytes totals.before
     → last ≡ start ++ shares_content totals
 shares_all start middle last totals i all so_far next =
-    more start (flat_map share_bytes totals.shares) (share_bytes totals.before) middle last (so_far ∙ ap (λ (xs : List Share). start ++ flat_map share_bytes xs) (take_all i totals.shares all)) next
+    more start (flat_map share_bytes totals.shares) (share_bytes totals.before) middle last
+    (so_far ∙ ap (λ (xs : List Share). start ++ flat_map share_bytes xs) (take_all i totals.shares all)) next
 
 -- ---- how long contents are
 
 padded_long : (taxi : List ℕ) → length taxi ≤ 16 → length (padded 16 taxi) ≡ 16
-padded_long taxi few = omega (arith, length-append taxi (replicate (16 - length taxi) 0), length-replicate {A = ℕ} (16 - length taxi) 0)
+padded_long taxi few =
+    omega (arith, length-append taxi (replicate (16 - length taxi) 0), length-replicate {A = ℕ} (16 - length taxi) 0)
 
 held_long : (held : Option HeldTrip) → length (held_content held) ≡ 57
 held_long None = refl
@@ -66,9 +77,16 @@ all_shares (share ∷ shares) =
 shares_long : (totals : Totals) → length totals.shares ≡ 9 → length (shares_content totals) ≡ 240
 shares_long totals nine =
     let one : length (share_bytes totals.before) ≡ 24 = refl in
-    omega (arith, one, nine, all_shares totals.shares, length-append (flat_map share_bytes totals.shares) (share_bytes totals.before))
+    omega (
+      arith,
+      one,
+      nine,
+      all_shares totals.shares,
+      length-append (flat_map share_bytes totals.shares) (share_bytes totals.before),
+    )
 
-lengths_are : (durable : Durable) (seal : Seal) → IsDurable durable → IsSeal seal → map length (rows durable seal) ≡ sizes
+lengths_are : (durable : Durable) (seal : Seal) → IsDurable durable → IsSeal seal
+    → map length (rows durable seal) ≡ sizes
 lengths_are durable seal d s =
     let taxi = padded_long seal.params.taxi.items s.params.taxi.few in
     let digest = s.digest in
@@ -76,10 +94,13 @@ lengths_are durable seal d s =
     let shares = shares_long durable.totals d.shares.nine in
     λ i. taxi i ∷ (4 ∷ (4 ∷ (digest i ∷ (1 ∷ (8 ∷ (16 ∷ (16 ∷ (8 ∷ (16 ∷ (16 ∷ (held i ∷ (shares i ∷ []))))))))))))
 
-pub content_long : (durable : Durable) (seal : Seal) (code : ℕ) → IsDurable durable → IsSeal seal → 1 ≤ code → code ≤ 13 → length (content durable seal code) ≡ size_of code
+pub content_long : (durable : Durable) (seal : Seal) (code : ℕ) → IsDurable durable → IsSeal seal → 1 ≤ code → code ≤ 13
+    → length (content durable seal code) ≡ size_of code
 content_long durable seal code d s low high =
     let inside : code - 1 < length (rows durable seal) = omega arith in
-    sym (get_or-map length (rows durable seal) (code - 1) [] 0 inside) ∙ ap (λ (xs : List ℕ). get_or xs (code - 1) 0) (lengths_are durable seal d s)
+    sym (get_or-map length (rows durable seal) (code - 1) [] 0 inside)
+    ∙ ap (λ (xs : List ℕ). get_or xs (code - 1) 0) (lengths_are durable seal d s)
 
-pub item_long : (durable : Durable) (seal : Seal) (code : ℕ) → IsDurable durable → IsSeal seal → 1 ≤ code → code ≤ 13 → length (item_bytes durable seal code) ≡ 1 + size_of code
+pub item_long : (durable : Durable) (seal : Seal) (code : ℕ) → IsDurable durable → IsSeal seal → 1 ≤ code → code ≤ 13
+    → length (item_bytes durable seal code) ≡ 1 + size_of code
 item_long durable seal code d s low high = omega (arith, content_long durable seal code d s low high)

@@ -1,64 +1,83 @@
 -- A piece, and then a stream, that is served.
-use Rattle.std.proofs.Common.{◌≡◌, ℕ, ◌+◌, ◌<◌, ◌≤◌, ◌^◌, false, List, [], ◌++◌, length, take, drop, get_or, Some, None, Result, Ok, Err, refl, sym, ap, subst, ◌∙◌, append_assoc, arith, length-append, length-take}
+use Rattle.std.proofs.Common.{◌≡◌, ℕ, ◌+◌, ◌<◌, ◌≤◌, ◌^◌, false, List, [], ◌++◌, length, take, drop, get_or, Some, None}
+use Rattle.std.proofs.Common.{Result, Ok, Err, refl, sym, ap, subst, ◌∙◌, append_assoc, arith, length-append}
+use Rattle.std.proofs.Common.{length-take}
 use Rattle.std.specs.Prelude.{All, IfOk, IfErr, OnOk, OnErr, is_err}
 use Rattle.std.proofs.lemmas.Grind.{flat_map-append}
 use Rattle.std.proofs.lemmas.List.{append-nil, nil_from_length, take-append-drop}
 use Rattle.outside.specs.Printing.{Begins}
 use Rattle.outside.proofs.Laws.{begins_after, begins_more}
 use Rattle.seal_record.specs.declared.seal.Seal.{Seal}
-use Rattle.totals_record.specs.declared.durable.Durable.{Durable}
+use Rattle.totals_record.specs.declared.durable_state.Durable.{Durable}
 use Rattle.data_port.specs.declared.port.BadFrame.{BadFrame}
 use Rattle.data_port.specs.declared.request.Request.{Request}
 use Rattle.data_port.specs.declared.serving.PortFault.{PortFault}
 use Rattle.data_port.specs.declared.serving.PortFault.TheVariants.{ReadFault, BoardFault, Frame, TooLong}
-use Rattle.data_port.specs.Reading.{BreaksIn, HasSense, HasTaken, Standing, TakesTo, bad_at_end, between, first_bad, requests_in, standing_after}
+use Rattle.data_port.specs.Reading.{BreaksIn, HasSense, HasTaken, Standing, TakesTo, bad_at_end, between, first_bad}
+use Rattle.data_port.specs.Reading.{requests_in, standing_after}
 use Rattle.data_port.specs.ReadingStages.{after_bytes, bad_of, ended_in}
 use Rattle.data_port.specs.Reply.{reply_to}
 use Rattle.data_port.specs.Requests.{IsRequest}
-use Rattle.data_port.specs.Serving.{BadAt, Endless, IsBoundedBy, ReachesEnd, Serves, ServesTo, StopsAfter, StreamEnd, Whole, replies, stream_limit}
+use Rattle.data_port.specs.Serving.{BadAt, Endless, IsBoundedBy, ReachesEnd, Serves, ServesTo, StopsAfter, StreamEnd}
+use Rattle.data_port.specs.Serving.{Whole, replies, stream_limit}
 use Rattle.data_port.specs.ServingStages.{ServesPiece}
 use Rattle.data_port.proofs.Endings.{bad_ends, endless_ends, unfinished_ends, whole_ends}
 use Rattle.data_port.proofs.Laws.{going_count, going_port}
 use Rattle.data_port.proofs.Parts.{flat_more}
 use Rattle.data_port.proofs.Runs.{after-append, ended-append}
 
-replies-append : (durable : Durable) (seal : Seal) (one other : List Request) → replies durable seal (one ++ other) ≡ replies durable seal one ++ replies durable seal other
+replies-append : (durable : Durable) (seal : Seal) (one other : List Request)
+    → replies durable seal (one ++ other) ≡ replies durable seal one ++ replies durable seal other
 replies-append durable seal one other = flat_map-append (reply_to durable seal) one other
 
 -- replies behind others
-pub printed_more : (durable : Durable) (seal : Seal) (before mid now : List ℕ) (one other both : List Request) → mid ≡ before ++ replies durable seal one → now ≡ mid ++ replies durable seal other → both ≡ one ++ other
+pub printed_more : (durable : Durable) (seal : Seal) (before mid now : List ℕ) (one other both : List Request)
+    → mid ≡ before ++ replies durable seal one → now ≡ mid ++ replies durable seal other → both ≡ one ++ other
     → now ≡ before ++ replies durable seal both
 printed_more durable seal before mid now one other both first next is =
-    next ∙ (ap (λ (l : List ℕ). l ++ replies durable seal other) first ∙ (append_assoc before (replies durable seal one) (replies durable seal other)
-    ∙ ap (λ (l : List ℕ). before ++ l) (sym (replies-append durable seal one other) ∙ ap (replies durable seal) (sym is))))
+    next ∙ (ap (λ (l : List ℕ). l ++ replies durable seal other) first
+    ∙ (append_assoc before (replies durable seal one) (replies durable seal other)
+    ∙ ap (λ (l : List ℕ). before ++ l)
+    (sym (replies-append durable seal one other) ∙ ap (replies durable seal) (sym is))))
 
-pub begun_more : (durable : Durable) (seal : Seal) (before mid now : List ℕ) (one other both : List Request) → mid ≡ before ++ replies durable seal one → Begins mid now (replies durable seal other) → both ≡ one ++ other
+pub begun_more : (durable : Durable) (seal : Seal) (before mid now : List ℕ) (one other both : List Request)
+    → mid ≡ before ++ replies durable seal one → Begins mid now (replies durable seal other) → both ≡ one ++ other
     → Begins before now (replies durable seal both)
 begun_more durable seal before mid now one other both first next is =
-    subst (λ (l : List ℕ). Begins before now l) (sym (replies-append durable seal one other) ∙ ap (replies durable seal) (sym is))
+    subst (λ (l : List ℕ). Begins before now l)
+    (sym (replies-append durable seal one other) ∙ ap (replies durable seal) (sym is))
     (begins_after before mid now (replies durable seal one) (replies durable seal other) first next)
 
-pub begun_of : (durable : Durable) (seal : Seal) (before now : List ℕ) (one other both : List Request) → Begins before now (replies durable seal one) → both ≡ one ++ other → Begins before now (replies durable seal both)
+pub begun_of : (durable : Durable) (seal : Seal) (before now : List ℕ) (one other both : List Request)
+    → Begins before now (replies durable seal one) → both ≡ one ++ other → Begins before now (replies durable seal both)
 begun_of durable seal before now one other both begun is =
-    subst (λ (l : List ℕ). Begins before now l) (sym (replies-append durable seal one other) ∙ ap (replies durable seal) (sym is)) (begins_more before now (replies durable seal one) (replies durable seal other) begun)
+    subst (λ (l : List ℕ). Begins before now l) (sym (replies-append durable seal one other) ∙ ap (replies durable seal)
+    (sym is)) (begins_more before now (replies durable seal one) (replies durable seal other) begun)
 
 -- the reply to one request behind those so far
-pub printed_one : (durable : Durable) (seal : Seal) (before mid now : List ℕ) (requests : List Request) (i : ℕ) (request : Request) → i < length requests → request ≡ get_or requests i request
-    → mid ≡ before ++ replies durable seal (take i requests) → now ≡ mid ++ reply_to durable seal request → now ≡ before ++ replies durable seal (take (i + 1) requests)
+pub printed_one : (durable : Durable) (seal : Seal) (before mid now : List ℕ) (requests : List Request) (i : ℕ)
+    (request : Request) → i < length requests → request ≡ get_or requests i request
+    → mid ≡ before ++ replies durable seal (take i requests) → now ≡ mid ++ reply_to durable seal request
+    → now ≡ before ++ replies durable seal (take (i + 1) requests)
 printed_one durable seal before mid now requests i request lt is first next =
-    next ∙ (ap (λ (l : List ℕ). l ++ reply_to durable seal request) first ∙ (append_assoc before (replies durable seal (take i requests)) (reply_to durable seal request)
+    next ∙ (ap (λ (l : List ℕ). l ++ reply_to durable seal request) first
+    ∙ (append_assoc before (replies durable seal (take i requests)) (reply_to durable seal request)
     ∙ (ap (λ (r : Request). before ++ (replies durable seal (take i requests) ++ reply_to durable seal r)) is
     ∙ ap (λ (l : List ℕ). before ++ l) (sym (flat_more (reply_to durable seal) requests i request lt)))))
 
-pub begun_one : (durable : Durable) (seal : Seal) (before mid now : List ℕ) (requests : List Request) (i : ℕ) (request : Request) → i < length requests → request ≡ get_or requests i request
-    → mid ≡ before ++ replies durable seal (take i requests) → Begins mid now (reply_to durable seal request) → Begins before now (replies durable seal requests)
+pub begun_one : (durable : Durable) (seal : Seal) (before mid now : List ℕ) (requests : List Request) (i : ℕ)
+    (request : Request) → i < length requests → request ≡ get_or requests i request
+    → mid ≡ before ++ replies durable seal (take i requests) → Begins mid now (reply_to durable seal request)
+    → Begins before now (replies durable seal requests)
 begun_one durable seal before mid now requests i request lt is first next =
     let front = take (i + 1) requests in
     let behind = drop (i + 1) requests in
-    let one : Begins mid now (reply_to durable seal (get_or requests i request)) = subst (λ (r : Request). Begins mid now (reply_to durable seal r)) is next in
+    let one : Begins mid now (reply_to durable seal (get_or requests i request)) =
+    subst (λ (r : Request). Begins mid now (reply_to durable seal r)) is next in
     let here : Begins before now (replies durable seal front) =
     subst (λ (l : List ℕ). Begins before now l) (sym (flat_more (reply_to durable seal) requests i request lt))
-    (begins_after before mid now (replies durable seal (take i requests)) (reply_to durable seal (get_or requests i request)) first one) in
+    (begins_after before mid now (replies durable seal (take i requests))
+    (reply_to durable seal (get_or requests i request)) first one) in
     begun_of durable seal before now front behind requests here (sym (take-append-drop (i + 1) requests))
 
 -- the answer with this fault
@@ -72,35 +91,47 @@ ok_of (Err y) P e p = absurd (cc)
 
 -- ---- what a port gives of the rest of a piece
 
-fed_requests : (now : Standing) (rest : List ℕ) (items : List Request) (n : ℕ) → HasSense now → ((b : List ℕ) → HasTaken now b → TakesTo b rest [] items n) → items ≡ ended_in now (take n rest)
-fed_requests now rest items n sense takes = (takes sense.0 sense.1).requests ∙ ap (λ (s : Standing). ended_in s (take n rest)) (sym sense.1)
+fed_requests : (now : Standing) (rest : List ℕ) (items : List Request) (n : ℕ) → HasSense now
+    → ((b : List ℕ) → HasTaken now b → TakesTo b rest [] items n) → items ≡ ended_in now (take n rest)
+fed_requests now rest items n sense takes =
+    (takes sense.0 sense.1).requests ∙ ap (λ (s : Standing). ended_in s (take n rest)) (sym sense.1)
 
-fed_standing : (now new : Standing) (rest : List ℕ) (n : ℕ) → HasSense now → ((b : List ℕ) → HasTaken now b → HasTaken new (b ++ take n rest)) → new ≡ after_bytes now (take n rest)
+fed_standing : (now new : Standing) (rest : List ℕ) (n : ℕ) → HasSense now
+    → ((b : List ℕ) → HasTaken now b → HasTaken new (b ++ take n rest)) → new ≡ after_bytes now (take n rest)
 fed_standing now new rest n sense taken =
-    taken sense.0 sense.1 ∙ (after-append (between 0) sense.0 (take n rest) ∙ ap (λ (s : Standing). after_bytes s (take n rest)) (sym sense.1))
+    taken sense.0 sense.1 ∙ (after-append (between 0) sense.0 (take n rest)
+    ∙ ap (λ (s : Standing). after_bytes s (take n rest)) (sym sense.1))
 
-broke_requests : (now : Standing) (rest : List ℕ) (items : List Request) (place : ℕ) → HasSense now → ((b : List ℕ) → HasTaken now b → BreaksIn b rest [] items place) → items ≡ ended_in now rest
-broke_requests now rest items place sense breaks = (breaks sense.0 sense.1).requests ∙ ap (λ (s : Standing). ended_in s rest) (sym sense.1)
+broke_requests : (now : Standing) (rest : List ℕ) (items : List Request) (place : ℕ) → HasSense now
+    → ((b : List ℕ) → HasTaken now b → BreaksIn b rest [] items place) → items ≡ ended_in now rest
+broke_requests now rest items place sense breaks =
+    (breaks sense.0 sense.1).requests ∙ ap (λ (s : Standing). ended_in s rest) (sym sense.1)
 
-broke_bad : (now : Standing) (rest : List ℕ) (items : List Request) (place : ℕ) → HasSense now → ((b : List ℕ) → HasTaken now b → BreaksIn b rest [] items place) → bad_of (after_bytes now rest) ≡ Some place
+broke_bad : (now : Standing) (rest : List ℕ) (items : List Request) (place : ℕ) → HasSense now
+    → ((b : List ℕ) → HasTaken now b → BreaksIn b rest [] items place) → bad_of (after_bytes now rest) ≡ Some place
 broke_bad now rest items place sense breaks =
-    ap (λ (s : Standing). bad_of (after_bytes s rest)) sense.1 ∙ (ap bad_of (sym (after-append (between 0) sense.0 rest)) ∙ (breaks sense.0 sense.1).bad)
+    ap (λ (s : Standing). bad_of (after_bytes s rest)) sense.1
+    ∙ (ap bad_of (sym (after-append (between 0) sense.0 rest)) ∙ (breaks sense.0 sense.1).bad)
 
 -- they are the first ones of the rest
 pub record Starts (now : Standing) (rest : List ℕ) (items : List Request) : Type 0 where
   pub more : List Request
   pub whole : ended_in now rest ≡ items ++ more
 
-taken_ended : (now : Standing) (rest : List ℕ) (n : ℕ) → ended_in now rest ≡ ended_in now (take n rest) ++ ended_in (after_bytes now (take n rest)) (drop n rest)
-taken_ended now rest n = ap (ended_in now) (sym (take-append-drop n rest)) ∙ ended-append now (take n rest) (drop n rest)
+taken_ended : (now : Standing) (rest : List ℕ) (n : ℕ)
+    → ended_in now rest ≡ ended_in now (take n rest) ++ ended_in (after_bytes now (take n rest)) (drop n rest)
+taken_ended now rest n =
+    ap (ended_in now) (sym (take-append-drop n rest)) ∙ ended-append now (take n rest) (drop n rest)
 
-pub starts_of : (now : Standing) (rest : List ℕ) (items : List Request) (fed : Result ℕ BadFrame) → HasSense now → now.failed ≡ false
+pub starts_of : (now : Standing) (rest : List ℕ) (items : List Request) (fed : Result ℕ BadFrame) → HasSense now
+    → now.failed ≡ false
     → IfOk fed (λ n. (b : List ℕ) → HasTaken now b → TakesTo b rest [] items n)
     → IfErr fed (λ e. now.failed ≡ false → (b : List ℕ) → HasTaken now b → BreaksIn b rest [] items e.place)
     → Starts now rest items
 starts_of now rest items (Ok n) sense going takes breaks = record {
   more = ended_in (after_bytes now (take n rest)) (drop n rest);
-  whole = taken_ended now rest n ∙ ap (λ (rs : List Request). rs ++ ended_in (after_bytes now (take n rest)) (drop n rest)) (sym (fed_requests now rest items n sense takes));
+  whole = taken_ended now rest n ∙ ap (λ (rs : List Request).
+      rs ++ ended_in (after_bytes now (take n rest)) (drop n rest)) (sym (fed_requests now rest items n sense takes));
 }
 starts_of now rest items (Err e) sense going takes breaks = record {
   more = [];
@@ -108,28 +139,37 @@ starts_of now rest items (Err e) sense going takes breaks = record {
 }
 
 -- the same of a list that was empty, whose requests are shown
-pub starts_by : (now : Standing) (rest : List ℕ) (none items shown : List Request) (fed : Result ℕ BadFrame) → none ≡ [] → shown ≡ items → HasSense now → now.failed ≡ false
+pub starts_by : (now : Standing) (rest : List ℕ) (none items shown : List Request) (fed : Result ℕ BadFrame) → none ≡ []
+    → shown ≡ items → HasSense now → now.failed ≡ false
     → IfOk fed (λ n. (b : List ℕ) → HasTaken now b → TakesTo b rest none items n)
     → IfErr fed (λ e. now.failed ≡ false → (b : List ℕ) → HasTaken now b → BreaksIn b rest none items e.place)
     → Starts now rest shown
 starts_by now rest none items shown fed empty same sense going takes breaks =
     subst (λ (rs : List Request). Starts now rest rs) (sym same)
     (starts_of now rest items fed sense going
-    (subst (λ (rs : List Request). IfOk fed (λ n. (b : List ℕ) → HasTaken now b → TakesTo b rest rs items n)) empty takes)
-    (subst (λ (rs : List Request). IfErr fed (λ e. now.failed ≡ false → (b : List ℕ) → HasTaken now b → BreaksIn b rest rs items e.place)) empty breaks))
+    (subst
+    (λ (rs : List Request). IfOk fed (λ n. (b : List ℕ) → HasTaken now b → TakesTo b rest rs items n)) empty takes)
+    (subst (λ (rs : List Request). IfErr fed
+    (λ e. now.failed ≡ false → (b : List ℕ) → HasTaken now b → BreaksIn b rest rs items e.place)) empty breaks))
 
-pub takes_by : (now : Standing) (rest : List ℕ) (none items shown : List Request) (n : ℕ) → none ≡ [] → shown ≡ items → ((b : List ℕ) → HasTaken now b → TakesTo b rest none items n) → (b : List ℕ) → HasTaken now b → TakesTo b rest [] shown n
+pub takes_by : (now : Standing) (rest : List ℕ) (none items shown : List Request) (n : ℕ) → none ≡ [] → shown ≡ items
+    → ((b : List ℕ) → HasTaken now b → TakesTo b rest none items n) → (b : List ℕ) → HasTaken now b
+    → TakesTo b rest [] shown n
 takes_by now rest none items shown n empty same takes b h =
-    subst (λ (rs : List Request). TakesTo b rest [] rs n) (sym same) (subst (λ (rs : List Request). TakesTo b rest rs items n) empty (takes b h))
+    subst (λ (rs : List Request). TakesTo b rest [] rs n) (sym same)
+    (subst (λ (rs : List Request). TakesTo b rest rs items n) empty (takes b h))
 
-pub breaks_by : (now : Standing) (rest : List ℕ) (none items shown : List Request) (place : ℕ) → none ≡ [] → shown ≡ items → (now.failed ≡ false → (b : List ℕ) → HasTaken now b → BreaksIn b rest none items place)
+pub breaks_by : (now : Standing) (rest : List ℕ) (none items shown : List Request) (place : ℕ) → none ≡ []
+    → shown ≡ items → (now.failed ≡ false → (b : List ℕ) → HasTaken now b → BreaksIn b rest none items place)
     → now.failed ≡ false → (b : List ℕ) → HasTaken now b → BreaksIn b rest [] shown place
 breaks_by now rest none items shown place empty same breaks going b h =
-    subst (λ (rs : List Request). BreaksIn b rest [] rs place) (sym same) (subst (λ (rs : List Request). BreaksIn b rest rs items place) empty (breaks going b h))
+    subst (λ (rs : List Request). BreaksIn b rest [] rs place) (sym same)
+    (subst (λ (rs : List Request). BreaksIn b rest rs items place) empty (breaks going b h))
 
 -- ---- a piece so far
 
-pub record PieceSoFar (told : Type 0) (durable : Durable) (seal : Seal) (first now : Standing) (piece rest before printed : List ℕ) (opening steps : ℕ) : Type 0 where
+pub record PieceSoFar (told : Type 0) (durable : Durable) (seal : Seal) (first now : Standing)
+    (piece rest before printed : List ℕ) (opening steps : ℕ) : Type 0 where
   pub done : List ℕ
   pub split : piece ≡ done ++ rest
   pub now_is : now ≡ after_bytes first done
@@ -139,7 +179,9 @@ pub record PieceSoFar (told : Type 0) (durable : Durable) (seal : Seal) (first n
   pub bounded : steps ≤ opening + length (ended_in first done)
 
 -- before the first byte of the piece
-pub piece_opens : (told : Type 0) (durable : Durable) (seal : Seal) (first : Standing) (piece before : List ℕ) (opening : ℕ) → first.failed ≡ false → PieceSoFar told durable seal first first piece piece before before opening opening
+pub piece_opens : (told : Type 0) (durable : Durable) (seal : Seal) (first : Standing) (piece before : List ℕ)
+    (opening : ℕ) → first.failed ≡ false
+    → PieceSoFar told durable seal first first piece piece before before opening opening
 piece_opens told durable seal first piece before opening going = record {
   done = [];
   split = refl;
@@ -151,12 +193,15 @@ piece_opens told durable seal first piece before opening going = record {
 }
 
 -- the requests that a piece gives are in their ranges
-pub piece_requests : (old new given : List Request) → old ≡ [] → given ≡ new → (All IsRequest old → All IsRequest new) → All IsRequest given
+pub piece_requests : (old new given : List Request) → old ≡ [] → given ≡ new → (All IsRequest old → All IsRequest new)
+    → All IsRequest given
 piece_requests old new given none same range =
-    subst (λ (rs : List Request). All IsRequest rs) (sym same) (range (subst (λ (rs : List Request). All IsRequest rs) (sym none) (λ k d lt. absurd (omega (arith, lt)))))
+    subst (λ (rs : List Request). All IsRequest rs) (sym same)
+    (range (subst (λ (rs : List Request). All IsRequest rs) (sym none) (λ k d lt. absurd (omega (arith, lt)))))
 
 -- a bad place isn't a failure of the board
-pub bad_is_no_fault : (place : ℕ) (P : Type 0) → ◌≡◌ {A = Result (Unit {0}) PortFault} (Err (Frame place)) (Err BoardFault) → P
+pub bad_is_no_fault : (place : ℕ) (P : Type 0)
+    → ◌≡◌ {A = Result (Unit {0}) PortFault} (Err (Frame place)) (Err BoardFault) → P
 bad_is_no_fault place P same = absurd (let bad : Frame place ≡ BoardFault = cc in cc)
 
 -- and neither is the end of a piece
@@ -167,20 +212,28 @@ end_is_no_fault P same = absurd cc
 pub read_is_no_fault : (P : Type 0) → ◌≡◌ {A = Result (Unit {0}) PortFault} (Err ReadFault) (Err BoardFault) → P
 read_is_no_fault P same = absurd (let bad : ReadFault ≡ BoardFault = cc in cc)
 
-module _ (told : Type 0) (durable : Durable) (seal : Seal) (first now : Standing) (piece rest before printed : List ℕ) (opening steps : ℕ)
+module _ (told : Type 0) (durable : Durable) (seal : Seal) (first now : Standing) (piece rest before printed : List ℕ)
+    (opening steps : ℕ)
     (f : PieceSoFar told durable seal first now piece rest before printed opening steps) where
   pub piece_sense : HasSense first → HasSense now
-  piece_sense sense = (sense.0 ++ f.done, f.now_is ∙ (ap (λ (s : Standing). after_bytes s f.done) sense.1 ∙ sym (after-append (between 0) sense.0 f.done)))
+  piece_sense sense = (
+    sense.0 ++ f.done,
+    f.now_is ∙ (ap (λ (s : Standing). after_bytes s f.done) sense.1 ∙ sym (after-append (between 0) sense.0 f.done)),
+  )
 
   whole_ended : ended_in first piece ≡ ended_in first f.done ++ ended_in now rest
-  whole_ended = ap (ended_in first) f.split ∙ (ended-append first f.done rest ∙ ap (λ (s : Standing). ended_in first f.done ++ ended_in s rest) (sym f.now_is))
+  whole_ended = ap (ended_in first) f.split ∙ (ended-append first f.done rest
+      ∙ ap (λ (s : Standing). ended_in first f.done ++ ended_in s rest) (sym f.now_is))
 
   whole_standing : after_bytes first piece ≡ after_bytes now rest
-  whole_standing = ap (after_bytes first) f.split ∙ (after-append first f.done rest ∙ ap (λ (s : Standing). after_bytes s rest) (sym f.now_is))
+  whole_standing = ap (after_bytes first) f.split
+      ∙ (after-append first f.done rest ∙ ap (λ (s : Standing). after_bytes s rest) (sym f.now_is))
 
   -- the requests that were given are the first ones
-  all_of : (items : List Request) → (s : Starts now rest items) → ended_in first piece ≡ (ended_in first f.done ++ items) ++ s.more
-  all_of items s = whole_ended ∙ (ap (λ (rs : List Request). ended_in first f.done ++ rs) s.whole ∙ sym (append_assoc (ended_in first f.done) items s.more))
+  all_of : (items : List Request) → (s : Starts now rest items)
+      → ended_in first piece ≡ (ended_in first f.done ++ items) ++ s.more
+  all_of items s = whole_ended ∙ (ap (λ (rs : List Request). ended_in first f.done ++ rs) s.whole
+      ∙ sym (append_assoc (ended_in first f.done) items s.more))
 
   -- what is left of the piece has room too
   pub piece_few : first.taken + length piece < 2 ^ 64 → now.taken + length rest < 2 ^ 64
@@ -190,58 +243,86 @@ module _ (told : Type 0) (durable : Durable) (seal : Seal) (first now : Standing
   all_done : length rest ≡ 0 → piece ≡ f.done
   all_done none = f.split ∙ (ap (λ (l : List ℕ). f.done ++ l) (nil_from_length rest none) ∙ append-nil f.done)
 
-  pub piece_whole : length rest ≡ 0 → (now ≡ after_bytes first piece) × (now.failed ≡ false) × (told → printed ≡ before ++ replies durable seal (ended_in first piece))
+  pub piece_whole : length rest ≡ 0 → (now ≡ after_bytes first piece) × (now.failed ≡ false)
+      × (told → printed ≡ before ++ replies durable seal (ended_in first piece))
   piece_whole none = (
     f.now_is ∙ ap (after_bytes first) (sym (all_done none)),
     f.going,
-    λ t. subst (λ (l : List ℕ). printed ≡ before ++ replies durable seal (ended_in first l)) (sym (all_done none)) (f.shown t),
+    λ t. subst (λ (l : List ℕ). printed ≡ before ++ replies durable seal (ended_in first l))
+        (sym (all_done none)) (f.shown t),
   )
 
   pub piece_whole_steps : length rest ≡ 0 → steps ≤ opening + length (ended_in first piece)
-  piece_whole_steps none = subst (λ (l : List ℕ). steps ≤ opening + length (ended_in first l)) (sym (all_done none)) f.bounded
+  piece_whole_steps none =
+      subst (λ (l : List ℕ). steps ≤ opening + length (ended_in first l)) (sym (all_done none)) f.bounded
 
-  pub piece_begun : (items : List Request) (printed' : List ℕ) → Starts now rest items → (told → Begins printed printed' (replies durable seal items)) → told → Begins before printed' (replies durable seal (ended_in first piece))
+  pub piece_begun : (items : List Request) (printed' : List ℕ) → Starts now rest items → (told → Begins printed printed'
+      (replies durable seal items)) → told → Begins before printed' (replies durable seal (ended_in first piece))
   piece_begun items printed' s begun t =
       begun_of durable seal before printed' (ended_in first f.done ++ items) s.more (ended_in first piece)
-      (begun_more durable seal before printed printed' (ended_in first f.done) items (ended_in first f.done ++ items) (f.shown t) (begun t) refl) (all_of items s)
+      (begun_more durable seal before printed printed' (ended_in first f.done) items (ended_in first f.done ++ items)
+      (f.shown t) (begun t) refl) (all_of items s)
 
-  pub piece_steps : (items : List Request) (steps' : ℕ) → Starts now rest items → steps' ≤ steps + length items → steps' ≤ opening + length (ended_in first piece)
+  pub piece_steps : (items : List Request) (steps' : ℕ) → Starts now rest items → steps' ≤ steps + length items
+      → steps' ≤ opening + length (ended_in first piece)
   piece_steps items steps' s more =
-      omega (arith, f.bounded, more, ap length (all_of items s), length-append (ended_in first f.done ++ items) s.more, length-append (ended_in first f.done) items)
+      omega (
+        arith,
+        f.bounded,
+        more,
+        ap length (all_of items s),
+        length-append (ended_in first f.done ++ items) s.more,
+        length-append (ended_in first f.done) items,
+      )
 
   -- a bad place came
-  pub piece_bad : (items : List Request) (place : ℕ) → HasSense first → (now.failed ≡ false → (b : List ℕ) → HasTaken now b → BreaksIn b rest [] items place) → bad_of (after_bytes first piece) ≡ Some place
-  piece_bad items place sense breaks = ap bad_of whole_standing ∙ broke_bad now rest items place (piece_sense sense) (breaks f.going)
+  pub piece_bad : (items : List Request) (place : ℕ) → HasSense first → (now.failed ≡ false → (b : List ℕ)
+      → HasTaken now b → BreaksIn b rest [] items place) → bad_of (after_bytes first piece) ≡ Some place
+  piece_bad items place sense breaks =
+      ap bad_of whole_standing ∙ broke_bad now rest items place (piece_sense sense) (breaks f.going)
 
-  pub piece_bad_shown : (items : List Request) (printed' : List ℕ) (place : ℕ) → HasSense first → (now.failed ≡ false → (b : List ℕ) → HasTaken now b → BreaksIn b rest [] items place)
-      → (told → printed' ≡ printed ++ replies durable seal items) → told → printed' ≡ before ++ replies durable seal (ended_in first piece)
+  pub piece_bad_shown : (items : List Request) (printed' : List ℕ) (place : ℕ) → HasSense first
+      → (now.failed ≡ false → (b : List ℕ) → HasTaken now b → BreaksIn b rest [] items place)
+      → (told → printed' ≡ printed ++ replies durable seal items) → told
+      → printed' ≡ before ++ replies durable seal (ended_in first piece)
   piece_bad_shown items printed' place sense breaks shown t =
-      printed_more durable seal before printed printed' (ended_in first f.done) items (ended_in first piece) (f.shown t) (shown t)
-      (whole_ended ∙ ap (λ (rs : List Request). ended_in first f.done ++ rs) (sym (broke_requests now rest items place (piece_sense sense) (breaks f.going))))
+      printed_more durable seal before printed printed' (ended_in first f.done) items (ended_in first piece)
+      (f.shown t) (shown t)
+      (whole_ended ∙ ap (λ (rs : List Request). ended_in first f.done ++ rs)
+      (sym (broke_requests now rest items place (piece_sense sense) (breaks f.going))))
 
   -- more of it was taken
-  pub piece_more : (new : Standing) (rest' printed' : List ℕ) (items : List Request) (steps' n : ℕ) → HasSense first → n ≤ length rest → rest' ≡ drop n rest
-      → ((b : List ℕ) → HasTaken now b → HasTaken new (b ++ take n rest)) → ((b : List ℕ) → HasTaken now b → TakesTo b rest [] items n) → new.failed ≡ false → new.taken ≡ now.taken + n
-      → (told → printed' ≡ printed ++ replies durable seal items) → steps' ≤ steps + length items → PieceSoFar told durable seal first new piece rest' before printed' opening steps'
+  pub piece_more : (new : Standing) (rest' printed' : List ℕ) (items : List Request) (steps' n : ℕ) → HasSense first
+      → n ≤ length rest → rest' ≡ drop n rest
+      → ((b : List ℕ) → HasTaken now b → HasTaken new (b ++ take n rest))
+      → ((b : List ℕ) → HasTaken now b → TakesTo b rest [] items n) → new.failed ≡ false → new.taken ≡ now.taken + n
+      → (told → printed' ≡ printed ++ replies durable seal items) → steps' ≤ steps + length items
+      → PieceSoFar told durable seal first new piece rest' before printed' opening steps'
   piece_more new rest' printed' items steps' n sense within rest_is taken takes going count shown more =
       let here = piece_sense sense in
       let items_are = fed_requests now rest items n here takes in
       let ended : ended_in first (f.done ++ take n rest) ≡ ended_in first f.done ++ items =
-      ended-append first f.done (take n rest) ∙ (ap (λ (s : Standing). ended_in first f.done ++ ended_in s (take n rest)) (sym f.now_is) ∙ ap (λ (rs : List Request). ended_in first f.done ++ rs) (sym items_are)) in
+      ended-append first f.done (take n rest)
+      ∙ (ap (λ (s : Standing). ended_in first f.done ++ ended_in s (take n rest)) (sym f.now_is)
+      ∙ ap (λ (rs : List Request). ended_in first f.done ++ rs) (sym items_are)) in
       record {
         done = f.done ++ take n rest;
-        split = f.split ∙ (ap (λ (l : List ℕ). f.done ++ l) (sym (take-append-drop n rest) ∙ ap (λ (l : List ℕ). take n rest ++ l) (sym rest_is)) ∙ sym (append_assoc f.done (take n rest) rest'));
-        now_is = fed_standing now new rest n here taken ∙ (ap (λ (s : Standing). after_bytes s (take n rest)) f.now_is ∙ sym (after-append first f.done (take n rest)));
+        split = f.split ∙ (ap (λ (l : List ℕ). f.done ++ l) (sym (take-append-drop n rest)
+            ∙ ap (λ (l : List ℕ). take n rest ++ l) (sym rest_is)) ∙ sym (append_assoc f.done (take n rest) rest'));
+        now_is = fed_standing now new rest n here taken ∙ (ap (λ (s : Standing). after_bytes s (take n rest)) f.now_is
+            ∙ sym (after-append first f.done (take n rest)));
         going = going;
         counted = omega (arith, f.counted, count, within, length-append f.done (take n rest), length-take n rest);
-        shown = λ t. printed_more durable seal before printed printed' (ended_in first f.done) items (ended_in first (f.done ++ take n rest)) (f.shown t) (shown t) ended;
+        shown = λ t. printed_more durable seal before printed printed' (ended_in first f.done) items
+            (ended_in first (f.done ++ take n rest)) (f.shown t) (shown t) ended;
         bounded = omega (arith, f.bounded, more, ap length ended, length-append (ended_in first f.done) items);
       }
 
 -- ---- a stream so far
 
 -- the replies to the requests of bytes of the stream were printed
-pub record ServedSoFar (known told : Type 0) (durable : Durable) (seal : Seal) (port : Standing) (stream rest before printed : List ℕ) (left opening steps : ℕ) : Type 0 where
+pub record ServedSoFar (known told : Type 0) (durable : Durable) (seal : Seal) (port : Standing)
+    (stream rest before printed : List ℕ) (left opening steps : ℕ) : Type 0 where
   pub taken : List ℕ
   pub stands : HasTaken port taken
   pub going : port.failed ≡ false
@@ -251,23 +332,29 @@ pub record ServedSoFar (known told : Type 0) (durable : Durable) (seal : Seal) (
   pub shown : told → printed ≡ before ++ replies durable seal (requests_in taken)
   pub bounded : steps ≤ opening + length (requests_in taken)
 
-module _ (known told : Type 0) (durable : Durable) (seal : Seal) (port : Standing) (stream rest before printed : List ℕ) (left opening steps : ℕ)
+module _ (known told : Type 0) (durable : Durable) (seal : Seal) (port : Standing) (stream rest before printed : List ℕ)
+    (left opening steps : ℕ)
     (f : ServedSoFar known told durable seal port stream rest before printed left opening steps) where
   good : first_bad f.taken ≡ None
   good = going_port port f.taken f.stands f.going
 
   more_requests : (piece : List ℕ) → requests_in (f.taken ++ piece) ≡ requests_in f.taken ++ ended_in port piece
-  more_requests piece = ended-append (between 0) f.taken piece ∙ ap (λ (s : Standing). requests_in f.taken ++ ended_in s piece) (sym f.stands)
+  more_requests piece = ended-append (between 0) f.taken piece
+      ∙ ap (λ (s : Standing). requests_in f.taken ++ ended_in s piece) (sym f.stands)
 
   more_standing : (piece : List ℕ) → after_bytes port piece ≡ standing_after (f.taken ++ piece)
-  more_standing piece = ap (λ (s : Standing). after_bytes s piece) f.stands ∙ sym (after-append (between 0) f.taken piece)
+  more_standing piece =
+      ap (λ (s : Standing). after_bytes s piece) f.stands ∙ sym (after-append (between 0) f.taken piece)
 
   longer : (piece rest' : List ℕ) → (known → rest ≡ piece ++ rest') → known → stream ≡ (f.taken ++ piece) ++ rest'
-  longer piece rest' passes k = f.split k ∙ (ap (λ (l : List ℕ). f.taken ++ l) (passes k) ∙ sym (append_assoc f.taken piece rest'))
+  longer piece rest' passes k =
+      f.split k ∙ (ap (λ (l : List ℕ). f.taken ++ l) (passes k) ∙ sym (append_assoc f.taken piece rest'))
 
   -- a piece more was served
-  pub served_more : (port' : Standing) (piece rest' printed' : List ℕ) (left' steps' : ℕ) → (known → rest ≡ piece ++ rest') → port' ≡ after_bytes port piece → port'.failed ≡ false
-      → left' + length piece ≡ left → (told → printed' ≡ printed ++ replies durable seal (ended_in port piece)) → steps' ≤ steps + length (ended_in port piece)
+  pub served_more : (port' : Standing) (piece rest' printed' : List ℕ) (left' steps' : ℕ)
+      → (known → rest ≡ piece ++ rest') → port' ≡ after_bytes port piece → port'.failed ≡ false
+      → left' + length piece ≡ left → (told → printed' ≡ printed ++ replies durable seal (ended_in port piece))
+      → steps' ≤ steps + length (ended_in port piece)
       → ServedSoFar known told durable seal port' stream rest' before printed' left' opening steps'
   served_more port' piece rest' printed' left' steps' passes is going fewer shown more = record {
     taken = f.taken ++ piece;
@@ -276,20 +363,36 @@ module _ (known told : Type 0) (durable : Durable) (seal : Seal) (port : Standin
     count = going_count port' (f.taken ++ piece) (is ∙ more_standing piece) going;
     room = omega (arith, f.room, fewer, length-append f.taken piece);
     split = longer piece rest' passes;
-    shown = λ t. printed_more durable seal before printed printed' (requests_in f.taken) (ended_in port piece) (requests_in (f.taken ++ piece)) (f.shown t) (shown t) (more_requests piece);
-    bounded = omega (arith, f.bounded, more, ap length (more_requests piece), length-append (requests_in f.taken) (ended_in port piece));
+    shown = λ t. printed_more durable seal before printed printed' (requests_in f.taken) (ended_in port piece)
+        (requests_in (f.taken ++ piece)) (f.shown t) (shown t) (more_requests piece);
+    bounded = omega (
+      arith,
+      f.bounded,
+      more,
+      ap length (more_requests piece),
+      length-append (requests_in f.taken) (ended_in port piece),
+    );
   }
 
-  pub more_steps : (piece rest' : List ℕ) (steps' : ℕ) → (known → rest ≡ piece ++ rest') → steps' ≤ steps + length (ended_in port piece) → known → IsBoundedBy stream rest' opening steps'
+  pub more_steps : (piece rest' : List ℕ) (steps' : ℕ) → (known → rest ≡ piece ++ rest')
+      → steps' ≤ steps + length (ended_in port piece) → known → IsBoundedBy stream rest' opening steps'
   more_steps piece rest' steps' passes more k = record {
     taken = f.taken ++ piece;
     split = record { bytes = longer piece rest' passes k };
-    bound = omega (arith, f.bounded, more, ap length (more_requests piece), length-append (requests_in f.taken) (ended_in port piece));
+    bound = omega (
+      arith,
+      f.bounded,
+      more,
+      ap length (more_requests piece),
+      length-append (requests_in f.taken) (ended_in port piece),
+    );
   }
 
   -- ---- how it ends
 
-  serves : (taken rest' printed' : List ℕ) (reached : StreamEnd) → ReachesEnd stream taken rest' reached → (told → printed' ≡ before ++ replies durable seal (requests_in taken)) → ServesTo told durable seal stream rest' before printed' reached
+  serves : (taken rest' printed' : List ℕ) (reached : StreamEnd) → ReachesEnd stream taken rest' reached
+      → (told → printed' ≡ before ++ replies durable seal (requests_in taken))
+      → ServesTo told durable seal stream rest' before printed' reached
   serves taken rest' printed' reached ends shown = record {
     taken = taken;
     ends = ends;
@@ -297,50 +400,70 @@ module _ (known told : Type 0) (durable : Durable) (seal : Seal) (port : Standin
   }
 
   pub served_long : left ≡ 0 → known → ServesTo told durable seal stream rest before printed Endless
-  served_long none k = serves f.taken rest printed Endless (endless_ends stream f.taken rest (f.split k) (omega (arith, f.room, none)) good) f.shown
+  served_long none k = serves f.taken rest printed Endless
+      (endless_ends stream f.taken rest (f.split k) (omega (arith, f.room, none)) good) f.shown
 
   at_end : (rest' : List ℕ) → rest ≡ [] → rest' ≡ [] → known → stream ≡ f.taken ++ rest'
   at_end rest' none none' k = f.split k ∙ ap (λ (l : List ℕ). f.taken ++ l) (none ∙ sym none')
 
-  pub served_whole : (rest' : List ℕ) → 0 < left → (known → rest ≡ []) → (known → rest' ≡ []) → ((b : List ℕ) → HasTaken port b → bad_at_end b ≡ None) → known → ServesTo told durable seal stream rest' before printed Whole
+  pub served_whole : (rest' : List ℕ) → 0 < left → (known → rest ≡ []) → (known → rest' ≡ []) → ((b : List ℕ)
+      → HasTaken port b → bad_at_end b ≡ None) → known → ServesTo told durable seal stream rest' before printed Whole
   served_whole rest' some none none' whole k =
-      serves f.taken rest' printed Whole (whole_ends stream f.taken rest' (at_end rest' (none k) (none' k) k) (none' k) (omega (arith, f.room, some)) (whole f.taken f.stands)) f.shown
+      serves f.taken rest' printed Whole (whole_ends stream f.taken rest' (at_end rest' (none k) (none' k) k) (none' k)
+      (omega (arith, f.room, some)) (whole f.taken f.stands)) f.shown
 
-  pub served_unfinished : (rest' : List ℕ) (place : ℕ) → 0 < left → (known → rest ≡ []) → (known → rest' ≡ []) → ((b : List ℕ) → HasTaken port b → bad_at_end b ≡ Some place) → known
+  pub served_unfinished : (rest' : List ℕ) (place : ℕ) → 0 < left → (known → rest ≡ []) → (known → rest' ≡ [])
+      → ((b : List ℕ) → HasTaken port b → bad_at_end b ≡ Some place) → known
       → ServesTo told durable seal stream rest' before printed (BadAt place)
   served_unfinished rest' place some none none' bad k =
-      serves f.taken rest' printed (BadAt place) (unfinished_ends stream f.taken rest' place (at_end rest' (none k) (none' k) k) (none' k) (omega (arith, f.room, some)) (bad f.taken f.stands)) f.shown
+      serves f.taken rest' printed (BadAt place) (unfinished_ends stream f.taken rest' place
+      (at_end rest' (none k) (none' k) k) (none' k) (omega (arith, f.room, some)) (bad f.taken f.stands)) f.shown
 
   same_err : (e other : PortFault) → err_of e ≡ err_of other → e ≡ other
   same_err e other is = cc
 
   -- the stream ends here
-  pub served_end : (result : Result (Unit {0}) PortFault) (rest' : List ℕ) → 0 < left → (known → rest ≡ []) → (known → rest' ≡ []) → OnOk result ((b : List ℕ) → HasTaken port b → bad_at_end b ≡ None)
-      → OnErr result ((place : ℕ) × (result ≡ Err (Frame place)) × ((b : List ℕ) → HasTaken port b → bad_at_end b ≡ Some place)) → known → Serves told durable seal stream rest' before printed result
+  pub served_end : (result : Result (Unit {0}) PortFault) (rest' : List ℕ) → 0 < left → (known → rest ≡ [])
+      → (known → rest' ≡ []) → OnOk result ((b : List ℕ) → HasTaken port b → bad_at_end b ≡ None)
+      → OnErr result
+      ((place : ℕ) × (result ≡ Err (Frame place)) × ((b : List ℕ) → HasTaken port b → bad_at_end b ≡ Some place))
+      → known → Serves told durable seal stream rest' before printed result
   served_end (Ok done) rest' some none none' whole bad k = served_whole rest' some none none' whole k
   served_end (Err e) rest' some none none' whole bad k =
-      subst (λ (x : PortFault). Serves told durable seal stream rest' before printed (err_of x)) (sym (same_err e (Frame bad.0) bad.1)) (served_unfinished rest' bad.0 some none none' bad.2 k)
+      subst (λ (x : PortFault). Serves told durable seal stream rest' before printed (err_of x))
+      (sym (same_err e (Frame bad.0) bad.1)) (served_unfinished rest' bad.0 some none none' bad.2 k)
 
-  pub served_bad : (piece rest' printed' : List ℕ) (place : ℕ) → length piece ≤ left → (known → rest ≡ piece ++ rest') → bad_of (after_bytes port piece) ≡ Some place
-      → (told → printed' ≡ printed ++ replies durable seal (ended_in port piece)) → known → ServesTo told durable seal stream rest' before printed' (BadAt place)
+  pub served_bad : (piece rest' printed' : List ℕ) (place : ℕ) → length piece ≤ left → (known → rest ≡ piece ++ rest')
+      → bad_of (after_bytes port piece) ≡ Some place
+      → (told → printed' ≡ printed ++ replies durable seal (ended_in port piece)) → known
+      → ServesTo told durable seal stream rest' before printed' (BadAt place)
   served_bad piece rest' printed' place few passes bad shown k =
       serves (f.taken ++ piece) rest' printed' (BadAt place)
-      (bad_ends stream (f.taken ++ piece) rest' place (longer piece rest' passes k) (omega (arith, f.room, few, length-append f.taken piece)) (ap bad_of (sym (more_standing piece)) ∙ bad))
-      (λ t. printed_more durable seal before printed printed' (requests_in f.taken) (ended_in port piece) (requests_in (f.taken ++ piece)) (f.shown t) (shown t) (more_requests piece))
+      (bad_ends stream (f.taken ++ piece) rest' place (longer piece rest' passes k)
+      (omega (arith, f.room, few, length-append f.taken piece)) (ap bad_of (sym (more_standing piece)) ∙ bad))
+      (λ t. printed_more durable seal before printed printed' (requests_in f.taken) (ended_in port piece)
+      (requests_in (f.taken ++ piece)) (f.shown t) (shown t) (more_requests piece))
 
-  pub served_broken : (piece rest' printed' : List ℕ) → (known → rest ≡ piece ++ rest') → (told → Begins printed printed' (replies durable seal (ended_in port piece))) → known
-      → StopsAfter stream rest' (λ taken. Unit {0}) (λ taken. told → Begins before printed' (replies durable seal (requests_in taken)))
+  pub served_broken : (piece rest' printed' : List ℕ) → (known → rest ≡ piece ++ rest')
+      → (told → Begins printed printed' (replies durable seal (ended_in port piece))) → known
+      → StopsAfter stream rest' (λ taken. Unit {0})
+      (λ taken. told → Begins before printed' (replies durable seal (requests_in taken)))
   served_broken piece rest' printed' passes begun k = record {
     taken = f.taken ++ piece;
     split = record { bytes = longer piece rest' passes k };
     stands = tt;
-    printed = λ t. begun_more durable seal before printed printed' (requests_in f.taken) (ended_in port piece) (requests_in (f.taken ++ piece)) (f.shown t) (begun t) (more_requests piece);
+    printed = λ t. begun_more durable seal before printed printed' (requests_in f.taken) (ended_in port piece)
+        (requests_in (f.taken ++ piece)) (f.shown t) (begun t) (more_requests piece);
   }
 
   -- a piece wasn't served whole
-  pub served_err : (fault : PortFault) (port' : Standing) (piece rest' printed' : List ℕ) → length piece ≤ left → (known → rest ≡ piece ++ rest')
-      → ServesPiece told durable seal port port' piece printed printed' (err_of fault) → known → Serves told durable seal stream rest' before printed' (err_of fault)
+  pub served_err : (fault : PortFault) (port' : Standing) (piece rest' printed' : List ℕ) → length piece ≤ left
+      → (known → rest ≡ piece ++ rest')
+      → ServesPiece told durable seal port port' piece printed printed' (err_of fault) → known
+      → Serves told durable seal stream rest' before printed' (err_of fault)
   served_err ReadFault port' piece rest' printed' few passes serves k = absurd serves
-  served_err BoardFault port' piece rest' printed' few passes serves k = served_broken piece rest' printed' passes serves k
-  served_err (Frame place) port' piece rest' printed' few passes serves k = served_bad piece rest' printed' place few passes serves.0 serves.1 k
+  served_err BoardFault port' piece rest' printed' few passes serves k =
+      served_broken piece rest' printed' passes serves k
+  served_err (Frame place) port' piece rest' printed' few passes serves k =
+      served_bad piece rest' printed' place few passes serves.0 serves.1 k
   served_err TooLong port' piece rest' printed' few passes serves k = absurd serves

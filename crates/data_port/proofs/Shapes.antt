@@ -1,5 +1,7 @@
 -- What an unfinished request is like, and what a byte that may follow makes of it.
-use Rattle.std.proofs.Common.{◌≡◌, ◌⊎◌, inl, inr, ℕ, zero, suc, ◌+◌, ◌-◌, ◌<◌, ◌≤◌, Bool, true, false, ◌==◌, ◌&&◌, nat_le, nat_lt, List, [], ◌∷◌, ◌++◌, length, get_or, refl, sym, ap, subst, ◌∙◌, append_assoc, arith, length-append}
+use Rattle.std.proofs.Common.{◌≡◌, ◌⊎◌, inl, inr, ℕ, zero, suc, ◌+◌, ◌-◌, ◌<◌, ◌≤◌, Bool, true, false, ◌==◌, ◌&&◌}
+use Rattle.std.proofs.Common.{nat_le, nat_lt, List, [], ◌∷◌, ◌++◌, length, get_or, refl, sym, ap, subst, ◌∙◌}
+use Rattle.std.proofs.Common.{append_assoc, arith, length-append}
 use Rattle.std.proofs.lemmas.Bool.{and_parts, cond-false, cond-true, eqb-false, eqb-true, leb-true, ltb-true}
 use Rattle.data_port.specs.declared.request.Request.{Request}
 use Rattle.data_port.specs.ReadingStages.{follows, follows_codes, has_all, last_code, request_in}
@@ -27,7 +29,8 @@ pub last_push : (above code : ℕ) (codes : List ℕ) → last_from above (codes
 last_push above code [] = refl
 last_push above code (other ∷ codes) = last_push other code codes
 
-rise_push : (above code : ℕ) (codes : List ℕ) → Rise above codes → last_from above codes < code → code ≤ 13 → Rise above (codes ++ code ∷ [])
+rise_push : (above code : ℕ) (codes : List ℕ) → Rise above codes → last_from above codes < code → code ≤ 13
+    → Rise above (codes ++ code ∷ [])
 rise_push above code [] rise low high = (low, (high, tt))
 rise_push above code (other ∷ codes) rise low high = (rise.0, (rise.1.0, rise_push other code codes rise.1.1 low high))
 
@@ -44,7 +47,8 @@ up_rise : (above count : ℕ) → above + count ≤ 13 → Rise above (up above 
 up_rise above zero few = tt
 up_rise above (suc count) few = (omega arith, (omega arith, up_rise (suc above) count (omega arith)))
 
-rise_up : (above : ℕ) (codes : List ℕ) (count : ℕ) → Rise above codes → last_from above codes + count ≤ 13 → Rise above (codes ++ up (last_from above codes) count)
+rise_up : (above : ℕ) (codes : List ℕ) (count : ℕ) → Rise above codes → last_from above codes + count ≤ 13
+    → Rise above (codes ++ up (last_from above codes) count)
 rise_up above [] count rise few = up_rise above count few
 rise_up above (code ∷ codes) count rise few = (rise.0, (rise.1.0, rise_up code codes count rise.1.1 few))
 
@@ -53,7 +57,8 @@ rise_up above (code ∷ codes) count rise few = (rise.0, (rise.1.0, rise_up code
 pub data Shaped : List ℕ → Type 0 where
   nothing : Shaped []
   start : Shaped (2 ∷ [])
-  codes : (count : ℕ) (cs : List ℕ) → 1 ≤ count → count ≤ 13 → Rise 0 cs → length cs ≤ count → last_from 0 cs + count ≤ length cs + 13 → Shaped (2 ∷ (count ∷ cs))
+  codes : (count : ℕ) (cs : List ℕ) → 1 ≤ count → count ≤ 13 → Rise 0 cs → length cs ≤ count
+      → last_from 0 cs + count ≤ length cs + 13 → Shaped (2 ∷ (count ∷ cs))
 
 -- a byte ends the request
 pub record Ends (part : List ℕ) (byte : ℕ) : Type 0 where
@@ -66,9 +71,11 @@ pub record Grows (part : List ℕ) (byte : ℕ) : Type 0 where
   pub open_still : has_all part ≡ false
   pub shaped : Shaped (part ++ byte ∷ [])
 
-codes_end : (count : ℕ) (cs : List ℕ) (byte : ℕ) → 1 ≤ count → Rise 0 cs → (length cs == count) ≡ true → follows_codes count cs byte ≡ true → Ends (2 ∷ (count ∷ cs)) byte
+codes_end : (count : ℕ) (cs : List ℕ) (byte : ℕ) → 1 ≤ count → Rise 0 cs → (length cs == count) ≡ true
+    → follows_codes count cs byte ≡ true → Ends (2 ∷ (count ∷ cs)) byte
 codes_end count cs byte low rise all fits =
-    let last : byte ≡ 3 = eqb-true byte 3 (sym (cond-true (length cs == count) (byte == 3) (nat_lt (last_code cs) byte && nat_le (byte + count) (length cs + 14)) all) ∙ fits) in
+    let last : byte ≡ 3 = eqb-true byte 3 (sym (cond-true (length cs == count) (byte == 3)
+    (nat_lt (last_code cs) byte && nat_le (byte + count) (length cs + 14)) all) ∙ fits) in
     let same : length cs ≡ count = eqb-true (length cs) count all in
     record {
       all = all;
@@ -76,10 +83,12 @@ codes_end count cs byte low rise all fits =
       bytes_are = λ i. 2 ∷ (sym same i ∷ (cs ++ last i ∷ []));
     }
 
-codes_grow : (count : ℕ) (cs : List ℕ) (byte : ℕ) → 1 ≤ count → count ≤ 13 → Rise 0 cs → length cs ≤ count → (length cs == count) ≡ false → follows_codes count cs byte ≡ true → Grows (2 ∷ (count ∷ cs)) byte
+codes_grow : (count : ℕ) (cs : List ℕ) (byte : ℕ) → 1 ≤ count → count ≤ 13 → Rise 0 cs → length cs ≤ count
+    → (length cs == count) ≡ false → follows_codes count cs byte ≡ true → Grows (2 ∷ (count ∷ cs)) byte
 codes_grow count cs byte low high rise few left fits =
     let both : (nat_lt (last_code cs) byte && nat_le (byte + count) (length cs + 14)) ≡ true =
-    sym (cond-false (length cs == count) (byte == 3) (nat_lt (last_code cs) byte && nat_le (byte + count) (length cs + 14)) left) ∙ fits in
+    sym (cond-false (length cs == count) (byte == 3)
+    (nat_lt (last_code cs) byte && nat_le (byte + count) (length cs + 14)) left) ∙ fits in
     let parts = and_parts (nat_lt (last_code cs) byte) (nat_le (byte + count) (length cs + 14)) both in
     let above : last_code cs < byte = ltb-true (last_code cs) byte parts.0 in
     let room : byte + count ≤ length cs + 14 = leb-true (byte + count) (length cs + 14) parts.1 in
@@ -87,11 +96,14 @@ codes_grow count cs byte low high rise few left fits =
     let fewer : length cs < count = omega (arith, other, few) in
     record {
       open_still = left;
-      shaped = codes count (cs ++ byte ∷ []) low high (rise_push 0 byte cs rise (omega (arith, above, last_is cs)) (omega (arith, room, fewer)))
-          (omega (arith, fewer, length-append cs (byte ∷ []))) (omega (arith, room, last_push 0 byte cs, length-append cs (byte ∷ [])));
+      shaped = codes count (cs ++ byte ∷ []) low high
+          (rise_push 0 byte cs rise (omega (arith, above, last_is cs)) (omega (arith, room, fewer)))
+          (omega (arith, fewer, length-append cs (byte ∷ [])))
+          (omega (arith, room, last_push 0 byte cs, length-append cs (byte ∷ [])));
     }
 
-step_codes : (count : ℕ) (cs : List ℕ) (byte : ℕ) → 1 ≤ count → count ≤ 13 → Rise 0 cs → length cs ≤ count → (all : Bool) → (length cs == count) ≡ all → follows_codes count cs byte ≡ true
+step_codes : (count : ℕ) (cs : List ℕ) (byte : ℕ) → 1 ≤ count → count ≤ 13 → Rise 0 cs → length cs ≤ count
+    → (all : Bool) → (length cs == count) ≡ all → follows_codes count cs byte ≡ true
     → Ends (2 ∷ (count ∷ cs)) byte ⊎ Grows (2 ∷ (count ∷ cs)) byte
 step_codes count cs byte low high rise few true is fits = inl (codes_end count cs byte low rise is fits)
 step_codes count cs byte low high rise few false is fits = inr (codes_grow count cs byte low high rise few is fits)
@@ -104,12 +116,14 @@ step_start byte fits =
     record { open_still = refl; shaped = codes byte [] low high tt (omega arith) (omega arith) }
 
 step_nothing : (byte : ℕ) → (byte == 2) ≡ true → Grows [] byte
-step_nothing byte fits = record { open_still = refl; shaped = subst (λ (b : ℕ). Shaped (b ∷ [])) (sym (eqb-true byte 2 fits)) start }
+step_nothing byte fits =
+    record { open_still = refl; shaped = subst (λ (b : ℕ). Shaped (b ∷ [])) (sym (eqb-true byte 2 fits)) start }
 
 pub step : (part : List ℕ) (byte : ℕ) → Shaped part → follows part byte ≡ true → Ends part byte ⊎ Grows part byte
 step part byte nothing fits = inr (step_nothing byte fits)
 step part byte start fits = inr (step_start byte fits)
-step part byte (codes count cs low high rise few room) fits = step_codes count cs byte low high rise few (length cs == count) refl fits
+step part byte (codes count cs low high rise few room) fits =
+    step_codes count cs byte low high rise few (length cs == count) refl fits
 
 -- it has few bytes
 pub few_bytes : (part : List ℕ) → Shaped part → length part ≤ 15
@@ -128,11 +142,14 @@ one_good = record { some = omega arith; rise = (omega arith, (omega arith, tt)) 
 
 pub unfinished : (part : List ℕ) → Shaped part → IsUnfinished part
 unfolding one
-unfinished part nothing = record { request = one; rest = 2 ∷ (1 ∷ (1 ∷ (3 ∷ []))); good = one_good; some = omega arith; bytes_are = refl }
-unfinished part start = record { request = one; rest = 1 ∷ (1 ∷ (3 ∷ [])); good = one_good; some = omega arith; bytes_are = refl }
+unfinished part nothing =
+    record { request = one; rest = 2 ∷ (1 ∷ (1 ∷ (3 ∷ []))); good = one_good; some = omega arith; bytes_are = refl }
+unfinished part start =
+    record { request = one; rest = 1 ∷ (1 ∷ (3 ∷ [])); good = one_good; some = omega arith; bytes_are = refl }
 unfinished part (codes count cs low high rise few room) =
     let more = up (last_from 0 cs) (count - length cs) in
-    let long : length (cs ++ more) ≡ count = omega (arith, length-append cs more, up_long (last_from 0 cs) (count - length cs), few) in
+    let long : length (cs ++ more) ≡ count =
+    omega (arith, length-append cs more, up_long (last_from 0 cs) (count - length cs), few) in
     let rises : Rise 0 (cs ++ more) = rise_up 0 cs (count - length cs) rise (omega (arith, room, few)) in
     let request : Request = record { items = record { items = cs ++ more } } in
     record {

@@ -3,7 +3,7 @@ use Rattle.std.specs.Prelude.{◌≡◌, ℕ, zero, suc, ◌-◌, List, [], ◌�
 use Rattle.std.specs.Int.{w16, from_be_bytes}
 use Rattle.std.specs.List.{All}
 use Rattle.seal_record.specs.declared.seal.Seal.{Seal}
-use Rattle.totals_record.specs.declared.durable.Durable.{Durable}
+use Rattle.totals_record.specs.declared.durable_state.Durable.{Durable}
 use Rattle.data_port.specs.declared.request.Request.{Request}
 use Rattle.data_port.specs.Reply.{held_values}
 use Rattle.data_port.specs.Requests.{codes_of}

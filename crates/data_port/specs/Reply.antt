@@ -5,7 +5,7 @@ use Rattle.std.specs.List.{flat_map}
 use Rattle.drive_modes.specs.Distance.{millimetres_of}
 use Rattle.seal_record.specs.declared.seal.Seal.{Seal}
 use Rattle.seal_record.specs.Spelling.{mode_byte, padded, signed_bytes}
-use Rattle.totals_record.specs.declared.durable.Durable.{Durable}
+use Rattle.totals_record.specs.declared.durable_state.Durable.{Durable}
 use Rattle.totals_record.specs.declared.totals.Totals.{Totals}
 use Rattle.totals_record.specs.declared.trip.Trip.{Trip}
 use Rattle.totals_record.specs.Bytes.{four, eight, sixteen}

@@ -6,7 +6,7 @@ use Rattle.taxi_units.specs.Streams.{StreamKind, end_of, given_of}
 pub use Rattle.taxi_units.specs.Streams.{StreamEnd, Whole, BadAt, Endless, IsSplit, StopsAfter, stream_limit}
 use Rattle.outside.specs.Printing.{Begins}
 use Rattle.seal_record.specs.declared.seal.Seal.{Seal}
-use Rattle.totals_record.specs.declared.durable.Durable.{Durable}
+use Rattle.totals_record.specs.declared.durable_state.Durable.{Durable}
 use Rattle.data_port.specs.declared.request.Request.{Request}
 use Rattle.data_port.specs.declared.serving.PortFault.{PortFault}
 use Rattle.data_port.specs.declared.serving.PortFault.TheVariants.{ReadFault, BoardFault, Frame, TooLong}

@@ -2,7 +2,7 @@
 ghost use Rattle.std.specs.Prelude.{◌≡◌, map, ℕ};
 ghost use Rattle.seal_record.specs.declared.seal.Seal.{Seal};
 ghost use Rattle.seal_record.specs.Ranges.{IsSeal};
-ghost use Rattle.totals_record.specs.declared.durable.Durable.{Durable};
+ghost use Rattle.totals_record.specs.declared.durable_state.Durable.{Durable};
 ghost use Rattle.totals_record.specs.Ranges.{IsDurable};
 ghost use Rattle.data_port.specs.declared.request.Request.{Request};
 ghost use Rattle.data_port.specs.Reply.{content, reply_to};

@@ -4,7 +4,8 @@ use Rattle.std.specs.List.{fold}
 use Rattle.std.proofs.lemmas.List.Sums.{sum_by-cons}
 use Rattle.drive_modes.specs.Gate.{counted}
 
-pub gate_counts_the_sum : (pulses : ℕ) (bursts : List ℕ) → pulses ≤ 2000 → fold counted pulses bursts ≡ min 2000 (pulses + sum bursts)
+pub gate_counts_the_sum : (pulses : ℕ) (bursts : List ℕ) → pulses ≤ 2000
+    → fold counted pulses bursts ≡ min 2000 (pulses + sum bursts)
 gate_counts_the_sum pulses [] few = omega arith
 gate_counts_the_sum pulses (n ∷ bursts) few =
     let rest = gate_counts_the_sum (counted pulses n) bursts (omega arith) in

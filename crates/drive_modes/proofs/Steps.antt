@@ -1,5 +1,6 @@
 -- Display steps are whole steps.
-use Rattle.std.proofs.Common.{◌≡◌, ℕ, ◌+◌, ◌-◌, ◌*◌, ◌/◌, ◌%◌, ◌<◌, ◌≤◌, ◌==◌, ◌↔◌, zero, suc, if◌then◌else◌, refl, ap, sym, ◌∙◌, arith}
+use Rattle.std.proofs.Common.{◌≡◌, ℕ, ◌+◌, ◌-◌, ◌*◌, ◌/◌, ◌%◌, ◌<◌, ◌≤◌, ◌==◌, ◌↔◌, zero, suc, if◌then◌else◌, refl, ap}
+use Rattle.std.proofs.Common.{sym, ◌∙◌, arith}
 use Rattle.std.proofs.lemmas.Nat.{div-add-mod', div-mul-add, mod_below}
 use Rattle.std.proofs.lemmas.Grind.{common_steps}
 use Rattle.drive_modes.specs.declared.meterage.Rounding.{Rounding}
@@ -27,7 +28,8 @@ rounded-up q (suc rest) y below =
     one-more q rest ∙ sym (ap (λ (n : ℕ). n / y) more ∙ div-mul-add (q + 1) y rest (omega arith))
 
 -- the display steps of what is kept are those of all that is above the cover
-pub steps-quotient : (rounding : Rounding) (opening : Opening) (charged : ℕ) → 0 < opening.modulus → steps_of rounding (saved opening charged) ≡ steps_above rounding opening charged
+pub steps-quotient : (rounding : Rounding) (opening : Opening) (charged : ℕ) → 0 < opening.modulus
+    → steps_of rounding (saved opening charged) ≡ steps_above rounding opening charged
 steps-quotient Behind opening charged some = refl
 steps-quotient Ahead opening charged some =
     let x = above_cover opening charged in

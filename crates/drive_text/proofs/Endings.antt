@@ -1,5 +1,6 @@
 -- The CR at a line's end, comments, and lines that are too long.
-use Rattle.std.proofs.Common.{◌≡◌, ℕ, suc, ◌+◌, ◌-◌, ◌<◌, ◌≤◌, Bool, true, false, cond, not, ◌&&◌, List, [], ◌∷◌, ◌++◌, length, take, get_or, refl, ap, ◌∙◌, arith, eqb, ltb, length-append, Some, None}
+use Rattle.std.proofs.Common.{◌≡◌, ℕ, suc, ◌+◌, ◌-◌, ◌<◌, ◌≤◌, Bool, true, false, cond, not, ◌&&◌, List, [], ◌∷◌, ◌++◌}
+use Rattle.std.proofs.Common.{length, take, get_or, refl, ap, ◌∙◌, arith, eqb, ltb, length-append, Some, None}
 use Rattle.std.specs.Str.Lines.{strip_carriage_return}
 use Rattle.std.proofs.Math.Seq.{get_or-append_seam, take-append_seam}
 use Rattle.std.proofs.lemmas.Bool.{lt-ltb, ltb-true, eqb-true}
@@ -18,7 +19,8 @@ length_by true t c = refl
 length_by false t c = length-append t (c ∷ [])
 
 -- the length without a CR at the end
-pub length_with_byte : (t : List ℕ) (c : ℕ) → length (strip_carriage_return (t ++ c ∷ [])) ≡ cond (eqb c 13) (length t) (length t + 1)
+pub length_with_byte : (t : List ℕ) (c : ℕ)
+    → length (strip_carriage_return (t ++ c ∷ [])) ≡ cond (eqb c 13) (length t) (length t + 1)
 length_with_byte t c = ap length (strip-snoc t c) ∙ length_by (eqb c 13) t c
 
 strip_le_by : (cr : Bool) (t : List ℕ) → length (cond cr (take (length t - 1) t) t) ≤ length t
@@ -40,7 +42,8 @@ grows_by false n = omega arith
 strip_grows : (t : List ℕ) (c : ℕ) → length (strip_carriage_return t) ≤ length (strip_carriage_return (t ++ c ∷ []))
 strip_grows t c = rw (length_with_byte t c) (omega (arith, strip_le t, grows_by (eqb c 13) (length t)))
 
-comment_by : (cr : Bool) (x y : ℕ) (ys : List ℕ) → is_comment (cond cr (take (length (x ∷ y ∷ ys) - 1) (x ∷ y ∷ ys)) (x ∷ y ∷ ys)) ≡ eqb x 35
+comment_by : (cr : Bool) (x y : ℕ) (ys : List ℕ)
+    → is_comment (cond cr (take (length (x ∷ y ∷ ys) - 1) (x ∷ y ∷ ys)) (x ∷ y ∷ ys)) ≡ eqb x 35
 comment_by true x y ys =
     let front : length (x ∷ y ∷ ys) - 1 ≡ suc (length ys) = omega arith in
     rw front refl
@@ -88,7 +91,8 @@ both_by true true e = absurd (cc)
 both_by false comment e = absurd (cc)
 
 -- what is too long
-pub long_is : (t : List ℕ) → is_too_long t ≡ true → (ltb 80 (length (strip_carriage_return t)) ≡ true) × (is_comment t ≡ false)
+pub long_is : (t : List ℕ) → is_too_long t ≡ true
+    → (ltb 80 (length (strip_carriage_return t)) ≡ true) × (is_comment t ≡ false)
 long_is t e = both_by (ltb 80 (length (strip_carriage_return t))) (is_comment t) e
 
 -- a line that is too long is no line of a drive
@@ -111,14 +115,16 @@ long_fails t many plain = rw (lt-ltb 80 (length (strip_carriage_return t)) many,
 pub too_long-append : (t : List ℕ) (c : ℕ) → is_too_long t ≡ true → is_too_long (t ++ c ∷ []) ≡ true
 too_long-append t c e =
     let long : 80 < length (strip_carriage_return t) = ltb-true 80 (length (strip_carriage_return t)) (long_is t e).0 in
-    long_fails (t ++ c ∷ []) (omega (arith, strip_grows t c, long)) (comment-append t (c ∷ []) (omega (arith, strip_le t, long)) ∙ (long_is t e).1)
+    long_fails (t ++ c ∷ []) (omega (arith, strip_grows t c, long))
+    (comment-append t (c ∷ []) (omega (arith, strip_le t, long)) ∙ (long_is t e).1)
 
 -- with more than 81 bytes there are more than 80 before a CR
 pub many_fail : (t : List ℕ) → 81 < length t → is_comment t ≡ false → is_too_long t ≡ true
 many_fail t many plain = long_fails t (omega (arith, many, strip_ge_by (eqb (get_or t (length t - 1) 0) 13) t)) plain
 
 -- by the test
-pub long_by_test : (t : List ℕ) → ltb 80 (length (strip_carriage_return t)) ≡ true → is_comment t ≡ false → is_too_long t ≡ true
+pub long_by_test : (t : List ℕ) → ltb 80 (length (strip_carriage_return t)) ≡ true → is_comment t ≡ false
+    → is_too_long t ≡ true
 long_by_test t long plain = rw (long, plain) refl
 
 pub short_by_test : (t : List ℕ) → ltb 80 (length (strip_carriage_return t)) ≡ false → is_too_long t ≡ false

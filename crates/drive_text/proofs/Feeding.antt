@@ -1,5 +1,7 @@
 -- What a part of a piece, and then a piece, changes of a reader.
-use Rattle.std.proofs.Common.{◌≡◌, ◌≢◌, ◌⊎◌, inl, inr, ℕ, zero, suc, ◌+◌, ◌-◌, ◌<◌, ◌≤◌, true, false, List, [], ◌∷◌, ◌++◌, length, take, drop, refl, ap, sym, ◌∙◌, subst, arith, append_assoc, length-append, Option, Some, None, All, Result, Err, IsOk, MatchOption}
+use Rattle.std.proofs.Common.{◌≡◌, ◌≢◌, ◌⊎◌, inl, inr, ℕ, zero, suc, ◌+◌, ◌-◌, ◌<◌, ◌≤◌, true, false, List, [], ◌∷◌}
+use Rattle.std.proofs.Common.{◌++◌, length, take, drop, refl, ap, sym, ◌∙◌, subst, arith, append_assoc, length-append}
+use Rattle.std.proofs.Common.{Option, Some, None, All, Result, Err, IsOk, MatchOption}
 use Rattle.std.proofs.Math.Seq.{take-append_seam, drop-append_seam}
 use Rattle.std.proofs.lemmas.Bool.{cases_lt}
 use Rattle.std.proofs.lemmas.List.{append-nil, take-append-le}
@@ -13,18 +15,23 @@ use Rattle.drive_text.specs.Ranges.{IsRunInRange}
 use Rattle.drive_text.specs.Reading.{Reading, HasFailed, HasTaken, TakesTo, BreaksIn}
 use Rattle.drive_text.proofs.Cuts.{runs_in-append_bad}
 use Rattle.drive_text.proofs.Parts.{no_runs}
-use Rattle.drive_text.proofs.Standing.{goes_on, failed_at, failed_stays, line_number_of, number_small, line_is_bad, bad_gives_none, line_too_long}
+use Rattle.drive_text.proofs.Standing.{goes_on, failed_at, failed_stays, line_number_of, number_small, line_is_bad}
+use Rattle.drive_text.proofs.Standing.{bad_gives_none, line_too_long}
 
 -- ---- a part
 
-quiet_line : (b l : List ℕ) (count : ℕ) → IsOneLine l → count < length (l ++ 10 ∷ []) → runs_in (b ++ take count (l ++ 10 ∷ [])) ≡ runs_in b
+quiet_line : (b l : List ℕ) (count : ℕ) → IsOneLine l → count < length (l ++ 10 ∷ [])
+    → runs_in (b ++ take count (l ++ 10 ∷ [])) ≡ runs_in b
 quiet_line b l count one few =
     let short : count ≤ length l = omega (arith, length-append l (10 ∷ [])) in
-    ap (λ (x : List ℕ). runs_in (b ++ x)) (take-append-le count l (10 ∷ []) short) ∙ no_runs b (take count l) (All-take (λ c. c ≢ 10) count l one)
+    ap (λ (x : List ℕ). runs_in (b ++ x)) (take-append-le count l (10 ∷ []) short)
+    ∙ no_runs b (take count l) (All-take (λ c. c ≢ 10) count l one)
 
 -- a line with its LF
-pub takes_line : (old new : Reading) (l : List ℕ) (before after rs : List Run) → IsOneLine l → after ≡ before ++ rs → All IsRunInRange rs → new.failed ≡ false → new.begun ≤ old.begun + 1
-    → ((b : List ℕ) → HasTaken old b → HasTaken new (b ++ (l ++ 10 ∷ []))) → ((b : List ℕ) → HasTaken old b → runs_in (b ++ (l ++ 10 ∷ [])) ≡ runs_in b ++ rs)
+pub takes_line : (old new : Reading) (l : List ℕ) (before after rs : List Run) → IsOneLine l → after ≡ before ++ rs
+    → All IsRunInRange rs → new.failed ≡ false → new.begun ≤ old.begun + 1
+    → ((b : List ℕ) → HasTaken old b → HasTaken new (b ++ (l ++ 10 ∷ [])))
+    → ((b : List ℕ) → HasTaken old b → runs_in (b ++ (l ++ 10 ∷ [])) ≡ runs_in b ++ rs)
     → TakesPart old new (l ++ 10 ∷ []) [] before after
 takes_line old new l before after rs one added range going counted reader read = record {
   part = l ++ 10 ∷ [];
@@ -41,7 +48,8 @@ takes_line old new l before after rs one added range going counted reader read =
 }
 
 -- bytes of a line
-pub takes_bytes : (old new : Reading) (p : List ℕ) → IsOneLine p → 0 < length p → new.failed ≡ false → new.begun ≤ old.begun + 1
+pub takes_bytes : (old new : Reading) (p : List ℕ) → IsOneLine p → 0 < length p → new.failed ≡ false
+    → new.begun ≤ old.begun + 1
     → ((b : List ℕ) → HasTaken old b → HasTaken new (b ++ p)) → (runs : List Run) → TakesPart old new p [] runs runs
 takes_bytes old new p one some going counted reader runs = record {
   part = p;
@@ -58,7 +66,9 @@ takes_bytes old new p one some going counted reader runs = record {
 }
 
 -- where a line is bad
-pub fails_line : (old new : Reading) (l : List ℕ) (number line : ℕ) → IsOneLine l → line_runs (old.kept ++ l) ≡ None → old.failed ≡ false → old.comment ≡ false → number ≡ line_number_of old → line ≡ number → HasFailed new number → FailsIn old new (l ++ 10 ∷ []) line
+pub fails_line : (old new : Reading) (l : List ℕ) (number line : ℕ) → IsOneLine l → line_runs (old.kept ++ l) ≡ None
+    → old.failed ≡ false → old.comment ≡ false → number ≡ line_number_of old → line ≡ number → HasFailed new number
+    → FailsIn old new (l ++ 10 ∷ []) line
 fails_line old new l number line one bad going plain is same failed = record {
   failed = failed.failed;
   number = failed.begun ∙ sym same;
@@ -68,7 +78,9 @@ fails_line old new l number line one bad going plain is same failed = record {
 }
 
 -- or too long
-pub fails_bytes : (old new : Reading) (p : List ℕ) (number line : ℕ) → IsOneLine p → is_too_long (old.kept ++ p) ≡ true → old.failed ≡ false → old.comment ≡ false → number ≡ line_number_of old → line ≡ number → HasFailed new number → FailsIn old new p line
+pub fails_bytes : (old new : Reading) (p : List ℕ) (number line : ℕ) → IsOneLine p → is_too_long (old.kept ++ p) ≡ true
+    → old.failed ≡ false → old.comment ≡ false → number ≡ line_number_of old → line ≡ number → HasFailed new number
+    → FailsIn old new p line
 fails_bytes old new p number line one long going plain is same failed = record {
   failed = failed.failed;
   number = failed.begun ∙ sym same;
@@ -86,17 +98,20 @@ refused_many r e n is fits = either (cases_lt 81 n)
     either (inr few) = let ok : IsOk r = fits few in absurd (cc)
 
 -- a piece that was parted at an LF
-pub split_of : {R : Type 0} (now : R → List ℕ) (piece line : List ℕ) (found : Option R) (rest : R) → found ≡ Some rest → MatchOption found (piece ≡ line) (λ r. piece ≡ line ++ 10 ∷ now r) → piece ≡ line ++ 10 ∷ now rest
+pub split_of : {R : Type 0} (now : R → List ℕ) (piece line : List ℕ) (found : Option R) (rest : R) → found ≡ Some rest
+    → MatchOption found (piece ≡ line) (λ r. piece ≡ line ++ 10 ∷ now r) → piece ≡ line ++ 10 ∷ now rest
 split_of now piece line (Some r) rest is h = h ∙ ap (λ (x : List ℕ). line ++ 10 ∷ x) (ap now (cc))
 split_of now piece line None rest is h = absurd (cc)
 
-pub fails_before : (old new : Reading) (part piece rest : List ℕ) (line : ℕ) → piece ≡ part ++ rest → FailsIn old new part line → FailsIn old new piece line
+pub fails_before : (old new : Reading) (part piece rest : List ℕ) (line : ℕ) → piece ≡ part ++ rest
+    → FailsIn old new part line → FailsIn old new piece line
 fails_before old new part piece rest line is h = record {
   failed = h.failed;
   number = h.number;
   counted = h.counted;
   reader = λ b t. subst (HasTaken new) (sym (whole b)) (failed_stays new (b ++ part) rest (h.reader b t) h.failed);
-  read = λ b t. ap runs_in (whole b) ∙ (runs_in-append_bad (b ++ part) rest new.begun (failed_at new (b ++ part) (h.reader b t) h.failed) ∙ h.read b t);
+  read = λ b t. ap runs_in (whole b) ∙ (runs_in-append_bad (b ++ part) rest new.begun
+      (failed_at new (b ++ part) (h.reader b t) h.failed) ∙ h.read b t);
 }
   where
     whole : (b : List ℕ) → b ++ piece ≡ (b ++ part) ++ rest
@@ -121,7 +136,8 @@ pub record Feeds (first now : Reading) (piece rest : List ℕ) (old new : List R
   pub in_range : All IsRunInRange runs
   pub read : (b : List ℕ) → HasTaken first b → runs_in (b ++ done) ≡ runs_in b ++ runs
   pub none_yet : length done ≡ 0 → new ≡ old
-  pub not_before : (b : List ℕ) (sooner : ℕ) → HasTaken first b → sooner < length done → length (old ++ runs_after b (take sooner done)) < 64
+  pub not_before : (b : List ℕ) (sooner : ℕ) → HasTaken first b → sooner < length done
+      → length (old ++ runs_after b (take sooner done)) < 64
 
 -- nothing of it
 pub feeds_none : (r : Reading) (piece : List ℕ) (old : List Run) → r.failed ≡ false → Feeds r r piece piece old old
@@ -150,7 +166,8 @@ take_past (suc n) (x ∷ xs) ys h =
     ap (λ (zs : List ℕ). x ∷ zs) (take_past n xs ys (omega arith) ∙ ap (λ (k : ℕ). xs ++ take k ys) (sym less))
 
 -- with one part more
-pub feeds_more : (first now after : Reading) (piece rest left : List ℕ) (old mid new : List Run) → length mid < 64 → Feeds first now piece rest old mid → TakesPart now after rest left mid new → Feeds first after piece left old new
+pub feeds_more : (first now after : Reading) (piece rest left : List ℕ) (old mid new : List Run) → length mid < 64
+    → Feeds first now piece rest old mid → TakesPart now after rest left mid new → Feeds first after piece left old new
 feeds_more first now after piece rest left old mid new room f t = record {
   done = f.done ++ t.part;
   split = f.split ∙ (ap (λ (x : List ℕ). f.done ++ x) t.split ∙ sym (append_assoc f.done t.part left));
@@ -160,37 +177,48 @@ feeds_more first now after piece rest left old mid new room f t = record {
   runs = f.runs ++ t.runs;
   added = t.added ∙ (ap (λ (x : List Run). x ++ t.runs) f.added ∙ append_assoc old f.runs t.runs);
   in_range = All-append IsRunInRange f.runs t.runs f.in_range t.in_range;
-  read = λ b h. sym (ap runs_in (append_assoc b f.done t.part)) ∙ (t.read (b ++ f.done) (f.reader b h) ∙ (ap (λ (x : List Run). x ++ t.runs) (f.read b h) ∙ append_assoc (runs_in b) f.runs t.runs));
+  read = λ b h. sym (ap runs_in (append_assoc b f.done t.part)) ∙ (t.read (b ++ f.done) (f.reader b h)
+      ∙ (ap (λ (x : List Run). x ++ t.runs) (f.read b h) ∙ append_assoc (runs_in b) f.runs t.runs));
   none_yet = λ none. absurd (omega (arith, none, t.some, length-append f.done t.part));
   not_before = λ b sooner h few. either b sooner h few (cases_lt sooner (length f.done));
 }
   where
-    inside : (b : List ℕ) (sooner : ℕ) → HasTaken first b → length f.done ≤ sooner → sooner < length (f.done ++ t.part) → length (old ++ runs_after b (take sooner (f.done ++ t.part))) < 64
+    inside : (b : List ℕ) (sooner : ℕ) → HasTaken first b → length f.done ≤ sooner → sooner < length (f.done ++ t.part)
+        → length (old ++ runs_after b (take sooner (f.done ++ t.part))) < 64
     inside b sooner h much few =
         let count = sooner - length f.done in
-        let front : take sooner (f.done ++ t.part) ≡ f.done ++ take count t.part = take_past sooner f.done t.part much in
+        let front : take sooner (f.done ++ t.part) ≡ f.done ++ take count t.part =
+        take_past sooner f.done t.part much in
         let same : runs_in (b ++ (f.done ++ take count t.part)) ≡ runs_in b ++ f.runs =
-        ap runs_in (sym (append_assoc b f.done (take count t.part))) ∙ (t.quiet (b ++ f.done) count (omega (arith, length-append f.done t.part)) ∙ f.read b h) in
-        let runs : runs_after b (take sooner (f.done ++ t.part)) ≡ f.runs = ap (runs_after b) front ∙ added_runs b (f.done ++ take count t.part) f.runs same in
+        ap runs_in (sym (append_assoc b f.done (take count t.part)))
+        ∙ (t.quiet (b ++ f.done) count (omega (arith, length-append f.done t.part)) ∙ f.read b h) in
+        let runs : runs_after b (take sooner (f.done ++ t.part)) ≡ f.runs =
+        ap (runs_after b) front ∙ added_runs b (f.done ++ take count t.part) f.runs same in
         rw (runs, ← f.added) room
 
-    either : (b : List ℕ) (sooner : ℕ) → HasTaken first b → sooner < length (f.done ++ t.part) → (sooner < length f.done) ⊎ (length f.done ≤ sooner) → length (old ++ runs_after b (take sooner (f.done ++ t.part))) < 64
-    either b sooner h few (inl less) = rw (take-append-le sooner f.done t.part (omega arith)) (f.not_before b sooner h less)
+    either : (b : List ℕ) (sooner : ℕ) → HasTaken first b → sooner < length (f.done ++ t.part) → (sooner
+        < length f.done) ⊎ (length f.done ≤ sooner) → length (old ++ runs_after b (take sooner (f.done ++ t.part))) < 64
+    either b sooner h few (inl less) =
+        rw (take-append-le sooner f.done t.part (omega arith)) (f.not_before b sooner h less)
     either b sooner h few (inr much) = inside b sooner h much few
 
 -- up to where it stopped
-pub takes_to : (first now : Reading) (piece rest : List ℕ) (old new : List Run) (place : ℕ) → Feeds first now piece rest old new → place + length rest ≡ length piece → (length rest ≡ 0) ⊎ (length new ≡ 64)
+pub takes_to : (first now : Reading) (piece rest : List ℕ) (old new : List Run) (place : ℕ)
+    → Feeds first now piece rest old new → place + length rest ≡ length piece → (length rest ≡ 0) ⊎ (length new ≡ 64)
     → (b : List ℕ) → HasTaken first b → TakesTo b piece old new place
 takes_to first now piece rest old new place f count ends b h =
     let is : place ≡ length f.done = omega (arith, ap length f.split, length-append f.done rest, count) in
-    let front : take place piece ≡ f.done = ap (take place) f.split ∙ (ap (λ (n : ℕ). take n (f.done ++ rest)) is ∙ take-append_seam f.done rest) in
+    let front : take place piece ≡ f.done =
+    ap (take place) f.split ∙ (ap (λ (n : ℕ). take n (f.done ++ rest)) is ∙ take-append_seam f.done rest) in
     record {
       within = omega arith;
       good = ap (λ (x : List ℕ). first_bad (b ++ x)) front ∙ goes_on now (b ++ f.done) (f.reader b h) f.going;
-      runs = f.added ∙ ap (λ (x : List Run). old ++ x) (sym (ap (runs_after b) front ∙ added_runs b f.done f.runs (f.read b h)));
+      runs = f.added
+          ∙ ap (λ (x : List Run). old ++ x) (sym (ap (runs_after b) front ∙ added_runs b f.done f.runs (f.read b h)));
       ends = last ends;
       not_before = λ sooner less.
-          let front_of : take sooner piece ≡ take sooner f.done = ap (take sooner) f.split ∙ take-append-le sooner f.done rest (omega arith) in
+          let front_of : take sooner piece ≡ take sooner f.done =
+          ap (take sooner) f.split ∙ take-append-le sooner f.done rest (omega arith) in
           rw front_of (f.not_before b sooner h (omega arith));
     }
   where
@@ -198,33 +226,43 @@ takes_to first now piece rest old new place f count ends b h =
     last (inl none) = inl (omega arith)
     last (inr full) = inr full
 
-pub feeds_reader : (first now : Reading) (piece rest : List ℕ) (old new : List Run) (place : ℕ) → Feeds first now piece rest old new → place + length rest ≡ length piece
+pub feeds_reader : (first now : Reading) (piece rest : List ℕ) (old new : List Run) (place : ℕ)
+    → Feeds first now piece rest old new → place + length rest ≡ length piece
     → (b : List ℕ) → HasTaken first b → HasTaken now (b ++ take place piece)
 feeds_reader first now piece rest old new place f count b h =
     let is : place ≡ length f.done = omega (arith, ap length f.split, length-append f.done rest, count) in
-    let front : take place piece ≡ f.done = ap (take place) f.split ∙ (ap (λ (n : ℕ). take n (f.done ++ rest)) is ∙ take-append_seam f.done rest) in
+    let front : take place piece ≡ f.done =
+    ap (take place) f.split ∙ (ap (λ (n : ℕ). take n (f.done ++ rest)) is ∙ take-append_seam f.done rest) in
     subst (λ (x : List ℕ). HasTaken now (b ++ x)) (sym front) (f.reader b h)
 
 -- or where it failed
-pub breaks_in : (first now after : Reading) (piece rest : List ℕ) (old new : List Run) (line : ℕ) → Feeds first now piece rest old new → FailsIn now after rest line → length new < 64
+pub breaks_in : (first now after : Reading) (piece rest : List ℕ) (old new : List Run) (line : ℕ)
+    → Feeds first now piece rest old new → FailsIn now after rest line → length new < 64
     → (b : List ℕ) → HasTaken first b → BreaksIn b piece old new line
 breaks_in first now after piece rest old new line f t room b h =
-    let whole : b ++ piece ≡ (b ++ f.done) ++ rest = ap (λ (x : List ℕ). b ++ x) f.split ∙ sym (append_assoc b f.done rest) in
+    let whole : b ++ piece ≡ (b ++ f.done) ++ rest =
+    ap (λ (x : List ℕ). b ++ x) f.split ∙ sym (append_assoc b f.done rest) in
     record {
-      bad = ap first_bad whole ∙ (failed_at after ((b ++ f.done) ++ rest) (t.reader (b ++ f.done) (f.reader b h)) t.failed ∙ ap Some t.number);
-      runs = f.added ∙ ap (λ (x : List Run). old ++ x) (sym (added_runs b piece f.runs (ap runs_in whole ∙ (t.read (b ++ f.done) (f.reader b h) ∙ f.read b h))));
+      bad = ap first_bad whole ∙ (failed_at after ((b ++ f.done) ++ rest)
+          (t.reader (b ++ f.done) (f.reader b h)) t.failed ∙ ap Some t.number);
+      runs = f.added ∙ ap (λ (x : List Run). old ++ x)
+          (sym (added_runs b piece f.runs (ap runs_in whole ∙ (t.read (b ++ f.done) (f.reader b h) ∙ f.read b h))));
       room = room;
     }
 
-pub breaks_reader : (first now after : Reading) (piece rest : List ℕ) (old new : List Run) (line : ℕ) → Feeds first now piece rest old new → FailsIn now after rest line → (b : List ℕ) → HasTaken first b → HasTaken after (b ++ piece)
+pub breaks_reader : (first now after : Reading) (piece rest : List ℕ) (old new : List Run) (line : ℕ) → Feeds first now
+    piece rest old new → FailsIn now after rest line → (b : List ℕ) → HasTaken first b → HasTaken after (b ++ piece)
 breaks_reader first now after piece rest old new line f t b h =
-    let whole : b ++ piece ≡ (b ++ f.done) ++ rest = ap (λ (x : List ℕ). b ++ x) f.split ∙ sym (append_assoc b f.done rest) in
+    let whole : b ++ piece ≡ (b ++ f.done) ++ rest =
+    ap (λ (x : List ℕ). b ++ x) f.split ∙ sym (append_assoc b f.done rest) in
     subst (HasTaken after) (sym whole) (t.reader (b ++ f.done) (f.reader b h))
 
 -- where the list is full and wasn't at first, some of the piece was taken
-pub some_taken : (first now : Reading) (piece rest : List ℕ) (old new : List Run) → Feeds first now piece rest old new → length new ≡ 64 → length old < 64 → 0 < length piece - length rest
+pub some_taken : (first now : Reading) (piece rest : List ℕ) (old new : List Run) → Feeds first now piece rest old new
+    → length new ≡ 64 → length old < 64 → 0 < length piece - length rest
 some_taken first now piece rest old new f full room = either (cases_lt 0 (length piece - length rest))
   where
     either : (0 < length piece - length rest) ⊎ (length piece - length rest ≤ 0) → 0 < length piece - length rest
     either (inl some) = some
-    either (inr none) = absurd (omega (arith, ap length (f.none_yet (omega (arith, ap length f.split, length-append f.done rest, none)))))
+    either (inr none) = absurd
+        (omega (arith, ap length (f.none_yet (omega (arith, ap length f.split, length-append f.done rest, none)))))

@@ -1,5 +1,6 @@
 -- The laws of this crate, as its public empty functions state them.
-use Rattle.std.proofs.Common.{◌≡◌, ◌↔◌, ℕ, ◌<◌, ◌≤◌, ap, sym, ◌∙◌, List, [], ◌∷◌, ◌++◌, length, All, flat_map, Option, Some, None, true, false}
+use Rattle.std.proofs.Common.{◌≡◌, ◌↔◌, ℕ, ◌<◌, ◌≤◌, ap, sym, ◌∙◌, List, [], ◌∷◌, ◌++◌, length, All, flat_map, Option}
+use Rattle.std.proofs.Common.{Some, None, true, false}
 use Rattle.std.specs.Str.Lines.{strip_carriage_return}
 use Rattle.taxi_units.specs.declared.event.Event.{Event}
 use Rattle.drive_text.specs.declared.run.Run.{Run}
@@ -22,17 +23,21 @@ use Rattle.drive_text.proofs.Standing as standing
 use Rattle.drive_text.proofs.Table as table
 use Rattle.drive_text.proofs.Wholes as wholes
 
-pub lines_make_the_text : (bytes : List ℕ) (lines : List (List ℕ)) (rest : List ℕ) → ((ended_lines bytes ≡ lines) × (unfinished_line bytes ≡ rest)) ↔ ((bytes ≡ text_of lines rest) × All IsOneLine lines × IsOneLine rest)
+pub lines_make_the_text : (bytes : List ℕ) (lines : List (List ℕ)) (rest : List ℕ) → ((ended_lines bytes ≡ lines)
+    × (unfinished_line bytes ≡ rest)) ↔ ((bytes ≡ text_of lines rest) × All IsOneLine lines × IsOneLine rest)
 lines_make_the_text = lines.lines_make_the_text
 
-pub lines_give_what_the_table_says : (line : List ℕ) (runs : List Run) → (line_runs line ≡ Some runs) ↔ Means (strip_carriage_return line) runs
+pub lines_give_what_the_table_says : (line : List ℕ) (runs : List Run) → (line_runs line ≡ Some runs)
+    ↔ Means (strip_carriage_return line) runs
 lines_give_what_the_table_says = table.line_runs-table
 
 -- of drives_mean_what_their_lines_say
-pub drive_so_far : (bytes : List ℕ) (bad : Option ℕ) (runs : List Run) → ((first_bad bytes ≡ bad) × (runs_in bytes ≡ runs)) ↔ IsReadAs bytes bad runs
+pub drive_so_far : (bytes : List ℕ) (bad : Option ℕ) (runs : List Run)
+    → ((first_bad bytes ≡ bad) × (runs_in bytes ≡ runs)) ↔ IsReadAs bytes bad runs
 drive_so_far = wholes.so_far
 
-pub drive_at_end : (bytes : List ℕ) (runs : List Run) → ((bad_at_end bytes ≡ None) × (runs_in bytes ≡ runs)) ↔ EndsWhole bytes runs
+pub drive_at_end : (bytes : List ℕ) (runs : List Run) → ((bad_at_end bytes ≡ None) × (runs_in bytes ≡ runs))
+    ↔ EndsWhole bytes runs
 drive_at_end = wholes.at_end
 
 -- of more_bytes_add_runs
@@ -52,20 +57,24 @@ events_are_added = cuts.events_added
 pub pieces_give_runs : (pieces : List (List ℕ)) → given_by [] pieces ≡ runs_in (bytes_of pieces)
 pieces_give_runs = cuts.pieces_give
 
-pub pieces_give_events : (pieces : List (List ℕ)) → flat_map run_events (given_by [] pieces) ≡ events_in (bytes_of pieces)
+pub pieces_give_events : (pieces : List (List ℕ))
+    → flat_map run_events (given_by [] pieces) ≡ events_in (bytes_of pieces)
 pieces_give_events pieces = ap (flat_map run_events) (cuts.pieces_give pieces)
 
-pub pieces_give_the_same : (one other : List (List ℕ)) → bytes_of one ≡ bytes_of other → given_by [] one ≡ given_by [] other
+pub pieces_give_the_same : (one other : List (List ℕ)) → bytes_of one ≡ bytes_of other
+    → given_by [] one ≡ given_by [] other
 pieces_give_the_same one other e = cuts.pieces_give one ∙ (ap runs_in e ∙ sym (cuts.pieces_give other))
 
 -- of a_reader_is_known_by_its_bytes
 pub going_reader : (reading : Reading) (b : List ℕ) → HasTaken reading b → reading.failed ≡ false → first_bad b ≡ None
 going_reader = standing.goes_on
 
-pub failed_reader : (reading : Reading) (b : List ℕ) → HasTaken reading b → reading.failed ≡ true → first_bad b ≡ Some reading.begun
+pub failed_reader : (reading : Reading) (b : List ℕ) → HasTaken reading b → reading.failed ≡ true
+    → first_bad b ≡ Some reading.begun
 failed_reader = standing.failed_at
 
-pub failed_reader_stays : (reading : Reading) (b c : List ℕ) → HasTaken reading b → reading.failed ≡ true → HasTaken reading (b ++ c)
+pub failed_reader_stays : (reading : Reading) (b c : List ℕ) → HasTaken reading b → reading.failed ≡ true
+    → HasTaken reading (b ++ c)
 failed_reader_stays = standing.failed_stays
 
 pub same_reader : (reading other : Reading) (b : List ℕ) → HasTaken reading b → HasTaken other b → reading ≡ other
@@ -75,21 +84,27 @@ pub few_lines : (reading : Reading) (b : List ℕ) → HasTaken reading b → re
 few_lines = standing.begun_fits
 
 -- of written_lines_read_back
-pub written_line_gives : (b : List ℕ) (event : Event) → IsInRange event → bad_at_end b ≡ None → runs_in (b ++ event_text event) ≡ runs_in b ++ One event ∷ []
+pub written_line_gives : (b : List ℕ) (event : Event) → IsInRange event → bad_at_end b ≡ None
+    → runs_in (b ++ event_text event) ≡ runs_in b ++ One event ∷ []
 written_line_gives = back.runs_in-event_text
 
-pub written_line_is_good : (b : List ℕ) (event : Event) → IsInRange event → bad_at_end b ≡ None → bad_at_end (b ++ event_text event) ≡ None
+pub written_line_is_good : (b : List ℕ) (event : Event) → IsInRange event → bad_at_end b ≡ None
+    → bad_at_end (b ++ event_text event) ≡ None
 written_line_is_good = back.bad_at_end-event_text
 
 -- of bytes_tell_how_a_drive_ends
-pub whole_drive_ends : (drive : List ℕ) → length drive < stream_limit → bad_at_end drive ≡ None → ReachesEnd drive drive [] Whole
+pub whole_drive_ends : (drive : List ℕ) → length drive < stream_limit → bad_at_end drive ≡ None
+    → ReachesEnd drive drive [] Whole
 whole_drive_ends = ends.whole
 
-pub unfinished_drive_ends : (drive : List ℕ) (line : ℕ) → length drive < stream_limit → bad_at_end drive ≡ Some line → ReachesEnd drive drive [] (BadAt line)
+pub unfinished_drive_ends : (drive : List ℕ) (line : ℕ) → length drive < stream_limit → bad_at_end drive ≡ Some line
+    → ReachesEnd drive drive [] (BadAt line)
 unfinished_drive_ends = ends.unfinished
 
-pub bad_drive_ends : (taken left : List ℕ) (line : ℕ) → length taken ≤ stream_limit → first_bad taken ≡ Some line → ReachesEnd (taken ++ left) taken left (BadAt line)
+pub bad_drive_ends : (taken left : List ℕ) (line : ℕ) → length taken ≤ stream_limit → first_bad taken ≡ Some line
+    → ReachesEnd (taken ++ left) taken left (BadAt line)
 bad_drive_ends = ends.bad
 
-pub endless_drive_ends : (taken left : List ℕ) → length taken ≡ stream_limit → first_bad taken ≡ None → ReachesEnd (taken ++ left) taken left Endless
+pub endless_drive_ends : (taken left : List ℕ) → length taken ≡ stream_limit → first_bad taken ≡ None
+    → ReachesEnd (taken ++ left) taken left Endless
 endless_drive_ends = ends.endless

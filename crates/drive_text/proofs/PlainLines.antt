@@ -1,5 +1,7 @@
 -- Lines without a byte below the blank, and those of them that are read in one pass.
-use Rattle.std.proofs.Common.{◌≡◌, ◌≢◌, ℕ, ◌+◌, ◌*◌, ◌-◌, ◌^◌, ◌<◌, ◌≤◌, true, false, List, [], ◌∷◌, ◌++◌, length, length-take, length-drop, take_all, take-append-drop, get_or, take, drop, refl, ap, sym, ◌∙◌, subst, arith, eqb, append_assoc, Some, codes, All}
+use Rattle.std.proofs.Common.{◌≡◌, ◌≢◌, ℕ, ◌+◌, ◌*◌, ◌-◌, ◌^◌, ◌<◌, ◌≤◌, true, false, List, [], ◌∷◌, ◌++◌, length}
+use Rattle.std.proofs.Common.{length-take, length-drop, take_all, take-append-drop, get_or, take, drop, refl, ap, sym}
+use Rattle.std.proofs.Common.{◌∙◌, subst, arith, eqb, append_assoc, Some, codes, All}
 use Rattle.std.specs.Char.{is_ascii_digit, digit_value}
 use Rattle.std.specs.Str.Lines.{strip_carriage_return}
 use Rattle.std.specs.Str.Parse.{AllDigits, digits_value}
@@ -58,7 +60,8 @@ no_lf t p = λ k d lt. let c = p k d lt in λ e. omega arith
 
 -- a plain line has the run that the table says
 pub plain_run : (text : List ℕ) (run : Run) → IsPlain text → Means text (run ∷ []) → line_runs text ≡ Some (run ∷ [])
-plain_run text run plain means = (line_runs-table text (run ∷ [])).1 (subst (λ (t : List ℕ). Means t (run ∷ [])) (sym (strip_plain text plain)) means)
+plain_run text run plain means = (line_runs-table text (run ∷ [])).1
+    (subst (λ (t : List ℕ). Means t (run ∷ [])) (sym (strip_plain text plain)) means)
 
 -- ---- read in one pass
 
@@ -67,29 +70,36 @@ digit_value_is : (c : ℕ) → is_ascii_digit c ≡ true → digit_value c ≡ c
 digit_value_is c h = grind (arith, nat_tests)
 
 -- four digits leave room for one more
-pub room_for_a_digit : (bytes : List ℕ) (count number : ℕ) → count < 5 → count < length bytes → AllDigits 10 (take count bytes) → digits_value 10 (take count bytes) ≡ number → number < 10000
+pub room_for_a_digit : (bytes : List ℕ) (count number : ℕ) → count < 5 → count < length bytes
+    → AllDigits 10 (take count bytes) → digits_value 10 (take count bytes) ≡ number → number < 10000
 room_for_a_digit bytes count number few within digits value =
-    let below : digits_value 10 (take count bytes) < 10 ^ length (take count bytes) = digits_value-lt 10 (take count bytes) digits in
+    let below : digits_value 10 (take count bytes) < 10 ^ length (take count bytes) =
+    digits_value-lt 10 (take count bytes) digits in
     let short : length (take count bytes) ≤ 4 = omega (arith, length-take count bytes) in
     let most : 10 ^ length (take count bytes) ≤ 10 ^ 4 = pow-le-pow_right (omega arith) short in
     omega arith
 
 -- a digit more in front
-pub digit_more : (bytes : List ℕ) (count number : ℕ) → count < length bytes → is_ascii_digit (get_or bytes count 0) ≡ true → AllDigits 10 (take count bytes) → digits_value 10 (take count bytes) ≡ number
-    → AllDigits 10 (take (count + 1) bytes) × (digits_value 10 (take (count + 1) bytes) ≡ number * 10 + (get_or bytes count 0 - 48))
+pub digit_more : (bytes : List ℕ) (count number : ℕ) → count < length bytes → is_ascii_digit (get_or bytes count 0)
+    ≡ true → AllDigits 10 (take count bytes) → digits_value 10 (take count bytes) ≡ number
+    → AllDigits 10 (take (count + 1) bytes)
+    × (digits_value 10 (take (count + 1) bytes) ≡ number * 10 + (get_or bytes count 0 - 48))
 digit_more bytes count number within digit digits value =
     let c = get_or bytes count 0 in
     let is = digit_value_is c digit in
     let below : digit_value c < 10 = grind (arith, nat_tests) in (
       digits_more 10 bytes count within digits below,
-      digits_value_more 10 bytes count within ∙ (ap (λ (n : ℕ). n * 10 + digit_value c) value ∙ ap (λ (n : ℕ). number * 10 + n) is),
+      digits_value_more 10 bytes count within
+          ∙ (ap (λ (n : ℕ). n * 10 + digit_value c) value ∙ ap (λ (n : ℕ). number * 10 + n) is),
     )
 
 -- the digits in front are a number, with the rest behind them
-pub begins_with_number : (bytes : List ℕ) (count number : ℕ) → count ≢ 0 → count ≤ length bytes → count ≤ 5 → AllDigits 10 (take count bytes) → digits_value 10 (take count bytes) ≡ number
+pub begins_with_number : (bytes : List ℕ) (count number : ℕ) → count ≢ 0 → count ≤ length bytes → count ≤ 5
+    → AllDigits 10 (take count bytes) → digits_value 10 (take count bytes) ≡ number
     → BeginsWithNumber bytes number (take (length bytes - count) (drop count bytes))
 begins_with_number bytes count number some within few digits value =
-    let whole : take (length bytes - count) (drop count bytes) ≡ drop count bytes = take_all (length bytes - count) (drop count bytes) (omega (arith, length-drop count bytes)) in
+    let whole : take (length bytes - count) (drop count bytes) ≡ drop count bytes =
+    take_all (length bytes - count) (drop count bytes) (omega (arith, length-drop count bytes)) in
     record {
       digits = take count bytes;
       split = sym (take-append-drop count bytes) ∙ ap (λ (x : List ℕ). take count bytes ++ x) (sym whole);
@@ -102,15 +112,23 @@ begins_with_number bytes count number some within few digits value =
     }
 
 -- a number of a range
-in_range : (low high : ℕ) (bytes : List ℕ) (number : ℕ) (rest : List ℕ) (h : BeginsWithNumber bytes number rest) → low ≤ number → number ≤ high → IsNumberIn low high h.digits number
+in_range : (low high : ℕ) (bytes : List ℕ) (number : ℕ) (rest : List ℕ) (h : BeginsWithNumber bytes number rest)
+    → low ≤ number → number ≤ high → IsNumberIn low high h.digits number
 in_range low high bytes number rest h above below = record {
-  written = record { numeral = h.written.numeral; some = h.written.some; few = omega (arith, h.written.few); value = h.written.value };
+  written = record {
+    numeral = h.written.numeral;
+    some = h.written.some;
+    few = omega (arith, h.written.few);
+    value = h.written.value;
+  };
   above = above;
   below = below;
 }
 
-begins : (line : List ℕ) (run : Run) (bytes rest : List ℕ) → bytes ≡ line ++ 10 ∷ rest → IsPlain line → Means line (run ∷ []) → BeginsWithLine bytes run rest
-begins line run bytes rest split plain means = record { line = line; split = split; one = no_lf line plain; gives = plain_run line run plain means }
+begins : (line : List ℕ) (run : Run) (bytes rest : List ℕ) → bytes ≡ line ++ 10 ∷ rest → IsPlain line
+    → Means line (run ∷ []) → BeginsWithLine bytes run rest
+begins line run bytes rest split plain means =
+    record { line = line; split = split; one = no_lf line plain; gives = plain_run line run plain means }
 
 -- the byte in front of bytes, and what stands behind it
 in_front : (bytes : List ℕ) (byte : ℕ) → 1 ≤ length bytes → get_or bytes 0 0 ≡ byte
@@ -185,7 +203,8 @@ intervals_text bytes behind digits rest p n h blank few k =
     let parts : bytes ≡ fields ++ 10 ∷ rest =
     h.split ∙ (ap (λ (x : List ℕ). h.digits ++ x) blank
     ∙ sym (append_assoc h.digits (codes " " ++ digits) (10 ∷ rest))) in
-    let second : IsPlain (codes " " ++ digits) = more_plain 32 digits (omega arith) (plain_digits digits k.written.numeral.1) in
+    let second : IsPlain (codes " " ++ digits) =
+    more_plain 32 digits (omega arith) (plain_digits digits k.written.numeral.1) in
     let numbers : IsPlain fields =
     All-append (λ x. 32 ≤ x) h.digits (codes " " ++ digits) (plain_digits h.digits h.written.numeral.1) second in
     begins (codes "I " ++ fields) (Many p n) (codes "I " ++ bytes) rest (ap (λ (x : List ℕ). codes "I " ++ x) parts)
@@ -242,15 +261,21 @@ next_number : (r : Reading) → r.kept ≡ [] → line_number_of r ≡ r.begun +
 next_number r none = rw none refl
 
 -- a reader between two lines takes a plain line
-pub takes_plain : (old new : Reading) (piece rest : List ℕ) (run : Run) (before after : List Run) → BeginsWithLine piece run rest → length old.kept ≡ 0 → old.failed ≡ false → old.comment ≡ false
-    → new ≡ record { begun = old.begun + 1; kept = old.kept; comment = old.comment; failed = old.failed } → after ≡ before ++ run ∷ [] → TakesPart old new piece rest before after
+pub takes_plain : (old new : Reading) (piece rest : List ℕ) (run : Run) (before after : List Run)
+    → BeginsWithLine piece run rest → length old.kept ≡ 0 → old.failed ≡ false → old.comment ≡ false
+    → new ≡ record { begun = old.begun + 1; kept = old.kept; comment = old.comment; failed = old.failed }
+    → after ≡ before ++ run ∷ [] → TakesPart old new piece rest before after
 takes_plain old new piece rest run before after h short going plain is added =
     let none : old.kept ≡ [] = no_bytes old.kept short in
-    let good : line_runs (old.kept ++ h.line) ≡ Some (run ∷ []) = ap (λ (x : List ℕ). line_runs (x ++ h.line)) none ∙ h.gives in
+    let good : line_runs (old.kept ++ h.line) ≡ Some (run ∷ []) =
+    ap (λ (x : List ℕ). line_runs (x ++ h.line)) none ∙ h.gives in
     let failed = ap (λ (r : Reading). r.failed) is ∙ going in
     let begun : new.begun ≡ old.begun + 1 = ap (λ (r : Reading). r.begun) is in
     let number : new.begun ≡ line_number_of old = begun ∙ sym (next_number old none) in
-    let t : TakesPart old new (h.line ++ 10 ∷ []) [] before after = takes_line old new h.line before after (run ∷ []) h.one added (runs_in_range h.line (run ∷ []) h.gives) failed (omega arith)
-    (λ b taken. line_is_good old new b h.line (run ∷ []) h.one going plain good number (ap (λ (r : Reading). r.kept) is ∙ none) (ap (λ (r : Reading). r.comment) is ∙ plain) failed taken)
+    let t : TakesPart old new (h.line ++ 10 ∷ []) [] before after = takes_line old new h.line before after
+    (run ∷ []) h.one added (runs_in_range h.line (run ∷ []) h.gives) failed (omega arith)
+    (λ b taken. line_is_good old new b h.line (run ∷ []) h.one going plain good number
+    (ap (λ (r : Reading). r.kept) is ∙ none) (ap (λ (r : Reading). r.comment) is ∙ plain) failed taken)
     (λ b taken. line_gives old b h.line (run ∷ []) h.one going plain good taken) in
-    takes_before old new (h.line ++ 10 ∷ []) piece rest before after (h.split ∙ sym (append_assoc h.line (10 ∷ []) rest)) t
+    takes_before old new (h.line ++ 10 ∷ []) piece rest before after
+    (h.split ∙ sym (append_assoc h.line (10 ∷ []) rest)) t

@@ -6,7 +6,8 @@ use Rattle.drive_text.specs.declared.run.Run.{Run}
 use Rattle.drive_text.specs.Fields.{line_runs}
 use Rattle.drive_text.specs.Ranges.{IsRunInRange}
 use Rattle.drive_text.specs.Table.{Means}
-use Rattle.drive_text.specs.Table.Means.{empty, comment, up, down, clock, pulses, tick, intervals, hire, stop, clear, position, zone, extra}
+use Rattle.drive_text.specs.Table.Means.{empty, comment, up, down, clock, pulses, tick, intervals, hire, stop, clear}
+use Rattle.drive_text.specs.Table.Means.{position, zone, extra}
 use Rattle.drive_text.proofs.Table.{line_runs-table}
 
 one : (run : Run) → IsRunInRange run → All IsRunInRange (run ∷ [])

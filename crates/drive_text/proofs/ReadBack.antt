@@ -1,5 +1,6 @@
 -- The line of an event is read as that event.
-use Rattle.std.proofs.Common.{◌≡◌, ℕ, ◌+◌, ◌^◌, ◌<◌, ◌≤◌, Bool, true, false, cond, List, [], ◌∷◌, ◌++◌, length, refl, ap, ◌∙◌, arith, eqb, Option, Some, None, codes, decimal}
+use Rattle.std.proofs.Common.{◌≡◌, ℕ, ◌+◌, ◌^◌, ◌<◌, ◌≤◌, Bool, true, false, cond, List, [], ◌∷◌, ◌++◌, length, refl}
+use Rattle.std.proofs.Common.{ap, ◌∙◌, arith, eqb, Option, Some, None, codes, decimal}
 use Rattle.std.proofs.lemmas.Bool.{eqb-true}
 use Rattle.std.proofs.lemmas.Fmt.{decimal_is_IsNumeral_wide}
 use Rattle.taxi_units.specs.Digits.{IsNumberIn}
@@ -51,7 +52,8 @@ plain_decimal : (n : ℕ) → n < 10 ^ 12 → IsPlain (decimal n)
 plain_decimal n small = plain_digits (decimal n) (decimal_is_IsNumeral_wide n (omega arith)).0.1
 
 number_plain : (c n : ℕ) → 32 ≤ c → n < 10 ^ 12 → IsPlain (c ∷ 32 ∷ decimal n)
-number_plain c n h small = more_plain c (32 ∷ decimal n) h (more_plain 32 (decimal n) (omega arith) (plain_decimal n small))
+number_plain c n h small =
+    more_plain c (32 ∷ decimal n) h (more_plain 32 (decimal n) (omega arith) (plain_decimal n small))
 
 key_plain : (key : Key) → IsKeyInRange key → IsPlain (key_text key)
 unfolding key_text
@@ -69,12 +71,14 @@ fields_plain Down h = one_plain 68 (omega arith)
 fields_plain (Pulses n) h = number_plain 80 n (omega arith) (omega arith)
 fields_plain Tick h = one_plain 84 (omega arith)
 fields_plain (Clock n) h = number_plain 67 n (omega arith) (omega arith)
-fields_plain (events.Key key) h = more_plain 75 (32 ∷ key_text key) (omega arith) (more_plain 32 (key_text key) (omega arith) (key_plain key h))
+fields_plain (events.Key key) h =
+    more_plain 75 (32 ∷ key_text key) (omega arith) (more_plain 32 (key_text key) (omega arith) (key_plain key h))
 
 line_read : (event : Event) → IsInRange event → line_runs (event_fields event) ≡ Some (One event ∷ [])
 line_read event h = plain_run (event_fields event) (One event) (fields_plain event h) (fields_mean event h)
 
-ends_by : (o : Option ℕ) (long empty : Bool) (k m : ℕ) → or_else (or_else o (cond long (Some k) None)) (cond empty None (Some m)) ≡ None → (o ≡ None) × (empty ≡ true)
+ends_by : (o : Option ℕ) (long empty : Bool) (k m : ℕ)
+    → or_else (or_else o (cond long (Some k) None)) (cond empty None (Some m)) ≡ None → (o ≡ None) × (empty ≡ true)
 ends_by (Some n) long empty k m e = cc
 ends_by None true empty k m e = cc
 ends_by None false true k m e = (refl, refl)
@@ -85,22 +89,30 @@ empty_is [] e = refl
 empty_is (x ∷ xs) e = let none : length (x ∷ xs) ≡ 0 = eqb-true (length (x ∷ xs)) 0 e in absurd (omega arith)
 
 -- a good line after ended good lines
-good_line : (b t : List ℕ) (rs : List Run) → IsPlain t → line_runs t ≡ Some rs → bad_at_end b ≡ None → (runs_in (b ++ (t ++ 10 ∷ [])) ≡ runs_in b ++ rs) × (bad_at_end (b ++ (t ++ 10 ∷ [])) ≡ None)
+good_line : (b t : List ℕ) (rs : List Run) → IsPlain t → line_runs t ≡ Some rs → bad_at_end b ≡ None
+    → (runs_in (b ++ (t ++ 10 ∷ [])) ≡ runs_in b ++ rs) × (bad_at_end (b ++ (t ++ 10 ∷ [])) ≡ None)
 good_line b t rs p good whole =
-    let h = ends_by (first_bad_line (ended_lines b)) (is_too_long (unfinished_line b)) (eqb (length (unfinished_line b)) 0) (length (ended_lines b) + 1) (length (ended_lines b) + 1) whole in
+    let h = ends_by (first_bad_line (ended_lines b)) (is_too_long (unfinished_line b))
+    (eqb (length (unfinished_line b)) 0) (length (ended_lines b) + 1) (length (ended_lines b) + 1) whole in
     let ends = line_ends b t (no_lf t p) in
     let line : unfinished_line b ++ t ≡ t = ap (λ (l : List ℕ). l ++ t) (empty_is (unfinished_line b) h.1) in
-    let ended : ended_lines (b ++ (t ++ 10 ∷ [])) ≡ ended_lines b ++ t ∷ [] = ends.0 ∙ ap (λ (x : List ℕ). ended_lines b ++ x ∷ []) line in
+    let ended : ended_lines (b ++ (t ++ 10 ∷ [])) ≡ ended_lines b ++ t ∷ [] =
+    ends.0 ∙ ap (λ (x : List ℕ). ended_lines b ++ x ∷ []) line in
     let unfinished : unfinished_line (b ++ (t ++ 10 ∷ [])) ≡ [] = ends.1 in
     let none : first_bad_line (ended_lines b ++ t ∷ []) ≡ None = first_bad_line-good (ended_lines b) t rs h.0 good in (
-      ap runs_of_lines ended ∙ (runs_of_lines-good (ended_lines b) (t ∷ []) h.0 ∙ ap (λ (l : List Run). runs_in b ++ l) (runs_of_lines-one t rs good)),
+      ap runs_of_lines ended ∙ (runs_of_lines-good (ended_lines b) (t ∷ []) h.0
+          ∙ ap (λ (l : List Run). runs_in b ++ l) (runs_of_lines-one t rs good)),
       rw (ended, unfinished, none) refl,
     )
 
 -- after ended lines of which none is bad, the line of an event adds this event alone
-pub runs_in-event_text : (b : List ℕ) (event : Event) → IsInRange event → bad_at_end b ≡ None → runs_in (b ++ event_text event) ≡ runs_in b ++ One event ∷ []
-runs_in-event_text b event h whole = (good_line b (event_fields event) (One event ∷ []) (fields_plain event h) (line_read event h) whole).0
+pub runs_in-event_text : (b : List ℕ) (event : Event) → IsInRange event → bad_at_end b ≡ None
+    → runs_in (b ++ event_text event) ≡ runs_in b ++ One event ∷ []
+runs_in-event_text b event h whole =
+    (good_line b (event_fields event) (One event ∷ []) (fields_plain event h) (line_read event h) whole).0
 
 -- and is not bad
-pub bad_at_end-event_text : (b : List ℕ) (event : Event) → IsInRange event → bad_at_end b ≡ None → bad_at_end (b ++ event_text event) ≡ None
-bad_at_end-event_text b event h whole = (good_line b (event_fields event) (One event ∷ []) (fields_plain event h) (line_read event h) whole).1
+pub bad_at_end-event_text : (b : List ℕ) (event : Event) → IsInRange event → bad_at_end b ≡ None
+    → bad_at_end (b ++ event_text event) ≡ None
+bad_at_end-event_text b event h whole =
+    (good_line b (event_fields event) (One event ∷ []) (fields_plain event h) (line_read event h) whole).1

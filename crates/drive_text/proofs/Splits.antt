@@ -1,5 +1,6 @@
 -- One byte more, by the lines that it leaves.
-use Rattle.std.proofs.Common.{◌≡◌, ◌≢◌, ℕ, ◌+◌, ◌<◌, ◌≤◌, Bool, true, false, cond, List, [], ◌∷◌, ◌++◌, length, refl, ap, sym, ◌∙◌, arith, eqb}
+use Rattle.std.proofs.Common.{◌≡◌, ◌≢◌, ℕ, ◌+◌, ◌<◌, ◌≤◌, Bool, true, false, cond, List, [], ◌∷◌, ◌++◌, length, refl}
+use Rattle.std.proofs.Common.{ap, sym, ◌∙◌, arith, eqb}
 use Rattle.std.specs.List.{slice_split, onto_first}
 use Rattle.std.proofs.lemmas.List.Splits.{length-slice_split}
 use Rattle.std.proofs.lemmas.Bool.{ne_eqb}
@@ -25,7 +26,8 @@ onto_last_of_more : (c : ℕ) (ps : List (List ℕ)) → 0 < length ps → [] �
 onto_last_of_more c [] some = absurd (omega arith)
 onto_last_of_more c (p ∷ ps) some = refl
 
-other_by : (t : Bool) (x c : ℕ) (ps : List (List ℕ)) → 0 < length ps → cond t ([] ∷ onto_last c ps) (onto_first x (onto_last c ps)) ≡ onto_last c (cond t ([] ∷ ps) (onto_first x ps))
+other_by : (t : Bool) (x c : ℕ) (ps : List (List ℕ)) → 0 < length ps
+    → cond t ([] ∷ onto_last c ps) (onto_first x (onto_last c ps)) ≡ onto_last c (cond t ([] ∷ ps) (onto_first x ps))
 other_by true x c ps some = onto_last_of_more c ps some
 other_by false x c ps some = onto_both x c ps
 
@@ -33,7 +35,8 @@ parts_other : (b : List ℕ) (c : ℕ) → eqb c 10 ≡ false → parts (b ++ c 
 parts_other [] c other = rw other refl
 parts_other (x ∷ xs) c other = rw (parts_other xs c other) (other_by (eqb x 10) x c (parts xs) (some_parts xs))
 
-first_by : (t : Bool) (x : ℕ) (ps : List (List ℕ)) → 0 < length ps → cond t ([] ∷ (ps ++ [] ∷ [])) (onto_first x (ps ++ [] ∷ [])) ≡ cond t ([] ∷ ps) (onto_first x ps) ++ [] ∷ []
+first_by : (t : Bool) (x : ℕ) (ps : List (List ℕ)) → 0 < length ps
+    → cond t ([] ∷ (ps ++ [] ∷ [])) (onto_first x (ps ++ [] ∷ [])) ≡ cond t ([] ∷ ps) (onto_first x ps) ++ [] ∷ []
 first_by t x [] some = absurd (omega arith)
 first_by true x (p ∷ ps) some = refl
 first_by false x (p ∷ ps) some = refl
@@ -66,10 +69,12 @@ unfinished-lf b = ap last_of (parts_lf b) ∙ back_of (parts b) []
 
 -- another byte goes on with it
 pub ended-other : (b : List ℕ) (c : ℕ) → c ≢ 10 → ended_lines (b ++ c ∷ []) ≡ ended_lines b
-ended-other b c other = ap all_but_last (parts_other b c (ne_eqb c 10 other)) ∙ front_of (all_but_last (parts b)) (last_of (parts b) ++ c ∷ [])
+ended-other b c other = ap all_but_last (parts_other b c (ne_eqb c 10 other))
+    ∙ front_of (all_but_last (parts b)) (last_of (parts b) ++ c ∷ [])
 
 pub unfinished-other : (b : List ℕ) (c : ℕ) → c ≢ 10 → unfinished_line (b ++ c ∷ []) ≡ unfinished_line b ++ c ∷ []
-unfinished-other b c other = ap last_of (parts_other b c (ne_eqb c 10 other)) ∙ back_of (all_but_last (parts b)) (last_of (parts b) ++ c ∷ [])
+unfinished-other b c other =
+    ap last_of (parts_other b c (ne_eqb c 10 other)) ∙ back_of (all_but_last (parts b)) (last_of (parts b) ++ c ∷ [])
 
 -- lines that are ended, and bytes of the one that isn't
 abbrev size : List (List ℕ) → ℕ

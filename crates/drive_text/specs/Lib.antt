@@ -2,11 +2,11 @@ pub mod Content
 pub mod Drive
 pub mod Ending
 pub mod Fields
-pub mod Keeping
 pub mod Lines
 pub mod Part
 pub mod Plain
 pub mod Ranges
+pub mod ReaderState
 pub mod Reading
 pub mod Runs
 pub mod Table

@@ -3,7 +3,7 @@
 use Rattle.std.specs.Prelude.{◌≡◌, ◌⊎◌, ℕ, ◌<◌, ◌≤◌, List, ◌++◌, length, take, None, Some}
 use Rattle.drive_text.specs.declared.run.Run.{Run}
 use Rattle.drive_text.specs.Drive.{first_bad, runs_after}
-pub use Rattle.drive_text.specs.Keeping.{Reading, StandsIn, HasFailed, HasTakenLines, HasTaken, HasSense}
+pub use Rattle.drive_text.specs.ReaderState.{Reading, StandsIn, HasFailed, HasTakenLines, HasTaken, HasSense}
 
 -- a reader that has taken `before` takes a piece up to a place if no line is bad up to there, the runs of the bytes
 -- taken are appended to the list, and that place is the first at which the list has 64 runs, or else the piece's end

@@ -74,7 +74,7 @@ impl State {
                 Ok(rest)
             }
             None => {
-                self.keep(line)?;
+                self.add_part(line)?;
                 Ok(&line[line.len()..])
             }
         }
@@ -116,7 +116,7 @@ impl State {
 
     /// Takes bytes of a line that doesn't end in them.
     #[inline(never)]
-    fn keep(&mut self, part: &[u8]) -> Result<(), BadLine>
+    fn add_part(&mut self, part: &[u8]) -> Result<(), BadLine>
         requires sense { HasSense (reading_of self.old) }
         requires going { self.old.failed ≡ false }
         requires few { self.old.begun + 1 < 2 ^ 64 }

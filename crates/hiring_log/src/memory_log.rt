@@ -2,7 +2,7 @@
 ghost use Rattle.std.specs.Prelude.{◌≡◌, ◌≤◌, [], length, IfOk};
 ghost use Rattle.outside.specs.Calls.{IsInSome};
 ghost use Rattle.outside.specs.Disk.{SameBut, log_size};
-ghost use Rattle.outside.specs.MemoryBoard.{IsNew, new_board, held_inside, left_since_of};
+ghost use Rattle.outside.specs.MemoryBoard.{IsNew, new_board, contents_inside, left_since_of};
 
 use outside::{Fill, LOG_SIZE, MemoryLog};
 use std::alloc::Global;
@@ -22,11 +22,12 @@ pub fn memory_log(alloc: Global, image: &[u8], fail: &[u64]) -> Result<MemoryLog
 pub fn cut_of(alloc: Global, log: &MemoryLog, call: u64, fill: Fill) -> Result<Vec<u8>, NoMemory>
     requires { call ≤ length log.now.state.calls }
     ensures size { IfOk result (λ cut. length cut.items ≡ log_size) }
-    ensures left { IfOk result (λ cut. left_since_of log.now.state 0 cut.items (held_inside log.now.state call).text) }
-    ensures inside { IfOk result (λ cut. SameBut (IsInSome (held_inside log.now.state call).ranges)
-        (held_inside log.now.state call).image cut.items) }
-    ensures settled { IfOk result (λ cut. (held_inside log.now.state call).ranges ≡ []
-        → cut.items ≡ (held_inside log.now.state call).image) }
+    ensures left { IfOk result
+        (λ cut. left_since_of log.now.state 0 cut.items (contents_inside log.now.state call).text) }
+    ensures inside { IfOk result (λ cut. SameBut (IsInSome (contents_inside log.now.state call).ranges)
+        (contents_inside log.now.state call).image cut.items) }
+    ensures settled { IfOk result (λ cut. (contents_inside log.now.state call).ranges ≡ []
+        → cut.items ≡ (contents_inside log.now.state call).image) }
     ensures zero { IfOk result (λ cut. call ≡ 0 → cut.items ≡ log.now.state.start) }
 {
     let mut image = room(alloc)?;

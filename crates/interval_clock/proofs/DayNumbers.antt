@@ -18,23 +18,28 @@ days_of_years-rise year later h =
     ]
 
 -- a date from 1970 on has its day number
-pub epoch_day_is_number : (d : Date) (year : ℕ) → 1970 ≤ year → d.year ≡ pos year → epoch_day d ≡ pos (day_number_of year d.month d.day)
+pub epoch_day_is_number : (d : Date) (year : ℕ) → 1970 ≤ year → d.year ≡ pos year
+    → epoch_day d ≡ pos (day_number_of year d.month d.day)
 epoch_day_is_number d year from same =
     omega (arith, signed_arith, (epoch_day_is_date d year same).count, days_of_years-rise 1970 year from)
 
 -- the calendar has the dates of jiff
-pub is_date_there : (d : Date) (year month date : ℕ) → d.year ≡ pos year → d.month ≡ month → d.day ≡ date → is_date year month date ≡ true
+pub is_date_there : (d : Date) (year month date : ℕ) → d.year ≡ pos year → d.month ≡ month → d.day ≡ date
+    → is_date year month date ≡ true
 is_date_there d year month date e f g =
     let there = epoch_day_is_date d year e in
     let within : (1 ≤ date) × (date ≤ days_of_month year month) = rw (← g, ← f) there.date_in in
     let months : (1 ≤ month) × (month ≤ 12) = rw (← f) d.month_in in
-    both_true (le-leb 1 month months.0) (both_true (le-leb month 12 months.1) (both_true (le-leb 1 date within.0) (le-leb date (days_of_month year month) within.1)))
+    both_true (le-leb 1 month months.0) (both_true (le-leb month 12 months.1)
+    (both_true (le-leb 1 date within.0) (le-leb date (days_of_month year month) within.1)))
 
 -- a date of jiff, by its numbers
-pub number_there : (d : Date) (year month date : ℕ) → 1970 ≤ year → d.year ≡ pos year → d.month ≡ month → d.day ≡ date → epoch_day d ≡ pos (day_number_of year month date)
+pub number_there : (d : Date) (year month date : ℕ) → 1970 ≤ year → d.year ≡ pos year → d.month ≡ month → d.day ≡ date
+    → epoch_day d ≡ pos (day_number_of year month date)
 number_there d year month date from e f g = rw (← f, ← g) (epoch_day_is_number d year from e)
 
-pub date_there : (d : Date) (day : ℤ) (year month date : ℕ) → day ≡ epoch_day d → d.year ≡ pos year → d.month ≡ month → d.day ≡ date → IsDateOf day year month date
+pub date_there : (d : Date) (day : ℤ) (year month date : ℕ) → day ≡ epoch_day d → d.year ≡ pos year → d.month ≡ month
+    → d.day ≡ date → IsDateOf day year month date
 date_there d day year month date same e f g = rw (same, ← f, ← g) (epoch_day_is_date d year e)
 
 -- the whole hours of n days
@@ -44,7 +49,8 @@ hours_of_days n =
     ap pos hours
 
 -- the same, of the time between two dates
-pub whole_hours : (n : ℕ) (day start nanos hours : ℤ) → day ≡ pos n → start ≡ pos 0 → nanos ≡ (day -ℤ start) *ℤ pos 86400000000000 → hours ≡ int_div nanos (pos 3600000000000) → hours ≡ pos (n * 24)
+pub whole_hours : (n : ℕ) (day start nanos hours : ℤ) → day ≡ pos n → start ≡ pos 0
+    → nanos ≡ (day -ℤ start) *ℤ pos 86400000000000 → hours ≡ int_div nanos (pos 3600000000000) → hours ≡ pos (n * 24)
 whole_hours n day start nanos hours d s e h =
     let apart : day -ℤ start ≡ pos n = omega (arith, signed_arith) in
     rw (h, e, apart) (hours_of_days n)
@@ -54,7 +60,8 @@ pub days_of_hours : (n : ℕ) → int_div (pos (n * 24)) (pos 24) ≡ pos n
 days_of_hours n = let days : n * 24 / 24 ≡ n = omega arith in ap pos days
 
 -- a date of the calendar from 1970 on is that of its day number
-pub is_date_of_number : (year month date : ℕ) → 1970 ≤ year → IsDate year month date → IsDateOf (pos (day_number_of year month date)) year month date
+pub is_date_of_number : (year month date : ℕ) → 1970 ≤ year → IsDate year month date
+    → IsDateOf (pos (day_number_of year month date)) year month date
 is_date_of_number year month date from is = record {
   month_in = is.0;
   date_in = (is.1, is.2);
@@ -62,5 +69,6 @@ is_date_of_number year month date from is = record {
 }
 
 -- and of no other
-pub one_day_number : (day : ℤ) (year month date : ℕ) → 1970 ≤ year → IsDateOf day year month date → day ≡ pos (day_number_of year month date)
+pub one_day_number : (day : ℤ) (year month date : ℕ) → 1970 ≤ year → IsDateOf day year month date
+    → day ≡ pos (day_number_of year month date)
 one_day_number day year month date from is = omega (arith, signed_arith, is.count, days_of_years-rise 1970 year from)

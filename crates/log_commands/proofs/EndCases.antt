@@ -1,5 +1,6 @@
 -- Which ends and statuses the finding of the log's end and the filing of a roll come to.
-use Rattle.std.proofs.Common.{◌≡◌, ◌≢◌, inl, inr, ℕ, ◌≤◌, List, Option, Some, None, Result, Ok, Err, refl, sym, ◌∙◌, arith}
+use Rattle.std.proofs.Common.{◌≡◌, ◌≢◌, inl, inr, ℕ, ◌≤◌, List, Option, Some, None, Result, Ok, Err, refl, sym, ◌∙◌}
+use Rattle.std.proofs.Common.{arith}
 use Rattle.outside.specs.declared.board.Board.{Ghosts}
 use Rattle.slot_store.specs.Syncs.{LeavesFromSync}
 use Rattle.slot_store.proofs.Laws.{from_sync_as}
@@ -51,7 +52,8 @@ in_range ends.TooLong low high = omega (arith, high)
 in_range ends.ReadFault low high = omega (arith, high)
 
 -- a filing writes
-pub filing_writes : (end : FileEnd) (status : ℕ) → status ≡ status_of (filing_end end) → WritesNothing (Some File) status → ⊥
+pub filing_writes : (end : FileEnd) (status : ℕ) → status ≡ status_of (filing_end end)
+    → WritesNothing (Some File) status → ⊥
 filing_writes end status is (inl not) = not refl
 filing_writes end status is (inr range) = in_range end (omega (arith, is, range.0)) (omega (arith, is, range.1))
 
@@ -84,22 +86,28 @@ fault_has (Some Show) status is = inr (inr (inr is))
 fault_has (Some File) status is = (omega (arith, is), (omega (arith, is), omega (arith, is)))
 
 -- a bound of steps holds of fewer
-pub few_are_fewer : (call : Option Call) (before more now : ℕ) → AreFew call before more → now ≤ more → AreFew call before now
+pub few_are_fewer : (call : Option Call) (before more now : ℕ) → AreFew call before more → now ≤ more
+    → AreFew call before now
 few_are_fewer None before more now few fewer = omega (arith, few, fewer)
 few_are_fewer (Some Show) before more now few fewer = omega (arith, few, fewer)
 few_are_fewer (Some File) before more now few fewer = tt
 
-module _ {D L T : Type 0} {N : ℕ} (B : Ghosts D N L) (kind : List ℕ → List ℕ → Type 0) (old new : D) (r : Result T FindFault) where
+module _ {D L T : Type 0} {N : ℕ} (B : Ghosts D N L) (kind : List ℕ → List ℕ → Type 0) (old new : D)
+    (r : Result T FindFault) where
   -- where no end is found, a sync that fails is the fault
-  pub unread_sync : (fault : FindFault) → r ≡ Err fault → LeavesFromSync B (r ≡ Err faults.LogFault) old new kind → LeavesFromSync B (fault ≡ faults.LogFault) old new kind
-  unread_sync fault is synced = from_sync_as B kind kind (r ≡ Err faults.LogFault) (fault ≡ faults.LogFault) old new (λ e. same_fault T fault faults.LogFault (sym is ∙ e)) (λ image text is_kind. is_kind) synced
+  pub unread_sync : (fault : FindFault) → r ≡ Err fault → LeavesFromSync B (r ≡ Err faults.LogFault) old new kind
+      → LeavesFromSync B (fault ≡ faults.LogFault) old new kind
+  unread_sync fault is synced = from_sync_as B kind kind (r ≡ Err faults.LogFault) (fault ≡ faults.LogFault) old new
+      (λ e. same_fault T fault faults.LogFault (sym is ∙ e)) (λ image text is_kind. is_kind) synced
 
   no_fault : (found : T) → r ≡ Ok found → r ≡ Err faults.LogFault → ⊥
   no_fault found is e = let no : ◌≡◌ {A = Result T FindFault} (Ok found) (Err faults.LogFault) = sym is ∙ e in absurd cc
 
   -- where one is found, it has succeeded
-  pub found_sync : (found : T) → r ≡ Ok found → LeavesFromSync B (r ≡ Err faults.LogFault) old new kind → LeavesFromSync B ⊥ old new kind
-  found_sync found is synced = from_sync_as B kind kind (r ≡ Err faults.LogFault) ⊥ old new (no_fault found is) (λ image text is_kind. is_kind) synced
+  pub found_sync : (found : T) → r ≡ Ok found → LeavesFromSync B (r ≡ Err faults.LogFault) old new kind
+      → LeavesFromSync B ⊥ old new kind
+  found_sync found is synced = from_sync_as B kind kind (r ≡ Err faults.LogFault) ⊥ old new (no_fault found is)
+      (λ image text is_kind. is_kind) synced
 
   -- and the image is as it was
   pub found_same : {S : Type 0} (found : T) → r ≡ Ok found → (r ≢ Err faults.LogFault → S) → S

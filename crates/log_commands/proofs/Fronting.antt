@@ -1,5 +1,6 @@
 -- A receipt at the front of a text.
-use Rattle.std.proofs.Common.{◌≡◌, ℕ, ◌≤◌, List, ◌++◌, length, take, ap, sym, ◌∙◌, subst, arith, length-append, Result, Ok, Err}
+use Rattle.std.proofs.Common.{◌≡◌, ℕ, ◌≤◌, List, ◌++◌, length, take, ap, sym, ◌∙◌, subst, arith, length-append, Result}
+use Rattle.std.proofs.Common.{Ok, Err}
 use Rattle.std.specs.Prelude.{IsOk, OnOk}
 use Rattle.std.proofs.Math.Seq.{take-append_seam}
 use Rattle.taxi_units.specs.declared.receipt.Receipt.{Receipt}
@@ -15,18 +16,22 @@ succeeded (Ok x) is h = h
 succeeded (Err e) is h = absurd cc
 
 -- a record with which a text begins is a receipt in front
-pub in_front_of : (text : List ℕ) (r : Record) (behind : List ℕ) → text ≡ r.text ++ behind → (h : IsRecord r) → IsInFront text h.receipt h.part (length r.text)
+pub in_front_of : (text : List ℕ) (r : Record) (behind : List ℕ) → text ≡ r.text ++ behind → (h : IsRecord r)
+    → IsInFront text h.receipt h.part (length r.text)
 in_front_of text r behind e h = record {
   within = omega (arith, ap length e, length-append r.text behind);
-  is = subst (λ (t : List ℕ). IsReceiptText t h.receipt h.part) (sym (ap (take (length r.text)) e ∙ take-append_seam r.text behind)) h.is;
+  is = subst (λ (t : List ℕ). IsReceiptText t h.receipt h.part)
+      (sym (ap (take (length r.text)) e ∙ take-append_seam r.text behind)) h.is;
 }
 
 -- a receipt in front has few bytes
-pub few_in_front : (text : List ℕ) (receipt : Receipt) (part : Part) (count : ℕ) → IsInFront text receipt part count → length (take count text) ≤ 480
+pub few_in_front : (text : List ℕ) (receipt : Receipt) (part : Part) (count : ℕ) → IsInFront text receipt part count
+    → length (take count text) ≤ 480
 few_in_front text receipt part count h = short_texts (take count text) receipt part h.is
 
 -- a record of a receipt in front
-pub record_of_front : (text written taxi : List ℕ) (receipt : Receipt) (part : Part) (count : ℕ) → IsInFront text receipt part count → written ≡ take count text → taxi ≡ part.taxi
+pub record_of_front : (text written taxi : List ℕ) (receipt : Receipt) (part : Part) (count : ℕ)
+    → IsInFront text receipt part count → written ≡ take count text → taxi ≡ part.taxi
     → IsRecord (record { text = written; number = receipt.number; taxi = taxi })
 record_of_front text written taxi receipt part count h e f = record {
   receipt = receipt;

@@ -7,7 +7,7 @@ mod Bounds
 -- a count of faults over calls one after another
 mod Causes
 -- what a call comes to before its last line, by what finding the log's end, filing a roll and showing records come to
-mod Comings
+mod CallEnds
 -- how many records a log has whose end is known, and where the first of them is held
 mod Counted
 -- which ends and statuses the finding of the log's end and the filing of a roll come to
@@ -19,9 +19,9 @@ mod Finishing
 -- a receipt at the front of a text
 mod Fronting
 -- what stays of the log where one of its slots is written
-mod Held
+mod OtherSlots
 -- how a search for a receipt goes on
-mod Looks
+mod SearchSteps
 -- the newest record of a log that stands for a list
 mod NewestFound
 -- the greatest place of the entries is that of the newest record

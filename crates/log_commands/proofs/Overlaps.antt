@@ -1,5 +1,6 @@
 -- No receipt lies in another's text with more behind it: only the last line of a receipt is that of its end.
-use Rattle.std.proofs.Common.{◌≡◌, ◌≢◌, inl, inr, ℕ, ℤ, ◌+◌, ◌<◌, List, [], ◌∷◌, ◌++◌, length, refl, ap, sym, ◌∙◌, subst, arith, append_assoc, length-append}
+use Rattle.std.proofs.Common.{◌≡◌, ◌≢◌, inl, inr, ℕ, ℤ, ◌+◌, ◌<◌, List, [], ◌∷◌, ◌++◌, length, refl, ap, sym, ◌∙◌}
+use Rattle.std.proofs.Common.{subst, arith, append_assoc, length-append}
 use Rattle.std.specs.Prelude.{codes}
 use Rattle.std.specs.Char.{digit_value}
 use Rattle.std.specs.List.{AllByRecursion}
@@ -12,7 +13,9 @@ use Rattle.taxi_units.specs.declared.receipt.Kind.{Kind}
 use Rattle.taxi_units.specs.declared.receipt.Kind.TheVariants.{Closed, Aborted, Expired, Roam}
 use Rattle.taxi_units.specs.declared.receipt.Receipt.{Receipt}
 use Rattle.taxi_units.specs.declared.receipt.Stamp.{Stamp}
-use Rattle.receipt_text.specs.Grammar.{IsKind, IsDateText, IsTimeText, IsStampText, IsDayText, IsHexDigit, IsHexText, IsDistance, IsCalculation, Line, IsMoney, AreAmounts, HasMinimum, AreTripLines, AreLines}
+use Rattle.receipt_text.specs.Grammar.{IsKind, IsDateText, IsTimeText, IsStampText, IsDayText, IsHexDigit, IsHexText}
+use Rattle.receipt_text.specs.Grammar.{IsDistance, IsCalculation, Line, IsMoney, AreAmounts, HasMinimum, AreTripLines}
+use Rattle.receipt_text.specs.Grammar.{AreLines}
 use Rattle.receipt_text.specs.Part.{Part}
 use Rattle.log_commands.specs.Record.{Record, IsRecord}
 use Rattle.taxi_units.specs.Identifier.{IsIdentifierCharacter}
@@ -42,15 +45,19 @@ padded_plain width value text h = digits_plain text h.digits.1
 
 decimal_plain : (text whole parts : List ℕ) → IsDecimal text whole parts → Plain text
 decimal_plain text whole [] h = subst Plain (sym h.1) (digits_plain whole h.0.1)
-decimal_plain text whole (c ∷ cs) h = subst Plain (sym h.2) (plain_append whole (46 ∷ c ∷ cs) (digits_plain whole h.0.1) (omega arith, digits_plain (c ∷ cs) h.1))
+decimal_plain text whole (c ∷ cs) h = subst Plain (sym h.2)
+    (plain_append whole (46 ∷ c ∷ cs) (digits_plain whole h.0.1) (omega arith, digits_plain (c ∷ cs) h.1))
 
 amount_plain : (decimals units : ℕ) (text : List ℕ) → IsAmountText decimals units text → Plain text
 amount_plain decimals units text h = decimal_plain text h.whole h.parts h.form
 
 kind_plain : (kind : Kind) (text : List ℕ) → IsKind kind text → Plain text
-kind_plain Closed text h = subst Plain (sym h) (omega arith, (omega arith, (omega arith, (omega arith, (omega arith, (omega arith, tt))))))
-kind_plain Aborted text h = subst Plain (sym h) (omega arith, (omega arith, (omega arith, (omega arith, (omega arith, (omega arith, (omega arith, tt)))))))
-kind_plain Expired text h = subst Plain (sym h) (omega arith, (omega arith, (omega arith, (omega arith, (omega arith, (omega arith, (omega arith, tt)))))))
+kind_plain Closed text h =
+    subst Plain (sym h) (omega arith, (omega arith, (omega arith, (omega arith, (omega arith, (omega arith, tt))))))
+kind_plain Aborted text h = subst Plain (sym h)
+    (omega arith, (omega arith, (omega arith, (omega arith, (omega arith, (omega arith, (omega arith, tt)))))))
+kind_plain Expired text h = subst Plain (sym h)
+    (omega arith, (omega arith, (omega arith, (omega arith, (omega arith, (omega arith, (omega arith, tt)))))))
 kind_plain Roam text h = absurd h
 
 character_plain : (c : ℕ) → IsIdentifierCharacter c → c ≢ 10
@@ -67,20 +74,25 @@ date_plain : (year month date : ℕ) (text : List ℕ) → IsDateText year month
 date_plain year month date text h =
     let dates = plain_append (codes "-") h.dates (omega arith, tt) (padded_plain 2 date h.dates h.dates_are) in
     let months = plain_append h.months (codes "-" ++ h.dates) (padded_plain 2 month h.months h.months_are) dates in
-    subst Plain (sym h.text_is) (plain_append h.years _ (padded_plain 4 year h.years h.years_are) (plain_append (codes "-") _ (omega arith, tt) months))
+    subst Plain (sym h.text_is) (plain_append h.years _ (padded_plain 4 year h.years h.years_are)
+    (plain_append (codes "-") _ (omega arith, tt) months))
 
 time_plain : (second : ℕ) (text : List ℕ) → IsTimeText second text → Plain text
 time_plain second text h =
-    let seconds = plain_append (codes ":") h.seconds (omega arith, tt) (padded_plain 2 h.rest h.seconds h.seconds_are) in
-    let minutes = plain_append h.minutes (codes ":" ++ h.seconds) (padded_plain 2 h.minute h.minutes h.minutes_are) seconds in
-    subst Plain (sym h.text_is) (plain_append h.hours _ (padded_plain 2 h.hour h.hours h.hours_are) (plain_append (codes ":") _ (omega arith, tt) minutes))
+    let seconds =
+    plain_append (codes ":") h.seconds (omega arith, tt) (padded_plain 2 h.rest h.seconds h.seconds_are) in
+    let minutes =
+    plain_append h.minutes (codes ":" ++ h.seconds) (padded_plain 2 h.minute h.minutes h.minutes_are) seconds in
+    subst Plain (sym h.text_is) (plain_append h.hours _ (padded_plain 2 h.hour h.hours h.hours_are)
+    (plain_append (codes ":") _ (omega arith, tt) minutes))
 
 day_plain : (day : ℤ) (text : List ℕ) → IsDayText day text → Plain text
 day_plain day text h = date_plain h.year h.month h.date text h.text_is
 
 stamp_plain : (stamp : Stamp) (text : List ℕ) → IsStampText stamp text → Plain text
 stamp_plain stamp text h =
-    subst Plain (sym h.text_is) (plain_append h.date _ (date_plain stamp.year stamp.month stamp.date h.date h.date_is) (plain_append (codes " ") h.time (omega arith, tt) (time_plain stamp.second h.time h.time_is)))
+    subst Plain (sym h.text_is) (plain_append h.date _ (date_plain stamp.year stamp.month stamp.date h.date h.date_is)
+    (plain_append (codes " ") h.time (omega arith, tt) (time_plain stamp.second h.time h.time_is)))
 
 hex_plain : (value c : ℕ) → IsHexDigit value c → c ≢ 10
 hex_plain value c h e = omega (arith, h, e)
@@ -91,13 +103,16 @@ digest_plain (byte ∷ bytes) text (high, low, c, d, rest, text_is, byte_is, fir
     subst Plain (sym text_is) (hex_plain high c first, (hex_plain low d second, digest_plain bytes rest more))
 
 distance_plain : (millimetres : ℕ) (text : List ℕ) → IsDistance millimetres text → Plain text
-distance_plain millimetres text h = subst Plain (sym h.text_is) (plain_append h.metres (codes " m") (amount_plain 3 millimetres h.metres h.metres_are) (omega arith, (omega arith, tt)))
+distance_plain millimetres text h = subst Plain (sym h.text_is) (plain_append h.metres (codes " m")
+    (amount_plain 3 millimetres h.metres h.metres_are) (omega arith, (omega arith, tt)))
 
 calculation_plain : (receipt : Receipt) (text : List ℕ) → IsCalculation receipt text → Plain text
 calculation_plain receipt text h =
-    let step = plain_append (codes " x ") h.step (omega arith, (omega arith, (omega arith, tt))) (amount_plain receipt.decimals receipt.step h.step h.step_is) in
+    let step = plain_append (codes " x ") h.step (omega arith, (omega arith, (omega arith, tt)))
+    (amount_plain receipt.decimals receipt.step h.step h.step_is) in
     let steps = plain_append h.steps (codes " x " ++ h.step) (number_plain receipt.steps h.steps h.steps_are) step in
-    subst Plain (sym h.text_is) (plain_append h.initial _ (amount_plain receipt.decimals receipt.initial h.initial h.initial_is) (plain_append (codes " + ") _ (omega arith, (omega arith, (omega arith, tt))) steps))
+    subst Plain (sym h.text_is) (plain_append h.initial _ (amount_plain receipt.decimals receipt.initial h.initial
+    h.initial_is) (plain_append (codes " + ") _ (omega arith, (omega arith, (omega arith, tt))) steps))
 
 -- ---- the last line alone is END
 
@@ -110,10 +125,12 @@ none_left [] e = refl
 none_left (x ∷ xs) e = absurd (omega (arith, e))
 
 last_once : (text : List ℕ) → text ≡ codes "END\n" → EndsOnce text
-last_once text is a b e = none_left b (omega (arith, ap length e, ap length is, length-append a (10 ∷ 69 ∷ 78 ∷ 68 ∷ 10 ∷ b)))
+last_once text is a b e =
+    none_left b (omega (arith, ap length e, ap length is, length-append a (10 ∷ 69 ∷ 78 ∷ 68 ∷ 10 ∷ b)))
 
 -- what stands behind a line feed does not begin in a plain text
-skip : (body rest a more : List ℕ) → Plain body → body ++ 10 ∷ rest ≡ a ++ 10 ∷ more → (b : List ℕ) × (10 ∷ rest ≡ b ++ 10 ∷ more)
+skip : (body rest a more : List ℕ) → Plain body → body ++ 10 ∷ rest ≡ a ++ 10 ∷ more
+    → (b : List ℕ) × (10 ∷ rest ≡ b ++ 10 ∷ more)
 skip [] rest a more plain e = (a, e)
 skip (c ∷ cs) rest [] more plain e =
     let first : c ≡ 10 = cc in
@@ -122,14 +139,17 @@ skip (c ∷ cs) rest (x ∷ a) more plain e =
     let tails : cs ++ 10 ∷ rest ≡ a ++ 10 ∷ more = cc in
     skip cs rest a more plain.1 tails
 
-line_once : (c : ℕ) (cs value rest : List ℕ) → c ≢ 69 → Plain (c ∷ cs) → Plain value → EndsOnce rest → EndsOnce ((c ∷ cs) ++ (value ++ 10 ∷ rest))
+line_once : (c : ℕ) (cs value rest : List ℕ) → c ≢ 69 → Plain (c ∷ cs) → Plain value → EndsOnce rest
+    → EndsOnce ((c ∷ cs) ++ (value ++ 10 ∷ rest))
 line_once c cs value rest other word plain once [] b e =
     let first : c ≡ 69 = cc in
     absurd (other first)
 line_once c cs value rest other word plain once (x ∷ a) b e =
     let tails : (c ∷ cs) ++ (value ++ 10 ∷ rest) ≡ a ++ 10 ∷ 69 ∷ 78 ∷ 68 ∷ 10 ∷ b = cc in
-    let whole : ((c ∷ cs) ++ value) ++ 10 ∷ rest ≡ a ++ 10 ∷ 69 ∷ 78 ∷ 68 ∷ 10 ∷ b = append_assoc (c ∷ cs) value (10 ∷ rest) ∙ tails in
-    let there = skip ((c ∷ cs) ++ value) rest a (69 ∷ 78 ∷ 68 ∷ 10 ∷ b) (plain_append (c ∷ cs) value word plain) whole in
+    let whole : ((c ∷ cs) ++ value) ++ 10 ∷ rest ≡ a ++ 10 ∷ 69 ∷ 78 ∷ 68 ∷ 10 ∷ b =
+    append_assoc (c ∷ cs) value (10 ∷ rest) ∙ tails in
+    let there =
+    skip ((c ∷ cs) ++ value) rest a (69 ∷ 78 ∷ 68 ∷ 10 ∷ b) (plain_append (c ∷ cs) value word plain) whole in
     once there.0 b there.1
 
 -- so it is with a text that ends with that line
@@ -141,83 +161,157 @@ pub record IsEnded (text : List ℕ) : Type 0 where
 last_ended : (text : List ℕ) → text ≡ codes "END\n" → IsEnded text
 last_ended text is = record { front = []; last = ap (λ (t : List ℕ). 10 ∷ t) is; once = last_once text is }
 
-line_ended : (c : ℕ) (cs : List ℕ) (Value Rest : List ℕ → Type 0) (text : List ℕ) → c ≢ 69 → Plain (c ∷ cs) → ((value : List ℕ) → Value value → Plain value) → ((rest : List ℕ) → Rest rest → IsEnded rest)
+line_ended : (c : ℕ) (cs : List ℕ) (Value Rest : List ℕ → Type 0) (text : List ℕ) → c ≢ 69 → Plain (c ∷ cs)
+    → ((value : List ℕ) → Value value → Plain value) → ((rest : List ℕ) → Rest rest → IsEnded rest)
     → Line (c ∷ cs) Value Rest text → IsEnded text
 line_ended c cs Value Rest text other word plain ended h =
     let behind = ended h.rest h.rest_is in
     let body = (c ∷ cs) ++ h.value in
     record {
       front = 10 ∷ (body ++ behind.front);
-      last = ap (λ (t : List ℕ). 10 ∷ t) (h.text_is ∙ (sym (append_assoc (c ∷ cs) h.value (10 ∷ h.rest)) ∙ (ap (λ (t : List ℕ). body ++ t) behind.last ∙ sym (append_assoc body behind.front (10 ∷ codes "END\n")))));
-      once = subst EndsOnce (sym h.text_is) (line_once c cs h.value h.rest other word (plain h.value h.value_is) behind.once);
+      last = ap (λ (t : List ℕ). 10 ∷ t) (h.text_is ∙ (sym (append_assoc (c ∷ cs) h.value (10 ∷ h.rest))
+          ∙ (ap (λ (t : List ℕ). body ++ t) behind.last ∙ sym (append_assoc body behind.front (10 ∷ codes "END\n")))));
+      once = subst EndsOnce (sym h.text_is)
+          (line_once c cs h.value h.rest other word (plain h.value h.value_is) behind.once);
     }
 
 -- ---- a receipt, from its last line up
 
 module _ (r : Receipt) (p : Part) where
-  total_ended : (text : List ℕ) → Line (codes "TOTAL ") (IsMoney r (r.fare + r.supplements)) (λ t. t ≡ codes "END\n") text → IsEnded text
-  total_ended text h = line_ended 84 (codes "OTAL ") _ _ text (omega arith) (omega arith, (omega arith, (omega arith, (omega arith, (omega arith, (omega arith, tt)))))) (amount_plain r.decimals _) last_ended h
+  total_ended : (text : List ℕ)
+      → Line (codes "TOTAL ") (IsMoney r (r.fare + r.supplements)) (λ t. t ≡ codes "END\n") text → IsEnded text
+  total_ended text h = line_ended 84 (codes "OTAL ") _ _ text (omega arith)
+      (omega arith, (omega arith, (omega arith, (omega arith, (omega arith, (omega arith, tt))))))
+      (amount_plain r.decimals _) last_ended h
 
-  supplements_ended : (text : List ℕ) → Line (codes "SUPPLEMENTS ") (IsMoney r r.supplements) (Line (codes "TOTAL ") (IsMoney r (r.fare + r.supplements)) (λ t. t ≡ codes "END\n")) text → IsEnded text
-  supplements_ended text h = line_ended 83 (codes "UPPLEMENTS ") _ _ text (omega arith) (omega arith, (omega arith, (omega arith, (omega arith, (omega arith, (omega arith, (omega arith, (omega arith, (omega arith, (omega arith, (omega arith, (omega arith, tt)))))))))))) (amount_plain r.decimals r.supplements) (total_ended) h
+  supplements_ended : (text : List ℕ) → Line (codes "SUPPLEMENTS ") (IsMoney r r.supplements)
+      (Line (codes "TOTAL ") (IsMoney r (r.fare + r.supplements)) (λ t. t ≡ codes "END\n")) text → IsEnded text
+  supplements_ended text h = line_ended 83 (codes "UPPLEMENTS ") _ _ text (omega arith) (
+    omega arith,
+    (
+      omega arith,
+      (
+        omega arith,
+        (
+          omega arith,
+          (
+            omega arith,
+            (omega arith, (omega arith, (omega arith, (omega arith, (omega arith, (omega arith, (omega arith, tt))))))),
+          ),
+        ),
+      ),
+    ),
+  ) (amount_plain r.decimals r.supplements) (total_ended) h
 
   amounts_ended : (text : List ℕ) → AreAmounts r text → IsEnded text
-  amounts_ended text h = line_ended 70 (codes "ARE ") _ _ text (omega arith) (omega arith, (omega arith, (omega arith, (omega arith, (omega arith, tt))))) (amount_plain r.decimals r.fare) (supplements_ended) h
+  amounts_ended text h = line_ended 70 (codes "ARE ") _ _ text (omega arith)
+      (omega arith, (omega arith, (omega arith, (omega arith, (omega arith, tt))))) (amount_plain r.decimals r.fare)
+      (supplements_ended) h
 
   minimum_ended : (text : List ℕ) → HasMinimum r text → IsEnded text
-  minimum_ended text (inl h) = line_ended 77 (codes "INIMUM ") _ _ text (omega arith) (omega arith, (omega arith, (omega arith, (omega arith, (omega arith, (omega arith, (omega arith, (omega arith, tt)))))))) (amount_plain r.decimals r.minimum) amounts_ended h.1
+  minimum_ended text (inl h) = line_ended 77 (codes "INIMUM ") _ _ text (omega arith) (
+    omega arith,
+    (omega arith, (omega arith, (omega arith, (omega arith, (omega arith, (omega arith, (omega arith, tt))))))),
+  ) (amount_plain r.decimals r.minimum) amounts_ended h.1
   minimum_ended text (inr h) = amounts_ended text h.1
 
   calc_ended : (text : List ℕ) → Line (codes "CALC ") (IsCalculation r) (HasMinimum r) text → IsEnded text
-  calc_ended text h = line_ended 67 (codes "ALC ") _ _ text (omega arith) (omega arith, (omega arith, (omega arith, (omega arith, (omega arith, tt))))) (calculation_plain r) (minimum_ended) h
+  calc_ended text h = line_ended 67 (codes "ALC ") _ _ text (omega arith)
+      (omega arith, (omega arith, (omega arith, (omega arith, (omega arith, tt))))) (calculation_plain r)
+      (minimum_ended) h
 
-  distance_ended : (text : List ℕ) → Line (codes "DISTANCE ") (IsDistance r.hired_mm) (Line (codes "CALC ") (IsCalculation r) (HasMinimum r)) text → IsEnded text
-  distance_ended text h = line_ended 68 (codes "ISTANCE ") _ _ text (omega arith) (omega arith, (omega arith, (omega arith, (omega arith, (omega arith, (omega arith, (omega arith, (omega arith, (omega arith, tt))))))))) (distance_plain r.hired_mm) (calc_ended) h
+  distance_ended : (text : List ℕ) → Line (codes "DISTANCE ") (IsDistance r.hired_mm)
+      (Line (codes "CALC ") (IsCalculation r) (HasMinimum r)) text → IsEnded text
+  distance_ended text h = line_ended 68 (codes "ISTANCE ") _ _ text (omega arith) (
+    omega arith,
+    (
+      omega arith,
+      (omega arith, (omega arith, (omega arith, (omega arith, (omega arith, (omega arith, (omega arith, tt))))))),
+    ),
+  ) (distance_plain r.hired_mm) (calc_ended) h
 
-  position_ended : (text : List ℕ) → Line (codes "POSITION ") (IsNumberText r.position) (Line (codes "DISTANCE ") (IsDistance r.hired_mm) (Line (codes "CALC ") (IsCalculation r) (HasMinimum r))) text → IsEnded text
-  position_ended text h = line_ended 80 (codes "OSITION ") _ _ text (omega arith) (omega arith, (omega arith, (omega arith, (omega arith, (omega arith, (omega arith, (omega arith, (omega arith, (omega arith, tt))))))))) (number_plain r.position) (distance_ended) h
+  position_ended : (text : List ℕ) → Line (codes "POSITION ") (IsNumberText r.position) (Line (codes "DISTANCE ")
+      (IsDistance r.hired_mm) (Line (codes "CALC ") (IsCalculation r) (HasMinimum r))) text → IsEnded text
+  position_ended text h = line_ended 80 (codes "OSITION ") _ _ text (omega arith) (
+    omega arith,
+    (
+      omega arith,
+      (omega arith, (omega arith, (omega arith, (omega arith, (omega arith, (omega arith, (omega arith, tt))))))),
+    ),
+  ) (number_plain r.position) (distance_ended) h
 
-  finish_ended : (text : List ℕ) → Line (codes "FINISH ") (IsStampText r.finish) (Line (codes "POSITION ") (IsNumberText r.position) (Line (codes "DISTANCE ") (IsDistance r.hired_mm) (Line (codes "CALC ") (IsCalculation r) (HasMinimum r)))) text → IsEnded text
-  finish_ended text h = line_ended 70 (codes "INISH ") _ _ text (omega arith) (omega arith, (omega arith, (omega arith, (omega arith, (omega arith, (omega arith, (omega arith, tt))))))) (stamp_plain r.finish) (position_ended) h
+  finish_ended : (text : List ℕ) → Line (codes "FINISH ") (IsStampText r.finish)
+      (Line (codes "POSITION ") (IsNumberText r.position) (Line (codes "DISTANCE ") (IsDistance r.hired_mm)
+      (Line (codes "CALC ") (IsCalculation r) (HasMinimum r)))) text → IsEnded text
+  finish_ended text h = line_ended 70 (codes "INISH ") _ _ text (omega arith)
+      (omega arith, (omega arith, (omega arith, (omega arith, (omega arith, (omega arith, (omega arith, tt)))))))
+      (stamp_plain r.finish) (position_ended) h
 
   start_ended : (text : List ℕ) → AreTripLines r text → IsEnded text
-  start_ended text h = line_ended 83 (codes "TART ") _ _ text (omega arith) (omega arith, (omega arith, (omega arith, (omega arith, (omega arith, (omega arith, tt)))))) (stamp_plain r.start) (finish_ended) h
+  start_ended text h = line_ended 83 (codes "TART ") _ _ text (omega arith)
+      (omega arith, (omega arith, (omega arith, (omega arith, (omega arith, (omega arith, tt)))))) (stamp_plain r.start)
+      (finish_ended) h
 
   tariff_ended : (text : List ℕ) → Line (codes "TARIFF ") (IsHexText p.digest) (AreTripLines r) text → IsEnded text
-  tariff_ended text h = line_ended 84 (codes "ARIFF ") _ _ text (omega arith) (omega arith, (omega arith, (omega arith, (omega arith, (omega arith, (omega arith, (omega arith, tt))))))) (digest_plain p.digest) (start_ended) h
+  tariff_ended text h = line_ended 84 (codes "ARIFF ") _ _ text (omega arith)
+      (omega arith, (omega arith, (omega arith, (omega arith, (omega arith, (omega arith, (omega arith, tt)))))))
+      (digest_plain p.digest) (start_ended) h
 
-  secured_ended : (text : List ℕ) → Line (codes "SECURED ") (IsDayText p.secured) (Line (codes "TARIFF ") (IsHexText p.digest) (AreTripLines r)) text → IsEnded text
-  secured_ended text h = line_ended 83 (codes "ECURED ") _ _ text (omega arith) (omega arith, (omega arith, (omega arith, (omega arith, (omega arith, (omega arith, (omega arith, (omega arith, tt)))))))) (day_plain p.secured) (tariff_ended) h
+  secured_ended : (text : List ℕ) → Line (codes "SECURED ") (IsDayText p.secured)
+      (Line (codes "TARIFF ") (IsHexText p.digest) (AreTripLines r)) text → IsEnded text
+  secured_ended text h = line_ended 83 (codes "ECURED ") _ _ text (omega arith) (
+    omega arith,
+    (omega arith, (omega arith, (omega arith, (omega arith, (omega arith, (omega arith, (omega arith, tt))))))),
+  ) (day_plain p.secured) (tariff_ended) h
 
-  constant_ended : (text : List ℕ) → Line (codes "CONSTANT ") (IsNumberText p.constant) (Line (codes "SECURED ") (IsDayText p.secured) (Line (codes "TARIFF ") (IsHexText p.digest) (AreTripLines r))) text → IsEnded text
-  constant_ended text h = line_ended 67 (codes "ONSTANT ") _ _ text (omega arith) (omega arith, (omega arith, (omega arith, (omega arith, (omega arith, (omega arith, (omega arith, (omega arith, (omega arith, tt))))))))) (number_plain p.constant) (secured_ended) h
+  constant_ended : (text : List ℕ) → Line (codes "CONSTANT ") (IsNumberText p.constant) (Line (codes "SECURED ")
+      (IsDayText p.secured) (Line (codes "TARIFF ") (IsHexText p.digest) (AreTripLines r))) text → IsEnded text
+  constant_ended text h = line_ended 67 (codes "ONSTANT ") _ _ text (omega arith) (
+    omega arith,
+    (
+      omega arith,
+      (omega arith, (omega arith, (omega arith, (omega arith, (omega arith, (omega arith, (omega arith, tt))))))),
+    ),
+  ) (number_plain p.constant) (secured_ended) h
 
   -- the lines from that of the taxi on, and from that of the kind on
   abbrev AreTaxiLines : List ℕ → Type 0
-  AreTaxiLines = Line (codes "TAXI ") (λ t. t ≡ p.taxi) (Line (codes "CONSTANT ") (IsNumberText p.constant) (Line (codes "SECURED ") (IsDayText p.secured) (Line (codes "TARIFF ") (IsHexText p.digest) (AreTripLines r))))
+  AreTaxiLines = Line (codes "TAXI ") (λ t. t ≡ p.taxi) (Line (codes "CONSTANT ") (IsNumberText p.constant)
+      (Line (codes "SECURED ") (IsDayText p.secured) (Line (codes "TARIFF ") (IsHexText p.digest) (AreTripLines r))))
 
   abbrev AreKindLines : List ℕ → Type 0
   AreKindLines = Line (codes "KIND ") (IsKind r.kind) AreTaxiLines
 
   taxi_ended : IsTaxi p.taxi → (text : List ℕ) → AreTaxiLines text → IsEnded text
-  taxi_ended taxi text h = line_ended 84 (codes "AXI ") _ _ text (omega arith) (omega arith, (omega arith, (omega arith, (omega arith, (omega arith, tt))))) (λ value is. subst Plain (sym is) (taxi_plain p.taxi taxi)) constant_ended h
+  taxi_ended taxi text h = line_ended 84 (codes "AXI ") _ _ text (omega arith)
+      (omega arith, (omega arith, (omega arith, (omega arith, (omega arith, tt)))))
+      (λ value is. subst Plain (sym is) (taxi_plain p.taxi taxi)) constant_ended h
 
   kind_ended : IsTaxi p.taxi → (text : List ℕ) → AreKindLines text → IsEnded text
-  kind_ended taxi text h = line_ended 75 (codes "IND ") (IsKind r.kind) AreTaxiLines text (omega arith) (omega arith, (omega arith, (omega arith, (omega arith, (omega arith, tt))))) (kind_plain r.kind) (taxi_ended taxi) h
+  kind_ended taxi text h = line_ended 75 (codes "IND ") (IsKind r.kind) AreTaxiLines text (omega arith)
+      (omega arith, (omega arith, (omega arith, (omega arith, (omega arith, tt))))) (kind_plain r.kind)
+      (taxi_ended taxi) h
 
   lines_ended : IsTaxi p.taxi → (text : List ℕ) → AreLines r p text → IsEnded text
-  lines_ended taxi text h = line_ended 82 (codes "ECEIPT ") (IsNumberText r.number) AreKindLines text (omega arith) (omega arith, (omega arith, (omega arith, (omega arith, (omega arith, (omega arith, (omega arith, (omega arith, tt)))))))) (number_plain r.number) (kind_ended taxi) h
+  lines_ended taxi text h = line_ended 82 (codes "ECEIPT ") (IsNumberText r.number) AreKindLines text (omega arith) (
+    omega arith,
+    (omega arith, (omega arith, (omega arith, (omega arith, (omega arith, (omega arith, (omega arith, tt))))))),
+  ) (number_plain r.number) (kind_ended taxi) h
 
 -- a receipt's text has its last line at its end alone
 record_ended : (it : Record) → IsRecord it → (front : List ℕ) × (it.text ≡ front ++ 10 ∷ codes "END\n")
 record_ended it h =
     let lines = h.is.lines in
     let behind = kind_ended h.receipt h.part h.is.part_is.taxi lines.rest lines.rest_is in
-    let body = codes "RECEIPT " ++ lines.value in
-    (body ++ behind.front, lines.text_is ∙ (sym (append_assoc (codes "RECEIPT ") lines.value (10 ∷ lines.rest)) ∙ (ap (λ (t : List ℕ). body ++ t) behind.last ∙ sym (append_assoc body behind.front (10 ∷ codes "END\n")))))
+    let body = codes "RECEIPT " ++ lines.value in (
+      body ++ behind.front,
+      lines.text_is ∙ (sym (append_assoc (codes "RECEIPT ") lines.value (10 ∷ lines.rest))
+          ∙ (ap (λ (t : List ℕ). body ++ t) behind.last ∙ sym (append_assoc body behind.front (10 ∷ codes "END\n")))),
+    )
 
 -- no receipt lies in another's text with more behind it
-pub none_within : (it other : Record) (before behind : List ℕ) → it.text ≡ before ++ (other.text ++ behind) → IsRecord it → IsRecord other → behind ≡ []
+pub none_within : (it other : Record) (before behind : List ℕ) → it.text ≡ before ++ (other.text ++ behind)
+    → IsRecord it → IsRecord other → behind ≡ []
 none_within it other before behind within h k =
     let once = (lines_ended h.receipt h.part h.is.part_is.taxi it.text h.is.lines).once in
     let last = record_ended other k in

@@ -81,29 +81,37 @@ module _ {D L : Type 0} {N : ℕ} (B : Ghosts D N L) (tl tf : Type 0) where
   -- ---- a receipt more
 
   pub filing_by : (f : Filing) (mid new : D) (then last : Tail) (it : Record) (steps steps' : ℕ) → f ≢ OtherTaxi
-      → (◌≡◌ {A = Result Filing Failed} (Ok f) (Ok Passed) → FilesTo B tl mid new then last (it ∷ []) [] × (steps' ≡ steps))
-      → (◌≡◌ {A = Result Filing Failed} (Ok f) (Ok Appended) → FilesTo B tl mid new then last (it ∷ []) (it ∷ [])) → steps' ≤ steps + 6
+      → (◌≡◌ {A = Result Filing Failed} (Ok f) (Ok Passed)
+      → FilesTo B tl mid new then last (it ∷ []) [] × (steps' ≡ steps))
+      → (◌≡◌ {A = Result Filing Failed} (Ok f) (Ok Appended) → FilesTo B tl mid new then last (it ∷ []) (it ∷ []))
+      → steps' ≤ steps + 6
       → (more : List Record) × FilesTo B tl mid new then last (it ∷ []) more × (steps' ≤ steps + 6 * length more)
   filing_by OtherTaxi mid new then last it steps steps' ne passed appended few = absurd (ne refl)
-  filing_by Passed mid new then last it steps steps' ne passed appended few = ([], (passed refl).0, omega (arith, (passed refl).1))
-  filing_by Appended mid new then last it steps steps' ne passed appended few = (it ∷ [], appended refl, omega (arith, few))
+  filing_by Passed mid new then last it steps steps' ne passed appended few =
+      ([], (passed refl).0, omega (arith, (passed refl).1))
+  filing_by Appended mid new then last it steps steps' ne passed appended few =
+      (it ∷ [], appended refl, omega (arith, few))
 
-  pub filing_on : (old mid new : D) (first then last : Tail) (roll : List ℕ) (place place' : Place) (rest rest' : List ℕ) (seen steps mid_steps steps' : ℕ) (it : Record)
-      → IsFiling B tl tf old mid first then roll place rest seen steps mid_steps → (tf → GoesOn place place' rest rest' (it ∷ []))
+  pub filing_on : (old mid new : D) (first then last : Tail) (roll : List ℕ) (place place' : Place)
+      (rest rest' : List ℕ) (seen steps mid_steps steps' : ℕ) (it : Record)
+      → IsFiling B tl tf old mid first then roll place rest seen steps mid_steps
+      → (tf → GoesOn place place' rest rest' (it ∷ []))
       → (more : List Record) × FilesTo B tl mid new then last (it ∷ []) more × (steps' ≤ mid_steps + 6 * length more)
       → IsFiling B tl tf old new first last roll place' rest' (seen + 1) steps steps'
-  filing_on old mid new first then last roll place place' rest rest' seen steps mid_steps steps' it h goes more = record {
-    receipts = h.receipts ++ it ∷ [];
-    filed = h.filed ++ more.0;
-    to = files_then B tl old mid new first then last h.receipts (it ∷ []) h.filed more.0 h.to more.1;
-    read = λ told. goes told roll h.receipts (h.read told);
-    seen_is = omega (arith, h.seen_is, length-append h.receipts (it ∷ []));
-    few = omega (arith, h.few, more.2, length-append h.filed more.0);
-  }
+  filing_on old mid new first
+      then last roll place place' rest rest' seen steps mid_steps steps' it h goes more = record {
+        receipts = h.receipts ++ it ∷ [];
+        filed = h.filed ++ more.0;
+        to = files_then B tl old mid new first then last h.receipts (it ∷ []) h.filed more.0 h.to more.1;
+        read = λ told. goes told roll h.receipts (h.read told);
+        seen_is = omega (arith, h.seen_is, length-append h.receipts (it ∷ []));
+        few = omega (arith, h.few, more.2, length-append h.filed more.0);
+      }
 
   -- ---- no more is read
 
-  filed_of : (roll : List ℕ) (place : Place) (rest : List ℕ) (receipts filed : List Record) (newest last : Option Record) → HasRead roll place rest receipts → Files newest receipts filed last → IsFiledOf newest roll rest filed
+  filed_of : (roll : List ℕ) (place : Place) (rest : List ℕ) (receipts filed : List Record) (newest last : Option
+      Record) → HasRead roll place rest receipts → Files newest receipts filed last → IsFiledOf newest roll rest filed
   filed_of roll place rest receipts filed newest last h files = record {
     taken = h.taken;
     unread = place.ahead;
@@ -116,7 +124,8 @@ module _ {D L : Type 0} {N : ℕ} (B : Ghosts D N L) (tl tf : Type 0) where
   }
 
   abbrev Reason : RollEnd → FileEnd → (filed : ℕ) → Type 0
-  Reason end found filed = (end ≡ Whole → found ≡ ends.Filed filed) × (end ≡ TooLong → found ≡ ends.TooLong) × (end ≡ ReadFault → found ≡ ends.ReadFault)
+  Reason end found filed = (end ≡ Whole → found ≡ ends.Filed filed) × (end ≡ TooLong → found ≡ ends.TooLong)
+      × (end ≡ ReadFault → found ≡ ends.ReadFault)
 
   -- a read failed where the filing says it
   read_failed : (end : RollEnd) (found : FileEnd) (filed : ℕ) → Reason end found filed → found ≡ ends.ReadFault
@@ -146,43 +155,57 @@ module _ {D L : Type 0} {N : ℕ} (B : Ghosts D N L) (tl tf : Type 0) where
   counts_over end place' found filed first now over why may =
       may_rise_for first now (λ yes. failed_over end found filed why (sym over ∙ yes)) may
 
-  ends_as : (end : RollEnd) (roll rest : List ℕ) (place : Place) (receipts filed : List Record) (newest last : Option Record) (count : ℕ) → HasRead roll place rest receipts → place.ahead ≡ [] → place.end ≡ Some end
-      → Files newest receipts filed last → (found : FileEnd) → Reason end found count → EndsAs found newest roll rest filed last
+  ends_as : (end : RollEnd) (roll rest : List ℕ) (place : Place) (receipts filed : List Record) (newest last : Option
+      Record) (count : ℕ) → HasRead roll place rest receipts → place.ahead ≡ [] → place.end ≡ Some end
+      → Files newest receipts filed last → (found : FileEnd) → Reason end found count
+      → EndsAs found newest roll rest filed last
   ends_as Whole roll rest place receipts filed newest last count h none is files found why =
       let over : rest ≡ [] = subst (λ (e : Option RollEnd). EndsBy e h.taken rest) is h.ends in
-      subst (λ (e : FileEnd). EndsAs e newest roll rest filed last) (sym (why.0 refl)) (over, (receipts, receipts_of_all roll place rest receipts h none is, files))
+      subst (λ (e : FileEnd). EndsAs e newest roll rest filed last) (sym (why.0 refl))
+      (over, (receipts, receipts_of_all roll place rest receipts h none is, files))
   ends_as TooLong roll rest place receipts filed newest last count h none is files found why =
       let full : length h.taken ≡ stream_limit = subst (λ (e : Option RollEnd). EndsBy e h.taken rest) is h.ends in
-      subst (λ (e : FileEnd). EndsAs e newest roll rest filed last) (sym (why.1 refl)) (h.taken, receipts, h.split.bytes, full, receipts_taken roll place rest receipts h none, files)
+      subst (λ (e : FileEnd). EndsAs e newest roll rest filed last) (sym (why.1 refl))
+      (h.taken, receipts, h.split.bytes, full, receipts_taken roll place rest receipts h none, files)
   ends_as ReadFault roll rest place receipts filed newest last count h none is files found why =
-      subst (λ (e : FileEnd). EndsAs e newest roll rest filed last) (sym (why.2 refl)) (h.taken, receipts, h.split.bytes, receipts_taken roll place rest receipts h none, files)
+      subst (λ (e : FileEnd). EndsAs e newest roll rest filed last) (sym (why.2 refl))
+      (h.taken, receipts, h.split.bytes, receipts_taken roll place rest receipts h none, files)
 
-  told_as : (end : RollEnd) (filed : List Record) (count : ℕ) → count ≡ length filed → (found : FileEnd) → Reason end found count → IsTold found filed
+  told_as : (end : RollEnd) (filed : List Record) (count : ℕ) → count ≡ length filed → (found : FileEnd)
+      → Reason end found count → IsTold found filed
   told_as Whole filed count is found why = subst (λ (e : FileEnd). IsTold e filed) (sym (why.0 refl)) is
   told_as TooLong filed count is found why = subst (λ (e : FileEnd). IsTold e filed) (sym (why.1 refl)) tt
   told_as ReadFault filed count is found why = subst (λ (e : FileEnd). IsTold e filed) (sym (why.2 refl)) tt
 
-  pub filing_over : (end : RollEnd) (found : FileEnd) (old new : D) (first last : Tail) (roll : List ℕ) (place place' : Place) (rest rest' : List ℕ) (seen steps steps' : ℕ)
-      → IsFiling B tl tf old new first last roll place rest seen steps steps' → first.filed ≡ 0 → (tf → GoesOn place place' rest rest' []) → (place'.end ≡ Some end) × (place'.ahead ≡ []) → Reason end found last.filed
+  pub filing_over : (end : RollEnd) (found : FileEnd) (old new : D) (first last : Tail) (roll : List ℕ)
+      (place place' : Place) (rest rest' : List ℕ) (seen steps steps' : ℕ)
+      → IsFiling B tl tf old new first last roll place rest seen steps steps' → first.filed ≡ 0 → (tf
+      → GoesOn place place' rest rest' []) → (place'.end ≡ Some end) × (place'.ahead ≡ []) → Reason end found last.filed
       → FilesRoll B tl tf old new first last roll rest' found steps steps'
-  filing_over end found old new first last roll place place' rest rest' seen steps steps' h none goes over why = record {
-    receipts = h.receipts;
-    filed = h.filed;
-    to = h.to;
-    ends = λ told.
-        let read = subst (HasRead roll place' rest') (append-nil h.receipts) (goes told roll h.receipts (h.read told)) in
-        ends_as end roll rest' place' h.receipts h.filed first.newest last.newest last.filed read over.1 over.0 h.to.files found why;
-    of = λ told.
-        let read = subst (HasRead roll place' rest') (append-nil h.receipts) (goes told roll h.receipts (h.read told)) in
-        filed_of roll place' rest' h.receipts h.filed first.newest last.newest read h.to.files;
-    told = told_as end h.filed last.filed (omega (arith, h.to.count, none)) found why;
-    few = h.few;
-  }
+  filing_over end found old new first last roll place place' rest rest' seen steps steps' h none goes over
+      why = record {
+        receipts = h.receipts;
+        filed = h.filed;
+        to = h.to;
+        ends = λ told.
+            let read =
+            subst (HasRead roll place' rest') (append-nil h.receipts) (goes told roll h.receipts (h.read told)) in
+            ends_as end roll rest' place' h.receipts h.filed first.newest last.newest last.filed read over.1 over.0
+            h.to.files found why;
+        of = λ told.
+            let read =
+            subst (HasRead roll place' rest') (append-nil h.receipts) (goes told roll h.receipts (h.read told)) in
+            filed_of roll place' rest' h.receipts h.filed first.newest last.newest read h.to.files;
+        told = told_as end h.filed last.filed (omega (arith, h.to.count, none)) found why;
+        few = h.few;
+      }
 
   -- ---- a receipt of another taxi
 
-  pub filing_other : (old new : D) (first last : Tail) (roll : List ℕ) (place place' : Place) (rest rest' : List ℕ) (seen steps steps' : ℕ) (it : Record)
-      → IsFiling B tl tf old new first last roll place rest seen steps steps' → (tf → GoesOn place place' rest rest' (it ∷ [])) → IsOther last.newest it
+  pub filing_other : (old new : D) (first last : Tail) (roll : List ℕ) (place place' : Place) (rest rest' : List ℕ)
+      (seen steps steps' : ℕ) (it : Record)
+      → IsFiling B tl tf old new first last roll place rest seen steps steps'
+      → (tf → GoesOn place place' rest rest' (it ∷ [])) → IsOther last.newest it
       → FilesRoll B tl tf old new first last roll rest' (ends.OtherTaxi (seen + 1)) steps steps'
   filing_other old new first last roll place place' rest rest' seen steps steps' it h goes other = record {
     receipts = h.receipts;
@@ -204,7 +227,8 @@ module _ {D L : Type 0} {N : ℕ} (B : Ghosts D N L) (tl tf : Type 0) where
         );
     of = λ told.
         let read = goes told roll h.receipts (h.read told) in
-        let before = read_first read.taken place'.ahead (h.receipts ++ it ∷ []) h.receipts (it ∷ []) (receipts_so_far roll place' rest' (h.receipts ++ it ∷ []) read) refl in
+        let before = read_first read.taken place'.ahead (h.receipts ++ it ∷ []) h.receipts (it ∷ [])
+        (receipts_so_far roll place' rest' (h.receipts ++ it ∷ []) read) refl in
         record {
           taken = read.taken;
           unread = before.0;
@@ -220,28 +244,38 @@ module _ {D L : Type 0} {N : ℕ} (B : Ghosts D N L) (tl tf : Type 0) where
   }
 
   -- where nothing else has changed since
-  pub filing_other_now : (old new now : D) (first last now_last : Tail) (roll : List ℕ) (place place' : Place) (rest rest' : List ℕ) (seen steps steps' now_steps : ℕ) (it : Record)
-      → IsFiling B tl tf old new first last roll place rest seen steps steps' → (tf → GoesOn place place' rest rest' (it ∷ [])) → IsOther last.newest it → now_last ≡ last → now ≡ new → now_steps ≡ steps'
+  pub filing_other_now : (old new now : D) (first last now_last : Tail) (roll : List ℕ) (place place' : Place)
+      (rest rest' : List ℕ) (seen steps steps' now_steps : ℕ) (it : Record)
+      → IsFiling B tl tf old new first last roll place rest seen steps steps' → (tf → GoesOn place place' rest rest'
+      (it ∷ [])) → IsOther last.newest it → now_last ≡ last → now ≡ new → now_steps ≡ steps'
       → FilesRoll B tl tf old now first now_last roll rest' (ends.OtherTaxi (seen + 1)) steps now_steps
-  filing_other_now old new now first last now_last roll place place' rest rest' seen steps steps' now_steps it h goes other tail log count =
-      subst (λ (d : D). FilesRoll B tl tf old d first now_last roll rest' (ends.OtherTaxi (seen + 1)) steps now_steps) (sym log)
-      (subst (λ (t : Tail). FilesRoll B tl tf old new first t roll rest' (ends.OtherTaxi (seen + 1)) steps now_steps) (sym tail)
-      (subst (λ (n : ℕ). FilesRoll B tl tf old new first last roll rest' (ends.OtherTaxi (seen + 1)) steps n) (sym count)
+  filing_other_now old new now first last now_last roll place place' rest rest' seen steps steps' now_steps it h goes
+      other tail log count =
+      subst (λ (d : D). FilesRoll B tl tf old d first now_last roll rest' (ends.OtherTaxi (seen + 1)) steps now_steps)
+      (sym log)
+      (subst (λ (t : Tail). FilesRoll B tl tf old new first t roll rest' (ends.OtherTaxi (seen + 1)) steps now_steps)
+      (sym tail)
+      (subst
+      (λ (n : ℕ). FilesRoll B tl tf old new first last roll rest' (ends.OtherTaxi (seen + 1)) steps n) (sym count)
       (filing_other old new first last roll place place' rest rest' seen steps steps' it h goes other)))
 
   -- ---- the board failed
 
-  pub filing_fails : (old mid new : D) (first then : Tail) (roll : List ℕ) (place place' : Place) (rest rest' : List ℕ) (seen steps mid_steps steps' : ℕ) (it : Record)
-      → IsFiling B tl tf old mid first then roll place rest seen steps mid_steps → (tf → GoesOn place place' rest rest' (it ∷ [])) → IsNewer then.newest it → LeavesSome B tl mid new then (it ∷ [])
+  pub filing_fails : (old mid new : D) (first then : Tail) (roll : List ℕ) (place place' : Place) (rest rest' : List ℕ)
+      (seen steps mid_steps steps' : ℕ) (it : Record)
+      → IsFiling B tl tf old mid first then roll place rest seen steps mid_steps → (tf
+      → GoesOn place place' rest rest' (it ∷ [])) → IsNewer then.newest it → LeavesSome B tl mid new then (it ∷ [])
       → steps' ≤ mid_steps + 6 → FailsInRoll B tl tf old new first roll rest' steps steps'
-  filing_fails old mid new first then roll place place' rest rest' seen steps mid_steps steps' it h goes newer moments few = record {
-    receipts = h.receipts ++ it ∷ [];
-    filed = h.filed ++ it ∷ [];
-    last = Some it;
-    files = files_one_more first.newest then.newest it h.receipts h.filed h.to.files newer;
-    moments = moments_then B tl old mid new first then h.receipts h.filed (it ∷ []) h.to moments;
-    of = λ told.
-        filed_of roll place' rest' (h.receipts ++ it ∷ []) (h.filed ++ it ∷ []) first.newest (Some it) (goes told roll h.receipts (h.read told))
-        (files_one_more first.newest then.newest it h.receipts h.filed h.to.files newer);
-    few = omega (arith, h.few, few, length-append h.filed (it ∷ []));
-  }
+  filing_fails old mid new first
+      then roll place place' rest rest' seen steps mid_steps steps' it h goes newer moments few = record {
+        receipts = h.receipts ++ it ∷ [];
+        filed = h.filed ++ it ∷ [];
+        last = Some it;
+        files = files_one_more first.newest then.newest it h.receipts h.filed h.to.files newer;
+        moments = moments_then B tl old mid new first then h.receipts h.filed (it ∷ []) h.to moments;
+        of = λ told.
+            filed_of roll place' rest' (h.receipts ++ it ∷ []) (h.filed ++ it ∷ []) first.newest (Some it)
+            (goes told roll h.receipts (h.read told))
+            (files_one_more first.newest then.newest it h.receipts h.filed h.to.files newer);
+        few = omega (arith, h.few, few, length-append h.filed (it ∷ []));
+      }

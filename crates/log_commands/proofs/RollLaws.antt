@@ -1,5 +1,6 @@
 -- What a roll is read as.
-use Rattle.std.proofs.Common.{◌≡◌, ◌≢◌, ◌⊎◌, inl, inr, ℕ, suc, ◌+◌, ◌<◌, ◌≤◌, get_or, List, [], ◌∷◌, ◌++◌, length, refl, ap, sym, ◌∙◌, subst, arith, length-append}
+use Rattle.std.proofs.Common.{◌≡◌, ◌≢◌, ◌⊎◌, inl, inr, ℕ, suc, ◌+◌, ◌<◌, ◌≤◌, get_or, List, [], ◌∷◌, ◌++◌, length, refl}
+use Rattle.std.proofs.Common.{ap, sym, ◌∙◌, subst, arith, length-append}
 use Rattle.std.specs.Prelude.{codes}
 use Rattle.std.proofs.lemmas.List.{append-nil}
 use Rattle.taxi_units.specs.declared.receipt.Receipt.{Receipt}
@@ -13,7 +14,8 @@ use Rattle.log_commands.specs.Roll.Reads.{over, found, passed}
 -- ---- one receipt at a place
 
 -- of two beginnings of one text the longer goes on after the shorter
-pub more_of : (a b c d : List ℕ) → a ++ b ≡ c ++ d → length a ≤ length c → (more : List ℕ) × (c ≡ a ++ more) × (b ≡ more ++ d)
+pub more_of : (a b c d : List ℕ) → a ++ b ≡ c ++ d → length a ≤ length c
+    → (more : List ℕ) × (c ≡ a ++ more) × (b ≡ more ++ d)
 more_of [] b c d e few = (c, refl, e)
 more_of (x ∷ a) b [] d e few = absurd (omega arith)
 more_of (x ∷ a) b (y ∷ c) d e few =
@@ -28,17 +30,21 @@ same_fields a b text number taxi = λ i. record { text = text i; number = number
 -- records of one text are one
 same_text : (a b : Record) → a.text ≡ b.text → IsRecord a → IsRecord b → a ≡ b
 same_text a b e h k =
-    let there : IsReceiptText a.text k.receipt k.part = subst (λ (t : List ℕ). IsReceiptText t k.receipt k.part) (sym e) k.is in
+    let there : IsReceiptText a.text k.receipt k.part =
+    subst (λ (t : List ℕ). IsReceiptText t k.receipt k.part) (sym e) k.is in
     let receipts = one_receipt a.text h.receipt k.receipt h.part k.part h.is there in
     let parts = one_part a.text h.receipt k.receipt h.part k.part h.is there in
-    same_fields a b e (h.number_is ∙ (ap (λ (r : Receipt). r.number) receipts ∙ sym k.number_is)) (h.taxi_is ∙ (ap (λ (p : Part). p.taxi) parts ∙ sym k.taxi_is))
+    same_fields a b e (h.number_is ∙ (ap (λ (r : Receipt). r.number) receipts ∙ sym k.number_is))
+    (h.taxi_is ∙ (ap (λ (p : Part). p.taxi) parts ∙ sym k.taxi_is))
 
 -- no receipt begins another
 none_more : (a b : Record) (more : List ℕ) → b.text ≡ a.text ++ more → IsRecord a → IsRecord b → more ≡ []
-none_more a b more e h k = no_beginning a.text more h.receipt k.receipt h.part k.part h.is (subst (λ (t : List ℕ). IsReceiptText t k.receipt k.part) e k.is)
+none_more a b more e h k = no_beginning a.text more h.receipt k.receipt h.part k.part h.is
+    (subst (λ (t : List ℕ). IsReceiptText t k.receipt k.part) e k.is)
 
 -- where one begins a text, it is the one that begins it, and the same is left
-one_by : (text : List ℕ) (a b : Record) (after after' : List ℕ) → text ≡ a.text ++ after → text ≡ b.text ++ after' → length a.text ≤ length b.text → IsRecord a → IsRecord b → (a ≡ b) × (after ≡ after')
+one_by : (text : List ℕ) (a b : Record) (after after' : List ℕ) → text ≡ a.text ++ after → text ≡ b.text ++ after'
+    → length a.text ≤ length b.text → IsRecord a → IsRecord b → (a ≡ b) × (after ≡ after')
 one_by text a b after after' e f few h k =
     let there = more_of a.text after b.text after' (sym e ∙ f) few in
     let none = none_more a b there.0 there.1 h k in (
@@ -49,7 +55,8 @@ one_by text a b after after' e f few h k =
 or_later : (m n : ℕ) → (m ≤ n) ⊎ (n ≤ m)
 or_later m n = grind arith
 
-pub one_in_front : (text : List ℕ) (a b : Record) (after after' : List ℕ) → text ≡ a.text ++ after → text ≡ b.text ++ after' → IsRecord a → IsRecord b → (a ≡ b) × (after ≡ after')
+pub one_in_front : (text : List ℕ) (a b : Record) (after after' : List ℕ) → text ≡ a.text ++ after
+    → text ≡ b.text ++ after' → IsRecord a → IsRecord b → (a ≡ b) × (after ≡ after')
 one_in_front text a b after after' e f h k =
     elim (or_later (length a.text) (length b.text)) [
       | inl few ↦ one_by text a b after after' e f few h k
@@ -67,22 +74,33 @@ not_over a after e h =
     let some = some_bytes a h in
     omega (arith, ap length e, length-append a.text after, ap length some.1)
 
-read_by : (roll : List ℕ) (a b : List Record) (rest rest' : List ℕ) → Reads roll a rest → Reads roll b rest' → rest ≡ [] → rest' ≡ [] → a ≡ b
+read_by : (roll : List ℕ) (a b : List Record) (rest rest' : List ℕ) → Reads roll a rest → Reads roll b rest' → rest ≡ []
+    → rest' ≡ [] → a ≡ b
 read_by roll a b rest rest' (over text) (over text') e f = refl
-read_by roll a b rest rest' (over text) (found text' after last r more is h reads) e f = absurd (not_over r after (sym e ∙ is) h)
-read_by roll a b rest rest' (over text) (passed text' after last byte receipts is none reads) e f = absurd (omega (arith, ap length (sym e ∙ is)))
-read_by roll a b rest rest' (found text' after last r more is h reads) (over text) e f = absurd (not_over r after (sym f ∙ is) h)
-read_by roll a b rest rest' (found text after last r more is h reads) (found text' after' last' r' more' is' h' reads') e f =
+read_by roll a b rest rest' (over text) (found text' after last r more is h reads) e f =
+    absurd (not_over r after (sym e ∙ is) h)
+read_by roll a b rest rest' (over text) (passed text' after last byte receipts is none reads) e f =
+    absurd (omega (arith, ap length (sym e ∙ is)))
+read_by roll a b rest rest' (found text' after last r more is h reads) (over text) e f =
+    absurd (not_over r after (sym f ∙ is) h)
+read_by roll a b rest rest' (found text after last r more is h reads)
+    (found text' after' last' r' more' is' h' reads') e f =
     let one = one_in_front text r r' after after' is is' h h' in
-    let others = read_by after more more' last last' reads (subst (λ (t : List ℕ). Reads t more' last') (sym one.1) reads') e f in
+    let others =
+    read_by after more more' last last' reads (subst (λ (t : List ℕ). Reads t more' last') (sym one.1) reads') e f in
     ap (λ (x : Record). x ∷ more) one.0 ∙ ap (λ (xs : List Record). r' ∷ xs) others
-read_by roll a b rest rest' (found text after last r more is h reads) (passed text' after' last' byte receipts is' none reads') e f = absurd (none r after is h)
-read_by roll a b rest rest' (passed text after last byte receipts is none reads) (over text') e f = absurd (omega (arith, ap length (sym f ∙ is)))
-read_by roll a b rest rest' (passed text after last byte receipts is none reads) (found text' after' last' r' more' is' h' reads') e f = absurd (none r' after' is' h')
-read_by roll a b rest rest' (passed text after last byte receipts is none reads) (passed text' after' last' byte' receipts' is' none' reads') e f =
+read_by roll a b rest rest' (found text after last r more is h reads)
+    (passed text' after' last' byte receipts is' none reads') e f = absurd (none r after is h)
+read_by roll a b rest rest' (passed text after last byte receipts is none reads) (over text') e f =
+    absurd (omega (arith, ap length (sym f ∙ is)))
+read_by roll a b rest rest' (passed text after last byte receipts is none reads)
+    (found text' after' last' r' more' is' h' reads') e f = absurd (none r' after' is' h')
+read_by roll a b rest rest' (passed text after last byte receipts is none reads)
+    (passed text' after' last' byte' receipts' is' none' reads') e f =
     let same : byte ∷ after ≡ byte' ∷ after' = sym is ∙ is' in
     let tails : after ≡ after' = cc in
-    read_by after receipts receipts' last last' reads (subst (λ (t : List ℕ). Reads t receipts' last') (sym tails) reads') e f
+    read_by after receipts receipts' last last' reads
+    (subst (λ (t : List ℕ). Reads t receipts' last') (sym tails) reads') e f
 
 -- a roll is read in one way
 pub read_once : (roll : List ℕ) (a b : List Record) → AreOnRoll a roll → AreOnRoll b roll → a ≡ b
@@ -91,10 +109,13 @@ read_once roll a b h k = read_by roll a b [] [] h k refl refl
 -- ---- reading on
 
 -- one reading after another
-pub read_on : (text mid rest : List ℕ) (a b : List Record) → Reads text a mid → Reads mid b rest → Reads text (a ++ b) rest
+pub read_on : (text mid rest : List ℕ) (a b : List Record) → Reads text a mid → Reads mid b rest
+    → Reads text (a ++ b) rest
 read_on text mid rest a b (over t) then = then
-read_on text mid rest a b (found t after last r more is h reads) then = found t after rest r (more ++ b) is h (read_on after last rest more b reads then)
-read_on text mid rest a b (passed t after last byte receipts is none reads) then = passed t after rest byte (receipts ++ b) is none (read_on after last rest receipts b reads then)
+read_on text mid rest a b (found t after last r more is h reads) then =
+    found t after rest r (more ++ b) is h (read_on after last rest more b reads then)
+read_on text mid rest a b (passed t after last byte receipts is none reads) then =
+    passed t after rest byte (receipts ++ b) is none (read_on after last rest receipts b reads then)
 
 -- a receipt begins with its first letter
 no_letter : (byte : ℕ) (after : List ℕ) → byte ≢ 82 → BeginsWithNone (byte ∷ after)
@@ -105,22 +126,27 @@ no_letter byte after other r behind e h =
     other first
 
 -- bytes that aren't that letter are passed
-pub pass_bytes : (bytes more : List ℕ) → ((k : ℕ) → k < length bytes → get_or bytes k 0 ≢ 82) → Reads (bytes ++ more) [] more
+pub pass_bytes : (bytes more : List ℕ) → ((k : ℕ) → k < length bytes → get_or bytes k 0 ≢ 82)
+    → Reads (bytes ++ more) [] more
 pass_bytes [] more others = over more
 pass_bytes (byte ∷ bytes) more others =
-    passed (byte ∷ (bytes ++ more)) (bytes ++ more) more byte [] refl (no_letter byte (bytes ++ more) (others 0 (omega arith)))
+    passed (byte ∷ (bytes ++ more)) (bytes ++ more) more byte [] refl
+    (no_letter byte (bytes ++ more) (others 0 (omega arith)))
     (pass_bytes bytes more (λ k few. others (suc k) (omega arith)))
 
 -- each receipt takes bytes
-pub reads_bytes : (text rest : List ℕ) (receipts : List Record) → Reads text receipts rest → length receipts + length rest ≤ length text
+pub reads_bytes : (text rest : List ℕ) (receipts : List Record) → Reads text receipts rest
+    → length receipts + length rest ≤ length text
 reads_bytes text rest receipts (over t) = omega arith
 reads_bytes text rest receipts (found t after last r more is h reads) =
     let some = some_bytes r h in
     omega (arith, reads_bytes after last more reads, ap length is, length-append r.text after, ap length some.1)
-reads_bytes text rest receipts (passed t after last byte those is none reads) = omega (arith, reads_bytes after last those reads, ap length is)
+reads_bytes text rest receipts (passed t after last byte those is none reads) =
+    omega (arith, reads_bytes after last those reads, ap length is)
 
 -- the first of the receipts that a reading gives are read first
-pub read_first : (text rest : List ℕ) (all some more : List Record) → Reads text all rest → all ≡ some ++ more → (mid : List ℕ) × Reads text some mid
+pub read_first : (text rest : List ℕ) (all some more : List Record) → Reads text all rest → all ≡ some ++ more
+    → (mid : List ℕ) × Reads text some mid
 read_first text rest all [] more reads e = (text, over text)
 read_first text rest all (x ∷ some) more (over t) e = absurd (omega (arith, ap length e))
 read_first text rest all (x ∷ some) more (found t after last r others is h reads) e =

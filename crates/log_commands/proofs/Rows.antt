@@ -1,8 +1,9 @@
 -- Going through the slots of the log from the newest record back.
-use Rattle.std.proofs.Common.{◌≡◌, inl, inr, ℕ, ◌+◌, ◌-◌, ◌<◌, ◌≤◌, List, [], ◌∷◌, length, refl, sym, ◌∙◌, subst, arith, Some}
+use Rattle.std.proofs.Common.{◌≡◌, inl, inr, ℕ, ◌+◌, ◌-◌, ◌<◌, ◌≤◌, List, [], ◌∷◌, length, refl, sym, ◌∙◌, subst, arith}
+use Rattle.std.proofs.Common.{Some}
 use Rattle.std.proofs.lemmas.Bool.{cases_lt}
-use Rattle.log_commands.specs.Slots.{slot_of, Holds, IsClosed}
-use Rattle.log_commands.specs.LogList.{AreHeld, IsCount, StandsAt}
+use Rattle.log_commands.specs.Slots.{slot_of, HasRecord, IsClosed}
+use Rattle.log_commands.specs.LogList.{AreInSlots, IsCount, StandsAt}
 use Rattle.log_commands.specs.LogRow.{IsCountBack, IsRow, slot_back}
 use Rattle.log_commands.specs.LogScan.{IsEntry}
 use Rattle.log_commands.specs.declared.scanning.Entry.{Entry}
@@ -29,14 +30,18 @@ slots_agree last back below small = omega (arith, below, small)
 
 module _ (image : List ℕ) (last back newer : ℕ) (small : back < 256) (row : IsRow image last back newer) where
   -- one more record
-  pub row_record : (entry : Entry) → IsEntry image (slot_back last back) (Some entry) → back < last → entry.place ≡ last - back → entry.number < newer → IsRow image last (back + 1) entry.number
+  pub row_record : (entry : Entry) → IsEntry image (slot_back last back) (Some entry) → back < last
+      → entry.place ≡ last - back → entry.number < newer → IsRow image last (back + 1) entry.number
   row_record entry (it, holds, number_is, slot_is) below place_is older = record {
     records = it ∷ row.records;
     count = inl (omega (arith, below), omega (arith, whole));
-    held = subst (λ (p : ℕ). AreHeld image p (it ∷ row.records)) (let e : last - back ≡ last + 1 - length (it ∷ row.records) = omega (arith, whole, below) in e) (
-      subst (λ (s : ℕ). Holds image s (last - back) it) (sym (slots_agree last back below small)) (subst (λ (p : ℕ). Holds image (slot_back last back) p it) place_is holds),
-      subst (λ (p : ℕ). AreHeld image p row.records) (let e : last + 1 - length row.records ≡ last - back + 1 = omega (arith, whole, below) in e) row.held,
-    );
+    held = subst (λ (p : ℕ). AreInSlots image p (it ∷ row.records))
+        (let e : last - back ≡ last + 1 - length (it ∷ row.records) = omega (arith, whole, below) in e) (
+          subst (λ (s : ℕ). HasRecord image s (last - back) it) (sym (slots_agree last back below small))
+              (subst (λ (p : ℕ). HasRecord image (slot_back last back) p it) place_is holds),
+          subst (λ (p : ℕ). AreInSlots image p row.records)
+              (let e : last + 1 - length row.records ≡ last - back + 1 = omega (arith, whole, below) in e) row.held,
+        );
     rise = λ number less. (omega (arith, less, number_is), row.rise it.number (omega (arith, older, number_is)));
     some = omega (arith, holds.spells.first, holds.spells.most, number_is);
     others = λ other before few. absurd (omega (arith, before, few, whole));
@@ -45,10 +50,12 @@ module _ (image : List ℕ) (last back newer : ℕ) (small : back < 256) (row : 
       whole : length row.records ≡ back
       whole = whole_back last back (length row.records) below row.count small
 
-  others_more : IsClosed image (slot_back last back) → (other : ℕ) → other < back + 1 → length row.records ≤ other → IsClosed image (slot_back last other)
+  others_more : IsClosed image (slot_back last back) → (other : ℕ) → other < back + 1 → length row.records ≤ other
+      → IsClosed image (slot_back last other)
   others_more shut other before few = elim (cases_lt other back) [
     | inl earlier ↦ row.others other earlier few
-    | inr now ↦ subst (λ (o : ℕ). IsClosed image (slot_back last o)) (let e : back ≡ other = omega (arith, now, before) in e) shut
+    | inr now ↦ subst (λ (o : ℕ). IsClosed image (slot_back last o))
+        (let e : back ≡ other = omega (arith, now, before) in e) shut
   ]
 
   count_over : last ≤ back → IsCountBack last (back + 1) (length row.records)
@@ -59,10 +66,15 @@ module _ (image : List ℕ) (last back newer : ℕ) (small : back < 256) (row : 
   ]
 
   count_spare : back ≡ 255 → back < last → IsCountBack last (back + 1) (length row.records)
-  count_spare is below = inr (inr (omega (arith, is), omega (arith, is, below), omega (arith, is, whole_back last back (length row.records) below row.count small)))
+  count_spare is below = inr (inr (
+    omega (arith, is),
+    omega (arith, is, below),
+    omega (arith, is, whole_back last back (length row.records) below row.count small),
+  ))
 
   -- a closed slot, behind the oldest, or of the oldest
-  row_closed : IsClosed image (slot_back last back) → IsCountBack last (back + 1) (length row.records) → IsRow image last (back + 1) newer
+  row_closed : IsClosed image (slot_back last back) → IsCountBack last (back + 1) (length row.records)
+      → IsRow image last (back + 1) newer
   row_closed shut count = record {
     records = row.records;
     count = count;
@@ -98,8 +110,10 @@ row_stands image last newer row = (
     rise = row.rise 0 row.some;
     others = λ slot small none. elim (cases_lt (slot_back last slot) (length row.records)) [
       | inl among ↦ absurd (none (last - slot_back last slot) (omega (arith, among, few row.count)) (omega arith)
-          (sym (slots_agree last (slot_back last slot) (omega (arith, among, few row.count)) (slot_small last slot) ∙ slot_found last slot small)))
-      | inr beyond ↦ subst (IsClosed image) (slot_found last slot small) (row.others (slot_back last slot) (slot_small last slot) beyond)
+          (sym (slots_agree last (slot_back last slot) (omega (arith, among, few row.count)) (slot_small last slot)
+          ∙ slot_found last slot small)))
+      | inr beyond ↦ subst (IsClosed image) (slot_found last slot small)
+          (row.others (slot_back last slot) (slot_small last slot) beyond)
     ];
   },
 )

@@ -132,7 +132,7 @@ module _ {D L : Type 0} {N : ℕ} (B : Ghosts D N L) where
 
   -- a call only looks at the log where it writes nothing to it: a byte may have changed only where some were in flight,
   -- unless the board failed none has, and at no moment might a cut have left an image that it couldn't have left before
-  pub record OnlyLooks (log log' : D) (status : ℕ) : Type 0 where
+  pub record LeavesLogUnwritten (log log' : D) (status : ℕ) : Type 0 where
     pub image : SameBut (B.in_flight log) (B.image log) (B.image log')
     pub same : status ≢ 8 → B.image log' ≡ B.image log
     pub flight : (place : ℕ) → B.in_flight log' place → B.in_flight log place

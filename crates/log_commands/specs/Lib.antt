@@ -1,7 +1,7 @@
 pub mod AppendStages
 pub mod Appends
+pub mod BeforeLastLine
 pub mod Calls
-pub mod Comes
 pub mod Endings
 pub mod Filed
 pub mod FilingEnds
@@ -9,8 +9,8 @@ pub mod Filings
 pub mod LogList
 pub mod LogRow
 pub mod LogScan
-pub mod Looking
 pub mod Reading
+pub mod ReceiptSearch
 pub mod Record
 pub mod Roll
 pub mod Showing

@@ -1,12 +1,12 @@
 -- Rules: what list of receipts an image of the log stands for.
 use Rattle.std.specs.Prelude.{◌≡◌, ◌≢◌, ◌⊎◌, ℕ, ◌+◌, ◌-◌, ◌<◌, ◌≤◌, List, [], ◌∷◌, length, drop}
 use Rattle.log_commands.specs.Record.{Record}
-use Rattle.log_commands.specs.Slots.{slot_of, Holds, IsClosed}
+use Rattle.log_commands.specs.Slots.{slot_of, HasRecord, IsClosed}
 
 -- records are held from a place in the log on where they stand one after another in the slots of its places
-abbrev pub AreHeld : List ℕ → ℕ → List Record → Type 0
-AreHeld image place [] = Unit {0}
-AreHeld image place (it ∷ more) = Holds image (slot_of place) place it × AreHeld image (place + 1) more
+abbrev pub AreInSlots : List ℕ → ℕ → List Record → Type 0
+AreInSlots image place [] = Unit {0}
+AreInSlots image place (it ∷ more) = HasRecord image (slot_of place) place it × AreInSlots image (place + 1) more
 
 -- the numbers of records rise from above a number on
 abbrev pub RiseFrom : ℕ → List Record → Type 0
@@ -22,7 +22,7 @@ IsCount last count = ((last < 256) × (count ≡ last)) ⊎ ((256 ≤ last) × (
 -- row, their numbers rise, and all other slots are closed
 pub record EndsWith (image : List ℕ) (last : ℕ) (records : List Record) : Type 0 where
   pub count : IsCount last (length records)
-  pub held : AreHeld image (last + 1 - length records) records
+  pub held : AreInSlots image (last + 1 - length records) records
   pub rise : RiseFrom 0 records
   pub others : (slot : ℕ) → slot < 256
       → ((place : ℕ) → last < place + length records → place ≤ last → slot ≢ slot_of place) → IsClosed image slot

@@ -3,7 +3,7 @@
 use Rattle.std.specs.Prelude.{◌≡◌, ◌⊎◌, ℕ, ◌+◌, ◌-◌, ◌%◌, ◌<◌, ◌≤◌, List, length, get_or, Option, None, Some}
 use Rattle.log_commands.specs.Record.{Record}
 use Rattle.log_commands.specs.Slots.{IsClosed}
-use Rattle.log_commands.specs.LogList.{AreHeld, RiseFrom}
+use Rattle.log_commands.specs.LogList.{AreInSlots, RiseFrom}
 use Rattle.log_commands.specs.LogScan.{IsEntry}
 use Rattle.log_commands.specs.declared.scanning.Entry.{Entry}
 
@@ -27,7 +27,7 @@ IsCountBack last back count =
 pub record IsRow (image : List ℕ) (last back newer : ℕ) : Type 0 where
   pub records : List Record
   pub count : IsCountBack last back (length records)
-  pub held : AreHeld image (last + 1 - length records) records
+  pub held : AreInSlots image (last + 1 - length records) records
   pub rise : (number : ℕ) → number < newer → RiseFrom number records
   pub some : 0 < newer
   pub others : (other : ℕ) → other < back → length records ≤ other → IsClosed image (slot_back last other)

@@ -1,9 +1,9 @@
 -- For proofs: what a scan of the log tells of its slots. Unread says which slots are bad.
 use Rattle.std.specs.Prelude.{◌≡◌, ◌≢◌, ℕ, ◌≤◌, List, get_or, drop, Option, Some, None, Result, Ok, Err, ◌⊎◌}
 use Rattle.log_commands.specs.Record.{Record, IsRecord}
-use Rattle.log_commands.specs.Slots.{slot_of, behind_gate, Holds, IsClosed, IsOpen, Spells}
+use Rattle.log_commands.specs.Slots.{slot_of, behind_gate, HasRecord, IsClosed, IsOpen, Spells}
 use Rattle.log_commands.specs.declared.scanning.Content.{Content}
-use Rattle.log_commands.specs.declared.scanning.Content.TheVariants.{Closed, Unread, Held}
+use Rattle.log_commands.specs.declared.scanning.Content.TheVariants.{Closed, Unread, Filled}
 use Rattle.log_commands.specs.declared.scanning.Entry.{Entry}
 use Rattle.log_commands.specs.declared.scanning.ScanFault.{ScanFault}
 use Rattle.log_commands.specs.declared.scanning.ScanFault.TheVariants.{BadSlot}
@@ -15,26 +15,26 @@ abbrev pub IsContent : List ℕ → ℕ → Content → Type 0
 IsContent image slot Closed = IsClosed image slot
 IsContent image slot Unread = IsOpen image slot × ((place : ℕ) (it : Record)
     → ¬ Spells (behind_gate image slot) place it)
-IsContent image slot (Held place it) = Holds image slot place it
+IsContent image slot (Filled place it) = HasRecord image slot place it
 
 -- the 512 bytes of a slot have this content: a closed gate, an open one before no record's bytes, or before a record's
 abbrev pub IsContentOf : List ℕ → Content → Type 0
 IsContentOf bytes Closed = get_or bytes 0 0 ≢ 165
 IsContentOf bytes Unread = (get_or bytes 0 0 ≡ 165) × ((place : ℕ) (it : Record)
     → ¬ Spells (drop 1 bytes) place it)
-IsContentOf bytes (Held place it) = (get_or bytes 0 0 ≡ 165) × Spells (drop 1 bytes) place it
+IsContentOf bytes (Filled place it) = (get_or bytes 0 0 ≡ 165) × Spells (drop 1 bytes) place it
 
 -- a content that was read is sound, whatever the board tells, where its record is one, at a place of 1 up to its number
-abbrev pub IsSoundContent : Content → Type 0
-IsSoundContent Closed = Unit {0}
-IsSoundContent Unread = Unit {0}
-IsSoundContent (Held place it) = IsRecord it × (1 ≤ place) × (place ≤ it.number)
+abbrev pub IsContentInRange : Content → Type 0
+IsContentInRange Closed = Unit {0}
+IsContentInRange Unread = Unit {0}
+IsContentInRange (Filled place it) = IsRecord it × (1 ≤ place) × (place ≤ it.number)
 
 -- a slot's content gives this answer: no entry, the entry of its record, or that the slot is bad
 abbrev pub IsEntryOf : ℕ → Content → Result (Option Entry) ScanFault → Type 0
 IsEntryOf slot Closed result = result ≡ Ok None
 IsEntryOf slot Unread result = result ≡ Err (BadSlot slot)
-IsEntryOf slot (Held place it) result =
+IsEntryOf slot (Filled place it) result =
     ((slot_of place ≡ slot) × (result ≡ Ok (Some (record { place = place; number = it.number }))))
     ⊎ ((slot_of place ≢ slot) × (result ≡ Err (BadSlot slot)))
 
@@ -43,4 +43,4 @@ IsEntryOf slot (Held place it) result =
 abbrev pub IsEntry : List ℕ → ℕ → Option Entry → Type 0
 IsEntry image slot None = IsClosed image slot
 IsEntry image slot (Some entry) =
-    (it : Record) × Holds image slot entry.place it × (it.number ≡ entry.number) × (slot_of entry.place ≡ slot)
+    (it : Record) × HasRecord image slot entry.place it × (it.number ≡ entry.number) × (slot_of entry.place ≡ slot)

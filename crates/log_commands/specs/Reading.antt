@@ -1,6 +1,6 @@
 -- For proofs: where a reader of a roll stands, and what it has read. Reads, in Roll, says what a roll has.
 use Rattle.std.specs.Prelude.{◌≡◌, ◌≢◌, ℕ, ◌+◌, List, [], ◌++◌, length, Option, Some, None, is_some}
-use Rattle.log_commands.specs.Looking.{MayFollow}
+use Rattle.log_commands.specs.ReceiptSearch.{MayFollow}
 use Rattle.log_commands.specs.Record.{Record}
 use Rattle.log_commands.specs.Roll.{Reads}
 use Rattle.log_commands.specs.declared.roll.RollEnd.{RollEnd}

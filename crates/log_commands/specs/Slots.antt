@@ -42,6 +42,6 @@ abbrev pub behind_gate : List ℕ → ℕ → List ℕ
 behind_gate image slot = take 511 (drop (slot_at slot + 1) image)
 
 -- a slot holds a record at a place in the log where it is open and the bytes behind its gate spell that
-pub record Holds (image : List ℕ) (slot place : ℕ) (it : Record) : Type 0 where
+pub record HasRecord (image : List ℕ) (slot place : ℕ) (it : Record) : Type 0 where
   pub opened : IsOpen image slot
   pub spells : Spells (behind_gate image slot) place it

@@ -2,12 +2,12 @@
 use Rattle.std.specs.Prelude.{◌≢◌, ℕ, ◌<◌, List}
 use Rattle.log_commands.specs.LogList.{StandsFor}
 use Rattle.log_commands.specs.Record.{Record}
-use Rattle.log_commands.specs.Slots.{slot_of, Holds, IsOpen}
+use Rattle.log_commands.specs.Slots.{slot_of, HasRecord, IsOpen}
 
 -- a slot is bad where it is open and holds no record at a place whose slot it is
 pub record IsBad (image : List ℕ) (slot : ℕ) : Type 0 where
   pub opened : IsOpen image slot
-  pub none : (place : ℕ) (it : Record) → Holds image slot place it → slot_of place ≢ slot
+  pub none : (place : ℕ) (it : Record) → HasRecord image slot place it → slot_of place ≢ slot
 
 -- a slot is the lowest bad one where it is bad and no slot before it is
 pub record IsLowestBad (image : List ℕ) (slot : ℕ) : Type 0 where

@@ -2,7 +2,7 @@
 ghost use Rattle.std.specs.Prelude.{◌≡◌, ◌⊎◌, ◌+◌, ◌≤◌, ◌<◌, List, [], ◌∷◌, ◌++◌, nat_lt, OnOk};
 ghost use Rattle.outside.specs.Faults.{HasCause};
 ghost use Rattle.outside.specs.Runs.{LeavesOnly};
-ghost use Rattle.log_commands.specs.Appends.{IsKept, IsReady, IsShut, IsStep, IsWritten};
+ghost use Rattle.log_commands.specs.Appends.{IsListKept, IsReady, IsShut, IsStep, IsWritten};
 ghost use Rattle.log_commands.specs.LogList.{RiseFrom, StandsFor, last_ones};
 ghost use Rattle.log_commands.specs.Record.{Record, IsRecord};
 ghost use Rattle.log_commands.specs.Slots.{slot_at, slot_of};
@@ -39,7 +39,7 @@ fn shut_gate<G: Board<LOG_SIZE, L>, L: Ledger>(
 ) -> Result<(), Failed>
     ensures any_moment { G.tells_image → (records : List Record)
         → IsReady (G.image log.old) (G.in_flight log.old) last is_open records
-        → LeavesOnly G.Board log.old log.new (λ image text. IsKept records image) }
+        → LeavesOnly G.Board log.old log.new (λ image text. IsListKept records image) }
     ensures shut { G.tells_image → OnOk result ((records : List Record)
         → IsReady (G.image log.old) (G.in_flight log.old) last is_open records
         → IsShut (G.image log.new) (G.in_flight log.new) last (last_ones 255 records)) }

@@ -5,9 +5,9 @@ ghost use Rattle.slot_store.specs.Syncs.{IsAsHeld, LeavesFromSync, ReadsOnly};
 ghost use Rattle.log_commands.specs.Appends.{IsStill};
 ghost use Rattle.log_commands.specs.Filings.{IsLast, IsTailOf, newest_of};
 ghost use Rattle.log_commands.specs.LogList.{EndsWith, StandsAt, StandsFor};
-ghost use Rattle.log_commands.specs.LogScan.{IsBroken, IsLowestBad, IsSoundContent};
+ghost use Rattle.log_commands.specs.LogScan.{IsBroken, IsLowestBad, IsContentInRange};
 ghost use Rattle.log_commands.specs.Record.{Record, IsRecord};
-ghost use Rattle.log_commands.specs.declared.scanning.Content.TheVariants.{Held};
+ghost use Rattle.log_commands.specs.declared.scanning.Content.TheVariants.{Filled};
 ghost use Rattle.log_commands.specs.declared.scanning.ScanFault.TheVariants.{BadSlot, DeviceFailed};
 ghost use Rattle.log_commands.specs.declared.finding.FindFault.{FindFault};
 ghost use Rattle.log_commands.specs.declared.finding.FindFault.TheVariants.{Broken, LogFault};
@@ -25,12 +25,12 @@ use taxi_units::Steps;
 
 /// The record that a slot holds, where it is at this place in the log.
 fn record_at(last: u64, content: Content) -> Option<LogRecord>
-    requires { IsSoundContent content }
-    ensures record { (it : Record) → content ≡ Held last it → result ≡ Some it }
+    requires { IsContentInRange content }
+    ensures record { (it : Record) → content ≡ Filled last it → result ≡ Some it }
     ensures sound { IfSome result (λ it. IsRecord it × (last ≤ it.number)) }
 {
     match content {
-        Content::Held(place, it) => { if place == last { Some(it) } else { None } }
+        Content::Filled(place, it) => { if place == last { Some(it) } else { None } }
         Content::Unread | Content::Closed => None,
     }
 }

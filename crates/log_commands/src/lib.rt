@@ -15,8 +15,8 @@ mod finding;
 mod front;
 mod log_laws;
 mod log_record;
-mod look;
 mod newest;
+mod receipt_search;
 mod roll;
 #[cfg(test)]
 mod roll_tests;

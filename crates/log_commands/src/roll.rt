@@ -9,7 +9,7 @@ ghost use Rattle.log_commands.specs.Record.{IsRecord};
 ghost use Rattle.taxi_units.specs.Streams.{stream_limit};
 
 use crate::log_record::LogRecord;
-use crate::look::look;
+use crate::receipt_search::find_receipt;
 use outside::{Failed, Files};
 use std::marker::Model;
 use taxi_units::STREAM_LIMIT;
@@ -118,7 +118,7 @@ impl Roll {
         ensures end { self.new.end ≡ self.old.end }
     {
         let ended = self.end.is_some();
-        let (count, record) = look(&self.window[self.from..self.to], ended);
+        let (count, record) = find_receipt(&self.window[self.from..self.to], ended);
         self.from += count;
         record
     }

@@ -3,7 +3,7 @@ ghost use Rattle.std.specs.Prelude.{◌≡◌, ◌+◌, ◌<◌, IfOk};
 ghost use Rattle.outside.specs.Faults.{HasCause};
 ghost use Rattle.slot_store.specs.Syncs.{ReadsOnly};
 ghost use Rattle.log_commands.specs.declared.scanning.ScanFault.TheVariants.{DeviceFailed};
-ghost use Rattle.log_commands.specs.LogScan.{IsContent, IsContentOf, IsEntryOf, IsSoundContent};
+ghost use Rattle.log_commands.specs.LogScan.{IsContent, IsContentOf, IsEntryOf, IsContentInRange};
 
 use crate::appending::OPEN;
 use crate::log_record::LogRecord;
@@ -32,7 +32,7 @@ pub(crate) enum Content {
     Unread,
 
     /// A record, at this place in the log: the slot is open.
-    Held(u64, LogRecord),
+    Filled(u64, LogRecord),
 }
 
 /// What the bytes of a slot hold.
@@ -43,7 +43,7 @@ fn content_in(bytes: &[u8; 512]) -> Content
         return Content::Closed;
     }
     match record_in(&bytes[1..]) {
-        Some((place, record)) => Content::Held(place, record),
+        Some((place, record)) => Content::Filled(place, record),
         None => Content::Unread,
     }
 }
@@ -56,7 +56,7 @@ pub(crate) fn read_slot<G: Board<LOG_SIZE, L>, L: Ledger>(
 ) -> Result<Content, Failed>
     requires { slot < 256 }
     ensures content { G.tells_image → IfOk result (IsContent (G.image log.old) slot) }
-    ensures sound { IfOk result IsSoundContent }
+    ensures sound { IfOk result IsContentInRange }
     ensures image { G.image log.new ≡ G.image log.old }
     ensures reads { ReadsOnly G.Board log.old log.new }
     ensures cause { HasCause (G.faults log.old) (G.faults log.new) result }
@@ -87,12 +87,12 @@ impl From<Failed> for ScanFault {
 
 /// What is known of a slot, 0 to 255, by what it holds: nothing where it is closed.
 pub(crate) fn entry_of(slot: u32, content: Content) -> Result<Option<Entry>, ScanFault>
-    requires { IsSoundContent content }
+    requires { IsContentInRange content }
     ensures { IsEntryOf slot content result }
 {
     match content {
         Content::Closed => Ok(None),
-        Content::Held(place, it) => {
+        Content::Filled(place, it) => {
             if (place - 1) % SLOTS as u64 == u64::from(slot) {
                 Ok(Some(Entry {
                     place,

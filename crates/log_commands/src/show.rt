@@ -3,10 +3,10 @@ ghost use Rattle.std.specs.Prelude.{◌≡◌, ◌+◌, ◌*◌, ◌^◌, ◌<�
 ghost use Rattle.outside.specs.Faults.{HasCause};
 ghost use Rattle.outside.specs.Printing.{Begins};
 ghost use Rattle.outside.specs.Runs.{KeepsStore};
-ghost use Rattle.log_commands.specs.LogList.{AreHeld};
+ghost use Rattle.log_commands.specs.LogList.{AreInSlots};
 ghost use Rattle.log_commands.specs.Record.{Record};
 ghost use Rattle.log_commands.specs.Showing.{texts_of};
-ghost use Rattle.log_commands.specs.Slots.{Holds, slot_of};
+ghost use Rattle.log_commands.specs.Slots.{HasRecord, slot_of};
 
 use crate::log_record::LogRecord;
 use crate::scanning::{Content, SLOTS, read_slot};
@@ -21,9 +21,9 @@ fn show_one<G: Board<LOG_SIZE, L>, L: Ledger>(
     steps: &mut Steps<L>,
 ) -> Result<(), Failed>
     requires { 1 ≤ place }
-    ensures shown { G.tells_image → G.tells_text → (it : Record) → Holds (G.image log.old) (slot_of place) place it
+    ensures shown { G.tells_image → G.tells_text → (it : Record) → HasRecord (G.image log.old) (slot_of place) place it
         → OnOk result (G.printed log.new ≡ G.printed log.old ++ it.text) }
-    ensures begun { G.tells_image → G.tells_text → (it : Record) → Holds (G.image log.old) (slot_of place) place it
+    ensures begun { G.tells_image → G.tells_text → (it : Record) → HasRecord (G.image log.old) (slot_of place) place it
         → Begins (G.printed log.old) (G.printed log.new) it.text }
     ensures keeps { KeepsStore G.Board log.old log.new }
     ensures cause { HasCause (G.faults log.old) (G.faults log.new) result }
@@ -31,7 +31,7 @@ fn show_one<G: Board<LOG_SIZE, L>, L: Ledger>(
 {
     let slot = ((place - 1) % SLOTS as u64) as u32;
     match read_slot(slot, log, steps)? {
-        Content::Held(_, it) => log.print(it.text.as_slice(), steps),
+        Content::Filled(_, it) => log.print(it.text.as_slice(), steps),
         Content::Unread => Ok(()),
         Content::Closed => Ok(()),
     }
@@ -49,10 +49,10 @@ pub(crate) fn show_records<G: Board<LOG_SIZE, L>, L: Ledger>(
     requires some { 1 ≤ first }
     requires fits { first + count < 2 ^ 64 }
     ensures shown { G.tells_image → G.tells_text → (records : List Record)
-        → AreHeld (G.image log.old) first records → length records ≡ count
+        → AreInSlots (G.image log.old) first records → length records ≡ count
         → OnOk result (G.printed log.new ≡ G.printed log.old ++ texts_of records) }
     ensures begun { G.tells_image → G.tells_text → (records : List Record)
-        → AreHeld (G.image log.old) first records → length records ≡ count
+        → AreInSlots (G.image log.old) first records → length records ≡ count
         → Begins (G.printed log.old) (G.printed log.new) (texts_of records) }
     ensures keeps { KeepsStore G.Board log.old log.new }
     ensures cause { HasCause (G.faults log.old) (G.faults log.new) result }

@@ -2,9 +2,9 @@
 ghost use Rattle.std.specs.Prelude.{◌≡◌, ◌≢◌, ◌⊎◌, ℕ, ◌+◌, ◌<◌, ◌≤◌, List, [], length, true, false, Some, map, string_bytes};
 ghost use Rattle.outside.specs.Faults.{MayRise, RisesOnlyIf, Rose};
 ghost use Rattle.outside.specs.Runs.{KeepsStore};
-ghost use Rattle.log_commands.specs.Calls.{AppendsNothing, AreFew, IsCall, IsFit, MayHave, MayHaveReadFault, OnlyLooks};
+ghost use Rattle.log_commands.specs.Calls.{AppendsNothing, AreFew, IsCall, IsFit, MayHave, MayHaveReadFault, LeavesLogUnwritten};
 ghost use Rattle.log_commands.specs.Calls.{WritesNothing, known_of};
-ghost use Rattle.log_commands.specs.Comes.{Comes, IsTold};
+ghost use Rattle.log_commands.specs.BeforeLastLine.{CallReachesLine, IsTold};
 ghost use Rattle.log_commands.specs.Endings.{filing_end, line_of, status_of, unread_end};
 ghost use Rattle.log_commands.specs.FilingEnds.{newest_of};
 ghost use Rattle.log_commands.specs.LogList.{EndsWith, StandsFor};
@@ -52,7 +52,7 @@ fn file<F: Files, G: Board<LOG_SIZE, L>, L: Ledger>(
     log: &mut G,
     steps: &mut Steps<L>,
 ) -> Ended
-    ensures comes { F.tells → G.tells_image → Comes F.Files G.Board (Some Call.File)
+    ensures comes { F.tells → G.tells_image → CallReachesLine F.Files G.Board (Some Call.File)
         files.old files.new log.old log.new steps.old steps.new result }
     ensures read_fault { result ≡ Ended.ReadFault → Rose (F.faults files.old 1) (F.faults files.new 1) }
     ensures reads { (word : ℕ) → MayRise (MayHaveReadFault (status_of result))
@@ -60,7 +60,7 @@ fn file<F: Files, G: Board<LOG_SIZE, L>, L: Ledger>(
     ensures board_fault { RisesOnlyIf (result ≡ Ended.BoardFault) (G.faults log.old) (G.faults log.new) }
     ensures has { MayHave (Some Call.File) (status_of result) }
     ensures looks { WritesNothing (Some Call.File) (status_of result)
-        → OnlyLooks G.Board log.old log.new (status_of result) }
+        → LeavesLogUnwritten G.Board log.old log.new (status_of result) }
     ensures untaken { WritesNothing (Some Call.File) (status_of result) → files.new ≡ files.old }
     ensures others { (word : ℕ) → word ≢ 1 → F.rest files.new word ≡ F.rest files.old word }
 {
@@ -93,12 +93,12 @@ fn count_of(tail: &Tail) -> u64
 
 /// Finds the end of the log, and prints its records, the oldest first.
 fn show<F: Files, G: Board<LOG_SIZE, L>, L: Ledger>(log: &mut G, steps: &mut Steps<L>) -> Ended
-    ensures comes { G.tells_image → (files : F) → Comes F.Files G.Board (Some Call.Show)
+    ensures comes { G.tells_image → (files : F) → CallReachesLine F.Files G.Board (Some Call.Show)
         files files log.old log.new steps.old steps.new result }
     ensures unread { result ≢ Ended.ReadFault }
     ensures board_fault { RisesOnlyIf (result ≡ Ended.BoardFault) (G.faults log.old) (G.faults log.new) }
     ensures has { MayHave (Some Call.Show) (status_of result) }
-    ensures looks { OnlyLooks G.Board log.old log.new (status_of result) }
+    ensures looks { LeavesLogUnwritten G.Board log.old log.new (status_of result) }
     ensures steps { steps.new ≤ steps.old + 770 }
 {
     let tail = match find_tail(log, steps) {
@@ -119,7 +119,7 @@ fn carry_out<F: Files, G: Board<LOG_SIZE, L>, L: Ledger>(
     log: &mut G,
     steps: &mut Steps<L>,
 ) -> Ended
-    ensures comes { known_of call F.tells G.tells_image → Comes F.Files G.Board call
+    ensures comes { known_of call F.tells G.tells_image → CallReachesLine F.Files G.Board call
         files.old files.new log.old log.new steps.old steps.new result }
     ensures read_fault { result ≡ Ended.ReadFault → Rose (F.faults files.old 1) (F.faults files.new 1) }
     ensures reads { (word : ℕ) → MayRise (MayHaveReadFault (status_of result))
@@ -127,7 +127,7 @@ fn carry_out<F: Files, G: Board<LOG_SIZE, L>, L: Ledger>(
     ensures board_fault { RisesOnlyIf (result ≡ Ended.BoardFault) (G.faults log.old) (G.faults log.new) }
     ensures has { MayHave call (status_of result) }
     ensures looks { WritesNothing call (status_of result)
-        → OnlyLooks G.Board log.old log.new (status_of result) }
+        → LeavesLogUnwritten G.Board log.old log.new (status_of result) }
     ensures untaken { WritesNothing call (status_of result) → files.new ≡ files.old }
     ensures others { (word : ℕ) → word ≢ 1 → F.rest files.new word ≡ F.rest files.old word }
     ensures steps { AreFew call steps.old (steps.new + 1) }
@@ -214,7 +214,7 @@ pub fn keep_log<F: Files, G: Board<LOG_SIZE, L>, L: Ledger>(
 
     // `show` and a call with refused words or a refused log write nothing, and take nothing of the roll.
     ensures looks { WritesNothing (call_of (map string_bytes words.now)) result
-        → OnlyLooks G.Board log.old log.new result }
+        → LeavesLogUnwritten G.Board log.old log.new result }
     ensures untaken { WritesNothing (call_of (map string_bytes words.now)) result → files.new ≡ files.old }
     ensures others { (word : ℕ) → word ≢ 1 → F.rest files.new word ≡ F.rest files.old word }
 

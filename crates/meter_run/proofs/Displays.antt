@@ -8,7 +8,7 @@ use Rattle.receipt_text.specs.Shows.{HasFields, ShowsSame}
 use Rattle.receipt_text.specs.Texts.{display_text}
 use Rattle.receipt_text.proofs.Laws.{displays_differ_by_their_fields}
 use Rattle.meter_states.specs.Display.{display_of, same_display}
-use Rattle.meter_states.specs.Kept.{IsKept}
+use Rattle.meter_states.specs.KeptTrip.{IsTripKept}
 use Rattle.meter_states.specs.Meter.{Meter}
 use Rattle.meter_states.specs.Setting.{Setting}
 use Rattle.meter_states.proofs.Laws as laws
@@ -17,11 +17,13 @@ use Rattle.meter_states.proofs.Laws as laws
 abbrev made : (decimals : ℕ) → Operating → (position zone fare supplements : ℕ) → Display
 made d o p z f x = record { operating = o; position = p; zone = z; fare = f; supplements = x; decimals = d }
 
-made_same : (d : ℕ) (o o' : Operating) (p p' z z' f f' x x' : ℕ) → o ≡ o' → p ≡ p' → z ≡ z' → f ≡ f' → x ≡ x' → made d o p z f x ≡ made d o' p' z' f' x'
+made_same : (d : ℕ) (o o' : Operating) (p p' z z' f f' x x' : ℕ) → o ≡ o' → p ≡ p' → z ≡ z' → f ≡ f' → x ≡ x'
+    → made d o p z f x ≡ made d o' p' z' f' x'
 made_same d o o' p p' z z' f f' x x' eo ep ez ef ex = cc
 
 -- what isn't shown for hire is 0 there
-amounts_same : (s : Setting) (m n : Meter) (operating : Operating) → m.operating ≡ operating → IsKept s m → IsKept s n → ShowsSame (display_of s m) (display_of s n)
+amounts_same : (s : Setting) (m n : Meter) (operating : Operating) → m.operating ≡ operating → IsTripKept s m
+    → IsTripKept s n → ShowsSame (display_of s m) (display_of s n)
     → ((display_of s m).fare ≡ (display_of s n).fare) × ((display_of s m).supplements ≡ (display_of s n).supplements)
 amounts_same s m n ForHire is km kn same =
     let one = laws.displays_are_compared_by_their_fields-hire s m km is in
@@ -37,15 +39,19 @@ amounts_same s m n Stopped is km kn same =
     let on : m.operating ≢ ForHire = λ hire. absurd (let bad : Stopped ≡ ForHire = sym is ∙ hire in cc) in
     (same.fare on, same.supplements on)
 
-fields_same : (s : Setting) (m n : Meter) → IsKept s m → IsKept s n → ShowsSame (display_of s m) (display_of s n) → display_of s m ≡ display_of s n
+fields_same : (s : Setting) (m n : Meter) → IsTripKept s m → IsTripKept s n
+    → ShowsSame (display_of s m) (display_of s n) → display_of s m ≡ display_of s n
 fields_same s m n km kn same =
     let a = display_of s m in
     let b = display_of s n in
     let amounts = amounts_same s m n m.operating refl km kn same in
-    made_same s.tariff.decimals a.operating b.operating a.position b.position a.zone b.zone a.fare b.fare a.supplements b.supplements same.operating same.position same.zone amounts.0 amounts.1
+    made_same s.tariff.decimals a.operating b.operating a.position b.position a.zone b.zone a.fare b.fare a.supplements
+    b.supplements same.operating same.position same.zone amounts.0 amounts.1
 
-pub by_their_texts : (s : Setting) (m n : Meter) → IsKept s m → IsKept s n → IsShown (display_of s m) → IsShown (display_of s n) → HasFields (display_of s m) → HasFields (display_of s n)
-    → (display_text (display_of s m) ≡ display_text (display_of s n)) ↔ (same_display (display_of s m) (display_of s n) ≡ true)
+pub by_their_texts : (s : Setting) (m n : Meter) → IsTripKept s m → IsTripKept s n → IsShown (display_of s m)
+    → IsShown (display_of s n) → HasFields (display_of s m) → HasFields (display_of s n)
+    → (display_text (display_of s m) ≡ display_text (display_of s n))
+    ↔ (same_display (display_of s m) (display_of s n) ≡ true)
 by_their_texts s m n km kn shown_m shown_n fields_m fields_n =
     let a = display_of s m in
     let b = display_of s n in

@@ -1,5 +1,6 @@
 -- How a run ends, by what its drive came to.
-use Rattle.std.proofs.Common.{◌≡◌, ◌⊎◌, inl, inr, ◌∙◌, Bool, true, false, ℕ, ◌≤◌, List, ◌++◌, length, Ok, Err, IsErr, Result, sym, ap, subst}
+use Rattle.std.proofs.Common.{◌≡◌, ◌⊎◌, inl, inr, ◌∙◌, Bool, true, false, ℕ, ◌≤◌, List, ◌++◌, length, Ok, Err, IsErr}
+use Rattle.std.proofs.Common.{Result, sym, ap, subst}
 use Rattle.std.proofs.lemmas.List.{take_all}
 use Rattle.outside.specs.Printing.{Begins}
 use Rattle.taxi_units.specs.declared.event.Event.{Event}
@@ -51,25 +52,40 @@ events_taken taken few = ap events_in (take_all stream_limit taken few)
 module _ (told : Type 0) (tables : TableParts) (seal : Seal) (drive left before now : List ℕ) where
   -- what these events show was printed
   abbrev pub Shown : List Event → Type 0
-  Shown events = told → (s : Setting) → IsSettingOf s tables seal → now ≡ before ++ shown_texts (actions_of s first_state events)
+  Shown events = told → (s : Setting) → IsSettingOf s tables seal
+      → now ≡ before ++ shown_texts (actions_of s first_state events)
 
   abbrev pub ShownSome : List Event → Type 0
-  ShownSome events = told → (s : Setting) → IsSettingOf s tables seal → Begins before now (shown_texts (actions_of s first_state events))
+  ShownSome events = told → (s : Setting) → IsSettingOf s tables seal
+      → Begins before now (shown_texts (actions_of s first_state events))
 
-  to_end : (taken : List ℕ) (reached : StreamEnd) → ReachesEnd drive taken left reached → Shown (events_in taken) → RunsTo told tables seal drive left before now reached
-  to_end taken reached h shown = record { end_is = h.ends.end_is; tells = record { taken = taken; split = h.ends.split; shows = h.ends.shows }; printed = subst Shown (sym h.given_is) shown }
+  to_end : (taken : List ℕ) (reached : StreamEnd) → ReachesEnd drive taken left reached → Shown (events_in taken)
+      → RunsTo told tables seal drive left before now reached
+  to_end taken reached h shown = record {
+    end_is = h.ends.end_is;
+    tells = record { taken = taken; split = h.ends.split; shows = h.ends.shows };
+    printed = subst Shown (sym h.given_is) shown;
+  }
 
   -- it stopped, and the supply dropped
-  pub ends : (taken : List ℕ) (stop : Stop) → length taken ≤ stream_limit → IsSplit drive taken left → EndsBy drive taken left stop → Shown (events_in taken)
+  pub ends : (taken : List ℕ) (stop : Stop) → length taken ≤ stream_limit → IsSplit drive taken left
+      → EndsBy drive taken left stop → Shown (events_in taken)
       → RunsDrive told tables seal drive left before now (answer_of stop)
   ends taken stops.Whole few split h shown = to_end taken Whole h shown
   ends taken (stops.BadLine line) few split h shown = to_end taken (BadAt line) h shown
   ends taken stops.TooLong few split h shown = to_end taken Endless h shown
-  ends taken stops.ReadFault few split h shown = record { taken = taken; split = split; stands = h; printed = subst Shown (sym (events_taken taken few)) shown }
+  ends taken stops.ReadFault few split h shown =
+      record { taken = taken; split = split; stands = h; printed = subst Shown (sym (events_taken taken few)) shown }
 
   -- the board failed
-  pub breaks : (taken : List ℕ) → length taken ≤ stream_limit → IsSplit drive taken left → ShownSome (events_in taken) → RunsDrive told tables seal drive left before now {T = Unit {0}} (Err faults.BoardFault)
-  breaks taken few split shown = record { taken = taken; split = split; stands = tt; printed = subst ShownSome (sym (events_taken taken few)) shown }
+  pub breaks : (taken : List ℕ) → length taken ≤ stream_limit → IsSplit drive taken left → ShownSome (events_in taken)
+      → RunsDrive told tables seal drive left before now {T = Unit {0}} (Err faults.BoardFault)
+  breaks taken few split shown = record {
+    taken = taken;
+    split = split;
+    stands = tt;
+    printed = subst ShownSome (sym (events_taken taken few)) shown;
+  }
 
 -- what a test tells where it holds doesn't hold where the test fails
 pub not_told : (test : Bool) (P : Type 0) → (P → test ≡ true) → test ≡ false → P → ⊥

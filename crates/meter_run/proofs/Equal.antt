@@ -10,10 +10,10 @@ use Rattle.outside.proofs.Laws.{keeps_none}
 use Rattle.seal_record.specs.declared.seal.Seal.{Seal}
 use Rattle.tariff_compile.specs.Tables.{TableParts}
 use Rattle.taxi_units.specs.declared.event.Event.{Event}
-use Rattle.totals_record.specs.declared.durable.Durable.{Durable}
+use Rattle.totals_record.specs.declared.durable_state.Durable.{Durable}
 use Rattle.meter_states.specs.Core.{Meets, Stands}
 use Rattle.meter_states.specs.Equals.{interval_of, intervals_of}
-use Rattle.meter_states.specs.Facts.{CachedCore}
+use Rattle.meter_states.specs.Cache.{CachedCore}
 use Rattle.meter_states.specs.Fits.{Fits}
 use Rattle.meter_states.specs.Lawful.{IsLawful}
 use Rattle.meter_states.specs.Meter.{Meter}
@@ -23,7 +23,7 @@ use Rattle.meter_states.specs.Step.{step}
 use Rattle.meter_states.specs.declared.act.Act.{Act}
 use Rattle.meter_run.specs.Deeds.{after_deeds, deeds_of, texts}
 use Rattle.meter_run.specs.Dry.{Carries, IsReady}
-use Rattle.meter_run.specs.Kept.{IsKept, StandsWith}
+use Rattle.meter_run.specs.BetweenEvents.{IsTripKept, StandsWith}
 use Rattle.meter_run.specs.OnStore.{CarriesOut, Has, Knows}
 use Rattle.meter_run.specs.PointLaws.{keeps_still}
 use Rattle.meter_run.specs.Points.{KeepsTo}
@@ -44,19 +44,23 @@ interval_is (suc p) = rw (ne_eqb (suc p) 0 (λ none. absurd cc)) refl
 pub intervals_are : (p n : ℕ) → intervals_of p n ≡ intervals_events p n
 intervals_are p zero = refl
 intervals_are p (suc n) =
-    ap (λ (es : List Event). es ++ intervals_of p n) (interval_is p) ∙ ap (λ (es : List Event). interval_events p ++ es) (intervals_are p n)
+    ap (λ (es : List Event). es ++ intervals_of p n) (interval_is p)
+    ∙ ap (λ (es : List Event). interval_events p ++ es) (intervals_are p n)
 
 -- ---- events at which nothing is done
 
-kept_run : (s : Setting) (es : List Event) (m : Meter) → IsKept s m → IsKept s (run s es m).next
+kept_run : (s : Setting) (es : List Event) (m : Meter) → IsTripKept s m → IsTripKept s (run s es m).next
 kept_run s [] m kept = kept
 kept_run s (event ∷ es) m kept = kept_run s es (step s event m).next (event_leaves s event m kept).kept
 
 -- they commit nothing
-same_durable : (s : Setting) (es : List Event) (m : Meter) → [] ≡ (run s es m).acts → m.durable ≡ (run s es m).next.durable
-same_durable s es m none = ap (λ (acts : List Act). after_deeds m.durable (deeds_of acts)) none ∙ sym (run_durable s es m)
+same_durable : (s : Setting) (es : List Event) (m : Meter) → [] ≡ (run s es m).acts
+    → m.durable ≡ (run s es m).next.durable
+same_durable s es m none =
+    ap (λ (acts : List Act). after_deeds m.durable (deeds_of acts)) none ∙ sym (run_durable s es m)
 
-pub stands_still : (s : Setting) (es : List Event) (core core' : CachedCore) (d : Durable) (m : Meter) → StandsWith s core.plain d m → Meets s core'.plain [] (run s es m) → StandsWith s core'.plain d (run s es m).next
+pub stands_still : (s : Setting) (es : List Event) (core core' : CachedCore) (d : Durable) (m : Meter)
+    → StandsWith s core.plain d m → Meets s core'.plain [] (run s es m) → StandsWith s core'.plain d (run s es m).next
 stands_still s es core core' d m st meets = record {
   core = meets.state;
   durable = st.durable ∙ same_durable s es m meets.done;
@@ -64,7 +68,8 @@ stands_still s es core core' d m st meets = record {
 }
 
 module _ (tables : TableParts) (seal : Seal) (es : List Event) (core core' : CachedCore)
-    (meets : (s : Setting) (m : Meter) → IsSettingOf s tables seal → Stands s core.plain m → Meets s core'.plain [] (run s es m)) (lawful : IsLawful tables seal core') where
+    (meets : (s : Setting) (m : Meter) → IsSettingOf s tables seal → Stands s core.plain m
+    → Meets s core'.plain [] (run s es m)) (lawful : IsLawful tables seal core') where
   pub ready_still : (d : Durable) → IsReady tables seal core d → IsReady tables seal core' d
   ready_still d ready = let way = ready.way in record {
     lawful = lawful;
@@ -74,25 +79,30 @@ module _ (tables : TableParts) (seal : Seal) (es : List Event) (core core' : Cac
       setting = way.setting;
       meter = (run way.setting es way.meter).next;
       is = way.is;
-      stands = stands_still way.setting es core core' d way.meter way.stands (meets way.setting way.meter way.is way.stands.core);
+      stands = stands_still way.setting es core core' d way.meter way.stands
+          (meets way.setting way.meter way.is way.stands.core);
     };
   }
 
   module _ {D L : Type 0} {N : ℕ} (B : Ghosts D N L) where
-    pub knows_still : (known : Option Known) (a : D) → core'.plain.operating ≡ core.plain.operating → Knows B tables seal core known a → Knows B tables seal core' known a
+    pub knows_still : (known : Option Known) (a : D) → core'.plain.operating ≡ core.plain.operating
+        → Knows B tables seal core known a → Knows B tables seal core' known a
     knows_still None a same off = same ∙ off
     knows_still (Some known) a same knows = (ready_still known.durable knows.0, knows.1)
 
 module _ {D L : Type 0} {N : ℕ} (B : Ghosts D N L) (tables : TableParts) (seal : Seal) (es : List Event) where
-  pub carries_still : (x : DryMeter) (core' : CachedCore) (b : D) → ((s : Setting) (m : Meter) → IsSettingOf s tables seal → Stands s x.core.plain m → Meets s core'.plain [] (run s es m))
+  pub carries_still : (x : DryMeter) (core' : CachedCore) (b : D) → ((s : Setting) (m : Meter)
+      → IsSettingOf s tables seal → Stands s x.core.plain m → Meets s core'.plain [] (run s es m))
       → Carries B tables seal x b es (record x { core = core' }) b
   carries_still x core' b meets = record {
     stands = λ s m is st. stands_still s es x.core core' x.durable m st (meets s m is st.core);
-    printed = λ told s m is st. sym (append-nil (B.printed b)) ∙ ap (λ (acts : List Act). B.printed b ++ shown_texts acts) (meets s m is st.core).done;
+    printed = λ told s m is st. sym (append-nil (B.printed b))
+        ∙ ap (λ (acts : List Act). B.printed b ++ shown_texts acts) (meets s m is st.core).done;
     store = keeps_none B b;
   }
 
-  pub out_still : (x : StoreMeter) (core' : CachedCore) (a : D) → LeavesNow B a → ((s : Setting) (m : Meter) → IsSettingOf s tables seal → Stands s x.core.plain m → Meets s core'.plain [] (run s es m))
+  pub out_still : (x : StoreMeter) (core' : CachedCore) (a : D) → LeavesNow B a → ((s : Setting) (m : Meter)
+      → IsSettingOf s tables seal → Stands s x.core.plain m → Meets s core'.plain [] (run s es m))
       → CarriesOut B tables seal (λ s m. run s es m) x a (record x { core = core' }) a
   out_still x core' a now meets = record {
     stands = λ told s m is h.
@@ -104,9 +114,11 @@ module _ {D L : Type 0} {N : ℕ} (B : Ghosts D N L) (tables : TableParts) (seal
           has = subst (λ (d : Durable). Has B x.known a d) same h.has;
           fits = subst (λ (d : Durable). ForSome d.hold (Fits tables)) same h.fits;
         };
-    printed = λ told s m is h t. sym (append-nil (B.printed a)) ∙ ap (λ (acts : List Act). B.printed a ++ texts seal (deeds_of acts)) (meets s m is h.stands.core).done;
+    printed = λ told s m is h t. sym (append-nil (B.printed a))
+        ∙ ap (λ (acts : List Act). B.printed a ++ texts seal (deeds_of acts)) (meets s m is h.stands.core).done;
     points = λ told s m is h. let at = has_settled B x.known a m.durable h.has in
-        subst (λ (acts : List Act). KeepsTo B tables seal a a m.durable (deeds_of acts)) (meets s m is h.stands.core).done
+        subst (λ (acts : List Act). KeepsTo B tables seal a a m.durable (deeds_of acts))
+        (meets s m is h.stands.core).done
         (keeps_still B tables seal a at.0 m.durable now at.1 h.fits);
     beside = λ told. beside_none B a now;
   }

@@ -10,7 +10,7 @@ use Rattle.slot_store.specs.declared.pair.Place.{Place}
 use Rattle.slot_store.proofs.Laws.{answer_is}
 use Rattle.totals_record.specs.Reading.{reads}
 use Rattle.meter_store.specs.Stored.{state_number_of}
-use Rattle.totals_record.specs.declared.durable.Durable.{Durable}
+use Rattle.totals_record.specs.declared.durable_state.Durable.{Durable}
 
 abbrev latest : Place → Durable → Result (Found Durable) SlotFault
 latest place d = Ok (Latest place d)
@@ -22,28 +22,34 @@ abbrev fails : SlotFault → Result (Found Durable) SlotFault
 fails fault = Err fault
 
 -- the answer to an image in which the latest state is at a place
-answered : (place : Place) (d : Durable) (image : List ℕ) → IsAt reads state_number_of 0 place image d → found_at reads state_number_of 0 image ≡ Ok (Latest place d)
+answered : (place : Place) (d : Durable) (image : List ℕ) → IsAt reads state_number_of 0 place image d
+    → found_at reads state_number_of 0 image ≡ Ok (Latest place d)
 answered place d image at = (answer_is reads state_number_of 0 image (Ok (Latest place d))).1 at
 
-same_state : (p q : Place) (b d : Durable) (r : Result (Found Durable) SlotFault) → r ≡ Ok (Latest p b) → r ≡ Ok (Latest q d) → b ≡ d
+same_state : (p q : Place) (b d : Durable) (r : Result (Found Durable) SlotFault) → r ≡ Ok (Latest p b)
+    → r ≡ Ok (Latest q d) → b ≡ d
 same_state p q b d r one other = by (sym one ∙ other)
   where
     by : latest p b ≡ latest q d → b ≡ d
     by is = cc
 
 -- what was found is that state
-pub found_is : (f : Found Durable) (p : Place) (b : Durable) (place : Place) (d : Durable) (image : List ℕ) → f ≡ Latest p b → IsAt reads state_number_of 0 place image d → Ok f ≡ found_at reads state_number_of 0 image → b ≡ d
-found_is f p b place d image is at exact = same_state p place b d (found_at reads state_number_of 0 image) (sym exact ∙ ap Ok is) (answered place d image at)
+pub found_is : (f : Found Durable) (p : Place) (b : Durable) (place : Place) (d : Durable) (image : List ℕ) → f
+    ≡ Latest p b → IsAt reads state_number_of 0 place image d → Ok f ≡ found_at reads state_number_of 0 image → b ≡ d
+found_is f p b place d image is at exact =
+    same_state p place b d (found_at reads state_number_of 0 image) (sym exact ∙ ap Ok is) (answered place d image at)
 
 -- it isn't blank
-pub not_blank : (f : Found Durable) (place : Place) (d : Durable) (image : List ℕ) → f ≡ Blank → IsAt reads state_number_of 0 place image d → Ok f ≡ found_at reads state_number_of 0 image → ⊥
+pub not_blank : (f : Found Durable) (place : Place) (d : Durable) (image : List ℕ) → f ≡ Blank
+    → IsAt reads state_number_of 0 place image d → Ok f ≡ found_at reads state_number_of 0 image → ⊥
 not_blank f place d image is at exact = by (sym (ap Ok is) ∙ exact ∙ answered place d image at)
   where
     by : nothing ≡ latest place d → ⊥
     by same = absurd cc
 
 -- nor is there a fault
-pub no_fault : (e : SlotFault) (place : Place) (d : Durable) (image : List ℕ) → IsAt reads state_number_of 0 place image d → Err e ≡ found_at reads state_number_of 0 image → ⊥
+pub no_fault : (e : SlotFault) (place : Place) (d : Durable) (image : List ℕ)
+    → IsAt reads state_number_of 0 place image d → Err e ≡ found_at reads state_number_of 0 image → ⊥
 no_fault e place d image at exact = by (exact ∙ answered place d image at)
   where
     by : fails e ≡ latest place d → ⊥

@@ -32,12 +32,20 @@ refusal_some why = omega (arith, length-append (codes "REFUSED ") (why_text why 
 -- a receipt begins with its heading
 heading_some : (r : Receipt) → 0 < length (heading_text r.number r.kind)
 unfolding heading_text
-heading_some r = omega (arith, length-append (codes "RECEIPT ") (decimal r.number ++ (codes "\nKIND " ++ (kind_text r.kind ++ codes "\n"))))
+heading_some r = omega (
+  arith,
+  length-append (codes "RECEIPT ") (decimal r.number ++ (codes "\nKIND " ++ (kind_text r.kind ++ codes "\n"))),
+)
 
 pub receipt_some : (r : Receipt) (part : Part) → 0 < length (receipt_text r part)
 unfolding receipt_text
-receipt_some r part = omega (arith, heading_some r, length-append (heading_text r.number r.kind) (part_text part ++ body_text r))
+receipt_some r part =
+    omega (arith, heading_some r, length-append (heading_text r.number r.kind) (part_text part ++ body_text r))
 
 -- an empty line takes it
-pub receipt_few : (r : Receipt) (part : Part) → IsSpelled (receipt_text r part) r part → length (receipt_text r part) ≤ 512
-receipt_few r part spelled = omega (arith, short_texts (receipt_text r part) r part ((receipts_are_their_texts (receipt_text r part) r part).1 spelled))
+pub receipt_few : (r : Receipt) (part : Part) → IsSpelled (receipt_text r part) r part
+    → length (receipt_text r part) ≤ 512
+receipt_few r part spelled = omega (
+  arith,
+  short_texts (receipt_text r part) r part ((receipts_are_their_texts (receipt_text r part) r part).1 spelled),
+)

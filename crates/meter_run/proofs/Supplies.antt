@@ -1,5 +1,6 @@
 -- The supply behind events: a meter is off without it, and the steps of a drive with the supply drop at its end.
-use Rattle.std.proofs.Common.{◌≡◌, ◌≢◌, inl, inr, ℕ, zero, suc, ◌+◌, ◌*◌, ◌≤◌, List, [], ◌∷◌, Bool, true, false, None, arith, refl, sym, ap, ◌∙◌}
+use Rattle.std.proofs.Common.{◌≡◌, ◌≢◌, inl, inr, ℕ, zero, suc, ◌+◌, ◌*◌, ◌≤◌, List, [], ◌∷◌, Bool, true, false, None}
+use Rattle.std.proofs.Common.{arith, refl, sym, ap, ◌∙◌}
 use Rattle.std.proofs.lemmas.Bool.{ne_eqb}
 use Rattle.drive_text.specs.Runs.{interval_events, intervals_events}
 use Rattle.outside.specs.declared.board.Board.{Ghosts}
@@ -10,16 +11,16 @@ use Rattle.taxi_units.specs.declared.event.Event.TheVariants.{Up, Down, Pulses, 
 use Rattle.taxi_units.specs.declared.event.Operating.{Operating}
 use Rattle.taxi_units.specs.declared.event.Operating.TheVariants.{Off, ForHire, Hired, Stopped}
 use Rattle.totals_record.specs.States.{first_state}
-use Rattle.totals_record.specs.declared.durable.Durable.{Durable}
+use Rattle.totals_record.specs.declared.durable_state.Durable.{Durable}
 use Rattle.meter_states.specs.Core.{Meets, CoreData, Stands}
-use Rattle.meter_states.specs.Facts.{CachedCore}
+use Rattle.meter_states.specs.Cache.{CachedCore}
 use Rattle.meter_states.specs.Meter.{Meter, Outcome}
 use Rattle.meter_states.specs.Run.{opened, run}
 use Rattle.meter_states.specs.Setting.{Setting, IsSettingOf}
 use Rattle.meter_states.specs.Step.{step, step_in}
 use Rattle.meter_states.specs.declared.act.Act.{Act}
 use Rattle.meter_run.specs.Dry.{Carries, IsReady}
-use Rattle.meter_run.specs.Kept.{StandsWith}
+use Rattle.meter_run.specs.BetweenEvents.{StandsWith}
 use Rattle.meter_run.specs.OnStore.{IsReadyOn}
 use Rattle.meter_run.specs.Supply.{KeepsOff, drop_steps, is_supplied, is_supplied_after}
 use Rattle.meter_run.specs.SupplyLaws.{supplied_joined}
@@ -86,7 +87,8 @@ event_keeps_off tables seal event core core' d acts ready meets =
 pub unknown_keeps_off : {D L : Type 0} {N : ℕ} (B : Ghosts D N L) (tables : TableParts) (seal : Seal) (x : StoreMeter)
     (a : D)
     (events : List Event) → x.known ≡ None → IsReadyOn B tables seal x a → KeepsOff x.core.plain events x.core.plain
-unknown_keeps_off B tables seal x a events unknown ready = λ before off none. unknown_off B tables seal x a unknown ready
+unknown_keeps_off B tables seal x a events unknown ready =
+    λ before off none. unknown_off B tables seal x a unknown ready
 
 -- ---- equal intervals
 

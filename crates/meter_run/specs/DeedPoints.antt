@@ -7,12 +7,12 @@ use Rattle.outside.specs.declared.board.Board.{Ghosts}
 use Rattle.seal_record.specs.declared.seal.Seal.{Seal}
 use Rattle.tariff_compile.specs.Tables.{TableParts}
 use Rattle.meter_store.specs.Stored.{HasState}
-use Rattle.totals_record.specs.declared.durable.Durable.{Durable}
+use Rattle.totals_record.specs.declared.durable_state.Durable.{Durable}
 use Rattle.meter_states.specs.Fits.{Fits}
 use Rattle.meter_run.specs.Deeds.{Deed, after_deed, text_in}
 
 -- an image holds a durable state where it stands for it and the state's held trip fits the tables
-pub record Holds (tables : TableParts) (image : List ℕ) (durable : Durable) : Type 0 where
+pub record HasFittingState (tables : TableParts) (image : List ℕ) (durable : Durable) : Type 0 where
   pub has : HasState image durable
   pub fits : ForSome durable.hold (Fits tables)
 
@@ -20,12 +20,12 @@ module _ (tables : TableParts) (seal : Seal) (told : Type 0) where
   -- an image and a text are amid a deed where the image stands for the state before the deed or for that after it, and
   -- a beginning of the deed's text was printed, where the text is told
   pub record IsAmid (durable : Durable) (printed : List ℕ) (deed : Deed) (image text : List ℕ) : Type 0 where
-    pub holds : Holds tables image durable ⊎ Holds tables image (after_deed durable deed)
+    pub holds : HasFittingState tables image durable ⊎ HasFittingState tables image (after_deed durable deed)
     pub begun : told → Begins printed text (text_in seal deed)
 
   -- an image and a text are at a point of a list of deeds where they are at its end, or amid one of the deeds
   abbrev pub IsPointOfDeeds : Durable → (printed : List ℕ) → List Deed → (image text : List ℕ) → Type 0
-  IsPointOfDeeds durable printed [] image text = Holds tables image durable × (told → text ≡ printed)
+  IsPointOfDeeds durable printed [] image text = HasFittingState tables image durable × (told → text ≡ printed)
   IsPointOfDeeds durable printed (deed ∷ deeds) image text =
       IsAmid durable printed deed image text
       ⊎ IsPointOfDeeds (after_deed durable deed) (printed ++ text_in seal deed) deeds image text

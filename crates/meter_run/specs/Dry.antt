@@ -8,20 +8,20 @@ use Rattle.taxi_units.specs.declared.event.Event.{Event}
 use Rattle.tariff_compile.specs.Tables.{TableParts}
 use Rattle.seal_record.specs.declared.seal.Seal.{Seal}
 use Rattle.totals_record.specs.Ranges.{IsDurable}
-use Rattle.totals_record.specs.declared.durable.Durable.{Durable}
-use Rattle.meter_states.specs.Facts.{CachedCore}
+use Rattle.totals_record.specs.declared.durable_state.Durable.{Durable}
+use Rattle.meter_states.specs.Cache.{CachedCore}
 use Rattle.meter_states.specs.Fits.{Fits}
 use Rattle.meter_states.specs.Lawful.{IsLawful}
 use Rattle.meter_states.specs.Meter.{Meter, Outcome}
 use Rattle.meter_states.specs.Run.{run}
 use Rattle.meter_states.specs.Setting.{Setting, IsSettingOf}
-use Rattle.meter_run.specs.Kept.{StandsWith}
+use Rattle.meter_run.specs.BetweenEvents.{StandsWith}
 use Rattle.meter_run.specs.Texts.{shown_texts}
 use Rattle.meter_run.specs.declared.dry.DryMeter.{DryMeter}
 
 -- a core and a durable state are under way where they stand for some state of the meter, under some setting of the
--- tables and the seal; the core is a whole one, which has its plain data, and beside them facts that were looked up in
--- the tables and only save look-ups, as `Core::step` says by its clause `meets`
+-- tables and the seal; the core is one beside its cache, which has what was looked up in the tables and only saves
+-- look-ups, as `Core::step` says by its clause `meets`
 pub record IsUnderWay (tables : TableParts) (seal : Seal) (core : CachedCore) (durable : Durable) : Type 0 where
   pub setting : Setting
   pub meter : Meter

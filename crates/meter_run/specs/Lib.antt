@@ -1,10 +1,10 @@
+pub mod BetweenEvents
 pub mod Commits
 pub mod DeedPoints
 pub mod Deeds
+pub mod Drives
 pub mod Dry
 pub mod DryLaws
-pub mod Drives
-pub mod Kept
 pub mod OnStore
 pub mod PointLaws
 pub mod Points

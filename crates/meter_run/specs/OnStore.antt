@@ -14,9 +14,9 @@ use Rattle.tariff_compile.specs.Tables.{TableParts}
 use Rattle.taxi_units.specs.declared.event.Event.{Event}
 use Rattle.taxi_units.specs.declared.event.Operating.TheVariants.{Off}
 use Rattle.meter_store.specs.Stored.{KeepsState}
-use Rattle.totals_record.specs.declared.durable.Durable.{Durable}
+use Rattle.totals_record.specs.declared.durable_state.Durable.{Durable}
 use Rattle.meter_states.specs.Acts.{IsLawfulAct}
-use Rattle.meter_states.specs.Facts.{CachedCore}
+use Rattle.meter_states.specs.Cache.{CachedCore}
 use Rattle.meter_states.specs.Fits.{Fits}
 use Rattle.meter_states.specs.Lawful.{IsLawful}
 use Rattle.meter_states.specs.Meter.{Meter, Outcome}
@@ -25,7 +25,7 @@ use Rattle.meter_states.specs.Setting.{Setting, IsSettingOf}
 use Rattle.meter_states.specs.declared.act.Act.{Act}
 use Rattle.meter_run.specs.Deeds.{deeds_of, texts}
 use Rattle.meter_run.specs.Dry.{IsReady}
-use Rattle.meter_run.specs.Kept.{StandsWith}
+use Rattle.meter_run.specs.BetweenEvents.{StandsWith}
 use Rattle.meter_run.specs.Points.{KeepsTo}
 use Rattle.meter_run.specs.Supply.{KeepsOff}
 use Rattle.meter_run.specs.declared.stored.Known.{Known}
@@ -82,8 +82,8 @@ module _ {D L : Type 0} {N : ℕ} (B : Ghosts D N L) where
     pub lawful : All (IsLawfulAct tables number) acts
 
   -- a meter knows of the store nothing where it is off, and else a state at which the next event may come, with which
-  -- the board agrees; the core of the meter is a whole one, which has its plain data, and beside them facts that were
-  -- looked up in the tables and only save look-ups, as `Core::step` says by its clause `meets`
+  -- the board agrees; the core of the meter is one beside its cache, which has what was looked up in the tables and
+  -- only saves look-ups, as `Core::step` says by its clause `meets`
   abbrev pub Knows : TableParts → Seal → CachedCore → Option Known → D → Type 0
   Knows tables seal core None board = core.plain.operating ≡ Off
   Knows tables seal core (Some known) board = IsReady tables seal core known.durable × Agrees tables known board

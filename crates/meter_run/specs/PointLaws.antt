@@ -14,7 +14,7 @@ use Rattle.slot_store.proofs.Laws.{ready_left}
 use Rattle.tariff_compile.specs.Tables.{TableParts}
 use Rattle.totals_record.specs.Reading.{reads}
 use Rattle.meter_store.specs.Stored.{HasState, KeepsState, state_number_of}
-use Rattle.totals_record.specs.declared.durable.Durable.{Durable}
+use Rattle.totals_record.specs.declared.durable_state.Durable.{Durable}
 use Rattle.meter_states.specs.Fits.{Fits}
 use Rattle.meter_states.specs.declared.act.Act.{Act}
 use Rattle.meter_run.specs.Deeds.{Deed, Does, after_deed, after_deeds, deeds_of, text_in, texts}
@@ -93,8 +93,8 @@ settled_has place d image flying settled =
 
 module _ {D L : Type 0} {N : ℕ} (B : Ghosts D N L) (tables : TableParts) (seal : Seal) where
   -- calls of the board keep to deeds, by the tables and the seal at hand
-  abbrev Keeps : D → D → Durable → List Deed → Type 0
-  Keeps old new d deeds = KeepsTo B tables seal old new d deeds
+  abbrev KeepsToDeeds : D → D → Durable → List Deed → Type 0
+  KeepsToDeeds old new d deeds = KeepsTo B tables seal old new d deeds
 
   -- an image and a text are at a point of deeds that began at an old board
   abbrev Point : D → Durable → List Deed → List ℕ → List ℕ → Type 0
@@ -102,7 +102,7 @@ module _ {D L : Type 0} {N : ℕ} (B : Ghosts D N L) (tables : TableParts) (seal
 
   -- a board that is not called keeps to no deeds
   pub keeps_still : (a : D) (place : Place) (d : Durable) → LeavesNow B a → KeepsState B place a d
-      → ForSome d.hold (Fits tables) → Keeps a a d []
+      → ForSome d.hold (Fits tables) → KeepsToDeeds a a d []
   keeps_still a place d now settled fits = record {
     leaves = leaves_none B (Point a d []) a
         (λ i x left. let may = now i x left in (
@@ -113,7 +113,7 @@ module _ {D L : Type 0} {N : ℕ} (B : Ghosts D N L) (tables : TableParts) (seal
   }
 
   -- calls that keep to deeds keep to them with more deeds behind them
-  pub keeps_longer : (a b : D) (d : Durable) (xs ys : List Deed) → Keeps a b d xs → Keeps a b d (xs ++ ys)
+  pub keeps_longer : (a b : D) (d : Durable) (xs ys : List Deed) → KeepsToDeeds a b d xs → KeepsToDeeds a b d (xs ++ ys)
   keeps_longer a b d xs ys h = record {
     leaves = leaves_wider B (Point a d xs) (Point a d (xs ++ ys)) a b
         (at_longer tables seal B.tells_text d (B.printed a) xs ys) h.leaves;
@@ -123,7 +123,7 @@ module _ {D L : Type 0} {N : ℕ} (B : Ghosts D N L) (tables : TableParts) (seal
   -- calls that keep to deeds, and calls behind them that keep to more, keep to both lists, joined
   pub keeps_next : (a b c : D) (d : Durable) (xs ys : List Deed)
       → (B.tells_text → B.printed b ≡ B.printed a ++ texts seal xs)
-      → Keeps a b d xs → Keeps b c (after_deeds d xs) ys → Keeps a c d (xs ++ ys)
+      → KeepsToDeeds a b d xs → KeepsToDeeds b c (after_deeds d xs) ys → KeepsToDeeds a c d (xs ++ ys)
   keeps_next a b c d xs ys text h k = record {
     leaves = leaves_then B (Point a d (xs ++ ys)) a b c (keeps_longer a b d xs ys h).leaves
         (leaves_wider B (Point b (after_deeds d xs) ys) (Point a d (xs ++ ys)) b c shifted k.leaves);

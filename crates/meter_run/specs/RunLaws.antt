@@ -11,7 +11,7 @@ use Rattle.meter_states.specs.declared.act.Act.{Act}
 use Rattle.meter_states.specs.declared.act.Act.TheVariants.{Show, Refuse, Enter, Hold, Receipt}
 use Rattle.totals_record.specs.States.{after, after_all}
 use Rattle.totals_record.specs.declared.change.Change.TheVariants as changes
-use Rattle.totals_record.specs.declared.durable.Durable.{Durable}
+use Rattle.totals_record.specs.declared.durable_state.Durable.{Durable}
 use Rattle.meter_run.specs.Commits.{after_act, after_acts}
 use Rattle.meter_run.specs.Deeds.{after_deeds, deeds_of}
 use Rattle.meter_run.specs.PointLaws.{after_joined, deeds_joined}

@@ -10,7 +10,7 @@ use Rattle.slot_store.specs.declared.pair.Place.{Place}
 use Rattle.tariff_compile.specs.Tables.{TableParts}
 use Rattle.meter_store.specs.Stored.{KeepsState}
 use Rattle.totals_record.specs.Sums.{GrowsBy}
-use Rattle.totals_record.specs.declared.durable.Durable.{Durable}
+use Rattle.totals_record.specs.declared.durable_state.Durable.{Durable}
 use Rattle.meter_states.specs.Fits.{Fits}
 use Rattle.meter_states.specs.Run.{actions_of}
 use Rattle.meter_states.specs.Setting.{Setting, IsSettingOf}

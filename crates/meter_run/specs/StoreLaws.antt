@@ -11,7 +11,7 @@ use Rattle.slot_store.specs.declared.pair.Place.{Place}
 use Rattle.tariff_compile.specs.Tables.{TableParts}
 use Rattle.taxi_units.specs.declared.event.Event.{Event}
 use Rattle.meter_store.specs.Stored.{KeepsState}
-use Rattle.totals_record.specs.declared.durable.Durable.{Durable}
+use Rattle.totals_record.specs.declared.durable_state.Durable.{Durable}
 use Rattle.meter_states.specs.Meter.{Meter}
 use Rattle.meter_states.specs.Run.{run}
 use Rattle.meter_states.specs.Setting.{Setting}
@@ -83,8 +83,8 @@ module _ {D L : Type 0} {N : ℕ} (B : Ghosts D N L) (tables : TableParts) (seal
   Amid events x a b = StopsAmid B tables seal (λ s m. run s events m) x a b
 
   -- calls of the board keep to deeds, by the tables and the seal at hand
-  abbrev Keeps : D → D → Durable → List Deed → Type 0
-  Keeps a b d deeds = KeepsTo B tables seal a b d deeds
+  abbrev KeepsToDeeds : D → D → Durable → List Deed → Type 0
+  KeepsToDeeds a b d deeds = KeepsTo B tables seal a b d deeds
 
   -- a meter and a board that is not called carry out no events
   pub out_none : (x : StoreMeter) (a : D) → LeavesNow B a → Out [] x a x a
@@ -106,10 +106,11 @@ module _ {D L : Type 0} {N : ℕ} (B : Ghosts D N L) (tables : TableParts) (seal
         (sym (run_deeds s m es fs))
         (text_next B tables seal a b c (deeds_of (run s es m).acts) (deeds_of (run s fs (run s es m).next).acts)
         (first.printed told s m is h) (next.printed told s (run s es m).next is (first.stands told s m is h)) t);
-    points = λ told s m is h. subst (λ (deeds : List Deed). Keeps a c m.durable deeds) (sym (run_deeds s m es fs))
+    points =
+        λ told s m is h. subst (λ (deeds : List Deed). KeepsToDeeds a c m.durable deeds) (sym (run_deeds s m es fs))
         (keeps_next B tables seal a b c m.durable (deeds_of (run s es m).acts)
         (deeds_of (run s fs (run s es m).next).acts) (first.printed told s m is h) (first.points told s m is h)
-        (subst (λ (d : Durable). Keeps b c d (deeds_of (run s fs (run s es m).next).acts)) (run_durable s es m)
+        (subst (λ (d : Durable). KeepsToDeeds b c d (deeds_of (run s fs (run s es m).next).acts)) (run_durable s es m)
         (next.points told s (run s es m).next is (first.stands told s m is h))));
     beside = λ told. beside_then B a b c (first.beside told) (next.beside told);
   }
@@ -118,10 +119,11 @@ module _ {D L : Type 0} {N : ℕ} (B : Ghosts D N L) (tables : TableParts) (seal
   pub amid_later : (es fs : List Event) (x : StoreMeter) (a : D) (y : StoreMeter) (b c : D)
       → Out es x a y b → Amid fs y b c → Amid (es ++ fs) x a c
   amid_later es fs x a y b c first next = record {
-    points = λ told s m is h. subst (λ (deeds : List Deed). Keeps a c m.durable deeds) (sym (run_deeds s m es fs))
+    points =
+        λ told s m is h. subst (λ (deeds : List Deed). KeepsToDeeds a c m.durable deeds) (sym (run_deeds s m es fs))
         (keeps_next B tables seal a b c m.durable (deeds_of (run s es m).acts)
         (deeds_of (run s fs (run s es m).next).acts) (first.printed told s m is h) (first.points told s m is h)
-        (subst (λ (d : Durable). Keeps b c d (deeds_of (run s fs (run s es m).next).acts)) (run_durable s es m)
+        (subst (λ (d : Durable). KeepsToDeeds b c d (deeds_of (run s fs (run s es m).next).acts)) (run_durable s es m)
         (next.points told s (run s es m).next is (first.stands told s m is h))));
     beside = λ told. beside_then B a b c (first.beside told) (next.beside told);
   }
@@ -129,7 +131,8 @@ module _ {D L : Type 0} {N : ℕ} (B : Ghosts D N L) (tables : TableParts) (seal
   -- a board that stops amid the first of two lists of events stops amid both, joined
   pub amid_sooner : (es fs : List Event) (x : StoreMeter) (a c : D) → Amid es x a c → Amid (es ++ fs) x a c
   amid_sooner es fs x a c h = record {
-    points = λ told s m is st. subst (λ (deeds : List Deed). Keeps a c m.durable deeds) (sym (run_deeds s m es fs))
+    points =
+        λ told s m is st. subst (λ (deeds : List Deed). KeepsToDeeds a c m.durable deeds) (sym (run_deeds s m es fs))
         (keeps_longer B tables seal a c m.durable (deeds_of (run s es m).acts)
         (deeds_of (run s fs (run s es m).next).acts) (h.points told s m is st));
     beside = h.beside;

@@ -10,7 +10,7 @@ ghost use Rattle.taxi_units.specs.Time.{IsSecond};
 ghost use Rattle.taxi_units.specs.declared.event.Event.TheVariants.{Up};
 ghost use Rattle.taxi_units.specs.declared.event.Operating.TheVariants.{Off};
 ghost use Rattle.meter_run.specs.Dry.{IsReady};
-ghost use Rattle.meter_run.specs.Kept.{StandsWith};
+ghost use Rattle.meter_run.specs.BetweenEvents.{StandsWith};
 
 use meter_states::{Acts, Core};
 use seal_record::Seal;

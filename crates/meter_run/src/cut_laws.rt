@@ -10,7 +10,7 @@ ghost use Rattle.tariff_compile.specs.Tables.{TableParts};
 ghost use Rattle.taxi_units.specs.declared.receipt.Receipt as receipts;
 ghost use Rattle.totals_record.specs.States.{IsHeldAfter, entries_of};
 ghost use Rattle.totals_record.specs.Sums.{AddsUp};
-ghost use Rattle.totals_record.specs.declared.durable.Durable.{Durable};
+ghost use Rattle.totals_record.specs.declared.durable_state.Durable.{Durable};
 ghost use Rattle.meter_states.specs.Setting.{Setting};
 ghost use Rattle.meter_states.specs.declared.act.Act.TheVariants.{Receipt};
 ghost use Rattle.meter_run.specs.Deeds.{Deed, Does, Prints, changes_of};

@@ -7,7 +7,7 @@ ghost use Rattle.seal_record.specs.declared.seal.Seal.{Seal};
 ghost use Rattle.slot_store.specs.declared.pair.Place.{Place};
 ghost use Rattle.totals_record.specs.Ranges.{IsDurable};
 ghost use Rattle.meter_store.specs.Stored.{KeepsState};
-ghost use Rattle.totals_record.specs.declared.durable.Durable.{Durable};
+ghost use Rattle.totals_record.specs.declared.durable_state.Durable.{Durable};
 ghost use Rattle.meter_run.specs.OnStore.{Agrees, WritesTotals};
 ghost use Rattle.meter_run.specs.Points.{KeepsTo};
 ghost use Rattle.meter_run.specs.declared.stored.Known.{Known};

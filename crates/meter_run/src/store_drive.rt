@@ -70,7 +70,7 @@ pub fn run_events<F: Files, B: Board<STORE_SIZE, L>, L: Ledger>(
     let by = SealedTables { tables, seal };
     let mut meter = StoreMeter::new();
     match carry_drive(&mut meter, &by, files, word, board, steps) {
-        Ok(stop) => match end(&mut meter, tables, seal, board, steps) {
+        Ok(stop) => match drop_at_end(&mut meter, tables, seal, board, steps) {
             Ok(()) => answer(stop),
             Err(_) => Err(RunFault::BoardFault),
         },
@@ -79,7 +79,7 @@ pub fn run_events<F: Files, B: Board<STORE_SIZE, L>, L: Ledger>(
 }
 
 /// The supply drops, where the meter is powered. At most 64 steps, and none where it is off.
-fn end<B: Board<STORE_SIZE, L>, L: Ledger>(
+fn drop_at_end<B: Board<STORE_SIZE, L>, L: Ledger>(
     meter: &mut StoreMeter,
     tables: &Tables,
     seal: &Seal,

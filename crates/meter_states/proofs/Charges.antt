@@ -1,12 +1,14 @@
 -- The weights of the tables give the charges that the rate's own numbers give.
-use Rattle.std.proofs.Common.{◌≡◌, ℕ, zero, suc, ◌+◌, ◌-◌, ◌*◌, ◌/◌, ◌<◌, ◌≤◌, Bool, true, false, cond, List, [], ◌∷◌, Option, length, get_or, refl, ap, sym, ◌∙◌, ltb, arith}
+use Rattle.std.proofs.Common.{◌≡◌, ℕ, zero, suc, ◌+◌, ◌-◌, ◌*◌, ◌/◌, ◌<◌, ◌≤◌, Bool, true, false, cond, List, [], ◌∷◌}
+use Rattle.std.proofs.Common.{Option, length, get_or, refl, ap, sym, ◌∙◌, ltb, arith}
 use Rattle.std.specs.List.{flat_map}
 use Rattle.std.specs.Option.{unwrap_or}
 use Rattle.std.proofs.lemmas.Bool.{ltb-true, ltb-false, lt-ltb, le-ltb}
 use Rattle.std.proofs.lemmas.Grind.{common_steps}
 use Rattle.std.proofs.lemmas.List.{get_or-map}
 use Rattle.std.proofs.lemmas.List.Elements.{All-get_or, All-head, All-tail}
-use Rattle.std.proofs.Math.Nat.{mul_assoc, mul_comm, mul_left_comm, mul-pos, mul-le-mul_right, le_of_mul-le-mul_right, lt_of_mul-lt-mul_right, mul-lt-mul_of_pos_right}
+use Rattle.std.proofs.Math.Nat.{mul_assoc, mul_comm, mul_left_comm, mul-pos, mul-le-mul_right, le_of_mul-le-mul_right}
+use Rattle.std.proofs.Math.Nat.{lt_of_mul-lt-mul_right, mul-lt-mul_of_pos_right}
 use Rattle.drive_modes.specs.declared.charges.Mode.{Mode}
 use Rattle.drive_modes.specs.declared.charges.Mode.TheVariants.{Single, Double}
 use Rattle.drive_modes.specs.declared.charges.Weights.{Weights}
@@ -18,7 +20,8 @@ use Rattle.tariff_check.specs.Faults.{IsSound}
 use Rattle.tariff_check.specs.Measure.{IsMultipleOfAll, measure_of}
 use Rattle.tariff_check.specs.Parts.{RateNumbers, rates_of}
 use Rattle.tariff_check.specs.Sound.{IsSoundRate}
-use Rattle.tariff_check.proofs.Laws.{sound_tariffs_have_sound_parts-parts, measures_are_least-least, measures_are_least-sound, lines_that_hold_are_there-rate}
+use Rattle.tariff_check.proofs.Laws.{sound_tariffs_have_sound_parts-parts, measures_are_least-least}
+use Rattle.tariff_check.proofs.Laws.{measures_are_least-sound, lines_that_hold_are_there-rate}
 use Rattle.tariff_compile.specs.Tables.{all_weights, rate_by, weights_of}
 use Rattle.meter_states.specs.Charge.{charge_by, rate_at, rate_of}
 
@@ -44,25 +47,32 @@ pub record DivideIt (m : ℕ) (r : RateNumbers) : Type 0 where
   pub first : m / r.b * r.b ≡ m
   pub second : m / r.e * r.e ≡ m
 
-by_speed : (mode : Mode) (k common p : ℕ) (r : RateNumbers) → 0 < r.b → 0 < r.e → 0 < common → DivideIt common r → charge_of mode (weights_of k common r) p ≡ charge_by mode k common r p
+by_speed : (mode : Mode) (k common p : ℕ) (r : RateNumbers) → 0 < r.b → 0 < r.e → 0 < common → DivideIt common r
+    → charge_of mode (weights_of k common r) p ≡ charge_by mode k common r p
 by_speed Single k common p r b e positive divide =
     let distance : p * (10000 * r.a * (common / r.b)) * (r.b * r.e) ≡ 10000 * p * r.a * r.e * common =
     scaled_distance r.a r.b r.e p (common / r.b) ∙ ap (λ (n : ℕ). 10000 * p * r.a * r.e * n) divide.first in
     let time : r.c * k * (common / r.e) * (r.b * r.e) ≡ r.c * k * r.b * common =
     scaled_time r.b r.c r.e k (common / r.e) ∙ ap (λ (n : ℕ). r.c * k * r.b * n) divide.second in
-    let same : ltb (10000 * p * r.a * r.e) (r.c * k * r.b) ≡ ltb (p * (10000 * r.a * (common / r.b))) (r.c * k * (common / r.e)) =
+    let same : ltb (10000 * p * r.a * r.e) (r.c * k * r.b)
+    ≡ ltb (p * (10000 * r.a * (common / r.b))) (r.c * k * (common / r.e)) =
     same-below _ _ _ _ (r.b * r.e) common (mul-pos b e) positive distance time _ refl in
     ap (λ (below : Bool). cond below (r.c * k * (common / r.e)) (p * (10000 * r.a * (common / r.b)))) (sym same)
 by_speed Double k common p r b e positive divide = refl
 
-each_divides : (m : ℕ) (rs : List RateNumbers) → IsMultipleOfAll (flat_map (λ (r : RateNumbers). r.b ∷ r.e ∷ []) rs) m → (place : ℕ) (d : RateNumbers) → place < length rs → DivideIt m (get_or rs place d)
+each_divides : (m : ℕ) (rs : List RateNumbers) → IsMultipleOfAll (flat_map (λ (r : RateNumbers). r.b ∷ r.e ∷ []) rs) m
+    → (place : ℕ) (d : RateNumbers) → place < length rs → DivideIt m (get_or rs place d)
 each_divides m [] all place d h = absurd (omega arith)
 each_divides m (r ∷ rs) all zero d h =
     let rest = flat_map (λ (r' : RateNumbers). r'.b ∷ r'.e ∷ []) rs in
-    record { first = All-head (λ n. m / n * n ≡ m) r.b (r.e ∷ rest) all; second = All-head (λ n. m / n * n ≡ m) r.e rest (All-tail (λ n. m / n * n ≡ m) r.b (r.e ∷ rest) all) }
+    record {
+      first = All-head (λ n. m / n * n ≡ m) r.b (r.e ∷ rest) all;
+      second = All-head (λ n. m / n * n ≡ m) r.e rest (All-tail (λ n. m / n * n ≡ m) r.b (r.e ∷ rest) all);
+    }
 each_divides m (r ∷ rs) all (suc place) d h =
     let rest = flat_map (λ (r' : RateNumbers). r'.b ∷ r'.e ∷ []) rs in
-    each_divides m rs (All-tail (λ n. m / n * n ≡ m) r.e rest (All-tail (λ n. m / n * n ≡ m) r.b (r.e ∷ rest) all)) place d (omega (arith, h))
+    each_divides m rs (All-tail (λ n. m / n * n ≡ m) r.e rest (All-tail (λ n. m / n * n ≡ m) r.b (r.e ∷ rest) all))
+    place d (omega (arith, h))
 
 -- the charge of an interval in a context, by weights and by the rate's own numbers
 pub charge-at : (mode : Mode) (t : Tree) (k : ℕ) (x : Context) (p : ℕ) → IsWritable t → IsSound t
@@ -79,22 +89,26 @@ charge-at mode t k x p writable sound =
     let numbers : IsSoundRate r = All-get_or IsSoundRate (rates_of t.lines) place none within parts.rates in
     let both = each_divides m (rates_of t.lines) least.multiple place none within in
     let weights : rate_by t k x ≡ weights_of k m r =
-    ap (λ (o : Option ℕ). get_or (all_weights t k) (unwrap_or o 0) (record { per_pulse = 0; per_tick = 0 })) found.1 ∙ get_or-map (weights_of k m) (rates_of t.lines) place none (record { per_pulse = 0; per_tick = 0 }) within in
+    ap (λ (o : Option ℕ). get_or (all_weights t k) (unwrap_or o 0) (record { per_pulse = 0; per_tick = 0 })) found.1
+    ∙ get_or-map (weights_of k m) (rates_of t.lines) place none (record { per_pulse = 0; per_tick = 0 }) within in
     let rate : rate_of t x ≡ r = ap (λ (o : Option ℕ). rate_at t (unwrap_or o 0)) found.1 in
-    ap (λ (w : Weights). charge_of mode w p) weights ∙ by_speed mode k m p r numbers.distance.0 numbers.time.0 least.positive both ∙ ap (λ (q : RateNumbers). charge_by mode k m q p) (sym rate)
+    ap (λ (w : Weights). charge_of mode w p) weights ∙ by_speed mode k m p r numbers.distance.0 numbers.time.0
+    least.positive both ∙ ap (λ (q : RateNumbers). charge_by mode k m q p) (sym rate)
 
 charge-sum : (mode : Mode) (w : Weights) (p : ℕ) → charge_of mode w p ≤ p * w.per_pulse + w.per_tick
 charge-sum Single w p = grind (arith, common_steps)
 charge-sum Double w p = omega arith
 
 -- the most that an interval costs
-pub charge-most : (mode : Mode) (w : Weights) (p measure : ℕ) → p ≤ 2000 → w.per_pulse ≤ 20000000 * measure → w.per_tick ≤ 1000000 * measure → charge_of mode w p ≤ 40001000000 * measure
+pub charge-most : (mode : Mode) (w : Weights) (p measure : ℕ) → p ≤ 2000 → w.per_pulse ≤ 20000000 * measure
+    → w.per_tick ≤ 1000000 * measure → charge_of mode w p ≤ 40001000000 * measure
 charge-most mode w p measure few pulse tick =
     let more : p * w.per_pulse ≤ 2000 * w.per_pulse = mul-le-mul_right w.per_pulse few in
     omega (arith, charge-sum mode w p)
 
 -- and the display steps that it fills
-pub steps-most : (rest charge cover step measure : ℕ) → 1 ≤ step → 0 < measure → rest < step * measure → charge ≤ 40001000000 * measure
+pub steps-most : (rest charge cover step measure : ℕ) → 1 ≤ step → 0 < measure → rest < step * measure
+    → charge ≤ 40001000000 * measure
     → (rest + (charge - cover)) / (step * measure) ≤ 40001000001
 steps-most rest charge cover step measure one some below most =
     let larger : 1 * measure ≤ step * measure = mul-le-mul_right measure one in

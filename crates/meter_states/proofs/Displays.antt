@@ -5,10 +5,10 @@ use Rattle.taxi_units.specs.declared.event.Operating.{Operating}
 use Rattle.taxi_units.specs.declared.event.Operating.TheVariants.{ForHire}
 use Rattle.taxi_units.specs.declared.receipt.Display.{Display}
 use Rattle.meter_states.specs.Display.{display_of, extras_shown, fare_shown, is_shown, same_display}
-use Rattle.meter_states.specs.Kept.{IsKept, IsKeptIn}
+use Rattle.meter_states.specs.KeptTrip.{IsTripKept, IsTripKeptIn}
 use Rattle.meter_states.specs.Meter.{Meter}
 use Rattle.meter_states.specs.Setting.{Setting}
-use Rattle.meter_states.specs.Trip.{Trip}
+use Rattle.meter_states.specs.Trip.{MeterTrip}
 use Rattle.meter_states.proofs.Quiet.{same-self}
 
 equal-same : (a b : Display) → same_display a b ≡ true → a ≡ b
@@ -22,10 +22,11 @@ pub shown_already : (old : Option Display) (new : Display) → is_shown old new 
 shown_already (Some old) new same = ap Some (equal-same old new same)
 shown_already None new same = absurd (cc)
 
-no-fare : (s : Setting) (trip : Option Trip) → trip ≡ None → (fare_shown s trip ≡ 0) × (extras_shown s trip ≡ 0)
+no-fare : (s : Setting) (trip : Option MeterTrip) → trip ≡ None → (fare_shown s trip ≡ 0) × (extras_shown s trip ≡ 0)
 no-fare s trip none = rw none (refl, refl)
 
-pub hire-shows : (s : Setting) (m : Meter) → IsKept s m → m.operating ≡ ForHire → ((display_of s m).fare ≡ 0) × ((display_of s m).supplements ≡ 0)
+pub hire-shows : (s : Setting) (m : Meter) → IsTripKept s m → m.operating ≡ ForHire
+    → ((display_of s m).fare ≡ 0) × ((display_of s m).supplements ≡ 0)
 hire-shows s m kept hire =
-    let in_hire = subst (λ (o : Operating). IsKeptIn s o m.durable.hold m.trip m.roaming) hire kept in
+    let in_hire = subst (λ (o : Operating). IsTripKeptIn s o m.durable.hold m.trip m.roaming) hire kept in
     no-fare s m.trip in_hire.1

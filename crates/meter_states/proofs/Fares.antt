@@ -1,47 +1,58 @@
 -- What the fare of a trip depends on.
-use Rattle.std.proofs.Common.{◌≡◌, ℕ, ◌+◌, ◌*◌, ◌/◌, ◌%◌, Bool, List, [], ◌∷◌, ◌++◌, map, sum, refl, ap, sym, ◌∙◌, arith}
+use Rattle.std.proofs.Common.{◌≡◌, ℕ, ◌+◌, ◌*◌, ◌/◌, ◌%◌, Bool, List, [], ◌∷◌, ◌++◌, map, sum, refl, ap, sym, ◌∙◌}
+use Rattle.std.proofs.Common.{arith}
 use Rattle.std.proofs.lemmas.Grind.{common_steps}
 use Rattle.drive_modes.specs.Fare as fares
 use Rattle.drive_modes.specs.Fare.{above_cover, opening_of, quotient, saved, shown_fare}
 use Rattle.std.proofs.Math.Nat.{div-add-mod, mul_comm}
-use Rattle.meter_states.specs.Kept.{hired_in, with_parts}
+use Rattle.meter_states.specs.KeptTrip.{hired_in, with_parts}
 use Rattle.meter_states.specs.Run.{trip_of}
 use Rattle.tariff_check.specs.DisplayStep.{display_step}
 use Rattle.meter_states.specs.Setting.{Setting, modulus_of, rounding_of}
 use Rattle.meter_states.specs.Trip as model
-use Rattle.meter_states.specs.Trip.{Part, Trip, InHired, InStopped, Rest, charge_in, charges_of, fare_of, held_trip}
+use Rattle.meter_states.specs.Trip.{Part, MeterTrip, InHired, InStopped, Rest, charge_in, charges_of, fare_of}
+use Rattle.meter_states.specs.Trip.{held_trip}
 
 -- intervals outside Hired cost nothing
-hired-charges : (s : Setting) (parts : List Part) → sum (map (charge_in s) (hired_in parts)) ≡ sum (map (charge_in s) parts)
+hired-charges : (s : Setting) (parts : List Part)
+    → sum (map (charge_in s) (hired_in parts)) ≡ sum (map (charge_in s) parts)
 hired-charges s [] = refl
 hired-charges s (InHired p x ∷ parts) = grind (arith, common_steps, hired-charges s parts)
 hired-charges s (InStopped p ∷ parts) = grind (arith, common_steps, hired-charges s parts)
 hired-charges s (Rest p ∷ parts) = grind (arith, common_steps, hired-charges s parts)
 
-pub fare-by : (s : Setting) (t u : Trip) → t.initial ≡ u.initial → t.minimum ≡ u.minimum → t.opening.cover ≡ u.opening.cover → t.opening.above ≡ u.opening.above
+pub fare-by : (s : Setting) (t u : MeterTrip) → t.initial ≡ u.initial → t.minimum ≡ u.minimum
+    → t.opening.cover ≡ u.opening.cover → t.opening.above ≡ u.opening.above
     → hired_in t.parts ≡ hired_in u.parts → fare_of s t ≡ fare_of s u
 fare-by s t u initial minimum cover above parts =
-    let charges : charges_of s t ≡ charges_of s u = sym (hired-charges s t.parts) ∙ ap (λ (ps : List Part). sum (map (charge_in s) ps)) parts ∙ hired-charges s u.parts in
+    let charges : charges_of s t ≡ charges_of s u = sym (hired-charges s t.parts)
+    ∙ ap (λ (ps : List Part). sum (map (charge_in s) ps)) parts ∙ hired-charges s u.parts in
     cc
 
 -- over two lists charges add up
-pub sum-parts : (s : Setting) (xs ys : List Part) → sum (map (charge_in s) (xs ++ ys)) ≡ sum (map (charge_in s) xs) + sum (map (charge_in s) ys)
+pub sum-parts : (s : Setting) (xs ys : List Part)
+    → sum (map (charge_in s) (xs ++ ys)) ≡ sum (map (charge_in s) xs) + sum (map (charge_in s) ys)
 sum-parts s [] ys = omega arith
 sum-parts s (x ∷ xs) ys = grind (arith, common_steps, sum-parts s xs ys)
 
 -- from a saved state charges go on as from the opening
-pub above-more : (o : fares.Opening) (a b : ℕ) → above_cover (opening_of o.modulus (saved o a)) b ≡ above_cover o (a + b)
+pub above-more : (o : fares.Opening) (a b : ℕ)
+    → above_cover (opening_of o.modulus (saved o a)) b ≡ above_cover o (a + b)
 above-more o a b =
     let whole = above_cover o a in
     let parted : o.modulus * (whole / o.modulus) + whole % o.modulus ≡ whole = div-add-mod whole o.modulus in
-    let turned : whole / o.modulus * o.modulus ≡ o.modulus * (whole / o.modulus) = mul_comm (whole / o.modulus) o.modulus in
+    let turned : whole / o.modulus * o.modulus ≡ o.modulus * (whole / o.modulus) =
+    mul_comm (whole / o.modulus) o.modulus in
     omega arith
 
 -- a trip that is opened from its saved form has the fare of the whole trip after any further intervals
-pub fare-resumed : (s : Setting) (t : Trip) (parts : List Part) (second : ℕ) (stopped : Bool) (position zone : ℕ)
-    → fare_of s (with_parts parts (trip_of s (held_trip s second stopped position zone t))) ≡ fare_of s (with_parts parts t)
+pub fare-resumed : (s : Setting) (t : MeterTrip) (parts : List Part) (second : ℕ) (stopped : Bool) (position zone : ℕ)
+    → fare_of s (with_parts parts (trip_of s (held_trip s second stopped position zone t)))
+    ≡ fare_of s (with_parts parts t)
 fare-resumed s t parts second stopped position zone =
     let o = model.opening_of s t in
-    let both : charges_of s (with_parts parts t) ≡ charges_of s t + sum (map (charge_in s) parts) = sum-parts s t.parts parts in
+    let both : charges_of s (with_parts parts t) ≡ charges_of s t + sum (map (charge_in s) parts) =
+    sum-parts s t.parts parts in
     let more = above-more o (charges_of s t) (sum (map (charge_in s) parts)) in
-    ap (λ (n : ℕ). shown_fare t.initial t.minimum (display_step s.tariff).0 (quotient (rounding_of s) n (modulus_of s))) (more ∙ ap (above_cover o) (sym both))
+    ap (λ (n : ℕ). shown_fare t.initial t.minimum (display_step s.tariff).0 (quotient (rounding_of s) n (modulus_of s)))
+    (more ∙ ap (above_cover o) (sym both))

@@ -3,26 +3,29 @@ use Rattle.std.proofs.Common.{◌≡◌, ◌<◌, ℕ, ◌+◌, ◌*◌, List, [
 use Rattle.tariff_check.specs.DisplayStep.{display_step}
 use Rattle.tariff_compile.specs.Tables.{TableParts, supplement_at}
 use Rattle.tariff_compile.specs.declared.parts.Supplement.{Supplement}
-use Rattle.totals_record.specs.declared.trip.Trip as store
+use Rattle.totals_record.specs.declared.trip.Trip.{Trip}
 use Rattle.meter_states.specs.Fits.{Fits}
-use Rattle.meter_states.specs.Kept.{FitsSetting}
+use Rattle.meter_states.specs.KeptTrip.{FitsSetting}
 use Rattle.meter_states.specs.Setting.{Setting, IsTariffOf}
 use Rattle.meter_states.specs.Supplements.{amount_in, amounts_from, supplement_in}
 use Rattle.meter_states.proofs.Settings.{step-is, unit-is}
 use Rattle.meter_states.proofs.TableSupplements.{supplement-in}
 
-amounts-same : (f g : ℕ → Option Supplement) (first : ℕ) (counts : List ℕ) → ((n : ℕ) → f n ≡ g n) → amounts_from f first counts ≡ amounts_from g first counts
+amounts-same : (f g : ℕ → Option Supplement) (first : ℕ) (counts : List ℕ) → ((n : ℕ) → f n ≡ g n)
+    → amounts_from f first counts ≡ amounts_from g first counts
 amounts-same f g first [] same = refl
 amounts-same f g first (count ∷ counts) same =
     ap (λ (o : Option Supplement). count * amount_in o + amounts_from f (first + 1) counts) (same first)
     ∙ ap (λ (n : ℕ). count * amount_in (g first) + n) (amounts-same f g (first + 1) counts same)
 
-pub fits-setting : (s : Setting) (p : TableParts) (trip : store.Trip) → IsTariffOf s p → Fits p trip → length trip.extras ≡ 16 → FitsSetting s trip
+pub fits-setting : (s : Setting) (p : TableParts) (trip : Trip) → IsTariffOf s p → Fits p trip → length trip.extras ≡ 16
+    → FitsSetting s trip
 fits-setting s p trip is fits long =
     let step = ap (λ (n : ℕ). n * p.measure) (step-is s p is) in
     let unit = ap (λ (n : ℕ). (display_step s.tariff).0 * n) (unit-is s p is) in
     record {
       rest = subst (λ (n : ℕ). trip.meterage.rest < n) (step ∙ unit) fits.rest;
       extras = long;
-      extras_sum = fits.extras_sum ∙ amounts-same (supplement_in p) (supplement_at s.tariff) 1 trip.extras (λ n. supplement-in s.tariff p n is.compiled);
+      extras_sum = fits.extras_sum ∙ amounts-same (supplement_in p) (supplement_at s.tariff) 1 trip.extras
+          (λ n. supplement-in s.tariff p n is.compiled);
     }

@@ -12,7 +12,8 @@ use Rattle.meter_states.specs.declared.trip.CoreTrip.{CoreTrip}
 use Rattle.meter_states.proofs.TableSupplements.{counts-few, extras-few}
 use Rattle.taxi_units.specs.Limits.{roaming_amid}
 
-pub held-range : (p : TableParts) (core : CoreData) (stopped : Bool) (trip : CoreTrip) → IsPowered p 8639999 roaming_amid 1 core
+pub held-range : (p : TableParts) (core : CoreData) (stopped : Bool) (trip : CoreTrip)
+    → IsPowered p 8639999 roaming_amid 1 core
     → core.trip ≡ Some trip
     → store.IsTripInItsRanges (core.number + 1) (saved_at core.clock stopped core.position core.zone trip)
 held-range p core stopped trip on has =
@@ -37,7 +38,8 @@ held-range p core stopped trip on has =
       minimum = range.minimum;
     }
 
-pub held-fits : (p : TableParts) (core : CoreData) (stopped : Bool) (trip : CoreTrip) → IsPowered p 8639999 roaming_amid 1 core
+pub held-fits : (p : TableParts) (core : CoreData) (stopped : Bool) (trip : CoreTrip)
+    → IsPowered p 8639999 roaming_amid 1 core
     → core.trip ≡ Some trip
     → Fits p (saved_at core.clock stopped core.position core.zone trip)
 held-fits p core stopped trip on has =

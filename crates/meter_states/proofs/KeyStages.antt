@@ -1,5 +1,6 @@
 -- What a key does in its row of operating position and key, as a stage of an event.
-use Rattle.std.proofs.Common.{◌≡◌, ℕ, ◌+◌, ◌<◌, ◌≤◌, List, [], ◌∷◌, ◌++◌, length, ◌⊎◌, Option, Some, None, refl, ap, sym, subst, ◌∙◌, inl, inr, arith}
+use Rattle.std.proofs.Common.{◌≡◌, ℕ, ◌+◌, ◌<◌, ◌≤◌, List, [], ◌∷◌, ◌++◌, length, ◌⊎◌, Option, Some, None, refl, ap}
+use Rattle.std.proofs.Common.{sym, subst, ◌∙◌, inl, inr, arith}
 use Rattle.std.proofs.lemmas.Grind.{common_steps}
 use Rattle.seal_record.specs.declared.seal.Seal.{Seal}
 use Rattle.tariff_compile.specs.Tables.{TableParts}
@@ -18,7 +19,7 @@ use Rattle.meter_states.specs.Meter.{Meter, Outcome, quiet, refused}
 use Rattle.meter_states.specs.Setting.{Setting, IsSettingOf}
 use Rattle.meter_states.specs.Stages.{ClosesTrip, CommitsNothing, IsReadyForKey, MayClose, Stage}
 use Rattle.meter_states.specs.Supplements.{times}
-use Rattle.meter_states.specs.Trip.{Trip, with_extra}
+use Rattle.meter_states.specs.Trip.{MeterTrip, with_extra}
 use Rattle.meter_states.specs.declared.act.Act.{Act}
 use Rattle.meter_states.specs.declared.act.Act.TheVariants.{Refuse}
 use Rattle.meter_states.proofs.Outcomes.{quiet-follows}
@@ -26,17 +27,23 @@ use Rattle.meter_states.proofs.Powered.{between-amid, powered-unlatched}
 use Rattle.meter_states.proofs.Pushes.{few-more, few-none, lawful-more}
 
 -- a key acts as its row says
-key-row : (s : Setting) (m : Meter) (old : CoreData) (key k : Key) (on : Operating) → key ≡ k → old.operating ≡ on → old ≡ core_of s m → key_in s key m.operating m ≡ key_in s k on m
+key-row : (s : Setting) (m : Meter) (old : CoreData) (key k : Key) (on : Operating) → key ≡ k → old.operating ≡ on
+    → old ≡ core_of s m → key_in s key m.operating m ≡ key_in s k on m
 key-row s m old key k on is at e =
-    ap (λ (x : Key). key_in s x m.operating m) is ∙ ap (λ (o : Operating). key_in s k o m) (sym (ap (λ (p : CoreData). p.operating) e) ∙ at)
+    ap (λ (x : Key). key_in s x m.operating m) is
+    ∙ ap (λ (o : Operating). key_in s k o m) (sym (ap (λ (p : CoreData). p.operating) e) ∙ at)
 
-follows-row : (s : Setting) (m : Meter) (old new : CoreData) (before acts : List Act) (key k : Key) (on : Operating) → key ≡ k → old.operating ≡ on → old ≡ core_of s m
+follows-row : (s : Setting) (m : Meter) (old new : CoreData) (before acts : List Act) (key k : Key) (on : Operating)
+    → key ≡ k → old.operating ≡ on → old ≡ core_of s m
     → ComesToOutcome s new before acts (key_in s k on m) → ComesToOutcome s new before acts (key_in s key m.operating m)
-follows-row s m old new before acts key k on is at e row = subst (λ (o : Outcome). ComesToOutcome s new before acts o) (sym (key-row s m old key k on is at e)) row
+follows-row s m old new before acts key k on is at e row =
+    subst (λ (o : Outcome). ComesToOutcome s new before acts o) (sym (key-row s m old key k on is at e)) row
 
 -- a row that commits nothing
-pub commits-row : {p : TableParts} {seal : Seal} {inside old new : CoreData} {before acts : List Act} {key : Key} (k : Key) (on : Operating) → inside ≡ old → key ≡ k → inside.operating ≡ on
-    → CommitsNothing p seal old new before acts (λ s m. key_in s k on m) → MayClose p seal 2 old new before acts (λ s m. key_in s key m.operating m)
+pub commits-row : {p : TableParts} {seal : Seal} {inside old new : CoreData} {before acts : List Act} {key : Key}
+    (k : Key) (on : Operating) → inside ≡ old → key ≡ k → inside.operating ≡ on
+    → CommitsNothing p seal old new before acts (λ s m. key_in s k on m)
+    → MayClose p seal 2 old new before acts (λ s m. key_in s key m.operating m)
 commits-row {p} {seal} {inside} {old} {new} {before} {acts} {key} k on view is at row =
     let here : old.operating ≡ on = sym (ap (λ (c : CoreData). c.operating) view) ∙ at in
     record {
@@ -48,8 +55,10 @@ commits-row {p} {seal} {inside} {old} {new} {before} {acts} {key} k on view is a
     }
 
 -- a row that closes the trip
-pub closes-row : {p : TableParts} {seal : Seal} {inside old new : CoreData} {before acts : List Act} {key : Key} (k : Key) (on : Operating) → inside ≡ old → key ≡ k → inside.operating ≡ on
-    → ClosesTrip p seal 2 old new before acts (λ s m. key_in s k on m) → MayClose p seal 2 old new before acts (λ s m. key_in s key m.operating m)
+pub closes-row : {p : TableParts} {seal : Seal} {inside old new : CoreData} {before acts : List Act} {key : Key}
+    (k : Key) (on : Operating) → inside ≡ old → key ≡ k → inside.operating ≡ on
+    → ClosesTrip p seal 2 old new before acts (λ s m. key_in s k on m)
+    → MayClose p seal 2 old new before acts (λ s m. key_in s key m.operating m)
 closes-row {p} {seal} {inside} {old} {new} {before} {acts} {key} k on view is at row =
     let here : old.operating ≡ on = sym (ap (λ (c : CoreData). c.operating) view) ∙ at in
     record {
@@ -61,8 +70,10 @@ closes-row {p} {seal} {inside} {old} {new} {before} {acts} {key} k on view is at
     }
 
 -- a row that moves a trip to another operating position
-pub moves-row : {p : TableParts} {seal : Seal} {inside old : CoreData} {acts : List Act} {key : Key} (k : Key) (on to : Operating) → inside ≡ old → key ≡ k → inside.operating ≡ on → IsReadyForKey p old acts
-    → (HasTrip on inside.trip → HasTrip to inside.trip) → ((s : Setting) (m : Meter) → key_in s k on m ≡ quiet (record m { operating = to }))
+pub moves-row : {p : TableParts} {seal : Seal} {inside old : CoreData} {acts : List Act} {key : Key} (k : Key)
+    (on to : Operating) → inside ≡ old → key ≡ k → inside.operating ≡ on → IsReadyForKey p old acts
+    → (HasTrip on inside.trip → HasTrip to inside.trip)
+    → ((s : Setting) (m : Meter) → key_in s k on m ≡ quiet (record m { operating = to }))
     → MayClose p seal 2 old (record inside { operating = to }) acts acts (λ s m. key_in s key m.operating m)
 moves-row {p} {seal} {inside} {old} {acts} {key} k on to view is at ready has row =
     let here : old.operating ≡ on = sym (ap (λ (c : CoreData). c.operating) view) ∙ at in
@@ -90,12 +101,15 @@ moves-row {p} {seal} {inside} {old} {acts} {key} k on to view is at ready has ro
       ranges = λ before. before;
       follows = λ s m setting e. follows-row s m old (record inside { operating = to }) acts acts key k on is here e
           (subst (λ (o : Outcome). ComesToOutcome s (record inside { operating = to }) acts acts o) (sym (row s m))
-          (quiet-follows s (record inside { operating = to }) acts (record m { operating = to }) (ap (λ (c : CoreData). record c { operating = to }) (view ∙ e))));
+          (quiet-follows s (record inside { operating = to }) acts (record m { operating = to })
+          (ap (λ (c : CoreData). record c { operating = to }) (view ∙ e))));
     }
 
 -- the steps of a row
-pub steps-row : {inside old : CoreData} (n k : ℕ) (on : Operating) → inside ≡ old → inside.operating ≡ on → n ≤ k + pressing_steps on → n ≤ k + pressing_steps old.operating
-steps-row {inside} {old} n k on view at few = subst (λ (o : Operating). n ≤ k + pressing_steps o) (sym at ∙ ap (λ (c : CoreData). c.operating) view) few
+pub steps-row : {inside old : CoreData} (n k : ℕ) (on : Operating) → inside ≡ old → inside.operating ≡ on
+    → n ≤ k + pressing_steps on → n ≤ k + pressing_steps old.operating
+steps-row {inside} {old} n k on view at few =
+    subst (λ (o : Operating). n ≤ k + pressing_steps o) (sym at ∙ ap (λ (c : CoreData). c.operating) view) few
 
 pub steps-none : (k : ℕ) (on : Operating) → k ≤ k + pressing_steps on
 steps-none k on = omega arith
@@ -113,8 +127,10 @@ pub steps-one : (n k : ℕ) (on : Operating) → n ≤ k + 1 → n ≤ k + press
 steps-one n k on one = omega (arith, some-steps on)
 
 -- a key that has no row in the operating position is refused
-pub refuses-row : {p : TableParts} {seal : Seal} {inside old : CoreData} {before acts : List Act} {key : Key} (k : Key) → inside ≡ old → key ≡ k → IsReadyForKey p old before → acts ≡ before ++ Refuse NotNow ∷ []
-    → ((s : Setting) (m : Meter) → key_in s k inside.operating m ≡ refused NotNow m) → MayClose p seal 2 old old before acts (λ s m. key_in s key m.operating m)
+pub refuses-row : {p : TableParts} {seal : Seal} {inside old : CoreData} {before acts : List Act} {key : Key} (k : Key)
+    → inside ≡ old → key ≡ k → IsReadyForKey p old before → acts ≡ before ++ Refuse NotNow ∷ []
+    → ((s : Setting) (m : Meter) → key_in s k inside.operating m ≡ refused NotNow m)
+    → MayClose p seal 2 old old before acts (λ s m. key_in s key m.operating m)
 refuses-row {p} {seal} {inside} {old} {before} {acts} {key} k view is ready done none =
     let one : length acts ≤ 1 = rw ready.room at (few-more before acts (Refuse NotNow) done) in
     record {
@@ -122,48 +138,58 @@ refuses-row {p} {seal} {inside} {old} {before} {acts} {key} k view is ready done
       few = omega (arith, one);
       roam = inl (one, refl);
       ranges = lawful-more p old.number before acts (Refuse NotNow) done tt;
-      follows = λ s m setting e. follows-row s m old old before acts key k inside.operating is (sym (ap (λ (c : CoreData). c.operating) view)) e
-          (subst (λ (o : Outcome). ComesToOutcome s old before acts o) (sym (none s m)) (record { state = e; done = done }));
+      follows = λ s m setting e. follows-row s m old old before acts key k inside.operating is
+          (sym (ap (λ (c : CoreData). c.operating) view)) e
+          (subst (λ (o : Outcome). ComesToOutcome s old before acts o) (sym (none s m))
+          (record { state = e; done = done }));
     }
 
-pub no-hire : (on : Operating) → (on ≡ ForHire → ⊥) → (on ≡ Stopped → ⊥) → (s : Setting) (m : Meter) → key_in s keys.Hire on m ≡ refused NotNow m
+pub no-hire : (on : Operating) → (on ≡ ForHire → ⊥) → (on ≡ Stopped → ⊥) → (s : Setting) (m : Meter)
+    → key_in s keys.Hire on m ≡ refused NotNow m
 no-hire Off hire stopped s m = refl
 no-hire ForHire hire stopped s m = absurd (hire refl)
 no-hire Hired hire stopped s m = refl
 no-hire Stopped hire stopped s m = absurd (stopped refl)
 
-pub no-stop : (on : Operating) → (on ≡ Hired → ⊥) → (s : Setting) (m : Meter) → key_in s keys.Stop on m ≡ refused NotNow m
+pub no-stop : (on : Operating) → (on ≡ Hired → ⊥) → (s : Setting) (m : Meter)
+    → key_in s keys.Stop on m ≡ refused NotNow m
 no-stop Off hired s m = refl
 no-stop ForHire hired s m = refl
 no-stop Hired hired s m = absurd (hired refl)
 no-stop Stopped hired s m = refl
 
-pub no-clear : (on : Operating) → (on ≡ Stopped → ⊥) → (s : Setting) (m : Meter) → key_in s keys.Clear on m ≡ refused NotNow m
+pub no-clear : (on : Operating) → (on ≡ Stopped → ⊥) → (s : Setting) (m : Meter)
+    → key_in s keys.Clear on m ≡ refused NotNow m
 no-clear Off stopped s m = refl
 no-clear ForHire stopped s m = refl
 no-clear Hired stopped s m = refl
 no-clear Stopped stopped s m = absurd (stopped refl)
 
-pub no-position : (n : ℕ) (on : Operating) → (on ≡ ForHire → ⊥) → (on ≡ Hired → ⊥) → (s : Setting) (m : Meter) → key_in s (keys.Position n) on m ≡ refused NotNow m
+pub no-position : (n : ℕ) (on : Operating) → (on ≡ ForHire → ⊥) → (on ≡ Hired → ⊥) → (s : Setting) (m : Meter)
+    → key_in s (keys.Position n) on m ≡ refused NotNow m
 no-position n Off hire hired s m = refl
 no-position n ForHire hire hired s m = absurd (hire refl)
 no-position n Hired hire hired s m = absurd (hired refl)
 no-position n Stopped hire hired s m = refl
 
-pub no-zone : (n : ℕ) (on : Operating) → (on ≡ ForHire → ⊥) → (on ≡ Hired → ⊥) → (s : Setting) (m : Meter) → key_in s (keys.Zone n) on m ≡ refused NotNow m
+pub no-zone : (n : ℕ) (on : Operating) → (on ≡ ForHire → ⊥) → (on ≡ Hired → ⊥) → (s : Setting) (m : Meter)
+    → key_in s (keys.Zone n) on m ≡ refused NotNow m
 no-zone n Off hire hired s m = refl
 no-zone n ForHire hire hired s m = absurd (hire refl)
 no-zone n Hired hire hired s m = absurd (hired refl)
 no-zone n Stopped hire hired s m = refl
 
-pub no-extra : (n : ℕ) (on : Operating) → (on ≡ Hired → ⊥) → (on ≡ Stopped → ⊥) → (s : Setting) (m : Meter) → key_in s (keys.Extra n) on m ≡ refused NotNow m
+pub no-extra : (n : ℕ) (on : Operating) → (on ≡ Hired → ⊥) → (on ≡ Stopped → ⊥) → (s : Setting) (m : Meter)
+    → key_in s (keys.Extra n) on m ≡ refused NotNow m
 no-extra n Off hired stopped s m = refl
 no-extra n ForHire hired stopped s m = refl
 no-extra n Hired hired stopped s m = absurd (hired refl)
 no-extra n Stopped hired stopped s m = absurd (stopped refl)
 
 -- a stage that refuses
-pub refuses-stage : {p : TableParts} {seal : Seal} {old : CoreData} {before acts : List Act} (why : Why) (stage : Stage) → IsReadyForKey p old before → acts ≡ before ++ Refuse why ∷ [] → ((s : Setting) (m : Meter) → IsSettingOf s p seal → stage s m ≡ refused why m)
+pub refuses-stage : {p : TableParts} {seal : Seal} {old : CoreData} {before acts : List Act} (why : Why) (stage : Stage)
+    → IsReadyForKey p old before → acts ≡ before ++ Refuse why ∷ []
+    → ((s : Setting) (m : Meter) → IsSettingOf s p seal → stage s m ≡ refused why m)
     → CommitsNothing p seal old old before acts stage
 refuses-stage {p} {seal} {old} {before} {acts} why stage ready done is =
     let one : length acts ≤ 1 = rw ready.room at (few-more before acts (Refuse why) done) in
@@ -172,29 +198,37 @@ refuses-stage {p} {seal} {old} {before} {acts} why stage ready done is =
       few = one;
       number = refl;
       ranges = lawful-more p old.number before acts (Refuse why) done tt;
-      follows = λ s m setting e. subst (λ (o : Outcome). ComesToOutcome s old before acts o) (sym (is s m setting)) (record { state = e; done = done });
+      follows = λ s m setting e. subst (λ (o : Outcome). ComesToOutcome s old before acts o) (sym (is s m setting))
+          (record { state = e; done = done });
     }
 
 -- a stage that is another one under the tables and the seal
-pub commits-as : {p : TableParts} {seal : Seal} {old new : CoreData} {before acts : List Act} (first stage : Stage) → CommitsNothing p seal old new before acts first → ((s : Setting) (m : Meter) → IsSettingOf s p seal → stage s m ≡ first s m)
+pub commits-as : {p : TableParts} {seal : Seal} {old new : CoreData} {before acts : List Act} (first stage : Stage)
+    → CommitsNothing p seal old new before acts first
+    → ((s : Setting) (m : Meter) → IsSettingOf s p seal → stage s m ≡ first s m)
     → CommitsNothing p seal old new before acts stage
 commits-as {p} {seal} {old} {new} {before} {acts} first stage x is = record {
   lawful = x.lawful;
   few = x.few;
   number = x.number;
   ranges = x.ranges;
-  follows = λ s m setting e. subst (λ (o : Outcome). ComesToOutcome s new before acts o) (sym (is s m setting)) (x.follows s m setting e);
+  follows = λ s m setting e. subst (λ (o : Outcome). ComesToOutcome s new before acts o) (sym (is s m setting))
+      (x.follows s m setting e);
 }
 
 pub steps-same : (n k : ℕ) → n ≡ k + 1 → n ≤ k + 1
 steps-same n k is = omega arith
 
 -- the key that waits is taken, and acts
-pub unlatched-ready : {p : TableParts} {inside old : CoreData} {acts : List Act} → inside ≡ old → IsReadyForKey p old acts → IsReadyForKey p (record inside { latch = None }) acts
-unlatched-ready {p} view ready = record { lawful = powered-unlatched (subst (IsAmidEvent p) (sym view) ready.lawful); room = ready.room }
+pub unlatched-ready : {p : TableParts} {inside old : CoreData} {acts : List Act} → inside ≡ old
+    → IsReadyForKey p old acts → IsReadyForKey p (record inside { latch = None }) acts
+unlatched-ready {p} view ready =
+    record { lawful = powered-unlatched (subst (IsAmidEvent p) (sym view) ready.lawful); room = ready.room }
 
-pub pressed-closes : {p : TableParts} {seal : Seal} {inside old new : CoreData} {before acts : List Act} (key : Key) → inside ≡ old → inside.latch ≡ Some key
-    → MayClose p seal 2 (record inside { latch = None }) new before acts (λ s m. key_in s key m.operating m) → MayClose p seal 2 old new before acts (λ s m. key_pressed s m)
+pub pressed-closes : {p : TableParts} {seal : Seal} {inside old new : CoreData} {before acts : List Act} (key : Key)
+    → inside ≡ old → inside.latch ≡ Some key
+    → MayClose p seal 2 (record inside { latch = None }) new before acts (λ s m. key_in s key m.operating m)
+    → MayClose p seal 2 old new before acts (λ s m. key_pressed s m)
 pressed-closes {p} {seal} {inside} {old} {new} {before} {acts} key view waits x = record {
   lawful = x.lawful;
   few = x.few;
@@ -207,14 +241,14 @@ pressed-closes {p} {seal} {inside} {old} {new} {before} {acts} key view waits x 
 }
 
 -- a supplement that may be had once more is added
-extra-some : (n : ℕ) (supplement : Supplement) (m : Meter) (t : Trip) → times n t.extras < supplement.max
+extra-some : (n : ℕ) (supplement : Supplement) (m : Meter) (t : MeterTrip) → times n t.extras < supplement.max
     → extra_added_to n supplement (Some t) m ≡ quiet (record m { trip = Some (with_extra n t) })
 extra-some n supplement m t few = grind (arith, common_steps)
 
-pub extra-more : (n : ℕ) (supplement : Supplement) (m : Meter) (t : Trip) → m.trip ≡ Some t
+pub extra-more : (n : ℕ) (supplement : Supplement) (m : Meter) (t : MeterTrip) → m.trip ≡ Some t
     → times n t.extras < supplement.max → extra_added_to n supplement m.trip m ≡ quiet (record m {
       trip = Some
           (with_extra n t);
     })
-extra-more n supplement m t has few = ap (λ (o : Option Trip). extra_added_to n supplement o m) has
+extra-more n supplement m t has few = ap (λ (o : Option MeterTrip). extra_added_to n supplement o m) has
     ∙ extra-some n supplement m t few

@@ -15,14 +15,18 @@ small-mod x y below = grind (arith, common_steps)
 
 -- a charge that fills no display step
 pub added-less : (modulus q : ℕ) (m : Meterage) → m.rest + (q - m.cover_left) < modulus
-    → ◌≡◌ {A = Meterage} (record { cover_left = m.cover_left - q; steps_full = m.steps_full; rest = m.rest + (q - m.cover_left) }) (added modulus m q)
+    → ◌≡◌ {A = Meterage}
+    (record { cover_left = m.cover_left - q; steps_full = m.steps_full; rest = m.rest + (q - m.cover_left) })
+    (added modulus m q)
 added-less modulus q m below =
-    let steps : m.steps_full ≡ m.steps_full + (m.rest + (q - m.cover_left)) / modulus = omega (arith, small-div (m.rest + (q - m.cover_left)) modulus below) in
+    let steps : m.steps_full ≡ m.steps_full + (m.rest + (q - m.cover_left)) / modulus =
+    omega (arith, small-div (m.rest + (q - m.cover_left)) modulus below) in
     let rest = sym (small-mod (m.rest + (q - m.cover_left)) modulus below) in
     cc
 
 -- a charge more is a charge more of the sum
-pub sum-added : (o : fares.Opening) (charged q : ℕ) → 0 < o.modulus → added o.modulus (saved o charged) q ≡ saved o (charged + q)
+pub sum-added : (o : fares.Opening) (charged q : ℕ) → 0 < o.modulus
+    → added o.modulus (saved o charged) q ≡ saved o (charged + q)
 sum-added o charged q some =
     let both = saved-sum o (charged ∷ q ∷ []) some in
     let first = saved-sum o (charged ∷ []) some in

@@ -1,5 +1,6 @@
 -- How stages that follow one another join, and a powered core that follows an outcome meets it.
-use Rattle.std.proofs.Common.{◌≡◌, ◌≢◌, ℕ, List, [], refl, ap, sym, append-nil, ◌∙◌, ◌⊎◌, inl, inr, subst, Option, Some, None, option_map, append_assoc}
+use Rattle.std.proofs.Common.{◌≡◌, ◌≢◌, ℕ, List, [], refl, ap, sym, append-nil, ◌∙◌, ◌⊎◌, inl, inr, subst, Option, Some}
+use Rattle.std.proofs.Common.{None, option_map, append_assoc}
 use Rattle.tariff_compile.specs.Tables.{TableParts}
 use Rattle.taxi_units.specs.declared.event.Event.{Event}
 use Rattle.taxi_units.specs.declared.event.Event.TheVariants.{Down}
@@ -21,32 +22,41 @@ use Rattle.taxi_units.specs.Limits.{roaming_between}
 pub not_off : (operating : Operating) (trip : Option CoreTrip) → HasTrip operating trip → operating ≢ Off
 not_off operating trip has = λ is. subst (λ (o : Operating). HasTrip o trip) is has
 
-pub follows-meets : (s : Setting) (p : TableParts) (ticks most spare : ℕ) (core : CoreData) (acts : List Act) (o : Outcome)
+pub follows-meets : (s : Setting) (p : TableParts) (ticks most spare : ℕ) (core : CoreData)
+    (acts : List Act) (o : Outcome)
     → IsPowered p ticks most spare core → ComesToOutcome s core [] acts o → Meets s core acts o
 follows-meets s p ticks most spare core acts o on f =
     let same : core.operating ≡ o.next.operating = ap (λ (c : CoreData). c.operating) f.state in
     record { state = inr ((λ is. not_off core.operating core.trip on.on (same ∙ is)), f.state); done = f.done }
 
 -- an event of a powered meter, whose acts begin the list
-pub follows-event : (s : Setting) (p : TableParts) (core : CoreData) (before acts : List Act) (event e : Event) (m : Meter) → event ≡ e → before ≡ [] → IsBetweenEvents p core → ComesToOutcome s core before acts (powered_step s e m)
+pub follows-event : (s : Setting) (p : TableParts) (core : CoreData) (before acts : List Act) (event e : Event)
+    (m : Meter) → event ≡ e → before ≡ [] → IsBetweenEvents p core
+    → ComesToOutcome s core before acts (powered_step s e m)
     → Meets s core acts (powered_step s event m)
 follows-event s p core before acts event e m is none on f =
     let first = subst (λ (l : List Act). ComesToOutcome s core l acts (powered_step s e m)) none f in
-    subst (λ (x : Event). Meets s core acts (powered_step s x m)) (sym is) (follows-meets s p 8639999 roaming_between 0 core acts (powered_step s e m) on first)
+    subst (λ (x : Event). Meets s core acts (powered_step s x m)) (sym is)
+    (follows-meets s p 8639999 roaming_between 0 core acts (powered_step s e m) on first)
 
 -- a drop of the supply turns the meter off
-pub dropped-meets : (s : Setting) (core : CoreData) (acts : List Act) (event : Event) (m : Meter) → event ≡ Down → core.operating ≡ Off → acts ≡ (supply_dropped s m).acts → Meets s core acts (powered_step s event m)
+pub dropped-meets : (s : Setting) (core : CoreData) (acts : List Act) (event : Event) (m : Meter) → event ≡ Down
+    → core.operating ≡ Off → acts ≡ (supply_dropped s m).acts → Meets s core acts (powered_step s event m)
 dropped-meets s core acts event m is off done =
     let here : Meets s core acts (powered_step s Down m) = record { state = inl (off, refl); done = done } in
     subst (λ (x : Event). Meets s core acts (powered_step s x m)) (sym is) here
 
 -- one after the other
-pub follows-then : (s : Setting) (first second : CoreData) (before between acts : List Act) (o : Outcome) (f : Meter → Outcome)
-    → ComesToOutcome s first before between o → ComesToOutcome s second between acts (f o.next) → ComesToOutcome s second before acts (o >>= f)
-follows-then s first second before between acts o f x y = record { state = y.state; done = rw x.done at y.done ∙ append_assoc before o.acts (f o.next).acts }
+pub follows-then : (s : Setting) (first second : CoreData) (before between acts : List Act) (o : Outcome)
+    (f : Meter → Outcome)
+    → ComesToOutcome s first before between o → ComesToOutcome s second between acts (f o.next)
+    → ComesToOutcome s second before acts (o >>= f)
+follows-then s first second before between acts o f x y =
+    record { state = y.state; done = rw x.done at y.done ∙ append_assoc before o.acts (f o.next).acts }
 
 -- a stage that does nothing
-pub quiet-follows : (s : Setting) (core : CoreData) (acts : List Act) (m : Meter) → core ≡ core_of s m → ComesToOutcome s core acts acts (quiet m)
+pub quiet-follows : (s : Setting) (core : CoreData) (acts : List Act) (m : Meter) → core ≡ core_of s m
+    → ComesToOutcome s core acts acts (quiet m)
 quiet-follows s core acts m e = record { state = e; done = sym (append-nil acts) }
 
 -- where the roaming pulses are none the number doesn't matter
@@ -55,10 +65,12 @@ same-or L a b n r (inl x) e = inl (x.1 ∙ e)
 same-or L a b n r (inr y) e = inr y
 
 -- a trip that the core has is that of the state
-pub trip-saved : (s : Setting) (trip : Option model.Trip) (x : CoreTrip) → option_map (core_trip_of s) trip ≡ Some x → (t : model.Trip) × (trip ≡ Some t) × (x ≡ core_trip_of s t)
+pub trip-saved : (s : Setting) (trip : Option model.MeterTrip) (x : CoreTrip)
+    → option_map (core_trip_of s) trip ≡ Some x → (t : model.MeterTrip) × (trip ≡ Some t) × (x ≡ core_trip_of s t)
 trip-saved s None x e = absurd cc
 trip-saved s (Some t) x e = (t, refl, cc)
 
-pub fare-none : (s : Setting) (trip : Option model.Trip) → option_map (core_trip_of s) trip ≡ None → 0 ≡ fare_shown s trip
+pub fare-none : (s : Setting) (trip : Option model.MeterTrip) → option_map (core_trip_of s) trip ≡ None
+    → 0 ≡ fare_shown s trip
 fare-none s None e = refl
 fare-none s (Some t) e = absurd cc

@@ -22,12 +22,15 @@ few-longer acts few = omega arith
 pub room-none : (acts : List Act) → acts ≡ [] → length acts < 4
 room-none acts e = rw e (omega arith)
 
-pub lawful-more : (p : TableParts) (number : ℕ) (before acts : List Act) (act : Act) → acts ≡ before ++ act ∷ [] → IsLawfulAct p number act → StayLawful p number before acts
+pub lawful-more : (p : TableParts) (number : ℕ) (before acts : List Act) (act : Act) → acts ≡ before ++ act ∷ []
+    → IsLawfulAct p number act → StayLawful p number before acts
 lawful-more p number before acts act e lawful all = rw e (All-push (IsLawfulAct p number) before act all lawful)
 
 -- an entry of another kind than roaming closes a hiring
 closing-kind : (entry : Entry) → (entry.kind ≡ Roam → ⊥) → closes entry ≡ false → ⊥
 closing-kind entry kind none = grind (arith, common_steps)
 
-pub closing-room : (F : Type 0) (entry : Entry) (kind : Kind) → entry.kind ≡ kind → (kind ≡ Roam → ⊥) → closes entry ≡ false → F
-closing-room F entry kind is other none = absurd (closing-kind entry (λ roam. let same : kind ≡ Roam = cc in other same) none)
+pub closing-room : (F : Type 0) (entry : Entry) (kind : Kind) → entry.kind ≡ kind → (kind ≡ Roam → ⊥)
+    → closes entry ≡ false → F
+closing-room F entry kind is other none =
+    absurd (closing-kind entry (λ roam. let same : kind ≡ Roam = cc in other same) none)

@@ -1,14 +1,15 @@
 -- A held trip that is opened is saved again as it was held.
-use Rattle.std.proofs.Common.{◌≡◌, ℕ, zero, suc, ◌+◌, ◌*◌, ◌<◌, List, [], ◌∷◌, ◌++◌, length, replicate, Option, Some, None, option_map, refl, ap, sym, subst, ◌∙◌, arith}
+use Rattle.std.proofs.Common.{◌≡◌, ℕ, zero, suc, ◌+◌, ◌*◌, ◌<◌, List, [], ◌∷◌, ◌++◌, length, replicate, Option, Some}
+use Rattle.std.proofs.Common.{None, option_map, refl, ap, sym, subst, ◌∙◌, arith}
 use Rattle.std.proofs.lemmas.Grind.{common_steps}
 use Rattle.drive_modes.specs.declared.meterage.Meterage.{Meterage}
 use Rattle.drive_modes.specs.Fare.{saved}
 use Rattle.drive_modes.proofs.Laws.{saved-any}
 use Rattle.tariff_compile.specs.Tables.{supplement_at}
 use Rattle.tariff_syntax.specs.Tree.{Tree}
-use Rattle.totals_record.specs.declared.trip.Trip as store
+use Rattle.totals_record.specs.declared.trip.Trip.{Trip}
 use Rattle.meter_states.specs.Core.{IsSavedIn}
-use Rattle.meter_states.specs.Kept.{FitsSetting, HoldFits}
+use Rattle.meter_states.specs.KeptTrip.{FitsSetting, HoldFits}
 use Rattle.meter_states.specs.Run.{numbers_from, trip_of}
 use Rattle.meter_states.specs.Setting.{Setting, modulus_of}
 use Rattle.meter_states.specs.Supplements.{amount_in, amounts_from, amounts_of, counts_from, counts_of, times}
@@ -40,7 +41,8 @@ times-none : (n k : ℕ) (cs : List ℕ) → k < n → times k (numbers_from n c
 times-none n k [] below = refl
 times-none n k (c ∷ cs) below = times-past c k n (numbers_from (n + 1) cs) below ∙ times-none (n + 1) k cs (omega arith)
 
-pub counts-earlier : (many c n k : ℕ) (xs : List ℕ) → k < n → counts_from many n (replicate c k ++ xs) ≡ counts_from many n xs
+pub counts-earlier : (many c n k : ℕ) (xs : List ℕ) → k < n
+    → counts_from many n (replicate c k ++ xs) ≡ counts_from many n xs
 unfolding counts_from
 counts-earlier zero c n k xs above = refl
 counts-earlier (suc many) c n k xs above =
@@ -53,34 +55,54 @@ unfolding counts_from
 counts-numbers n [] = refl
 counts-numbers n (c ∷ cs) =
     let none = times-none (n + 1) n cs (omega arith) in
-    let head : times n (replicate c n ++ numbers_from (n + 1) cs) ≡ c = omega (arith, times-repeated c n (numbers_from (n + 1) cs), none) in
-    let tail = counts-earlier (length cs) c (n + 1) n (numbers_from (n + 1) cs) (omega arith) ∙ counts-numbers (n + 1) cs in
+    let head : times n (replicate c n ++ numbers_from (n + 1) cs) ≡ c =
+    omega (arith, times-repeated c n (numbers_from (n + 1) cs), none) in
+    let tail =
+    counts-earlier (length cs) c (n + 1) n (numbers_from (n + 1) cs) (omega arith) ∙ counts-numbers (n + 1) cs in
     cc
 
-amounts-repeated : (t : Tree) (c n : ℕ) (xs : List ℕ) → amounts_of t (replicate c n ++ xs) ≡ c * amount_in (supplement_at t n) + amounts_of t xs
+amounts-repeated : (t : Tree) (c n : ℕ) (xs : List ℕ)
+    → amounts_of t (replicate c n ++ xs) ≡ c * amount_in (supplement_at t n) + amounts_of t xs
 amounts-repeated t zero n xs = omega arith
 amounts-repeated t (suc c) n xs = grind (arith, common_steps, amounts-repeated t c n xs)
 
-pub amounts-numbers : (t : Tree) (n : ℕ) (cs : List ℕ) → amounts_of t (numbers_from n cs) ≡ amounts_from (supplement_at t) n cs
+pub amounts-numbers : (t : Tree) (n : ℕ) (cs : List ℕ)
+    → amounts_of t (numbers_from n cs) ≡ amounts_from (supplement_at t) n cs
 amounts-numbers t n [] = refl
-amounts-numbers t n (c ∷ cs) = omega (arith, amounts-repeated t c n (numbers_from (n + 1) cs), amounts-numbers t (n + 1) cs)
+amounts-numbers t n (c ∷ cs) =
+    omega (arith, amounts-repeated t c n (numbers_from (n + 1) cs), amounts-numbers t (n + 1) cs)
 
-pub resumed-saved : (s : Setting) (h : store.Trip) → FitsSetting s h → held_trip s h.saved h.stopped h.position h.zone (trip_of s h) ≡ h
+pub resumed-saved : (s : Setting) (h : Trip) → FitsSetting s h
+    → held_trip s h.saved h.stopped h.position h.zone (trip_of s h) ≡ h
 resumed-saved s h fits =
     let numbers = numbers_from 1 h.extras in
-    let counts : counts_of numbers ≡ h.extras = subst (λ (n : ℕ). counts_from n 1 numbers ≡ h.extras) fits.extras (counts-numbers 1 h.extras) in
-    let amounts : amounts_of s.tariff numbers ≡ h.extras_sum = amounts-numbers s.tariff 1 h.extras ∙ sym fits.extras_sum in
+    let counts : counts_of numbers ≡ h.extras =
+    subst (λ (n : ℕ). counts_from n 1 numbers ≡ h.extras) fits.extras (counts-numbers 1 h.extras) in
+    let amounts : amounts_of s.tariff numbers ≡ h.extras_sum =
+    amounts-numbers s.tariff 1 h.extras ∙ sym fits.extras_sum in
     let meterage = sym (saved-any (modulus_of s) h.meterage fits.rest) in
     let pulses : h.pulses + 0 ≡ h.pulses = omega arith in
     let ticks : h.ticks + 0 ≡ h.ticks = omega arith in
-    let kept = saved (record { cover = h.meterage.cover_left; above = h.meterage.steps_full * modulus_of s + h.meterage.rest; modulus = modulus_of s }) 0 in
-    ap (λ (n : ℕ). record h { pulses = n; ticks = h.ticks + 0; meterage = kept; extras = counts_of numbers; extras_sum = amounts_of s.tariff numbers }) pulses
-    ∙ ap (λ (n : ℕ). record h { ticks = n; meterage = kept; extras = counts_of numbers; extras_sum = amounts_of s.tariff numbers }) ticks
-    ∙ ap (λ (m : Meterage). record h { meterage = m; extras = counts_of numbers; extras_sum = amounts_of s.tariff numbers }) meterage
+    let kept = saved (record {
+      cover = h.meterage.cover_left;
+      above = h.meterage.steps_full * modulus_of s + h.meterage.rest;
+      modulus = modulus_of s;
+    }) 0 in
+    ap (λ (n : ℕ). record h {
+      pulses = n;
+      ticks = h.ticks + 0;
+      meterage = kept;
+      extras = counts_of numbers;
+      extras_sum = amounts_of s.tariff numbers;
+    }) pulses
+    ∙ ap (λ (n : ℕ).
+    record h { ticks = n; meterage = kept; extras = counts_of numbers; extras_sum = amounts_of s.tariff numbers }) ticks
+    ∙ ap (λ (m : Meterage).
+    record h { meterage = m; extras = counts_of numbers; extras_sum = amounts_of s.tariff numbers }) meterage
     ∙ ap (λ (xs : List ℕ). record h { extras = xs; extras_sum = amounts_of s.tariff numbers }) counts
     ∙ ap (λ (n : ℕ). record h { extras_sum = n }) amounts
 
 -- what a run begins with
-pub begins : (s : Setting) (hold : Option store.Trip) → HoldFits s hold → IsSavedIn s hold (option_map (trip_of s) hold)
+pub begins : (s : Setting) (hold : Option Trip) → HoldFits s hold → IsSavedIn s hold (option_map (trip_of s) hold)
 begins s None fits = refl
-begins s (Some h) fits = sym (ap (λ (x : store.Trip). Some (core_trip_in x)) (resumed-saved s h fits))
+begins s (Some h) fits = sym (ap (λ (x : Trip). Some (core_trip_in x)) (resumed-saved s h fits))

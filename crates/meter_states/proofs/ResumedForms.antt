@@ -1,5 +1,6 @@
 -- A trip that is opened from its saved form has the saved form of the whole trip.
-use Rattle.std.proofs.Common.{◌≡◌, ℕ, zero, suc, ◌+◌, ◌-◌, ◌*◌, ◌/◌, ◌%◌, ◌<◌, ◌≤◌, All, Bool, List, [], ◌∷◌, ◌++◌, length, map, sum, Option, refl, ap, sym, subst, ◌∙◌, arith}
+use Rattle.std.proofs.Common.{◌≡◌, ℕ, zero, suc, ◌+◌, ◌-◌, ◌*◌, ◌/◌, ◌%◌, ◌<◌, ◌≤◌, All, Bool, List, [], ◌∷◌, ◌++◌}
+use Rattle.std.proofs.Common.{length, map, sum, Option, refl, ap, sym, subst, ◌∙◌, arith}
 use Rattle.std.proofs.lemmas.Grind.{common_steps}
 use Rattle.std.proofs.lemmas.List.Elements.{All-head, All-tail}
 use Rattle.drive_modes.specs.Fare as fares
@@ -8,14 +9,16 @@ use Rattle.drive_modes.specs.declared.meterage.Meterage.{Meterage}
 use Rattle.tariff_compile.specs.Tables.{supplement_at}
 use Rattle.tariff_compile.specs.declared.parts.Supplement.{Supplement}
 use Rattle.tariff_syntax.specs.Tree.{Tree}
-use Rattle.meter_states.specs.Kept.{IsSupplementNumber, with_more}
+use Rattle.meter_states.specs.KeptTrip.{IsSupplementNumber, with_more}
 use Rattle.meter_states.specs.Run.{numbers_from, trip_of}
 use Rattle.meter_states.specs.Setting.{Setting, modulus_of}
 use Rattle.meter_states.specs.Supplements.{amount_in, amounts_from, amounts_of, counts_from, counts_of, times}
 use Rattle.meter_states.specs.Trip as model
-use Rattle.meter_states.specs.Trip.{Part, Trip, charge_in, charges_of, held_trip, pulses_in, core_trip_of, ticks_in}
+use Rattle.meter_states.specs.Trip.{Part, MeterTrip, charge_in, charges_of, held_trip, pulses_in, core_trip_of}
+use Rattle.meter_states.specs.Trip.{ticks_in}
 use Rattle.meter_states.proofs.Fares.{above-more, sum-parts}
-use Rattle.meter_states.proofs.Resumed.{amounts-numbers, counts-earlier, counts-numbers, times-cons-other, times-cons-same}
+use Rattle.meter_states.proofs.Resumed.{amounts-numbers, counts-earlier, counts-numbers, times-cons-other}
+use Rattle.meter_states.proofs.Resumed.{times-cons-same}
 
 -- ---- counts of supplements
 
@@ -35,13 +38,15 @@ counts-behind zero n xs ys more same = refl
 counts-behind (suc many) n xs ys more same =
     let first : times n xs ≡ times n ys = cc in
     let others : counts_from many (n + 1) xs ≡ counts_from many (n + 1) ys = cc in
-    let head : times n (xs ++ more) ≡ times n (ys ++ more) = omega (arith, times-append n xs more, times-append n ys more, first) in
+    let head : times n (xs ++ more) ≡ times n (ys ++ more) =
+    omega (arith, times-append n xs more, times-append n ys more, first) in
     let tail = counts-behind many (n + 1) xs ys more others in
     cc
 
 -- numbers that are counted are listed again, each as often
 counts-listed : (xs : List ℕ) → counts_of (numbers_from 1 (counts_of xs)) ≡ counts_of xs
-counts-listed xs = subst (λ (n : ℕ). counts_from n 1 (numbers_from 1 (counts_of xs)) ≡ counts_of xs) (length-counts 16 1 xs) (counts-numbers 1 (counts_of xs))
+counts-listed xs = subst (λ (n : ℕ). counts_from n 1 (numbers_from 1 (counts_of xs)) ≡ counts_of xs)
+    (length-counts 16 1 xs) (counts-numbers 1 (counts_of xs))
 
 -- ---- their amounts
 
@@ -52,8 +57,10 @@ unfolding counts_from
 amounts-counted f zero n i x xs is within = absurd (omega arith)
 amounts-counted f (suc many) n zero x xs is within =
     let same : x ≡ n = omega arith in
-    let here : times n (x ∷ xs) ≡ times n xs + 1 = subst (λ (k : ℕ). times k (x ∷ xs) ≡ times k xs + 1) same (times-cons-same x xs) in
-    let there : counts_from many (n + 1) (x ∷ xs) ≡ counts_from many (n + 1) xs = counts-earlier many 1 (n + 1) x xs (omega arith) in
+    let here : times n (x ∷ xs) ≡ times n xs + 1 =
+    subst (λ (k : ℕ). times k (x ∷ xs) ≡ times k xs + 1) same (times-cons-same x xs) in
+    let there : counts_from many (n + 1) (x ∷ xs) ≡ counts_from many (n + 1) xs =
+    counts-earlier many 1 (n + 1) x xs (omega arith) in
     let rest = ap (λ (cs : List ℕ). amounts_from f (n + 1) cs) there in
     let amount : amount_in (f n) ≡ amount_in (f x) = ap (λ (k : ℕ). amount_in (f k)) (sym same) in
     let head = ap (λ (k : ℕ). k * amount_in (f n)) here in
@@ -71,7 +78,8 @@ amounts-none f zero n = refl
 amounts-none f (suc many) n = omega (arith, amounts-none f many (n + 1))
 
 -- the counts of a list of supplements have the amounts of the list
-amounts-of-counts : (t : Tree) (xs : List ℕ) → All IsSupplementNumber xs → amounts_from (supplement_at t) 1 (counts_of xs) ≡ amounts_of t xs
+amounts-of-counts : (t : Tree) (xs : List ℕ) → All IsSupplementNumber xs
+    → amounts_from (supplement_at t) 1 (counts_of xs) ≡ amounts_of t xs
 amounts-of-counts t [] are = amounts-none (supplement_at t) 16 1
 amounts-of-counts t (x ∷ xs) are =
     let is : IsSupplementNumber x = All-head IsSupplementNumber x xs are in
@@ -79,10 +87,12 @@ amounts-of-counts t (x ∷ xs) are =
     let most : x ≤ 16 = is.1 in
     let place : x ≡ 1 + (x - 1) = omega arith in
     let within : x - 1 < 16 = omega arith in
-    let more : amounts_from (supplement_at t) 1 (counts_of (x ∷ xs)) ≡ amount_in (supplement_at t x) + amounts_from (supplement_at t) 1 (counts_of xs) =
+    let more : amounts_from (supplement_at t) 1 (counts_of (x ∷ xs))
+    ≡ amount_in (supplement_at t x) + amounts_from (supplement_at t) 1 (counts_of xs) =
     amounts-counted (supplement_at t) 16 1 (x - 1) x xs place within in
     let others = amounts-of-counts t xs (All-tail IsSupplementNumber x xs are) in
-    let parted : amounts_of t (x ∷ xs) ≡ amount_in (supplement_at t x) + amounts_of t xs = grind (arith, common_steps) in
+    let parted : amounts_of t (x ∷ xs) ≡ amount_in (supplement_at t x) + amounts_of t xs =
+    grind (arith, common_steps) in
     more ∙ ap (λ (n : ℕ). amount_in (supplement_at t x) + n) others ∙ sym parted
 
 amounts-append : (t : Tree) (xs ys : List ℕ) → amounts_of t (xs ++ ys) ≡ amounts_of t xs + amounts_of t ys
@@ -121,27 +131,41 @@ saved-more o a b =
     }) cover
     ∙ ap (λ (n : ℕ). record { cover_left = o.cover - (a + b); steps_full = n / o.modulus; rest = n % o.modulus }) above
 
-pub forms-resumed : (s : Setting) (t : Trip) (parts : List Part) (extras : List ℕ) (second : ℕ) (stopped : Bool) (position zone : ℕ)
+pub forms-resumed : (s : Setting) (t : MeterTrip) (parts : List Part) (extras : List ℕ) (second : ℕ) (stopped : Bool)
+    (position zone : ℕ)
     → All IsSupplementNumber t.extras
-    → core_trip_of s (with_more parts extras (trip_of s (held_trip s second stopped position zone t))) ≡ core_trip_of s (with_more parts extras t)
+    → core_trip_of s (with_more parts extras (trip_of s (held_trip s second stopped position zone t)))
+    ≡ core_trip_of s (with_more parts extras t)
 forms-resumed s t parts extras second stopped position zone are =
     let whole = core_trip_of s (with_more parts extras t) in
     let o = model.opening_of s t in
     let held = trip_of s (held_trip s second stopped position zone t) in
     let listed = numbers_from 1 (counts_of t.extras) ++ extras in
-    let pulses : t.opening.pulses + sum (map pulses_in t.parts) + sum (map pulses_in parts) ≡ t.opening.pulses + sum (map pulses_in (t.parts ++ parts)) =
+    let pulses : t.opening.pulses + sum (map pulses_in t.parts) + sum (map pulses_in parts)
+    ≡ t.opening.pulses + sum (map pulses_in (t.parts ++ parts)) =
     omega (arith, pulses-append t.parts parts) in
-    let ticks : t.opening.ticks + sum (map ticks_in t.parts) + sum (map ticks_in parts) ≡ t.opening.ticks + sum (map ticks_in (t.parts ++ parts)) =
+    let ticks : t.opening.ticks + sum (map ticks_in t.parts) + sum (map ticks_in parts)
+    ≡ t.opening.ticks + sum (map ticks_in (t.parts ++ parts)) =
     omega (arith, ticks-append t.parts parts) in
     let further = sum (map (charge_in s) parts) in
-    let meterage : saved (fares.opening_of (modulus_of s) (saved o (charges_of s t))) further ≡ saved o (charges_of s (with_more parts extras t)) =
+    let meterage : saved (fares.opening_of (modulus_of s) (saved o (charges_of s t))) further
+    ≡ saved o (charges_of s (with_more parts extras t)) =
     saved-more o (charges_of s t) further ∙ ap (saved o) (sym (sum-parts s t.parts parts)) in
     let counts = counts-behind 16 1 (numbers_from 1 (counts_of t.extras)) t.extras extras (counts-listed t.extras) in
     let amounts = amounts-listed s.tariff t.extras extras are in
     let kept = saved (fares.opening_of (modulus_of s) (saved o (charges_of s t))) further in
     let n_ticks = t.opening.ticks + sum (map ticks_in t.parts) + sum (map ticks_in parts) in
-    ap (λ (n : ℕ). record whole { pulses = n; ticks = n_ticks; meterage = kept; extras = counts_of listed; extras_sum = amounts_of s.tariff listed }) pulses
-    ∙ ap (λ (n : ℕ). record whole { ticks = n; meterage = kept; extras = counts_of listed; extras_sum = amounts_of s.tariff listed }) ticks
-    ∙ ap (λ (m : Meterage). record whole { meterage = m; extras = counts_of listed; extras_sum = amounts_of s.tariff listed }) meterage
+    ap (λ (n : ℕ). record whole {
+      pulses = n;
+      ticks = n_ticks;
+      meterage = kept;
+      extras = counts_of listed;
+      extras_sum = amounts_of s.tariff listed;
+    }) pulses
+    ∙ ap (λ (n : ℕ).
+    record whole { ticks = n; meterage = kept; extras = counts_of listed; extras_sum = amounts_of s.tariff listed })
+    ticks
+    ∙ ap (λ (m : Meterage).
+    record whole { meterage = m; extras = counts_of listed; extras_sum = amounts_of s.tariff listed }) meterage
     ∙ ap (λ (xs : List ℕ). record whole { extras = xs; extras_sum = amounts_of s.tariff listed }) counts
     ∙ ap (λ (n : ℕ). record whole { extras_sum = n }) amounts

@@ -17,7 +17,8 @@ use Rattle.taxi_units.specs.Limits.{roaming_amid}
 many-in : (s : Setting) (m : Meter) → 1000000 ≤ sum m.roaming → roaming_checked_in s ForHire m ≡ roaming_entered s m
 many-in s m many = grind (arith, common_steps)
 
-pub checked-many : (s : Setting) (m : Meter) → m.operating ≡ ForHire → 1000000 ≤ sum m.roaming → roaming_checked s m ≡ roaming_entered s m
+pub checked-many : (s : Setting) (m : Meter) → m.operating ≡ ForHire → 1000000 ≤ sum m.roaming
+    → roaming_checked s m ≡ roaming_entered s m
 checked-many s m hire many = ap (λ (o : Operating). roaming_checked_in s o m) hire ∙ many-in s m many
 
 -- a core with many roaming pulses has some, and room for their entry
@@ -28,11 +29,13 @@ pub room-three : (n roam : ℕ) → (n ≤ 1) ⊎ ((n ≤ 3) × (roam ≡ 0)) �
 room-three n roam (inl x) = omega arith
 room-three n roam (inr x) = x.0
 
-pub few-entered : (n before roam : ℕ) → (before ≤ 1) ⊎ ((before ≤ 3) × (roam ≡ 0)) → 1000000 ≤ roam → n ≤ before + 1 → n ≤ 3
+pub few-entered : (n before roam : ℕ) → (before ≤ 1) ⊎ ((before ≤ 3) × (roam ≡ 0)) → 1000000 ≤ roam
+    → n ≤ before + 1 → n ≤ 3
 few-entered n before roam (inl x) many few = omega arith
 few-entered n before roam (inr x) many few = absurd (omega (arith, x.1))
 
-pub lawful-entered : (p : TableParts) (n number roam : ℕ) (before acts : List Act) → (n ≡ number) ⊎ (roam ≡ 0) → 1000000 ≤ roam → StayLawful p n before acts → StayLawful p number before acts
+pub lawful-entered : (p : TableParts) (n number roam : ℕ) (before acts : List Act) → (n ≡ number) ⊎ (roam ≡ 0)
+    → 1000000 ≤ roam → StayLawful p n before acts → StayLawful p number before acts
 lawful-entered p n number roam before acts (inl x) many stay = subst (λ (k : ℕ). StayLawful p k before acts) x stay
 lawful-entered p n number roam before acts (inr x) many stay = absurd (omega arith)
 

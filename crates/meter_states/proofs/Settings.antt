@@ -7,7 +7,8 @@ use Rattle.tariff_compile.specs.Tables.{IsFit, TableParts}
 use Rattle.meter_states.specs.Setting.{Setting, IsTariffOf, rounding_of, unit_of, modulus_of}
 
 pub unit-is : (s : Setting) (p : TableParts) → IsTariffOf s p → p.measure ≡ unit_of s
-unit-is s p is = ap (λ (q : TableParts). q.measure) is.compiled.parts ∙ ap (λ (k : ℕ). k * measure_of s.tariff.lines) is.constant
+unit-is s p is =
+    ap (λ (q : TableParts). q.measure) is.compiled.parts ∙ ap (λ (k : ℕ). k * measure_of s.tariff.lines) is.constant
 
 pub step-is : (s : Setting) (p : TableParts) → IsTariffOf s p → p.step ≡ (display_step s.tariff).0
 step-is s p is = ap (λ (q : TableParts). q.step) is.compiled.parts
@@ -20,10 +21,12 @@ decimals-is s p is = ap (λ (q : TableParts). q.decimals) is.compiled.parts
 
 -- what a display step takes, by the tables
 pub modulus-is : (s : Setting) (p : TableParts) → IsTariffOf s p → p.step * p.measure ≡ modulus_of s
-modulus-is s p is = ap (λ (n : ℕ). n * p.measure) (step-is s p is) ∙ ap (λ (n : ℕ). (display_step s.tariff).0 * n) (unit-is s p is)
+modulus-is s p is =
+    ap (λ (n : ℕ). n * p.measure) (step-is s p is) ∙ ap (λ (n : ℕ). (display_step s.tariff).0 * n) (unit-is s p is)
 
 -- a display step takes more than what is left of it
-pub modulus-above : (s : Setting) (p : TableParts) (rest : ℕ) → IsTariffOf s p → rest < p.step * p.measure → 0 < modulus_of s
+pub modulus-above : (s : Setting) (p : TableParts) (rest : ℕ) → IsTariffOf s p → rest < p.step * p.measure
+    → 0 < modulus_of s
 modulus-above s p rest is below = omega (arith, below, modulus-is s p is)
 
 -- a display step takes something

@@ -4,54 +4,62 @@ use Rattle.std.proofs.lemmas.Grind.{common_steps}
 use Rattle.taxi_units.specs.declared.receipt.Kind.TheVariants.{Aborted, Roam}
 use Rattle.taxi_units.specs.Time.{IsSecond}
 use Rattle.totals_record.specs.Ranges.{IsHeld}
-use Rattle.totals_record.specs.declared.trip.Trip as store
+use Rattle.totals_record.specs.declared.trip.Trip.{Trip}
 use Rattle.meter_states.specs.Closing.{closed, roaming_entered}
 use Rattle.meter_states.specs.Meter.{Meter, quiet, held}
 use Rattle.meter_states.specs.Setting.{Setting}
-use Rattle.meter_states.specs.Supply.{aborted, hold_taken, is_stopped, is_within_hold, kept, resumed, trip_kept}
-use Rattle.meter_states.specs.Trip.{Trip, held_trip, core_trip_of}
+use Rattle.meter_states.specs.Supply.{aborted, hold_taken, is_stopped, is_within_hold, held_or_closed, resumed}
+use Rattle.meter_states.specs.Supply.{trip_held_or_closed}
+use Rattle.meter_states.specs.Trip.{MeterTrip, held_trip, core_trip_of}
 use Rattle.taxi_units.specs.Limits.{last_number}
 
 pub aborted-closes : Aborted ≡ Roam → ⊥
 aborted-closes is = cc
 
-roams-some : (s : Setting) (m : Meter) → 0 < sum m.roaming → kept s None m ≡ roaming_entered s m
+roams-some : (s : Setting) (m : Meter) → 0 < sum m.roaming → held_or_closed s None m ≡ roaming_entered s m
 roams-some s m some = grind (arith, common_steps)
 
-roams-none : (s : Setting) (m : Meter) → sum m.roaming ≤ 0 → kept s None m ≡ quiet m
+roams-none : (s : Setting) (m : Meter) → sum m.roaming ≤ 0 → held_or_closed s None m ≡ quiet m
 roams-none s m none = grind (arith, common_steps)
 
-pub kept-roams : (s : Setting) (m : Meter) (trip : Option Trip) → option_map (core_trip_of s) trip ≡ None → 0 < sum m.roaming → kept s trip m ≡ roaming_entered s m
+pub kept-roams : (s : Setting) (m : Meter) (trip : Option MeterTrip) → option_map (core_trip_of s) trip ≡ None
+    → 0 < sum m.roaming → held_or_closed s trip m ≡ roaming_entered s m
 kept-roams s m None e some = roams-some s m some
 kept-roams s m (Some t) e some = absurd cc
 
-pub kept-quiet : (s : Setting) (m : Meter) (trip : Option Trip) → option_map (core_trip_of s) trip ≡ None → sum m.roaming ≤ 0 → kept s trip m ≡ quiet m
+pub kept-quiet : (s : Setting) (m : Meter) (trip : Option MeterTrip) → option_map (core_trip_of s) trip ≡ None
+    → sum m.roaming ≤ 0 → held_or_closed s trip m ≡ quiet m
 kept-quiet s m None e none = roams-none s m none
 kept-quiet s m (Some t) e none = absurd cc
 
-trip-held : (s : Setting) (m : Meter) (t : Trip) → m.durable.number < last_number → trip_kept s t m ≡ held (held_trip s m.clock (is_stopped m.operating) m.position m.zone t) m
+trip-held : (s : Setting) (m : Meter) (t : MeterTrip) → m.durable.number < last_number
+    → trip_held_or_closed s t m ≡ held (held_trip s m.clock (is_stopped m.operating) m.position m.zone t) m
 trip-held s m t few = grind (arith, common_steps)
 
-trip-closed : (s : Setting) (m : Meter) (t : Trip) → last_number ≤ m.durable.number → trip_kept s t m ≡ closed s Aborted m.clock m
+trip-closed : (s : Setting) (m : Meter) (t : MeterTrip) → last_number ≤ m.durable.number
+    → trip_held_or_closed s t m ≡ closed s Aborted m.clock m
 trip-closed s m t many = grind (arith, common_steps)
 
-pub kept-held : (s : Setting) (m : Meter) (t : Trip) → m.trip ≡ Some t → m.durable.number < last_number
-    → kept s m.trip m ≡ held (held_trip s m.clock (is_stopped m.operating) m.position m.zone t) m
-kept-held s m t is few = ap (λ (o : Option Trip). kept s o m) is ∙ trip-held s m t few
+pub kept-held : (s : Setting) (m : Meter) (t : MeterTrip) → m.trip ≡ Some t → m.durable.number < last_number
+    → held_or_closed s m.trip m ≡ held (held_trip s m.clock (is_stopped m.operating) m.position m.zone t) m
+kept-held s m t is few = ap (λ (o : Option MeterTrip). held_or_closed s o m) is ∙ trip-held s m t few
 
-pub kept-closed : (s : Setting) (m : Meter) (t : Trip) → m.trip ≡ Some t → last_number ≤ m.durable.number → kept s m.trip m ≡ closed s Aborted m.clock m
-kept-closed s m t is many = ap (λ (o : Option Trip). kept s o m) is ∙ trip-closed s m t many
+pub kept-closed : (s : Setting) (m : Meter) (t : MeterTrip) → m.trip ≡ Some t → last_number ≤ m.durable.number
+    → held_or_closed s m.trip m ≡ closed s Aborted m.clock m
+kept-closed s m t is many = ap (λ (o : Option MeterTrip). held_or_closed s o m) is ∙ trip-closed s m t many
 
-pub hold-resumed : (s : Setting) (second : ℕ) (h : store.Trip) (m : Meter) → is_within_hold s second h ≡ true → hold_taken s second (Some h) m ≡ resumed h m
+pub hold-resumed : (s : Setting) (second : ℕ) (h : Trip) (m : Meter) → is_within_hold s second h ≡ true
+    → hold_taken s second (Some h) m ≡ resumed h m
 hold-resumed s second h m within = rw within refl
 
-pub hold-aborted : (s : Setting) (second : ℕ) (h : store.Trip) (m : Meter) → is_within_hold s second h ≡ false
+pub hold-aborted : (s : Setting) (second : ℕ) (h : Trip) (m : Meter) → is_within_hold s second h ≡ false
     → hold_taken s second (Some h) m ≡ aborted s h m
 hold-aborted s second h m late = rw late refl
 
 -- a held trip was saved at a second, and began by then
-pub held-second : {number : ℕ} {h : store.Trip} → IsHeld number h → IsSecond h.saved
+pub held-second : {number : ℕ} {h : Trip} → IsHeld number h → IsSecond h.saved
 held-second held = (omega (arith, held.ranges.started, held.ranges.saved), held.ranges.saved.1)
 
-pub begun-by : {number clock second : ℕ} {h : store.Trip} → IsHeld number h → h.saved ≤ second → clock ≡ second → h.started ≤ clock
+pub begun-by : {number clock second : ℕ} {h : Trip} → IsHeld number h → h.saved ≤ second → clock ≡ second
+    → h.started ≤ clock
 begun-by held later is = omega (arith, held.ranges.saved, later, is)

@@ -1,5 +1,6 @@
 -- The supplements of tables are those of the tariff.
-use Rattle.std.proofs.Common.{◌≡◌, ◌≢◌, ℕ, zero, suc, ltb, Bool, true, ◌+◌, ◌<◌, ◌≤◌, All, List, [], ◌∷◌, Option, Some, None, false, get_or, length, refl, ap, sym, ◌∙◌, arith}
+use Rattle.std.proofs.Common.{◌≡◌, ◌≢◌, ℕ, zero, suc, ltb, Bool, true, ◌+◌, ◌<◌, ◌≤◌, All, List, [], ◌∷◌, Option, Some}
+use Rattle.std.proofs.Common.{None, false, get_or, length, refl, ap, sym, ◌∙◌, arith}
 use Rattle.std.specs.Option.{option_map}
 use Rattle.std.proofs.lemmas.Bool.{ltb-false, ltb-true}
 use Rattle.std.proofs.lemmas.List.FromFn.{get_or-map-range_with_len, length-map-range_with_len}
@@ -25,41 +26,50 @@ supplement-none t n writable out =
     ap (λ (o : Option SupplementNumbers). option_map tables.supplement_in o) none
 
 -- the supplements of tables
-all-there : (t : Tree) (p : TableParts) (place : ℕ) → IsTablesOf t p → place < 16 → get_or p.supplements place None ≡ supplement_at t (place + 1)
+all-there : (t : Tree) (p : TableParts) (place : ℕ) → IsTablesOf t p → place < 16
+    → get_or p.supplements place None ≡ supplement_at t (place + 1)
 all-there t p place is within =
     ap (λ (q : TableParts). get_or q.supplements place None) is.parts
     ∙ get_or-map-range_with_len (λ (i : ℕ). supplement_at t (i + 1)) 0 16 place place None within (omega arith)
 
-all-past : (t : Tree) (p : TableParts) (place : ℕ) → IsTablesOf t p → 16 ≤ place → get_or p.supplements place None ≡ None
+all-past : (t : Tree) (p : TableParts) (place : ℕ) → IsTablesOf t p → 16 ≤ place
+    → get_or p.supplements place None ≡ None
 all-past t p place is past =
-    let long : length p.supplements ≡ 16 = ap (λ (q : TableParts). length q.supplements) is.parts ∙ length-map-range_with_len (λ (i : ℕ). supplement_at t (i + 1)) 0 16 in
+    let long : length p.supplements ≡ 16 = ap (λ (q : TableParts). length q.supplements) is.parts
+    ∙ length-map-range_with_len (λ (i : ℕ). supplement_at t (i + 1)) 0 16 in
     get_or_past p.supplements place None (omega arith)
 
-supplement-by : (t : Tree) (p : TableParts) (place : ℕ) (within : Bool) → IsTablesOf t p → ltb place 16 ≡ within → get_or p.supplements place None ≡ supplement_at t (suc place)
+supplement-by : (t : Tree) (p : TableParts) (place : ℕ) (within : Bool) → IsTablesOf t p → ltb place 16 ≡ within
+    → get_or p.supplements place None ≡ supplement_at t (suc place)
 supplement-by t p place true is e =
     let same : place + 1 ≡ suc place = omega arith in
     all-there t p place is (ltb-true place 16 e) ∙ ap (supplement_at t) same
 supplement-by t p place false is e =
     let past : 16 ≤ place = ltb-false place 16 e in
-    all-past t p place is past ∙ sym (supplement-none t (suc place) is.writable (λ range. absurd (omega (arith, range.1, past))))
+    all-past t p place is past
+    ∙ sym (supplement-none t (suc place) is.writable (λ range. absurd (omega (arith, range.1, past))))
 
 -- in the tables a number has the supplement that it has in the tariff
 pub supplement-in : (t : Tree) (p : TableParts) (n : ℕ) → IsTablesOf t p → supplement_in p n ≡ supplement_at t n
 supplement-in t p zero is = sym (supplement-none t 0 is.writable (λ range. absurd (omega (arith, range.0))))
 supplement-in t p (suc place) is = supplement-by t p place (ltb place 16) is refl
 
-in-range : (n : ℕ) (least most : Bool) → ltb 0 n ≡ least → ltb 16 n ≡ most → ((IsFromTo 1 16 n → ⊥) → ⊥) → IsFromTo 1 16 n
+in-range : (n : ℕ) (least most : Bool) → ltb 0 n ≡ least → ltb 16 n ≡ most → ((IsFromTo 1 16 n → ⊥) → ⊥)
+    → IsFromTo 1 16 n
 in-range n true false e f some = (omega (arith, ltb-true 0 n e), ltb-false 16 n f)
 in-range n true true e f some = absurd (some (λ range. absurd (omega (arith, range.1, ltb-true 16 n f))))
 in-range n false most e f some = absurd (some (λ range. absurd (omega (arith, range.0, ltb-false 0 n e))))
 
 -- a number that has one is 1 to 16
 pub supplement-number : (t : Tree) (n : ℕ) → IsWritable t → supplement_at t n ≢ None → IsFromTo 1 16 n
-supplement-number t n writable some = in-range n (ltb 0 n) (ltb 16 n) refl refl (λ out. some (supplement-none t n writable out))
+supplement-number t n writable some =
+    in-range n (ltb 0 n) (ltb 16 n) refl refl (λ out. some (supplement-none t n writable out))
 
 -- each keeps to its limits
-bounded-by : (t : Tree) (n : ℕ) (found : Option SupplementNumbers) → IsWritable t → IsSound t → supplement_of t.lines n ≡ found
-    → (amount_in (option_map tables.supplement_in found) ≤ 1000000) × (most_in (option_map tables.supplement_in found) ≤ 99)
+bounded-by : (t : Tree) (n : ℕ) (found : Option SupplementNumbers) → IsWritable t → IsSound t
+    → supplement_of t.lines n ≡ found
+    → (amount_in (option_map tables.supplement_in found) ≤ 1000000)
+    × (most_in (option_map tables.supplement_in found) ≤ 99)
 bounded-by t n None writable sound e = (omega arith, omega arith)
 bounded-by t n (Some x) writable sound e =
     let limits = (sound_tariffs_have_sound_parts-parts t writable sound).supplements n x e in
@@ -80,11 +90,13 @@ zeros zero = []
 zeros (suc count) = 0 ∷ zeros count
 
 -- a trip in its ranges has each supplement at most 99 times
-pub counts-few : (p : TableParts) (most : ℕ) (trip : CoreTrip) → IsLawfulTrip p most trip → All (λ count. count ≤ 99) trip.extras
+pub counts-few : (p : TableParts) (most : ℕ) (trip : CoreTrip) → IsLawfulTrip p most trip
+    → All (λ count. count ≤ 99) trip.extras
 counts-few p most trip range = allowed-few (supplement_in p) 1 trip.extras (bounded p range.compiled) range.counts
 
 -- and they come to at most 1,584,000,000
-pub extras-few : (p : TableParts) (most : ℕ) (trip : CoreTrip) → IsLawfulTrip p most trip → trip.extras_sum ≤ largest_supplements
+pub extras-few : (p : TableParts) (most : ℕ) (trip : CoreTrip) → IsLawfulTrip p most trip
+    → trip.extras_sum ≤ largest_supplements
 extras-few p most trip range =
     let sum = amounts-most (supplement_in p) 1 trip.extras (bounded p range.compiled) range.counts in
     omega (arith, sum, range.extras, range.extras_sum)

@@ -6,7 +6,7 @@ use Rattle.totals_record.specs.Entries.{closes}
 use Rattle.totals_record.specs.Ranges.{IsDurable, IsEntry, IsTripInItsRanges}
 use Rattle.totals_record.specs.States.{after}
 use Rattle.totals_record.specs.declared.change.Change.TheVariants as changes
-use Rattle.totals_record.specs.declared.durable.Durable.{Durable}
+use Rattle.totals_record.specs.declared.durable_state.Durable.{Durable}
 use Rattle.totals_record.specs.declared.entry.Entry as store
 use Rattle.totals_record.specs.declared.trip.Trip.{Trip}
 use Rattle.meter_states.specs.Fits.{Fits}

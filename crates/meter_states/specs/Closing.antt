@@ -11,11 +11,11 @@ use Rattle.meter_states.specs.Meter.{Meter, Outcome, ◌>>=◌, quiet, entered, 
 use Rattle.tariff_check.specs.DisplayStep.{display_step}
 use Rattle.meter_states.specs.Setting.{Setting, stamp_at}
 use Rattle.meter_states.specs.Supplements.{amounts_of}
-use Rattle.meter_states.specs.Trip.{Trip, fare_of, pulses_of, steps_shown}
+use Rattle.meter_states.specs.Trip.{MeterTrip, fare_of, pulses_of, steps_shown}
 use Rattle.taxi_units.specs.Limits.{roaming_most}
 
 -- the entry of a trip that is closed at a tariff position has its kind, its distances, its fare and its supplements
-abbrev pub entry_of : Setting → Kind → (position : ℕ) → Trip → Entry
+abbrev pub entry_of : Setting → Kind → (position : ℕ) → MeterTrip → Entry
 entry_of s kind position t = record {
   kind = kind;
   roam_mm = millimetres_of s.constant t.roam;
@@ -27,7 +27,7 @@ entry_of s kind position t = record {
 
 -- the receipt of a trip that is closed has the store's number after its entry, its kind, its start and its finish in
 -- local time, its position, its distance, how its fare is made, its supplements, and the decimals of the tariff
-abbrev pub receipt_of : Setting → Kind → (finish position : ℕ) → Trip → (number : ℕ) → Receipt
+abbrev pub receipt_of : Setting → Kind → (finish position : ℕ) → MeterTrip → (number : ℕ) → Receipt
 receipt_of s kind finish position t number = record {
   number = number;
   kind = kind;
@@ -45,7 +45,7 @@ receipt_of s kind finish position t number = record {
 }
 
 -- a trip that is closed, if there is one, is entered, and directly behind it its receipt is printed
-abbrev pub trip_closed : Setting → Kind → (finish : ℕ) → Option Trip → Meter → Outcome
+abbrev pub trip_closed : Setting → Kind → (finish : ℕ) → Option MeterTrip → Meter → Outcome
 trip_closed s kind finish None m = quiet m
 trip_closed s kind finish (Some t) m = do
   m ← entered (entry_of s kind m.position t) m

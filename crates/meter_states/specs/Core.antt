@@ -4,10 +4,10 @@ use Rattle.taxi_units.specs.declared.event.Key.{Key}
 use Rattle.taxi_units.specs.declared.event.Operating.{Operating}
 use Rattle.taxi_units.specs.declared.event.Operating.TheVariants.{Off}
 use Rattle.taxi_units.specs.declared.receipt.Display.{Display}
-use Rattle.totals_record.specs.declared.trip.Trip as store
+use Rattle.totals_record.specs.declared.trip.Trip.{Trip}
 use Rattle.meter_states.specs.Meter.{Meter, Outcome}
 use Rattle.meter_states.specs.Setting.{Setting}
-use Rattle.meter_states.specs.Trip.{Trip, core_trip_in, core_trip_of}
+use Rattle.meter_states.specs.Trip.{MeterTrip, core_trip_in, core_trip_of}
 use Rattle.meter_states.specs.declared.act.Act.{Act}
 use Rattle.meter_states.specs.declared.trip.CoreTrip.{CoreTrip}
 
@@ -59,5 +59,5 @@ pub record Meets (s : Setting) (core : CoreData) (acts : List Act) (o : Outcome)
   pub done : acts ≡ o.acts
 
 -- a held trip is the saved form of a trip where both are none, or where a core keeps the same of both
-abbrev pub IsSavedIn : Setting → (hold : Option store.Trip) → Option Trip → Type 0
+abbrev pub IsSavedIn : Setting → (hold : Option Trip) → Option MeterTrip → Type 0
 IsSavedIn s hold trip = option_map core_trip_in hold ≡ option_map (core_trip_of s) trip

@@ -6,16 +6,16 @@ use Rattle.taxi_units.specs.declared.receipt.Display.{Display}
 use Rattle.meter_states.specs.Meter.{Meter, Outcome}
 use Rattle.meter_states.specs.Setting.{Setting}
 use Rattle.meter_states.specs.Supplements.{amounts_of}
-use Rattle.meter_states.specs.Trip.{Trip, fare_of}
+use Rattle.meter_states.specs.Trip.{MeterTrip, fare_of}
 use Rattle.meter_states.specs.declared.act.Act.TheVariants.{Show}
 
 -- the fare that the display shows is that of the trip, and 0 without one
-abbrev pub fare_shown : Setting → Option Trip → ℕ
+abbrev pub fare_shown : Setting → Option MeterTrip → ℕ
 fare_shown s None = 0
 fare_shown s (Some t) = fare_of s t
 
 -- the amount of supplements that the display shows is that of the trip's, and 0 without a trip
-abbrev pub extras_shown : Setting → Option Trip → ℕ
+abbrev pub extras_shown : Setting → Option MeterTrip → ℕ
 extras_shown s None = 0
 extras_shown s (Some t) = amounts_of s.tariff t.extras
 

@@ -10,7 +10,7 @@ use Rattle.meter_states.specs.Equals.{intervals_of}
 use Rattle.meter_states.specs.Lawful.{IsBetweenEvents}
 use Rattle.meter_states.specs.Run.{run}
 use Rattle.meter_states.specs.Stages.{FollowsStage}
-use Rattle.meter_states.specs.declared.facts.CachedRate.{CachedRate}
+use Rattle.meter_states.specs.declared.cache.CachedRate.{CachedRate}
 use Rattle.meter_states.specs.declared.trip.CoreTrip.{CoreTrip}
 
 -- a core has taken `taken` of `count` equal intervals where these are at most as many, it is between two events then,

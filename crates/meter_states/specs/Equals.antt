@@ -16,9 +16,9 @@ use Rattle.taxi_units.specs.declared.event.Operating.{Operating}
 use Rattle.taxi_units.specs.declared.event.Operating.TheVariants.{Off, ForHire, Hired, Stopped}
 use Rattle.taxi_units.specs.declared.receipt.Display.{Display}
 use Rattle.meter_states.specs.Core.{CoreData}
-use Rattle.meter_states.specs.declared.facts.Facts.{Facts}
-use Rattle.meter_states.specs.declared.facts.CachedTime.{CachedTime}
-use Rattle.meter_states.specs.declared.facts.CachedRate.{CachedRate}
+use Rattle.meter_states.specs.declared.cache.Cache.{Cache}
+use Rattle.meter_states.specs.declared.cache.CachedTime.{CachedTime}
+use Rattle.meter_states.specs.declared.cache.CachedRate.{CachedRate}
 use Rattle.meter_states.specs.declared.trip.CoreTrip.{CoreTrip}
 use Rattle.taxi_units.specs.Limits.{hirings_end, roaming_most}
 
@@ -71,8 +71,8 @@ abbrev pub spare_of : Rounding → (modulus : ℕ) → Meterage → ℕ
 spare_of Behind modulus m = m.cover_left + (modulus - 1 - m.rest)
 spare_of Ahead modulus m = if m.rest == 0 then m.cover_left else m.cover_left + (modulus - 1 - m.rest)
 
--- the context that a core and kept local facts give, with a trip, has the core's position and zone, the local facts,
--- and the pulses and ticks of the trip
+-- the context that a core and a cached time give, with a trip, has the core's position and zone, what the time has, and
+-- the pulses and ticks of the trip
 abbrev pub context_by : TableParts → CachedTime → CoreData → CoreTrip → Context
 context_by tables local c t = record {
   constant = tables.constant;
@@ -86,13 +86,13 @@ context_by tables local c t = record {
   ticks = t.ticks;
 }
 
--- kept facts serve for the running interval of a core with a trip where a local time and a rate are kept, the local
--- time is that of the second at which the interval began, and the interval's context is near the rate's own
-pub record Serve (tables : TableParts) (facts : Facts) (c : CoreData) (t : CoreTrip) : Type 0 where
+-- a cache serves for the running interval of a core with a trip where it has a local time and a rate, the local time is
+-- that of the second at which the interval began, and the interval's context is near the rate's own
+pub record Serves (tables : TableParts) (cache : Cache) (c : CoreData) (t : CoreTrip) : Type 0 where
   pub local : CachedTime
   pub rate : CachedRate
-  pub keeps_local : facts.local ≡ Some local
-  pub keeps_rate : facts.rate ≡ Some rate
+  pub keeps_local : cache.local ≡ Some local
+  pub keeps_rate : cache.rate ≡ Some rate
   pub second : local.second ≡ c.began
   pub near : IsNear rate.lasting.further rate.lasting.longer rate.first (context_by tables local c t)
 
@@ -102,11 +102,11 @@ pub record Outlasts (c : CoreData) : Type 0 where
   pub has : c.trip ≡ Some trip
   pub short : trip.ticks + 1 < longest_trip
 
--- an interval of p pulses may be charged at once where the trip outlasts it, kept facts serve for it and, by their
--- pulses and ticks, for the one behind it, and its charge fills no display step
-pub record MayBeCharged (tables : TableParts) (seal : Seal) (facts : Facts) (p : ℕ) (c : CoreData) : Type 0 where
+-- an interval of p pulses may be charged at once where the trip outlasts it, the cache serves for it and, by the pulses
+-- and ticks of its rate, for the one behind it, and its charge fills no display step
+pub record MayBeCharged (tables : TableParts) (seal : Seal) (cache : Cache) (p : ℕ) (c : CoreData) : Type 0 where
   pub outlasts : Outlasts c
-  pub serve : Serve tables facts c outlasts.trip
+  pub serve : Serves tables cache c outlasts.trip
   pub further : outlasts.trip.pulses + p ≤ serve.rate.first.pulses + serve.rate.lasting.further
   pub longer : outlasts.trip.ticks + 1 ≤ serve.rate.first.ticks + serve.rate.lasting.longer
   pub spare : charge_of seal.params.mode serve.rate.lasting.weights p
@@ -114,15 +114,15 @@ pub record MayBeCharged (tables : TableParts) (seal : Seal) (facts : Facts) (p :
 
 -- an interval of p pulses may go at once in an operating position: in For Hire where no roaming is entered behind it,
 -- in Hired where it may be charged at once, and in Stopped where the trip outlasts it
-abbrev pub MayGoIn : TableParts → Seal → Facts → (p : ℕ) → CoreData → Operating → Type 0
-MayGoIn tables seal facts p c Off = ⊥
-MayGoIn tables seal facts p c ForHire = c.roam + roams c.number p < roaming_most
-MayGoIn tables seal facts p c Hired = MayBeCharged tables seal facts p c
-MayGoIn tables seal facts p c Stopped = Outlasts c
+abbrev pub MayGoIn : TableParts → Seal → Cache → (p : ℕ) → CoreData → Operating → Type 0
+MayGoIn tables seal cache p c Off = ⊥
+MayGoIn tables seal cache p c ForHire = c.roam + roams c.number p < roaming_most
+MayGoIn tables seal cache p c Hired = MayBeCharged tables seal cache p c
+MayGoIn tables seal cache p c Stopped = Outlasts c
 
 -- an interval of p pulses may go at once at a core that is still, where it has at most 2,000 pulses and may go at once
 -- in the core's operating position
-pub record MayGo (tables : TableParts) (seal : Seal) (facts : Facts) (p : ℕ) (c : CoreData) : Type 0 where
+pub record MayGo (tables : TableParts) (seal : Seal) (cache : Cache) (p : ℕ) (c : CoreData) : Type 0 where
   pub pulses : p ≤ 2000
   pub still : IsStill tables c
-  pub goes : MayGoIn tables seal facts p c c.operating
+  pub goes : MayGoIn tables seal cache p c c.operating

@@ -8,7 +8,7 @@ use Rattle.taxi_units.specs.declared.event.Operating.TheVariants.{Off, ForHire, 
 use Rattle.taxi_units.specs.declared.event.Why.TheVariants.{TooFast}
 use Rattle.meter_states.specs.Meter.{Meter, Outcome, quiet}
 use Rattle.meter_states.specs.Setting.{Setting, local_at}
-use Rattle.meter_states.specs.Trip.{Trip, Part, InHired, InStopped, Rest, with_part, pulses_of, ticks_of}
+use Rattle.meter_states.specs.Trip.{MeterTrip, Part, InHired, InStopped, Rest, with_part, pulses_of, ticks_of}
 use Rattle.meter_states.specs.declared.act.Act.TheVariants.{Refuse}
 use Rattle.taxi_units.specs.Limits.{hirings_end}
 
@@ -24,12 +24,12 @@ pulses_taken n m = record {
 }
 
 -- the pulses of a trip so far are those of its opening and its parts, and 0 without a trip
-abbrev pub pulses_so_far : Option Trip → ℕ
+abbrev pub pulses_so_far : Option MeterTrip → ℕ
 pulses_so_far None = 0
 pulses_so_far (Some t) = pulses_of t
 
 -- the ticks of a trip so far are those of its opening and its parts, and 0 without a trip
-abbrev pub ticks_so_far : Option Trip → ℕ
+abbrev pub ticks_so_far : Option MeterTrip → ℕ
 ticks_so_far None = 0
 ticks_so_far (Some t) = ticks_of t
 

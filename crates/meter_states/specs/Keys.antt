@@ -14,7 +14,7 @@ use Rattle.meter_states.specs.Interval.{context_now}
 use Rattle.meter_states.specs.Meter.{Meter, Outcome, quiet, refused}
 use Rattle.meter_states.specs.Setting.{Setting}
 use Rattle.meter_states.specs.Supplements.{times}
-use Rattle.meter_states.specs.Trip.{Trip, begun, with_extra}
+use Rattle.meter_states.specs.Trip.{MeterTrip, begun, with_extra}
 use Rattle.taxi_units.specs.Limits.{hirings_end}
 
 -- a key that is pressed waits for the end of the interval, and is refused where another one waits
@@ -49,7 +49,7 @@ abbrev pub zone_set : Setting → (n : ℕ) → Meter → Outcome
 zone_set s n m = if is_among (zones_of s.tariff.lines) n then quiet (record m { zone = n }) else refused NoSuch m
 
 -- a supplement that the tariff has is added to the trip, and is refused where it was added as often as it may be
-abbrev pub extra_added_to : (n : ℕ) → Supplement → Option Trip → Meter → Outcome
+abbrev pub extra_added_to : (n : ℕ) → Supplement → Option MeterTrip → Meter → Outcome
 extra_added_to n supplement None m = quiet m
 extra_added_to n supplement (Some t) m =
     if nat_le supplement.max (times n t.extras)

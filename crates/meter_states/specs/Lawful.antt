@@ -9,7 +9,7 @@ use Rattle.taxi_units.specs.declared.event.Operating.{Operating}
 use Rattle.taxi_units.specs.declared.event.Operating.TheVariants.{Off, ForHire, Hired, Stopped}
 use Rattle.seal_record.specs.declared.seal.Seal.{Seal}
 use Rattle.meter_states.specs.Core.{CoreData}
-use Rattle.meter_states.specs.Facts.{AreTrue, CachedCore}
+use Rattle.meter_states.specs.Cache.{IsCacheOf, CachedCore}
 use Rattle.meter_states.specs.Supplements.{AreAllowed, amounts_from, supplement_in}
 use Rattle.meter_states.specs.declared.trip.CoreTrip.{CoreTrip}
 use Rattle.taxi_units.specs.Limits.{hirings_end, last_number, number_most, roaming_amid, roaming_between}
@@ -88,12 +88,12 @@ IsBetweenEvents tables core = IsPowered tables last_tick roaming_between 0 core
 abbrev pub IsAmidEvent : TableParts → CoreData → Type 0
 IsAmidEvent tables core = IsPowered tables last_tick roaming_amid 0 core
 
--- a core is lawful between two events where it is off, or powered and in its ranges, and the facts that it keeps are
--- true: the facts are what was looked up in the tables and only save look-ups, so that they take no part in which state
--- of the meter the core stands for, as the clause `meets` of `Core::step` says
+-- a core is lawful between two events where it is off, or powered and in its ranges, and its cache is one of the tables
+-- and the seal: the cache has what was looked up in them and only saves look-ups, so that it takes no part in which
+-- state of the meter the core stands for, as the clause `meets` of `Core::step` says
 pub record IsLawful (tables : TableParts) (seal : Seal) (core : CachedCore) : Type 0 where
   pub powered : (core.plain.operating ≡ Off) ⊎ IsBetweenEvents tables core.plain
-  pub facts : AreTrue tables seal core.facts
+  pub cache : IsCacheOf tables seal core.cache
 
 -- the test `is_busy` is true where a trip runs in an operating position
 abbrev pub is_busy : Operating → Bool

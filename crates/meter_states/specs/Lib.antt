@@ -1,14 +1,14 @@
 pub mod Acts
+pub mod Cache
 pub mod Charge
 pub mod Closing
 pub mod Core
 pub mod Display
 pub mod EqualStages
 pub mod Equals
-pub mod Facts
 pub mod Fits
 pub mod Interval
-pub mod Kept
+pub mod KeptTrip
 pub mod Keys
 pub mod Lawful
 pub mod Meter

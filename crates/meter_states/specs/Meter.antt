@@ -8,10 +8,10 @@ use Rattle.taxi_units.specs.declared.receipt.Display.{Display}
 use Rattle.taxi_units.specs.declared.receipt.Receipt as receipts
 use Rattle.totals_record.specs.States.{after}
 use Rattle.totals_record.specs.declared.change.Change.TheVariants as changes
-use Rattle.totals_record.specs.declared.durable.Durable.{Durable}
+use Rattle.totals_record.specs.declared.durable_state.Durable.{Durable}
 use Rattle.totals_record.specs.declared.entry.Entry.{Entry}
-use Rattle.totals_record.specs.declared.trip.Trip as store
-use Rattle.meter_states.specs.Trip.{Trip}
+use Rattle.totals_record.specs.declared.trip.Trip.{Trip}
+use Rattle.meter_states.specs.Trip.{MeterTrip}
 use Rattle.meter_states.specs.declared.act.Act.{Act}
 use Rattle.meter_states.specs.declared.act.Act.TheVariants.{Refuse, Enter, Hold}
 use Rattle.meter_states.specs.declared.act.Act.TheVariants as acts
@@ -35,7 +35,7 @@ pub record Meter : Type 0 where
   -- what was shown last
   pub shown : Option Display
   -- the trip, which a supply drop doesn't end
-  pub trip : Option Trip
+  pub trip : Option MeterTrip
   -- what the store has after the commits so far
   pub durable : Durable
 
@@ -63,7 +63,7 @@ entered entry m =
     record { next = record m { durable = after m.durable (changes.Enter entry) }; acts = Enter entry ∷ [] }
 
 -- a meter commits the saved form of a trip, and its store has the state after it
-abbrev pub held : store.Trip → Meter → Outcome
+abbrev pub held : Trip → Meter → Outcome
 held trip m = record { next = record m { durable = after m.durable (changes.Hold trip) }; acts = Hold trip ∷ [] }
 
 -- a meter prints a receipt and stays as it is

@@ -4,13 +4,13 @@ use Rattle.taxi_units.specs.Time.{first_second}
 use Rattle.taxi_units.specs.declared.event.Event.{Event}
 use Rattle.taxi_units.specs.declared.event.Operating.{Operating}
 use Rattle.taxi_units.specs.declared.event.Operating.TheVariants.{Off}
-use Rattle.totals_record.specs.declared.durable.Durable.{Durable}
-use Rattle.totals_record.specs.declared.trip.Trip as store
+use Rattle.totals_record.specs.declared.durable_state.Durable.{Durable}
+use Rattle.totals_record.specs.declared.trip.Trip.{Trip}
 use Rattle.meter_states.specs.Meter.{Meter, Outcome, ◌>>=◌, quiet}
 use Rattle.meter_states.specs.Setting.{Setting, modulus_of}
 use Rattle.meter_states.specs.Step.{step}
 use Rattle.meter_states.specs.Supply.{supply_dropped}
-use Rattle.meter_states.specs.Trip.{Trip}
+use Rattle.meter_states.specs.Trip.{MeterTrip}
 use Rattle.meter_states.specs.declared.act.Act.{Act}
 
 -- a list of numbers is made of counts, the first of which is that of the number `first` and each further one that of
@@ -20,7 +20,7 @@ numbers_from first [] = []
 numbers_from first (count ∷ counts) = replicate count first ++ numbers_from (first + 1) counts
 
 -- a held trip goes on as a trip whose opening has what was charged before, and whose list of intervals is what follows
-abbrev pub trip_of : Setting → store.Trip → Trip
+abbrev pub trip_of : Setting → Trip → MeterTrip
 trip_of s trip = record {
   started = trip.started;
   initial = trip.initial;

@@ -19,7 +19,7 @@ pub record Setting : Type 0 where
   pub tariff : Tree
   pub constant : ℕ
   pub mode : Mode
-  pub hold : ℕ
+  pub hold_time : ℕ
   pub offsets : List (ℕ × ℤ)
 
 -- a meter goes by a tariff and by the constant, the mode, the hold and the offsets of parameters
@@ -28,14 +28,14 @@ setting_by t params = record {
   tariff = t;
   constant = params.constant;
   mode = params.mode;
-  hold = params.hold;
+  hold_time = params.hold_time;
   offsets = params.offsets;
 }
 
 -- a meter under one offset goes by a tariff and its own parameters, with that offset at all seconds
-abbrev pub under_offset : Tree → (k : ℕ) → Mode → (hold : ℕ) → (offset : ℤ) → Setting
+abbrev pub under_offset : Tree → (k : ℕ) → Mode → (hold_time : ℕ) → (offset : ℤ) → Setting
 under_offset t k mode hold offset =
-    record { tariff = t; constant = k; mode = mode; hold = hold; offsets = (first_second, offset) ∷ [] }
+    record { tariff = t; constant = k; mode = mode; hold_time = hold; offsets = (first_second, offset) ∷ [] }
 
 -- tables are those of a setting where they are compiled from the setting's tariff under its constant
 pub record IsTariffOf (s : Setting) (tables : TableParts) : Type 0 where
@@ -46,7 +46,7 @@ pub record IsTariffOf (s : Setting) (tables : TableParts) : Type 0 where
 pub record IsSealOf (s : Setting) (seal : Seal) : Type 0 where
   pub constant : seal.params.constant ≡ s.constant
   pub mode : seal.params.mode ≡ s.mode
-  pub hold : seal.params.hold ≡ s.hold
+  pub hold_time : seal.params.hold_time ≡ s.hold_time
   pub offsets : seal.params.offsets ≡ s.offsets
 
 -- tables and a seal are those of a setting where the tables are compiled from its tariff under its constant, and the

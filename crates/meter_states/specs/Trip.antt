@@ -4,7 +4,7 @@ use Rattle.drive_modes.specs.Fare as fares
 use Rattle.drive_modes.specs.Fare.{saved, shown_fare, steps_above}
 use Rattle.tariff_compile.specs.declared.parts.Initial.{Initial}
 use Rattle.tariff_syntax.specs.declared.context.Context.{Context}
-use Rattle.totals_record.specs.declared.trip.Trip as store
+use Rattle.totals_record.specs.declared.trip.Trip.{Trip}
 use Rattle.meter_states.specs.Charge.{charge_at}
 use Rattle.tariff_check.specs.DisplayStep.{display_step}
 use Rattle.meter_states.specs.Setting.{Setting, modulus_of, rounding_of, unit_of}
@@ -28,7 +28,7 @@ pub record Opening : Type 0 where
 
 -- a trip has its start second, its initial hire fee and its minimum fare, the pulses that were roamed before the
 -- hiring, its opening, its parts in order, and the numbers of its supplements in order
-pub record Trip : Type 0 where
+pub record MeterTrip : Type 0 where
   pub started : ℕ
   pub initial : ℕ
   pub minimum : ℕ
@@ -57,34 +57,34 @@ charge_in s (InStopped p) = 0
 charge_in s (Rest p) = 0
 
 -- the pulses of a trip are those of its opening and of its parts
-abbrev pub pulses_of : Trip → ℕ
+abbrev pub pulses_of : MeterTrip → ℕ
 pulses_of t = t.opening.pulses + sum (map pulses_in t.parts)
 
 -- the ticks of a trip are those of its opening and of its parts
-abbrev pub ticks_of : Trip → ℕ
+abbrev pub ticks_of : MeterTrip → ℕ
 ticks_of t = t.opening.ticks + sum (map ticks_in t.parts)
 
 -- the charges of a trip are the sum of the charges in its parts
-abbrev pub charges_of : Setting → Trip → ℕ
+abbrev pub charges_of : Setting → MeterTrip → ℕ
 charges_of s t = sum (map (charge_in s) t.parts)
 
 -- the charges of a trip begin with the cover and the charge of its opening, and a display step has the units of charge
 -- that the tariff gives it
-abbrev pub opening_of : Setting → Trip → fares.Opening
+abbrev pub opening_of : Setting → MeterTrip → fares.Opening
 opening_of s t = record { cover = t.opening.cover; above = t.opening.above; modulus = modulus_of s }
 
 -- the display steps of a trip are its charges above the cover, divided by a display step, and rounded as the tariff
 -- says
-abbrev pub steps_shown : Setting → Trip → ℕ
+abbrev pub steps_shown : Setting → MeterTrip → ℕ
 steps_shown s t = steps_above (rounding_of s) (opening_of s t) (charges_of s t)
 
 -- the fare of a trip is its initial hire fee and the display step for each step shown, or its minimum fare where that
 -- is more, and at most 99,999,999
-abbrev pub fare_of : Setting → Trip → ℕ
+abbrev pub fare_of : Setting → MeterTrip → ℕ
 fare_of s t = shown_fare t.initial t.minimum (display_step s.tariff).0 (steps_shown s t)
 
 -- a trip that is hired at a second, after some roaming pulses, begins with its fee and its cover, and has no parts yet
-abbrev pub begun : Setting → Initial → (second roam : ℕ) → Trip
+abbrev pub begun : Setting → Initial → (second roam : ℕ) → MeterTrip
 begun s fee second roam = record {
   started = second;
   initial = fee.amount;
@@ -96,15 +96,15 @@ begun s fee second roam = record {
 }
 
 -- a trip with a part more has that part behind its own
-abbrev pub with_part : Part → Trip → Trip
+abbrev pub with_part : Part → MeterTrip → MeterTrip
 with_part part t = record t { parts = t.parts ++ part ∷ [] }
 
 -- a trip with a supplement more has the number of that supplement behind its own
-abbrev pub with_extra : (number : ℕ) → Trip → Trip
+abbrev pub with_extra : (number : ℕ) → MeterTrip → MeterTrip
 with_extra number t = record t { extras = t.extras ++ number ∷ [] }
 
 -- what a core keeps of a trip are its numbers, the sums of its parts, and what its charges have come to
-abbrev pub core_trip_of : Setting → Trip → CoreTrip
+abbrev pub core_trip_of : Setting → MeterTrip → CoreTrip
 core_trip_of s t = record {
   started = t.started;
   roam = t.roam;
@@ -118,7 +118,7 @@ core_trip_of s t = record {
 }
 
 -- what a core keeps of a trip is saved with the second, whether the trip is stopped, the position and the zone
-abbrev pub saved_at : (second : ℕ) → (stopped : Bool) → (position zone : ℕ) → CoreTrip → store.Trip
+abbrev pub saved_at : (second : ℕ) → (stopped : Bool) → (position zone : ℕ) → CoreTrip → Trip
 saved_at second stopped position zone trip = record {
   started = trip.started;
   saved = second;
@@ -137,11 +137,11 @@ saved_at second stopped position zone trip = record {
 
 -- a held trip is a trip as it is saved at a supply drop, with the second, whether it is stopped, the position and the
 -- zone
-abbrev pub held_trip : Setting → (second : ℕ) → (stopped : Bool) → (position zone : ℕ) → Trip → store.Trip
+abbrev pub held_trip : Setting → (second : ℕ) → (stopped : Bool) → (position zone : ℕ) → MeterTrip → Trip
 held_trip s second stopped position zone t = saved_at second stopped position zone (core_trip_of s t)
 
 -- what a core keeps of a held trip is all that was not added as it was saved
-abbrev pub core_trip_in : store.Trip → CoreTrip
+abbrev pub core_trip_in : Trip → CoreTrip
 core_trip_in held = record {
   started = held.started;
   roam = held.roam;

@@ -1,6 +1,6 @@
 //! What the meter commits keeps the ranges of the store.
 ghost use Rattle.totals_record.specs.Ranges.{IsDurable};
-ghost use Rattle.totals_record.specs.declared.durable.Durable.{Durable};
+ghost use Rattle.totals_record.specs.declared.durable_state.Durable.{Durable};
 ghost use Rattle.tariff_compile.specs.Tables.{TableParts};
 ghost use Rattle.meter_states.specs.Acts.{IsLawfulAct, KeepsRanges};
 ghost use Rattle.meter_states.specs.declared.act.Act.{Act};

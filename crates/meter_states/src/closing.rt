@@ -67,7 +67,7 @@ impl State {
         ensures number { self.new ≡ record self.old { number = self.old.number + 1 } }
         ensures few { length acts.new.items ≤ length acts.old.items + 2 }
         ensures ranges { StayLawful tables.now self.old.number acts.old.items acts.new.items }
-        ensures follows { (s : Setting) (m : Meter) (t : model.Trip) → IsSettingOf s tables.now seal.now
+        ensures follows { (s : Setting) (m : Meter) (t : model.MeterTrip) → IsSettingOf s tables.now seal.now
             → trip.now ≡ model.core_trip_of s t → self.old ≡ core_of s m
             → ComesToOutcome s self.new acts.old.items acts.new.items
             (trip_closed s closing.kind closing.finish (Some t) m) }
@@ -85,7 +85,7 @@ impl State {
         ensures number { self.new ≡ record self.old { number = self.old.number + 1 } }
         ensures few { length acts.new.items ≤ length acts.old.items + 1 }
         ensures ranges { StayLawful tables.now self.old.number acts.old.items acts.new.items }
-        ensures follows { (s : Setting) (m : Meter) (t : model.Trip) → IsTariffOf s tables.now
+        ensures follows { (s : Setting) (m : Meter) (t : model.MeterTrip) → IsTariffOf s tables.now
             → trip.now ≡ model.core_trip_of s t → self.old ≡ core_of s m
             → ComesToOutcome s self.new acts.old.items acts.new.items (entered (entry_of s kind m.position t) m) }
     {
@@ -109,7 +109,7 @@ impl State {
         ensures few { length acts.new.items ≤ length acts.old.items + 1 }
         ensures ranges { (number : ℕ) → All (IsLawfulAct tables.now number) acts.old.items
             → All (IsLawfulAct tables.now number) acts.new.items }
-        ensures follows { (s : Setting) (m : Meter) (t : model.Trip) → IsSettingOf s tables.now seal.now
+        ensures follows { (s : Setting) (m : Meter) (t : model.MeterTrip) → IsSettingOf s tables.now seal.now
             → trip.now ≡ model.core_trip_of s t → self.now ≡ core_of s m
             → ComesToOutcome s self.now acts.old.items acts.new.items
             (printed (receipt_of s closing.kind closing.finish m.position t m.durable.number) m) }

@@ -5,7 +5,7 @@ ghost use Rattle.tariff_compile.specs.Tables.{AreFit, IsInRangeFor, rate_by};
 ghost use Rattle.taxi_units.specs.Time.{IsSecond, longest_trip};
 ghost use Rattle.meter_states.specs.Core.{core_of};
 ghost use Rattle.meter_states.specs.Equals.{context_by};
-ghost use Rattle.meter_states.specs.Facts.{AreLocal, AreTrue};
+ghost use Rattle.meter_states.specs.Cache.{IsCachedTimeOf, IsCacheOf};
 ghost use Rattle.meter_states.specs.Interval.{context_of, context_on};
 ghost use Rattle.meter_states.specs.Lawful.{IsPowered};
 ghost use Rattle.meter_states.specs.Meter.{Meter};
@@ -13,7 +13,7 @@ ghost use Rattle.meter_states.specs.Setting.{Setting, IsSettingOf, local_at};
 ghost use Rattle.meter_states.specs.declared.trip.CoreTrip.{CoreTrip};
 ghost use Rattle.taxi_units.specs.Limits.{roaming_amid};
 
-use crate::facts::{CachedTime, Facts, local_facts};
+use crate::cache::{Cache, CachedTime, cached_time};
 use crate::meter_state::State;
 use drive_modes::Weights;
 use seal_record::Seal;
@@ -23,25 +23,25 @@ use tariff_syntax::Context;
 use taxi_units::Steps;
 
 impl State {
-    /// What the running interval weighs, by the facts that are kept where they serve. At most 36 steps.
+    /// What the running interval weighs, by the cache where it serves. At most 36 steps.
     pub(crate) fn weights<L: Ledger>(
         &self,
-        facts: &mut Facts,
+        cache: &mut Cache,
         tables: &Tables,
         seal: &Seal,
         steps: &mut Steps<L>,
     ) -> Weights
         requires lawful { IsPowered tables.now longest_trip roaming_amid 1 self.now }
-        requires facts { AreTrue tables.now seal.now facts.old }
-        ensures facts { AreTrue tables.now seal.now facts.new }
+        requires cache { IsCacheOf tables.now seal.now cache.old }
+        ensures cache { IsCacheOf tables.now seal.now cache.new }
         ensures rate { (s : Setting) (m : Meter) → IsSettingOf s tables.now seal.now → self.now ≡ core_of s m
             → result ≡ rate_by s.tariff tables.now.constant (context_of s m) }
         ensures fit { AreFit tables.now.measure result }
         ensures steps { steps.new ≤ steps.old + 36 }
     {
-        let local = facts.local_at(self.began, tables, seal, steps);
+        let local = cache.local_at(self.began, tables, seal, steps);
         let x = self.context_on(&local, tables);
-        facts.rate_at(&x, tables, steps)
+        cache.rate_at(&x, tables, steps)
     }
 
     /// The context at a second. At most 14 steps.
@@ -59,19 +59,19 @@ impl State {
         ensures range { IsInRangeFor tables.now result }
         ensures steps { steps.new ≤ steps.old + 14 }
     {
-        let local = local_facts(second, tables, seal, steps);
+        let local = cached_time(second, tables, seal, steps);
         self.context_on(&local, tables)
     }
 
     /// The context at a local time.
     pub(crate) fn context_on(&self, local: &CachedTime, tables: &Tables) -> Context
         requires lawful { IsPowered tables.now longest_trip roaming_amid 1 self.now }
-        ensures value { (seal : Seal) (s : Setting) (m : Meter) → AreLocal tables.now seal local.now
+        ensures value { (seal : Seal) (s : Setting) (m : Meter) → IsCachedTimeOf tables.now seal local.now
             → IsSettingOf s tables.now seal → self.now ≡ core_of s m
             → result ≡ context_on s (local_at s local.now.second) m }
         ensures exact { (t : CoreTrip) → self.now.trip ≡ Some t
             → result ≡ context_by tables.now local.now self.now t }
-        ensures range { (seal : Seal) → AreLocal tables.now seal local.now → IsInRangeFor tables.now result }
+        ensures range { (seal : Seal) → IsCachedTimeOf tables.now seal local.now → IsInRangeFor tables.now result }
     {
         Context {
             constant: tables.constant(),

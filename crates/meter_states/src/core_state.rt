@@ -1,11 +1,11 @@
-//! The core: the state of the meter, and the facts that it keeps beside it.
+//! The core: the state of the meter, and the cache beside it.
 ghost use Rattle.std.specs.Prelude.{◌≡◌};
 ghost use Rattle.tariff_compile.specs.Tables.{TableParts};
 ghost use Rattle.seal_record.specs.declared.seal.Seal.{Seal};
 ghost use Rattle.taxi_units.specs.declared.event.Operating.TheVariants.{Off};
 ghost use Rattle.meter_states.specs.Lawful.{IsLawful};
 
-use crate::facts::Facts;
+use crate::cache::Cache;
 use crate::meter_state::State;
 use std::marker::Model;
 use taxi_units::Operating;
@@ -14,26 +14,26 @@ use taxi_units::Operating;
 #[derive(Drop)]
 pub struct Core {
     pub(crate) state: State,
-    pub(crate) facts: Facts,
+    pub(crate) cache: Cache,
 }
 
 impl Model for Core {
-    ghost use Rattle.meter_states.specs.Facts.{CachedCore};
+    ghost use Rattle.meter_states.specs.Cache.{CachedCore};
 
     ghost Value = { CachedCore };
 
-    ghost view = { λ c. record { plain = c.state; facts = c.facts } };
+    ghost view = { λ c. record { plain = c.state; cache = c.cache } };
 }
 
 impl Core {
-    /// A core that is off, as the meter begins, and keeps no facts.
+    /// A core that is off, as the meter begins, with an empty cache.
     pub fn off() -> Core
         ensures off { result.plain.operating ≡ Off }
         ensures lawful { (tables : TableParts) (seal : Seal) → IsLawful tables seal result }
     {
         Core {
             state: State::off(),
-            facts: Facts::none(),
+            cache: Cache::empty(),
         }
     }
 

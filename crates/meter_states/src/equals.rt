@@ -8,20 +8,20 @@ ghost use Rattle.tariff_syntax.specs.declared.context.Context.{Context};
 ghost use Rattle.taxi_units.specs.declared.event.Operating.TheVariants.{ForHire, Hired, Stopped};
 ghost use Rattle.meter_states.specs.Core.{Meets, Stands, core_of};
 ghost use Rattle.meter_states.specs.EqualStages.{FollowsIntervals, HasTaken, LastsFrom};
-ghost use Rattle.meter_states.specs.Equals.{IsStill, MayBeCharged, MayGo, Outlasts, Serve, intervals_of, roams};
-ghost use Rattle.meter_states.specs.Facts.{AreLasting, AreTrue};
+ghost use Rattle.meter_states.specs.Equals.{IsStill, MayBeCharged, MayGo, Outlasts, Serves, intervals_of, roams};
+ghost use Rattle.meter_states.specs.Cache.{IsCachedRateOf, IsCacheOf};
 ghost use Rattle.meter_states.specs.Interval.{context_of};
 ghost use Rattle.meter_states.specs.Lawful.{IsBetweenEvents, IsLawful};
 ghost use Rattle.meter_states.specs.Meter.{Meter};
 ghost use Rattle.meter_states.specs.Run.{run};
 ghost use Rattle.meter_states.specs.Setting.{Setting, IsSettingOf};
-ghost use Rattle.meter_states.specs.declared.facts.CachedRate.{CachedRate};
+ghost use Rattle.meter_states.specs.declared.cache.CachedRate.{CachedRate};
 ghost use Rattle.meter_states.specs.declared.trip.CoreTrip.{CoreTrip};
 ghost use Rattle.taxi_units.specs.Limits.{roaming_between, roaming_most};
 
+use crate::cache::Cache;
 use crate::core_state::Core;
 use crate::equal_trip::{add_charged, add_passed, most_times, roams, spare};
-use crate::facts::Facts;
 use crate::meter_state::State;
 use crate::shown::is_shown;
 use drive_modes::charge;
@@ -33,7 +33,7 @@ impl Core {
     /// Carries out equal intervals of `pulses` pulses at once, and answers how many: all `count`, or so many
     /// that one more may not go at once. They show, refuse and enter nothing. An interval may not go where
     /// roaming is entered behind it, it is the trip's last, its charge fills a display step, or what the
-    /// interval behind it weighs isn't known from the facts that are kept; and none may where the meter is off,
+    /// interval behind it weighs isn't known from the cache; and none may where the meter is off,
     /// the clock was read or pulses came since the last tick, a key waits, another display was shown last, or
     /// an interval has more than 2,000 pulses. The tables' constant is the seal's. No steps. That rows of
     /// intervals are carried out at once is this project's own.
@@ -43,18 +43,18 @@ impl Core {
         requires constant { tables.now.constant ≡ seal.now.params.constant }
         ensures lawful { IsLawful tables.now seal.now self.new }
         ensures most { result ≤ count }
-        ensures full { (result ≡ count) ⊎ ¬ MayGo tables.now seal.now self.old.facts pulses self.new.plain }
+        ensures full { (result ≡ count) ⊎ ¬ MayGo tables.now seal.now self.old.cache pulses self.new.plain }
         ensures same { (self.new.plain.operating ≡ self.old.plain.operating)
             × (self.new.plain.number ≡ self.old.plain.number) }
-        ensures facts { self.new.facts ≡ self.old.facts }
+        ensures cache { self.new.cache ≡ self.old.cache }
         ensures meets { (s : Setting) (m : Meter) → IsSettingOf s tables.now seal.now → Stands s self.old.plain m
             → Meets s self.new.plain [] (run s (intervals_of pulses result) m) }
     {
         if count == 0 || self.state.is_off() {
             return 0;
         }
-        let facts = &self.facts;
-        self.state.take_equal(facts, tables, seal, pulses, count)
+        let cache = &self.cache;
+        self.state.take_equal(cache, tables, seal, pulses, count)
     }
 }
 
@@ -63,16 +63,16 @@ impl State {
     #[inline(never)]
     fn take_equal(
         &mut self,
-        facts: &Facts,
+        cache: &Cache,
         tables: &Tables,
         seal: &Seal,
         pulses: u32,
         count: u32,
     ) -> u32
         requires lawful { IsBetweenEvents tables.now self.old }
-        requires facts { AreTrue tables.now seal.now facts.now }
+        requires cache { IsCacheOf tables.now seal.now cache.now }
         ensures taken { HasTaken tables.now count self.old self.new result }
-        ensures full { (result ≡ count) ⊎ ¬ MayGo tables.now seal.now facts.now pulses self.new }
+        ensures full { (result ≡ count) ⊎ ¬ MayGo tables.now seal.now cache.now pulses self.new }
         ensures follows { FollowsIntervals tables.now seal.now self.old self.new pulses result }
     {
         if pulses > 2000 {
@@ -84,7 +84,7 @@ impl State {
         match self.operating {
             Operating::Off => 0,
             Operating::ForHire => self.roam_equal(pulses, count),
-            Operating::Hired => self.charge_equal(facts, tables, seal, pulses, count),
+            Operating::Hired => self.charge_equal(cache, tables, seal, pulses, count),
             Operating::Stopped => self.pass_equal(pulses, count),
         }
     }
@@ -142,22 +142,22 @@ impl State {
     /// As many of `count` equal intervals in Hired as may be charged at once.
     fn charge_equal(
         &mut self,
-        facts: &Facts,
+        cache: &Cache,
         tables: &Tables,
         seal: &Seal,
         pulses: u32,
         count: u32,
     ) -> u32
         requires lawful { IsBetweenEvents tables.now self.old }
-        requires facts { AreTrue tables.now seal.now facts.now }
+        requires cache { IsCacheOf tables.now seal.now cache.now }
         requires hired { self.old.operating ≡ Hired }
         requires still { IsStill tables.now self.old }
         requires pulses { pulses ≤ 2000 }
         ensures taken { HasTaken tables.now count self.old self.new result }
-        ensures full { (result ≡ count) ⊎ ¬ MayBeCharged tables.now seal.now facts.now pulses self.new }
+        ensures full { (result ≡ count) ⊎ ¬ MayBeCharged tables.now seal.now cache.now pulses self.new }
         ensures follows { FollowsIntervals tables.now seal.now self.old self.new pulses result }
     {
-        let Some(lasting) = self.kept_rate(facts, tables) else {
+        let Some(lasting) = self.cached_rate(cache, tables) else {
             return 0;
         };
         let Some(trip) = &mut self.trip else {
@@ -173,25 +173,25 @@ impl State {
     }
 
     /// What the running interval weighs, and for how many further pulses and ticks, where that is kept.
-    fn kept_rate(&self, facts: &Facts, tables: &Tables) -> Option<Lasting>
+    fn cached_rate(&self, cache: &Cache, tables: &Tables) -> Option<Lasting>
         requires lawful { IsBetweenEvents tables.now self.now }
-        requires lasting { ForSome facts.now.rate (AreLasting tables.now) }
+        requires lasting { ForSome cache.now.rate (IsCachedRateOf tables.now) }
         ensures fit { IfSome result (λ lasting. AreFit tables.now.measure lasting.weights) }
         ensures range { IfSome result (λ lasting. (seal : Seal) (s : Setting) (m : Meter)
-            → AreTrue tables.now seal facts.now → IsSettingOf s tables.now seal → self.now ≡ core_of s m
+            → IsCacheOf tables.now seal cache.now → IsSettingOf s tables.now seal → self.now ≡ core_of s m
             → IsInRangeFor tables.now (context_of s m)) }
         ensures near { IfSome result (λ lasting. (seal : Seal) (s : Setting) (m : Meter) (y : Context)
-            → AreTrue tables.now seal facts.now → IsSettingOf s tables.now seal → self.now ≡ core_of s m
+            → IsCacheOf tables.now seal cache.now → IsSettingOf s tables.now seal → self.now ≡ core_of s m
             → IsInRangeFor tables.now y
             → IsNear lasting.further lasting.longer (context_of s m) y
             → lasting.weights ≡ rate_by s.tariff tables.now.constant y) }
         ensures lasts { IfSome result (λ lasting. (t : CoreTrip) (rate : CachedRate) → self.now.trip ≡ Some t
-            → facts.now.rate ≡ Some rate → LastsFrom rate t.pulses t.ticks lasting) }
+            → cache.now.rate ≡ Some rate → LastsFrom rate t.pulses t.ticks lasting) }
         ensures none { IsNone result → (t : CoreTrip) → self.now.trip ≡ Some t
-            → ¬ Serve tables.now facts.now self.now t }
+            → ¬ Serves tables.now cache.now self.now t }
     {
-        let local = facts.kept_local(self.began)?;
+        let local = cache.cached_local(self.began)?;
         let x = self.context_on(&local, tables);
-        facts.kept_rate(&x)
+        cache.cached_rate(&x)
     }
 }

@@ -25,5 +25,5 @@ pub(crate) fn is_within_hold(held: &Trip, second: u64, seal: &Seal) -> bool
     ensures value { (s : Setting) → IsSealOf s seal.now → result ≡ model.is_within_hold s second held.now }
     ensures later { result ≡ true → held.now.saved ≤ second }
 {
-    held.saved <= second && second <= held.saved + seal.params.hold as u64
+    held.saved <= second && second <= held.saved + seal.params.hold_time as u64
 }

@@ -5,7 +5,7 @@ ghost use Rattle.taxi_units.specs.Time.{last_tick, longest_trip};
 ghost use Rattle.taxi_units.specs.declared.event.Operating.TheVariants.{ForHire, Hired, Stopped};
 ghost use Rattle.meter_states.specs.Acts.{StayLawful};
 ghost use Rattle.meter_states.specs.Core.{ComesToOutcome, core_of};
-ghost use Rattle.meter_states.specs.Facts.{AreTrue};
+ghost use Rattle.meter_states.specs.Cache.{IsCacheOf};
 ghost use Rattle.meter_states.specs.Interval.{counted_in, interval_counted, interval_left, left_in, pulses_taken};
 ghost use Rattle.meter_states.specs.Lawful.{IsAmidEvent, IsBetweenEvents, IsPowered, counting_steps};
 ghost use Rattle.meter_states.specs.Meter.{Meter};
@@ -13,7 +13,7 @@ ghost use Rattle.meter_states.specs.Setting.{Setting, IsSettingOf};
 ghost use Rattle.taxi_units.specs.Limits.{roaming_amid, roaming_between};
 
 use crate::act::{Acts, refuse};
-use crate::facts::Facts;
+use crate::cache::Cache;
 use crate::meter_state::State;
 use crate::trip::{add_hired, add_rest, add_stopped};
 use seal_record::Seal;
@@ -41,15 +41,15 @@ impl State {
     /// The interval becomes a part of what runs. At most 36 steps in Hired, and none otherwise.
     pub(crate) fn count_interval<L: Ledger>(
         &mut self,
-        facts: &mut Facts,
+        cache: &mut Cache,
         tables: &Tables,
         seal: &Seal,
         steps: &mut Steps<L>,
     )
         requires lawful { IsBetweenEvents tables.now self.old }
-        requires facts { AreTrue tables.now seal.now facts.old }
+        requires cache { IsCacheOf tables.now seal.now cache.old }
         ensures lawful { IsPowered tables.now longest_trip roaming_amid 0 self.new }
-        ensures facts { AreTrue tables.now seal.now facts.new }
+        ensures cache { IsCacheOf tables.now seal.now cache.new }
         ensures same { (self.new.operating ≡ self.old.operating) × (self.new.number ≡ self.old.number) }
         ensures state { (s : Setting) (m : Meter) → IsSettingOf s tables.now seal.now → self.old ≡ core_of s m
             → self.new ≡ core_of s (interval_counted s m).next }
@@ -58,7 +58,7 @@ impl State {
         match self.operating {
             Operating::Off => {}
             Operating::ForHire => self.roam_interval(),
-            Operating::Hired => self.charge_interval(facts, tables, seal, steps),
+            Operating::Hired => self.charge_interval(cache, tables, seal, steps),
             Operating::Stopped => self.pass_interval(),
         }
     }
@@ -81,22 +81,22 @@ impl State {
     /// The interval is charged, by the rate of its beginning. At most 36 steps.
     fn charge_interval<L: Ledger>(
         &mut self,
-        facts: &mut Facts,
+        cache: &mut Cache,
         tables: &Tables,
         seal: &Seal,
         steps: &mut Steps<L>,
     )
         requires lawful { IsBetweenEvents tables.now self.old }
-        requires facts { AreTrue tables.now seal.now facts.old }
+        requires cache { IsCacheOf tables.now seal.now cache.old }
         requires on { self.old.operating ≡ Hired }
         ensures lawful { IsPowered tables.now longest_trip roaming_between 0 self.new }
-        ensures facts { AreTrue tables.now seal.now facts.new }
+        ensures cache { IsCacheOf tables.now seal.now cache.new }
         ensures same { (self.new.operating ≡ self.old.operating) × (self.new.number ≡ self.old.number) }
         ensures state { (s : Setting) (m : Meter) → IsSettingOf s tables.now seal.now → self.old ≡ core_of s m
             → self.new ≡ core_of s (counted_in s Hired (sum m.taken) m) }
         ensures steps { steps.new ≤ steps.old + 36 }
     {
-        let weights = self.weights(facts, tables, seal, steps);
+        let weights = self.weights(cache, tables, seal, steps);
         let pulses = self.gate.take();
         if let Some(trip) = &mut self.trip {
             add_hired(trip, tables, seal, weights, pulses);

@@ -5,13 +5,13 @@
 
 mod act;
 mod act_ranges;
+mod cache;
 mod closing;
 mod contexts;
 mod core_state;
 mod display;
 mod equal_trip;
 mod equals;
-mod facts;
 mod fitting;
 mod held;
 mod interval;

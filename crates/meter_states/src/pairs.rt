@@ -2,7 +2,7 @@
 ghost use Rattle.std.specs.Prelude.{◌≡◌, ◌++◌, List, None};
 ghost use Rattle.taxi_units.specs.declared.event.Event.{Event};
 ghost use Rattle.totals_record.specs.States.{after_all};
-ghost use Rattle.totals_record.specs.declared.durable.Durable.{Durable};
+ghost use Rattle.totals_record.specs.declared.durable_state.Durable.{Durable};
 ghost use Rattle.meter_states.specs.Meter.{Meter};
 ghost use Rattle.meter_states.specs.Pairs.{ArePaired, commits_of};
 ghost use Rattle.meter_states.specs.Run.{actions_of, run, run_both, whole_run};

@@ -16,8 +16,8 @@ ghost use Rattle.meter_states.specs.Supply as model;
 ghost use Rattle.meter_states.specs.Trip as trips;
 
 use crate::act::Acts;
+use crate::cache::Cache;
 use crate::core_state::Core;
-use crate::facts::Facts;
 use crate::held::{is_within_hold, running};
 use crate::meter_state::State;
 use crate::records::Closing;
@@ -57,8 +57,8 @@ impl Core {
         let mut acts = Acts::new();
         state.take_hold(durable.hold, second, tables, seal, &mut acts, steps);
         state.show(tables, &mut acts);
-        let facts = Facts::none();
-        (Core { state, facts }, acts)
+        let cache = Cache::empty();
+        (Core { state, cache }, acts)
     }
 }
 

@@ -31,7 +31,7 @@ pub(crate) fn entry(kind: Kind, position: u8, trip: &CoreTrip, tables: &Tables) 
     requires range { IsTripBeside tables.now number_most longest_trip trip.now }
     requires position { (1 ≤ position) × (position ≤ 9) }
     requires kind { kind ≢ Roam }
-    ensures value { (s : Setting) (t : trips.Trip) → IsTariffOf s tables.now → trip.now ≡ trips.core_trip_of s t
+    ensures value { (s : Setting) (t : trips.MeterTrip) → IsTariffOf s tables.now → trip.now ≡ trips.core_trip_of s t
         → result ≡ model.entry_of s kind position t }
     ensures range { IsEntry result }
     ensures kind { result.kind ≡ kind }
@@ -76,7 +76,7 @@ pub(crate) fn receipt<L: Ledger>(
     requires position { (1 ≤ position) × (position ≤ 9) }
     requires number { (1 ≤ number) × (number ≤ number_most) }
     requires closing { IsTripClosing closing }
-    ensures value { (s : Setting) (t : trips.Trip) → IsSettingOf s tables.now seal.now
+    ensures value { (s : Setting) (t : trips.MeterTrip) → IsSettingOf s tables.now seal.now
         → trip.now ≡ trips.core_trip_of s t
         → result ≡ model.receipt_of s closing.kind closing.finish position t number }
     ensures range { IsReceipt result }

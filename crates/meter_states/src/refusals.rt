@@ -16,7 +16,7 @@ ghost use Rattle.meter_states.specs.Meter.{Meter, quiet};
 ghost use Rattle.meter_states.specs.Refusals.{IsTooFast};
 ghost use Rattle.meter_states.specs.Setting.{Setting};
 ghost use Rattle.meter_states.specs.Step.{expired, step, ticked};
-ghost use Rattle.meter_states.specs.Trip.{InHired, Trip, ticks_of, with_part};
+ghost use Rattle.meter_states.specs.Trip.{InHired, MeterTrip, ticks_of, with_part};
 ghost use Rattle.meter_states.specs.declared.act.Act.TheVariants.{Refuse};
 
 /// A refused event changes nothing, but pulses that are too fast, of which the interval takes those that
@@ -55,7 +55,7 @@ pub fn keys_act_after_their_interval()
     ensures key { (s : Setting) (m : Meter) (latch : Option Key)
         → interval_counted s (record m { latch = latch })
         ≡ quiet (record (interval_counted s m).next { latch = latch }) }
-    ensures interval { (s : Setting) (m : Meter) (t : Trip) → m.operating ≡ Hired → m.trip ≡ Some t → m.latch ≡ None
-        → ticks_of (with_part (InHired (sum m.taken) (context_of s m)) t) < longest_trip
+    ensures interval { (s : Setting) (m : Meter) (t : MeterTrip) → m.operating ≡ Hired → m.trip ≡ Some t
+        → m.latch ≡ None → ticks_of (with_part (InHired (sum m.taken) (context_of s m)) t) < longest_trip
         → (ticked s m).next.trip ≡ Some (with_part (InHired (sum m.taken) (context_of s m)) t) }
 {}

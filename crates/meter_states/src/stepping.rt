@@ -5,18 +5,18 @@ ghost use Rattle.taxi_units.specs.Time.{IsSecond};
 ghost use Rattle.taxi_units.specs.declared.event.Event.TheVariants.{Up};
 ghost use Rattle.taxi_units.specs.declared.event.Operating.TheVariants.{Off};
 ghost use Rattle.totals_record.specs.Ranges.{IsDurable};
-ghost use Rattle.totals_record.specs.declared.durable.Durable.{Durable};
+ghost use Rattle.totals_record.specs.declared.durable_state.Durable.{Durable};
 ghost use Rattle.meter_states.specs.Acts.{IsLawfulAct, KeepsRanges, StayLawful};
 ghost use Rattle.meter_states.specs.Core.{ComesToOutcome, Meets, Stands, core_of};
-ghost use Rattle.meter_states.specs.Facts.{AreTrue};
+ghost use Rattle.meter_states.specs.Cache.{IsCacheOf};
 ghost use Rattle.meter_states.specs.Lawful.{IsBetweenEvents, IsLawful, IsTimely};
 ghost use Rattle.meter_states.specs.Meter.{Meter};
 ghost use Rattle.meter_states.specs.Setting.{Setting, IsSettingOf};
 ghost use Rattle.meter_states.specs.Step.{clock_read, powered_step, step};
 
 use crate::act::{Acts, refuse};
+use crate::cache::Cache;
 use crate::core_state::Core;
-use crate::facts::Facts;
 use crate::meter_state::State;
 use seal_record::Seal;
 use std::sync::ledger::Ledger;
@@ -84,9 +84,9 @@ impl Core {
             refuse(Why::NotNow, acts);
             return;
         }
-        let facts = &mut self.facts;
+        let cache = &mut self.cache;
         self.state
-            .take_event(facts, tables, seal, event, acts, steps);
+            .take_event(cache, tables, seal, event, acts, steps);
     }
 }
 
@@ -102,7 +102,7 @@ impl State {
     #[inline(always)]
     fn take_event<L: Ledger>(
         &mut self,
-        facts: &mut Facts,
+        cache: &mut Cache,
         tables: &Tables,
         seal: &Seal,
         event: Event,
@@ -110,11 +110,11 @@ impl State {
         steps: &mut Steps<L>,
     )
         requires lawful { IsBetweenEvents tables.now self.old }
-        requires facts { AreTrue tables.now seal.now facts.old }
+        requires cache { IsCacheOf tables.now seal.now cache.old }
         requires timely { IsTimely event }
         requires room { acts.old.items ≡ [] }
         ensures lawful { (self.new.operating ≡ Off) ⊎ IsBetweenEvents tables.now self.new }
-        ensures facts { AreTrue tables.now seal.now facts.new }
+        ensures cache { IsCacheOf tables.now seal.now cache.new }
         ensures ranges { StayLawful tables.now self.old.number acts.old.items acts.new.items }
         ensures meets { (s : Setting) (m : Meter) → IsSettingOf s tables.now seal.now → self.old ≡ core_of s m
             → Meets s self.new acts.new.items (powered_step s event m) }
@@ -124,7 +124,7 @@ impl State {
             Event::Up(_) => refuse(Why::Powered, acts),
             Event::Down => self.drop_supply(tables, seal, acts, steps),
             Event::Pulses(n) => self.take_pulses(n, acts),
-            Event::Tick => self.tick(facts, tables, seal, acts, steps),
+            Event::Tick => self.tick(cache, tables, seal, acts, steps),
             Event::Clock(second) => self.read_clock(second, acts),
             Event::Key(key) => self.take_key(key, acts),
         }

@@ -45,13 +45,13 @@ impl State {
         ensures steps { steps.new ≤ steps.old + 12 }
     {
         self.leave_interval();
-        self.keep(tables, seal, acts, steps);
+        self.hold_or_close(tables, seal, acts, steps);
         *self = State::off();
     }
 
     /// The trip is held, or closed where the store takes no held trip; without one roaming pulses are entered. At most
     /// 12 steps.
-    fn keep<L: Ledger>(
+    fn hold_or_close<L: Ledger>(
         &mut self,
         tables: &Tables,
         seal: &Seal,
@@ -61,7 +61,7 @@ impl State {
         requires lawful { IsPowered tables.now last_tick roaming_amid 1 self.old }
         requires room { acts.old.items ≡ [] }
         ensures stage { CarriesStage tables.now seal.now self.old self.new acts.old.items acts.new.items
-            (λ s m. model.kept s m.trip m) }
+            (λ s m. model.held_or_closed s m.trip m) }
         ensures steps { steps.new ≤ steps.old + 12 }
     {
         match self.trip {
@@ -92,7 +92,7 @@ impl State {
         requires room { acts.old.items ≡ [] }
         ensures ranges { (tables : TableParts) → IsPowered tables last_tick roaming_amid 1 self.old
             → StayLawful tables self.old.number acts.old.items acts.new.items }
-        ensures follows { (s : Setting) (m : Meter) (t : trips.Trip)
+        ensures follows { (s : Setting) (m : Meter) (t : trips.MeterTrip)
             → trip ≡ trips.core_trip_of s t → self.old ≡ core_of s m
             → ComesToOutcome s self.new acts.old.items acts.new.items
             (held (trips.held_trip s m.clock (model.is_stopped m.operating) m.position m.zone t) m) }

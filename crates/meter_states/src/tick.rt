@@ -3,7 +3,7 @@ ghost use Rattle.std.specs.Prelude.{◌≡◌, ◌≢◌, ◌≤◌, ◌+◌, []
 ghost use Rattle.tariff_compile.specs.Tables.{TableParts};
 ghost use Rattle.taxi_units.specs.Time.{longest_trip};
 ghost use Rattle.meter_states.specs.Core.{core_of};
-ghost use Rattle.meter_states.specs.Facts.{AreTrue};
+ghost use Rattle.meter_states.specs.Cache.{IsCacheOf};
 ghost use Rattle.meter_states.specs.Interval.{ticks_so_far};
 ghost use Rattle.meter_states.specs.Lawful.{IsAmidEvent, IsBetweenEvents, IsPowered, pressing_steps};
 ghost use Rattle.meter_states.specs.Meter.{Meter};
@@ -13,7 +13,7 @@ ghost use Rattle.meter_states.specs.Step.{expired, expired_or_pressed, ticked};
 ghost use Rattle.taxi_units.specs.Limits.{roaming_amid};
 
 use crate::act::{Acts, refuse};
-use crate::facts::Facts;
+use crate::cache::Cache;
 use crate::meter_state::State;
 use crate::records::Closing;
 use seal_record::Seal;
@@ -26,21 +26,21 @@ impl State {
     #[inline(always)]
     pub(crate) fn tick<L: Ledger>(
         &mut self,
-        facts: &mut Facts,
+        cache: &mut Cache,
         tables: &Tables,
         seal: &Seal,
         acts: &mut Acts,
         steps: &mut Steps<L>,
     )
         requires lawful { IsBetweenEvents tables.now self.old }
-        requires facts { AreTrue tables.now seal.now facts.old }
+        requires cache { IsCacheOf tables.now seal.now cache.old }
         requires room { acts.old.items ≡ [] }
         ensures lawful { IsBetweenEvents tables.now self.new }
-        ensures facts { AreTrue tables.now seal.now facts.new }
+        ensures cache { IsCacheOf tables.now seal.now cache.new }
         ensures stage { CarriesStage tables.now seal.now self.old self.new acts.old.items acts.new.items ticked }
         ensures steps { steps.new ≤ steps.old + 48 }
     {
-        self.count_interval(facts, tables, seal, steps);
+        self.count_interval(cache, tables, seal, steps);
         self.expire_or_press(tables, seal, acts, steps);
         self.check_roaming(tables, acts);
         self.show(tables, acts);

@@ -109,7 +109,7 @@ pub(crate) fn add_hired(
     requires weights { AreFit tables.now.measure weights }
     requires few { trip.old.pulses ≤ 9000000000000000000 }
     requires range { IsLawfulTrip tables.now last_tick trip.old }
-    ensures saved { (s : Setting) (t : model.Trip) (x : Context) → IsSettingOf s tables.now seal.now
+    ensures saved { (s : Setting) (t : model.MeterTrip) (x : Context) → IsSettingOf s tables.now seal.now
         → weights ≡ rate_by s.tariff tables.now.constant x → trip.old ≡ model.core_trip_of s t
         → trip.new ≡ model.core_trip_of s (model.with_part (model.InHired pulses x) t) }
     ensures range { IsLawfulTrip tables.now longest_trip trip.new }
@@ -130,7 +130,7 @@ pub(crate) fn add_stopped(trip: &mut CoreTrip, pulses: u32)
     requires pulses { pulses ≤ 2000 }
     requires few { trip.old.pulses ≤ 9000000000000000000 }
     requires short { trip.old.ticks ≤ last_tick }
-    ensures saved { (s : Setting) (t : model.Trip) → trip.old ≡ model.core_trip_of s t
+    ensures saved { (s : Setting) (t : model.MeterTrip) → trip.old ≡ model.core_trip_of s t
         → trip.new ≡ model.core_trip_of s (model.with_part (model.InStopped pulses) t) }
     ensures range { (tables : TableParts) → IsLawfulTrip tables last_tick trip.old
         → IsLawfulTrip tables longest_trip trip.new }
@@ -145,7 +145,7 @@ pub(crate) fn add_stopped(trip: &mut CoreTrip, pulses: u32)
 pub(crate) fn add_rest(trip: &mut CoreTrip, pulses: u32)
     requires pulses { pulses ≤ 2000 }
     requires few { trip.old.pulses ≤ 9000000000000000000 }
-    ensures saved { (s : Setting) (t : model.Trip) → trip.old ≡ model.core_trip_of s t
+    ensures saved { (s : Setting) (t : model.MeterTrip) → trip.old ≡ model.core_trip_of s t
         → trip.new ≡ model.core_trip_of s (model.with_part (model.Rest pulses) t) }
     ensures range { (tables : TableParts) → IsLawfulTrip tables last_tick trip.old
         → IsLawfulTrip tables last_tick trip.new }
@@ -158,7 +158,7 @@ pub(crate) fn add_rest(trip: &mut CoreTrip, pulses: u32)
 /// The display steps that are shown.
 pub(crate) fn display_steps(trip: &CoreTrip, tables: &Tables) -> u64
     requires range { IsLawfulTrip tables.now longest_trip trip.now }
-    ensures value { (s : Setting) (t : model.Trip) → IsTariffOf s tables.now → trip.now ≡ model.core_trip_of s t
+    ensures value { (s : Setting) (t : model.MeterTrip) → IsTariffOf s tables.now → trip.now ≡ model.core_trip_of s t
         → result ≡ model.steps_shown s t }
     ensures exact { result ≡ steps_of tables.now.rounding trip.now.meterage }
     ensures most { result < 10 ^ 18 }
@@ -169,7 +169,7 @@ pub(crate) fn display_steps(trip: &CoreTrip, tables: &Tables) -> u64
 /// The fare that is shown.
 pub(crate) fn fare(trip: &CoreTrip, tables: &Tables) -> u64
     requires range { IsLawfulTrip tables.now longest_trip trip.now }
-    ensures value { (s : Setting) (t : model.Trip) → IsTariffOf s tables.now → trip.now ≡ model.core_trip_of s t
+    ensures value { (s : Setting) (t : model.MeterTrip) → IsTariffOf s tables.now → trip.now ≡ model.core_trip_of s t
         → result ≡ model.fare_of s t }
     ensures exact { result ≡ shown_fare trip.now.initial trip.now.minimum tables.now.step
         (steps_of tables.now.rounding trip.now.meterage) }
@@ -182,7 +182,7 @@ pub(crate) fn fare(trip: &CoreTrip, tables: &Tables) -> u64
 pub(crate) fn times(trip: &CoreTrip, number: u8) -> u8
     requires { (1 ≤ number) × (number ≤ 16) }
     ensures value { result ≡ slice_index trip.now.extras (number - 1) }
-    ensures times { (s : Setting) (t : model.Trip) → trip.now ≡ model.core_trip_of s t
+    ensures times { (s : Setting) (t : model.MeterTrip) → trip.now ≡ model.core_trip_of s t
         → result ≡ times number t.extras }
 {
     trip.extras[number as usize - 1]
@@ -195,7 +195,7 @@ pub(crate) fn add_extra(trip: &mut CoreTrip, number: u8, supplement: Supplement)
     requires most { supplement.max ≤ 99 }
     requires amount { supplement.amount ≤ 1000000 }
     requires sum { trip.old.extras_sum ≤ largest_supplements }
-    ensures saved { (tables : TableParts) (s : Setting) (t : model.Trip)
+    ensures saved { (tables : TableParts) (s : Setting) (t : model.MeterTrip)
         → supplement_in tables number ≡ Some supplement → IsTariffOf s tables → trip.old ≡ model.core_trip_of s t
         → trip.new ≡ model.core_trip_of s (model.with_extra number t) }
     ensures range { (tables : TableParts) → supplement_in tables number ≡ Some supplement

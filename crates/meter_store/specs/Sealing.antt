@@ -8,7 +8,7 @@ use Rattle.slot_store.specs.Sizes.{pair_size}
 use Rattle.slot_store.specs.Slots.{IsQuiet, IsBlank, IsSettled, StandsFor, Shows, ShowsEither}
 use Rattle.slot_store.specs.Scan.{IsAsFound}
 use Rattle.slot_store.specs.Writes.{LeavesThroughout}
-use Rattle.totals_record.specs.declared.durable.Durable.{Durable}
+use Rattle.totals_record.specs.declared.durable_state.Durable.{Durable}
 use Rattle.totals_record.specs.Reading as totals
 use Rattle.totals_record.specs.States.{first_state}
 use Rattle.meter_store.specs.Stored as stored

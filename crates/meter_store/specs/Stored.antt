@@ -5,7 +5,7 @@ use Rattle.slot_store.specs.declared.pair.Place.{Place}
 use Rattle.slot_store.specs.Sizes.{slot_size}
 use Rattle.slot_store.specs.Slots.{slot_at, IsSettled, StandsFor, ShowsEither}
 use Rattle.slot_store.specs.Writes.{LeavesThroughout}
-use Rattle.totals_record.specs.declared.durable.Durable.{Durable}
+use Rattle.totals_record.specs.declared.durable_state.Durable.{Durable}
 pub use Rattle.totals_record.specs.Ranges.{state_number_of}
 pub use Rattle.totals_record.specs.Reading.{reads}
 

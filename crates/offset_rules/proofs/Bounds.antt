@@ -1,8 +1,10 @@
 -- The first seconds of years.
-use Rattle.std.proofs.Common.{◌≡◌, ◌↔◌, Bool, true, false, cond, ltb, ℕ, zero, suc, ◌+◌, ◌/◌, ◌<◌, ◌≤◌, refl, subst, inl, inr, arith}
+use Rattle.std.proofs.Common.{◌≡◌, ◌↔◌, Bool, true, false, cond, ltb, ℕ, zero, suc, ◌+◌, ◌/◌, ◌<◌, ◌≤◌, refl, subst}
+use Rattle.std.proofs.Common.{inl, inr, arith}
 use Rattle.std.proofs.lemmas.Bool.{cases_lt}
 use Rattle.interval_clock.specs.declared.day_numbers.CalendarDate.{CalendarDate}
-use Rattle.interval_clock.specs.Calendar.{date_after, day_number_of, days_of_month, days_of_months, days_of_years, next_date}
+use Rattle.interval_clock.specs.Calendar.{date_after, day_number_of, days_of_month, days_of_months, days_of_years}
+use Rattle.interval_clock.specs.Calendar.{next_date}
 use Rattle.taxi_units.specs.Time.{first_second, last_second}
 use Rattle.offset_rules.specs.Summer.{first_second_of, year_of}
 use Rattle.offset_rules.proofs.YearDays.{day_in_year, first_is_date, in_its_year}
@@ -26,7 +28,8 @@ pub years_in_order : (year later : ℕ) → 1970 ≤ year → year ≤ later →
 years_in_order year zero from le = absurd (omega arith)
 years_in_order year (suc later) from le =
     elim (cases_lt later year) [
-      | inl lt ↦ let same : year ≡ suc later = omega arith in subst (λ (y : ℕ). first_second_of year ≤ first_second_of y) same (omega arith)
+      | inl lt ↦ let same : year ≡ suc later = omega arith in
+          subst (λ (y : ℕ). first_second_of year ≤ first_second_of y) same (omega arith)
       | inr ge ↦
           let rest = years_in_order year later from ge in
           let next : later + 1 ≡ suc later = omega arith in
@@ -43,14 +46,17 @@ pub to_the_last : (year : ℕ) → 1970 ≤ year → year ≤ 2199 → first_sec
 to_the_last year from to = omega (arith, begins_2200, years_in_order (year + 1) 2200 (omega arith) (omega arith))
 
 -- a second lies in its year
-pub second_in_year : (second : ℕ) → 1970 ≤ year_of second → (first_second_of (year_of second) ≤ second) × (second < first_second_of (year_of second + 1))
+pub second_in_year : (second : ℕ) → 1970 ≤ year_of second
+    → (first_second_of (year_of second) ≤ second) × (second < first_second_of (year_of second + 1))
 second_in_year second from = omega (arith, in_its_year (second / 86400) from)
 
 -- going on from 1970 no year is earlier
 no_earlier : (d : CalendarDate) → d.year ≤ (next_date d).year
 no_earlier d = by (ltb d.date (days_of_month d.year d.month)) (ltb d.month 12)
   where
-    by : (in_month in_year : Bool) → d.year ≤ (cond {A = CalendarDate} in_month (record d { date = d.date + 1 }) (cond {A = CalendarDate} in_year (record { year = d.year; month = d.month + 1; date = 1 }) (record { year = d.year + 1; month = 1; date = 1 }))).year
+    by : (in_month in_year : Bool) → d.year ≤ (cond {A = CalendarDate} in_month (record d { date = d.date + 1 })
+        (cond {A = CalendarDate} in_year (record { year = d.year; month = d.month + 1; date = 1 })
+        (record { year = d.year + 1; month = 1; date = 1 }))).year
     by true in_year = omega arith
     by false true = omega arith
     by false false = omega arith
@@ -61,14 +67,21 @@ from_1970 zero = omega arith
 from_1970 (suc days) = omega (arith, from_1970 days, no_earlier (date_after days))
 
 -- the seconds of a year are those from its first up to that of the next
-pub seconds_have_their_year : (year second : ℕ) → 1970 ≤ year → (year_of second ≡ year) ↔ ((first_second_of year ≤ second) × (second < first_second_of (year + 1)))
+pub seconds_have_their_year : (year second : ℕ) → 1970 ≤ year → (year_of second ≡ year)
+    ↔ ((first_second_of year ≤ second) × (second < first_second_of (year + 1)))
 seconds_have_their_year year second from = (
-  λ same. subst (λ (y : ℕ). (first_second_of y ≤ second) × (second < first_second_of (y + 1))) same (second_in_year second (from_1970 (second / 86400))),
+  λ same. subst (λ (y : ℕ). (first_second_of y ≤ second) × (second < first_second_of (y + 1))) same
+      (second_in_year second (from_1970 (second / 86400))),
   λ within.
       let y = year_of second in
       let there = second_in_year second (from_1970 (second / 86400)) in
       elim (cases_lt y year) [
-        | inl lt ↦ absurd (omega (arith, there, within, years_in_order (y + 1) year (omega (arith, from_1970 (second / 86400))) (omega arith)))
+        | inl lt ↦ absurd (omega (
+          arith,
+          there,
+          within,
+          years_in_order (y + 1) year (omega (arith, from_1970 (second / 86400))) (omega arith),
+        ))
         | inr ge ↦ elim (cases_lt year y) [
           | inl gt ↦ absurd (omega (arith, there, within, years_in_order (year + 1) y (omega arith) (omega arith)))
           | inr le ↦ omega arith

@@ -1,5 +1,6 @@
 -- Parts of lines are read by their forms.
-use Rattle.std.proofs.Common.{◌≡◌, ◌∙◌, ℕ, ◌+◌, ◌*◌, ◌≤◌, ℤ, pos, neg_ℤ, List, [], ◌∷◌, ◌++◌, Option, Some, None, refl, sym, ap, subst, arith, append_assoc}
+use Rattle.std.proofs.Common.{◌≡◌, ◌∙◌, ℕ, ◌+◌, ◌*◌, ◌≤◌, ℤ, pos, neg_ℤ, List, [], ◌∷◌, ◌++◌, Option, Some, None, refl}
+use Rattle.std.proofs.Common.{sym, ap, subst, arith, append_assoc}
 use Rattle.taxi_units.specs.Digits.{IsFigure}
 use Rattle.taxi_units.specs.Number.{NoDigitFirst, figure_at, number_at}
 use Rattle.taxi_units.specs.Reading.{◌>>=◌, word_at}
@@ -9,7 +10,8 @@ use Rattle.offset_rules.specs.Forms.IsSeconds.{ahead, behind}
 use Rattle.offset_rules.specs.Reading.{seconds_at, time_at}
 
 -- where reading goes on to a value, something was found first
-pub read_on : {A B : Type 0} (found : Option A) (on : A → Option B) (y : B) → found >>= on ≡ Some y → (x : A) × (found ≡ Some x) × (on x ≡ Some y)
+pub read_on : {A B : Type 0} (found : Option A) (on : A → Option B) (y : B) → found >>= on ≡ Some y
+    → (x : A) × (found ≡ Some x) × (on x ≡ Some y)
 read_on (Some x) on y e = (x, refl, e)
 read_on None on y e = absurd cc
 
@@ -43,7 +45,8 @@ pub record SecondsFirst (text : List ℕ) (offset : ℤ) (rest : List ℕ) : Typ
   pub seconds : IsSeconds value offset
   pub stops : NoDigitFirst rest
 
-seconds_by : (text : List ℕ) (x : ℤ × List ℕ) (found : Option (List ℕ)) → word_at (45 ∷ []) text ≡ found → seconds_at text ≡ Some x → SecondsFirst text x.0 x.1
+seconds_by : (text : List ℕ) (x : ℤ × List ℕ) (found : Option (List ℕ)) → word_at (45 ∷ []) text ≡ found
+    → seconds_at text ≡ Some x → SecondsFirst text x.0 x.1
 unfolding seconds_at
 seconds_by text x (Some digits) is e =
     let after = rw is at e in
@@ -76,25 +79,30 @@ figure_after_minus : (rest : List ℕ) → figure_at 1 5 0 50400 (45 ∷ rest) �
 unfolding figure_at number_at
 figure_after_minus rest = refl
 
-no_minus_by : (text : List ℕ) (x : ℕ × List ℕ) (found : Option (List ℕ)) → figure_at 1 5 0 50400 text ≡ Some x → word_at (45 ∷ []) text ≡ found → found ≡ None
+no_minus_by : (text : List ℕ) (x : ℕ × List ℕ) (found : Option (List ℕ)) → figure_at 1 5 0 50400 text ≡ Some x
+    → word_at (45 ∷ []) text ≡ found → found ≡ None
 no_minus_by text x None read is = refl
 no_minus_by text x (Some rest) read is =
     let after : text ≡ 45 ∷ rest = (words_are_read_by_their_text (45 ∷ []) text rest).0 is in
     let none : Some x ≡ None = sym read ∙ (ap (figure_at 1 5 0 50400) after ∙ figure_after_minus rest) in
     absurd cc
 
-seconds_from_by : (value rest : List ℕ) (offset : ℤ) → IsSeconds value offset → NoDigitFirst rest → seconds_at (value ++ rest) ≡ Some (offset, rest)
+seconds_from_by : (value rest : List ℕ) (offset : ℤ) → IsSeconds value offset → NoDigitFirst rest
+    → seconds_at (value ++ rest) ≡ Some (offset, rest)
 unfolding seconds_at
 seconds_from_by value rest offset (ahead digits n is) stops =
     let read = figure_from 1 5 50400 digits rest n (omega arith) is stops in
-    let none : word_at (45 ∷ []) (digits ++ rest) ≡ None = no_minus_by (digits ++ rest) (n, rest) (word_at (45 ∷ []) (digits ++ rest)) read refl in
+    let none : word_at (45 ∷ []) (digits ++ rest) ≡ None =
+    no_minus_by (digits ++ rest) (n, rest) (word_at (45 ∷ []) (digits ++ rest)) read refl in
     rw (none, read) refl
 seconds_from_by value rest offset (behind digits n is) stops =
     let read = figure_from 1 5 50400 digits rest n (omega arith) is stops in
-    let minus : word_at (45 ∷ []) (45 ∷ (digits ++ rest)) ≡ Some (digits ++ rest) = (words_are_read_by_their_text (45 ∷ []) (45 ∷ (digits ++ rest)) (digits ++ rest)).1 refl in
+    let minus : word_at (45 ∷ []) (45 ∷ (digits ++ rest)) ≡ Some (digits ++ rest) =
+    (words_are_read_by_their_text (45 ∷ []) (45 ∷ (digits ++ rest)) (digits ++ rest)).1 refl in
     rw (minus, read) refl
 
-pub seconds_from : (value rest : List ℕ) (offset : ℤ) → IsSeconds value offset → NoDigitFirst rest → seconds_at (value ++ rest) ≡ Some (offset, rest)
+pub seconds_from : (value rest : List ℕ) (offset : ℤ) → IsSeconds value offset → NoDigitFirst rest
+    → seconds_at (value ++ rest) ≡ Some (offset, rest)
 seconds_from value rest offset is stops = seconds_from_by value rest offset is stops
 
 -- a time stands at the front
@@ -115,17 +123,31 @@ time_is text x e =
     let after : hour.0.1 ≡ 58 ∷ colon.0 = (words_are_read_by_their_text (58 ∷ []) hour.0.1 colon.0).0 colon.1 in
     let there : TimeFirst text (hour.0.0 * 60 + minute.0.0) minute.0.1 = record {
       time = h.digits ++ 58 ∷ m.digits;
-      text_is = h.text_is ∙ (ap (λ (t : List ℕ). h.digits ++ t) (after ∙ ap (λ (t : List ℕ). 58 ∷ t) m.text_is) ∙ sym (append_assoc h.digits (58 ∷ m.digits) minute.0.1));
-      is = record { hours = h.digits; minutes = m.digits; text_is = refl; hour = hour.0.0; rest = minute.0.0; hour_is = h.figure; rest_is = m.figure; minute_is = refl };
+      text_is = h.text_is ∙ (ap (λ (t : List ℕ). h.digits ++ t) (after ∙ ap (λ (t : List ℕ). 58 ∷ t) m.text_is)
+          ∙ sym (append_assoc h.digits (58 ∷ m.digits) minute.0.1));
+      is = record {
+        hours = h.digits;
+        minutes = m.digits;
+        text_is = refl;
+        hour = hour.0.0;
+        rest = minute.0.0;
+        hour_is = h.figure;
+        rest_is = m.figure;
+        minute_is = refl;
+      };
       stops = m.stops;
     } in
-    subst (λ (z : ℕ × List ℕ). TimeFirst text z.0 z.1) (some_same (hour.0.0 * 60 + minute.0.0, minute.0.1) x minute.2) there
+    subst (λ (z : ℕ × List ℕ). TimeFirst text z.0 z.1)
+    (some_same (hour.0.0 * 60 + minute.0.0, minute.0.1) x minute.2) there
 
-pub time_from : (time rest : List ℕ) (minute : ℕ) → IsTime time minute → NoDigitFirst rest → time_at (time ++ rest) ≡ Some (minute, rest)
+pub time_from : (time rest : List ℕ) (minute : ℕ) → IsTime time minute → NoDigitFirst rest
+    → time_at (time ++ rest) ≡ Some (minute, rest)
 unfolding time_at
 time_from time rest minute is stops =
-    let text : time ++ rest ≡ is.hours ++ 58 ∷ (is.minutes ++ rest) = ap (λ (t : List ℕ). t ++ rest) is.text_is ∙ append_assoc is.hours (58 ∷ is.minutes) rest in
+    let text : time ++ rest ≡ is.hours ++ 58 ∷ (is.minutes ++ rest) =
+    ap (λ (t : List ℕ). t ++ rest) is.text_is ∙ append_assoc is.hours (58 ∷ is.minutes) rest in
     let hour = figure_from 2 2 23 is.hours (58 ∷ (is.minutes ++ rest)) is.hour (omega arith) is.hour_is (omega arith) in
-    let colon : word_at (58 ∷ []) (58 ∷ (is.minutes ++ rest)) ≡ Some (is.minutes ++ rest) = (words_are_read_by_their_text (58 ∷ []) (58 ∷ (is.minutes ++ rest)) (is.minutes ++ rest)).1 refl in
+    let colon : word_at (58 ∷ []) (58 ∷ (is.minutes ++ rest)) ≡ Some (is.minutes ++ rest) =
+    (words_are_read_by_their_text (58 ∷ []) (58 ∷ (is.minutes ++ rest)) (is.minutes ++ rest)).1 refl in
     let minutes = figure_from 2 2 59 is.minutes rest is.rest (omega arith) is.rest_is stops in
     rw (text, hour, colon, minutes) (ap (λ (n : ℕ). Some (n, rest)) (sym is.minute_is))

@@ -27,7 +27,8 @@ pub record StandsAt {A : Type 0} (Form : List ℕ → A → Type 0) (text : List
   pub text_is : text ≡ front ++ rest
   pub is : Form front value
 
-four_parts : (a b c d rest : List ℕ) → a ++ (32 ∷ (b ++ (32 ∷ (c ++ (32 ∷ (d ++ rest)))))) ≡ (a ++ (32 ∷ (b ++ (32 ∷ (c ++ (32 ∷ d)))))) ++ rest
+four_parts : (a b c d rest : List ℕ)
+    → a ++ (32 ∷ (b ++ (32 ∷ (c ++ (32 ∷ (d ++ rest)))))) ≡ (a ++ (32 ∷ (b ++ (32 ∷ (c ++ (32 ∷ d)))))) ++ rest
 four_parts a b c d rest = sym (simp append_assoc)
 
 -- a text that is parted into four parts, with a blank before each but the first, and a rest
@@ -57,7 +58,8 @@ change_is text x e =
     let w = name_is day_names days.0 weekday.0 weekday.1 in
     let m = name_is month_names months.0 month.0 month.1 in
     let t = time_is time.0 minute.0 minute.1 in
-    let change : Change = record { number = number.0.0; weekday = weekday.0.0; month = month.0.0; minute = minute.0.0 } in
+    let change : Change =
+    record { number = number.0.0; weekday = weekday.0.0; month = month.0.0; minute = minute.0.0 } in
     let there : StandsAt IsChangeText text change minute.0.1 = record {
       front = n.name ++ (32 ∷ (w.name ++ (32 ∷ (m.name ++ (32 ∷ t.time)))));
       text_is = parted text n.name w.name m.name t.time number.0.1 days.0 weekday.0.1 months.0 month.0.1 time.0
@@ -79,10 +81,12 @@ change_is text x e =
     subst (λ (z : Change × List ℕ). StandsAt IsChangeText text z.0 z.1) {x = (change, minute.0.1)}
     (same_pair (change, minute.0.1) x minute.2) there
 
-pub change_from : (text rest : List ℕ) (change : Change) → IsChangeText text change → NoDigitFirst rest → change_at (text ++ rest) ≡ Some (change, rest)
+pub change_from : (text rest : List ℕ) (change : Change) → IsChangeText text change → NoDigitFirst rest
+    → change_at (text ++ rest) ≡ Some (change, rest)
 unfolding change_at
 change_from text rest change is stops =
-    let parts : text ++ rest ≡ is.number ++ (32 ∷ (is.weekday ++ (32 ∷ (is.month ++ (32 ∷ (is.time ++ rest)))))) = ap (λ (t : List ℕ). t ++ rest) is.text_is ∙ sym (four_parts is.number is.weekday is.month is.time rest) in
+    let parts : text ++ rest ≡ is.number ++ (32 ∷ (is.weekday ++ (32 ∷ (is.month ++ (32 ∷ (is.time ++ rest)))))) =
+    ap (λ (t : List ℕ). t ++ rest) is.text_is ∙ sym (four_parts is.number is.weekday is.month is.time rest) in
     let last = is.time ++ rest in
     let third = is.month ++ (32 ∷ last) in
     let second = is.weekday ++ (32 ∷ third) in
@@ -98,12 +102,14 @@ change_from text rest change is stops =
     ) refl
 
 -- lines
-pub record LineFirst {A : Type 0} (Form : List ℕ → A → Type 0) (text : List ℕ) (value : A) (rest : List ℕ) : Type 0 where
+pub record LineFirst {A : Type 0} (Form : List ℕ → A → Type 0) (text : List ℕ) (value : A)
+    (rest : List ℕ) : Type 0 where
   pub line : List ℕ
   pub text_is : text ≡ line ++ 10 ∷ rest
   pub is : Form line value
 
-pub offset_line_is : (name text : List ℕ) (x : ℤ × List ℕ) → offset_line_at name text ≡ Some x → LineFirst (IsOffsetLine name) text x.0 x.1
+pub offset_line_is : (name text : List ℕ) (x : ℤ × List ℕ) → offset_line_at name text ≡ Some x
+    → LineFirst (IsOffsetLine name) text x.0 x.1
 unfolding offset_line_at
 offset_line_is name text x e =
     let value = read_on (word_at name text) _ x e in
@@ -116,15 +122,24 @@ offset_line_is name text x e =
       text_is = named text name o.value value.0 offset.0.1 rest.0 (word_is name text value.0 value.1) o.text_is after;
       is = record { value = o.value; line_is = refl {a = name ++ o.value}; value_is = o.seconds };
     } in
-    subst (λ (z : ℤ × List ℕ). LineFirst (IsOffsetLine name) text z.0 z.1) (same_pair (offset.0.0, rest.0) x rest.2) there
+    subst (λ (z : ℤ × List ℕ). LineFirst (IsOffsetLine name) text z.0 z.1)
+    (same_pair (offset.0.0, rest.0) x rest.2) there
 
-pub offset_line_from : (name line rest : List ℕ) (offset : ℤ) → IsOffsetLine name line offset → offset_line_at name (line ++ 10 ∷ rest) ≡ Some (offset, rest)
+pub offset_line_from : (name line rest : List ℕ) (offset : ℤ) → IsOffsetLine name line offset
+    → offset_line_at name (line ++ 10 ∷ rest) ≡ Some (offset, rest)
 unfolding offset_line_at
 offset_line_from name line rest offset is =
-    let text : line ++ 10 ∷ rest ≡ name ++ (is.value ++ 10 ∷ rest) = ap (λ (t : List ℕ). t ++ 10 ∷ rest) is.line_is ∙ append_assoc name is.value (10 ∷ rest) in
-    rw (text, word_again name (is.value ++ 10 ∷ rest), seconds_from is.value (10 ∷ rest) offset is.value_is (omega arith), word_again (10 ∷ []) rest) refl
+    let text : line ++ 10 ∷ rest ≡ name ++ (is.value ++ 10 ∷ rest) =
+    ap (λ (t : List ℕ). t ++ 10 ∷ rest) is.line_is ∙ append_assoc name is.value (10 ∷ rest) in
+    rw (
+      text,
+      word_again name (is.value ++ 10 ∷ rest),
+      seconds_from is.value (10 ∷ rest) offset is.value_is (omega arith),
+      word_again (10 ∷ []) rest,
+    ) refl
 
-pub change_line_is : (name text : List ℕ) (x : Change × List ℕ) → change_line_at name text ≡ Some x → LineFirst (IsChangeLine name) text x.0 x.1
+pub change_line_is : (name text : List ℕ) (x : Change × List ℕ) → change_line_at name text ≡ Some x
+    → LineFirst (IsChangeLine name) text x.0 x.1
 unfolding change_line_at
 change_line_is name text x e =
     let value = read_on (word_at name text) _ x e in
@@ -137,10 +152,18 @@ change_line_is name text x e =
       text_is = named text name c.front value.0 change.0.1 rest.0 (word_is name text value.0 value.1) c.text_is after;
       is = record { value = c.front; line_is = refl {a = name ++ c.front}; value_is = c.is };
     } in
-    subst (λ (z : Change × List ℕ). LineFirst (IsChangeLine name) text z.0 z.1) (same_pair (change.0.0, rest.0) x rest.2) there
+    subst (λ (z : Change × List ℕ). LineFirst (IsChangeLine name) text z.0 z.1)
+    (same_pair (change.0.0, rest.0) x rest.2) there
 
-pub change_line_from : (name line rest : List ℕ) (change : Change) → IsChangeLine name line change → change_line_at name (line ++ 10 ∷ rest) ≡ Some (change, rest)
+pub change_line_from : (name line rest : List ℕ) (change : Change) → IsChangeLine name line change
+    → change_line_at name (line ++ 10 ∷ rest) ≡ Some (change, rest)
 unfolding change_line_at
 change_line_from name line rest change is =
-    let text : line ++ 10 ∷ rest ≡ name ++ (is.value ++ 10 ∷ rest) = ap (λ (t : List ℕ). t ++ 10 ∷ rest) is.line_is ∙ append_assoc name is.value (10 ∷ rest) in
-    rw (text, word_again name (is.value ++ 10 ∷ rest), change_from is.value (10 ∷ rest) change is.value_is (omega arith), word_again (10 ∷ []) rest) refl
+    let text : line ++ 10 ∷ rest ≡ name ++ (is.value ++ 10 ∷ rest) =
+    ap (λ (t : List ℕ). t ++ 10 ∷ rest) is.line_is ∙ append_assoc name is.value (10 ∷ rest) in
+    rw (
+      text,
+      word_again name (is.value ++ 10 ∷ rest),
+      change_from is.value (10 ∷ rest) change is.value_is (omega arith),
+      word_again (10 ∷ []) rest,
+    ) refl

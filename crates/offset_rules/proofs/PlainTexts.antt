@@ -1,5 +1,6 @@
 -- A plain text is read as its rule, and what is read is in its ranges.
-use Rattle.std.proofs.Common.{◌≡◌, ◌∙◌, ℕ, zero, suc, ◌-◌, ◌/◌, ◌%◌, ◌≤◌, ℤ, pos, negsuc, true, leb, get_or, List, [], ◌∷◌, ◌++◌, length, Result, Ok, refl, sym, arith, length-append}
+use Rattle.std.proofs.Common.{◌≡◌, ◌∙◌, ℕ, zero, suc, ◌-◌, ◌/◌, ◌%◌, ◌≤◌, ℤ, pos, negsuc, true, leb, get_or, List, []}
+use Rattle.std.proofs.Common.{◌∷◌, ◌++◌, length, Result, Ok, refl, sym, arith, length-append}
 use Rattle.std.specs.Prelude.{codes}
 use Rattle.std.specs.Fmt.{decimal}
 use Rattle.std.specs.List.{list_all}
@@ -9,13 +10,14 @@ use Rattle.std.proofs.lemmas.Int.{ints}
 use Rattle.interval_clock.specs.Offsets.{IsOffset}
 use Rattle.taxi_units.specs.Digits.{IsFigure}
 use Rattle.taxi_units.specs.Number.{padded_text}
-use Rattle.taxi_units.proofs.Laws.{numbers_are_short, numbers_are_written_as_figures, padded_numbers_are_written_as_figures}
+use Rattle.taxi_units.proofs.Laws.{numbers_are_short, numbers_are_written_as_figures}
+use Rattle.taxi_units.proofs.Laws.{padded_numbers_are_written_as_figures}
 use Rattle.offset_rules.specs.Forms.{IsChangeLine, IsChangeText, IsOffsetLine, IsSeconds, IsTime}
 use Rattle.offset_rules.specs.Forms.IsSeconds.{ahead, behind}
 use Rattle.offset_rules.specs.Names.{month_names, name_of, number_names}
 use Rattle.offset_rules.specs.Reading.{rules_read}
 use Rattle.offset_rules.specs.Rule.{Change, IsChange, IsRule, Rule}
-use Rattle.offset_rules.specs.Says.{AreLinesOf, IsReadAs}
+use Rattle.offset_rules.specs.RulesText.{AreLinesOf, IsReadAs}
 use Rattle.offset_rules.specs.Texts.{change_text, offset_text, plain_text, time_text}
 use Rattle.offset_rules.specs.declared.fault.RuleFault.{RuleFault}
 use Rattle.offset_rules.proofs.TextsRead.{texts_say_rules}
@@ -26,14 +28,17 @@ use Rattle.taxi_units.specs.Weekdays.{day_names}
 seconds_text : (offset : ℤ) → IsOffset offset → IsSeconds (offset_text offset) offset
 seconds_text (pos n) is =
     let below : n ≤ 50400 = omega (arith, ints, is.1) in
-    ahead (decimal n) n (numbers_are_written_as_figures 5 0 50400 n (omega arith) (omega arith) (omega (arith, below)) (omega arith) below)
+    ahead (decimal n) n
+    (numbers_are_written_as_figures 5 0 50400 n (omega arith) (omega arith) (omega (arith, below)) (omega arith) below)
 seconds_text (negsuc n) is =
     let below : suc n ≤ 50400 = omega (arith, ints, is.0) in
-    behind (decimal (suc n)) (suc n) (numbers_are_written_as_figures 5 0 50400 (suc n) (omega arith) (omega arith) (omega (arith, below)) (omega arith) below)
+    behind (decimal (suc n)) (suc n) (numbers_are_written_as_figures 5 0 50400 (suc n) (omega arith) (omega arith)
+    (omega (arith, below)) (omega arith) below)
 
 two_digits : (greatest n : ℕ) → n ≤ greatest → greatest ≤ 99 → IsFigure 2 2 0 greatest (padded_text 2 n) n
 two_digits greatest n most small =
-    padded_numbers_are_written_as_figures 2 0 greatest n (omega arith) (omega arith) (omega (arith, most, small)) (omega arith) most
+    padded_numbers_are_written_as_figures 2 0 greatest n (omega arith) (omega arith) (omega (arith, most, small))
+    (omega arith) most
 
 time_again : (minute : ℕ) → minute ≤ 1439 → IsTime (time_text minute) minute
 time_again minute most = record {
@@ -60,11 +65,15 @@ change_again change is = record {
   time_is = time_again change.minute is.minute;
 }
 
-offset_line_again : (name : List ℕ) (offset : ℤ) → IsOffset offset → IsOffsetLine name (name ++ offset_text offset) offset
-offset_line_again name offset is = record { value = offset_text offset; line_is = refl; value_is = seconds_text offset is }
+offset_line_again : (name : List ℕ) (offset : ℤ) → IsOffset offset
+    → IsOffsetLine name (name ++ offset_text offset) offset
+offset_line_again name offset is =
+    record { value = offset_text offset; line_is = refl; value_is = seconds_text offset is }
 
-change_line_again : (name : List ℕ) (change : Change) → IsChange change → IsChangeLine name (name ++ change_text change) change
-change_line_again name change is = record { value = change_text change; line_is = refl; value_is = change_again change is }
+change_line_again : (name : List ℕ) (change : Change) → IsChange change
+    → IsChangeLine name (name ++ change_text change) change
+change_line_again name change is =
+    record { value = change_text change; line_is = refl; value_is = change_again change is }
 
 plain_lines : (rule : Rule) → IsRule rule → AreLinesOf (plain_text rule) rule
 plain_lines rule is = record {
@@ -81,11 +90,18 @@ plain_lines rule is = record {
 
 -- ---- its length
 
-short_names : (names : List (List ℕ)) → list_all (λ name. leb (length name) 6) names ≡ true → (place : ℕ) → length (get_or names place []) ≤ 6
+short_names : (names : List (List ℕ)) → list_all (λ name. leb (length name) 6) names ≡ true → (place : ℕ)
+    → length (get_or names place []) ≤ 6
 short_names [] all place = omega arith
-short_names (name ∷ names) all place = by name names place ((Decides-and (leb (length name) 6) (list_all (λ name. leb (length name) 6) names) (leb-true (length name) 6, le-leb (length name) 6) (λ (h : list_all (λ name. leb (length name) 6) names ≡ true). h, λ (h : list_all (λ name. leb (length name) 6) names ≡ true). h)).0 all) (λ rest k. short_names names rest k)
+short_names (name ∷ names) all place = by name names place ((Decides-and (leb (length name) 6)
+    (list_all (λ name. leb (length name) 6) names) (leb-true (length name) 6, le-leb (length name) 6) (
+      λ (h : list_all (λ name. leb (length name) 6) names ≡ true). h,
+      λ (h : list_all (λ name. leb (length name) 6) names ≡ true). h,
+    )).0 all) (λ rest k. short_names names rest k)
   where
-    by : (name : List ℕ) (names : List (List ℕ)) (place : ℕ) → (length name ≤ 6) × (list_all (λ name. leb (length name) 6) names ≡ true) → (list_all (λ name. leb (length name) 6) names ≡ true → (k : ℕ) → length (get_or names k []) ≤ 6) → length (get_or (name ∷ names) place []) ≤ 6
+    by : (name : List ℕ) (names : List (List ℕ)) (place : ℕ) → (length name ≤ 6)
+        × (list_all (λ name. leb (length name) 6) names ≡ true) → (list_all (λ name. leb (length name) 6) names ≡ true
+        → (k : ℕ) → length (get_or names k []) ≤ 6) → length (get_or (name ∷ names) place []) ≤ 6
     by name names zero both rest = both.0
     by name names (suc place) both rest = rest both.1 place
 
@@ -108,8 +124,10 @@ short_change change is =
     let minutes = padded_text 2 (change.minute % 60) in
     let t = length-append hours (58 ∷ minutes) in
     let c = length-append (name_of month_names change.month) (32 ∷ (hours ++ 58 ∷ minutes)) in
-    let b = length-append (name_of day_names change.weekday) (32 ∷ (name_of month_names change.month ++ (32 ∷ (hours ++ 58 ∷ minutes)))) in
-    let a = length-append (name_of number_names change.number) (32 ∷ (name_of day_names change.weekday ++ (32 ∷ (name_of month_names change.month ++ (32 ∷ (hours ++ 58 ∷ minutes)))))) in
+    let b = length-append (name_of day_names change.weekday)
+    (32 ∷ (name_of month_names change.month ++ (32 ∷ (hours ++ 58 ∷ minutes)))) in
+    let a = length-append (name_of number_names change.number) (32 ∷ (name_of day_names change.weekday
+    ++ (32 ∷ (name_of month_names change.month ++ (32 ∷ (hours ++ 58 ∷ minutes)))))) in
     omega (arith, n, w, m, h, l, t, c, b, a)
 
 plain_is_short : (rule : Rule) → IsRule rule → length (plain_text rule) ≤ 4096
@@ -118,14 +136,17 @@ plain_is_short rule is =
     let b = short_offset rule.summer is.summer in
     let c = short_change rule.begin is.begin in
     let d = short_change rule.end is.end in
-    let e = length-append (offset_text rule.standard) (10 ∷ ((codes "summer " ++ offset_text rule.summer) ++ 10 ∷ ((codes "begin " ++ change_text rule.begin) ++ 10 ∷ ((codes "end " ++ change_text rule.end) ++ codes "\n")))) in
-    let f = length-append (offset_text rule.summer) (10 ∷ ((codes "begin " ++ change_text rule.begin) ++ 10 ∷ ((codes "end " ++ change_text rule.end) ++ codes "\n"))) in
+    let e = length-append (offset_text rule.standard) (10 ∷ ((codes "summer " ++ offset_text rule.summer) ++ 10
+    ∷ ((codes "begin " ++ change_text rule.begin) ++ 10 ∷ ((codes "end " ++ change_text rule.end) ++ codes "\n")))) in
+    let f = length-append (offset_text rule.summer) (10
+    ∷ ((codes "begin " ++ change_text rule.begin) ++ 10 ∷ ((codes "end " ++ change_text rule.end) ++ codes "\n"))) in
     let g = length-append (change_text rule.begin) (10 ∷ ((codes "end " ++ change_text rule.end) ++ codes "\n")) in
     let h = length-append (change_text rule.end) (codes "\n") in
     omega (arith, a, b, c, d, e, f, g, h)
 
 pub plain_texts_are_read_back : (rule : Rule) → IsRule rule → rules_read (plain_text rule) ≡ Ok rule
-plain_texts_are_read_back rule is = (texts_say_rules (plain_text rule) (Ok rule)).1 (plain_is_short rule is, plain_lines rule is, is.months)
+plain_texts_are_read_back rule is =
+    (texts_say_rules (plain_text rule) (Ok rule)).1 (plain_is_short rule is, plain_lines rule is, is.months)
 
 -- ---- ranges
 

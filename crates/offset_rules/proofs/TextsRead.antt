@@ -1,13 +1,14 @@
 -- Texts of rules are read by their lines.
-use Rattle.std.proofs.Common.{◌≡◌, ◌≢◌, ◌∙◌, ◌↔◌, ℕ, ◌≤◌, Bool, true, false, if◌then◌else◌, eqb, ltb, ℤ, List, [], ◌∷◌, ◌++◌, length, Option, Some, None, Result, Ok, Err, refl, ap, subst}
+use Rattle.std.proofs.Common.{◌≡◌, ◌≢◌, ◌∙◌, ◌↔◌, ℕ, ◌≤◌, Bool, true, false, if◌then◌else◌, eqb, ltb, ℤ, List, [], ◌∷◌}
+use Rattle.std.proofs.Common.{◌++◌, length, Option, Some, None, Result, Ok, Err, refl, ap, subst}
 use Rattle.std.specs.Prelude.{codes}
 use Rattle.std.proofs.lemmas.Bool.{lt-ltb, le-ltb, ltb-true, ltb-false, eq-eqb, ne_eqb}
 use Rattle.std.proofs.lemmas.Bool.Decides.{Decides-eqb}
 use Rattle.offset_rules.specs.Forms.{IsChangeLine, IsOffsetLine}
 use Rattle.offset_rules.specs.Reading.{change_line_at, lines_read, offset_line_at, or_bad, rules_read, whole}
 use Rattle.offset_rules.specs.Rule.{Change, Rule}
-use Rattle.offset_rules.specs.Says.{AreLinesOf, BreaksAt, IsReadAs, Lacks, StandsFirst}
-use Rattle.offset_rules.specs.Says.BreaksAt.{at_first, at_second, at_third, at_fourth, after_them}
+use Rattle.offset_rules.specs.RulesText.{AreLinesOf, BreaksAt, IsReadAs, Lacks, StandsFirst}
+use Rattle.offset_rules.specs.RulesText.BreaksAt.{at_first, at_second, at_third, at_fourth, after_them}
 use Rattle.offset_rules.specs.declared.fault.RuleFault.{RuleFault}
 use Rattle.offset_rules.specs.declared.fault.RuleFault.TheVariants.{TooLong, BadLine, SameMonth}
 use Rattle.offset_rules.proofs.LinesRead.{LineFirst, change_line_from, change_line_is, offset_line_from, offset_line_is}
@@ -20,17 +21,23 @@ OffsetForm name line = (offset : ℤ) × IsOffsetLine name line offset
 abbrev ChangeForm : (name : List ℕ) → List ℕ → Type 0
 ChangeForm name line = (change : Change) × IsChangeLine name line change
 
-offset_stands : (name text : List ℕ) (x : ℤ × List ℕ) → offset_line_at name text ≡ Some x → StandsFirst (OffsetForm name) text x.1
+offset_stands : (name text : List ℕ) (x : ℤ × List ℕ) → offset_line_at name text ≡ Some x
+    → StandsFirst (OffsetForm name) text x.1
 offset_stands name text x e = let there = offset_line_is name text x e in (there.line, there.text_is, (x.0, there.is))
 
-change_stands : (name text : List ℕ) (x : Change × List ℕ) → change_line_at name text ≡ Some x → StandsFirst (ChangeForm name) text x.1
+change_stands : (name text : List ℕ) (x : Change × List ℕ) → change_line_at name text ≡ Some x
+    → StandsFirst (ChangeForm name) text x.1
 change_stands name text x e = let there = change_line_is name text x e in (there.line, there.text_is, (x.0, there.is))
 
-offset_there : (name text rest : List ℕ) (stands : StandsFirst (OffsetForm name) text rest) → offset_line_at name text ≡ Some (stands.2.0, rest)
-offset_there name text rest stands = ap (offset_line_at name) stands.1 ∙ offset_line_from name stands.0 rest stands.2.0 stands.2.1
+offset_there : (name text rest : List ℕ) (stands : StandsFirst (OffsetForm name) text rest)
+    → offset_line_at name text ≡ Some (stands.2.0, rest)
+offset_there name text rest stands =
+    ap (offset_line_at name) stands.1 ∙ offset_line_from name stands.0 rest stands.2.0 stands.2.1
 
-change_there : (name text rest : List ℕ) (stands : StandsFirst (ChangeForm name) text rest) → change_line_at name text ≡ Some (stands.2.0, rest)
-change_there name text rest stands = ap (change_line_at name) stands.1 ∙ change_line_from name stands.0 rest stands.2.0 stands.2.1
+change_there : (name text rest : List ℕ) (stands : StandsFirst (ChangeForm name) text rest)
+    → change_line_at name text ≡ Some (stands.2.0, rest)
+change_there name text rest stands =
+    ap (change_line_at name) stands.1 ∙ change_line_from name stands.0 rest stands.2.0 stands.2.1
 
 offset_lacks : (name text : List ℕ) → offset_line_at name text ≡ None → Lacks (OffsetForm name) text
 offset_lacks name text none rest stands = let some = offset_there name text rest stands in absurd cc
@@ -80,9 +87,12 @@ lines_of text rule front = record {
   end = front.end.is;
 }
 
-ends_by : (text : List ℕ) (rule : Rule) (b : Bool) → eqb rule.begin.month rule.end.month ≡ b → length text ≤ 4096 → Front text rule [] → IsReadAs text (if b then Err SameMonth else Ok rule)
-ends_by text rule true is few front = (few, (rule, lines_of text rule front, (Decides-eqb rule.begin.month rule.end.month).0 is))
-ends_by text rule false is few front = (few, lines_of text rule front, λ same. let e = eq-eqb rule.begin.month rule.end.month same in absurd cc)
+ends_by : (text : List ℕ) (rule : Rule) (b : Bool) → eqb rule.begin.month rule.end.month ≡ b → length text ≤ 4096
+    → Front text rule [] → IsReadAs text (if b then Err SameMonth else Ok rule)
+ends_by text rule true is few front =
+    (few, (rule, lines_of text rule front, (Decides-eqb rule.begin.month rule.end.month).0 is))
+ends_by text rule false is few front =
+    (few, lines_of text rule front, λ same. let e = eq-eqb rule.begin.month rule.end.month same in absurd cc)
 
 ends : (text rest : List ℕ) (rule : Rule) → length text ≤ 4096 → Front text rule rest → IsReadAs text (whole rule rest)
 ends text [] rule few front = ends_by text rule (eqb rule.begin.month rule.end.month) refl few front
@@ -97,31 +107,54 @@ ends text (c ∷ cs) rule few front = (
 )
 
 module _ (text : List ℕ) (few : length text ≤ 4096) where
-  at_end : (standard summer : ℤ × List ℕ) (begin : Change × List ℕ) (found : Option (Change × List ℕ)) → offset_line_at (codes "standard ") text ≡ Some standard → offset_line_at (codes "summer ") standard.1 ≡ Some summer → change_line_at (codes "begin ") summer.1 ≡ Some begin → change_line_at (codes "end ") begin.1 ≡ found
-      → IsReadAs text (or_bad 4 found (λ end. whole (record { standard = standard.0; summer = summer.0; begin = begin.0; end = end.0 }) end.1))
-  at_end standard summer begin None p q r e = (few, at_fourth text standard.1 summer.1 begin.1 (offset_stands _ text standard p) (offset_stands _ standard.1 summer q) (change_stands _ summer.1 begin r) (change_lacks _ begin.1 e))
-  at_end standard summer begin (Some end) p q r e = ends text end.1 (record { standard = standard.0; summer = summer.0; begin = begin.0; end = end.0 }) few (record {
-    a = standard.1;
-    b = summer.1;
-    c = begin.1;
-    standard = offset_line_is (codes "standard ") text standard p;
-    summer = offset_line_is (codes "summer ") standard.1 summer q;
-    begin = change_line_is (codes "begin ") summer.1 begin r;
-    end = change_line_is (codes "end ") begin.1 end e;
-  })
+  at_end : (standard summer : ℤ × List ℕ) (begin : Change × List ℕ) (found : Option (Change × List ℕ))
+      → offset_line_at (codes "standard ") text ≡ Some standard
+      → offset_line_at (codes "summer ") standard.1 ≡ Some summer
+      → change_line_at (codes "begin ") summer.1 ≡ Some begin → change_line_at (codes "end ") begin.1 ≡ found
+      → IsReadAs text (or_bad 4 found
+      (λ end. whole (record { standard = standard.0; summer = summer.0; begin = begin.0; end = end.0 }) end.1))
+  at_end standard summer begin None p q r e = (
+    few,
+    at_fourth text standard.1 summer.1 begin.1 (offset_stands _ text standard p) (offset_stands _ standard.1 summer q)
+        (change_stands _ summer.1 begin r) (change_lacks _ begin.1 e),
+  )
+  at_end standard summer begin (Some end) p q r e =
+      ends text end.1 (record { standard = standard.0; summer = summer.0; begin = begin.0; end = end.0 }) few (record {
+        a = standard.1;
+        b = summer.1;
+        c = begin.1;
+        standard = offset_line_is (codes "standard ") text standard p;
+        summer = offset_line_is (codes "summer ") standard.1 summer q;
+        begin = change_line_is (codes "begin ") summer.1 begin r;
+        end = change_line_is (codes "end ") begin.1 end e;
+      })
 
-  at_begin : (standard summer : ℤ × List ℕ) (found : Option (Change × List ℕ)) → offset_line_at (codes "standard ") text ≡ Some standard → offset_line_at (codes "summer ") standard.1 ≡ Some summer → change_line_at (codes "begin ") summer.1 ≡ found
-      → IsReadAs text (or_bad 3 found (λ begin. or_bad 4 (change_line_at (codes "end ") begin.1) (λ end. whole (record { standard = standard.0; summer = summer.0; begin = begin.0; end = end.0 }) end.1)))
-  at_begin standard summer None p q e = (few, at_third text standard.1 summer.1 (offset_stands _ text standard p) (offset_stands _ standard.1 summer q) (change_lacks _ summer.1 e))
-  at_begin standard summer (Some begin) p q e = at_end standard summer begin (change_line_at (codes "end ") begin.1) p q e refl
+  at_begin : (standard summer : ℤ × List ℕ) (found : Option (Change × List ℕ))
+      → offset_line_at (codes "standard ") text ≡ Some standard
+      → offset_line_at (codes "summer ") standard.1 ≡ Some summer → change_line_at (codes "begin ") summer.1 ≡ found
+      → IsReadAs text (or_bad 3 found (λ begin. or_bad 4 (change_line_at (codes "end ") begin.1)
+      (λ end. whole (record { standard = standard.0; summer = summer.0; begin = begin.0; end = end.0 }) end.1)))
+  at_begin standard summer None p q e = (
+    few,
+    at_third text standard.1 summer.1 (offset_stands _ text standard p) (offset_stands _ standard.1 summer q)
+        (change_lacks _ summer.1 e),
+  )
+  at_begin standard summer (Some begin) p q e =
+      at_end standard summer begin (change_line_at (codes "end ") begin.1) p q e refl
 
-  at_summer : (standard : ℤ × List ℕ) (found : Option (ℤ × List ℕ)) → offset_line_at (codes "standard ") text ≡ Some standard → offset_line_at (codes "summer ") standard.1 ≡ found
-      → IsReadAs text (or_bad 2 found (λ summer. or_bad 3 (change_line_at (codes "begin ") summer.1) (λ begin. or_bad 4 (change_line_at (codes "end ") begin.1) (λ end. whole (record { standard = standard.0; summer = summer.0; begin = begin.0; end = end.0 }) end.1))))
-  at_summer standard None p e = (few, at_second text standard.1 (offset_stands _ text standard p) (offset_lacks _ standard.1 e))
+  at_summer : (standard : ℤ × List ℕ) (found : Option (ℤ × List ℕ))
+      → offset_line_at (codes "standard ") text ≡ Some standard → offset_line_at (codes "summer ") standard.1 ≡ found
+      → IsReadAs text (or_bad 2 found (λ summer. or_bad 3 (change_line_at (codes "begin ") summer.1)
+      (λ begin. or_bad 4 (change_line_at (codes "end ") begin.1)
+      (λ end. whole (record { standard = standard.0; summer = summer.0; begin = begin.0; end = end.0 }) end.1))))
+  at_summer standard None p e =
+      (few, at_second text standard.1 (offset_stands _ text standard p) (offset_lacks _ standard.1 e))
   at_summer standard (Some summer) p e = at_begin standard summer (change_line_at (codes "begin ") summer.1) p e refl
 
   at_standard : (found : Option (ℤ × List ℕ)) → offset_line_at (codes "standard ") text ≡ found
-      → IsReadAs text (or_bad 1 found (λ standard. or_bad 2 (offset_line_at (codes "summer ") standard.1) (λ summer. or_bad 3 (change_line_at (codes "begin ") summer.1) (λ begin. or_bad 4 (change_line_at (codes "end ") begin.1) (λ end. whole (record { standard = standard.0; summer = summer.0; begin = begin.0; end = end.0 }) end.1)))))
+      → IsReadAs text (or_bad 1 found (λ standard. or_bad 2 (offset_line_at (codes "summer ") standard.1) (λ summer.
+      or_bad 3 (change_line_at (codes "begin ") summer.1) (λ begin. or_bad 4 (change_line_at (codes "end ") begin.1)
+      (λ end. whole (record { standard = standard.0; summer = summer.0; begin = begin.0; end = end.0 }) end.1)))))
   at_standard None e = (few, at_first text (offset_lacks _ text e))
   at_standard (Some standard) e = at_summer standard (offset_line_at (codes "summer ") standard.1) e refl
 
@@ -164,10 +197,25 @@ ended_by rule (c ∷ cs) some = refl
 breaks_there : (text : List ℕ) (line : ℕ) → BreaksAt text line → lines_read text ≡ Err (BadLine line)
 unfolding lines_read
 breaks_there text line (at_first t lacks) = rw (offset_lacking (codes "standard ") text lacks) refl
-breaks_there text line (at_second t a p lacks) = rw (offset_there (codes "standard ") text a p, offset_lacking (codes "summer ") a lacks) refl
-breaks_there text line (at_third t a b p q lacks) = rw (offset_there (codes "standard ") text a p, offset_there (codes "summer ") a b q, change_lacking (codes "begin ") b lacks) refl
-breaks_there text line (at_fourth t a b c p q r lacks) = rw (offset_there (codes "standard ") text a p, offset_there (codes "summer ") a b q, change_there (codes "begin ") b c r, change_lacking (codes "end ") c lacks) refl
-breaks_there text line (after_them t a b c d p q r s some) = rw (offset_there (codes "standard ") text a p, offset_there (codes "summer ") a b q, change_there (codes "begin ") b c r, change_there (codes "end ") c d s) (ended_by _ d some)
+breaks_there text line (at_second t a p lacks) =
+    rw (offset_there (codes "standard ") text a p, offset_lacking (codes "summer ") a lacks) refl
+breaks_there text line (at_third t a b p q lacks) = rw (
+  offset_there (codes "standard ") text a p,
+  offset_there (codes "summer ") a b q,
+  change_lacking (codes "begin ") b lacks,
+) refl
+breaks_there text line (at_fourth t a b c p q r lacks) = rw (
+  offset_there (codes "standard ") text a p,
+  offset_there (codes "summer ") a b q,
+  change_there (codes "begin ") b c r,
+  change_lacking (codes "end ") c lacks,
+) refl
+breaks_there text line (after_them t a b c d p q r s some) = rw (
+  offset_there (codes "standard ") text a p,
+  offset_there (codes "summer ") a b q,
+  change_there (codes "begin ") b c r,
+  change_there (codes "end ") c d s,
+) (ended_by _ d some)
 
 answered : (text : List ℕ) (answer : Result Rule RuleFault) → IsReadAs text answer → rules_read text ≡ answer
 unfolding rules_read
@@ -181,5 +229,6 @@ answered text (Err SameMonth) is =
     let same : eqb rule.begin.month rule.end.month ≡ true = eq-eqb rule.begin.month rule.end.month is.1.2 in
     short text is.0 ∙ (all_there text rule is.1.1 ∙ rw same refl)
 
-pub texts_say_rules : (text : List ℕ) (answer : Result Rule RuleFault) → (rules_read text ≡ answer) ↔ IsReadAs text answer
+pub texts_say_rules : (text : List ℕ) (answer : Result Rule RuleFault) → (rules_read text ≡ answer)
+    ↔ IsReadAs text answer
 texts_say_rules text answer = (λ e. subst (IsReadAs text) e (rules_are text), answered text answer)

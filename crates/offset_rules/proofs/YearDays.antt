@@ -1,15 +1,18 @@
 -- The days of a year by their months.
-use Rattle.std.proofs.Common.{◌≡◌, ℕ, zero, suc, ◌+◌, ◌-◌, ◌<◌, ◌≤◌, Bool, true, false, List, slice_index, sum, take, length, leb, if◌then◌else◌, refl, sym, subst, inl, inr, arith}
+use Rattle.std.proofs.Common.{◌≡◌, ℕ, zero, suc, ◌+◌, ◌-◌, ◌<◌, ◌≤◌, Bool, true, false, List, slice_index, sum, take}
+use Rattle.std.proofs.Common.{length, leb, if◌then◌else◌, refl, sym, subst, inl, inr, arith}
 use Rattle.std.specs.List.{list_all}
 use Rattle.std.proofs.lemmas.Bool.{cases_lt, leb-true}
 use Rattle.std.proofs.lemmas.List.Folds.{list_all_at}
 use Rattle.std.proofs.lemmas.Int.{ints}
 use Rattle.std.proofs.lemmas.List.Sums.{sum_by_more}
-use Rattle.interval_clock.specs.Calendar.{IsDate, date_after, day_number_of, days_of_month, days_of_months, days_of_year, days_of_years, is_leap_year, month_lengths, place_in_year}
+use Rattle.interval_clock.specs.Calendar.{IsDate, date_after, day_number_of, days_of_month, days_of_months}
+use Rattle.interval_clock.specs.Calendar.{days_of_year, days_of_years, is_leap_year, month_lengths, place_in_year}
 use Rattle.interval_clock.proofs.Laws.{IsDateOf-date_after, is_date_of_number}
 
 -- each number of a list is at least so great
-each_at_least : (low : ℕ) (xs : List ℕ) → list_all (λ x. leb low x) xs ≡ true → (place : ℕ) → place < length xs → low ≤ slice_index xs place
+each_at_least : (low : ℕ) (xs : List ℕ) → list_all (λ x. leb low x) xs ≡ true → (place : ℕ) → place < length xs
+    → low ≤ slice_index xs place
 each_at_least low xs all place lt = by (leb low (slice_index xs place)) refl
   where
     by : (b : Bool) → leb low (slice_index xs place) ≡ b → low ≤ slice_index xs place
@@ -25,20 +28,28 @@ long_month year month low high = by (is_leap_year year) month low high
     by false month low high = each_at_least 28 (month_lengths false) refl (month - 1) (omega arith)
 
 -- a month ends where the next one begins
-month_after : (year months : ℕ) → months < 12 → days_of_months year (suc months) ≡ days_of_months year months + slice_index (month_lengths (is_leap_year year)) months
+month_after : (year months : ℕ) → months < 12 → days_of_months year (suc months)
+    ≡ days_of_months year months + slice_index (month_lengths (is_leap_year year)) months
 unfolding days_of_months
 month_after year months lt =
     let next : months + 1 ≡ suc months = omega arith in
     rw next at (sum_by_more (λ (n : ℕ). n) (month_lengths (is_leap_year year)) months 0 (omega arith))
 
 -- and later months after it
-pub later_month : (year months later : ℕ) → months < later → later ≤ 12 → days_of_months year months + slice_index (month_lengths (is_leap_year year)) months ≤ days_of_months year later
+pub later_month : (year months later : ℕ) → months < later → later ≤ 12
+    → days_of_months year months + slice_index (month_lengths (is_leap_year year)) months ≤ days_of_months year later
 later_month year months zero after most = absurd (omega arith)
 later_month year months (suc later) after most =
-    let next : days_of_months year (suc later) ≡ days_of_months year later + slice_index (month_lengths (is_leap_year year)) later = month_after year later (omega arith) in
+    let next : days_of_months year (suc later) ≡ days_of_months year later
+    + slice_index (month_lengths (is_leap_year year)) later = month_after year later (omega arith) in
     elim (cases_lt months later) [
       | inl lt ↦ let rest = later_month year months later lt (omega arith) in omega (arith, rest, next)
-      | inr ge ↦ let same : later ≡ months = omega arith in subst (λ (m : ℕ). days_of_months year months + slice_index (month_lengths (is_leap_year year)) months ≤ days_of_months year (suc m)) (sym same) (omega (arith, subst (λ (m : ℕ). days_of_months year (suc m) ≡ days_of_months year m + slice_index (month_lengths (is_leap_year year)) m) same next))
+      | inr ge ↦ let same : later ≡ months = omega arith in subst (λ (m : ℕ). days_of_months year months
+          + slice_index (month_lengths (is_leap_year year)) months ≤ days_of_months year (suc m)) (sym same) (omega (
+            arith,
+            subst (λ (m : ℕ). days_of_months year (suc m)
+                ≡ days_of_months year m + slice_index (month_lengths (is_leap_year year)) m) same next,
+          ))
     ]
 
 -- twelve months are a year
@@ -61,7 +72,8 @@ within_year year month date is =
     omega (arith, later, whole_year year)
 
 -- the day number of a date, counted from the year 0 on
-count_of : (year month date : ℕ) → 1970 ≤ year → IsDate year month date → day_number_of year month date + days_of_years 1970 ≡ days_of_years year + place_in_year year month date
+count_of : (year month date : ℕ) → 1970 ≤ year → IsDate year month date
+    → day_number_of year month date + days_of_years 1970 ≡ days_of_years year + place_in_year year month date
 count_of year month date from is = omega (arith, ints, (is_date_of_number year month date from is).count)
 
 -- 1 January is a date
@@ -73,15 +85,26 @@ unfolding days_of_years
 next_year year = let next : year + 1 ≡ suc year = omega arith in rw next refl
 
 -- the days of a year stand between its first day and that of the next
-pub day_in_year : (year month date : ℕ) → 1970 ≤ year → IsDate year month date → (day_number_of year 1 1 ≤ day_number_of year month date) × (day_number_of year month date < day_number_of (year + 1) 1 1)
+pub day_in_year : (year month date : ℕ) → 1970 ≤ year → IsDate year month date → (day_number_of year 1 1
+    ≤ day_number_of year month date) × (day_number_of year month date < day_number_of (year + 1) 1 1)
 day_in_year year month date from is =
     let here = count_of year month date from is in
     let first = count_of year 1 1 from (first_is_date year) in
     let next = count_of (year + 1) 1 1 (omega arith) (first_is_date (year + 1)) in
-    omega (arith, here, first, next, next_year year, no_months year, no_months (year + 1), within_year year month date is)
+    omega (
+      arith,
+      here,
+      first,
+      next,
+      next_year year,
+      no_months year,
+      no_months (year + 1),
+      within_year year month date is,
+    )
 
 -- a day of a later month has a greater number
-pub later_day : (year month date later other : ℕ) → 1970 ≤ year → IsDate year month date → IsDate year later other → month < later → day_number_of year month date < day_number_of year later other
+pub later_day : (year month date later other : ℕ) → 1970 ≤ year → IsDate year month date → IsDate year later other
+    → month < later → day_number_of year month date < day_number_of year later other
 later_day year month date later other from is is_too after =
     let here = count_of year month date from is in
     let there = count_of year later other from is_too in
@@ -89,16 +112,28 @@ later_day year month date later other from is is_too after =
     omega (arith, here, there, months)
 
 -- the dates of a month follow one another
-pub day_by_day : (year month date : ℕ) → 1970 ≤ year → 1 ≤ month → month ≤ 12 → 1 ≤ date → day_number_of year month date + 1 ≡ day_number_of year month 1 + date
+pub day_by_day : (year month date : ℕ) → 1970 ≤ year → 1 ≤ month → month ≤ 12 → 1 ≤ date
+    → day_number_of year month date + 1 ≡ day_number_of year month 1 + date
 day_by_day year month date from low high first =
     let begins = count_of year month 1 from (omega (arith, long_month year month low high)) in
     omega (arith, begins)
 
 -- a day lies in the year of its date
-pub in_its_year : (day : ℕ) → 1970 ≤ (date_after day).year → (day_number_of (date_after day).year 1 1 ≤ day) × (day < day_number_of ((date_after day).year + 1) 1 1)
+pub in_its_year : (day : ℕ) → 1970 ≤ (date_after day).year
+    → (day_number_of (date_after day).year 1 1 ≤ day) × (day < day_number_of ((date_after day).year + 1) 1 1)
 in_its_year day from =
     let d = date_after day in
     let is = IsDateOf-date_after day in
     let first = count_of d.year 1 1 from (first_is_date d.year) in
     let next = count_of (d.year + 1) 1 1 (omega arith) (first_is_date (d.year + 1)) in
-    omega (arith, ints, is.count, first, next, next_year d.year, no_months d.year, no_months (d.year + 1), within_year d.year d.month d.date (is.month_in, is.date_in.0, is.date_in.1))
+    omega (
+      arith,
+      ints,
+      is.count,
+      first,
+      next,
+      next_year d.year,
+      no_months d.year,
+      no_months (d.year + 1),
+      within_year d.year d.month d.date (is.month_in, is.date_in.0, is.date_in.1),
+    )

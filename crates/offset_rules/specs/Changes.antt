@@ -14,8 +14,8 @@ times_before year month weekday date =
     length (filter (λ earlier. weekday_on year month earlier == weekday) (range_with_len 1 (date - 1)))
 
 -- a weekday comes no more in a month after a date if each later date of the month has another weekday
-abbrev pub ComesNoMore : (year month weekday date : ℕ) → Type 0
-ComesNoMore year month weekday date =
+abbrev pub IsLastInMonth : (year month weekday date : ℕ) → Type 0
+IsLastInMonth year month weekday date =
     (later : ℕ) → date < later → IsDate year month later → weekday_on year month later ≢ weekday
 
 -- a change comes on the date of its month that has its weekday and before which that weekday comes one time less than
@@ -25,7 +25,7 @@ pub record IsDateOfChange (year : ℕ) (change : Change) (date : ℕ) : Type 0 w
   pub weekday : weekday_on year change.month date ≡ change.weekday
   pub named :
       ((change.number ≤ 4) × (times_before year change.month change.weekday date + 1 ≡ change.number))
-      ⊎ ((change.number ≡ 5) × ComesNoMore year change.month change.weekday date)
+      ⊎ ((change.number ≡ 5) × IsLastInMonth year change.month change.weekday date)
 
 -- the dates of a month on a weekday are those that fall on it, in order
 abbrev pub dates_on : (year month weekday : ℕ) → List ℕ

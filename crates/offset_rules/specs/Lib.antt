@@ -4,6 +4,6 @@ pub mod Names
 pub mod Pairs
 pub mod Reading
 pub mod Rule
-pub mod Says
+pub mod RulesText
 pub mod Summer
 pub mod Texts

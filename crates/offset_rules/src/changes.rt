@@ -14,7 +14,7 @@ use taxi_units::days_of_month;
 pub(crate) const SECONDS_OF_DAY: u64 = 86_400;
 
 /// The day number of a date that the calendar has.
-fn number_of(year: u16, month: u8, date: u8) -> u32
+fn number_of_date(year: u16, month: u8, date: u8) -> u32
     requires from { 1970 ≤ year }
     requires to { year ≤ 9999 }
     requires there { IsDate year month date }
@@ -30,7 +30,7 @@ pub(crate) fn first_second_of(year: u16) -> u64
     requires to { year ≤ 9999 }
     ensures { result ≡ spec_summer.first_second_of year }
 {
-    number_of(year, 1, 1) as u64 * SECONDS_OF_DAY
+    number_of_date(year, 1, 1) as u64 * SECONDS_OF_DAY
 }
 
 /// The weekday of a day number.
@@ -49,7 +49,7 @@ pub(crate) fn date_of_change(year: u16, change: Change) -> u8
     ensures value { result ≡ spec.date_of_change year change }
     ensures date { IsDateOfChange year change result }
 {
-    let begins = weekday(number_of(year, change.month, 1));
+    let begins = weekday(number_of_date(year, change.month, 1));
     let first = 1 + (7 + change.weekday - begins) % 7;
     if change.number < 5 {
         first + 7 * (change.number - 1)
@@ -66,6 +66,6 @@ pub(crate) fn second_of_change(year: u16, change: Change) -> u64
     requires change { IsChange change }
     ensures { result ≡ spec.second_of_change year change }
 {
-    let day = number_of(year, change.month, date_of_change(year, change));
+    let day = number_of_date(year, change.month, date_of_change(year, change));
     day as u64 * SECONDS_OF_DAY + change.minute as u64 * 60
 }

@@ -3,7 +3,7 @@ ghost use Rattle.std.specs.Prelude.{◌≡◌, IfSome};
 ghost use Rattle.interval_clock.specs.Offsets.{IsOffset};
 ghost use Rattle.offset_rules.specs.Reading.{change_line_at, lines_read, offset_line_at, rules_read};
 ghost use Rattle.offset_rules.specs.Rule.{IsChange};
-ghost use Rattle.offset_rules.specs.Says.{IsReadAs};
+ghost use Rattle.offset_rules.specs.RulesText.{IsReadAs};
 ghost use Rattle.taxi_units.specs.Reading.{Gives};
 
 use crate::fault::RuleFault;

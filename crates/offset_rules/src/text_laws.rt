@@ -2,7 +2,7 @@
 ghost use Rattle.std.specs.Prelude.{◌≡◌, ◌↔◌, ℕ, List, Result, Ok};
 ghost use Rattle.offset_rules.specs.Reading.{rules_read};
 ghost use Rattle.offset_rules.specs.Rule.{IsRule, Rule};
-ghost use Rattle.offset_rules.specs.Says.{IsReadAs};
+ghost use Rattle.offset_rules.specs.RulesText.{IsReadAs};
 ghost use Rattle.offset_rules.specs.Texts.{plain_text};
 ghost use Rattle.offset_rules.specs.declared.fault.RuleFault.{RuleFault};
 

@@ -6,5 +6,6 @@ use Rattle.outside.specs.Disk.{IsImage}
 pub are_bytes : (image : List ℕ) → ((place : ℕ) → Fits w8 (get_or image place 0)) → AreBytes image
 are_bytes image each = λ place. (each place).fits
 
-pub is_image : {size : ℕ} (image : List ℕ) → length image ≡ size → ((place : ℕ) → Fits w8 (get_or image place 0)) → IsImage size image
+pub is_image : {size : ℕ} (image : List ℕ) → length image ≡ size → ((place : ℕ) → Fits w8 (get_or image place 0))
+    → IsImage size image
 is_image image long each = record { long = long; small = are_bytes image each }

@@ -2,7 +2,7 @@
 ghost use Rattle.std.specs.Prelude.{◌≡◌, ◌+◌, ◌^◌, ◌<◌, ◌≤◌, [], length, IfOk};
 ghost use Rattle.outside.specs.Calls.{IsInSome, opened};
 ghost use Rattle.outside.specs.Disk.{piece_size, IsImage, IsPiece, SameBut};
-ghost use Rattle.outside.specs.MemoryBoard.{Memory, IsNew, new_board, faults_of, held_inside, image_of, in_flight_of};
+ghost use Rattle.outside.specs.MemoryBoard.{Memory, IsNew, new_board, faults_of, contents_inside, image_of, in_flight_of};
 ghost use Rattle.outside.specs.MemoryBoard.{left_since_of, moment_of, text_of};
 ghost use Rattle.outside.specs.MemoryCalls.{PrintsPiece, ReadsPiece, SyncsStore, WritesPiece};
 ghost use Rattle.outside.specs.MomentLaws.{counts_now, only_now};
@@ -87,11 +87,11 @@ impl<const N: usize> MemoryDevice<N> {
     /// gave before the call.
     pub fn cut(&self, call: u64, fill: Fill) -> [u8; N]
         requires { call ≤ length self.now.state.calls }
-        ensures left { left_since_of self.now.state 0 result (held_inside self.now.state call).text }
-        ensures inside { SameBut (IsInSome (held_inside self.now.state call).ranges)
-            (held_inside self.now.state call).image result }
-        ensures settled { (held_inside self.now.state call).ranges ≡ []
-            → result ≡ (held_inside self.now.state call).image }
+        ensures left { left_since_of self.now.state 0 result (contents_inside self.now.state call).text }
+        ensures inside { SameBut (IsInSome (contents_inside self.now.state call).ranges)
+            (contents_inside self.now.state call).image result }
+        ensures settled { (contents_inside self.now.state call).ranges ≡ []
+            → result ≡ (contents_inside self.now.state call).image }
         ensures zero { call ≡ 0 → result ≡ self.now.state.start }
     {
         let mut image = [0; N];
@@ -116,11 +116,11 @@ impl<const N: usize> MemoryDevice<N> {
         requires image { length image.old ≡ N }
         requires settled { length settled.old ≡ N }
         requires left { length left.old ≡ N }
-        ensures left { left_since_of self.now.state 0 left.new (held_inside self.now.state call).text }
-        ensures inside { SameBut (IsInSome (held_inside self.now.state call).ranges)
-            (held_inside self.now.state call).image left.new }
-        ensures settled { (held_inside self.now.state call).ranges ≡ []
-            → left.new ≡ (held_inside self.now.state call).image }
+        ensures left { left_since_of self.now.state 0 left.new (contents_inside self.now.state call).text }
+        ensures inside { SameBut (IsInSome (contents_inside self.now.state call).ranges)
+            (contents_inside self.now.state call).image left.new }
+        ensures settled { (contents_inside self.now.state call).ranges ≡ []
+            → left.new ≡ (contents_inside self.now.state call).image }
         ensures zero { call ≡ 0 → left.new ≡ self.now.state.start }
     {
         self.state.cut_into(call, fill, image, settled, left);

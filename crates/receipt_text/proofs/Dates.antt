@@ -1,10 +1,13 @@
 -- What is written of a date, a day or a local time is read again.
-use Rattle.std.proofs.Common.{◌≡◌, ℕ, zero, suc, ◌+◌, ◌-◌, ◌*◌, ◌/◌, ◌%◌, ◌<◌, ◌≤◌, Bool, true, false, if◌then◌else◌, ℤ, pos, ◌≤ℤ◌, unsigned_abs, List, [], ◌∷◌, ◌++◌, get_or, refl, ap, ◌∙◌, subst, arith, Some, inl, inr, append_assoc}
+use Rattle.std.proofs.Common.{◌≡◌, ℕ, zero, suc, ◌+◌, ◌-◌, ◌*◌, ◌/◌, ◌%◌, ◌<◌, ◌≤◌, Bool, true, false, if◌then◌else◌, ℤ}
+use Rattle.std.proofs.Common.{pos, ◌≤ℤ◌, unsigned_abs, List, [], ◌∷◌, ◌++◌, get_or, refl, ap, ◌∙◌, subst, arith, Some}
+use Rattle.std.proofs.Common.{inl, inr, append_assoc}
 use Rattle.std.specs.Char.{digit_value}
 use Rattle.std.specs.List.{AllByRecursion}
 use Rattle.std.proofs.lemmas.Bool.{le-leb, le-ltb, lt-ltb, cases_lt}
 use Rattle.std.proofs.lemmas.Int.{ints}
-use Rattle.interval_clock.specs.Calendar.{date_after, day_number_of, days_of_month, days_of_year, days_of_years, is_date, is_leap_year, month_lengths, next_date}
+use Rattle.interval_clock.specs.Calendar.{date_after, day_number_of, days_of_month, days_of_year, days_of_years}
+use Rattle.interval_clock.specs.Calendar.{is_date, is_leap_year, month_lengths, next_date}
 use Rattle.interval_clock.specs.declared.day_numbers.CalendarDate.{CalendarDate}
 use Rattle.interval_clock.proofs.Laws.{IsDateOf-date_after, one_day_number}
 use Rattle.taxi_units.specs.Number.{padded_text}
@@ -20,19 +23,53 @@ at_most (x ∷ xs) zero all = all.0
 at_most (x ∷ xs) (suc i) all = at_most xs i all.1
 
 lengths_small : (leap : Bool) → AllByRecursion (λ x. x ≤ 31) (month_lengths leap)
-lengths_small true = (omega arith, (omega arith, (omega arith, (omega arith, (omega arith, (omega arith, (omega arith, (omega arith, (omega arith, (omega arith, (omega arith, (omega arith, tt))))))))))))
-lengths_small false = (omega arith, (omega arith, (omega arith, (omega arith, (omega arith, (omega arith, (omega arith, (omega arith, (omega arith, (omega arith, (omega arith, (omega arith, tt))))))))))))
+lengths_small true = (
+  omega arith,
+  (
+    omega arith,
+    (
+      omega arith,
+      (
+        omega arith,
+        (
+          omega arith,
+          (omega arith, (omega arith, (omega arith, (omega arith, (omega arith, (omega arith, (omega arith, tt))))))),
+        ),
+      ),
+    ),
+  ),
+)
+lengths_small false = (
+  omega arith,
+  (
+    omega arith,
+    (
+      omega arith,
+      (
+        omega arith,
+        (
+          omega arith,
+          (omega arith, (omega arith, (omega arith, (omega arith, (omega arith, (omega arith, (omega arith, tt))))))),
+        ),
+      ),
+    ),
+  ),
+)
 
 -- a month has at most 31 days
 pub month_small : (year month : ℕ) → days_of_month year month ≤ 31
 month_small year month = at_most (month_lengths (is_leap_year year)) (month - 1) (lengths_small (is_leap_year year))
 
 -- a date
-pub date_again : (year month date c : ℕ) (rest : List ℕ) → year < 10000 → month < 100 → date < 100 → 10 ≤ digit_value c → date_at (date_text year month date ++ c ∷ rest) ≡ Some (record { year = year; month = month; date = date }, c ∷ rest)
+pub date_again : (year month date c : ℕ) (rest : List ℕ) → year < 10000 → month < 100 → date < 100 → 10 ≤ digit_value c
+    → date_at (date_text year month date ++ c ∷ rest)
+    ≡ Some (record { year = year; month = month; date = date }, c ∷ rest)
 unfolding date_at
 date_again year month date c rest hy hm hd stops =
-    let text : date_text year month date ++ c ∷ rest ≡ padded_text 4 year ++ 45 ∷ (padded_text 2 month ++ 45 ∷ (padded_text 2 date ++ c ∷ rest)) = simp append_assoc in
-    let y = padded_again 10000 4 year (padded_text 2 month ++ 45 ∷ (padded_text 2 date ++ c ∷ rest)) 45 hy (omega arith) (omega arith) in
+    let text : date_text year month date ++ c ∷ rest
+    ≡ padded_text 4 year ++ 45 ∷ (padded_text 2 month ++ 45 ∷ (padded_text 2 date ++ c ∷ rest)) = simp append_assoc in
+    let y = padded_again 10000 4 year (padded_text 2 month ++ 45 ∷ (padded_text 2 date ++ c ∷ rest)) 45 hy (omega arith)
+    (omega arith) in
     let a = word_again (45 ∷ []) (padded_text 2 month ++ 45 ∷ (padded_text 2 date ++ c ∷ rest)) in
     let m = padded_again 100 2 month (padded_text 2 date ++ c ∷ rest) 45 hm (omega arith) (omega arith) in
     let b = word_again (45 ∷ []) (padded_text 2 date ++ c ∷ rest) in
@@ -40,29 +77,37 @@ date_again year month date c rest hy hm hd stops =
     ap date_at text ∙ rw (y, a, m, b, d) refl
 
 -- a second of the day
-time_again : (second c : ℕ) (rest : List ℕ) → second ≤ 86399 → 10 ≤ digit_value c → time_at (time_text second ++ c ∷ rest) ≡ Some (second, c ∷ rest)
+time_again : (second c : ℕ) (rest : List ℕ) → second ≤ 86399 → 10 ≤ digit_value c
+    → time_at (time_text second ++ c ∷ rest) ≡ Some (second, c ∷ rest)
 unfolding time_at
 time_again second c rest small stops =
     let hours = second / 3600 in
     let minutes = second / 60 % 60 in
     let seconds = second % 60 in
-    let text : time_text second ++ c ∷ rest ≡ padded_text 2 hours ++ 58 ∷ (padded_text 2 minutes ++ 58 ∷ (padded_text 2 seconds ++ c ∷ rest)) = simp append_assoc in
-    let h = padded_again 100 2 hours (padded_text 2 minutes ++ 58 ∷ (padded_text 2 seconds ++ c ∷ rest)) 58 (omega arith) (omega arith) (omega arith) in
+    let text : time_text second ++ c ∷ rest ≡ padded_text 2 hours ++ 58
+    ∷ (padded_text 2 minutes ++ 58 ∷ (padded_text 2 seconds ++ c ∷ rest)) = simp append_assoc in
+    let h = padded_again 100 2 hours (padded_text 2 minutes ++ 58 ∷ (padded_text 2 seconds ++ c ∷ rest)) 58
+    (omega arith) (omega arith) (omega arith) in
     let a = word_again (58 ∷ []) (padded_text 2 minutes ++ 58 ∷ (padded_text 2 seconds ++ c ∷ rest)) in
-    let m = padded_again 100 2 minutes (padded_text 2 seconds ++ c ∷ rest) 58 (omega arith) (omega arith) (omega arith) in
+    let m =
+    padded_again 100 2 minutes (padded_text 2 seconds ++ c ∷ rest) 58 (omega arith) (omega arith) (omega arith) in
     let b = word_again (58 ∷ []) (padded_text 2 seconds ++ c ∷ rest) in
     let s = padded_again 100 2 seconds rest c (omega arith) (omega arith) stops in
     let sum : hours * 3600 + minutes * 60 + seconds ≡ second = omega arith in
     ap time_at text ∙ rw (h, a, m, b, s, sum) refl
 
 -- a local date and time
-pub stamp_again : (stamp : Stamp) (c : ℕ) (rest : List ℕ) → IsStamp stamp → 10 ≤ digit_value c → stamp_at (stamp_text stamp ++ c ∷ rest) ≡ Some (stamp, c ∷ rest)
+pub stamp_again : (stamp : Stamp) (c : ℕ) (rest : List ℕ) → IsStamp stamp → 10 ≤ digit_value c
+    → stamp_at (stamp_text stamp ++ c ∷ rest) ≡ Some (stamp, c ∷ rest)
 unfolding stamp_at stamp_text
 stamp_again stamp c rest is stops =
     let time = time_text stamp.second ++ c ∷ rest in
-    let text : (date_text stamp.year stamp.month stamp.date ++ 32 ∷ time_text stamp.second) ++ c ∷ rest ≡ date_text stamp.year stamp.month stamp.date ++ 32 ∷ time = append_assoc (date_text stamp.year stamp.month stamp.date) (32 ∷ time_text stamp.second) (c ∷ rest) in
+    let text : (date_text stamp.year stamp.month stamp.date ++ 32 ∷ time_text stamp.second) ++ c ∷ rest
+    ≡ date_text stamp.year stamp.month stamp.date ++ 32 ∷ time =
+    append_assoc (date_text stamp.year stamp.month stamp.date) (32 ∷ time_text stamp.second) (c ∷ rest) in
     let small = month_small stamp.year stamp.month in
-    let d = date_again stamp.year stamp.month stamp.date 32 time (omega (arith, is.year)) (omega (arith, is.date)) (omega (arith, is.date)) (omega arith) in
+    let d = date_again stamp.year stamp.month stamp.date 32 time (omega (arith, is.year)) (omega (arith, is.date))
+    (omega (arith, is.date)) (omega arith) in
     let a = word_again (32 ∷ []) time in
     let s = time_again stamp.second c rest is.second stops in
     ap stamp_at text ∙ rw (d, a, s) refl
@@ -111,31 +156,44 @@ year_below day few =
     let long = rw same at (years_long 1970 (year - 1970)) in
     grind (arith, ints, is.count, long, few, from)
 
-is_date_true : (year month date : ℕ) → (1 ≤ month) × (month ≤ 12) → (1 ≤ date) × (date ≤ days_of_month year month) → is_date year month date ≡ true
-is_date_true year month date m d = rw (le-leb 1 month m.0, le-leb month 12 m.1, le-leb 1 date d.0, le-leb date (days_of_month year month) d.1) refl
+is_date_true : (year month date : ℕ) → (1 ≤ month) × (month ≤ 12) → (1 ≤ date) × (date ≤ days_of_month year month)
+    → is_date year month date ≡ true
+is_date_true year month date m d =
+    rw (le-leb 1 month m.0, le-leb month 12 m.1, le-leb 1 date d.0, le-leb date (days_of_month year month) d.1) refl
 
 day_of_again : (day : ℕ) → 10957 ≤ day → day ≤ 84005 → day_of (date_after day) ≡ Some (pos day)
 day_of_again day low high =
     let is = IsDateOf-date_after day in
     let d = date_after day in
     let from = year_from day in
-    let number : pos day ≡ pos (day_number_of d.year d.month d.date) = one_day_number (pos day) d.year d.month d.date from is in
+    let number : pos day ≡ pos (day_number_of d.year d.month d.date) =
+    one_day_number (pos day) d.year d.month d.date from is in
     let number_is : day_number_of d.year d.month d.date ≡ day = cc in
-    rw (le-leb 1970 d.year from, is_date_true d.year d.month d.date is.month_in is.date_in, number_is, le-leb 10957 day low, le-leb day 84005 high) refl
+    rw (
+      le-leb 1970 d.year from,
+      is_date_true d.year d.month d.date is.month_in is.date_in,
+      number_is,
+      le-leb 10957 day low,
+      le-leb day 84005 high,
+    ) refl
 
-days_again : (day c : ℕ) (rest : List ℕ) → 10957 ≤ day → day ≤ 84005 → 10 ≤ digit_value c → day_at (day_text (pos day) ++ c ∷ rest) ≡ Some (pos day, c ∷ rest)
+days_again : (day c : ℕ) (rest : List ℕ) → 10957 ≤ day → day ≤ 84005 → 10 ≤ digit_value c
+    → day_at (day_text (pos day) ++ c ∷ rest) ≡ Some (pos day, c ∷ rest)
 unfolding day_at day_text
 days_again day c rest low high stops =
     let is = IsDateOf-date_after day in
     let d = date_after day in
     let small = month_small d.year d.month in
-    let a = date_again d.year d.month d.date c rest (year_below day high) (omega (arith, is.month_in)) (omega (arith, is.date_in, small)) stops in
+    let a = date_again d.year d.month d.date c rest (year_below day high) (omega (arith, is.month_in))
+    (omega (arith, is.date_in, small)) stops in
     rw (a, day_of_again day low high) refl
 
 -- a day
-pub day_again : (day : ℤ) (c : ℕ) (rest : List ℕ) → pos 10957 ≤ℤ day → day ≤ℤ pos 84005 → 10 ≤ digit_value c → day_at (day_text day ++ c ∷ rest) ≡ Some (day, c ∷ rest)
+pub day_again : (day : ℤ) (c : ℕ) (rest : List ℕ) → pos 10957 ≤ℤ day → day ≤ℤ pos 84005 → 10 ≤ digit_value c
+    → day_at (day_text day ++ c ∷ rest) ≡ Some (day, c ∷ rest)
 day_again day c rest low high stops =
     let is : pos (unsigned_abs day) ≡ day = grind (arith, ints, low, high) in
     let from : 10957 ≤ unsigned_abs day = grind (arith, ints, low, high) in
     let to : unsigned_abs day ≤ 84005 = grind (arith, ints, low, high) in
-    subst (λ (z : ℤ). day_at (day_text z ++ c ∷ rest) ≡ Some (z, c ∷ rest)) is (days_again (unsigned_abs day) c rest from to stops)
+    subst (λ (z : ℤ). day_at (day_text z ++ c ∷ rest) ≡ Some (z, c ∷ rest)) is
+    (days_again (unsigned_abs day) c rest from to stops)

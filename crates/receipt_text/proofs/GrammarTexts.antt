@@ -1,5 +1,6 @@
 -- A text is a receipt exactly where it is the one that is written.
-use Rattle.std.proofs.Common.{◌≡◌, ◌≢◌, ◌∙◌, ◌↔◌, ℕ, ◌+◌, ◌/◌, ◌%◌, ◌^◌, ◌<◌, ◌≤◌, inl, inr, List, [], ◌∷◌, ◌++◌, refl, ap, sym, subst, arith, eqb, false, append_assoc, ℤ, pos, ◌≤ℤ◌, unsigned_abs}
+use Rattle.std.proofs.Common.{◌≡◌, ◌≢◌, ◌∙◌, ◌↔◌, ℕ, ◌+◌, ◌/◌, ◌%◌, ◌^◌, ◌<◌, ◌≤◌, inl, inr, List, [], ◌∷◌, ◌++◌, refl}
+use Rattle.std.proofs.Common.{ap, sym, subst, arith, eqb, false, append_assoc, ℤ, pos, ◌≤ℤ◌, unsigned_abs}
 use Rattle.std.specs.Prelude.{codes}
 use Rattle.std.specs.Fmt.{decimal}
 use Rattle.std.specs.List.{AllByRecursion}
@@ -15,10 +16,16 @@ use Rattle.taxi_units.specs.declared.receipt.Kind.{Kind}
 use Rattle.taxi_units.specs.declared.receipt.Kind.TheVariants.{Closed, Aborted, Expired, Roam}
 use Rattle.taxi_units.specs.declared.receipt.Receipt.{Receipt}
 use Rattle.taxi_units.specs.declared.receipt.Stamp.{Stamp}
-use Rattle.taxi_units.proofs.Laws.{amounts_are_written_by_their_digits, numbers_are_written_by_their_digits, padded_numbers_are_written_by_their_digits}
-use Rattle.receipt_text.specs.Grammar.{AreAmounts, AreLines, AreTripLines, HasMinimum, IsCalculation, IsDateText, IsDayText, IsDistance, IsExactly, IsHexDigit, IsHexText, IsKind, IsMoney, IsReceiptText, IsStampText, IsTimeText, Line}
+use Rattle.taxi_units.proofs.Laws.{amounts_are_written_by_their_digits, numbers_are_written_by_their_digits}
+use Rattle.taxi_units.proofs.Laws.{padded_numbers_are_written_by_their_digits}
+use Rattle.receipt_text.specs.Grammar.{AreAmounts, AreLines, AreTripLines, HasMinimum, IsCalculation, IsDateText}
+use Rattle.receipt_text.specs.Grammar.{IsDayText, IsDistance, IsExactly, IsHexDigit, IsHexText, IsKind, IsMoney}
+use Rattle.receipt_text.specs.Grammar.{IsReceiptText, IsStampText, IsTimeText, Line}
 use Rattle.receipt_text.specs.Part.{Part, IsPart}
-use Rattle.receipt_text.specs.Receipts.{body_text, calculation_text, course_text, date_text, day_text, fare_text, heading_text, hex_digit, hex_text, kind_text, minimum_text, part_text, receipt_text, stamp_text, sums_text, supplements_text, time_text, total_text, trip_text}
+use Rattle.receipt_text.specs.Receipts.{body_text, calculation_text, course_text, date_text, day_text, fare_text}
+use Rattle.receipt_text.specs.Receipts.{heading_text, hex_digit, hex_text, kind_text, minimum_text, part_text}
+use Rattle.receipt_text.specs.Receipts.{receipt_text, stamp_text, sums_text, supplements_text, time_text, total_text}
+use Rattle.receipt_text.specs.Receipts.{trip_text}
 use Rattle.receipt_text.specs.Spelling.{IsSpelled}
 use Rattle.receipt_text.proofs.Dates.{month_small, year_below}
 use Rattle.taxi_units.specs.Limits.{largest_supplements}
@@ -52,7 +59,8 @@ kind_only Aborted h text = (λ h. h, λ h. h)
 kind_only Expired h text = (λ h. h, λ h. h)
 kind_only Roam h text = absurd (h refl)
 
-date_only : (year month date : ℕ) → year < 2 ^ 128 → month < 2 ^ 128 → date < 2 ^ 128 → Only (IsDateText year month date) (date_text year month date)
+date_only : (year month date : ℕ) → year < 2 ^ 128 → month < 2 ^ 128 → date < 2 ^ 128
+    → Only (IsDateText year month date) (date_text year month date)
 date_only year month date hy hm hd text = (
   λ h.
       let y = (padded_only 4 year hy h.years).0 h.years_are in
@@ -100,7 +108,8 @@ stamp_only : (stamp : Stamp) → IsStamp stamp → Only (IsStampText stamp) (sta
 unfolding stamp_text
 stamp_only stamp is text =
     let small = month_small stamp.year stamp.month in
-    let date = date_only stamp.year stamp.month stamp.date (omega (arith, is.year)) (omega (arith, is.date)) (omega (arith, is.date, small)) in
+    let date = date_only stamp.year stamp.month stamp.date (omega (arith, is.year)) (omega (arith, is.date))
+    (omega (arith, is.date, small)) in
     let time = time_only stamp.second is.second in (
       λ h.
           let d = (date h.date).0 h.date_is in
@@ -124,9 +133,11 @@ days_only n few text =
     let d = date_after n in
     let is = IsDateOf-date_after n in
     let small = month_small d.year d.month in
-    let date = date_only d.year d.month d.date (omega (arith, year_below n few)) (omega (arith, is.month_in)) (omega (arith, is.date_in, small)) in (
+    let date = date_only d.year d.month d.date (omega (arith, year_below n few)) (omega (arith, is.month_in))
+    (omega (arith, is.date_in, small)) in (
       λ h.
-          let same : calendar_date h.year h.month h.date ≡ d = IsDateOf-only (pos n) (calendar_date h.year h.month h.date) d h.date_is is in
+          let same : calendar_date h.year h.month h.date ≡ d =
+          IsDateOf-only (pos n) (calendar_date h.year h.month h.date) d h.date_is is in
           let text_is = subst (λ (x : CalendarDate). IsDateText x.year x.month x.date text) same h.text_is in
           (date text).0 text_is,
       λ e. record { year = d.year; month = d.month; date = d.date; date_is = is; text_is = (date text).1 e },
@@ -162,17 +173,34 @@ hex_only (byte ∷ bytes) all text = (
       let d = digit_only h.1 h.3 h.8 in
       let rest = (hex_only bytes all.1 h.4).0 h.9 in
       h.5 ∙ rw (c, d, rest, high, low) refl,
-  λ e. (byte / 16, byte % 16, hex_digit (byte / 16), hex_digit (byte % 16), hex_text bytes, e, omega arith, digit_is (byte / 16) (omega (arith, all.0)), digit_is (byte % 16) (omega arith), (hex_only bytes all.1 (hex_text bytes)).1 refl),
+  λ e. (
+    byte / 16,
+    byte % 16,
+    hex_digit (byte / 16),
+    hex_digit (byte % 16),
+    hex_text bytes,
+    e,
+    omega arith,
+    digit_is (byte / 16) (omega (arith, all.0)),
+    digit_is (byte % 16) (omega arith),
+    (hex_only bytes all.1 (hex_text bytes)).1 refl,
+  ),
 )
 
-distance_only : (millimetres : ℕ) → millimetres < 2 ^ 128 → Only (IsDistance millimetres) (money_text 3 millimetres ++ codes " m")
+distance_only : (millimetres : ℕ) → millimetres < 2 ^ 128
+    → Only (IsDistance millimetres) (money_text 3 millimetres ++ codes " m")
 distance_only millimetres small text = (
   λ h. h.text_is ∙ ap (λ (t : List ℕ). t ++ codes " m") ((amount_only 3 millimetres small h.metres).0 h.metres_are),
-  λ e. record { metres = money_text 3 millimetres; text_is = e; metres_are = (amount_only 3 millimetres small (money_text 3 millimetres)).1 refl },
+  λ e. record {
+    metres = money_text 3 millimetres;
+    text_is = e;
+    metres_are = (amount_only 3 millimetres small (money_text 3 millimetres)).1 refl;
+  },
 )
 
 abbrev calculated : Receipt → List ℕ
-calculated r = money_text r.decimals r.initial ++ (codes " + " ++ (decimal r.steps ++ (codes " x " ++ money_text r.decimals r.step)))
+calculated r = money_text r.decimals r.initial
+    ++ (codes " + " ++ (decimal r.steps ++ (codes " x " ++ money_text r.decimals r.step)))
 
 calculation_only : (r : Receipt) → IsReceipt r → Only (IsCalculation r) (calculated r)
 calculation_only r is text =
@@ -196,7 +224,8 @@ calculation_only r is text =
     )
 
 -- a line has one text, where its value and what stands after it have one
-line_only : (word spelled after : List ℕ) (Value Rest : List ℕ → Type 0) → Only Value spelled → Only Rest after → Only (Line word Value Rest) (word ++ (spelled ++ 10 ∷ after))
+line_only : (word spelled after : List ℕ) (Value Rest : List ℕ → Type 0) → Only Value spelled → Only Rest after
+    → Only (Line word Value Rest) (word ++ (spelled ++ 10 ∷ after))
 line_only word spelled after Value Rest value rest text = (
   λ h.
       let v = (value h.value).0 h.value_is in
@@ -213,61 +242,88 @@ line_only word spelled after Value Rest value rest text = (
 
 abbrev amount_lines : Receipt → List ℕ
 amount_lines r =
-    codes "FARE " ++ (money_text r.decimals r.fare ++ 10 ∷ (codes "SUPPLEMENTS " ++ (money_text r.decimals r.supplements ++ 10 ∷ (codes "TOTAL " ++ (money_text r.decimals (r.fare + r.supplements) ++ 10 ∷ codes "END\n")))))
+    codes "FARE " ++ (money_text r.decimals r.fare ++ 10 ∷ (codes "SUPPLEMENTS " ++ (money_text r.decimals r.supplements
+    ++ 10 ∷ (codes "TOTAL " ++ (money_text r.decimals (r.fare + r.supplements) ++ 10 ∷ codes "END\n")))))
 
-amounts_only : (r : Receipt) → r.fare ≤ largest_amount → r.supplements ≤ largest_supplements → Only (AreAmounts r) (amount_lines r)
+amounts_only : (r : Receipt) → r.fare ≤ largest_amount → r.supplements ≤ largest_supplements
+    → Only (AreAmounts r) (amount_lines r)
 amounts_only r fare supplements =
-    let total = line_only (codes "TOTAL ") (money_text r.decimals (r.fare + r.supplements)) (codes "END\n") (IsMoney r (r.fare + r.supplements)) (IsExactly (codes "END\n")) (amount_only r.decimals (r.fare + r.supplements) (omega arith)) (exactly_only (codes "END\n")) in
-    let second = line_only (codes "SUPPLEMENTS ") (money_text r.decimals r.supplements) _ (IsMoney r r.supplements) _ (amount_only r.decimals r.supplements (omega arith)) total in
-    line_only (codes "FARE ") (money_text r.decimals r.fare) _ (IsMoney r r.fare) _ (amount_only r.decimals r.fare (omega arith)) second
+    let total = line_only (codes "TOTAL ") (money_text r.decimals (r.fare + r.supplements)) (codes "END\n")
+    (IsMoney r (r.fare + r.supplements)) (IsExactly (codes "END\n"))
+    (amount_only r.decimals (r.fare + r.supplements) (omega arith)) (exactly_only (codes "END\n")) in
+    let second = line_only (codes "SUPPLEMENTS ") (money_text r.decimals r.supplements) _ (IsMoney r r.supplements) _
+    (amount_only r.decimals r.supplements (omega arith)) total in
+    line_only (codes "FARE ") (money_text r.decimals r.fare) _ (IsMoney r r.fare) _
+    (amount_only r.decimals r.fare (omega arith)) second
 
 minimum_only : (r : Receipt) → IsReceipt r → Only (HasMinimum r) (minimum_text r.decimals r.minimum ++ amount_lines r)
 unfolding minimum_text
 minimum_only r is text =
     let fare_small : r.fare ≤ largest_amount = omega (arith, is.fare) in
     let amounts = amounts_only r fare_small is.supplements in
-    let line = line_only (codes "MINIMUM ") (money_text r.decimals r.minimum) (amount_lines r) (IsMoney r r.minimum) (AreAmounts r) (amount_only r.decimals r.minimum (omega (arith, is.minimum))) amounts text in
+    let line = line_only (codes "MINIMUM ") (money_text r.decimals r.minimum) (amount_lines r) (IsMoney r r.minimum)
+    (AreAmounts r) (amount_only r.decimals r.minimum (omega (arith, is.minimum))) amounts text in
     elim (cases_lt 0 r.minimum) [
       | inl some ↦
           let not_none : eqb r.minimum 0 ≡ false = ne_eqb r.minimum 0 (λ e. omega arith) in
-          let spelled : (codes "MINIMUM " ++ (money_text r.decimals r.minimum ++ codes "\n")) ++ amount_lines r ≡ codes "MINIMUM " ++ (money_text r.decimals r.minimum ++ 10 ∷ amount_lines r) = simp append_assoc in
-          rw (not_none, spelled) (λ h. elim h [ inl with ↦ line.0 with.1 | inr without ↦ absurd (omega (arith, without.0, some)) ], λ e. inl (some, line.1 e))
+          let spelled : (codes "MINIMUM " ++ (money_text r.decimals r.minimum ++ codes "\n")) ++ amount_lines r
+          ≡ codes "MINIMUM " ++ (money_text r.decimals r.minimum ++ 10 ∷ amount_lines r) = simp append_assoc in
+          rw (not_none, spelled) (
+            λ h. elim h [ inl with ↦ line.0 with.1 | inr without ↦ absurd (omega (arith, without.0, some)) ],
+            λ e. inl (some, line.1 e),
+          )
       | inr none ↦
           let zero_is : r.minimum ≡ 0 = omega arith in
-          rw zero_is (λ h. elim h [ inl with ↦ absurd (omega (arith, with.0)) | inr without ↦ (amounts text).0 without.1 ], λ e. inr (refl, (amounts text).1 e))
+          rw zero_is (
+            λ h. elim h [ inl with ↦ absurd (omega (arith, with.0)) | inr without ↦ (amounts text).0 without.1 ],
+            λ e. inr (refl, (amounts text).1 e),
+          )
     ]
 
 abbrev trip_lines : Receipt → List ℕ
 trip_lines r =
-    codes "START " ++ (stamp_text r.start ++ 10 ∷ (codes "FINISH " ++ (stamp_text r.finish ++ 10 ∷ (codes "POSITION " ++ (decimal r.position ++ 10 ∷ (codes "DISTANCE " ++ ((money_text 3 r.hired_mm ++ codes " m") ++ 10 ∷ (codes "CALC " ++ (calculated r ++ 10 ∷ (minimum_text r.decimals r.minimum ++ amount_lines r))))))))))
+    codes "START " ++ (stamp_text r.start ++ 10 ∷ (codes "FINISH " ++ (stamp_text r.finish ++ 10
+    ∷ (codes "POSITION " ++ (decimal r.position ++ 10 ∷ (codes "DISTANCE " ++ ((money_text 3 r.hired_mm ++ codes " m")
+    ++ 10 ∷ (codes "CALC " ++ (calculated r ++ 10 ∷ (minimum_text r.decimals r.minimum ++ amount_lines r))))))))))
 
 trip_only : (r : Receipt) → IsReceipt r → Only (AreTripLines r) (trip_lines r)
 trip_only r is =
-    let fifth = line_only (codes "CALC ") (calculated r) _ (IsCalculation r) (HasMinimum r) (calculation_only r is) (minimum_only r is) in
-    let fourth = line_only (codes "DISTANCE ") _ _ (IsDistance r.hired_mm) _ (distance_only r.hired_mm (omega (arith, is.distance))) fifth in
-    let third = line_only (codes "POSITION ") _ _ (IsNumberText r.position) _ (number_only r.position (omega (arith, is.position))) fourth in
+    let fifth = line_only (codes "CALC ") (calculated r) _ (IsCalculation r) (HasMinimum r) (calculation_only r is)
+    (minimum_only r is) in
+    let fourth = line_only (codes "DISTANCE ") _ _ (IsDistance r.hired_mm) _
+    (distance_only r.hired_mm (omega (arith, is.distance))) fifth in
+    let third = line_only (codes "POSITION ") _ _ (IsNumberText r.position) _
+    (number_only r.position (omega (arith, is.position))) fourth in
     let second = line_only (codes "FINISH ") _ _ (IsStampText r.finish) _ (stamp_only r.finish is.finish) third in
     line_only (codes "START ") _ _ (IsStampText r.start) _ (stamp_only r.start is.start) second
 
 abbrev all_lines : Receipt → Part → List ℕ
 all_lines r p =
-    codes "RECEIPT " ++ (decimal r.number ++ 10 ∷ (codes "KIND " ++ (kind_text r.kind ++ 10 ∷ (codes "TAXI " ++ (p.taxi ++ 10 ∷ (codes "CONSTANT " ++ (decimal p.constant ++ 10 ∷ (codes "SECURED " ++ (day_text p.secured ++ 10 ∷ (codes "TARIFF " ++ (hex_text p.digest ++ 10 ∷ trip_lines r)))))))))))
+    codes "RECEIPT " ++ (decimal r.number ++ 10 ∷ (codes "KIND " ++ (kind_text r.kind ++ 10
+    ∷ (codes "TAXI " ++ (p.taxi ++ 10 ∷ (codes "CONSTANT " ++ (decimal p.constant ++ 10 ∷ (codes "SECURED "
+    ++ (day_text p.secured ++ 10 ∷ (codes "TARIFF " ++ (hex_text p.digest ++ 10 ∷ trip_lines r)))))))))))
 
 lines_only : (r : Receipt) (p : Part) → IsReceipt r → IsPart p → Only (AreLines r p) (all_lines r p)
 lines_only r p is part_is =
-    let sixth = line_only (codes "TARIFF ") _ _ (IsHexText p.digest) (AreTripLines r) (hex_only p.digest part_is.digest.bytes) (trip_only r is) in
-    let fifth = line_only (codes "SECURED ") _ _ (IsDayText p.secured) _ (day_only p.secured part_is.secured.0 part_is.secured.1) sixth in
-    let fourth = line_only (codes "CONSTANT ") _ _ (IsNumberText p.constant) _ (number_only p.constant (omega (arith, part_is.constant))) fifth in
+    let sixth = line_only (codes "TARIFF ") _ _ (IsHexText p.digest) (AreTripLines r)
+    (hex_only p.digest part_is.digest.bytes) (trip_only r is) in
+    let fifth = line_only (codes "SECURED ") _ _ (IsDayText p.secured) _
+    (day_only p.secured part_is.secured.0 part_is.secured.1) sixth in
+    let fourth = line_only (codes "CONSTANT ") _ _ (IsNumberText p.constant) _
+    (number_only p.constant (omega (arith, part_is.constant))) fifth in
     let third = line_only (codes "TAXI ") _ _ (IsExactly p.taxi) _ (exactly_only p.taxi) fourth in
     let second = line_only (codes "KIND ") _ _ (IsKind r.kind) _ (kind_only r.kind is.kind) third in
     line_only (codes "RECEIPT ") _ _ (IsNumberText r.number) _ (number_only r.number (omega (arith, is.number))) second
 
 -- the written text, line by line
-heading_lines : (number : ℕ) (kind : Kind) (rest : List ℕ) → heading_text number kind ++ rest ≡ codes "RECEIPT " ++ (decimal number ++ 10 ∷ (codes "KIND " ++ (kind_text kind ++ 10 ∷ rest)))
+heading_lines : (number : ℕ) (kind : Kind) (rest : List ℕ) → heading_text number kind ++ rest
+    ≡ codes "RECEIPT " ++ (decimal number ++ 10 ∷ (codes "KIND " ++ (kind_text kind ++ 10 ∷ rest)))
 unfolding heading_text
 heading_lines number kind rest = simp append_assoc
 
-part_lines : (p : Part) (rest : List ℕ) → part_text p ++ rest ≡ codes "TAXI " ++ (p.taxi ++ 10 ∷ (codes "CONSTANT " ++ (decimal p.constant ++ 10 ∷ (codes "SECURED " ++ (day_text p.secured ++ 10 ∷ (codes "TARIFF " ++ (hex_text p.digest ++ 10 ∷ rest)))))))
+part_lines : (p : Part) (rest : List ℕ)
+    → part_text p ++ rest ≡ codes "TAXI " ++ (p.taxi ++ 10 ∷ (codes "CONSTANT " ++ (decimal p.constant ++ 10
+    ∷ (codes "SECURED " ++ (day_text p.secured ++ 10 ∷ (codes "TARIFF " ++ (hex_text p.digest ++ 10 ∷ rest)))))))
 unfolding part_text
 part_lines p rest = simp append_assoc
 
@@ -284,7 +340,8 @@ spelled_lines r p =
     rw (a, b, d) refl
 
 -- the grammar has exactly the texts that are written
-pub receipts_are_their_texts : (text : List ℕ) (receipt : Receipt) (part : Part) → IsReceiptText text receipt part ↔ IsSpelled text receipt part
+pub receipts_are_their_texts : (text : List ℕ) (receipt : Receipt) (part : Part) → IsReceiptText text receipt part
+    ↔ IsSpelled text receipt part
 receipts_are_their_texts text r p = (
   λ h. record {
     receipt_is = h.receipt_is;

@@ -1,5 +1,6 @@
 -- How long receipts are.
-use Rattle.std.proofs.Common.{◌≡◌, ℕ, ◌+◌, ◌*◌, ◌/◌, ◌%◌, ◌^◌, ◌<◌, ◌≤◌, List, [], ◌∷◌, ◌++◌, length, refl, inl, inr, arith, length-append, eqb, false, ℤ, pos, ◌≤ℤ◌, unsigned_abs}
+use Rattle.std.proofs.Common.{◌≡◌, ℕ, ◌+◌, ◌*◌, ◌/◌, ◌%◌, ◌^◌, ◌<◌, ◌≤◌, List, [], ◌∷◌, ◌++◌, length, refl, inl, inr}
+use Rattle.std.proofs.Common.{arith, length-append, eqb, false, ℤ, pos, ◌≤ℤ◌, unsigned_abs}
 use Rattle.std.specs.Prelude.{codes}
 use Rattle.std.specs.Fmt.{decimal}
 use Rattle.std.proofs.lemmas.Bool.{ne_eqb, cases_lt}
@@ -14,7 +15,9 @@ use Rattle.taxi_units.specs.declared.receipt.Receipt.{Receipt}
 use Rattle.taxi_units.specs.declared.receipt.Stamp.{Stamp}
 use Rattle.taxi_units.proofs.Laws.{amounts_are_short, numbers_are_short, padded_numbers_fill_the_width}
 use Rattle.receipt_text.specs.Part.{Part, IsPart}
-use Rattle.receipt_text.specs.Receipts.{body_text, calculation_text, course_text, date_text, day_text, fare_text, heading_text, hex_text, kind_text, minimum_text, part_text, receipt_text, stamp_text, sums_text, supplements_text, time_text, total_text, trip_text}
+use Rattle.receipt_text.specs.Receipts.{body_text, calculation_text, course_text, date_text, day_text, fare_text}
+use Rattle.receipt_text.specs.Receipts.{heading_text, hex_text, kind_text, minimum_text, part_text, receipt_text}
+use Rattle.receipt_text.specs.Receipts.{stamp_text, sums_text, supplements_text, time_text, total_text, trip_text}
 use Rattle.receipt_text.proofs.Dates.{month_small, year_below}
 use Rattle.taxi_units.specs.Limits.{largest_supplements}
 use Rattle.taxi_units.specs.Money.{largest_amount}
@@ -22,11 +25,13 @@ use Rattle.taxi_units.specs.Money.{largest_amount}
 number_len : (places value : ℕ) → 0 < places → places ≤ 64 → value < 10 ^ places → length (decimal value) ≤ places
 number_len places value some few small = (numbers_are_short places value some few small).1
 
-amount_len : (decimals places units : ℕ) → decimals < places → places ≤ 64 → units < 10 ^ places → length (money_text decimals units) ≤ places + 1
+amount_len : (decimals places units : ℕ) → decimals < places → places ≤ 64 → units < 10 ^ places
+    → length (money_text decimals units) ≤ places + 1
 amount_len decimals places units more few small = (amounts_are_short decimals places units more few small).1
 
 padded_len : (width value : ℕ) → 0 < width → width ≤ 64 → value < 10 ^ width → length (padded_text width value) ≡ width
-padded_len width value some few small = omega (arith, padded_numbers_fill_the_width width value, number_len width value some few small)
+padded_len width value some few small =
+    omega (arith, padded_numbers_fill_the_width width value, number_len width value some few small)
 
 kind_len : (kind : Kind) → length (kind_text kind) ≤ 7
 kind_len Closed = omega arith
@@ -36,21 +41,42 @@ kind_len Roam = omega arith
 
 date_len : (year month date : ℕ) → year < 10000 → month < 100 → date < 100 → length (date_text year month date) ≡ 10
 date_len year month date hy hm hd =
-    omega (arith, length-append (padded_text 4 year) (codes "-" ++ (padded_text 2 month ++ (codes "-" ++ padded_text 2 date))), length-append (padded_text 2 month) (codes "-" ++ padded_text 2 date), padded_len 4 year (omega arith) (omega arith) (omega arith), padded_len 2 month (omega arith) (omega arith) (omega arith), padded_len 2 date (omega arith) (omega arith) (omega arith))
+    omega (
+      arith,
+      length-append (padded_text 4 year) (codes "-" ++ (padded_text 2 month ++ (codes "-" ++ padded_text 2 date))),
+      length-append (padded_text 2 month) (codes "-" ++ padded_text 2 date),
+      padded_len 4 year (omega arith) (omega arith) (omega arith),
+      padded_len 2 month (omega arith) (omega arith) (omega arith),
+      padded_len 2 date (omega arith) (omega arith) (omega arith),
+    )
 
 time_len : (second : ℕ) → second ≤ 86399 → length (time_text second) ≡ 8
 time_len second small =
     let hours = padded_len 2 (second / 3600) (omega arith) (omega arith) (omega arith) in
     let minutes = padded_len 2 (second / 60 % 60) (omega arith) (omega arith) (omega arith) in
     let seconds = padded_len 2 (second % 60) (omega arith) (omega arith) (omega arith) in
-    omega (arith, length-append (padded_text 2 (second / 3600)) (codes ":" ++ (padded_text 2 (second / 60 % 60) ++ (codes ":" ++ padded_text 2 (second % 60)))), length-append (padded_text 2 (second / 60 % 60)) (codes ":" ++ padded_text 2 (second % 60)), hours, minutes, seconds)
+    omega (
+      arith,
+      length-append (padded_text 2 (second / 3600))
+          (codes ":" ++ (padded_text 2 (second / 60 % 60) ++ (codes ":" ++ padded_text 2 (second % 60)))),
+      length-append (padded_text 2 (second / 60 % 60)) (codes ":" ++ padded_text 2 (second % 60)),
+      hours,
+      minutes,
+      seconds,
+    )
 
 stamp_len : (stamp : Stamp) → IsStamp stamp → length (stamp_text stamp) ≡ 19
 unfolding stamp_text
 stamp_len stamp is =
     let small = month_small stamp.year stamp.month in
-    let date = date_len stamp.year stamp.month stamp.date (omega (arith, is.year)) (omega (arith, is.date)) (omega (arith, is.date, small)) in
-    omega (arith, length-append (date_text stamp.year stamp.month stamp.date) (codes " " ++ time_text stamp.second), date, time_len stamp.second is.second)
+    let date = date_len stamp.year stamp.month stamp.date (omega (arith, is.year)) (omega (arith, is.date))
+    (omega (arith, is.date, small)) in
+    omega (
+      arith,
+      length-append (date_text stamp.year stamp.month stamp.date) (codes " " ++ time_text stamp.second),
+      date,
+      time_len stamp.second is.second,
+    )
 
 pub day_len : (day : ℤ) → pos 10957 ≤ℤ day → day ≤ℤ pos 84005 → length (day_text day) ≡ 10
 unfolding day_text
@@ -70,53 +96,116 @@ hex_len (byte ∷ bytes) = omega (arith, hex_len bytes)
 heading_len : (number : ℕ) (kind : Kind) → number < 10 ^ 18 → length (heading_text number kind) ≤ 40
 unfolding heading_text
 heading_len number kind small =
-    omega (arith, length-append (decimal number) (codes "\nKIND " ++ (kind_text kind ++ codes "\n")), length-append (kind_text kind) (codes "\n"), kind_len kind, number_len 18 number (omega arith) (omega arith) small)
+    omega (
+      arith,
+      length-append (decimal number) (codes "\nKIND " ++ (kind_text kind ++ codes "\n")),
+      length-append (kind_text kind) (codes "\n"),
+      kind_len kind,
+      number_len 18 number (omega arith) (omega arith) small,
+    )
 
 part_len : (p : Part) → IsPart p → length (part_text p) ≤ 129
 unfolding part_text
 part_len p is =
     let constant = number_len 6 p.constant (omega arith) (omega arith) (omega (arith, is.constant)) in
     let day = day_len p.secured is.secured.0 is.secured.1 in
-    omega (arith, length-append p.taxi (codes "\nCONSTANT " ++ (decimal p.constant ++ (codes "\nSECURED " ++ (day_text p.secured ++ (codes "\nTARIFF " ++ (hex_text p.digest ++ codes "\n")))))), length-append (decimal p.constant) (codes "\nSECURED " ++ (day_text p.secured ++ (codes "\nTARIFF " ++ (hex_text p.digest ++ codes "\n")))), length-append (day_text p.secured) (codes "\nTARIFF " ++ (hex_text p.digest ++ codes "\n")), length-append (hex_text p.digest) (codes "\n"), hex_len p.digest, is.digest.size, is.taxi.few, constant, day)
+    omega (
+      arith,
+      length-append p.taxi (codes "\nCONSTANT " ++ (decimal p.constant
+          ++ (codes "\nSECURED " ++ (day_text p.secured ++ (codes "\nTARIFF " ++ (hex_text p.digest ++ codes "\n")))))),
+      length-append (decimal p.constant)
+          (codes "\nSECURED " ++ (day_text p.secured ++ (codes "\nTARIFF " ++ (hex_text p.digest ++ codes "\n")))),
+      length-append (day_text p.secured) (codes "\nTARIFF " ++ (hex_text p.digest ++ codes "\n")),
+      length-append (hex_text p.digest) (codes "\n"),
+      hex_len p.digest,
+      is.digest.size,
+      is.taxi.few,
+      constant,
+      day,
+    )
 
 trip_len : (r : Receipt) → IsReceipt r → length (trip_text r) ≤ 101
 unfolding trip_text course_text
 trip_len r is =
     let position = number_len 1 r.position (omega arith) (omega arith) (omega (arith, is.position)) in
     let distance = amount_len 3 23 r.hired_mm (omega arith) (omega arith) is.distance in
-    omega (arith, length-append (codes "START " ++ (stamp_text r.start ++ (codes "\nFINISH " ++ (stamp_text r.finish ++ (codes "\nPOSITION " ++ (decimal r.position ++ (codes "\nDISTANCE " ++ (money_text 3 r.hired_mm ++ codes " m")))))))) (codes "\n"), length-append (stamp_text r.start) (codes "\nFINISH " ++ (stamp_text r.finish ++ (codes "\nPOSITION " ++ (decimal r.position ++ (codes "\nDISTANCE " ++ (money_text 3 r.hired_mm ++ codes " m")))))), length-append (stamp_text r.finish) (codes "\nPOSITION " ++ (decimal r.position ++ (codes "\nDISTANCE " ++ (money_text 3 r.hired_mm ++ codes " m")))), length-append (decimal r.position) (codes "\nDISTANCE " ++ (money_text 3 r.hired_mm ++ codes " m")), length-append (money_text 3 r.hired_mm) (codes " m"), stamp_len r.start is.start, stamp_len r.finish is.finish, position, distance)
+    omega (
+      arith,
+      length-append
+          (codes "START " ++ (stamp_text r.start ++ (codes "\nFINISH " ++ (stamp_text r.finish ++ (codes "\nPOSITION "
+          ++ (decimal r.position ++ (codes "\nDISTANCE " ++ (money_text 3 r.hired_mm ++ codes " m")))))))) (codes "\n"),
+      length-append (stamp_text r.start) (codes "\nFINISH " ++ (stamp_text r.finish ++ (codes "\nPOSITION "
+          ++ (decimal r.position ++ (codes "\nDISTANCE " ++ (money_text 3 r.hired_mm ++ codes " m")))))),
+      length-append (stamp_text r.finish) (codes "\nPOSITION "
+          ++ (decimal r.position ++ (codes "\nDISTANCE " ++ (money_text 3 r.hired_mm ++ codes " m")))),
+      length-append (decimal r.position) (codes "\nDISTANCE " ++ (money_text 3 r.hired_mm ++ codes " m")),
+      length-append (money_text 3 r.hired_mm) (codes " m"),
+      stamp_len r.start is.start,
+      stamp_len r.finish is.finish,
+      position,
+      distance,
+    )
 
 calculation_len : (r : Receipt) → IsReceipt r → length (calculation_text r) ≤ 47
 unfolding calculation_text
 calculation_len r is =
-    let initial = amount_len r.decimals 8 r.initial (omega (arith, is.decimals)) (omega arith) (omega (arith, is.initial)) in
+    let initial =
+    amount_len r.decimals 8 r.initial (omega (arith, is.decimals)) (omega arith) (omega (arith, is.initial)) in
     let steps = number_len 18 r.steps (omega arith) (omega arith) is.steps in
     let step = amount_len r.decimals 7 r.step (omega (arith, is.decimals)) (omega arith) (omega (arith, is.step)) in
-    omega (arith, length-append (money_text r.decimals r.initial) (codes " + " ++ (decimal r.steps ++ (codes " x " ++ (money_text r.decimals r.step ++ codes "\n")))), length-append (decimal r.steps) (codes " x " ++ (money_text r.decimals r.step ++ codes "\n")), length-append (money_text r.decimals r.step) (codes "\n"), initial, steps, step)
+    omega (
+      arith,
+      length-append (money_text r.decimals r.initial)
+          (codes " + " ++ (decimal r.steps ++ (codes " x " ++ (money_text r.decimals r.step ++ codes "\n")))),
+      length-append (decimal r.steps) (codes " x " ++ (money_text r.decimals r.step ++ codes "\n")),
+      length-append (money_text r.decimals r.step) (codes "\n"),
+      initial,
+      steps,
+      step,
+    )
 
-minimum_len : (decimals minimum : ℕ) → decimals ≤ 3 → minimum ≤ largest_amount → length (minimum_text decimals minimum) ≤ 18
+minimum_len : (decimals minimum : ℕ) → decimals ≤ 3 → minimum ≤ largest_amount
+    → length (minimum_text decimals minimum) ≤ 18
 unfolding minimum_text
 minimum_len decimals minimum few small =
     elim (cases_lt 0 minimum) [
       | inl some ↦
           let not_none : eqb minimum 0 ≡ false = ne_eqb minimum 0 (λ e. omega arith) in
-          rw not_none (omega (arith, length-append (money_text decimals minimum) (codes "\n"), amount_len decimals 8 minimum (omega arith) (omega arith) (omega arith)))
+          rw not_none (omega (
+            arith,
+            length-append (money_text decimals minimum) (codes "\n"),
+            amount_len decimals 8 minimum (omega arith) (omega arith) (omega arith),
+          ))
       | inr none ↦
           let zero_is : minimum ≡ 0 = omega arith in
           rw zero_is (omega arith)
     ]
 
-sums_len : (r : Receipt) → r.decimals ≤ 3 → r.fare ≤ largest_amount → r.supplements ≤ largest_supplements → length (sums_text r) ≤ 39
+sums_len : (r : Receipt) → r.decimals ≤ 3 → r.fare ≤ largest_amount → r.supplements ≤ largest_supplements
+    → length (sums_text r) ≤ 39
 unfolding sums_text fare_text supplements_text
 sums_len r few fare_small supplements_small =
     let fare = amount_len r.decimals 8 r.fare (omega arith) (omega arith) (omega arith) in
     let supplements = amount_len r.decimals 10 r.supplements (omega arith) (omega arith) (omega arith) in
-    omega (arith, length-append (codes "FARE " ++ (money_text r.decimals r.fare ++ codes "\n")) (codes "SUPPLEMENTS " ++ (money_text r.decimals r.supplements ++ codes "\n")), length-append (money_text r.decimals r.fare) (codes "\n"), length-append (money_text r.decimals r.supplements) (codes "\n"), fare, supplements)
+    omega (
+      arith,
+      length-append (codes "FARE " ++ (money_text r.decimals r.fare ++ codes "\n"))
+          (codes "SUPPLEMENTS " ++ (money_text r.decimals r.supplements ++ codes "\n")),
+      length-append (money_text r.decimals r.fare) (codes "\n"),
+      length-append (money_text r.decimals r.supplements) (codes "\n"),
+      fare,
+      supplements,
+    )
 
-total_len : (r : Receipt) → r.decimals ≤ 3 → r.fare ≤ largest_amount → r.supplements ≤ largest_supplements → length (total_text r) ≤ 22
+total_len : (r : Receipt) → r.decimals ≤ 3 → r.fare ≤ largest_amount → r.supplements ≤ largest_supplements
+    → length (total_text r) ≤ 22
 unfolding total_text
 total_len r few fare_small supplements_small =
-    omega (arith, length-append (money_text r.decimals (r.fare + r.supplements)) (codes "\nEND\n"), amount_len r.decimals 10 (r.fare + r.supplements) (omega arith) (omega arith) (omega arith))
+    omega (
+      arith,
+      length-append (money_text r.decimals (r.fare + r.supplements)) (codes "\nEND\n"),
+      amount_len r.decimals 10 (r.fare + r.supplements) (omega arith) (omega arith) (omega arith),
+    )
 
 -- a receipt has at most 480 bytes
 pub receipts_are_short : (r : Receipt) (p : Part) → IsReceipt r → IsPart p → length (receipt_text r p) ≤ 480
@@ -124,7 +213,22 @@ unfolding receipt_text body_text
 receipts_are_short r p is part_is =
     let fare_small : r.fare ≤ largest_amount = omega (arith, is.fare) in
     let body = minimum_text r.decimals r.minimum ++ (sums_text r ++ total_text r) in
-    omega (arith, length-append (heading_text r.number r.kind) (part_text p ++ (trip_text r ++ (calculation_text r ++ body))), length-append (part_text p) (trip_text r ++ (calculation_text r ++ body)), length-append (trip_text r) (calculation_text r ++ body), length-append (calculation_text r) body, length-append (minimum_text r.decimals r.minimum) (sums_text r ++ total_text r), length-append (sums_text r) (total_text r), heading_len r.number r.kind (omega (arith, is.number)), part_len p part_is, trip_len r is, calculation_len r is, minimum_len r.decimals r.minimum is.decimals is.minimum, sums_len r is.decimals fare_small is.supplements, total_len r is.decimals fare_small is.supplements)
+    omega (
+      arith,
+      length-append (heading_text r.number r.kind) (part_text p ++ (trip_text r ++ (calculation_text r ++ body))),
+      length-append (part_text p) (trip_text r ++ (calculation_text r ++ body)),
+      length-append (trip_text r) (calculation_text r ++ body),
+      length-append (calculation_text r) body,
+      length-append (minimum_text r.decimals r.minimum) (sums_text r ++ total_text r),
+      length-append (sums_text r) (total_text r),
+      heading_len r.number r.kind (omega (arith, is.number)),
+      part_len p part_is,
+      trip_len r is,
+      calculation_len r is,
+      minimum_len r.decimals r.minimum is.decimals is.minimum,
+      sums_len r is.decimals fare_small is.supplements,
+      total_len r is.decimals fare_small is.supplements,
+    )
 
 -- so an empty line has room for it
 pub receipts_fit : (r : Receipt) (p : Part) → IsReceipt r → IsPart p → 0 + length (receipt_text r p) ≤ 512

@@ -1,5 +1,6 @@
 -- A receipt that was written is read again, and an answer says exactly which.
-use Rattle.std.proofs.Common.{◌≡◌, ℕ, ◌≤◌, ◌↔◌, List, [], ◌++◌, refl, ap, sym, ◌∙◌, subst, arith, Option, Some, None, append_assoc}
+use Rattle.std.proofs.Common.{◌≡◌, ℕ, ◌≤◌, ◌↔◌, List, [], ◌++◌, refl, ap, sym, ◌∙◌, subst, arith, Option, Some, None}
+use Rattle.std.proofs.Common.{append_assoc}
 use Rattle.std.proofs.lemmas.List.{append-nil}
 use Rattle.std.specs.Prelude.{codes}
 use Rattle.taxi_units.specs.Number.{money_text}
@@ -7,16 +8,19 @@ use Rattle.taxi_units.specs.Shown.{IsReceipt}
 use Rattle.taxi_units.specs.declared.receipt.Receipt.{Receipt}
 use Rattle.receipt_text.specs.Lines.{receipt_at}
 use Rattle.receipt_text.specs.Part.{Part, IsPart}
-use Rattle.receipt_text.specs.Receipts.{body_text, calculation_text, heading_text, minimum_text, part_text, receipt_text, sums_text, supplements_text, total_text, trip_text}
+use Rattle.receipt_text.specs.Receipts.{body_text, calculation_text, heading_text, minimum_text, part_text}
+use Rattle.receipt_text.specs.Receipts.{receipt_text, sums_text, supplements_text, total_text, trip_text}
 use Rattle.receipt_text.specs.Spelling.{IsSpelled}
-use Rattle.receipt_text.proofs.Groups.{calculation_again, heading_again, minimum_again, part_again, sums_again, sums_begin, trip_again}
+use Rattle.receipt_text.proofs.Groups.{calculation_again, heading_again, minimum_again, part_again, sums_again}
+use Rattle.receipt_text.proofs.Groups.{sums_begin, trip_again}
 use Rattle.taxi_units.specs.Money.{largest_amount}
 
 fare_small : (r : Receipt) → IsReceipt r → r.fare ≤ largest_amount
 fare_small r is = omega (arith, is.fare)
 
 -- what was written is read, whatever stands after it
-pub receipt_again : (r : Receipt) (p : Part) (more : List ℕ) → IsReceipt r → IsPart p → receipt_at (receipt_text r p ++ more) ≡ Some (r, p)
+pub receipt_again : (r : Receipt) (p : Part) (more : List ℕ) → IsReceipt r → IsPart p
+    → receipt_at (receipt_text r p ++ more) ≡ Some (r, p)
 unfolding receipt_at receipt_text body_text
 receipt_again r p more is part_is =
     let t₆ = total_text r ++ more in
@@ -24,30 +28,38 @@ receipt_again r p more is part_is =
     let t₄ = minimum_text r.decimals r.minimum ++ t₅ in
     let t₃ = calculation_text r ++ t₄ in
     let t₂ = trip_text r ++ t₃ in
-    let text : (heading_text r.number r.kind ++ (part_text p ++ (trip_text r ++ (calculation_text r ++ (minimum_text r.decimals r.minimum ++ (sums_text r ++ total_text r)))))) ++ more ≡ heading_text r.number r.kind ++ (part_text p ++ t₂) = simp append_assoc in
+    let text : (heading_text r.number r.kind ++ (part_text p
+    ++ (trip_text r ++ (calculation_text r ++ (minimum_text r.decimals r.minimum ++ (sums_text r ++ total_text r))))))
+    ++ more ≡ heading_text r.number r.kind ++ (part_text p ++ t₂) = simp append_assoc in
     let heading = heading_again r.number r.kind (part_text p ++ t₂) (omega (arith, is.number)) is.kind in
     let part = part_again p t₂ part_is in
     let trip = trip_again r t₃ is in
     let calculation = calculation_again r t₄ is in
-    let minimum = minimum_again r.decimals r.minimum t₅ (((money_text r.decimals r.fare ++ codes "\n") ++ supplements_text r) ++ t₆) is.decimals (omega (arith, is.minimum)) (sums_begin r t₆) in
+    let minimum = minimum_again r.decimals r.minimum t₅
+    (((money_text r.decimals r.fare ++ codes "\n") ++ supplements_text r) ++ t₆) is.decimals (omega (arith, is.minimum))
+    (sums_begin r t₆) in
     let sums = sums_again r t₆ is.decimals (omega (arith, fare_small r is)) (omega (arith, is.supplements)) in
     ap receipt_at text ∙ rw (heading, part, trip, calculation, minimum, sums) refl
 
 pub spelled_again : (text : List ℕ) (r : Receipt) (p : Part) → IsSpelled text r p → receipt_at text ≡ Some (r, p)
-spelled_again text r p h = ap receipt_at (h.text_is ∙ sym (append-nil (receipt_text r p))) ∙ receipt_again r p [] h.receipt_is h.part_is
+spelled_again text r p h =
+    ap receipt_at (h.text_is ∙ sym (append-nil (receipt_text r p))) ∙ receipt_again r p [] h.receipt_is h.part_is
 
 -- where nothing is read, no receipt is spelled
 pub none_read : (text : List ℕ) → receipt_at text ≡ None → (r : Receipt) (p : Part) → IsSpelled text r p → ⊥
 none_read text e r p h = let found = spelled_again text r p h in absurd cc
 
 -- what is spelled is what was read
-pub same_read : (text : List ℕ) (r₀ : Receipt) (p₀ : Part) → receipt_at text ≡ Some (r₀, p₀) → (r : Receipt) (p : Part) → IsSpelled text r p → ◌≡◌ {A = Receipt × Part} (r₀, p₀) (r, p)
+pub same_read : (text : List ℕ) (r₀ : Receipt) (p₀ : Part) → receipt_at text ≡ Some (r₀, p₀) → (r : Receipt) (p : Part)
+    → IsSpelled text r p → ◌≡◌ {A = Receipt × Part} (r₀, p₀) (r, p)
 same_read text r₀ p₀ e r p h = let found = spelled_again text r p h in cc
 
-pub exactly_none : (text : List ℕ) → receipt_at text ≡ None → (r : Receipt) (p : Part) → (◌≡◌ {A = Option (Receipt × Part)} None (Some (r, p))) ↔ IsSpelled text r p
+pub exactly_none : (text : List ℕ) → receipt_at text ≡ None → (r : Receipt) (p : Part)
+    → (◌≡◌ {A = Option (Receipt × Part)} None (Some (r, p))) ↔ IsSpelled text r p
 exactly_none text e r p = (λ n. absurd cc, λ h. absurd (none_read text e r p h))
 
-pub exactly_some : (text : List ℕ) (r₀ : Receipt) (p₀ : Part) → receipt_at text ≡ Some (r₀, p₀) → IsSpelled text r₀ p₀ → (r : Receipt) (p : Part) → (◌≡◌ {A = Option (Receipt × Part)} (Some (r₀, p₀)) (Some (r, p))) ↔ IsSpelled text r p
+pub exactly_some : (text : List ℕ) (r₀ : Receipt) (p₀ : Part) → receipt_at text ≡ Some (r₀, p₀) → IsSpelled text r₀ p₀
+    → (r : Receipt) (p : Part) → (◌≡◌ {A = Option (Receipt × Part)} (Some (r₀, p₀)) (Some (r, p))) ↔ IsSpelled text r p
 exactly_some text r₀ p₀ e is r p = (
   λ same.
       let pair : ◌≡◌ {A = Receipt × Part} (r₀, p₀) (r, p) = cc in
@@ -55,7 +67,8 @@ exactly_some text r₀ p₀ e is r p = (
   λ h. ap Some (same_read text r₀ p₀ e r p h),
 )
 
-pub exactly_other : (text : List ℕ) (r₀ : Receipt) (p₀ : Part) → receipt_at text ≡ Some (r₀, p₀) → (IsSpelled text r₀ p₀ → ⊥) → (r : Receipt) (p : Part) → (◌≡◌ {A = Option (Receipt × Part)} None (Some (r, p))) ↔ IsSpelled text r p
+pub exactly_other : (text : List ℕ) (r₀ : Receipt) (p₀ : Part) → receipt_at text ≡ Some (r₀, p₀) → (IsSpelled text r₀ p₀
+    → ⊥) → (r : Receipt) (p : Part) → (◌≡◌ {A = Option (Receipt × Part)} None (Some (r, p))) ↔ IsSpelled text r p
 exactly_other text r₀ p₀ e not r p = (
   λ n. absurd cc,
   λ h. absurd (not (subst (λ (x : Receipt × Part). IsSpelled text x.0 x.1) (sym (same_read text r₀ p₀ e r p h)) h)),

@@ -12,7 +12,7 @@ use Rattle.same_tariffs.specs.Alike.{IsSameMoney}
 use Rattle.same_tariffs.specs.Reached.{IsPlaced}
 
 pub record Agree (s t : Setting) : Type 0 where
-  pub hold : s.hold ≡ t.hold
+  pub hold : s.hold_time ≡ t.hold_time
   pub constant : s.constant ≡ t.constant
   pub offsets : s.offsets ≡ t.offsets
   pub decimals : s.tariff.decimals ≡ t.tariff.decimals

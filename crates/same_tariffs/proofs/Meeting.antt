@@ -1,5 +1,7 @@
--- The contexts that meters within reach are charged and hired in, and settings that agree because their tariffs are the same.
-use Rattle.std.proofs.Common.{◌≡◌, ℕ, ◌*◌, ◌<◌, ◌≤◌, Bool, true, false, not, ◌&&◌, ◌==◌, pos, unsigned_abs, Option, Some, None, option_map, if◌then◌else◌, mul-pos, refl, ap, sym, subst, ◌∙◌, arith}
+-- The contexts that meters within reach are charged and hired in, and settings that agree because their tariffs are the
+-- same.
+use Rattle.std.proofs.Common.{◌≡◌, ℕ, ◌*◌, ◌<◌, ◌≤◌, Bool, true, false, not, ◌&&◌, ◌==◌, pos, unsigned_abs, Option}
+use Rattle.std.proofs.Common.{Some, None, option_map, if◌then◌else◌, mul-pos, refl, ap, sym, subst, ◌∙◌, arith}
 use Rattle.std.specs.Option.{unwrap_or}
 use Rattle.std.proofs.lemmas.Grind.{common_steps}
 use Rattle.drive_modes.specs.declared.charges.Mode.{Mode}
@@ -227,7 +229,7 @@ has-places s range =
 
 pub agree : (s t : Setting) → AreSameSettings s t → Agree s t
 agree s t same = record {
-  hold = ap (λ (x : Setting). x.hold) same.others;
+  hold = ap (λ (x : Setting). x.hold_time) same.others;
   constant = constant-is s t same;
   offsets = ap (λ (x : Setting). x.offsets) same.others;
   decimals = same.tariffs.frame.decimals;

@@ -1,6 +1,7 @@
 -- Sums, quotients and rests of the same money.
 use Rattle.std.proofs.Common.{◌≡◌, ℕ, ◌+◌, ◌-◌, ◌*◌, ◌/◌, ◌%◌, ◌<◌, ◌≤◌, nat_lt, [], ap, sym, ◌∙◌, arith}
-use Rattle.std.proofs.Common.{add-mul, mul_assoc, mul_comm, mul_right_comm, mul-le-mul_right, le_of_mul-le-mul_right, lt_of_mul-lt-mul_right, mul-lt-mul_of_pos_right}
+use Rattle.std.proofs.Common.{add-mul, mul_assoc, mul_comm, mul_right_comm, mul-le-mul_right, le_of_mul-le-mul_right}
+use Rattle.std.proofs.Common.{lt_of_mul-lt-mul_right, mul-lt-mul_of_pos_right}
 use Rattle.std.proofs.Math.Nat.{div-add-mod, mul-sub}
 use Rattle.std.proofs.lemmas.Grind.{common_steps}
 use Rattle.std.proofs.lemmas.Nat.{div-mul-add, mod-mul-add}

@@ -1,5 +1,6 @@
 -- Rates that cost the same make charges of the same money.
-use Rattle.std.proofs.Common.{◌≡◌, ℕ, ◌*◌, ◌/◌, ◌<◌, Bool, true, false, nat_lt, if◌then◌else◌, All, List, [], ◌∷◌, get_or, Option, Some, mul-pos, mul_comm, ap, sym, subst, ◌∙◌, arith}
+use Rattle.std.proofs.Common.{◌≡◌, ℕ, ◌*◌, ◌/◌, ◌<◌, Bool, true, false, nat_lt, if◌then◌else◌, All, List, [], ◌∷◌}
+use Rattle.std.proofs.Common.{get_or, Option, Some, mul-pos, mul_comm, ap, sym, subst, ◌∙◌, arith}
 use Rattle.std.specs.List.{flat_map}
 use Rattle.std.specs.Option.{unwrap_or}
 use Rattle.std.proofs.lemmas.Grind.{common_steps}
@@ -10,7 +11,8 @@ use Rattle.tariff_check.specs.Faults.{IsSound}
 use Rattle.tariff_check.specs.Measure.{measure_of}
 use Rattle.tariff_check.specs.Parts.{RateNumbers, rates_of}
 use Rattle.tariff_check.specs.Sound.{IsSoundRate}
-use Rattle.tariff_check.proofs.Laws.{lines_that_hold_are_there-rate, measures_are_least-least, measures_are_least-sound, sound_tariffs_have_sound_parts-parts}
+use Rattle.tariff_check.proofs.Laws.{lines_that_hold_are_there-rate, measures_are_least-least, measures_are_least-sound}
+use Rattle.tariff_check.proofs.Laws.{sound_tariffs_have_sound_parts-parts}
 use Rattle.tariff_compare.specs.Same.{cost_same}
 use Rattle.tariff_syntax.specs.Tree.{Tree}
 use Rattle.tariff_syntax.specs.Writable.{IsWritable}

@@ -1,5 +1,6 @@
 -- What each event leaves of a meter's place and of the ticks of its trip.
-use Rattle.std.proofs.Common.{◌≡◌, ℕ, ◌+◌, ◌<◌, ◌≤◌, Bool, true, false, nat_le, nat_lt, All, List, [], ◌∷◌, sum, Option, Some, None, option_map, if◌then◌else◌, refl, subst, arith}
+use Rattle.std.proofs.Common.{◌≡◌, ℕ, ◌+◌, ◌<◌, ◌≤◌, Bool, true, false, nat_le, nat_lt, All, List, [], ◌∷◌, sum, Option}
+use Rattle.std.proofs.Common.{Some, None, option_map, if◌then◌else◌, refl, subst, arith}
 use Rattle.std.proofs.lemmas.Grind.{common_steps}
 use Rattle.std.proofs.lemmas.List.Elements.{All-head, All-tail}
 use Rattle.taxi_units.specs.Time.{IsSecond, first_second, last_tick, longest_trip}
@@ -13,26 +14,32 @@ use Rattle.taxi_units.specs.declared.event.Why.TheVariants as why
 use Rattle.taxi_units.specs.declared.receipt.Kind.{Kind}
 use Rattle.taxi_units.specs.declared.receipt.Kind.TheVariants as kinds
 use Rattle.totals_record.specs.Entries.{closes}
-use Rattle.totals_record.specs.declared.durable.Durable.{Durable}
+use Rattle.totals_record.specs.declared.durable_state.Durable.{Durable}
 use Rattle.totals_record.specs.declared.entry.Entry.{Entry}
-use Rattle.totals_record.specs.declared.trip.Trip as store
+use Rattle.totals_record.specs.declared.trip.Trip.{Trip}
 use Rattle.tariff_check.specs.Parts.{positions_of, zones_of}
 use Rattle.tariff_compile.specs.Tables.{supplement_at}
 use Rattle.tariff_compile.specs.declared.parts.Supplement.{Supplement}
 use Rattle.tariff_syntax.specs.Tree.{Tree}
 use Rattle.tariff_syntax.specs.Writable.{IsFromTo}
-use Rattle.meter_states.specs.Closing.{closed, entry_of, roaming_checked, roaming_checked_in, roaming_entered, roaming_entry, trip_closed}
+use Rattle.meter_states.specs.Closing.{closed, entry_of, roaming_checked, roaming_checked_in, roaming_entered}
+use Rattle.meter_states.specs.Closing.{roaming_entry, trip_closed}
 use Rattle.meter_states.specs.Display.{shown}
-use Rattle.meter_states.specs.Interval.{context_of, counted_in, interval_begun, interval_counted, interval_left, left_in, ticks_so_far}
-use Rattle.meter_states.specs.Keys.{extra_added, extra_added_to, hired, is_among, key_in, key_pressed, latch_pressed, latched, position_set, zone_set}
+use Rattle.meter_states.specs.Interval.{context_of, counted_in, interval_begun, interval_counted, interval_left}
+use Rattle.meter_states.specs.Interval.{left_in, ticks_so_far}
+use Rattle.meter_states.specs.Keys.{extra_added, extra_added_to, hired, is_among, key_in, key_pressed, latch_pressed}
+use Rattle.meter_states.specs.Keys.{latched, position_set, zone_set}
 use Rattle.meter_states.specs.Lawful.{IsTimely}
 use Rattle.meter_states.specs.Meter.{Meter, Outcome, entered, held, quiet, refused}
 use Rattle.meter_states.specs.Run.{ended, ended_in, opened, run, trip_of}
 use Rattle.meter_states.specs.Setting.{Setting}
-use Rattle.meter_states.specs.Step.{clock_read, expired, expired_or_pressed, latch_refused, off_step, powered_step, step, step_in, ticked}
+use Rattle.meter_states.specs.Step.{clock_read, expired, expired_or_pressed, latch_refused, off_step, powered_step}
+use Rattle.meter_states.specs.Step.{step, step_in, ticked}
 use Rattle.meter_states.specs.Supplements.{times}
-use Rattle.meter_states.specs.Supply.{aborted, hold_taken, is_stopped, is_within_hold, kept, powered, resumed, supply_came, supply_dropped}
-use Rattle.meter_states.specs.Trip.{InHired, InStopped, Part, Rest, Trip, held_trip, ticks_in, with_extra, with_part}
+use Rattle.meter_states.specs.Supply.{aborted, hold_taken, is_stopped, is_within_hold, held_or_closed, powered, resumed}
+use Rattle.meter_states.specs.Supply.{supply_came, supply_dropped}
+use Rattle.meter_states.specs.Trip.{InHired, InStopped, Part, Rest, MeterTrip, held_trip, ticks_in, with_extra}
+use Rattle.meter_states.specs.Trip.{with_part}
 use Rattle.same_tariffs.specs.Reached.{GoesOn, HoldGoesOn, IsPlace, IsPlaced, IsWithin, IsWithinReach}
 use Rattle.same_tariffs.proofs.Trips.{sum-more}
 use Rattle.taxi_units.specs.Limits.{hirings_end, last_number, roaming_most}
@@ -52,14 +59,14 @@ within-below s false most n o p is x y = y (grind (arith, common_steps))
 
 -- ---- the ticks of parts
 
-ticks-more : (part : Part) (trip : Option Trip) (n : ℕ) → ticks_in part ≡ n
+ticks-more : (part : Part) (trip : Option MeterTrip) (n : ℕ) → ticks_in part ≡ n
     → ticks_so_far (option_map (with_part part) trip) ≤ ticks_so_far trip + n
 ticks-more part None n is = omega arith
 ticks-more part (Some t) n is = omega (arith, sum-more ticks_in t.parts part, is)
 
 -- ---- entries and closings
 
-hold-after : (t : Tree) (closing : Bool) (hold : Option store.Trip) → HoldGoesOn t hold
+hold-after : (t : Tree) (closing : Bool) (hold : Option Trip) → HoldGoesOn t hold
     → HoldGoesOn t (if closing then None else hold)
 hold-after t true hold x = tt
 hold-after t false hold x = x
@@ -69,7 +76,8 @@ within-entered : (s : Setting) (most : ℕ) (entry : Entry) (m : Meter) → IsWi
 within-entered s most entry m x =
     record { placed = x.placed; hold = hold-after s.tariff (closes entry) m.durable.hold x.hold; ticks = x.ticks }
 
-within-trip_closed : (s : Setting) (kind : Kind) (finish most : ℕ) (trip : Option Trip) (m : Meter) → IsWithin s most m
+within-trip_closed : (s : Setting) (kind : Kind) (finish most : ℕ) (trip : Option MeterTrip) (m : Meter)
+    → IsWithin s most m
     → IsWithin s most (trip_closed s kind finish trip m).next
 within-trip_closed s kind finish most None m x = x
 within-trip_closed s kind finish most (Some t) m x = within-entered s most (entry_of s kind m.position t) m x
@@ -148,7 +156,8 @@ within-zone s n m x =
       ticks = x.ticks;
     })
 
-within-extra : (s : Setting) (n : ℕ) (supplement : Supplement) (trip : Option Trip) (m : Meter) → IsWithin s last_tick m
+within-extra : (s : Setting) (n : ℕ) (supplement : Supplement) (trip : Option MeterTrip) (m : Meter)
+    → IsWithin s last_tick m
     → m.trip ≡ trip → IsWithin s last_tick (extra_added_to n supplement trip m).next
 within-extra s n supplement None m x is = x
 within-extra s n supplement (Some t) m x is =
@@ -157,7 +166,7 @@ within-extra s n supplement (Some t) m x is =
     (record {
       placed = x.placed;
       hold = x.hold;
-      ticks = subst (λ (o : Option Trip). ticks_so_far o ≤ last_tick) is
+      ticks = subst (λ (o : Option MeterTrip). ticks_so_far o ≤ last_tick) is
           x.ticks;
     })
 
@@ -253,14 +262,14 @@ within-left s most Stopped p m x = record {
       omega (arith, x.ticks, ticks-more (Rest p) m.trip 0 refl);
 }
 
-within-kept : (s : Setting) (trip : Option Trip) (m : Meter) → m.trip ≡ trip → IsWithin s last_tick m
-    → IsWithin s last_tick (kept s trip m).next
+within-kept : (s : Setting) (trip : Option MeterTrip) (m : Meter) → m.trip ≡ trip → IsWithin s last_tick m
+    → IsWithin s last_tick (held_or_closed s trip m).next
 within-kept s None m is x = within-either s last_tick (nat_lt 0 (sum m.roaming)) (roaming_entered s m) (quiet m)
     (within-roaming_entered s last_tick m x) x
 within-kept s (Some t) m is x =
     let h = held_trip s m.clock (is_stopped m.operating) m.position m.zone t in
     let on : GoesOn s.tariff h =
-    record { set = x.placed.set; ticks = subst (λ (o : Option Trip). ticks_so_far o ≤ last_tick) is x.ticks } in
+    record { set = x.placed.set; ticks = subst (λ (o : Option MeterTrip). ticks_so_far o ≤ last_tick) is x.ticks } in
     within-either s last_tick (nat_lt m.durable.number last_number) (held h m) (closed s kinds.Aborted m.clock m)
     (record { placed = x.placed; hold = on; ticks = x.ticks })
     (within-closed s kinds.Aborted m.clock last_tick last_tick m x)
@@ -268,7 +277,7 @@ within-kept s (Some t) m is x =
 within-dropped : (s : Setting) (m : Meter) → IsWithin s last_tick m → IsWithin s last_tick (supply_dropped s m).next
 within-dropped s m x =
     let n = (interval_left m).next in
-    let o = (kept s n.trip n).next in
+    let o = (held_or_closed s n.trip n).next in
     let after = within-kept s n.trip n refl (within-left s last_tick m.operating (sum m.taken) m x) in
     record { placed = after.placed; hold = after.hold; ticks = after.ticks }
 
@@ -285,7 +294,7 @@ first-place t clock began some is also =
       began_in = also;
     }
 
-within-resumed : (s : Setting) (trip : store.Trip) (m : Meter) → GoesOn s.tariff trip → IsWithin s last_tick m
+within-resumed : (s : Setting) (trip : Trip) (m : Meter) → GoesOn s.tariff trip → IsWithin s last_tick m
     → IsWithin s last_tick (resumed trip m).next
 within-resumed s trip m on x =
     record {
@@ -295,7 +304,7 @@ within-resumed s trip m on x =
       ticks = x.ticks;
     }
 
-within-aborted : (s : Setting) (trip : store.Trip) (m : Meter) → HasPlaces s.tariff → GoesOn s.tariff trip
+within-aborted : (s : Setting) (trip : Trip) (m : Meter) → HasPlaces s.tariff → GoesOn s.tariff trip
     → IsWithin s last_tick m → IsWithin s last_tick (aborted s trip m).next
 within-aborted s trip m some on x =
     let n = record m { position = trip.position } in
@@ -317,7 +326,7 @@ within-aborted s trip m some on x =
       ticks = after.ticks;
     }
 
-within-taken : (s : Setting) (second : ℕ) (hold : Option store.Trip) (m : Meter) → HasPlaces s.tariff
+within-taken : (s : Setting) (second : ℕ) (hold : Option Trip) (m : Meter) → HasPlaces s.tariff
     → HoldGoesOn s.tariff hold → IsWithin s last_tick m → IsWithin s last_tick (hold_taken s second hold m).next
 within-taken s second None m some on x = record { placed = x.placed; hold = x.hold; ticks = omega arith }
 within-taken s second (Some trip) m some on x =
@@ -405,7 +414,7 @@ within-ended_in s Stopped m x = within-dropped s m x
 pub within-ended : (s : Setting) (m : Meter) → IsWithinReach s m → IsWithinReach s (ended s m).next
 within-ended s m x = within-ended_in s m.operating m x
 
-ticks-held : (s : Setting) (hold : Option store.Trip) → HoldGoesOn s.tariff hold
+ticks-held : (s : Setting) (hold : Option Trip) → HoldGoesOn s.tariff hold
     → ticks_so_far (option_map (trip_of s) hold) ≤ last_tick
 ticks-held s None on = omega arith
 ticks-held s (Some trip) on = omega (arith, on.ticks)

@@ -1,5 +1,7 @@
 -- A drive that comes to an interval in a context of a meter.
-use Rattle.std.proofs.Common.{◌≡◌, ℕ, zero, suc, ◌+◌, ◌*◌, ◌/◌, ◌%◌, ◌<◌, ◌≤◌, min, Bool, true, false, ◌&&◌, nat_le, nat_lt, ℤ, pos, ◌+ℤ◌, unsigned_abs, All, List, [], ◌∷◌, ◌++◌, replicate, sum, Option, Some, None, if◌then◌else◌, refl, ap, sym, subst, ◌∙◌, arith}
+use Rattle.std.proofs.Common.{◌≡◌, ℕ, zero, suc, ◌+◌, ◌*◌, ◌/◌, ◌%◌, ◌<◌, ◌≤◌, min, Bool, true, false, ◌&&◌, nat_le}
+use Rattle.std.proofs.Common.{nat_lt, ℤ, pos, ◌+ℤ◌, unsigned_abs, All, List, [], ◌∷◌, ◌++◌, replicate, sum, Option}
+use Rattle.std.proofs.Common.{Some, None, if◌then◌else◌, refl, ap, sym, subst, ◌∙◌, arith}
 use Rattle.std.proofs.Math.Nat.{div-add-mod}
 use Rattle.std.proofs.lemmas.Grind.{common_steps}
 use Rattle.std.proofs.lemmas.List.Elements.{All-append, All-cons, All-nil}
@@ -19,8 +21,8 @@ use Rattle.taxi_units.specs.declared.receipt.Display.{Display}
 use Rattle.taxi_units.specs.declared.receipt.Kind.TheVariants as kinds
 use Rattle.totals_record.specs.States.{after, first_state}
 use Rattle.totals_record.specs.declared.change.Change.TheVariants as changes
-use Rattle.totals_record.specs.declared.durable.Durable.{Durable}
-use Rattle.totals_record.specs.declared.trip.Trip as store
+use Rattle.totals_record.specs.declared.durable_state.Durable.{Durable}
+use Rattle.totals_record.specs.declared.trip.Trip.{Trip}
 use Rattle.tariff_calendar.specs.Lists.{is_holiday}
 use Rattle.tariff_check.specs.Faults.{IsSound}
 use Rattle.tariff_check.specs.Parts.{positions_of, zones_of}
@@ -41,7 +43,8 @@ use Rattle.meter_states.specs.Run.{opened, run}
 use Rattle.meter_states.specs.Setting.{Setting, under_offset, unit_of}
 use Rattle.meter_states.specs.Step.{expired, step}
 use Rattle.meter_states.specs.Supply.{aborted, hold_taken, is_within_hold, powered, resumed, turned_off}
-use Rattle.meter_states.specs.Trip.{InHired, Part, Rest, Trip, begun, held_trip, pulses_in, pulses_of, ticks_in, ticks_of, with_part}
+use Rattle.meter_states.specs.Trip.{InHired, Part, Rest, MeterTrip, begun, held_trip, pulses_in, pulses_of, ticks_in}
+use Rattle.meter_states.specs.Trip.{ticks_of, with_part}
 use Rattle.meter_states.proofs.Laws.{runs_add_up}
 use Rattle.same_tariffs.specs.Contexts.{without_trip}
 use Rattle.same_tariffs.specs.Drives.{BeginsIn, IsReached, WasHiredIn, drop, drops, events_to, hire, meter_after}
@@ -49,7 +52,7 @@ use Rattle.same_tariffs.proofs.Trips.{sum-more}
 use Rattle.taxi_units.specs.Limits.{last_number}
 
 -- a meter that is hired, at the beginning of an interval
-abbrev hired_at : (second position zone : ℕ) → Option Display → Trip → Durable → Meter
+abbrev hired_at : (second position zone : ℕ) → Option Display → MeterTrip → Durable → Meter
 hired_at second position zone last t d = record {
   operating = Hired;
   clock = second;
@@ -69,9 +72,9 @@ abbrev part_of_drop : (p : ℕ) → Part
 part_of_drop p = Rest (sum (min p 2000 ∷ []))
 
 -- such a meter, with so many pulses and ticks, and the number of its store
-pub record IsAt (b : Trip) (second position zone pulses ticks number : ℕ) (m : Meter) : Type 0 where
+pub record IsAt (b : MeterTrip) (second position zone pulses ticks number : ℕ) (m : Meter) : Type 0 where
   pub shown_last : Option Display
-  pub trip : Trip
+  pub trip : MeterTrip
   pub durable : Durable
   pub state : m ≡ hired_at second position zone shown_last trip durable
   pub pulses_are : pulses_of trip ≡ pulses
@@ -94,13 +97,14 @@ below-is n most below = grind (arith, common_steps)
 abbrev after_key : Setting → Meter → Meter
 after_key s m = (roaming_checked s m >>= (λ (n : Meter). shown s n >>= interval_begun)).next
 
-pulses-more : (t : Trip) (p n : ℕ) (x : Context) → pulses_of t ≡ n → pulses_of (with_part (InHired p x) t) ≡ n + p
+pulses-more : (t : MeterTrip) (p n : ℕ) (x : Context) → pulses_of t ≡ n → pulses_of (with_part (InHired p x) t) ≡ n + p
 pulses-more t p n x is = omega (arith, sum-more pulses_in t.parts (InHired p x), is)
 
-ticks-more : (t : Trip) (p n : ℕ) (x : Context) → ticks_of t ≡ n → ticks_of (with_part (InHired p x) t) ≡ n + 1
+ticks-more : (t : MeterTrip) (p n : ℕ) (x : Context) → ticks_of t ≡ n → ticks_of (with_part (InHired p x) t) ≡ n + 1
 ticks-more t p n x is = omega (arith, sum-more ticks_in t.parts (InHired p x), is)
 
-tick-state : (s : Setting) (second position zone : ℕ) (last : Option Display) (t : Trip) (d : Durable) (u : Trip)
+tick-state : (s : Setting) (second position zone : ℕ) (last : Option Display) (t : MeterTrip) (d : Durable)
+    (u : MeterTrip)
     → u ≡ with_part (InHired 0 (context_of s (hired_at second position zone last t d))) t
     → ticks_of u < longest_trip
     → (step s Tick (hired_at second position zone last t d)).next ≡ hired_at second position zone
@@ -109,13 +113,14 @@ tick-state s second position zone last t d u is short =
     let n = hired_at second position zone last u d in
     let first : (step s Tick (hired_at second position zone last t d)).next ≡ after_key s
     (if nat_le longest_trip (ticks_of u) then expired s n else key_pressed s n).next =
-    ap (λ (v : Trip). after_key s (if nat_le longest_trip (ticks_of v) then expired s
+    ap (λ (v : MeterTrip). after_key s (if nat_le longest_trip (ticks_of v) then expired s
     (hired_at second position zone last v d) else key_pressed s (hired_at second position zone last v d)).next)
     (sym is) in
     first ∙ ap (λ (b : Bool). after_key s (if b then expired s n else key_pressed s n).next)
     (not-reached longest_trip (ticks_of u) short)
 
-tick-at : (s : Setting) (b : Trip) (second position zone pulses ticks number : ℕ) (m : Meter) → ticks + 1 < longest_trip
+tick-at : (s : Setting) (b : MeterTrip) (second position zone pulses ticks number : ℕ) (m : Meter)
+    → ticks + 1 < longest_trip
     → IsAt b second position zone pulses ticks number m
     → IsAt b second position zone pulses (ticks + 1) number (step s Tick m).next
 tick-at s b second position zone pulses ticks number m short at =
@@ -140,7 +145,7 @@ tick-at s b second position zone pulses ticks number m short at =
 -- ---- a drop
 
 -- a meter that is off, with a trip that the store holds
-abbrev off_at : (second position zone : ℕ) → Option Display → Trip → Durable → Meter
+abbrev off_at : (second position zone : ℕ) → Option Display → MeterTrip → Durable → Meter
 off_at second position zone last t d = record {
   operating = Off;
   clock = second;
@@ -158,7 +163,7 @@ off_at second position zone last t d = record {
 abbrev turned : Outcome → Meter
 turned o = (turned_off o.next).next
 
-drop-state : (s : Setting) (second position zone p : ℕ) (last : Option Display) (t : Trip) (d : Durable)
+drop-state : (s : Setting) (second position zone p : ℕ) (last : Option Display) (t : MeterTrip) (d : Durable)
     → d.number < last_number
     → (run s (Pulses p ∷ Down ∷ []) (hired_at second position zone last t d)).next
     ≡ off_at second position zone last (with_part (part_of_drop p) t)
@@ -178,20 +183,20 @@ reached-more n k = grind (arith, common_steps)
 abbrev came : Setting → Outcome → Meter
 came s o = (shown s o.next).next
 
-up-state : (s : Setting) (second position zone : ℕ) (last : Option Display) (t : Trip) (d : Durable) (h : store.Trip)
+up-state : (s : Setting) (second position zone : ℕ) (last : Option Display) (t : MeterTrip) (d : Durable) (h : Trip)
     → d.hold ≡ Some h → h ≡ held_trip s second false position zone t
     → (step s (Up second) (off_at second position zone last t d)).next ≡ hired_at second position zone
     (Some (display_of s (hired_at second position zone None t d))) t d
 up-state s second position zone last t d h is held =
     let n = powered second (off_at second position zone last t d) in
     let e = held_trip s second false position zone t in
-    let first = ap (λ (o : Option store.Trip). came s (hold_taken s second o n))
-    (is ∙ ap (λ (x : store.Trip). Some x) held) in
-    let within : is_within_hold s second e ≡ true = ap (λ (b : Bool). b && nat_le second (second + s.hold))
-    (reached-self second) ∙ reached-more second s.hold in
+    let first = ap (λ (o : Option Trip). came s (hold_taken s second o n))
+    (is ∙ ap (λ (x : Trip). Some x) held) in
+    let within : is_within_hold s second e ≡ true = ap (λ (b : Bool). b && nat_le second (second + s.hold_time))
+    (reached-self second) ∙ reached-more second s.hold_time in
     first ∙ ap (λ (b : Bool). came s (if b then resumed e n else aborted s e n)) within
 
-drop-at : (s : Setting) (b : Trip) (second position zone pulses ticks number p : ℕ) (m : Meter) → p ≤ 2000
+drop-at : (s : Setting) (b : MeterTrip) (second position zone pulses ticks number p : ℕ) (m : Meter) → p ≤ 2000
     → number < last_number
     → IsAt b second position zone pulses ticks number m
     → IsAt b second position zone (pulses + p) ticks (number + 1) (run s (Pulses p ∷ Down ∷ Up second ∷ []) m).next
@@ -222,13 +227,13 @@ both-next : (s : Setting) (xs ys : List Event) (m : Meter)
     → (run s (xs ++ ys) m).next ≡ (run s ys (run s xs m).next).next
 both-next s xs ys m = ap (λ (o : Outcome). o.next) (runs_add_up s xs ys m)
 
-moved : (b : Trip) (second position zone pulses ticks number : ℕ) (m n : Meter) → m ≡ n
+moved : (b : MeterTrip) (second position zone pulses ticks number : ℕ) (m n : Meter) → m ≡ n
     → IsAt b second position zone pulses ticks
     number n → IsAt b second position zone pulses ticks number m
 moved b second position zone pulses ticks number m n is at = subst (IsAt b second position zone pulses ticks number)
     (sym is) at
 
-counted : (b : Trip) (second position zone : ℕ) (m : Meter) (p q t u n k : ℕ) → p ≡ q → t ≡ u → n ≡ k
+counted : (b : MeterTrip) (second position zone : ℕ) (m : Meter) (p q t u n k : ℕ) → p ≡ q → t ≡ u → n ≡ k
     → IsAt b second position zone p t n m → IsAt b second position zone q u k m
 counted b second position zone m p q t u n k ep et en at = record {
   shown_last = at.shown_last;
@@ -243,7 +248,7 @@ counted b second position zone m p q t u n k ep et en at = record {
   cover_is = at.cover_is;
 }
 
-drops-at : (s : Setting) (b : Trip) (second position zone pulses ticks number many : ℕ) (m : Meter)
+drops-at : (s : Setting) (b : MeterTrip) (second position zone pulses ticks number many : ℕ) (m : Meter)
     → number + many < last_number
     → IsAt b second position zone pulses ticks number m
     → IsAt b second position zone (pulses + 2000 * many) ticks (number + many) (run s (drops second many) m).next
@@ -259,7 +264,7 @@ drops-at s b second position zone pulses ticks number (suc many) m low at =
     moved b second position zone _ _ _ _ _ whole (counted b second position zone _ _ _ _ _ _ _ (omega arith) refl
     (omega arith) others)
 
-ticks-at : (s : Setting) (b : Trip) (second position zone pulses ticks number many : ℕ) (m : Meter)
+ticks-at : (s : Setting) (b : MeterTrip) (second position zone pulses ticks number many : ℕ) (m : Meter)
     → ticks + many < longest_trip
     → IsAt b second position zone pulses ticks number m
     → IsAt b second position zone pulses (ticks + many) number (run s (replicate many Tick) m).next
@@ -273,7 +278,7 @@ ticks-at s b second position zone pulses ticks number (suc many) m short at =
     first)
 
 -- a drop for any pulses that an interval can have, and none for no pulse
-drop-some : (s : Setting) (b : Trip) (second position zone pulses ticks number p : ℕ) (m : Meter) → p ≤ 2000
+drop-some : (s : Setting) (b : MeterTrip) (second position zone pulses ticks number p : ℕ) (m : Meter) → p ≤ 2000
     → number < last_number
     → IsAt b second position zone pulses ticks number m
     → (k : ℕ) × IsAt b second position zone (pulses + p) ticks k (run s (drop second p) m).next
@@ -324,7 +329,7 @@ zone-second s second position n last is =
     ap (λ (b : Bool). after_key s (if b then quiet (record m { zone = n }) else refused why.NoSuch m).next) is
 
 -- the trip that a hiring begins there
-abbrev begun_there : Setting → (second position zone : ℕ) → Trip
+abbrev begun_there : Setting → (second position zone : ℕ) → MeterTrip
 begun_there s second position zone =
     begun s (initial_by s.tariff (context_now s (for_hire second position zone None (0 ∷ 0 ∷ 0 ∷ []) None))) second 0
 

@@ -1,5 +1,6 @@
 -- Each stage of an event is alike at two meters that are.
-use Rattle.std.proofs.Common.{◌≡◌, ℕ, ◌-◌, ◌≤◌, Bool, true, false, nat_le, nat_lt, List, [], ◌∷◌, ◌++◌, sum, Option, Some, None, option_map, if◌then◌else◌, refl, ap, subst, ◌∙◌}
+use Rattle.std.proofs.Common.{◌≡◌, ℕ, ◌-◌, ◌≤◌, Bool, true, false, nat_le, nat_lt, List, [], ◌∷◌, ◌++◌, sum, Option}
+use Rattle.std.proofs.Common.{Some, None, option_map, if◌then◌else◌, refl, ap, subst, ◌∙◌}
 use Rattle.drive_modes.specs.declared.meterage.Meterage.{Meterage}
 use Rattle.taxi_units.specs.Time.{last_tick, longest_trip}
 use Rattle.taxi_units.specs.declared.event.Event.{Event}
@@ -17,41 +18,48 @@ use Rattle.taxi_units.specs.declared.receipt.Receipt as receipts
 use Rattle.totals_record.specs.Entries.{closes}
 use Rattle.totals_record.specs.States.{after}
 use Rattle.totals_record.specs.declared.entry.Entry.{Entry}
-use Rattle.totals_record.specs.declared.trip.Trip as store
+use Rattle.totals_record.specs.declared.trip.Trip.{Trip}
 use Rattle.tariff_check.specs.Parts.{positions_of, zones_of}
 use Rattle.tariff_compile.specs.Tables.{initial_by, supplement_at}
 use Rattle.tariff_compile.specs.declared.parts.Supplement.{Supplement}
 use Rattle.tariff_syntax.specs.declared.context.Context.{Context}
 use Rattle.meter_states.specs.Charge.{charge_at}
-use Rattle.meter_states.specs.Closing.{closed, roaming_checked, roaming_checked_in, roaming_entered, roaming_entry, trip_closed, entry_of, receipt_of}
+use Rattle.meter_states.specs.Closing.{closed, roaming_checked, roaming_checked_in, roaming_entered, roaming_entry}
+use Rattle.meter_states.specs.Closing.{trip_closed, entry_of, receipt_of}
 use Rattle.meter_states.specs.Display.{display_of, is_shown, shown}
-use Rattle.meter_states.specs.Interval.{context_now, context_of, counted_in, interval_begun, interval_counted, interval_left, left_in, pulses_taken, room_of, ticks_so_far}
-use Rattle.meter_states.specs.Keys.{extra_added, extra_added_to, hired, is_among, key_in, key_pressed, latch_pressed, latched, position_set, zone_set}
+use Rattle.meter_states.specs.Interval.{context_now, context_of, counted_in, interval_begun, interval_counted}
+use Rattle.meter_states.specs.Interval.{interval_left, left_in, pulses_taken, room_of, ticks_so_far}
+use Rattle.meter_states.specs.Keys.{extra_added, extra_added_to, hired, is_among, key_in, key_pressed, latch_pressed}
+use Rattle.meter_states.specs.Keys.{latched, position_set, zone_set}
 use Rattle.meter_states.specs.Meter.{Meter, Outcome, ◌>>=◌, entered, held, printed, quiet, refused}
 use Rattle.meter_states.specs.Setting.{Setting, unit_of}
-use Rattle.meter_states.specs.Step.{clock_read, clock_read_in_trip, expired, expired_or_pressed, latch_refused, off_step, powered_step, step, step_in, ticked}
+use Rattle.meter_states.specs.Step.{clock_read, clock_read_in_trip, expired, expired_or_pressed, latch_refused}
+use Rattle.meter_states.specs.Step.{off_step, powered_step, step, step_in, ticked}
 use Rattle.meter_states.specs.Supplements.{times}
-use Rattle.meter_states.specs.Supply.{aborted, hold_taken, is_stopped, is_within_hold, kept, powered, resumed, supply_came, supply_dropped, turned_off}
-use Rattle.meter_states.specs.Trip.{InHired, InStopped, Rest, Trip, begun, held_trip, with_extra, with_part}
+use Rattle.meter_states.specs.Supply.{aborted, hold_taken, is_stopped, is_within_hold, held_or_closed, powered, resumed}
+use Rattle.meter_states.specs.Supply.{supply_came, supply_dropped, turned_off}
+use Rattle.meter_states.specs.Trip.{InHired, InStopped, Rest, MeterTrip, begun, held_trip, with_extra, with_part}
 use Rattle.meter_states.specs.declared.act.Act.{Act}
 use Rattle.meter_states.specs.declared.act.Act.TheVariants.{Show, Refuse, Receipt}
-use Rattle.same_tariffs.specs.Alike.{AreActsAlike, AreHeldAlike, AreHoldsAlike, AreMetersAlike, AreOutcomesAlike, AreTripsAlike, AreTripsOfBothAlike, IsSameMoney, with_trips}
+use Rattle.same_tariffs.specs.Alike.{AreActsAlike, AreHeldAlike, AreHoldsAlike, AreMetersAlike, AreOutcomesAlike}
+use Rattle.same_tariffs.specs.Alike.{AreTripsAlike, AreTripsOfBothAlike, IsSameMoney, with_trips}
 use Rattle.same_tariffs.specs.Reached.{IsPlaced}
 use Rattle.same_tariffs.proofs.Agreeing.{Agree}
 use Rattle.same_tariffs.proofs.Money.{none-same}
-use Rattle.same_tariffs.proofs.Trips.{begun-alike, display-alike, entry-alike, extra-alike, held-alike, parts-alike, pulses-alike, receipt-alike, ticks-alike}
+use Rattle.same_tariffs.proofs.Trips.{begun-alike, display-alike, entry-alike, extra-alike, held-alike, parts-alike}
+use Rattle.same_tariffs.proofs.Trips.{pulses-alike, receipt-alike, ticks-alike}
 use Rattle.taxi_units.specs.Limits.{hirings_end, last_number, roaming_most}
 
 -- ---- meters, acts and outcomes
 
-pub meter-alike : (s t : Setting) (m : Meter) (trip : Option Trip) (hold : Option store.Trip)
+pub meter-alike : (s t : Setting) (m : Meter) (trip : Option MeterTrip) (hold : Option Trip)
     → AreTripsOfBothAlike s t m.trip trip → AreHoldsAlike s t m.durable.hold hold
     → AreMetersAlike s t m (with_trips trip hold m)
 meter-alike s t m trip hold same also = record { trip = same; hold = also; others = refl }
 
 -- what holds of a meter with other trips holds of each that is alike
 pub by-trips : (s t : Setting) (P : Meter → Type 0) (m n : Meter) → AreMetersAlike s t m n
-    → ((trip : Option Trip) (hold : Option store.Trip) → AreTripsOfBothAlike s t m.trip trip
+    → ((trip : Option MeterTrip) (hold : Option Trip) → AreTripsOfBothAlike s t m.trip trip
     → AreHoldsAlike s t m.durable.hold hold → P (with_trips trip hold m)) → P n
 by-trips s t P m n same each = subst P same.others (each n.trip n.durable.hold same.trip same.hold)
 
@@ -80,7 +88,7 @@ refused-alike : (s t : Setting) (why : Why) (m n : Meter) → AreMetersAlike s t
 refused-alike s t why m n same = record { next = same; acts = (refl, tt) }
 
 -- an entry, which ends what the store holds where it closes a hiring
-hold-after : (s t : Setting) (closing : Bool) (a b : Option store.Trip) → AreHoldsAlike s t a b
+hold-after : (s t : Setting) (closing : Bool) (a b : Option Trip) → AreHoldsAlike s t a b
     → AreHoldsAlike s t (if closing then None else a) (if closing then None else b)
 hold-after s t true a b same = tt
 hold-after s t false a b same = same
@@ -101,7 +109,7 @@ printed-alike : (s t : Setting) (receipt other : receipts.Receipt) (m n : Meter)
 printed-alike s t receipt other m n is same =
     record { next = same; acts = (ap (λ (r : receipts.Receipt). Receipt r) is, tt) }
 
-held-by : (s t : Setting) (trip other : store.Trip) (m n : Meter) → AreHeldAlike s t trip other → AreMetersAlike s t m n
+held-by : (s t : Setting) (trip other : Trip) (m n : Meter) → AreHeldAlike s t trip other → AreMetersAlike s t m n
     → AreOutcomesAlike s t (held trip m) (held other n)
 held-by s t trip other m n is same =
     by-trips s t (λ (k : Meter). AreOutcomesAlike s t (held trip m) (held other k)) m n same
@@ -109,7 +117,7 @@ held-by s t trip other m n is same =
 
 -- ---- closing
 
-closed-by : (s t : Setting) (kind : Kind) (finish : ℕ) (a b : Option Trip) (m n : Meter) → Agree s t
+closed-by : (s t : Setting) (kind : Kind) (finish : ℕ) (a b : Option MeterTrip) (m n : Meter) → Agree s t
     → AreTripsOfBothAlike s t a b → AreMetersAlike s t m n
     → m.position ≡ n.position → AreOutcomesAlike s t (trip_closed s kind finish a m) (trip_closed t kind finish b n)
 closed-by s t kind finish None None m n agree trips same place = quiet-alike s t m n same
@@ -135,7 +143,7 @@ closed-by s t kind finish (Some a) (Some b) m n agree trips same place =
     (printed-alike s t (receipt_of s kind finish o.next.position a o.next.durable.number)
     (receipt_of t kind finish p.next.position b p.next.durable.number) o.next p.next receipt first.next)
 
-closed-with : (s t : Setting) (kind : Kind) (finish : ℕ) (m : Meter) (trip : Option Trip) (hold : Option store.Trip)
+closed-with : (s t : Setting) (kind : Kind) (finish : ℕ) (m : Meter) (trip : Option MeterTrip) (hold : Option Trip)
     → Agree s t → AreTripsOfBothAlike s t m.trip trip → AreHoldsAlike s t m.durable.hold hold
     → AreOutcomesAlike s t (closed s kind finish m) (closed t kind finish (with_trips trip hold m))
 closed-with s t kind finish m trip hold agree same also =
@@ -152,21 +160,21 @@ closed-alike s t kind finish m n agree same =
 -- ---- the end of an interval
 
 -- meters that are alike have one context under a setting
-context-same : (s t : Setting) (m : Meter) (trip : Option Trip) (hold : Option store.Trip)
+context-same : (s t : Setting) (m : Meter) (trip : Option MeterTrip) (hold : Option Trip)
     → AreTripsOfBothAlike s t m.trip trip → context_of t m ≡ context_of t (with_trips trip hold m)
 context-same s t m trip hold same =
     let pulses = pulses-alike s t m.trip trip same in
     let ticks = ticks-alike s t m.trip trip same in
     cc
 
-now-same : (s t : Setting) (m : Meter) (trip : Option Trip) (hold : Option store.Trip) → AreTripsOfBothAlike s t m.trip
+now-same : (s t : Setting) (m : Meter) (trip : Option MeterTrip) (hold : Option Trip) → AreTripsOfBothAlike s t m.trip
     trip → context_now t m ≡ context_now t (with_trips trip hold m)
 now-same s t m trip hold same =
     let pulses = pulses-alike s t m.trip trip same in
     let ticks = ticks-alike s t m.trip trip same in
     cc
 
-counted-by : (s t : Setting) (operating : Operating) (p : ℕ) (m : Meter) (trip : Option Trip) (hold : Option store.Trip)
+counted-by : (s t : Setting) (operating : Operating) (p : ℕ) (m : Meter) (trip : Option MeterTrip) (hold : Option Trip)
     → Agree s t → IsPlaced s m → ticks_so_far m.trip ≤ last_tick
     → AreTripsOfBothAlike s t m.trip trip → AreHoldsAlike s t m.durable.hold hold
     → AreMetersAlike s t (counted_in s operating p m) (counted_in t operating p (with_trips trip hold m))
@@ -226,7 +234,7 @@ expired-alike s t m n agree same =
 
 -- ---- keys
 
-hiring-alike : (s t : Setting) (b : Bool) (m : Meter) (trip : Option Trip) (hold : Option store.Trip) → Agree s t
+hiring-alike : (s t : Setting) (b : Bool) (m : Meter) (trip : Option MeterTrip) (hold : Option Trip) → Agree s t
     → IsPlaced s m → AreTripsOfBothAlike s t m.trip trip → AreHoldsAlike s t m.durable.hold hold
     → AreOutcomesAlike s t (if b then refused why.Ended m else quiet (hired s m))
     (if b then refused why.Ended (with_trips trip hold m) else quiet (hired t (with_trips trip hold m)))
@@ -247,7 +255,7 @@ set-alike : (s t : Setting) (b : Bool) (m n k l : Meter) → AreMetersAlike s t 
 set-alike s t true m n k l same also = quiet-alike s t k l also
 set-alike s t false m n k l same also = refused-alike s t why.NoSuch m n same
 
-position-alike : (s t : Setting) (n : ℕ) (m : Meter) (trip : Option Trip) (hold : Option store.Trip) → Agree s t
+position-alike : (s t : Setting) (n : ℕ) (m : Meter) (trip : Option MeterTrip) (hold : Option Trip) → Agree s t
     → AreTripsOfBothAlike s t m.trip trip → AreHoldsAlike s t m.durable.hold hold
     → AreOutcomesAlike s t (position_set s n m) (position_set t n (with_trips trip hold m))
 position-alike s t n m trip hold agree same also =
@@ -258,7 +266,7 @@ position-alike s t n m trip hold agree same also =
     (record o { position = n }) (meter-alike s t m trip hold same also)
     (meter-alike s t (record m { position = n }) trip hold same also))
 
-zone-alike : (s t : Setting) (n : ℕ) (m : Meter) (trip : Option Trip) (hold : Option store.Trip) → Agree s t
+zone-alike : (s t : Setting) (n : ℕ) (m : Meter) (trip : Option MeterTrip) (hold : Option Trip) → Agree s t
     → AreTripsOfBothAlike s t m.trip trip → AreHoldsAlike s t m.durable.hold hold
     → AreOutcomesAlike s t (zone_set s n m) (zone_set t n (with_trips trip hold m))
 zone-alike s t n m trip hold agree same also =
@@ -269,7 +277,8 @@ zone-alike s t n m trip hold agree same also =
     (meter-alike s t m trip hold same also)
     (meter-alike s t (record m { zone = n }) trip hold same also))
 
-most-alike : (s t : Setting) (b : Bool) (n : ℕ) (a c : Trip) (m : Meter) (trip : Option Trip) (hold : Option store.Trip)
+most-alike : (s t : Setting) (b : Bool) (n : ℕ) (a c : MeterTrip) (m : Meter) (trip : Option MeterTrip)
+    (hold : Option Trip)
     → AreTripsAlike s t a c → AreTripsOfBothAlike s t m.trip trip → AreHoldsAlike s t m.durable.hold hold
     → AreOutcomesAlike s t (if b then refused why.AtMost m else quiet (record m { trip = Some (with_extra n a) }))
     (if b then refused why.AtMost (with_trips trip hold m) else quiet
@@ -282,8 +291,9 @@ most-alike s t false n a c m trip hold trips same also =
     (meter-alike s t (record m { trip = Some (with_extra n a) }) (Some (with_extra n c)) hold
     (extra-alike s t n a c trips) also)
 
-added-alike : (s t : Setting) (n : ℕ) (supplement : Supplement) (a b : Option Trip) (m : Meter) (trip : Option Trip)
-    (hold : Option store.Trip) → AreTripsOfBothAlike s t a b → AreTripsOfBothAlike s t m.trip trip
+added-alike : (s t : Setting) (n : ℕ) (supplement : Supplement) (a b : Option MeterTrip) (m : Meter)
+    (trip : Option MeterTrip)
+    (hold : Option Trip) → AreTripsOfBothAlike s t a b → AreTripsOfBothAlike s t m.trip trip
     → AreHoldsAlike s t m.durable.hold hold
     → AreOutcomesAlike s t (extra_added_to n supplement a m) (extra_added_to n supplement b (with_trips trip hold m))
 added-alike s t n supplement None None m trip hold trips same also = quiet-alike s t m (with_trips trip hold m)
@@ -296,15 +306,15 @@ added-alike s t n supplement (Some a) (Some b) m trip hold trips same also =
     (record (with_trips trip hold m) { trip = Some (with_extra n b) }))) trips.extras
     (most-alike s t (nat_le supplement.max (times n a.extras)) n a b m trip hold trips same also)
 
-supplement-alike : (s t : Setting) (n : ℕ) (supplement : Option Supplement) (m : Meter) (trip : Option Trip)
-    (hold : Option store.Trip) → AreTripsOfBothAlike s t m.trip trip → AreHoldsAlike s t m.durable.hold hold
+supplement-alike : (s t : Setting) (n : ℕ) (supplement : Option Supplement) (m : Meter) (trip : Option MeterTrip)
+    (hold : Option Trip) → AreTripsOfBothAlike s t m.trip trip → AreHoldsAlike s t m.durable.hold hold
     → AreOutcomesAlike s t (extra_added n supplement m) (extra_added n supplement (with_trips trip hold m))
 supplement-alike s t n None m trip hold same also = refused-alike s t why.NoSuch m (with_trips trip hold m)
     (meter-alike s t m trip hold same also)
 supplement-alike s t n (Some supplement) m trip hold same also = added-alike s t n supplement m.trip trip m trip hold
     same same also
 
-extra-key : (s t : Setting) (n : ℕ) (m : Meter) (trip : Option Trip) (hold : Option store.Trip) → Agree s t
+extra-key : (s t : Setting) (n : ℕ) (m : Meter) (trip : Option MeterTrip) (hold : Option Trip) → Agree s t
     → AreTripsOfBothAlike s t m.trip trip → AreHoldsAlike s t m.durable.hold hold
     → AreOutcomesAlike s t (extra_added n (supplement_at s.tariff n) m)
     (extra_added n (supplement_at t.tariff n) (with_trips trip hold m))
@@ -313,7 +323,7 @@ extra-key s t n m trip hold agree same also =
     (extra_added n x (with_trips trip hold m))) (agree.supplements n)
     (supplement-alike s t n (supplement_at s.tariff n) m trip hold same also)
 
-key-by : (s t : Setting) (key : Key) (operating : Operating) (m : Meter) (trip : Option Trip) (hold : Option store.Trip)
+key-by : (s t : Setting) (key : Key) (operating : Operating) (m : Meter) (trip : Option MeterTrip) (hold : Option Trip)
     → Agree s t → IsPlaced s m → AreTripsOfBothAlike s t m.trip trip → AreHoldsAlike s t m.durable.hold hold
     → AreOutcomesAlike s t (key_in s key operating m) (key_in t key operating (with_trips trip hold m))
 key-by s t keys.Hire ForHire m trip hold agree placed same also = hiring-alike s t (nat_le hirings_end m.durable.number)
@@ -336,7 +346,7 @@ key-by s t (keys.Extra n) Stopped m trip hold agree placed same also = extra-key
 key-by s t key operating m trip hold agree placed same also = refused-alike s t why.NotNow m (with_trips trip hold m)
     (meter-alike s t m trip hold same also)
 
-pressed-by : (s t : Setting) (latch : Option Key) (m : Meter) (trip : Option Trip) (hold : Option store.Trip)
+pressed-by : (s t : Setting) (latch : Option Key) (m : Meter) (trip : Option MeterTrip) (hold : Option Trip)
     → Agree s t → IsPlaced s m → AreTripsOfBothAlike s t m.trip trip → AreHoldsAlike s t m.durable.hold hold
     → AreOutcomesAlike s t (latch_pressed s latch m) (latch_pressed t latch (with_trips trip hold m))
 pressed-by s t None m trip hold agree placed same also = quiet-alike s t m (with_trips trip hold m)
@@ -362,7 +372,7 @@ pressed-alike s t m n agree placed same =
 
 -- ---- roaming, the display and the next interval
 
-entered-roaming : (s t : Setting) (m : Meter) (trip : Option Trip) (hold : Option store.Trip) → Agree s t
+entered-roaming : (s t : Setting) (m : Meter) (trip : Option MeterTrip) (hold : Option Trip) → Agree s t
     → AreTripsOfBothAlike s t m.trip trip → AreHoldsAlike s t m.durable.hold hold
     → AreOutcomesAlike s t (roaming_entered s m) (roaming_entered t (with_trips trip hold m))
 entered-roaming s t m trip hold agree same also =
@@ -371,7 +381,7 @@ entered-roaming s t m trip hold agree same also =
     (with_trips trip hold (record m { roaming = [] })) entry
     (meter-alike s t (record m { roaming = [] }) trip hold same also)
 
-roaming-by : (s t : Setting) (operating : Operating) (m : Meter) (trip : Option Trip) (hold : Option store.Trip)
+roaming-by : (s t : Setting) (operating : Operating) (m : Meter) (trip : Option MeterTrip) (hold : Option Trip)
     → Agree s t → AreTripsOfBothAlike s t m.trip trip → AreHoldsAlike s t m.durable.hold hold
     → AreOutcomesAlike s t (roaming_checked_in s operating m) (roaming_checked_in t operating (with_trips trip hold m))
 roaming-by s t ForHire m trip hold agree same also =
@@ -425,7 +435,7 @@ begun-next s t m n same =
 
 -- ---- the supply
 
-left-by : (s t : Setting) (operating : Operating) (p : ℕ) (m : Meter) (trip : Option Trip) (hold : Option store.Trip)
+left-by : (s t : Setting) (operating : Operating) (p : ℕ) (m : Meter) (trip : Option MeterTrip) (hold : Option Trip)
     → AreTripsOfBothAlike s t m.trip trip → AreHoldsAlike s t m.durable.hold hold
     → AreMetersAlike s t (left_in operating p m) (left_in operating p (with_trips trip hold m))
 left-by s t Off p m trip hold same also = meter-alike s t m trip hold same also
@@ -443,9 +453,10 @@ left-alike s t m n same =
     by-trips s t (λ (k : Meter). AreOutcomesAlike s t (interval_left m) (interval_left k)) m n same
     (λ trip hold alike also. record { next = left-by s t m.operating (sum m.taken) m trip hold alike also; acts = tt })
 
-kept-by : (s t : Setting) (a b : Option Trip) (m : Meter) (trip : Option Trip) (hold : Option store.Trip) → Agree s t
+kept-by : (s t : Setting) (a b : Option MeterTrip) (m : Meter) (trip : Option MeterTrip)
+    (hold : Option Trip) → Agree s t
     → AreTripsOfBothAlike s t a b → AreTripsOfBothAlike s t m.trip trip → AreHoldsAlike s t m.durable.hold hold
-    → AreOutcomesAlike s t (kept s a m) (kept t b (with_trips trip hold m))
+    → AreOutcomesAlike s t (held_or_closed s a m) (held_or_closed t b (with_trips trip hold m))
 kept-by s t None None m trip hold agree trips same also =
     let n = with_trips trip hold m in
     either-alike s t (nat_lt 0 (sum m.roaming)) (roaming_entered s m) (quiet m) (roaming_entered t n) (quiet n)
@@ -466,9 +477,9 @@ kept-by s t (Some a) (Some b) m trip hold agree trips same also =
     (closed-with s t kinds.Aborted m.clock m trip hold agree same also)
 
 pub kept-alike : (s t : Setting) (m n : Meter) → Agree s t → AreMetersAlike s t m n
-    → AreOutcomesAlike s t (kept s m.trip m) (kept t n.trip n)
+    → AreOutcomesAlike s t (held_or_closed s m.trip m) (held_or_closed t n.trip n)
 kept-alike s t m n agree same =
-    by-trips s t (λ (k : Meter). AreOutcomesAlike s t (kept s m.trip m) (kept t k.trip k)) m n same
+    by-trips s t (λ (k : Meter). AreOutcomesAlike s t (held_or_closed s m.trip m) (held_or_closed t k.trip k)) m n same
     (λ trip hold alike also. kept-by s t m.trip trip m trip hold agree alike alike also)
 
 pub off-alike : (s t : Setting) (m n : Meter) → AreMetersAlike s t m n → AreOutcomesAlike s t (turned_off m)
@@ -483,18 +494,18 @@ pub dropped-alike : (s t : Setting) (m n : Meter) → Agree s t → AreMetersAli
 dropped-alike s t m n agree same =
     let first = left-alike s t m n same in
     let second = kept-alike s t (interval_left m).next (interval_left n).next agree first.next in
-    let third = off-alike s t (kept s (interval_left m).next.trip (interval_left m).next).next
-    (kept t (interval_left n).next.trip (interval_left n).next).next second.next in
-    then-alike s t (interval_left m) (interval_left n) (λ (k : Meter). kept s k.trip k >>= turned_off)
-    (λ (k : Meter). kept t k.trip k >>= turned_off) first
-    (then-alike s t (kept s (interval_left m).next.trip (interval_left m).next)
-    (kept t (interval_left n).next.trip (interval_left n).next) turned_off turned_off second third)
+    let third = off-alike s t (held_or_closed s (interval_left m).next.trip (interval_left m).next).next
+    (held_or_closed t (interval_left n).next.trip (interval_left n).next).next second.next in
+    then-alike s t (interval_left m) (interval_left n) (λ (k : Meter). held_or_closed s k.trip k >>= turned_off)
+    (λ (k : Meter). held_or_closed t k.trip k >>= turned_off) first
+    (then-alike s t (held_or_closed s (interval_left m).next.trip (interval_left m).next)
+    (held_or_closed t (interval_left n).next.trip (interval_left n).next) turned_off turned_off second third)
 
 -- what a held trip leaves but for its meterage
-resumed-alike : (s t : Setting) (a b : store.Trip) (m n : Meter) → AreHeldAlike s t a b → AreMetersAlike s t m n
+resumed-alike : (s t : Setting) (a b : Trip) (m n : Meter) → AreHeldAlike s t a b → AreMetersAlike s t m n
     → AreOutcomesAlike s t (resumed a m) (resumed b n)
 resumed-alike s t a b m n held same =
-    subst (λ (x : store.Trip). AreOutcomesAlike s t (resumed a m) (resumed x n)) held.others
+    subst (λ (x : Trip). AreOutcomesAlike s t (resumed a m) (resumed x n)) held.others
     (by-trips s t (λ (k : Meter). AreOutcomesAlike s t (resumed a m) (resumed (record a { meterage = b.meterage }) k)) m
     n same
     (λ trip hold alike also. quiet-alike s t (resumed a m).next (resumed a (with_trips trip hold m)).next
@@ -509,8 +520,8 @@ placed-first s t m n same =
     (record (with_trips trip hold m) { position = 1; zone = 1 })
     (meter-alike s t (record m { position = 1; zone = 1 }) trip hold alike also))
 
-aborted-with : (s t : Setting) (a : store.Trip) (g : Meterage) (m : Meter) (trip : Option Trip)
-    (hold : Option store.Trip) → Agree s t → AreTripsOfBothAlike s t m.trip trip → AreHoldsAlike s t m.durable.hold hold
+aborted-with : (s t : Setting) (a : Trip) (g : Meterage) (m : Meter) (trip : Option MeterTrip)
+    (hold : Option Trip) → Agree s t → AreTripsOfBothAlike s t m.trip trip → AreHoldsAlike s t m.durable.hold hold
     → AreOutcomesAlike s t (aborted s a m) (aborted t (record a { meterage = g }) (with_trips trip hold m))
 aborted-with s t a g m trip hold agree same also =
     let k = record m { position = a.position } in
@@ -521,21 +532,21 @@ aborted-with s t a g m trip hold agree same also =
     (λ (x : Meter). quiet (record x { position = 1; zone = 1 })) first
     (placed-first s t o.next p.next first.next)
 
-aborted-alike : (s t : Setting) (a b : store.Trip) (m n : Meter) → Agree s t → AreHeldAlike s t a b
+aborted-alike : (s t : Setting) (a b : Trip) (m n : Meter) → Agree s t → AreHeldAlike s t a b
     → AreMetersAlike s t m n → AreOutcomesAlike s t (aborted s a m) (aborted t b n)
 aborted-alike s t a b m n agree held same =
-    subst (λ (x : store.Trip). AreOutcomesAlike s t (aborted s a m) (aborted t x n)) held.others
+    subst (λ (x : Trip). AreOutcomesAlike s t (aborted s a m) (aborted t x n)) held.others
     (by-trips s t (λ (k : Meter). AreOutcomesAlike s t (aborted s a m)
     (aborted t (record a { meterage = b.meterage }) k)) m n same
     (λ trip hold alike also. aborted-with s t a b.meterage m trip hold agree alike also))
 
-within-alike : (s t : Setting) (second : ℕ) (a b : store.Trip) → Agree s t → AreHeldAlike s t a b
+within-alike : (s t : Setting) (second : ℕ) (a b : Trip) → Agree s t → AreHeldAlike s t a b
     → is_within_hold s second a ≡ is_within_hold t second b
 within-alike s t second a b agree held =
-    ap (λ (n : ℕ). is_within_hold (record s { hold = n }) second a) agree.hold
-    ∙ ap (λ (x : store.Trip). is_within_hold t second x) held.others
+    ap (λ (n : ℕ). is_within_hold (record s { hold_time = n }) second a) agree.hold
+    ∙ ap (λ (x : Trip). is_within_hold t second x) held.others
 
-taken-alike : (s t : Setting) (second : ℕ) (a b : Option store.Trip) (m n : Meter) → Agree s t → AreHoldsAlike s t a b
+taken-alike : (s t : Setting) (second : ℕ) (a b : Option Trip) (m n : Meter) → Agree s t → AreHoldsAlike s t a b
     → AreMetersAlike s t m n → AreOutcomesAlike s t (hold_taken s second a m) (hold_taken t second b n)
 taken-alike s t second None None m n agree holds same =
     by-trips s t (λ (k : Meter). AreOutcomesAlike s t (hold_taken s second None m) (hold_taken t second None k)) m n
@@ -597,7 +608,7 @@ refusing : (s t : Setting) (b : Bool) (why : Why) → AreActsAlike s t (if b the
 refusing s t true why = (refl, tt)
 refusing s t false why = tt
 
-read-by : (s t : Setting) (second : ℕ) (m : Meter) (trip : Option Trip) (hold : Option store.Trip)
+read-by : (s t : Setting) (second : ℕ) (m : Meter) (trip : Option MeterTrip) (hold : Option Trip)
     → AreTripsOfBothAlike s t m.trip trip → AreHoldsAlike s t m.durable.hold hold
     → AreOutcomesAlike s t (clock_read_in_trip second m) (clock_read_in_trip second (with_trips trip hold m))
 read-by s t second m trip hold same also =
@@ -609,8 +620,8 @@ read-by s t second m trip hold same also =
     (quiet-alike s t (record m { clock = second }) (record n { clock = second })
     (meter-alike s t (record m { clock = second }) trip hold same also))
 
-clock-by : (s t : Setting) (operating : Operating) (second : ℕ) (m : Meter) (trip : Option Trip)
-    (hold : Option store.Trip) → AreTripsOfBothAlike s t m.trip trip → AreHoldsAlike s t m.durable.hold hold
+clock-by : (s t : Setting) (operating : Operating) (second : ℕ) (m : Meter) (trip : Option MeterTrip)
+    (hold : Option Trip) → AreTripsOfBothAlike s t m.trip trip → AreHoldsAlike s t m.durable.hold hold
     → AreOutcomesAlike s t (clock_read operating second m) (clock_read operating second (with_trips trip hold m))
 clock-by s t Hired second m trip hold same also = read-by s t second m trip hold same also
 clock-by s t Stopped second m trip hold same also = read-by s t second m trip hold same also
@@ -618,8 +629,8 @@ clock-by s t operating second m trip hold same also =
     quiet-alike s t (record m { clock = second }) (with_trips trip hold (record m { clock = second }))
     (meter-alike s t (record m { clock = second }) trip hold same also)
 
-latched-by : (s t : Setting) (latch : Option Key) (key : Key) (m : Meter) (trip : Option Trip)
-    (hold : Option store.Trip) → AreTripsOfBothAlike s t m.trip trip → AreHoldsAlike s t m.durable.hold hold
+latched-by : (s t : Setting) (latch : Option Key) (key : Key) (m : Meter) (trip : Option MeterTrip)
+    (hold : Option Trip) → AreTripsOfBothAlike s t m.trip trip → AreHoldsAlike s t m.durable.hold hold
     → AreOutcomesAlike s t (latched latch key m) (latched latch key (with_trips trip hold m))
 latched-by s t None key m trip hold same also =
     quiet-alike s t (record m { latch = Some key }) (with_trips trip hold (record m { latch = Some key }))
@@ -627,7 +638,7 @@ latched-by s t None key m trip hold same also =
 latched-by s t (Some waiting) key m trip hold same also = refused-alike s t why.KeyWaiting m (with_trips trip hold m)
     (meter-alike s t m trip hold same also)
 
-powered-step-by : (s t : Setting) (event : Event) (m : Meter) (trip : Option Trip) (hold : Option store.Trip)
+powered-step-by : (s t : Setting) (event : Event) (m : Meter) (trip : Option MeterTrip) (hold : Option Trip)
     → Agree s t → IsPlaced s m → IsPlaced s (interval_counted s m).next → ticks_so_far m.trip ≤ last_tick
     → AreTripsOfBothAlike s t m.trip trip → AreHoldsAlike s t m.durable.hold hold
     → AreOutcomesAlike s t (powered_step s event m) (powered_step t event (with_trips trip hold m))
@@ -649,7 +660,7 @@ powered-step-by s t (events.Clock second) m trip hold agree placed after short s
 powered-step-by s t (events.Key key) m trip hold agree placed after short same also =
     latched-by s t m.latch key m trip hold same also
 
-off-step-by : (s t : Setting) (event : Event) (m : Meter) (trip : Option Trip) (hold : Option store.Trip) → Agree s t
+off-step-by : (s t : Setting) (event : Event) (m : Meter) (trip : Option MeterTrip) (hold : Option Trip) → Agree s t
     → AreTripsOfBothAlike s t m.trip trip → AreHoldsAlike s t m.durable.hold hold
     → AreOutcomesAlike s t (off_step s event m) (off_step t event (with_trips trip hold m))
 off-step-by s t (events.Up second) m trip hold agree same also = came-alike s t second m (with_trips trip hold m) agree
@@ -657,8 +668,8 @@ off-step-by s t (events.Up second) m trip hold agree same also = came-alike s t 
 off-step-by s t event m trip hold agree same also = refused-alike s t why.NotNow m (with_trips trip hold m)
     (meter-alike s t m trip hold same also)
 
-step-by : (s t : Setting) (operating : Operating) (event : Event) (m : Meter) (trip : Option Trip)
-    (hold : Option store.Trip) → Agree s t → IsPlaced s m → IsPlaced s (interval_counted s m).next
+step-by : (s t : Setting) (operating : Operating) (event : Event) (m : Meter) (trip : Option MeterTrip)
+    (hold : Option Trip) → Agree s t → IsPlaced s m → IsPlaced s (interval_counted s m).next
     → ticks_so_far m.trip ≤ last_tick
     → AreTripsOfBothAlike s t m.trip trip → AreHoldsAlike s t m.durable.hold hold
     → AreOutcomesAlike s t (step_in s operating event m) (step_in t operating event (with_trips trip hold m))

@@ -1,5 +1,6 @@
 -- The events of each drive are timely.
-use Rattle.std.proofs.Common.{◌≡◌, ℕ, zero, suc, ◌==◌, Bool, true, false, All, List, [], ◌∷◌, flat_map, take, take_while, is_some, Option, Some, None, if◌then◌else◌, refl, sym, subst}
+use Rattle.std.proofs.Common.{◌≡◌, ℕ, zero, suc, ◌==◌, Bool, true, false, All, List, [], ◌∷◌, flat_map, take}
+use Rattle.std.proofs.Common.{take_while, is_some, Option, Some, None, if◌then◌else◌, refl, sym, subst}
 use Rattle.std.specs.Option.{unwrap_or}
 use Rattle.std.specs.Str.Lines.{strip_carriage_return}
 use Rattle.std.proofs.lemmas.List.Elements.{All-append, All-cons, All-nil}
@@ -14,7 +15,8 @@ use Rattle.drive_text.specs.Fields.{line_runs}
 use Rattle.drive_text.specs.Lines.{ended_lines}
 use Rattle.drive_text.specs.Runs.{interval_events, intervals_events, run_events}
 use Rattle.drive_text.specs.Table.{Means}
-use Rattle.drive_text.specs.Table.Means.{empty, comment, up, down, clock, pulses, tick, intervals, hire, stop, clear, position, zone, extra}
+use Rattle.drive_text.specs.Table.Means.{empty, comment, up, down, clock, pulses, tick, intervals, hire, stop, clear}
+use Rattle.drive_text.specs.Table.Means.{position, zone, extra}
 use Rattle.drive_text.proofs.Laws.{lines_give_what_the_table_says}
 use Rattle.meter_states.specs.Lawful.{IsTimely}
 

@@ -1,11 +1,12 @@
 -- What two meters make of trips that are alike.
-use Rattle.std.proofs.Common.{◌≡◌, ℕ, ℤ, ◌+◌, ◌*◌, ◌<◌, mul-pos, Bool, List, [], ◌∷◌, ◌++◌, map, sum, Option, Some, None, option_map, refl, ap, sym, subst, ◌∙◌, arith}
+use Rattle.std.proofs.Common.{◌≡◌, ℕ, ℤ, ◌+◌, ◌*◌, ◌<◌, mul-pos, Bool, List, [], ◌∷◌, ◌++◌, map, sum, Option, Some}
+use Rattle.std.proofs.Common.{None, option_map, refl, ap, sym, subst, ◌∙◌, arith}
 use Rattle.std.proofs.lemmas.Grind.{common_steps}
 use Rattle.drive_modes.specs.Fare.{shown_fare, steps_above}
 use Rattle.drive_modes.specs.declared.meterage.Meterage.{Meterage}
 use Rattle.drive_modes.specs.declared.meterage.Rounding.{Rounding}
 use Rattle.taxi_units.specs.declared.receipt.Kind.{Kind}
-use Rattle.totals_record.specs.declared.trip.Trip as store
+use Rattle.totals_record.specs.declared.trip.Trip.{Trip}
 use Rattle.drive_modes.specs.Distance.{millimetres_of}
 use Rattle.tariff_check.specs.DisplayStep.{display_step}
 use Rattle.tariff_compile.specs.Tables.{supplement_at}
@@ -18,8 +19,11 @@ use Rattle.meter_states.specs.Run.{trip_of}
 use Rattle.meter_states.specs.Setting.{Setting, modulus_of, rounding_of, stamp_at, unit_of}
 use Rattle.meter_states.specs.Supplements.{amount_in, amounts_of, counts_of}
 use Rattle.meter_states.specs.Trip as model
-use Rattle.meter_states.specs.Trip.{InHired, Part, Rest, Trip, begun, charge_in, charges_of, fare_of, held_trip, pulses_in, pulses_of, core_trip_of, steps_shown, ticks_in, ticks_of, with_extra, with_part}
-use Rattle.same_tariffs.specs.Alike.{AreHeldAlike, AreHoldsAlike, AreMeteragesAlike, AreOpeningsAlike, AreTripsAlike, AreTripsOfBothAlike, IsSameMoney, with_trips}
+use Rattle.meter_states.specs.Trip.{InHired, Part, Rest, MeterTrip, begun, charge_in, charges_of, fare_of, held_trip}
+use Rattle.meter_states.specs.Trip.{pulses_in, pulses_of, core_trip_of, steps_shown, ticks_in, ticks_of, with_extra}
+use Rattle.meter_states.specs.Trip.{with_part}
+use Rattle.same_tariffs.specs.Alike.{AreHeldAlike, AreHoldsAlike, AreMeteragesAlike, AreOpeningsAlike, AreTripsAlike}
+use Rattle.same_tariffs.specs.Alike.{AreTripsOfBothAlike, IsSameMoney, with_trips}
 use Rattle.same_tariffs.proofs.Agreeing.{Agree}
 use Rattle.same_tariffs.proofs.Money.{none-same, saved-same, steps-same, sum-same, times-money, times-same}
 
@@ -31,7 +35,7 @@ sum-more f [] part = omega arith
 sum-more f (x ∷ parts) part = grind (arith, common_steps, sum-more f parts part)
 
 -- a part more, of as many pulses and ticks, and of the same money
-pub part-alike : (s t : Setting) (a b : Trip) (x y : Part) → pulses_in x ≡ pulses_in y → ticks_in x ≡ ticks_in y
+pub part-alike : (s t : Setting) (a b : MeterTrip) (x y : Part) → pulses_in x ≡ pulses_in y → ticks_in x ≡ ticks_in y
     → IsSameMoney (unit_of s) (unit_of t) (charge_in s x) (charge_in t y) → AreTripsAlike s t a b
     → AreTripsAlike s t (with_part x a) (with_part y b)
 part-alike s t a b x y pulses ticks charge same = record {
@@ -53,7 +57,8 @@ part-alike s t a b x y pulses ticks charge same = record {
       };
 }
 
-pub parts-alike : (s t : Setting) (a b : Option Trip) (x y : Part) → pulses_in x ≡ pulses_in y → ticks_in x ≡ ticks_in y
+pub parts-alike : (s t : Setting) (a b : Option MeterTrip) (x y : Part) → pulses_in x ≡ pulses_in y
+    → ticks_in x ≡ ticks_in y
     → IsSameMoney (unit_of s) (unit_of t) (charge_in s x) (charge_in t y) → AreTripsOfBothAlike s t a b
     → AreTripsOfBothAlike s t (option_map (with_part x) a) (option_map (with_part y) b)
 parts-alike s t None None x y pulses ticks charge same = tt
@@ -61,7 +66,7 @@ parts-alike s t (Some a) (Some b) x y pulses ticks charge same = part-alike s t 
 parts-alike s t None (Some b) x y pulses ticks charge same = absurd same
 parts-alike s t (Some a) None x y pulses ticks charge same = absurd same
 
-pub extra-alike : (s t : Setting) (n : ℕ) (a b : Trip) → AreTripsAlike s t a b → AreTripsAlike s t (with_extra n a)
+pub extra-alike : (s t : Setting) (n : ℕ) (a b : MeterTrip) → AreTripsAlike s t a b → AreTripsAlike s t (with_extra n a)
     (with_extra n b)
 extra-alike s t n a b same = record {
   started = same.started;
@@ -95,13 +100,15 @@ begun-alike s t fee other second roam is = record {
 
 -- ---- numbers of trips that both meters show
 
-pub pulses-alike : (s t : Setting) (a b : Option Trip) → AreTripsOfBothAlike s t a b → pulses_so_far a ≡ pulses_so_far b
+pub pulses-alike : (s t : Setting) (a b : Option MeterTrip) → AreTripsOfBothAlike s t a b
+    → pulses_so_far a ≡ pulses_so_far b
 pulses-alike s t None None same = refl
 pulses-alike s t (Some a) (Some b) same = same.pulses
 pulses-alike s t None (Some b) same = absurd same
 pulses-alike s t (Some a) None same = absurd same
 
-pub ticks-alike : (s t : Setting) (a b : Option Trip) → AreTripsOfBothAlike s t a b → ticks_so_far a ≡ ticks_so_far b
+pub ticks-alike : (s t : Setting) (a b : Option MeterTrip) → AreTripsOfBothAlike s t a b
+    → ticks_so_far a ≡ ticks_so_far b
 ticks-alike s t None None same = refl
 ticks-alike s t (Some a) (Some b) same = same.ticks
 ticks-alike s t None (Some b) same = absurd same
@@ -122,30 +129,32 @@ step-money s t agree =
 some-modulus : (n u : ℕ) → 0 < n → 0 < u → 0 < n * u
 some-modulus n u some also = mul-pos some also
 
-openings-alike : (s t : Setting) (a b : Trip) → Agree s t → AreTripsAlike s t a b
+openings-alike : (s t : Setting) (a b : MeterTrip) → Agree s t → AreTripsAlike s t a b
     → AreOpeningsAlike (unit_of s) (unit_of t) (model.opening_of s a) (model.opening_of t b)
 openings-alike s t a b agree same = record {
   cover = same.cover;
   above = same.above;
   modulus = step-money s t agree;
   some = some-modulus (display_step s.tariff).0 (unit_of s) agree.some_step agree.some_unit;
-  also = some-modulus (display_step t.tariff).0 (unit_of t) (subst (λ (n : ℕ). 0 < n) (step-is s t agree) agree.some_step)
+  also =
+      some-modulus (display_step t.tariff).0 (unit_of t) (subst (λ (n : ℕ). 0 < n) (step-is s t agree) agree.some_step)
       agree.also_unit;
 }
 
-pub meterage-alike : (s t : Setting) (a b : Trip) → Agree s t → AreTripsAlike s t a b
+pub meterage-alike : (s t : Setting) (a b : MeterTrip) → Agree s t → AreTripsAlike s t a b
     → AreMeteragesAlike (unit_of s) (unit_of t) (core_trip_of s a).meterage (core_trip_of t b).meterage
 meterage-alike s t a b agree same =
     saved-same (unit_of s) (unit_of t) (model.opening_of s a) (model.opening_of t b) (charges_of s a) (charges_of t b)
     agree.some_unit agree.also_unit (openings-alike s t a b agree same) same.charges
 
-pub shown-alike : (s t : Setting) (a b : Trip) → Agree s t → AreTripsAlike s t a b → steps_shown s a ≡ steps_shown t b
+pub shown-alike : (s t : Setting) (a b : MeterTrip) → Agree s t → AreTripsAlike s t a b
+    → steps_shown s a ≡ steps_shown t b
 shown-alike s t a b agree same =
     steps-same (unit_of s) (unit_of t) (rounding_of s) (model.opening_of s a) (model.opening_of t b) (charges_of s a)
     (charges_of t b) agree.some_unit agree.also_unit (openings-alike s t a b agree same) same.charges
     ∙ ap (λ (r : Rounding). steps_above r (model.opening_of t b) (charges_of t b)) (rounding-is s t agree)
 
-pub fare-alike : (s t : Setting) (a b : Trip) → Agree s t → AreTripsAlike s t a b → fare_of s a ≡ fare_of t b
+pub fare-alike : (s t : Setting) (a b : MeterTrip) → Agree s t → AreTripsAlike s t a b → fare_of s a ≡ fare_of t b
 fare-alike s t a b agree same =
     let steps = shown-alike s t a b agree same in
     let step = step-is s t agree in
@@ -168,14 +177,14 @@ amounts-by : (s t : Setting) → Agree s t → (numbers : List ℕ) → amounts_
     numbers
 amounts-by s t agree numbers = ap sum (amounts-each s t agree numbers)
 
-pub amounts-alike : (s t : Setting) (a b : Trip) → Agree s t → AreTripsAlike s t a b
+pub amounts-alike : (s t : Setting) (a b : MeterTrip) → Agree s t → AreTripsAlike s t a b
     → amounts_of s.tariff a.extras ≡ amounts_of t.tariff b.extras
 amounts-alike s t a b agree same = amounts-by s t agree a.extras ∙ ap (amounts_of t.tariff) same.extras
 
 -- ---- held trips
 
 abbrev saved_with : Meterage → (started second : ℕ) → (stopped : Bool)
-    → (position zone roam pulses ticks initial minimum : ℕ) → (extras : List ℕ) → (extras_sum : ℕ) → store.Trip
+    → (position zone roam pulses ticks initial minimum : ℕ) → (extras : List ℕ) → (extras_sum : ℕ) → Trip
 saved_with meterage started second stopped position zone roam pulses ticks initial minimum extras extras_sum = record {
   started = started;
   saved = second;
@@ -199,7 +208,7 @@ saved-by : (m : Meterage) (second : ℕ) (stopped : Bool) (position zone : ℕ) 
 saved-by m second stopped position zone started roam pulses ticks initial minimum extras extras_sum = cc
 
 -- a trip is held alike
-pub held-alike : (s t : Setting) (a b : Trip) (second : ℕ) (stopped : Bool) (position zone : ℕ) → Agree s t
+pub held-alike : (s t : Setting) (a b : MeterTrip) (second : ℕ) (stopped : Bool) (position zone : ℕ) → Agree s t
     → AreTripsAlike s t a b
     → AreHeldAlike s t (held_trip s second stopped position zone a) (held_trip t second stopped position zone b)
 held-alike s t a b second stopped position zone agree same =
@@ -210,13 +219,13 @@ held-alike s t a b second stopped position zone agree same =
     }
 
 -- and goes on alike
-pub opened-alike : (s t : Setting) (a b : store.Trip) → Agree s t → AreHeldAlike s t a b
+pub opened-alike : (s t : Setting) (a b : Trip) → Agree s t → AreHeldAlike s t a b
     → AreTripsAlike s t (trip_of s a) (trip_of t b)
 opened-alike s t a b agree same =
-    subst (λ (x : store.Trip). AreTripsAlike s t (trip_of s a) (trip_of t x)) same.others
+    subst (λ (x : Trip). AreTripsAlike s t (trip_of s a) (trip_of t x)) same.others
     (opened-with s t a b.meterage agree same.meterage)
   where
-    opened-with : (s t : Setting) (a : store.Trip) (m : Meterage) → Agree s t
+    opened-with : (s t : Setting) (a : Trip) (m : Meterage) → Agree s t
         → AreMeteragesAlike (unit_of s) (unit_of t) a.meterage m
         → AreTripsAlike s t (trip_of s a) (trip_of t (record a { meterage = m }))
     opened-with s t a m agree same = record {
@@ -238,7 +247,7 @@ opened-alike s t a b agree same =
       charges = none-same (unit_of s) (unit_of t);
     }
 
-pub opened-both : (s t : Setting) (a b : Option store.Trip) → Agree s t → AreHoldsAlike s t a b
+pub opened-both : (s t : Setting) (a b : Option Trip) → Agree s t → AreHoldsAlike s t a b
     → AreTripsOfBothAlike s t (option_map (trip_of s) a) (option_map (trip_of t) b)
 opened-both s t None None agree same = tt
 opened-both s t (Some a) (Some b) agree same = opened-alike s t a b agree same
@@ -247,7 +256,7 @@ opened-both s t (Some a) None agree same = absurd same
 
 -- ---- what is shown and entered of them
 
-pub entry-alike : (s t : Setting) (kind : Kind) (position : ℕ) (a b : Trip) → Agree s t → AreTripsAlike s t a b
+pub entry-alike : (s t : Setting) (kind : Kind) (position : ℕ) (a b : MeterTrip) → Agree s t → AreTripsAlike s t a b
     → entry_of s kind position a ≡ entry_of t kind position b
 entry-alike s t kind position a b agree same =
     let constant = agree.constant in
@@ -263,7 +272,7 @@ stamp-alike : (s t : Setting) (second : ℕ) → Agree s t → stamp_at s second
 stamp-alike s t second agree = ap (λ (offsets : List (ℕ × ℤ)). stamp_at (record s { offsets = offsets }) second)
     agree.offsets
 
-pub receipt-alike : (s t : Setting) (kind : Kind) (finish position : ℕ) (a b : Trip) (number : ℕ) → Agree s t
+pub receipt-alike : (s t : Setting) (kind : Kind) (finish position : ℕ) (a b : MeterTrip) (number : ℕ) → Agree s t
     → AreTripsAlike s t a b
     → receipt_of s kind finish position a number ≡ receipt_of t kind finish position b number
 receipt-alike s t kind finish position a b number agree same =
@@ -282,21 +291,21 @@ receipt-alike s t kind finish position a b number agree same =
     let decimals = agree.decimals in
     cc
 
-fare-shown-alike : (s t : Setting) (a b : Option Trip) → Agree s t → AreTripsOfBothAlike s t a b
+fare-shown-alike : (s t : Setting) (a b : Option MeterTrip) → Agree s t → AreTripsOfBothAlike s t a b
     → fare_shown s a ≡ fare_shown t b
 fare-shown-alike s t None None agree same = refl
 fare-shown-alike s t (Some a) (Some b) agree same = fare-alike s t a b agree same
 fare-shown-alike s t None (Some b) agree same = absurd same
 fare-shown-alike s t (Some a) None agree same = absurd same
 
-extras-shown-alike : (s t : Setting) (a b : Option Trip) → Agree s t → AreTripsOfBothAlike s t a b
+extras-shown-alike : (s t : Setting) (a b : Option MeterTrip) → Agree s t → AreTripsOfBothAlike s t a b
     → extras_shown s a ≡ extras_shown t b
 extras-shown-alike s t None None agree same = refl
 extras-shown-alike s t (Some a) (Some b) agree same = amounts-alike s t a b agree same
 extras-shown-alike s t None (Some b) agree same = absurd same
 extras-shown-alike s t (Some a) None agree same = absurd same
 
-pub display-alike : (s t : Setting) (m : Meter) (trip : Option Trip) (hold : Option store.Trip) → Agree s t
+pub display-alike : (s t : Setting) (m : Meter) (trip : Option MeterTrip) (hold : Option Trip) → Agree s t
     → AreTripsOfBothAlike s t m.trip trip
     → display_of s m ≡ display_of t (with_trips trip hold m)
 display-alike s t m trip hold agree same =

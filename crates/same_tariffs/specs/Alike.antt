@@ -2,11 +2,11 @@
 use Rattle.std.specs.Prelude.{◌≡◌, ℕ, ◌*◌, ◌<◌, List, [], ◌∷◌, Option, Some, None}
 use Rattle.drive_modes.specs.Fare.{Opening}
 use Rattle.drive_modes.specs.declared.meterage.Meterage.{Meterage}
-use Rattle.totals_record.specs.declared.durable.Durable.{Durable}
-use Rattle.totals_record.specs.declared.trip.Trip as store
+use Rattle.totals_record.specs.declared.durable_state.Durable.{Durable}
+use Rattle.totals_record.specs.declared.trip.Trip.{Trip}
 use Rattle.meter_states.specs.Meter.{Meter, Outcome}
 use Rattle.meter_states.specs.Setting.{Setting, unit_of}
-use Rattle.meter_states.specs.Trip.{Trip, charges_of, pulses_of, ticks_of}
+use Rattle.meter_states.specs.Trip.{MeterTrip, charges_of, pulses_of, ticks_of}
 use Rattle.meter_states.specs.declared.act.Act.{Act}
 use Rattle.meter_states.specs.declared.act.Act.TheVariants.{Hold}
 
@@ -32,12 +32,12 @@ pub record AreMeteragesAlike (u v : ℕ) (a b : Meterage) : Type 0 where
   pub rest : IsSameMoney u v a.rest b.rest
 
 -- two held trips are alike if they are equal but for their meterages, which are alike
-pub record AreHeldAlike (s t : Setting) (a b : store.Trip) : Type 0 where
+pub record AreHeldAlike (s t : Setting) (a b : Trip) : Type 0 where
   pub meterage : AreMeteragesAlike (unit_of s) (unit_of t) a.meterage b.meterage
   pub others : record a { meterage = b.meterage } ≡ b
 
 -- what two stores hold is alike if both hold no trip, or trips that are alike
-abbrev pub AreHoldsAlike : (s t : Setting) → Option store.Trip → Option store.Trip → Type 0
+abbrev pub AreHoldsAlike : (s t : Setting) → Option Trip → Option Trip → Type 0
 AreHoldsAlike s t None None = Unit {0}
 AreHoldsAlike s t (Some a) (Some b) = AreHeldAlike s t a b
 AreHoldsAlike s t a b = ⊥
@@ -49,7 +49,7 @@ pub record AreStoresAlike (s t : Setting) (a b : Durable) : Type 0 where
 
 -- two trips are alike if they have the same start, amounts, roaming pulses and supplements, the same pulses and
 -- ticks, and as cover, as charge above it before, and as charges of their parts the same money
-pub record AreTripsAlike (s t : Setting) (a b : Trip) : Type 0 where
+pub record AreTripsAlike (s t : Setting) (a b : MeterTrip) : Type 0 where
   pub started : a.started ≡ b.started
   pub initial : a.initial ≡ b.initial
   pub minimum : a.minimum ≡ b.minimum
@@ -62,13 +62,13 @@ pub record AreTripsAlike (s t : Setting) (a b : Trip) : Type 0 where
   pub charges : IsSameMoney (unit_of s) (unit_of t) (charges_of s a) (charges_of t b)
 
 -- what trips two meters have is alike if both have none, or trips that are alike
-abbrev pub AreTripsOfBothAlike : (s t : Setting) → Option Trip → Option Trip → Type 0
+abbrev pub AreTripsOfBothAlike : (s t : Setting) → Option MeterTrip → Option MeterTrip → Type 0
 AreTripsOfBothAlike s t None None = Unit {0}
 AreTripsOfBothAlike s t (Some a) (Some b) = AreTripsAlike s t a b
 AreTripsOfBothAlike s t a b = ⊥
 
 -- a meter with another trip and another held trip is the same in all else
-abbrev pub with_trips : Option Trip → Option store.Trip → Meter → Meter
+abbrev pub with_trips : Option MeterTrip → Option Trip → Meter → Meter
 with_trips trip hold m = record m { trip = trip; durable = record m.durable { hold = hold } }
 
 -- two meters are alike if they are equal but for their trips and what their stores hold, which are alike

@@ -16,7 +16,7 @@ use Rattle.meter_states.specs.Interval.{context_of}
 use Rattle.meter_states.specs.Meter.{Meter}
 use Rattle.meter_states.specs.Run.{opened, run}
 use Rattle.meter_states.specs.Setting.{Setting, under_offset, unit_of}
-use Rattle.meter_states.specs.Trip.{Trip}
+use Rattle.meter_states.specs.Trip.{MeterTrip}
 use Rattle.same_tariffs.specs.Contexts.{without_trip}
 use Rattle.totals_record.specs.States.{first_state}
 
@@ -52,7 +52,7 @@ pub record BeginsIn (s : Setting) (c : MeterContext) (m : Meter) : Type 0 where
 -- a meter has a trip that was hired in a context of a meter if it has the amount and the cover of the initial hire fee
 -- and the minimum fare that hold first there
 pub record WasHiredIn (s : Setting) (c : MeterContext) (m : Meter) : Type 0 where
-  pub trip : Trip
+  pub trip : MeterTrip
   pub has : m.trip ≡ Some trip
   pub amount : trip.initial ≡ (initial_by s.tariff (context_at s.tariff s.constant c)).amount
   pub minimum : trip.minimum ≡ (initial_by s.tariff (context_at s.tariff s.constant c)).minimum

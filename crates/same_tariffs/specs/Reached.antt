@@ -1,7 +1,7 @@
 -- Rules: the states that a meter comes to in runs.
 use Rattle.std.specs.Prelude.{ℕ, ◌≤◌, Option, Some, None}
 use Rattle.taxi_units.specs.Time.{IsSecond, last_tick}
-use Rattle.totals_record.specs.declared.trip.Trip as store
+use Rattle.totals_record.specs.declared.trip.Trip.{Trip}
 use Rattle.tariff_check.specs.Parts.{positions_of, zones_of}
 use Rattle.tariff_syntax.specs.Tree.{Tree}
 use Rattle.tariff_syntax.specs.Writable.{IsFromTo}
@@ -15,12 +15,12 @@ pub record AreSet (t : Tree) (position zone : ℕ) : Type 0 where
   pub zone_in : IsFromTo 1 (zones_of t.lines) zone
 
 -- a held trip goes on under a tariff if its position and its zone are set, and it has fewer ticks than the longest trip
-pub record GoesOn (t : Tree) (trip : store.Trip) : Type 0 where
+pub record GoesOn (t : Tree) (trip : Trip) : Type 0 where
   pub set : AreSet t trip.position trip.zone
   pub ticks : trip.ticks ≤ last_tick
 
 -- what a store holds goes on if it is no trip, or one that goes on
-abbrev pub HoldGoesOn : Tree → Option store.Trip → Type 0
+abbrev pub HoldGoesOn : Tree → Option Trip → Type 0
 HoldGoesOn t None = Unit {0}
 HoldGoesOn t (Some trip) = GoesOn t trip
 

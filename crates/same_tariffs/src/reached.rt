@@ -12,7 +12,7 @@ ghost use Rattle.tariff_compare.specs.declared.meter_context.MeterContext.{Meter
 ghost use Rattle.tariff_syntax.specs.Tree.{Tree};
 ghost use Rattle.tariff_syntax.specs.Writable.{IsWritable};
 ghost use Rattle.taxi_units.specs.declared.event.Event.{Event};
-ghost use Rattle.totals_record.specs.declared.durable.Durable.{Durable};
+ghost use Rattle.totals_record.specs.declared.durable_state.Durable.{Durable};
 ghost use Rattle.same_tariffs.specs.Contexts.{IsChargedIn, IsHiredIn, IsSettingInRange, meter_context_at, without_trip};
 ghost use Rattle.same_tariffs.specs.Drives.{IsReached};
 ghost use Rattle.same_tariffs.specs.Reached.{HoldGoesOn, IsWithinReach};

@@ -6,7 +6,7 @@ ghost use Rattle.meter_states.specs.Lawful.{IsTimely};
 ghost use Rattle.meter_states.specs.Run.{whole_run};
 ghost use Rattle.meter_states.specs.Setting.{Setting};
 ghost use Rattle.taxi_units.specs.declared.event.Event.{Event};
-ghost use Rattle.totals_record.specs.declared.durable.Durable.{Durable};
+ghost use Rattle.totals_record.specs.declared.durable_state.Durable.{Durable};
 ghost use Rattle.same_tariffs.specs.Alike.{AreMeteragesAlike, AreOpeningsAlike, AreOutcomesAlike, AreStoresAlike, IsSameMoney};
 ghost use Rattle.same_tariffs.specs.Reached.{HoldGoesOn};
 ghost use Rattle.same_tariffs.specs.Same.{AreSameSettings};

@@ -1,5 +1,6 @@
 -- Values are read by their forms.
-use Rattle.std.proofs.Common.{◌≡◌, ℕ, ◌≤◌, ◌↔◌, Bool, true, false, if◌then◌else◌, ℤ, pos, neg_ℤ, List, [], ◌∷◌, ◌++◌, length, Option, Some, None, Decides, refl, sym, ap, subst, ◌∙◌, arith}
+use Rattle.std.proofs.Common.{◌≡◌, ℕ, ◌≤◌, ◌↔◌, Bool, true, false, if◌then◌else◌, ℤ, pos, neg_ℤ, List, [], ◌∷◌, ◌++◌}
+use Rattle.std.proofs.Common.{length, Option, Some, None, Decides, refl, sym, ap, subst, ◌∙◌, arith}
 use Rattle.std.specs.Prelude.{codes}
 use Rattle.std.specs.Str.{bytes_eq}
 use Rattle.std.proofs.lemmas.Bool.Decides.{Decides-and, Decides-eqb}
@@ -12,7 +13,8 @@ use Rattle.interval_clock.proofs.Laws.{is_date_of_number, one_day_number}
 use Rattle.taxi_units.specs.Digits.{AreDigitsOf, IsNumberIn}
 use Rattle.taxi_units.specs.Number.{NoDigitFirst, number_at, number_in, number_of_width}
 use Rattle.taxi_units.specs.Reading.{word_at}
-use Rattle.taxi_units.proofs.Laws.{numbers_are_read_by_their_digits, wide_numbers_are_read_by_their_digits, words_are_read_by_their_text}
+use Rattle.taxi_units.proofs.Laws.{numbers_are_read_by_their_digits, wide_numbers_are_read_by_their_digits}
+use Rattle.taxi_units.proofs.Laws.{words_are_read_by_their_text}
 use Rattle.seal_record.specs.Forms.{IsDateText, IsModeText, IsOffsetText, IsPairText}
 use Rattle.seal_record.specs.Forms.IsModeText.{double_said, single_said}
 use Rattle.seal_record.specs.Forms.IsOffsetText.{ahead, behind}
@@ -20,25 +22,29 @@ use Rattle.taxi_units.specs.Test.{at_most}
 use Rattle.seal_record.specs.Values.{mode_read, offset_read, pair_read, secured_read, where_date}
 use Rattle.seal_record.proofs.DayBounds.{date_decides}
 use Rattle.seal_record.proofs.PlainValues.{minus_again, no_minus}
-use Rattle.seal_record.proofs.SaidRanges.{let_through, read_on}
+use Rattle.seal_record.proofs.ParamRanges.{let_through, read_on}
 use Rattle.seal_record.proofs.TextLaws.{empty_of, numbers_in_ranges}
 
 -- ---- modes
 
-mode_by : (s d : Bool) (text : List ℕ) (mode : Mode) → Decides s (text ≡ codes "single") → Decides d (text ≡ codes "double")
+mode_by : (s d : Bool) (text : List ℕ) (mode : Mode) → Decides s (text ≡ codes "single")
+    → Decides d (text ≡ codes "double")
     → (if s then Some Single else (if d then Some Double else None)) ≡ Some mode → IsModeText text mode
 mode_by true d text mode is_single is_double e =
     let same : Single ≡ mode = cc in
-    subst (λ (t : List ℕ). IsModeText t mode) (sym (is_single.0 refl)) (subst (IsModeText (codes "single")) same single_said)
+    subst (λ (t : List ℕ). IsModeText t mode) (sym (is_single.0 refl))
+    (subst (IsModeText (codes "single")) same single_said)
 mode_by false true text mode is_single is_double e =
     let same : Double ≡ mode = cc in
-    subst (λ (t : List ℕ). IsModeText t mode) (sym (is_double.0 refl)) (subst (IsModeText (codes "double")) same double_said)
+    subst (λ (t : List ℕ). IsModeText t mode) (sym (is_double.0 refl))
+    (subst (IsModeText (codes "double")) same double_said)
 mode_by false false text mode is_single is_double e = absurd cc
 
 mode_is : (text : List ℕ) (mode : Mode) → mode_read text ≡ Some mode → IsModeText text mode
 unfolding mode_read
 mode_is text mode e =
-    mode_by (bytes_eq text (codes "single")) (bytes_eq text (codes "double")) text mode (bytes_eq-Decides text (codes "single")) (bytes_eq-Decides text (codes "double")) e
+    mode_by (bytes_eq text (codes "single")) (bytes_eq text (codes "double")) text mode
+    (bytes_eq-Decides text (codes "single")) (bytes_eq-Decides text (codes "double")) e
 
 mode_from : (text : List ℕ) (mode : Mode) → IsModeText text mode → mode_read text ≡ Some mode
 unfolding mode_read
@@ -50,14 +56,16 @@ modes_by_their_words text mode = (mode_is text mode, mode_from text mode)
 
 -- ---- offsets
 
-offset_by : (text : List ℕ) (offset : ℤ) (found : Option (List ℕ)) → word_at (45 ∷ []) text ≡ found → offset_read text ≡ Some offset → IsOffsetText text offset
+offset_by : (text : List ℕ) (offset : ℤ) (found : Option (List ℕ)) → word_at (45 ∷ []) text ≡ found
+    → offset_read text ≡ Some offset → IsOffsetText text offset
 unfolding offset_read
 offset_by text offset (Some digits) is e =
     let after = rw is at e in
     let read = read_on (number_in 0 50400 digits) (λ (n : ℕ). Some (neg_ℤ (pos n))) offset after in
     let same : neg_ℤ (pos read.0) ≡ offset = some_same (neg_ℤ (pos read.0)) offset read.2 in
     subst (λ (t : List ℕ). IsOffsetText t offset) (sym ((words_are_read_by_their_text (45 ∷ []) text digits).0 is))
-    (subst (IsOffsetText (45 ∷ digits)) same (behind digits read.0 ((numbers_in_ranges 0 50400 digits read.0).0 read.1)))
+    (subst (IsOffsetText (45 ∷ digits)) same
+    (behind digits read.0 ((numbers_in_ranges 0 50400 digits read.0).0 read.1)))
   where
     some_same : (x y : ℤ) → Some x ≡ Some y → x ≡ y
     some_same x y e = cc
@@ -72,12 +80,15 @@ offset_by text offset None is e =
 
 -- digits alone are their number
 alone_read : (low high : ℕ) (digits : List ℕ) (n : ℕ) → IsNumberIn low high digits n → number_at digits ≡ Some (n, [])
-alone_read low high digits n is = (numbers_are_read_by_their_digits digits [] n).1 (digits, sym (append-nil digits), is.written, tt)
+alone_read low high digits n is =
+    (numbers_are_read_by_their_digits digits [] n).1 (digits, sym (append-nil digits), is.written, tt)
 
 offset_from_text : (text : List ℕ) (offset : ℤ) → IsOffsetText text offset → offset_read text ≡ Some offset
 unfolding offset_read
-offset_from_text text offset (ahead digits n is) = rw (no_minus digits (n, []) (alone_read 0 50400 digits n is), (numbers_in_ranges 0 50400 digits n).1 is) refl
-offset_from_text text offset (behind digits n is) = rw (minus_again digits, (numbers_in_ranges 0 50400 digits n).1 is) refl
+offset_from_text text offset (ahead digits n is) =
+    rw (no_minus digits (n, []) (alone_read 0 50400 digits n is), (numbers_in_ranges 0 50400 digits n).1 is) refl
+offset_from_text text offset (behind digits n is) =
+    rw (minus_again digits, (numbers_in_ranges 0 50400 digits n).1 is) refl
 
 pair_is : (text : List ℕ) (pair : ℕ × ℤ) → pair_read text ≡ Some pair → IsPairText text pair
 unfolding pair_read
@@ -90,9 +101,11 @@ pair_is text pair e =
     record {
       second = is.0;
       offset = rest.0;
-      text_is = is.1 ∙ ap (λ (r : List ℕ). is.0 ++ r) ((words_are_read_by_their_text (32 ∷ []) second.0.1 rest.0).0 rest.1);
+      text_is =
+          is.1 ∙ ap (λ (r : List ℕ). is.0 ++ r) ((words_are_read_by_their_text (32 ∷ []) second.0.1 rest.0).0 rest.1);
       second_is = subst (λ (p : ℕ × ℤ). AreDigitsOf 1 12 is.0 p.0) same is.2;
-      offset_is = subst (λ (p : ℕ × ℤ). IsOffsetText rest.0 p.1) same (offset_by rest.0 offset.0 (word_at (45 ∷ []) rest.0) refl offset.1);
+      offset_is = subst (λ (p : ℕ × ℤ). IsOffsetText rest.0 p.1) same
+          (offset_by rest.0 offset.0 (word_at (45 ∷ []) rest.0) refl offset.1);
     }
   where
     one_pair : (x y : ℕ × ℤ) → Some x ≡ Some y → x ≡ y
@@ -102,8 +115,14 @@ pair_from : (text : List ℕ) (pair : ℕ × ℤ) → IsPairText text pair → p
 unfolding pair_read
 pair_from text pair is =
     let second : number_at (is.second ++ 32 ∷ is.offset) ≡ Some (pair.0, 32 ∷ is.offset) =
-    (numbers_are_read_by_their_digits (is.second ++ 32 ∷ is.offset) (32 ∷ is.offset) pair.0).1 (is.second, refl, is.second_is, omega arith) in
-    rw (is.text_is, second, (words_are_read_by_their_text (32 ∷ []) (32 ∷ is.offset) is.offset).1 refl, offset_from_text is.offset pair.1 is.offset_is) refl
+    (numbers_are_read_by_their_digits (is.second ++ 32 ∷ is.offset) (32 ∷ is.offset) pair.0).1
+    (is.second, refl, is.second_is, omega arith) in
+    rw (
+      is.text_is,
+      second,
+      (words_are_read_by_their_text (32 ∷ []) (32 ∷ is.offset) is.offset).1 refl,
+      offset_from_text is.offset pair.1 is.offset_is,
+    ) refl
 
 pub pairs_by_their_form : (text : List ℕ) (pair : ℕ × ℤ) → (pair_read text ≡ Some pair) ↔ IsPairText text pair
 pairs_by_their_form text pair = (pair_is text pair, pair_from text pair)
@@ -116,12 +135,14 @@ record IsFront (width : ℕ) (text : List ℕ) (x : ℕ × List ℕ) : Type 0 wh
   text_is : text ≡ digits ++ x.1
   wide : AreDigitsOf width width digits x.0
 
-front_is : (width : ℕ) (text : List ℕ) (x : ℕ × List ℕ) → width ≤ 12 → number_of_width width text ≡ Some x → IsFront width text x
+front_is : (width : ℕ) (text : List ℕ) (x : ℕ × List ℕ) → width ≤ 12 → number_of_width width text ≡ Some x
+    → IsFront width text x
 front_is width text x narrow e =
     let is = (wide_numbers_are_read_by_their_digits width text x.1 x.0 narrow).0 e in
     record { digits = is.0; text_is = is.1; wide = is.2 }
 
-front_from : (width : ℕ) (digits rest : List ℕ) (n : ℕ) → width ≤ 12 → AreDigitsOf width width digits n → NoDigitFirst rest → number_of_width width (digits ++ rest) ≡ Some (n, rest)
+front_from : (width : ℕ) (digits rest : List ℕ) (n : ℕ) → width ≤ 12 → AreDigitsOf width width digits n
+    → NoDigitFirst rest → number_of_width width (digits ++ rest) ≡ Some (n, rest)
 front_from width digits rest n narrow is stops =
     (wide_numbers_are_read_by_their_digits width (digits ++ rest) rest n narrow).1 (digits, refl, is, stops)
 
@@ -132,15 +153,19 @@ record IsRead (year month date : ℕ) (rest : List ℕ) (day : ℤ) : Type 0 whe
   years_to : year ≤ 2199
   day_of : IsDateOf day year month date
 
-read_is : (year month date : ℕ) (rest : List ℕ) (day : ℤ) → where_date year month date rest ≡ Some day → IsRead year month date rest day
+read_is : (year month date : ℕ) (rest : List ℕ) (day : ℤ) → where_date year month date rest ≡ Some day
+    → IsRead year month date rest day
 read_is year month date rest day e =
-    let through = let_through _ (pos (day_number_of year month date)) day (Decides-and _ _ (Decides-eqb (length rest) 0) (Decides-and _ _ (at_most 2000 year).decides (Decides-and _ _ (at_most year 2199).decides (λ (h : is_date year month date ≡ true). h, λ (h : is_date year month date ≡ true). h)))) e in
+    let through = let_through _ (pos (day_number_of year month date)) day (Decides-and _ _ (Decides-eqb (length rest) 0)
+    (Decides-and _ _ (at_most 2000 year).decides (Decides-and _ _ (at_most year 2199).decides
+    (λ (h : is_date year month date ≡ true). h, λ (h : is_date year month date ≡ true). h)))) e in
     let there = (date_decides year month date).0 through.0.1.1.1 in
     record {
       nothing_left = empty_of rest through.0.0;
       years_from = through.0.1.0;
       years_to = through.0.1.1.0;
-      day_of = subst (λ (d : ℤ). IsDateOf d year month date) through.1 (is_date_of_number year month date (omega (arith, through.0.1.0)) ((there.0, there.1.0), there.1.1.0, there.1.1.1));
+      day_of = subst (λ (d : ℤ). IsDateOf d year month date) through.1 (is_date_of_number year month date
+          (omega (arith, through.0.1.0)) ((there.0, there.1.0), there.1.1.0, there.1.1.1));
     }
 
 date_is : (text : List ℕ) (day : ℤ) → secured_read text ≡ Some day → IsDateText text day
@@ -156,14 +181,18 @@ date_is text day e =
     let months = front_is 2 first.0 month.0 (omega arith) month.1 in
     let dates = front_is 2 second.0 date.0 (omega arith) date.1 in
     let after_year : year.0.1 ≡ 45 ∷ first.0 = (words_are_read_by_their_text (45 ∷ []) year.0.1 first.0).0 first.1 in
-    let after_month : month.0.1 ≡ 45 ∷ second.0 = (words_are_read_by_their_text (45 ∷ []) month.0.1 second.0).0 second.1 in
-    let last : second.0 ≡ dates.digits = dates.text_is ∙ (ap (λ (r : List ℕ). dates.digits ++ r) is.nothing_left ∙ append-nil dates.digits) in
-    let middle : first.0 ≡ months.digits ++ 45 ∷ dates.digits = months.text_is ∙ (ap (λ (r : List ℕ). months.digits ++ r) after_month ∙ ap (λ (r : List ℕ). months.digits ++ 45 ∷ r) last) in
+    let after_month : month.0.1 ≡ 45 ∷ second.0 =
+    (words_are_read_by_their_text (45 ∷ []) month.0.1 second.0).0 second.1 in
+    let last : second.0 ≡ dates.digits =
+    dates.text_is ∙ (ap (λ (r : List ℕ). dates.digits ++ r) is.nothing_left ∙ append-nil dates.digits) in
+    let middle : first.0 ≡ months.digits ++ 45 ∷ dates.digits = months.text_is
+    ∙ (ap (λ (r : List ℕ). months.digits ++ r) after_month ∙ ap (λ (r : List ℕ). months.digits ++ 45 ∷ r) last) in
     record {
       years = years.digits;
       months = months.digits;
       dates = dates.digits;
-      text_is = years.text_is ∙ (ap (λ (r : List ℕ). years.digits ++ r) after_year ∙ ap (λ (r : List ℕ). years.digits ++ 45 ∷ r) middle);
+      text_is = years.text_is
+          ∙ (ap (λ (r : List ℕ). years.digits ++ r) after_year ∙ ap (λ (r : List ℕ). years.digits ++ 45 ∷ r) middle);
       year = year.0.0;
       month = month.0.0;
       date = date.0.0;
@@ -176,9 +205,11 @@ date_is text day e =
 date_from : (text : List ℕ) (day : ℤ) → IsDateText text day → secured_read text ≡ Some day
 unfolding secured_read
 date_from text day is =
-    let there : is_date is.year is.month is.date ≡ true = (date_decides is.year is.month is.date).1 (is.day_is.month_in.0, (is.day_is.month_in.1, (is.day_is.date_in.0, is.day_is.date_in.1))) in
+    let there : is_date is.year is.month is.date ≡ true = (date_decides is.year is.month is.date).1
+    (is.day_is.month_in.0, (is.day_is.month_in.1, (is.day_is.date_in.0, is.day_is.date_in.1))) in
     let same = one_day_number day is.year is.month is.date (omega (arith, is.year_is.above)) is.day_is in
-    let last : number_of_width 2 is.dates ≡ Some (is.date, []) = ap (number_of_width 2) (sym (append-nil is.dates)) ∙ front_from 2 is.dates [] is.date (omega arith) is.date_is tt in
+    let last : number_of_width 2 is.dates ≡ Some (is.date, []) =
+    ap (number_of_width 2) (sym (append-nil is.dates)) ∙ front_from 2 is.dates [] is.date (omega arith) is.date_is tt in
     rw (
       is.text_is,
       front_from 4 is.years (45 ∷ (is.months ++ 45 ∷ is.dates)) is.year (omega arith) is.year_is.written (omega arith),

@@ -19,9 +19,9 @@ mod PlainValues
 -- parameters that bytes give, where they are in their ranges
 mod Ranged
 -- what has been said with one offset more
-mod SaidOffsets
+mod OffsetsSoFar
 -- parameters that a text says are in their ranges
-mod SaidRanges
+mod ParamRanges
 -- texts are read by their lines, and lines by their parts
 mod TextLaws
 -- when a text is too long, or lacks a parameter

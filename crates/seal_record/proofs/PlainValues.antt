@@ -1,5 +1,6 @@
 -- The values of a plain text of parameters are read as they are.
-use Rattle.std.proofs.Common.{◌≡◌, ℕ, suc, ◌^◌, ◌<◌, ◌≤◌, true, ℤ, pos, negsuc, List, [], ◌∷◌, ◌++◌, length, Option, Some, None, refl, sym, ap, ◌∙◌, arith}
+use Rattle.std.proofs.Common.{◌≡◌, ℕ, suc, ◌^◌, ◌<◌, ◌≤◌, true, ℤ, pos, negsuc, List, [], ◌∷◌, ◌++◌, length, Option}
+use Rattle.std.proofs.Common.{Some, None, refl, sym, ap, ◌∙◌, arith}
 use Rattle.std.proofs.lemmas.Int.{ints}
 use Rattle.std.proofs.lemmas.List.{append-nil}
 use Rattle.std.specs.Fmt.{decimal}
@@ -11,7 +12,8 @@ use Rattle.interval_clock.proofs.Laws.{IsDateOf-date_after, one_day_number}
 use Rattle.taxi_units.specs.Number.{NoDigitFirst, number_at, number_in, number_of_width, padded_text}
 use Rattle.taxi_units.specs.Reading.{word_at}
 use Rattle.taxi_units.proofs.Laws.{figures_are_read_by_their_digits, numbers_are_short, numbers_are_written_as_figures}
-use Rattle.taxi_units.proofs.Laws.{numbers_read_back, padded_numbers_are_written_as_figures, padded_numbers_fill_the_width}
+use Rattle.taxi_units.proofs.Laws.{numbers_read_back, padded_numbers_are_written_as_figures}
+use Rattle.taxi_units.proofs.Laws.{padded_numbers_fill_the_width}
 use Rattle.taxi_units.proofs.Laws.{wide_numbers_are_read_by_their_digits, words_are_read_by_their_text}
 use Rattle.taxi_units.specs.Test.{at_most}
 use Rattle.seal_record.specs.PlainText.{date_text, mode_text, offset_text}
@@ -40,7 +42,8 @@ no_number rest = refl
 nothing_there : (x : ℕ × List ℕ) → Some x ≡ None → ⊥
 nothing_there x e = cc
 
-no_minus_by : (text : List ℕ) (x : ℕ × List ℕ) (found : Option (List ℕ)) → number_at text ≡ Some x → word_at (45 ∷ []) text ≡ found → found ≡ None
+no_minus_by : (text : List ℕ) (x : ℕ × List ℕ) (found : Option (List ℕ)) → number_at text ≡ Some x
+    → word_at (45 ∷ []) text ≡ found → found ≡ None
 no_minus_by text x None read is = refl
 no_minus_by text x (Some rest) read is =
     let after : text ≡ 45 ∷ rest = (words_are_read_by_their_text (45 ∷ []) text rest).0 is in
@@ -53,27 +56,46 @@ pub offset_again : (offset : ℤ) → IsOffset offset → offset_read (offset_te
 unfolding offset_read
 offset_again (pos n) is =
     let below : n ≤ 50400 = grind (arith, ints, is.1) in
-    rw (no_minus (decimal n) (n, []) (number_alone n (omega (arith, below))), number_again 0 50400 n (omega arith) below (omega arith)) refl
+    rw (
+      no_minus (decimal n) (n, []) (number_alone n (omega (arith, below))),
+      number_again 0 50400 n (omega arith) below (omega arith),
+    ) refl
 offset_again (negsuc n) is =
     let below : suc n ≤ 50400 = grind (arith, ints, is.0) in
-    rw ((words_are_read_by_their_text (45 ∷ []) (45 ∷ decimal (suc n)) (decimal (suc n))).1 refl, number_again 0 50400 (suc n) (omega arith) below (omega arith)) refl
+    rw (
+      (words_are_read_by_their_text (45 ∷ []) (45 ∷ decimal (suc n)) (decimal (suc n))).1 refl,
+      number_again 0 50400 (suc n) (omega arith) below (omega arith),
+    ) refl
 
-pub pair_again : (pair : ℕ × ℤ) → IsSecond pair.0 → IsOffset pair.1 → pair_read (decimal pair.0 ++ 32 ∷ offset_text pair.1) ≡ Some pair
+pub pair_again : (pair : ℕ × ℤ) → IsSecond pair.0 → IsOffset pair.1
+    → pair_read (decimal pair.0 ++ 32 ∷ offset_text pair.1) ≡ Some pair
 unfolding pair_read
 pair_again pair second offset =
-    rw (numbers_read_back pair.0 (32 ∷ offset_text pair.1) (omega (arith, second.1)) (omega arith), (words_are_read_by_their_text (32 ∷ []) (32 ∷ offset_text pair.1) (offset_text pair.1)).1 refl, offset_again pair.1 offset) refl
+    rw (
+      numbers_read_back pair.0 (32 ∷ offset_text pair.1) (omega (arith, second.1)) (omega arith),
+      (words_are_read_by_their_text (32 ∷ []) (32 ∷ offset_text pair.1) (offset_text pair.1)).1 refl,
+      offset_again pair.1 offset,
+    ) refl
 
 -- a number that is padded to a width has that many digits
 pub length-padded_text : (width n : ℕ) → 0 < width → width ≤ 12 → n < 10 ^ width → length (padded_text width n) ≡ width
-length-padded_text width n some narrow small = omega (arith, padded_numbers_fill_the_width width n, (numbers_are_short width n some (omega (arith, narrow)) small).1)
+length-padded_text width n some narrow small = omega (
+  arith,
+  padded_numbers_fill_the_width width n,
+  (numbers_are_short width n some (omega (arith, narrow)) small).1,
+)
 
-digits_again : (width n : ℕ) (rest : List ℕ) → 0 < width → width ≤ 12 → n < 10 ^ width → n < 10 ^ 12 → NoDigitFirst rest → number_of_width width (padded_text width n ++ rest) ≡ Some (n, rest)
+digits_again : (width n : ℕ) (rest : List ℕ) → 0 < width → width ≤ 12 → n < 10 ^ width → n < 10 ^ 12 → NoDigitFirst rest
+    → number_of_width width (padded_text width n ++ rest) ≡ Some (n, rest)
 digits_again width n rest some narrow small fits stops =
     let is = padded_numbers_are_written_as_figures width n n n some narrow small (omega arith) (omega arith) in
-    (wide_numbers_are_read_by_their_digits width (padded_text width n ++ rest) rest n narrow).1 (padded_text width n, refl, is.written, stops)
+    (wide_numbers_are_read_by_their_digits width (padded_text width n ++ rest) rest n narrow).1
+    (padded_text width n, refl, is.written, stops)
 
-digits_alone : (width n : ℕ) → 0 < width → width ≤ 12 → n < 10 ^ width → n < 10 ^ 12 → number_of_width width (padded_text width n) ≡ Some (n, [])
-digits_alone width n some narrow small fits = ap (number_of_width width) (sym (append-nil (padded_text width n))) ∙ digits_again width n [] some narrow small fits tt
+digits_alone : (width n : ℕ) → 0 < width → width ≤ 12 → n < 10 ^ width → n < 10 ^ 12
+    → number_of_width width (padded_text width n) ≡ Some (n, [])
+digits_alone width n some narrow small fits = ap (number_of_width width) (sym (append-nil (padded_text width n)))
+    ∙ digits_again width n [] some narrow small fits tt
 
 -- a date
 pub minus_again : (rest : List ℕ) → word_at (45 ∷ []) (45 ∷ rest) ≡ Some rest
@@ -85,13 +107,16 @@ date_again n from to =
     let d = date_after n in
     let is = IsDateOf-date_after n in
     let year = year_in_range n d.year d.month d.date is from to in
-    let there : is_date d.year d.month d.date ≡ true = (date_decides d.year d.month d.date).1 (is.month_in.0, (is.month_in.1, (is.date_in.0, is.date_in.1))) in
+    let there : is_date d.year d.month d.date ≡ true =
+    (date_decides d.year d.month d.date).1 (is.month_in.0, (is.month_in.1, (is.date_in.0, is.date_in.1))) in
     let small = date_bound d.year d.month d.date there in
     let same = one_day_number (pos n) d.year d.month d.date (omega (arith, year.0)) is in
     rw (
-      digits_again 4 d.year (45 ∷ (padded_text 2 d.month ++ 45 ∷ padded_text 2 d.date)) (omega arith) (omega arith) (omega (arith, year.1)) (omega (arith, year.1)) (omega arith),
+      digits_again 4 d.year (45 ∷ (padded_text 2 d.month ++ 45 ∷ padded_text 2 d.date)) (omega arith) (omega arith)
+          (omega (arith, year.1)) (omega (arith, year.1)) (omega arith),
       minus_again (padded_text 2 d.month ++ 45 ∷ padded_text 2 d.date),
-      digits_again 2 d.month (45 ∷ padded_text 2 d.date) (omega arith) (omega arith) (omega (arith, small.0)) (omega (arith, small.0)) (omega arith),
+      digits_again 2 d.month (45 ∷ padded_text 2 d.date) (omega arith) (omega arith) (omega (arith, small.0))
+          (omega (arith, small.0)) (omega arith),
       minus_again (padded_text 2 d.date),
       digits_alone 2 d.date (omega arith) (omega arith) (omega (arith, small.1)) (omega (arith, small.1)),
       (at_most 2000 d.year).decides.1 year.0,

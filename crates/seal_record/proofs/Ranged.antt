@@ -1,5 +1,6 @@
 -- Parameters that bytes give, where they are in their ranges.
-use Rattle.std.proofs.Common.{◌≡◌, ℕ, Bool, true, false, if◌then◌else◌, ℤ, List, Option, Some, None, MatchOption, Decides, refl, sym, ap, subst, ◌∙◌}
+use Rattle.std.proofs.Common.{◌≡◌, ℕ, Bool, true, false, if◌then◌else◌, ℤ, List, Option, Some, None, MatchOption}
+use Rattle.std.proofs.Common.{Decides, refl, sym, ap, subst, ◌∙◌}
 use Rattle.std.specs.Str.{bytes_eq}
 use Rattle.std.proofs.lemmas.Bool.{false_from_ne_true}
 use Rattle.interval_clock.specs.Offsets.{IsOffsetList}
@@ -15,9 +16,11 @@ use Rattle.slot_bodies.proofs.Laws.{not_in_range, other_bytes, own_bytes}
 use Rattle.seal_record.specs.Spelling.{spelling}
 use Rattle.seal_record.specs.Values.{is_taxi, taxi_read}
 
-taxi_by_test : {R : Type 0} (view : R → List ℕ) (found : Option R) (text : List ℕ) (b : Bool) → Decides b (IsTaxi text) → Gives view found (if b then Some text else None)
+taxi_by_test : {R : Type 0} (view : R → List ℕ) (found : Option R) (text : List ℕ) (b : Bool) → Decides b (IsTaxi text)
+    → Gives view found (if b then Some text else None)
     → MatchOption found (¬ (IsTaxi text)) (λ taxi. (view taxi ≡ text) × IsTaxi (view taxi))
-taxi_by_test view (Some taxi) text true decides given = let same : view taxi ≡ text = cc in (same, subst IsTaxi (sym same) (decides.0 refl))
+taxi_by_test view (Some taxi) text true decides given = let same : view taxi ≡ text = cc in
+    (same, subst IsTaxi (sym same) (decides.0 refl))
 taxi_by_test view (Some taxi) text false decides given = absurd cc
 taxi_by_test view None text true decides given = absurd cc
 taxi_by_test view None text false decides given = λ is. absurd (let e : false ≡ true = decides.1 is in cc)
@@ -26,27 +29,40 @@ pub taxi_by : {R : Type 0} (view : R → List ℕ) (found : Option R) (text : Li
     → MatchOption found (¬ (IsTaxi text)) (λ taxi. (view taxi ≡ text) × IsTaxi (view taxi))
 taxi_by view found text given = taxi_by_test view found text (is_taxi text) (taxi_test text).decides given
 
-offsets_by_test : (found : Option (List (ℕ × ℤ))) (list : List (ℕ × ℤ)) (b : Bool) → Decides b (IsOffsetList list) → found ≡ (if b then Some list else None)
+offsets_by_test : (found : Option (List (ℕ × ℤ))) (list : List (ℕ × ℤ)) (b : Bool) → Decides b (IsOffsetList list)
+    → found ≡ (if b then Some list else None)
     → MatchOption found (¬ (IsOffsetList list)) (λ offsets. (offsets ≡ list) × IsOffsetList offsets)
-offsets_by_test (Some offsets) list true decides given = let same : offsets ≡ list = cc in (same, subst IsOffsetList (sym same) (decides.0 refl))
+offsets_by_test (Some offsets) list true decides given = let same : offsets ≡ list = cc in
+    (same, subst IsOffsetList (sym same) (decides.0 refl))
 offsets_by_test (Some offsets) list false decides given = absurd cc
 offsets_by_test None list true decides given = absurd cc
 offsets_by_test None list false decides given = λ is. absurd (let e : false ≡ true = decides.1 is in cc)
 
-pub offsets_by : (found : Option (List (ℕ × ℤ))) (pairs list : List (ℕ × ℤ)) → pairs ≡ list → found ≡ (if is_offset_list pairs then Some pairs else None)
+pub offsets_by : (found : Option (List (ℕ × ℤ))) (pairs list : List (ℕ × ℤ)) → pairs ≡ list
+    → found ≡ (if is_offset_list pairs then Some pairs else None)
     → MatchOption found (¬ (IsOffsetList list)) (λ offsets. (offsets ≡ list) × IsOffsetList offsets)
 offsets_by found pairs list same given =
-    offsets_by_test found list (is_offset_list list) (Decides-is_offset_list list) (given ∙ ap (λ (xs : List (ℕ × ℤ)). if is_offset_list xs then Some xs else None) same)
+    offsets_by_test found list (is_offset_list list) (Decides-is_offset_list list)
+    (given ∙ ap (λ (xs : List (ℕ × ℤ)). if is_offset_list xs then Some xs else None) same)
 
 -- parameters with the same fields
-pub same_params : (a b : Params) → a.taxi.items ≡ b.taxi.items → a.constant ≡ b.constant → a.mode ≡ b.mode → a.hold ≡ b.hold → a.offsets ≡ b.offsets → a.secured ≡ b.secured → a ≡ b
-same_params a b taxi constant mode hold offsets secured = λ i. record { taxi = record { items = taxi i }; constant = constant i; mode = mode i; hold = hold i; offsets = offsets i; secured = secured i }
+pub same_params : (a b : Params) → a.taxi.items ≡ b.taxi.items → a.constant ≡ b.constant → a.mode ≡ b.mode
+    → a.hold_time ≡ b.hold_time → a.offsets ≡ b.offsets → a.secured ≡ b.secured → a ≡ b
+same_params a b taxi constant mode hold_time offsets secured = λ i. record {
+  taxi = record { items = taxi i };
+  constant = constant i;
+  mode = mode i;
+  hold_time = hold_time i;
+  offsets = offsets i;
+  secured = secured i;
+}
 
 -- bytes whose fields are out of their ranges aren't read
 pub read_none : (bytes : List ℕ) → ¬ (IsSeal (decoded bytes)) → reads bytes ≡ None
 unfolding reads
 read_none bytes none = not_in_range seal_test spelling decoded bytes
-    (false_from_ne_true (seal_test (decoded bytes)).passes (λ passes. none ((seal_test (decoded bytes)).decides.0 passes)))
+    (false_from_ne_true (seal_test (decoded bytes)).passes
+    (λ passes. none ((seal_test (decoded bytes)).decides.0 passes)))
 
 -- what the bytes of a seal in its ranges are read as, where another spelling was found, and where their own
 pub read_other : (bytes shown : List ℕ) (seal : Seal) (same : Bool) → seal ≡ decoded bytes → shown ≡ spelling seal

@@ -1,76 +1,120 @@
 -- A text that is read says its parameters.
-use Rattle.std.proofs.Common.{◌≡◌, ℕ, ◌+◌, ◌↔◌, inl, inr, Bool, true, false, if◌then◌else◌, ℤ, List, [], ◌∷◌, length, Option, Some, None, Ok, Err, ltb, refl, sym, subst, ◌∙◌, arith}
+use Rattle.std.proofs.Common.{◌≡◌, ℕ, ◌+◌, ◌↔◌, inl, inr, Bool, true, false, if◌then◌else◌, ℤ, List, [], ◌∷◌, length}
+use Rattle.std.proofs.Common.{Option, Some, None, Ok, Err, ltb, refl, sym, subst, ◌∙◌, arith}
 use Rattle.std.proofs.lemmas.Bool.{cases_lt, le-ltb, lt-ltb}
 use Rattle.drive_modes.specs.declared.charges.Mode.{Mode}
 use Rattle.seal_record.specs.declared.params.Params.{Params}
 use Rattle.seal_record.specs.declared.params.ParamFault.TheVariants.{TooLong}
 use Rattle.seal_record.specs.Lines.{lines_of}
 use Rattle.seal_record.specs.Reading.{and_then, lines_read, params_read, whole, whole_of}
-use Rattle.seal_record.specs.Said.{Said, nothing_said}
-use Rattle.seal_record.specs.SaidStages.{line_read}
-use Rattle.seal_record.specs.TextSays.{AreSaid, SayOn, SaysParams}
-use Rattle.seal_record.specs.TextSays.SayOn.{no_line, one_line}
+use Rattle.seal_record.specs.ParamsSoFar.{ParamsSoFar, no_params_yet}
+use Rattle.seal_record.specs.ParamLineStages.{line_read}
+use Rattle.seal_record.specs.ParamText.{AreAllParams, LinesAddParams, IsTextOfParams}
+use Rattle.seal_record.specs.ParamText.LinesAddParams.{no_line, one_line}
 use Rattle.seal_record.proofs.FaultLaws.{true_false}
 use Rattle.seal_record.proofs.LineLaws.{lines_say_their_parameter}
 use Rattle.seal_record.proofs.PlainTexts.{whole_again}
-use Rattle.seal_record.proofs.SaidRanges.{went_on}
+use Rattle.seal_record.proofs.ParamRanges.{went_on}
 use Rattle.seal_record.proofs.TextLaws.{lines_make_the_text}
 
-pub say_on : (said after : Said) (number : ℕ) (lines : List (List ℕ)) → lines_read said number lines ≡ Ok after → SayOn said lines after
+pub say_on : (said after : ParamsSoFar) (number : ℕ) (lines : List (List ℕ)) → lines_read said number lines ≡ Ok after
+    → LinesAddParams said lines after
 unfolding lines_read
-say_on said after number [] e = let same : said ≡ after = cc in subst (SayOn said []) same (no_line said)
+say_on said after number [] e = let same : said ≡ after = cc in subst (LinesAddParams said []) same (no_line said)
 say_on said after number (line ∷ lines) e =
-    let on = went_on (line_read said number line) (λ (more : Said). lines_read more (number + 1) lines) after e in
-    one_line said on.0 after line lines ((lines_say_their_parameter said on.0 number line).0 on.1) (say_on on.0 after (number + 1) lines on.2)
+    let on =
+    went_on (line_read said number line) (λ (more : ParamsSoFar). lines_read more (number + 1) lines) after e in
+    one_line said on.0 after line lines ((lines_say_their_parameter said on.0 number line).0 on.1)
+    (say_on on.0 after (number + 1) lines on.2)
 
-pub say_from : (said after : Said) (number : ℕ) (lines : List (List ℕ)) → SayOn said lines after → lines_read said number lines ≡ Ok after
+pub say_from : (said after : ParamsSoFar) (number : ℕ) (lines : List (List ℕ)) → LinesAddParams said lines after
+    → lines_read said number lines ≡ Ok after
 unfolding lines_read
 say_from said after number lines (no_line s) = refl
-say_from said after number lines (one_line s more a line ls says on) = rw ((lines_say_their_parameter s more number line).1 says) (say_from more a (number + 1) ls on)
+say_from said after number lines (one_line s more a line ls says on) =
+    rw ((lines_say_their_parameter s more number line).1 says) (say_from more a (number + 1) ls on)
 
-whole_is : (taxi : Option (List ℕ)) (constant : Option ℕ) (mode : Option Mode) (hold : Option ℕ) (offsets : List (ℕ × ℤ)) (secured : Option ℤ) (params : Params)
-    → whole_of taxi constant mode hold offsets secured ≡ Ok params
-    → AreSaid (record { taxi = taxi; constant = constant; mode = mode; hold = hold; offsets = offsets; secured = secured }) params
-whole_is None constant mode hold offsets secured params e = absurd cc
-whole_is (Some taxi) None mode hold offsets secured params e = absurd cc
-whole_is (Some taxi) (Some constant) None hold offsets secured params e = absurd cc
+whole_is : (taxi : Option (List ℕ)) (constant : Option ℕ) (mode : Option Mode) (hold_time : Option ℕ)
+    (offsets : List (ℕ × ℤ)) (secured : Option ℤ) (params : Params)
+    → whole_of taxi constant mode hold_time offsets secured ≡ Ok params
+    → AreAllParams (record {
+      taxi = taxi;
+      constant = constant;
+      mode = mode;
+      hold_time = hold_time;
+      offsets = offsets;
+      secured = secured;
+    }) params
+whole_is None constant mode hold_time offsets secured params e = absurd cc
+whole_is (Some taxi) None mode hold_time offsets secured params e = absurd cc
+whole_is (Some taxi) (Some constant) None hold_time offsets secured params e = absurd cc
 whole_is (Some taxi) (Some constant) (Some mode) None offsets secured params e = absurd cc
-whole_is (Some taxi) (Some constant) (Some mode) (Some hold) [] secured params e = absurd cc
-whole_is (Some taxi) (Some constant) (Some mode) (Some hold) (pair ∷ pairs) None params e = absurd cc
-whole_is (Some taxi) (Some constant) (Some mode) (Some hold) (pair ∷ pairs) (Some secured) params e =
-    let made : Params = record { taxi = record { items = taxi }; constant = constant; mode = mode; hold = hold; offsets = pair ∷ pairs; secured = secured } in
-    let said : Said = record { taxi = Some taxi; constant = Some constant; mode = Some mode; hold = Some hold; offsets = pair ∷ pairs; secured = Some secured } in
+whole_is (Some taxi) (Some constant) (Some mode) (Some hold_time) [] secured params e = absurd cc
+whole_is (Some taxi) (Some constant) (Some mode) (Some hold_time) (pair ∷ pairs) None params e = absurd cc
+whole_is (Some taxi) (Some constant) (Some mode) (Some hold_time) (pair ∷ pairs) (Some secured) params e =
+    let made : Params = record {
+      taxi = record { items = taxi };
+      constant = constant;
+      mode = mode;
+      hold_time = hold_time;
+      offsets = pair ∷ pairs;
+      secured = secured;
+    } in
+    let said : ParamsSoFar = record {
+      taxi = Some taxi;
+      constant = Some constant;
+      mode = Some mode;
+      hold_time = Some hold_time;
+      offsets = pair ∷ pairs;
+      secured = Some secured;
+    } in
     let same : made ≡ params = cc in
-    subst (AreSaid said) same (record { taxi = refl; constant = refl; mode = refl; hold = refl; some = omega arith; offsets = refl; secured = refl })
+    subst (AreAllParams said) same (record {
+      taxi = refl;
+      constant = refl;
+      mode = refl;
+      hold_time = refl;
+      some = omega arith;
+      offsets = refl;
+      secured = refl;
+    })
 
-whole_from : (said : Said) (params : Params) → AreSaid said params → whole said ≡ Ok params
+whole_from : (said : ParamsSoFar) (params : Params) → AreAllParams said params → whole said ≡ Ok params
 whole_from said params all =
-    rw (all.taxi, all.constant, all.mode, all.hold, all.offsets, all.secured) (whole_again params params.secured params.offsets (omega (arith, all.some)))
+    rw (all.taxi, all.constant, all.mode, all.hold_time, all.offsets, all.secured)
+    (whole_again params params.secured params.offsets (omega (arith, all.some)))
 
 text_by : (long : Bool) (text : List ℕ) (params : Params) → ltb 65536 (length text) ≡ long
-    → (if long then Err TooLong else and_then (lines_read nothing_said 1 (lines_of text)) whole) ≡ Ok params → SaysParams text params
+    → (if long then Err TooLong else and_then (lines_read no_params_yet 1 (lines_of text)) whole) ≡ Ok params
+    → IsTextOfParams text params
 text_by true text params is e = absurd cc
 text_by false text params is e =
-    let on = went_on (lines_read nothing_said 1 (lines_of text)) whole params e in
+    let on = went_on (lines_read no_params_yet 1 (lines_of text)) whole params e in
     let said = on.0 in
     record {
-      few = elim (cases_lt 65536 (length text)) [ inl lt ↦ absurd (true_false (sym (lt-ltb 65536 (length text) lt) ∙ is)) | inr le ↦ le ];
+      few = elim (cases_lt 65536 (length text))
+          [ inl lt ↦ absurd (true_false (sym (lt-ltb 65536 (length text) lt) ∙ is)) | inr le ↦ le ];
       lines = lines_of text;
       said = said;
       are_lines = (lines_make_the_text text (lines_of text)).0 refl;
-      say = say_on nothing_said said 1 (lines_of text) on.1;
-      all = whole_is said.taxi said.constant said.mode said.hold said.offsets said.secured params on.2;
+      say = say_on no_params_yet said 1 (lines_of text) on.1;
+      all = whole_is said.taxi said.constant said.mode said.hold_time said.offsets said.secured params on.2;
     }
 
-text_says : (text : List ℕ) (params : Params) → params_read text ≡ Ok params → SaysParams text params
+text_says : (text : List ℕ) (params : Params) → params_read text ≡ Ok params → IsTextOfParams text params
 unfolding params_read
 text_says text params e = text_by (ltb 65536 (length text)) text params refl e
 
-text_from : (text : List ℕ) (params : Params) → SaysParams text params → params_read text ≡ Ok params
+text_from : (text : List ℕ) (params : Params) → IsTextOfParams text params → params_read text ≡ Ok params
 unfolding params_read
 text_from text params says =
-    rw (le-ltb 65536 (length text) says.few, (lines_make_the_text text says.lines).1 says.are_lines, say_from nothing_said says.said 1 says.lines says.say)
+    rw (
+      le-ltb 65536 (length text) says.few,
+      (lines_make_the_text text says.lines).1 says.are_lines,
+      say_from no_params_yet says.said 1 says.lines says.say,
+    )
     (whole_from says.said params says.all)
 
-pub texts_say_their_parameters : (text : List ℕ) (params : Params) → (params_read text ≡ Ok params) ↔ SaysParams text params
+pub texts_say_their_parameters : (text : List ℕ) (params : Params) → (params_read text ≡ Ok params)
+    ↔ IsTextOfParams text params
 texts_say_their_parameters text params = (text_says text params, text_from text params)

@@ -82,15 +82,17 @@ abbrev pub seal_table : Codec Seal
 seal_table = made
     (eight_bytes ⊗ taxi_table ⊗ four_bytes ⊗ one_mode ⊗ two_bytes ⊗ bytes digest_size ⊗ signed_bytes
     ⊗ counted offsets_size pair_table ⊗ byte ⊗ zeros spare_size ⊗ always 1)
-    (λ (s : Seal). s.seal_number ⊙ s.params.taxi.items ⊙ s.params.constant ⊙ s.params.mode ⊙ s.params.hold ⊙ s.digest
+    (λ (s : Seal).
+    s.seal_number ⊙ s.params.taxi.items ⊙ s.params.constant ⊙ s.params.mode ⊙ s.params.hold_time ⊙ s.digest
     ⊙ s.params.secured ⊙ s.params.offsets ⊙ s.decimals ⊙ tt ⊙ tt)
-    (λ (seal_number, (taxi, (constant, (mode, (hold, (digest, (secured, (offsets, (decimals, ends))))))))). record {
+    (λ (seal_number, (taxi, (constant, (mode, (hold_time, (digest, (secured, (offsets, (decimals, ends))))))))).
+    record {
       seal_number = seal_number;
       params = record {
         taxi = record { items = taxi };
         constant = constant;
         mode = mode;
-        hold = hold;
+        hold_time = hold_time;
         offsets = offsets;
         secured = secured;
       };

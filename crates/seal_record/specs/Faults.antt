@@ -6,9 +6,9 @@ use Rattle.seal_record.specs.declared.params.Name.TheVariants.{Taxi, Constant, H
 use Rattle.seal_record.specs.declared.params.Name.TheVariants as name
 use Rattle.seal_record.specs.declared.params.ParamFault.{ParamFault}
 use Rattle.seal_record.specs.declared.params.ParamFault.TheVariants.{BadValue, Twice, Unknown}
-use Rattle.seal_record.specs.LineSays.{IsSilent, SaysMore}
-use Rattle.seal_record.specs.Said.{Said}
-use Rattle.seal_record.specs.Says.{IsParted}
+use Rattle.seal_record.specs.ParamLine.{IsSilent, LineAddsParam}
+use Rattle.seal_record.specs.ParamsSoFar.{ParamsSoFar}
+use Rattle.seal_record.specs.TextParts.{IsParted}
 
 -- the key of a parameter is its name in small letters
 abbrev pub key_of : Name → List ℕ
@@ -21,19 +21,19 @@ key_of Secured = codes "secured"
 
 -- a parameter was said if an earlier line has said it, and is one that only one line may say; an offset may be said
 -- again
-pub data WasSaid (said : Said) : Name → Type 0 where
-  taxi_was : (value : List ℕ) → said.taxi ≡ Some value → WasSaid said Taxi
-  constant_was : (n : ℕ) → said.constant ≡ Some n → WasSaid said Constant
-  mode_was : (mode : Mode) → said.mode ≡ Some mode → WasSaid said name.Mode
-  hold_was : (n : ℕ) → said.hold ≡ Some n → WasSaid said Hold
-  secured_was : (day : ℤ) → said.secured ≡ Some day → WasSaid said Secured
+pub data HasParamAlready (said : ParamsSoFar) : Name → Type 0 where
+  taxi_was : (value : List ℕ) → said.taxi ≡ Some value → HasParamAlready said Taxi
+  constant_was : (n : ℕ) → said.constant ≡ Some n → HasParamAlready said Constant
+  mode_was : (mode : Mode) → said.mode ≡ Some mode → HasParamAlready said name.Mode
+  hold_was : (n : ℕ) → said.hold_time ≡ Some n → HasParamAlready said Hold
+  secured_was : (day : ℤ) → said.secured ≡ Some day → HasParamAlready said Secured
 
 -- a line is bad by the first of three faults that it has: its key is no parameter's; it says a parameter a second time;
 -- its value says nothing
-pub data IsBad (said : Said) (number : ℕ) (line : List ℕ) : ParamFault → Type 0 where
+pub data IsBad (said : ParamsSoFar) (number : ℕ) (line : List ℕ) : ParamFault → Type 0 where
   unknown_key : (key value : List ℕ) → ¬ (IsSilent line) → IsParted line key value
       → ((which : Name) → key ≢ key_of which) → IsBad said number line (Unknown number)
-  said_twice : (which : Name) (value : List ℕ) → IsParted line (key_of which) value → WasSaid said which
+  said_twice : (which : Name) (value : List ℕ) → IsParted line (key_of which) value → HasParamAlready said which
       → IsBad said number line (Twice which)
-  bad_value : (which : Name) (value : List ℕ) → IsParted line (key_of which) value → ¬ (WasSaid said which)
-      → ((more : Said) → ¬ (SaysMore said line more)) → IsBad said number line (BadValue number)
+  bad_value : (which : Name) (value : List ℕ) → IsParted line (key_of which) value → ¬ (HasParamAlready said which)
+      → ((more : ParamsSoFar) → ¬ (LineAddsParam said line more)) → IsBad said number line (BadValue number)

@@ -41,7 +41,7 @@ settings_lines params =
     line_of (codes "taxi") params.taxi.items
     ∷ line_of (codes "constant") (decimal params.constant)
     ∷ line_of (codes "mode") (mode_text params.mode)
-    ∷ line_of (codes "hold") (decimal params.hold) ∷ []
+    ∷ line_of (codes "hold") (decimal params.hold_time) ∷ []
 
 -- the plain lines of parameters are one for each, and one for each pair of the offsets, in the order of the table
 abbrev pub plain_lines : Params → List (List ℕ)

@@ -38,17 +38,17 @@ abbrev pub params_test : Params → Test
 params_test params = stated (IsParams params)
     (taxi_test params.taxi.items
     & within least_constant params.constant greatest_constant
-    & at_most params.hold longest_hold
+    & at_most params.hold_time longest_hold
     & (at_most_signed (pos first_day) params.secured & at_most_signed params.secured (pos last_day))
     & offsets_test params.offsets)
     (λ facts. record {
       taxi = facts.0.0.0.0;
       constant = facts.0.0.0.1;
-      hold = facts.0.0.1;
+      hold_time = facts.0.0.1;
       secured = facts.0.1;
       offsets = facts.1;
     })
-    (λ is. ((((is.taxi, is.constant), is.hold), is.secured), is.offsets))
+    (λ is. ((((is.taxi, is.constant), is.hold_time), is.secured), is.offsets))
 
 -- a seal
 abbrev pub seal_test : Seal → Test

@@ -21,7 +21,7 @@ IsDay day = (pos first_day ≤ℤ day) × (day ≤ℤ pos last_day)
 pub record IsParams (params : Params) : Type 0 where
   pub taxi : IsTaxi params.taxi.items
   pub constant : (least_constant ≤ params.constant) × (params.constant ≤ greatest_constant)
-  pub hold : params.hold ≤ longest_hold
+  pub hold_time : params.hold_time ≤ longest_hold
   pub secured : IsDay params.secured
   pub offsets : IsOffsetList params.offsets
 

@@ -42,11 +42,11 @@ seal_fits seal is =
     let params = seal.params in
     let number : seal.seal_number < 2 ^ 64 = omega (arith, is.seal_number.1) in
     let constant : params.constant < 2 ^ 32 = omega (arith, is.params.constant.1) in
-    let hold : params.hold < 2 ^ 16 = omega (arith, is.params.hold) in
+    let hold_time : params.hold_time < 2 ^ 16 = omega (arith, is.params.hold_time) in
     let room : length (flat_map pair_bytes params.offsets) ≤ 384 =
     omega (arith, length-pairs params.offsets, is.params.offsets.few) in
     let pairs = pairs_fit params.offsets is.params.offsets.in_range in (
-      number ⊙ is.params.taxi ⊙ constant ⊙ tt ⊙ hold ⊙ is.digest ⊙ fits_day params.secured is.params.secured
+      number ⊙ is.params.taxi ⊙ constant ⊙ tt ⊙ hold_time ⊙ is.digest ⊙ fits_day params.secured is.params.secured
           ⊙ (room ⊙ pairs) ⊙ tt ⊙ tt ⊙ tt,
       refl,
     )

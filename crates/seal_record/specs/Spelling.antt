@@ -35,7 +35,7 @@ pair_bytes pair = to_be_bytes w64 pair.0 ++ signed_bytes pair.1
 
 -- the settings are the constant in four bytes, the mode in one and the hold time in two
 abbrev pub settings_bytes : Params → List ℕ
-settings_bytes params = to_be_bytes w32 params.constant ++ (mode_byte params.mode ∷ to_be_bytes w16 params.hold)
+settings_bytes params = to_be_bytes w32 params.constant ++ (mode_byte params.mode ∷ to_be_bytes w16 params.hold_time)
 
 -- the offsets are how many pairs there are, in one byte, and the room of 32 pairs, before the bytes behind them
 abbrev pub offset_bytes : List (ℕ × ℤ) → List ℕ → List ℕ

@@ -91,8 +91,8 @@ fn params_in(bytes: &[u8; BODY_SIZE]) -> Option<Params>
     let Ok(constant) = Constant::new(four_at(bytes, 24)) else {
         return None;
     };
-    let hold = two_at(bytes, 29);
-    if hold > LONGEST_HOLD {
+    let hold_time = two_at(bytes, 29);
+    if hold_time > LONGEST_HOLD {
         return None;
     }
     let secured = signed_at(bytes, 63);
@@ -104,7 +104,7 @@ fn params_in(bytes: &[u8; BODY_SIZE]) -> Option<Params>
         taxi,
         constant,
         mode: mode_in(bytes[28]),
-        hold,
+        hold_time,
         offsets,
         secured,
     })

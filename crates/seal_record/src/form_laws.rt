@@ -4,9 +4,9 @@ ghost use Rattle.drive_modes.specs.declared.charges.Mode.{Mode};
 ghost use Rattle.seal_record.specs.declared.params.ParamFault.{ParamFault};
 ghost use Rattle.seal_record.specs.Faults.{IsBad};
 ghost use Rattle.seal_record.specs.Forms.{IsDateText, IsModeText, IsPairText};
-ghost use Rattle.seal_record.specs.LineSays.{SaysMore};
-ghost use Rattle.seal_record.specs.Said.{Said};
-ghost use Rattle.seal_record.specs.SaidStages.{line_read};
+ghost use Rattle.seal_record.specs.ParamLine.{LineAddsParam};
+ghost use Rattle.seal_record.specs.ParamsSoFar.{ParamsSoFar};
+ghost use Rattle.seal_record.specs.ParamLineStages.{line_read};
 ghost use Rattle.seal_record.specs.Values.{mode_read, pair_read, secured_read};
 
 /// A law: a mode is one of two words; an offset's value is the digits of its second, one blank, and a
@@ -21,13 +21,13 @@ pub fn values_are_read_by_their_forms()
 /// A law: a line is good exactly where it says nothing, or says a parameter that has not been said
 /// before by a value of its form, or one offset more of a lawful list; and then it says that alone.
 pub fn lines_say_their_parameter()
-    ensures { (said more : Said) (number : ℕ) (line : List ℕ)
-        → (line_read said number line ≡ Ok more) ↔ SaysMore said line more }
+    ensures { (said more : ParamsSoFar) (number : ℕ) (line : List ℕ)
+        → (line_read said number line ≡ Ok more) ↔ LineAddsParam said line more }
 {}
 
 /// A law: a line is refused exactly where it is bad, and its fault is the first that it has: its key is
 /// no parameter's; or it says a parameter a second time; or its value says nothing.
 pub fn bad_lines_have_their_fault()
-    ensures { (said : Said) (number : ℕ) (line : List ℕ) (fault : ParamFault)
+    ensures { (said : ParamsSoFar) (number : ℕ) (line : List ℕ) (fault : ParamFault)
         → (line_read said number line ≡ Err fault) ↔ IsBad said number line fault }
 {}

@@ -1,7 +1,7 @@
 //! The keys of the parameters.
 ghost use Rattle.std.specs.Prelude.{◌≡◌};
 ghost use Rattle.std.specs.Str.{bytes_eq};
-ghost use Rattle.seal_record.specs.SaidStages as spec;
+ghost use Rattle.seal_record.specs.ParamLineStages as spec;
 
 use crate::params::Name;
 
@@ -13,7 +13,7 @@ pub(crate) fn is_text(found: &[u8], text: &[u8]) -> bool
 }
 
 /// The parameter of a key.
-#[tactic(auto, unfolding(crate::specs::SaidStages::name_of))]
+#[tactic(auto, unfolding(crate::specs::ParamLineStages::name_of))]
 pub(crate) fn name_of(key: &[u8]) -> Option<Name>
     ensures { result ≡ spec.name_of key.now }
 {

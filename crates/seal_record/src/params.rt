@@ -29,7 +29,7 @@ pub struct Params {
     /// How time and distance are charged.
     pub mode: Mode,
     /// How long a trip may be held without supply and go on then, 0 to 600 seconds.
-    pub hold: u16,
+    pub hold_time: u16,
     /// The offsets from UTC that give local time.
     pub offsets: Offsets,
     /// The day number of the date of securing, of the years 2000 to 2199: 10,957 to 84,005.

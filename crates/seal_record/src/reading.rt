@@ -4,11 +4,11 @@ ghost use Rattle.seal_record.specs.Limits.{longest_text};
 ghost use Rattle.seal_record.specs.Ranges.{IsParams};
 ghost use Rattle.seal_record.specs.Lines.{lines_of};
 ghost use Rattle.seal_record.specs.Reading.{lines_read, params_read};
-ghost use Rattle.seal_record.specs.Said.{nothing_said};
+ghost use Rattle.seal_record.specs.ParamsSoFar.{no_params_yet};
 
 use crate::lines::first_line;
 use crate::params::{ParamFault, Params};
-use crate::said::Said;
+use crate::params_so_far::ParamsSoFar;
 
 /// How many bytes a text of parameters has at most.
 const LONGEST_TEXT: usize = 65_536;
@@ -55,11 +55,11 @@ fn read_text(text: &[u8]) -> Result<Params, ParamFault>
 
 /// What the lines of a text say.
 #[tactic(auto, unfolding(crate::specs::Reading::lines_read))]
-fn read_lines(text: &[u8]) -> Result<Said, ParamFault>
+fn read_lines(text: &[u8]) -> Result<ParamsSoFar, ParamFault>
     requires { length text.now ≤ longest_text }
-    ensures { result ≡ lines_read nothing_said 1 (lines_of text.now) }
+    ensures { result ≡ lines_read no_params_yet 1 (lines_of text.now) }
 {
-    let mut said = Said::nothing();
+    let mut said = ParamsSoFar::nothing();
     let mut number = 1;
     let mut rest = text;
     loop {

@@ -90,7 +90,7 @@ fn put_settings(out: &mut Spelled, params: &Params)
 {
     put_bytes(out, &params.constant.get().to_be_bytes());
     put_bytes(out, &[mode_byte(params.mode)]);
-    put_bytes(out, &params.hold.to_be_bytes());
+    put_bytes(out, &params.hold_time.to_be_bytes());
 }
 
 /// The bytes of a seal in its ranges.

@@ -7,8 +7,8 @@ ghost use Rattle.interval_clock.specs.Offsets.{IsOffsetList};
 ghost use Rattle.seal_record.specs.OffsetList.{is_offset_list};
 ghost use Rattle.seal_record.specs.Ranges.{IsParams, IsTaxi};
 ghost use Rattle.seal_record.specs.Reading.{lines_read, params_read};
-ghost use Rattle.seal_record.specs.Said.{Said};
-ghost use Rattle.seal_record.specs.Says.{AreLines, BreaksAt, IsParted};
+ghost use Rattle.seal_record.specs.ParamsSoFar.{ParamsSoFar};
+ghost use Rattle.seal_record.specs.TextParts.{AreLines, BreaksAt, IsParted};
 ghost use Rattle.seal_record.specs.Values.{taxi_read};
 ghost use Rattle.taxi_units.specs.Digits.{IsNumberIn};
 ghost use Rattle.taxi_units.specs.Number.{number_in};
@@ -26,7 +26,7 @@ pub fn texts_say_parameters_line_by_line()
         → (number_in low high text ≡ Some n) ↔ IsNumberIn low high text n }
     ensures taxis { (text taxi : List ℕ) → (taxi_read text ≡ Some taxi) ↔ (IsTaxi text × (text ≡ taxi)) }
     ensures offsets { (pairs : List (ℕ × ℤ)) → (is_offset_list pairs ≡ true) ↔ IsOffsetList pairs }
-    ensures first_bad { (said : Said) (number : ℕ) (lines : List (List ℕ)) (fault : ParamFault)
+    ensures first_bad { (said : ParamsSoFar) (number : ℕ) (lines : List (List ℕ)) (fault : ParamFault)
         → (lines_read said number lines ≡ Err fault) ↔ BreaksAt said number lines fault }
 {}
 

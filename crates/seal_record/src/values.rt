@@ -60,7 +60,7 @@ pub(crate) fn constant(text: &[u8]) -> Option<Constant>
 }
 
 /// The seconds for which a trip may be held.
-pub(crate) fn hold(text: &[u8]) -> Option<u16>
+pub(crate) fn hold_time(text: &[u8]) -> Option<u16>
     ensures { GivesSame result (number_in 0 longest_hold text.now) }
 {
     let seconds = number_in(text, 0, u64::from(LONGEST_HOLD))?;

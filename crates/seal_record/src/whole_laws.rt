@@ -5,12 +5,12 @@ ghost use Rattle.seal_record.specs.declared.params.ParamFault.TheVariants.{Missi
 ghost use Rattle.seal_record.specs.declared.params.Params.{Params};
 ghost use Rattle.seal_record.specs.Limits.{longest_text};
 ghost use Rattle.seal_record.specs.Reading.{params_read};
-ghost use Rattle.seal_record.specs.TextSays.{LacksFirst, SaysParams};
+ghost use Rattle.seal_record.specs.ParamText.{LacksFirst, IsTextOfParams};
 
 /// A law: a text is read as parameters exactly where it has at most 65,536 bytes and its lines, from the
 /// first to the last, say each of these parameters, and nothing else.
 pub fn texts_say_their_parameters()
-    ensures { (text : List ℕ) (params : Params) → (params_read text ≡ Ok params) ↔ SaysParams text params }
+    ensures { (text : List ℕ) (params : Params) → (params_read text ≡ Ok params) ↔ IsTextOfParams text params }
 {}
 
 /// A law: a text is too long exactly above 65,536 bytes; and a parameter is missing exactly where the

@@ -1,5 +1,6 @@
 -- The line of a mark is read as that mark.
-use Rattle.std.proofs.Common.{◌≡◌, ℕ, ◌<◌, ◌-◌, ◌^◌, Bool, true, false, List, [], ◌∷◌, ◌++◌, length, refl, ap, ◌∙◌, arith, append_assoc, Some, None, codes, eqb}
+use Rattle.std.proofs.Common.{◌≡◌, ℕ, ◌<◌, ◌-◌, ◌^◌, Bool, true, false, List, [], ◌∷◌, ◌++◌, length, refl, ap, ◌∙◌}
+use Rattle.std.proofs.Common.{arith, append_assoc, Some, None, codes, eqb}
 use Rattle.std.specs.Fmt.{decimal}
 use Rattle.std.specs.Char.{is_ascii_digit, digit_value}
 use Rattle.std.specs.List.{prefix_len}
@@ -13,7 +14,8 @@ use Rattle.taxi_units.specs.Reading.{word_at}
 use Rattle.taxi_units.proofs.Laws.{words_are_read_by_their_text}
 use Rattle.shift_book.specs.declared.numbers.Numbers.{Numbers}
 use Rattle.shift_book.specs.Following.{Fit}
-use Rattle.shift_book.specs.Marks.{Signing, PassAll, IsDriver, HasDriver, head_text, number_text, numbers_text, mark_text}
+use Rattle.shift_book.specs.Marks.{Signing, PassAll, IsDriver, HasDriver, head_text, number_text, numbers_text}
+use Rattle.shift_book.specs.Marks.{mark_text}
 use Rattle.shift_book.specs.Reading.{digits_at, amount_at, count_at, numbers_at, driver_at, on_at, off_at, mark_at}
 use Rattle.shift_book.proofs.Drivers.{whole_front}
 use Rattle.taxi_units.specs.Identifier.{is_identifier_character}
@@ -25,20 +27,25 @@ digits_pass : (xs : List ℕ) → AllDigits 10 xs → PassAll is_ascii_digit xs
 digits_pass [] all = tt
 digits_pass (x ∷ xs) all = (is_digit x all.0, digits_pass xs all.1)
 
-digits_back : (n : ℕ) (rest : List ℕ) → n < 2 ^ 128 → prefix_len is_ascii_digit rest ≡ 0 → digits_at (decimal n ++ rest) ≡ Some (n, rest)
+digits_back : (n : ℕ) (rest : List ℕ) → n < 2 ^ 128 → prefix_len is_ascii_digit rest ≡ 0
+    → digits_at (decimal n ++ rest) ≡ Some (n, rest)
 unfolding digits_at
 digits_back n rest small stops =
     let d = decimal_is_IsNumeral_wide n (omega arith) in
-    let count : digits_at_front (decimal n ++ rest) ≡ length (decimal n) = whole_front is_ascii_digit (decimal n) rest (digits_pass (decimal n) d.0.1) stops in
+    let count : digits_at_front (decimal n ++ rest) ≡ length (decimal n) =
+    whole_front is_ascii_digit (decimal n) rest (digits_pass (decimal n) d.0.1) stops in
     rw (count, take-append_seam (decimal n) rest, drop-append_seam (decimal n) rest, d.1, lt-ltb n (2 ^ 128) small) refl
 
-amount_back : (n : ℕ) (rest : List ℕ) → n < 2 ^ 128 → prefix_len is_ascii_digit rest ≡ 0 → amount_at (number_text n ++ rest) ≡ Some (n, rest)
+amount_back : (n : ℕ) (rest : List ℕ) → n < 2 ^ 128 → prefix_len is_ascii_digit rest ≡ 0
+    → amount_at (number_text n ++ rest) ≡ Some (n, rest)
 unfolding amount_at
 amount_back n rest small stops =
-    let behind : word_at (codes " ") (number_text n ++ rest) ≡ Some (decimal n ++ rest) = (words_are_read_by_their_text (codes " ") (number_text n ++ rest) (decimal n ++ rest)).1 refl in
+    let behind : word_at (codes " ") (number_text n ++ rest) ≡ Some (decimal n ++ rest) =
+    (words_are_read_by_their_text (codes " ") (number_text n ++ rest) (decimal n ++ rest)).1 refl in
     rw behind (digits_back n rest small stops)
 
-count_back : (n : ℕ) (rest : List ℕ) → n < 2 ^ 64 → prefix_len is_ascii_digit rest ≡ 0 → count_at (number_text n ++ rest) ≡ Some (n, rest)
+count_back : (n : ℕ) (rest : List ℕ) → n < 2 ^ 64 → prefix_len is_ascii_digit rest ≡ 0
+    → count_at (number_text n ++ rest) ≡ Some (n, rest)
 unfolding count_at
 count_back n rest small stops = rw (amount_back n rest (omega arith) stops, le-leb n (2 ^ 64 - 1) (omega arith)) refl
 
@@ -67,23 +74,28 @@ regrouped n rest = simp append_assoc
 numbers_back : (n : Numbers) (rest : List ℕ) → Fit n → numbers_at (numbers_text n ++ rest) ≡ Some n
 numbers_back n rest fit = ap numbers_at (regrouped n rest) ∙ line_back n rest fit
 
-pub driver_back : (driver rest : List ℕ) → IsDriver driver → prefix_len is_identifier_character rest ≡ 0 → driver_at (driver ++ rest) ≡ Some (driver, rest)
+pub driver_back : (driver rest : List ℕ) → IsDriver driver → prefix_len is_identifier_character rest ≡ 0
+    → driver_at (driver ++ rest) ≡ Some (driver, rest)
 unfolding driver_at
 driver_back driver rest valid stops =
-    let count : prefix_len is_identifier_character (driver ++ rest) ≡ length driver = whole_front is_identifier_character driver rest valid.characters stops in
+    let count : prefix_len is_identifier_character (driver ++ rest) ≡ length driver =
+    whole_front is_identifier_character driver rest valid.characters stops in
     let some : eqb (length driver) 0 ≡ false = ne_eqb _ _ (λ e. omega (arith, valid.some)) in
-    rw (count, some, le-ltb 16 (length driver) valid.few, take-append_seam driver rest, drop-append_seam driver rest) refl
+    rw (count, some, le-ltb 16 (length driver) valid.few, take-append_seam driver rest, drop-append_seam driver rest)
+    refl
 
 on_back : (driver rest : List ℕ) (n : Numbers) → IsDriver driver → Fit n
     → on_at (driver ++ (numbers_text n ++ rest)) ≡ Some (record { driver = driver; on = true; numbers = n })
 unfolding on_at
-on_back driver rest n valid fit = rw (driver_back driver (numbers_text n ++ rest) valid refl, numbers_back n rest fit) refl
+on_back driver rest n valid fit =
+    rw (driver_back driver (numbers_text n ++ rest) valid refl, numbers_back n rest fit) refl
 
 off_back : (rest : List ℕ) (n : Numbers) → Fit n
     → off_at (codes "OFF" ++ (numbers_text n ++ rest)) ≡ Some (record { driver = []; on = false; numbers = n })
 unfolding off_at
 off_back rest n fit =
-    let behind : word_at (codes "OFF") (codes "OFF" ++ (numbers_text n ++ rest)) ≡ Some (numbers_text n ++ rest) = (words_are_read_by_their_text (codes "OFF") _ (numbers_text n ++ rest)).1 refl in
+    let behind : word_at (codes "OFF") (codes "OFF" ++ (numbers_text n ++ rest)) ≡ Some (numbers_text n ++ rest) =
+    (words_are_read_by_their_text (codes "OFF") _ (numbers_text n ++ rest)).1 refl in
     rw (behind, numbers_back n rest fit) refl
 
 not_on : (text : List ℕ) → word_at (codes "ON ") (codes "OFF" ++ text) ≡ None
@@ -91,13 +103,18 @@ unfolding word_at
 not_on text = refl
 
 signing_back : (on : Bool) (driver rest : List ℕ) (n : Numbers) → HasDriver on driver → Fit n
-    → mark_at (head_text on driver ++ (numbers_text n ++ rest)) ≡ Some (record { driver = driver; on = on; numbers = n })
+    → mark_at (head_text on driver ++ (numbers_text n ++ rest))
+    ≡ Some (record { driver = driver; on = on; numbers = n })
 unfolding mark_at
 signing_back true driver rest n valid fit =
-    let behind : word_at (codes "ON ") (codes "ON " ++ (driver ++ (numbers_text n ++ rest))) ≡ Some (driver ++ (numbers_text n ++ rest)) = (words_are_read_by_their_text (codes "ON ") _ (driver ++ (numbers_text n ++ rest))).1 refl in
+    let behind : word_at (codes "ON ") (codes "ON " ++ (driver ++ (numbers_text n ++ rest)))
+    ≡ Some (driver ++ (numbers_text n ++ rest)) =
+    (words_are_read_by_their_text (codes "ON ") _ (driver ++ (numbers_text n ++ rest))).1 refl in
     rw behind (on_back driver rest n valid fit)
 signing_back false driver rest n valid fit =
     rw (not_on (numbers_text n ++ rest), valid) (off_back rest n fit)
 
-pub mark_back : (mark : Signing) (rest : List ℕ) → HasDriver mark.on mark.driver → Fit mark.numbers → mark_at (mark_text mark ++ rest) ≡ Some mark
-mark_back mark rest valid fit = ap mark_at (append_assoc (head_text mark.on mark.driver) (numbers_text mark.numbers) rest) ∙ signing_back mark.on mark.driver rest mark.numbers valid fit
+pub mark_back : (mark : Signing) (rest : List ℕ) → HasDriver mark.on mark.driver → Fit mark.numbers
+    → mark_at (mark_text mark ++ rest) ≡ Some mark
+mark_back mark rest valid fit = ap mark_at (append_assoc (head_text mark.on mark.driver)
+    (numbers_text mark.numbers) rest) ∙ signing_back mark.on mark.driver rest mark.numbers valid fit

@@ -1,16 +1,19 @@
 -- What is read of a text is what the text says.
-use Rattle.std.proofs.Common.{◌≡◌, ◌≢◌, ◌↔◌, ℕ, zero, suc, ◌+◌, ◌<◌, ◌≤◌, Bool, true, false, cond, List, [], ◌∷◌, ◌++◌, length, take, drop, Option, Some, None, Result, Ok, Err, refl, sym, ap, subst, ◌∙◌, arith, length-append, length-take, codes}
+use Rattle.std.proofs.Common.{◌≡◌, ◌≢◌, ◌↔◌, ℕ, zero, suc, ◌+◌, ◌<◌, ◌≤◌, Bool, true, false, cond, List, [], ◌∷◌, ◌++◌}
+use Rattle.std.proofs.Common.{length, take, drop, Option, Some, None, Result, Ok, Err, refl, sym, ap, subst, ◌∙◌, arith}
+use Rattle.std.proofs.Common.{length-append, length-take, codes}
 use Rattle.std.specs.Prelude.{not, nat_le, nat_lt, ◌&&◌, ◌||◌, ◌==◌, IfSome}
 use Rattle.std.specs.List.{prefix_len}
 use Rattle.std.proofs.lemmas.List.Concat.{flat_map-cons}
 use Rattle.std.proofs.lemmas.Bool.{le-leb, leb-true, lt-ltb, ltb-true, ltb-false}
-use Rattle.totals_record.specs.declared.durable.Durable.{Durable}
+use Rattle.totals_record.specs.declared.durable_state.Durable.{Durable}
 use Rattle.taxi_units.specs.Reading.{◌>>=◌, word_at}
 use Rattle.taxi_units.proofs.Laws.{words_are_read_by_their_text}
 use Rattle.shift_book.specs.declared.book.BookFault.{BookFault}
 use Rattle.shift_book.specs.declared.book.BookFault.TheVariants.{TooLong, BadLine, NoMemory}
 use Rattle.shift_book.specs.declared.numbers.Numbers.{Numbers}
-use Rattle.shift_book.specs.BookReading.{is_nowhere_less, is_grown, is_turn, may_follow, following, next_at, or_bad, lines_read, book_read}
+use Rattle.shift_book.specs.BookReading.{is_nowhere_less, is_grown, is_turn, may_follow, following, next_at, or_bad}
+use Rattle.shift_book.specs.BookReading.{lines_read, book_read}
 use Rattle.shift_book.specs.Books.{longest, IsNext, Begins, IsBook, IsFirstBad}
 use Rattle.shift_book.specs.Following.{Fit, IsNowhereLess, MayFollow, is_on, last_of, numbers_in}
 use Rattle.shift_book.specs.Marks.{Signing, HasDriver, IsDriver, PassAll, book_text, head_text, mark_text, numbers_text}
@@ -26,7 +29,8 @@ use Rattle.taxi_units.specs.Identifier.{is_identifier_character}
 value_of : {X : Type 0} (a b : X) → Some a ≡ Some b → a ≡ b
 value_of a b e = cc
 
-read_on : {A B : Type 0} (o : Option A) (f : A → Option B) (b : B) → (o >>= f) ≡ Some b → (a : A) × (o ≡ Some a) × (f a ≡ Some b)
+read_on : {A B : Type 0} (o : Option A) (f : A → Option B) (b : B) → (o >>= f) ≡ Some b
+    → (a : A) × (o ≡ Some a) × (f a ≡ Some b)
 read_on None f b e = absurd cc
 read_on (Some a) f b e = (a, refl, e)
 
@@ -38,11 +42,13 @@ front_short test (c ∷ cs) = by (test c) (front_short test cs)
     by true within = omega (arith, within)
     by false within = omega arith
 
-counted : (count : ℕ) (text : List ℕ) (found : List ℕ × List ℕ) → count ≤ length text → PassAll is_identifier_character (take count text)
+counted : (count : ℕ) (text : List ℕ) (found : List ℕ × List ℕ) → count ≤ length text
+    → PassAll is_identifier_character (take count text)
     → counted_driver count text ≡ Some found → IsDriver found.0
 counted count text found within pass e = by (count == 0) (nat_lt 16 count) refl refl e
   where
-    by : (a b : Bool) → (count == 0) ≡ a → nat_lt 16 count ≡ b → cond (a || b) None (Some (take count text, drop count text)) ≡ Some found → IsDriver found.0
+    by : (a b : Bool) → (count == 0) ≡ a → nat_lt 16 count ≡ b
+        → cond (a || b) None (Some (take count text, drop count text)) ≡ Some found → IsDriver found.0
     by true b zeros large none = absurd cc
     by false true zeros large none = absurd cc
     by false false zeros large some =
@@ -57,7 +63,8 @@ counted count text found within pass e = by (count == 0) (nat_lt 16 count) refl 
 
 driver_read : (text : List ℕ) (found : List ℕ × List ℕ) → driver_at text ≡ Some found → IsDriver found.0
 unfolding driver_at
-driver_read text found e = counted (prefix_len is_identifier_character text) text found (front_short is_identifier_character text) (characters_in_front text) e
+driver_read text found e = counted (prefix_len is_identifier_character text) text found
+    (front_short is_identifier_character text) (characters_in_front text) e
 
 signed_on : List ℕ → Numbers → Signing
 signed_on driver numbers = record { driver = driver; on = true; numbers = numbers }
@@ -65,9 +72,11 @@ signed_on driver numbers = record { driver = driver; on = true; numbers = number
 on_driver : (text : List ℕ) (mark : Signing) → on_at text ≡ Some mark → HasDriver mark.on mark.driver
 unfolding on_at signed_on
 on_driver text mark e =
-    let one = read_on (driver_at text) (λ driver. numbers_at driver.1 >>= (λ numbers. Some (signed_on driver.0 numbers))) mark e in
+    let one = read_on (driver_at text)
+    (λ driver. numbers_at driver.1 >>= (λ numbers. Some (signed_on driver.0 numbers))) mark e in
     let two = read_on (numbers_at one.0.1) (λ numbers. Some (signed_on one.0.0 numbers)) mark one.2 in
-    subst (λ (x : Signing). HasDriver x.on x.driver) (value_of (signed_on one.0.0 two.0) mark two.2) (driver_read text one.0 one.1)
+    subst (λ (x : Signing). HasDriver x.on x.driver) (value_of (signed_on one.0.0 two.0) mark two.2)
+    (driver_read text one.0 one.1)
 
 signed_off : Numbers → Signing
 signed_off numbers = record { driver = []; on = false; numbers = numbers }
@@ -75,11 +84,13 @@ signed_off numbers = record { driver = []; on = false; numbers = numbers }
 off_driver : (text : List ℕ) (mark : Signing) → off_at text ≡ Some mark → HasDriver mark.on mark.driver
 unfolding off_at signed_off
 off_driver text mark e =
-    let one = read_on (word_at (codes "OFF") text) (λ rest. numbers_at rest >>= (λ numbers. Some (signed_off numbers))) mark e in
+    let one =
+    read_on (word_at (codes "OFF") text) (λ rest. numbers_at rest >>= (λ numbers. Some (signed_off numbers))) mark e in
     let two = read_on (numbers_at one.0) (λ numbers. Some (signed_off numbers)) mark one.2 in
     subst (λ (x : Signing). HasDriver x.on x.driver) (value_of (signed_off two.0) mark two.2) refl
 
-behind_driver : (behind : Option (List ℕ)) (text : List ℕ) (mark : Signing) → mark_behind behind text ≡ Some mark → HasDriver mark.on mark.driver
+behind_driver : (behind : Option (List ℕ)) (text : List ℕ) (mark : Signing) → mark_behind behind text ≡ Some mark
+    → HasDriver mark.on mark.driver
 behind_driver (Some rest) text mark e = on_driver rest mark e
 behind_driver None text mark e = off_driver text mark e
 
@@ -132,15 +143,18 @@ turn_tested true false e = refl
 turn_tested false true e = refl
 turn_tested false false e = absurd cc
 
-grown_told : (before : Option Signing) (after : Numbers) → is_grown before after ≡ true → IfSome before (λ m. IsNowhereLess m.numbers after)
+grown_told : (before : Option Signing) (after : Numbers) → is_grown before after ≡ true
+    → IfSome before (λ m. IsNowhereLess m.numbers after)
 grown_told None after e = tt
 grown_told (Some m) after e = less_told m.numbers after e
 
-grown_tested : (before : Option Signing) (after : Numbers) → IfSome before (λ m. IsNowhereLess m.numbers after) → is_grown before after ≡ true
+grown_tested : (before : Option Signing) (after : Numbers) → IfSome before (λ m. IsNowhereLess m.numbers after)
+    → is_grown before after ≡ true
 grown_tested None after h = refl
 grown_tested (Some m) after h = less_tested m.numbers after h
 
-follow_told : (now : Durable) (before : Option Signing) (mark : Signing) → HasDriver mark.on mark.driver → may_follow now before mark ≡ true → MayFollow now before mark
+follow_told : (now : Durable) (before : Option Signing) (mark : Signing) → HasDriver mark.on mark.driver
+    → may_follow now before mark ≡ true → MayFollow now before mark
 follow_told now before mark driver e =
     let one = both (is_turn before mark) _ e in
     let two = both (is_grown before mark.numbers) (is_nowhere_less mark.numbers (numbers_in now)) one.1 in
@@ -151,14 +165,20 @@ follow_told now before mark driver e =
       within = less_told mark.numbers (numbers_in now) two.1;
     }
 
-follow_tested : (now : Durable) (before : Option Signing) (mark : Signing) → MayFollow now before mark → may_follow now before mark ≡ true
+follow_tested : (now : Durable) (before : Option Signing) (mark : Signing) → MayFollow now before mark
+    → may_follow now before mark ≡ true
 follow_tested now before mark h =
-    rw (turn_tested mark.on (is_on before) h.turn, grown_tested before mark.numbers h.grown, less_tested mark.numbers (numbers_in now) h.within) refl
+    rw (
+      turn_tested mark.on (is_on before) h.turn,
+      grown_tested before mark.numbers h.grown,
+      less_tested mark.numbers (numbers_in now) h.within,
+    ) refl
 
 -- ---- the next mark
 
 -- a mark that is next is found
-next_found : (now : Durable) (before : Option Signing) (text : List ℕ) (mark : Signing) (rest : List ℕ) → Fit (numbers_in now)
+next_found : (now : Durable) (before : Option Signing) (text : List ℕ) (mark : Signing) (rest : List ℕ)
+    → Fit (numbers_in now)
     → IsNext now before text mark rest → next_at now before text ≡ Some (mark, rest)
 unfolding next_at
 next_found now before text mark rest fit next =
@@ -168,26 +188,31 @@ next_found now before text mark rest fit next =
       follow_tested now before mark next.follows,
     ) refl
 
-none_next : (now : Durable) (before : Option Signing) (text : List ℕ) → Fit (numbers_in now) → next_at now before text ≡ None
+none_next : (now : Durable) (before : Option Signing) (text : List ℕ) → Fit (numbers_in now)
+    → next_at now before text ≡ None
     → (mark : Signing) (rest : List ℕ) → ¬ (IsNext now before text mark rest)
 none_next now before text fit none mark rest next =
     let found = next_found now before text mark rest fit next in
     absurd cc
 
-followed : (now : Durable) (before : Option Signing) (mark : Signing) (rest : List ℕ) (found : Signing × List ℕ) → following now before mark rest ≡ Some found
+followed : (now : Durable) (before : Option Signing) (mark : Signing) (rest : List ℕ) (found : Signing × List ℕ)
+    → following now before mark rest ≡ Some found
     → (may_follow now before mark ≡ true) × (found ≡ (mark, rest))
 followed now before mark rest found e = by (may_follow now before mark) refl e
   where
-    by : (b : Bool) → may_follow now before mark ≡ b → cond b (Some (mark, rest)) None ≡ Some found → (may_follow now before mark ≡ true) × (found ≡ (mark, rest))
+    by : (b : Bool) → may_follow now before mark ≡ b → cond b (Some (mark, rest)) None ≡ Some found
+        → (may_follow now before mark ≡ true) × (found ≡ (mark, rest))
     by true is some = (is, sym (value_of (mark, rest) found some))
     by false is none = absurd cc
 
 -- a mark that is found is next
-found_next : (now : Durable) (before : Option Signing) (text : List ℕ) (found : Signing × List ℕ) → next_at now before text ≡ Some found
+found_next : (now : Durable) (before : Option Signing) (text : List ℕ) (found : Signing × List ℕ)
+    → next_at now before text ≡ Some found
     → IsNext now before text found.0 found.1
 unfolding next_at
 found_next now before text found e =
-    let one = read_on (mark_at text) (λ mark. word_at (mark_text mark) text >>= (λ rest. following now before mark rest)) found e in
+    let one = read_on (mark_at text)
+    (λ mark. word_at (mark_text mark) text >>= (λ rest. following now before mark rest)) found e in
     let two = read_on (word_at (mark_text one.0) text) (λ rest. following now before one.0 rest) found one.2 in
     let three = followed now before one.0 two.0 found two.2 in
     subst (λ (x : Signing × List ℕ). IsNext now before text x.0 x.1) (sym three.1) (record {
@@ -204,15 +229,18 @@ Means now text (Err TooLong) = longest < length text
 Means now text (Err (BadLine line)) = IsFirstBad now text line
 Means now text (Err NoMemory) = ⊥
 
-lines_mean : (now : Durable) (text : List ℕ) (most : ℕ) (marks : List Signing) (rest : List ℕ) → Fit (numbers_in now) → length text ≤ longest → length rest ≤ most
+lines_mean : (now : Durable) (text : List ℕ) (most : ℕ) (marks : List Signing) (rest : List ℕ) → Fit (numbers_in now)
+    → length text ≤ longest → length rest ≤ most
     → Begins now text marks rest → Means now text (lines_read now most marks rest)
 unfolding Means
 lines_mean now text most marks [] fit few fewer begun = record { few = few; begins = begun }
 lines_mean now text zero marks (c ∷ cs) fit few fewer begun = absurd (omega (arith, fewer))
 lines_mean now text (suc most) marks (c ∷ cs) fit few fewer begun =
-    by (λ mark after shorter more. lines_mean now text most (marks ++ mark ∷ []) after fit few shorter more) (next_at now (last_of marks) (c ∷ cs)) refl
+    by (λ mark after shorter more. lines_mean now text most (marks ++ mark ∷ []) after fit few shorter more)
+    (next_at now (last_of marks) (c ∷ cs)) refl
   where
-    by : ((mark : Signing) (after : List ℕ) → length after ≤ most → Begins now text (marks ++ mark ∷ []) after → Means now text (lines_read now most (marks ++ mark ∷ []) after))
+    by : ((mark : Signing) (after : List ℕ) → length after ≤ most → Begins now text (marks ++ mark ∷ []) after
+        → Means now text (lines_read now most (marks ++ mark ∷ []) after))
         → (o : Option (Signing × List ℕ)) → next_at now (last_of marks) (c ∷ cs) ≡ o
         → Means now text (or_bad (length marks + 1) o (λ next. lines_read now most (marks ++ next.0 ∷ []) next.1))
     by on None none = record {
@@ -233,12 +261,15 @@ book_means : (now : Durable) (text : List ℕ) → Fit (numbers_in now) → Mean
 unfolding Means
 book_means now text fit = by (nat_lt longest (length text)) refl
   where
-    by : (b : Bool) → nat_lt longest (length text) ≡ b → Means now text (cond b (Err TooLong) (lines_read now (length text) [] text))
+    by : (b : Bool) → nat_lt longest (length text) ≡ b
+        → Means now text (cond b (Err TooLong) (lines_read now (length text) [] text))
     by true more = ltb-true longest (length text) more
-    by false few = lines_mean now text (length text) [] text fit (ltb-false longest (length text) few) (omega arith) (record { lines = refl; follow = tt })
+    by false few = lines_mean now text (length text) [] text fit (ltb-false longest (length text) few) (omega arith)
+        (record { lines = refl; follow = tt })
 
 -- the answer is the only one that says what the text says
-pub book_is_read : (now : Durable) (text : List ℕ) (marks : List Signing) → Fit (numbers_in now) → IsBook now text marks → book_read now text ≡ Ok marks
+pub book_is_read : (now : Durable) (text : List ℕ) (marks : List Signing) → Fit (numbers_in now) → IsBook now text marks
+    → book_read now text ≡ Ok marks
 unfolding Means
 book_is_read now text marks fit book = by (book_read now text) (book_means now text fit)
   where
@@ -248,7 +279,8 @@ book_is_read now text marks fit book = by (book_read now text) (book_means now t
     by (Err (BadLine line)) is = absurd (books_have_no_fault now text marks line fit book is)
     by (Err NoMemory) is = absurd is
 
-pub bad_line_is_read : (now : Durable) (text : List ℕ) (line : ℕ) → Fit (numbers_in now) → IsFirstBad now text line → book_read now text ≡ Err (BadLine line)
+pub bad_line_is_read : (now : Durable) (text : List ℕ) (line : ℕ) → Fit (numbers_in now) → IsFirstBad now text line
+    → book_read now text ≡ Err (BadLine line)
 unfolding Means
 bad_line_is_read now text line fit bad = by (book_read now text) (book_means now text fit)
   where
@@ -262,14 +294,19 @@ pub long_is_read : (now : Durable) (text : List ℕ) → longest < length text �
 long_is_read now text long = rw (lt-ltb longest (length text) long) refl
 
 -- the same where reading has come to a text's end, or to a bad line
-pub end_is_read : (now : Durable) (text : List ℕ) (marks : List Signing) (rest : List ℕ) → Fit (numbers_in now) → length text ≤ longest → length rest ≡ 0
+pub end_is_read : (now : Durable) (text : List ℕ) (marks : List Signing) (rest : List ℕ) → Fit (numbers_in now)
+    → length text ≤ longest → length rest ≡ 0
     → Begins now text marks rest → book_read now text ≡ Ok marks
-end_is_read now text marks [] fit few none begun = book_is_read now text marks fit (record { few = few; begins = begun })
+end_is_read now text marks [] fit few none begun =
+    book_is_read now text marks fit (record { few = few; begins = begun })
 end_is_read now text marks (c ∷ cs) fit few none begun = absurd (omega (arith, none))
 
-pub break_is_read : {T : Type 0} (now : Durable) (text : List ℕ) (marks : List Signing) (rest : List ℕ) (line : ℕ) (fault : BookFault) → Fit (numbers_in now)
-    → length text ≤ longest → length rest ≢ 0 → Begins now text marks rest → ((mark : Signing) (after : List ℕ) → ¬ (IsNext now (last_of marks) rest mark after))
-    → line ≡ length marks + 1 → ◌≡◌ {A = Result T BookFault} (Err (BadLine line)) (Err fault) → book_read now text ≡ Err fault
+pub break_is_read : {T : Type 0} (now : Durable) (text : List ℕ) (marks : List Signing) (rest : List ℕ) (line : ℕ)
+    (fault : BookFault) → Fit (numbers_in now)
+    → length text ≤ longest → length rest ≢ 0 → Begins now text marks rest
+    → ((mark : Signing) (after : List ℕ) → ¬ (IsNext now (last_of marks) rest mark after))
+    → line ≡ length marks + 1 → ◌≡◌ {A = Result T BookFault} (Err (BadLine line)) (Err fault)
+    → book_read now text ≡ Err fault
 break_is_read now text marks rest line fault fit few more begun bad place e =
     bad_line_is_read now text line fit (record {
       few = few;
@@ -280,12 +317,15 @@ break_is_read now text marks rest line fault fit few more begun bad place e =
       place = place;
     }) ∙ same (BadLine line) fault e
   where
-    same : {S T : Type 0} (a b : BookFault) → ◌≡◌ {A = Result T BookFault} (Err a) (Err b) → ◌≡◌ {A = Result S BookFault} (Err a) (Err b)
+    same : {S T : Type 0} (a b : BookFault) → ◌≡◌ {A = Result T BookFault} (Err a) (Err b)
+        → ◌≡◌ {A = Result S BookFault} (Err a) (Err b)
     same a b e = cc
 
 -- a text has a byte for each of its marks
-pub marks_have_bytes : (now : Durable) (text : List ℕ) (marks : List Signing) (rest : List ℕ) → Begins now text marks rest → length marks ≤ length text
-marks_have_bytes now text marks rest begun = omega (arith, ap length begun.lines, length-append (book_text marks) rest, lines_have_bytes marks)
+pub marks_have_bytes : (now : Durable) (text : List ℕ) (marks : List Signing) (rest : List ℕ)
+    → Begins now text marks rest → length marks ≤ length text
+marks_have_bytes now text marks rest begun =
+    omega (arith, ap length begun.lines, length-append (book_text marks) rest, lines_have_bytes marks)
   where
     lines_have_bytes : (marks : List Signing) → length marks ≤ length (book_text marks)
     lines_have_bytes [] = omega arith
@@ -299,7 +339,8 @@ marks_have_bytes now text marks rest begun = omega (arith, ap length begun.lines
 
 -- ---- and the other way round
 
-pub texts_are_books : (now : Durable) (text : List ℕ) (marks : List Signing) → Fit (numbers_in now) → (book_read now text ≡ Ok marks) ↔ IsBook now text marks
+pub texts_are_books : (now : Durable) (text : List ℕ) (marks : List Signing) → Fit (numbers_in now)
+    → (book_read now text ≡ Ok marks) ↔ IsBook now text marks
 unfolding Means
 texts_are_books now text marks fit = (
   (λ (e : book_read now text ≡ Ok marks). said (subst (Means now text) e (book_means now text fit))),
@@ -309,7 +350,8 @@ texts_are_books now text marks fit = (
     said : Means now text (Ok marks) → IsBook now text marks
     said h = h
 
-pub texts_have_bad_lines : (now : Durable) (text : List ℕ) (line : ℕ) → Fit (numbers_in now) → (book_read now text ≡ Err (BadLine line)) ↔ IsFirstBad now text line
+pub texts_have_bad_lines : (now : Durable) (text : List ℕ) (line : ℕ) → Fit (numbers_in now)
+    → (book_read now text ≡ Err (BadLine line)) ↔ IsFirstBad now text line
 unfolding Means
 texts_have_bad_lines now text line fit = (
   (λ (e : book_read now text ≡ Err (BadLine line)). said (subst (Means now text) e (book_means now text fit))),
@@ -319,7 +361,8 @@ texts_have_bad_lines now text line fit = (
     said : Means now text (Err (BadLine line)) → IsFirstBad now text line
     said h = h
 
-pub texts_are_too_long : (now : Durable) (text : List ℕ) → Fit (numbers_in now) → (book_read now text ≡ Err TooLong) ↔ (longest < length text)
+pub texts_are_too_long : (now : Durable) (text : List ℕ) → Fit (numbers_in now) → (book_read now text ≡ Err TooLong)
+    ↔ (longest < length text)
 unfolding Means
 texts_are_too_long now text fit = (
   (λ (e : book_read now text ≡ Err TooLong). said (subst (Means now text) e (book_means now text fit))),

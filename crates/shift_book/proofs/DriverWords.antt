@@ -1,5 +1,6 @@
 -- Words that are drivers.
-use Rattle.std.proofs.Common.{◌≡◌, ◌≢◌, ℕ, Bool, true, false, cond, List, [], ◌∷◌, ◌++◌, length, take, drop, Option, Some, None, refl, sym, ap, ◌∙◌, arith}
+use Rattle.std.proofs.Common.{◌≡◌, ◌≢◌, ℕ, Bool, true, false, cond, List, [], ◌∷◌, ◌++◌, length, take, drop, Option}
+use Rattle.std.proofs.Common.{Some, None, refl, sym, ap, ◌∙◌, arith}
 use Rattle.std.specs.Prelude.{nat_lt, ◌||◌, ◌==◌}
 use Rattle.std.specs.List.{prefix_len}
 use Rattle.std.proofs.lemmas.List.{append-nil, take-append-drop}
@@ -12,7 +13,8 @@ use Rattle.taxi_units.specs.Identifier.{is_identifier_character}
 -- a driver is read as it is
 driver_read : (word : List ℕ) → IsDriver word → driver_of word ≡ Some word
 unfolding driver_of
-driver_read word valid = ap (λ (o : Option (List ℕ × List ℕ)). o >>= (λ found. alone found)) (ap driver_at (sym (append-nil word)) ∙ driver_back word [] valid refl)
+driver_read word valid = ap (λ (o : Option (List ℕ × List ℕ)). o >>= (λ found. alone found))
+    (ap driver_at (sym (append-nil word)) ∙ driver_back word [] valid refl)
 
 -- where none is read, the word is none
 no_driver : (word : List ℕ) → driver_of word ≡ None → ¬ (IsDriver word)
@@ -28,12 +30,14 @@ value_of a b e = cc
 whole_word : (count : ℕ) (word driver : List ℕ) → counted_driver count word ≡ Some (driver, []) → driver ≡ word
 whole_word count word driver e = by ((count == 0) || nat_lt 16 count) e
   where
-    by : (b : Bool) → cond {A = Option (List ℕ × List ℕ)} b None (Some (take count word, drop count word)) ≡ Some (driver, []) → driver ≡ word
+    by : (b : Bool) → cond {A = Option (List ℕ × List ℕ)} b None (Some (take count word, drop count word))
+        ≡ Some (driver, []) → driver ≡ word
     by true none = absurd cc
     by false some =
         let pair = value_of (take count word, drop count word) (driver, []) some in
         sym (ap (λ (x : List ℕ × List ℕ). x.0) pair) ∙ sym (append-nil (take count word))
-        ∙ ap (λ (l : List ℕ). take count word ++ l) (sym (ap (λ (x : List ℕ × List ℕ). x.1) pair)) ∙ take-append-drop count word
+        ∙ ap (λ (l : List ℕ). take count word ++ l) (sym (ap (λ (x : List ℕ × List ℕ). x.1) pair))
+        ∙ take-append-drop count word
 
 -- a driver that is read with nothing behind is the word
 pub driver_is : (word driver rest : List ℕ) → length rest ≡ 0 → driver_at word ≡ Some (driver, rest) → driver ≡ word
@@ -42,7 +46,8 @@ driver_is word driver [] none e = whole_word (prefix_len is_identifier_character
 driver_is word driver (c ∷ cs) none e = absurd (omega (arith, none))
 
 -- and no driver stands before more
-pub driver_is_not : (word driver rest : List ℕ) → length rest ≢ 0 → driver_at word ≡ Some (driver, rest) → ¬ (IsDriver word)
+pub driver_is_not : (word driver rest : List ℕ) → length rest ≢ 0 → driver_at word ≡ Some (driver, rest)
+    → ¬ (IsDriver word)
 unfolding driver_of
 driver_is_not word driver [] more e valid = more refl
 driver_is_not word driver (c ∷ cs) more e valid =

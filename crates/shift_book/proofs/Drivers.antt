@@ -16,10 +16,12 @@ front_passes : (test : ℕ → Bool) (xs : List ℕ) → PassAll test (take (pre
 front_passes test [] = tt
 front_passes test (x ∷ xs) = passed test (test x) x xs refl (front_passes test xs)
 
-pub characters_in_front : (xs : List ℕ) → PassAll is_identifier_character (take (prefix_len is_identifier_character xs) xs)
+pub characters_in_front : (xs : List ℕ)
+    → PassAll is_identifier_character (take (prefix_len is_identifier_character xs) xs)
 characters_in_front xs = front_passes is_identifier_character xs
 
 -- and all of it is taken, where what follows doesn't pass
-pub whole_front : (test : ℕ → Bool) (xs rest : List ℕ) → PassAll test xs → prefix_len test rest ≡ 0 → prefix_len test (xs ++ rest) ≡ length xs
+pub whole_front : (test : ℕ → Bool) (xs rest : List ℕ) → PassAll test xs → prefix_len test rest ≡ 0
+    → prefix_len test (xs ++ rest) ≡ length xs
 whole_front test [] rest all stops = stops
 whole_front test (x ∷ xs) rest all stops = rw all.0 (omega (arith, whole_front test xs rest all.1 stops))

@@ -30,7 +30,8 @@ unfolding IsStrictlySortedBy
 none_ordered R = tt
 
 module _ {K X : Type 0} {R : K → K → Ordering} (o : IsTotalOrder R) (k : K) (v : X) where
-  below_all : (a b : K) (ks : List K) → R a b ≡ Less → AllByRecursion (λ y. R b y ≡ Less) ks → AllByRecursion (λ y. R a y ≡ Less) ks
+  below_all : (a b : K) (ks : List K) → R a b ≡ Less → AllByRecursion (λ y. R b y ≡ Less) ks
+      → AllByRecursion (λ y. R a y ≡ Less) ks
   below_all a b [] less all = tt
   below_all a b (y ∷ ys) less all = (o.trans a b y less all.0, below_all a b ys less all.1)
 
@@ -40,32 +41,37 @@ module _ {K X : Type 0} {R : K → K → Ordering} (o : IsTotalOrder R) (k : K) 
   above_head a (e ∷ es) less all = by (R k e.0) (above_head a es less all.1)
     where
       by : (r : Ordering) → AllByRecursion (λ y. R a y ≡ Less) (keys_of (insert_entry R es k v))
-          → AllByRecursion (λ y. R a y ≡ Less) (keys_of (match_ordering r ((k, v) ∷ e ∷ es) ((e.0, v) ∷ es) (e ∷ insert_entry R es k v)))
+          → AllByRecursion (λ y. R a y ≡ Less)
+          (keys_of (match_ordering r ((k, v) ∷ e ∷ es) ((e.0, v) ∷ es) (e ∷ insert_entry R es k v)))
       by Less more = (less, all)
       by Equal more = all
       by Greater more = (all.0, more)
 
   -- the keys stay in order
-  pub insert_ordered : (es : List (K × X)) → IsStrictlySortedBy R (keys_of es) → IsStrictlySortedBy R (keys_of (insert_entry R es k v))
+  pub insert_ordered : (es : List (K × X)) → IsStrictlySortedBy R (keys_of es)
+      → IsStrictlySortedBy R (keys_of (insert_entry R es k v))
   unfolding IsStrictlySortedBy
   insert_ordered [] s = (tt, tt)
   insert_ordered (e ∷ es) s = by (R k e.0) refl (insert_ordered es s.1)
     where
       by : (r : Ordering) → R k e.0 ≡ r → IsStrictlySortedBy R (keys_of (insert_entry R es k v))
-          → IsStrictlySortedBy R (keys_of (match_ordering r ((k, v) ∷ e ∷ es) ((e.0, v) ∷ es) (e ∷ insert_entry R es k v)))
+          → IsStrictlySortedBy R
+          (keys_of (match_ordering r ((k, v) ∷ e ∷ es) ((e.0, v) ∷ es) (e ∷ insert_entry R es k v)))
       by Less is more = ((is, below_all k e.0 (keys_of es) is s.0), s)
       by Equal is more = s
       by Greater is more = (above_head e.0 es (reverse_less (R k e.0) (R e.0 k) (o.antisymm k e.0) is) s.0, more)
 
   -- the key itself is found, and what other keys find stays
-  pub insert_found : (q : K) (es : List (K × X)) → lookup (is_at (R q)) (insert_entry R es k v) ≡ cond (is_eq (R k q)) (Some v) (lookup (is_at (R q)) es)
+  pub insert_found : (q : K) (es : List (K × X))
+      → lookup (is_at (R q)) (insert_entry R es k v) ≡ cond (is_eq (R k q)) (Some v) (lookup (is_at (R q)) es)
   insert_found q [] = ap (λ (b : Bool). cond b (Some v) None) (eq_of_reverse (R q k) (R k q) (o.antisymm q k))
   insert_found q (e ∷ es) = by (R k e.0) refl (insert_found q es)
     where
       found : Option X
       found = lookup (is_at (R q)) es
 
-      swapped : (a b : Bool) → (a ≡ true → b ≡ true → ⊥) → cond a (Some e.1) (cond b (Some v) found) ≡ cond b (Some v) (cond a (Some e.1) found)
+      swapped : (a b : Bool) → (a ≡ true → b ≡ true → ⊥)
+          → cond a (Some e.1) (cond b (Some v) found) ≡ cond b (Some v) (cond a (Some e.1) found)
       swapped true true never = absurd (never refl refl)
       swapped true false never = refl
       swapped false b never = refl
@@ -76,10 +82,12 @@ module _ {K X : Type 0} {R : K → K → Ordering} (o : IsTotalOrder R) (k : K) 
       covered false true same = absurd cc
       covered false false same = refl
 
-      by : (r : Ordering) → R k e.0 ≡ r → lookup (is_at (R q)) (insert_entry R es k v) ≡ cond (is_eq (R k q)) (Some v) found
+      by : (r : Ordering) → R k e.0 ≡ r
+          → lookup (is_at (R q)) (insert_entry R es k v) ≡ cond (is_eq (R k q)) (Some v) found
           → lookup (is_at (R q)) (match_ordering r ((k, v) ∷ e ∷ es) ((e.0, v) ∷ es) (e ∷ insert_entry R es k v))
           ≡ cond (is_eq (R k q)) (Some v) (cond (is_eq (R q e.0)) (Some e.1) found)
-      by Less is more = ap (λ (b : Bool). cond b (Some v) (cond (is_eq (R q e.0)) (Some e.1) found)) (eq_of_reverse (R q k) (R k q) (o.antisymm q k))
+      by Less is more = ap (λ (b : Bool). cond b (Some v) (cond (is_eq (R q e.0)) (Some e.1) found))
+          (eq_of_reverse (R q k) (R k q) (o.antisymm q k))
       by Equal is more =
           let same : is_eq (R q e.0) ≡ is_eq (R k q) =
           eq_of_reverse (R q e.0) (R e.0 q) (o.antisymm q e.0) ∙ sym (ap is_eq (o.congr k e.0 q is)) in

@@ -1,19 +1,22 @@
 -- The line of a mark says the mark.
-use Rattle.std.proofs.Common.{◌≡◌, ℕ, ◌↔◌, List, [], ◌∷◌, ◌++◌, length, ◌<◌, ◌≤◌, ◌^◌, refl, ap, sym, ◌∙◌, arith, append_assoc}
+use Rattle.std.proofs.Common.{◌≡◌, ℕ, ◌↔◌, List, [], ◌∷◌, ◌++◌, length, ◌<◌, ◌≤◌, ◌^◌, refl, ap, sym, ◌∙◌, arith}
+use Rattle.std.proofs.Common.{append_assoc}
 use Rattle.std.specs.Fmt.{decimal}
 use Rattle.taxi_units.proofs.Laws.{numbers_are_short, numbers_are_written_by_their_digits}
 use Rattle.shift_book.specs.declared.numbers.Numbers.{Numbers}
 use Rattle.shift_book.specs.Following.{Fit}
-use Rattle.shift_book.specs.Marks.{Signing, HasDriver, SaysNumbers, IsMarkLine, head_text, numbers_text, mark_text, six_fields}
+use Rattle.shift_book.specs.Marks.{Signing, HasDriver, IsTextOfNumbers, IsMarkLine, head_text, numbers_text, mark_text}
+use Rattle.shift_book.specs.Marks.{six_fields}
 
 -- a number below 2^64 has at most 20 digits
 pub counts_are_short : (value : ℕ) → value < 2 ^ 64 → length (decimal value) ≤ 20
 counts_are_short value small = (numbers_are_short 20 value (omega arith) (omega arith) (omega arith)).1
 
-fields_are : (a b c d e f : List ℕ) → (32 ∷ a) ++ ((32 ∷ b) ++ ((32 ∷ c) ++ ((32 ∷ d) ++ ((32 ∷ e) ++ ((32 ∷ f) ++ 10 ∷ []))))) ≡ six_fields a b c d e f
+fields_are : (a b c d e f : List ℕ)
+    → (32 ∷ a) ++ ((32 ∷ b) ++ ((32 ∷ c) ++ ((32 ∷ d) ++ ((32 ∷ e) ++ ((32 ∷ f) ++ 10 ∷ []))))) ≡ six_fields a b c d e f
 fields_are a b c d e f = simp append_assoc
 
-says : (n : Numbers) → Fit n → SaysNumbers (numbers_text n) n
+says : (n : Numbers) → Fit n → IsTextOfNumbers (numbers_text n) n
 says n fit =
     record {
       one = decimal n.number;
@@ -22,7 +25,8 @@ says n fit =
       four = decimal n.hirings;
       five = decimal n.supplements;
       six = decimal n.fare;
-      text_is = fields_are (decimal n.number) (decimal n.distance_mm) (decimal n.hired_mm) (decimal n.hirings) (decimal n.supplements) (decimal n.fare);
+      text_is = fields_are (decimal n.number) (decimal n.distance_mm) (decimal n.hired_mm) (decimal n.hirings)
+          (decimal n.supplements) (decimal n.fare);
       number = (numbers_are_written_by_their_digits n.number (decimal n.number) (omega (arith, fit.number))).0 refl;
       distance = (numbers_are_written_by_their_digits n.distance_mm (decimal n.distance_mm) fit.distance).0 refl;
       hired = (numbers_are_written_by_their_digits n.hired_mm (decimal n.hired_mm) fit.hired).0 refl;
@@ -33,15 +37,18 @@ says n fit =
 
 -- the line that is written says the mark
 pub said : (mark : Signing) → Fit mark.numbers → HasDriver mark.on mark.driver → IsMarkLine (mark_text mark) mark
-said mark fit valid = record { numbers = numbers_text mark.numbers; text_is = refl; driver = valid; says = says mark.numbers fit }
+said mark fit valid =
+    record { numbers = numbers_text mark.numbers; text_is = refl; driver = valid; says = says mark.numbers fit }
 
-fields_same : (n : Numbers) (a b c d e f : List ℕ) → decimal n.number ≡ a → decimal n.distance_mm ≡ b → decimal n.hired_mm ≡ c → decimal n.hirings ≡ d
+fields_same : (n : Numbers) (a b c d e f : List ℕ) → decimal n.number ≡ a → decimal n.distance_mm ≡ b
+    → decimal n.hired_mm ≡ c → decimal n.hirings ≡ d
     → decimal n.supplements ≡ e → decimal n.fare ≡ f → six_fields a b c d e f ≡ numbers_text n
 fields_same n a b c d e f one two three four five six =
     rw (← one, ← two, ← three, ← four, ← five, ← six)
-    (sym (fields_are (decimal n.number) (decimal n.distance_mm) (decimal n.hired_mm) (decimal n.hirings) (decimal n.supplements) (decimal n.fare)))
+    (sym (fields_are (decimal n.number) (decimal n.distance_mm) (decimal n.hired_mm) (decimal n.hirings)
+    (decimal n.supplements) (decimal n.fare)))
 
-written : (text : List ℕ) (n : Numbers) → Fit n → SaysNumbers text n → text ≡ numbers_text n
+written : (text : List ℕ) (n : Numbers) → Fit n → IsTextOfNumbers text n → text ≡ numbers_text n
 written text n fit s =
     s.text_is ∙ fields_same n s.one s.two s.three s.four s.five s.six
     ((numbers_are_written_by_their_digits n.number s.one (omega (arith, fit.number))).1 s.number)
@@ -54,7 +61,10 @@ written text n fit s =
 pub marks_are_their_lines : (line : List ℕ) (mark : Signing) → Fit mark.numbers
     → IsMarkLine line mark ↔ (HasDriver mark.on mark.driver × (line ≡ mark_text mark))
 marks_are_their_lines line mark fit = (
-  (λ (m : IsMarkLine line mark). (m.driver, m.text_is ∙ ap (λ (t : List ℕ). head_text mark.on mark.driver ++ t) (written m.numbers mark.numbers fit m.says))),
+  (λ (m : IsMarkLine line mark). (
+    m.driver,
+    m.text_is ∙ ap (λ (t : List ℕ). head_text mark.on mark.driver ++ t) (written m.numbers mark.numbers fit m.says),
+  )),
   (λ (h : HasDriver mark.on mark.driver × (line ≡ mark_text mark)). record {
     numbers = numbers_text mark.numbers;
     text_is = h.1;

@@ -1,6 +1,6 @@
 -- The mark at the front of a text is the one that is read there.
 use Rattle.std.proofs.Common.{◌≡◌, ℕ, List, Option, Some, None, ap, ◌∙◌, arith}
-use Rattle.totals_record.specs.declared.durable.Durable.{Durable}
+use Rattle.totals_record.specs.declared.durable_state.Durable.{Durable}
 use Rattle.taxi_units.specs.Reading.{word_at}
 use Rattle.taxi_units.proofs.Laws.{words_are_read_by_their_text}
 use Rattle.shift_book.specs.declared.numbers.Numbers.{Numbers}
@@ -22,33 +22,39 @@ smaller_fit a b less fit =
       fare = omega (arith, less.fare, fit.fare);
     }
 
-pub next_is : (now : Durable) (before : Option Signing) (text : List ℕ) (mark : Signing) (rest : List ℕ) → Fit (numbers_in now)
+pub next_is : (now : Durable) (before : Option Signing) (text : List ℕ) (mark : Signing) (rest : List ℕ)
+    → Fit (numbers_in now)
     → IsNext now before text mark rest → mark_at text ≡ Some mark
 next_is now before text mark rest fit next =
-    ap mark_at next.line ∙ mark_back mark rest next.follows.driver (smaller_fit mark.numbers (numbers_in now) next.follows.within fit)
+    ap mark_at next.line
+    ∙ mark_back mark rest next.follows.driver (smaller_fit mark.numbers (numbers_in now) next.follows.within fit)
 
 same_mark : (a b : Signing) → Some a ≡ Some b → a ≡ b
 same_mark a b e = cc
 
 -- where none is read, no mark is next
-pub none_is_next : (now : Durable) (before : Option Signing) (text : List ℕ) → Fit (numbers_in now) → mark_at text ≡ None
+pub none_is_next : (now : Durable) (before : Option Signing) (text : List ℕ) → Fit (numbers_in now)
+    → mark_at text ≡ None
     → (mark : Signing) (rest : List ℕ) → ¬ (IsNext now before text mark rest)
 none_is_next now before text fit none mark rest next =
     let found = next_is now before text mark rest fit next in
     absurd cc
 
 -- where one is read, no other is
-pub other_is_next : (now : Durable) (before : Option Signing) (text : List ℕ) (found : Signing) → Fit (numbers_in now) → mark_at text ≡ Some found
+pub other_is_next : (now : Durable) (before : Option Signing) (text : List ℕ) (found : Signing) → Fit (numbers_in now)
+    → mark_at text ≡ Some found
     → (mark : Signing) (rest : List ℕ) → IsNext now before text mark rest → mark ≡ found
 other_is_next now before text found fit is mark rest next =
     let read = next_is now before text mark rest fit next in
     same_mark mark found cc
 
 -- and it is none either, where its line doesn't stand there
-pub unspelled_is_next : (now : Durable) (before : Option Signing) (text : List ℕ) (found : Signing) → Fit (numbers_in now) → mark_at text ≡ Some found
+pub unspelled_is_next : (now : Durable) (before : Option Signing) (text : List ℕ) (found : Signing)
+    → Fit (numbers_in now) → mark_at text ≡ Some found
     → word_at (mark_text found) text ≡ None → (mark : Signing) (rest : List ℕ) → ¬ (IsNext now before text mark rest)
 unspelled_is_next now before text found fit is none mark rest next =
     let same = other_is_next now before text found fit is mark rest next in
-    let stands : word_at (mark_text mark) text ≡ Some rest = (words_are_read_by_their_text (mark_text mark) text rest).1 next.line in
+    let stands : word_at (mark_text mark) text ≡ Some rest =
+    (words_are_read_by_their_text (mark_text mark) text rest).1 next.line in
     let there = ap (λ (m : Signing). word_at (mark_text m) text) same in
     absurd cc

@@ -1,14 +1,16 @@
 -- Growth between the points of a book, column by column.
-use Rattle.std.proofs.Common.{◌≡◌, ℕ, ◌+◌, ◌-◌, ◌≤◌, Bool, true, false, if◌then◌else◌, List, [], ◌∷◌, length, Option, Some, refl, ap, ◌∙◌, arith}
+use Rattle.std.proofs.Common.{◌≡◌, ℕ, ◌+◌, ◌-◌, ◌≤◌, Bool, true, false, if◌then◌else◌, List, [], ◌∷◌, length, Option}
+use Rattle.std.proofs.Common.{Some, refl, ap, ◌∙◌, arith}
 use Rattle.std.specs.List.{sum_by}
 use Rattle.std.proofs.lemmas.List.Sums.{sum_by-append}
-use Rattle.totals_record.specs.declared.durable.Durable.{Durable}
+use Rattle.totals_record.specs.declared.durable_state.Durable.{Durable}
 use Rattle.shift_book.specs.declared.numbers.Numbers.{Numbers}
 use Rattle.shift_book.specs.declared.shift.Shift.{Shift}
 use Rattle.shift_book.specs.Following.{Fit, FollowOn, IsNowhereLess, numbers_in}
 use Rattle.shift_book.specs.Marks.{Signing, numbers_of}
 use Rattle.shift_book.specs.ShareStages.{Rise, total_of}
-use Rattle.shift_book.specs.Shares.{Column, Number, Distance, HiredDistance, Hirings, Supplements, Fare, at, nothing, grown, plus, next_point, begun_by, free_behind, shifts_in, unsigned_in, growth_in}
+use Rattle.shift_book.specs.Shares.{Column, Number, Distance, HiredDistance, Hirings, Supplements, Fare, at, nothing}
+use Rattle.shift_book.specs.Shares.{grown, plus, next_point, begun_by, free_behind, shifts_in, unsigned_in, growth_in}
 
 pub at_least : (c : Column) (a b : Numbers) → IsNowhereLess a b → at c a ≤ at c b
 at_least Number a b h = h.number
@@ -78,20 +80,23 @@ fit_under a b h fit =
     }
 
 -- marks that follow on rise
-pub rises : (now : Durable) (before : Option Signing) (marks : List Signing) → FollowOn now before marks → Rise (numbers_in now) marks
+pub rises : (now : Durable) (before : Option Signing) (marks : List Signing) → FollowOn now before marks
+    → Rise (numbers_in now) marks
 rises now before [] all = tt
 rises now before (m ∷ []) all = (all.0.within, tt)
 rises now before (m ∷ x ∷ xs) all = (all.1.0.grown, rises now (Some m) (x ∷ xs) all.1)
 
 begun_at : (b : Bool) (driver : List ℕ) (n next : Numbers) (c : Column) → at c n ≤ at c next
-    → sum_by (λ (s : Shift). at c s.growth) (if b then record { driver = record { items = driver }; growth = grown n next } ∷ [] else [])
+    → sum_by (λ (s : Shift). at c s.growth)
+    (if b then record { driver = record { items = driver }; growth = grown n next } ∷ [] else [])
     + at c (if b then nothing else grown n next) + at c n ≡ at c next
 begun_at true driver n next c less = omega (arith, at-grown c n next, at-nothing c)
 begun_at false driver n next c less = omega (arith, at-grown c n next)
 
 -- shifts, free growth and the first point together are the last point
 together : (now : Numbers) (marks : List Signing) → Rise now marks → (c : Column)
-    → sum_by (λ s. at c s.growth) (shifts_in now marks) + at c (unsigned_in now marks) + at c (next_point now marks) ≡ at c now
+    → sum_by (λ s. at c s.growth) (shifts_in now marks) + at c (unsigned_in now marks)
+    + at c (next_point now marks) ≡ at c now
 together now [] rise c = omega (arith, at-nothing c)
 together now (m ∷ ms) rise c =
     let next = next_point now ms in
@@ -110,15 +115,19 @@ shifts_add_up now [] rise c = omega arith
 shifts_add_up now (m ∷ ms) rise c = omega (arith, together now (m ∷ ms) rise c, at-grown c m.numbers now)
 
 pub unsigned_fit : (now : Numbers) (marks : List Signing) → Rise now marks → Fit now → Fit (unsigned_in now marks)
-unsigned_fit now marks rise fit = fit_under (unsigned_in now marks) now (λ c. omega (arith, together now marks rise c)) fit
+unsigned_fit now marks rise fit =
+    fit_under (unsigned_in now marks) now (λ c. omega (arith, together now marks rise c)) fit
 
 pub total_fit : (now : Numbers) (marks : List Signing) → Rise now marks → Fit now → Fit (total_of (shifts_in now marks))
 total_fit now marks rise fit =
-    fit_under (total_of (shifts_in now marks)) now (λ c. omega (arith, at-total c (shifts_in now marks), together now marks rise c)) fit
+    fit_under (total_of (shifts_in now marks)) now
+    (λ c. omega (arith, at-total c (shifts_in now marks), together now marks rise c)) fit
 
 -- the growth while nobody was on, with one stretch more, fits
-pub unsigned_fits : (now : Numbers) (all left : List Signing) (m : Signing) (rest : List Signing) (unsigned free : Numbers) → left ≡ m ∷ rest
-    → free ≡ free_behind m (next_point now rest) → ((c : Column) → at c unsigned + at c (unsigned_in now left) ≡ at c (unsigned_in now all))
+pub unsigned_fits : (now : Numbers) (all left : List Signing) (m : Signing) (rest : List Signing)
+    (unsigned free : Numbers) → left ≡ m ∷ rest
+    → free ≡ free_behind m (next_point now rest)
+    → ((c : Column) → at c unsigned + at c (unsigned_in now left) ≡ at c (unsigned_in now all))
     → Fit (unsigned_in now all) → Fit (plus unsigned free)
 unsigned_fits now all left m rest unsigned free e f h fit =
     let next = next_point now rest in
@@ -135,6 +144,8 @@ unsigned_fits now all left m rest unsigned free e f h fit =
 
 -- and it is all of it, where no mark is left
 pub unsigned_done : (now : Numbers) (all left : List Signing) (unsigned : Numbers) → length left ≡ 0
-    → ((c : Column) → at c unsigned + at c (unsigned_in now left) ≡ at c (unsigned_in now all)) → unsigned ≡ unsigned_in now all
-unsigned_done now all [] unsigned e h = same_numbers unsigned (unsigned_in now all) (λ c. omega (arith, h c, at-nothing c))
+    → ((c : Column) → at c unsigned + at c (unsigned_in now left) ≡ at c (unsigned_in now all))
+    → unsigned ≡ unsigned_in now all
+unsigned_done now all [] unsigned e h =
+    same_numbers unsigned (unsigned_in now all) (λ c. omega (arith, h c, at-nothing c))
 unsigned_done now all (x ∷ xs) unsigned e h = absurd (omega arith)

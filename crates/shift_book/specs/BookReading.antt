@@ -1,7 +1,7 @@
 -- For proofs: how a book is read, line by line. The law `texts_are_read_as_they_say` says what `book_read` answers.
 use Rattle.std.specs.Prelude.{ℕ, zero, suc, ◌+◌, ◌&&◌, nat_le, nat_lt, Bool, true, not, if◌then◌else◌, List, [], ◌∷◌, ◌++◌, length, Option, Some, None, Result, Ok, Err}
 use Rattle.taxi_units.specs.Reading.{◌>>=◌, word_at}
-use Rattle.totals_record.specs.declared.durable.Durable.{Durable}
+use Rattle.totals_record.specs.declared.durable_state.Durable.{Durable}
 use Rattle.shift_book.specs.declared.book.BookFault.{BookFault}
 use Rattle.shift_book.specs.declared.book.BookFault.TheVariants.{TooLong, BadLine}
 use Rattle.shift_book.specs.declared.numbers.Numbers.{Numbers}

@@ -1,6 +1,6 @@
 -- Rules: which texts are books, and what is wrong with a text that is none.
 use Rattle.std.specs.Prelude.{◌≡◌, ◌≢◌, ℕ, ◌+◌, ◌<◌, ◌≤◌, List, [], ◌++◌, length, Option, None}
-use Rattle.totals_record.specs.declared.durable.Durable.{Durable}
+use Rattle.totals_record.specs.declared.durable_state.Durable.{Durable}
 use Rattle.shift_book.specs.declared.book.BookFault.{BookFault}
 use Rattle.shift_book.specs.declared.book.BookFault.TheVariants.{TooLong, BadLine, NoMemory}
 use Rattle.shift_book.specs.Following.{MayFollow, FollowOn, last_of}

@@ -1,6 +1,6 @@
 -- Rules: which marks may follow one another in a book, beside a state of the store.
 use Rattle.std.specs.Prelude.{◌≡◌, ◌-◌, ◌<◌, ◌≤◌, ◌^◌, Bool, false, not, List, [], ◌∷◌, length, slice_get, Option, Some, None, IfSome, ⊤}
-use Rattle.totals_record.specs.declared.durable.Durable.{Durable}
+use Rattle.totals_record.specs.declared.durable_state.Durable.{Durable}
 use Rattle.shift_book.specs.declared.numbers.Numbers.{Numbers}
 use Rattle.shift_book.specs.Marks.{Signing, HasDriver, numbers_of}
 

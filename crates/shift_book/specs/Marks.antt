@@ -69,7 +69,7 @@ six_fields one two three four five six =
     ++ codes " " ++ six ++ codes "\n"
 
 -- a text says six numbers, each by its digits without leading zeros
-pub record SaysNumbers (text : List ℕ) (numbers : Numbers) : Type 0 where
+pub record IsTextOfNumbers (text : List ℕ) (numbers : Numbers) : Type 0 where
   pub one : List ℕ
   pub two : List ℕ
   pub three : List ℕ
@@ -89,4 +89,4 @@ pub record IsMarkLine (line : List ℕ) (mark : Signing) : Type 0 where
   pub numbers : List ℕ
   pub text_is : line ≡ head_text mark.on mark.driver ++ numbers
   pub driver : HasDriver mark.on mark.driver
-  pub says : SaysNumbers numbers mark.numbers
+  pub says : IsTextOfNumbers numbers mark.numbers

@@ -5,7 +5,7 @@ ghost use Rattle.shift_book.specs.Books.{IsBook, IsFirstBad, longest};
 ghost use Rattle.shift_book.specs.declared.book.BookFault.TheVariants as BookFault;
 ghost use Rattle.shift_book.specs.Following.{Fit, numbers_in};
 ghost use Rattle.shift_book.specs.Marks.{Signing};
-ghost use Rattle.totals_record.specs.declared.durable.Durable.{Durable};
+ghost use Rattle.totals_record.specs.declared.durable_state.Durable.{Durable};
 
 /// A law: beside one state of the store a text is a book of one list of marks at most, has one first
 /// bad line at most, and never both.

@@ -1,7 +1,7 @@
 //! Which mark may follow in a book.
 ghost use Rattle.std.specs.Prelude.{◌≡◌, ◌↔◌, ℕ, List, IsTrue, IfSome, IfNone};
 ghost use Rattle.shift_book.specs.Books.{IsNext};
-ghost use Rattle.totals_record.specs.declared.durable.Durable.{Durable};
+ghost use Rattle.totals_record.specs.declared.durable_state.Durable.{Durable};
 ghost use Rattle.shift_book.specs.Following.{Fit, MayFollow, last_of, numbers_in};
 ghost use Rattle.shift_book.specs.Marks.{HasDriver, Signing};
 

@@ -5,7 +5,7 @@ ghost use Rattle.shift_book.specs.Marks.{Signing};
 ghost use Rattle.shift_book.specs.Report.{IsReport, report_text};
 ghost use Rattle.shift_book.specs.Shares.{growth_in};
 ghost use Rattle.shift_book.specs.declared.numbers.Numbers.{Numbers};
-ghost use Rattle.totals_record.specs.declared.durable.Durable.{Durable};
+ghost use Rattle.totals_record.specs.declared.durable_state.Durable.{Durable};
 
 /// A law: two books whose first marks have the same numbers have the same growth beside the same store,
 /// whatever marks stand behind the first, and by whomever.

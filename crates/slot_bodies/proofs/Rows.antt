@@ -17,7 +17,8 @@ one_more codec zero bytes place =
     ap (λ (p : ℕ). codec.read bytes p ∷ []) here
 one_more codec (suc n) bytes place =
     let more : suc n + 1 ≡ suc (n + 1) = omega arith in
-    let there : place + codec.size + codec.size * n ≡ place + codec.size * suc n = omega (arith, mul-suc codec.size n) in
+    let there : place + codec.size + codec.size * n ≡ place + codec.size * suc n =
+    omega (arith, mul-suc codec.size n) in
     ap (λ (k : ℕ). read_row codec k bytes place) more
     ∙ ap (λ (l : List _). codec.read bytes place ∷ l) (one_more codec n bytes (place + codec.size))
     ∙ ap (λ (p : ℕ). codec.read bytes place ∷ (read_row codec n bytes (place + codec.size) ++ codec.read bytes p ∷ []))

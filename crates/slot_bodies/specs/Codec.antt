@@ -229,7 +229,8 @@ optional_again codec None before rest place fits at =
 optional_again codec (Some a) before rest place fits at =
     ap (λ (n : ℕ). read_optional codec n (before ++ 1 ∷ (codec.spell a ++ rest)) place)
     (byte_behind before 1 (codec.spell a ++ rest) place at)
-    ∙ ap Some (ap (λ (l : List ℕ). codec.read l (place + 1)) (sym (append_assoc before (1 ∷ []) (codec.spell a ++ rest)))
+    ∙ ap Some
+    (ap (λ (l : List ℕ). codec.read l (place + 1)) (sym (append_assoc before (1 ∷ []) (codec.spell a ++ rest)))
     ∙ codec.again a (before ++ 1 ∷ []) rest (place + 1) fits
     (length-append before (1 ∷ []) ∙ ap (λ (n : ℕ). n + 1) at))
 
@@ -275,7 +276,8 @@ row_again codec (a ∷ others) before rest place fits at =
     let fits_first = All-head codec.Fits a others fits in
     let here = ap (λ (l : List ℕ). codec.read (before ++ l) place) (append_assoc first more rest)
     ∙ codec.again a before (more ++ rest) place fits_first at in
-    let there = ap (λ (l : List ℕ). read_row codec (length others) l (place + codec.size)) (apart before first more rest)
+    let there =
+    ap (λ (l : List ℕ). read_row codec (length others) l (place + codec.size)) (apart before first more rest)
     ∙ row_again codec others (before ++ first) rest (place + codec.size) (All-tail codec.Fits a others fits)
     (length-append before first ∙ (λ i. at i + codec.long a fits_first i)) in
     λ i. here i ∷ there i

@@ -8,43 +8,55 @@ use Rattle.outside.proofs.Laws.{leaves_then, leaves_wider}
 use Rattle.slot_store.specs.Syncs.{IsAsHeld, IsSynced, LeavesFromSync, ReadsOnly, SyncsFirst}
 
 -- images that are the same but where nothing is in flight are the same
-same_image : (image left : List ℕ) (in_flight : ℕ → Type 0) → ((place : ℕ) → ¬ in_flight place) → SameBut in_flight image left → left ≡ image
+same_image : (image left : List ℕ) (in_flight : ℕ → Type 0) → ((place : ℕ) → ¬ in_flight place)
+    → SameBut in_flight image left → left ≡ image
 same_image image left in_flight none same = ext_get_or 0 left image same.size (λ place lt. same.rest place (none place))
 
 module _ {D L : Type 0} {N : ℕ} (B : Ghosts D N L) where
-  as_held : (old new : D) → IsSettled B old → LeavesOnly B old new (MayLeave (B.image old) (B.in_flight old) (B.printed old)) → LeavesOnly B old new (IsAsHeld B old)
+  as_held : (old new : D) → IsSettled B old → LeavesOnly B old new
+      (MayLeave (B.image old) (B.in_flight old) (B.printed old)) → LeavesOnly B old new (IsAsHeld B old)
   as_held old new settled run =
       leaves_wider B (MayLeave (B.image old) (B.in_flight old) (B.printed old)) (IsAsHeld B old) old new
-      (λ i x left. record { image = same_image (B.image old) i (B.in_flight old) settled left.bytes; text = left.text }) run
+      (λ i x left.
+      record { image = same_image (B.image old) i (B.in_flight old) settled left.bytes; text = left.text }) run
 
-  pub settled_already : (kind : List ℕ → List ℕ → Type 0) (fails : Type 0) (old new : D) → IsSettled B old → kind (B.image old) (B.printed old)
+  pub settled_already : (kind : List ℕ → List ℕ → Type 0) (fails : Type 0) (old new : D) → IsSettled B old
+      → kind (B.image old) (B.printed old)
       → LeavesFromSync B fails old new kind → LeavesOnly B old new kind
   settled_already kind fails old new settled holds (inl failed) = held old new settled holds failed.1.leaves
     where
-      held : (old new : D) → IsSettled B old → kind (B.image old) (B.printed old) → LeavesOnly B old new (MayLeave (B.image old) (B.in_flight old) (B.printed old)) → LeavesOnly B old new kind
+      held : (old new : D) → IsSettled B old → kind (B.image old) (B.printed old)
+          → LeavesOnly B old new (MayLeave (B.image old) (B.in_flight old) (B.printed old)) → LeavesOnly B old new kind
       held old new settled holds run =
-          leaves_wider B (IsAsHeld B old) kind old new (λ i x is. rw (is.image, is.text) holds) (as_held old new settled run)
+          leaves_wider B (IsAsHeld B old) kind old new (λ i x is. rw (is.image, is.text) holds)
+          (as_held old new settled run)
   settled_already kind fails old new settled holds (inr (synced, is, run)) =
       leaves_then B kind old synced new
-      (leaves_wider B (IsAsHeld B old) kind old synced (λ i x held. rw (held.image, held.text) holds) (as_held old synced settled is.reads.leaves)) run
+      (leaves_wider B (IsAsHeld B old) kind old synced (λ i x held. rw (held.image, held.text) holds)
+      (as_held old synced settled is.reads.leaves)) run
 
   -- what a call leaves is of a wider kind too
   pub from_sync_as : (kind wider : List ℕ → List ℕ → Type 0) (fails fails' : Type 0) (old new : D) → (fails → fails')
-      → ((left_image left_text : List ℕ) → kind left_image left_text → wider left_image left_text) → LeavesFromSync B fails old new kind → LeavesFromSync B fails' old new wider
+      → ((left_image left_text : List ℕ) → kind left_image left_text → wider left_image left_text)
+      → LeavesFromSync B fails old new kind → LeavesFromSync B fails' old new wider
   from_sync_as kind wider fails fails' old new more is (inl failed) = inl (more failed.0, failed.1)
-  from_sync_as kind wider fails fails' old new more is (inr (synced, at, run)) = inr (synced, at, leaves_wider B kind wider synced new is run)
+  from_sync_as kind wider fails fails' old new more is (inr (synced, at, run)) =
+      inr (synced, at, leaves_wider B kind wider synced new is run)
 
   pub goes_on : (kind wider : List ℕ → List ℕ → Type 0) (fails fails' : Type 0) (old between new : D) → ¬ fails
-      → ((left_image left_text : List ℕ) → kind left_image left_text → wider left_image left_text) → LeavesFromSync B fails old between kind
+      → ((left_image left_text : List ℕ) → kind left_image left_text → wider left_image left_text)
+      → LeavesFromSync B fails old between kind
       → LeavesOnly B between new wider → LeavesFromSync B fails' old new wider
   goes_on kind wider fails fails' old between new not is (inl failed) next = absurd (not failed.0)
   goes_on kind wider fails fails' old between new not is (inr (synced, at, run)) next =
       inr (synced, at, leaves_then B wider synced between new (leaves_wider B kind wider synced between is run) next)
 
   -- what goes on behind the sync leaves what was held before it
-  pub held_on : (old synced new : D) → IsSynced B old synced → LeavesOnly B synced new (MayLeave (B.image synced) (B.in_flight synced) (B.printed synced)) → LeavesOnly B synced new (IsAsHeld B old)
+  pub held_on : (old synced new : D) → IsSynced B old synced → LeavesOnly B synced new
+      (MayLeave (B.image synced) (B.in_flight synced) (B.printed synced)) → LeavesOnly B synced new (IsAsHeld B old)
   held_on old synced new is run =
-      leaves_wider B (IsAsHeld B synced) (IsAsHeld B old) synced new (λ i x held. record { image = held.image ∙ is.same; text = held.text ∙ is.reads.text }) (as_held synced new is.settled run)
+      leaves_wider B (IsAsHeld B synced) (IsAsHeld B old) synced new (λ i x held.
+      record { image = held.image ∙ is.same; text = held.text ∙ is.reads.text }) (as_held synced new is.settled run)
 
   -- what a board may leave behind a call that only reads, seen from before it
   left_before : (old new : D) → SameBut (B.in_flight old) (B.image old) (B.image new)

@@ -48,9 +48,9 @@ IsBefore number_of (Some body) number = number_of body < number
 
 module _ {T : Type 0} (reads : List ℕ → Option T) where
   -- the slot that begins at `start` keeps the latest body if it is open with it, and keeps none if it is closed
-  abbrev pub Keeps : ℕ → List ℕ → Option T → Type 0
-  Keeps start image None = IsClosed start image
-  Keeps start image (Some body) = IsOpen reads start image (Some body)
+  abbrev pub HasLatestBody : ℕ → List ℕ → Option T → Type 0
+  HasLatestBody start image None = IsClosed start image
+  HasLatestBody start image (Some body) = IsOpen reads start image (Some body)
 
   -- a pair is shut, before the second stage, if nothing of it is in flight, the slot that is written next is closed,
   -- and the other one keeps the latest body
@@ -58,7 +58,7 @@ module _ {T : Type 0} (reads : List ℕ → Option T) where
     pub known : is_some latest ≡ is_some pair.latest
     pub quiet : IsQuiet pair.at in_flight
     pub spare : IsClosed (spare_at pair) image
-    pub kept : Keeps (kept_at pair) image latest
+    pub kept : HasLatestBody (kept_at pair) image latest
 
 module _ {T : Type 0} (reads : List ℕ → Option T) (number_of : T → ℕ) where
   -- a pair at `at` is ready with no body if it is blank and nothing of it is in flight, and with the latest body

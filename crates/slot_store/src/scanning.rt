@@ -4,9 +4,9 @@ ghost use Rattle.outside.specs.Faults.{HasCause, RisesOnlyIf};
 ghost use Rattle.slot_store.specs.Scan.{found_at, IsAsFound, IsValidFinding};
 ghost use Rattle.slot_store.specs.Sizes.{last_pair};
 ghost use Rattle.slot_store.specs.Syncs.{ReadsOnly, SyncsFirst};
-ghost use Rattle.slot_store.specs.Verdicts.{held, verdict_on, AreOfSlots};
+ghost use Rattle.slot_store.specs.Verdicts.{content_of, verdict_on, AreOfSlots};
 
-use crate::found::Held;
+use crate::found::SlotContent;
 use crate::pair::{OPEN, SLOT_SIZE};
 use crate::{Found, Place, SlotFault};
 use outside::{Board, Failed, STORE_SIZE};
@@ -89,13 +89,13 @@ fn judge<T: Body>(first: &[u8; SLOT_SIZE], second: &[u8; SLOT_SIZE]) -> Result<F
     ensures sound { IfOk result (IsValidFinding T.valid) }
     ensures not_failed { ¬ IsErrOf result SlotFault.DeviceFailed }
 {
-    match (held_in::<T>(first), held_in::<T>(second)) {
-        (Held::Closed, Held::Closed) => Ok(Found::Blank),
-        (Held::Unread, _) => Err(SlotFault::BadBody(0)),
-        (_, Held::Unread) => Err(SlotFault::BadBody(1)),
-        (Held::Read(body), Held::Closed) => Ok(latest(0, false, body)),
-        (Held::Closed, Held::Read(body)) => Ok(latest(1, false, body)),
-        (Held::Read(a), Held::Read(b)) => {
+    match (slot_content::<T>(first), slot_content::<T>(second)) {
+        (SlotContent::Closed, SlotContent::Closed) => Ok(Found::Blank),
+        (SlotContent::Unread, _) => Err(SlotFault::BadBody(0)),
+        (_, SlotContent::Unread) => Err(SlotFault::BadBody(1)),
+        (SlotContent::Read(body), SlotContent::Closed) => Ok(latest(0, false, body)),
+        (SlotContent::Closed, SlotContent::Read(body)) => Ok(latest(1, false, body)),
+        (SlotContent::Read(a), SlotContent::Read(b)) => {
             let (first_number, second_number) = (a.number(), b.number());
             if first_number == second_number {
                 Err(SlotFault::SameNumber(first_number))
@@ -119,16 +119,16 @@ fn latest<T: Body>(slot: u8, other_open: bool, body: T) -> Found<T>
 }
 
 /// What the bytes of a slot hold.
-fn held_in<T: Body>(slot: &[u8; SLOT_SIZE]) -> Held<T>
-    ensures { result ≡ held T.reads slot.now }
+fn slot_content<T: Body>(slot: &[u8; SLOT_SIZE]) -> SlotContent<T>
+    ensures { result ≡ content_of T.reads slot.now }
 {
     if slot[0] != OPEN {
-        return Held::Closed;
+        return SlotContent::Closed;
     }
     let mut body = [0; BODY_SIZE];
     body.copy_from_slice(&slot[1..]);
     match T::get(&body) {
-        Some(body) => Held::Read(body),
-        None => Held::Unread,
+        Some(body) => SlotContent::Read(body),
+        None => SlotContent::Unread,
     }
 }

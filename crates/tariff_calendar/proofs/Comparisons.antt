@@ -1,5 +1,6 @@
 -- Two contexts that compare alike with the cuts of a condition's atoms: the condition holds in both or in neither.
-use Rattle.std.proofs.Common.{◌≡◌, ◌↔◌, ◌∙◌, sym, ℕ, ◌+◌, ◌*◌, ◌/◌, ◌≤◌, not, leb, ltb, List, [], ◌∷◌, ◌++◌, inl, inr, arith, refl, ap, subst}
+use Rattle.std.proofs.Common.{◌≡◌, ◌↔◌, ◌∙◌, sym, ℕ, ◌+◌, ◌*◌, ◌/◌, ◌≤◌, not, leb, ltb, List, [], ◌∷◌, ◌++◌, inl, inr}
+use Rattle.std.proofs.Common.{arith, refl, ap, subst}
 use Rattle.std.proofs.lemmas.Bool.{cases_lt, cases_eq, le-leb, lt-leb, lt-ltb, le-ltb, ne_eqb}
 use Rattle.std.proofs.lemmas.List.Concat.{flat_map-append}
 use Rattle.std.proofs.lemmas.List.Elements.{All-head, All-tail, All-cons, All-nil}
@@ -48,14 +49,18 @@ All-parts P (x ∷ xs) ys all =
     (All-cons P x xs (All-head P x (xs ++ ys) all) rest.0, rest.1)
 
 -- what holds of all cuts of some atoms and of more holds of all cuts of each of the two
-All-of_atoms : (P : ℕ → Type 0) (cuts : Condition → List ℕ) (left right : List Condition) → All P (flat_map cuts (left ++ right)) → All P (flat_map cuts left) × All P (flat_map cuts right)
-All-of_atoms P cuts left right all = All-parts P (flat_map cuts left) (flat_map cuts right) (subst (All P) (flat_map-append cuts left right) all)
+All-of_atoms : (P : ℕ → Type 0) (cuts : Condition → List ℕ) (left right : List Condition)
+    → All P (flat_map cuts (left ++ right)) → All P (flat_map cuts left) × All P (flat_map cuts right)
+All-of_atoms P cuts left right all =
+    All-parts P (flat_map cuts left) (flat_map cuts right) (subst (All P) (flat_map-append cuts left right) all)
 
 -- the cuts of one atom
-All-of_atom : (P : ℕ → Type 0) (cuts : Condition → List ℕ) (atom : Condition) → All P (flat_map cuts (atom ∷ [])) → All P (cuts atom)
+All-of_atom : (P : ℕ → Type 0) (cuts : Condition → List ℕ) (atom : Condition) → All P (flat_map cuts (atom ∷ []))
+    → All P (cuts atom)
 All-of_atom P cuts atom all = (All-parts P (cuts atom) [] all).0
 
-CompareAlike-parts : (k : ℕ) (x y : Context) (left right : List Condition) → CompareAlike k x y (left ++ right) → CompareAlike k x y left × CompareAlike k x y right
+CompareAlike-parts : (k : ℕ) (x y : Context) (left right : List Condition) → CompareAlike k x y (left ++ right)
+    → CompareAlike k x y left × CompareAlike k x y right
 CompareAlike-parts k x y left right alike =
     let month_day = All-of_atoms (IsAlike x.month_day y.month_day) (atom_cuts MonthDay) left right alike.month_day in
     let minute = All-of_atoms (IsAlike x.minute y.minute) (atom_cuts Minute) left right alike.minute in
@@ -112,16 +117,19 @@ pub fewest_pulses : (k decimetres pulses : ℕ) → (k * decimetres ≤ 10000 * 
 fewest_pulses k decimetres pulses = fewest_by (k * decimetres) pulses
 
 -- so the two comparisons are the same
-pub reached-pulses_for : (k decimetres pulses : ℕ) → leb (k * decimetres) (10000 * pulses) ≡ leb (pulses_for k decimetres) pulses
+pub reached-pulses_for : (k decimetres pulses : ℕ)
+    → leb (k * decimetres) (10000 * pulses) ≡ leb (pulses_for k decimetres) pulses
 reached-pulses_for k decimetres pulses =
     let fewest = fewest_pulses k decimetres pulses in
     elim (cases_lt (10000 * pulses) (k * decimetres)) [
       | inl further ↦
           elim (cases_lt pulses (pulses_for k decimetres)) [
-            | inl fewer ↦ lt-leb (k * decimetres) (10000 * pulses) further ∙ sym (lt-leb (pulses_for k decimetres) pulses fewer)
+            | inl fewer ↦
+                lt-leb (k * decimetres) (10000 * pulses) further ∙ sym (lt-leb (pulses_for k decimetres) pulses fewer)
             | inr enough ↦ let reached = fewest.1 enough in absurd (omega arith)
           ]
-      | inr reached ↦ le-leb (k * decimetres) (10000 * pulses) reached ∙ sym (le-leb (pulses_for k decimetres) pulses (fewest.0 reached))
+      | inr reached ↦ le-leb (k * decimetres) (10000 * pulses) reached
+          ∙ sym (le-leb (pulses_for k decimetres) pulses (fewest.0 reached))
     ]
 
 -- a range of minutes holds alike
@@ -137,7 +145,8 @@ date_alike from to v w begins ends =
     rw (begins, same) refl
 
 -- a condition holds in both contexts or in neither
-pub holds_alike : (c : Condition) (k : ℕ) (x y : Context) → All IsGoodAtom (atoms_of c) → HaveAlike k x y → CompareAlike k x y (atoms_of c) → holds c x ≡ holds c y
+pub holds_alike : (c : Condition) (k : ℕ) (x y : Context) → All IsGoodAtom (atoms_of c) → HaveAlike k x y
+    → CompareAlike k x y (atoms_of c) → holds c x ≡ holds c y
 holds_alike (tree.and left right) k x y good have alike =
     let both = All-parts IsGoodAtom (atoms_of left) (atoms_of right) good in
     let parts = CompareAlike-parts k x y (atoms_of left) (atoms_of right) alike in
@@ -152,7 +161,8 @@ holds_alike (tree.zone number) k x y good have alike = rw have.zone refl
 holds_alike (tree.time from to) k x y good have alike =
     let cuts = All-of_atom (IsAlike x.minute y.minute) (atom_cuts Minute) (tree.time from to) alike.minute in
     let parts = All-parts (IsAlike x.minute y.minute) (minute_cut from) (minute_cut to) cuts in
-    time_alike from to x.minute y.minute (minute_alike from x.minute y.minute parts.0) (minute_alike to x.minute y.minute parts.1)
+    time_alike from to x.minute y.minute (minute_alike from x.minute y.minute parts.0)
+    (minute_alike to x.minute y.minute parts.1)
 holds_alike (tree.day from to) k x y good have alike = rw have.weekday refl
 holds_alike (tree.date from_month from_date to_month to_date) k x y good have alike =
     let from = date_place from_month from_date in
@@ -170,8 +180,11 @@ holds_alike (tree.date from_month from_date to_month to_date) k x y good have al
     ∙ sym (on_places from_month from_date to_month to_date y.month_day first last have.month_day.1))
 holds_alike tree.holiday k x y good have alike = have.holiday
 holds_alike (tree.after_distance decimetres) k x y good have alike =
-    let cut = All-of_atom (IsAlikeInPulses k x.pulses y.pulses) (atom_cuts Distance) (tree.after_distance decimetres) alike.distance in
+    let cut = All-of_atom (IsAlikeInPulses k x.pulses y.pulses) (atom_cuts Distance)
+    (tree.after_distance decimetres) alike.distance in
     let same = All-head (IsAlikeInPulses k x.pulses y.pulses) decimetres [] cut in
-    rw (have.constant.0, have.constant.1) (reached-pulses_for k decimetres x.pulses ∙ same ∙ sym (reached-pulses_for k decimetres y.pulses))
+    rw (have.constant.0, have.constant.1)
+    (reached-pulses_for k decimetres x.pulses ∙ same ∙ sym (reached-pulses_for k decimetres y.pulses))
 holds_alike (tree.after_time tenths) k x y good have alike =
-    All-head (IsAlike x.ticks y.ticks) tenths [] (All-of_atom (IsAlike x.ticks y.ticks) (atom_cuts Time) (tree.after_time tenths) alike.time)
+    All-head (IsAlike x.ticks y.ticks) tenths []
+    (All-of_atom (IsAlike x.ticks y.ticks) (atom_cuts Time) (tree.after_time tenths) alike.time)

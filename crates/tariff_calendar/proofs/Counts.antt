@@ -1,5 +1,6 @@
 -- How many numbers of a list are at most a value.
-use Rattle.std.proofs.Common.{◌≡◌, ◌∙◌, sym, ℕ, zero, suc, ◌<◌, ◌≤◌, cond, leb, List, [], ◌∷◌, length, get_or, inl, inr, arith, refl}
+use Rattle.std.proofs.Common.{◌≡◌, ◌∙◌, sym, ℕ, zero, suc, ◌<◌, ◌≤◌, cond, leb, List, [], ◌∷◌, length, get_or, inl, inr}
+use Rattle.std.proofs.Common.{arith, refl}
 use Rattle.std.proofs.lemmas.Bool.{cases_lt, le-leb, lt-leb}
 use Rattle.std.proofs.lemmas.List.Sums.{count_by-le-length, sum_by-cons}
 use Rattle.tariff_calendar.specs.Lists.{IsNotFalling, count_at_most}
@@ -17,15 +18,18 @@ pub count_at_most-passed : (v x : ℕ) (xs : List ℕ) → v < x → count_at_mo
 count_at_most-passed v x xs lt = sum_by-cons (λ cut. cond (leb cut v) 1 0) x xs ∙ (rw (lt-leb x v lt) (omega arith))
 
 -- where the first n numbers are at most the value and no later one is, they are n
-pub count_at_most-at : (v n : ℕ) (xs : List ℕ) → n ≤ length xs → ((i : ℕ) → i < n → get_or xs i 0 ≤ v) → ((i : ℕ) → n ≤ i → i < length xs → v < get_or xs i 0) → count_at_most v xs ≡ n
+pub count_at_most-at : (v n : ℕ) (xs : List ℕ) → n ≤ length xs → ((i : ℕ) → i < n → get_or xs i 0 ≤ v)
+    → ((i : ℕ) → n ≤ i → i < length xs → v < get_or xs i 0) → count_at_most v xs ≡ n
 count_at_most-at v n [] few below above = omega arith
 count_at_most-at v zero (x ∷ xs) few below above =
     let here : v < x = above 0 (omega arith) (omega arith) in
-    let rest = count_at_most-at v 0 xs (omega arith) (λ i lt. absurd (omega arith)) (λ i le lt. above (suc i) (omega arith) (omega arith)) in
+    let rest = count_at_most-at v 0 xs (omega arith) (λ i lt. absurd (omega arith))
+    (λ i le lt. above (suc i) (omega arith) (omega arith)) in
     count_at_most-passed v x xs here ∙ rest
 count_at_most-at v (suc n) (x ∷ xs) few below above =
     let here : x ≤ v = below 0 (omega arith) in
-    let rest = count_at_most-at v n xs (omega arith) (λ i lt. below (suc i) (omega arith)) (λ i le lt. above (suc i) (omega arith) (omega arith)) in
+    let rest = count_at_most-at v n xs (omega arith) (λ i lt. below (suc i) (omega arith))
+    (λ i le lt. above (suc i) (omega arith) (omega arith)) in
     rw (count_at_most-counted v x xs here, rest) refl
 
 -- a greater value has no fewer
@@ -78,11 +82,13 @@ count_at_most-below v (x ∷ xs) zero ordered lt =
 count_at_most-below v (x ∷ xs) (suc i) ordered lt =
     elim (cases_lt v x) [
       | inl passed ↦ absurd (omega (arith, count_at_most-none v x xs ordered passed))
-      | inr counted ↦ count_at_most-below v xs i (IsNotFalling-rest x xs ordered) (omega (arith, count_at_most-counted v x xs counted))
+      | inr counted ↦ count_at_most-below v xs i (IsNotFalling-rest x xs ordered)
+          (omega (arith, count_at_most-counted v x xs counted))
     ]
 
 -- and those from it on are greater
-pub count_at_most-above : (v : ℕ) (xs : List ℕ) (i : ℕ) → IsNotFalling xs → count_at_most v xs ≤ i → i < length xs → v < get_or xs i 0
+pub count_at_most-above : (v : ℕ) (xs : List ℕ) (i : ℕ) → IsNotFalling xs → count_at_most v xs ≤ i → i < length xs
+    → v < get_or xs i 0
 count_at_most-above v [] i ordered le within = absurd (omega arith)
 count_at_most-above v (x ∷ xs) zero ordered le within =
     elim (cases_lt v x) [
@@ -94,15 +100,18 @@ count_at_most-above v (x ∷ xs) (suc i) ordered le within =
       | inl passed ↦
           let more = IsNotFalling-first x xs i ordered (omega arith) in
           omega arith
-      | inr counted ↦ count_at_most-above v xs i (IsNotFalling-rest x xs ordered) (omega (arith, count_at_most-counted v x xs counted)) (omega arith)
+      | inr counted ↦ count_at_most-above v xs i (IsNotFalling-rest x xs ordered)
+          (omega (arith, count_at_most-counted v x xs counted)) (omega arith)
     ]
 
 -- where no number is 0, none is at most 0
 pub count_at_most-zero : (xs : List ℕ) → ((i : ℕ) → i < length xs → 0 < get_or xs i 0) → count_at_most 0 xs ≡ 0
-count_at_most-zero xs above = count_at_most-at 0 0 xs (omega arith) (λ i lt. absurd (omega arith)) (λ i le within. above i within)
+count_at_most-zero xs above =
+    count_at_most-at 0 0 xs (omega arith) (λ i lt. absurd (omega arith)) (λ i le within. above i within)
 
 -- where as many numbers are at most one value as at another, so it is without the first
-same_rest : (v w x : ℕ) (xs : List ℕ) → v ≤ w → count_at_most v (x ∷ xs) ≡ count_at_most w (x ∷ xs) → count_at_most v xs ≡ count_at_most w xs
+same_rest : (v w x : ℕ) (xs : List ℕ) → v ≤ w → count_at_most v (x ∷ xs) ≡ count_at_most w (x ∷ xs)
+    → count_at_most v xs ≡ count_at_most w xs
 same_rest v w x xs le same =
     let rest = count_at_most-le v w xs le in
     elim (cases_lt v x) [
@@ -115,14 +124,21 @@ same_rest v w x xs le same =
     ]
 
 -- and each number is at most both or neither
-decides_up : (v w : ℕ) (xs : List ℕ) (i : ℕ) → v ≤ w → count_at_most v xs ≡ count_at_most w xs → i < length xs → get_or xs i 0 ≤ w → get_or xs i 0 ≤ v
+decides_up : (v w : ℕ) (xs : List ℕ) (i : ℕ) → v ≤ w → count_at_most v xs ≡ count_at_most w xs → i < length xs
+    → get_or xs i 0 ≤ w → get_or xs i 0 ≤ v
 decides_up v w [] i le same within in_w = absurd (omega arith)
 decides_up v w (x ∷ xs) zero le same within in_w =
     elim (cases_lt v x) [
-      | inl passed ↦ absurd (omega (arith, count_at_most-passed v x xs passed, count_at_most-counted w x xs in_w, count_at_most-le v w xs le))
+      | inl passed ↦ absurd (omega (
+        arith,
+        count_at_most-passed v x xs passed,
+        count_at_most-counted w x xs in_w,
+        count_at_most-le v w xs le,
+      ))
       | inr counted ↦ counted
     ]
-decides_up v w (x ∷ xs) (suc i) le same within in_w = decides_up v w xs i le (same_rest v w x xs le same) (omega arith) in_w
+decides_up v w (x ∷ xs) (suc i) le same within in_w =
+    decides_up v w xs i le (same_rest v w x xs le same) (omega arith) in_w
 
 -- two comparisons of one number that follow from each other are the same
 leb_same : (a v w : ℕ) → (a ≤ v → a ≤ w) → (a ≤ w → a ≤ v) → leb a v ≡ leb a w
@@ -137,9 +153,11 @@ leb_same a v w up down =
     ]
 
 -- a number at a place of a list compares alike with two values of one band
-pub decides_at : (v w : ℕ) (xs : List ℕ) (i : ℕ) → count_at_most v xs ≡ count_at_most w xs → i < length xs → leb (get_or xs i 0) v ≡ leb (get_or xs i 0) w
+pub decides_at : (v w : ℕ) (xs : List ℕ) (i : ℕ) → count_at_most v xs ≡ count_at_most w xs → i < length xs
+    → leb (get_or xs i 0) v ≡ leb (get_or xs i 0) w
 decides_at v w xs i same within =
     elim (cases_lt w v) [
-      | inl lt ↦ leb_same (get_or xs i 0) v w (decides_up w v xs i (omega arith) (sym same) within) (λ in_w. omega arith)
+      | inl lt ↦
+          leb_same (get_or xs i 0) v w (decides_up w v xs i (omega arith) (sym same) within) (λ in_w. omega arith)
       | inr le ↦ leb_same (get_or xs i 0) v w (λ in_v. omega arith) (decides_up v w xs i le same within)
     ]

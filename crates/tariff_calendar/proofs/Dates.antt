@@ -1,6 +1,8 @@
 -- Months and dates compare as their places in a leap year do.
-use Rattle.std.proofs.Common.{◌≡◌, ◌⊎◌, inl, inr, ◌∙◌, sym, ap, refl, ℕ, ◌<◌, ◌≤◌, true, false, ◌&&◌, ◌||◌, leb, ltb, eqb, Option, Some, None, arith}
-use Rattle.std.proofs.lemmas.Bool.{and_parts, cases_lt, cases_order, eq-eqb, le-leb, le-ltb, leb-true, lt-leb, lt-ltb, ne_eqb}
+use Rattle.std.proofs.Common.{◌≡◌, ◌⊎◌, inl, inr, ◌∙◌, sym, ap, refl, ℕ, ◌<◌, ◌≤◌, true, false, ◌&&◌, ◌||◌, leb, ltb}
+use Rattle.std.proofs.Common.{eqb, Option, Some, None, arith}
+use Rattle.std.proofs.lemmas.Bool.{and_parts, cases_lt, cases_order, eq-eqb, le-leb, le-ltb, leb-true, lt-leb, lt-ltb}
+use Rattle.std.proofs.lemmas.Bool.{ne_eqb}
 use Rattle.taxi_units.proofs.Laws.{dates_have_places, dates_in_order, places_have_dates}
 use Rattle.taxi_units.specs.Calendar.{IsDate, IsLeapYearDate, date_of_place, date_place, days_of_month, is_date}
 use Rattle.tariff_syntax.specs.Meaning.{is_by, is_in_dates, is_on, is_within}
@@ -10,8 +12,11 @@ pub has_date : (year month date : ℕ) → is_date year month date ≡ true → 
 has_date year month date is =
     let months = and_parts (leb 1 month) (leb month 12 && (leb 1 date && leb date (days_of_month year month))) is in
     let more = and_parts (leb month 12) (leb 1 date && leb date (days_of_month year month)) months.1 in
-    let dates = and_parts (leb 1 date) (leb date (days_of_month year month)) more.1 in
-    ((leb-true 1 month months.0, leb-true month 12 more.0), leb-true 1 date dates.0, leb-true date (days_of_month year month) dates.1)
+    let dates = and_parts (leb 1 date) (leb date (days_of_month year month)) more.1 in (
+      (leb-true 1 month months.0, leb-true month 12 more.0),
+      leb-true 1 date dates.0,
+      leb-true date (days_of_month year month) dates.1,
+    )
 
 -- a date that isn't after another comes by it
 by_where : (a b c d : ℕ) → ((c < a) ⊎ ((c ≡ a) × (d < b)) → ⊥) → (ltb a c || (eqb a c && leb b d)) ≡ true
@@ -32,17 +37,21 @@ not_by_where a b c d (inl after) = rw (le-ltb a c (omega arith), ne_eqb a c (λ 
 not_by_where a b c d (inr (same, later)) = rw (le-ltb a c (omega arith), eq-eqb a c (sym same), lt-leb b d later) refl
 
 -- so dates come by one another as their places do
-by_places : (a b c d : ℕ) → IsLeapYearDate a b → IsLeapYearDate c d → is_by (a, b) (c, d) ≡ leb (date_place a b) (date_place c d)
+by_places : (a b c d : ℕ) → IsLeapYearDate a b → IsLeapYearDate c d
+    → is_by (a, b) (c, d) ≡ leb (date_place a b) (date_place c d)
 by_places a b c d first second =
     let order = dates_in_order c d a b second first in
     elim (cases_lt (date_place c d) (date_place a b)) [
       | inl after ↦ not_by_where a b c d (order.0 after) ∙ sym (lt-leb (date_place a b) (date_place c d) after)
-      | inr by ↦ by_where a b c d (λ after. let less = order.1 after in omega arith) ∙ sym (le-leb (date_place a b) (date_place c d) by)
+      | inr by ↦ by_where a b c d (λ after. let less = order.1 after in omega arith)
+          ∙ sym (le-leb (date_place a b) (date_place c d) by)
     ]
 
 -- a range of dates holds where one of their places does
-in_dates : (from_month from_date to_month to_date month date : ℕ) → IsLeapYearDate from_month from_date → IsLeapYearDate to_month to_date → IsLeapYearDate month date
-    → is_in_dates (from_month, from_date) (to_month, to_date) (month, date) ≡ is_within (date_place from_month from_date) (date_place to_month to_date) (date_place month date)
+in_dates : (from_month from_date to_month to_date month date : ℕ) → IsLeapYearDate from_month from_date
+    → IsLeapYearDate to_month to_date → IsLeapYearDate month date
+    → is_in_dates (from_month, from_date) (to_month, to_date) (month, date)
+    ≡ is_within (date_place from_month from_date) (date_place to_month to_date) (date_place month date)
 in_dates from_month from_date to_month to_date month date from to it =
     rw (
       by_places from_month from_date to_month to_date from to,
@@ -50,16 +59,22 @@ in_dates from_month from_date to_month to_date month date from to it =
       by_places month date to_month to_date it to,
     )
 
-on_by : (from_month from_date to_month to_date place : ℕ) (o : Option (ℕ × ℕ)) → date_of_place place ≡ o → IsLeapYearDate from_month from_date → IsLeapYearDate to_month to_date → place ≤ 365
-    → is_on (from_month, from_date) (to_month, to_date) o ≡ is_within (date_place from_month from_date) (date_place to_month to_date) place
+on_by : (from_month from_date to_month to_date place : ℕ) (o : Option (ℕ × ℕ)) → date_of_place place ≡ o
+    → IsLeapYearDate from_month from_date → IsLeapYearDate to_month to_date → place ≤ 365
+    → is_on (from_month, from_date) (to_month, to_date) o
+    ≡ is_within (date_place from_month from_date) (date_place to_month to_date) place
 on_by from_month from_date to_month to_date place None is from to in_year =
     let beyond = (places_have_dates place).0 is in
     absurd (omega arith)
 on_by from_month from_date to_month to_date place (Some date) is from to in_year =
     let here = (dates_have_places date.0 date.1 place).0 is in
-    in_dates from_month from_date to_month to_date date.0 date.1 from to here.0 ∙ ap (is_within (date_place from_month from_date) (date_place to_month to_date)) here.1
+    in_dates from_month from_date to_month to_date date.0 date.1 from to here.0
+    ∙ ap (is_within (date_place from_month from_date) (date_place to_month to_date)) here.1
 
 -- the dates of a year are told by their places
-pub on_places : (from_month from_date to_month to_date place : ℕ) → IsLeapYearDate from_month from_date → IsLeapYearDate to_month to_date → place ≤ 365
-    → is_on (from_month, from_date) (to_month, to_date) (date_of_place place) ≡ is_within (date_place from_month from_date) (date_place to_month to_date) place
-on_places from_month from_date to_month to_date place from to in_year = on_by from_month from_date to_month to_date place (date_of_place place) refl from to in_year
+pub on_places : (from_month from_date to_month to_date place : ℕ) → IsLeapYearDate from_month from_date
+    → IsLeapYearDate to_month to_date → place ≤ 365
+    → is_on (from_month, from_date) (to_month, to_date) (date_of_place place)
+    ≡ is_within (date_place from_month from_date) (date_place to_month to_date) place
+on_places from_month from_date to_month to_date place from to in_year =
+    on_by from_month from_date to_month to_date place (date_of_place place) refl from to in_year

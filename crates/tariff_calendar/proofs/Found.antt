@@ -1,11 +1,13 @@
 -- What a look-up finds in numbers that don't fall.
-use Rattle.std.proofs.Common.{◌≡◌, ◌∙◌, sym, ℕ, zero, suc, ◌+◌, ◌-◌, min, ◌<◌, ◌≤◌, ◌^◌, false, eqb, List, length, get_or, inl, inr, arith}
+use Rattle.std.proofs.Common.{◌≡◌, ◌∙◌, sym, ℕ, zero, suc, ◌+◌, ◌-◌, min, ◌<◌, ◌≤◌, ◌^◌, false, eqb, List, length}
+use Rattle.std.proofs.Common.{get_or, inl, inr, arith}
 use Rattle.std.proofs.lemmas.Bool.{cases_lt, cases_eq, eq-eqb, ne_eqb}
 use Rattle.std.proofs.lemmas.List.Elements.{All-from_get_or}
 use Rattle.std.proofs.lemmas.List.Folds.{list_any_at, list_any_none}
 use Rattle.std.specs.List.{list_any}
 use Rattle.tariff_calendar.specs.Lists.{IsNotFalling, count_at_most, most_reads}
-use Rattle.tariff_calendar.proofs.Counts.{IsNotFalling-le, count_at_most-above, count_at_most-below, count_at_most-le-length}
+use Rattle.tariff_calendar.proofs.Counts.{IsNotFalling-le, count_at_most-above, count_at_most-below}
+use Rattle.tariff_calendar.proofs.Counts.{count_at_most-le-length}
 use Rattle.tariff_check.specs.Cuts.{most_cuts}
 use Rattle.tariff_check.specs.declared.fault.Dimension.{Dimension}
 use Rattle.tariff_check.specs.declared.fault.Dimension.TheVariants.{MonthDay, Minute, Distance, Time}
@@ -14,21 +16,27 @@ use Rattle.tariff_check.specs.declared.fault.Dimension.TheVariants.{MonthDay, Mi
 pub none_found : (v : ℕ) (xs : List ℕ) → IsNotFalling xs → count_at_most v xs ≡ 0 → list_any (λ x. eqb x v) xs ≡ false
 none_found v xs ordered none =
     list_any_none (λ x. eqb x v) xs (All-from_get_or (λ x. eqb x v ≡ false) xs 0
-    (λ i within. ne_eqb (get_or xs i 0) v (λ same. let after = count_at_most-above v xs i ordered (omega arith) within in omega arith)))
+    (λ i within. ne_eqb (get_or xs i 0) v
+    (λ same. let after = count_at_most-above v xs i ordered (omega arith) within in omega arith)))
 
 -- and where some are, it is among them where the last of them is it
-pub last_found : (v last : ℕ) (xs : List ℕ) → IsNotFalling xs → 0 < count_at_most v xs → last ≡ get_or xs (count_at_most v xs - 1) 0 → eqb last v ≡ list_any (λ x. eqb x v) xs
+pub last_found : (v last : ℕ) (xs : List ℕ) → IsNotFalling xs → 0 < count_at_most v xs
+    → last ≡ get_or xs (count_at_most v xs - 1) 0 → eqb last v ≡ list_any (λ x. eqb x v) xs
 last_found v last xs ordered some is =
     let place = count_at_most v xs - 1 in
     let within : place < length xs = omega (arith, count_at_most-le-length v xs) in
     let at_most : get_or xs place 0 ≤ v = count_at_most-below v xs place ordered (omega arith) in
     elim (cases_eq last v) [
-      | inl same ↦ eq-eqb last v same ∙ sym (list_any_at (λ x. eqb x v) xs place 0 within (eq-eqb (get_or xs place 0) v (sym is ∙ same)))
-      | inr other ↦ ne_eqb last v other ∙ sym (list_any_none (λ x. eqb x v) xs (All-from_get_or (λ x. eqb x v ≡ false) xs 0
+      | inl same ↦ eq-eqb last v same
+          ∙ sym (list_any_at (λ x. eqb x v) xs place 0 within (eq-eqb (get_or xs place 0) v (sym is ∙ same)))
+      | inr other ↦
+          ne_eqb last v other ∙ sym (list_any_none (λ x. eqb x v) xs (All-from_get_or (λ x. eqb x v ≡ false) xs 0
           (λ i inside.
           elim (cases_lt place i) [
-            | inl later ↦ let after = count_at_most-above v xs i ordered (omega arith) inside in ne_eqb (get_or xs i 0) v (λ same. omega arith)
-            | inr earlier ↦ let before = IsNotFalling-le xs i place ordered (omega arith) within in ne_eqb (get_or xs i 0) v (λ same. other (omega arith))
+            | inl later ↦ let after = count_at_most-above v xs i ordered (omega arith) inside in
+                ne_eqb (get_or xs i 0) v (λ same. omega arith)
+            | inr earlier ↦ let before = IsNotFalling-le xs i place ordered (omega arith) within in
+                ne_eqb (get_or xs i 0) v (λ same. other (omega arith))
           ])))
     ]
 

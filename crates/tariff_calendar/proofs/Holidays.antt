@@ -1,5 +1,6 @@
 -- Holidays by their day numbers.
-use Rattle.std.proofs.Common.{ltb, ◌==◌, length, Option, ◌≡◌, ◌∙◌, ℕ, Bool, true, false, ◌&&◌, eqb, List, [], ◌∷◌, map, ℤ, pos, ◌<ℤ◌, arith, refl, ap, subst}
+use Rattle.std.proofs.Common.{ltb, ◌==◌, length, Option, ◌≡◌, ◌∙◌, ℕ, Bool, true, false, ◌&&◌, eqb, List, [], ◌∷◌, map}
+use Rattle.std.proofs.Common.{ℤ, pos, ◌<ℤ◌, arith, refl, ap, subst}
 use Rattle.std.proofs.lemmas.Bool.{and_parts, lt-ltb, eqb-true, eq-eqb, false_from_ne_true}
 use Rattle.std.proofs.lemmas.Bool.Decides.{Decides-int_eq, same_from_decides}
 use Rattle.std.proofs.lemmas.Int.{ints}
@@ -24,31 +25,38 @@ use Rattle.tariff_syntax.specs.Writable.{IsWritable}
 pub has_day-before : (holidays : List ℕ) (day : ℤ) → day <ℤ pos 0 → has_day holidays day ≡ false
 has_day-before [] day before = refl
 has_day-before (h ∷ hs) day before =
-    let here : int_eq (pos h) day ≡ false = false_from_ne_true (int_eq (pos h) day) (λ same. let is = (Decides-int_eq (pos h) day).0 same in omega (arith, ints)) in
+    let here : int_eq (pos h) day ≡ false = false_from_ne_true (int_eq (pos h) day)
+    (λ same. let is = (Decides-int_eq (pos h) day).0 same in omega (arith, ints)) in
     rw (here, has_day-before hs day before) refl
 
 -- a date of the calendar from 2000 on is that of its day number
 IsDateOf-day_of : (d : DateNumbers) → IsSoundHoliday d → IsDateOf (pos (day_of d)) d.year d.month d.date
-IsDateOf-day_of d sound = is_date_of_number d.year d.month d.date (omega (arith, sound.year)) (has_date d.year d.month d.date sound.date)
+IsDateOf-day_of d sound =
+    is_date_of_number d.year d.month d.date (omega (arith, sound.year)) (has_date d.year d.month d.date sound.date)
 
 -- two days of one date are the same
-same_day : (day other : ℤ) (year month date : ℕ) → IsDateOf day year month date → IsDateOf other year month date → day ≡ other
+same_day : (day other : ℤ) (year month date : ℕ) → IsDateOf day year month date
+    → IsDateOf other year month date → day ≡ other
 same_day day other year month date is also = omega (arith, ints, is.count, also.count)
 
-same_day_by : (day other : ℤ) (year month date year₂ month₂ date₂ : ℕ) → year₂ ≡ year → month₂ ≡ month → date₂ ≡ date → IsDateOf day year₂ month₂ date₂ → IsDateOf other year month date → day ≡ other
-same_day_by day other year month date year₂ month₂ date₂ a b c is also = same_day day other year month date (rw (a, b, c) at is) also
+same_day_by : (day other : ℤ) (year month date year₂ month₂ date₂ : ℕ) → year₂ ≡ year → month₂ ≡ month → date₂ ≡ date
+    → IsDateOf day year₂ month₂ date₂ → IsDateOf other year month date → day ≡ other
+same_day_by day other year month date year₂ month₂ date₂ a b c is also =
+    same_day day other year month date (rw (a, b, c) at is) also
 
 -- a holiday is of this date
 abbrev pub is_of_date : (year month date : ℕ) → DateNumbers → Bool
 is_of_date year month date d = (d.year == year) && ((d.month == month) && (d.date == date))
 
-of_date-parts : (year month date : ℕ) (d : DateNumbers) → is_of_date year month date d ≡ true → (d.year ≡ year) × (d.month ≡ month) × (d.date ≡ date)
+of_date-parts : (year month date : ℕ) (d : DateNumbers) → is_of_date year month date d ≡ true
+    → (d.year ≡ year) × (d.month ≡ month) × (d.date ≡ date)
 of_date-parts year month date d is =
     let first = and_parts (eqb d.year year) (eqb d.month month && eqb d.date date) is in
     let second = and_parts (eqb d.month month) (eqb d.date date) first.1 in
     (eqb-true d.year year first.0, eqb-true d.month month second.0, eqb-true d.date date second.1)
 
-of_date-from : (year month date : ℕ) (d : DateNumbers) → d.year ≡ year → d.month ≡ month → d.date ≡ date → is_of_date year month date d ≡ true
+of_date-from : (year month date : ℕ) (d : DateNumbers) → d.year ≡ year → d.month ≡ month → d.date ≡ date
+    → is_of_date year month date d ≡ true
 of_date-from year month date d a b c = rw (eq-eqb d.year year a, eq-eqb d.month month b, eq-eqb d.date date c) refl
 
 abbrev date_in : DateNumbers → CalendarDate
@@ -58,20 +66,25 @@ abbrev date_is : (year month date : ℕ) → CalendarDate
 date_is year month date = record { year = year; month = month; date = date }
 
 -- a holiday's day number is that of a date exactly where it is of that date
-day_decides_date : (day : ℤ) (year month date : ℕ) (d : DateNumbers) → IsDateOf day year month date → IsSoundHoliday d → int_eq (pos (day_of d)) day ≡ is_of_date year month date d
+day_decides_date : (day : ℤ) (year month date : ℕ) (d : DateNumbers) → IsDateOf day year month date → IsSoundHoliday d
+    → int_eq (pos (day_of d)) day ≡ is_of_date year month date d
 day_decides_date day year month date d is sound =
     let own = IsDateOf-day_of d sound in
-    same_from_decides (int_eq (pos (day_of d)) day) (is_of_date year month date d) (Decides-int_eq (pos (day_of d)) day) (
+    same_from_decides (int_eq (pos (day_of d)) day) (is_of_date year month date d)
+    (Decides-int_eq (pos (day_of d)) day) (
       (λ of_date.
           let parts = of_date-parts year month date d of_date in
           same_day_by (pos (day_of d)) day year month date d.year d.month d.date parts.0 parts.1 parts.2 own is),
       (λ same.
-          let only = IsDateOf-only day (date_in d) (date_is year month date) (subst (λ (z : ℤ). IsDateOf z d.year d.month d.date) same own) is in
-          of_date-from year month date d (ap (λ (e : CalendarDate). e.year) only) (ap (λ (e : CalendarDate). e.month) only) (ap (λ (e : CalendarDate). e.date) only)),
+          let only = IsDateOf-only day (date_in d) (date_is year month date)
+          (subst (λ (z : ℤ). IsDateOf z d.year d.month d.date) same own) is in
+          of_date-from year month date d (ap (λ (e : CalendarDate). e.year) only)
+          (ap (λ (e : CalendarDate). e.month) only) (ap (λ (e : CalendarDate). e.date) only)),
     )
 
 -- so one of them has that day number where one is of that date
-days_decide_dates : (day : ℤ) (year month date : ℕ) (ds : List DateNumbers) → IsDateOf day year month date → All IsSoundHoliday ds → has_day (map day_of ds) day ≡ list_any (is_of_date year month date) ds
+days_decide_dates : (day : ℤ) (year month date : ℕ) (ds : List DateNumbers) → IsDateOf day year month date
+    → All IsSoundHoliday ds → has_day (map day_of ds) day ≡ list_any (is_of_date year month date) ds
 days_decide_dates day year month date [] is sound = refl
 days_decide_dates day year month date (d ∷ ds) is sound =
     let here = day_decides_date day year month date d is (All-head IsSoundHoliday d ds sound) in
@@ -79,19 +92,24 @@ days_decide_dates day year month date (d ∷ ds) is sound =
     rw (here, rest) refl
 
 -- the day numbers of sound holidays are those of the dates in the holiday lines
-days_are_dates_in : (t : Tree) (k : ℕ) (day : ℤ) (year month date : ℕ) → HasSoundParts t → IsDateOf day year month date → has_day (lists_of t k).holidays day ≡ is_holiday t.lines year month date
+days_are_dates_in : (t : Tree) (k : ℕ) (day : ℤ) (year month date : ℕ) → HasSoundParts t → IsDateOf day year month date
+    → has_day (lists_of t k).holidays day ≡ is_holiday t.lines year month date
 days_are_dates_in t k day year month date parts is =
     list_any-with_each (λ holiday. int_eq (pos holiday) day) [] (map day_of (holidays_of t.lines))
     ∙ days_decide_dates day year month date (holidays_of t.lines) is parts.holidays
 
 -- the same of a tariff whose numbers a text can have
-pub days_are_dates : (t : Tree) (k : ℕ) (day : ℤ) (year month date : ℕ) → IsWritable t → IsSound t → IsDateOf day year month date → has_day (lists_of t k).holidays day ≡ is_holiday t.lines year month date
-days_are_dates t k day year month date writable sound is = days_are_dates_in t k day year month date (sound_tariffs_have_sound_parts-parts t writable sound) is
+pub days_are_dates : (t : Tree) (k : ℕ) (day : ℤ) (year month date : ℕ) → IsWritable t → IsSound t
+    → IsDateOf day year month date → has_day (lists_of t k).holidays day ≡ is_holiday t.lines year month date
+days_are_dates t k day year month date writable sound is =
+    days_are_dates_in t k day year month date (sound_tariffs_have_sound_parts-parts t writable sound) is
 
 -- there is a holiday where there is a holiday line
-some_days_of : (ds : List DateNumbers) → ltb 0 (length (with_each [] (map day_of ds))) ≡ list_any (λ (d : DateNumbers). true) ds
+some_days_of : (ds : List DateNumbers)
+    → ltb 0 (length (with_each [] (map day_of ds))) ≡ list_any (λ (d : DateNumbers). true) ds
 some_days_of [] = refl
-some_days_of (d ∷ ds) = lt-ltb 0 (length (with_each [] (map day_of (d ∷ ds)))) (with_each-some (day_of d ∷ []) (map day_of ds) (omega arith))
+some_days_of (d ∷ ds) = lt-ltb 0 (length (with_each [] (map day_of (d ∷ ds))))
+    (with_each-some (day_of d ∷ []) (map day_of ds) (omega arith))
 
 pub some_days : (t : Tree) (k : ℕ) → has_days (lists_of t k) ≡ has_holidays t.lines
 some_days t k = some_days_of (holidays_of t.lines)

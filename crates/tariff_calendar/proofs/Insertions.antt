@@ -1,5 +1,6 @@
 -- Numbers put into order one by one: which they are, and that they rise.
-use Rattle.std.proofs.Common.{◌≡◌, ◌∙◌, sym, ℕ, zero, suc, ◌+◌, ◌<◌, ◌≤◌, Bool, true, false, ◌||◌, List, [], ◌∷◌, length, inl, inr, arith, refl, ap, subst}
+use Rattle.std.proofs.Common.{◌≡◌, ◌∙◌, sym, ℕ, zero, suc, ◌+◌, ◌<◌, ◌≤◌, Bool, true, false, ◌||◌, List, [], ◌∷◌}
+use Rattle.std.proofs.Common.{length, inl, inr, arith, refl, ap, subst}
 use Rattle.std.proofs.lemmas.Bool.{cases_order, lt-ltb, le-ltb, eq-eqb, ne_eqb}
 use Rattle.std.proofs.lemmas.List.Elements.{All-cons, All-head, All-tail, All-nil, All-weaker, All-from_get_or}
 use Rattle.std.proofs.lemmas.Map.Views.{All-insert_key}
@@ -26,7 +27,8 @@ All-from_insert_key P [] n all = (All-head P n [] all, All-nil P)
 All-from_insert_key P (x ∷ xs) n all =
     elim (cases_order n x) [
       | inl same ↦ let here = rw (insert_key-there x n xs same) at all in (rw same (All-head P x xs here), here)
-      | inr (inl lt) ↦ let here = rw (insert_key-before x n xs lt) at all in (All-head P n (x ∷ xs) here, All-tail P n (x ∷ xs) here)
+      | inr (inl lt) ↦ let here = rw (insert_key-before x n xs lt) at all in
+          (All-head P n (x ∷ xs) here, All-tail P n (x ∷ xs) here)
       | inr (inr gt) ↦
           let here = rw (insert_key-after x n xs gt) at all in
           let rest = All-from_insert_key P xs n (All-tail P x (insert_key nat_cmp xs n) here) in
@@ -45,7 +47,8 @@ All-from_with_each P xs (n ∷ ns) all =
 pub All-with_each : (P : ℕ → Type 0) (xs ns : List ℕ) → All P xs → All P ns → All P (with_each xs ns)
 All-with_each P xs [] all more = all
 All-with_each P xs (n ∷ ns) all more =
-    All-with_each P (insert_key nat_cmp xs n) ns (All-insert_key nat_cmp n P xs all (All-head P n ns more)) (All-tail P n ns more)
+    All-with_each P (insert_key nat_cmp xs n) ns (All-insert_key nat_cmp n P xs all (All-head P n ns more))
+    (All-tail P n ns more)
 
 or_none : (a : Bool) → a ≡ (a || false)
 or_none true = refl
@@ -66,7 +69,8 @@ or_moved true false c = refl
 or_moved false b c = refl
 
 -- a test is passed by one of the numbers after a number was put in where that number passes it or another does
-pub list_any-insert_key : (p : ℕ → Bool) (xs : List ℕ) (n : ℕ) → list_any p (insert_key nat_cmp xs n) ≡ (p n || list_any p xs)
+pub list_any-insert_key : (p : ℕ → Bool) (xs : List ℕ) (n : ℕ)
+    → list_any p (insert_key nat_cmp xs n) ≡ (p n || list_any p xs)
 list_any-insert_key p [] n = refl
 list_any-insert_key p (x ∷ xs) n =
     elim (cases_order n x) [
@@ -78,7 +82,8 @@ list_any-insert_key p (x ∷ xs) n =
     ]
 
 -- and after some were put in where one of those passes it or another does
-pub list_any-with_each : (p : ℕ → Bool) (xs ns : List ℕ) → list_any p (with_each xs ns) ≡ (list_any p xs || list_any p ns)
+pub list_any-with_each : (p : ℕ → Bool) (xs ns : List ℕ)
+    → list_any p (with_each xs ns) ≡ (list_any p xs || list_any p ns)
 list_any-with_each p xs [] = or_none (list_any p xs)
 list_any-with_each p xs (n ∷ ns) =
     list_any-with_each p (insert_key nat_cmp xs n) ns
@@ -95,7 +100,8 @@ IsRising-rest : (x : ℕ) (xs : List ℕ) → IsRising (x ∷ xs) → IsRising x
 IsRising-rest x xs rising = λ i j lt within. rising (suc i) (suc j) (omega arith) (omega arith)
 
 IsRising-first : (x : ℕ) (xs : List ℕ) → IsRising (x ∷ xs) → All (λ y. x < y) xs
-IsRising-first x xs rising = All-from_get_or (λ y. x < y) xs 0 (λ i within. rising 0 (suc i) (omega arith) (omega arith))
+IsRising-first x xs rising =
+    All-from_get_or (λ y. x < y) xs 0 (λ i within. rising 0 (suc i) (omega arith) (omega arith))
 
 IsRising-before : (x n : ℕ) (xs : List ℕ) → IsRising (x ∷ xs) → n < x → IsRising (n ∷ x ∷ xs)
 IsRising-before x n xs rising lt =
@@ -118,7 +124,8 @@ IsRising-insert_key (x ∷ xs) n rising =
 -- and after some were put in
 pub IsRising-with_each : (xs ns : List ℕ) → IsRising xs → IsRising (with_each xs ns)
 IsRising-with_each xs [] rising = rising
-IsRising-with_each xs (n ∷ ns) rising = IsRising-with_each (insert_key nat_cmp xs n) ns (IsRising-insert_key xs n rising)
+IsRising-with_each xs (n ∷ ns) rising =
+    IsRising-with_each (insert_key nat_cmp xs n) ns (IsRising-insert_key xs n rising)
 
 -- no numbers rise
 pub IsRising-none : IsRising []

@@ -2,7 +2,8 @@
 use Rattle.std.proofs.Common.{◌≡◌, ℕ, ◌*◌, ◌<◌, ◌≤◌, ◌↔◌, ℤ, List, Some, length, get_or}
 use Rattle.std.specs.List.{Contains}
 use Rattle.interval_clock.specs.Calendar.{IsDateOf}
-use Rattle.tariff_calendar.specs.Lists.{AreOrdered, IsNotFalling, count_at_most, has_day, has_days, is_holiday, lists_of, pulses_for}
+use Rattle.tariff_calendar.specs.Lists.{AreOrdered, IsNotFalling, count_at_most, has_day, has_days, is_holiday}
+use Rattle.tariff_calendar.specs.Lists.{lists_of, pulses_for}
 use Rattle.tariff_calendar.specs.Range.{IsInRangeOf, IsSameCell}
 use Rattle.tariff_calendar.proofs.Comparisons.{fewest_pulses}
 use Rattle.tariff_calendar.proofs.Counts as Counts
@@ -18,38 +19,46 @@ use Rattle.tariff_syntax.specs.Tree.{Tree, Line}
 use Rattle.tariff_syntax.specs.Writable.{IsWritable}
 use Rattle.tariff_syntax.specs.declared.context.Context.{Context}
 
-pub cuts_decide_conditions-condition : (t : Tree) (k : ℕ) (x y : Context) → IsWritable t → IsSound t → IsInRangeOf t k x → IsInRangeOf t k y → IsSameCell (lists_of t k) x y
+pub cuts_decide_conditions-condition : (t : Tree) (k : ℕ) (x y : Context) → IsWritable t → IsSound t → IsInRangeOf t k x
+    → IsInRangeOf t k y → IsSameCell (lists_of t k) x y
     → (l : Line) (c : Condition) → Contains t.lines l → when_part l.entry ≡ Some c → holds c x ≡ holds c y
 cuts_decide_conditions-condition = same_cell_holds
 
-pub cuts_decide_conditions-rate : (t : Tree) (k : ℕ) (x y : Context) → IsWritable t → IsSound t → IsInRangeOf t k x → IsInRangeOf t k y → IsSameCell (lists_of t k) x y
+pub cuts_decide_conditions-rate : (t : Tree) (k : ℕ) (x y : Context) → IsWritable t → IsSound t → IsInRangeOf t k x
+    → IsInRangeOf t k y → IsSameCell (lists_of t k) x y
     → rate_place t x ≡ rate_place t y
 cuts_decide_conditions-rate = same_cell_rate
 
-pub cuts_decide_conditions-initial : (t : Tree) (k : ℕ) (x y : Context) → IsWritable t → IsSound t → IsInRangeOf t k x → IsInRangeOf t k y → IsSameCell (lists_of t k) x y
+pub cuts_decide_conditions-initial : (t : Tree) (k : ℕ) (x y : Context) → IsWritable t → IsSound t → IsInRangeOf t k x
+    → IsInRangeOf t k y → IsSameCell (lists_of t k) x y
     → initial_place t x ≡ initial_place t y
 cuts_decide_conditions-initial = same_cell_initial
 
-pub cuts_decide_conditions-minimum : (t : Tree) (k : ℕ) (x y : Context) → IsWritable t → IsSound t → IsInRangeOf t k x → IsInRangeOf t k y → IsSameCell (lists_of t k) x y
+pub cuts_decide_conditions-minimum : (t : Tree) (k : ℕ) (x y : Context) → IsWritable t → IsSound t → IsInRangeOf t k x
+    → IsInRangeOf t k y → IsSameCell (lists_of t k) x y
     → minimum_place t x ≡ minimum_place t y
 cuts_decide_conditions-minimum = same_cell_minimum
 
-pub cuts_are_the_fewest_pulses : (k decimetres pulses : ℕ) → (k * decimetres ≤ 10000 * pulses) ↔ (pulses_for k decimetres ≤ pulses)
+pub cuts_are_the_fewest_pulses : (k decimetres pulses : ℕ) → (k * decimetres ≤ 10000 * pulses)
+    ↔ (pulses_for k decimetres ≤ pulses)
 cuts_are_the_fewest_pulses = fewest_pulses
 
 pub counts_are_places-few : (value : ℕ) (xs : List ℕ) → count_at_most value xs ≤ length xs
 counts_are_places-few = Counts.count_at_most-le-length
 
-pub counts_are_places-before : (value : ℕ) (xs : List ℕ) (i : ℕ) → IsNotFalling xs → i < count_at_most value xs → get_or xs i 0 ≤ value
+pub counts_are_places-before : (value : ℕ) (xs : List ℕ) (i : ℕ) → IsNotFalling xs → i < count_at_most value xs
+    → get_or xs i 0 ≤ value
 counts_are_places-before = Counts.count_at_most-below
 
-pub counts_are_places-after : (value : ℕ) (xs : List ℕ) (i : ℕ) → IsNotFalling xs → count_at_most value xs ≤ i → i < length xs → value < get_or xs i 0
+pub counts_are_places-after : (value : ℕ) (xs : List ℕ) (i : ℕ) → IsNotFalling xs → count_at_most value xs ≤ i
+    → i < length xs → value < get_or xs i 0
 counts_are_places-after = Counts.count_at_most-above
 
 pub lists_are_ordered-ordered : (t : Tree) (k : ℕ) → IsWritable t → IsSound t → AreOrdered (lists_of t k)
 lists_are_ordered-ordered = lists_ordered
 
-pub lists_are_ordered-hiring : (t : Tree) (k : ℕ) → IsWritable t → IsSound t → 0 < k → (count_at_most 0 (lists_of t k).distances ≡ 0) × (count_at_most 0 (lists_of t k).times ≡ 0)
+pub lists_are_ordered-hiring : (t : Tree) (k : ℕ) → IsWritable t → IsSound t → 0 < k
+    → (count_at_most 0 (lists_of t k).distances ≡ 0) × (count_at_most 0 (lists_of t k).times ≡ 0)
 lists_are_ordered-hiring t k writable sound some =
     let parts = sound_tariffs_have_sound_parts-parts t writable sound in
     (no_distance_at_hiring t k parts some, no_time_at_hiring t k parts)
@@ -57,6 +66,7 @@ lists_are_ordered-hiring t k writable sound some =
 pub holidays_are_dates-some : (t : Tree) (k : ℕ) → has_days (lists_of t k) ≡ has_holidays t.lines
 holidays_are_dates-some = some_days
 
-pub holidays_are_dates-dates : (t : Tree) (k : ℕ) (day : ℤ) (year month date : ℕ) → IsWritable t → IsSound t → IsDateOf day year month date
+pub holidays_are_dates-dates : (t : Tree) (k : ℕ) (day : ℤ) (year month date : ℕ) → IsWritable t → IsSound t
+    → IsDateOf day year month date
     → has_day (lists_of t k).holidays day ≡ is_holiday t.lines year month date
 holidays_are_dates-dates = days_are_dates

@@ -36,17 +36,20 @@ IsNotFalling-in_pulses k xs ordered = λ i j lt within.
     rw (i_is, j_is) (pulses_for-le k (get_or xs i 0) (get_or xs j 0) (ordered i j lt within_xs))
 
 cuts_of-not_falling : (dimension : Dimension) (lines : List Line) → IsNotFalling (cuts_of dimension lines)
-cuts_of-not_falling dimension lines = IsNotFalling-rising (cuts_of dimension lines) (IsRising-with_each [] (all_cuts dimension lines) IsRising-none)
+cuts_of-not_falling dimension lines =
+    IsNotFalling-rising (cuts_of dimension lines) (IsRising-with_each [] (all_cuts dimension lines) IsRising-none)
 
 -- the cuts of a tariff don't fall
 pub IsNotFalling-list_in : (t : Tree) (k : ℕ) (dimension : Dimension) → IsNotFalling (list_in (lists_of t k) dimension)
 IsNotFalling-list_in t k MonthDay = cuts_of-not_falling MonthDay t.lines
 IsNotFalling-list_in t k Minute = cuts_of-not_falling Minute t.lines
-IsNotFalling-list_in t k Distance = IsNotFalling-in_pulses k (cuts_of Distance t.lines) (cuts_of-not_falling Distance t.lines)
+IsNotFalling-list_in t k Distance =
+    IsNotFalling-in_pulses k (cuts_of Distance t.lines) (cuts_of-not_falling Distance t.lines)
 IsNotFalling-list_in t k Time = cuts_of-not_falling Time t.lines
 
 -- as many as its different cuts
-pub length-list_in : (t : Tree) (k : ℕ) (dimension : Dimension) → length (list_in (lists_of t k) dimension) ≡ length (cuts_of dimension t.lines)
+pub length-list_in : (t : Tree) (k : ℕ) (dimension : Dimension)
+    → length (list_in (lists_of t k) dimension) ≡ length (cuts_of dimension t.lines)
 length-list_in t k MonthDay = refl
 length-list_in t k Minute = refl
 length-list_in t k Distance = length-map (cuts_of Distance t.lines) (pulses_for k)
@@ -57,17 +60,29 @@ pub AreOrdered-lists_of : (t : Tree) (k : ℕ) → HasSoundParts t → AreOrdere
 AreOrdered-lists_of t k parts = record {
   month_days = record { few = parts.cuts MonthDay; not_falling = IsNotFalling-list_in t k MonthDay };
   minutes = record { few = parts.cuts Minute; not_falling = IsNotFalling-list_in t k Minute };
-  distances = record { few = omega (arith, length-list_in t k Distance, parts.cuts Distance); not_falling = IsNotFalling-list_in t k Distance };
+  distances = record {
+    few = omega (arith, length-list_in t k Distance, parts.cuts Distance);
+    not_falling = IsNotFalling-list_in t k Distance;
+  };
   times = record { few = parts.cuts Time; not_falling = IsNotFalling-list_in t k Time };
   holidays = record {
-    few = omega (arith, length-with_each [] (map day_of (holidays_of t.lines)), length-map (holidays_of t.lines) day_of, parts.holiday_count);
-    not_falling = IsNotFalling-rising (lists_of t k).holidays (IsRising-with_each [] (map day_of (holidays_of t.lines)) IsRising-none);
+    few = omega (
+      arith,
+      length-with_each [] (map day_of (holidays_of t.lines)),
+      length-map (holidays_of t.lines) day_of,
+      parts.holiday_count,
+    );
+    not_falling = IsNotFalling-rising (lists_of t k).holidays
+        (IsRising-with_each [] (map day_of (holidays_of t.lines)) IsRising-none);
   };
 }
 
 -- lists that are these are too
-pub AreOrdered-same : (t : Tree) (k : ℕ) (month_days minutes distances times holidays : List ℕ) → HasSoundParts t → month_days ≡ (lists_of t k).month_days → minutes ≡ (lists_of t k).minutes → distances ≡ (lists_of t k).distances → times ≡ (lists_of t k).times → holidays ≡ (lists_of t k).holidays
-    → AreOrdered (record { month_days = month_days; minutes = minutes; distances = distances; times = times; holidays = holidays })
+pub AreOrdered-same : (t : Tree) (k : ℕ) (month_days minutes distances times holidays : List ℕ) → HasSoundParts t
+    → month_days ≡ (lists_of t k).month_days → minutes ≡ (lists_of t k).minutes → distances ≡ (lists_of t k).distances
+    → times ≡ (lists_of t k).times → holidays ≡ (lists_of t k).holidays
+    → AreOrdered
+    (record { month_days = month_days; minutes = minutes; distances = distances; times = times; holidays = holidays })
 AreOrdered-same t k month_days minutes distances times holidays parts a b c d e =
     let ordered = AreOrdered-lists_of t k parts in
     record {
@@ -83,18 +98,23 @@ pub lists_ordered : (t : Tree) (k : ℕ) → IsWritable t → IsSound t → AreO
 lists_ordered t k writable sound = AreOrdered-lists_of t k (sound_tariffs_have_sound_parts-parts t writable sound)
 
 -- what holds of all that is made of each element holds of all that is made of the list
-All-flat_map : {X : Type 0} (P : ℕ → Type 0) (f : X → List ℕ) (xs : List X) → All (λ x. All P (f x)) xs → All P (flat_map f xs)
+All-flat_map : {X : Type 0} (P : ℕ → Type 0) (f : X → List ℕ) (xs : List X) → All (λ x. All P (f x)) xs
+    → All P (flat_map f xs)
 All-flat_map P f [] all = All-nil P
 All-flat_map P f (x ∷ xs) all =
-    All-append P (f x) (flat_map f xs) (All-head (λ x. All P (f x)) x xs all) (All-flat_map P f xs (All-tail (λ x. All P (f x)) x xs all))
+    All-append P (f x) (flat_map f xs) (All-head (λ x. All P (f x)) x xs all)
+    (All-flat_map P f xs (All-tail (λ x. All P (f x)) x xs all))
 
 -- what holds of all cuts of each good atom holds of all cuts of a sound tariff
-All-cuts_of : (P : ℕ → Type 0) (dimension : Dimension) (t : Tree) → ((atom : Condition) → IsGoodAtom atom → All P (atom_cuts dimension atom)) → HasSoundParts t → All P (cuts_of dimension t.lines)
+All-cuts_of : (P : ℕ → Type 0) (dimension : Dimension) (t : Tree) → ((atom : Condition) → IsGoodAtom atom
+    → All P (atom_cuts dimension atom)) → HasSoundParts t → All P (cuts_of dimension t.lines)
 All-cuts_of P dimension t of_atom parts =
     All-with_each P [] (all_cuts dimension t.lines) (All-nil P)
     (All-flat_map P (λ (l : Line). flat_map (atom_cuts dimension) (atoms_in l.entry)) t.lines
-    (All-weaker (λ (l : Line). All IsGoodAtom (atoms_in l.entry)) (λ (l : Line). All P (flat_map (atom_cuts dimension) (atoms_in l.entry)))
-    (λ l good. All-flat_map P (atom_cuts dimension) (atoms_in l.entry) (All-weaker IsGoodAtom (λ atom. All P (atom_cuts dimension atom)) of_atom (atoms_in l.entry) good))
+    (All-weaker (λ (l : Line). All IsGoodAtom (atoms_in l.entry))
+    (λ (l : Line). All P (flat_map (atom_cuts dimension) (atoms_in l.entry)))
+    (λ l good. All-flat_map P (atom_cuts dimension) (atoms_in l.entry)
+    (All-weaker IsGoodAtom (λ atom. All P (atom_cuts dimension atom)) of_atom (atoms_in l.entry) good))
     t.lines parts.atoms))
 
 All-one : (P : ℕ → Type 0) (n : ℕ) → P n → All P (n ∷ [])
@@ -124,11 +144,13 @@ pulses_for-some k decimetres some far =
     omega arith
 
 -- at the hiring no distance is reached
-pub no_distance_at_hiring : (t : Tree) (k : ℕ) → HasSoundParts t → 0 < k → count_at_most 0 (list_in (lists_of t k) Distance) ≡ 0
+pub no_distance_at_hiring : (t : Tree) (k : ℕ) → HasSoundParts t → 0 < k
+    → count_at_most 0 (list_in (lists_of t k) Distance) ≡ 0
 no_distance_at_hiring t k parts some =
     count_at_most-zero (map (pulses_for k) (cuts_of Distance t.lines))
     (λ i within.
-    let within_cuts : i < length (cuts_of Distance t.lines) = omega (arith, length-map (cuts_of Distance t.lines) (pulses_for k)) in
+    let within_cuts : i < length (cuts_of Distance t.lines) =
+    omega (arith, length-map (cuts_of Distance t.lines) (pulses_for k)) in
     rw (get_or-map (pulses_for k) (cuts_of Distance t.lines) i 0 0 within_cuts)
     (pulses_for-some k (get_or (cuts_of Distance t.lines) i 0) some (distances_fit t parts i 0 within_cuts).0))
 

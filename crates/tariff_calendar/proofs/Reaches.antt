@@ -13,7 +13,8 @@ count-before v w n xs ordered few counted next le =
     omega (arith, here, later))
 
 -- the numbers before one that is at most a value are at most it too
-pub counted-before : (v middle : ℕ) (xs : List ℕ) → IsNotFalling xs → middle < length xs → get_or xs middle 0 ≤ v → (i : ℕ) → i < middle + 1 → get_or xs i 0 ≤ v
+pub counted-before : (v middle : ℕ) (xs : List ℕ) → IsNotFalling xs → middle < length xs → get_or xs middle 0 ≤ v
+    → (i : ℕ) → i < middle + 1 → get_or xs i 0 ≤ v
 counted-before v middle xs ordered within here i below =
     let less = IsNotFalling-le xs i middle ordered (omega arith) within in
     omega (arith, less, here)

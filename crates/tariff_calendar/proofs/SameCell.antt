@@ -1,10 +1,12 @@
 -- Two contexts of one cell: the conditions of the tariff hold in both or in neither, and the same lines hold first.
 use Rattle.std.proofs.Common.{◌≡◌, ℕ, ◌+◌, List, [], ◌∷◌, get_or, map, Option, Some, None, refl, subst}
-use Rattle.std.proofs.lemmas.List.Elements.{All-head, All-tail, All-cons, All-nil, All-contains, All-from_get_or, Contains-get_or}
+use Rattle.std.proofs.lemmas.List.Elements.{All-head, All-tail, All-cons, All-nil, All-contains, All-from_get_or}
+use Rattle.std.proofs.lemmas.List.Elements.{Contains-get_or}
 use Rattle.std.specs.List.{All, Contains, cons_option, flat_map, position_from}
 use Rattle.tariff_calendar.specs.Lists.{CutLists, count_at_most, lists_of, pulses_for}
 use Rattle.tariff_calendar.specs.Range.{IsInRangeOf, IsSameCell}
-use Rattle.tariff_calendar.proofs.Comparisons.{IsAlike, IsAlikeInPulses, CompareAlike, HaveAlike, All-parts, holds_alike}
+use Rattle.tariff_calendar.proofs.Comparisons.{IsAlike, IsAlikeInPulses, CompareAlike, HaveAlike, All-parts}
+use Rattle.tariff_calendar.proofs.Comparisons.{holds_alike}
 use Rattle.tariff_calendar.proofs.Counts.{decides_at}
 use Rattle.tariff_calendar.proofs.Insertions.{All-from_with_each}
 use Rattle.tariff_check.specs.Cuts.{all_cuts, atom_cuts, cuts_of}
@@ -17,13 +19,15 @@ use Rattle.tariff_check.specs.declared.fault.Dimension.{Dimension}
 use Rattle.tariff_check.specs.declared.fault.Dimension.TheVariants.{MonthDay, Minute, Distance, Time}
 use Rattle.tariff_syntax.specs.Condition.{Condition}
 use Rattle.tariff_syntax.specs.Meaning.{holds, holds_if, at_hiring, rate_place, initial_place, minimum_place}
-use Rattle.tariff_syntax.specs.Parts.{initial_conditions, initial_when, minimum_conditions, minimum_when, parts, rate_conditions, rate_when}
+use Rattle.tariff_syntax.specs.Parts.{initial_conditions, initial_when, minimum_conditions, minimum_when, parts}
+use Rattle.tariff_syntax.specs.Parts.{rate_conditions, rate_when}
 use Rattle.tariff_syntax.specs.Tree.{Tree, Line, Entry, initial, rate, minimum}
 use Rattle.tariff_syntax.specs.Writable.{IsWritable}
 use Rattle.tariff_syntax.specs.declared.context.Context.{Context}
 
 -- what holds of all that is made of the elements of a list holds of all that is made of each
-All-from_flat_map : {X : Type 0} (P : ℕ → Type 0) (f : X → List ℕ) (xs : List X) → All P (flat_map f xs) → All (λ x. All P (f x)) xs
+All-from_flat_map : {X : Type 0} (P : ℕ → Type 0) (f : X → List ℕ) (xs : List X) → All P (flat_map f xs)
+    → All (λ x. All P (f x)) xs
 All-from_flat_map P f [] all = All-nil (λ x. All P (f x))
 All-from_flat_map P f (x ∷ xs) all =
     let parts = All-parts P (f x) (flat_map f xs) all in
@@ -31,30 +35,38 @@ All-from_flat_map P f (x ∷ xs) all =
 
 All-from_map : (P : ℕ → Type 0) (f : ℕ → ℕ) (xs : List ℕ) → All P (map f xs) → All (λ x. P (f x)) xs
 All-from_map P f [] all = All-nil (λ x. P (f x))
-All-from_map P f (x ∷ xs) all = All-cons (λ x. P (f x)) x xs (All-head P (f x) (map f xs) all) (All-from_map P f xs (All-tail P (f x) (map f xs) all))
+All-from_map P f (x ∷ xs) all = All-cons (λ x. P (f x)) x xs (All-head P (f x) (map f xs) all)
+    (All-from_map P f xs (All-tail P (f x) (map f xs) all))
 
 -- where as many numbers are at most one value as at another, all of them compare alike
 all_alike : (v w : ℕ) (xs : List ℕ) → count_at_most v xs ≡ count_at_most w xs → All (IsAlike v w) xs
 all_alike v w xs same = All-from_get_or (IsAlike v w) xs 0 (λ i within. decides_at v w xs i same within)
 
 -- what holds of all cuts of a dimension holds of those of each line
-cuts_of_line : (P : ℕ → Type 0) (dimension : Dimension) (lines : List Line) (l : Line) → All P (cuts_of dimension lines) → Contains lines l → All P (flat_map (atom_cuts dimension) (atoms_in l.entry))
+cuts_of_line : (P : ℕ → Type 0) (dimension : Dimension) (lines : List Line) (l : Line) → All P (cuts_of dimension lines)
+    → Contains lines l → All P (flat_map (atom_cuts dimension) (atoms_in l.entry))
 cuts_of_line P dimension lines l all within =
     let cuts = (All-from_with_each P [] (all_cuts dimension lines) all).1 in
     All-contains (λ (l : Line). All P (flat_map (atom_cuts dimension) (atoms_in l.entry))) lines l
     (All-from_flat_map P (λ (l : Line). flat_map (atom_cuts dimension) (atoms_in l.entry)) lines cuts) within
 
 -- two contexts of one cell compare alike with the cuts of each line
-same_cell_compares : (t : Tree) (k : ℕ) (x y : Context) (l : Line) → IsSameCell (lists_of t k) x y → Contains t.lines l → CompareAlike k x y (atoms_in l.entry)
+same_cell_compares : (t : Tree) (k : ℕ) (x y : Context) (l : Line) → IsSameCell (lists_of t k) x y → Contains t.lines l
+    → CompareAlike k x y (atoms_in l.entry)
 same_cell_compares t k x y l same within = record {
-  month_day = cuts_of_line (IsAlike x.month_day y.month_day) MonthDay t.lines l (all_alike x.month_day y.month_day (cuts_of MonthDay t.lines) same.month_day) within;
-  minute = cuts_of_line (IsAlike x.minute y.minute) Minute t.lines l (all_alike x.minute y.minute (cuts_of Minute t.lines) same.minute) within;
+  month_day = cuts_of_line (IsAlike x.month_day y.month_day) MonthDay t.lines l
+      (all_alike x.month_day y.month_day (cuts_of MonthDay t.lines) same.month_day) within;
+  minute = cuts_of_line (IsAlike x.minute y.minute) Minute t.lines l
+      (all_alike x.minute y.minute (cuts_of Minute t.lines) same.minute) within;
   distance = cuts_of_line (IsAlikeInPulses k x.pulses y.pulses) Distance t.lines l
-      (All-from_map (IsAlike x.pulses y.pulses) (pulses_for k) (cuts_of Distance t.lines) (all_alike x.pulses y.pulses (map (pulses_for k) (cuts_of Distance t.lines)) same.distance)) within;
-  time = cuts_of_line (IsAlike x.ticks y.ticks) Time t.lines l (all_alike x.ticks y.ticks (cuts_of Time t.lines) same.time) within;
+      (All-from_map (IsAlike x.pulses y.pulses) (pulses_for k) (cuts_of Distance t.lines)
+      (all_alike x.pulses y.pulses (map (pulses_for k) (cuts_of Distance t.lines)) same.distance)) within;
+  time = cuts_of_line (IsAlike x.ticks y.ticks) Time t.lines l
+      (all_alike x.ticks y.ticks (cuts_of Time t.lines) same.time) within;
 }
 
-same_cell_has : (t : Tree) (k : ℕ) (x y : Context) → IsInRangeOf t k x → IsInRangeOf t k y → IsSameCell (lists_of t k) x y → HaveAlike k x y
+same_cell_has : (t : Tree) (k : ℕ) (x y : Context) → IsInRangeOf t k x → IsInRangeOf t k y
+    → IsSameCell (lists_of t k) x y → HaveAlike k x y
 same_cell_has t k x y x_in y_in same = record {
   constant = (x_in.constant, y_in.constant);
   position = same.position;
@@ -64,20 +76,26 @@ same_cell_has t k x y x_in y_in same = record {
   month_day = (x_in.month_day, y_in.month_day);
 }
 
-line_holds : (t : Tree) (k : ℕ) (x y : Context) → HasSoundParts t → HaveAlike k x y → IsSameCell (lists_of t k) x y → (l : Line) (c : Condition) → Contains t.lines l → when_part l.entry ≡ Some c → holds c x ≡ holds c y
+line_holds : (t : Tree) (k : ℕ) (x y : Context) → HasSoundParts t → HaveAlike k x y → IsSameCell (lists_of t k) x y
+    → (l : Line) (c : Condition) → Contains t.lines l → when_part l.entry ≡ Some c → holds c x ≡ holds c y
 line_holds t k x y parts have same l c within has =
     let good = All-contains (λ (l : Line). All IsGoodAtom (atoms_in l.entry)) t.lines l parts.atoms within in
-    holds_alike c k x y (subst (λ when. All IsGoodAtom (atoms_if when)) has good) have (subst (λ when. CompareAlike k x y (atoms_if when)) has (same_cell_compares t k x y l same within))
+    holds_alike c k x y (subst (λ when. All IsGoodAtom (atoms_if when)) has good) have
+    (subst (λ when. CompareAlike k x y (atoms_if when)) has (same_cell_compares t k x y l same within))
 
 -- each condition of a tariff holds in both or in neither
-pub same_cell_holds : (t : Tree) (k : ℕ) (x y : Context) → IsWritable t → IsSound t → IsInRangeOf t k x → IsInRangeOf t k y → IsSameCell (lists_of t k) x y → (l : Line) (c : Condition) → Contains t.lines l → when_part l.entry ≡ Some c → holds c x ≡ holds c y
-same_cell_holds t k x y writable sound x_in y_in same = line_holds t k x y (sound_tariffs_have_sound_parts-parts t writable sound) (same_cell_has t k x y x_in y_in same) same
+pub same_cell_holds : (t : Tree) (k : ℕ) (x y : Context) → IsWritable t → IsSound t → IsInRangeOf t k x
+    → IsInRangeOf t k y → IsSameCell (lists_of t k) x y → (l : Line) (c : Condition) → Contains t.lines l
+    → when_part l.entry ≡ Some c → holds c x ≡ holds c y
+same_cell_holds t k x y writable sound x_in y_in same = line_holds t k x y
+    (sound_tariffs_have_sound_parts-parts t writable sound) (same_cell_has t k x y x_in y_in same) same
 
 -- a line's condition that may not be there holds in both or in neither
 abbrev IsWhenAlike : (x y : Context) → Option Condition → Type 0
 IsWhenAlike x y when = holds_if x when ≡ holds_if y when
 
-when_alike : (x y : Context) (when : Option Condition) → ((c : Condition) → when ≡ Some c → holds c x ≡ holds c y) → IsWhenAlike x y when
+when_alike : (x y : Context) (when : Option Condition) → ((c : Condition) → when ≡ Some c → holds c x ≡ holds c y)
+    → IsWhenAlike x y when
 when_alike x y None alike = refl
 when_alike x y (Some c) alike = alike c refl
 
@@ -98,33 +116,43 @@ minimum_gives (minimum amount own) when h = cc
 minimum_gives x when h = absurd cc
 
 -- so what holds of each line's condition holds of those of a kind
-All-conditions : (P : Option Condition → Type 0) (part : Entry → Option (Option Condition)) → GivesWhen part → (lines : List Line) → All (λ (l : Line). P (when_part l.entry)) lines → All P (parts part lines)
+All-conditions : (P : Option Condition → Type 0) (part : Entry → Option (Option Condition)) → GivesWhen part
+    → (lines : List Line) → All (λ (l : Line). P (when_part l.entry)) lines → All P (parts part lines)
 All-conditions P part gives [] all = All-nil P
 All-conditions P part gives (l ∷ ls) all =
     let Q = λ (l : Line). P (when_part l.entry) in
     one_more (part l.entry) (gives l.entry) (All-head Q l ls all) (All-conditions P part gives ls (All-tail Q l ls all))
   where
-    one_more : (o : Option (Option Condition)) → ((when : Option Condition) → o ≡ Some when → when_part l.entry ≡ when) → P (when_part l.entry) → All P (parts part ls) → All P (cons_option o (parts part ls))
+    one_more : (o : Option (Option Condition)) → ((when : Option Condition) → o ≡ Some when → when_part l.entry ≡ when)
+        → P (when_part l.entry) → All P (parts part ls) → All P (cons_option o (parts part ls))
     one_more None given here rest = rest
     one_more (Some when) given here rest = All-cons P when (parts part ls) (subst P (given when refl) here) rest
 
 -- where conditions hold in both or in neither, the first that holds is the same
-first_alike : (x y : Context) (place : ℕ) (conditions : List (Option Condition)) → All (IsWhenAlike x y) conditions → position_from (holds_if x) place conditions ≡ position_from (holds_if y) place conditions
+first_alike : (x y : Context) (place : ℕ) (conditions : List (Option Condition)) → All (IsWhenAlike x y) conditions
+    → position_from (holds_if x) place conditions ≡ position_from (holds_if y) place conditions
 first_alike x y place [] all = refl
 first_alike x y place (when ∷ more) all =
-    rw (All-head (IsWhenAlike x y) when more all, first_alike x y (place + 1) more (All-tail (IsWhenAlike x y) when more all)) refl
+    rw (
+      All-head (IsWhenAlike x y) when more all,
+      first_alike x y (place + 1) more (All-tail (IsWhenAlike x y) when more all),
+    ) refl
 
 -- the conditions of all lines hold in both or in neither
-lines_alike : (t : Tree) (k : ℕ) (x y : Context) → HasSoundParts t → HaveAlike k x y → IsSameCell (lists_of t k) x y → All (λ (l : Line). IsWhenAlike x y (when_part l.entry)) t.lines
+lines_alike : (t : Tree) (k : ℕ) (x y : Context) → HasSoundParts t → HaveAlike k x y → IsSameCell (lists_of t k) x y
+    → All (λ (l : Line). IsWhenAlike x y (when_part l.entry)) t.lines
 lines_alike t k x y parts have same = λ place d within.
     let l = get_or t.lines place d in
-    when_alike x y (when_part l.entry) (λ c has. line_holds t k x y parts have same l c (Contains-get_or t.lines place d within) has)
+    when_alike x y (when_part l.entry)
+    (λ c has. line_holds t k x y parts have same l c (Contains-get_or t.lines place d within) has)
 
 -- the same rate holds first
-pub same_cell_rate : (t : Tree) (k : ℕ) (x y : Context) → IsWritable t → IsSound t → IsInRangeOf t k x → IsInRangeOf t k y → IsSameCell (lists_of t k) x y → rate_place t x ≡ rate_place t y
+pub same_cell_rate : (t : Tree) (k : ℕ) (x y : Context) → IsWritable t → IsSound t → IsInRangeOf t k x
+    → IsInRangeOf t k y → IsSameCell (lists_of t k) x y → rate_place t x ≡ rate_place t y
 same_cell_rate t k x y writable sound x_in y_in same =
     first_alike x y 0 (rate_conditions t.lines)
-    (All-conditions (IsWhenAlike x y) rate_when rate_gives t.lines (lines_alike t k x y (sound_tariffs_have_sound_parts-parts t writable sound) (same_cell_has t k x y x_in y_in same) same))
+    (All-conditions (IsWhenAlike x y) rate_when rate_gives t.lines (lines_alike t k x y
+    (sound_tariffs_have_sound_parts-parts t writable sound) (same_cell_has t k x y x_in y_in same) same))
 
 -- at the hiring they are in one cell too
 hiring_has : (k : ℕ) (x y : Context) → HaveAlike k x y → HaveAlike k (at_hiring x) (at_hiring y)
@@ -150,18 +178,25 @@ hiring_same lists x y same = record {
 }
 
 -- so what holds at the hiring holds alike
-hiring_alike : (t : Tree) (k : ℕ) (x y : Context) → IsWritable t → IsSound t → IsInRangeOf t k x → IsInRangeOf t k y → IsSameCell (lists_of t k) x y → All (λ (l : Line). IsWhenAlike (at_hiring x) (at_hiring y) (when_part l.entry)) t.lines
+hiring_alike : (t : Tree) (k : ℕ) (x y : Context) → IsWritable t → IsSound t → IsInRangeOf t k x → IsInRangeOf t k y
+    → IsSameCell (lists_of t k) x y
+    → All (λ (l : Line). IsWhenAlike (at_hiring x) (at_hiring y) (when_part l.entry)) t.lines
 hiring_alike t k x y writable sound x_in y_in same =
-    lines_alike t k (at_hiring x) (at_hiring y) (sound_tariffs_have_sound_parts-parts t writable sound) (hiring_has k x y (same_cell_has t k x y x_in y_in same)) (hiring_same (lists_of t k) x y same)
+    lines_alike t k (at_hiring x) (at_hiring y) (sound_tariffs_have_sound_parts-parts t writable sound)
+    (hiring_has k x y (same_cell_has t k x y x_in y_in same)) (hiring_same (lists_of t k) x y same)
 
 -- the same initial hire fee holds first
-pub same_cell_initial : (t : Tree) (k : ℕ) (x y : Context) → IsWritable t → IsSound t → IsInRangeOf t k x → IsInRangeOf t k y → IsSameCell (lists_of t k) x y → initial_place t x ≡ initial_place t y
+pub same_cell_initial : (t : Tree) (k : ℕ) (x y : Context) → IsWritable t → IsSound t → IsInRangeOf t k x
+    → IsInRangeOf t k y → IsSameCell (lists_of t k) x y → initial_place t x ≡ initial_place t y
 same_cell_initial t k x y writable sound x_in y_in same =
     first_alike (at_hiring x) (at_hiring y) 0 (initial_conditions t.lines)
-    (All-conditions (IsWhenAlike (at_hiring x) (at_hiring y)) initial_when initial_gives t.lines (hiring_alike t k x y writable sound x_in y_in same))
+    (All-conditions (IsWhenAlike (at_hiring x) (at_hiring y)) initial_when initial_gives t.lines
+    (hiring_alike t k x y writable sound x_in y_in same))
 
 -- and the same minimum fare
-pub same_cell_minimum : (t : Tree) (k : ℕ) (x y : Context) → IsWritable t → IsSound t → IsInRangeOf t k x → IsInRangeOf t k y → IsSameCell (lists_of t k) x y → minimum_place t x ≡ minimum_place t y
+pub same_cell_minimum : (t : Tree) (k : ℕ) (x y : Context) → IsWritable t → IsSound t → IsInRangeOf t k x
+    → IsInRangeOf t k y → IsSameCell (lists_of t k) x y → minimum_place t x ≡ minimum_place t y
 same_cell_minimum t k x y writable sound x_in y_in same =
     first_alike (at_hiring x) (at_hiring y) 0 (minimum_conditions t.lines)
-    (All-conditions (IsWhenAlike (at_hiring x) (at_hiring y)) minimum_when minimum_gives t.lines (hiring_alike t k x y writable sound x_in y_in same))
+    (All-conditions (IsWhenAlike (at_hiring x) (at_hiring y)) minimum_when minimum_gives t.lines
+    (hiring_alike t k x y writable sound x_in y_in same))

@@ -1,5 +1,6 @@
 -- Cuts are in order, each once.
-use Rattle.std.proofs.Common.{◌≡◌, ◌⊎◌, inl, inr, ℕ, zero, suc, ◌<◌, List, [], ◌∷◌, length, get_or, refl, sym, subst, arith}
+use Rattle.std.proofs.Common.{◌≡◌, ◌⊎◌, inl, inr, ℕ, zero, suc, ◌<◌, List, [], ◌∷◌, length, get_or, refl, sym, subst}
+use Rattle.std.proofs.Common.{arith}
 use Rattle.std.specs.BTreeSet.{insert_key}
 use Rattle.std.specs.List.{Contains}
 use Rattle.std.specs.Ordering.{nat_cmp}
@@ -86,7 +87,8 @@ kept n k (x ∷ xs) h =
     elim (cases_three k x) [
       | inl lt ↦ subst (IsIn n) (sym (insert_less k x xs lt)) (inr h)
       | inr (inl eq) ↦ subst (IsIn n) (sym (insert_equal k x xs eq)) h
-      | inr (inr gt) ↦ subst (IsIn n) (sym (insert_more k x xs gt)) (elim h [ inl e ↦ inl e | inr later ↦ inr (kept n k xs later) ])
+      | inr (inr gt) ↦
+          subst (IsIn n) (sym (insert_more k x xs gt)) (elim h [ inl e ↦ inl e | inr later ↦ inr (kept n k xs later) ])
     ]
 
 added : (k : ℕ) (xs : List ℕ) → IsIn k (insert_key nat_cmp xs k)
@@ -98,7 +100,8 @@ added k (x ∷ xs) =
       | inr (inr gt) ↦ subst (IsIn k) (sym (insert_more k x xs gt)) (inr (added k xs))
     ]
 
-only_later : (n k x : ℕ) (xs : List ℕ) → IsIn n (x ∷ insert_key nat_cmp xs k) → (IsIn n (insert_key nat_cmp xs k) → (n ≡ k) ⊎ IsIn n xs) → (n ≡ k) ⊎ IsIn n (x ∷ xs)
+only_later : (n k x : ℕ) (xs : List ℕ) → IsIn n (x ∷ insert_key nat_cmp xs k)
+    → (IsIn n (insert_key nat_cmp xs k) → (n ≡ k) ⊎ IsIn n xs) → (n ≡ k) ⊎ IsIn n (x ∷ xs)
 only_later n k x xs (inl e) below = inr (inl e)
 only_later n k x xs (inr later) below = elim (below later) [ inl e ↦ inl e | inr there ↦ inr (inr there) ]
 
@@ -109,7 +112,8 @@ only n k (x ∷ xs) h =
     elim (cases_three k x) [
       | inl lt ↦ subst (IsIn n) (insert_less k x xs lt) h
       | inr (inl eq) ↦ inr (subst (IsIn n) (insert_equal k x xs eq) h)
-      | inr (inr gt) ↦ only_later n k x xs (subst (IsIn n) (insert_more k x xs gt) h) (λ (later : IsIn n (insert_key nat_cmp xs k)). only n k xs later)
+      | inr (inr gt) ↦ only_later n k x xs (subst (IsIn n) (insert_more k x xs gt) h)
+          (λ (later : IsIn n (insert_key nat_cmp xs k)). only n k xs later)
     ]
 
 kept_each : (n : ℕ) (ks ns : List ℕ) → IsIn n ks → IsIn n (with_each ks ns)
@@ -118,7 +122,8 @@ kept_each n ks (m ∷ ns) h = kept_each n (insert_key nat_cmp ks m) ns (kept n m
 
 added_each : (n : ℕ) (ks ns : List ℕ) → IsIn n ns → IsIn n (with_each ks ns)
 added_each n ks [] h = absurd h
-added_each n ks (m ∷ ns) (inl e) = kept_each n (insert_key nat_cmp ks m) ns (subst (λ (k : ℕ). IsIn k (insert_key nat_cmp ks m)) (sym e) (added m ks))
+added_each n ks (m ∷ ns) (inl e) =
+    kept_each n (insert_key nat_cmp ks m) ns (subst (λ (k : ℕ). IsIn k (insert_key nat_cmp ks m)) (sym e) (added m ks))
 added_each n ks (m ∷ ns) (inr h) = added_each n (insert_key nat_cmp ks m) ns h
 
 only_each : (n : ℕ) (ks ns : List ℕ) → IsIn n (with_each ks ns) → IsIn n ns ⊎ IsIn n ks
@@ -159,13 +164,16 @@ none_there n ns (inr h) = absurd h
 pub each_in_order : (ns : List ℕ) → IsInOrder ns (with_each [] ns)
 each_in_order ns =
     record {
-      rising = λ (i j : ℕ) (h : i < j) (l : j < length (with_each [] ns)). rises_at (with_each [] ns) i j (rises_each [] ns tt) h l;
+      rising = λ (i j : ℕ) (h : i < j) (l : j < length (with_each [] ns)). rises_at (with_each [] ns) i j
+          (rises_each [] ns tt) h l;
       same = λ (n : ℕ). (
         (λ (c : Contains ns n). in_contains n (with_each [] ns) (added_each n [] ns (at_in n c.0 ns c.1 c.2))),
-        (λ (c : Contains (with_each [] ns) n). in_contains n ns (none_there n ns (only_each n [] ns (at_in n c.0 (with_each [] ns) c.1 c.2)))),
+        (λ (c : Contains (with_each [] ns) n). in_contains n ns
+            (none_there n ns (only_each n [] ns (at_in n c.0 (with_each [] ns) c.1 c.2)))),
       );
     }
 
 -- cuts are in order, each once
-pub cuts_in_order : (dimension : Dimension) (lines : List Line) → IsInOrder (all_cuts dimension lines) (cuts_of dimension lines)
+pub cuts_in_order : (dimension : Dimension) (lines : List Line)
+    → IsInOrder (all_cuts dimension lines) (cuts_of dimension lines)
 cuts_in_order dimension lines = each_in_order (all_cuts dimension lines)

@@ -27,17 +27,22 @@ use Rattle.tariff_check.proofs.SoundParts.{sound_parts}
 use Rattle.tariff_check.proofs.Staging.{none_if_sound, sound_if_none}
 use Rattle.tariff_check.proofs.Supplements.{none_of_other_numbers, numbered_is}
 
-pub faults_name_the_first_line-named : (test : LineTest) (lines : List Line) (number : ℕ) → (first_line test lines ≡ Some number) ↔ IsFirstLine test lines number
+pub faults_name_the_first_line-named : (test : LineTest) (lines : List Line) (number : ℕ)
+    → (first_line test lines ≡ Some number) ↔ IsFirstLine test lines number
 faults_name_the_first_line-named = first_line_is
 
-pub faults_name_the_first_line-smallest : (test : LineTest) (lines : List Line) (number : ℕ) → RiseInNumber lines → first_line test lines ≡ Some number
-    → (before after : List Line) (line : Line) → lines ≡ before ++ line ∷ after → test before line.entry ≡ true → number ≤ line.line
+pub faults_name_the_first_line-smallest : (test : LineTest) (lines : List Line) (number : ℕ) → RiseInNumber lines
+    → first_line test lines ≡ Some number
+    → (before after : List Line) (line : Line) → lines ≡ before ++ line ∷ after → test before line.entry ≡ true
+    → number ≤ line.line
 faults_name_the_first_line-smallest = smallest_line
 
-pub faults_name_the_first_line-none : (test : LineTest) (lines : List Line) → (first_line test lines ≡ None) ↔ IsNowhere test lines
+pub faults_name_the_first_line-none : (test : LineTest) (lines : List Line) → (first_line test lines ≡ None)
+    ↔ IsNowhere test lines
 faults_name_the_first_line-none = nowhere_is
 
-pub cuts_are_in_order-cuts : (dimension : Dimension) (lines : List Line) → IsInOrder (all_cuts dimension lines) (cuts_of dimension lines)
+pub cuts_are_in_order-cuts : (dimension : Dimension) (lines : List Line)
+    → IsInOrder (all_cuts dimension lines) (cuts_of dimension lines)
 cuts_are_in_order-cuts = cuts_in_order
 
 pub cuts_are_in_order-numbers : (numbers : List ℕ) → IsInOrder numbers (with_each [] numbers)
@@ -49,7 +54,8 @@ sound_tariffs_have_sound_parts-none t = (sound_if_none t, none_if_sound t)
 pub sound_tariffs_have_sound_parts-parts : (t : Tree) → IsWritable t → IsSound t → HasSoundParts t
 sound_tariffs_have_sound_parts-parts = sound_parts
 
-pub measures_are_least-least : (lines : List Line) → All (λ n. 0 < n) (measures_of lines) → IsLeastCommonMultiple (measures_of lines) (measure_of lines)
+pub measures_are_least-least : (lines : List Line) → All (λ n. 0 < n) (measures_of lines)
+    → IsLeastCommonMultiple (measures_of lines) (measure_of lines)
 measures_are_least-least lines some = least_of_some (measures_of lines) some
 
 pub measures_are_least-sound : (t : Tree) → IsSound t → All (λ n. 0 < n) (measures_of t.lines)
@@ -58,16 +64,20 @@ measures_are_least-sound = sound_measures
 pub measures_are_least-refused : (t : Tree) → fault_of t ≡ Some NoCommonMeasure → All (λ n. 0 < n) (measures_of t.lines)
 measures_are_least-refused = refused_measures
 
-pub supplements_are_numbered_to_16 : (t : Tree) (number : ℕ) → IsWritable t → (IsFromTo 1 16 number → ⊥) → supplement_of t.lines number ≡ None
+pub supplements_are_numbered_to_16 : (t : Tree) (number : ℕ) → IsWritable t → (IsFromTo 1 16 number → ⊥)
+    → supplement_of t.lines number ≡ None
 supplements_are_numbered_to_16 = none_of_other_numbers
 
-pub lines_that_hold_are_there-rate : (t : Tree) (x : Context) → IsSound t → (place : ℕ) × (rate_place t x ≡ Some place) × (place < length (rates_of t.lines))
+pub lines_that_hold_are_there-rate : (t : Tree) (x : Context) → IsSound t
+    → (place : ℕ) × (rate_place t x ≡ Some place) × (place < length (rates_of t.lines))
 lines_that_hold_are_there-rate = rate_always
 
-pub lines_that_hold_are_there-initial : (t : Tree) (x : Context) → IsSound t → (place : ℕ) × (initial_place t x ≡ Some place) × (place < length (initials_of t.lines))
+pub lines_that_hold_are_there-initial : (t : Tree) (x : Context) → IsSound t
+    → (place : ℕ) × (initial_place t x ≡ Some place) × (place < length (initials_of t.lines))
 lines_that_hold_are_there-initial = initial_always
 
-pub lines_that_hold_are_there-minimum : (t : Tree) (x : Context) (place : ℕ) → minimum_place t x ≡ Some place → place < length (minimums_of t.lines)
+pub lines_that_hold_are_there-minimum : (t : Tree) (x : Context) (place : ℕ) → minimum_place t x ≡ Some place
+    → place < length (minimums_of t.lines)
 lines_that_hold_are_there-minimum = minimum_there
 
 pub sound_tariffs_are_their_parts-lines : (t : Tree) → HasAllLines t (sound_of t)

@@ -3,7 +3,9 @@ use Rattle.std.proofs.Common.{◌≡◌, ℕ, zero, suc, ◌+◌, ◌*◌, ◌/�
 use Prim.Native.Nat.{◌∣◌}
 use Rattle.std.specs.Int.{IsGcd}
 use Rattle.std.proofs.lemmas.Nat.Gcd.{IsGcd-from_zero, IsGcd-from_mod, same_from_IsGcd, le_of_dvd}
-use Rattle.std.proofs.Math.Nat.{div-mul_cancel, mul-zero, zero-mul, mul-pos, mul_right_comm, mul_comm, mul_assoc, dvd-mul_left, dvd_of_mul-dvd-mul_right, mul-dvd-mul_right, dvd-add_iff_right, dvd-mul_right_of_dvd, div-add-mod, mul_left_comm, mul-add}
+use Rattle.std.proofs.Math.Nat.{div-mul_cancel, mul-zero, zero-mul, mul-pos, mul_right_comm, mul_comm, mul_assoc}
+use Rattle.std.proofs.Math.Nat.{dvd-mul_left, dvd_of_mul-dvd-mul_right, mul-dvd-mul_right, dvd-add_iff_right}
+use Rattle.std.proofs.Math.Nat.{dvd-mul_right_of_dvd, div-add-mod, mul_left_comm, mul-add}
 use Rattle.tariff_check.specs.Measure.{gcd_in, gcd_of, lcm_of}
 
 -- a divisor of a number above 0 is above 0
@@ -15,7 +17,8 @@ is_gcd_in : (fuel a b : ℕ) → b < fuel → IsGcd a b (gcd_in fuel a b)
 unfolding gcd_in
 is_gcd_in zero a b h = absurd (omega arith)
 is_gcd_in (suc fuel) a zero h = IsGcd-from_zero a zero refl
-is_gcd_in (suc fuel) a (suc b) h = IsGcd-from_mod a (suc b) (gcd_in fuel (suc b) (a % suc b)) (is_gcd_in fuel (suc b) (a % suc b) (omega arith))
+is_gcd_in (suc fuel) a (suc b) h =
+    IsGcd-from_mod a (suc b) (gcd_in fuel (suc b) (a % suc b)) (is_gcd_in fuel (suc b) (a % suc b) (omega arith))
 
 -- what Euclid's remainders end at is the greatest common divisor
 pub is_gcd_of : (a b : ℕ) → IsGcd a b (gcd_of a b)
@@ -38,14 +41,16 @@ parted m b q r = rw (mul_assoc m b q) (sym (mul-add m (b * q) r))
 -- a number that divides m * a and m * b divides m times the remainders of a and b
 divides_remainder : (a b d m : ℕ) → d ∣ m * a → d ∣ m * b → d ∣ m * (a % b)
 divides_remainder a b d m first second =
-    let apart : m * b * (a / b) + m * (a % b) ≡ m * a = parted m b (a / b) (a % b) ∙ ap (λ (n : ℕ). m * n) (div-add-mod a b) in
+    let apart : m * b * (a / b) + m * (a % b) ≡ m * a =
+    parted m b (a / b) (a % b) ∙ ap (λ (n : ℕ). m * n) (div-add-mod a b) in
     (dvd-add_iff_right d (dvd-mul_right_of_dvd d second (a / b))).1 (subst (λ (n : ℕ). d ∣ n) (sym apart) first)
 
 divides_in : (fuel a b d m : ℕ) → d ∣ m * a → d ∣ m * b → d ∣ m * gcd_in fuel a b
 unfolding gcd_in
 divides_in zero a b d m first second = first
 divides_in (suc fuel) a zero d m first second = first
-divides_in (suc fuel) a (suc b) d m first second = divides_in fuel (suc b) (a % suc b) d m second (divides_remainder a (suc b) d m first second)
+divides_in (suc fuel) a (suc b) d m first second =
+    divides_in fuel (suc b) (a % suc b) d m second (divides_remainder a (suc b) d m first second)
 
 pub divides_gcd : (a b d m : ℕ) → d ∣ m * a → d ∣ m * b → d ∣ m * gcd_of a b
 unfolding gcd_of
@@ -66,7 +71,8 @@ crossed p q g a b first second =
 pub lcm_of-multiple_of_first : (a b : ℕ) → lcm_of a b / a * a ≡ lcm_of a b
 lcm_of-multiple_of_first a b =
     let h = is_gcd_of a b in
-    let swapped = crossed (a / gcd_of a b) (b / gcd_of a b) (gcd_of a b) a b (div-mul_cancel (gcd_of a b) h.0) (div-mul_cancel (gcd_of a b) h.1) in
+    let swapped = crossed (a / gcd_of a b) (b / gcd_of a b) (gcd_of a b) a b (div-mul_cancel (gcd_of a b) h.0)
+    (div-mul_cancel (gcd_of a b) h.1) in
     div-mul_cancel a (subst (λ (n : ℕ). a ∣ n) (sym swapped) (dvd-mul_left a (b / gcd_of a b)))
 
 -- and of the second
@@ -80,7 +86,8 @@ lcm_divides a b n first da db =
     let h = is_gcd_of a b in
     let with_first : a * b ∣ n * a = subst (λ (m : ℕ). m ∣ n * a) (mul_comm b a) (mul-dvd-mul_right b db a) in
     let with_both : a * b ∣ n * g = divides_gcd a b (a * b) n with_first (mul-dvd-mul_right a da b) in
-    dvd_of_mul-dvd-mul_right (lcm_of a b) (divisor_positive a b g first h) (subst (λ (m : ℕ). m ∣ n * g) (sym (product a b g h.0)) with_both)
+    dvd_of_mul-dvd-mul_right (lcm_of a b) (divisor_positive a b g first h)
+    (subst (λ (m : ℕ). m ∣ n * g) (sym (product a b g h.0)) with_both)
 
 -- m is a whole multiple of both a and b, above 0, and no smaller number is
 pub record IsLeastCommonMeasure (a b m : ℕ) : Type 0 where

@@ -1,5 +1,6 @@
 -- What holds of each line of a sound tariff whose numbers a text can have.
-use Rattle.std.proofs.Common.{◌≡◌, ℕ, ◌^◌, ◌≤◌, ◌&&◌, ◌==◌, not, Bool, true, false, cond, List, [], ◌∷◌, Option, Some, None, All, refl, subst, arith}
+use Rattle.std.proofs.Common.{◌≡◌, ℕ, ◌^◌, ◌≤◌, ◌&&◌, ◌==◌, not, Bool, true, false, cond, List, [], ◌∷◌, Option, Some}
+use Rattle.std.proofs.Common.{None, All, refl, subst, arith}
 use Rattle.std.proofs.lemmas.Bool.{leb-true, ltb-false, eqb-false}
 use Rattle.std.proofs.lemmas.List.Elements.{All-nil, All-cons, All-append}
 use Rattle.std.specs.List.{list_any}
@@ -8,9 +9,13 @@ use Rattle.tariff_syntax.specs.Condition as tree
 use Rattle.tariff_syntax.specs.Condition.{Condition}
 use Rattle.tariff_syntax.specs.Tree.{Entry, step, positions, zones, holiday, supplement, initial, rate, minimum}
 use Rattle.tariff_syntax.specs.Writable.{IsFromTo, IsWritableCondition, IsWritableIf, IsWritableEntry}
-use Rattle.tariff_check.specs.Lines.{atoms_if, atoms_in, atoms_of, is_after_nothing, is_for_nothing, is_great, is_no_holiday, is_undated}
-use Rattle.tariff_check.specs.Parts.{DateNumbers, InitialNumbers, RateNumbers, SupplementNumbers, holiday_part, initial_part, minimum_part, positions_part, rate_part, step_part, supplement_part, zones_part}
-use Rattle.tariff_check.specs.Sound.{IsGoodAtom, IsSoundAtom, IsSoundHoliday, IsSoundInitial, IsSoundRate, IsSoundSupplement}
+use Rattle.tariff_check.specs.Lines.{atoms_if, atoms_in, atoms_of, is_after_nothing, is_for_nothing, is_great}
+use Rattle.tariff_check.specs.Lines.{is_no_holiday, is_undated}
+use Rattle.tariff_check.specs.Parts.{DateNumbers, InitialNumbers, RateNumbers, SupplementNumbers, holiday_part}
+use Rattle.tariff_check.specs.Parts.{initial_part, minimum_part, positions_part, rate_part, step_part, supplement_part}
+use Rattle.tariff_check.specs.Parts.{zones_part}
+use Rattle.tariff_check.specs.Sound.{IsGoodAtom, IsSoundAtom, IsSoundHoliday, IsSoundInitial, IsSoundRate}
+use Rattle.tariff_check.specs.Sound.{IsSoundSupplement}
 use Rattle.tariff_check.proofs.MeasureLaws.{both_some}
 use Rattle.tariff_check.proofs.Staging.{or_false}
 use Rattle.taxi_units.specs.Money.{largest_amount}
@@ -68,7 +73,8 @@ pub initial_fact : (x : Entry) → IsGoodEntry x → (i : InitialNumbers) → in
 initial_fact (initial amount covers when) good i h =
     let same : record { amount = amount; covers = covers } ≡ i = cc in
     let amounts = or_false _ _ good.moderate in
-    subst IsSoundInitial same (record { amount = ltb-false largest_amount amount amounts.0; covers = ltb-false largest_amount covers amounts.1 })
+    subst IsSoundInitial same
+    (record { amount = ltb-false largest_amount amount amounts.0; covers = ltb-false largest_amount covers amounts.1 })
 initial_fact x good i h = absurd cc
 
 pub minimum_fact : (x : Entry) → IsGoodEntry x → (n : ℕ) → minimum_part x ≡ Some n → n ≤ largest_amount
@@ -78,7 +84,8 @@ minimum_fact (minimum amount when) good n h =
     omega arith
 minimum_fact x good n h = absurd cc
 
-pub supplement_fact : (number : ℕ) (x : Entry) → IsGoodEntry x → (s : SupplementNumbers) → supplement_part number x ≡ Some s → IsSoundSupplement s
+pub supplement_fact : (number : ℕ) (x : Entry) → IsGoodEntry x → (s : SupplementNumbers)
+    → supplement_part number x ≡ Some s → IsSoundSupplement s
 supplement_fact number (supplement n amount most) good s h =
     let same = some_same (number == n) (record { amount = amount; most = most }) s h in
     subst IsSoundSupplement same (record { amount = ltb-false (10 ^ 6) amount good.moderate; most = good.writable.2 })
@@ -94,17 +101,23 @@ holiday_fact x good d h = absurd cc
 
 -- the atoms of a condition with writable numbers have writable numbers
 atoms_writable : (c : Condition) → IsWritableCondition c → All IsWritableCondition (atoms_of c)
-atoms_writable (tree.and p q) h = All-append IsWritableCondition (atoms_of p) (atoms_of q) (atoms_writable p h.0) (atoms_writable q h.1)
-atoms_writable (tree.or p q) h = All-append IsWritableCondition (atoms_of p) (atoms_of q) (atoms_writable p h.0) (atoms_writable q h.1)
+atoms_writable (tree.and p q) h =
+    All-append IsWritableCondition (atoms_of p) (atoms_of q) (atoms_writable p h.0) (atoms_writable q h.1)
+atoms_writable (tree.or p q) h =
+    All-append IsWritableCondition (atoms_of p) (atoms_of q) (atoms_writable p h.0) (atoms_writable q h.1)
 atoms_writable (tree.not p) h = atoms_writable p h
 atoms_writable (tree.position n) h = All-cons IsWritableCondition (tree.position n) [] h (All-nil IsWritableCondition)
 atoms_writable (tree.zone n) h = All-cons IsWritableCondition (tree.zone n) [] h (All-nil IsWritableCondition)
-atoms_writable (tree.time from to) h = All-cons IsWritableCondition (tree.time from to) [] h (All-nil IsWritableCondition)
+atoms_writable (tree.time from to) h =
+    All-cons IsWritableCondition (tree.time from to) [] h (All-nil IsWritableCondition)
 atoms_writable (tree.day from to) h = All-cons IsWritableCondition (tree.day from to) [] h (All-nil IsWritableCondition)
-atoms_writable (tree.date a b c d) h = All-cons IsWritableCondition (tree.date a b c d) [] h (All-nil IsWritableCondition)
+atoms_writable (tree.date a b c d) h =
+    All-cons IsWritableCondition (tree.date a b c d) [] h (All-nil IsWritableCondition)
 atoms_writable tree.holiday h = All-cons IsWritableCondition tree.holiday [] h (All-nil IsWritableCondition)
-atoms_writable (tree.after_distance n) h = All-cons IsWritableCondition (tree.after_distance n) [] h (All-nil IsWritableCondition)
-atoms_writable (tree.after_time n) h = All-cons IsWritableCondition (tree.after_time n) [] h (All-nil IsWritableCondition)
+atoms_writable (tree.after_distance n) h =
+    All-cons IsWritableCondition (tree.after_distance n) [] h (All-nil IsWritableCondition)
+atoms_writable (tree.after_time n) h =
+    All-cons IsWritableCondition (tree.after_time n) [] h (All-nil IsWritableCondition)
 
 if_writable : (when : Option Condition) → IsWritableIf when → All IsWritableCondition (atoms_if when)
 if_writable None h = All-nil IsWritableCondition

@@ -1,5 +1,6 @@
 -- A sound tariff has its parts in their ranges.
-use Rattle.std.proofs.Common.{◌≡◌, ℕ, ◌^◌, ◌<◌, ◌≤◌, Bool, true, false, cond, List, [], Option, Some, None, All, refl, subst, arith}
+use Rattle.std.proofs.Common.{◌≡◌, ℕ, ◌^◌, ◌<◌, ◌≤◌, Bool, true, false, cond, List, [], Option, Some, None, All, refl}
+use Rattle.std.proofs.Common.{subst, arith}
 use Rattle.std.proofs.lemmas.Bool.{ltb-false, eqb-false}
 use Rattle.std.proofs.Math.Nat.{mul-pos}
 use Rattle.std.specs.List.{list_any}
@@ -11,9 +12,13 @@ use Rattle.tariff_check.specs.Cells.{bands_between, cells_of}
 use Rattle.tariff_check.specs.Counted.{HasNumbers}
 use Rattle.tariff_check.specs.Cuts.{count_of, most_cuts}
 use Rattle.tariff_check.specs.Faults.{IsSound, cuts_fault, is_step_zero}
-use Rattle.tariff_check.specs.Lines.{atoms_in, first_line, has_bad_date, has_great_amount, has_measure_zero, is_after_nothing, is_for_nothing, is_great, is_no_holiday, is_one_too_many, is_undated}
+use Rattle.tariff_check.specs.Lines.{atoms_in, first_line, has_bad_date, has_great_amount, has_measure_zero}
+use Rattle.tariff_check.specs.Lines.{is_after_nothing, is_for_nothing, is_great, is_no_holiday, is_one_too_many}
+use Rattle.tariff_check.specs.Lines.{is_undated}
 use Rattle.tariff_check.specs.Measure.{measure_of, measures_of}
-use Rattle.tariff_check.specs.Parts.{SupplementNumbers, first_part, has_holidays, holiday_part, initial_part, minimum_part, positions_of, positions_part, rate_part, step_of, step_part, supplement_part, zones_of, zones_part}
+use Rattle.tariff_check.specs.Parts.{SupplementNumbers, first_part, has_holidays, holiday_part, initial_part}
+use Rattle.tariff_check.specs.Parts.{minimum_part, positions_of, positions_part, rate_part, step_of, step_part}
+use Rattle.tariff_check.specs.Parts.{supplement_part, zones_of, zones_part}
 use Rattle.tariff_check.specs.Sound.{HasSoundParts, IsSoundHoliday, IsSoundInitial, IsSoundRate, IsSoundSupplement}
 use Rattle.tariff_check.specs.declared.fault.CheckFault.TheVariants.{AmountTooBig, BadDate, MeasureZero, TooManyLines}
 use Rattle.tariff_check.specs.declared.fault.Dimension.{Dimension}
@@ -22,9 +27,11 @@ use Rattle.tariff_check.specs.declared.numbers.Numbers.{Numbers}
 use Rattle.tariff_check.proofs.CommonMeasure.{sound_measures}
 use Rattle.tariff_check.proofs.DefaultLines.{default_initial, default_rate}
 use Rattle.tariff_check.proofs.FirstLine.{never}
-use Rattle.tariff_check.proofs.LineFacts.{IsGoodEntry, good_atoms, holiday_fact, initial_fact, minimum_fact, positions_fact, rate_fact, step_fact, supplement_fact, zones_fact}
+use Rattle.tariff_check.proofs.LineFacts.{IsGoodEntry, good_atoms, holiday_fact, initial_fact, minimum_fact}
+use Rattle.tariff_check.proofs.LineFacts.{positions_fact, rate_fact, step_fact, supplement_fact, zones_fact}
 use Rattle.tariff_check.proofs.MeasureLaws.{common_grows}
-use Rattle.tariff_check.proofs.PartLaws.{Gives, few_holidays, few_initials, few_minimums, few_rates, first_part_has, parts_all}
+use Rattle.tariff_check.proofs.PartLaws.{Gives, few_holidays, few_initials, few_minimums, few_rates, first_part_has}
+use Rattle.tariff_check.proofs.PartLaws.{parts_all}
 use Rattle.tariff_check.proofs.Staging.{not_if, nowhere, or_false, sound_if_none}
 use Rattle.taxi_units.specs.Money.{largest_amount}
 
@@ -39,10 +46,12 @@ lines_good t w h =
     let great = nowhere AmountTooBig (first_line has_great_amount ls) (h 9 None (omega arith)) in
     let zero_measure = nowhere MeasureZero (first_line has_measure_zero ls) (h 10 None (omega arith)) in
     let holidays = never has_bad_date is_no_holiday (λ before x e. (or_false _ _ e).0) [] ls bad_date in
-    let dates = never has_bad_date (λ (x : Entry). list_any is_undated (atoms_in x)) (λ before x e. (or_false _ _ e).1) [] ls bad_date in
+    let dates = never has_bad_date (λ (x : Entry). list_any is_undated (atoms_in x))
+    (λ before x e. (or_false _ _ e).1) [] ls bad_date in
     let amounts = never has_great_amount is_great (λ before x e. e) [] ls great in
     let measures = never has_measure_zero is_for_nothing (λ before x e. (or_false _ _ e).0) [] ls zero_measure in
-    let afters = never has_measure_zero (λ (x : Entry). list_any is_after_nothing (atoms_in x)) (λ before x e. (or_false _ _ e).1) [] ls zero_measure in
+    let afters = never has_measure_zero (λ (x : Entry). list_any is_after_nothing (atoms_in x))
+    (λ before x e. (or_false _ _ e).1) [] ls zero_measure in
     λ (k : ℕ) (d : Line) within. record {
       writable = w.lines k d within;
       moderate = amounts k d within;
@@ -53,7 +62,8 @@ lines_good t w h =
     }
 
 -- what a fact of entries says of parts
-given : {A : Type 0} (part : Entry → Option A) (P : A → Type 0) (ls : List Line) → ((x : Entry) → IsGoodEntry x → (y : A) → part x ≡ Some y → P y) → All IsGoodLine ls → All (Gives part P) ls
+given : {A : Type 0} (part : Entry → Option A) (P : A → Type 0) (ls : List Line)
+    → ((x : Entry) → IsGoodEntry x → (y : A) → part x ≡ Some y → P y) → All IsGoodLine ls → All (Gives part P) ls
 given part P ls fact good = λ (k : ℕ) (d : Line) within. fact _ (good k d within)
 
 -- a number of 1 to 9, or 1 without a line
@@ -62,13 +72,15 @@ number_or_one None h = (omega arith, omega arith)
 number_or_one (Some n) h = h n refl
 
 -- a step that is there and isn't 0
-step_there : (o : Option (ℕ × Rounding)) → is_none o ≡ false → is_step_zero o ≡ false → ((s : ℕ × Rounding) → o ≡ Some s → s.0 ≤ 10 ^ 6) → (s : ℕ × Rounding) × (o ≡ Some s) × IsFromTo 1 (10 ^ 6) s.0
+step_there : (o : Option (ℕ × Rounding)) → is_none o ≡ false → is_step_zero o ≡ false
+    → ((s : ℕ × Rounding) → o ≡ Some s → s.0 ≤ 10 ^ 6) → (s : ℕ × Rounding) × (o ≡ Some s) × IsFromTo 1 (10 ^ 6) s.0
 step_there None there some most = absurd cc
 step_there (Some s) there some most =
     let apart = eqb-false s.0 0 some in
     (s, refl, (omega arith, most s refl))
 
-cuts_few : (ls : List Line) (dimension : Dimension) → cuts_fault ls dimension ≡ None → count_of dimension ls ≤ most_cuts dimension
+cuts_few : (ls : List Line) (dimension : Dimension) → cuts_fault ls dimension ≡ None
+    → count_of dimension ls ≤ most_cuts dimension
 cuts_few ls dimension h = ltb-false (most_cuts dimension) (count_of dimension ls) (not_if _ _ h)
 
 all_cuts_few : (t : Tree) → IsSound t → (dimension : Dimension) → count_of dimension t.lines ≤ most_cuts dimension
@@ -83,7 +95,8 @@ kinds_some false = omega arith
 
 cells_some : (ls : List Line) → 1 ≤ positions_of ls → 1 ≤ zones_of ls → 1 ≤ cells_of ls
 cells_some ls p z =
-    let bands : 0 < bands_between ls = mul-pos (mul-pos (mul-pos (omega arith) (omega arith)) (omega arith)) (omega arith) in
+    let bands : 0 < bands_between ls =
+    mul-pos (mul-pos (mul-pos (omega arith) (omega arith)) (omega arith)) (omega arith) in
     mul-pos (mul-pos (mul-pos (mul-pos p z) (omega arith)) (kinds_some (has_holidays ls))) bands
 
 -- a sound tariff has its parts in their ranges
@@ -92,11 +105,15 @@ sound_parts t w h =
     let ls = t.lines in
     let good = lines_good t w h in
     let many = nowhere TooManyLines (first_line is_one_too_many ls) (h 3 None (omega arith)) in
-    let positions = number_or_one (first_part positions_part ls) (λ (n : ℕ) e. first_part_has positions_part (IsFromTo 1 9) ls n (given positions_part (IsFromTo 1 9) ls positions_fact good) e) in
-    let zones = number_or_one (first_part zones_part ls) (λ (n : ℕ) e. first_part_has zones_part (IsFromTo 1 9) ls n (given zones_part (IsFromTo 1 9) ls zones_fact good) e) in
+    let positions = number_or_one (first_part positions_part ls) (λ (n : ℕ) e. first_part_has positions_part
+    (IsFromTo 1 9) ls n (given positions_part (IsFromTo 1 9) ls positions_fact good) e) in
+    let zones = number_or_one (first_part zones_part ls) (λ (n : ℕ) e. first_part_has zones_part (IsFromTo 1 9) ls n
+    (given zones_part (IsFromTo 1 9) ls zones_fact good) e) in
     record {
       decimals = w.decimals;
-      step = step_there (step_of ls) (not_if _ _ (h 0 None (omega arith))) (not_if _ _ (h 1 None (omega arith))) (λ (s : ℕ × Rounding) e. first_part_has step_part (λ (s : ℕ × Rounding). s.0 ≤ 10 ^ 6) ls s (given step_part (λ (s : ℕ × Rounding). s.0 ≤ 10 ^ 6) ls step_fact good) e);
+      step = step_there (step_of ls) (not_if _ _ (h 0 None (omega arith))) (not_if _ _ (h 1 None (omega arith)))
+          (λ (s : ℕ × Rounding) e. first_part_has step_part (λ (s : ℕ × Rounding). s.0 ≤ 10 ^ 6) ls s
+          (given step_part (λ (s : ℕ × Rounding). s.0 ≤ 10 ^ 6) ls step_fact good) e);
       positions = positions;
       zones = zones;
       rates = parts_all rate_part IsSoundRate ls (given rate_part IsSoundRate ls rate_fact good);
@@ -105,13 +122,18 @@ sound_parts t w h =
       initials = parts_all initial_part IsSoundInitial ls (given initial_part IsSoundInitial ls initial_fact good);
       initial_count = few_initials ls many;
       default_initial = default_initial t h;
-      minimums = parts_all minimum_part (λ amount. amount ≤ largest_amount) ls (given minimum_part (λ amount. amount ≤ largest_amount) ls minimum_fact good);
+      minimums = parts_all minimum_part (λ amount. amount ≤ largest_amount) ls
+          (given minimum_part (λ amount. amount ≤ largest_amount) ls minimum_fact good);
       minimum_count = few_minimums ls many;
-      supplements = λ (number : ℕ) (s : SupplementNumbers) e. first_part_has (supplement_part number) IsSoundSupplement ls s (given (supplement_part number) IsSoundSupplement ls (supplement_fact number) good) e;
+      supplements = λ (number : ℕ) (s : SupplementNumbers) e. first_part_has (supplement_part number) IsSoundSupplement
+          ls s (given (supplement_part number) IsSoundSupplement ls (supplement_fact number) good) e;
       holidays = parts_all holiday_part IsSoundHoliday ls (given holiday_part IsSoundHoliday ls holiday_fact good);
       holiday_count = few_holidays ls many;
       atoms = λ (k : ℕ) (d : Line) within. good_atoms _ (good k d within);
-      measure = (common_grows 1 (measures_of ls) (omega arith) (sound_measures t h), ltb-false (10 ^ 18) (measure_of ls) (not_if _ _ (h 11 None (omega arith))));
+      measure = (
+        common_grows 1 (measures_of ls) (omega arith) (sound_measures t h),
+        ltb-false (10 ^ 18) (measure_of ls) (not_if _ _ (h 11 None (omega arith))),
+      );
       cuts = all_cuts_few t h;
       cells = (cells_some ls positions.0 zones.0, ltb-false 64512 (cells_of ls) (not_if _ _ (h 16 None (omega arith))));
     }

@@ -1,14 +1,21 @@
 -- The first fault, stage by stage.
-use Rattle.std.proofs.Common.{◌≡◌, ℕ, ◌≤◌, ◌^◌, ◌||◌, Bool, true, false, List, [], ◌∷◌, ◌++◌, Option, Some, None, All, refl, ap, sym, subst, ◌∙◌}
+use Rattle.std.proofs.Common.{◌≡◌, ℕ, ◌≤◌, ◌^◌, ◌||◌, Bool, true, false, List, [], ◌∷◌, ◌++◌, Option, Some, None, All}
+use Rattle.std.proofs.Common.{refl, ap, sym, subst, ◌∙◌}
 use Rattle.std.proofs.lemmas.List.Elements.{All-nil, All-cons, All-head, All-tail}
 use Rattle.std.specs.Option.{option_or}
 use Rattle.tariff_syntax.specs.Tree.{Tree, Line}
-use Rattle.tariff_check.specs.Faults.{HasNone, faults_before_cuts, faults_from_cuts, faults_of, fault_of, first_some, fault_if, fault_at, IsSound}
+use Rattle.tariff_check.specs.Faults.{HasNone, faults_before_cuts, faults_from_cuts, faults_of, fault_of, first_some}
+use Rattle.tariff_check.specs.Faults.{fault_if, fault_at, IsSound}
 use Rattle.tariff_check.specs.Cells.{cells_of}
 use Rattle.tariff_check.specs.Lines.{first_line, has_bad_date, has_great_amount, has_measure_zero, is_for_nothing}
 use Rattle.tariff_check.specs.Measure.{measure_of}
-use Rattle.tariff_check.specs.Stages.{step_fault, line_fault, default_fault, number_fault, cut_fault, early_fault, late_fault}
-use Rattle.tariff_check.specs.declared.fault.CheckFault.TheVariants.{NoStep, StepZero, Duplicate, TooManyLines, UnknownNumber, NoDefaultRate, NoDefaultInitial, LineAfterDefault, BadDate, AmountTooBig, MeasureZero, NoCommonMeasure, TooManyCells, NoMemory}
+use Rattle.tariff_check.specs.Stages.{step_fault, line_fault, default_fault, number_fault, cut_fault, early_fault}
+use Rattle.tariff_check.specs.Stages.{late_fault}
+use Rattle.tariff_check.specs.declared.fault.CheckFault.TheVariants.{NoStep, StepZero, Duplicate, TooManyLines}
+use Rattle.tariff_check.specs.declared.fault.CheckFault.TheVariants.{UnknownNumber, NoDefaultRate, NoDefaultInitial}
+use Rattle.tariff_check.specs.declared.fault.CheckFault.TheVariants.{LineAfterDefault, BadDate, AmountTooBig}
+use Rattle.tariff_check.specs.declared.fault.CheckFault.TheVariants.{MeasureZero, NoCommonMeasure, TooManyCells}
+use Rattle.tariff_check.specs.declared.fault.CheckFault.TheVariants.{NoMemory}
 use Rattle.tariff_check.proofs.FirstLine.{never}
 use Rattle.tariff_check.proofs.MeasureLaws.{IsMeasured}
 use Rattle.std.proofs.lemmas.Bool.{le-ltb}
@@ -73,24 +80,30 @@ measured_if ls h =
     let after_default = or_parts (default_fault ls) (number_fault ls) after_line.1 in
     let after_dates = or_parts (fault_at BadDate (first_line has_bad_date ls)) _ after_default.1 in
     let after_amounts = or_parts (fault_at AmountTooBig (first_line has_great_amount ls)) _ after_dates.1 in
-    never has_measure_zero is_for_nothing (λ before x e. (or_false (is_for_nothing x) _ e).0) [] ls (nowhere MeasureZero (first_line has_measure_zero ls) after_amounts.1)
+    never has_measure_zero is_for_nothing (λ before x e. (or_false (is_for_nothing x) _ e).0) [] ls
+    (nowhere MeasureZero (first_line has_measure_zero ls) after_amounts.1)
 
 -- the first fault is one of lines
-pub early_is_first : (ls : List Line) (fault : CheckFault) → Some fault ≡ early_fault ls → first_some (faults_of ls) ≡ Some fault
+pub early_is_first : (ls : List Line) (fault : CheckFault) → Some fault ≡ early_fault ls
+    → first_some (faults_of ls) ≡ Some fault
 early_is_first ls fault h = staged ls ∙ ap (λ (o : Option CheckFault). option_or o (late_fault ls)) (sym h)
 
 -- or, before them, one of the display step
-pub step_is_first : (ls : List Line) (fault : CheckFault) → step_fault ls ≡ Some fault → first_some (faults_of ls) ≡ Some fault
+pub step_is_first : (ls : List Line) (fault : CheckFault) → step_fault ls ≡ Some fault
+    → first_some (faults_of ls) ≡ Some fault
 step_is_first ls fault h =
     let early : Some fault ≡ early_fault ls = rw h refl in
     early_is_first ls fault early
 
 -- or else too many cuts
-pub cuts_are_first : (ls : List Line) (fault : CheckFault) → None ≡ early_fault ls → measure_of ls ≤ 10 ^ 18 → cut_fault ls ≡ Some fault → first_some (faults_of ls) ≡ Some fault
+pub cuts_are_first : (ls : List Line) (fault : CheckFault) → None ≡ early_fault ls → measure_of ls ≤ 10 ^ 18
+    → cut_fault ls ≡ Some fault → first_some (faults_of ls) ≡ Some fault
 cuts_are_first ls fault early common h =
-    let late : late_fault ls ≡ option_or (cut_fault ls) (fault_if (nat_lt 64512 (cells_of ls)) (TooManyCells (cells_of ls))) = rw (le-ltb (10 ^ 18) (measure_of ls) common) refl in
+    let late : late_fault ls ≡ option_or (cut_fault ls) (fault_if (nat_lt 64512 (cells_of ls))
+    (TooManyCells (cells_of ls))) = rw (le-ltb (10 ^ 18) (measure_of ls) common) refl in
     staged ls ∙ (ap (λ (o : Option CheckFault). option_or o (late_fault ls)) (sym early)
-    ∙ (late ∙ ap (λ (o : Option CheckFault). option_or o (fault_if (nat_lt 64512 (cells_of ls)) (TooManyCells (cells_of ls)))) h))
+    ∙ (late ∙ ap
+    (λ (o : Option CheckFault). option_or o (fault_if (nat_lt 64512 (cells_of ls)) (TooManyCells (cells_of ls)))) h))
 
 -- a fault that isn't one of lines
 abbrev is_late : CheckFault → Bool
@@ -120,9 +133,12 @@ step_is_early ls = early_or _ _ (early_if _ NoStep refl) (early_if _ StepZero re
 early_is_early : (ls : List Line) → IsEarly (early_fault ls)
 early_is_early ls =
     early_or _ _ (step_is_early ls)
-    (early_or _ _ (early_or _ _ (early_at Duplicate _ (λ n. refl)) (early_or _ _ (early_at TooManyLines _ (λ n. refl)) (early_at UnknownNumber _ (λ n. refl))))
-    (early_or _ _ (early_or _ _ (early_if _ NoDefaultRate refl) (early_or _ _ (early_if _ NoDefaultInitial refl) (early_at LineAfterDefault _ (λ n. refl))))
-    (early_or _ _ (early_at BadDate _ (λ n. refl)) (early_or _ _ (early_at AmountTooBig _ (λ n. refl)) (early_at MeasureZero _ (λ n. refl))))))
+    (early_or _ _ (early_or _ _ (early_at Duplicate _ (λ n. refl))
+    (early_or _ _ (early_at TooManyLines _ (λ n. refl)) (early_at UnknownNumber _ (λ n. refl))))
+    (early_or _ _ (early_or _ _ (early_if _ NoDefaultRate refl)
+    (early_or _ _ (early_if _ NoDefaultInitial refl) (early_at LineAfterDefault _ (λ n. refl))))
+    (early_or _ _ (early_at BadDate _ (λ n. refl))
+    (early_or _ _ (early_at AmountTooBig _ (λ n. refl)) (early_at MeasureZero _ (λ n. refl))))))
 
 late_false : (fault late : CheckFault) → is_late fault ≡ false → is_late late ≡ true → fault ≡ late → ⊥
 late_false fault late early is same = absurd (cc (subst (λ f. is_late f ≡ false) same early))
@@ -140,12 +156,15 @@ no_fault_first (Some f) y early h = absurd (late_false f NoCommonMeasure (early 
 
 -- and where the common measure is refused, no fault of lines is there
 pub no_early_fault : (t : Tree) → fault_of t ≡ Some NoCommonMeasure → early_fault t.lines ≡ None
-no_early_fault t h = no_fault_first (early_fault t.lines) (late_fault t.lines) (early_is_early t.lines) (sym (staged t.lines) ∙ h)
+no_early_fault t h =
+    no_fault_first (early_fault t.lines) (late_fault t.lines) (early_is_early t.lines) (sym (staged t.lines) ∙ h)
 
 -- without a fault of lines, and with a common measure, none is there before those of cuts
-pub none_before_cuts : (ls : List Line) → early_fault ls ≡ None → measure_of ls ≤ 10 ^ 18 → HasNone (faults_before_cuts ls)
+pub none_before_cuts : (ls : List Line) → early_fault ls ≡ None → measure_of ls ≤ 10 ^ 18
+    → HasNone (faults_before_cuts ls)
 none_before_cuts ls early common =
-    let before : first_some (faults_before_cuts ls) ≡ option_or (early_fault ls) (fault_if (nat_lt (10 ^ 18) (measure_of ls)) NoCommonMeasure) = simp (or_assoc, or_none) in
+    let before : first_some (faults_before_cuts ls) ≡ option_or (early_fault ls)
+    (fault_if (nat_lt (10 ^ 18) (measure_of ls)) NoCommonMeasure) = simp (or_assoc, or_none) in
     none_each (faults_before_cuts ls) (before ∙ rw (early, le-ltb (10 ^ 18) (measure_of ls) common) refl)
 
 -- what is nowhere in a list is nowhere in its beginning

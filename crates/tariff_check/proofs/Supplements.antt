@@ -16,7 +16,8 @@ no_such_line n (supplement number amount most) out writable =
     rw other refl
 no_such_line n entry out writable = refl
 
-no_such_lines : (n : ℕ) (lines : List Line) → (IsFromTo 1 16 n → ⊥) → All (λ (l : Line). IsWritableEntry l.entry) lines → parts (supplement_part n) lines ≡ []
+no_such_lines : (n : ℕ) (lines : List Line) → (IsFromTo 1 16 n → ⊥) → All (λ (l : Line). IsWritableEntry l.entry) lines
+    → parts (supplement_part n) lines ≡ []
 no_such_lines n [] out writable = refl
 no_such_lines n (l ∷ ls) out writable =
     let P = λ (l : Line). IsWritableEntry l.entry in

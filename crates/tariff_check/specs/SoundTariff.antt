@@ -129,7 +129,8 @@ own_lines {V} own = map (λ (c : program.Choice V). c.line) own
 
 -- choices of the program are those among some lines if they have the same values and the same line numbers, in order,
 -- and the lines at their places have the same conditions
-pub record AreChoices {V : Type 0} (lines : List Line) (own : List (program.Choice V)) (all : List (Choice V)) : Type 0 where
+pub record AreChoices {V : Type 0} (lines : List Line) (own : List (program.Choice V))
+    (all : List (Choice V)) : Type 0 where
   pub values : own_values own ≡ values_of all
   pub conditions : own_conditions lines own ≡ conditions_of all
   pub numbers : own_lines own ≡ lines_of all

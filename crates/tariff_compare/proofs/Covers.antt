@@ -1,5 +1,6 @@
 -- For each context of a meter the grid has one in the same cell of both tariffs, which isn't later.
-use Rattle.std.proofs.Common.{◌≡◌, ◌≢◌, ◌∙◌, ◌⊎◌, ap, sym, subst, refl, ℕ, ◌≤◌, Bool, true, false, not, ◌&&◌, ◌||◌, eqb, List, [], ◌∷◌, inl, inr, pos, arith}
+use Rattle.std.proofs.Common.{◌≡◌, ◌≢◌, ◌∙◌, ◌⊎◌, ap, sym, subst, refl, ℕ, ◌≤◌, Bool, true, false, not, ◌&&◌, ◌||◌, eqb}
+use Rattle.std.proofs.Common.{List, [], ◌∷◌, inl, inr, pos, arith}
 use Rattle.std.proofs.lemmas.Bool.{eq-eqb, eqb-true}
 use Rattle.interval_clock.specs.Calendar.{date_after, date_place, weekday_of}
 use Rattle.tariff_calendar.specs.Lists.{count_at_most, lists_of}
@@ -9,15 +10,17 @@ use Rattle.tariff_syntax.specs.Tree.{Tree}
 use Rattle.tariff_syntax.specs.Writable.{IsFromTo}
 use Rattle.taxi_units.specs.Time.{last_tick}
 use Rattle.tariff_compare.specs.Contexts.{HasTables, IsMeterContext, context_at, day_place, most_pulses, order_of}
-use Rattle.tariff_compare.specs.Grids.{day_at, day_in, days_until, grid_of, is_alike, is_edge, is_meter_time, is_same, listed}
+use Rattle.tariff_compare.specs.Grids.{day_at, day_in, days_until, grid_of, is_alike, is_edge, is_meter_time, is_same}
+use Rattle.tariff_compare.specs.Grids.{listed}
 use Rattle.tariff_compare.specs.Sides.{is_among}
 use Rattle.tariff_compare.specs.declared.day.Day.{Day}
 use Rattle.tariff_compare.specs.declared.meter_context.MeterContext.{MeterContext}
 use Rattle.tariff_compare.proofs.Bridge.{among}
 use Rattle.tariff_compare.proofs.Found.{IsOfGrid, IsOn}
-use Rattle.tariff_compare.proofs.Kept.{IsKept, IsLike, day_at_place, kept_like, kept_place, place_of_day}
+use Rattle.tariff_compare.proofs.GridDays.{IsOneOfDays, IsLike, day_at_place, kept_like, kept_place, place_of_day}
 use Rattle.tariff_compare.proofs.Levels.{IsAtOne}
-use Rattle.tariff_compare.proofs.MeterTimes.{days_within, minutes_within, tested_first, tested_last, time_test, time_tested, time_there}
+use Rattle.tariff_compare.proofs.MeterTimes.{days_within, minutes_within, tested_first, tested_last, time_test}
+use Rattle.tariff_compare.proofs.MeterTimes.{time_tested, time_there}
 use Rattle.tariff_compare.proofs.Numbers.{at_one, count_same, in_listed, range_within, reached}
 use Rattle.tariff_compare.proofs.Order.{AllLe}
 
@@ -104,19 +107,22 @@ no_edge n edge (inr e) none = λ same. absurd (differ (sym none ∙ by (eqb n 10
 
 -- ---- a context of the grid in the same cell
 
-at_day : (d : Day) (m : MeterContext) (ds : List Day) → m.day ≡ d.number → IsKept d ds → IsAtOne IsOn ds m
+at_day : (d : Day) (m : MeterContext) (ds : List Day) → m.day ≡ d.number → IsOneOfDays d ds → IsAtOne IsOn ds m
 at_day d m [] on h = absurd h
 at_day d m (x ∷ ds) on (inl e) = inl (on ∙ ap (λ (y : Day). y.number) e)
 at_day d m (x ∷ ds) on (inr h) = inr (at_day d m ds on h)
 
 -- it is a time of the meter
-tested : (one other : TableParts) (n : MeterContext) (d : Day) (w : ℕ) → is_meter_time n.day n.minute ≡ true → IsLike d (day_in one other n.day) → w ≤ n.minute → (600 ≤ n.minute → 600 ≤ w) → is_meter_time d.number w ≡ true
+tested : (one other : TableParts) (n : MeterContext) (d : Day) (w : ℕ) → is_meter_time n.day n.minute ≡ true
+    → IsLike d (day_in one other n.day) → w ≤ n.minute → (600 ≤ n.minute → 600 ≤ w) → is_meter_time d.number w ≡ true
 tested one other n d w is (inl same) le late =
     let number : d.number ≡ n.day = ap (λ (x : Day). x.number) same in
-    time_test d.number w (λ e. late (tested_first n.day n.minute is (sym number ∙ e))) (λ e. omega (arith, le, tested_last n.day n.minute is (sym number ∙ e)))
+    time_test d.number w (λ e. late (tested_first n.day n.minute is (sym number ∙ e)))
+    (λ e. omega (arith, le, tested_last n.day n.minute is (sym number ∙ e)))
 tested one other n d w is (inr alike) le late =
     let none = (alike_parts d (day_in one other n.day) alike).first in
-    time_test d.number w (λ e. absurd (no_edge d.number 10956 (inl refl) none e)) (λ e. absurd (no_edge d.number 84006 (inr refl) none e))
+    time_test d.number w (λ e. absurd (no_edge d.number 10956 (inl refl) none e))
+    (λ e. absurd (no_edge d.number 84006 (inr refl) none e))
 
 -- what a context of the grid has in common with another, for one tariff
 record SameParts (t : Tree) (k : ℕ) (n c : MeterContext) : Type 0 where
@@ -130,7 +136,8 @@ record SameParts (t : Tree) (k : ℕ) (n c : MeterContext) : Type 0 where
   pub distance : count_at_most n.pulses (lists_of t k).distances ≡ count_at_most c.pulses (lists_of t k).distances
   pub time : count_at_most n.ticks (lists_of t k).times ≡ count_at_most c.ticks (lists_of t k).times
 
-same_cell : (t : Tree) (k : ℕ) (n c : MeterContext) → HasTables t k → SameParts t k n c → IsSameCell (lists_of t k) (context_at t k n) (context_at t k c)
+same_cell : (t : Tree) (k : ℕ) (n c : MeterContext) → HasTables t k → SameParts t k n c
+    → IsSameCell (lists_of t k) (context_at t k n) (context_at t k c)
 same_cell t k n c has same = record {
   position = same.position;
   zone = same.zone;
@@ -152,7 +159,8 @@ pub record IsCover (t u : Tree) (k : ℕ) (n c : MeterContext) : Type 0 where
   pub first : IsSameCell (lists_of t k) (context_at t k n) (context_at t k c)
   pub second : IsSameCell (lists_of u k) (context_at u k n) (context_at u k c)
 
-pub cover : (t u : Tree) (k : ℕ) (n : MeterContext) → HasTables t k → HasTables u k → IsMeterContext t n → (c : MeterContext) × IsCover t u k n c
+pub cover : (t u : Tree) (k : ℕ) (n : MeterContext) → HasTables t k → HasTables u k → IsMeterContext t n
+    → (c : MeterContext) × IsCover t u k n c
 cover t u k n t_has u_has is =
     let one = tables_of t k in
     let other = tables_of u k in
@@ -170,21 +178,43 @@ cover t u k n t_has u_has is =
     let minute_list = listed 1439 (0 ∷ 600 ∷ []) one.cuts.minutes other.cuts.minutes in
     let tick_list = listed last_tick (0 ∷ []) one.cuts.times other.cuts.times in
     let pulse_list = listed most_pulses (0 ∷ []) one.cuts.distances other.cuts.distances in
-    let at_minute = reached n.minute 0 minute_list (in_listed 0 1439 (0 ∷ 600 ∷ []) one.cuts.minutes other.cuts.minutes (omega arith) (inl (inl (inl refl)))) (omega arith) in
-    let at_tick = reached n.ticks 0 tick_list (in_listed 0 last_tick (0 ∷ []) one.cuts.times other.cuts.times (omega arith) (inl (inl (inl refl)))) (omega arith) in
-    let at_pulse = reached n.pulses 0 pulse_list (in_listed 0 most_pulses (0 ∷ []) one.cuts.distances other.cuts.distances (omega arith) (inl (inl (inl refl)))) (omega arith) in
-    let late : 600 ≤ n.minute → 600 ≤ at_minute.0 = λ h. at_minute.1.greatest 600 (in_listed 600 1439 (0 ∷ 600 ∷ []) one.cuts.minutes other.cuts.minutes (omega arith) (inl (inl (inr (inl refl))))) h in
+    let at_minute = reached n.minute 0 minute_list (in_listed 0 1439 (0 ∷ 600 ∷ []) one.cuts.minutes other.cuts.minutes
+    (omega arith) (inl (inl (inl refl)))) (omega arith) in
+    let at_tick = reached n.ticks 0 tick_list (in_listed 0 last_tick (0 ∷ []) one.cuts.times other.cuts.times
+    (omega arith) (inl (inl (inl refl)))) (omega arith) in
+    let at_pulse = reached n.pulses 0 pulse_list (in_listed 0 most_pulses
+    (0 ∷ []) one.cuts.distances other.cuts.distances (omega arith) (inl (inl (inl refl)))) (omega arith) in
+    let late : 600 ≤ n.minute → 600 ≤ at_minute.0 = λ h. at_minute.1.greatest 600 (in_listed 600 1439
+    (0 ∷ 600 ∷ []) one.cuts.minutes other.cuts.minutes (omega arith) (inl (inl (inr (inl refl))))) h in
     let time = tested one other n d at_minute.0 (time_tested n.day n.minute is.time) like at_minute.1.le late in
-    let c : MeterContext = record { position = n.position; zone = n.zone; day = d.number; minute = at_minute.0; ticks = at_tick.0; pulses = at_pulse.0 } in (
+    let c : MeterContext = record {
+      position = n.position;
+      zone = n.zone;
+      day = d.number;
+      minute = at_minute.0;
+      ticks = at_tick.0;
+      pulses = at_pulse.0;
+    } in (
       c,
       record {
         grid = (
-          at_one (λ m. m.position) c (grid_of one other).positions (range_within 1 one.positions n.position is.position.0 (omega (arith, is.position.1))),
+          at_one (λ m. m.position) c (grid_of one other).positions
+              (range_within 1 one.positions n.position is.position.0 (omega (arith, is.position.1))),
           (
-            at_one (λ m. m.zone) c (grid_of one other).zones (range_within 1 one.zones n.zone is.zone.0 (omega (arith, is.zone.1))),
+            at_one (λ m. m.zone) c (grid_of one other).zones
+                (range_within 1 one.zones n.zone is.zone.0 (omega (arith, is.zone.1))),
             (
               at_day d c (days_until one other 73051) refl kept.1,
-              (at_one (λ m. m.minute) c minute_list at_minute.1.there, (time, (at_one (λ m. m.ticks) c tick_list at_tick.1.there, at_one (λ m. m.pulses) c pulse_list at_pulse.1.there))),
+              (
+                at_one (λ m. m.minute) c minute_list at_minute.1.there,
+                (
+                  time,
+                  (
+                    at_one (λ m. m.ticks) c tick_list at_tick.1.there,
+                    at_one (λ m. m.pulses) c pulse_list at_pulse.1.there,
+                  ),
+                ),
+              ),
             ),
           ),
         );
@@ -195,7 +225,16 @@ cover t u k n t_has u_has is =
           ticks = omega (arith, at_tick.1.le, is.ticks);
           pulses = omega (arith, at_pulse.1.le, is.pulses);
         };
-        le = (omega arith, (omega arith, (subst (λ (x : ℕ). day_place d.number ≤ day_place x) place.2 kept.2, (at_minute.1.le, (at_tick.1.le, (at_pulse.1.le, tt))))));
+        le = (
+          omega arith,
+          (
+            omega arith,
+            (
+              subst (λ (x : ℕ). day_place d.number ≤ day_place x) place.2 kept.2,
+              (at_minute.1.le, (at_tick.1.le, (at_pulse.1.le, tt))),
+            ),
+          ),
+        );
         ticks = at_tick.1.le;
         pulses = at_pulse.1.le;
         first = same_cell t k n c t_has (record {
@@ -204,9 +243,14 @@ cover t u k n t_has u_has is =
           weekday = sym same.weekday ∙ ap (λ (x : Day). x.weekday) is_d;
           holiday = sym same.holiday ∙ ap (λ (x : Day). x.holiday) is_d;
           month_day = sym same.band ∙ ap (λ (x : Day). x.band) is_d;
-          minute = count_same n.minute at_minute.0 one.cuts.minutes at_minute.1.le (λ x there le. at_minute.1.greatest x (in_listed x 1439 (0 ∷ 600 ∷ []) one.cuts.minutes other.cuts.minutes (omega (arith, le, minutes)) (inl (inr there))) le);
-          distance = count_same n.pulses at_pulse.0 one.cuts.distances at_pulse.1.le (λ x there le. at_pulse.1.greatest x (in_listed x most_pulses (0 ∷ []) one.cuts.distances other.cuts.distances (omega (arith, le, is.pulses)) (inl (inr there))) le);
-          time = count_same n.ticks at_tick.0 one.cuts.times at_tick.1.le (λ x there le. at_tick.1.greatest x (in_listed x last_tick (0 ∷ []) one.cuts.times other.cuts.times (omega (arith, le, is.ticks)) (inl (inr there))) le);
+          minute = count_same n.minute at_minute.0 one.cuts.minutes at_minute.1.le
+              (λ x there le. at_minute.1.greatest x (in_listed x 1439 (0 ∷ 600 ∷ []) one.cuts.minutes other.cuts.minutes
+              (omega (arith, le, minutes)) (inl (inr there))) le);
+          distance = count_same n.pulses at_pulse.0 one.cuts.distances at_pulse.1.le
+              (λ x there le. at_pulse.1.greatest x (in_listed x most_pulses
+              (0 ∷ []) one.cuts.distances other.cuts.distances (omega (arith, le, is.pulses)) (inl (inr there))) le);
+          time = count_same n.ticks at_tick.0 one.cuts.times at_tick.1.le (λ x there le. at_tick.1.greatest x (in_listed
+              x last_tick (0 ∷ []) one.cuts.times other.cuts.times (omega (arith, le, is.ticks)) (inl (inr there))) le);
         });
         second = same_cell u k n c u_has (record {
           position = refl;
@@ -214,9 +258,15 @@ cover t u k n t_has u_has is =
           weekday = sym same.weekday ∙ ap (λ (x : Day). x.weekday) is_d;
           holiday = sym same.other_holiday ∙ ap (λ (x : Day). x.other_holiday) is_d;
           month_day = sym same.other_band ∙ ap (λ (x : Day). x.other_band) is_d;
-          minute = count_same n.minute at_minute.0 other.cuts.minutes at_minute.1.le (λ x there le. at_minute.1.greatest x (in_listed x 1439 (0 ∷ 600 ∷ []) one.cuts.minutes other.cuts.minutes (omega (arith, le, minutes)) (inr there)) le);
-          distance = count_same n.pulses at_pulse.0 other.cuts.distances at_pulse.1.le (λ x there le. at_pulse.1.greatest x (in_listed x most_pulses (0 ∷ []) one.cuts.distances other.cuts.distances (omega (arith, le, is.pulses)) (inr there)) le);
-          time = count_same n.ticks at_tick.0 other.cuts.times at_tick.1.le (λ x there le. at_tick.1.greatest x (in_listed x last_tick (0 ∷ []) one.cuts.times other.cuts.times (omega (arith, le, is.ticks)) (inr there)) le);
+          minute = count_same n.minute at_minute.0 other.cuts.minutes at_minute.1.le
+              (λ x there le. at_minute.1.greatest x (in_listed x 1439 (0 ∷ 600 ∷ []) one.cuts.minutes other.cuts.minutes
+              (omega (arith, le, minutes)) (inr there)) le);
+          distance = count_same n.pulses at_pulse.0 other.cuts.distances at_pulse.1.le
+              (λ x there le. at_pulse.1.greatest x (in_listed x most_pulses
+              (0 ∷ []) one.cuts.distances other.cuts.distances (omega (arith, le, is.pulses)) (inr there)) le);
+          time = count_same n.ticks at_tick.0 other.cuts.times at_tick.1.le
+              (λ x there le. at_tick.1.greatest x (in_listed x last_tick (0 ∷ []) one.cuts.times other.cuts.times
+              (omega (arith, le, is.ticks)) (inr there)) le);
         });
       },
     )

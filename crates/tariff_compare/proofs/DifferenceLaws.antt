@@ -36,14 +36,17 @@ first_none None b h = (refl, h)
 first_none (Some d) b h = absurd (some_none h)
 
 compared : (t u : Tree) (k : ℕ) → HasTables t k → HasTables u k → frame_difference t u ≡ None → AreCompared t u k
-compared t u k t_has u_has none = record { first = t_has; second = u_has; positions = frame_positions t u none; zones = frame_zones t u none }
+compared t u k t_has u_has none =
+    record { first = t_has; second = u_has; positions = frame_positions t u none; zones = frame_zones t u none }
 
 -- where nothing was found, nothing differs
-no_part : (t u : Tree) (k : ℕ) (r : Option MeterContext) → AreCompared t u k → IsFirstOrNone t (λ m. is_met t u k Differs m ≡ true) r → part_in (side_of t k) (side_of u k) r ≡ None
+no_part : (t u : Tree) (k : ℕ) (r : Option MeterContext) → AreCompared t u k
+    → IsFirstOrNone t (λ m. is_met t u k Differs m ≡ true) r → part_in (side_of t k) (side_of u k) r ≡ None
     → (m : MeterContext) → IsMeterContext t m → difference_at t u k m ≡ None
 no_part t u k None are is none = λ m context. not_true (difference_at t u k m) (is m context)
 no_part t u k (Some n) are is none =
-    absurd (found (difference_by (side_of t k) (side_of u k) n) (ap is_some (difference_is t u k n are.first are.second is.context (other_context t u k n are is.context)) ∙ is.has) none)
+    absurd (found (difference_by (side_of t k) (side_of u k) n) (ap is_some
+    (difference_is t u k n are.first are.second is.context (other_context t u k n are is.context)) ∙ is.has) none)
   where
     found : (o : Option LineKind) → is_some o ≡ true → option_map (λ (kind : LineKind). In kind n) o ≡ None → ⊥
     found None some none = differ some
@@ -58,7 +61,8 @@ none_is_same t u k t_has u_has h =
       contexts = no_part t u k (first_met t u k Differs) are (first_is_first t u k Differs are) parts.1;
     }
 
-part_none : (t u : Tree) (k : ℕ) (r : Option MeterContext) → AreSame t u k → IsFirstOrNone t (λ m. is_met t u k Differs m ≡ true) r → part_in (side_of t k) (side_of u k) r ≡ None
+part_none : (t u : Tree) (k : ℕ) (r : Option MeterContext) → AreSame t u k
+    → IsFirstOrNone t (λ m. is_met t u k Differs m ≡ true) r → part_in (side_of t k) (side_of u k) r ≡ None
 part_none t u k None same is = refl
 part_none t u k (Some n) same is = absurd (differ (sym (ap is_some (same.contexts n is.context)) ∙ is.has))
 
@@ -72,12 +76,16 @@ same_is_none t u k t_has u_has same =
 in_parts : (a b : LineKind) (n m : MeterContext) → Some (In a n) ≡ Some (In b m) → (a ≡ b) × (n ≡ m)
 in_parts a b n m h = (cc, cc)
 
-part_first : (t u : Tree) (k : ℕ) (r : Option MeterContext) (kind : LineKind) (m : MeterContext) → AreCompared t u k → HasSameFrame t u → IsFirstOrNone t (λ n. is_met t u k Differs n ≡ true) r → part_in (side_of t k) (side_of u k) r ≡ Some (In kind m) → DiffersFirst t u k kind m
+part_first : (t u : Tree) (k : ℕ) (r : Option MeterContext) (kind : LineKind) (m : MeterContext) → AreCompared t u k
+    → HasSameFrame t u → IsFirstOrNone t (λ n. is_met t u k Differs n ≡ true) r
+    → part_in (side_of t k) (side_of u k) r ≡ Some (In kind m) → DiffersFirst t u k kind m
 part_first t u k None kind m are frame is h = absurd (none_some h)
 part_first t u k (Some n) kind m are frame is h =
-    by (difference_by (side_of t k) (side_of u k) n) (difference_is t u k n are.first are.second is.context (other_context t u k n are is.context)) h
+    by (difference_by (side_of t k) (side_of u k) n)
+    (difference_is t u k n are.first are.second is.context (other_context t u k n are is.context)) h
   where
-    by : (o : Option LineKind) → o ≡ difference_at t u k n → option_map (λ (kind : LineKind). In kind n) o ≡ Some (In kind m) → DiffersFirst t u k kind m
+    by : (o : Option LineKind) → o ≡ difference_at t u k n
+        → option_map (λ (kind : LineKind). In kind n) o ≡ Some (In kind m) → DiffersFirst t u k kind m
     by None same found = absurd (none_some found)
     by (Some own) same found =
         let parts = in_parts own kind n m found in
@@ -87,7 +95,8 @@ part_first t u k (Some n) kind m are frame is h =
           first = subst (IsFirst t (λ x. is_some (difference_at t u k x) ≡ true)) parts.1 is;
         }
 
-pub in_is_first : (t u : Tree) (k : ℕ) (kind : LineKind) (m : MeterContext) → HasTables t k → HasTables u k → HasSameFrame t u → difference_of t u k ≡ Some (In kind m) → DiffersFirst t u k kind m
+pub in_is_first : (t u : Tree) (k : ℕ) (kind : LineKind) (m : MeterContext) → HasTables t k → HasTables u k
+    → HasSameFrame t u → difference_of t u k ≡ Some (In kind m) → DiffersFirst t u k kind m
 in_is_first t u k kind m t_has u_has frame h =
     let none = same_frame t u frame in
     let are = compared t u k t_has u_has none in

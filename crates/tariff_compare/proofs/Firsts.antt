@@ -25,7 +25,8 @@ pub record AreCompared (t u : Tree) (k : ℕ) : Type 0 where
   pub zones : zones_of t.lines ≡ zones_of u.lines
 
 -- a context of one is one of the other
-pub other_context : (t u : Tree) (k : ℕ) (m : MeterContext) → AreCompared t u k → IsMeterContext t m → IsMeterContext u m
+pub other_context : (t u : Tree) (k : ℕ) (m : MeterContext) → AreCompared t u k → IsMeterContext t m
+    → IsMeterContext u m
 other_context t u k m are is = record {
   position = rw (← are.positions) is.position;
   zone = rw (← are.zones) is.zone;
@@ -35,11 +36,27 @@ other_context t u k m are is = record {
 }
 
 -- where the answer is yes, it is yes in the context of the grid that stands for it
-met_there : (t u : Tree) (k : ℕ) (question : Question) (n c : MeterContext) → AreCompared t u k → IsMeterContext t n → IsCover t u k n c → is_met t u k question n ≡ true → is_met_by (side_of t k) (side_of u k) question c ≡ true
+met_there : (t u : Tree) (k : ℕ) (question : Question) (n c : MeterContext) → AreCompared t u k → IsMeterContext t n
+    → IsCover t u k n c → is_met t u k question n ≡ true → is_met_by (side_of t k) (side_of u k) question c ≡ true
 met_there t u k question n c are is cover h =
-    let t_is : StandsFor t k n c = record { has = are.first; first = is; second = cover.context; same = cover.first; ticks = cover.ticks; pulses = cover.pulses } in
-    let u_is : StandsFor u k n c = record { has = are.second; first = other_context t u k n are is; second = other_context t u k c are cover.context; same = cover.second; ticks = cover.ticks; pulses = cover.pulses } in
-    met_is t u k question c are.first are.second cover.context (other_context t u k c are cover.context) ∙ met_carried t u k question n c t_is u_is h
+    let t_is : StandsFor t k n c = record {
+      has = are.first;
+      first = is;
+      second = cover.context;
+      same = cover.first;
+      ticks = cover.ticks;
+      pulses = cover.pulses;
+    } in
+    let u_is : StandsFor u k n c = record {
+      has = are.second;
+      first = other_context t u k n are is;
+      second = other_context t u k c are cover.context;
+      same = cover.second;
+      ticks = cover.ticks;
+      pulses = cover.pulses;
+    } in
+    met_is t u k question c are.first are.second cover.context (other_context t u k c are cover.context)
+    ∙ met_carried t u k question n c t_is u_is h
 
 not_both : (b : Bool) → b ≡ true → b ≡ false → ⊥
 not_both b is not = differ (sym not ∙ is)
@@ -47,7 +64,9 @@ not_both b is not = differ (sym not ∙ is)
     differ : false ≡ true → ⊥
     differ h = cc
 
-first_by_cases : (t u : Tree) (k : ℕ) (question : Question) (r : Option MeterContext) → AreCompared t u k → IsFirstOf (is_met_by (side_of t k) (side_of u k) question) (IsOfGrid (grid_of (tables_of t k) (tables_of u k))) r → IsFirstOrNone t (λ m. is_met t u k question m ≡ true) r
+first_by_cases : (t u : Tree) (k : ℕ) (question : Question) (r : Option MeterContext) → AreCompared t u k
+    → IsFirstOf (is_met_by (side_of t k) (side_of u k) question) (IsOfGrid (grid_of (tables_of t k) (tables_of u k))) r
+    → IsFirstOrNone t (λ m. is_met t u k question m ≡ true) r
 first_by_cases t u k question None are found = λ n is h.
     let c = cover t u k n are.first are.second is in
     not_both _ (met_there t u k question n c.0 are is c.1 h) (found c.0 c.1.grid)
@@ -58,11 +77,14 @@ first_by_cases t u k question (Some m) are found =
       has = sym (met_is t u k question m are.first are.second context (other_context t u k m are context)) ∙ found.1;
       none_earlier = λ n is earlier h.
           let c = cover t u k n are.first are.second is in
-          not_both _ (met_there t u k question n c.0 are is c.1 h) (found.2 c.0 c.1.grid (le_before (order_of c.0) (order_of n) (order_of m) c.1.le earlier));
+          not_both _ (met_there t u k question n c.0 are is c.1 h)
+          (found.2 c.0 c.1.grid (le_before (order_of c.0) (order_of n) (order_of m) c.1.le earlier));
     }
 
 -- the answer of the search is the first context of a meter in which the answer to the question is yes, or none
-pub first_is_first : (t u : Tree) (k : ℕ) (question : Question) → AreCompared t u k → IsFirstOrNone t (λ m. is_met t u k question m ≡ true) (first_met t u k question)
+pub first_is_first : (t u : Tree) (k : ℕ) (question : Question) → AreCompared t u k
+    → IsFirstOrNone t (λ m. is_met t u k question m ≡ true) (first_met t u k question)
 first_is_first t u k question are =
     first_by_cases t u k question (first_met t u k question) are
-    (grid_first (is_met_by (side_of t k) (side_of u k) question) (grid_of (tables_of t k) (tables_of u k)) (is_ordered (tables_of t k) (tables_of u k)))
+    (grid_first (is_met_by (side_of t k) (side_of u k) question) (grid_of (tables_of t k) (tables_of u k))
+    (is_ordered (tables_of t k) (tables_of u k)))

@@ -1,5 +1,6 @@
 -- The frame of two tariffs: nothing differs exactly where it is the same.
-use Rattle.std.proofs.Common.{◌≡◌, ◌∙◌, ◌⊎◌, ap, sym, refl, ℕ, Bool, true, false, not, eqb, if◌then◌else◌, List, [], ◌∷◌, find, Option, Some, None, option_map, inl, inr, arith}
+use Rattle.std.proofs.Common.{◌≡◌, ◌∙◌, ◌⊎◌, ap, sym, refl, ℕ, Bool, true, false, not, eqb, if◌then◌else◌, List, []}
+use Rattle.std.proofs.Common.{◌∷◌, find, Option, Some, None, option_map, inl, inr, arith}
 use Rattle.std.proofs.lemmas.Bool.{cases_lt, eq-eqb, eqb-true}
 use Rattle.drive_modes.specs.declared.meterage.Rounding.{Rounding}
 use Rattle.drive_modes.specs.declared.meterage.Rounding.TheVariants.{Behind, Ahead}
@@ -10,10 +11,12 @@ use Rattle.tariff_compile.specs.Tables.{supplement_at, supplement_in}
 use Rattle.tariff_compile.specs.declared.parts.Supplement as supplements
 use Rattle.tariff_syntax.specs.Tree.{Tree}
 use Rattle.tariff_syntax.specs.Writable.{IsFromTo, IsWritable}
-use Rattle.tariff_compare.specs.Differences.{frame_difference, is_same_rounding, is_same_supplement, other_supplement, supplement_numbers}
+use Rattle.tariff_compare.specs.Differences.{frame_difference, is_same_rounding, is_same_supplement, other_supplement}
+use Rattle.tariff_compare.specs.Differences.{supplement_numbers}
 use Rattle.tariff_compare.specs.Same.{HasSameFrame}
 use Rattle.tariff_compare.specs.declared.difference.Difference.{Difference}
-use Rattle.tariff_compare.specs.declared.difference.Difference.TheVariants.{Decimals, Step, Rounded, Positions, Zones, Supplement}
+use Rattle.tariff_compare.specs.declared.difference.Difference.TheVariants.{Decimals, Step, Rounded, Positions, Zones}
+use Rattle.tariff_compare.specs.declared.difference.Difference.TheVariants.{Supplement}
 use Rattle.tariff_compare.proofs.Numbers.{IsIn, range_within}
 
 differ : false ≡ true → ⊥
@@ -24,7 +27,8 @@ some_none h = cc
 
 -- ---- nothing differs in the frame
 
-passed : (d : Difference) (b : Bool) (rest : Option Difference) → (if not b then Some d else rest) ≡ None → (b ≡ true) × (rest ≡ None)
+passed : (d : Difference) (b : Bool) (rest : Option Difference) → (if not b then Some d else rest) ≡ None
+    → (b ≡ true) × (rest ≡ None)
 passed d true rest h = (refl, h)
 passed d false rest h = absurd (some_none h)
 
@@ -48,7 +52,8 @@ none_found : (p : ℕ → Bool) (xs : List ℕ) → find p xs ≡ None → (n : 
 none_found p [] h n there = absurd there
 none_found p (x ∷ xs) h n there = by (p x) refl h there (λ rest later. none_found p xs rest n later)
   where
-    by : (b : Bool) → p x ≡ b → (if b then Some x else find p xs) ≡ None → (n ≡ x) ⊎ IsIn n xs → (find p xs ≡ None → IsIn n xs → p n ≡ false) → p n ≡ false
+    by : (b : Bool) → p x ≡ b → (if b then Some x else find p xs) ≡ None → (n ≡ x) ⊎ IsIn n xs
+        → (find p xs ≡ None → IsIn n xs → p n ≡ false) → p n ≡ false
     by true is found there later = absurd (some_none found)
     by false is found (inl e) later = ap p e ∙ is
     by false is found (inr more) later = later found more
@@ -72,10 +77,12 @@ back (Some s) = refl
 same_values : (s r : supplements.Supplement) → s.amount ≡ r.amount → s.max ≡ r.max → numbers_of s ≡ numbers_of r
 unfolding numbers_of
 same_values s r amount most =
-    let first : record { amount = s.amount; most = s.max } ≡ record { amount = r.amount; most = s.max } = ap (λ (n : ℕ). record { amount = n; most = s.max }) amount in
+    let first : record { amount = s.amount; most = s.max } ≡ record { amount = r.amount; most = s.max } =
+    ap (λ (n : ℕ). record { amount = n; most = s.max }) amount in
     first ∙ ap (λ (n : ℕ). record { amount = r.amount; most = n }) most
 
-same_supplements : (a b : Option supplements.Supplement) → is_same_supplement a b ≡ true → option_map numbers_of a ≡ option_map numbers_of b
+same_supplements : (a b : Option supplements.Supplement) → is_same_supplement a b ≡ true
+    → option_map numbers_of a ≡ option_map numbers_of b
 same_supplements None None h = refl
 same_supplements None (Some r) h = absurd (differ h)
 same_supplements (Some s) None h = absurd (differ h)
@@ -86,18 +93,24 @@ same_supplements (Some s) (Some r) h =
 in_numbers : (n : ℕ) → IsFromTo 1 16 n → IsIn n supplement_numbers
 in_numbers n within = range_within 1 16 n within.0 (omega (arith, within.1))
 
-supplement_same : (t u : Tree) (number : ℕ) → IsWritable t → IsWritable u → other_supplement t u ≡ None → supplement_of t.lines number ≡ supplement_of u.lines number
+supplement_same : (t u : Tree) (number : ℕ) → IsWritable t → IsWritable u → other_supplement t u ≡ None
+    → supplement_of t.lines number ≡ supplement_of u.lines number
 supplement_same t u number t_is u_is none =
     elim (cases_lt 0 number) [
       | inl from ↦ elim (cases_lt number 17) [
         | inl to ↦
-            let same = not_false (is_same_supplement (supplement_at t number) (supplement_at u number)) (none_found (λ n. not (is_same_supplement (supplement_at t n) (supplement_at u n))) supplement_numbers none number (in_numbers number (omega arith, omega arith))) in
-            sym (back (supplement_of t.lines number)) ∙ (same_supplements (supplement_at t number) (supplement_at u number) same ∙ back (supplement_of u.lines number))
+            let same = not_false (is_same_supplement (supplement_at t number) (supplement_at u number))
+            (none_found (λ n. not (is_same_supplement (supplement_at t n) (supplement_at u n))) supplement_numbers none
+            number (in_numbers number (omega arith, omega arith))) in
+            sym (back (supplement_of t.lines number)) ∙ (same_supplements (supplement_at t number)
+            (supplement_at u number) same ∙ back (supplement_of u.lines number))
         | inr beyond ↦
-            supplements_are_numbered_to_16 t number t_is (λ within. omega (arith, within.1, beyond)) ∙ sym (supplements_are_numbered_to_16 u number u_is (λ within. omega (arith, within.1, beyond)))
+            supplements_are_numbered_to_16 t number t_is (λ within. omega (arith, within.1, beyond))
+            ∙ sym (supplements_are_numbered_to_16 u number u_is (λ within. omega (arith, within.1, beyond)))
       ]
       | inr below ↦
-          supplements_are_numbered_to_16 t number t_is (λ within. omega (arith, within.0, below)) ∙ sym (supplements_are_numbered_to_16 u number u_is (λ within. omega (arith, within.0, below)))
+          supplements_are_numbered_to_16 t number t_is (λ within. omega (arith, within.0, below))
+          ∙ sym (supplements_are_numbered_to_16 u number u_is (λ within. omega (arith, within.0, below)))
     ]
 
 -- the parts of a frame in which nothing differs
@@ -117,7 +130,8 @@ frame_parts t u h =
     let p₅ = passed Zones (eqb (zones_of t.lines) (zones_of u.lines)) _ p₄.1 in
     record {
       decimals = eqb-true t.decimals u.decimals p₁.0;
-      step = pair_same (display_step t) (display_step u) (eqb-true (display_step t).0 (display_step u).0 p₂.0) (same_roundings (display_step t).1 (display_step u).1 p₃.0);
+      step = pair_same (display_step t) (display_step u) (eqb-true (display_step t).0 (display_step u).0 p₂.0)
+          (same_roundings (display_step t).1 (display_step u).1 p₃.0);
       positions = eqb-true (positions_of t.lines) (positions_of u.lines) p₄.0;
       zones = eqb-true (zones_of t.lines) (zones_of u.lines) p₅.0;
       supplements = none_mapped (other_supplement t u) p₅.1;
@@ -155,16 +169,23 @@ none_other : (p : ℕ → Bool) (xs : List ℕ) → ((n : ℕ) → p n ≡ false
 none_other p [] all = refl
 none_other p (x ∷ xs) all = rw (all x) (none_other p xs all)
 
-passes : (d : Difference) (b : Bool) (rest : Option Difference) → b ≡ true → rest ≡ None → (if not b then Some d else rest) ≡ None
+passes : (d : Difference) (b : Bool) (rest : Option Difference) → b ≡ true → rest ≡ None
+    → (if not b then Some d else rest) ≡ None
 passes d b rest is none = rw is none
 
 pub same_frame : (t u : Tree) → HasSameFrame t u → frame_difference t u ≡ None
 same_frame t u same =
     let supplements : (n : ℕ) → not (is_same_supplement (supplement_at t n) (supplement_at u n)) ≡ false = λ n.
-    ap not (ap (λ (o : Option SupplementNumbers). is_same_supplement (supplement_at t n) (option_map supplement_in o)) (sym (same.supplements n)) ∙ supplement_self (supplement_at t n)) in
+    ap not (ap (λ (o : Option SupplementNumbers). is_same_supplement (supplement_at t n) (option_map supplement_in o))
+    (sym (same.supplements n)) ∙ supplement_self (supplement_at t n)) in
     passes Decimals (eqb t.decimals u.decimals) _ (eq-eqb t.decimals u.decimals same.decimals)
-    (passes Step (eqb (display_step t).0 (display_step u).0) _ (eq-eqb (display_step t).0 (display_step u).0 (ap (λ (s : ℕ × Rounding). s.0) same.step))
-    (passes Rounded (is_same_rounding (display_step t).1 (display_step u).1) _ (ap (λ (s : ℕ × Rounding). is_same_rounding (display_step t).1 s.1) (sym same.step) ∙ rounding_self (display_step t).1)
-    (passes Positions (eqb (positions_of t.lines) (positions_of u.lines)) _ (eq-eqb (positions_of t.lines) (positions_of u.lines) same.positions)
-    (passes Zones (eqb (zones_of t.lines) (zones_of u.lines)) _ (eq-eqb (zones_of t.lines) (zones_of u.lines) same.zones)
-    (ap (option_map Supplement) (none_other (λ n. not (is_same_supplement (supplement_at t n) (supplement_at u n))) supplement_numbers supplements))))))
+    (passes Step (eqb (display_step t).0 (display_step u).0) _
+    (eq-eqb (display_step t).0 (display_step u).0 (ap (λ (s : ℕ × Rounding). s.0) same.step))
+    (passes Rounded (is_same_rounding (display_step t).1 (display_step u).1) _ (ap
+    (λ (s : ℕ × Rounding). is_same_rounding (display_step t).1 s.1) (sym same.step) ∙ rounding_self (display_step t).1)
+    (passes Positions (eqb (positions_of t.lines) (positions_of u.lines)) _
+    (eq-eqb (positions_of t.lines) (positions_of u.lines) same.positions)
+    (passes Zones (eqb (zones_of t.lines) (zones_of u.lines)) _
+    (eq-eqb (zones_of t.lines) (zones_of u.lines) same.zones)
+    (ap (option_map Supplement) (none_other (λ n. not (is_same_supplement (supplement_at t n) (supplement_at u n)))
+    supplement_numbers supplements))))))

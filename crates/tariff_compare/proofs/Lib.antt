@@ -19,7 +19,7 @@ pub mod Found
 -- the grid of two tariffs: its numbers, its order and its contexts
 pub mod GridIs
 -- the days of the grid are in order, and each day is like one of them
-pub mod Kept
+pub mod GridDays
 -- the laws that the crates above may cite
 pub mod Laws
 -- the first answer of one search after another

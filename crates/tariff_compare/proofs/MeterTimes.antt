@@ -1,5 +1,6 @@
 -- The days and minutes that a meter has.
-use Rattle.std.proofs.Common.{◌≡◌, ◌≢◌, ◌∙◌, ap, sym, refl, ℕ, suc, ◌+◌, ◌-◌, ◌*◌, ◌/◌, ◌%◌, ◌<◌, ◌≤◌, true, ℤ, pos, negsuc, neg_ℤ, ◌+ℤ◌, inl, inr, arith}
+use Rattle.std.proofs.Common.{◌≡◌, ◌≢◌, ◌∙◌, ap, sym, refl, ℕ, suc, ◌+◌, ◌-◌, ◌*◌, ◌/◌, ◌%◌, ◌<◌, ◌≤◌, true, ℤ, pos}
+use Rattle.std.proofs.Common.{negsuc, neg_ℤ, ◌+ℤ◌, inl, inr, arith}
 use Rattle.std.proofs.lemmas.Bool.{cases_eq, eq-eqb, le-leb, leb-true, lt-ltb, ltb-true, ne_eqb}
 use Rattle.std.proofs.lemmas.Int.{ints}
 use Rattle.interval_clock.specs.LocalTime.{day_of, minute_of_day}
@@ -10,7 +11,8 @@ use Rattle.tariff_compare.specs.Contexts.{IsMeterTime}
 use Rattle.tariff_compare.specs.Grids.{is_meter_time}
 
 -- the local second of a second under an offset
-local_of : (second : ℕ) (offset : ℤ) → IsSecond second → IsOffset offset → (local : ℕ) × (pos second +ℤ offset ≡ pos local) × (second ≤ local + 50400) × (local ≤ second + 50400)
+local_of : (second : ℕ) (offset : ℤ) → IsSecond second → IsOffset offset
+    → (local : ℕ) × (pos second +ℤ offset ≡ pos local) × (second ≤ local + 50400) × (local ≤ second + 50400)
 local_of second (pos a) s o = (second + a, omega (arith, ints), omega arith, omega (arith, ints, o.1))
 local_of second (negsuc a) s o =
     let small : suc a ≤ 50400 = omega (arith, ints, o.0) in
@@ -44,7 +46,8 @@ local_time day minute time =
     )
 
 -- the test of a day and a minute
-pub time_test : (day minute : ℕ) → (day ≡ 10956 → 600 ≤ minute) → (day ≡ 84006 → minute < 840) → is_meter_time day minute ≡ true
+pub time_test : (day minute : ℕ) → (day ≡ 10956 → 600 ≤ minute) → (day ≡ 84006 → minute < 840)
+    → is_meter_time day minute ≡ true
 time_test day minute first last =
     elim (cases_eq day 10956) [
       | inl e ↦ rw (eq-eqb day 10956 e) (le-leb 600 minute (first e))
@@ -81,10 +84,12 @@ time_tested day minute time =
     let to = at.1.to in
     let day_there = at.1.whole in
     let minute_there = at.1.part in
-    time_test day minute (λ e. omega (arith, from, day_there, minute_there, e)) (λ e. omega (arith, to, day_there, minute_there, e))
+    time_test day minute (λ e. omega (arith, from, day_there, minute_there, e))
+    (λ e. omega (arith, to, day_there, minute_there, e))
 
 -- what meets it is a time of a meter
-time_from : (day minute second : ℕ) (offset : ℤ) → IsSecond second → IsOffset offset → minute ≤ 1439 → pos second +ℤ offset ≡ pos (day * 86400 + minute * 60) → IsMeterTime day minute
+time_from : (day minute second : ℕ) (offset : ℤ) → IsSecond second → IsOffset offset → minute ≤ 1439
+    → pos second +ℤ offset ≡ pos (day * 86400 + minute * 60) → IsMeterTime day minute
 time_from day minute second offset s o le is = record {
   second = second;
   offset = offset;
@@ -100,16 +105,21 @@ time_from day minute second offset s o le is = record {
     part : (day minute : ℕ) → minute ≤ 1439 → (day * 86400 + minute * 60) % 86400 / 60 ≡ minute
     part day minute le = omega arith
 
-pub time_there : (day minute : ℕ) → IsFromTo 10956 84006 day → minute ≤ 1439 → is_meter_time day minute ≡ true → IsMeterTime day minute
+pub time_there : (day minute : ℕ) → IsFromTo 10956 84006 day → minute ≤ 1439 → is_meter_time day minute ≡ true
+    → IsMeterTime day minute
 time_there day minute days le is =
     elim (cases_eq day 10956) [
       | inl e ↦
           let late = tested_first day minute is e in
-          time_from day minute 946684800 (neg_ℤ (pos (86400 - minute * 60))) (omega arith, omega arith) (omega (arith, ints, late), omega (arith, ints)) le (omega (arith, ints, e, le))
+          time_from day minute 946684800 (neg_ℤ (pos (86400 - minute * 60))) (omega arith, omega arith)
+          (omega (arith, ints, late), omega (arith, ints)) le (omega (arith, ints, e, le))
       | inr n ↦ elim (cases_eq day 84006) [
         | inl e ↦
             let early = tested_last day minute is e in
-            time_from day minute 7258118399 (pos (1 + minute * 60)) (omega arith, omega arith) (omega (arith, ints), omega (arith, ints, early)) le (omega (arith, ints, e))
-        | inr o ↦ time_from day minute (day * 86400 + minute * 60) (pos 0) (omega (arith, days.0, n), omega (arith, days.1, o, le)) (omega (arith, ints), omega (arith, ints)) le (omega (arith, ints))
+            time_from day minute 7258118399 (pos (1 + minute * 60)) (omega arith, omega arith)
+            (omega (arith, ints), omega (arith, ints, early)) le (omega (arith, ints, e))
+        | inr o ↦ time_from day minute (day * 86400 + minute * 60) (pos 0)
+            (omega (arith, days.0, n), omega (arith, days.1, o, le)) (omega (arith, ints), omega (arith, ints)) le
+            (omega (arith, ints))
       ]
     ]

@@ -1,5 +1,6 @@
 -- Numbers of the grid: which they are, that they rise, and the greatest that a value has reached.
-use Rattle.std.proofs.Common.{◌≡◌, ◌∙◌, ◌⊎◌, ap, sym, subst, refl, ℕ, zero, suc, ◌+◌, ◌<◌, ◌≤◌, Bool, true, false, cond, leb, List, [], ◌∷◌, ◌++◌, length, get_or, inl, inr, arith}
+use Rattle.std.proofs.Common.{◌≡◌, ◌∙◌, ◌⊎◌, ap, sym, subst, refl, ℕ, zero, suc, ◌+◌, ◌<◌, ◌≤◌, Bool, true, false, cond}
+use Rattle.std.proofs.Common.{leb, List, [], ◌∷◌, ◌++◌, length, get_or, inl, inr, arith}
 use Rattle.std.proofs.lemmas.Bool.{cases_lt, le-leb, leb-true, lt-leb}
 use Rattle.std.proofs.lemmas.List.Elements.{All-from_get_or, All-get_or}
 use Rattle.std.proofs.lemmas.List.Sums.{sum_by-cons}
@@ -59,7 +60,8 @@ up_to_le : (n most : ℕ) (xs : List ℕ) → IsIn n (up_to most xs) → n ≤ m
 up_to_le n most [] h = absurd h
 up_to_le n most (x ∷ xs) h = by (leb x most) refl h (λ there. up_to_le n most xs there)
   where
-    by : (b : Bool) → leb x most ≡ b → IsIn n (cond b (x ∷ up_to most xs) (up_to most xs)) → (IsIn n (up_to most xs) → n ≤ most) → n ≤ most
+    by : (b : Bool) → leb x most ≡ b → IsIn n (cond b (x ∷ up_to most xs) (up_to most xs))
+        → (IsIn n (up_to most xs) → n ≤ most) → n ≤ most
     by true is (inl e) later = omega (arith, e, leb-true x most is)
     by true is (inr there) later = later there
     by false is there later = later there
@@ -74,12 +76,14 @@ each_append ks (x ∷ a) b = each_append (insert_key nat_cmp ks x) a b
 abbrev pub all_of : (most : ℕ) (beginnings one other : List ℕ) → List ℕ
 all_of most beginnings one other = (up_to most beginnings ++ up_to most one) ++ up_to most other
 
-pub listed_is : (most : ℕ) (beginnings one other : List ℕ) → listed most beginnings one other ≡ with_each [] (all_of most beginnings one other)
+pub listed_is : (most : ℕ) (beginnings one other : List ℕ)
+    → listed most beginnings one other ≡ with_each [] (all_of most beginnings one other)
 listed_is most beginnings one other =
     ap (λ (ks : List ℕ). with_each ks (up_to most other)) (each_append [] (up_to most beginnings) (up_to most one))
     ∙ each_append [] (up_to most beginnings ++ up_to most one) (up_to most other)
 
-pub in_listed : (n most : ℕ) (beginnings one other : List ℕ) → n ≤ most → (IsIn n beginnings ⊎ IsIn n one) ⊎ IsIn n other → IsIn n (listed most beginnings one other)
+pub in_listed : (n most : ℕ) (beginnings one other : List ℕ) → n ≤ most
+    → (IsIn n beginnings ⊎ IsIn n one) ⊎ IsIn n other → IsIn n (listed most beginnings one other)
 in_listed n most beginnings one other le h =
     let numbers = all_of most beginnings one other in
     let there : IsIn n numbers = elim h [
@@ -92,11 +96,13 @@ in_listed n most beginnings one other le h =
     let c = ((cuts_are_in_order-numbers numbers).same n).0 (contained n numbers there) in
     subst (IsIn n) (sym (listed_is most beginnings one other)) (in_at n c.0 (with_each [] numbers) c.1 c.2)
 
-listed_le : (n most : ℕ) (beginnings one other : List ℕ) → Contains (with_each [] (all_of most beginnings one other)) n → n ≤ most
+listed_le : (n most : ℕ) (beginnings one other : List ℕ)
+    → Contains (with_each [] (all_of most beginnings one other)) n → n ≤ most
 listed_le n most beginnings one other c =
     let numbers = all_of most beginnings one other in
     let there = ((cuts_are_in_order-numbers numbers).same n).1 c in
-    elim (in_either n (up_to most beginnings ++ up_to most one) (up_to most other) (in_at n there.0 numbers there.1 there.2)) [
+    elim (in_either n (up_to most beginnings ++ up_to most one) (up_to most other)
+    (in_at n there.0 numbers there.1 there.2)) [
       | inl first ↦ elim (in_either n (up_to most beginnings) (up_to most one) first) [
         | inl b ↦ up_to_le n most beginnings b
         | inr o ↦ up_to_le n most one o
@@ -109,7 +115,8 @@ pub listed_most : (most : ℕ) (beginnings one other : List ℕ) → All (λ n. 
 listed_most most beginnings one other =
     let list = with_each [] (all_of most beginnings one other) in
     subst (All (λ n. n ≤ most)) (sym (listed_is most beginnings one other))
-    (All-from_get_or (λ n. n ≤ most) list 0 (λ i within. listed_le (get_or list i 0) most beginnings one other (i, within, same list i within)))
+    (All-from_get_or (λ n. n ≤ most) list 0
+    (λ i within. listed_le (get_or list i 0) most beginnings one other (i, within, same list i within)))
   where
     same : (xs : List ℕ) (i : ℕ) → i < length xs → get_or xs i (get_or xs i 0) ≡ get_or xs i 0
     same [] i h = absurd (omega arith)
@@ -123,12 +130,15 @@ below_all x (y ∷ ys) h = (h 0 (omega arith), below_all x ys (λ i within. h (s
 
 pub rises_of : (xs : List ℕ) → IsRising xs → Rises (λ a b. a < b) xs
 rises_of [] h = tt
-rises_of (x ∷ xs) h =
-    (below_all x xs (λ i within. h 0 (suc i) (omega arith) (omega arith)), rises_of xs (λ i j lt within. h (suc i) (suc j) (omega arith) (omega arith)))
+rises_of (x ∷ xs) h = (
+  below_all x xs (λ i within. h 0 (suc i) (omega arith) (omega arith)),
+  rises_of xs (λ i j lt within. h (suc i) (suc j) (omega arith) (omega arith)),
+)
 
 pub listed_rises : (most : ℕ) (beginnings one other : List ℕ) → Rises (λ a b. a < b) (listed most beginnings one other)
 listed_rises most beginnings one other =
-    subst (Rises (λ a b. a < b)) (sym (listed_is most beginnings one other)) (rises_of (with_each [] (all_of most beginnings one other)) ((cuts_are_in_order-numbers (all_of most beginnings one other)).rising))
+    subst (Rises (λ a b. a < b)) (sym (listed_is most beginnings one other)) (rises_of (with_each []
+    (all_of most beginnings one other)) ((cuts_are_in_order-numbers (all_of most beginnings one other)).rising))
 
 range_below : (x a n : ℕ) → x < a → IsBelowAll (λ a b. a < b) x (range_with_len a n)
 range_below x a zero lt = tt
@@ -157,10 +167,33 @@ pub record IsReached (v : ℕ) (xs : List ℕ) (w : ℕ) : Type 0 where
 reached_more : (v x : ℕ) (xs : List ℕ) (w : ℕ) → IsReached v xs w → (w : ℕ) × IsReached v (x ∷ xs) w
 reached_more v x xs w is =
     elim (cases_lt v x) [
-      | inl beyond ↦ (w, record { there = inr is.there; le = is.le; greatest = λ y there le. elim there [ inl e ↦ absurd (omega (arith, e, le)) | inr later ↦ is.greatest y later le ] })
+      | inl beyond ↦ (
+        w,
+        record {
+          there = inr is.there;
+          le = is.le;
+          greatest =
+              λ y there le. elim there [ inl e ↦ absurd (omega (arith, e, le)) | inr later ↦ is.greatest y later le ];
+        },
+      )
       | inr within ↦ elim (cases_lt w x) [
-        | inl above ↦ (x, record { there = inl refl; le = within; greatest = λ y there le. elim there [ inl e ↦ omega (arith, e) | inr later ↦ omega (arith, is.greatest y later le) ] })
-        | inr under ↦ (w, record { there = inr is.there; le = is.le; greatest = λ y there le. elim there [ inl e ↦ omega (arith, e) | inr later ↦ is.greatest y later le ] })
+        | inl above ↦ (
+          x,
+          record {
+            there = inl refl;
+            le = within;
+            greatest = λ y there le. elim there
+                [ inl e ↦ omega (arith, e) | inr later ↦ omega (arith, is.greatest y later le) ];
+          },
+        )
+        | inr under ↦ (
+          w,
+          record {
+            there = inr is.there;
+            le = is.le;
+            greatest = λ y there le. elim there [ inl e ↦ omega (arith, e) | inr later ↦ is.greatest y later le ];
+          },
+        )
       ]
     ]
 
@@ -170,14 +203,23 @@ none_or_reached v (x ∷ xs) =
     elim (none_or_reached v xs) [
       | inl none ↦ elim (cases_lt v x) [
         | inl beyond ↦ inl (λ y there. elim there [ inl e ↦ omega (arith, e) | inr later ↦ none y later ])
-        | inr within ↦ inr (x, record { there = inl refl; le = within; greatest = λ y there le. elim there [ inl e ↦ omega (arith, e) | inr later ↦ absurd (omega (arith, none y later)) ] })
+        | inr within ↦ inr (
+          x,
+          record {
+            there = inl refl;
+            le = within;
+            greatest = λ y there le. elim there
+                [ inl e ↦ omega (arith, e) | inr later ↦ absurd (omega (arith, none y later)) ];
+          },
+        )
       ]
       | inr some ↦ inr (reached_more v x xs some.0 some.1)
     ]
 
 -- there is one where some number is at most the value
 pub reached : (v first : ℕ) (xs : List ℕ) → IsIn first xs → first ≤ v → (w : ℕ) × IsReached v xs w
-reached v first xs there le = elim (none_or_reached v xs) [ inl none ↦ absurd (omega (arith, none first there)) | inr some ↦ some ]
+reached v first xs there le =
+    elim (none_or_reached v xs) [ inl none ↦ absurd (omega (arith, none first there)) | inr some ↦ some ]
 
 counted : (v x : ℕ) (xs : List ℕ) → x ≤ v → count_at_most v (x ∷ xs) ≡ suc (count_at_most v xs)
 counted v x xs le = sum_by-cons (λ cut. cond (leb cut v) 1 0) x xs ∙ (rw (le-leb x v le) (omega arith))
@@ -186,7 +228,8 @@ passed : (v x : ℕ) (xs : List ℕ) → v < x → count_at_most v (x ∷ xs) �
 passed v x xs lt = sum_by-cons (λ cut. cond (leb cut v) 1 0) x xs ∙ (rw (lt-leb x v lt) (omega arith))
 
 -- as many cuts are at most it as at most the value
-pub count_same : (v w : ℕ) (xs : List ℕ) → w ≤ v → ((x : ℕ) → IsIn x xs → x ≤ v → x ≤ w) → count_at_most v xs ≡ count_at_most w xs
+pub count_same : (v w : ℕ) (xs : List ℕ) → w ≤ v → ((x : ℕ) → IsIn x xs → x ≤ v → x ≤ w)
+    → count_at_most v xs ≡ count_at_most w xs
 count_same v w [] le upper = refl
 count_same v w (x ∷ xs) le upper =
     let rest = count_same v w xs le (λ y there. upper y (inr there)) in
@@ -196,13 +239,15 @@ count_same v w (x ∷ xs) le upper =
     ]
 
 -- a context whose number is among those of a list is at one of them
-pub at_one : (key : MeterContext → ℕ) (m : MeterContext) (xs : List ℕ) → IsIn (key m) xs → IsAtOne (λ n (c : MeterContext). key c ≡ n) xs m
+pub at_one : (key : MeterContext → ℕ) (m : MeterContext) (xs : List ℕ) → IsIn (key m) xs
+    → IsAtOne (λ n (c : MeterContext). key c ≡ n) xs m
 at_one key m [] h = absurd h
 at_one key m (x ∷ xs) (inl e) = inl e
 at_one key m (x ∷ xs) (inr h) = inr (at_one key m xs h)
 
 -- and what holds of all of the list holds of its number
-pub one_of : (P : ℕ → Type 0) (key : MeterContext → ℕ) (m : MeterContext) (xs : List ℕ) → IsAtOne (λ n (c : MeterContext). key c ≡ n) xs m → ((x : ℕ) → IsIn x xs → P x) → P (key m)
+pub one_of : (P : ℕ → Type 0) (key : MeterContext → ℕ) (m : MeterContext) (xs : List ℕ)
+    → IsAtOne (λ n (c : MeterContext). key c ≡ n) xs m → ((x : ℕ) → IsIn x xs → P x) → P (key m)
 one_of P key m [] h all = absurd h
 one_of P key m (x ∷ xs) (inl e) all = subst P (sym e) (all x (inl refl))
 one_of P key m (x ∷ xs) (inr h) all = one_of P key m xs h (λ y there. all y (inr there))

@@ -1,8 +1,10 @@
 -- Days and minutes of a meter.
-use Rattle.std.proofs.Common.{◌≡◌, ◌∙◌, sym, refl, ℕ, zero, suc, ◌+◌, ◌-◌, ◌%◌, ◌≤◌, Bool, true, false, get_or, Some, None, inl, inr, pos, arith}
+use Rattle.std.proofs.Common.{◌≡◌, ◌∙◌, sym, refl, ℕ, zero, suc, ◌+◌, ◌-◌, ◌%◌, ◌≤◌, Bool, true, false, get_or, Some}
+use Rattle.std.proofs.Common.{None, inl, inr, pos, arith}
 use Rattle.std.proofs.lemmas.Bool.{cases_lt}
 use Rattle.interval_clock.proofs.Laws.{IsDateOf-date_after}
-use Rattle.interval_clock.specs.Calendar.{date_after, date_place, days_of_month, is_leap_year, month_lengths, weekday_of}
+use Rattle.interval_clock.specs.Calendar.{date_after, date_place, days_of_month, is_leap_year, month_lengths}
+use Rattle.interval_clock.specs.Calendar.{weekday_of}
 use Rattle.taxi_units.proofs.Laws.{dates_have_places, places_have_dates}
 use Rattle.taxi_units.specs.Calendar.{IsLeapYearDate, date_of_place}
 
@@ -25,8 +27,10 @@ pub date_place_most : (n : ℕ) → date_place (date_after n).month (date_after 
 date_place_most n =
     let d = date_after n in
     let is = IsDateOf-date_after n in
-    let leap : IsLeapYearDate d.month d.date = (is.month_in, is.date_in.0, omega (arith, is.date_in.1, days_of_month_le d.year d.month)) in
-    let there : date_of_place (date_place d.month d.date) ≡ Some (d.month, d.date) = (dates_have_places d.month d.date (date_place d.month d.date)).1 (leap, refl) in
+    let leap : IsLeapYearDate d.month d.date =
+    (is.month_in, is.date_in.0, omega (arith, is.date_in.1, days_of_month_le d.year d.month)) in
+    let there : date_of_place (date_place d.month d.date) ≡ Some (d.month, d.date) =
+    (dates_have_places d.month d.date (date_place d.month d.date)).1 (leap, refl) in
     elim (cases_lt (date_place d.month d.date) 366) [
       | inl lt ↦ omega arith
       | inr ge ↦ absurd (both (sym there ∙ (places_have_dates (date_place d.month d.date)).1 ge))

@@ -30,14 +30,14 @@ part_text Zones = codes "ZONES"
 part_text (Supplement number) = codes "SUPPLEMENT " ++ decimal number
 part_text (In kind m) = part_word kind ++ context_text kind m
 
--- the test `says` is true if an entry is of the kind that differs, and for a supplement has its number
-abbrev pub says : Difference → Entry → Bool
-says Step (step amount rounding) = true
-says Rounded (step amount rounding) = true
-says Positions (positions number) = true
-says Zones (zones number) = true
-says (Supplement wanted) (supplement number amount most) = number == wanted
-says d entry = false
+-- the test `is_entry_of` is true if an entry is of the kind that differs, and for a supplement has its number
+abbrev pub is_entry_of : Difference → Entry → Bool
+is_entry_of Step (step amount rounding) = true
+is_entry_of Rounded (step amount rounding) = true
+is_entry_of Positions (positions number) = true
+is_entry_of Zones (zones number) = true
+is_entry_of (Supplement wanted) (supplement number amount most) = number == wanted
+is_entry_of d entry = false
 
 -- a condition that is asked holds in a context if there is none or it holds there; one that isn't asked doesn't
 abbrev pub is_asked_and_holds : Context → Option (Option Condition) → Bool
@@ -50,9 +50,9 @@ is_in_force kind x entry = is_asked_and_holds x (when_of kind entry)
 
 -- the line of a tariff that says what differs is the first that does, which in a context is the first of its kind that
 -- holds there
-abbrev pub line_saying : Tree → (k : ℕ) → Difference → Option Line
-line_saying t k (In kind m) = find (λ (l : Line). is_in_force kind (context_at t k m) l.entry) t.lines
-line_saying t k d = find (λ (l : Line). says d l.entry) t.lines
+abbrev pub line_of_difference : Tree → (k : ℕ) → Difference → Option Line
+line_of_difference t k (In kind m) = find (λ (l : Line). is_in_force kind (context_at t k m) l.entry) t.lines
+line_of_difference t k d = find (λ (l : Line). is_entry_of d l.entry) t.lines
 
 -- what holds where no line says it is written with the number 0: one position, one zone, or none of the kind
 abbrev pub default_text : Difference → List ℕ
@@ -68,7 +68,7 @@ line_text decimals default (Some l) = decimal l.line ++ (codes " " ++ entry_line
 -- a tariff's line of what differs; that of its decimals is written without a number, since a tree doesn't keep one
 abbrev pub side_text : Tree → (k : ℕ) → Difference → List ℕ
 side_text t k Decimals = number_line (codes "decimals ") t.decimals []
-side_text t k d = line_text t.decimals (default_text d) (line_saying t k d)
+side_text t k d = line_text t.decimals (default_text d) (line_of_difference t k d)
 
 -- the text of two tariffs is `SAME`, or what differs first and the line of each
 abbrev pub comparison_text : (t u : Tree) (k : ℕ) → Option Difference → List ℕ

@@ -4,7 +4,7 @@ ghost use Rattle.tariff_syntax.specs.Tree.{line_of, tree_of};
 ghost use Rattle.tariff_compare.specs.DifferenceTexts.{IsDatedDifference, IsDatedOrNone, comparison_text, default_text, line_text, part_text, part_word, side_text};
 
 use crate::difference::Difference;
-use crate::sayings::line_saying;
+use crate::difference_lines::line_of_difference;
 use crate::texts::{push_context, push_decimal};
 use drive_modes::Constant;
 use std::alloc::{AllocError, Global};
@@ -124,7 +124,7 @@ fn push_side(
             push_decimal(text, tariff.decimals as u64)?;
             text.extend_from_slice(b"\n")
         }
-        said => match line_saying(tariff, k, said) {
+        said => match line_of_difference(tariff, k, said) {
             Some(line) => push_line(alloc, text, tariff.decimals, line),
             None => push_default(text, said),
         },

@@ -11,7 +11,8 @@ use Rattle.tariff_compile.specs.Alike.{Agree, asks_alike}
 use Rattle.tariff_compile.specs.declared.alike.Alike.{Alike}
 
 -- what asks for a part in common has one answer
-pub one_answer : (alike : Alike) (c : Condition) (x y : Context) → asks_alike alike c ≡ true → Agree alike x y → holds c x ≡ holds c y
+pub one_answer : (alike : Alike) (c : Condition) (x y : Context) → asks_alike alike c ≡ true → Agree alike x y
+    → holds c x ≡ holds c y
 one_answer alike (tree.and left right) x y asked agree = cc
 one_answer alike (tree.or left right) x y asked agree = cc
 one_answer alike (tree.not inner) x y asked agree = cc
@@ -22,12 +23,14 @@ one_answer alike (tree.day from to) x y asked agree = ap (is_within from to) (ag
 one_answer alike (tree.date from_month from_date to_month to_date) x y asked agree =
     ap (λ (place : ℕ). is_on (from_month, from_date) (to_month, to_date) (date_of_place place)) (agree.month_day asked)
 one_answer alike tree.holiday x y asked agree = agree.holiday asked
-one_answer alike (tree.after_distance decimetres) x y asked agree = rw ((agree.distance asked).0, (agree.distance asked).1)
+one_answer alike (tree.after_distance decimetres) x y asked agree =
+    rw ((agree.distance asked).0, (agree.distance asked).1)
 one_answer alike (tree.after_time tenths) x y asked agree = ap (nat_le tenths) (agree.time asked)
 
 -- the same of the contexts before a place
 pub record AgreeBefore (alike : Alike) (xs : List Context) (n : ℕ) : Type 0 where
-  pub each : (first : Context) → slice_get xs 0 ≡ Some first → (place : ℕ) (x : Context) → slice_get xs place ≡ Some x → place < n → Agree alike first x
+  pub each : (first : Context) → slice_get xs 0 ≡ Some first → (place : ℕ) (x : Context) → slice_get xs place ≡ Some x
+      → place < n → Agree alike first x
 
 one_value : (x y : Context) → Some x ≡ Some y → x ≡ y
 one_value x y same = cc
@@ -42,7 +45,8 @@ agree_more old new xs n first x before first_at x_at added kept =
           let same_first : first ≡ other = one_value first other (sym first_at ∙ other_at) in
           subst (λ (f : Context). Agree new f y) same_first
           (elim (cases_eq place n) [
-            | inl same ↦ subst (λ (z : Context). Agree new first z) (one_value x y (sym x_at ∙ (ap (slice_get xs) (sym same) ∙ at))) added
+            | inl same ↦ subst (λ (z : Context). Agree new first z)
+                (one_value x y (sym x_at ∙ (ap (slice_get xs) (sym same) ∙ at))) added
             | inr apart ↦ kept y (before.each first first_at place y at (omega (arith, within, apart)))
           ]);
     }

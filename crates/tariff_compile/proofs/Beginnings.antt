@@ -6,7 +6,8 @@ use Rattle.tariff_calendar.specs.Lists.{IsNotFalling, count_at_most}
 use Rattle.tariff_compile.specs.Cells.{beginning}
 
 -- where the first n cuts are at most a value and no later one is, they are n
-count_at_most-at : (v n : ℕ) (xs : List ℕ) → IsNotFalling xs → n ≤ length xs → ((i : ℕ) → i < n → get_or xs i 0 ≤ v) → ((i : ℕ) → n ≤ i → i < length xs → v < get_or xs i 0) → count_at_most v xs ≡ n
+count_at_most-at : (v n : ℕ) (xs : List ℕ) → IsNotFalling xs → n ≤ length xs → ((i : ℕ) → i < n → get_or xs i 0 ≤ v)
+    → ((i : ℕ) → n ≤ i → i < length xs → v < get_or xs i 0) → count_at_most v xs ≡ n
 count_at_most-at v n xs ordered few below above =
     let count = count_at_most v xs in
     elim (cases_lt count n) [
@@ -25,7 +26,8 @@ count_at_most-at v n xs ordered few below above =
     ]
 
 -- a cut stands in its own band
-count_at_most-own : (v n : ℕ) (xs : List ℕ) → IsNotFalling xs → count_at_most v xs ≡ suc n → get_or xs n 0 ≤ v → count_at_most (get_or xs n 0) xs ≡ suc n
+count_at_most-own : (v n : ℕ) (xs : List ℕ) → IsNotFalling xs → count_at_most v xs ≡ suc n → get_or xs n 0 ≤ v
+    → count_at_most (get_or xs n 0) xs ≡ suc n
 count_at_most-own v n xs ordered is le =
     let few : suc n ≤ length xs = omega (arith, counts_are_places-few v xs) in
     count_at_most-at (get_or xs n 0) (suc n) xs ordered few
@@ -38,7 +40,8 @@ count_at_most-own v n xs ordered is le =
     let after : v < get_or xs i 0 = counts_are_places-after v xs i ordered (omega arith) within in
     omega arith)
 
-beginning-by : (v n : ℕ) (xs : List ℕ) → IsNotFalling xs → count_at_most v xs ≡ n → (beginning xs n ≤ v) × (count_at_most (beginning xs n) xs ≡ n)
+beginning-by : (v n : ℕ) (xs : List ℕ) → IsNotFalling xs → count_at_most v xs ≡ n
+    → (beginning xs n ≤ v) × (count_at_most (beginning xs n) xs ≡ n)
 beginning-by v zero xs ordered is = (
   omega arith,
   count_at_most-at 0 0 xs ordered (omega arith) (λ i lt. absurd (omega arith))
@@ -53,5 +56,6 @@ pub beginning-le : (v : ℕ) (xs : List ℕ) → IsNotFalling xs → beginning x
 beginning-le v xs ordered = (beginning-by v (count_at_most v xs) xs ordered refl).0
 
 -- and as many cuts are at most it
-pub count_at_most-beginning : (v : ℕ) (xs : List ℕ) → IsNotFalling xs → count_at_most (beginning xs (count_at_most v xs)) xs ≡ count_at_most v xs
+pub count_at_most-beginning : (v : ℕ) (xs : List ℕ) → IsNotFalling xs
+    → count_at_most (beginning xs (count_at_most v xs)) xs ≡ count_at_most v xs
 count_at_most-beginning v xs ordered = (beginning-by v (count_at_most v xs) xs ordered refl).1

@@ -1,5 +1,6 @@
 -- One bit of a word as a mark, through each operation.
-use Rattle.std.proofs.Common.{◌≡◌, ℕ, zero, suc, ◌-◌, ◌^◌, ◌<◌, min, max, Bool, true, false, not, ◌&&◌, ◌||◌, ◌==◌, refl, ap, ◌∙◌, w64, bit_and, bit_or, le_of_suc-le-suc, not-suc-le-zero}
+use Rattle.std.proofs.Common.{◌≡◌, ℕ, zero, suc, ◌-◌, ◌^◌, ◌<◌, min, max, Bool, true, false, not, ◌&&◌, ◌||◌, ◌==◌}
+use Rattle.std.proofs.Common.{refl, ap, ◌∙◌, w64, bit_and, bit_or, le_of_suc-le-suc, not-suc-le-zero}
 use Rattle.std.specs.Int.{bit_at}
 use Rattle.std.proofs.lemmas.Nat.Bits.{bit_at-lt, bit_at_and, bit_at_not, bit_at_or}
 
@@ -12,16 +13,20 @@ of_bit P none one (suc (suc x)) below = absurd (not-suc-le-zero (le_of_suc-le-su
 -- and what holds of each two of them holds of two bits at a place
 of_bits : (P : ℕ → ℕ → Type 0) → P 0 0 → P 0 1 → P 1 0 → P 1 1 → (a b i : ℕ) → P (bit_at a i) (bit_at b i)
 of_bits P none second first both a b i =
-    of_bit (λ x. P x (bit_at b i)) (of_bit (P 0) none second (bit_at b i) (bit_at-lt b i)) (of_bit (P 1) first both (bit_at b i) (bit_at-lt b i)) (bit_at a i) (bit_at-lt a i)
+    of_bit (λ x. P x (bit_at b i)) (of_bit (P 0) none second (bit_at b i) (bit_at-lt b i))
+    (of_bit (P 1) first both (bit_at b i) (bit_at-lt b i)) (bit_at a i) (bit_at-lt a i)
 
 pub bit_both : (a b i : ℕ) → (bit_at (bit_and a b) i == 1) ≡ ((bit_at a i == 1) && (bit_at b i == 1))
-bit_both a b i = ap (λ n. n == 1) (bit_at_and a b i) ∙ of_bits (λ x y. (min x y == 1) ≡ ((x == 1) && (y == 1))) refl refl refl refl a b i
+bit_both a b i = ap (λ n. n == 1) (bit_at_and a b i)
+    ∙ of_bits (λ x y. (min x y == 1) ≡ ((x == 1) && (y == 1))) refl refl refl refl a b i
 
 pub bit_either : (a b i : ℕ) → (bit_at (bit_or a b) i == 1) ≡ ((bit_at a i == 1) || (bit_at b i == 1))
-bit_either a b i = ap (λ n. n == 1) (bit_at_or a b i) ∙ of_bits (λ x y. (max x y == 1) ≡ ((x == 1) || (y == 1))) refl refl refl refl a b i
+bit_either a b i = ap (λ n. n == 1) (bit_at_or a b i)
+    ∙ of_bits (λ x y. (max x y == 1) ≡ ((x == 1) || (y == 1))) refl refl refl refl a b i
 
 pub bit_other : (a i : ℕ) → a < 2 ^ 64 → i < 64 → (bit_at (2 ^ 64 - 1 - a) i == 1) ≡ not (bit_at a i == 1)
-bit_other a i fits within = ap (λ n. n == 1) (bit_at_not w64 a i fits within) ∙ of_bit (λ x. ((1 - x) == 1) ≡ not (x == 1)) refl refl (bit_at a i) (bit_at-lt a i)
+bit_other a i fits within = ap (λ n. n == 1) (bit_at_not w64 a i fits within)
+    ∙ of_bit (λ x. ((1 - x) == 1) ≡ not (x == 1)) refl refl (bit_at a i) (bit_at-lt a i)
 
 pub or_true : (b : Bool) → true ≡ (b || true)
 or_true true = refl

@@ -1,5 +1,7 @@
 -- What compiled tables have: the ranges of their numbers, and what is looked up in them.
-use Rattle.std.proofs.Common.{◌≡◌, ◌∙◌, ap, sym, subst, add-one, ltb, ℕ, zero, suc, ◌+◌, ◌-◌, ◌*◌, ◌^◌, ◌<◌, ◌≤◌, ℤ, Bool, true, false, if◌then◌else◌, length, get_or, List, [], ◌∷◌, Option, Some, None, MatchOption, All, refl, arith}
+use Rattle.std.proofs.Common.{◌≡◌, ◌∙◌, ap, sym, subst, add-one, ltb, ℕ, zero, suc, ◌+◌, ◌-◌, ◌*◌, ◌^◌, ◌<◌, ◌≤◌, ℤ}
+use Rattle.std.proofs.Common.{Bool, true, false, if◌then◌else◌, length, get_or, List, [], ◌∷◌, Option, Some, None}
+use Rattle.std.proofs.Common.{MatchOption, All, refl, arith}
 use Rattle.std.proofs.Math.Nat.{mul-pos, mul_assoc}
 use Rattle.std.proofs.lemmas.Bool.{lt-ltb}
 use Rattle.std.proofs.lemmas.List.{get_or-map, get_or_default, length-map}
@@ -18,7 +20,8 @@ use Rattle.tariff_check.specs.Cells.{cells_of, day_kinds}
 use Rattle.tariff_check.specs.Cuts.{count_of, cuts_of}
 use Rattle.tariff_check.specs.Faults.{IsSound}
 use Rattle.tariff_check.specs.Measure.{measure_of}
-use Rattle.tariff_check.specs.Parts.{InitialNumbers, RateNumbers, has_holidays, initials_of, minimums_of, positions_of, rates_of, zones_of}
+use Rattle.tariff_check.specs.Parts.{InitialNumbers, RateNumbers, has_holidays, initials_of, minimums_of, positions_of}
+use Rattle.tariff_check.specs.Parts.{rates_of, zones_of}
 use Rattle.tariff_check.specs.Sound.{HasSoundParts, IsSoundInitial, IsSoundRate}
 use Rattle.tariff_check.specs.declared.fault.Dimension.TheVariants.{MonthDay, Minute, Distance, Time}
 use Rattle.tariff_syntax.specs.Meaning.{at_hiring, minimum_place}
@@ -27,14 +30,18 @@ use Rattle.tariff_syntax.specs.Writable.{IsFromTo, IsWritable}
 use Rattle.tariff_syntax.specs.declared.context.Context.{Context}
 use Rattle.taxi_units.specs.Counted.{IsElement}
 use Rattle.tariff_compile.specs.Cells.{IsBelow, IsNarrow, bands_at, bands_of, cell_count, cell_number, sizes_of}
-use Rattle.tariff_compile.specs.Tables.{AreFit, HasAmountsOf, HasWeightsOf, IsCompiled, IsFit, IsInRangeFor, IsTablesOf, TableParts, all_cells, all_initials, all_weights, context_of, fee_of, fees_in, initial_by, initial_with, lines_at, lines_in, place_number, rate_by, sizes_for, sizes_in, supplement_at, supplement_in, tables_of, weights_of}
+use Rattle.tariff_compile.specs.Tables.{AreFit, HasAmountsOf, HasWeightsOf, IsCompiled, IsFit, IsInRangeFor, IsTablesOf}
+use Rattle.tariff_compile.specs.Tables.{TableParts, all_cells, all_initials, all_weights, context_of, fee_of, fees_in}
+use Rattle.tariff_compile.specs.Tables.{initial_by, initial_with, lines_at, lines_in, place_number, rate_by, sizes_for}
+use Rattle.tariff_compile.specs.Tables.{sizes_in, supplement_at, supplement_in, tables_of, weights_of}
 use Rattle.tariff_compile.specs.declared.parts.Bands.{Bands}
 use Rattle.tariff_compile.specs.declared.parts.CellLines.{CellLines}
 use Rattle.tariff_compile.specs.declared.parts.Fee.{Fee}
 use Rattle.tariff_compile.specs.declared.parts.Supplement.{Supplement}
-use Rattle.tariff_check.proofs.Laws.{lines_that_hold_are_there-initial, lines_that_hold_are_there-minimum, lines_that_hold_are_there-rate, sound_tariffs_have_sound_parts-parts}
+use Rattle.tariff_check.proofs.Laws.{lines_that_hold_are_there-initial, lines_that_hold_are_there-minimum}
+use Rattle.tariff_check.proofs.Laws.{lines_that_hold_are_there-rate, sound_tariffs_have_sound_parts-parts}
 use Rattle.tariff_compile.proofs.Fits.{weights_of-fit}
-use Rattle.tariff_compile.proofs.Looked.{bands_at-below, cell_has_lines}
+use Rattle.tariff_compile.proofs.ContextLines.{bands_at-below, cell_has_lines}
 use Rattle.tariff_compile.proofs.Numbering.{bands_of-below, cell_number_below}
 use Rattle.tariff_check.proofs.Laws.{supplements_are_numbered_to_16}
 use Rattle.taxi_units.specs.Money.{largest_amount}
@@ -57,7 +64,8 @@ step_range tables (t, is) =
     rw (ap (λ (p : TableParts). p.step) is.parts, step.1) step.2
 
 pub positions_range : (tables : TableParts) → IsCompiled tables → IsFromTo 1 9 tables.positions
-positions_range tables (t, is) = rw (ap (λ (p : TableParts). p.positions) is.parts) (parts_of_tree t tables is).positions
+positions_range tables (t, is) =
+    rw (ap (λ (p : TableParts). p.positions) is.parts) (parts_of_tree t tables is).positions
 
 pub zones_range : (tables : TableParts) → IsCompiled tables → IsFromTo 1 9 tables.zones
 zones_range tables (t, is) = rw (ap (λ (p : TableParts). p.zones) is.parts) (parts_of_tree t tables is).zones
@@ -75,7 +83,8 @@ tables_fit tables (t, is) =
 
 together : (n a b c d : ℕ) → n * a * b * c * d ≡ n * (a * b * c * d)
 together n a b c d =
-    sym (sym (mul_assoc n (a * b * c) d) ∙ ap (λ m. m * d) (sym (mul_assoc n (a * b) c) ∙ ap (λ m. m * c) (sym (mul_assoc n a b))))
+    sym (sym (mul_assoc n (a * b * c) d)
+    ∙ ap (λ m. m * d) (sym (mul_assoc n (a * b) c) ∙ ap (λ m. m * c) (sym (mul_assoc n a b))))
 
 day_kinds-some : (holidays : Bool) → 0 < (if holidays then 2 else 1)
 day_kinds-some true = omega arith
@@ -84,22 +93,29 @@ day_kinds-some false = omega arith
 -- the cells are counted alike
 pub cell_count-cells_of : (t : Tree) (k : ℕ) → cell_count (sizes_in t k) ≡ cells_of t.lines
 cell_count-cells_of t k =
-    rw (length-map (cuts_of Distance t.lines) (pulses_for k)) (together (positions_of t.lines * zones_of t.lines * 7 * day_kinds t.lines) (count_of MonthDay t.lines + 1) (count_of Minute t.lines + 1) (count_of Distance t.lines + 1) (count_of Time t.lines + 1))
+    rw (length-map (cuts_of Distance t.lines) (pulses_for k))
+    (together (positions_of t.lines * zones_of t.lines * 7 * day_kinds t.lines) (count_of MonthDay t.lines + 1)
+    (count_of Minute t.lines + 1) (count_of Distance t.lines + 1) (count_of Time t.lines + 1))
 
 pub cell_count-most : (t : Tree) (k : ℕ) → IsWritable t → IsSound t → cell_count (sizes_in t k) ≤ 64512
-cell_count-most t k writable sound = rw (cell_count-cells_of t k) (sound_tariffs_have_sound_parts-parts t writable sound).cells.1
+cell_count-most t k writable sound =
+    rw (cell_count-cells_of t k) (sound_tariffs_have_sound_parts-parts t writable sound).cells.1
 
 pub length-all_cells : (t : Tree) (k : ℕ) → length (all_cells t k) ≡ cell_count (sizes_in t k)
-length-all_cells t k = length-map-range_with_len (λ (cell : ℕ). lines_at t (context_of t k cell)) 0 (cell_count (sizes_in t k))
+length-all_cells t k =
+    length-map-range_with_len (λ (cell : ℕ). lines_at t (context_of t k cell)) 0 (cell_count (sizes_in t k))
 
 -- a cell's bands are ones that the dimensions have
-pub bands_in-below : (t : Tree) (k cell : ℕ) → HasSoundParts t → cell < cells_of t.lines → IsBelow (sizes_in t k) (bands_of (sizes_in t k) cell)
+pub bands_in-below : (t : Tree) (k cell : ℕ) → HasSoundParts t → cell < cells_of t.lines
+    → IsBelow (sizes_in t k) (bands_of (sizes_in t k) cell)
 bands_in-below t k cell parts below =
-    bands_of-below (sizes_in t k) cell parts.zones.0 (omega arith) (day_kinds-some (has_holidays t.lines)) (omega arith) (omega arith) (omega arith) (omega arith)
+    bands_of-below (sizes_in t k) cell parts.zones.0 (omega arith) (day_kinds-some (has_holidays t.lines)) (omega arith)
+    (omega arith) (omega arith) (omega arith)
     (rw (cell_count-cells_of t k) below)
 
 -- and the positions, zones and weekdays are few
-pub bands_in-narrow : (t : Tree) (k cell : ℕ) → HasSoundParts t → cell < cells_of t.lines → IsNarrow (bands_of (sizes_in t k) cell)
+pub bands_in-narrow : (t : Tree) (k cell : ℕ) → HasSoundParts t → cell < cells_of t.lines
+    → IsNarrow (bands_of (sizes_in t k) cell)
 bands_in-narrow t k cell parts below =
     let is = bands_in-below t k cell parts below in
     record {
@@ -110,20 +126,26 @@ bands_in-narrow t k cell parts below =
 
 -- the sizes of the tables' dimensions are those of the tariff
 sizes_of_tree : (t : Tree) (k : ℕ) → sizes_for (tables_of t k) ≡ sizes_in t k
-sizes_of_tree t k = ap (λ (holidays : Bool). sizes_of (positions_of t.lines) (zones_of t.lines) (if holidays then 2 else 1) (lists_of t k)) (holidays_are_dates-some t k)
+sizes_of_tree t k = ap (λ (holidays : Bool). sizes_of (positions_of t.lines) (zones_of t.lines)
+    (if holidays then 2 else 1) (lists_of t k)) (holidays_are_dates-some t k)
 
 -- the sizes that a tree's positions, zones and cuts give are the tree's
-pub sizes_checked : (t : Tree) (k positions zones : ℕ) (cuts : CutLists) → positions ≡ positions_of t.lines → zones ≡ zones_of t.lines → cuts ≡ lists_of t k
+pub sizes_checked : (t : Tree) (k positions zones : ℕ) (cuts : CutLists) → positions ≡ positions_of t.lines
+    → zones ≡ zones_of t.lines → cuts ≡ lists_of t k
     → sizes_of positions zones (if has_days cuts then 2 else 1) cuts ≡ sizes_in t k
-sizes_checked t k positions zones cuts positions_are zones_are cuts_are = rw (positions_are, zones_are, cuts_are) (sizes_of_tree t k)
+sizes_checked t k positions zones cuts positions_are zones_are cuts_are =
+    rw (positions_are, zones_are, cuts_are) (sizes_of_tree t k)
 
-pub sizes_of_tables : (t : Tree) (tables : TableParts) → IsTablesOf t tables → sizes_for tables ≡ sizes_in t tables.constant
+pub sizes_of_tables : (t : Tree) (tables : TableParts) → IsTablesOf t tables
+    → sizes_for tables ≡ sizes_in t tables.constant
 sizes_of_tables t tables is = ap sizes_for is.parts ∙ sizes_of_tree t tables.constant
 
 -- a context that the tables' numbers allow is one that the tariff allows
-pub in_range_of : (t : Tree) (tables : TableParts) (x : Context) → IsTablesOf t tables → IsInRangeFor tables x → IsInRangeOf t tables.constant x
+pub in_range_of : (t : Tree) (tables : TableParts) (x : Context) → IsTablesOf t tables → IsInRangeFor tables x
+    → IsInRangeOf t tables.constant x
 in_range_of t tables x is x_in =
-    subst (λ (holidays : Bool). IsInRange tables.constant (positions_of t.lines) (zones_of t.lines) holidays x) (holidays_are_dates-some t tables.constant)
+    subst (λ (holidays : Bool). IsInRange tables.constant (positions_of t.lines) (zones_of t.lines) holidays x)
+    (holidays_are_dates-some t tables.constant)
     (subst (λ (p : TableParts). IsInRange tables.constant p.positions p.zones (has_days p.cuts) x) is.parts x_in)
 
 -- and so is it at the hiring
@@ -141,18 +163,24 @@ in_range-hiring tables x x_in = record {
 }
 
 -- its cell is there
-pub bands-below : (tables : TableParts) (x : Context) → IsInRangeFor tables x → IsBelow (sizes_for tables) (bands_at tables.cuts x)
-bands-below tables x x_in = bands_at-below tables.constant tables.positions tables.zones (has_days tables.cuts) tables.cuts x x_in
+pub bands-below : (tables : TableParts) (x : Context) → IsInRangeFor tables x
+    → IsBelow (sizes_for tables) (bands_at tables.cuts x)
+bands-below tables x x_in =
+    bands_at-below tables.constant tables.positions tables.zones (has_days tables.cuts) tables.cuts x x_in
 
 pub sizes_for-most : (tables : TableParts) → IsCompiled tables → cell_count (sizes_for tables) ≤ 64512
-sizes_for-most tables (t, is) = subst (λ (s : Bands). cell_count s ≤ 64512) (sym (sizes_of_tables t tables is)) (cell_count-most t tables.constant is.writable is.sound)
+sizes_for-most tables (t, is) = subst (λ (s : Bands). cell_count s ≤ 64512) (sym (sizes_of_tables t tables is))
+    (cell_count-most t tables.constant is.writable is.sound)
 
 pub length-cells : (tables : TableParts) → IsCompiled tables → length tables.cells ≡ cell_count (sizes_for tables)
 length-cells tables (t, is) =
-    ap (λ (p : TableParts). length p.cells) is.parts ∙ (length-all_cells t tables.constant ∙ ap cell_count (sym (sizes_of_tables t tables is)))
+    ap (λ (p : TableParts). length p.cells) is.parts
+    ∙ (length-all_cells t tables.constant ∙ ap cell_count (sym (sizes_of_tables t tables is)))
 
 -- with the lines that hold first
-pub lines-found : (t : Tree) (tables : TableParts) (x : Context) (lines : CellLines) → IsTablesOf t tables → IsInRangeFor tables x → IsElement tables.cells (cell_number (sizes_for tables) (bands_at tables.cuts x)) lines → lines ≡ lines_at t x
+pub lines-found : (t : Tree) (tables : TableParts) (x : Context) (lines : CellLines) → IsTablesOf t tables
+    → IsInRangeFor tables x → IsElement tables.cells (cell_number (sizes_for tables) (bands_at tables.cuts x)) lines
+    → lines ≡ lines_at t x
 lines-found t tables x lines is x_in found =
     let k = tables.constant in
     found lines
@@ -160,21 +188,26 @@ lines-found t tables x lines is x_in found =
     ∙ (ap (λ (s : Bands). get_or (all_cells t k) (cell_number s (bands_at (lists_of t k) x)) lines) (sizes_of_tree t k)
     ∙ cell_has_lines t k x lines is.writable is.sound (in_range_of t tables x is x_in)))
 
-pub lines-found_at : (t : Tree) (tables : TableParts) (x : Context) (bands : Bands) (lines : CellLines) → IsTablesOf t tables → IsInRangeFor tables x → bands ≡ bands_at tables.cuts x
+pub lines-found_at : (t : Tree) (tables : TableParts) (x : Context) (bands : Bands) (lines : CellLines)
+    → IsTablesOf t tables → IsInRangeFor tables x → bands ≡ bands_at tables.cuts x
     → IsElement tables.cells (cell_number (sizes_for tables) bands) lines → lines ≡ lines_at t x
 lines-found_at t tables x bands lines is x_in same found =
-    lines-found t tables x lines is x_in (subst (λ (b : Bands). IsElement tables.cells (cell_number (sizes_for tables) b) lines) same found)
+    lines-found t tables x lines is x_in
+    (subst (λ (b : Bands). IsElement tables.cells (cell_number (sizes_for tables) b) lines) same found)
 
 -- the lines that tables have for a context are those of the tree
-pub lines_in_is : (t : Tree) (tables : TableParts) (x : Context) → IsTablesOf t tables → IsInRangeFor tables x → lines_in tables x ≡ lines_at t x
+pub lines_in_is : (t : Tree) (tables : TableParts) (x : Context) → IsTablesOf t tables → IsInRangeFor tables x
+    → lines_in tables x ≡ lines_at t x
 lines_in_is t tables x is x_in =
     let cell = cell_number (sizes_for tables) (bands_at tables.cuts x) in
-    let below : cell < length tables.cells = rw (length-cells tables (t, is)) (cell_number_below (sizes_for tables) (bands_at tables.cuts x) (bands-below tables x x_in)) in
+    let below : cell < length tables.cells = rw (length-cells tables (t, is))
+    (cell_number_below (sizes_for tables) (bands_at tables.cuts x) (bands-below tables x x_in)) in
     lines-found t tables x (lines_in tables x) is x_in
     (λ other. get_or_default tables.cells cell (record { rate = 0; initial = 0; minimum = 0 }) other below)
 
 -- at the hiring no distance and no time is cut
-pub nothing_at_hiring : (tables : TableParts) → IsCompiled tables → (count_at_most 0 tables.cuts.distances ≡ 0) × (count_at_most 0 tables.cuts.times ≡ 0)
+pub nothing_at_hiring : (tables : TableParts) → IsCompiled tables
+    → (count_at_most 0 tables.cuts.distances ≡ 0) × (count_at_most 0 tables.cuts.times ≡ 0)
 nothing_at_hiring tables (t, is) =
     let none = lists_are_ordered-hiring t tables.constant is.writable is.sound (omega (arith, is.constant.0)) in (
       ap (λ (p : TableParts). count_at_most 0 p.cuts.distances) is.parts ∙ none.0,
@@ -191,14 +224,18 @@ length-all_weights : (t : Tree) (k : ℕ) → length (all_weights t k) ≡ lengt
 length-all_weights t k = length-map (rates_of t.lines) (weights_of k (measure_of t.lines))
 
 -- the rate of a context is there
-pub rate-below : (t : Tree) (tables : TableParts) (x : Context) → IsTablesOf t tables → (lines_at t x).rate < length tables.weights
+pub rate-below : (t : Tree) (tables : TableParts) (x : Context) → IsTablesOf t tables
+    → (lines_at t x).rate < length tables.weights
 rate-below t tables x is =
-    rw (ap (λ (p : TableParts). length p.weights) is.parts ∙ length-all_weights t tables.constant) (rate_place-below t x is.sound)
+    rw (ap (λ (p : TableParts). length p.weights) is.parts ∙ length-all_weights t tables.constant)
+    (rate_place-below t x is.sound)
 
 -- with the weights of the one that holds first
-pub rate-weights : (t : Tree) (tables : TableParts) (x : Context) (d : Weights) → IsTablesOf t tables → get_or tables.weights (lines_at t x).rate d ≡ rate_by t tables.constant x
+pub rate-weights : (t : Tree) (tables : TableParts) (x : Context) (d : Weights) → IsTablesOf t tables
+    → get_or tables.weights (lines_at t x).rate d ≡ rate_by t tables.constant x
 rate-weights t tables x d is =
-    get_or_default tables.weights (lines_at t x).rate d (record { per_pulse = 0; per_tick = 0 }) (rate-below t tables x is)
+    get_or_default tables.weights (lines_at t x).rate d (record { per_pulse = 0; per_tick = 0 })
+    (rate-below t tables x is)
     ∙ ap (λ (p : TableParts). get_or p.weights (lines_at t x).rate (record { per_pulse = 0; per_tick = 0 })) is.parts
 
 -- all weights are fit
@@ -207,22 +244,28 @@ weights-fit tables (t, is) =
     let parts = parts_of_tree t tables is in
     let k = tables.constant in
     let measure = measure_of t.lines in
-    let all : All (AreFit (k * measure)) (all_weights t k) = All-map (AreFit (k * measure)) (weights_of k measure) (rates_of t.lines)
-    (All-weaker IsSoundRate (λ r. AreFit (k * measure) (weights_of k measure r)) (λ r. weights_of-fit k measure r is.constant parts.measure.1) (rates_of t.lines) parts.rates) in
+    let all : All (AreFit (k * measure)) (all_weights t k) =
+    All-map (AreFit (k * measure)) (weights_of k measure) (rates_of t.lines)
+    (All-weaker IsSoundRate (λ r. AreFit (k * measure) (weights_of k measure r))
+    (λ r. weights_of-fit k measure r is.constant parts.measure.1) (rates_of t.lines) parts.rates) in
     subst (λ (p : TableParts). All (AreFit p.measure) p.weights) (sym is.parts) all
 
 length-all_initials : (t : Tree) → length (all_initials t) ≡ length (initials_of t.lines)
 length-all_initials t = length-map (initials_of t.lines) fee_of
 
 -- the initial hire fee of a context is there
-pub initial-below : (t : Tree) (tables : TableParts) (x : Context) → IsTablesOf t tables → (lines_at t x).initial < length tables.initials
+pub initial-below : (t : Tree) (tables : TableParts) (x : Context) → IsTablesOf t tables
+    → (lines_at t x).initial < length tables.initials
 initial-below t tables x is =
     rw (ap (λ (p : TableParts). length p.initials) is.parts ∙ length-all_initials t) (initial_place-below t x is.sound)
 
 -- and is the one that holds first
-pub initial-amounts : (t : Tree) (tables : TableParts) (x : Context) (d : Fee) → IsTablesOf t tables → get_or tables.initials (lines_at t x).initial d ≡ get_or (all_initials t) (lines_at t x).initial (record { amount = 0; covers = 0 })
+pub initial-amounts : (t : Tree) (tables : TableParts) (x : Context) (d : Fee) → IsTablesOf t tables
+    → get_or tables.initials (lines_at t x).initial d
+    ≡ get_or (all_initials t) (lines_at t x).initial (record { amount = 0; covers = 0 })
 initial-amounts t tables x d is =
-    get_or_default tables.initials (lines_at t x).initial d (record { amount = 0; covers = 0 }) (initial-below t tables x is)
+    get_or_default tables.initials (lines_at t x).initial d (record { amount = 0; covers = 0 })
+    (initial-below t tables x is)
     ∙ ap (λ (p : TableParts). get_or p.initials (lines_at t x).initial (record { amount = 0; covers = 0 })) is.parts
 
 -- how large an initial hire fee and its cover are
@@ -235,67 +278,85 @@ pub fees-fit : (tables : TableParts) → IsCompiled tables → All IsFitFee tabl
 fees-fit tables (t, is) =
     let parts = parts_of_tree t tables is in
     let all : All IsFitFee (all_initials t) = All-map IsFitFee fee_of (initials_of t.lines)
-    (All-weaker IsSoundInitial (λ i. IsFitFee (fee_of i)) (λ i sound. record { amount = sound.amount; covers = sound.covers }) (initials_of t.lines) parts.initials) in
+    (All-weaker IsSoundInitial (λ i. IsFitFee (fee_of i))
+    (λ i sound. record { amount = sound.amount; covers = sound.covers }) (initials_of t.lines) parts.initials) in
     subst (λ (p : TableParts). All IsFitFee p.initials) (sym is.parts) all
 
 -- and so are all minimum fares
 pub minimums-fit : (tables : TableParts) → IsCompiled tables → All (λ amount. amount ≤ largest_amount) tables.minimums
 minimums-fit tables (t, is) =
-    subst (λ (p : TableParts). All (λ amount. amount ≤ largest_amount) p.minimums) (sym is.parts) (parts_of_tree t tables is).minimums
+    subst (λ (p : TableParts). All (λ amount. amount ≤ largest_amount) p.minimums) (sym is.parts)
+    (parts_of_tree t tables is).minimums
 
-pub number_few : (minimums : List ℕ) (o : Option ℕ) → ((place : ℕ) → o ≡ Some place → place < length minimums) → place_number o ≤ length minimums
+pub number_few : (minimums : List ℕ) (o : Option ℕ) → ((place : ℕ) → o ≡ Some place → place < length minimums)
+    → place_number o ≤ length minimums
 number_few minimums None there = omega arith
 number_few minimums (Some place) there = omega (arith, there place refl)
 
 -- the minimum fare of a context is there, if it has one
-pub minimum-few : (t : Tree) (tables : TableParts) (x : Context) → IsTablesOf t tables → (lines_at t x).minimum ≤ length tables.minimums
+pub minimum-few : (t : Tree) (tables : TableParts) (x : Context) → IsTablesOf t tables
+    → (lines_at t x).minimum ≤ length tables.minimums
 minimum-few t tables x is =
-    rw (ap (λ (p : TableParts). length p.minimums) is.parts) (number_few (minimums_of t.lines) (minimum_place t x) (lines_that_hold_are_there-minimum t x))
+    rw (ap (λ (p : TableParts). length p.minimums) is.parts)
+    (number_few (minimums_of t.lines) (minimum_place t x) (lines_that_hold_are_there-minimum t x))
 
 -- and is the one that holds first
-pub minimum-amount : (t : Tree) (tables : TableParts) (x : Context) → IsTablesOf t tables → get_or (0 ∷ tables.minimums) (lines_at t x).minimum 0 ≡ get_or (0 ∷ minimums_of t.lines) (place_number (minimum_place t x)) 0
+pub minimum-amount : (t : Tree) (tables : TableParts) (x : Context) → IsTablesOf t tables → get_or (0 ∷ tables.minimums)
+    (lines_at t x).minimum 0 ≡ get_or (0 ∷ minimums_of t.lines) (place_number (minimum_place t x)) 0
 minimum-amount t tables x is = ap (λ (p : TableParts). get_or (0 ∷ p.minimums) (lines_at t x).minimum 0) is.parts
 
 -- the fees that tables have for a context are those of the tree
-pub fees_in_is : (t : Tree) (tables : TableParts) (x : Context) → IsTablesOf t tables → IsInRangeFor tables x → fees_in tables x ≡ initial_by t x
+pub fees_in_is : (t : Tree) (tables : TableParts) (x : Context) → IsTablesOf t tables → IsInRangeFor tables x
+    → fees_in tables x ≡ initial_by t x
 fees_in_is t tables x is x_in =
     let none : Fee = record { amount = 0; covers = 0 } in
-    ap (λ (lines : CellLines). initial_with (get_or tables.initials lines.initial none) (get_or (0 ∷ tables.minimums) lines.minimum 0)) (lines_in_is t tables x is x_in)
-    ∙ (ap (λ (f : Fee). initial_with f (get_or (0 ∷ tables.minimums) (lines_at t x).minimum 0)) (initial-amounts t tables x none is)
+    ap (λ (lines : CellLines). initial_with (get_or tables.initials lines.initial none)
+    (get_or (0 ∷ tables.minimums) lines.minimum 0)) (lines_in_is t tables x is x_in)
+    ∙ (ap (λ (f : Fee). initial_with f (get_or (0 ∷ tables.minimums) (lines_at t x).minimum 0))
+    (initial-amounts t tables x none is)
     ∙ ap (initial_with _) (minimum-amount t tables x is))
 
-pub all_fit : (amounts : List ℕ) (n : ℕ) → All (λ amount. amount ≤ largest_amount) amounts → get_or amounts n 0 ≤ largest_amount
+pub all_fit : (amounts : List ℕ) (n : ℕ) → All (λ amount. amount ≤ largest_amount) amounts
+    → get_or amounts n 0 ≤ largest_amount
 all_fit [] n all = omega arith
 all_fit (m ∷ ms) zero all = All-head (λ amount. amount ≤ largest_amount) m ms all
 all_fit (m ∷ ms) (suc n) all = all_fit ms n (All-tail (λ amount. amount ≤ largest_amount) m ms all)
 
 -- an amount of the minimum fares, or 0, is fit
-pub minimum-fit : (minimums : List ℕ) (number : ℕ) → All (λ amount. amount ≤ largest_amount) minimums → get_or (0 ∷ minimums) number 0 ≤ largest_amount
+pub minimum-fit : (minimums : List ℕ) (number : ℕ) → All (λ amount. amount ≤ largest_amount) minimums
+    → get_or (0 ∷ minimums) number 0 ≤ largest_amount
 minimum-fit minimums zero all = omega arith
 minimum-fit minimums (suc n) all = all_fit minimums n all
 
 -- a supplement is at the place before its number
-pub supplement-there : (t : Tree) (tables : TableParts) (number : ℕ) (d : Option Supplement) → IsTablesOf t tables → IsFromTo 1 16 number → get_or tables.supplements (number - 1) d ≡ supplement_at t number
+pub supplement-there : (t : Tree) (tables : TableParts) (number : ℕ) (d : Option Supplement) → IsTablesOf t tables
+    → IsFromTo 1 16 number → get_or tables.supplements (number - 1) d ≡ supplement_at t number
 supplement-there t tables number d is range =
     ap (λ (p : TableParts). get_or p.supplements (number - 1) d) is.parts
-    ∙ (get_or-map-range_with_len (λ (place : ℕ). supplement_at t (place + 1)) 0 16 (number - 1) (number - 1) d (omega (arith, range.0, range.1)) (omega arith)
+    ∙ (get_or-map-range_with_len (λ (place : ℕ). supplement_at t (place + 1)) 0 16 (number - 1) (number - 1) d
+    (omega (arith, range.0, range.1)) (omega arith)
     ∙ ap (supplement_at t) (omega (arith, range.0)))
 
 -- and no other number has one
-pub supplement-none : (t : Tree) (tables : TableParts) (number : ℕ) → IsTablesOf t tables → (IsFromTo 1 16 number → ⊥) → None ≡ supplement_at t number
-supplement-none t tables number is out = sym (ap (option_map supplement_in) (supplements_are_numbered_to_16 t number is.writable out))
+pub supplement-none : (t : Tree) (tables : TableParts) (number : ℕ) → IsTablesOf t tables → (IsFromTo 1 16 number → ⊥)
+    → None ≡ supplement_at t number
+supplement-none t tables number is out =
+    sym (ap (option_map supplement_in) (supplements_are_numbered_to_16 t number is.writable out))
 
 -- a day is a holiday where its date is in a holiday line
-pub holiday-dates : (t : Tree) (tables : TableParts) (day : ℤ) (year month date : ℕ) → IsTablesOf t tables → IsDateOf day year month date → has_day tables.cuts.holidays day ≡ is_holiday t.lines year month date
+pub holiday-dates : (t : Tree) (tables : TableParts) (day : ℤ) (year month date : ℕ) → IsTablesOf t tables
+    → IsDateOf day year month date → has_day tables.cuts.holidays day ≡ is_holiday t.lines year month date
 holiday-dates t tables day year month date is of =
-    ap (λ (p : TableParts). has_day p.cuts.holidays day) is.parts ∙ holidays_are_dates-dates t tables.constant day year month date is.writable is.sound of
+    ap (λ (p : TableParts). has_day p.cuts.holidays day) is.parts
+    ∙ holidays_are_dates-dates t tables.constant day year month date is.writable is.sound of
 
 some_day : (days : List ℕ) (day : ℤ) → has_day days day ≡ true → ltb 0 (length days) ≡ true
 some_day [] day is = cc
 some_day (d ∷ ds) day is = lt-ltb 0 (length (d ∷ ds)) (omega arith)
 
 -- a day is a holiday only where there is one
-pub holiday-some : (tables : TableParts) (day : ℤ) → has_day tables.cuts.holidays day ≡ true → has_days tables.cuts ≡ true
+pub holiday-some : (tables : TableParts) (day : ℤ) → has_day tables.cuts.holidays day ≡ true
+    → has_days tables.cuts ≡ true
 holiday-some tables day holiday = some_day tables.cuts.holidays day holiday
 
 -- what is looked up is what the lines that hold first say
@@ -308,11 +369,13 @@ has_weights t k x sound =
       rate = get_or (rates_of t.lines) always.0 none;
       first = always.1;
       there = slice_get-get_or (rates_of t.lines) always.0 none always.2;
-      weights = rw always.1 (get_or-map (weights_of k (measure_of t.lines)) (rates_of t.lines) always.0 none _ always.2);
+      weights =
+          rw always.1 (get_or-map (weights_of k (measure_of t.lines)) (rates_of t.lines) always.0 none _ always.2);
     }
 
 minimum_said : (minimums : List ℕ) (o : Option ℕ) → ((place : ℕ) → o ≡ Some place → place < length minimums)
-    → MatchOption o (get_or (0 ∷ minimums) (place_number o) 0 ≡ 0) (λ n. slice_get minimums n ≡ Some (get_or (0 ∷ minimums) (place_number o) 0))
+    → MatchOption o (get_or (0 ∷ minimums) (place_number o) 0 ≡ 0)
+    (λ n. slice_get minimums n ≡ Some (get_or (0 ∷ minimums) (place_number o) 0))
 minimum_said minimums None there = refl
 minimum_said minimums (Some place) there = rw add-one (slice_get-get_or minimums place 0 (there place refl))
 
@@ -325,7 +388,9 @@ has_amounts t x sound =
       fee = get_or (initials_of t.lines) always.0 none;
       first = always.1;
       there = slice_get-get_or (initials_of t.lines) always.0 none always.2;
-      amount = rw always.1 (ap (λ (f : Fee). f.amount) (get_or-map fee_of (initials_of t.lines) always.0 none (record { amount = 0; covers = 0 }) always.2));
-      covers = rw always.1 (ap (λ (f : Fee). f.covers) (get_or-map fee_of (initials_of t.lines) always.0 none (record { amount = 0; covers = 0 }) always.2));
+      amount = rw always.1 (ap (λ (f : Fee). f.amount)
+          (get_or-map fee_of (initials_of t.lines) always.0 none (record { amount = 0; covers = 0 }) always.2));
+      covers = rw always.1 (ap (λ (f : Fee). f.covers)
+          (get_or-map fee_of (initials_of t.lines) always.0 none (record { amount = 0; covers = 0 }) always.2));
       minimum = minimum_said (minimums_of t.lines) (minimum_place t x) (lines_that_hold_are_there-minimum t x);
     }

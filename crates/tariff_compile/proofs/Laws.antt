@@ -6,12 +6,16 @@ use Rattle.tariff_check.specs.Cells.{cells_of}
 use Rattle.tariff_check.specs.Faults.{IsSound}
 use Rattle.tariff_compile.specs.Cells.{IsBefore, IsBelow, bands_of, cell_count, cell_number, places_of}
 use Rattle.tariff_compile.specs.Rows.{all_rows, row_count, row_text}
-use Rattle.tariff_compile.specs.Tables.{HasAmountsOf, HasLinesOf, HasWeightsOf, IsCompiled, IsFit, IsInRangeFor, IsTablesOf, TableParts, cell_of, fees_in, initial_by, lines_at, lines_in, rate_by, tables_of}
+use Rattle.tariff_compile.specs.Tables.{HasAmountsOf, HasLinesOf, HasWeightsOf, IsCompiled, IsFit, IsInRangeFor}
+use Rattle.tariff_compile.specs.Tables.{IsTablesOf, TableParts, cell_of, fees_in, initial_by, lines_at, lines_in}
+use Rattle.tariff_compile.specs.Tables.{rate_by, tables_of}
 use Rattle.tariff_compile.specs.declared.parts.Bands.{Bands}
 use Rattle.tariff_compile.specs.declared.parts.CellLines.{CellLines}
-use Rattle.tariff_compile.proofs.Compiled.{cell_count-cells_of, fees_in_is, has_amounts, has_weights, length-all_cells, lines_in_is, tables_fit}
-use Rattle.tariff_compile.proofs.Looked.{cell_names_lines}
-use Rattle.tariff_compile.proofs.Numbering.{bands_of-cell_number, bands_of-place, cell_number-bands_of, cell_number-order, cell_number_below}
+use Rattle.tariff_compile.proofs.Compiled.{cell_count-cells_of, fees_in_is, has_amounts, has_weights, length-all_cells}
+use Rattle.tariff_compile.proofs.Compiled.{lines_in_is, tables_fit}
+use Rattle.tariff_compile.proofs.ContextLines.{cell_names_lines}
+use Rattle.tariff_compile.proofs.Numbering.{bands_of-cell_number, bands_of-place, cell_number-bands_of}
+use Rattle.tariff_compile.proofs.Numbering.{cell_number-order, cell_number_below}
 use Rattle.tariff_compile.proofs.RowOrder.{length-all_rows, row_text-at}
 use Rattle.tariff_syntax.specs.Tree.{Tree}
 use Rattle.tariff_syntax.specs.Writable.{IsWritable}
@@ -27,22 +31,29 @@ tables_equal_the_tree-weights = has_weights
 pub tables_equal_the_tree-amounts : (t : Tree) (x : Context) → IsSound t → HasAmountsOf t x (initial_by t x)
 tables_equal_the_tree-amounts = has_amounts
 
-pub tables_equal_the_tree-lines : (t : Tree) (tables : TableParts) (x : Context) → IsTablesOf t tables → IsInRangeFor tables x → lines_in tables x ≡ lines_at t x
+pub tables_equal_the_tree-lines : (t : Tree) (tables : TableParts) (x : Context) → IsTablesOf t tables
+    → IsInRangeFor tables x → lines_in tables x ≡ lines_at t x
 tables_equal_the_tree-lines = lines_in_is
 
-pub tables_equal_the_tree-fees : (t : Tree) (tables : TableParts) (x : Context) → IsTablesOf t tables → IsInRangeFor tables x → fees_in tables x ≡ initial_by t x
+pub tables_equal_the_tree-fees : (t : Tree) (tables : TableParts) (x : Context) → IsTablesOf t tables
+    → IsInRangeFor tables x → fees_in tables x ≡ initial_by t x
 tables_equal_the_tree-fees = fees_in_is
 
 pub cells_are_numbered_in_order-count : (t : Tree) (k : ℕ) → length (tables_of t k).cells ≡ cells_of t.lines
 cells_are_numbered_in_order-count t k = length-all_cells t k ∙ cell_count-cells_of t k
 
-pub cells_are_numbered_in_order-number : (sizes bands : Bands) → IsBelow sizes bands → (cell_number sizes bands < cell_count sizes) × (bands_of sizes (cell_number sizes bands) ≡ bands)
-cells_are_numbered_in_order-number sizes bands below = (cell_number_below sizes bands below, bands_of-cell_number sizes bands below)
+pub cells_are_numbered_in_order-number : (sizes bands : Bands) → IsBelow sizes bands
+    → (cell_number sizes bands < cell_count sizes) × (bands_of sizes (cell_number sizes bands) ≡ bands)
+cells_are_numbered_in_order-number sizes bands below =
+    (cell_number_below sizes bands below, bands_of-cell_number sizes bands below)
 
-pub cells_are_numbered_in_order-place : (sizes : Bands) (cell : ℕ) → cell < cell_count sizes → IsBelow sizes (bands_of sizes cell) × (cell_number sizes (bands_of sizes cell) ≡ cell)
-cells_are_numbered_in_order-place sizes cell within = (bands_of-place sizes cell within, cell_number-bands_of sizes cell)
+pub cells_are_numbered_in_order-place : (sizes : Bands) (cell : ℕ) → cell < cell_count sizes
+    → IsBelow sizes (bands_of sizes cell) × (cell_number sizes (bands_of sizes cell) ≡ cell)
+cells_are_numbered_in_order-place sizes cell within =
+    (bands_of-place sizes cell within, cell_number-bands_of sizes cell)
 
-pub cells_are_numbered_in_order-order : (sizes bands later : Bands) → IsBelow sizes bands → IsBelow sizes later → IsBefore (places_of bands) (places_of later) → cell_number sizes bands < cell_number sizes later
+pub cells_are_numbered_in_order-order : (sizes bands later : Bands) → IsBelow sizes bands → IsBelow sizes later
+    → IsBefore (places_of bands) (places_of later) → cell_number sizes bands < cell_number sizes later
 cells_are_numbered_in_order-order sizes bands later below also before = cell_number-order sizes bands later below before
 
 pub tables_are_fit : (tables : TableParts) → IsCompiled tables → IsFit tables
@@ -51,5 +62,6 @@ tables_are_fit = tables_fit
 pub rows_are_in_order-count : (tables : TableParts) → length (all_rows tables) ≡ row_count tables
 rows_are_in_order-count = length-all_rows
 
-pub rows_are_in_order-row : (tables : TableParts) (i : ℕ) → i < row_count tables → slice_get (all_rows tables) i ≡ Some (row_text tables i)
+pub rows_are_in_order-row : (tables : TableParts) (i : ℕ) → i < row_count tables
+    → slice_get (all_rows tables) i ≡ Some (row_text tables i)
 rows_are_in_order-row = row_text-at

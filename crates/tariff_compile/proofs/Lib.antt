@@ -13,7 +13,7 @@ mod Fits
 -- the laws that the crates above may cite
 pub mod Laws
 -- what is looked up for a context: the lines that its cell has are those that the tree names
-mod Looked
+mod ContextLines
 -- the cuts of days and of minutes are low enough for a context
 mod LowCuts
 -- how marks are made: one context after another, and the first mark that a place has

@@ -1,5 +1,6 @@
 -- The cuts of days and of minutes are low enough for a context.
-use Rattle.std.proofs.Common.{ℕ, ◌+◌, ◌-◌, ◌^◌, ◌<◌, ◌≤◌, Bool, true, false, ◌||◌, ◌==◌, if◌then◌else◌, List, [], ◌∷◌, All, arith}
+use Rattle.std.proofs.Common.{ℕ, ◌+◌, ◌-◌, ◌^◌, ◌<◌, ◌≤◌, Bool, true, false, ◌||◌, ◌==◌, if◌then◌else◌, List, [], ◌∷◌}
+use Rattle.std.proofs.Common.{All, arith}
 use Rattle.std.proofs.lemmas.List.Elements.{All-append, All-cons, All-head, All-nil, All-tail, All-weaker}
 use Rattle.std.proofs.lemmas.List.Sums.{sum_by-take-le}
 use Rattle.std.proofs.lemmas.Map.Views.{All-insert_key}
@@ -44,7 +45,8 @@ day_cuts (tree.date from_month from_date to_month to_date) good =
 day_cuts atom good = All-nil IsLow
 
 minute_cuts : (atom : Condition) → IsGoodAtom atom → All IsLow (atom_cuts Minute atom)
-minute_cuts (tree.time from to) good = All-append IsLow (minute_cut from) (minute_cut to) (low_minute from good.0.0) (low_minute to good.0.1)
+minute_cuts (tree.time from to) good =
+    All-append IsLow (minute_cut from) (minute_cut to) (low_minute from good.0.0) (low_minute to good.0.1)
 minute_cuts atom good = All-nil IsLow
 
 all_made : {X : Type 0} (f : X → List ℕ) (xs : List X) → All (λ x. All IsLow (f x)) xs → All IsLow (flat_map f xs)
@@ -57,14 +59,18 @@ all_made {X = X} f (x ∷ xs) all =
 low_each : (xs ns : List ℕ) → All IsLow xs → All IsLow ns → All IsLow (with_each xs ns)
 low_each xs [] all more = all
 low_each xs (n ∷ ns) all more =
-    low_each (insert_key nat_cmp xs n) ns (All-insert_key nat_cmp n IsLow xs all (All-head IsLow n ns more)) (All-tail IsLow n ns more)
+    low_each (insert_key nat_cmp xs n) ns (All-insert_key nat_cmp n IsLow xs all (All-head IsLow n ns more))
+    (All-tail IsLow n ns more)
 
-low_cuts_of : (dimension : Dimension) (t : Tree) → ((atom : Condition) → IsGoodAtom atom → All IsLow (atom_cuts dimension atom)) → HasSoundParts t → All IsLow (cuts_of dimension t.lines)
+low_cuts_of : (dimension : Dimension) (t : Tree) → ((atom : Condition) → IsGoodAtom atom
+    → All IsLow (atom_cuts dimension atom)) → HasSoundParts t → All IsLow (cuts_of dimension t.lines)
 low_cuts_of dimension t of_atom parts =
     low_each [] (all_cuts dimension t.lines) (All-nil IsLow)
     (all_made (λ (l : Line). flat_map (atom_cuts dimension) (atoms_in l.entry)) t.lines
-    (All-weaker (λ (l : Line). All IsGoodAtom (atoms_in l.entry)) (λ (l : Line). All IsLow (flat_map (atom_cuts dimension) (atoms_in l.entry)))
-    (λ l good. all_made (atom_cuts dimension) (atoms_in l.entry) (All-weaker IsGoodAtom (λ atom. All IsLow (atom_cuts dimension atom)) of_atom (atoms_in l.entry) good))
+    (All-weaker (λ (l : Line). All IsGoodAtom (atoms_in l.entry))
+    (λ (l : Line). All IsLow (flat_map (atom_cuts dimension) (atoms_in l.entry)))
+    (λ l good. all_made (atom_cuts dimension) (atoms_in l.entry)
+    (All-weaker IsGoodAtom (λ atom. All IsLow (atom_cuts dimension atom)) of_atom (atoms_in l.entry) good))
     t.lines parts.atoms))
 
 -- the cuts of a sound tariff

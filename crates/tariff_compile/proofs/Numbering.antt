@@ -1,6 +1,7 @@
 -- The numbers of cells: the bands of a cell give its number back, and a number its bands.
 use Rattle.std.proofs.Common.{◌≡◌, ◌∙◌, ◌⊎◌, inl, inr, ap, refl, ℕ, zero, suc, ◌+◌, ◌*◌, ◌/◌, ◌%◌, ◌<◌, ◌≤◌, arith}
-use Rattle.std.proofs.Math.Nat.{div-add-mod, le-mul_of_pos_right, mul-le-mul_right, mul-zero, mul_comm, suc-mul, zero-mul}
+use Rattle.std.proofs.Math.Nat.{div-add-mod, le-mul_of_pos_right, mul-le-mul_right, mul-zero, mul_comm, suc-mul}
+use Rattle.std.proofs.Math.Nat.{zero-mul}
 use Rattle.std.proofs.lemmas.Nat.{div-mul-add, mod-mul-add, mul-add-lt, div_below, mod_below}
 use Rattle.tariff_compile.specs.Cells.{IsBefore, IsBelow, cell_count, cell_number, bands_of, places_of}
 use Rattle.tariff_compile.specs.declared.parts.Bands.{Bands}
@@ -12,8 +13,10 @@ digit_below n count size digit h d = rw (mul_comm count size) (mul-add-lt n size
 -- a cell's number is below how many there are
 pub cell_number_below : (s b : Bands) → IsBelow s b → cell_number s b < cell_count s
 cell_number_below s b h =
-    digit_below _ _ s.time b.time (digit_below _ _ s.distance b.distance (digit_below _ _ s.minute b.minute (digit_below _ _ s.month_day b.month_day
-    (digit_below _ _ s.holiday b.holiday (digit_below _ _ s.weekday b.weekday (digit_below b.position s.position s.zone b.zone h.position h.zone)
+    digit_below _ _ s.time b.time
+    (digit_below _ _ s.distance b.distance (digit_below _ _ s.minute b.minute (digit_below _ _ s.month_day b.month_day
+    (digit_below _ _ s.holiday b.holiday
+    (digit_below _ _ s.weekday b.weekday (digit_below b.position s.position s.zone b.zone h.position h.zone)
     h.weekday) h.holiday) h.month_day) h.minute) h.distance) h.time
 
 -- the bands of a cell's number are the cell's
@@ -47,10 +50,13 @@ pub digit_gone : (n count size : ℕ) → 0 < size → n < count * size → n / 
 digit_gone n count size some h = div_below n size count some h
 
 -- the bands of a cell are ones that the dimensions have
-pub bands_of-below : (s : Bands) (n : ℕ) → 0 < s.zone → 0 < s.weekday → 0 < s.holiday → 0 < s.month_day → 0 < s.minute → 0 < s.distance → 0 < s.time
+pub bands_of-below : (s : Bands) (n : ℕ) → 0 < s.zone → 0 < s.weekday → 0 < s.holiday → 0 < s.month_day → 0 < s.minute
+    → 0 < s.distance → 0 < s.time
     → n < cell_count s → IsBelow s (bands_of s n)
 bands_of-below s n zone weekday holiday month_day minute distance time h = record {
-  position = digit_gone _ _ s.zone zone (digit_gone _ _ s.weekday weekday (digit_gone _ _ s.holiday holiday (digit_gone _ _ s.month_day month_day (digit_gone _ _ s.minute minute (digit_gone _ _ s.distance distance (digit_gone n _ s.time time h))))));
+  position = digit_gone _ _ s.zone zone
+      (digit_gone _ _ s.weekday weekday (digit_gone _ _ s.holiday holiday (digit_gone _ _ s.month_day month_day
+      (digit_gone _ _ s.minute minute (digit_gone _ _ s.distance distance (digit_gone n _ s.time time h))))));
   zone = mod_below _ s.zone zone;
   weekday = mod_below _ s.weekday weekday;
   holiday = mod_below _ s.holiday holiday;
@@ -107,7 +113,8 @@ digit_order n m size d e lt below =
     let up : suc n * size ≤ m * size = mul-le-mul_right size lt in
     omega (arith, suc-mul n size)
 
-next_order : (n m size d e : ℕ) (rest : Type 0) → d < size → (n < m) ⊎ ((n ≡ m) × ((d < e) ⊎ ((d ≡ e) × rest))) → (n * size + d < m * size + e) ⊎ ((n * size + d ≡ m * size + e) × rest)
+next_order : (n m size d e : ℕ) (rest : Type 0) → d < size → (n < m) ⊎ ((n ≡ m) × ((d < e) ⊎ ((d ≡ e) × rest)))
+    → (n * size + d < m * size + e) ⊎ ((n * size + d ≡ m * size + e) × rest)
 next_order n m size d e rest below (inl lt) = inl (digit_order n m size d e lt below)
 next_order n m size d e rest below (inr (same, inl lt)) = inl (rw same (omega arith))
 next_order n m size d e rest below (inr (same, inr (also, more))) = inr (rw (same, also) refl, more)
@@ -117,7 +124,8 @@ is_lower n m (inl lt) = lt
 is_lower n m (inr (same, none)) = absurd none
 
 -- an earlier place has a lower number
-pub cell_number-order : (s b c : Bands) → IsBelow s b → IsBefore (places_of b) (places_of c) → cell_number s b < cell_number s c
+pub cell_number-order : (s b c : Bands) → IsBelow s b → IsBefore (places_of b) (places_of c)
+    → cell_number s b < cell_number s c
 cell_number-order s b c h before =
     let zones = next_order b.position c.position s.zone b.zone c.zone _ h.zone before in
     let weekdays = next_order _ _ s.weekday b.weekday c.weekday _ h.weekday zones in
@@ -132,9 +140,12 @@ pub record FitsOnTheWay (s b : Bands) (bound : ℕ) : Type 0 where
   pub zones : b.position * s.zone + b.zone < bound
   pub weekdays : (b.position * s.zone + b.zone) * s.weekday + b.weekday < bound
   pub holidays : ((b.position * s.zone + b.zone) * s.weekday + b.weekday) * s.holiday + b.holiday < bound
-  pub month_days : (((b.position * s.zone + b.zone) * s.weekday + b.weekday) * s.holiday + b.holiday) * s.month_day + b.month_day < bound
-  pub minutes : ((((b.position * s.zone + b.zone) * s.weekday + b.weekday) * s.holiday + b.holiday) * s.month_day + b.month_day) * s.minute + b.minute < bound
-  pub distances : (((((b.position * s.zone + b.zone) * s.weekday + b.weekday) * s.holiday + b.holiday) * s.month_day + b.month_day) * s.minute + b.minute) * s.distance + b.distance < bound
+  pub month_days : (((b.position * s.zone + b.zone) * s.weekday + b.weekday) * s.holiday + b.holiday) * s.month_day
+      + b.month_day < bound
+  pub minutes : ((((b.position * s.zone + b.zone) * s.weekday + b.weekday) * s.holiday + b.holiday) * s.month_day
+      + b.month_day) * s.minute + b.minute < bound
+  pub distances : (((((b.position * s.zone + b.zone) * s.weekday + b.weekday) * s.holiday + b.holiday) * s.month_day
+      + b.month_day) * s.minute + b.minute) * s.distance + b.distance < bound
   pub cells : cell_number s b < bound
 
 step_up : (n size digit bound : ℕ) → digit < size → n * size + digit < bound → n < bound

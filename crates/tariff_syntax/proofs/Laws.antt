@@ -16,26 +16,31 @@ use Rattle.tariff_syntax.proofs.NumberLaws.{numbers_rise}
 use Rattle.tariff_syntax.proofs.ParenthesesLaws.{parentheses_stay}
 use Rattle.tariff_syntax.proofs.PlaceLaws.{first_place_is}
 use Rattle.tariff_syntax.proofs.Ranges.{numbers_of_text}
-use Rattle.tariff_syntax.proofs.ReadsLaws.{reads_exactly, first_bad_exactly, reads_or_bad, reads_not_bad, reads_one, bad_one}
+use Rattle.tariff_syntax.proofs.ReadsLaws.{reads_exactly, first_bad_exactly, reads_or_bad, reads_not_bad, reads_one}
+use Rattle.tariff_syntax.proofs.ReadsLaws.{bad_one}
 use Rattle.tariff_syntax.proofs.ShownLines.{printed_reads_back}
 use Rattle.tariff_syntax.proofs.TextLaws.{lines_are}
 
-pub texts_read_as_one_tariff-either : (text : List ℕ) → ((t : Tree) × Reads text t) ⊎ ((line : ℕ) × IsFirstBadLine text line)
+pub texts_read_as_one_tariff-either : (text : List ℕ)
+    → ((t : Tree) × Reads text t) ⊎ ((line : ℕ) × IsFirstBadLine text line)
 texts_read_as_one_tariff-either = reads_or_bad
 
-pub texts_read_as_one_tariff-not_both : (text : List ℕ) (t : Tree) (line : ℕ) → Reads text t → IsFirstBadLine text line → ⊥
+pub texts_read_as_one_tariff-not_both : (text : List ℕ) (t : Tree) (line : ℕ) → Reads text t
+    → IsFirstBadLine text line → ⊥
 texts_read_as_one_tariff-not_both = reads_not_bad
 
 pub texts_read_as_one_tariff-one_tariff : (text : List ℕ) (t u : Tree) → Reads text t → Reads text u → t ≡ u
 texts_read_as_one_tariff-one_tariff = reads_one
 
-pub texts_read_as_one_tariff-one_line : (text : List ℕ) (line other : ℕ) → IsFirstBadLine text line → IsFirstBadLine text other → line ≡ other
+pub texts_read_as_one_tariff-one_line : (text : List ℕ) (line other : ℕ) → IsFirstBadLine text line
+    → IsFirstBadLine text other → line ≡ other
 texts_read_as_one_tariff-one_line = bad_one
 
 pub texts_are_parsed_as_they_read-tariff : (text : List ℕ) (t : Tree) → Reads text t ↔ (tree_parsed text ≡ Ok t)
 texts_are_parsed_as_they_read-tariff = reads_exactly
 
-pub texts_are_parsed_as_they_read-bad_line : (text : List ℕ) (line : ℕ) → IsFirstBadLine text line ↔ (tree_parsed text ≡ Err line)
+pub texts_are_parsed_as_they_read-bad_line : (text : List ℕ) (line : ℕ) → IsFirstBadLine text line
+    ↔ (tree_parsed text ≡ Err line)
 texts_are_parsed_as_they_read-bad_line = first_bad_exactly
 
 pub printed_forms_read_back : (text : List ℕ) (t : Tree) → Reads text t → Reads (printed t) (renumbered t)
@@ -44,7 +49,8 @@ printed_forms_read_back = printed_reads_back
 pub texts_have_their_numbers : (text : List ℕ) (t : Tree) → Reads text t → IsWritable t
 texts_have_their_numbers = numbers_of_text
 
-pub texts_are_cut_at_their_line_feeds : (text : List ℕ) (lines : List (List ℕ)) → AreLines text lines ↔ (lines_of text ≡ lines)
+pub texts_are_cut_at_their_line_feeds : (text : List ℕ) (lines : List (List ℕ)) → AreLines text lines
+    ↔ (lines_of text ≡ lines)
 texts_are_cut_at_their_line_feeds = lines_are
 
 pub lines_rise_in_number : (text : List ℕ) (t : Tree) → Reads text t → RiseInNumber t.lines
@@ -53,11 +59,14 @@ lines_rise_in_number = numbers_rise
 pub parentheses_are_needed : (c : Condition) → NeedsParentheses c
 parentheses_are_needed = parentheses_stay
 
-pub first_lines_hold-rate : (t : Tree) (x : Context) (place : Option ℕ) → (rate_place t x ≡ place) ↔ IsFirstPlace (holds_if x) (rate_conditions t.lines) place
+pub first_lines_hold-rate : (t : Tree) (x : Context) (place : Option ℕ) → (rate_place t x ≡ place)
+    ↔ IsFirstPlace (holds_if x) (rate_conditions t.lines) place
 first_lines_hold-rate t x place = first_place_is (holds_if x) (rate_conditions t.lines) place
 
-pub first_lines_hold-initial : (t : Tree) (x : Context) (place : Option ℕ) → (initial_place t x ≡ place) ↔ IsFirstPlace (holds_if (at_hiring x)) (initial_conditions t.lines) place
+pub first_lines_hold-initial : (t : Tree) (x : Context) (place : Option ℕ) → (initial_place t x ≡ place)
+    ↔ IsFirstPlace (holds_if (at_hiring x)) (initial_conditions t.lines) place
 first_lines_hold-initial t x place = first_place_is (holds_if (at_hiring x)) (initial_conditions t.lines) place
 
-pub first_lines_hold-minimum : (t : Tree) (x : Context) (place : Option ℕ) → (minimum_place t x ≡ place) ↔ IsFirstPlace (holds_if (at_hiring x)) (minimum_conditions t.lines) place
+pub first_lines_hold-minimum : (t : Tree) (x : Context) (place : Option ℕ) → (minimum_place t x ≡ place)
+    ↔ IsFirstPlace (holds_if (at_hiring x)) (minimum_conditions t.lines) place
 first_lines_hold-minimum t x place = first_place_is (holds_if (at_hiring x)) (minimum_conditions t.lines) place

@@ -23,6 +23,15 @@ parentheses_stay c line before inside behind cut spelled other =
     let is = shown whole c (weight short) (fits whole short c other) in
     let end = is.show (codes "\n") [] [] (line_feed []) in
     let same : end.text ≡ line = let both : end.text ∷ [] ≡ line ∷ [] = sym end.cut ∙ cut in cc in
-    let printed : tokens_of line ≡ is.used = spelled_alone line is.used (subst (λ (xs : List ℕ). IsSpelled xs is.used) same (subst (IsSpelled end.text) (append_none is.used) end.spelled)) in
+    let printed : tokens_of line ≡ is.used = spelled_alone line is.used (subst (λ (xs : List ℕ). IsSpelled xs is.used)
+    same (subst (IsSpelled end.text) (append_none is.used) end.spelled)) in
     let tokens : is.used ≡ long = sym printed ∙ spelled_alone line long spelled in
-    omega (arith, is.few, ap weight tokens, weight-append before (sign (codes "(") ∷ (inside ++ sign (codes ")") ∷ behind)), weight-append inside (sign (codes ")") ∷ behind), weight-append before (inside ++ behind), weight-append inside behind)
+    omega (
+      arith,
+      is.few,
+      ap weight tokens,
+      weight-append before (sign (codes "(") ∷ (inside ++ sign (codes ")") ∷ behind)),
+      weight-append inside (sign (codes ")") ∷ behind),
+      weight-append before (inside ++ behind),
+      weight-append inside behind,
+    )

@@ -1,5 +1,6 @@
 -- The place of the first element that passes a test.
-use Rattle.std.proofs.Common.{◌≡◌, ◌↔◌, ℕ, zero, suc, ◌+◌, Bool, true, false, cond, List, [], ◌∷◌, Option, Some, None, All, take, refl, ap, ◌∙◌, subst, arith}
+use Rattle.std.proofs.Common.{◌≡◌, ◌↔◌, ℕ, zero, suc, ◌+◌, Bool, true, false, cond, List, [], ◌∷◌, Option, Some, None}
+use Rattle.std.proofs.Common.{All, take, refl, ap, ◌∙◌, subst, arith}
 use Rattle.std.specs.List.{position_from, slice_get}
 use Rattle.std.proofs.lemmas.List.Elements.{All-nil, All-cons, All-head, All-tail}
 use Rattle.tariff_syntax.specs.Meaning.{IsFirstPlace}
@@ -11,9 +12,12 @@ module _ {A : Type 0} (p : A → Bool) where
   -- the same, of places that are counted on from a number
   abbrev IsFirstFrom : (from : ℕ) → List A → Option ℕ → Type 0
   IsFirstFrom from xs None = All Fails xs
-  IsFirstFrom from xs (Some n) = (i : ℕ) × (x : A) × (n ≡ from + i) × (slice_get xs i ≡ Some x) × (p x ≡ true) × All Fails (take i xs)
+  IsFirstFrom from xs (Some n) =
+      (i : ℕ) × (x : A) × (n ≡ from + i) × (slice_get xs i ≡ Some x) × (p x ≡ true) × All Fails (take i xs)
 
-  found_by : (b : Bool) (from : ℕ) (x : A) (xs : List A) (o : Option ℕ) → p x ≡ b → cond b (Some from) (position_from p (from + 1) xs) ≡ o → (position_from p (from + 1) xs ≡ o → IsFirstFrom (from + 1) xs o) → IsFirstFrom from (x ∷ xs) o
+  found_by : (b : Bool) (from : ℕ) (x : A) (xs : List A) (o : Option ℕ) → p x ≡ b
+      → cond b (Some from) (position_from p (from + 1) xs) ≡ o
+      → (position_from p (from + 1) xs ≡ o → IsFirstFrom (from + 1) xs o) → IsFirstFrom from (x ∷ xs) o
   found_by true from x xs None e h rest = absurd cc
   found_by true from x xs (Some n) e h rest = let same : from ≡ n = cc in (zero, x, omega arith, refl, e, All-nil Fails)
   found_by false from x xs None e h rest = All-cons Fails x xs e (rest h)
@@ -36,7 +40,8 @@ module _ {A : Type 0} (p : A → Bool) where
       let number : from ≡ n = omega arith in
       rw here (ap Some number)
   found_again from (x ∷ xs) (Some n) (suc i, y, e, at, passes, before) =
-      rw (All-head Fails x (take i xs) before) (found_again (from + 1) xs (Some n) (i, y, omega arith, at, passes, All-tail Fails x (take i xs) before))
+      rw (All-head Fails x (take i xs) before)
+      (found_again (from + 1) xs (Some n) (i, y, omega arith, at, passes, All-tail Fails x (take i xs) before))
 
   from_none : (xs : List A) (o : Option ℕ) → IsFirstFrom 0 xs o → IsFirstPlace p xs o
   from_none xs None h = h

@@ -1,14 +1,17 @@
 -- The numbers of a text are in their ranges.
-use Rattle.std.proofs.Common.{inl, inr, ℕ, ◌+◌, ◌^◌, ◌<◌, ◌≤◌, List, [], ◌∷◌, Option, Some, None, All, subst, sym, arith}
+use Rattle.std.proofs.Common.{inl, inr, ℕ, ◌+◌, ◌^◌, ◌<◌, ◌≤◌, List, [], ◌∷◌, Option, Some, None, All, subst, sym}
+use Rattle.std.proofs.Common.{arith}
 use Rattle.std.proofs.lemmas.List.Elements.{All-nil, All-cons}
 use Rattle.taxi_units.specs.Digits.{AreDigitsOf}
 use Rattle.tariff_syntax.specs.Condition as tree
-use Rattle.tariff_syntax.specs.Condition.{Condition, position, zone, time, day, date, holiday, after_distance, after_time}
+use Rattle.tariff_syntax.specs.Condition.{Condition, position, zone, time, day, date, holiday, after_distance}
+use Rattle.tariff_syntax.specs.Condition.{after_time}
 use Rattle.tariff_syntax.specs.Forms.{IsAtom, IsMinute, AreWeekdays}
-use Rattle.tariff_syntax.specs.IsCondition.{IsCondition, atom, negation, parentheses, one_factor, conjunction, one_term, disjunction}
+use Rattle.tariff_syntax.specs.IsCondition.{IsCondition, atom, negation, parentheses, one_factor, conjunction, one_term}
+use Rattle.tariff_syntax.specs.IsCondition.{disjunction}
 use Rattle.tariff_syntax.specs.IsItem.{IsItem, IsCovers, IsWhen}
 use Rattle.tariff_syntax.specs.PrintedCondition.{Level, whole, term, factor}
-use Rattle.tariff_syntax.specs.Reads.{SayLines, SayTariff, Reads}
+use Rattle.tariff_syntax.specs.Reads.{AreTextsOfLines, AreTextsOfTariff, Reads}
 use Rattle.tariff_syntax.specs.TextLines.{lines_of}
 use Rattle.tariff_syntax.specs.Token.{Token}
 use Rattle.tariff_syntax.specs.Tree as entries
@@ -34,8 +37,12 @@ atom_small ts (position n) h = (h.2.above, h.2.below)
 atom_small ts (zone n) h = (h.2.above, h.2.below)
 atom_small ts (time from to) h = (minute_small h.0 from h.3, minute_small h.1 to h.4)
 atom_small ts (day from to) h = weekdays_small h.0 from to h.2
-atom_small ts (date from_month from_date to_month to_date) h =
-    (two_digits h.3.0 from_month h.3.3, two_digits h.3.1 from_date h.3.4, two_digits h.4.0 to_month h.4.3, two_digits h.4.1 to_date h.4.4)
+atom_small ts (date from_month from_date to_month to_date) h = (
+  two_digits h.3.0 from_month h.3.3,
+  two_digits h.3.1 from_date h.3.4,
+  two_digits h.4.0 to_month h.4.3,
+  two_digits h.4.1 to_date h.4.4,
+)
 atom_small ts holiday h = tt
 atom_small ts (after_distance n) h = amount_small 1 h.0 n h.2
 atom_small ts (after_time n) h = amount_small 1 h.0 n h.2
@@ -48,9 +55,11 @@ condition_small factor ts c (atom ts' c' h) = atom_small ts' c' h
 condition_small factor ts c (negation ts' c' h) = condition_small factor ts' c' h
 condition_small factor ts c (parentheses ts' c' h) = condition_small whole ts' c' h
 condition_small term ts c (one_factor ts' c' h) = condition_small factor ts' c' h
-condition_small term ts c (conjunction left right p q h g) = (condition_small term left p h, condition_small factor right q g)
+condition_small term ts c (conjunction left right p q h g) =
+    (condition_small term left p h, condition_small factor right q g)
 condition_small whole ts c (one_term ts' c' h) = condition_small term ts' c' h
-condition_small whole ts c (disjunction left right p q h g) = (condition_small whole left p h, condition_small term right q g)
+condition_small whole ts c (disjunction left right p q h g) =
+    (condition_small whole left p h, condition_small term right q g)
 
 when_small : (ts : List Token) (when : Option Condition) → IsWhen ts when → IsWritableIf when
 when_small ts None h = tt
@@ -70,21 +79,30 @@ entry_small decimals ts (entries.supplement number amount most) h =
     ((h.4.above, h.4.below), amount_small decimals h.1 amount h.5, (h.6.above, h.6.below))
 entry_small decimals ts (entries.initial amount covers when) h =
     (amount_small decimals h.0 amount h.4, covers_small decimals h.1 covers h.5, when_small h.2 when h.6)
-entry_small decimals ts (entries.rate a b c e when) h =
-    (amount_small decimals h.4.0 a h.4.3, amount_small 1 h.4.1 b h.4.4, amount_small decimals h.5.0 c h.5.3, amount_small 1 h.5.1 e h.5.4, when_small h.2 when h.6)
-entry_small decimals ts (entries.minimum amount when) h = (amount_small decimals h.0 amount h.3, when_small h.1 when h.4)
+entry_small decimals ts (entries.rate a b c e when) h = (
+  amount_small decimals h.4.0 a h.4.3,
+  amount_small 1 h.4.1 b h.4.4,
+  amount_small decimals h.5.0 c h.5.3,
+  amount_small 1 h.5.1 e h.5.4,
+  when_small h.2 when h.6,
+)
+entry_small decimals ts (entries.minimum amount when) h =
+    (amount_small decimals h.0 amount h.3, when_small h.1 when h.4)
 
 abbrev Small : Line → Type 0
 Small l = IsWritableEntry l.entry
 
-lines_small : (decimals number : ℕ) (texts : List (List ℕ)) (lines : List Line) → SayLines decimals number texts lines → All Small lines
+lines_small : (decimals number : ℕ) (texts : List (List ℕ)) (lines : List Line)
+    → AreTextsOfLines decimals number texts lines → All Small lines
 lines_small decimals number [] lines h = subst (All Small) (sym h) (All-nil Small)
 lines_small decimals number (text ∷ texts) lines (inl h) = lines_small decimals (number + 1) texts lines h.1
 lines_small decimals number (text ∷ texts) lines (inr h) =
-    subst (All Small) (sym h.2) (All-cons Small _ h.1 (entry_small decimals h.3.0 h.0 h.3.2) (lines_small decimals (number + 1) texts h.1 h.4))
+    subst (All Small) (sym h.2)
+    (All-cons Small _ h.1 (entry_small decimals h.3.0 h.0 h.3.2) (lines_small decimals (number + 1) texts h.1 h.4))
 
-tariff_small : (number : ℕ) (texts : List (List ℕ)) (t : Tree) → SayTariff number texts t → IsWritable t
-tariff_small number [] t h = record { decimals = omega (arith, h.0); lines = subst (All Small) (sym h.1) (All-nil Small) }
+tariff_small : (number : ℕ) (texts : List (List ℕ)) (t : Tree) → AreTextsOfTariff number texts t → IsWritable t
+tariff_small number [] t h =
+    record { decimals = omega (arith, h.0); lines = subst (All Small) (sym h.1) (All-nil Small) }
 tariff_small number (text ∷ texts) t (inl h) = tariff_small (number + 1) texts t h.1
 tariff_small number (text ∷ texts) t (inr (inl h)) =
     record { decimals = h.0.2.2.below; lines = lines_small t.decimals (number + 1) texts t.lines h.1 }

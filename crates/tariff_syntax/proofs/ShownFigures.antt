@@ -1,5 +1,6 @@
 -- The figures that are printed, and what they say.
-use Rattle.std.proofs.Common.{◌≡◌, ℕ, zero, suc, ◌+◌, ◌-◌, ◌*◌, ◌/◌, ◌%◌, ◌^◌, ◌<◌, ◌≤◌, true, List, [], ◌∷◌, ◌++◌, length, replicate, refl, ap, sym, subst, arith, codes, append_assoc, length-append, Ok}
+use Rattle.std.proofs.Common.{◌≡◌, ℕ, zero, suc, ◌+◌, ◌-◌, ◌*◌, ◌/◌, ◌%◌, ◌^◌, ◌<◌, ◌≤◌, true, List, [], ◌∷◌, ◌++◌}
+use Rattle.std.proofs.Common.{length, replicate, refl, ap, sym, subst, arith, codes, append_assoc, length-append, Ok}
 use Rattle.std.specs.Char.{is_ascii_digit}
 use Rattle.std.specs.Fmt.{decimal}
 use Rattle.std.specs.Str.Parse.{AllDigits, IsNumeral, digits_value}
@@ -31,7 +32,8 @@ digits_go (x ∷ xs) rest h =
 
 digits_begin : (xs ys : List ℕ) → IsNumeral 10 xs → begins_with_digit (xs ++ ys) ≡ true
 digits_begin [] ys h = absurd (omega (arith, h.0))
-digits_begin (x ∷ xs) ys h = let range = digit_from_value x h.1.0 in digit_is x (omega (arith, range)) (omega (arith, range))
+digits_begin (x ∷ xs) ys h = let range = digit_from_value x h.1.0 in
+    digit_is x (omega (arith, range)) (omega (arith, range))
 
 goes_append : (xs ys rest : List ℕ) → Goes xs (ys ++ rest) → Goes ys rest → Goes (xs ++ ys) rest
 goes_append [] ys rest h g = g
@@ -42,23 +44,29 @@ none [] = refl
 none (x ∷ xs) = ap (λ (ys : List ℕ). x ∷ ys) (none xs)
 
 numeral_text : (xs : List ℕ) → IsNumeral 10 xs → IsFigureText xs
-numeral_text xs h = record { digit = subst (λ (ys : List ℕ). begins_with_digit ys ≡ true) (none xs) (digits_begin xs [] h); goes = λ rest. digits_go xs rest h.1 }
+numeral_text xs h = record {
+  digit = subst (λ (ys : List ℕ). begins_with_digit ys ≡ true) (none xs) (digits_begin xs [] h);
+  goes = λ rest. digits_go xs rest h.1;
+}
 
 begins_append : (ys rest : List ℕ) → begins_with_digit ys ≡ true → begins_with_digit (ys ++ rest) ≡ true
 begins_append [] rest e = absurd cc
 begins_append (y ∷ ys) rest e = e
 
 -- two figures with a byte between them that figures go on over
-joined_text : (xs ys : List ℕ) (c : ℕ) → IsNumeral 10 xs → IsFigureText ys → ((rest : List ℕ) → begins_with_digit rest ≡ true → goes_on c rest ≡ true) → IsFigureText (xs ++ c ∷ ys)
+joined_text : (xs ys : List ℕ) (c : ℕ) → IsNumeral 10 xs → IsFigureText ys
+    → ((rest : List ℕ) → begins_with_digit rest ≡ true → goes_on c rest ≡ true) → IsFigureText (xs ++ c ∷ ys)
 joined_text xs ys c h g on = record {
   digit = digits_begin xs (c ∷ ys) h;
-  goes = λ rest. goes_append xs (c ∷ ys) rest (digits_go xs ((c ∷ ys) ++ rest) h.1) (on (ys ++ rest) (begins_append ys rest g.digit), g.goes rest);
+  goes = λ rest. goes_append xs (c ∷ ys) rest (digits_go xs ((c ∷ ys) ++ rest) h.1)
+      (on (ys ++ rest) (begins_append ys rest g.digit), g.goes rest);
 }
 
 numeral_of : (n : ℕ) → n ≤ 10 ^ 12 → IsNumeral 10 (decimal n)
 numeral_of n h = (decimal_is_IsNumeral_wide n (omega arith)).0
 
-digits_of_padded : (width n : ℕ) → n < 2 ^ 128 → IsNumeral 10 (padded_text width n) × (digits_value 10 (padded_text width n) ≡ n)
+digits_of_padded : (width n : ℕ) → n < 2 ^ 128
+    → IsNumeral 10 (padded_text width n) × (digits_value 10 (padded_text width n) ≡ n)
 digits_of_padded width n h =
     let written = (padded_numbers_are_written_by_their_digits width n (padded_text width n) h).0 refl in
     (written.digits, written.value_is)
@@ -74,7 +82,9 @@ money_is_text zero n h = decimal_text n h
 money_is_text (suc d) n h =
     let less : n / 10 ^ suc d ≤ n = div-le_self n (10 ^ suc d) in
     let part : n % 10 ^ suc d ≤ n = mod-le n (10 ^ suc d) in
-    joined_text (decimal (n / 10 ^ suc d)) (padded_text (suc d) (n % 10 ^ suc d)) 46 (numeral_of (n / 10 ^ suc d) (omega arith)) (numeral_text (padded_text (suc d) (n % 10 ^ suc d)) (padded_numeral (suc d) (n % 10 ^ suc d) (omega arith))) (λ rest e. rw e refl)
+    joined_text (decimal (n / 10 ^ suc d)) (padded_text (suc d) (n % 10 ^ suc d)) 46
+    (numeral_of (n / 10 ^ suc d) (omega arith)) (numeral_text (padded_text (suc d) (n % 10 ^ suc d))
+    (padded_numeral (suc d) (n % 10 ^ suc d) (omega arith))) (λ rest e. rw e refl)
 
 -- an amount is at most 10^12
 pub amount_small : (d : ℕ) (f : List ℕ) (n : ℕ) → IsAmount d f n → n ≤ 10 ^ 12
@@ -87,7 +97,8 @@ pub number_says : (least most n : ℕ) → most ≤ 99 → least ≤ n → n ≤
 number_says least most n few low high =
     numbers_are_written_as_figures 2 least most n (omega arith) (omega arith) (omega arith) low high
 
-pub number_again : (least most : ℕ) (f : List ℕ) (n : ℕ) → most ≤ 99 → IsNumber least most f n → IsNumber least most (decimal n) n
+pub number_again : (least most : ℕ) (f : List ℕ) (n : ℕ) → most ≤ 99 → IsNumber least most f n
+    → IsNumber least most (decimal n) n
 number_again least most f n few h = number_says least most n few h.above h.below
 
 digits_again : (width n : ℕ) → 0 < width → n < 10 ^ width → width ≤ 12 → AreDigitsOf width width (padded_text width n) n
@@ -104,12 +115,20 @@ digits_small width x n h =
 abbrev pub pair_figure : (c first second : ℕ) → List ℕ
 pair_figure c first second = padded_text 2 first ++ c ∷ padded_text 2 second
 
-pair_text : (c first second : ℕ) → first < 100 → second < 100 → ((rest : List ℕ) → begins_with_digit rest ≡ true → goes_on c rest ≡ true) → IsFigureText (pair_figure c first second)
-pair_text c first second a b on = joined_text (padded_text 2 first) (padded_text 2 second) c (padded_numeral 2 first (omega arith)) (numeral_text (padded_text 2 second) (padded_numeral 2 second (omega arith))) on
+pair_text : (c first second : ℕ) → first < 100 → second < 100 → ((rest : List ℕ) → begins_with_digit rest ≡ true
+    → goes_on c rest ≡ true) → IsFigureText (pair_figure c first second)
+pair_text c first second a b on = joined_text (padded_text 2 first) (padded_text 2 second) c (padded_numeral 2 first
+    (omega arith)) (numeral_text (padded_text 2 second) (padded_numeral 2 second (omega arith))) on
 
-pair_says : (c first second : ℕ) → first < 100 → second < 100 → IsPair (c ∷ []) (pair_figure c first second) first second
-pair_says c first second a b =
-    (padded_text 2 first, padded_text 2 second, refl, digits_again 2 first (omega arith) (omega arith) (omega arith), digits_again 2 second (omega arith) (omega arith) (omega arith))
+pair_says : (c first second : ℕ) → first < 100 → second < 100
+    → IsPair (c ∷ []) (pair_figure c first second) first second
+pair_says c first second a b = (
+  padded_text 2 first,
+  padded_text 2 second,
+  refl,
+  digits_again 2 first (omega arith) (omega arith) (omega arith),
+  digits_again 2 second (omega arith) (omega arith) (omega arith),
+)
 
 pair_small : (between f : List ℕ) (first second : ℕ) → IsPair between f first second → (first < 100) × (second < 100)
 pair_small between f first second h =
@@ -118,25 +137,46 @@ pair_small between f first second h =
     (omega arith, omega arith)
 
 -- a date of any year
-pub date_shown : (f : List ℕ) (month number : ℕ) → IsDate f month number → IsFigureText (pair_figure 45 month number) × IsDate (pair_figure 45 month number) month number
+pub date_shown : (f : List ℕ) (month number : ℕ) → IsDate f month number
+    → IsFigureText (pair_figure 45 month number) × IsDate (pair_figure 45 month number) month number
 date_shown f month number h =
     let small = pair_small (codes "-") f month number h in
     (pair_text 45 month number small.0 small.1 (λ rest e. refl), pair_says 45 month number small.0 small.1)
 
 -- a minute of the day
-pub minute_shown : (f : List ℕ) (minute : ℕ) → IsMinute f minute → IsFigureText (pair_figure 58 (minute / 60) (minute % 60)) × IsMinute (pair_figure 58 (minute / 60) (minute % 60)) minute
+pub minute_shown : (f : List ℕ) (minute : ℕ) → IsMinute f minute → IsFigureText
+    (pair_figure 58 (minute / 60) (minute % 60)) × IsMinute (pair_figure 58 (minute / 60) (minute % 60)) minute
 minute_shown f minute h =
     let hours : minute / 60 ≤ 23 = omega (arith, h.3, h.4, h.5) in
     let minutes : minute % 60 ≤ 59 = omega arith in
-    let all : minute ≡ 60 * (minute / 60) + minute % 60 = omega arith in
-    (pair_text 58 (minute / 60) (minute % 60) (omega arith) (omega arith) (λ rest e. refl), (minute / 60, minute % 60, pair_says 58 (minute / 60) (minute % 60) (omega arith) (omega arith), hours, minutes, all))
+    let all : minute ≡ 60 * (minute / 60) + minute % 60 = omega arith in (
+      pair_text 58 (minute / 60) (minute % 60) (omega arith) (omega arith) (λ rest e. refl),
+      (
+        minute / 60,
+        minute % 60,
+        pair_says 58 (minute / 60) (minute % 60) (omega arith) (omega arith),
+        hours,
+        minutes,
+        all,
+      ),
+    )
 
 -- a date with its year
 abbrev pub year_figure : (year month number : ℕ) → List ℕ
 year_figure year month number = padded_text 4 year ++ 45 ∷ pair_figure 45 month number
 
-pub year_shown : (f : List ℕ) (year month number : ℕ) → IsYearDate f year month number → IsFigureText (year_figure year month number) × IsYearDate (year_figure year month number) year month number
+pub year_shown : (f : List ℕ) (year month number : ℕ) → IsYearDate f year month number
+    → IsFigureText (year_figure year month number) × IsYearDate (year_figure year month number) year month number
 year_shown f year month number h =
     let small = digits_small 4 h.0 year h.3 in
-    let date = date_shown h.1 month number h.4 in
-    (joined_text (padded_text 4 year) (pair_figure 45 month number) 45 (padded_numeral 4 year (omega arith)) date.0 (λ rest e. refl), (padded_text 4 year, pair_figure 45 month number, refl, digits_again 4 year (omega arith) small (omega arith), date.1))
+    let date = date_shown h.1 month number h.4 in (
+      joined_text (padded_text 4 year) (pair_figure 45 month number) 45 (padded_numeral 4 year (omega arith)) date.0
+          (λ rest e. refl),
+      (
+        padded_text 4 year,
+        pair_figure 45 month number,
+        refl,
+        digits_again 4 year (omega arith) small (omega arith),
+        date.1,
+      ),
+    )

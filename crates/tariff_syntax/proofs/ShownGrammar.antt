@@ -1,12 +1,15 @@
 -- The printed form of a condition shows it, with no more atoms, `not` and `(` than where it stood.
 use Rattle.std.proofs.Common.{ℕ, ◌+◌, ◌≤◌, List, [], ◌∷◌, ◌++◌, refl, sym, subst, arith, codes, append_assoc}
 use Rattle.tariff_syntax.specs.Condition as tree
-use Rattle.tariff_syntax.specs.Condition.{Condition, position, zone, time, day, date, holiday, after_distance, after_time}
+use Rattle.tariff_syntax.specs.Condition.{Condition, position, zone, time, day, date, holiday, after_distance}
+use Rattle.tariff_syntax.specs.Condition.{after_time}
 use Rattle.tariff_syntax.specs.IsCondition.{atom, negation, parentheses, one_factor, conjunction, one_term, disjunction}
 use Rattle.tariff_syntax.specs.PrintedCondition.{Level, whole, term, factor, condition_at}
 use Rattle.tariff_syntax.specs.Token.{Token, word, sign}
 use Rattle.tariff_syntax.proofs.ConditionAgain.{weight-append}
-use Rattle.tariff_syntax.proofs.ShownConditions.{Fits, Show, Shown, lift, position_shown, zone_shown, time_shown, day_atom_shown, date_atom_shown, holiday_shown, distance_shown, time_passed_shown}
+use Rattle.tariff_syntax.proofs.ShownConditions.{Fits, Show, Shown, lift, position_shown, zone_shown, time_shown}
+use Rattle.tariff_syntax.proofs.ShownConditions.{day_atom_shown, date_atom_shown, holiday_shown, distance_shown}
+use Rattle.tariff_syntax.proofs.ShownConditions.{time_passed_shown}
 use Rattle.tariff_syntax.proofs.Shows.{Shows, blank, shown_word, open_sign, close_sign}
 
 and_shown : (p q : Condition) (a b w : ℕ) → a + b ≤ w → Shown term p a → Shown factor q b → Shown term (tree.and p q) w
@@ -19,9 +22,12 @@ and_shown p q a b w few left right =
       show = λ more ts texts ready.
           let last = right.show more ts texts ready in
           let behind = condition_at factor q more in
-          let joint = shown_word (codes "and") (32 ∷ behind) (right.used ++ ts) texts refl (blank behind (right.used ++ ts) texts last) in
-          let first = left.show (codes " and " ++ behind) (word (codes "and") ∷ (right.used ++ ts)) texts (blank (codes "and " ++ behind) (word (codes "and") ∷ (right.used ++ ts)) texts joint) in
-          subst (λ (us : List Token). Shows (condition_at term p (codes " and " ++ behind)) us texts) (sym (append_assoc left.used (word (codes "and") ∷ right.used) ts)) first;
+          let joint = shown_word (codes "and") (32 ∷ behind) (right.used ++ ts) texts refl
+          (blank behind (right.used ++ ts) texts last) in
+          let first = left.show (codes " and " ++ behind) (word (codes "and") ∷ (right.used ++ ts)) texts
+          (blank (codes "and " ++ behind) (word (codes "and") ∷ (right.used ++ ts)) texts joint) in
+          subst (λ (us : List Token). Shows (condition_at term p (codes " and " ++ behind)) us texts)
+          (sym (append_assoc left.used (word (codes "and") ∷ right.used) ts)) first;
     }
 
 or_shown : (p q : Condition) (a b w : ℕ) → a + b ≤ w → Shown whole p a → Shown term q b → Shown whole (tree.or p q) w
@@ -34,9 +40,12 @@ or_shown p q a b w few left right =
       show = λ more ts texts ready.
           let last = right.show more ts texts ready in
           let behind = condition_at term q more in
-          let joint = shown_word (codes "or") (32 ∷ behind) (right.used ++ ts) texts refl (blank behind (right.used ++ ts) texts last) in
-          let first = left.show (codes " or " ++ behind) (word (codes "or") ∷ (right.used ++ ts)) texts (blank (codes "or " ++ behind) (word (codes "or") ∷ (right.used ++ ts)) texts joint) in
-          subst (λ (us : List Token). Shows (condition_at whole p (codes " or " ++ behind)) us texts) (sym (append_assoc left.used (word (codes "or") ∷ right.used) ts)) first;
+          let joint = shown_word (codes "or") (32 ∷ behind) (right.used ++ ts) texts refl
+          (blank behind (right.used ++ ts) texts last) in
+          let first = left.show (codes " or " ++ behind) (word (codes "or") ∷ (right.used ++ ts)) texts
+          (blank (codes "or " ++ behind) (word (codes "or") ∷ (right.used ++ ts)) texts joint) in
+          subst (λ (us : List Token). Shows (condition_at whole p (codes " or " ++ behind)) us texts)
+          (sym (append_assoc left.used (word (codes "or") ∷ right.used) ts)) first;
     }
 
 not_shown : (p : Condition) (a w : ℕ) → a + 1 ≤ w → Shown factor p a → Shown factor (tree.not p) w
@@ -46,16 +55,19 @@ not_shown p a w few inner = record {
   few = omega (arith, inner.few);
   show = λ more ts texts ready.
       let behind = condition_at factor p more in
-      shown_word (codes "not") (32 ∷ behind) (inner.used ++ ts) texts refl (blank behind (inner.used ++ ts) texts (inner.show more ts texts ready));
+      shown_word (codes "not") (32 ∷ behind) (inner.used ++ ts) texts refl
+      (blank behind (inner.used ++ ts) texts (inner.show more ts texts ready));
 }
 
 -- what a condition in parentheses shows
-closed_shows : (c : Condition) (v : ℕ) (inner : Shown whole c v) → Show (λ rest. codes "(" ++ condition_at whole c (codes ")" ++ rest)) (sign (codes "(") ∷ (inner.used ++ sign (codes ")") ∷ []))
+closed_shows : (c : Condition) (v : ℕ) (inner : Shown whole c v) → Show (λ rest.
+    codes "(" ++ condition_at whole c (codes ")" ++ rest)) (sign (codes "(") ∷ (inner.used ++ sign (codes ")") ∷ []))
 closed_shows c v inner more ts texts ready =
     let last = close_sign more ts texts ready.shows in
     let behind = condition_at whole c (codes ")" ++ more) in
     let middle = inner.show (codes ")" ++ more) (sign (codes ")") ∷ ts) texts last in
-    let joined = subst (λ (us : List Token). Shows behind us texts) (sym (append_assoc inner.used (sign (codes ")") ∷ []) ts)) middle in
+    let joined = subst (λ (us : List Token). Shows behind us texts)
+    (sym (append_assoc inner.used (sign (codes ")") ∷ []) ts)) middle in
     (open_sign behind ((inner.used ++ sign (codes ")") ∷ []) ++ ts) texts joined).shows
 
 and_closed : (p q : Condition) (v w : ℕ) → v + 1 ≤ w → Shown whole (tree.and p q) v → Shown factor (tree.and p q) w
@@ -85,37 +97,78 @@ not_lifted place p w h = record { used = h.used; is = lift place h.used (tree.no
 
 -- a condition that fits is shown
 pub shown : (place : Level) (c : Condition) (w : ℕ) → Fits place c w → Shown place c w
-shown whole (tree.and p q) w h = and_as_whole p q w (and_shown p q h.0 h.1 w (omega (arith, h.4)) (shown term p h.0 h.2) (shown factor q h.1 h.3))
-shown term (tree.and p q) w h = and_shown p q h.0 h.1 w (omega (arith, h.4)) (shown term p h.0 h.2) (shown factor q h.1 h.3)
+shown whole (tree.and p q) w h =
+    and_as_whole p q w (and_shown p q h.0 h.1 w (omega (arith, h.4)) (shown term p h.0 h.2) (shown factor q h.1 h.3))
+shown term (tree.and p q) w h =
+    and_shown p q h.0 h.1 w (omega (arith, h.4)) (shown term p h.0 h.2) (shown factor q h.1 h.3)
 shown factor (tree.and p q) w h =
-    and_closed p q (h.0 + h.1) w (omega (arith, h.4)) (and_as_whole p q (h.0 + h.1) (and_shown p q h.0 h.1 (h.0 + h.1) (omega arith) (shown term p h.0 h.2) (shown factor q h.1 h.3)))
-shown whole (tree.or p q) w h = or_shown p q h.0 h.1 w (omega (arith, h.4)) (shown whole p h.0 h.2) (shown term q h.1 h.3)
+    and_closed p q (h.0 + h.1) w (omega (arith, h.4)) (and_as_whole p q (h.0 + h.1)
+    (and_shown p q h.0 h.1 (h.0 + h.1) (omega arith) (shown term p h.0 h.2) (shown factor q h.1 h.3)))
+shown whole (tree.or p q) w h =
+    or_shown p q h.0 h.1 w (omega (arith, h.4)) (shown whole p h.0 h.2) (shown term q h.1 h.3)
 shown term (tree.or p q) w h =
-    or_as_term p q w (or_closed p q (h.0 + h.1) w (omega (arith, h.4)) (or_shown p q h.0 h.1 (h.0 + h.1) (omega arith) (shown whole p h.0 h.2) (shown term q h.1 h.3)))
+    or_as_term p q w (or_closed p q (h.0 + h.1) w (omega (arith, h.4))
+    (or_shown p q h.0 h.1 (h.0 + h.1) (omega arith) (shown whole p h.0 h.2) (shown term q h.1 h.3)))
 shown factor (tree.or p q) w h =
-    or_closed p q (h.0 + h.1) w (omega (arith, h.4)) (or_shown p q h.0 h.1 (h.0 + h.1) (omega arith) (shown whole p h.0 h.2) (shown term q h.1 h.3))
+    or_closed p q (h.0 + h.1) w (omega (arith, h.4))
+    (or_shown p q h.0 h.1 (h.0 + h.1) (omega arith) (shown whole p h.0 h.2) (shown term q h.1 h.3))
 shown place (tree.not p) w h = not_lifted place p w (not_shown p h.0 w h.2 (shown factor p h.0 h.1))
 shown place (position n) w h =
     let a = position_shown h.0.1.0 n h.0.1.2 in
-    record { used = a.0; is = lift place a.0 (position n) (atom a.0 (position n) a.1); few = omega (arith, a.2, h.1); show = a.3 }
+    record {
+      used = a.0;
+      is = lift place a.0 (position n) (atom a.0 (position n) a.1);
+      few = omega (arith, a.2, h.1);
+      show = a.3;
+    }
 shown place (zone n) w h =
     let a = zone_shown h.0.1.0 n h.0.1.2 in
-    record { used = a.0; is = lift place a.0 (zone n) (atom a.0 (zone n) a.1); few = omega (arith, a.2, h.1); show = a.3 }
+    record {
+      used = a.0;
+      is = lift place a.0 (zone n) (atom a.0 (zone n) a.1);
+      few = omega (arith, a.2, h.1);
+      show = a.3;
+    }
 shown place (time from to) w h =
     let a = time_shown h.0.1.0 h.0.1.1 from to h.0.1.3 h.0.1.4 in
-    record { used = a.0; is = lift place a.0 (time from to) (atom a.0 (time from to) a.1); few = omega (arith, a.2, h.1); show = a.3 }
+    record {
+      used = a.0;
+      is = lift place a.0 (time from to) (atom a.0 (time from to) a.1);
+      few = omega (arith, a.2, h.1);
+      show = a.3;
+    }
 shown place (day from to) w h =
     let a = day_atom_shown h.0.1.0 from to h.0.1.2 in
-    record { used = a.0; is = lift place a.0 (day from to) (atom a.0 (day from to) a.1); few = omega (arith, a.2, h.1); show = a.3 }
+    record {
+      used = a.0;
+      is = lift place a.0 (day from to) (atom a.0 (day from to) a.1);
+      few = omega (arith, a.2, h.1);
+      show = a.3;
+    }
 shown place (date m n x y) w h =
     let a = date_atom_shown h.0.1.0 h.0.1.1 m n x y h.0.1.3 h.0.1.4 in
-    record { used = a.0; is = lift place a.0 (date m n x y) (atom a.0 (date m n x y) a.1); few = omega (arith, a.2, h.1); show = a.3 }
+    record {
+      used = a.0;
+      is = lift place a.0 (date m n x y) (atom a.0 (date m n x y) a.1);
+      few = omega (arith, a.2, h.1);
+      show = a.3;
+    }
 shown place holiday w h =
     let a = holiday_shown in
     record { used = a.0; is = lift place a.0 holiday (atom a.0 holiday a.1); few = omega (arith, a.2, h.1); show = a.3 }
 shown place (after_distance n) w h =
     let a = distance_shown h.0.1.0 n h.0.1.2 in
-    record { used = a.0; is = lift place a.0 (after_distance n) (atom a.0 (after_distance n) a.1); few = omega (arith, a.2, h.1); show = a.3 }
+    record {
+      used = a.0;
+      is = lift place a.0 (after_distance n) (atom a.0 (after_distance n) a.1);
+      few = omega (arith, a.2, h.1);
+      show = a.3;
+    }
 shown place (after_time n) w h =
     let a = time_passed_shown h.0.1.0 n h.0.1.2 in
-    record { used = a.0; is = lift place a.0 (after_time n) (atom a.0 (after_time n) a.1); few = omega (arith, a.2, h.1); show = a.3 }
+    record {
+      used = a.0;
+      is = lift place a.0 (after_time n) (atom a.0 (after_time n) a.1);
+      few = omega (arith, a.2, h.1);
+      show = a.3;
+    }

@@ -1,5 +1,6 @@
 -- Tools for reading that may fail.
-use Rattle.std.proofs.Common.{◌≡◌, ◌⊎◌, inl, inr, ℕ, Bool, true, false, cond, List, [], ◌∷◌, ◌++◌, Option, Some, None, refl, ap, sym, subst}
+use Rattle.std.proofs.Common.{◌≡◌, ◌⊎◌, inl, inr, ℕ, Bool, true, false, cond, List, [], ◌∷◌, ◌++◌, Option, Some, None}
+use Rattle.std.proofs.Common.{refl, ap, sym, subst}
 use Rattle.std.specs.Str.{bytes_eq}
 use Rattle.std.proofs.lemmas.Slice.Eq.{bytes_eq-Decides}
 use Rattle.taxi_units.specs.Reading.{◌>>=◌}
@@ -7,7 +8,8 @@ use Rattle.tariff_syntax.specs.Token.{Token, word, figure, sign}
 use Rattle.tariff_syntax.specs.Words.{after_word, after_sign, word_first, figure_first, ended}
 
 -- something that was read on from something that was read
-pub bind_some : {A B : Type 0} (o : Option A) (f : A → Option B) (y : B) → (o >>= f) ≡ Some y → (x : A) × (o ≡ Some x) × (f x ≡ Some y)
+pub bind_some : {A B : Type 0} (o : Option A) (f : A → Option B) (y : B) → (o >>= f) ≡ Some y
+    → (x : A) × (o ≡ Some x) × (f x ≡ Some y)
 bind_some None f y e = absurd cc
 bind_some (Some x) f y e = (x, refl, e)
 
@@ -28,7 +30,8 @@ pub text_same : (a : List ℕ) → bytes_eq a a ≡ true
 text_same a = (bytes_eq-Decides a a).1 refl
 
 -- what was read is read behind this word, or behind another
-pub by_word : {A : Type 0} (P : List ℕ → Type 0) (name text : List ℕ) (read other : Option A) (x : A) → cond (bytes_eq name text) read other ≡ Some x → (read ≡ Some x → P text) → (other ≡ Some x → P name) → P name
+pub by_word : {A : Type 0} (P : List ℕ → Type 0) (name text : List ℕ) (read other : Option A) (x : A)
+    → cond (bytes_eq name text) read other ≡ Some x → (read ≡ Some x → P text) → (other ≡ Some x → P name) → P name
 by_word P name text read other x e here others = elim (chosen (bytes_eq name text) read other (Some x) e) [
   | inl a ↦ subst P (sym (same_text name text a.0)) (here a.1)
   | inr a ↦ others a.1

@@ -16,42 +16,43 @@ abbrev pub IsEmpty : List ℕ → Type 0
 IsEmpty text = IsSpelled text []
 
 -- a line says the decimals if its tokens do
-abbrev pub SaysDecimals : List ℕ → ℕ → Type 0
-SaysDecimals text n = (ts : List Token) × IsSpelled text ts × IsDecimals ts n
+abbrev pub IsLineOfDecimals : List ℕ → ℕ → Type 0
+IsLineOfDecimals text n = (ts : List Token) × IsSpelled text ts × IsDecimals ts n
 
 -- a line says an entry if its tokens do
-abbrev pub Says : (decimals : ℕ) → List ℕ → Entry → Type 0
-Says decimals text entry = (ts : List Token) × IsSpelled text ts × IsItem decimals ts entry
+abbrev pub IsLineOfEntry : (decimals : ℕ) → List ℕ → Entry → Type 0
+IsLineOfEntry decimals text entry = (ts : List Token) × IsSpelled text ts × IsItem decimals ts entry
 
 -- texts that are numbered from `number` on say lines if each says the next line's entry, and is numbered as that
 -- line is, or is empty and passed over
-abbrev pub SayLines : (decimals number : ℕ) → List (List ℕ) → List Line → Type 0
-SayLines decimals number [] lines = lines ≡ []
-SayLines decimals number (text ∷ texts) lines =
-    (IsEmpty text × SayLines decimals (number + 1) texts lines)
+abbrev pub AreTextsOfLines : (decimals number : ℕ) → List (List ℕ) → List Line → Type 0
+AreTextsOfLines decimals number [] lines = lines ≡ []
+AreTextsOfLines decimals number (text ∷ texts) lines =
+    (IsEmpty text × AreTextsOfLines decimals (number + 1) texts lines)
     ⊎ ((entry : Entry) × (more : List Line) × (lines ≡ record { line = number; entry = entry } ∷ more)
-    × Says decimals text entry × SayLines decimals (number + 1) texts more)
+    × IsLineOfEntry decimals text entry × AreTextsOfLines decimals (number + 1) texts more)
 
 -- texts that are numbered from `number` on say a tariff if the first that isn't empty says its decimals and the
 -- others say its lines, or if all of them say its lines and its decimals are 2
-abbrev pub SayTariff : (number : ℕ) → List (List ℕ) → Tree → Type 0
-SayTariff number [] t = (t.decimals ≡ 2) × (t.lines ≡ [])
-SayTariff number (text ∷ texts) t =
-    (IsEmpty text × SayTariff (number + 1) texts t)
-    ⊎ ((SaysDecimals text t.decimals × SayLines t.decimals (number + 1) texts t.lines)
-    ⊎ (¬ (IsEmpty text) × (t.decimals ≡ 2) × SayLines 2 number (text ∷ texts) t.lines))
+abbrev pub AreTextsOfTariff : (number : ℕ) → List (List ℕ) → Tree → Type 0
+AreTextsOfTariff number [] t = (t.decimals ≡ 2) × (t.lines ≡ [])
+AreTextsOfTariff number (text ∷ texts) t =
+    (IsEmpty text × AreTextsOfTariff (number + 1) texts t)
+    ⊎ ((IsLineOfDecimals text t.decimals × AreTextsOfLines t.decimals (number + 1) texts t.lines)
+    ⊎ (¬ (IsEmpty text) × (t.decimals ≡ 2) × AreTextsOfLines 2 number (text ∷ texts) t.lines))
 
 -- a text reads as a tariff if its lines, numbered from 1 on, say the tariff
 abbrev pub Reads : List ℕ → Tree → Type 0
-Reads text t = SayTariff 1 (lines_of text) t
+Reads text t = AreTextsOfTariff 1 (lines_of text) t
 
 -- of texts that are numbered from `number` on the first bad one has the number `bad`: it isn't empty and says no entry,
 -- and each text before it is empty or says an entry
 abbrev pub FirstBad : (decimals number : ℕ) → List (List ℕ) → (bad : ℕ) → Type 0
 FirstBad decimals number [] bad = ⊥
 FirstBad decimals number (text ∷ texts) bad =
-    ((bad ≡ number) × ¬ (IsEmpty text) × ((entry : Entry) → ¬ (Says decimals text entry)))
-    ⊎ ((IsEmpty text ⊎ ((entry : Entry) × Says decimals text entry)) × FirstBad decimals (number + 1) texts bad)
+    ((bad ≡ number) × ¬ (IsEmpty text) × ((entry : Entry) → ¬ (IsLineOfEntry decimals text entry)))
+    ⊎ ((IsEmpty text ⊎ ((entry : Entry) × IsLineOfEntry decimals text entry))
+    × FirstBad decimals (number + 1) texts bad)
 
 -- the first bad one of texts that are numbered from `number` on has the number `bad`, under the decimals that the first
 -- text that isn't empty says, or under 2 if it says none
@@ -59,8 +60,8 @@ abbrev pub FirstBadBelow : (number : ℕ) → List (List ℕ) → (bad : ℕ) �
 FirstBadBelow number [] bad = ⊥
 FirstBadBelow number (text ∷ texts) bad =
     (IsEmpty text × FirstBadBelow (number + 1) texts bad)
-    ⊎ (((decimals : ℕ) × SaysDecimals text decimals × FirstBad decimals (number + 1) texts bad)
-    ⊎ (¬ (IsEmpty text) × ((decimals : ℕ) → ¬ (SaysDecimals text decimals)) × FirstBad 2 number (text ∷ texts) bad))
+    ⊎ (((decimals : ℕ) × IsLineOfDecimals text decimals × FirstBad decimals (number + 1) texts bad)
+    ⊎ (¬ (IsEmpty text) × ((decimals : ℕ) → ¬ (IsLineOfDecimals text decimals)) × FirstBad 2 number (text ∷ texts) bad))
 
 -- a text's first bad line is the first bad one of its lines, numbered from 1 on
 abbrev pub IsFirstBadLine : List ℕ → (bad : ℕ) → Type 0

@@ -54,7 +54,7 @@ pub(crate) fn has_totals(alloc: Global, image: &[u8; 2048], start: &str) -> Resu
 }
 
 /// The number that `totals` prints of a store, where it has one digit.
-fn number_of(alloc: Global, image: &[u8; 2048]) -> Result<u8, Fail> {
+fn number_printed(alloc: Global, image: &[u8; 2048]) -> Result<u8, Fail> {
     let (board, _) = called(alloc, &["totals"], &[], image, &[], &[])?;
     match board.printed().strip_prefix(b"NUMBER ".as_slice()) {
         Some(rest) => Ok(digit_of(rest)),
@@ -169,7 +169,7 @@ fn must_begin(
         "another text at call",
         failed,
     )?;
-    let number = number_of(alloc, &cut_in(&board, board.calls(), Fill::New))?;
+    let number = number_printed(alloc, &cut_in(&board, board.calls(), Fill::New))?;
     must_at(1 <= number && number <= 3, "another number at call", failed)
 }
 
@@ -217,7 +217,7 @@ fn must_leave_numbers(
 ) -> Result<(), Fail> {
     for &(call, fill) in cuts {
         let (least, most) = raised_at(call);
-        let found = number_of(alloc, &cut_in(board, call, fill))?;
+        let found = number_printed(alloc, &cut_in(board, call, fill))?;
         let raised = found.saturating_sub(number);
         let is_within = number <= found && least <= raised && raised <= most;
         must_behind(is_within, "another number", call, fill)?;

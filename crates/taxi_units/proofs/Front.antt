@@ -1,5 +1,6 @@
 -- A text, parted where its first digits end.
-use Rattle.std.proofs.Common.{◌≡◌, ◌≢◌, ◌⊎◌, inl, inr, ℕ, ◌<◌, ◌≤◌, ◌↔◌, true, false, List, [], ◌∷◌, ◌++◌, length, take, drop, refl, ap, sym, ◌∙◌, subst, arith, Err, eqb, length-append}
+use Rattle.std.proofs.Common.{◌≡◌, ◌≢◌, ◌⊎◌, inl, inr, ℕ, ◌<◌, ◌≤◌, ◌↔◌, true, false, List, [], ◌∷◌, ◌++◌, length, take}
+use Rattle.std.proofs.Common.{drop, refl, ap, sym, ◌∙◌, subst, arith, Err, eqb, length-append}
 use Rattle.std.specs.Char.{is_ascii_digit, digit_value}
 use Rattle.std.specs.Str.Parse.{AllDigits}
 use Rattle.std.proofs.Math.Seq.{take-append_seam, drop-append_seam}
@@ -7,7 +8,8 @@ use Rattle.std.proofs.lemmas.Bool.{ne_eqb, cases_lt}
 use Rattle.std.proofs.lemmas.List.{take-append-drop, length-take-le}
 use Rattle.std.proofs.lemmas.Bool.Decides.{nat_tests}
 use Rattle.taxi_units.specs.declared.decimal.NumberFault.TheVariants.{BadDigit}
-use Rattle.taxi_units.specs.Number.{NoDigitFirst, HasDigitsInFront, digits_at_front, parts_read, counted_parts_read, whole_read, decimal_read}
+use Rattle.taxi_units.specs.Number.{NoDigitFirst, HasDigitsInFront, digits_at_front, parts_read, counted_parts_read}
+use Rattle.taxi_units.specs.Number.{whole_read, decimal_read}
 
 pub record Front (text : List ℕ) : Type 0 where
   pub digits : List ℕ
@@ -23,7 +25,13 @@ pub test_of_other : (c : ℕ) → 10 ≤ digit_value c → is_ascii_digit c ≡ 
 test_of_other c h = grind (arith, nat_tests)
 
 front_more : (c : ℕ) (cs : List ℕ) → (digit_value c < 10) ⊎ (10 ≤ digit_value c) → Front cs → Front (c ∷ cs)
-front_more c cs (inl digit) f = record { digits = c ∷ f.digits; rest = f.rest; text_is = ap (λ (xs : List ℕ). c ∷ xs) f.text_is; all = (digit, f.all); stops = f.stops }
+front_more c cs (inl digit) f = record {
+  digits = c ∷ f.digits;
+  rest = f.rest;
+  text_is = ap (λ (xs : List ℕ). c ∷ xs) f.text_is;
+  all = (digit, f.all);
+  stops = f.stops;
+}
 front_more c cs (inr other) f = record { digits = []; rest = c ∷ cs; text_is = refl; all = tt; stops = other }
 
 pub front : (text : List ℕ) → Front text
@@ -34,29 +42,39 @@ count_none : (rest : List ℕ) → NoDigitFirst rest → digits_at_front rest �
 count_none [] h = refl
 count_none (c ∷ cs) h = rw (test_of_other c h) refl
 
-pub count_front : (digits rest : List ℕ) → AllDigits 10 digits → NoDigitFirst rest → digits_at_front (digits ++ rest) ≡ length digits
+pub count_front : (digits rest : List ℕ) → AllDigits 10 digits → NoDigitFirst rest
+    → digits_at_front (digits ++ rest) ≡ length digits
 count_front [] rest all stops = count_none rest stops
 count_front (c ∷ cs) rest all stops = rw (test_of_digit c all.0) (omega (arith, count_front cs rest all.1 stops))
 
 -- a text has as many digits in front as are counted, and no other number of them
-has_first : (digits rest : List ℕ) → AllDigits 10 digits → NoDigitFirst rest → HasDigitsInFront (digits ++ rest) (digits_at_front (digits ++ rest))
+has_first : (digits rest : List ℕ) → AllDigits 10 digits → NoDigitFirst rest
+    → HasDigitsInFront (digits ++ rest) (digits_at_front (digits ++ rest))
 has_first digits rest all stops =
     let count = count_front digits rest all stops in
-    let taken : take (digits_at_front (digits ++ rest)) (digits ++ rest) ≡ digits = rw count (take-append_seam digits rest) in
-    let dropped : drop (digits_at_front (digits ++ rest)) (digits ++ rest) ≡ rest = rw count (drop-append_seam digits rest) in
-    (omega (arith, count, length-append digits rest), subst (AllDigits 10) (sym taken) all, subst NoDigitFirst (sym dropped) stops)
+    let taken : take (digits_at_front (digits ++ rest)) (digits ++ rest) ≡ digits =
+    rw count (take-append_seam digits rest) in
+    let dropped : drop (digits_at_front (digits ++ rest)) (digits ++ rest) ≡ rest =
+    rw count (drop-append_seam digits rest) in (
+      omega (arith, count, length-append digits rest),
+      subst (AllDigits 10) (sym taken) all,
+      subst NoDigitFirst (sym dropped) stops,
+    )
 
 has_digits : (text : List ℕ) (f : Front text) → HasDigitsInFront text (digits_at_front text)
-has_digits text f = subst (λ (xs : List ℕ). HasDigitsInFront xs (digits_at_front xs)) (sym f.text_is) (has_first f.digits f.rest f.all f.stops)
+has_digits text f = subst (λ (xs : List ℕ). HasDigitsInFront xs (digits_at_front xs)) (sym f.text_is)
+    (has_first f.digits f.rest f.all f.stops)
 
 pub digits_are_counted : (text : List ℕ) (count : ℕ) → (digits_at_front text ≡ count) ↔ HasDigitsInFront text count
 digits_are_counted text count = (
   λ e. subst (HasDigitsInFront text) e (has_digits text (front text)),
-  λ h. ap digits_at_front (sym (take-append-drop count text)) ∙ (count_front (take count text) (drop count text) h.1 h.2 ∙ length-take-le count text h.0),
+  λ h. ap digits_at_front (sym (take-append-drop count text))
+      ∙ (count_front (take count text) (drop count text) h.1 h.2 ∙ length-take-le count text h.0),
 )
 
 -- the reader, at a text that is parted so
-pub read_front : (decimals c : ℕ) (cs rest : List ℕ) → AllDigits 10 (c ∷ cs) → NoDigitFirst rest → decimal_read decimals ((c ∷ cs) ++ rest) ≡ whole_read decimals (c ∷ cs) rest
+pub read_front : (decimals c : ℕ) (cs rest : List ℕ) → AllDigits 10 (c ∷ cs) → NoDigitFirst rest
+    → decimal_read decimals ((c ∷ cs) ++ rest) ≡ whole_read decimals (c ∷ cs) rest
 read_front decimals c cs rest all stops =
     let count : digits_at_front (c ∷ (cs ++ rest)) ≡ length (c ∷ cs) = count_front (c ∷ cs) rest all stops in
     let some : eqb (length (c ∷ cs)) 0 ≡ false = ne_eqb _ _ (λ e. omega arith) in
@@ -65,9 +83,12 @@ read_front decimals c cs rest all stops =
 pub read_none : (decimals c : ℕ) (cs : List ℕ) → 10 ≤ digit_value c → decimal_read decimals (c ∷ cs) ≡ Err (BadDigit 0)
 read_none decimals c cs other = rw (count_none (c ∷ cs) other) refl
 
-pub read_other : (decimals c : ℕ) (whole cs : List ℕ) → c ≢ 46 → whole_read decimals whole (c ∷ cs) ≡ Err (BadDigit (length whole))
+pub read_other : (decimals c : ℕ) (whole cs : List ℕ) → c ≢ 46
+    → whole_read decimals whole (c ∷ cs) ≡ Err (BadDigit (length whole))
 read_other decimals c whole cs h = rw (ne_eqb c 46 h) refl
 
 -- what stands after the point, parted so
-pub parts_front : (decimals : ℕ) (whole digits rest : List ℕ) → AllDigits 10 digits → NoDigitFirst rest → parts_read decimals whole (digits ++ rest) ≡ counted_parts_read decimals whole (digits ++ rest) (length digits)
-parts_front decimals whole digits rest all stops = ap (counted_parts_read decimals whole (digits ++ rest)) (count_front digits rest all stops)
+pub parts_front : (decimals : ℕ) (whole digits rest : List ℕ) → AllDigits 10 digits → NoDigitFirst rest
+    → parts_read decimals whole (digits ++ rest) ≡ counted_parts_read decimals whole (digits ++ rest) (length digits)
+parts_front decimals whole digits rest all stops =
+    ap (counted_parts_read decimals whole (digits ++ rest)) (count_front digits rest all stops)

@@ -1,5 +1,6 @@
 -- How long texts of numbers and amounts are.
-use Rattle.std.proofs.Common.{◌≡◌, ◌∙◌, ℕ, zero, suc, ◌+◌, ◌-◌, ◌*◌, ◌/◌, ◌%◌, ◌^◌, ◌<◌, ◌≤◌, ◌∷◌, length, max, ap, sym, arith, length-append}
+use Rattle.std.proofs.Common.{◌≡◌, ◌∙◌, ℕ, zero, suc, ◌+◌, ◌-◌, ◌*◌, ◌/◌, ◌%◌, ◌^◌, ◌<◌, ◌≤◌, ◌∷◌, length, max, ap, sym}
+use Rattle.std.proofs.Common.{arith, length-append}
 use Rattle.std.specs.Fmt.{decimal}
 use Rattle.std.proofs.Math.Nat.{one-le-pow, pow-le-pow_right, div-lt_iff_lt-mul, mod-lt}
 use Rattle.std.proofs.lemmas.Nat.{pow-add}
@@ -8,18 +9,22 @@ use Rattle.taxi_units.specs.Number.{padded_text, money_text}
 use Rattle.taxi_units.proofs.Written.{length_of_padded}
 
 -- a number below a power of ten has no more digits than that has zeros
-pub numbers_are_short : (places value : ℕ) → 0 < places → places ≤ 64 → value < 10 ^ places → (0 < length (decimal value)) × (length (decimal value) ≤ places)
+pub numbers_are_short : (places value : ℕ) → 0 < places → places ≤ 64 → value < 10 ^ places
+    → (0 < length (decimal value)) × (length (decimal value) ≤ places)
 numbers_are_short places value some few small =
     let most : 10 ^ places ≤ 10 ^ 64 = pow-le-pow_right (omega arith) few in
     ((decimal_is_IsNumeral_wide value (omega arith)).0.0, length-decimal-le_wide places value some small (omega arith))
 
 -- zeros in front fill the width
-pub padded_numbers_fill_the_width : (width value : ℕ) → length (padded_text width value) ≡ max width (length (decimal value))
+pub padded_numbers_fill_the_width : (width value : ℕ)
+    → length (padded_text width value) ≡ max width (length (decimal value))
 padded_numbers_fill_the_width width value = omega (arith, length_of_padded width value)
 
 -- an amount has a point more
-pub amounts_are_short : (decimals places units : ℕ) → decimals < places → places ≤ 64 → units < 10 ^ places → (0 < length (money_text decimals units)) × (length (money_text decimals units) ≤ places + 1)
-amounts_are_short zero places units more few small = let short = numbers_are_short places units more few small in omega arith
+pub amounts_are_short : (decimals places units : ℕ) → decimals < places → places ≤ 64 → units < 10 ^ places
+    → (0 < length (money_text decimals units)) × (length (money_text decimals units) ≤ places + 1)
+amounts_are_short zero places units more few small = let short =
+    numbers_are_short places units more few small in omega arith
 amounts_are_short (suc d) places units more few small =
     let one = 10 ^ suc d in
     let above = places - suc d in
@@ -30,7 +35,13 @@ amounts_are_short (suc d) places units more few small =
     let whole = numbers_are_short above (units / one) (omega arith) (omega arith) whole_small in
     let part_small : units % one < one = mod-lt units some in
     let part = numbers_are_short (suc d) (units % one) (omega arith) (omega arith) part_small in
-    omega (arith, length-append (decimal (units / one)) (46 ∷ padded_text (suc d) (units % one)), whole, part, length_of_padded (suc d) (units % one))
+    omega (
+      arith,
+      length-append (decimal (units / one)) (46 ∷ padded_text (suc d) (units % one)),
+      whole,
+      part,
+      length_of_padded (suc d) (units % one),
+    )
 
 -- a number of 128 bits fits into 39 bytes
 pub numbers_fit : (value : ℕ) → value < 2 ^ 128 → length (decimal value) ≤ 39

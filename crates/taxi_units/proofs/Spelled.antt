@@ -1,5 +1,6 @@
 -- The texts of numbers and amounts are the only ones with their digits.
-use Rattle.std.proofs.Common.{◌≡◌, ◌≢◌, ◌∙◌, ℕ, zero, suc, ◌+◌, ◌*◌, ◌/◌, ◌%◌, ◌^◌, ◌<◌, ◌≤◌, ◌↔◌, inl, inr, List, [], ◌∷◌, ◌++◌, length, get_or, refl, ap, sym, subst, arith}
+use Rattle.std.proofs.Common.{◌≡◌, ◌≢◌, ◌∙◌, ℕ, zero, suc, ◌+◌, ◌*◌, ◌/◌, ◌%◌, ◌^◌, ◌<◌, ◌≤◌, ◌↔◌, inl, inr, List, []}
+use Rattle.std.proofs.Common.{◌∷◌, ◌++◌, length, get_or, refl, ap, sym, subst, arith}
 use Rattle.std.specs.Fmt.{decimal}
 use Rattle.std.specs.Char.{digit_value}
 use Rattle.std.specs.Str.Parse.{AllDigits, digits_value}
@@ -38,16 +39,19 @@ parted a v b w p hv hw e =
     (first, omega arith)
 
 -- digits of one length and one value are the same
-pub same_digits : (xs ys : List ℕ) → AllDigits 10 xs → AllDigits 10 ys → length xs ≡ length ys → digits_value 10 xs ≡ digits_value 10 ys → xs ≡ ys
+pub same_digits : (xs ys : List ℕ) → AllDigits 10 xs → AllDigits 10 ys → length xs ≡ length ys
+    → digits_value 10 xs ≡ digits_value 10 ys → xs ≡ ys
 same_digits [] [] hx hy long value = refl
 same_digits [] (y ∷ ys) hx hy long value = absurd (omega arith)
 same_digits (x ∷ xs) [] hx hy long value = absurd (omega arith)
 same_digits (x ∷ xs) (y ∷ ys) hx hy long value =
     let length_is : length xs ≡ length ys = omega arith in
     let below : digits_value 10 ys < 10 ^ length xs = rw length_is (digits_value-lt 10 ys hy.1) in
-    let second : digits_value 10 (y ∷ ys) ≡ digit_value y * 10 ^ length xs + digits_value 10 ys = rw length_is (value_cons y ys) in
+    let second : digits_value 10 (y ∷ ys) ≡ digit_value y * 10 ^ length xs + digits_value 10 ys =
+    rw length_is (value_cons y ys) in
     let sums = sym (value_cons x xs) ∙ (value ∙ second) in
-    let parts = parted (digit_value x) (digits_value 10 xs) (digit_value y) (digits_value 10 ys) (10 ^ length xs) (digits_value-lt 10 xs hx.1) below sums in
+    let parts = parted (digit_value x) (digits_value 10 xs) (digit_value y) (digits_value 10 ys) (10 ^ length xs)
+    (digits_value-lt 10 xs hx.1) below sums in
     let first : x ≡ y = digit_is x hx.0 ∙ (ap (λ (n : ℕ). 48 + n) parts.0 ∙ sym (digit_is y hy.0)) in
     let rest : xs ≡ ys = same_digits xs ys hx.1 hy.1 length_is parts.1 in
     cc
@@ -75,18 +79,21 @@ no_longer value (x ∷ xs) ys h k =
 -- so a number has one
 one_text : (value : ℕ) (xs ys : List ℕ) → IsNumberText value xs → IsNumberText value ys → xs ≡ ys
 one_text value xs ys h k =
-    same_digits xs ys h.digits.1 k.digits.1 (omega (arith, no_longer value xs ys h k, no_longer value ys xs k h)) (h.value_is ∙ sym k.value_is)
+    same_digits xs ys h.digits.1 k.digits.1 (omega (arith, no_longer value xs ys h k, no_longer value ys xs k h))
+    (h.value_is ∙ sym k.value_is)
 
 abbrev ZeroFirst : ℕ → List ℕ → Type 0
 ZeroFirst n digits = (0 < length digits) × (get_or digits 0 0 ≡ 48 → n ≡ 0)
 
-zero_first_more : (n last : ℕ) (digits : List ℕ) → 10 ≤ n → ZeroFirst (n / 10) digits → ZeroFirst n (digits ++ last ∷ [])
+zero_first_more : (n last : ℕ) (digits : List ℕ) → 10 ≤ n → ZeroFirst (n / 10) digits
+    → ZeroFirst n (digits ++ last ∷ [])
 zero_first_more n last [] more h = absurd (omega (arith, h.0))
 zero_first_more n last (d ∷ ds) more h = (omega arith, λ e. absurd (omega (arith, h.1 e)))
 
 -- only zero begins with a zero
 zero_first : (n : ℕ) → n < 10 ^ 64 → ZeroFirst n (decimal n)
-zero_first n small = decimal_by_steps_wide ZeroFirst (λ m few. (omega arith, λ e. omega arith)) (λ m digits more h. zero_first_more m (48 + m % 10) digits more h) n small
+zero_first n small = decimal_by_steps_wide ZeroFirst (λ m few. (omega arith, λ e. omega arith))
+    (λ m digits more h. zero_first_more m (48 + m % 10) digits more h) n small
 
 -- the text of a number
 pub decimal_is_text : (value : ℕ) → value < 2 ^ 128 → IsNumberText value (decimal value)
@@ -100,9 +107,12 @@ decimal_is_text value small =
           ap (λ (n : ℕ). length (decimal n)) zero_is ∙ ap length (decimal_digit 0 (omega arith));
     }
 
-pub numbers_are_written_by_their_digits : (value : ℕ) (text : List ℕ) → value < 2 ^ 128 → (decimal value ≡ text) ↔ IsNumberText value text
-numbers_are_written_by_their_digits value text small =
-    (λ e. subst (IsNumberText value) e (decimal_is_text value small), λ h. one_text value (decimal value) text (decimal_is_text value small) h)
+pub numbers_are_written_by_their_digits : (value : ℕ) (text : List ℕ) → value < 2 ^ 128 → (decimal value ≡ text)
+    ↔ IsNumberText value text
+numbers_are_written_by_their_digits value text small = (
+  λ e. subst (IsNumberText value) e (decimal_is_text value small),
+  λ h. one_text value (decimal value) text (decimal_is_text value small) h,
+)
 
 -- the same with zeros in front
 padded_is_text : (width value : ℕ) → value < 2 ^ 128 → IsPaddedText width value (padded_text width value)
@@ -110,11 +120,13 @@ padded_is_text width value small =
     let digits = digits_of_padded width value small in
     record { digits = digits.0; value_is = digits.1; length_is = omega (arith, length_of_padded width value) }
 
-pub padded_numbers_are_written_by_their_digits : (width value : ℕ) (text : List ℕ) → value < 2 ^ 128 → (padded_text width value ≡ text) ↔ IsPaddedText width value text
+pub padded_numbers_are_written_by_their_digits : (width value : ℕ) (text : List ℕ) → value < 2 ^ 128
+    → (padded_text width value ≡ text) ↔ IsPaddedText width value text
 padded_numbers_are_written_by_their_digits width value text small =
     let written = padded_is_text width value small in (
       λ e. subst (IsPaddedText width value) e written,
-      λ h. same_digits (padded_text width value) text written.digits.1 h.digits.1 (written.length_is ∙ sym h.length_is) (written.value_is ∙ sym h.value_is),
+      λ h. same_digits (padded_text width value) text written.digits.1 h.digits.1 (written.length_is ∙ sym h.length_is)
+          (written.value_is ∙ sym h.value_is),
     )
 
 -- the text of an amount
@@ -137,7 +149,8 @@ amount_is_text (suc more) units small =
     let part_small : units % one < 2 ^ 128 = omega (arith, div-add-mod' units one) in
     let below = digits_of_padded (suc more) (units % one) part_small in
     let fills = padded_fills (suc more) (units % one) (omega arith) part part_small in
-    let value : digits_value 10 (decimal (units / one)) * one + digits_value 10 (padded_text (suc more) (units % one)) ≡ units = rw (above.value_is, below.1) (div-add-mod' units one) in
+    let value : digits_value 10 (decimal (units / one)) * one + digits_value 10 (padded_text (suc more) (units % one))
+    ≡ units = rw (above.value_is, below.1) (div-add-mod' units one) in
     record {
       whole = decimal (units / one);
       parts = padded_text (suc more) (units % one);
@@ -148,27 +161,37 @@ amount_is_text (suc more) units small =
     }
 
 -- is the only one
-amount_only : (decimals units : ℕ) (text whole parts : List ℕ) → units < 2 ^ 128 → IsDecimal text whole parts → HasNoZeroInFront whole → length parts ≡ decimals → units_of decimals whole parts ≡ units → money_text decimals units ≡ text
+amount_only : (decimals units : ℕ) (text whole parts : List ℕ) → units < 2 ^ 128 → IsDecimal text whole parts
+    → HasNoZeroInFront whole → length parts ≡ decimals → units_of decimals whole parts ≡ units
+    → money_text decimals units ≡ text
 amount_only zero units text whole [] small form front exactly value =
     let units_are : digits_value 10 whole ≡ units = omega (arith, units_of_parts 0 whole [] refl, value) in
-    one_text units (decimal units) whole (decimal_is_text units small) (record { digits = form.0; value_is = units_are; front = front }) ∙ sym form.1
+    one_text units (decimal units) whole (decimal_is_text units small)
+    (record { digits = form.0; value_is = units_are; front = front }) ∙ sym form.1
 amount_only zero units text whole (p ∷ ps) small form front exactly value = absurd (omega arith)
 amount_only (suc more) units text whole [] small form front exactly value = absurd (omega arith)
 amount_only (suc more) units text whole (p ∷ ps) small form front exactly value =
     let one = 10 ^ suc more in
     let below : digits_value 10 (p ∷ ps) < one = rw exactly at (digits_value-lt 10 (p ∷ ps) form.1) in
-    let sums : digits_value 10 whole * one + digits_value 10 (p ∷ ps) ≡ units = sym (units_of_parts (suc more) whole (p ∷ ps) exactly) ∙ value in
-    let above_is : units / one ≡ digits_value 10 whole = ap (λ (n : ℕ). n / one) (sym sums) ∙ div-mul-add (digits_value 10 whole) one (digits_value 10 (p ∷ ps)) below in
-    let part_is : units % one ≡ digits_value 10 (p ∷ ps) = ap (λ (n : ℕ). n % one) (sym sums) ∙ mod-mul-add (digits_value 10 whole) one (digits_value 10 (p ∷ ps)) below in
+    let sums : digits_value 10 whole * one + digits_value 10 (p ∷ ps) ≡ units =
+    sym (units_of_parts (suc more) whole (p ∷ ps) exactly) ∙ value in
+    let above_is : units / one ≡ digits_value 10 whole =
+    ap (λ (n : ℕ). n / one) (sym sums) ∙ div-mul-add (digits_value 10 whole) one (digits_value 10 (p ∷ ps)) below in
+    let part_is : units % one ≡ digits_value 10 (p ∷ ps) =
+    ap (λ (n : ℕ). n % one) (sym sums) ∙ mod-mul-add (digits_value 10 whole) one (digits_value 10 (p ∷ ps)) below in
     let part_small : units % one < 2 ^ 128 = omega (arith, div-add-mod' units one) in
     let part : units % one < one = rw part_is below in
-    let first : decimal (units / one) ≡ whole = one_text (units / one) (decimal (units / one)) whole (decimal_is_text (units / one) (omega (arith, div-le_self units one))) (record { digits = form.0; value_is = sym above_is; front = front }) in
+    let first : decimal (units / one) ≡ whole = one_text (units / one) (decimal (units / one)) whole
+    (decimal_is_text (units / one) (omega (arith, div-le_self units one)))
+    (record { digits = form.0; value_is = sym above_is; front = front }) in
     let digits = digits_of_padded (suc more) (units % one) part_small in
     let fills = padded_fills (suc more) (units % one) (omega arith) part part_small in
-    let second : padded_text (suc more) (units % one) ≡ p ∷ ps = same_digits (padded_text (suc more) (units % one)) (p ∷ ps) digits.0.1 form.1 (fills ∙ sym exactly) (digits.1 ∙ part_is) in
+    let second : padded_text (suc more) (units % one) ≡ p ∷ ps = same_digits (padded_text (suc more) (units % one))
+    (p ∷ ps) digits.0.1 form.1 (fills ∙ sym exactly) (digits.1 ∙ part_is) in
     rw (first, second) (sym form.2)
 
-pub amounts_are_written_by_their_digits : (decimals units : ℕ) (text : List ℕ) → units < 2 ^ 128 → (money_text decimals units ≡ text) ↔ IsAmountText decimals units text
+pub amounts_are_written_by_their_digits : (decimals units : ℕ) (text : List ℕ) → units < 2 ^ 128
+    → (money_text decimals units ≡ text) ↔ IsAmountText decimals units text
 amounts_are_written_by_their_digits decimals units text small = (
   λ e. subst (IsAmountText decimals units) e (amount_is_text decimals units small),
   λ h. amount_only decimals units text h.whole h.parts small h.form h.front h.exactly h.value_is,

@@ -3,7 +3,7 @@ use Rattle.std.proofs.Common.{◌≡◌, ◌≤◌, ◌+◌, ◌↔◌, ℕ, Lis
 use Rattle.taxi_units.specs.Limits.{last_number}
 use Rattle.totals_record.specs.declared.change.Change.TheVariants.{Enter, Hold}
 use Rattle.totals_record.specs.declared.trip.Trip.{Trip}
-use Rattle.totals_record.specs.declared.durable.Durable.{Durable}
+use Rattle.totals_record.specs.declared.durable_state.Durable.{Durable}
 use Rattle.totals_record.specs.declared.change.Change.{Change}
 use Rattle.totals_record.specs.declared.entry.Entry.{Entry}
 use Rattle.totals_record.specs.declared.totals.Totals.{Totals}
@@ -14,11 +14,12 @@ use Rattle.totals_record.specs.States.{after, after_all}
 use Rattle.totals_record.specs.Sums.{totals_of, AddsUp, GrowsBy}
 use Rattle.totals_record.specs.BodyLaws.{reads_exactly}
 use Rattle.totals_record.proofs.Adding.{adds_up}
-use Rattle.totals_record.proofs.Keeping.{entry_keeps, trip_keeps}
+use Rattle.totals_record.proofs.CommitRanges.{entry_keeps, trip_keeps}
 use Rattle.totals_record.proofs.Changing.{follows}
 
 -- bytes are read as a state exactly where it is in its ranges and they are its own
-pub states_are_read_by_their_table : (bytes : List ℕ) (durable : Durable) → (reads bytes ≡ Some durable) ↔ (IsDurable durable × (bytes ≡ spelling durable))
+pub states_are_read_by_their_table : (bytes : List ℕ) (durable : Durable) → (reads bytes ≡ Some durable)
+    ↔ (IsDurable durable × (bytes ≡ spelling durable))
 states_are_read_by_their_table = reads_exactly
 
 -- totals with a list of entries more have grown by the sums over the list
@@ -30,11 +31,13 @@ pub changes_add_up : (opening : Durable) (changes : List Change) → GrowsBy ope
 changes_add_up = follows
 
 -- the ranges hold after an entry as the meter makes them
-pub entries_keep_the_ranges : (durable : Durable) (entry : Entry) → IsDurable durable → durable.number ≤ last_number → IsEntry entry → HasRoom durable entry
+pub entries_keep_the_ranges : (durable : Durable) (entry : Entry) → IsDurable durable → durable.number ≤ last_number
+    → IsEntry entry → HasRoom durable entry
     → IsDurable (after durable (Enter entry))
 entries_keep_the_ranges = entry_keeps
 
 -- and after a trip is held that is in its ranges
-pub held_trips_keep_the_ranges : (durable : Durable) (trip : Trip) → IsDurable durable → durable.number + 1 ≤ last_number → IsTripInItsRanges (durable.number + 1) trip
+pub held_trips_keep_the_ranges : (durable : Durable) (trip : Trip) → IsDurable durable
+    → durable.number + 1 ≤ last_number → IsTripInItsRanges (durable.number + 1) trip
     → IsDurable (after durable (Hold trip))
 held_trips_keep_the_ranges = trip_keeps

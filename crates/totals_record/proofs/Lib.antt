@@ -5,7 +5,7 @@ mod Appends
 -- the state after a list of commits, and the trip that is held then
 mod Changing
 -- what the meter commits keeps the ranges
-mod Keeping
+mod CommitRanges
 -- the laws that the crates above may cite
 pub mod Laws
 -- how an entry changes the shares

@@ -9,7 +9,7 @@ use Rattle.slot_bodies.specs.Bodies.{AreBodies, body_size}
 use Rattle.slot_bodies.specs.Codec.{spell_optional, ◌⊙◌}
 use Rattle.slot_bodies.proofs.Laws as below
 use Rattle.taxi_units.specs.Limits.{last_number}
-use Rattle.totals_record.specs.declared.durable.Durable.{Durable}
+use Rattle.totals_record.specs.declared.durable_state.Durable.{Durable}
 use Rattle.totals_record.specs.declared.totals.Share.{Share}
 use Rattle.totals_record.specs.declared.trip.Trip.{Trip}
 use Rattle.totals_record.specs.Bytes.{four, eight}

@@ -10,7 +10,7 @@ use Rattle.slot_bodies.specs.Codec.{Codec, byte, eight_bytes, made, optional, ro
 use Rattle.slot_bodies.specs.ReadBack.{read_back}
 use Rattle.taxi_units.specs.Limits.{last_number}
 use Rattle.taxi_units.specs.Test.{Test, at_most, choice, each, if_some, same, stated, ◌&◌}
-use Rattle.totals_record.specs.declared.durable.Durable.{Durable}
+use Rattle.totals_record.specs.declared.durable_state.Durable.{Durable}
 use Rattle.totals_record.specs.declared.totals.Share.{Share}
 use Rattle.totals_record.specs.declared.totals.Totals.{Totals}
 use Rattle.totals_record.specs.declared.trip.Trip.{Trip}
@@ -105,7 +105,8 @@ layout_test layout shares =
     same (length shares) 9 & choice (same layout 1) (each none_test shares) (same layout 2)
 
 -- shares that are each of no hiring are as many of these
-pub all_none : (shares : List Share) → All (λ share. share ≡ no_share) shares → shares ≡ replicate (length shares) no_share
+pub all_none : (shares : List Share) → All (λ share. share ≡ no_share) shares
+    → shares ≡ replicate (length shares) no_share
 all_none [] each = refl
 all_none (share ∷ others) each =
     let first = All-head (λ s. s ≡ no_share) share others each in

@@ -2,7 +2,7 @@
 use Rattle.std.specs.Prelude.{◌≡◌, ℕ, ◌+◌, ◌-◌, ◌≤◌, List, length, get_or}
 use Rattle.std.specs.List.{fold, sum_by, count_by}
 use Rattle.totals_record.specs.declared.change.Change.{Change}
-use Rattle.totals_record.specs.declared.durable.Durable.{Durable}
+use Rattle.totals_record.specs.declared.durable_state.Durable.{Durable}
 use Rattle.totals_record.specs.declared.entry.Entry.{Entry}
 use Rattle.totals_record.specs.declared.totals.Share.{Share}
 use Rattle.totals_record.specs.declared.totals.Totals.{Totals}

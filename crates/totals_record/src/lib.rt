@@ -8,7 +8,7 @@ mod body_laws;
 mod bytes;
 mod change;
 mod decoding;
-mod durable;
+mod durable_state;
 mod entry;
 mod range_laws;
 mod ranges;
@@ -20,7 +20,7 @@ mod trip;
 
 pub use body_laws::states_are_read_by_their_table;
 pub use change::Change;
-pub use durable::Durable;
+pub use durable_state::Durable;
 pub use entry::Entry;
 pub use range_laws::commits_keep_the_ranges;
 pub use state_laws::changes_add_up;

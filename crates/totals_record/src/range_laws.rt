@@ -1,7 +1,7 @@
 //! Commits of the meter keep the ranges.
 ghost use Rattle.std.specs.Prelude.{◌+◌, ◌≤◌};
 ghost use Rattle.totals_record.specs.declared.change.Change.TheVariants.{Enter, Hold};
-ghost use Rattle.totals_record.specs.declared.durable.Durable.{Durable};
+ghost use Rattle.totals_record.specs.declared.durable_state.Durable.{Durable};
 ghost use Rattle.totals_record.specs.declared.entry.Entry.{Entry};
 ghost use Rattle.totals_record.specs.declared.trip.Trip.{Trip};
 ghost use Rattle.totals_record.specs.Ranges.{HasRoom, IsDurable, IsEntry, IsTripInItsRanges};

@@ -1,7 +1,7 @@
 //! The state after a list of commits, in words that share nothing with how the code finds it.
 ghost use Rattle.std.specs.Prelude.{List};
 ghost use Rattle.totals_record.specs.declared.change.Change.{Change};
-ghost use Rattle.totals_record.specs.declared.durable.Durable.{Durable};
+ghost use Rattle.totals_record.specs.declared.durable_state.Durable.{Durable};
 ghost use Rattle.totals_record.specs.States.{after_all};
 ghost use Rattle.totals_record.specs.Sums.{GrowsBy};
 

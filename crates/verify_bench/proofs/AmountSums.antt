@@ -1,11 +1,12 @@
 -- The amounts of supplements, number by number.
-use Rattle.std.proofs.Common.{◌≡◌, ℕ, zero, suc, ◌+◌, ◌*◌, ◌-◌, ◌<◌, ◌≤◌, ◌∙◌, List, [], ◌∷◌, ◌++◌, refl, ap, sym, map, sum, All, inl, inr, arith}
+use Rattle.std.proofs.Common.{◌≡◌, ℕ, zero, suc, ◌+◌, ◌*◌, ◌-◌, ◌<◌, ◌≤◌, ◌∙◌, List, [], ◌∷◌, ◌++◌, refl, ap, sym, map}
+use Rattle.std.proofs.Common.{sum, All, inl, inr, arith}
 use Rattle.std.specs.Prelude.{cond, nat_eq}
 use Rattle.std.proofs.Math.Nat.{add-mul}
 use Rattle.std.proofs.lemmas.List.Elements.{All-head, All-push, All-tail}
 use Rattle.std.proofs.lemmas.List.Sums.{sum_by-append, sum_by-cons}
 use Rattle.std.proofs.lemmas.Bool.Decides.{eqb_tells}
-use Rattle.meter_states.specs.Kept.{IsSupplementNumber}
+use Rattle.meter_states.specs.KeptTrip.{IsSupplementNumber}
 use Rattle.meter_states.specs.Supplements.{times}
 use Rattle.verify_bench.specs.Amounts.{amounts_among}
 use Rattle.verify_bench.proofs.Gathering.{zero_plus}
@@ -24,16 +25,20 @@ module _ (amount : ℕ → ℕ) where
   among_none first (suc many) = omega (arith, among_none (first + 1) many)
 
   -- a number below the first changes nothing
-  below_first : (first many x : ℕ) (xs : List ℕ) → x < first → amounts_among amount first many (x ∷ xs) ≡ amounts_among amount first many xs
+  below_first : (first many x : ℕ) (xs : List ℕ) → x < first
+      → amounts_among amount first many (x ∷ xs) ≡ amounts_among amount first many xs
   unfolding amounts_among
   below_first first zero x xs below = refl
   below_first first (suc many) x xs below = elim (eqb_tells x first) [
     | inl same ↦ absurd (omega (arith, same.1))
-    | inr apart ↦ rw (times_head first x xs, apart.0, below_first (first + 1) many x xs (omega arith), zero_plus (times first xs)) refl
+    | inr apart ↦
+        rw (times_head first x xs, apart.0, below_first (first + 1) many x xs (omega arith), zero_plus (times first xs))
+        refl
   ]
 
   -- a number among them adds its amount
-  pub among_more : (first many x : ℕ) (xs : List ℕ) → first ≤ x → x < first + many → amounts_among amount first many (x ∷ xs) ≡ amount x + amounts_among amount first many xs
+  pub among_more : (first many x : ℕ) (xs : List ℕ) → first ≤ x → x < first + many
+      → amounts_among amount first many (x ∷ xs) ≡ amount x + amounts_among amount first many xs
   unfolding amounts_among
   among_more first zero x xs least most = absurd (omega arith)
   among_more first (suc many) x xs least most = elim (eqb_tells x first) [
@@ -55,8 +60,10 @@ module _ (amount : ℕ → ℕ) where
       ∙ sym (sum_head (amount x) (map amount xs)))
 
   -- one number of those up to 16 more
-  pub among_here : (number sum_so_far count price total : ℕ) (xs : List ℕ) → number ≤ 16 → count ≡ times number xs → price ≡ amount number
-      → sum_so_far + amounts_among amount number (17 - number) xs ≡ total → (sum_so_far + count * price) + amounts_among amount (number + 1) (17 - (number + 1)) xs ≡ total
+  pub among_here : (number sum_so_far count price total : ℕ) (xs : List ℕ) → number ≤ 16 → count ≡ times number xs
+      → price ≡ amount number
+      → sum_so_far + amounts_among amount number (17 - number) xs ≡ total
+      → (sum_so_far + count * price) + amounts_among amount (number + 1) (17 - (number + 1)) xs ≡ total
   unfolding amounts_among
   among_here number sum_so_far count price total xs few counted priced so_far =
       let many : 17 - number ≡ suc (16 - number) = omega arith in
@@ -64,7 +71,8 @@ module _ (amount : ℕ → ℕ) where
       let before : sum_so_far + amounts_among amount number (suc (16 - number)) xs ≡ total = rw many at so_far in
       rw (fewer, counted, priced) (omega (arith, before))
 
-  pub among_nothing : (number sum_so_far total : ℕ) (xs : List ℕ) → 17 ≤ number → sum_so_far + amounts_among amount number (17 - number) xs ≡ total → sum_so_far ≡ total
+  pub among_nothing : (number sum_so_far total : ℕ) (xs : List ℕ) → 17 ≤ number
+      → sum_so_far + amounts_among amount number (17 - number) xs ≡ total → sum_so_far ≡ total
   unfolding amounts_among
   among_nothing number sum_so_far total xs all so_far =
       let none : 17 - number ≡ 0 = omega arith in
@@ -77,7 +85,8 @@ times_push number x xs =
     let one : times number (x ∷ []) ≡ cond (nat_eq x number) 1 0 = omega (arith, times_head number x []) in
     sum_by-append (λ (n : ℕ). cond (nat_eq n number) 1 0) xs (x ∷ []) ∙ ap (λ (m : ℕ). times number xs + m) one
 
-pub few_times : (x : ℕ) (xs : List ℕ) → times x xs < 99 → ((number : ℕ) → times number xs ≤ 99) → (number : ℕ) → times number (xs ++ x ∷ []) ≤ 99
+pub few_times : (x : ℕ) (xs : List ℕ) → times x xs < 99 → ((number : ℕ) → times number xs ≤ 99) → (number : ℕ)
+    → times number (xs ++ x ∷ []) ≤ 99
 few_times x xs room few number = elim (eqb_tells x number) [
   | inl same ↦
       let here : times number xs < 99 = rw same.1 at room in
@@ -85,5 +94,6 @@ few_times x xs room few number = elim (eqb_tells x number) [
   | inr apart ↦ rw (times_push number x xs, apart.0) (omega (arith, few number))
 ]
 
-pub all_numbers : (x : ℕ) (xs : List ℕ) → IsSupplementNumber x → All IsSupplementNumber xs → All IsSupplementNumber (xs ++ x ∷ [])
+pub all_numbers : (x : ℕ) (xs : List ℕ) → IsSupplementNumber x → All IsSupplementNumber xs
+    → All IsSupplementNumber (xs ++ x ∷ [])
 all_numbers x xs here all = All-push IsSupplementNumber xs x all here

@@ -5,47 +5,54 @@ use Rattle.std.proofs.lemmas.Bool.{le-ltb, lt-ltb}
 use Rattle.meter_states.specs.Closing.{roaming_entered}
 use Rattle.meter_states.specs.Meter.{Meter}
 use Rattle.meter_states.specs.Setting.{Setting}
-use Rattle.meter_states.specs.Supply.{kept}
-use Rattle.meter_states.specs.Trip.{Trip}
+use Rattle.meter_states.specs.Supply.{held_or_closed}
+use Rattle.meter_states.specs.Trip.{MeterTrip}
 use Rattle.tariff_syntax.specs.declared.context.Context.{Context}
 use Rattle.taxi_units.specs.Limits.{last_number}
-use Rattle.totals_record.specs.declared.trip.Trip as store
+use Rattle.totals_record.specs.declared.trip.Trip.{Trip}
 use Rattle.taxi_units.specs.Time.{IsSecond}
-use Rattle.verify_bench.specs.Bench.{AreTrips, IsSoundHeld, Stands, held_of}
+use Rattle.verify_bench.specs.Bench.{AreTrips, IsHeldInRange, BenchStands, held_of}
 use Rattle.verify_bench.specs.declared.hiring.Hiring.{Hiring}
-use Rattle.verify_bench.specs.declared.plain_meter.Held.{Held}
-use Rattle.verify_bench.specs.declared.plain_meter.BenchMeter.{BenchMeter}
+use Rattle.verify_bench.specs.declared.bench_meter.SavedState.{SavedState}
+use Rattle.verify_bench.specs.declared.bench_meter.BenchMeter.{BenchMeter}
 
 -- no trip stands beside no hiring
-pub none_beside : (s : Setting) (hired : Context) (hiring : Option Hiring) (trip : Option Trip) → hiring ≡ None → AreTrips s hired hiring trip → trip ≡ None
+pub none_beside : (s : Setting) (hired : Context) (hiring : Option Hiring) (trip : Option MeterTrip) → hiring ≡ None
+    → AreTrips s hired hiring trip → trip ≡ None
 none_beside s hired None None none are = refl
 none_beside s hired None (Some trip) none are = absurd are
 none_beside s hired (Some hiring) trip none are = absurd cc
 
 -- the held trip that the bench keeps
-pub hold_beside : (hold : Option store.Trip) (held : Held) → Some held ≡ option_map held_of hold → (trip : store.Trip) × (hold ≡ Some trip) × (held ≡ held_of trip)
+pub hold_beside : (hold : Option Trip) (held : SavedState) → Some held ≡ option_map held_of hold
+    → (trip : Trip) × (hold ≡ Some trip) × (held ≡ held_of trip)
 hold_beside None held are = absurd cc
 hold_beside (Some trip) held are = (trip, refl, cc)
 
 -- roaming is entered where there is some
-pub keeps_roaming : (s : Setting) (hired : Context) (meter : BenchMeter) (m : Meter) → Stands s hired meter m → meter.hiring ≡ None → 0 < meter.roam → kept s m.trip m ≡ roaming_entered s m
+pub keeps_roaming : (s : Setting) (hired : Context) (meter : BenchMeter) (m : Meter) → BenchStands s hired meter m
+    → meter.hiring ≡ None → 0 < meter.roam → held_or_closed s m.trip m ≡ roaming_entered s m
 keeps_roaming s hired meter m stands none long =
     let trip : m.trip ≡ None = none_beside s hired meter.hiring m.trip none stands.trips in
     let some : nat_lt 0 (sum m.roaming) ≡ true = lt-ltb 0 (sum m.roaming) (omega (arith, stands.roam)) in
     rw (trip, some) refl
 
 -- the store takes a held trip, or no more
-pub holds_yet : (s : Setting) (hired : Context) (meter : BenchMeter) (m : Meter) → Stands s hired meter m → meter.number < last_number → nat_lt m.durable.number last_number ≡ true
+pub holds_yet : (s : Setting) (hired : Context) (meter : BenchMeter) (m : Meter) → BenchStands s hired meter m
+    → meter.number < last_number → nat_lt m.durable.number last_number ≡ true
 holds_yet s hired meter m stands few = lt-ltb m.durable.number last_number (omega (arith, stands.number))
 
 -- what is kept of a held trip has a second of the meter
-pub saved_is_a_second : (found : Option Held) (held : Held) → found ≡ Some held → IsSoundHeld found → IsSecond held.saved
+pub saved_is_a_second : (found : Option SavedState) (held : SavedState) → found ≡ Some held → IsHeldInRange found
+    → IsSecond held.saved
 saved_is_a_second None held is sound = absurd cc
 saved_is_a_second (Some other) held is sound = let same : other ≡ held = cc in rw same at sound
 
-pub none_held : (hold : Option store.Trip) (held : Option Held) → held ≡ None → held ≡ option_map held_of hold → hold ≡ None
+pub none_held : (hold : Option Trip) (held : Option SavedState) → held ≡ None
+    → held ≡ option_map held_of hold → hold ≡ None
 none_held None held none is = refl
 none_held (Some trip) held none is = absurd cc
 
-pub holds_no_more : (s : Setting) (hired : Context) (meter : BenchMeter) (m : Meter) → Stands s hired meter m → last_number ≤ meter.number → nat_lt m.durable.number last_number ≡ false
+pub holds_no_more : (s : Setting) (hired : Context) (meter : BenchMeter) (m : Meter) → BenchStands s hired meter m
+    → last_number ≤ meter.number → nat_lt m.durable.number last_number ≡ false
 holds_no_more s hired meter m stands many = le-ltb m.durable.number last_number (omega (arith, stands.number))

@@ -6,7 +6,8 @@ use Rattle.drive_modes.specs.Fare.{shown_fare}
 use Rattle.taxi_units.specs.Money.{largest_amount}
 
 -- no more than eight digits of the steps count
-pub capped_fare : (initial minimum step steps : ℕ) → 1 ≤ step → min (max (initial + step * min steps largest_amount) minimum) largest_amount ≡ shown_fare initial minimum step steps
+pub capped_fare : (initial minimum step steps : ℕ) → 1 ≤ step → min
+    (max (initial + step * min steps largest_amount) minimum) largest_amount ≡ shown_fare initial minimum step steps
 capped_fare initial minimum step steps some = elim (cases_lt largest_amount steps) [
   | inl many ↦
       let least : min steps largest_amount ≡ largest_amount = omega arith in

@@ -1,5 +1,6 @@
 -- Events that the bench carries out, one after another.
-use Rattle.std.proofs.Common.{◌≡◌, ℕ, zero, suc, ◌+◌, ◌<◌, ◌∙◌, List, length, drop, get_or, [], ◌∷◌, ◌++◌, ap, sym, refl, append_assoc, add-one, flat_map, map}
+use Rattle.std.proofs.Common.{◌≡◌, ℕ, zero, suc, ◌+◌, ◌<◌, ◌∙◌, List, length, drop, get_or, [], ◌∷◌, ◌++◌, ap, sym}
+use Rattle.std.proofs.Common.{refl, append_assoc, add-one, flat_map, map}
 use Rattle.std.proofs.lemmas.List.{append-nil}
 use Rattle.std.proofs.Math.Seq.{drop-cons}
 use Rattle.drive_text.specs.Runs.{interval_events, intervals_events, run_events}
@@ -12,15 +13,17 @@ use Rattle.taxi_units.specs.declared.event.Event.{Event}
 use Rattle.taxi_units.specs.declared.event.Event.TheVariants.{Down}
 use Rattle.tariff_syntax.specs.declared.context.Context.{Context}
 use Rattle.totals_record.specs.States.{first_state}
-use Rattle.verify_bench.specs.Bench.{GoesThroughEvent, Stands}
+use Rattle.verify_bench.specs.Bench.{GoesThroughEvent, BenchStands}
 use Rattle.verify_bench.specs.Carrying.{Carries, IsAmid, IsAmidExpected}
 use Rattle.verify_bench.specs.Expecting.{expected_of}
-use Rattle.verify_bench.specs.Explaining.{Explanation, explanation_of, explanations_from, explanations_of, explanations_in, hired_at, trip_at}
+use Rattle.verify_bench.specs.Explaining.{Explanation, explanation_of, explanations_from, explanations_of}
+use Rattle.verify_bench.specs.Explaining.{explanations_in, hired_at, trip_at}
 use Rattle.verify_bench.specs.declared.explained.Explained.{Explained}
-use Rattle.verify_bench.specs.declared.plain_meter.BenchMeter.{BenchMeter}
+use Rattle.verify_bench.specs.declared.bench_meter.BenchMeter.{BenchMeter}
 
 -- an event
-pub carries_event : (s : Setting) (event : Event) (old new : BenchMeter) (a b : List Explained) → GoesThroughEvent s event (λ s. step s event) old new a b → Carries s (event ∷ []) old new a b
+pub carries_event : (s : Setting) (event : Event) (old new : BenchMeter) (a b : List Explained)
+    → GoesThroughEvent s event (λ s. step s event) old new a b → Carries s (event ∷ []) old new a b
 unfolding explanations_from
 carries_event s event old new a b moves all left amid =
     let moved = moves amid.m amid.hired amid.stands in
@@ -30,7 +33,8 @@ carries_event s event old new a b moves all left amid =
       m = (step s event amid.m).next;
       hired = hired_at s event amid.m amid.hired;
       stands = moved.state;
-      split = ap (λ (list : List Explanation). list ++ others) moved.found ∙ (append_assoc (map explanation_of a) these others ∙ amid.split);
+      split = ap (λ (list : List Explanation). list ++ others) moved.found
+          ∙ (append_assoc (map explanation_of a) these others ∙ amid.split);
     }
 
 -- no event
@@ -38,38 +42,48 @@ pub carries_none : (s : Setting) (meter : BenchMeter) (a : List Explained) → C
 carries_none s meter a all left amid = amid
 
 -- some events and then others
-pub carries_then : (s : Setting) (first others : List Event) (old mid new : BenchMeter) (a b c : List Explained) → Carries s first old mid a b → Carries s others mid new b c → Carries s (first ++ others) old new a c
+pub carries_then : (s : Setting) (first others : List Event) (old mid new : BenchMeter) (a b c : List Explained)
+    → Carries s first old mid a b → Carries s others mid new b c → Carries s (first ++ others) old new a c
 carries_then s first others old mid new a b c one other all left amid =
     other all left (one all (others ++ left) (rw (append_assoc first others left) at amid))
 
 -- one interval more
-pub intervals_more : (pulses count : ℕ) → intervals_events pulses count ++ interval_events pulses ≡ intervals_events pulses (count + 1)
+pub intervals_more : (pulses count : ℕ)
+    → intervals_events pulses count ++ interval_events pulses ≡ intervals_events pulses (count + 1)
 intervals_more pulses zero = sym (append-nil (interval_events pulses))
 intervals_more pulses (suc count) =
     append_assoc (interval_events pulses) (intervals_events pulses count) (interval_events pulses)
-    ∙ (ap (λ (events : List Event). interval_events pulses ++ events) (intervals_more pulses count ∙ ap (intervals_events pulses) (add-one count))
+    ∙ (ap (λ (events : List Event). interval_events pulses ++ events)
+    (intervals_more pulses count ∙ ap (intervals_events pulses) (add-one count))
     ∙ sym (ap (intervals_events pulses) (add-one (suc count))))
 
 -- the end of the drive
-pub carried_to_the_end : (s : Setting) (all : List Explanation) (old new : BenchMeter) (a b : List Explained) → GoesThroughEvent s Down ended old new a b → IsAmid s all [] old a → map explanation_of b ≡ all
+pub carried_to_the_end : (s : Setting) (all : List Explanation) (old new : BenchMeter) (a b : List Explained)
+    → GoesThroughEvent s Down ended old new a b → IsAmid s all [] old a → map explanation_of b ≡ all
 unfolding explanations_from
 carried_to_the_end s all old new a b moves amid = (moves amid.m amid.hired amid.stands).found ∙ amid.split
 
 -- the next run of a list
 pub events_next : (runs : List Run) (place : ℕ) (d : Run) → place < length runs
-    → flat_map run_events (drop place runs) ≡ run_events (get_or runs place d) ++ flat_map run_events (drop (place + 1) runs)
+    → flat_map run_events (drop place runs)
+    ≡ run_events (get_or runs place d) ++ flat_map run_events (drop (place + 1) runs)
 events_next runs place d within =
-    let split : drop place runs ≡ get_or runs place d ∷ drop (place + 1) runs = rw add-one (drop-cons runs place d within) in
+    let split : drop place runs ≡ get_or runs place d ∷ drop (place + 1) runs =
+    rw add-one (drop-cons runs place d within) in
     rw split refl
 
-pub amid_next : (s : Setting) (all : List Explanation) (runs : List Run) (place : ℕ) (d : Run) (meter : BenchMeter) (found : List Explained) → place < length runs
-    → IsAmid s all (flat_map run_events (drop place runs)) meter found → IsAmid s all (run_events (get_or runs place d) ++ flat_map run_events (drop (place + 1) runs)) meter found
+pub amid_next : (s : Setting) (all : List Explanation) (runs : List Run) (place : ℕ) (d : Run) (meter : BenchMeter)
+    (found : List Explained) → place < length runs
+    → IsAmid s all (flat_map run_events (drop place runs)) meter found
+    → IsAmid s all (run_events (get_or runs place d) ++ flat_map run_events (drop (place + 1) runs)) meter found
 amid_next s all runs place d meter found within amid =
-    let split : drop place runs ≡ get_or runs place d ∷ drop (place + 1) runs = rw add-one (drop-cons runs place d within) in
+    let split : drop place runs ≡ get_or runs place d ∷ drop (place + 1) runs =
+    rw add-one (drop-cons runs place d within) in
     rw split at amid
 
 -- before a drive
-pub amid_first : (s : Setting) (events : List Event) (meter : BenchMeter) → ((hired : Context) → Stands s hired meter (opened s first_state)) → IsAmid s (explanations_of s events) events meter []
+pub amid_first : (s : Setting) (events : List Event) (meter : BenchMeter) → ((hired : Context)
+    → BenchStands s hired meter (opened s first_state)) → IsAmid s (explanations_of s events) events meter []
 amid_first s events meter stands = record {
   m = opened s first_state;
   hired = context_now s (opened s first_state);
@@ -77,7 +91,8 @@ amid_first s events meter stands = record {
   split = refl;
 }
 
-pub expected_first : (s : Setting) (events : List Event) (meter : BenchMeter) → ((hired : Context) → Stands s hired meter (opened s first_state)) → IsAmidExpected s (expected_of s events) events meter []
+pub expected_first : (s : Setting) (events : List Event) (meter : BenchMeter) → ((hired : Context)
+    → BenchStands s hired meter (opened s first_state)) → IsAmidExpected s (expected_of s events) events meter []
 expected_first s events meter stands = record {
   m = opened s first_state;
   hired = context_now s (opened s first_state);

@@ -34,6 +34,15 @@ text_more text all number rates more r is so_far =
     append_assoc text (cross_over_line number r) (cross_over_lines (number + 1) more)
     ∙ subst (λ (rs : List RateNumbers). text ++ cross_over_lines number rs ≡ all) is so_far
 
+-- the line of the rate at a place more
+pub line_more : (choices : List (Choice RateNumbers)) (i : ℕ) (text new line all : List ℕ) (d : Choice RateNumbers)
+    → i < length choices → line ≡ cross_over_line (i + 1) (get_or choices i d).value → new ≡ text ++ line
+    → text ++ cross_over_lines (i + 1) (own_values (drop i choices)) ≡ all
+    → new ++ cross_over_lines (i + 1 + 1) (own_values (drop (i + 1) choices)) ≡ all
+line_more choices i text new line all d within is grown so_far =
+    rw (grown, is) (text_more text all (i + 1) (own_values (drop i choices)) (own_values (drop (i + 1) choices))
+    (get_or choices i d).value (values_at choices i d within) so_far)
+
 pub no_more : (choices : List (Choice RateNumbers)) (i number : ℕ) (text all : List ℕ) → length choices ≤ i
     → text ++ cross_over_lines number (own_values (drop i choices)) ≡ all → text ≡ all
 unfolding cross_over_lines

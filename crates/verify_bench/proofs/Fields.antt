@@ -3,7 +3,8 @@ use Rattle.std.proofs.Common.{◌≡◌, ℕ, zero, suc, ◌≤◌, List, [], �
 use Rattle.csv.specs.Records.{field_at}
 
 -- a row of three fields has what stands at its places
-pub three_are_all : (fields : List (List ℕ)) (a b c : List ℕ) → length fields ≡ 3 → field_at fields 0 ≡ Some a → field_at fields 1 ≡ Some b → field_at fields 2 ≡ Some c
+pub three_are_all : (fields : List (List ℕ)) (a b c : List ℕ) → length fields ≡ 3 → field_at fields 0 ≡ Some a
+    → field_at fields 1 ≡ Some b → field_at fields 2 ≡ Some c
     → fields ≡ a ∷ b ∷ c ∷ []
 unfolding field_at
 three_are_all [] a b c three first second third = absurd (omega arith)

@@ -1,5 +1,6 @@
 -- The sums of intervals, gathered one by one.
-use Rattle.std.proofs.Common.{◌≡◌, ◌≢◌, ℕ, zero, suc, ◌+◌, ◌*◌, ◌≤◌, ◌∙◌, List, [], ◌∷◌, ◌++◌, refl, ap, sym, map, sum, filter, true, false, Bool, inl, inr, arith}
+use Rattle.std.proofs.Common.{◌≡◌, ◌≢◌, ℕ, zero, suc, ◌+◌, ◌*◌, ◌≤◌, ◌∙◌, List, [], ◌∷◌, ◌++◌, refl, ap, sym, map, sum}
+use Rattle.std.proofs.Common.{filter, true, false, Bool, inl, inr, arith}
 use Rattle.std.specs.Prelude.{nat_eq}
 use Rattle.std.proofs.lemmas.Bool.{cases_eq, eq-eqb}
 use Rattle.std.proofs.lemmas.Bool.Decides.{eqb_tells}
@@ -10,19 +11,23 @@ use Rattle.meter_states.specs.Charge.{charge_at}
 use Rattle.meter_states.specs.Setting.{Setting}
 use Rattle.meter_states.specs.Trip.{Part, InHired, InStopped, Rest, charge_in, pulses_in, ticks_in}
 use Rattle.tariff_syntax.specs.declared.context.Context.{Context}
-use Rattle.verify_bench.specs.Gathered.{AreRateWithin, AreWithin, IsTableOf, all_ways, no_rate_sums, no_sums, rate_at, rate_sums_with, sums_with}
+use Rattle.verify_bench.specs.Gathered.{AreRateWithin, AreWithin, IsTableOf, all_ways, no_rate_sums, no_sums, rate_at}
+use Rattle.verify_bench.specs.Gathered.{rate_sums_with, sums_with}
 use Rattle.verify_bench.specs.Groups.{is_charged_by, is_same_way, rate_place_of, rate_sums, sums_of, way_of}
 use Rattle.verify_bench.specs.declared.explained.Sums.{Sums}
 use Rattle.verify_bench.specs.declared.explained.Way.{Way}
 use Rattle.verify_bench.specs.declared.explained.Way.TheVariants.{Distance, Time, Both}
 use Rattle.verify_bench.specs.declared.sums.RateSums.{RateSums}
 
-pub sum_more : (f : Part → ℕ) (parts more : List Part) → sum (map f (parts ++ more)) ≡ sum (map f parts) + sum (map f more)
+pub sum_more : (f : Part → ℕ) (parts more : List Part)
+    → sum (map f (parts ++ more)) ≡ sum (map f parts) + sum (map f more)
 sum_more f parts more = rw (sum-map f (parts ++ more), sum-map f parts, sum-map f more) (sum_by-append f parts more)
 
 -- the sums of parts and of more parts
-pub sums_more : (s : Setting) (parts more : List Part) → sums_of s (parts ++ more) ≡ sums_with (sums_of s parts) (sums_of s more)
-sums_more s parts more = rw (sum_more pulses_in parts more, sum_more ticks_in parts more, sum_more (charge_in s) parts more) refl
+pub sums_more : (s : Setting) (parts more : List Part)
+    → sums_of s (parts ++ more) ≡ sums_with (sums_of s parts) (sums_of s more)
+sums_more s parts more =
+    rw (sum_more pulses_in parts more, sum_more ticks_in parts more, sum_more (charge_in s) parts more) refl
 
 add_none : (n : ℕ) → n + 0 ≡ n
 add_none n = omega arith
@@ -30,19 +35,25 @@ add_none n = omega arith
 pub zero_plus : (n : ℕ) → 0 + n ≡ n
 zero_plus n = omega arith
 
-pub sums_one : (s : Setting) (part : Part) (sums : Sums) → sums ≡ record { pulses = pulses_in part; ticks = ticks_in part; charge = charge_in s part } → sums_of s (part ∷ []) ≡ sums
-sums_one s part sums is = rw (zero_plus (pulses_in part), zero_plus (ticks_in part), zero_plus (charge_in s part)) (sym is)
+pub sums_one : (s : Setting) (part : Part) (sums : Sums)
+    → sums ≡ record { pulses = pulses_in part; ticks = ticks_in part; charge = charge_in s part }
+    → sums_of s (part ∷ []) ≡ sums
+sums_one s part sums is =
+    rw (zero_plus (pulses_in part), zero_plus (ticks_in part), zero_plus (charge_in s part)) (sym is)
 
 pub with_none : (a : Sums) → sums_with a no_sums ≡ a
 with_none a = rw (add_none a.pulses, add_none a.ticks, add_none a.charge) refl
 
 -- a part more
-pub part_more : (s : Setting) (parts : List Part) (part : Part) (sums : Sums) → sums ≡ record { pulses = pulses_in part; ticks = ticks_in part; charge = charge_in s part }
+pub part_more : (s : Setting) (parts : List Part) (part : Part) (sums : Sums)
+    → sums ≡ record { pulses = pulses_in part; ticks = ticks_in part; charge = charge_in s part }
     → sums_of s (parts ++ part ∷ []) ≡ sums_with (sums_of s parts) sums
-part_more s parts part sums is = sums_more s parts (part ∷ []) ∙ ap (sums_with (sums_of s parts)) (sums_one s part sums is)
+part_more s parts part sums is =
+    sums_more s parts (part ∷ []) ∙ ap (sums_with (sums_of s parts)) (sums_one s part sums is)
 
 -- a part more, of those that pass a test
-pub kept_more : (s : Setting) (test : Part → Bool) (parts : List Part) (part : Part) (sums : Sums) → sums ≡ record { pulses = pulses_in part; ticks = ticks_in part; charge = charge_in s part }
+pub kept_more : (s : Setting) (test : Part → Bool) (parts : List Part) (part : Part) (sums : Sums)
+    → sums ≡ record { pulses = pulses_in part; ticks = ticks_in part; charge = charge_in s part }
     → test part ≡ true → sums_of s (filter test (parts ++ part ∷ [])) ≡ sums_with (sums_of s (filter test parts)) sums
 kept_more s test parts part sums is passes =
     ap (sums_of s) (filter-append test parts (part ∷ []))
@@ -54,7 +65,8 @@ left_out s test parts part fails =
     ap (sums_of s) (filter-append test parts (part ∷ []))
     ∙ rw fails (sums_more s (filter test parts) [] ∙ with_none (sums_of s (filter test parts)))
 
-module _ (s : Setting) (parts : List Part) (p : ℕ) (x : Context) (sums : Sums) (is : sums ≡ record { pulses = p; ticks = 1; charge = charge_at s x p }) where
+module _ (s : Setting) (parts : List Part) (p : ℕ) (x : Context) (sums : Sums)
+    (is : sums ≡ record { pulses = p; ticks = 1; charge = charge_at s x p }) where
   with_hired : List Part
   with_hired = parts ++ InHired p x ∷ []
 
@@ -71,14 +83,28 @@ module _ (s : Setting) (parts : List Part) (p : ℕ) (x : Context) (sums : Sums)
 
   pub way_more : (way : Way) → way_of s x p ≡ way → (q : ℕ) → rate_place_of s x ≡ q
       → all_ways s (parts ++ InHired p x ∷ []) q ≡ rate_sums_with (all_ways s parts q) way sums
-  way_more Distance is_way q at = rw (in_way Distance (rw is_way refl) q at, out_of_way Time (rw is_way refl) q at, out_of_way Both (rw is_way refl) q at) refl
-  way_more Time is_way q at = rw (out_of_way Distance (rw is_way refl) q at, in_way Time (rw is_way refl) q at, out_of_way Both (rw is_way refl) q at) refl
-  way_more Both is_way q at = rw (out_of_way Distance (rw is_way refl) q at, out_of_way Time (rw is_way refl) q at, in_way Both (rw is_way refl) q at) refl
+  way_more Distance is_way q at = rw (
+    in_way Distance (rw is_way refl) q at,
+    out_of_way Time (rw is_way refl) q at,
+    out_of_way Both (rw is_way refl) q at,
+  ) refl
+  way_more Time is_way q at = rw (
+    out_of_way Distance (rw is_way refl) q at,
+    in_way Time (rw is_way refl) q at,
+    out_of_way Both (rw is_way refl) q at,
+  ) refl
+  way_more Both is_way q at = rw (
+    out_of_way Distance (rw is_way refl) q at,
+    out_of_way Time (rw is_way refl) q at,
+    in_way Both (rw is_way refl) q at,
+  ) refl
 
-  elsewhere : (way : Way) (q : ℕ) → nat_eq (rate_place_of s x) q ≡ false → rate_sums s (parts ++ InHired p x ∷ []) q way ≡ rate_sums s parts q way
+  elsewhere : (way : Way) (q : ℕ) → nat_eq (rate_place_of s x) q ≡ false
+      → rate_sums s (parts ++ InHired p x ∷ []) q way ≡ rate_sums s parts q way
   elsewhere way q apart = left_out s (is_charged_by s q way) parts (InHired p x) (rw apart refl)
 
-  pub other_rate : (q : ℕ) → nat_eq (rate_place_of s x) q ≡ false → all_ways s (parts ++ InHired p x ∷ []) q ≡ all_ways s parts q
+  pub other_rate : (q : ℕ) → nat_eq (rate_place_of s x) q ≡ false
+      → all_ways s (parts ++ InHired p x ∷ []) q ≡ all_ways s parts q
   other_rate q apart = rw (elsewhere Distance q apart, elsewhere Time q apart, elsewhere Both q apart) refl
 
   -- a table with an interval more is that of the parts with the interval
@@ -97,20 +123,32 @@ module _ (s : Setting) (parts : List Part) (p : ℕ) (x : Context) (sums : Sums)
   ]
 
 -- a part that no rate charged
-pub stopped_more : (s : Setting) (parts : List Part) (p : ℕ) (table : List RateSums) → IsTableOf s parts table → IsTableOf s (parts ++ InStopped p ∷ []) table
+pub stopped_more : (s : Setting) (parts : List Part) (p : ℕ) (table : List RateSums) → IsTableOf s parts table
+    → IsTableOf s (parts ++ InStopped p ∷ []) table
 stopped_more s parts p table of q =
-    of q ∙ sym (rw (left_out s (is_charged_by s q Distance) parts (InStopped p) refl, left_out s (is_charged_by s q Time) parts (InStopped p) refl, left_out s (is_charged_by s q Both) parts (InStopped p) refl) refl)
+    of q ∙ sym (rw (
+      left_out s (is_charged_by s q Distance) parts (InStopped p) refl,
+      left_out s (is_charged_by s q Time) parts (InStopped p) refl,
+      left_out s (is_charged_by s q Both) parts (InStopped p) refl,
+    ) refl)
 
-pub rest_more : (s : Setting) (parts : List Part) (p : ℕ) (table : List RateSums) → IsTableOf s parts table → IsTableOf s (parts ++ Rest p ∷ []) table
+pub rest_more : (s : Setting) (parts : List Part) (p : ℕ) (table : List RateSums) → IsTableOf s parts table
+    → IsTableOf s (parts ++ Rest p ∷ []) table
 rest_more s parts p table of q =
-    of q ∙ sym (rw (left_out s (is_charged_by s q Distance) parts (Rest p) refl, left_out s (is_charged_by s q Time) parts (Rest p) refl, left_out s (is_charged_by s q Both) parts (Rest p) refl) refl)
+    of q ∙ sym (rw (
+      left_out s (is_charged_by s q Distance) parts (Rest p) refl,
+      left_out s (is_charged_by s q Time) parts (Rest p) refl,
+      left_out s (is_charged_by s q Both) parts (Rest p) refl,
+    ) refl)
 
 -- within
 within_with : (a b more : Sums) → AreWithin a b → AreWithin a (sums_with b more)
-within_with a b more w = record { pulses = omega (arith, w.pulses); ticks = omega (arith, w.ticks); charge = omega (arith, w.charge) }
+within_with a b more w =
+    record { pulses = omega (arith, w.pulses); ticks = omega (arith, w.ticks); charge = omega (arith, w.charge) }
 
 both_with : (a b more : Sums) → AreWithin a b → AreWithin (sums_with a more) (sums_with b more)
-both_with a b more w = record { pulses = omega (arith, w.pulses); ticks = omega (arith, w.ticks); charge = omega (arith, w.charge) }
+both_with a b more w =
+    record { pulses = omega (arith, w.pulses); ticks = omega (arith, w.ticks); charge = omega (arith, w.charge) }
 
 pub stopped_within : (a b more : Sums) → AreWithin a b → AreWithin (sums_with a more) (sums_with b more)
 stopped_within = both_with
@@ -125,10 +163,23 @@ rate_still_within r b more w = record {
   both = within_with r.both b more w.both;
 }
 
-way_within : (r : RateSums) (way : Way) (b more : Sums) → AreRateWithin r b → AreRateWithin (rate_sums_with r way more) (sums_with b more)
-way_within r Distance b more w = record { distance = both_with r.distance b more w.distance; time = within_with r.time b more w.time; both = within_with r.both b more w.both }
-way_within r Time b more w = record { distance = within_with r.distance b more w.distance; time = both_with r.time b more w.time; both = within_with r.both b more w.both }
-way_within r Both b more w = record { distance = within_with r.distance b more w.distance; time = within_with r.time b more w.time; both = both_with r.both b more w.both }
+way_within : (r : RateSums) (way : Way) (b more : Sums) → AreRateWithin r b
+    → AreRateWithin (rate_sums_with r way more) (sums_with b more)
+way_within r Distance b more w = record {
+  distance = both_with r.distance b more w.distance;
+  time = within_with r.time b more w.time;
+  both = within_with r.both b more w.both;
+}
+way_within r Time b more w = record {
+  distance = within_with r.distance b more w.distance;
+  time = both_with r.time b more w.time;
+  both = within_with r.both b more w.both;
+}
+way_within r Both b more w = record {
+  distance = within_with r.distance b more w.distance;
+  time = within_with r.time b more w.time;
+  both = both_with r.both b more w.both;
+}
 
 pub table_within : (old new : List RateSums) (place : ℕ) (way : Way) (b more : Sums)
     → rate_at new place ≡ rate_sums_with (rate_at old place) way more
@@ -140,7 +191,8 @@ table_within old new place way b more here others within q = elim (cases_eq q pl
 ]
 
 -- charges that are few for their ticks
-pub few_more : (charge price unit ticks : ℕ) → charge ≤ 41000000000 * unit * ticks → price ≤ 41000000000 * unit → charge + price ≤ 41000000000 * unit * (ticks + 1)
+pub few_more : (charge price unit ticks : ℕ) → charge ≤ 41000000000 * unit * ticks → price ≤ 41000000000 * unit
+    → charge + price ≤ 41000000000 * unit * (ticks + 1)
 few_more charge price unit ticks few small = rw (mul-add (41000000000 * unit) ticks 1) (omega arith)
 
 -- a table that is longer by a rate that charged nothing

@@ -34,28 +34,35 @@ use Rattle.verify_bench.proofs.ReceiptList.{expected_are_receipts}
 pub generated_drives_mean_their_lines-good : (seed trips : ℕ) → trips ≤ 1000 → bad_at_end (generated seed trips) ≡ None
 generated_drives_mean_their_lines-good = generated_is_good
 
-pub generated_drives_mean_their_lines-lines : (seed trips : ℕ) → trips ≤ 1000 → runs_in (generated seed trips) ≡ generated_lines seed trips
+pub generated_drives_mean_their_lines-lines : (seed trips : ℕ) → trips ≤ 1000
+    → runs_in (generated seed trips) ≡ generated_lines seed trips
 generated_drives_mean_their_lines-lines = generated_means_its_lines
 
-pub generated_drives_mean_their_lines-short : (seed trips : ℕ) → trips ≤ 1000 → length (generated seed trips) < stream_limit
+pub generated_drives_mean_their_lines-short : (seed trips : ℕ) → trips ≤ 1000
+    → length (generated seed trips) < stream_limit
 generated_drives_mean_their_lines-short = generated_is_short
 
-pub expected_hirings_are_the_receipts : (s : Setting) (events : List Event) → map untimed (expected_of s events) ≡ hirings_in 0 (actions_of s first_state events)
+pub expected_hirings_are_the_receipts : (s : Setting) (events : List Event)
+    → map untimed (expected_of s events) ≡ hirings_in 0 (actions_of s first_state events)
 expected_hirings_are_the_receipts = expected_are_receipts
 
-pub explanations_have_the_receipts-receipts : (s : Setting) (events : List Event) → map (λ (e : Explanation). e.receipt) (explanations_of s events) ≡ receipts_in (actions_of s first_state events)
+pub explanations_have_the_receipts-receipts : (s : Setting) (events : List Event)
+    → map (λ (e : Explanation). e.receipt) (explanations_of s events) ≡ receipts_in (actions_of s first_state events)
 explanations_have_the_receipts-receipts = receipts_explained
 
-pub explanations_have_the_receipts-trips : (s : Setting) (events : List Event) → All (IsOfTrip s) (explanations_of s events)
+pub explanations_have_the_receipts-trips : (s : Setting) (events : List Event)
+    → All (IsOfTrip s) (explanations_of s events)
 explanations_have_the_receipts-trips = explained_are_of_trips
 
-pub explanations_add_up-whole : (s : Setting) (events : List Event) → IsSound s.tariff → All ArePartsTheWhole (explanations_of s events)
+pub explanations_add_up-whole : (s : Setting) (events : List Event) → IsSound s.tariff
+    → All ArePartsTheWhole (explanations_of s events)
 explanations_add_up-whole = all_add_up
 
 pub explanations_add_up-receipt : (s : Setting) (events : List Event) → All (MakesReceipt s) (explanations_of s events)
 explanations_add_up-receipt = all_make
 
-pub explanations_add_up-ways : (mode : Mode) (k common : ℕ) (r : RateNumbers) (p : ℕ) → charge_by mode k common r p ≡ charge_in_way k common r p (way_by mode k r p)
+pub explanations_add_up-ways : (mode : Mode) (k common : ℕ) (r : RateNumbers) (p : ℕ)
+    → charge_by mode k common r p ≡ charge_in_way k common r p (way_by mode k r p)
 explanations_add_up-ways = ways_charge
 
 pub verdicts_name_the_first_fault : (expected : Expected) (reading : Reading) (step : ℕ) (verdict : Verdict)
@@ -66,6 +73,7 @@ pub readings_pass_where_each_row_does : (step : ℕ) (expected : List Expected) 
     → (do_all_pass step expected readings ≡ true) ↔ EachRowPasses step expected readings
 readings_pass_where_each_row_does = each_passes
 
-pub texts_have_one_reading : (decimals : ℕ) (text : List ℕ) (answer : Result (List Reading) ReadingsFault) → answer ≢ Err NoMemory
+pub texts_have_one_reading : (decimals : ℕ) (text : List ℕ) (answer : Result (List Reading) ReadingsFault)
+    → answer ≢ Err NoMemory
     → (readings_in decimals text ≡ answer) ↔ IsReadAs decimals text answer
 texts_have_one_reading = one_reading

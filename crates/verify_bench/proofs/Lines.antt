@@ -1,5 +1,6 @@
 -- The lines of a generated drive: their lengths, their events, and their texts.
-use Rattle.std.proofs.Common.{◌≡◌, ◌≢◌, ℕ, zero, suc, ◌+◌, ◌*◌, ◌<◌, ◌≤◌, ◌^◌, [], ◌∷◌, ◌++◌, ◌∙◌, ap, sym, refl, length, arith, length-append}
+use Rattle.std.proofs.Common.{◌≡◌, ◌≢◌, ℕ, zero, suc, ◌+◌, ◌*◌, ◌<◌, ◌≤◌, ◌^◌, [], ◌∷◌, ◌++◌, ◌∙◌, ap, sym, refl}
+use Rattle.std.proofs.Common.{length, arith, length-append}
 use Rattle.std.specs.Prelude.{decimal}
 use Rattle.std.proofs.lemmas.Bool.{ne_eqb}
 use Rattle.std.proofs.lemmas.List.{append-nil}
@@ -16,7 +17,8 @@ use Rattle.verify_bench.specs.Generated.{line_text, lines_text}
 use Rattle.verify_bench.specs.Adding.{lines_events}
 
 -- a number below a power of ten, and one byte behind it
-number_line : (places value : ℕ) (byte : ℕ) → 0 < places → places ≤ 64 → value < 10 ^ places → length (decimal value ++ byte ∷ []) ≤ places + 1
+number_line : (places value : ℕ) (byte : ℕ) → 0 < places → places ≤ 64 → value < 10 ^ places
+    → length (decimal value ++ byte ∷ []) ≤ places + 1
 number_line places value byte some few small =
     let short = units.numbers_are_short places value some few small in
     omega (arith, length-append (decimal value) (byte ∷ []), short.1)
@@ -24,17 +26,23 @@ number_line places value byte some few small =
 -- the line of an event has at most 13 bytes
 pub events_are_short : (event : Event) → IsInRange event → length (event_text event) ≤ 13
 unfolding event_fields key_text
-events_are_short (Up second) range = let short = number_line 10 second 10 (omega arith) (omega arith) (omega arith) in omega arith
+events_are_short (Up second) range = let short =
+    number_line 10 second 10 (omega arith) (omega arith) (omega arith) in omega arith
 events_are_short Down range = omega arith
-events_are_short (Pulses pulses) range = let short = number_line 5 pulses 10 (omega arith) (omega arith) (omega arith) in omega arith
+events_are_short (Pulses pulses) range = let short =
+    number_line 5 pulses 10 (omega arith) (omega arith) (omega arith) in omega arith
 events_are_short Tick range = omega arith
-events_are_short (Clock second) range = let short = number_line 10 second 10 (omega arith) (omega arith) (omega arith) in omega arith
+events_are_short (Clock second) range = let short =
+    number_line 10 second 10 (omega arith) (omega arith) (omega arith) in omega arith
 events_are_short (events.Key Hire) range = omega arith
 events_are_short (events.Key Stop) range = omega arith
 events_are_short (events.Key Clear) range = omega arith
-events_are_short (events.Key (Position number)) range = let short = number_line 2 number 10 (omega arith) (omega arith) (omega arith) in omega arith
-events_are_short (events.Key (Zone number)) range = let short = number_line 2 number 10 (omega arith) (omega arith) (omega arith) in omega arith
-events_are_short (events.Key (Extra number)) range = let short = number_line 2 number 10 (omega arith) (omega arith) (omega arith) in omega arith
+events_are_short (events.Key (Position number)) range = let short =
+    number_line 2 number 10 (omega arith) (omega arith) (omega arith) in omega arith
+events_are_short (events.Key (Zone number)) range = let short =
+    number_line 2 number 10 (omega arith) (omega arith) (omega arith) in omega arith
+events_are_short (events.Key (Extra number)) range = let short =
+    number_line 2 number 10 (omega arith) (omega arith) (omega arith) in omega arith
 
 -- the text of the line of an event
 pub event_line : (event : Event) → lines_text (One event ∷ []) ≡ event_text event
@@ -65,14 +73,16 @@ pub quiet_events : (pulses count : ℕ) → pulses ≡ 0 → count ≡ lines_eve
 quiet_events pulses count none =
     let one : length (interval_events pulses) ≡ 1 = rw none refl in
     let each = events_of_each pulses count in
-    let all : lines_events (Many pulses count ∷ []) ≡ length (intervals_events pulses count) = ap length (append-nil (intervals_events pulses count)) in
+    let all : lines_events (Many pulses count ∷ []) ≡ length (intervals_events pulses count) =
+    ap length (append-nil (intervals_events pulses count)) in
     sym (all ∙ (each ∙ rw one (omega arith)))
 
 pub loud_events : (pulses count : ℕ) → pulses ≢ 0 → 2 * count ≡ lines_events (Many pulses count ∷ [])
 loud_events pulses count some =
     let two : length (interval_events pulses) ≡ 2 = rw (ne_eqb pulses 0 some) refl in
     let each = events_of_each pulses count in
-    let all : lines_events (Many pulses count ∷ []) ≡ length (intervals_events pulses count) = ap length (append-nil (intervals_events pulses count)) in
+    let all : lines_events (Many pulses count ∷ []) ≡ length (intervals_events pulses count) =
+    ap length (append-nil (intervals_events pulses count)) in
     sym (all ∙ (each ∙ rw two (omega arith)))
 
 -- the first line

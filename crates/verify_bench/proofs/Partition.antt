@@ -1,5 +1,6 @@
 -- The groups of a trip's parts, those in Stopped and those that were left unfinished are all its parts.
-use Rattle.std.proofs.Common.{◌≡◌, ℕ, zero, suc, ◌+◌, ◌*◌, ◌<◌, ◌≤◌, ◌∙◌, List, [], ◌∷◌, ◌++◌, length, refl, ap, sym, map, sum, filter, All, Bool, true, false, inl, inr, arith}
+use Rattle.std.proofs.Common.{◌≡◌, ℕ, zero, suc, ◌+◌, ◌*◌, ◌<◌, ◌≤◌, ◌∙◌, List, [], ◌∷◌, ◌++◌, length, refl, ap, sym}
+use Rattle.std.proofs.Common.{map, sum, filter, All, Bool, true, false, inl, inr, arith}
 use Rattle.std.specs.Prelude.{◌&&◌, cond, nat_eq, nat_lt, if◌then◌else◌}
 use Rattle.std.proofs.lemmas.Bool.Decides.{eqb_tells}
 use Rattle.std.proofs.lemmas.List.{length-map}
@@ -8,7 +9,8 @@ use Rattle.drive_modes.specs.declared.charges.Mode.{Mode}
 use Rattle.drive_modes.specs.declared.charges.Mode.TheVariants.{Single, Double}
 use Rattle.meter_states.specs.Charge.{charge_by, distance_charge, time_charge}
 use Rattle.meter_states.specs.Setting.{Setting}
-use Rattle.meter_states.specs.Trip.{Part, InHired, InStopped, Rest, Trip, charge_in, charges_of, pulses_in, pulses_of, ticks_in, ticks_of}
+use Rattle.meter_states.specs.Trip.{Part, InHired, InStopped, Rest, MeterTrip, charge_in, charges_of, pulses_in}
+use Rattle.meter_states.specs.Trip.{pulses_of, ticks_in, ticks_of}
 use Rattle.meter_states.specs.Trip as model
 use Rattle.tariff_check.proofs.Laws as check
 use Rattle.tariff_check.specs.Faults.{IsSound}
@@ -18,7 +20,8 @@ use Rattle.tariff_syntax.specs.Tree.{Tree}
 use Rattle.tariff_syntax.specs.declared.context.Context.{Context}
 use Rattle.taxi_units.specs.declared.event.Event.{Event}
 use Rattle.verify_bench.specs.Explaining.{Explanation, explanations_of, taken_if, taken_of}
-use Rattle.verify_bench.specs.Groups.{group_if, groups_at, groups_from, is_charged_by, is_in_stopped, is_rest, is_same_way, rate_place_of, rate_sums, sums_of, way_by, way_of}
+use Rattle.verify_bench.specs.Groups.{group_if, groups_at, groups_from, is_charged_by, is_in_stopped, is_rest}
+use Rattle.verify_bench.specs.Groups.{is_same_way, rate_place_of, rate_sums, sums_of, way_by, way_of}
 use Rattle.verify_bench.specs.Wholes.{ArePartsTheWhole, IsOfTrip, MakesReceipt, charge_in_way}
 use Rattle.verify_bench.specs.declared.explained.Group.{Group}
 use Rattle.verify_bench.specs.declared.explained.Sums.{Sums}
@@ -26,7 +29,7 @@ use Rattle.verify_bench.specs.declared.explained.Way.{Way}
 use Rattle.verify_bench.specs.declared.explained.Way.TheVariants.{Distance, Time, Both}
 use Rattle.std.specs.Prelude.{flat_map}
 use Rattle.std.specs.List.{range_with_len}
-use Rattle.meter_states.specs.Kept.{IsSupplementNumber}
+use Rattle.meter_states.specs.KeptTrip.{IsSupplementNumber}
 use Rattle.meter_states.specs.Supplements.{amount_in, amounts_of, times}
 use Rattle.tariff_compile.specs.Tables.{supplement_at}
 use Rattle.verify_bench.specs.Amounts.{amounts_among}
@@ -43,11 +46,13 @@ sum_both f xs ys = rw (sum-map f (xs ++ ys), sum-map f xs, sum-map f ys) (sum_by
 abbrev amount : (Part → ℕ) → (Part → Bool) → List Part → ℕ
 amount f test parts = sum (map f (filter test parts))
 
-kept_head : (f : Part → ℕ) (b : Bool) (part : Part) (parts : List Part) → sum (map f (cond b (part ∷ parts) parts)) ≡ cond b (f part) 0 + sum (map f parts)
+kept_head : (f : Part → ℕ) (b : Bool) (part : Part) (parts : List Part)
+    → sum (map f (cond b (part ∷ parts) parts)) ≡ cond b (f part) 0 + sum (map f parts)
 kept_head f true part parts = sum_head (f part) (map f parts)
 kept_head f false part parts = omega arith
 
-amount_head : (f : Part → ℕ) (test : Part → Bool) (part : Part) (parts : List Part) → amount f test (part ∷ parts) ≡ cond (test part) (f part) 0 + amount f test parts
+amount_head : (f : Part → ℕ) (test : Part → Bool) (part : Part) (parts : List Part)
+    → amount f test (part ∷ parts) ≡ cond (test part) (f part) 0 + amount f test parts
 amount_head f test part parts = kept_head f (test part) part (filter test parts)
 
 three_more : {a b c a' b' c' : ℕ} → a ≡ a' → b ≡ b' → c ≡ c' → a + (b + c) ≡ a' + (b' + c')
@@ -68,38 +73,49 @@ later_once : (v n m : ℕ) → n + (v + m) ≡ v + (n + m)
 later_once v n m = omega arith
 
 -- parts that pass a test which only ended intervals pass come to nothing where they have no tick
-nothing_by : (b : Bool) (tick rest value others : ℕ) → (b ≡ true → tick ≡ 1) → cond b tick 0 + rest ≡ 0 → (rest ≡ 0 → others ≡ 0) → cond b value 0 + others ≡ 0
+nothing_by : (b : Bool) (tick rest value others : ℕ) → (b ≡ true → tick ≡ 1) → cond b tick 0 + rest ≡ 0
+    → (rest ≡ 0 → others ≡ 0) → cond b value 0 + others ≡ 0
 nothing_by true tick rest value others one none more = absurd (omega (arith, one refl, none))
 nothing_by false tick rest value others one none more = omega (arith, more (omega (arith, none)))
 
-nothing : (f : Part → ℕ) (test : Part → Bool) → ((part : Part) → test part ≡ true → ticks_in part ≡ 1) → (parts : List Part) → amount ticks_in test parts ≡ 0 → amount f test parts ≡ 0
+nothing : (f : Part → ℕ) (test : Part → Bool) → ((part : Part) → test part ≡ true → ticks_in part ≡ 1)
+    → (parts : List Part) → amount ticks_in test parts ≡ 0 → amount f test parts ≡ 0
 nothing f test ended [] none = refl
 nothing f test ended (part ∷ parts) none =
     amount_head f test part parts
-    ∙ nothing_by (test part) (ticks_in part) (amount ticks_in test parts) (f part) (amount f test parts) (ended part) (sym (amount_head ticks_in test part parts) ∙ none) (nothing f test ended parts)
+    ∙ nothing_by (test part) (ticks_in part) (amount ticks_in test parts) (f part) (amount f test parts) (ended part)
+    (sym (amount_head ticks_in test part parts) ∙ none) (nothing f test ended parts)
 
 charged_ended : (s : Setting) (q : ℕ) (way : Way) (part : Part) → is_charged_by s q way part ≡ true → ticks_in part ≡ 1
 charged_ended s q way (InHired p x) passes = refl
 charged_ended s q way (InStopped p) passes = absurd cc
 charged_ended s q way (Rest p) passes = absurd cc
 
-module _ (s : Setting) (f : Part → ℕ) (of : Sums → ℕ) (of_is : (parts : List Part) → of (sums_of s parts) ≡ sum (map f parts)) where
+module _ (s : Setting) (f : Part → ℕ) (of : Sums → ℕ)
+    (of_is : (parts : List Part) → of (sums_of s parts) ≡ sum (map f parts)) where
   -- the parts of a rate line, in each way
   abbrev in_ways : (q : ℕ) → List Part → ℕ
-  in_ways q parts = amount f (is_charged_by s q Distance) parts + (amount f (is_charged_by s q Time) parts + amount f (is_charged_by s q Both) parts)
+  in_ways q parts = amount f (is_charged_by s q Distance) parts
+      + (amount f (is_charged_by s q Time) parts + amount f (is_charged_by s q Both) parts)
 
-  group_one : (line : ℕ) (way : Way) (q : ℕ) (parts : List Part) (b : Bool) → nat_eq (rate_sums s parts q way).ticks 0 ≡ b
-      → sum (map (λ (g : Group). of g.sums) (if b then [] else record { line = line; way = way; sums = rate_sums s parts q way } ∷ [])) ≡ amount f (is_charged_by s q way) parts
-  group_one line way q parts true none = sym (nothing f (is_charged_by s q way) (charged_ended s q way) parts (eqb-true (rate_sums s parts q way).ticks 0 none))
+  group_one : (line : ℕ) (way : Way) (q : ℕ) (parts : List Part) (b : Bool)
+      → nat_eq (rate_sums s parts q way).ticks 0 ≡ b
+      → sum (map (λ (g : Group). of g.sums)
+      (if b then [] else record { line = line; way = way; sums = rate_sums s parts q way } ∷ []))
+      ≡ amount f (is_charged_by s q way) parts
+  group_one line way q parts true none = sym (nothing f (is_charged_by s q way) (charged_ended s q way) parts
+      (eqb-true (rate_sums s parts q way).ticks 0 none))
   group_one line way q parts false some = omega (arith, of_is (filter (is_charged_by s q way) parts))
 
-  groups_one : (line q : ℕ) (parts : List Part) → sum (map (λ (g : Group). of g.sums) (groups_at s parts q line)) ≡ in_ways q parts
+  groups_one : (line q : ℕ) (parts : List Part)
+      → sum (map (λ (g : Group). of g.sums) (groups_at s parts q line)) ≡ in_ways q parts
   groups_one line q parts =
       let one = λ (way : Way). group_one line way q parts (nat_eq (rate_sums s parts q way).ticks 0) refl in
       let g = λ (way : Way). group_if line way (rate_sums s parts q way) in
       sum_both (λ (g : Group). of g.sums) (g Distance) (g Time ++ g Both)
       ∙ (ap (λ (n : ℕ). n + sum (map (λ (g : Group). of g.sums) (g Time ++ g Both))) (one Distance)
-      ∙ ap (λ (n : ℕ). amount f (is_charged_by s q Distance) parts + n) (sum_both (λ (g : Group). of g.sums) (g Time) (g Both) ∙ (ap (λ (n : ℕ). n + sum (map (λ (g : Group). of g.sums) (g Both))) (one Time)
+      ∙ ap (λ (n : ℕ). amount f (is_charged_by s q Distance) parts + n) (sum_both (λ (g : Group). of g.sums) (g Time)
+      (g Both) ∙ (ap (λ (n : ℕ). n + sum (map (λ (g : Group). of g.sums) (g Both))) (one Time)
       ∙ ap (λ (n : ℕ). amount f (is_charged_by s q Time) parts + n) (one Both))))
 
   -- the parts of some rate lines from a place on
@@ -107,38 +123,48 @@ module _ (s : Setting) (f : Part → ℕ) (of : Sums → ℕ) (of_is : (parts : 
   span q zero parts = 0
   span q (suc n) parts = in_ways q parts + span (q + 1) n parts
 
-  groups_all : (lines : List ℕ) (q : ℕ) (parts : List Part) → sum (map (λ (g : Group). of g.sums) (groups_from s parts q lines)) ≡ span q (length lines) parts
+  groups_all : (lines : List ℕ) (q : ℕ) (parts : List Part)
+      → sum (map (λ (g : Group). of g.sums) (groups_from s parts q lines)) ≡ span q (length lines) parts
   unfolding groups_from span
   groups_all [] q parts = refl
   groups_all (line ∷ lines) q parts =
       sum_both (λ (g : Group). of g.sums) (groups_at s parts q line) (groups_from s parts (q + 1) lines)
-      ∙ (ap (λ (n : ℕ). n + sum (map (λ (g : Group). of g.sums) (groups_from s parts (q + 1) lines))) (groups_one line q parts)
+      ∙ (ap (λ (n : ℕ). n + sum (map (λ (g : Group). of g.sums) (groups_from s parts (q + 1) lines)))
+      (groups_one line q parts)
       ∙ ap (λ (n : ℕ). in_ways q parts + n) (groups_all lines (q + 1) parts))
 
   -- an interval in Hired is in one way of its rate line
   split_ways : (b : Bool) (way : Way) (v d t w : ℕ)
-      → (cond (b && is_same_way way Distance) v 0 + d) + ((cond (b && is_same_way way Time) v 0 + t) + (cond (b && is_same_way way Both) v 0 + w)) ≡ cond b v 0 + (d + (t + w))
+      → (cond (b && is_same_way way Distance) v 0 + d) + ((cond (b && is_same_way way Time) v 0 + t)
+      + (cond (b && is_same_way way Both) v 0 + w)) ≡ cond b v 0 + (d + (t + w))
   split_ways true Distance v d t w = omega arith
   split_ways true Time v d t w = omega arith
   split_ways true Both v d t w = omega arith
   split_ways false way v d t w = omega arith
 
-  ways_head : (q p : ℕ) (x : Context) (parts : List Part) → in_ways q (InHired p x ∷ parts) ≡ cond (nat_eq (rate_place_of s x) q) (f (InHired p x)) 0 + in_ways q parts
+  ways_head : (q p : ℕ) (x : Context) (parts : List Part)
+      → in_ways q (InHired p x ∷ parts) ≡ cond (nat_eq (rate_place_of s x) q) (f (InHired p x)) 0 + in_ways q parts
   ways_head q p x parts =
-      three_more (amount_head f (is_charged_by s q Distance) (InHired p x) parts) (amount_head f (is_charged_by s q Time) (InHired p x) parts) (amount_head f (is_charged_by s q Both) (InHired p x) parts)
-      ∙ split_ways (nat_eq (rate_place_of s x) q) (way_of s x p) (f (InHired p x)) (amount f (is_charged_by s q Distance) parts) (amount f (is_charged_by s q Time) parts) (amount f (is_charged_by s q Both) parts)
+      three_more (amount_head f (is_charged_by s q Distance) (InHired p x) parts) (amount_head f
+      (is_charged_by s q Time) (InHired p x) parts) (amount_head f (is_charged_by s q Both) (InHired p x) parts)
+      ∙ split_ways (nat_eq (rate_place_of s x) q) (way_of s x p) (f (InHired p x))
+      (amount f (is_charged_by s q Distance) parts) (amount f (is_charged_by s q Time) parts)
+      (amount f (is_charged_by s q Both) parts)
 
   -- in some rate lines it is once, where its own is one of them
-  span_before : (q n p : ℕ) (x : Context) (parts : List Part) → rate_place_of s x < q → span q n (InHired p x ∷ parts) ≡ span q n parts
+  span_before : (q n p : ℕ) (x : Context) (parts : List Part) → rate_place_of s x < q
+      → span q n (InHired p x ∷ parts) ≡ span q n parts
   unfolding span
   span_before q zero p x parts below = refl
   span_before q (suc n) p x parts below = elim (eqb_tells (rate_place_of s x) q) [
     | inl same ↦ absurd (omega (arith, same.1))
     | inr apart ↦
-        two_more (ways_head q p x parts ∙ here_or_not (nat_eq (rate_place_of s x) q) (f (InHired p x)) (in_ways q parts) apart.0) (span_before (q + 1) n p x parts (omega arith))
+        two_more (ways_head q p x parts ∙ here_or_not (nat_eq (rate_place_of s x) q) (f (InHired p x))
+        (in_ways q parts) apart.0) (span_before (q + 1) n p x parts (omega arith))
   ]
 
-  span_once : (q n p : ℕ) (x : Context) (parts : List Part) → q ≤ rate_place_of s x → rate_place_of s x < q + n → span q n (InHired p x ∷ parts) ≡ f (InHired p x) + span q n parts
+  span_once : (q n p : ℕ) (x : Context) (parts : List Part) → q ≤ rate_place_of s x → rate_place_of s x < q + n
+      → span q n (InHired p x ∷ parts) ≡ f (InHired p x) + span q n parts
   unfolding span
   span_once q zero p x parts least most = absurd (omega arith)
   span_once q (suc n) p x parts least most = elim (eqb_tells (rate_place_of s x) q) [
@@ -146,15 +172,18 @@ module _ (s : Setting) (f : Part → ℕ) (of : Sums → ℕ) (of_is : (parts : 
         two_more (ways_head q p x parts) (span_before (q + 1) n p x parts (omega (arith, same.1)))
         ∙ here_once (nat_eq (rate_place_of s x) q) (f (InHired p x)) (in_ways q parts) (span (q + 1) n parts) same.0
     | inr apart ↦
-        two_more (ways_head q p x parts ∙ here_or_not (nat_eq (rate_place_of s x) q) (f (InHired p x)) (in_ways q parts) apart.0) (span_once (q + 1) n p x parts (omega (arith, apart.1)) (omega arith))
+        two_more (ways_head q p x parts ∙ here_or_not (nat_eq (rate_place_of s x) q) (f (InHired p x))
+        (in_ways q parts) apart.0) (span_once (q + 1) n p x parts (omega (arith, apart.1)) (omega arith))
         ∙ later_once (f (InHired p x)) (in_ways q parts) (span (q + 1) n parts)
   ]
 
-  span_other : (q n : ℕ) (part : Part) (parts : List Part) → ((place : ℕ) (way : Way) → is_charged_by s place way part ≡ false) → span q n (part ∷ parts) ≡ span q n parts
+  span_other : (q n : ℕ) (part : Part) (parts : List Part)
+      → ((place : ℕ) (way : Way) → is_charged_by s place way part ≡ false) → span q n (part ∷ parts) ≡ span q n parts
   unfolding span
   span_other q zero part parts free = refl
   span_other q (suc n) part parts free =
-      let out = λ (way : Way). amount_head f (is_charged_by s q way) part parts ∙ here_or_not (is_charged_by s q way part) (f part) (amount f (is_charged_by s q way) parts) (free q way) in
+      let out = λ (way : Way). amount_head f (is_charged_by s q way) part parts
+      ∙ here_or_not (is_charged_by s q way part) (f part) (amount f (is_charged_by s q way) parts) (free q way) in
       two_more (three_more (out Distance) (out Time) (out Both)) (span_other (q + 1) n part parts free)
 
   span_none : (q n : ℕ) → span q n [] ≡ 0
@@ -168,27 +197,52 @@ module _ (s : Setting) (f : Part → ℕ) (of : Sums → ℕ) (of_is : (parts : 
   whole_span n few [] = omega (arith, span_none 0 n)
   whole_span n few (InHired p x ∷ parts) =
       let once = span_once 0 n p x parts (omega arith) (omega (arith, few x)) in
-      omega (arith, once, amount_head f is_in_stopped (InHired p x) parts, amount_head f is_rest (InHired p x) parts, sum_head (f (InHired p x)) (map f parts), whole_span n few parts)
+      omega (
+        arith,
+        once,
+        amount_head f is_in_stopped (InHired p x) parts,
+        amount_head f is_rest (InHired p x) parts,
+        sum_head (f (InHired p x)) (map f parts),
+        whole_span n few parts,
+      )
   whole_span n few (InStopped p ∷ parts) =
       let other = span_other 0 n (InStopped p) parts (λ place way. refl) in
-      omega (arith, other, amount_head f is_in_stopped (InStopped p) parts, amount_head f is_rest (InStopped p) parts, sum_head (f (InStopped p)) (map f parts), whole_span n few parts)
+      omega (
+        arith,
+        other,
+        amount_head f is_in_stopped (InStopped p) parts,
+        amount_head f is_rest (InStopped p) parts,
+        sum_head (f (InStopped p)) (map f parts),
+        whole_span n few parts,
+      )
   whole_span n few (Rest p ∷ parts) =
       let other = span_other 0 n (Rest p) parts (λ place way. refl) in
-      omega (arith, other, amount_head f is_in_stopped (Rest p) parts, amount_head f is_rest (Rest p) parts, sum_head (f (Rest p)) (map f parts), whole_span n few parts)
+      omega (
+        arith,
+        other,
+        amount_head f is_in_stopped (Rest p) parts,
+        amount_head f is_rest (Rest p) parts,
+        sum_head (f (Rest p)) (map f parts),
+        whole_span n few parts,
+      )
 
   pub parts_are_whole : (lines : List ℕ) → ((x : Context) → rate_place_of s x < length lines) → (parts : List Part)
-      → sum (map (λ (g : Group). of g.sums) (groups_from s parts 0 lines)) + (amount f is_in_stopped parts + amount f is_rest parts) ≡ sum (map f parts)
+      → sum (map (λ (g : Group). of g.sums) (groups_from s parts 0 lines))
+      + (amount f is_in_stopped parts + amount f is_rest parts) ≡ sum (map f parts)
   parts_are_whole lines few parts =
-      ap (λ (n : ℕ). n + (amount f is_in_stopped parts + amount f is_rest parts)) (groups_all lines 0 parts) ∙ whole_span (length lines) few parts
+      ap (λ (n : ℕ). n + (amount f is_in_stopped parts + amount f is_rest parts)) (groups_all lines 0 parts)
+      ∙ whole_span (length lines) few parts
 
 -- parts that cost nothing, or have no tick
 free_by : (b : Bool) (value rest : ℕ) → (b ≡ true → value ≡ 0) → rest ≡ 0 → cond b value 0 + rest ≡ 0
 free_by true value rest free none = omega (arith, free refl, none)
 free_by false value rest free none = omega (arith, none)
 
-free_parts : (f : Part → ℕ) (test : Part → Bool) → ((part : Part) → test part ≡ true → f part ≡ 0) → (parts : List Part) → amount f test parts ≡ 0
+free_parts : (f : Part → ℕ) (test : Part → Bool) → ((part : Part) → test part ≡ true → f part ≡ 0) → (parts : List Part)
+    → amount f test parts ≡ 0
 free_parts f test free [] = refl
-free_parts f test free (part ∷ parts) = amount_head f test part parts ∙ free_by (test part) (f part) (amount f test parts) (free part) (free_parts f test free parts)
+free_parts f test free (part ∷ parts) = amount_head f test part parts
+    ∙ free_by (test part) (f part) (amount f test parts) (free part) (free_parts f test free parts)
 
 stopped_free : (s : Setting) (part : Part) → is_in_stopped part ≡ true → charge_in s part ≡ 0
 stopped_free s (InHired p x) is = absurd cc
@@ -209,16 +263,19 @@ rest_timeless (Rest p) is = refl
 as_many : (t : Tree) → length (lines_of (sound_of t).rates) ≡ length (rates_of t.lines)
 as_many t =
     length-map (sound_of t).rates (λ (c : Choice RateNumbers). c.line)
-    ∙ (sym (length-map (sound_of t).rates (λ (c : Choice RateNumbers). c.value)) ∙ ap length (check.sound_tariffs_are_their_parts-choices t).rates)
+    ∙ (sym (length-map (sound_of t).rates (λ (c : Choice RateNumbers). c.value))
+    ∙ ap length (check.sound_tariffs_are_their_parts-choices t).rates)
 
-within_rates : (s : Setting) → IsSound s.tariff → (x : Context) → rate_place_of s x < length (lines_of (sound_of s.tariff).rates)
+within_rates : (s : Setting) → IsSound s.tariff → (x : Context)
+    → rate_place_of s x < length (lines_of (sound_of s.tariff).rates)
 within_rates s sound x =
     let holds = check.lines_that_hold_are_there-rate s.tariff x sound in
     rw (as_many s.tariff, holds.1) holds.2
 
 -- the supplements that were taken, number by number
 one_taken : (t : Tree) (numbers : List ℕ) (number : ℕ) (b : Bool) → nat_eq (times number numbers) 0 ≡ b
-    → sum (map (λ (k : Taken). k.count * k.amount) (if b then [] else record { number = number; count = times number numbers; amount = amount_in (supplement_at t number) } ∷ []))
+    → sum (map (λ (k : Taken). k.count * k.amount) (if b then []
+    else record { number = number; count = times number numbers; amount = amount_in (supplement_at t number) } ∷ []))
     ≡ times number numbers * amount_in (supplement_at t number)
 one_taken t numbers number true none =
     let zero_times : times number numbers ≡ 0 = eqb-true (times number numbers) 0 none in
@@ -226,15 +283,19 @@ one_taken t numbers number true none =
 one_taken t numbers number false some = omega arith
 
 all_taken : (t : Tree) (numbers : List ℕ) (first many : ℕ)
-    → sum (map (λ (k : Taken). k.count * k.amount) (flat_map (taken_if t numbers) (range_with_len first many))) ≡ amounts_among (λ number. amount_in (supplement_at t number)) first many numbers
+    → sum (map (λ (k : Taken). k.count * k.amount) (flat_map (taken_if t numbers) (range_with_len first many)))
+    ≡ amounts_among (λ number. amount_in (supplement_at t number)) first many numbers
 unfolding amounts_among
 all_taken t numbers first zero = refl
 all_taken t numbers first (suc many) =
-    sum_both (λ (k : Taken). k.count * k.amount) (taken_if t numbers first) (flat_map (taken_if t numbers) (range_with_len (first + 1) many))
+    sum_both (λ (k : Taken). k.count * k.amount) (taken_if t numbers first)
+    (flat_map (taken_if t numbers) (range_with_len (first + 1) many))
     ∙ two_more (one_taken t numbers first (nat_eq (times first numbers) 0) refl) (all_taken t numbers (first + 1) many)
 
-taken_sum : (t : Tree) (numbers : List ℕ) → All IsSupplementNumber numbers → sum (map (λ (k : Taken). k.count * k.amount) (taken_of t numbers)) ≡ amounts_of t numbers
-taken_sum t numbers all = all_taken t numbers 1 16 ∙ all_among (λ number. amount_in (supplement_at t number)) numbers all
+taken_sum : (t : Tree) (numbers : List ℕ) → All IsSupplementNumber numbers
+    → sum (map (λ (k : Taken). k.count * k.amount) (taken_of t numbers)) ≡ amounts_of t numbers
+taken_sum t numbers all =
+    all_taken t numbers 1 16 ∙ all_among (λ number. amount_in (supplement_at t number)) numbers all
 
 -- an explanation of a trip
 one_adds_up : (s : Setting) → IsSound s.tariff → (e : Explanation) → IsOfTrip s e → ArePartsTheWhole e
@@ -267,17 +328,22 @@ one_makes s e is_of =
       supplements = λ writable. taken_sum s.tariff is_of.trip.extras (began.extras writable);
     })
 
-pub all_add_up : (s : Setting) (events : List Event) → IsSound s.tariff → All ArePartsTheWhole (explanations_of s events)
-all_add_up s events sound = All-weaker (IsOfTrip s) ArePartsTheWhole (one_adds_up s sound) (explanations_of s events) (explained_are_of_trips s events)
+pub all_add_up : (s : Setting) (events : List Event) → IsSound s.tariff
+    → All ArePartsTheWhole (explanations_of s events)
+all_add_up s events sound = All-weaker (IsOfTrip s) ArePartsTheWhole (one_adds_up s sound) (explanations_of s events)
+    (explained_are_of_trips s events)
 
 pub all_make : (s : Setting) (events : List Event) → All (MakesReceipt s) (explanations_of s events)
-all_make s events = All-weaker (IsOfTrip s) (MakesReceipt s) (one_makes s) (explanations_of s events) (explained_are_of_trips s events)
+all_make s events =
+    All-weaker (IsOfTrip s) (MakesReceipt s) (one_makes s) (explanations_of s events) (explained_are_of_trips s events)
 
-ways_by : (b : Bool) (k common : ℕ) (r : RateNumbers) (p : ℕ) → (if b then time_charge k common r else distance_charge common r p) ≡ charge_in_way k common r p (if b then Time else Distance)
+ways_by : (b : Bool) (k common : ℕ) (r : RateNumbers) (p : ℕ) → (if b then time_charge k common r
+    else distance_charge common r p) ≡ charge_in_way k common r p (if b then Time else Distance)
 ways_by true k common r p = refl
 ways_by false k common r p = refl
 
 -- an interval is charged what its way says
-pub ways_charge : (mode : Mode) (k common : ℕ) (r : RateNumbers) (p : ℕ) → charge_by mode k common r p ≡ charge_in_way k common r p (way_by mode k r p)
+pub ways_charge : (mode : Mode) (k common : ℕ) (r : RateNumbers) (p : ℕ)
+    → charge_by mode k common r p ≡ charge_in_way k common r p (way_by mode k r p)
 ways_charge Single k common r p = ways_by (nat_lt (10000 * p * r.a * r.e) (r.c * k * r.b)) k common r p
 ways_charge Double k common r p = refl

@@ -21,9 +21,12 @@ untimed_in ticks (Refuse why ∷ acts) = untimed_in ticks acts
 untimed_in ticks (Enter entry ∷ acts) = untimed_in ticks acts
 untimed_in ticks (Hold trip ∷ acts) = untimed_in ticks acts
 untimed_in ticks (Receipt receipt ∷ acts) =
-    ap (λ (list : List Expected). record { kind = receipt.kind; fare = receipt.fare; hired_mm = receipt.hired_mm; ticks = 0 } ∷ list) (untimed_in ticks acts)
+    ap (λ (list : List Expected).
+    record { kind = receipt.kind; fare = receipt.fare; hired_mm = receipt.hired_mm; ticks = 0 } ∷ list)
+    (untimed_in ticks acts)
 
-from_run : (s : Setting) (events : List Event) (m : Meter) → map untimed (hirings_from s events m) ≡ hirings_in 0 ((run s events m).acts ++ (ended s (run s events m).next).acts)
+from_run : (s : Setting) (events : List Event) (m : Meter) → map untimed (hirings_from s events m)
+    ≡ hirings_in 0 ((run s events m).acts ++ (ended s (run s events m).next).acts)
 unfolding hirings_from
 from_run s [] m = untimed_in (ticks_so_far m.trip) (ended s m).acts
 from_run s (event ∷ events) m =
@@ -32,9 +35,11 @@ from_run s (event ∷ events) m =
     let others = (run s events next).acts in
     let last = (ended s (run s events next).next).acts in
     map-append untimed (hirings_in (ticks_at s event m) first) (hirings_from s events next)
-    ∙ (ap (λ (list : List Expected). list ++ map untimed (hirings_from s events next)) (untimed_in (ticks_at s event m) first)
+    ∙ (ap (λ (list : List Expected). list ++ map untimed (hirings_from s events next))
+    (untimed_in (ticks_at s event m) first)
     ∙ (ap (λ (list : List Expected). hirings_in 0 first ++ list) (from_run s events next)
     ∙ (sym (hirings_in-append 0 first (others ++ last)) ∙ ap (hirings_in 0) (sym (append_assoc first others last)))))
 
-pub expected_are_receipts : (s : Setting) (events : List Event) → map untimed (expected_of s events) ≡ hirings_in 0 (actions_of s first_state events)
+pub expected_are_receipts : (s : Setting) (events : List Event)
+    → map untimed (expected_of s events) ≡ hirings_in 0 (actions_of s first_state events)
 expected_are_receipts s events = from_run s events (opened s first_state)

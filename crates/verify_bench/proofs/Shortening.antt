@@ -1,12 +1,13 @@
 -- What a drive should come to, by its explanations.
-use Rattle.std.proofs.Common.{◌≡◌, ℕ, ◌+◌, ◌∙◌, List, [], ◌∷◌, ◌++◌, refl, ap, sym, map, sum, Option, Some, None, arith, append_assoc}
+use Rattle.std.proofs.Common.{◌≡◌, ℕ, ◌+◌, ◌∙◌, List, [], ◌∷◌, ◌++◌, refl, ap, sym, map, sum, Option, Some, None, arith}
+use Rattle.std.proofs.Common.{append_assoc}
 use Rattle.std.proofs.lemmas.List.{map-append}
 use Rattle.meter_states.specs.Interval.{left_in, ticks_so_far}
 use Rattle.meter_states.specs.Meter.{Meter}
 use Rattle.meter_states.specs.Run.{ended}
 use Rattle.meter_states.specs.Setting.{Setting}
 use Rattle.meter_states.specs.Step.{step}
-use Rattle.meter_states.specs.Trip.{Part, Rest, Trip, ticks_in}
+use Rattle.meter_states.specs.Trip.{Part, Rest, MeterTrip, ticks_in}
 use Rattle.meter_states.specs.declared.act.Act.{Act}
 use Rattle.meter_states.specs.declared.act.Act.TheVariants.{Show, Refuse, Enter, Hold, Receipt}
 use Rattle.tariff_syntax.specs.declared.context.Context.{Context}
@@ -17,15 +18,17 @@ use Rattle.taxi_units.specs.declared.event.Operating.TheVariants.{Off, ForHire, 
 use Rattle.verify_bench.specs.Bench.{GoesThroughEvent}
 use Rattle.verify_bench.specs.Carrying.{Carries, IsAmidExpected}
 use Rattle.verify_bench.specs.Expecting.{hirings_from, hirings_in, ticks_at}
-use Rattle.verify_bench.specs.Explaining.{explanation, explanation_of, explanations_from, explanations_in, hired_at, trip_at}
+use Rattle.verify_bench.specs.Explaining.{explanation, explanation_of, explanations_from, explanations_in, hired_at}
+use Rattle.verify_bench.specs.Explaining.{trip_at}
 use Rattle.verify_bench.proofs.Gathering.{sum_more}
 use Rattle.verify_bench.specs.Shortened.{short_of}
 use Rattle.verify_bench.specs.declared.expected.Expected.{Expected}
 use Rattle.verify_bench.specs.declared.explained.Explained.{Explained}
-use Rattle.verify_bench.specs.declared.plain_meter.BenchMeter.{BenchMeter}
+use Rattle.verify_bench.specs.declared.bench_meter.BenchMeter.{BenchMeter}
 
 -- the receipts of acts
-short_in : (s : Setting) (hired : Context) (trip : Option Trip) (acts : List Act) → map short_of (explanations_in s hired trip acts) ≡ hirings_in (ticks_so_far trip) acts
+short_in : (s : Setting) (hired : Context) (trip : Option MeterTrip) (acts : List Act)
+    → map short_of (explanations_in s hired trip acts) ≡ hirings_in (ticks_so_far trip) acts
 short_in s hired trip [] = refl
 short_in s hired trip (Show display ∷ acts) = short_in s hired trip acts
 short_in s hired trip (Refuse why ∷ acts) = short_in s hired trip acts
@@ -38,10 +41,12 @@ add_none : (n : ℕ) → n + 0 ≡ n
 add_none n = omega arith
 
 -- an unfinished interval has no tick
-rest_ticks : (parts : List Part) (pulses : ℕ) → sum (map ticks_in (parts ++ Rest pulses ∷ [])) ≡ sum (map ticks_in parts)
+rest_ticks : (parts : List Part) (pulses : ℕ)
+    → sum (map ticks_in (parts ++ Rest pulses ∷ [])) ≡ sum (map ticks_in parts)
 rest_ticks parts pulses = sum_more ticks_in parts (Rest pulses ∷ []) ∙ add_none (sum (map ticks_in parts))
 
-left_ticks : (operating : Operating) (pulses : ℕ) (m : Meter) (trip : Option Trip) → m.trip ≡ trip → ticks_so_far (left_in operating pulses m).trip ≡ ticks_so_far m.trip
+left_ticks : (operating : Operating) (pulses : ℕ) (m : Meter) (trip : Option MeterTrip) → m.trip ≡ trip
+    → ticks_so_far (left_in operating pulses m).trip ≡ ticks_so_far m.trip
 left_ticks Off pulses m trip is = refl
 left_ticks ForHire pulses m trip is = refl
 left_ticks Hired pulses m None is = rw is refl
@@ -64,7 +69,8 @@ short_event s event hired m acts =
     short_in s hired (trip_at s event m) acts ∙ ap (λ (n : ℕ). hirings_in n acts) (same_ticks s event m)
 
 -- the hirings of events are their explanations cut short
-pub short_from : (s : Setting) (events : List Event) (m : Meter) (hired : Context) → map short_of (explanations_from s events m hired) ≡ hirings_from s events m
+pub short_from : (s : Setting) (events : List Event) (m : Meter) (hired : Context)
+    → map short_of (explanations_from s events m hired) ≡ hirings_from s events m
 unfolding explanations_from hirings_from
 short_from s [] m hired = short_event s events.Down hired m (ended s m).acts
 short_from s (event ∷ events) m hired =
@@ -73,10 +79,12 @@ short_from s (event ∷ events) m hired =
     let others = explanations_from s events next (hired_at s event m hired) in
     map-append short_of (explanations_in s hired (trip_at s event m) acts) others
     ∙ (ap (λ (list : List Expected). list ++ map short_of others) (short_event s event hired m acts)
-    ∙ ap (λ (list : List Expected). hirings_in (ticks_at s event m) acts ++ list) (short_from s events next (hired_at s event m hired)))
+    ∙ ap (λ (list : List Expected). hirings_in (ticks_at s event m) acts ++ list)
+    (short_from s events next (hired_at s event m hired)))
 
 -- events that are carried out from nothing found
-pub carried_short : (s : Setting) (all : List Expected) (events left : List Event) (old new : BenchMeter) (found : List Expected) (explained : List Explained)
+pub carried_short : (s : Setting) (all : List Expected) (events left : List Event) (old new : BenchMeter)
+    (found : List Expected) (explained : List Explained)
     → Carries s events old new [] explained → IsAmidExpected s all (events ++ left) old found
     → IsAmidExpected s all left new (found ++ map short_of (map explanation_of explained))
 carried_short s all events left old new found explained carries amid =
@@ -89,18 +97,21 @@ carried_short s all events left old new found explained carries amid =
       hired = after.hired;
       stands = after.stands;
       split = append_assoc found (map short_of told) (hirings_from s left after.m)
-          ∙ (ap (λ (list : List Expected). found ++ (map short_of told ++ list)) (sym (short_from s left after.m after.hired))
+          ∙ (ap (λ (list : List Expected). found ++ (map short_of told ++ list))
+          (sym (short_from s left after.m after.hired))
           ∙ (ap (λ (list : List Expected). found ++ list) (sym (map-append short_of told rest)
           ∙ (ap (map short_of) after.split ∙ short_from s (events ++ left) amid.m amid.hired))
           ∙ amid.split));
     }
 
 -- the end of the drive, from nothing found
-pub ended_short : (s : Setting) (all : List Expected) (old new : BenchMeter) (found : List Expected) (explained : List Explained)
+pub ended_short : (s : Setting) (all : List Expected) (old new : BenchMeter) (found : List Expected)
+    (explained : List Explained)
     → GoesThroughEvent s events.Down ended old new [] explained → IsAmidExpected s all [] old found
     → found ++ map short_of (map explanation_of explained) ≡ all
 unfolding hirings_from
 ended_short s all old new found explained moves amid =
     ap (λ (list : List Expected). found ++ list)
-    (ap (map short_of) (moves amid.m amid.hired amid.stands).found ∙ short_event s events.Down amid.hired amid.m (ended s amid.m).acts)
+    (ap (map short_of) (moves amid.m amid.hired amid.stands).found
+    ∙ short_event s events.Down amid.hired amid.m (ended s amid.m).acts)
     ∙ amid.split

@@ -7,32 +7,32 @@ use Rattle.meter_states.specs.Keys.{hiring, key_in}
 use Rattle.meter_states.specs.Meter.{Meter, Outcome}
 use Rattle.meter_states.specs.Setting.{Setting}
 use Rattle.meter_states.specs.Step.{expired_or_pressed}
-use Rattle.meter_states.specs.Trip.{Trip}
+use Rattle.meter_states.specs.Trip.{MeterTrip}
 use Rattle.tariff_syntax.specs.declared.context.Context.{Context}
 use Rattle.taxi_units.specs.Limits.{last_number}
 use Rattle.taxi_units.specs.Time.{IsSecond, last_tick}
 use Rattle.taxi_units.specs.declared.event.Event.{Event}
 use Rattle.taxi_units.specs.declared.event.Key.{Key}
 use Rattle.taxi_units.specs.declared.event.Operating.TheVariants.{ForHire}
-use Rattle.totals_record.specs.declared.trip.Trip as store
+use Rattle.totals_record.specs.declared.trip.Trip.{Trip}
 use Rattle.verify_bench.specs.Explaining.{explanation_of, explanations_in, hired_at, hired_by, trip_at}
 use Rattle.verify_bench.specs.Hirings.{IsHiringOf, IsWhole}
 use Rattle.verify_bench.specs.declared.explained.Explained.{Explained}
 use Rattle.verify_bench.specs.declared.hiring.Hiring.{Hiring}
-use Rattle.verify_bench.specs.declared.plain_meter.Held.{Held}
-use Rattle.verify_bench.specs.declared.plain_meter.BenchMeter.{BenchMeter}
+use Rattle.verify_bench.specs.declared.bench_meter.SavedState.{SavedState}
+use Rattle.verify_bench.specs.declared.bench_meter.BenchMeter.{BenchMeter}
 
 -- a count of 64 bits stands still at its last value, 2^64 - 1
 abbrev pub limited : ℕ → ℕ
 limited count = min count (2 ^ 64 - 1)
 
 -- the bench keeps of a held trip how it goes on: the second of its saving, whether it was stopped, position and zone
-abbrev pub held_of : store.Trip → Held
+abbrev pub held_of : Trip → SavedState
 held_of trip = record { saved = trip.saved; stopped = trip.stopped; position = trip.position; zone = trip.zone }
 
 -- a hiring of the bench and a trip of the meter agree if neither is there, or both are and the hiring is that trip,
 -- hired in the context
-abbrev pub AreTrips : Setting → (hired : Context) → Option Hiring → Option Trip → Type 0
+abbrev pub AreTrips : Setting → (hired : Context) → Option Hiring → Option MeterTrip → Type 0
 AreTrips s hired None None = Unit {0}
 AreTrips s hired (Some hiring) (Some trip) = IsHiringOf s hired hiring trip
 AreTrips s hired None (Some trip) = ⊥
@@ -40,7 +40,7 @@ AreTrips s hired (Some hiring) None = ⊥
 
 -- a meter of the bench stands for a state of the meter whose last trip was hired in a context if it has each part of
 -- that state of which receipts depend, with sums for the lists of pulses, and its hiring is the trip
-pub record Stands (s : Setting) (hired : Context) (meter : BenchMeter) (m : Meter) : Type 0 where
+pub record BenchStands (s : Setting) (hired : Context) (meter : BenchMeter) (m : Meter) : Type 0 where
   pub operating : meter.operating ≡ m.operating
   pub clock : meter.clock ≡ m.clock
   pub began : meter.began ≡ m.began
@@ -55,16 +55,16 @@ pub record Stands (s : Setting) (hired : Context) (meter : BenchMeter) (m : Mete
 
 -- a hiring is sound beside the store's number if it is whole, has at most `most` ticks, and at most 2,000 pulses for
 -- each tick, for each held trip that the number counts, and for `more` unfinished intervals
-abbrev pub IsSoundHiring : (number most more : ℕ) → Option Hiring → Type 0
-IsSoundHiring number most more None = Unit {0}
-IsSoundHiring number most more (Some hiring) =
+abbrev pub IsHiringInRange : (number most more : ℕ) → Option Hiring → Type 0
+IsHiringInRange number most more None = Unit {0}
+IsHiringInRange number most more (Some hiring) =
     IsWhole hiring × (hiring.whole.pulses ≤ 2000 * (hiring.whole.ticks + number + more)) × (number ≤ last_number)
     × (hiring.whole.ticks ≤ most)
 
 -- what is kept of a held trip is sound if the second of its saving is one of the meter's
-abbrev pub IsSoundHeld : Option Held → Type 0
-IsSoundHeld None = Unit {0}
-IsSoundHeld (Some held) = IsSecond held.saved
+abbrev pub IsHeldInRange : Option SavedState → Type 0
+IsHeldInRange None = Unit {0}
+IsHeldInRange (Some held) = IsSecond held.saved
 
 -- a meter of the bench is sound if its seconds and its pulses are in their ranges, For Hire has no hiring, and a
 -- hiring is sound with at most `most` ticks and `more` unfinished intervals
@@ -73,8 +73,8 @@ pub record IsMeterInRange (most more : ℕ) (meter : BenchMeter) : Type 0 where
   pub began : IsSecond meter.began
   pub taken : meter.taken ≤ 2000
   pub for_hire : meter.operating ≡ ForHire → meter.hiring ≡ None
-  pub held : IsSoundHeld meter.held
-  pub hiring : IsSoundHiring meter.number most more meter.hiring
+  pub held : IsHeldInRange meter.held
+  pub hiring : IsHiringInRange meter.number most more meter.hiring
 
 -- a meter of the bench may take an event if it is sound, its hiring short of its longest time and no interval
 -- unfinished, and the numbers of the event are in their ranges
@@ -89,9 +89,9 @@ HasTicks (Some hiring) ticks = ticks ≡ hiring.whole.ticks
 -- a meter of the bench has moved to an outcome if it stands for the next state, whose last trip was hired in the
 -- context `next`, and behind what was found before come the explanations of the receipts among the outcome's acts, by
 -- the given trip, which was hired in the context `hired`
-pub record Moves (s : Setting) (hired next : Context) (trip : Option Trip) (before after : List Explained)
+pub record Moves (s : Setting) (hired next : Context) (trip : Option MeterTrip) (before after : List Explained)
     (meter : BenchMeter) (o : Outcome) : Type 0 where
-  pub state : Stands s next meter o.next
+  pub state : BenchStands s next meter o.next
   pub found : map explanation_of after ≡ map explanation_of before ++ explanations_in s hired trip o.acts
 
 -- a meter of the bench goes through a stage if from each state that it stood for it has moved to what the stage
@@ -99,26 +99,26 @@ pub record Moves (s : Setting) (hired next : Context) (trip : Option Trip) (befo
 abbrev pub GoesThrough : Setting → (stage : Setting → Meter → Outcome) → (old new : BenchMeter)
     → (before after : List Explained) → Type 0
 GoesThrough s stage old new before after =
-    (m : Meter) (hired : Context) → Stands s hired old m → Moves s hired hired m.trip before after new (stage s m)
+    (m : Meter) (hired : Context) → BenchStands s hired old m → Moves s hired hired m.trip before after new (stage s m)
 
 -- a meter of the bench goes through a stage quietly if nothing is found in it, whatever was found before, and no trip
 -- is hired
 abbrev pub GoesThroughQuietly : Setting → (stage : Setting → Meter → Outcome) → (old new : BenchMeter) → Type 0
 GoesThroughQuietly s stage old new =
-    (trip : Option Trip) (found : List Explained) (m : Meter) (hired next : Context) → Stands s next old m
+    (trip : Option MeterTrip) (found : List Explained) (m : Meter) (hired next : Context) → BenchStands s next old m
     → Moves s hired next trip found found new (stage s m)
 
 -- a meter of the bench hires if nothing is found in it, and the context of the meter is that of the hiring
 abbrev pub Hires : Setting → (old new : BenchMeter) → Type 0
 Hires s old new =
-    (trip : Option Trip) (found : List Explained) (m : Meter) (hired : Context) → Stands s hired old m
+    (trip : Option MeterTrip) (found : List Explained) (m : Meter) (hired : Context) → BenchStands s hired old m
     → Moves s hired (context_now s m) trip found found new (hiring s m)
 
 -- a meter of the bench goes through a key if from each state that it stood for it has moved to what the key comes to;
 -- receipts are explained by the trip before the key
 abbrev pub GoesThroughKey : Setting → Key → (old new : BenchMeter) → (before after : List Explained) → Type 0
 GoesThroughKey s key old new before after =
-    (m : Meter) (hired : Context) → Stands s hired old m
+    (m : Meter) (hired : Context) → BenchStands s hired old m
     → Moves s hired (hired_by (Some key) m.operating (context_now s m) hired) m.trip before after new
     (key_in s key m.operating m)
 
@@ -126,7 +126,7 @@ GoesThroughKey s key old new before after =
 -- end of the trip's time, or that key, comes to
 abbrev pub GoesThroughLatch : Setting → (old new : BenchMeter) → (before after : List Explained) → Type 0
 GoesThroughLatch s old new before after =
-    (m : Meter) (hired : Context) → Stands s hired old m
+    (m : Meter) (hired : Context) → BenchStands s hired old m
     → Moves s hired (hired_by m.latch m.operating (context_now s m) hired) m.trip before after new
     (expired_or_pressed s m)
 
@@ -135,5 +135,5 @@ GoesThroughLatch s old new before after =
 abbrev pub GoesThroughEvent : Setting → Event → (comes_to : Setting → Meter → Outcome) → (old new : BenchMeter)
     → (before after : List Explained) → Type 0
 GoesThroughEvent s event comes_to old new before after =
-    (m : Meter) (hired : Context) → Stands s hired old m
+    (m : Meter) (hired : Context) → BenchStands s hired old m
     → Moves s hired (hired_at s event m hired) (trip_at s event m) before after new (comes_to s m)

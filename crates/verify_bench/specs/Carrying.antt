@@ -4,12 +4,12 @@ use Rattle.meter_states.specs.Meter.{Meter}
 use Rattle.meter_states.specs.Setting.{Setting}
 use Rattle.tariff_syntax.specs.declared.context.Context.{Context}
 use Rattle.taxi_units.specs.declared.event.Event.{Event}
-use Rattle.verify_bench.specs.Bench.{Stands}
+use Rattle.verify_bench.specs.Bench.{BenchStands}
 use Rattle.verify_bench.specs.Expecting.{hirings_from}
 use Rattle.verify_bench.specs.Explaining.{Explanation, explanation_of, explanations_from}
 use Rattle.verify_bench.specs.declared.expected.Expected.{Expected}
 use Rattle.verify_bench.specs.declared.explained.Explained.{Explained}
-use Rattle.verify_bench.specs.declared.plain_meter.BenchMeter.{BenchMeter}
+use Rattle.verify_bench.specs.declared.bench_meter.BenchMeter.{BenchMeter}
 
 -- a meter of the bench is amid a drive if what was found, and behind it the explanations that the events that are left
 -- come to from the state that it stands for, is all that the drive comes to
@@ -17,7 +17,7 @@ pub record IsAmid (s : Setting) (all : List Explanation) (left : List Event) (me
     (found : List Explained) : Type 0 where
   pub m : Meter
   pub hired : Context
-  pub stands : Stands s hired meter m
+  pub stands : BenchStands s hired meter m
   pub split : map explanation_of found ++ explanations_from s left m hired ≡ all
 
 -- events were carried out between two meters of the bench if in each drive that goes on with these events the first
@@ -33,5 +33,5 @@ pub record IsAmidExpected (s : Setting) (all : List Expected) (left : List Event
     (found : List Expected) : Type 0 where
   pub m : Meter
   pub hired : Context
-  pub stands : Stands s hired meter m
+  pub stands : BenchStands s hired meter m
   pub split : found ++ hirings_from s left m ≡ all

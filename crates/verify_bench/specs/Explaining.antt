@@ -8,7 +8,7 @@ use Rattle.meter_states.specs.Run.{ended, opened}
 use Rattle.meter_states.specs.Setting.{Setting}
 use Rattle.meter_states.specs.Step.{step}
 use Rattle.meter_states.specs.Supplements.{amount_in, times}
-use Rattle.meter_states.specs.Trip.{Part, Trip, charges_of}
+use Rattle.meter_states.specs.Trip.{Part, MeterTrip, charges_of}
 use Rattle.meter_states.specs.declared.act.Act.{Act}
 use Rattle.meter_states.specs.declared.act.Act.TheVariants as acts
 use Rattle.meter_states.specs.declared.act.Act.TheVariants.{Show, Refuse, Enter, Hold}
@@ -79,27 +79,27 @@ abbrev pub taken_of : Tree → (numbers : List ℕ) → List Taken
 taken_of t numbers = flat_map (taken_if t numbers) (range_with_len 1 16)
 
 -- the parts of a trip so far are its own, and none without a trip
-abbrev pub parts_so_far : Option Trip → List Part
+abbrev pub parts_so_far : Option MeterTrip → List Part
 parts_so_far None = []
 parts_so_far (Some t) = t.parts
 
 -- the supplements of a trip so far are its own, and none without a trip
-abbrev pub extras_so_far : Option Trip → List ℕ
+abbrev pub extras_so_far : Option MeterTrip → List ℕ
 extras_so_far None = []
 extras_so_far (Some t) = t.extras
 
 -- the charges of a trip so far are its own, and 0 without a trip
-abbrev pub charges_so_far : Setting → Option Trip → ℕ
+abbrev pub charges_so_far : Setting → Option MeterTrip → ℕ
 charges_so_far s None = 0
 charges_so_far s (Some t) = charges_of s t
 
 -- the whole of a trip so far is its pulses, its ticks and its charges
-abbrev pub whole_of : Setting → Option Trip → Sums
+abbrev pub whole_of : Setting → Option MeterTrip → Sums
 whole_of s trip =
     record { pulses = pulses_so_far trip; ticks = ticks_so_far trip; charge = charges_so_far s trip }
 
 -- the explanation of a receipt is by the context in which the trip was hired, and by all the trip's parts
-abbrev pub explanation : Setting → (hired : Context) → Option Trip → Receipt → Explanation
+abbrev pub explanation : Setting → (hired : Context) → Option MeterTrip → Receipt → Explanation
 explanation s hired trip receipt = record {
   receipt = receipt;
   fee_line = fee_line s.tariff hired;
@@ -113,7 +113,7 @@ explanation s hired trip receipt = record {
 }
 
 -- each receipt among acts is explained by the trip; no other act is
-abbrev pub explanations_in : Setting → (hired : Context) → Option Trip → List Act → List Explanation
+abbrev pub explanations_in : Setting → (hired : Context) → Option MeterTrip → List Act → List Explanation
 explanations_in s hired trip [] = []
 explanations_in s hired trip (Show display ∷ acts) = explanations_in s hired trip acts
 explanations_in s hired trip (Refuse why ∷ acts) = explanations_in s hired trip acts
@@ -124,7 +124,7 @@ explanations_in s hired trip (acts.Receipt receipt ∷ acts) =
 
 -- a trip that an event closes is the one that was there before; if the event is a tick, the interval that it ends
 -- belongs to it, and if it is a drop of the supply, the interval that it leaves unfinished
-abbrev pub trip_at : Setting → Event → Meter → Option Trip
+abbrev pub trip_at : Setting → Event → Meter → Option MeterTrip
 trip_at s events.Tick m = (interval_counted s m).next.trip
 trip_at s events.Down m = (interval_left m).next.trip
 trip_at s (events.Up second) m = m.trip

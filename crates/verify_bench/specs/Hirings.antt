@@ -1,10 +1,10 @@
 -- For proofs: a hiring of the bench with the sums of its intervals, and which trip of the meter it is. Trip, of
 -- meter_states, says what a trip is.
 use Rattle.std.specs.Prelude.{◌≡◌, ℕ, ◌*◌, ◌≤◌, All, filter}
-use Rattle.meter_states.specs.Kept.{IsSupplementNumber}
+use Rattle.meter_states.specs.KeptTrip.{IsSupplementNumber}
 use Rattle.meter_states.specs.Setting.{Setting, unit_of}
 use Rattle.meter_states.specs.Supplements.{times}
-use Rattle.meter_states.specs.Trip.{Trip}
+use Rattle.meter_states.specs.Trip.{MeterTrip}
 use Rattle.tariff_compile.specs.Tables.{IsFitInitial, initial_by}
 use Rattle.tariff_syntax.specs.declared.context.Context.{Context}
 use Rattle.taxi_units.specs.Time.{IsSecond}
@@ -17,7 +17,7 @@ use Rattle.verify_bench.specs.declared.hiring.Hiring.{Hiring}
 -- a hiring of the bench is a trip of the meter that began with it in a context if both have the same start, fees and
 -- supplements, and the hiring has the sums of the trip's parts; its charges are at most 41 * 10^9 of the smallest units
 -- of money for each tick
-pub record IsHiringOf (s : Setting) (hired : Context) (hiring : Hiring) (trip : Trip) : Type 0 where
+pub record IsHiringOf (s : Setting) (hired : Context) (hiring : Hiring) (trip : MeterTrip) : Type 0 where
   pub started : trip.started ≡ hiring.started
   pub initial : trip.initial ≡ hiring.fee.initial.amount
   pub minimum : trip.minimum ≡ hiring.fee.initial.minimum

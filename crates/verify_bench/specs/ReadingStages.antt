@@ -12,16 +12,16 @@ use Rattle.verify_bench.specs.declared.reading.ReadingsFault.{ReadingsFault}
 use Rattle.verify_bench.specs.declared.reading.ReadingsFault.TheVariants.{TooLong, BadRow}
 
 -- a row with three fields that are read says their reading, and any other row none
-abbrev pub reading_said : (decimals : ℕ) → Row → Option Reading
-reading_said decimals [] = None
-reading_said decimals (fare ∷ []) = None
-reading_said decimals (fare ∷ distance ∷ []) = None
-reading_said decimals (fare ∷ distance ∷ time ∷ []) = do
+abbrev pub reading_of_row : (decimals : ℕ) → Row → Option Reading
+reading_of_row decimals [] = None
+reading_of_row decimals (fare ∷ []) = None
+reading_of_row decimals (fare ∷ distance ∷ []) = None
+reading_of_row decimals (fare ∷ distance ∷ time ∷ []) = do
   fare ← result_ok (decimal_read decimals fare)
   distance ← result_ok (decimal_read 3 distance)
   time ← result_ok (decimal_read 1 time)
   Some (record { fare = fare; distance_mm = distance; tenths = time })
-reading_said decimals (fare ∷ distance ∷ time ∷ next ∷ more) = None
+reading_of_row decimals (fare ∷ distance ∷ time ∷ next ∷ more) = None
 
 -- the reading of a row comes before those that further rows say; a row that says none is bad, whatever follows
 abbrev pub reading_before : (number : ℕ) → Option Reading → Result (List Reading) ReadingsFault
@@ -34,16 +34,16 @@ reading_before number (Some reading) (Err fault) = Err fault
 unfoldable pub readings_from : (decimals number : ℕ) → List Row → Result (List Reading) ReadingsFault
 readings_from decimals number [] = Ok []
 readings_from decimals number (row ∷ rows) =
-    reading_before number (reading_said decimals row) (readings_from decimals (number + 1) rows)
+    reading_before number (reading_of_row decimals row) (readings_from decimals (number + 1) rows)
 
 -- all rows of a text say the readings behind the header; without the header as the first row, row 1 is bad
-abbrev pub rows_said : (decimals : ℕ) → List Row → Result (List Reading) ReadingsFault
-rows_said decimals [] = Err (BadRow 1)
-rows_said decimals (first ∷ rows) =
+abbrev pub readings_of_rows : (decimals : ℕ) → List Row → Result (List Reading) ReadingsFault
+readings_of_rows decimals [] = Err (BadRow 1)
+readings_of_rows decimals (first ∷ rows) =
     if pointwise (pointwise nat_eq) first header then readings_from decimals 2 rows else Err (BadRow 1)
 
 -- a text within the limit says what its rows say, as csv gives them
 abbrev pub readings_in : (decimals : ℕ) → (text : List ℕ) → Result (List Reading) ReadingsFault
 readings_in decimals text =
     if nat_lt readings_limit (length text) then Err TooLong
-    else rows_said decimals (records default_config (strip_bom text))
+    else readings_of_rows decimals (records default_config (strip_bom text))

@@ -11,7 +11,7 @@ pub use Rattle.verify_bench.specs.ReadingStages.{readings_in}
 -- a row says a reading if its three fields are read as the reading's fare, with the tariff's decimals, its distance
 -- in metres, with three decimals, and its time in seconds, with one; `decimal_read` gives the number of a text, as the
 -- law decimals_are_read_by_their_form of taxi_units says
-pub record Says (decimals : ℕ) (row : Row) (reading : Reading) : Type 0 where
+pub record IsRowOfReading (decimals : ℕ) (row : Row) (reading : Reading) : Type 0 where
   pub fare : List ℕ
   pub distance : List ℕ
   pub time : List ℕ
@@ -21,17 +21,18 @@ pub record Says (decimals : ℕ) (row : Row) (reading : Reading) : Type 0 where
   pub time_is : decimal_read 1 time ≡ Ok reading.tenths
 
 -- rows say readings if there are as many rows as readings, and each row says the reading at its place
-abbrev pub SayAll : (decimals : ℕ) → List Row → List Reading → Type 0
-SayAll decimals [] [] = Unit {0}
-SayAll decimals [] (reading ∷ readings) = ⊥
-SayAll decimals (row ∷ rows) [] = ⊥
-SayAll decimals (row ∷ rows) (reading ∷ readings) = Says decimals row reading × SayAll decimals rows readings
+abbrev pub AreRowsOfReadings : (decimals : ℕ) → List Row → List Reading → Type 0
+AreRowsOfReadings decimals [] [] = Unit {0}
+AreRowsOfReadings decimals [] (reading ∷ readings) = ⊥
+AreRowsOfReadings decimals (row ∷ rows) [] = ⊥
+AreRowsOfReadings decimals (row ∷ rows) (reading ∷ readings) =
+    IsRowOfReading decimals row reading × AreRowsOfReadings decimals rows readings
 
 -- rows are good if the first is the header, and the others say the readings
 pub record AreGood (decimals : ℕ) (rows : List Row) (readings : List Reading) : Type 0 where
   pub others : List Row
   pub begins : rows ≡ header ∷ others
-  pub say : SayAll decimals others readings
+  pub say : AreRowsOfReadings decimals others readings
 
 -- a row is bad behind other rows if it is the first and isn't the header, or if the others are good and it says
 -- no reading
@@ -39,7 +40,7 @@ abbrev pub IsBadBehind : (decimals : ℕ) → List Row → Row → Type 0
 IsBadBehind decimals [] row = row ≢ header
 IsBadBehind decimals (first ∷ rows) row =
     (readings : List Reading) × AreGood decimals (first ∷ rows) readings
-    × ((reading : Reading) → ¬ (Says decimals row reading))
+    × ((reading : Reading) → ¬ (IsRowOfReading decimals row reading))
 
 -- a number is that of the first bad row of a text, counted from 1; a text without rows lacks its first
 pub data IsFirstBad (decimals : ℕ) (text : List ℕ) : (number : ℕ) → Type 0 where

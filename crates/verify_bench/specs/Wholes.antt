@@ -3,9 +3,9 @@ use Rattle.std.specs.Prelude.{◌≡◌, ℕ, ◌+◌, ◌*◌, List, [], ◌∷
 use Rattle.drive_modes.specs.Fare.{shown_fare, steps_above}
 use Rattle.meter_states.specs.Charge.{distance_charge, time_charge}
 use Rattle.meter_states.specs.Closing.{receipt_of}
-use Rattle.meter_states.specs.Kept.{IsSupplementNumber}
+use Rattle.meter_states.specs.KeptTrip.{IsSupplementNumber}
 use Rattle.meter_states.specs.Setting.{Setting, rounding_of, unit_of}
-use Rattle.meter_states.specs.Trip.{Trip}
+use Rattle.meter_states.specs.Trip.{MeterTrip}
 use Rattle.meter_states.specs.declared.act.Act.{Act}
 use Rattle.meter_states.specs.declared.act.Act.TheVariants as acts
 use Rattle.meter_states.specs.declared.act.Act.TheVariants.{Show, Refuse, Enter, Hold}
@@ -41,7 +41,7 @@ charge_in_way k common r p Both = distance_charge common r p + time_charge k com
 -- a trip began in a context with the initial hire fee, the minimum fare and the cover that the tariff's text names
 -- there, and with nothing charged and no pulse and no tick; each of its supplements is numbered 1 to 16, as the numbers
 -- of a text are
-pub record BeganIn (s : Setting) (hired : Context) (trip : Trip) : Type 0 where
+pub record BeganIn (s : Setting) (hired : Context) (trip : MeterTrip) : Type 0 where
   pub initial : trip.initial ≡ (initial_by s.tariff hired).amount
   pub minimum : trip.minimum ≡ (initial_by s.tariff hired).minimum
   pub opening : trip.opening
@@ -52,7 +52,7 @@ pub record BeganIn (s : Setting) (hired : Context) (trip : Trip) : Type 0 where
 -- one with which the trip was closed
 pub record IsOfTrip (s : Setting) (e : Explanation) : Type 0 where
   pub hired : Context
-  pub trip : Trip
+  pub trip : MeterTrip
   pub kind : Kind
   pub finish : ℕ
   pub position : ℕ

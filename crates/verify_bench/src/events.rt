@@ -7,8 +7,8 @@ ghost use Rattle.taxi_units.specs.Time.{IsSecond, last_tick};
 ghost use Rattle.taxi_units.specs.declared.event.Operating.TheVariants.{Off};
 ghost use Rattle.verify_bench.specs.Settings.{setting_under};
 
+use crate::bench_meter::BenchMeter;
 use crate::explained::Explained;
-use crate::plain_meter::BenchMeter;
 use seal_record::Params;
 use std::alloc::Global;
 use std::sync::ledger::Ledger;

@@ -13,9 +13,9 @@ ghost use Rattle.verify_bench.specs.Explaining.{explanation_of, explanations_of}
 ghost use Rattle.verify_bench.specs.Settings.{setting_under};
 ghost use Rattle.verify_bench.specs.Shortened.{short_of};
 
+use crate::bench_meter::BenchMeter;
 use crate::expected::Expected;
 use crate::explained::Explained;
-use crate::plain_meter::BenchMeter;
 use drive_text::Run;
 use seal_record::{Params, Seal};
 use std::alloc::Global;
@@ -83,7 +83,7 @@ fn explain_counted<L: Ledger>(
     for run in runs {
         meter.follow(*run, alloc, checked, params, &mut found, &mut steps)?;
     }
-    meter.end(alloc, checked, params, &mut found, &mut steps)?;
+    meter.drop_at_end(alloc, checked, params, &mut found, &mut steps)?;
     Ok(found)
 }
 
@@ -111,7 +111,7 @@ fn expect_counted<L: Ledger>(
         put_expected(&mut found, explained.as_slice())?;
     }
     let mut explained = Vec::new(alloc);
-    meter.end(alloc, checked, params, &mut explained, &mut steps)?;
+    meter.drop_at_end(alloc, checked, params, &mut explained, &mut steps)?;
     put_expected(&mut found, explained.as_slice())?;
     Ok(found)
 }
@@ -134,11 +134,11 @@ fn put_expected(found: &mut Vec<Expected>, explained: &[Explained]) -> Result<()
 }
 
 impl BenchMeter {
-    ghost use Rattle.verify_bench.specs.Bench.{IsMeterInRange, MayTake, Stands};
+    ghost use Rattle.verify_bench.specs.Bench.{IsMeterInRange, MayTake, BenchStands};
 
     /// Before the supply first comes, over an empty store.
     fn new() -> BenchMeter
-        ensures stands { (s : Setting) (hired : Context) → Stands s hired result (opened s first_state) }
+        ensures stands { (s : Setting) (hired : Context) → BenchStands s hired result (opened s first_state) }
         ensures sound { IsMeterInRange last_tick 0 result }
     {
         BenchMeter {

@@ -1,9 +1,9 @@
 //! A hiring, with the sums of its intervals.
 ghost use Rattle.std.specs.Prelude.{◌≡◌, ℕ, ◌+◌, ◌*◌, ◌^◌, ◌<◌, ◌≤◌, ◌++◌, ◌∷◌, [], ◌==◌, OnOk};
-ghost use Rattle.meter_states.specs.Kept.{IsSupplementNumber};
+ghost use Rattle.meter_states.specs.KeptTrip.{IsSupplementNumber};
 ghost use Rattle.meter_states.specs.Setting.{Setting, unit_of};
 ghost use Rattle.meter_states.specs.Supplements.{times};
-ghost use Rattle.meter_states.specs.Trip.{InHired, InStopped, Rest, Trip, with_part};
+ghost use Rattle.meter_states.specs.Trip.{InHired, InStopped, Rest, MeterTrip, with_part};
 ghost use Rattle.tariff_compile.specs.Tables.{IsFitInitial};
 ghost use Rattle.tariff_syntax.specs.declared.context.Context.{Context};
 ghost use Rattle.taxi_units.specs.Time.{IsSecond};
@@ -68,7 +68,8 @@ impl Hiring {
         ensures whole { OnOk result (IsWhole self.new) }
         ensures pulses { OnOk result (self.new.whole.pulses ≡ self.old.whole.pulses + pulses) }
         ensures ticks { OnOk result (self.new.whole.ticks ≡ self.old.whole.ticks + 1) }
-        ensures trip { OnOk result ((s : Setting) (hired x : Context) (trip : Trip) → IsHiringOf s hired self.old trip
+        ensures trip { OnOk result ((s : Setting) (hired x : Context) (trip : MeterTrip)
+            → IsHiringOf s hired self.old trip
             → IsPriceOf s x pulses price → IsHiringOf s hired self.new (with_part (InHired pulses x) trip)) }
     {
         let sums = Sums {
@@ -90,7 +91,7 @@ impl Hiring {
         ensures whole { IsWhole self.new }
         ensures pulses { self.new.whole.pulses ≡ self.old.whole.pulses + pulses }
         ensures ticks { self.new.whole.ticks ≡ self.old.whole.ticks + 1 }
-        ensures trip { (s : Setting) (hired : Context) (trip : Trip) → IsHiringOf s hired self.old trip
+        ensures trip { (s : Setting) (hired : Context) (trip : MeterTrip) → IsHiringOf s hired self.old trip
             → IsHiringOf s hired self.new (with_part (InStopped pulses) trip) }
     {
         let sums = Sums {
@@ -111,7 +112,7 @@ impl Hiring {
         ensures whole { IsWhole self.new }
         ensures pulses { self.new.whole.pulses ≡ self.old.whole.pulses + pulses }
         ensures ticks { self.new.whole.ticks ≡ self.old.whole.ticks }
-        ensures trip { (s : Setting) (hired : Context) (trip : Trip) → IsHiringOf s hired self.old trip
+        ensures trip { (s : Setting) (hired : Context) (trip : MeterTrip) → IsHiringOf s hired self.old trip
             → IsHiringOf s hired self.new (with_part (Rest pulses) trip) }
     {
         let sums = Sums {

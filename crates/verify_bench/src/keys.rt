@@ -2,7 +2,7 @@
 #![tactic(auto, using(crate::proofs::Benches::looser))]
 
 ghost use Rattle.std.specs.Prelude.{◌≡◌, ◌≤◌, Some, OnOk};
-ghost use Rattle.meter_states.specs.Kept.{IsSupplementNumber};
+ghost use Rattle.meter_states.specs.KeptTrip.{IsSupplementNumber};
 ghost use Rattle.meter_states.specs.Keys.{extra_added, latched, position_set, zone_set};
 ghost use Rattle.meter_states.specs.Setting.{Setting};
 ghost use Rattle.seal_record.specs.declared.params.Params.{Params};
@@ -11,11 +11,11 @@ ghost use Rattle.taxi_units.specs.Time.{last_tick};
 ghost use Rattle.taxi_units.specs.declared.event.Operating.TheVariants.{ForHire};
 ghost use Rattle.verify_bench.specs.Settings.{setting_under};
 
+use crate::bench_meter::BenchMeter;
 use crate::explained::Explained;
 use crate::fees::hire_fee;
 use crate::hiring::Hiring;
 use crate::lookups::supplement_at;
-use crate::plain_meter::BenchMeter;
 use seal_record::Params;
 use std::alloc::Global;
 use std::sync::ledger::Ledger;

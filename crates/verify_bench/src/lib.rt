@@ -2,6 +2,7 @@
 //! readings that were taken at a meter, read and judged against that; and a generator of large drives.
 #![tactic(auto)]
 
+mod bench_meter;
 mod events;
 mod expected;
 mod expecting;
@@ -15,7 +16,6 @@ mod judging;
 mod keys;
 mod lookups;
 mod passing;
-mod plain_meter;
 mod pricing;
 mod reading;
 mod readings;

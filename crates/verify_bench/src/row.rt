@@ -2,7 +2,7 @@
 ghost use Rattle.std.specs.Prelude.{◌≡◌, ◌≢◌, ◌↔◌, ◌∷◌, [], length, IsTrue, MatchOption};
 ghost use Rattle.csv.specs.Records.{fields_of};
 ghost use Rattle.verify_bench.specs.Readings.{header};
-ghost use Rattle.verify_bench.specs.ReadingStages.{reading_said};
+ghost use Rattle.verify_bench.specs.ReadingStages.{reading_of_row};
 
 use crate::reading::Reading;
 use csv::ByteRecord;
@@ -37,7 +37,7 @@ pub(crate) fn is_header(row: &ByteRecord) -> bool
 
 /// The reading that a row says, under a tariff's decimals.
 pub(crate) fn reading_of(row: &ByteRecord, decimals: u8) -> Option<Reading>
-    ensures { result ≡ reading_said decimals (fields_of row.now) }
+    ensures { result ≡ reading_of_row decimals (fields_of row.now) }
 {
     let (fare, distance, time) = three_fields(row)?;
     let Ok(fare) = read_decimal(fare, decimals) else {

@@ -1,22 +1,22 @@
 //! What the supply does to the meter of the bench.
 ghost use Rattle.std.specs.Prelude.{◌≡◌, ◌+◌, ◌<◌, ◌&&◌, nat_le, None, Some, OnOk};
 ghost use Rattle.meter_states.specs.Meter.{Meter, held};
-ghost use Rattle.meter_states.specs.Trip.{Trip, held_trip};
+ghost use Rattle.meter_states.specs.Trip.{MeterTrip, held_trip};
 ghost use Rattle.meter_states.specs.Run.{ended};
 ghost use Rattle.meter_states.specs.Setting.{Setting};
-ghost use Rattle.meter_states.specs.Supply.{aborted, hold_taken, is_stopped, kept, powered, resumed, supply_came, supply_dropped};
+ghost use Rattle.meter_states.specs.Supply.{aborted, hold_taken, is_stopped, held_or_closed, powered, resumed, supply_came, supply_dropped};
 ghost use Rattle.tariff_syntax.specs.declared.context.Context.{Context};
 ghost use Rattle.taxi_units.specs.Limits.{last_number};
 ghost use Rattle.taxi_units.specs.Time.{IsSecond, last_tick};
 ghost use Rattle.taxi_units.specs.declared.event.Event.TheVariants.{Down};
 ghost use Rattle.taxi_units.specs.declared.event.Operating.TheVariants.{Off};
-ghost use Rattle.totals_record.specs.declared.trip.Trip as store;
+ghost use Rattle.totals_record.specs.declared.trip.Trip.{Trip};
 ghost use Rattle.verify_bench.specs.Bench.{held_of};
 ghost use Rattle.verify_bench.specs.Settings.{setting_under};
 ghost use Rattle.verify_bench.specs.Supplied.{waking};
 
+use crate::bench_meter::{BenchMeter, SavedState};
 use crate::explained::Explained;
-use crate::plain_meter::{BenchMeter, Held};
 use seal_record::Params;
 use std::alloc::Global;
 use std::sync::ledger::Ledger;
@@ -24,7 +24,7 @@ use tariff_check::Checked;
 use taxi_units::{Kind, LAST_NUMBER, NoMemory, Operating, Steps};
 
 impl BenchMeter {
-    ghost use Rattle.verify_bench.specs.Bench.{GoesThrough, GoesThroughEvent, GoesThroughQuietly, IsMeterInRange, Moves, Stands};
+    ghost use Rattle.verify_bench.specs.Bench.{GoesThrough, GoesThroughEvent, GoesThroughQuietly, IsMeterInRange, Moves, BenchStands};
 
     /// The supply comes.
     pub(crate) fn come_up<L: Ledger>(
@@ -50,8 +50,8 @@ impl BenchMeter {
     fn wake(&mut self, second: u64)
         requires sound { IsMeterInRange last_tick 0 self.old }
         requires second { IsSecond second }
-        ensures stands { (s : Setting) (m : Meter) (hired : Context) → Stands s hired self.old m
-            → Stands s hired self.new (waking second m) }
+        ensures stands { (s : Setting) (m : Meter) (hired : Context) → BenchStands s hired self.old m
+            → BenchStands s hired self.new (waking second m) }
         ensures sound { IsMeterInRange last_tick 0 self.new }
     {
         self.operating = Operating::Off;
@@ -77,7 +77,7 @@ impl BenchMeter {
         requires sound { IsMeterInRange last_tick 0 self.old }
         requires second { IsSecond second }
         ensures moves { OnOk result ((m : Meter) (hired : Context)
-            → Stands (setting_under checked.now params.now) hired self.old (waking second m)
+            → BenchStands (setting_under checked.now params.now) hired self.old (waking second m)
             → Moves (setting_under checked.now params.now) hired hired m.trip found.old.items found.new.items self.new
             (hold_taken (setting_under checked.now params.now) second m.durable.hold (powered second m))) }
         ensures sound { OnOk result (IsMeterInRange last_tick 0 self.new) }
@@ -89,7 +89,7 @@ impl BenchMeter {
                 Ok(())
             }
             Some(held) => {
-                if is_within(held, second, params.hold) {
+                if is_within(held, second, params.hold_time) {
                     self.resume(held);
                     Ok(())
                 } else {
@@ -101,9 +101,9 @@ impl BenchMeter {
     }
 
     /// A held trip goes on.
-    fn resume(&mut self, held: Held)
+    fn resume(&mut self, held: SavedState)
         requires sound { IsMeterInRange last_tick 0 self.old }
-        ensures moves { (s : Setting) (trip : store.Trip) → held ≡ held_of trip
+        ensures moves { (s : Setting) (trip : Trip) → held ≡ held_of trip
             → GoesThroughQuietly s (λ s. resumed trip) self.old self.new }
         ensures sound { IsMeterInRange last_tick 0 self.new }
     {
@@ -119,7 +119,7 @@ impl BenchMeter {
     /// A held trip is closed at its position.
     fn abort<L: Ledger>(
         &mut self,
-        held: Held,
+        held: SavedState,
         alloc: Global,
         checked: &Checked,
         params: &Params,
@@ -128,7 +128,7 @@ impl BenchMeter {
     ) -> Result<(), NoMemory>
         requires sound { IsMeterInRange last_tick 0 self.old }
         requires saved { IsSecond held.saved }
-        ensures moves { OnOk result ((trip : store.Trip) → held ≡ held_of trip
+        ensures moves { OnOk result ((trip : Trip) → held ≡ held_of trip
             → GoesThrough (setting_under checked.now params.now) (λ s. aborted s trip)
             self.old self.new found.old.items found.new.items) }
         ensures sound { OnOk result (IsMeterInRange last_tick 0 self.new) }
@@ -163,14 +163,14 @@ impl BenchMeter {
         ensures sound { OnOk result (IsMeterInRange last_tick 0 self.new) }
     {
         self.leave_interval();
-        self.keep(alloc, checked, params, found, steps)?;
+        self.hold_or_close(alloc, checked, params, found, steps)?;
         self.operating = Operating::Off;
         self.latch = None;
         Ok(())
     }
 
     /// A trip is held, or closed; without one roaming is entered.
-    fn keep<L: Ledger>(
+    fn hold_or_close<L: Ledger>(
         &mut self,
         alloc: Global,
         checked: &Checked,
@@ -179,13 +179,14 @@ impl BenchMeter {
         steps: &mut Steps<L>,
     ) -> Result<(), NoMemory>
         requires sound { IsMeterInRange last_tick 1 self.old }
-        ensures moves { OnOk result (GoesThrough (setting_under checked.now params.now) (λ s m. kept s m.trip m)
+        ensures moves { OnOk result
+            (GoesThrough (setting_under checked.now params.now) (λ s m. held_or_closed s m.trip m)
             self.old self.new found.old.items found.new.items) }
         ensures sound { OnOk result (IsMeterInRange last_tick 0 self.new) }
     {
         match &self.hiring {
             None => {
-                self.keep_roaming();
+                self.enter_roaming_if_any();
                 Ok(())
             }
             Some(_) => {
@@ -208,10 +209,10 @@ impl BenchMeter {
 
     /// Without a trip roaming is entered, where there is any.
     #[tactic(auto, using(crate::proofs::Benches::sound_without))]
-    fn keep_roaming(&mut self)
+    fn enter_roaming_if_any(&mut self)
         requires sound { IsMeterInRange last_tick 1 self.old }
         requires none { self.old.hiring ≡ None }
-        ensures moves { (s : Setting) → GoesThroughQuietly s (λ s m. kept s m.trip m) self.old self.new }
+        ensures moves { (s : Setting) → GoesThroughQuietly s (λ s m. held_or_closed s m.trip m) self.old self.new }
         ensures sound { IsMeterInRange last_tick 0 self.new }
     {
         if self.roam == 0 {
@@ -224,11 +225,11 @@ impl BenchMeter {
     fn hold(&mut self)
         requires sound { IsMeterInRange last_tick 1 self.old }
         requires room { self.old.number < last_number }
-        ensures moves { (s : Setting) (trip : Trip) → GoesThroughQuietly s (λ s m.
+        ensures moves { (s : Setting) (trip : MeterTrip) → GoesThroughQuietly s (λ s m.
             held (held_trip s m.clock (is_stopped m.operating) m.position m.zone trip) m) self.old self.new }
         ensures sound { IsMeterInRange last_tick 0 self.new }
     {
-        self.held = Some(Held {
+        self.held = Some(SavedState {
             saved: self.clock,
             stopped: is_stopped(self.operating),
             position: self.position,
@@ -238,7 +239,7 @@ impl BenchMeter {
     }
 
     /// The drive ends: the supply drops, where the meter is powered.
-    pub(crate) fn end<L: Ledger>(
+    pub(crate) fn drop_at_end<L: Ledger>(
         &mut self,
         alloc: Global,
         checked: &Checked,
@@ -267,7 +268,7 @@ fn is_stopped(operating: Operating) -> bool
 }
 
 /// Whether the supply was away for the hold at most.
-fn is_within(held: Held, second: u64, hold: u16) -> bool
+fn is_within(held: SavedState, second: u64, hold: u16) -> bool
     ensures { result ≡ nat_le held.saved second && nat_le second (held.saved + hold) }
 {
     if held.saved > second {

@@ -2,10 +2,10 @@
 ghost use Rattle.std.specs.Prelude.{◌≡◌, ℕ, ◌+◌, ◌*◌, ◌<◌, ◌≤◌, ◌++◌, [], List, Some, map, flat_map, All, IfOk, OnOk};
 ghost use Rattle.std.specs.List.{range_with_len};
 ghost use Rattle.meter_states.specs.Closing.{receipt_of};
-ghost use Rattle.meter_states.specs.Kept.{IsSupplementNumber};
+ghost use Rattle.meter_states.specs.KeptTrip.{IsSupplementNumber};
 ghost use Rattle.meter_states.specs.Setting.{Setting, stamp_at};
 ghost use Rattle.meter_states.specs.Supplements.{amount_in, amounts_of, times};
-ghost use Rattle.meter_states.specs.Trip.{Part, Trip};
+ghost use Rattle.meter_states.specs.Trip.{Part, MeterTrip};
 ghost use Rattle.tariff_check.specs.SoundTariff.{own_lines};
 ghost use Rattle.tariff_compile.specs.Tables.{supplement_at};
 ghost use Rattle.tariff_syntax.specs.Tree.{tree_of};
@@ -52,7 +52,7 @@ pub(crate) fn explained<L: Ledger>(
     requires whole { IsWhole hiring.now }
     requires ticks { hiring.now.whole.ticks ≤ longest_trip }
     requires finish { IsSecond closing.finish }
-    ensures { IfOk result (λ explained. (hired : Context) (trip : Trip)
+    ensures { IfOk result (λ explained. (hired : Context) (trip : MeterTrip)
         → IsHiringOf (setting_under checked.now params.now) hired hiring.now trip → explanation_of explained
         ≡ explanation (setting_under checked.now params.now) hired (Some trip)
         (receipt_of (setting_under checked.now params.now)
@@ -85,7 +85,7 @@ fn receipt<L: Ledger>(
     requires whole { IsWhole hiring.now }
     requires ticks { hiring.now.whole.ticks ≤ longest_trip }
     requires finish { IsSecond closing.finish }
-    ensures { (hired : Context) (trip : Trip)
+    ensures { (hired : Context) (trip : MeterTrip)
         → IsHiringOf (setting_under checked.now params.now) hired hiring.now trip
         → result ≡ receipt_of (setting_under checked.now params.now)
         closing.kind closing.finish closing.position trip closing.number }

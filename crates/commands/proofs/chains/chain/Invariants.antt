@@ -1,6 +1,6 @@
 use Rattle.std.proofs.Common.{◌≡◌, take, drop}
 use Rattle.meter_store.specs.Stored.{HasState}
-use Rattle.totals_record.specs.declared.durable.Durable.{Durable}
+use Rattle.totals_record.specs.declared.durable_state.Durable.{Durable}
 use Rattle.commands.specs.Chain.{HasChain}
 use Rattle.commands.proofs.chains.chain.Given as goal
 

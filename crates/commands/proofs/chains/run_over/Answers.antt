@@ -27,5 +27,7 @@ returns g c = λ d has.
     c.run-status.ensures.others
     new.state refl (λ i x h. subst (λ (moment : ℕ). left_since_of new.state moment i x) (sym fresh.moment_is) h)
     call d (subst (λ (image : List ℕ). HasState image d) (sym fresh.image_is) has) c.args.cut next
-    (since_first (left_since_of new.state) (moment_of old.state) fresh.moment_is next (text_before c.args.cut new.state) c.args.image.now (image_of old.state) fresh.image_is left.left)
-    refl left.whole (λ fill first. left.none fill first ∙ sym fresh.image_is) left.inside c.stored_number-number.result c.stored_number-number.ensures)
+    (since_first (left_since_of new.state) (moment_of old.state) fresh.moment_is next
+    (text_before c.args.cut new.state) c.args.image.now (image_of old.state) fresh.image_is left.left)
+    refl left.whole (λ fill first. left.none fill first ∙ sym fresh.image_is) left.inside c.stored_number-number.result
+    c.stored_number-number.ensures)

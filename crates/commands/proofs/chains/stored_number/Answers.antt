@@ -8,12 +8,14 @@ use Rattle.commands.proofs.chains.stored_number.Goals as goal
 pub returns-in-Latest : goal.returns-in-Latest
 returns-in-Latest g c = λ d has.
     number_at c.args.image.now d c.scan.result has (λ e. omega (arith, c.scan.ensures.cause.rose e))
-    (λ good. c.scan.ensures.exact tt good ∙ ap (found_at reads state_number_of 0) c.new-board.ensures) _ _ (c.in-Ok.is ∙ ap Ok c.in-Latest.is)
+    (λ good. c.scan.ensures.exact tt good ∙ ap (found_at reads state_number_of 0) c.new-board.ensures) _ _
+    (c.in-Ok.is ∙ ap Ok c.in-Latest.is)
 
 pub returns-in-Blank : goal.returns-in-Blank
 returns-in-Blank g c = λ d has.
     absurd (number_not c.args.image.now d c.scan.result has (λ e. omega (arith, c.scan.ensures.cause.rose e))
-    (λ good. c.scan.ensures.exact tt good ∙ ap (found_at reads state_number_of 0) c.new-board.ensures) (c.in-Ok.is ∙ ap Ok c.in-Blank.is))
+    (λ good. c.scan.ensures.exact tt good ∙ ap (found_at reads state_number_of 0) c.new-board.ensures)
+    (c.in-Ok.is ∙ ap Ok c.in-Blank.is))
 
 pub returns-in-Err : goal.returns-in-Err
 returns-in-Err g c = λ d has.

@@ -6,7 +6,7 @@ use Rattle.commands.specs.declared.tariff.TextFault.TheVariants as texts
 use Rattle.commands.specs.Check.{check_command}
 use Rattle.commands.specs.Tariffs.{tariff_in}
 use Rattle.commands.proofs.Carrying.{carries-said}
-use Rattle.commands.proofs.Refusals.{comes-refused}
+use Rattle.commands.proofs.Refusals.{course-refused}
 use Rattle.commands.proofs.Tabling.{refused-check}
 use Rattle.commands.proofs.check.check_tariff.Goals as goal
 
@@ -15,16 +15,19 @@ returns-in-Ok g c = λ image.
     carries-said g.F.Files image check_command c.args.files.now c.read_tariff.new.files _ (λ none. none) (λ status w. w)
     (λ tells. search rules) (λ later le. omega (arith, le)) (λ e. absurd cc) (λ e. absurd cc)
     c.read_tariff.ensures.others (λ tells word never. c.read_tariff.ensures.others word (never []))
-    (λ read good. c.read_tariff.ensures.counts (no_fault c.read_tariff.result c.in-Ok.checked texts.ReadFault c.in-Ok.is))
+    (λ read good.
+    c.read_tariff.ensures.counts (no_fault c.read_tariff.result c.in-Ok.checked texts.ReadFault c.in-Ok.is))
 
 pub returns-in-Err : goal.returns-in-Err
 returns-in-Err g c = λ image.
     let rest = g.F.Files.rest in
     carries-said g.F.Files image check_command c.args.files.now c.read_tariff.new.files _ (λ none. none) (λ status w. w)
     (λ tells. rw c.refused_by.ensures
-    (comes-refused check_command (rest c.args.files.now) (rest c.read_tariff.new.files) image _ refl tt (λ e. absurd cc) c.in-Err.fault refl refl refl
+    (course-refused check_command (rest c.args.files.now) (rest c.read_tariff.new.files) image _ refl tt
+    (λ e. absurd cc) c.in-Err.fault refl refl refl
     (λ e. c.read_tariff.ensures.read_fault (c.in-Err.is ∙ ap Err e))
-    (λ why e. refused-check (tariff_in (rest c.args.files.now 1)) why (c.read_tariff.ensures.refused why tells (c.in-Err.is ∙ ap Err e)))))
+    (λ why e. refused-check (tariff_in (rest c.args.files.now 1)) why
+    (c.read_tariff.ensures.refused why tells (c.in-Err.is ∙ ap Err e)))))
     (λ later le. omega (arith, le))
     (stops_by 1 c.read_tariff.result c.in-Err.fault texts.ReadFault ended_for c.in-Err.is c.refused_by.ensures
     (read_fault-text c.in-Err.fault) refl c.read_tariff.ensures.read_fault c.read_tariff.ensures.others)

@@ -31,10 +31,12 @@ returns-in-Ok-compare-clause-others g c = λ other not_1 not_2.
 
 pub returns-in-Ok-compare-clause-unread : goal.returns-in-Ok-compare-clause-unread
 returns-in-Ok-compare-clause-unread g c = λ tells other not_1 never.
-    c.read_tariff-2.ensures.others other (λ e. never (e, record { tree = tree_of c.in-Ok.one; reads = c.in-Ok.ensures.found tells }))
+    c.read_tariff-2.ensures.others other
+    (λ e. never (e, record { tree = tree_of c.in-Ok.one; reads = c.in-Ok.ensures.found tells }))
     ∙ c.read_tariff.ensures.others other not_1
 
 pub returns-in-Ok-compare-clause-counts : goal.returns-in-Ok-compare-clause-counts
 returns-in-Ok-compare-clause-counts g c = λ first second other.
-    c.read_tariff-2.ensures.counts (no_fault c.read_tariff-2.result c.in-Ok-read_tariff.other texts.ReadFault c.in-Ok-read_tariff.is) other
+    c.read_tariff-2.ensures.counts
+    (no_fault c.read_tariff-2.result c.in-Ok-read_tariff.other texts.ReadFault c.in-Ok-read_tariff.is) other
     ∙ c.read_tariff.ensures.counts (no_fault c.read_tariff.result c.in-Ok.one texts.ReadFault c.in-Ok.is) other

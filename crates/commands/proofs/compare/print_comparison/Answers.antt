@@ -7,11 +7,12 @@ use Rattle.commands.specs.declared.ending.Ended.TheVariants as ended
 use Rattle.commands.specs.declared.tariff.TextFault.TheVariants as texts
 use Rattle.commands.specs.Compare.{compare_command}
 use Rattle.commands.specs.CompareSteps.{IsCompared, ended_uncompared}
-use Rattle.commands.specs.Ending.{ComesOn}
+use Rattle.commands.specs.Ending.{EndsOnDevices}
 use Rattle.commands.specs.Pieces.{pieces_of}
 use Rattle.commands.proofs.Carrying.{carries-kept}
-use Rattle.commands.proofs.Comparing.{comes-compared, comes-cut, comes-uncompared, not_board-uncompared, not_fault-comparing, steps-compared, stops-comparing}
-use Rattle.commands.proofs.Endings.{comes-unprinted}
+use Rattle.commands.proofs.Comparing.{course-compared, course-cut, course-uncompared, not_board-uncompared}
+use Rattle.commands.proofs.Comparing.{not_fault-comparing, steps-compared, stops-comparing}
+use Rattle.commands.proofs.Endings.{course-unprinted}
 use Rattle.commands.proofs.Openings.{no_fault, same_fault}
 use Rattle.commands.proofs.compare.print_comparison.Goals as goal
 
@@ -25,10 +26,13 @@ returns-in-Err g c =
     let steps = c.args.steps.now in
     let k = c.args.constant in
     let fault = c.in-Err.fault in
-    carries-kept g.F.Files g.B.Board (compare_command k) files files' board board steps steps _ (λ none. none) (λ status w. w)
+    carries-kept g.F.Files g.B.Board (compare_command k) files files' board board steps steps _ (λ none. none)
+    (λ status w. w)
     (λ tells. rw c.uncompared.ensures
-    (comes-unprinted (compare_command k) (rest files) (rest files') (g.B.Board.image board) _ _ _ (g.B.Board.printed board) _
-    (comes-uncompared k (rest files) (rest files') (g.B.Board.image board) _ fault (c.compare_words.ensures.refused fault tells c.in-Err.is))))
+    (course-unprinted (compare_command k) (rest files) (rest files') (g.B.Board.image board) _ _ _
+    (g.B.Board.printed board) _
+    (course-uncompared k (rest files) (rest files') (g.B.Board.image board) _ fault
+    (c.compare_words.ensures.refused fault tells c.in-Err.is))))
     (λ later le tells. omega (arith, le))
     (λ e. stops-comparing k files files' fault
     (λ is. c.compare_words.ensures.read_fault (c.in-Err.is ∙ ap Err is))
@@ -39,8 +43,10 @@ returns-in-Err g c =
     (λ word not. c.compare_words.ensures.others word (λ e. not (inl e)) (λ e. not (inr e)))
     (λ tells word never. c.compare_words.ensures.unread tells word (λ e. never [] (inl e)) (λ h. never [] (inr h)))
     (λ read good. c.compare_words.ensures.counts
-    (λ is. read (c.uncompared.ensures ∙ ap ended_uncompared (same_fault c.compare_words.result fault (faults.Tariff texts.ReadFault) c.in-Err.is is)))
-    (λ is. read (c.uncompared.ensures ∙ ap ended_uncompared (same_fault c.compare_words.result fault (faults.Other texts.ReadFault) c.in-Err.is is))))
+    (λ is. read (c.uncompared.ensures
+    ∙ ap ended_uncompared (same_fault c.compare_words.result fault (faults.Tariff texts.ReadFault) c.in-Err.is is)))
+    (λ is. read (c.uncompared.ensures
+    ∙ ap ended_uncompared (same_fault c.compare_words.result fault (faults.Other texts.ReadFault) c.in-Err.is is))))
     (keeps_none g.B.Board board)
 
 -- the comparison is printed
@@ -58,11 +64,14 @@ returns-in-Ok-print_text g c =
     let made : g.F.Files.tells → IsCompared k (rest files 1) (rest files 2) text differ = λ tells.
     subst (λ (x : List ℕ). IsCompared k (rest files 1) (rest files 2) x differ) (sym c.as_slice.ensures.value)
     (c.in-Ok.ensures.compared tells) in
-    carries-kept g.F.Files g.B.Board (compare_command k) files files' board board' c.args.steps.now c.print_text.new.steps
+    carries-kept g.F.Files g.B.Board
+    (compare_command k) files files' board board' c.args.steps.now c.print_text.new.steps
     c.compared.result (λ none. none) (λ status w. w)
-    (λ tells. subst (λ (end : Ended). ComesOn g.F.Files g.B.Board (compare_command k) files files' board board' end) (sym c.compared.ensures)
-    (comes-compared k (rest files) (rest files') (g.B.Board.image board) _ _ _ (printed board)
-    (printed board') text differ (made tells) (c.in-Ok.ensures.ended tells) (c.in-Ok.ensures.other_ended tells) c.in-Ok-print_text.ensures.whole))
+    (λ tells. subst (λ (end : Ended). EndsOnDevices g.F.Files g.B.Board
+    (compare_command k) files files' board board' end) (sym c.compared.ensures)
+    (course-compared k (rest files) (rest files') (g.B.Board.image board) _ _ _ (printed board)
+    (printed board') text differ (made tells) (c.in-Ok.ensures.ended tells)
+    (c.in-Ok.ensures.other_ended tells) c.in-Ok-print_text.ensures.whole))
     (λ later le tells.
     omega (
       arith,
@@ -98,10 +107,12 @@ returns g c =
     let made : g.F.Files.tells → IsCompared k (rest files 1) (rest files 2) text differ = λ tells.
     subst (λ (x : List ℕ). IsCompared k (rest files 1) (rest files 2) x differ) (sym c.as_slice.ensures.value)
     (c.in-Ok.ensures.compared tells) in
-    carries-kept g.F.Files g.B.Board (compare_command k) files files' board board' c.args.steps.now c.print_text.new.steps
+    carries-kept g.F.Files g.B.Board
+    (compare_command k) files files' board board' c.args.steps.now c.print_text.new.steps
     ended.BoardFault (λ none. none) (λ status w. w)
-    (λ tells. comes-cut k (rest files) (rest files') (g.B.Board.image board) _ _ _ (printed board)
-    (printed board') text differ (made tells) (c.in-Ok.ensures.ended tells) (c.in-Ok.ensures.other_ended tells) c.print_text.ensures.begun failed)
+    (λ tells. course-cut k (rest files) (rest files') (g.B.Board.image board) _ _ _ (printed board)
+    (printed board') text differ (made tells) (c.in-Ok.ensures.ended tells)
+    (c.in-Ok.ensures.other_ended tells) c.print_text.ensures.begun failed)
     (λ later le tells.
     omega (
       arith,

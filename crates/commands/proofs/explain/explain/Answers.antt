@@ -5,10 +5,10 @@ use Rattle.commands.specs.declared.ending.Ended.TheVariants as ended
 use Rattle.commands.specs.Explain.{explain_command}
 use Rattle.commands.specs.ExplainSteps.{HasExplained}
 use Rattle.commands.proofs.Carrying.{carries-kept}
-use Rattle.commands.proofs.Endings.{comes-unprinted}
+use Rattle.commands.proofs.Endings.{course-unprinted}
 use Rattle.commands.proofs.Explaining.{explained_pieces, explained_shown}
 use Rattle.commands.proofs.Openings.{no_fault, same_fault}
-use Rattle.commands.proofs.Showing.{comes-begun, comes-shown}
+use Rattle.commands.proofs.Showing.{course-begun, course-shown}
 use Rattle.commands.proofs.explain.explain.Goals as goal
 
 -- there is nothing to explain
@@ -20,8 +20,10 @@ returns-in-Err g c =
     let board = c.args.board.now in
     let steps = c.args.steps.now in
     let image = g.B.Board.image board in
-    carries-kept g.F.Files g.B.Board explain_command files files' board board steps steps c.in-Err.why (λ none. none) (λ status w. w)
-    (λ tells. comes-unprinted explain_command (rest files) (rest files') image _ _ _ (g.B.Board.printed board) c.in-Err.why
+    carries-kept g.F.Files g.B.Board explain_command files files' board board steps steps c.in-Err.why (λ none. none)
+    (λ status w. w)
+    (λ tells. course-unprinted explain_command (rest files) (rest files') image _ _ _
+    (g.B.Board.printed board) c.in-Err.why
     (c.explanation.ensures.refused c.in-Err.why image tells c.in-Err.is))
     (λ later le tells. omega (arith, le))
     (λ e. c.explanation.ensures.read_fault (c.in-Err.is ∙ ap Err e))
@@ -50,7 +52,7 @@ returns-in-Ok-print_text g c =
     (c.in-Ok.ensures.explained tells) in
     carries-kept g.F.Files g.B.Board explain_command files files' board board' c.args.steps.now c.print_text.new.steps
     ended.Done (λ none. none) (λ status w. w)
-    (λ tells. comes-shown explain_command (rest files) (rest files') (g.B.Board.image board) _ _ _ (printed board)
+    (λ tells. course-shown explain_command (rest files) (rest files') (g.B.Board.image board) _ _ _ (printed board)
     (printed board') text (explained_shown (rest files) (rest files') text (made tells)) (made tells).read
     c.in-Ok-print_text.ensures.whole)
     (λ later le tells.
@@ -77,7 +79,7 @@ returns g c =
     (c.in-Ok.ensures.explained tells) in
     carries-kept g.F.Files g.B.Board explain_command files files' board board' c.args.steps.now c.print_text.new.steps
     ended.BoardFault (λ none. none) (λ status w. w)
-    (λ tells. comes-begun explain_command (rest files) (rest files') (g.B.Board.image board) _ _ _ (printed board)
+    (λ tells. course-begun explain_command (rest files) (rest files') (g.B.Board.image board) _ _ _ (printed board)
     (printed board') text (explained_shown (rest files) (rest files') text (made tells)) (made tells).read
     c.print_text.ensures.begun failed)
     (λ later le tells.

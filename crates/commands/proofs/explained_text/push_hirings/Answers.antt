@@ -15,7 +15,8 @@ loop-hiring-preserved c =
       text = hiring_more scale explanation_of list all c.loop-hiring.hiring-index number c.hiring-item.result
           c.loop-hiring.text.items _ (omega (arith, c.loop-hiring-test.true)) c.loop-hiring.invariant.text
           (c.in_ok-push_hiring.ensures
-          ∙ ap (λ (x : Explained). c.loop-hiring.text.items ++ hiring_text scale (number + 1) (explanation_of x)) c.hiring-item.is);
+          ∙ ap (λ (x : Explained). c.loop-hiring.text.items ++ hiring_text scale (number + 1) (explanation_of x))
+          c.hiring-item.is);
       count = omega (arith, c.loop-hiring.invariant.count);
     }
 

@@ -10,10 +10,10 @@ use Rattle.commands.proofs.Openings.{no_fault}
 use Rattle.commands.specs.Fare.{fare_command, setting_of}
 use Rattle.commands.specs.Tariffs.{tariff_in}
 use Rattle.commands.proofs.Carrying.{carries-kept}
-use Rattle.commands.proofs.Endings.{comes-unprinted}
-use Rattle.commands.proofs.Faring.{begins_going, comes-ran, shows_nothing, board_fault-ran, refused-fare}
+use Rattle.commands.proofs.Endings.{course-unprinted}
+use Rattle.commands.proofs.Faring.{begins_going, course-ran, shows_nothing, board_fault-ran, refused-fare}
 use Rattle.commands.proofs.Faring.{read_fault-ran}
-use Rattle.commands.proofs.Refusals.{comes-refused}
+use Rattle.commands.proofs.Refusals.{course-refused}
 use Rattle.commands.proofs.fare.fare.Goals as goal
 
 two-one : (n : ℕ) → n ≡ 2 → n ≢ 1
@@ -28,19 +28,23 @@ untouched drive left e = record { bytes = sym e }
 
 pub returns-in-Err : goal.returns-in-Err
 returns-in-Err g c =
-    carries-kept g.F.Files g.B.Board (fare_command c.args.constant) c.args.files.now c.tables_of_word.new.files c.args.board.now c.args.board.now c.args.steps.now c.args.steps.now _ (λ none. none) (λ status w. w)
+    carries-kept g.F.Files g.B.Board (fare_command c.args.constant) c.args.files.now c.tables_of_word.new.files
+    c.args.board.now c.args.board.now c.args.steps.now c.args.steps.now _ (λ none. none) (λ status w. w)
     (λ tells.
     let rest = g.F.Files.rest in
     let k = c.args.constant in
     let image = g.B.Board.image c.args.board.now in
     let found = tariff_in (rest c.args.files.now 1) in
     rw c.refused_by.ensures
-    (comes-unprinted (fare_command k) (rest c.args.files.now) (rest c.tables_of_word.new.files) image _ _ _ (g.B.Board.printed c.args.board.now) _
-    (comes-refused (fare_command k) (rest c.args.files.now) (rest c.tables_of_word.new.files) image _
-    (untouched (rest c.args.files.now 2) (rest c.tables_of_word.new.files 2) (c.tables_of_word.ensures.others 2 (two-one 2 refl))) refl (λ e. absurd cc) c.in-Err.fault
+    (course-unprinted (fare_command k) (rest c.args.files.now) (rest c.tables_of_word.new.files) image _ _ _
+    (g.B.Board.printed c.args.board.now) _
+    (course-refused (fare_command k) (rest c.args.files.now) (rest c.tables_of_word.new.files) image _
+    (untouched (rest c.args.files.now 2) (rest c.tables_of_word.new.files 2)
+    (c.tables_of_word.ensures.others 2 (two-one 2 refl))) refl (λ e. absurd cc) c.in-Err.fault
     (inl refl) (inl (refl, refl)) (shows_nothing k found)
     (λ e. c.tables_of_word.ensures.read_fault (c.in-Err.is ∙ ap Err e))
-    (λ why e. refused-fare k found (rest c.args.files.now 2) why (c.tables_of_word.ensures.refused why tells (c.in-Err.is ∙ ap Err e))))))
+    (λ why e. refused-fare k found (rest c.args.files.now 2) why
+    (c.tables_of_word.ensures.refused why tells (c.in-Err.is ∙ ap Err e))))))
     (λ later le. record {
       taken = [];
       few = omega arith;
@@ -58,7 +62,8 @@ returns-in-Err g c =
 
 pub returns : goal.returns
 returns g c =
-    carries-kept g.F.Files g.B.Board (fare_command c.args.constant) c.args.files.now c.dry_run-ran.new.files c.args.board.now c.dry_run-ran.new.board c.args.steps.now c.dry_run-ran.new.steps _ (λ none. none) (λ status w. w)
+    carries-kept g.F.Files g.B.Board (fare_command c.args.constant) c.args.files.now c.dry_run-ran.new.files
+    c.args.board.now c.dry_run-ran.new.board c.args.steps.now c.dry_run-ran.new.steps _ (λ none. none) (λ status w. w)
     (λ tells.
     let rest = g.F.Files.rest in
     let k = c.args.constant in
@@ -68,12 +73,19 @@ returns g c =
     let same = c.tables_of_word.ensures.others 2 (two-one 2 refl) in
     let runs = rw same at (c.dry_run-ran.ensures.ends tells) in
     let seal = c.fare_seal-seal.result in
-    let of_tariff : IsTariffOf (setting_of k t) tables = record { compiled = made.compiled; constant = ap (λ (p : TableParts). p.constant) made.value } in
-    let of_seal : IsSealOf (setting_of k t) seal = record { constant = c.fare_seal-seal.ensures.constant; mode = c.fare_seal-seal.ensures.mode; hold = c.fare_seal-seal.ensures.hold; offsets = c.fare_seal-seal.ensures.offsets } in
+    let of_tariff : IsTariffOf (setting_of k t) tables =
+    record { compiled = made.compiled; constant = ap (λ (p : TableParts). p.constant) made.value } in
+    let of_seal : IsSealOf (setting_of k t) seal = record {
+      constant = c.fare_seal-seal.ensures.constant;
+      mode = c.fare_seal-seal.ensures.mode;
+      hold_time = c.fare_seal-seal.ensures.hold;
+      offsets = c.fare_seal-seal.ensures.offsets;
+    } in
     let is : IsSettingOf (setting_of k t) tables seal = record { tariff = of_tariff; secured = of_seal } in
-    let read : rest c.dry_run-ran.new.files 1 ≡ [] = c.dry_run-ran.ensures.others 1 (one-two 1 refl) ∙ c.in-Ok.ensures.ended tells in
+    let read : rest c.dry_run-ran.new.files 1 ≡ [] =
+    c.dry_run-ran.ensures.others 1 (one-two 1 refl) ∙ c.in-Ok.ensures.ended tells in
     rw c.ended_of.ensures
-    (comes-ran k (rest c.args.files.now) (rest c.dry_run-ran.new.files) (g.B.Board.image c.args.board.now) _ _ _
+    (course-ran k (rest c.args.files.now) (rest c.dry_run-ran.new.files) (g.B.Board.image c.args.board.now) _ _ _
     (g.B.Board.printed c.args.board.now) (g.B.Board.printed c.dry_run-ran.new.board) tables seal t made.sound is read
     c.dry_run-ran.result runs
     (λ e. omega (
@@ -88,7 +100,8 @@ returns g c =
     record {
       taken = h.taken;
       few = h.few;
-      split = λ tells. record { bytes = sym (c.tables_of_word.ensures.others 2 (two-one 2 refl)) ∙ (h.split tells).bytes };
+      split =
+          λ tells. record { bytes = sym (c.tables_of_word.ensures.others 2 (two-one 2 refl)) ∙ (h.split tells).bytes };
       bound = omega (arith, le, h.bound);
     })
     (λ e.

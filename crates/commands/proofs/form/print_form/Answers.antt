@@ -8,11 +8,11 @@ use Rattle.commands.specs.Form.{form_command}
 use Rattle.commands.specs.FormSteps.{IsFormOf}
 use Rattle.commands.proofs.Carrying.{carries-kept}
 use Rattle.commands.proofs.Counting.{read_fault-text, stops_by, unless_read}
-use Rattle.commands.proofs.Endings.{comes-unprinted}
+use Rattle.commands.proofs.Endings.{course-unprinted}
 use Rattle.commands.proofs.Forms.{form_in_pieces, form_shown, refused-form}
 use Rattle.commands.proofs.Openings.{no_fault}
-use Rattle.commands.proofs.Refusals.{comes-refused}
-use Rattle.commands.proofs.Showing.{comes-begun, comes-shown}
+use Rattle.commands.proofs.Refusals.{course-refused}
+use Rattle.commands.proofs.Showing.{course-begun, course-shown}
 use Rattle.commands.proofs.form.print_form.Goals as goal
 
 -- the tariff wasn't read
@@ -25,8 +25,8 @@ returns-in-Err g c =
     let steps = c.args.steps.now in
     carries-kept g.F.Files g.B.Board form_command files files' board board steps steps _ (λ none. none) (λ status w. w)
     (λ tells. rw c.refused_by.ensures
-    (comes-unprinted form_command (rest files) (rest files') (g.B.Board.image board) _ _ _ (g.B.Board.printed board) _
-    (comes-refused form_command (rest files) (rest files') (g.B.Board.image board) _ refl tt (λ e. absurd cc)
+    (course-unprinted form_command (rest files) (rest files') (g.B.Board.image board) _ _ _ (g.B.Board.printed board) _
+    (course-refused form_command (rest files) (rest files') (g.B.Board.image board) _ refl tt (λ e. absurd cc)
     c.in-Err.fault refl refl refl (λ e. c.form_of_word.ensures.read_fault (c.in-Err.is ∙ ap Err e))
     (λ why e. refused-form (rest files 1) why (c.form_of_word.ensures.refused why tells (c.in-Err.is ∙ ap Err e))))))
     (λ later le tells. omega (arith, le))
@@ -53,7 +53,7 @@ returns-in-Ok-print_text g c =
     (c.in-Ok.ensures.found tells) in
     carries-kept g.F.Files g.B.Board form_command files files' board board' c.args.steps.now c.print_text.new.steps
     ended.Done (λ none. none) (λ status w. w)
-    (λ tells. comes-shown form_command (rest files) (rest files') (g.B.Board.image board) _ _ _ (printed board)
+    (λ tells. course-shown form_command (rest files) (rest files') (g.B.Board.image board) _ _ _ (printed board)
     (printed board') form (form_shown (rest files 1) form (made tells))
     (λ word reads. ap (rest files') reads ∙ c.in-Ok.ensures.ended tells) c.in-Ok-print_text.ensures.whole)
     (λ later le tells.
@@ -61,7 +61,8 @@ returns-in-Ok-print_text g c =
     (λ e. absurd cc) (record { count = λ good. c.in-Ok-print_text.ensures.cause.kept refl; failed = λ e. absurd cc })
     c.form_of_word.ensures.others
     (λ tells word never. c.form_of_word.ensures.others word (never []))
-    (λ read good. c.form_of_word.ensures.counts (no_fault c.form_of_word.result c.in-Ok.form texts.ReadFault c.in-Ok.is))
+    (λ read good.
+    c.form_of_word.ensures.counts (no_fault c.form_of_word.result c.in-Ok.form texts.ReadFault c.in-Ok.is))
     c.print_text.ensures.store
 
 -- the board fails
@@ -80,7 +81,7 @@ returns g c =
     (c.in-Ok.ensures.found tells) in
     carries-kept g.F.Files g.B.Board form_command files files' board board' c.args.steps.now c.print_text.new.steps
     ended.BoardFault (λ none. none) (λ status w. w)
-    (λ tells. comes-begun form_command (rest files) (rest files') (g.B.Board.image board) _ _ _ (printed board)
+    (λ tells. course-begun form_command (rest files) (rest files') (g.B.Board.image board) _ _ _ (printed board)
     (printed board') form (form_shown (rest files 1) form (made tells))
     (λ word reads. ap (rest files') reads ∙ c.in-Ok.ensures.ended tells) c.print_text.ensures.begun failed)
     (λ later le tells.
@@ -88,5 +89,6 @@ returns g c =
     (λ e. absurd cc) (record { count = λ good. absurd (good refl); failed = λ e. failed })
     c.form_of_word.ensures.others
     (λ tells word never. c.form_of_word.ensures.others word (never []))
-    (λ read good. c.form_of_word.ensures.counts (no_fault c.form_of_word.result c.in-Ok.form texts.ReadFault c.in-Ok.is))
+    (λ read good.
+    c.form_of_word.ensures.counts (no_fault c.form_of_word.result c.in-Ok.form texts.ReadFault c.in-Ok.is))
     c.print_text.ensures.store

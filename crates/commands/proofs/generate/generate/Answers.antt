@@ -8,20 +8,23 @@ use Rattle.commands.specs.declared.ending.Ended.TheVariants as ended
 use Rattle.commands.specs.Generate.{gen_command, generated_setting}
 use Rattle.commands.specs.Tariffs.{tariff_in}
 use Rattle.commands.proofs.Carrying.{carries-kept}
-use Rattle.commands.proofs.Endings.{comes-unprinted}
-use Rattle.commands.proofs.Generating.{comes-gen, comes-gen_begun, comes-gen_refused, setting_is, text_is}
+use Rattle.commands.proofs.Endings.{course-unprinted}
+use Rattle.commands.proofs.Generating.{course-gen, course-gen_begun, course-gen_refused, setting_is, text_is}
 use Rattle.commands.proofs.generate.generate.Goals as goal
 
 pub returns-in-Err : goal.returns-in-Err
 returns-in-Err g c = λ contents.
-    carries-kept (no_files contents) g.B.Board (gen_command c.args.seed c.args.trips) tt tt c.args.board.now c.args.board.now c.args.steps.now c.args.steps.now _ (λ none. none) (λ status w. w)
+    carries-kept (no_files contents) g.B.Board (gen_command c.args.seed c.args.trips) tt tt c.args.board.now
+    c.args.board.now c.args.steps.now c.args.steps.now _ (λ none. none) (λ status w. w)
     (λ known.
     let image = g.B.Board.image c.args.board.now in
     rw c.refused_by.ensures
-    (comes-unprinted (gen_command c.args.seed c.args.trips) contents contents image _ _ _ (g.B.Board.printed c.args.board.now) _
-    (comes-gen_refused c.args.seed c.args.trips contents contents image _ c.in-Err.fault
+    (course-unprinted (gen_command c.args.seed c.args.trips) contents contents image _ _ _
+    (g.B.Board.printed c.args.board.now) _
+    (course-gen_refused c.args.seed c.args.trips contents contents image _ c.in-Err.fault
     (λ e. c.tables_of_text.ensures.read (c.in-Err.is ∙ ap Err e))
-    (λ why e. subst (λ (x : List ℕ). tariff_in x ≡ Err why) c.city_tariff-text.ensures (c.tables_of_text.ensures.refused why (c.in-Err.is ∙ ap Err e))))))
+    (λ why e. subst (λ (x : List ℕ). tariff_in x ≡ Err why) c.city_tariff-text.ensures
+    (c.tables_of_text.ensures.refused why (c.in-Err.is ∙ ap Err e))))))
     (λ later le. omega (arith, le)) (search rules)
     (search rules)
     (λ word not. refl) (λ known word never. refl) (λ read good word. refl) (keeps_none g.B.Board c.args.board.now)
@@ -29,41 +32,58 @@ returns-in-Err g c = λ contents.
 pub state_of_drive-durable-requires-clause-setting : goal.state_of_drive-durable-requires-clause-setting
 state_of_drive-durable-requires-clause-setting g c = let made = c.in-Ok.ensures.found in (
   generated_setting made.tree,
-  setting_is made.tree c.in-Ok.tables c.gen_seal-seal.result made.compiled (made.value ∙ ap (tables_of made.tree) c.ten_thousand-constant.ensures)
-      c.gen_seal-seal.ensures.constant c.gen_seal-seal.ensures.mode c.gen_seal-seal.ensures.hold c.gen_seal-seal.ensures.offsets,
+  setting_is made.tree c.in-Ok.tables c.gen_seal-seal.result made.compiled
+      (made.value ∙ ap (tables_of made.tree) c.ten_thousand-constant.ensures)
+      c.gen_seal-seal.ensures.constant c.gen_seal-seal.ensures.mode c.gen_seal-seal.ensures.hold
+      c.gen_seal-seal.ensures.offsets,
 )
 
 pub returns-in-Ok-print : goal.returns-in-Ok-print
 returns-in-Ok-print g c = λ contents.
-    carries-kept (no_files contents) g.B.Board (gen_command c.args.seed c.args.trips) tt tt c.args.board.now c.print.new.self c.args.steps.now c.print.new.steps ended.Done (λ none. none) (λ status w. w)
+    carries-kept (no_files contents) g.B.Board (gen_command c.args.seed c.args.trips) tt tt c.args.board.now
+    c.print.new.self c.args.steps.now c.print.new.steps ended.Done (λ none. none) (λ status w. w)
     (λ known.
     let made = c.in-Ok.ensures.found in
     let t = made.tree in
     let printed = g.B.Board.printed in
-    let is = setting_is t c.in-Ok.tables c.gen_seal-seal.result made.compiled (made.value ∙ ap (tables_of made.tree) c.ten_thousand-constant.ensures)
-    c.gen_seal-seal.ensures.constant c.gen_seal-seal.ensures.mode c.gen_seal-seal.ensures.hold c.gen_seal-seal.ensures.offsets in
-    comes-gen c.args.seed c.args.trips contents contents (g.B.Board.image c.args.board.now) _ _ g.B.Board.tells_text (printed c.args.board.now) (printed c.print.new.self) _ t
+    let is = setting_is t c.in-Ok.tables c.gen_seal-seal.result made.compiled
+    (made.value ∙ ap (tables_of made.tree) c.ten_thousand-constant.ensures)
+    c.gen_seal-seal.ensures.constant c.gen_seal-seal.ensures.mode c.gen_seal-seal.ensures.hold
+    c.gen_seal-seal.ensures.offsets in
+    course-gen c.args.seed c.args.trips contents contents (g.B.Board.image c.args.board.now) _ _ g.B.Board.tells_text
+    (printed c.args.board.now) (printed c.print.new.self) _ t
     (subst (λ (x : List ℕ). tariff_in x ≡ Ok t) c.city_tariff-text.ensures made.sound)
-    (text_is c.args.seed c.args.trips c.decimals-decimals.result c.state_of_drive-durable.result t c.in-Ok.tables (made.value ∙ ap (tables_of made.tree) c.ten_thousand-constant.ensures) c.decimals-decimals.ensures.value (c.state_of_drive-durable.ensures.state (generated_setting t) is))
-    (λ tells. c.in-Ok-print.ensures.whole tells ∙ ap (λ (x : List ℕ). printed c.args.board.now ++ x) (c.as_slice.ensures.value ∙ c.summary-line.ensures.text)))
+    (text_is c.args.seed c.args.trips c.decimals-decimals.result c.state_of_drive-durable.result t c.in-Ok.tables
+    (made.value ∙ ap (tables_of made.tree) c.ten_thousand-constant.ensures) c.decimals-decimals.ensures.value
+    (c.state_of_drive-durable.ensures.state (generated_setting t) is))
+    (λ tells. c.in-Ok-print.ensures.whole tells
+    ∙ ap (λ (x : List ℕ). printed c.args.board.now ++ x) (c.as_slice.ensures.value ∙ c.summary-line.ensures.text)))
     (λ later le. omega (arith, le, c.state_of_drive-durable.ensures.steps, c.print.ensures.step)) (λ e. absurd cc)
     (record { count = λ good. c.in-Ok-print.ensures.cause.kept refl; failed = λ e. absurd cc })
-    (λ word not. refl) (λ known word never. refl) (λ read good word. refl) (keeps_print g.B.Board c.args.board.now c.print.new.self _
+    (λ word not. refl) (λ known word never. refl) (λ read good word. refl)
+    (keeps_print g.B.Board c.args.board.now c.print.new.self _
     c.print.ensures.image c.print.ensures.flight c.print.ensures.time)
 
 pub returns : goal.returns
 returns g c = λ contents.
-    carries-kept (no_files contents) g.B.Board (gen_command c.args.seed c.args.trips) tt tt c.args.board.now c.print.new.self c.args.steps.now c.print.new.steps ended.BoardFault (λ none. none) (λ status w. w)
+    carries-kept (no_files contents) g.B.Board (gen_command c.args.seed c.args.trips) tt tt c.args.board.now
+    c.print.new.self c.args.steps.now c.print.new.steps ended.BoardFault (λ none. none) (λ status w. w)
     (λ known.
     let made = c.in-Ok.ensures.found in
     let t = made.tree in
     let printed = g.B.Board.printed in
-    let is = setting_is t c.in-Ok.tables c.gen_seal-seal.result made.compiled (made.value ∙ ap (tables_of made.tree) c.ten_thousand-constant.ensures)
-    c.gen_seal-seal.ensures.constant c.gen_seal-seal.ensures.mode c.gen_seal-seal.ensures.hold c.gen_seal-seal.ensures.offsets in
-    comes-gen_begun c.args.seed c.args.trips contents contents (g.B.Board.image c.args.board.now) _ _ g.B.Board.tells_text (printed c.args.board.now) (printed c.print.new.self) _ t
+    let is = setting_is t c.in-Ok.tables c.gen_seal-seal.result made.compiled
+    (made.value ∙ ap (tables_of made.tree) c.ten_thousand-constant.ensures)
+    c.gen_seal-seal.ensures.constant c.gen_seal-seal.ensures.mode c.gen_seal-seal.ensures.hold
+    c.gen_seal-seal.ensures.offsets in
+    course-gen_begun c.args.seed c.args.trips contents contents (g.B.Board.image c.args.board.now) _ _
+    g.B.Board.tells_text (printed c.args.board.now) (printed c.print.new.self) _ t
     (subst (λ (x : List ℕ). tariff_in x ≡ Ok t) c.city_tariff-text.ensures made.sound)
-    (text_is c.args.seed c.args.trips c.decimals-decimals.result c.state_of_drive-durable.result t c.in-Ok.tables (made.value ∙ ap (tables_of made.tree) c.ten_thousand-constant.ensures) c.decimals-decimals.ensures.value (c.state_of_drive-durable.ensures.state (generated_setting t) is))
-    (λ tells. subst (λ (x : List ℕ). Begins (printed c.args.board.now) (printed c.print.new.self) x) (c.as_slice.ensures.value ∙ c.summary-line.ensures.text) (c.print.ensures.begun tells))
+    (text_is c.args.seed c.args.trips c.decimals-decimals.result c.state_of_drive-durable.result t c.in-Ok.tables
+    (made.value ∙ ap (tables_of made.tree) c.ten_thousand-constant.ensures) c.decimals-decimals.ensures.value
+    (c.state_of_drive-durable.ensures.state (generated_setting t) is))
+    (λ tells. subst (λ (x : List ℕ). Begins (printed c.args.board.now) (printed c.print.new.self) x)
+    (c.as_slice.ensures.value ∙ c.summary-line.ensures.text) (c.print.ensures.begun tells))
     (c.print.ensures.cause.failed (ap is_err c.in-Err-print.is)))
     (λ later le. omega (arith, le, c.state_of_drive-durable.ensures.steps, c.print.ensures.step)) (λ e. absurd cc)
     (record {
@@ -71,5 +91,6 @@ returns g c = λ contents.
       failed = λ e. c.print.ensures.cause.failed
           (ap is_err c.in-Err-print.is);
     })
-    (λ word not. refl) (λ known word never. refl) (λ read good word. refl) (keeps_print g.B.Board c.args.board.now c.print.new.self _
+    (λ word not. refl) (λ known word never. refl) (λ read good word. refl)
+    (keeps_print g.B.Board c.args.board.now c.print.new.self _
     c.print.ensures.image c.print.ensures.flight c.print.ensures.time)

@@ -14,7 +14,8 @@ use Rattle.commands.proofs.generate.run_afresh.Goals as goal
 -- ---- the store wasn't sealed
 
 pub returns-in-Err-clause-state : goal.returns-in-Err-clause-state
-returns-in-Err-clause-state g c = λ tells told whole calm still s is. absurd (still (c.place_seal.ensures.cause.failed (ap is_err c.in-Err.is)))
+returns-in-Err-clause-state g c =
+    λ tells told whole calm still s is. absurd (still (c.place_seal.ensures.cause.failed (ap is_err c.in-Err.is)))
 
 -- ---- the drive wasn't carried out
 
@@ -31,9 +32,11 @@ returns-in-Ok-run_events-clause-state g c = λ tells told whole calm still s is.
     let tables = c.args.tables.now in
     let seal = c.args.seal.now in
     let placed = c.in-Ok.ensures.sealed told in
-    let opens : OpensWith g.B.Board tables c.place_seal.new.board first_state = record { place = placed.totals.0; settled = placed.totals.1; fits = λ trip e. absurd cc } in
+    let opens : OpensWith g.B.Board tables c.place_seal.new.board first_state =
+    record { place = placed.totals.0; settled = placed.totals.1; fits = λ trip e. absurd cc } in
     let done = ((c.in-Ok-run_events.ensures.ends tells).runs told s first_state is opens).opens in
-    let stands : HasState (g.B.Board.image c.run_events.new.board) (state_after s (g.F.Files.rest c.args.files.now 0)) = at_stands totals.reads states.state_number_of 0 done.place _ _ done.settled.is_at in
+    let stands : HasState (g.B.Board.image c.run_events.new.board) (state_after s (g.F.Files.rest c.args.files.now 0)) =
+    at_stands totals.reads states.state_number_of 0 done.place _ _ done.settled.is_at in
     c.state_in.ensures.has told (λ rose. still (omega (
       arith,
       rose,
@@ -46,5 +49,6 @@ returns-in-Ok-run_events-clause-steps g c = λ tells told whole calm still s is.
     let run = c.in-Ok-run_events.ensures.ends tells in
     let drive = g.F.Files.rest c.args.files.now 0 in
     let left = g.F.Files.rest c.run_events.new.files 0 in
-    let bound = whole_bound g.F.Files.tells drive left _ _ tells (left-whole drive left run.tells run.end_is) c.run_events.ensures.steps in
+    let bound = whole_bound g.F.Files.tells drive left _ _ tells
+    (left-whole drive left run.tells run.end_is) c.run_events.ensures.steps in
     omega (arith, bound, c.place_seal.ensures.steps, c.state_in.ensures.steps)

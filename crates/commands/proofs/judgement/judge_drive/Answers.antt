@@ -6,7 +6,8 @@ use Rattle.commands.specs.BenchSteps.{IsNoReadings, IsNotJudged, IsWholeDrive, e
 use Rattle.commands.specs.declared.ending.Ended.{Ended}
 use Rattle.commands.specs.declared.ending.Ended.TheVariants as ended
 use Rattle.commands.specs.declared.whole_drive.DriveFault.TheVariants as drives
-use Rattle.commands.proofs.Judging.{no_readings-as, not_board-drive, not_judged-drive, not_judged-memory, not_judged-readings, read_fault-drive}
+use Rattle.commands.proofs.Judging.{no_readings-as, not_board-drive, not_judged-drive, not_judged-memory}
+use Rattle.commands.proofs.Judging.{not_judged-readings, read_fault-drive}
 use Rattle.commands.proofs.Openings.{same_fault, no_fault}
 use Rattle.commands.proofs.Turns.{first_alone, first_then}
 use Rattle.commands.proofs.judgement.judge_drive.Goals as goal
@@ -25,12 +26,15 @@ returns-in-Err-clause-refused g c = λ why tells e.
     let new = c.read_drive.new.files in
     let failed = Rose (faults files 2) (faults new 2) in
     let text_failed = Rose (faults files 3) (faults new 3) in
-    subst (λ (w : Ended). IsNotJudged (terms_in c.args.terms.now) (rest files 2) (rest new 2) (rest files 3) failed text_failed w) (sym c.refused_drive.ensures ∙ same_fault _ _ _ refl e)
-    (not_judged-drive (terms_in c.args.terms.now) (rest files 2) (rest new 2) (rest files 3) failed text_failed c.in-Err.fault (c.in-Err.ensures.refused tells)
+    subst (λ (w : Ended). IsNotJudged (terms_in c.args.terms.now) (rest files 2) (rest new 2)
+    (rest files 3) failed text_failed w) (sym c.refused_drive.ensures ∙ same_fault _ _ _ refl e)
+    (not_judged-drive (terms_in c.args.terms.now) (rest files 2) (rest new 2)
+    (rest files 3) failed text_failed c.in-Err.fault (c.in-Err.ensures.refused tells)
     (λ f. c.read_drive.ensures.read_fault (c.in-Err.is ∙ ap Err f)))
 
 pub returns-in-Err-clause-not_board : goal.returns-in-Err-clause-not_board
-returns-in-Err-clause-not_board g c = λ e. not_board-drive c.in-Err.fault (sym c.refused_drive.ensures ∙ same_fault _ _ _ refl e)
+returns-in-Err-clause-not_board g c =
+    λ e. not_board-drive c.in-Err.fault (sym c.refused_drive.ensures ∙ same_fault _ _ _ refl e)
 
 pub returns-in_err-readings-clause-refused : goal.returns-in_err-readings-clause-refused
 returns-in_err-readings-clause-refused g c =
@@ -46,9 +50,11 @@ returns-in_err-readings-clause-refused g c =
     let text_failed = Rose (faults files 3) (faults new 3) in
     let first_failed = Rose (faults mid 3) (faults new 3) in
     let end = c.in_err-readings.field-0.0 in
-    let first : IsNoReadings c.tariff.result.now.decimals (rest mid 3) first_failed end = c.readings_of_word.ensures.refused end tells c.in_err-readings.was in
+    let first : IsNoReadings c.tariff.result.now.decimals (rest mid 3) first_failed end =
+    c.readings_of_word.ensures.refused end tells c.in_err-readings.was in
     let of_text : IsNoReadings c.tariff.result.now.decimals (rest files 3) first_failed end =
-    subst (λ (x : List ℕ). IsNoReadings c.tariff.result.now.decimals x first_failed end) (c.read_drive.ensures.others 3 (three-two 3 refl)) first in
+    subst (λ (x : List ℕ). IsNoReadings c.tariff.result.now.decimals x first_failed end)
+    (c.read_drive.ensures.others 3 (three-two 3 refl)) first in
     let of_tariff : IsNoReadings terms.tree.decimals (rest files 3) first_failed end =
     subst (λ (t : Tariff). IsNoReadings t.decimals (rest files 3) first_failed end) c.tariff.ensures.value of_text in
     let later = no_readings-as terms.tree.decimals (rest files 3) first_failed text_failed end
@@ -59,9 +65,12 @@ returns-in_err-readings-clause-refused g c =
           (no_fault c.read_drive.result c.in-Ok.runs drives.ReadFault c.in-Ok.is) 3,
     )) of_tariff in
     let whole : IsWholeDrive (rest files 2) (rest new 2) c.in-Ok.runs.items =
-    subst (λ (x : List ℕ). IsWholeDrive (rest files 2) x c.in-Ok.runs.items) (sym (c.readings_of_word.ensures.others 2 (two-three 2 refl))) (c.in-Ok.ensures.whole tells) in
-    subst (λ (w : Ended). IsNotJudged terms (rest files 2) (rest new 2) (rest files 3) failed text_failed w) (same_fault _ _ _ refl e)
-    (not_judged-readings terms (rest files 2) (rest new 2) (rest files 3) failed text_failed c.in-Ok.runs.items whole end later))
+    subst (λ (x : List ℕ). IsWholeDrive (rest files 2) x c.in-Ok.runs.items)
+    (sym (c.readings_of_word.ensures.others 2 (two-three 2 refl))) (c.in-Ok.ensures.whole tells) in
+    subst (λ (w : Ended). IsNotJudged terms (rest files 2) (rest new 2) (rest files 3) failed text_failed w)
+    (same_fault _ _ _ refl e)
+    (not_judged-readings terms (rest files 2) (rest new 2)
+    (rest files 3) failed text_failed c.in-Ok.runs.items whole end later))
 
 pub returns-clause-refused : goal.returns-clause-refused
 returns-clause-refused g c = λ why tells e.
@@ -73,8 +82,10 @@ returns-clause-refused g c = λ why tells e.
     let failed = Rose (faults files 2) (faults new 2) in
     let text_failed = Rose (faults files 3) (faults new 3) in
     let whole : IsWholeDrive (rest files 2) (rest new 2) c.in-Ok.runs.items =
-    subst (λ (x : List ℕ). IsWholeDrive (rest files 2) x c.in-Ok.runs.items) (sym (c.readings_of_word.ensures.others 2 (two-three 2 refl))) (c.in-Ok.ensures.whole tells) in
-    subst (λ (w : Ended). IsNotJudged terms (rest files 2) (rest new 2) (rest files 3) failed text_failed w) (same_fault _ _ _ refl e)
+    subst (λ (x : List ℕ). IsWholeDrive (rest files 2) x c.in-Ok.runs.items)
+    (sym (c.readings_of_word.ensures.others 2 (two-three 2 refl))) (c.in-Ok.ensures.whole tells) in
+    subst (λ (w : Ended). IsNotJudged terms (rest files 2) (rest new 2) (rest files 3) failed text_failed w)
+    (same_fault _ _ _ refl e)
     (not_judged-memory terms (rest files 2) (rest new 2) (rest files 3) failed text_failed c.in-Ok.runs.items whole)
 
 -- ---- what is read

@@ -8,11 +8,11 @@ use Rattle.commands.specs.Lines.{lines_command}
 use Rattle.commands.specs.LinesSteps.{IsListOf}
 use Rattle.commands.proofs.Carrying.{carries-kept}
 use Rattle.commands.proofs.Counting.{read_fault-text, stops_by, unless_read}
-use Rattle.commands.proofs.Endings.{comes-unprinted}
+use Rattle.commands.proofs.Endings.{course-unprinted}
 use Rattle.commands.proofs.Lists.{list_in_pieces, list_shown, refused-list}
 use Rattle.commands.proofs.Openings.{no_fault}
-use Rattle.commands.proofs.Refusals.{comes-refused}
-use Rattle.commands.proofs.Showing.{comes-begun, comes-shown}
+use Rattle.commands.proofs.Refusals.{course-refused}
+use Rattle.commands.proofs.Showing.{course-begun, course-shown}
 use Rattle.commands.proofs.lines.print_lines.Goals as goal
 
 -- the tariff wasn't read
@@ -23,12 +23,16 @@ returns-in-Err g c =
     let files' = c.list_of_word.new.files in
     let board = c.args.board.now in
     let steps = c.args.steps.now in
-    carries-kept g.F.Files g.B.Board (lines_command c.args.constant) files files' board board steps steps _ (λ none. none) (λ status w. w)
+    carries-kept g.F.Files g.B.Board (lines_command c.args.constant) files files' board board steps steps _
+    (λ none. none) (λ status w. w)
     (λ tells. rw c.refused_by.ensures
-    (comes-unprinted (lines_command c.args.constant) (rest files) (rest files') (g.B.Board.image board) _ _ _ (g.B.Board.printed board) _
-    (comes-refused (lines_command c.args.constant) (rest files) (rest files') (g.B.Board.image board) _ refl tt (λ e. absurd cc)
+    (course-unprinted (lines_command c.args.constant) (rest files) (rest files') (g.B.Board.image board) _ _ _
+    (g.B.Board.printed board) _
+    (course-refused (lines_command c.args.constant) (rest files) (rest files') (g.B.Board.image board) _ refl tt
+    (λ e. absurd cc)
     c.in-Err.fault refl refl refl (λ e. c.list_of_word.ensures.read_fault (c.in-Err.is ∙ ap Err e))
-    (λ why e. refused-list c.args.constant (rest files 1) why (c.list_of_word.ensures.refused why tells (c.in-Err.is ∙ ap Err e))))))
+    (λ why e. refused-list c.args.constant (rest files 1) why
+    (c.list_of_word.ensures.refused why tells (c.in-Err.is ∙ ap Err e))))))
     (λ later le tells. omega (arith, le))
     (stops_by 1 c.list_of_word.result c.in-Err.fault texts.ReadFault ended_for c.in-Err.is c.refused_by.ensures
     (read_fault-text c.in-Err.fault) refl c.list_of_word.ensures.read_fault c.list_of_word.ensures.others)
@@ -51,9 +55,11 @@ returns-in-Ok-print_text g c =
     let made : g.F.Files.tells → IsListOf c.args.constant (rest files 1) list = λ tells.
     subst (λ (x : List ℕ). IsListOf c.args.constant (rest files 1) x) (sym c.as_slice.ensures.value)
     (c.in-Ok.ensures.found tells) in
-    carries-kept g.F.Files g.B.Board (lines_command c.args.constant) files files' board board' c.args.steps.now c.print_text.new.steps
+    carries-kept g.F.Files g.B.Board
+    (lines_command c.args.constant) files files' board board' c.args.steps.now c.print_text.new.steps
     ended.Done (λ none. none) (λ status w. w)
-    (λ tells. comes-shown (lines_command c.args.constant) (rest files) (rest files') (g.B.Board.image board) _ _ _ (printed board)
+    (λ tells. course-shown (lines_command c.args.constant) (rest files) (rest files') (g.B.Board.image board) _ _ _
+    (printed board)
     (printed board') list (list_shown c.args.constant (rest files 1) list (made tells))
     (λ word reads. ap (rest files') reads ∙ c.in-Ok.ensures.ended tells) c.in-Ok-print_text.ensures.whole)
     (λ later le tells.
@@ -61,7 +67,8 @@ returns-in-Ok-print_text g c =
     (λ e. absurd cc) (record { count = λ good. c.in-Ok-print_text.ensures.cause.kept refl; failed = λ e. absurd cc })
     c.list_of_word.ensures.others
     (λ tells word never. c.list_of_word.ensures.others word (never []))
-    (λ read good. c.list_of_word.ensures.counts (no_fault c.list_of_word.result c.in-Ok.list texts.ReadFault c.in-Ok.is))
+    (λ read good.
+    c.list_of_word.ensures.counts (no_fault c.list_of_word.result c.in-Ok.list texts.ReadFault c.in-Ok.is))
     c.print_text.ensures.store
 
 -- the board fails
@@ -78,9 +85,11 @@ returns g c =
     let made : g.F.Files.tells → IsListOf c.args.constant (rest files 1) list = λ tells.
     subst (λ (x : List ℕ). IsListOf c.args.constant (rest files 1) x) (sym c.as_slice.ensures.value)
     (c.in-Ok.ensures.found tells) in
-    carries-kept g.F.Files g.B.Board (lines_command c.args.constant) files files' board board' c.args.steps.now c.print_text.new.steps
+    carries-kept g.F.Files g.B.Board
+    (lines_command c.args.constant) files files' board board' c.args.steps.now c.print_text.new.steps
     ended.BoardFault (λ none. none) (λ status w. w)
-    (λ tells. comes-begun (lines_command c.args.constant) (rest files) (rest files') (g.B.Board.image board) _ _ _ (printed board)
+    (λ tells. course-begun (lines_command c.args.constant) (rest files) (rest files') (g.B.Board.image board) _ _ _
+    (printed board)
     (printed board') list (list_shown c.args.constant (rest files 1) list (made tells))
     (λ word reads. ap (rest files') reads ∙ c.in-Ok.ensures.ended tells) c.print_text.ensures.begun failed)
     (λ later le tells.
@@ -88,5 +97,6 @@ returns g c =
     (λ e. absurd cc) (record { count = λ good. absurd (good refl); failed = λ e. failed })
     c.list_of_word.ensures.others
     (λ tells word never. c.list_of_word.ensures.others word (never []))
-    (λ read good. c.list_of_word.ensures.counts (no_fault c.list_of_word.result c.in-Ok.list texts.ReadFault c.in-Ok.is))
+    (λ read good.
+    c.list_of_word.ensures.counts (no_fault c.list_of_word.result c.in-Ok.list texts.ReadFault c.in-Ok.is))
     c.print_text.ensures.store

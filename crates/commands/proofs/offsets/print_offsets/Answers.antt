@@ -9,20 +9,23 @@ use Rattle.commands.specs.declared.ending.Ended.TheVariants as ended
 use Rattle.commands.specs.declared.offsets.RulesFault.TheVariants as rules
 use Rattle.commands.specs.Offsets.{offsets_command}
 use Rattle.commands.proofs.Carrying.{carries-kept}
-use Rattle.commands.proofs.Listing.{comes-lines, comes-lines_begun, comes-refused}
+use Rattle.commands.proofs.Listing.{course-lines, course-lines_begun, course-refused}
 use Rattle.commands.proofs.offsets.print_offsets.Goals as goal
 
 pub returns-in-Err : goal.returns-in-Err
 returns-in-Err g c =
     let rest = g.F.Files.rest in
     let printed = g.B.Board.printed c.args.board.now in
-    carries-kept g.F.Files g.B.Board (offsets_command c.args.years) c.args.files.now c.rules_of_word.new.files c.args.board.now c.args.board.now c.args.steps.now c.args.steps.now _ (λ none. none) (λ status w. w)
+    carries-kept g.F.Files g.B.Board (offsets_command c.args.years) c.args.files.now c.rules_of_word.new.files
+    c.args.board.now c.args.board.now c.args.steps.now c.args.steps.now _ (λ none. none) (λ status w. w)
     (λ tells. rw c.refused_rules.ensures
-    (comes-refused c.args.years (rest c.args.files.now) (rest c.rules_of_word.new.files) (g.B.Board.image c.args.board.now) _ _ _ printed printed c.in-Err.fault refl
+    (course-refused c.args.years (rest c.args.files.now) (rest c.rules_of_word.new.files)
+    (g.B.Board.image c.args.board.now) _ _ _ printed printed c.in-Err.fault refl
     (λ e. c.rules_of_word.ensures.read_fault (c.in-Err.is ∙ ap Err e))
     (λ why e. c.rules_of_word.ensures.refused why tells (c.in-Err.is ∙ ap Err e))))
     (λ later le. omega (arith, le))
-    (stops_by 1 c.rules_of_word.result c.in-Err.fault rules.ReadFault ended_for_rules c.in-Err.is c.refused_rules.ensures
+    (stops_by 1 c.rules_of_word.result c.in-Err.fault rules.ReadFault ended_for_rules c.in-Err.is
+    c.refused_rules.ensures
     (read_fault-rules c.in-Err.fault) refl c.rules_of_word.ensures.read_fault c.rules_of_word.ensures.others)
     (search rules) c.rules_of_word.ensures.others
     (λ tells word never. c.rules_of_word.ensures.others word (never []))
@@ -34,15 +37,20 @@ returns-in-Ok-print_pairs g c =
     let rest = g.F.Files.rest in
     let printed = g.B.Board.printed in
     let rule = c.in-Ok.rules in
-    carries-kept g.F.Files g.B.Board (offsets_command c.args.years) c.args.files.now c.rules_of_word.new.files c.args.board.now c.print_pairs.new.board c.args.steps.now c.print_pairs.new.steps ended.Done (λ none. none) (λ status w. w)
-    (λ tells. comes-lines c.args.years (rest c.args.files.now) (rest c.rules_of_word.new.files) (g.B.Board.image c.args.board.now) _ _ _ (printed c.args.board.now) (printed c.print_pairs.new.board)
+    carries-kept g.F.Files g.B.Board (offsets_command c.args.years) c.args.files.now c.rules_of_word.new.files
+    c.args.board.now c.print_pairs.new.board c.args.steps.now c.print_pairs.new.steps ended.Done (λ none. none)
+    (λ status w. w)
+    (λ tells. course-lines c.args.years (rest c.args.files.now) (rest c.rules_of_word.new.files)
+    (g.B.Board.image c.args.board.now) _ _ _ (printed c.args.board.now) (printed c.print_pairs.new.board)
     rule c.as_slice.result.now (c.in-Ok.ensures.found tells)
-    (c.as_slice.ensures.value ∙ c.pairs-pairs.ensures.value ∙ ap (λ (years : ℕ × ℕ). pairs_of rule years.0 years.1) c.bounds-first.ensures.value)
+    (c.as_slice.ensures.value ∙ c.pairs-pairs.ensures.value
+    ∙ ap (λ (years : ℕ × ℕ). pairs_of rule years.0 years.1) c.bounds-first.ensures.value)
     (c.in-Ok.ensures.ended tells) c.in-Ok-print_pairs.ensures.whole)
     (λ later le. search (rules, le)) (λ e. absurd cc)
     (record { count = λ good. c.in-Ok-print_pairs.ensures.cause.kept refl; failed = λ e. absurd cc })
     c.rules_of_word.ensures.others (λ tells word never. c.rules_of_word.ensures.others word (never []))
-    (λ read good. c.rules_of_word.ensures.counts (no_fault c.rules_of_word.result c.in-Ok.rules rules.ReadFault c.in-Ok.is))
+    (λ read good.
+    c.rules_of_word.ensures.counts (no_fault c.rules_of_word.result c.in-Ok.rules rules.ReadFault c.in-Ok.is))
     c.print_pairs.ensures.store
 
 pub returns-in-Err-print_pairs : goal.returns-in-Err-print_pairs
@@ -50,15 +58,21 @@ returns-in-Err-print_pairs g c =
     let rest = g.F.Files.rest in
     let printed = g.B.Board.printed in
     let rule = c.in-Ok.rules in
-    carries-kept g.F.Files g.B.Board (offsets_command c.args.years) c.args.files.now c.rules_of_word.new.files c.args.board.now c.print_pairs.new.board c.args.steps.now c.print_pairs.new.steps ended.BoardFault (λ none. none) (λ status w. w)
-    (λ tells. comes-lines_begun c.args.years (rest c.args.files.now) (rest c.rules_of_word.new.files) (g.B.Board.image c.args.board.now) _ _ _ (printed c.args.board.now) (printed c.print_pairs.new.board)
+    carries-kept g.F.Files g.B.Board (offsets_command c.args.years) c.args.files.now c.rules_of_word.new.files
+    c.args.board.now c.print_pairs.new.board c.args.steps.now c.print_pairs.new.steps ended.BoardFault (λ none. none)
+    (λ status w. w)
+    (λ tells. course-lines_begun c.args.years (rest c.args.files.now) (rest c.rules_of_word.new.files)
+    (g.B.Board.image c.args.board.now) _ _ _ (printed c.args.board.now) (printed c.print_pairs.new.board)
     rule c.as_slice.result.now (c.in-Ok.ensures.found tells)
-    (c.as_slice.ensures.value ∙ c.pairs-pairs.ensures.value ∙ ap (λ (years : ℕ × ℕ). pairs_of rule years.0 years.1) c.bounds-first.ensures.value)
-    (c.in-Ok.ensures.ended tells) c.print_pairs.ensures.begun (c.print_pairs.ensures.cause.failed (ap is_err c.in-Err-print_pairs.is)))
+    (c.as_slice.ensures.value ∙ c.pairs-pairs.ensures.value
+    ∙ ap (λ (years : ℕ × ℕ). pairs_of rule years.0 years.1) c.bounds-first.ensures.value)
+    (c.in-Ok.ensures.ended tells) c.print_pairs.ensures.begun
+    (c.print_pairs.ensures.cause.failed (ap is_err c.in-Err-print_pairs.is)))
     (λ later le. search (rules, le)) (λ e. absurd cc) (record {
       count = λ good. absurd (good refl);
       failed = λ e. c.print_pairs.ensures.cause.failed (ap is_err c.in-Err-print_pairs.is);
     })
     c.rules_of_word.ensures.others (λ tells word never. c.rules_of_word.ensures.others word (never []))
-    (λ read good. c.rules_of_word.ensures.counts (no_fault c.rules_of_word.result c.in-Ok.rules rules.ReadFault c.in-Ok.is))
+    (λ read good.
+    c.rules_of_word.ensures.counts (no_fault c.rules_of_word.result c.in-Ok.rules rules.ReadFault c.in-Ok.is))
     c.print_pairs.ensures.store

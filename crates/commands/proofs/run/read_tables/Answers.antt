@@ -4,4 +4,5 @@ use Rattle.commands.proofs.run.read_tables.Goals as goal
 
 pub returns-in-Ok-clause-counts : goal.returns-in-Ok-clause-counts
 returns-in-Ok-clause-counts g c = λ good.
-    c.read_sealed.ensures.counts (no_fault c.read_sealed.result c.in_ok-checked.checked ended.ReadFault c.in_ok-checked.was)
+    c.read_sealed.ensures.counts
+    (no_fault c.read_sealed.result c.in_ok-checked.checked ended.ReadFault c.in_ok-checked.was)

@@ -9,12 +9,12 @@ use Rattle.commands.specs.declared.ending.Ended.{Ended}
 use Rattle.commands.specs.declared.ending.Ended.TheVariants as ended
 use Rattle.commands.specs.LastLine.{status_of}
 use Rattle.commands.specs.Run.{run_command, setting_in, tables_in}
-use Rattle.commands.specs.RunSteps.{RunComes}
+use Rattle.commands.specs.RunSteps.{RunReachesLine}
 use Rattle.commands.proofs.Faring.{begins_going, board_fault-ran, read_fault-ran}
 use Rattle.commands.proofs.Counting.{stops_at}
 use Rattle.commands.proofs.Openings.{no_fault, same_fault}
 use Rattle.commands.proofs.RunEnds.{ran-comes, ran-writes}
-use Rattle.commands.proofs.Running.{comes-not_begun}
+use Rattle.commands.proofs.Running.{course-not_begun}
 use Rattle.commands.proofs.Unwritten.{bytes-read}
 use Rattle.commands.proofs.run.run.Goals as goal
 
@@ -28,8 +28,10 @@ pub returns-in-Err-clause-runs : goal.returns-in-Err-clause-runs
 returns-in-Err-clause-runs g c = λ tells told.
     let why = c.in-Err.why in
     let before = c.begin.ensures in
-    comes-not_begun g.F.Files g.B.Board c.args.files.now c.begin.new.files c.args.board.now c.begin.new.board (before.others 2 (two-one 2 refl))
-    (IsErrOf c.begin.result ended.BoardFault) before.opens.reads (before.opens.synced told) why (c.in-Err.ensures.refused tells told)
+    course-not_begun g.F.Files g.B.Board c.args.files.now c.begin.new.files c.args.board.now c.begin.new.board
+    (before.others 2 (two-one 2 refl))
+    (IsErrOf c.begin.result ended.BoardFault) before.opens.reads (before.opens.synced told) why
+    (c.in-Err.ensures.refused tells told)
     (λ f. same_fault c.begin.result why ended.BoardFault c.in-Err.is f)
     (λ good. before.opens.settled told (λ f. good (same_fault c.begin.result why ended.BoardFault c.in-Err.is f)))
     (λ good. before.opens.same (λ f. good (same_fault c.begin.result why ended.BoardFault c.in-Err.is f)))
@@ -55,7 +57,8 @@ returns-in-Err-clause-carries g c =
           c.in-Err.is f));
       kept = λ shut. absurd (shut tt);
       unwritten = λ not. bytes-read g.B.Board c.args.board.now c.begin.new.board before.opens.reads;
-      same = λ not good. before.opens.same (λ f. good (same_fault c.begin.result c.in-Err.why ended.BoardFault c.in-Err.is f));
+      same = λ not good.
+          before.opens.same (λ f. good (same_fault c.begin.result c.in-Err.why ended.BoardFault c.in-Err.is f));
       fails = λ status w. inr (inr (inr refl));
       at_rest = λ known told opened good. before.opens.settled told
           (λ f. good (same_fault c.begin.result c.in-Err.why ended.BoardFault c.in-Err.is f));
@@ -72,23 +75,35 @@ returns-clause-runs g c = λ tells told.
     let before = c.begin.ensures in
     let begun = c.in-Ok.ensures.begun tells told in
     let s = begun.start in
-    let went : ¬ (IsErrOf c.begin.result ended.BoardFault) = no_fault c.begin.result c.in-Ok.begun ended.BoardFault c.in-Ok.is in
+    let went : ¬ (IsErrOf c.begin.result ended.BoardFault) =
+    no_fault c.begin.result c.in-Ok.begun ended.BoardFault c.in-Ok.is in
     let compiled : IsTablesOf s.tree (tables_in s) = subst (IsTablesOf s.tree) begun.tables_are begun.compiled in
     let is : IsSettingOf (setting_in s) (tables_in s) s.seal = record {
       tariff = record { compiled = compiled; constant = refl };
-      secured = record { constant = refl; mode = refl; hold = refl; offsets = refl };
+      secured = record { constant = refl; mode = refl; hold_time = refl; offsets = refl };
     } in
-    let opens : OpensWith g.B.Board (tables_in s) mid s.durable = subst (λ (p : TableParts). OpensWith g.B.Board p mid s.durable) begun.tables_are begun.opens in
-    let of_seal : EndsRun g.B.Board c.in-Ok.begun.tables s.seal mid new (rest c.begin.new.files 2) (rest c.run_events-ran.new.files 2) c.run_events-ran.result =
-    subst (λ (l : Seal). EndsRun g.B.Board c.in-Ok.begun.tables l mid new (rest c.begin.new.files 2) (rest c.run_events-ran.new.files 2) c.run_events-ran.result) begun.seal_is (c.run_events-ran.ensures.ends tells) in
-    let of_tables : EndsRun g.B.Board (tables_in s) s.seal mid new (rest c.begin.new.files 2) (rest c.run_events-ran.new.files 2) c.run_events-ran.result =
-    subst (λ (p : TableParts). EndsRun g.B.Board p s.seal mid new (rest c.begin.new.files 2) (rest c.run_events-ran.new.files 2) c.run_events-ran.result) begun.tables_are of_seal in
-    let ends : EndsRun g.B.Board (tables_in s) s.seal mid new (rest files 2) (rest c.run_events-ran.new.files 2) c.run_events-ran.result =
-    subst (λ (drive : List ℕ). EndsRun g.B.Board (tables_in s) s.seal mid new drive (rest c.run_events-ran.new.files 2) c.run_events-ran.result) (before.others 2 (two-one 2 refl)) of_tables in
-    let read : rest c.run_events-ran.new.files 1 ≡ [] = c.run_events-ran.ensures.others 1 (one-two 1 refl) ∙ c.in-Ok.ensures.ended tells in
-    subst (λ (end : Ended). RunComes g.F.Files g.B.Board files c.run_events-ran.new.files old new end) (sym c.ended_of.ensures)
-    (ran-comes g.F.Files g.B.Board files c.run_events-ran.new.files old mid new s begun.is told is opens (IsErrOf c.begin.result ended.BoardFault) went
-    (before.opens.synced told) (before.opens.settled told went) (before.opens.same went) before.opens.reads.text (c.run_events-ran.ensures.beside told) read c.run_events-ran.result ends
+    let opens : OpensWith g.B.Board (tables_in s) mid s.durable =
+    subst (λ (p : TableParts). OpensWith g.B.Board p mid s.durable) begun.tables_are begun.opens in
+    let of_seal : EndsRun g.B.Board c.in-Ok.begun.tables s.seal mid new (rest c.begin.new.files 2)
+    (rest c.run_events-ran.new.files 2) c.run_events-ran.result =
+    subst (λ (l : Seal). EndsRun g.B.Board c.in-Ok.begun.tables l mid new (rest c.begin.new.files 2)
+    (rest c.run_events-ran.new.files 2) c.run_events-ran.result) begun.seal_is (c.run_events-ran.ensures.ends tells) in
+    let of_tables : EndsRun g.B.Board (tables_in s) s.seal mid new (rest c.begin.new.files 2)
+    (rest c.run_events-ran.new.files 2) c.run_events-ran.result =
+    subst (λ (p : TableParts). EndsRun g.B.Board p s.seal mid new (rest c.begin.new.files 2)
+    (rest c.run_events-ran.new.files 2) c.run_events-ran.result) begun.tables_are of_seal in
+    let ends : EndsRun g.B.Board (tables_in s) s.seal mid new (rest files 2)
+    (rest c.run_events-ran.new.files 2) c.run_events-ran.result =
+    subst (λ (drive : List ℕ). EndsRun g.B.Board (tables_in s) s.seal mid new drive
+    (rest c.run_events-ran.new.files 2) c.run_events-ran.result) (before.others 2 (two-one 2 refl)) of_tables in
+    let read : rest c.run_events-ran.new.files 1 ≡ [] =
+    c.run_events-ran.ensures.others 1 (one-two 1 refl) ∙ c.in-Ok.ensures.ended tells in
+    subst (λ (end : Ended). RunReachesLine g.F.Files g.B.Board files c.run_events-ran.new.files old new end)
+    (sym c.ended_of.ensures)
+    (ran-comes g.F.Files g.B.Board files c.run_events-ran.new.files old mid new s begun.is told is opens
+    (IsErrOf c.begin.result ended.BoardFault) went
+    (before.opens.synced told) (before.opens.settled told went) (before.opens.same went) before.opens.reads.text
+    (c.run_events-ran.ensures.beside told) read c.run_events-ran.result ends
     (λ e. omega (
       arith,
       c.run_events-ran.ensures.read_fault e,
@@ -101,7 +116,8 @@ pub returns-clause-carries : goal.returns-clause-carries
 returns-clause-carries g c =
     let before = c.begin.ensures in
     let ran = c.run_events-ran.ensures in
-    let wrote = subst (λ (end : Ended). run_command.writes (status_of end)) (sym c.ended_of.ensures) (ran-writes c.run_events-ran.result) in
+    let wrote = subst (λ (end : Ended). run_command.writes (status_of end)) (sym c.ended_of.ensures)
+    (ran-writes c.run_events-ran.result) in
     record {
       ends = λ known. (returns-clause-runs g c known.0 known.1).comes;
       steps = λ later le. let h = ran.steps in record {

@@ -14,7 +14,8 @@ returns-clause-sound c =
       has = record {
         tree = tree_of c.in-Ok.checked;
         sound = c.in-Ok.ensures.found;
-        decimals = ap (λ (t : Tariff). are_decimals c.args.found t.decimals) same ∙ sym c.are_decimals.ensures ∙ c.in_ok-are_decimals.was;
+        decimals = ap (λ (t : Tariff). are_decimals c.args.found t.decimals) same ∙ sym c.are_decimals.ensures
+            ∙ c.in_ok-are_decimals.was;
       };
       decimals_are = ap (λ (t : Tariff). t.decimals) same;
     }

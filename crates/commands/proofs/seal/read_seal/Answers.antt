@@ -23,7 +23,8 @@ returns-in_err-decimals-clause-refused g c =
     let text = c.as_slice.result.now in
     let failed = λ (word : ℕ). Rose (faults c.args.files.now word) (faults c.text_of_word.new.files word) in
     let why = c.decimals_of.ensures.refused end (c.in_err-decimals.was ∙ ap Err (same_fault _ _ _ refl e)) in
-    subst (λ (x : List ℕ). IsNoSeal c.args.number c.args.found x params failed end) (c.as_slice.ensures.value ∙ c.in-Ok.ensures.text read)
+    subst (λ (x : List ℕ). IsNoSeal c.args.number c.args.found x params failed end)
+    (c.as_slice.ensures.value ∙ c.in-Ok.ensures.text read)
     (no_seal-tariff c.args.number c.args.found text params failed end why))
 
 pub returns-in_err-decimals-clause-not_board : goal.returns-in_err-decimals-clause-not_board
@@ -31,7 +32,8 @@ returns-in_err-decimals-clause-not_board g c =
     let p = err_from_is_err_and c.from_residual.result c.from_residual.ensures.1 in
     rw (p.1, p.2) (λ e.
     let end = c.in_err-decimals.field-0.0 in
-    (no_tariff-fault c.args.found c.as_slice.result.now end (c.decimals_of.ensures.refused end c.in_err-decimals.was)).1 (same_fault _ _ _ refl e))
+    (no_tariff-fault c.args.found c.as_slice.result.now end (c.decimals_of.ensures.refused end c.in_err-decimals.was)).1
+    (same_fault _ _ _ refl e))
 
 -- ---- what is read
 

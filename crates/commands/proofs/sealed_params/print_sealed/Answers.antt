@@ -5,7 +5,7 @@ use Rattle.commands.specs.declared.ending.Ended.TheVariants as ended
 use Rattle.commands.specs.Sealed.{sealed_answer, sealed_command}
 use Rattle.commands.specs.SealedText.{sealed_text}
 use Rattle.commands.proofs.Carrying.{carries-looked}
-use Rattle.commands.proofs.Looking.{looks-behind}
+use Rattle.commands.proofs.ReadOnlyCalls.{unwritten-behind}
 use Rattle.commands.proofs.Openings.{no_fault}
 use Rattle.commands.proofs.StoreTexts.{ends-barred, ends-begun, ends-shown}
 use Rattle.commands.proofs.sealed_params.print_sealed.Goals as goal
@@ -44,7 +44,7 @@ returns-in-Ok-print_seal g c = λ contents.
       failed = λ e. absurd cc;
     })
     (λ word not. refl) (λ known word never. refl) (λ read good word. refl)
-    (looks-behind g.B.Board _ ended.Done old mid new
+    (unwritten-behind g.B.Board _ ended.Done old mid new
     (no_fault c.open_sealed.result c.in-Ok.store ended.BoardFault c.in-Ok.is) c.open_sealed.ensures.opens
     (g.met.B.Board.only_now mid) c.print_seal.ensures.store)
 
@@ -73,6 +73,6 @@ returns-in-Err-print_seal g c = λ contents.
       );
     })
     (λ word not. refl) (λ known word never. refl) (λ read good word. refl)
-    (looks-behind g.B.Board _ ended.BoardFault old mid new
+    (unwritten-behind g.B.Board _ ended.BoardFault old mid new
     (no_fault c.open_sealed.result c.in-Ok.store ended.BoardFault c.in-Ok.is) c.open_sealed.ensures.opens
     (g.met.B.Board.only_now mid) c.print_seal.ensures.store)

@@ -17,8 +17,10 @@ returns-then-is_sealed-clause-found c =
     let digest = c.args.digest.now in
     let text = c.args.text.now in
     let is : c.is_sealed.result ≡ true = search in
-    let same : pointwise nat_eq digest (sha256 text) ≡ true = ap (pointwise nat_eq digest) (sym c.digest-own.ensures) ∙ sym c.is_sealed.ensures ∙ is in
-    IfOk-weaker c.tariff_of.result (λ checked. tariff_in text ≡ Ok (tree_of checked)) (λ checked. sealed_tariff digest text ≡ Ok (tree_of checked))
+    let same : pointwise nat_eq digest (sha256 text) ≡ true =
+    ap (pointwise nat_eq digest) (sym c.digest-own.ensures) ∙ sym c.is_sealed.ensures ∙ is in
+    IfOk-weaker c.tariff_of.result (λ checked. tariff_in text ≡ Ok (tree_of checked))
+    (λ checked. sealed_tariff digest text ≡ Ok (tree_of checked))
     (λ checked sound. tariff-accepted digest text c.requires same ∙ ap accepted sound)
     c.tariff_of.ensures.found
 
@@ -27,7 +29,8 @@ returns-then-is_sealed-clause-refused c = λ why e.
     let digest = c.args.digest.now in
     let text = c.args.text.now in
     let is : c.is_sealed.result ≡ true = search in
-    let same : pointwise nat_eq digest (sha256 text) ≡ true = ap (pointwise nat_eq digest) (sym c.digest-own.ensures) ∙ sym c.is_sealed.ensures ∙ is in
+    let same : pointwise nat_eq digest (sha256 text) ≡ true =
+    ap (pointwise nat_eq digest) (sym c.digest-own.ensures) ∙ sym c.is_sealed.ensures ∙ is in
     no_tables-made digest text ⊥ why (tariff-accepted digest text c.requires same) (c.tariff_of.ensures.refused why e)
 
 pub returns-clause-refused : goal.returns-clause-refused
@@ -35,6 +38,7 @@ returns-clause-refused c = λ why e.
     let digest = c.args.digest.now in
     let text = c.args.text.now in
     let is : c.is_sealed.result ≡ false = search in
-    let other : pointwise nat_eq digest (sha256 text) ≡ false = ap (pointwise nat_eq digest) (sym c.digest-own.ensures) ∙ sym c.is_sealed.ensures ∙ is in
+    let other : pointwise nat_eq digest (sha256 text) ≡ false =
+    ap (pointwise nat_eq digest) (sym c.digest-own.ensures) ∙ sym c.is_sealed.ensures ∙ is in
     subst (λ (w : Ended). AreNoTables digest text ⊥ w) (same_fault _ _ _ refl e)
     (rw c.digest-own.ensures (tariff-wrong digest text c.requires other))

@@ -10,7 +10,8 @@ use Rattle.commands.proofs.tariff.tariff_of_text.Goals as goal
 pub returns-in-Ok-check-clause-found : goal.returns-in-Ok-check-clause-found
 returns-in-Ok-check-clause-found c =
     let t = c.in-Ok.tariff in
-    sound_of c.args.text.now t None c.in-Ok.ensures.answer ((sound_tariffs_have_sound_parts-none (tree_of t)).1 c.in-Ok-check.ensures.sound.1) ∙ ap (λ (x : Tariff). Ok (tree_of x)) (sym c.in-Ok-check.ensures.sound.0)
+    sound_of c.args.text.now t None c.in-Ok.ensures.answer ((sound_tariffs_have_sound_parts-none (tree_of t)).1
+    c.in-Ok-check.ensures.sound.1) ∙ ap (λ (x : Tariff). Ok (tree_of x)) (sym c.in-Ok-check.ensures.sound.0)
 
 pub returns-in-Err-clause-refused : goal.returns-in-Err-clause-refused
 returns-in-Err-clause-refused c = λ why e.

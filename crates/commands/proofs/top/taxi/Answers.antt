@@ -10,14 +10,14 @@ use Rattle.commands.specs.declared.ending.Ended.TheVariants as ended
 use Rattle.commands.specs.declared.words.Row.{Row}
 use Rattle.commands.specs.declared.words.Row.TheVariants as rows
 use Rattle.commands.specs.Call.{IsCall, LeavesUnread}
-use Rattle.commands.specs.Carried.{ComesAs}
-use Rattle.commands.specs.Command.{OnlyLooks, called, command_of}
+use Rattle.commands.specs.Carried.{RowReachesLine}
+use Rattle.commands.specs.Command.{IsReadOnlyRow, called, command_of}
 use Rattle.commands.specs.Course.{Answered}
 use Rattle.commands.specs.Run.{run_command}
 use Rattle.commands.specs.Unwritten.{LeavesImage, WritesNothing}
 use Rattle.commands.proofs.Amid.{seals-finished, seals-settled}
 use Rattle.commands.proofs.Calls.{call_course, call_from, completes, nothing_written, rests_after}
-use Rattle.commands.proofs.Looking.{looks-finished}
+use Rattle.commands.proofs.ReadOnlyCalls.{unwritten-finished}
 use Rattle.commands.proofs.RunEnds.{run-finished}
 use Rattle.commands.proofs.Unwritten.{bytes-kept, bytes-then}
 use Rattle.commands.proofs.top.taxi.Goals as goal
@@ -28,16 +28,20 @@ is_seal row e = cc
 is_run : (row : Row) → Some row ≡ Some rows.Run → row ≡ rows.Run
 is_run row e = cc
 
-comes_as : {E D L : Type 0} {N : ℕ} (F : FileGhosts E) (B : Ghosts D N L) (row row' : Row) (files files' : E) (old new : D) (end : Ended) → row ≡ row'
-    → ComesAs F B row files files' old new end → ComesAs F B row' files files' old new end
-comes_as F B row row' files files' old new end e h = subst (λ (r : Row). ComesAs F B r files files' old new end) e h
+course_as : {E D L : Type 0} {N : ℕ} (F : FileGhosts E) (B : Ghosts D N L) (row row' : Row) (files files' : E)
+    (old new : D) (end : Ended) → row ≡ row'
+    → RowReachesLine F B row files files' old new end → RowReachesLine F B row' files files' old new end
+course_as F B row row' files files' old new end e h =
+    subst (λ (r : Row). RowReachesLine F B r files files' old new end) e h
 
 pub returns-in-Some-clause-call : goal.returns-in-Some-clause-call
 returns-in-Some-clause-call g c =
     subst (λ (o : Option Row). (command_of o).known g.F.Files.tells g.B.Board.tells_image
-    → IsCall g.F.Files g.B.Board (command_of o) c.args.files.now c.carry_out-ended.new.files c.args.board.now c.finish-in-Some.new.board c.finish-in-Some.result)
+    → IsCall g.F.Files g.B.Board (command_of o) c.args.files.now c.carry_out-ended.new.files c.args.board.now
+    c.finish-in-Some.new.board c.finish-in-Some.result)
     c.in-Some.ensures
-    (λ known. call_from g.F.Files g.B.Board c.args.files.now c.carry_out-ended.new.files c.args.board.now c.carry_out-ended.new.board c.finish-in-Some.new.board
+    (λ known. call_from g.F.Files g.B.Board c.args.files.now c.carry_out-ended.new.files c.args.board.now
+    c.carry_out-ended.new.board c.finish-in-Some.new.board
     c.carry_out-ended.result c.finish-in-Some.result (cause_carried c.carry_out-ended.ensures.carries)
     c.finish-in-Some.ensures.count c.finish-in-Some.ensures.ends
     (command_of (Some c.in-Some.row)) (c.carry_out-ended.ensures.carries.ends known)
@@ -46,7 +50,8 @@ returns-in-Some-clause-call g c =
 pub returns-in-None-clause-call : goal.returns-in-None-clause-call
 returns-in-None-clause-call g c =
     subst (λ (o : Option Row). (command_of o).known g.F.Files.tells g.B.Board.tells_image
-    → IsCall g.F.Files g.B.Board (command_of o) c.args.files.now c.args.files.now c.args.board.now c.finish.new.board c.finish.result)
+    → IsCall g.F.Files g.B.Board
+    (command_of o) c.args.files.now c.args.files.now c.args.board.now c.finish.new.board c.finish.result)
     c.in-None.ensures
     (λ known. record {
       course = Answered;
@@ -57,22 +62,27 @@ returns-in-None-clause-call g c =
 
 pub returns-in-None-clause-complete : goal.returns-in-None-clause-complete
 returns-in-None-clause-complete g c = λ known read calm.
-    completes g.F.Files g.B.Board (called (map string_bytes c.args.words.now)) c.args.files.now c.args.files.now c.args.board.now c.finish.new.board c.finish.result read calm
+    completes g.F.Files g.B.Board (called (map string_bytes c.args.words.now)) c.args.files.now c.args.files.now
+    c.args.board.now c.finish.new.board c.finish.result read calm
     (returns-in-None-clause-call g c known)
 
 pub returns-in-Some-clause-complete : goal.returns-in-Some-clause-complete
 returns-in-Some-clause-complete g c = λ known read calm.
-    completes g.F.Files g.B.Board (called (map string_bytes c.args.words.now)) c.args.files.now c.carry_out-ended.new.files c.args.board.now c.finish-in-Some.new.board
+    completes g.F.Files g.B.Board (called (map string_bytes c.args.words.now)) c.args.files.now
+    c.carry_out-ended.new.files c.args.board.now c.finish-in-Some.new.board
     c.finish-in-Some.result read calm (returns-in-Some-clause-call g c known)
 
 pub returns-in-Some-clause-unwritten : goal.returns-in-Some-clause-unwritten
 returns-in-Some-clause-unwritten g c =
-    subst (λ (o : Option Row). ¬ ((command_of o).writes c.finish-in-Some.result) → WritesNothing g.B.Board c.args.board.now c.finish-in-Some.new.board c.finish-in-Some.result)
+    subst (λ (o : Option Row). ¬ ((command_of o).writes c.finish-in-Some.result)
+    → WritesNothing g.B.Board c.args.board.now c.finish-in-Some.new.board c.finish-in-Some.result)
     c.in-Some.ensures
-    (nothing_written g.F.Files g.B.Board c.args.files.now c.carry_out-ended.new.files c.args.board.now c.carry_out-ended.new.board c.finish-in-Some.new.board
+    (nothing_written g.F.Files g.B.Board c.args.files.now c.carry_out-ended.new.files c.args.board.now
+    c.carry_out-ended.new.board c.finish-in-Some.new.board
     c.carry_out-ended.result c.finish-in-Some.result (cause_carried c.carry_out-ended.ensures.carries)
     c.finish-in-Some.ensures.count c.finish-in-Some.ensures.ends
-    (command_of (Some c.in-Some.row)) c.args.steps.now c.carry_out-ended.new.steps c.finish-in-Some.ensures.store c.carry_out-ended.ensures.carries)
+    (command_of (Some c.in-Some.row)) c.args.steps.now c.carry_out-ended.new.steps c.finish-in-Some.ensures.store
+    c.carry_out-ended.ensures.carries)
 
 pub returns-in-Some-clause-seals : goal.returns-in-Some-clause-seals
 returns-in-Some-clause-seals g c = λ e read tells.
@@ -80,15 +90,18 @@ returns-in-Some-clause-seals g c = λ e read tells.
     let old = c.args.board.now in
     let mid = c.carry_out-ended.new.board in
     let new = c.finish-in-Some.new.board in
-    let comes = comes_as g.F.Files g.B.Board c.in-Some.row rows.Seal c.args.files.now c.carry_out-ended.new.files old mid c.carry_out-ended.result
+    let comes = course_as g.F.Files g.B.Board c.in-Some.row rows.Seal c.args.files.now c.carry_out-ended.new.files old
+    mid c.carry_out-ended.result
     (is_seal c.in-Some.row (c.in-Some.ensures ∙ e)) c.carry_out-ended.ensures.comes read tells in
-    seals-finished g.B.Board _ old mid new c.carry_out-ended.result c.finish-in-Some.result g.B.Board.tells_text _ (printed mid) (printed new)
+    seals-finished g.B.Board _ old mid new c.carry_out-ended.result c.finish-in-Some.result g.B.Board.tells_text _
+    (printed mid) (printed new)
     comes.seals comes.rests c.finish-in-Some.ensures.store c.finish-in-Some.ensures.leaves
     c.finish-in-Some.ensures.silent c.finish-in-Some.ensures.ends
 
 pub returns-in-Some-clause-settled : goal.returns-in-Some-clause-settled
 returns-in-Some-clause-settled g c = λ is read tells still.
-    seals-settled g.B.Board (g.F.Files.rest c.args.files.now 1) (g.F.Files.rest c.args.files.now 2) c.args.board.now c.finish-in-Some.new.board c.finish-in-Some.result still
+    seals-settled g.B.Board (g.F.Files.rest c.args.files.now 1)
+    (g.F.Files.rest c.args.files.now 2) c.args.board.now c.finish-in-Some.new.board c.finish-in-Some.result still
     (returns-in-Some-clause-seals g c is read tells)
 
 pub returns-in-None-clause-settled : goal.returns-in-None-clause-settled
@@ -106,7 +119,8 @@ returns-in-Some-clause-runs g c = λ e read tells.
     let new = c.finish-in-Some.new.board in
     let end = c.carry_out-ended.result in
     let status = c.finish-in-Some.result in
-    let comes = comes_as g.F.Files g.B.Board c.in-Some.row rows.Run files files' old mid end (is_run c.in-Some.row (c.in-Some.ensures ∙ e)) c.carry_out-ended.ensures.comes read tells in
+    let comes = course_as g.F.Files g.B.Board c.in-Some.row rows.Run files files' old mid end
+    (is_run c.in-Some.row (c.in-Some.ensures ∙ e)) c.carry_out-ended.ensures.comes read tells in
     let unread : LeavesUnread run_command (g.F.Files.rest files) (g.F.Files.rest files') (g.B.Board.image old) =
     subst (λ (o : Option Row). (command_of o).known g.F.Files.tells g.B.Board.tells_image → LeavesUnread (command_of o)
     (g.F.Files.rest files) (g.F.Files.rest files') (g.B.Board.image old))
@@ -114,20 +128,24 @@ returns-in-Some-clause-runs g c = λ e read tells.
     let call = call_from g.F.Files g.B.Board files files' old mid new end status
     (cause_carried c.carry_out-ended.ensures.carries) c.finish-in-Some.ensures.count c.finish-in-Some.ensures.ends
     run_command comes.comes unread in
-    run-finished g.F.Files g.B.Board files files' old mid new end status comes c.finish-in-Some.ensures.store c.finish-in-Some.ensures.leaves c.finish-in-Some.ensures.silent
+    run-finished g.F.Files g.B.Board files files' old mid new end status comes c.finish-in-Some.ensures.store
+    c.finish-in-Some.ensures.leaves c.finish-in-Some.ensures.silent
     call (call_course g.F.Files g.B.Board files files' old mid new end status
     (cause_carried c.carry_out-ended.ensures.carries) c.finish-in-Some.ensures.count c.finish-in-Some.ensures.ends
     run_command comes.comes unread)
-    c.finish-in-Some.ensures.ends (λ bytes. bytes-then g.B.Board old mid new bytes (bytes-kept g.B.Board mid new c.finish-in-Some.ensures.store))
+    c.finish-in-Some.ensures.ends
+    (λ bytes. bytes-then g.B.Board old mid new bytes (bytes-kept g.B.Board mid new c.finish-in-Some.ensures.store))
 
 pub returns-in-None-clause-runs : goal.returns-in-None-clause-runs
 returns-in-None-clause-runs g c = λ e. let none = c.in-None.ensures in absurd cc
 
 pub returns-in-Some-clause-kept : goal.returns-in-Some-clause-kept
 returns-in-Some-clause-kept g c =
-    subst (λ (o : Option Row). ¬ ((command_of o).opens) → KeepsStore g.B.Board c.args.board.now c.finish-in-Some.new.board)
+    subst
+    (λ (o : Option Row). ¬ ((command_of o).opens) → KeepsStore g.B.Board c.args.board.now c.finish-in-Some.new.board)
     c.in-Some.ensures
-    (λ not. keeps_then g.B.Board c.args.board.now c.carry_out-ended.new.board c.finish-in-Some.new.board (c.carry_out-ended.ensures.carries.kept not) c.finish-in-Some.ensures.store)
+    (λ not. keeps_then g.B.Board c.args.board.now c.carry_out-ended.new.board c.finish-in-Some.new.board
+    (c.carry_out-ended.ensures.carries.kept not) c.finish-in-Some.ensures.store)
 
 pub returns-in-Some-clause-at_rest : goal.returns-in-Some-clause-at_rest
 returns-in-Some-clause-at_rest g c =
@@ -139,7 +157,8 @@ returns-in-Some-clause-at_rest g c =
     c.carry_out-ended.new.board c.finish-in-Some.new.board
     c.carry_out-ended.result c.finish-in-Some.result (cause_carried c.carry_out-ended.ensures.carries)
     c.finish-in-Some.ensures.count c.finish-in-Some.ensures.ends
-    (command_of (Some c.in-Some.row)) c.args.steps.now c.carry_out-ended.new.steps c.finish-in-Some.ensures.store c.carry_out-ended.ensures.carries)
+    (command_of (Some c.in-Some.row)) c.args.steps.now c.carry_out-ended.new.steps c.finish-in-Some.ensures.store
+    c.carry_out-ended.ensures.carries)
 
 pub returns-in-None-clause-at_rest : goal.returns-in-None-clause-at_rest
 returns-in-None-clause-at_rest g c =
@@ -147,17 +166,21 @@ returns-in-None-clause-at_rest g c =
 
 pub returns-in-Some-clause-looks : goal.returns-in-Some-clause-looks
 returns-in-Some-clause-looks g c =
-    subst (λ (o : Option Row). OnlyLooks o → g.B.Board.tells_image → LeavesImage g.B.Board (c.finish-in-Some.result ≡ 8) c.args.board.now c.finish-in-Some.new.board)
+    subst (λ (o : Option Row). IsReadOnlyRow o → g.B.Board.tells_image
+    → LeavesImage g.B.Board (c.finish-in-Some.result ≡ 8) c.args.board.now c.finish-in-Some.new.board)
     c.in-Some.ensures
-    (λ looks told. looks-finished g.B.Board c.args.board.now c.carry_out-ended.new.board c.finish-in-Some.new.board c.carry_out-ended.result c.finish-in-Some.result
-    _ _ _ _ (c.carry_out-ended.ensures.carries.looks looks told) (g.met.B.Board.only_now c.carry_out-ended.new.board) c.finish-in-Some.ensures.store c.finish-in-Some.ensures.silent
+    (λ looks told. unwritten-finished g.B.Board c.args.board.now c.carry_out-ended.new.board c.finish-in-Some.new.board
+    c.carry_out-ended.result c.finish-in-Some.result
+    _ _ _ _ (c.carry_out-ended.ensures.carries.looks looks told)
+    (g.met.B.Board.only_now c.carry_out-ended.new.board) c.finish-in-Some.ensures.store c.finish-in-Some.ensures.silent
     c.finish-in-Some.ensures.ends)
 
 pub returns-in-Some-clause-steps : goal.returns-in-Some-clause-steps
 returns-in-Some-clause-steps g c =
     let rest = g.F.Files.rest in
     let image = g.B.Board.image c.args.board.now in
-    subst (λ (o : Option Row). (command_of o).steps g.F.Files.tells g.B.Board.tells_image (rest c.args.files.now) (rest c.carry_out-ended.new.files) image c.args.steps.now c.finish-in-Some.new.steps)
+    subst (λ (o : Option Row). (command_of o).steps g.F.Files.tells g.B.Board.tells_image (rest c.args.files.now)
+    (rest c.carry_out-ended.new.files) image c.args.steps.now c.finish-in-Some.new.steps)
     c.in-Some.ensures
     (c.carry_out-ended.ensures.carries.steps c.finish-in-Some.new.steps c.finish-in-Some.ensures.steps)
 

@@ -8,7 +8,8 @@ use Rattle.commands.proofs.totals.print_totals.Given as goal
 abbrev pub invariant-loop-place : goal.invariant-loop-place
 invariant-loop-place g l = record {
   printed : g.B.Board.tells_text → g.B.Board.printed l.board
-      ≡ (g.B.Board.printed l.fn.board ++ heading_text l.decimals l.durable) ++ flat_map (position_at l.decimals l.durable.totals.shares) (range_with_len 0 l.place);
+      ≡ (g.B.Board.printed l.fn.board ++ heading_text l.decimals l.durable)
+      ++ flat_map (position_at l.decimals l.durable.totals.shares) (range_with_len 0 l.place);
   faults : g.B.Board.faults l.board ≡ g.B.Board.faults l.fn.board;
   store : KeepsStore g.B.Board l.fn.board l.board;
   steps : l.steps ≤ l.fn.steps + 1 + l.place;

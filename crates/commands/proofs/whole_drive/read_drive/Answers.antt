@@ -15,8 +15,10 @@ returns-in-Err-clause-refused g c = λ told.
     let rest = g.F.Files.rest in
     let word = c.args.word in
     let s = c.loop-source.invariant.so_far in
-    no_room g.F.Files.tells c.loop-source.source (rest c.args.files.now word) (rest c.loop-source.files word) (rest c.next-stop.new.files word) c.loop-source.runs.items c.next-stop.new.runs.items s
-    c.next-stop.new.self c.next-stop.result (λ none. c.next-stop.ensures.more none s.given s.stands) (λ x is. stop_at c.next-stop.result _ x is c.next-stop.ensures.stops s.given s.stands) told
+    no_room g.F.Files.tells c.loop-source.source (rest c.args.files.now word) (rest c.loop-source.files word)
+    (rest c.next-stop.new.files word) c.loop-source.runs.items c.next-stop.new.runs.items s
+    c.next-stop.new.self c.next-stop.result (λ none. c.next-stop.ensures.more none s.given s.stands)
+    (λ x is. stop_at c.next-stop.result _ x is c.next-stop.ensures.stops s.given s.stands) told
 
 pub returns-in-None-clause-whole : goal.returns-in-None-clause-whole
 returns-in-None-clause-whole g c = λ told.
@@ -25,38 +27,47 @@ returns-in-None-clause-whole g c = λ told.
     let s = c.loop-source.invariant.so_far in
     let runs = c.loop-source.runs.items in
     let part = c.next-stop.new.runs.items in
-    let grown : c.extend_from_slice.new.self.items ≡ runs ++ part = c.in-Ok.ensures.items ∙ ap (λ (x : List Run). runs ++ x) c.as_slice.ensures.value in
+    let grown : c.extend_from_slice.new.self.items ≡ runs ++ part =
+    c.in-Ok.ensures.items ∙ ap (λ (x : List Run). runs ++ x) c.as_slice.ensures.value in
     subst (λ (x : List Run). IsWholeDrive (rest c.args.files.now word) (rest c.next-stop.new.files word) x) (sym grown)
-    (whole_drive g.F.Files.tells c.loop-source.source (rest c.args.files.now word) (rest c.loop-source.files word) (rest c.next-stop.new.files word) runs part s
+    (whole_drive g.F.Files.tells c.loop-source.source (rest c.args.files.now word) (rest c.loop-source.files word)
+    (rest c.next-stop.new.files word) runs part s
     c.in-Some.stop (sym c.fault_of.ensures ∙ c.in-None.is) (c.in-Some.ensures.stops s.given s.stands) told)
 
 pub returns-in-None-clause-range : goal.returns-in-None-clause-range
 returns-in-None-clause-range g c =
     let runs = c.loop-source.runs.items in
     let part = c.next-stop.new.runs.items in
-    let grown : c.extend_from_slice.new.self.items ≡ runs ++ part = c.in-Ok.ensures.items ∙ ap (λ (x : List Run). runs ++ x) c.as_slice.ensures.value in
-    subst (All IsRunInRange) (sym grown) (All-append IsRunInRange runs part c.loop-source.invariant.range c.next-stop.ensures.range)
+    let grown : c.extend_from_slice.new.self.items ≡ runs ++ part =
+    c.in-Ok.ensures.items ∙ ap (λ (x : List Run). runs ++ x) c.as_slice.ensures.value in
+    subst (All IsRunInRange) (sym grown)
+    (All-append IsRunInRange runs part c.loop-source.invariant.range c.next-stop.ensures.range)
 
 pub returns-in-None-clause-others : goal.returns-in-None-clause-others
-returns-in-None-clause-others g c = λ other differs. c.next-stop.ensures.others other differs ∙ c.loop-source.invariant.others other differs
+returns-in-None-clause-others g c =
+    λ other differs. c.next-stop.ensures.others other differs ∙ c.loop-source.invariant.others other differs
 
 pub returns-in-Some-fault_of-clause-refused : goal.returns-in-Some-fault_of-clause-refused
 returns-in-Some-fault_of-clause-refused g c = λ told.
     let rest = g.F.Files.rest in
     let word = c.args.word in
     let s = c.loop-source.invariant.so_far in
-    no_drive g.F.Files.tells c.loop-source.source (rest c.args.files.now word) (rest c.loop-source.files word) (rest c.next-stop.new.files word) c.loop-source.runs.items c.next-stop.new.runs.items s
-    c.in-Some.stop c.in-Some-fault_of.fault (sym c.fault_of.ensures ∙ c.in-Some-fault_of.is) (c.in-Some.ensures.stops s.given s.stands) told
+    no_drive g.F.Files.tells c.loop-source.source (rest c.args.files.now word) (rest c.loop-source.files word)
+    (rest c.next-stop.new.files word) c.loop-source.runs.items c.next-stop.new.runs.items s
+    c.in-Some.stop c.in-Some-fault_of.fault (sym c.fault_of.ensures ∙ c.in-Some-fault_of.is)
+    (c.in-Some.ensures.stops s.given s.stands) told
 
 pub returns-in-Some-fault_of-clause-others : goal.returns-in-Some-fault_of-clause-others
-returns-in-Some-fault_of-clause-others g c = λ other differs. c.next-stop.ensures.others other differs ∙ c.loop-source.invariant.others other differs
+returns-in-Some-fault_of-clause-others g c =
+    λ other differs. c.next-stop.ensures.others other differs ∙ c.loop-source.invariant.others other differs
 
 pub loop-source-smaller : goal.loop-source-smaller
 loop-source-smaller g c =
     let rest = g.F.Files.rest in
     let word = c.args.word in
     let s = c.loop-source.invariant.so_far in
-    smaller g.F.Files.tells c.loop-source.source (rest c.args.files.now word) (rest c.loop-source.files word) (rest c.next-stop.new.files word) c.loop-source.runs.items c.next-stop.new.runs.items s
+    smaller g.F.Files.tells c.loop-source.source (rest c.args.files.now word) (rest c.loop-source.files word)
+    (rest c.next-stop.new.files word) c.loop-source.runs.items c.next-stop.new.runs.items s
     c.next-stop.new.self (c.next-stop.ensures.more c.in_default.is s.given s.stands)
 
 pub loop-source-preserved : goal.loop-source-preserved
@@ -66,12 +77,16 @@ loop-source-preserved g c =
     let s = c.loop-source.invariant.so_far in
     let runs = c.loop-source.runs.items in
     let part = c.next-stop.new.runs.items in
-    let grown : c.extend_from_slice.new.self.items ≡ runs ++ part = c.in-Ok.ensures.items ∙ ap (λ (x : List Run). runs ++ x) c.as_slice.ensures.value in
+    let grown : c.extend_from_slice.new.self.items ≡ runs ++ part =
+    c.in-Ok.ensures.items ∙ ap (λ (x : List Run). runs ++ x) c.as_slice.ensures.value in
     record {
-      so_far = subst (λ (x : List Run). IsSoFar g.F.Files.tells c.next-stop.new.self (rest c.args.files.now word) (rest c.next-stop.new.files word) x) (sym grown)
-          (so_far_more g.F.Files.tells c.loop-source.source (rest c.args.files.now word) (rest c.loop-source.files word) (rest c.next-stop.new.files word) runs part s
+      so_far = subst (λ (x : List Run). IsSoFar g.F.Files.tells c.next-stop.new.self (rest c.args.files.now word)
+          (rest c.next-stop.new.files word) x) (sym grown)
+          (so_far_more g.F.Files.tells c.loop-source.source (rest c.args.files.now word) (rest c.loop-source.files word)
+          (rest c.next-stop.new.files word) runs part s
           c.next-stop.new.self (c.next-stop.ensures.more c.in_default.is s.given s.stands));
-      range = subst (All IsRunInRange) (sym grown) (All-append IsRunInRange runs part c.loop-source.invariant.range c.next-stop.ensures.range);
+      range = subst (All IsRunInRange) (sym grown)
+          (All-append IsRunInRange runs part c.loop-source.invariant.range c.next-stop.ensures.range);
       others = λ other differs. c.next-stop.ensures.others other differs ∙ c.loop-source.invariant.others other differs;
       counts = λ other. (c.next-stop.ensures.counts other).kept
           (not_true c.has_failed.result c.if-has_failed.false c.has_failed.ensures)

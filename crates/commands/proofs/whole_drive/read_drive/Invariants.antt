@@ -6,7 +6,8 @@ use Rattle.commands.proofs.whole_drive.read_drive.Given as goal
 -- so far the runs of bytes of the drive were kept
 abbrev pub invariant-loop-source : goal.invariant-loop-source
 invariant-loop-source g l = record {
-  so_far : IsSoFar g.F.Files.tells l.source (g.F.Files.rest l.fn.files l.word) (g.F.Files.rest l.files l.word) l.runs.items;
+  so_far : IsSoFar g.F.Files.tells l.source (g.F.Files.rest l.fn.files l.word)
+      (g.F.Files.rest l.files l.word) l.runs.items;
   range : All IsRunInRange l.runs.items;
   others : (other : ℕ) → other ≢ l.word → g.F.Files.rest l.files other ≡ g.F.Files.rest l.fn.files other;
   counts : (other : ℕ) → g.F.Files.faults l.files other ≡ g.F.Files.faults l.fn.files other;

@@ -2,7 +2,7 @@ use Rattle.std.proofs.Common.{◌≡◌, ◌∙◌, ◌++◌, ◌≤◌, ℕ, Li
 use Rattle.std.proofs.lemmas.List.{take_all}
 use Rattle.outside.proofs.Laws.{begins_whole, keeps_then, on_failed}
 use Rattle.seal_record.specs.declared.seal.Seal.{Seal}
-use Rattle.totals_record.specs.declared.durable.Durable.{Durable}
+use Rattle.totals_record.specs.declared.durable_state.Durable.{Durable}
 use Rattle.data_port.specs.declared.request.Request.{Request}
 use Rattle.data_port.specs.Serving.{replies}
 use Rattle.data_port.proofs.Causes.{steps_within}
@@ -13,42 +13,56 @@ pub loop-request-preserved : goal.loop-request-preserved
 loop-request-preserved g c =
     let printed = g.B.Board.printed in
     record {
-      printed = λ tells. printed_one c.args.durable.now c.args.seal.now (printed c.args.board.now) (printed c.loop-request.board) (printed c.print_reply.new.board) c.args.requests.now c.loop-request.request-index c.request-item.result
-          c.loop-request-test.true c.request-item.is (c.loop-request.invariant.printed tells) (c.in_ok-print_reply.ensures.whole tells);
+      printed = λ tells. printed_one c.args.durable.now c.args.seal.now (printed c.args.board.now)
+          (printed c.loop-request.board)
+          (printed c.print_reply.new.board) c.args.requests.now c.loop-request.request-index c.request-item.result
+          c.loop-request-test.true c.request-item.is (c.loop-request.invariant.printed tells)
+          (c.in_ok-print_reply.ensures.whole tells);
       faults = c.in_ok-print_reply.ensures.cause.kept refl ∙ c.loop-request.invariant.faults;
-      store = keeps_then g.B.Board c.args.board.now c.loop-request.board c.print_reply.new.board c.loop-request.invariant.store c.print_reply.ensures.store;
+      store = keeps_then g.B.Board c.args.board.now c.loop-request.board c.print_reply.new.board
+          c.loop-request.invariant.store c.print_reply.ensures.store;
       steps = omega (arith, c.loop-request.invariant.steps, c.print_reply.ensures.steps);
     }
 
 pub returns-in_err-print_reply-clause-begun : goal.returns-in_err-print_reply-clause-begun
 returns-in_err-print_reply-clause-begun g c = λ tells.
     let printed = g.B.Board.printed in
-    begun_one c.args.durable.now c.args.seal.now (printed c.args.board.now) (printed c.loop-request.board) (printed c.print_reply.new.board) c.args.requests.now c.loop-request.request-index c.request-item.result
-    c.loop-request-test.true c.request-item.is (c.loop-request.invariant.printed tells) (c.print_reply.ensures.begun tells)
+    begun_one c.args.durable.now c.args.seal.now (printed c.args.board.now) (printed c.loop-request.board)
+    (printed c.print_reply.new.board) c.args.requests.now c.loop-request.request-index c.request-item.result
+    c.loop-request-test.true c.request-item.is (c.loop-request.invariant.printed tells)
+    (c.print_reply.ensures.begun tells)
 
 -- at the end all were printed
-whole_at : (durable : Durable) (seal : Seal) (requests : List Request) (i : ℕ) (a b : List ℕ) → length requests ≤ i → b ≡ a ++ replies durable seal (take i requests) → b ≡ a ++ replies durable seal requests
-whole_at durable seal requests i a b all h = h ∙ ap (λ (rs : List Request). a ++ replies durable seal rs) (take_all i requests all)
+whole_at : (durable : Durable) (seal : Seal) (requests : List Request) (i : ℕ) (a b : List ℕ) → length requests ≤ i
+    → b ≡ a ++ replies durable seal (take i requests) → b ≡ a ++ replies durable seal requests
+whole_at durable seal requests i a b all h =
+    h ∙ ap (λ (rs : List Request). a ++ replies durable seal rs) (take_all i requests all)
 
 pub returns-clause-whole : goal.returns-clause-whole
 returns-clause-whole g c = λ tells.
     let all : length c.args.requests.now ≤ c.loop-request.request-index = omega (arith, c.loop-request-test.false) in
-    whole_at c.args.durable.now c.args.seal.now c.args.requests.now c.loop-request.request-index (g.B.Board.printed c.args.board.now) (g.B.Board.printed c.loop-request.board) all (c.loop-request.invariant.printed tells)
+    whole_at c.args.durable.now c.args.seal.now c.args.requests.now c.loop-request.request-index
+    (g.B.Board.printed c.args.board.now) (g.B.Board.printed c.loop-request.board) all
+    (c.loop-request.invariant.printed tells)
 
 pub returns-clause-begun : goal.returns-clause-begun
 returns-clause-begun g c = λ tells.
     let all : length c.args.requests.now ≤ c.loop-request.request-index = omega (arith, c.loop-request-test.false) in
-    begins_whole (g.B.Board.printed c.args.board.now) (g.B.Board.printed c.loop-request.board) (replies c.args.durable.now c.args.seal.now c.args.requests.now)
-    (whole_at c.args.durable.now c.args.seal.now c.args.requests.now c.loop-request.request-index (g.B.Board.printed c.args.board.now) (g.B.Board.printed c.loop-request.board) all (c.loop-request.invariant.printed tells))
+    begins_whole (g.B.Board.printed c.args.board.now) (g.B.Board.printed c.loop-request.board)
+    (replies c.args.durable.now c.args.seal.now c.args.requests.now)
+    (whole_at c.args.durable.now c.args.seal.now c.args.requests.now c.loop-request.request-index (g.B.Board.printed
+    c.args.board.now) (g.B.Board.printed c.loop-request.board) all (c.loop-request.invariant.printed tells))
 
 pub returns-in_err-print_reply-clause-whole : goal.returns-in_err-print_reply-clause-whole
 returns-in_err-print_reply-clause-whole g c tells = on_failed c.from_residual.result _ c.from_residual.ensures.0
 
 pub returns-in_err-print_reply-clause-steps : goal.returns-in_err-print_reply-clause-steps
-returns-in_err-print_reply-clause-steps g c = steps_within _ _ _ c.loop-request.request-index _ c.loop-request-test.true c.loop-request.invariant.steps c.print_reply.ensures.steps
+returns-in_err-print_reply-clause-steps g c = steps_within _ _ _ c.loop-request.request-index _ c.loop-request-test.true
+    c.loop-request.invariant.steps c.print_reply.ensures.steps
 
 pub returns-in_err-print_reply-clause-store : goal.returns-in_err-print_reply-clause-store
-returns-in_err-print_reply-clause-store g c = keeps_then g.B.Board c.args.board.now c.loop-request.board c.print_reply.new.board c.loop-request.invariant.store c.print_reply.ensures.store
+returns-in_err-print_reply-clause-store g c = keeps_then g.B.Board c.args.board.now c.loop-request.board
+    c.print_reply.new.board c.loop-request.invariant.store c.print_reply.ensures.store
 
 pub returns-clause-store : goal.returns-clause-store
 returns-clause-store g c = c.loop-request.invariant.store

@@ -1,60 +1,105 @@
 use Rattle.std.proofs.Common.{◌≡◌, ◌∙◌, refl, length, sym, rules}
 use Rattle.outside.proofs.Laws.{keeps_none, keeps_then, rises_by, rises_not, rose_behind}
 use Rattle.data_port.proofs.Causes.{left_if_not}
-use Rattle.data_port.proofs.Pieces.{bad_is_no_fault, breaks_by, end_is_no_fault, ok_of, piece_bad, piece_bad_shown, piece_begun, piece_few, piece_more, piece_opens, piece_requests, piece_sense, piece_steps, piece_whole, piece_whole_steps, starts_by, takes_by}
+use Rattle.data_port.proofs.Pieces.{bad_is_no_fault, breaks_by, end_is_no_fault, ok_of, piece_bad, piece_bad_shown}
+use Rattle.data_port.proofs.Pieces.{piece_begun, piece_few, piece_more, piece_opens, piece_requests, piece_sense}
+use Rattle.data_port.proofs.Pieces.{piece_steps, piece_whole, piece_whole_steps, starts_by, takes_by}
 use Rattle.data_port.proofs.serving.serve_piece.Goals as goal
 
 pub returns-then-is_err-clause-serves : goal.returns-then-is_err-clause-serves
 returns-then-is_err-clause-serves g c =
-    piece_begun (g.B.Board.tells_text) c.args.durable.now c.args.seal.now c.args.port.now c.loop-rest.port c.args.piece.now c.loop-rest.rest.now (g.B.Board.printed c.args.board.now) (g.B.Board.printed c.loop-rest.board) c.args.steps.now c.loop-rest.steps c.loop-rest.invariant.so_far
-    c.as_slice.result.now (g.B.Board.printed c.print_replies.new.board) (starts_by c.loop-rest.port c.loop-rest.rest.now c.new-requests.result.items c.feed-fed.new.out.items c.as_slice.result.now c.feed-fed.result c.new-requests.ensures c.as_slice.ensures.value (piece_sense (g.B.Board.tells_text) c.args.durable.now c.args.seal.now c.args.port.now c.loop-rest.port c.args.piece.now c.loop-rest.rest.now (g.B.Board.printed c.args.board.now) (g.B.Board.printed c.loop-rest.board) c.args.steps.now c.loop-rest.steps c.loop-rest.invariant.so_far c.requires.sense) c.loop-rest.invariant.so_far.going c.feed-fed.ensures.requests c.feed-fed.ensures.bad)
+    piece_begun (g.B.Board.tells_text) c.args.durable.now c.args.seal.now c.args.port.now c.loop-rest.port
+    c.args.piece.now c.loop-rest.rest.now (g.B.Board.printed c.args.board.now)
+    (g.B.Board.printed c.loop-rest.board) c.args.steps.now c.loop-rest.steps c.loop-rest.invariant.so_far
+    c.as_slice.result.now (g.B.Board.printed c.print_replies.new.board) (starts_by c.loop-rest.port c.loop-rest.rest.now
+    c.new-requests.result.items c.feed-fed.new.out.items c.as_slice.result.now c.feed-fed.result c.new-requests.ensures
+    c.as_slice.ensures.value (piece_sense (g.B.Board.tells_text) c.args.durable.now c.args.seal.now c.args.port.now
+    c.loop-rest.port c.args.piece.now c.loop-rest.rest.now (g.B.Board.printed c.args.board.now)
+    (g.B.Board.printed c.loop-rest.board) c.args.steps.now c.loop-rest.steps c.loop-rest.invariant.so_far
+    c.requires.sense) c.loop-rest.invariant.so_far.going c.feed-fed.ensures.requests c.feed-fed.ensures.bad)
     c.print_replies.ensures.begun
 
 pub returns-then-is_err-clause-steps : goal.returns-then-is_err-clause-steps
 returns-then-is_err-clause-steps g c =
-    piece_steps (g.B.Board.tells_text) c.args.durable.now c.args.seal.now c.args.port.now c.loop-rest.port c.args.piece.now c.loop-rest.rest.now (g.B.Board.printed c.args.board.now) (g.B.Board.printed c.loop-rest.board) c.args.steps.now c.loop-rest.steps c.loop-rest.invariant.so_far
-    c.as_slice.result.now c.print_replies.new.steps (starts_by c.loop-rest.port c.loop-rest.rest.now c.new-requests.result.items c.feed-fed.new.out.items c.as_slice.result.now c.feed-fed.result c.new-requests.ensures c.as_slice.ensures.value (piece_sense (g.B.Board.tells_text) c.args.durable.now c.args.seal.now c.args.port.now c.loop-rest.port c.args.piece.now c.loop-rest.rest.now (g.B.Board.printed c.args.board.now) (g.B.Board.printed c.loop-rest.board) c.args.steps.now c.loop-rest.steps c.loop-rest.invariant.so_far c.requires.sense) c.loop-rest.invariant.so_far.going c.feed-fed.ensures.requests c.feed-fed.ensures.bad)
+    piece_steps (g.B.Board.tells_text) c.args.durable.now c.args.seal.now c.args.port.now c.loop-rest.port
+    c.args.piece.now c.loop-rest.rest.now (g.B.Board.printed c.args.board.now)
+    (g.B.Board.printed c.loop-rest.board) c.args.steps.now c.loop-rest.steps c.loop-rest.invariant.so_far
+    c.as_slice.result.now c.print_replies.new.steps (starts_by c.loop-rest.port c.loop-rest.rest.now
+    c.new-requests.result.items c.feed-fed.new.out.items c.as_slice.result.now c.feed-fed.result c.new-requests.ensures
+    c.as_slice.ensures.value (piece_sense (g.B.Board.tells_text) c.args.durable.now c.args.seal.now c.args.port.now
+    c.loop-rest.port c.args.piece.now c.loop-rest.rest.now (g.B.Board.printed c.args.board.now)
+    (g.B.Board.printed c.loop-rest.board) c.args.steps.now c.loop-rest.steps c.loop-rest.invariant.so_far
+    c.requires.sense) c.loop-rest.invariant.so_far.going c.feed-fed.ensures.requests c.feed-fed.ensures.bad)
     c.print_replies.ensures.steps
 
 pub returns-in-Err-clause-serves : goal.returns-in-Err-clause-serves
 returns-in-Err-clause-serves g c = (
-  piece_bad (g.B.Board.tells_text) c.args.durable.now c.args.seal.now c.args.port.now c.loop-rest.port c.args.piece.now c.loop-rest.rest.now (g.B.Board.printed c.args.board.now) (g.B.Board.printed c.loop-rest.board) c.args.steps.now c.loop-rest.steps c.loop-rest.invariant.so_far
-      c.as_slice.result.now c.in-Err.bad.place c.requires.sense (breaks_by c.loop-rest.port c.loop-rest.rest.now c.new-requests.result.items c.feed-fed.new.out.items c.as_slice.result.now c.in-Err.bad.place c.new-requests.ensures c.as_slice.ensures.value c.in-Err.ensures.bad),
-  piece_bad_shown (g.B.Board.tells_text) c.args.durable.now c.args.seal.now c.args.port.now c.loop-rest.port c.args.piece.now c.loop-rest.rest.now (g.B.Board.printed c.args.board.now) (g.B.Board.printed c.loop-rest.board) c.args.steps.now c.loop-rest.steps c.loop-rest.invariant.so_far
-      c.as_slice.result.now (g.B.Board.printed c.print_replies.new.board) c.in-Err.bad.place c.requires.sense (breaks_by c.loop-rest.port c.loop-rest.rest.now c.new-requests.result.items c.feed-fed.new.out.items c.as_slice.result.now c.in-Err.bad.place c.new-requests.ensures c.as_slice.ensures.value c.in-Err.ensures.bad)
-      (λ t. ok_of c.print_replies.result _ (sym c.is_err.ensures.value ∙ c.if-is_err.false) (c.print_replies.ensures.whole t)),
+  piece_bad (g.B.Board.tells_text) c.args.durable.now c.args.seal.now c.args.port.now c.loop-rest.port c.args.piece.now
+      c.loop-rest.rest.now (g.B.Board.printed c.args.board.now)
+      (g.B.Board.printed c.loop-rest.board) c.args.steps.now c.loop-rest.steps c.loop-rest.invariant.so_far
+      c.as_slice.result.now c.in-Err.bad.place c.requires.sense
+      (breaks_by c.loop-rest.port c.loop-rest.rest.now c.new-requests.result.items c.feed-fed.new.out.items
+      c.as_slice.result.now c.in-Err.bad.place c.new-requests.ensures c.as_slice.ensures.value c.in-Err.ensures.bad),
+  piece_bad_shown (g.B.Board.tells_text) c.args.durable.now c.args.seal.now c.args.port.now c.loop-rest.port
+      c.args.piece.now c.loop-rest.rest.now (g.B.Board.printed c.args.board.now)
+      (g.B.Board.printed c.loop-rest.board) c.args.steps.now c.loop-rest.steps c.loop-rest.invariant.so_far
+      c.as_slice.result.now (g.B.Board.printed c.print_replies.new.board) c.in-Err.bad.place c.requires.sense
+      (breaks_by c.loop-rest.port c.loop-rest.rest.now c.new-requests.result.items c.feed-fed.new.out.items
+      c.as_slice.result.now c.in-Err.bad.place c.new-requests.ensures c.as_slice.ensures.value c.in-Err.ensures.bad)
+      (λ t. ok_of c.print_replies.result _ (sym c.is_err.ensures.value ∙ c.if-is_err.false)
+      (c.print_replies.ensures.whole t)),
 )
 
 pub returns-in-Err-clause-steps : goal.returns-in-Err-clause-steps
 returns-in-Err-clause-steps g c =
-    piece_steps (g.B.Board.tells_text) c.args.durable.now c.args.seal.now c.args.port.now c.loop-rest.port c.args.piece.now c.loop-rest.rest.now (g.B.Board.printed c.args.board.now) (g.B.Board.printed c.loop-rest.board) c.args.steps.now c.loop-rest.steps c.loop-rest.invariant.so_far
-    c.as_slice.result.now c.print_replies.new.steps (starts_by c.loop-rest.port c.loop-rest.rest.now c.new-requests.result.items c.feed-fed.new.out.items c.as_slice.result.now c.feed-fed.result c.new-requests.ensures c.as_slice.ensures.value (piece_sense (g.B.Board.tells_text) c.args.durable.now c.args.seal.now c.args.port.now c.loop-rest.port c.args.piece.now c.loop-rest.rest.now (g.B.Board.printed c.args.board.now) (g.B.Board.printed c.loop-rest.board) c.args.steps.now c.loop-rest.steps c.loop-rest.invariant.so_far c.requires.sense) c.loop-rest.invariant.so_far.going c.feed-fed.ensures.requests c.feed-fed.ensures.bad)
+    piece_steps (g.B.Board.tells_text) c.args.durable.now c.args.seal.now c.args.port.now c.loop-rest.port
+    c.args.piece.now c.loop-rest.rest.now (g.B.Board.printed c.args.board.now)
+    (g.B.Board.printed c.loop-rest.board) c.args.steps.now c.loop-rest.steps c.loop-rest.invariant.so_far
+    c.as_slice.result.now c.print_replies.new.steps (starts_by c.loop-rest.port c.loop-rest.rest.now
+    c.new-requests.result.items c.feed-fed.new.out.items c.as_slice.result.now c.feed-fed.result c.new-requests.ensures
+    c.as_slice.ensures.value (piece_sense (g.B.Board.tells_text) c.args.durable.now c.args.seal.now c.args.port.now
+    c.loop-rest.port c.args.piece.now c.loop-rest.rest.now (g.B.Board.printed c.args.board.now)
+    (g.B.Board.printed c.loop-rest.board) c.args.steps.now c.loop-rest.steps c.loop-rest.invariant.so_far
+    c.requires.sense) c.loop-rest.invariant.so_far.going c.feed-fed.ensures.requests c.feed-fed.ensures.bad)
     c.print_replies.ensures.steps
 
 pub loop-rest-preserved : goal.loop-rest-preserved
 loop-rest-preserved g c = record {
-  so_far = piece_more (g.B.Board.tells_text) c.args.durable.now c.args.seal.now c.args.port.now c.loop-rest.port c.args.piece.now c.loop-rest.rest.now (g.B.Board.printed c.args.board.now) (g.B.Board.printed c.loop-rest.board) c.args.steps.now c.loop-rest.steps c.loop-rest.invariant.so_far
-      c.feed-fed.new.self c.behind-left.result.now (g.B.Board.printed c.print_replies.new.board) c.as_slice.result.now c.print_replies.new.steps c.in-Ok.count c.requires.sense
-      c.in-Ok.ensures.within c.behind-left.ensures c.in-Ok.ensures.taken (takes_by c.loop-rest.port c.loop-rest.rest.now c.new-requests.result.items c.feed-fed.new.out.items c.as_slice.result.now c.in-Ok.count c.new-requests.ensures c.as_slice.ensures.value c.in-Ok.ensures.requests)
-      c.in-Ok.ensures.stands.2 c.in-Ok.ensures.count (λ t. ok_of c.print_replies.result _ (sym c.is_err.ensures.value ∙ c.if-is_err.false) (c.print_replies.ensures.whole t)) c.print_replies.ensures.steps;
+  so_far = piece_more (g.B.Board.tells_text) c.args.durable.now c.args.seal.now c.args.port.now c.loop-rest.port
+      c.args.piece.now c.loop-rest.rest.now (g.B.Board.printed c.args.board.now)
+      (g.B.Board.printed c.loop-rest.board) c.args.steps.now c.loop-rest.steps c.loop-rest.invariant.so_far
+      c.feed-fed.new.self c.behind-left.result.now (g.B.Board.printed c.print_replies.new.board) c.as_slice.result.now
+      c.print_replies.new.steps c.in-Ok.count c.requires.sense
+      c.in-Ok.ensures.within c.behind-left.ensures c.in-Ok.ensures.taken
+      (takes_by c.loop-rest.port c.loop-rest.rest.now c.new-requests.result.items c.feed-fed.new.out.items
+      c.as_slice.result.now c.in-Ok.count c.new-requests.ensures c.as_slice.ensures.value c.in-Ok.ensures.requests)
+      c.in-Ok.ensures.stands.2 c.in-Ok.ensures.count (λ t. ok_of c.print_replies.result _
+      (sym c.is_err.ensures.value ∙ c.if-is_err.false) (c.print_replies.ensures.whole t)) c.print_replies.ensures.steps;
   faults = left_if_not c.print_replies.result (sym c.is_err.ensures.value ∙ c.if-is_err.false)
       c.print_replies.ensures.cause ∙ c.loop-rest.invariant.faults;
-  store = keeps_then g.B.Board c.args.board.now c.loop-rest.board c.print_replies.new.board c.loop-rest.invariant.store c.print_replies.ensures.store;
+  store = keeps_then g.B.Board c.args.board.now c.loop-rest.board c.print_replies.new.board c.loop-rest.invariant.store
+      c.print_replies.ensures.store;
 }
 
 pub loop-rest-init : goal.loop-rest-init
 loop-rest-init g c =
     record {
-      so_far = piece_opens g.B.Board.tells_text c.args.durable.now c.args.seal.now c.args.port.now c.args.piece.now (g.B.Board.printed c.args.board.now) c.args.steps.now c.requires.going;
+      so_far = piece_opens g.B.Board.tells_text c.args.durable.now c.args.seal.now c.args.port.now c.args.piece.now
+          (g.B.Board.printed c.args.board.now) c.args.steps.now c.requires.going;
       faults = refl;
       store = keeps_none g.B.Board c.args.board.now;
     }
 
 pub feed-fed-requires : goal.feed-fed-requires
-feed-fed-requires g c = record { few = piece_few g.B.Board.tells_text c.args.durable.now c.args.seal.now c.args.port.now c.loop-rest.port c.args.piece.now c.loop-rest.rest.now (g.B.Board.printed c.args.board.now) (g.B.Board.printed c.loop-rest.board) c.args.steps.now c.loop-rest.steps c.loop-rest.invariant.so_far c.requires.few }
+feed-fed-requires g c = record {
+  few = piece_few g.B.Board.tells_text c.args.durable.now c.args.seal.now c.args.port.now c.loop-rest.port
+      c.args.piece.now c.loop-rest.rest.now (g.B.Board.printed c.args.board.now) (g.B.Board.printed c.loop-rest.board)
+      c.args.steps.now c.loop-rest.steps c.loop-rest.invariant.so_far c.requires.few;
+}
 
 pub print_replies-requires-clause-requests : goal.print_replies-requires-clause-requests
-print_replies-requires-clause-requests g c = piece_requests c.new-requests.result.items c.feed-fed.new.out.items c.as_slice.result.now c.new-requests.ensures c.as_slice.ensures.value c.feed-fed.ensures.range
+print_replies-requires-clause-requests g c = piece_requests c.new-requests.result.items c.feed-fed.new.out.items
+    c.as_slice.result.now c.new-requests.ensures c.as_slice.ensures.value c.feed-fed.ensures.range
 
 pub print_replies-requires-clause-durable : goal.print_replies-requires-clause-durable
 print_replies-requires-clause-durable g c = c.requires.durable
@@ -66,10 +111,12 @@ pub behind-left-requires : goal.behind-left-requires
 behind-left-requires g c = c.in-Ok.ensures.within
 
 pub returns-then-is_err-clause-store : goal.returns-then-is_err-clause-store
-returns-then-is_err-clause-store g c = keeps_then g.B.Board c.args.board.now c.loop-rest.board c.print_replies.new.board c.loop-rest.invariant.store c.print_replies.ensures.store
+returns-then-is_err-clause-store g c = keeps_then g.B.Board c.args.board.now c.loop-rest.board c.print_replies.new.board
+    c.loop-rest.invariant.store c.print_replies.ensures.store
 
 pub returns-in-Err-clause-store : goal.returns-in-Err-clause-store
-returns-in-Err-clause-store g c = keeps_then g.B.Board c.args.board.now c.loop-rest.board c.print_replies.new.board c.loop-rest.invariant.store c.print_replies.ensures.store
+returns-in-Err-clause-store g c = keeps_then g.B.Board c.args.board.now c.loop-rest.board c.print_replies.new.board
+    c.loop-rest.invariant.store c.print_replies.ensures.store
 
 pub returns-clause-store : goal.returns-clause-store
 returns-clause-store g c = c.loop-rest.invariant.store
@@ -77,12 +124,16 @@ returns-clause-store g c = c.loop-rest.invariant.store
 pub returns-clause-serves : goal.returns-clause-serves
 returns-clause-serves g c =
     let none : length c.loop-rest.rest.now ≡ 0 = search rules in
-    piece_whole g.B.Board.tells_text c.args.durable.now c.args.seal.now c.args.port.now c.loop-rest.port c.args.piece.now c.loop-rest.rest.now (g.B.Board.printed c.args.board.now) (g.B.Board.printed c.loop-rest.board) c.args.steps.now c.loop-rest.steps c.loop-rest.invariant.so_far none
+    piece_whole g.B.Board.tells_text c.args.durable.now c.args.seal.now c.args.port.now c.loop-rest.port
+    c.args.piece.now c.loop-rest.rest.now (g.B.Board.printed c.args.board.now)
+    (g.B.Board.printed c.loop-rest.board) c.args.steps.now c.loop-rest.steps c.loop-rest.invariant.so_far none
 
 pub returns-clause-steps : goal.returns-clause-steps
 returns-clause-steps g c =
     let none : length c.loop-rest.rest.now ≡ 0 = search rules in
-    piece_whole_steps g.B.Board.tells_text c.args.durable.now c.args.seal.now c.args.port.now c.loop-rest.port c.args.piece.now c.loop-rest.rest.now (g.B.Board.printed c.args.board.now) (g.B.Board.printed c.loop-rest.board) c.args.steps.now c.loop-rest.steps c.loop-rest.invariant.so_far none
+    piece_whole_steps g.B.Board.tells_text c.args.durable.now c.args.seal.now c.args.port.now c.loop-rest.port
+    c.args.piece.now c.loop-rest.rest.now (g.B.Board.printed c.args.board.now)
+    (g.B.Board.printed c.loop-rest.board) c.args.steps.now c.loop-rest.steps c.loop-rest.invariant.so_far none
 
 pub returns-then-is_err-clause-board_fault : goal.returns-then-is_err-clause-board_fault
 returns-then-is_err-clause-board_fault g c = rises_by refl

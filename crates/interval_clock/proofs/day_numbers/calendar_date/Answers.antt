@@ -17,7 +17,8 @@ returns-clause-date c =
     let month : unsigned_abs (to_z w8 (of_z w8 c.month.result)) ≡ d.month = omega (arith, signed_arith) in
     let date : unsigned_abs (to_z w8 (of_z w8 c.day.result)) ≡ d.day = omega (arith, signed_arith) in
     let year = pos-unsigned_abs (to_z w16 (of_z w16 c.year.result)) (omega (arith, signed_arith)) in
-    rw (month, date) (epoch_day_is_date d (unsigned_abs (to_z w16 (of_z w16 c.year.result))) (omega (arith, signed_arith)))
+    rw (month, date)
+    (epoch_day_is_date d (unsigned_abs (to_z w16 (of_z w16 c.year.result))) (omega (arith, signed_arith)))
 
 pub returns-clause-year : goal.returns-clause-year
 returns-clause-year c =

@@ -8,7 +8,8 @@ use Rattle.interval_clock.proofs.day_numbers.date_of_day.Goals as goal
 pub returns-clause-value : goal.returns-clause-value
 returns-clause-value c =
     let day : epoch_day c.date_of.result ≡ pos c.args.day = c.date_of.ensures ∙ to_z_pos w32 c.args.day (omega arith) in
-    IsDateOf-only (pos c.args.day) c.calendar_date.result (date_after c.args.day) (rw day at c.calendar_date.ensures.date) (IsDateOf-date_after c.args.day)
+    IsDateOf-only (pos c.args.day) c.calendar_date.result (date_after c.args.day)
+    (rw day at c.calendar_date.ensures.date) (IsDateOf-date_after c.args.day)
 
 pub returns-clause-date : goal.returns-clause-date
 returns-clause-date c =

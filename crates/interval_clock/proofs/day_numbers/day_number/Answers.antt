@@ -37,4 +37,5 @@ returns-in-Ok-clause-date c =
     let date_is = h.2 ∙ to_z_pos w8 c.args.date (omega arith) in
     let month : d.month ≡ c.args.month = cc in
     let date : d.day ≡ c.args.date = cc in
-    date_there d (pos c.days_since_1970.result) c.args.year c.args.month c.args.date c.days_since_1970.ensures year month date
+    date_there d
+    (pos c.days_since_1970.result) c.args.year c.args.month c.args.date c.days_since_1970.ensures year month date

@@ -12,7 +12,8 @@ overflow_cast-result c =
     let range = epoch_day_range c.args.day in
     let n = unsigned_abs (epoch_day c.args.day) in
     let day : epoch_day c.args.day ≡ pos n = sym (pos-unsigned_abs (epoch_day c.args.day) c.requires) in
-    let hours = whole_hours n (epoch_day c.args.day) (epoch_day c.date.result) _ c.as_hours.result day start c.duration_since.ensures c.as_hours.ensures in
+    let hours = whole_hours n (epoch_day c.args.day)
+    (epoch_day c.date.result) _ c.as_hours.result day start c.duration_since.ensures c.as_hours.ensures in
     let days = days_of_hours n in
     rw hours (omega (arith, signed_arith))
 
@@ -22,6 +23,7 @@ returns c =
     let range = epoch_day_range c.args.day in
     let n = unsigned_abs (epoch_day c.args.day) in
     let day : epoch_day c.args.day ≡ pos n = sym (pos-unsigned_abs (epoch_day c.args.day) c.requires) in
-    let hours = whole_hours n (epoch_day c.args.day) (epoch_day c.date.result) _ c.as_hours.result day start c.duration_since.ensures c.as_hours.ensures in
+    let hours = whole_hours n (epoch_day c.args.day)
+    (epoch_day c.date.result) _ c.as_hours.result day start c.duration_since.ensures c.as_hours.ensures in
     let days = days_of_hours n in
     rw hours (omega (arith, signed_arith))

@@ -9,22 +9,29 @@ use Rattle.log_commands.proofs.appending.shut_gate.Goals as goal
 pub returns-then-not-is_open-clause-any_moment : goal.returns-then-not-is_open-clause-any_moment
 returns-then-not-is_open-clause-any_moment g c told records ready =
     leaves_none g.G.Board _ c.args.log.now (λ image text left.
-    still_leaves _ image _ c.args.last c.args.is_open records ready (g.met.G.Board.only_now c.args.log.now image text left).bytes)
+    still_leaves _ image _ c.args.last c.args.is_open records ready
+    (g.met.G.Board.only_now c.args.log.now image text left).bytes)
 
 pub returns-then-not-is_open-clause-shut : goal.returns-then-not-is_open-clause-shut
 returns-then-not-is_open-clause-shut g c told records ready =
     let closed : c.args.is_open ≡ false = search in
-    shut_already (g.G.Board.image c.args.log.now) (g.G.Board.image c.args.log.now) (g.G.Board.in_flight c.args.log.now) c.args.last records (g.G.Board.in_flight c.args.log.now)
-    (subst (λ (b : Bool). IsReady (g.G.Board.image c.args.log.now) (g.G.Board.in_flight c.args.log.now) c.args.last b records) closed ready) refl ready.still
+    shut_already (g.G.Board.image c.args.log.now) (g.G.Board.image c.args.log.now)
+    (g.G.Board.in_flight c.args.log.now) c.args.last records (g.G.Board.in_flight c.args.log.now)
+    (subst (λ (b : Bool). IsReady (g.G.Board.image c.args.log.now)
+    (g.G.Board.in_flight c.args.log.now) c.args.last b records) closed ready) refl ready.still
 
 pub returns-clause-any_moment : goal.returns-clause-any_moment
 returns-clause-any_moment g c told records ready =
     let opened : c.args.is_open ≡ true = search in
     let is : IsReady (g.G.Board.image c.args.log.now) (g.G.Board.in_flight c.args.log.now) c.args.last true records =
-    subst (λ (b : Bool). IsReady (g.G.Board.image c.args.log.now) (g.G.Board.in_flight c.args.log.now) c.args.last b records) opened ready in
+    subst (λ (b : Bool). IsReady (g.G.Board.image c.args.log.now)
+    (g.G.Board.in_flight c.args.log.now) c.args.last b records) opened ready in
     leaves_wider g.G.Board _ _ _ _ (λ image text left.
-    shut_leaves _ image _ c.args.last records is (same_place _ _ image _ _ 1 c.next_at.ensures.is left.bytes)) c.write_and_sync.ensures.any_moment
+    shut_leaves _ image _ c.args.last records is (same_place _ _ image _ _ 1 c.next_at.ensures.is left.bytes))
+    c.write_and_sync.ensures.any_moment
 
 pub returns-clause-shut : goal.returns-clause-shut
 returns-clause-shut g c told = on_ok_weaker c.write_and_sync.result (λ done records ready.
-    shut_ends _ _ _ c.args.last records c.args.is_open _ ready (same_place _ _ _ _ _ 1 c.next_at.ensures.is c.write_and_sync.ensures.beside.rest) (rw (sym c.next_at.ensures.is) done.0) done.1) (both _ _ c.write_and_sync.result (c.write_and_sync.ensures.written told) (c.write_and_sync.ensures.durable told))
+    shut_ends _ _ _ c.args.last records c.args.is_open _ ready (same_place _ _ _ _ _ 1 c.next_at.ensures.is
+    c.write_and_sync.ensures.beside.rest) (rw (sym c.next_at.ensures.is) done.0) done.1)
+    (both _ _ c.write_and_sync.result (c.write_and_sync.ensures.written told) (c.write_and_sync.ensures.durable told))

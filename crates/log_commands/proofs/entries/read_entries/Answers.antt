@@ -23,7 +23,8 @@ returns-in_err-entries-clause-bad g c =
     let p = err_from_is_err_and c.from_residual.result c.from_residual.ensures.1 in
     rw (p.1, p.2) (λ slot err told.
     let bad = c.in_err-entries.ensures.bad slot (err_same _ _ c.in_err-entries.field-0.0 (BadSlot slot) err) in
-    lowest_told _ _ slot c.loop-slot.slot c.loop-slot.entries bad.0 c.loop-slot-test.true c.loop-slot.invariant.image (bad.1 told) (c.loop-slot.invariant.entries told))
+    lowest_told _ _ slot c.loop-slot.slot c.loop-slot.entries bad.0 c.loop-slot-test.true c.loop-slot.invariant.image
+    (bad.1 told) (c.loop-slot.invariant.entries told))
 
 pub returns-in_err-entries-clause-cause : goal.returns-in_err-entries-clause-cause
 returns-in_err-entries-clause-cause g c =
@@ -36,10 +37,14 @@ pub loop-slot-preserved : goal.loop-slot-preserved
 loop-slot-preserved g c =
     record {
       size = length-set c.loop-slot.entries c.loop-slot.slot c.in_ok-entries.field-0 ∙ c.loop-slot.invariant.size;
-      entries = λ told slot small. entries_more (g.G.Board.image c.args.log.now) c.loop-slot.entries c.loop-slot.slot c.in_ok-entries.field-0 (omega (arith, c.loop-slot.invariant.size, c.loop-slot-test.true)) (c.loop-slot.invariant.entries told)
-          (subst (λ (i : List ℕ). IsEntry i c.loop-slot.slot c.in_ok-entries.field-0) c.loop-slot.invariant.image (c.in_ok-entries.ensures.entry told)) slot small;
+      entries = λ told slot small.
+          entries_more (g.G.Board.image c.args.log.now) c.loop-slot.entries c.loop-slot.slot c.in_ok-entries.field-0
+          (omega (arith, c.loop-slot.invariant.size, c.loop-slot-test.true)) (c.loop-slot.invariant.entries told)
+          (subst (λ (i : List ℕ). IsEntry i c.loop-slot.slot c.in_ok-entries.field-0) c.loop-slot.invariant.image
+          (c.in_ok-entries.ensures.entry told)) slot small;
       image = c.read_entry.ensures.image ∙ c.loop-slot.invariant.image;
-      reads = reads_then g.G.Board _ _ _ c.loop-slot.invariant.reads c.loop-slot.invariant.image c.read_entry.ensures.reads;
+      reads =
+          reads_then g.G.Board _ _ _ c.loop-slot.invariant.reads c.loop-slot.invariant.image c.read_entry.ensures.reads;
       faults = rises_ok _ _ c.read_entry.result c.in_ok-entries.field-0 DeviceFailed c.in_ok-entries.was
           c.read_entry.ensures.cause ∙ c.loop-slot.invariant.faults;
       steps = omega (arith, c.loop-slot.invariant.steps, c.read_entry.ensures.step);

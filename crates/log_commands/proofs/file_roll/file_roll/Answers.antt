@@ -11,7 +11,8 @@ loop-end-init g c = record {
   filing = record {
     receipts = [];
     filed = [];
-    to = files_none g.G.Board g.G.Board.tells_image c.args.log.now c.args.tail.now (λ told image text left. (g.met.G.Board.only_now c.args.log.now image text left).bytes);
+    to = files_none g.G.Board g.G.Board.tells_image c.args.log.now c.args.tail.now
+        (λ told image text left. (g.met.G.Board.only_now c.args.log.now image text left).bytes);
     read = λ told. c.new-roll.ensures.start (g.F.Files.rest c.args.files.now c.args.word);
     seen_is = refl;
     few = omega arith;
@@ -29,15 +30,21 @@ loop-end-init g c = record {
 
 pub returns-in-Err-clause-ok : goal.returns-in-Err-clause-ok
 returns-in-Err-clause-ok g c =
-    filing_over g.G.Board g.G.Board.tells_image g.F.Files.tells c.in-Err.end c.file_end.result c.args.log.now c.loop-end.log c.args.tail.now c.loop-end.tail
-    (g.F.Files.rest c.args.files.now c.args.word) c.loop-end.roll c.next.new.self (g.F.Files.rest c.loop-end.files c.args.word) (g.F.Files.rest c.next.new.files c.args.word) c.loop-end.seen c.args.steps.now c.loop-end.steps
-    c.loop-end.invariant.filing c.requires.none c.in-Err.ensures.over c.in-Err.ensures.end (c.file_end.ensures.whole, c.file_end.ensures.too_long, c.file_end.ensures.fault)
+    filing_over g.G.Board g.G.Board.tells_image g.F.Files.tells c.in-Err.end c.file_end.result c.args.log.now
+    c.loop-end.log c.args.tail.now c.loop-end.tail
+    (g.F.Files.rest c.args.files.now c.args.word) c.loop-end.roll c.next.new.self (g.F.Files.rest c.loop-end.files
+    c.args.word) (g.F.Files.rest c.next.new.files c.args.word) c.loop-end.seen c.args.steps.now c.loop-end.steps
+    c.loop-end.invariant.filing c.requires.none c.in-Err.ensures.over c.in-Err.ensures.end
+    (c.file_end.ensures.whole, c.file_end.ensures.too_long, c.file_end.ensures.fault)
 
 pub returns-in_err-file_one-in-Ok-clause-failed : goal.returns-in_err-file_one-in-Ok-clause-failed
 returns-in_err-file_one-in-Ok-clause-failed g c =
     let failed = c.in_err-file_one-in-Ok.ensures.failed in
-    err_says c.from_residual.result (filing_fails g.G.Board g.G.Board.tells_image g.F.Files.tells c.args.log.now c.loop-end.log c.file_one.new.log c.args.tail.now c.loop-end.tail
-    (g.F.Files.rest c.args.files.now c.args.word) c.loop-end.roll c.next.new.self (g.F.Files.rest c.loop-end.files c.args.word) (g.F.Files.rest c.next.new.files c.args.word) c.loop-end.seen c.args.steps.now c.loop-end.steps c.file_one.new.steps
+    err_says c.from_residual.result (filing_fails g.G.Board g.G.Board.tells_image g.F.Files.tells c.args.log.now
+    c.loop-end.log c.file_one.new.log c.args.tail.now c.loop-end.tail
+    (g.F.Files.rest c.args.files.now c.args.word) c.loop-end.roll c.next.new.self
+    (g.F.Files.rest c.loop-end.files c.args.word)
+    (g.F.Files.rest c.next.new.files c.args.word) c.loop-end.seen c.args.steps.now c.loop-end.steps c.file_one.new.steps
     c.in-Ok.receipt c.loop-end.invariant.filing c.in-Ok.ensures.found failed.0 failed.1 c.file_one.ensures.steps)
 
 pub returns-in_err-file_one-in-Ok-clause-cause : goal.returns-in_err-file_one-in-Ok-clause-cause
@@ -48,8 +55,11 @@ returns-in_err-file_one-in-Ok-clause-cause g c =
 pub returns-in-OtherTaxi-clause-ok : goal.returns-in-OtherTaxi-clause-ok
 returns-in-OtherTaxi-clause-ok g c =
     let other = c.in_ok-file_one-in-Ok.ensures.other (ap Ok c.in-OtherTaxi.is) in
-    filing_other_now g.G.Board g.G.Board.tells_image g.F.Files.tells c.args.log.now c.loop-end.log c.file_one.new.log c.args.tail.now c.loop-end.tail c.file_one.new.tail
-    (g.F.Files.rest c.args.files.now c.args.word) c.loop-end.roll c.next.new.self (g.F.Files.rest c.loop-end.files c.args.word) (g.F.Files.rest c.next.new.files c.args.word) c.loop-end.seen c.args.steps.now c.loop-end.steps c.file_one.new.steps
+    filing_other_now g.G.Board g.G.Board.tells_image g.F.Files.tells c.args.log.now c.loop-end.log c.file_one.new.log
+    c.args.tail.now c.loop-end.tail c.file_one.new.tail
+    (g.F.Files.rest c.args.files.now c.args.word) c.loop-end.roll c.next.new.self
+    (g.F.Files.rest c.loop-end.files c.args.word)
+    (g.F.Files.rest c.next.new.files c.args.word) c.loop-end.seen c.args.steps.now c.loop-end.steps c.file_one.new.steps
     c.in-Ok.receipt c.loop-end.invariant.filing c.in-Ok.ensures.found other.0 other.1 other.2 other.3
 
 pub returns-in-OtherTaxi-clause-cause : goal.returns-in-OtherTaxi-clause-cause
@@ -87,7 +97,8 @@ returns-in_err-file_one-in-Ok-clause-counts g c = λ other.
     (c.next.ensures.counts other))
 
 pub returns-in-OtherTaxi-clause-others : goal.returns-in-OtherTaxi-clause-others
-returns-in-OtherTaxi-clause-others g c = λ other ne. c.next.ensures.others other ne ∙ c.loop-end.invariant.others other ne
+returns-in-OtherTaxi-clause-others g c =
+    λ other ne. c.next.ensures.others other ne ∙ c.loop-end.invariant.others other ne
 
 pub returns-in-OtherTaxi-clause-counts : goal.returns-in-OtherTaxi-clause-counts
 returns-in-OtherTaxi-clause-counts g c = λ other.
@@ -98,11 +109,16 @@ returns-in-OtherTaxi-clause-counts g c = λ other.
 
 pub loop-end-preserved : goal.loop-end-preserved
 loop-end-preserved g c = record {
-  filing = filing_on g.G.Board g.G.Board.tells_image g.F.Files.tells c.args.log.now c.loop-end.log c.file_one.new.log c.args.tail.now c.loop-end.tail c.file_one.new.tail
-      (g.F.Files.rest c.args.files.now c.args.word) c.loop-end.roll c.next.new.self (g.F.Files.rest c.loop-end.files c.args.word) (g.F.Files.rest c.next.new.files c.args.word) c.loop-end.seen c.args.steps.now c.loop-end.steps c.file_one.new.steps
+  filing = filing_on g.G.Board g.G.Board.tells_image g.F.Files.tells c.args.log.now c.loop-end.log c.file_one.new.log
+      c.args.tail.now c.loop-end.tail c.file_one.new.tail
+      (g.F.Files.rest c.args.files.now c.args.word) c.loop-end.roll c.next.new.self
+      (g.F.Files.rest c.loop-end.files c.args.word) (g.F.Files.rest c.next.new.files c.args.word) c.loop-end.seen
+      c.args.steps.now c.loop-end.steps c.file_one.new.steps
       c.in-Ok.receipt c.loop-end.invariant.filing c.in-Ok.ensures.found
-      (filing_by g.G.Board g.G.Board.tells_image g.F.Files.tells c.in_ok-file_one-in-Ok.field-0 c.loop-end.log c.file_one.new.log c.loop-end.tail c.file_one.new.tail c.in-Ok.receipt c.loop-end.steps c.file_one.new.steps
-      c.in_default.not-OtherTaxi c.in_ok-file_one-in-Ok.ensures.passed c.in_ok-file_one-in-Ok.ensures.appended c.file_one.ensures.steps);
+      (filing_by g.G.Board g.G.Board.tells_image g.F.Files.tells c.in_ok-file_one-in-Ok.field-0 c.loop-end.log
+      c.file_one.new.log c.loop-end.tail c.file_one.new.tail c.in-Ok.receipt c.loop-end.steps c.file_one.new.steps
+      c.in_default.not-OtherTaxi c.in_ok-file_one-in-Ok.ensures.passed c.in_ok-file_one-in-Ok.ensures.appended
+      c.file_one.ensures.steps);
   last = c.in_ok-file_one-in-Ok.ensures.last;
   filed = omega (arith, c.in_ok-file_one-in-Ok.ensures.filed, c.loop-end.invariant.filed);
   most = omega (arith, c.in-Ok.ensures.fewer, c.loop-end.invariant.most);

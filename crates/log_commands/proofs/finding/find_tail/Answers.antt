@@ -12,44 +12,58 @@ use Rattle.log_commands.proofs.finding.find_tail.Goals as goal
 
 pub returns-in_err-sync-clause-synced : goal.returns-in_err-sync-clause-synced
 returns-in_err-sync-clause-synced g c told =
-    inl (search rules, reads_sync g.G.Board _ _ (g.met.G.Board.only_now c.args.log.now) c.sync.ensures.image c.sync.ensures.flight c.sync.ensures.text c.sync.ensures.time)
+    inl (
+      search rules,
+      reads_sync g.G.Board _ _ (g.met.G.Board.only_now c.args.log.now) c.sync.ensures.image c.sync.ensures.flight
+          c.sync.ensures.text c.sync.ensures.time,
+    )
 
 pub returns-in-Ok-clause-found : goal.returns-in-Ok-clause-found
 returns-in-Ok-clause-found g c told =
     let log = g.G.Board in
     let flying = log.in_flight c.tail_of.new.log in
     let same = c.read_entries.ensures.image ∙ c.in_ok-sync.ensures.same in
-    let are = subst (λ (i : List ℕ). AreEntries i c.in-Ok.entries) (sym c.read_entries.ensures.image) (c.in-Ok.ensures.entries told) in
-    let found = c.tail_of.ensures.found told (λ place flies. c.in_ok-sync.ensures.durable told place (c.read_entries.ensures.reads.flight place flies)) are in
-    subst (λ (i : List ℕ). IfOk c.tail_of.result (λ tail. (records : List Record) × StandsFor records i × IsTailOf (log.image c.tail_of.new.log) flying tail records)) same
-    (subst (λ (i : List ℕ). IfOk c.tail_of.result (λ tail. (records : List Record) × StandsFor records (log.image c.read_entries.new.log) × IsTailOf i flying tail records)) (sym c.tail_of.ensures.image) found)
+    let are = subst (λ (i : List ℕ). AreEntries i c.in-Ok.entries) (sym c.read_entries.ensures.image)
+    (c.in-Ok.ensures.entries told) in
+    let found = c.tail_of.ensures.found told
+    (λ place flies. c.in_ok-sync.ensures.durable told place (c.read_entries.ensures.reads.flight place flies)) are in
+    subst (λ (i : List ℕ). IfOk c.tail_of.result (λ tail. (records : List Record) × StandsFor records i
+    × IsTailOf (log.image c.tail_of.new.log) flying tail records)) same
+    (subst (λ (i : List ℕ). IfOk c.tail_of.result (λ tail. (records : List Record) × StandsFor records
+    (log.image c.read_entries.new.log) × IsTailOf i flying tail records)) (sym c.tail_of.ensures.image) found)
 
 pub returns-in-Ok-clause-bad : goal.returns-in-Ok-clause-bad
 returns-in-Ok-clause-bad g c slot err told =
-    let are = subst (λ (i : List ℕ). AreEntries i c.in-Ok.entries) (sym c.read_entries.ensures.image) (c.in-Ok.ensures.entries told) in
+    let are = subst (λ (i : List ℕ). AreEntries i c.in-Ok.entries) (sym c.read_entries.ensures.image)
+    (c.in-Ok.ensures.entries told) in
     absurd (c.tail_of.ensures.bad slot err told are)
 
 pub returns-in-Ok-clause-broken : goal.returns-in-Ok-clause-broken
 returns-in-Ok-clause-broken g c err told =
     let same = c.read_entries.ensures.image ∙ c.in_ok-sync.ensures.same in
-    let are = subst (λ (i : List ℕ). AreEntries i c.in-Ok.entries) (sym c.read_entries.ensures.image) (c.in-Ok.ensures.entries told) in
+    let are = subst (λ (i : List ℕ). AreEntries i c.in-Ok.entries) (sym c.read_entries.ensures.image)
+    (c.in-Ok.ensures.entries told) in
     subst IsBroken same (c.tail_of.ensures.broken err (g.G.Board.image c.read_entries.new.log) are)
 
 pub returns-in-Ok-clause-synced : goal.returns-in-Ok-clause-synced
 returns-in-Ok-clause-synced g c told =
     let board = g.G.Board in
-    let synced = synced_by board c.args.log.now c.sync.new.self (g.met.G.Board.only_now c.args.log.now) c.sync.ensures.image c.sync.ensures.flight c.sync.ensures.text c.sync.ensures.time c.in_ok-sync.ensures.same (c.in_ok-sync.ensures.durable told) in
+    let synced = synced_by board c.args.log.now c.sync.new.self (g.met.G.Board.only_now c.args.log.now)
+    c.sync.ensures.image c.sync.ensures.flight c.sync.ensures.text c.sync.ensures.time c.in_ok-sync.ensures.same
+    (c.in_ok-sync.ensures.durable told) in
     inr (
       c.sync.new.self,
       synced,
       held_on board c.args.log.now c.sync.new.self c.tail_of.new.log synced
-          (reads_then board c.sync.new.self c.read_entries.new.log c.tail_of.new.log c.read_entries.ensures.reads c.read_entries.ensures.image c.tail_of.ensures.reads).leaves,
+          (reads_then board c.sync.new.self c.read_entries.new.log c.tail_of.new.log c.read_entries.ensures.reads
+          c.read_entries.ensures.image c.tail_of.ensures.reads).leaves,
     )
 
 pub returns-in-Err-clause-bad : goal.returns-in-Err-clause-bad
 returns-in-Err-clause-bad g c slot err told =
     subst (λ (i : List ℕ). IsLowestBad i slot) c.in_ok-sync.ensures.same
-    (c.in-Err.ensures.bad slot (fault_known _ c.in-Err.fault (BadSlot slot) (c.fault_of.ensures.bad slot (same_fault _ _ _ err))) told)
+    (c.in-Err.ensures.bad slot
+    (fault_known _ c.in-Err.fault (BadSlot slot) (c.fault_of.ensures.bad slot (same_fault _ _ _ err))) told)
 
 pub returns-in-Err-clause-broken : goal.returns-in-Err-clause-broken
 returns-in-Err-clause-broken g c err told = absurd (c.fault_of.ensures.whole (same_fault _ _ _ err))
@@ -57,31 +71,42 @@ returns-in-Err-clause-broken g c err told = absurd (c.fault_of.ensures.whole (sa
 pub returns-in-Err-clause-synced : goal.returns-in-Err-clause-synced
 returns-in-Err-clause-synced g c told =
     let board = g.G.Board in
-    let synced = synced_by board c.args.log.now c.sync.new.self (g.met.G.Board.only_now c.args.log.now) c.sync.ensures.image c.sync.ensures.flight c.sync.ensures.text c.sync.ensures.time c.in_ok-sync.ensures.same (c.in_ok-sync.ensures.durable told) in
-    inr (c.sync.new.self, synced, held_on board c.args.log.now c.sync.new.self c.read_entries.new.log synced c.read_entries.ensures.reads.leaves)
+    let synced = synced_by board c.args.log.now c.sync.new.self (g.met.G.Board.only_now c.args.log.now)
+    c.sync.ensures.image c.sync.ensures.flight c.sync.ensures.text c.sync.ensures.time c.in_ok-sync.ensures.same
+    (c.in_ok-sync.ensures.durable told) in
+    inr (
+      c.sync.new.self,
+      synced,
+      held_on board c.args.log.now c.sync.new.self c.read_entries.new.log synced c.read_entries.ensures.reads.leaves,
+    )
 
 -- ---- whatever is told
 
 pub returns-in_err-sync-clause-reads : goal.returns-in_err-sync-clause-reads
 returns-in_err-sync-clause-reads g c =
-    reads_sync g.G.Board _ _ (g.met.G.Board.only_now c.args.log.now) c.sync.ensures.image c.sync.ensures.flight c.sync.ensures.text c.sync.ensures.time
+    reads_sync g.G.Board _ _ (g.met.G.Board.only_now c.args.log.now) c.sync.ensures.image c.sync.ensures.flight
+    c.sync.ensures.text c.sync.ensures.time
 
 pub returns-in-Ok-clause-reads : goal.returns-in-Ok-clause-reads
 returns-in-Ok-clause-reads g c =
     let board = g.G.Board in
     reads_then board c.args.log.now c.sync.new.self c.tail_of.new.log
-    (reads_sync board c.args.log.now c.sync.new.self (g.met.G.Board.only_now c.args.log.now) c.sync.ensures.image c.sync.ensures.flight c.sync.ensures.text c.sync.ensures.time) c.in_ok-sync.ensures.same
-    (reads_then board c.sync.new.self c.read_entries.new.log c.tail_of.new.log c.read_entries.ensures.reads c.read_entries.ensures.image c.tail_of.ensures.reads)
+    (reads_sync board c.args.log.now c.sync.new.self (g.met.G.Board.only_now c.args.log.now) c.sync.ensures.image
+    c.sync.ensures.flight c.sync.ensures.text c.sync.ensures.time) c.in_ok-sync.ensures.same
+    (reads_then board c.sync.new.self c.read_entries.new.log c.tail_of.new.log c.read_entries.ensures.reads
+    c.read_entries.ensures.image c.tail_of.ensures.reads)
 
 pub returns-in-Err-clause-reads : goal.returns-in-Err-clause-reads
 returns-in-Err-clause-reads g c =
     let board = g.G.Board in
     reads_then board c.args.log.now c.sync.new.self c.read_entries.new.log
-    (reads_sync board c.args.log.now c.sync.new.self (g.met.G.Board.only_now c.args.log.now) c.sync.ensures.image c.sync.ensures.flight c.sync.ensures.text c.sync.ensures.time) c.in_ok-sync.ensures.same
+    (reads_sync board c.args.log.now c.sync.new.self (g.met.G.Board.only_now c.args.log.now) c.sync.ensures.image
+    c.sync.ensures.flight c.sync.ensures.text c.sync.ensures.time) c.in_ok-sync.ensures.same
     c.read_entries.ensures.reads
 
 pub returns-in-Ok-clause-same : goal.returns-in-Ok-clause-same
-returns-in-Ok-clause-same g c = λ not. c.tail_of.ensures.image ∙ (c.read_entries.ensures.image ∙ c.in_ok-sync.ensures.same)
+returns-in-Ok-clause-same g c =
+    λ not. c.tail_of.ensures.image ∙ (c.read_entries.ensures.image ∙ c.in_ok-sync.ensures.same)
 
 pub returns-in-Err-clause-same : goal.returns-in-Err-clause-same
 returns-in-Err-clause-same g c = λ not. c.read_entries.ensures.image ∙ c.in_ok-sync.ensures.same

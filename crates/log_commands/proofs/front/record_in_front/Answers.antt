@@ -7,11 +7,13 @@ pub returns-in_err-receipt-clause-none : goal.returns-in_err-receipt-clause-none
 returns-in_err-receipt-clause-none c =
     let none : c.from_residual.result ≡ None = search rules in
     rw none (λ r behind e h.
-    let told = (c.in_err-receipt.ensures h.receipt h.part (length r.text)).1 (in_front_of c.args.text.now r behind e h) in
+    let told =
+    (c.in_err-receipt.ensures h.receipt h.part (length r.text)).1 (in_front_of c.args.text.now r behind e h) in
     absurd cc)
 
 pub split_at-requires : goal.split_at-requires
-split_at-requires c = ((c.in_ok-receipt.ensures c.in_ok-receipt.receipt c.in_ok-receipt.part c.in_ok-receipt.count).0 refl).within
+split_at-requires c =
+    ((c.in_ok-receipt.ensures c.in_ok-receipt.receipt c.in_ok-receipt.part c.in_ok-receipt.count).0 refl).within
 
 pub unwrap-requires : goal.unwrap-requires
 unwrap-requires c =
@@ -25,7 +27,11 @@ returns-clause-record c =
     let front = (c.in_ok-receipt.ensures c.in_ok-receipt.receipt c.in_ok-receipt.part c.in_ok-receipt.count).0 refl in
     let empty : c.new-text.result.items ≡ [] = search rules in
     let few = few_in_front c.args.text.now c.in_ok-receipt.receipt c.in_ok-receipt.part c.in_ok-receipt.count front in
-    let fits = c.try_extend_from_slice.ensures.variant.1 (omega (arith, few, ap length empty, ap length c.split_at.ensures.front)) in
+    let fits = c.try_extend_from_slice.ensures.variant.1
+    (omega (arith, few, ap length empty, ap length c.split_at.ensures.front)) in
     let items = succeeded c.try_extend_from_slice.result fits c.try_extend_from_slice.ensures.ok in
-    let text_is : c.try_extend_from_slice.new.self.items ≡ take c.in_ok-receipt.count c.args.text.now = items ∙ (ap (λ (l : List ℕ). l ++ c.split_at.result.0.now) empty ∙ c.split_at.ensures.front) in
-    record_of_front c.args.text.now c.try_extend_from_slice.new.self.items c.part.inside.taxi.items c.in_ok-receipt.receipt c.in_ok-receipt.part c.in_ok-receipt.count front text_is (ap (λ (p : Part). p.taxi) c.part.view_is)
+    let text_is : c.try_extend_from_slice.new.self.items ≡ take c.in_ok-receipt.count c.args.text.now =
+    items ∙ (ap (λ (l : List ℕ). l ++ c.split_at.result.0.now) empty ∙ c.split_at.ensures.front) in
+    record_of_front c.args.text.now c.try_extend_from_slice.new.self.items c.part.inside.taxi.items
+    c.in_ok-receipt.receipt c.in_ok-receipt.part c.in_ok-receipt.count front text_is
+    (ap (λ (p : Part). p.taxi) c.part.view_is)

@@ -8,5 +8,6 @@ use Rattle.log_commands.proofs.row.is_row.Given as goal
 abbrev pub invariant-loop-back : goal.invariant-loop-back
 invariant-loop-back l = record {
   row : (image : List ℕ) → AreEntries image l.entries → IsRow image l.last l.back l.newer;
-  bound : (image : List ℕ) (records : List Record) → AreEntries image l.entries → EndsWith image l.last records → IsBound records l.back l.newer;
+  bound : (image : List ℕ) (records : List Record) → AreEntries image l.entries → EndsWith image l.last records
+      → IsBound records l.back l.newer;
 }

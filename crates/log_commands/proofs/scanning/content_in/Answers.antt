@@ -12,12 +12,16 @@ no_record : (found : Option (ℕ × Record)) (place : ℕ) (it : Record) → fou
 no_record found place it none some = absurd cc
 
 pub returns-in-Some : goal.returns-in-Some
-returns-in-Some c =
-    (c.if-bytes-ne-OPEN.false, subst (λ (b : List ℕ). Spells b c.in-Some.place c.in-Some.record) (behind c.args.bytes.now c.told-bytes) ((c.record_in.ensures c.in-Some.place c.in-Some.record).0 c.in-Some.is))
+returns-in-Some c = (
+  c.if-bytes-ne-OPEN.false,
+  subst (λ (b : List ℕ). Spells b c.in-Some.place c.in-Some.record) (behind c.args.bytes.now c.told-bytes)
+      ((c.record_in.ensures c.in-Some.place c.in-Some.record).0 c.in-Some.is),
+)
 
 pub returns-in-None : goal.returns-in-None
 returns-in-None c = (
   c.if-bytes-ne-OPEN.false,
   λ place it h. no_record c.record_in.result place it c.in-None.is
-      ((c.record_in.ensures place it).1 (subst (λ (b : List ℕ). Spells b place it) (sym (behind c.args.bytes.now c.told-bytes)) h)),
+      ((c.record_in.ensures place it).1
+      (subst (λ (b : List ℕ). Spells b place it) (sym (behind c.args.bytes.now c.told-bytes)) h)),
 )

@@ -2,9 +2,9 @@ use Rattle.std.proofs.Common.{◌≡◌, ℕ, List, ◌++◌, length, ap, ◌∙
 use Rattle.std.proofs.lemmas.Result.{on_ok_weaker}
 use Rattle.outside.specs.Printing.{Begins}
 use Rattle.outside.proofs.Laws.{begins_not}
-use Rattle.log_commands.specs.LogScan.{IsSoundContent}
+use Rattle.log_commands.specs.LogScan.{IsContentInRange}
 use Rattle.log_commands.specs.Record.{Record}
-use Rattle.log_commands.specs.Slots.{Holds, slot_of}
+use Rattle.log_commands.specs.Slots.{HasRecord, slot_of}
 use Rattle.log_commands.proofs.Shown.{few_text, some_text, told_closed, told_record, told_unread}
 use Rattle.log_commands.proofs.show.show_one.Given as given
 use Rattle.log_commands.proofs.show.show_one.Goals as goal
@@ -15,40 +15,48 @@ returns-in_err-it-clause-begun g c = λ image text it holds. begins_not _ _ it.t
 -- a record's text is printed at once
 pub print-requires-clause-some : goal.print-requires-clause-some
 print-requires-clause-some g c =
-    let is = subst IsSoundContent c.in-Held.is c.in_ok-it.ensures.sound in
+    let is = subst IsContentInRange c.in-Filled.is c.in_ok-it.ensures.sound in
     omega (arith, ap length c.as_slice.ensures.value, ap (λ (r : Record). length r.text) c.it.view_is, some_text _ is.0)
 
 pub print-requires-clause-few : goal.print-requires-clause-few
 print-requires-clause-few g c =
-    let is = subst IsSoundContent c.in-Held.is c.in_ok-it.ensures.sound in
+    let is = subst IsContentInRange c.in-Filled.is c.in_ok-it.ensures.sound in
     omega (arith, ap length c.as_slice.ensures.value, ap (λ (r : Record). length r.text) c.it.view_is, few_text _ is.0)
 
 -- what is printed is the record's text
-printed_is : (g : given.Over) (c : goal.After-print g) → g.G.Board.tells_image → (it : Record) → Holds (g.G.Board.image c.args.log.now) (slot_of c.args.place) c.args.place it → c.as_slice.result.now ≡ it.text
+printed_is : (g : given.Over) (c : goal.After-print g) → g.G.Board.tells_image → (it : Record) → HasRecord
+    (g.G.Board.image c.args.log.now) (slot_of c.args.place) c.args.place it → c.as_slice.result.now ≡ it.text
 printed_is g c image it holds =
-    let same = told_record (g.G.Board.image c.args.log.now) c.args.place it c.in_ok-it.field-0 _ _ holds (c.in_ok-it.ensures.content image) c.in-Held.is in
+    let same = told_record (g.G.Board.image c.args.log.now) c.args.place it c.in_ok-it.field-0 _ _ holds
+    (c.in_ok-it.ensures.content image) c.in-Filled.is in
     c.as_slice.ensures.value ∙ (ap (λ (r : Record). r.text) c.it.view_is ∙ ap (λ (r : Record). r.text) same)
 
-pub returns-in-Held-clause-shown : goal.returns-in-Held-clause-shown
-returns-in-Held-clause-shown g c = λ image text it holds.
-    on_ok_weaker c.print.result (λ whole. whole ∙ (ap (λ (t : List ℕ). t ++ c.as_slice.result.now) c.read_slot.ensures.reads.text
-    ∙ ap (λ (t : List ℕ). g.G.Board.printed c.args.log.now ++ t) (printed_is g c image it holds))) (c.print.ensures.whole text)
+pub returns-in-Filled-clause-shown : goal.returns-in-Filled-clause-shown
+returns-in-Filled-clause-shown g c = λ image text it holds.
+    on_ok_weaker c.print.result
+    (λ whole. whole ∙ (ap (λ (t : List ℕ). t ++ c.as_slice.result.now) c.read_slot.ensures.reads.text
+    ∙ ap (λ (t : List ℕ). g.G.Board.printed c.args.log.now ++ t) (printed_is g c image it holds)))
+    (c.print.ensures.whole text)
 
-pub returns-in-Held-clause-begun : goal.returns-in-Held-clause-begun
-returns-in-Held-clause-begun g c = λ image text it holds.
-    subst (λ (t : List ℕ). Begins (g.G.Board.printed c.args.log.now) (g.G.Board.printed c.print.new.self) t) (printed_is g c image it holds)
-    (subst (λ (t : List ℕ). Begins t (g.G.Board.printed c.print.new.self) c.as_slice.result.now) c.read_slot.ensures.reads.text (c.print.ensures.begun text))
+pub returns-in-Filled-clause-begun : goal.returns-in-Filled-clause-begun
+returns-in-Filled-clause-begun g c = λ image text it holds.
+    subst (λ (t : List ℕ). Begins (g.G.Board.printed c.args.log.now) (g.G.Board.printed c.print.new.self) t)
+    (printed_is g c image it holds)
+    (subst (λ (t : List ℕ). Begins t (g.G.Board.printed c.print.new.self) c.as_slice.result.now)
+    c.read_slot.ensures.reads.text (c.print.ensures.begun text))
 
 pub returns-in-Unread-clause-shown : goal.returns-in-Unread-clause-shown
 returns-in-Unread-clause-shown g c = λ image text it holds.
-    absurd (told_unread (g.G.Board.image c.args.log.now) c.args.place it c.in_ok-it.field-0 holds (c.in_ok-it.ensures.content image) c.in-Unread.is)
+    absurd (told_unread (g.G.Board.image c.args.log.now) c.args.place it c.in_ok-it.field-0 holds
+    (c.in_ok-it.ensures.content image) c.in-Unread.is)
 
 pub returns-in-Unread-clause-begun : goal.returns-in-Unread-clause-begun
 returns-in-Unread-clause-begun g c = λ image text it holds. begins_not _ _ it.text c.read_slot.ensures.reads.text
 
 pub returns-in-Closed-clause-shown : goal.returns-in-Closed-clause-shown
 returns-in-Closed-clause-shown g c = λ image text it holds.
-    absurd (told_closed (g.G.Board.image c.args.log.now) c.args.place it c.in_ok-it.field-0 holds (c.in_ok-it.ensures.content image) c.in-Closed.is)
+    absurd (told_closed (g.G.Board.image c.args.log.now) c.args.place it c.in_ok-it.field-0 holds
+    (c.in_ok-it.ensures.content image) c.in-Closed.is)
 
 pub returns-in-Closed-clause-begun : goal.returns-in-Closed-clause-begun
 returns-in-Closed-clause-begun g c = λ image text it holds. begins_not _ _ it.text c.read_slot.ensures.reads.text

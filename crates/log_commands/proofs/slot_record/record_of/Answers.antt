@@ -11,7 +11,8 @@ returns-in_err-receipt c =
     rw none (λ it. (
       λ e. absurd cc,
       λ h.
-          let told = (c.in_err-receipt.ensures h.is.receipt h.is.part).1 (subst (λ (t : List ℕ). IsReceiptText t h.is.receipt h.is.part) h.text_is h.is.is) in
+          let told = (c.in_err-receipt.ensures h.is.receipt h.is.part).1
+          (subst (λ (t : List ℕ). IsReceiptText t h.is.receipt h.is.part) h.text_is h.is.is) in
           absurd cc,
     ))
 
@@ -19,11 +20,14 @@ pub unwrap-requires : goal.unwrap-requires
 unwrap-requires c =
     let empty : c.new-copy.result.items ≡ [] = search rules in
     let is = (c.in_ok-receipt.ensures c.in_ok-receipt.receipt c.in_ok-receipt.part).0 refl in
-    c.try_extend_from_slice.ensures.variant.1 (omega (arith, ap length empty, short_texts c.args.text.now c.in_ok-receipt.receipt c.in_ok-receipt.part is))
+    c.try_extend_from_slice.ensures.variant.1
+    (omega (arith, ap length empty, short_texts c.args.text.now c.in_ok-receipt.receipt c.in_ok-receipt.part is))
 
 pub returns : goal.returns
 returns c =
     let empty : c.new-copy.result.items ≡ [] = search rules in
     let is = (c.in_ok-receipt.ensures c.in_ok-receipt.receipt c.in_ok-receipt.part).0 refl in
     let items : c.try_extend_from_slice.new.self.items ≡ c.args.text.now = search rules in
-    record_exact c.args.text.now _ (read_record c.args.text.now c.try_extend_from_slice.new.self.items c.part.inside.taxi.items c.in_ok-receipt.receipt c.in_ok-receipt.part is items (ap (λ (p : Part). p.taxi) c.part.view_is))
+    record_exact c.args.text.now _
+    (read_record c.args.text.now c.try_extend_from_slice.new.self.items c.part.inside.taxi.items c.in_ok-receipt.receipt
+    c.in_ok-receipt.part is items (ap (λ (p : Part). p.taxi) c.part.view_is))

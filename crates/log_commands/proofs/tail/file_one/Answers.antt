@@ -10,6 +10,7 @@ returns-in_err-append_one-in-Appended-clause-cause g c =
 
 pub returns-in-Passed-clause-passed : goal.returns-in-Passed-clause-passed
 returns-in-Passed-clause-passed g c = λ is. (
-  files_passed g.G.Board g.G.Board.tells_image c.args.log.now c.args.tail.now (λ told image text left. (g.met.G.Board.only_now c.args.log.now image text left).bytes) c.args.receipt c.in-Passed.ensures,
+  files_passed g.G.Board g.G.Board.tells_image c.args.log.now c.args.tail.now (λ told image text left.
+      (g.met.G.Board.only_now c.args.log.now image text left).bytes) c.args.receipt c.in-Passed.ensures,
   refl,
 )

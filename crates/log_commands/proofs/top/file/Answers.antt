@@ -2,17 +2,17 @@ use Rattle.std.proofs.Common.{◌∙◌, inr, Some, Ok, Err, refl, sym, ap, subs
 use Rattle.std.specs.Prelude.{is_err}
 use Rattle.outside.specs.Faults.{Rose}
 use Rattle.slot_store.specs.Syncs.{IsAsHeld}
-use Rattle.log_commands.specs.Comes.{Comes}
+use Rattle.log_commands.specs.BeforeLastLine.{CallReachesLine}
 use Rattle.log_commands.specs.Endings.{status_of, unread_end}
 use Rattle.log_commands.specs.declared.ending.Ended.{Ended}
 use Rattle.log_commands.specs.declared.finding.FindFault.TheVariants.{LogFault}
 use Rattle.log_commands.specs.declared.words.Call.TheVariants.{File}
 use Rattle.log_commands.proofs.Causes.{may_none, may_rise_for, rises_for, rises_ok, rose_later}
-use Rattle.log_commands.proofs.Comings.{comes_end, comes_failed, comes_unread}
+use Rattle.log_commands.proofs.CallEnds.{reaches_end, reaches_failed, reaches_unread}
 use Rattle.log_commands.proofs.EndCases.{fault_has, fault_writes, filing_files, filing_no_board, filing_read}
 use Rattle.log_commands.proofs.EndCases.{filing_reads, filing_writes, found_sync, unread_board, unread_files}
 use Rattle.log_commands.proofs.EndCases.{unread_no_read, unread_sync}
-use Rattle.log_commands.proofs.Finishing.{looks_read}
+use Rattle.log_commands.proofs.Finishing.{search_read}
 use Rattle.log_commands.proofs.NewestFound.{same_fault}
 use Rattle.log_commands.proofs.top.file.Given as given
 use Rattle.log_commands.proofs.top.file.Goals as goal
@@ -23,12 +23,15 @@ pub returns-in-Err-clause-comes : goal.returns-in-Err-clause-comes
 returns-in-Err-clause-comes g c = λ files_told told.
     let B = g.G.Board in
     let fault = c.in-Err.fault in
-    subst (λ (end : Ended). Comes g.F.Files B (Some File) c.args.files.now c.args.files.now c.args.log.now c.find_tail.new.log c.args.steps.now c.find_tail.new.steps end) (sym c.ended_unread.ensures)
-    (comes_unread g.F.Files B (Some File) c.args.files.now c.args.files.now c.args.log.now c.find_tail.new.log c.args.steps.now c.find_tail.new.steps fault (File, refl)
+    subst (λ (end : Ended). CallReachesLine g.F.Files B (Some File) c.args.files.now c.args.files.now c.args.log.now
+    c.find_tail.new.log c.args.steps.now c.find_tail.new.steps end) (sym c.ended_unread.ensures)
+    (reaches_unread g.F.Files B (Some File) c.args.files.now c.args.files.now c.args.log.now c.find_tail.new.log
+    c.args.steps.now c.find_tail.new.steps fault (File, refl)
     (λ slot is. c.find_tail.ensures.bad slot (c.in-Err.is ∙ ap Err is) told)
     (λ is. c.find_tail.ensures.broken (c.in-Err.is ∙ ap Err is) told)
     (λ is. c.find_tail.ensures.cause.rose (c.in-Err.is ∙ ap Err is))
-    (unread_sync B (IsAsHeld B c.args.log.now) c.args.log.now c.find_tail.new.log c.find_tail.result fault c.in-Err.is (c.find_tail.ensures.synced told)) c.find_tail.ensures.reads.text c.find_tail.ensures.steps)
+    (unread_sync B (IsAsHeld B c.args.log.now) c.args.log.now c.find_tail.new.log c.find_tail.result fault c.in-Err.is
+    (c.find_tail.ensures.synced told)) c.find_tail.ensures.reads.text c.find_tail.ensures.steps)
 
 pub returns-in-Err-clause-read_fault : goal.returns-in-Err-clause-read_fault
 returns-in-Err-clause-read_fault g c = λ e. absurd (unread_no_read c.in-Err.fault (sym c.ended_unread.ensures ∙ e))
@@ -44,8 +47,9 @@ returns-in-Err-clause-reads g c = λ word. may_none (g.F.Files.faults c.args.fil
 
 pub returns-in-Err-clause-looks : goal.returns-in-Err-clause-looks
 returns-in-Err-clause-looks g c = λ writes.
-    looks_read g.G.Board c.args.log.now c.find_tail.new.log (status_of c.ended_unread.result) c.find_tail.ensures.reads
-    (λ not. c.find_tail.ensures.same (λ e. not (ap status_of (c.ended_unread.ensures ∙ ap unread_end (same_fault _ c.in-Err.fault LogFault (sym c.in-Err.is ∙ e))))))
+    search_read g.G.Board c.args.log.now c.find_tail.new.log (status_of c.ended_unread.result) c.find_tail.ensures.reads
+    (λ not. c.find_tail.ensures.same (λ e. not (ap status_of
+    (c.ended_unread.ensures ∙ ap unread_end (same_fault _ c.in-Err.fault LogFault (sym c.in-Err.is ∙ e))))))
 
 -- ---- the roll is filed
 
@@ -53,13 +57,20 @@ pub returns-in-Ok-file_roll-clause-comes : goal.returns-in-Ok-file_roll-clause-c
 returns-in-Ok-file_roll-clause-comes g c = λ files_told told.
     let B = g.G.Board in
     let found = c.in-Ok.ensures.found told in
-    subst (λ (end : Ended). Comes g.F.Files B (Some File) c.args.files.now c.file_roll.new.files c.args.log.now c.file_roll.new.log c.args.steps.now c.file_roll.new.steps end) (sym c.ended_filing.ensures)
-    (comes_end g.F.Files B c.args.files.now c.file_roll.new.files c.args.log.now c.find_tail.new.log c.file_roll.new.log c.args.steps.now c.find_tail.new.steps c.file_roll.new.steps found.0 found.1 c.in-Ok.tail found.2
-    (found_sync B (IsAsHeld B c.args.log.now) c.args.log.now c.find_tail.new.log c.find_tail.result c.in-Ok.tail c.in-Ok.is (c.find_tail.ensures.synced told)) c.find_tail.ensures.steps c.find_tail.ensures.reads.text c.file_roll.ensures.text
-    g.G.Board.tells_image g.F.Files.tells told files_told c.in-Ok-file_roll.end c.file_roll.new.tail c.in-Ok-file_roll.ensures.ok (λ is. c.file_roll.ensures.read_fault (c.in-Ok-file_roll.is ∙ ap Ok is)))
+    subst (λ (end : Ended). CallReachesLine g.F.Files B (Some File) c.args.files.now c.file_roll.new.files
+    c.args.log.now c.file_roll.new.log c.args.steps.now c.file_roll.new.steps end) (sym c.ended_filing.ensures)
+    (reaches_end g.F.Files B c.args.files.now c.file_roll.new.files c.args.log.now c.find_tail.new.log
+    c.file_roll.new.log c.args.steps.now c.find_tail.new.steps c.file_roll.new.steps found.0 found.1
+    c.in-Ok.tail found.2
+    (found_sync B (IsAsHeld B c.args.log.now) c.args.log.now c.find_tail.new.log c.find_tail.result c.in-Ok.tail
+    c.in-Ok.is (c.find_tail.ensures.synced told)) c.find_tail.ensures.steps c.find_tail.ensures.reads.text
+    c.file_roll.ensures.text
+    g.G.Board.tells_image g.F.Files.tells told files_told c.in-Ok-file_roll.end c.file_roll.new.tail
+    c.in-Ok-file_roll.ensures.ok (λ is. c.file_roll.ensures.read_fault (c.in-Ok-file_roll.is ∙ ap Ok is)))
 
 pub returns-in-Ok-file_roll-clause-read_fault : goal.returns-in-Ok-file_roll-clause-read_fault
-returns-in-Ok-file_roll-clause-read_fault g c = λ e. c.file_roll.ensures.read_fault (c.in-Ok-file_roll.is ∙ ap Ok (filing_read c.in-Ok-file_roll.end (sym c.ended_filing.ensures ∙ e)))
+returns-in-Ok-file_roll-clause-read_fault g c = λ e. c.file_roll.ensures.read_fault
+    (c.in-Ok-file_roll.is ∙ ap Ok (filing_read c.in-Ok-file_roll.end (sym c.ended_filing.ensures ∙ e)))
 
 pub returns-in-Ok-file_roll-clause-board_fault : goal.returns-in-Ok-file_roll-clause-board_fault
 returns-in-Ok-file_roll-clause-board_fault g c = record {
@@ -74,14 +85,17 @@ returns-in-Ok-file_roll-clause-reads g c = λ word.
     (c.in-Ok-file_roll.ensures.counts word)
 
 pub returns-in-Ok-file_roll-clause-looks : goal.returns-in-Ok-file_roll-clause-looks
-returns-in-Ok-file_roll-clause-looks g c = λ writes. absurd (filing_writes c.in-Ok-file_roll.end (status_of c.ended_filing.result) (ap status_of c.ended_filing.ensures) writes)
+returns-in-Ok-file_roll-clause-looks g c = λ writes. absurd
+    (filing_writes c.in-Ok-file_roll.end (status_of c.ended_filing.result) (ap status_of c.ended_filing.ensures) writes)
 
 pub returns-in-Ok-file_roll-clause-untaken : goal.returns-in-Ok-file_roll-clause-untaken
-returns-in-Ok-file_roll-clause-untaken g c = λ writes. absurd (filing_writes c.in-Ok-file_roll.end (status_of c.ended_filing.result) (ap status_of c.ended_filing.ensures) writes)
+returns-in-Ok-file_roll-clause-untaken g c = λ writes. absurd
+    (filing_writes c.in-Ok-file_roll.end (status_of c.ended_filing.result) (ap status_of c.ended_filing.ensures) writes)
 
 -- ---- the board fails
 
-failed : (g : given.Over) (c : goal.In-Err-file_roll g) → Rose (g.G.Board.faults c.args.log.now) (g.G.Board.faults c.file_roll.new.log)
+failed : (g : given.Over) (c : goal.In-Err-file_roll g)
+    → Rose (g.G.Board.faults c.args.log.now) (g.G.Board.faults c.file_roll.new.log)
 failed g c =
     rose_later _ _ _ (rises_ok _ _ c.find_tail.result c.in-Ok.tail LogFault c.in-Ok.is c.find_tail.ensures.cause)
     (c.file_roll.ensures.cause.failed (ap is_err c.in-Err-file_roll.is))
@@ -90,8 +104,12 @@ pub returns-in-Err-file_roll-clause-comes : goal.returns-in-Err-file_roll-clause
 returns-in-Err-file_roll-clause-comes g c = λ files_told told.
     let B = g.G.Board in
     let found = c.in-Ok.ensures.found told in
-    comes_failed g.F.Files B c.args.files.now c.file_roll.new.files c.args.log.now c.find_tail.new.log c.file_roll.new.log c.args.steps.now c.find_tail.new.steps c.file_roll.new.steps found.0 found.1 c.in-Ok.tail found.2
-    (found_sync B (IsAsHeld B c.args.log.now) c.args.log.now c.find_tail.new.log c.find_tail.result c.in-Ok.tail c.in-Ok.is (c.find_tail.ensures.synced told)) c.find_tail.ensures.steps c.find_tail.ensures.reads.text c.file_roll.ensures.text
+    reaches_failed g.F.Files B c.args.files.now c.file_roll.new.files c.args.log.now c.find_tail.new.log
+    c.file_roll.new.log c.args.steps.now c.find_tail.new.steps c.file_roll.new.steps found.0 found.1
+    c.in-Ok.tail found.2
+    (found_sync B (IsAsHeld B c.args.log.now) c.args.log.now c.find_tail.new.log c.find_tail.result c.in-Ok.tail
+    c.in-Ok.is (c.find_tail.ensures.synced told)) c.find_tail.ensures.steps c.find_tail.ensures.reads.text
+    c.file_roll.ensures.text
     g.G.Board.tells_image g.F.Files.tells told files_told c.in-Err-file_roll.ensures.failed (failed g c)
 
 pub returns-in-Err-file_roll-clause-board_fault : goal.returns-in-Err-file_roll-clause-board_fault

@@ -6,7 +6,7 @@ use Rattle.log_commands.specs.Words.{call_of}
 use Rattle.log_commands.specs.declared.words.Call.{Call}
 use Rattle.log_commands.proofs.Causes.{may_rise_for}
 use Rattle.log_commands.proofs.EndCases.{few_are_fewer}
-use Rattle.log_commands.proofs.Finishing.{call_again, call_told, call_whole, fault_finished, has_finished, looks_told}
+use Rattle.log_commands.proofs.Finishing.{call_again, call_told, call_whole, fault_finished, has_finished, search_told}
 use Rattle.log_commands.proofs.Finishing.{reads_finished, writes_before}
 use Rattle.log_commands.proofs.top.keep_log.Given as given
 use Rattle.log_commands.proofs.top.keep_log.Goals as goal
@@ -22,11 +22,15 @@ board_fault g c =
 -- the call is what its words, its log and its roll come to, with its last line
 is_call : (g : given.Over) (c : goal.After-finish g)
     → known_of (call_of (map string_bytes c.args.words.now)) g.F.Files.tells g.G.Board.tells_image
-    → IsCall g.F.Files g.G.Board (call_of (map string_bytes c.args.words.now)) c.args.files.now c.carry_out-ended.new.files c.args.log.now c.finish.new.log c.args.steps.now c.finish.new.steps c.finish.result
+    → IsCall g.F.Files g.G.Board (call_of (map string_bytes c.args.words.now)) c.args.files.now
+    c.carry_out-ended.new.files c.args.log.now c.finish.new.log c.args.steps.now c.finish.new.steps c.finish.result
 is_call g c known =
     let B = g.G.Board in
-    subst (λ (call : Option Call). IsCall g.F.Files B call c.args.files.now c.carry_out-ended.new.files c.args.log.now c.finish.new.log c.args.steps.now c.finish.new.steps c.finish.result) c.call_in.ensures
-    (call_told g.F.Files B c.call_in.result c.args.files.now c.carry_out-ended.new.files c.args.log.now c.carry_out-ended.new.log c.finish.new.log c.args.steps.now c.carry_out-ended.new.steps c.finish.new.steps c.carry_out-ended.result c.finish.result
+    subst (λ (call : Option Call). IsCall g.F.Files B call c.args.files.now c.carry_out-ended.new.files c.args.log.now
+    c.finish.new.log c.args.steps.now c.finish.new.steps c.finish.result) c.call_in.ensures
+    (call_told g.F.Files B c.call_in.result c.args.files.now c.carry_out-ended.new.files c.args.log.now
+    c.carry_out-ended.new.log c.finish.new.log c.args.steps.now c.carry_out-ended.new.steps c.finish.new.steps
+    c.carry_out-ended.result c.finish.result
     (g.met.G.Board.only_now c.carry_out-ended.new.log)
     (c.carry_out-ended.ensures.comes (rw c.call_in.ensures known)) c.finish.ensures.told c.finish.ensures.silent
     c.finish.ensures.keeps (board_fault g c) c.finish.ensures.steps)
@@ -36,12 +40,14 @@ returns-clause-call g c = λ known. is_call g c known
 
 pub returns-clause-again : goal.returns-clause-again
 returns-clause-again g c = λ files_told told file good.
-    call_again g.F.Files g.G.Board c.args.files.now c.carry_out-ended.new.files c.args.log.now c.finish.new.log c.finish.result (call_of (map string_bytes c.args.words.now)) c.args.steps.now c.finish.new.steps
+    call_again g.F.Files g.G.Board c.args.files.now c.carry_out-ended.new.files c.args.log.now c.finish.new.log
+    c.finish.result (call_of (map string_bytes c.args.words.now)) c.args.steps.now c.finish.new.steps
     (is_call g c (rw file (files_told, told))) file good
 
 pub returns-clause-complete : goal.returns-clause-complete
 returns-clause-complete g c = λ known command records calls stands fit read board.
-    call_whole g.F.Files g.G.Board c.args.files.now c.carry_out-ended.new.files c.args.log.now c.finish.new.log c.finish.result records stands command fit read board (call_of (map string_bytes c.args.words.now))
+    call_whole g.F.Files g.G.Board c.args.files.now c.carry_out-ended.new.files c.args.log.now c.finish.new.log
+    c.finish.result records stands command fit read board (call_of (map string_bytes c.args.words.now))
     c.args.steps.now c.finish.new.steps (is_call g c known) calls
 
 pub returns-clause-board_fault : goal.returns-clause-board_fault
@@ -58,7 +64,7 @@ writes g c nothing =
 
 pub returns-clause-looks : goal.returns-clause-looks
 returns-clause-looks g c = λ nothing.
-    looks_told g.G.Board c.args.log.now c.carry_out-ended.new.log c.finish.new.log
+    search_told g.G.Board c.args.log.now c.carry_out-ended.new.log c.finish.new.log
     c.carry_out-ended.result c.finish.result
     (g.met.G.Board.only_now c.carry_out-ended.new.log) (c.carry_out-ended.ensures.looks (writes g c nothing))
     c.finish.ensures.keeps c.finish.ensures.told

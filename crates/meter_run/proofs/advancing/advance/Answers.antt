@@ -31,7 +31,8 @@ returns-in_default g c =
     let way = c.requires.ready.way in
     record {
       lawful = c.step_into.ensures.lawful;
-      ranges = stepped c.args.tables.now way.setting c.args.event c.args.core.now c.args.durable.now c.step_into.new.acts.items way.meter way.stands
+      ranges = stepped c.args.tables.now way.setting c.args.event c.args.core.now c.args.durable.now
+          c.step_into.new.acts.items way.meter way.stands
           (λ second off. c.in_default.not-Up second)
           (c.step_into.ensures.meets way.setting way.meter way.is way.stands.core).done c.step_into.ensures.ranges;
       meets = λ s m is stands. c.step_into.ensures.meets s m is stands.core;

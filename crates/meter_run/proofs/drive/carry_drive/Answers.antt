@@ -7,7 +7,8 @@ use Rattle.drive_text.specs.Runs.{run_events}
 use Rattle.drive_text.specs.declared.run.Run.{Run}
 use Rattle.meter_run.specs.Drives.{BreaksDrive, IsBounded}
 use Rattle.meter_run.proofs.Driving.{breaks_amid, smaller, so_far_more, so_far_none, stop_at, stop_of, takes_last}
-use Rattle.meter_run.proofs.Going.{counts_more, no_more, not_ok, not_some, not_this, on_err, same_stop, went_well, went_wrong}
+use Rattle.meter_run.proofs.Going.{counts_more, no_more, not_ok, not_some, not_this, on_err, same_stop, went_well}
+use Rattle.meter_run.proofs.Going.{went_wrong}
 use Rattle.meter_run.proofs.drive.carry_drive.Goals as goal
 
 pub loop-stop-init : goal.loop-stop-init
@@ -17,7 +18,8 @@ loop-stop-init g c =
     let b = c.args.board.now in
     record {
       ready = c.requires.ready;
-      so_far = so_far_none g.F.Files.tells c.new-source.result (g.F.Files.rest c.args.files.now c.args.word) (λ (es : List Event). g.C.Carrier.carried r m b es m b) c.args.steps.now
+      so_far = so_far_none g.F.Files.tells c.new-source.result (g.F.Files.rest c.args.files.now c.args.word)
+          (λ (es : List Event). g.C.Carrier.carried r m b es m b) c.args.steps.now
           c.new-source.ensures.given c.new-source.ensures.none (g.met.C.Carrier.nothing r m b c.requires.ready);
       faults = no_more (g.B.Board.faults b);
       others = λ other differs. refl;
@@ -31,7 +33,8 @@ pub carry_runs-requires-clause-ready : goal.carry_runs-requires-clause-ready
 carry_runs-requires-clause-ready g c = c.loop-stop.invariant.ready
 
 pub carry_runs-requires-clause-ranges : goal.carry_runs-requires-clause-ranges
-carry_runs-requires-clause-ranges g c = subst (All IsRunInRange) (sym c.as_slice.ensures.value) c.next-stop.ensures.range
+carry_runs-requires-clause-ranges g c =
+    subst (All IsRunInRange) (sym c.as_slice.ensures.value) c.next-stop.ensures.range
 
 pub returns-in_err-carry_runs-clause-ready : goal.returns-in_err-carry_runs-clause-ready
 returns-in_err-carry_runs-clause-ready g c = not_ok _ c.from_residual.result _ c.from_residual.ensures.1
@@ -46,10 +49,12 @@ returns-in_err-carry_runs-clause-cause g c =
     c.loop-stop.invariant.faults c.in_err-carry_runs.ensures.cause
 
 pub returns-in_err-carry_runs-clause-others : goal.returns-in_err-carry_runs-clause-others
-returns-in_err-carry_runs-clause-others g c = λ other differs. c.next-stop.ensures.others other differs ∙ c.loop-stop.invariant.others other differs
+returns-in_err-carry_runs-clause-others g c =
+    λ other differs. c.next-stop.ensures.others other differs ∙ c.loop-stop.invariant.others other differs
 
 pub returns-in_err-carry_runs-clause-read_fault : goal.returns-in_err-carry_runs-clause-read_fault
-returns-in_err-carry_runs-clause-read_fault g c = λ ok. absurd (not_this _ c.from_residual.result _ c.from_residual.ensures.1 ok)
+returns-in_err-carry_runs-clause-read_fault g c =
+    λ ok. absurd (not_this _ c.from_residual.result _ c.from_residual.ensures.1 ok)
 
 pub returns-in_err-carry_runs-clause-counts : goal.returns-in_err-carry_runs-clause-counts
 returns-in_err-carry_runs-clause-counts g c = λ other. may_rise_behind (c.loop-stop.invariant.counts other)
@@ -63,17 +68,23 @@ returns-in_err-carry_runs-clause-broke_off g c =
     let s = c.loop-stop.invariant.so_far in
     let new = c.carry_runs.new.board in
     let runs = c.next-stop.new.runs.items in
-    let broken = subst (λ (rs : List Run). g.C.Carrier.broke_off r c.loop-stop.meter c.loop-stop.board (flat_map run_events rs) new) c.as_slice.ensures.value c.in_err-carry_runs.ensures.broke_off in
+    let broken = subst (λ (rs : List Run). g.C.Carrier.broke_off r c.loop-stop.meter c.loop-stop.board
+    (flat_map run_events rs) new) c.as_slice.ensures.value c.in_err-carry_runs.ensures.broke_off in
     on_err c.from_residual.result
-    (BreaksDrive g.F.Files.tells (g.F.Files.rest c.args.files.now c.args.word) (g.F.Files.rest c.next-stop.new.files c.args.word) (λ (es : List Event). g.C.Carrier.broke_off r m b es new) c.args.steps.now c.carry_runs.new.steps)
-    (breaks_amid g.F.Files.tells c.loop-stop.source c.next-stop.new.self (g.F.Files.rest c.args.files.now c.args.word) (g.F.Files.rest c.loop-stop.files c.args.word) (g.F.Files.rest c.next-stop.new.files c.args.word)
-    (λ (es : List Event). g.C.Carrier.carried r m b es c.loop-stop.meter c.loop-stop.board) (λ (es : List Event). g.C.Carrier.broke_off r m b es new)
+    (BreaksDrive g.F.Files.tells (g.F.Files.rest c.args.files.now c.args.word) (g.F.Files.rest c.next-stop.new.files
+    c.args.word) (λ (es : List Event). g.C.Carrier.broke_off r m b es new) c.args.steps.now c.carry_runs.new.steps)
+    (breaks_amid g.F.Files.tells c.loop-stop.source c.next-stop.new.self (g.F.Files.rest c.args.files.now c.args.word)
+    (g.F.Files.rest c.loop-stop.files c.args.word) (g.F.Files.rest c.next-stop.new.files c.args.word)
+    (λ (es : List Event). g.C.Carrier.carried r m b es c.loop-stop.meter c.loop-stop.board)
+    (λ (es : List Event). g.C.Carrier.broke_off r m b es new)
     c.args.steps.now c.loop-stop.steps c.carry_runs.new.steps runs c.next-stop.result s
     (λ none. c.next-stop.ensures.more none s.given s.stands)
     (λ x is. stop_at c.next-stop.result _ x is c.next-stop.ensures.stops s.given s.stands)
-    (λ done. g.met.C.Carrier.later r (events_in s.given) (flat_map run_events runs) m b c.loop-stop.meter c.loop-stop.board new done broken)
+    (λ done. g.met.C.Carrier.later r (events_in s.given)
+    (flat_map run_events runs) m b c.loop-stop.meter c.loop-stop.board new done broken)
     (λ es fs h. g.met.C.Carrier.sooner r es fs m b new h)
-    (subst (λ (rs : List Run). IsBounded c.loop-stop.steps c.carry_runs.new.steps (flat_map run_events rs)) c.as_slice.ensures.value c.carry_runs.ensures.steps))
+    (subst (λ (rs : List Run). IsBounded c.loop-stop.steps c.carry_runs.new.steps (flat_map run_events rs))
+    c.as_slice.ensures.value c.carry_runs.ensures.steps))
 
 pub returns-in-Some-clause-carried : goal.returns-in-Some-clause-carried
 returns-in-Some-clause-carried g c =
@@ -82,12 +93,18 @@ returns-in-Some-clause-carried g c =
     let b = c.args.board.now in
     let s = c.loop-stop.invariant.so_far in
     let runs = c.next-stop.new.runs.items in
-    let next = subst (λ (rs : List Run). g.C.Carrier.carried r c.loop-stop.meter c.loop-stop.board (flat_map run_events rs) c.carry_runs.new.meter c.carry_runs.new.board) c.as_slice.ensures.value c.in_ok-carry_runs.ensures.carried in
-    takes_last g.F.Files.tells c.loop-stop.source (g.F.Files.rest c.args.files.now c.args.word) (g.F.Files.rest c.loop-stop.files c.args.word) (g.F.Files.rest c.next-stop.new.files c.args.word)
-    (λ (es : List Event). g.C.Carrier.carried r m b es c.loop-stop.meter c.loop-stop.board) (λ (es : List Event). g.C.Carrier.carried r m b es c.carry_runs.new.meter c.carry_runs.new.board)
-    c.args.steps.now c.loop-stop.steps c.carry_runs.new.steps runs c.in-Some.stop s (c.in-Some.ensures.stops s.given s.stands)
-    (λ done. g.met.C.Carrier.behind r (events_in s.given) (flat_map run_events runs) m b c.loop-stop.meter c.loop-stop.board c.carry_runs.new.meter c.carry_runs.new.board done next)
-    (subst (λ (rs : List Run). IsBounded c.loop-stop.steps c.carry_runs.new.steps (flat_map run_events rs)) c.as_slice.ensures.value c.carry_runs.ensures.steps)
+    let next = subst (λ (rs : List Run). g.C.Carrier.carried r c.loop-stop.meter c.loop-stop.board (flat_map run_events
+    rs) c.carry_runs.new.meter c.carry_runs.new.board) c.as_slice.ensures.value c.in_ok-carry_runs.ensures.carried in
+    takes_last g.F.Files.tells c.loop-stop.source (g.F.Files.rest c.args.files.now c.args.word)
+    (g.F.Files.rest c.loop-stop.files c.args.word) (g.F.Files.rest c.next-stop.new.files c.args.word)
+    (λ (es : List Event). g.C.Carrier.carried r m b es c.loop-stop.meter c.loop-stop.board)
+    (λ (es : List Event). g.C.Carrier.carried r m b es c.carry_runs.new.meter c.carry_runs.new.board)
+    c.args.steps.now c.loop-stop.steps c.carry_runs.new.steps runs c.in-Some.stop s
+    (c.in-Some.ensures.stops s.given s.stands)
+    (λ done. g.met.C.Carrier.behind r (events_in s.given) (flat_map run_events runs) m b c.loop-stop.meter
+    c.loop-stop.board c.carry_runs.new.meter c.carry_runs.new.board done next)
+    (subst (λ (rs : List Run). IsBounded c.loop-stop.steps c.carry_runs.new.steps (flat_map run_events rs))
+    c.as_slice.ensures.value c.carry_runs.ensures.steps)
 
 pub returns-in-Some-clause-ready : goal.returns-in-Some-clause-ready
 returns-in-Some-clause-ready g c = c.in_ok-carry_runs.ensures.ready
@@ -99,7 +116,8 @@ pub returns-in-Some-clause-read_fault : goal.returns-in-Some-clause-read_fault
 returns-in-Some-clause-read_fault g c = λ ok.
     rose_behind (g.F.Files.faults c.args.files.now c.args.word) (g.F.Files.faults c.loop-stop.files c.args.word)
     (g.F.Files.faults c.next-stop.new.files c.args.word)
-    (c.loop-stop.invariant.counts c.args.word) (c.next-stop.ensures.read_fault (c.in-Some.is ∙ ap Some (stop_of _ _ _ ok)))
+    (c.loop-stop.invariant.counts c.args.word)
+    (c.next-stop.ensures.read_fault (c.in-Some.is ∙ ap Some (stop_of _ _ _ ok)))
 
 pub returns-in-Some-clause-counts : goal.returns-in-Some-clause-counts
 returns-in-Some-clause-counts g c = λ other. may_rise_behind (c.loop-stop.invariant.counts other)
@@ -112,12 +130,14 @@ returns-in-Some-clause-cause g c =
     (counts_more _ _ _ c.loop-stop.invariant.faults (c.in_ok-carry_runs.ensures.cause.kept refl))
 
 pub returns-in-Some-clause-others : goal.returns-in-Some-clause-others
-returns-in-Some-clause-others g c = λ other differs. c.next-stop.ensures.others other differs ∙ c.loop-stop.invariant.others other differs
+returns-in-Some-clause-others g c =
+    λ other differs. c.next-stop.ensures.others other differs ∙ c.loop-stop.invariant.others other differs
 
 pub loop-stop-smaller : goal.loop-stop-smaller
 loop-stop-smaller g c =
     let s = c.loop-stop.invariant.so_far in
-    smaller g.F.Files.tells c.loop-stop.source c.next-stop.new.self (g.F.Files.rest c.loop-stop.files c.args.word) (g.F.Files.rest c.next-stop.new.files c.args.word) s.given c.next-stop.new.runs.items s.stands
+    smaller g.F.Files.tells c.loop-stop.source c.next-stop.new.self (g.F.Files.rest c.loop-stop.files c.args.word)
+    (g.F.Files.rest c.next-stop.new.files c.args.word) s.given c.next-stop.new.runs.items s.stands
     (c.next-stop.ensures.more c.in_default.is s.given s.stands)
 
 pub loop-stop-preserved : goal.loop-stop-preserved
@@ -127,14 +147,20 @@ loop-stop-preserved g c =
     let b = c.args.board.now in
     let s = c.loop-stop.invariant.so_far in
     let runs = c.next-stop.new.runs.items in
-    let next = subst (λ (rs : List Run). g.C.Carrier.carried r c.loop-stop.meter c.loop-stop.board (flat_map run_events rs) c.carry_runs.new.meter c.carry_runs.new.board) c.as_slice.ensures.value c.in_ok-carry_runs.ensures.carried in
+    let next = subst (λ (rs : List Run). g.C.Carrier.carried r c.loop-stop.meter c.loop-stop.board (flat_map run_events
+    rs) c.carry_runs.new.meter c.carry_runs.new.board) c.as_slice.ensures.value c.in_ok-carry_runs.ensures.carried in
     record {
       ready = c.in_ok-carry_runs.ensures.ready;
-      so_far = so_far_more g.F.Files.tells c.loop-stop.source c.next-stop.new.self (g.F.Files.rest c.args.files.now c.args.word) (g.F.Files.rest c.loop-stop.files c.args.word) (g.F.Files.rest c.next-stop.new.files c.args.word)
-          (λ (es : List Event). g.C.Carrier.carried r m b es c.loop-stop.meter c.loop-stop.board) (λ (es : List Event). g.C.Carrier.carried r m b es c.carry_runs.new.meter c.carry_runs.new.board)
-          c.args.steps.now c.loop-stop.steps c.carry_runs.new.steps runs s (c.next-stop.ensures.more c.in_default.is s.given s.stands)
-          (λ done. g.met.C.Carrier.behind r (events_in s.given) (flat_map run_events runs) m b c.loop-stop.meter c.loop-stop.board c.carry_runs.new.meter c.carry_runs.new.board done next)
-          (subst (λ (rs : List Run). IsBounded c.loop-stop.steps c.carry_runs.new.steps (flat_map run_events rs)) c.as_slice.ensures.value c.carry_runs.ensures.steps);
+      so_far = so_far_more g.F.Files.tells c.loop-stop.source c.next-stop.new.self (g.F.Files.rest c.args.files.now
+          c.args.word) (g.F.Files.rest c.loop-stop.files c.args.word) (g.F.Files.rest c.next-stop.new.files c.args.word)
+          (λ (es : List Event). g.C.Carrier.carried r m b es c.loop-stop.meter c.loop-stop.board)
+          (λ (es : List Event). g.C.Carrier.carried r m b es c.carry_runs.new.meter c.carry_runs.new.board)
+          c.args.steps.now c.loop-stop.steps c.carry_runs.new.steps runs s
+          (c.next-stop.ensures.more c.in_default.is s.given s.stands)
+          (λ done. g.met.C.Carrier.behind r (events_in s.given) (flat_map run_events runs) m b c.loop-stop.meter
+          c.loop-stop.board c.carry_runs.new.meter c.carry_runs.new.board done next)
+          (subst (λ (rs : List Run). IsBounded c.loop-stop.steps c.carry_runs.new.steps (flat_map run_events rs))
+          c.as_slice.ensures.value c.carry_runs.ensures.steps);
       faults = counts_more _ _ _ c.loop-stop.invariant.faults (c.in_ok-carry_runs.ensures.cause.kept refl);
       others = λ other differs. c.next-stop.ensures.others other differs ∙ c.loop-stop.invariant.others other differs;
       counts = λ other. counts_more _ _ _ (c.loop-stop.invariant.counts other)

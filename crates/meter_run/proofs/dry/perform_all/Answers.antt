@@ -9,18 +9,24 @@ use Rattle.meter_run.proofs.Performing.{are_after, are_at, after_more, begins_at
 use Rattle.meter_run.proofs.dry.perform_all.Goals as goal
 
 pub perform-requires : goal.perform-requires
-perform-requires g c = (are_at c.loop-act.durable c.args.acts.now c.loop-act.act-index _ c.loop-act-test.true c.loop-act.invariant.left).0
+perform-requires g c =
+    (are_at c.loop-act.durable c.args.acts.now c.loop-act.act-index _ c.loop-act-test.true c.loop-act.invariant.left).0
 
 pub loop-act-preserved : goal.loop-act-preserved
 loop-act-preserved g c =
     let n = c.loop-act.act-index in
     let acts = c.args.acts.now in
     record {
-      durable = after_more c.args.durable.now c.loop-act.durable c.perform.new.durable acts n _ c.loop-act-test.true c.loop-act.invariant.durable c.perform.ensures.durable;
-      left = are_after c.loop-act.durable c.perform.new.durable acts n _ c.loop-act-test.true c.loop-act.invariant.left c.perform.ensures.durable;
-      printed = λ told. printed_more (g.B.Board.printed c.args.board.now) (g.B.Board.printed c.loop-act.board) (g.B.Board.printed c.perform.new.board) acts n _ c.loop-act-test.true (c.loop-act.invariant.printed told) (c.in_ok-perform.ensures.whole told);
+      durable = after_more c.args.durable.now c.loop-act.durable c.perform.new.durable acts n _ c.loop-act-test.true
+          c.loop-act.invariant.durable c.perform.ensures.durable;
+      left = are_after c.loop-act.durable c.perform.new.durable acts n _ c.loop-act-test.true c.loop-act.invariant.left
+          c.perform.ensures.durable;
+      printed = λ told. printed_more (g.B.Board.printed c.args.board.now) (g.B.Board.printed c.loop-act.board)
+          (g.B.Board.printed c.perform.new.board) acts n _ c.loop-act-test.true (c.loop-act.invariant.printed told)
+          (c.in_ok-perform.ensures.whole told);
       faults = c.in_ok-perform.ensures.cause.kept refl ∙ c.loop-act.invariant.faults;
-      store = keeps_then g.B.Board c.args.board.now c.loop-act.board c.perform.new.board c.loop-act.invariant.store c.perform.ensures.store;
+      store = keeps_then g.B.Board c.args.board.now c.loop-act.board c.perform.new.board c.loop-act.invariant.store
+          c.perform.ensures.store;
       steps = omega (arith, c.loop-act.invariant.steps, c.perform.ensures.steps);
     }
 
@@ -47,28 +53,35 @@ returns-in_err-perform-clause-cause g c =
     c.loop-act.invariant.faults c.in_err-perform.ensures.cause
 
 pub returns-in_err-perform-clause-steps : goal.returns-in_err-perform-clause-steps
-returns-in_err-perform-clause-steps g c = omega (arith, c.loop-act-test.true, c.loop-act.invariant.steps, c.perform.ensures.steps)
+returns-in_err-perform-clause-steps g c =
+    omega (arith, c.loop-act-test.true, c.loop-act.invariant.steps, c.perform.ensures.steps)
 
 pub returns-in_err-perform-clause-store : goal.returns-in_err-perform-clause-store
-returns-in_err-perform-clause-store g c = keeps_then g.B.Board c.args.board.now c.loop-act.board c.perform.new.board c.loop-act.invariant.store c.perform.ensures.store
+returns-in_err-perform-clause-store g c = keeps_then g.B.Board c.args.board.now c.loop-act.board c.perform.new.board
+    c.loop-act.invariant.store c.perform.ensures.store
 
 pub returns-in_err-perform-clause-begun : goal.returns-in_err-perform-clause-begun
 returns-in_err-perform-clause-begun g c = λ told.
-    begins_at (g.B.Board.printed c.args.board.now) (g.B.Board.printed c.loop-act.board) (g.B.Board.printed c.perform.new.board) c.args.acts.now c.loop-act.act-index _ c.loop-act-test.true
+    begins_at (g.B.Board.printed c.args.board.now) (g.B.Board.printed c.loop-act.board)
+    (g.B.Board.printed c.perform.new.board) c.args.acts.now c.loop-act.act-index _ c.loop-act-test.true
     (c.loop-act.invariant.printed told) (c.perform.ensures.begun told)
 
 pub returns-clause-durable : goal.returns-clause-durable
-returns-clause-durable g c = c.loop-act.invariant.durable ∙ ap (after_acts c.args.durable.now) (take_all c.loop-act.act-index c.args.acts.now c.loop-act-test.false)
+returns-clause-durable g c = c.loop-act.invariant.durable
+    ∙ ap (after_acts c.args.durable.now) (take_all c.loop-act.act-index c.args.acts.now c.loop-act-test.false)
 
 pub returns-clause-whole : goal.returns-clause-whole
 returns-clause-whole g c = λ told.
-    c.loop-act.invariant.printed told ∙ ap (λ (acts : List Act). g.B.Board.printed c.args.board.now ++ shown_texts acts) (take_all c.loop-act.act-index c.args.acts.now c.loop-act-test.false)
+    c.loop-act.invariant.printed told ∙ ap (λ (acts : List Act). g.B.Board.printed c.args.board.now ++ shown_texts acts)
+    (take_all c.loop-act.act-index c.args.acts.now c.loop-act-test.false)
 
 pub returns-clause-cause : goal.returns-clause-cause
-returns-clause-cause g c = went_well (g.B.Board.faults c.args.board.now) (g.B.Board.faults c.loop-act.board) tt c.loop-act.invariant.faults
+returns-clause-cause g c =
+    went_well (g.B.Board.faults c.args.board.now) (g.B.Board.faults c.loop-act.board) tt c.loop-act.invariant.faults
 
 pub returns-clause-store : goal.returns-clause-store
 returns-clause-store g c = c.loop-act.invariant.store
 
 pub returns-clause-begun : goal.returns-clause-begun
-returns-clause-begun g c = λ told. begins_end (g.B.Board.printed c.args.board.now) (g.B.Board.printed c.loop-act.board) c.args.acts.now c.loop-act.act-index c.loop-act-test.false (c.loop-act.invariant.printed told)
+returns-clause-begun g c = λ told. begins_end (g.B.Board.printed c.args.board.now) (g.B.Board.printed c.loop-act.board)
+    c.args.acts.now c.loop-act.act-index c.loop-act-test.false (c.loop-act.invariant.printed told)

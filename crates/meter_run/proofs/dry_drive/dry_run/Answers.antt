@@ -8,8 +8,10 @@ use Rattle.meter_run.proofs.dry_drive.dry_run.Goals as goal
 
 pub carry_drive-requires : goal.carry_drive-requires
 carry_drive-requires g c = record {
-  ready = ready_first c.args.tables.now c.args.seal.now c.new-meter.result.core c.new-meter.result.durable c.known.ensures.compiled c.requires.constant
-      (c.new-meter.ensures.lawful c.args.tables.now c.args.seal.now) c.new-meter.ensures.off c.new-meter.ensures.range c.new-meter.ensures.first;
+  ready = ready_first c.args.tables.now c.args.seal.now c.new-meter.result.core c.new-meter.result.durable
+      c.known.ensures.compiled c.requires.constant
+      (c.new-meter.ensures.lawful c.args.tables.now c.args.seal.now) c.new-meter.ensures.off c.new-meter.ensures.range
+      c.new-meter.ensures.first;
 }
 
 pub drop_at_end-requires : goal.drop_at_end-requires
@@ -21,9 +23,11 @@ returns-in-Ok-drop_at_end-clause-ends g c = λ tells.
     let k = c.args.seal.now in
     let h = c.in-Ok.ensures.carried in
     rw c.answer.ensures
-    (ends g.B.Board.tells_text t k (g.F.Files.rest c.args.files.now c.args.word) (g.F.Files.rest c.carry_drive.new.files c.args.word) (g.B.Board.printed c.args.board.now) (g.B.Board.printed c.drop_at_end.new.board)
+    (ends g.B.Board.tells_text t k (g.F.Files.rest c.args.files.now c.args.word) (g.F.Files.rest c.carry_drive.new.files
+    c.args.word) (g.B.Board.printed c.args.board.now) (g.B.Board.printed c.drop_at_end.new.board)
     h.taken c.in-Ok.stop h.few (h.split tells) (h.ends tells)
-    (whole_printed g.B.Board t k c.new-meter.result c.args.board.now c.new-meter.ensures.off c.new-meter.ensures.first (events_in h.taken) c.carry_drive.new.meter c.carry_drive.new.board c.drop_at_end.new.board
+    (whole_printed g.B.Board t k c.new-meter.result c.args.board.now c.new-meter.ensures.off c.new-meter.ensures.first
+    (events_in h.taken) c.carry_drive.new.meter c.carry_drive.new.board c.drop_at_end.new.board
     h.carried c.in-Ok-drop_at_end.ensures.whole))
 
 pub returns-in-Err-drop_at_end-clause-ends : goal.returns-in-Err-drop_at_end-clause-ends
@@ -31,9 +35,12 @@ returns-in-Err-drop_at_end-clause-ends g c = λ tells.
     let t = c.args.tables.now in
     let k = c.args.seal.now in
     let h = c.in-Ok.ensures.carried in
-    breaks g.B.Board.tells_text t k (g.F.Files.rest c.args.files.now c.args.word) (g.F.Files.rest c.carry_drive.new.files c.args.word) (g.B.Board.printed c.args.board.now) (g.B.Board.printed c.drop_at_end.new.board)
+    breaks g.B.Board.tells_text t k (g.F.Files.rest c.args.files.now c.args.word)
+    (g.F.Files.rest c.carry_drive.new.files c.args.word) (g.B.Board.printed c.args.board.now)
+    (g.B.Board.printed c.drop_at_end.new.board)
     h.taken h.few (h.split tells)
-    (end_begun g.B.Board t k c.new-meter.result c.args.board.now c.new-meter.ensures.off c.new-meter.ensures.first (events_in h.taken) c.carry_drive.new.meter c.carry_drive.new.board c.drop_at_end.new.board
+    (end_begun g.B.Board t k c.new-meter.result c.args.board.now c.new-meter.ensures.off c.new-meter.ensures.first
+    (events_in h.taken) c.carry_drive.new.meter c.carry_drive.new.board c.drop_at_end.new.board
     h.carried c.drop_at_end.ensures.begun)
 
 pub returns-in-Err-clause-ends : goal.returns-in-Err-clause-ends
@@ -41,9 +48,12 @@ returns-in-Err-clause-ends g c = λ tells.
     let t = c.args.tables.now in
     let k = c.args.seal.now in
     let h = c.in-Err.ensures.broke_off in
-    breaks g.B.Board.tells_text t k (g.F.Files.rest c.args.files.now c.args.word) (g.F.Files.rest c.carry_drive.new.files c.args.word) (g.B.Board.printed c.args.board.now) (g.B.Board.printed c.carry_drive.new.board)
+    breaks g.B.Board.tells_text t k (g.F.Files.rest c.args.files.now c.args.word)
+    (g.F.Files.rest c.carry_drive.new.files c.args.word) (g.B.Board.printed c.args.board.now)
+    (g.B.Board.printed c.carry_drive.new.board)
     h.taken h.few (h.split tells)
-    (run_begun g.B.Board t k c.new-meter.result c.args.board.now c.new-meter.ensures.off c.new-meter.ensures.first (events_in h.taken) c.carry_drive.new.board h.broke_off)
+    (run_begun g.B.Board t k c.new-meter.result c.args.board.now c.new-meter.ensures.off c.new-meter.ensures.first
+    (events_in h.taken) c.carry_drive.new.board h.broke_off)
 
 pub returns-in-Ok-drop_at_end-clause-steps : goal.returns-in-Ok-drop_at_end-clause-steps
 returns-in-Ok-drop_at_end-clause-steps g c =

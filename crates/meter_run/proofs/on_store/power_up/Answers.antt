@@ -8,7 +8,9 @@ pub returns-in_err-read_store-clause-attempts : goal.returns-in_err-read_store-c
 returns-in_err-read_store-clause-attempts g c = record {
   ready = not_ok _ c.from_residual.result _ c.from_residual.ensures.1;
   carried = not_ok _ c.from_residual.result _ c.from_residual.ensures.1;
-  stopped = amid_scan g.B.Board c.args.tables.now c.args.seal.now c.args.meter.now c.args.board.now c.read_store.new.board c.args.second (λ told. c.read_store.ensures.points told c.args.seal.now) c.read_store.ensures.text c.read_store.ensures.beside;
+  stopped = amid_scan g.B.Board c.args.tables.now c.args.seal.now c.args.meter.now c.args.board.now
+      c.read_store.new.board c.args.second
+      (λ told. c.read_store.ensures.points told c.args.seal.now) c.read_store.ensures.text c.read_store.ensures.beside;
   cause = went_wrong (g.B.Board.faults c.args.board.now) (g.B.Board.faults c.args.board.now)
       (g.B.Board.faults c.read_store.new.board) _ c.from_residual.result c.from_residual.ensures.0
       (no_more (g.B.Board.faults c.args.board.now)) c.in_err-read_store.ensures.cause;
@@ -24,7 +26,9 @@ pub returns-in-None-clause-attempts : goal.returns-in-None-clause-attempts
 returns-in-None-clause-attempts g c =
     let x = c.args.meter.now in
     let a = c.args.board.now in
-    blank_attempted g.B.Board c.args.tables.now c.args.seal.now x a c.read_store.new.board c.args.second (λ told. c.read_store.ensures.points told c.args.seal.now) c.read_store.ensures.text c.read_store.ensures.beside _ c.requires.ready c.requires.off
+    blank_attempted g.B.Board c.args.tables.now c.args.seal.now x a c.read_store.new.board c.args.second
+    (λ told. c.read_store.ensures.points told c.args.seal.now) c.read_store.ensures.text c.read_store.ensures.beside _
+    c.requires.ready c.requires.off
     (λ s m told h. let at = has_settled g.B.Board x.known a m.durable h.has in
     let found = c.in_ok-read_store.ensures.finds told at.0 m.durable at.1 h.fits in
     never_found c.in_ok-read_store.field-0 found.0 found.1.0 c.in-None.is)
@@ -34,8 +38,11 @@ returns-in-None-clause-attempts g c =
 pub returns-in-Some-clause-attempts : goal.returns-in-Some-clause-attempts
 returns-in-Some-clause-attempts g c =
     let k = c.in-Some.found in
-    found_attempted g.B.Board c.args.tables.now c.args.seal.now c.args.meter.now c.args.board.now c.read_store.new.board c.args.second (λ told. c.read_store.ensures.points told c.args.seal.now) c.read_store.ensures.text c.read_store.ensures.beside
+    found_attempted g.B.Board c.args.tables.now c.args.seal.now c.args.meter.now c.args.board.now
+    c.read_store.new.board c.args.second
+    (λ told. c.read_store.ensures.points told c.args.seal.now) c.read_store.ensures.text c.read_store.ensures.beside
     k (c.in_ok-read_store.ensures.agrees k c.in-Some.is)
-    (λ told place d settled fits. let found = c.in_ok-read_store.ensures.finds told place d settled fits in found_same c.in_ok-read_store.field-0 found.0 k d found.1.0 c.in-Some.is found.1.1)
+    (λ told place d settled fits. let found = c.in_ok-read_store.ensures.finds told place d settled fits in
+    found_same c.in_ok-read_store.field-0 found.0 k d found.1.0 c.in-Some.is found.1.1)
     c.resume.result c.resume.new.meter c.resume.new.board (c.in_ok-read_store.ensures.cause.kept refl)
     c.resume.ensures.attempts

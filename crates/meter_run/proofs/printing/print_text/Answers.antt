@@ -11,5 +11,6 @@ returns-clause-printed g c =
       begun = print.begun;
       cause = print.cause;
       store = keeps_print g.B.Board a b c.args.text.now print.image print.flight print.time;
-      leaves = leaves_print g.B.Board a b c.args.text.now print.image print.flight print.time (g.met.B.Board.only_now a);
+      leaves =
+          leaves_print g.B.Board a b c.args.text.now print.image print.flight print.time (g.met.B.Board.only_now a);
     }

@@ -6,7 +6,7 @@ use Rattle.slot_store.specs.declared.found.Found.{Found}
 use Rattle.totals_record.specs.Ranges.{IsDurable}
 use Rattle.totals_record.specs.Reading.{reads}
 use Rattle.meter_store.specs.Stored.{KeepsState, state_number_of}
-use Rattle.totals_record.specs.declared.durable.Durable.{Durable}
+use Rattle.totals_record.specs.declared.durable_state.Durable.{Durable}
 use Rattle.meter_run.specs.declared.stored.Known.{Known}
 use Rattle.meter_run.proofs.Finding.{answers, bad_body, found_is, no_fault, not_blank, same_number}
 use Rattle.meter_run.proofs.Going.{went_well}
@@ -23,66 +23,94 @@ pub returns-in-Ok-Latest-clause-agrees : goal.returns-in-Ok-Latest-clause-agrees
 returns-in-Ok-Latest-clause-agrees g c = λ x is.
     let b = c.scan.new.board in
     let same = c.where_it_fits.ensures.same x is in
-    let sound = subst (λ (f : Found Durable). IsValidFinding IsDurable f) c.in-Ok-Latest.field-0-is c.in-Ok-Latest.ensures.sound in
+    let sound =
+    subst (λ (f : Found Durable). IsValidFinding IsDurable f) c.in-Ok-Latest.field-0-is c.in-Ok-Latest.ensures.sound in
     record {
       slot = subst (λ (k : Known). k.place.slot ≤ 1) (sym same) sound.0;
       settled = λ told. subst (λ (k : Known). KeepsState g.B.Board k.place b k.durable) (sym same)
-          (subst (λ (f : Found Durable). IsAsFound reads state_number_of 0 (g.B.Board.image b) (g.B.Board.in_flight b) f) c.in-Ok-Latest.field-0-is (c.in-Ok-Latest.ensures.settled told));
+          (subst (λ (f : Found Durable). IsAsFound reads state_number_of 0 (g.B.Board.image b)
+          (g.B.Board.in_flight b) f) c.in-Ok-Latest.field-0-is (c.in-Ok-Latest.ensures.settled told));
       fits = c.where_it_fits.ensures.fits x is;
     }
 
 pub returns-in-Ok-Latest-clause-range : goal.returns-in-Ok-Latest-clause-range
 returns-in-Ok-Latest-clause-range g c = λ x is.
-    let sound = subst (λ (f : Found Durable). IsValidFinding IsDurable f) c.in-Ok-Latest.field-0-is c.in-Ok-Latest.ensures.sound in
+    let sound =
+    subst (λ (f : Found Durable). IsValidFinding IsDurable f) c.in-Ok-Latest.field-0-is c.in-Ok-Latest.ensures.sound in
     subst (λ (k : Known). IsDurable k.durable) (sym (c.where_it_fits.ensures.same x is)) sound.1
 
 pub returns-in-Ok-Latest-clause-finds : goal.returns-in-Ok-Latest-clause-finds
 returns-in-Ok-Latest-clause-finds g c = λ told place d settled fits.
     let p = c.in-Ok-Latest.place in
     let b = c.in-Ok-Latest.body in
-    let e = found_is c.in-Ok-Latest.field-0 p b place d (g.B.Board.image c.args.board.now) c.in-Ok-Latest.field-0-is settled.is_at (c.in-Ok-Latest.ensures.exact told (answers c.in-Ok-Latest.field-0)) in
-    (record { durable = b; place = p }, (c.where_it_fits.ensures.finds (subst (λ (x : Durable). ForSome x.hold (Fits c.args.tables.now)) (sym e) fits), e))
+    let e = found_is c.in-Ok-Latest.field-0 p b place d (g.B.Board.image c.args.board.now) c.in-Ok-Latest.field-0-is
+    settled.is_at (c.in-Ok-Latest.ensures.exact told (answers c.in-Ok-Latest.field-0)) in (
+      record { durable = b; place = p },
+      (
+        c.where_it_fits.ensures.finds (subst (λ (x : Durable). ForSome x.hold (Fits c.args.tables.now)) (sym e) fits),
+        e,
+      ),
+    )
 
 pub returns-in-Ok-Latest-clause-points : goal.returns-in-Ok-Latest-clause-points
-returns-in-Ok-Latest-clause-points g c = λ told seal place d settled fits. scan_point g.B.Board c.args.tables.now seal c.args.board.now c.scan.new.board d place settled fits c.scan.ensures.reads.image c.scan.ensures.reads.leaves c.scan.ensures.reads.text
+returns-in-Ok-Latest-clause-points g c =
+    λ told seal place d settled fits. scan_point g.B.Board c.args.tables.now seal c.args.board.now c.scan.new.board d
+    place settled fits c.scan.ensures.reads.image c.scan.ensures.reads.leaves c.scan.ensures.reads.text
 
 pub returns-in-Ok-Latest-clause-beside : goal.returns-in-Ok-Latest-clause-beside
-returns-in-Ok-Latest-clause-beside g c = λ told. beside_scan g.B.Board c.args.board.now c.scan.new.board c.scan.ensures.reads.image c.scan.ensures.reads.flight c.scan.ensures.reads.leaves
+returns-in-Ok-Latest-clause-beside g c = λ told. beside_scan g.B.Board c.args.board.now c.scan.new.board
+    c.scan.ensures.reads.image c.scan.ensures.reads.flight c.scan.ensures.reads.leaves
 
 pub returns-in-Ok-Blank-clause-finds : goal.returns-in-Ok-Blank-clause-finds
-returns-in-Ok-Blank-clause-finds g c = λ told place d settled fits. absurd (not_blank c.in-Ok-Blank.field-0 place d (g.B.Board.image c.args.board.now) c.in-Ok-Blank.field-0-is settled.is_at (c.in-Ok-Blank.ensures.exact told (answers c.in-Ok-Blank.field-0)))
+returns-in-Ok-Blank-clause-finds g c =
+    λ told place d settled fits. absurd (not_blank c.in-Ok-Blank.field-0 place d (g.B.Board.image c.args.board.now)
+    c.in-Ok-Blank.field-0-is settled.is_at (c.in-Ok-Blank.ensures.exact told (answers c.in-Ok-Blank.field-0)))
 
 pub returns-in-Ok-Blank-clause-points : goal.returns-in-Ok-Blank-clause-points
-returns-in-Ok-Blank-clause-points g c = λ told seal place d settled fits. scan_point g.B.Board c.args.tables.now seal c.args.board.now c.scan.new.board d place settled fits c.scan.ensures.reads.image c.scan.ensures.reads.leaves c.scan.ensures.reads.text
+returns-in-Ok-Blank-clause-points g c =
+    λ told seal place d settled fits. scan_point g.B.Board c.args.tables.now seal c.args.board.now c.scan.new.board d
+    place settled fits c.scan.ensures.reads.image c.scan.ensures.reads.leaves c.scan.ensures.reads.text
 
 pub returns-in-Ok-Blank-clause-beside : goal.returns-in-Ok-Blank-clause-beside
-returns-in-Ok-Blank-clause-beside g c = λ told. beside_scan g.B.Board c.args.board.now c.scan.new.board c.scan.ensures.reads.image c.scan.ensures.reads.flight c.scan.ensures.reads.leaves
+returns-in-Ok-Blank-clause-beside g c = λ told. beside_scan g.B.Board c.args.board.now c.scan.new.board
+    c.scan.ensures.reads.image c.scan.ensures.reads.flight c.scan.ensures.reads.leaves
 
 pub returns-in-Err-DeviceFailed-clause-points : goal.returns-in-Err-DeviceFailed-clause-points
-returns-in-Err-DeviceFailed-clause-points g c = λ told seal place d settled fits. scan_point g.B.Board c.args.tables.now seal c.args.board.now c.scan.new.board d place settled fits c.scan.ensures.reads.image c.scan.ensures.reads.leaves c.scan.ensures.reads.text
+returns-in-Err-DeviceFailed-clause-points g c =
+    λ told seal place d settled fits. scan_point g.B.Board c.args.tables.now seal c.args.board.now c.scan.new.board d
+    place settled fits c.scan.ensures.reads.image c.scan.ensures.reads.leaves c.scan.ensures.reads.text
 
 pub returns-in-Err-DeviceFailed-clause-beside : goal.returns-in-Err-DeviceFailed-clause-beside
-returns-in-Err-DeviceFailed-clause-beside g c = λ told. beside_scan g.B.Board c.args.board.now c.scan.new.board c.scan.ensures.reads.image c.scan.ensures.reads.flight c.scan.ensures.reads.leaves
+returns-in-Err-DeviceFailed-clause-beside g c = λ told. beside_scan g.B.Board c.args.board.now c.scan.new.board
+    c.scan.ensures.reads.image c.scan.ensures.reads.flight c.scan.ensures.reads.leaves
 
 pub returns-in-Err-BadBody-clause-finds : goal.returns-in-Err-BadBody-clause-finds
-returns-in-Err-BadBody-clause-finds g c = λ told place d settled fits. absurd (no_fault c.in-Err-BadBody.field-0 place d (g.B.Board.image c.args.board.now) settled.is_at
+returns-in-Err-BadBody-clause-finds g c = λ told place d settled fits.
+    absurd (no_fault c.in-Err-BadBody.field-0 place d (g.B.Board.image c.args.board.now) settled.is_at
     (c.in-Err-BadBody.ensures.exact told (bad_body c.in-Err-BadBody.field-0 _ c.in-Err-BadBody.field-0-is)))
 
 pub returns-in-Err-BadBody-clause-points : goal.returns-in-Err-BadBody-clause-points
-returns-in-Err-BadBody-clause-points g c = λ told seal place d settled fits. scan_point g.B.Board c.args.tables.now seal c.args.board.now c.scan.new.board d place settled fits c.scan.ensures.reads.image c.scan.ensures.reads.leaves c.scan.ensures.reads.text
+returns-in-Err-BadBody-clause-points g c =
+    λ told seal place d settled fits. scan_point g.B.Board c.args.tables.now seal c.args.board.now c.scan.new.board d
+    place settled fits c.scan.ensures.reads.image c.scan.ensures.reads.leaves c.scan.ensures.reads.text
 
 pub returns-in-Err-BadBody-clause-beside : goal.returns-in-Err-BadBody-clause-beside
-returns-in-Err-BadBody-clause-beside g c = λ told. beside_scan g.B.Board c.args.board.now c.scan.new.board c.scan.ensures.reads.image c.scan.ensures.reads.flight c.scan.ensures.reads.leaves
+returns-in-Err-BadBody-clause-beside g c = λ told. beside_scan g.B.Board c.args.board.now c.scan.new.board
+    c.scan.ensures.reads.image c.scan.ensures.reads.flight c.scan.ensures.reads.leaves
 
 pub returns-in-Err-SameNumber-clause-finds : goal.returns-in-Err-SameNumber-clause-finds
-returns-in-Err-SameNumber-clause-finds g c = λ told place d settled fits. absurd (no_fault c.in-Err-SameNumber.field-0 place d (g.B.Board.image c.args.board.now) settled.is_at
+returns-in-Err-SameNumber-clause-finds g c = λ told place d settled fits.
+    absurd (no_fault c.in-Err-SameNumber.field-0 place d (g.B.Board.image c.args.board.now) settled.is_at
     (c.in-Err-SameNumber.ensures.exact told (same_number c.in-Err-SameNumber.field-0 _ c.in-Err-SameNumber.field-0-is)))
 
 pub returns-in-Err-SameNumber-clause-points : goal.returns-in-Err-SameNumber-clause-points
-returns-in-Err-SameNumber-clause-points g c = λ told seal place d settled fits. scan_point g.B.Board c.args.tables.now seal c.args.board.now c.scan.new.board d place settled fits c.scan.ensures.reads.image c.scan.ensures.reads.leaves c.scan.ensures.reads.text
+returns-in-Err-SameNumber-clause-points g c =
+    λ told seal place d settled fits. scan_point g.B.Board c.args.tables.now seal c.args.board.now c.scan.new.board d
+    place settled fits c.scan.ensures.reads.image c.scan.ensures.reads.leaves c.scan.ensures.reads.text
 
 pub returns-in-Err-SameNumber-clause-beside : goal.returns-in-Err-SameNumber-clause-beside
-returns-in-Err-SameNumber-clause-beside g c = λ told. beside_scan g.B.Board c.args.board.now c.scan.new.board c.scan.ensures.reads.image c.scan.ensures.reads.flight c.scan.ensures.reads.leaves
+returns-in-Err-SameNumber-clause-beside g c = λ told. beside_scan g.B.Board c.args.board.now c.scan.new.board
+    c.scan.ensures.reads.image c.scan.ensures.reads.flight c.scan.ensures.reads.leaves
 
 pub returns-in-Ok-Latest-clause-text : goal.returns-in-Ok-Latest-clause-text
 returns-in-Ok-Latest-clause-text g c = c.scan.ensures.reads.text

@@ -1,7 +1,8 @@
 use Rattle.std.proofs.Common.{◌≡◌, ℕ, ◌+◌, subst, arith, refl}
 use Rattle.drive_text.specs.Runs.{intervals_events}
 use Rattle.meter_run.specs.Drives.{IsBounded}
-use Rattle.meter_run.proofs.Going.{intervals_carried, intervals_broken, intervals_further, bounded_at_interval, bounded_further, counts_more, no_more, not_ok, on_err, went_well, went_wrong}
+use Rattle.meter_run.proofs.Going.{intervals_carried, intervals_broken, intervals_further, bounded_at_interval}
+use Rattle.meter_run.proofs.Going.{bounded_further, counts_more, no_more, not_ok, on_err, went_well, went_wrong}
 use Rattle.meter_run.proofs.runs.carry_intervals.Goals as goal
 
 pub carry_equal-done-requires : goal.carry_equal-done-requires
@@ -13,32 +14,43 @@ loop-done-preserved g c =
     let p = c.args.pulses in
     let i = c.loop-done.done in
     let n = c.carry_equal-done.result in
-    let one = intervals_carried (g.C.Carrier.carried r) (g.C.Carrier.broke_off r) (g.met.C.Carrier.behind r) (g.met.C.Carrier.later r) (g.met.C.Carrier.sooner r)
-    p i c.args.meter.now c.args.board.now c.loop-done.meter c.loop-done.board c.carry_interval.new.meter c.carry_interval.new.board c.loop-done.invariant.carried c.in_ok-carry_interval.ensures.carried in
+    let one = intervals_carried (g.C.Carrier.carried r) (g.C.Carrier.broke_off r) (g.met.C.Carrier.behind r)
+    (g.met.C.Carrier.later r) (g.met.C.Carrier.sooner r)
+    p i c.args.meter.now c.args.board.now c.loop-done.meter c.loop-done.board c.carry_interval.new.meter
+    c.carry_interval.new.board c.loop-done.invariant.carried c.in_ok-carry_interval.ensures.carried in
     record {
       few = omega (arith, c.carry_equal-done.ensures.most);
       ready = c.carry_equal-done.ensures.ready c.carry_interval.new.board c.in_ok-carry_interval.ensures.ready;
-      carried = intervals_further (g.C.Carrier.carried r) (g.C.Carrier.broke_off r) (g.met.C.Carrier.behind r) (g.met.C.Carrier.later r) (g.met.C.Carrier.sooner r)
-          p (i + 1) n c.args.meter.now c.args.board.now c.carry_interval.new.meter c.carry_interval.new.board c.carry_equal-done.new.self c.carry_interval.new.board one (c.carry_equal-done.ensures.carried c.carry_interval.new.board c.in_ok-carry_interval.ensures.ready);
+      carried = intervals_further (g.C.Carrier.carried r) (g.C.Carrier.broke_off r) (g.met.C.Carrier.behind r)
+          (g.met.C.Carrier.later r) (g.met.C.Carrier.sooner r)
+          p (i + 1) n c.args.meter.now c.args.board.now c.carry_interval.new.meter c.carry_interval.new.board
+          c.carry_equal-done.new.self c.carry_interval.new.board one
+          (c.carry_equal-done.ensures.carried c.carry_interval.new.board c.in_ok-carry_interval.ensures.ready);
       faults = counts_more _ _ _ c.loop-done.invariant.faults (c.in_ok-carry_interval.ensures.cause.kept refl);
       steps = bounded_further p (i + 1) n c.args.steps.now c.carry_interval.new.steps
-          (bounded_at_interval p i (i + 1) c.args.steps.now c.loop-done.steps c.carry_interval.new.steps (omega arith) c.loop-done.invariant.steps c.carry_interval.ensures.steps);
+          (bounded_at_interval p i (i + 1) c.args.steps.now c.loop-done.steps c.carry_interval.new.steps
+          (omega arith) c.loop-done.invariant.steps c.carry_interval.ensures.steps);
     }
 
 pub returns-in_err-carry_interval-clause-broke_off : goal.returns-in_err-carry_interval-clause-broke_off
 returns-in_err-carry_interval-clause-broke_off g c =
     let r = c.args.by.now in
-    on_err c.from_residual.result _ (intervals_broken (g.C.Carrier.carried r) (g.C.Carrier.broke_off r) (g.met.C.Carrier.behind r) (g.met.C.Carrier.later r) (g.met.C.Carrier.sooner r)
-    c.args.pulses c.loop-done.done c.args.count c.args.meter.now c.args.board.now c.loop-done.meter c.loop-done.board c.carry_interval.new.board c.loop-done-test.true c.loop-done.invariant.carried c.in_err-carry_interval.ensures.broke_off)
+    on_err c.from_residual.result _ (intervals_broken (g.C.Carrier.carried r) (g.C.Carrier.broke_off r)
+    (g.met.C.Carrier.behind r) (g.met.C.Carrier.later r) (g.met.C.Carrier.sooner r)
+    c.args.pulses c.loop-done.done c.args.count c.args.meter.now c.args.board.now c.loop-done.meter c.loop-done.board
+    c.carry_interval.new.board c.loop-done-test.true c.loop-done.invariant.carried
+    c.in_err-carry_interval.ensures.broke_off)
 
 pub returns-in_err-carry_interval-clause-steps : goal.returns-in_err-carry_interval-clause-steps
 returns-in_err-carry_interval-clause-steps g c =
-    bounded_at_interval c.args.pulses c.loop-done.done c.args.count c.args.steps.now c.loop-done.steps c.carry_interval.new.steps c.loop-done-test.true c.loop-done.invariant.steps c.carry_interval.ensures.steps
+    bounded_at_interval c.args.pulses c.loop-done.done c.args.count c.args.steps.now c.loop-done.steps
+    c.carry_interval.new.steps c.loop-done-test.true c.loop-done.invariant.steps c.carry_interval.ensures.steps
 
 pub returns-clause-carried : goal.returns-clause-carried
 returns-clause-carried g c =
     let all : c.loop-done.done ≡ c.args.count = omega (arith, c.loop-done-test.false, c.loop-done.invariant.few) in
-    subst (λ (n : ℕ). g.C.Carrier.carried c.args.by.now c.args.meter.now c.args.board.now (intervals_events c.args.pulses n) c.loop-done.meter c.loop-done.board) all c.loop-done.invariant.carried
+    subst (λ (n : ℕ). g.C.Carrier.carried c.args.by.now c.args.meter.now c.args.board.now
+    (intervals_events c.args.pulses n) c.loop-done.meter c.loop-done.board) all c.loop-done.invariant.carried
 
 pub loop-done-init : goal.loop-done-init
 loop-done-init g c = record {
@@ -71,9 +83,11 @@ pub returns-clause-broke_off : goal.returns-clause-broke_off
 returns-clause-broke_off g c = tt
 
 pub returns-clause-cause : goal.returns-clause-cause
-returns-clause-cause g c = went_well (g.B.Board.faults c.args.board.now) (g.B.Board.faults c.loop-done.board) tt c.loop-done.invariant.faults
+returns-clause-cause g c =
+    went_well (g.B.Board.faults c.args.board.now) (g.B.Board.faults c.loop-done.board) tt c.loop-done.invariant.faults
 
 pub returns-clause-steps : goal.returns-clause-steps
 returns-clause-steps g c =
     let all : c.loop-done.done ≡ c.args.count = omega (arith, c.loop-done-test.false, c.loop-done.invariant.few) in
-    subst (λ (n : ℕ). IsBounded c.args.steps.now c.loop-done.steps (intervals_events c.args.pulses n)) all c.loop-done.invariant.steps
+    subst (λ (n : ℕ). IsBounded c.args.steps.now c.loop-done.steps (intervals_events c.args.pulses n)) all
+    c.loop-done.invariant.steps

@@ -3,7 +3,8 @@ use Rattle.std.proofs.lemmas.List.{take_all}
 use Rattle.drive_text.specs.Runs.{run_events}
 use Rattle.drive_text.specs.declared.run.Run.{Run}
 use Rattle.meter_run.specs.Drives.{IsBounded}
-use Rattle.meter_run.proofs.Going.{runs_carried, runs_broken, bounded_run, bounded_at_run, counts_more, no_more, not_ok, on_err, went_well, went_wrong}
+use Rattle.meter_run.proofs.Going.{runs_carried, runs_broken, bounded_run, bounded_at_run, counts_more, no_more, not_ok}
+use Rattle.meter_run.proofs.Going.{on_err, went_well, went_wrong}
 use Rattle.meter_run.proofs.runs.carry_runs.Goals as goal
 
 pub loop-run-preserved : goal.loop-run-preserved
@@ -13,21 +14,27 @@ loop-run-preserved g c =
     let i = c.loop-run.run-index in
     record {
       ready = c.in_ok-carry_run.ensures.ready;
-      carried = runs_carried (g.C.Carrier.carried r) (g.C.Carrier.broke_off r) (g.met.C.Carrier.behind r) (g.met.C.Carrier.later r) (g.met.C.Carrier.sooner r)
-          runs i _ c.args.meter.now c.args.board.now c.loop-run.meter c.loop-run.board c.carry_run.new.meter c.carry_run.new.board c.loop-run-test.true c.loop-run.invariant.carried c.in_ok-carry_run.ensures.carried;
+      carried = runs_carried (g.C.Carrier.carried r) (g.C.Carrier.broke_off r) (g.met.C.Carrier.behind r)
+          (g.met.C.Carrier.later r) (g.met.C.Carrier.sooner r)
+          runs i _ c.args.meter.now c.args.board.now c.loop-run.meter c.loop-run.board c.carry_run.new.meter
+          c.carry_run.new.board c.loop-run-test.true c.loop-run.invariant.carried c.in_ok-carry_run.ensures.carried;
       faults = counts_more _ _ _ c.loop-run.invariant.faults (c.in_ok-carry_run.ensures.cause.kept refl);
-      steps = bounded_run runs i _ c.args.steps.now c.loop-run.steps c.carry_run.new.steps c.loop-run-test.true c.loop-run.invariant.steps c.carry_run.ensures.steps;
+      steps = bounded_run runs i _ c.args.steps.now c.loop-run.steps c.carry_run.new.steps c.loop-run-test.true
+          c.loop-run.invariant.steps c.carry_run.ensures.steps;
     }
 
 pub returns-in_err-carry_run-clause-broke_off : goal.returns-in_err-carry_run-clause-broke_off
 returns-in_err-carry_run-clause-broke_off g c =
     let r = c.args.by.now in
-    on_err c.from_residual.result _ (runs_broken (g.C.Carrier.carried r) (g.C.Carrier.broke_off r) (g.met.C.Carrier.behind r) (g.met.C.Carrier.later r) (g.met.C.Carrier.sooner r)
-    c.args.runs.now c.loop-run.run-index _ c.args.meter.now c.args.board.now c.loop-run.meter c.loop-run.board c.carry_run.new.board c.loop-run-test.true c.loop-run.invariant.carried c.in_err-carry_run.ensures.broke_off)
+    on_err c.from_residual.result _ (runs_broken (g.C.Carrier.carried r) (g.C.Carrier.broke_off r)
+    (g.met.C.Carrier.behind r) (g.met.C.Carrier.later r) (g.met.C.Carrier.sooner r)
+    c.args.runs.now c.loop-run.run-index _ c.args.meter.now c.args.board.now c.loop-run.meter c.loop-run.board
+    c.carry_run.new.board c.loop-run-test.true c.loop-run.invariant.carried c.in_err-carry_run.ensures.broke_off)
 
 pub returns-in_err-carry_run-clause-steps : goal.returns-in_err-carry_run-clause-steps
 returns-in_err-carry_run-clause-steps g c =
-    bounded_at_run c.args.runs.now c.loop-run.run-index _ c.args.steps.now c.loop-run.steps c.carry_run.new.steps c.loop-run-test.true c.loop-run.invariant.steps c.carry_run.ensures.steps
+    bounded_at_run c.args.runs.now c.loop-run.run-index _ c.args.steps.now c.loop-run.steps c.carry_run.new.steps
+    c.loop-run-test.true c.loop-run.invariant.steps c.carry_run.ensures.steps
 
 pub loop-run-init : goal.loop-run-init
 loop-run-init g c = record {
@@ -54,15 +61,18 @@ returns-clause-ready g c = c.loop-run.invariant.ready
 
 pub returns-clause-carried : goal.returns-clause-carried
 returns-clause-carried g c =
-    subst (λ (runs : List Run). g.C.Carrier.carried c.args.by.now c.args.meter.now c.args.board.now (flat_map run_events runs) c.loop-run.meter c.loop-run.board)
+    subst (λ (runs : List Run). g.C.Carrier.carried c.args.by.now c.args.meter.now c.args.board.now
+    (flat_map run_events runs) c.loop-run.meter c.loop-run.board)
     (take_all c.loop-run.run-index c.args.runs.now c.loop-run-test.false) c.loop-run.invariant.carried
 
 pub returns-clause-broke_off : goal.returns-clause-broke_off
 returns-clause-broke_off g c = tt
 
 pub returns-clause-cause : goal.returns-clause-cause
-returns-clause-cause g c = went_well (g.B.Board.faults c.args.board.now) (g.B.Board.faults c.loop-run.board) tt c.loop-run.invariant.faults
+returns-clause-cause g c =
+    went_well (g.B.Board.faults c.args.board.now) (g.B.Board.faults c.loop-run.board) tt c.loop-run.invariant.faults
 
 pub returns-clause-steps : goal.returns-clause-steps
 returns-clause-steps g c =
-    subst (λ (runs : List Run). IsBounded c.args.steps.now c.loop-run.steps (flat_map run_events runs)) (take_all c.loop-run.run-index c.args.runs.now c.loop-run-test.false) c.loop-run.invariant.steps
+    subst (λ (runs : List Run). IsBounded c.args.steps.now c.loop-run.steps (flat_map run_events runs))
+    (take_all c.loop-run.run-index c.args.runs.now c.loop-run-test.false) c.loop-run.invariant.steps

@@ -7,7 +7,8 @@ use Rattle.meter_run.proofs.runs.carry_runs.Given as goal
 abbrev pub invariant-loop-run : goal.invariant-loop-run
 invariant-loop-run g l = record {
   ready : g.C.Carrier.ready l.by l.meter l.board;
-  carried : g.C.Carrier.carried l.by l.fn.meter l.fn.board (flat_map run_events (take l.run-index l.runs)) l.meter l.board;
+  carried : g.C.Carrier.carried l.by l.fn.meter l.fn.board
+      (flat_map run_events (take l.run-index l.runs)) l.meter l.board;
   faults : g.B.Board.faults l.board ≡ g.B.Board.faults l.fn.board;
   steps : IsBounded l.fn.steps l.steps (flat_map run_events (take l.run-index l.runs));
 }

@@ -11,13 +11,17 @@ use Rattle.meter_run.proofs.Performing.{are_after, are_at, after_more}
 use Rattle.meter_run.proofs.storing.do_acts.Goals as goal
 
 pub do_act-requires-clause-act : goal.do_act-requires-clause-act
-do_act-requires-clause-act g c = (are_at c.loop-act.known.durable c.args.acts.now c.loop-act.act-index _ c.loop-act-test.true c.loop-act.invariant.left).0
+do_act-requires-clause-act g c = (are_at c.loop-act.known.durable c.args.acts.now c.loop-act.act-index _
+    c.loop-act-test.true c.loop-act.invariant.left).0
 
 pub do_act-requires-clause-may : goal.do_act-requires-clause-may
 do_act-requires-clause-may g c =
     let t = c.requires.may.0 in
-    let may = c.requires.may.1 in
-    (t, may_at g.B.Board t c.args.known.now c.loop-act.known c.args.board.now c.loop-act.board c.args.acts.now c.loop-act.act-index _ c.loop-act-test.true may (c.loop-act.invariant.agrees t may))
+    let may = c.requires.may.1 in (
+      t,
+      may_at g.B.Board t c.args.known.now c.loop-act.known c.args.board.now c.loop-act.board c.args.acts.now
+          c.loop-act.act-index _ c.loop-act-test.true may (c.loop-act.invariant.agrees t may),
+    )
 
 pub loop-act-preserved : goal.loop-act-preserved
 loop-act-preserved g c =
@@ -30,14 +34,23 @@ loop-act-preserved g c =
     let b = c.loop-act.board in
     let b' = c.do_act.new.board in
     record {
-      durable = after_more c.args.known.now.durable c.loop-act.known.durable c.do_act.new.known.durable acts n _ c.loop-act-test.true i.durable c.in_ok-do_act.ensures.durable;
-      left = are_after c.loop-act.known.durable c.do_act.new.known.durable acts n _ c.loop-act-test.true i.left c.in_ok-do_act.ensures.durable;
-      agrees = λ tables may. c.in_ok-do_act.ensures.agrees tables (may_at g.B.Board tables c.args.known.now c.loop-act.known c.args.board.now c.loop-act.board c.args.acts.now c.loop-act.act-index _ c.loop-act-test.true may (c.loop-act.invariant.agrees tables may));
+      durable = after_more c.args.known.now.durable c.loop-act.known.durable c.do_act.new.known.durable acts n _
+          c.loop-act-test.true i.durable c.in_ok-do_act.ensures.durable;
+      left = are_after c.loop-act.known.durable c.do_act.new.known.durable acts n _ c.loop-act-test.true i.left
+          c.in_ok-do_act.ensures.durable;
+      agrees = λ tables may. c.in_ok-do_act.ensures.agrees tables
+          (may_at g.B.Board tables c.args.known.now c.loop-act.known c.args.board.now c.loop-act.board c.args.acts.now
+          c.loop-act.act-index _ c.loop-act-test.true may (c.loop-act.invariant.agrees tables may));
       printed = text_more g.B.Board t k a b b' acts n _ c.loop-act-test.true i.printed c.in_ok-do_act.ensures.whole;
-      points = λ told tables may. points_more g.B.Board tables k a b b' acts n _ c.loop-act-test.true i.printed c.args.known.now.durable c.loop-act.known.durable i.durable (i.points told tables may) (c.do_act.ensures.points told tables (may_at g.B.Board tables c.args.known.now c.loop-act.known c.args.board.now c.loop-act.board c.args.acts.now c.loop-act.act-index _ c.loop-act-test.true may (c.loop-act.invariant.agrees tables may)));
+      points = λ told tables may. points_more g.B.Board tables k a b b' acts n _ c.loop-act-test.true i.printed
+          c.args.known.now.durable c.loop-act.known.durable i.durable (i.points told tables may)
+          (c.do_act.ensures.points told tables
+          (may_at g.B.Board tables c.args.known.now c.loop-act.known c.args.board.now c.loop-act.board c.args.acts.now
+          c.loop-act.act-index _ c.loop-act-test.true may (c.loop-act.invariant.agrees tables may)));
       beside = λ told. beside_then g.B.Board a b b' (i.beside told) (c.do_act.ensures.beside told);
       faults = counts_more _ _ _ i.faults (c.in_ok-do_act.ensures.cause.kept refl);
-      steps = steps_more acts n _ c.args.steps.now c.loop-act.steps c.do_act.new.steps c.loop-act-test.true i.steps c.do_act.ensures.steps;
+      steps = steps_more acts n _ c.args.steps.now c.loop-act.steps c.do_act.new.steps c.loop-act-test.true i.steps
+          c.do_act.ensures.steps;
     }
 
 pub loop-act-init : goal.loop-act-init
@@ -50,7 +63,8 @@ loop-act-init g c =
       left = c.requires.acts;
       agrees = λ tables may. may.agrees;
       printed = λ told. sym (append-nil (g.B.Board.printed a));
-      points = λ told tables may. keeps_still g.B.Board tables c.args.seal.now a k.place k.durable now (may.agrees.settled told) may.agrees.fits;
+      points = λ told tables may. keeps_still g.B.Board tables c.args.seal.now a k.place k.durable now
+          (may.agrees.settled told) may.agrees.fits;
       beside = λ told. beside_none g.B.Board a now;
       faults = omega arith;
       steps = omega arith;
@@ -64,16 +78,23 @@ returns-in_err-do_act-clause-points g c = λ told tables may.
     let i = c.loop-act.invariant in
     let d = c.args.known.now.durable in
     points_whole g.B.Board tables k c.args.board.now c.do_act.new.board d acts (n + 1)
-    (points_more g.B.Board tables k c.args.board.now c.loop-act.board c.do_act.new.board acts n _ c.loop-act-test.true i.printed d c.loop-act.known.durable i.durable (i.points told tables may) (c.do_act.ensures.points told tables (may_at g.B.Board tables c.args.known.now c.loop-act.known c.args.board.now c.loop-act.board c.args.acts.now c.loop-act.act-index _ c.loop-act-test.true may (c.loop-act.invariant.agrees tables may))))
+    (points_more g.B.Board tables k c.args.board.now c.loop-act.board c.do_act.new.board acts n _ c.loop-act-test.true
+    i.printed d c.loop-act.known.durable i.durable (i.points told tables may) (c.do_act.ensures.points told tables
+    (may_at g.B.Board tables c.args.known.now c.loop-act.known c.args.board.now c.loop-act.board c.args.acts.now
+    c.loop-act.act-index _ c.loop-act-test.true may (c.loop-act.invariant.agrees tables may))))
 
 pub returns-in_err-do_act-clause-beside : goal.returns-in_err-do_act-clause-beside
-returns-in_err-do_act-clause-beside g c = λ told. beside_then g.B.Board c.args.board.now c.loop-act.board c.do_act.new.board (c.loop-act.invariant.beside told) (c.do_act.ensures.beside told)
+returns-in_err-do_act-clause-beside g c = λ told. beside_then g.B.Board c.args.board.now c.loop-act.board
+    c.do_act.new.board (c.loop-act.invariant.beside told) (c.do_act.ensures.beside told)
 
 pub returns-in_err-do_act-clause-steps : goal.returns-in_err-do_act-clause-steps
-returns-in_err-do_act-clause-steps g c = steps_whole c.args.acts.now c.loop-act.act-index _ c.args.steps.now c.loop-act.steps c.do_act.new.steps c.loop-act-test.true c.loop-act.invariant.steps c.do_act.ensures.steps
+returns-in_err-do_act-clause-steps g c = steps_whole c.args.acts.now c.loop-act.act-index _ c.args.steps.now
+    c.loop-act.steps c.do_act.new.steps c.loop-act-test.true c.loop-act.invariant.steps c.do_act.ensures.steps
 
 pub returns-clause-points : goal.returns-clause-points
-returns-clause-points g c = λ told tables may. points_whole g.B.Board tables c.args.seal.now c.args.board.now c.loop-act.board c.args.known.now.durable c.args.acts.now c.loop-act.act-index (c.loop-act.invariant.points told tables may)
+returns-clause-points g c =
+    λ told tables may. points_whole g.B.Board tables c.args.seal.now c.args.board.now c.loop-act.board
+    c.args.known.now.durable c.args.acts.now c.loop-act.act-index (c.loop-act.invariant.points told tables may)
 
 pub returns-in_err-do_act-clause-durable : goal.returns-in_err-do_act-clause-durable
 returns-in_err-do_act-clause-durable g c = not_ok _ c.from_residual.result _ c.from_residual.ensures.1
@@ -91,17 +112,20 @@ returns-in_err-do_act-clause-cause g c =
     c.loop-act.invariant.faults c.in_err-do_act.ensures.cause
 
 pub returns-clause-durable : goal.returns-clause-durable
-returns-clause-durable g c = c.loop-act.invariant.durable ∙ ap (after_acts c.args.known.now.durable) (take_all c.loop-act.act-index c.args.acts.now c.loop-act-test.false)
+returns-clause-durable g c = c.loop-act.invariant.durable
+    ∙ ap (after_acts c.args.known.now.durable) (take_all c.loop-act.act-index c.args.acts.now c.loop-act-test.false)
 
 pub returns-clause-agrees : goal.returns-clause-agrees
 returns-clause-agrees g c = c.loop-act.invariant.agrees
 
 pub returns-clause-whole : goal.returns-clause-whole
 returns-clause-whole g c = λ told.
-    c.loop-act.invariant.printed told ∙ ap (λ (acts : List Act). g.B.Board.printed c.args.board.now ++ texts c.args.seal.now (deeds_of acts)) (take_all c.loop-act.act-index c.args.acts.now c.loop-act-test.false)
+    c.loop-act.invariant.printed told ∙ ap (λ (acts : List Act). g.B.Board.printed c.args.board.now
+    ++ texts c.args.seal.now (deeds_of acts)) (take_all c.loop-act.act-index c.args.acts.now c.loop-act-test.false)
 
 pub returns-clause-cause : goal.returns-clause-cause
-returns-clause-cause g c = went_well (g.B.Board.faults c.args.board.now) (g.B.Board.faults c.loop-act.board) tt c.loop-act.invariant.faults
+returns-clause-cause g c =
+    went_well (g.B.Board.faults c.args.board.now) (g.B.Board.faults c.loop-act.board) tt c.loop-act.invariant.faults
 
 pub returns-clause-beside : goal.returns-clause-beside
 returns-clause-beside g c = c.loop-act.invariant.beside

@@ -2,7 +2,7 @@ use Rattle.std.proofs.Common.{subst, sym}
 use Rattle.std.specs.Option.{ForSome}
 use Rattle.meter_states.specs.Fits.{Fits}
 use Rattle.totals_record.specs.States.{after}
-use Rattle.totals_record.specs.declared.durable.Durable.{Durable}
+use Rattle.totals_record.specs.declared.durable_state.Durable.{Durable}
 use Rattle.meter_run.proofs.Leaves.{beside_commit, commit_point}
 use Rattle.meter_run.proofs.storing.store.Goals as goal
 
@@ -19,19 +19,23 @@ returns-in-Err-clause-agrees g c = λ tables fits. tt
 pub returns-in-Ok-clause-points : goal.returns-in-Ok-clause-points
 returns-in-Ok-clause-points g c = λ told tables seal deed fits fits_after is.
     let d = c.args.known.now.durable in
-    commit_point g.B.Board tables seal c.args.board.now c.commit.new.board d c.args.known.now.place (after d c.args.change.now) deed is fits fits_after (c.commit.ensures.any_moment told) c.commit.ensures.beside.text
+    commit_point g.B.Board tables seal c.args.board.now c.commit.new.board d c.args.known.now.place
+    (after d c.args.change.now) deed is fits fits_after (c.commit.ensures.any_moment told) c.commit.ensures.beside.text
 
 pub returns-in-Ok-clause-beside : goal.returns-in-Ok-clause-beside
 returns-in-Ok-clause-beside g c = λ told.
     let d = c.args.known.now.durable in
-    beside_commit g.B.Board c.args.known.now.place d (after d c.args.change.now) c.args.board.now c.commit.new.board c.requires.slot c.commit.ensures.beside (c.commit.ensures.any_moment told)
+    beside_commit g.B.Board c.args.known.now.place d (after d c.args.change.now) c.args.board.now c.commit.new.board
+    c.requires.slot c.commit.ensures.beside (c.commit.ensures.any_moment told)
 
 pub returns-in-Err-clause-points : goal.returns-in-Err-clause-points
 returns-in-Err-clause-points g c = λ told tables seal deed fits fits_after is.
     let d = c.args.known.now.durable in
-    commit_point g.B.Board tables seal c.args.board.now c.commit.new.board d c.args.known.now.place (after d c.args.change.now) deed is fits fits_after (c.commit.ensures.any_moment told) c.commit.ensures.beside.text
+    commit_point g.B.Board tables seal c.args.board.now c.commit.new.board d c.args.known.now.place
+    (after d c.args.change.now) deed is fits fits_after (c.commit.ensures.any_moment told) c.commit.ensures.beside.text
 
 pub returns-in-Err-clause-beside : goal.returns-in-Err-clause-beside
 returns-in-Err-clause-beside g c = λ told.
     let d = c.args.known.now.durable in
-    beside_commit g.B.Board c.args.known.now.place d (after d c.args.change.now) c.args.board.now c.commit.new.board c.requires.slot c.commit.ensures.beside (c.commit.ensures.any_moment told)
+    beside_commit g.B.Board c.args.known.now.place d (after d c.args.change.now) c.args.board.now c.commit.new.board
+    c.requires.slot c.commit.ensures.beside (c.commit.ensures.any_moment told)

@@ -7,7 +7,8 @@ use Rattle.meter_states.proofs.meterage.add_charge.Goals as goal
 pub returns-then-above-modulus-clause-exact : goal.returns-then-above-modulus-clause-exact
 returns-then-above-modulus-clause-exact c =
     let m = c.args.meterage.now in
-    ap (λ (n : ℕ). record m { cover_left = n; rest = m.rest + c.saturating_sub.result }) c.saturating_sub-meterage.ensures
+    ap (λ (n : ℕ). record m { cover_left = n; rest = m.rest + c.saturating_sub.result })
+    c.saturating_sub-meterage.ensures
     ∙ ap (λ (n : ℕ). record m { cover_left = m.cover_left - c.args.charge; rest = m.rest + n }) c.saturating_sub.ensures
     ∙ added-less c.args.modulus c.args.charge m (omega (arith, c.saturating_sub.ensures, c.if-above-modulus.true))
 

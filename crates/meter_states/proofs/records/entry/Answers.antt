@@ -32,7 +32,9 @@ fare-requires c = record { range = c.requires.range.range }
 pub returns-clause-value : goal.returns-clause-value
 returns-clause-value c = λ s t is saved.
     entry-same c.args.kind c.args.position
-    (c.distance.ensures.value ∙ ap (λ (k : ℕ). millimetres_of k c.args.trip.now.roam) is.constant ∙ ap (λ (x : CoreTrip). millimetres_of s.constant x.roam) saved)
-    (c.distance-2.ensures.value ∙ ap (λ (k : ℕ). millimetres_of k c.args.trip.now.pulses) is.constant ∙ ap (λ (x : CoreTrip). millimetres_of s.constant x.pulses) saved)
+    (c.distance.ensures.value ∙ ap (λ (k : ℕ). millimetres_of k c.args.trip.now.roam) is.constant
+    ∙ ap (λ (x : CoreTrip). millimetres_of s.constant x.roam) saved)
+    (c.distance-2.ensures.value ∙ ap (λ (k : ℕ). millimetres_of k c.args.trip.now.pulses) is.constant
+    ∙ ap (λ (x : CoreTrip). millimetres_of s.constant x.pulses) saved)
     (c.fare.ensures.value s t is saved)
     (ap (λ (x : CoreTrip). x.extras_sum) saved)

@@ -17,7 +17,8 @@ returns-clause-range g c =
     let steps = c.display_steps.ensures.exact in
     let step = c.step.ensures.value in
     let fare = c.fare.ensures.exact in
-    let shown : c.fare.result ≡ min largest_amount (max trip.minimum (trip.initial + c.display_steps.result * c.step.result)) = cc in
+    let shown : c.fare.result
+    ≡ min largest_amount (max trip.minimum (trip.initial + c.display_steps.result * c.step.result)) = cc in
     record {
       kind = c.requires.closing.kind;
       number = (omega arith, omega arith);
@@ -51,7 +52,8 @@ returns-clause-value g c = λ s t is saved.
     receipt-same c.args.number c.args.closing.kind c.args.position
     (c.stamp-start.ensures.value s is.secured ∙ ap (λ (x : CoreTrip). stamp_at s x.started) saved)
     (c.stamp-finish.ensures.value s is.secured)
-    (c.distance.ensures.value ∙ ap (λ (k : ℕ). millimetres_of k c.args.trip.now.pulses) is.tariff.constant ∙ ap (λ (x : CoreTrip). millimetres_of s.constant x.pulses) saved)
+    (c.distance.ensures.value ∙ ap (λ (k : ℕ). millimetres_of k c.args.trip.now.pulses) is.tariff.constant
+    ∙ ap (λ (x : CoreTrip). millimetres_of s.constant x.pulses) saved)
     (ap (λ (x : CoreTrip). x.initial) saved)
     (ap (λ (x : CoreTrip). x.minimum) saved)
     (c.display_steps.ensures.value s t is.tariff saved)

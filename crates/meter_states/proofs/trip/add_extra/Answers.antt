@@ -22,7 +22,8 @@ returns-clause-range c = λ p is range.
     let counts = c.args.trip.now.extras in
     let same : 1 + i ≡ n = omega arith in
     let found : supplement_in p (1 + i) ≡ Some c.args.supplement = ap (supplement_in p) same ∙ is in
-    let most : get_or counts i 0 < most_in (supplement_in p (1 + i)) = subst (λ (o : Option Supplement). get_or counts i 0 < most_in o) (sym found) c.requires.few in
+    let most : get_or counts i 0 < most_in (supplement_in p (1 + i)) =
+    subst (λ (o : Option Supplement). get_or counts i 0 < most_in o) (sym found) c.requires.few in
     let within : i < length counts = omega (arith, range.extras) in
     let sum = amounts-more (supplement_in p) 1 i counts within in
     let amount : amount_in (supplement_in p (1 + i)) ≡ c.args.supplement.amount = ap amount_in found in

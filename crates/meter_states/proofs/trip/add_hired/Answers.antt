@@ -22,20 +22,25 @@ returns-clause-saved c = λ s t x is by e.
     ∙ ap (λ (w : Weights). charge_of s.mode w c.args.pulses) by
     ∙ ap (λ (k : ℕ). charge_of s.mode (rate_by s.tariff k x) c.args.pulses) is.tariff.constant
     ∙ charge-at s.mode s.tariff s.constant x c.args.pulses is.tariff.compiled.writable is.tariff.compiled.sound in
-    let before : c.args.trip.now.meterage ≡ saved (record { cover = t.opening.cover; above = t.opening.above; modulus = c.modulus.result }) (charges_of s t) =
-    ap (λ (x : CoreTrip). x.meterage) e ∙ ap (λ (n : ℕ). saved (record { cover = t.opening.cover; above = t.opening.above; modulus = n }) (charges_of s t)) (sym modulus) in
+    let before : c.args.trip.now.meterage
+    ≡ saved (record { cover = t.opening.cover; above = t.opening.above; modulus = c.modulus.result }) (charges_of s t) =
+    ap (λ (x : CoreTrip). x.meterage) e ∙ ap (λ (n : ℕ).
+    saved (record { cover = t.opening.cover; above = t.opening.above; modulus = n }) (charges_of s t)) (sym modulus) in
     let after = c.add_charge.ensures.sum t.opening.cover t.opening.above (charges_of s t) before in
     hired-saved s t c.args.pulses x c.args.trip.now c.add_charge.new.meterage e
     (after
-    ∙ ap (λ (n : ℕ). saved (record { cover = t.opening.cover; above = t.opening.above; modulus = n }) (charges_of s t + c.charge.result)) modulus
+    ∙ ap (λ (n : ℕ). saved (record { cover = t.opening.cover; above = t.opening.above; modulus = n })
+    (charges_of s t + c.charge.result)) modulus
     ∙ ap (λ (n : ℕ). saved (opening_of s t) (charges_of s t + n)) charged)
 
 pub add_charge-requires-clause-steps : goal.add_charge-requires-clause-steps
 add_charge-requires-clause-steps c =
     let p = c.args.tables.now in
     let fit = c.modulus.ensures.fit in
-    let most : c.charge.result ≤ 40001000000 * p.measure = rw c.charge.ensures.charge (charge-most _ c.args.weights c.args.pulses p.measure c.requires.pulses c.requires.weights.pulse_units c.requires.weights.tick_units) in
-    let filled = steps-most c.args.trip.now.meterage.rest c.charge.result c.args.trip.now.meterage.cover_left p.step p.measure fit.step.0 fit.measure.0 c.requires.range.rest most in
+    let most : c.charge.result ≤ 40001000000 * p.measure = rw c.charge.ensures.charge (charge-most _ c.args.weights
+    c.args.pulses p.measure c.requires.pulses c.requires.weights.pulse_units c.requires.weights.tick_units) in
+    let filled = steps-most c.args.trip.now.meterage.rest c.charge.result c.args.trip.now.meterage.cover_left p.step
+    p.measure fit.step.0 fit.measure.0 c.requires.range.rest most in
     rw c.modulus.ensures.value (omega (arith, filled, c.requires.range.steps, c.requires.range.ticks))
 
 pub returns-clause-range : goal.returns-clause-range
@@ -43,8 +48,10 @@ returns-clause-range c =
     let p = c.args.tables.now in
     let fit = c.modulus.ensures.fit in
     let range = c.requires.range in
-    let most : c.charge.result ≤ 40001000000 * p.measure = rw c.charge.ensures.charge (charge-most _ c.args.weights c.args.pulses p.measure c.requires.pulses c.requires.weights.pulse_units c.requires.weights.tick_units) in
-    let filled = steps-most c.args.trip.now.meterage.rest c.charge.result c.args.trip.now.meterage.cover_left p.step p.measure fit.step.0 fit.measure.0 range.rest most in
+    let most : c.charge.result ≤ 40001000000 * p.measure = rw c.charge.ensures.charge (charge-most _ c.args.weights
+    c.args.pulses p.measure c.requires.pulses c.requires.weights.pulse_units c.requires.weights.tick_units) in
+    let filled = steps-most c.args.trip.now.meterage.rest c.charge.result c.args.trip.now.meterage.cover_left p.step
+    p.measure fit.step.0 fit.measure.0 range.rest most in
     let steps = rw c.modulus.ensures.value at (ap (λ (m : Meterage). m.steps_full) c.add_charge.ensures.exact) in
     record {
       compiled = range.compiled;

@@ -21,7 +21,8 @@ returns-clause-range c =
     let made = c.start.ensures.exact in
     let step : 0 < p.step = omega (arith, fit.step.0) in
     let cover = ap (λ (m : Meterage). m.cover_left) made in
-    let most : c.args.fee.covers * c.measure.result ≤ largest_amount * c.measure.result = mul-le-mul_right c.measure.result
+    let most : c.args.fee.covers * c.measure.result ≤ largest_amount * c.measure.result =
+    mul-le-mul_right c.measure.result
     c.requires.fee.covers in
     record {
       compiled = c.measure.ensures.compiled;

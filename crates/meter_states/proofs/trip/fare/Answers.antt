@@ -25,17 +25,23 @@ pub returns-clause-value : goal.returns-clause-value
 returns-clause-value c = λ s t is saved.
     let p = c.args.tables.now in
     let some = modulus-above s p c.args.trip.now.meterage.rest is c.requires.range.rest in
-    c.shown.ensures.sum t.opening.cover t.opening.above (modulus_of s) (charges_of s t) some (ap (λ (x : CoreTrip). x.meterage) saved)
-    ∙ ap (λ (x : CoreTrip). shown_fare x.initial x.minimum c.step.result (steps_above c.rounding.result (opening_of s t) (charges_of s t))) saved
-    ∙ ap (λ (n : ℕ). shown_fare t.initial t.minimum n (steps_above c.rounding.result (opening_of s t) (charges_of s t))) (c.step.ensures.value ∙ step-is s p is)
-    ∙ ap (λ (r : Rounding). shown_fare t.initial t.minimum (display_step s.tariff).0 (steps_above r (opening_of s t) (charges_of s t))) (c.rounding.ensures ∙ rounding-is s p is)
+    c.shown.ensures.sum t.opening.cover t.opening.above (modulus_of s) (charges_of s t) some
+    (ap (λ (x : CoreTrip). x.meterage) saved)
+    ∙ ap (λ (x : CoreTrip). shown_fare x.initial x.minimum c.step.result
+    (steps_above c.rounding.result (opening_of s t) (charges_of s t))) saved
+    ∙ ap (λ (n : ℕ). shown_fare t.initial t.minimum n (steps_above c.rounding.result (opening_of s t) (charges_of s t)))
+    (c.step.ensures.value ∙ step-is s p is)
+    ∙ ap (λ (r : Rounding). shown_fare t.initial t.minimum (display_step s.tariff).0
+    (steps_above r (opening_of s t) (charges_of s t))) (c.rounding.ensures ∙ rounding-is s p is)
 
 pub returns-clause-exact : goal.returns-clause-exact
 returns-clause-exact c =
     let trip = c.args.trip.now in
     c.shown.ensures.exact
-    ∙ ap (λ (n : ℕ). shown_fare trip.initial trip.minimum n (steps_of c.rounding.result trip.meterage)) c.step.ensures.value
-    ∙ ap (λ (r : Rounding). shown_fare trip.initial trip.minimum c.args.tables.now.step (steps_of r trip.meterage)) c.rounding.ensures
+    ∙ ap (λ (n : ℕ). shown_fare trip.initial trip.minimum n (steps_of c.rounding.result trip.meterage))
+    c.step.ensures.value
+    ∙ ap (λ (r : Rounding). shown_fare trip.initial trip.minimum c.args.tables.now.step (steps_of r trip.meterage))
+    c.rounding.ensures
 
 pub returns-clause-most : goal.returns-clause-most
 returns-clause-most c = c.shown.ensures.most

@@ -20,7 +20,8 @@ returns-in_err-rest-clause-value c =
     (not_found _ _ c.in_err-rest.ensures))
 
 pub returns-in_err-rest-clause-ranges : goal.returns-in_err-rest-clause-ranges
-returns-in_err-rest-clause-ranges c = none_in_range _ c.from_residual-in_err-rest.result c.from_residual-in_err-rest.ensures
+returns-in_err-rest-clause-ranges c =
+    none_in_range _ c.from_residual-in_err-rest.result c.from_residual-in_err-rest.ensures
 
 pub returns-in_err-weekday-clause-value : goal.returns-in_err-weekday-clause-value
 unfolding change_at
@@ -31,7 +32,8 @@ returns-in_err-weekday-clause-value c =
     (not_found _ _ c.in_err-weekday.ensures.value)))
 
 pub returns-in_err-weekday-clause-ranges : goal.returns-in_err-weekday-clause-ranges
-returns-in_err-weekday-clause-ranges c = none_in_range _ c.from_residual-in_err-weekday.result c.from_residual-in_err-weekday.ensures
+returns-in_err-weekday-clause-ranges c =
+    none_in_range _ c.from_residual-in_err-weekday.result c.from_residual-in_err-weekday.ensures
 
 pub returns-in_err-rest-2-clause-value : goal.returns-in_err-rest-2-clause-value
 unfolding change_at
@@ -43,7 +45,8 @@ returns-in_err-rest-2-clause-value c =
     (not_found _ _ c.in_err-rest-2.ensures))))
 
 pub returns-in_err-rest-2-clause-ranges : goal.returns-in_err-rest-2-clause-ranges
-returns-in_err-rest-2-clause-ranges c = none_in_range _ c.from_residual-in_err-rest-2.result c.from_residual-in_err-rest-2.ensures
+returns-in_err-rest-2-clause-ranges c =
+    none_in_range _ c.from_residual-in_err-rest-2.result c.from_residual-in_err-rest-2.ensures
 
 pub returns-in_err-month-clause-value : goal.returns-in_err-month-clause-value
 unfolding change_at
@@ -56,7 +59,8 @@ returns-in_err-month-clause-value c =
     (not_found _ _ c.in_err-month.ensures.value)))))
 
 pub returns-in_err-month-clause-ranges : goal.returns-in_err-month-clause-ranges
-returns-in_err-month-clause-ranges c = none_in_range _ c.from_residual-in_err-month.result c.from_residual-in_err-month.ensures
+returns-in_err-month-clause-ranges c =
+    none_in_range _ c.from_residual-in_err-month.result c.from_residual-in_err-month.ensures
 
 pub returns-in_err-rest-3-clause-value : goal.returns-in_err-rest-3-clause-value
 unfolding change_at
@@ -70,7 +74,8 @@ returns-in_err-rest-3-clause-value c =
     (not_found _ _ c.in_err-rest-3.ensures))))))
 
 pub returns-in_err-rest-3-clause-ranges : goal.returns-in_err-rest-3-clause-ranges
-returns-in_err-rest-3-clause-ranges c = none_in_range _ c.from_residual-in_err-rest-3.result c.from_residual-in_err-rest-3.ensures
+returns-in_err-rest-3-clause-ranges c =
+    none_in_range _ c.from_residual-in_err-rest-3.result c.from_residual-in_err-rest-3.ensures
 
 pub returns-in_err-minute-clause-value : goal.returns-in_err-minute-clause-value
 unfolding change_at
@@ -85,7 +90,8 @@ returns-in_err-minute-clause-value c =
     (not_found _ _ c.in_err-minute.ensures.value)))))))
 
 pub returns-in_err-minute-clause-ranges : goal.returns-in_err-minute-clause-ranges
-returns-in_err-minute-clause-ranges c = none_in_range _ c.from_residual-in_err-minute.result c.from_residual-in_err-minute.ensures
+returns-in_err-minute-clause-ranges c =
+    none_in_range _ c.from_residual-in_err-minute.result c.from_residual-in_err-minute.ensures
 
 pub returns-clause-value : goal.returns-clause-value
 unfolding change_at

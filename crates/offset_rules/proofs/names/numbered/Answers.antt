@@ -1,4 +1,5 @@
-use Rattle.std.proofs.Common.{◌≡◌, ◌∙◌, ◌+◌, ◌<◌, ℕ, List, [], ◌∷◌, Bor, Option, drop, map, get_or, length, refl, sym, ap, arith}
+use Rattle.std.proofs.Common.{◌≡◌, ◌∙◌, ◌+◌, ◌<◌, ℕ, List, [], ◌∷◌, Bor, Option, drop, map, get_or, length, refl, sym}
+use Rattle.std.proofs.Common.{ap, arith}
 use Rattle.std.proofs.lemmas.List.{at_drop_more}
 use Rattle.std.proofs.Math.ListN.{drop_of_length-le}
 use Rattle.offset_rules.specs.Reading.{numbered_at}
@@ -11,7 +12,8 @@ found_from text place names = numbered_at (map (λ (name : Bor (List ℕ)). name
 
 -- the name at a place is the first of those from there on
 at_place : (text : List ℕ) (names : List (Bor (List ℕ))) (place : ℕ) → place < length names
-    → found_from text place (drop place names) ≡ found_from text place (get_or names place (record { ref_ptr = (0, 0); now = [] }) ∷ drop (place + 1) names)
+    → found_from text place (drop place names)
+    ≡ found_from text place (get_or names place (record { ref_ptr = (0, 0); now = [] }) ∷ drop (place + 1) names)
 at_place text names place within = at_drop_more (found_from text place) names place _ within
 
 pub loop-place-init : goal.loop-place-init
@@ -19,12 +21,15 @@ loop-place-init c = refl
 
 pub returns-in-Some-clause-value : goal.returns-in-Some-clause-value
 returns-in-Some-clause-value c =
-    sym c.loop-place.invariant ∙ at_place c.args.text.now c.args.names.now c.loop-place.place c.loop-place-test.true ∙ name_here _ _ _ _ c.in-Some.ensures
+    sym c.loop-place.invariant ∙ at_place c.args.text.now c.args.names.now c.loop-place.place c.loop-place-test.true
+    ∙ name_here _ _ _ _ c.in-Some.ensures
 
 pub loop-place-preserved : goal.loop-place-preserved
 loop-place-preserved c =
-    sym (name_later _ _ _ _ c.in_default.ensures refl) ∙ sym (at_place c.args.text.now c.args.names.now c.loop-place.place c.loop-place-test.true) ∙ c.loop-place.invariant
+    sym (name_later _ _ _ _ c.in_default.ensures refl)
+    ∙ sym (at_place c.args.text.now c.args.names.now c.loop-place.place c.loop-place-test.true) ∙ c.loop-place.invariant
 
 pub returns-clause-value : goal.returns-clause-value
 returns-clause-value c =
-    sym c.loop-place.invariant ∙ ap (found_from c.args.text.now c.loop-place.place) (drop_of_length-le c.args.names.now (omega (arith, c.loop-place-test.false)))
+    sym c.loop-place.invariant ∙ ap (found_from c.args.text.now c.loop-place.place)
+    (drop_of_length-le c.args.names.now (omega (arith, c.loop-place-test.false)))

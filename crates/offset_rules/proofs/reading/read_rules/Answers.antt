@@ -1,5 +1,5 @@
 use Rattle.std.proofs.Common.{subst, sym}
-use Rattle.offset_rules.specs.Says.{IsReadAs}
+use Rattle.offset_rules.specs.RulesText.{IsReadAs}
 use Rattle.offset_rules.proofs.TextsRead.{rules_are}
 use Rattle.offset_rules.proofs.reading.read_rules.Goals as goal
 

@@ -10,7 +10,9 @@ returns-in_err-receipt c =
 pub returns-in_err-count : goal.returns-in_err-count
 returns-in_err-count c =
     let none : c.from_residual-in_err-count.result ≡ None = search rules in
-    rw none (front_other c.args.text.now c.in_ok-receipt.receipt c.in_ok-receipt.part c.in_ok-receipt.ensures c.in_err-count.ensures)
+    rw none (front_other c.args.text.now c.in_ok-receipt.receipt c.in_ok-receipt.part c.in_ok-receipt.ensures
+    c.in_err-count.ensures)
 
 pub returns : goal.returns
-returns c = front_some c.args.text.now c.in_ok-receipt.receipt c.in_ok-receipt.part c.in_ok-count.count c.in_ok-receipt.ensures c.in_ok-count.ensures
+returns c = front_some c.args.text.now c.in_ok-receipt.receipt c.in_ok-receipt.part c.in_ok-count.count
+    c.in_ok-receipt.ensures c.in_ok-count.ensures

@@ -6,5 +6,6 @@ use Rattle.taxi_units.specs.Identifier.{is_identifier_character}
 abbrev pub invariant-loop-byte : goal.invariant-loop-byte
 invariant-loop-byte l = record {
   index : l.count ≡ l.byte-index;
-  characters : prefix_len is_identifier_character l.text ≡ l.count + prefix_len is_identifier_character (drop l.byte-index l.text);
+  characters : prefix_len is_identifier_character l.text
+      ≡ l.count + prefix_len is_identifier_character (drop l.byte-index l.text);
 }

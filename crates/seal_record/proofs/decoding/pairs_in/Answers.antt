@@ -9,6 +9,7 @@ pub loop-i-preserved : goal.loop-i-preserved
 loop-i-preserved c =
     let offset = to_z-of_z w32 c.signed_at.result c.signed_at.ensures.fits ∙ c.signed_at.ensures.value in
     record {
-      items = c.push.ensures.items ∙ ((λ i. c.loop-i.invariant.items i ++ (c.eight_at.ensures i, offset i) ∷ []) ∙ sym (one_more pair_table c.loop-i.i c.args.bytes.now 68));
+      items = c.push.ensures.items ∙ ((λ i. c.loop-i.invariant.items i ++ (c.eight_at.ensures i, offset i) ∷ [])
+          ∙ sym (one_more pair_table c.loop-i.i c.args.bytes.now 68));
       len = omega (arith, c.push.ensures.len, c.loop-i.invariant.len);
     }

@@ -5,4 +5,5 @@ use Rattle.seal_record.proofs.Ranged.{taxi_by}
 use Rattle.seal_record.proofs.decoding.taxi_in.Goals as goal
 
 pub returns : goal.returns
-returns c = taxi_by (λ taxi. taxi.items) c.taxi.result _ (subst (λ (text : List ℕ). Gives (λ taxi. taxi.items) c.taxi.result (taxi_read text)) c.before-2.ensures c.taxi.ensures)
+returns c = taxi_by (λ taxi. taxi.items) c.taxi.result _ (subst
+    (λ (text : List ℕ). Gives (λ taxi. taxi.items) c.taxi.result (taxi_read text)) c.before-2.ensures c.taxi.ensures)

@@ -5,7 +5,9 @@ use Rattle.seal_record.specs.OffsetLaws.{Decides-is_offset_list}
 use Rattle.seal_record.proofs.offset_list.offsets_of.Goals as goal
 
 pub returns-in-Ok : goal.returns-in-Ok
-returns-in-Ok c = rw ((Decides-is_offset_list c.args.pairs.now).1 (c.in-Ok.ensures.lawful.0 refl), c.in-Ok.ensures.value) refl
+returns-in-Ok c =
+    rw ((Decides-is_offset_list c.args.pairs.now).1 (c.in-Ok.ensures.lawful.0 refl), c.in-Ok.ensures.value) refl
 
 pub returns-in-Err : goal.returns-in-Err
-returns-in-Err c = rw (same_from_decides (is_offset_list c.args.pairs.now) false (Decides-is_offset_list c.args.pairs.now) c.in-Err.ensures.lawful) refl
+returns-in-Err c = rw (same_from_decides (is_offset_list c.args.pairs.now) false
+    (Decides-is_offset_list c.args.pairs.now) c.in-Err.ensures.lawful) refl

@@ -1,4 +1,4 @@
-use Rattle.seal_record.proofs.SaidRanges.{ranges_of_answer}
+use Rattle.seal_record.proofs.ParamRanges.{ranges_of_answer}
 use Rattle.seal_record.proofs.reading.read_params.Goals as goal
 
 pub returns-clause-ranges : goal.returns-clause-ranges

@@ -1,4 +1,4 @@
-use Rattle.seal_record.proofs.SaidRanges.{said_in_ranges}
+use Rattle.seal_record.proofs.ParamRanges.{said_in_ranges}
 use Rattle.seal_record.proofs.text_laws.parameters_are_in_their_ranges.Goals as goal
 
 pub returns : goal.returns

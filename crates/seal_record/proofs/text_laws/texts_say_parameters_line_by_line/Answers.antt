@@ -1,4 +1,5 @@
-use Rattle.seal_record.proofs.TextLaws.{a_line_is_parted, lines_make_the_text, lists_so_far, numbers_in_ranges, taxis_are_texts, the_first_bad_line}
+use Rattle.seal_record.proofs.TextLaws.{a_line_is_parted, lines_make_the_text, lists_so_far, numbers_in_ranges}
+use Rattle.seal_record.proofs.TextLaws.{taxis_are_texts, the_first_bad_line}
 use Rattle.seal_record.proofs.text_laws.texts_say_parameters_line_by_line.Goals as goal
 
 pub returns : goal.returns

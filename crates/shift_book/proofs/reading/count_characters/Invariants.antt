@@ -6,5 +6,6 @@ use Rattle.taxi_units.specs.Identifier.{is_identifier_character}
 abbrev pub invariant-loop-byte : goal.invariant-loop-byte
 invariant-loop-byte l = record {
   passed : l.count ≡ l.byte-index;
-  front : prefix_len is_identifier_character l.text ≡ l.count + prefix_len is_identifier_character (drop l.byte-index l.text);
+  front : prefix_len is_identifier_character l.text
+      ≡ l.count + prefix_len is_identifier_character (drop l.byte-index l.text);
 }

@@ -10,8 +10,10 @@ returns-in_err-driver-clause-none c =
 
 pub returns-then-is_empty-clause-some : goal.returns-then-is_empty-clause-some
 returns-then-is_empty-clause-some c =
-    let is = driver_is c.args.word.now c.in_ok-driver.driver.items c.in_ok-driver.rest.now (grind (arith, common_steps)) c.in_ok-driver.ensures.text in
+    let is = driver_is c.args.word.now c.in_ok-driver.driver.items c.in_ok-driver.rest.now
+    (grind (arith, common_steps)) c.in_ok-driver.ensures.text in
     (is, rw (← is) c.in_ok-driver.ensures.driver)
 
 pub returns-else-is_empty-clause-none : goal.returns-else-is_empty-clause-none
-returns-else-is_empty-clause-none c = driver_is_not c.args.word.now c.in_ok-driver.driver.items c.in_ok-driver.rest.now (grind (arith, common_steps)) c.in_ok-driver.ensures.text
+returns-else-is_empty-clause-none c = driver_is_not c.args.word.now c.in_ok-driver.driver.items c.in_ok-driver.rest.now
+    (grind (arith, common_steps)) c.in_ok-driver.ensures.text

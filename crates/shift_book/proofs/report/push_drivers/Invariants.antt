@@ -5,7 +5,8 @@ use Rattle.shift_book.proofs.report.push_drivers.Given as goal
 
 abbrev pub invariant-loop-driver : goal.invariant-loop-driver
 invariant-loop-driver l = record {
-  so_far : l.report.items ++ driver_lines l.decimals l.left.entries ≡ l.fn.report.items ++ driver_lines l.decimals l.initial.left.entries;
+  so_far : l.report.items ++ driver_lines l.decimals l.left.entries
+      ≡ l.fn.report.items ++ driver_lines l.decimals l.initial.left.entries;
   most : vec_len l.report + 512 * length l.left.entries ≤ vec_len l.fn.report + 512 * length l.initial.left.entries;
 }
 

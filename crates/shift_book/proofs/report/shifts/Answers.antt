@@ -13,44 +13,55 @@ use Rattle.shift_book.proofs.report.shifts.Goals as goal
 
 pub unsigned_of-unsigned-requires-clause-rise : goal.unsigned_of-unsigned-requires-clause-rise
 unsigned_of-unsigned-requires-clause-rise c =
-    subst (λ (n : Numbers). Rise n c.args.marks.now) (sym c.numbers_in-now.ensures.numbers) (rises c.args.now.now None c.args.marks.now c.requires.book)
+    subst (λ (n : Numbers). Rise n c.args.marks.now) (sym c.numbers_in-now.ensures.numbers)
+    (rises c.args.now.now None c.args.marks.now c.requires.book)
 
 pub unsigned_of-unsigned-requires-clause-fit : goal.unsigned_of-unsigned-requires-clause-fit
 unsigned_of-unsigned-requires-clause-fit c =
-    let rise = subst (λ (n : Numbers). Rise n c.args.marks.now) (sym c.numbers_in-now.ensures.numbers) (rises c.args.now.now None c.args.marks.now c.requires.book) in
+    let rise = subst (λ (n : Numbers). Rise n c.args.marks.now) (sym c.numbers_in-now.ensures.numbers)
+    (rises c.args.now.now None c.args.marks.now c.requires.book) in
     unsigned_fit c.numbers_in-now.result c.args.marks.now rise c.numbers_in-now.ensures.fit
 
 pub shifts_of-requires : goal.shifts_of-requires
 shifts_of-requires c =
-    subst (λ (n : Numbers). Rise n c.args.marks.now) (sym c.numbers_in-now.ensures.numbers) (rises c.args.now.now None c.args.marks.now c.requires.book)
+    subst (λ (n : Numbers). Rise n c.args.marks.now) (sym c.numbers_in-now.ensures.numbers)
+    (rises c.args.now.now None c.args.marks.now c.requires.book)
 
 pub sums_of-requires : goal.sums_of-requires
 sums_of-requires c =
-    let rise = subst (λ (n : Numbers). Rise n c.args.marks.now) (sym c.numbers_in-now.ensures.numbers) (rises c.args.now.now None c.args.marks.now c.requires.book) in
+    let rise = subst (λ (n : Numbers). Rise n c.args.marks.now) (sym c.numbers_in-now.ensures.numbers)
+    (rises c.args.now.now None c.args.marks.now c.requires.book) in
     let listed = c.as_slice.ensures.value ∙ c.in_ok-shifts.ensures in
-    subst (λ (l : List Shift). Fit (total_of l)) (sym listed) (total_fit c.numbers_in-now.result c.args.marks.now rise c.numbers_in-now.ensures.fit)
+    subst (λ (l : List Shift). Fit (total_of l)) (sym listed)
+    (total_fit c.numbers_in-now.result c.args.marks.now rise c.numbers_in-now.ensures.fit)
 
 pub returns-clause-text : goal.returns-clause-text
 returns-clause-text c =
-    text_is c.args.decimals c.numbers_in-now.result c.args.marks.now c.in_ok-shifts.shifts.items c.in_ok-sums.sums.entries
+    text_is c.args.decimals c.numbers_in-now.result c.args.marks.now c.in_ok-shifts.shifts.items
+    c.in_ok-sums.sums.entries
     c.unsigned_of-unsigned.result c.growth_of-growth.result
-    c.new-report.result.items c.push_shifts.new.report.items c.push_drivers.new.report.items c.push_line.new.report.items c.push_line-2.new.report.items
+    c.new-report.result.items c.push_shifts.new.report.items c.push_drivers.new.report.items
+    c.push_line.new.report.items c.push_line-2.new.report.items
     c.in_ok-shifts.ensures (c.in_ok-sums.ensures.entries ∙ ap (with_shifts []) c.as_slice.ensures.value)
     c.unsigned_of-unsigned.ensures c.growth_of-growth.ensures c.new-report.ensures.items
-    (subst (λ (l : List Shift). c.push_shifts.new.report.items ≡ c.new-report.result.items ++ shift_lines c.args.decimals 1 l) c.as_slice-2.ensures.value c.in_ok-push_shifts.ensures.text)
+    (subst (λ (l : List Shift). c.push_shifts.new.report.items ≡ c.new-report.result.items
+    ++ shift_lines c.args.decimals 1 l) c.as_slice-2.ensures.value c.in_ok-push_shifts.ensures.text)
     c.in_ok-push_drivers.ensures.text c.in_ok-push_line.ensures.text c.in_ok-push_line-2.ensures.text
     ∙ ap (λ (n : Numbers). report_text c.args.decimals n c.args.marks.now) c.numbers_in-now.ensures.numbers
 
 pub returns-clause-meaning : goal.returns-clause-meaning
 returns-clause-meaning c =
-    subst (λ (text : List ℕ). IsReport c.args.decimals (numbers_in c.args.now.now) c.args.marks.now text) (sym (returns-clause-text c))
+    subst (λ (text : List ℕ). IsReport c.args.decimals (numbers_in c.args.now.now) c.args.marks.now text)
+    (sym (returns-clause-text c))
     (reports_share_the_growth c.args.decimals c.args.now.now c.args.marks.now c.requires.book)
 
 pub returns-clause-short : goal.returns-clause-short
 returns-clause-short c =
     short_together c.numbers_in-now.result c.args.marks.now c.in_ok-shifts.shifts.items c.in_ok-sums.sums.entries
-    (vec_len c.new-report.result) (vec_len c.push_shifts.new.report) (vec_len c.push_drivers.new.report) (vec_len c.push_line.new.report) (vec_len c.push_line-2.new.report)
+    (vec_len c.new-report.result) (vec_len c.push_shifts.new.report) (vec_len c.push_drivers.new.report)
+    (vec_len c.push_line.new.report) (vec_len c.push_line-2.new.report)
     c.in_ok-shifts.ensures (c.in_ok-sums.ensures.entries ∙ ap (with_shifts []) c.as_slice.ensures.value)
     c.new-report.ensures.len
-    (subst (λ (l : List Shift). vec_len c.push_shifts.new.report ≤ vec_len c.new-report.result + 512 * length l) c.as_slice-2.ensures.value (search rules))
+    (subst (λ (l : List Shift). vec_len c.push_shifts.new.report ≤ vec_len c.new-report.result + 512 * length l)
+    c.as_slice-2.ensures.value (search rules))
     (search rules) (search rules) (search rules)

@@ -1,4 +1,5 @@
-use Rattle.tariff_calendar.proofs.Laws.{cuts_decide_conditions-condition, cuts_decide_conditions-initial, cuts_decide_conditions-minimum, cuts_decide_conditions-rate}
+use Rattle.tariff_calendar.proofs.Laws.{cuts_decide_conditions-condition, cuts_decide_conditions-initial}
+use Rattle.tariff_calendar.proofs.Laws.{cuts_decide_conditions-minimum, cuts_decide_conditions-rate}
 use Rattle.tariff_calendar.proofs.theorems.cuts_decide_conditions.Goals as goal
 
 pub returns-clause-condition : goal.returns-clause-condition

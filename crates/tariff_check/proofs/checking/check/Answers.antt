@@ -21,9 +21,11 @@ returns-clause-sound c =
 pub returns-in_err-numbers-clause-memory : goal.returns-in_err-numbers-clause-memory
 returns-in_err-numbers-clause-memory c =
     let p = err_from_is_err_and c.from_residual.result c.from_residual.ensures.1 in
-    rw (p.1, p.2) (subst (λ (lines : List TariffLine). c.in_err-numbers.field-0.0 ≡ NoMemory → HasNone (faults_before_cuts (map line_of lines))) c.as_slice.ensures c.in_err-numbers.ensures.memory)
+    rw (p.1, p.2) (subst (λ (lines : List TariffLine). c.in_err-numbers.field-0.0 ≡ NoMemory
+    → HasNone (faults_before_cuts (map line_of lines))) c.as_slice.ensures c.in_err-numbers.ensures.memory)
 
 pub returns-in_err-parts-clause-memory : goal.returns-in_err-parts-clause-memory
 returns-in_err-parts-clause-memory c =
     let p = err_from_is_err_and c.from_residual-in_err-parts.result c.from_residual-in_err-parts.ensures.1 in
-    rw (p.1, p.2) (subst (λ (lines : List TariffLine). c.in_err-parts.field-0.0 ≡ NoMemory → HasNone (faults_before_cuts (map line_of lines))) c.as_slice-2.ensures (λ e. c.in_err-parts.ensures.memory))
+    rw (p.1, p.2) (subst (λ (lines : List TariffLine). c.in_err-parts.field-0.0 ≡ NoMemory
+    → HasNone (faults_before_cuts (map line_of lines))) c.as_slice-2.ensures (λ e. c.in_err-parts.ensures.memory))

@@ -4,4 +4,5 @@ use Rattle.tariff_syntax.specs.Tree.{line_of}
 use Rattle.tariff_check.proofs.cuts.cuts.Given as goal
 
 abbrev pub invariant-loop-line : goal.invariant-loop-line
-invariant-loop-line l = with_each l.cuts.keys (all_cuts l.dimension (map line_of (drop l.line-index l.lines))) ≡ cuts_of l.dimension (map line_of l.lines)
+invariant-loop-line l = with_each l.cuts.keys (all_cuts l.dimension (map line_of (drop l.line-index l.lines)))
+    ≡ cuts_of l.dimension (map line_of l.lines)

@@ -5,4 +5,5 @@ use Rattle.tariff_syntax.specs.Tree.{line_of}
 use Rattle.tariff_check.proofs.parts.has_default_rate.Given as goal
 
 abbrev pub invariant-loop-line : goal.invariant-loop-line
-invariant-loop-line l = has_default (rate_conditions (map line_of (drop l.line-index l.lines))) ≡ has_default (rate_conditions (map line_of l.lines))
+invariant-loop-line l = has_default (rate_conditions (map line_of (drop l.line-index l.lines)))
+    ≡ has_default (rate_conditions (map line_of l.lines))

@@ -5,4 +5,5 @@ use Rattle.tariff_syntax.specs.Tree.{line_of}
 use Rattle.tariff_check.proofs.rules.first_line.Given as goal
 
 abbrev pub invariant-loop-place : goal.invariant-loop-place
-invariant-loop-place l = first_after (breaks_rule l.rule) (map line_of (take l.place l.lines)) (map line_of (drop l.place l.lines)) ≡ first_line (breaks_rule l.rule) (map line_of l.lines)
+invariant-loop-place l = first_after (breaks_rule l.rule) (map line_of (take l.place l.lines))
+    (map line_of (drop l.place l.lines)) ≡ first_line (breaks_rule l.rule) (map line_of l.lines)

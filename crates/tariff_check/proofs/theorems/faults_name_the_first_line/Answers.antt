@@ -1,4 +1,5 @@
-use Rattle.tariff_check.proofs.Laws.{faults_name_the_first_line-named, faults_name_the_first_line-none, faults_name_the_first_line-smallest}
+use Rattle.tariff_check.proofs.Laws.{faults_name_the_first_line-named, faults_name_the_first_line-none}
+use Rattle.tariff_check.proofs.Laws.{faults_name_the_first_line-smallest}
 use Rattle.tariff_check.proofs.theorems.faults_name_the_first_line.Goals as goal
 
 pub returns-clause-named : goal.returns-clause-named

@@ -1,4 +1,5 @@
-use Rattle.tariff_check.proofs.Laws.{lines_that_hold_are_there-initial, lines_that_hold_are_there-minimum, lines_that_hold_are_there-rate}
+use Rattle.tariff_check.proofs.Laws.{lines_that_hold_are_there-initial, lines_that_hold_are_there-minimum}
+use Rattle.tariff_check.proofs.Laws.{lines_that_hold_are_there-rate}
 use Rattle.tariff_check.proofs.theorems.lines_that_hold_are_there.Goals as goal
 
 pub returns-clause-rate : goal.returns-clause-rate

@@ -11,7 +11,8 @@ returns-then-is_hiring c =
     let one = c.args.one.now in
     let other = c.args.other.now in
     let first = c.fees_at.ensures ∙ ap (λ (t : TableParts). fees_in t c.args.x.now) c.tables.ensures.value in
-    let second = c.fees_at-then-is_hiring.ensures ∙ ap (λ (t : TableParts). fees_in t c.args.y.now) c.tables-then-is_hiring.ensures.value in
+    let second = c.fees_at-then-is_hiring.ensures
+    ∙ ap (λ (t : TableParts). fees_in t c.args.y.now) c.tables-then-is_hiring.ensures.value in
     let same = c.have_same_minimum.ensures
     ∙ (ap (λ (f : fees.Initial). have_same_minimum f c.fees_at-then-is_hiring.result) first
     ∙ ap (λ (f : fees.Initial). have_same_minimum (fees_in one.tables c.args.x.now) f) second) in
@@ -22,5 +23,7 @@ pub returns-else-is_hiring : goal.returns-else-is_hiring
 returns-else-is_hiring c =
     let one = c.args.one.now in
     let other = c.args.other.now in
-    neither (is_hiring c.args.m.now) (not (have_same_minimum (fees_in one.tables c.args.x.now) (fees_in other.tables c.args.y.now))) c.is_hiring.result c.is_hiring.ensures (sym c.is_hiring.ensures ∙ c.if-is_hiring.false)
+    neither (is_hiring c.args.m.now)
+    (not (have_same_minimum (fees_in one.tables c.args.x.now) (fees_in other.tables c.args.y.now))) c.is_hiring.result
+    c.is_hiring.ensures (sym c.is_hiring.ensures ∙ c.if-is_hiring.false)
     ∙ minimum_other_is one other c.args.m.now c.args.x.now c.args.y.now c.requires.one_context c.requires.other_context

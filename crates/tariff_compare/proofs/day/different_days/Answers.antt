@@ -10,5 +10,6 @@ loop-place-preserved c =
     let other = c.args.other.now in
     c.in_ok-put_day.ensures
     ∙ (ap (λ (ds : List Day). with_day ds c.day_in.result) c.loop-place.invariant
-    ∙ (ap (with_day (days_until one other c.loop-place.place)) (c.day_in.ensures ∙ ap (day_in one other) c.day_at.ensures.value)
+    ∙ (ap (with_day (days_until one other c.loop-place.place))
+    (c.day_in.ensures ∙ ap (day_in one other) c.day_at.ensures.value)
     ∙ sym (days_more one other c.loop-place.place)))

@@ -6,5 +6,7 @@ use Rattle.tariff_compare.proofs.difference.first_other.Given as goal
 
 abbrev pub invariant-loop-number : goal.invariant-loop-number
 invariant-loop-number l =
-    find (λ number. not (is_same_supplement (supplement_at (tree_of l.one) number) (supplement_at (tree_of l.other) number))) (drop l.number-index l.numbers)
-    ≡ find (λ number. not (is_same_supplement (supplement_at (tree_of l.one) number) (supplement_at (tree_of l.other) number))) l.numbers
+    find (λ number. not (is_same_supplement (supplement_at (tree_of l.one) number)
+    (supplement_at (tree_of l.other) number))) (drop l.number-index l.numbers)
+    ≡ find (λ number.
+    not (is_same_supplement (supplement_at (tree_of l.one) number) (supplement_at (tree_of l.other) number))) l.numbers

@@ -5,4 +5,5 @@ use Rattle.tariff_compare.proofs.search.at_pulses.Given as goal
 
 abbrev pub invariant-loop-pulse : goal.invariant-loop-pulse
 invariant-loop-pulse l =
-    first_by (λ n. if_met (is_met_by l.one l.other l.question) (record l.from { pulses = n })) (drop l.pulse-index l.pulses) ≡ first_by (λ n. if_met (is_met_by l.one l.other l.question) (record l.from { pulses = n })) l.pulses
+    first_by (λ n. if_met (is_met_by l.one l.other l.question) (record l.from { pulses = n })) (drop l.pulse-index
+    l.pulses) ≡ first_by (λ n. if_met (is_met_by l.one l.other l.question) (record l.from { pulses = n })) l.pulses

@@ -5,4 +5,6 @@ use Rattle.tariff_compare.proofs.search.in_grid.Given as goal
 
 abbrev pub invariant-loop-position : goal.invariant-loop-position
 invariant-loop-position l =
-    first_by (λ n. in_zones (is_met_by l.one l.other l.question) l.grid (record first_of_all { position = n })) (drop l.position-index l.positions) ≡ first_by (λ n. in_zones (is_met_by l.one l.other l.question) l.grid (record first_of_all { position = n })) l.positions
+    first_by (λ n. in_zones (is_met_by l.one l.other l.question) l.grid (record first_of_all { position = n }))
+    (drop l.position-index l.positions) ≡ first_by (λ n. in_zones (is_met_by l.one l.other l.question) l.grid
+    (record first_of_all { position = n })) l.positions

@@ -1,4 +1,5 @@
-use Rattle.tariff_compare.proofs.Laws.{differences_are_first-context, differences_are_first-frame, differences_are_first-none, differences_are_first-same_frame}
+use Rattle.tariff_compare.proofs.Laws.{differences_are_first-context, differences_are_first-frame}
+use Rattle.tariff_compare.proofs.Laws.{differences_are_first-none, differences_are_first-same_frame}
 use Rattle.tariff_compare.proofs.theorems.differences_are_first.Goals as goal
 
 pub returns-clause-none : goal.returns-clause-none

@@ -7,7 +7,8 @@ use Rattle.tariff_compile.proofs.cells.all_cells.Given as goal
 abbrev pub invariant-loop-first : goal.invariant-loop-first
 invariant-loop-first l = record {
   within : l.first ≤ l.count;
-  so_far : l.cells.items ≡ map (λ cell. lines_at (tree_of l.fn.checked) (context_of (tree_of l.fn.checked) l.k cell)) (range_with_len 0 l.first);
+  so_far : l.cells.items ≡ map (λ cell. lines_at (tree_of l.fn.checked) (context_of (tree_of l.fn.checked) l.k cell))
+      (range_with_len 0 l.first);
 }
 
 abbrev pub decreases-loop-first : goal.decreases-loop-first

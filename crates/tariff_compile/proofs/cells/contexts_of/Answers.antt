@@ -9,7 +9,8 @@ pub bands_of-requires : goal.bands_of-requires
 bands_of-requires c = c.requires.below c.loop-cell.cell c.loop-cell-test.true
 
 pub context_in-context-requires-clause-narrow : goal.context_in-context-requires-clause-narrow
-context_in-context-requires-clause-narrow c = rw c.bands_of.ensures (c.requires.narrow c.loop-cell.cell c.loop-cell-test.true)
+context_in-context-requires-clause-narrow c =
+    rw c.bands_of.ensures (c.requires.narrow c.loop-cell.cell c.loop-cell-test.true)
 
 pub loop-cell-preserved : goal.loop-cell-preserved
 loop-cell-preserved c =

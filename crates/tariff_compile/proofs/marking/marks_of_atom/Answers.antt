@@ -9,4 +9,5 @@ returns-in-Some c = λ place x at.
     let first = c.in-Some.first.now in
     let agree = c.requires.alike first (sym c.in-Some.ensures.value) place x at in
     c.all_or_none.ensures place (omega (arith, slice_get_within c.args.contexts.now place x at, c.requires.few))
-    ∙ (c.sat.ensures ∙ one_answer c.args.alike (condition_of c.args.cond.now) first x (sym c.if-not-is_asked.ensures) agree)
+    ∙ (c.sat.ensures
+    ∙ one_answer c.args.alike (condition_of c.args.cond.now) first x (sym c.if-not-is_asked.ensures) agree)

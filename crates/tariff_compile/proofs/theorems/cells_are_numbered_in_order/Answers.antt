@@ -1,4 +1,5 @@
-use Rattle.tariff_compile.proofs.Laws.{cells_are_numbered_in_order-count, cells_are_numbered_in_order-number, cells_are_numbered_in_order-order, cells_are_numbered_in_order-place}
+use Rattle.tariff_compile.proofs.Laws.{cells_are_numbered_in_order-count, cells_are_numbered_in_order-number}
+use Rattle.tariff_compile.proofs.Laws.{cells_are_numbered_in_order-order, cells_are_numbered_in_order-place}
 use Rattle.tariff_compile.proofs.theorems.cells_are_numbered_in_order.Goals as goal
 
 pub returns-clause-count : goal.returns-clause-count

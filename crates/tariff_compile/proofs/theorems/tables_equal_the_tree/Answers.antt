@@ -1,4 +1,6 @@
-use Rattle.tariff_compile.proofs.Laws.{tables_equal_the_tree-amounts, tables_equal_the_tree-cell, tables_equal_the_tree-fees, tables_equal_the_tree-lines, tables_equal_the_tree-weights}
+use Rattle.tariff_compile.proofs.Laws.{tables_equal_the_tree-amounts, tables_equal_the_tree-cell}
+use Rattle.tariff_compile.proofs.Laws.{tables_equal_the_tree-fees, tables_equal_the_tree-lines}
+use Rattle.tariff_compile.proofs.Laws.{tables_equal_the_tree-weights}
 use Rattle.tariff_compile.proofs.theorems.tables_equal_the_tree.Goals as goal
 
 pub returns-clause-cell : goal.returns-clause-cell

@@ -9,20 +9,31 @@ pub factor-returns-then-depth-eq0 : goal.factor-returns-then-depth-eq0
 factor-returns-then-depth-eq0 t c = none_deep c.args.depth (tokens_of c.args.line.now) (omega arith)
 
 pub factor-returns : goal.factor-returns
-factor-returns t c = rw (factor_step c.args.depth (c.args.depth - 1) (tokens_of c.args.line.now) (omega arith)) c.factor_above.ensures
+factor-returns t c =
+    rw (factor_step c.args.depth (c.args.depth - 1) (tokens_of c.args.line.now) (omega arith)) c.factor_above.ensures
 
 pub more_parts-returns-then-most-eq0 : goal.more_parts-returns-then-most-eq0
-more_parts-returns-then-most-eq0 t c = λ x h. chain_none (word_of c.args.joint) (joined_by c.args.joint (factor_first c.args.depth)) c.args.most x (tokens_of c.args.line.now) (omega arith)
+more_parts-returns-then-most-eq0 t c = λ x h. chain_none (word_of c.args.joint)
+    (joined_by c.args.joint (factor_first c.args.depth)) c.args.most x (tokens_of c.args.line.now) (omega arith)
 
 pub more_parts-returns-in_default : goal.more_parts-returns-in_default
-more_parts-returns-in_default t c = λ x h. rw (chain_ends (word_of c.args.joint) (joined_by c.args.joint (factor_first c.args.depth)) c.args.most x (tokens_of c.args.line.now) (omega arith) (rw c.word_of.ensures at c.in_default.ensures)) (h, refl)
+more_parts-returns-in_default t c =
+    λ x h. rw (chain_ends (word_of c.args.joint) (joined_by c.args.joint (factor_first c.args.depth)) c.args.most x
+    (tokens_of c.args.line.now) (omega arith) (rw c.word_of.ensures at c.in_default.ensures)) (h, refl)
 
 pub more_parts-returns-in_err-joined : goal.more_parts-returns-in_err-joined
 more_parts-returns-in_err-joined t c = λ x h.
-    let goes = chain_goes (word_of c.args.joint) (joined_by c.args.joint (factor_first c.args.depth)) c.args.most (c.args.most - 1) x (tokens_of c.args.line.now) (tokens_of c.in-Some.rest.now) (omega arith) (rw c.word_of.ensures at c.in-Some.ensures) in
+    let goes = chain_goes (word_of c.args.joint) (joined_by c.args.joint (factor_first c.args.depth)) c.args.most
+    (c.args.most - 1) x (tokens_of c.args.line.now) (tokens_of c.in-Some.rest.now) (omega arith)
+    (rw c.word_of.ensures at c.in-Some.ensures) in
     rw (c.from_residual.ensures, goes, c.in_err-joined.ensures x h) refl
 
 pub more_parts-returns : goal.more_parts-returns
 more_parts-returns t c = λ x h.
-    let goes = chain_goes (word_of c.args.joint) (joined_by c.args.joint (factor_first c.args.depth)) c.args.most (c.args.most - 1) x (tokens_of c.args.line.now) (tokens_of c.in-Some.rest.now) (omega arith) (rw c.word_of.ensures at c.in-Some.ensures) in
-    rw goes (then_builds (λ y. (y.0, tokens_of y.1.now)) c.more_parts.result c.in_ok-joined.joined (tokens_of c.in_ok-joined.rest.now) (joined_by c.args.joint (factor_first c.args.depth) x (tokens_of c.in-Some.rest.now)) (λ y. chain_on (word_of c.args.joint) (joined_by c.args.joint (factor_first c.args.depth)) (c.args.most - 1) y.0 y.1) (c.in_ok-joined.ensures x h) c.more_parts.ensures)
+    let goes = chain_goes (word_of c.args.joint) (joined_by c.args.joint (factor_first c.args.depth)) c.args.most
+    (c.args.most - 1) x (tokens_of c.args.line.now) (tokens_of c.in-Some.rest.now) (omega arith)
+    (rw c.word_of.ensures at c.in-Some.ensures) in
+    rw goes (then_builds (λ y. (y.0, tokens_of y.1.now)) c.more_parts.result c.in_ok-joined.joined (tokens_of
+    c.in_ok-joined.rest.now) (joined_by c.args.joint (factor_first c.args.depth) x (tokens_of c.in-Some.rest.now))
+    (λ y. chain_on (word_of c.args.joint) (joined_by c.args.joint (factor_first c.args.depth))
+    (c.args.most - 1) y.0 y.1) (c.in_ok-joined.ensures x h) c.more_parts.ensures)

@@ -4,7 +4,8 @@ use Rattle.tariff_syntax.specs.TokenReading.{run_end}
 use Rattle.tariff_syntax.proofs.tokens.count_figure.Given as goal
 
 abbrev pub invariant-loop-first : goal.invariant-loop-first
-invariant-loop-first l = (l.count + length l.rest ≡ length l.line) × (run_end goes_on l.line ≡ l.count + run_end goes_on l.rest)
+invariant-loop-first l =
+    (l.count + length l.rest ≡ length l.line) × (run_end goes_on l.line ≡ l.count + run_end goes_on l.rest)
 
 abbrev pub decreases-loop-first : goal.decreases-loop-first
 decreases-loop-first l = length l.rest

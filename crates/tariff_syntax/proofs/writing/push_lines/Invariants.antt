@@ -5,4 +5,5 @@ use Rattle.tariff_syntax.proofs.writing.push_lines.Given as goal
 
 abbrev pub invariant-loop-line : goal.invariant-loop-line
 invariant-loop-line l =
-    l.text.items ++ lines_text l.decimals (map line_of (drop l.line-index l.lines)) ≡ l.initial.text.items ++ lines_text l.decimals (map line_of l.lines)
+    l.text.items ++ lines_text l.decimals (map line_of (drop l.line-index l.lines))
+    ≡ l.initial.text.items ++ lines_text l.decimals (map line_of l.lines)

@@ -27,7 +27,7 @@ fn sealed(mode: Mode) -> Option<Seal> {
             taxi: ArrayVec::new(),
             constant: Constant::new(10_000).ok()?,
             mode,
-            hold: 60,
+            hold_time: 60,
             offsets: Offsets::from_pairs(&[(946_684_800, 3600)]).ok()?,
             secured: 10_957,
         },

@@ -10,5 +10,6 @@ returns-then-bytes-eq1 c = ap Some c.trip_in.ensures
     ∙ sym (ap (λ (n : ℕ). read_optional trip_table n c.args.bytes.now 80) c.if-bytes-eq1.true)
 
 pub returns-else-bytes-eq1 : goal.returns-else-bytes-eq1
-returns-else-bytes-eq1 c = sym (cond-false (byte_at c.args.bytes.now 80 == 1) (Some (trip_table.read c.args.bytes.now 81))
+returns-else-bytes-eq1 c =
+    sym (cond-false (byte_at c.args.bytes.now 80 == 1) (Some (trip_table.read c.args.bytes.now 81))
     None (ne_eqb (byte_at c.args.bytes.now 80) 1 c.if-bytes-eq1.false))

@@ -6,6 +6,8 @@ use Rattle.totals_record.proofs.spelling.put_meterage.Goals as goal
 pub returns-clause-items : goal.returns-clause-items
 returns-clause-items c =
     let start = c.args.out.now.items in let m = c.args.meterage.now in
-    let s1 = more start (sixteen m.cover_left) (eight m.steps_full) _ _ (c.put_sixteen.ensures.items) c.put_eight.ensures.items in
-    let s2 = more start ((sixteen m.cover_left) ++ eight m.steps_full) (sixteen m.rest) _ _ (s1) c.put_sixteen-2.ensures.items in
+    let s1 = more start (sixteen m.cover_left) (eight m.steps_full) _ _
+    (c.put_sixteen.ensures.items) c.put_eight.ensures.items in
+    let s2 =
+    more start ((sixteen m.cover_left) ++ eight m.steps_full) (sixteen m.rest) _ _ (s1) c.put_sixteen-2.ensures.items in
     s2

@@ -24,7 +24,8 @@ loop-run-preserved g c =
     let here = rw split at c.loop-run.invariant.amid in
     let carries = rw c.new-explained.ensures.items at c.in_ok-follow.ensures.carries in
     record {
-      amid = rw (c.in_ok-put_expected.ensures, c.as_slice.ensures.value) (carried_short s all _ left c.loop-run.meter c.follow.new.self c.loop-run.found.items c.follow.new.found.items carries here);
+      amid = rw (c.in_ok-put_expected.ensures, c.as_slice.ensures.value) (carried_short s all _ left c.loop-run.meter
+          c.follow.new.self c.loop-run.found.items c.follow.new.found.items carries here);
       sound = c.in_ok-follow.ensures.sound;
     }
 
@@ -34,6 +35,7 @@ returns g c =
     let all = expected_of s (flat_map run_events c.args.runs.now) in
     let whole : c.loop-run.run-index ≡ length c.args.runs.now = omega arith in
     let none : drop c.loop-run.run-index c.args.runs.now ≡ [] = rw whole (drop-length c.args.runs.now) in
-    let moves = rw c.new-explained-2.ensures.items at c.in_ok-end.ensures in
+    let moves = rw c.new-explained-2.ensures.items at c.in_ok-drop_at_end.ensures in
     rw (c.in_ok-put_expected-2.ensures, c.as_slice-2.ensures.value)
-    (ended_short s all c.loop-run.meter c.end.new.self c.loop-run.found.items c.end.new.found.items moves (rw none at c.loop-run.invariant.amid))
+    (ended_short s all c.loop-run.meter c.drop_at_end.new.self c.loop-run.found.items c.drop_at_end.new.found.items
+    moves (rw none at c.loop-run.invariant.amid))

@@ -20,7 +20,8 @@ loop-run-preserved g c =
     let all = explanations_of s (flat_map run_events c.args.runs.now) in
     let left = flat_map run_events (drop (c.loop-run.run-index + 1) c.args.runs.now) in
     record {
-      amid = c.in_ok-follow.ensures.carries all left (amid_next s all c.args.runs.now c.loop-run.run-index _ c.loop-run.meter c.loop-run.found.items (omega arith) c.loop-run.invariant.amid);
+      amid = c.in_ok-follow.ensures.carries all left (amid_next s all c.args.runs.now c.loop-run.run-index _
+          c.loop-run.meter c.loop-run.found.items (omega arith) c.loop-run.invariant.amid);
       sound = c.in_ok-follow.ensures.sound;
     }
 
@@ -30,4 +31,5 @@ returns g c =
     let all = explanations_of s (flat_map run_events c.args.runs.now) in
     let whole : c.loop-run.run-index ≡ length c.args.runs.now = omega arith in
     let none : drop c.loop-run.run-index c.args.runs.now ≡ [] = rw whole (drop-length c.args.runs.now) in
-    carried_to_the_end s all c.loop-run.meter c.end.new.self c.loop-run.found.items c.end.new.found.items c.in_ok-end.ensures (rw none at c.loop-run.invariant.amid)
+    carried_to_the_end s all c.loop-run.meter c.drop_at_end.new.self c.loop-run.found.items
+    c.drop_at_end.new.found.items c.in_ok-drop_at_end.ensures (rw none at c.loop-run.invariant.amid)

@@ -8,6 +8,7 @@ use Rattle.verify_bench.proofs.expecting.explain_counted.Given as goal
 
 abbrev pub invariant-loop-run : goal.invariant-loop-run
 invariant-loop-run g l = record {
-  amid : IsAmid (setting_under l.checked l.params) (explanations_of (setting_under l.checked l.params) (flat_map run_events l.runs)) (flat_map run_events (drop l.run-index l.runs)) l.meter l.found.items;
+  amid : IsAmid (setting_under l.checked l.params) (explanations_of (setting_under l.checked l.params)
+      (flat_map run_events l.runs)) (flat_map run_events (drop l.run-index l.runs)) l.meter l.found.items;
   sound : IsMeterInRange 8639999 0 l.meter;
 }

@@ -13,7 +13,8 @@ loop-trip-init c =
     let one : c.put_up.new.self.events ≡ 1 = omega (arith, up.counted, new.events) in
     let start = ap (λ (p : Place). p.tenths) place in
     record {
-      all = events_before c.put_up.new.self.events (c.args.trips - 0) (place_of c.put_up.new.self) c.args.seed c.args.trips one place (omega arith);
+      all = events_before c.put_up.new.self.events (c.args.trips - 0)
+          (place_of c.put_up.new.self) c.args.seed c.args.trips one place (omega arith);
       time = omega (arith, start);
       few = omega arith;
     }
@@ -25,11 +26,14 @@ loop-trip-preserved c =
     let written = c.put_trip.ensures in
     let p = place_of c.loop-trip.writing in
     let next : place_of c.put_trip.new.self ≡ (trip p).next = rw cleared.place at written.place in
-    let counted : c.put_trip.new.self.events ≡ c.loop-trip.writing.events + lines_events (trip p).lines = rw (cleared.place, cleared.events) at written.counted in
+    let counted : c.put_trip.new.self.events ≡ c.loop-trip.writing.events + lines_events (trip p).lines =
+    rw (cleared.place, cleared.events) at written.counted in
     let same = ap (λ (q : Place). q.tenths) cleared.place in
     record {
-      all = events_behind (lines_events (generated_lines c.args.seed c.args.trips)) c.loop-trip.writing.events c.put_trip.new.self.events
-          (c.args.trips - c.loop-trip.trip) (c.args.trips - (c.loop-trip.trip + 1)) p (place_of c.put_trip.new.self) inv.all (omega arith) (omega arith) counted next;
+      all = events_behind (lines_events (generated_lines c.args.seed c.args.trips)) c.loop-trip.writing.events
+          c.put_trip.new.self.events
+          (c.args.trips - c.loop-trip.trip) (c.args.trips - (c.loop-trip.trip + 1)) p
+          (place_of c.put_trip.new.self) inv.all (omega arith) (omega arith) counted next;
       time = omega (arith, written.few_tenths, same, inv.time);
       few = omega (arith, written.few_events, cleared.events, inv.few);
     }
@@ -37,5 +41,6 @@ loop-trip-preserved c =
 pub returns : goal.returns
 returns c =
     let total = lines_events (generated_lines c.args.seed c.args.trips) in
-    let all : c.loop-trip.writing.events ≡ total = events_of_all total c.loop-trip.writing.events (c.args.trips - c.loop-trip.trip) (place_of c.loop-trip.writing) c.loop-trip.invariant.all (omega arith) in
+    let all : c.loop-trip.writing.events ≡ total = events_of_all total c.loop-trip.writing.events
+    (c.args.trips - c.loop-trip.trip) (place_of c.loop-trip.writing) c.loop-trip.invariant.all (omega arith) in
     all ∙ sym (events_of_lines c.args.seed c.args.trips c.requires.1)

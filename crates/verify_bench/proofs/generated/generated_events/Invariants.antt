@@ -5,7 +5,8 @@ use Rattle.verify_bench.proofs.generated.generated_events.Given as goal
 
 abbrev pub invariant-loop-trip : goal.invariant-loop-trip
 invariant-loop-trip l = record {
-  all : l.writing.events + lines_events (trips_from (l.trips - l.trip) (place_of l.writing)).lines ≡ lines_events (generated_lines l.seed l.trips);
+  all : l.writing.events + lines_events (trips_from (l.trips - l.trip) (place_of l.writing)).lines
+      ≡ lines_events (generated_lines l.seed l.trips);
   time : l.writing.tenths ≤ 7500 * l.trip;
   few : l.writing.events ≤ 15000 * l.trip + 1;
 }

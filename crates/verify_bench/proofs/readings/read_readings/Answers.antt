@@ -31,7 +31,9 @@ pub loop-row-preserved : goal.loop-row-preserved
 loop-row-preserved c =
     let inv = c.loop-row.invariant in
     let step = rw (c.in-Some.is, c.in-Ok.is) at ((c.next.ensures.steps inv.left inv.trim).0 inv.ready) in
-    let more = rows-more (λ (s : Bor (List ℕ)). Some s.now) c.loop-row.row-iterator.rdr c.next.new.self.rdr (fields_of c.in-Ok.row) default_config states.StartRecord (strip_bom c.args.text.now) inv.rest inv.rows inv.config inv.source inv.reached step.0 in
+    let more = rows-more (λ (s : Bor (List ℕ)). Some s.now) c.loop-row.row-iterator.rdr c.next.new.self.rdr
+    (fields_of c.in-Ok.row) default_config states.StartRecord
+    (strip_bom c.args.text.now) inv.rest inv.rows inv.config inv.source inv.reached step.0 in
     record {
       trim = step.0.3 ∙ inv.trim;
       ready = inl step.1;
@@ -48,10 +50,13 @@ pub returns-in_err-take_row-clause-err : goal.returns-in_err-take_row-clause-err
 returns-in_err-take_row-clause-err c =
     let inv = c.loop-row.invariant in
     let step = rw (c.in-Some.is, c.in-Ok.is) at ((c.next.ensures.steps inv.left inv.trim).0 inv.ready) in
-    let more = rows-more (λ (s : Bor (List ℕ)). Some s.now) c.loop-row.row-iterator.rdr c.next.new.self.rdr (fields_of c.in-Ok.row) default_config states.StartRecord (strip_bom c.args.text.now) inv.rest inv.rows inv.config inv.source inv.reached step.0 in
+    let more = rows-more (λ (s : Bor (List ℕ)). Some s.now) c.loop-row.row-iterator.rdr c.next.new.self.rdr
+    (fields_of c.in-Ok.row) default_config states.StartRecord
+    (strip_bom c.args.text.now) inv.rest inv.rows inv.config inv.source inv.reached step.0 in
     let short : length c.args.text.now ≤ readings_limit = omega arith in
     let p = err_from_is_err_and c.from_residual.result c.from_residual.ensures.1 in
-    rw (p.1, p.2) (fault_of_row c.args.decimals c.args.text.now inv.rows (fields_of c.in-Ok.row) _ short (c.next.new.self.rdr.state, more.0, more.2) (c.in_err-take_row.ensures.err inv.rows inv.given))
+    rw (p.1, p.2) (fault_of_row c.args.decimals c.args.text.now inv.rows (fields_of c.in-Ok.row) _ short
+    (c.next.new.self.rdr.state, more.0, more.2) (c.in_err-take_row.ensures.err inv.rows inv.given))
 
 -- no row came, and the text ends
 pub returns-else-headed-clause-err : goal.returns-else-headed-clause-err
@@ -59,6 +64,7 @@ returns-else-headed-clause-err c =
     let inv = c.loop-row.invariant in
     let none = rw c.if-headed.false at inv.given in
     let step = rw c.in-None.is at ((c.next.ensures.steps inv.left inv.trim).0 inv.ready) in
-    let ended = rows-end (λ (s : Bor (List ℕ)). Some s.now) c.loop-row.row-iterator.rdr c.next.new.self.rdr [] default_config inv.rest inv.config inv.source step in
+    let ended = rows-end (λ (s : Bor (List ℕ)). Some s.now) c.loop-row.row-iterator.rdr c.next.new.self.rdr []
+    default_config inv.rest inv.config inv.source step in
     let short : length c.args.text.now ≤ readings_limit = omega arith in
     (short, empty (c.loop-row.row-iterator.rdr.state, inv.rest, rw none.0 at inv.reached, ended))

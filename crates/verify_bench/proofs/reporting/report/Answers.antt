@@ -14,9 +14,16 @@ loop-place-init c =
       bytes = rw (from.wtr, from.empty, c.new-2.ensures.items) refl;
     } in
     let header = c.in_ok-put_row.ensures [] first in
-    rw (c.in_ok-header.ensures.whole, text_of_none c.args.step c.args.decimals c.args.expected.now c.args.readings.now) at header
+    rw (c.in_ok-header.ensures.whole, text_of_none c.args.step c.args.decimals c.args.expected.now c.args.readings.now)
+    at header
 
 pub loop-place-preserved : goal.loop-place-preserved
 loop-place-preserved c =
-    let row = c.in_ok-put_row-2.ensures (rows_text (rows_to c.args.step c.args.decimals c.args.expected.now c.args.readings.now c.loop-place.place)) c.loop-place.invariant in
-    rw (c.in_ok-row.ensures.whole, c.at-expected.ensures, c.at-reading.ensures, text_of_more c.args.step c.args.decimals c.args.expected.now c.args.readings.now c.loop-place.place) at row
+    let row = c.in_ok-put_row-2.ensures (rows_text (rows_to c.args.step c.args.decimals c.args.expected.now
+    c.args.readings.now c.loop-place.place)) c.loop-place.invariant in
+    rw (
+      c.in_ok-row.ensures.whole,
+      c.at-expected.ensures,
+      c.at-reading.ensures,
+      text_of_more c.args.step c.args.decimals c.args.expected.now c.args.readings.now c.loop-place.place,
+    ) at row

@@ -4,8 +4,10 @@ use Rattle.verify_bench.proofs.reporting.row_of.Goals as goal
 pub returns : goal.returns
 returns c =
     let row =
-    c.in_ok-put_field-9.ensures _ (c.in_ok-put_field-8.ensures _ (c.in_ok-put_field-7.ensures _ (c.in_ok-put_field-6.ensures _
-    (c.in_ok-put_field-5.ensures _ (c.in_ok-put_field-4.ensures _ (c.in_ok-put_field-3.ensures _ (c.in_ok-put_field-2.ensures _
+    c.in_ok-put_field-9.ensures _
+    (c.in_ok-put_field-8.ensures _ (c.in_ok-put_field-7.ensures _ (c.in_ok-put_field-6.ensures _
+    (c.in_ok-put_field-5.ensures _
+    (c.in_ok-put_field-4.ensures _ (c.in_ok-put_field-3.ensures _ (c.in_ok-put_field-2.ensures _
     (c.in_ok-put_field.ensures [] c.begin_row-row.ensures))))))))
     in
     let wanted = c.texts_expected-wanted.ensures in

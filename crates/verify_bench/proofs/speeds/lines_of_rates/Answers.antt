@@ -1,7 +1,5 @@
-use Rattle.std.proofs.Common.{◌+◌, drop, refl, arith}
-use Rattle.std.proofs.lemmas.Grind.{common_steps}
-use Rattle.tariff_check.specs.SoundTariff.{own_values}
-use Rattle.verify_bench.proofs.CrossOverLines.{no_more, sound_at, text_more, values_at}
+use Rattle.std.proofs.Common.{◌≡◌, ◌+◌, ◌++◌, refl, rules}
+use Rattle.verify_bench.proofs.CrossOverLines.{line_more, no_more, sound_at}
 use Rattle.verify_bench.proofs.speeds.lines_of_rates.Goals as goal
 
 pub loop-place-init : goal.loop-place-init
@@ -12,12 +10,10 @@ line_of_rate-line-requires c = sound_at c.args.rates.now c.loop-place.place _ c.
 
 pub loop-place-preserved : goal.loop-place-preserved
 loop-place-preserved c =
-    let rates = c.args.rates.now in
-    let i = c.loop-place.place in
-    let here = values_at rates i _ c.loop-place-test.true in
-    let more = text_more c.loop-place.text.items _ (i + 1) (own_values (drop i rates))
-    (own_values (drop (i + 1) rates)) _ here c.loop-place.invariant in
-    grind (arith, common_steps, more)
+    let grown : c.extend_from_slice.new.self.items ≡ c.loop-place.text.items ++ c.line_of_rate-line.result.items =
+    search rules in
+    line_more c.args.rates.now c.loop-place.place c.loop-place.text.items _ _ _ _ c.loop-place-test.true
+    c.line_of_rate-line.ensures grown c.loop-place.invariant
 
 pub returns : goal.returns
 returns c = no_more c.args.rates.now c.loop-place.place

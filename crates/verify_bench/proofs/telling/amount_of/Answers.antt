@@ -9,4 +9,5 @@ returns-in-Some-clause-most c =
     let is : supplement_at (tree_of c.args.checked.now) c.args.number ≡ Some c.in-Some.supplement =
     sym c.supplement_at.ensures.value ∙ c.in-Some.is
     in
-    (sound_supplement (tree_of c.args.checked.now) c.args.number c.in-Some.supplement c.supplement_at.ensures.writable c.supplement_at.ensures.sound is).1
+    (sound_supplement (tree_of c.args.checked.now) c.args.number c.in-Some.supplement c.supplement_at.ensures.writable
+    c.supplement_at.ensures.sound is).1

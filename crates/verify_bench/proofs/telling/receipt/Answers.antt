@@ -22,11 +22,16 @@ returns g c hired trip is =
     rw (c.millimetres-hired_mm.ensures, whole_pulses s hired c.args.hiring.now trip is) refl
     in
     let charges : charges_of s trip ≡ c.args.hiring.now.whole.charge = sym (ap (λ (w : Sums). w.charge) is.whole) in
-    let shown : c.steps_shown-shown.result ≡ steps_shown s trip = rw (c.steps_shown-shown.ensures.steps, is.opening, charges) refl in
+    let shown : c.steps_shown-shown.result ≡ steps_shown s trip =
+    rw (c.steps_shown-shown.ensures.steps, is.opening, charges) refl in
     let few = c.steps_shown-shown.ensures.few c.args.hiring.now.whole.ticks c.requires.ticks is.few in
     let steps : c.min.result ≡ steps_shown s trip = omega (arith, c.min.ensures, few, shown) in
-    let step : c.step-step.result.0 ≡ (display_step s.tariff).0 = sym (ap (λ (o : Option (ℕ × Rounding)). (unwrap_or o (0, Behind)).0) c.step-step.ensures.value) in
-    let fare : c.fare_shown-fare.result ≡ fare_of s trip = rw (c.fare_shown-fare.ensures, step, shown, is.initial, is.minimum) refl in
-    let amounts : c.supplements-sum.result ≡ amounts_of s.tariff trip.extras = rw (c.supplements-sum.ensures, is.extras) refl in
-    let decimals : c.tariff.result.now.decimals ≡ s.tariff.decimals = ap (λ (t : Tariff). t.decimals) c.tariff.ensures.value in
+    let step : c.step-step.result.0 ≡ (display_step s.tariff).0 =
+    sym (ap (λ (o : Option (ℕ × Rounding)). (unwrap_or o (0, Behind)).0) c.step-step.ensures.value) in
+    let fare : c.fare_shown-fare.result ≡ fare_of s trip =
+    rw (c.fare_shown-fare.ensures, step, shown, is.initial, is.minimum) refl in
+    let amounts : c.supplements-sum.result ≡ amounts_of s.tariff trip.extras =
+    rw (c.supplements-sum.ensures, is.extras) refl in
+    let decimals : c.tariff.result.now.decimals ≡ s.tariff.decimals =
+    ap (λ (t : Tariff). t.decimals) c.tariff.ensures.value in
     rw (start, finish, distance, sym is.initial, sym is.minimum, steps, step, fare, amounts, decimals) refl

@@ -9,24 +9,30 @@ use Rattle.verify_bench.proofs.telling.supplements.Goals as goal
 
 pub loop-number-init : goal.loop-number-init
 loop-number-init c = record {
-  all = zero_plus _ ∙ all_among (λ number. amount_in (supplement_at (tree_of c.args.checked.now) number)) c.args.hiring.now.extras.items c.requires.numbers;
+  all = zero_plus _ ∙ all_among (λ number. amount_in (supplement_at (tree_of c.args.checked.now) number))
+      c.args.hiring.now.extras.items c.requires.numbers;
   few = omega arith;
 }
 
 pub overflow_add-sum : goal.overflow_add-sum
 overflow_add-sum c =
-    let few = mul-le c.times.result c.amount_of.result 99 1000000 (rw c.times.ensures (c.requires.few c.loop-number.number)) c.amount_of.ensures.most in
+    let few = mul-le c.times.result c.amount_of.result 99 1000000
+    (rw c.times.ensures (c.requires.few c.loop-number.number)) c.amount_of.ensures.most in
     omega (arith, few)
 
 pub loop-number-preserved : goal.loop-number-preserved
 loop-number-preserved c =
     let amount = λ (number : _). amount_in (supplement_at (tree_of c.args.checked.now) number) in
-    let few = mul-le c.times.result c.amount_of.result 99 1000000 (rw c.times.ensures (c.requires.few c.loop-number.number)) c.amount_of.ensures.most in
+    let few = mul-le c.times.result c.amount_of.result 99 1000000
+    (rw c.times.ensures (c.requires.few c.loop-number.number)) c.amount_of.ensures.most in
     record {
-      all = among_here amount c.loop-number.number c.loop-number.sum c.times.result c.amount_of.result _ c.args.hiring.now.extras.items (omega arith) c.times.ensures c.amount_of.ensures.amount c.loop-number.invariant.all;
+      all = among_here amount c.loop-number.number c.loop-number.sum c.times.result c.amount_of.result _
+          c.args.hiring.now.extras.items
+          (omega arith) c.times.ensures c.amount_of.ensures.amount c.loop-number.invariant.all;
       few = omega (arith, few);
     }
 
 pub returns : goal.returns
 returns c =
-    among_nothing (λ number. amount_in (supplement_at (tree_of c.args.checked.now) number)) c.loop-number.number c.loop-number.sum _ c.args.hiring.now.extras.items (omega arith) c.loop-number.invariant.all
+    among_nothing (λ number. amount_in (supplement_at (tree_of c.args.checked.now) number)) c.loop-number.number
+    c.loop-number.sum _ c.args.hiring.now.extras.items (omega arith) c.loop-number.invariant.all

@@ -7,6 +7,7 @@ use Rattle.verify_bench.proofs.telling.supplements.Given as goal
 
 abbrev pub invariant-loop-number : goal.invariant-loop-number
 invariant-loop-number l = record {
-  all : l.sum + amounts_among (λ number. amount_in (supplement_at (tree_of l.checked) number)) l.number (17 - l.number) l.hiring.extras.items ≡ amounts_of (tree_of l.checked) l.hiring.extras.items;
+  all : l.sum + amounts_among (λ number. amount_in (supplement_at (tree_of l.checked) number)) l.number
+      (17 - l.number) l.hiring.extras.items ≡ amounts_of (tree_of l.checked) l.hiring.extras.items;
   few : l.sum ≤ 99000000 * l.number;
 }

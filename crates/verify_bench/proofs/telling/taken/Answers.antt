@@ -9,7 +9,9 @@ loop-number-init c = rw c.new-taken.ensures.items refl
 
 pub loop-number-preserved : goal.loop-number-preserved
 loop-number-preserved c =
-    rw c.in_ok-put_taken.ensures (one_more_taken (taken_if (tree_of c.args.checked.now) c.args.hiring.now.extras.items) c.loop-number.number c.loop-number.taken.items _ (omega arith) c.loop-number.invariant)
+    rw c.in_ok-put_taken.ensures (one_more_taken (taken_if (tree_of c.args.checked.now) c.args.hiring.now.extras.items)
+    c.loop-number.number c.loop-number.taken.items _ (omega arith) c.loop-number.invariant)
 
 pub returns : goal.returns
-returns c = no_more_taken (taken_if (tree_of c.args.checked.now) c.args.hiring.now.extras.items) c.loop-number.number c.loop-number.taken.items _ (omega arith) c.loop-number.invariant
+returns c = no_more_taken (taken_if (tree_of c.args.checked.now) c.args.hiring.now.extras.items) c.loop-number.number
+    c.loop-number.taken.items _ (omega arith) c.loop-number.invariant

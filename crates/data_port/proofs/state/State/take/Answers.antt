@@ -7,7 +7,10 @@ use Rattle.data_port.proofs.state.State.take.Goals as goal
 pub push-requires-else-is_whole : goal.push-requires-else-is_whole
 push-requires-else-is_whole c =
     let fits : follows c.args.self.now.part.items c.args.byte ≡ true =
-    ap (λ (part : List ℕ). follows part c.args.byte) (sym c.as_slice.ensures.value) ∙ (sym c.may_follow.ensures ∙ c.if-not-may_follow.false) in
-    let left : has_all c.args.self.now.part.items ≡ false = ap has_all (sym c.as_slice-2.ensures.value) ∙ (sym c.is_whole.ensures ∙ c.if-is_whole.false) in
-    let room : length c.args.self.now.part.items < 15 = room_for (standing_of c.args.self.now) c.args.byte c.requires.sense c.requires.going fits left in
+    ap (λ (part : List ℕ). follows part c.args.byte) (sym c.as_slice.ensures.value)
+    ∙ (sym c.may_follow.ensures ∙ c.if-not-may_follow.false) in
+    let left : has_all c.args.self.now.part.items ≡ false =
+    ap has_all (sym c.as_slice-2.ensures.value) ∙ (sym c.is_whole.ensures ∙ c.if-is_whole.false) in
+    let room : length c.args.self.now.part.items < 15 =
+    room_for (standing_of c.args.self.now) c.args.byte c.requires.sense c.requires.going fits left in
     (omega arith, room)

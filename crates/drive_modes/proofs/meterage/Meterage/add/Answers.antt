@@ -7,5 +7,6 @@ use Rattle.drive_modes.proofs.meterage.Meterage.add.Goals as goal
 pub returns-clause-sum : goal.returns-clause-sum
 returns-clause-sum c = λ cover above charged old.
     let opening : Opening = record { cover = cover; above = above; modulus = c.args.modulus } in
-    let then = ap (λ (m : Meterage). added c.args.modulus m c.args.charge) old ∙ added-saved opening charged c.args.charge (omega arith) in
+    let then = ap (λ (m : Meterage). added c.args.modulus m c.args.charge) old
+    ∙ added-saved opening charged c.args.charge (omega arith) in
     cc

@@ -1,4 +1,5 @@
-use Rattle.std.proofs.Common.{rules, ◌≡◌, inl, inr, ◌+◌, ◌-◌, ◌<◌, ◌++◌, List, ℕ, length, ap, sym, ◌∙◌, subst, arith, length-append, false, eqb, ◌≤◌, All}
+use Rattle.std.proofs.Common.{rules, ◌≡◌, inl, inr, ◌+◌, ◌-◌, ◌<◌, ◌++◌, List, ℕ, length, ap, sym, ◌∙◌, subst, arith}
+use Rattle.std.proofs.Common.{length-append, false, eqb, ◌≤◌, All}
 use Rattle.std.proofs.lemmas.Bool.{eqb-false}
 use Rattle.std.proofs.lemmas.List.Elements.{All-append}
 use Rattle.std.proofs.lemmas.Result.{err_from_is_err_and}
@@ -10,8 +11,10 @@ use Rattle.drive_text.proofs.Feeding.{breaks_in, breaks_reader, some_taken, shor
 use Rattle.drive_text.proofs.Standing.{failed_stays}
 use Rattle.drive_text.proofs.reader.Reader.feed.Goals as goal
 
-the_range : (old runs new : List Run) → new ≡ old ++ runs → All IsRunInRange runs → All IsRunInRange old → All IsRunInRange new
-the_range old runs new is range before = subst (All IsRunInRange) (sym is) (All-append IsRunInRange old runs before range)
+the_range : (old runs new : List Run) → new ≡ old ++ runs → All IsRunInRange runs → All IsRunInRange old
+    → All IsRunInRange new
+the_range old runs new is range before =
+    subst (All IsRunInRange) (sym is) (All-append IsRunInRange old runs before range)
 
 not_full : (n : ℕ) → eqb n 64 ≡ false → n ≤ 64 → n < 64
 not_full n other few = let e = eqb-false n 64 other in omega (arith, e, few)
@@ -20,31 +23,38 @@ left : (piece done rest : List ℕ) → piece ≡ done ++ rest → length piece 
 left piece done rest split = omega (arith, ap length split, length-append done rest)
 
 pub returns-then-self-clause-failed : goal.returns-then-self-clause-failed
-returns-then-self-clause-failed c = λ b h. failed_stays c.args.self.now b c.args.piece.now h (sym (ap (λ (r : Reading). r.failed) c.self.view_is) ∙ c.if-self.true)
+returns-then-self-clause-failed c = λ b h. failed_stays c.args.self.now b c.args.piece.now h
+    (sym (ap (λ (r : Reading). r.failed) c.self.view_is) ∙ c.if-self.true)
 
 pub loop-rest-init : goal.loop-rest-init
 loop-rest-init c =
-    let going : c.args.self.now.failed ≡ false = sym (ap (λ (r : Reading). r.failed) c.self.view_is) ∙ c.if-self.false in
-    subst (λ (r : Reading). Feeds c.args.self.now r c.args.piece.now c.args.piece.now c.args.out.now.items c.args.out.now.items) (sym c.self.view_is) (feeds_none c.args.self.now c.args.piece.now c.args.out.now.items going)
+    let going : c.args.self.now.failed ≡ false =
+    sym (ap (λ (r : Reading). r.failed) c.self.view_is) ∙ c.if-self.false in
+    subst (λ (r : Reading). Feeds c.args.self.now r c.args.piece.now c.args.piece.now c.args.out.now.items
+    c.args.out.now.items) (sym c.self.view_is) (feeds_none c.args.self.now c.args.piece.now c.args.out.now.items going)
 
 pub returns-then-is_full-clause-taken : goal.returns-then-is_full-clause-taken
 returns-then-is_full-clause-taken c = λ b h.
     let f = c.loop-rest.invariant in
-    feeds_reader c.args.self.now _ c.args.piece.now c.loop-rest.rest.now c.args.out.now.items c.loop-rest.out.items _ f (left c.args.piece.now f.done c.loop-rest.rest.now f.split) b h
+    feeds_reader c.args.self.now _ c.args.piece.now c.loop-rest.rest.now c.args.out.now.items c.loop-rest.out.items _ f
+    (left c.args.piece.now f.done c.loop-rest.rest.now f.split) b h
 
 pub returns-then-is_full-clause-runs : goal.returns-then-is_full-clause-runs
 returns-then-is_full-clause-runs c = λ b h.
     let f = c.loop-rest.invariant in
     let full : length c.loop-rest.out.items ≡ 64 = search rules in
-    takes_to c.args.self.now _ c.args.piece.now c.loop-rest.rest.now c.args.out.now.items c.loop-rest.out.items _ f (left c.args.piece.now f.done c.loop-rest.rest.now f.split) (inr full) b h
+    takes_to c.args.self.now _ c.args.piece.now c.loop-rest.rest.now c.args.out.now.items c.loop-rest.out.items _ f
+    (left c.args.piece.now f.done c.loop-rest.rest.now f.split) (inr full) b h
 
 pub returns-then-is_full-clause-some : goal.returns-then-is_full-clause-some
 returns-then-is_full-clause-some c = λ room piece.
     let full : length c.loop-rest.out.items ≡ 64 = search rules in
-    some_taken c.args.self.now _ c.args.piece.now c.loop-rest.rest.now c.args.out.now.items c.loop-rest.out.items c.loop-rest.invariant full room
+    some_taken c.args.self.now _ c.args.piece.now c.loop-rest.rest.now c.args.out.now.items c.loop-rest.out.items
+    c.loop-rest.invariant full room
 
 pub returns-then-is_full-clause-range : goal.returns-then-is_full-clause-range
-returns-then-is_full-clause-range c = the_range c.args.out.now.items c.loop-rest.invariant.runs c.loop-rest.out.items c.loop-rest.invariant.added c.loop-rest.invariant.in_range
+returns-then-is_full-clause-range c = the_range c.args.out.now.items c.loop-rest.invariant.runs c.loop-rest.out.items
+    c.loop-rest.invariant.added c.loop-rest.invariant.in_range
 
 -- some bytes that were taken
 sense : (c : goal.After-from_residual) → (b : List ℕ) × HasTaken c.args.self.now b
@@ -53,30 +63,39 @@ sense c = (c.self.invariant.0, subst (λ (r : Reading). HasTaken r c.self.invari
 pub invariant_of-self-in_err-rest : goal.invariant_of-self-in_err-rest
 invariant_of-self-in_err-rest c =
     let b = sense c in
-    let f = c.loop-rest.invariant in
-    (b.0 ++ c.args.piece.now, breaks_reader c.args.self.now _ _ c.args.piece.now c.loop-rest.rest.now c.args.out.now.items c.loop-rest.out.items _ f c.in_err-rest.ensures.err b.0 b.1)
+    let f = c.loop-rest.invariant in (
+      b.0 ++ c.args.piece.now,
+      breaks_reader c.args.self.now _ _ c.args.piece.now c.loop-rest.rest.now c.args.out.now.items c.loop-rest.out.items
+          _ f c.in_err-rest.ensures.err b.0 b.1,
+    )
 
 pub returns-in_err-rest-clause-failed : goal.returns-in_err-rest-clause-failed
 returns-in_err-rest-clause-failed c =
     let p = err_from_is_err_and c.from_residual.result c.from_residual.ensures.1 in
-    rw (p.1) (λ b h. breaks_reader c.args.self.now _ _ c.args.piece.now c.loop-rest.rest.now c.args.out.now.items c.loop-rest.out.items _ c.loop-rest.invariant c.in_err-rest.ensures.err b h)
+    rw (p.1) (λ b h. breaks_reader c.args.self.now _ _ c.args.piece.now c.loop-rest.rest.now c.args.out.now.items
+    c.loop-rest.out.items _ c.loop-rest.invariant c.in_err-rest.ensures.err b h)
 
 pub returns-in_err-rest-clause-bad : goal.returns-in_err-rest-clause-bad
 returns-in_err-rest-clause-bad c =
     let p = err_from_is_err_and c.from_residual.result c.from_residual.ensures.1 in
     let same = c.in_err-rest.ensures.out in
-    let room : length c.loop-rest.out.items < 64 = not_full (length c.loop-rest.out.items) (sym c.is_full.ensures.value ∙ c.if-is_full.false) c.is_full.ensures.fits in
-    rw (p.1, p.2, same) (λ going b h. breaks_in c.args.self.now _ _ c.args.piece.now c.loop-rest.rest.now c.args.out.now.items c.loop-rest.out.items _ c.loop-rest.invariant c.in_err-rest.ensures.err room b h)
+    let room : length c.loop-rest.out.items < 64 =
+    not_full (length c.loop-rest.out.items) (sym c.is_full.ensures.value ∙ c.if-is_full.false) c.is_full.ensures.fits in
+    rw (p.1, p.2, same) (λ going b h. breaks_in c.args.self.now _ _ c.args.piece.now c.loop-rest.rest.now
+    c.args.out.now.items c.loop-rest.out.items _ c.loop-rest.invariant c.in_err-rest.ensures.err room b h)
 
 pub returns-in_err-rest-clause-range : goal.returns-in_err-rest-clause-range
 returns-in_err-rest-clause-range c =
     let same = c.in_err-rest.ensures.out in
-    rw same (the_range c.args.out.now.items c.loop-rest.invariant.runs c.loop-rest.out.items c.loop-rest.invariant.added c.loop-rest.invariant.in_range)
+    rw same (the_range c.args.out.now.items c.loop-rest.invariant.runs c.loop-rest.out.items c.loop-rest.invariant.added
+    c.loop-rest.invariant.in_range)
 
 pub loop-rest-preserved : goal.loop-rest-preserved
 loop-rest-preserved c =
-    let room : length c.loop-rest.out.items < 64 = not_full (length c.loop-rest.out.items) (sym c.is_full.ensures.value ∙ c.if-is_full.false) c.is_full.ensures.fits in
-    feeds_more c.args.self.now _ _ c.args.piece.now c.loop-rest.rest.now c.in_ok-rest.rest.now c.args.out.now.items c.loop-rest.out.items c.take.new.out.items room c.loop-rest.invariant (search rules)
+    let room : length c.loop-rest.out.items < 64 =
+    not_full (length c.loop-rest.out.items) (sym c.is_full.ensures.value ∙ c.if-is_full.false) c.is_full.ensures.fits in
+    feeds_more c.args.self.now _ _ c.args.piece.now c.loop-rest.rest.now c.in_ok-rest.rest.now c.args.out.now.items
+    c.loop-rest.out.items c.take.new.out.items room c.loop-rest.invariant (search rules)
 
 none_left : (rest : List ℕ) → length rest ≡ 0 → (n : ℕ) → n + length rest ≡ n
 none_left rest none n = omega arith
@@ -84,12 +103,14 @@ none_left rest none n = omega arith
 pub returns-clause-taken : goal.returns-clause-taken
 returns-clause-taken c = λ b h.
     let none : length c.loop-rest.rest.now ≡ 0 = search rules in
-    feeds_reader c.args.self.now _ c.args.piece.now c.loop-rest.rest.now c.args.out.now.items c.loop-rest.out.items _ c.loop-rest.invariant (none_left c.loop-rest.rest.now none (length c.args.piece.now)) b h
+    feeds_reader c.args.self.now _ c.args.piece.now c.loop-rest.rest.now c.args.out.now.items c.loop-rest.out.items _
+    c.loop-rest.invariant (none_left c.loop-rest.rest.now none (length c.args.piece.now)) b h
 
 pub returns-clause-runs : goal.returns-clause-runs
 returns-clause-runs c = λ b h.
     let none : length c.loop-rest.rest.now ≡ 0 = search rules in
-    takes_to c.args.self.now _ c.args.piece.now c.loop-rest.rest.now c.args.out.now.items c.loop-rest.out.items _ c.loop-rest.invariant (none_left c.loop-rest.rest.now none (length c.args.piece.now)) (inl none) b h
+    takes_to c.args.self.now _ c.args.piece.now c.loop-rest.rest.now c.args.out.now.items c.loop-rest.out.items _
+    c.loop-rest.invariant (none_left c.loop-rest.rest.now none (length c.args.piece.now)) (inl none) b h
 
 pub overflow_sub-result : goal.overflow_sub-result
 overflow_sub-result c =

@@ -7,7 +7,8 @@ use Rattle.log_commands.proofs.roll.Roll.next.Given as goal
 
 abbrev pub invariant-loop-record : goal.invariant-loop-record
 invariant-loop-record g l = record {
-  goes : g.F.Files.tells → GoesOn l.fn.self l.self (g.F.Files.rest l.fn.files l.word) (g.F.Files.rest l.files l.word) [];
+  goes : g.F.Files.tells
+      → GoesOn l.fn.self l.self (g.F.Files.rest l.fn.files l.word) (g.F.Files.rest l.files l.word) [];
   stays : (end : RollEnd) → l.fn.self.end ≡ Some end → (l.self.end ≡ Some end) × (l.files ≡ l.fn.files);
   fault : RisesOnlyIf (FailsNow l.fn.self l.self) (g.F.Files.faults l.fn.files l.word)
       (g.F.Files.faults l.files l.word);

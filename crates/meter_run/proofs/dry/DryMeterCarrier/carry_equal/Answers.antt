@@ -13,12 +13,15 @@ equal_intervals-requires g c = record {
 
 pub returns-clause-ready : goal.returns-clause-ready
 returns-clause-ready g c = λ board ready.
-    ready_still c.args.by.now.tables.now c.args.by.now.seal.now (intervals_of c.args.pulses c.equal_intervals.result) c.args.self.now.core c.equal_intervals.new.self
+    ready_still c.args.by.now.tables.now c.args.by.now.seal.now
+    (intervals_of c.args.pulses c.equal_intervals.result) c.args.self.now.core c.equal_intervals.new.self
     c.equal_intervals.ensures.meets c.equal_intervals.ensures.lawful c.args.self.now.durable ready
 
 pub returns-clause-carried : goal.returns-clause-carried
 returns-clause-carried g c = λ board ready.
     let n = c.equal_intervals.result in
     let x = c.args.self.now in
-    subst (λ (es : List Event). Carries g.B.Board c.args.by.now.tables.now c.args.by.now.seal.now x board es (record x { core = c.equal_intervals.new.self }) board) (intervals_are c.args.pulses n)
-    (carries_still g.B.Board c.args.by.now.tables.now c.args.by.now.seal.now (intervals_of c.args.pulses n) x c.equal_intervals.new.self board c.equal_intervals.ensures.meets)
+    subst (λ (es : List Event). Carries g.B.Board c.args.by.now.tables.now c.args.by.now.seal.now x board es
+    (record x { core = c.equal_intervals.new.self }) board) (intervals_are c.args.pulses n)
+    (carries_still g.B.Board c.args.by.now.tables.now c.args.by.now.seal.now
+    (intervals_of c.args.pulses n) x c.equal_intervals.new.self board c.equal_intervals.ensures.meets)

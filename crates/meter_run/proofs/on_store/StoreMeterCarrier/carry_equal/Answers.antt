@@ -17,8 +17,10 @@ pub returns-clause-ready : goal.returns-clause-ready
 returns-clause-ready g c = λ board ready. record {
   secured = ready.secured;
   lawful = c.equal_intervals.ensures.lawful;
-  knows = knows_still c.args.by.now.tables.now c.args.by.now.seal.now (intervals_of c.args.pulses c.equal_intervals.result) c.args.self.now.core c.equal_intervals.new.self
-      c.equal_intervals.ensures.meets c.equal_intervals.ensures.lawful g.B.Board c.args.self.now.known board c.equal_intervals.ensures.same.0 ready.knows;
+  knows = knows_still c.args.by.now.tables.now c.args.by.now.seal.now
+      (intervals_of c.args.pulses c.equal_intervals.result) c.args.self.now.core c.equal_intervals.new.self
+      c.equal_intervals.ensures.meets c.equal_intervals.ensures.lawful g.B.Board c.args.self.now.known board
+      c.equal_intervals.ensures.same.0 ready.knows;
 }
 
 pub returns-clause-carried : goal.returns-clause-carried
@@ -26,7 +28,10 @@ returns-clause-carried g c = λ board ready.
     let n = c.equal_intervals.result in
     let x = c.args.self.now in
     record {
-      out = subst (λ (es : List Event). CarriesOut g.B.Board c.args.by.now.tables.now c.args.by.now.seal.now (λ s m. run s es m) x board (record x { core = c.equal_intervals.new.self }) board) (intervals_are c.args.pulses n)
-          (out_still g.B.Board c.args.by.now.tables.now c.args.by.now.seal.now (intervals_of c.args.pulses n) x c.equal_intervals.new.self board (g.met.B.Board.only_now board) c.equal_intervals.ensures.meets);
-      supply = equal_keep_off x.core.plain c.equal_intervals.new.self.plain c.args.pulses n c.equal_intervals.ensures.same.0;
+      out = subst (λ (es : List Event). CarriesOut g.B.Board c.args.by.now.tables.now c.args.by.now.seal.now (λ s m.
+          run s es m) x board (record x { core = c.equal_intervals.new.self }) board) (intervals_are c.args.pulses n)
+          (out_still g.B.Board c.args.by.now.tables.now c.args.by.now.seal.now (intervals_of c.args.pulses n) x
+          c.equal_intervals.new.self board (g.met.B.Board.only_now board) c.equal_intervals.ensures.meets);
+      supply =
+          equal_keep_off x.core.plain c.equal_intervals.new.self.plain c.args.pulses n c.equal_intervals.ensures.same.0;
     }

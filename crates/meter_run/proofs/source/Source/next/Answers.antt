@@ -5,13 +5,15 @@ use Rattle.meter_run.proofs.Sourcing.{gives_filled, stops_filled}
 use Rattle.meter_run.proofs.source.Source.next.Goals as goal
 
 pub feed-requires-clause-given : goal.feed-requires-clause-given
-feed-requires-clause-given g c = (c.requires.given.0, (c.fill.ensures.filled c.in_default.is).stands c.requires.given.0 c.requires.given.1)
+feed-requires-clause-given g c =
+    (c.requires.given.0, (c.fill.ensures.filled c.in_default.is).stands c.requires.given.0 c.requires.given.1)
 
 pub returns-clause-more : goal.returns-clause-more
 returns-clause-more g c = λ none given h.
     let filled = c.fill.ensures.filled c.in_default.is in
     let rest = g.F.Files.rest c.fill.new.files c.args.word in
-    gives_filled g.F.Files.tells c.args.self.now c.fill.new.self c.feed.new.self (g.F.Files.rest c.args.files.now c.args.word) rest given c.feed.new.runs.items filled
+    gives_filled g.F.Files.tells c.args.self.now c.fill.new.self c.feed.new.self
+    (g.F.Files.rest c.args.files.now c.args.word) rest given c.feed.new.runs.items filled
     (c.feed.ensures.more none given rest (filled.stands given h))
 
 pub returns-clause-stops : goal.returns-clause-stops
@@ -19,7 +21,8 @@ returns-clause-stops g c =
     let filled = c.fill.ensures.filled c.in_default.is in
     let rest = g.F.Files.rest c.fill.new.files c.args.word in
     IfSome_then c.feed.result c.feed.ensures.stops (λ stop stops given h.
-    stops_filled g.F.Files.tells c.args.self.now c.fill.new.self (g.F.Files.rest c.args.files.now c.args.word) rest given c.feed.new.runs.items stop filled (stops given rest (filled.stands given h)))
+    stops_filled g.F.Files.tells c.args.self.now c.fill.new.self (g.F.Files.rest c.args.files.now c.args.word) rest
+    given c.feed.new.runs.items stop filled (stops given rest (filled.stands given h)))
 
 pub feed-requires-clause-some : goal.feed-requires-clause-some
 feed-requires-clause-some g c = (c.fill.ensures.filled c.in_default.is).some

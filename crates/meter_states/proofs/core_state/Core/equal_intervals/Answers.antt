@@ -1,7 +1,7 @@
 use Rattle.std.proofs.Common.{[], refl, inr, ap, sym, subst, ◌∙◌}
 use Rattle.meter_states.specs.Core.{CoreData}
 use Rattle.meter_states.specs.Equals.{intervals_of}
-use Rattle.meter_states.specs.Facts.{AreTrue, CachedCore}
+use Rattle.meter_states.specs.Cache.{IsCacheOf, CachedCore}
 use Rattle.meter_states.specs.Run.{run}
 use Rattle.meter_states.proofs.Outcomes.{follows-meets, not_off}
 use Rattle.meter_states.proofs.Powered.{powered-on, stands-on}
@@ -18,15 +18,18 @@ pub returns-then-count-eq0-clause-meets : goal.returns-then-count-eq0-clause-mee
 returns-then-count-eq0-clause-meets c = λ s m is stands. record { state = stands; done = refl }
 
 pub take_equal-requires-clause-lawful : goal.take_equal-requires-clause-lawful
-take_equal-requires-clause-lawful c = powered-on c.is_off.result (ap (λ (w : CachedCore). w.plain) c.self.view_is) c.requires.lawful.powered c.is_off.ensures c.if-is_off.false
+take_equal-requires-clause-lawful c = powered-on c.is_off.result
+    (ap (λ (w : CachedCore). w.plain) c.self.view_is) c.requires.lawful.powered c.is_off.ensures c.if-is_off.false
 
-pub take_equal-requires-clause-facts : goal.take_equal-requires-clause-facts
-take_equal-requires-clause-facts c = subst (λ (w : CachedCore). AreTrue c.args.tables.now c.args.seal.now w.facts) (sym c.self.view_is) c.requires.lawful.facts
+pub take_equal-requires-clause-cache : goal.take_equal-requires-clause-cache
+take_equal-requires-clause-cache c = subst (λ (w : CachedCore). IsCacheOf c.args.tables.now c.args.seal.now w.cache)
+    (sym c.self.view_is) c.requires.lawful.cache
 
 pub returns-clause-lawful : goal.returns-clause-lawful
 returns-clause-lawful c = record {
   powered = inr c.take_equal.ensures.taken.lawful;
-  facts = subst (λ (w : CachedCore). AreTrue c.args.tables.now c.args.seal.now w.facts) (sym c.self.view_is) c.requires.lawful.facts;
+  cache = subst (λ (w : CachedCore). IsCacheOf c.args.tables.now c.args.seal.now w.cache)
+      (sym c.self.view_is) c.requires.lawful.cache;
 }
 
 pub returns-clause-most : goal.returns-clause-most
@@ -42,5 +45,8 @@ pub returns-clause-meets : goal.returns-clause-meets
 returns-clause-meets c = λ s m is stands.
     let view = ap (λ (w : CachedCore). w.plain) c.self.view_is in
     let on = powered-on c.is_off.result view c.requires.lawful.powered c.is_off.ensures c.if-is_off.false in
-    let e = stands-on s c.args.self.now.plain m stands (λ off. not_off c.self.inside.state.operating c.self.inside.state.trip on.on (ap (λ (p : CoreData). p.operating) view ∙ off)) in
-    follows-meets s c.args.tables.now 8639999 roaming_between 0 c.take_equal.new.self [] (run s (intervals_of c.args.pulses c.take_equal.result) m) c.take_equal.ensures.taken.lawful (c.take_equal.ensures.follows s m is (view ∙ e))
+    let e = stands-on s c.args.self.now.plain m stands (λ off. not_off c.self.inside.state.operating
+    c.self.inside.state.trip on.on (ap (λ (p : CoreData). p.operating) view ∙ off)) in
+    follows-meets s c.args.tables.now 8639999 roaming_between 0 c.take_equal.new.self []
+    (run s (intervals_of c.args.pulses c.take_equal.result) m) c.take_equal.ensures.taken.lawful
+    (c.take_equal.ensures.follows s m is (view ∙ e))

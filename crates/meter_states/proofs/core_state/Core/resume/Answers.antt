@@ -1,6 +1,6 @@
 use Rattle.std.proofs.Common.{◌≡◌, ℕ, All, List, [], IfSome, None, Option, rules, refl, ap, sym, subst, inr, ◌∙◌, arith}
 use Rattle.totals_record.specs.Ranges.{IsHeld}
-use Rattle.totals_record.specs.declared.durable.Durable.{Durable}
+use Rattle.totals_record.specs.declared.durable_state.Durable.{Durable}
 use Rattle.totals_record.specs.declared.trip.Trip.{Trip}
 use Rattle.meter_states.specs.Acts.{IsLawfulAct}
 use Rattle.meter_states.specs.Core.{ComesToOutcome, CoreData, core_of}
@@ -16,20 +16,27 @@ use Rattle.taxi_units.specs.Limits.{roaming_between}
 pub returns-clause-ranges : goal.returns-clause-ranges
 returns-clause-ranges g c =
     let p = c.args.tables.now in
-    let number : c.idle-state.result.number ≡ c.args.durable.now.number = ap (λ (q : CoreData). q.number) c.idle-state.ensures in
-    let none : All (IsLawfulAct p c.idle-state.result.number) c.new-acts.result.items = rw c.new-acts.ensures (λ k d below. absurd (omega arith)) in
-    c.show.ensures.ranges c.args.durable.now.number (subst (λ (n : ℕ). All (IsLawfulAct p n) c.take_hold.new.acts.items) number (c.take_hold.ensures.stage.ranges none))
+    let number : c.idle-state.result.number ≡ c.args.durable.now.number =
+    ap (λ (q : CoreData). q.number) c.idle-state.ensures in
+    let none : All (IsLawfulAct p c.idle-state.result.number) c.new-acts.result.items =
+    rw c.new-acts.ensures (λ k d below. absurd (omega arith)) in
+    c.show.ensures.ranges c.args.durable.now.number
+    (subst (λ (n : ℕ). All (IsLawfulAct p n) c.take_hold.new.acts.items) number (c.take_hold.ensures.stage.ranges none))
 
 pub returns-clause-commits : goal.returns-clause-commits
 returns-clause-commits g c =
     let p = c.args.tables.now in
-    let number : c.idle-state.result.number ≡ c.args.durable.now.number = ap (λ (q : CoreData). q.number) c.idle-state.ensures in
-    let none : All (IsLawfulAct p c.idle-state.result.number) c.new-acts.result.items = rw c.new-acts.ensures (λ k d below. absurd (omega arith)) in
-    let lawful = c.show.ensures.ranges c.args.durable.now.number (subst (λ (n : ℕ). All (IsLawfulAct p n) c.take_hold.new.acts.items) number (c.take_hold.ensures.stage.ranges none)) in
+    let number : c.idle-state.result.number ≡ c.args.durable.now.number =
+    ap (λ (q : CoreData). q.number) c.idle-state.ensures in
+    let none : All (IsLawfulAct p c.idle-state.result.number) c.new-acts.result.items =
+    rw c.new-acts.ensures (λ k d below. absurd (omega arith)) in
+    let lawful = c.show.ensures.ranges c.args.durable.now.number (subst
+    (λ (n : ℕ). All (IsLawfulAct p n) c.take_hold.new.acts.items) number (c.take_hold.ensures.stage.ranges none)) in
     acts-keep p c.args.durable.now.number c.show.new.acts.items lawful c.args.durable.now c.requires.range refl
 
 pub returns-clause-lawful : goal.returns-clause-lawful
-returns-clause-lawful g c = record { powered = inr c.show.ensures.lawful; facts = c.none-facts.ensures c.args.tables.now c.args.seal.now }
+returns-clause-lawful g c =
+    record { powered = inr c.show.ensures.lawful; cache = c.empty-cache.ensures c.args.tables.now c.args.seal.now }
 
 pub returns-clause-meets : goal.returns-clause-meets
 returns-clause-meets g c = λ s m is durable saved.

@@ -1,6 +1,6 @@
 use Rattle.std.proofs.Common.{◌≡◌, All, ap, sym, ◌∙◌, arith}
 use Rattle.meter_states.specs.Acts.{IsLawfulAct}
-use Rattle.meter_states.specs.Facts.{CachedCore}
+use Rattle.meter_states.specs.Cache.{CachedCore}
 use Rattle.meter_states.proofs.ActRanges.{acts-keep}
 use Rattle.meter_states.proofs.core_state.Core.step_into.Goals as goal
 

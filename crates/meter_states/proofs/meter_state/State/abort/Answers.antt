@@ -21,13 +21,17 @@ returns-clause-stage g c = record {
       let acts = c.close_trip.new.acts.items in
       let hire : m.operating ≡ ForHire = sym (ap (λ (q : CoreData). q.operating) st) ∙ c.requires.hire in
       let n : Meter = record m { operating = ForHire; trip = None; position = held.position } in
-      let start = ap (λ (q : CoreData). record q { position = held.position }) (c.self.view_is ∙ st) ∙ ap (λ (o : Operating). core_of s (record m { operating = o; trip = None; position = held.position })) hire in
+      let start = ap (λ (q : CoreData). record q { position = held.position }) (c.self.view_is ∙ st)
+      ∙ ap (λ (o : Operating). core_of s (record m { operating = o; trip = None; position = held.position })) hire in
       let has = trip-saved s m.trip (model.core_trip_in held) (sym saved) in
       let first = c.close_trip.ensures.follows s n has.0 is (c.core_trip.ensures ∙ has.2) start in
-      let whole = subst (λ (o : Option model.Trip). ComesToOutcome s c.close_trip.new.self begin acts (trip_closed s Aborted held.saved o n)) (sym has.1) first in
+      let whole = subst (λ (o : Option model.MeterTrip). ComesToOutcome s c.close_trip.new.self begin acts
+      (trip_closed s Aborted held.saved o n)) (sym has.1) first in
       let after = (trip_closed s Aborted held.saved m.trip n).next in
-      follows-then s c.close_trip.new.self _ begin acts acts (closed s Aborted held.saved (record m { position = held.position })) (λ (k : Meter). quiet (record k { position = 1; zone = 1 })) whole
-      (quiet-follows s _ acts (record after { position = 1; zone = 1 }) (ap (λ (q : CoreData). record q { position = 1; zone = 1 }) (c.self-2.view_is ∙ whole.state)));
+      follows-then s c.close_trip.new.self _ begin acts acts (closed s Aborted held.saved
+      (record m { position = held.position })) (λ (k : Meter). quiet (record k { position = 1; zone = 1 })) whole
+      (quiet-follows s _ acts (record after { position = 1; zone = 1 })
+      (ap (λ (q : CoreData). record q { position = 1; zone = 1 }) (c.self-2.view_is ∙ whole.state)));
 }
 
 pub close_trip-requires-clause-closing : goal.close_trip-requires-clause-closing

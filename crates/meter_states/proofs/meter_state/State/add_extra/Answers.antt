@@ -16,11 +16,14 @@ refuse-requires g c = room-none c.args.acts.now.items c.requires.ready.room
 
 pub returns-in_default-clause-stage : goal.returns-in_default-clause-stage
 returns-in_default-clause-stage g c = λ seal.
-    refuses-stage NoSuch (λ (s : Setting) (m : Meter). extra_added c.args.n (supplement_at s.tariff c.args.n) m) c.requires.ready c.refuse.ensures
-    (λ s m is. ap (λ (o : Option Supplement). extra_added c.args.n o m) (sym (c.find_supplement.ensures.tree s is.tariff) ∙ c.in_default.is))
+    refuses-stage NoSuch (λ (s : Setting) (m : Meter). extra_added c.args.n (supplement_at s.tariff c.args.n) m)
+    c.requires.ready c.refuse.ensures
+    (λ s m is. ap (λ (o : Option Supplement). extra_added c.args.n o m)
+    (sym (c.find_supplement.ensures.tree s is.tariff) ∙ c.in_default.is))
 
 pub returns-in_default-clause-steps : goal.returns-in_default-clause-steps
-returns-in_default-clause-steps g c = steps-same c.find_supplement.new.steps c.args.steps.now c.find_supplement.ensures.steps
+returns-in_default-clause-steps g c =
+    steps-same c.find_supplement.new.steps c.args.steps.now c.find_supplement.ensures.steps
 
 pub add_found-requires-clause-ready : goal.add_found-requires-clause-ready
 add_found-requires-clause-ready g c = (c.args.tables.now, c.requires.ready)
@@ -29,7 +32,8 @@ pub add_found-requires-clause-number : goal.add_found-requires-clause-number
 add_found-requires-clause-number g c = c.find_supplement.ensures.number (some-there c.in-Some.supplement c.in-Some.is)
 
 pub add_found-requires-clause-amount : goal.add_found-requires-clause-amount
-add_found-requires-clause-amount g c = subst (λ (o : Option Supplement). amount_in o ≤ 1000000) c.in-Some.is c.find_supplement.ensures.amount
+add_found-requires-clause-amount g c =
+    subst (λ (o : Option Supplement). amount_in o ≤ 1000000) c.in-Some.is c.find_supplement.ensures.amount
 
 pub add_found-requires-clause-most : goal.add_found-requires-clause-most
 add_found-requires-clause-most g c = subst (λ
@@ -41,7 +45,8 @@ returns-clause-stage g c = λ seal.
     (m : Meter). extra_added c.args.n (supplement_at s.tariff c.args.n) m)
     (c.add_found.ensures.stage c.args.tables.now seal c.requires.ready (sym c.find_supplement.ensures.value
     ∙ c.in-Some.is))
-    (λ s m is. ap (λ (o : Option Supplement). extra_added c.args.n o m) (sym (c.find_supplement.ensures.tree s is.tariff) ∙ c.in-Some.is))
+    (λ s m is. ap (λ (o : Option Supplement). extra_added c.args.n o m)
+    (sym (c.find_supplement.ensures.tree s is.tariff) ∙ c.in-Some.is))
 
 pub returns-clause-steps : goal.returns-clause-steps
 returns-clause-steps g c = steps-same c.find_supplement.new.steps c.args.steps.now c.find_supplement.ensures.steps

@@ -14,7 +14,8 @@ use Rattle.meter_states.specs.Meter.{Meter, quiet}
 use Rattle.meter_states.specs.Run.{run}
 use Rattle.meter_states.specs.Setting.{modulus_of}
 use Rattle.taxi_units.specs.Time.{longest_trip}
-use Rattle.meter_states.proofs.EqualIntervals.{charge-by-weights, charged-full, context-later, hired-equal, near-later, pulses-few, range-later, taken-none}
+use Rattle.meter_states.proofs.EqualIntervals.{charge-by-weights, charged-full, context-later, hired-equal, near-later}
+use Rattle.meter_states.proofs.EqualIntervals.{pulses-few, range-later, taken-none}
 use Rattle.meter_states.proofs.Outcomes.{quiet-follows}
 use Rattle.meter_states.proofs.Powered.{powered-trip}
 use Rattle.meter_states.proofs.Settings.{modulus-is, modulus-some}
@@ -32,35 +33,42 @@ returns-clause-follows c = λ s m is e.
     let some = modulus-some s tables is.tariff (tables_are_fit tables c.requires.lawful.compiled) in
     let has : core.trip ≡ Some t = sym (ap (λ (p : CoreData). p.trip) c.self.view_is) ∙ c.in-Some-trip.is in
     let range = rw has at c.requires.lawful.trip in
-    let fewer : n ≤ c.most_times-longest.result = omega (arith, c.most_times-n.ensures.most, c.most_times-near.ensures.most) in
-    let short : t.ticks + n ≤ 8639999 = omega (arith, fewer, c.most_times-longest.ensures.most, c.min-few.ensures, range.range.ticks) in
+    let fewer : n ≤ c.most_times-longest.result =
+    omega (arith, c.most_times-n.ensures.most, c.most_times-near.ensures.most) in
+    let short : t.ticks + n ≤ 8639999 =
+    omega (arith, fewer, c.most_times-longest.ensures.most, c.min-few.ensures, range.range.ticks) in
     let long : n ≤ lasting.longer = omega (arith, fewer, c.most_times-longest.ensures.room) in
     let modulus = modulus-is s tables is.tariff in
     let rest : t.meterage.rest < modulus_of s = rw modulus at range.range.rest in
     let room = rw c.spare.ensures.value at c.most_times-n.ensures.room in
-    let spare : n * q ≤ spare_of tables.rounding (modulus_of s) t.meterage = subst (λ (k : ℕ). n * q ≤ spare_of tables.rounding k t.meterage) modulus room in
+    let spare : n * q ≤ spare_of tables.rounding (modulus_of s) t.meterage =
+    subst (λ (k : ℕ). n * q ≤ spare_of tables.rounding k t.meterage) modulus room in
     let x = context_of s m in
     let saved = sym has ∙ ap (λ (p : CoreData). p.trip) e in
-    let charge : (i : ℕ) (k : Meter) → i < n → record core { trip = Some (charged p q i t) } ≡ core_of s k → charge_at s (context_of s k) p ≡ q = λ i k below same.
+    let charge : (i : ℕ) (k : Meter) → i < n → record core { trip = Some (charged p q i t) } ≡ core_of s k
+    → charge_at s (context_of s k) p ≡ q = λ i k below same.
     let y : Context = record x { pulses = t.pulses + i * p; ticks = t.ticks + i } in
-    let less : i * p ≤ c.most_times-near.result * p = mul-le-mul_right p (omega (arith, below, c.most_times-n.ensures.most)) in
+    let less : i * p ≤ c.most_times-near.result * p =
+    mul-le-mul_right p (omega (arith, below, c.most_times-n.ensures.most)) in
     let far : i * p ≤ lasting.further = omega (arith, less, c.most_times-near.ensures.room) in
     let slow : i * p ≤ i * 2000 = mul-le-mul_left i c.requires.pulses in
     let near = near-later s m t p i lasting.further lasting.longer saved far (omega (arith, below, long)) in
     let y_in = range-later tables x (t.pulses + i * p) (t.ticks + i)
-    (c.in-Some.ensures.range c.args.seal.now s m c.requires.facts is e)
+    (c.in-Some.ensures.range c.args.seal.now s m c.requires.cache is e)
     (omega (arith, slow, below, short, range.pulses, c.requires.lawful.number.1)) (omega (arith, below, short)) in
-    let weights = c.in-Some.ensures.near c.args.seal.now s m y c.requires.facts is e y_in near in
+    let weights = c.in-Some.ensures.near c.args.seal.now s m y c.requires.cache is e y_in near in
     ap (λ (y : Context). charge_at s y p) (context-later s m k core t (charged p q i t) e has same)
     ∙ sym (c.charge-each.ensures.charge ∙ charge-by-weights s tables c.args.seal.now y p lasting.weights is weights) in
-    let all = hired-equal s tables p q n m core t is.tariff some c.requires.pulses e c.requires.hired has c.requires.still c.requires.lawful.roam short rest spare charge in
-    rw c.add_charged.ensures.value (subst (λ (x : CoreData). ComesToOutcome s (record x { trip = Some (charged p q n t) }) [] [] (run s (intervals_of p n) m)) (sym c.self.view_is) all)
+    let all = hired-equal s tables p q n m core t is.tariff some c.requires.pulses e c.requires.hired has
+    c.requires.still c.requires.lawful.roam short rest spare charge in
+    rw c.add_charged.ensures.value (subst (λ (x : CoreData). ComesToOutcome s
+    (record x { trip = Some (charged p q n t) }) [] [] (run s (intervals_of p n) m)) (sym c.self.view_is) all)
 
-pub kept_rate-requires-clause-lawful : goal.kept_rate-requires-clause-lawful
-kept_rate-requires-clause-lawful c = c.requires.lawful
+pub cached_rate-requires-clause-lawful : goal.cached_rate-requires-clause-lawful
+cached_rate-requires-clause-lawful c = c.requires.lawful
 
-pub kept_rate-requires-clause-lasting : goal.kept_rate-requires-clause-lasting
-kept_rate-requires-clause-lasting c = c.requires.facts.rate
+pub cached_rate-requires-clause-lasting : goal.cached_rate-requires-clause-lasting
+cached_rate-requires-clause-lasting c = c.requires.cache.rate
 
 pub returns-in_default-clause-taken : goal.returns-in_default-clause-taken
 returns-in_default-clause-taken c = taken-none c.args.count refl c.requires.lawful
@@ -72,7 +80,8 @@ pub returns-in_default-trip-clause-taken : goal.returns-in_default-trip-clause-t
 returns-in_default-trip-clause-taken c = taken-none c.args.count c.self.view_is c.requires.lawful
 
 pub returns-in_default-trip-clause-follows : goal.returns-in_default-trip-clause-follows
-returns-in_default-trip-clause-follows c = λ s m is e. subst (λ (x : CoreData). ComesToOutcome s x [] [] (quiet m)) (sym c.self.view_is) (quiet-follows s c.args.self.now [] m e)
+returns-in_default-trip-clause-follows c = λ s m is e. subst (λ (x : CoreData). ComesToOutcome s x [] [] (quiet m))
+    (sym c.self.view_is) (quiet-follows s c.args.self.now [] m e)
 
 pub charge-each-requires-clause-pulses : goal.charge-each-requires-clause-pulses
 charge-each-requires-clause-pulses c = c.requires.pulses
@@ -107,7 +116,8 @@ add_charged-requires-clause-rest c =
     omega (arith, range.range.rest, mul-le tables.step tables.measure (10 ^ 6) (2 * 10 ^ 23) fit.step.1 fit.measure.1)
 
 pub returns-in_default-clause-full : goal.returns-in_default-clause-full
-returns-in_default-clause-full c = inr (λ may. c.in_default.ensures.none refl may.outlasts.trip may.outlasts.has may.serve)
+returns-in_default-clause-full c =
+    inr (λ may. c.in_default.ensures.none refl may.outlasts.trip may.outlasts.has may.serve)
 
 pub returns-clause-full : goal.returns-clause-full
 returns-clause-full c =
@@ -116,11 +126,14 @@ returns-clause-full c =
     let n = c.most_times-n.result in
     let has : c.args.self.now.trip ≡ Some t = sym (ap (λ (p : CoreData). p.trip) c.self.view_is) ∙ c.in-Some-trip.is in
     let range = rw has at c.requires.lawful.trip in
-    let few : (c.min-few.result ≡ c.args.count) ⊎ (longest_trip ≤ t.ticks + c.min-few.result + 1) = grind (arith, c.min-few.ensures, range.range.ticks) in
+    let few : (c.min-few.result ≡ c.args.count) ⊎ (longest_trip ≤ t.ticks + c.min-few.result + 1) =
+    grind (arith, c.min-few.ensures, range.range.ticks) in
     let spare = rw c.spare.ensures.value at c.most_times-n.ensures.room in
     let full = rw c.spare.ensures.value at c.most_times-n.ensures.full in
-    charged-full tables c.args.seal.now c.args.facts.now c.args.pulses c.charge-each.result n c.most_times-near.result c.most_times-longest.result c.min-few.result c.args.count _ t c.add_charged.new.trip c.in-Some.lasting refl
-    c.add_charged.ensures.value c.charge-each.ensures.charge (λ rate is. c.in-Some.ensures.lasts t rate has is) range.range.rest spare few c.most_times-longest.ensures.full c.most_times-near.ensures.full full
+    charged-full tables c.args.seal.now c.args.cache.now c.args.pulses c.charge-each.result n c.most_times-near.result
+    c.most_times-longest.result c.min-few.result c.args.count _ t c.add_charged.new.trip c.in-Some.lasting refl
+    c.add_charged.ensures.value c.charge-each.ensures.charge (λ rate is. c.in-Some.ensures.lasts t rate has is)
+    range.range.rest spare few c.most_times-longest.ensures.full c.most_times-near.ensures.full full
 
 pub returns-clause-taken : goal.returns-clause-taken
 returns-clause-taken c =

@@ -7,8 +7,8 @@ use Rattle.meter_states.proofs.meter_state.State.charge_interval.Goals as goal
 pub weights-weights-requires-clause-lawful : goal.weights-weights-requires-clause-lawful
 weights-weights-requires-clause-lawful g c = amid-closes (between-amid c.requires.lawful)
 
-pub weights-weights-requires-clause-facts : goal.weights-weights-requires-clause-facts
-weights-weights-requires-clause-facts g c = c.requires.facts
+pub weights-weights-requires-clause-cache : goal.weights-weights-requires-clause-cache
+weights-weights-requires-clause-cache g c = c.requires.cache
 
 pub add_hired-requires-clause-pulses : goal.add_hired-requires-clause-pulses
 add_hired-requires-clause-pulses g c = c.take-pulses.ensures.most
@@ -28,8 +28,8 @@ add_hired-requires-clause-range g c =
     let range = rw has at c.requires.lawful.trip in
     range.range
 
-pub returns-clause-facts : goal.returns-clause-facts
-returns-clause-facts g c = c.weights-weights.ensures.facts
+pub returns-clause-cache : goal.returns-clause-cache
+returns-clause-cache g c = c.weights-weights.ensures.cache
 
 pub returns-clause-steps : goal.returns-clause-steps
 returns-clause-steps g c = c.weights-weights.ensures.steps

@@ -30,7 +30,8 @@ returns-clause-stage g c = record {
   few = rw c.requires.ready.room at c.close.ensures.few;
   roam = c.close.ensures.roam;
   ranges = c.close.ensures.stage.ranges;
-  follows = λ s m is e. subst (λ (o : Outcome). ComesToOutcome s c.close.new.self c.args.acts.now.items c.close.new.acts.items o)
+  follows = λ s m is e.
+      subst (λ (o : Outcome). ComesToOutcome s c.close.new.self c.args.acts.now.items c.close.new.acts.items o)
       (ap (λ (n : ℕ). closed s Closed n m) (c.second.ensures ∙ ap (λ (p : CoreData). p.clock) (c.self.view_is ∙ e)))
       (c.close.ensures.stage.follows s m is e);
 }

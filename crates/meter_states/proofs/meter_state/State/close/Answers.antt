@@ -6,7 +6,7 @@ use Rattle.meter_states.specs.Core.{CoreData, ComesToOutcome}
 use Rattle.meter_states.specs.Closing.{trip_closed}
 use Rattle.meter_states.specs.Lawful.{IsTripInRange}
 use Rattle.meter_states.specs.Stages.{MayEnter}
-use Rattle.meter_states.specs.Trip.{Trip}
+use Rattle.meter_states.specs.Trip.{MeterTrip}
 use Rattle.taxi_units.specs.Time.{longest_trip}
 use Rattle.meter_states.proofs.Outcomes.{trip-saved}
 use Rattle.meter_states.proofs.Powered.{some-there}
@@ -20,7 +20,9 @@ returns-in-Some-clause-stage g c = record {
       let opened = c.self.view_is ∙ st in
       let has = trip-saved s m.trip c.in-Some.trip (sym (ap (λ (p : CoreData). p.trip) opened) ∙ c.in-Some.is) in
       let start = ap (λ (p : CoreData). record p { operating = ForHire; trip = None }) opened in
-      subst (λ (trip : Option Trip). ComesToOutcome s c.close_trip.new.self c.args.acts.now.items c.close_trip.new.acts.items (trip_closed s c.args.closing.kind c.args.closing.finish trip (record m { operating = ForHire; trip = None }))) (sym has.1)
+      subst (λ (trip : Option MeterTrip). ComesToOutcome s c.close_trip.new.self c.args.acts.now.items
+      c.close_trip.new.acts.items (trip_closed s c.args.closing.kind c.args.closing.finish trip
+      (record m { operating = ForHire; trip = None }))) (sym has.1)
       (c.close_trip.ensures.follows s (record m { operating = ForHire; trip = None }) has.0 is has.2 start);
 }
 

@@ -16,33 +16,38 @@ roam_interval-requires-clause-hire g c = sym (ap (λ (p : CoreData). p.operating
 pub charge_interval-requires-clause-lawful : goal.charge_interval-requires-clause-lawful
 charge_interval-requires-clause-lawful g c = c.requires.lawful
 
-pub charge_interval-requires-clause-facts : goal.charge_interval-requires-clause-facts
-charge_interval-requires-clause-facts g c = c.requires.facts
+pub charge_interval-requires-clause-cache : goal.charge_interval-requires-clause-cache
+charge_interval-requires-clause-cache g c = c.requires.cache
 
 pub charge_interval-requires-clause-on : goal.charge_interval-requires-clause-on
 charge_interval-requires-clause-on g c = sym (ap (λ (p : CoreData). p.operating) c.self.view_is) ∙ c.in-Hired.is
 
 pub returns-in-Off-clause-lawful : goal.returns-in-Off-clause-lawful
-returns-in-Off-clause-lawful g c = absurd (not_off c.args.self.now.operating c.args.self.now.trip c.requires.lawful.on (sym (ap (λ (p : CoreData). p.operating) c.self.view_is) ∙ c.in-Off.is))
+returns-in-Off-clause-lawful g c = absurd (not_off c.args.self.now.operating c.args.self.now.trip c.requires.lawful.on
+    (sym (ap (λ (p : CoreData). p.operating) c.self.view_is) ∙ c.in-Off.is))
 
-pub returns-in-Off-clause-facts : goal.returns-in-Off-clause-facts
-returns-in-Off-clause-facts g c = absurd (not_off c.args.self.now.operating c.args.self.now.trip c.requires.lawful.on (sym (ap (λ (p : CoreData). p.operating) c.self.view_is) ∙ c.in-Off.is))
+pub returns-in-Off-clause-cache : goal.returns-in-Off-clause-cache
+returns-in-Off-clause-cache g c = absurd (not_off c.args.self.now.operating c.args.self.now.trip c.requires.lawful.on
+    (sym (ap (λ (p : CoreData). p.operating) c.self.view_is) ∙ c.in-Off.is))
 
 pub returns-in-Off-clause-same : goal.returns-in-Off-clause-same
-returns-in-Off-clause-same g c = absurd (not_off c.args.self.now.operating c.args.self.now.trip c.requires.lawful.on (sym (ap (λ (p : CoreData). p.operating) c.self.view_is) ∙ c.in-Off.is))
+returns-in-Off-clause-same g c = absurd (not_off c.args.self.now.operating c.args.self.now.trip c.requires.lawful.on
+    (sym (ap (λ (p : CoreData). p.operating) c.self.view_is) ∙ c.in-Off.is))
 
 pub returns-in-Off-clause-state : goal.returns-in-Off-clause-state
-returns-in-Off-clause-state g c = absurd (not_off c.args.self.now.operating c.args.self.now.trip c.requires.lawful.on (sym (ap (λ (p : CoreData). p.operating) c.self.view_is) ∙ c.in-Off.is))
+returns-in-Off-clause-state g c = absurd (not_off c.args.self.now.operating c.args.self.now.trip c.requires.lawful.on
+    (sym (ap (λ (p : CoreData). p.operating) c.self.view_is) ∙ c.in-Off.is))
 
 pub returns-in-Off-clause-steps : goal.returns-in-Off-clause-steps
-returns-in-Off-clause-steps g c = absurd (not_off c.args.self.now.operating c.args.self.now.trip c.requires.lawful.on (sym (ap (λ (p : CoreData). p.operating) c.self.view_is) ∙ c.in-Off.is))
+returns-in-Off-clause-steps g c = absurd (not_off c.args.self.now.operating c.args.self.now.trip c.requires.lawful.on
+    (sym (ap (λ (p : CoreData). p.operating) c.self.view_is) ∙ c.in-Off.is))
 
 pub returns-in-ForHire-clause-lawful : goal.returns-in-ForHire-clause-lawful
 returns-in-ForHire-clause-lawful g c = powered-longer
     (c.roam_interval.ensures.lawful c.args.tables.now c.requires.lawful)
 
-pub returns-in-ForHire-clause-facts : goal.returns-in-ForHire-clause-facts
-returns-in-ForHire-clause-facts g c = c.requires.facts
+pub returns-in-ForHire-clause-cache : goal.returns-in-ForHire-clause-cache
+returns-in-ForHire-clause-cache g c = c.requires.cache
 
 pub returns-in-ForHire-clause-same : goal.returns-in-ForHire-clause-same
 returns-in-ForHire-clause-same g c = c.roam_interval.ensures.same
@@ -55,8 +60,8 @@ returns-in-ForHire-clause-state g c = λ s m is e.
 pub returns-in-Hired-clause-lawful : goal.returns-in-Hired-clause-lawful
 returns-in-Hired-clause-lawful g c = powered-wider c.charge_interval.ensures.lawful
 
-pub returns-in-Hired-clause-facts : goal.returns-in-Hired-clause-facts
-returns-in-Hired-clause-facts g c = c.charge_interval.ensures.facts
+pub returns-in-Hired-clause-cache : goal.returns-in-Hired-clause-cache
+returns-in-Hired-clause-cache g c = c.charge_interval.ensures.cache
 
 pub returns-in-Hired-clause-same : goal.returns-in-Hired-clause-same
 returns-in-Hired-clause-same g c = c.charge_interval.ensures.same
@@ -66,11 +71,13 @@ returns-in-Hired-clause-state g c = λ s m is e.
     let here = sym c.in-Hired.is ∙ ap (λ (p : CoreData). p.operating) (c.self.view_is ∙ e) in
     c.charge_interval.ensures.state s m is e ∙ ap (λ (o : Operating). core_of s (counted_in s o (sum m.taken) m)) here
 
-pub returns-in-Stopped-clause-facts : goal.returns-in-Stopped-clause-facts
-returns-in-Stopped-clause-facts g c = c.requires.facts
+pub returns-in-Stopped-clause-cache : goal.returns-in-Stopped-clause-cache
+returns-in-Stopped-clause-cache g c = c.requires.cache
 
 pub returns-in-Hired-clause-steps : goal.returns-in-Hired-clause-steps
-returns-in-Hired-clause-steps g c = subst (λ (o : Operating). c.charge_interval.new.steps ≤ c.args.steps.now + counting_steps o) (sym (sym (ap (λ (p : CoreData). p.operating) c.self.view_is) ∙ c.in-Hired.is)) c.charge_interval.ensures.steps
+returns-in-Hired-clause-steps g c =
+    subst (λ (o : Operating). c.charge_interval.new.steps ≤ c.args.steps.now + counting_steps o)
+    (sym (sym (ap (λ (p : CoreData). p.operating) c.self.view_is) ∙ c.in-Hired.is)) c.charge_interval.ensures.steps
 
 pub pass_interval-requires-clause-lawful : goal.pass_interval-requires-clause-lawful
 pass_interval-requires-clause-lawful g c = (c.args.tables.now, c.requires.lawful)

@@ -12,4 +12,5 @@ returns-clause-value c = λ s m is e.
     (c.decimals.ensures.value ∙ decimals-is s c.args.tables.now is)
 
 pub returns-clause-exact : goal.returns-clause-exact
-returns-clause-exact c = display-same c.self.view_is c.fare.ensures.exact c.supplements.ensures.exact c.decimals.ensures.value
+returns-clause-exact c =
+    display-same c.self.view_is c.fare.ensures.exact c.supplements.ensures.exact c.decimals.ensures.value

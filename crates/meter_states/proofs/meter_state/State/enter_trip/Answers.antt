@@ -15,7 +15,8 @@ entry-requires-clause-range c = record {
 }
 
 pub entry-requires-clause-position : goal.entry-requires-clause-position
-entry-requires-clause-position c = subst (λ (p : CoreData). (1 ≤ p.position) × (p.position ≤ 9)) (sym c.self.view_is) c.requires.trip.position
+entry-requires-clause-position c =
+    subst (λ (p : CoreData). (1 ≤ p.position) × (p.position ≤ 9)) (sym c.self.view_is) c.requires.trip.position
 
 pub entry-requires-clause-kind : goal.entry-requires-clause-kind
 entry-requires-clause-kind c = c.requires.kind
@@ -28,11 +29,13 @@ returns-clause-few c = few-more c.args.acts.now.items c.push.new.self.items (Ent
 
 pub returns-clause-ranges : goal.returns-clause-ranges
 returns-clause-ranges c =
-    lawful-more c.args.tables.now c.args.self.now.number c.args.acts.now.items c.push.new.self.items (Enter c.entry.result) c.push.ensures.items
+    lawful-more c.args.tables.now c.args.self.now.number c.args.acts.now.items c.push.new.self.items
+    (Enter c.entry.result) c.push.ensures.items
     (record {
       room = c.requires.trip.number;
       range = c.entry.ensures.range;
-      roaming = closing-room (c.args.self.now.number + 1 ≤ last_number) c.entry.result c.args.kind c.entry.ensures.kind c.requires.kind;
+      roaming = closing-room (c.args.self.now.number + 1 ≤ last_number) c.entry.result c.args.kind c.entry.ensures.kind
+          c.requires.kind;
     })
 
 pub returns-clause-follows : goal.returns-clause-follows

@@ -19,8 +19,10 @@ expire-requires-clause-room g c = c.requires.room
 
 pub press-requires : goal.press-requires
 press-requires g c = record {
-  ready = record
-      { lawful = c.is_long.ensures.short c.args.tables.now c.requires.lawful c.if-is_long.false; room = c.requires.room };
+  ready = record {
+    lawful = c.is_long.ensures.short c.args.tables.now c.requires.lawful c.if-is_long.false;
+    room = c.requires.room;
+  };
 }
 
 pub returns-then-is_long-clause-stage : goal.returns-then-is_long-clause-stage
@@ -33,11 +35,13 @@ returns-then-is_long-clause-stage g c =
       ranges = stage.ranges;
       follows = λ s m is e.
           let long = sym (c.is_long.ensures.state s m e) ∙ c.if-is_long.true in
-          subst (λ (o : Outcome). ComesToOutcome s c.expire.new.self c.args.acts.now.items c.expire.new.acts.items o) (ap (λ (b : Bool). if b then expired s m else key_pressed s m) (sym long)) (stage.follows s m is e);
+          subst (λ (o : Outcome). ComesToOutcome s c.expire.new.self c.args.acts.now.items c.expire.new.acts.items o)
+          (ap (λ (b : Bool). if b then expired s m else key_pressed s m) (sym long)) (stage.follows s m is e);
     }
 
 pub returns-then-is_long-clause-steps : goal.returns-then-is_long-clause-steps
-returns-then-is_long-clause-steps g c = steps-twelve c.expire.new.steps c.args.steps.now c.args.self.now.operating c.expire.ensures.steps
+returns-then-is_long-clause-steps g c =
+    steps-twelve c.expire.new.steps c.args.steps.now c.args.self.now.operating c.expire.ensures.steps
 
 pub returns-else-is_long-clause-stage : goal.returns-else-is_long-clause-stage
 returns-else-is_long-clause-stage g c =
@@ -49,7 +53,8 @@ returns-else-is_long-clause-stage g c =
       ranges = stage.ranges;
       follows = λ s m is e.
           let short = sym (c.is_long.ensures.state s m e) ∙ c.if-is_long.false in
-          subst (λ (o : Outcome). ComesToOutcome s c.press.new.self c.args.acts.now.items c.press.new.acts.items o) (ap (λ (b : Bool). if b then expired s m else key_pressed s m) (sym short)) (stage.follows s m is e);
+          subst (λ (o : Outcome). ComesToOutcome s c.press.new.self c.args.acts.now.items c.press.new.acts.items o)
+          (ap (λ (b : Bool). if b then expired s m else key_pressed s m) (sym short)) (stage.follows s m is e);
     }
 
 pub returns-else-is_long-clause-steps : goal.returns-else-is_long-clause-steps

@@ -14,15 +14,19 @@ fare-requires c =
     record { range = range.range }
 
 pub returns-in-None-clause-value : goal.returns-in-None-clause-value
-returns-in-None-clause-value c = λ s m is e. fare-none s m.trip (sym (ap (λ (p : CoreData). p.trip) (c.self.view_is ∙ e)) ∙ c.in-None.is)
+returns-in-None-clause-value c =
+    λ s m is e. fare-none s m.trip (sym (ap (λ (p : CoreData). p.trip) (c.self.view_is ∙ e)) ∙ c.in-None.is)
 
 pub returns-in-None-clause-exact : goal.returns-in-None-clause-exact
-returns-in-None-clause-exact c = ap (fare_by c.args.tables.now) (sym c.in-None.is ∙ ap (λ (p : CoreData). p.trip) c.self.view_is)
+returns-in-None-clause-exact c =
+    ap (fare_by c.args.tables.now) (sym c.in-None.is ∙ ap (λ (p : CoreData). p.trip) c.self.view_is)
 
 pub returns-in-Some-clause-value : goal.returns-in-Some-clause-value
 returns-in-Some-clause-value c = λ s m is e.
-    let has = trip-saved s m.trip c.in-Some.trip (sym (ap (λ (p : CoreData). p.trip) (c.self.view_is ∙ e)) ∙ c.in-Some.is) in
+    let has =
+    trip-saved s m.trip c.in-Some.trip (sym (ap (λ (p : CoreData). p.trip) (c.self.view_is ∙ e)) ∙ c.in-Some.is) in
     c.fare.ensures.value s has.0 is has.2 ∙ sym (ap (fare_shown s) has.1)
 
 pub returns-in-Some-clause-exact : goal.returns-in-Some-clause-exact
-returns-in-Some-clause-exact c = c.fare.ensures.exact ∙ ap (fare_by c.args.tables.now) (sym c.in-Some.is ∙ ap (λ (p : CoreData). p.trip) c.self.view_is)
+returns-in-Some-clause-exact c = c.fare.ensures.exact
+    ∙ ap (fare_by c.args.tables.now) (sym c.in-Some.is ∙ ap (λ (p : CoreData). p.trip) c.self.view_is)

@@ -9,4 +9,5 @@ pub returns-clause-value : goal.returns-clause-value
 returns-clause-value g c = λ s m is st.
     let clock : c.second.result ≡ m.clock = c.second.ensures ∙ ap (λ (p : CoreData). p.clock) (c.self.view_is ∙ st) in
     c.initial_at.ensures.tree s.tariff is.tariff.compiled
-    ∙ ap (initial_by s.tariff) (c.context_at-x.ensures.value s m is st ∙ ap (λ (second : ℕ). context_on s (local_at s second) m) clock)
+    ∙ ap (initial_by s.tariff)
+    (c.context_at-x.ensures.value s m is st ∙ ap (λ (second : ℕ). context_on s (local_at s second) m) clock)

@@ -26,7 +26,8 @@ returns-clause-follows c = λ tables seal on still s m is e.
     let short : t.ticks + n ≤ 8639999 = omega (arith, c.min-n.ensures, range.range.ticks) in
     let all = stopped-equal s tables p n m core t is.tariff some c.requires.pulses e c.requires.stopped has still
     on.roam short in
-    rw c.add_passed.ensures.value (subst (λ (x : CoreData). ComesToOutcome s (record x { trip = Some (passed p n t) }) [] [] (run s (intervals_of p n) m)) (sym c.self.view_is) all)
+    rw c.add_passed.ensures.value (subst (λ (x : CoreData). ComesToOutcome s
+    (record x { trip = Some (passed p n t) }) [] [] (run s (intervals_of p n) m)) (sym c.self.view_is) all)
 
 pub returns-clause-taken : goal.returns-clause-taken
 returns-clause-taken c = λ tables on.

@@ -1,10 +1,16 @@
 use Rattle.std.proofs.Common.{refl}
 use Rattle.taxi_units.specs.declared.event.Key.TheVariants as keys
 use Rattle.taxi_units.specs.declared.event.Operating.TheVariants.{ForHire, Hired, Stopped}
-use Rattle.meter_states.proofs.KeyStages.{closes-row, commits-row, moves-row, no-clear, no-extra, no-hire, no-position, no-stop, no-zone, refuses-row, steps-none, steps-one, steps-row}
+use Rattle.meter_states.proofs.KeyStages.{closes-row, commits-row, moves-row, no-clear, no-extra, no-hire, no-position}
+use Rattle.meter_states.proofs.KeyStages.{no-stop, no-zone, refuses-row, steps-none, steps-one, steps-row}
 use Rattle.meter_states.proofs.Pushes.{room-none}
 use Rattle.meter_states.proofs.meter_state.State.press_key.Goals as goal
-use Rattle.meter_states.proofs.meter_state.State.press_key.Goals.{in_default-via-in-Hire+in_default, in_default-via-in-Stop+in_default, in_default-via-in-Clear+in_default, in_default-via-in-Position+in_default, in_default-via-in-Zone+in_default, in_default-via-in-Extra+in_default}
+use Rattle.meter_states.proofs.meter_state.State.press_key.Goals.{in_default-via-in-Hire+in_default}
+use Rattle.meter_states.proofs.meter_state.State.press_key.Goals.{in_default-via-in-Stop+in_default}
+use Rattle.meter_states.proofs.meter_state.State.press_key.Goals.{in_default-via-in-Clear+in_default}
+use Rattle.meter_states.proofs.meter_state.State.press_key.Goals.{in_default-via-in-Position+in_default}
+use Rattle.meter_states.proofs.meter_state.State.press_key.Goals.{in_default-via-in-Zone+in_default}
+use Rattle.meter_states.proofs.meter_state.State.press_key.Goals.{in_default-via-in-Extra+in_default}
 
 pub hire-requires-clause-ready : goal.hire-requires-clause-ready
 hire-requires-clause-ready g c = c.requires.ready
@@ -34,16 +40,20 @@ pub refuse-requires : goal.refuse-requires
 refuse-requires g c = room-none c.args.acts.now.items c.requires.ready.room
 
 pub returns-in-Hire-ForHire-clause-stage : goal.returns-in-Hire-ForHire-clause-stage
-returns-in-Hire-ForHire-clause-stage g c = commits-row keys.Hire ForHire c.self.view_is c.in-Hire-ForHire.is-0 c.in-Hire-ForHire.is-1 c.hire.ensures.stage
+returns-in-Hire-ForHire-clause-stage g c =
+    commits-row keys.Hire ForHire c.self.view_is c.in-Hire-ForHire.is-0 c.in-Hire-ForHire.is-1 c.hire.ensures.stage
 
 pub returns-in-Hire-ForHire-clause-steps : goal.returns-in-Hire-ForHire-clause-steps
-returns-in-Hire-ForHire-clause-steps g c = steps-row c.hire.new.steps c.args.steps.now ForHire c.self.view_is c.in-Hire-ForHire.is-1 c.hire.ensures.steps
+returns-in-Hire-ForHire-clause-steps g c =
+    steps-row c.hire.new.steps c.args.steps.now ForHire c.self.view_is c.in-Hire-ForHire.is-1 c.hire.ensures.steps
 
 pub returns-in-Clear-Stopped-clause-stage : goal.returns-in-Clear-Stopped-clause-stage
-returns-in-Clear-Stopped-clause-stage g c = closes-row keys.Clear Stopped c.self.view_is c.in-Clear-Stopped.is-0 c.in-Clear-Stopped.is-1 c.clear.ensures.stage
+returns-in-Clear-Stopped-clause-stage g c =
+    closes-row keys.Clear Stopped c.self.view_is c.in-Clear-Stopped.is-0 c.in-Clear-Stopped.is-1 c.clear.ensures.stage
 
 pub returns-in-Clear-Stopped-clause-steps : goal.returns-in-Clear-Stopped-clause-steps
-returns-in-Clear-Stopped-clause-steps g c = steps-row c.clear.new.steps c.args.steps.now Stopped c.self.view_is c.in-Clear-Stopped.is-1 c.clear.ensures.steps
+returns-in-Clear-Stopped-clause-steps g c =
+    steps-row c.clear.new.steps c.args.steps.now Stopped c.self.view_is c.in-Clear-Stopped.is-1 c.clear.ensures.steps
 
 pub returns-in-Position-ForHire-clause-stage : goal.returns-in-Position-ForHire-clause-stage
 returns-in-Position-ForHire-clause-stage g c = commits-row
@@ -83,7 +93,8 @@ returns-in-Extra-Hired-clause-stage g c = commits-row
     (c.add_extra.ensures.stage c.args.seal.now)
 
 pub returns-in-Extra-Hired-clause-steps : goal.returns-in-Extra-Hired-clause-steps
-returns-in-Extra-Hired-clause-steps g c = steps-one c.add_extra.new.steps c.args.steps.now c.args.self.now.operating c.add_extra.ensures.steps
+returns-in-Extra-Hired-clause-steps g c =
+    steps-one c.add_extra.new.steps c.args.steps.now c.args.self.now.operating c.add_extra.ensures.steps
 
 pub returns-in-Extra-Stopped-clause-stage : goal.returns-in-Extra-Stopped-clause-stage
 returns-in-Extra-Stopped-clause-stage g c = commits-row
@@ -91,16 +102,19 @@ returns-in-Extra-Stopped-clause-stage g c = commits-row
     (c.add_extra-in-Extra-Stopped.ensures.stage c.args.seal.now)
 
 pub returns-in-Extra-Stopped-clause-steps : goal.returns-in-Extra-Stopped-clause-steps
-returns-in-Extra-Stopped-clause-steps g c = steps-one c.add_extra-in-Extra-Stopped.new.steps c.args.steps.now c.args.self.now.operating c.add_extra-in-Extra-Stopped.ensures.steps
+returns-in-Extra-Stopped-clause-steps g c = steps-one c.add_extra-in-Extra-Stopped.new.steps c.args.steps.now
+    c.args.self.now.operating c.add_extra-in-Extra-Stopped.ensures.steps
 
 pub returns-in-Hire-Stopped-clause-stage : goal.returns-in-Hire-Stopped-clause-stage
-returns-in-Hire-Stopped-clause-stage g c = moves-row keys.Hire Stopped Hired c.self.view_is c.in-Hire-Stopped.is-0 c.in-Hire-Stopped.is-1 c.requires.ready (λ has. has) (λ s m. refl)
+returns-in-Hire-Stopped-clause-stage g c = moves-row keys.Hire Stopped Hired c.self.view_is c.in-Hire-Stopped.is-0
+    c.in-Hire-Stopped.is-1 c.requires.ready (λ has. has) (λ s m. refl)
 
 pub returns-in-Hire-Stopped-clause-steps : goal.returns-in-Hire-Stopped-clause-steps
 returns-in-Hire-Stopped-clause-steps g c = steps-none c.args.steps.now c.args.self.now.operating
 
 pub returns-in-Stop-Hired-clause-stage : goal.returns-in-Stop-Hired-clause-stage
-returns-in-Stop-Hired-clause-stage g c = moves-row keys.Stop Hired Stopped c.self.view_is c.in-Stop-Hired.is-0 c.in-Stop-Hired.is-1 c.requires.ready (λ has. has) (λ s m. refl)
+returns-in-Stop-Hired-clause-stage g c = moves-row keys.Stop Hired Stopped c.self.view_is c.in-Stop-Hired.is-0
+    c.in-Stop-Hired.is-1 c.requires.ready (λ has. has) (λ s m. refl)
 
 pub returns-in-Stop-Hired-clause-steps : goal.returns-in-Stop-Hired-clause-steps
 returns-in-Stop-Hired-clause-steps g c = steps-none c.args.steps.now c.args.self.now.operating
@@ -110,10 +124,19 @@ returns-in_default-clause-steps g c = steps-none c.args.steps.now c.args.self.no
 
 pub returns-in_default-clause-stage : goal.returns-in_default-clause-stage
 returns-in_default-clause-stage g c = elim c.in_default.branch [
-  | in_default-via-in-Hire+in_default w ↦ refuses-row keys.Hire c.self.view_is w.in_default.is-0 c.requires.ready c.refuse.ensures (no-hire c.self.inside.operating w.in_default.not-ForHire-1 w.in_default.not-Stopped-1)
-  | in_default-via-in-Stop+in_default w ↦ refuses-row keys.Stop c.self.view_is w.in_default.is-0 c.requires.ready c.refuse.ensures (no-stop c.self.inside.operating w.in_default.not-Hired-1)
-  | in_default-via-in-Clear+in_default w ↦ refuses-row keys.Clear c.self.view_is w.in_default.is-0 c.requires.ready c.refuse.ensures (no-clear c.self.inside.operating w.in_default.not-Stopped-1)
-  | in_default-via-in-Position+in_default w ↦ refuses-row (keys.Position w.in_default.field-0-0) c.self.view_is w.in_default.is-0 c.requires.ready c.refuse.ensures (no-position w.in_default.field-0-0 c.self.inside.operating w.in_default.not-ForHire-1 w.in_default.not-Hired-1)
-  | in_default-via-in-Zone+in_default w ↦ refuses-row (keys.Zone w.in_default.field-0-0) c.self.view_is w.in_default.is-0 c.requires.ready c.refuse.ensures (no-zone w.in_default.field-0-0 c.self.inside.operating w.in_default.not-ForHire-1 w.in_default.not-Hired-1)
-  | in_default-via-in-Extra+in_default w ↦ refuses-row (keys.Extra w.in_default.field-0-0) c.self.view_is w.in_default.is-0 c.requires.ready c.refuse.ensures (no-extra w.in_default.field-0-0 c.self.inside.operating w.in_default.not-Hired-1 w.in_default.not-Stopped-1)
+  | in_default-via-in-Hire+in_default w ↦ refuses-row keys.Hire c.self.view_is w.in_default.is-0 c.requires.ready
+      c.refuse.ensures (no-hire c.self.inside.operating w.in_default.not-ForHire-1 w.in_default.not-Stopped-1)
+  | in_default-via-in-Stop+in_default w ↦ refuses-row keys.Stop c.self.view_is w.in_default.is-0 c.requires.ready
+      c.refuse.ensures (no-stop c.self.inside.operating w.in_default.not-Hired-1)
+  | in_default-via-in-Clear+in_default w ↦ refuses-row keys.Clear c.self.view_is w.in_default.is-0 c.requires.ready
+      c.refuse.ensures (no-clear c.self.inside.operating w.in_default.not-Stopped-1)
+  | in_default-via-in-Position+in_default w ↦ refuses-row (keys.Position w.in_default.field-0-0) c.self.view_is
+      w.in_default.is-0 c.requires.ready c.refuse.ensures
+      (no-position w.in_default.field-0-0 c.self.inside.operating w.in_default.not-ForHire-1 w.in_default.not-Hired-1)
+  | in_default-via-in-Zone+in_default w ↦
+      refuses-row (keys.Zone w.in_default.field-0-0) c.self.view_is w.in_default.is-0 c.requires.ready c.refuse.ensures
+      (no-zone w.in_default.field-0-0 c.self.inside.operating w.in_default.not-ForHire-1 w.in_default.not-Hired-1)
+  | in_default-via-in-Extra+in_default w ↦
+      refuses-row (keys.Extra w.in_default.field-0-0) c.self.view_is w.in_default.is-0 c.requires.ready c.refuse.ensures
+      (no-extra w.in_default.field-0-0 c.self.inside.operating w.in_default.not-Hired-1 w.in_default.not-Stopped-1)
 ]

@@ -16,8 +16,11 @@ returns-clause-follows c = λ tables seal on still s m is e.
     let some = modulus-some s tables is.tariff (tables_are_fit tables on.compiled) in
     let none : core.trip ≡ None = rw c.requires.hire at on.on in
     let roam : c.self.inside.roam ≤ roaming_between = rw (← c.self.view_is) at c.requires.roam in
-    let raw : c.self.inside.roam + n * c.roams-each.result ≤ roaming_between = omega (arith, c.most_times-n.ensures.room, roam) in
-    let few : c.self.inside.roam + n * roams c.self.inside.number p ≤ roaming_between = rw c.roams-each.ensures.value at raw in
-    let all = subst (λ (x : CoreData). x.roam + n * roams x.number p ≤ roaming_between → ComesToOutcome s (record x { roam = x.roam + n * roams x.number p }) [] [] (run s (intervals_of p n) m)) (sym c.self.view_is)
+    let raw : c.self.inside.roam + n * c.roams-each.result ≤ roaming_between =
+    omega (arith, c.most_times-n.ensures.room, roam) in
+    let few : c.self.inside.roam + n * roams c.self.inside.number p ≤ roaming_between =
+    rw c.roams-each.ensures.value at raw in
+    let all = subst (λ (x : CoreData). x.roam + n * roams x.number p ≤ roaming_between → ComesToOutcome s
+    (record x { roam = x.roam + n * roams x.number p }) [] [] (run s (intervals_of p n) m)) (sym c.self.view_is)
     (hire-equal s tables p n m core is.tariff some c.requires.pulses e c.requires.hire none still) few in
     rw c.roams-each.ensures.value all

@@ -21,7 +21,8 @@ returns-clause-value c =
 pub returns-clause-range : goal.returns-clause-range
 returns-clause-range c =
     let core = c.args.self.now in
-    subst (store.IsTripInItsRanges (core.number + 1)) (sym (returns-clause-value c)) (held-range c.requires.lawful.0 core
+    subst (store.IsTripInItsRanges (core.number + 1)) (sym (returns-clause-value c))
+    (held-range c.requires.lawful.0 core
     (is_stopped core.operating) c.args.trip.now c.requires.lawful.1 c.requires.trip)
 
 pub returns-clause-fits : goal.returns-clause-fits

@@ -8,7 +8,7 @@ use Rattle.taxi_units.specs.Limits.{roaming_most}
 
 pub returns-in-Hired-clause-full : goal.returns-in-Hired-clause-full
 returns-in-Hired-clause-full c =
-    full-in c.args.tables.now c.args.seal.now c.args.facts.now c.args.pulses c.charge_equal.new.self Hired
+    full-in c.args.tables.now c.args.seal.now c.args.cache.now c.args.pulses c.charge_equal.new.self Hired
     c.charge_equal.result c.args.count _
     (c.charge_equal.ensures.taken.same.0 ∙ sym (ap (λ (p : CoreData). p.operating) c.self.view_is) ∙ c.in-Hired.is)
     (λ stop go. stop go) c.charge_equal.ensures.full
@@ -21,7 +21,7 @@ returns-in-ForHire-clause-full c =
     let core = c.roam_equal.new.self in
     let p = c.args.pulses in
     let taken = c.roam_equal.ensures.taken c.args.tables.now c.requires.lawful in
-    full-in c.args.tables.now c.args.seal.now c.args.facts.now p core ForHire c.roam_equal.result c.args.count
+    full-in c.args.tables.now c.args.seal.now c.args.cache.now p core ForHire c.roam_equal.result c.args.count
     (roaming_most ≤ core.roam + roams core.number p)
     (taken.same.0 ∙ sym (ap (λ (p : CoreData). p.operating) c.self.view_is) ∙ c.in-ForHire.is)
     (λ (stop : roaming_most ≤ core.roam + roams core.number p) (go : core.roam + roams core.number p < roaming_most).
@@ -37,7 +37,7 @@ returns-in-Stopped-clause-taken c = c.pass_equal.ensures.taken c.args.tables.now
 pub returns-in-Stopped-clause-full : goal.returns-in-Stopped-clause-full
 returns-in-Stopped-clause-full c =
     let taken = c.pass_equal.ensures.taken c.args.tables.now c.requires.lawful in
-    full-in c.args.tables.now c.args.seal.now c.args.facts.now c.args.pulses c.pass_equal.new.self Stopped
+    full-in c.args.tables.now c.args.seal.now c.args.cache.now c.args.pulses c.pass_equal.new.self Stopped
     c.pass_equal.result c.args.count _
     (taken.same.0 ∙ sym (ap (λ (p : CoreData). p.operating) c.self.view_is) ∙ c.in-Stopped.is)
     (λ stop go. stop go) c.pass_equal.ensures.full

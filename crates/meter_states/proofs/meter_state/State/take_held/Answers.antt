@@ -12,7 +12,8 @@ pub is_within_hold-requires : goal.is_within_hold-requires
 is_within_hold-requires g c = held-second c.requires.held.range
 
 pub go_on-requires-clause-begun : goal.go_on-requires-clause-begun
-go_on-requires-clause-begun g c = begun-by c.requires.held.range (c.is_within_hold.ensures.later c.if-is_within_hold.true) c.requires.second
+go_on-requires-clause-begun g c =
+    begun-by c.requires.held.range (c.is_within_hold.ensures.later c.if-is_within_hold.true) c.requires.second
 
 pub go_on-requires-clause-new : goal.go_on-requires-clause-new
 go_on-requires-clause-new g c = c.requires.ready.new

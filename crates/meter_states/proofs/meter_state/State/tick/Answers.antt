@@ -16,8 +16,10 @@ returns-clause-stage g c = record {
       let n = c.args.self.now.number in
       let same = c.count_interval.ensures.same.1 in
       let start = subst (λ (k : ℕ). All (IsLawfulAct p k) c.args.acts.now.items) (sym same) before in
-      let pressed = subst (λ (k : ℕ). All (IsLawfulAct p k) c.expire_or_press.new.acts.items) same (c.expire_or_press.ensures.stage.ranges start) in
-      c.show.ensures.ranges n (c.check_roaming.ensures.ranges n (same-or _ _ _ n _ c.expire_or_press.ensures.stage.roam same) pressed);
+      let pressed = subst (λ (k : ℕ). All (IsLawfulAct p k) c.expire_or_press.new.acts.items) same
+      (c.expire_or_press.ensures.stage.ranges start) in
+      c.show.ensures.ranges n
+      (c.check_roaming.ensures.ranges n (same-or _ _ _ n _ c.expire_or_press.ensures.stage.roam same) pressed);
   follows = λ s m is e.
       let begin = c.args.acts.now.items in
       let pressed_acts = c.expire_or_press.new.acts.items in
@@ -34,9 +36,13 @@ returns-clause-stage g c = record {
       let clock = c.second-second.ensures ∙ ap (λ (p : CoreData). p.clock) (c.self.view_is ∙ d.state) in
       let begun = ap (λ (p : CoreData). record p { began = c.second-second.result }) (c.self.view_is ∙ d.state) ∙ ap (λ
       (n : ℕ). record (core_of s after) { began = n }) clock in
-      follows-then s c.count_interval.new.self _ begin begin acts (interval_counted s m) (λ (n : Meter). expired_or_pressed s n >>= (λ (n : Meter). roaming_checked s n >>= (λ (n : Meter). shown s n >>= (λ (n : Meter). interval_begun n)))) count
-      (follows-then s c.expire_or_press.new.self _ begin pressed_acts acts (expired_or_pressed s counted) (λ (n : Meter). roaming_checked s n >>= (λ (n : Meter). shown s n >>= (λ (n : Meter). interval_begun n))) a
-      (follows-then s c.check_roaming.new.self _ pressed_acts checked_acts acts (roaming_checked s pressed) (λ (n : Meter). shown s n >>= (λ (n : Meter). interval_begun n)) b
+      follows-then s c.count_interval.new.self _ begin begin acts (interval_counted s m)
+      (λ (n : Meter). expired_or_pressed s n >>= (λ (n : Meter). roaming_checked s n
+      >>= (λ (n : Meter). shown s n >>= (λ (n : Meter). interval_begun n)))) count
+      (follows-then s c.expire_or_press.new.self _ begin pressed_acts acts (expired_or_pressed s counted)
+      (λ (n : Meter). roaming_checked s n >>= (λ (n : Meter). shown s n >>= (λ (n : Meter). interval_begun n))) a
+      (follows-then s c.check_roaming.new.self _ pressed_acts checked_acts acts (roaming_checked s pressed)
+      (λ (n : Meter). shown s n >>= (λ (n : Meter). interval_begun n)) b
       (follows-then s c.show.new.self _ checked_acts acts acts (shown s checked) (λ (n : Meter). interval_begun n) d
       (quiet-follows s _ acts (record after { began = after.clock }) begun))));
 }

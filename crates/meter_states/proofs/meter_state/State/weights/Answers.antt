@@ -2,15 +2,16 @@ use Rattle.std.proofs.Common.{◌≡◌, ℕ, Option, ap, sym, subst, ◌∙◌}
 use Rattle.std.specs.Option.{ForSome}
 use Rattle.tariff_compile.specs.Tables.{rate_by}
 use Rattle.meter_states.specs.Core.{CoreData}
-use Rattle.meter_states.specs.Facts.{AreLocal}
+use Rattle.meter_states.specs.Cache.{IsCachedTimeOf}
 use Rattle.meter_states.specs.Interval.{context_on}
 use Rattle.meter_states.specs.Setting.{local_at}
-use Rattle.meter_states.specs.declared.facts.CachedTime.{CachedTime}
+use Rattle.meter_states.specs.declared.cache.CachedTime.{CachedTime}
 use Rattle.meter_states.proofs.meter_state.State.weights.Goals as goal
 
 pub returns-clause-rate : goal.returns-clause-rate
 returns-clause-rate g c = λ s m is st.
-    let began : c.local_at-local.result.second ≡ m.began = c.local_at-local.ensures.second ∙ ap (λ (p : CoreData). p.began) (c.self.view_is ∙ st) in
+    let began : c.local_at-local.result.second ≡ m.began =
+    c.local_at-local.ensures.second ∙ ap (λ (p : CoreData). p.began) (c.self.view_is ∙ st) in
     c.rate_at.ensures.tree s.tariff is.tariff.compiled
     ∙ ap (rate_by s.tariff c.args.tables.now.constant)
     (c.context_on-x.ensures.value c.args.seal.now s m c.local_at-local.ensures.local is st ∙ ap (λ
@@ -20,11 +21,11 @@ pub rate_at-requires-clause-range : goal.rate_at-requires-clause-range
 rate_at-requires-clause-range g c = c.context_on-x.ensures.range c.args.seal.now c.local_at-local.ensures.local
 
 pub rate_at-requires-clause-lasting : goal.rate_at-requires-clause-lasting
-rate_at-requires-clause-lasting g c = c.local_at-local.ensures.facts.rate
+rate_at-requires-clause-lasting g c = c.local_at-local.ensures.cache.rate
 
-pub returns-clause-facts : goal.returns-clause-facts
-returns-clause-facts g c = record {
-  local = subst (λ (o : Option CachedTime). ForSome o (AreLocal c.args.tables.now c.args.seal.now))
-      (sym c.rate_at.ensures.local) c.local_at-local.ensures.facts.local;
+pub returns-clause-cache : goal.returns-clause-cache
+returns-clause-cache g c = record {
+  local = subst (λ (o : Option CachedTime). ForSome o (IsCachedTimeOf c.args.tables.now c.args.seal.now))
+      (sym c.rate_at.ensures.local) c.local_at-local.ensures.cache.local;
   rate = c.rate_at.ensures.lasting;
 }

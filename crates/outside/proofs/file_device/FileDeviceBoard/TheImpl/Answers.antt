@@ -1,7 +1,7 @@
 -- A board that tells nothing has nothing in flight, prints nothing and leaves nothing, by its meanings.
 use Rattle.std.proofs.Common.{ℕ, List, refl, arith}
 use Rattle.outside.specs.Disk.{Elapses}
-use Rattle.outside.proofs.Kept.{on_ok}
+use Rattle.outside.proofs.CallEffects.{on_ok}
 use Rattle.outside.proofs.file_device.FileDeviceBoard.TheImpl.Goals as goal
 
 untold_time : (outcome : List ℕ → List ℕ → Type 0) → Elapses 0 0 (λ start i x. ⊥) (λ start i x. ⊥) outcome

@@ -1,8 +1,8 @@
 use Rattle.std.proofs.Common.{ap, subst, sym}
 use Rattle.outside.specs.Calls.{Read, Contents, IsInSome}
 use Rattle.outside.specs.Disk.{IsImage}
-use Rattle.outside.specs.MemoryBoard.{held_by}
-use Rattle.outside.proofs.Kept.{became, cause_is, read_same, time_is, time_of_call}
+use Rattle.outside.specs.MemoryBoard.{contents_of}
+use Rattle.outside.proofs.CallEffects.{became, cause_is, read_same, time_is, time_of_call}
 use Rattle.outside.proofs.memory_device.MemoryDeviceBoard.read.Goals as goal
 
 pub returns-clause-reads : goal.returns-clause-reads
@@ -13,9 +13,10 @@ returns-clause-reads g c =
     let time = time_is old new Read c.keep_read.result c.keep_read.ensures.kept c.keep_read.ensures.failed in
     rw (sym c.self.view_is) (record {
       bytes = c.keep_read.ensures.bytes;
-      image = ap (λ (h : Contents). h.image) (read_same (held_by old) (held_by new) came);
-      flight = λ place flies. subst (λ (h : Contents). IsInSome h.ranges place) (read_same (held_by old) (held_by new) came) flies;
-      text = ap (λ (h : Contents). h.text) (read_same (held_by old) (held_by new) came);
+      image = ap (λ (h : Contents). h.image) (read_same (contents_of old) (contents_of new) came);
+      flight = λ place flies. subst (λ (h : Contents). IsInSome h.ranges place)
+          (read_same (contents_of old) (contents_of new) came) flies;
+      text = ap (λ (h : Contents). h.text) (read_same (contents_of old) (contents_of new) came);
       time = time_of_call old new Read (λ i x amid. amid) time;
       cause = cause_is old new Read c.keep_read.result c.keep_read.ensures.kept c.keep_read.ensures.failed;
       kept = c.keep_read.ensures.kept;
@@ -23,4 +24,9 @@ returns-clause-reads g c =
     })
 
 pub invariant_of-self-inside : goal.invariant_of-self-inside
-invariant_of-self-inside g c = (subst (λ (h : Contents). IsImage g.row.N h.image) (sym (read_same (held_by c.self.inside.state) (held_by c.keep_read.new.self) (became c.self.inside.state c.keep_read.new.self Read c.keep_read.result c.keep_read.ensures.kept c.keep_read.ensures.failed))) c.self.inside.is_image, tt)
+invariant_of-self-inside g c = (
+  subst (λ (h : Contents). IsImage g.row.N h.image) (sym (read_same (contents_of c.self.inside.state)
+      (contents_of c.keep_read.new.self) (became c.self.inside.state c.keep_read.new.self Read c.keep_read.result
+      c.keep_read.ensures.kept c.keep_read.ensures.failed))) c.self.inside.is_image,
+  tt,
+)

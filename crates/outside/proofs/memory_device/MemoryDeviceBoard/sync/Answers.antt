@@ -1,8 +1,9 @@
 use Rattle.std.proofs.Common.{subst, sym}
 use Rattle.outside.specs.Calls.{Sync, IsInSome}
 use Rattle.outside.specs.Disk.{IsImage}
-use Rattle.outside.specs.MemoryBoard.{held_by, image_of}
-use Rattle.outside.proofs.Kept.{on_ok, same_but, became_done, became, cause_is, sync_image, sync_flight, sync_text, sync_durable, time_is, time_of_call}
+use Rattle.outside.specs.MemoryBoard.{contents_of, image_of}
+use Rattle.outside.proofs.CallEffects.{on_ok, same_but, became_done, became, cause_is, sync_image, sync_flight}
+use Rattle.outside.proofs.CallEffects.{sync_text, sync_durable, time_is, time_of_call}
 use Rattle.outside.proofs.memory_device.MemoryDeviceBoard.sync.Goals as goal
 
 pub returns-clause-syncs : goal.returns-clause-syncs
@@ -12,11 +13,13 @@ returns-clause-syncs g c =
     let came = became old new Sync c.keep_sync.result c.keep_sync.ensures.kept c.keep_sync.ensures.failed in
     let time = time_is old new Sync c.keep_sync.result c.keep_sync.ensures.kept c.keep_sync.ensures.failed in
     rw (sym c.self.view_is) (record {
-      durable = sync_durable (held_by old) (held_by new) c.keep_sync.result (became_done old new Sync c.keep_sync.result c.keep_sync.ensures.kept);
-      same = on_ok c.keep_sync.result (sync_image (held_by old) (held_by new) came);
-      image = same_but (IsInSome (held_by old).ranges) (image_of old) (image_of new) (sync_image (held_by old) (held_by new) came);
-      flight = sync_flight (held_by old) (held_by new) came;
-      text = sync_text (held_by old) (held_by new) came;
+      durable = sync_durable (contents_of old) (contents_of new) c.keep_sync.result
+          (became_done old new Sync c.keep_sync.result c.keep_sync.ensures.kept);
+      same = on_ok c.keep_sync.result (sync_image (contents_of old) (contents_of new) came);
+      image = same_but (IsInSome (contents_of old).ranges) (image_of old) (image_of new)
+          (sync_image (contents_of old) (contents_of new) came);
+      flight = sync_flight (contents_of old) (contents_of new) came;
+      text = sync_text (contents_of old) (contents_of new) came;
       time = time_of_call old new Sync (λ i x amid. amid) time;
       cause = cause_is old new Sync c.keep_sync.result c.keep_sync.ensures.kept c.keep_sync.ensures.failed;
       kept = c.keep_sync.ensures.kept;
@@ -24,4 +27,9 @@ returns-clause-syncs g c =
     })
 
 pub invariant_of-self-inside : goal.invariant_of-self-inside
-invariant_of-self-inside g c = (subst (IsImage g.row.N) (sym (sync_image (held_by c.self.inside.state) (held_by c.keep_sync.new.self) (became c.self.inside.state c.keep_sync.new.self Sync c.keep_sync.result c.keep_sync.ensures.kept c.keep_sync.ensures.failed))) c.self.inside.is_image, tt)
+invariant_of-self-inside g c = (
+  subst (IsImage g.row.N) (sym (sync_image (contents_of c.self.inside.state) (contents_of c.keep_sync.new.self)
+      (became c.self.inside.state c.keep_sync.new.self Sync c.keep_sync.result c.keep_sync.ensures.kept
+      c.keep_sync.ensures.failed))) c.self.inside.is_image,
+  tt,
+)

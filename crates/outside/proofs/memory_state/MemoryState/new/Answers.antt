@@ -1,5 +1,5 @@
 use Rattle.std.proofs.Common.{◌≡◌, List, [], rules, subst, sym}
-use Rattle.outside.specs.Calls.{Kept, after_all, opened}
+use Rattle.outside.specs.Calls.{CallOutcome, after_all, opened}
 use Rattle.outside.specs.Disk.{IsImage}
 use Rattle.outside.proofs.Bytes.{is_image}
 use Rattle.outside.proofs.memory_state.MemoryState.new.Goals as goal
@@ -8,5 +8,6 @@ pub returns-clause-is_image : goal.returns-clause-is_image
 returns-clause-is_image g c =
     let start = c.in-Ok-from_slice.start.items in
     let none : c.new-2.result.items ≡ [] = search rules in
-    subst (λ (calls : List Kept). IsImage g.row.N (after_all (opened start) calls).image) (sym none)
-    (subst (IsImage g.row.N) (sym c.in-Ok-from_slice.ensures.items) (is_image c.args.image.now c.requires.image c.type_inv.image))
+    subst (λ (calls : List CallOutcome). IsImage g.row.N (after_all (opened start) calls).image) (sym none)
+    (subst (IsImage g.row.N) (sym c.in-Ok-from_slice.ensures.items)
+    (is_image c.args.image.now c.requires.image c.type_inv.image))

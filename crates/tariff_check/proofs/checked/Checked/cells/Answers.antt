@@ -4,4 +4,5 @@ use Rattle.tariff_check.proofs.checked.Checked.cells.Goals as goal
 
 pub returns-clause-range : goal.returns-clause-range
 returns-clause-range c =
-    rw c.self.invariant.1.cells (numbered_parts (tree_of c.self.inside.tariff) c.self.inside.numbers c.self.invariant.0 c.self.invariant.1).cells
+    rw c.self.invariant.1.cells
+    (numbered_parts (tree_of c.self.inside.tariff) c.self.inside.numbers c.self.invariant.0 c.self.invariant.1).cells

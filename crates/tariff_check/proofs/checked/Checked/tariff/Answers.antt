@@ -6,4 +6,5 @@ use Rattle.tariff_syntax.specs.declared.tariff.Tariff.{Tariff}
 use Rattle.tariff_check.proofs.checked.Checked.tariff.Goals as goal
 
 pub returns-clause-sound : goal.returns-clause-sound
-returns-clause-sound c = subst (λ (t : Tariff). IsSound (tree_of t)) c.self.view_is (sound_if_none (tree_of c.self.inside.tariff) c.self.invariant.1.sound)
+returns-clause-sound c = subst (λ (t : Tariff). IsSound (tree_of t)) c.self.view_is
+    (sound_if_none (tree_of c.self.inside.tariff) c.self.invariant.1.sound)

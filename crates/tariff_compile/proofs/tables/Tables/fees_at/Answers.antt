@@ -9,7 +9,8 @@ bounds-as_slice-lines c =
     let t = c.lines_at-lines.ensures.compiled.0 in
     let is = c.lines_at-lines.ensures.compiled.1 in
     let lines = c.lines_at-lines.ensures.value ∙ lines_in_is t tables c.args.x.now is c.requires.range in
-    rw (c.as_slice.ensures.value ∙ ap (λ (p : TableParts). p.initials) c.self.view_is, lines) (initial-below t tables c.args.x.now is)
+    rw (c.as_slice.ensures.value ∙ ap (λ (p : TableParts). p.initials) c.self.view_is, lines)
+    (initial-below t tables c.args.x.now is)
 
 pub plain_minimum-requires : goal.plain_minimum-requires
 plain_minimum-requires c =

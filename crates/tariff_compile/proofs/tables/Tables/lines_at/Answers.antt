@@ -12,11 +12,16 @@ cell_number-cell-requires-clause-fits c =
 pub offset_bounds-as_slice-cell : goal.offset_bounds-as_slice-cell
 offset_bounds-as_slice-cell c =
     let compiled = subst IsCompiled c.self.view_is c.self.invariant in
-    let below : c.cell_number-cell.result < cell_count (sizes_for c.args.self.now) = rw (c.sizes_of-sizes.ensures ∙ ap sizes_for c.self.view_is) at c.cell_number-cell.ensures.below in
+    let below : c.cell_number-cell.result < cell_count (sizes_for c.args.self.now) =
+    rw (c.sizes_of-sizes.ensures ∙ ap sizes_for c.self.view_is) at c.cell_number-cell.ensures.below in
     omega (arith, below, sizes_for-most c.args.self.now compiled)
 
 pub bounds-as_slice-cell : goal.bounds-as_slice-cell
 bounds-as_slice-cell c =
     let compiled = subst IsCompiled c.self.view_is c.self.invariant in
-    let below : c.cell_number-cell.result < cell_count (sizes_for c.args.self.now) = rw (c.sizes_of-sizes.ensures ∙ ap sizes_for c.self.view_is) at c.cell_number-cell.ensures.below in
-    rw (c.as_slice.ensures.value ∙ ap (λ (p : TableParts). p.cells) c.self.view_is, length-cells c.args.self.now compiled) below
+    let below : c.cell_number-cell.result < cell_count (sizes_for c.args.self.now) =
+    rw (c.sizes_of-sizes.ensures ∙ ap sizes_for c.self.view_is) at c.cell_number-cell.ensures.below in
+    rw (
+      c.as_slice.ensures.value ∙ ap (λ (p : TableParts). p.cells) c.self.view_is,
+      length-cells c.args.self.now compiled,
+    ) below

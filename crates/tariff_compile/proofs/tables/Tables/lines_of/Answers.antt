@@ -18,7 +18,10 @@ pub read-requires : goal.read-requires
 read-requires g c =
     let compiled = subst IsCompiled c.self.view_is c.self.invariant in
     let below = rw (c.sizes_of-sizes.ensures ∙ ap sizes_for c.self.view_is) at c.cell_number.ensures.below in
-    rw (c.of.ensures ∙ (c.as_slice.ensures.value ∙ ap (λ (p : TableParts). p.cells) c.self.view_is), length-cells c.args.self.now compiled) below
+    rw (
+      c.of.ensures ∙ (c.as_slice.ensures.value ∙ ap (λ (p : TableParts). p.cells) c.self.view_is),
+      length-cells c.args.self.now compiled,
+    ) below
 
 pub returns-clause-value : goal.returns-clause-value
 returns-clause-value g c = λ other.
@@ -26,4 +29,5 @@ returns-clause-value g c = λ other.
     let cells = c.of.ensures ∙ (c.as_slice.ensures.value ∙ ap (λ (p : TableParts). p.cells) c.self.view_is) in
     c.read.ensures.value other
     ∙ (ap (λ (list : List CellLines). get_or list c.cell_number.result other) cells
-    ∙ ap (λ place. get_or c.args.self.now.cells place other) (c.cell_number.ensures.value ∙ ap (λ (s : Bands). cell_number s c.args.bands.now) sizes))
+    ∙ ap (λ place. get_or c.args.self.now.cells place other)
+    (c.cell_number.ensures.value ∙ ap (λ (s : Bands). cell_number s c.args.bands.now) sizes))

@@ -8,7 +8,8 @@ use Rattle.tariff_compile.proofs.tables.Tables.rate_at.Goals as goal
 
 pub lines_of-lines-requires : goal.lines_of-lines-requires
 lines_of-lines-requires g c = record {
-  below = rw (c.bands_at-bands.ensures.value ∙ ap (λ (p : TableParts). bands_at p.cuts c.args.x.now) c.self.view_is) (bands-below c.args.self.now c.args.x.now c.requires.range);
+  below = rw (c.bands_at-bands.ensures.value ∙ ap (λ (p : TableParts). bands_at p.cuts c.args.x.now) c.self.view_is)
+      (bands-below c.args.self.now c.args.x.now c.requires.range);
 }
 
 pub read-requires : goal.read-requires
@@ -17,16 +18,20 @@ read-requires g c =
     let t = c.lines_of-lines.ensures.compiled.0 in
     let is = c.lines_of-lines.ensures.compiled.1 in
     let bands = c.bands_at-bands.ensures.value ∙ ap (λ (p : TableParts). bands_at p.cuts c.args.x.now) c.self.view_is in
-    let lines = lines-found_at t tables c.args.x.now c.bands_at-bands.result c.lines_of-lines.result is c.requires.range bands c.lines_of-lines.ensures.value in
-    rw (c.of.ensures ∙ (c.as_slice.ensures.value ∙ ap (λ (p : TableParts). p.weights) c.self.view_is), lines) (rate-below t tables c.args.x.now is)
+    let lines = lines-found_at t tables c.args.x.now c.bands_at-bands.result c.lines_of-lines.result is c.requires.range
+    bands c.lines_of-lines.ensures.value in
+    rw (c.of.ensures ∙ (c.as_slice.ensures.value ∙ ap (λ (p : TableParts). p.weights) c.self.view_is), lines)
+    (rate-below t tables c.args.x.now is)
 
 pub returns-clause-tree : goal.returns-clause-tree
 returns-clause-tree g c = λ t is.
     let tables = c.args.self.now in
     let bands = c.bands_at-bands.ensures.value ∙ ap (λ (p : TableParts). bands_at p.cuts c.args.x.now) c.self.view_is in
-    let lines = lines-found_at t tables c.args.x.now c.bands_at-bands.result c.lines_of-lines.result is c.requires.range bands c.lines_of-lines.ensures.value in
+    let lines = lines-found_at t tables c.args.x.now c.bands_at-bands.result c.lines_of-lines.result is c.requires.range
+    bands c.lines_of-lines.ensures.value in
     c.read.ensures.value c.read.result
-    ∙ (ap (λ (list : List Weights). get_or list c.lines_of-lines.result.rate c.read.result) (c.of.ensures ∙ (c.as_slice.ensures.value ∙ ap (λ (p : TableParts). p.weights) c.self.view_is))
+    ∙ (ap (λ (list : List Weights). get_or list c.lines_of-lines.result.rate c.read.result)
+    (c.of.ensures ∙ (c.as_slice.ensures.value ∙ ap (λ (p : TableParts). p.weights) c.self.view_is))
     ∙ rw lines (rate-weights t tables c.args.x.now c.read.result is))
 
 pub returns-clause-fit : goal.returns-clause-fit
@@ -34,7 +39,12 @@ returns-clause-fit g c =
     let tables = c.args.self.now in
     let compiled = c.lines_of-lines.ensures.compiled in
     let bands = c.bands_at-bands.ensures.value ∙ ap (λ (p : TableParts). bands_at p.cuts c.args.x.now) c.self.view_is in
-    let lines = lines-found_at compiled.0 tables c.args.x.now c.bands_at-bands.result c.lines_of-lines.result compiled.1 c.requires.range bands c.lines_of-lines.ensures.value in
-    let there : c.lines_of-lines.result.rate < length tables.weights = rw lines (rate-below compiled.0 tables c.args.x.now compiled.1) in
-    let read = c.read.ensures.value c.read.result ∙ ap (λ (list : List Weights). get_or list c.lines_of-lines.result.rate c.read.result) (c.of.ensures ∙ (c.as_slice.ensures.value ∙ ap (λ (p : TableParts). p.weights) c.self.view_is)) in
-    subst (AreFit tables.measure) (sym read) (All-get_or (AreFit tables.measure) tables.weights c.lines_of-lines.result.rate c.read.result there (weights-fit tables compiled))
+    let lines = lines-found_at compiled.0 tables c.args.x.now c.bands_at-bands.result c.lines_of-lines.result compiled.1
+    c.requires.range bands c.lines_of-lines.ensures.value in
+    let there : c.lines_of-lines.result.rate < length tables.weights =
+    rw lines (rate-below compiled.0 tables c.args.x.now compiled.1) in
+    let read = c.read.ensures.value c.read.result
+    ∙ ap (λ (list : List Weights). get_or list c.lines_of-lines.result.rate c.read.result)
+    (c.of.ensures ∙ (c.as_slice.ensures.value ∙ ap (λ (p : TableParts). p.weights) c.self.view_is)) in
+    subst (AreFit tables.measure) (sym read) (All-get_or (AreFit tables.measure) tables.weights
+    c.lines_of-lines.result.rate c.read.result there (weights-fit tables compiled))

@@ -3,11 +3,15 @@ use Rattle.tariff_compile.specs.declared.parts.Supplement.{Supplement}
 use Rattle.tariff_compile.specs.Tables.{TableParts}
 use Rattle.tariff_compile.proofs.Compiled.{supplement-none, supplement-there}
 use Rattle.tariff_compile.proofs.tables.Tables.supplement.Goals as goal
-use Rattle.tariff_compile.proofs.tables.Tables.supplement.Goals.{then-number-lt1-via-then-number-lt1, then-number-lt1-via-else-number-lt1+then-number-gt16}
+use Rattle.tariff_compile.proofs.tables.Tables.supplement.Goals.{then-number-lt1-via-then-number-lt1}
+use Rattle.tariff_compile.proofs.tables.Tables.supplement.Goals.{then-number-lt1-via-else-number-lt1+then-number-gt16}
 
 pub returns-then-number-lt1-clause-tree : goal.returns-then-number-lt1-clause-tree
 returns-then-number-lt1-clause-tree g c = λ t is. supplement-none t c.args.self.now c.args.number is (λ range.
-    elim c.then-number-lt1.branch [ then-number-lt1-via-then-number-lt1 w ↦ omega arith | then-number-lt1-via-else-number-lt1+then-number-gt16 w ↦ omega arith ])
+    elim c.then-number-lt1.branch [
+      | then-number-lt1-via-then-number-lt1 w ↦ omega arith
+      | then-number-lt1-via-else-number-lt1+then-number-gt16 w ↦ omega arith
+    ])
 
 pub returns-clause-tree : goal.returns-clause-tree
 returns-clause-tree g c = λ t is.

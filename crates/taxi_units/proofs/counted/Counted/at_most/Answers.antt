@@ -11,10 +11,12 @@ loop-count-preserved-then-is_at_most g c =
     record {
       order = omega arith;
       end = loop.end;
-      counted = passes_before test c.args.self.now middle c.read-element.result c.requires c.read-element.ensures.value (omega arith) (sym c.is_at_most.ensures ∙ c.if-is_at_most.true);
+      counted = passes_before test c.args.self.now middle c.read-element.result c.requires c.read-element.ensures.value
+          (omega arith) (sym c.is_at_most.ensures ∙ c.if-is_at_most.true);
       passed = loop.passed;
       last = rw back (omega arith, c.read-element.ensures.value);
-      most = λ digits few. rw c.read-element.ensures.step (ends_after _ _ (c.loop-count.end - c.loop-count.count) _ (loop.most digits few) (omega arith) (omega arith));
+      most = λ digits few. rw c.read-element.ensures.step
+          (ends_after _ _ (c.loop-count.end - c.loop-count.count) _ (loop.most digits few) (omega arith) (omega arith));
       least = inr (omega arith);
     }
 
@@ -27,16 +29,20 @@ loop-count-preserved g c =
       order = omega arith;
       end = omega arith;
       counted = loop.counted;
-      passed = fails_after test c.args.self.now middle c.read-element.result c.requires c.read-element.ensures.value (sym c.is_at_most.ensures ∙ c.if-is_at_most.false);
+      passed = fails_after test c.args.self.now middle c.read-element.result c.requires c.read-element.ensures.value
+          (sym c.is_at_most.ensures ∙ c.if-is_at_most.false);
       last = loop.last;
-      most = λ digits few. rw c.read-element.ensures.step (ends_after _ _ (c.loop-count.end - c.loop-count.count) _ (loop.most digits few) (omega arith) (omega arith));
+      most = λ digits few. rw c.read-element.ensures.step
+          (ends_after _ _ (c.loop-count.end - c.loop-count.count) _ (loop.most digits few) (omega arith) (omega arith));
       least = inr (omega arith);
     }
 
 pub returns-clause-count : goal.returns-clause-count
 returns-clause-count g c =
     let loop = c.loop-count.invariant in
-    sym (count_by-at (λ (element : g.row.T.Denot). g.T.Keyed.at_most element c.args.key) c.loop-count.count c.args.self.now (omega arith) loop.counted (λ place other from within. loop.passed place other (omega arith) within))
+    sym
+    (count_by-at (λ (element : g.row.T.Denot). g.T.Keyed.at_most element c.args.key) c.loop-count.count c.args.self.now
+    (omega arith) loop.counted (λ place other from within. loop.passed place other (omega arith) within))
 
 pub returns-clause-point : goal.returns-clause-point
 returns-clause-point g c =

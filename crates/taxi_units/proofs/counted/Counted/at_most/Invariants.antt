@@ -8,8 +8,10 @@ abbrev pub invariant-loop-count : goal.invariant-loop-count
 invariant-loop-count g l = record {
   order : l.count ≤ l.end;
   end : l.end ≤ length l.self;
-  counted : (place : ℕ) (other : g.row.T.Denot) → place < l.count → g.T.Keyed.at_most (get_or l.self place other) l.key ≡ true;
-  passed : (place : ℕ) (other : g.row.T.Denot) → l.end ≤ place → place < length l.self → g.T.Keyed.at_most (get_or l.self place other) l.key ≡ false;
+  counted : (place : ℕ) (other : g.row.T.Denot) → place < l.count
+      → g.T.Keyed.at_most (get_or l.self place other) l.key ≡ true;
+  passed : (place : ℕ) (other : g.row.T.Denot) → l.end ≤ place → place < length l.self
+      → g.T.Keyed.at_most (get_or l.self place other) l.key ≡ false;
   last : MatchOption l.last (l.count ≡ 0) (IsLastOf l.self l.count);
   most : (digits : ℕ) → length l.self < 2 ^ digits → EndsWithin l.steps (l.fn.steps + digits) (l.end - l.count);
   least : (l.end - l.count ≡ length l.self) × (l.steps ≡ l.fn.steps) ⊎ (l.fn.steps + 1 ≤ l.steps);

@@ -2,7 +2,7 @@ use Rattle.std.proofs.Common.{ℕ, List, sym, ◌∙◌, ap, Some}
 use Rattle.std.proofs.lemmas.Bool.{not-false, not-true}
 use Rattle.std.specs.Str.{bytes_eq}
 use Rattle.slot_bodies.proofs.Laws.{not_in_range, other_bytes, own_bytes}
-use Rattle.totals_record.specs.declared.durable.Durable.{Durable}
+use Rattle.totals_record.specs.declared.durable_state.Durable.{Durable}
 use Rattle.totals_record.specs.Reading.{decoded, durable_test, reads}
 use Rattle.totals_record.specs.Spelling.{spelling}
 use Rattle.totals_record.proofs.body.DurableBody.get.Goals as goal
@@ -15,7 +15,8 @@ returns-then-not-is_durable c =
     ∙ c.if-not-is_durable.true))
 
 pub spell-requires : goal.spell-requires
-spell-requires c = (durable_test c.decode-durable.result).decides.0 (sym c.is_durable.ensures ∙ c.if-not-is_durable.false)
+spell-requires c =
+    (durable_test c.decode-durable.result).decides.0 (sym c.is_durable.ensures ∙ c.if-not-is_durable.false)
 
 pub returns-then-ne : goal.returns-then-ne
 unfolding reads

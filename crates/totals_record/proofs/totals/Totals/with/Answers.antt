@@ -4,4 +4,5 @@ use Rattle.totals_record.proofs.totals.Totals.with.Goals as goal
 
 pub returns-then-not-closes : goal.returns-then-not-closes
 returns-then-not-closes c =
-    rw (c.from.ensures, c.from-2.ensures) (roamed c.args.self.now c.args.entry.now (sym c.closes.ensures ∙ c.if-not-closes.true))
+    rw (c.from.ensures, c.from-2.ensures)
+    (roamed c.args.self.now c.args.entry.now (sym c.closes.ensures ∙ c.if-not-closes.true))

@@ -5,7 +5,8 @@ use Rattle.verify_bench.proofs.hiring.Hiring.add_extra.Goals as goal
 
 pub returns-clause-whole : goal.returns-clause-whole
 returns-clause-whole c =
-    let pushed : OnOk c.map_err.result (c.push.new.self.items ≡ c.args.self.now.extras.items ++ c.args.number ∷ []) = search rules in
+    let pushed : OnOk c.map_err.result (c.push.new.self.items ≡ c.args.self.now.extras.items ++ c.args.number ∷ []) =
+    search rules in
     let whole = c.requires.whole in
     on_ok_weaker c.map_err.result (λ items. record {
       started = whole.started;

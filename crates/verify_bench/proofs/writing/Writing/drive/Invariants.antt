@@ -6,4 +6,5 @@ use Rattle.verify_bench.proofs.writing.Writing.drive.Given as goal
 
 abbrev pub invariant-loop-leg : goal.invariant-loop-leg
 invariant-loop-leg l =
-    Adds l.initial.self l.self (23 * l.leg) (1049 * l.leg) (2099 * l.leg) (in_turn (replicate l.leg leg) (place_of l.initial.self))
+    Adds l.initial.self l.self (23 * l.leg) (1049 * l.leg) (2099 * l.leg)
+    (in_turn (replicate l.leg leg) (place_of l.initial.self))

@@ -7,4 +7,5 @@ pub unwrap-requires : goal.unwrap-requires
 unwrap-requires c = c.put_event.ensures.variant.1 (omega (arith, events_are_short c.args.event c.requires.range))
 
 pub returns : goal.returns
-returns c = adds_event c.args.self.now _ c.args.event c.requires.range refl refl refl (rw c.unwrap.ensures at c.put_event.ensures.ok)
+returns c = adds_event c.args.self.now _ c.args.event c.requires.range refl refl refl
+    (rw c.unwrap.ensures at c.put_event.ensures.ok)

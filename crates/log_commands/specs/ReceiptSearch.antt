@@ -1,0 +1,15 @@
+-- For proofs: what looking for a receipt at the front of a part of a roll comes to. Reads, in Roll, says what a roll
+-- has.
+use Rattle.std.specs.Prelude.{◌≡◌, ℕ, ◌≤◌, List, [], ◌++◌, length, drop, Bool, true, false}
+use Rattle.log_commands.specs.Record.{Record}
+use Rattle.log_commands.specs.Roll.{Reads}
+
+-- bytes may follow a part of a roll: any where the roll hasn't ended, and none where it has
+abbrev pub MayFollow : (ended : Bool) → List ℕ → Type 0
+MayFollow false more = Unit {0}
+MayFollow true more = more ≡ []
+
+-- a look passes a number of bytes of a text and finds these receipts in them, whatever may follow the text
+pub record IsReceiptSearch (ended : Bool) (text : List ℕ) (count : ℕ) (receipts : List Record) : Type 0 where
+  pub within : count ≤ length text
+  pub reads : (more : List ℕ) → MayFollow ended more → Reads (text ++ more) receipts (drop count text ++ more)

@@ -1,0 +1,38 @@
+//! Looks for a receipt in a part of a roll.
+ghost use Rattle.std.specs.Prelude.{◌≡◌, ◌+◌, ◌<◌, ◌≤◌, length, true, false, IsTrue, IfSome, IfNone, option_to_list};
+ghost use Rattle.log_commands.specs.ReceiptSearch.{IsReceiptSearch};
+ghost use Rattle.log_commands.specs.Record.{IsRecord};
+
+use crate::front::{before_letter, record_in_front};
+use crate::log_record::{LONGEST, LogRecord};
+
+/// Looks for the first receipt of a text that is a part of a roll. Answers how many bytes are passed: with
+/// the receipt, or where none is found, up to where so few are left that bytes that follow may make one
+/// of them. Where the roll has ended nothing follows.
+pub(crate) fn find_receipt(text: &[u8], ended: bool) -> (usize, Option<LogRecord>)
+    ensures looks { IsReceiptSearch ended text.now result.0 (option_to_list result.1) }
+    ensures record { IfSome result.1 IsRecord }
+    ensures few { IfNone result.1 (length text.now < result.0 + 480) }
+    ensures all { IfNone result.1 (ended ≡ true → result.0 ≡ length text.now) }
+{
+    let mut at = 0;
+    loop {
+        at += before_letter(&text[at..]);
+        let rest = &text[at..];
+        if let Some(record) = record_in_front(rest) {
+            return (at + record.text.len(), Some(record));
+        }
+        if is_open(rest, ended) {
+            return (at, None);
+        }
+        at += 1;
+    }
+}
+
+/// Whether nothing is left, or so little that a receipt may be made of it by what follows.
+fn is_open(rest: &[u8], ended: bool) -> bool
+    ensures open { IsTrue result → (length rest.now < 480) × (ended ≡ true → length rest.now ≡ 0) }
+    ensures closed { result ≡ false → (0 < length rest.now) × (ended ≡ false → 480 ≤ length rest.now) }
+{
+    rest.is_empty() || (!ended && rest.len() < LONGEST)
+}

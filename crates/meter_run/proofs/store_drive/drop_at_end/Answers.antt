@@ -1,0 +1,41 @@
+use Rattle.std.proofs.Common.{◌∷◌, [], refl}
+use Rattle.std.proofs.lemmas.Result.{on_ok_weaker}
+use Rattle.taxi_units.specs.declared.event.Event.TheVariants.{Down}
+use Rattle.meter_states.specs.Run.{ended, run}
+use Rattle.meter_run.proofs.Ended.{not_told}
+use Rattle.meter_run.proofs.Whole.{amid_either, amid_of, ends_amid, ends_off, ends_on}
+use Rattle.meter_run.proofs.store_drive.drop_at_end.Goals as goal
+
+pub returns-then-is_off-clause-carried : goal.returns-then-is_off-clause-carried
+returns-then-is_off-clause-carried g c = ends_off g.B.Board c.args.tables.now c.args.seal.now c.args.meter.now
+    c.args.board.now (g.met.B.Board.only_now c.args.board.now) (c.is_off.ensures.0 c.if-is_off.true)
+
+pub returns-then-is_off-clause-stopped : goal.returns-then-is_off-clause-stopped
+returns-then-is_off-clause-stopped g c =
+    let x = c.args.meter.now in
+    let a = c.args.board.now in
+    amid_of g.B.Board c.args.tables.now c.args.seal.now (λ s m. ended s m) x a x a (ends_off g.B.Board c.args.tables.now
+    c.args.seal.now x a (g.met.B.Board.only_now a) (c.is_off.ensures.0 c.if-is_off.true))
+
+pub returns-clause-carried : goal.returns-clause-carried
+returns-clause-carried g c =
+    on_ok_weaker c.carry_out.result (λ h. ends_on g.B.Board c.args.tables.now c.args.seal.now c.args.meter.now
+    c.args.board.now c.carry_out.new.self c.carry_out.new.board
+    (not_told c.is_off.result _ c.is_off.ensures.1 c.if-is_off.false) h.out) c.carry_out.ensures.carried
+
+pub returns-clause-stopped : goal.returns-clause-stopped
+returns-clause-stopped g c =
+    let t = c.args.tables.now in
+    let k = c.args.seal.now in
+    let x = c.args.meter.now in
+    let a = c.args.board.now in
+    let b = c.carry_out.new.board in
+    ends_amid g.B.Board t k x a b (not_told c.is_off.result _ c.is_off.ensures.1 c.if-is_off.false)
+    (amid_either g.B.Board t k c.carry_out.result (λ s m. run s (Down ∷ []) m) x a c.carry_out.new.self b
+    (on_ok_weaker c.carry_out.result (λ h. h.out) c.carry_out.ensures.carried) c.carry_out.ensures.broke_off)
+
+pub returns-then-is_off-clause-idle : goal.returns-then-is_off-clause-idle
+returns-then-is_off-clause-idle g c = λ off. refl
+
+pub returns-clause-idle : goal.returns-clause-idle
+returns-clause-idle g c = λ off. absurd (not_told c.is_off.result _ c.is_off.ensures.1 c.if-is_off.false off)

@@ -1,4 +1,0 @@
-use Rattle.meter_states.proofs.facts.Facts.local_at.Goals as goal
-
-pub returns-in-Some-clause-local : goal.returns-in-Some-clause-local
-returns-in-Some-clause-local g c = c.requires.facts.local _ c.in-Some.ensures.kept

@@ -1,0 +1,103 @@
+use Rattle.std.proofs.Common.{ℕ, ◌<◌, ◌≤◌, ap, sym, subst, ◌∙◌}
+use Rattle.taxi_units.specs.Time.{IsSecond}
+use Rattle.taxi_units.specs.declared.receipt.Kind.TheVariants.{Aborted}
+use Rattle.meter_states.specs.Closing.{closed}
+use Rattle.meter_states.specs.Core.{ComesToOutcome, CoreData}
+use Rattle.meter_states.specs.Meter.{Outcome}
+use Rattle.meter_states.proofs.Outcomes.{quiet-follows, trip-saved}
+use Rattle.meter_states.proofs.Powered.{none-hires, powered-longer, some-there}
+use Rattle.meter_states.proofs.Pushes.{few-none}
+use Rattle.meter_states.proofs.SupplyStages.{aborted-closes, kept-closed, kept-held, kept-quiet, kept-roams}
+use Rattle.meter_states.proofs.meter_state.State.hold_or_close.Goals as goal
+use Rattle.taxi_units.specs.Limits.{last_number}
+
+pub enter_roaming-requires-clause-lawful : goal.enter_roaming-requires-clause-lawful
+enter_roaming-requires-clause-lawful g c = c.requires.lawful
+
+pub enter_roaming-requires-clause-hire : goal.enter_roaming-requires-clause-hire
+enter_roaming-requires-clause-hire g c = none-hires c.args.self.now.operating c.args.self.now.trip c.requires.lawful.on
+    (sym (ap (λ (p : CoreData). p.trip) c.self.view_is) ∙ c.in-None.is)
+
+pub enter_roaming-requires-clause-some : goal.enter_roaming-requires-clause-some
+enter_roaming-requires-clause-some g c = subst (λ (p : CoreData). 0 < p.roam) c.self.view_is c.if-self-gt0.true
+
+pub enter_roaming-requires-clause-room : goal.enter_roaming-requires-clause-room
+enter_roaming-requires-clause-room g c = few-none 3 c.args.acts.now.items c.requires.room
+
+pub hold-requires-clause-lawful : goal.hold-requires-clause-lawful
+hold-requires-clause-lawful g c = (c.args.tables.now, c.requires.lawful)
+
+pub hold-requires-clause-trip : goal.hold-requires-clause-trip
+hold-requires-clause-trip g c = sym (ap (λ (p : CoreData). p.trip) c.self.view_is) ∙ c.in-Some.is
+
+pub hold-requires-clause-number : goal.hold-requires-clause-number
+hold-requires-clause-number g c =
+    subst (λ (p : CoreData). p.number < last_number) c.self.view_is c.if-self-lt-LAST_NUMBER.true
+
+pub hold-requires-clause-room : goal.hold-requires-clause-room
+hold-requires-clause-room g c = c.requires.room
+
+pub close-requires-clause-lawful : goal.close-requires-clause-lawful
+close-requires-clause-lawful g c = powered-longer c.requires.lawful
+
+pub close-requires-clause-trip : goal.close-requires-clause-trip
+close-requires-clause-trip g c =
+    some-there c.in-Some.trip (sym (ap (λ (p : CoreData). p.trip) c.self.view_is) ∙ c.in-Some.is)
+
+pub close-requires-clause-closing : goal.close-requires-clause-closing
+close-requires-clause-closing g c = record {
+  kind = aborted-closes;
+  finish = subst IsSecond (sym (c.second.ensures ∙ ap (λ (p : CoreData). p.clock) c.self.view_is))
+      c.requires.lawful.clock;
+}
+
+pub close-requires-clause-room : goal.close-requires-clause-room
+close-requires-clause-room g c = few-none 1 c.args.acts.now.items c.requires.room
+
+pub returns-then-self-gt0-clause-stage : goal.returns-then-self-gt0-clause-stage
+returns-then-self-gt0-clause-stage g c = record {
+  ranges = c.enter_roaming.ensures.ranges;
+  follows = λ s m is e.
+      let none = sym (ap (λ (p : CoreData). p.trip) (c.self.view_is ∙ e)) ∙ c.in-None.is in
+      let some = subst (λ (p : CoreData). 0 < p.roam) (c.self.view_is ∙ e) c.if-self-gt0.true in
+      subst (λ (o : Outcome).
+      ComesToOutcome s c.enter_roaming.new.self c.args.acts.now.items c.enter_roaming.new.acts.items o)
+      (sym (kept-roams s m m.trip none some)) (c.enter_roaming.ensures.follows c.args.seal.now s m is e);
+}
+
+pub returns-else-self-gt0-clause-stage : goal.returns-else-self-gt0-clause-stage
+returns-else-self-gt0-clause-stage g c = record {
+  ranges = λ before. before;
+  follows = λ s m is e.
+      let none = sym (ap (λ (p : CoreData). p.trip) (c.self.view_is ∙ e)) ∙ c.in-None.is in
+      let few = subst (λ (p : CoreData). p.roam ≤ 0) (c.self.view_is ∙ e) c.if-self-gt0.false in
+      subst (λ (o : Outcome). ComesToOutcome s c.args.self.now c.args.acts.now.items c.args.acts.now.items o)
+      (sym (kept-quiet s m m.trip none few)) (quiet-follows s c.args.self.now c.args.acts.now.items m e);
+}
+
+pub returns-then-self-lt-LAST_NUMBER-clause-stage : goal.returns-then-self-lt-LAST_NUMBER-clause-stage
+returns-then-self-lt-LAST_NUMBER-clause-stage g c = record {
+  ranges = c.hold.ensures.ranges c.args.tables.now c.requires.lawful;
+  follows = λ s m is e.
+      let has =
+      trip-saved s m.trip c.in-Some.trip (sym (ap (λ (p : CoreData). p.trip) (c.self.view_is ∙ e)) ∙ c.in-Some.is) in
+      let few = subst (λ (p : CoreData). p.number < last_number) (c.self.view_is ∙ e) c.if-self-lt-LAST_NUMBER.true in
+      subst (λ (o : Outcome). ComesToOutcome s c.hold.new.self c.args.acts.now.items c.hold.new.acts.items o) (sym
+      (kept-held s m has.0 has.1 few)) (c.hold.ensures.follows s m has.0 has.2 e);
+}
+
+pub returns-else-self-lt-LAST_NUMBER-clause-stage : goal.returns-else-self-lt-LAST_NUMBER-clause-stage
+returns-else-self-lt-LAST_NUMBER-clause-stage g c = record {
+  ranges = c.close.ensures.stage.ranges;
+  follows = λ s m is e.
+      let has =
+      trip-saved s m.trip c.in-Some.trip (sym (ap (λ (p : CoreData). p.trip) (c.self.view_is ∙ e)) ∙ c.in-Some.is) in
+      let many = subst (λ (p : CoreData). last_number ≤ p.number) (c.self.view_is ∙ e) c.if-self-lt-LAST_NUMBER.false in
+      let same = ap (λ (n : ℕ). closed s Aborted n m) (c.second.ensures ∙ ap (λ (p : CoreData). p.clock) (c.self.view_is
+      ∙ e)) ∙ sym (kept-closed s m has.0 has.1 many) in
+      subst (λ (o : Outcome). ComesToOutcome s c.close.new.self c.args.acts.now.items c.close.new.acts.items o) same
+      (c.close.ensures.stage.follows s m is e);
+}
+
+pub returns-else-self-lt-LAST_NUMBER-clause-steps : goal.returns-else-self-lt-LAST_NUMBER-clause-steps
+returns-else-self-lt-LAST_NUMBER-clause-steps g c = c.close.ensures.steps

@@ -1,0 +1,141 @@
+-- The ranges hold after what the meter commits.
+use Rattle.std.proofs.Common.{◌≡◌, ◌≤◌, ℕ, ◌+◌, ◌-◌, ◌<◌, Bool, true, false, if◌then◌else◌, List, length, get_or, set}
+use Rattle.std.proofs.Common.{Option, Some, None, IfSome, is_some, inr, refl, ◌∙◌, ap, arith}
+use Rattle.std.specs.List.{sum_by}
+use Rattle.std.proofs.lemmas.List.Sums.{sum_by-set}
+use Rattle.taxi_units.specs.Limits.{last_number}
+use Rattle.totals_record.specs.declared.change.Change.TheVariants.{Enter, Hold}
+use Rattle.totals_record.specs.declared.durable_state.Durable.{Durable}
+use Rattle.totals_record.specs.declared.entry.Entry.{Entry}
+use Rattle.totals_record.specs.declared.totals.Share.{Share}
+use Rattle.totals_record.specs.declared.totals.Totals.{Totals}
+use Rattle.totals_record.specs.declared.trip.Trip.{Trip}
+use Rattle.totals_record.specs.Entries.{closes, no_share, totals_with}
+use Rattle.totals_record.specs.Ranges.{IsTripInItsRanges, IsHeld, AreShares, IsDurable, IsEntry, HasRoom}
+use Rattle.totals_record.specs.States.{after}
+use Rattle.totals_record.proofs.Shares.{roams, shares_apart, shares_set, length_same}
+
+-- a sum over shares of which one grows, grows by as much
+sum_grown : (field : Share → ℕ) (shares : List Share) (place : ℕ) (share : Share) (more : ℕ) → place < length shares
+    → field share ≡ field (get_or shares place no_share) + more
+    → sum_by field (set shares place share) ≡ sum_by field shares + more
+sum_grown field shares place share more within grows =
+    omega (arith, sum_by-set field shares place share no_share within, grows)
+
+-- the totals with an entry more that closes a hiring
+closing_shares : (layout : ℕ) (totals : Totals) (entry : Entry) → AreShares layout totals → closes entry ≡ true
+    → 1 ≤ entry.position → entry.position ≤ 9 → AreShares 2 (totals_with totals entry)
+closing_shares layout totals entry shares closing low high =
+    let place = entry.position - 1 in
+    let old = get_or totals.shares place no_share in
+    let within : place < length totals.shares = omega (arith, low, high, shares.nine) in
+    let grown = shares_set entry 1 totals.shares place closing (omega (arith, low)) within in
+    let share : Share = record { hirings = old.hirings + 1; fare = old.fare + entry.fare } in
+    record {
+      nine = length_same entry 1 totals.shares ∙ shares.nine;
+      hirings = omega (
+        arith,
+        shares.hirings,
+        ap (λ (l : List Share). sum_by (λ s. s.hirings) l) grown,
+        sum_grown (λ s. s.hirings) totals.shares place share 1 within refl,
+        ap {B = ℕ} (λ (b : Bool). if b then 1 else 0) closing,
+      );
+      fare = omega (
+        arith,
+        shares.fare,
+        ap (λ (l : List Share). sum_by (λ s. s.fare) l) grown,
+        sum_grown (λ s. s.fare) totals.shares place share entry.fare within refl,
+      );
+      unshared = λ one. absurd (omega (arith, one));
+    }
+
+-- and with one of roaming
+roaming_shares : (layout : ℕ) (totals : Totals) (entry : Entry) → AreShares layout totals → closes entry ≡ false
+    → entry.fare ≡ 0
+    → AreShares 2 (totals_with totals entry)
+roaming_shares layout totals entry shares roaming no_fare =
+    let same = shares_apart entry 1 totals.shares (λ i within. roams entry (1 + i) roaming) in
+    record {
+      nine = length_same entry 1 totals.shares ∙ shares.nine;
+      hirings = omega (
+        arith,
+        shares.hirings,
+        ap (λ (l : List Share). sum_by (λ s. s.hirings) l) same,
+        ap {B = ℕ} (λ (b : Bool). if b then 1 else 0) roaming,
+      );
+      fare = omega (arith, shares.fare, ap (λ (l : List Share). sum_by (λ s. s.fare) l) same, no_fare);
+      unshared = λ one. absurd (omega (arith, one));
+    }
+
+shares_kept : (layout : ℕ) (totals : Totals) (entry : Entry) → AreShares layout totals → IsEntry entry
+    → AreShares 2 (totals_with totals entry)
+shares_kept layout totals entry shares made = by (closes entry) refl
+  where
+    by : (b : Bool) → closes entry ≡ b → AreShares 2 (totals_with totals entry)
+    by true closing =
+        closing_shares layout totals entry shares closing (made.position closing).0 (made.position closing).1
+    by false roaming = roaming_shares layout totals entry shares roaming (made.roaming roaming)
+
+-- a held trip stays in its ranges beside a greater number
+trip_later : (number : ℕ) (trip : Trip) → IsTripInItsRanges number trip → IsTripInItsRanges (number + 1) trip
+trip_later number trip ranges = record {
+  started = ranges.started;
+  saved = ranges.saved;
+  position = ranges.position;
+  zone = ranges.zone;
+  roam = ranges.roam;
+  pulses = omega (arith, ranges.pulses);
+  ticks = ranges.ticks;
+  initial = ranges.initial;
+  cover_left = ranges.cover_left;
+  steps_full = ranges.steps_full;
+  rest = ranges.rest;
+  extras = ranges.extras;
+  extras_sum = ranges.extras_sum;
+  minimum = ranges.minimum;
+}
+
+held_kept : (number : ℕ) (hold : Option Trip) (closing : Bool) → IfSome hold (IsHeld number)
+    → (closing ≡ false → is_some hold ≡ true → number + 1 ≤ last_number)
+    → IfSome (if closing then None else hold) (IsHeld (number + 1))
+held_kept number hold true held room = tt
+held_kept number None false held room = tt
+held_kept number (Some trip) false held room =
+    record { room = room refl refl; ranges = trip_later number trip held.ranges }
+
+at_most : (closing : Bool) (amount : ℕ) → (if closing then amount else 0) ≤ amount
+at_most true amount = omega arith
+at_most false amount = omega arith
+
+pub entry_keeps : (durable : Durable) (entry : Entry) → IsDurable durable → durable.number ≤ last_number → IsEntry entry
+    → HasRoom durable entry → IsDurable (after durable (Enter entry))
+entry_keeps durable entry valid room made held_room = record {
+  number = (omega arith, omega (arith, room));
+  distance = omega (arith, valid.distance, made.distance);
+  hired = omega (arith, valid.hired);
+  hirings = omega (arith, valid.hirings, at_most (closes entry) 1);
+  supplements = omega (arith, valid.supplements, made.supplements);
+  fare = omega (arith, valid.fare, made.fare);
+  held = held_kept durable.number durable.hold (closes entry) valid.held held_room;
+  shares = shares_kept durable.layout durable.totals entry valid.shares made;
+  layout = inr refl;
+}
+
+pub trip_keeps : (durable : Durable) (trip : Trip) → IsDurable durable → durable.number + 1 ≤ last_number
+    → IsTripInItsRanges (durable.number + 1) trip → IsDurable (after durable (Hold trip))
+trip_keeps durable trip valid room ranges = record {
+  number = (omega arith, omega (arith, room));
+  distance = omega (arith, valid.distance);
+  hired = valid.hired;
+  hirings = omega (arith, valid.hirings);
+  supplements = omega (arith, valid.supplements);
+  fare = omega (arith, valid.fare);
+  held = record { room = room; ranges = ranges };
+  shares = record {
+    nine = valid.shares.nine;
+    hirings = valid.shares.hirings;
+    fare = valid.shares.fare;
+    unshared = λ one. absurd (omega (arith, one));
+  };
+  layout = inr refl;
+}

@@ -1,0 +1,14 @@
+use Rattle.std.proofs.Common.{◌≡◌, ◌∙◌, ℕ, ap}
+use Rattle.meter_states.specs.Interval.{context_of, context_on}
+use Rattle.meter_states.specs.Setting.{local_at}
+use Rattle.verify_bench.specs.Settings.{setting_under}
+use Rattle.verify_bench.proofs.Benches.{counted_hired}
+use Rattle.verify_bench.proofs.bench_meter.BenchMeter.count_interval.Goals as goal
+
+pub returns-in_ok-add_hired-in-Hired-clause-stands : goal.returns-in_ok-add_hired-in-Hired-clause-stands
+returns-in_ok-add_hired-in-Hired-clause-stands g c m hired stands =
+    let s = setting_under c.args.checked.now c.args.params.now in
+    let x : c.context-x.result ≡ context_of s m =
+    c.context-x.ensures m hired stands ∙ ap (λ (second : ℕ). context_on s (local_at s second) m) stands.began in
+    rw (counted_hired s hired c.args.self.now m c.context-x.result stands c.in-Hired.is x) at
+    (c.in_ok-add_hired-in-Hired.ensures.stands m hired stands)

@@ -1,0 +1,22 @@
+use Rattle.drive_text.specs.Runs.{interval_events, intervals_events}
+use Rattle.verify_bench.specs.Settings.{setting_under}
+use Rattle.verify_bench.proofs.Carried.{carries_none, carries_then, intervals_more}
+use Rattle.verify_bench.proofs.bench_meter.BenchMeter.intervals.Goals as goal
+
+pub loop-place-init : goal.loop-place-init
+loop-place-init g c = record {
+  carries = carries_none (setting_under c.args.checked.now c.args.params.now) c.args.self.now c.args.found.now.items;
+  sound = c.requires.sound;
+}
+
+pub loop-place-preserved : goal.loop-place-preserved
+loop-place-preserved g c =
+    let s = setting_under c.args.checked.now c.args.params.now in
+    let done = c.loop-place in
+    record {
+      carries = rw (intervals_more c.args.pulses done.place) at (carries_then s (intervals_events c.args.pulses
+          done.place) (interval_events c.args.pulses) c.args.self.now done.self c.interval.new.self
+          c.args.found.now.items done.found.items c.interval.new.found.items done.invariant.carries
+          c.in_ok-interval.ensures.carries);
+      sound = c.in_ok-interval.ensures.sound;
+    }

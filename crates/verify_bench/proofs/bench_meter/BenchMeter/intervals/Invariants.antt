@@ -1,0 +1,12 @@
+use Rattle.drive_text.specs.Runs.{intervals_events}
+use Rattle.verify_bench.specs.Bench.{IsMeterInRange}
+use Rattle.verify_bench.specs.Carrying.{Carries}
+use Rattle.verify_bench.specs.Settings.{setting_under}
+use Rattle.verify_bench.proofs.bench_meter.BenchMeter.intervals.Given as goal
+
+abbrev pub invariant-loop-place : goal.invariant-loop-place
+invariant-loop-place g l = record {
+  carries : Carries (setting_under l.checked l.params)
+      (intervals_events l.pulses l.place) l.initial.self l.self l.initial.found.items l.found.items;
+  sound : IsMeterInRange 8639999 0 l.self;
+}

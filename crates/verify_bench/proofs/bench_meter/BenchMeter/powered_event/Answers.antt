@@ -1,0 +1,31 @@
+use Rattle.std.proofs.Common.{subst, sym}
+use Rattle.meter_states.specs.Step.{powered_step}
+use Rattle.taxi_units.specs.declared.event.Event.{Event}
+use Rattle.verify_bench.specs.Bench.{Moves}
+use Rattle.verify_bench.specs.Explaining.{hired_at, trip_at}
+use Rattle.verify_bench.specs.Settings.{setting_under}
+use Rattle.verify_bench.proofs.bench_meter.BenchMeter.powered_event.Goals as goal
+
+pub returns-in-Pulses-clause-moves : goal.returns-in-Pulses-clause-moves
+returns-in-Pulses-clause-moves g c m hired stands =
+    let s = setting_under c.args.checked.now c.args.params.now in
+    let list = c.args.found.now.items in
+    subst (λ (e : Event). Moves s hired (hired_at s e m hired) (trip_at s e m) list list c.take_pulses.new.self
+    (powered_step s e m)) (sym c.in-Pulses.is)
+    (c.take_pulses.ensures.moves s m.trip list m hired hired stands)
+
+pub returns-in-Clock-clause-moves : goal.returns-in-Clock-clause-moves
+returns-in-Clock-clause-moves g c m hired stands =
+    let s = setting_under c.args.checked.now c.args.params.now in
+    let list = c.args.found.now.items in
+    subst (λ (e : Event). Moves s hired (hired_at s e m hired) (trip_at s e m) list list c.read_clock.new.self
+    (powered_step s e m)) (sym c.in-Clock.is)
+    (c.read_clock.ensures.moves s m.trip list m hired hired stands)
+
+pub returns-in-Key-clause-moves : goal.returns-in-Key-clause-moves
+returns-in-Key-clause-moves g c m hired stands =
+    let s = setting_under c.args.checked.now c.args.params.now in
+    let list = c.args.found.now.items in
+    subst (λ (e : Event). Moves s hired (hired_at s e m hired) (trip_at s e m) list list c.latch_key.new.self
+    (powered_step s e m)) (sym c.in-Key.is)
+    (c.latch_key.ensures.moves s m.trip list m hired hired stands)

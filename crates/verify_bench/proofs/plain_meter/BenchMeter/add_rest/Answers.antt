@@ -1,7 +1,0 @@
-use Rattle.meter_states.specs.Trip.{Rest}
-use Rattle.verify_bench.proofs.Benches.{stands_with}
-use Rattle.verify_bench.proofs.plain_meter.BenchMeter.add_rest.Goals as goal
-
-pub returns-in-Some-clause-stands : goal.returns-in-Some-clause-stands
-returns-in-Some-clause-stands c s m hired stands =
-    stands_with s hired c.args.self.now m (Rest c.args.self.now.taken) _ _ c.in-Some.is stands (c.add_rest.ensures.trip s hired)
