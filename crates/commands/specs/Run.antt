@@ -16,7 +16,7 @@ use Rattle.meter_store.specs.Stored.{HasState}
 use Rattle.seal_record.specs.declared.seal.Seal.{Seal}
 use Rattle.tariff_syntax.specs.Tree.{Tree}
 use Rattle.tariff_compile.specs.Tables.{TableParts, tables_of}
-use Rattle.tariff_compile.specs.declared.parts.Supplement.{Supplement}
+use Rattle.tariff_check.specs.declared.values.Supplement.{Supplement}
 use Rattle.meter_states.specs.Setting.{Setting, setting_by}
 use Rattle.meter_states.specs.Supplements.{amounts_from, most_in, supplement_in}
 use Rattle.meter_run.specs.Deeds.{Deed, Prints, after_deeds, texts}

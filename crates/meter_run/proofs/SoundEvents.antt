@@ -12,8 +12,8 @@ use Rattle.taxi_units.specs.declared.event.Operating.TheVariants.{Off, ForHire, 
 use Rattle.taxi_units.specs.declared.event.Why.TheVariants.{NotNow, NoSuch, AtMost, Powered, Ended}
 use Rattle.taxi_units.specs.declared.receipt.Kind.TheVariants as kinds
 use Rattle.tariff_check.specs.Parts.{positions_of, zones_of}
-use Rattle.tariff_compile.specs.Tables.{supplement_at}
-use Rattle.tariff_compile.specs.declared.parts.Supplement.{Supplement}
+use Rattle.tariff_check.specs.Parts.{supplement_of}
+use Rattle.tariff_check.specs.declared.values.Supplement.{Supplement}
 use Rattle.totals_record.specs.declared.durable_state.Durable.{Durable}
 use Rattle.totals_record.specs.declared.trip.Trip.{Trip}
 use Rattle.meter_states.specs.Closing.{closed, roaming_entered}
@@ -136,7 +136,7 @@ hired_key s (keys.Zone n) t m = either (InTrip s (in_trip Hired t m)) (is_among 
     (still s (record (in_trip Hired t m) { zone = n }) (some_is t, refl)) refl)
     (staying s (in_trip Hired t m) (refused NoSuch (in_trip Hired t m))
     (refusing s NoSuch (in_trip Hired t m) (some_is t, refl)) refl)
-hired_key s (keys.Extra n) t m = extra_in s n (supplement_at s.tariff n) t m Hired (λ x. (some_is x, refl))
+hired_key s (keys.Extra n) t m = extra_in s n (supplement_of s.tariff.lines n) t m Hired (λ x. (some_is x, refl))
 
 stopped_key : (s : Setting) (key : Key) (t : MeterTrip) (m : Meter)
     → InTrip s (in_trip Stopped t m) (key_in s key Stopped (in_trip Stopped t m))
@@ -147,7 +147,7 @@ stopped_key s keys.Clear t m =
     record { leaves = closing s kinds.Closed m.clock (in_trip Stopped t m) refl (some_is t); none = refl }
 stopped_key s (keys.Position n) t m = refused_in s t m Stopped (some_is t, refl)
 stopped_key s (keys.Zone n) t m = refused_in s t m Stopped (some_is t, refl)
-stopped_key s (keys.Extra n) t m = extra_in s n (supplement_at s.tariff n) t m Stopped (λ x. (some_is x, refl))
+stopped_key s (keys.Extra n) t m = extra_in s n (supplement_of s.tariff.lines n) t m Stopped (λ x. (some_is x, refl))
 
 hired_pressed : (s : Setting) (latch : Option Key) (t : MeterTrip) (m : Meter)
     → InTrip s (in_trip Hired t m) (latch_pressed s latch (in_trip Hired t m))

@@ -4,7 +4,7 @@ use Rattle.std.proofs.Common.{ap, subst, arith}
 use Rattle.std.proofs.Math.Nat.{mul-le-mul_right}
 use Rattle.std.proofs.lemmas.List.Elements.{All-from_recursion}
 use Rattle.std.specs.List.{AllByRecursion}
-use Rattle.tariff_compile.specs.declared.parts.Supplement.{Supplement}
+use Rattle.tariff_check.specs.declared.values.Supplement.{Supplement}
 use Rattle.meter_states.specs.Supplements.{AreAllowed, amount_in, amounts_from, most_in}
 
 -- what every supplement of a tariff keeps to

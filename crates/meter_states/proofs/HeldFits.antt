@@ -1,8 +1,9 @@
 -- A trip that fits the tables fits their setting.
 use Rattle.std.proofs.Common.{◌≡◌, ◌<◌, ℕ, ◌+◌, ◌*◌, List, [], ◌∷◌, Option, length, refl, ap, ◌∙◌, subst}
 use Rattle.tariff_check.specs.DisplayStep.{display_step}
-use Rattle.tariff_compile.specs.Tables.{TableParts, supplement_at}
-use Rattle.tariff_compile.specs.declared.parts.Supplement.{Supplement}
+use Rattle.tariff_compile.specs.Tables.{TableParts}
+use Rattle.tariff_check.specs.Parts.{supplement_of}
+use Rattle.tariff_check.specs.declared.values.Supplement.{Supplement}
 use Rattle.totals_record.specs.declared.trip.Trip.{Trip}
 use Rattle.meter_states.specs.Fits.{Fits}
 use Rattle.meter_states.specs.KeptTrip.{FitsSetting}
@@ -26,6 +27,6 @@ fits-setting s p trip is fits long =
     record {
       rest = subst (λ (n : ℕ). trip.meterage.rest < n) (step ∙ unit) fits.rest;
       extras = long;
-      extras_sum = fits.extras_sum ∙ amounts-same (supplement_in p) (supplement_at s.tariff) 1 trip.extras
+      extras_sum = fits.extras_sum ∙ amounts-same (supplement_in p) (supplement_of s.tariff.lines) 1 trip.extras
           (λ n. supplement-in s.tariff p n is.compiled);
     }

@@ -4,7 +4,7 @@ use Rattle.std.proofs.Common.{sym, subst, ◌∙◌, inl, inr, arith}
 use Rattle.std.proofs.lemmas.Grind.{common_steps}
 use Rattle.seal_record.specs.declared.seal.Seal.{Seal}
 use Rattle.tariff_compile.specs.Tables.{TableParts}
-use Rattle.tariff_compile.specs.declared.parts.Supplement.{Supplement}
+use Rattle.tariff_check.specs.declared.values.Supplement.{Supplement}
 use Rattle.taxi_units.specs.declared.event.Key.{Key}
 use Rattle.taxi_units.specs.declared.event.Key.TheVariants as keys
 use Rattle.taxi_units.specs.declared.event.Operating.{Operating}

@@ -5,7 +5,7 @@ use Rattle.std.proofs.lemmas.Grind.{common_steps}
 use Rattle.drive_modes.specs.declared.meterage.Meterage.{Meterage}
 use Rattle.drive_modes.specs.Fare.{saved}
 use Rattle.drive_modes.proofs.Laws.{saved-any}
-use Rattle.tariff_compile.specs.Tables.{supplement_at}
+use Rattle.tariff_check.specs.Parts.{supplement_of}
 use Rattle.tariff_syntax.specs.Tree.{Tree}
 use Rattle.totals_record.specs.declared.trip.Trip.{Trip}
 use Rattle.meter_states.specs.Core.{IsSavedIn}
@@ -62,12 +62,12 @@ counts-numbers n (c ∷ cs) =
     cc
 
 amounts-repeated : (t : Tree) (c n : ℕ) (xs : List ℕ)
-    → amounts_of t (replicate c n ++ xs) ≡ c * amount_in (supplement_at t n) + amounts_of t xs
+    → amounts_of t (replicate c n ++ xs) ≡ c * amount_in (supplement_of t.lines n) + amounts_of t xs
 amounts-repeated t zero n xs = omega arith
 amounts-repeated t (suc c) n xs = grind (arith, common_steps, amounts-repeated t c n xs)
 
 pub amounts-numbers : (t : Tree) (n : ℕ) (cs : List ℕ)
-    → amounts_of t (numbers_from n cs) ≡ amounts_from (supplement_at t) n cs
+    → amounts_of t (numbers_from n cs) ≡ amounts_from (supplement_of t.lines) n cs
 amounts-numbers t n [] = refl
 amounts-numbers t n (c ∷ cs) =
     omega (arith, amounts-repeated t c n (numbers_from (n + 1) cs), amounts-numbers t (n + 1) cs)

@@ -7,10 +7,9 @@ use Rattle.std.proofs.lemmas.List.FromFn.{get_or-map-range_with_len, length-map-
 use Rattle.std.proofs.lemmas.List.{get_or_past}
 use Rattle.tariff_check.proofs.Laws.{sound_tariffs_have_sound_parts-parts, supplements_are_numbered_to_16}
 use Rattle.tariff_check.specs.Faults.{IsSound}
-use Rattle.tariff_check.specs.Parts.{SupplementNumbers, supplement_of}
-use Rattle.tariff_compile.specs.Tables.{IsCompiled, IsTablesOf, TableParts, supplement_at}
-use Rattle.tariff_compile.specs.Tables as tables
-use Rattle.tariff_compile.specs.declared.parts.Supplement.{Supplement}
+use Rattle.tariff_check.specs.Parts.{supplement_of}
+use Rattle.tariff_compile.specs.Tables.{IsCompiled, IsTablesOf, TableParts}
+use Rattle.tariff_check.specs.declared.values.Supplement.{Supplement}
 use Rattle.tariff_syntax.specs.Tree.{Tree}
 use Rattle.tariff_syntax.specs.Writable.{IsFromTo, IsWritable}
 use Rattle.meter_states.specs.Supplements.{AreAllowed, amount_in, amounts_from, most_in, supplement_in}
@@ -20,37 +19,35 @@ use Rattle.meter_states.proofs.Amounts.{AreBounded, allowed-few, amounts-most}
 use Rattle.taxi_units.specs.Limits.{largest_supplements}
 
 -- a tariff has no supplement of another number than 1 to 16
-pub supplement-none : (t : Tree) (n : ℕ) → IsWritable t → (IsFromTo 1 16 n → ⊥) → supplement_at t n ≡ None
-supplement-none t n writable out =
-    let none = supplements_are_numbered_to_16 t n writable out in
-    ap (λ (o : Option SupplementNumbers). option_map tables.supplement_in o) none
+pub supplement-none : (t : Tree) (n : ℕ) → IsWritable t → (IsFromTo 1 16 n → ⊥) → supplement_of t.lines n ≡ None
+supplement-none = supplements_are_numbered_to_16
 
 -- the supplements of tables
 all-there : (t : Tree) (p : TableParts) (place : ℕ) → IsTablesOf t p → place < 16
-    → get_or p.supplements place None ≡ supplement_at t (place + 1)
+    → get_or p.supplements place None ≡ supplement_of t.lines (place + 1)
 all-there t p place is within =
     ap (λ (q : TableParts). get_or q.supplements place None) is.parts
-    ∙ get_or-map-range_with_len (λ (i : ℕ). supplement_at t (i + 1)) 0 16 place place None within (omega arith)
+    ∙ get_or-map-range_with_len (λ (i : ℕ). supplement_of t.lines (i + 1)) 0 16 place place None within (omega arith)
 
 all-past : (t : Tree) (p : TableParts) (place : ℕ) → IsTablesOf t p → 16 ≤ place
     → get_or p.supplements place None ≡ None
 all-past t p place is past =
     let long : length p.supplements ≡ 16 = ap (λ (q : TableParts). length q.supplements) is.parts
-    ∙ length-map-range_with_len (λ (i : ℕ). supplement_at t (i + 1)) 0 16 in
+    ∙ length-map-range_with_len (λ (i : ℕ). supplement_of t.lines (i + 1)) 0 16 in
     get_or_past p.supplements place None (omega arith)
 
 supplement-by : (t : Tree) (p : TableParts) (place : ℕ) (within : Bool) → IsTablesOf t p → ltb place 16 ≡ within
-    → get_or p.supplements place None ≡ supplement_at t (suc place)
+    → get_or p.supplements place None ≡ supplement_of t.lines (suc place)
 supplement-by t p place true is e =
     let same : place + 1 ≡ suc place = omega arith in
-    all-there t p place is (ltb-true place 16 e) ∙ ap (supplement_at t) same
+    all-there t p place is (ltb-true place 16 e) ∙ ap (supplement_of t.lines) same
 supplement-by t p place false is e =
     let past : 16 ≤ place = ltb-false place 16 e in
     all-past t p place is past
     ∙ sym (supplement-none t (suc place) is.writable (λ range. absurd (omega (arith, range.1, past))))
 
 -- in the tables a number has the supplement that it has in the tariff
-pub supplement-in : (t : Tree) (p : TableParts) (n : ℕ) → IsTablesOf t p → supplement_in p n ≡ supplement_at t n
+pub supplement-in : (t : Tree) (p : TableParts) (n : ℕ) → IsTablesOf t p → supplement_in p n ≡ supplement_of t.lines n
 supplement-in t p zero is = sym (supplement-none t 0 is.writable (λ range. absurd (omega (arith, range.0))))
 supplement-in t p (suc place) is = supplement-by t p place (ltb place 16) is refl
 
@@ -61,15 +58,15 @@ in-range n true true e f some = absurd (some (λ range. absurd (omega (arith, ra
 in-range n false most e f some = absurd (some (λ range. absurd (omega (arith, range.0, ltb-false 0 n e))))
 
 -- a number that has one is 1 to 16
-pub supplement-number : (t : Tree) (n : ℕ) → IsWritable t → supplement_at t n ≢ None → IsFromTo 1 16 n
+pub supplement-number : (t : Tree) (n : ℕ) → IsWritable t → supplement_of t.lines n ≢ None → IsFromTo 1 16 n
 supplement-number t n writable some =
     in-range n (ltb 0 n) (ltb 16 n) refl refl (λ out. some (supplement-none t n writable out))
 
 -- each keeps to its limits
-bounded-by : (t : Tree) (n : ℕ) (found : Option SupplementNumbers) → IsWritable t → IsSound t
+bounded-by : (t : Tree) (n : ℕ) (found : Option Supplement) → IsWritable t → IsSound t
     → supplement_of t.lines n ≡ found
-    → (amount_in (option_map tables.supplement_in found) ≤ 1000000)
-    × (most_in (option_map tables.supplement_in found) ≤ 99)
+    → (amount_in found ≤ 1000000)
+    × (most_in found ≤ 99)
 bounded-by t n None writable sound e = (omega arith, omega arith)
 bounded-by t n (Some x) writable sound e =
     let limits = (sound_tariffs_have_sound_parts-parts t writable sound).supplements n x e in

@@ -3,8 +3,9 @@ use Rattle.std.proofs.Common.{◌≡◌, ℕ, ◌+◌, ◌-◌, ◌*◌, ◌≤�
 use Rattle.std.proofs.lemmas.Grind.{common_steps}
 use Rattle.drive_modes.specs.declared.meterage.Meterage.{Meterage}
 use Rattle.drive_modes.specs.Fare.{saved}
-use Rattle.tariff_compile.specs.Tables.{TableParts, supplement_at}
-use Rattle.tariff_compile.specs.declared.parts.Initial.{Initial}
+use Rattle.tariff_compile.specs.Tables.{TableParts}
+use Rattle.tariff_check.specs.Parts.{supplement_of}
+use Rattle.tariff_check.specs.declared.values.Initial.{Initial}
 use Rattle.tariff_syntax.specs.declared.context.Context.{Context}
 use Rattle.meter_states.specs.declared.trip.CoreTrip.{CoreTrip}
 use Rattle.meter_states.specs.Charge.{charge_at}
@@ -45,7 +46,7 @@ hired-saved s t p context x m is e = grind (arith, common_steps)
 
 -- a supplement more
 pub extra-saved : (s : Setting) (t : MeterTrip) (n amount : ℕ) (x : CoreTrip) → 1 ≤ n → n ≤ 16
-    → amount ≡ amount_in (supplement_at s.tariff n) → x ≡ core_trip_of s t
+    → amount ≡ amount_in (supplement_of s.tariff.lines n) → x ≡ core_trip_of s t
     → record x { extras = set x.extras (n - 1) (get_or x.extras (n - 1) 0 + 1); extras_sum = x.extras_sum + amount }
     ≡ core_trip_of s (with_extra n t)
 extra-saved s t n amount x least most is e =

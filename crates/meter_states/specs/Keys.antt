@@ -1,8 +1,9 @@
 -- Rules: keys, one of which may wait for the end of the interval, and acts then.
 use Rattle.std.specs.Prelude.{ℕ, Bool, ◌&&◌, [], Option, Some, None, sum, if◌then◌else◌, nat_le}
 use Rattle.tariff_check.specs.Parts.{positions_of, zones_of}
-use Rattle.tariff_compile.specs.Tables.{initial_by, supplement_at}
-use Rattle.tariff_compile.specs.declared.parts.Supplement.{Supplement}
+use Rattle.tariff_check.specs.Amounts.{initial_by}
+use Rattle.tariff_check.specs.Parts.{supplement_of}
+use Rattle.tariff_check.specs.declared.values.Supplement.{Supplement}
 use Rattle.taxi_units.specs.declared.event.Key.{Key}
 use Rattle.taxi_units.specs.declared.event.Key.TheVariants as keys
 use Rattle.taxi_units.specs.declared.event.Operating.{Operating}
@@ -71,8 +72,8 @@ key_in s (keys.Position n) ForHire m = position_set s n m
 key_in s (keys.Position n) Hired m = position_set s n m
 key_in s (keys.Zone n) ForHire m = zone_set s n m
 key_in s (keys.Zone n) Hired m = zone_set s n m
-key_in s (keys.Extra n) Hired m = extra_added n (supplement_at s.tariff n) m
-key_in s (keys.Extra n) Stopped m = extra_added n (supplement_at s.tariff n) m
+key_in s (keys.Extra n) Hired m = extra_added n (supplement_of s.tariff.lines n) m
+key_in s (keys.Extra n) Stopped m = extra_added n (supplement_of s.tariff.lines n) m
 key_in s key operating m = refused NotNow m
 
 -- the key that waits, if one does, waits no more and acts in the meter's operating position

@@ -2,7 +2,7 @@
 use Rattle.std.specs.Prelude.{ℕ, ◌+◌, ◌*◌, Bool, List, [], ◌∷◌, ◌++◌, map, sum}
 use Rattle.drive_modes.specs.Fare as fares
 use Rattle.drive_modes.specs.Fare.{saved, shown_fare, steps_above}
-use Rattle.tariff_compile.specs.declared.parts.Initial.{Initial}
+use Rattle.tariff_check.specs.declared.values.Initial.{Initial}
 use Rattle.tariff_syntax.specs.declared.context.Context.{Context}
 use Rattle.totals_record.specs.declared.trip.Trip.{Trip}
 use Rattle.meter_states.specs.Charge.{charge_at}

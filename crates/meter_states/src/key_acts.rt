@@ -1,7 +1,9 @@
 //! What keys do.
 ghost use Rattle.std.specs.Prelude.{◌≡◌, ◌≢◌, ◌≤◌, ◌+◌, None, Some};
 ghost use Rattle.seal_record.specs.declared.seal.Seal.{Seal};
-ghost use Rattle.tariff_compile.specs.Tables.{IsFitInitial, TableParts, initial_by, supplement_at};
+ghost use Rattle.tariff_compile.specs.Tables.{TableParts};
+ghost use Rattle.tariff_check.specs.Amounts.{IsFitInitial, initial_by};
+ghost use Rattle.tariff_check.specs.Parts.{supplement_of};
 ghost use Rattle.taxi_units.specs.declared.event.Operating.TheVariants.{ForHire};
 ghost use Rattle.taxi_units.specs.declared.receipt.Kind.TheVariants.{Closed};
 ghost use Rattle.meter_states.specs.Closing.{closed};
@@ -21,7 +23,8 @@ use crate::records::Closing;
 use crate::trip::{add_extra, begun, times};
 use seal_record::Seal;
 use std::sync::ledger::Ledger;
-use tariff_compile::{Initial, Supplement, Tables};
+use tariff_check::{Initial, Supplement};
+use tariff_compile::Tables;
 use taxi_units::{HIRINGS_END, Kind, Operating, Steps, Why};
 
 impl State {
@@ -117,7 +120,7 @@ impl State {
     )
         requires ready { IsReadyForKey tables.now self.old acts.old.items }
         ensures stage { (seal : Seal) → CommitsNothing tables.now seal self.old self.new acts.old.items
-            acts.new.items (λ s. extra_added n (supplement_at s.tariff n)) }
+            acts.new.items (λ s. extra_added n (supplement_of s.tariff.lines n)) }
         ensures steps { steps.new ≤ steps.old + 1 }
     {
         let Some(supplement) = find_supplement(tables, n, steps) else {

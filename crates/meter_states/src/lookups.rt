@@ -1,7 +1,8 @@
 //! What the core looks up: in the tables, and in the seal's offsets.
 ghost use Rattle.std.specs.Prelude.{◌≡◌, ◌+◌, ◌*◌, ◌^◌, ◌<◌, ◌≤◌, ◌≢◌, None};
 ghost use Rattle.drive_modes.specs.Distance.{millimetres_of};
-ghost use Rattle.tariff_compile.specs.Tables.{IsFit, supplement_at};
+ghost use Rattle.tariff_compile.specs.Tables.{IsFit};
+ghost use Rattle.tariff_check.specs.Parts.{supplement_of};
 ghost use Rattle.taxi_units.specs.Shown.{IsStamp};
 ghost use Rattle.taxi_units.specs.Time.{IsSecond};
 ghost use Rattle.meter_states.specs.Setting.{Setting, IsSealOf, IsTariffOf, modulus_of, stamp_at};
@@ -11,7 +12,8 @@ use drive_modes::millimetres;
 use interval_clock::civil;
 use seal_record::Seal;
 use std::sync::ledger::Ledger;
-use tariff_compile::{Supplement, Tables};
+use tariff_check::Supplement;
+use tariff_compile::Tables;
 use taxi_units::{Stamp, Steps};
 
 /// What a display step takes, in units of charge.
@@ -39,7 +41,7 @@ pub(crate) fn find_supplement<L: Ledger>(
     number: u8,
     steps: &mut Steps<L>,
 ) -> Option<Supplement>
-    ensures tree { (s : Setting) → IsTariffOf s tables.now → result ≡ supplement_at s.tariff number }
+    ensures tree { (s : Setting) → IsTariffOf s tables.now → result ≡ supplement_of s.tariff.lines number }
     ensures value { result ≡ supplement_in tables.now number }
     ensures number { result ≢ None → (1 ≤ number) × (number ≤ 16) }
     ensures amount { amount_in result ≤ 1000000 }

@@ -2,7 +2,8 @@
 //! and goes on.
 ghost use Rattle.std.specs.Prelude.{◌≡◌, ◌+◌, ◌-◌, ◌^◌, ◌<◌, ◌≤◌, Some, slice_index};
 ghost use Rattle.drive_modes.specs.Fare.{shown_fare, steps_of};
-ghost use Rattle.tariff_compile.specs.Tables.{AreFit, IsFitInitial, TableParts, rate_by};
+ghost use Rattle.tariff_compile.specs.Tables.{AreFit, TableParts, rate_by};
+ghost use Rattle.tariff_check.specs.Amounts.{IsFitInitial};
 ghost use Rattle.tariff_syntax.specs.declared.context.Context.{Context};
 ghost use Rattle.taxi_units.specs.Money.{largest_amount};
 ghost use Rattle.taxi_units.specs.Time.{IsSecond, last_tick, longest_trip};
@@ -16,7 +17,8 @@ use crate::lookups::modulus;
 use crate::meterage::add_charge;
 use drive_modes::{Meterage, Weights, charge};
 use seal_record::Seal;
-use tariff_compile::{Initial, Supplement, Tables};
+use tariff_check::{Initial, Supplement};
+use tariff_compile::Tables;
 use totals_record::Trip;
 
 /// A trip as the core keeps it: the second of its start, the pulses that were roamed before the hiring, its

@@ -3,7 +3,8 @@ use Rattle.std.proofs.Common.{◌≡◌, ℕ, ◌<◌, ◌≤◌}
 use Rattle.taxi_units.specs.Time.{last_tick}
 use Rattle.tariff_check.specs.Parts.{positions_of, zones_of}
 use Rattle.tariff_check.specs.DisplayStep.{display_step}
-use Rattle.tariff_compile.specs.Tables.{initial_by, supplement_at}
+use Rattle.tariff_check.specs.Amounts.{initial_by}
+use Rattle.tariff_check.specs.Parts.{supplement_of}
 use Rattle.meter_states.specs.Charge.{charge_at}
 use Rattle.meter_states.specs.Interval.{context_now, context_of, ticks_so_far}
 use Rattle.meter_states.specs.Meter.{Meter}
@@ -19,7 +20,7 @@ pub record Agree (s t : Setting) : Type 0 where
   pub step : display_step s.tariff ≡ display_step t.tariff
   pub positions : positions_of s.tariff.lines ≡ positions_of t.tariff.lines
   pub zones : zones_of s.tariff.lines ≡ zones_of t.tariff.lines
-  pub supplements : (n : ℕ) → supplement_at s.tariff n ≡ supplement_at t.tariff n
+  pub supplements : (n : ℕ) → supplement_of s.tariff.lines n ≡ supplement_of t.tariff.lines n
   pub some_step : 0 < (display_step s.tariff).0
   pub some_unit : 0 < unit_of s
   pub also_unit : 0 < unit_of t

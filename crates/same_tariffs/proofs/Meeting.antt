@@ -12,14 +12,15 @@ use Rattle.interval_clock.specs.LocalTime.{day_of, local_second, minute_of_day}
 use Rattle.interval_clock.specs.Offsets.{offset_at}
 use Rattle.taxi_units.specs.Time.{IsSecond, last_tick}
 use Rattle.tariff_check.specs.Measure.{measure_of}
-use Rattle.tariff_check.specs.Parts.{RateNumbers, SupplementNumbers}
+use Rattle.tariff_check.specs.Parts.{RateNumbers}
+use Rattle.tariff_check.specs.declared.values.Supplement.{Supplement}
 use Rattle.tariff_check.proofs.Laws.{sound_tariffs_have_sound_parts-parts}
 use Rattle.tariff_compare.specs.Contexts.{IsMeterContext, IsMeterTime, context_at}
 use Rattle.tariff_compare.specs.Same.{cost_same, is_fee_other, is_minimum_other, rate_in}
 use Rattle.tariff_compare.specs.declared.meter_context.MeterContext.{MeterContext}
 use Rattle.tariff_check.specs.DisplayStep.{display_step}
-use Rattle.tariff_compile.specs.Tables.{initial_by, supplement_in}
-use Rattle.tariff_compile.specs.declared.parts.Initial.{Initial}
+use Rattle.tariff_check.specs.Amounts.{initial_by}
+use Rattle.tariff_check.specs.declared.values.Initial.{Initial}
 use Rattle.tariff_syntax.specs.Meaning.{at_hiring, rate_place}
 use Rattle.tariff_syntax.specs.declared.meaning.LineKind.TheVariants as kinds
 use Rattle.meter_states.specs.Charge.{charge_at, charge_by, rate_at, rate_of}
@@ -236,8 +237,7 @@ agree s t same = record {
   step = same.tariffs.frame.step;
   positions = same.tariffs.frame.positions;
   zones = same.tariffs.frame.zones;
-  supplements = λ n. ap (λ (o : Option SupplementNumbers). option_map supplement_in o)
-      (same.tariffs.frame.supplements n);
+  supplements = same.tariffs.frame.supplements;
   some_step = step-some s same.one;
   some_unit = unit-some s same.one;
   also_unit = unit-some t same.other;

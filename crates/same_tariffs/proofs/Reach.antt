@@ -18,8 +18,8 @@ use Rattle.totals_record.specs.declared.durable_state.Durable.{Durable}
 use Rattle.totals_record.specs.declared.entry.Entry.{Entry}
 use Rattle.totals_record.specs.declared.trip.Trip.{Trip}
 use Rattle.tariff_check.specs.Parts.{positions_of, zones_of}
-use Rattle.tariff_compile.specs.Tables.{supplement_at}
-use Rattle.tariff_compile.specs.declared.parts.Supplement.{Supplement}
+use Rattle.tariff_check.specs.Parts.{supplement_of}
+use Rattle.tariff_check.specs.declared.values.Supplement.{Supplement}
 use Rattle.tariff_syntax.specs.Tree.{Tree}
 use Rattle.tariff_syntax.specs.Writable.{IsFromTo}
 use Rattle.meter_states.specs.Closing.{closed, entry_of, roaming_checked, roaming_checked_in, roaming_entered}
@@ -187,8 +187,8 @@ within-key s (keys.Position n) ForHire m x = within-position s n m x
 within-key s (keys.Position n) Hired m x = within-position s n m x
 within-key s (keys.Zone n) ForHire m x = within-zone s n m x
 within-key s (keys.Zone n) Hired m x = within-zone s n m x
-within-key s (keys.Extra n) Hired m x = within-added s n (supplement_at s.tariff n) m x
-within-key s (keys.Extra n) Stopped m x = within-added s n (supplement_at s.tariff n) m x
+within-key s (keys.Extra n) Hired m x = within-added s n (supplement_of s.tariff.lines n) m x
+within-key s (keys.Extra n) Stopped m x = within-added s n (supplement_of s.tariff.lines n) m x
 within-key s key operating m x = x
 
 within-press : (s : Setting) (latch : Option Key) (m : Meter) → IsWithin s last_tick m

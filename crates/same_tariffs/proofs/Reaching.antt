@@ -29,8 +29,8 @@ use Rattle.tariff_check.specs.Parts.{positions_of, zones_of}
 use Rattle.tariff_check.proofs.Laws.{sound_tariffs_have_sound_parts-parts}
 use Rattle.tariff_compare.specs.Contexts.{IsMeterContext, context_at, most_pulses}
 use Rattle.tariff_compare.specs.declared.meter_context.MeterContext.{MeterContext}
-use Rattle.tariff_compile.specs.Tables.{initial_by}
-use Rattle.tariff_compile.specs.declared.parts.Initial.{Initial}
+use Rattle.tariff_check.specs.Amounts.{initial_by}
+use Rattle.tariff_check.specs.declared.values.Initial.{Initial}
 use Rattle.tariff_syntax.specs.Tree.{Tree}
 use Rattle.tariff_syntax.specs.Writable.{IsFromTo, IsWritable}
 use Rattle.tariff_syntax.specs.declared.context.Context.{Context}

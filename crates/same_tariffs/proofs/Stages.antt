@@ -20,8 +20,9 @@ use Rattle.totals_record.specs.States.{after}
 use Rattle.totals_record.specs.declared.entry.Entry.{Entry}
 use Rattle.totals_record.specs.declared.trip.Trip.{Trip}
 use Rattle.tariff_check.specs.Parts.{positions_of, zones_of}
-use Rattle.tariff_compile.specs.Tables.{initial_by, supplement_at}
-use Rattle.tariff_compile.specs.declared.parts.Supplement.{Supplement}
+use Rattle.tariff_check.specs.Amounts.{initial_by}
+use Rattle.tariff_check.specs.Parts.{supplement_of}
+use Rattle.tariff_check.specs.declared.values.Supplement.{Supplement}
 use Rattle.tariff_syntax.specs.declared.context.Context.{Context}
 use Rattle.meter_states.specs.Charge.{charge_at}
 use Rattle.meter_states.specs.Closing.{closed, roaming_checked, roaming_checked_in, roaming_entered, roaming_entry}
@@ -316,12 +317,12 @@ supplement-alike s t n (Some supplement) m trip hold same also = added-alike s t
 
 extra-key : (s t : Setting) (n : ℕ) (m : Meter) (trip : Option MeterTrip) (hold : Option Trip) → Agree s t
     → AreTripsOfBothAlike s t m.trip trip → AreHoldsAlike s t m.durable.hold hold
-    → AreOutcomesAlike s t (extra_added n (supplement_at s.tariff n) m)
-    (extra_added n (supplement_at t.tariff n) (with_trips trip hold m))
+    → AreOutcomesAlike s t (extra_added n (supplement_of s.tariff.lines n) m)
+    (extra_added n (supplement_of t.tariff.lines n) (with_trips trip hold m))
 extra-key s t n m trip hold agree same also =
-    subst (λ (x : Option Supplement). AreOutcomesAlike s t (extra_added n (supplement_at s.tariff n) m)
+    subst (λ (x : Option Supplement). AreOutcomesAlike s t (extra_added n (supplement_of s.tariff.lines n) m)
     (extra_added n x (with_trips trip hold m))) (agree.supplements n)
-    (supplement-alike s t n (supplement_at s.tariff n) m trip hold same also)
+    (supplement-alike s t n (supplement_of s.tariff.lines n) m trip hold same also)
 
 key-by : (s t : Setting) (key : Key) (operating : Operating) (m : Meter) (trip : Option MeterTrip) (hold : Option Trip)
     → Agree s t → IsPlaced s m → AreTripsOfBothAlike s t m.trip trip → AreHoldsAlike s t m.durable.hold hold

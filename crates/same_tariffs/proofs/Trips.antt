@@ -9,8 +9,8 @@ use Rattle.taxi_units.specs.declared.receipt.Kind.{Kind}
 use Rattle.totals_record.specs.declared.trip.Trip.{Trip}
 use Rattle.drive_modes.specs.Distance.{millimetres_of}
 use Rattle.tariff_check.specs.DisplayStep.{display_step}
-use Rattle.tariff_compile.specs.Tables.{supplement_at}
-use Rattle.tariff_compile.specs.declared.parts.Initial.{Initial}
+use Rattle.tariff_check.specs.Parts.{supplement_of}
+use Rattle.tariff_check.specs.declared.values.Initial.{Initial}
 use Rattle.meter_states.specs.Closing.{entry_of, receipt_of}
 use Rattle.meter_states.specs.Display.{display_of, extras_shown, fare_shown}
 use Rattle.meter_states.specs.Interval.{pulses_so_far, ticks_so_far}
@@ -165,8 +165,8 @@ fare-alike s t a b agree same =
     ∙ ap (λ (n : ℕ). shown_fare n a.minimum (display_step t.tariff).0 (steps_shown t b)) initial
     ∙ ap (λ (n : ℕ). shown_fare b.initial n (display_step t.tariff).0 (steps_shown t b)) minimum
 
-amounts-each : (s t : Setting) → Agree s t → (numbers : List ℕ) → map (λ n. amount_in (supplement_at s.tariff n))
-    numbers ≡ map (λ n. amount_in (supplement_at t.tariff n)) numbers
+amounts-each : (s t : Setting) → Agree s t → (numbers : List ℕ) → map (λ n. amount_in (supplement_of s.tariff.lines n))
+    numbers ≡ map (λ n. amount_in (supplement_of t.tariff.lines n)) numbers
 amounts-each s t agree [] = refl
 amounts-each s t agree (n ∷ numbers) =
     let one = ap amount_in (agree.supplements n) in

@@ -6,7 +6,7 @@ use Rattle.drive_modes.specs.Constant.{least_constant, greatest_constant}
 use Rattle.tariff_check.specs.Faults.{IsSound}
 use Rattle.tariff_compare.specs.Contexts.{IsMeterContext, context_at, most_pulses}
 use Rattle.tariff_compare.specs.declared.meter_context.MeterContext.{MeterContext}
-use Rattle.tariff_compile.specs.Tables.{initial_by}
+use Rattle.tariff_check.specs.Amounts.{initial_by}
 use Rattle.tariff_syntax.specs.Meaning.{rate_place}
 use Rattle.tariff_syntax.specs.Writable.{IsFromTo, IsWritable}
 use Rattle.meter_states.specs.Interval.{context_now, context_of, pulses_so_far, ticks_so_far}

@@ -10,7 +10,7 @@ use Rattle.taxi_units.specs.declared.event.Key.TheVariants.{Hire, Position, Zone
 use Rattle.taxi_units.specs.declared.event.Operating.TheVariants.{Hired}
 use Rattle.tariff_compare.specs.Contexts.{context_at}
 use Rattle.tariff_compare.specs.declared.meter_context.MeterContext.{MeterContext}
-use Rattle.tariff_compile.specs.Tables.{initial_by}
+use Rattle.tariff_check.specs.Amounts.{initial_by}
 use Rattle.tariff_syntax.specs.Tree.{Tree}
 use Rattle.meter_states.specs.Interval.{context_of}
 use Rattle.meter_states.specs.Meter.{Meter}

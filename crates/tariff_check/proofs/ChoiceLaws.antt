@@ -8,10 +8,11 @@ use Rattle.tariff_syntax.specs.Condition.{Condition}
 use Rattle.tariff_syntax.specs.Parts.{initial_conditions, initial_when, minimum_conditions, minimum_when, parts}
 use Rattle.tariff_syntax.specs.Parts.{rate_conditions, rate_when}
 use Rattle.tariff_syntax.specs.Tree.{Tree, Line, Entry, holiday, initial, minimum, rate, supplement}
-use Rattle.tariff_check.specs.Parts.{DateNumbers, InitialNumbers, RateNumbers, SupplementNumbers, holiday_part}
+use Rattle.tariff_check.specs.Parts.{DateNumbers, InitialNumbers, RateNumbers, holiday_part}
+use Rattle.tariff_check.specs.declared.values.Supplement.{Supplement}
 use Rattle.tariff_check.specs.Parts.{initial_part, initials_of, minimum_part, minimums_of, rate_part, rates_of}
 use Rattle.tariff_check.specs.Parts.{when_part}
-use Rattle.tariff_check.specs.Resolved.{placed, placed_from}
+use Rattle.tariff_check.specs.Resolved.{placed_from}
 use Rattle.tariff_check.specs.SoundTariff.{AreChoices, Choice, HasAllLines, HasChoices, choices, conditions_of}
 use Rattle.tariff_check.specs.SoundTariff.{entries_told, holiday_entry, initial_choice, initial_entry, is_told}
 use Rattle.tariff_check.specs.SoundTariff.{line_with, lines_of, minimum_choice, minimum_entry, numbered_supplement}
@@ -261,10 +262,10 @@ minimum_again (minimum amount when) said h =
     ap minimum_entry same
 minimum_again x said h = absurd cc
 
-supplement_again : (x : Entry) (said : ℕ × SupplementNumbers) → numbered_supplement x ≡ Some said
+supplement_again : (x : Entry) (said : ℕ × Supplement) → numbered_supplement x ≡ Some said
     → supplement_entry said ≡ x
 supplement_again (supplement number amount most) said h =
-    let same : said ≡ (number, record { amount = amount; most = most }) = cc in
+    let same : said ≡ (number, record { amount = amount; max = most }) = cc in
     ap supplement_entry same
 supplement_again x said h = absurd cc
 

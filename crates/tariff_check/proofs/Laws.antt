@@ -6,6 +6,7 @@ use Rattle.tariff_syntax.specs.Reads.{RiseInNumber}
 use Rattle.tariff_syntax.specs.Tree.{Tree, Line}
 use Rattle.tariff_syntax.specs.Writable.{IsFromTo, IsWritable}
 use Rattle.tariff_syntax.specs.declared.context.Context.{Context}
+use Rattle.tariff_check.specs.Amounts.{HasAmountsOf, IsFitInitial, initial_by}
 use Rattle.tariff_check.specs.Cuts.{IsInOrder, all_cuts, cuts_of, with_each}
 use Rattle.tariff_check.specs.Faults.{IsSound, fault_of}
 use Rattle.tariff_check.specs.Lines.{LineTest, IsFirstLine, IsNowhere, first_line}
@@ -16,6 +17,7 @@ use Rattle.tariff_check.specs.Sound.{HasSoundParts}
 use Rattle.tariff_check.specs.SoundTariff.{HasAllLines, HasChoices, HasFrame, place_of, sound_of, supplement_numbered}
 use Rattle.tariff_check.specs.declared.fault.CheckFault.TheVariants.{NoCommonMeasure}
 use Rattle.tariff_check.specs.declared.fault.Dimension.{Dimension}
+use Rattle.tariff_check.proofs.Amounts.{fit_initial, has_amounts}
 use Rattle.tariff_check.proofs.ChoicePlaces.{first_choice}
 use Rattle.tariff_check.proofs.CommonMeasure.{least_of_some, refused_measures, sound_measures}
 use Rattle.tariff_check.proofs.CutOrder.{cuts_in_order, each_in_order}
@@ -79,6 +81,13 @@ lines_that_hold_are_there-initial = initial_always
 pub lines_that_hold_are_there-minimum : (t : Tree) (x : Context) (place : ℕ) → minimum_place t x ≡ Some place
     → place < length (minimums_of t.lines)
 lines_that_hold_are_there-minimum = minimum_there
+
+pub hirings_begin_with_first_lines-amounts : (t : Tree) (x : Context) → IsSound t → HasAmountsOf t x (initial_by t x)
+hirings_begin_with_first_lines-amounts = has_amounts
+
+pub hirings_begin_with_first_lines-fit : (t : Tree) (x : Context) → IsWritable t → IsSound t
+    → IsFitInitial (initial_by t x)
+hirings_begin_with_first_lines-fit = fit_initial
 
 pub sound_tariffs_are_their_parts-lines : (t : Tree) → HasAllLines t (sound_of t)
 sound_tariffs_are_their_parts-lines = all_lines

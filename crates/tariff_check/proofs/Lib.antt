@@ -1,3 +1,5 @@
+-- what a hiring begins with is what the lines that hold first say
+mod Amounts
 -- the choices of the program are those of the tariff
 mod ChoiceLaws
 -- the first of some conditions that holds

@@ -11,7 +11,8 @@ use Rattle.tariff_syntax.specs.Tree.{Entry, step, positions, zones, holiday, sup
 use Rattle.tariff_syntax.specs.Writable.{IsFromTo, IsWritableCondition, IsWritableIf, IsWritableEntry}
 use Rattle.tariff_check.specs.Lines.{atoms_if, atoms_in, atoms_of, is_after_nothing, is_for_nothing, is_great}
 use Rattle.tariff_check.specs.Lines.{is_no_holiday, is_undated}
-use Rattle.tariff_check.specs.Parts.{DateNumbers, InitialNumbers, RateNumbers, SupplementNumbers, holiday_part}
+use Rattle.tariff_check.specs.Parts.{DateNumbers, InitialNumbers, RateNumbers, holiday_part}
+use Rattle.tariff_check.specs.declared.values.Supplement.{Supplement}
 use Rattle.tariff_check.specs.Parts.{initial_part, minimum_part, positions_part, rate_part, step_part, supplement_part}
 use Rattle.tariff_check.specs.Parts.{zones_part}
 use Rattle.tariff_check.specs.Sound.{IsGoodAtom, IsSoundAtom, IsSoundHoliday, IsSoundInitial, IsSoundRate}
@@ -84,10 +85,10 @@ minimum_fact (minimum amount when) good n h =
     omega arith
 minimum_fact x good n h = absurd cc
 
-pub supplement_fact : (number : ℕ) (x : Entry) → IsGoodEntry x → (s : SupplementNumbers)
+pub supplement_fact : (number : ℕ) (x : Entry) → IsGoodEntry x → (s : Supplement)
     → supplement_part number x ≡ Some s → IsSoundSupplement s
 supplement_fact number (supplement n amount most) good s h =
-    let same = some_same (number == n) (record { amount = amount; most = most }) s h in
+    let same = some_same (number == n) (record { amount = amount; max = most }) s h in
     subst IsSoundSupplement same (record { amount = ltb-false (10 ^ 6) amount good.moderate; most = good.writable.2 })
 supplement_fact number x good s h = absurd cc
 

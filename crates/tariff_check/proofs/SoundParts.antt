@@ -16,7 +16,8 @@ use Rattle.tariff_check.specs.Lines.{atoms_in, first_line, has_bad_date, has_gre
 use Rattle.tariff_check.specs.Lines.{is_after_nothing, is_for_nothing, is_great, is_no_holiday, is_one_too_many}
 use Rattle.tariff_check.specs.Lines.{is_undated}
 use Rattle.tariff_check.specs.Measure.{measure_of, measures_of}
-use Rattle.tariff_check.specs.Parts.{SupplementNumbers, first_part, has_holidays, holiday_part, initial_part}
+use Rattle.tariff_check.specs.Parts.{first_part, has_holidays, holiday_part, initial_part}
+use Rattle.tariff_check.specs.declared.values.Supplement.{Supplement}
 use Rattle.tariff_check.specs.Parts.{minimum_part, positions_of, positions_part, rate_part, step_of, step_part}
 use Rattle.tariff_check.specs.Parts.{supplement_part, zones_of, zones_part}
 use Rattle.tariff_check.specs.Sound.{HasSoundParts, IsSoundHoliday, IsSoundInitial, IsSoundRate, IsSoundSupplement}
@@ -125,7 +126,7 @@ sound_parts t w h =
       minimums = parts_all minimum_part (λ amount. amount ≤ largest_amount) ls
           (given minimum_part (λ amount. amount ≤ largest_amount) ls minimum_fact good);
       minimum_count = few_minimums ls many;
-      supplements = λ (number : ℕ) (s : SupplementNumbers) e. first_part_has (supplement_part number) IsSoundSupplement
+      supplements = λ (number : ℕ) (s : Supplement) e. first_part_has (supplement_part number) IsSoundSupplement
           ls s (given (supplement_part number) IsSoundSupplement ls (supplement_fact number) good) e;
       holidays = parts_all holiday_part IsSoundHoliday ls (given holiday_part IsSoundHoliday ls holiday_fact good);
       holiday_count = few_holidays ls many;

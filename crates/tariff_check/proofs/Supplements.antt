@@ -1,10 +1,11 @@
 -- Supplements outside the numbers that a text can have, and the one of a number among the parts.
-use Rattle.std.proofs.Common.{◌≡◌, ℕ, ◌==◌, Bool, List, [], ◌∷◌, Option, Some, None, true, false, cond, All, refl}
+use Rattle.std.proofs.Common.{◌≡◌, ℕ, ◌==◌, Bool, List, [], ◌∷◌, Some, None, true, false, cond, All, refl}
 use Rattle.std.proofs.lemmas.Bool.{ne_eqb}
 use Rattle.std.proofs.lemmas.List.Elements.{All-head, All-tail}
 use Rattle.std.specs.List.{cons_option, find, slice_get}
 use Rattle.std.specs.Option.{option_map}
-use Rattle.tariff_check.specs.Parts.{SupplementNumbers, supplement_of, supplement_part}
+use Rattle.tariff_check.specs.Parts.{supplement_of, supplement_part}
+use Rattle.tariff_check.specs.declared.values.Supplement.{Supplement}
 use Rattle.tariff_check.specs.SoundTariff.{numbered_supplement, supplement_numbered}
 use Rattle.tariff_syntax.specs.Parts.{parts}
 use Rattle.tariff_syntax.specs.Tree.{Tree, Line, Entry, supplement}
@@ -27,11 +28,11 @@ no_such_lines n (l ∷ ls) out writable =
 pub none_of_other_numbers : (t : Tree) (n : ℕ) → IsWritable t → (IsFromTo 1 16 n → ⊥) → supplement_of t.lines n ≡ None
 none_of_other_numbers t n writable out = rw (no_such_lines n t.lines out writable.lines) refl
 
-numbered_by : (n number : ℕ) (said : SupplementNumbers) (b : Bool) (rest : List (ℕ × SupplementNumbers))
-    (parts : List SupplementNumbers)
+numbered_by : (n number : ℕ) (said : Supplement) (b : Bool) (rest : List (ℕ × Supplement))
+    (parts : List Supplement)
     → supplement_numbered rest n ≡ slice_get parts 0
-    → option_map (λ (s : ℕ × SupplementNumbers). s.1)
-    (cond b (Some (number, said)) (find (λ (s : ℕ × SupplementNumbers). n == s.0) rest))
+    → option_map (λ (s : ℕ × Supplement). s.1)
+    (cond b (Some (number, said)) (find (λ (s : ℕ × Supplement). n == s.0) rest))
     ≡ slice_get (cons_option (cond b (Some said) None) parts) 0
 numbered_by n number said true rest parts h = refl
 numbered_by n number said false rest parts h = h
@@ -41,7 +42,7 @@ numbered_more : (n : ℕ) (entry : Entry) (ls : List Line)
     → supplement_numbered (cons_option (numbered_supplement entry) (parts numbered_supplement ls)) n
     ≡ slice_get (cons_option (supplement_part n entry) (parts (supplement_part n) ls)) 0
 numbered_more n (supplement number amount most) ls h =
-    numbered_by n number (record { amount = amount; most = most }) (n == number) (parts numbered_supplement ls)
+    numbered_by n number (record { amount = amount; max = most }) (n == number) (parts numbered_supplement ls)
     (parts (supplement_part n) ls) h
 numbered_more n entry ls h = h
 

@@ -1,3 +1,4 @@
+pub mod Amounts
 pub mod Cells
 pub mod Counted
 pub mod Cuts

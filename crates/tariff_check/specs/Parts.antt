@@ -9,7 +9,7 @@ use Rattle.tariff_syntax.specs.Tree.{Line, Entry, step, positions, zones, holida
 use Rattle.tariff_check.specs.declared.values.DateNumbers as dates
 use Rattle.tariff_check.specs.declared.values.InitialNumbers as initials
 use Rattle.tariff_check.specs.declared.values.RateNumbers as rates
-use Rattle.tariff_check.specs.declared.values.SupplementNumbers as supplements
+use Rattle.tariff_check.specs.declared.values.Supplement.{Supplement}
 
 -- a rate has an amount `a` for each `b` decimetres, and an amount `c` for each `e` tenths of a second
 abbrev pub RateNumbers : Type 0
@@ -18,10 +18,6 @@ RateNumbers = rates.RateNumbers
 -- an initial hire fee has an amount and what it covers
 abbrev pub InitialNumbers : Type 0
 InitialNumbers = initials.InitialNumbers
-
--- a supplement has an amount and how often a hiring may have it
-abbrev pub SupplementNumbers : Type 0
-SupplementNumbers = supplements.SupplementNumbers
 
 -- a date has a year, a month and a date of the month
 abbrev pub DateNumbers : Type 0
@@ -53,9 +49,9 @@ holiday_part _ = None
 
 -- the supplement part of an entry is its amount and how often it may be added if it is the supplement of the number,
 -- and none otherwise
-abbrev pub supplement_part : (number : ℕ) → Entry → Option SupplementNumbers
+abbrev pub supplement_part : (number : ℕ) → Entry → Option Supplement
 supplement_part n (supplement number amount most) =
-    if n == number then Some (record { amount = amount; most = most }) else None
+    if n == number then Some (record { amount = amount; max = most }) else None
 supplement_part n _ = None
 
 -- the initial part of an entry is its amount and its cover if it is an initial hire fee, and none otherwise
@@ -101,7 +97,7 @@ abbrev pub has_holidays : List Line → Bool
 has_holidays lines = list_any (λ (d : DateNumbers). true) (holidays_of lines)
 
 -- the supplement of a number in lines is that of the line with the number, if there is one
-abbrev pub supplement_of : List Line → (number : ℕ) → Option SupplementNumbers
+abbrev pub supplement_of : List Line → (number : ℕ) → Option Supplement
 supplement_of lines number = first_part (supplement_part number) lines
 
 -- the initial hire fees of lines are the amount and the cover of each `initial` line, in order

@@ -13,7 +13,8 @@ use Rattle.tariff_check.specs.Cuts.{count_of, most_cuts}
 use Rattle.tariff_check.specs.Faults.{has_default}
 use Rattle.tariff_check.specs.Lines.{atoms_in}
 use Rattle.tariff_check.specs.Measure.{measure_of}
-use Rattle.tariff_check.specs.Parts.{RateNumbers, InitialNumbers, SupplementNumbers, DateNumbers, step_of, positions_of}
+use Rattle.tariff_check.specs.Parts.{RateNumbers, InitialNumbers, DateNumbers, step_of, positions_of}
+use Rattle.tariff_check.specs.declared.values.Supplement.{Supplement}
 use Rattle.tariff_check.specs.Parts.{zones_of, holidays_of, supplement_of, initials_of, minimums_of, rates_of}
 use Rattle.tariff_check.specs.declared.fault.Dimension.{Dimension}
 
@@ -30,9 +31,9 @@ pub record IsSoundInitial (i : InitialNumbers) : Type 0 where
   pub covers : i.covers ≤ largest_amount
 
 -- a supplement is sound if its amount is at most 1,000,000 and it may be added 1 to 99 times
-pub record IsSoundSupplement (s : SupplementNumbers) : Type 0 where
+pub record IsSoundSupplement (s : Supplement) : Type 0 where
   pub amount : s.amount ≤ 10 ^ 6
-  pub most : IsFromTo 1 99 s.most
+  pub most : IsFromTo 1 99 s.max
 
 -- a holiday is sound if it is a date of the years 2000 to 2199
 pub record IsSoundHoliday (d : DateNumbers) : Type 0 where
@@ -65,7 +66,7 @@ pub record HasSoundParts (t : Tree) : Type 0 where
   pub default_initial : has_default (initial_conditions t.lines) ≡ true
   pub minimums : All (λ amount. amount ≤ largest_amount) (minimums_of t.lines)
   pub minimum_count : length (minimums_of t.lines) ≤ 64
-  pub supplements : (number : ℕ) (s : SupplementNumbers) → supplement_of t.lines number ≡ Some s → IsSoundSupplement s
+  pub supplements : (number : ℕ) (s : Supplement) → supplement_of t.lines number ≡ Some s → IsSoundSupplement s
   pub holidays : All IsSoundHoliday (holidays_of t.lines)
   pub holiday_count : length (holidays_of t.lines) ≤ 255
   pub atoms : All (λ (l : Line). All IsGoodAtom (atoms_in l.entry)) t.lines

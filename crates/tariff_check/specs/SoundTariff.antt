@@ -12,7 +12,8 @@ use Rattle.tariff_syntax.specs.Tree.{minimum}
 use Rattle.tariff_syntax.specs.declared.context.Context.{Context}
 use Rattle.tariff_check.specs.Cells.{cells_of}
 use Rattle.tariff_check.specs.Measure.{measure_of}
-use Rattle.tariff_check.specs.Parts.{RateNumbers, InitialNumbers, SupplementNumbers, DateNumbers, step_of, positions_of}
+use Rattle.tariff_check.specs.Parts.{RateNumbers, InitialNumbers, DateNumbers, step_of, positions_of}
+use Rattle.tariff_check.specs.declared.values.Supplement.{Supplement}
 use Rattle.tariff_check.specs.Parts.{zones_of, holidays_of, initials_of, minimums_of, rates_of, holiday_part, positions_part, step_part}
 use Rattle.tariff_check.specs.Parts.{when_part, zones_part}
 use Rattle.tariff_check.specs.declared.choice.Choice as program
@@ -39,8 +40,8 @@ minimum_choice (minimum amount when) = Some (amount, when)
 minimum_choice _ = None
 
 -- a supplement says its number, its amount and how often a hiring may have it
-abbrev pub numbered_supplement : Entry → Option (ℕ × SupplementNumbers)
-numbered_supplement (supplement number amount most) = Some (number, record { amount = amount; most = most })
+abbrev pub numbered_supplement : Entry → Option (ℕ × Supplement)
+numbered_supplement (supplement number amount most) = Some (number, record { amount = amount; max = most })
 numbered_supplement _ = None
 
 -- the choice that a line gives has what the line says, if it is of the kind, and the line's number
@@ -77,7 +78,7 @@ pub record SoundTariff : Type 0 where
   pub positions : ℕ
   pub zones : ℕ
   pub holidays : List DateNumbers
-  pub supplements : List (ℕ × SupplementNumbers)
+  pub supplements : List (ℕ × Supplement)
   pub rates : List (Choice RateNumbers)
   pub initials : List (Choice InitialNumbers)
   pub minimums : List (Choice ℕ)
@@ -102,9 +103,9 @@ sound_of t =
     }
 
 -- the supplement of a number is the first that has it, if there is one
-abbrev pub supplement_numbered : List (ℕ × SupplementNumbers) → (number : ℕ) → Option SupplementNumbers
+abbrev pub supplement_numbered : List (ℕ × Supplement) → (number : ℕ) → Option Supplement
 supplement_numbered all number =
-    option_map (λ (s : ℕ × SupplementNumbers). s.1) (find (λ (s : ℕ × SupplementNumbers). number == s.0) all)
+    option_map (λ (s : ℕ × Supplement). s.1) (find (λ (s : ℕ × Supplement). number == s.0) all)
 
 -- the condition of a line that may be none is the line's, if there is one and it has one
 abbrev pub when_of_line : Option Line → Option Condition
@@ -145,8 +146,8 @@ initial_entry said = initial said.0.amount said.0.covers said.1
 abbrev pub minimum_entry : ℕ × Option Condition → Entry
 minimum_entry said = minimum said.0 said.1
 
-abbrev pub supplement_entry : ℕ × SupplementNumbers → Entry
-supplement_entry said = supplement said.0 said.1.amount said.1.most
+abbrev pub supplement_entry : ℕ × Supplement → Entry
+supplement_entry said = supplement said.0 said.1.amount said.1.max
 
 abbrev pub holiday_entry : DateNumbers → Entry
 holiday_entry d = holiday d.year d.month d.date

@@ -15,7 +15,7 @@ use crate::choice::Choice;
 use crate::numbers::Numbers;
 use crate::parts::condition;
 use crate::resolving::{Parts, numbered};
-use crate::values::{DateNumbers, InitialNumbers, RateNumbers, SupplementNumbers};
+use crate::values::{DateNumbers, InitialNumbers, RateNumbers, Supplement};
 use drive_modes::Rounding;
 use std::marker::Model;
 use tariff_syntax::{Cond, Context, Tariff, sat};
@@ -109,7 +109,7 @@ impl Checked {
     }
 
     /// The supplement of a number; `None` exactly where it has none.
-    pub fn supplement(&self, number: u8) -> Option<SupplementNumbers>
+    pub fn supplement(&self, number: u8) -> Option<Supplement>
         ensures value { result ≡ supplement_of (tree_of self.now).lines number }
         ensures sound { IsSound (tree_of self.now) }
         ensures writable { IsWritable (tree_of self.now) }

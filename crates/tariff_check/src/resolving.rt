@@ -8,7 +8,7 @@ ghost use Rattle.tariff_check.specs.SoundTariff.{supplement_numbered};
 ghost use Rattle.tariff_syntax.specs.Tree.{line_of};
 
 use crate::choice::Choice;
-use crate::values::{DateNumbers, InitialNumbers, RateNumbers, SupplementNumbers};
+use crate::values::{DateNumbers, InitialNumbers, RateNumbers, Supplement};
 use std::alloc::Global;
 use tariff_syntax::{Item, RateLine, TariffLine};
 use taxi_units::NoMemory;
@@ -17,7 +17,7 @@ use taxi_units::NoMemory;
 #[derive(Drop)]
 pub(crate) struct Parts {
     pub(crate) holidays: Vec<DateNumbers>,
-    pub(crate) supplements: Vec<(u8, SupplementNumbers)>,
+    pub(crate) supplements: Vec<(u8, Supplement)>,
     pub(crate) rates: Vec<Choice<RateNumbers>>,
     pub(crate) initials: Vec<Choice<InitialNumbers>>,
     pub(crate) minimums: Vec<Choice<u64>>,
@@ -69,9 +69,9 @@ impl Parts {
                 amount,
                 max,
             } => {
-                let said = SupplementNumbers {
+                let said = Supplement {
                     amount: *amount,
-                    most: *max,
+                    max: *max,
                 };
                 put(&mut self.supplements, (*number, said))
             }
@@ -118,7 +118,7 @@ fn put<V: Drop>(all: &mut Vec<V>, value: V) -> Result<(), NoMemory>
 }
 
 /// The first of some supplements that has a number.
-pub(crate) fn numbered(all: &[(u8, SupplementNumbers)], wanted: u8) -> Option<SupplementNumbers>
+pub(crate) fn numbered(all: &[(u8, Supplement)], wanted: u8) -> Option<Supplement>
     ensures { result ≡ supplement_numbered all.now wanted }
 {
     for (number, said) in all {

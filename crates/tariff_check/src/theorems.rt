@@ -1,5 +1,6 @@
 //! What the definitions of faults and cuts come to.
 ghost use Rattle.std.specs.Prelude.{◌≡◌, ℕ, ◌<◌, ◌≤◌, ◌↔◌, ◌∷◌, ◌++◌, true, List, [], Option, Some, None, All, length};
+ghost use Rattle.tariff_check.specs.Amounts.{HasAmountsOf, IsFitInitial, initial_by};
 ghost use Rattle.tariff_check.specs.Cuts.{IsInOrder, all_cuts, cuts_of, with_each};
 ghost use Rattle.tariff_check.specs.Faults.{IsSound, fault_of};
 ghost use Rattle.tariff_check.specs.Lines.{LineTest, IsFirstLine, IsNowhere, first_line};
@@ -69,6 +70,13 @@ pub fn lines_that_hold_are_there()
         → (place : ℕ) × (initial_place t x ≡ Some place) × (place < length (initials_of t.lines)) }
     ensures minimum { (t : Tree) (x : Context) (place : ℕ) → minimum_place t x ≡ Some place
         → place < length (minimums_of t.lines) }
+{}
+
+/// The law of hirings: what a hiring begins with is what the initial hire fee says that holds first at it, and the
+/// minimum fare that does, or 0 where none holds; and each is within its limits.
+pub fn hirings_begin_with_first_lines()
+    ensures amounts { (t : Tree) (x : Context) → IsSound t → HasAmountsOf t x (initial_by t x) }
+    ensures fit { (t : Tree) (x : Context) → IsWritable t → IsSound t → IsFitInitial (initial_by t x) }
 {}
 
 /// The law of parts: a tariff as its parts has what its lines say. Each line that may have a condition stands

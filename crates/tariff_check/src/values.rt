@@ -18,11 +18,37 @@ pub struct InitialNumbers {
     pub covers: u64,
 }
 
-/// A supplement, and how often a hiring may have it: at most 1,000,000, and 1 to 99, in a sound tariff.
+impl InitialNumbers {
+    /// Takes an initial hire fee apart. It compiles only while it is two numbers and nothing else.
+    fn take_apart(self) -> (u64, u64) {
+        let InitialNumbers { amount, covers } = self;
+        (amount, covers)
+    }
+}
+
+/// What a hiring begins with, in units of the last decimal: the initial hire fee, the amount of charges that it
+/// covers, and the minimum fare, which is 0 where no minimum line holds. Each is at most 99,999,999 in a sound tariff.
 #[derive(Clone, Copy)]
-pub struct SupplementNumbers {
+pub struct Initial {
     pub amount: u64,
-    pub most: u8,
+    pub covers: u64,
+    pub minimum: u64,
+}
+
+/// A supplement, in units of the last decimal, and how often a hiring may have it: at most 1,000,000, and 1 to 99,
+/// in a sound tariff.
+#[derive(Clone, Copy, PartialEq, Eq)]
+pub struct Supplement {
+    pub amount: u64,
+    pub max: u8,
+}
+
+impl Supplement {
+    /// Takes a supplement apart. It compiles only while it is two numbers and nothing else.
+    fn take_apart(self) -> (u64, u8) {
+        let Supplement { amount, max } = self;
+        (amount, max)
+    }
 }
 
 /// The date of a holiday: one of the years 2000 to 2199 in a sound tariff.

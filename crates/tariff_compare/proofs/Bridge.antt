@@ -15,10 +15,11 @@ use Rattle.tariff_calendar.specs.Range.{IsInRange, IsInRangeOf}
 use Rattle.tariff_check.proofs.Laws.{lines_that_hold_are_there-initial, lines_that_hold_are_there-rate}
 use Rattle.tariff_check.specs.Parts.{RateNumbers, positions_of, rates_of, zones_of}
 use Rattle.tariff_compile.proofs.Laws.{tables_equal_the_tree-fees, tables_equal_the_tree-lines}
-use Rattle.tariff_compile.specs.Tables.{IsInRangeFor, IsTablesOf, fees_in, initial_by, lines_at, lines_in, place_number}
+use Rattle.tariff_compile.specs.Tables.{IsInRangeFor, IsTablesOf, fees_in, lines_at, lines_in}
+use Rattle.tariff_check.specs.Amounts.{initial_by, place_number}
 use Rattle.tariff_compile.specs.Tables.{tables_of}
 use Rattle.tariff_compile.specs.declared.parts.CellLines.{CellLines}
-use Rattle.tariff_compile.specs.declared.parts.Initial as fees
+use Rattle.tariff_check.specs.declared.values.Initial as fees
 use Rattle.tariff_syntax.specs.Meaning.{initial_place, minimum_place, rate_place}
 use Rattle.tariff_syntax.specs.Tree.{Tree}
 use Rattle.tariff_syntax.specs.declared.context.Context.{Context}

@@ -8,9 +8,9 @@ use Rattle.tariff_calendar.proofs.Laws.{cuts_decide_conditions-initial, cuts_dec
 use Rattle.tariff_calendar.proofs.Laws.{cuts_decide_conditions-rate}
 use Rattle.tariff_calendar.specs.Lists.{lists_of}
 use Rattle.tariff_calendar.specs.Range.{IsSameCell}
-use Rattle.tariff_check.specs.Parts.{RateNumbers, minimums_of, rates_of}
-use Rattle.tariff_compile.specs.Tables.{all_initials, initial_by, initial_with, place_number}
-use Rattle.tariff_compile.specs.declared.parts.Initial as fees
+use Rattle.tariff_check.specs.Parts.{RateNumbers, initials_of, minimums_of, rates_of}
+use Rattle.tariff_check.specs.Amounts.{initial_by, initial_with, place_number}
+use Rattle.tariff_check.specs.declared.values.Initial as fees
 use Rattle.tariff_syntax.specs.Meaning.{initial_place, minimum_place, rate_place}
 use Rattle.tariff_syntax.specs.Tree.{Tree}
 use Rattle.tariff_syntax.specs.declared.meaning.LineKind.{LineKind}
@@ -76,7 +76,7 @@ counts_carried t k Minimum place n c is h = hiring_and t k n c _ _ is (ap (is_at
 
 abbrev by_places : Tree → (initial minimum : Option ℕ) → fees.Initial
 by_places t initial minimum =
-    initial_with (get_or (all_initials t) (unwrap_or initial 0) (record { amount = 0; covers = 0 }))
+    initial_with (get_or (initials_of t.lines) (unwrap_or initial 0) (record { amount = 0; covers = 0 }))
     (get_or (0 ∷ minimums_of t.lines) (place_number minimum) 0)
 
 fees_same : (t : Tree) (k : ℕ) (n c : MeterContext) → StandsFor t k n c

@@ -5,10 +5,9 @@ use Rattle.std.proofs.lemmas.Bool.{cases_lt, eq-eqb, eqb-true}
 use Rattle.drive_modes.specs.declared.meterage.Rounding.{Rounding}
 use Rattle.drive_modes.specs.declared.meterage.Rounding.TheVariants.{Behind, Ahead}
 use Rattle.tariff_check.proofs.Laws.{supplements_are_numbered_to_16}
-use Rattle.tariff_check.specs.Parts.{SupplementNumbers, positions_of, supplement_of, zones_of}
+use Rattle.tariff_check.specs.Parts.{positions_of, supplement_of, zones_of}
 use Rattle.tariff_check.specs.DisplayStep.{display_step}
-use Rattle.tariff_compile.specs.Tables.{supplement_at, supplement_in}
-use Rattle.tariff_compile.specs.declared.parts.Supplement as supplements
+use Rattle.tariff_check.specs.declared.values.Supplement as supplements
 use Rattle.tariff_syntax.specs.Tree.{Tree}
 use Rattle.tariff_syntax.specs.Writable.{IsFromTo, IsWritable}
 use Rattle.tariff_compare.specs.Differences.{frame_difference, is_same_rounding, is_same_supplement, other_supplement}
@@ -66,29 +65,15 @@ both_parts : (a b : Bool) → (if a then b else false) ≡ true → (a ≡ true)
 both_parts true b h = (refl, h)
 both_parts false b h = absurd (differ h)
 
-numbers_of : supplements.Supplement → SupplementNumbers
-numbers_of s = record { amount = s.amount; most = s.max }
-
-back : (o : Option SupplementNumbers) → option_map numbers_of (option_map supplement_in o) ≡ o
-unfolding numbers_of
-back None = refl
-back (Some s) = refl
-
-same_values : (s r : supplements.Supplement) → s.amount ≡ r.amount → s.max ≡ r.max → numbers_of s ≡ numbers_of r
-unfolding numbers_of
-same_values s r amount most =
-    let first : record { amount = s.amount; most = s.max } ≡ record { amount = r.amount; most = s.max } =
-    ap (λ (n : ℕ). record { amount = n; most = s.max }) amount in
-    first ∙ ap (λ (n : ℕ). record { amount = r.amount; most = n }) most
-
-same_supplements : (a b : Option supplements.Supplement) → is_same_supplement a b ≡ true
-    → option_map numbers_of a ≡ option_map numbers_of b
+same_supplements : (a b : Option supplements.Supplement) → is_same_supplement a b ≡ true → a ≡ b
 same_supplements None None h = refl
 same_supplements None (Some r) h = absurd (differ h)
 same_supplements (Some s) None h = absurd (differ h)
 same_supplements (Some s) (Some r) h =
     let parts = both_parts (eqb s.amount r.amount) (eqb s.max r.max) h in
-    ap Some (same_values s r (eqb-true s.amount r.amount parts.0) (eqb-true s.max r.max parts.1))
+    let amount = eqb-true s.amount r.amount parts.0 in
+    let most = eqb-true s.max r.max parts.1 in
+    λ i. Some (record { amount = amount i; max = most i })
 
 in_numbers : (n : ℕ) → IsFromTo 1 16 n → IsIn n supplement_numbers
 in_numbers n within = range_within 1 16 n within.0 (omega (arith, within.1))
@@ -99,11 +84,10 @@ supplement_same t u number t_is u_is none =
     elim (cases_lt 0 number) [
       | inl from ↦ elim (cases_lt number 17) [
         | inl to ↦
-            let same = not_false (is_same_supplement (supplement_at t number) (supplement_at u number))
-            (none_found (λ n. not (is_same_supplement (supplement_at t n) (supplement_at u n))) supplement_numbers none
+            let same = not_false (is_same_supplement (supplement_of t.lines number) (supplement_of u.lines number))
+            (none_found (λ n. not (is_same_supplement (supplement_of t.lines n) (supplement_of u.lines n))) supplement_numbers none
             number (in_numbers number (omega arith, omega arith))) in
-            sym (back (supplement_of t.lines number)) ∙ (same_supplements (supplement_at t number)
-            (supplement_at u number) same ∙ back (supplement_of u.lines number))
+            same_supplements (supplement_of t.lines number) (supplement_of u.lines number) same
         | inr beyond ↦
             supplements_are_numbered_to_16 t number t_is (λ within. omega (arith, within.1, beyond))
             ∙ sym (supplements_are_numbered_to_16 u number u_is (λ within. omega (arith, within.1, beyond)))
@@ -175,9 +159,9 @@ passes d b rest is none = rw is none
 
 pub same_frame : (t u : Tree) → HasSameFrame t u → frame_difference t u ≡ None
 same_frame t u same =
-    let supplements : (n : ℕ) → not (is_same_supplement (supplement_at t n) (supplement_at u n)) ≡ false = λ n.
-    ap not (ap (λ (o : Option SupplementNumbers). is_same_supplement (supplement_at t n) (option_map supplement_in o))
-    (sym (same.supplements n)) ∙ supplement_self (supplement_at t n)) in
+    let supplements : (n : ℕ) → not (is_same_supplement (supplement_of t.lines n) (supplement_of u.lines n)) ≡ false = λ n.
+    ap not (ap (is_same_supplement (supplement_of t.lines n)) (sym (same.supplements n))
+    ∙ supplement_self (supplement_of t.lines n)) in
     passes Decimals (eqb t.decimals u.decimals) _ (eq-eqb t.decimals u.decimals same.decimals)
     (passes Step (eqb (display_step t).0 (display_step u).0) _
     (eq-eqb (display_step t).0 (display_step u).0 (ap (λ (s : ℕ × Rounding). s.0) same.step))
@@ -187,5 +171,5 @@ same_frame t u same =
     (eq-eqb (positions_of t.lines) (positions_of u.lines) same.positions)
     (passes Zones (eqb (zones_of t.lines) (zones_of u.lines)) _
     (eq-eqb (zones_of t.lines) (zones_of u.lines) same.zones)
-    (ap (option_map Supplement) (none_other (λ n. not (is_same_supplement (supplement_at t n) (supplement_at u n)))
+    (ap (option_map Supplement) (none_other (λ n. not (is_same_supplement (supplement_of t.lines n) (supplement_of u.lines n)))
     supplement_numbers supplements))))))

@@ -5,8 +5,8 @@ use Rattle.drive_modes.specs.declared.meterage.Rounding.{Rounding}
 use Rattle.drive_modes.specs.declared.meterage.Rounding.TheVariants.{Behind, Ahead}
 use Rattle.tariff_check.specs.Parts.{positions_of, zones_of}
 use Rattle.tariff_check.specs.DisplayStep.{display_step}
-use Rattle.tariff_compile.specs.Tables.{supplement_at}
-use Rattle.tariff_compile.specs.declared.parts.Supplement as supplements
+use Rattle.tariff_check.specs.Parts.{supplement_of}
+use Rattle.tariff_check.specs.declared.values.Supplement as supplements
 use Rattle.tariff_syntax.specs.Tree.{Tree}
 use Rattle.tariff_syntax.specs.declared.meaning.LineKind.{LineKind}
 use Rattle.tariff_compare.specs.Searches.{first_met_by}
@@ -35,7 +35,7 @@ supplement_numbers = 1 ∷ 2 ∷ 3 ∷ 4 ∷ 5 ∷ 6 ∷ 7 ∷ 8 ∷ 9 ∷ 10 �
 -- the first supplement that differs is that of the lowest number
 abbrev pub other_supplement : (t u : Tree) → Option ℕ
 other_supplement t u =
-    find (λ number. not (is_same_supplement (supplement_at t number) (supplement_at u number))) supplement_numbers
+    find (λ number. not (is_same_supplement (supplement_of t.lines number) (supplement_of u.lines number))) supplement_numbers
 
 -- what differs first in the frame of two tariffs is the decimals, the display step, its rounding, the positions, the
 -- zones, or the supplement of the lowest number, or nothing

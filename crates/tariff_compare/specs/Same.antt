@@ -3,13 +3,13 @@ use Rattle.std.specs.Prelude.{◌≡◌, ℕ, ◌*◌, Bool, true, not, ◌&&◌
 use Rattle.std.specs.Option.{unwrap_or}
 use Rattle.tariff_check.specs.Parts.{RateNumbers, positions_of, rates_of, supplement_of, zones_of}
 use Rattle.tariff_check.specs.DisplayStep.{display_step}
-use Rattle.tariff_compile.specs.Tables.{initial_by}
+use Rattle.tariff_check.specs.Amounts.{initial_by}
 use Rattle.tariff_syntax.specs.Meaning.{rate_place}
 use Rattle.tariff_syntax.specs.Tree.{Tree}
 use Rattle.tariff_syntax.specs.declared.context.Context.{Context}
 use Rattle.tariff_syntax.specs.declared.meaning.LineKind.{LineKind}
 use Rattle.tariff_syntax.specs.declared.meaning.LineKind.TheVariants.{Rate, Initial, Minimum}
-use Rattle.tariff_compile.specs.declared.parts.Initial as fees
+use Rattle.tariff_check.specs.declared.values.Initial as fees
 use Rattle.tariff_compare.specs.Contexts.{IsFirst, IsMeterContext, context_at}
 use Rattle.tariff_compare.specs.Counting.{is_hiring}
 use Rattle.tariff_compare.specs.declared.meter_context.MeterContext.{MeterContext}

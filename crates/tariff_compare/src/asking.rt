@@ -11,7 +11,8 @@ use crate::day::{Day, day_in};
 use crate::meter_context::MeterContext;
 use crate::question::Question;
 use crate::side::Side;
-use tariff_compile::{Initial, Tables};
+use tariff_check::Initial;
+use tariff_compile::Tables;
 use tariff_syntax::{Context, LineKind};
 
 /// Whether the answer to a question is yes in a context.

@@ -5,7 +5,7 @@ ghost use Rattle.tariff_compare.specs.DifferenceTexts.{IsDatedOrNone};
 ghost use Rattle.tariff_compare.specs.Differences.{context_difference, difference_of, frame_difference, is_same_rounding, is_same_supplement, other_supplement};
 ghost use Rattle.tariff_compare.specs.Grids.{IsGridOf, grid_of};
 ghost use Rattle.tariff_compare.specs.Sides.{side_of};
-ghost use Rattle.tariff_compile.specs.Tables.{supplement_at};
+ghost use Rattle.tariff_check.specs.Parts.{supplement_of};
 ghost use Rattle.tariff_syntax.specs.Tree.{tree_of};
 
 use crate::asking::part_at;
@@ -16,8 +16,7 @@ use crate::search::first_met;
 use crate::side::Side;
 use drive_modes::{Constant, Rounding};
 use std::alloc::Global;
-use tariff_check::Checked;
-use tariff_compile::{Supplement, supplement_of};
+use tariff_check::{Checked, Supplement};
 use tariff_syntax::LineKind;
 use taxi_units::NoMemory;
 
@@ -108,8 +107,8 @@ fn other_supplement(one: &Checked, other: &Checked) -> Option<u8>
 
 /// The first of some numbers whose supplements differ.
 fn first_other(one: &Checked, other: &Checked, numbers: &[u8]) -> Option<u8>
-    ensures { result ≡ find (λ number. not (is_same_supplement (supplement_at (tree_of one.now) number)
-        (supplement_at (tree_of other.now) number))) numbers.now }
+    ensures { result ≡ find (λ number. not (is_same_supplement (supplement_of (tree_of one.now).lines number)
+        (supplement_of (tree_of other.now).lines number))) numbers.now }
 {
     for number in numbers {
         if !has_same_supplement(one, other, *number) {
@@ -121,12 +120,10 @@ fn first_other(one: &Checked, other: &Checked, numbers: &[u8]) -> Option<u8>
 
 /// Whether the supplements of a number are the same.
 fn has_same_supplement(one: &Checked, other: &Checked, number: u8) -> bool
-    ensures { result ≡ is_same_supplement (supplement_at (tree_of one.now) number)
-        (supplement_at (tree_of other.now) number) }
+    ensures { result ≡ is_same_supplement (supplement_of (tree_of one.now).lines number)
+        (supplement_of (tree_of other.now).lines number) }
 {
-    let first = supplement_of(one, number);
-    let second = supplement_of(other, number);
-    is_same_supplement(first, second)
+    is_same_supplement(one.supplement(number), other.supplement(number))
 }
 
 /// Whether two supplements are the same.

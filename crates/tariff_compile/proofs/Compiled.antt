@@ -1,7 +1,7 @@
 -- What compiled tables have: the ranges of their numbers, and what is looked up in them.
-use Rattle.std.proofs.Common.{◌≡◌, ◌∙◌, ap, sym, subst, add-one, ltb, ℕ, zero, suc, ◌+◌, ◌-◌, ◌*◌, ◌^◌, ◌<◌, ◌≤◌, ℤ}
+use Rattle.std.proofs.Common.{◌≡◌, ◌∙◌, ap, sym, subst, ltb, ℕ, zero, suc, ◌+◌, ◌-◌, ◌*◌, ◌^◌, ◌<◌, ◌≤◌, ℤ}
 use Rattle.std.proofs.Common.{Bool, true, false, if◌then◌else◌, length, get_or, List, [], ◌∷◌, Option, Some, None}
-use Rattle.std.proofs.Common.{MatchOption, All, refl, arith}
+use Rattle.std.proofs.Common.{All, refl, arith}
 use Rattle.std.proofs.Math.Nat.{mul-pos, mul_assoc}
 use Rattle.std.proofs.lemmas.Bool.{lt-ltb}
 use Rattle.std.proofs.lemmas.List.{get_or-map, get_or_default, length-map}
@@ -9,8 +9,6 @@ use Rattle.std.proofs.lemmas.List.Elements.{All-head, All-map, All-tail, All-wea
 use Rattle.std.proofs.lemmas.List.FromFn.{get_or-map-range_with_len, length-map-range_with_len}
 use Rattle.std.proofs.lemmas.Nat.{mul-le}
 use Rattle.std.proofs.lemmas.Option.{slice_get-get_or}
-use Rattle.std.specs.List.{slice_get}
-use Rattle.std.specs.Option.{option_map}
 use Rattle.drive_modes.specs.declared.charges.Weights.{Weights}
 use Rattle.interval_clock.specs.Calendar.{IsDateOf}
 use Rattle.tariff_calendar.specs.Lists.{CutLists, count_at_most, has_day, has_days, is_holiday, lists_of, pulses_for}
@@ -30,14 +28,15 @@ use Rattle.tariff_syntax.specs.Writable.{IsFromTo, IsWritable}
 use Rattle.tariff_syntax.specs.declared.context.Context.{Context}
 use Rattle.taxi_units.specs.Counted.{IsElement}
 use Rattle.tariff_compile.specs.Cells.{IsBelow, IsNarrow, bands_at, bands_of, cell_count, cell_number, sizes_of}
-use Rattle.tariff_compile.specs.Tables.{AreFit, HasAmountsOf, HasWeightsOf, IsCompiled, IsFit, IsInRangeFor, IsTablesOf}
-use Rattle.tariff_compile.specs.Tables.{TableParts, all_cells, all_initials, all_weights, context_of, fee_of, fees_in}
-use Rattle.tariff_compile.specs.Tables.{initial_by, initial_with, lines_at, lines_in, place_number, rate_by, sizes_for}
-use Rattle.tariff_compile.specs.Tables.{sizes_in, supplement_at, supplement_in, tables_of, weights_of}
+use Rattle.tariff_compile.specs.Tables.{AreFit, HasWeightsOf, IsCompiled, IsFit, IsInRangeFor, IsTablesOf}
+use Rattle.tariff_compile.specs.Tables.{TableParts, all_cells, all_weights, context_of, fees_in}
+use Rattle.tariff_compile.specs.Tables.{lines_at, lines_in, rate_by, sizes_for}
+use Rattle.tariff_check.specs.Amounts.{initial_by, initial_with, place_number}
+use Rattle.tariff_compile.specs.Tables.{sizes_in, tables_of, weights_of}
+use Rattle.tariff_check.specs.Parts.{supplement_of}
 use Rattle.tariff_compile.specs.declared.parts.Bands.{Bands}
 use Rattle.tariff_compile.specs.declared.parts.CellLines.{CellLines}
-use Rattle.tariff_compile.specs.declared.parts.Fee.{Fee}
-use Rattle.tariff_compile.specs.declared.parts.Supplement.{Supplement}
+use Rattle.tariff_check.specs.declared.values.Supplement.{Supplement}
 use Rattle.tariff_check.proofs.Laws.{lines_that_hold_are_there-initial, lines_that_hold_are_there-minimum}
 use Rattle.tariff_check.proofs.Laws.{lines_that_hold_are_there-rate, sound_tariffs_have_sound_parts-parts}
 use Rattle.tariff_compile.proofs.Fits.{weights_of-fit}
@@ -250,37 +249,25 @@ weights-fit tables (t, is) =
     (λ r. weights_of-fit k measure r is.constant parts.measure.1) (rates_of t.lines) parts.rates) in
     subst (λ (p : TableParts). All (AreFit p.measure) p.weights) (sym is.parts) all
 
-length-all_initials : (t : Tree) → length (all_initials t) ≡ length (initials_of t.lines)
-length-all_initials t = length-map (initials_of t.lines) fee_of
-
 -- the initial hire fee of a context is there
 pub initial-below : (t : Tree) (tables : TableParts) (x : Context) → IsTablesOf t tables
     → (lines_at t x).initial < length tables.initials
 initial-below t tables x is =
-    rw (ap (λ (p : TableParts). length p.initials) is.parts ∙ length-all_initials t) (initial_place-below t x is.sound)
+    rw (ap (λ (p : TableParts). length p.initials) is.parts) (initial_place-below t x is.sound)
 
 -- and is the one that holds first
-pub initial-amounts : (t : Tree) (tables : TableParts) (x : Context) (d : Fee) → IsTablesOf t tables
+pub initial-amounts : (t : Tree) (tables : TableParts) (x : Context) (d : InitialNumbers) → IsTablesOf t tables
     → get_or tables.initials (lines_at t x).initial d
-    ≡ get_or (all_initials t) (lines_at t x).initial (record { amount = 0; covers = 0 })
+    ≡ get_or (initials_of t.lines) (lines_at t x).initial (record { amount = 0; covers = 0 })
 initial-amounts t tables x d is =
     get_or_default tables.initials (lines_at t x).initial d (record { amount = 0; covers = 0 })
     (initial-below t tables x is)
     ∙ ap (λ (p : TableParts). get_or p.initials (lines_at t x).initial (record { amount = 0; covers = 0 })) is.parts
 
--- how large an initial hire fee and its cover are
-pub record IsFitFee (fee : Fee) : Type 0 where
-  pub amount : fee.amount ≤ largest_amount
-  pub covers : fee.covers ≤ largest_amount
-
--- all initial hire fees are fit
-pub fees-fit : (tables : TableParts) → IsCompiled tables → All IsFitFee tables.initials
+-- all initial hire fees are sound
+pub fees-fit : (tables : TableParts) → IsCompiled tables → All IsSoundInitial tables.initials
 fees-fit tables (t, is) =
-    let parts = parts_of_tree t tables is in
-    let all : All IsFitFee (all_initials t) = All-map IsFitFee fee_of (initials_of t.lines)
-    (All-weaker IsSoundInitial (λ i. IsFitFee (fee_of i))
-    (λ i sound. record { amount = sound.amount; covers = sound.covers }) (initials_of t.lines) parts.initials) in
-    subst (λ (p : TableParts). All IsFitFee p.initials) (sym is.parts) all
+    subst (λ (p : TableParts). All IsSoundInitial p.initials) (sym is.parts) (parts_of_tree t tables is).initials
 
 -- and so are all minimum fares
 pub minimums-fit : (tables : TableParts) → IsCompiled tables → All (λ amount. amount ≤ largest_amount) tables.minimums
@@ -309,10 +296,10 @@ minimum-amount t tables x is = ap (λ (p : TableParts). get_or (0 ∷ p.minimums
 pub fees_in_is : (t : Tree) (tables : TableParts) (x : Context) → IsTablesOf t tables → IsInRangeFor tables x
     → fees_in tables x ≡ initial_by t x
 fees_in_is t tables x is x_in =
-    let none : Fee = record { amount = 0; covers = 0 } in
+    let none : InitialNumbers = record { amount = 0; covers = 0 } in
     ap (λ (lines : CellLines). initial_with (get_or tables.initials lines.initial none)
     (get_or (0 ∷ tables.minimums) lines.minimum 0)) (lines_in_is t tables x is x_in)
-    ∙ (ap (λ (f : Fee). initial_with f (get_or (0 ∷ tables.minimums) (lines_at t x).minimum 0))
+    ∙ (ap (λ (f : InitialNumbers). initial_with f (get_or (0 ∷ tables.minimums) (lines_at t x).minimum 0))
     (initial-amounts t tables x none is)
     ∙ ap (initial_with _) (minimum-amount t tables x is))
 
@@ -330,18 +317,18 @@ minimum-fit minimums (suc n) all = all_fit minimums n all
 
 -- a supplement is at the place before its number
 pub supplement-there : (t : Tree) (tables : TableParts) (number : ℕ) (d : Option Supplement) → IsTablesOf t tables
-    → IsFromTo 1 16 number → get_or tables.supplements (number - 1) d ≡ supplement_at t number
+    → IsFromTo 1 16 number → get_or tables.supplements (number - 1) d ≡ supplement_of t.lines number
 supplement-there t tables number d is range =
     ap (λ (p : TableParts). get_or p.supplements (number - 1) d) is.parts
-    ∙ (get_or-map-range_with_len (λ (place : ℕ). supplement_at t (place + 1)) 0 16 (number - 1) (number - 1) d
+    ∙ (get_or-map-range_with_len (λ (place : ℕ). supplement_of t.lines (place + 1)) 0 16 (number - 1) (number - 1) d
     (omega (arith, range.0, range.1)) (omega arith)
-    ∙ ap (supplement_at t) (omega (arith, range.0)))
+    ∙ ap (supplement_of t.lines) (omega (arith, range.0)))
 
 -- and no other number has one
 pub supplement-none : (t : Tree) (tables : TableParts) (number : ℕ) → IsTablesOf t tables → (IsFromTo 1 16 number → ⊥)
-    → None ≡ supplement_at t number
+    → None ≡ supplement_of t.lines number
 supplement-none t tables number is out =
-    sym (ap (option_map supplement_in) (supplements_are_numbered_to_16 t number is.writable out))
+    sym (supplements_are_numbered_to_16 t number is.writable out)
 
 -- a day is a holiday where its date is in a holiday line
 pub holiday-dates : (t : Tree) (tables : TableParts) (day : ℤ) (year month date : ℕ) → IsTablesOf t tables
@@ -371,26 +358,4 @@ has_weights t k x sound =
       there = slice_get-get_or (rates_of t.lines) always.0 none always.2;
       weights =
           rw always.1 (get_or-map (weights_of k (measure_of t.lines)) (rates_of t.lines) always.0 none _ always.2);
-    }
-
-minimum_said : (minimums : List ℕ) (o : Option ℕ) → ((place : ℕ) → o ≡ Some place → place < length minimums)
-    → MatchOption o (get_or (0 ∷ minimums) (place_number o) 0 ≡ 0)
-    (λ n. slice_get minimums n ≡ Some (get_or (0 ∷ minimums) (place_number o) 0))
-minimum_said minimums None there = refl
-minimum_said minimums (Some place) there = rw add-one (slice_get-get_or minimums place 0 (there place refl))
-
-pub has_amounts : (t : Tree) (x : Context) → IsSound t → HasAmountsOf t x (initial_by t x)
-has_amounts t x sound =
-    let always = lines_that_hold_are_there-initial t x sound in
-    let none : InitialNumbers = record { amount = 0; covers = 0 } in
-    record {
-      place = always.0;
-      fee = get_or (initials_of t.lines) always.0 none;
-      first = always.1;
-      there = slice_get-get_or (initials_of t.lines) always.0 none always.2;
-      amount = rw always.1 (ap (λ (f : Fee). f.amount)
-          (get_or-map fee_of (initials_of t.lines) always.0 none (record { amount = 0; covers = 0 }) always.2));
-      covers = rw always.1 (ap (λ (f : Fee). f.covers)
-          (get_or-map fee_of (initials_of t.lines) always.0 none (record { amount = 0; covers = 0 }) always.2));
-      minimum = minimum_said (minimums_of t.lines) (minimum_place t x) (lines_that_hold_are_there-minimum t x);
     }

@@ -4,14 +4,17 @@ use Rattle.std.specs.List.{slice_get}
 use Rattle.tariff_calendar.specs.Range.{IsInRangeOf}
 use Rattle.tariff_check.specs.Cells.{cells_of}
 use Rattle.tariff_check.specs.Faults.{IsSound}
+use Rattle.tariff_check.proofs.Laws.{hirings_begin_with_first_lines-amounts}
 use Rattle.tariff_compile.specs.Cells.{IsBefore, IsBelow, bands_of, cell_count, cell_number, places_of}
 use Rattle.tariff_compile.specs.Rows.{all_rows, row_count, row_text}
-use Rattle.tariff_compile.specs.Tables.{HasAmountsOf, HasLinesOf, HasWeightsOf, IsCompiled, IsFit, IsInRangeFor}
-use Rattle.tariff_compile.specs.Tables.{IsTablesOf, TableParts, cell_of, fees_in, initial_by, lines_at, lines_in}
+use Rattle.tariff_compile.specs.Tables.{HasLinesOf, HasWeightsOf, IsCompiled, IsFit, IsInRangeFor}
+use Rattle.tariff_check.specs.Amounts.{HasAmountsOf}
+use Rattle.tariff_compile.specs.Tables.{IsTablesOf, TableParts, cell_of, fees_in, lines_at, lines_in}
+use Rattle.tariff_check.specs.Amounts.{initial_by}
 use Rattle.tariff_compile.specs.Tables.{rate_by, tables_of}
 use Rattle.tariff_compile.specs.declared.parts.Bands.{Bands}
 use Rattle.tariff_compile.specs.declared.parts.CellLines.{CellLines}
-use Rattle.tariff_compile.proofs.Compiled.{cell_count-cells_of, fees_in_is, has_amounts, has_weights, length-all_cells}
+use Rattle.tariff_compile.proofs.Compiled.{cell_count-cells_of, fees_in_is, has_weights, length-all_cells}
 use Rattle.tariff_compile.proofs.Compiled.{lines_in_is, tables_fit}
 use Rattle.tariff_compile.proofs.ContextLines.{cell_names_lines}
 use Rattle.tariff_compile.proofs.Numbering.{bands_of-cell_number, bands_of-place, cell_number-bands_of}
@@ -29,7 +32,7 @@ pub tables_equal_the_tree-weights : (t : Tree) (k : ℕ) (x : Context) → IsSou
 tables_equal_the_tree-weights = has_weights
 
 pub tables_equal_the_tree-amounts : (t : Tree) (x : Context) → IsSound t → HasAmountsOf t x (initial_by t x)
-tables_equal_the_tree-amounts = has_amounts
+tables_equal_the_tree-amounts = hirings_begin_with_first_lines-amounts
 
 pub tables_equal_the_tree-lines : (t : Tree) (tables : TableParts) (x : Context) → IsTablesOf t tables
     → IsInRangeFor tables x → lines_in tables x ≡ lines_at t x

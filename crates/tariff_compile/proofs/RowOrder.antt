@@ -8,7 +8,7 @@ use Rattle.tariff_compile.specs.Rows.{all_rows, cell_row, has_minimums, initial_
 use Rattle.tariff_compile.specs.Rows.{row_count, row_text}
 use Rattle.tariff_compile.specs.Tables.{TableParts}
 use Rattle.tariff_compile.specs.declared.parts.CellLines.{CellLines}
-use Rattle.tariff_compile.specs.declared.parts.Fee.{Fee}
+use Rattle.tariff_check.specs.Parts.{InitialNumbers}
 use Rattle.drive_modes.specs.declared.charges.Weights.{Weights}
 
 length-numbered : {A : Type 0} (row : ℕ → A → List ℕ) (first : ℕ) (xs : List A)
@@ -84,7 +84,7 @@ after_rates tables i j is =
     (λ n. get_or (numbered (initial_row tables.decimals) 1 tables.initials ++ (numbered (minimum_row tables.decimals) 1
     tables.minimums ++ numbered (cell_row (has_minimums tables)) 0 tables.cells)) n []) back
 
-at_initial : (tables : TableParts) (i j : ℕ) (d : Fee) → i ≡ length tables.weights + j → j < length tables.initials
+at_initial : (tables : TableParts) (i j : ℕ) (d : InitialNumbers) → i ≡ length tables.weights + j → j < length tables.initials
     → row_at tables (suc i) ≡ initial_row tables.decimals (1 + j) (get_or tables.initials j d)
 at_initial tables i j d is h =
     after_rates tables i j is ∙ in_front (initial_row tables.decimals) 1 tables.initials _ j d h

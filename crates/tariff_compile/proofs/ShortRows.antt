@@ -11,16 +11,17 @@ use Rattle.std.proofs.lemmas.List.FromFn.{get_or-map-range_with_len}
 use Rattle.taxi_units.specs.Number.{money_text, padded_text}
 use Rattle.drive_modes.specs.declared.charges.Weights.{Weights}
 use Rattle.tariff_syntax.specs.Tree.{Tree}
+use Rattle.tariff_check.specs.Sound.{IsSoundInitial}
 use Rattle.tariff_compile.specs.Rows.{cell_row, has_minimums, initial_row, measure_row, minimum_field, minimum_row}
 use Rattle.tariff_compile.specs.Rows.{rate_row, row_count, row_text}
 use Rattle.tariff_compile.specs.Tables.{AreFit, IsCompiled, IsTablesOf, TableParts, context_of, lines_at, sizes_in}
 use Rattle.tariff_compile.specs.Cells.{cell_count}
 use Rattle.tariff_compile.specs.declared.parts.CellLines.{CellLines}
-use Rattle.tariff_compile.specs.declared.parts.Fee.{Fee}
+use Rattle.tariff_check.specs.Parts.{InitialNumbers}
 use Rattle.tariff_check.proofs.Laws.{lines_that_hold_are_there-minimum}
 use Rattle.tariff_check.specs.Parts.{minimums_of}
 use Rattle.tariff_syntax.specs.Meaning.{minimum_place}
-use Rattle.tariff_compile.proofs.Compiled.{IsFitFee, all_fit, cell_count-most, fees-fit, initial_place-below}
+use Rattle.tariff_compile.proofs.Compiled.{all_fit, cell_count-most, fees-fit, initial_place-below}
 use Rattle.tariff_compile.proofs.Compiled.{length-all_cells, measure_range, minimums-fit, number_few, parts_of_tree}
 use Rattle.tariff_compile.proofs.Compiled.{rate_place-below, weights-fit}
 
@@ -91,7 +92,7 @@ rate_short number w n p t =
     let whole = joined_short (codes "RATE ") _ 120 (omega arith) (omega arith) behind in
     record { some = whole.0; few = omega (arith, whole.1) }
 
-initial_short : (decimals number : ℕ) (i : Fee) → decimals ≤ 3 → number < 2 ^ 128 → i.amount < 2 ^ 64
+initial_short : (decimals number : ℕ) (i : InitialNumbers) → decimals ≤ 3 → number < 2 ^ 128 → i.amount < 2 ^ 64
     → i.covers < 2 ^ 64 → IsShort (initial_row decimals number i)
 initial_short decimals number i few n a v =
     let covers = blank_money decimals i.covers (codes "\n") 1 few v (omega arith) in
@@ -172,7 +173,7 @@ row_short tables row (t, is) h wide =
     rate_short (rate + 1) _ (omega (arith, wide)) (omega (arith, fit.per_pulse)) (omega (arith, fit.per_tick)))
     (λ second. if_short (ltb initial (length tables.initials)) _ _
     (λ e.
-    let fit : IsFitFee (get_or tables.initials initial (record { amount = 0; covers = 0 })) = All-get_or IsFitFee
+    let fit : IsSoundInitial (get_or tables.initials initial (record { amount = 0; covers = 0 })) = All-get_or IsSoundInitial
     tables.initials initial (record { amount = 0; covers = 0 }) (ltb-true _ _ e) (fees-fit tables compiled) in
     initial_short tables.decimals (initial + 1) _ decimals (omega (arith, wide)) (omega (arith, fit.amount))
     (omega (arith, fit.covers)))

@@ -5,7 +5,7 @@ use Rattle.taxi_units.specs.Number.{money_text}
 use Rattle.drive_modes.specs.declared.charges.Weights.{Weights}
 use Rattle.tariff_compile.specs.Tables.{TableParts}
 use Rattle.tariff_compile.specs.declared.parts.CellLines.{CellLines}
-use Rattle.tariff_compile.specs.declared.parts.Fee.{Fee}
+use Rattle.tariff_check.specs.Parts.{InitialNumbers}
 
 -- the row `MEASURE` says how many units of charge make the smallest unit of money
 abbrev pub measure_row : (measure : ℕ) → List ℕ
@@ -18,7 +18,7 @@ rate_row number w =
     (decimal number ++ (codes " " ++ (decimal w.per_pulse ++ (codes " " ++ (decimal w.per_tick ++ codes "\n")))))
 
 -- the row of an initial hire fee says its number, its amount and its cover
-abbrev pub initial_row : (decimals number : ℕ) → Fee → List ℕ
+abbrev pub initial_row : (decimals number : ℕ) → InitialNumbers → List ℕ
 initial_row decimals number fee =
     codes "INITIAL " ++
     (decimal number ++

@@ -1,30 +1,29 @@
 -- Rules: the tables of a tariff under a constant, and what they are looked up for.
 use Rattle.std.specs.Prelude.{◌≡◌, ℕ, ◌+◌, ◌*◌, ◌/◌, ◌^◌, ◌<◌, ◌≤◌, if◌then◌else◌, List, ◌∷◌, map, get_or, Option}
-use Rattle.std.specs.Prelude.{Some, None, MatchOption}
+use Rattle.std.specs.Prelude.{Some}
 use Rattle.std.specs.List.{range_with_len, slice_get}
-use Rattle.std.specs.Option.{unwrap_or, option_map}
+use Rattle.std.specs.Option.{unwrap_or}
 use Rattle.drive_modes.specs.declared.charges.Weights.{Weights}
 use Rattle.drive_modes.specs.declared.meterage.Rounding.{Rounding}
 use Rattle.drive_modes.specs.Constant.{least_constant, greatest_constant}
-use Rattle.taxi_units.specs.Money.{largest_amount}
 use Rattle.tariff_syntax.specs.Meaning.{rate_place, initial_place, minimum_place}
 use Rattle.tariff_syntax.specs.Tree.{Tree}
 use Rattle.tariff_syntax.specs.Writable.{IsFromTo, IsWritable}
 use Rattle.tariff_syntax.specs.declared.context.Context.{Context}
+use Rattle.tariff_check.specs.Amounts.{initial_with, place_number}
 use Rattle.tariff_check.specs.Cells.{day_kinds}
 use Rattle.tariff_check.specs.Faults.{IsSound}
 use Rattle.tariff_check.specs.Measure.{measure_of}
 use Rattle.tariff_check.specs.DisplayStep.{display_step}
-use Rattle.tariff_check.specs.Parts.{RateNumbers, InitialNumbers, SupplementNumbers, positions_of, zones_of}
+use Rattle.tariff_check.specs.Parts.{RateNumbers, InitialNumbers, positions_of, zones_of}
 use Rattle.tariff_check.specs.Parts.{supplement_of, initials_of, minimums_of, rates_of}
 use Rattle.tariff_calendar.specs.Lists.{CutLists, has_days, lists_of}
 use Rattle.tariff_calendar.specs.Range.{IsInRange}
 use Rattle.tariff_compile.specs.Cells.{sizes_of, cell_count, cell_number, bands_of, bands_at, context_in}
 use Rattle.tariff_compile.specs.declared.parts.Bands.{Bands}
 use Rattle.tariff_compile.specs.declared.parts.CellLines.{CellLines}
-use Rattle.tariff_compile.specs.declared.parts.Fee.{Fee}
-use Rattle.tariff_compile.specs.declared.parts.Initial.{Initial}
-use Rattle.tariff_compile.specs.declared.parts.Supplement.{Supplement}
+use Rattle.tariff_check.specs.declared.values.Initial.{Initial}
+use Rattle.tariff_check.specs.declared.values.Supplement.{Supplement}
 
 -- tables have the cuts of their tariff, the weights of its rates, its initial hire fees, its minimum fares, the lines
 -- of its cells and its supplements, the constant, M, the display step and its rounding, and the decimals, positions and
@@ -32,7 +31,7 @@ use Rattle.tariff_compile.specs.declared.parts.Supplement.{Supplement}
 pub record TableParts : Type 0 where
   pub cuts : CutLists
   pub weights : List Weights
-  pub initials : List Fee
+  pub initials : List InitialNumbers
   pub minimums : List ℕ
   pub cells : List CellLines
   pub supplements : List (Option Supplement)
@@ -49,31 +48,9 @@ pub record TableParts : Type 0 where
 abbrev pub weights_of : (k common : ℕ) → RateNumbers → Weights
 weights_of k common r = record { per_pulse = 10000 * r.a * (common / r.b); per_tick = r.c * k * (common / r.e) }
 
--- the fee of an initial hire fee in the tables is its amount and its cover
-abbrev pub fee_of : InitialNumbers → Fee
-fee_of i = record { amount = i.amount; covers = i.covers }
-
--- a supplement in the tables is its amount and how often a hiring may have it
-abbrev pub supplement_in : SupplementNumbers → Supplement
-supplement_in s = record { amount = s.amount; max = s.most }
-
 -- the weights in the tables of a tariff are those of each of its rates, in order
 abbrev pub all_weights : Tree → (k : ℕ) → List Weights
 all_weights t k = map (weights_of k (measure_of t.lines)) (rates_of t.lines)
-
--- the initial hire fees in the tables of a tariff are the amount and the cover of each, in order
-abbrev pub all_initials : Tree → List Fee
-all_initials t = map fee_of (initials_of t.lines)
-
--- the supplement of a number in the tables of a tariff is its amount and how often a hiring may have it, if the
--- tariff has one
-abbrev pub supplement_at : Tree → (number : ℕ) → Option Supplement
-supplement_at t number = option_map supplement_in (supplement_of t.lines number)
-
--- the number of a place that may be none is one more than the place, and 0 for none
-abbrev pub place_number : Option ℕ → ℕ
-place_number None = 0
-place_number (Some place) = place + 1
 
 -- the lines of a context are the rate that holds first in it, and the initial hire fee and the minimum fare that hold
 -- first at its hiring
@@ -115,10 +92,10 @@ tables_of t k =
     record {
       cuts = lists_of t k;
       weights = all_weights t k;
-      initials = all_initials t;
+      initials = initials_of t.lines;
       minimums = minimums_of t.lines;
       cells = all_cells t k;
-      supplements = map (λ place. supplement_at t (place + 1)) (range_with_len 0 16);
+      supplements = map (λ place. supplement_of t.lines (place + 1)) (range_with_len 0 16);
       constant = k;
       measure = k * measure_of t.lines;
       step = (display_step t).0;
@@ -153,17 +130,6 @@ IsCompiled tables = (t : Tree) × IsTablesOf t tables
 abbrev pub rate_by : Tree → (k : ℕ) → Context → Weights
 rate_by t k x = get_or (all_weights t k) (unwrap_or (rate_place t x) 0) (record { per_pulse = 0; per_tick = 0 })
 
--- an initial hire fee and a minimum fare are looked up together, as one value
-abbrev pub initial_with : Fee → (minimum : ℕ) → Initial
-initial_with fee minimum = record { amount = fee.amount; covers = fee.covers; minimum = minimum }
-
--- the initial hire fee of a context by the tree is the one that holds first at its hiring, with the minimum fare that
--- does, or 0 if none does
-abbrev pub initial_by : Tree → Context → Initial
-initial_by t x =
-    initial_with (get_or (all_initials t) (unwrap_or (initial_place t x) 0) (record { amount = 0; covers = 0 }))
-    (get_or (0 ∷ minimums_of t.lines) (place_number (minimum_place t x)) 0)
-
 -- the lines that tables have for a context are those of the cell in which it is
 abbrev pub lines_in : TableParts → Context → CellLines
 lines_in tables x =
@@ -184,18 +150,6 @@ pub record HasWeightsOf (t : Tree) (k : ℕ) (x : Context) (w : Weights) : Type 
   pub there : slice_get (rates_of t.lines) place ≡ Some rate
   pub weights : w ≡ weights_of k (measure_of t.lines) rate
 
--- amounts are those of a context if they are the ones of the initial hire fee that holds first at its hiring, and of
--- the minimum fare that does, or 0 if none holds
-pub record HasAmountsOf (t : Tree) (x : Context) (i : Initial) : Type 0 where
-  pub place : ℕ
-  pub fee : InitialNumbers
-  pub first : initial_place t x ≡ Some place
-  pub there : slice_get (initials_of t.lines) place ≡ Some fee
-  pub amount : i.amount ≡ fee.amount
-  pub covers : i.covers ≡ fee.covers
-  pub minimum : MatchOption (minimum_place t x) (i.minimum ≡ 0)
-      (λ n. slice_get (minimums_of t.lines) n ≡ Some i.minimum)
-
 -- weights are fit if they are within the limits of charges, and a pulse is at most 20,000,000 of the smallest units
 -- of money and a tick at most 1,000,000
 pub record AreFit (measure : ℕ) (w : Weights) : Type 0 where
@@ -203,12 +157,6 @@ pub record AreFit (measure : ℕ) (w : Weights) : Type 0 where
   pub per_tick : w.per_tick ≤ 2 * 10 ^ 29
   pub pulse_units : w.per_pulse ≤ 2 * 10 ^ 7 * measure
   pub tick_units : w.per_tick ≤ 10 ^ 6 * measure
-
--- an initial hire fee is fit if it, its cover and its minimum fare are at most 99,999,999
-pub record IsFitInitial (i : Initial) : Type 0 where
-  pub amount : i.amount ≤ largest_amount
-  pub covers : i.covers ≤ largest_amount
-  pub minimum : i.minimum ≤ largest_amount
 
 -- tables are fit if their measure, step, decimals, positions and zones are within their limits
 pub record IsFit (tables : TableParts) : Type 0 where

@@ -5,7 +5,8 @@ ghost use Rattle.std.specs.Prelude.{◌≡◌, ℕ, ◌-◌, ◌<◌, ◌≤◌,
 ghost use Rattle.tariff_calendar.specs.Lists.{lists_of};
 ghost use Rattle.tariff_check.specs.Sound.{HasSoundParts};
 ghost use Rattle.tariff_compile.specs.Cells.{HasLowCuts, IsBelow, IsNarrow, bands_of, context_in};
-ghost use Rattle.tariff_compile.specs.Tables.{all_cells, lines_at, place_number};
+ghost use Rattle.tariff_compile.specs.Tables.{all_cells, lines_at};
+ghost use Rattle.tariff_check.specs.Amounts.{place_number};
 ghost use Rattle.tariff_syntax.specs.Meaning.{at_hiring};
 ghost use Rattle.tariff_syntax.specs.Tree.{tree_of};
 

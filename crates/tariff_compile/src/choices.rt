@@ -1,31 +1,16 @@
 //! What the choices and the supplements of a tariff say to its tables.
 ghost use Rattle.std.specs.List.{range_with_len};
-ghost use Rattle.std.specs.Option.{option_map};
 ghost use Rattle.std.specs.Prelude.{◌≡◌, ◌+◌, ◌^◌, ◌≤◌, All, IfOk, map};
 ghost use Rattle.tariff_check.specs.Parts.{supplement_of};
 ghost use Rattle.tariff_check.specs.Sound.{IsSoundRate};
 ghost use Rattle.tariff_check.specs.SoundTariff.{own_values};
-ghost use Rattle.tariff_compile.specs.Tables.{fee_of, supplement_in, weights_of};
+ghost use Rattle.tariff_compile.specs.Tables.{weights_of};
 ghost use Rattle.tariff_syntax.specs.Tree.{tree_of};
 
-use crate::parts::{Fee, Supplement};
 use drive_modes::{Constant, Weights};
 use std::alloc::Global;
-use tariff_check::{Checked, Choice, InitialNumbers, RateNumbers};
+use tariff_check::{Checked, Choice, RateNumbers, Supplement};
 use taxi_units::NoMemory;
-
-/// The supplement of a number; `None` exactly where the tariff has none.
-pub fn supplement_of(checked: &Checked, wanted: u8) -> Option<Supplement>
-    ensures { result ≡ option_map supplement_in (supplement_of (tree_of checked.now).lines wanted) }
-{
-    match checked.supplement(wanted) {
-        Some(said) => Some(Supplement {
-            amount: said.amount,
-            max: said.most,
-        }),
-        None => None,
-    }
-}
 
 /// The supplements of the numbers 1 to 16, where the tariff has them.
 pub(crate) fn all_supplements(
@@ -33,40 +18,19 @@ pub(crate) fn all_supplements(
     checked: &Checked,
 ) -> Result<Vec<Option<Supplement>>, NoMemory>
     ensures { IfOk result (λ all. all.items ≡ map
-        (λ place. option_map supplement_in (supplement_of (tree_of checked.now).lines (place + 1)))
-        (range_with_len 0 16)) }
+        (λ place. supplement_of (tree_of checked.now).lines (place + 1)) (range_with_len 0 16)) }
 {
     let mut all = Vec::new(alloc);
     for place in 0..16u8 {
-        if all.push(supplement_of(checked, place + 1)).is_err() {
+        if all.push(checked.supplement(place + 1)).is_err() {
             return Err(NoMemory);
         }
     }
     Ok(all)
 }
 
-/// The initial hire fees of some choices, in their order.
-pub(crate) fn all_initials(
-    alloc: Global,
-    choices: &[Choice<InitialNumbers>],
-) -> Result<Vec<Fee>, NoMemory>
-    ensures { IfOk result (λ all. all.items ≡ map fee_of (own_values choices.now)) }
-{
-    let mut all = Vec::new(alloc);
-    for choice in choices {
-        let fee = Fee {
-            amount: choice.value.amount,
-            covers: choice.value.covers,
-        };
-        if all.push(fee).is_err() {
-            return Err(NoMemory);
-        }
-    }
-    Ok(all)
-}
-
-/// The amounts of some choices of minimum fares, in their order.
-pub(crate) fn all_minimums(alloc: Global, choices: &[Choice<u64>]) -> Result<Vec<u64>, NoMemory>
+/// What some choices say, in their order.
+pub(crate) fn all_values<V: Copy>(alloc: Global, choices: &[Choice<V>]) -> Result<Vec<V>, NoMemory>
     ensures { IfOk result (λ all. all.items ≡ own_values choices.now) }
 {
     let mut all = Vec::new(alloc);

@@ -4,7 +4,7 @@ ghost use Rattle.tariff_compile.specs.Tables.{IsFit, IsTablesOf, tables_of};
 ghost use Rattle.tariff_syntax.specs.Tree.{tree_of};
 
 use crate::cells::all_cells;
-use crate::choices::{all_initials, all_minimums, all_supplements, all_weights};
+use crate::choices::{all_supplements, all_values, all_weights};
 use crate::tables::Tables;
 use drive_modes::Constant;
 use std::alloc::Global;
@@ -21,8 +21,8 @@ pub fn compile(alloc: Global, checked: &Checked, k: Constant) -> Result<Tables, 
 {
     let cuts = Cuts::collect(alloc, checked, k)?;
     let weights = all_weights(alloc, checked.rates(), k, checked.measure())?;
-    let initials = all_initials(alloc, checked.initials())?;
-    let minimums = all_minimums(alloc, checked.minimums())?;
+    let initials = all_values(alloc, checked.initials())?;
+    let minimums = all_values(alloc, checked.minimums())?;
     let cells = all_cells(alloc, checked, &cuts, k)?;
     let supplements = all_supplements(alloc, checked)?;
     let (step, rounding) = checked.step();

@@ -15,9 +15,8 @@ mod rows;
 mod tables;
 mod theorems;
 
-pub use choices::supplement_of;
 pub use compiling::compile;
-pub use parts::{CellLines, Initial, Lasting, Supplement};
+pub use parts::{CellLines, Lasting};
 pub use tables::Tables;
 pub use theorems::{
     cells_are_numbered_in_order, rows_are_in_order, tables_are_fit, tables_equal_the_tree,

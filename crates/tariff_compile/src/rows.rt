@@ -5,8 +5,9 @@ ghost use Rattle.taxi_units.specs.Line.{line_size};
 ghost use Rattle.taxi_units.specs.Number.{money_text};
 ghost use Rattle.tariff_compile.specs.Rows.{cell_row, initial_row, measure_row, minimum_field, minimum_row, rate_row};
 
-use crate::parts::{CellLines, Fee};
+use crate::parts::CellLines;
 use drive_modes::Weights;
+use tariff_check::InitialNumbers;
 use taxi_units::{Line, LineFull, put_bytes, put_money, put_number};
 
 /// The row of the measure.
@@ -36,7 +37,7 @@ pub(crate) fn initial_row(
     row: &mut Line,
     decimals: u8,
     number: u64,
-    fee: Fee,
+    fee: InitialNumbers,
 ) -> Result<(), LineFull>
     requires empty { row.old.items ≡ [] }
     requires decimals { decimals ≤ 3 }

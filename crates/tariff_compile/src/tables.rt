@@ -7,7 +7,9 @@ ghost use Rattle.tariff_calendar.specs.Lists.{has_day, has_days, is_holiday};
 ghost use Rattle.tariff_compile.specs.Cells.{IsBelow, cell_number};
 ghost use Rattle.tariff_compile.specs.Near.{IsNear};
 ghost use Rattle.tariff_compile.specs.Rows.{row_count, row_text};
-ghost use Rattle.tariff_compile.specs.Tables.{AreFit, IsCompiled, IsFit, IsFitInitial, IsInRangeFor, IsTablesOf, fees_in, initial_by, lines_in, rate_by, sizes_for, supplement_at};
+ghost use Rattle.tariff_compile.specs.Tables.{AreFit, IsCompiled, IsFit, IsInRangeFor, IsTablesOf, fees_in, lines_in, rate_by, sizes_for};
+ghost use Rattle.tariff_check.specs.Amounts.{IsFitInitial, initial_by};
+ghost use Rattle.tariff_check.specs.Parts.{supplement_of};
 ghost use Rattle.tariff_syntax.specs.Tree.{Tree};
 ghost use Rattle.tariff_syntax.specs.declared.context.Context.{Context};
 ghost use Rattle.taxi_units.specs.Counted.{IsElement};
@@ -15,12 +17,13 @@ ghost use Rattle.taxi_units.specs.Line.{line_size};
 
 use crate::bands::{cell_number, sizes_of};
 use crate::contexts::{bands_at, bands_at_hiring, bands_until, plain_bands_at};
-use crate::parts::{Bands, CellLines, Fee, Initial, Lasting, Supplement};
+use crate::parts::{Bands, CellLines, Lasting};
 use crate::rows::{cell_row, initial_row, measure_row, minimum_row, rate_row};
 use drive_modes::{Constant, Rounding, Weights};
 use std::marker::Model;
 use std::sync::ledger::Ledger;
 use tariff_calendar::Cuts;
+use tariff_check::{Initial, InitialNumbers, Supplement};
 use tariff_syntax::Context;
 use taxi_units::{Counted, Line, LineFull, Steps, put_bytes};
 
@@ -31,7 +34,7 @@ use taxi_units::{Counted, Line, LineFull, Steps, put_bytes};
 pub struct Tables {
     pub(crate) cuts: Cuts,
     pub(crate) weights: Vec<Weights>,
-    pub(crate) initials: Vec<Fee>,
+    pub(crate) initials: Vec<InitialNumbers>,
     pub(crate) minimums: Vec<u64>,
     pub(crate) cells: Vec<CellLines>,
     pub(crate) supplements: Vec<Option<Supplement>>,
@@ -48,7 +51,7 @@ pub struct Tables {
 type Lists = (
     Cuts,
     Vec<Weights>,
-    Vec<Fee>,
+    Vec<InitialNumbers>,
     Vec<u64>,
     Vec<CellLines>,
     Vec<Option<Supplement>>,
@@ -247,7 +250,7 @@ impl Tables {
     /// The supplement of a number; `None` exactly where the tariff has no such line, as for each number
     /// outside 1 to 16. One step.
     pub fn supplement<L: Ledger>(&self, number: u8, steps: &mut Steps<L>) -> Option<Supplement>
-        ensures tree { (t : Tree) → IsTablesOf t self.now → result ≡ supplement_at t number }
+        ensures tree { (t : Tree) → IsTablesOf t self.now → result ≡ supplement_of t.lines number }
         ensures compiled { IsCompiled self.now }
         ensures steps { steps.new ≡ steps.old + 1 }
     {

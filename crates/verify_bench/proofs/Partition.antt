@@ -31,7 +31,7 @@ use Rattle.std.specs.Prelude.{flat_map}
 use Rattle.std.specs.List.{range_with_len}
 use Rattle.meter_states.specs.KeptTrip.{IsSupplementNumber}
 use Rattle.meter_states.specs.Supplements.{amount_in, amounts_of, times}
-use Rattle.tariff_compile.specs.Tables.{supplement_at}
+use Rattle.tariff_check.specs.Parts.{supplement_of}
 use Rattle.verify_bench.specs.Amounts.{amounts_among}
 use Rattle.verify_bench.specs.declared.explained.Taken.{Taken}
 use Rattle.verify_bench.proofs.AmountSums.{all_among, sum_head}
@@ -275,8 +275,8 @@ within_rates s sound x =
 -- the supplements that were taken, number by number
 one_taken : (t : Tree) (numbers : List ℕ) (number : ℕ) (b : Bool) → nat_eq (times number numbers) 0 ≡ b
     → sum (map (λ (k : Taken). k.count * k.amount) (if b then []
-    else record { number = number; count = times number numbers; amount = amount_in (supplement_at t number) } ∷ []))
-    ≡ times number numbers * amount_in (supplement_at t number)
+    else record { number = number; count = times number numbers; amount = amount_in (supplement_of t.lines number) } ∷ []))
+    ≡ times number numbers * amount_in (supplement_of t.lines number)
 one_taken t numbers number true none =
     let zero_times : times number numbers ≡ 0 = eqb-true (times number numbers) 0 none in
     rw zero_times (omega arith)
@@ -284,7 +284,7 @@ one_taken t numbers number false some = omega arith
 
 all_taken : (t : Tree) (numbers : List ℕ) (first many : ℕ)
     → sum (map (λ (k : Taken). k.count * k.amount) (flat_map (taken_if t numbers) (range_with_len first many)))
-    ≡ amounts_among (λ number. amount_in (supplement_at t number)) first many numbers
+    ≡ amounts_among (λ number. amount_in (supplement_of t.lines number)) first many numbers
 unfolding amounts_among
 all_taken t numbers first zero = refl
 all_taken t numbers first (suc many) =
@@ -295,7 +295,7 @@ all_taken t numbers first (suc many) =
 taken_sum : (t : Tree) (numbers : List ℕ) → All IsSupplementNumber numbers
     → sum (map (λ (k : Taken). k.count * k.amount) (taken_of t numbers)) ≡ amounts_of t numbers
 taken_sum t numbers all =
-    all_taken t numbers 1 16 ∙ all_among (λ number. amount_in (supplement_at t number)) numbers all
+    all_taken t numbers 1 16 ∙ all_among (λ number. amount_in (supplement_of t.lines number)) numbers all
 
 -- an explanation of a trip
 one_adds_up : (s : Setting) → IsSound s.tariff → (e : Explanation) → IsOfTrip s e → ArePartsTheWhole e

@@ -13,7 +13,8 @@ use Rattle.meter_states.specs.declared.act.Act.{Act}
 use Rattle.meter_states.specs.declared.act.Act.TheVariants as acts
 use Rattle.meter_states.specs.declared.act.Act.TheVariants.{Show, Refuse, Enter, Hold}
 use Rattle.tariff_check.specs.SoundTariff.{lines_of, sound_of}
-use Rattle.tariff_compile.specs.Tables.{initial_by, supplement_at}
+use Rattle.tariff_check.specs.Amounts.{initial_by}
+use Rattle.tariff_check.specs.Parts.{supplement_of}
 use Rattle.tariff_syntax.specs.Meaning.{initial_place, minimum_place}
 use Rattle.tariff_syntax.specs.Tree.{Tree}
 use Rattle.tariff_syntax.specs.declared.context.Context.{Context}
@@ -72,7 +73,7 @@ minimum_line t x = option_map (λ place. get_or (lines_of (sound_of t).minimums)
 abbrev pub taken_if : Tree → (numbers : List ℕ) → (number : ℕ) → List Taken
 taken_if t numbers number =
     if times number numbers == 0 then []
-    else record { number = number; count = times number numbers; amount = amount_in (supplement_at t number) } ∷ []
+    else record { number = number; count = times number numbers; amount = amount_in (supplement_of t.lines number) } ∷ []
 
 -- the supplements that are taken in a list are those of the numbers 1 to 16, in order
 abbrev pub taken_of : Tree → (numbers : List ℕ) → List Taken

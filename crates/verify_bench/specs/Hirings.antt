@@ -5,7 +5,7 @@ use Rattle.meter_states.specs.KeptTrip.{IsSupplementNumber}
 use Rattle.meter_states.specs.Setting.{Setting, unit_of}
 use Rattle.meter_states.specs.Supplements.{times}
 use Rattle.meter_states.specs.Trip.{MeterTrip}
-use Rattle.tariff_compile.specs.Tables.{IsFitInitial, initial_by}
+use Rattle.tariff_check.specs.Amounts.{IsFitInitial, initial_by}
 use Rattle.tariff_syntax.specs.declared.context.Context.{Context}
 use Rattle.taxi_units.specs.Time.{IsSecond}
 use Rattle.verify_bench.specs.Explaining.{fee_line, minimum_line}

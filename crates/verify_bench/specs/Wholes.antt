@@ -12,7 +12,7 @@ use Rattle.meter_states.specs.declared.act.Act.TheVariants.{Show, Refuse, Enter,
 use Rattle.drive_modes.specs.Distance.{millimetres_of}
 use Rattle.tariff_check.specs.Parts.{RateNumbers}
 use Rattle.tariff_check.specs.DisplayStep.{display_step}
-use Rattle.tariff_compile.specs.Tables.{initial_by}
+use Rattle.tariff_check.specs.Amounts.{initial_by}
 use Rattle.tariff_syntax.specs.Writable.{IsWritable}
 use Rattle.tariff_syntax.specs.declared.context.Context.{Context}
 use Rattle.taxi_units.specs.declared.receipt.Kind.{Kind}

@@ -2,15 +2,14 @@
 ghost use Rattle.std.specs.Prelude.{◌≡◌, ℕ, ◌+◌, ◌*◌, ◌^◌, ◌<◌, ◌≤◌};
 ghost use Rattle.drive_modes.specs.Fare.{quotient, shown_fare, steps_above};
 ghost use Rattle.meter_states.specs.Setting.{modulus_of, rounding_of, unit_of};
-ghost use Rattle.tariff_compile.specs.Tables.{IsFitInitial};
+ghost use Rattle.tariff_check.specs.Amounts.{IsFitInitial};
 ghost use Rattle.taxi_units.specs.Time.{longest_trip};
 ghost use Rattle.verify_bench.specs.Limits.{most_charge, most_money};
 ghost use Rattle.verify_bench.specs.Settings.{setting_under};
 
 use drive_modes::Rounding;
 use seal_record::Params;
-use tariff_check::Checked;
-use tariff_compile::Initial;
+use tariff_check::{Checked, Initial};
 use taxi_units::LARGEST_AMOUNT;
 
 /// The display steps that are shown of a hiring whose charges have this sum.

@@ -2,15 +2,14 @@
 ghost use Rattle.std.specs.Prelude.{◌≡◌, ◌∷◌, get_or};
 ghost use Rattle.tariff_check.specs.Faults.{IsSound};
 ghost use Rattle.tariff_check.specs.Parts.{minimums_of};
-ghost use Rattle.tariff_compile.specs.Tables.{IsFitInitial, initial_by, place_number};
+ghost use Rattle.tariff_check.specs.Amounts.{IsFitInitial, initial_by, place_number};
 ghost use Rattle.tariff_syntax.specs.Meaning.{minimum_place};
 ghost use Rattle.tariff_syntax.specs.Tree.{tree_of};
 ghost use Rattle.tariff_syntax.specs.Writable.{IsWritable};
 ghost use Rattle.verify_bench.specs.Explaining.{fee_line, minimum_line};
 
 use crate::lookups::{fee_at, fee_line_at, minimum_at, minimum_line_at};
-use tariff_check::Checked;
-use tariff_compile::Initial;
+use tariff_check::{Checked, Initial};
 use tariff_syntax::Context;
 
 /// The initial hire fee and the minimum fare of a hiring, with the numbers of their lines in the text.

@@ -4,7 +4,7 @@ ghost use Rattle.meter_states.specs.KeptTrip.{IsSupplementNumber};
 ghost use Rattle.meter_states.specs.Setting.{Setting, unit_of};
 ghost use Rattle.meter_states.specs.Supplements.{times};
 ghost use Rattle.meter_states.specs.Trip.{InHired, InStopped, Rest, MeterTrip, with_part};
-ghost use Rattle.tariff_compile.specs.Tables.{IsFitInitial};
+ghost use Rattle.tariff_check.specs.Amounts.{IsFitInitial};
 ghost use Rattle.tariff_syntax.specs.declared.context.Context.{Context};
 ghost use Rattle.taxi_units.specs.Time.{IsSecond};
 ghost use Rattle.verify_bench.specs.Gathered.{no_sums, rate_at};

@@ -6,7 +6,7 @@ ghost use Rattle.meter_states.specs.KeptTrip.{IsSupplementNumber};
 ghost use Rattle.meter_states.specs.Keys.{extra_added, latched, position_set, zone_set};
 ghost use Rattle.meter_states.specs.Setting.{Setting};
 ghost use Rattle.seal_record.specs.declared.params.Params.{Params};
-ghost use Rattle.tariff_compile.specs.Tables.{supplement_at};
+ghost use Rattle.tariff_check.specs.Parts.{supplement_of};
 ghost use Rattle.taxi_units.specs.Time.{last_tick};
 ghost use Rattle.taxi_units.specs.declared.event.Operating.TheVariants.{ForHire};
 ghost use Rattle.verify_bench.specs.Settings.{setting_under};
@@ -15,12 +15,10 @@ use crate::bench_meter::BenchMeter;
 use crate::explained::Explained;
 use crate::fees::hire_fee;
 use crate::hiring::Hiring;
-use crate::lookups::supplement_at;
 use seal_record::Params;
 use std::alloc::Global;
 use std::sync::ledger::Ledger;
-use tariff_check::Checked;
-use tariff_compile::Supplement;
+use tariff_check::{Checked, Supplement};
 use taxi_units::{HIRINGS_END, Key, Kind, NoMemory, Operating, Steps};
 
 impl BenchMeter {
@@ -89,10 +87,10 @@ impl BenchMeter {
     fn add_supplement(&mut self, number: u8, checked: &Checked) -> Result<(), NoMemory>
         requires sound { IsMeterInRange last_tick 0 self.old }
         ensures moves { OnOk result ((params : Params) → GoesThroughQuietly (setting_under checked.now params)
-            (λ s. extra_added number (supplement_at s.tariff number)) self.old self.new) }
+            (λ s. extra_added number (supplement_of s.tariff.lines number)) self.old self.new) }
         ensures sound { OnOk result (IsMeterInRange last_tick 0 self.new) }
     {
-        match supplement_at(checked, number) {
+        match checked.supplement(number) {
             None => Ok(()),
             Some(supplement) => self.add_up_to(number, supplement),
         }

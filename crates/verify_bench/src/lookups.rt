@@ -1,16 +1,13 @@
 //! What the parts of a tariff say.
-ghost use Rattle.std.specs.Option.{option_map};
 ghost use Rattle.std.specs.Prelude.{◌≡◌, get_or};
 ghost use Rattle.tariff_calendar.specs.Lists.{is_holiday};
 ghost use Rattle.tariff_check.specs.Faults.{IsSound};
-ghost use Rattle.tariff_check.specs.Parts.{initials_of, minimums_of, rates_of, supplement_of};
+ghost use Rattle.tariff_check.specs.Parts.{initials_of, minimums_of, rates_of};
 ghost use Rattle.tariff_check.specs.SoundTariff.{lines_of, own_lines, own_values, sound_of};
-ghost use Rattle.tariff_compile.specs.Tables.{supplement_in};
 ghost use Rattle.tariff_syntax.specs.Tree.{tree_of};
 ghost use Rattle.tariff_syntax.specs.Writable.{IsWritable};
 
 use tariff_check::{Checked, Choice, InitialNumbers, RateNumbers};
-use tariff_compile::Supplement;
 
 /// The rate at a place among the rates, from 0.
 pub(crate) fn rate_at(checked: &Checked, place: usize) -> RateNumbers
@@ -80,21 +77,6 @@ fn line_at<V>(choices: &[Choice<V>], place: usize) -> u32
     match choices.get(place) {
         Some(choice) => choice.line,
         None => 0,
-    }
-}
-
-/// The supplement of a number.
-pub(crate) fn supplement_at(checked: &Checked, wanted: u8) -> Option<Supplement>
-    ensures value { result ≡ option_map supplement_in (supplement_of (tree_of checked.now).lines wanted) }
-    ensures sound { IsSound (tree_of checked.now) }
-    ensures writable { IsWritable (tree_of checked.now) }
-{
-    match checked.supplement(wanted) {
-        Some(said) => Some(Supplement {
-            amount: said.amount,
-            max: said.most,
-        }),
-        None => None,
     }
 }
 

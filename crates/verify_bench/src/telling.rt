@@ -7,7 +7,7 @@ ghost use Rattle.meter_states.specs.Setting.{Setting, stamp_at};
 ghost use Rattle.meter_states.specs.Supplements.{amount_in, amounts_of, times};
 ghost use Rattle.meter_states.specs.Trip.{Part, MeterTrip};
 ghost use Rattle.tariff_check.specs.SoundTariff.{own_lines};
-ghost use Rattle.tariff_compile.specs.Tables.{supplement_at};
+ghost use Rattle.tariff_check.specs.Parts.{supplement_of};
 ghost use Rattle.tariff_syntax.specs.Tree.{tree_of};
 ghost use Rattle.tariff_syntax.specs.declared.context.Context.{Context};
 ghost use Rattle.taxi_units.specs.Time.{IsSecond, longest_trip};
@@ -20,7 +20,6 @@ ghost use Rattle.verify_bench.specs.Settings.{setting_under};
 use crate::explained::{Explained, Group, Sums, Taken, Way};
 use crate::fares::{fare_shown, steps_shown};
 use crate::hiring::Hiring;
-use crate::lookups::supplement_at;
 use crate::sums::RateSums;
 use drive_modes::millimetres;
 use interval_clock::civil;
@@ -212,10 +211,10 @@ fn put_taken(
 
 /// What a supplement costs, 0 where the tariff has none of its number.
 fn amount_of(number: u8, checked: &Checked) -> u64
-    ensures amount { result ≡ amount_in (supplement_at (tree_of checked.now) number) }
+    ensures amount { result ≡ amount_in (supplement_of (tree_of checked.now).lines number) }
     ensures most { result ≤ 1000000 }
 {
-    match supplement_at(checked, number) {
+    match checked.supplement(number) {
         None => 0,
         Some(supplement) => supplement.amount,
     }

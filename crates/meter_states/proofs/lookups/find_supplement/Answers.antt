@@ -1,5 +1,5 @@
 use Rattle.std.proofs.Common.{◌≤◌, ◌∙◌, Option, sym, subst}
-use Rattle.tariff_compile.specs.declared.parts.Supplement.{Supplement}
+use Rattle.tariff_check.specs.declared.values.Supplement.{Supplement}
 use Rattle.meter_states.specs.Supplements.{amount_in, most_in}
 use Rattle.meter_states.proofs.TableSupplements.{bounded, supplement-in, supplement-number}
 use Rattle.meter_states.proofs.lookups.find_supplement.Goals as goal

@@ -1,7 +1,7 @@
 use Rattle.std.proofs.Common.{◌≡◌, ◌<◌, ℕ, ◌+◌, ◌-◌, get_or, length, ap, sym, subst, ◌∙◌, Option, Some, arith}
 use Rattle.std.proofs.Math.ListN.{length-set}
-use Rattle.tariff_compile.specs.Tables.{supplement_at}
-use Rattle.tariff_compile.specs.declared.parts.Supplement.{Supplement}
+use Rattle.tariff_check.specs.Parts.{supplement_of}
+use Rattle.tariff_check.specs.declared.values.Supplement.{Supplement}
 use Rattle.meter_states.specs.Supplements.{amount_in, most_in, supplement_in}
 use Rattle.meter_states.proofs.Amounts.{allowed-more, amounts-more}
 use Rattle.meter_states.proofs.TableSupplements.{supplement-in}
@@ -11,7 +11,7 @@ use Rattle.meter_states.proofs.trip.add_extra.Goals as goal
 pub returns-clause-saved : goal.returns-clause-saved
 returns-clause-saved c = λ p s t found is e.
     let n = c.args.number in
-    let amount : c.args.supplement.amount ≡ amount_in (supplement_at s.tariff n) =
+    let amount : c.args.supplement.amount ≡ amount_in (supplement_of s.tariff.lines n) =
     ap amount_in (sym found) ∙ ap amount_in (supplement-in s.tariff p n is.compiled) in
     extra-saved s t n c.args.supplement.amount c.args.trip.now (omega arith) (omega arith) amount e
 

@@ -1,12 +1,12 @@
 use Rattle.std.proofs.Common.{◌≡◌, drop, find, not}
-use Rattle.tariff_compile.specs.Tables.{supplement_at}
+use Rattle.tariff_check.specs.Parts.{supplement_of}
 use Rattle.tariff_syntax.specs.Tree.{tree_of}
 use Rattle.tariff_compare.specs.Differences.{is_same_supplement}
 use Rattle.tariff_compare.proofs.difference.first_other.Given as goal
 
 abbrev pub invariant-loop-number : goal.invariant-loop-number
 invariant-loop-number l =
-    find (λ number. not (is_same_supplement (supplement_at (tree_of l.one) number)
-    (supplement_at (tree_of l.other) number))) (drop l.number-index l.numbers)
+    find (λ number. not (is_same_supplement (supplement_of (tree_of l.one).lines number)
+    (supplement_of (tree_of l.other).lines number))) (drop l.number-index l.numbers)
     ≡ find (λ number.
-    not (is_same_supplement (supplement_at (tree_of l.one) number) (supplement_at (tree_of l.other) number))) l.numbers
+    not (is_same_supplement (supplement_of (tree_of l.one).lines number) (supplement_of (tree_of l.other).lines number))) l.numbers

@@ -14,7 +14,8 @@ use Rattle.tariff_syntax.specs.Parts.{initial_conditions, minimum_conditions, ra
 use Rattle.tariff_syntax.specs.Tree.{Tree, tree_of}
 use Rattle.tariff_syntax.specs.Writable.{IsWritable}
 use Rattle.tariff_syntax.specs.declared.context.Context.{Context}
-use Rattle.tariff_compile.specs.Tables.{lines_at, place_number}
+use Rattle.tariff_compile.specs.Tables.{lines_at}
+use Rattle.tariff_check.specs.Amounts.{place_number}
 use Rattle.tariff_compile.specs.declared.parts.CellLines.{CellLines}
 use Rattle.tariff_compile.proofs.Blocks.{at_place}
 use Rattle.tariff_compile.proofs.Compiled.{initial_place-below, rate_place-below}

@@ -1,16 +1,13 @@
 use Rattle.std.proofs.Common.{ℕ, ◌+◌, arith}
 use Rattle.std.proofs.lemmas.Grind.{common_steps}
 use Rattle.std.proofs.lemmas.List.FromFn.{map-range_with_len_more}
-use Rattle.std.specs.Option.{option_map}
 use Rattle.tariff_check.specs.Parts.{supplement_of}
 use Rattle.tariff_syntax.specs.Tree.{tree_of}
-use Rattle.tariff_compile.specs.Tables.{supplement_in}
 use Rattle.tariff_compile.proofs.choices.all_supplements.Goals as goal
 
 pub loop-place-preserved : goal.loop-place-preserved
 loop-place-preserved c =
     let more = map-range_with_len_more
-    (λ (place : ℕ). option_map supplement_in
-    (supplement_of (tree_of c.args.checked.now).lines (place + 1))) 0 c.loop-place.place c.loop-place.place
+    (λ (place : ℕ). supplement_of (tree_of c.args.checked.now).lines (place + 1)) 0 c.loop-place.place c.loop-place.place
     (omega arith) in
     grind (arith, common_steps, more)

@@ -1,12 +1,9 @@
 use Rattle.std.proofs.Common.{◌≡◌, ◌+◌, map}
 use Rattle.std.specs.List.{range_with_len}
-use Rattle.std.specs.Option.{option_map}
 use Rattle.tariff_check.specs.Parts.{supplement_of}
 use Rattle.tariff_syntax.specs.Tree.{tree_of}
-use Rattle.tariff_compile.specs.Tables.{supplement_in}
 use Rattle.tariff_compile.proofs.choices.all_supplements.Given as goal
 
 abbrev pub invariant-loop-place : goal.invariant-loop-place
 invariant-loop-place l =
-    l.all.items ≡ map (λ place. option_map supplement_in (supplement_of (tree_of l.checked).lines (place + 1)))
-    (range_with_len 0 l.place)
+    l.all.items ≡ map (λ place. supplement_of (tree_of l.checked).lines (place + 1)) (range_with_len 0 l.place)

@@ -1,13 +1,13 @@
 use Rattle.std.proofs.Common.{◌≡◌, ◌∙◌, sym, Some}
-use Rattle.tariff_compile.specs.Tables.{supplement_at}
+use Rattle.tariff_check.specs.Parts.{supplement_of}
 use Rattle.tariff_syntax.specs.Tree.{tree_of}
 use Rattle.verify_bench.proofs.TreeParts.{sound_supplement}
 use Rattle.verify_bench.proofs.telling.amount_of.Goals as goal
 
 pub returns-in-Some-clause-most : goal.returns-in-Some-clause-most
 returns-in-Some-clause-most c =
-    let is : supplement_at (tree_of c.args.checked.now) c.args.number ≡ Some c.in-Some.supplement =
-    sym c.supplement_at.ensures.value ∙ c.in-Some.is
+    let is : supplement_of (tree_of c.args.checked.now).lines c.args.number ≡ Some c.in-Some.supplement =
+    sym c.supplement.ensures.value ∙ c.in-Some.is
     in
-    (sound_supplement (tree_of c.args.checked.now) c.args.number c.in-Some.supplement c.supplement_at.ensures.writable
-    c.supplement_at.ensures.sound is).1
+    (sound_supplement (tree_of c.args.checked.now) c.args.number c.in-Some.supplement c.supplement.ensures.writable
+    c.supplement.ensures.sound is).1

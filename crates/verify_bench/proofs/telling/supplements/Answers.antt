@@ -1,7 +1,7 @@
 use Rattle.std.proofs.Common.{◌∙◌, arith}
 use Rattle.std.proofs.lemmas.Nat.{mul-le}
 use Rattle.meter_states.specs.Supplements.{amount_in}
-use Rattle.tariff_compile.specs.Tables.{supplement_at}
+use Rattle.tariff_check.specs.Parts.{supplement_of}
 use Rattle.tariff_syntax.specs.Tree.{tree_of}
 use Rattle.verify_bench.proofs.AmountSums.{all_among, among_here, among_nothing}
 use Rattle.verify_bench.proofs.Gathering.{zero_plus}
@@ -9,7 +9,7 @@ use Rattle.verify_bench.proofs.telling.supplements.Goals as goal
 
 pub loop-number-init : goal.loop-number-init
 loop-number-init c = record {
-  all = zero_plus _ ∙ all_among (λ number. amount_in (supplement_at (tree_of c.args.checked.now) number))
+  all = zero_plus _ ∙ all_among (λ number. amount_in (supplement_of (tree_of c.args.checked.now).lines number))
       c.args.hiring.now.extras.items c.requires.numbers;
   few = omega arith;
 }
@@ -22,7 +22,7 @@ overflow_add-sum c =
 
 pub loop-number-preserved : goal.loop-number-preserved
 loop-number-preserved c =
-    let amount = λ (number : _). amount_in (supplement_at (tree_of c.args.checked.now) number) in
+    let amount = λ (number : _). amount_in (supplement_of (tree_of c.args.checked.now).lines number) in
     let few = mul-le c.times.result c.amount_of.result 99 1000000
     (rw c.times.ensures (c.requires.few c.loop-number.number)) c.amount_of.ensures.most in
     record {
@@ -34,5 +34,5 @@ loop-number-preserved c =
 
 pub returns : goal.returns
 returns c =
-    among_nothing (λ number. amount_in (supplement_at (tree_of c.args.checked.now) number)) c.loop-number.number
+    among_nothing (λ number. amount_in (supplement_of (tree_of c.args.checked.now).lines number)) c.loop-number.number
     c.loop-number.sum _ c.args.hiring.now.extras.items (omega arith) c.loop-number.invariant.all

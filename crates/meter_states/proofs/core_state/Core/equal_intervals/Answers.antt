@@ -1,6 +1,6 @@
-use Rattle.std.proofs.Common.{[], refl, inr, ap, sym, subst, ◌∙◌}
+use Rattle.std.proofs.Common.{◌≡◌, ◌⊎◌, [], refl, inr, ap, sym, subst, ◌∙◌}
 use Rattle.meter_states.specs.Core.{CoreData}
-use Rattle.meter_states.specs.Equals.{intervals_of}
+use Rattle.meter_states.specs.Equals.{MayGo, intervals_of}
 use Rattle.meter_states.specs.Cache.{IsCacheOf, CachedCore}
 use Rattle.meter_states.specs.Run.{run}
 use Rattle.meter_states.proofs.Outcomes.{follows-meets, not_off}
@@ -34,6 +34,11 @@ returns-clause-lawful c = record {
 
 pub returns-clause-most : goal.returns-clause-most
 returns-clause-most c = c.take_equal.ensures.taken.most
+
+pub returns-clause-full : goal.returns-clause-full
+returns-clause-full c = subst (λ (w : CachedCore). (c.take_equal.result ≡ c.args.count)
+    ⊎ (MayGo c.args.tables.now c.args.seal.now w.cache c.args.pulses c.take_equal.new.self → ⊥))
+    c.self.view_is c.take_equal.ensures.full
 
 pub returns-clause-same : goal.returns-clause-same
 returns-clause-same c = (

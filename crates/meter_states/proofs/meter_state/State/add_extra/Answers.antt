@@ -1,6 +1,6 @@
 use Rattle.std.proofs.Common.{◌≤◌, Option, sym, subst, ap, ◌∙◌}
-use Rattle.tariff_compile.specs.Tables.{supplement_at}
-use Rattle.tariff_compile.specs.declared.parts.Supplement.{Supplement}
+use Rattle.tariff_check.specs.Parts.{supplement_of}
+use Rattle.tariff_check.specs.declared.values.Supplement.{Supplement}
 use Rattle.taxi_units.specs.declared.event.Why.TheVariants.{NoSuch}
 use Rattle.meter_states.specs.Keys.{extra_added, extra_added_to}
 use Rattle.meter_states.specs.Meter.{Meter}
@@ -16,7 +16,7 @@ refuse-requires g c = room-none c.args.acts.now.items c.requires.ready.room
 
 pub returns-in_default-clause-stage : goal.returns-in_default-clause-stage
 returns-in_default-clause-stage g c = λ seal.
-    refuses-stage NoSuch (λ (s : Setting) (m : Meter). extra_added c.args.n (supplement_at s.tariff c.args.n) m)
+    refuses-stage NoSuch (λ (s : Setting) (m : Meter). extra_added c.args.n (supplement_of s.tariff.lines c.args.n) m)
     c.requires.ready c.refuse.ensures
     (λ s m is. ap (λ (o : Option Supplement). extra_added c.args.n o m)
     (sym (c.find_supplement.ensures.tree s is.tariff) ∙ c.in_default.is))
@@ -42,7 +42,7 @@ add_found-requires-clause-most g c = subst (λ
 pub returns-clause-stage : goal.returns-clause-stage
 returns-clause-stage g c = λ seal.
     commits-as (λ (s : Setting) (m : Meter). extra_added_to c.args.n c.in-Some.supplement m.trip m) (λ (s : Setting)
-    (m : Meter). extra_added c.args.n (supplement_at s.tariff c.args.n) m)
+    (m : Meter). extra_added c.args.n (supplement_of s.tariff.lines c.args.n) m)
     (c.add_found.ensures.stage c.args.tables.now seal c.requires.ready (sym c.find_supplement.ensures.value
     ∙ c.in-Some.is))
     (λ s m is. ap (λ (o : Option Supplement). extra_added c.args.n o m)

@@ -1,5 +1,5 @@
 use Rattle.std.proofs.Common.{◌≡◌, ℕ, ap, ◌∙◌}
-use Rattle.tariff_compile.specs.Tables.{initial_by}
+use Rattle.tariff_check.specs.Amounts.{initial_by}
 use Rattle.meter_states.specs.Core.{CoreData}
 use Rattle.meter_states.specs.Interval.{context_on}
 use Rattle.meter_states.specs.Setting.{local_at}

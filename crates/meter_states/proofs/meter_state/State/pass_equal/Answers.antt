@@ -1,4 +1,5 @@
-use Rattle.std.proofs.Common.{◌≡◌, ◌+◌, ◌*◌, ◌≤◌, [], Some, ap, sym, subst, ◌∙◌, arith}
+use Rattle.std.proofs.Common.{◌≡◌, ◌+◌, ◌*◌, ◌≤◌, [], Some, ap, sym, subst, ◌∙◌, inl, inr, arith}
+use Rattle.std.proofs.lemmas.Bool.{cases_lt}
 use Rattle.std.proofs.Math.Nat.{mul-le-mul_left}
 use Rattle.meter_states.specs.declared.trip.CoreTrip.{CoreTrip}
 use Rattle.tariff_compile.proofs.Laws.{tables_are_fit}
@@ -51,6 +52,15 @@ returns-clause-taken c = λ tables on.
       most = omega (arith, c.min-n.ensures);
       same = (ap (λ (q : CoreData). q.operating) c.self.view_is, ap (λ (q : CoreData). q.number) c.self.view_is);
     }
+
+pub returns-clause-full : goal.returns-clause-full
+returns-clause-full c = elim (cases_lt c.min-n.result c.args.count) [
+  | inl fewer ↦ inr (λ more.
+      let same : c.add_passed.new.trip ≡ more.trip = cc in
+      let ticks = ap (λ (x : CoreTrip). x.ticks) (sym same ∙ c.add_passed.ensures.value) in
+      omega (arith, fewer, c.min-n.ensures, ticks, more.short))
+  | inr all ↦ inl (omega (arith, all, c.min-n.ensures))
+]
 
 pub returns-in_default-clause-taken : goal.returns-in_default-clause-taken
 returns-in_default-clause-taken c = λ tables on. taken-none c.args.count c.self.view_is on

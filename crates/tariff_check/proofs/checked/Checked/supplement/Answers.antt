@@ -1,6 +1,7 @@
 use Rattle.std.proofs.Common.{◌≡◌, ◌∙◌, ℕ, List, ap, subst}
 use Rattle.tariff_syntax.specs.Tree.{tree_of}
-use Rattle.tariff_check.specs.Parts.{SupplementNumbers, supplement_of}
+use Rattle.tariff_check.specs.Parts.{supplement_of}
+use Rattle.tariff_check.specs.declared.values.Supplement.{Supplement}
 use Rattle.tariff_check.specs.SoundTariff.{supplement_numbered}
 use Rattle.tariff_check.proofs.Staging.{sound_if_none}
 use Rattle.tariff_check.specs.Faults.{IsSound}
@@ -12,7 +13,7 @@ pub returns-clause-value : goal.returns-clause-value
 returns-clause-value c =
     subst (λ (t : Tariff). c.numbered.result ≡ supplement_of (tree_of t).lines c.args.number) c.self.view_is
     (c.numbered.ensures
-    ∙ (ap (λ (all : List (ℕ × SupplementNumbers)). supplement_numbered all c.args.number)
+    ∙ (ap (λ (all : List (ℕ × Supplement)). supplement_numbered all c.args.number)
     (c.as_slice.ensures.value ∙ c.self.invariant.2.supplements)
     ∙ numbered_is (tree_of c.self.inside.tariff).lines c.args.number))
 

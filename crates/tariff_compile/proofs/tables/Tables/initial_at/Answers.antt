@@ -1,10 +1,12 @@
 use Rattle.std.proofs.Common.{◌∙◌, ap, sym, subst, List, get_or, length, ◌<◌}
 use Rattle.std.proofs.lemmas.List.Elements.{All-get_or}
+use Rattle.tariff_check.specs.Sound.{IsSoundInitial}
 use Rattle.tariff_compile.specs.Cells.{bands_at}
 use Rattle.tariff_compile.specs.Inside.{parts_of}
-use Rattle.tariff_compile.specs.Tables.{TableParts, initial_with}
-use Rattle.tariff_compile.specs.declared.parts.Fee.{Fee}
-use Rattle.tariff_compile.proofs.Compiled.{IsFitFee, bands-below, fees-fit, in_range-hiring, initial-amounts}
+use Rattle.tariff_compile.specs.Tables.{TableParts}
+use Rattle.tariff_check.specs.Amounts.{initial_with}
+use Rattle.tariff_check.specs.Parts.{InitialNumbers}
+use Rattle.tariff_compile.proofs.Compiled.{bands-below, fees-fit, in_range-hiring, initial-amounts}
 use Rattle.tariff_compile.proofs.Compiled.{initial-below, lines-found_at, minimum-amount, minimum-few, minimum-fit}
 use Rattle.tariff_compile.proofs.Compiled.{minimums-fit, nothing_at_hiring}
 use Rattle.tariff_syntax.specs.Meaning.{at_hiring}
@@ -55,11 +57,11 @@ returns-clause-tree g c = λ t is.
     let lines = lines-found_at t tables x c.bands_at_hiring-bands.result c.lines_of-lines.result is
     (in_range-hiring tables c.args.x.now c.requires.range) bands c.lines_of-lines.ensures.value in
     let fee = c.read-fee.ensures.value c.read-fee.result
-    ∙ (ap (λ (list : List Fee). get_or list c.lines_of-lines.result.initial c.read-fee.result)
+    ∙ (ap (λ (list : List InitialNumbers). get_or list c.lines_of-lines.result.initial c.read-fee.result)
     (c.of.ensures ∙ (c.as_slice.ensures.value ∙ ap (λ (p : TableParts). p.initials) c.self.view_is))
     ∙ rw lines (initial-amounts t tables x c.read-fee.result is)) in
     let minimum = c.minimum.ensures.value ∙ rw lines (minimum-amount t tables x is) in
-    ap (λ (f : Fee). initial_with f c.minimum.result) fee ∙ ap (initial_with _) minimum
+    ap (λ (f : InitialNumbers). initial_with f c.minimum.result) fee ∙ ap (initial_with _) minimum
 
 pub returns-clause-fit : goal.returns-clause-fit
 returns-clause-fit g c =
@@ -72,9 +74,9 @@ returns-clause-fit g c =
     let there : c.lines_of-lines.result.initial < length tables.initials =
     rw lines (initial-below compiled.0 tables x compiled.1) in
     let read = c.read-fee.ensures.value c.read-fee.result
-    ∙ ap (λ (list : List Fee). get_or list c.lines_of-lines.result.initial c.read-fee.result)
+    ∙ ap (λ (list : List InitialNumbers). get_or list c.lines_of-lines.result.initial c.read-fee.result)
     (c.of.ensures ∙ (c.as_slice.ensures.value ∙ ap (λ (p : TableParts). p.initials) c.self.view_is)) in
-    let fee = subst IsFitFee (sym read) (All-get_or IsFitFee tables.initials c.lines_of-lines.result.initial
+    let fee = subst IsSoundInitial (sym read) (All-get_or IsSoundInitial tables.initials c.lines_of-lines.result.initial
     c.read-fee.result there (fees-fit tables compiled)) in
     record {
       amount = fee.amount;

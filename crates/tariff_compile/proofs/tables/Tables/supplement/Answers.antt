@@ -1,5 +1,5 @@
 use Rattle.std.proofs.Common.{List, Option, ◌∙◌, ap, get_or, ◌-◌, arith}
-use Rattle.tariff_compile.specs.declared.parts.Supplement.{Supplement}
+use Rattle.tariff_check.specs.declared.values.Supplement.{Supplement}
 use Rattle.tariff_compile.specs.Tables.{TableParts}
 use Rattle.tariff_compile.proofs.Compiled.{supplement-none, supplement-there}
 use Rattle.tariff_compile.proofs.tables.Tables.supplement.Goals as goal

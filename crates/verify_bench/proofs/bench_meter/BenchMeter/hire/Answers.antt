@@ -3,7 +3,7 @@ use Rattle.std.specs.Prelude.{nat_le}
 use Rattle.meter_states.specs.Interval.{context_now, context_on}
 use Rattle.meter_states.specs.Keys.{hired}
 use Rattle.meter_states.specs.Setting.{local_at}
-use Rattle.tariff_compile.specs.Tables.{initial_by}
+use Rattle.tariff_check.specs.Amounts.{initial_by}
 use Rattle.taxi_units.specs.Limits.{hirings_end}
 use Rattle.verify_bench.specs.Explaining.{fee_line, minimum_line}
 use Rattle.verify_bench.specs.Settings.{setting_under}

@@ -1,6 +1,6 @@
 use Rattle.std.proofs.Common.{◌≡◌, take}
 use Rattle.tariff_check.specs.SoundTariff.{own_values}
-use Rattle.tariff_compile.proofs.choices.all_minimums.Given as goal
+use Rattle.tariff_compile.proofs.choices.all_values.Given as goal
 
 abbrev pub invariant-loop-choice : goal.invariant-loop-choice
-invariant-loop-choice l = l.all.items ≡ own_values (take l.choice-index l.choices)
+invariant-loop-choice g l = l.all.items ≡ own_values (take l.choice-index l.choices)

@@ -1,0 +1,57 @@
+-- What a hiring begins with is what the lines that hold first say.
+use Rattle.std.proofs.Common.{◌≡◌, ℕ, ◌<◌, ◌≤◌, List, ◌∷◌, get_or, length, refl, add-one, All, arith}
+use Rattle.std.proofs.Common.{Option, Some, None, MatchOption}
+use Rattle.std.specs.List.{slice_get}
+use Rattle.std.proofs.lemmas.Option.{slice_get-get_or}
+use Rattle.taxi_units.specs.Money.{largest_amount}
+use Rattle.tariff_syntax.specs.Meaning.{minimum_place}
+use Rattle.tariff_syntax.specs.Tree.{Tree}
+use Rattle.tariff_syntax.specs.Writable.{IsWritable}
+use Rattle.tariff_syntax.specs.declared.context.Context.{Context}
+use Rattle.tariff_check.specs.Amounts.{HasAmountsOf, IsFitInitial, initial_by, place_number}
+use Rattle.tariff_check.specs.Faults.{IsSound}
+use Rattle.tariff_check.specs.Parts.{InitialNumbers, initials_of, minimums_of}
+use Rattle.tariff_check.specs.Sound.{IsSoundInitial}
+use Rattle.tariff_check.proofs.DefaultLines.{initial_always, minimum_there}
+use Rattle.tariff_check.proofs.SoundParts.{sound_parts}
+
+no_fee : InitialNumbers
+no_fee = record { amount = 0; covers = 0 }
+
+minimum_said : (minimums : List ℕ) (o : Option ℕ) → ((place : ℕ) → o ≡ Some place → place < length minimums)
+    → MatchOption o (get_or (0 ∷ minimums) (place_number o) 0 ≡ 0)
+    (λ n. slice_get minimums n ≡ Some (get_or (0 ∷ minimums) (place_number o) 0))
+minimum_said minimums None there = refl
+minimum_said minimums (Some place) there = rw add-one (slice_get-get_or minimums place 0 (there place refl))
+
+pub has_amounts : (t : Tree) (x : Context) → IsSound t → HasAmountsOf t x (initial_by t x)
+unfolding no_fee
+has_amounts t x sound =
+    let always = initial_always t x sound in
+    record {
+      place = always.0;
+      fee = get_or (initials_of t.lines) always.0 no_fee;
+      first = always.1;
+      there = slice_get-get_or (initials_of t.lines) always.0 no_fee always.2;
+      amount = rw always.1 refl;
+      covers = rw always.1 refl;
+      minimum = minimum_said (minimums_of t.lines) (minimum_place t x) (minimum_there t x);
+    }
+
+few_by : (minimums : List ℕ) (o : Option ℕ) → All (λ amount. amount ≤ largest_amount) minimums
+    → ((place : ℕ) → o ≡ Some place → place < length minimums)
+    → get_or (0 ∷ minimums) (place_number o) 0 ≤ largest_amount
+few_by minimums None all there = omega arith
+few_by minimums (Some place) all there = rw add-one (all place 0 (there place refl))
+
+pub fit_initial : (t : Tree) (x : Context) → IsWritable t → IsSound t → IsFitInitial (initial_by t x)
+unfolding no_fee
+fit_initial t x writable sound =
+    let parts = sound_parts t writable sound in
+    let always = initial_always t x sound in
+    let fee : IsSoundInitial (get_or (initials_of t.lines) always.0 no_fee) = parts.initials always.0 no_fee always.2 in
+    record {
+      amount = rw always.1 fee.amount;
+      covers = rw always.1 fee.covers;
+      minimum = few_by (minimums_of t.lines) (minimum_place t x) parts.minimums (minimum_there t x);
+    }

@@ -1,0 +1,44 @@
+-- Rules: what a hiring begins with, by a tariff's tree.
+use Rattle.std.specs.Prelude.{◌≡◌, ℕ, ◌+◌, ◌≤◌, ◌∷◌, get_or, Option, Some, None, MatchOption}
+use Rattle.std.specs.List.{slice_get}
+use Rattle.std.specs.Option.{unwrap_or}
+use Rattle.taxi_units.specs.Money.{largest_amount}
+use Rattle.tariff_syntax.specs.Meaning.{initial_place, minimum_place}
+use Rattle.tariff_syntax.specs.Tree.{Tree}
+use Rattle.tariff_syntax.specs.declared.context.Context.{Context}
+use Rattle.tariff_check.specs.Parts.{InitialNumbers, initials_of, minimums_of}
+use Rattle.tariff_check.specs.declared.values.Initial.{Initial}
+
+-- the number of a place that may be none is one more than the place, and 0 for none
+abbrev pub place_number : Option ℕ → ℕ
+place_number None = 0
+place_number (Some place) = place + 1
+
+-- an initial hire fee and a minimum fare make what a hiring begins with
+abbrev pub initial_with : InitialNumbers → (minimum : ℕ) → Initial
+initial_with fee minimum = record { amount = fee.amount; covers = fee.covers; minimum = minimum }
+
+-- a hiring in a context begins with the initial hire fee that holds first at it, and the minimum fare that does, or 0
+-- if none does
+abbrev pub initial_by : Tree → Context → Initial
+initial_by t x =
+    initial_with (get_or (initials_of t.lines) (unwrap_or (initial_place t x) 0) (record { amount = 0; covers = 0 }))
+    (get_or (0 ∷ minimums_of t.lines) (place_number (minimum_place t x)) 0)
+
+-- amounts are those of a context if they are the ones of the initial hire fee that holds first at its hiring, and of
+-- the minimum fare that does, or 0 if none holds
+pub record HasAmountsOf (t : Tree) (x : Context) (i : Initial) : Type 0 where
+  pub place : ℕ
+  pub fee : InitialNumbers
+  pub first : initial_place t x ≡ Some place
+  pub there : slice_get (initials_of t.lines) place ≡ Some fee
+  pub amount : i.amount ≡ fee.amount
+  pub covers : i.covers ≡ fee.covers
+  pub minimum : MatchOption (minimum_place t x) (i.minimum ≡ 0)
+      (λ n. slice_get (minimums_of t.lines) n ≡ Some i.minimum)
+
+-- what a hiring begins with is fit if its fee, its cover and its minimum fare are at most 99,999,999
+pub record IsFitInitial (i : Initial) : Type 0 where
+  pub amount : i.amount ≤ largest_amount
+  pub covers : i.covers ≤ largest_amount
+  pub minimum : i.minimum ≤ largest_amount
