@@ -1,6 +1,7 @@
 -- What the counts of faults say of a command, from the calls that it made.
 use Rattle.std.proofs.Common.{◌≡◌, ◌≢◌, ◌⊎◌, ◌↔◌, inl, inr, ℕ, Bool, true, false, Option, Some, None, Result, Err, refl}
 use Rattle.std.proofs.Common.{sym, ap, subst, ◌∙◌, arith}
+use Rattle.outside.specs.Reading.{LeavesOthers}
 use Rattle.outside.proofs.Laws.{rose_behind}
 use Rattle.outside.specs.Faults.{RisesOnlyIf, Rose}
 use Rattle.outside.specs.declared.board.Board.{Ghosts}
@@ -74,7 +75,7 @@ read_fault-report reports.NoMemory e = absurd cc
 -- a call stopped reading at a word where it read no other
 pub stops_at : {E : Type 0} {F : FileGhosts E} {c : Command} {files files' : E} (word : ℕ) → c.reads word
     → Rose (F.faults files word) (F.faults files' word)
-    → ((other : ℕ) → other ≢ word → F.rest files' other ≡ F.rest files other) → StopsReading F c files files'
+    → LeavesOthers F.rest word files files' → StopsReading F c files files'
 stops_at {c = c} word reads rose others = record {
   word = word;
   reads = reads;
@@ -87,7 +88,7 @@ pub stops_by : {E T X : Type 0} {F : FileGhosts E} {c : Command} {files files' :
     (r : Result T X) (fault read : X) (end : X → Ended) → r ≡ Err fault → ended ≡ end fault
     → (end fault ≡ ReadFault → fault ≡ read) → c.reads word
     → (r ≡ Err read → Rose (F.faults files word) (F.faults files' word))
-    → ((other : ℕ) → other ≢ word → F.rest files' other ≡ F.rest files other) → ended ≡ ReadFault
+    → LeavesOthers F.rest word files files' → ended ≡ ReadFault
     → StopsReading F c files files'
 stops_by word r fault read end is ended_is only reads rose others e =
     stops_at word reads (rose (is ∙ ap Err (only (sym ended_is ∙ e)))) others

@@ -1,21 +1,19 @@
 -- What is left of the files of two words that are read one behind the other.
 use Rattle.std.proofs.Common.{◌≡◌, ◌≢◌, ◌∙◌, ℕ, inl, inr, subst}
+use Rattle.outside.specs.Reading.{LeavesOthers}
 use Rattle.outside.specs.Faults.{Rose}
 use Rattle.outside.specs.declared.files.Files.{Ghosts as FileGhosts}
 use Rattle.commands.specs.ReadInTurn.{HasFailed, ReadsInTurn}
 
 module _ {E : Type 0} (F : FileGhosts E) where
-  -- what a call leaves that reads the file of one word, and what it leaves of the counts where no read failed
-  abbrev pub LeavesOthers : (word : ℕ) (files files' : E) → Type 0
-  LeavesOthers word files files' = (other : ℕ) → other ≢ word → F.rest files' other ≡ F.rest files other
-
+  -- what a call leaves of the counts where no read failed
   abbrev pub KeepsCounts : (files files' : E) → Type 0
   KeepsCounts files files' = (other : ℕ) → F.faults files' other ≡ F.faults files other
 
 module _ {E : Type 0} (F : FileGhosts E) (first second : ℕ) (comes fails : Type 0) (files files' : E) where
   -- the second word isn't come to
   pub first_alone : (failed : Type 0) → (fails → failed) → (failed → fails)
-      → (failed → HasFailed F files files' first) → LeavesOthers F first files files'
+      → (failed → HasFailed F files files' first) → LeavesOthers F.rest first files files'
       → (¬ failed → KeepsCounts F files files') → ReadsInTurn F first second comes fails files files'
   first_alone failed there back rose others counts = record {
     read_fault = λ f. inl (rose (there f), others);
@@ -26,8 +24,8 @@ module _ {E : Type 0} (F : FileGhosts E) (first second : ℕ) (comes fails : Typ
 
   -- the second word is read behind the first
   pub first_then : (mid : E) (failed : Type 0) → (F.tells → comes) → (fails → failed) → (failed → fails)
-      → LeavesOthers F first files mid → KeepsCounts F files mid
-      → (failed → HasFailed F mid files' second) → LeavesOthers F second mid files'
+      → LeavesOthers F.rest first files mid → KeepsCounts F files mid
+      → (failed → HasFailed F mid files' second) → LeavesOthers F.rest second mid files'
       → (¬ failed → KeepsCounts F mid files') → ReadsInTurn F first second comes fails files files'
   first_then mid failed came there back others counts rose others' counts' = record {
     read_fault = λ f. inr (subst (λ (n : ℕ). Rose n (F.faults files' second)) (counts second) (rose (there f)));

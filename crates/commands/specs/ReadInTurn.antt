@@ -1,5 +1,6 @@
 -- For proofs: what is left of its files by a part of a command that reads the files of two words, one behind the other.
 use Rattle.std.specs.Prelude.{◌≡◌, ◌≢◌, ◌⊎◌, ℕ}
+use Rattle.outside.specs.Reading.{LeavesOthers}
 use Rattle.outside.specs.Faults.{Rose}
 use Rattle.outside.specs.declared.files.Files.{Ghosts as FileGhosts}
 
@@ -13,7 +14,7 @@ HasFailed F files files' word = Rose (F.faults files word) (F.faults files' word
 pub record ReadsInTurn {E : Type 0} (F : FileGhosts E) (first second : ℕ) (comes failed : Type 0)
     (files files' : E) : Type 0 where
   pub read_fault : failed → (HasFailed F files files' first
-      × ((other : ℕ) → other ≢ first → F.rest files' other ≡ F.rest files other))
+      × LeavesOthers F.rest first files files')
       ⊎ HasFailed F files files' second
   pub others : (other : ℕ) → other ≢ first → other ≢ second → F.rest files' other ≡ F.rest files other
   pub unread : F.tells → (other : ℕ) → other ≢ first → ¬ ((other ≡ second) × comes)

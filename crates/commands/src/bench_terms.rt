@@ -1,5 +1,6 @@
 //! What a verification goes by.
 ghost use Rattle.std.specs.Prelude.{◌≡◌, ◌≢◌, ℕ, ◌+◌, ◌≤◌, [], IfErr, IfOk, OnOk, IsErrOf, Ok, Err};
+ghost use Rattle.outside.specs.Reading.{LeavesOthers};
 ghost use Rattle.outside.specs.Faults.{Rose};
 ghost use Rattle.commands.specs.Bench.{terms_of};
 ghost use Rattle.commands.specs.BenchSteps.{HasNoTerms, terms_in};
@@ -38,7 +39,7 @@ pub fn open_terms<F: Files, B: Board<STORE_SIZE, L>, L: Ledger>(
         (Rose (F.faults files.old 1) (F.faults files.new 1)) (Rose (B.faults board.old) (B.faults board.new))) }
     ensures opens { OnlyOpens B.Board (IsErrOf result Ended.BoardFault) board.old board.new }
     ensures read_fault { result ≡ Err Ended.ReadFault → Rose (F.faults files.old 1) (F.faults files.new 1) }
-    ensures others { (other : ℕ) → other ≢ 1 → F.rest files.new other ≡ F.rest files.old other }
+    ensures others { LeavesOthers F.rest 1 files.old files.new }
     ensures unread { B.tells_image → (other : ℕ) → ¬ ((other ≡ 1) × IsSealedIn (B.image board.old))
         → F.rest files.new other ≡ F.rest files.old other }
     ensures counts { result ≢ Err Ended.ReadFault → (other : ℕ) → F.faults files.new other ≡ F.faults files.old other }

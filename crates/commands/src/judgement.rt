@@ -1,5 +1,6 @@
 //! Judges readings by a drive.
 ghost use Rattle.std.specs.Prelude.{◌≡◌, ◌≢◌, ℕ, [], All, flat_map, IfOk, OnOk, Ok, Err};
+ghost use Rattle.outside.specs.Reading.{LeavesOthers};
 ghost use Rattle.drive_text.specs.Ending.{Whole, drive_end};
 ghost use Rattle.drive_text.specs.Ranges.{IsRunInRange};
 ghost use Rattle.drive_text.specs.Runs.{run_events};
@@ -84,7 +85,7 @@ fn readings_of_word<F: Files>(
         (Rose (F.faults files.old word) (F.faults files.new word)) why }
     ensures read_fault { result ≡ Err Ended.ReadFault → Rose (F.faults files.old word) (F.faults files.new word) }
     ensures not_board { result ≢ Err Ended.BoardFault }
-    ensures others { (other : ℕ) → other ≢ word → F.rest files.new other ≡ F.rest files.old other }
+    ensures others { LeavesOthers F.rest word files.old files.new }
     ensures counts { result ≢ Err Ended.ReadFault → (other : ℕ) → F.faults files.new other ≡ F.faults files.old other }
 {
     match read_text(alloc, files, word, MOST) {

@@ -1,5 +1,6 @@
 //! The command `lines`.
 ghost use Rattle.std.specs.Prelude.{◌≡◌, ◌≢◌, ℕ, [], IfOk, OnOk, Err};
+ghost use Rattle.outside.specs.Reading.{LeavesOthers};
 ghost use Rattle.outside.specs.Faults.{Rose};
 ghost use Rattle.commands.specs.Carried.{Carries};
 ghost use Rattle.commands.specs.Lines.{lines_command};
@@ -72,7 +73,7 @@ fn list_of_word<F: Files>(
     ensures refused { (why : Refusal) → F.tells → result ≡ Err (TextFault.Refused why)
         → tariff_in (F.rest files.old word) ≡ Err why }
     ensures read_fault { result ≡ Err TextFault.ReadFault → Rose (F.faults files.old word) (F.faults files.new word) }
-    ensures others { (other : ℕ) → other ≢ word → F.rest files.new other ≡ F.rest files.old other }
+    ensures others { LeavesOthers F.rest word files.old files.new }
     ensures counts { result ≢ Err TextFault.ReadFault
         → (other : ℕ) → F.faults files.new other ≡ F.faults files.old other }
 {

@@ -2,6 +2,7 @@
 #![tactic(auto, using(crate::proofs::BoardRuns::board_runs))]
 
 ghost use Rattle.std.specs.Prelude.{◌≡◌, ◌≢◌, ℕ, ◌+◌, ◌<◌, ◌≤◌, ◌++◌, [], length, IfOk, OnOk, Err};
+ghost use Rattle.outside.specs.Reading.{LeavesOthers};
 ghost use Rattle.taxi_units.specs.Line.{line_size};
 ghost use Rattle.outside.specs.Faults.{HasCause, Rose};
 ghost use Rattle.outside.specs.Printing.{Begins};
@@ -71,7 +72,7 @@ fn rules_of_word<F: Files>(files: &mut F, word: usize) -> Result<Rules, RulesFau
     ensures refused { (why : RuleFault) → F.tells → result ≡ Err (RulesFault.Refused why)
         → rules_read (F.rest files.old word) ≡ Err why }
     ensures read_fault { result ≡ Err RulesFault.ReadFault → Rose (F.faults files.old word) (F.faults files.new word) }
-    ensures others { (other : ℕ) → other ≢ word → F.rest files.new other ≡ F.rest files.old other }
+    ensures others { LeavesOthers F.rest word files.old files.new }
     ensures counts { result ≢ Err RulesFault.ReadFault
         → (other : ℕ) → F.faults files.new other ≡ F.faults files.old other }
 {

@@ -1,5 +1,6 @@
 //! Reads the parameters of a word.
 ghost use Rattle.std.specs.Prelude.{◌≡◌, ◌≢◌, ℕ, [], IfOk, OnOk, Err};
+ghost use Rattle.outside.specs.Reading.{LeavesOthers};
 ghost use Rattle.outside.specs.Faults.{Rose};
 ghost use Rattle.seal_record.specs.Ranges.{IsParams};
 ghost use Rattle.seal_record.specs.Reading.{params_read};
@@ -35,7 +36,7 @@ pub fn read_parameters<F: Files>(
     ensures refused { (why : ParamFault) → F.tells → result ≡ Err (ParamsFault.Refused why)
         → params_read (F.rest files.old word) ≡ Err why }
     ensures read_fault { result ≡ Err ParamsFault.ReadFault → Rose (F.faults files.old word) (F.faults files.new word) }
-    ensures others { (other : ℕ) → other ≢ word → F.rest files.new other ≡ F.rest files.old other }
+    ensures others { LeavesOthers F.rest word files.old files.new }
     ensures counts { result ≢ Err ParamsFault.ReadFault
         → (other : ℕ) → F.faults files.new other ≡ F.faults files.old other }
 {

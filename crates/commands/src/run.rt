@@ -1,6 +1,7 @@
 //! The command `run`.
 ghost use Rattle.std.specs.Prelude.{◌≡◌, ◌≢◌, ◌↔◌, ℕ, ◌+◌, ◌≤◌, [], IfErr, IfOk, OnOk, IsErrOf, IsTrue, Err};
 ghost use Rattle.std.specs.Option.{ForSome};
+ghost use Rattle.outside.specs.Reading.{LeavesOthers};
 ghost use Rattle.outside.specs.Faults.{Rose};
 ghost use Rattle.meter_states.specs.Fits.{Fits};
 ghost use Rattle.seal_record.specs.Ranges.{IsSeal};
@@ -40,7 +41,7 @@ fn read_tables<F: Files>(alloc: Global, files: &mut F, seal: &Seal) -> Result<Ta
         → AreNoTables seal.now.digest (F.rest files.old 1) (Rose (F.faults files.old 1) (F.faults files.new 1)) why }
     ensures read_fault { result ≡ Err Ended.ReadFault → Rose (F.faults files.old 1) (F.faults files.new 1) }
     ensures not_board { result ≢ Err Ended.BoardFault }
-    ensures others { (other : ℕ) → other ≢ 1 → F.rest files.new other ≡ F.rest files.old other }
+    ensures others { LeavesOthers F.rest 1 files.old files.new }
     ensures counts { result ≢ Err Ended.ReadFault → (other : ℕ) → F.faults files.new other ≡ F.faults files.old other }
 {
     let checked = read_sealed(alloc, files, &seal.digest)?;
@@ -81,7 +82,7 @@ fn begin<F: Files, B: Board<STORE_SIZE, L>, L: Ledger>(
     ensures unread { B.tells_image → (other : ℕ) → ¬ ((other ≡ 1) × IsSealedIn (B.image board.old))
         → F.rest files.new other ≡ F.rest files.old other }
     ensures read_fault { result ≡ Err Ended.ReadFault → Rose (F.faults files.old 1) (F.faults files.new 1) }
-    ensures others { (other : ℕ) → other ≢ 1 → F.rest files.new other ≡ F.rest files.old other }
+    ensures others { LeavesOthers F.rest 1 files.old files.new }
     ensures counts { result ≢ Err Ended.ReadFault → (other : ℕ) → F.faults files.new other ≡ F.faults files.old other }
     ensures steps { steps.new ≤ steps.old + 22 }
 {

@@ -1,6 +1,7 @@
 //! Reads the tariff that was sealed.
 ghost use Rattle.std.specs.Prelude.{◌≡◌, ◌≢◌, ℕ, ◌≤◌, [], length, nat_eq, IfOk, OnOk, Ok, Err};
 ghost use Rattle.std.specs.Cmp.Lexicographic.{pointwise};
+ghost use Rattle.outside.specs.Reading.{LeavesOthers};
 ghost use Rattle.outside.specs.Faults.{Rose};
 ghost use Rattle.tariff_syntax.specs.Tree.{tree_of};
 ghost use Rattle.commands.specs.Run.{sealed_tariff};
@@ -59,7 +60,7 @@ pub fn read_sealed<F: Files>(
         → AreNoTables digest.now (F.rest files.old 1) (Rose (F.faults files.old 1) (F.faults files.new 1)) why }
     ensures read_fault { result ≡ Err Ended.ReadFault → Rose (F.faults files.old 1) (F.faults files.new 1) }
     ensures not_board { result ≢ Err Ended.BoardFault }
-    ensures others { (other : ℕ) → other ≢ 1 → F.rest files.new other ≡ F.rest files.old other }
+    ensures others { LeavesOthers F.rest 1 files.old files.new }
     ensures counts { result ≢ Err Ended.ReadFault → (other : ℕ) → F.faults files.new other ≡ F.faults files.old other }
 {
     let text = match text_of_word(alloc, files, 1) {

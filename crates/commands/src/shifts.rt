@@ -1,5 +1,6 @@
 //! The command `shifts`.
 ghost use Rattle.std.specs.Prelude.{◌≡◌, ◌≢◌, ℕ, ◌+◌, ◌*◌, ◌≤◌, [], length, vec_len, IfOk, OnOk, Err};
+ghost use Rattle.outside.specs.Reading.{LeavesOthers};
 ghost use Rattle.outside.specs.Faults.{Rose};
 ghost use Rattle.shift_book.specs.BookReading.{book_read};
 ghost use Rattle.commands.specs.Answer.{shows};
@@ -96,7 +97,7 @@ fn report_of_word<F: Files>(
         → book_read now.now (F.rest files.old word) ≡ Err fault }
     ensures read_fault { result ≡ Err ReportFault.ReadFault
         → Rose (F.faults files.old word) (F.faults files.new word) }
-    ensures others { (other : ℕ) → other ≢ word → F.rest files.new other ≡ F.rest files.old other }
+    ensures others { LeavesOthers F.rest word files.old files.new }
     ensures counts { result ≢ Err ReportFault.ReadFault
         → (other : ℕ) → F.faults files.new other ≡ F.faults files.old other }
 {

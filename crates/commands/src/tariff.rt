@@ -1,5 +1,6 @@
 //! Reads the tariff of a word.
 ghost use Rattle.std.specs.Prelude.{◌≡◌, ◌≢◌, ℕ, ◌-◌, ◌<◌, ◌≤◌, [], length, IfOk, OnOk, Ok, Err, vec_len};
+ghost use Rattle.outside.specs.Reading.{LeavesOthers};
 ghost use Rattle.outside.specs.Faults.{Rose};
 ghost use Rattle.tariff_syntax.specs.Tree.{tree_of};
 ghost use Rattle.commands.specs.Ending.{unsound_for};
@@ -52,7 +53,7 @@ pub fn text_of_word<F: Files>(
     ensures long { (why : Refusal) → F.tells → result ≡ Err (TextFault.Refused why)
         → (why ≡ Refusal.TooLong) × (65536 < length (F.rest files.old word)) }
     ensures read_fault { result ≡ Err TextFault.ReadFault → Rose (F.faults files.old word) (F.faults files.new word) }
-    ensures others { (other : ℕ) → other ≢ word → F.rest files.new other ≡ F.rest files.old other }
+    ensures others { LeavesOthers F.rest word files.old files.new }
     ensures counts { result ≢ Err TextFault.ReadFault
         → (other : ℕ) → F.faults files.new other ≡ F.faults files.old other }
 {
@@ -103,7 +104,7 @@ pub fn read_tariff<F: Files>(
     ensures refused { (why : Refusal) → F.tells → result ≡ Err (TextFault.Refused why)
         → tariff_in (F.rest files.old word) ≡ Err why }
     ensures read_fault { result ≡ Err TextFault.ReadFault → Rose (F.faults files.old word) (F.faults files.new word) }
-    ensures others { (other : ℕ) → other ≢ word → F.rest files.new other ≡ F.rest files.old other }
+    ensures others { LeavesOthers F.rest word files.old files.new }
     ensures counts { result ≢ Err TextFault.ReadFault
         → (other : ℕ) → F.faults files.new other ≡ F.faults files.old other }
 {
@@ -139,7 +140,7 @@ pub fn tables_of_word<F: Files>(
     ensures refused { (why : Refusal) → F.tells → result ≡ Err (TextFault.Refused why)
         → tariff_in (F.rest files.old word) ≡ Err why }
     ensures read_fault { result ≡ Err TextFault.ReadFault → Rose (F.faults files.old word) (F.faults files.new word) }
-    ensures others { (other : ℕ) → other ≢ word → F.rest files.new other ≡ F.rest files.old other }
+    ensures others { LeavesOthers F.rest word files.old files.new }
     ensures counts { result ≢ Err TextFault.ReadFault
         → (other : ℕ) → F.faults files.new other ≡ F.faults files.old other }
 {

@@ -1,5 +1,6 @@
 //! Reads a drive whole into memory.
 ghost use Rattle.std.specs.Prelude.{◌≡◌, ◌≢◌, ◌↔◌, ℕ, All, IfOk, IfErr, IsTrue, Err, Some};
+ghost use Rattle.outside.specs.Reading.{LeavesOthers};
 ghost use Rattle.drive_text.specs.Ranges.{IsRunInRange};
 ghost use Rattle.outside.specs.Faults.{Rose};
 ghost use Rattle.commands.specs.BenchSteps.{IsNoDrive, IsWholeDrive, fault_by};
@@ -34,7 +35,7 @@ pub fn read_drive<F: Files>(
     ensures range { IfOk result (λ runs. All IsRunInRange runs.items) }
     ensures refused { F.tells → IfErr result (IsNoDrive (F.rest files.old word) (F.rest files.new word)) }
     ensures read_fault { result ≡ Err DriveFault.ReadFault → Rose (F.faults files.old word) (F.faults files.new word) }
-    ensures others { (other : ℕ) → other ≢ word → F.rest files.new other ≡ F.rest files.old other }
+    ensures others { LeavesOthers F.rest word files.old files.new }
     ensures counts { result ≢ Err DriveFault.ReadFault
         → (other : ℕ) → F.faults files.new other ≡ F.faults files.old other }
 {

@@ -1,5 +1,6 @@
 //! Serves a stream of requests: reads it from a file, and prints the replies.
 ghost use Rattle.std.specs.Prelude.{◌≡◌, ◌≢◌, ℕ, ◌+◌, ◌<◌, ◌≤◌, ◌^◌, ◌++◌, List, [], All, length, take, drop, false, None, Some, IfOk, IsErr, OnOk, OnErr};
+ghost use Rattle.outside.specs.Reading.{LeavesOthers};
 ghost use Rattle.outside.specs.Faults.{HasCause, MayRise, RisesOnlyIf, Rose};
 ghost use Rattle.outside.specs.Printing.{Begins};
 ghost use Rattle.outside.specs.Runs.{KeepsStore};
@@ -58,7 +59,7 @@ pub fn serve<F: Files, B: Board<STORE_SIZE, L>, L: Ledger>(
     ensures serves { F.tells → Serves B.tells_text durable.now seal.now
         (F.rest files.old word) (F.rest files.new word) (B.printed board.old) (B.printed board.new) result }
     ensures steps { F.tells → IsBoundedBy (F.rest files.old word) (F.rest files.new word) steps.old steps.new }
-    ensures others { (other : ℕ) → other ≢ word → F.rest files.new other ≡ F.rest files.old other }
+    ensures others { LeavesOthers F.rest word files.old files.new }
     ensures read_fault { result ≡ Err PortFault.ReadFault → Rose (F.faults files.old word) (F.faults files.new word) }
     ensures board_fault { RisesOnlyIf (result ≡ Err PortFault.BoardFault) (B.faults board.old) (B.faults board.new) }
     ensures counts { (other : ℕ)
@@ -98,7 +99,7 @@ fn read_piece<F: Files>(
         F.rest files.old word ≡ take n piece.new ++ F.rest files.new word) }
     ensures over { F.tells → result ≡ Ok 0 → F.rest files.old word ≡ [] }
     ensures kept { F.tells → OnErr result (F.rest files.new word ≡ F.rest files.old word) }
-    ensures others { (other : ℕ) → other ≢ word → F.rest files.new other ≡ F.rest files.old other }
+    ensures others { LeavesOthers F.rest word files.old files.new }
     ensures cause { HasCause (F.faults files.old word) (F.faults files.new word) result }
     ensures counts { (other : ℕ) → MayRise (IsErr result) (F.faults files.old other) (F.faults files.new other) }
 {

@@ -1,5 +1,6 @@
 //! Files the receipts of a roll.
 ghost use Rattle.std.specs.Prelude.{◌≡◌, ◌≢◌, ℕ, ◌≤◌, Ok, IfOk, OnOk, OnErr};
+ghost use Rattle.outside.specs.Reading.{LeavesOthers};
 ghost use Rattle.outside.specs.Faults.{HasCause, MayRise, Rose};
 ghost use Rattle.log_commands.specs.Filings.{FailsInRoll, FilesRoll, IsLast, MayHaveFailed};
 
@@ -55,7 +56,7 @@ pub(crate) fn file_roll<F: Files, G: Board<LOG_SIZE, L>, L: Ledger>(
     ensures text { G.printed log.new ≡ G.printed log.old }
     ensures cause { HasCause (G.faults log.old) (G.faults log.new) result }
     ensures read_fault { result ≡ Ok FileEnd.ReadFault → Rose (F.faults files.old word) (F.faults files.new word) }
-    ensures others { (other : ℕ) → other ≢ word → F.rest files.new other ≡ F.rest files.old other }
+    ensures others { LeavesOthers F.rest word files.old files.new }
     ensures counts { (other : ℕ)
         → MayRise (MayHaveFailed result) (F.faults files.old other) (F.faults files.new other) }
 {

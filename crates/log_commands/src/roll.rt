@@ -2,6 +2,7 @@
 ghost use Rattle.std.specs.Prelude.{◌≡◌, ◌≢◌, ℕ, ◌+◌, ◌-◌, ◌<◌, ◌≤◌, ◌++◌, [], ◌∷◌, List, length, take, drop, true};
 ghost use Rattle.std.specs.Prelude.{is_some, None, Some, Ok, Err, IsErr, IfOk, IfErr, OnErr, OnOk, IfSome, IfNone};
 ghost use Rattle.std.specs.Prelude.{option_to_list};
+ghost use Rattle.outside.specs.Reading.{LeavesOthers};
 ghost use Rattle.outside.specs.Faults.{HasCause, MayRise, RisesOnlyIf};
 ghost use Rattle.log_commands.specs.declared.roll.RollEnd.{RollEnd};
 ghost use Rattle.log_commands.specs.Reading.{FailsNow, GoesOn, HasRead, IsOver};
@@ -90,7 +91,7 @@ impl Roll {
         ensures stays { (end : RollEnd) → self.old.end ≡ Some end
             → (self.new.end ≡ Some end) × (files.new ≡ files.old) }
         ensures fault { RisesOnlyIf (FailsNow self.old self.new) (F.faults files.old word) (F.faults files.new word) }
-        ensures others { (other : ℕ) → other ≢ word → F.rest files.new other ≡ F.rest files.old other }
+        ensures others { LeavesOthers F.rest word files.old files.new }
         ensures counts { (other : ℕ)
             → MayRise (FailsNow self.old self.new) (F.faults files.old other) (F.faults files.new other) }
     {
@@ -132,7 +133,7 @@ impl Roll {
         ensures most { length self.new.ahead + self.new.left ≤ length self.old.ahead + self.old.left }
         ensures fault { RisesOnlyIf (self.new.end ≡ Some RollEnd.ReadFault)
             (F.faults files.old word) (F.faults files.new word) }
-        ensures others { (other : ℕ) → other ≢ word → F.rest files.new other ≡ F.rest files.old other }
+        ensures others { LeavesOthers F.rest word files.old files.new }
         ensures counts { (other : ℕ) → MayRise (self.new.end ≡ Some RollEnd.ReadFault)
             (F.faults files.old other) (F.faults files.new other) }
     {
@@ -185,7 +186,7 @@ fn read_behind<F: Files>(
         ≡ take n (drop kept window.new) ++ F.rest files.new word) }
     ensures over { F.tells → result ≡ Ok 0 → F.rest files.old word ≡ [] }
     ensures same { F.tells → OnErr result (F.rest files.new word ≡ F.rest files.old word) }
-    ensures others { (other : ℕ) → other ≢ word → F.rest files.new other ≡ F.rest files.old other }
+    ensures others { LeavesOthers F.rest word files.old files.new }
     ensures cause { HasCause (F.faults files.old word) (F.faults files.new word) result }
     ensures counts { (other : ℕ) → MayRise (IsErr result) (F.faults files.old other) (F.faults files.new other) }
 {

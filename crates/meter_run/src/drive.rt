@@ -1,5 +1,6 @@
 //! Carries out a drive, from its first byte to where no more of it is read.
 ghost use Rattle.std.specs.Prelude.{◌≡◌, ◌≢◌, ◌⊎◌, ℕ, IfOk, IsErr, OnOk, OnErr, Ok};
+ghost use Rattle.outside.specs.Reading.{LeavesOthers};
 ghost use Rattle.outside.specs.Faults.{HasCause, MayRise, Rose};
 ghost use Rattle.meter_run.specs.Drives.{BreaksDrive, TakesDrive};
 
@@ -30,7 +31,7 @@ pub(crate) fn carry_drive<C: Carrier<B, L>, F: Files, B: Board<STORE_SIZE, L>, L
     ensures broke_off { OnErr result (BreaksDrive F.tells (F.rest files.old word) (F.rest files.new word)
         (λ events. C.broke_off by.now meter.old board.old events board.new) steps.old steps.new) }
     ensures cause { HasCause (B.faults board.old) (B.faults board.new) result }
-    ensures others { (other : ℕ) → other ≢ word → F.rest files.new other ≡ F.rest files.old other }
+    ensures others { LeavesOthers F.rest word files.old files.new }
     ensures read_fault { result ≡ Ok Stop.ReadFault → Rose (F.faults files.old word) (F.faults files.new word) }
     ensures counts { (other : ℕ) → MayRise ((result ≡ Ok Stop.ReadFault) ⊎ IsErr result)
         (F.faults files.old other) (F.faults files.new other) }

@@ -1,5 +1,6 @@
 //! A drive that is carried out without a store.
 ghost use Rattle.std.specs.Prelude.{◌≡◌, ◌≢◌, ◌⊎◌, ℕ, ◌+◌, ◌≤◌, Err, OnOk};
+ghost use Rattle.outside.specs.Reading.{LeavesOthers};
 ghost use Rattle.outside.specs.Runs.{KeepsStore};
 ghost use Rattle.outside.specs.Faults.{HasCause, MayRise, RisesOnlyIf, Rose};
 ghost use Rattle.meter_states.specs.Run.{ended};
@@ -44,7 +45,7 @@ pub fn dry_run<F: Files, B: Board<STORE_SIZE, L>, L: Ledger>(
     ensures ends { F.tells → RunsDrive B.tells_text tables.now seal.now
         (F.rest files.old word) (F.rest files.new word) (B.printed board.old) (B.printed board.new) result }
     ensures steps { IsBoundedBy 0 F.tells (F.rest files.old word) (F.rest files.new word) steps.old steps.new }
-    ensures others { (other : ℕ) → other ≢ word → F.rest files.new other ≡ F.rest files.old other }
+    ensures others { LeavesOthers F.rest word files.old files.new }
     ensures read_fault { result ≡ Err RunFault.ReadFault → Rose (F.faults files.old word) (F.faults files.new word) }
     ensures board_fault { RisesOnlyIf (result ≡ Err RunFault.BoardFault) (B.faults board.old) (B.faults board.new) }
     ensures counts { (other : ℕ) → MayRise ((result ≡ Err RunFault.ReadFault) ⊎ (result ≡ Err RunFault.BoardFault))

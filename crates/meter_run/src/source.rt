@@ -1,5 +1,6 @@
 //! Reads a drive from its file, piece by piece, whatever its events are wanted for.
 ghost use Rattle.std.specs.Prelude.{◌≡◌, ◌≢◌, ℕ, ◌+◌, ◌-◌, ◌<◌, ◌≤◌, [], List, All, length, take, drop, None, Some, IfSome};
+ghost use Rattle.outside.specs.Reading.{LeavesOthers};
 ghost use Rattle.outside.specs.Faults.{MayRise, Rose};
 ghost use Rattle.drive_text.specs.Drive.{bad_at_end};
 ghost use Rattle.drive_text.specs.Ranges.{IsRunInRange};
@@ -83,7 +84,7 @@ impl Source {
         ensures stops { IfSome result (λ stop. (given : List ℕ) → HasGiven self.old given
             → StopsBy F.tells self.old (F.rest files.old word) (F.rest files.new word) given runs.new.items stop) }
         ensures range { All IsRunInRange runs.new.items }
-        ensures others { (other : ℕ) → other ≢ word → F.rest files.new other ≡ F.rest files.old other }
+        ensures others { LeavesOthers F.rest word files.old files.new }
         ensures read_fault { result ≡ Some Stop.ReadFault → Rose (F.faults files.old word) (F.faults files.new word) }
         ensures counts { (other : ℕ)
             → MayRise (result ≡ Some Stop.ReadFault) (F.faults files.old other) (F.faults files.new other) }
@@ -101,7 +102,7 @@ impl Source {
             (F.rest files.new word) }
         ensures stops { IfSome result (λ stop. (given : List ℕ) → HasGiven self.old given
             → StopsBy F.tells self.old (F.rest files.old word) (F.rest files.new word) given [] stop) }
-        ensures others { (other : ℕ) → other ≢ word → F.rest files.new other ≡ F.rest files.old other }
+        ensures others { LeavesOthers F.rest word files.old files.new }
         ensures read_fault { result ≡ Some Stop.ReadFault → Rose (F.faults files.old word) (F.faults files.new word) }
         ensures counts { (other : ℕ)
             → MayRise (result ≡ Some Stop.ReadFault) (F.faults files.old other) (F.faults files.new other) }
@@ -119,7 +120,7 @@ impl Source {
             (F.rest files.new word) }
         ensures stops { IfSome result (λ stop. (given : List ℕ) → HasGiven self.old given
             → StopsBy F.tells self.old (F.rest files.old word) (F.rest files.new word) given [] stop) }
-        ensures others { (other : ℕ) → other ≢ word → F.rest files.new other ≡ F.rest files.old other }
+        ensures others { LeavesOthers F.rest word files.old files.new }
         ensures read_fault { result ≡ Some Stop.ReadFault → Rose (F.faults files.old word) (F.faults files.new word) }
         ensures counts { (other : ℕ)
             → MayRise (result ≡ Some Stop.ReadFault) (F.faults files.old other) (F.faults files.new other) }

@@ -1,5 +1,6 @@
 //! A drive that is carried out on a store.
 ghost use Rattle.std.specs.Prelude.{◌≡◌, ◌≢◌, ◌⊎◌, ℕ, ◌+◌, ◌≤◌, Err, IsOk, OnOk};
+ghost use Rattle.outside.specs.Reading.{LeavesOthers};
 ghost use Rattle.drive_text.specs.Ending.{Whole, drive_end};
 ghost use Rattle.outside.specs.Faults.{HasCause, MayRise, RisesOnlyIf, Rose};
 ghost use Rattle.meter_states.specs.Run.{ended};
@@ -60,7 +61,7 @@ pub fn run_events<F: Files, B: Board<STORE_SIZE, L>, L: Ledger>(
         → ¬ Rose (F.faults files.old word) (F.faults files.new word)
         → ¬ Rose (B.faults board.old) (B.faults board.new) → IsOk result }
     ensures steps { IsBoundedBy 0 F.tells (F.rest files.old word) (F.rest files.new word) steps.old steps.new }
-    ensures others { (other : ℕ) → other ≢ word → F.rest files.new other ≡ F.rest files.old other }
+    ensures others { LeavesOthers F.rest word files.old files.new }
     ensures read_fault { result ≡ Err RunFault.ReadFault → Rose (F.faults files.old word) (F.faults files.new word) }
     ensures board_fault { RisesOnlyIf (result ≡ Err RunFault.BoardFault) (B.faults board.old) (B.faults board.new) }
     ensures counts { (other : ℕ) → MayRise ((result ≡ Err RunFault.ReadFault) ⊎ (result ≡ Err RunFault.BoardFault))

@@ -2,7 +2,7 @@
 use Rattle.std.specs.Prelude.{◌≡◌, ◌⊎◌, ℕ, ◌≤◌, List}
 use Rattle.outside.specs.declared.board.Board.{Ghosts}
 use Rattle.taxi_units.specs.Bytes.{AreBytes}
-use Rattle.outside.specs.Disk.{Elapses, MayLeave, MayLeaveAmid, SameBut}
+use Rattle.outside.specs.Disk.{MayLeave, PieceTakes, SameBut}
 
 -- a store may hold an image after a cut if it has any bytes at the places in flight and all others as a read gives
 -- them
@@ -40,8 +40,7 @@ module _ {D L : Type 0} {N : ℕ} (B : Ghosts D N L) where
   -- a print of a piece takes the time between two states if a cut in it might leave only a beginning of the piece
   -- more
   abbrev pub PrintTakes : D → D → List ℕ → Type 0
-  PrintTakes old new piece = Elapses (B.moment old) (B.moment new) (B.left_since old) (B.left_since new)
-      (MayLeaveAmid (B.image new) (B.in_flight new) (B.printed old) piece)
+  PrintTakes old new piece = PieceTakes B.moment B.left_since B.image B.in_flight B.printed piece old new
 
   -- a board leaves what it holds now if a cut at its moment might have left only what it may leave of the board as
   -- it is

@@ -1,5 +1,6 @@
 //! The generated drive as a file.
 ghost use Rattle.std.specs.Prelude.{◌≡◌, ◌≢◌, ℕ, ◌<◌, ◌≤◌, ◌++◌, [], length, take, IfOk, IsErr, IsOk, OnErr};
+ghost use Rattle.outside.specs.Reading.{LeavesOthers};
 ghost use Rattle.outside.specs.Faults.{HasCause, MayRise};
 ghost use Rattle.verify_bench.specs.Generated.{generated, rest_of};
 
@@ -57,7 +58,7 @@ impl Files for Generator {
         ensures taken { IfOk result (λ n. rest_of self.old word ≡ take n buf.new ++ rest_of self.new word) }
         ensures over { result ≡ Ok 0 → rest_of self.old word ≡ [] }
         ensures kept { OnErr result (rest_of self.new word ≡ rest_of self.old word) }
-        ensures others { (other : ℕ) → other ≢ word → rest_of self.new other ≡ rest_of self.old other }
+        ensures others { LeavesOthers rest_of word self.old self.new }
         ensures cause { HasCause 0 0 result }
         ensures counts { ℕ → MayRise (IsErr result) 0 0 }
 
