@@ -1,12 +1,11 @@
 -- Supplements outside the numbers that a text can have, and the one of a number among the parts.
-use Rattle.std.proofs.Common.{◌≡◌, ℕ, ◌==◌, Bool, List, [], ◌∷◌, Option, Some, None, true, false, cond, All, refl}
+use Rattle.std.proofs.Common.{◌≡◌, ℕ, ◌==◌, Bool, List, [], ◌∷◌, Some, None, true, false, cond, All, refl}
 use Rattle.std.proofs.lemmas.Bool.{ne_eqb}
 use Rattle.std.proofs.lemmas.List.Elements.{All-head, All-tail}
 use Rattle.std.specs.List.{cons_option, find, slice_get}
 use Rattle.std.specs.Option.{option_map}
-use Rattle.tariff_check.specs.Parts.{SupplementNumbers, supplement_of, supplement_part}
+use Rattle.tariff_check.specs.Parts.{SupplementNumbers, parts, supplement_of, supplement_part}
 use Rattle.tariff_check.specs.SoundTariff.{numbered_supplement, supplement_numbered}
-use Rattle.tariff_syntax.specs.Parts.{parts}
 use Rattle.tariff_syntax.specs.Tree.{Tree, Line, Entry, supplement}
 use Rattle.tariff_syntax.specs.Writable.{IsFromTo, IsWritable, IsWritableEntry}
 
