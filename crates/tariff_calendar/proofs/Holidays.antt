@@ -1,5 +1,5 @@
 -- Holidays by their day numbers.
-use Rattle.std.proofs.Common.{ltb, ◌==◌, length, Option, ◌≡◌, ◌∙◌, ℕ, Bool, true, false, ◌&&◌, eqb, List, [], ◌∷◌, map}
+use Rattle.std.proofs.Common.{ltb, ◌==◌, length, ◌≡◌, ◌∙◌, ℕ, Bool, true, false, ◌&&◌, eqb, List, [], ◌∷◌, map}
 use Rattle.std.proofs.Common.{ℤ, pos, ◌<ℤ◌, arith, refl, ap, subst}
 use Rattle.std.proofs.lemmas.Bool.{and_parts, lt-ltb, eqb-true, eq-eqb, false_from_ne_true}
 use Rattle.std.proofs.lemmas.Bool.Decides.{Decides-int_eq, same_from_decides}

@@ -9,13 +9,13 @@ use Rattle.tariff_calendar.proofs.Comparisons.{fewest_pulses}
 use Rattle.tariff_calendar.proofs.Counts as Counts
 use Rattle.tariff_calendar.proofs.Holidays.{days_are_dates, some_days}
 use Rattle.tariff_calendar.proofs.Lists.{lists_ordered, no_distance_at_hiring, no_time_at_hiring}
-use Rattle.tariff_calendar.proofs.SameCell.{same_cell_holds, same_cell_initial, same_cell_minimum, same_cell_rate}
+use Rattle.tariff_calendar.proofs.SameCell.{same_cell_first, same_cell_holds}
 use Rattle.tariff_check.proofs.Laws.{sound_tariffs_have_sound_parts-parts}
 use Rattle.tariff_check.specs.Faults.{IsSound}
-use Rattle.tariff_check.specs.Parts.{has_holidays, when_part}
+use Rattle.tariff_check.specs.Parts.{has_holidays}
 use Rattle.tariff_syntax.specs.Condition.{Condition}
 use Rattle.tariff_syntax.specs.Meaning.{holds, initial_place, minimum_place, rate_place}
-use Rattle.tariff_syntax.specs.Tree.{Tree, Line}
+use Rattle.tariff_syntax.specs.Tree.{Tree, Line, when_part}
 use Rattle.tariff_syntax.specs.Writable.{IsWritable}
 use Rattle.tariff_syntax.specs.declared.context.Context.{Context}
 
@@ -24,20 +24,11 @@ pub cuts_decide_conditions-condition : (t : Tree) (k : ℕ) (x y : Context) → 
     → (l : Line) (c : Condition) → Contains t.lines l → when_part l.entry ≡ Some c → holds c x ≡ holds c y
 cuts_decide_conditions-condition = same_cell_holds
 
-pub cuts_decide_conditions-rate : (t : Tree) (k : ℕ) (x y : Context) → IsWritable t → IsSound t → IsInRangeOf t k x
+pub cuts_decide_conditions-first : (t : Tree) (k : ℕ) (x y : Context) → IsWritable t → IsSound t → IsInRangeOf t k x
     → IsInRangeOf t k y → IsSameCell (lists_of t k) x y
-    → rate_place t x ≡ rate_place t y
-cuts_decide_conditions-rate = same_cell_rate
-
-pub cuts_decide_conditions-initial : (t : Tree) (k : ℕ) (x y : Context) → IsWritable t → IsSound t → IsInRangeOf t k x
-    → IsInRangeOf t k y → IsSameCell (lists_of t k) x y
-    → initial_place t x ≡ initial_place t y
-cuts_decide_conditions-initial = same_cell_initial
-
-pub cuts_decide_conditions-minimum : (t : Tree) (k : ℕ) (x y : Context) → IsWritable t → IsSound t → IsInRangeOf t k x
-    → IsInRangeOf t k y → IsSameCell (lists_of t k) x y
-    → minimum_place t x ≡ minimum_place t y
-cuts_decide_conditions-minimum = same_cell_minimum
+    → (rate_place t x ≡ rate_place t y) × (initial_place t x ≡ initial_place t y)
+    × (minimum_place t x ≡ minimum_place t y)
+cuts_decide_conditions-first = same_cell_first
 
 pub cuts_are_the_fewest_pulses : (k decimetres pulses : ℕ) → (k * decimetres ≤ 10000 * pulses)
     ↔ (pulses_for k decimetres ≤ pulses)

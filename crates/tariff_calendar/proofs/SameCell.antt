@@ -3,6 +3,7 @@ use Rattle.std.proofs.Common.{◌≡◌, ℕ, ◌+◌, List, [], ◌∷◌, get_
 use Rattle.std.proofs.lemmas.List.Elements.{All-head, All-tail, All-cons, All-nil, All-contains, All-from_get_or}
 use Rattle.std.proofs.lemmas.List.Elements.{Contains-get_or}
 use Rattle.std.specs.List.{All, Contains, cons_option, flat_map, position_from}
+use Rattle.std.specs.Option.{option_map}
 use Rattle.tariff_calendar.specs.Lists.{CutLists, count_at_most, lists_of, pulses_for}
 use Rattle.tariff_calendar.specs.Range.{IsInRangeOf, IsSameCell}
 use Rattle.tariff_calendar.proofs.Comparisons.{IsAlike, IsAlikeInPulses, CompareAlike, HaveAlike, All-parts}
@@ -12,16 +13,15 @@ use Rattle.tariff_calendar.proofs.Insertions.{All-from_with_each}
 use Rattle.tariff_check.specs.Cuts.{all_cuts, atom_cuts, cuts_of}
 use Rattle.tariff_check.specs.Faults.{IsSound}
 use Rattle.tariff_check.specs.Lines.{atoms_in, atoms_if}
-use Rattle.tariff_check.specs.Parts.{when_part}
 use Rattle.tariff_check.specs.Sound.{HasSoundParts, IsGoodAtom}
 use Rattle.tariff_check.proofs.Laws.{sound_tariffs_have_sound_parts-parts}
 use Rattle.tariff_check.specs.declared.fault.Dimension.{Dimension}
 use Rattle.tariff_check.specs.declared.fault.Dimension.TheVariants.{MonthDay, Minute, Distance, Time}
 use Rattle.tariff_syntax.specs.Condition.{Condition}
-use Rattle.tariff_syntax.specs.Meaning.{holds, holds_if, at_hiring, rate_place, initial_place, minimum_place}
-use Rattle.tariff_syntax.specs.Parts.{initial_conditions, initial_when, minimum_conditions, minimum_when, parts}
-use Rattle.tariff_syntax.specs.Parts.{rate_conditions, rate_when}
-use Rattle.tariff_syntax.specs.Tree.{Tree, Line, Entry, initial, rate, minimum}
+use Rattle.tariff_syntax.specs.Choices.{choices, conditions_of, initial_part, minimum_part, rate_part}
+use Rattle.tariff_syntax.specs.Meaning.{at_hiring, choice_place, holds, holds_if, initial_place, minimum_place}
+use Rattle.tariff_syntax.specs.Meaning.{rate_place}
+use Rattle.tariff_syntax.specs.Tree.{Tree, Line, Entry, when_part}
 use Rattle.tariff_syntax.specs.Writable.{IsWritable}
 use Rattle.tariff_syntax.specs.declared.context.Context.{Context}
 
@@ -99,34 +99,19 @@ when_alike : (x y : Context) (when : Option Condition) → ((c : Condition) → 
 when_alike x y None alike = refl
 when_alike x y (Some c) alike = alike c refl
 
--- what a kind of line gives is the line's condition
-abbrev GivesWhen : (Entry → Option (Option Condition)) → Type 0
-GivesWhen part = (x : Entry) (when : Option Condition) → part x ≡ Some when → when_part x ≡ when
-
-rate_gives : GivesWhen rate_when
-rate_gives (rate a b c e own) when h = cc
-rate_gives x when h = absurd cc
-
-initial_gives : GivesWhen initial_when
-initial_gives (initial amount covers own) when h = cc
-initial_gives x when h = absurd cc
-
-minimum_gives : GivesWhen minimum_when
-minimum_gives (minimum amount own) when h = cc
-minimum_gives x when h = absurd cc
-
--- so what holds of each line's condition holds of those of a kind
-All-conditions : (P : Option Condition → Type 0) (part : Entry → Option (Option Condition)) → GivesWhen part
-    → (lines : List Line) → All (λ (l : Line). P (when_part l.entry)) lines → All P (parts part lines)
-All-conditions P part gives [] all = All-nil P
-All-conditions P part gives (l ∷ ls) all =
+-- what holds of each line's condition holds of those of the choices of a kind
+All-conditions : {V : Type 0} (P : Option Condition → Type 0) (part : Entry → Option V) (lines : List Line)
+    → All (λ (l : Line). P (when_part l.entry)) lines → All P (conditions_of (choices part lines))
+All-conditions P part [] all = All-nil P
+All-conditions {V} P part (l ∷ ls) all =
     let Q = λ (l : Line). P (when_part l.entry) in
-    one_more (part l.entry) (gives l.entry) (All-head Q l ls all) (All-conditions P part gives ls (All-tail Q l ls all))
+    one_more (part l.entry) (All-head Q l ls all) (All-conditions P part ls (All-tail Q l ls all))
   where
-    one_more : (o : Option (Option Condition)) → ((when : Option Condition) → o ≡ Some when → when_part l.entry ≡ when)
-        → P (when_part l.entry) → All P (parts part ls) → All P (cons_option o (parts part ls))
-    one_more None given here rest = rest
-    one_more (Some when) given here rest = All-cons P when (parts part ls) (subst P (given when refl) here) rest
+    one_more : (o : Option V) → P (when_part l.entry) → All P (conditions_of (choices part ls))
+        → All P (conditions_of (cons_option
+        (option_map (λ (v : V). record { value = v; when = when_part l.entry; line = l.line }) o) (choices part ls)))
+    one_more None here rest = rest
+    one_more (Some v) here rest = All-cons P (when_part l.entry) (conditions_of (choices part ls)) here rest
 
 -- where conditions hold in both or in neither, the first that holds is the same
 first_alike : (x y : Context) (place : ℕ) (conditions : List (Option Condition)) → All (IsWhenAlike x y) conditions
@@ -138,21 +123,15 @@ first_alike x y place (when ∷ more) all =
       first_alike x y (place + 1) more (All-tail (IsWhenAlike x y) when more all),
     ) refl
 
--- the conditions of all lines hold in both or in neither
-lines_alike : (t : Tree) (k : ℕ) (x y : Context) → HasSoundParts t → HaveAlike k x y → IsSameCell (lists_of t k) x y
-    → All (λ (l : Line). IsWhenAlike x y (when_part l.entry)) t.lines
-lines_alike t k x y parts have same = λ place d within.
+-- the first choice of a kind that holds is the same in both
+choices_alike : {V : Type 0} (part : Entry → Option V) (t : Tree) (k : ℕ) (x y : Context) → HasSoundParts t
+    → HaveAlike k x y → IsSameCell (lists_of t k) x y → choice_place part t x ≡ choice_place part t y
+choices_alike part t k x y parts have same =
+    first_alike x y 0 (conditions_of (choices part t.lines)) (All-conditions (IsWhenAlike x y) part t.lines
+    (λ place d within.
     let l = get_or t.lines place d in
     when_alike x y (when_part l.entry)
-    (λ c has. line_holds t k x y parts have same l c (Contains-get_or t.lines place d within) has)
-
--- the same rate holds first
-pub same_cell_rate : (t : Tree) (k : ℕ) (x y : Context) → IsWritable t → IsSound t → IsInRangeOf t k x
-    → IsInRangeOf t k y → IsSameCell (lists_of t k) x y → rate_place t x ≡ rate_place t y
-same_cell_rate t k x y writable sound x_in y_in same =
-    first_alike x y 0 (rate_conditions t.lines)
-    (All-conditions (IsWhenAlike x y) rate_when rate_gives t.lines (lines_alike t k x y
-    (sound_tariffs_have_sound_parts-parts t writable sound) (same_cell_has t k x y x_in y_in same) same))
+    (λ c has. line_holds t k x y parts have same l c (Contains-get_or t.lines place d within) has)))
 
 -- at the hiring they are in one cell too
 hiring_has : (k : ℕ) (x y : Context) → HaveAlike k x y → HaveAlike k (at_hiring x) (at_hiring y)
@@ -177,26 +156,17 @@ hiring_same lists x y same = record {
   time = refl;
 }
 
--- so what holds at the hiring holds alike
-hiring_alike : (t : Tree) (k : ℕ) (x y : Context) → IsWritable t → IsSound t → IsInRangeOf t k x → IsInRangeOf t k y
-    → IsSameCell (lists_of t k) x y
-    → All (λ (l : Line). IsWhenAlike (at_hiring x) (at_hiring y) (when_part l.entry)) t.lines
-hiring_alike t k x y writable sound x_in y_in same =
-    lines_alike t k (at_hiring x) (at_hiring y) (sound_tariffs_have_sound_parts-parts t writable sound)
-    (hiring_has k x y (same_cell_has t k x y x_in y_in same)) (hiring_same (lists_of t k) x y same)
-
--- the same initial hire fee holds first
-pub same_cell_initial : (t : Tree) (k : ℕ) (x y : Context) → IsWritable t → IsSound t → IsInRangeOf t k x
-    → IsInRangeOf t k y → IsSameCell (lists_of t k) x y → initial_place t x ≡ initial_place t y
-same_cell_initial t k x y writable sound x_in y_in same =
-    first_alike (at_hiring x) (at_hiring y) 0 (initial_conditions t.lines)
-    (All-conditions (IsWhenAlike (at_hiring x) (at_hiring y)) initial_when initial_gives t.lines
-    (hiring_alike t k x y writable sound x_in y_in same))
-
--- and the same minimum fare
-pub same_cell_minimum : (t : Tree) (k : ℕ) (x y : Context) → IsWritable t → IsSound t → IsInRangeOf t k x
-    → IsInRangeOf t k y → IsSameCell (lists_of t k) x y → minimum_place t x ≡ minimum_place t y
-same_cell_minimum t k x y writable sound x_in y_in same =
-    first_alike (at_hiring x) (at_hiring y) 0 (minimum_conditions t.lines)
-    (All-conditions (IsWhenAlike (at_hiring x) (at_hiring y)) minimum_when minimum_gives t.lines
-    (hiring_alike t k x y writable sound x_in y_in same))
+-- so the same lines hold first
+pub same_cell_first : (t : Tree) (k : ℕ) (x y : Context) → IsWritable t → IsSound t → IsInRangeOf t k x
+    → IsInRangeOf t k y → IsSameCell (lists_of t k) x y
+    → (rate_place t x ≡ rate_place t y) × (initial_place t x ≡ initial_place t y)
+    × (minimum_place t x ≡ minimum_place t y)
+same_cell_first t k x y writable sound x_in y_in same =
+    let parts = sound_tariffs_have_sound_parts-parts t writable sound in
+    let have = same_cell_has t k x y x_in y_in same in
+    let hiring = hiring_has k x y have in
+    let hired = hiring_same (lists_of t k) x y same in (
+      choices_alike rate_part t k x y parts have same,
+      choices_alike initial_part t k (at_hiring x) (at_hiring y) parts hiring hired,
+      choices_alike minimum_part t k (at_hiring x) (at_hiring y) parts hiring hired,
+    )

@@ -4,10 +4,10 @@ ghost use Rattle.interval_clock.specs.Calendar.{IsDateOf};
 ghost use Rattle.tariff_calendar.specs.Lists.{AreOrdered, IsNotFalling, count_at_most, has_day, has_days, is_holiday, lists_of, pulses_for};
 ghost use Rattle.tariff_calendar.specs.Range.{IsInRangeOf, IsSameCell};
 ghost use Rattle.tariff_check.specs.Faults.{IsSound};
-ghost use Rattle.tariff_check.specs.Parts.{has_holidays, when_part};
+ghost use Rattle.tariff_check.specs.Parts.{has_holidays};
 ghost use Rattle.tariff_syntax.specs.Condition.{Condition};
 ghost use Rattle.tariff_syntax.specs.Meaning.{holds, initial_place, minimum_place, rate_place};
-ghost use Rattle.tariff_syntax.specs.Tree.{Tree, Line};
+ghost use Rattle.tariff_syntax.specs.Tree.{Tree, Line, when_part};
 ghost use Rattle.tariff_syntax.specs.Writable.{IsWritable};
 ghost use Rattle.tariff_syntax.specs.declared.context.Context.{Context};
 
@@ -18,15 +18,10 @@ pub fn cuts_decide_conditions()
     ensures condition { (t : Tree) (k : ℕ) (x y : Context) → IsWritable t → IsSound t → IsInRangeOf t k x
         → IsInRangeOf t k y → IsSameCell (lists_of t k) x y
         → (l : Line) (c : Condition) → Contains t.lines l → when_part l.entry ≡ Some c → holds c x ≡ holds c y }
-    ensures rate { (t : Tree) (k : ℕ) (x y : Context) → IsWritable t → IsSound t → IsInRangeOf t k x
+    ensures first { (t : Tree) (k : ℕ) (x y : Context) → IsWritable t → IsSound t → IsInRangeOf t k x
         → IsInRangeOf t k y → IsSameCell (lists_of t k) x y
-        → rate_place t x ≡ rate_place t y }
-    ensures minimum { (t : Tree) (k : ℕ) (x y : Context) → IsWritable t → IsSound t → IsInRangeOf t k x
-        → IsInRangeOf t k y → IsSameCell (lists_of t k) x y
-        → minimum_place t x ≡ minimum_place t y }
-    ensures initial { (t : Tree) (k : ℕ) (x y : Context) → IsWritable t → IsSound t → IsInRangeOf t k x
-        → IsInRangeOf t k y → IsSameCell (lists_of t k) x y
-        → initial_place t x ≡ initial_place t y }
+        → (rate_place t x ≡ rate_place t y) × (initial_place t x ≡ initial_place t y)
+        × (minimum_place t x ≡ minimum_place t y) }
 {}
 
 /// The law of distances: the pulses at which a distance is cut are the fewest that are as far.

@@ -4,15 +4,15 @@ use Rattle.std.proofs.Common.{Option, Some, None, MatchOption}
 use Rattle.std.specs.List.{slice_get}
 use Rattle.std.proofs.lemmas.Option.{slice_get-get_or}
 use Rattle.taxi_units.specs.Money.{largest_amount}
-use Rattle.tariff_syntax.specs.Meaning.{minimum_place}
+use Rattle.tariff_syntax.specs.Meaning.{at_hiring, minimum_place}
 use Rattle.tariff_syntax.specs.Tree.{Tree}
 use Rattle.tariff_syntax.specs.Writable.{IsWritable}
 use Rattle.tariff_syntax.specs.declared.context.Context.{Context}
 use Rattle.tariff_check.specs.Amounts.{HasAmountsOf, IsFitInitial, initial_by, place_number}
 use Rattle.tariff_check.specs.Faults.{IsSound}
-use Rattle.tariff_check.specs.Parts.{InitialNumbers, initials_of, minimums_of}
+use Rattle.tariff_check.specs.Parts.{InitialNumbers, initial_part, initials_of, minimum_part, minimums_of}
 use Rattle.tariff_check.specs.Sound.{IsSoundInitial}
-use Rattle.tariff_check.proofs.DefaultLines.{initial_always, minimum_there}
+use Rattle.tariff_check.proofs.DefaultLines.{choice_always, choice_there, default_initial}
 use Rattle.tariff_check.proofs.SoundParts.{sound_parts}
 
 no_fee : InitialNumbers
@@ -27,7 +27,7 @@ minimum_said minimums (Some place) there = rw add-one (slice_get-get_or minimums
 pub has_amounts : (t : Tree) (x : Context) → IsSound t → HasAmountsOf t x (initial_by t x)
 unfolding no_fee
 has_amounts t x sound =
-    let always = initial_always t x sound in
+    let always = choice_always initial_part t (at_hiring x) (default_initial t sound) in
     record {
       place = always.0;
       fee = get_or (initials_of t.lines) always.0 no_fee;
@@ -35,7 +35,7 @@ has_amounts t x sound =
       there = slice_get-get_or (initials_of t.lines) always.0 no_fee always.2;
       amount = rw always.1 refl;
       covers = rw always.1 refl;
-      minimum = minimum_said (minimums_of t.lines) (minimum_place t x) (minimum_there t x);
+      minimum = minimum_said (minimums_of t.lines) (minimum_place t x) (choice_there minimum_part t (at_hiring x));
     }
 
 few_by : (minimums : List ℕ) (o : Option ℕ) → All (λ amount. amount ≤ largest_amount) minimums
@@ -48,10 +48,10 @@ pub fit_initial : (t : Tree) (x : Context) → IsWritable t → IsSound t → Is
 unfolding no_fee
 fit_initial t x writable sound =
     let parts = sound_parts t writable sound in
-    let always = initial_always t x sound in
+    let always = choice_always initial_part t (at_hiring x) (default_initial t sound) in
     let fee : IsSoundInitial (get_or (initials_of t.lines) always.0 no_fee) = parts.initials always.0 no_fee always.2 in
     record {
       amount = rw always.1 fee.amount;
       covers = rw always.1 fee.covers;
-      minimum = few_by (minimums_of t.lines) (minimum_place t x) parts.minimums (minimum_there t x);
+      minimum = few_by (minimums_of t.lines) (minimum_place t x) parts.minimums (choice_there minimum_part t (at_hiring x));
     }

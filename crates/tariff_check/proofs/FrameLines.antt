@@ -7,11 +7,10 @@ use Rattle.std.specs.List.{cons_option, list_any, slice_get}
 use Rattle.std.specs.Option.{is_none, is_some, unwrap_or}
 use Rattle.drive_modes.specs.declared.meterage.Rounding.{Rounding}
 use Rattle.drive_modes.specs.declared.meterage.Rounding.TheVariants.{Behind}
-use Rattle.tariff_syntax.specs.Parts.{parts}
 use Rattle.tariff_syntax.specs.Tree.{Tree, Line, Entry, positions, step, zones}
 use Rattle.tariff_check.specs.Faults.{IsSound}
 use Rattle.tariff_check.specs.Lines.{excludes, first_after, first_line, is_duplicate}
-use Rattle.tariff_check.specs.Parts.{positions_part, step_of, step_part, zones_part}
+use Rattle.tariff_check.specs.Parts.{parts, positions_part, step_of, step_part, zones_part}
 use Rattle.tariff_check.specs.SoundTariff.{HasFrame, IsToldOnce, entries_told, sound_of}
 use Rattle.tariff_check.specs.declared.fault.CheckFault.TheVariants.{Duplicate}
 use Rattle.tariff_check.proofs.FirstLine.{passed_by}

@@ -1,7 +1,6 @@
 -- The laws of the public empty functions.
-use Rattle.std.proofs.Common.{◌≡◌, ◌↔◌, ℕ, ◌<◌, ◌≤◌, ◌∷◌, ◌++◌, true, List, [], Option, Some, None, All, length}
-use Rattle.tariff_syntax.specs.Condition.{Condition}
-use Rattle.tariff_syntax.specs.Meaning.{IsFirstPlace, holds_if, initial_place, minimum_place, rate_place}
+use Rattle.std.proofs.Common.{◌≡◌, ◌↔◌, ℕ, ◌<◌, ◌≤◌, ◌∷◌, ◌++◌, true, List, [], Some, None, All, length}
+use Rattle.tariff_syntax.specs.Meaning.{at_hiring, initial_place, minimum_place, rate_place}
 use Rattle.tariff_syntax.specs.Reads.{RiseInNumber}
 use Rattle.tariff_syntax.specs.Tree.{Tree, Line}
 use Rattle.tariff_syntax.specs.Writable.{IsFromTo, IsWritable}
@@ -11,20 +10,19 @@ use Rattle.tariff_check.specs.Cuts.{IsInOrder, all_cuts, cuts_of, with_each}
 use Rattle.tariff_check.specs.Faults.{IsSound, fault_of}
 use Rattle.tariff_check.specs.Lines.{LineTest, IsFirstLine, IsNowhere, first_line}
 use Rattle.tariff_check.specs.Measure.{IsLeastCommonMultiple, measures_of, measure_of}
-use Rattle.tariff_check.specs.Parts.{initials_of, minimums_of, rates_of}
+use Rattle.tariff_check.specs.Parts.{initial_part, initials_of, minimum_part, minimums_of, rate_part, rates_of}
 use Rattle.tariff_check.specs.Parts.{supplement_of}
 use Rattle.tariff_check.specs.Sound.{HasSoundParts}
-use Rattle.tariff_check.specs.SoundTariff.{HasAllLines, HasChoices, HasFrame, place_of, sound_of, supplement_numbered}
+use Rattle.tariff_check.specs.SoundTariff.{HasAllLines, HasFrame, sound_of, supplement_numbered}
 use Rattle.tariff_check.specs.declared.fault.CheckFault.TheVariants.{NoCommonMeasure}
 use Rattle.tariff_check.specs.declared.fault.Dimension.{Dimension}
 use Rattle.tariff_check.proofs.Amounts.{fit_initial, has_amounts}
-use Rattle.tariff_check.proofs.ChoicePlaces.{first_choice}
 use Rattle.tariff_check.proofs.CommonMeasure.{least_of_some, refused_measures, sound_measures}
 use Rattle.tariff_check.proofs.CutOrder.{cuts_in_order, each_in_order}
-use Rattle.tariff_check.proofs.DefaultLines.{initial_always, minimum_there, rate_always}
+use Rattle.tariff_check.proofs.DefaultLines.{choice_always, choice_there, default_initial, default_rate}
 use Rattle.tariff_check.proofs.FirstLine.{first_line_is, nowhere_is, smallest_line}
 use Rattle.tariff_check.proofs.FrameLines.{frame_told}
-use Rattle.tariff_check.proofs.ChoiceLaws.{all_choices, all_lines}
+use Rattle.tariff_check.proofs.ChoiceLaws.{all_lines}
 use Rattle.tariff_check.proofs.SoundParts.{sound_parts}
 use Rattle.tariff_check.proofs.Staging.{none_if_sound, sound_if_none}
 use Rattle.tariff_check.proofs.Supplements.{none_of_other_numbers, numbered_is}
@@ -72,15 +70,15 @@ supplements_are_numbered_to_16 = none_of_other_numbers
 
 pub lines_that_hold_are_there-rate : (t : Tree) (x : Context) → IsSound t
     → (place : ℕ) × (rate_place t x ≡ Some place) × (place < length (rates_of t.lines))
-lines_that_hold_are_there-rate = rate_always
+lines_that_hold_are_there-rate t x sound = choice_always rate_part t x (default_rate t sound)
 
 pub lines_that_hold_are_there-initial : (t : Tree) (x : Context) → IsSound t
     → (place : ℕ) × (initial_place t x ≡ Some place) × (place < length (initials_of t.lines))
-lines_that_hold_are_there-initial = initial_always
+lines_that_hold_are_there-initial t x sound = choice_always initial_part t (at_hiring x) (default_initial t sound)
 
 pub lines_that_hold_are_there-minimum : (t : Tree) (x : Context) (place : ℕ) → minimum_place t x ≡ Some place
     → place < length (minimums_of t.lines)
-lines_that_hold_are_there-minimum = minimum_there
+lines_that_hold_are_there-minimum t x = choice_there minimum_part t (at_hiring x)
 
 pub hirings_begin_with_first_lines-amounts : (t : Tree) (x : Context) → IsSound t → HasAmountsOf t x (initial_by t x)
 hirings_begin_with_first_lines-amounts = has_amounts
@@ -92,16 +90,9 @@ hirings_begin_with_first_lines-fit = fit_initial
 pub sound_tariffs_are_their_parts-lines : (t : Tree) → HasAllLines t (sound_of t)
 sound_tariffs_are_their_parts-lines = all_lines
 
-pub sound_tariffs_are_their_parts-choices : (t : Tree) → HasChoices t (sound_of t)
-sound_tariffs_are_their_parts-choices = all_choices
-
 pub sound_tariffs_are_their_parts-supplements : (t : Tree) (number : ℕ)
     → supplement_numbered (sound_of t).supplements number ≡ supplement_of t.lines number
 sound_tariffs_are_their_parts-supplements t number = numbered_is t.lines number
 
 pub sound_tariffs_are_their_parts-frame : (t : Tree) → IsSound t → HasFrame t (sound_of t)
 sound_tariffs_are_their_parts-frame = frame_told
-
-pub the_first_choice_holds : (x : Context) (conditions : List (Option Condition)) (place : Option ℕ)
-    → (place_of x conditions ≡ place) ↔ IsFirstPlace (holds_if x) conditions place
-the_first_choice_holds = first_choice

@@ -2,8 +2,6 @@
 mod Amounts
 -- the choices of the program are those of the tariff
 mod ChoiceLaws
--- the first of some conditions that holds
-mod ChoicePlaces
 -- the common measure is the least common multiple of all measures
 mod CommonMeasure
 -- how cuts are put among others

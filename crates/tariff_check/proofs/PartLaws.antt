@@ -8,10 +8,9 @@ use Rattle.std.proofs.lemmas.List.Sums.{sum_by-cons}
 use Rattle.std.specs.List.{cons_option, count_by, slice_get}
 use Rattle.std.specs.Option.{is_some}
 use Rattle.tariff_syntax.specs.Condition.{Condition}
-use Rattle.tariff_syntax.specs.Parts.{parts}
 use Rattle.tariff_syntax.specs.Tree.{Line, Entry, holiday, initial, rate, minimum}
-use Rattle.tariff_check.specs.Lines.{first_after, first_line, is_alike, is_one_too_many, most_alike}
-use Rattle.tariff_check.specs.Parts.{first_part, holiday_part, initial_part, minimum_part, rate_part}
+use Rattle.tariff_check.specs.Lines.{first_after, is_alike, is_one_too_many, most_alike}
+use Rattle.tariff_check.specs.Parts.{first_part, holiday_part, initial_part, minimum_part, parts, rate_part}
 use Rattle.tariff_check.proofs.FirstLine.{passed_by}
 
 parts_by : {A : Type 0} (P : A → Type 0) (o : Option A) (rest : List A) → ((y : A) → o ≡ Some y → P y) → All P rest
@@ -40,7 +39,7 @@ pub first_part_has : {A : Type 0} (part : Entry → Option A) (P : A → Type 0)
 first_part_has part P ls y all h = first_by P (parts part ls) y h (parts_all part P ls all)
 
 -- how many lines are like one is how many such parts there are
-abbrev CountsParts : {A : Type 0} → (Entry → Option A) → (ℕ) → Type 0
+abbrev pub CountsParts : {A : Type 0} → (Entry → Option A) → (ℕ) → Type 0
 CountsParts {A} part most = (x : Entry) (y : A) → part x ≡ Some y → (most_alike x ≡ most)
     × ((ls : List Line) → count_by (λ (l : Line). is_alike x l.entry) ls ≡ length (parts part ls))
 
@@ -54,7 +53,7 @@ longer part most counts before l (Some y) e h t =
     omega (arith, known.0, known.1 before, below)
 
 -- so there are no more than there may be
-few : {A : Type 0} (part : Entry → Option A) (most : ℕ) → CountsParts part most → (before ls : List Line)
+pub few : {A : Type 0} (part : Entry → Option A) (most : ℕ) → CountsParts part most → (before ls : List Line)
     → length (parts part before) ≤ most → first_after is_one_too_many before ls ≡ None
     → length (parts part (before ++ ls)) ≤ most
 few part most counts before [] h none = rw (append-nil before) h
@@ -95,35 +94,22 @@ holiday_like : (year month date : ℕ) (y : Entry) → is_alike (holiday year mo
 holiday_like year month date (holiday year₂ month₂ date₂) = refl
 holiday_like year month date y = refl
 
-known_rates : CountsParts rate_part 64
+pub known_rates : CountsParts rate_part 64
 known_rates (rate a b c e when) y h =
     (refl, count_like rate_part (is_alike (rate a b c e when)) (rate_like a b c e when))
 known_rates x y h = absurd cc
 
-known_initials : CountsParts initial_part 64
+pub known_initials : CountsParts initial_part 64
 known_initials (initial amount covers when) y h =
     (refl, count_like initial_part (is_alike (initial amount covers when)) (initial_like amount covers when))
 known_initials x y h = absurd cc
 
-known_minimums : CountsParts minimum_part 64
+pub known_minimums : CountsParts minimum_part 64
 known_minimums (minimum amount when) y h =
     (refl, count_like minimum_part (is_alike (minimum amount when)) (minimum_like amount when))
 known_minimums x y h = absurd cc
 
-known_holidays : CountsParts holiday_part 255
+pub known_holidays : CountsParts holiday_part 255
 known_holidays (holiday year month date) y h =
     (refl, count_like holiday_part (is_alike (holiday year month date)) (holiday_like year month date))
 known_holidays x y h = absurd cc
-
--- a tariff without too many lines has few such lines
-pub few_rates : (ls : List Line) → first_line is_one_too_many ls ≡ None → length (parts rate_part ls) ≤ 64
-few_rates ls h = few rate_part 64 known_rates [] ls (omega arith) h
-
-pub few_initials : (ls : List Line) → first_line is_one_too_many ls ≡ None → length (parts initial_part ls) ≤ 64
-few_initials ls h = few initial_part 64 known_initials [] ls (omega arith) h
-
-pub few_minimums : (ls : List Line) → first_line is_one_too_many ls ≡ None → length (parts minimum_part ls) ≤ 64
-few_minimums ls h = few minimum_part 64 known_minimums [] ls (omega arith) h
-
-pub few_holidays : (ls : List Line) → first_line is_one_too_many ls ≡ None → length (parts holiday_part ls) ≤ 255
-few_holidays ls h = few holiday_part 255 known_holidays [] ls (omega arith) h

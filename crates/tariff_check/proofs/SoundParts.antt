@@ -1,11 +1,13 @@
 -- A sound tariff has its parts in their ranges.
 use Rattle.std.proofs.Common.{◌≡◌, ℕ, ◌^◌, ◌<◌, ◌≤◌, Bool, true, false, cond, List, [], Option, Some, None, All, refl}
+use Rattle.std.proofs.Common.{length}
 use Rattle.std.proofs.Common.{subst, arith}
 use Rattle.std.proofs.lemmas.Bool.{ltb-false, eqb-false}
 use Rattle.std.proofs.Math.Nat.{mul-pos}
 use Rattle.std.specs.List.{list_any}
 use Rattle.std.specs.Option.{is_none, unwrap_or}
 use Rattle.drive_modes.specs.declared.meterage.Rounding.{Rounding}
+use Rattle.tariff_syntax.specs.Choices.{choices, values_of}
 use Rattle.tariff_syntax.specs.Tree.{Tree, Line, Entry}
 use Rattle.tariff_syntax.specs.Writable.{IsFromTo, IsWritable}
 use Rattle.tariff_check.specs.Cells.{bands_between, cells_of}
@@ -25,14 +27,15 @@ use Rattle.tariff_check.specs.declared.fault.CheckFault.TheVariants.{AmountTooBi
 use Rattle.tariff_check.specs.declared.fault.Dimension.{Dimension}
 use Rattle.tariff_check.specs.declared.fault.Dimension.TheVariants.{MonthDay, Minute, Distance, Time}
 use Rattle.tariff_check.specs.declared.numbers.Numbers.{Numbers}
+use Rattle.tariff_check.proofs.ChoiceLaws.{values_are}
 use Rattle.tariff_check.proofs.CommonMeasure.{sound_measures}
 use Rattle.tariff_check.proofs.DefaultLines.{default_initial, default_rate}
 use Rattle.tariff_check.proofs.FirstLine.{never}
 use Rattle.tariff_check.proofs.LineFacts.{IsGoodEntry, good_atoms, holiday_fact, initial_fact, minimum_fact}
 use Rattle.tariff_check.proofs.LineFacts.{positions_fact, rate_fact, step_fact, supplement_fact, zones_fact}
 use Rattle.tariff_check.proofs.MeasureLaws.{common_grows}
-use Rattle.tariff_check.proofs.PartLaws.{Gives, few_holidays, few_initials, few_minimums, few_rates, first_part_has}
-use Rattle.tariff_check.proofs.PartLaws.{parts_all}
+use Rattle.tariff_check.proofs.PartLaws.{CountsParts, Gives, few, first_part_has, known_holidays, known_initials}
+use Rattle.tariff_check.proofs.PartLaws.{known_minimums, known_rates, parts_all}
 use Rattle.tariff_check.proofs.Staging.{not_if, nowhere, or_false, sound_if_none}
 use Rattle.taxi_units.specs.Money.{largest_amount}
 
@@ -66,6 +69,14 @@ lines_good t w h =
 given : {A : Type 0} (part : Entry → Option A) (P : A → Type 0) (ls : List Line)
     → ((x : Entry) → IsGoodEntry x → (y : A) → part x ≡ Some y → P y) → All IsGoodLine ls → All (Gives part P) ls
 given part P ls fact good = λ (k : ℕ) (d : Line) within. fact _ (good k d within)
+
+-- the choices of a kind are sound, and no more than there may be
+choices_sound : {V : Type 0} (part : Entry → Option V) (P : V → Type 0) (most : ℕ) → CountsParts part most
+    → (ls : List Line) → ((x : Entry) → IsGoodEntry x → (v : V) → part x ≡ Some v → P v) → All IsGoodLine ls
+    → first_line is_one_too_many ls ≡ None
+    → All P (values_of (choices part ls)) × (length (values_of (choices part ls)) ≤ most)
+choices_sound part P most known ls fact good many =
+    rw (values_are part ls) (parts_all part P ls (given part P ls fact good), few part most known [] ls (omega arith) many)
 
 -- a number of 1 to 9, or 1 without a line
 number_or_one : (o : Option ℕ) → ((n : ℕ) → o ≡ Some n → IsFromTo 1 9 n) → IsFromTo 1 9 (unwrap_or o 1)
@@ -110,6 +121,10 @@ sound_parts t w h =
     (IsFromTo 1 9) ls n (given positions_part (IsFromTo 1 9) ls positions_fact good) e) in
     let zones = number_or_one (first_part zones_part ls) (λ (n : ℕ) e. first_part_has zones_part (IsFromTo 1 9) ls n
     (given zones_part (IsFromTo 1 9) ls zones_fact good) e) in
+    let rates = choices_sound rate_part IsSoundRate 64 known_rates ls rate_fact good many in
+    let initials = choices_sound initial_part IsSoundInitial 64 known_initials ls initial_fact good many in
+    let minimums =
+    choices_sound minimum_part (λ amount. amount ≤ largest_amount) 64 known_minimums ls minimum_fact good many in
     record {
       decimals = w.decimals;
       step = step_there (step_of ls) (not_if _ _ (h 0 None (omega arith))) (not_if _ _ (h 1 None (omega arith)))
@@ -117,19 +132,18 @@ sound_parts t w h =
           (given step_part (λ (s : ℕ × Rounding). s.0 ≤ 10 ^ 6) ls step_fact good) e);
       positions = positions;
       zones = zones;
-      rates = parts_all rate_part IsSoundRate ls (given rate_part IsSoundRate ls rate_fact good);
-      rate_count = few_rates ls many;
+      rates = rates.0;
+      rate_count = rates.1;
       default_rate = default_rate t h;
-      initials = parts_all initial_part IsSoundInitial ls (given initial_part IsSoundInitial ls initial_fact good);
-      initial_count = few_initials ls many;
+      initials = initials.0;
+      initial_count = initials.1;
       default_initial = default_initial t h;
-      minimums = parts_all minimum_part (λ amount. amount ≤ largest_amount) ls
-          (given minimum_part (λ amount. amount ≤ largest_amount) ls minimum_fact good);
-      minimum_count = few_minimums ls many;
+      minimums = minimums.0;
+      minimum_count = minimums.1;
       supplements = λ (number : ℕ) (s : Supplement) e. first_part_has (supplement_part number) IsSoundSupplement
           ls s (given (supplement_part number) IsSoundSupplement ls (supplement_fact number) good) e;
       holidays = parts_all holiday_part IsSoundHoliday ls (given holiday_part IsSoundHoliday ls holiday_fact good);
-      holiday_count = few_holidays ls many;
+      holiday_count = few holiday_part 255 known_holidays [] ls (omega arith) many;
       atoms = λ (k : ℕ) (d : Line) within. good_atoms _ (good k d within);
       measure = (
         common_grows 1 (measures_of ls) (omega arith) (sound_measures t h),

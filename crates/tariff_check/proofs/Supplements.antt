@@ -4,10 +4,9 @@ use Rattle.std.proofs.lemmas.Bool.{ne_eqb}
 use Rattle.std.proofs.lemmas.List.Elements.{All-head, All-tail}
 use Rattle.std.specs.List.{cons_option, find, slice_get}
 use Rattle.std.specs.Option.{option_map}
-use Rattle.tariff_check.specs.Parts.{supplement_of, supplement_part}
+use Rattle.tariff_check.specs.Parts.{parts, supplement_of, supplement_part}
 use Rattle.tariff_check.specs.declared.values.Supplement.{Supplement}
 use Rattle.tariff_check.specs.SoundTariff.{numbered_supplement, supplement_numbered}
-use Rattle.tariff_syntax.specs.Parts.{parts}
 use Rattle.tariff_syntax.specs.Tree.{Tree, Line, Entry, supplement}
 use Rattle.tariff_syntax.specs.Writable.{IsFromTo, IsWritable, IsWritableEntry}
 

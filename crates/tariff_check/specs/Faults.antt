@@ -4,15 +4,14 @@ use Rattle.std.specs.Prelude.{None, is_none, All}
 use Rattle.std.specs.List.{list_any}
 use Rattle.std.specs.Option.{option_or}
 use Rattle.drive_modes.specs.declared.meterage.Rounding.{Rounding}
-use Rattle.tariff_syntax.specs.Condition.{Condition}
-use Rattle.tariff_syntax.specs.Parts.{rate_conditions, initial_conditions}
-use Rattle.tariff_syntax.specs.Tree.{Tree, Line}
+use Rattle.tariff_syntax.specs.Choices.{choices, conditions_of}
+use Rattle.tariff_syntax.specs.Tree.{Tree, Line, Entry}
 use Rattle.tariff_check.specs.Cells.{cells_of}
 use Rattle.tariff_check.specs.Cuts.{count_of, most_cuts}
 use Rattle.tariff_check.specs.Lines.{first_line, is_duplicate, is_one_too_many, names_unknown, is_after_default}
 use Rattle.tariff_check.specs.Lines.{has_bad_date, has_great_amount, has_measure_zero}
 use Rattle.tariff_check.specs.Measure.{measure_of}
-use Rattle.tariff_check.specs.Parts.{step_of, positions_of, zones_of}
+use Rattle.tariff_check.specs.Parts.{initial_part, rate_part, step_of, positions_of, zones_of}
 use Rattle.tariff_check.specs.declared.fault.Dimension.{Dimension}
 use Rattle.tariff_check.specs.declared.fault.Dimension.TheVariants.{MonthDay, Minute, Distance, Time}
 use Rattle.tariff_check.specs.declared.fault.CheckFault.{CheckFault}
@@ -43,9 +42,9 @@ cuts_fault lines dimension =
     fault_if (nat_lt (most_cuts dimension) (count_of dimension lines))
     (TooManyCuts dimension (count_of dimension lines))
 
--- the test `has_default` is true if one of some lines has no condition
-abbrev pub has_default : List (Option Condition) → Bool
-has_default conditions = list_any is_none conditions
+-- the test `has_default` is true if one of the lines of a kind has no condition
+abbrev pub has_default : {V : Type 0} → (Entry → Option V) → List Line → Bool
+has_default part lines = list_any is_none (conditions_of (choices part lines))
 
 -- the faults before those of cuts, each there or not, stand in the order of the table of faults
 abbrev pub faults_before_cuts : List Line → List (Option CheckFault)
@@ -55,8 +54,8 @@ faults_before_cuts ls =
     ∷ fault_at Duplicate (first_line is_duplicate ls)
     ∷ fault_at TooManyLines (first_line is_one_too_many ls)
     ∷ fault_at UnknownNumber (first_line (names_unknown (positions_of ls) (zones_of ls)) ls)
-    ∷ fault_if (not (has_default (rate_conditions ls))) NoDefaultRate
-    ∷ fault_if (not (has_default (initial_conditions ls))) NoDefaultInitial
+    ∷ fault_if (not (has_default rate_part ls)) NoDefaultRate
+    ∷ fault_if (not (has_default initial_part ls)) NoDefaultInitial
     ∷ fault_at LineAfterDefault (first_line is_after_default ls)
     ∷ fault_at BadDate (first_line has_bad_date ls)
     ∷ fault_at AmountTooBig (first_line has_great_amount ls)

@@ -1,27 +1,22 @@
 -- Rules: the parts of a tariff, from its lines.
 use Rattle.std.specs.Prelude.{ℕ, Bool, true, ◌==◌, if◌then◌else◌, List, Option, Some, None}
-use Rattle.std.specs.List.{slice_get, list_any}
+use Rattle.std.specs.List.{filter_map, slice_get, list_any}
 use Rattle.std.specs.Option.{unwrap_or}
 use Rattle.drive_modes.specs.declared.meterage.Rounding.{Rounding}
-use Rattle.tariff_syntax.specs.Condition.{Condition}
-use Rattle.tariff_syntax.specs.Parts.{parts}
-use Rattle.tariff_syntax.specs.Tree.{Line, Entry, step, positions, zones, holiday, supplement, initial, rate, minimum}
+use Rattle.tariff_syntax.specs.Choices.{choices, values_of}
+pub use Rattle.tariff_syntax.specs.Choices.{InitialNumbers, RateNumbers, initial_part, minimum_part, rate_part}
+use Rattle.tariff_syntax.specs.Tree.{Line, Entry, step, positions, zones, holiday, supplement}
+pub use Rattle.tariff_syntax.specs.Tree.{when_part}
 use Rattle.tariff_check.specs.declared.values.DateNumbers as dates
-use Rattle.tariff_check.specs.declared.values.InitialNumbers as initials
-use Rattle.tariff_check.specs.declared.values.RateNumbers as rates
 use Rattle.tariff_check.specs.declared.values.Supplement.{Supplement}
-
--- a rate has an amount `a` for each `b` decimetres, and an amount `c` for each `e` tenths of a second
-abbrev pub RateNumbers : Type 0
-RateNumbers = rates.RateNumbers
-
--- an initial hire fee has an amount and what it covers
-abbrev pub InitialNumbers : Type 0
-InitialNumbers = initials.InitialNumbers
 
 -- a date has a year, a month and a date of the month
 abbrev pub DateNumbers : Type 0
 DateNumbers = dates.DateNumbers
+
+-- the parts of lines are the part of each line that has one, in order
+abbrev pub parts : {A : Type 0} → (Entry → Option A) → List Line → List A
+parts part lines = filter_map (λ (l : Line). part l.entry) lines
 
 -- the first part of lines is that of the first line with such a part
 abbrev pub first_part : {A : Type 0} → (Entry → Option A) → List Line → Option A
@@ -54,28 +49,6 @@ supplement_part n (supplement number amount most) =
     if n == number then Some (record { amount = amount; max = most }) else None
 supplement_part n _ = None
 
--- the initial part of an entry is its amount and its cover if it is an initial hire fee, and none otherwise
-abbrev pub initial_part : Entry → Option InitialNumbers
-initial_part (initial amount covers when) = Some (record { amount = amount; covers = covers })
-initial_part _ = None
-
--- the rate part of an entry is its amounts and its measures if it is a rate, and none otherwise
-abbrev pub rate_part : Entry → Option RateNumbers
-rate_part (rate a b c e when) = Some (record { a = a; b = b; c = c; e = e })
-rate_part _ = None
-
--- the minimum part of an entry is its amount if it is a minimum fare, and none otherwise
-abbrev pub minimum_part : Entry → Option ℕ
-minimum_part (minimum amount when) = Some amount
-minimum_part _ = None
-
--- the condition of an entry is the one that it has, if its kind may have one and it has one
-abbrev pub when_part : Entry → Option Condition
-when_part (initial amount covers when) = when
-when_part (rate a b c e when) = when
-when_part (minimum amount when) = when
-when_part _ = None
-
 -- the display step of lines, with the rounding to it, is that of the first `step` line, if there is one
 abbrev pub step_of : List Line → Option (ℕ × Rounding)
 step_of lines = first_part step_part lines
@@ -102,12 +75,12 @@ supplement_of lines number = first_part (supplement_part number) lines
 
 -- the initial hire fees of lines are the amount and the cover of each `initial` line, in order
 abbrev pub initials_of : List Line → List InitialNumbers
-initials_of lines = parts initial_part lines
+initials_of lines = values_of (choices initial_part lines)
 
 -- the rates of lines are the amounts and the measures of each `rate` line, in order
 abbrev pub rates_of : List Line → List RateNumbers
-rates_of lines = parts rate_part lines
+rates_of lines = values_of (choices rate_part lines)
 
 -- the minimum fares of lines are the amount of each `minimum` line, in order
 abbrev pub minimums_of : List Line → List ℕ
-minimums_of lines = parts minimum_part lines
+minimums_of lines = values_of (choices minimum_part lines)

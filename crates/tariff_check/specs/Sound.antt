@@ -5,7 +5,6 @@ use Rattle.taxi_units.specs.Calendar.{is_date}
 use Rattle.taxi_units.specs.Money.{largest_amount}
 use Rattle.tariff_syntax.specs.Condition as tree
 use Rattle.tariff_syntax.specs.Condition.{Condition}
-use Rattle.tariff_syntax.specs.Parts.{rate_conditions, initial_conditions}
 use Rattle.tariff_syntax.specs.Tree.{Tree, Line}
 use Rattle.tariff_syntax.specs.Writable.{IsFromTo, IsWritableCondition}
 use Rattle.tariff_check.specs.Cells.{cells_of}
@@ -14,8 +13,9 @@ use Rattle.tariff_check.specs.Faults.{has_default}
 use Rattle.tariff_check.specs.Lines.{atoms_in}
 use Rattle.tariff_check.specs.Measure.{measure_of}
 use Rattle.tariff_check.specs.Parts.{RateNumbers, InitialNumbers, DateNumbers, step_of, positions_of}
+use Rattle.tariff_check.specs.Parts.{zones_of, holidays_of, supplement_of, initial_part, initials_of, minimums_of}
+use Rattle.tariff_check.specs.Parts.{rate_part, rates_of}
 use Rattle.tariff_check.specs.declared.values.Supplement.{Supplement}
-use Rattle.tariff_check.specs.Parts.{zones_of, holidays_of, supplement_of, initials_of, minimums_of, rates_of}
 use Rattle.tariff_check.specs.declared.fault.Dimension.{Dimension}
 
 -- a rate is sound if its amounts are at most 1,000,000 and its measures 1 to 10^12
@@ -60,10 +60,10 @@ pub record HasSoundParts (t : Tree) : Type 0 where
   pub zones : IsFromTo 1 9 (zones_of t.lines)
   pub rates : All IsSoundRate (rates_of t.lines)
   pub rate_count : length (rates_of t.lines) ≤ 64
-  pub default_rate : has_default (rate_conditions t.lines) ≡ true
+  pub default_rate : has_default rate_part t.lines ≡ true
   pub initials : All IsSoundInitial (initials_of t.lines)
   pub initial_count : length (initials_of t.lines) ≤ 64
-  pub default_initial : has_default (initial_conditions t.lines) ≡ true
+  pub default_initial : has_default initial_part t.lines ≡ true
   pub minimums : All (λ amount. amount ≤ largest_amount) (minimums_of t.lines)
   pub minimum_count : length (minimums_of t.lines) ≤ 64
   pub supplements : (number : ℕ) (s : Supplement) → supplement_of t.lines number ≡ Some s → IsSoundSupplement s

@@ -1,73 +1,30 @@
 -- Rules: a sound tariff as its parts, and the choice that holds first in a context.
 use Rattle.std.specs.Prelude.{◌≡◌, ◌⊎◌, ℕ, ◌==◌, Bool, List, [], ◌∷◌, filter, find, map, is_some, Option, Some, None}
-use Rattle.std.specs.List.{filter_map, position_from, slice_get}
+use Rattle.std.specs.List.{slice_get}
 use Rattle.std.specs.Option.{option_map, unwrap_or}
 use Rattle.drive_modes.specs.declared.meterage.Rounding.{Rounding}
 use Rattle.drive_modes.specs.declared.meterage.Rounding.TheVariants.{Behind}
+pub use Rattle.tariff_syntax.specs.Choices.{Choice, choices, conditions_of, values_of}
 use Rattle.tariff_syntax.specs.Condition.{Condition}
-use Rattle.tariff_syntax.specs.Meaning.{holds_if}
-use Rattle.tariff_syntax.specs.Parts.{initial_conditions, minimum_conditions, parts, rate_conditions}
+pub use Rattle.tariff_syntax.specs.Meaning.{place_of}
 use Rattle.tariff_syntax.specs.Tree.{Tree, Line, Entry, step, positions, zones, holiday, supplement, initial, rate}
-use Rattle.tariff_syntax.specs.Tree.{minimum}
-use Rattle.tariff_syntax.specs.declared.context.Context.{Context}
+use Rattle.tariff_syntax.specs.Tree.{minimum, when_part}
 use Rattle.tariff_check.specs.Cells.{cells_of}
 use Rattle.tariff_check.specs.Measure.{measure_of}
-use Rattle.tariff_check.specs.Parts.{RateNumbers, InitialNumbers, DateNumbers, step_of, positions_of}
+use Rattle.tariff_check.specs.Parts.{RateNumbers, InitialNumbers, DateNumbers, parts, step_of}
+use Rattle.tariff_check.specs.Parts.{positions_of, zones_of, holidays_of, holiday_part, initial_part, minimum_part}
+use Rattle.tariff_check.specs.Parts.{positions_part, rate_part, step_part, zones_part}
 use Rattle.tariff_check.specs.declared.values.Supplement.{Supplement}
-use Rattle.tariff_check.specs.Parts.{zones_of, holidays_of, initials_of, minimums_of, rates_of, holiday_part, positions_part, step_part}
-use Rattle.tariff_check.specs.Parts.{when_part, zones_part}
 use Rattle.tariff_check.specs.declared.choice.Choice as program
-
--- a choice has a value, the condition in which it holds, or none, and the number of its line in the text
-pub record Choice (V : Type 0) : Type 0 where
-  pub value : V
-  pub when : Option Condition
-  pub line : ℕ
-
--- a rate is chosen by its condition, for its amounts and its measures
-abbrev pub rate_choice : Entry → Option (RateNumbers × Option Condition)
-rate_choice (rate a b c e when) = Some (record { a = a; b = b; c = c; e = e }, when)
-rate_choice _ = None
-
--- an initial hire fee is chosen by its condition, for its amount and its cover
-abbrev pub initial_choice : Entry → Option (InitialNumbers × Option Condition)
-initial_choice (initial amount covers when) = Some (record { amount = amount; covers = covers }, when)
-initial_choice _ = None
-
--- a minimum fare is chosen by its condition, for its amount
-abbrev pub minimum_choice : Entry → Option (ℕ × Option Condition)
-minimum_choice (minimum amount when) = Some (amount, when)
-minimum_choice _ = None
 
 -- a supplement says its number, its amount and how often a hiring may have it
 abbrev pub numbered_supplement : Entry → Option (ℕ × Supplement)
 numbered_supplement (supplement number amount most) = Some (number, record { amount = amount; max = most })
 numbered_supplement _ = None
 
--- the choice that a line gives has what the line says, if it is of the kind, and the line's number
-abbrev pub choice_in : {V : Type 0} → (Entry → Option (V × Option Condition)) → Line → Option (Choice V)
-choice_in {V} part l =
-    option_map (λ (said : V × Option Condition). record { value = said.0; when = said.1; line = l.line }) (part l.entry)
-
--- the choices of a kind among lines are those that the lines give, in order
-abbrev pub choices : {V : Type 0} → (Entry → Option (V × Option Condition)) → List Line → List (Choice V)
-choices part lines = filter_map (choice_in part) lines
-
--- the values of choices are that of each, in order
-abbrev pub values_of : {V : Type 0} → List (Choice V) → List V
-values_of {V} all = map (λ (c : Choice V). c.value) all
-
--- the conditions of choices are that of each, or none if it has none, in order
-abbrev pub conditions_of : {V : Type 0} → List (Choice V) → List (Option Condition)
-conditions_of {V} all = map (λ (c : Choice V). c.when) all
-
 -- the line numbers of choices are that of each, in order
 abbrev pub lines_of : {V : Type 0} → List (Choice V) → List ℕ
 lines_of {V} all = map (λ (c : Choice V). c.line) all
-
--- the place of the first of some conditions, each there or none, that holds in a context is counted from 0
-abbrev pub place_of : Context → List (Option Condition) → Option ℕ
-place_of x conditions = position_from (holds_if x) 0 conditions
 
 -- a sound tariff has the decimals of its money, its display step and the rounding to it, how many positions and zones
 -- there are, its holidays and its supplements, by their numbers, the choices among its rates, its initial hire fees and
@@ -95,9 +52,9 @@ sound_of t =
       zones = zones_of t.lines;
       holidays = holidays_of t.lines;
       supplements = parts numbered_supplement t.lines;
-      rates = choices rate_choice t.lines;
-      initials = choices initial_choice t.lines;
-      minimums = choices minimum_choice t.lines;
+      rates = choices rate_part t.lines;
+      initials = choices initial_part t.lines;
+      minimums = choices minimum_part t.lines;
       measure = measure_of t.lines;
       cells = cells_of t.lines;
     }
@@ -137,14 +94,11 @@ pub record AreChoices {V : Type 0} (lines : List Line) (own : List (program.Choi
   pub numbers : own_lines own ≡ lines_of all
 
 -- what is said of a rate, an initial hire fee, a minimum fare, a supplement or a holiday makes an entry again
-abbrev pub rate_entry : RateNumbers × Option Condition → Entry
-rate_entry said = rate said.0.a said.0.b said.0.c said.0.e said.1
+abbrev pub rate_entry : RateNumbers → Option Condition → Entry
+rate_entry r when = rate r.a r.b r.c r.e when
 
-abbrev pub initial_entry : InitialNumbers × Option Condition → Entry
-initial_entry said = initial said.0.amount said.0.covers said.1
-
-abbrev pub minimum_entry : ℕ × Option Condition → Entry
-minimum_entry said = minimum said.0 said.1
+abbrev pub initial_entry : InitialNumbers → Option Condition → Entry
+initial_entry i when = initial i.amount i.covers when
 
 abbrev pub supplement_entry : ℕ × Supplement → Entry
 supplement_entry said = supplement said.0 said.1.amount said.1.max
@@ -153,8 +107,8 @@ abbrev pub holiday_entry : DateNumbers → Entry
 holiday_entry d = holiday d.year d.month d.date
 
 -- the line of a choice has its number, and the entry that is made of its value and its condition
-abbrev pub line_with : {V : Type 0} → (V × Option Condition → Entry) → Choice V → Line
-line_with entry c = record { line = c.line; entry = entry (c.value, c.when) }
+abbrev pub line_with : {V : Type 0} → (V → Option Condition → Entry) → Choice V → Line
+line_with entry c = record { line = c.line; entry = entry c.value c.when }
 
 -- the test `is_told` is true if a line is of the kind that a part is of
 abbrev pub is_told : {A : Type 0} → (Entry → Option A) → Line → Bool
@@ -167,24 +121,15 @@ entries_told part lines = map (λ (l : Line). l.entry) (filter (is_told part) li
 -- a tariff as its parts has all of its lines of a kind that may have a condition, with their numbers, and all its
 -- holidays and supplements
 pub record HasAllLines (t : Tree) (s : SoundTariff) : Type 0 where
-  pub rates : map (line_with rate_entry) s.rates ≡ filter (is_told rate_choice) t.lines
-  pub initials : map (line_with initial_entry) s.initials ≡ filter (is_told initial_choice) t.lines
-  pub minimums : map (line_with minimum_entry) s.minimums ≡ filter (is_told minimum_choice) t.lines
+  pub rates : map (line_with rate_entry) s.rates ≡ filter (is_told rate_part) t.lines
+  pub initials : map (line_with initial_entry) s.initials ≡ filter (is_told initial_part) t.lines
+  pub minimums : map (line_with minimum) s.minimums ≡ filter (is_told minimum_part) t.lines
   pub supplements : map supplement_entry s.supplements ≡ entries_told numbered_supplement t.lines
   pub holidays : map holiday_entry s.holidays ≡ entries_told holiday_part t.lines
 
 -- a number is told once by entries if one entry says it, or if there is none and the number is 1
 abbrev pub IsToldOnce : (ℕ → Entry) → ℕ → List Entry → Type 0
 IsToldOnce entry n entries = (entries ≡ entry n ∷ []) ⊎ ((entries ≡ []) × (n ≡ 1))
-
--- a tariff as its parts has the values and the conditions of its lines of each kind that may have one
-pub record HasChoices (t : Tree) (s : SoundTariff) : Type 0 where
-  pub rates : values_of s.rates ≡ rates_of t.lines
-  pub rate_conditions : conditions_of s.rates ≡ rate_conditions t.lines
-  pub initials : values_of s.initials ≡ initials_of t.lines
-  pub initial_conditions : conditions_of s.initials ≡ initial_conditions t.lines
-  pub minimums : values_of s.minimums ≡ minimums_of t.lines
-  pub minimum_conditions : conditions_of s.minimums ≡ minimum_conditions t.lines
 
 -- the frame of a sound tariff is told once: its display step by one line, and its positions and its zones by one line
 -- each or, where they are 1, by none

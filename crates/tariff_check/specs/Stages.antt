@@ -2,14 +2,13 @@
 -- numbers together. Faults has them all in their order.
 use Rattle.std.specs.Prelude.{◌^◌, not, nat_lt, List, Option, is_none}
 use Rattle.std.specs.Option.{option_or}
-use Rattle.tariff_syntax.specs.Parts.{rate_conditions, initial_conditions}
 use Rattle.tariff_syntax.specs.Tree.{Line}
 use Rattle.tariff_check.specs.Cells.{cells_of}
 use Rattle.tariff_check.specs.Faults.{fault_if, fault_at, is_step_zero, cuts_fault, has_default}
 use Rattle.tariff_check.specs.Lines.{first_line, is_duplicate, is_one_too_many, names_unknown, is_after_default}
 use Rattle.tariff_check.specs.Lines.{has_bad_date, has_great_amount, has_measure_zero}
 use Rattle.tariff_check.specs.Measure.{measure_of}
-use Rattle.tariff_check.specs.Parts.{step_of, positions_of, zones_of}
+use Rattle.tariff_check.specs.Parts.{initial_part, rate_part, step_of, positions_of, zones_of}
 use Rattle.tariff_check.specs.declared.fault.Dimension.TheVariants.{MonthDay, Minute, Distance, Time}
 use Rattle.tariff_check.specs.declared.fault.CheckFault.{CheckFault}
 use Rattle.tariff_check.specs.declared.fault.CheckFault.TheVariants.{NoStep, StepZero, Duplicate, TooManyLines}
@@ -31,8 +30,8 @@ line_fault ls =
 -- the fault of a default that isn't there, or of a line after it
 abbrev pub default_fault : List Line → Option CheckFault
 default_fault ls =
-    option_or (fault_if (not (has_default (rate_conditions ls))) NoDefaultRate)
-    (option_or (fault_if (not (has_default (initial_conditions ls))) NoDefaultInitial)
+    option_or (fault_if (not (has_default rate_part ls)) NoDefaultRate)
+    (option_or (fault_if (not (has_default initial_part ls)) NoDefaultInitial)
     (fault_at LineAfterDefault (first_line is_after_default ls)))
 
 -- the fault of a line with a number that it may not have

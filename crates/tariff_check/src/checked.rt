@@ -15,10 +15,10 @@ use crate::choice::Choice;
 use crate::numbers::Numbers;
 use crate::parts::condition;
 use crate::resolving::{Parts, numbered};
-use crate::values::{DateNumbers, InitialNumbers, RateNumbers, Supplement};
+use crate::values::{DateNumbers, Supplement};
 use drive_modes::Rounding;
 use std::marker::Model;
-use tariff_syntax::{Cond, Context, Tariff, sat};
+use tariff_syntax::{Cond, Context, InitialNumbers, RateNumbers, Tariff, sat};
 
 /// A sound tariff, with its numbers and its parts.
 #[derive(Drop)]

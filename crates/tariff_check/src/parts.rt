@@ -2,10 +2,10 @@
 ghost use Rattle.std.specs.Prelude.{◌≡◌, Some, None, IfOk, IfErr, OnOk, map};
 ghost use Rattle.taxi_units.specs.Reading.{Gives};
 ghost use Rattle.tariff_check.specs.Faults.{has_default};
-ghost use Rattle.tariff_check.specs.Parts.{has_holidays, positions_of, step_of, when_part, zones_of};
+ghost use Rattle.tariff_check.specs.Parts.{has_holidays, initial_part, positions_of, rate_part, step_of, when_part};
+ghost use Rattle.tariff_check.specs.Parts.{zones_of};
 ghost use Rattle.tariff_check.specs.Stages.{step_fault};
 ghost use Rattle.tariff_syntax.specs.Condition.{condition_of};
-ghost use Rattle.tariff_syntax.specs.Parts.{initial_conditions, rate_conditions};
 ghost use Rattle.tariff_syntax.specs.Tree.{entry_of, line_of};
 
 use crate::fault::CheckFault;
@@ -68,7 +68,7 @@ pub(crate) fn has_holidays(lines: &[TariffLine]) -> bool
 
 /// Whether there is a rate without a condition.
 pub(crate) fn has_default_rate(lines: &[TariffLine]) -> bool
-    ensures { result ≡ has_default (rate_conditions (map line_of lines.now)) }
+    ensures { result ≡ has_default rate_part (map line_of lines.now) }
 {
     for line in lines {
         if let Item::Rate(rate) = &line.item {
@@ -82,7 +82,7 @@ pub(crate) fn has_default_rate(lines: &[TariffLine]) -> bool
 
 /// Whether there is an initial hire fee without a condition.
 pub(crate) fn has_default_initial(lines: &[TariffLine]) -> bool
-    ensures { result ≡ has_default (initial_conditions (map line_of lines.now)) }
+    ensures { result ≡ has_default initial_part (map line_of lines.now) }
 {
     for line in lines {
         if let Item::Initial(initial) = &line.item {

@@ -1,16 +1,15 @@
 //! The parts of a tariff, from its lines.
 ghost use Rattle.std.specs.Option.{option_to_list};
 ghost use Rattle.std.specs.Prelude.{◌≡◌, ◌++◌, ◌∷◌, [], IfOk, OnOk, map};
-ghost use Rattle.tariff_check.specs.Parts.{holiday_part};
+ghost use Rattle.tariff_check.specs.Parts.{holiday_part, initial_part, minimum_part, rate_part};
 ghost use Rattle.tariff_check.specs.Resolved.{HasParts, placed};
-ghost use Rattle.tariff_check.specs.SoundTariff.{initial_choice, minimum_choice, numbered_supplement, rate_choice};
-ghost use Rattle.tariff_check.specs.SoundTariff.{supplement_numbered};
+ghost use Rattle.tariff_check.specs.SoundTariff.{numbered_supplement, supplement_numbered};
 ghost use Rattle.tariff_syntax.specs.Tree.{line_of};
 
 use crate::choice::Choice;
-use crate::values::{DateNumbers, InitialNumbers, RateNumbers, Supplement};
+use crate::values::{DateNumbers, Supplement};
 use std::alloc::Global;
-use tariff_syntax::{Item, RateLine, TariffLine};
+use tariff_syntax::{InitialNumbers, Item, RateLine, RateNumbers, TariffLine};
 use taxi_units::NoMemory;
 
 /// What the lines of a tariff say, kind by kind, each in the order of the lines.
@@ -48,11 +47,11 @@ impl Parts {
         ensures supplements { OnOk result (self.new.supplements.items
             ≡ self.old.supplements.items ++ option_to_list (numbered_supplement (line_of line.now).entry)) }
         ensures rates { OnOk result (self.new.rates.items
-            ≡ self.old.rates.items ++ option_to_list (placed rate_choice place (line_of line.now))) }
+            ≡ self.old.rates.items ++ option_to_list (placed rate_part place (line_of line.now))) }
         ensures initials { OnOk result (self.new.initials.items
-            ≡ self.old.initials.items ++ option_to_list (placed initial_choice place (line_of line.now))) }
+            ≡ self.old.initials.items ++ option_to_list (placed initial_part place (line_of line.now))) }
         ensures minimums { OnOk result (self.new.minimums.items
-            ≡ self.old.minimums.items ++ option_to_list (placed minimum_choice place (line_of line.now))) }
+            ≡ self.old.minimums.items ++ option_to_list (placed minimum_part place (line_of line.now))) }
     {
         let number = line.line;
         match &line.item {

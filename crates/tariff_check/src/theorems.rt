@@ -7,12 +7,11 @@ ghost use Rattle.tariff_check.specs.Lines.{LineTest, IsFirstLine, IsNowhere, fir
 ghost use Rattle.tariff_check.specs.Measure.{IsLeastCommonMultiple, measures_of, measure_of};
 ghost use Rattle.tariff_check.specs.Parts.{initials_of, minimums_of, rates_of, supplement_of};
 ghost use Rattle.tariff_check.specs.Sound.{HasSoundParts};
-ghost use Rattle.tariff_check.specs.SoundTariff.{HasAllLines, HasChoices, HasFrame, place_of, sound_of};
+ghost use Rattle.tariff_check.specs.SoundTariff.{HasAllLines, HasFrame, sound_of};
 ghost use Rattle.tariff_check.specs.SoundTariff.{supplement_numbered};
 ghost use Rattle.tariff_check.specs.declared.fault.CheckFault.TheVariants.{NoCommonMeasure};
 ghost use Rattle.tariff_check.specs.declared.fault.Dimension.{Dimension};
-ghost use Rattle.tariff_syntax.specs.Condition.{Condition};
-ghost use Rattle.tariff_syntax.specs.Meaning.{IsFirstPlace, holds_if, initial_place, minimum_place, rate_place};
+ghost use Rattle.tariff_syntax.specs.Meaning.{initial_place, minimum_place, rate_place};
 ghost use Rattle.tariff_syntax.specs.Reads.{RiseInNumber};
 ghost use Rattle.tariff_syntax.specs.Tree.{Tree, Line};
 ghost use Rattle.tariff_syntax.specs.Writable.{IsFromTo, IsWritable};
@@ -86,14 +85,6 @@ pub fn hirings_begin_with_first_lines()
 pub fn sound_tariffs_are_their_parts()
     ensures lines { (t : Tree) → HasAllLines t (sound_of t) }
     ensures frame { (t : Tree) → IsSound t → HasFrame t (sound_of t) }
-    ensures choices { (t : Tree) → HasChoices t (sound_of t) }
     ensures supplements { (t : Tree) (number : ℕ)
         → supplement_numbered (sound_of t).supplements number ≡ supplement_of t.lines number }
-{}
-
-/// The law of choices: the choice that is found in a context is the one at which a condition holds or there is
-/// none, and before which none holds; there is none exactly where no choice holds.
-pub fn the_first_choice_holds()
-    ensures { (x : Context) (conditions : List (Option Condition)) (place : Option ℕ)
-        → (place_of x conditions ≡ place) ↔ IsFirstPlace (holds_if x) conditions place }
 {}

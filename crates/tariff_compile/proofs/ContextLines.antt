@@ -8,9 +8,7 @@ use Rattle.std.specs.List.{slice_get}
 use Rattle.tariff_calendar.specs.Lists.{AreOrdered, CutLists, count_at_most, lists_of}
 use Rattle.tariff_calendar.specs.Range.{IsInRange, IsInRangeOf, IsSameCell}
 use Rattle.taxi_units.specs.Time.{longest_trip}
-use Rattle.tariff_calendar.proofs.Laws.{counts_are_places-few, cuts_decide_conditions-initial}
-use Rattle.tariff_calendar.proofs.Laws.{cuts_decide_conditions-minimum, cuts_decide_conditions-rate}
-use Rattle.tariff_calendar.proofs.Laws.{lists_are_ordered-ordered}
+use Rattle.tariff_calendar.proofs.Laws.{counts_are_places-few, cuts_decide_conditions-first, lists_are_ordered-ordered}
 use Rattle.tariff_check.specs.Faults.{IsSound}
 use Rattle.tariff_check.specs.Parts.{has_holidays, positions_of, zones_of}
 use Rattle.tariff_syntax.specs.Tree.{Tree}
@@ -106,10 +104,8 @@ beginning_lines t k x writable sound x_in =
     let ordered = lists_are_ordered-ordered t k writable sound in
     let y_in = beginning_in_range t k x ordered x_in in
     let same = beginning_same_cell t k x ordered x_in in
-    let rate = cuts_decide_conditions-rate t k (beginning_of t k x) x writable sound y_in x_in same in
-    let initial = cuts_decide_conditions-initial t k (beginning_of t k x) x writable sound y_in x_in same in
-    let minimum = cuts_decide_conditions-minimum t k (beginning_of t k x) x writable sound y_in x_in same in
-    rw (rate, initial, minimum) refl
+    let first = cuts_decide_conditions-first t k (beginning_of t k x) x writable sound y_in x_in same in
+    rw (first.0, first.1, first.2) refl
 
 -- the cell of a context names the lines that the tree names
 pub cell_has_lines : (t : Tree) (k : ℕ) (x : Context) (d : CellLines) → IsWritable t → IsSound t → IsInRangeOf t k x

@@ -1,10 +1,9 @@
 -- The laws of tariffs' texts, one for each clause of the public laws.
 use Rattle.std.proofs.Common.{◌≡◌, ◌⊎◌, ◌↔◌, ℕ, List, Option, Ok, Err}
 use Rattle.tariff_syntax.specs.Condition.{Condition}
-use Rattle.tariff_syntax.specs.Meaning.{IsFirstPlace, at_hiring, holds_if, initial_place, minimum_place, rate_place}
+use Rattle.tariff_syntax.specs.Meaning.{IsFirstPlace, holds_if, place_of}
 use Rattle.tariff_syntax.specs.Parentheses.{NeedsParentheses}
 use Rattle.tariff_syntax.specs.Parsed.{tree_parsed}
-use Rattle.tariff_syntax.specs.Parts.{initial_conditions, minimum_conditions, rate_conditions}
 use Rattle.tariff_syntax.specs.Printed.{printed}
 use Rattle.tariff_syntax.specs.Reads.{Reads, IsFirstBadLine, RiseInNumber}
 use Rattle.tariff_syntax.specs.Renumbered.{renumbered}
@@ -59,14 +58,6 @@ lines_rise_in_number = numbers_rise
 pub parentheses_are_needed : (c : Condition) → NeedsParentheses c
 parentheses_are_needed = parentheses_stay
 
-pub first_lines_hold-rate : (t : Tree) (x : Context) (place : Option ℕ) → (rate_place t x ≡ place)
-    ↔ IsFirstPlace (holds_if x) (rate_conditions t.lines) place
-first_lines_hold-rate t x place = first_place_is (holds_if x) (rate_conditions t.lines) place
-
-pub first_lines_hold-initial : (t : Tree) (x : Context) (place : Option ℕ) → (initial_place t x ≡ place)
-    ↔ IsFirstPlace (holds_if (at_hiring x)) (initial_conditions t.lines) place
-first_lines_hold-initial t x place = first_place_is (holds_if (at_hiring x)) (initial_conditions t.lines) place
-
-pub first_lines_hold-minimum : (t : Tree) (x : Context) (place : Option ℕ) → (minimum_place t x ≡ place)
-    ↔ IsFirstPlace (holds_if (at_hiring x)) (minimum_conditions t.lines) place
-first_lines_hold-minimum t x place = first_place_is (holds_if (at_hiring x)) (minimum_conditions t.lines) place
+pub first_lines_hold : (x : Context) (conditions : List (Option Condition)) (place : Option ℕ)
+    → (place_of x conditions ≡ place) ↔ IsFirstPlace (holds_if x) conditions place
+first_lines_hold x = first_place_is (holds_if x)

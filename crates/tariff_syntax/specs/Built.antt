@@ -2,7 +2,7 @@
 use Rattle.std.specs.Prelude.{◌≡◌, List, Option, Some, None, Result, Ok, Err, ⊤}
 use Rattle.tariff_syntax.specs.Condition.{Condition, condition_of, and, or, not}
 use Rattle.tariff_syntax.specs.Token.{Token}
-use Rattle.tariff_syntax.specs.Tree.{Entry, initial, rate, minimum}
+use Rattle.tariff_syntax.specs.Tree.{Entry, when_part}
 use Rattle.tariff_syntax.specs.declared.condition.Cond.{Cond}
 use Rattle.taxi_units.specs.declared.NoMemory.{NoMemory}
 
@@ -20,10 +20,7 @@ HasPartsIf (Some c) = HasParts c
 
 -- an entry has a condition with parts if its kind has a condition and that is no atom
 abbrev pub EntryHasParts : Entry → Type 0
-EntryHasParts (initial amount covers when) = HasPartsIf when
-EntryHasParts (rate a b c e when) = HasPartsIf when
-EntryHasParts (minimum amount when) = HasPartsIf when
-EntryHasParts _ = ⊥
+EntryHasParts entry = HasPartsIf (when_part entry)
 
 -- a condition, or the want of memory for its parts
 abbrev pub Built : Type 0

@@ -1,6 +1,7 @@
 pub mod Appends
 pub mod Atom
 pub mod Built
+pub mod Choices
 pub mod Condition
 pub mod Faults
 pub mod Figure
@@ -14,7 +15,6 @@ pub mod Meaning
 pub mod Parentheses
 pub mod Parsed
 pub mod Parses
-pub mod Parts
 pub mod Printed
 pub mod PrintedCondition
 pub mod Reads

@@ -5,8 +5,8 @@ use Rattle.std.specs.List.{position_from, slice_get}
 use Rattle.taxi_units.specs.Calendar.{date_of_place}
 use Rattle.tariff_syntax.specs.Condition as tree
 use Rattle.tariff_syntax.specs.Condition.{Condition}
-use Rattle.tariff_syntax.specs.Parts.{rate_conditions, initial_conditions, minimum_conditions}
-use Rattle.tariff_syntax.specs.Tree.{Tree}
+use Rattle.tariff_syntax.specs.Choices.{choices, conditions_of, initial_part, minimum_part, rate_part}
+use Rattle.tariff_syntax.specs.Tree.{Tree, Entry}
 use Rattle.tariff_syntax.specs.declared.context.Context.{Context}
 
 -- a number is within a range if it is from the first end to the second, both included, or, if the first is the
@@ -63,18 +63,26 @@ IsFirstPlace {A} passes xs (Some place) =
     (x : A) × (slice_get xs place ≡ Some x) × (passes x ≡ true)
     × All (λ (before : A). passes before ≡ false) (take place xs)
 
--- the rate of a context is the first rate that holds in it, told by its place among the rates
-abbrev pub rate_place : Tree → Context → Option ℕ
-rate_place t x = position_from (holds_if x) 0 (rate_conditions t.lines)
+-- the place of the first of some conditions, each there or none, that holds in a context is counted from 0
+abbrev pub place_of : Context → List (Option Condition) → Option ℕ
+place_of x conditions = position_from (holds_if x) 0 conditions
+
+-- the choice of a kind of a tariff that holds first in a context is told by its place among the choices of the kind
+abbrev pub choice_place : {V : Type 0} → (Entry → Option V) → Tree → Context → Option ℕ
+choice_place part t x = place_of x (conditions_of (choices part t.lines))
 
 -- a context at the hiring is the same one with no pulse and no tick of the trip yet
 abbrev pub at_hiring : Context → Context
 at_hiring x = record x { pulses = 0; ticks = 0 }
 
+-- the rate of a context is the first rate that holds in it, told by its place among the rates
+abbrev pub rate_place : Tree → Context → Option ℕ
+rate_place t x = choice_place rate_part t x
+
 -- the initial hire fee of a context is the first one that holds at the hiring, told by its place among them
 abbrev pub initial_place : Tree → Context → Option ℕ
-initial_place t x = position_from (holds_if (at_hiring x)) 0 (initial_conditions t.lines)
+initial_place t x = choice_place initial_part t (at_hiring x)
 
 -- the minimum fare of a context is the first one that holds at the hiring, told by its place among them
 abbrev pub minimum_place : Tree → Context → Option ℕ
-minimum_place t x = position_from (holds_if (at_hiring x)) 0 (minimum_conditions t.lines)
+minimum_place t x = choice_place minimum_part t (at_hiring x)

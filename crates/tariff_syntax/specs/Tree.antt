@@ -1,5 +1,5 @@
 -- Rules: a tariff, without where it lies in memory.
-use Rattle.std.specs.Prelude.{ℕ, List, map, Option}
+use Rattle.std.specs.Prelude.{ℕ, List, map, Option, None}
 use Rattle.drive_modes.specs.declared.meterage.Rounding.{Rounding}
 use Rattle.tariff_syntax.specs.Condition.{Condition, condition_if}
 use Rattle.tariff_syntax.specs.declared.tariff.Item.{Item}
@@ -19,6 +19,13 @@ pub data Entry : Type 0 where
   initial : (amount covers : ℕ) (when : Option Condition) → Entry
   rate : (a b c e : ℕ) (when : Option Condition) → Entry
   minimum : (amount : ℕ) (when : Option Condition) → Entry
+
+-- the condition of an entry is the one that it has, if its kind may have one and it has one
+abbrev pub when_part : Entry → Option Condition
+when_part (initial amount covers when) = when
+when_part (rate a b c e when) = when
+when_part (minimum amount when) = when
+when_part _ = None
 
 -- a line has its number in the text, from 1 on, and the entry that it says
 pub record Line : Type 0 where

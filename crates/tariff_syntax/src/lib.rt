@@ -20,9 +20,12 @@ mod writing;
 
 pub use condition::Cond;
 pub use context::Context;
-pub use meaning::{LineKind, initial_of, minimum_of, rate_of, sat, when_of};
+pub use meaning::{initial_of, minimum_of, rate_of, sat};
 pub use parsing::{ParseFault, parse};
-pub use tariff::{InitialLine, Item, Lines, MinimumLine, RateLine, Tariff, TariffLine};
+pub use tariff::{
+    InitialLine, InitialNumbers, Item, Lines, MinimumLine, RateLine, RateNumbers, Tariff,
+    TariffLine,
+};
 pub use theorems::{
     first_lines_hold, lines_rise_in_number, parentheses_are_needed, printed_forms_read_back,
     texts_are_cut_at_their_line_feeds, texts_are_parsed_as_they_read, texts_have_their_numbers,

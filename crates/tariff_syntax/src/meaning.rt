@@ -1,16 +1,13 @@
 //! Whether a condition holds, and which rate, which initial hire fee and which minimum fare hold first.
-ghost use Rattle.std.specs.List.{position_from};
-ghost use Rattle.std.specs.Prelude.{◌≡◌, map};
-ghost use Rattle.taxi_units.specs.Reading.{Gives};
+ghost use Rattle.std.specs.Prelude.{◌≡◌};
 ghost use Rattle.tariff_syntax.specs.Condition.{condition_of, condition_if};
 ghost use Rattle.tariff_syntax.specs.Meaning.{holds, holds_if, is_by, is_in_dates, is_in_time, is_on, is_within};
 ghost use Rattle.tariff_syntax.specs.Meaning.{rate_place, initial_place, minimum_place, at_hiring};
-ghost use Rattle.tariff_syntax.specs.Parts.{parts, when_of};
-ghost use Rattle.tariff_syntax.specs.Tree.{entry_of, line_of, tree_of};
+ghost use Rattle.tariff_syntax.specs.Tree.{tree_of};
 
 use crate::condition::Cond;
 use crate::context::Context;
-use crate::tariff::{Item, Tariff, TariffLine};
+use crate::tariff::{Item, Tariff};
 use drive_modes::reached;
 use taxi_units::date_of_place;
 
@@ -40,7 +37,16 @@ pub fn sat(cond: &Cond, x: &Context) -> bool
 pub fn rate_of(tariff: &Tariff, x: &Context) -> Option<usize>
     ensures { result ≡ rate_place (tree_of tariff.now) x.now }
 {
-    first_of(LineKind::Rate, tariff.lines.as_slice(), x)
+    let mut place = 0;
+    for line in tariff.lines.as_slice() {
+        if let Item::Rate(rate) = &line.item {
+            if sat_if(&rate.cond, x) {
+                return Some(place);
+            }
+            place += 1;
+        }
+    }
+    None
 }
 
 /// The initial hire fee of a context: the first initial line that has no condition or whose condition
@@ -49,7 +55,17 @@ pub fn rate_of(tariff: &Tariff, x: &Context) -> Option<usize>
 pub fn initial_of(tariff: &Tariff, x: &Context) -> Option<usize>
     ensures { result ≡ initial_place (tree_of tariff.now) x.now }
 {
-    first_of(LineKind::Initial, tariff.lines.as_slice(), &hiring(x))
+    let hiring = hiring(x);
+    let mut place = 0;
+    for line in tariff.lines.as_slice() {
+        if let Item::Initial(initial) = &line.item {
+            if sat_if(&initial.cond, &hiring) {
+                return Some(place);
+            }
+            place += 1;
+        }
+    }
+    None
 }
 
 /// The minimum fare of a context: the first minimum line that has no condition or whose condition holds
@@ -58,44 +74,17 @@ pub fn initial_of(tariff: &Tariff, x: &Context) -> Option<usize>
 pub fn minimum_of(tariff: &Tariff, x: &Context) -> Option<usize>
     ensures { result ≡ minimum_place (tree_of tariff.now) x.now }
 {
-    first_of(LineKind::Minimum, tariff.lines.as_slice(), &hiring(x))
-}
-
-/// A kind of lines, of which the first that holds is the one that counts.
-#[derive(Clone, Copy)]
-pub enum LineKind {
-    Rate,
-    Initial,
-    Minimum,
-}
-
-/// The first line of a kind that holds, by its place among the lines of that kind, from 0.
-fn first_of(kind: LineKind, lines: &[TariffLine], x: &Context) -> Option<usize>
-    ensures { result ≡ position_from (holds_if x.now) 0 (parts (when_of kind) (map line_of lines.now)) }
-{
+    let hiring = hiring(x);
     let mut place = 0;
-    let mut first = None;
-    for line in lines {
-        if let Some(cond) = when_of(kind, &line.item) {
-            if first.is_none() && sat_if(cond, x) {
-                first = Some(place);
+    for line in tariff.lines.as_slice() {
+        if let Item::Minimum(minimum) = &line.item {
+            if sat_if(&minimum.cond, &hiring) {
+                return Some(place);
             }
             place += 1;
         }
     }
-    first
-}
-
-/// The condition of a line of a kind, which may have none. `None` where the line is of another kind.
-pub fn when_of(kind: LineKind, item: &Item) -> Option<&Option<Cond>>
-    ensures { Gives (λ cond. condition_if cond.now) result (when_of kind (entry_of item.now)) }
-{
-    match (kind, item) {
-        (LineKind::Rate, Item::Rate(rate)) => Some(&rate.cond),
-        (LineKind::Initial, Item::Initial(initial)) => Some(&initial.cond),
-        (LineKind::Minimum, Item::Minimum(minimum)) => Some(&minimum.cond),
-        _ => None,
-    }
+    None
 }
 
 /// A context at the hiring, with no pulse and no tick of the trip.

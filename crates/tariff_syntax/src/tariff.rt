@@ -19,12 +19,37 @@ pub struct RateLine {
     pub cond: Option<Cond>,
 }
 
+/// What a rate charges, and for what, without its condition. In a sound tariff the amounts are at most 1,000,000, and
+/// the measures 1 to 10^12.
+#[derive(Clone, Copy)]
+pub struct RateNumbers {
+    pub a: u64,
+    pub b: u64,
+    pub c: u64,
+    pub e: u64,
+}
+
 /// An initial hire fee, and the amount of charges that it covers. Without a condition it holds always.
 #[derive(Debug, Drop)]
 pub struct InitialLine {
     pub amount: u64,
     pub covers: u64,
     pub cond: Option<Cond>,
+}
+
+/// An initial hire fee and what it covers, without its condition: at most 99,999,999 each in a sound tariff.
+#[derive(Clone, Copy)]
+pub struct InitialNumbers {
+    pub amount: u64,
+    pub covers: u64,
+}
+
+impl InitialNumbers {
+    /// Takes an initial hire fee apart. It compiles only while it is two numbers and nothing else.
+    fn take_apart(self) -> (u64, u64) {
+        let InitialNumbers { amount, covers } = self;
+        (amount, covers)
+    }
 }
 
 /// A minimum fare: what a trip costs at the least, without its supplements. Without a condition it holds

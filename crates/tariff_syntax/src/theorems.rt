@@ -3,9 +3,7 @@
 //! with the printed form they share the names of weekdays and of roundings, which are tables.
 ghost use Rattle.std.specs.Prelude.{◌≡◌, ◌↔◌, ◌⊎◌, ℕ, List, Option, Ok, Err};
 ghost use Rattle.tariff_syntax.specs.Condition.{Condition};
-ghost use Rattle.tariff_syntax.specs.Meaning.{IsFirstPlace, at_hiring, holds_if, initial_place, minimum_place};
-ghost use Rattle.tariff_syntax.specs.Meaning.{rate_place};
-ghost use Rattle.tariff_syntax.specs.Parts.{initial_conditions, minimum_conditions, rate_conditions};
+ghost use Rattle.tariff_syntax.specs.Meaning.{IsFirstPlace, holds_if, place_of};
 ghost use Rattle.tariff_syntax.specs.Parentheses.{NeedsParentheses};
 ghost use Rattle.tariff_syntax.specs.Parsed.{tree_parsed};
 ghost use Rattle.tariff_syntax.specs.Printed.{printed};
@@ -63,14 +61,10 @@ pub fn parentheses_are_needed()
     ensures { (c : Condition) → NeedsParentheses c }
 {}
 
-/// The law of places: the rate of a context is the one at which a condition holds or there is none, and
-/// before which no rate holds; there is none exactly where no rate holds. The same holds for the initial
-/// hire fee and of the minimum fare at the hiring.
+/// The law of places: the choice that is found in a context is the one at which a condition holds or there is none,
+/// and before which none holds; there is none exactly where no choice holds. So it is for the rate of a context, and
+/// for its initial hire fee and its minimum fare at the hiring.
 pub fn first_lines_hold()
-    ensures rate { (t : Tree) (x : Context) (place : Option ℕ)
-        → (rate_place t x ≡ place) ↔ IsFirstPlace (holds_if x) (rate_conditions t.lines) place }
-    ensures initial { (t : Tree) (x : Context) (place : Option ℕ)
-        → (initial_place t x ≡ place) ↔ IsFirstPlace (holds_if (at_hiring x)) (initial_conditions t.lines) place }
-    ensures minimum { (t : Tree) (x : Context) (place : Option ℕ)
-        → (minimum_place t x ≡ place) ↔ IsFirstPlace (holds_if (at_hiring x)) (minimum_conditions t.lines) place }
+    ensures { (x : Context) (conditions : List (Option Condition)) (place : Option ℕ)
+        → (place_of x conditions ≡ place) ↔ IsFirstPlace (holds_if x) conditions place }
 {}

@@ -1,12 +1,9 @@
-use Rattle.tariff_check.proofs.Laws.{sound_tariffs_are_their_parts-choices, sound_tariffs_are_their_parts-frame}
+use Rattle.tariff_check.proofs.Laws.{sound_tariffs_are_their_parts-frame}
 use Rattle.tariff_check.proofs.Laws.{sound_tariffs_are_their_parts-lines, sound_tariffs_are_their_parts-supplements}
 use Rattle.tariff_check.proofs.theorems.sound_tariffs_are_their_parts.Goals as goal
 
 pub returns-clause-lines : goal.returns-clause-lines
 returns-clause-lines c = sound_tariffs_are_their_parts-lines
-
-pub returns-clause-choices : goal.returns-clause-choices
-returns-clause-choices c = sound_tariffs_are_their_parts-choices
 
 pub returns-clause-supplements : goal.returns-clause-supplements
 returns-clause-supplements c = sound_tariffs_are_their_parts-supplements

@@ -1,24 +1,21 @@
-use Rattle.std.proofs.Common.{◌≡◌, ◌∙◌, ap, sym, subst, ℕ, ◌+◌, ◌<◌, List, [], ◌∷◌, ◌++◌, length, map, take, Option}
+use Rattle.std.proofs.Common.{◌≡◌, ◌∙◌, ap, sym, ℕ, ◌+◌, ◌<◌, ◌≤◌, List, [], ◌∷◌, ◌++◌, length, map, take, Option}
 use Rattle.std.proofs.Common.{Some, arith}
 use Rattle.std.proofs.lemmas.Grind.{common_steps}
-use Rattle.std.proofs.lemmas.List.{map-append}
-use Rattle.std.proofs.lemmas.Option.{slice_get-map}
+use Rattle.std.proofs.lemmas.List.{length-map, map-append}
+use Rattle.std.proofs.lemmas.Option.{slice_get-map, slice_get_within}
 use Rattle.std.specs.List.{slice_get}
 use Rattle.std.specs.Option.{option_map, unwrap_or}
-use Rattle.tariff_check.proofs.Laws.{lines_that_hold_are_there-minimum, sound_tariffs_are_their_parts-choices}
 use Rattle.tariff_check.proofs.Laws.{sound_tariffs_have_sound_parts-parts}
-use Rattle.tariff_check.specs.Faults.{IsSound}
-use Rattle.tariff_check.specs.Parts.{initials_of, rates_of}
-use Rattle.tariff_syntax.specs.Meaning.{at_hiring, initial_place, minimum_place, rate_place}
-use Rattle.tariff_syntax.specs.Parts.{initial_conditions, minimum_conditions, rate_conditions}
-use Rattle.tariff_syntax.specs.Tree.{Tree, tree_of}
-use Rattle.tariff_syntax.specs.Writable.{IsWritable}
+use Rattle.tariff_syntax.proofs.Laws.{first_lines_hold}
+use Rattle.tariff_syntax.specs.Choices.{Choice, choices, conditions_of, initial_part, minimum_part, rate_part}
+use Rattle.tariff_syntax.specs.Choices.{values_of}
+use Rattle.tariff_syntax.specs.Meaning.{at_hiring, choice_place, initial_place, minimum_place, rate_place}
+use Rattle.tariff_syntax.specs.Tree.{Entry, Tree, tree_of}
 use Rattle.tariff_syntax.specs.declared.context.Context.{Context}
 use Rattle.tariff_compile.specs.Tables.{lines_at}
 use Rattle.tariff_check.specs.Amounts.{place_number}
 use Rattle.tariff_compile.specs.declared.parts.CellLines.{CellLines}
 use Rattle.tariff_compile.proofs.Blocks.{at_place}
-use Rattle.tariff_compile.proofs.Compiled.{initial_place-below, rate_place-below}
 use Rattle.tariff_compile.proofs.Marked.{first_holds}
 use Rattle.tariff_compile.proofs.cells.push_lines.Goals as goal
 
@@ -28,33 +25,18 @@ hiring_at : (xs hirings read : List Context) (place : ℕ) (x : Context) → hir
 hiring_at xs hirings read place x are same at =
     rw (same, are) (slice_get-map at_hiring xs place ∙ ap (option_map at_hiring) at)
 
--- places of lines are small
-rate_few : (t : Tree) (x : Context) (place : ℕ) → IsWritable t → IsSound t → rate_place t x ≡ Some place → place < 255
-rate_few t x place writable sound is =
-    let below = rate_place-below t x sound in
+-- places of choices are small
+place_few : {V : Type 0} (part : Entry → Option V) (t : Tree) (x : Context) (found : Option ℕ) (place : ℕ)
+    → length (values_of (choices part t.lines)) ≤ 64 → found ≡ choice_place part t x → found ≡ Some place → place < 255
+place_few {V} part t x found place few first is =
+    let all = choices part t.lines in
+    let there = (first_lines_hold x (conditions_of all) (Some place)).0 (sym first ∙ is) in
     omega (
       arith,
-      subst (λ (o : Option ℕ). unwrap_or o 0 < length (rates_of t.lines)) is below,
-      (sound_tariffs_have_sound_parts-parts t writable sound).rate_count,
-    )
-
-initial_few : (t : Tree) (x : Context) (place : ℕ) → IsWritable t → IsSound t
-    → initial_place t x ≡ Some place → place < 255
-initial_few t x place writable sound is =
-    let below = initial_place-below t x sound in
-    omega (
-      arith,
-      subst (λ (o : Option ℕ). unwrap_or o 0 < length (initials_of t.lines)) is below,
-      (sound_tariffs_have_sound_parts-parts t writable sound).initial_count,
-    )
-
-minimum_few : (t : Tree) (x : Context) (place : ℕ) → IsWritable t → IsSound t
-    → minimum_place t x ≡ Some place → place < 255
-minimum_few t x place writable sound is =
-    omega (
-      arith,
-      lines_that_hold_are_there-minimum t x place is,
-      (sound_tariffs_have_sound_parts-parts t writable sound).minimum_count,
+      few,
+      slice_get_within (conditions_of all) place there.0 there.1,
+      length-map all (λ (c : Choice V). c.when),
+      length-map all (λ (c : Choice V). c.value),
     )
 
 -- lines that are made of the places found
@@ -67,57 +49,48 @@ lines_made t x made rate initial minimum by_rate by_initial by_minimum is_rate i
 pub cell_lines-requires-clause-rate : goal.cell_lines-requires-clause-rate
 cell_lines-requires-clause-rate c = λ p found.
     let t = tree_of c.args.checked.now in
-    let parts = sound_tariffs_are_their_parts-choices t in
+    let parts = sound_tariffs_have_sound_parts-parts t c.rates.ensures.writable c.rates.ensures.sound in
     let here = at_place c.args.contexts.now c.loop-place.place c.loop-place-test.true in
-    let first = first_holds _ (rate_conditions t.lines) c.args.contexts.now c.in_ok-rates.rates.items _
-    c.loop-place.place here.0 _ c.in_ok-rates.ensures (c.rates.ensures.value.conditions ∙ parts.rate_conditions)
-    c.as_slice-in-loop-place.ensures.value here.1 c.first_marked-rate.ensures in
-    rate_few t here.0 p c.rates.ensures.writable c.rates.ensures.sound (sym first ∙ found)
+    let first = first_holds rate_part t _ c.args.contexts.now _ _ c.loop-place.place here.0 _ c.rates.ensures.value
+    c.in_ok-rates.ensures c.as_slice-in-loop-place.ensures.value here.1 c.first_marked-rate.ensures in
+    place_few rate_part t here.0 _ p parts.rate_count first found
 
 pub cell_lines-requires-clause-initial : goal.cell_lines-requires-clause-initial
 cell_lines-requires-clause-initial c = λ p found.
     let t = tree_of c.args.checked.now in
-    let parts = sound_tariffs_are_their_parts-choices t in
-    let here = at_place c.args.contexts.now c.loop-place.place c.loop-place-test.true in
-    let at = hiring_at c.args.contexts.now c.in_ok-hirings.hirings.items c.as_slice.result.now c.loop-place.place here.0
-    c.in_ok-hirings.ensures c.as_slice.ensures.value here.1 in
-    let first = first_holds _ (initial_conditions t.lines) c.as_slice.result.now c.in_ok-initials.initials.items _
-    c.loop-place.place (at_hiring here.0) _ c.in_ok-initials.ensures (c.initials.ensures.value.conditions
-    ∙ parts.initial_conditions) c.as_slice-in-loop-place-2.ensures.value at c.first_marked-initial.ensures in
-    initial_few t here.0 p c.rates.ensures.writable c.rates.ensures.sound (sym first ∙ found)
+    let parts = sound_tariffs_have_sound_parts-parts t c.rates.ensures.writable c.rates.ensures.sound in
+    let place = c.loop-place.place in
+    let here = at_place c.args.contexts.now place c.loop-place-test.true in
+    let at = hiring_at _ _ _ place here.0 c.in_ok-hirings.ensures c.as_slice.ensures.value here.1 in
+    let first = first_holds initial_part t _ _ _ _ place (at_hiring here.0) _ c.initials.ensures.value
+    c.in_ok-initials.ensures c.as_slice-in-loop-place-2.ensures.value at c.first_marked-initial.ensures in
+    place_few initial_part t (at_hiring here.0) _ p parts.initial_count first found
 
 pub cell_lines-requires-clause-minimum : goal.cell_lines-requires-clause-minimum
 cell_lines-requires-clause-minimum c = λ p found.
     let t = tree_of c.args.checked.now in
-    let parts = sound_tariffs_are_their_parts-choices t in
-    let here = at_place c.args.contexts.now c.loop-place.place c.loop-place-test.true in
-    let at = hiring_at c.args.contexts.now c.in_ok-hirings.hirings.items c.as_slice-2.result.now c.loop-place.place
-    here.0 c.in_ok-hirings.ensures c.as_slice-2.ensures.value here.1 in
-    let first = first_holds _ (minimum_conditions t.lines) c.as_slice-2.result.now c.in_ok-minimums.minimums.items _
-    c.loop-place.place (at_hiring here.0) _ c.in_ok-minimums.ensures (c.minimums.ensures.value.conditions
-    ∙ parts.minimum_conditions) c.as_slice-in-loop-place-3.ensures.value at c.first_marked-minimum.ensures in
-    minimum_few t here.0 p c.rates.ensures.writable c.rates.ensures.sound (sym first ∙ found)
+    let parts = sound_tariffs_have_sound_parts-parts t c.rates.ensures.writable c.rates.ensures.sound in
+    let place = c.loop-place.place in
+    let here = at_place c.args.contexts.now place c.loop-place-test.true in
+    let at = hiring_at _ _ _ place here.0 c.in_ok-hirings.ensures c.as_slice-2.ensures.value here.1 in
+    let first = first_holds minimum_part t _ _ _ _ place (at_hiring here.0) _ c.minimums.ensures.value
+    c.in_ok-minimums.ensures c.as_slice-in-loop-place-3.ensures.value at c.first_marked-minimum.ensures in
+    place_few minimum_part t (at_hiring here.0) _ p parts.minimum_count first found
 
 pub loop-place-preserved : goal.loop-place-preserved
 loop-place-preserved c =
     let t = tree_of c.args.checked.now in
-    let parts = sound_tariffs_are_their_parts-choices t in
     let place = c.loop-place.place in
     let here = at_place c.args.contexts.now place c.loop-place-test.true in
     let x = here.0 in
-    let hired = hiring_at c.args.contexts.now c.in_ok-hirings.hirings.items c.as_slice.result.now place x
-    c.in_ok-hirings.ensures c.as_slice.ensures.value here.1 in
-    let hired_2 = hiring_at c.args.contexts.now c.in_ok-hirings.hirings.items c.as_slice-2.result.now place x
-    c.in_ok-hirings.ensures c.as_slice-2.ensures.value here.1 in
-    let rate = first_holds _ (rate_conditions t.lines) c.args.contexts.now c.in_ok-rates.rates.items _ place x _
-    c.in_ok-rates.ensures (c.rates.ensures.value.conditions ∙ parts.rate_conditions)
+    let hired = hiring_at _ _ _ place x c.in_ok-hirings.ensures c.as_slice.ensures.value here.1 in
+    let also = hiring_at _ _ _ place x c.in_ok-hirings.ensures c.as_slice-2.ensures.value here.1 in
+    let rate = first_holds rate_part t _ _ _ _ place x _ c.rates.ensures.value c.in_ok-rates.ensures
     c.as_slice-in-loop-place.ensures.value here.1 c.first_marked-rate.ensures in
-    let initial = first_holds _ (initial_conditions t.lines) c.as_slice.result.now c.in_ok-initials.initials.items _
-    place (at_hiring x) _ c.in_ok-initials.ensures (c.initials.ensures.value.conditions ∙ parts.initial_conditions)
-    c.as_slice-in-loop-place-2.ensures.value hired c.first_marked-initial.ensures in
-    let minimum = first_holds _ (minimum_conditions t.lines) c.as_slice-2.result.now c.in_ok-minimums.minimums.items _
-    place (at_hiring x) _ c.in_ok-minimums.ensures (c.minimums.ensures.value.conditions ∙ parts.minimum_conditions)
-    c.as_slice-in-loop-place-3.ensures.value hired_2 c.first_marked-minimum.ensures in
+    let initial = first_holds initial_part t _ _ _ _ place (at_hiring x) _ c.initials.ensures.value
+    c.in_ok-initials.ensures c.as_slice-in-loop-place-2.ensures.value hired c.first_marked-initial.ensures in
+    let minimum = first_holds minimum_part t _ _ _ _ place (at_hiring x) _ c.minimums.ensures.value
+    c.in_ok-minimums.ensures c.as_slice-in-loop-place-3.ensures.value also c.first_marked-minimum.ensures in
     let made : c.cell_lines.result ≡ lines_at t x = lines_made t x _ _ _ _ c.cell_lines.ensures.rate
     c.cell_lines.ensures.initial c.cell_lines.ensures.minimum rate initial minimum in
     let more : map (lines_at t) (take (place + 1) c.args.contexts.now)

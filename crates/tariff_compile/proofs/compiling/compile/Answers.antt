@@ -1,5 +1,4 @@
-use Rattle.std.proofs.Common.{◌∙◌}
-use Rattle.tariff_check.proofs.Laws.{sound_tariffs_are_their_parts-choices, sound_tariffs_have_sound_parts-parts}
+use Rattle.tariff_check.proofs.Laws.{sound_tariffs_have_sound_parts-parts}
 use Rattle.tariff_syntax.specs.Tree.{tree_of}
 use Rattle.tariff_compile.proofs.Compiled.{tables_fit}
 use Rattle.tariff_compile.proofs.compiling.compile.Goals as goal
@@ -8,7 +7,7 @@ pub all_weights-requires-clause-rates : goal.all_weights-requires-clause-rates
 all_weights-requires-clause-rates c =
     let t = tree_of c.args.checked.now in
     let parts = sound_tariffs_have_sound_parts-parts t c.rates.ensures.writable c.rates.ensures.sound in
-    rw (c.rates.ensures.value.values ∙ (sound_tariffs_are_their_parts-choices t).rates) parts.rates
+    rw c.rates.ensures.value.values parts.rates
 
 pub all_weights-requires-clause-measure : goal.all_weights-requires-clause-measure
 all_weights-requires-clause-measure c =
@@ -20,9 +19,8 @@ all_cells-requires-clause-parts c =
 
 pub invariant_of-result : goal.invariant_of-result
 invariant_of-result c =
-    let t = tree_of c.args.checked.now in
-    let parts = sound_tariffs_are_their_parts-choices t in (
-      t,
+    (
+      tree_of c.args.checked.now,
       record {
         writable = c.rates.ensures.writable;
         sound = c.rates.ensures.sound;
@@ -33,9 +31,9 @@ invariant_of-result c =
           c.in_ok-weights.ensures,
           c.in_ok-initials.ensures,
           c.in_ok-minimums.ensures,
-          c.rates.ensures.value.values ∙ parts.rates,
-          c.initials.ensures.value.values ∙ parts.initials,
-          c.minimums.ensures.value.values ∙ parts.minimums,
+          c.rates.ensures.value.values,
+          c.initials.ensures.value.values,
+          c.minimums.ensures.value.values,
           c.in_ok-cells.ensures,
           c.in_ok-supplements.ensures,
           c.get.ensures.value,
