@@ -1,8 +1,10 @@
 pub mod Cells
+pub mod ChoiceLines
 pub mod Counted
 pub mod Cuts
 pub mod DisplayStep
 pub mod Faults
+pub mod FoundLines
 pub mod Lines
 pub mod Measure
 pub mod Parts
