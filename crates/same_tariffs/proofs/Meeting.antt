@@ -22,7 +22,7 @@ use Rattle.tariff_check.specs.DisplayStep.{display_step}
 use Rattle.tariff_check.specs.Amounts.{initial_by}
 use Rattle.tariff_check.specs.declared.values.Initial.{Initial}
 use Rattle.tariff_syntax.specs.Meaning.{at_hiring, rate_place}
-use Rattle.tariff_syntax.specs.declared.meaning.LineKind.TheVariants as kinds
+use Rattle.tariff_check.specs.declared.choice.ChoiceKind.TheVariants as kinds
 use Rattle.meter_states.specs.Charge.{charge_at, charge_by, rate_at, rate_of}
 use Rattle.meter_states.specs.Interval.{context_now, context_of, context_on, ticks_so_far}
 use Rattle.meter_states.specs.Meter.{Meter}

@@ -16,6 +16,11 @@ use Rattle.tariff_check.specs.SoundTariff.{when_at, when_of_line}
 use Rattle.tariff_check.specs.declared.values.Supplement.{Supplement}
 use Rattle.tariff_check.specs.declared.choice.Choice as program
 
+-- the line behind others is at the place that their number says
+pub at_end : (before : List Line) (l : Line) (ls : List Line) → slice_get (before ++ l ∷ ls) (length before) ≡ Some l
+at_end [] l ls = refl
+at_end (b ∷ bs) l ls = at_end bs l ls
+
 module _ {V : Type 0} (part : Entry → Option V) where
   -- a choice more, or none, of a line at a place
   one_more : (lines : List Line) (l : Line) (o : Option V) (place : ℕ) (own : List (program.Choice V))
@@ -40,10 +45,6 @@ module _ {V : Type 0} (part : Entry → Option V) where
       subst (λ (n : ℕ). AreChoices lines (placed_from part n ls) (choices part ls)) (length-append before (l ∷ [])) more
       in
       one_more lines l (part l.entry) (length before) _ (choices part ls) (ap when_of_line (at_end before l ls)) rest
-    where
-      at_end : (before : List Line) (l : Line) (ls : List Line) → slice_get (before ++ l ∷ ls) (length before) ≡ Some l
-      at_end [] l ls = refl
-      at_end (b ∷ bs) l ls = at_end bs l ls
 
   -- what the program chose from lines are the choices among them
   pub placed_are : (lines : List Line) (own : List (program.Choice V)) → own ≡ placed_from part 0 lines

@@ -4,6 +4,8 @@ mod Amounts
 mod ChoiceLaws
 -- the common measure is the least common multiple of all measures
 mod CommonMeasure
+-- the choices that lines give, line after line
+mod CountedChoices
 -- how cuts are put among others
 mod CutLaws
 -- cuts are in order, each once
@@ -18,6 +20,8 @@ mod FrameLines
 pub mod Laws
 -- what holds of each line of a sound tariff whose numbers a text can have
 mod LineFacts
+-- the line of the first choice that holds is the first line of the kind that does
+mod LinesInForce
 -- the common measure of more than two measures
 mod MeasureLaws
 -- the least common multiple of two numbers is what its name says

@@ -1,9 +1,11 @@
 pub mod Amounts
 pub mod Cells
+pub mod ChoiceLines
 pub mod Counted
 pub mod Cuts
 pub mod DisplayStep
 pub mod Faults
+pub mod FoundLines
 pub mod Lines
 pub mod Measure
 pub mod Parts

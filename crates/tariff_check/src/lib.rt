@@ -11,6 +11,7 @@ mod counts;
 mod cuts;
 mod early;
 mod fault;
+mod found_lines;
 mod measure;
 mod multiples;
 mod numbers;
@@ -23,9 +24,10 @@ mod values;
 
 pub use checked::Checked;
 pub use checking::check;
-pub use choice::Choice;
+pub use choice::{Choice, ChoiceKind, ChoiceLine};
 pub use cuts::cut_values;
 pub use fault::{CheckFault, Dimension};
+pub use found_lines::FramePart;
 pub use theorems::{
     cuts_are_in_order, faults_name_the_first_line, hirings_begin_with_first_lines,
     lines_that_hold_are_there, measures_are_least, sound_tariffs_are_their_parts,

@@ -2,17 +2,17 @@
 ghost use Rattle.std.specs.Option.{option_to_list};
 ghost use Rattle.std.specs.Prelude.{◌≡◌, ◌++◌, ◌∷◌, [], IfOk, OnOk, map};
 ghost use Rattle.tariff_check.specs.Parts.{holiday_part, initial_part, minimum_part, rate_part};
-ghost use Rattle.tariff_check.specs.Resolved.{HasParts, placed};
+ghost use Rattle.tariff_check.specs.Resolved.{HasParts, counted_choice, count_in, placed};
 ghost use Rattle.tariff_check.specs.SoundTariff.{numbered_supplement, supplement_numbered};
 ghost use Rattle.tariff_syntax.specs.Tree.{line_of};
 
-use crate::choice::Choice;
+use crate::choice::{Choice, ChoiceKind, ChoiceLine};
 use crate::values::{DateNumbers, Supplement};
 use std::alloc::Global;
 use tariff_syntax::{InitialNumbers, Item, RateLine, RateNumbers, TariffLine};
 use taxi_units::NoMemory;
 
-/// What the lines of a tariff say, kind by kind, each in the order of the lines.
+/// What the lines of a tariff say, kind by kind, and which choices they give, each in the order of the lines.
 #[derive(Drop)]
 pub(crate) struct Parts {
     pub(crate) holidays: Vec<DateNumbers>,
@@ -20,6 +20,7 @@ pub(crate) struct Parts {
     pub(crate) rates: Vec<Choice<RateNumbers>>,
     pub(crate) initials: Vec<Choice<InitialNumbers>>,
     pub(crate) minimums: Vec<Choice<u64>>,
+    pub(crate) choice_lines: Vec<ChoiceLine>,
 }
 
 /// The parts that some lines say.
@@ -32,6 +33,7 @@ pub(crate) fn resolved(alloc: Global, lines: &[TariffLine]) -> Result<Parts, NoM
         rates: Vec::new(alloc),
         initials: Vec::new(alloc),
         minimums: Vec::new(alloc),
+        choice_lines: Vec::new(alloc),
     };
     for (place, line) in lines.iter().enumerate() {
         parts.add(place, line)?;
@@ -52,7 +54,11 @@ impl Parts {
             ≡ self.old.initials.items ++ option_to_list (placed initial_part place (line_of line.now))) }
         ensures minimums { OnOk result (self.new.minimums.items
             ≡ self.old.minimums.items ++ option_to_list (placed minimum_part place (line_of line.now))) }
+        ensures choice_lines { OnOk result (self.new.choice_lines.items
+            ≡ self.old.choice_lines.items ++ option_to_list (counted_choice (count_in self.old) (line_of line.now))) }
     {
+        let choice_line = self.choice_line(line);
+        put_if(&mut self.choice_lines, choice_line)?;
         let number = line.line;
         match &line.item {
             Item::Holiday { year, month, date } => put(
@@ -88,6 +94,23 @@ impl Parts {
             _ => Ok(()),
         }
     }
+
+    /// The choice that a line gives behind those that are there.
+    fn choice_line(&self, line: &TariffLine) -> Option<ChoiceLine>
+        ensures { result ≡ counted_choice (count_in self.now) (line_of line.now) }
+    {
+        let (kind, place_in_kind) = match &line.item {
+            Item::Rate(_) => (ChoiceKind::Rate, self.rates.len()),
+            Item::Initial(_) => (ChoiceKind::Initial, self.initials.len()),
+            Item::Minimum(_) => (ChoiceKind::Minimum, self.minimums.len()),
+            _ => return None,
+        };
+        Some(ChoiceLine {
+            kind,
+            place_in_kind,
+            line: line.line,
+        })
+    }
 }
 
 /// What a rate charges, and for what.
@@ -114,6 +137,16 @@ fn put<V: Drop>(all: &mut Vec<V>, value: V) -> Result<(), NoMemory>
     ensures { OnOk result (all.new.items ≡ all.old.items ++ value ∷ []) }
 {
     all.push(value).map_err(|_| NoMemory)
+}
+
+/// Puts a value behind others, if there is one.
+fn put_if<V: Drop>(all: &mut Vec<V>, value: Option<V>) -> Result<(), NoMemory>
+    ensures { OnOk result (all.new.items ≡ all.old.items ++ option_to_list value) }
+{
+    match value {
+        Some(value) => put(all, value),
+        None => Ok(()),
+    }
 }
 
 /// The first of some supplements that has a number.

@@ -7,7 +7,7 @@ use Rattle.tariff_compile.specs.Tables.{IsInRangeFor, TableParts, fees_in, lines
 use Rattle.tariff_compile.specs.declared.parts.CellLines.{CellLines}
 use Rattle.tariff_syntax.specs.declared.context.Context.{Context}
 use Rattle.tariff_compare.specs.Grids.{CanBeAsked}
-use Rattle.tariff_syntax.specs.declared.meaning.LineKind.TheVariants.{Rate}
+use Rattle.tariff_check.specs.declared.choice.ChoiceKind.TheVariants.{Rate}
 use Rattle.tariff_compare.specs.Counting.{is_hiring}
 use Rattle.tariff_compare.specs.Same.{have_same_fee, have_same_minimum}
 use Rattle.tariff_compare.specs.Sides.{SideParts, context_by, cost_alike, costs_by, difference_by, is_among}

@@ -23,8 +23,8 @@ use Rattle.tariff_check.specs.declared.values.Initial as fees
 use Rattle.tariff_syntax.specs.Meaning.{initial_place, minimum_place, rate_place}
 use Rattle.tariff_syntax.specs.Tree.{Tree}
 use Rattle.tariff_syntax.specs.declared.context.Context.{Context}
-use Rattle.tariff_syntax.specs.declared.meaning.LineKind.{LineKind}
-use Rattle.tariff_syntax.specs.declared.meaning.LineKind.TheVariants.{Rate, Initial, Minimum}
+use Rattle.tariff_check.specs.declared.choice.ChoiceKind.{ChoiceKind}
+use Rattle.tariff_check.specs.declared.choice.ChoiceKind.TheVariants.{Rate, Initial, Minimum}
 use Rattle.tariff_compare.specs.Contexts.{HasTables, IsMeterContext, context_at}
 use Rattle.tariff_compare.specs.Counting.{counts, is_at, is_hiring}
 use Rattle.tariff_compare.specs.Grids.{CanBeAsked}
@@ -146,7 +146,7 @@ at_number : (wanted : ℕ) (o : Option ℕ) → eqb (place_number o) (wanted + 1
 at_number wanted None = none_is_none wanted
 at_number wanted (Some place) = next_same place wanted
 
-counts_are : (t : Tree) (k : ℕ) (kind : LineKind) (place : ℕ) (m : MeterContext) → HasTables t k → IsMeterContext t m
+counts_are : (t : Tree) (k : ℕ) (kind : ChoiceKind) (place : ℕ) (m : MeterContext) → HasTables t k → IsMeterContext t m
     → counts_by (tables_of t k) kind place m ≡ counts t k kind place m
 counts_are t k Rate place m has is =
     let always = lines_that_hold_are_there-rate t (context_at t k m) has.sound in
@@ -186,7 +186,7 @@ cost_is t u k m t_has u_has t_is u_is =
     ∙ ap (λ (r : RateCosts). cost_alike (costs_of (rate_in t (context_at t k m))) r) (costs_are u k m u_has u_is)
 
 -- which part differs, by three tests
-abbrev pub part_of : (fee minimum rate : Bool) → Option LineKind
+abbrev pub part_of : (fee minimum rate : Bool) → Option ChoiceKind
 part_of fee minimum rate =
     if fee then Some Initial else (if minimum then Some Minimum else (if rate then None else Some Rate))
 

@@ -13,8 +13,8 @@ use Rattle.tariff_check.specs.Amounts.{initial_by, initial_with, place_number}
 use Rattle.tariff_check.specs.declared.values.Initial as fees
 use Rattle.tariff_syntax.specs.Meaning.{initial_place, minimum_place, rate_place}
 use Rattle.tariff_syntax.specs.Tree.{Tree}
-use Rattle.tariff_syntax.specs.declared.meaning.LineKind.{LineKind}
-use Rattle.tariff_syntax.specs.declared.meaning.LineKind.TheVariants.{Rate, Initial, Minimum}
+use Rattle.tariff_check.specs.declared.choice.ChoiceKind.{ChoiceKind}
+use Rattle.tariff_check.specs.declared.choice.ChoiceKind.TheVariants.{Rate, Initial, Minimum}
 use Rattle.tariff_compare.specs.Contexts.{HasTables, IsMeterContext, context_at}
 use Rattle.tariff_compare.specs.Counting.{counts, is_at, is_hiring}
 use Rattle.tariff_compare.specs.Same.{cost_same, difference_at, have_same_fee, have_same_minimum, is_fee_other}
@@ -68,7 +68,7 @@ hiring_and t k n c a b is same h =
     let p = both_parts (is_hiring n) a h in
     both_true (hiring_carried n c is.ticks is.pulses p.0) (sym same ∙ p.1)
 
-pub counts_carried : (t : Tree) (k : ℕ) (kind : LineKind) (place : ℕ) (n c : MeterContext) → StandsFor t k n c
+pub counts_carried : (t : Tree) (k : ℕ) (kind : ChoiceKind) (place : ℕ) (n c : MeterContext) → StandsFor t k n c
     → counts t k kind place n ≡ true → counts t k kind place c ≡ true
 counts_carried t k Rate place n c is h = sym (ap (is_at place) (rates_same t k n c is)) ∙ h
 counts_carried t k Initial place n c is h = hiring_and t k n c _ _ is (ap (is_at place) (initials_same t k n c is)) h

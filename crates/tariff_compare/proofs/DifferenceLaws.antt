@@ -2,7 +2,7 @@
 use Rattle.std.proofs.Common.{◌≡◌, ◌∙◌, ap, sym, subst, refl, ℕ, true, false, is_some, Option, Some, None, option_map}
 use Rattle.std.specs.Option.{option_or}
 use Rattle.tariff_syntax.specs.Tree.{Tree}
-use Rattle.tariff_syntax.specs.declared.meaning.LineKind.{LineKind}
+use Rattle.tariff_check.specs.declared.choice.ChoiceKind.{ChoiceKind}
 use Rattle.tariff_compare.specs.Contexts.{IsFirst, IsFirstOrNone, IsMeterContext}
 use Rattle.tariff_compare.specs.Differences.{context_difference, difference_of, frame_difference, part_in}
 use Rattle.tariff_compare.specs.Same.{AreSame, DiffersFirst, HasSameFrame, difference_at}
@@ -23,7 +23,7 @@ some_none h = cc
 none_some : {A : Type 0} {a : A} → None ≡ Some a → ⊥
 none_some h = cc
 
-not_true : (o : Option LineKind) → (is_some o ≡ true → ⊥) → o ≡ None
+not_true : (o : Option ChoiceKind) → (is_some o ≡ true → ⊥) → o ≡ None
 not_true None h = refl
 not_true (Some kind) h = absurd (h refl)
 
@@ -48,7 +48,7 @@ no_part t u k (Some n) are is none =
     absurd (found (difference_by (side_of t k) (side_of u k) n) (ap is_some
     (difference_is t u k n are.first are.second is.context (other_context t u k n are is.context)) ∙ is.has) none)
   where
-    found : (o : Option LineKind) → is_some o ≡ true → option_map (λ (kind : LineKind). In kind n) o ≡ None → ⊥
+    found : (o : Option ChoiceKind) → is_some o ≡ true → option_map (λ (kind : ChoiceKind). In kind n) o ≡ None → ⊥
     found None some none = differ some
     found (Some kind) some none = some_none none
 
@@ -73,10 +73,10 @@ same_is_none t u k t_has u_has same =
     ap (λ (d : Option Difference). option_or d (context_difference (side_of t k) (side_of u k))) frame
     ∙ part_none t u k (first_met t u k Differs) same (first_is_first t u k Differs are)
 
-in_parts : (a b : LineKind) (n m : MeterContext) → Some (In a n) ≡ Some (In b m) → (a ≡ b) × (n ≡ m)
+in_parts : (a b : ChoiceKind) (n m : MeterContext) → Some (In a n) ≡ Some (In b m) → (a ≡ b) × (n ≡ m)
 in_parts a b n m h = (cc, cc)
 
-part_first : (t u : Tree) (k : ℕ) (r : Option MeterContext) (kind : LineKind) (m : MeterContext) → AreCompared t u k
+part_first : (t u : Tree) (k : ℕ) (r : Option MeterContext) (kind : ChoiceKind) (m : MeterContext) → AreCompared t u k
     → HasSameFrame t u → IsFirstOrNone t (λ n. is_met t u k Differs n ≡ true) r
     → part_in (side_of t k) (side_of u k) r ≡ Some (In kind m) → DiffersFirst t u k kind m
 part_first t u k None kind m are frame is h = absurd (none_some h)
@@ -84,8 +84,8 @@ part_first t u k (Some n) kind m are frame is h =
     by (difference_by (side_of t k) (side_of u k) n)
     (difference_is t u k n are.first are.second is.context (other_context t u k n are is.context)) h
   where
-    by : (o : Option LineKind) → o ≡ difference_at t u k n
-        → option_map (λ (kind : LineKind). In kind n) o ≡ Some (In kind m) → DiffersFirst t u k kind m
+    by : (o : Option ChoiceKind) → o ≡ difference_at t u k n
+        → option_map (λ (kind : ChoiceKind). In kind n) o ≡ Some (In kind m) → DiffersFirst t u k kind m
     by None same found = absurd (none_some found)
     by (Some own) same found =
         let parts = in_parts own kind n m found in
@@ -95,7 +95,7 @@ part_first t u k (Some n) kind m are frame is h =
           first = subst (IsFirst t (λ x. is_some (difference_at t u k x) ≡ true)) parts.1 is;
         }
 
-pub in_is_first : (t u : Tree) (k : ℕ) (kind : LineKind) (m : MeterContext) → HasTables t k → HasTables u k
+pub in_is_first : (t u : Tree) (k : ℕ) (kind : ChoiceKind) (m : MeterContext) → HasTables t k → HasTables u k
     → HasSameFrame t u → difference_of t u k ≡ Some (In kind m) → DiffersFirst t u k kind m
 in_is_first t u k kind m t_has u_has frame h =
     let none = same_frame t u frame in

@@ -18,10 +18,10 @@ use Rattle.tariff_compare.proofs.Frames.{frame_same, same_frame}
 use Rattle.tariff_compare.proofs.MeterTimes.{days_within, minutes_within, tested_first, tested_last, time_test}
 use Rattle.tariff_compare.proofs.MeterTimes.{time_tested, time_there}
 use Rattle.tariff_syntax.specs.Tree.{Tree}
-use Rattle.tariff_syntax.specs.declared.meaning.LineKind.{LineKind}
+use Rattle.tariff_check.specs.declared.choice.ChoiceKind.{ChoiceKind}
 use Rattle.std.proofs.Common.{refl}
 
-pub first_contexts_are_first : (t : Tree) (k : ℕ) (kind : LineKind) (place : ℕ) → HasTables t k
+pub first_contexts_are_first : (t : Tree) (k : ℕ) (kind : ChoiceKind) (place : ℕ) → HasTables t k
     → IsFirstOrNone t (λ m. counts t k kind place m ≡ true) (first_counting (side_of t k) kind place)
 first_contexts_are_first t k kind place has =
     first_is_first t t k (Counts kind place) (record { first = has; second = has; positions = refl; zones = refl })
@@ -38,7 +38,7 @@ pub differences_are_first-same_frame : (t u : Tree) (k : ℕ) → HasTables t k 
     → (frame_difference t u ≡ None) ↔ HasSameFrame t u
 differences_are_first-same_frame t u k t_has u_has = (frame_same t u t_has.writable u_has.writable, same_frame t u)
 
-pub differences_are_first-context : (t u : Tree) (k : ℕ) (kind : LineKind) (m : MeterContext) → HasTables t k
+pub differences_are_first-context : (t u : Tree) (k : ℕ) (kind : ChoiceKind) (m : MeterContext) → HasTables t k
     → HasTables u k → HasSameFrame t u
     → difference_of t u k ≡ Some (In kind m) → DiffersFirst t u k kind m
 differences_are_first-context = in_is_first

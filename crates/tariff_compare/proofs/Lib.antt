@@ -36,5 +36,3 @@ pub mod Ranges
 mod SideRates
 -- days and minutes of a meter
 pub mod Times
--- the uses of lines, line after line
-pub mod UseSteps

@@ -2,8 +2,8 @@
 use Rattle.std.specs.Prelude.{ℕ, Bool, false, ◌&&◌, ◌==◌, Option, Some, None}
 use Rattle.tariff_syntax.specs.Meaning.{rate_place, initial_place, minimum_place}
 use Rattle.tariff_syntax.specs.Tree.{Tree}
-use Rattle.tariff_syntax.specs.declared.meaning.LineKind.{LineKind}
-use Rattle.tariff_syntax.specs.declared.meaning.LineKind.TheVariants.{Rate, Initial, Minimum}
+use Rattle.tariff_check.specs.declared.choice.ChoiceKind.{ChoiceKind}
+use Rattle.tariff_check.specs.declared.choice.ChoiceKind.TheVariants.{Rate, Initial, Minimum}
 use Rattle.tariff_compare.specs.Contexts.{context_at}
 use Rattle.tariff_compare.specs.declared.meter_context.MeterContext.{MeterContext}
 
@@ -19,7 +19,7 @@ is_at wanted (Some place) = place == wanted
 -- the test `counts` is true if, of the lines of a kind, the one at a place, counted from 0, is the one that counts in a
 -- context of a meter: the first rate that holds there, or at a hiring the first initial hire fee or the first minimum
 -- fare that does
-abbrev pub counts : Tree → (k : ℕ) → LineKind → (place : ℕ) → MeterContext → Bool
+abbrev pub counts : Tree → (k : ℕ) → ChoiceKind → (place : ℕ) → MeterContext → Bool
 counts t k Rate place m = is_at place (rate_place t (context_at t k m))
 counts t k Initial place m = is_hiring m && is_at place (initial_place t (context_at t k m))
 counts t k Minimum place m = is_hiring m && is_at place (minimum_place t (context_at t k m))

@@ -1,13 +1,11 @@
 -- Rules: the text of what differs first between two tariffs.
-use Rattle.std.specs.Prelude.{ℕ, Bool, true, false, ◌==◌, List, [], ◌++◌, find, Option, Some, None, codes, decimal}
-use Rattle.tariff_syntax.specs.Condition.{Condition}
-use Rattle.tariff_syntax.specs.Meaning.{holds_if}
-use Rattle.tariff_syntax.specs.Parts.{when_of}
+use Rattle.std.specs.Prelude.{ℕ, List, [], ◌++◌, Option, Some, None, codes, decimal}
+use Rattle.tariff_check.specs.FoundLines.{frame_line, line_in_force}
+use Rattle.tariff_check.specs.declared.choice.ChoiceKind.{ChoiceKind}
+use Rattle.tariff_check.specs.declared.choice.ChoiceKind.TheVariants.{Rate, Initial, Minimum}
+use Rattle.tariff_check.specs.declared.found_lines.FramePart.TheVariants as frame
 use Rattle.tariff_syntax.specs.Printed.{entry_line, number_line, without_when}
-use Rattle.tariff_syntax.specs.Tree.{Tree, Line, Entry, step, positions, zones, supplement}
-use Rattle.tariff_syntax.specs.declared.context.Context.{Context}
-use Rattle.tariff_syntax.specs.declared.meaning.LineKind.{LineKind}
-use Rattle.tariff_syntax.specs.declared.meaning.LineKind.TheVariants.{Rate, Initial, Minimum}
+use Rattle.tariff_syntax.specs.Tree.{Tree, Line}
 use Rattle.tariff_syntax.specs.Writable.{IsFromTo}
 use Rattle.tariff_compare.specs.Contexts.{context_at}
 use Rattle.tariff_compare.specs.Texts.{context_text}
@@ -15,7 +13,7 @@ use Rattle.tariff_compare.specs.declared.difference.Difference.{Difference}
 use Rattle.tariff_compare.specs.declared.difference.Difference.TheVariants.{Decimals, Step, Rounded, Positions, Zones, Supplement, In}
 
 -- a kind of lines has its word in capitals where lines of it differ
-abbrev pub part_word : LineKind → List ℕ
+abbrev pub part_word : ChoiceKind → List ℕ
 part_word Rate = codes "RATE "
 part_word Initial = codes "INITIAL "
 part_word Minimum = codes "MINIMUM "
@@ -30,29 +28,16 @@ part_text Zones = codes "ZONES"
 part_text (Supplement number) = codes "SUPPLEMENT " ++ decimal number
 part_text (In kind m) = part_word kind ++ context_text kind m
 
--- the test `is_entry_of` is true if an entry is of the kind that differs, and for a supplement has its number
-abbrev pub is_entry_of : Difference → Entry → Bool
-is_entry_of Step (step amount rounding) = true
-is_entry_of Rounded (step amount rounding) = true
-is_entry_of Positions (positions number) = true
-is_entry_of Zones (zones number) = true
-is_entry_of (Supplement wanted) (supplement number amount most) = number == wanted
-is_entry_of d entry = false
-
--- a condition that is asked holds in a context if there is none or it holds there; one that isn't asked doesn't
-abbrev pub is_asked_and_holds : Context → Option (Option Condition) → Bool
-is_asked_and_holds x None = false
-is_asked_and_holds x (Some when) = holds_if x when
-
--- the test `is_in_force` is true if an entry is of a kind and holds in a context
-abbrev pub is_in_force : LineKind → Context → Entry → Bool
-is_in_force kind x entry = is_asked_and_holds x (when_of kind entry)
-
--- the line of a tariff that says what differs is the first that does, which in a context is the first of its kind that
--- holds there
+-- the line of a tariff that says what differs is in a context the one of its kind in force there, and in the frame the
+-- one of its part; no line of a tree says the decimals
 abbrev pub line_of_difference : Tree → (k : ℕ) → Difference → Option Line
-line_of_difference t k (In kind m) = find (λ (l : Line). is_in_force kind (context_at t k m) l.entry) t.lines
-line_of_difference t k d = find (λ (l : Line). is_entry_of d l.entry) t.lines
+line_of_difference t k Decimals = None
+line_of_difference t k Step = frame_line frame.Step t.lines
+line_of_difference t k Rounded = frame_line frame.Step t.lines
+line_of_difference t k Positions = frame_line frame.Positions t.lines
+line_of_difference t k Zones = frame_line frame.Zones t.lines
+line_of_difference t k (Supplement number) = frame_line (frame.Supplement number) t.lines
+line_of_difference t k (In kind m) = line_in_force kind (context_at t k m) t.lines
 
 -- what holds where no line says it is written with the number 0: one position, one zone, or none of the kind
 abbrev pub default_text : Difference → List ℕ

@@ -8,7 +8,7 @@ use Rattle.tariff_check.specs.DisplayStep.{display_step}
 use Rattle.tariff_check.specs.Parts.{supplement_of}
 use Rattle.tariff_check.specs.declared.values.Supplement as supplements
 use Rattle.tariff_syntax.specs.Tree.{Tree}
-use Rattle.tariff_syntax.specs.declared.meaning.LineKind.{LineKind}
+use Rattle.tariff_check.specs.declared.choice.ChoiceKind.{ChoiceKind}
 use Rattle.tariff_compare.specs.Searches.{first_met_by}
 use Rattle.tariff_compare.specs.Sides.{SideParts, difference_by, side_of}
 use Rattle.tariff_compare.specs.declared.difference.Difference.{Difference}
@@ -51,7 +51,7 @@ frame_difference t u =
 -- what differs in a context that was found, by the tables
 abbrev pub part_in : (one other : SideParts) → Option MeterContext → Option Difference
 part_in one other None = None
-part_in one other (Some m) = option_map (λ (kind : LineKind). In kind m) (difference_by one other m)
+part_in one other (Some m) = option_map (λ (kind : ChoiceKind). In kind m) (difference_by one other m)
 
 -- what differs first in the contexts of a meter, by the tables of the tariffs; the law `differences_are_first` says
 -- that nothing differs in an earlier one

@@ -7,8 +7,8 @@ use Rattle.tariff_check.specs.Amounts.{initial_by}
 use Rattle.tariff_syntax.specs.Meaning.{rate_place}
 use Rattle.tariff_syntax.specs.Tree.{Tree}
 use Rattle.tariff_syntax.specs.declared.context.Context.{Context}
-use Rattle.tariff_syntax.specs.declared.meaning.LineKind.{LineKind}
-use Rattle.tariff_syntax.specs.declared.meaning.LineKind.TheVariants.{Rate, Initial, Minimum}
+use Rattle.tariff_check.specs.declared.choice.ChoiceKind.{ChoiceKind}
+use Rattle.tariff_check.specs.declared.choice.ChoiceKind.TheVariants.{Rate, Initial, Minimum}
 use Rattle.tariff_check.specs.declared.values.Initial as fees
 use Rattle.tariff_compare.specs.Contexts.{IsFirst, IsMeterContext, context_at}
 use Rattle.tariff_compare.specs.Counting.{is_hiring}
@@ -45,7 +45,7 @@ is_minimum_other t u k m =
 
 -- what differs between two tariffs in a context of a meter is first the initial hire fee, then the minimum fare, then
 -- the rate, or nothing
-abbrev pub difference_at : (t u : Tree) (k : ℕ) → MeterContext → Option LineKind
+abbrev pub difference_at : (t u : Tree) (k : ℕ) → MeterContext → Option ChoiceKind
 difference_at t u k m =
     if is_fee_other t u k m then Some Initial
     else (if is_minimum_other t u k m then Some Minimum
@@ -68,7 +68,7 @@ pub record AreSame (t u : Tree) (k : ℕ) : Type 0 where
 
 -- what differs first between two tariffs is a part of a context if their frames are the same, it is what differs in the
 -- context, and in no earlier context of a meter anything does
-pub record DiffersFirst (t u : Tree) (k : ℕ) (kind : LineKind) (m : MeterContext) : Type 0 where
+pub record DiffersFirst (t u : Tree) (k : ℕ) (kind : ChoiceKind) (m : MeterContext) : Type 0 where
   pub frame : HasSameFrame t u
   pub there : difference_at t u k m ≡ Some kind
   pub first : IsFirst t (λ n. is_some (difference_at t u k n) ≡ true) m

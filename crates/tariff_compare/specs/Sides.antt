@@ -9,8 +9,8 @@ use Rattle.tariff_compile.specs.Tables.{TableParts, fees_in, lines_in, tables_of
 use Rattle.tariff_compile.specs.declared.parts.CellLines.{CellLines}
 use Rattle.tariff_syntax.specs.Tree.{Tree}
 use Rattle.tariff_syntax.specs.declared.context.Context.{Context}
-use Rattle.tariff_syntax.specs.declared.meaning.LineKind.{LineKind}
-use Rattle.tariff_syntax.specs.declared.meaning.LineKind.TheVariants.{Rate, Initial, Minimum}
+use Rattle.tariff_check.specs.declared.choice.ChoiceKind.{ChoiceKind}
+use Rattle.tariff_check.specs.declared.choice.ChoiceKind.TheVariants.{Rate, Initial, Minimum}
 use Rattle.tariff_compare.specs.Counting.{counts, is_hiring}
 use Rattle.tariff_compare.specs.Same.{difference_at, have_same_fee, have_same_minimum}
 use Rattle.tariff_compare.specs.declared.meter_context.MeterContext.{MeterContext}
@@ -56,7 +56,7 @@ unfoldable pub lines_by : TableParts → MeterContext → CellLines
 lines_by tables m = lines_in tables (context_by tables m)
 
 -- whether a line counts, by the tables
-abbrev pub counts_by : TableParts → LineKind → (place : ℕ) → MeterContext → Bool
+abbrev pub counts_by : TableParts → ChoiceKind → (place : ℕ) → MeterContext → Bool
 counts_by tables Rate place m = (lines_by tables m).rate == place
 counts_by tables Initial place m = is_hiring m && ((lines_by tables m).initial == place)
 counts_by tables Minimum place m = is_hiring m && ((lines_by tables m).minimum == place + 1)
@@ -85,7 +85,7 @@ is_minimum_other_by one other m =
     (fees_in other.tables (context_by other.tables m)))
 
 -- what differs in a context, by the tables
-abbrev pub difference_by : (one other : SideParts) → MeterContext → Option LineKind
+abbrev pub difference_by : (one other : SideParts) → MeterContext → Option ChoiceKind
 difference_by one other m =
     if is_fee_other_by one other m then Some Initial
     else (if is_minimum_other_by one other m then Some Minimum

@@ -5,8 +5,8 @@ use Rattle.interval_clock.specs.Calendar.{date_after, weekday_of}
 use Rattle.interval_clock.specs.declared.day_numbers.CalendarDate.{CalendarDate}
 use Rattle.taxi_units.specs.Number.{padded_text}
 use Rattle.taxi_units.specs.Weekdays.{day_name}
-use Rattle.tariff_syntax.specs.declared.meaning.LineKind.{LineKind}
-use Rattle.tariff_syntax.specs.declared.meaning.LineKind.TheVariants.{Rate, Initial, Minimum}
+use Rattle.tariff_check.specs.declared.choice.ChoiceKind.{ChoiceKind}
+use Rattle.tariff_check.specs.declared.choice.ChoiceKind.TheVariants.{Rate, Initial, Minimum}
 use Rattle.tariff_compare.specs.declared.meter_context.MeterContext.{MeterContext}
 use Rattle.tariff_compare.specs.declared.uses.LineUse.{LineUse}
 
@@ -36,18 +36,18 @@ unfoldable pub trip_text : MeterContext → List ℕ
 trip_text m = hiring_text m ++ (codes " " ++ (decimal m.ticks ++ (codes " t " ++ (decimal m.pulses ++ codes " p"))))
 
 -- a context in which a rate is asked is one amid a trip, and one in which a fee or a minimum fare is asked is a hiring
-abbrev pub context_text : LineKind → MeterContext → List ℕ
+abbrev pub context_text : ChoiceKind → MeterContext → List ℕ
 context_text Rate m = trip_text m
 context_text kind m = hiring_text m
 
 -- a line of a kind has the word with which it begins
-abbrev pub kind_word : LineKind → List ℕ
+abbrev pub kind_word : ChoiceKind → List ℕ
 kind_word Rate = codes "rate"
 kind_word Initial = codes "initial"
 kind_word Minimum = codes "minimum"
 
 -- a line holds first in a context, or never
-abbrev pub first_text : LineKind → Option MeterContext → List ℕ
+abbrev pub first_text : ChoiceKind → Option MeterContext → List ℕ
 first_text kind None = codes " never\n"
 first_text kind (Some m) = codes " holds " ++ (context_text kind m ++ codes "\n")
 

@@ -11,9 +11,9 @@ use crate::day::{Day, day_in};
 use crate::meter_context::MeterContext;
 use crate::question::Question;
 use crate::side::Side;
-use tariff_check::Initial;
+use tariff_check::{ChoiceKind, Initial};
 use tariff_compile::Tables;
-use tariff_syntax::{Context, LineKind};
+use tariff_syntax::Context;
 
 /// Whether the answer to a question is yes in a context.
 pub(crate) fn is_met(
@@ -39,7 +39,7 @@ pub(crate) fn is_met(
 }
 
 /// What differs in a context.
-pub(crate) fn part_at(one: &Side, other: &Side, m: &MeterContext) -> Option<LineKind>
+pub(crate) fn part_at(one: &Side, other: &Side, m: &MeterContext) -> Option<ChoiceKind>
     requires one { CanBeAsked one.now.tables m.now }
     requires other { CanBeAsked other.now.tables m.now }
     ensures { result ≡ difference_by one.now other.now m.now }
@@ -72,15 +72,15 @@ fn context_on(tables: &Tables, day: &Day, holiday: bool, m: &MeterContext) -> Co
 }
 
 /// Whether a line counts in a context.
-fn counts(tables: &Tables, kind: LineKind, place: usize, m: &MeterContext, x: &Context) -> bool
+fn counts(tables: &Tables, kind: ChoiceKind, place: usize, m: &MeterContext, x: &Context) -> bool
     requires range { IsInRangeFor tables.now x.now }
     requires context { x.now ≡ context_by tables.now m.now }
     ensures { result ≡ counts_by tables.now kind place m.now }
 {
     match kind {
-        LineKind::Rate => tables.lines_at(x).rate as usize == place,
-        LineKind::Initial => is_hiring(m) && tables.lines_at(x).initial as usize == place,
-        LineKind::Minimum => {
+        ChoiceKind::Rate => tables.lines_at(x).rate as usize == place,
+        ChoiceKind::Initial => is_hiring(m) && tables.lines_at(x).initial as usize == place,
+        ChoiceKind::Minimum => {
             is_hiring(m) && tables.lines_at(x).minimum as u128 == place as u128 + 1
         }
     }
@@ -100,7 +100,7 @@ fn difference(
     m: &MeterContext,
     x: &Context,
     y: &Context,
-) -> Option<LineKind>
+) -> Option<ChoiceKind>
     requires one_range { IsInRangeFor one.now.tables x.now }
     requires one_context { x.now ≡ context_by one.now.tables m.now }
     requires other_range { IsInRangeFor other.now.tables y.now }
@@ -108,13 +108,13 @@ fn difference(
     ensures { result ≡ difference_by one.now other.now m.now }
 {
     if is_fee_other(one, other, m, x, y) {
-        Some(LineKind::Initial)
+        Some(ChoiceKind::Initial)
     } else if is_minimum_other(one, other, m, x, y) {
-        Some(LineKind::Minimum)
+        Some(ChoiceKind::Minimum)
     } else if cost_alike(one.costs_at(x), other.costs_at(y)) {
         None
     } else {
-        Some(LineKind::Rate)
+        Some(ChoiceKind::Rate)
     }
 }
 

@@ -16,8 +16,7 @@ use crate::search::first_met;
 use crate::side::Side;
 use drive_modes::{Constant, Rounding};
 use std::alloc::Global;
-use tariff_check::{Checked, Supplement};
-use tariff_syntax::LineKind;
+use tariff_check::{Checked, ChoiceKind, Supplement};
 use taxi_units::NoMemory;
 
 /// What differs between two tariffs.
@@ -37,7 +36,7 @@ pub enum Difference {
     Supplement(u8),
     /// In a context of a meter, which is a hiring but for a rate: the initial hire fee in amount or cover, the minimum
     /// fare, or what the rate costs.
-    In(LineKind, MeterContext),
+    In(ChoiceKind, MeterContext),
 }
 
 /// What differs first between two sound tariffs under a constant; `None` exactly where they are the same. Decimals,

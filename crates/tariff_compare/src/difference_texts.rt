@@ -8,8 +8,8 @@ use crate::difference_lines::line_of_difference;
 use crate::texts::{push_context, push_decimal};
 use drive_modes::Constant;
 use std::alloc::{AllocError, Global};
-use tariff_check::Checked;
-use tariff_syntax::{LineKind, Tariff, TariffLine, print_line};
+use tariff_check::{Checked, ChoiceKind};
+use tariff_syntax::{TariffLine, print_line};
 use taxi_units::NoMemory;
 
 /// The text of what differs between two tariffs under a constant: `SAME`, or `DIFFERENT` with what differs, and the
@@ -27,14 +27,7 @@ pub fn print_difference(
         ≡ comparison_text (tree_of one.now) (tree_of other.now) k difference.now) }
 {
     let mut text = Vec::new(alloc);
-    match push_comparison(
-        alloc,
-        &mut text,
-        one.tariff(),
-        other.tariff(),
-        k,
-        difference,
-    ) {
+    match push_comparison(alloc, &mut text, one, other, k, difference) {
         Ok(()) => Ok(text),
         Err(_) => Err(NoMemory),
     }
@@ -44,14 +37,12 @@ pub fn print_difference(
 fn push_comparison(
     alloc: Global,
     text: &mut Vec<u8>,
-    one: &Tariff,
-    other: &Tariff,
+    one: &Checked,
+    other: &Checked,
     k: Constant,
     difference: &Option<Difference>,
 ) -> Result<(), AllocError>
-    requires dated { IsDatedOrNone difference.now }
-    requires one { one.now.decimals ≤ 3 }
-    requires other { other.now.decimals ≤ 3 }
+    requires { IsDatedOrNone difference.now }
     ensures { OnOk result (text.new.items ≡ text.old.items
         ++ comparison_text (tree_of one.now) (tree_of other.now) k difference.now) }
 {
@@ -95,13 +86,13 @@ fn push_named(text: &mut Vec<u8>, name: &[u8], number: u8) -> Result<(), AllocEr
 }
 
 /// The word of a kind whose lines differ.
-fn push_part_word(text: &mut Vec<u8>, kind: LineKind) -> Result<(), AllocError>
+fn push_part_word(text: &mut Vec<u8>, kind: ChoiceKind) -> Result<(), AllocError>
     ensures { OnOk result (text.new.items ≡ text.old.items ++ part_word kind) }
 {
     match kind {
-        LineKind::Rate => text.extend_from_slice(b"RATE "),
-        LineKind::Initial => text.extend_from_slice(b"INITIAL "),
-        LineKind::Minimum => text.extend_from_slice(b"MINIMUM "),
+        ChoiceKind::Rate => text.extend_from_slice(b"RATE "),
+        ChoiceKind::Initial => text.extend_from_slice(b"INITIAL "),
+        ChoiceKind::Minimum => text.extend_from_slice(b"MINIMUM "),
     }
 }
 
@@ -110,22 +101,22 @@ fn push_part_word(text: &mut Vec<u8>, kind: LineKind) -> Result<(), AllocError>
 fn push_side(
     alloc: Global,
     text: &mut Vec<u8>,
-    tariff: &Tariff,
+    checked: &Checked,
     k: Constant,
     difference: &Difference,
 ) -> Result<(), AllocError>
-    requires dated { IsDatedDifference difference.now }
-    requires decimals { tariff.now.decimals ≤ 3 }
-    ensures { OnOk result (text.new.items ≡ text.old.items ++ side_text (tree_of tariff.now) k difference.now) }
+    requires { IsDatedDifference difference.now }
+    ensures { OnOk result (text.new.items ≡ text.old.items ++ side_text (tree_of checked.now) k difference.now) }
 {
+    let decimals = checked.tariff().decimals;
     match difference {
         Difference::Decimals => {
             text.extend_from_slice(b"decimals ")?;
-            push_decimal(text, tariff.decimals as u64)?;
+            push_decimal(text, decimals as u64)?;
             text.extend_from_slice(b"\n")
         }
-        said => match line_of_difference(tariff, k, said) {
-            Some(line) => push_line(alloc, text, tariff.decimals, line),
+        said => match line_of_difference(checked, k, said) {
+            Some(line) => push_line(alloc, text, decimals, line),
             None => push_default(text, said),
         },
     }

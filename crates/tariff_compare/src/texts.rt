@@ -12,7 +12,7 @@ use crate::meter_context::MeterContext;
 use crate::uses::LineUse;
 use interval_clock::{CalendarDate, date_of_day};
 use std::alloc::{AllocError, Global};
-use tariff_syntax::LineKind;
+use tariff_check::ChoiceKind;
 use taxi_units::{DAY_NAMES, Line, NoMemory, put_number, put_padded};
 
 /// The text of the uses of lines, a line of text each: the number of the line and the word of its kind, then `holds`
@@ -44,20 +44,20 @@ fn push_use(text: &mut Vec<u8>, one: &LineUse) -> Result<(), AllocError>
 }
 
 /// The word of a kind.
-fn push_kind(text: &mut Vec<u8>, kind: LineKind) -> Result<(), AllocError>
+fn push_kind(text: &mut Vec<u8>, kind: ChoiceKind) -> Result<(), AllocError>
     ensures { OnOk result (text.new.items ≡ text.old.items ++ kind_word kind) }
 {
     match kind {
-        LineKind::Rate => text.extend_from_slice(b"rate"),
-        LineKind::Initial => text.extend_from_slice(b"initial"),
-        LineKind::Minimum => text.extend_from_slice(b"minimum"),
+        ChoiceKind::Rate => text.extend_from_slice(b"rate"),
+        ChoiceKind::Initial => text.extend_from_slice(b"initial"),
+        ChoiceKind::Minimum => text.extend_from_slice(b"minimum"),
     }
 }
 
 /// Where a line counts first.
 fn push_first(
     text: &mut Vec<u8>,
-    kind: LineKind,
+    kind: ChoiceKind,
     first: &Option<MeterContext>,
 ) -> Result<(), AllocError>
     requires { IsDated first.now }
@@ -76,16 +76,16 @@ fn push_first(
 /// A context in which a line of a kind is asked.
 pub(crate) fn push_context(
     text: &mut Vec<u8>,
-    kind: LineKind,
+    kind: ChoiceKind,
     m: &MeterContext,
 ) -> Result<(), AllocError>
     requires { IsFromTo 10956 84006 m.now.day }
     ensures { OnOk result (text.new.items ≡ text.old.items ++ context_text kind m.now) }
 {
     match kind {
-        LineKind::Rate => push_trip(text, m),
-        LineKind::Initial => push_hiring(text, m),
-        LineKind::Minimum => push_hiring(text, m),
+        ChoiceKind::Rate => push_trip(text, m),
+        ChoiceKind::Initial => push_hiring(text, m),
+        ChoiceKind::Minimum => push_hiring(text, m),
     }
 }
 

@@ -11,12 +11,12 @@ ghost use Rattle.tariff_compare.specs.declared.difference.Difference.{Difference
 ghost use Rattle.tariff_compare.specs.declared.difference.Difference.TheVariants.{In};
 ghost use Rattle.tariff_compare.specs.declared.meter_context.MeterContext.{MeterContext};
 ghost use Rattle.tariff_syntax.specs.Tree.{Tree};
-ghost use Rattle.tariff_syntax.specs.declared.meaning.LineKind.{LineKind};
+ghost use Rattle.tariff_check.specs.declared.choice.ChoiceKind.{ChoiceKind};
 
 /// The law of first contexts: the context that is given of a line is the first one of a meter in which it is the line
 /// that counts, and none is given exactly where it counts in none.
 pub fn first_contexts_are_first()
-    ensures { (t : Tree) (k : ℕ) (kind : LineKind) (place : ℕ) → HasTables t k
+    ensures { (t : Tree) (k : ℕ) (kind : ChoiceKind) (place : ℕ) → HasTables t k
         → IsFirstOrNone t (λ m. counts t k kind place m ≡ true) (first_counting (side_of t k) kind place) }
 {}
 
@@ -29,7 +29,7 @@ pub fn differences_are_first()
         → difference_of t u k ≡ Some d }
     ensures same_frame { (t u : Tree) (k : ℕ) → HasTables t k → HasTables u k
         → (frame_difference t u ≡ None) ↔ HasSameFrame t u }
-    ensures context { (t u : Tree) (k : ℕ) (kind : LineKind) (m : MeterContext) → HasTables t k → HasTables u k
+    ensures context { (t u : Tree) (k : ℕ) (kind : ChoiceKind) (m : MeterContext) → HasTables t k → HasTables u k
         → HasSameFrame t u → difference_of t u k ≡ Some (In kind m) → DiffersFirst t u k kind m }
 {}
 

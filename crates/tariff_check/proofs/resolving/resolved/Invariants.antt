@@ -1,5 +1,6 @@
-use Rattle.std.proofs.Common.{◌≡◌, ◌++◌, map, drop}
+use Rattle.std.proofs.Common.{◌≡◌, ◌++◌, map, drop, take}
 use Rattle.tariff_syntax.specs.Tree.{line_of}
+use Rattle.tariff_check.specs.ChoiceLines.{choice_lines, choices_behind}
 use Rattle.tariff_check.specs.Parts.{holidays_of, initial_part, minimum_part, parts, rate_part}
 use Rattle.tariff_check.specs.Resolved.{placed_from}
 use Rattle.tariff_check.specs.SoundTariff.{numbered_supplement}
@@ -17,4 +18,7 @@ invariant-loop-place l = record {
       ≡ placed_from initial_part 0 (map line_of l.lines);
   minimums : l.parts.minimums.items ++ placed_from minimum_part l.place (map line_of (drop l.place l.lines))
       ≡ placed_from minimum_part 0 (map line_of l.lines);
+  choice_lines : l.parts.choice_lines.items
+      ++ choices_behind (map line_of (take l.place l.lines)) (map line_of (drop l.place l.lines))
+      ≡ choice_lines (map line_of l.lines);
 }
