@@ -6,10 +6,10 @@ use Rattle.std.proofs.lemmas.Grind.{common_steps}
 use Rattle.std.proofs.lemmas.List.Elements.{All-cons, All-head, All-nil, All-tail}
 use Rattle.std.proofs.lemmas.Nat.{mul-le}
 use Rattle.tariff_compare.specs.Contexts.{most_pulses}
+use Rattle.tariff_syntax.specs.Choices.{Choice, RateNumbers, choice_in, choices, conditions_of, rate_part}
 use Rattle.tariff_syntax.specs.Condition as tree
 use Rattle.tariff_syntax.specs.Condition.{Condition}
 use Rattle.tariff_syntax.specs.Meaning.{holds, holds_if, rate_place}
-use Rattle.tariff_syntax.specs.Parts.{rate_conditions, rate_when}
 use Rattle.tariff_syntax.specs.Tree.{Entry, Line, Tree}
 use Rattle.tariff_syntax.specs.Tree as entries
 use Rattle.tariff_syntax.specs.Writable.{IsWritable, IsWritableCondition, IsWritableEntry, IsWritableIf, greatest}
@@ -68,17 +68,18 @@ full-position n (c ∷ cs) x can small many =
     (full-position (n + 1) cs x (All-tail IsWritableIf c cs can) small many)
 
 -- the conditions of rates that a text can have are ones that it can have
-more-conditions : (e : Entry) (cs : List (Option Condition)) → IsWritableEntry e → All IsWritableIf cs
-    → All IsWritableIf (cons_option (rate_when e) cs)
-more-conditions (entries.rate a b c e when) cs can each = All-cons IsWritableIf when cs can.4 each
-more-conditions (entries.step amount rounding) cs can each = each
-more-conditions e cs can each = each
+more-conditions : (line : ℕ) (e : Entry) (cs : List (Choice RateNumbers)) → IsWritableEntry e
+    → All IsWritableIf (conditions_of cs)
+    → All IsWritableIf (conditions_of (cons_option (choice_in rate_part (record { line = line; entry = e })) cs))
+more-conditions line (entries.rate a b c e when) cs can each = All-cons IsWritableIf when (conditions_of cs) can.4 each
+more-conditions line (entries.step amount rounding) cs can each = each
+more-conditions line e cs can each = each
 
 conditions : (lines : List Line) → All (λ (l : Line). IsWritableEntry l.entry) lines
-    → All IsWritableIf (rate_conditions lines)
+    → All IsWritableIf (conditions_of (choices rate_part lines))
 conditions [] can = All-nil IsWritableIf
 conditions (l ∷ lines) can =
-    more-conditions l.entry (rate_conditions lines) (All-head (λ (k : Line). IsWritableEntry k.entry) l lines can)
+    more-conditions l.line l.entry (choices rate_part lines) (All-head (λ (k : Line). IsWritableEntry k.entry) l lines can)
     (conditions lines (All-tail (λ (k : Line). IsWritableEntry k.entry) l lines can))
 
 capped-by : (b : Bool) (t : Tree) (x : Context) → nat_le most_pulses x.pulses ≡ b → IsWritable t → x.constant ≤ 200000
@@ -86,7 +87,7 @@ capped-by : (b : Bool) (t : Tree) (x : Context) → nat_le most_pulses x.pulses 
 capped-by true t x is writable small =
     let many : most_pulses ≤ x.pulses = grind (arith, common_steps) in
     let least : most_pulses ≡ min x.pulses most_pulses = omega (arith, many) in
-    full-position 0 (rate_conditions t.lines) x (conditions t.lines writable.lines) small many
+    full-position 0 (conditions_of (choices rate_part t.lines)) x (conditions t.lines writable.lines) small many
     ∙ ap (λ (p : ℕ). rate_place t (record x { pulses = p })) least
 capped-by false t x is writable small =
     let few : x.pulses < most_pulses = grind (arith, common_steps) in

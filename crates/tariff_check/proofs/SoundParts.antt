@@ -34,8 +34,8 @@ use Rattle.tariff_check.proofs.FirstLine.{never}
 use Rattle.tariff_check.proofs.LineFacts.{IsGoodEntry, good_atoms, holiday_fact, initial_fact, minimum_fact}
 use Rattle.tariff_check.proofs.LineFacts.{positions_fact, rate_fact, step_fact, supplement_fact, zones_fact}
 use Rattle.tariff_check.proofs.MeasureLaws.{common_grows}
-use Rattle.tariff_check.proofs.PartLaws.{CountsParts, Gives, few, first_part_has, known_holidays, known_initials}
-use Rattle.tariff_check.proofs.PartLaws.{known_minimums, known_rates, parts_all}
+use Rattle.tariff_check.proofs.PartLaws.{Gives, IsKind, few, first_part_has, holidays_alike, initials_alike}
+use Rattle.tariff_check.proofs.PartLaws.{minimums_alike, parts_all, rates_alike}
 use Rattle.tariff_check.proofs.Staging.{not_if, nowhere, or_false, sound_if_none}
 use Rattle.taxi_units.specs.Money.{largest_amount}
 
@@ -71,12 +71,12 @@ given : {A : Type 0} (part : Entry → Option A) (P : A → Type 0) (ls : List L
 given part P ls fact good = λ (k : ℕ) (d : Line) within. fact _ (good k d within)
 
 -- the choices of a kind are sound, and no more than there may be
-choices_sound : {V : Type 0} (part : Entry → Option V) (P : V → Type 0) (most : ℕ) → CountsParts part most
+choices_sound : {V : Type 0} (part : Entry → Option V) (P : V → Type 0) (most : ℕ) → IsKind part most
     → (ls : List Line) → ((x : Entry) → IsGoodEntry x → (v : V) → part x ≡ Some v → P v) → All IsGoodLine ls
     → first_line is_one_too_many ls ≡ None
     → All P (values_of (choices part ls)) × (length (values_of (choices part ls)) ≤ most)
-choices_sound part P most known ls fact good many =
-    rw (values_are part ls) (parts_all part P ls (given part P ls fact good), few part most known [] ls (omega arith) many)
+choices_sound part P most kind ls fact good many =
+    rw (values_are part ls) (parts_all part P ls (given part P ls fact good), few part most kind [] ls (omega arith) many)
 
 -- a number of 1 to 9, or 1 without a line
 number_or_one : (o : Option ℕ) → ((n : ℕ) → o ≡ Some n → IsFromTo 1 9 n) → IsFromTo 1 9 (unwrap_or o 1)
@@ -121,10 +121,10 @@ sound_parts t w h =
     (IsFromTo 1 9) ls n (given positions_part (IsFromTo 1 9) ls positions_fact good) e) in
     let zones = number_or_one (first_part zones_part ls) (λ (n : ℕ) e. first_part_has zones_part (IsFromTo 1 9) ls n
     (given zones_part (IsFromTo 1 9) ls zones_fact good) e) in
-    let rates = choices_sound rate_part IsSoundRate 64 known_rates ls rate_fact good many in
-    let initials = choices_sound initial_part IsSoundInitial 64 known_initials ls initial_fact good many in
+    let rates = choices_sound rate_part IsSoundRate 64 rates_alike ls rate_fact good many in
+    let initials = choices_sound initial_part IsSoundInitial 64 initials_alike ls initial_fact good many in
     let minimums =
-    choices_sound minimum_part (λ amount. amount ≤ largest_amount) 64 known_minimums ls minimum_fact good many in
+    choices_sound minimum_part (λ amount. amount ≤ largest_amount) 64 minimums_alike ls minimum_fact good many in
     record {
       decimals = w.decimals;
       step = step_there (step_of ls) (not_if _ _ (h 0 None (omega arith))) (not_if _ _ (h 1 None (omega arith)))
@@ -143,7 +143,7 @@ sound_parts t w h =
       supplements = λ (number : ℕ) (s : Supplement) e. first_part_has (supplement_part number) IsSoundSupplement
           ls s (given (supplement_part number) IsSoundSupplement ls (supplement_fact number) good) e;
       holidays = parts_all holiday_part IsSoundHoliday ls (given holiday_part IsSoundHoliday ls holiday_fact good);
-      holiday_count = few holiday_part 255 known_holidays [] ls (omega arith) many;
+      holiday_count = few holiday_part 255 holidays_alike [] ls (omega arith) many;
       atoms = λ (k : ℕ) (d : Line) within. good_atoms _ (good k d within);
       measure = (
         common_grows 1 (measures_of ls) (omega arith) (sound_measures t h),

@@ -1,4 +1,4 @@
--- Rules: a sound tariff as its parts, and the choice that holds first in a context.
+-- Rules: a sound tariff as its parts.
 use Rattle.std.specs.Prelude.{◌≡◌, ◌⊎◌, ℕ, ◌==◌, Bool, List, [], ◌∷◌, filter, find, map, is_some, Option, Some, None}
 use Rattle.std.specs.List.{slice_get}
 use Rattle.std.specs.Option.{option_map, unwrap_or}

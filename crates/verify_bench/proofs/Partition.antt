@@ -263,8 +263,7 @@ rest_timeless (Rest p) is = refl
 as_many : (t : Tree) → length (lines_of (sound_of t).rates) ≡ length (rates_of t.lines)
 as_many t =
     length-map (sound_of t).rates (λ (c : Choice RateNumbers). c.line)
-    ∙ (sym (length-map (sound_of t).rates (λ (c : Choice RateNumbers). c.value))
-    ∙ ap length (check.sound_tariffs_are_their_parts-choices t).rates)
+    ∙ sym (length-map (sound_of t).rates (λ (c : Choice RateNumbers). c.value))
 
 within_rates : (s : Setting) → IsSound s.tariff → (x : Context)
     → rate_place_of s x < length (lines_of (sound_of s.tariff).rates)

@@ -18,33 +18,32 @@ all_cells-requires-clause-parts c =
     sound_tariffs_have_sound_parts-parts (tree_of c.args.checked.now) c.rates.ensures.writable c.rates.ensures.sound
 
 pub invariant_of-result : goal.invariant_of-result
-invariant_of-result c =
-    (
-      tree_of c.args.checked.now,
-      record {
-        writable = c.rates.ensures.writable;
-        sound = c.rates.ensures.sound;
-        constant = (rw (← c.get.ensures.value) c.get.ensures.least, rw (← c.get.ensures.value) c.get.ensures.most);
-        parts = rw (
-          c.step-step.ensures.value,
-          c.in_ok-cuts.ensures,
-          c.in_ok-weights.ensures,
-          c.in_ok-initials.ensures,
-          c.in_ok-minimums.ensures,
-          c.rates.ensures.value.values,
-          c.initials.ensures.value.values,
-          c.minimums.ensures.value.values,
-          c.in_ok-cells.ensures,
-          c.in_ok-supplements.ensures,
-          c.get.ensures.value,
-          c.measure.ensures.value,
-          c.measure-2.ensures.value,
-          c.positions.ensures.value,
-          c.zones.ensures.value,
-          c.tariff.ensures.value,
-        );
-      },
-    )
+invariant_of-result c = (
+  tree_of c.args.checked.now,
+  record {
+    writable = c.rates.ensures.writable;
+    sound = c.rates.ensures.sound;
+    constant = (rw (← c.get.ensures.value) c.get.ensures.least, rw (← c.get.ensures.value) c.get.ensures.most);
+    parts = rw (
+      c.step-step.ensures.value,
+      c.in_ok-cuts.ensures,
+      c.in_ok-weights.ensures,
+      c.in_ok-initials.ensures,
+      c.in_ok-minimums.ensures,
+      c.rates.ensures.value.values,
+      c.initials.ensures.value.values,
+      c.minimums.ensures.value.values,
+      c.in_ok-cells.ensures,
+      c.in_ok-supplements.ensures,
+      c.get.ensures.value,
+      c.measure.ensures.value,
+      c.measure-2.ensures.value,
+      c.positions.ensures.value,
+      c.zones.ensures.value,
+      c.tariff.ensures.value,
+    );
+  },
+)
 
 pub returns-clause-fit : goal.returns-clause-fit
 returns-clause-fit c = tables_fit _ (invariant_of-result c)

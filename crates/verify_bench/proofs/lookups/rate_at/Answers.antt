@@ -1,11 +1,9 @@
 use Rattle.std.proofs.Common.{◌∙◌, ℕ, List, ap, get_or}
-use Rattle.tariff_check.proofs.Laws as check
 use Rattle.tariff_check.specs.Parts.{RateNumbers}
-use Rattle.tariff_syntax.specs.Tree.{tree_of}
 use Rattle.verify_bench.proofs.lookups.rate_at.Goals as goal
 
 pub returns-clause-value : goal.returns-clause-value
 returns-clause-value c =
     c.value_at.ensures
     ∙ ap (λ (values : List RateNumbers). get_or values c.args.place (record { a = 0; b = 0; c = 0; e = 0 }))
-    (c.rates.ensures.value.values ∙ (check.sound_tariffs_are_their_parts-choices (tree_of c.args.checked.now)).rates)
+    c.rates.ensures.value.values

@@ -1,6 +1,6 @@
-use Rattle.std.proofs.Common.{◌≡◌, ◌∙◌, List, subst}
+use Rattle.std.proofs.Common.{◌≡◌, List, subst}
 use Rattle.std.specs.Prelude.{IfOk}
-use Rattle.tariff_check.proofs.Laws.{sound_tariffs_are_their_parts-choices, sound_tariffs_have_sound_parts-parts}
+use Rattle.tariff_check.proofs.Laws.{sound_tariffs_have_sound_parts-parts}
 use Rattle.tariff_check.specs.Parts.{RateNumbers}
 use Rattle.tariff_syntax.specs.Tree.{tree_of}
 use Rattle.verify_bench.specs.CrossOvers.{cross_over_lines}
@@ -9,12 +9,10 @@ use Rattle.verify_bench.proofs.speeds.cross_overs.Goals as goal
 pub lines_of_rates-requires : goal.lines_of_rates-requires
 lines_of_rates-requires c =
     let t = tree_of c.args.checked.now in
-    rw (c.rates.ensures.value.values ∙ (sound_tariffs_are_their_parts-choices t).rates)
+    rw c.rates.ensures.value.values
     (sound_tariffs_have_sound_parts-parts t c.rates.ensures.writable c.rates.ensures.sound).rates
 
 pub returns : goal.returns
 returns c =
-    let same = c.rates.ensures.value.values
-    ∙ (sound_tariffs_are_their_parts-choices (tree_of c.args.checked.now)).rates in
     subst (λ (rates : List RateNumbers). IfOk c.lines_of_rates.result
-    (λ text. text.items ≡ cross_over_lines 1 rates)) same c.lines_of_rates.ensures
+    (λ text. text.items ≡ cross_over_lines 1 rates)) c.rates.ensures.value.values c.lines_of_rates.ensures
