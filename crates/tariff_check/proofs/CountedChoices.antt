@@ -33,7 +33,8 @@ pub minimums_are : IsOfPart minimum_choice Minimum
 minimums_are (minimum amount when) = refl
 minimums_are x = refl
 
-module _ {V : Type 0} (part : Entry → Option (V × Option Condition)) (kind : ChoiceKind) (are : IsOfPart part kind) where
+module _ {V : Type 0} (part : Entry → Option (V × Option Condition)) (kind : ChoiceKind)
+    (are : IsOfPart part kind) where
   -- as many choices are placed as there are lines of the kind
   length_placed : (place : ℕ) (ls : List Line) → length (placed_from part place ls) ≡ place_behind kind ls
   length_placed place [] = refl
@@ -56,10 +57,12 @@ module _ {V : Type 0} (part : Entry → Option (V × Option Condition)) (kind : 
       let front = map line_of (take place lines) in
       let rest = map line_of (drop place lines) in
       let joined : map line_of lines ≡ front ++ rest =
-      ap (map line_of) (sym (take-append-drop place lines)) ∙ map-append line_of (take place lines) (drop place lines) in
+      ap (map line_of) (sym (take-append-drop place lines))
+      ∙ map-append line_of (take place lines) (drop place lines) in
       let counts : place_behind kind (map line_of lines) ≡ place_behind kind front + place_behind kind rest =
       ap (place_behind kind) joined ∙ sum_by-append (λ (m : Line). cond (is_of kind m.entry) 1 0) front rest in
-      let lengths : length own + length (placed_from part place rest) ≡ length (placed_from part 0 (map line_of lines)) =
+      let lengths : length own + length (placed_from part place rest)
+      ≡ length (placed_from part 0 (map line_of lines)) =
       sym (length-append own (placed_from part place rest)) ∙ ap length all in
       omega (arith, counts, lengths, length_placed place rest, length_placed 0 (map line_of lines))
 
