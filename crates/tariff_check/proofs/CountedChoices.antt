@@ -55,10 +55,12 @@ module _ {V : Type 0} (part : Entry → Option V) (kind : ChoiceKind) (are : IsO
       let front = map line_of (take place lines) in
       let rest = map line_of (drop place lines) in
       let joined : map line_of lines ≡ front ++ rest =
-      ap (map line_of) (sym (take-append-drop place lines)) ∙ map-append line_of (take place lines) (drop place lines) in
+      ap (map line_of) (sym (take-append-drop place lines))
+      ∙ map-append line_of (take place lines) (drop place lines) in
       let counts : place_behind kind (map line_of lines) ≡ place_behind kind front + place_behind kind rest =
       ap (place_behind kind) joined ∙ sum_by-append (λ (m : Line). cond (is_of kind m.entry) 1 0) front rest in
-      let lengths : length own + length (placed_from part place rest) ≡ length (placed_from part 0 (map line_of lines)) =
+      let lengths : length own + length (placed_from part place rest)
+      ≡ length (placed_from part 0 (map line_of lines)) =
       sym (length-append own (placed_from part place rest)) ∙ ap length all in
       omega (arith, counts, lengths, length_placed place rest, length_placed 0 (map line_of lines))
 

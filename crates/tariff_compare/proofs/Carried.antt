@@ -4,8 +4,7 @@ use Rattle.std.proofs.Common.{Option, arith}
 use Rattle.std.proofs.lemmas.Bool.{eq-eqb, eqb-true}
 use Rattle.std.specs.Cmp.Derive.{both_true}
 use Rattle.std.specs.Option.{unwrap_or}
-use Rattle.tariff_calendar.proofs.Laws.{cuts_decide_conditions-initial, cuts_decide_conditions-minimum}
-use Rattle.tariff_calendar.proofs.Laws.{cuts_decide_conditions-rate}
+use Rattle.tariff_calendar.proofs.Laws.{cuts_decide_conditions-first}
 use Rattle.tariff_calendar.specs.Lists.{lists_of}
 use Rattle.tariff_calendar.specs.Range.{IsSameCell}
 use Rattle.tariff_check.specs.Parts.{RateNumbers, initials_of, minimums_of, rates_of}
@@ -35,22 +34,12 @@ pub record StandsFor (t : Tree) (k : ℕ) (n c : MeterContext) : Type 0 where
   pub ticks : c.ticks ≤ n.ticks
   pub pulses : c.pulses ≤ n.pulses
 
-rates_same : (t : Tree) (k : ℕ) (n c : MeterContext) → StandsFor t k n c
-    → rate_place t (context_at t k n) ≡ rate_place t (context_at t k c)
-rates_same t k n c is =
-    cuts_decide_conditions-rate t k (context_at t k n) (context_at t k c) is.has.writable is.has.sound
-    (in_range_of t k n is.has is.first) (in_range_of t k c is.has is.second) is.same
-
-initials_same : (t : Tree) (k : ℕ) (n c : MeterContext) → StandsFor t k n c
-    → initial_place t (context_at t k n) ≡ initial_place t (context_at t k c)
-initials_same t k n c is =
-    cuts_decide_conditions-initial t k (context_at t k n) (context_at t k c) is.has.writable is.has.sound
-    (in_range_of t k n is.has is.first) (in_range_of t k c is.has is.second) is.same
-
-minimums_same : (t : Tree) (k : ℕ) (n c : MeterContext) → StandsFor t k n c
-    → minimum_place t (context_at t k n) ≡ minimum_place t (context_at t k c)
-minimums_same t k n c is =
-    cuts_decide_conditions-minimum t k (context_at t k n) (context_at t k c) is.has.writable is.has.sound
+firsts_same : (t : Tree) (k : ℕ) (n c : MeterContext) → StandsFor t k n c
+    → (rate_place t (context_at t k n) ≡ rate_place t (context_at t k c))
+    × (initial_place t (context_at t k n) ≡ initial_place t (context_at t k c))
+    × (minimum_place t (context_at t k n) ≡ minimum_place t (context_at t k c))
+firsts_same t k n c is =
+    cuts_decide_conditions-first t k (context_at t k n) (context_at t k c) is.has.writable is.has.sound
     (in_range_of t k n is.has is.first) (in_range_of t k c is.has is.second) is.same
 
 hiring_carried : (n c : MeterContext) → c.ticks ≤ n.ticks → c.pulses ≤ n.pulses → is_hiring n ≡ true
@@ -70,9 +59,9 @@ hiring_and t k n c a b is same h =
 
 pub counts_carried : (t : Tree) (k : ℕ) (kind : ChoiceKind) (place : ℕ) (n c : MeterContext) → StandsFor t k n c
     → counts t k kind place n ≡ true → counts t k kind place c ≡ true
-counts_carried t k Rate place n c is h = sym (ap (is_at place) (rates_same t k n c is)) ∙ h
-counts_carried t k Initial place n c is h = hiring_and t k n c _ _ is (ap (is_at place) (initials_same t k n c is)) h
-counts_carried t k Minimum place n c is h = hiring_and t k n c _ _ is (ap (is_at place) (minimums_same t k n c is)) h
+counts_carried t k Rate place n c is h = sym (ap (is_at place) (firsts_same t k n c is).0) ∙ h
+counts_carried t k Initial place n c is h = hiring_and t k n c _ _ is (ap (is_at place) (firsts_same t k n c is).1.0) h
+counts_carried t k Minimum place n c is h = hiring_and t k n c _ _ is (ap (is_at place) (firsts_same t k n c is).1.1) h
 
 abbrev by_places : Tree → (initial minimum : Option ℕ) → fees.Initial
 by_places t initial minimum =
@@ -82,14 +71,14 @@ by_places t initial minimum =
 fees_same : (t : Tree) (k : ℕ) (n c : MeterContext) → StandsFor t k n c
     → initial_by t (context_at t k n) ≡ initial_by t (context_at t k c)
 fees_same t k n c is =
-    ap (λ (o : Option ℕ). by_places t o (minimum_place t (context_at t k n))) (initials_same t k n c is)
-    ∙ ap (by_places t (initial_place t (context_at t k c))) (minimums_same t k n c is)
+    ap (λ (o : Option ℕ). by_places t o (minimum_place t (context_at t k n))) (firsts_same t k n c is).1.0
+    ∙ ap (by_places t (initial_place t (context_at t k c))) (firsts_same t k n c is).1.1
 
 costs_same : (t : Tree) (k : ℕ) (n c : MeterContext) → StandsFor t k n c
     → rate_in t (context_at t k n) ≡ rate_in t (context_at t k c)
 costs_same t k n c is =
     ap (λ (o : Option ℕ). get_or (rates_of t.lines) (unwrap_or o 0) (record { a = 0; b = 0; c = 0; e = 0 }))
-    (rates_same t k n c is)
+    (firsts_same t k n c is).0
 
 some_carried : (f m r f₂ m₂ r₂ : Bool) → (f ≡ true → f₂ ≡ true) → (m ≡ true → m₂ ≡ true) → r ≡ r₂
     → is_some (part_of f m r) ≡ true → is_some (part_of f₂ m₂ r₂) ≡ true
