@@ -7,7 +7,7 @@ use Rattle.taxi_units.specs.declared.receipt.Kind.{Kind}
 use Rattle.taxi_units.specs.declared.receipt.Kind.TheVariants.{Closed, Aborted, Expired}
 use Rattle.taxi_units.specs.declared.receipt.Receipt.{Receipt}
 use Rattle.receipt_text.specs.declared.headings.Heading.{Heading}
-use Rattle.receipt_text.specs.declared.trips.Trip.{Trip}
+use Rattle.receipt_text.specs.declared.trips.TripLines.{TripLines}
 use Rattle.receipt_text.specs.declared.calculations.Calculation.{Calculation}
 use Rattle.receipt_text.specs.declared.sums.Sums.{Sums}
 use Rattle.receipt_text.specs.Dates.{day_at, stamp_at}
@@ -61,7 +61,7 @@ part_at text = do
   Some (record { taxi = taxi.0; constant = constant.0; secured = secured.0; digest = digest.0 }, rest)
 
 -- the lines of a trip, from its start to its distance, stand at the front, and this text behind them
-unfoldable pub trip_at : List ℕ → Option (Trip × List ℕ)
+unfoldable pub trip_at : List ℕ → Option (TripLines × List ℕ)
 trip_at text = do
   a ← word_at (codes "START ") text
   start ← stamp_at a
@@ -114,7 +114,7 @@ sums_at text = do
   Some (record { fare = fare.0; supplements = supplements.0 }, rest)
 
 -- a receipt has the number, the times and the amounts that its lines say
-abbrev pub receipt_of : Heading → Trip → Calculation → (minimum : ℕ) → Sums → Receipt
+abbrev pub receipt_of : Heading → TripLines → Calculation → (minimum : ℕ) → Sums → Receipt
 receipt_of heading trip calculation minimum sums =
     record {
       number = heading.number;

@@ -16,7 +16,7 @@ use crate::parts::{SealPart, part_at};
 use crate::ranges::{is_part, is_receipt};
 use crate::receipts::put_part_receipt;
 use crate::sums::{Sums, minimum_at, sums_at};
-use crate::trips::{Trip, trip_at};
+use crate::trips::{TripLines, trip_at};
 use taxi_units::{Line, Receipt};
 
 /// Reads the text of a receipt: what it says of the hiring, and what of the seal of the meter. `None`
@@ -81,7 +81,7 @@ pub(crate) fn receipt_at(text: &[u8]) -> Option<(Receipt, SealPart)>
 /// The receipt of what its lines say.
 fn receipt_of(
     heading: Heading,
-    trip: Trip,
+    trip: TripLines,
     calculation: Calculation,
     minimum: u64,
     sums: Sums,

@@ -12,9 +12,9 @@ use crate::figures::number_below;
 use crate::stamps::{put_stamp, stamp_at};
 use taxi_units::{Line, LineFull, Receipt, Stamp, put_bytes, word};
 
-/// What these lines say.
+/// What the lines of a trip say.
 #[derive(Clone, Copy)]
-pub(crate) struct Trip {
+pub(crate) struct TripLines {
     pub start: Stamp,
     pub finish: Stamp,
     pub position: u8,
@@ -56,7 +56,7 @@ fn put_time(line: &mut Line, word: &[u8], stamp: &Stamp) -> Result<(), LineFull>
 
 /// The lines of the trip at the front of a text, and what stands after them.
 #[tactic(auto, unfolding(crate::specs::Lines::trip_at))]
-pub(crate) fn trip_at(text: &[u8]) -> Option<(Trip, &[u8])>
+pub(crate) fn trip_at(text: &[u8]) -> Option<(TripLines, &[u8])>
     ensures { Gives (λ x. (x.0, x.1.now)) result (spec.trip_at text.now) }
 {
     let text = word(text, b"START ")?;
@@ -68,7 +68,7 @@ pub(crate) fn trip_at(text: &[u8]) -> Option<(Trip, &[u8])>
     let text = word(text, b"\nDISTANCE ")?;
     let (hired, text) = amount_below(text, 100_000_000_000_000_000_000_000)?;
     let rest = word(text, b" m\n")?;
-    let trip = Trip {
+    let trip = TripLines {
         start,
         finish,
         position: position as u8,

@@ -1,5 +1,5 @@
--- Parameters that bytes give, where they are in their ranges.
-use Rattle.std.proofs.Common.{◌≡◌, ℕ, Bool, true, false, if◌then◌else◌, ℤ, List, Option, Some, None, MatchOption}
+-- Parameters and seals that bytes give, where they are in their ranges.
+use Rattle.std.proofs.Common.{◌≡◌, ◌↔◌, ℕ, Bool, true, false, if◌then◌else◌, ℤ, List, Option, Some, None, MatchOption}
 use Rattle.std.proofs.Common.{Decides, refl, sym, ap, subst, ◌∙◌}
 use Rattle.std.specs.Str.{bytes_eq}
 use Rattle.std.proofs.lemmas.Bool.{false_from_ne_true}
@@ -12,7 +12,8 @@ use Rattle.seal_record.specs.OffsetList.{is_offset_list}
 use Rattle.seal_record.specs.OffsetLaws.{Decides-is_offset_list}
 use Rattle.seal_record.specs.Ranges.{IsSeal, IsTaxi}
 use Rattle.seal_record.specs.RangeTests.{seal_test, taxi_test}
-use Rattle.slot_bodies.proofs.Laws.{not_in_range, other_bytes, own_bytes}
+use Rattle.seal_record.specs.SealLaws.{again}
+use Rattle.slot_bodies.proofs.Laws.{not_in_range, other_bytes, own_bytes, reads_exactly}
 use Rattle.seal_record.specs.Spelling.{spelling}
 use Rattle.seal_record.specs.Values.{is_taxi, taxi_read}
 
@@ -78,3 +79,9 @@ read_own bytes shown seal same is valid spelled test own =
     own_bytes seal_test spelling decoded bytes ((seal_test (decoded bytes)).decides.1 (subst IsSeal is valid))
     (ap (λ (xs : List ℕ). bytes_eq xs bytes) (sym (spelled ∙ ap spelling is)) ∙ sym test ∙ own)
     ∙ ap (λ (s : Seal). Some s) (sym is)
+
+-- bytes are read as a seal exactly where it is in its ranges and the bytes are its spelling
+pub seals_are_read_by_their_table : (bytes : List ℕ) (seal : Seal)
+    → (reads bytes ≡ Some seal) ↔ (IsSeal seal × (bytes ≡ spelling seal))
+unfolding reads
+seals_are_read_by_their_table bytes seal = reads_exactly seal_test spelling decoded again bytes seal

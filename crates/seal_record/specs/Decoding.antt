@@ -3,9 +3,9 @@
 use Rattle.std.specs.Prelude.{◌≡◌, ◌≢◌, ℕ, zero, suc, ◌-◌, ◌==◌, if◌then◌else◌, ⊤, ℤ, FitsSigned}
 use Rattle.std.specs.Prelude.{List, [], ◌∷◌, ◌++◌, length, replicate, Option}
 use Rattle.std.specs.Int.{w32, cast_signed, cast_unsigned}
-use Rattle.std.proofs.Common.{inl, inr, refl, ap, arith}
+use Rattle.std.proofs.Common.{Bool, refl, ap, subst, ◌∙◌}
 use Rattle.std.proofs.Math.Facts.{Fits-of_z}
-use Rattle.std.proofs.lemmas.Bool.{ne_eqb}
+use Rattle.std.proofs.lemmas.Bool.{false≢true, ne_eqb}
 use Rattle.std.proofs.lemmas.Int.{to_z-of_z}
 use Rattle.std.proofs.lemmas.List.Elements.{All-head, All-tail}
 use Rattle.drive_modes.specs.declared.charges.Mode.{Mode}
@@ -14,7 +14,7 @@ use Rattle.seal_record.specs.declared.params.Params.{Params}
 use Rattle.seal_record.specs.declared.seal.Seal.{Seal}
 use Rattle.seal_record.specs.Limits.{longest_taxi, digest_size}
 use Rattle.seal_record.specs.Lines.{before}
-use Rattle.seal_record.specs.RangeTests.{seal_test}
+use Rattle.seal_record.specs.RangeTests.{character_test, seal_test}
 use Rattle.seal_record.specs.Ranges.{IsTaxi}
 pub use Rattle.seal_record.specs.Ranges.{seal_number_of}
 use Rattle.seal_record.specs.Spelling.{spelling, mode_byte, offsets_size, padded, spare_size}
@@ -58,14 +58,13 @@ pub before_zeros : (text : List ℕ) (count : ℕ) → HasNone 0 text → before
 before_zeros [] zero none = refl
 before_zeros [] (suc count) none = refl
 before_zeros (c ∷ cs) count none =
-    rw (ne_eqb c 0 (All-head (λ b. b ≢ 0) c cs none))
-    (ap (λ (xs : List ℕ). c ∷ xs) (before_zeros cs count (All-tail (λ b. b ≢ 0) c cs none)))
+    ap (λ (is : Bool). if is then [] else c ∷ before 0 (cs ++ replicate count 0))
+    (ne_eqb c 0 (All-head (λ b. b ≢ 0) c cs none))
+    ∙ ap (λ (xs : List ℕ). c ∷ xs) (before_zeros cs count (All-tail (λ b. b ≢ 0) c cs none))
 
 -- a character of taxi identifiers isn't zero
 pub no_zero : (c : ℕ) → IsIdentifierCharacter c → c ≢ 0
-no_zero c (inl letter) e = omega (arith, letter.0, e)
-no_zero c (inr (inl digit)) e = omega (arith, digit.0, e)
-no_zero c (inr (inr minus)) e = omega (arith, minus, e)
+no_zero c is zero_is = false≢true ((character_test 0).decides.1 (subst IsIdentifierCharacter zero_is is))
 
 -- sixteen bytes are a taxi identifier, with zeros behind it
 abbrev pub taxi_table : Codec (List ℕ)

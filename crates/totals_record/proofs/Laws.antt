@@ -1,5 +1,6 @@
 -- Laws that the crates above cite.
 use Rattle.std.proofs.Common.{◌≡◌, ◌≤◌, ◌+◌, ◌↔◌, ℕ, List, Some}
+use Rattle.slot_bodies.proofs.Laws.{reads_exactly}
 use Rattle.taxi_units.specs.Limits.{last_number}
 use Rattle.totals_record.specs.declared.change.Change.TheVariants.{Enter, Hold}
 use Rattle.totals_record.specs.declared.trip.Trip.{Trip}
@@ -8,11 +9,11 @@ use Rattle.totals_record.specs.declared.change.Change.{Change}
 use Rattle.totals_record.specs.declared.entry.Entry.{Entry}
 use Rattle.totals_record.specs.declared.totals.Totals.{Totals}
 use Rattle.totals_record.specs.Ranges.{HasRoom, IsDurable, IsEntry, IsTripInItsRanges}
-use Rattle.totals_record.specs.Reading.{reads}
+use Rattle.totals_record.specs.Reading.{decoded, durable_test, reads}
 use Rattle.totals_record.specs.Spelling.{spelling}
 use Rattle.totals_record.specs.States.{after, after_all}
 use Rattle.totals_record.specs.Sums.{totals_of, AddsUp, GrowsBy}
-use Rattle.totals_record.specs.BodyLaws.{reads_exactly}
+use Rattle.totals_record.specs.BodyLaws.{again}
 use Rattle.totals_record.proofs.Adding.{adds_up}
 use Rattle.totals_record.proofs.CommitRanges.{entry_keeps, trip_keeps}
 use Rattle.totals_record.proofs.Changing.{follows}
@@ -20,7 +21,8 @@ use Rattle.totals_record.proofs.Changing.{follows}
 -- bytes are read as a state exactly where it is in its ranges and they are its own
 pub states_are_read_by_their_table : (bytes : List ℕ) (durable : Durable) → (reads bytes ≡ Some durable)
     ↔ (IsDurable durable × (bytes ≡ spelling durable))
-states_are_read_by_their_table = reads_exactly
+unfolding reads
+states_are_read_by_their_table bytes durable = reads_exactly durable_test spelling decoded again bytes durable
 
 -- totals with a list of entries more have grown by the sums over the list
 pub entries_add_up : (totals : Totals) (entries : List Entry) → AddsUp totals (totals_of totals entries) entries

@@ -1,13 +1,11 @@
--- For proofs: a state's bytes are read as that state, and no others are.
-use Rattle.std.proofs.Common.{◌≡◌, ◌↔◌, ◌⊎◌, inl, inr, ◌≤◌, ◌<◌, ◌^◌, ◌==◌, ℕ, if◌then◌else◌, List, [], ◌∷◌, ◌++◌}
-use Rattle.std.proofs.Common.{length, replicate, Option, Some, None, IfSome, refl, sym, ap, ◌∙◌, arith}
-use Rattle.std.proofs.Common.{append_assoc, append-nil}
+-- For proofs: states in their ranges are bodies of slots.
+use Rattle.std.proofs.Common.{◌≡◌, ◌⊎◌, inl, inr, ◌+◌, ◌≤◌, ◌<◌, ◌^◌, ◌==◌, ℕ, if◌then◌else◌, List, [], ◌∷◌}
+use Rattle.std.proofs.Common.{◌++◌, length, replicate, Option, Some, None, IfSome, refl, sym, ap, ◌∙◌}
+use Rattle.std.proofs.Common.{add-le-add, append_assoc, le_of_lt, le_trans, zero-add}
 use Rattle.std.specs.List.{All, flat_map, sum_by}
-use Rattle.std.proofs.lemmas.List.Elements.{All-nil, All-cons}
-use Rattle.std.proofs.lemmas.List.Sums.{sum_by-cons}
 use Rattle.slot_bodies.specs.Bodies.{AreBodies, body_size}
 use Rattle.slot_bodies.specs.Codec.{spell_optional, ◌⊙◌}
-use Rattle.slot_bodies.proofs.Laws as below
+use Rattle.slot_bodies.proofs.Laws.{alone_again, below_of_most, below_of_times, bodies_of, parts_below}
 use Rattle.taxi_units.specs.Limits.{last_number}
 use Rattle.totals_record.specs.declared.durable_state.Durable.{Durable}
 use Rattle.totals_record.specs.declared.totals.Share.{Share}
@@ -22,31 +20,20 @@ use Rattle.totals_record.specs.TripTable.{meterage_table, trip_table}
 
 -- ---- what is in its ranges fits its bytes
 
--- each number of a sum is below what the sum is below
-each_below : (f : Share → ℕ) (shares : List Share) (bound : ℕ) → sum_by f shares < bound
-    → All (λ share. f share < bound) shares
-each_below f [] bound below = All-nil (λ s. f s < bound)
-each_below f (share ∷ others) bound below =
-    let split = sum_by-cons f share others in
-    All-cons (λ s. f s < bound) share others (omega (arith, split, below))
-    (each_below f others bound (omega (arith, split, below)))
-
 -- a trip in its ranges fits
 trip_fits : (number : ℕ) (trip : Trip) → number ≤ last_number → IsTripInItsRanges number trip → trip_table.Fits trip
-trip_fits number trip room is =
-    let started : trip.started < 2 ^ 64 = omega (arith, is.started.1) in
-    let saved : trip.saved < 2 ^ 64 = omega (arith, is.saved.1) in
-    let roam : trip.roam < 2 ^ 32 = omega (arith, is.roam) in
-    let pulses : trip.pulses < 2 ^ 64 = omega (arith, is.pulses, is.ticks, room) in
-    let ticks : trip.ticks < 2 ^ 32 = omega (arith, is.ticks) in
-    let initial : trip.initial < 2 ^ 32 = omega (arith, is.initial) in
-    let cover_left : trip.meterage.cover_left < 2 ^ 128 = omega (arith, is.cover_left) in
-    let steps_full : trip.meterage.steps_full < 2 ^ 64 = omega (arith, is.steps_full, is.ticks) in
-    let rest : trip.meterage.rest < 2 ^ 128 = omega (arith, is.rest) in
-    let extras_sum : trip.extras_sum < 2 ^ 64 = omega (arith, is.extras_sum) in
-    let meterage : meterage_table.Fits trip.meterage = (cover_left ⊙ steps_full ⊙ rest, refl) in
-    let minimum : trip.minimum < 2 ^ 32 = omega (arith, is.minimum) in (
-      started ⊙ saved ⊙ tt ⊙ tt ⊙ tt ⊙ roam ⊙ pulses ⊙ ticks ⊙ initial ⊙ meterage ⊙ is.extras.0 ⊙ extras_sum ⊙ minimum,
+trip_fits number trip room is = (
+  below_of_most is.started.1 tt ⊙ below_of_most is.saved.1 tt ⊙ tt ⊙ tt ⊙ tt ⊙ below_of_most is.roam tt
+      ⊙ below_of_times 2000 is.pulses (add-le-add is.ticks room) tt ⊙ below_of_most is.ticks tt
+      ⊙ below_of_most is.initial tt ⊙ meterage ⊙ is.extras.0 ⊙ below_of_most is.extras_sum tt
+      ⊙ below_of_most is.minimum tt,
+  refl,
+)
+  where
+    meterage : meterage_table.Fits trip.meterage
+    meterage = (
+      below_of_most is.cover_left tt ⊙ below_of_times 41000000000 is.steps_full is.ticks tt
+          ⊙ below_of_most (le_of_lt is.rest) tt,
       refl,
     )
 
@@ -55,26 +42,31 @@ held_fits : (number : ℕ) (hold : Option Trip) → IfSome hold (IsHeld number) 
 held_fits number None held = tt
 held_fits number (Some trip) held = trip_fits number trip held.room held.ranges
 
+-- the hirings of a state in its ranges fit
+hirings_fit : (durable : Durable) → IsDurable durable → durable.totals.hirings < 2 ^ 64
+hirings_fit durable is = below_of_most (le_trans is.hirings is.number.1) tt
+
+-- the fare of a state in its ranges fits
+fare_fits : (durable : Durable) → IsDurable durable → durable.totals.fare < 2 ^ 128
+fare_fits durable is = below_of_times (10 ^ 8) is.fare is.number.1 tt
+
 -- what a state in its ranges begins with fits
 front_fits : (durable : Durable) → IsDurable durable → front_table.Fits (front_of durable)
 front_fits durable is =
-    let totals = durable.totals in
-    let number : durable.number < 2 ^ 64 = omega (arith, is.number.1) in
-    let distance : totals.distance_mm < 2 ^ 128 = omega (arith, is.distance, is.number.1) in
-    let hired : totals.hired_mm < 2 ^ 128 = omega (arith, is.hired, is.distance, is.number.1) in
-    let hirings : totals.hirings < 2 ^ 64 = omega (arith, is.hirings, is.number.1) in
-    let supplements : totals.supplements < 2 ^ 128 = omega (arith, is.supplements, is.number.1) in
-    let fare : totals.fare < 2 ^ 128 = omega (arith, is.fare, is.number.1) in
-    number ⊙ distance ⊙ hired ⊙ hirings ⊙ supplements ⊙ fare ⊙ held_fits durable.number durable.hold is.held
+    below_of_most is.number.1 tt ⊙ below_of_times (10 ^ 22) is.distance is.number.1 tt
+    ⊙ below_of_times (10 ^ 22) (le_trans is.hired is.distance) is.number.1 tt ⊙ hirings_fit durable is
+    ⊙ below_of_times (10 ^ 10) is.supplements is.number.1 tt ⊙ fare_fits durable is
+    ⊙ held_fits durable.number durable.hold is.held
 
 -- a state in its ranges fits layout 1
 fits_1 : (durable : Durable) → IsDurable durable → durable.layout ≡ 1 → layout_1.Fits durable
 fits_1 durable is one =
+    let before = durable.totals.before in
     let none = is.shares.unshared one in
-    let hirings : durable.totals.hirings ≡ durable.totals.before.hirings =
-    omega (arith, is.shares.hirings, ap (λ (l : List Share). sum_by (λ share. share.hirings) l) none) in
-    let fare : durable.totals.fare ≡ durable.totals.before.fare =
-    omega (arith, is.shares.fare, ap (λ (l : List Share). sum_by (λ share. share.fare) l) none) in (
+    let hirings : durable.totals.hirings ≡ before.hirings =
+    sym is.shares.hirings ∙ (λ i. sum_by (λ share. share.hirings) (none i) + before.hirings) ∙ zero-add before.hirings in
+    let fare : durable.totals.fare ≡ before.fare =
+    sym is.shares.fare ∙ (λ i. sum_by (λ share. share.fare) (none i) + before.fare) ∙ zero-add before.fare in (
       (front_fits durable is, (tt, tt)),
       λ i. state_of (front_of durable) (sym none i) (record { hirings = hirings i; fare = fare i }) durable.layout,
     )
@@ -83,16 +75,11 @@ fits_1 durable is one =
 fits_2 : (durable : Durable) → IsDurable durable → layout_2.Fits durable
 fits_2 durable is =
     let totals = durable.totals in
-    let hirings = each_below (λ share. share.hirings) totals.shares (2 ^ 64)
-    (omega (arith, is.shares.hirings, is.hirings, is.number.1)) in
-    let fare = each_below (λ share. share.fare) totals.shares (2 ^ 128)
-    (omega (arith, is.shares.fare, is.fare, is.number.1)) in
+    let hirings = parts_below (λ (share : Share). share.hirings) totals.shares is.shares.hirings (hirings_fit durable is) in
+    let fare = parts_below (λ (share : Share). share.fare) totals.shares is.shares.fare (fare_fits durable is) in
     let shares : All share_table.Fits totals.shares =
-    λ k d within. ((hirings k d within, fare k d within), refl) in
-    let hirings_before : totals.before.hirings < 2 ^ 64 =
-    omega (arith, is.shares.hirings, is.hirings, is.number.1) in
-    let fare_before : totals.before.fare < 2 ^ 128 = omega (arith, is.shares.fare, is.fare, is.number.1) in
-    let before : share_table.Fits totals.before = ((hirings_before, fare_before), refl) in
+    λ k d within. ((hirings.0 k d within, fare.0 k d within), refl) in
+    let before : share_table.Fits totals.before = ((hirings.1, fare.1), refl) in
     (front_fits durable is ⊙ (is.shares.nine ⊙ shares) ⊙ before ⊙ tt ⊙ tt, refl)
 
 -- ---- the spelling is that of the tables
@@ -153,8 +140,8 @@ again_1 : (durable : Durable) → IsDurable durable → durable.layout ≡ 1 →
 again_1 durable is one =
     let bytes = spelling durable in
     let back : layout_1.read bytes 0 ≡ durable =
-    ap (λ (l : List ℕ). layout_1.read l 0) (spelled_1 durable one ∙ sym (append-nil (layout_1.spell durable)))
-    ∙ layout_1.again durable [] [] 0 (fits_1 durable is one) refl in
+    ap (λ (l : List ℕ). layout_1.read l 0) (spelled_1 durable one)
+    ∙ alone_again layout_1 durable (fits_1 durable is one) in
     ap (λ (n : ℕ). if n == 1 then layout_1.read bytes 0 else layout_2.read bytes 0)
     (ap (λ (d : Durable). d.layout) back ∙ one) ∙ back
 
@@ -163,23 +150,17 @@ again_2 : (durable : Durable) → IsDurable durable → durable.layout ≡ 2 →
 again_2 durable is two =
     let bytes = spelling durable in
     let back : layout_2.read bytes 0 ≡ durable =
-    ap (λ (l : List ℕ). layout_2.read l 0) (spelled_2 durable two ∙ sym (append-nil (layout_2.spell durable)))
-    ∙ layout_2.again durable [] [] 0 (fits_2 durable is) refl in
+    ap (λ (l : List ℕ). layout_2.read l 0) (spelled_2 durable two)
+    ∙ alone_again layout_2 durable (fits_2 durable is) in
     ap (λ (n : ℕ). if n == 1 then layout_1.read bytes 0 else layout_2.read bytes 0)
     (ap (λ (d : Durable). d.layout) back ∙ two) ∙ back
 
 -- each state in its ranges is read again
-again : (durable : Durable) → IsDurable durable → decoded (spelling durable) ≡ durable
+pub again : (durable : Durable) → IsDurable durable → decoded (spelling durable) ≡ durable
 again durable is = is_one_or_two (decoded (spelling durable) ≡ durable) durable.layout is.layout
     (again_1 durable is) (again_2 durable is)
-
--- bytes are read as a state exactly where it is in its ranges and the bytes are its spelling
-pub reads_exactly : (bytes : List ℕ) (durable : Durable)
-    → (reads bytes ≡ Some durable) ↔ (IsDurable durable × (bytes ≡ spelling durable))
-unfolding reads
-reads_exactly bytes durable = below.reads_exactly durable_test spelling decoded again bytes durable
 
 -- states in their ranges are bodies
 pub states_are_bodies : AreBodies IsDurable spelling reads
 unfolding reads
-states_are_bodies = below.bodies_of durable_test spelling decoded long again
+states_are_bodies = bodies_of durable_test spelling decoded long again

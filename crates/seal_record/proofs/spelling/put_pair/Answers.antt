@@ -1,7 +1,7 @@
 use Rattle.std.proofs.Common.{ℕ, List, ◌++◌, ap, ◌∙◌, append_assoc}
 use Rattle.std.proofs.lemmas.Int.{to_z-of_z}
 use Rattle.std.specs.Int.{w32, w64, to_be_bytes}
-use Rattle.seal_record.specs.SealLaws.{fits_offset}
+use Rattle.slot_bodies.proofs.Laws.{fits_of_range}
 use Rattle.seal_record.specs.Spelling.{signed_bytes}
 use Rattle.seal_record.proofs.spelling.put_pair.Goals as goal
 
@@ -11,4 +11,4 @@ returns-clause-items c =
     ∙ (append_assoc c.args.out.now.items c.to_be_bytes.result c.to_be_bytes-2.result
     ∙ ((λ i. c.args.out.now.items ++ (c.to_be_bytes.ensures i ++ c.to_be_bytes-2.ensures i))
     ∙ (λ i. c.args.out.now.items ++ (to_be_bytes w64 c.args.pair.0
-    ++ signed_bytes (to_z-of_z w32 c.args.pair.1 (fits_offset c.args.pair.1 c.requires.offset) i))))))
+    ++ signed_bytes (to_z-of_z w32 c.args.pair.1 (fits_of_range c.requires.offset tt tt) i))))))
