@@ -2,7 +2,7 @@
 use Rattle.std.proofs.Common.{◌≡◌, inl, inr, ⊎_elim, ℕ, List, length, get_or, refl, ap, ◌∙◌, arith}
 use Rattle.outside.specs.declared.board.Board.{Ghosts}
 use Rattle.outside.specs.Disk.{Elapses, MayLeave, SameBut}
-use Rattle.outside.specs.Runs.{LeavesNow}
+use Rattle.outside.specs.Runs.{KeepsStore, LeavesNow}
 use Rattle.outside.proofs.Laws.{leaves_none, leaves_then, leaves_wider}
 use Rattle.slot_store.specs.Syncs.{IsSynced, ReadsOnly}
 
@@ -43,6 +43,13 @@ module _ {D L : Type 0} {N : ℕ} (B : Ghosts D N L) where
     text = text;
   }
 
+  -- a read
+  pub reads_once : (old new : D) → LeavesNow B old → B.image new ≡ B.image old
+      → ((place : ℕ) → B.in_flight new place → B.in_flight old place) → B.printed new ≡ B.printed old
+      → Elapses (B.moment old) (B.moment new) (B.left_since old) (B.left_since new)
+      (MayLeave (B.image new) (B.in_flight new) (B.printed new)) → ReadsOnly B old new
+  reads_once old new only_now same = reads_sync old new only_now (same_but old new same)
+
   -- the board behind a sync that succeeded
   pub synced_by : (old new : D) → LeavesNow B old → SameBut (B.in_flight old) (B.image old) (B.image new)
       → ((place : ℕ) → B.in_flight new place → B.in_flight old place) → B.printed new ≡ B.printed old
@@ -79,4 +86,14 @@ module _ {D L : Type 0} {N : ℕ} (B : Ghosts D N L) where
     };
     flight = λ place flies. first.flight place (next.flight place flies);
     text = next.text ∙ first.text;
+  }
+
+  -- reads that gave the image as it was
+  pub reads_keep : (old new : D) → B.image new ≡ B.image old → ReadsOnly B old new → KeepsStore B old new
+  reads_keep old new same reads = record {
+    same = same;
+    flight = reads.flight;
+    later = reads.leaves.later;
+    before = λ start i x le left. ⊎_elim (λ was. inl was)
+        (λ is. inr (record { bytes = is.bytes; small = is.small })) (reads.leaves.before start i x le left);
   }

@@ -1,6 +1,6 @@
 -- What a record's bytes are read as.
 use Rattle.std.proofs.Common.{◌≡◌, ◌↔◌, ℕ, ◌-◌, Bool, ◌<◌, ◌≤◌, ◌^◌, List, [], ◌∷◌, ◌++◌, length, take, drop, replicate}
-use Rattle.std.proofs.Common.{refl, ap, sym, ◌∙◌, subst, arith, Option, Some, None, IsTrue}
+use Rattle.std.proofs.Common.{refl, ap, sym, ◌∙◌, subst, arith, ◌⊎◌, ⊎_elim, inl, inr, false, Option, Some, None, IsTrue}
 use Rattle.std.specs.Int.{w16, w64, from_be_bytes}
 use Rattle.std.proofs.lemmas.Nat.{from_be_bytes-to_be_bytes_2, from_be_bytes-to_be_bytes_8}
 use Rattle.std.proofs.Math.Seq.{take-append_seam}
@@ -69,6 +69,14 @@ pub spells_exact : (bytes own : List ℕ) (place : ℕ) (it : Record) (same : Bo
 spells_exact bytes own place it same is first most own_is told = (
   λ yes. record { is = is; first = first; most = most; bytes_are = sym (told.0 yes) ∙ own_is },
   λ h. told.1 (own_is ∙ sym h.bytes_are),
+)
+
+-- no bytes spell a record at a place below 1 or above its number
+pub none_spells : (bytes : List ℕ) (place : ℕ) (it : Record) → (place ≡ 0) ⊎ (it.number < place)
+    → IsTrue false ↔ Spells bytes place it
+none_spells bytes place it wrong = (
+  λ yes. absurd cc,
+  λ h. absurd (⊎_elim (λ none. omega (arith, none, h.first)) (λ beyond. omega (arith, beyond, h.most)) wrong),
 )
 
 pub place_of_spelling : (place : ℕ) (text : List ℕ) → place < 2 ^ 64

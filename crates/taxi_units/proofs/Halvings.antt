@@ -37,21 +37,21 @@ count_by-at test (suc n) (x ∷ xs) few before after =
     sum_by-cons (λ y. cond (test y) 1 0) x xs ∙ rw here (omega (arith, rest))
 
 -- where the element at a place passes, so do those before it
-pub passes_before : {T : Type 0} (test : T → Bool) (list : List T) (middle : ℕ) (element : T)
-    → IsPartitionedBy test list → IsElement list middle element → middle < length list → test element ≡ true
-    → (place : ℕ) (other : T) → place < middle + 1 → test (get_or list place other) ≡ true
-passes_before test list middle element parted here within passes place other before =
-    parted place middle other (omega arith) within (ap test (sym (here other)) ∙ passes)
+pub passes_before : {T : Type 0} (test : T → Bool) (list : List T) (middle : ℕ) (element : T) (passed : Bool)
+    → IsPartitionedBy test list → IsElement list middle element → middle < length list → passed ≡ test element
+    → passed ≡ true → (place : ℕ) (other : T) → place < middle + 1 → test (get_or list place other) ≡ true
+passes_before test list middle element passed parted here within tells passes place other before =
+    parted place middle other (omega arith) within (ap test (sym (here other)) ∙ sym tells ∙ passes)
 
 fails_or : (b : Bool) → (b ≡ true → ⊥) → b ≡ false
 fails_or true h = absurd (h refl)
 fails_or false h = refl
 
 -- where it fails, so do those after it
-pub fails_after : {T : Type 0} (test : T → Bool) (list : List T) (middle : ℕ) (element : T) → IsPartitionedBy test list
-    → IsElement list middle element → test element ≡ false → (place : ℕ) (other : T) → middle ≤ place
-    → place < length list → test (get_or list place other) ≡ false
-fails_after test list middle element parted here fails place other from within =
+pub fails_after : {T : Type 0} (test : T → Bool) (list : List T) (middle : ℕ) (element : T) (passed : Bool)
+    → IsPartitionedBy test list → IsElement list middle element → passed ≡ test element → passed ≡ false → (place : ℕ)
+    (other : T) → middle ≤ place → place < length list → test (get_or list place other) ≡ false
+fails_after test list middle element passed parted here tells fails place other from within =
     fails_or (test (get_or list place other)) (λ passes.
     let also = parted middle place other from within passes in
     let same = ap test (here other) in

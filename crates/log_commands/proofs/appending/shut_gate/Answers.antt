@@ -1,5 +1,7 @@
 use Rattle.std.proofs.Common.{◌≡◌, Bool, true, false, sym, subst, refl}
 use Rattle.outside.proofs.Laws.{leaves_none, leaves_wider}
+use Rattle.outside.specs.Disk.{MayLeave}
+use Rattle.slot_store.specs.Writes.{OrWithin}
 use Rattle.log_commands.specs.Appends.{IsReady}
 use Rattle.log_commands.proofs.Staged.{same_place, shut_already, shut_ends, shut_leaves, still_leaves}
 use Rattle.std.proofs.lemmas.Result.{on_ok_weaker}
@@ -26,8 +28,11 @@ returns-clause-any_moment g c told records ready =
     let is : IsReady (g.G.Board.image c.args.log.now) (g.G.Board.in_flight c.args.log.now) c.args.last true records =
     subst (λ (b : Bool). IsReady (g.G.Board.image c.args.log.now)
     (g.G.Board.in_flight c.args.log.now) c.args.last b records) opened ready in
-    leaves_wider g.G.Board _ _ _ _ (λ image text left.
-    shut_leaves _ image _ c.args.last records is (same_place _ _ image _ _ 1 c.next_at.ensures.is left.bytes))
+    let image = g.G.Board.image c.args.log.now in
+    let in_flight = g.G.Board.in_flight c.args.log.now in
+    leaves_wider g.G.Board (MayLeave image (OrWithin in_flight c.next_at.result 1) (g.G.Board.printed c.args.log.now)) _ _ _
+    (λ left text may_leave. shut_leaves _ left _ c.args.last records is
+    (same_place image in_flight left c.next_at.result _ 1 c.next_at.ensures.is may_leave.bytes))
     c.write_and_sync.ensures.any_moment
 
 pub returns-clause-shut : goal.returns-clause-shut

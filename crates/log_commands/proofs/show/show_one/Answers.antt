@@ -1,10 +1,11 @@
 use Rattle.std.proofs.Common.{◌≡◌, ℕ, List, ◌++◌, length, ap, ◌∙◌, subst, arith}
 use Rattle.std.proofs.lemmas.Result.{on_ok_weaker}
 use Rattle.outside.specs.Printing.{Begins}
-use Rattle.outside.proofs.Laws.{begins_not}
+use Rattle.outside.proofs.Laws.{begins_not, keeps_print, keeps_then}
 use Rattle.log_commands.specs.LogScan.{IsContentInRange}
 use Rattle.log_commands.specs.Record.{Record}
 use Rattle.log_commands.specs.Slots.{HasRecord, slot_of}
+use Rattle.log_commands.proofs.Readings.{reads_keep}
 use Rattle.log_commands.proofs.Shown.{few_text, some_text, told_closed, told_record, told_unread}
 use Rattle.log_commands.proofs.show.show_one.Given as given
 use Rattle.log_commands.proofs.show.show_one.Goals as goal
@@ -60,3 +61,22 @@ returns-in-Closed-clause-shown g c = λ image text it holds.
 
 pub returns-in-Closed-clause-begun : goal.returns-in-Closed-clause-begun
 returns-in-Closed-clause-begun g c = λ image text it holds. begins_not _ _ it.text c.read_slot.ensures.reads.text
+
+pub returns-in_err-it-clause-keeps : goal.returns-in_err-it-clause-keeps
+returns-in_err-it-clause-keeps g c =
+    reads_keep g.G.Board c.args.log.now c.read_slot.new.log c.read_slot.ensures.image c.read_slot.ensures.reads
+
+pub returns-in-Filled-clause-keeps : goal.returns-in-Filled-clause-keeps
+returns-in-Filled-clause-keeps g c =
+    keeps_then g.G.Board c.args.log.now c.read_slot.new.log c.print.new.self
+    (reads_keep g.G.Board c.args.log.now c.read_slot.new.log c.read_slot.ensures.image c.read_slot.ensures.reads)
+    (keeps_print g.G.Board c.read_slot.new.log c.print.new.self c.as_slice.result.now c.print.ensures.image
+    c.print.ensures.flight c.print.ensures.time)
+
+pub returns-in-Unread-clause-keeps : goal.returns-in-Unread-clause-keeps
+returns-in-Unread-clause-keeps g c =
+    reads_keep g.G.Board c.args.log.now c.read_slot.new.log c.read_slot.ensures.image c.read_slot.ensures.reads
+
+pub returns-in-Closed-clause-keeps : goal.returns-in-Closed-clause-keeps
+returns-in-Closed-clause-keeps g c =
+    reads_keep g.G.Board c.args.log.now c.read_slot.new.log c.read_slot.ensures.image c.read_slot.ensures.reads

@@ -1,4 +1,4 @@
-use Rattle.std.proofs.Common.{◌+◌, ◌-◌, ◌/◌, arith, ◌∙◌, sym, inr, ◌≡◌}
+use Rattle.std.proofs.Common.{◌+◌, ◌-◌, ◌/◌, arith, sym, inr, ◌≡◌}
 use Rattle.taxi_units.proofs.Halvings.{count_by-at, ends_after, fails_after, passes_before}
 use Rattle.taxi_units.proofs.counted.Counted.at_most.Goals as goal
 
@@ -11,12 +11,13 @@ loop-count-preserved-then-is_at_most g c =
     record {
       order = omega arith;
       end = loop.end;
-      counted = passes_before test c.args.self.now middle c.read-element.result c.requires c.read-element.ensures.value
-          (omega arith) (sym c.is_at_most.ensures ∙ c.if-is_at_most.true);
+      counted = passes_before test c.args.self.now middle c.read-element.result c.is_at_most.result c.requires
+          c.read-element.ensures.value (omega arith) c.is_at_most.ensures c.if-is_at_most.true;
       passed = loop.passed;
       last = rw back (omega arith, c.read-element.ensures.value);
       most = λ digits few. rw c.read-element.ensures.step
-          (ends_after _ _ (c.loop-count.end - c.loop-count.count) _ (loop.most digits few) (omega arith) (omega arith));
+          (ends_after _ _ (c.loop-count.end - c.loop-count.count) (c.loop-count.end - (middle + 1)) (loop.most digits few)
+          (omega arith) (omega arith));
       least = inr (omega arith);
     }
 
@@ -29,11 +30,12 @@ loop-count-preserved g c =
       order = omega arith;
       end = omega arith;
       counted = loop.counted;
-      passed = fails_after test c.args.self.now middle c.read-element.result c.requires c.read-element.ensures.value
-          (sym c.is_at_most.ensures ∙ c.if-is_at_most.false);
+      passed = fails_after test c.args.self.now middle c.read-element.result c.is_at_most.result c.requires
+          c.read-element.ensures.value c.is_at_most.ensures c.if-is_at_most.false;
       last = loop.last;
       most = λ digits few. rw c.read-element.ensures.step
-          (ends_after _ _ (c.loop-count.end - c.loop-count.count) _ (loop.most digits few) (omega arith) (omega arith));
+          (ends_after _ _ (c.loop-count.end - c.loop-count.count) (middle - c.loop-count.count) (loop.most digits few)
+          (omega arith) (omega arith));
       least = inr (omega arith);
     }
 

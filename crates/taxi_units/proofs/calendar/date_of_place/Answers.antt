@@ -1,0 +1,32 @@
+use Rattle.std.proofs.Common.{◌≡◌, ◌∙◌, ℕ, ◌+◌, ◌-◌, ◌<◌, ◌≤◌, Some, List, length, get_or, drop, sym, refl, arith, add-one, drop-cons}
+use Rattle.std.proofs.lemmas.Bool.{lt-ltb, le-ltb}
+use Rattle.taxi_units.specs.Calendar.{date_from}
+use Rattle.taxi_units.proofs.calendar.date_of_place.Goals as goal
+
+-- a date in the month that comes next is found there
+in_the_month : (month index days : ℕ) (lengths : List ℕ) → index < length lengths → days < get_or lengths index 0
+    → date_from month (drop index lengths) days ≡ Some (month, days + 1)
+in_the_month month index days lengths inside less =
+    rw (drop-cons lengths index 0 inside, lt-ltb days (get_or lengths index 0) less) refl
+
+-- and any other is looked for in the months after it
+after_the_month : (month index days : ℕ) (lengths : List ℕ) → index < length lengths → get_or lengths index 0 ≤ days
+    → date_from (month + 1) (drop (index + 1) lengths) (days - get_or lengths index 0)
+    ≡ date_from month (drop index lengths) days
+after_the_month month index days lengths inside most =
+    rw (add-one index, drop-cons lengths index 0 inside, le-ltb days (get_or lengths index 0) most) refl
+
+pub returns-then-days-length : goal.returns-then-days-length
+returns-then-days-length c =
+    let loop = c.loop-length in
+    sym (in_the_month loop.month loop.length-index loop.days _ c.loop-length-test.true
+    (rw c.month_lengths.ensures at c.if-days-length.true)) ∙ loop.invariant.left
+
+pub loop-length-preserved : goal.loop-length-preserved
+loop-length-preserved c =
+    let loop = c.loop-length in
+    record {
+      month = omega arith;
+      left = rw c.month_lengths.ensures (after_the_month loop.month loop.length-index loop.days _ c.loop-length-test.true
+      (rw c.month_lengths.ensures at c.if-days-length.false)) ∙ loop.invariant.left;
+    }
