@@ -2,11 +2,13 @@
 use Rattle.std.proofs.Common.{◌≡◌, ◌↔◌, true, false, None, Some, Option, List, [], ◌∷◌, ◌++◌, append-nil, ap, sym, ◌∙◌}
 use Rattle.std.proofs.Common.{refl, subst, arith}
 use Rattle.std.proofs.lemmas.Grind.{common_steps}
+use Rattle.tariff_compile.specs.Tables.{TableParts}
 use Rattle.taxi_units.specs.declared.event.Operating.{Operating}
 use Rattle.taxi_units.specs.declared.event.Operating.TheVariants.{ForHire}
 use Rattle.taxi_units.specs.declared.receipt.Display.{Display}
 use Rattle.meter_states.specs.Core.{CoreData, ComesToOutcome, core_of}
 use Rattle.meter_states.specs.Display.{display_of, extras_shown, fare_shown, is_shown, same_display, shown}
+use Rattle.meter_states.specs.Equals.{display_by}
 use Rattle.meter_states.specs.KeptTrip.{IsTripKept, IsTripKeptIn}
 use Rattle.meter_states.specs.Meter.{Meter}
 use Rattle.meter_states.specs.Setting.{Setting}
@@ -52,6 +54,15 @@ shown_still s m core display acts stands is same =
           (shown_already m.shown (display_of s m) last);
       done = rw last (sym (append-nil acts));
     }
+
+-- the display of a core is shown where it is the one that was shown last
+pub shown_last : (tables : TableParts) (core : CoreData) (display : Display) → display ≡ display_by tables core
+    → (is_shown core.shown display ≡ true) ↔ (core.shown ≡ Some (display_by tables core))
+shown_last tables core display is = (
+  λ same. shown_already core.shown display same ∙ ap Some is,
+  λ last. ap (λ (old : Option Display). is_shown old display) last ∙ ap (same_display (display_by tables core)) is
+      ∙ same-self (display_by tables core),
+)
 
 no-fare : (s : Setting) (trip : Option MeterTrip) → trip ≡ None → (fare_shown s trip ≡ 0) × (extras_shown s trip ≡ 0)
 no-fare s trip none = rw none (refl, refl)

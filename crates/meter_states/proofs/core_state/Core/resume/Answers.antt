@@ -1,4 +1,4 @@
-use Rattle.std.proofs.Common.{◌≡◌, ℕ, All, List, [], IfSome, None, Option, rules, refl, ap, sym, subst, inr, ◌∙◌, arith}
+use Rattle.std.proofs.Common.{◌≡◌, ℕ, All, List, [], IfSome, None, Option, rules, refl, sym, subst, inr, arith}
 use Rattle.totals_record.specs.Ranges.{IsHeld}
 use Rattle.totals_record.specs.declared.durable_state.Durable.{Durable}
 use Rattle.totals_record.specs.declared.trip.Trip.{Trip}
@@ -34,8 +34,9 @@ returns-clause-lawful g c =
 pub returns-clause-meets : goal.returns-clause-meets
 returns-clause-meets g c = λ s m is durable saved.
     let n = powered c.args.second m in
-    let start : c.idle-state.result ≡ core_of s (record n { trip = None }) = c.idle-state.ensures ∙ ap (λ
-    (d : Durable). record (core_of s (record n { trip = None })) { number = d.number }) (sym durable) in
+    let idle = core_of s (record n { trip = None }) in
+    let start : c.idle-state.result ≡ idle = subst (λ (d : Durable). c.idle-state.result
+    ≡ record idle { number = d.number }) (sym durable) c.idle-state.ensures in
     let empty = c.new-acts.result.items in
     let none : c.new-acts.result.items ≡ [] = search rules in
     let middle = c.take_hold.new.acts.items in
