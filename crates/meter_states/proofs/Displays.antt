@@ -1,4 +1,4 @@
--- When two displays are the same, and what a display for hire has.
+-- When two displays are the same, when a core shows one, and what a display for hire has.
 use Rattle.std.proofs.Common.{◌≡◌, ◌↔◌, true, false, None, Some, Option, List, [], ◌∷◌, ◌++◌, append-nil, ap, sym, ◌∙◌}
 use Rattle.std.proofs.Common.{refl, subst, arith}
 use Rattle.std.proofs.lemmas.Grind.{common_steps}

@@ -1,6 +1,6 @@
--- How stages that follow one another join, and a powered core that follows an outcome meets it.
-use Rattle.std.proofs.Common.{◌≡◌, ◌≢◌, ℕ, List, [], ◌∷◌, refl, ap, sym, append-nil, ◌∙◌, ◌⊎◌, inl, inr, subst, Option, Some}
-use Rattle.std.proofs.Common.{None, option_map, append_assoc}
+-- How stages that follow one another join, and which cores meet the outcome of an event.
+use Rattle.std.proofs.Common.{◌≡◌, ◌≢◌, ℕ, List, [], ◌∷◌, refl, ap, sym, append-nil, ◌∙◌, ◌⊎◌, inl, inr, subst, Option}
+use Rattle.std.proofs.Common.{Some, None, option_map, append_assoc}
 use Rattle.tariff_compile.specs.Tables.{TableParts}
 use Rattle.taxi_units.specs.declared.event.Event.{Event}
 use Rattle.taxi_units.specs.declared.event.Event.TheVariants.{Up, Down, Pulses, Tick, Clock, Key}

@@ -126,7 +126,8 @@ same_saved cover cover' above above' modulus is more = cc
 
 -- a saved form of charges, with further ones, is that of both
 saved-more : (o : fares.Opening) (a b : ℕ) → saved (fares.opening_of o.modulus (saved o a)) b ≡ saved o (a + b)
-saved-more o a b = same_saved (o.cover - a - b) (o.cover - (a + b)) (above_cover (fares.opening_of o.modulus (saved o a)) b)
+saved-more o a b =
+    same_saved (o.cover - a - b) (o.cover - (a + b)) (above_cover (fares.opening_of o.modulus (saved o a)) b)
     (above_cover o (a + b)) o.modulus (omega arith) (above-more o a b)
 
 pub forms-resumed : (s : Setting) (t : MeterTrip) (parts : List Part) (extras : List ℕ) (second : ℕ) (stopped : Bool)

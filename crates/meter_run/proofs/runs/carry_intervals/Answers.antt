@@ -27,7 +27,8 @@ loop-done-preserved g c =
           c.carry_equal-done.new.self c.carry_interval.new.board one
           (c.carry_equal-done.ensures.carried c.carry_interval.new.board c.in_ok-carry_interval.ensures.ready);
       faults = counts_more (g.B.Board.faults c.args.board.now) (g.B.Board.faults c.loop-done.board)
-          (g.B.Board.faults c.carry_interval.new.board) c.loop-done.invariant.faults (c.in_ok-carry_interval.ensures.cause.kept (refl {a = true}));
+          (g.B.Board.faults c.carry_interval.new.board) c.loop-done.invariant.faults
+          (c.in_ok-carry_interval.ensures.cause.kept (refl {a = true}));
       steps = bounded_further p (i + 1) n c.args.steps.now c.carry_interval.new.steps
           (bounded_at_interval p i (i + 1) c.args.steps.now c.loop-done.steps c.carry_interval.new.steps
           (omega arith) c.loop-done.invariant.steps c.carry_interval.ensures.steps);

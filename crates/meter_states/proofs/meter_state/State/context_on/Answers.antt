@@ -37,9 +37,9 @@ returns-clause-value c = λ seal s m cached is stands.
 
 pub returns-clause-exact : goal.returns-clause-exact
 returns-clause-exact c = λ t has. rw (
-      c.constant.ensures.value,
-      ap (λ (p : CoreData). p.position) c.self.view_is,
-      ap (λ (p : CoreData). p.zone) c.self.view_is,
-      c.pulses.ensures.exact t has,
-      c.ticks.ensures.exact t has,
-    ) refl
+  c.constant.ensures.value,
+  ap (λ (p : CoreData). p.position) c.self.view_is,
+  ap (λ (p : CoreData). p.zone) c.self.view_is,
+  c.pulses.ensures.exact t has,
+  c.ticks.ensures.exact t has,
+) refl

@@ -18,17 +18,17 @@ returns-then-matches c =
       λ holds. elim c.if-self-second.branch [
         | then-self-second+in-None w ↦ elim c.if-take-eq0.branch [
           | then-take-eq0 v ↦ record {
-              latch = sym (ap (λ (p : CoreData). p.latch) c.self.view_is) ∙ w.in-None.is;
-              gate = sym (ap (λ (p : CoreData). p.gate) c.self.view_is) ∙ sym c.take.ensures.count
-                  ∙ v.if-take-eq0.true;
-              began = sym (ap (λ (p : CoreData). p.began) c.self.view_is)
-                  ∙ eqb-true c.self.inside.began v.second.result (sym v.value-is ∙ w.if-self-second.true)
-                  ∙ v.second.ensures ∙ ap (λ (p : CoreData). p.clock) c.self.view_is;
-              shown = last.0 (sym tested ∙ holds);
-            }
+            latch = sym (ap (λ (p : CoreData). p.latch) c.self.view_is) ∙ w.in-None.is;
+            gate = sym (ap (λ (p : CoreData). p.gate) c.self.view_is) ∙ sym c.take.ensures.count
+                ∙ v.if-take-eq0.true;
+            began = sym (ap (λ (p : CoreData). p.began) c.self.view_is)
+                ∙ eqb-true c.self.inside.began v.second.result (sym v.value-is ∙ w.if-self-second.true)
+                ∙ v.second.ensures ∙ ap (λ (p : CoreData). p.clock) c.self.view_is;
+            shown = last.0 (sym tested ∙ holds);
+          }
           | else-take-eq0 v ↦
               absurd (v.if-take-eq0.false (eqb-true c.take.result 0 (sym v.value-is ∙ w.if-self-second.true)))
-          ]
+        ]
         | then-self-second+in_default w ↦ absurd (never c.if-self-second.value c.if-matches.true w.value-is)
         | else-self-second w ↦
             absurd (never c.if-take-eq0.value (sym w.value-is ∙ c.if-matches.true) w.if-self-second.false)
@@ -51,6 +51,6 @@ returns-else-matches c = (
           w.if-self-second.false
       | else-take-eq0 v ↦
           v.if-take-eq0.false (c.take.ensures.count ∙ ap (λ (p : CoreData). p.gate) c.self.view_is ∙ still.gate)
-      ])
+    ])
   ],
 )
