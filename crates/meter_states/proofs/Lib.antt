@@ -6,7 +6,7 @@ mod Amounts
 mod Charges
 -- how often each number stands in a list
 mod Counts
--- when two displays are the same, and what a display for hire has
+-- when two displays are the same, when a core shows one, and what a display for hire has
 mod Displays
 -- equal intervals in each operating position
 mod EqualIntervals
@@ -24,7 +24,7 @@ mod KeyStages
 pub mod Laws
 -- a charge more
 mod Meterages
--- how stages that follow one another join, and a powered core that follows an outcome meets it
+-- how stages that follow one another join, and which cores meet the outcome of an event
 mod Outcomes
 -- what a powered core has in its operating position, and cores in wider ranges
 mod Powered

@@ -1,22 +1,25 @@
--- How stages that follow one another join, and a powered core that follows an outcome meets it.
-use Rattle.std.proofs.Common.{◌≡◌, ◌≢◌, ℕ, List, [], refl, ap, sym, append-nil, ◌∙◌, ◌⊎◌, inl, inr, subst, Option, Some}
-use Rattle.std.proofs.Common.{None, option_map, append_assoc}
+-- How stages that follow one another join, and which cores meet the outcome of an event.
+use Rattle.std.proofs.Common.{◌≡◌, ◌≢◌, ℕ, List, [], ◌∷◌, refl, ap, sym, append-nil, ◌∙◌, ◌⊎◌, inl, inr, subst, Option}
+use Rattle.std.proofs.Common.{Some, None, option_map, append_assoc}
 use Rattle.tariff_compile.specs.Tables.{TableParts}
 use Rattle.taxi_units.specs.declared.event.Event.{Event}
-use Rattle.taxi_units.specs.declared.event.Event.TheVariants.{Down}
+use Rattle.taxi_units.specs.declared.event.Event.TheVariants.{Up, Down, Pulses, Tick, Clock, Key}
 use Rattle.taxi_units.specs.declared.event.Operating.{Operating}
-use Rattle.taxi_units.specs.declared.event.Operating.TheVariants.{Off}
+use Rattle.taxi_units.specs.declared.event.Operating.TheVariants.{Off, ForHire, Hired, Stopped}
+use Rattle.taxi_units.specs.declared.event.Why.TheVariants.{NotNow}
 use Rattle.meter_states.specs.declared.trip.CoreTrip.{CoreTrip}
-use Rattle.meter_states.specs.Core.{CoreData, ComesToOutcome, Meets, core_of}
+use Rattle.meter_states.specs.Core.{CoreData, ComesToOutcome, Meets, Stands, core_of}
 use Rattle.meter_states.specs.Display.{fare_shown}
 use Rattle.meter_states.specs.Lawful.{IsBetweenEvents, IsPowered, HasTrip}
 use Rattle.meter_states.specs.Meter.{Meter, Outcome, ◌>>=◌, quiet}
 use Rattle.meter_states.specs.Setting.{Setting}
-use Rattle.meter_states.specs.Step.{powered_step}
+use Rattle.meter_states.specs.Step.{off_step, powered_step, step, step_in}
 use Rattle.meter_states.specs.Supply.{supply_dropped}
 use Rattle.meter_states.specs.Trip as model
 use Rattle.meter_states.specs.Trip.{core_trip_of}
 use Rattle.meter_states.specs.declared.act.Act.{Act}
+use Rattle.meter_states.specs.declared.act.Act.TheVariants.{Refuse}
+use Rattle.meter_states.proofs.Powered.{stands-on}
 use Rattle.taxi_units.specs.Limits.{roaming_between}
 
 pub not_off : (operating : Operating) (trip : Option CoreTrip) → HasTrip operating trip → operating ≢ Off
@@ -45,6 +48,43 @@ pub dropped-meets : (s : Setting) (core : CoreData) (acts : List Act) (event : E
 dropped-meets s core acts event m is off done =
     let here : Meets s core acts (powered_step s Down m) = record { state = inl (off, refl); done = done } in
     subst (λ (x : Event). Meets s core acts (powered_step s x m)) (sym is) here
+
+off-refuses : (s : Setting) (core : CoreData) (acts : List Act) (event : Event) (m : Meter)
+    → ((second : ℕ) → event ≢ Up second) → acts ≡ Refuse NotNow ∷ [] → Stands s core m
+    → Meets s core acts (off_step s event m)
+off-refuses s core acts (Up second) m other done stands = absurd (other second refl)
+off-refuses s core acts Down m other done stands = record { state = stands; done = done }
+off-refuses s core acts (Pulses n) m other done stands = record { state = stands; done = done }
+off-refuses s core acts Tick m other done stands = record { state = stands; done = done }
+off-refuses s core acts (Clock second) m other done stands = record { state = stands; done = done }
+off-refuses s core acts (Key key) m other done stands = record { state = stands; done = done }
+
+powered-in : (s : Setting) (event : Event) (operating : Operating) (new : CoreData) (acts : List Act) (m : Meter)
+    → (operating ≡ Off → ⊥) → Meets s new acts (powered_step s event m)
+    → Meets s new acts (step_in s operating event m)
+powered-in s event Off new acts m on meets = absurd (on refl)
+powered-in s event ForHire new acts m on meets = meets
+powered-in s event Hired new acts m on meets = meets
+powered-in s event Stopped new acts m on meets = meets
+
+-- at a meter that is off each event but the coming of the supply is refused
+pub off-meets : (s : Setting) (core : CoreData) (acts : List Act) (event : Event) (m : Meter) → core.operating ≡ Off
+    → ((second : ℕ) → event ≢ Up second) → acts ≡ Refuse NotNow ∷ [] → Stands s core m
+    → Meets s core acts (step s event m)
+off-meets s core acts event m off other done (inl both) =
+    subst (λ (o : Operating). Meets s core acts (step_in s o event m)) (sym both.1)
+    (off-refuses s core acts event m other done (inl both))
+off-meets s core acts event m off other done (inr on) =
+    absurd (on.0 (sym (ap (λ (c : CoreData). c.operating) on.1) ∙ off))
+
+-- an event of a meter that is on is one of a powered meter
+pub on-meets : (s : Setting) (core new : CoreData) (acts : List Act) (event : Event) (m : Meter)
+    → (core.operating ≡ Off → ⊥) → (core ≡ core_of s m → Meets s new acts (powered_step s event m)) → Stands s core m
+    → Meets s new acts (step s event m)
+on-meets s core new acts event m on meets stands =
+    let same = stands-on s core m stands on in
+    powered-in s event m.operating new acts m
+    (λ off. on (ap (λ (c : CoreData). c.operating) same ∙ off)) (meets same)
 
 -- one after the other
 pub follows-then : (s : Setting) (first second : CoreData) (before between acts : List Act) (o : Outcome)

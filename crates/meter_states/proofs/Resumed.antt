@@ -3,7 +3,6 @@ use Rattle.std.proofs.Common.{◌≡◌, ℕ, zero, suc, ◌+◌, ◌*◌, ◌<�
 use Rattle.std.proofs.Common.{None, option_map, refl, ap, sym, subst, ◌∙◌, arith}
 use Rattle.std.proofs.lemmas.Grind.{common_steps}
 use Rattle.drive_modes.specs.declared.meterage.Meterage.{Meterage}
-use Rattle.drive_modes.specs.Fare.{saved}
 use Rattle.drive_modes.proofs.Laws.{saved-any}
 use Rattle.tariff_check.specs.Parts.{supplement_of}
 use Rattle.tariff_syntax.specs.Tree.{Tree}
@@ -13,7 +12,8 @@ use Rattle.meter_states.specs.KeptTrip.{FitsSetting, HoldFits}
 use Rattle.meter_states.specs.Run.{numbers_from, trip_of}
 use Rattle.meter_states.specs.Setting.{Setting, modulus_of}
 use Rattle.meter_states.specs.Supplements.{amount_in, amounts_from, amounts_of, counts_from, counts_of, times}
-use Rattle.meter_states.specs.Trip.{core_trip_in, held_trip}
+use Rattle.meter_states.specs.Trip.{core_trip_in, held_trip, saved_at}
+use Rattle.meter_states.specs.declared.trip.CoreTrip.{CoreTrip}
 
 pub times-cons-same : (n : ℕ) (xs : List ℕ) → times n (n ∷ xs) ≡ times n xs + 1
 times-cons-same n xs = grind (arith, common_steps)
@@ -72,6 +72,13 @@ amounts-numbers t n [] = refl
 amounts-numbers t n (c ∷ cs) =
     omega (arith, amounts-repeated t c n (numbers_from (n + 1) cs), amounts-numbers t (n + 1) cs)
 
+-- what a core keeps of a trip is the same where its sums are
+pub same_form : (whole : CoreTrip) (p q t u : ℕ) (m n : Meterage) (xs ys : List ℕ) (a b : ℕ)
+    → p ≡ q → t ≡ u → m ≡ n → xs ≡ ys → a ≡ b
+    → record whole { pulses = p; ticks = t; meterage = m; extras = xs; extras_sum = a }
+    ≡ record whole { pulses = q; ticks = u; meterage = n; extras = ys; extras_sum = b }
+same_form whole p q t u m n xs ys a b pulses ticks meterage counts amounts = cc
+
 pub resumed-saved : (s : Setting) (h : Trip) → FitsSetting s h
     → held_trip s h.saved h.stopped h.position h.zone (trip_of s h) ≡ h
 resumed-saved s h fits =
@@ -83,24 +90,8 @@ resumed-saved s h fits =
     let meterage = sym (saved-any (modulus_of s) h.meterage fits.rest) in
     let pulses : h.pulses + 0 ≡ h.pulses = omega arith in
     let ticks : h.ticks + 0 ≡ h.ticks = omega arith in
-    let kept = saved (record {
-      cover = h.meterage.cover_left;
-      above = h.meterage.steps_full * modulus_of s + h.meterage.rest;
-      modulus = modulus_of s;
-    }) 0 in
-    ap (λ (n : ℕ). record h {
-      pulses = n;
-      ticks = h.ticks + 0;
-      meterage = kept;
-      extras = counts_of numbers;
-      extras_sum = amounts_of s.tariff numbers;
-    }) pulses
-    ∙ ap (λ (n : ℕ).
-    record h { ticks = n; meterage = kept; extras = counts_of numbers; extras_sum = amounts_of s.tariff numbers }) ticks
-    ∙ ap (λ (m : Meterage).
-    record h { meterage = m; extras = counts_of numbers; extras_sum = amounts_of s.tariff numbers }) meterage
-    ∙ ap (λ (xs : List ℕ). record h { extras = xs; extras_sum = amounts_of s.tariff numbers }) counts
-    ∙ ap (λ (n : ℕ). record h { extras_sum = n }) amounts
+    ap (saved_at h.saved h.stopped h.position h.zone)
+    (same_form (core_trip_in h) _ _ _ _ _ _ _ _ _ _ pulses ticks meterage counts amounts)
 
 -- what a run begins with
 pub begins : (s : Setting) (hold : Option Trip) → HoldFits s hold → IsSavedIn s hold (option_map (trip_of s) hold)

@@ -17,7 +17,7 @@ use Rattle.meter_states.specs.Trip as model
 use Rattle.meter_states.specs.Trip.{Part, MeterTrip, charge_in, charges_of, held_trip, pulses_in, core_trip_of}
 use Rattle.meter_states.specs.Trip.{ticks_in}
 use Rattle.meter_states.proofs.Fares.{above-more, sum-parts}
-use Rattle.meter_states.proofs.Resumed.{amounts-numbers, counts-earlier, counts-numbers, times-cons-other}
+use Rattle.meter_states.proofs.Resumed.{amounts-numbers, counts-earlier, counts-numbers, same_form, times-cons-other}
 use Rattle.meter_states.proofs.Resumed.{times-cons-same}
 
 -- ---- counts of supplements
@@ -119,17 +119,16 @@ ticks-append : (xs ys : List Part) → sum (map ticks_in (xs ++ ys)) ≡ sum (ma
 ticks-append [] ys = omega arith
 ticks-append (x ∷ xs) ys = grind (arith, common_steps, ticks-append xs ys)
 
+same_saved : (cover cover' above above' modulus : ℕ) → cover ≡ cover' → above ≡ above'
+    → ◌≡◌ {A = Meterage} (record { cover_left = cover; steps_full = above / modulus; rest = above % modulus })
+    (record { cover_left = cover'; steps_full = above' / modulus; rest = above' % modulus })
+same_saved cover cover' above above' modulus is more = cc
+
 -- a saved form of charges, with further ones, is that of both
 saved-more : (o : fares.Opening) (a b : ℕ) → saved (fares.opening_of o.modulus (saved o a)) b ≡ saved o (a + b)
 saved-more o a b =
-    let cover : o.cover - a - b ≡ o.cover - (a + b) = omega arith in
-    let above = above-more o a b in
-    ap (λ (n : ℕ). record {
-      cover_left = n;
-      steps_full = above_cover (fares.opening_of o.modulus (saved o a)) b / o.modulus;
-      rest = above_cover (fares.opening_of o.modulus (saved o a)) b % o.modulus;
-    }) cover
-    ∙ ap (λ (n : ℕ). record { cover_left = o.cover - (a + b); steps_full = n / o.modulus; rest = n % o.modulus }) above
+    same_saved (o.cover - a - b) (o.cover - (a + b)) (above_cover (fares.opening_of o.modulus (saved o a)) b)
+    (above_cover o (a + b)) o.modulus (omega arith) (above-more o a b)
 
 pub forms-resumed : (s : Setting) (t : MeterTrip) (parts : List Part) (extras : List ℕ) (second : ℕ) (stopped : Bool)
     (position zone : ℕ)
@@ -137,10 +136,7 @@ pub forms-resumed : (s : Setting) (t : MeterTrip) (parts : List Part) (extras : 
     → core_trip_of s (with_more parts extras (trip_of s (held_trip s second stopped position zone t)))
     ≡ core_trip_of s (with_more parts extras t)
 forms-resumed s t parts extras second stopped position zone are =
-    let whole = core_trip_of s (with_more parts extras t) in
     let o = model.opening_of s t in
-    let held = trip_of s (held_trip s second stopped position zone t) in
-    let listed = numbers_from 1 (counts_of t.extras) ++ extras in
     let pulses : t.opening.pulses + sum (map pulses_in t.parts) + sum (map pulses_in parts)
     ≡ t.opening.pulses + sum (map pulses_in (t.parts ++ parts)) =
     omega (arith, pulses-append t.parts parts) in
@@ -153,19 +149,4 @@ forms-resumed s t parts extras second stopped position zone are =
     saved-more o (charges_of s t) further ∙ ap (saved o) (sym (sum-parts s t.parts parts)) in
     let counts = counts-behind 16 1 (numbers_from 1 (counts_of t.extras)) t.extras extras (counts-listed t.extras) in
     let amounts = amounts-listed s.tariff t.extras extras are in
-    let kept = saved (fares.opening_of (modulus_of s) (saved o (charges_of s t))) further in
-    let n_ticks = t.opening.ticks + sum (map ticks_in t.parts) + sum (map ticks_in parts) in
-    ap (λ (n : ℕ). record whole {
-      pulses = n;
-      ticks = n_ticks;
-      meterage = kept;
-      extras = counts_of listed;
-      extras_sum = amounts_of s.tariff listed;
-    }) pulses
-    ∙ ap (λ (n : ℕ).
-    record whole { ticks = n; meterage = kept; extras = counts_of listed; extras_sum = amounts_of s.tariff listed })
-    ticks
-    ∙ ap (λ (m : Meterage).
-    record whole { meterage = m; extras = counts_of listed; extras_sum = amounts_of s.tariff listed }) meterage
-    ∙ ap (λ (xs : List ℕ). record whole { extras = xs; extras_sum = amounts_of s.tariff listed }) counts
-    ∙ ap (λ (n : ℕ). record whole { extras_sum = n }) amounts
+    same_form (core_trip_of s (with_more parts extras t)) _ _ _ _ _ _ _ _ _ _ pulses ticks meterage counts amounts

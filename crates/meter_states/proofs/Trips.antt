@@ -1,6 +1,8 @@
 -- What the core keeps of a trip is its saved form.
-use Rattle.std.proofs.Common.{◌≡◌, ℕ, ◌+◌, ◌-◌, ◌*◌, ◌≤◌, [], ◌∷◌, ◌++◌, get_or, set, ap, sym, ◌∙◌, arith}
+use Rattle.std.proofs.Common.{◌≡◌, ℕ, ◌+◌, ◌-◌, ◌*◌, ◌≤◌, [], ◌∷◌, ◌++◌, get_or, set, sum, ap, sym, ◌∙◌, arith}
+use Rattle.std.proofs.Common.{Option, Some, None, option_map}
 use Rattle.std.proofs.lemmas.Grind.{common_steps}
+use Rattle.std.proofs.lemmas.Option.{same_Some}
 use Rattle.drive_modes.specs.declared.meterage.Meterage.{Meterage}
 use Rattle.drive_modes.specs.Fare.{saved}
 use Rattle.tariff_compile.specs.Tables.{TableParts}
@@ -9,9 +11,12 @@ use Rattle.tariff_check.specs.declared.values.Initial.{Initial}
 use Rattle.tariff_syntax.specs.declared.context.Context.{Context}
 use Rattle.meter_states.specs.declared.trip.CoreTrip.{CoreTrip}
 use Rattle.meter_states.specs.Charge.{charge_at}
+use Rattle.meter_states.specs.Core.{CoreData, core_of}
+use Rattle.meter_states.specs.Interval.{with_interval}
+use Rattle.meter_states.specs.Meter.{Meter}
 use Rattle.meter_states.specs.Setting.{Setting, IsTariffOf, modulus_of, unit_of}
 use Rattle.meter_states.specs.Supplements.{amount_in, amounts_of, counts_of, times}
-use Rattle.meter_states.specs.Trip.{MeterTrip, InHired, begun, charges_of, opening_of, core_trip_of, with_extra}
+use Rattle.meter_states.specs.Trip.{MeterTrip, InHired, Part, begun, charges_of, opening_of, core_trip_of, with_extra}
 use Rattle.meter_states.specs.Trip.{with_part}
 use Rattle.meter_states.proofs.Counts.{counts-at, counts-more, counts-none}
 use Rattle.meter_states.proofs.Settings.{unit-is}
@@ -67,3 +72,24 @@ extra-saved s t n amount x least most is e =
     } ≡ record x { extras = counts_of (t.extras ++ n ∷ []); extras_sum = amounts_of s.tariff (t.extras ++ n ∷ []) } =
     cc in
     whole ∙ other
+
+trip-taken : (s : Setting) (trip : Option MeterTrip) (part : Part) (t u : CoreTrip)
+    → option_map (core_trip_of s) trip ≡ Some t
+    → ((x : MeterTrip) → t ≡ core_trip_of s x → u ≡ core_trip_of s (with_part part x))
+    → Some u ≡ option_map (core_trip_of s) (option_map (with_part part) trip)
+trip-taken s None part t u is saved = absurd (cc)
+trip-taken s (Some x) part t u is saved = ap Some (saved x (sym (same_Some (core_trip_of s x) t is)))
+
+-- a core whose trip takes the pulses of the interval as a part
+pub interval-taken : (s : Setting) (m : Meter) (core : CoreData) (part : ℕ → Part) (pulses gate : ℕ) (t u : CoreTrip)
+    → core ≡ core_of s m → core.trip ≡ Some t → pulses ≡ core.gate → gate ≡ 0
+    → ((x : MeterTrip) → t ≡ core_trip_of s x → u ≡ core_trip_of s (with_part (part pulses) x))
+    → record core { gate = gate; trip = Some u } ≡ core_of s (with_interval (part (sum m.taken)) m)
+interval-taken s m core part pulses gate t u stands has all none saved =
+    let there = sym (ap (λ (c : CoreData). c.trip) stands) ∙ has in
+    let counted : pulses ≡ sum m.taken = all ∙ ap (λ (c : CoreData). c.gate) stands in
+    ap (λ (c : CoreData). record c { gate = gate; trip = Some u }) stands
+    ∙ ap (λ (n : ℕ). record (core_of s m) { gate = n; trip = Some u }) none
+    ∙ ap (λ (x : Option CoreTrip). record (core_of s m) { gate = 0; trip = x })
+    (trip-taken s m.trip (part pulses) t u there saved)
+    ∙ ap (λ (n : ℕ). core_of s (with_interval (part n) m)) counted

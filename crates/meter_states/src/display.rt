@@ -20,7 +20,6 @@ use taxi_units::Display;
 
 impl State {
     /// The display is shown where it differs from the one that was shown last.
-    #[tactic(auto, using(crate::proofs::Displays::shown_already))]
     #[inline(always)]
     pub(crate) fn show(&mut self, tables: &Tables, acts: &mut Acts)
         requires lawful { IsBetweenEvents tables.now self.old }

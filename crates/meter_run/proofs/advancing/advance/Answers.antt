@@ -1,4 +1,7 @@
-use Rattle.std.proofs.Common.{sym, ◌∙◌}
+use Rattle.std.proofs.Common.{sym, subst, ◌∙◌}
+use Rattle.taxi_units.specs.declared.event.Event.{Event}
+use Rattle.meter_states.specs.Core.{Meets}
+use Rattle.meter_states.specs.Step.{step}
 use Rattle.meter_run.proofs.Dropping.{stepped}
 use Rattle.meter_run.proofs.advancing.advance.Goals as goal
 
@@ -25,6 +28,11 @@ returns-in-Up-clause-ranges g c = c.supply.ensures.ranges
 
 pub returns-in-Up-clause-steps : goal.returns-in-Up-clause-steps
 returns-in-Up-clause-steps g c = c.supply.ensures.steps
+
+pub returns-in-Up-clause-meets : goal.returns-in-Up-clause-meets
+returns-in-Up-clause-meets g c = λ s m is stands.
+    subst (λ (event : Event). Meets s c.supply.new.core.plain c.supply.new.acts.items (step s event m)) (sym c.in-Up.is)
+    (c.supply.ensures.meets s m is stands)
 
 pub returns-in_default : goal.returns-in_default
 returns-in_default g c =

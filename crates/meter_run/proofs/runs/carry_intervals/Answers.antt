@@ -1,4 +1,4 @@
-use Rattle.std.proofs.Common.{◌≡◌, ℕ, ◌+◌, subst, arith, refl}
+use Rattle.std.proofs.Common.{◌≡◌, ℕ, ◌+◌, true, subst, arith, refl}
 use Rattle.drive_text.specs.Runs.{intervals_events}
 use Rattle.meter_run.specs.Drives.{IsBounded}
 use Rattle.meter_run.proofs.Going.{intervals_carried, intervals_broken, intervals_further, bounded_at_interval}
@@ -26,7 +26,9 @@ loop-done-preserved g c =
           p (i + 1) n c.args.meter.now c.args.board.now c.carry_interval.new.meter c.carry_interval.new.board
           c.carry_equal-done.new.self c.carry_interval.new.board one
           (c.carry_equal-done.ensures.carried c.carry_interval.new.board c.in_ok-carry_interval.ensures.ready);
-      faults = counts_more _ _ _ c.loop-done.invariant.faults (c.in_ok-carry_interval.ensures.cause.kept refl);
+      faults = counts_more (g.B.Board.faults c.args.board.now) (g.B.Board.faults c.loop-done.board)
+          (g.B.Board.faults c.carry_interval.new.board) c.loop-done.invariant.faults
+          (c.in_ok-carry_interval.ensures.cause.kept (refl {a = true}));
       steps = bounded_further p (i + 1) n c.args.steps.now c.carry_interval.new.steps
           (bounded_at_interval p i (i + 1) c.args.steps.now c.loop-done.steps c.carry_interval.new.steps
           (omega arith) c.loop-done.invariant.steps c.carry_interval.ensures.steps);

@@ -15,3 +15,6 @@ loop-place-preserved c = record {
       c.loop-place.invariant.initials c.loop-place.invariant.minimums c.in_ok-add.ensures.choice_lines
       c.loop-place.invariant.choice_lines;
 }
+
+pub returns : goal.returns
+returns c = grind (arith, common_steps)

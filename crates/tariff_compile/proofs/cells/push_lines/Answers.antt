@@ -97,3 +97,12 @@ loop-place-preserved c =
     ≡ map (lines_at t) (take place c.args.contexts.now) ++ lines_at t x ∷ [] =
     ap (map (lines_at t)) here.2 ∙ map-append (lines_at t) (take place c.args.contexts.now) (x ∷ []) in
     grind (arith, common_steps, made, more)
+
+pub marks_of_each-requires-2 : goal.marks_of_each-requires-2
+marks_of_each-requires-2 c = grind (arith, common_steps)
+
+pub marks_of_each-requires-3 : goal.marks_of_each-requires-3
+marks_of_each-requires-3 c = grind (arith, common_steps)
+
+pub returns : goal.returns
+returns c = grind (arith, common_steps)

@@ -1,4 +1,5 @@
 use Rattle.std.proofs.Common.{ℕ, zero, suc, ◌<◌, List, [], ◌∷◌, length, get_or, All, arith}
+use Rattle.std.proofs.lemmas.Grind.{common_steps}
 use Rattle.std.proofs.lemmas.List.Elements.{All-head, All-tail}
 use Rattle.tariff_check.specs.Parts.{RateNumbers}
 use Rattle.tariff_check.specs.Sound.{IsSoundRate}
@@ -17,3 +18,9 @@ sound_at (c ∷ cs) (suc i) d within all =
 pub weights_of-requires-clause-rate : goal.weights_of-requires-clause-rate
 weights_of-requires-clause-rate c =
     sound_at c.args.choices.now c.loop-choice.choice-index _ (omega arith) c.requires.rates
+
+pub loop-choice-preserved : goal.loop-choice-preserved
+loop-choice-preserved c = grind (arith, common_steps)
+
+pub returns : goal.returns
+returns c = grind (arith, common_steps)

@@ -1,4 +1,4 @@
-use Rattle.std.proofs.Common.{◌+◌, ◌-◌, ◌≤◌, length, drop, sym, ap, ◌∙◌, arith, length-take}
+use Rattle.std.proofs.Common.{◌-◌, length, drop, sym, ap, ◌∙◌, arith, length-take}
 use Rattle.meter_run.specs.Source.{Progress}
 use Rattle.meter_run.proofs.Sourcing.{ahead_after, fed_last, fed_more, few_fed}
 use Rattle.meter_run.proofs.source.Source.feed.Goals as goal
@@ -10,25 +10,31 @@ feed-requires c = record {
       (c.part-ahead.ensures ∙ ap (λ (p : Progress). p.ahead) c.self.view_is);
 }
 
+pub invariant_of-self : goal.invariant_of-self
+invariant_of-self c =
+    let inside = c.self.inside in (
+      omega (
+        arith,
+        c.in-Ok.ensures.within,
+        ap length c.part-ahead.ensures,
+        length-take (inside.to - inside.from) (drop inside.from inside.piece),
+        c.self.invariant.0,
+      ),
+      c.self.invariant.1,
+    )
+
 pub returns-in-Ok-clause-more : goal.returns-in-Ok-clause-more
 returns-in-Ok-clause-more c = λ none given rest h.
     let inside = c.self.inside in
     let n = c.in-Ok.taken in
     let is = c.part-ahead.ensures in
     let place_is = is ∙ ap (λ (p : Progress). p.ahead) c.self.view_is in
-    let fits : inside.from + n ≤ inside.to = omega (
-      arith,
-      c.in-Ok.ensures.within,
-      ap length is,
-      length-take (inside.to - inside.from) (drop inside.from inside.piece),
-      c.self.invariant.0,
-    ) in
     fed_more c.args.self.now _ inside.reader c.part-ahead.result.now c.args.runs.now.items c.feed.new.out.items given
     rest n h (ap (λ (p : Progress). p.reading) c.self.view_is) place_is c.requires.none
     (c.in-Ok.ensures.some (omega (arith, ap length c.requires.none))
     (omega (arith, c.requires.some, ap length place_is))) c.in-Ok.ensures.runs c.in-Ok.ensures.taken
     c.in-Ok.ensures.stands.2
-    (ahead_after inside.from inside.to n inside.piece fits ∙ ap (drop n) (sym is))
+    (ahead_after inside.from inside.to n inside.piece (invariant_of-self c).0 ∙ ap (drop n) (sym is))
     (ap (λ (p : Progress). p.left) c.self.view_is)
 
 pub returns-in-Err-clause-stops : goal.returns-in-Err-clause-stops

@@ -1,5 +1,8 @@
+use Rattle.std.proofs.Common.{List, sym, subst}
 use Rattle.std.proofs.lemmas.Option.{IfSome_then}
+use Rattle.drive_text.specs.declared.run.Run.{Run}
 use Rattle.outside.proofs.Laws.{may_rise_not}
+use Rattle.meter_run.specs.Source.{StopsBy}
 use Rattle.meter_run.proofs.Going.{not_some}
 use Rattle.meter_run.proofs.Sourcing.{gives_filled, stops_filled}
 use Rattle.meter_run.proofs.source.Source.next.Goals as goal
@@ -26,6 +29,12 @@ returns-clause-stops g c =
 
 pub feed-requires-clause-some : goal.feed-requires-clause-some
 feed-requires-clause-some g c = (c.fill.ensures.filled c.in_default.is).some
+
+pub returns-in-Some-clause-stops : goal.returns-in-Some-clause-stops
+returns-in-Some-clause-stops g c = λ given h.
+    subst (λ (runs : List Run). StopsBy g.F.Files.tells c.args.self.now (g.F.Files.rest c.args.files.now c.args.word)
+    (g.F.Files.rest c.fill.new.files c.args.word) given runs c.in-Some.stop) (sym c.clear.ensures)
+    (c.in-Some.ensures.stops given h)
 
 pub returns-in-Some-clause-others : goal.returns-in-Some-clause-others
 returns-in-Some-clause-others g c = c.fill.ensures.others

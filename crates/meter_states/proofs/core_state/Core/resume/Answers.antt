@@ -1,9 +1,9 @@
-use Rattle.std.proofs.Common.{◌≡◌, ℕ, All, List, [], IfSome, None, Option, rules, refl, ap, sym, subst, inr, ◌∙◌, arith}
+use Rattle.std.proofs.Common.{◌≡◌, ℕ, All, List, [], IfSome, None, Option, rules, refl, sym, subst, inr, arith}
 use Rattle.totals_record.specs.Ranges.{IsHeld}
 use Rattle.totals_record.specs.declared.durable_state.Durable.{Durable}
 use Rattle.totals_record.specs.declared.trip.Trip.{Trip}
 use Rattle.meter_states.specs.Acts.{IsLawfulAct}
-use Rattle.meter_states.specs.Core.{ComesToOutcome, CoreData, core_of}
+use Rattle.meter_states.specs.Core.{ComesToOutcome, core_of}
 use Rattle.meter_states.specs.Display.{shown}
 use Rattle.meter_states.specs.Meter.{Meter}
 use Rattle.meter_states.specs.Supply.{hold_taken, powered, supply_came}
@@ -16,8 +16,7 @@ use Rattle.taxi_units.specs.Limits.{roaming_between}
 pub returns-clause-ranges : goal.returns-clause-ranges
 returns-clause-ranges g c =
     let p = c.args.tables.now in
-    let number : c.idle-state.result.number ≡ c.args.durable.now.number =
-    ap (λ (q : CoreData). q.number) c.idle-state.ensures in
+    let number : c.idle-state.result.number ≡ c.args.durable.now.number = rw c.idle-state.ensures refl in
     let none : All (IsLawfulAct p c.idle-state.result.number) c.new-acts.result.items =
     rw c.new-acts.ensures (λ k d below. absurd (omega arith)) in
     c.show.ensures.ranges c.args.durable.now.number
@@ -25,14 +24,8 @@ returns-clause-ranges g c =
 
 pub returns-clause-commits : goal.returns-clause-commits
 returns-clause-commits g c =
-    let p = c.args.tables.now in
-    let number : c.idle-state.result.number ≡ c.args.durable.now.number =
-    ap (λ (q : CoreData). q.number) c.idle-state.ensures in
-    let none : All (IsLawfulAct p c.idle-state.result.number) c.new-acts.result.items =
-    rw c.new-acts.ensures (λ k d below. absurd (omega arith)) in
-    let lawful = c.show.ensures.ranges c.args.durable.now.number (subst
-    (λ (n : ℕ). All (IsLawfulAct p n) c.take_hold.new.acts.items) number (c.take_hold.ensures.stage.ranges none)) in
-    acts-keep p c.args.durable.now.number c.show.new.acts.items lawful c.args.durable.now c.requires.range refl
+    acts-keep c.args.tables.now c.args.durable.now.number c.show.new.acts.items (returns-clause-ranges g c)
+    c.args.durable.now c.requires.range refl
 
 pub returns-clause-lawful : goal.returns-clause-lawful
 returns-clause-lawful g c =
@@ -41,8 +34,9 @@ returns-clause-lawful g c =
 pub returns-clause-meets : goal.returns-clause-meets
 returns-clause-meets g c = λ s m is durable saved.
     let n = powered c.args.second m in
-    let start : c.idle-state.result ≡ core_of s (record n { trip = None }) = c.idle-state.ensures ∙ ap (λ
-    (d : Durable). record (core_of s (record n { trip = None })) { number = d.number }) (sym durable) in
+    let idle = core_of s (record n { trip = None }) in
+    let start : c.idle-state.result ≡ idle = subst (λ (d : Durable). c.idle-state.result
+    ≡ record idle { number = d.number }) (sym durable) c.idle-state.ensures in
     let empty = c.new-acts.result.items in
     let none : c.new-acts.result.items ≡ [] = search rules in
     let middle = c.take_hold.new.acts.items in
@@ -59,7 +53,7 @@ returns-clause-meets g c = λ s m is durable saved.
 
 pub take_hold-requires-clause-hold : goal.take_hold-requires-clause-hold
 take_hold-requires-clause-hold g c = λ trip is.
-    let number = ap (λ (q : CoreData). q.number) c.idle-state.ensures in
+    let number : c.idle-state.result.number ≡ c.args.durable.now.number = rw c.idle-state.ensures refl in
     record {
       range = subst (λ (n : ℕ). IsHeld n trip) (sym number)
           (subst (λ (o : Option Trip). IfSome o (IsHeld c.args.durable.now.number)) is c.requires.range.held);

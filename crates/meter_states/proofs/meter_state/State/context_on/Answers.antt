@@ -1,4 +1,4 @@
-use Rattle.std.proofs.Common.{◌≤◌, subst, sym, arith}
+use Rattle.std.proofs.Common.{◌≤◌, refl, ap, subst, sym, ◌∙◌, arith}
 use Rattle.meter_states.specs.Core.{CoreData}
 use Rattle.meter_states.proofs.meter_state.State.context_on.Goals as goal
 
@@ -18,3 +18,28 @@ returns-clause-range c = λ seal local.
       pulses = omega (arith, c.pulses.ensures.range tables on);
       ticks = omega (arith, c.ticks.ensures.range tables on);
     }
+
+pub returns-clause-value : goal.returns-clause-value
+returns-clause-value c = λ seal s m cached is stands.
+    let core = c.self.view_is ∙ stands in
+    rw (
+      c.constant.ensures.value ∙ is.tariff.constant,
+      ap (λ (p : CoreData). p.position) core,
+      ap (λ (p : CoreData). p.zone) core,
+      cached.weekday,
+      cached.month_day,
+      cached.holiday s.tariff is.tariff.compiled,
+      cached.minute,
+      c.pulses.ensures.state s m stands,
+      c.ticks.ensures.state s m stands,
+      is.secured.offsets,
+    ) refl
+
+pub returns-clause-exact : goal.returns-clause-exact
+returns-clause-exact c = λ t has. rw (
+  c.constant.ensures.value,
+  ap (λ (p : CoreData). p.position) c.self.view_is,
+  ap (λ (p : CoreData). p.zone) c.self.view_is,
+  c.pulses.ensures.exact t has,
+  c.ticks.ensures.exact t has,
+) refl

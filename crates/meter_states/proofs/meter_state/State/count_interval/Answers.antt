@@ -85,3 +85,8 @@ pass_interval-requires-clause-lawful g c = (c.args.tables.now, c.requires.lawful
 pub returns-in-Stopped-clause-lawful : goal.returns-in-Stopped-clause-lawful
 returns-in-Stopped-clause-lawful g c = powered-wider
     (c.pass_interval.ensures.lawful c.args.tables.now c.requires.lawful)
+
+pub returns-in-Stopped-clause-state : goal.returns-in-Stopped-clause-state
+returns-in-Stopped-clause-state g c = λ s m is e.
+    let here = sym c.in-Stopped.is ∙ ap (λ (p : CoreData). p.operating) (c.self.view_is ∙ e) in
+    c.pass_interval.ensures.state s m e ∙ ap (λ (o : Operating). core_of s (counted_in s o (sum m.taken) m)) here

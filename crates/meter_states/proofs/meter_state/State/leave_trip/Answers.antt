@@ -1,8 +1,9 @@
-use Rattle.std.proofs.lemmas.Grind.{common_steps}
 use Rattle.std.proofs.Common.{◌≡◌, Some, ap, sym, subst, ◌∙◌, arith}
 use Rattle.meter_states.specs.Core.{CoreData}
 use Rattle.meter_states.specs.Lawful.{IsPowered}
+use Rattle.meter_states.specs.Trip.{Rest}
 use Rattle.meter_states.proofs.Powered.{powered-gated, powered-trip, pulses-below}
+use Rattle.meter_states.proofs.Trips.{interval-taken}
 use Rattle.meter_states.proofs.meter_state.State.leave_trip.Goals as goal
 use Rattle.taxi_units.specs.Limits.{roaming_between}
 
@@ -44,4 +45,7 @@ returns-in_default-clause-state c = λ s m e. absurd (c.requires.trip (sym (ap (
     ∙ c.in_default.is))
 
 pub returns-clause-state : goal.returns-clause-state
-returns-clause-state c = grind (arith, common_steps) steps 4000000
+returns-clause-state c = λ s m stands.
+    interval-taken s m _ Rest c.take-pulses.result c.take-pulses.new.self c.in-Some.trip c.add_rest.new.trip
+    (c.self.view_is ∙ stands) c.in-Some.is c.take-pulses.ensures.count c.take-pulses.ensures.empty
+    (c.add_rest.ensures.saved s)

@@ -2,7 +2,9 @@ use Rattle.std.proofs.Common.{◌≡◌, Some, ap, sym, subst, ◌∙◌, arith}
 use Rattle.taxi_units.specs.declared.event.Operating.{Operating}
 use Rattle.meter_states.specs.Core.{CoreData}
 use Rattle.meter_states.specs.Lawful.{HasTrip, IsPowered}
+use Rattle.meter_states.specs.Trip.{InStopped}
 use Rattle.meter_states.proofs.Powered.{powered-gated, powered-trip, pulses-below}
+use Rattle.meter_states.proofs.Trips.{interval-taken}
 use Rattle.meter_states.proofs.meter_state.State.pass_interval.Goals as goal
 use Rattle.taxi_units.specs.Limits.{roaming_between}
 
@@ -51,3 +53,9 @@ pub returns-in_default-clause-state : goal.returns-in_default-clause-state
 returns-in_default-clause-state c = λ s m e. absurd ((subst (λ
     (o : Operating). HasTrip o c.args.self.now.trip) c.requires.on c.requires.lawful.1.on) (sym (ap (λ
     (p : CoreData). p.trip) c.self.view_is) ∙ c.in_default.is))
+
+pub returns-clause-state : goal.returns-clause-state
+returns-clause-state c = λ s m stands.
+    interval-taken s m _ InStopped c.take-pulses.result c.take-pulses.new.self c.in-Some.trip c.add_stopped.new.trip
+    (c.self.view_is ∙ stands) c.in-Some.is c.take-pulses.ensures.count c.take-pulses.ensures.empty
+    (c.add_stopped.ensures.saved s)

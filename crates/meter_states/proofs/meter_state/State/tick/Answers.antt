@@ -1,9 +1,12 @@
-use Rattle.std.proofs.Common.{ℕ, All, ap, sym, subst, ◌∙◌}
+use Rattle.std.proofs.Common.{ℕ, ◌+◌, ◌≤◌, All, ap, sym, subst, ◌∙◌, arith}
+use Rattle.taxi_units.specs.declared.event.Operating.{Operating}
+use Rattle.taxi_units.specs.declared.event.Operating.TheVariants.{Off, ForHire, Hired, Stopped}
 use Rattle.meter_states.specs.Acts.{IsLawfulAct}
 use Rattle.meter_states.specs.Closing.{roaming_checked}
 use Rattle.meter_states.specs.Core.{CoreData, core_of}
 use Rattle.meter_states.specs.Display.{shown}
 use Rattle.meter_states.specs.Interval.{interval_begun, interval_counted}
+use Rattle.meter_states.specs.Lawful.{counting_steps, pressing_steps}
 use Rattle.meter_states.specs.Meter.{Meter, ◌>>=◌}
 use Rattle.meter_states.specs.Step.{expired_or_pressed}
 use Rattle.meter_states.proofs.Outcomes.{follows-then, quiet-follows, same-or}
@@ -46,3 +49,15 @@ returns-clause-stage g c = record {
       (follows-then s c.show.new.self _ checked_acts acts acts (shown s checked) (λ (n : Meter). interval_begun n) d
       (quiet-follows s _ acts (record after { began = after.clock }) begun))));
 }
+
+-- the end of an interval and the key that waits
+steps-of-both : (o : Operating) → counting_steps o + pressing_steps o ≤ 48
+steps-of-both Off = omega arith
+steps-of-both ForHire = omega arith
+steps-of-both Hired = omega arith
+steps-of-both Stopped = omega arith
+
+pub returns-clause-steps : goal.returns-clause-steps
+returns-clause-steps g c =
+    let pressed = rw c.count_interval.ensures.same.0 at c.expire_or_press.ensures.steps in
+    omega (arith, c.count_interval.ensures.steps, pressed, steps-of-both c.args.self.now.operating)

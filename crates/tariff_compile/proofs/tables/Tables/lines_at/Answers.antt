@@ -1,8 +1,15 @@
 use Rattle.std.proofs.Common.{◌∙◌, ◌<◌, ap, subst, arith}
-use Rattle.tariff_compile.specs.Cells.{cell_count}
+use Rattle.tariff_compile.specs.Cells.{bands_at, cell_count}
 use Rattle.tariff_compile.specs.Tables.{IsCompiled, TableParts, sizes_for}
-use Rattle.tariff_compile.proofs.Compiled.{length-cells, sizes_for-most}
+use Rattle.tariff_compile.proofs.Compiled.{bands-below, length-cells, sizes_for-most}
 use Rattle.tariff_compile.proofs.tables.Tables.lines_at.Goals as goal
+
+pub cell_number-cell-requires-clause-below : goal.cell_number-cell-requires-clause-below
+cell_number-cell-requires-clause-below c =
+    rw (
+      c.sizes_of-sizes.ensures ∙ ap sizes_for c.self.view_is,
+      c.plain_bands_at.ensures ∙ ap (λ (p : TableParts). bands_at p.cuts c.args.x.now) c.self.view_is,
+    ) (bands-below c.args.self.now c.args.x.now c.requires.range)
 
 pub cell_number-cell-requires-clause-fits : goal.cell_number-cell-requires-clause-fits
 cell_number-cell-requires-clause-fits c =
