@@ -52,7 +52,7 @@ fn files_of(alloc: Global, roll: &[u8], reads: &[u64]) -> Result<MemoryFiles, Fa
 }
 
 /// A log that begins with an image, and of which these calls fail.
-pub(crate) fn log_of(alloc: Global, image: &[u8], calls: &[u64]) -> Result<MemoryLog, Fail> {
+fn log_of(alloc: Global, image: &[u8], calls: &[u64]) -> Result<MemoryLog, Fail> {
     if image.len() != 131_072 {
         return Err(Fail::new("no image of a log"));
     }
@@ -113,7 +113,7 @@ pub(crate) fn image_of(alloc: Global, log: &MemoryLog) -> Result<Vec<u8>, Fail> 
 }
 
 /// A log of zeros.
-pub(crate) fn zeros(alloc: Global) -> Result<Vec<u8>, Fail> {
+fn zeros(alloc: Global) -> Result<Vec<u8>, Fail> {
     let mut image = Vec::new(alloc);
     image.resize(131_072, 0)?;
     Ok(image)
@@ -141,18 +141,6 @@ pub(crate) fn filing(alloc: Global, roll: &[u8], reads: &[u64]) -> Result<Ended,
     failing(alloc, &zeros, FILE, roll, reads, &[])
 }
 
-/// The log of a call of `file` over an image, which prints this text and ends with 0.
-pub(crate) fn filed_behind(
-    alloc: Global,
-    image: &[u8],
-    roll: &[u8],
-    output: &str,
-) -> Result<Vec<u8>, Fail> {
-    let ended = called(alloc, image, FILE, roll)?;
-    must(is_end(&ended, output, 0), "another end", output)?;
-    image_of(alloc, &ended.0)
-}
-
 /// The log of a call of `file` over a log of zeros, which ends with 0.
 pub(crate) fn filed(alloc: Global, roll: &[u8]) -> Result<Vec<u8>, Fail> {
     let ended = filing(alloc, roll, &[])?;
@@ -166,42 +154,14 @@ pub(crate) fn filed_to(alloc: Global, last: u32) -> Result<Vec<u8>, Fail> {
     filed(alloc, &roll)
 }
 
-/// Whether the log of an image is shown with this text and status 0, and stays as it is.
-fn shows_text(alloc: Global, image: &[u8], text: &[u8]) -> Result<bool, Fail> {
-    let ended = called(alloc, image, SHOW, b"")?;
-    Ok(ended.1 == 0 && ended.0.printed() == text && ended.0.image().as_slice() == image)
+/// Whether a call has printed this text, ended with 0 and left the image.
+fn is_shown(ended: &Ended, image: &[u8], text: &[u8]) -> bool {
+    ended.1 == 0 && ended.0.printed() == text && ended.0.image().as_slice() == image
 }
 
 /// Whether the log of an image is shown with receipts of these numbers and status 0, and stays as it is.
 pub(crate) fn shows(alloc: Global, image: &[u8], first: u32, last: u32) -> Result<bool, Fail> {
     let text = receipts(alloc, first, last)?;
-    shows_text(alloc, image, &text)
-}
-
-/// Fails unless a roll of two receipts is filed once, and shown.
-fn must_keep_two(alloc: Global, roll: &[u8]) -> Result<(), Fail> {
-    let zeros = zeros(alloc)?;
-    let image = filed_behind(alloc, &zeros, roll, "FILED 2\n")?;
-    let again = filed_behind(alloc, &image, roll, "FILED 0\n")?;
-    must(again == image, "another log", "filed again")?;
-    must(shows_text(alloc, &image, roll)?, "another text", "shown")
-}
-
-#[test]
-fn a_roll_is_filed_once_and_shown(rt: HostRuntime) -> Result<(), Fail> {
-    let roll = receipts(rt.alloc(), 2, 3)?;
-    must_keep_two(rt.alloc(), &roll)
-}
-
-/// Refused words read nothing of the roll, whose first read fails, and leave the log.
-#[test]
-fn words_that_are_no_command(rt: HostRuntime) -> Result<(), Fail> {
-    let image = filed_to(rt.alloc(), 2)?;
-    let ended = failing(rt.alloc(), &image, &["FILE", "roll"], b"", &[1], &[])?;
-    let stays = ended.0.image().as_slice() == image.as_slice();
-    must(
-        is_end(&ended, "BAD WORDS\n", 1) && stays,
-        "another end",
-        "words",
-    )
+    let ended = called(alloc, image, SHOW, b"")?;
+    Ok(is_shown(&ended, image, &text))
 }

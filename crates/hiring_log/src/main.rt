@@ -6,15 +6,11 @@ mod cut_tests;
 #[cfg(test)]
 mod failure_tests;
 #[cfg(test)]
-mod file_log_tests;
-#[cfg(test)]
 mod growth_tests;
 #[cfg(test)]
 mod keep_log_tests;
 #[cfg(test)]
 mod memory_log;
-#[cfg(test)]
-mod memory_log_tests;
 #[cfg(test)]
 mod receipt_tests;
 

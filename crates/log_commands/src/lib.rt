@@ -18,8 +18,6 @@ mod log_record;
 mod newest;
 mod receipt_search;
 mod roll;
-#[cfg(test)]
-mod roll_tests;
 mod row;
 mod scanning;
 mod show;

@@ -15,9 +15,6 @@ use outside::{Failed, Files};
 use std::marker::Model;
 use taxi_units::STREAM_LIMIT;
 
-#[cfg(test)]
-mod tests;
-
 /// How many bytes of a roll are looked through at once.
 const WINDOW: usize = 8192;
 

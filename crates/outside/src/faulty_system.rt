@@ -10,7 +10,7 @@ use std::path::PathBuf;
 use std::rt::Files as HostSystem;
 
 /// A call of the system, with the name that it is asked of.
-#[derive(Clone, Copy, Debug, PartialEq, Eq)]
+#[derive(Clone, Copy, PartialEq, Eq)]
 pub(crate) enum Call {
     Open(&'static str),
     OpenToWrite(&'static str),
@@ -24,7 +24,7 @@ pub(crate) enum Call {
 }
 
 /// What is off with a system.
-#[derive(Clone, Copy, Debug)]
+#[derive(Clone, Copy)]
 pub(crate) enum Fault {
     /// This call fails with the error that is tried.
     Fails(Call),

@@ -2,11 +2,12 @@
 //! for each error that is tried.
 ghost use Rattle.std.specs.Prelude.{◌≡◌, ◌<◌};
 
+use crate::board_tests::{Asked, call};
 use crate::faulty_system::{Call, Fault, FaultySystem, Trial};
 use crate::file_tests::{Change, STORE, Sight, UNFINISHED, enter, is_seen, leave, make};
 use crate::store_file::Access;
 use crate::tests::must;
-use crate::{Board, FileBoard};
+use crate::FileBoard;
 use std::io::ErrorKind;
 use std::marker::Brand;
 use std::sync::ledger::{Blank, Ledger};
@@ -552,20 +553,25 @@ const MAKINGS: &[Case] = &[
     },
 ];
 
+/// What is asked of a board.
+fn asked_by(ask: &Ask) -> Asked<'static> {
+    match ask {
+        Ask::Read(_) => Asked::Read(0),
+        Ask::Write => Asked::Write(0, &[1]),
+        Ask::Sync => Asked::Sync,
+        Ask::Print => Asked::Print(b"FOR HIRE\n"),
+    }
+}
+
 /// Whether a call is Ok, and a read gives what it should.
 fn is_ok<'a, L: Ledger>(
     device: &mut FileBoard<FaultySystem<'a>>,
     ask: &Ask,
     steps: &mut Steps<L>,
 ) -> bool {
-    match ask {
-        Ask::Read(want) => {
-            let mut buf = [99];
-            device.read(0, &mut buf, steps).is_ok() && buf[0] == *want
-        }
-        Ask::Write => device.write_at(0, &[1], steps).is_ok(),
-        Ask::Sync => device.sync(steps).is_ok(),
-        Ask::Print => device.print(b"FOR HIRE\n", steps).is_ok(),
+    match (call(device, &asked_by(ask), steps), ask) {
+        (Ok(bytes), Ask::Read(want)) => bytes[0] == *want,
+        (answer, _) => answer.is_ok(),
     }
 }
 
@@ -578,8 +584,34 @@ fn device_of<'a>(case: &Case, system: FaultySystem<'a>) -> FileBoard<FaultySyste
     }
 }
 
-/// Asks what a case says, each of which must come as it says.
-fn must_come<L: Ledger>(
+/// Asks what a case asks before its faults begin, each of which must be Ok.
+fn must_be_ok<'a, L: Ledger>(
+    device: &mut FileBoard<FaultySystem<'a>>,
+    case: &Case,
+    steps: &mut Steps<L>,
+) -> Result<(), Fail> {
+    for ask in case.before {
+        must(is_ok(device, ask, steps), case.name, 0)?;
+    }
+    Ok(())
+}
+
+/// Asks what a case asks behind that, each of which must come as it says.
+fn must_come<'a, L: Ledger>(
+    device: &mut FileBoard<FaultySystem<'a>>,
+    case: &Case,
+    steps: &mut Steps<L>,
+) -> Result<(), Fail> {
+    for number in 0..case.calls.len() {
+        let (ask, want) = &case.calls[number];
+        let came = is_ok(device, ask, steps) == *want;
+        must(came, case.name, number as u64 + 1)?;
+    }
+    Ok(())
+}
+
+/// Asks all that a case asks.
+fn ask_all<L: Ledger>(
     rt: HostRuntime,
     blank: Blank,
     case: &Case,
@@ -592,21 +624,14 @@ fn must_come<L: Ledger>(
     let mut steps: Steps<L> = Steps::open(blank);
     let trial = Trial::new(case.faults, kind);
     let mut device = device_of(case, FaultySystem { rt, trial: &trial });
-    for ask in case.before {
-        must(is_ok(&mut device, ask, &mut steps), case.name, 0)?;
-    }
+    must_be_ok(&mut device, case, &mut steps)?;
     trial.begin();
-    for number in 0..case.calls.len() {
-        let (ask, want) = &case.calls[number];
-        let came = is_ok(&mut device, ask, &mut steps) == *want;
-        must(came, case.name, number as u64 + 1)?;
-    }
-    Ok(())
+    must_come(&mut device, case, &mut steps)
 }
 
-/// Asks what a case says, under a ledger of its own.
-fn must_come_counted(rt: HostRuntime, case: &Case, kind: ErrorKind) -> Result<(), Fail> {
-    must_come::<Brand>(rt, Blank::new(1), case, kind)
+/// Asks all that a case asks, under a ledger of its own.
+fn ask_all_counted(rt: HostRuntime, case: &Case, kind: ErrorKind) -> Result<(), Fail> {
+    ask_all::<Brand>(rt, Blank::new(1), case, kind)
 }
 
 /// Plays a case in the folder of now.
@@ -614,7 +639,7 @@ fn play(rt: HostRuntime, case: &Case, kind: ErrorKind) -> Result<(), Fail> {
     for change in case.folder {
         make(rt, change)?;
     }
-    must_come_counted(rt, case, kind)?;
+    ask_all_counted(rt, case, kind)?;
     for sight in case.left {
         must(is_seen(rt, sight)?, case.name, 100)?;
     }

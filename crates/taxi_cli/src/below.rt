@@ -2,6 +2,5 @@
 //! neighbours. A crate without tests of its own is proved once less.
 
 mod meter_states_tests;
-mod tariff_syntax_tests;
 mod tariff_texts;
 mod verify_bench_tests;

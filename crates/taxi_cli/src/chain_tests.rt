@@ -1,7 +1,7 @@
 //! Chains of runs and cuts of the power.
 ghost use Rattle.std.specs.Prelude.{◌≡◌, ◌<◌};
 
-use crate::run_tests::{HELD, HIRING, sealed};
+use crate::run_tests::{HELD, HIRING, RUN, sealed};
 use crate::store_tests::filled_or;
 use crate::tests::{A, P, files_of, must, must_behind, strings};
 use commands::{Row, Taximeter, chain, may_begin, row_in};
@@ -62,6 +62,15 @@ fn called(
     counted::<Brand>(alloc, Blank::new(1), words, files, image, cuts)
 }
 
+/// The files of runs of these drives, each with the numbers of its reads that fail.
+fn files_of_all(alloc: Global, drives: &[(&str, &[u64])]) -> Result<Vec<MemoryFiles>, Fail> {
+    let mut files = Vec::new(alloc);
+    for (drive, fail) in drives {
+        files.push(files_of(alloc, &[A, drive], fail)?)?;
+    }
+    Ok(files)
+}
+
 /// A chain of runs of these drives, each with the numbers of its reads that fail.
 pub(crate) fn chained(
     alloc: Global,
@@ -69,11 +78,8 @@ pub(crate) fn chained(
     image: &[u8; 2048],
     cuts: &[Cut],
 ) -> Result<Ended, Fail> {
-    let words = strings(alloc, &["run", "t", "d"])?;
-    let mut files = Vec::new(alloc);
-    for (drive, fail) in drives {
-        files.push(files_of(alloc, &[A, drive], fail)?)?;
-    }
+    let words = strings(alloc, RUN)?;
+    let mut files = files_of_all(alloc, drives)?;
     called(alloc, words.as_slice(), files.as_mut_slice(), image, cuts)
 }
 
@@ -138,9 +144,9 @@ const CHAINS: &[Chain] = &[
 /// Fails unless each of these chains over an image has its answers, and leaves the seal.
 fn must_chain_all(alloc: Global, image: &[u8; 2048], chains: &[Chain]) -> Result<(), Fail> {
     for (name, drives, cuts, answers) in chains {
-        let ended = chained(alloc, drives, image, cuts)?;
-        must(ended.1.as_slice() == *answers, "other answers", name)?;
-        must(ended.0[1024..] == image[1024..], "another seal", name)?;
+        let (left, found) = chained(alloc, drives, image, cuts)?;
+        let is_chained = found.as_slice() == *answers && left[1024..] == image[1024..];
+        must(is_chained, "other answers or another seal", name)?;
     }
     Ok(())
 }
@@ -178,11 +184,9 @@ fn must_name_all(
     moments: &[(u64, Fill, u64)],
 ) -> Result<(), Fail> {
     for &(call, fill, number) in moments {
-        let ended = chained(alloc, &[(HELD, &[])], image, &[Some((call, fill))])?;
-        let is_found = ended.1.as_slice() == [(0, number)].as_slice();
-        must_behind(is_found, "another number", call, fill)?;
-        let stays = call != 0 || ended.0 == *image;
-        must_behind(stays, "another image", call, fill)?;
+        let (left, found) = chained(alloc, &[(HELD, &[])], image, &[Some((call, fill))])?;
+        let is_named = found.as_slice() == [(0, number)].as_slice() && (call != 0 || left == *image);
+        must_behind(is_named, "another number or image", call, fill)?;
     }
     Ok(())
 }

@@ -1,74 +1,53 @@
 //! Each failure of the outside in turn, at each place of a run.
-use crate::chain_tests::chained;
+use crate::chain_tests::{Cut, chained};
 use crate::run_tests::{HELD, HIRING, RUN, has_totals, sealed};
-use crate::tests::{A, P, called, cut_in, must, must_at, must_behind};
+use crate::tests::{
+    A, Ended, FILLS, P, broken_off, called, cut_in, is_made_of, must, must_at, must_behind, whole,
+};
 use outside::{Fill, MemoryBoard};
 use std::alloc::Global;
 use std::test::Fail;
 
-/// What a cut makes of the bytes in flight.
-const FILLS: &[Fill] = &[
-    Fill::Old,
-    Fill::New,
-    Fill::Half,
-    Fill::Byte(0xA5),
-    Fill::Byte(0),
-];
+/// A chain of one run that isn't cut.
+const ONE: &[(&str, &[u64])] = &[(HIRING, &[])];
 
-/// The board after a run of a drive over an image, in which these calls of the board and these reads fail, and
-/// the run's status.
-fn ran(
-    alloc: Global,
-    image: &[u8; 2048],
-    drive: &str,
-    calls: &[u64],
-    reads: &[u64],
-) -> Result<(MemoryBoard, u8), Fail> {
-    called(alloc, RUN, &[A, drive], image, calls, reads)
+const NO_CUT: &[Cut] = &[None];
+
+/// Whether a run goes on over an image: it ends with 0, and its hiring has the number behind one from 1 to 3.
+fn goes_on(alloc: Global, image: &[u8; 2048]) -> Result<bool, Fail> {
+    let (_, answers) = chained(alloc, ONE, image, NO_CUT)?;
+    Ok(match answers.as_slice() {
+        [(status, number)] => *status == 0 && 2 <= *number && *number <= 4,
+        _ => false,
+    })
 }
 
 /// Fails unless a run goes on over what a cut leaves of a board, with each of these fills.
 fn must_go_on(alloc: Global, board: &MemoryBoard, number: u64, fills: &[Fill]) -> Result<(), Fail> {
     for fill in fills {
-        let image = cut_in(board, board.calls(), *fill);
-        let ended = chained(alloc, &[(HIRING, &[])], &image, &[None])?;
-        let goes_on = match ended.1.first() {
-            Some(answer) => answer.0 == 0,
-            None => false,
-        };
+        let goes_on = goes_on(alloc, &cut_in(board, board.calls(), *fill))?;
         must_behind(goes_on, "no run", number, *fill)?;
     }
     Ok(())
 }
 
-/// Fails unless the run breaks off where this call of the board fails, with no other call behind it, and another run
-/// goes on over what it leaves.
-fn must_break_off(
+/// Fails unless the run breaks off where this call of the board fails, and another run goes on over what it leaves.
+fn must_outlast(
     alloc: Global,
-    whole: &MemoryBoard,
     image: &[u8; 2048],
+    whole: &MemoryBoard,
     number: u64,
 ) -> Result<(), Fail> {
-    let (board, status) = ran(alloc, image, HELD, &[number], &[])?;
-    must_at(status == 8, "another status at call", number)?;
-    must_at(board.calls() == number, "another call behind call", number)?;
-    must_at(
-        whole.printed().starts_with(board.printed()),
-        "another text at call",
-        number,
-    )?;
+    let board = broken_off(alloc, image, RUN, &[A, HELD], whole.printed(), number)?;
     must_go_on(alloc, &board, number, FILLS)
 }
 
-/// Fails unless a run breaks off as it should at each call of the board.
-fn must_break_off_all(
-    alloc: Global,
-    whole: &MemoryBoard,
-    image: &[u8; 2048],
-    calls: u64,
-) -> Result<(), Fail> {
-    for number in 1..=calls {
-        must_break_off(alloc, whole, image, number)?;
+/// Fails unless that holds of each of the 28 calls of a run.
+fn must_outlast_each(alloc: Global, image: &[u8; 2048], run: &Ended) -> Result<(), Fail> {
+    let is_run = run.1 == 0 && run.0.calls() == 28;
+    must(is_run, "another run", "held")?;
+    for number in 1..=28 {
+        must_outlast(alloc, image, &run.0, number)?;
     }
     Ok(())
 }
@@ -78,60 +57,61 @@ fn must_break_off_all(
 #[test]
 fn runs_go_on_after_each_failed_call(rt: HostRuntime) -> Result<(), Fail> {
     let image = sealed(rt.alloc(), A, P)?;
-    let (whole, _) = ran(rt.alloc(), &image, HELD, &[], &[])?;
-    must(whole.calls() == 28, "another run", "held")?;
-    must_break_off_all(rt.alloc(), &whole, &image, 28)
+    let run = whole(rt.alloc(), RUN, &[A, HELD], &image)?;
+    must_outlast_each(rt.alloc(), &image, &run)
 }
 
-/// The reads of a hiring's files, of the tariff, its bytes and its end, and of the drive likewise, and how the totals
-/// begin where each fails. Before the last read all events of the drive were carried out.
-const READS: &[(u64, &str)] = &[
-    (1, "NUMBER 1\nDISTANCE 0.000 m\n"),
-    (2, "NUMBER 1\nDISTANCE 0.000 m\n"),
-    (3, "NUMBER 1\nDISTANCE 0.000 m\n"),
-    (
-        4,
-        "NUMBER 2\nDISTANCE 234.800 m\nHIRED 234.800 m\nHIRINGS 1\nSUPPLEMENTS 0.00\nFARE 3.80\nHELD no\n",
-    ),
+/// What the hiring shows. The digest is what sha256sum gives of tariff A.
+pub(crate) const SHOWN: &str =
+    "FOR HIRE T1 Z1\nHIRED T1 Z1 3.80 +0.00\nSTOPPED T1 Z1 3.80 +0.00\nRECEIPT 2\nKIND CLOSED\n\
+     TAXI LX-4711\nCONSTANT 10000\nSECURED 2025-12-01\n\
+     TARIFF 2645762409b70e5ab72a0a803b7d1a341373264e56971a8f44cb1969489d5f9b\n\
+     START 2026-01-01 01:00:00\nFINISH 2026-01-01 01:00:00\nPOSITION 1\nDISTANCE 234.800 m\n\
+     CALC 3.80 + 0 x 0.20\nFARE 3.80\nSUPPLEMENTS 0.00\nTOTAL 3.80\nEND\nFOR HIRE T1 Z1\n";
+
+/// The totals of a newly sealed store, and those behind the hiring.
+const NONE: &str = "NUMBER 1\nDISTANCE 0.000 m\n";
+
+const ADDED: &str =
+    "NUMBER 2\nDISTANCE 234.800 m\nHIRED 234.800 m\nHIRINGS 1\nSUPPLEMENTS 0.00\nFARE 3.80\nHELD no\nLAYOUT 2\n";
+
+/// A drive that ends in a hiring, and what it shows.
+const BEGUN: &str = "U 1767225600\nK H\nI 0 1\n";
+
+const SHOWN_OF_BEGUN: &str = "FOR HIRE T1 Z1\nHIRED T1 Z1 3.80 +0.00\n";
+
+/// A drive, the read that fails, the pieces of what is printed, the status, and how the totals begin behind it. Reads 1
+/// and 2 are the tariff's, and 3 and 4 the drive's; before read 4 all events of the drive were carried out, and there
+/// is no read 5.
+type Reading = (&'static str, u64, &'static [&'static str], u8, &'static str);
+
+const READS: &[Reading] = &[
+    (HIRING, 1, &["READ FAULT\n"], 7, NONE),
+    (HIRING, 2, &["READ FAULT\n"], 7, NONE),
+    (HIRING, 3, &["READ FAULT\n"], 7, NONE),
+    (HIRING, 4, &[SHOWN, "READ FAULT\n"], 7, ADDED),
+    (HIRING, 5, &[SHOWN], 0, ADDED),
+    (BEGUN, 4, &[SHOWN_OF_BEGUN, "READ FAULT\n"], 7, "NUMBER 2\n"),
 ];
 
-/// Fails unless a run ends with the line of this read's fault, and the totals behind it begin with this text.
-fn must_fail_to_read(
-    alloc: Global,
-    image: &[u8; 2048],
-    read: u64,
-    totals: &str,
-) -> Result<(), Fail> {
-    let (board, status) = ran(alloc, image, HIRING, &[], &[read])?;
-    must_at(status == 7, "another status at read", read)?;
-    must_at(
-        board.printed().ends_with(b"READ FAULT\n"),
-        "another line at read",
-        read,
-    )?;
-    must_at(
-        has_totals(alloc, board.image(), totals)?,
-        "other totals at read",
-        read,
-    )
+/// Whether a run over an image ends as it should.
+fn ends(alloc: Global, image: &[u8; 2048], reading: &Reading) -> Result<bool, Fail> {
+    let (drive, read, output, status, totals) = *reading;
+    let ended = called(alloc, RUN, &[A, drive], image, &[], &[read])?;
+    let is_end = ended.1 == status && is_made_of(ended.0.printed(), output);
+    Ok(has_totals(alloc, ended.0.image(), totals)? && is_end)
 }
 
-/// Fails unless each of these reads that fails ends the call as it should.
-fn must_fail_to_read_all(
-    alloc: Global,
-    image: &[u8; 2048],
-    reads: &[(u64, &str)],
-) -> Result<(), Fail> {
-    for (read, totals) in reads {
-        must_fail_to_read(alloc, image, *read, totals)?;
+/// Fails unless each of these runs over an image ends as it should.
+fn must_end_all(alloc: Global, image: &[u8; 2048], readings: &[Reading]) -> Result<(), Fail> {
+    for reading in readings {
+        let ends = ends(alloc, image, reading)?;
+        must_at(ends, "another end or other totals at read", reading.1)?;
     }
     Ok(())
 }
 
 #[test]
 fn each_read_fails(rt: HostRuntime) -> Result<(), Fail> {
-    let image = sealed(rt.alloc(), A, P)?;
-    must_fail_to_read_all(rt.alloc(), &image, READS)?;
-    let (_, status) = ran(rt.alloc(), &image, HIRING, &[], &[5])?;
-    must_at(status == 0, "another status at read", 5)
+    must_end_all(rt.alloc(), &sealed(rt.alloc(), A, P)?, READS)
 }

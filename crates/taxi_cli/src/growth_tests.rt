@@ -1,32 +1,33 @@
 //! A run over a board in memory, for bench/growths, which refuses one growth of memory after the other in it.
-use crate::run_tests::{HIRING, RUN, SHOWN, is_made_of};
-use crate::store_tests::{DIGEST, SECOND_LAYOUT, image_of};
+use crate::failure_tests::SHOWN;
+use crate::run_tests::{HIRING, RUN};
+use crate::store_tests::{SECOND_LAYOUT, image_of};
 use crate::tests::{A, call};
 use outside::MemoryBoard;
 use std::test::Fail;
 
 /// A store as sealing leaves it, made without memory: number 1, totals of zero, no held trip.
 fn sealed_image() -> [u8; 2048] {
-    let sealed = image_of(SECOND_LAYOUT);
-    let mut image = [0; 2048];
-    image[1024..].copy_from_slice(&sealed[1024..]);
-    image[1056..1088].copy_from_slice(&DIGEST);
+    let mut image = image_of(SECOND_LAYOUT);
+    image[..1024].fill(0);
     for (place, byte) in [(0, 0xA5), (8, 1), (511, 2)] {
         image[place] = byte;
     }
     image
 }
 
-/// Whether a text is a beginning of these pieces in a row.
-fn begins(text: &[u8], pieces: &[&str]) -> bool {
-    let mut rest = text;
-    for piece in pieces {
-        match rest.strip_prefix(piece.as_bytes()) {
-            Some(more) => rest = more,
-            None => return piece.as_bytes().starts_with(rest),
-        }
+/// How a run of a hiring over an image ended.
+fn told(image: &[u8; 2048], board: &MemoryBoard, status: u8) -> Result<(), Fail> {
+    if status == 0 && board.printed() == SHOWN.as_bytes() {
+        return Ok(());
     }
-    rest.is_empty()
+    if status == 12 && board.printed() == b"NO MEMORY\n".as_slice() && *board.image() == *image {
+        return Err(Fail::new("memory ran out before the run"));
+    }
+    if status == 8 && board.refused() > 0 && SHOWN.as_bytes().starts_with(board.printed()) {
+        return Err(Fail::new("the board had no memory"));
+    }
+    Err(Fail::new("the run ended otherwise"))
 }
 
 /// The hiring is carried out whole; or memory runs out before it begins, with 12 and nothing written; or the board has
@@ -36,14 +37,5 @@ fn a_hiring(rt: HostRuntime) -> Result<(), Fail> {
     let image = sealed_image();
     let mut board = MemoryBoard::new(rt.alloc(), &image, &[])?;
     let status = call(rt.alloc(), RUN, &[A, HIRING], &[], &mut board)?;
-    if status == 0 && is_made_of(board.printed(), SHOWN) {
-        return Ok(());
-    }
-    if status == 12 && board.printed() == b"NO MEMORY\n".as_slice() && *board.image() == image {
-        return Err(Fail::new("memory ran out before the run"));
-    }
-    if status == 8 && board.refused() > 0 && begins(board.printed(), SHOWN) {
-        return Err(Fail::new("the board had no memory"));
-    }
-    Err(Fail::new("the run ended otherwise"))
+    told(&image, &board, status)
 }

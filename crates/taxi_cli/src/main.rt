@@ -4,29 +4,19 @@
 #[cfg(test)]
 mod below;
 #[cfg(test)]
-mod bench_tests;
-#[cfg(test)]
 mod chain_tests;
-#[cfg(test)]
-mod compare_tests;
 #[cfg(test)]
 mod failure_tests;
 #[cfg(test)]
-mod form_tests;
-#[cfg(test)]
 mod growth_tests;
-#[cfg(test)]
-mod lines_tests;
 #[cfg(test)]
 mod many_cuts_tests;
 #[cfg(test)]
-mod port_tests;
+mod piece_tests;
 #[cfg(test)]
 mod run_tests;
 #[cfg(test)]
 mod seal_tests;
-#[cfg(test)]
-mod sealed_tests;
 #[cfg(test)]
 mod shifts_tests;
 #[cfg(test)]

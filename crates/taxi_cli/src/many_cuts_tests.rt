@@ -2,7 +2,7 @@
 ghost use Rattle.std.specs.Prelude.{◌≡◌, ◌<◌};
 
 use crate::run_tests::{CITY, RUN, sealed};
-use crate::tests::{FILLS, P, called, cut_in, must};
+use crate::tests::{Ended, FILLS, P, called, cut_in, must};
 use outside::{Fill, MemoryBoard, QuietBoard};
 use receipt_text::read_receipt;
 use slot_store::{Found, scan};
@@ -170,50 +170,15 @@ fn sums_of(durable: &Durable) -> Sums {
     }
 }
 
-/// The board after a run of a drive over an image, of which a call fails, and the run's status.
-fn ran(
-    alloc: Global,
-    image: &[u8; 2048],
-    drive: &str,
-    fail: &[u64],
-) -> Result<(MemoryBoard, u8), Fail> {
-    called(alloc, RUN, &[CITY, drive], image, fail, &[])
+/// Whether a run ended as it should where a call of the board fails or not: with a beginning of what the whole one
+/// prints.
+fn is_begun(run: &Ended, whole: &[u8], fails: bool) -> bool {
+    (run.1 == 8) == fails && whole.starts_with(run.0.printed())
 }
 
-/// A run that is broken off at a call of the board, and what a cut then leaves of it.
-fn cut_off(
-    alloc: Global,
-    image: &[u8; 2048],
-    drive: &str,
-    whole: &MemoryBoard,
-    dice: &mut Dice,
-) -> Result<([u8; 2048], MemoryBoard), Fail> {
-    let number = dice
-        .below(whole.calls().saturating_add(2))
-        .saturating_add(1);
-    let (board, status) = ran(alloc, image, drive, &[number])?;
-    let fails = number <= whole.calls();
-    must(
-        (status == 8) == fails,
-        "a failed call has another status",
-        drive,
-    )?;
-    must(
-        whole.printed().starts_with(board.printed()),
-        "a text isn't that of the run",
-        drive,
-    )?;
-    let fill = FILLS
-        .get(dice.below(6) as usize)
-        .copied()
-        .unwrap_or(Fill::Old);
-    Ok((cut_in(&board, board.calls(), fill), board))
-}
-
-/// Fails unless each receipt that a board has printed has at most this number.
-fn must_have_entries(alloc: Global, board: &MemoryBoard, number: u64) -> Result<(), Fail> {
-    let printed = receipts_in(alloc, board.printed())?;
-    for receipt in printed.as_slice() {
+/// Fails unless each receipt in a text has at most this number.
+fn must_have_entries(alloc: Global, text: &[u8], number: u64) -> Result<(), Fail> {
+    for receipt in receipts_in(alloc, text)?.as_slice() {
         must(receipt.number <= number, "an entry is lost", "a receipt")?;
     }
     Ok(())
@@ -229,24 +194,66 @@ fn has_aborted(receipts: &[Receipt]) -> bool {
     false
 }
 
-/// What a cut leaves of a run that breaks off at a call of the board, and whether the whole run aborts a trip. Fails
-/// unless each receipt that was printed has an entry by its number, and the sums are those that are found.
+/// Runs a drive that is broken off at a call of the board, and leaves the image that a cut then leaves. Fails unless it
+/// prints a beginning of the whole run.
+fn cut_off(
+    alloc: Global,
+    image: &mut [u8; 2048],
+    drive: &str,
+    whole: &MemoryBoard,
+    dice: &mut Dice,
+) -> Result<MemoryBoard, Fail> {
+    let calls = whole.calls();
+    let number = dice.below(calls.saturating_add(2)).saturating_add(1);
+    let run = called(alloc, RUN, &[CITY, drive], image, &[number], &[])?;
+    must(is_begun(&run, whole.printed(), number <= calls), "another run", drive)?;
+    let fill = FILLS.get(dice.below(6) as usize).copied().unwrap_or(Fill::Old);
+    *image = cut_in(&run.0, run.0.calls(), fill);
+    Ok(run.0)
+}
+
+/// The durable state behind a run that is broken off and cut. Fails unless each receipt that it printed has an entry by
+/// its number.
+fn found_behind(
+    alloc: Global,
+    image: &mut [u8; 2048],
+    drive: &str,
+    whole: &MemoryBoard,
+    dice: &mut Dice,
+) -> Result<Durable, Fail> {
+    let board = cut_off(alloc, image, drive, whole, dice)?;
+    let found = stored(image).ok_or("no state")?;
+    must_have_entries(alloc, board.printed(), found.number)?;
+    Ok(found)
+}
+
+/// Adds the receipts of a whole run that have an entry. Fails unless the sums are those that are found; tells whether
+/// a trip was aborted.
+fn adds_up(
+    alloc: Global,
+    text: &[u8],
+    found: &Durable,
+    sums: &mut Sums,
+) -> Result<bool, Fail> {
+    let receipts = receipts_in(alloc, text)?;
+    *sums = added(*sums, receipts.as_slice(), found.number);
+    must(sums_of(found) == *sums, "the totals are others", "a run")?;
+    Ok(has_aborted(receipts.as_slice()))
+}
+
+/// Runs a drive that is broken off and cut, and tells whether the whole run aborts a trip. Fails unless each receipt
+/// has its entry, and the sums are those that are found.
 fn broken_off(
     alloc: Global,
-    image: &[u8; 2048],
+    image: &mut [u8; 2048],
     drive: &str,
     dice: &mut Dice,
     sums: &mut Sums,
-) -> Result<([u8; 2048], bool), Fail> {
-    let (whole, status) = ran(alloc, image, drive, &[])?;
+) -> Result<bool, Fail> {
+    let (whole, status) = called(alloc, RUN, &[CITY, drive], image, &[], &[])?;
     must(status == 0, "a run fails", drive)?;
-    let (left, board) = cut_off(alloc, image, drive, &whole, dice)?;
-    let found = stored(&left).ok_or("no state")?;
-    must_have_entries(alloc, &board, found.number)?;
-    let receipts = receipts_in(alloc, whole.printed())?;
-    *sums = added(*sums, receipts.as_slice(), found.number);
-    must(sums_of(&found) == *sums, "the totals are others", drive)?;
-    Ok((left, has_aborted(receipts.as_slice())))
+    let found = found_behind(alloc, image, drive, &whole, dice)?;
+    adds_up(alloc, whole.printed(), &found, sums)
 }
 
 /// Each receipt that was printed has its entry among those that are found after a cut, and the totals are those of
@@ -265,8 +272,7 @@ fn a_hundred_cuts(rt: HostRuntime) -> Result<(), Fail> {
     let mut runs_that_aborted = 0u64;
     for _cut in 0..100 {
         let drive = drive_of(rt.alloc(), &mut second, &mut dice)?;
-        let (left, aborted) = broken_off(rt.alloc(), &image, drive.as_str(), &mut dice, &mut sums)?;
-        image = left;
+        let aborted = broken_off(rt.alloc(), &mut image, drive.as_str(), &mut dice, &mut sums)?;
         runs_that_aborted = runs_that_aborted.saturating_add(aborted as u64);
     }
     must(

@@ -1,28 +1,21 @@
 //! Sealings over boards in memory, with a cut in each call, and with each call failing.
 use crate::store_tests::{SECOND_LAYOUT, image_of};
-use crate::tests::{A, P, ZEROS, called, cut_in, cuts_of, must, must_at, must_behind};
+use crate::tests::{A, Ended, P, ZEROS, broken_off, cut_in, cuts_of, must, must_behind, whole};
 use outside::{Fill, MemoryBoard};
 use std::alloc::Global;
 use std::test::Fail;
 
 const WORDS: &[&str] = &["seal", "t", "p"];
 
-/// What a call of these words prints over what a cut in a sealing left, and its status.
+/// A call of these words over what a cut in a sealing left.
 fn call_after_cut(
     alloc: Global,
     words: &[&str],
     sealed: &MemoryBoard,
     number: u64,
     fill: Fill,
-) -> Result<(MemoryBoard, u8), Fail> {
-    called(
-        alloc,
-        words,
-        &[A, P],
-        &cut_in(sealed, number, fill),
-        &[],
-        &[],
-    )
+) -> Result<Ended, Fail> {
+    whole(alloc, words, &[A, P], &cut_in(sealed, number, fill))
 }
 
 /// Fails unless `totals` finds no totals over a cut in this call of a first sealing, or totals of nothing, and the seal
@@ -45,13 +38,19 @@ fn must_be_cut_all(alloc: Global, sealed: &MemoryBoard, cuts: &[(u64, Fill)]) ->
     Ok(())
 }
 
+/// Fails unless `totals` finds what it may over a cut in each of the 15 calls of a first sealing.
+fn must_outlast_cuts(alloc: Global, sealed: &Ended) -> Result<(), Fail> {
+    let is_sealed = sealed.1 == 0 && sealed.0.calls() == 15;
+    must(is_sealed, "another sealing", "the first")?;
+    let cuts = cuts_of(alloc, 15)?;
+    must_be_cut_all(alloc, &sealed.0, cuts.as_slice())
+}
+
 /// A cut in each call of a first sealing.
 #[test]
 fn cuts_through_a_first_sealing(rt: HostRuntime) -> Result<(), Fail> {
-    let (sealed, status) = called(rt.alloc(), WORDS, &[A, P], ZEROS, &[], &[])?;
-    must(status == 0, "another status", "sealed")?;
-    let cuts = cuts_of(rt.alloc(), sealed.calls())?;
-    must_be_cut_all(rt.alloc(), &sealed, cuts.as_slice())
+    let sealed = whole(rt.alloc(), WORDS, &[A, P], ZEROS)?;
+    must_outlast_cuts(rt.alloc(), &sealed)
 }
 
 /// Fails unless another sealing over a cut in this call of a sealing leaves the totals, and gives the next seal the
@@ -65,11 +64,10 @@ fn must_be_sealed(
 ) -> Result<(), Fail> {
     let (board, status) = call_after_cut(alloc, WORDS, sealed, number, fill)?;
     let stays = status == 0 && board.image()[..1024] == image[..1024];
-    must_behind(stays, "other totals", number, fill)?;
     let old = board.printed() == b"SEALED 2\n".as_slice();
     let new = board.printed() == b"SEALED 3\n".as_slice();
     let is_found = (old && number < 11) || (new && 8 < number);
-    must_behind(is_found, "another number", number, fill)
+    must_behind(stays && is_found, "other totals or another number", number, fill)
 }
 
 /// Fails unless another sealing does as it should over each of these cuts of a sealing.
@@ -85,35 +83,33 @@ fn must_be_sealed_all(
     Ok(())
 }
 
+/// Fails unless another sealing does as it should over a cut in each call of a sealing over this image.
+fn must_seal_again(alloc: Global, sealed: &Ended, image: &[u8; 2048]) -> Result<(), Fail> {
+    must(sealed.1 == 0, "another status", "sealed")?;
+    let cuts = cuts_of(alloc, sealed.0.calls())?;
+    must_be_sealed_all(alloc, &sealed.0, image, cuts.as_slice())
+}
+
 /// A cut in each call of a sealing over totals and a seal.
 #[test]
 fn cuts_through_a_second_sealing(rt: HostRuntime) -> Result<(), Fail> {
     let image = image_of(SECOND_LAYOUT);
-    let (sealed, status) = called(rt.alloc(), WORDS, &[A, P], &image, &[], &[])?;
-    must(status == 0, "another status", "sealed")?;
-    let cuts = cuts_of(rt.alloc(), sealed.calls())?;
-    must_be_sealed_all(rt.alloc(), &sealed, &image, cuts.as_slice())
+    let sealed = whole(rt.alloc(), WORDS, &[A, P], &image)?;
+    must_seal_again(rt.alloc(), &sealed, &image)
 }
 
-/// Fails unless a first sealing of which this call fails makes no other behind it, and prints nothing, and the next
-/// call finds what it may where all that was written is there.
-fn must_break_off(alloc: Global, failed: u64) -> Result<(), Fail> {
-    let (sealed, status) = called(alloc, WORDS, &[A, P], ZEROS, &[failed], &[])?;
-    let is_last = status == 8 && sealed.calls() == failed && sealed.printed().is_empty();
-    must_at(is_last, "another end at call", failed)?;
-    must_be_cut(alloc, &sealed, failed, Fill::New)
+/// Fails unless a first sealing of which this call fails ends there without a print, and the next call finds what it
+/// may where all that was written is there.
+fn must_break_off(alloc: Global, number: u64) -> Result<(), Fail> {
+    let board = broken_off(alloc, ZEROS, WORDS, &[A, P], b"SEALED 1\n", number)?;
+    must_be_cut(alloc, &board, number, Fill::New)
 }
 
-/// Fails unless a first sealing breaks off so at each of its calls.
-fn must_break_off_all(alloc: Global, calls: u64) -> Result<(), Fail> {
-    for failed in 1..=calls {
-        must_break_off(alloc, failed)?;
-    }
-    Ok(())
-}
-
-/// Each call of the board that fails in a first sealing: six of two scans, eight that write and sync, and a print.
+/// Each of the 15 calls of the board fails in a first sealing: six of two scans, eight that write and sync, and a print.
 #[test]
 fn failing_boards(rt: HostRuntime) -> Result<(), Fail> {
-    must_break_off_all(rt.alloc(), 15)
+    for number in 1..=15 {
+        must_break_off(rt.alloc(), number)?;
+    }
+    Ok(())
 }

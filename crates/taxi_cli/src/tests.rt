@@ -1,7 +1,6 @@
 //! Calls of the program, over files and a board in memory.
 ghost use Rattle.std.specs.Prelude.{◌≡◌, ◌<◌};
 
-use crate::run_tests::is_made_of;
 use commands::taxi;
 use outside::{Fill, MemoryBoard, MemoryFiles};
 use std::alloc::Global;
@@ -34,14 +33,8 @@ pub(crate) const ZEROS: &[u8; 2048] = &[0; 2048];
 /// A store that a call which doesn't look at it may find.
 pub(crate) const SEVENS: &[u8; 2048] = &[7; 2048];
 
-/// Words of `fare` with a constant of 10,000.
-const FARE: &[&str] = &["fare", "t", "d", "10000"];
-
-const CHECK: &[&str] = &["check", "t"];
-
-const TABLES: &[&str] = &["tables", "t", "10000"];
-
-const FIRST: &str = "U 1767225600\nK H\nI 0 1\nI 0 504\nI 0 1\n";
+/// Neither a call of the board nor a read fails.
+pub(crate) const CALM: (u64, u64) = (0, 0);
 
 /// A call under a new counter.
 pub(crate) fn counted<L: Ledger>(
@@ -79,6 +72,9 @@ pub(crate) fn files_of(alloc: Global, texts: &[&str], fail: &[u64]) -> Result<Me
     Ok(files)
 }
 
+/// The board behind a call, and the call's status.
+pub(crate) type Ended = (MemoryBoard, u8);
+
 /// The status of a call of these words on a board, where the files have these texts and these reads fail.
 pub(crate) fn call(
     alloc: Global,
@@ -92,7 +88,7 @@ pub(crate) fn call(
     Ok(counted::<Brand>(alloc, Blank::new(1), words.as_slice(), &mut files, board))
 }
 
-/// The board after a call over an image, and the call's status, where these calls of the board and these reads fail.
+/// A call over an image, where these calls of the board and these reads fail.
 pub(crate) fn called(
     alloc: Global,
     words: &[&str],
@@ -100,10 +96,20 @@ pub(crate) fn called(
     image: &[u8; 2048],
     calls: &[u64],
     reads: &[u64],
-) -> Result<(MemoryBoard, u8), Fail> {
+) -> Result<Ended, Fail> {
     let mut board = MemoryBoard::new(alloc, image, calls)?;
     let status = call(alloc, words, texts, reads, &mut board)?;
     Ok((board, status))
+}
+
+/// A call over an image in which nothing fails.
+pub(crate) fn whole(
+    alloc: Global,
+    words: &[&str],
+    texts: &[&str],
+    image: &[u8; 2048],
+) -> Result<Ended, Fail> {
+    called(alloc, words, texts, image, &[], &[])
 }
 
 /// Fails unless something holds of the case with this name.
@@ -130,22 +136,21 @@ pub(crate) fn must_behind(holds: bool, what: &str, call: u64, fill: Fill) -> Res
     Err(Fail::new(format_args!("{what} behind call {call}, {fill:?}")))
 }
 
-/// A call of the program: its words, the texts of the files of words 1, 2 and on, the call of the board and the read
-/// that fail, or 0, the pieces of what it prints, and its status.
-pub(crate) type Call = (
-    &'static [&'static str],
-    &'static [&'static str],
-    (u64, u64),
-    &'static [&'static str],
-    u8,
-);
+/// Whether a text is these pieces in a row.
+pub(crate) fn is_made_of(text: &[u8], pieces: &[&str]) -> bool {
+    let mut rest = text;
+    for piece in pieces {
+        match rest.strip_prefix(piece.as_bytes()) {
+            Some(more) => rest = more,
+            None => return false,
+        }
+    }
+    rest.is_empty()
+}
 
-/// Neither a call of the board nor a read fails.
-pub(crate) const CALM: (u64, u64) = (0, 0);
-
-/// In what a call that ended so over an image differs from its answer, if in anything.
+/// In what a call over an image differs from its answer, if in anything.
 fn difference(
-    ended: &(MemoryBoard, u8),
+    ended: &Ended,
     image: &[u8; 2048],
     output: &[&str],
     status: u8,
@@ -183,14 +188,97 @@ pub(crate) fn must_answer(
     }
 }
 
-/// Fails unless each of these calls over an image has its answer, and leaves the image.
-pub(crate) fn must_answer_all(
+/// Whether a call over an image prints this text and ends with 0.
+pub(crate) fn prints(
+    alloc: Global,
+    image: &[u8; 2048],
+    words: &[&str],
+    texts: &[&str],
+    text: &str,
+) -> Result<bool, Fail> {
+    let ended = whole(alloc, words, texts, image)?;
+    Ok(ended.1 == 0 && ended.0.printed() == text.as_bytes())
+}
+
+/// Whether a call ends with 8 at this call of the board, which is its last one, in front of the end of a text.
+fn is_broken_off(ended: &Ended, text: &[u8], number: u64) -> bool {
+    let is_begun = text.starts_with(ended.0.printed()) && text != ended.0.printed();
+    is_begun && ended.1 == 8 && ended.0.calls() == number
+}
+
+/// The board behind a call of which this call of the board fails. Fails itself unless the call ends there with 8, and
+/// has printed a beginning of this text.
+pub(crate) fn broken_off(
+    alloc: Global,
+    image: &[u8; 2048],
+    words: &[&str],
+    texts: &[&str],
+    text: &[u8],
+    number: u64,
+) -> Result<MemoryBoard, Fail> {
+    let ended = called(alloc, words, texts, image, &[number], &[])?;
+    if is_broken_off(&ended, text, number) {
+        return Ok(ended.0);
+    }
+    Err(Fail::new(format_args!("another end at call {number}: {words:?}, over {texts:?}")))
+}
+
+/// Fails unless a call breaks off at each call of the board that fails, where none of the whole one fails.
+pub(crate) fn must_break_off(
+    alloc: Global,
+    image: &[u8; 2048],
+    words: &[&str],
+    texts: &[&str],
+    whole: &MemoryBoard,
+) -> Result<(), Fail> {
+    for number in 1..=whole.calls() {
+        let _board = broken_off(alloc, image, words, texts, whole.printed(), number)?;
+    }
+    Ok(())
+}
+
+/// Fails unless a call ends with 7 and the line of the fault alone at each of its first reads that fails.
+fn must_fail_to_read(
+    alloc: Global,
+    image: &[u8; 2048],
+    words: &[&str],
+    texts: &[&str],
+    reads: u64,
+) -> Result<(), Fail> {
+    for read in 1..=reads {
+        must_answer(alloc, image, words, texts, (0, read), &["READ FAULT\n"], 7)?;
+    }
+    Ok(())
+}
+
+/// A call of the program: its words, the texts of the files of words 1, 2 and on, how many reads it makes before its
+/// first print, the pieces of what it prints, and its status.
+pub(crate) type Call = (
+    &'static [&'static str],
+    &'static [&'static str],
+    u64,
+    &'static [&'static str],
+    u8,
+);
+
+/// Fails unless a call over an image has its answer, and ends as it should where a read or a call of the board fails.
+/// It leaves the image.
+fn must_carry_out(alloc: Global, image: &[u8; 2048], call: &Call) -> Result<(), Fail> {
+    let (words, texts, reads, output, status) = *call;
+    must_answer(alloc, image, words, texts, CALM, output, status)?;
+    must_fail_to_read(alloc, image, words, texts, reads)?;
+    let (board, _) = whole(alloc, words, texts, image)?;
+    must_break_off(alloc, image, words, texts, &board)
+}
+
+/// Fails unless each of these calls over an image does.
+pub(crate) fn must_carry_out_all(
     alloc: Global,
     image: &[u8; 2048],
     calls: &[Call],
 ) -> Result<(), Fail> {
-    for (words, texts, failing, output, status) in calls {
-        must_answer(alloc, image, words, texts, *failing, output, *status)?;
+    for call in calls {
+        must_carry_out(alloc, image, call)?;
     }
     Ok(())
 }
@@ -217,15 +305,6 @@ pub(crate) fn cut_in(board: &MemoryBoard, call: u64, fill: Fill) -> [u8; 2048] {
     board.cut(call.min(board.calls()), fill)
 }
 
-/// These texts, one after the other.
-pub(crate) fn joined(alloc: Global, pieces: &[&str]) -> Result<String, Fail> {
-    let mut text = String::new(alloc);
-    for piece in pieces {
-        text.push_str(piece)?;
-    }
-    Ok(text)
-}
-
 /// A text, and behind it another one `count` times.
 pub(crate) fn repeated(
     alloc: Global,
@@ -240,19 +319,34 @@ pub(crate) fn repeated(
     Ok(text)
 }
 
-/// What the first drive shows under tariff A.
-const SHOWN: &str = "FOR HIRE T1 Z1\nHIRED T1 Z1 3.80 +0.00\nHIRED T1 Z1 4.00 +0.00\n";
+/// A drive, and what it shows under tariff A.
+pub(crate) const FIRST: &str = "U 1767225600\nK H\nI 0 1\nI 0 504\nI 0 1\n";
+
+pub(crate) const SHOWN: &str =
+    "FOR HIRE T1 Z1\nHIRED T1 Z1 3.80 +0.00\nHIRED T1 Z1 4.00 +0.00\n";
 
 /// Tariff A under a constant of 10,000, as rows.
 const ROWS: &str =
     "MEASURE 1479240000\nRATE 1 25200000 117400000\nINITIAL 1 3.80 0.40\nCELL 0 1 1\nCELL 1 1 1\nCELL 2 1 1\n\
      CELL 3 1 1\nCELL 4 1 1\nCELL 5 1 1\nCELL 6 1 1\n";
 
-/// Summer time of the European Union, where the clock is an hour ahead of UTC in winter.
+/// When its lines first count.
+const LINES: &str =
+    "3 initial holds T1 Z1 thu 2026-01-01 00:00\n4 rate holds T1 Z1 thu 2026-01-01 00:00 0 t 0 p\n";
+
+/// The tariff A with another measure of time, and what differs.
+const B: &str =
+    "decimals 2\nstep 0.20 ahead\ninitial 3.80 covers 0.40\nrate 0.20 per 117.4 m, 0.20 per 25.3 s\n";
+
+const DIFFERENT: &str =
+    "DIFFERENT RATE T1 Z1 thu 2026-01-01 00:00 0 t 0 p\n4 rate 0.20 per 117.4 m, 0.20 per 25.2 s\n\
+     4 rate 0.20 per 117.4 m, 0.20 per 25.3 s\n";
+
+/// Summer time of the European Union, where the clock is an hour ahead of UTC in winter, and its offsets of a year.
 const NORTH: &str =
     "standard 3600\nsummer 7200\nbegin last sun mar 01:00\nend last sun oct 01:00\n";
 
-const EXPLAIN: &[&str] = &["explain", "t", "d", "p"];
+const NORTH_2026: &str = "offset 946684800 3600\noffset 1774746000 7200\noffset 1792890000 3600\n";
 
 /// The first drive, and the trip of it stopped and cleared.
 const FIRST_CLEARED: &str = "U 1767225600\nK H\nI 0 1\nI 0 504\nI 0 1\nK S\nI 0 1\nK C\nI 0 1\n";
@@ -264,10 +358,6 @@ const EXPLAINED: &str =
      STOPPED 0.000 m 0.1 s\nCHARGED 0.401587 59404400000 / 1479240000\nCALC 3.80 + 1 x 0.20\nFARE 4.00\n\
      SUPPLEMENTS 0.00\nTOTAL 4.00\nEND\n";
 
-const OFFSETS: &[&str] = &["offsets", "r", "2026", "2026"];
-
-const NORTH_2026: &str = "offset 946684800 3600\noffset 1774746000 7200\noffset 1792890000 3600\n";
-
 /// What `gen 7 1` prints, by a program of its own in another language.
 const GENERATED: &str =
     "GEN 7 1\nEVENTS 4662\nNUMBER 2\nDISTANCE 2129.500 m\nHIRED 1751.500 m\nHIRINGS 1\nSUPPLEMENTS 5.00\n\
@@ -275,80 +365,19 @@ const GENERATED: &str =
 
 /// Each command that doesn't look at the store, and words that are none.
 const WITHOUT_STORE: &[Call] = &[
-    (CHECK, &[A], CALM, &["OK CELLS 7 MEASURE 147924\n"], 0),
-    (TABLES, &[A], CALM, &[ROWS], 0),
-    (FARE, &[A, FIRST], CALM, &[SHOWN], 0),
-    (OFFSETS, &[NORTH], CALM, &[NORTH_2026], 0),
-    (EXPLAIN, &[A, FIRST_CLEARED, P], CALM, &[EXPLAINED], 0),
-    (&["gen", "7", "1"], &[""], CALM, &[GENERATED], 0),
-    (
-        &["Fare", "t", "d", "10000"],
-        &[A, FIRST],
-        CALM,
-        &["BAD WORDS\n"],
-        1,
-    ),
+    (&["check", "t"], &[A], 2, &["OK CELLS 7 MEASURE 147924\n"], 0),
+    (&["form", "t"], &[A], 2, &[A], 0),
+    (&["tables", "t", "10000"], &[A], 2, &[ROWS], 0),
+    (&["lines", "t", "10000"], &[A], 2, &[LINES], 0),
+    (&["compare", "t", "u", "10000"], &[A, B], 4, &[DIFFERENT], 11),
+    (&["fare", "t", "d", "10000"], &[A, FIRST], 3, &[SHOWN], 0),
+    (&["offsets", "r", "2026", "2026"], &[NORTH], 2, &[NORTH_2026], 0),
+    (&["explain", "t", "d", "p"], &[A, FIRST_CLEARED, P], 6, &[EXPLAINED], 0),
+    (&["gen", "7", "1"], &[], 0, &[GENERATED], 0),
+    (&["Fare", "t", "d", "10000"], &[A, FIRST], 0, &["BAD WORDS\n"], 1),
 ];
 
 #[test]
 fn commands_without_a_store(rt: HostRuntime) -> Result<(), Fail> {
-    must_answer_all(rt.alloc(), SEVENS, WITHOUT_STORE)
-}
-
-/// A read fails, or a print, or both. Reads 1 and 2 are the tariff's or the rules', 3 and 4 the drive's; of `explain` 3
-/// and 4 are the parameters', and 5 and 6 the drive's.
-const FAILURES: &[Call] = &[
-    (FARE, &[A, FIRST], (0, 1), &["READ FAULT\n"], 7),
-    (FARE, &[A, FIRST], (0, 2), &["READ FAULT\n"], 7),
-    (FARE, &[A, FIRST], (0, 3), &["READ FAULT\n"], 7),
-    (FARE, &[A, FIRST], (0, 4), &[SHOWN, "READ FAULT\n"], 7),
-    (FARE, &[A, FIRST], (1, 0), &[""], 8),
-    (
-        FARE,
-        &[A, FIRST],
-        (3, 0),
-        &["FOR HIRE T1 Z1\nHIRED T1 Z1 3.80 +0.00\n"],
-        8,
-    ),
-    (FARE, &[A, FIRST], (1, 1), &[""], 8),
-    (TABLES, &[A], (2, 0), &["MEASURE 1479240000\n"], 8),
-    (
-        EXPLAIN,
-        &[A, FIRST_CLEARED, P],
-        (0, 1),
-        &["READ FAULT\n"],
-        7,
-    ),
-    (
-        EXPLAIN,
-        &[A, FIRST_CLEARED, P],
-        (0, 3),
-        &["READ FAULT\n"],
-        7,
-    ),
-    (
-        EXPLAIN,
-        &[A, FIRST_CLEARED, P],
-        (0, 6),
-        &["READ FAULT\n"],
-        7,
-    ),
-    (EXPLAIN, &[A, FIRST_CLEARED, P], (1, 0), &[""], 8),
-    (OFFSETS, &[NORTH], (0, 1), &["READ FAULT\n"], 7),
-    (OFFSETS, &[NORTH], (0, 2), &["READ FAULT\n"], 7),
-    (OFFSETS, &[NORTH], (1, 0), &[""], 8),
-    (
-        OFFSETS,
-        &[NORTH],
-        (3, 0),
-        &["offset 946684800 3600\noffset 1774746000 7200\n"],
-        8,
-    ),
-    (OFFSETS, &[""], (1, 0), &[""], 8),
-    (&["gen", "1", "1"], &[""], (1, 0), &[""], 8),
-];
-
-#[test]
-fn faults_of_the_outside(rt: HostRuntime) -> Result<(), Fail> {
-    must_answer_all(rt.alloc(), SEVENS, FAILURES)
+    must_carry_out_all(rt.alloc(), SEVENS, WITHOUT_STORE)
 }

@@ -1,40 +1,23 @@
 //! Generated drives as they are read, by `Generator`: the texts are those that a program of its own in another language
 //! writes by the same rules. No command prints them.
-ghost use Rattle.std.specs.Prelude.{◌≤◌};
-
+use crate::tests::must_at;
 use outside::Files;
 use std::alloc::Global;
 use std::test::Fail;
 use verify_bench::Generator;
 
-/// Fails unless something holds of the case with these numbers.
-fn must_of(holds: bool, what: &str, first: u64, second: u64, third: u64) -> Result<(), Fail> {
-    if holds {
-        return Ok(());
-    }
-    Err(Fail::new(format_args!("{what}: {first}, {second}, {third}")))
-}
-
-/// The bytes of a word of a generated drive, read in pieces of a given number of bytes.
-fn bytes_of(alloc: Global, seed: u64, trips: u32, word: usize, piece: usize) -> Option<Vec<u8>>
-    requires { (1 ≤ trips) × (trips ≤ 1000) }
-{
-    let mut drive = Generator::new(seed, trips);
+/// The bytes of a word of a generated drive of one trip, read in pieces of a given number of bytes.
+fn bytes_of(alloc: Global, seed: u64, word: usize, piece: usize) -> Option<Vec<u8>> {
+    let mut drive = Generator::new(seed, 1);
     let mut bytes = Vec::new(alloc);
     let mut buffer = [0; 512];
-    if piece == 0 || piece > 512 {
-        return None;
-    }
+    let front = buffer.get_mut(..piece)?;
     for _ in 0..1000 {
-        match drive.read(word, &mut buffer[..piece]) {
-            Ok(count) => {
-                if count == 0 {
-                    return Some(bytes);
-                }
-                bytes.extend_from_slice(&buffer[..count]).ok()?;
-            }
-            Err(_) => return None,
+        let count = drive.read(word, front).ok()?;
+        if count == 0 {
+            return Some(bytes);
         }
+        bytes.extend_from_slice(front.get(..count)?).ok()?;
     }
     None
 }
@@ -95,30 +78,19 @@ const GENERATED: &[(u64, usize, usize, &str)] = &[
     (7, 1, 512, ""),
 ];
 
-/// Fails unless this word of the drive of a seed says this.
-fn must_generate(
-    alloc: Global,
-    seed: u64,
-    word: usize,
-    piece: usize,
-    want: &str,
-) -> Result<(), Fail> {
-    let Some(bytes) = bytes_of(alloc, seed, 1, word, piece) else {
-        return Err(Fail::new("no bytes"));
-    };
-    must_of(
-        bytes.as_slice() == want.as_bytes(),
-        "another drive",
-        seed,
-        word as u64,
-        piece as u64,
-    )
+/// Whether this word of the drive of a seed says this.
+fn says(alloc: Global, seed: u64, word: usize, piece: usize, want: &str) -> bool {
+    match bytes_of(alloc, seed, word, piece) {
+        Some(bytes) => bytes.as_slice() == want.as_bytes(),
+        None => false,
+    }
 }
 
 #[test]
 fn drives_are_generated(rt: HostRuntime) -> Result<(), Fail> {
     for &(seed, word, piece, want) in GENERATED {
-        must_generate(rt.alloc(), seed, word, piece, want)?;
+        let says = says(rt.alloc(), seed, word, piece, want);
+        must_at(says, "another drive, read by", piece as u64)?;
     }
     Ok(())
 }

@@ -1,4 +1,0 @@
-use Rattle.hiring_log.proofs.file_log_tests.called.Given as goal
-
-abbrev pub ghosts-counted : goal.ghosts-counted
-ghosts-counted a = record { name = a.blank.name; parts = a.blank.parts }
