@@ -55,8 +55,3 @@ returns-clause-meets c = λ s m is stands.
     follows-meets s c.args.tables.now 8639999 roaming_between 0 c.take_equal.new.self []
     (run s (intervals_of c.args.pulses c.take_equal.result) m) c.take_equal.ensures.taken.lawful
     (c.take_equal.ensures.follows s m is (view ∙ e))
-
-pub returns-clause-full : goal.returns-clause-full
-returns-clause-full c = subst (λ (w : CachedCore). (c.take_equal.result ≡ c.args.count)
-    ⊎ ¬ MayGo c.args.tables.now c.args.seal.now w.cache c.args.pulses c.take_equal.new.self)
-    c.self.view_is c.take_equal.ensures.full

@@ -1,13 +1,11 @@
-use Rattle.std.proofs.Common.{◌≡◌, ◌⊎◌, ℕ, ◌+◌, ◌-◌, ◌*◌, ◌≤◌, min, [], Some, inl, inr, refl, ap, sym, subst, ◌∙◌}
-use Rattle.std.proofs.Common.{arith}
+use Rattle.std.proofs.Common.{◌≡◌, ◌+◌, ◌*◌, ◌≤◌, [], Some, ap, sym, subst, ◌∙◌, inl, inr, arith}
 use Rattle.std.proofs.lemmas.Bool.{cases_lt}
-use Rattle.std.proofs.lemmas.Option.{same_Some}
 use Rattle.std.proofs.Math.Nat.{mul-le-mul_left}
 use Rattle.meter_states.specs.declared.trip.CoreTrip.{CoreTrip}
 use Rattle.tariff_compile.proofs.Laws.{tables_are_fit}
 use Rattle.meter_states.specs.Core.{CoreData, ComesToOutcome}
 use Rattle.meter_states.specs.EqualStages.{passed}
-use Rattle.meter_states.specs.Equals.{Outlasts, intervals_of}
+use Rattle.meter_states.specs.Equals.{intervals_of}
 use Rattle.meter_states.specs.Lawful.{IsBetweenEvents}
 use Rattle.meter_states.specs.Meter.{quiet}
 use Rattle.meter_states.specs.Run.{run}
@@ -55,24 +53,18 @@ returns-clause-taken c = λ tables on.
       same = (ap (λ (q : CoreData). q.operating) c.self.view_is, ap (λ (q : CoreData). q.number) c.self.view_is);
     }
 
+pub returns-clause-full : goal.returns-clause-full
+returns-clause-full c = elim (cases_lt c.min-n.result c.args.count) [
+  | inl fewer ↦ inr (λ more.
+      let same : c.add_passed.new.trip ≡ more.trip = cc in
+      let ticks = ap (λ (x : CoreTrip). x.ticks) (sym same ∙ c.add_passed.ensures.value) in
+      omega (arith, fewer, c.min-n.ensures, ticks, more.short))
+  | inr all ↦ inl (omega (arith, all, c.min-n.ensures))
+]
+
 pub returns-in_default-clause-taken : goal.returns-in_default-clause-taken
 returns-in_default-clause-taken c = λ tables on. taken-none c.args.count c.self.view_is on
 
 pub returns-in_default-clause-follows : goal.returns-in_default-clause-follows
 returns-in_default-clause-follows c = λ tables seal on still s m is e. subst (λ (x : CoreData). ComesToOutcome s x [] []
     (quiet m)) (sym c.self.view_is) (quiet-follows s c.args.self.now [] m e)
-
--- as many intervals as the trip outlasts, or all
-full : (count n : ℕ) (t u : CoreTrip) (core : CoreData) → n ≡ min count (8639999 - t.ticks)
-    → u.ticks ≡ t.ticks + n → core.trip ≡ Some u → (n ≡ count) ⊎ ¬ Outlasts core
-full count n t u core is ticks has = elim (cases_lt n count) [
-  | inl fewer ↦ inr (λ outlasts.
-      let same = ap (λ (x : CoreTrip). x.ticks) (same_Some u outlasts.trip (sym has ∙ outlasts.has)) in
-      omega (arith, is, ticks, fewer, same, outlasts.short))
-  | inr enough ↦ inl (omega (arith, is, enough))
-]
-
-pub returns-clause-full : goal.returns-clause-full
-returns-clause-full c =
-    full c.args.count c.min-n.result c.in-Some.trip c.add_passed.new.trip _ c.min-n.ensures
-    (ap (λ (x : CoreTrip). x.ticks) c.add_passed.ensures.value) refl
