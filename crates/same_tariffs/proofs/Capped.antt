@@ -71,7 +71,8 @@ full-position n (c ∷ cs) x can small many =
 more-conditions : (line : ℕ) (e : Entry) (cs : List (Choice RateNumbers)) → IsWritableEntry e
     → All IsWritableIf (conditions_of cs)
     → All IsWritableIf (conditions_of (cons_option (choice_in rate_part (record { line = line; entry = e })) cs))
-more-conditions line (entries.rate a b c e when) cs can each = All-cons IsWritableIf when (conditions_of cs) can.4 each
+more-conditions line (entries.rate a b c e when) cs can each =
+    All-cons IsWritableIf when (conditions_of cs) can.4 each
 more-conditions line (entries.step amount rounding) cs can each = each
 more-conditions line e cs can each = each
 

@@ -28,7 +28,8 @@ default_holds x (Some when ∷ more) h all =
 
 module _ {V : Type 0} (part : Entry → Option V) (t : Tree) (x : Context) where
   -- a choice that holds first is there
-  pub choice_there : (place : ℕ) → choice_place part t x ≡ Some place → place < length (values_of (choices part t.lines))
+  pub choice_there : (place : ℕ) → choice_place part t x ≡ Some place
+      → place < length (values_of (choices part t.lines))
   choice_there place h =
       let all = choices part t.lines in
       let first = (first_lines_hold x (conditions_of all) (Some place)).0 h in

@@ -76,7 +76,8 @@ choices_sound : {V : Type 0} (part : Entry → Option V) (P : V → Type 0) (mos
     → first_line is_one_too_many ls ≡ None
     → All P (values_of (choices part ls)) × (length (values_of (choices part ls)) ≤ most)
 choices_sound part P most kind ls fact good many =
-    rw (values_are part ls) (parts_all part P ls (given part P ls fact good), few part most kind [] ls (omega arith) many)
+    rw (values_are part ls)
+    (parts_all part P ls (given part P ls fact good), few part most kind [] ls (omega arith) many)
 
 -- a number of 1 to 9, or 1 without a line
 number_or_one : (o : Option ℕ) → ((n : ℕ) → o ≡ Some n → IsFromTo 1 9 n) → IsFromTo 1 9 (unwrap_or o 1)

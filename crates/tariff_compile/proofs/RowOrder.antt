@@ -92,4 +92,5 @@ row_found tables i within =
 pub row_text-at : (tables : TableParts) (i : ℕ) → i < row_count tables
     → slice_get (all_rows tables) i ≡ Some (row_text tables i)
 row_text-at tables i within =
-    slice_get-get_or (all_rows tables) i [] (omega (arith, length-all_rows tables)) ∙ ap Some (row_found tables i within)
+    slice_get-get_or (all_rows tables) i [] (omega (arith, length-all_rows tables))
+    ∙ ap Some (row_found tables i within)

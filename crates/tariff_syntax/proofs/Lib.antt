@@ -6,6 +6,8 @@ mod ConditionAgain
 mod ConditionLaws
 -- what figures say is read from their forms
 mod FigureLaws
+-- the first choice of a kind that holds, looked for line by line
+mod FirstChoices
 -- reading a condition, a step at a time
 mod GrammarSteps
 -- what a line says is read from its form

@@ -15,5 +15,6 @@ returns-clause-sound c =
 
 pub returns-clause-value : goal.returns-clause-value
 returns-clause-value c =
-    subst (λ (t : Tariff). AreChoices (tree_of t).lines c.as_slice.result.now (sound_of (tree_of t)).initials) c.self.view_is
-    (placed_are initial_part (tree_of c.self.inside.tariff).lines _ (c.as_slice.ensures.value ∙ c.self.invariant.2.initials))
+    let same = c.as_slice.ensures.value ∙ c.self.invariant.2.initials in
+    subst (λ (t : Tariff). AreChoices (tree_of t).lines c.as_slice.result.now (sound_of (tree_of t)).initials)
+    c.self.view_is (placed_are initial_part (tree_of c.self.inside.tariff).lines _ same)
