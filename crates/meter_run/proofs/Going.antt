@@ -42,6 +42,10 @@ not_ok Q (Err e) P err = tt
 pub went_well : {T E : Type 0} (before now : ℕ) (x : T) → now ≡ before → HasCause {T = T} {E = E} before now (Ok x)
 went_well before now x same = record { kept = λ ok. same; failed = λ err. absurd cc }
 
+-- what a test that holds of a result comes to
+pub true_is : true ≡ true
+true_is = refl
+
 -- what failed by a last call has that call's cause
 pub went_wrong : {T E U F : Type 0} (before mid now : ℕ) (e : E) (r : Result U F) → IsErr r → mid ≡ before
     → HasCause {T = T} {E = E} mid now (Err e) → HasCause before now r

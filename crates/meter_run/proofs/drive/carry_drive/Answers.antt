@@ -8,7 +8,7 @@ use Rattle.drive_text.specs.declared.run.Run.{Run}
 use Rattle.meter_run.specs.Drives.{BreaksDrive, IsBounded}
 use Rattle.meter_run.proofs.Driving.{breaks_amid, smaller, so_far_more, so_far_none, stop_at, stop_of, takes_last}
 use Rattle.meter_run.proofs.Going.{counts_more, no_more, not_ok, not_some, not_this, on_err, same_stop, went_well}
-use Rattle.meter_run.proofs.Going.{went_wrong}
+use Rattle.meter_run.proofs.Going.{went_wrong, true_is}
 use Rattle.meter_run.proofs.drive.carry_drive.Goals as goal
 
 pub loop-stop-init : goal.loop-stop-init
@@ -127,7 +127,9 @@ returns-in-Some-clause-counts g c = λ other. may_rise_behind (c.loop-stop.invar
 pub returns-in-Some-clause-cause : goal.returns-in-Some-clause-cause
 returns-in-Some-clause-cause g c =
     went_well (g.B.Board.faults c.args.board.now) (g.B.Board.faults c.carry_runs.new.board) _
-    (counts_more _ _ _ c.loop-stop.invariant.faults (c.in_ok-carry_runs.ensures.cause.kept refl))
+    (counts_more (g.B.Board.faults c.args.board.now) (g.B.Board.faults c.loop-stop.board)
+    (g.B.Board.faults c.carry_runs.new.board) c.loop-stop.invariant.faults
+    (c.in_ok-carry_runs.ensures.cause.kept true_is))
 
 pub returns-in-Some-clause-others : goal.returns-in-Some-clause-others
 returns-in-Some-clause-others g c =
@@ -161,7 +163,9 @@ loop-stop-preserved g c =
           c.loop-stop.board c.carry_runs.new.meter c.carry_runs.new.board done next)
           (subst (λ (rs : List Run). IsBounded c.loop-stop.steps c.carry_runs.new.steps (flat_map run_events rs))
           c.as_slice.ensures.value c.carry_runs.ensures.steps);
-      faults = counts_more _ _ _ c.loop-stop.invariant.faults (c.in_ok-carry_runs.ensures.cause.kept refl);
+      faults = counts_more (g.B.Board.faults c.args.board.now) (g.B.Board.faults c.loop-stop.board)
+          (g.B.Board.faults c.carry_runs.new.board) c.loop-stop.invariant.faults
+          (c.in_ok-carry_runs.ensures.cause.kept true_is);
       others = λ other differs. c.next-stop.ensures.others other differs ∙ c.loop-stop.invariant.others other differs;
       counts = λ other. counts_more _ _ _ (c.loop-stop.invariant.counts other)
           ((c.next-stop.ensures.counts other).kept (λ fault. not_some c.next-stop.result _ c.in_default.is fault));

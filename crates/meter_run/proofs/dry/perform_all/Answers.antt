@@ -4,7 +4,7 @@ use Rattle.outside.proofs.Laws.{keeps_none, keeps_then}
 use Rattle.meter_states.specs.declared.act.Act.{Act}
 use Rattle.meter_run.specs.Commits.{after_acts}
 use Rattle.meter_run.specs.Texts.{shown_texts}
-use Rattle.meter_run.proofs.Going.{not_ok, went_well, went_wrong}
+use Rattle.meter_run.proofs.Going.{not_ok, went_well, went_wrong, true_is}
 use Rattle.meter_run.proofs.Performing.{are_after, are_at, after_more, begins_at, begins_end, printed_more}
 use Rattle.meter_run.proofs.dry.perform_all.Goals as goal
 
@@ -24,7 +24,7 @@ loop-act-preserved g c =
       printed = λ told. printed_more (g.B.Board.printed c.args.board.now) (g.B.Board.printed c.loop-act.board)
           (g.B.Board.printed c.perform.new.board) acts n _ c.loop-act-test.true (c.loop-act.invariant.printed told)
           (c.in_ok-perform.ensures.whole told);
-      faults = c.in_ok-perform.ensures.cause.kept refl ∙ c.loop-act.invariant.faults;
+      faults = c.in_ok-perform.ensures.cause.kept true_is ∙ c.loop-act.invariant.faults;
       store = keeps_then g.B.Board c.args.board.now c.loop-act.board c.perform.new.board c.loop-act.invariant.store
           c.perform.ensures.store;
       steps = omega (arith, c.loop-act.invariant.steps, c.perform.ensures.steps);

@@ -1,6 +1,7 @@
 use Rattle.std.proofs.Common.{◌∙◌, inr, arith, refl, length}
 use Rattle.outside.proofs.Laws.{may_rise_more, rises_by, rises_not, rose_behind, keeps_then}
 use Rattle.drive_text.specs.Drive.{events_in}
+use Rattle.meter_run.proofs.Going.{true_is}
 use Rattle.meter_run.proofs.Dropping.{end_begun, ready_first, run_begun, whole_printed}
 use Rattle.meter_run.proofs.Ended.{board_only, no_board_fault, read_failed, breaks, ends}
 use Rattle.meter_run.proofs.Supplies.{drop_bounded, dry_off}
@@ -117,16 +118,16 @@ returns-in-Err-clause-store g c = c.in-Err.ensures.broke_off.broke_off.store
 pub returns-in-Ok-drop_at_end-clause-board_fault : goal.returns-in-Ok-drop_at_end-clause-board_fault
 returns-in-Ok-drop_at_end-clause-board_fault g c = rises_not (no_board_fault c.in-Ok.stop c.answer.result
     c.answer.ensures)
-    (c.in-Ok-drop_at_end.ensures.cause.kept refl ∙ c.in-Ok.ensures.cause.kept refl)
+    (c.in-Ok-drop_at_end.ensures.cause.kept true_is ∙ c.in-Ok.ensures.cause.kept true_is)
 
 pub returns-in-Err-drop_at_end-clause-board_fault : goal.returns-in-Err-drop_at_end-clause-board_fault
 returns-in-Err-drop_at_end-clause-board_fault g c = rises_by refl
     (rose_behind (g.B.Board.faults c.args.board.now) (g.B.Board.faults c.carry_drive.new.board)
     (g.B.Board.faults c.drop_at_end.new.board)
-    (c.in-Ok.ensures.cause.kept refl) (c.in-Err-drop_at_end.ensures.cause.failed refl))
+    (c.in-Ok.ensures.cause.kept true_is) (c.in-Err-drop_at_end.ensures.cause.failed true_is))
 
 pub returns-in-Err-clause-board_fault : goal.returns-in-Err-clause-board_fault
-returns-in-Err-clause-board_fault g c = rises_by refl (c.in-Err.ensures.cause.failed refl)
+returns-in-Err-clause-board_fault g c = rises_by refl (c.in-Err.ensures.cause.failed true_is)
 
 pub returns-in-Ok-drop_at_end-clause-counts : goal.returns-in-Ok-drop_at_end-clause-counts
 returns-in-Ok-drop_at_end-clause-counts g c = λ other.

@@ -1,6 +1,5 @@
-use Rattle.std.proofs.Common.{refl}
 use Rattle.meter_run.specs.StoreLaws.{has_settled}
-use Rattle.meter_run.proofs.Going.{no_more, not_ok, went_well, went_wrong}
+use Rattle.meter_run.proofs.Going.{no_more, not_ok, went_well, went_wrong, true_is}
 use Rattle.meter_run.proofs.Happening.{amid_scan, blank_attempted, found_attempted, found_same, never_found}
 use Rattle.meter_run.proofs.on_store.power_up.Goals as goal
 
@@ -33,7 +32,7 @@ returns-in-None-clause-attempts g c =
     let found = c.in_ok-read_store.ensures.finds told at.0 m.durable at.1 h.fits in
     never_found c.in_ok-read_store.field-0 found.0 found.1.0 c.in-None.is)
     (went_well (g.B.Board.faults a) (g.B.Board.faults c.read_store.new.board) _
-    (c.in_ok-read_store.ensures.cause.kept refl))
+    (c.in_ok-read_store.ensures.cause.kept true_is))
 
 pub returns-in-Some-clause-attempts : goal.returns-in-Some-clause-attempts
 returns-in-Some-clause-attempts g c =
@@ -44,5 +43,5 @@ returns-in-Some-clause-attempts g c =
     k (c.in_ok-read_store.ensures.agrees k c.in-Some.is)
     (λ told place d settled fits. let found = c.in_ok-read_store.ensures.finds told place d settled fits in
     found_same c.in_ok-read_store.field-0 found.0 k d found.1.0 c.in-Some.is found.1.1)
-    c.resume.result c.resume.new.meter c.resume.new.board (c.in_ok-read_store.ensures.cause.kept refl)
+    c.resume.result c.resume.new.meter c.resume.new.board (c.in_ok-read_store.ensures.cause.kept true_is)
     c.resume.ensures.attempts

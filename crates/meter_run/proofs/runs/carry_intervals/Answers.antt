@@ -1,8 +1,9 @@
-use Rattle.std.proofs.Common.{◌≡◌, ℕ, ◌+◌, true, subst, arith, refl}
+use Rattle.std.proofs.Common.{◌≡◌, ℕ, ◌+◌, subst, arith}
 use Rattle.drive_text.specs.Runs.{intervals_events}
 use Rattle.meter_run.specs.Drives.{IsBounded}
 use Rattle.meter_run.proofs.Going.{intervals_carried, intervals_broken, intervals_further, bounded_at_interval}
 use Rattle.meter_run.proofs.Going.{bounded_further, counts_more, no_more, not_ok, on_err, went_well, went_wrong}
+use Rattle.meter_run.proofs.Going.{true_is}
 use Rattle.meter_run.proofs.runs.carry_intervals.Goals as goal
 
 pub carry_equal-done-requires : goal.carry_equal-done-requires
@@ -28,7 +29,7 @@ loop-done-preserved g c =
           (c.carry_equal-done.ensures.carried c.carry_interval.new.board c.in_ok-carry_interval.ensures.ready);
       faults = counts_more (g.B.Board.faults c.args.board.now) (g.B.Board.faults c.loop-done.board)
           (g.B.Board.faults c.carry_interval.new.board) c.loop-done.invariant.faults
-          (c.in_ok-carry_interval.ensures.cause.kept (refl {a = true}));
+          (c.in_ok-carry_interval.ensures.cause.kept true_is);
       steps = bounded_further p (i + 1) n c.args.steps.now c.carry_interval.new.steps
           (bounded_at_interval p i (i + 1) c.args.steps.now c.loop-done.steps c.carry_interval.new.steps
           (omega arith) c.loop-done.invariant.steps c.carry_interval.ensures.steps);

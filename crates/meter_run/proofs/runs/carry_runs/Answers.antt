@@ -1,10 +1,10 @@
-use Rattle.std.proofs.Common.{List, arith, flat_map, subst, refl}
+use Rattle.std.proofs.Common.{List, arith, flat_map, subst}
 use Rattle.std.proofs.lemmas.List.{take_all}
 use Rattle.drive_text.specs.Runs.{run_events}
 use Rattle.drive_text.specs.declared.run.Run.{Run}
 use Rattle.meter_run.specs.Drives.{IsBounded}
 use Rattle.meter_run.proofs.Going.{runs_carried, runs_broken, bounded_run, bounded_at_run, counts_more, no_more, not_ok}
-use Rattle.meter_run.proofs.Going.{on_err, went_well, went_wrong}
+use Rattle.meter_run.proofs.Going.{on_err, went_well, went_wrong, true_is}
 use Rattle.meter_run.proofs.runs.carry_runs.Goals as goal
 
 pub loop-run-preserved : goal.loop-run-preserved
@@ -18,7 +18,9 @@ loop-run-preserved g c =
           (g.met.C.Carrier.later r) (g.met.C.Carrier.sooner r)
           runs i _ c.args.meter.now c.args.board.now c.loop-run.meter c.loop-run.board c.carry_run.new.meter
           c.carry_run.new.board c.loop-run-test.true c.loop-run.invariant.carried c.in_ok-carry_run.ensures.carried;
-      faults = counts_more _ _ _ c.loop-run.invariant.faults (c.in_ok-carry_run.ensures.cause.kept refl);
+      faults = counts_more (g.B.Board.faults c.args.board.now) (g.B.Board.faults c.loop-run.board)
+          (g.B.Board.faults c.carry_run.new.board) c.loop-run.invariant.faults
+          (c.in_ok-carry_run.ensures.cause.kept true_is);
       steps = bounded_run runs i _ c.args.steps.now c.loop-run.steps c.carry_run.new.steps c.loop-run-test.true
           c.loop-run.invariant.steps c.carry_run.ensures.steps;
     }

@@ -1,6 +1,7 @@
 use Rattle.std.proofs.Common.{◌∙◌, inr, Ok, ap, arith, refl, false, length}
 use Rattle.outside.proofs.Laws.{may_rise_more, rises_by, rises_not, rose_behind}
 use Rattle.meter_run.specs.StoreLaws.{beside_then}
+use Rattle.meter_run.proofs.Going.{true_is}
 use Rattle.meter_run.proofs.Ended.{board_only, no_board_fault, read_failed}
 use Rattle.drive_text.specs.Drive.{events_in}
 use Rattle.meter_run.proofs.Supplies.{drop_bounded}
@@ -75,11 +76,11 @@ returns-in-Ok-drop_at_end-clause-complete g c = λ tells whole calm still.
 pub returns-in-Err-drop_at_end-clause-complete : goal.returns-in-Err-drop_at_end-clause-complete
 returns-in-Err-drop_at_end-clause-complete g c = λ tells whole calm still.
     absurd (still (rose_behind (g.B.Board.faults c.args.board.now) (g.B.Board.faults c.carry_drive.new.board)
-    (g.B.Board.faults c.drop_at_end.new.board) (c.in-Ok.ensures.cause.kept refl)
-    (c.in-Err-drop_at_end.ensures.cause.failed refl)))
+    (g.B.Board.faults c.drop_at_end.new.board) (c.in-Ok.ensures.cause.kept true_is)
+    (c.in-Err-drop_at_end.ensures.cause.failed true_is)))
 
 pub returns-in-Err-clause-complete : goal.returns-in-Err-clause-complete
-returns-in-Err-clause-complete g c = λ tells whole calm still. absurd (still (c.in-Err.ensures.cause.failed refl))
+returns-in-Err-clause-complete g c = λ tells whole calm still. absurd (still (c.in-Err.ensures.cause.failed true_is))
 
 pub returns-in-Ok-drop_at_end-clause-steps : goal.returns-in-Ok-drop_at_end-clause-steps
 returns-in-Ok-drop_at_end-clause-steps g c =
@@ -128,16 +129,16 @@ returns-in-Err-clause-read_fault g c = λ is. absurd (board_only is)
 pub returns-in-Ok-drop_at_end-clause-board_fault : goal.returns-in-Ok-drop_at_end-clause-board_fault
 returns-in-Ok-drop_at_end-clause-board_fault g c =
     rises_not (no_board_fault c.in-Ok.stop c.answer.result c.answer.ensures)
-    (c.in-Ok-drop_at_end.ensures.cause.kept refl ∙ c.in-Ok.ensures.cause.kept refl)
+    (c.in-Ok-drop_at_end.ensures.cause.kept true_is ∙ c.in-Ok.ensures.cause.kept true_is)
 
 pub returns-in-Err-drop_at_end-clause-board_fault : goal.returns-in-Err-drop_at_end-clause-board_fault
 returns-in-Err-drop_at_end-clause-board_fault g c = rises_by refl
     (rose_behind (g.B.Board.faults c.args.board.now) (g.B.Board.faults c.carry_drive.new.board)
     (g.B.Board.faults c.drop_at_end.new.board)
-    (c.in-Ok.ensures.cause.kept refl) (c.in-Err-drop_at_end.ensures.cause.failed refl))
+    (c.in-Ok.ensures.cause.kept true_is) (c.in-Err-drop_at_end.ensures.cause.failed true_is))
 
 pub returns-in-Err-clause-board_fault : goal.returns-in-Err-clause-board_fault
-returns-in-Err-clause-board_fault g c = rises_by refl (c.in-Err.ensures.cause.failed refl)
+returns-in-Err-clause-board_fault g c = rises_by refl (c.in-Err.ensures.cause.failed true_is)
 
 pub returns-in-Ok-drop_at_end-clause-counts : goal.returns-in-Ok-drop_at_end-clause-counts
 returns-in-Ok-drop_at_end-clause-counts g c = λ other.

@@ -6,7 +6,7 @@ use Rattle.meter_run.specs.Deeds.{deeds_of, texts}
 use Rattle.meter_run.specs.StoreLaws.{beside_none, beside_then}
 use Rattle.meter_run.specs.PointLaws.{keeps_still}
 use Rattle.meter_run.proofs.Doing.{may_at, points_more, points_whole, steps_more, steps_whole, text_more}
-use Rattle.meter_run.proofs.Going.{counts_more, not_ok, went_well, went_wrong}
+use Rattle.meter_run.proofs.Going.{counts_more, not_ok, went_well, went_wrong, true_is}
 use Rattle.meter_run.proofs.Performing.{are_after, are_at, after_more}
 use Rattle.meter_run.proofs.storing.do_acts.Goals as goal
 
@@ -48,7 +48,9 @@ loop-act-preserved g c =
           (may_at g.B.Board tables c.args.known.now c.loop-act.known c.args.board.now c.loop-act.board c.args.acts.now
           c.loop-act.act-index _ c.loop-act-test.true may (c.loop-act.invariant.agrees tables may)));
       beside = λ told. beside_then g.B.Board a b b' (i.beside told) (c.do_act.ensures.beside told);
-      faults = counts_more _ _ _ i.faults (c.in_ok-do_act.ensures.cause.kept refl);
+      faults = counts_more (g.B.Board.faults c.args.board.now) (g.B.Board.faults c.loop-act.board)
+          (g.B.Board.faults c.do_act.new.board) i.faults
+          (c.in_ok-do_act.ensures.cause.kept true_is);
       steps = steps_more acts n _ c.args.steps.now c.loop-act.steps c.do_act.new.steps c.loop-act-test.true i.steps
           c.do_act.ensures.steps;
     }
