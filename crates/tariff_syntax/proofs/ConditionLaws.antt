@@ -43,7 +43,7 @@ chain_by place joint joined joins most chain left ts p x h (Some rest) here e =
     (sym (chain_goes joint joined (suc most) most p ts rest (omega arith) here) ∙ e) in
     let grown = joins left ts rest p one.0 h (after_word_is joint ts rest here) one.1 in
     let more = chain grown.0 one.0.1 one.0.0 x grown.2 one.2 in
-    (more.0, grown.1 ∙ more.1, more.2)
+    (more.0, ◌∙◌ {c = more.0 ++ x.1} grown.1 more.1, more.2)
 
 chain_grows : (place : Level) (joint : List ℕ) (joined : Condition → Reader) → Joins place joint joined
     → (most : ℕ) (left ts : List Token) (p : Condition) (x : Condition × List Token) → IsCondition place left p

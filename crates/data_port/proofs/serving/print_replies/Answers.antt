@@ -1,4 +1,4 @@
-use Rattle.std.proofs.Common.{◌≡◌, ◌∙◌, ◌++◌, ◌≤◌, ℕ, List, length, take, ap, refl, arith}
+use Rattle.std.proofs.Common.{◌≡◌, ◌∙◌, true, ◌++◌, ◌≤◌, ℕ, List, length, take, ap, refl, arith}
 use Rattle.std.proofs.lemmas.List.{take_all}
 use Rattle.outside.proofs.Laws.{begins_whole, keeps_then, on_failed}
 use Rattle.seal_record.specs.declared.seal.Seal.{Seal}
@@ -18,7 +18,7 @@ loop-request-preserved g c =
           (printed c.print_reply.new.board) c.args.requests.now c.loop-request.request-index c.request-item.result
           c.loop-request-test.true c.request-item.is (c.loop-request.invariant.printed tells)
           (c.in_ok-print_reply.ensures.whole tells);
-      faults = c.in_ok-print_reply.ensures.cause.kept refl ∙ c.loop-request.invariant.faults;
+      faults = c.in_ok-print_reply.ensures.cause.kept (refl {a = true}) ∙ c.loop-request.invariant.faults;
       store = keeps_then g.B.Board c.args.board.now c.loop-request.board c.print_reply.new.board
           c.loop-request.invariant.store c.print_reply.ensures.store;
       steps = omega (arith, c.loop-request.invariant.steps, c.print_reply.ensures.steps);

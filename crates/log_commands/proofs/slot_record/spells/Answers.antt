@@ -18,6 +18,9 @@ returns c =
 pub returns-then-place-eq0 : goal.returns-then-place-eq0
 returns-then-place-eq0 c = none_spells c.args.bytes.now c.args.place c.args.it.now (elim c.then-place-eq0.branch [
   | then-place-eq0-via-then-place-eq0 w ↦ inl w.if-place-eq0.true
-  | then-place-eq0-via-else-place-eq0+then-place-it w ↦ inr (omega (arith, w.if-place-it.true,
-    ap (λ (r : Record). r.number) c.it.view_is))
+  | then-place-eq0-via-else-place-eq0+then-place-it w ↦ inr (omega (
+    arith,
+    w.if-place-it.true,
+    ap (λ (r : Record). r.number) c.it.view_is,
+  ))
 ])

@@ -28,5 +28,5 @@ loop-length-preserved c =
     record {
       month = omega arith;
       left = rw c.month_lengths.ensures (after_the_month loop.month loop.length-index loop.days _ c.loop-length-test.true
-      (rw c.month_lengths.ensures at c.if-days-length.false)) ∙ loop.invariant.left;
+          (rw c.month_lengths.ensures at c.if-days-length.false)) ∙ loop.invariant.left;
     }
