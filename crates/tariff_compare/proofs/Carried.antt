@@ -60,8 +60,8 @@ hiring_and t k n c a b is same h =
 pub counts_carried : (t : Tree) (k : ℕ) (kind : ChoiceKind) (place : ℕ) (n c : MeterContext) → StandsFor t k n c
     → counts t k kind place n ≡ true → counts t k kind place c ≡ true
 counts_carried t k Rate place n c is h = sym (ap (is_at place) (firsts_same t k n c is).0) ∙ h
-counts_carried t k Initial place n c is h = hiring_and t k n c _ _ is (ap (is_at place) (firsts_same t k n c is).1.0) h
-counts_carried t k Minimum place n c is h = hiring_and t k n c _ _ is (ap (is_at place) (firsts_same t k n c is).1.1) h
+counts_carried t k Initial place n c is h = hiring_and t k n c _ _ is (ap (is_at place) (firsts_same t k n c is).1) h
+counts_carried t k Minimum place n c is h = hiring_and t k n c _ _ is (ap (is_at place) (firsts_same t k n c is).2) h
 
 abbrev by_places : Tree → (initial minimum : Option ℕ) → fees.Initial
 by_places t initial minimum =
@@ -71,8 +71,8 @@ by_places t initial minimum =
 fees_same : (t : Tree) (k : ℕ) (n c : MeterContext) → StandsFor t k n c
     → initial_by t (context_at t k n) ≡ initial_by t (context_at t k c)
 fees_same t k n c is =
-    ap (λ (o : Option ℕ). by_places t o (minimum_place t (context_at t k n))) (firsts_same t k n c is).1.0
-    ∙ ap (by_places t (initial_place t (context_at t k c))) (firsts_same t k n c is).1.1
+    ap (λ (o : Option ℕ). by_places t o (minimum_place t (context_at t k n))) (firsts_same t k n c is).1
+    ∙ ap (by_places t (initial_place t (context_at t k c))) (firsts_same t k n c is).2
 
 costs_same : (t : Tree) (k : ℕ) (n c : MeterContext) → StandsFor t k n c
     → rate_in t (context_at t k n) ≡ rate_in t (context_at t k c)
