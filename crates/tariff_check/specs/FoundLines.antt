@@ -9,7 +9,8 @@ use Rattle.tariff_check.specs.declared.choice.ChoiceKind.{ChoiceKind}
 use Rattle.tariff_check.specs.declared.found_lines.FramePart.{FramePart}
 use Rattle.tariff_check.specs.declared.found_lines.FramePart.TheVariants.{Step, Positions, Zones, Supplement}
 
--- the test `says` is true if an entry says a part of the frame, which of a supplement is the one of its number
+-- the test `says` is true if an entry says a part of the frame: the display step, the positions, the zones, or the
+-- supplement of a number
 abbrev pub says : FramePart → Entry → Bool
 says Step (step amount rounding) = true
 says Positions (positions number) = true
