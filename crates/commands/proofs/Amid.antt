@@ -183,20 +183,20 @@ module _ {D L : Type 0} {N : ℕ} (B : Ghosts D N L) where
       (same_left image left new same settled held)
 
   -- no seal was made of the texts
-  pub rests-no_seal : (tariff params image printed : List ℕ) (opening : Opening) (base : Base)
+  pub rests-no_seal : (tariff params image printed : List ℕ) (opening : Opening) (b : Result Base Ended) (base : Base)
       (read_failed : ℕ → Type 0) (new : D)
-      → opening_of image ≡ Ok opening
-      → over_totals opening.totals opening.seal ≡ Ok base → B.image new ≡ image → B.printed new ≡ printed
+      → opening_of image ≡ Ok opening → b ≡ Ok base → b ≡ over_totals opening.totals opening.seal
+      → B.image new ≡ image → B.printed new ≡ printed
       → NothingFlies B new → (end : Ended)
       → IsNoSeal (next_number (found_number base.found)) base.decimals tariff params read_failed end
       → RestsAmid B (sealing_of (opening_of image) tariff params) image printed (line_of end) new
-  rests-no_seal tariff params image printed opening base read_failed new e f same text settled = by
+  rests-no_seal tariff params image printed opening b base read_failed new e is answer same text settled = by
     where
       refused : (end : Ended) → seal_read (next_number (found_number base.found)) base.decimals tariff params ≡ Err end
           → RestsAmid B (sealing_of (opening_of image) tariff params) image printed (line_of end) new
       refused end h =
           rests-refused (sealing_of (opening_of image) tariff params) end image printed (line_of end) new
-          (sealing-over (opening_of image) opening base tariff params (Err end) e f h) same settled
+          (sealing-over (opening_of image) opening base tariff params (Err end) e (sym answer ∙ is) h) same settled
 
       by : (end : Ended) → IsNoSeal (next_number (found_number base.found)) base.decimals tariff params read_failed end
           → RestsAmid B (sealing_of (opening_of image) tariff params) image printed (line_of end) new

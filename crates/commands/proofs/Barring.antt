@@ -7,6 +7,7 @@ use Rattle.commands.specs.declared.opening.StoreFault.TheVariants as stores
 use Rattle.commands.specs.Opened.{IsBarred}
 use Rattle.commands.specs.Opening.{store_ended}
 use Rattle.commands.specs.RunSteps.{IsRefusal}
+use Rattle.commands.proofs.EndsApart.{refusal_by}
 
 -- a fault of the store is no other end
 pub not_read-store : (fault : StoreFault) → store_ended fault ≢ ended.ReadFault
@@ -52,8 +53,8 @@ module _ (Refuses Owed : Ended → Type 0) (failed : Type 0)
       → (end ≡ ended.BoardFault → failed) → Owed end
   owed-refused =
       owed-barred Refuses Owed failed
-      (λ e. not_sealed (e, record { not_0 = λ z. absurd cc; not_3 = λ z. absurd cc; not_11 = λ z. absurd cc }))
-      (λ slot e. bad_slot slot (e, record { not_0 = λ z. absurd cc; not_3 = λ z. absurd cc; not_11 = λ z. absurd cc }))
+      (λ e. not_sealed (e, refusal_by ended.NotSealed refl refl refl))
+      (λ slot e. bad_slot slot (e, refusal_by (ended.BadSlot slot) refl refl refl))
       (λ first second e. same_number first second
-      (e, record { not_0 = λ z. absurd cc; not_3 = λ z. absurd cc; not_11 = λ z. absurd cc }))
+      (e, refusal_by (ended.SameNumber first second) refl refl refl))
       board

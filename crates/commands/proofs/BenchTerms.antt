@@ -1,5 +1,5 @@
 -- What a verification goes by, and why there is nothing.
-use Rattle.std.proofs.Common.{◌≡◌, ◌≢◌, ℕ, List, Result, Ok, Err, ap, ◌∙◌}
+use Rattle.std.proofs.Common.{◌≡◌, ◌≢◌, ℕ, List, Result, Ok, Err, refl, ap, ◌∙◌}
 use Rattle.totals_record.specs.declared.durable_state.Durable.{Durable}
 use Rattle.seal_record.specs.declared.seal.Seal.{Seal}
 use Rattle.tariff_syntax.specs.Tree.{Tree}
@@ -11,6 +11,7 @@ use Rattle.commands.specs.Opened.{IsBarred}
 use Rattle.commands.specs.Opening.{IsSealedIn, opening_of, store_of}
 use Rattle.commands.specs.Run.{sealed_tariff}
 use Rattle.commands.specs.RunSteps.{AreNoTables}
+use Rattle.commands.proofs.EndsApart.{refusal_by}
 use Rattle.commands.proofs.Barring.{owed-refused}
 
 module _ (image tariff : List ℕ) where
@@ -39,10 +40,10 @@ module _ (image tariff : List ℕ) where
     no_terms-tariff read_failed board_failed ended.NoMemory h = sealed_in
     no_terms-tariff read_failed board_failed (ended.BadTariff why) h = (
       terms_from (Err (ended.BadTariff why)) h,
-      record { not_0 = λ z. absurd cc; not_3 = λ z. absurd cc; not_11 = λ z. absurd cc },
+      refusal_by (ended.BadTariff why) refl refl refl,
     )
     no_terms-tariff read_failed board_failed (ended.WrongTariff digest own) h = (
       terms_from (Err (ended.WrongTariff digest own)) h,
-      record { not_0 = λ z. absurd cc; not_3 = λ z. absurd cc; not_11 = λ z. absurd cc },
+      refusal_by (ended.WrongTariff digest own) refl refl refl,
     )
     no_terms-tariff read_failed board_failed why h = absurd h

@@ -1,6 +1,7 @@
 -- What is found of an image that stands for a durable state and a seal.
 use Rattle.std.proofs.Common.{◌≡◌, ℕ, List, Result, Ok, Err, true, refl, sym, ap, subst, ◌∙◌}
 use Rattle.std.specs.Prelude.{is_some}
+use Rattle.std.proofs.lemmas.Bool.{false≢true}
 use Rattle.slot_store.specs.declared.found.Found.{Found}
 use Rattle.slot_store.specs.declared.found.Found.TheVariants.{Blank, Latest}
 use Rattle.slot_store.specs.declared.found.SlotFault.{SlotFault}
@@ -64,8 +65,8 @@ seal_at image place seal e = at_stands seals.reads seals.seal_number_of 1024 pla
 by_parts : (image : List ℕ) (t : Found Durable) (l : Found Seal) → found_at totals.reads states.state_number_of 0 image
     ≡ Ok t → found_at seals.reads seals.seal_number_of 1024 image ≡ Ok l
     → is_some (sealed_store t l) ≡ true → IsSealedStore image
-by_parts image Blank l e f some = absurd cc
-by_parts image (Latest place d) Blank e f some = absurd cc
+by_parts image Blank l e f some = absurd (false≢true some)
+by_parts image (Latest place d) Blank e f some = absurd (false≢true some)
 by_parts image (Latest place d) (Latest other seal) e f some =
     record { durable = d; seal = seal; totals = state_at image place d e; sealed = seal_at image other seal f }
 

@@ -21,7 +21,8 @@ use Rattle.commands.specs.declared.tariff.TextFault.{TextFault}
 use Rattle.commands.specs.declared.tariff.TextFault.TheVariants as texts
 use Rattle.shift_book.specs.declared.book.BookFault.{BookFault}
 use Rattle.shift_book.specs.declared.book.BookFault.TheVariants as books
-use Rattle.commands.specs.declared.ending.Ended.TheVariants.{BoardFault, ReadFault}
+use Rattle.commands.specs.declared.ending.Ended.TheVariants.{BoardFault, Done, ReadFault}
+use Rattle.commands.proofs.EndsApart.{done_not_board}
 use Rattle.commands.proofs.Openings.{same_fault}
 use Rattle.commands.proofs.Rests.{board_or_not}
 
@@ -51,12 +52,24 @@ pub cause_carried : {E D L : Type 0} {N : ℕ} {F : FileGhosts E} {B : Ghosts D 
     {before now : ℕ} {ended : Ended} → Carries F B c files files' old new before now ended → HasCauseOn B old new ended
 cause_carried h = record { count = h.count; failed = h.board_fault }
 
+-- a command that is done left the count of the board's faults, and one that the board cut short raised it
+pub cause_done : {D L : Type 0} {N : ℕ} {B : Ghosts D N L} {old new : D} → B.faults new ≡ B.faults old
+    → HasCauseOn B old new Done
+cause_done kept = record { count = λ good. kept; failed = λ e. absurd (done_not_board e) }
+
+pub cause_board : {D L : Type 0} {N : ℕ} {B : Ghosts D N L} {old new : D} → Rose (B.faults old) (B.faults new)
+    → HasCauseOn B old new BoardFault
+cause_board rose = record { count = λ good. absurd (good refl); failed = λ e. rose }
+
 -- ---- where a call stopped reading
 
 pub read_fault-text : (fault : TextFault) → ended_for fault ≡ ReadFault → fault ≡ texts.ReadFault
 read_fault-text texts.ReadFault e = refl
 read_fault-text (texts.Refused why) e = absurd cc
 read_fault-text texts.NoMemory e = absurd cc
+
+pub not_read-memory : texts.NoMemory ≢ texts.ReadFault
+not_read-memory = λ e. absurd cc
 
 pub read_fault-rules : (fault : RulesFault) → ended_for_rules fault ≡ ReadFault → fault ≡ rules.ReadFault
 read_fault-rules rules.ReadFault e = refl

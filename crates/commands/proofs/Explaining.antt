@@ -56,6 +56,11 @@ read_fault-params params.ReadFault e = refl
 read_fault-params (params.Refused why) e = absurd cc
 read_fault-params params.NoMemory e = absurd cc
 
+pub not_board-params : (fault : ParamsFault) → ended_for_params fault ≢ ended.BoardFault
+not_board-params params.ReadFault = λ e. absurd cc
+not_board-params (params.Refused why) = λ e. absurd cc
+not_board-params params.NoMemory = λ e. absurd cc
+
 module _ (contents left : ℕ → List ℕ) (image : List ℕ) (read_failed : ℕ → Type 0) where
   abbrev pub Ends : Ended → Type 0
   Ends end = EndsUnprinted explain_command contents left image read_failed end

@@ -30,6 +30,8 @@ mod Comparing
 mod Counting
 -- how the parts of a call end together
 mod Endings
+-- ends of a command that are not one another
+mod EndsApart
 -- the text of hirings that are explained, line by line and hiring by hiring
 mod ExplainedHirings
 -- a charge that is cut off, in its parts

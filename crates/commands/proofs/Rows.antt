@@ -21,6 +21,13 @@ rows-more row i =
     ∙ flat_map-append row (range_with_len 0 i) (i ∷ [])
     ∙ ap (λ (t : List ℕ). flat_map row (range_with_len 0 i) ++ t) (append-nil (row i))
 
+-- behind the first rows that were printed a row was printed
+pub printed-row : (row : ℕ → List ℕ) (i : ℕ) (a b c text : List ℕ) → text ≡ row i
+    → b ≡ a ++ flat_map row (range_with_len 0 i) → c ≡ b ++ text → c ≡ a ++ flat_map row (range_with_len 0 (i + 1))
+printed-row row i a b c text e so_far whole =
+    whole ∙ ap (λ (t : List ℕ). b ++ t) e ∙ ap (λ (t : List ℕ). t ++ row i) so_far
+    ∙ append_assoc a (flat_map row (range_with_len 0 i)) (row i) ∙ ap (λ (t : List ℕ). a ++ t) (sym (rows-more row i))
+
 -- the first rows, and those that are left
 rows-split : (row : ℕ → List ℕ) (i d : ℕ)
     → (rest : List ℕ) × (flat_map row (range_with_len 0 (i + d)) ≡ flat_map row (range_with_len 0 i) ++ rest)

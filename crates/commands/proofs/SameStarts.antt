@@ -2,7 +2,8 @@
 use Rattle.std.proofs.Common.{◌≡◌, ℕ, ◌+◌, Bool, true, false, nat_lt, length, take, drop, List, Option, Some, None}
 use Rattle.std.proofs.Common.{Result, Ok, Err, if◌then◌else◌, refl, ap, sym, subst, ◌∙◌}
 use Rattle.std.specs.Cmp.Lexicographic.{pointwise}
-use Rattle.std.specs.Prelude.{nat_eq}
+use Rattle.std.specs.Prelude.{is_ok, nat_eq}
+use Rattle.std.proofs.lemmas.Bool.{false≢true}
 use Rattle.sha2.specs.Sha256.{sha256}
 use Rattle.drive_text.specs.Ending.{drive_end, events_of}
 use Rattle.slot_store.specs.Scan.{IsAnswer, found_at}
@@ -56,7 +57,7 @@ record IsOfText (text : List ℕ) (t : Tree) : Type 0 where
 sound-is : (t u : Tree) (fault : Option CheckFault) → fault_of t ≡ fault → sound_in t fault ≡ Ok u → (t ≡ u)
     × (fault_of t ≡ None)
 sound-is t u None is e = (cc, is)
-sound-is t u (Some fault) is e = absurd cc
+sound-is t u (Some fault) is e = absurd (false≢true (ap is_ok e))
 
 checked-is : (text : List ℕ) (t : Tree) (r : Result Tree ℕ) → tree_parsed text ≡ r → checked_in r ≡ Ok t
     → IsOfText text t

@@ -2,6 +2,7 @@
 use Rattle.std.proofs.Common.{◌≡◌, ◌≢◌, ◌⊎◌, ⊎_elim, inl, inr, ℕ, List, [], ◌++◌, Option, Some, None, Bool, true, false}
 use Rattle.std.proofs.Common.{if◌then◌else◌, Result, Ok, Err, refl, sym, ap, subst, ◌∙◌}
 use Rattle.std.specs.Prelude.{◌==◌}
+use Rattle.std.proofs.lemmas.Bool.{eqb-false}
 use Rattle.sha2.specs.Sha256.{sha256}
 use Rattle.outside.specs.Printing.{Begins}
 use Rattle.tariff_syntax.specs.Tree.{Tree}
@@ -38,36 +39,11 @@ pub no_seal-tariff : (number : ℕ) (found : Option ℕ) (tariff params : List �
 no_seal-tariff number found tariff params read_failed ended.NoMemory h = tt
 no_seal-tariff number found tariff params read_failed (ended.BadTariff why) h =
     ap (λ (r : Result Tree Refusal). with_tariff number found (sha256 tariff) r (params_read params)) h
-no_seal-tariff number found tariff params read_failed (ended.OtherDecimals one own) (t, sound, others) =
-    ap (λ (r : Result Tree Refusal). with_tariff number found (sha256 tariff) r (params_read params)) sound
+no_seal-tariff number found tariff params read_failed (ended.OtherDecimals one own) h =
+    ap (λ (r : Result Tree Refusal). with_tariff number found (sha256 tariff) r (params_read params)) h.1
     ∙ ap (λ (r : Result (Unit {0}) Ended). where_decimals r
-    (with_params number (sha256 tariff) t.decimals (params_read params))) others
-no_seal-tariff number found tariff params read_failed ended.Done h = absurd h
-no_seal-tariff number found tariff params read_failed (ended.Sound cells measure) h = absurd h
-no_seal-tariff number found tariff params read_failed ended.BadWords h = absurd h
-no_seal-tariff number found tariff params read_failed ended.NotSealed h = absurd h
-no_seal-tariff number found tariff params read_failed (ended.BadSlot slot) h = absurd h
-no_seal-tariff number found tariff params read_failed (ended.SameNumber first second) h = absurd h
-no_seal-tariff number found tariff params read_failed ended.TripHeld h = absurd h
-no_seal-tariff number found tariff params read_failed ended.BadTrip h = absurd h
-no_seal-tariff number found tariff params read_failed (ended.WrongTariff digest own) h = absurd h
-no_seal-tariff number found tariff params read_failed ended.SealEnded h = absurd h
-no_seal-tariff number found tariff params read_failed (ended.BadFrame place) h = absurd h
-no_seal-tariff number found tariff params read_failed ended.EndlessRequests h = absurd h
-no_seal-tariff number found tariff params read_failed (ended.BadRules fault) h = absurd h
-no_seal-tariff number found tariff params read_failed ended.LongBook h = absurd h
-no_seal-tariff number found tariff params read_failed (ended.BadBook line) h = absurd h
-no_seal-tariff number found tariff params read_failed (ended.BadParams fault) h = absurd h
-no_seal-tariff number found tariff params read_failed (ended.Sealed n) h = absurd h
-no_seal-tariff number found tariff params read_failed (ended.BadReadings row) h = absurd h
-no_seal-tariff number found tariff params read_failed ended.LongReadings h = absurd h
-no_seal-tariff number found tariff params read_failed ended.NotPassed h = absurd h
-no_seal-tariff number found tariff params read_failed ended.Different h = absurd h
-no_seal-tariff number found tariff params read_failed (ended.BadOther why) h = absurd h
-no_seal-tariff number found tariff params read_failed (ended.BadDrive line) h = absurd h
-no_seal-tariff number found tariff params read_failed ended.EndlessDrive h = absurd h
-no_seal-tariff number found tariff params read_failed ended.ReadFault h = absurd h
-no_seal-tariff number found tariff params read_failed ended.BoardFault h = absurd h
+    (with_params number (sha256 tariff) h.0.decimals (params_read params))) h.2
+no_seal-tariff number found tariff params read_failed end h = absurd h
 
 -- a refused tariff is no fault of a read or of the board
 pub no_tariff-fault : (found : Option ℕ) (tariff : List ℕ) (end : Ended) → IsNoTariff found tariff end
@@ -105,12 +81,12 @@ seal_with number found tariff params h =
 -- ---- the answer
 
 -- the store speaks against a sealing
-pub sealing-barred : (r : Result Opening StoreFault) (opening : Opening) (end : Ended) (tariff text : List ℕ)
-    → r ≡ Ok opening
-    → over_totals opening.totals opening.seal ≡ Err end → sealing_of r tariff text ≡ Err end
-sealing-barred r opening end tariff text e f =
+pub sealing-barred : (r : Result Opening StoreFault) (opening : Opening) (b : Result Base Ended) (end : Ended)
+    (tariff text : List ℕ) → r ≡ Ok opening → b ≡ Err end → b ≡ over_totals opening.totals opening.seal
+    → sealing_of r tariff text ≡ Err end
+sealing-barred r opening b end tariff text e barred answer =
     ap (λ (x : Result Opening StoreFault). sealing_of x tariff text) e
-    ∙ ap (λ (b : Result Base Ended). sealing_over (old_seal opening.seal) b tariff text) f
+    ∙ ap (λ (b : Result Base Ended). sealing_over (old_seal opening.seal) b tariff text) (sym answer ∙ barred)
 
 -- or it goes over what was found, with what the texts say
 pub sealing-over : (r : Result Opening StoreFault) (opening : Opening) (base : Base) (tariff text : List ℕ)
@@ -147,35 +123,12 @@ barred-fault end (inr is) = rw is (λ e. absurd cc, λ e. absurd cc)
 
 pub not_0-no_seal : (number : ℕ) (found : Option ℕ) (tariff text : List ℕ) (read_failed : ℕ → Type 0) (end : Ended)
     → IsNoSeal number found tariff text read_failed end → status_of end ≢ 0
-not_0-no_seal number found tariff text read_failed ended.Done h = absurd h
-not_0-no_seal number found tariff text read_failed (ended.Sound cells measure) h = absurd h
-not_0-no_seal number found tariff text read_failed (ended.Sealed n) h = absurd h
-not_0-no_seal number found tariff text read_failed (ended.BadReadings row) h = absurd h
-not_0-no_seal number found tariff text read_failed ended.LongReadings h = absurd h
-not_0-no_seal number found tariff text read_failed ended.NotPassed h = absurd h
-not_0-no_seal number found tariff text read_failed ended.Different h = absurd h
-not_0-no_seal number found tariff text read_failed (ended.BadOther why) h = absurd h
 not_0-no_seal number found tariff text read_failed ended.ReadFault h = λ z. absurd cc
 not_0-no_seal number found tariff text read_failed ended.NoMemory h = λ z. absurd cc
 not_0-no_seal number found tariff text read_failed (ended.BadTariff why) h = λ z. absurd cc
 not_0-no_seal number found tariff text read_failed (ended.OtherDecimals one own) h = λ z. absurd cc
 not_0-no_seal number found tariff text read_failed (ended.BadParams fault) h = λ z. absurd cc
-not_0-no_seal number found tariff text read_failed ended.BadWords h = absurd h
-not_0-no_seal number found tariff text read_failed ended.NotSealed h = absurd h
-not_0-no_seal number found tariff text read_failed (ended.BadSlot slot) h = absurd h
-not_0-no_seal number found tariff text read_failed (ended.SameNumber first second) h = absurd h
-not_0-no_seal number found tariff text read_failed ended.TripHeld h = absurd h
-not_0-no_seal number found tariff text read_failed ended.BadTrip h = absurd h
-not_0-no_seal number found tariff text read_failed (ended.WrongTariff digest own) h = absurd h
-not_0-no_seal number found tariff text read_failed ended.SealEnded h = absurd h
-not_0-no_seal number found tariff text read_failed (ended.BadFrame place) h = absurd h
-not_0-no_seal number found tariff text read_failed ended.EndlessRequests h = absurd h
-not_0-no_seal number found tariff text read_failed (ended.BadRules fault) h = absurd h
-not_0-no_seal number found tariff text read_failed ended.LongBook h = absurd h
-not_0-no_seal number found tariff text read_failed (ended.BadBook line) h = absurd h
-not_0-no_seal number found tariff text read_failed (ended.BadDrive line) h = absurd h
-not_0-no_seal number found tariff text read_failed ended.EndlessDrive h = absurd h
-not_0-no_seal number found tariff text read_failed ended.BoardFault h = absurd h
+not_0-no_seal number found tariff text read_failed end h = absurd h
 
 pub not_0-store : (fault : StoreFault) → status_of (store_ended fault) ≢ 0
 not_0-store (stores.BadSlot slot) = λ z. absurd cc
@@ -183,12 +136,12 @@ not_0-store (stores.SameNumber first second) = λ z. absurd cc
 not_0-store stores.BoardFault = λ z. absurd cc
 
 -- what is left unread where the store may be sealed
-pub unread-sealing : (contents left : ℕ → List ℕ) (image : List ℕ) (opening : Opening) (base : Base)
-    → opening_of image ≡ Ok opening → over_totals opening.totals opening.seal ≡ Ok base
+pub unread-sealing : (contents left : ℕ → List ℕ) (image : List ℕ) (opening : Opening) (b : Result Base Ended)
+    (base : Base) → opening_of image ≡ Ok opening → b ≡ Ok base → b ≡ over_totals opening.totals opening.seal
     → ((other : ℕ) → other ≢ 1 → ¬ ((other ≡ 2) × HasDecimals base.decimals (contents 1)) → left other ≡ contents other)
     → LeavesUnread seal_command contents left image
-unread-sealing contents left image opening base e f read word never =
-    let based : base_in (opening_of image) ≡ Ok base = ap base_in e ∙ f in
+unread-sealing contents left image opening b base e is answer read word never =
+    let based : base_in (opening_of image) ≡ Ok base = ap base_in e ∙ sym answer ∙ is in
     read word (λ is. never [] (inl (is, record { base = base; is = based })))
     (λ h. never [] (inr (h.0, record { base = base; is = based; fits = h.1 })))
 
@@ -207,18 +160,23 @@ module _ (contents left : ℕ → List ℕ) (image : List ℕ) (read_failed : �
   -- the store speaks against it
   pub course-barred : (end : Ended) → sealing_of (opening_of image) (contents 1) (contents 2) ≡ Err end
       → (end ≡ ended.TripHeld) ⊎ (end ≡ ended.SealEnded) → Ends end
-  course-barred end e (inl is) = rw is (refuses-with ended.TripHeld (e ∙ ap Err is) (λ z. absurd cc) (λ z. absurd cc))
-  course-barred end e (inr is) = rw is (refuses-with ended.SealEnded (e ∙ ap Err is) (λ z. absurd cc) (λ z. absurd cc))
+  course-barred end e (inl is) =
+      rw is (refuses-with ended.TripHeld (e ∙ ap Err is) (eqb-false 13 0 refl) (eqb-false 13 3 refl))
+  course-barred end e (inr is) =
+      rw is (refuses-with ended.SealEnded (e ∙ ap Err is) (eqb-false 14 0 refl) (eqb-false 14 3 refl))
 
   -- no seal was made of the texts
-  pub course-no_seal : (opening : Opening) (base : Base) (end : Ended) → opening_of image ≡ Ok opening
-      → over_totals opening.totals opening.seal ≡ Ok base
+  pub course-no_seal : (opening : Opening) (b : Result Base Ended) (base : Base) (end : Ended)
+      → opening_of image ≡ Ok opening → b ≡ Ok base → b ≡ over_totals opening.totals opening.seal
       → IsNoSeal (next_number (found_number base.found)) base.decimals (contents 1)
       (contents 2) read_failed end → Ends end
-  course-no_seal opening base end e f = by end
+  course-no_seal opening b base end e is answer = by end
     where
+      over : over_totals opening.totals opening.seal ≡ Ok base
+      over = sym answer ∙ is
+
       based : base_in (opening_of image) ≡ Ok base
-      based = ap base_in e ∙ f
+      based = ap base_in e ∙ over
 
       may : IsSealable image
       may = record { base = base; is = based }
@@ -226,7 +184,7 @@ module _ (contents left : ℕ → List ℕ) (image : List ℕ) (read_failed : �
       refusal : (end : Ended)
           → seal_read (next_number (found_number base.found)) base.decimals (contents 1) (contents 2) ≡ Err end
           → sealing_of (opening_of image) (contents 1) (contents 2) ≡ Err end
-      refusal end g = sealing-over (opening_of image) opening base (contents 1) (contents 2) (Err end) e f g
+      refusal end g = sealing-over (opening_of image) opening base (contents 1) (contents 2) (Err end) e over g
 
       by : (end : Ended) → IsNoSeal (next_number (found_number base.found)) base.decimals (contents 1)
           (contents 2) read_failed end → Ends end
@@ -263,35 +221,12 @@ module _ (contents left : ℕ → List ℕ) (image : List ℕ) (read_failed : �
         });
       }
       by (ended.BadTariff why) h =
-          refuses-with (ended.BadTariff why) (refusal (ended.BadTariff why) h) (λ z. absurd cc) (λ z. absurd cc)
+          refuses-with (ended.BadTariff why) (refusal (ended.BadTariff why) h) (eqb-false 2 0 refl) (eqb-false 2 3 refl)
       by (ended.OtherDecimals one own) h = refuses-with (ended.OtherDecimals one own)
-          (refusal (ended.OtherDecimals one own) h) (λ z. absurd cc) (λ z. absurd cc)
-      by (ended.BadParams fault) h =
-          refuses-with (ended.BadParams fault) (refusal (ended.BadParams fault) h) (λ z. absurd cc) (λ z. absurd cc)
-      by ended.Done h = absurd h
-      by (ended.Sound cells measure) h = absurd h
-      by ended.BadWords h = absurd h
-      by ended.NotSealed h = absurd h
-      by (ended.BadSlot slot) h = absurd h
-      by (ended.SameNumber first second) h = absurd h
-      by ended.TripHeld h = absurd h
-      by ended.BadTrip h = absurd h
-      by (ended.WrongTariff digest own) h = absurd h
-      by ended.SealEnded h = absurd h
-      by (ended.Sealed n) h = absurd h
-      by (ended.BadFrame place) h = absurd h
-      by ended.EndlessRequests h = absurd h
-      by (ended.BadReadings row) h = absurd h
-      by ended.LongReadings h = absurd h
-      by ended.NotPassed h = absurd h
-      by ended.Different h = absurd h
-      by (ended.BadOther why) h = absurd h
-      by (ended.BadRules fault) h = absurd h
-      by ended.LongBook h = absurd h
-      by (ended.BadBook line) h = absurd h
-      by (ended.BadDrive line) h = absurd h
-      by ended.EndlessDrive h = absurd h
-      by ended.BoardFault h = absurd h
+          (refusal (ended.OtherDecimals one own) h) (eqb-false 15 0 refl) (eqb-false 15 3 refl)
+      by (ended.BadParams fault) h = refuses-with (ended.BadParams fault) (refusal (ended.BadParams fault) h)
+          (eqb-false 9 0 refl) (eqb-false 9 3 refl)
+      by end h = absurd h
 
   -- the store was sealed
   pub course-sealed : (s : Sealing) (number : ℕ) → sealing_of (opening_of image) (contents 1) (contents 2) ≡ Ok s

@@ -1,6 +1,7 @@
 -- The report of a book beside a sealed store.
 use Rattle.std.proofs.Common.{◌≡◌, ◌≢◌, ℕ, ◌+◌, ◌≤◌, List, ◌++◌, length, Result, Ok, Err, refl, sym, ap, subst, ◌∙◌}
 use Rattle.std.proofs.Common.{arith}
+use Rattle.std.proofs.lemmas.Bool.{eqb-false}
 use Rattle.totals_record.specs.declared.durable_state.Durable.{Durable}
 use Rattle.seal_record.specs.declared.seal.Seal.{Seal}
 use Rattle.shift_book.specs.BookReading.{book_read}
@@ -44,9 +45,9 @@ module _ (contents left : ℕ → List ℕ) (image : List ℕ) (read_failed : �
       by : (fault : BookFault) → shifts_answer (store_of (opening_of image)) (contents 1)
           ≡ reported store.1.decimals store.0 (Err fault) → Here (ended_for_book fault)
       by books.TooLong e = course-refusal shifts_command contents left image read_failed failed told before now refl
-          still ended.LongBook e (λ z. absurd cc) (λ z. absurd cc)
+          still ended.LongBook e (eqb-false 18 0 refl) (eqb-false 18 3 refl)
       by (books.BadLine line) e = course-refusal shifts_command contents left image read_failed failed told before now
-          refl still (ended.BadBook line) e (λ z. absurd cc) (λ z. absurd cc)
+          refl still (ended.BadBook line) e (eqb-false 18 0 refl) (eqb-false 18 3 refl)
       by books.NoMemory e =
           course-lacking shifts_command contents left image read_failed failed told before now refl still refl sealed_in
 

@@ -37,6 +37,7 @@ use Rattle.commands.specs.Run.{IsOfTotals, Start, accepted, does_hold_fit, seale
 use Rattle.commands.specs.Run.{start_with, tables_in}
 use Rattle.commands.specs.RunSteps.{AreNoTables, HasNotBegun, IsNoTables}
 use Rattle.commands.specs.Tariffs.{tariff_in}
+use Rattle.commands.proofs.EndsApart.{refusal_by}
 use Rattle.commands.proofs.Barring.{owed-refused}
 use Rattle.commands.proofs.Fitting.{Decides-hold, hold_fits}
 
@@ -225,11 +226,11 @@ module _ (image tariff : List ℕ) (read_failed board_failed : Type 0) where
     not_begun-tables ended.NoMemory h = sealed_in
     not_begun-tables (ended.BadTariff why) h = (
       start_from (Err (ended.BadTariff why)) h,
-      record { not_0 = λ z. absurd cc; not_3 = λ z. absurd cc; not_11 = λ z. absurd cc },
+      refusal_by (ended.BadTariff why) refl refl refl,
     )
     not_begun-tables (ended.WrongTariff digest own) h = (
       start_from (Err (ended.WrongTariff digest own)) h,
-      record { not_0 = λ z. absurd cc; not_3 = λ z. absurd cc; not_11 = λ z. absurd cc },
+      refusal_by (ended.WrongTariff digest own) refl refl refl,
     )
     not_begun-tables why h = absurd h
 
@@ -244,7 +245,7 @@ module _ (image tariff : List ℕ) (read_failed board_failed : Type 0) where
         → HasNotBegun image tariff read_failed board_failed ended.BadTrip
     not_begun-trip t f none = (
       start_from (Ok t) f ∙ fitted t false none,
-      record { not_0 = λ z. absurd cc; not_3 = λ z. absurd cc; not_11 = λ z. absurd cc },
+      refusal_by ended.BadTrip refl refl refl,
     )
 
     pub has_begun : (t : Tree) → sealed_tariff store.1.digest tariff ≡ Ok t

@@ -7,12 +7,13 @@ use Rattle.commands.specs.BenchSteps.{terms_in}
 use Rattle.commands.specs.Ending.{EndsOnDevices}
 use Rattle.commands.specs.declared.ending.Ended.{Ended}
 use Rattle.commands.specs.declared.ending.Ended.TheVariants as ended
+use Rattle.commands.proofs.EndsApart.{board_not_read}
 use Rattle.commands.proofs.Carrying.{carries-looked}
 use Rattle.commands.proofs.Benching.{course-begun, course-judged, course-no_terms, course-not_judged, has_judged}
 use Rattle.commands.proofs.Benching.{not_fault-passing, steps-judged, unread-terms}
 use Rattle.commands.proofs.Judging.{not_judged-as, not_judged-over}
 use Rattle.commands.proofs.ReadOnlyCalls.{unwritten-kept, unwritten-only}
-use Rattle.commands.proofs.Counting.{stops_at}
+use Rattle.commands.proofs.Counting.{cause_board, stops_at}
 use Rattle.commands.proofs.Openings.{no_fault, same_fault}
 use Rattle.commands.proofs.Unwritten.{bytes-kept, bytes-read, bytes-then}
 use Rattle.commands.proofs.bench.bench.Goals as goal
@@ -251,16 +252,13 @@ returns g c =
     (c.in-Ok-judge_drive.ensures.ended tells))
     c.as_slice.result.now _ _ _ c.open_terms.ensures.steps c.as_slice.ensures.value c.print_text.ensures.steps in
     omega (arith, le, bound))
-    (λ e. absurd cc)
-    (record {
-      count = λ good. absurd (good refl);
-      failed = λ e. omega (
-        arith,
-        c.print_text.ensures.cause.failed (ap is_err c.in-Err-print_text.is),
-        c.open_terms.ensures.opens.count
-            (no_fault c.open_terms.result c.in-Ok.terms ended.BoardFault c.in-Ok.is),
-      );
-    })
+    (λ e. absurd (board_not_read e))
+    (cause_board (omega (
+      arith,
+      c.print_text.ensures.cause.failed (ap is_err c.in-Err-print_text.is),
+      c.open_terms.ensures.opens.count
+          (no_fault c.open_terms.result c.in-Ok.terms ended.BoardFault c.in-Ok.is),
+    )))
     (λ word not. c.judge_drive.ensures.reads.others word (λ e. not (inr (inl e))) (λ e. not (inr (inr e)))
     ∙ c.open_terms.ensures.others word (λ e. not (inl e)))
     (λ known. let rest = g.F.Files.rest in

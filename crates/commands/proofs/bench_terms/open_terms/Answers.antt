@@ -51,6 +51,18 @@ returns-in_err-checked-clause-opens g c =
     (λ e. c.read_sealed.ensures.not_board (c.in_err-checked.was ∙ ap Err (same_fault _ _ _ refl e)))
     c.open_sealed.ensures.opens)
 
+pub returns-in_err-checked-clause-read_fault : goal.returns-in_err-checked-clause-read_fault
+returns-in_err-checked-clause-read_fault g c =
+    let p = err_from_is_err_and c.from_residual-in_err-checked.result c.from_residual-in_err-checked.ensures.1 in
+    rw (p.1, p.2)
+    (λ e. c.read_sealed.ensures.read_fault (c.in_err-checked.was ∙ ap Err (same_fault _ _ _ refl e)))
+
+pub returns-in_err-checked-clause-counts : goal.returns-in_err-checked-clause-counts
+returns-in_err-checked-clause-counts g c =
+    let p = err_from_is_err_and c.from_residual-in_err-checked.result c.from_residual-in_err-checked.ensures.1 in
+    rw (p.1, p.2)
+    (λ not. c.read_sealed.ensures.counts (λ f. not (ap Err (same_fault _ _ _ c.in_err-checked.was f))))
+
 -- ---- there are terms
 
 pub returns-clause-found : goal.returns-clause-found
@@ -62,7 +74,10 @@ returns-clause-found g c = λ tells told.
 pub returns-clause-opens : goal.returns-clause-opens
 returns-clause-opens g c =
     opens-behind g.B.Board c.open_sealed.result _ _ c.args.board.now c.open_sealed.new.board c.in_ok-seal.was
-    (λ e. absurd cc) c.open_sealed.ensures.opens
+    (no_fault _ _ _ refl) c.open_sealed.ensures.opens
+
+pub returns-clause-read_fault : goal.returns-clause-read_fault
+returns-clause-read_fault g c = λ e. absurd (no_fault _ _ _ refl e)
 
 pub returns-clause-counts : goal.returns-clause-counts
 returns-clause-counts g c = λ not other.

@@ -1,5 +1,6 @@
 use Rattle.std.proofs.Common.{◌≡◌, ◌∙◌, ap, sym, arith, Ok}
 use Rattle.std.specs.Prelude.{is_some}
+use Rattle.std.proofs.lemmas.Bool.{false≢true}
 use Rattle.commands.specs.Opening.{opening_of}
 use Rattle.commands.proofs.ChainScan.{sealed_if, sealed_not, sealed_then}
 use Rattle.commands.proofs.chains.may_begin.Goals as goal
@@ -22,4 +23,4 @@ returns-in-Err g c =
     let exact : c.open_store.result ≡ opening_of image =
     c.open_store.ensures.exact tt (λ e. omega (arith, c.open_store.ensures.cause e))
     ∙ ap opening_of c.new-board.ensures in
-    (λ some. absurd cc, λ h. absurd (sealed_not image c.in-Err.field-0 (sym exact ∙ c.in-Err.is) h))
+    (λ some. absurd (false≢true some), λ h. absurd (sealed_not image c.in-Err.field-0 (sym exact ∙ c.in-Err.is) h))

@@ -1,7 +1,9 @@
 use Rattle.std.proofs.Common.{◌∙◌, [], Err, refl, ap, arith, rules}
+use Rattle.commands.proofs.EndsApart.{ends_apart}
 use Rattle.commands.proofs.Openings.{no_fault}
 use Rattle.commands.proofs.Counting.{read_fault-text, stops_by, unless_read}
 use Rattle.commands.specs.Ending.{ended_for}
+use Rattle.commands.specs.declared.ending.Ended.TheVariants as ended
 use Rattle.commands.specs.declared.tariff.TextFault.TheVariants as texts
 use Rattle.commands.specs.Check.{check_command}
 use Rattle.commands.specs.Tariffs.{tariff_in}
@@ -13,7 +15,9 @@ use Rattle.commands.proofs.check.check_tariff.Goals as goal
 pub returns-in-Ok : goal.returns-in-Ok
 returns-in-Ok g c = λ image.
     carries-said g.F.Files image check_command c.args.files.now c.read_tariff.new.files _ (λ none. none) (λ status w. w)
-    (λ tells. search rules) (λ later le. omega (arith, le)) (λ e. absurd cc) (λ e. absurd cc)
+    (λ tells. search rules) (λ later le. omega (arith, le))
+    (λ e. absurd (ends_apart (ended.Sound _ _) ended.ReadFault refl e))
+    (ends_apart (ended.Sound _ _) ended.BoardFault refl)
     c.read_tariff.ensures.others (λ tells word never. c.read_tariff.ensures.others word (never []))
     (λ read good.
     c.read_tariff.ensures.counts (no_fault c.read_tariff.result c.in-Ok.checked texts.ReadFault c.in-Ok.is))

@@ -1,8 +1,14 @@
-use Rattle.std.proofs.Common.{◌≢◌, ◌∙◌, ℕ, sym, ap, arith}
+use Rattle.std.proofs.Common.{◌≡◌, ◌≢◌, ◌∙◌, ℕ, List, Err, refl, sym, ap, subst, arith}
 use Rattle.tariff_syntax.specs.Tree.{tree_of}
+use Rattle.outside.specs.Faults.{Rose}
+use Rattle.outside.proofs.Laws.{rose_behind}
+use Rattle.commands.specs.CompareSteps.{IsNotCompared, IsNoTariff}
 use Rattle.commands.specs.Tariffs.{tariff_in}
+use Rattle.commands.specs.declared.compare.CompareFault.{CompareFault}
+use Rattle.commands.specs.declared.tariff.Refusal.{Refusal}
+use Rattle.commands.specs.declared.tariff.TextFault.{TextFault}
 use Rattle.commands.specs.declared.tariff.TextFault.TheVariants as texts
-use Rattle.commands.proofs.Openings.{no_fault}
+use Rattle.commands.proofs.Openings.{no_fault, same_fault}
 use Rattle.commands.proofs.compare.compare_words.Goals as goal
 
 two-one : ◌≢◌ {A = ℕ} 2 1
@@ -10,6 +16,88 @@ two-one e = absurd (omega (arith, e))
 
 one-two : ◌≢◌ {A = ℕ} 1 2
 one-two e = absurd (omega (arith, e))
+
+-- a text has no tariff, by the fault with which it was read
+no_tariff : (text : List ℕ) (failed : Type 0) (fault : TextFault) → (fault ≡ texts.ReadFault → failed)
+    → ((why : Refusal) → fault ≡ texts.Refused why → tariff_in text ≡ Err why) → IsNoTariff text failed fault
+no_tariff text failed texts.ReadFault read refused = read refl
+no_tariff text failed (texts.Refused why) read refused = refused why refl
+no_tariff text failed texts.NoMemory read refused = tt
+
+-- ---- the first tariff wasn't read
+
+pub returns-in-Err-clause-refused : goal.returns-in-Err-clause-refused
+returns-in-Err-clause-refused g c = λ fault tells e.
+    let rest = g.F.Files.rest in
+    let faults = g.F.Files.faults in
+    let files = c.args.files.now in
+    let new = c.read_tariff.new.files in
+    let why = c.in-Err.fault in
+    subst (λ (f : CompareFault). IsNotCompared (rest files 1) (rest files 2) (Rose (faults files 1) (faults new 1))
+    (Rose (faults files 2) (faults new 2)) f) (same_fault _ _ _ refl e)
+    (no_tariff (rest files 1) (Rose (faults files 1) (faults new 1)) why
+    (λ f. c.read_tariff.ensures.read_fault (c.in-Err.is ∙ ap Err f))
+    (λ r f. c.read_tariff.ensures.refused r tells (c.in-Err.is ∙ ap Err f)))
+
+pub returns-in-Err-clause-read_fault : goal.returns-in-Err-clause-read_fault
+returns-in-Err-clause-read_fault g c = λ e. c.read_tariff.ensures.read_fault cc
+
+pub returns-in-Err-clause-first : goal.returns-in-Err-clause-first
+returns-in-Err-clause-first g c = λ fault e other differs. c.read_tariff.ensures.others other differs
+
+pub returns-in-Err-clause-others : goal.returns-in-Err-clause-others
+returns-in-Err-clause-others g c = λ other not_1 not_2. c.read_tariff.ensures.others other not_1
+
+pub returns-in-Err-clause-unread : goal.returns-in-Err-clause-unread
+returns-in-Err-clause-unread g c = λ tells other not_1 never. c.read_tariff.ensures.others other not_1
+
+pub returns-in-Err-clause-counts : goal.returns-in-Err-clause-counts
+returns-in-Err-clause-counts g c = λ first second. c.read_tariff.ensures.counts (λ e. first cc)
+
+-- ---- the other one wasn't read
+
+pub returns-in-Err-read_tariff-clause-refused : goal.returns-in-Err-read_tariff-clause-refused
+returns-in-Err-read_tariff-clause-refused g c = λ fault tells e.
+    let rest = g.F.Files.rest in
+    let faults = g.F.Files.faults in
+    let files = c.args.files.now in
+    let mid = c.read_tariff.new.files in
+    let new = c.read_tariff-2.new.files in
+    let why = c.in-Err-read_tariff.fault in
+    subst (λ (f : CompareFault). IsNotCompared (rest files 1) (rest files 2) (Rose (faults files 1) (faults new 1))
+    (Rose (faults files 2) (faults new 2)) f) (same_fault _ _ _ refl e) (
+      record { tree = tree_of c.in-Ok.one; reads = c.in-Ok.ensures.found tells },
+      no_tariff (rest files 2) (Rose (faults files 2) (faults new 2)) why
+          (λ f. rose_behind (faults files 2) (faults mid 2) (faults new 2)
+          (c.read_tariff.ensures.counts (no_fault c.read_tariff.result c.in-Ok.one texts.ReadFault c.in-Ok.is) 2)
+          (c.read_tariff-2.ensures.read_fault (c.in-Err-read_tariff.is ∙ ap Err f)))
+          (λ r f. ap tariff_in (sym (c.read_tariff.ensures.others 2 two-one))
+          ∙ c.read_tariff-2.ensures.refused r tells (c.in-Err-read_tariff.is ∙ ap Err f)),
+    )
+
+pub returns-in-Err-read_tariff-clause-other_fault : goal.returns-in-Err-read_tariff-clause-other_fault
+returns-in-Err-read_tariff-clause-other_fault g c = λ e.
+    let faults = g.F.Files.faults in
+    rose_behind (faults c.args.files.now 2) (faults c.read_tariff.new.files 2) (faults c.read_tariff-2.new.files 2)
+    (c.read_tariff.ensures.counts (no_fault c.read_tariff.result c.in-Ok.one texts.ReadFault c.in-Ok.is) 2)
+    (c.read_tariff-2.ensures.read_fault cc)
+
+pub returns-in-Err-read_tariff-clause-others : goal.returns-in-Err-read_tariff-clause-others
+returns-in-Err-read_tariff-clause-others g c = λ other not_1 not_2.
+    c.read_tariff-2.ensures.others other not_2 ∙ c.read_tariff.ensures.others other not_1
+
+pub returns-in-Err-read_tariff-clause-unread : goal.returns-in-Err-read_tariff-clause-unread
+returns-in-Err-read_tariff-clause-unread g c = λ tells other not_1 never.
+    c.read_tariff-2.ensures.others other
+    (λ e. never (e, record { tree = tree_of c.in-Ok.one; reads = c.in-Ok.ensures.found tells }))
+    ∙ c.read_tariff.ensures.others other not_1
+
+pub returns-in-Err-read_tariff-clause-counts : goal.returns-in-Err-read_tariff-clause-counts
+returns-in-Err-read_tariff-clause-counts g c = λ first second other.
+    c.read_tariff-2.ensures.counts (λ e. second cc) other
+    ∙ c.read_tariff.ensures.counts (no_fault c.read_tariff.result c.in-Ok.one texts.ReadFault c.in-Ok.is) other
+
+-- ---- both were read
 
 pub returns-in-Ok-compare-clause-compared : goal.returns-in-Ok-compare-clause-compared
 returns-in-Ok-compare-clause-compared g c = λ tells. record {
@@ -37,6 +125,24 @@ returns-in-Ok-compare-clause-unread g c = λ tells other not_1 never.
 
 pub returns-in-Ok-compare-clause-counts : goal.returns-in-Ok-compare-clause-counts
 returns-in-Ok-compare-clause-counts g c = λ first second other.
+    c.read_tariff-2.ensures.counts
+    (no_fault c.read_tariff-2.result c.in-Ok-read_tariff.other texts.ReadFault c.in-Ok-read_tariff.is) other
+    ∙ c.read_tariff.ensures.counts (no_fault c.read_tariff.result c.in-Ok.one texts.ReadFault c.in-Ok.is) other
+
+-- ---- there was no memory for a comparison
+
+pub returns-clause-others : goal.returns-clause-others
+returns-clause-others g c = λ other not_1 not_2.
+    c.read_tariff-2.ensures.others other not_2 ∙ c.read_tariff.ensures.others other not_1
+
+pub returns-clause-unread : goal.returns-clause-unread
+returns-clause-unread g c = λ tells other not_1 never.
+    c.read_tariff-2.ensures.others other
+    (λ e. never (e, record { tree = tree_of c.in-Ok.one; reads = c.in-Ok.ensures.found tells }))
+    ∙ c.read_tariff.ensures.others other not_1
+
+pub returns-clause-counts : goal.returns-clause-counts
+returns-clause-counts g c = λ first second other.
     c.read_tariff-2.ensures.counts
     (no_fault c.read_tariff-2.result c.in-Ok-read_tariff.other texts.ReadFault c.in-Ok-read_tariff.is) other
     ∙ c.read_tariff.ensures.counts (no_fault c.read_tariff.result c.in-Ok.one texts.ReadFault c.in-Ok.is) other

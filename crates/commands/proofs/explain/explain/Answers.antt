@@ -4,6 +4,8 @@ use Rattle.outside.proofs.Laws.{keeps_none}
 use Rattle.commands.specs.declared.ending.Ended.TheVariants as ended
 use Rattle.commands.specs.Explain.{explain_command}
 use Rattle.commands.specs.ExplainSteps.{HasExplained}
+use Rattle.commands.proofs.EndsApart.{board_not_read, done_not_read}
+use Rattle.commands.proofs.Counting.{cause_board, cause_done}
 use Rattle.commands.proofs.Carrying.{carries-kept}
 use Rattle.commands.proofs.Endings.{course-unprinted}
 use Rattle.commands.proofs.Explaining.{explained_pieces, explained_shown}
@@ -57,7 +59,7 @@ returns-in-Ok-print_text g c =
     c.in-Ok-print_text.ensures.whole)
     (λ later le tells.
     omega (arith, le, c.print_text.ensures.steps, explained_pieces (rest files) (rest files') text (made tells)))
-    (λ e. absurd cc) (record { count = λ good. c.in-Ok-print_text.ensures.cause.kept refl; failed = λ e. absurd cc })
+    (λ e. absurd (done_not_read e)) (cause_done (c.in-Ok-print_text.ensures.cause.kept refl))
     c.explanation.ensures.others
     (c.explanation.ensures.unread (g.B.Board.image board))
     (λ read good. c.explanation.ensures.counts (no_fault c.explanation.result c.in-Ok.text ended.ReadFault c.in-Ok.is))
@@ -84,7 +86,7 @@ returns g c =
     c.print_text.ensures.begun failed)
     (λ later le tells.
     omega (arith, le, c.print_text.ensures.steps, explained_pieces (rest files) (rest files') text (made tells)))
-    (λ e. absurd cc) (record { count = λ good. absurd (good refl); failed = λ e. failed })
+    (λ e. absurd (board_not_read e)) (cause_board failed)
     c.explanation.ensures.others
     (c.explanation.ensures.unread (g.B.Board.image board))
     (λ read good. c.explanation.ensures.counts (no_fault c.explanation.result c.in-Ok.text ended.ReadFault c.in-Ok.is))

@@ -1,6 +1,7 @@
 use Rattle.std.proofs.Common.{◌≡◌, ◌≢◌, ◌∙◌, ℕ, List, [], ◌++◌, Ok, Err, refl, sym, ap, subst, arith, inl, inr}
-use Rattle.std.proofs.Common.{flat_map}
+use Rattle.std.proofs.Common.{All, flat_map}
 use Rattle.std.proofs.lemmas.List.{append-nil}
+use Rattle.drive_text.specs.Ranges.{IsRunInRange}
 use Rattle.drive_text.specs.Runs.{run_events}
 use Rattle.drive_text.specs.declared.run.Run.{Run}
 use Rattle.meter_states.specs.Setting.{setting_by}
@@ -19,10 +20,11 @@ use Rattle.commands.specs.declared.ending.Ended.TheVariants as ended
 use Rattle.commands.specs.declared.params.ParamsFault.TheVariants as params
 use Rattle.commands.specs.declared.tariff.TextFault.TheVariants as texts
 use Rattle.commands.specs.declared.whole_drive.DriveFault.TheVariants as drives
+use Rattle.commands.proofs.EndsApart.{ends_apart}
 use Rattle.commands.proofs.Counting.{read_fault-text, stops_by}
 use Rattle.commands.proofs.Explaining.{behind_drive, behind_params, course-lacking, course-no_drive, course-no_params}
 use Rattle.commands.proofs.Explaining.{course-no_tariff, each_read}
-use Rattle.commands.proofs.Explaining.{read_fault-params, setting_is}
+use Rattle.commands.proofs.Explaining.{not_board-params, read_fault-params, setting_is}
 use Rattle.commands.proofs.Faring.{begins_going}
 use Rattle.commands.proofs.Judging.{not_board-drive, read_fault-drive}
 use Rattle.commands.proofs.Openings.{no_fault, same_fault}
@@ -323,3 +325,28 @@ returns-in-Ok-text_of_runs-clause-counts g c = λ not word.
     ∙ c.read_parameters.ensures.counts
     (no_fault c.read_parameters.result c.in-Ok-read_parameters.params params.ReadFault c.in-Ok-read_parameters.is) word
     ∙ c.read_tariff.ensures.counts (no_fault c.read_tariff.result c.in-Ok.checked texts.ReadFault c.in-Ok.is) word
+
+-- ---- what the other answers are
+
+pub returns-in-Err-read_parameters-clause-not_board : goal.returns-in-Err-read_parameters-clause-not_board
+returns-in-Err-read_parameters-clause-not_board g c = λ e.
+    not_board-params c.in-Err-read_parameters.fault (sym c.refused_params.ensures ∙ same_fault _ _ _ refl e)
+
+pub text_of_runs-requires : goal.text_of_runs-requires
+text_of_runs-requires g c = subst (All IsRunInRange) (sym c.as_slice.ensures.value) c.in-Ok-read_drive.ensures.range
+
+pub returns-in-Ok-text_of_runs-clause-refused : goal.returns-in-Ok-text_of_runs-clause-refused
+returns-in-Ok-text_of_runs-clause-refused g c = λ why image tells e. absurd (no_fault _ _ _ refl e)
+
+pub returns-in-Ok-text_of_runs-clause-read_fault : goal.returns-in-Ok-text_of_runs-clause-read_fault
+returns-in-Ok-text_of_runs-clause-read_fault g c = λ e. absurd (no_fault _ _ _ refl e)
+
+pub returns-in-Ok-text_of_runs-clause-not_board : goal.returns-in-Ok-text_of_runs-clause-not_board
+returns-in-Ok-text_of_runs-clause-not_board g c = no_fault _ _ _ refl
+
+pub returns-clause-read_fault : goal.returns-clause-read_fault
+returns-clause-read_fault g c =
+    λ e. absurd (ends_apart ended.NoMemory ended.ReadFault refl (same_fault _ _ _ refl e))
+
+pub returns-clause-not_board : goal.returns-clause-not_board
+returns-clause-not_board g c = λ e. ends_apart ended.NoMemory ended.BoardFault refl (same_fault _ _ _ refl e)

@@ -6,8 +6,9 @@ use Rattle.commands.specs.declared.tariff.TextFault.TheVariants as texts
 use Rattle.commands.specs.Ending.{ended_for}
 use Rattle.commands.specs.Form.{form_command}
 use Rattle.commands.specs.FormSteps.{IsFormOf}
+use Rattle.commands.proofs.EndsApart.{board_not_read, done_not_read}
 use Rattle.commands.proofs.Carrying.{carries-kept}
-use Rattle.commands.proofs.Counting.{read_fault-text, stops_by, unless_read}
+use Rattle.commands.proofs.Counting.{cause_board, cause_done, read_fault-text, stops_by, unless_read}
 use Rattle.commands.proofs.Endings.{course-unprinted}
 use Rattle.commands.proofs.Forms.{form_in_pieces, form_shown, refused-form}
 use Rattle.commands.proofs.Openings.{no_fault}
@@ -58,7 +59,7 @@ returns-in-Ok-print_text g c =
     (λ word reads. ap (rest files') reads ∙ c.in-Ok.ensures.ended tells) c.in-Ok-print_text.ensures.whole)
     (λ later le tells.
     omega (arith, le, c.print_text.ensures.steps, form_in_pieces (rest files 1) form (made tells)))
-    (λ e. absurd cc) (record { count = λ good. c.in-Ok-print_text.ensures.cause.kept refl; failed = λ e. absurd cc })
+    (λ e. absurd (done_not_read e)) (cause_done (c.in-Ok-print_text.ensures.cause.kept refl))
     c.form_of_word.ensures.others
     (λ tells word never. c.form_of_word.ensures.others word (never []))
     (λ read good.
@@ -86,7 +87,7 @@ returns g c =
     (λ word reads. ap (rest files') reads ∙ c.in-Ok.ensures.ended tells) c.print_text.ensures.begun failed)
     (λ later le tells.
     omega (arith, le, c.print_text.ensures.steps, form_in_pieces (rest files 1) form (made tells)))
-    (λ e. absurd cc) (record { count = λ good. absurd (good refl); failed = λ e. failed })
+    (λ e. absurd (board_not_read e)) (cause_board failed)
     c.form_of_word.ensures.others
     (λ tells word never. c.form_of_word.ensures.others word (never []))
     (λ read good.

@@ -1,12 +1,14 @@
-use Rattle.std.proofs.Common.{◌≡◌, ◌∙◌, ℕ, List, ◌++◌, Ok, Err, refl, ap, subst, arith, rules}
+use Rattle.std.proofs.Common.{◌≡◌, ◌∙◌, ◌<◌, ℕ, List, ◌++◌, length, Ok, Err, refl, sym, ap, subst, arith, rules}
 use Rattle.std.specs.Prelude.{is_err}
 use Rattle.outside.specs.Printing.{Begins}
 use Rattle.tariff_compile.specs.Tables.{tables_of}
 use Rattle.outside.proofs.Laws.{keeps_none, keeps_print}
 use Rattle.commands.specs.Carried.{no_files}
 use Rattle.commands.specs.declared.ending.Ended.TheVariants as ended
-use Rattle.commands.specs.Generate.{gen_command, generated_setting}
+use Rattle.commands.specs.Generate.{gen_command, generated_setting, generated_text}
 use Rattle.commands.specs.Tariffs.{tariff_in}
+use Rattle.commands.proofs.EndsApart.{board_not_read, done_not_read}
+use Rattle.commands.proofs.Counting.{cause_board, cause_done}
 use Rattle.commands.proofs.Carrying.{carries-kept}
 use Rattle.commands.proofs.Endings.{course-unprinted}
 use Rattle.commands.proofs.Generating.{course-gen, course-gen_begun, course-gen_refused, setting_is, text_is}
@@ -38,6 +40,10 @@ state_of_drive-durable-requires-clause-setting g c = let made = c.in-Ok.ensures.
       c.gen_seal-seal.ensures.offsets,
 )
 
+pub print-requires-clause-some : goal.print-requires-clause-some
+print-requires-clause-some g c =
+    subst (λ (x : List ℕ). 0 < length x) (sym c.as_slice.ensures.value) c.summary-line.ensures.some
+
 pub returns-in-Ok-print : goal.returns-in-Ok-print
 returns-in-Ok-print g c = λ contents.
     carries-kept (no_files contents) g.B.Board (gen_command c.args.seed c.args.trips) tt tt c.args.board.now
@@ -46,6 +52,8 @@ returns-in-Ok-print g c = λ contents.
     let made = c.in-Ok.ensures.found in
     let t = made.tree in
     let printed = g.B.Board.printed in
+    let text =
+    generated_text c.args.seed c.args.trips c.decimals-decimals.result c.state_of_drive-durable.result in
     let is = setting_is t c.in-Ok.tables c.gen_seal-seal.result made.compiled
     (made.value ∙ ap (tables_of made.tree) c.ten_thousand-constant.ensures)
     c.gen_seal-seal.ensures.constant c.gen_seal-seal.ensures.mode c.gen_seal-seal.ensures.hold
@@ -56,10 +64,11 @@ returns-in-Ok-print g c = λ contents.
     (text_is c.args.seed c.args.trips c.decimals-decimals.result c.state_of_drive-durable.result t c.in-Ok.tables
     (made.value ∙ ap (tables_of made.tree) c.ten_thousand-constant.ensures) c.decimals-decimals.ensures.value
     (c.state_of_drive-durable.ensures.state (generated_setting t) is))
-    (λ tells. c.in-Ok-print.ensures.whole tells
-    ∙ ap (λ (x : List ℕ). printed c.args.board.now ++ x) (c.as_slice.ensures.value ∙ c.summary-line.ensures.text)))
-    (λ later le. omega (arith, le, c.state_of_drive-durable.ensures.steps, c.print.ensures.step)) (λ e. absurd cc)
-    (record { count = λ good. c.in-Ok-print.ensures.cause.kept refl; failed = λ e. absurd cc })
+    (λ tells. c.in-Ok-print.ensures.whole tells ∙ ap (λ (x : List ℕ). printed c.args.board.now ++ x) {y = text}
+    (◌∙◌ {c = text} c.as_slice.ensures.value c.summary-line.ensures.text)))
+    (λ later le. omega (arith, le, c.state_of_drive-durable.ensures.steps, c.print.ensures.step))
+    (λ e. absurd (done_not_read e))
+    (cause_done (c.in-Ok-print.ensures.cause.kept refl))
     (λ word not. refl) (λ known word never. refl) (λ read good word. refl)
     (keeps_print g.B.Board c.args.board.now c.print.new.self _
     c.print.ensures.image c.print.ensures.flight c.print.ensures.time)
@@ -72,6 +81,8 @@ returns g c = λ contents.
     let made = c.in-Ok.ensures.found in
     let t = made.tree in
     let printed = g.B.Board.printed in
+    let text =
+    generated_text c.args.seed c.args.trips c.decimals-decimals.result c.state_of_drive-durable.result in
     let is = setting_is t c.in-Ok.tables c.gen_seal-seal.result made.compiled
     (made.value ∙ ap (tables_of made.tree) c.ten_thousand-constant.ensures)
     c.gen_seal-seal.ensures.constant c.gen_seal-seal.ensures.mode c.gen_seal-seal.ensures.hold
@@ -82,15 +93,13 @@ returns g c = λ contents.
     (text_is c.args.seed c.args.trips c.decimals-decimals.result c.state_of_drive-durable.result t c.in-Ok.tables
     (made.value ∙ ap (tables_of made.tree) c.ten_thousand-constant.ensures) c.decimals-decimals.ensures.value
     (c.state_of_drive-durable.ensures.state (generated_setting t) is))
-    (λ tells. subst (λ (x : List ℕ). Begins (printed c.args.board.now) (printed c.print.new.self) x)
-    (c.as_slice.ensures.value ∙ c.summary-line.ensures.text) (c.print.ensures.begun tells))
+    (λ tells. subst (λ (x : List ℕ). Begins (printed c.args.board.now) (printed c.print.new.self) x) {y = text}
+    (◌∙◌ {c = text} c.as_slice.ensures.value c.summary-line.ensures.text) (c.print.ensures.begun tells))
     (c.print.ensures.cause.failed (ap is_err c.in-Err-print.is)))
-    (λ later le. omega (arith, le, c.state_of_drive-durable.ensures.steps, c.print.ensures.step)) (λ e. absurd cc)
-    (record {
-      count = λ good. absurd (good refl);
-      failed = λ e. c.print.ensures.cause.failed
-          (ap is_err c.in-Err-print.is);
-    })
+    (λ later le. omega (arith, le, c.state_of_drive-durable.ensures.steps, c.print.ensures.step))
+    (λ e. absurd (board_not_read e))
+    (cause_board (c.print.ensures.cause.failed
+    (ap is_err c.in-Err-print.is)))
     (λ word not. refl) (λ known word never. refl) (λ read good word. refl)
     (keeps_print g.B.Board c.args.board.now c.print.new.self _
     c.print.ensures.image c.print.ensures.flight c.print.ensures.time)

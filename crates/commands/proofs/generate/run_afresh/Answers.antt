@@ -7,6 +7,8 @@ use Rattle.meter_store.specs.Stored.{HasState}
 use Rattle.totals_record.specs.States.{first_state}
 use Rattle.meter_run.specs.Runs.{OpensWith}
 use Rattle.commands.specs.Generate.{state_after}
+use Rattle.commands.proofs.Counting.{not_some}
+use Rattle.commands.proofs.Openings.{no_fault}
 use Rattle.commands.proofs.Faring.{left-whole}
 use Rattle.commands.proofs.Generating.{not_failed, whole_bound}
 use Rattle.commands.proofs.generate.run_afresh.Goals as goal
@@ -25,6 +27,12 @@ returns-in-Err-run_events-clause-state g c = λ tells told whole calm still s is
     (c.run_events.ensures.complete tells whole calm (λ rose. still
     (omega (arith, rose, c.in-Ok.ensures.cause.kept refl)))) (ap is_err c.in-Err-run_events.is))
 
+pub returns-in-Err-run_events-clause-steps : goal.returns-in-Err-run_events-clause-steps
+returns-in-Err-run_events-clause-steps g c = λ tells told whole calm still s is.
+    absurd (not_failed c.run_events.result
+    (c.run_events.ensures.complete tells whole calm (λ rose. still
+    (omega (arith, rose, c.in-Ok.ensures.cause.kept refl)))) (ap is_err c.in-Err-run_events.is))
+
 -- ---- it was
 
 pub returns-in-Ok-run_events-clause-state : goal.returns-in-Ok-run_events-clause-state
@@ -33,7 +41,11 @@ returns-in-Ok-run_events-clause-state g c = λ tells told whole calm still s is.
     let seal = c.args.seal.now in
     let placed = c.in-Ok.ensures.sealed told in
     let opens : OpensWith g.B.Board tables c.place_seal.new.board first_state =
-    record { place = placed.totals.0; settled = placed.totals.1; fits = λ trip e. absurd cc } in
+    record {
+      place = placed.totals.0;
+      settled = placed.totals.1;
+      fits = λ trip e. absurd (not_some first_state.hold trip refl e);
+    } in
     let done = ((c.in-Ok-run_events.ensures.ends tells).runs told s first_state is opens).opens in
     let stands : HasState (g.B.Board.image c.run_events.new.board) (state_after s (g.F.Files.rest c.args.files.now 0)) =
     at_stands totals.reads states.state_number_of 0 done.place _ _ done.settled.is_at in
@@ -41,7 +53,7 @@ returns-in-Ok-run_events-clause-state g c = λ tells told whole calm still s is.
       arith,
       rose,
       c.in-Ok.ensures.cause.kept refl,
-      c.in-Ok-run_events.ensures.board_fault.kept (λ bad. absurd cc),
+      c.in-Ok-run_events.ensures.board_fault.kept (no_fault _ _ _ refl),
     ))) _ stands
 
 pub returns-in-Ok-run_events-clause-steps : goal.returns-in-Ok-run_events-clause-steps

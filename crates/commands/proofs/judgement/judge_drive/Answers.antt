@@ -1,11 +1,13 @@
-use Rattle.std.proofs.Common.{◌≡◌, ◌≢◌, ◌∙◌, ℕ, List, Err, refl, sym, ap, subst, arith}
+use Rattle.std.proofs.Common.{◌≡◌, ◌≢◌, ◌∙◌, ℕ, List, All, Err, refl, sym, ap, subst, arith}
 use Rattle.std.proofs.lemmas.Result.{err_from_is_err_and}
+use Rattle.drive_text.specs.Ranges.{IsRunInRange}
 use Rattle.outside.specs.Faults.{Rose}
 use Rattle.tariff_syntax.specs.declared.tariff.Tariff.{Tariff}
 use Rattle.commands.specs.BenchSteps.{IsNoReadings, IsNotJudged, IsWholeDrive, ended_for_drive, terms_in}
 use Rattle.commands.specs.declared.ending.Ended.{Ended}
 use Rattle.commands.specs.declared.ending.Ended.TheVariants as ended
 use Rattle.commands.specs.declared.whole_drive.DriveFault.TheVariants as drives
+use Rattle.commands.proofs.EndsApart.{ends_apart}
 use Rattle.commands.proofs.Judging.{no_readings-as, not_board-drive, not_judged-drive, not_judged-memory}
 use Rattle.commands.proofs.Judging.{not_judged-readings, read_fault-drive}
 use Rattle.commands.proofs.Openings.{same_fault, no_fault}
@@ -120,7 +122,7 @@ returns-in-Ok-judge_readings-clause-reads g c =
     let came = λ (tells : g.F.Files.tells). (c.in-Ok.ensures.whole tells).end_is in
     first_then g.F.Files 2 3 _ _ c.args.files.now c.readings_of_word.new.files c.read_drive.new.files
     (c.readings_of_word.result ≡ Err ended.ReadFault) came
-    (λ e. absurd cc)
+    (λ e. absurd (no_fault _ _ _ refl e))
     (λ e. absurd (no_fault c.readings_of_word.result c.in_ok-readings.readings ended.ReadFault
     c.in_ok-readings.was e))
     c.read_drive.ensures.others (c.read_drive.ensures.counts went)
@@ -132,8 +134,22 @@ returns-clause-reads g c =
     let came = λ (tells : g.F.Files.tells). (c.in-Ok.ensures.whole tells).end_is in
     first_then g.F.Files 2 3 _ _ c.args.files.now c.readings_of_word.new.files c.read_drive.new.files
     (c.readings_of_word.result ≡ Err ended.ReadFault) came
-    (λ e. absurd cc)
+    (λ e. absurd (ends_apart ended.NoMemory ended.ReadFault refl (same_fault _ _ _ refl e)))
     (λ e. absurd (no_fault c.readings_of_word.result c.in_ok-readings.readings ended.ReadFault
     c.in_ok-readings.was e))
     c.read_drive.ensures.others (c.read_drive.ensures.counts went)
     c.readings_of_word.ensures.read_fault c.readings_of_word.ensures.others c.readings_of_word.ensures.counts
+
+-- ---- what the other answers are
+
+pub judge_readings-requires : goal.judge_readings-requires
+judge_readings-requires g c = subst (All IsRunInRange) (sym c.as_slice.ensures.value) c.in-Ok.ensures.range
+
+pub returns-in-Ok-judge_readings-clause-refused : goal.returns-in-Ok-judge_readings-clause-refused
+returns-in-Ok-judge_readings-clause-refused g c = λ why tells e. absurd (no_fault _ _ _ refl e)
+
+pub returns-in-Ok-judge_readings-clause-not_board : goal.returns-in-Ok-judge_readings-clause-not_board
+returns-in-Ok-judge_readings-clause-not_board g c = no_fault _ _ _ refl
+
+pub returns-clause-not_board : goal.returns-clause-not_board
+returns-clause-not_board g c = λ e. ends_apart ended.NoMemory ended.BoardFault refl (same_fault _ _ _ refl e)

@@ -5,6 +5,8 @@ use Rattle.shift_book.specs.Marks.{mark_text}
 use Rattle.commands.specs.Carried.{no_files}
 use Rattle.commands.specs.declared.ending.Ended.TheVariants as ended
 use Rattle.commands.specs.Mark.{mark_answer, mark_command, mark_of}
+use Rattle.commands.proofs.EndsApart.{board_not_read, done_not_read}
+use Rattle.commands.proofs.Counting.{cause_board, cause_done}
 use Rattle.commands.proofs.Carrying.{carries-looked}
 use Rattle.commands.proofs.ReadOnlyCalls.{unwritten-behind}
 use Rattle.commands.proofs.Openings.{no_fault}
@@ -35,12 +37,10 @@ returns-in-Ok-print g c = λ contents.
     (mark_text (mark_of c.args.driver c.in-Ok.store.0)) c.as_slice.result.now
     refl (c.as_slice.ensures.value ∙ c.mark_line-line.ensures.text)
     (λ word reads. absurd reads) c.print.new.self c.in-Ok-print.ensures.whole)
-    (λ later le. omega (arith, le, c.open_sealed.ensures.steps, c.print.ensures.step)) (λ e. absurd cc)
-    (record {
-      count = λ good. c.in-Ok-print.ensures.cause.kept refl
-          ∙ c.open_sealed.ensures.opens.count (no_fault c.open_sealed.result c.in-Ok.store ended.BoardFault c.in-Ok.is);
-      failed = λ e. absurd cc;
-    }) (λ word not. refl) (λ known word never. refl) (λ read good word. refl)
+    (λ later le. omega (arith, le, c.open_sealed.ensures.steps, c.print.ensures.step)) (λ e. absurd (done_not_read e))
+    (cause_done (c.in-Ok-print.ensures.cause.kept refl
+    ∙ c.open_sealed.ensures.opens.count (no_fault c.open_sealed.result c.in-Ok.store ended.BoardFault c.in-Ok.is)))
+    (λ word not. refl) (λ known word never. refl) (λ read good word. refl)
     (unwritten-behind g.B.Board _ ended.Done c.args.board.now mid c.print.new.self
     (no_fault c.open_sealed.result c.in-Ok.store ended.BoardFault c.in-Ok.is) c.open_sealed.ensures.opens
     (g.met.B.Board.only_now mid)
@@ -59,16 +59,13 @@ returns-in-Err-print g c = λ contents.
     (mark_text (mark_of c.args.driver c.in-Ok.store.0)) c.as_slice.result.now
     refl (c.as_slice.ensures.value ∙ c.mark_line-line.ensures.text)
     (λ word reads. absurd reads) c.print.new.self c.print.ensures.begun failed)
-    (λ later le. omega (arith, le, c.open_sealed.ensures.steps, c.print.ensures.step)) (λ e. absurd cc)
-    (record {
-      count = λ good. absurd (good refl);
-      failed = λ e. omega (
-        arith,
-        c.open_sealed.ensures.opens.count (no_fault c.open_sealed.result c.in-Ok.store ended.BoardFault
-            c.in-Ok.is),
-        failed,
-      );
-    })
+    (λ later le. omega (arith, le, c.open_sealed.ensures.steps, c.print.ensures.step)) (λ e. absurd (board_not_read e))
+    (cause_board (omega (
+      arith,
+      c.open_sealed.ensures.opens.count (no_fault c.open_sealed.result c.in-Ok.store ended.BoardFault
+          c.in-Ok.is),
+      failed,
+    )))
     (λ word not. refl) (λ known word never. refl) (λ read good word. refl)
     (unwritten-behind g.B.Board _ ended.BoardFault c.args.board.now mid c.print.new.self
     (no_fault c.open_sealed.result c.in-Ok.store ended.BoardFault c.in-Ok.is) c.open_sealed.ensures.opens

@@ -1,9 +1,11 @@
-use Rattle.std.proofs.Common.{◌∙◌, ℕ, [], Err, refl, ap, arith, rules}
+use Rattle.std.proofs.Common.{◌≡◌, ◌∙◌, ℕ, ℤ, List, [], Err, refl, ap, arith, rules}
 use Rattle.std.specs.Prelude.{is_err}
 use Rattle.outside.proofs.Laws.{keeps_none}
 use Rattle.offset_rules.specs.Pairs.{pairs_of}
+use Rattle.offset_rules.specs.Rule.{Rule}
+use Rattle.commands.proofs.EndsApart.{board_not_read, done_not_read}
 use Rattle.commands.proofs.Openings.{no_fault}
-use Rattle.commands.proofs.Counting.{read_fault-rules, stops_by, unless_read}
+use Rattle.commands.proofs.Counting.{cause_board, cause_done, read_fault-rules, stops_by, unless_read}
 use Rattle.commands.specs.Ending.{ended_for_rules}
 use Rattle.commands.specs.declared.ending.Ended.TheVariants as ended
 use Rattle.commands.specs.declared.offsets.RulesFault.TheVariants as rules
@@ -11,6 +13,12 @@ use Rattle.commands.specs.Offsets.{offsets_command}
 use Rattle.commands.proofs.Carrying.{carries-kept}
 use Rattle.commands.proofs.Listing.{course-lines, course-lines_begun, course-refused}
 use Rattle.commands.proofs.offsets.print_offsets.Goals as goal
+
+-- the pairs that were made for bounds are those for the years that the bounds are
+made_for : (rule : Rule) (years bounds : ℕ × ℕ) (items pairs : List (ℕ × ℤ)) → items ≡ pairs
+    → pairs ≡ pairs_of rule bounds.0 bounds.1 → bounds ≡ years → items ≡ pairs_of rule years.0 years.1
+made_for rule years bounds items pairs same made are =
+    same ∙ made ∙ ap (λ (y : ℕ × ℕ). pairs_of rule y.0 y.1) are
 
 pub returns-in-Err : goal.returns-in-Err
 returns-in-Err g c =
@@ -43,11 +51,11 @@ returns-in-Ok-print_pairs g c =
     (λ tells. course-lines c.args.years (rest c.args.files.now) (rest c.rules_of_word.new.files)
     (g.B.Board.image c.args.board.now) _ _ _ (printed c.args.board.now) (printed c.print_pairs.new.board)
     rule c.as_slice.result.now (c.in-Ok.ensures.found tells)
-    (c.as_slice.ensures.value ∙ c.pairs-pairs.ensures.value
-    ∙ ap (λ (years : ℕ × ℕ). pairs_of rule years.0 years.1) c.bounds-first.ensures.value)
+    (made_for rule _ c.bounds-first.result c.as_slice.result.now _ c.as_slice.ensures.value
+    c.pairs-pairs.ensures.value c.bounds-first.ensures.value)
     (c.in-Ok.ensures.ended tells) c.in-Ok-print_pairs.ensures.whole)
-    (λ later le. search (rules, le)) (λ e. absurd cc)
-    (record { count = λ good. c.in-Ok-print_pairs.ensures.cause.kept refl; failed = λ e. absurd cc })
+    (λ later le. search (rules, le)) (λ e. absurd (done_not_read e))
+    (cause_done (c.in-Ok-print_pairs.ensures.cause.kept refl))
     c.rules_of_word.ensures.others (λ tells word never. c.rules_of_word.ensures.others word (never []))
     (λ read good.
     c.rules_of_word.ensures.counts (no_fault c.rules_of_word.result c.in-Ok.rules rules.ReadFault c.in-Ok.is))
@@ -64,14 +72,13 @@ returns-in-Err-print_pairs g c =
     (λ tells. course-lines_begun c.args.years (rest c.args.files.now) (rest c.rules_of_word.new.files)
     (g.B.Board.image c.args.board.now) _ _ _ (printed c.args.board.now) (printed c.print_pairs.new.board)
     rule c.as_slice.result.now (c.in-Ok.ensures.found tells)
-    (c.as_slice.ensures.value ∙ c.pairs-pairs.ensures.value
-    ∙ ap (λ (years : ℕ × ℕ). pairs_of rule years.0 years.1) c.bounds-first.ensures.value)
+    (made_for rule _ c.bounds-first.result c.as_slice.result.now _ c.as_slice.ensures.value
+    c.pairs-pairs.ensures.value c.bounds-first.ensures.value)
     (c.in-Ok.ensures.ended tells) c.print_pairs.ensures.begun
     (c.print_pairs.ensures.cause.failed (ap is_err c.in-Err-print_pairs.is)))
-    (λ later le. search (rules, le)) (λ e. absurd cc) (record {
-      count = λ good. absurd (good refl);
-      failed = λ e. c.print_pairs.ensures.cause.failed (ap is_err c.in-Err-print_pairs.is);
-    })
+    (λ later le. search (rules, le))
+    (λ e. absurd (board_not_read e))
+    (cause_board (c.print_pairs.ensures.cause.failed (ap is_err c.in-Err-print_pairs.is)))
     c.rules_of_word.ensures.others (λ tells word never. c.rules_of_word.ensures.others word (never []))
     (λ read good.
     c.rules_of_word.ensures.counts (no_fault c.rules_of_word.result c.in-Ok.rules rules.ReadFault c.in-Ok.is))

@@ -1,4 +1,4 @@
-use Rattle.std.proofs.Common.{◌∙◌, arith, refl}
+use Rattle.std.proofs.Common.{◌∙◌, arith, refl, true}
 use Rattle.outside.proofs.Laws.{keeps_none, keeps_print, keeps_then}
 use Rattle.commands.proofs.Listing.{begins_at, begins_end, printed_all, printed_more, printed_none}
 use Rattle.commands.proofs.offsets.print_pairs.Goals as goal
@@ -20,7 +20,7 @@ loop-pair-preserved g c =
           (printed c.print.new.self) c.as_slice.result.now c.args.pairs.now c.loop-pair.pair-index _
           c.loop-pair-test.true (c.as_slice.ensures.value ∙ c.line_of-line.ensures.text)
           (c.loop-pair.invariant.printed told) (c.in_ok-print.ensures.whole told);
-      faults = c.in_ok-print.ensures.cause.kept refl ∙ c.loop-pair.invariant.faults;
+      faults = c.in_ok-print.ensures.cause.kept (refl {a = true}) ∙ c.loop-pair.invariant.faults;
       store = keeps_then g.B.Board c.args.board.now c.loop-pair.board c.print.new.self c.loop-pair.invariant.store
           (keeps_print g.B.Board c.loop-pair.board c.print.new.self _ c.print.ensures.image c.print.ensures.flight
           c.print.ensures.time);

@@ -1,5 +1,5 @@
 use Rattle.std.proofs.Common.{rules, ◌≡◌, ◌∙◌, ◌+◌, ◌≤◌, ◌<◌, ◌++◌, ℕ, List, length, min, take, drop, sym, ap, subst}
-use Rattle.std.proofs.Common.{arith, append_assoc, refl}
+use Rattle.std.proofs.Common.{arith, append_assoc, refl, true}
 use Rattle.std.proofs.lemmas.List.{take-append-drop}
 use Rattle.outside.specs.Printing.{Begins}
 use Rattle.outside.proofs.Laws.{begins_after, begins_more, keeps_print, keeps_then}
@@ -53,10 +53,15 @@ loop-rest-preserved g c =
       printed = λ told.
           c.in_ok-print.ensures.whole told ∙ ap (λ (x : List ℕ). x ++ piece) (inv.printed told)
           ∙ append_assoc (printed c.args.board.now) inv.done piece;
-      faults = c.in_ok-print.ensures.cause.kept refl ∙ inv.faults;
+      faults = c.in_ok-print.ensures.cause.kept (refl {a = true}) ∙ inv.faults;
       store = keeps_then g.B.Board c.args.board.now c.loop-rest.board c.print.new.self inv.store (keeps_print g.B.Board
           c.loop-rest.board c.print.new.self _ c.print.ensures.image c.print.ensures.flight c.print.ensures.time);
       steps = one_piece c.print.new.steps c.loop-rest.steps (length rest) c.min.result (length more)
           (pieces_of (length c.args.text.now)) c.args.steps.now
           c.print.ensures.step c.min.ensures c.split_at.ensures.back_len (search rules) inv.steps;
     }
+
+pub returns-in_err-print-clause-store : goal.returns-in_err-print-clause-store
+returns-in_err-print-clause-store g c =
+    keeps_then g.B.Board c.args.board.now c.loop-rest.board c.print.new.self c.loop-rest.invariant.store (keeps_print
+    g.B.Board c.loop-rest.board c.print.new.self _ c.print.ensures.image c.print.ensures.flight c.print.ensures.time)

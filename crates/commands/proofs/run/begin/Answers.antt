@@ -6,7 +6,8 @@ use Rattle.totals_record.specs.declared.durable_state.Durable.{Durable}
 use Rattle.seal_record.specs.declared.seal.Seal.{Seal}
 use Rattle.commands.specs.declared.ending.Ended.TheVariants as ended
 use Rattle.commands.specs.Run.{does_hold_fit}
-use Rattle.commands.proofs.Openings.{as_found, as_refused, opens-barred, opens-behind, same_fault}
+use Rattle.commands.proofs.EndsApart.{ends_apart}
+use Rattle.commands.proofs.Openings.{as_found, as_refused, no_fault, opens-barred, opens-behind, same_fault}
 use Rattle.commands.proofs.Starting.{has_begun, not_begun-barred, not_begun-tables, not_begun-trip}
 use Rattle.commands.proofs.run.begin.Goals as goal
 
@@ -56,6 +57,16 @@ returns-in_err-tables-clause-opens g c =
     (λ e. c.read_tables.ensures.not_board (c.in_err-tables.was ∙ ap Err (same_fault _ _ _ refl e)))
     c.open_sealed.ensures.opens)
 
+pub returns-in_err-tables-clause-read_fault : goal.returns-in_err-tables-clause-read_fault
+returns-in_err-tables-clause-read_fault g c =
+    let p = err_from_is_err_and c.from_residual-in_err-tables.result c.from_residual-in_err-tables.ensures.1 in
+    rw (p.1, p.2) (λ e. c.read_tables.ensures.read_fault (c.in_err-tables.was ∙ ap Err (same_fault _ _ _ refl e)))
+
+pub returns-in_err-tables-clause-counts : goal.returns-in_err-tables-clause-counts
+returns-in_err-tables-clause-counts g c =
+    let p = err_from_is_err_and c.from_residual-in_err-tables.result c.from_residual-in_err-tables.ensures.1 in
+    rw (p.1, p.2) (λ not. c.read_tables.ensures.counts (λ f. not (ap Err (same_fault _ _ _ c.in_err-tables.was f))))
+
 -- ---- the held trip doesn't fit
 
 pub returns-then-not-hold_fits-clause-refused : goal.returns-then-not-hold_fits-clause-refused
@@ -74,7 +85,17 @@ returns-then-not-hold_fits-clause-refused g c = λ tells told.
 pub returns-then-not-hold_fits-clause-opens : goal.returns-then-not-hold_fits-clause-opens
 returns-then-not-hold_fits-clause-opens g c =
     opens-behind g.B.Board c.open_sealed.result (c.in_ok-durable.durable, c.in_ok-durable.seal) _ c.args.board.now
-    c.open_sealed.new.board c.in_ok-durable.was (λ e. absurd cc) c.open_sealed.ensures.opens
+    c.open_sealed.new.board c.in_ok-durable.was
+    (λ e. ends_apart ended.BadTrip ended.BoardFault refl (same_fault _ _ _ refl e)) c.open_sealed.ensures.opens
+
+pub returns-then-not-hold_fits-clause-read_fault : goal.returns-then-not-hold_fits-clause-read_fault
+returns-then-not-hold_fits-clause-read_fault g c =
+    λ e. absurd (ends_apart ended.BadTrip ended.ReadFault refl (same_fault _ _ _ refl e))
+
+pub returns-then-not-hold_fits-clause-counts : goal.returns-then-not-hold_fits-clause-counts
+returns-then-not-hold_fits-clause-counts g c = λ not.
+    c.read_tables.ensures.counts
+    (no_fault c.read_tables.result c.in_ok-tables.tables ended.ReadFault c.in_ok-tables.was)
 
 -- ---- it begins
 
@@ -107,7 +128,15 @@ returns-clause-begun g c = λ tells told.
 pub returns-clause-opens : goal.returns-clause-opens
 returns-clause-opens g c =
     opens-behind g.B.Board c.open_sealed.result (c.in_ok-durable.durable, c.in_ok-durable.seal) _ c.args.board.now
-    c.open_sealed.new.board c.in_ok-durable.was (λ e. absurd cc) c.open_sealed.ensures.opens
+    c.open_sealed.new.board c.in_ok-durable.was (no_fault _ _ _ refl) c.open_sealed.ensures.opens
+
+pub returns-clause-read_fault : goal.returns-clause-read_fault
+returns-clause-read_fault g c = λ e. absurd (no_fault _ _ _ refl e)
+
+pub returns-clause-counts : goal.returns-clause-counts
+returns-clause-counts g c = λ not.
+    c.read_tables.ensures.counts
+    (no_fault c.read_tables.result c.in_ok-tables.tables ended.ReadFault c.in_ok-tables.was)
 
 -- ---- what is left unread
 

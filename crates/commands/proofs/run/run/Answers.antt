@@ -47,7 +47,8 @@ returns-in-Err-clause-carries g c =
         split = λ tells. record { bytes = sym (before.others 2 (two-one 2 refl)) };
         bound = omega (arith, le, before.steps);
       };
-      read_fault = λ e. stops_at 1 (inl refl) (before.read_fault (c.in-Err.is ∙ ap Err e)) before.others;
+      read_fault = λ e.
+          stops_at {files' = c.begin.new.files} 1 (inl refl) (before.read_fault (c.in-Err.is ∙ ap Err e)) before.others;
       board_fault = λ e. before.opens.cause (c.in-Err.is ∙ ap Err e);
       others = λ word not. before.others word (λ e. not (inl e));
       unread = λ known word never. before.unread known.1 word (λ h. never [] (inl (h.0, (refl, h.1))));

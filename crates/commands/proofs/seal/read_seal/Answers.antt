@@ -7,7 +7,7 @@ use Rattle.commands.specs.SealSteps.{IsNoSeal}
 use Rattle.commands.proofs.Counting.{read_fault-text}
 use Rattle.commands.specs.declared.params.ParamsFault.TheVariants as params
 use Rattle.commands.specs.declared.tariff.TextFault.TheVariants as texts
-use Rattle.commands.proofs.Explaining.{read_fault-params}
+use Rattle.commands.proofs.Explaining.{not_board-params, read_fault-params}
 use Rattle.commands.proofs.Openings.{no_fault, same_fault}
 use Rattle.commands.proofs.Sealings.{no_seal-tariff, no_tariff-fault}
 use Rattle.commands.proofs.Turns.{first_alone, first_then}
@@ -34,6 +34,16 @@ returns-in_err-decimals-clause-not_board g c =
     let end = c.in_err-decimals.field-0.0 in
     (no_tariff-fault c.args.found c.as_slice.result.now end (c.decimals_of.ensures.refused end c.in_err-decimals.was)).1
     (same_fault _ _ _ refl e))
+
+pub returns-in-Err-read_parameters-clause-not_board : goal.returns-in-Err-read_parameters-clause-not_board
+returns-in-Err-read_parameters-clause-not_board g c = λ e.
+    not_board-params c.in-Err-read_parameters.fault (sym c.refused_params.ensures ∙ same_fault _ _ _ refl e)
+
+pub returns-clause-refused : goal.returns-clause-refused
+returns-clause-refused g c = λ why read e. absurd (no_fault _ _ _ refl e)
+
+pub returns-clause-not_board : goal.returns-clause-not_board
+returns-clause-not_board g c = no_fault _ _ _ refl
 
 -- ---- what is read
 
@@ -81,7 +91,7 @@ returns-clause-reads g c =
     (c.as_slice.ensures.value ∙ c.in-Ok.ensures.text read) c.in_ok-decimals.ensures.sound.has in
     first_then g.F.Files 1 2 _ _ c.args.files.now c.read_parameters.new.files c.text_of_word.new.files
     (c.read_parameters.result ≡ Err params.ReadFault) has
-    (λ e. absurd cc)
+    (λ e. absurd (no_fault _ _ _ refl e))
     (λ e. absurd (no_fault c.read_parameters.result c.in-Ok-read_parameters.params params.ReadFault
     c.in-Ok-read_parameters.is e))
     c.text_of_word.ensures.others (c.text_of_word.ensures.counts went)

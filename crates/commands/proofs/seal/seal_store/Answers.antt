@@ -1,5 +1,6 @@
 use Rattle.std.proofs.Common.{◌≡◌, ⊎_elim, inl, inr, ◌∙◌, ℕ, Option, Err, refl, sym, ap, subst, arith, rules}
 use Rattle.std.specs.Prelude.{is_err}
+use Rattle.std.proofs.lemmas.Bool.{eqb-false}
 use Rattle.outside.specs.Faults.{Rose}
 use Rattle.totals_record.specs.declared.durable_state.Durable.{Durable}
 use Rattle.meter_store.specs.Sealing.{FoundTotals, old_seal}
@@ -12,6 +13,7 @@ use Rattle.commands.specs.LastLine.{line_of, status_of}
 use Rattle.commands.specs.Opening.{opening_of, store_ended}
 use Rattle.commands.specs.Seal.{seal_answer, seal_command, sealing_of}
 use Rattle.commands.specs.SealSteps.{IsNoSeal}
+use Rattle.commands.proofs.EndsApart.{ends_apart}
 use Rattle.commands.proofs.Amid.{found-as, is_sealed, rests-no_seal, rests-placed, rests-refused, seals-over}
 use Rattle.commands.proofs.Amid.{seals-read, settled-sealed}
 use Rattle.commands.proofs.Answering.{course-barred as comes-barred_by_store, course-board}
@@ -93,8 +95,8 @@ returns-in-Err-base_of-clause-carries g c = record {
       (c.open_store.ensures.exact tells) in
       course-barred rest rest image _ _ g.B.Board.tells_text (g.B.Board.printed c.args.board.now)
       (g.B.Board.printed c.open_store.new.board) c.open_store.ensures.reads.text c.in-Err-base_of.ended
-      (sealing-barred (opening_of image) c.in-Ok.opening c.in-Err-base_of.ended (rest 1) (rest 2) opened
-      (sym c.base_of.ensures.answer ∙ c.in-Err-base_of.is))
+      (sealing-barred (opening_of image) c.in-Ok.opening c.base_of.result c.in-Err-base_of.ended (rest 1) (rest 2)
+      opened c.in-Err-base_of.is c.base_of.ensures.answer)
       (c.base_of.ensures.refused c.in-Err-base_of.ended c.in-Err-base_of.is);
   steps = λ later le. search (rules, le);
   read_fault = λ e.
@@ -132,10 +134,10 @@ returns-in-Err-base_of-clause-comes g c = λ read tells. record {
       let image = g.B.Board.image c.args.board.now in
       rests-refused g.B.Board _ c.in-Err-base_of.ended image (g.B.Board.printed c.args.board.now)
       (line_of c.in-Err-base_of.ended) c.open_store.new.board
-      (sealing-barred (opening_of image) c.in-Ok.opening c.in-Err-base_of.ended (rest 1) (rest 2)
+      (sealing-barred (opening_of image) c.in-Ok.opening c.base_of.result c.in-Err-base_of.ended (rest 1) (rest 2)
       (as_found c.open_store.result (opening_of image) c.in-Ok.opening stores.BoardFault c.in-Ok.is
       (c.open_store.ensures.exact tells))
-      (sym c.base_of.ensures.answer ∙ c.in-Err-base_of.is))
+      c.in-Err-base_of.is c.base_of.ensures.answer)
       (c.open_store.ensures.same went) (c.open_store.ensures.settled tells went);
 }
 
@@ -152,9 +154,9 @@ returns-in-Err-read_seal-clause-carries g c = record {
       course-no_seal (rest c.args.files.now) (rest c.read_seal.new.files) image
       (λ word. Rose (faults c.args.files.now word) (faults c.read_seal.new.files word)) _
       g.B.Board.tells_text (g.B.Board.printed c.args.board.now)
-      (g.B.Board.printed c.open_store.new.board) c.open_store.ensures.reads.text c.in-Ok.opening base end
-      (as_found c.open_store.result (opening_of image) c.in-Ok.opening stores.BoardFault c.in-Ok.is
-      (c.open_store.ensures.exact tells)) (sym c.base_of.ensures.answer ∙ c.in-Ok-base_of.is)
+      (g.B.Board.printed c.open_store.new.board) c.open_store.ensures.reads.text c.in-Ok.opening c.base_of.result base
+      end (as_found c.open_store.result (opening_of image) c.in-Ok.opening stores.BoardFault c.in-Ok.is
+      (c.open_store.ensures.exact tells)) c.in-Ok-base_of.is c.base_of.ensures.answer
       (subst (λ (n : ℕ). IsNoSeal n base.decimals (rest c.args.files.now 1) (rest c.args.files.now 2)
       (λ word. Rose (faults c.args.files.now word) (faults c.read_seal.new.files word)) end)
       c.number_after-number.ensures.value (c.read_seal.ensures.refused end read c.in-Err-read_seal.is));
@@ -173,10 +175,10 @@ returns-in-Err-read_seal-clause-carries g c = record {
   others = λ word not. c.read_seal.ensures.reads.others word (λ e. not (inl e)) (λ e. not (inr e));
   unread =
       λ known. unread-sealing (g.F.Files.rest c.args.files.now) (g.F.Files.rest c.read_seal.new.files)
-      (g.B.Board.image c.args.board.now) c.in-Ok.opening c.in-Ok-base_of.base
+      (g.B.Board.image c.args.board.now) c.in-Ok.opening c.base_of.result c.in-Ok-base_of.base
       (as_found c.open_store.result (opening_of (g.B.Board.image c.args.board.now)) c.in-Ok.opening stores.BoardFault
       c.in-Ok.is (c.open_store.ensures.exact known.1))
-      (sym c.base_of.ensures.answer ∙ c.in-Ok-base_of.is) (c.read_seal.ensures.reads.unread known.0);
+      c.in-Ok-base_of.is c.base_of.ensures.answer (c.read_seal.ensures.reads.unread known.0);
   count = λ good. c.open_store.ensures.count (no_fault c.open_store.result c.in-Ok.opening stores.BoardFault
       c.in-Ok.is);
   counts = λ read good. c.read_seal.ensures.reads.counts (λ e. read
@@ -210,10 +212,11 @@ returns-in-Err-read_seal-clause-comes g c = λ read tells. record {
       let image = g.B.Board.image c.args.board.now in
       let base = c.in-Ok-base_of.base in
       let end = c.in-Err-read_seal.ended in
-      rests-no_seal g.B.Board (rest 1) (rest 2) image (g.B.Board.printed c.args.board.now) c.in-Ok.opening base
+      rests-no_seal g.B.Board (rest 1) (rest 2) image (g.B.Board.printed c.args.board.now) c.in-Ok.opening
+      c.base_of.result base
       (λ word. Rose (faults c.args.files.now word) (faults c.read_seal.new.files word)) c.open_store.new.board
       (as_found c.open_store.result (opening_of image) c.in-Ok.opening stores.BoardFault c.in-Ok.is
-      (c.open_store.ensures.exact tells)) (sym c.base_of.ensures.answer ∙ c.in-Ok-base_of.is)
+      (c.open_store.ensures.exact tells)) c.in-Ok-base_of.is c.base_of.ensures.answer
       (c.open_store.ensures.same went) c.open_store.ensures.reads.text (c.open_store.ensures.settled tells went) end
       (subst (λ (n : ℕ). IsNoSeal n base.decimals (rest 1) (rest 2)
       (λ word. Rose (faults c.args.files.now word) (faults c.read_seal.new.files word)) end)
@@ -248,15 +251,15 @@ returns-in-Ok-place_seal-clause-carries g c = record {
       c.in-Ok-read_seal.ensures.number (c.in-Ok-read_seal.ensures.tariff_ended read)
       (c.in-Ok-read_seal.ensures.params_ended read);
   steps = λ later le. search (rules, le);
-  read_fault = λ e. absurd cc;
-  board_fault = λ e. absurd cc;
+  read_fault = λ e. absurd (ends_apart (ended.Sealed _) ended.ReadFault refl e);
+  board_fault = λ e. absurd (ends_apart (ended.Sealed _) ended.BoardFault refl e);
   others = λ word not. c.read_seal.ensures.reads.others word (λ e. not (inl e)) (λ e. not (inr e));
   unread =
       λ known. unread-sealing (g.F.Files.rest c.args.files.now) (g.F.Files.rest c.read_seal.new.files)
-      (g.B.Board.image c.args.board.now) c.in-Ok.opening c.in-Ok-base_of.base
+      (g.B.Board.image c.args.board.now) c.in-Ok.opening c.base_of.result c.in-Ok-base_of.base
       (as_found c.open_store.result (opening_of (g.B.Board.image c.args.board.now)) c.in-Ok.opening stores.BoardFault
       c.in-Ok.is (c.open_store.ensures.exact known.1))
-      (sym c.base_of.ensures.answer ∙ c.in-Ok-base_of.is) (c.read_seal.ensures.reads.unread known.0);
+      c.in-Ok-base_of.is c.base_of.ensures.answer (c.read_seal.ensures.reads.unread known.0);
   count = λ good. c.in-Ok-place_seal.ensures.cause.kept refl ∙ c.open_store.ensures.count
       (no_fault c.open_store.result c.in-Ok.opening stores.BoardFault c.in-Ok.is);
   counts = λ read good. c.read_seal.ensures.reads.counts (no_fault c.read_seal.result _ _ c.in-Ok-read_seal.is);
@@ -307,7 +310,7 @@ returns-in-Err-place_seal-clause-carries g c = record {
             (no_fault c.open_store.result c.in-Ok.opening stores.BoardFault c.in-Ok.is),
       ));
   steps = λ later le. search (rules, le);
-  read_fault = λ e. absurd cc;
+  read_fault = λ e. absurd (ends_apart ended.BoardFault ended.ReadFault refl e);
   board_fault = λ e. omega (
     arith,
     c.place_seal.ensures.cause.failed
@@ -318,10 +321,10 @@ returns-in-Err-place_seal-clause-carries g c = record {
   others = λ word not. c.read_seal.ensures.reads.others word (λ e. not (inl e)) (λ e. not (inr e));
   unread =
       λ known. unread-sealing (g.F.Files.rest c.args.files.now) (g.F.Files.rest c.read_seal.new.files)
-      (g.B.Board.image c.args.board.now) c.in-Ok.opening c.in-Ok-base_of.base
+      (g.B.Board.image c.args.board.now) c.in-Ok.opening c.base_of.result c.in-Ok-base_of.base
       (as_found c.open_store.result (opening_of (g.B.Board.image c.args.board.now)) c.in-Ok.opening stores.BoardFault
       c.in-Ok.is (c.open_store.ensures.exact known.1))
-      (sym c.base_of.ensures.answer ∙ c.in-Ok-base_of.is) (c.read_seal.ensures.reads.unread known.0);
+      c.in-Ok-base_of.is c.base_of.ensures.answer (c.read_seal.ensures.reads.unread known.0);
   count = λ good. absurd (good refl);
   counts = λ read good. c.read_seal.ensures.reads.counts (no_fault c.read_seal.result _ _ c.in-Ok-read_seal.is);
   kept = λ shut. absurd (shut tt);
@@ -340,6 +343,6 @@ returns-in-Err-place_seal-clause-comes g c = λ read tells. record {
       c.number_after-number.ensures.value (c.in-Ok-read_seal.ensures.read read) c.in-Ok-base_of.ensures.found
       (c.in-Ok.ensures.opened tells).seal
       c.open_store.ensures.reads.text (c.open_store.ensures.synced tells)
-      (c.place_seal.ensures.any_moment tells) (λ z. absurd cc);
+      (c.place_seal.ensures.any_moment tells) (λ z. absurd (eqb-false 8 0 refl z));
   rests = λ good. absurd (good refl);
 }

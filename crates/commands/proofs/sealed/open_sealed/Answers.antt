@@ -7,6 +7,7 @@ use Rattle.meter_store.specs.Stored as states
 use Rattle.commands.specs.declared.ending.Ended.TheVariants as ended
 use Rattle.commands.specs.declared.opening.StoreFault.TheVariants as stores
 use Rattle.commands.specs.Opening.{store_ended, store_of}
+use Rattle.commands.proofs.EndsApart.{ends_apart}
 use Rattle.commands.proofs.Barring.{board_fault-store, not_read-store}
 use Rattle.commands.proofs.ReadOnlyCalls.{unwritten-opened}
 use Rattle.commands.proofs.Openings.{no_fault, opens-as, same_fault, store_opened}
@@ -92,7 +93,8 @@ pub returns-in-Some-clause-opens : goal.returns-in-Some-clause-opens
 returns-in-Some-clause-opens g c =
     let h = c.open_store.ensures in
     opens-as g.B.Board _ _ c.args.board.now c.open_store.new.board
-    (λ f. absurd (no_fault c.open_store.result c.in-Ok.opening stores.BoardFault c.in-Ok.is f)) (λ e. absurd cc)
+    (λ f. absurd (no_fault c.open_store.result c.in-Ok.opening stores.BoardFault c.in-Ok.is f))
+    (λ e. absurd (no_fault _ _ _ refl e))
     (record {
       reads = h.reads;
       synced = h.synced;
@@ -118,7 +120,7 @@ pub returns-in-None-clause-cause : goal.returns-in-None-clause-cause
 returns-in-None-clause-cause g c = record {
   count = λ good. c.open_store.ensures.count (no_fault c.open_store.result c.in-Ok.opening stores.BoardFault
       c.in-Ok.is);
-  failed = λ e. absurd cc;
+  failed = λ e. absurd (ends_apart ended.NotSealed ended.BoardFault refl e);
 }
 
 pub returns-in-None-clause-looks : goal.returns-in-None-clause-looks
@@ -140,7 +142,8 @@ pub returns-in-None-clause-opens : goal.returns-in-None-clause-opens
 returns-in-None-clause-opens g c =
     let h = c.open_store.ensures in
     opens-as g.B.Board _ _ c.args.board.now c.open_store.new.board
-    (λ f. absurd (no_fault c.open_store.result c.in-Ok.opening stores.BoardFault c.in-Ok.is f)) (λ e. absurd cc)
+    (λ f. absurd (no_fault c.open_store.result c.in-Ok.opening stores.BoardFault c.in-Ok.is f))
+    (λ e. absurd (ends_apart ended.NotSealed ended.BoardFault refl (same_fault _ _ _ refl e)))
     (record {
       reads = h.reads;
       synced = h.synced;

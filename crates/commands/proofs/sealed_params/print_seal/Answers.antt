@@ -1,7 +1,10 @@
-use Rattle.std.proofs.Common.{◌≡◌, ◌∙◌, ◌++◌, ◌∷◌, ℕ, ℤ, List, [], ap, subst, FitsSigned, w32, rules}
+use Rattle.std.proofs.Common.{◌≡◌, ◌∙◌, ◌++◌, ◌∷◌, ◌<◌, ℕ, ℤ, List, [], length, true, ap, refl, sym, subst, FitsSigned}
+use Rattle.std.proofs.Common.{w32, arith, rules}
 use Rattle.std.proofs.lemmas.Int.{to_z-of_z}
 use Rattle.std.proofs.lemmas.Result.{on_ok_weaker}
+use Rattle.outside.specs.Faults.{HasCause}
 use Rattle.outside.specs.Printing.{Begins}
+use Rattle.outside.proofs.Laws.{keeps_print, keeps_then}
 use Rattle.offset_rules.specs.Texts.{offset_lines}
 use Rattle.seal_record.specs.PlainText.{ended_text, secured_line}
 use Rattle.commands.specs.SealedText.{sealed_text}
@@ -39,6 +42,10 @@ returns-in_err-print_pairs-clause-begun g c = λ told.
     (c.print_pairs.ensures.begun told))
 
 -- ---- the date of securing
+
+pub print-requires-2-clause-some : goal.print-requires-2-clause-some
+print-requires-2-clause-some g c =
+    subst (λ (x : List ℕ). 0 < length x) (sym c.as_slice-2.ensures.value) c.secured_line-last.ensures.some
 
 pub returns-clause-begun : goal.returns-clause-begun
 returns-clause-begun g c = λ told.
@@ -80,3 +87,32 @@ returns-clause-whole g c = λ told.
     (c.in_ok-print_pairs.ensures.whole told))
     (printed_as late new _ (ended_text (secured_line seal.params.secured ∷ [])) last_is third))
     (c.print-2.ensures.whole told)
+
+pub returns-clause-steps : goal.returns-clause-steps
+returns-clause-steps g c = omega (
+  arith,
+  c.print.ensures.step,
+  c.print_pairs.ensures.steps,
+  c.print-2.ensures.step,
+  c.requires.params.offsets.few,
+  ap length c.pairs.ensures.value,
+)
+
+-- ---- the board
+
+pub returns-clause-cause : goal.returns-clause-cause
+returns-clause-cause g c =
+    let faults = g.B.Board.faults in
+    subst (λ (count : ℕ). HasCause count (faults c.print-2.new.self) c.print-2.result)
+    (c.in_ok-print_pairs.ensures.cause.kept (refl {a = true}) ∙ c.in_ok-print.ensures.cause.kept (refl {a = true}))
+    c.print-2.ensures.cause
+
+pub returns-clause-store : goal.returns-clause-store
+returns-clause-store g c =
+    let B = g.B.Board in
+    keeps_then B c.args.board.now c.print_pairs.new.board c.print-2.new.self
+    (keeps_then B c.args.board.now c.print.new.self c.print_pairs.new.board
+    (keeps_print B c.args.board.now c.print.new.self _ c.print.ensures.image c.print.ensures.flight
+    c.print.ensures.time) c.print_pairs.ensures.store)
+    (keeps_print B c.print_pairs.new.board c.print-2.new.self _ c.print-2.ensures.image c.print-2.ensures.flight
+    c.print-2.ensures.time)

@@ -4,6 +4,8 @@ use Rattle.commands.specs.Carried.{no_files}
 use Rattle.commands.specs.declared.ending.Ended.TheVariants as ended
 use Rattle.commands.specs.Sealed.{sealed_answer, sealed_command}
 use Rattle.commands.specs.SealedText.{sealed_text}
+use Rattle.commands.proofs.EndsApart.{board_not_read, done_not_read}
+use Rattle.commands.proofs.Counting.{cause_board, cause_done}
 use Rattle.commands.proofs.Carrying.{carries-looked}
 use Rattle.commands.proofs.ReadOnlyCalls.{unwritten-behind}
 use Rattle.commands.proofs.Openings.{no_fault}
@@ -37,12 +39,10 @@ returns-in-Ok-print_seal g c = λ contents.
     ends-shown g.B.Board sealed_command contents contents _ old mid sealed_answer refl refl c.open_sealed.result
     (c.open_sealed.ensures.exact tells) c.open_sealed.ensures.opens c.in-Ok.store c.in-Ok.is text text refl refl
     (λ word reads. absurd reads) new c.in-Ok-print_seal.ensures.whole)
-    (λ later le. omega (arith, le, c.open_sealed.ensures.steps, c.print_seal.ensures.steps)) (λ e. absurd cc)
-    (record {
-      count = λ good. c.in-Ok-print_seal.ensures.cause.kept refl
-          ∙ c.open_sealed.ensures.opens.count (no_fault c.open_sealed.result c.in-Ok.store ended.BoardFault c.in-Ok.is);
-      failed = λ e. absurd cc;
-    })
+    (λ later le. omega (arith, le, c.open_sealed.ensures.steps, c.print_seal.ensures.steps))
+    (λ e. absurd (done_not_read e))
+    (cause_done (c.in-Ok-print_seal.ensures.cause.kept refl
+    ∙ c.open_sealed.ensures.opens.count (no_fault c.open_sealed.result c.in-Ok.store ended.BoardFault c.in-Ok.is)))
     (λ word not. refl) (λ known word never. refl) (λ read good word. refl)
     (unwritten-behind g.B.Board _ ended.Done old mid new
     (no_fault c.open_sealed.result c.in-Ok.store ended.BoardFault c.in-Ok.is) c.open_sealed.ensures.opens
@@ -62,16 +62,14 @@ returns-in-Err-print_seal g c = λ contents.
     ends-begun g.B.Board sealed_command contents contents _ old mid sealed_answer refl refl c.open_sealed.result
     (c.open_sealed.ensures.exact tells) c.open_sealed.ensures.opens c.in-Ok.store c.in-Ok.is text text refl refl
     (λ word reads. absurd reads) new c.print_seal.ensures.begun failed)
-    (λ later le. omega (arith, le, c.open_sealed.ensures.steps, c.print_seal.ensures.steps)) (λ e. absurd cc)
-    (record {
-      count = λ good. absurd (good refl);
-      failed = λ e. omega (
-        arith,
-        c.open_sealed.ensures.opens.count (no_fault c.open_sealed.result c.in-Ok.store ended.BoardFault
-            c.in-Ok.is),
-        failed,
-      );
-    })
+    (λ later le. omega (arith, le, c.open_sealed.ensures.steps, c.print_seal.ensures.steps))
+    (λ e. absurd (board_not_read e))
+    (cause_board (omega (
+      arith,
+      c.open_sealed.ensures.opens.count (no_fault c.open_sealed.result c.in-Ok.store ended.BoardFault
+          c.in-Ok.is),
+      failed,
+    )))
     (λ word not. refl) (λ known word never. refl) (λ read good word. refl)
     (unwritten-behind g.B.Board _ ended.BoardFault old mid new
     (no_fault c.open_sealed.result c.in-Ok.store ended.BoardFault c.in-Ok.is) c.open_sealed.ensures.opens

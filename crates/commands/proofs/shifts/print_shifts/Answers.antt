@@ -2,7 +2,8 @@ use Rattle.std.proofs.Common.{◌∙◌, [], Result, Err, refl, sym, ap, arith, 
 use Rattle.std.specs.Prelude.{is_err}
 use Rattle.totals_record.specs.declared.durable_state.Durable.{Durable}
 use Rattle.seal_record.specs.declared.seal.Seal.{Seal}
-use Rattle.commands.proofs.Counting.{read_fault-report, stops_by, unless_read}
+use Rattle.commands.proofs.EndsApart.{done_not_read}
+use Rattle.commands.proofs.Counting.{cause_done, read_fault-report, stops_by, unless_read}
 use Rattle.commands.specs.Ending.{ended_for_report}
 use Rattle.commands.specs.declared.ending.Ended.{Ended}
 use Rattle.commands.specs.declared.ending.Ended.TheVariants as ended
@@ -108,11 +109,9 @@ returns-in-Ok-print_text g c =
         c.print_text.ensures.steps,
       );
     })
-    (λ e. absurd cc) (record {
-      count = λ good. c.in-Ok-print_text.ensures.cause.kept refl
-          ∙ c.open_sealed.ensures.opens.count (no_fault c.open_sealed.result c.in-Ok.store ended.BoardFault c.in-Ok.is);
-      failed = λ e. absurd cc;
-    }) c.report_of_word.ensures.others
+    (λ e. absurd (done_not_read e)) (cause_done (c.in-Ok-print_text.ensures.cause.kept refl
+    ∙ c.open_sealed.ensures.opens.count (no_fault c.open_sealed.result c.in-Ok.store ended.BoardFault c.in-Ok.is)))
+    c.report_of_word.ensures.others
     (λ known word never. c.report_of_word.ensures.others word (λ e. never [] (
       e,
       record {

@@ -1,17 +1,19 @@
-use Rattle.std.proofs.Common.{◌≡◌, ◌∙◌, ◌++◌, ℕ, List, append_assoc, sym, ap, arith, refl}
+use Rattle.std.proofs.Common.{◌≡◌, ◌∙◌, ◌++◌, ℕ, List, ap, arith, refl, true}
 use Rattle.std.specs.List.{flat_map, range_with_len}
 use Rattle.outside.proofs.Laws.{begins_whole}
 use Rattle.tariff_compile.specs.Rows.{row_count, row_text, rows_text}
-use Rattle.commands.proofs.Rows.{rows-more, begins-row}
+use Rattle.commands.proofs.Rows.{begins-row, printed-row}
 use Rattle.outside.proofs.Laws.{keeps_print, keeps_then}
 use Rattle.commands.proofs.tables.print_rows.Goals as goal
 
 pub returns-in_err-print-clause-begun : goal.returns-in_err-print-clause-begun
 returns-in_err-print-clause-begun g c = λ tells.
     let printed = g.B.Board.printed in
-    begins-row (row_text c.args.tables.now) (row_count c.args.tables.now) c.loop-i.i (printed c.args.board.now)
+    let row = row_text c.args.tables.now in
+    begins-row row (row_count c.args.tables.now) c.loop-i.i (printed c.args.board.now)
     (printed c.loop-i.board) (printed c.print.new.self) c.as_slice.result.now
-    (omega (arith, c.loop-i-test.true, c.rows-i-end.ensures)) (c.as_slice.ensures.value ∙ c.row_of-line.ensures.text)
+    (omega (arith, c.loop-i-test.true, c.rows-i-end.ensures))
+    (◌∙◌ {c = row c.loop-i.i} c.as_slice.ensures.value c.row_of-line.ensures.text)
     (c.loop-i.invariant.printed tells) (c.print.ensures.begun tells)
 
 pub loop-i-preserved : goal.loop-i-preserved
@@ -21,12 +23,10 @@ loop-i-preserved g c =
     let i = c.loop-i.i in
     record {
       printed = λ tells.
-          c.in_ok-print.ensures.whole tells
-          ∙ ap (λ (t : List ℕ). printed c.loop-i.board ++ t) (c.as_slice.ensures.value ∙ c.row_of-line.ensures.text)
-          ∙ ap (λ (t : List ℕ). t ++ row i) (c.loop-i.invariant.printed tells)
-          ∙ append_assoc (printed c.args.board.now) (flat_map row (range_with_len 0 i)) (row i)
-          ∙ ap (λ (t : List ℕ). printed c.args.board.now ++ t) (sym (rows-more row i));
-      faults = c.in_ok-print.ensures.cause.kept refl ∙ c.loop-i.invariant.faults;
+          printed-row row i (printed c.args.board.now) (printed c.loop-i.board) (printed c.print.new.self)
+          c.as_slice.result.now (◌∙◌ {c = row i} c.as_slice.ensures.value c.row_of-line.ensures.text)
+          (c.loop-i.invariant.printed tells) (c.in_ok-print.ensures.whole tells);
+      faults = c.in_ok-print.ensures.cause.kept (refl {a = true}) ∙ c.loop-i.invariant.faults;
       store = keeps_then g.B.Board c.args.board.now c.loop-i.board c.print.new.self c.loop-i.invariant.store
           (keeps_print g.B.Board c.loop-i.board c.print.new.self _ c.print.ensures.image c.print.ensures.flight
           c.print.ensures.time);

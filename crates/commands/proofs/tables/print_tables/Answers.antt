@@ -1,8 +1,9 @@
 use Rattle.std.proofs.Common.{◌∙◌, [], Err, refl, ap, arith, rules}
 use Rattle.std.specs.Prelude.{is_err}
 use Rattle.outside.proofs.Laws.{keeps_none}
+use Rattle.commands.proofs.EndsApart.{board_not_read, done_not_read}
 use Rattle.commands.proofs.Openings.{no_fault}
-use Rattle.commands.proofs.Counting.{read_fault-text, stops_by, unless_read}
+use Rattle.commands.proofs.Counting.{cause_board, cause_done, read_fault-text, stops_by, unless_read}
 use Rattle.commands.specs.Ending.{ended_for}
 use Rattle.commands.specs.declared.ending.Ended.TheVariants as ended
 use Rattle.commands.specs.declared.tariff.TextFault.TheVariants as texts
@@ -55,8 +56,8 @@ returns-in-Ok-print_rows g c =
     (λ later le tells.
     let made = c.in-Ok.ensures.found tells in
     rw made.sound (grind (arith, le, made.value, c.print_rows.ensures.steps)))
-    (λ e. absurd cc)
-    (record { count = λ good. c.in-Ok-print_rows.ensures.cause.kept refl; failed = λ e. absurd cc })
+    (λ e. absurd (done_not_read e))
+    (cause_done (c.in-Ok-print_rows.ensures.cause.kept refl))
     c.tables_of_word.ensures.others
     (λ tells word never. c.tables_of_word.ensures.others word (never []))
     (λ read good.
@@ -80,12 +81,9 @@ returns g c =
     (λ later le tells.
     let made = c.in-Ok.ensures.found tells in
     rw made.sound (grind (arith, le, made.value, c.print_rows.ensures.steps)))
-    (λ e. absurd cc)
-    (record {
-      count = λ good. absurd (good refl);
-      failed = λ e. c.print_rows.ensures.cause.failed
-          (ap is_err c.in-Err-print_rows.is);
-    })
+    (λ e. absurd (board_not_read e))
+    (cause_board (c.print_rows.ensures.cause.failed
+    (ap is_err c.in-Err-print_rows.is)))
     c.tables_of_word.ensures.others
     (λ tells word never. c.tables_of_word.ensures.others word (never []))
     (λ read good.

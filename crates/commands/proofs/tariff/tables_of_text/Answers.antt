@@ -1,6 +1,8 @@
-use Rattle.std.proofs.Common.{ap}
+use Rattle.std.proofs.Common.{ap, refl}
 use Rattle.tariff_compile.specs.Tables.{TableParts}
 use Rattle.tariff_syntax.specs.Tree.{tree_of}
+use Rattle.commands.proofs.Counting.{not_read-memory}
+use Rattle.commands.proofs.Openings.{no_fault, same_fault}
 use Rattle.commands.proofs.tariff.tables_of_text.Goals as goal
 
 pub returns-in-Ok-clause-found : goal.returns-in-Ok-clause-found
@@ -13,3 +15,9 @@ returns-in-Ok-clause-found c = record {
 
 pub returns-in-Ok-clause-constant : goal.returns-in-Ok-clause-constant
 returns-in-Ok-clause-constant c = ap (λ (tables : TableParts). tables.constant) c.in-Ok.ensures.value
+
+pub returns-in-Ok-clause-read : goal.returns-in-Ok-clause-read
+returns-in-Ok-clause-read c = no_fault _ _ _ refl
+
+pub returns-clause-read : goal.returns-clause-read
+returns-clause-read c = λ e. not_read-memory (same_fault _ _ _ refl e)

@@ -7,54 +7,85 @@ use Rattle.commands.specs.Sealed.{sealed_command}
 use Rattle.commands.proofs.Carrying.{carries-shut, carries-unread}
 use Rattle.commands.proofs.top.carry_out.Goals as goal
 
-pub returns-in-Check : goal.returns-in-Check
-returns-in-Check g c = record {
-  carries = rw c.in-Check.is
-      (carries-shut g.F.Files g.B.Board check_command c.args.files.now c.check_tariff.new.files c.args.board.now
-      c.args.steps.now c.check_tariff.result
-      (λ none. none) (λ told. told) (λ h later le. omega (arith, le))
-      (c.check_tariff.ensures (g.B.Board.image c.args.board.now)));
-  comes = rw c.in-Check.is tt;
-}
+-- ---- commands that are given files and a board
 
-pub returns-in-Totals : goal.returns-in-Totals
-returns-in-Totals g c = record {
-  carries = rw c.in-Totals.is
-      (carries-unread g.F.Files g.B.Board totals_command c.args.files.now c.args.board.now c.print_store.new.board
-      c.args.steps.now c.print_store.new.steps c.print_store.result
-      (λ told. told) (λ later h. h) (c.print_store.ensures (g.F.Files.rest c.args.files.now)));
-  comes = rw c.in-Totals.is tt;
-}
+pub returns-in-Tables : goal.returns-in-Tables
+returns-in-Tables g c = rw c.in-Tables.is (record { carries = c.print_tables.ensures; comes = tt })
+
+pub returns-in-Fare : goal.returns-in-Fare
+returns-in-Fare g c = rw c.in-Fare.is (record { carries = c.fare.ensures; comes = tt })
 
 pub returns-in-Seal : goal.returns-in-Seal
-returns-in-Seal g c = record {
-  carries = rw c.in-Seal.is c.seal_store.ensures.carries;
-  comes = rw c.in-Seal.is c.seal_store.ensures.comes;
-}
+returns-in-Seal g c = rw c.in-Seal.is (record {
+  carries = c.seal_store.ensures.carries;
+  comes = c.seal_store.ensures.comes;
+})
 
-pub returns-in-Mark : goal.returns-in-Mark
-returns-in-Mark g c = record {
-  carries = rw c.in-Mark.is
-      (carries-unread g.F.Files g.B.Board (mark_command c.in-Mark.driver) c.args.files.now c.args.board.now
-      c.print_mark.new.board c.args.steps.now c.print_mark.new.steps c.print_mark.result
-      (λ told. told) (λ later h. h) (c.print_mark.ensures (g.F.Files.rest c.args.files.now)));
-  comes = rw c.in-Mark.is tt;
-}
+pub returns-in-Run : goal.returns-in-Run
+returns-in-Run g c = rw c.in-Run.is (record { carries = c.run.ensures.carries; comes = c.run.ensures.runs })
 
-pub returns-in-Sealed : goal.returns-in-Sealed
-returns-in-Sealed g c = record {
-  carries = rw c.in-Sealed.is
-      (carries-unread g.F.Files g.B.Board sealed_command c.args.files.now c.args.board.now c.print_sealed.new.board
-      c.args.steps.now c.print_sealed.new.steps c.print_sealed.result
-      (λ told. told) (λ later h. h) (c.print_sealed.ensures (g.F.Files.rest c.args.files.now)));
-  comes = rw c.in-Sealed.is tt;
-}
+pub returns-in-Bench : goal.returns-in-Bench
+returns-in-Bench g c = rw c.in-Bench.is (record { carries = c.bench.ensures; comes = tt })
+
+pub returns-in-Port : goal.returns-in-Port
+returns-in-Port g c = rw c.in-Port.is (record { carries = c.serve_requests.ensures; comes = tt })
+
+pub returns-in-Offsets : goal.returns-in-Offsets
+returns-in-Offsets g c = rw c.in-Offsets.is (record { carries = c.print_offsets.ensures; comes = tt })
+
+pub returns-in-Shifts : goal.returns-in-Shifts
+returns-in-Shifts g c = rw c.in-Shifts.is (record { carries = c.print_shifts.ensures; comes = tt })
+
+pub returns-in-Form : goal.returns-in-Form
+returns-in-Form g c = rw c.in-Form.is (record { carries = c.print_form.ensures; comes = tt })
+
+pub returns-in-Lines : goal.returns-in-Lines
+returns-in-Lines g c = rw c.in-Lines.is (record { carries = c.print_lines.ensures; comes = tt })
+
+pub returns-in-Explain : goal.returns-in-Explain
+returns-in-Explain g c = rw c.in-Explain.is (record { carries = c.explain.ensures; comes = tt })
+
+pub returns-in-Compare : goal.returns-in-Compare
+returns-in-Compare g c = rw c.in-Compare.is (record { carries = c.print_comparison.ensures; comes = tt })
+
+-- ---- commands that are given no board, or no files
+
+pub returns-in-Check : goal.returns-in-Check
+returns-in-Check g c = rw c.in-Check.is (record {
+  carries = carries-shut g.F.Files g.B.Board check_command c.args.files.now c.check_tariff.new.files c.args.board.now
+      c.args.steps.now c.check_tariff.result (λ none. none) (λ told. told) (λ h later le. omega (arith, le))
+      (c.check_tariff.ensures (g.B.Board.image c.args.board.now));
+  comes = tt;
+})
+
+pub returns-in-Totals : goal.returns-in-Totals
+returns-in-Totals g c = rw c.in-Totals.is (record {
+  carries = carries-unread g.F.Files g.B.Board totals_command c.args.files.now c.args.board.now
+      c.print_store.new.board c.args.steps.now c.print_store.new.steps c.print_store.result (λ told. told)
+      (λ later h. h) (c.print_store.ensures (g.F.Files.rest c.args.files.now));
+  comes = tt;
+})
 
 pub returns-in-Gen : goal.returns-in-Gen
-returns-in-Gen g c = record {
-  carries = rw (c.in-Gen.is, ← c.get.ensures.value)
-      (carries-unread g.F.Files g.B.Board (gen_command c.in-Gen.seed c.get.result) c.args.files.now c.args.board.now
-      c.generate.new.board c.args.steps.now c.generate.new.steps c.generate.result
-      (λ told. told) (λ later h. h) (c.generate.ensures (g.F.Files.rest c.args.files.now)));
-  comes = rw c.in-Gen.is tt;
-}
+returns-in-Gen g c = rw (c.in-Gen.is, ← c.get.ensures.value) (record {
+  carries = carries-unread g.F.Files g.B.Board (gen_command c.in-Gen.seed c.get.result) c.args.files.now
+      c.args.board.now c.generate.new.board c.args.steps.now c.generate.new.steps c.generate.result (λ told. told)
+      (λ later h. h) (c.generate.ensures (g.F.Files.rest c.args.files.now));
+  comes = tt;
+})
+
+pub returns-in-Mark : goal.returns-in-Mark
+returns-in-Mark g c = rw c.in-Mark.is (record {
+  carries = carries-unread g.F.Files g.B.Board (mark_command c.in-Mark.driver) c.args.files.now c.args.board.now
+      c.print_mark.new.board c.args.steps.now c.print_mark.new.steps c.print_mark.result (λ told. told)
+      (λ later h. h) (c.print_mark.ensures (g.F.Files.rest c.args.files.now));
+  comes = tt;
+})
+
+pub returns-in-Sealed : goal.returns-in-Sealed
+returns-in-Sealed g c = rw c.in-Sealed.is (record {
+  carries = carries-unread g.F.Files g.B.Board sealed_command c.args.files.now c.args.board.now
+      c.print_sealed.new.board c.args.steps.now c.print_sealed.new.steps c.print_sealed.result (λ told. told)
+      (λ later h. h) (c.print_sealed.ensures (g.F.Files.rest c.args.files.now));
+  comes = tt;
+})

@@ -1,10 +1,11 @@
 use Rattle.std.proofs.Common.{◌≡◌, ◌≢◌, ℕ, ◌∙◌, map, string_bytes, refl, sym, subst, Some}
 use Rattle.std.specs.Prelude.{Option}
+use Rattle.std.proofs.lemmas.Bool.{eqb-false}
 use Rattle.outside.specs.Runs.{IsSettled, KeepsStore}
 use Rattle.outside.proofs.Laws.{keeps_then}
 use Rattle.outside.specs.declared.board.Board.{Ghosts}
 use Rattle.outside.specs.declared.files.Files.{Ghosts as FileGhosts}
-use Rattle.commands.proofs.Counting.{board_counts, cause_carried, files_left}
+use Rattle.commands.proofs.Counting.{board_counts, cause_carried, files_left, not_some}
 use Rattle.commands.specs.declared.ending.Ended.{Ended}
 use Rattle.commands.specs.declared.ending.Ended.TheVariants as ended
 use Rattle.commands.specs.declared.words.Row.{Row}
@@ -55,7 +56,7 @@ returns-in-None-clause-call g c =
     c.in-None.ensures
     (λ known. record {
       course = Answered;
-      may = record { whole = λ e. absurd cc; bad = λ e. absurd cc };
+      may = record { whole = λ e. absurd (eqb-false 1 0 refl e); bad = λ e. absurd (eqb-false 1 3 refl e) };
       ends = c.finish.ensures.ends;
       unread = λ word never. refl;
     })
@@ -84,6 +85,12 @@ returns-in-Some-clause-unwritten g c =
     (command_of (Some c.in-Some.row)) c.args.steps.now c.carry_out-ended.new.steps c.finish-in-Some.ensures.store
     c.carry_out-ended.ensures.carries)
 
+pub returns-in-None-clause-unwritten : goal.returns-in-None-clause-unwritten
+returns-in-None-clause-unwritten g c = λ not. record {
+  bytes = bytes-kept g.B.Board c.args.board.now c.finish.new.board c.finish.ensures.store;
+  same = λ not_8. c.finish.ensures.store.same;
+}
+
 pub returns-in-Some-clause-seals : goal.returns-in-Some-clause-seals
 returns-in-Some-clause-seals g c = λ e read tells.
     let printed = g.B.Board.printed in
@@ -105,10 +112,10 @@ returns-in-Some-clause-settled g c = λ is read tells still.
     (returns-in-Some-clause-seals g c is read tells)
 
 pub returns-in-None-clause-settled : goal.returns-in-None-clause-settled
-returns-in-None-clause-settled g c = λ e. let none = c.in-None.ensures in absurd cc
+returns-in-None-clause-settled g c = λ e. absurd (not_some _ _ (sym c.in-None.ensures) e)
 
 pub returns-in-None-clause-seals : goal.returns-in-None-clause-seals
-returns-in-None-clause-seals g c = λ e. let none = c.in-None.ensures in absurd cc
+returns-in-None-clause-seals g c = λ e. absurd (not_some _ _ (sym c.in-None.ensures) e)
 
 pub returns-in-Some-clause-runs : goal.returns-in-Some-clause-runs
 returns-in-Some-clause-runs g c = λ e read tells.
@@ -137,7 +144,7 @@ returns-in-Some-clause-runs g c = λ e read tells.
     (λ bytes. bytes-then g.B.Board old mid new bytes (bytes-kept g.B.Board mid new c.finish-in-Some.ensures.store))
 
 pub returns-in-None-clause-runs : goal.returns-in-None-clause-runs
-returns-in-None-clause-runs g c = λ e. let none = c.in-None.ensures in absurd cc
+returns-in-None-clause-runs g c = λ e. absurd (not_some _ _ (sym c.in-None.ensures) e)
 
 pub returns-in-Some-clause-kept : goal.returns-in-Some-clause-kept
 returns-in-Some-clause-kept g c =

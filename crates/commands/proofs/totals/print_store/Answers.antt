@@ -4,6 +4,8 @@ use Rattle.commands.specs.Carried.{no_files}
 use Rattle.commands.specs.declared.ending.Ended.TheVariants as ended
 use Rattle.commands.specs.Totals.{totals_answer, totals_command}
 use Rattle.commands.specs.TotalsText.{totals_text}
+use Rattle.commands.proofs.EndsApart.{board_not_read, done_not_read}
+use Rattle.commands.proofs.Counting.{cause_board, cause_done}
 use Rattle.commands.proofs.Carrying.{carries-looked}
 use Rattle.commands.proofs.ReadOnlyCalls.{unwritten-behind}
 use Rattle.commands.proofs.Openings.{no_fault}
@@ -33,12 +35,11 @@ returns-in-Ok-print_totals g c = λ contents.
     c.open_sealed.result (c.open_sealed.ensures.exact tells) c.open_sealed.ensures.opens c.in-Ok.store
     c.in-Ok.is text text
     refl refl (λ word reads. absurd reads) c.print_totals.new.board c.in-Ok-print_totals.ensures.whole)
-    (λ later le. omega (arith, le, c.open_sealed.ensures.steps, c.print_totals.ensures.steps)) (λ e. absurd cc)
-    (record {
-      count = λ good. c.in-Ok-print_totals.ensures.cause.kept refl
-          ∙ c.open_sealed.ensures.opens.count (no_fault c.open_sealed.result c.in-Ok.store ended.BoardFault c.in-Ok.is);
-      failed = λ e. absurd cc;
-    }) (λ word not. refl) (λ known word never. refl) (λ read good word. refl)
+    (λ later le. omega (arith, le, c.open_sealed.ensures.steps, c.print_totals.ensures.steps))
+    (λ e. absurd (done_not_read e))
+    (cause_done (c.in-Ok-print_totals.ensures.cause.kept refl
+    ∙ c.open_sealed.ensures.opens.count (no_fault c.open_sealed.result c.in-Ok.store ended.BoardFault c.in-Ok.is)))
+    (λ word not. refl) (λ known word never. refl) (λ read good word. refl)
     (unwritten-behind g.B.Board _ ended.Done c.args.board.now c.open_sealed.new.board c.print_totals.new.board
     (no_fault c.open_sealed.result c.in-Ok.store ended.BoardFault c.in-Ok.is) c.open_sealed.ensures.opens
     (g.met.B.Board.only_now c.open_sealed.new.board) c.print_totals.ensures.store)
@@ -55,16 +56,14 @@ returns-in-Err-print_totals g c = λ contents.
     c.in-Ok.is text text
     refl refl (λ word reads. absurd reads) c.print_totals.new.board c.print_totals.ensures.begun
     (c.print_totals.ensures.cause.failed (ap is_err c.in-Err-print_totals.is)))
-    (λ later le. omega (arith, le, c.open_sealed.ensures.steps, c.print_totals.ensures.steps)) (λ e. absurd cc)
-    (record {
-      count = λ good. absurd (good refl);
-      failed = λ e. omega (
-        arith,
-        c.open_sealed.ensures.opens.count
-            (no_fault c.open_sealed.result c.in-Ok.store ended.BoardFault c.in-Ok.is),
-        c.print_totals.ensures.cause.failed (ap is_err c.in-Err-print_totals.is),
-      );
-    }) (λ word not. refl) (λ known word never. refl) (λ read good word. refl)
+    (λ later le. omega (arith, le, c.open_sealed.ensures.steps, c.print_totals.ensures.steps))
+    (λ e. absurd (board_not_read e))
+    (cause_board (omega (
+      arith,
+      c.open_sealed.ensures.opens.count
+          (no_fault c.open_sealed.result c.in-Ok.store ended.BoardFault c.in-Ok.is),
+      c.print_totals.ensures.cause.failed (ap is_err c.in-Err-print_totals.is),
+    ))) (λ word not. refl) (λ known word never. refl) (λ read good word. refl)
     (unwritten-behind g.B.Board _ ended.BoardFault c.args.board.now c.open_sealed.new.board c.print_totals.new.board
     (no_fault c.open_sealed.result c.in-Ok.store ended.BoardFault c.in-Ok.is) c.open_sealed.ensures.opens
     (g.met.B.Board.only_now c.open_sealed.new.board) c.print_totals.ensures.store)

@@ -1,10 +1,10 @@
-use Rattle.std.proofs.Common.{◌≡◌, ◌∙◌, ◌++◌, ℕ, List, append_assoc, refl, sym, ap, subst, arith}
+use Rattle.std.proofs.Common.{◌≡◌, ◌∙◌, ◌++◌, ℕ, List, append_assoc, refl, sym, ap, subst, arith, true}
 use Rattle.std.proofs.lemmas.List.{append-nil}
 use Rattle.std.specs.List.{flat_map, range_with_len}
 use Rattle.outside.specs.Printing.{Begins}
 use Rattle.outside.proofs.Laws.{begins_after, begins_more, begins_whole, keeps_print, keeps_then}
 use Rattle.commands.specs.TotalsText.{heading_text, position_at, positions_text, totals_text}
-use Rattle.commands.proofs.Rows.{rows-more, begins-row}
+use Rattle.commands.proofs.Rows.{begins-row, printed-row}
 use Rattle.commands.proofs.totals.print_totals.Goals as goal
 
 -- ---- the heading
@@ -12,22 +12,25 @@ use Rattle.commands.proofs.totals.print_totals.Goals as goal
 pub returns-in_err-print-clause-begun : goal.returns-in_err-print-clause-begun
 returns-in_err-print-clause-begun g c = λ tells.
     let printed = g.B.Board.printed in
-    begins_more (printed c.args.board.now) (printed c.print.new.self) (heading_text c.args.decimals c.args.durable.now)
+    let heading = heading_text c.args.decimals c.args.durable.now in
+    begins_more (printed c.args.board.now) (printed c.print.new.self) heading
     (positions_text c.args.decimals c.args.durable.now.totals.shares)
-    (subst (λ (t : List ℕ). Begins (printed c.args.board.now) (printed c.print.new.self) t)
-    (c.as_slice.ensures.value ∙ c.heading-line.ensures.text) (c.print.ensures.begun tells))
+    (subst (λ (t : List ℕ). Begins (printed c.args.board.now) (printed c.print.new.self) t) {y = heading}
+    (◌∙◌ {c = heading} c.as_slice.ensures.value c.heading-line.ensures.text) (c.print.ensures.begun tells))
 
 -- ---- the positions behind it
 
 pub loop-place-init : goal.loop-place-init
 loop-place-init g c =
     let old = g.B.Board.printed c.args.board.now in
+    let heading = heading_text c.args.decimals c.args.durable.now in
     record {
       printed = λ tells.
           c.in_ok-print.ensures.whole tells
-          ∙ ap (λ (t : List ℕ). old ++ t) (c.as_slice.ensures.value ∙ c.heading-line.ensures.text)
-          ∙ sym (append-nil (old ++ heading_text c.args.decimals c.args.durable.now));
-      faults = c.in_ok-print.ensures.cause.kept refl;
+          ∙ ap (λ (t : List ℕ). old ++ t) {y = heading}
+          (◌∙◌ {c = heading} c.as_slice.ensures.value c.heading-line.ensures.text)
+          ∙ sym (append-nil (old ++ heading));
+      faults = c.in_ok-print.ensures.cause.kept (refl {a = true});
       store = keeps_print g.B.Board c.args.board.now c.print.new.self _ c.print.ensures.image c.print.ensures.flight
           c.print.ensures.time;
       steps = omega (arith, c.print.ensures.step);
@@ -48,16 +51,15 @@ returns-in_err-print_position-clause-begun g c = λ tells.
 
 pub loop-place-preserved : goal.loop-place-preserved
 loop-place-preserved g c =
-    let start = g.B.Board.printed c.args.board.now ++ heading_text c.args.decimals c.args.durable.now in
+    let printed = g.B.Board.printed in
+    let start = printed c.args.board.now ++ heading_text c.args.decimals c.args.durable.now in
     let row = position_at c.args.decimals c.args.durable.now.totals.shares in
     let i = c.loop-place.place in
     record {
       printed = λ tells.
-          c.in_ok-print_position.ensures.whole tells
-          ∙ ap (λ (t : List ℕ). t ++ row i) (c.loop-place.invariant.printed tells)
-          ∙ append_assoc start (flat_map row (range_with_len 0 i)) (row i)
-          ∙ ap (λ (t : List ℕ). start ++ t) (sym (rows-more row i));
-      faults = c.in_ok-print_position.ensures.cause.kept refl ∙ c.loop-place.invariant.faults;
+          printed-row row i start (printed c.loop-place.board) (printed c.print_position.new.board) (row i) refl
+          (c.loop-place.invariant.printed tells) (c.in_ok-print_position.ensures.whole tells);
+      faults = c.in_ok-print_position.ensures.cause.kept (refl {a = true}) ∙ c.loop-place.invariant.faults;
       store = keeps_then g.B.Board c.args.board.now c.loop-place.board c.print_position.new.board
           c.loop-place.invariant.store c.print_position.ensures.store;
       steps = omega (arith, c.loop-place.invariant.steps, c.print_position.ensures.steps);

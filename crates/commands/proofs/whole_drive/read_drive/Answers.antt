@@ -1,14 +1,20 @@
-use Rattle.std.proofs.Common.{◌≡◌, ◌∙◌, ◌++◌, List, All, sym, ap, subst, refl}
+use Rattle.std.proofs.Common.{◌≡◌, ◌∙◌, ◌++◌, List, All, sym, ap, subst, refl, Some}
 use Rattle.std.proofs.lemmas.List.Elements.{All-append}
 use Rattle.drive_text.specs.Ranges.{IsRunInRange}
 use Rattle.drive_text.specs.declared.run.Run.{Run}
 use Rattle.outside.proofs.Laws.{rose_behind}
+use Rattle.meter_run.specs.declared.source.Stop.{Stop}
 use Rattle.meter_run.specs.declared.source.Stop.TheVariants as stops
 use Rattle.commands.specs.declared.whole_drive.DriveFault.TheVariants as drives
+use Rattle.commands.proofs.Openings.{same_fault}
 use Rattle.commands.proofs.Counting.{not_true}
-use Rattle.commands.specs.BenchSteps.{IsWholeDrive}
+use Rattle.commands.specs.BenchSteps.{IsWholeDrive, fault_by}
 use Rattle.commands.proofs.WholeDrives.{IsSoFar, no_drive, no_room, smaller, so_far_more, stop_at, whole_drive}
 use Rattle.commands.proofs.whole_drive.read_drive.Goals as goal
+
+-- the runs that were there, and those of a part of the drive
+grown_by : (runs part piece now : List Run) → now ≡ runs ++ piece → piece ≡ part → now ≡ runs ++ part
+grown_by runs part piece now is same = is ∙ ap (λ (x : List Run). runs ++ x) same
 
 pub returns-in-Err-clause-refused : goal.returns-in-Err-clause-refused
 returns-in-Err-clause-refused g c = λ told.
@@ -27,8 +33,8 @@ returns-in-None-clause-whole g c = λ told.
     let s = c.loop-source.invariant.so_far in
     let runs = c.loop-source.runs.items in
     let part = c.next-stop.new.runs.items in
-    let grown : c.extend_from_slice.new.self.items ≡ runs ++ part =
-    c.in-Ok.ensures.items ∙ ap (λ (x : List Run). runs ++ x) c.as_slice.ensures.value in
+    let grown = grown_by runs part c.as_slice.result.now c.extend_from_slice.new.self.items c.in-Ok.ensures.items
+    c.as_slice.ensures.value in
     subst (λ (x : List Run). IsWholeDrive (rest c.args.files.now word) (rest c.next-stop.new.files word) x) (sym grown)
     (whole_drive g.F.Files.tells c.loop-source.source (rest c.args.files.now word) (rest c.loop-source.files word)
     (rest c.next-stop.new.files word) runs part s
@@ -38,8 +44,8 @@ pub returns-in-None-clause-range : goal.returns-in-None-clause-range
 returns-in-None-clause-range g c =
     let runs = c.loop-source.runs.items in
     let part = c.next-stop.new.runs.items in
-    let grown : c.extend_from_slice.new.self.items ≡ runs ++ part =
-    c.in-Ok.ensures.items ∙ ap (λ (x : List Run). runs ++ x) c.as_slice.ensures.value in
+    let grown = grown_by runs part c.as_slice.result.now c.extend_from_slice.new.self.items c.in-Ok.ensures.items
+    c.as_slice.ensures.value in
     subst (All IsRunInRange) (sym grown)
     (All-append IsRunInRange runs part c.loop-source.invariant.range c.next-stop.ensures.range)
 
@@ -56,6 +62,19 @@ returns-in-Some-fault_of-clause-refused g c = λ told.
     (rest c.next-stop.new.files word) c.loop-source.runs.items c.next-stop.new.runs.items s
     c.in-Some.stop c.in-Some-fault_of.fault (sym c.fault_of.ensures ∙ c.in-Some-fault_of.is)
     (c.in-Some.ensures.stops s.given s.stands) told
+
+-- a drive isn't had for a fault of a read only where its reading stopped by one
+stopped_by : (stop : Stop) → fault_by stop ≡ Some drives.ReadFault → stop ≡ stops.ReadFault
+stopped_by stops.Whole e = absurd cc
+stopped_by (stops.BadLine line) e = absurd cc
+stopped_by stops.TooLong e = absurd cc
+stopped_by stops.ReadFault e = refl
+
+pub returns-in-Some-fault_of-clause-read_fault : goal.returns-in-Some-fault_of-clause-read_fault
+returns-in-Some-fault_of-clause-read_fault g c = λ e.
+    let fault = sym c.fault_of.ensures ∙ c.in-Some-fault_of.is ∙ ap Some (same_fault _ _ _ refl e) in
+    absurd (not_true c.has_failed.result c.if-has_failed.false c.has_failed.ensures
+    (c.in-Some.is ∙ ap Some (stopped_by c.in-Some.stop fault)))
 
 pub returns-in-Some-fault_of-clause-others : goal.returns-in-Some-fault_of-clause-others
 returns-in-Some-fault_of-clause-others g c =
@@ -77,8 +96,8 @@ loop-source-preserved g c =
     let s = c.loop-source.invariant.so_far in
     let runs = c.loop-source.runs.items in
     let part = c.next-stop.new.runs.items in
-    let grown : c.extend_from_slice.new.self.items ≡ runs ++ part =
-    c.in-Ok.ensures.items ∙ ap (λ (x : List Run). runs ++ x) c.as_slice.ensures.value in
+    let grown = grown_by runs part c.as_slice.result.now c.extend_from_slice.new.self.items c.in-Ok.ensures.items
+    c.as_slice.ensures.value in
     record {
       so_far = subst (λ (x : List Run). IsSoFar g.F.Files.tells c.next-stop.new.self (rest c.args.files.now word)
           (rest c.next-stop.new.files word) x) (sym grown)

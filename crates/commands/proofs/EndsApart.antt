@@ -1,0 +1,28 @@
+-- Ends of a command that are not one another, by their statuses.
+use Rattle.std.proofs.Common.{◌≡◌, ◌≢◌, eqb, false, refl, ap}
+use Rattle.std.proofs.lemmas.Bool.{eqb-false}
+use Rattle.commands.specs.declared.ending.Ended.{Ended}
+use Rattle.commands.specs.declared.ending.Ended.TheVariants.{BoardFault, Done, ReadFault}
+use Rattle.commands.specs.LastLine.{status_of}
+use Rattle.commands.specs.RunSteps.{IsRefusal}
+
+pub ends_apart : (one other : Ended) → eqb (status_of one) (status_of other) ≡ false → one ≢ other
+ends_apart one other apart e = eqb-false (status_of one) (status_of other) apart (ap status_of e)
+
+pub done_not_read : Done ≢ ReadFault
+done_not_read = ends_apart Done ReadFault refl
+
+pub done_not_board : Done ≢ BoardFault
+done_not_board = ends_apart Done BoardFault refl
+
+pub board_not_read : BoardFault ≢ ReadFault
+board_not_read = ends_apart BoardFault ReadFault refl
+
+-- an end with another status than 0, 3 and 11 is a refusal
+pub refusal_by : (why : Ended) → eqb (status_of why) 0 ≡ false → eqb (status_of why) 3 ≡ false
+    → eqb (status_of why) 11 ≡ false → IsRefusal why
+refusal_by why apart_0 apart_3 apart_11 = record {
+  not_0 = eqb-false (status_of why) 0 apart_0;
+  not_3 = eqb-false (status_of why) 3 apart_3;
+  not_11 = eqb-false (status_of why) 11 apart_11;
+}
