@@ -185,7 +185,8 @@ fn must_name_all(
 ) -> Result<(), Fail> {
     for &(call, fill, number) in moments {
         let (left, found) = chained(alloc, &[(HELD, &[])], image, &[Some((call, fill))])?;
-        let is_named = found.as_slice() == [(0, number)].as_slice() && (call != 0 || left == *image);
+        let is_named = found.as_slice() == [(0, number)].as_slice()
+            && (call != 0 || left == *image);
         must_behind(is_named, "another number or image", call, fill)?;
     }
     Ok(())

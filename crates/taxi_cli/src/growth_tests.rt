@@ -8,8 +8,8 @@ use std::test::Fail;
 
 /// A store as sealing leaves it, made without memory: number 1, totals of zero, no held trip.
 fn sealed_image() -> [u8; 2048] {
-    let mut image = image_of(SECOND_LAYOUT);
-    image[..1024].fill(0);
+    let mut image = [0; 2048];
+    image[1024..].copy_from_slice(&image_of(SECOND_LAYOUT)[1024..]);
     for (place, byte) in [(0, 0xA5), (8, 1), (511, 2)] {
         image[place] = byte;
     }

@@ -206,8 +206,15 @@ fn cut_off(
     let calls = whole.calls();
     let number = dice.below(calls.saturating_add(2)).saturating_add(1);
     let run = called(alloc, RUN, &[CITY, drive], image, &[number], &[])?;
-    must(is_begun(&run, whole.printed(), number <= calls), "another run", drive)?;
-    let fill = FILLS.get(dice.below(6) as usize).copied().unwrap_or(Fill::Old);
+    must(
+        is_begun(&run, whole.printed(), number <= calls),
+        "another run",
+        drive,
+    )?;
+    let fill = FILLS
+        .get(dice.below(6) as usize)
+        .copied()
+        .unwrap_or(Fill::Old);
     *image = cut_in(&run.0, run.0.calls(), fill);
     Ok(run.0)
 }
@@ -229,12 +236,7 @@ fn found_behind(
 
 /// Adds the receipts of a whole run that have an entry. Fails unless the sums are those that are found; tells whether
 /// a trip was aborted.
-fn adds_up(
-    alloc: Global,
-    text: &[u8],
-    found: &Durable,
-    sums: &mut Sums,
-) -> Result<bool, Fail> {
+fn adds_up(alloc: Global, text: &[u8], found: &Durable, sums: &mut Sums) -> Result<bool, Fail> {
     let receipts = receipts_in(alloc, text)?;
     *sums = added(*sums, receipts.as_slice(), found.number);
     must(sums_of(found) == *sums, "the totals are others", "a run")?;

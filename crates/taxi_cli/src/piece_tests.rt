@@ -12,10 +12,17 @@ use std::test::Fail;
 /// first print, and how many in all.
 const PRINTED: &[(&[&str], &str, usize, u64, u64)] = &[
     (&["form", "t"], "holiday 2026-01-01\n", 60, 0, 3),
-    (&["shifts", "b"], "ON ANNA 1 0 0 0 0 0\nOFF 1 0 0 0 0 0\n", 14, 6, 8),
+    (
+        &["shifts", "b"],
+        "ON ANNA 1 0 0 0 0 0\nOFF 1 0 0 0 0 0\n",
+        14,
+        6,
+        8,
+    ),
 ];
 
-/// Fails unless a call that breaks off at this call of the board has printed 512 bytes by each print before it.
+/// Fails unless a call that breaks off at this call of the board has printed 512 bytes by each print before it, and
+/// leaves the image.
 fn must_stop_at(
     alloc: Global,
     image: &[u8; 2048],
@@ -28,7 +35,8 @@ fn must_stop_at(
     let board = broken_off(alloc, image, words, texts, text, number)?;
     let prints = number.saturating_sub(before).saturating_sub(1);
     let is_whole = board.printed().len() as u64 == prints.saturating_mul(512);
-    must_at(is_whole, "another piece at call", number)
+    let stays = *board.image() == *image;
+    must_at(is_whole && stays, "another piece or image at call", number)
 }
 
 /// Fails unless a call stops so at each call of the board.

@@ -68,11 +68,7 @@ fn is_raised(image: &[u8; 2048], call: u64, number: u64) -> bool {
 }
 
 /// Fails unless each of these cuts of a run that began with a number leaves one that it may leave.
-fn must_leave_numbers(
-    board: &MemoryBoard,
-    number: u64,
-    cuts: &[(u64, Fill)],
-) -> Result<(), Fail> {
+fn must_leave_numbers(board: &MemoryBoard, number: u64, cuts: &[(u64, Fill)]) -> Result<(), Fail> {
     for &(call, fill) in cuts {
         let is_raised = is_raised(&cut_in(board, call, fill), call, number);
         must_behind(is_raised, "another number", call, fill)?;

@@ -67,7 +67,12 @@ fn must_be_sealed(
     let old = board.printed() == b"SEALED 2\n".as_slice();
     let new = board.printed() == b"SEALED 3\n".as_slice();
     let is_found = (old && number < 11) || (new && 8 < number);
-    must_behind(stays && is_found, "other totals or another number", number, fill)
+    must_behind(
+        stays && is_found,
+        "other totals or another number",
+        number,
+        fill,
+    )
 }
 
 /// Fails unless another sealing does as it should over each of these cuts of a sealing.

@@ -1,8 +1,6 @@
 //! Marks and reports behind cuts of the power.
 use crate::run_tests::{HIRING, has_totals, ran, sealed};
-use crate::tests::{
-    A, CALM, Ended, P, cut_in, cuts_of, must, must_answer, must_behind, prints,
-};
+use crate::tests::{A, CALM, Ended, P, cut_in, cuts_of, must, must_answer, must_behind, prints};
 use outside::{Fill, MemoryBoard};
 use std::alloc::Global;
 use std::test::Fail;

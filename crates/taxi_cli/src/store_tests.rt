@@ -125,10 +125,34 @@ const LOOKS: &[Call] = &[
     (&["totals"], &[], 0, &[TOTALS], 0),
     (&["sealed"], &[], 0, &[SEALED], 0),
     (&["port", "r"], &[REQUESTS], 1, SERVED, 16),
-    (&["mark", "on", "ANNA"], &[], 0, &["ON ANNA 2 234800 234800 1 0 380\n"], 0),
-    (&["mark", "off"], &[], 0, &["OFF 2 234800 234800 1 0 380\n"], 0),
-    (&["shifts", "b"], &["ON ANNA 1 0 0 0 0 0\n"], 2, &[SHARED], 0),
-    (&["bench", "t", "d", "r"], &[A, HIRING, READ], 6, &[PASSES], 0),
+    (
+        &["mark", "on", "ANNA"],
+        &[],
+        0,
+        &["ON ANNA 2 234800 234800 1 0 380\n"],
+        0,
+    ),
+    (
+        &["mark", "off"],
+        &[],
+        0,
+        &["OFF 2 234800 234800 1 0 380\n"],
+        0,
+    ),
+    (
+        &["shifts", "b"],
+        &["ON ANNA 1 0 0 0 0 0\n"],
+        2,
+        &[SHARED],
+        0,
+    ),
+    (
+        &["bench", "t", "d", "r"],
+        &[A, HIRING, READ],
+        6,
+        &[PASSES],
+        0,
+    ),
 ];
 
 #[test]
@@ -149,11 +173,23 @@ type Failing = (
 /// A read fails behind a print, or with a print, or isn't made behind a byte that is no request's; or the line that
 /// tells of a bad text isn't printed.
 const FAILURES: &[Failing] = &[
-    (&["fare", "t", "d", "10000"], &[A, FIRST], (0, 4), &[SHOWN, "READ FAULT\n"], 7),
+    (
+        &["fare", "t", "d", "10000"],
+        &[A, FIRST],
+        (0, 4),
+        &[SHOWN, "READ FAULT\n"],
+        7,
+    ),
     (&["fare", "t", "d", "10000"], &[A, FIRST], (1, 1), &[], 8),
     (&["form", "t"], &["step 0.205\n"], (1, 0), &[], 8),
     (&["offsets", "r", "2026", "2026"], &[""], (1, 0), &[], 8),
-    (&["port", "r"], &[NUMBER], (0, 2), &[OF_NUMBER, "READ FAULT\n"], 7),
+    (
+        &["port", "r"],
+        &[NUMBER],
+        (0, 2),
+        &[OF_NUMBER, "READ FAULT\n"],
+        7,
+    ),
     (&["port", "r"], &[REQUESTS], (0, 2), SERVED, 16),
 ];
 

@@ -223,7 +223,20 @@ pub(crate) fn broken_off(
     Err(Fail::new(format_args!("another end at call {number}: {words:?}, over {texts:?}")))
 }
 
-/// Fails unless a call breaks off at each call of the board that fails, where none of the whole one fails.
+/// Fails unless a call breaks off at this call of the board, and leaves the image.
+fn must_break_off_at(
+    alloc: Global,
+    image: &[u8; 2048],
+    words: &[&str],
+    texts: &[&str],
+    text: &[u8],
+    number: u64,
+) -> Result<(), Fail> {
+    let board = broken_off(alloc, image, words, texts, text, number)?;
+    must_at(*board.image() == *image, "another image at call", number)
+}
+
+/// Fails unless a call breaks off so at each call of the board. `whole` is the board of the call in which none fails.
 pub(crate) fn must_break_off(
     alloc: Global,
     image: &[u8; 2048],
@@ -232,7 +245,7 @@ pub(crate) fn must_break_off(
     whole: &MemoryBoard,
 ) -> Result<(), Fail> {
     for number in 1..=whole.calls() {
-        let _board = broken_off(alloc, image, words, texts, whole.printed(), number)?;
+        must_break_off_at(alloc, image, words, texts, whole.printed(), number)?;
     }
     Ok(())
 }
@@ -271,7 +284,7 @@ fn must_carry_out(alloc: Global, image: &[u8; 2048], call: &Call) -> Result<(), 
     must_break_off(alloc, image, words, texts, &board)
 }
 
-/// Fails unless each of these calls over an image does.
+/// Fails unless each of these calls over an image ends so.
 pub(crate) fn must_carry_out_all(
     alloc: Global,
     image: &[u8; 2048],
@@ -322,8 +335,7 @@ pub(crate) fn repeated(
 /// A drive, and what it shows under tariff A.
 pub(crate) const FIRST: &str = "U 1767225600\nK H\nI 0 1\nI 0 504\nI 0 1\n";
 
-pub(crate) const SHOWN: &str =
-    "FOR HIRE T1 Z1\nHIRED T1 Z1 3.80 +0.00\nHIRED T1 Z1 4.00 +0.00\n";
+pub(crate) const SHOWN: &str = "FOR HIRE T1 Z1\nHIRED T1 Z1 3.80 +0.00\nHIRED T1 Z1 4.00 +0.00\n";
 
 /// Tariff A under a constant of 10,000, as rows.
 const ROWS: &str =
@@ -365,16 +377,46 @@ const GENERATED: &str =
 
 /// Each command that doesn't look at the store, and words that are none.
 const WITHOUT_STORE: &[Call] = &[
-    (&["check", "t"], &[A], 2, &["OK CELLS 7 MEASURE 147924\n"], 0),
+    (
+        &["check", "t"],
+        &[A],
+        2,
+        &["OK CELLS 7 MEASURE 147924\n"],
+        0,
+    ),
     (&["form", "t"], &[A], 2, &[A], 0),
     (&["tables", "t", "10000"], &[A], 2, &[ROWS], 0),
     (&["lines", "t", "10000"], &[A], 2, &[LINES], 0),
-    (&["compare", "t", "u", "10000"], &[A, B], 4, &[DIFFERENT], 11),
+    (
+        &["compare", "t", "u", "10000"],
+        &[A, B],
+        4,
+        &[DIFFERENT],
+        11,
+    ),
     (&["fare", "t", "d", "10000"], &[A, FIRST], 3, &[SHOWN], 0),
-    (&["offsets", "r", "2026", "2026"], &[NORTH], 2, &[NORTH_2026], 0),
-    (&["explain", "t", "d", "p"], &[A, FIRST_CLEARED, P], 6, &[EXPLAINED], 0),
+    (
+        &["offsets", "r", "2026", "2026"],
+        &[NORTH],
+        2,
+        &[NORTH_2026],
+        0,
+    ),
+    (
+        &["explain", "t", "d", "p"],
+        &[A, FIRST_CLEARED, P],
+        6,
+        &[EXPLAINED],
+        0,
+    ),
     (&["gen", "7", "1"], &[], 0, &[GENERATED], 0),
-    (&["Fare", "t", "d", "10000"], &[A, FIRST], 0, &["BAD WORDS\n"], 1),
+    (
+        &["Fare", "t", "d", "10000"],
+        &[A, FIRST],
+        0,
+        &["BAD WORDS\n"],
+        1,
+    ),
 ];
 
 #[test]

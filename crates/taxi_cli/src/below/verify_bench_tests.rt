@@ -12,6 +12,9 @@ fn bytes_of(alloc: Global, seed: u64, word: usize, piece: usize) -> Option<Vec<u
     let mut bytes = Vec::new(alloc);
     let mut buffer = [0; 512];
     let front = buffer.get_mut(..piece)?;
+    if front.is_empty() {
+        return None;
+    }
     for _ in 0..1000 {
         let count = drive.read(word, front).ok()?;
         if count == 0 {
