@@ -17,18 +17,18 @@ use Rattle.tariff_check.specs.declared.choice.ChoiceLine.{ChoiceLine}
 use Rattle.tariff_check.specs.declared.resolving.Parts.{Parts}
 
 -- the lines of a kind are those that give a part
-abbrev pub IsOfPart : {V : Type 0} → (Entry → Option V) → ChoiceKind → Type 0
+abbrev IsOfPart : {V : Type 0} → (Entry → Option V) → ChoiceKind → Type 0
 IsOfPart part kind = (x : Entry) → is_some (part x) ≡ is_of kind x
 
-pub rates_are : IsOfPart rate_part Rate
+rates_are : IsOfPart rate_part Rate
 rates_are (rate a b c e when) = refl
 rates_are x = refl
 
-pub initials_are : IsOfPart initial_part Initial
+initials_are : IsOfPart initial_part Initial
 initials_are (initial amount covers when) = refl
 initials_are x = refl
 
-pub minimums_are : IsOfPart minimum_part Minimum
+minimums_are : IsOfPart minimum_part Minimum
 minimums_are (minimum amount when) = refl
 minimums_are x = refl
 

@@ -20,8 +20,6 @@ mod FrameLines
 pub mod Laws
 -- what holds of each line of a sound tariff whose numbers a text can have
 mod LineFacts
--- the line of the first choice that holds is the first line of the kind that does
-mod LinesInForce
 -- the common measure of more than two measures
 mod MeasureLaws
 -- the least common multiple of two numbers is what its name says

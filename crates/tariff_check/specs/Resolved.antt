@@ -1,14 +1,11 @@
 -- For proofs: the parts of a tariff as the program keeps them. SoundTariff says what they are.
-use Rattle.std.specs.Prelude.{◌≡◌, ℕ, ◌+◌, List, [], ◌∷◌, find, length, Option, Some, None}
-use Rattle.std.specs.List.{cons_option, slice_get}
+use Rattle.std.specs.Prelude.{◌≡◌, ℕ, ◌+◌, List, [], ◌∷◌, Option, length}
+use Rattle.std.specs.List.{cons_option}
 use Rattle.std.specs.Option.{option_map}
-use Rattle.tariff_syntax.specs.Condition.{Condition}
-use Rattle.tariff_syntax.specs.Meaning.{holds_if}
 use Rattle.tariff_syntax.specs.Tree.{Line, Entry}
-use Rattle.tariff_syntax.specs.declared.context.Context.{Context}
 use Rattle.tariff_check.specs.ChoiceLines.{choice_lines, kind_of}
 use Rattle.tariff_check.specs.Parts.{holidays_of, initial_part, minimum_part, parts, rate_part}
-use Rattle.tariff_check.specs.SoundTariff.{numbered_supplement, when_at}
+use Rattle.tariff_check.specs.SoundTariff.{numbered_supplement}
 use Rattle.tariff_check.specs.declared.choice.Choice.{Choice}
 use Rattle.tariff_check.specs.declared.choice.ChoiceKind.{ChoiceKind}
 use Rattle.tariff_check.specs.declared.choice.ChoiceKind.TheVariants.{Rate, Initial, Minimum}
@@ -36,15 +33,6 @@ abbrev pub count_in : Parts → ChoiceKind → ℕ
 count_in p Rate = length p.rates.items
 count_in p Initial = length p.initials.items
 count_in p Minimum = length p.minimums.items
-
--- the line of a choice of the program that may be none is the one at its place
-abbrev pub line_at : {V : Type 0} → List Line → Option (Choice V) → Option Line
-line_at lines None = None
-line_at lines (Some c) = slice_get lines c.place
-
--- the line of the first of some choices of the program that holds in a context
-abbrev pub chosen_line : {V : Type 0} → Context → List Line → List (Choice V) → Option Line
-chosen_line {V} x lines own = line_at lines (find (λ (c : Choice V). holds_if x (when_at lines c.place)) own)
 
 -- the parts of the program are those of lines
 pub record HasParts (lines : List Line) (p : Parts) : Type 0 where

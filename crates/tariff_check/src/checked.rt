@@ -1,5 +1,4 @@
 //! A tariff that was found to be sound.
-ghost use Rattle.std.specs.List.{slice_get};
 ghost use Rattle.std.specs.Prelude.{◌≡◌, ◌^◌, Some};
 ghost use Rattle.tariff_check.specs.Cells.{cells_of};
 ghost use Rattle.tariff_check.specs.ChoiceLines.{choice_lines};
@@ -9,7 +8,7 @@ ghost use Rattle.tariff_check.specs.Parts.{positions_of, step_of, supplement_of,
 ghost use Rattle.tariff_check.specs.SoundTariff.{AreChoices, own_conditions, place_of, sound_of, when_at};
 ghost use Rattle.tariff_syntax.specs.Condition.{condition_of};
 ghost use Rattle.tariff_syntax.specs.Meaning.{at_hiring, holds_if, initial_place, minimum_place, rate_place};
-ghost use Rattle.tariff_syntax.specs.Tree.{line_of, tree_of};
+ghost use Rattle.tariff_syntax.specs.Tree.{tree_of};
 ghost use Rattle.tariff_syntax.specs.Writable.{IsFromTo, IsWritable};
 ghost use Rattle.taxi_units.specs.Reading.{Gives};
 
@@ -20,7 +19,7 @@ use crate::resolving::{Parts, numbered};
 use crate::values::{DateNumbers, Supplement};
 use drive_modes::Rounding;
 use std::marker::Model;
-use tariff_syntax::{Cond, Context, InitialNumbers, RateNumbers, Tariff, TariffLine, sat};
+use tariff_syntax::{Cond, Context, InitialNumbers, RateNumbers, Tariff, sat};
 
 /// A sound tariff, with its numbers and its parts.
 #[derive(Drop)]
@@ -158,21 +157,14 @@ impl Checked {
     pub fn condition_at(&self, place: usize) -> Option<&Cond>
         ensures { Gives (λ cond. condition_of cond.now) result (when_at (tree_of self.now).lines place) }
     {
-        match self.line_at(place) {
+        match self.tariff.lines.as_slice().get(place) {
             Some(line) => condition(&line.item),
             None => None,
         }
     }
 
-    /// The line at a place, from 0; `None` where there is none.
-    pub(crate) fn line_at(&self, place: usize) -> Option<&TariffLine>
-        ensures { Gives (λ line. line_of line.now) result (slice_get (tree_of self.now).lines place) }
-    {
-        self.tariff.lines.as_slice().get(place)
-    }
-
     /// Whether the line at a place has no condition, or one that holds in a context.
-    pub(crate) fn does_hold(&self, place: usize, x: &Context) -> bool
+    fn does_hold(&self, place: usize, x: &Context) -> bool
         ensures { result ≡ holds_if x.now (when_at (tree_of self.now).lines place) }
     {
         match self.condition_at(place) {

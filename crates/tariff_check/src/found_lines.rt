@@ -1,13 +1,14 @@
 //! The line of a tariff that says a part of its frame, or that counts in a context.
 ghost use Rattle.std.specs.Prelude.{◌≡◌, map};
 ghost use Rattle.taxi_units.specs.Reading.{Gives};
-ghost use Rattle.tariff_check.specs.FoundLines.{frame_line, line_in_force, says};
-ghost use Rattle.tariff_check.specs.Resolved.{chosen_line};
+ghost use Rattle.tariff_check.specs.ChoiceLines.{is_of};
+ghost use Rattle.tariff_check.specs.FoundLines.{frame_line, is_in_force, line_in_force, says};
 ghost use Rattle.tariff_syntax.specs.Tree.{entry_of, line_of, tree_of};
 
 use crate::checked::Checked;
-use crate::choice::{Choice, ChoiceKind};
-use tariff_syntax::{Context, Item, TariffLine};
+use crate::choice::ChoiceKind;
+use crate::parts::condition;
+use tariff_syntax::{Context, Item, TariffLine, sat};
 
 /// What a line of a tariff's frame says.
 #[derive(Clone, Copy)]
@@ -35,23 +36,7 @@ impl Checked {
     pub fn line_in_force(&self, kind: ChoiceKind, x: &Context) -> Option<&TariffLine>
         ensures { Gives (λ line. line_of line.now) result (line_in_force kind x.now (tree_of self.now).lines) }
     {
-        match kind {
-            ChoiceKind::Rate => self.line_of(self.parts.rates.as_slice(), x),
-            ChoiceKind::Initial => self.line_of(self.parts.initials.as_slice(), x),
-            ChoiceKind::Minimum => self.line_of(self.parts.minimums.as_slice(), x),
-        }
-    }
-
-    /// The line of the first of some choices of this tariff that holds in a context.
-    fn line_of<V>(&self, choices: &[Choice<V>], x: &Context) -> Option<&TariffLine>
-        ensures { Gives (λ line. line_of line.now) result (chosen_line x.now (tree_of self.now).lines choices.now) }
-    {
-        for choice in choices {
-            if self.does_hold(choice.place, x) {
-                return self.line_at(choice.place);
-            }
-        }
-        None
+        first_in_force(kind, x, self.tariff.lines.as_slice())
     }
 }
 
@@ -76,6 +61,47 @@ fn says(part: FramePart, item: &Item) -> bool
         (FramePart::Positions, Item::Positions(_)) => true,
         (FramePart::Zones, Item::Zones(_)) => true,
         (FramePart::Supplement(wanted), Item::Supplement { number, .. }) => *number == wanted,
+        _ => false,
+    }
+}
+
+/// The first of some lines that is of a kind and holds in a context.
+fn first_in_force<'a>(
+    kind: ChoiceKind,
+    x: &Context,
+    lines: &'a [TariffLine],
+) -> Option<&'a TariffLine>
+    ensures { Gives (λ line. line_of line.now) result (line_in_force kind x.now (map line_of lines.now)) }
+{
+    for line in lines {
+        if is_in_force(kind, x, &line.item) {
+            return Some(line);
+        }
+    }
+    None
+}
+
+/// Whether an item is of a kind and holds in a context.
+fn is_in_force(kind: ChoiceKind, x: &Context, item: &Item) -> bool
+    ensures { result ≡ is_in_force kind x.now (entry_of item.now) }
+{
+    if !is_of(kind, item) {
+        return false;
+    }
+    match condition(item) {
+        Some(cond) => sat(cond, x),
+        None => true,
+    }
+}
+
+/// Whether an item is of a kind.
+fn is_of(kind: ChoiceKind, item: &Item) -> bool
+    ensures { result ≡ is_of kind (entry_of item.now) }
+{
+    match (kind, item) {
+        (ChoiceKind::Rate, Item::Rate(_)) => true,
+        (ChoiceKind::Initial, Item::Initial(_)) => true,
+        (ChoiceKind::Minimum, Item::Minimum(_)) => true,
         _ => false,
     }
 }
