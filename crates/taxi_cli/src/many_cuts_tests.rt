@@ -234,12 +234,18 @@ fn found_behind(
     Ok(found)
 }
 
-/// Adds the receipts of a whole run that have an entry. Fails unless the sums are those that are found; tells whether
-/// a trip was aborted.
-fn adds_up(alloc: Global, text: &[u8], found: &Durable, sums: &mut Sums) -> Result<bool, Fail> {
+/// Adds the receipts of a drive's whole run that have an entry, and tells whether a trip was aborted. Fails unless the
+/// sums are those that are found.
+fn must_add_up(
+    alloc: Global,
+    drive: &str,
+    text: &[u8],
+    found: &Durable,
+    sums: &mut Sums,
+) -> Result<bool, Fail> {
     let receipts = receipts_in(alloc, text)?;
     *sums = added(*sums, receipts.as_slice(), found.number);
-    must(sums_of(found) == *sums, "the totals are others", "a run")?;
+    must(sums_of(found) == *sums, "the totals are others", drive)?;
     Ok(has_aborted(receipts.as_slice()))
 }
 
@@ -255,7 +261,7 @@ fn broken_off(
     let (whole, status) = called(alloc, RUN, &[CITY, drive], image, &[], &[])?;
     must(status == 0, "a run fails", drive)?;
     let found = found_behind(alloc, image, drive, &whole, dice)?;
-    adds_up(alloc, whole.printed(), &found, sums)
+    must_add_up(alloc, drive, whole.printed(), &found, sums)
 }
 
 /// Each receipt that was printed has its entry among those that are found after a cut, and the totals are those of
