@@ -46,8 +46,7 @@ returns-in_err-serve_piece-clause-serves g c =
     c.in_err-serve_piece.field-0.0 c.serve_piece.new.port c.front-bytes.result.now
     (g.F.Files.rest c.read_piece.new.files c.args.word) (g.B.Board.printed c.serve_piece.new.board)
     (omega (arith, size, c.in-Ok.ensures.within, c.min-most.ensures))
-    (λ k. c.in-Ok.ensures.taken k ∙ ap (λ (l : List ℕ). l ++ (g.F.Files.rest c.read_piece.new.files c.args.word))
-    (sym c.front-bytes.ensures)) c.in_err-serve_piece.ensures.serves)
+    (λ k. rw c.front-bytes.ensures (c.in-Ok.ensures.taken k)) c.in_err-serve_piece.ensures.serves)
 
 pub returns-in_err-serve_piece-clause-steps : goal.returns-in_err-serve_piece-clause-steps
 returns-in_err-serve_piece-clause-steps g c =
@@ -56,8 +55,7 @@ returns-in_err-serve_piece-clause-steps g c =
     (g.B.Board.printed c.args.board.now) (g.B.Board.printed c.loop-left.board) c.loop-left.left c.args.steps.now
     c.loop-left.steps c.loop-left.invariant.so_far
     c.front-bytes.result.now (g.F.Files.rest c.read_piece.new.files c.args.word) c.serve_piece.new.steps
-    (λ k. c.in-Ok.ensures.taken k ∙ ap (λ (l : List ℕ). l ++ (g.F.Files.rest c.read_piece.new.files c.args.word))
-    (sym c.front-bytes.ensures)) c.serve_piece.ensures.steps
+    (λ k. rw c.front-bytes.ensures (c.in-Ok.ensures.taken k)) c.serve_piece.ensures.steps
 
 pub loop-left-init : goal.loop-left-init
 loop-left-init g c = record {
@@ -92,8 +90,7 @@ loop-left-preserved g c =
           c.loop-left.steps c.loop-left.invariant.so_far
           c.serve_piece.new.port c.front-bytes.result.now (g.F.Files.rest c.read_piece.new.files c.args.word)
           (g.B.Board.printed c.serve_piece.new.board) (c.loop-left.left - c.in-Ok.count) c.serve_piece.new.steps
-          (λ k. c.in-Ok.ensures.taken k
-          ∙ ap (λ (l : List ℕ). l ++ (g.F.Files.rest c.read_piece.new.files c.args.word)) (sym c.front-bytes.ensures))
+          (λ k. rw c.front-bytes.ensures (c.in-Ok.ensures.taken k))
           serves.0 serves.1 fewer serves.2 c.serve_piece.ensures.steps;
       others = λ other ne. c.read_piece.ensures.others other ne ∙ c.loop-left.invariant.others other ne;
       counts = λ other. left_by_ok c.read_piece.result _ c.in-Ok.is (c.read_piece.ensures.counts other)

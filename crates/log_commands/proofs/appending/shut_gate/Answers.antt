@@ -30,7 +30,8 @@ returns-clause-any_moment g c told records ready =
     (g.G.Board.in_flight c.args.log.now) c.args.last b records) opened ready in
     let image = g.G.Board.image c.args.log.now in
     let in_flight = g.G.Board.in_flight c.args.log.now in
-    leaves_wider g.G.Board (MayLeave image (OrWithin in_flight c.next_at.result 1) (g.G.Board.printed c.args.log.now)) _ _ _
+    let printed = g.G.Board.printed c.args.log.now in
+    leaves_wider g.G.Board (MayLeave image (OrWithin in_flight c.next_at.result 1) printed) _ _ _
     (λ left text may_leave. shut_leaves _ left _ c.args.last records is
     (same_place image in_flight left c.next_at.result _ 1 c.next_at.ensures.is may_leave.bytes))
     c.write_and_sync.ensures.any_moment

@@ -1,5 +1,7 @@
 use Rattle.std.proofs.Common.{◌≡◌, ℕ, ◌+◌, ◌∙◌, ap, length, rules}
 use Rattle.outside.proofs.Laws.{leaves_wider}
+use Rattle.outside.specs.Disk.{MayLeave}
+use Rattle.slot_store.specs.Writes.{OrWithin}
 use Rattle.log_commands.specs.Record.{Record}
 use Rattle.log_commands.specs.Slots.{slot_at, slot_of, spelling}
 use Rattle.std.proofs.lemmas.Result.{on_ok_weaker}
@@ -22,9 +24,15 @@ at_is g c = ap (λ (at : ℕ). at + 1) c.next_at.ensures.is
 pub returns-clause-any_moment : goal.returns-clause-any_moment
 returns-clause-any_moment g c told records shut =
     let long : length c.as_slice-2.result.now ≡ 511 = search rules in
-    leaves_wider g.G.Board _ _ _ _ (λ image text left. (
+    let image = g.G.Board.image c.args.log.now in
+    let in_flight = g.G.Board.in_flight c.args.log.now in
+    let printed = g.G.Board.printed c.args.log.now in
+    let count = length c.as_slice-2.result.now in
+    leaves_wider g.G.Board (MayLeave image (OrWithin in_flight (c.next_at.result + 1) count) printed) _ _ _
+    (λ left text may_leave. (
       c.args.last,
-      write_leaves _ image _ c.args.last records shut (same_piece _ _ image _ _ _ 511 (at_is g c) long left.bytes),
+      write_leaves _ left _ c.args.last records shut
+          (same_piece _ _ left _ _ _ 511 (at_is g c) long may_leave.bytes),
     )) c.write_and_sync.ensures.any_moment
 
 pub returns-clause-written : goal.returns-clause-written

@@ -1,4 +1,5 @@
-use Rattle.std.proofs.Common.{◌≡◌, ◌∙◌, ℕ, ◌+◌, ◌-◌, ◌<◌, ◌≤◌, Some, List, length, get_or, drop, sym, refl, arith, add-one, drop-cons}
+use Rattle.std.proofs.Common.{◌≡◌, ◌∙◌, ℕ, ◌+◌, ◌-◌, ◌<◌, ◌≤◌, Some, List, length, get_or, drop, sym, refl, arith}
+use Rattle.std.proofs.Common.{add-one, drop-cons}
 use Rattle.std.proofs.lemmas.Bool.{lt-ltb, le-ltb}
 use Rattle.taxi_units.specs.Calendar.{date_from}
 use Rattle.taxi_units.proofs.calendar.date_of_place.Goals as goal
@@ -19,14 +20,15 @@ after_the_month month index days lengths inside most =
 pub returns-then-days-length : goal.returns-then-days-length
 returns-then-days-length c =
     let loop = c.loop-length in
-    sym (in_the_month loop.month loop.length-index loop.days _ c.loop-length-test.true
-    (rw c.month_lengths.ensures at c.if-days-length.true)) ∙ loop.invariant.left
+    let less = rw c.month_lengths.ensures at c.if-days-length.true in
+    sym (in_the_month loop.month loop.length-index loop.days _ c.loop-length-test.true less) ∙ loop.invariant.left
 
 pub loop-length-preserved : goal.loop-length-preserved
 loop-length-preserved c =
     let loop = c.loop-length in
+    let most = rw c.month_lengths.ensures at c.if-days-length.false in
     record {
       month = omega arith;
-      left = rw c.month_lengths.ensures (after_the_month loop.month loop.length-index loop.days _ c.loop-length-test.true
-          (rw c.month_lengths.ensures at c.if-days-length.false)) ∙ loop.invariant.left;
+      left = rw c.month_lengths.ensures (after_the_month loop.month loop.length-index loop.days _
+          c.loop-length-test.true most) ∙ loop.invariant.left;
     }

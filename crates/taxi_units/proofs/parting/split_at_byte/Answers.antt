@@ -1,5 +1,5 @@
-use Rattle.std.proofs.Common.{ℕ, ◌≡◌, ◌≢◌, ◌∙◌, ◌+◌, ◌-◌, ◌<◌, ◌∷◌, ◌++◌, List, length, take, drop, refl, ap, sym, rules, tests, arith}
-use Rattle.std.proofs.Common.{add-one, drop-cons, length-drop}
+use Rattle.std.proofs.Common.{◌≡◌, ◌≢◌, ◌∙◌, ℕ, ◌+◌, ◌-◌, ◌<◌, List, ◌∷◌, ◌++◌, length, take, drop, refl, sym, rules}
+use Rattle.std.proofs.Common.{tests, arith, add-one, drop-cons, length-drop}
 use Rattle.std.proofs.lemmas.List.{take-append-drop, take_all, length-take, get_or-take}
 use Rattle.std.proofs.lemmas.Iterator.{IsFirst-from_position, YieldsList-from_slice}
 use Rattle.std.specs.List.{AllWithin, HoldsAt}
@@ -25,8 +25,9 @@ parted_at : (bytes : List ℕ) (byte at : ℕ) → at < length bytes → HoldsAt
 parted_at bytes byte at within here =
     let from : drop at bytes ≡ byte ∷ drop (at + 1) bytes =
     drop-cons bytes at byte within ∙ rw (here byte, add-one at) refl in
-    sym (take-append-drop at bytes)
-    ∙ rw (take_all (length bytes - (at + 1)) (drop (at + 1) bytes) (omega (arith, length-drop (at + 1) bytes)), from) refl
+    let rest : take (length bytes - (at + 1)) (drop (at + 1) bytes) ≡ drop (at + 1) bytes =
+    take_all (length bytes - (at + 1)) (drop (at + 1) bytes) (omega (arith, length-drop (at + 1) bytes)) in
+    sym (take-append-drop at bytes) ∙ rw (rest, from) refl
 
 pub returns-in-Some-clause-before : goal.returns-in-Some-clause-before
 returns-in-Some-clause-before c = none_before c.args.bytes.now c.args.byte c.in-Some.at (is_first c).2

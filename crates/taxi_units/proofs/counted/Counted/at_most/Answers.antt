@@ -16,8 +16,8 @@ loop-count-preserved-then-is_at_most g c =
       passed = loop.passed;
       last = rw back (omega arith, c.read-element.ensures.value);
       most = λ digits few. rw c.read-element.ensures.step
-          (ends_after _ _ (c.loop-count.end - c.loop-count.count) (c.loop-count.end - (middle + 1)) (loop.most digits few)
-          (omega arith) (omega arith));
+          (ends_after _ _ (c.loop-count.end - c.loop-count.count) (c.loop-count.end - (middle + 1))
+          (loop.most digits few) (omega arith) (omega arith));
       least = inr (omega arith);
     }
 
