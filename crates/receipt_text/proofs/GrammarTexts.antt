@@ -18,7 +18,7 @@ use Rattle.taxi_units.specs.declared.receipt.Receipt.{Receipt}
 use Rattle.taxi_units.specs.declared.receipt.Stamp.{Stamp}
 use Rattle.taxi_units.proofs.Laws.{amounts_are_written_by_their_digits, numbers_are_written_by_their_digits}
 use Rattle.taxi_units.proofs.Laws.{padded_numbers_are_written_by_their_digits}
-use Rattle.receipt_text.specs.Grammar.{AreAmounts, AreLines, AreTripLines, HasMinimum, IsCalculation, IsDateText}
+use Rattle.receipt_text.specs.Grammar.{AreAmounts, AreReceiptLines, AreTripLines, HasMinimum, IsCalculation, IsDateText}
 use Rattle.receipt_text.specs.Grammar.{IsDayText, IsDistance, IsExactly, IsHexDigit, IsHexText, IsKind, IsMoney}
 use Rattle.receipt_text.specs.Grammar.{IsReceiptText, IsStampText, IsTimeText, Line}
 use Rattle.receipt_text.specs.Part.{Part, IsPart}
@@ -303,7 +303,7 @@ all_lines r p =
     ∷ (codes "TAXI " ++ (p.taxi ++ 10 ∷ (codes "CONSTANT " ++ (decimal p.constant ++ 10 ∷ (codes "SECURED "
     ++ (day_text p.secured ++ 10 ∷ (codes "TARIFF " ++ (hex_text p.digest ++ 10 ∷ trip_lines r)))))))))))
 
-lines_only : (r : Receipt) (p : Part) → IsReceipt r → IsPart p → Only (AreLines r p) (all_lines r p)
+lines_only : (r : Receipt) (p : Part) → IsReceipt r → IsPart p → Only (AreReceiptLines r p) (all_lines r p)
 lines_only r p is part_is =
     let sixth = line_only (codes "TARIFF ") _ _ (IsHexText p.digest) (AreTripLines r)
     (hex_only p.digest part_is.digest.bytes) (trip_only r is) in

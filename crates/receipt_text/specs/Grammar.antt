@@ -125,8 +125,8 @@ AreTripLines receipt =
     (Line (codes "CALC ") (IsCalculation receipt) (HasMinimum receipt)))))
 
 -- a text is all lines of a receipt, from its number to its end
-abbrev pub AreLines : Receipt → Part → List ℕ → Type 0
-AreLines receipt part =
+abbrev pub AreReceiptLines : Receipt → Part → List ℕ → Type 0
+AreReceiptLines receipt part =
     Line (codes "RECEIPT ") (IsNumberText receipt.number)
     (Line (codes "KIND ") (IsKind receipt.kind)
     (Line (codes "TAXI ") (IsExactly part.taxi)
@@ -138,4 +138,4 @@ AreLines receipt part =
 pub record IsReceiptText (text : List ℕ) (receipt : Receipt) (part : Part) : Type 0 where
   pub receipt_is : IsReceipt receipt
   pub part_is : IsPart part
-  pub lines : AreLines receipt part text
+  pub lines : AreReceiptLines receipt part text

@@ -45,13 +45,13 @@ abbrev pub one_mode : Codec Mode
 one_mode = fitting (λ (mode : Mode). ⊤) (made byte mode_byte mode_in) (λ mode fits. (tt, mode_again mode))
 
 -- four bytes are a signed number
-abbrev pub signed_bytes : Codec ℤ
-signed_bytes = fitting (λ (n : ℤ). FitsSigned w32 n) (made four_bytes (cast_unsigned w32) (cast_signed w32))
+abbrev pub four_signed_bytes : Codec ℤ
+four_signed_bytes = fitting (λ (n : ℤ). FitsSigned w32 n) (made four_bytes (cast_unsigned w32) (cast_signed w32))
     (λ n fits. ((Fits-of_z {w = w32} fits).fits, to_z-of_z w32 n fits))
 
 -- twelve bytes are an offset with the second from which on it is in force
 abbrev pub pair_table : Codec (ℕ × ℤ)
-pair_table = eight_bytes ⊗ signed_bytes
+pair_table = eight_bytes ⊗ four_signed_bytes
 
 -- bytes without a zero stand before the zeros behind them
 pub before_zeros : (text : List ℕ) (count : ℕ) → HasNone 0 text → before 0 (text ++ replicate count 0) ≡ text
@@ -79,7 +79,7 @@ taxi_table = fitting IsTaxi (made (bytes longest_taxi) (padded longest_taxi) (be
 -- the bytes of a seal
 abbrev pub seal_table : Codec Seal
 seal_table = made
-    (eight_bytes ⊗ taxi_table ⊗ four_bytes ⊗ one_mode ⊗ two_bytes ⊗ bytes digest_size ⊗ signed_bytes
+    (eight_bytes ⊗ taxi_table ⊗ four_bytes ⊗ one_mode ⊗ two_bytes ⊗ bytes digest_size ⊗ four_signed_bytes
     ⊗ counted offsets_size pair_table ⊗ byte ⊗ zeros spare_size ⊗ always 1)
     (λ (s : Seal).
     s.seal_number ⊙ s.params.taxi.items ⊙ s.params.constant ⊙ s.params.mode ⊙ s.params.hold_time ⊙ s.digest

@@ -1,5 +1,5 @@
 -- For proofs: seals in their ranges are bodies of slots.
-use Rattle.std.proofs.Common.{◌≡◌, ℕ, ◌<◌, ℤ, pos, List, length, All, refl, ap, ◌∙◌}
+use Rattle.std.proofs.Common.{◌≡◌, ℕ, ◌<◌, ℤ, pos, List, length, All, refl}
 use Rattle.std.proofs.lemmas.List.Elements.{All-from_get_or}
 use Rattle.interval_clock.specs.Offsets.{IsInRangeAt}
 use Rattle.slot_bodies.specs.Bodies.{AreBodies, body_size}
@@ -10,8 +10,6 @@ use Rattle.seal_record.specs.Decoding.{decoded, pair_table, reads, seal_table}
 use Rattle.seal_record.specs.RangeTests.{seal_test}
 use Rattle.seal_record.specs.Ranges.{IsSeal}
 use Rattle.seal_record.specs.Spelling.{spelling}
-
--- ---- what is in its ranges fits its bytes
 
 -- pairs in range fit
 pairs_fit : (pairs : List (ℕ × ℤ)) → ((place : ℕ) → place < length pairs → IsInRangeAt pairs place)
@@ -30,19 +28,13 @@ seal_fits seal is =
       refl,
     )
 
--- ---- what bytes are read as
-
--- the bytes of a seal are those of its table
-spelled : (seal : Seal) → spelling seal ≡ seal_table.spell seal
-spelled seal = refl
-
 -- a spelling fills a body
 long : (seal : Seal) → IsSeal seal → length (spelling seal) ≡ body_size
-long seal is = ap length (spelled seal) ∙ seal_table.long seal (seal_fits seal is)
+long seal is = seal_table.long seal (seal_fits seal is)
 
 -- a seal in its ranges is read again
 pub again : (seal : Seal) → IsSeal seal → decoded (spelling seal) ≡ seal
-again seal is = ap (λ (l : List ℕ). seal_table.read l 0) (spelled seal) ∙ alone_again seal_table seal (seal_fits seal is)
+again seal is = alone_again seal_table seal (seal_fits seal is)
 
 -- seals in their ranges are bodies
 pub seals_are_bodies : AreBodies IsSeal spelling reads

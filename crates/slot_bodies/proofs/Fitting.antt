@@ -1,8 +1,8 @@
 -- What is in its range fits the bytes that a table has for it, and what fits is read again.
 use Rattle.std.proofs.Common.{◌≡◌, ℕ, zero, suc, ◌+◌, ◌-◌, ◌*◌, ◌^◌, ◌<◌, ◌≤◌, T, ltb, ℤ, pos, neg_ℤ, ◌≤ℤ◌, int_le}
-use Rattle.std.proofs.Common.{lit<, FitsSigned, List, [], length, flat_map, All, arith, add-le-add, le_of_eq, le_of_suc-le-suc}
-use Rattle.std.proofs.Common.{le_refl, le_trans, lt_of_le_of_lt, mul-le-mul_left, not-suc-le-zero, zero-le}
-use Rattle.std.proofs.Common.{refl, sym, ap, ◌∙◌, append-nil}
+use Rattle.std.proofs.Common.{FitsSigned, List, [], length, flat_map, All, refl, sym, ap, ◌∙◌, arith, add-le-add}
+use Rattle.std.proofs.Common.{append-nil, le_of_eq, le_of_suc-le-suc, le_refl, le_trans, lit<, lt_of_le_of_lt}
+use Rattle.std.proofs.Common.{mul-le-mul_left, not-suc-le-zero, zero-le}
 use Rattle.std.specs.Int.{w32}
 use Rattle.std.specs.List.{sum_by}
 use Rattle.std.specs.Int.Signed.{le_z_yes}
@@ -37,7 +37,8 @@ fits_of_range {n = n} {first = first} {last = last} within first_fits last_fits 
 row_size-le : (few most size : ℕ) → few ≤ most → row_size few size ≤ row_size most size
 row_size-le zero most size less = zero-le
 row_size-le (suc few) zero size less = absurd (not-suc-le-zero less)
-row_size-le (suc few) (suc most) size less = add-le-add (le_refl size) (row_size-le few most size (le_of_suc-le-suc less))
+row_size-le (suc few) (suc most) size less =
+    add-le-add (le_refl size) (row_size-le few most size (le_of_suc-le-suc less))
 
 -- a row of at most so many values takes at most the bytes of so many
 pub row_fits : {A : Type 0} (codec : Codec A) (row : List A) {most : ℕ} → length row ≤ most → All codec.Fits row

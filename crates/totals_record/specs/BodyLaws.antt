@@ -64,9 +64,11 @@ fits_1 durable is one =
     let before = durable.totals.before in
     let none = is.shares.unshared one in
     let hirings : durable.totals.hirings ≡ before.hirings =
-    sym is.shares.hirings ∙ (λ i. sum_by (λ share. share.hirings) (none i) + before.hirings) ∙ zero-add before.hirings in
+    sym is.shares.hirings ∙ (λ i. sum_by (λ share. share.hirings) (none i) + before.hirings)
+    ∙ zero-add before.hirings in
     let fare : durable.totals.fare ≡ before.fare =
-    sym is.shares.fare ∙ (λ i. sum_by (λ share. share.fare) (none i) + before.fare) ∙ zero-add before.fare in (
+    sym is.shares.fare ∙ (λ i. sum_by (λ share. share.fare) (none i) + before.fare)
+    ∙ zero-add before.fare in (
       (front_fits durable is, (tt, tt)),
       λ i. state_of (front_of durable) (sym none i) (record { hirings = hirings i; fare = fare i }) durable.layout,
     )
@@ -75,7 +77,8 @@ fits_1 durable is one =
 fits_2 : (durable : Durable) → IsDurable durable → layout_2.Fits durable
 fits_2 durable is =
     let totals = durable.totals in
-    let hirings = parts_below (λ (share : Share). share.hirings) totals.shares is.shares.hirings (hirings_fit durable is) in
+    let hirings = parts_below (λ (share : Share). share.hirings) totals.shares is.shares.hirings
+    (hirings_fit durable is) in
     let fare = parts_below (λ (share : Share). share.fare) totals.shares is.shares.fare (fare_fits durable is) in
     let shares : All share_table.Fits totals.shares =
     λ k d within. ((hirings.0 k d within, fare.0 k d within), refl) in
