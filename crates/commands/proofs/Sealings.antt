@@ -2,7 +2,6 @@
 use Rattle.std.proofs.Common.{◌≡◌, ◌≢◌, ◌⊎◌, ⊎_elim, inl, inr, ℕ, List, [], ◌++◌, Option, Some, None, Bool, true, false}
 use Rattle.std.proofs.Common.{if◌then◌else◌, Result, Ok, Err, refl, sym, ap, subst, ◌∙◌}
 use Rattle.std.specs.Prelude.{◌==◌}
-use Rattle.std.proofs.lemmas.Bool.{eqb-false}
 use Rattle.sha2.specs.Sha256.{sha256}
 use Rattle.outside.specs.Printing.{Begins}
 use Rattle.tariff_syntax.specs.Tree.{Tree}
@@ -28,6 +27,7 @@ use Rattle.commands.specs.Seal.{with_tariff}
 use Rattle.commands.specs.SealSteps.{IsNoSeal, IsNoTariff}
 use Rattle.commands.proofs.Answering.{course-refusal, none}
 use Rattle.commands.specs.Tariffs.{tariff_in}
+use Rattle.commands.proofs.EndsApart.{not_status}
 use Rattle.commands.proofs.Openings.{as_found, same_fault}
 
 -- ---- the texts
@@ -161,9 +161,11 @@ module _ (contents left : ℕ → List ℕ) (image : List ℕ) (read_failed : �
   pub course-barred : (end : Ended) → sealing_of (opening_of image) (contents 1) (contents 2) ≡ Err end
       → (end ≡ ended.TripHeld) ⊎ (end ≡ ended.SealEnded) → Ends end
   course-barred end e (inl is) =
-      rw is (refuses-with ended.TripHeld (e ∙ ap Err is) (eqb-false 13 0 refl) (eqb-false 13 3 refl))
+      rw is (refuses-with ended.TripHeld (e ∙ ap Err is) (not_status ended.TripHeld 0 refl)
+      (not_status ended.TripHeld 3 refl))
   course-barred end e (inr is) =
-      rw is (refuses-with ended.SealEnded (e ∙ ap Err is) (eqb-false 14 0 refl) (eqb-false 14 3 refl))
+      rw is (refuses-with ended.SealEnded (e ∙ ap Err is) (not_status ended.SealEnded 0 refl)
+      (not_status ended.SealEnded 3 refl))
 
   -- no seal was made of the texts
   pub course-no_seal : (opening : Opening) (b : Result Base Ended) (base : Base) (end : Ended)
@@ -220,12 +222,13 @@ module _ (contents left : ℕ → List ℕ) (image : List ℕ) (read_failed : �
           shown = λ t. none seal_command contents left image read_failed failed told before now refl still [] refl;
         });
       }
-      by (ended.BadTariff why) h =
-          refuses-with (ended.BadTariff why) (refusal (ended.BadTariff why) h) (eqb-false 2 0 refl) (eqb-false 2 3 refl)
+      by (ended.BadTariff why) h = refuses-with (ended.BadTariff why) (refusal (ended.BadTariff why) h)
+          (not_status (ended.BadTariff why) 0 refl) (not_status (ended.BadTariff why) 3 refl)
       by (ended.OtherDecimals one own) h = refuses-with (ended.OtherDecimals one own)
-          (refusal (ended.OtherDecimals one own) h) (eqb-false 15 0 refl) (eqb-false 15 3 refl)
+          (refusal (ended.OtherDecimals one own) h)
+          (not_status (ended.OtherDecimals one own) 0 refl) (not_status (ended.OtherDecimals one own) 3 refl)
       by (ended.BadParams fault) h = refuses-with (ended.BadParams fault) (refusal (ended.BadParams fault) h)
-          (eqb-false 9 0 refl) (eqb-false 9 3 refl)
+          (not_status (ended.BadParams fault) 0 refl) (not_status (ended.BadParams fault) 3 refl)
       by end h = absurd h
 
   -- the store was sealed

@@ -1,7 +1,6 @@
 -- The report of a book beside a sealed store.
 use Rattle.std.proofs.Common.{◌≡◌, ◌≢◌, ℕ, ◌+◌, ◌≤◌, List, ◌++◌, length, Result, Ok, Err, refl, sym, ap, subst, ◌∙◌}
 use Rattle.std.proofs.Common.{arith}
-use Rattle.std.proofs.lemmas.Bool.{eqb-false}
 use Rattle.totals_record.specs.declared.durable_state.Durable.{Durable}
 use Rattle.seal_record.specs.declared.seal.Seal.{Seal}
 use Rattle.shift_book.specs.BookReading.{book_read}
@@ -17,6 +16,7 @@ use Rattle.commands.specs.Ending.{EndsByCourse, ended_for_report}
 use Rattle.commands.specs.Opening.{IsSealedIn, opening_of, store_of}
 use Rattle.commands.specs.Pieces.{pieces_of}
 use Rattle.commands.specs.Shifts.{ended_for_book, reported, shifts_answer, shifts_command}
+use Rattle.commands.proofs.EndsApart.{not_status}
 use Rattle.commands.proofs.Answering.{course-refusal}
 use Rattle.commands.proofs.Showing.{course-lacking, course-unread}
 
@@ -45,9 +45,10 @@ module _ (contents left : ℕ → List ℕ) (image : List ℕ) (read_failed : �
       by : (fault : BookFault) → shifts_answer (store_of (opening_of image)) (contents 1)
           ≡ reported store.1.decimals store.0 (Err fault) → Here (ended_for_book fault)
       by books.TooLong e = course-refusal shifts_command contents left image read_failed failed told before now refl
-          still ended.LongBook e (eqb-false 18 0 refl) (eqb-false 18 3 refl)
+          still ended.LongBook e (not_status ended.LongBook 0 refl) (not_status ended.LongBook 3 refl)
       by (books.BadLine line) e = course-refusal shifts_command contents left image read_failed failed told before now
-          refl still (ended.BadBook line) e (eqb-false 18 0 refl) (eqb-false 18 3 refl)
+          refl still (ended.BadBook line) e (not_status (ended.BadBook line) 0 refl)
+          (not_status (ended.BadBook line) 3 refl)
       by books.NoMemory e =
           course-lacking shifts_command contents left image read_failed failed told before now refl still refl sealed_in
 

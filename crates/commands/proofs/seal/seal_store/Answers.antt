@@ -1,6 +1,5 @@
 use Rattle.std.proofs.Common.{◌≡◌, ⊎_elim, inl, inr, ◌∙◌, ℕ, Option, Err, refl, sym, ap, subst, arith, rules}
 use Rattle.std.specs.Prelude.{is_err}
-use Rattle.std.proofs.lemmas.Bool.{eqb-false}
 use Rattle.outside.specs.Faults.{Rose}
 use Rattle.totals_record.specs.declared.durable_state.Durable.{Durable}
 use Rattle.meter_store.specs.Sealing.{FoundTotals, old_seal}
@@ -13,7 +12,7 @@ use Rattle.commands.specs.LastLine.{line_of, status_of}
 use Rattle.commands.specs.Opening.{opening_of, store_ended}
 use Rattle.commands.specs.Seal.{seal_answer, seal_command, sealing_of}
 use Rattle.commands.specs.SealSteps.{IsNoSeal}
-use Rattle.commands.proofs.EndsApart.{ends_apart}
+use Rattle.commands.proofs.EndsApart.{ends_apart, not_status}
 use Rattle.commands.proofs.Amid.{found-as, is_sealed, rests-no_seal, rests-placed, rests-refused, seals-over}
 use Rattle.commands.proofs.Amid.{seals-read, settled-sealed}
 use Rattle.commands.proofs.Answering.{course-barred as comes-barred_by_store, course-board}
@@ -343,6 +342,6 @@ returns-in-Err-place_seal-clause-comes g c = λ read tells. record {
       c.number_after-number.ensures.value (c.in-Ok-read_seal.ensures.read read) c.in-Ok-base_of.ensures.found
       (c.in-Ok.ensures.opened tells).seal
       c.open_store.ensures.reads.text (c.open_store.ensures.synced tells)
-      (c.place_seal.ensures.any_moment tells) (λ z. absurd (eqb-false 8 0 refl z));
+      (c.place_seal.ensures.any_moment tells) (λ z. absurd (not_status ended.BoardFault 0 refl z));
   rests = λ good. absurd (good refl);
 }

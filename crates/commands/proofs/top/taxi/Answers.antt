@@ -1,6 +1,5 @@
 use Rattle.std.proofs.Common.{◌≡◌, ◌≢◌, ℕ, ◌∙◌, map, string_bytes, refl, sym, subst, Some}
 use Rattle.std.specs.Prelude.{Option}
-use Rattle.std.proofs.lemmas.Bool.{eqb-false}
 use Rattle.outside.specs.Runs.{IsSettled, KeepsStore}
 use Rattle.outside.proofs.Laws.{keeps_then}
 use Rattle.outside.specs.declared.board.Board.{Ghosts}
@@ -18,6 +17,7 @@ use Rattle.commands.specs.Run.{run_command}
 use Rattle.commands.specs.Unwritten.{LeavesImage, WritesNothing}
 use Rattle.commands.proofs.Amid.{seals-finished, seals-settled}
 use Rattle.commands.proofs.Calls.{call_course, call_from, completes, nothing_written, rests_after}
+use Rattle.commands.proofs.EndsApart.{not_status}
 use Rattle.commands.proofs.ReadOnlyCalls.{unwritten-finished}
 use Rattle.commands.proofs.RunEnds.{run-finished}
 use Rattle.commands.proofs.Unwritten.{bytes-kept, bytes-then}
@@ -56,7 +56,10 @@ returns-in-None-clause-call g c =
     c.in-None.ensures
     (λ known. record {
       course = Answered;
-      may = record { whole = λ e. absurd (eqb-false 1 0 refl e); bad = λ e. absurd (eqb-false 1 3 refl e) };
+      may = record {
+        whole = λ e. absurd (not_status ended.BadWords 0 refl e);
+        bad = λ e. absurd (not_status ended.BadWords 3 refl e);
+      };
       ends = c.finish.ensures.ends;
       unread = λ word never. refl;
     })
