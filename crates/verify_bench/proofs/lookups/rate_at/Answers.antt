@@ -1,4 +1,4 @@
-use Rattle.std.proofs.Common.{◌∙◌, ℕ, List, ap, get_or}
+use Rattle.std.proofs.Common.{◌∙◌, List, ap, get_or}
 use Rattle.tariff_check.specs.Parts.{RateNumbers}
 use Rattle.verify_bench.proofs.lookups.rate_at.Goals as goal
 
