@@ -1,10 +1,6 @@
 //! What the definitions of faults and cuts come to.
-<<<<<<< ours
-ghost use Rattle.std.specs.Prelude.{◌≡◌, ℕ, ◌<◌, ◌≤◌, ◌↔◌, ◌∷◌, ◌++◌, true, List, [], Option, Some, None, All, length};
-ghost use Rattle.tariff_check.specs.Amounts.{HasAmountsOf, IsFitInitial, initial_by};
-=======
 ghost use Rattle.std.specs.Prelude.{◌≡◌, ℕ, ◌<◌, ◌≤◌, ◌↔◌, ◌∷◌, ◌++◌, true, List, [], Some, None, All, length};
->>>>>>> theirs
+ghost use Rattle.tariff_check.specs.Amounts.{HasAmountsOf, IsFitInitial, initial_by};
 ghost use Rattle.tariff_check.specs.Cuts.{IsInOrder, all_cuts, cuts_of, with_each};
 ghost use Rattle.tariff_check.specs.Faults.{IsSound, fault_of};
 ghost use Rattle.tariff_check.specs.Lines.{LineTest, IsFirstLine, IsNowhere, first_line};
