@@ -80,7 +80,8 @@ conditions : (lines : List Line) → All (λ (l : Line). IsWritableEntry l.entry
     → All IsWritableIf (conditions_of (choices rate_part lines))
 conditions [] can = All-nil IsWritableIf
 conditions (l ∷ lines) can =
-    more-conditions l.line l.entry (choices rate_part lines) (All-head (λ (k : Line). IsWritableEntry k.entry) l lines can)
+    more-conditions l.line l.entry (choices rate_part lines)
+    (All-head (λ (k : Line). IsWritableEntry k.entry) l lines can)
     (conditions lines (All-tail (λ (k : Line). IsWritableEntry k.entry) l lines can))
 
 capped-by : (b : Bool) (t : Tree) (x : Context) → nat_le most_pulses x.pulses ≡ b → IsWritable t → x.constant ≤ 200000

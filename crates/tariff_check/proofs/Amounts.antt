@@ -53,5 +53,6 @@ fit_initial t x writable sound =
     record {
       amount = rw always.1 fee.amount;
       covers = rw always.1 fee.covers;
-      minimum = few_by (minimums_of t.lines) (minimum_place t x) parts.minimums (choice_there minimum_part t (at_hiring x));
+      minimum = few_by (minimums_of t.lines) (minimum_place t x) parts.minimums
+          (choice_there minimum_part t (at_hiring x));
     }

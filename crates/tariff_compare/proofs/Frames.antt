@@ -85,8 +85,8 @@ supplement_same t u number t_is u_is none =
       | inl from ↦ elim (cases_lt number 17) [
         | inl to ↦
             let same = not_false (is_same_supplement (supplement_of t.lines number) (supplement_of u.lines number))
-            (none_found (λ n. not (is_same_supplement (supplement_of t.lines n) (supplement_of u.lines n))) supplement_numbers none
-            number (in_numbers number (omega arith, omega arith))) in
+            (none_found (λ n. not (is_same_supplement (supplement_of t.lines n) (supplement_of u.lines n)))
+            supplement_numbers none number (in_numbers number (omega arith, omega arith))) in
             same_supplements (supplement_of t.lines number) (supplement_of u.lines number) same
         | inr beyond ↦
             supplements_are_numbered_to_16 t number t_is (λ within. omega (arith, within.1, beyond))
@@ -159,8 +159,8 @@ passes d b rest is none = rw is none
 
 pub same_frame : (t u : Tree) → HasSameFrame t u → frame_difference t u ≡ None
 same_frame t u same =
-    let supplements : (n : ℕ) → not (is_same_supplement (supplement_of t.lines n) (supplement_of u.lines n)) ≡ false = λ n.
-    ap not (ap (is_same_supplement (supplement_of t.lines n)) (sym (same.supplements n))
+    let supplements : (n : ℕ) → not (is_same_supplement (supplement_of t.lines n) (supplement_of u.lines n)) ≡ false =
+    λ n. ap not (ap (is_same_supplement (supplement_of t.lines n)) (sym (same.supplements n))
     ∙ supplement_self (supplement_of t.lines n)) in
     passes Decimals (eqb t.decimals u.decimals) _ (eq-eqb t.decimals u.decimals same.decimals)
     (passes Step (eqb (display_step t).0 (display_step u).0) _
@@ -171,5 +171,6 @@ same_frame t u same =
     (eq-eqb (positions_of t.lines) (positions_of u.lines) same.positions)
     (passes Zones (eqb (zones_of t.lines) (zones_of u.lines)) _
     (eq-eqb (zones_of t.lines) (zones_of u.lines) same.zones)
-    (ap (option_map Supplement) (none_other (λ n. not (is_same_supplement (supplement_of t.lines n) (supplement_of u.lines n)))
-    supplement_numbers supplements))))))
+    (ap (option_map Supplement) (none_other
+    (λ n. not (is_same_supplement (supplement_of t.lines n) (supplement_of u.lines n))) supplement_numbers
+    supplements))))))

@@ -35,7 +35,8 @@ supplement_numbers = 1 ∷ 2 ∷ 3 ∷ 4 ∷ 5 ∷ 6 ∷ 7 ∷ 8 ∷ 9 ∷ 10 �
 -- the first supplement that differs is that of the lowest number
 abbrev pub other_supplement : (t u : Tree) → Option ℕ
 other_supplement t u =
-    find (λ number. not (is_same_supplement (supplement_of t.lines number) (supplement_of u.lines number))) supplement_numbers
+    find (λ number. not (is_same_supplement (supplement_of t.lines number) (supplement_of u.lines number)))
+    supplement_numbers
 
 -- what differs first in the frame of two tariffs is the decimals, the display step, its rounding, the positions, the
 -- zones, or the supplement of the lowest number, or nothing

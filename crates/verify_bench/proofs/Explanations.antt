@@ -212,7 +212,8 @@ extra_by s hired n supplement (Some t) m numbered is fresh =
     })
 
 goes_extra : (s : Setting) (hired : Context) (n : ℕ) (supplement : Option Supplement) (m : Meter)
-    → supplement_of s.tariff.lines n ≡ supplement → Fresh s hired m.trip → Goes s hired m.trip (extra_added n supplement m)
+    → supplement_of s.tariff.lines n ≡ supplement → Fresh s hired m.trip
+    → Goes s hired m.trip (extra_added n supplement m)
 goes_extra s hired n None m there fresh = record { are = tt; fresh = fresh }
 goes_extra s hired n (Some supplement) m there fresh = extra_by s hired n supplement m.trip m
     (λ writable. supplement_number s.tariff n supplement writable there) refl fresh
@@ -264,8 +265,10 @@ goes_key s hired (keys.Zone n) Hired m none fresh = goes_zone s hired n m fresh
 goes_key s hired (keys.Zone n) Stopped m none fresh = record { are = tt; fresh = fresh }
 goes_key s hired (keys.Extra n) Off m none fresh = record { are = tt; fresh = fresh }
 goes_key s hired (keys.Extra n) ForHire m none fresh = record { are = tt; fresh = fresh }
-goes_key s hired (keys.Extra n) Hired m none fresh = goes_extra s hired n (supplement_of s.tariff.lines n) m refl fresh
-goes_key s hired (keys.Extra n) Stopped m none fresh = goes_extra s hired n (supplement_of s.tariff.lines n) m refl fresh
+goes_key s hired (keys.Extra n) Hired m none fresh =
+    goes_extra s hired n (supplement_of s.tariff.lines n) m refl fresh
+goes_key s hired (keys.Extra n) Stopped m none fresh =
+    goes_extra s hired n (supplement_of s.tariff.lines n) m refl fresh
 
 goes_latch : (s : Setting) (hired : Context) (latch : Option Key) (m : Meter) → (m.operating ≡ ForHire → m.trip ≡ None)
     → Fresh s hired m.trip

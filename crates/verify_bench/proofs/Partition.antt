@@ -274,7 +274,11 @@ within_rates s sound x =
 -- the supplements that were taken, number by number
 one_taken : (t : Tree) (numbers : List ℕ) (number : ℕ) (b : Bool) → nat_eq (times number numbers) 0 ≡ b
     → sum (map (λ (k : Taken). k.count * k.amount) (if b then []
-    else record { number = number; count = times number numbers; amount = amount_in (supplement_of t.lines number) } ∷ []))
+    else record {
+      number = number;
+      count = times number numbers;
+      amount = amount_in (supplement_of t.lines number);
+    } ∷ []))
     ≡ times number numbers * amount_in (supplement_of t.lines number)
 one_taken t numbers number true none =
     let zero_times : times number numbers ≡ 0 = eqb-true (times number numbers) 0 none in

@@ -73,7 +73,11 @@ minimum_line t x = option_map (λ place. get_or (lines_of (sound_of t).minimums)
 abbrev pub taken_if : Tree → (numbers : List ℕ) → (number : ℕ) → List Taken
 taken_if t numbers number =
     if times number numbers == 0 then []
-    else record { number = number; count = times number numbers; amount = amount_in (supplement_of t.lines number) } ∷ []
+    else record {
+      number = number;
+      count = times number numbers;
+      amount = amount_in (supplement_of t.lines number);
+    } ∷ []
 
 -- the supplements that are taken in a list are those of the numbers 1 to 16, in order
 abbrev pub taken_of : Tree → (numbers : List ℕ) → List Taken
