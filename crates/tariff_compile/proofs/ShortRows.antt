@@ -174,7 +174,8 @@ row_short tables row (t, is) h wide =
     (λ second. if_short (ltb initial (length tables.initials)) _ _
     (λ e.
     let fit : IsSoundInitial (get_or tables.initials initial (record { amount = 0; covers = 0 })) =
-    All-get_or IsSoundInitial tables.initials initial (record { amount = 0; covers = 0 }) (ltb-true _ _ e) (fees-fit tables compiled) in
+    All-get_or IsSoundInitial tables.initials initial (record { amount = 0; covers = 0 }) (ltb-true _ _ e)
+    (fees-fit tables compiled) in
     initial_short tables.decimals (initial + 1) _ decimals (omega (arith, wide)) (omega (arith, fit.amount))
     (omega (arith, fit.covers)))
     (λ third. if_short (ltb minimum (length tables.minimums)) _ _
