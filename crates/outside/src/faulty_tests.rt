@@ -2,12 +2,12 @@
 //! for each error that is tried.
 ghost use Rattle.std.specs.Prelude.{◌≡◌, ◌<◌};
 
+use crate::FileBoard;
 use crate::board_tests::{Asked, call};
 use crate::faulty_system::{Call, Fault, FaultySystem, Trial};
 use crate::file_tests::{Change, STORE, Sight, UNFINISHED, enter, is_seen, leave, make};
 use crate::store_file::Access;
 use crate::tests::must;
-use crate::FileBoard;
 use std::io::ErrorKind;
 use std::marker::Brand;
 use std::sync::ledger::{Blank, Ledger};
@@ -584,34 +584,8 @@ fn device_of<'a>(case: &Case, system: FaultySystem<'a>) -> FileBoard<FaultySyste
     }
 }
 
-/// Asks what a case asks before its faults begin, each of which must be Ok.
-fn must_be_ok<'a, L: Ledger>(
-    device: &mut FileBoard<FaultySystem<'a>>,
-    case: &Case,
-    steps: &mut Steps<L>,
-) -> Result<(), Fail> {
-    for ask in case.before {
-        must(is_ok(device, ask, steps), case.name, 0)?;
-    }
-    Ok(())
-}
-
-/// Asks what a case asks behind that, each of which must come as it says.
-fn must_come<'a, L: Ledger>(
-    device: &mut FileBoard<FaultySystem<'a>>,
-    case: &Case,
-    steps: &mut Steps<L>,
-) -> Result<(), Fail> {
-    for number in 0..case.calls.len() {
-        let (ask, want) = &case.calls[number];
-        let came = is_ok(device, ask, steps) == *want;
-        must(came, case.name, number as u64 + 1)?;
-    }
-    Ok(())
-}
-
-/// Asks all that a case asks.
-fn ask_all<L: Ledger>(
+/// Asks what a case says, each of which must come as it says.
+fn must_come<L: Ledger>(
     rt: HostRuntime,
     blank: Blank,
     case: &Case,
@@ -624,14 +598,21 @@ fn ask_all<L: Ledger>(
     let mut steps: Steps<L> = Steps::open(blank);
     let trial = Trial::new(case.faults, kind);
     let mut device = device_of(case, FaultySystem { rt, trial: &trial });
-    must_be_ok(&mut device, case, &mut steps)?;
+    for ask in case.before {
+        must(is_ok(&mut device, ask, &mut steps), case.name, 0)?;
+    }
     trial.begin();
-    must_come(&mut device, case, &mut steps)
+    for number in 0..case.calls.len() {
+        let (ask, want) = &case.calls[number];
+        let came = is_ok(&mut device, ask, &mut steps) == *want;
+        must(came, case.name, number as u64 + 1)?;
+    }
+    Ok(())
 }
 
-/// Asks all that a case asks, under a ledger of its own.
-fn ask_all_counted(rt: HostRuntime, case: &Case, kind: ErrorKind) -> Result<(), Fail> {
-    ask_all::<Brand>(rt, Blank::new(1), case, kind)
+/// Asks what a case says, under a ledger of its own.
+fn must_come_counted(rt: HostRuntime, case: &Case, kind: ErrorKind) -> Result<(), Fail> {
+    must_come::<Brand>(rt, Blank::new(1), case, kind)
 }
 
 /// Plays a case in the folder of now.
@@ -639,7 +620,7 @@ fn play(rt: HostRuntime, case: &Case, kind: ErrorKind) -> Result<(), Fail> {
     for change in case.folder {
         make(rt, change)?;
     }
-    ask_all_counted(rt, case, kind)?;
+    must_come_counted(rt, case, kind)?;
     for sight in case.left {
         must(is_seen(rt, sight)?, case.name, 100)?;
     }

@@ -110,8 +110,7 @@ fn must_break_off(alloc: Global, number: u64) -> Result<(), Fail> {
     must_be_cut(alloc, &board, number, Fill::New)
 }
 
-/// Each of the 15 calls of the board fails in a first sealing: six of two scans, eight that write and sync, and a
-/// print.
+/// Each of the 15 calls of the board fails in a first sealing: six of two scans, eight writes and syncs, and a print.
 #[test]
 fn failing_boards(rt: HostRuntime) -> Result<(), Fail> {
     for number in 1..=15 {

@@ -170,8 +170,8 @@ type Failing = (
     u8,
 );
 
-/// A read fails behind a print, or with a print, or isn't made behind a byte that is no request's; or the line that
-/// tells of a bad text isn't printed.
+/// A read fails behind a print, or with a print, or isn't made, behind the end of the requests or behind a byte that is
+/// none's; or the line that tells of a bad text isn't printed.
 const FAILURES: &[Failing] = &[
     (
         &["fare", "t", "d", "10000"],
@@ -190,6 +190,7 @@ const FAILURES: &[Failing] = &[
         &[OF_NUMBER, "READ FAULT\n"],
         7,
     ),
+    (&["port", "r"], &[NUMBER], (0, 3), &[OF_NUMBER], 0),
     (&["port", "r"], &[REQUESTS], (0, 2), SERVED, 16),
 ];
 
