@@ -15,7 +15,7 @@ use Rattle.taxi_units.specs.declared.receipt.Receipt.{Receipt}
 use Rattle.taxi_units.specs.declared.receipt.Stamp.{Stamp}
 use Rattle.receipt_text.specs.Grammar.{IsKind, IsDateText, IsTimeText, IsStampText, IsDayText, IsHexDigit, IsHexText}
 use Rattle.receipt_text.specs.Grammar.{IsDistance, IsCalculation, Line, IsMoney, AreAmounts, HasMinimum, AreTripLines}
-use Rattle.receipt_text.specs.Grammar.{AreLines}
+use Rattle.receipt_text.specs.Grammar.{AreReceiptLines}
 use Rattle.receipt_text.specs.Part.{Part}
 use Rattle.log_commands.specs.Record.{Record, IsRecord}
 use Rattle.taxi_units.specs.Identifier.{IsIdentifierCharacter}
@@ -292,7 +292,7 @@ module _ (r : Receipt) (p : Part) where
       (omega arith, (omega arith, (omega arith, (omega arith, (omega arith, tt))))) (kind_plain r.kind)
       (taxi_ended taxi) h
 
-  lines_ended : IsTaxi p.taxi → (text : List ℕ) → AreLines r p text → IsEnded text
+  lines_ended : IsTaxi p.taxi → (text : List ℕ) → AreReceiptLines r p text → IsEnded text
   lines_ended taxi text h = line_ended 82 (codes "ECEIPT ") (IsNumberText r.number) AreKindLines text (omega arith) (
     omega arith,
     (omega arith, (omega arith, (omega arith, (omega arith, (omega arith, (omega arith, (omega arith, tt))))))),
