@@ -20,7 +20,9 @@ use Rattle.meter_states.specs.declared.act.Act.TheVariants.{Show, Refuse, Enter,
 use Rattle.taxi_units.specs.declared.event.Operating.TheVariants.{Off, ForHire, Hired, Stopped}
 use Rattle.tariff_syntax.specs.declared.context.Context.{Context}
 use Rattle.verify_bench.proofs.Permitted.{not_at_most}
-use Rattle.meter_states.specs.Keys.{key_in}
+use Rattle.meter_states.specs.Keys.{extra_added, key_in}
+use Rattle.meter_states.specs.Supplements.{times}
+use Rattle.tariff_check.specs.declared.values.Supplement.{Supplement}
 use Rattle.taxi_units.specs.Limits.{hirings_end, last_number}
 use Rattle.taxi_units.specs.declared.event.Operating.{Operating}
 use Rattle.taxi_units.specs.declared.receipt.Display.{Display}
@@ -351,6 +353,56 @@ stands_with s hired meter m part hiring more is stands grows =
       held = stands.held;
       trips = rw trip.1 (grows trip.0 trip.2);
     }
+
+-- the trip has a supplement more
+extra_of : (s : Setting) (hired : Context) (hiring more : Hiring) (t : MeterTrip) (n : ℕ)
+    → more ≡ record hiring { extras = more.extras } → more.extras.items ≡ hiring.extras.items ++ n ∷ []
+    → IsHiringOf s hired hiring t → IsHiringOf s hired more (model.with_extra n t)
+extra_of s hired hiring more t n others extras is =
+    subst (λ (h : Hiring). IsHiringOf s hired h (model.with_extra n t)) (sym others) (record {
+      started = is.started;
+      initial = is.initial;
+      minimum = is.minimum;
+      opening = is.opening;
+      fee = is.fee;
+      fee_line = is.fee_line;
+      minimum_line = is.minimum_line;
+      whole = is.whole;
+      rates = is.rates;
+      stopped = is.stopped;
+      dropped = is.dropped;
+      extras = ap (λ (numbers : List ℕ). numbers ++ n ∷ []) is.extras ∙ sym extras;
+      few = is.few;
+    })
+
+pub moves_extra : (s : Setting) (trip : Option MeterTrip) (found : List Explained) (hired next : Context)
+    (meter : BenchMeter) (m : Meter) (n : ℕ) (supplement : Supplement) (hiring more : Hiring)
+    → meter.hiring ≡ Some hiring → times n hiring.extras.items < supplement.max
+    → more ≡ record hiring { extras = more.extras } → more.extras.items ≡ hiring.extras.items ++ n ∷ []
+    → BenchStands s next meter m
+    → Moves s hired next trip found found (record meter { hiring = Some more }) (extra_added n (Some supplement) m)
+moves_extra s trip found hired next meter m n supplement hiring more is few others extras stands =
+    let beside = trip_beside s next hiring meter.hiring m.trip is stands.trips in
+    let t = beside.0 in
+    let may : nat_le supplement.max (times n t.extras) ≡ false =
+    not_at_most supplement.max (times n t.extras)
+    (subst (λ (numbers : List ℕ). times n numbers < supplement.max) (sym beside.2.extras) few) in
+    rw (beside.1, may) (record {
+      state = record {
+        operating = stands.operating;
+        clock = stands.clock;
+        began = stands.began;
+        taken = stands.taken;
+        latch = stands.latch;
+        position = stands.position;
+        zone = stands.zone;
+        roam = stands.roam;
+        number = stands.number;
+        held = stands.held;
+        trips = extra_of s next hiring more t n others extras beside.2;
+      };
+      found = sym (append-nil (map explanation_of found));
+    })
 
 -- the key that waits is lost
 pub latch_lost : (s : Setting) (hired next : Context) (trip : Option MeterTrip) (found : List Explained)
