@@ -1,5 +1,5 @@
 -- For proofs: the ranges of a receipt in two parts, as the code tests them. IsReceipt, in Shown of taxi_units, has all.
-use Rattle.std.specs.Prelude.{◌≡◌, ◌≢◌, ◌+◌, ◌*◌, ◌^◌, ◌<◌, ◌≤◌}
+use Rattle.std.specs.Prelude.{◌≡◌, ◌≢◌, ◌^◌, ◌<◌, ◌≤◌}
 use Rattle.taxi_units.specs.Money.{largest_amount}
 use Rattle.taxi_units.specs.Shown.{fare_of}
 use Rattle.taxi_units.specs.declared.receipt.Kind.TheVariants.{Roam}
