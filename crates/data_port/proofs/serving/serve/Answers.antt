@@ -165,7 +165,8 @@ returns-in-Err-clause-board_fault g c = rises_not (read_is_no_fault ⊥) c.loop-
 pub returns-in_err-serve_piece-clause-board_fault : goal.returns-in_err-serve_piece-clause-board_fault
 returns-in_err-serve_piece-clause-board_fault g c =
     let p = err_from_is_err_and c.from_residual.result c.from_residual.ensures.1 in
-    rw (p.1, p.2) (rises_behind c.loop-left.invariant.faults c.in_err-serve_piece.ensures.board_fault)
+    rw (p.1, p.2)
+    (rw c.in_err-serve_piece.was at (rises_behind c.loop-left.invariant.faults c.serve_piece.ensures.board_fault))
 
 pub returns-clause-board_fault : goal.returns-clause-board_fault
 returns-clause-board_fault g c = rises_not (λ same. absurd (let bad : TooLong ≡ BoardFault = cc in cc))

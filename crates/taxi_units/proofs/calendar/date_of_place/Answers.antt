@@ -4,13 +4,13 @@ use Rattle.std.proofs.lemmas.Bool.{lt-ltb, le-ltb}
 use Rattle.taxi_units.specs.Calendar.{date_from}
 use Rattle.taxi_units.proofs.calendar.date_of_place.Goals as goal
 
--- a date in the month that comes next is found there
+-- a day within the first month that is left is found in it
 in_the_month : (month index days : ℕ) (lengths : List ℕ) → index < length lengths → days < get_or lengths index 0
     → date_from month (drop index lengths) days ≡ Some (month, days + 1)
 in_the_month month index days lengths inside less =
     rw (drop-cons lengths index 0 inside, lt-ltb days (get_or lengths index 0) less) refl
 
--- and any other is looked for in the months after it
+-- and any other is looked for in the months behind it
 after_the_month : (month index days : ℕ) (lengths : List ℕ) → index < length lengths → get_or lengths index 0 ≤ days
     → date_from (month + 1) (drop (index + 1) lengths) (days - get_or lengths index 0)
     ≡ date_from month (drop index lengths) days
