@@ -5,6 +5,7 @@ use Rattle.outside.proofs.Laws.{rose_behind}
 use Rattle.commands.specs.CompareSteps.{IsNotCompared, IsNoTariff}
 use Rattle.commands.specs.Tariffs.{tariff_in}
 use Rattle.commands.specs.declared.compare.CompareFault.{CompareFault}
+use Rattle.commands.specs.declared.compare.CompareFault.TheVariants as compares
 use Rattle.commands.specs.declared.tariff.Refusal.{Refusal}
 use Rattle.commands.specs.declared.tariff.TextFault.{TextFault}
 use Rattle.commands.specs.declared.tariff.TextFault.TheVariants as texts
@@ -24,6 +25,22 @@ no_tariff text failed texts.ReadFault read refused = read refl
 no_tariff text failed (texts.Refused why) read refused = refused why refl
 no_tariff text failed texts.NoMemory read refused = tt
 
+-- two faults are of one tariff where they are the same, and the faults of the two tariffs are none of one another
+first_is : (fault other : TextFault) → compares.Tariff fault ≡ compares.Tariff other → fault ≡ other
+first_is fault other e = cc
+
+other_is : (fault other : TextFault) → compares.Other fault ≡ compares.Other other → fault ≡ other
+other_is fault other e = cc
+
+not_first : (fault other : TextFault) → compares.Other fault ≢ compares.Tariff other
+not_first fault other = λ e. absurd cc
+
+memory_not_first : (fault : TextFault) → compares.NoMemory ≢ compares.Tariff fault
+memory_not_first fault = λ e. absurd cc
+
+memory_not_other : (fault : TextFault) → compares.NoMemory ≢ compares.Other fault
+memory_not_other fault = λ e. absurd cc
+
 -- ---- the first tariff wasn't read
 
 pub returns-in-Err-clause-refused : goal.returns-in-Err-clause-refused
@@ -40,7 +57,8 @@ returns-in-Err-clause-refused g c = λ fault tells e.
     (λ r f. c.read_tariff.ensures.refused r tells (c.in-Err.is ∙ ap Err f)))
 
 pub returns-in-Err-clause-read_fault : goal.returns-in-Err-clause-read_fault
-returns-in-Err-clause-read_fault g c = λ e. c.read_tariff.ensures.read_fault cc
+returns-in-Err-clause-read_fault g c = λ e.
+    c.read_tariff.ensures.read_fault (c.in-Err.is ∙ ap Err (first_is _ _ (same_fault _ _ _ refl e)))
 
 pub returns-in-Err-clause-first : goal.returns-in-Err-clause-first
 returns-in-Err-clause-first g c = λ fault e other differs. c.read_tariff.ensures.others other differs
@@ -52,7 +70,9 @@ pub returns-in-Err-clause-unread : goal.returns-in-Err-clause-unread
 returns-in-Err-clause-unread g c = λ tells other not_1 never. c.read_tariff.ensures.others other not_1
 
 pub returns-in-Err-clause-counts : goal.returns-in-Err-clause-counts
-returns-in-Err-clause-counts g c = λ first second. c.read_tariff.ensures.counts (λ e. first cc)
+returns-in-Err-clause-counts g c = λ first second.
+    c.read_tariff.ensures.counts
+    (λ e. first (ap (λ (f : TextFault). Err (compares.Tariff f)) (same_fault _ _ _ c.in-Err.is e)))
 
 -- ---- the other one wasn't read
 
@@ -75,12 +95,16 @@ returns-in-Err-read_tariff-clause-refused g c = λ fault tells e.
           ∙ c.read_tariff-2.ensures.refused r tells (c.in-Err-read_tariff.is ∙ ap Err f)),
     )
 
+pub returns-in-Err-read_tariff-clause-read_fault : goal.returns-in-Err-read_tariff-clause-read_fault
+returns-in-Err-read_tariff-clause-read_fault g c = λ e. absurd (not_first _ _ (same_fault _ _ _ refl e))
+
 pub returns-in-Err-read_tariff-clause-other_fault : goal.returns-in-Err-read_tariff-clause-other_fault
 returns-in-Err-read_tariff-clause-other_fault g c = λ e.
     let faults = g.F.Files.faults in
     rose_behind (faults c.args.files.now 2) (faults c.read_tariff.new.files 2) (faults c.read_tariff-2.new.files 2)
     (c.read_tariff.ensures.counts (no_fault c.read_tariff.result c.in-Ok.one texts.ReadFault c.in-Ok.is) 2)
-    (c.read_tariff-2.ensures.read_fault cc)
+    (c.read_tariff-2.ensures.read_fault
+    (c.in-Err-read_tariff.is ∙ ap Err (other_is _ _ (same_fault _ _ _ refl e))))
 
 pub returns-in-Err-read_tariff-clause-others : goal.returns-in-Err-read_tariff-clause-others
 returns-in-Err-read_tariff-clause-others g c = λ other not_1 not_2.
@@ -94,7 +118,8 @@ returns-in-Err-read_tariff-clause-unread g c = λ tells other not_1 never.
 
 pub returns-in-Err-read_tariff-clause-counts : goal.returns-in-Err-read_tariff-clause-counts
 returns-in-Err-read_tariff-clause-counts g c = λ first second other.
-    c.read_tariff-2.ensures.counts (λ e. second cc) other
+    c.read_tariff-2.ensures.counts
+    (λ e. second (ap (λ (f : TextFault). Err (compares.Other f)) (same_fault _ _ _ c.in-Err-read_tariff.is e))) other
     ∙ c.read_tariff.ensures.counts (no_fault c.read_tariff.result c.in-Ok.one texts.ReadFault c.in-Ok.is) other
 
 -- ---- both were read
@@ -130,6 +155,12 @@ returns-in-Ok-compare-clause-counts g c = λ first second other.
     ∙ c.read_tariff.ensures.counts (no_fault c.read_tariff.result c.in-Ok.one texts.ReadFault c.in-Ok.is) other
 
 -- ---- there was no memory for a comparison
+
+pub returns-clause-read_fault : goal.returns-clause-read_fault
+returns-clause-read_fault g c = λ e. absurd (memory_not_first _ (same_fault _ _ _ refl e))
+
+pub returns-clause-other_fault : goal.returns-clause-other_fault
+returns-clause-other_fault g c = λ e. absurd (memory_not_other _ (same_fault _ _ _ refl e))
 
 pub returns-clause-others : goal.returns-clause-others
 returns-clause-others g c = λ other not_1 not_2.

@@ -33,7 +33,8 @@ pub returns-then-is_empty-clause-leaves : goal.returns-then-is_empty-clause-leav
 returns-then-is_empty-clause-leaves g c =
     let B = g.B.Board in
     let old = c.args.board.now in
-    leaves_none B _ old (λ i x was. let h = g.met.B.Board.only_now old i x was in record {
+    leaves_none B (MayLeaveAmid (B.image old) (B.in_flight old) (B.printed old) (line_of c.args.ended)) old
+    (λ i x was. let h = g.met.B.Board.only_now old i x was in record {
       bytes = h.bytes;
       small = h.small;
       text = begins_not (B.printed old) x (line_of c.args.ended) h.text;

@@ -1,4 +1,4 @@
-use Rattle.std.proofs.Common.{◌≡◌, ◌≢◌, ◌∙◌, ℕ, List, [], Err, refl, sym, ap, subst, arith}
+use Rattle.std.proofs.Common.{◌∙◌, ℕ, List, Err, refl, sym, ap, subst, arith}
 use Rattle.std.specs.Prelude.{is_err}
 use Rattle.outside.proofs.Laws.{keeps_none}
 use Rattle.commands.specs.declared.ending.Ended.TheVariants as ended

@@ -98,8 +98,7 @@ returns g c = λ contents.
     (c.print.ensures.cause.failed (ap is_err c.in-Err-print.is)))
     (λ later le. omega (arith, le, c.state_of_drive-durable.ensures.steps, c.print.ensures.step))
     (λ e. absurd (board_not_read e))
-    (cause_board (c.print.ensures.cause.failed
-    (ap is_err c.in-Err-print.is)))
+    (cause_board (c.print.ensures.cause.failed (ap is_err c.in-Err-print.is)))
     (λ word not. refl) (λ known word never. refl) (λ read good word. refl)
     (keeps_print g.B.Board c.args.board.now c.print.new.self _
     c.print.ensures.image c.print.ensures.flight c.print.ensures.time)

@@ -82,8 +82,7 @@ returns g c =
     let made = c.in-Ok.ensures.found tells in
     rw made.sound (grind (arith, le, made.value, c.print_rows.ensures.steps)))
     (λ e. absurd (board_not_read e))
-    (cause_board (c.print_rows.ensures.cause.failed
-    (ap is_err c.in-Err-print_rows.is)))
+    (cause_board (c.print_rows.ensures.cause.failed (ap is_err c.in-Err-print_rows.is)))
     c.tables_of_word.ensures.others
     (λ tells word never. c.tables_of_word.ensures.others word (never []))
     (λ read good.
