@@ -1,5 +1,3 @@
--- texts that are appended in pieces
-mod Appending
 -- what is written of a number, an amount or a word is read again
 mod Again
 -- all elements of a list are bytes where each is
