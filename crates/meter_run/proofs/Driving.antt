@@ -1,5 +1,5 @@
 -- A drive, from its first byte to where no more of it is read.
-use Rattle.std.proofs.Common.{◌≡◌, ℕ, ◌+◌, ◌≤◌, ◌<◌, List, [], ◌++◌, length, Option, Some, None, IfSome, Result, Ok}
+use Rattle.std.proofs.Common.{◌≡◌, ℕ, ◌+◌, ◌≤◌, ◌<◌, List, [], ◌++◌, length, Option, Some, None, Result, Ok}
 use Rattle.std.proofs.Common.{refl, sym, ap, subst, ◌∙◌, append_assoc, arith, length-append, flat_map}
 use Rattle.taxi_units.specs.declared.event.Event.{Event}
 use Rattle.drive_text.specs.Drive.{events_in, runs_after}
@@ -143,14 +143,6 @@ breaks_amid told old new drive rest rest' carried broke_off x y z runs stop s mo
         length-append (events_in (s.given ++ g.fed)) (flat_map run_events (runs_after (s.given ++ g.fed) g.ahead)),
       );
     }
-
--- what a clause says of the stop that came
-pub stop_at : (stop : Option Stop) (P : Stop → Type 0) (x : Stop) → stop ≡ Some x → IfSome stop P → P x
-stop_at None P x is h = absurd cc
-stop_at (Some y) P x is h = subst P (same y x is) h
-  where
-    same : (a b : Stop) → Some a ≡ Some b → a ≡ b
-    same a b e = cc
 
 abbrev ended_by : (E : Type 0) → Stop → Result Stop E
 ended_by E stop = Ok stop

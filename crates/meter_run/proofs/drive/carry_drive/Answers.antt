@@ -6,7 +6,7 @@ use Rattle.drive_text.specs.Ranges.{IsRunInRange}
 use Rattle.drive_text.specs.Runs.{run_events}
 use Rattle.drive_text.specs.declared.run.Run.{Run}
 use Rattle.meter_run.specs.Drives.{BreaksDrive, IsBounded}
-use Rattle.meter_run.proofs.Driving.{breaks_amid, smaller, so_far_more, so_far_none, stop_at, stop_of, takes_last}
+use Rattle.meter_run.proofs.Driving.{breaks_amid, smaller, so_far_more, so_far_none, stop_of, takes_last}
 use Rattle.meter_run.proofs.Going.{counts_more, no_more, not_ok, not_some, not_this, on_err, same_stop, went_well}
 use Rattle.meter_run.proofs.Going.{went_wrong, true_is}
 use Rattle.meter_run.proofs.drive.carry_drive.Goals as goal
@@ -79,7 +79,7 @@ returns-in_err-carry_runs-clause-broke_off g c =
     (λ (es : List Event). g.C.Carrier.broke_off r m b es new)
     c.args.steps.now c.loop-stop.steps c.carry_runs.new.steps runs c.next-stop.result s
     (λ none. c.next-stop.ensures.more none s.given s.stands)
-    (λ x is. stop_at c.next-stop.result _ x is c.next-stop.ensures.stops s.given s.stands)
+    (λ x is. let stops = rw is at c.next-stop.ensures.stops in stops s.given s.stands)
     (λ done. g.met.C.Carrier.later r (events_in s.given)
     (flat_map run_events runs) m b c.loop-stop.meter c.loop-stop.board new done broken)
     (λ es fs h. g.met.C.Carrier.sooner r es fs m b new h)
@@ -167,6 +167,7 @@ loop-stop-preserved g c =
           (g.B.Board.faults c.carry_runs.new.board) c.loop-stop.invariant.faults
           (c.in_ok-carry_runs.ensures.cause.kept true_is);
       others = λ other differs. c.next-stop.ensures.others other differs ∙ c.loop-stop.invariant.others other differs;
-      counts = λ other. counts_more _ _ _ (c.loop-stop.invariant.counts other)
+      counts = λ other. counts_more (g.F.Files.faults c.args.files.now other) (g.F.Files.faults c.loop-stop.files other)
+          (g.F.Files.faults c.next-stop.new.files other) (c.loop-stop.invariant.counts other)
           ((c.next-stop.ensures.counts other).kept (λ fault. not_some c.next-stop.result _ c.in_default.is fault));
     }
