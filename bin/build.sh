@@ -85,12 +85,20 @@ show_on() {
   done
 }
 
+# What to tell rt of its jobs: two, where there is room for them. Of itself it gives the upper crates one, since it plans
+# three times the memory that they take (docs/STATUS.md).
+jobs() {
+  local free
+  free=$(awk '$1 == "MemAvailable:" { print int($2 / 1048576) }' /proc/meminfo)
+  [ "$(nproc)" -lt 2 ] || [ "${free:-0}" -lt 10 ] || echo --jobs 2
+}
+
 # Proves and builds a crate; its output goes to the log.
 build_crate() {
   local watcher status begins=$SECONDS functions
   # The program itself is built by a run that needs no file.
-  # shellcheck disable=SC2086
-  if [ "$crate" = "$program_crate" ]; then set -- rt run -- $sample; else set -- rt lib; fi
+  # shellcheck disable=SC2046,SC2086
+  if [ "$crate" = "$program_crate" ]; then set -- rt run $(jobs) -- $sample; else set -- rt lib $(jobs); fi
   show_progress begin
   show_on &
   watcher=$!
