@@ -52,28 +52,40 @@ read_shares() {
   done
 }
 
-# How many functions of a crate that is being proved are done: rt keeps a file of each as it goes.
-proved_in() {
+# How many functions of the crates that are being proved are done: rt keeps a file of each as it goes.
+proved_inside() {
   local count
-  count=$(find "$top/crates/$1/out/incremental" -name '*-proofs.*.Proof.oantt' ! -name '*.TheImpl.Proof.oantt' \
+  [ ${#proving[@]} -gt 0 ] || { echo 0; return; }
+  count=$(find "${proving[@]/%//out/incremental}" -name '*-proofs.*.Proof.oantt' ! -name '*.TheImpl.Proof.oantt' \
     2>/dev/null | wc -l)
-  [ "$count" -le "${has[$1]-0}" ] || count=${has[$1]-0}
+  [ "$count" -le "$proving_functions" ] || count=$proving_functions
   echo "$count"
+}
+
+# Takes note of the crates that are being proved now, of each its folder.
+now_proving() {
+  local folder
+  proving=("$@") proving_names='' proving_share=0 proving_functions=0
+  for folder in "$@"; do
+    proving_names+=${proving_names:+ and }${folder##*/}
+    proving_share=$((proving_share + ${share[${folder##*/}]-0}))
+    proving_functions=$((proving_functions + ${has[${folder##*/}]-0}))
+  done
 }
 
 minutes() { echo "$(($1 / 60)) min $(($1 % 60)) s"; }
 
-# Shows how far the build is: the crate, functions, the time so far, and the time expected. The crates that were proved
-# in this run say how fast it goes; before the first one a tenth of a minute is one. On a terminal it stays in one line.
+# Shows how far the build is: the crates, functions, the time so far, and the time expected. What was proved in this run
+# says how fast it goes; before that a tenth of a minute is one. On a terminal it stays in one line.
 show_progress() {
   local inside=0 spent=$((SECONDS - began_building)) ahead=$left pace=600 from='' to='\n'
   [ ! -t 2 ] || from='\r\033[K' to=''
-  [ "$1" = begin ] || inside=$(proved_in "$crate")
+  [ "$1" = begin ] || inside=$(proved_inside)
   [ "$done_share" -lt 5 ] || pace=$((done_seconds * 100 / done_share))
-  [ "${has[$crate]-0}" -eq 0 ] || ahead=$((left - ${share[$crate]-0} * inside / has[$crate]))
+  [ "$proving_functions" -eq 0 ] || ahead=$((left - proving_share * inside / proving_functions))
   [ "$ahead" -gt 0 ] || ahead=1
   printf "$from%s: crate %s of %s, %s; %s of %s functions; %s so far, about %s min to go$to" "$name" "$place" "$all" \
-    "$crate" $((done_functions + inside)) "$all_functions" "$(minutes $spent)" $(((ahead * pace / 100 + 59) / 60)) >&2
+    "$proving_names" $((done_functions + inside)) "$all_functions" "$(minutes $spent)" $(((ahead * pace / 100 + 59) / 60)) >&2
 }
 
 # Shows progress while a crate is proved: on a terminal in one line each second, else in a line a minute.
@@ -83,6 +95,16 @@ show_on() {
     second=$((second + 1))
     [ ! -t 2 ] && [ $((second % 60)) -ne 0 ] || show_progress on
   done
+}
+
+# Counts a crate that was proved as done.
+count_done() {
+  local functions
+  functions=$(sed -n 's/^logic=proved functions=\([0-9]*\).*/\1/p' "$log/$crate" | tail -n 1)
+  # The table may be older than the crate.
+  functions=${functions:-${has[$crate]-0}}
+  all_functions=$((all_functions + functions - ${has[$crate]-0})) done_functions=$((done_functions + functions))
+  left=$((left - ${share[$crate]-0}))
 }
 
 # What to tell rt of its jobs: two, where there is room for them. Of itself it gives the upper crates one, since it plans
@@ -95,10 +117,11 @@ jobs() {
 
 # Proves and builds a crate; its output goes to the log.
 build_crate() {
-  local watcher status begins=$SECONDS functions
+  local watcher status begins=$SECONDS
   # The program itself is built by a run that needs no file.
   # shellcheck disable=SC2046,SC2086
   if [ "$crate" = "$program_crate" ]; then set -- rt run $(jobs) -- $sample; else set -- rt lib $(jobs); fi
+  now_proving "$top/crates/$crate"
   show_progress begin
   show_on &
   watcher=$!
@@ -106,11 +129,7 @@ build_crate() {
   status=$?
   kill $watcher 2>/dev/null
   wait $watcher 2>/dev/null
-  functions=$(sed -n 's/^logic=proved functions=\([0-9]*\).*/\1/p' "$log/$crate" | tail -n 1)
-  # The table may be older than the crate.
-  functions=${functions:-${has[$crate]-0}}
-  all_functions=$((all_functions + functions - ${has[$crate]-0})) done_functions=$((done_functions + functions))
-  left=$((left - ${share[$crate]-0}))
+  count_done
   # What was proved before tells nothing of the pace.
   if [ "${share[$crate]-0}" -gt 0 ] && [ $((SECONDS - begins)) -gt 10 ]; then
     done_share=$((done_share + ${share[$crate]})) done_seconds=$((done_seconds + SECONDS - begins))
@@ -124,10 +143,21 @@ has_kit() {
   return 1
 }
 
-# Proves and builds the program, a crate at a time, and only the crates that it needs.
+# Proves and builds the crates, one after the other.
+build_in_turn() {
+  for crate in $crates; do
+    place=$((place + 1))
+    build_crate || return 1
+  done
+}
+
+# Proves and builds the program, and only the crates that it needs.
 build() {
   local crate place=0 all log began_building=$SECONDS commit
   local left=0 all_functions=0 done_functions=0 done_share=0 done_seconds=0
+  local proving_names='' proving_share=0 proving_functions=0
+  local lane=''
+  local -a proving=() folder=()
   local -A share=() has=()
   has_kit || return 1
   log=$(mktemp -d) || return 1
@@ -136,14 +166,12 @@ build() {
   all=$(wc -w <<<"$crates")
   read_shares
   say 'proving and building the program: from nothing half an hour to an hour (docs/STATUS.md); later it is only run'
-  for crate in $crates; do
-    place=$((place + 1))
-    build_crate && continue
+  if have_two_lanes && make_lane; then build_in_lanes; else build_in_turn; fi || {
     [ ! -t 2 ] || echo >&2
     tail -n 20 "$log/$crate" >&2
     say "$crate was not proved and built, so nothing was run; the whole output is in $log/$crate"
     return 1
-  done
+  }
   [ ! -t 2 ] || echo >&2
   [ "$commit" = "$(commit)" ] || commit=${commit%-dirty}-dirty
   printf 'program %s\ncommit %s\nkit %s\n' "$(sum_of_program)" "$commit" "$(rt version 2>/dev/null)" >"$program.built"

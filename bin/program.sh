@@ -22,7 +22,7 @@ else program=$top/crates/$program_crate/out/$program_crate called=bin/$name; fi
 
 say() { echo "$name: $1" >&2; }
 
-for part in words where build; do . "$top/bin/$part.sh" || exit 125; done
+for part in words where build lanes; do . "$top/bin/$part.sh" || exit 125; done
 
 help() {
   echo 'usage:'
