@@ -165,7 +165,7 @@ build() {
   commit=$(commit)
   all=$(wc -w <<<"$crates")
   read_shares
-  say 'proving and building the program: from nothing half an hour to an hour (docs/STATUS.md); later it is only run'
+  say 'proving and building the program: from nothing 20 minutes to an hour (docs/STATUS.md); later it is only run'
   if have_two_lanes && make_lane; then build_in_lanes; else build_in_turn; fi || {
     [ ! -t 2 ] || echo >&2
     tail -n 20 "$log/$crate" >&2
