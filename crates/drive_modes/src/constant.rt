@@ -11,12 +11,12 @@ pub const LEAST_CONSTANT: u32 = 500;
 pub const GREATEST_CONSTANT: u32 = 200_000;
 
 /// A constant of less than 500 or more than 200,000 pulses a kilometre.
-#[derive(Clone, Copy, Debug, PartialEq, Eq)]
+#[derive(Clone, Copy, PartialEq, Eq)]
 pub struct BadConstant;
 
 /// The constant of the taximeter: how many pulses of the distance signal generator make a kilometre,
 /// 500 to 200,000. The range is this project's own.
-#[derive(Clone, Copy, Debug, PartialEq, Eq)]
+#[derive(Clone, Copy, PartialEq, Eq)]
 pub struct Constant {
     per_kilometre: u32,
 }

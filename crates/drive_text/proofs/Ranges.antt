@@ -6,8 +6,7 @@ use Rattle.drive_text.specs.declared.run.Run.{Run}
 use Rattle.drive_text.specs.Fields.{line_runs}
 use Rattle.drive_text.specs.Ranges.{IsRunInRange}
 use Rattle.drive_text.specs.Table.{Means}
-use Rattle.drive_text.specs.Table.Means.{empty, comment, up, down, clock, pulses, tick, intervals, hire, stop, clear}
-use Rattle.drive_text.specs.Table.Means.{position, zone, extra}
+use Rattle.drive_text.specs.Table.Means.{empty, comment, up, clock, pulses, intervals, position, zone, extra}
 use Rattle.drive_text.proofs.Table.{line_runs-table}
 
 one : (run : Run) → IsRunInRange run → All IsRunInRange (run ∷ [])
@@ -17,17 +16,13 @@ means_in_range : (text : List ℕ) (runs : List Run) → Means text runs → All
 means_in_range text runs empty = All-nil IsRunInRange
 means_in_range text runs (comment more) = All-nil IsRunInRange
 means_in_range text runs (up s digits h) = one _ (h.above, h.below)
-means_in_range text runs down = one _ tt
 means_in_range text runs (clock s digits h) = one _ (h.above, h.below)
 means_in_range text runs (pulses p digits h) = one _ (h.above, h.below)
-means_in_range text runs tick = one _ tt
 means_in_range text runs (intervals p n first second h k) = one _ (h.below, k.above, k.below)
-means_in_range text runs hire = one _ tt
-means_in_range text runs stop = one _ tt
-means_in_range text runs clear = one _ tt
 means_in_range text runs (position n digits h) = one _ h.below
 means_in_range text runs (zone n digits h) = one _ h.below
 means_in_range text runs (extra n digits h) = one _ h.below
+means_in_range text runs line = one _ tt
 
 pub runs_in_range : (line : List ℕ) (runs : List Run) → line_runs line ≡ Some runs → All IsRunInRange runs
 runs_in_range line runs e = means_in_range (strip_carriage_return line) runs ((line_runs-table line runs).0 e)

@@ -9,19 +9,20 @@ use Rattle.taxi_units.specs.declared.event.Event.{Event}
 use Rattle.taxi_units.specs.declared.event.Event.TheVariants.{Up, Down, Pulses, Tick, Clock}
 use Rattle.taxi_units.specs.declared.event.Event.TheVariants as events
 use Rattle.taxi_units.specs.declared.event.Key.{Key}
-use Rattle.taxi_units.specs.declared.event.Key.TheVariants.{Hire, Stop, Clear, Position, Zone, Extra}
+use Rattle.taxi_units.specs.declared.event.Key.TheVariants.{Position, Zone, Extra}
 use Rattle.taxi_units.proofs.Laws.{numbers_are_written_as_figures}
 use Rattle.drive_text.specs.declared.run.Run.{Run}
 use Rattle.drive_text.specs.declared.run.Run.TheVariants.{One}
 use Rattle.drive_text.specs.Ranges.{IsInRange, IsKeyInRange}
 use Rattle.drive_text.specs.Lines.{ended_lines, unfinished_line, is_too_long}
-use Rattle.drive_text.specs.Fields.{line_runs}
+use Rattle.drive_text.specs.Fields.{line_runs, plain_key, run_of_two_fields, text_runs}
 use Rattle.drive_text.specs.Table.{Means}
-use Rattle.drive_text.specs.Table.Means.{up, down, clock, pulses, tick, hire, stop, clear, position, zone, extra}
+use Rattle.drive_text.specs.Table.Means.{up, down, clock, pulses, tick, position, zone, extra}
 use Rattle.drive_text.specs.Drive.{or_else, first_bad_line, bad_at_end, runs_of_lines, runs_in}
 use Rattle.drive_text.specs.Written.{key_text, event_fields, event_text}
 use Rattle.drive_text.proofs.Parts.{line_ends}
 use Rattle.drive_text.proofs.PlainLines.{IsPlain, plain_digits, more_plain, one_plain, no_lf, plain_run}
+use Rattle.drive_text.proofs.Table.{sound}
 use Rattle.drive_text.proofs.Positions.{first_bad_line-good, runs_of_lines-good, runs_of_lines-one}
 
 -- a number that is written is one
@@ -30,13 +31,11 @@ written low high n above below small =
     numbers_are_written_as_figures 12 low high n (omega arith) (omega arith) small above below
 
 key_means : (key : Key) → IsKeyInRange key → Means (codes "K " ++ key_text key) (One (events.Key key) ∷ [])
-unfolding key_text
-key_means Hire h = hire
-key_means Stop h = stop
-key_means Clear h = clear
+unfolding key_text plain_key run_of_two_fields text_runs
 key_means (Position n) h = position n (decimal n) (written 0 99 n (omega arith) h (omega arith))
 key_means (Zone n) h = zone n (decimal n) (written 0 99 n (omega arith) h (omega arith))
 key_means (Extra n) h = extra n (decimal n) (written 0 99 n (omega arith) h (omega arith))
+key_means key h = sound (codes "K " ++ key_text key) (One (events.Key key) ∷ []) refl
 
 -- the fields of an event mean that event
 fields_mean : (event : Event) → IsInRange event → Means (event_fields event) (One event ∷ [])
@@ -57,12 +56,10 @@ number_plain c n h small =
 
 key_plain : (key : Key) → IsKeyInRange key → IsPlain (key_text key)
 unfolding key_text
-key_plain Hire h = one_plain 72 (omega arith)
-key_plain Stop h = one_plain 83 (omega arith)
-key_plain Clear h = one_plain 67 (omega arith)
 key_plain (Position n) h = number_plain 80 n (omega arith) (omega arith)
 key_plain (Zone n) h = number_plain 90 n (omega arith) (omega arith)
 key_plain (Extra n) h = number_plain 69 n (omega arith) (omega arith)
+key_plain key h = one_plain _ (omega arith)
 
 fields_plain : (event : Event) → IsInRange event → IsPlain (event_fields event)
 unfolding event_fields

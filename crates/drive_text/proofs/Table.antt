@@ -231,7 +231,7 @@ text_by false false c cs rs s e =
     subst (λ (q : List Run). Means (c ∷ cs) q) (sym g.2)
     (fields_sound (slice_split (λ b. eqb b 32) (c ∷ cs)) (c ∷ cs) g.0 (join_with_byte-slice_split 32 (c ∷ cs)) g.1)
 
-sound : (t : List ℕ) (rs : List Run) → text_runs t ≡ Some rs → Means t rs
+pub sound : (t : List ℕ) (rs : List Run) → text_runs t ≡ Some rs → Means t rs
 unfolding text_runs
 sound [] rs e = means_all [] [] rs [] refl (cc) empty
 sound (c ∷ cs) rs e = text_by (eqb c 35) (ltb 80 (length (c ∷ cs))) c cs rs refl e

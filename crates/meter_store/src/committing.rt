@@ -14,7 +14,7 @@ use taxi_units::Steps;
 use totals_record::{Change, Durable};
 
 /// The board failed.
-#[derive(Clone, Copy, Debug, PartialEq, Eq)]
+#[derive(Clone, Copy, PartialEq, Eq)]
 pub struct DeviceFailed;
 
 impl From<Failed> for DeviceFailed {

@@ -23,7 +23,7 @@ use totals_record::Durable;
 const SEALS_AT: u32 = 1024;
 
 /// Seals the store. Totals that were found stay as they are, byte for byte; where none were found,
-/// totals of zero with number 1 are written first, in layout 2. Then the seal is written, whose number
+/// totals of zero with number 1 are written first. Then the seal is written, whose number
 /// is the one after the found seal's, or 1. Both pairs of slots were scanned just before, with these
 /// findings: the totals, and the place and the number of the seal.
 ///

@@ -9,7 +9,7 @@ use std::rt::Files as HostSystem;
 use std::{fs, io};
 
 /// The names of a store's file, in the working folder.
-#[derive(Clone, Copy, Debug)]
+#[derive(Clone, Copy)]
 pub struct StoreNames {
     /// The file that is the store.
     pub store: &'static str,

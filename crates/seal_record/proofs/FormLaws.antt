@@ -168,6 +168,13 @@ read_is year month date rest day e =
           (omega (arith, through.0.1.0)) ((there.0, there.1.0), there.1.1.0, there.1.1.1));
     }
 
+-- the parts of a date that were read one behind the other are its text
+parts_joined : (text first second rest after_year after_month years months dates : List ℕ) → text ≡ years ++ after_year
+    → after_year ≡ 45 ∷ first → first ≡ months ++ after_month → after_month ≡ 45 ∷ second → second ≡ dates ++ rest
+    → rest ≡ [] → text ≡ years ++ 45 ∷ (months ++ 45 ∷ dates)
+parts_joined text first second rest after_year after_month years months dates text_is year_ends first_is month_ends
+    second_is none = rw (text_is, year_ends, first_is, month_ends, second_is, none, append-nil dates) refl
+
 date_is : (text : List ℕ) (day : ℤ) → secured_read text ≡ Some day → IsDateText text day
 unfolding secured_read
 date_is text day e =
@@ -180,19 +187,13 @@ date_is text day e =
     let years = front_is 4 text year.0 (omega arith) year.1 in
     let months = front_is 2 first.0 month.0 (omega arith) month.1 in
     let dates = front_is 2 second.0 date.0 (omega arith) date.1 in
-    let after_year : year.0.1 ≡ 45 ∷ first.0 = (words_are_read_by_their_text (45 ∷ []) year.0.1 first.0).0 first.1 in
-    let after_month : month.0.1 ≡ 45 ∷ second.0 =
-    (words_are_read_by_their_text (45 ∷ []) month.0.1 second.0).0 second.1 in
-    let last : second.0 ≡ dates.digits =
-    dates.text_is ∙ (ap (λ (r : List ℕ). dates.digits ++ r) is.nothing_left ∙ append-nil dates.digits) in
-    let middle : first.0 ≡ months.digits ++ 45 ∷ dates.digits = months.text_is
-    ∙ (ap (λ (r : List ℕ). months.digits ++ r) after_month ∙ ap (λ (r : List ℕ). months.digits ++ 45 ∷ r) last) in
     record {
       years = years.digits;
       months = months.digits;
       dates = dates.digits;
-      text_is = years.text_is
-          ∙ (ap (λ (r : List ℕ). years.digits ++ r) after_year ∙ ap (λ (r : List ℕ). years.digits ++ 45 ∷ r) middle);
+      text_is = parts_joined text first.0 second.0 date.0.1 year.0.1 month.0.1 years.digits months.digits dates.digits
+          years.text_is ((words_are_read_by_their_text (45 ∷ []) year.0.1 first.0).0 first.1) months.text_is
+          ((words_are_read_by_their_text (45 ∷ []) month.0.1 second.0).0 second.1) dates.text_is is.nothing_left;
       year = year.0.0;
       month = month.0.0;
       date = date.0.0;

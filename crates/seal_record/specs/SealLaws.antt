@@ -25,7 +25,7 @@ seal_fits seal is =
       below_of_most is.seal_number.1 tt ⊙ params.taxi ⊙ below_of_most params.constant.1 tt ⊙ tt
           ⊙ below_of_most params.hold_time tt ⊙ is.digest ⊙ fits_of_range params.secured tt tt
           ⊙ (row_fits pair_table seal.params.offsets params.offsets.few pairs ⊙ pairs) ⊙ tt ⊙ tt ⊙ tt,
-      refl,
+      refl {a = seal},
     )
 
 -- a spelling fills a body

@@ -10,7 +10,7 @@ use Rattle.outside.proofs.Laws.{leaves_wider}
 use Rattle.slot_store.specs.declared.pair.Pair.{Pair}
 use Rattle.slot_store.specs.declared.pair.Place.{Place}
 use Rattle.slot_store.specs.Slots.{StandsFor, Shows, IsSettled}
-use Rattle.slot_store.specs.Stages.{spare_at, IsBefore, IsReadyAt}
+use Rattle.slot_store.specs.Stages.{spare_at, IsBefore, IsReady, IsReadyAt}
 use Rattle.slot_store.specs.Writes.{LeavesThroughout, WritesIn}
 use Rattle.slot_store.specs.Order.{AreNewer, last_of, ShowsOne, GetsEach, StoresSome}
 use Rattle.slot_store.proofs.Untouched.{stays_blank, stays_at, at_stands}
@@ -138,8 +138,14 @@ module _ {T : Type 0} (reads : List ℕ → Option T) (number_of : T → ℕ) (a
       newer_next newer = subst (λ (b : T). IsBefore number_of (last_of latest (take n bodies)) (number_of b)) (sym is)
           (newer_at number_of latest bodies n body newer lt)
 
-      pub last_next : last_of latest (take (n + 1) bodies) ≡ Some body
+      last_next : last_of latest (take (n + 1) bodies) ≡ Some body
       last_next = ap (λ (l : List T). last_of latest l) one_more ∙ last_more latest (take n bodies) body
+
+      -- the pair at the place of the next body is ready with it
+      pub ready_next : (next : Pair) (start : ℕ) (place : Place) → next ≡ record { at = start; latest = Some place }
+          → start ≡ at → IsSettled reads number_of pair.at place (B.image new) (B.in_flight new) body
+          → IsReady reads number_of next (B.image new) (B.in_flight new) (last_of latest (take (n + 1) bodies))
+      ready_next next start place made there settled = rw (made, there, sym here, last_next) settled
 
       -- what one body more leaves
       abbrev pub NextLeaves : Type 0

@@ -1,5 +1,6 @@
 -- The lemmas that are the laws of the crate's public functions.
 pub use Rattle.taxi_units.proofs.Amounts.{amounts_read_back}
+pub use Rattle.taxi_units.proofs.Appends.{appended_behind}
 pub use Rattle.taxi_units.proofs.Digits.{digits_in_front, numbers_grow_by_their_digits}
 pub use Rattle.taxi_units.proofs.Figures.{figures_are_read_by_their_digits, figures_in_front_are_read_by_their_digits}
 pub use Rattle.taxi_units.proofs.Figures.{numbers_are_written_as_figures, padded_numbers_are_written_as_figures}

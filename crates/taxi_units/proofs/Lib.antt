@@ -1,5 +1,7 @@
 -- what is written as an amount is read as that amount
 mod Amounts
+-- what is appended in two pieces
+mod Appends
 -- digits at the front of a text, and the numbers and units that they make
 mod Digits
 -- numbers of a width and a range are read by their digits

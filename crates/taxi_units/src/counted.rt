@@ -61,7 +61,7 @@ impl Keyed for (u64, i32) {
 }
 
 /// How many elements of a list are at most a key, and the last of them.
-#[derive(Clone, Copy, Debug, PartialEq, Eq)]
+#[derive(Clone, Copy, PartialEq, Eq)]
 pub struct AtMost<T> {
     pub count: usize,
     pub last: Option<T>,

@@ -1,7 +1,7 @@
 //! What happens to a meter, and what it may answer.
 
 /// A key of the meter, pressed by the driver.
-#[derive(Clone, Copy, Debug, PartialEq, Eq)]
+#[derive(Clone, Copy, PartialEq, Eq)]
 pub enum Key {
     /// Begins a hiring, or goes on with one that was stopped.
     Hire,
@@ -19,7 +19,7 @@ pub enum Key {
 
 /// An event: the atomic step of the meter. Seconds are counted from 1970-01-01T00:00Z, and lie in
 /// 946,684,800 to 7,258,118,399.
-#[derive(Clone, Copy, Debug, PartialEq, Eq)]
+#[derive(Clone, Copy, PartialEq, Eq)]
 pub enum Event {
     /// The supply comes, at a second.
     Up(u64),
@@ -36,7 +36,7 @@ pub enum Event {
 }
 
 /// The operating position.
-#[derive(Clone, Copy, Debug, PartialEq, Eq)]
+#[derive(Clone, Copy, PartialEq, Eq)]
 pub enum Operating {
     Off,
     ForHire,
@@ -45,7 +45,7 @@ pub enum Operating {
 }
 
 /// Why an event or a key was refused.
-#[derive(Clone, Copy, Debug, PartialEq, Eq)]
+#[derive(Clone, Copy, PartialEq, Eq)]
 pub enum Why {
     /// Not in this operating position.
     NotNow,

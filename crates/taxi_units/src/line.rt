@@ -16,7 +16,7 @@ pub const LINE_SIZE: usize = 512;
 pub type Line = ArrayVec<u8, LINE_SIZE>;
 
 /// The text doesn't fit into what is left of the line.
-#[derive(Clone, Copy, Debug, PartialEq, Eq)]
+#[derive(Clone, Copy, PartialEq, Eq)]
 pub struct LineFull;
 
 /// A text that is made before it is appended: the longest is 255 bytes.

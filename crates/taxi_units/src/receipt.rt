@@ -3,7 +3,7 @@
 use crate::event::Operating;
 
 /// What an entry of the totalisers records.
-#[derive(Clone, Copy, Debug, PartialEq, Eq)]
+#[derive(Clone, Copy, PartialEq, Eq)]
 pub enum Kind {
     /// A hiring that was ended by the key Clear.
     Closed,
@@ -17,7 +17,7 @@ pub enum Kind {
 
 /// A local date and time: the year 1999 to 2200, the month 1 to 12, the date 1 to 31, and the second
 /// of the day 0 to 86,399.
-#[derive(Clone, Copy, Debug, PartialEq, Eq)]
+#[derive(Clone, Copy, PartialEq, Eq)]
 pub struct Stamp {
     pub year: u16,
     pub month: u8,
@@ -26,7 +26,7 @@ pub struct Stamp {
 }
 
 /// What the display shows. `position` and `zone` are 1 to 9.
-#[derive(Clone, Copy, Debug, PartialEq, Eq)]
+#[derive(Clone, Copy, PartialEq, Eq)]
 pub struct Display {
     pub operating: Operating,
     pub position: u8,
@@ -39,7 +39,7 @@ pub struct Display {
 /// What a receipt says. `number` is the store's number after the entry, `hired_mm` the distance of
 /// the trip in millimetres, `steps` the number of display steps of `step` each, above `initial`, and
 /// `minimum` what the fare is at least.
-#[derive(Clone, Copy, Debug, PartialEq, Eq)]
+#[derive(Clone, Copy, PartialEq, Eq)]
 pub struct Receipt {
     pub number: u64,
     pub kind: Kind,

@@ -1,4 +1,4 @@
-use Rattle.std.proofs.Common.{ap, ◌∙◌, arith}
+use Rattle.std.proofs.Common.{ap, refl, ◌∙◌, arith}
 use Rattle.drive_modes.specs.declared.meterage.Meterage.{Meterage}
 use Rattle.drive_modes.specs.Fare.{Opening, added}
 use Rattle.drive_modes.proofs.Sums.{added-saved}
@@ -10,3 +10,6 @@ returns-clause-sum c = λ cover above charged old.
     let then = ap (λ (m : Meterage). added c.args.modulus m c.args.charge) old
     ∙ added-saved opening charged c.args.charge (omega arith) in
     cc
+
+pub returns-clause-exact : goal.returns-clause-exact
+returns-clause-exact c = rw (c.saturating_sub-self.ensures, c.saturating_sub.ensures) refl
