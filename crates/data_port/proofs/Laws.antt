@@ -2,47 +2,26 @@
 use Rattle.std.proofs.Common.{◌≡◌, ◌↔◌, ℕ, zero, suc, ◌≤◌, List, [], ◌∷◌, ◌++◌, length, take, map, true, false, Option}
 use Rattle.std.proofs.Common.{Some, None, refl, sym, ap, ◌∙◌, arith}
 use Rattle.std.specs.Int.{w16, to_be_bytes, from_be_bytes}
-use Rattle.std.specs.List.{All, flat_map}
+use Rattle.std.specs.List.{All}
 use Rattle.std.proofs.lemmas.List.{take_at, drop_at}
 use Rattle.std.proofs.lemmas.List.Elements.{All-head, All-tail}
 use Rattle.std.proofs.lemmas.Nat.{from_be_bytes-to_be_bytes_2}
-use Rattle.drive_modes.specs.declared.charges.Mode.{Mode}
 use Rattle.seal_record.specs.declared.seal.Seal.{Seal}
 use Rattle.seal_record.specs.Ranges.{IsSeal}
-use Rattle.seal_record.specs.Spelling.{mode_byte, padded, signed_bytes}
 use Rattle.totals_record.specs.declared.durable_state.Durable.{Durable}
-use Rattle.totals_record.specs.Bytes.{four, eight, sixteen}
 use Rattle.totals_record.specs.Ranges.{IsDurable}
-use Rattle.totals_record.specs.Spelling.{share_bytes}
 use Rattle.data_port.specs.declared.request.Request.{Request}
-use Rattle.data_port.specs.Replies.{AgreeOn, Agrees, taxi, constant, secured, digest, mode, number, distance, hired}
-use Rattle.data_port.specs.Replies.{hirings, supplements, fare, held, shares, answers_in, body_of, items_in, size_of}
-use Rattle.data_port.specs.Reply.{content, framed, held_content, items_bytes, reply_to}
-use Rattle.data_port.specs.Requests.{IsRequest, Rise, codes_of}
+use Rattle.data_port.specs.Replies.{AgreeOn, answers_in, body_of, items_in}
+use Rattle.data_port.specs.Reply.{Agrees, all_items_size, content, framed, items_bytes, reply_to, size_of}
+use Rattle.data_port.specs.Requests.{IsRequest, Rise, codes_of, item_count}
 use Rattle.data_port.specs.Reading.{HasTaken, Standing, bad_at_end, first_bad, given_by, requests_after, requests_in}
 use Rattle.data_port.specs.Streams.{EndsWhole, IsReadAs, bytes_of}
 use Rattle.data_port.proofs.Bodies.{rise_few, whole_items}
 use Rattle.data_port.proofs.Feeding as feeding
-use Rattle.data_port.proofs.Parts.{content_long}
+use Rattle.data_port.proofs.Parts.{content_long, same_content}
 use Rattle.data_port.proofs.Streams as streams
 
 -- ---- what replies speak of
-
-same_content : (one : Durable) (seal : Seal) (other : Durable) (another : Seal) (code : ℕ)
-    → Agrees one seal other another code → content one seal code ≡ content other another code
-same_content one seal other another code (taxi e) = ap (padded 16) e
-same_content one seal other another code (constant e) = ap four e
-same_content one seal other another code (secured e) = ap signed_bytes e
-same_content one seal other another code (digest e) = e
-same_content one seal other another code (mode e) = ap (λ (m : Mode). mode_byte m ∷ []) e
-same_content one seal other another code (number e) = ap eight e
-same_content one seal other another code (distance e) = ap sixteen e
-same_content one seal other another code (hired e) = ap sixteen e
-same_content one seal other another code (hirings e) = ap eight e
-same_content one seal other another code (supplements e) = ap sixteen e
-same_content one seal other another code (fare e) = ap sixteen e
-same_content one seal other another code (held e) = ap held_content e
-same_content one seal other another code (shares e f) = λ i. flat_map share_bytes (e i) ++ share_bytes (f i)
 
 same_items : (one : Durable) (seal : Seal) (other : Durable) (another : Seal) (codes : List ℕ)
     → All (Agrees one seal other another) codes → items_bytes one seal codes ≡ items_bytes other another codes
@@ -59,7 +38,7 @@ replies_speak_of_their_items request one other seal another agree =
 
 -- ---- replies are read back
 
-body_back : (bytes : List ℕ) → length bytes ≤ 447 → body_of (framed bytes) ≡ bytes
+body_back : (bytes : List ℕ) → length bytes ≤ all_items_size → body_of (framed bytes) ≡ bytes
 body_back bytes few =
     let size : from_be_bytes w16 (to_be_bytes w16 (length bytes)) ≡ length bytes =
     from_be_bytes-to_be_bytes_2 (length bytes) (omega arith) in
@@ -84,9 +63,9 @@ pub replies_are_read_back : (request : Request) (durable : Durable) (seal : Seal
     → answers_in (reply_to durable seal request)
     ≡ map (λ (code : ℕ). (code, content durable seal code)) (codes_of request)
 replies_are_read_back request durable seal r d s =
-    ap (items_in 13) (body_back (items_bytes durable seal (codes_of request))
+    ap (items_in item_count) (body_back (items_bytes durable seal (codes_of request))
     (omega (arith, whole_items durable seal d s 0 (codes_of request) r.rise (omega arith))))
-    ∙ items_back durable seal d s 13 0 (codes_of request) r.rise
+    ∙ items_back durable seal d s item_count 0 (codes_of request) r.rise
     (omega (arith, rise_few 0 (codes_of request) r.rise (omega arith)))
 
 -- ---- what streams say

@@ -1,35 +1,35 @@
--- The parts of a reply: how many bytes the content of each item has.
+-- The parts of a reply: how many bytes the content of each item has, and what it speaks of.
 use Rattle.std.proofs.Common.{◌≡◌, ℕ, ◌+◌, ◌-◌, ◌*◌, ◌<◌, ◌≤◌, List, [], ◌∷◌, ◌++◌, length, take, get_or, map}
-use Rattle.std.proofs.Common.{replicate, Option, Some, None, refl, sym, ap, ◌∙◌, append_assoc, arith, length-append}
+use Rattle.std.proofs.Common.{replicate, Option, Some, None, refl, sym, ap, ◌∙◌, arith, length-append}
 use Rattle.std.specs.List.{flat_map}
 use Rattle.std.proofs.lemmas.Grind.{flat_map-append}
 use Rattle.std.proofs.lemmas.List.{append-nil, take_all, take_more, get_or-map, length-replicate}
+use Rattle.drive_modes.specs.declared.charges.Mode.{Mode}
 use Rattle.seal_record.specs.declared.seal.Seal.{Seal}
 use Rattle.seal_record.specs.Ranges.{IsSeal}
-use Rattle.seal_record.specs.Spelling.{padded}
+use Rattle.seal_record.specs.Spelling.{mode_byte, padded, signed_bytes}
 use Rattle.totals_record.specs.declared.durable_state.Durable.{Durable}
 use Rattle.totals_record.specs.declared.totals.Share.{Share}
 use Rattle.totals_record.specs.declared.totals.Totals.{Totals}
+use Rattle.totals_record.specs.Bytes.{four, eight, sixteen}
 use Rattle.totals_record.specs.Ranges.{IsDurable}
 use Rattle.totals_record.specs.Spelling.{share_bytes}
-use Rattle.data_port.specs.Replies.{sizes, size_of}
-use Rattle.data_port.specs.Reply.{HeldTrip, content, held_content, held_values, item_bytes, rows, shares_content}
-
--- what was appended, and more behind it
-pub more : {X : Type 0} (start one two middle last : List X) → middle ≡ start ++ one → last ≡ middle ++ two
-    → last ≡ start ++ (one ++ two)
-more start one two middle last first second = second ∙ (ap (λ l. l ++ two) first ∙ append_assoc start one two)
+use Rattle.data_port.specs.Reply as items
+use Rattle.data_port.specs.Reply.{Agrees, HeldTrip, content, held_content, held_values, item_bytes, rows}
+use Rattle.data_port.specs.Reply.{shares_content, size_of, sizes}
+use Rattle.data_port.specs.Requests.{item_count}
+use Rattle.taxi_units.proofs.Laws.{appended_behind}
 
 -- seven parts, one after the other
 pub seven : (start a b c d e f g l1 l2 l3 l4 l5 l6 l7 : List ℕ) → l1 ≡ start ++ a → l2 ≡ l1 ++ b → l3 ≡ l2 ++ c
     → l4 ≡ l3 ++ d → l5 ≡ l4 ++ e → l6 ≡ l5 ++ f → l7 ≡ l6 ++ g
     → l7 ≡ start ++ (a ++ (b ++ (c ++ (d ++ (e ++ (f ++ g))))))
 seven start a b c d e f g l1 l2 l3 l4 l5 l6 l7 e1 e2 e3 e4 e5 e6 e7 =
-    more start a (b ++ (c ++ (d ++ (e ++ (f ++ g))))) l1 l7 e1
-    (more l1 b (c ++ (d ++ (e ++ (f ++ g)))) l2 l7 e2
-    (more l2 c (d ++ (e ++ (f ++ g))) l3 l7 e3
-    (more l3 d (e ++ (f ++ g)) l4 l7 e4
-    (more l4 e (f ++ g) l5 l7 e5 (more l5 f g l6 l7 e6 e7)))))
+    appended_behind start a (b ++ (c ++ (d ++ (e ++ (f ++ g))))) l1 l7 e1
+    (appended_behind l1 b (c ++ (d ++ (e ++ (f ++ g)))) l2 l7 e2
+    (appended_behind l2 c (d ++ (e ++ (f ++ g))) l3 l7 e3
+    (appended_behind l3 d (e ++ (f ++ g)) l4 l7 e4
+    (appended_behind l4 e (f ++ g) l5 l7 e5 (appended_behind l5 f g l6 l7 e6 e7)))))
 
 -- one element more
 pub flat_more : {X A : Type 0} (f : X → List A) (xs : List X) (i : ℕ) (d : X) → i < length xs
@@ -47,7 +47,8 @@ pub shares_more : (start middle last : List ℕ) (shares : List Share) (i : ℕ)
     → middle ≡ start ++ flat_map share_bytes (take i shares) → last ≡ middle ++ share_bytes (get_or shares i d)
     → last ≡ start ++ flat_map share_bytes (take (i + 1) shares)
 shares_more start middle last shares i d lt so_far next =
-    more start (flat_map share_bytes (take i shares)) (share_bytes (get_or shares i d)) middle last so_far next
+    appended_behind start (flat_map share_bytes (take i shares)) (share_bytes (get_or shares i d)) middle last
+    so_far next
     ∙ ap (λ (l : List ℕ). start ++ l) (sym (one_more shares i d lt))
 
 -- all shares, and what was counted before
@@ -55,7 +56,7 @@ pub shares_all : (start middle last : List ℕ) (totals : Totals) (i : ℕ) → 
     → middle ≡ start ++ flat_map share_bytes (take i totals.shares) → last ≡ middle ++ share_bytes totals.before
     → last ≡ start ++ shares_content totals
 shares_all start middle last totals i all so_far next =
-    more start (flat_map share_bytes totals.shares) (share_bytes totals.before) middle last
+    appended_behind start (flat_map share_bytes totals.shares) (share_bytes totals.before) middle last
     (so_far ∙ ap (λ (xs : List Share). start ++ flat_map share_bytes xs) (take_all i totals.shares all)) next
 
 -- ---- how long contents are
@@ -94,13 +95,34 @@ lengths_are durable seal d s =
     let shares = shares_long durable.totals d.shares.nine in
     λ i. taxi i ∷ (4 ∷ (4 ∷ (digest i ∷ (1 ∷ (8 ∷ (16 ∷ (16 ∷ (8 ∷ (16 ∷ (16 ∷ (held i ∷ (shares i ∷ []))))))))))))
 
-pub content_long : (durable : Durable) (seal : Seal) (code : ℕ) → IsDurable durable → IsSeal seal → 1 ≤ code → code ≤ 13
+pub content_long : (durable : Durable) (seal : Seal) (code : ℕ) → IsDurable durable → IsSeal seal → 1 ≤ code
+    → code ≤ item_count
     → length (content durable seal code) ≡ size_of code
 content_long durable seal code d s low high =
     let inside : code - 1 < length (rows durable seal) = omega arith in
     sym (get_or-map length (rows durable seal) (code - 1) [] 0 inside)
     ∙ ap (λ (xs : List ℕ). get_or xs (code - 1) 0) (lengths_are durable seal d s)
 
-pub item_long : (durable : Durable) (seal : Seal) (code : ℕ) → IsDurable durable → IsSeal seal → 1 ≤ code → code ≤ 13
+pub item_long : (durable : Durable) (seal : Seal) (code : ℕ) → IsDurable durable → IsSeal seal → 1 ≤ code
+    → code ≤ item_count
     → length (item_bytes durable seal code) ≡ 1 + size_of code
 item_long durable seal code d s low high = omega (arith, content_long durable seal code d s low high)
+
+-- ---- what contents speak of
+
+-- stores that agree on what an item speaks of have the same content of it
+pub same_content : (one : Durable) (seal : Seal) (other : Durable) (another : Seal) (code : ℕ)
+    → Agrees one seal other another code → content one seal code ≡ content other another code
+same_content one seal other another code (items.taxi e) = ap (padded 16) e
+same_content one seal other another code (items.constant e) = ap four e
+same_content one seal other another code (items.secured e) = ap signed_bytes e
+same_content one seal other another code (items.digest e) = e
+same_content one seal other another code (items.mode e) = ap (λ (m : Mode). mode_byte m ∷ []) e
+same_content one seal other another code (items.number e) = ap eight e
+same_content one seal other another code (items.distance e) = ap sixteen e
+same_content one seal other another code (items.hired e) = ap sixteen e
+same_content one seal other another code (items.hirings e) = ap eight e
+same_content one seal other another code (items.supplements e) = ap sixteen e
+same_content one seal other another code (items.fare e) = ap sixteen e
+same_content one seal other another code (items.held e) = ap held_content e
+same_content one seal other another code (items.shares e f) = λ i. flat_map share_bytes (e i) ++ share_bytes (f i)

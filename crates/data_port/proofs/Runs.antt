@@ -11,7 +11,7 @@ use Rattle.data_port.specs.declared.request.Request.{Request}
 use Rattle.data_port.specs.Reading.{Standing, between}
 use Rattle.data_port.specs.ReadingStages.{after_byte, after_bytes, after_good, ended_by, ended_in, failed_at, follows}
 use Rattle.data_port.specs.ReadingStages.{has_all, last_code, request_in}
-use Rattle.data_port.specs.Requests.{IsRequest, Rise, codes_of, request_bytes, stream_bytes}
+use Rattle.data_port.specs.Requests.{IsRequest, Rise, codes_of, request_bytes, stream_bytes, item_count}
 use Rattle.data_port.proofs.Bodies.{rise_few}
 use Rattle.data_port.proofs.Shapes.{Ends, Grows, Shaped, last_from, last_is, last_push, nothing, step}
 
@@ -125,7 +125,7 @@ last_byte taken count done long =
     let s = inside taken count done in
     let all : (length done == count) ≡ true = eq-eqb (length done) count (omega (arith, long)) in
     let fits : follows s.part 3 ≡ true = cond-true (length done == count) (3 == 3)
-    (nat_lt (last_code done) 3 && nat_le (3 + count) (length done + 14)) all in
+    (nat_lt (last_code done) 3 && nat_le (3 + count) (length done + (item_count + 1))) all in
     let next : taken + 1 ≡ taken + 0 + 1 = omega arith in
     record {
       after = whole_byte s 3 refl fits all ∙ ap between next;
@@ -138,11 +138,12 @@ code_fits : (count code : ℕ) (done codes : List ℕ) → length done + length 
 code_fits count code done codes long rise =
     let left : (length done == count) ≡ false = ne_eqb (length done) count (λ e. omega (arith, e, long)) in
     let low : last_code done < code = omega (arith, last_is done, rise.0) in
-    let high : code + count ≤ length done + 14 = omega (arith, long, rise_few code codes rise.1.1 rise.1.0) in
+    let high : code + count ≤ length done + (item_count + 1) =
+    omega (arith, long, rise_few code codes rise.1.1 rise.1.0) in
     cond-false (length done == count) (code == 3)
-    (nat_lt (last_code done) code && nat_le (code + count) (length done + 14)) left
-    ∙ and_from (nat_lt (last_code done) code) (nat_le (code + count) (length done + 14))
-    (lt-ltb (last_code done) code low) (le-leb (code + count) (length done + 14) high)
+    (nat_lt (last_code done) code && nat_le (code + count) (length done + (item_count + 1))) left
+    ∙ and_from (nat_lt (last_code done) code) (nat_le (code + count) (length done + (item_count + 1)))
+    (lt-ltb (last_code done) code low) (le-leb (code + count) (length done + (item_count + 1)) high)
 
 reads_codes : (taken count : ℕ) (done codes : List ℕ) → length done + length codes ≡ count
     → Rise (last_from 0 done) codes
@@ -172,10 +173,11 @@ reads_request : (taken : ℕ) (request : Request) → IsRequest request
 reads_request taken request good =
     let codes = codes_of request in
     let count = length codes in
-    let few : count ≤ 13 = omega (arith, rise_few 0 codes good.rise (omega arith)) in
+    let few : count ≤ item_count = omega (arith, rise_few 0 codes good.rise (omega arith)) in
     let begun : Standing = record { taken = taken + 1; part = 2 ∷ []; failed = false } in
     let fits : follows begun.part count ≡ true =
-    and_from (nat_le 1 count) (nat_le count 13) (le-leb 1 count (omega (arith, good.some))) (le-leb count 13 few) in
+    and_from (nat_le 1 count) (nat_le count item_count) (le-leb 1 count (omega (arith, good.some)))
+    (le-leb count item_count few) in
     let end : taken + 1 + 1 + count + 1 ≡ taken + length (request_bytes request) =
     omega (arith, length-append codes (3 ∷ [])) in
     let zero_done : length {A = ℕ} [] + length codes ≡ count = omega arith in

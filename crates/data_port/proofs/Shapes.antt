@@ -5,7 +5,7 @@ use Rattle.std.proofs.Common.{append_assoc, arith, length-append}
 use Rattle.std.proofs.lemmas.Bool.{and_parts, cond-false, cond-true, eqb-false, eqb-true, leb-true, ltb-true}
 use Rattle.data_port.specs.declared.request.Request.{Request}
 use Rattle.data_port.specs.ReadingStages.{follows, follows_codes, has_all, last_code, request_in}
-use Rattle.data_port.specs.Requests.{IsRequest, Rise, request_bytes}
+use Rattle.data_port.specs.Requests.{IsRequest, Rise, request_bytes, item_count}
 use Rattle.data_port.specs.Streams.{IsUnfinished}
 
 -- ---- codes
@@ -29,7 +29,7 @@ pub last_push : (above code : ℕ) (codes : List ℕ) → last_from above (codes
 last_push above code [] = refl
 last_push above code (other ∷ codes) = last_push other code codes
 
-rise_push : (above code : ℕ) (codes : List ℕ) → Rise above codes → last_from above codes < code → code ≤ 13
+rise_push : (above code : ℕ) (codes : List ℕ) → Rise above codes → last_from above codes < code → code ≤ item_count
     → Rise above (codes ++ code ∷ [])
 rise_push above code [] rise low high = (low, (high, tt))
 rise_push above code (other ∷ codes) rise low high = (rise.0, (rise.1.0, rise_push other code codes rise.1.1 low high))
@@ -43,11 +43,11 @@ up_long : (above count : ℕ) → length (up above count) ≡ count
 up_long above zero = refl
 up_long above (suc count) = ap suc (up_long (suc above) count)
 
-up_rise : (above count : ℕ) → above + count ≤ 13 → Rise above (up above count)
+up_rise : (above count : ℕ) → above + count ≤ item_count → Rise above (up above count)
 up_rise above zero few = tt
 up_rise above (suc count) few = (omega arith, (omega arith, up_rise (suc above) count (omega arith)))
 
-rise_up : (above : ℕ) (codes : List ℕ) (count : ℕ) → Rise above codes → last_from above codes + count ≤ 13
+rise_up : (above : ℕ) (codes : List ℕ) (count : ℕ) → Rise above codes → last_from above codes + count ≤ item_count
     → Rise above (codes ++ up (last_from above codes) count)
 rise_up above [] count rise few = up_rise above count few
 rise_up above (code ∷ codes) count rise few = (rise.0, (rise.1.0, rise_up code codes count rise.1.1 few))
@@ -57,8 +57,8 @@ rise_up above (code ∷ codes) count rise few = (rise.0, (rise.1.0, rise_up code
 pub data Shaped : List ℕ → Type 0 where
   nothing : Shaped []
   start : Shaped (2 ∷ [])
-  codes : (count : ℕ) (cs : List ℕ) → 1 ≤ count → count ≤ 13 → Rise 0 cs → length cs ≤ count
-      → last_from 0 cs + count ≤ length cs + 13 → Shaped (2 ∷ (count ∷ cs))
+  codes : (count : ℕ) (cs : List ℕ) → 1 ≤ count → count ≤ item_count → Rise 0 cs → length cs ≤ count
+      → last_from 0 cs + count ≤ length cs + item_count → Shaped (2 ∷ (count ∷ cs))
 
 -- a byte ends the request
 pub record Ends (part : List ℕ) (byte : ℕ) : Type 0 where
@@ -75,7 +75,7 @@ codes_end : (count : ℕ) (cs : List ℕ) (byte : ℕ) → 1 ≤ count → Rise 
     → follows_codes count cs byte ≡ true → Ends (2 ∷ (count ∷ cs)) byte
 codes_end count cs byte low rise all fits =
     let last : byte ≡ 3 = eqb-true byte 3 (sym (cond-true (length cs == count) (byte == 3)
-    (nat_lt (last_code cs) byte && nat_le (byte + count) (length cs + 14)) all) ∙ fits) in
+    (nat_lt (last_code cs) byte && nat_le (byte + count) (length cs + (item_count + 1))) all) ∙ fits) in
     let same : length cs ≡ count = eqb-true (length cs) count all in
     record {
       all = all;
@@ -83,15 +83,16 @@ codes_end count cs byte low rise all fits =
       bytes_are = λ i. 2 ∷ (sym same i ∷ (cs ++ last i ∷ []));
     }
 
-codes_grow : (count : ℕ) (cs : List ℕ) (byte : ℕ) → 1 ≤ count → count ≤ 13 → Rise 0 cs → length cs ≤ count
+codes_grow : (count : ℕ) (cs : List ℕ) (byte : ℕ) → 1 ≤ count → count ≤ item_count → Rise 0 cs → length cs ≤ count
     → (length cs == count) ≡ false → follows_codes count cs byte ≡ true → Grows (2 ∷ (count ∷ cs)) byte
 codes_grow count cs byte low high rise few left fits =
-    let both : (nat_lt (last_code cs) byte && nat_le (byte + count) (length cs + 14)) ≡ true =
+    let both : (nat_lt (last_code cs) byte && nat_le (byte + count) (length cs + (item_count + 1))) ≡ true =
     sym (cond-false (length cs == count) (byte == 3)
-    (nat_lt (last_code cs) byte && nat_le (byte + count) (length cs + 14)) left) ∙ fits in
-    let parts = and_parts (nat_lt (last_code cs) byte) (nat_le (byte + count) (length cs + 14)) both in
+    (nat_lt (last_code cs) byte && nat_le (byte + count) (length cs + (item_count + 1))) left) ∙ fits in
+    let parts = and_parts (nat_lt (last_code cs) byte) (nat_le (byte + count) (length cs + (item_count + 1))) both in
     let above : last_code cs < byte = ltb-true (last_code cs) byte parts.0 in
-    let room : byte + count ≤ length cs + 14 = leb-true (byte + count) (length cs + 14) parts.1 in
+    let room : byte + count ≤ length cs + (item_count + 1) =
+    leb-true (byte + count) (length cs + (item_count + 1)) parts.1 in
     let other = eqb-false (length cs) count left in
     let fewer : length cs < count = omega (arith, other, few) in
     record {
@@ -102,17 +103,17 @@ codes_grow count cs byte low high rise few left fits =
           (omega (arith, room, last_push 0 byte cs, length-append cs (byte ∷ [])));
     }
 
-step_codes : (count : ℕ) (cs : List ℕ) (byte : ℕ) → 1 ≤ count → count ≤ 13 → Rise 0 cs → length cs ≤ count
+step_codes : (count : ℕ) (cs : List ℕ) (byte : ℕ) → 1 ≤ count → count ≤ item_count → Rise 0 cs → length cs ≤ count
     → (all : Bool) → (length cs == count) ≡ all → follows_codes count cs byte ≡ true
     → Ends (2 ∷ (count ∷ cs)) byte ⊎ Grows (2 ∷ (count ∷ cs)) byte
 step_codes count cs byte low high rise few true is fits = inl (codes_end count cs byte low rise is fits)
 step_codes count cs byte low high rise few false is fits = inr (codes_grow count cs byte low high rise few is fits)
 
-step_start : (byte : ℕ) → (nat_le 1 byte && nat_le byte 13) ≡ true → Grows (2 ∷ []) byte
+step_start : (byte : ℕ) → (nat_le 1 byte && nat_le byte item_count) ≡ true → Grows (2 ∷ []) byte
 step_start byte fits =
-    let parts = and_parts (nat_le 1 byte) (nat_le byte 13) fits in
+    let parts = and_parts (nat_le 1 byte) (nat_le byte item_count) fits in
     let low : 1 ≤ byte = leb-true 1 byte parts.0 in
-    let high : byte ≤ 13 = leb-true byte 13 parts.1 in
+    let high : byte ≤ item_count = leb-true byte item_count parts.1 in
     record { open_still = refl; shaped = codes byte [] low high tt (omega arith) (omega arith) }
 
 step_nothing : (byte : ℕ) → (byte == 2) ≡ true → Grows [] byte
@@ -126,7 +127,7 @@ step part byte (codes count cs low high rise few room) fits =
     step_codes count cs byte low high rise few (length cs == count) refl fits
 
 -- it has few bytes
-pub few_bytes : (part : List ℕ) → Shaped part → length part ≤ 15
+pub few_bytes : (part : List ℕ) → Shaped part → length part ≤ item_count + 2
 few_bytes part nothing = omega arith
 few_bytes part start = omega arith
 few_bytes part (codes count cs low high rise few room) = omega (arith, high, few)

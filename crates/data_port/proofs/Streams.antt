@@ -14,7 +14,7 @@ use Rattle.data_port.specs.declared.request.Request.{Request}
 use Rattle.data_port.specs.Reading.{Standing, bad_at_end, between, first_bad, given_by, requests_after, requests_in}
 use Rattle.data_port.specs.Reading.{standing_after, HasSense}
 use Rattle.data_port.specs.ReadingStages.{after_bytes, bad_end_of, bad_of, ended_in, follows, has_all}
-use Rattle.data_port.specs.Requests.{IsRequest, request_bytes, stream_bytes}
+use Rattle.data_port.specs.Requests.{IsRequest, request_bytes, stream_bytes, item_count}
 use Rattle.data_port.specs.Streams.{BeginsStream, EndsWhole, IsFirstBad, IsGood, IsReadAs, bytes_of}
 use Rattle.data_port.proofs.Runs.{FailsIn, Runs, Stands, after-append, ended-append, reads_stream, runs, stream_push}
 use Rattle.data_port.proofs.Runs.{stuck}
@@ -45,14 +45,14 @@ fails_of bytes failed = either (from_start bytes)
 
 -- a port that has taken bytes has room for one more
 pub room_for : (s : Standing) (byte : ℕ) → HasSense s → s.failed ≡ false → follows s.part byte ≡ true
-    → has_all s.part ≡ false → length s.part < 15
+    → has_all s.part ≡ false → length s.part < item_count + 2
 room_for s byte sense going fits left = either (step s.part byte h.shaped fits)
   where
     h : Stands s sense.0 (requests_in sense.0)
     h = subst (λ (t : Standing). Stands t sense.0 (requests_in sense.0)) (sym sense.1)
         (stands_of sense.0 (sym (ap (λ (t : Standing). t.failed) sense.1) ∙ going))
 
-    either : Ends s.part byte ⊎ Grows s.part byte → length s.part < 15
+    either : Ends s.part byte ⊎ Grows s.part byte → length s.part < item_count + 2
     either (inl ends) = absurd (both_ways (has_all s.part) left ends.all)
     either (inr grows) = omega (arith, few_bytes (s.part ++ byte ∷ []) grows.shaped, length-append s.part (byte ∷ []))
 

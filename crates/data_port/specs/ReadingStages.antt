@@ -3,6 +3,7 @@
 use Rattle.std.specs.Prelude.{ℕ, ◌+◌, ◌-◌, List, [], ◌∷◌, ◌++◌, length, drop, get_or, Bool, true, false}
 use Rattle.std.specs.Prelude.{if◌then◌else◌, ◌==◌, ◌&&◌, nat_le, nat_lt, Option, Some, None}
 use Rattle.data_port.specs.declared.request.Request.{Request}
+use Rattle.data_port.specs.Requests.{item_count}
 use Rattle.data_port.specs.Standing.{Standing, between}
 
 -- a port has come to a bad place
@@ -18,11 +19,11 @@ last_code codes = get_or codes (length codes - 1) 0
 abbrev pub follows_codes : (count : ℕ) → List ℕ → (byte : ℕ) → Bool
 follows_codes count codes byte =
     if length codes == count then byte == 3
-    else nat_lt (last_code codes) byte && nat_le (byte + count) (length codes + 14)
+    else nat_lt (last_code codes) byte && nat_le (byte + count) (length codes + (item_count + 1))
 
--- a byte may follow 0x02 and these bytes, the first of which is a count of 1 to 13
+-- a byte may follow 0x02 and these bytes, the first of which is a count of items, of which there is one or more
 abbrev pub follows_start : List ℕ → (byte : ℕ) → Bool
-follows_start [] byte = nat_le 1 byte && nat_le byte 13
+follows_start [] byte = nat_le 1 byte && nat_le byte item_count
 follows_start (count ∷ codes) byte = follows_codes count codes byte
 
 -- a byte may follow these of an unfinished request, the first of which is 0x02

@@ -1,5 +1,6 @@
--- Rules: the reply to a request, from the durable state and the seal. Numbers have their greatest byte first.
-use Rattle.std.specs.Prelude.{ℕ, ◌-◌, List, [], ◌∷◌, ◌++◌, length, get_or, replicate, Option, Some, None}
+-- Rules: the reply to a request, from the durable state and the seal: the content of each item, its size, and what it
+-- speaks of. Numbers have their greatest byte first.
+use Rattle.std.specs.Prelude.{◌≡◌, ℕ, ◌+◌, ◌-◌, List, [], ◌∷◌, ◌++◌, length, get_or, replicate, Option, Some, None}
 use Rattle.std.specs.Int.{w16, to_be_bytes}
 use Rattle.std.specs.List.{flat_map}
 use Rattle.drive_modes.specs.Distance.{millimetres_of}
@@ -80,6 +81,40 @@ rows durable seal =
     ∷ (held_content (held_values seal.params.constant durable.hold)
     ∷ (shares_content durable.totals
     ∷ []))))))))))))
+
+-- the contents of the items, from item 1 on, have 16, 4, 4, 32, 1, 8, 16, 16, 8, 16, 16, 57 and 240 bytes
+abbrev pub sizes : List ℕ
+sizes = 16 ∷ (4 ∷ (4 ∷ (32 ∷ (1 ∷ (8 ∷ (16 ∷ (16 ∷ (8 ∷ (16 ∷ (16 ∷ (57 ∷ (240 ∷ []))))))))))))
+
+-- the number of bytes of the content of the item with a code is the one at its place in the list of sizes
+abbrev pub size_of : (code : ℕ) → ℕ
+size_of code = get_or sizes (code - 1) 0
+
+-- all items together have 447 bytes, their codes among them
+abbrev pub all_items_size : ℕ
+all_items_size = 447
+
+-- the reply that has all items has four bytes more
+abbrev pub longest_reply : ℕ
+longest_reply = all_items_size + 4
+
+-- two stores agree on what the item with a code speaks of
+pub data Agrees (one : Durable) (seal : Seal) (other : Durable) (another : Seal) : (code : ℕ) → Type 0 where
+  taxi : seal.params.taxi.items ≡ another.params.taxi.items → Agrees one seal other another 1
+  constant : seal.params.constant ≡ another.params.constant → Agrees one seal other another 2
+  secured : seal.params.secured ≡ another.params.secured → Agrees one seal other another 3
+  digest : seal.digest ≡ another.digest → Agrees one seal other another 4
+  mode : seal.params.mode ≡ another.params.mode → Agrees one seal other another 5
+  number : one.number ≡ other.number → Agrees one seal other another 6
+  distance : one.totals.distance_mm ≡ other.totals.distance_mm → Agrees one seal other another 7
+  hired : one.totals.hired_mm ≡ other.totals.hired_mm → Agrees one seal other another 8
+  hirings : one.totals.hirings ≡ other.totals.hirings → Agrees one seal other another 9
+  supplements : one.totals.supplements ≡ other.totals.supplements → Agrees one seal other another 10
+  fare : one.totals.fare ≡ other.totals.fare → Agrees one seal other another 11
+  held : held_values seal.params.constant one.hold ≡ held_values another.params.constant other.hold
+      → Agrees one seal other another 12
+  shares : one.totals.shares ≡ other.totals.shares → one.totals.before ≡ other.totals.before
+      → Agrees one seal other another 13
 
 -- the content of the item with a code is the one at the place of its code in the list of contents
 abbrev pub content : Durable → Seal → (code : ℕ) → List ℕ

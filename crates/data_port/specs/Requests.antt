@@ -3,16 +3,20 @@ use Rattle.std.specs.Prelude.{ℕ, ◌<◌, ◌≤◌, List, [], ◌∷◌, ◌+
 use Rattle.std.specs.List.{flat_map}
 use Rattle.data_port.specs.declared.request.Request.{Request}
 
--- codes rise if each is above the one before it; the first is above `above`, and none is above 13
+-- there are 13 items, and their codes are 1 to 13
+abbrev pub item_count : ℕ
+item_count = 13
+
+-- codes rise if each is above the one before it; the first is above `above`, and none is above that of the last item
 abbrev pub Rise : (above : ℕ) → List ℕ → Type 0
 Rise above [] = Unit {0}
-Rise above (code ∷ codes) = (above < code) × ((code ≤ 13) × Rise code codes)
+Rise above (code ∷ codes) = (above < code) × ((code ≤ item_count) × Rise code codes)
 
 -- the codes of a request are those of the items that it asks for
 abbrev pub codes_of : Request → List ℕ
 codes_of request = request.items.items
 
--- a request asks for one item or more, by codes of 1 to 13 that rise
+-- a request asks for one item or more, by codes of items that rise
 pub record IsRequest (request : Request) : Type 0 where
   pub some : 0 < length (codes_of request)
   pub rise : Rise 0 (codes_of request)

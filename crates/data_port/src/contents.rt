@@ -8,7 +8,8 @@ ghost use Rattle.seal_record.specs.Spelling.{padded};
 ghost use Rattle.totals_record.specs.Bytes.{four, eight, sixteen};
 ghost use Rattle.totals_record.specs.Ranges.{IsDurable};
 ghost use Rattle.totals_record.specs.Spelling.{share_bytes};
-ghost use Rattle.data_port.specs.Reply.{content, held_content, held_trip, held_values, shares_content, trip_content};
+ghost use Rattle.data_port.specs.Reply.{content, held_content, held_trip, held_values, shares_content, size_of, trip_content};
+ghost use Rattle.data_port.specs.Requests.{item_count};
 
 use drive_modes::{Constant, millimetres};
 use seal_record::{Seal, mode_byte};
@@ -125,8 +126,8 @@ fn put_shares(line: &mut Line, totals: &Totals)
 
 /// Appends the content of an item.
 pub(crate) fn put_content(line: &mut Line, code: u8, durable: &Durable, seal: &Seal)
-    requires code { (1 ≤ code) × (code ≤ 13) }
-    requires room { array_vec_len line.old + 240 ≤ line_size }
+    requires code { (1 ≤ code) × (code ≤ item_count) }
+    requires room { array_vec_len line.old + size_of code ≤ line_size }
     requires durable { IsDurable durable.now }
     requires seal { IsSeal seal.now }
     ensures { line.new.items ≡ line.old.items ++ content durable.now seal.now code }

@@ -10,18 +10,17 @@ use arrayvec::ArrayVec;
 use std::marker::Model;
 
 /// A place in a stream, from 0 on, that is the first whose byte no stream of requests has there.
-#[derive(Clone, Copy, Debug, PartialEq, Eq)]
+#[derive(Clone, Copy, PartialEq, Eq)]
 pub struct BadFrame {
     pub place: u64,
 }
 
-/// Takes a stream of requests that comes in pieces. It keeps the bytes of one unfinished request, at most
-/// 15, and takes no memory.
+/// Takes a stream of requests that comes in pieces. It keeps the bytes of one unfinished request, and takes
+/// no memory.
 ///
-/// A request is the byte 0x02, a count of 1 to 13, as many codes of items, which rise, each 1 to 13, and
-/// 0x03. Contracts see a port as a `Standing`, and say by `HasTaken` which bytes it has taken; of each
-/// port there are such bytes. Once a bad place came every call answers it again. The form is this
-/// project's own.
+/// A request is the byte 0x02, a count of one or more, as many codes of items, which rise, and 0x03.
+/// Contracts see a port as a `Standing`, and say by `HasTaken` which bytes it has taken; of each port there
+/// are such bytes. Once a bad place came every call answers it again. The form is this project's own.
 #[derive(Drop)]
 pub struct Port {
     state: State,

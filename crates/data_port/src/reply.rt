@@ -1,10 +1,11 @@
 //! The reply to a request.
-ghost use Rattle.std.specs.Prelude.{◌≡◌, [], ◌++◌, ◌≤◌};
+ghost use Rattle.std.specs.Prelude.{◌≡◌, [], ◌++◌, ◌+◌, ◌≤◌};
 ghost use Rattle.arrayvec.specs.ArrayVec.{array_vec_len};
+ghost use Rattle.taxi_units.specs.Line.{line_size};
 ghost use Rattle.seal_record.specs.Ranges.{IsSeal};
 ghost use Rattle.totals_record.specs.Ranges.{IsDurable};
-ghost use Rattle.data_port.specs.Reply.{items_bytes, item_bytes, reply_to};
-ghost use Rattle.data_port.specs.Requests.{IsRequest, Rise};
+ghost use Rattle.data_port.specs.Reply.{all_items_size, items_bytes, item_bytes, longest_reply, reply_to, size_of};
+ghost use Rattle.data_port.specs.Requests.{IsRequest, Rise, item_count};
 
 use crate::contents::put_content;
 use crate::request::Request;
@@ -21,7 +22,7 @@ pub(crate) const END: u8 = 3;
 /// Puts the reply to a request into a line, which is empty: 0x02, two bytes with the length of all that
 /// stands between them and the last byte, for each item in order its code and its content, and 0x03.
 /// Numbers have their greatest byte first. Distances are in millimetres, money in the tariff's smallest
-/// units. `rows` has the table of contents. A reply has at most 451 bytes.
+/// units. `rows` has the table of contents. No reply is longer than that with all items.
 ///
 /// The request, the durable state and the seal are in their ranges. The form is this project's own.
 pub fn put_reply(line: &mut Line, request: &Request, durable: &Durable, seal: &Seal)
@@ -30,7 +31,7 @@ pub fn put_reply(line: &mut Line, request: &Request, durable: &Durable, seal: &S
     requires durable { IsDurable durable.now }
     requires seal { IsSeal seal.now }
     ensures reply { line.new.items ≡ reply_to durable.now seal.now request.now }
-    ensures most { array_vec_len line.new ≤ 451 }
+    ensures most { array_vec_len line.new ≤ longest_reply }
     ensures some { 1 ≤ array_vec_len line.new }
 {
     let mut body = Line::new();
@@ -49,7 +50,7 @@ fn put_items(line: &mut Line, items: &[u8], durable: &Durable, seal: &Seal)
     requires durable { IsDurable durable.now }
     requires seal { IsSeal seal.now }
     ensures items { line.new.items ≡ items_bytes durable.now seal.now items.now }
-    ensures most { array_vec_len line.new ≤ 447 }
+    ensures most { array_vec_len line.new ≤ all_items_size }
 {
     for code in items {
         put_item(line, *code, durable, seal);
@@ -58,8 +59,8 @@ fn put_items(line: &mut Line, items: &[u8], durable: &Durable, seal: &Seal)
 
 /// Appends the code and the content of an item.
 fn put_item(line: &mut Line, code: u8, durable: &Durable, seal: &Seal)
-    requires code { (1 ≤ code) × (code ≤ 13) }
-    requires room { array_vec_len line.old ≤ 206 }
+    requires code { (1 ≤ code) × (code ≤ item_count) }
+    requires room { array_vec_len line.old + (1 + size_of code) ≤ line_size }
     requires durable { IsDurable durable.now }
     requires seal { IsSeal seal.now }
     ensures { line.new.items ≡ line.old.items ++ item_bytes durable.now seal.now code }

@@ -1,11 +1,13 @@
 //! A request of the data port.
 use arrayvec::ArrayVec;
 
-/// A request: the codes of the items that it asks for, 1 to 13 of them, which rise and are each 1 to 13.
-/// `IsRequest` says so.
+/// How many items there are; their codes count from 1.
+pub(crate) const ITEM_COUNT: usize = 13;
+
+/// A request: the codes of the items that it asks for, one or more, which rise. `IsRequest` says so.
 #[derive(Drop)]
 pub struct Request {
-    pub items: ArrayVec<u8, 13>,
+    pub items: ArrayVec<u8, ITEM_COUNT>,
 }
 
 impl Default for Request {

@@ -2,19 +2,23 @@
 ghost use Rattle.std.specs.Prelude.{◌≡◌, ◌++◌, ◌+◌, ◌-◌, ◌<◌, ◌≤◌, ◌^◌, [], length, true, false, IfErr, OnOk};
 ghost use Rattle.arrayvec.specs.ArrayVec.{array_vec_len};
 ghost use Rattle.data_port.specs.Reading.{HasSense, HasTaken, between};
+ghost use Rattle.data_port.specs.Requests.{item_count};
 ghost use Rattle.data_port.specs.ReadingStages.{after_byte, ended_by, follows, follows_codes, follows_start, has_all, has_codes, last_code, request_in};
 
 use crate::port::BadFrame;
 use crate::reply::{END, START};
-use crate::request::Request;
+use crate::request::{ITEM_COUNT, Request};
 use arrayvec::ArrayVec;
+
+/// How many bytes stand before the last one of a request, at most: 0x02, the count, and the codes.
+const PART_SIZE: usize = ITEM_COUNT + 2;
 
 /// How many bytes were taken, those of an unfinished request, and whether a bad place came, which is
 /// `taken` then.
 #[derive(Drop)]
 pub(crate) struct State {
     pub(crate) taken: u64,
-    pub(crate) part: ArrayVec<u8, 15>,
+    pub(crate) part: ArrayVec<u8, PART_SIZE>,
     pub(crate) failed: bool,
 }
 
@@ -76,7 +80,7 @@ fn may_follow_start(part: &[u8], byte: u8) -> bool
     ensures { result ≡ follows_start part.now byte }
 {
     match part.split_first() {
-        None => 1 <= byte && byte <= 13,
+        None => 1 <= byte && usize::from(byte) <= ITEM_COUNT,
         Some((count, codes)) => may_follow_codes(*count, codes, byte),
     }
 }
@@ -88,7 +92,8 @@ fn may_follow_codes(count: u8, codes: &[u8], byte: u8) -> bool
     if codes.len() == usize::from(count) {
         byte == END
     } else {
-        last_of(codes) < byte && usize::from(byte) + usize::from(count) <= codes.len() + 14
+        last_of(codes) < byte
+            && usize::from(byte) + usize::from(count) <= codes.len() + (ITEM_COUNT + 1)
     }
 }
 
@@ -125,7 +130,7 @@ fn has_its_codes(part: &[u8]) -> bool
 /// The request that has these bytes before its last.
 fn request_of(part: &[u8]) -> Request
     requires low { 2 ≤ length part.now }
-    requires high { length part.now ≤ 15 }
+    requires high { length part.now ≤ item_count + 2 }
     ensures { result ≡ request_in part.now }
 {
     let mut items = ArrayVec::new();

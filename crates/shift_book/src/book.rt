@@ -7,21 +7,17 @@ use crate::following::next_mark;
 use crate::mark::Mark;
 use crate::numbers::numbers_in;
 use std::alloc::Global;
-use thiserror::Error;
 use totals_record::Durable;
 
 /// Why a text is no book.
-#[derive(Clone, Copy, Debug, PartialEq, Eq, Error)]
+#[derive(Clone, Copy, PartialEq, Eq)]
 pub enum BookFault {
     /// The text has more than 1,048,576 bytes.
-    #[error("the book has more than 1048576 bytes")]
     TooLong,
     /// This line, counted from 1, is the first that is no line of a mark, or of none that may follow
     /// those before it, or isn't ended by LF.
-    #[error("line {0} is no mark that may follow")]
     BadLine(u64),
     /// Memory ran out.
-    #[error("no memory")]
     NoMemory,
 }
 

@@ -1,18 +1,20 @@
--- The state after a list of commits.
-use Rattle.std.proofs.Common.{◌≡◌, inl, inr, ◌+◌, Bool, true, false, if◌then◌else◌, List, [], ◌∷◌, length, Option, Some}
-use Rattle.std.proofs.Common.{None, refl, sym, ◌∙◌, ap, subst, arith}
+-- The state after a list of commits, and after one list and then another.
+use Rattle.std.proofs.Common.{◌≡◌, inl, inr, ℕ, ◌+◌, Bool, true, false, if◌then◌else◌, List, [], ◌∷◌, ◌++◌, length}
+use Rattle.std.proofs.Common.{Option, Some, None, refl, sym, ◌∙◌, ap, subst, append_assoc, arith, length-append}
 use Rattle.std.specs.List.{All}
-use Rattle.std.proofs.lemmas.List.Elements.{All-nil, All-cons}
+use Rattle.std.proofs.lemmas.List.Elements.{All-append, All-cons, All-nil}
 use Rattle.totals_record.specs.declared.change.Change.{Change}
 use Rattle.totals_record.specs.declared.change.Change.TheVariants.{Enter, Hold}
 use Rattle.totals_record.specs.declared.durable_state.Durable.{Durable}
+use Rattle.totals_record.specs.declared.entry.Entry.{Entry}
 use Rattle.totals_record.specs.declared.totals.Totals.{Totals}
 use Rattle.totals_record.specs.declared.trip.Trip.{Trip}
-use Rattle.totals_record.specs.Entries.{closes}
+use Rattle.totals_record.specs.Entries.{AddsUp, closes, totals_of}
+use Rattle.totals_record.specs.Ranges.{newest_layout}
 use Rattle.totals_record.specs.States.{after, after_all, entries_of, held_after, layout_after, IsRoaming, IsLast}
 use Rattle.totals_record.specs.States.{IsHeldAfter}
-use Rattle.totals_record.specs.Sums.{totals_of, AddsUp, GrowsBy}
-use Rattle.totals_record.proofs.Adding.{adds_up}
+use Rattle.totals_record.specs.Sums.{GrowsBy}
+use Rattle.totals_record.proofs.Adding.{adds_then, adds_up}
 
 number_after : (opening : Durable) (changes : List Change)
     → (after_all opening changes).number ≡ opening.number + length changes
@@ -22,11 +24,11 @@ number_after opening (change ∷ changes) = omega (arith, number_after (after op
 layout_is : (opening : Durable) (changes : List Change)
     → (after_all opening changes).layout ≡ layout_after opening.layout changes
 layout_is opening [] = refl
-layout_is opening (change ∷ changes) = layout_is (after opening change) changes ∙ two changes
+layout_is opening (change ∷ changes) = layout_is (after opening change) changes ∙ newest changes
   where
-    two : (changes : List Change) → layout_after 2 changes ≡ 2
-    two [] = refl
-    two (change ∷ changes) = refl
+    newest : (changes : List Change) → layout_after newest_layout changes ≡ newest_layout
+    newest [] = refl
+    newest (change ∷ changes) = refl
 
 totals_are : (opening : Durable) (changes : List Change)
     → (after_all opening changes).totals ≡ totals_of opening.totals (entries_of changes)
@@ -91,4 +93,61 @@ follows opening changes = record {
   totals = subst (λ (t : Totals). AddsUp opening.totals t (entries_of changes)) (sym (totals_are opening changes))
       (adds_up opening.totals (entries_of changes));
   held = held_is opening changes;
+}
+
+-- ---- one list of commits after another
+
+-- the entries of both
+entries_joined : (xs ys : List Change) → entries_of (xs ++ ys) ≡ entries_of xs ++ entries_of ys
+entries_joined [] ys = refl
+entries_joined (Enter entry ∷ xs) ys = ap (λ (l : List Entry). entry ∷ l) (entries_joined xs ys)
+entries_joined (Hold trip ∷ xs) ys = entries_joined xs ys
+
+last_more : (xs ys : List Change) (change : Change) → IsLast ys change → IsLast (xs ++ ys) change
+last_more xs ys change h = record {
+  earlier = xs ++ h.earlier;
+  later = h.later;
+  split = ap (λ (l : List Change). xs ++ l) h.split ∙ sym (append_assoc xs h.earlier (change ∷ h.later));
+  roaming = h.roaming;
+}
+
+last_behind : (xs ys : List Change) (change : Change) → IsLast xs change → All IsRoaming ys → IsLast (xs ++ ys) change
+last_behind xs ys change h roaming = record {
+  earlier = h.earlier;
+  later = h.later ++ ys;
+  split = ap (λ (l : List Change). l ++ ys) h.split ∙ append_assoc h.earlier (change ∷ h.later) ys;
+  roaming = All-append IsRoaming h.later ys h.roaming roaming;
+}
+
+held_as : (opening : Option Trip) (xs ys : List Change) (held : Option Trip) → All IsRoaming ys
+    → IsHeldAfter opening xs held → IsHeldAfter opening (xs ++ ys) held
+held_as opening xs ys (Some trip) roaming (inl last) = inl (last_behind xs ys (Hold trip) last roaming)
+held_as opening xs ys (Some trip) roaming (inr first) = inr (All-append IsRoaming xs ys first.0 roaming, first.1)
+held_as opening xs ys None roaming (inl closed) =
+    inl (closed.0, (closed.1.0, last_behind xs ys closed.0 closed.1.1 roaming))
+held_as opening xs ys None roaming (inr first) = inr (All-append IsRoaming xs ys first.0 roaming, first.1)
+
+held_then : (opening mid held : Option Trip) (xs ys : List Change) → IsHeldAfter opening xs mid
+    → IsHeldAfter mid ys held → IsHeldAfter opening (xs ++ ys) held
+held_then opening mid (Some trip) xs ys first (inl last) = inl (last_more xs ys (Hold trip) last)
+held_then opening mid (Some trip) xs ys first (inr kept) =
+    held_as opening xs ys (Some trip) kept.0 (subst (λ (m : Option Trip). IsHeldAfter opening xs m) kept.1 first)
+held_then opening mid None xs ys first (inl closed) = inl (closed.0, (closed.1.0, last_more xs ys closed.0 closed.1.1))
+held_then opening mid None xs ys first (inr kept) =
+    held_as opening xs ys None kept.0 (subst (λ (m : Option Trip). IsHeldAfter opening xs m) kept.1 first)
+
+layout_then : (opening : ℕ) (xs ys : List Change)
+    → layout_after opening (xs ++ ys) ≡ layout_after (layout_after opening xs) ys
+layout_then opening [] ys = refl
+layout_then opening (x ∷ xs) [] = refl
+layout_then opening (x ∷ xs) (y ∷ ys) = refl
+
+-- a state that follows one that follows another
+pub follows_then : (a b c : Durable) (xs ys : List Change) → GrowsBy a b xs → GrowsBy b c ys → GrowsBy a c (xs ++ ys)
+follows_then a b c xs ys first next = record {
+  number = omega (arith, first.number, next.number, length-append xs ys);
+  layout = next.layout ∙ ap (λ (n : ℕ). layout_after n ys) first.layout ∙ sym (layout_then a.layout xs ys);
+  totals = subst (λ (l : List Entry). AddsUp a.totals c.totals l) (sym (entries_joined xs ys))
+      (adds_then a.totals b.totals c.totals (entries_of xs) (entries_of ys) first.totals next.totals);
+  held = held_then a.hold b.hold c.hold xs ys first.held next.held;
 }

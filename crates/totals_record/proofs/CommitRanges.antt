@@ -11,7 +11,7 @@ use Rattle.totals_record.specs.declared.totals.Share.{Share}
 use Rattle.totals_record.specs.declared.totals.Totals.{Totals}
 use Rattle.totals_record.specs.declared.trip.Trip.{Trip}
 use Rattle.totals_record.specs.Entries.{closes, no_share, totals_with}
-use Rattle.totals_record.specs.Ranges.{IsTripInItsRanges, IsHeld, AreShares, IsDurable, IsEntry, HasRoom}
+use Rattle.totals_record.specs.Ranges.{IsTripInItsRanges, IsHeld, AreShares, IsDurable, IsEntry, HasRoom, newest_layout}
 use Rattle.totals_record.specs.States.{after}
 use Rattle.totals_record.proofs.Shares.{roams, shares_apart, shares_set, length_same}
 
@@ -24,7 +24,7 @@ sum_grown field shares place share more within grows =
 
 -- the totals with an entry more that closes a hiring
 closing_shares : (layout : ℕ) (totals : Totals) (entry : Entry) → AreShares layout totals → closes entry ≡ true
-    → 1 ≤ entry.position → entry.position ≤ 9 → AreShares 2 (totals_with totals entry)
+    → 1 ≤ entry.position → entry.position ≤ 9 → AreShares newest_layout (totals_with totals entry)
 closing_shares layout totals entry shares closing low high =
     let place = entry.position - 1 in
     let old = get_or totals.shares place no_share in
@@ -52,7 +52,7 @@ closing_shares layout totals entry shares closing low high =
 -- and with one of roaming
 roaming_shares : (layout : ℕ) (totals : Totals) (entry : Entry) → AreShares layout totals → closes entry ≡ false
     → entry.fare ≡ 0
-    → AreShares 2 (totals_with totals entry)
+    → AreShares newest_layout (totals_with totals entry)
 roaming_shares layout totals entry shares roaming no_fare =
     let same = shares_apart entry 1 totals.shares (λ i within. roams entry (1 + i) roaming) in
     record {
@@ -68,10 +68,10 @@ roaming_shares layout totals entry shares roaming no_fare =
     }
 
 shares_kept : (layout : ℕ) (totals : Totals) (entry : Entry) → AreShares layout totals → IsEntry entry
-    → AreShares 2 (totals_with totals entry)
+    → AreShares newest_layout (totals_with totals entry)
 shares_kept layout totals entry shares made = by (closes entry) refl
   where
-    by : (b : Bool) → closes entry ≡ b → AreShares 2 (totals_with totals entry)
+    by : (b : Bool) → closes entry ≡ b → AreShares newest_layout (totals_with totals entry)
     by true closing =
         closing_shares layout totals entry shares closing (made.position closing).0 (made.position closing).1
     by false roaming = roaming_shares layout totals entry shares roaming (made.roaming roaming)

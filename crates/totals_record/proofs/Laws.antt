@@ -1,5 +1,5 @@
 -- Laws that the crates above cite.
-use Rattle.std.proofs.Common.{◌≡◌, ◌≤◌, ◌+◌, ◌↔◌, ℕ, List, Some}
+use Rattle.std.proofs.Common.{◌≡◌, ◌≤◌, ◌+◌, ◌↔◌, ℕ, List, ◌++◌, Some}
 use Rattle.slot_bodies.proofs.Laws.{reads_exactly}
 use Rattle.taxi_units.specs.Limits.{last_number}
 use Rattle.totals_record.specs.declared.change.Change.TheVariants.{Enter, Hold}
@@ -9,14 +9,13 @@ use Rattle.totals_record.specs.declared.change.Change.{Change}
 use Rattle.totals_record.specs.declared.entry.Entry.{Entry}
 use Rattle.totals_record.specs.declared.totals.Totals.{Totals}
 use Rattle.totals_record.specs.Ranges.{HasRoom, IsDurable, IsEntry, IsTripInItsRanges}
-use Rattle.totals_record.specs.Reading.{decoded, durable_test, reads}
+use Rattle.totals_record.specs.Reading.{again, decoded, durable_test, reads}
 use Rattle.totals_record.specs.Spelling.{spelling}
 use Rattle.totals_record.specs.States.{after, after_all}
 use Rattle.totals_record.specs.Sums.{totals_of, AddsUp, GrowsBy}
-use Rattle.totals_record.specs.BodyLaws.{again}
 use Rattle.totals_record.proofs.Adding.{adds_up}
 use Rattle.totals_record.proofs.CommitRanges.{entry_keeps, trip_keeps}
-use Rattle.totals_record.proofs.Changing.{follows}
+use Rattle.totals_record.proofs.Changing.{follows, follows_then}
 
 -- bytes are read as a state exactly where it is in its ranges and they are its own
 pub states_are_read_by_their_table : (bytes : List ℕ) (durable : Durable) → (reads bytes ≡ Some durable)
@@ -31,6 +30,11 @@ entries_add_up = adds_up
 -- the state after a list of commits
 pub changes_add_up : (opening : Durable) (changes : List Change) → GrowsBy opening (after_all opening changes) changes
 changes_add_up = follows
+
+-- a state that follows by one list of commits one that follows by another follows by both
+pub states_follow_in_turn : (a b c : Durable) (xs ys : List Change) → GrowsBy a b xs → GrowsBy b c ys
+    → GrowsBy a c (xs ++ ys)
+states_follow_in_turn = follows_then
 
 -- the ranges hold after an entry as the meter makes them
 pub entries_keep_the_ranges : (durable : Durable) (entry : Entry) → IsDurable durable → durable.number ≤ last_number

@@ -1,8 +1,6 @@
--- the totals of a list of entries are sums over the list
+-- totals are sums over lists of entries
 mod Adding
--- bytes that are appended one behind the other
-mod Appends
--- the state after a list of commits, and the trip that is held then
+-- the state after a list of commits, and after one list and then another
 mod Changing
 -- what the meter commits keeps the ranges
 mod CommitRanges

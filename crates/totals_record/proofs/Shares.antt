@@ -1,14 +1,13 @@
 -- Shares with an entry more.
 use Rattle.std.proofs.Common.{◌≡◌, ℕ, ◌+◌, ◌<◌, suc, zero, Bool, true, false, ◌&&◌, if◌then◌else◌, List, [], ◌∷◌}
-use Rattle.std.proofs.Common.{length, get_or, set, refl, sym, ◌∙◌, ap, subst, arith}
+use Rattle.std.proofs.Common.{length, get_or, set, refl, ◌∙◌, ap, subst, arith}
 use Rattle.std.specs.List.{All}
 use Rattle.std.proofs.lemmas.Bool.{eq-eqb, ne_eqb}
 use Rattle.std.proofs.lemmas.List.{get_or-set_same}
 use Rattle.std.proofs.lemmas.List.Elements.{All-get_or}
 use Rattle.totals_record.specs.declared.entry.Entry.{Entry}
 use Rattle.totals_record.specs.declared.totals.Share.{Share}
-use Rattle.totals_record.specs.declared.totals.Totals.{Totals}
-use Rattle.totals_record.specs.Entries.{closes, closes_at, no_share, share_with, shares_with, totals_with}
+use Rattle.totals_record.specs.Entries.{closes, closes_at, no_share, share_with, shares_with}
 
 abbrev share_of : ℕ → ℕ → Share
 share_of hirings fare = record { hirings = hirings; fare = fare }
@@ -104,18 +103,3 @@ pub grown_fits : (P : Share → Type 0) (entry : Entry) (shares : List Share) (p
 grown_fits P entry shares place closing position within all =
     subst P (grown_at entry shares place closing position within)
     (All-get_or P (shares_with entry 1 shares) place no_share (omega (arith, within, length_same entry 1 shares)) all)
-
-abbrev hirings_and_shares : Totals → ℕ → List Share → Totals
-hirings_and_shares totals hirings shares = record totals { hirings = hirings; shares = shares }
-
-nothing_more : (n amount : ℕ) (b : Bool) → b ≡ false → n ≡ n + (if b then amount else 0)
-nothing_more n amount b none = rw none (omega arith)
-
--- roaming leaves hirings and shares
-pub roamed : (totals : Totals) (entry : Entry) → closes entry ≡ false
-    → record (totals_with totals entry) { hirings = totals.hirings; shares = totals.shares } ≡ totals_with totals entry
-roamed totals entry roaming =
-    let grown = totals_with totals entry in
-    let shares = sym (shares_apart entry 1 totals.shares (λ i within. roams entry (1 + i) roaming)) in
-    ap (λ (n : ℕ). hirings_and_shares grown n totals.shares) (nothing_more totals.hirings 1 (closes entry) roaming)
-    ∙ ap (λ (l : List Share). hirings_and_shares grown grown.hirings l) shares

@@ -1,5 +1,7 @@
--- Rules: what an entry adds to the totals.
-use Rattle.std.specs.Prelude.{ℕ, ◌+◌, Bool, true, false, ◌&&◌, ◌==◌, if◌then◌else◌, List, [], ◌∷◌}
+-- Rules: the totals: what an entry adds to each of them, and totals as sums over the list of entries.
+use Rattle.std.specs.Prelude.{◌≡◌, ℕ, ◌+◌, ◌-◌, ◌≤◌, Bool, true, false, ◌&&◌, ◌==◌, if◌then◌else◌, List, [], ◌∷◌}
+use Rattle.std.specs.Prelude.{length, replicate, get_or}
+use Rattle.std.specs.List.{fold, sum_by, count_by}
 use Rattle.taxi_units.specs.declared.receipt.Kind.{Kind}
 use Rattle.taxi_units.specs.declared.receipt.Kind.TheVariants.{Closed, Aborted, Expired, Roam}
 use Rattle.totals_record.specs.declared.entry.Entry.{Entry}
@@ -65,6 +67,18 @@ abbrev pub shares_with : Entry → ℕ → List Share → List Share
 shares_with entry position [] = []
 shares_with entry position (share ∷ others) = share_with entry position share ∷ shares_with entry (position + 1) others
 
+-- the totals of no entry are all zero
+abbrev pub no_totals : Totals
+no_totals = record {
+  distance_mm = 0;
+  hired_mm = 0;
+  hirings = 0;
+  supplements = 0;
+  fare = 0;
+  shares = replicate 9 no_share;
+  before = no_share;
+}
+
 -- the totals, with an entry more, grow each by what the entry counts, and what was counted before shares stays
 abbrev pub totals_with : Totals → Entry → Totals
 totals_with totals entry = record {
@@ -76,3 +90,31 @@ totals_with totals entry = record {
   shares = shares_with entry 1 totals.shares;
   before = totals.before;
 }
+
+-- ---- over a list of entries
+
+-- the totals of a list of entries, behind opening ones, grow by each entry in its turn
+abbrev pub totals_of : Totals → List Entry → Totals
+totals_of opening entries = fold totals_with opening entries
+
+-- the share of a tariff position, which counts from 1, is the one at its place in the list of shares
+abbrev pub share_of : Totals → ℕ → Share
+share_of totals position = get_or totals.shares (position - 1) no_share
+
+-- the share of a tariff position adds up where it grew by the hirings that entries closed there, and by their fares
+pub record ShareAddsUp (position : ℕ) (old new : Share) (entries : List Entry) : Type 0 where
+  pub hirings : new.hirings ≡ old.hirings + count_by (closes_at position) entries
+  pub fare : new.fare ≡ old.fare + sum_by (fare_at position) entries
+
+-- totals add up where each grew by the sum over a list of entries, each of the shares too, and what was counted before
+-- shares stayed
+pub record AddsUp (old new : Totals) (entries : List Entry) : Type 0 where
+  pub distance : new.distance_mm ≡ old.distance_mm + sum_by distance_of entries
+  pub hired : new.hired_mm ≡ old.hired_mm + sum_by hired_of entries
+  pub hirings : new.hirings ≡ old.hirings + count_by closes entries
+  pub supplements : new.supplements ≡ old.supplements + sum_by supplements_of entries
+  pub fare : new.fare ≡ old.fare + sum_by fare_of entries
+  pub nine : length new.shares ≡ length old.shares
+  pub shares : (position : ℕ) → 1 ≤ position → position ≤ length old.shares
+      → ShareAddsUp position (share_of old position) (share_of new position) entries
+  pub before : new.before ≡ old.before

@@ -1,7 +1,5 @@
-pub mod BodyLaws
 pub mod Bytes
 pub mod Entries
-pub mod Fields
 pub mod Ranges
 pub mod Reading
 pub mod Spelling

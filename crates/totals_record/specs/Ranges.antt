@@ -14,6 +14,10 @@ use Rattle.taxi_units.specs.Limits.{largest_supplements, last_number, roaming_am
 abbrev pub state_number_of : Durable → ℕ
 state_number_of durable = durable.number
 
+-- the newest layout, in which each commit is written, is 2
+abbrev pub newest_layout : ℕ
+newest_layout = 2
+
 -- a trip is in its ranges, beside the number of a state, where each of its fields is in its own
 pub record IsTripInItsRanges (number : ℕ) (trip : Trip) : Type 0 where
   pub started : IsSecond trip.started
@@ -54,7 +58,7 @@ pub record IsDurable (durable : Durable) : Type 0 where
   pub fare : durable.totals.fare ≤ 10 ^ 8 * durable.number
   pub held : IfSome durable.hold (IsHeld durable.number)
   pub shares : AreShares durable.layout durable.totals
-  pub layout : (durable.layout ≡ 1) ⊎ (durable.layout ≡ 2)
+  pub layout : (durable.layout ≡ 1) ⊎ (durable.layout ≡ newest_layout)
 
 -- an entry is in its ranges where each of its numbers is one that the meter can make; roaming has no fare, since none
 -- of the shares would have it

@@ -1,6 +1,6 @@
 -- Rules: the durable state, and what a commit makes of it.
 use Rattle.std.specs.Prelude.{◌≡◌, ℕ, ◌+◌, ◌⊎◌, true, false, if◌then◌else◌, List, [], ◌∷◌, ◌++◌, Option, Some}
-use Rattle.std.specs.Prelude.{None, replicate}
+use Rattle.std.specs.Prelude.{None}
 use Rattle.std.specs.List.{All, fold}
 use Rattle.totals_record.specs.declared.change.Change.{Change}
 use Rattle.totals_record.specs.declared.change.Change.TheVariants.{Enter, Hold}
@@ -8,23 +8,12 @@ use Rattle.totals_record.specs.declared.durable_state.Durable.{Durable}
 use Rattle.totals_record.specs.declared.entry.Entry.{Entry}
 use Rattle.totals_record.specs.declared.totals.Totals.{Totals}
 use Rattle.totals_record.specs.declared.trip.Trip.{Trip}
-use Rattle.totals_record.specs.Entries.{closes, no_share, totals_with}
+use Rattle.totals_record.specs.Entries.{closes, no_totals, totals_with}
+use Rattle.totals_record.specs.Ranges.{newest_layout}
 
--- the totals of no entry are all zero
-abbrev pub no_totals : Totals
-no_totals = record {
-  distance_mm = 0;
-  hired_mm = 0;
-  hirings = 0;
-  supplements = 0;
-  fare = 0;
-  shares = replicate 9 no_share;
-  before = no_share;
-}
-
--- the first state, with which sealing begins, has number 1, layout 2, the totals of no entry, and no held trip
+-- the first state, with which sealing begins, has number 1, the totals of no entry, no held trip, and the newest layout
 abbrev pub first_state : Durable
-first_state = record { number = 1; totals = no_totals; hold = None; layout = 2 }
+first_state = record { number = 1; totals = no_totals; hold = None; layout = newest_layout }
 
 -- the totals after a commit have its entry more, and stay where a trip is held
 abbrev pub totals_after : Totals → Change → Totals
@@ -37,13 +26,14 @@ abbrev pub held_after : Option Trip → Change → Option Trip
 held_after held (Enter entry) = if closes entry then None else held
 held_after held (Hold trip) = Some trip
 
--- the state after a commit has the next number, layout 2, and the totals and the held trip that the commit leaves
+-- the state after a commit has the next number, the newest layout, and the totals and the held trip that the commit
+-- leaves
 abbrev pub after : Durable → Change → Durable
 after durable change = record {
   number = durable.number + 1;
   totals = totals_after durable.totals change;
   hold = held_after durable.hold change;
-  layout = 2;
+  layout = newest_layout;
 }
 
 -- the state after a list of commits is the one after each of them in its turn
@@ -56,10 +46,10 @@ entries_of [] = []
 entries_of (Enter entry ∷ changes) = entry ∷ entries_of changes
 entries_of (Hold trip ∷ changes) = entries_of changes
 
--- the layout after a list of commits is 2, and is the opening one where the list is empty
+-- the layout after a list of commits is the newest, and is the opening one where the list is empty
 abbrev pub layout_after : ℕ → List Change → ℕ
 layout_after opening [] = opening
-layout_after opening (change ∷ changes) = 2
+layout_after opening (change ∷ changes) = newest_layout
 
 -- a commit is closing where it is an entry that closes a hiring
 abbrev pub IsClosing : Change → Type 0

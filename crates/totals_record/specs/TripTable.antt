@@ -1,18 +1,20 @@
 -- For proofs: the bytes of a held trip as a table that is made of parts, and the tests of its ranges as the code makes
--- them. Spelling and Ranges have what both mean.
-use Rattle.std.specs.Prelude.{ℕ, ◌+◌, ◌*◌, ◌^◌, ◌==◌, ⊤, Bool, true, false, List, length}
-use Rattle.std.specs.Prelude.{◌≡◌}
-use Rattle.std.proofs.Common.{refl}
+-- them. A trip in its ranges fits the table and is spelled by it. Spelling and Ranges have what both mean.
+use Rattle.std.specs.Prelude.{◌≡◌, ℕ, ◌+◌, ◌*◌, ◌^◌, ◌≤◌, ◌==◌, ⊤, Bool, true, false, List, ◌∷◌, ◌++◌, length}
+use Rattle.std.specs.Prelude.{Option, Some, None, IfSome}
+use Rattle.std.proofs.Common.{refl, ap, add-le-add, append_assoc, le_of_lt}
 use Rattle.drive_modes.specs.declared.meterage.Meterage.{Meterage}
 use Rattle.slot_bodies.specs.Codec.{Codec, byte, bytes, eight_bytes, fitting, four_bytes, made, sixteen_bytes}
-use Rattle.slot_bodies.specs.Codec.{◌⊗◌, ◌⊙◌}
+use Rattle.slot_bodies.specs.Codec.{spell_optional, ◌⊗◌, ◌⊙◌}
+use Rattle.slot_bodies.proofs.Laws.{below_of_most, below_of_times}
 use Rattle.taxi_units.specs.Limits.{largest_supplements, last_number, roaming_amid}
 use Rattle.taxi_units.specs.Money.{largest_amount}
 use Rattle.taxi_units.specs.Test.{Test, at_most, each, less, same, stated, within, ◌&◌, ◌⊕◌}
 use Rattle.taxi_units.specs.Time.{first_second, last_second, last_tick}
 use Rattle.totals_record.specs.declared.trip.Trip.{Trip}
-use Rattle.totals_record.specs.Bytes.{bit}
+use Rattle.totals_record.specs.Bytes.{bit, four, eight}
 use Rattle.totals_record.specs.Ranges.{IsTripInItsRanges, IsHeld}
+use Rattle.totals_record.specs.Spelling.{course_bytes, held_bytes, meterage_bytes, trip_bytes}
 
 -- ---- the table
 
@@ -119,3 +121,37 @@ trip_test number trip = stated (IsTripInItsRanges number trip)
 abbrev pub held_test : ℕ → Trip → Test
 held_test number trip = stated (IsHeld number trip) (at_most number last_number & trip_test number trip)
     (λ facts. record { room = facts.0; ranges = facts.1 }) (λ is. (is.room, is.ranges))
+
+-- ---- what is in its ranges fits its bytes, and they are those of the table
+
+-- a trip in its ranges fits
+pub trip_fits : (number : ℕ) (trip : Trip) → number ≤ last_number → IsTripInItsRanges number trip → trip_table.Fits trip
+trip_fits number trip room is = (
+  below_of_most is.started.1 tt ⊙ below_of_most is.saved.1 tt ⊙ tt ⊙ tt ⊙ tt ⊙ below_of_most is.roam tt
+      ⊙ below_of_times 2000 is.pulses (add-le-add is.ticks room) tt ⊙ below_of_most is.ticks tt
+      ⊙ below_of_most is.initial tt ⊙ meterage ⊙ is.extras.0 ⊙ below_of_most is.extras_sum tt
+      ⊙ below_of_most is.minimum tt,
+  refl,
+)
+  where
+    meterage : meterage_table.Fits trip.meterage
+    meterage = (
+      below_of_most is.cover_left tt ⊙ below_of_times 41000000000 is.steps_full is.ticks tt
+          ⊙ below_of_most (le_of_lt is.rest) tt,
+      refl,
+    )
+
+-- what is held fits
+pub held_fits : (number : ℕ) (hold : Option Trip) → IfSome hold (IsHeld number) → IfSome hold trip_table.Fits
+held_fits number None held = tt
+held_fits number (Some trip) held = trip_fits number trip held.room held.ranges
+
+-- the bytes of a trip are those of its table
+pub trip_spelled : (trip : Trip) → trip_bytes trip ≡ trip_table.spell trip
+trip_spelled trip = ap (λ (l : List ℕ). (course_bytes trip ++ meterage_bytes trip.meterage) ++ l)
+    (append_assoc trip.extras (eight trip.extras_sum) (four trip.minimum))
+
+-- the bytes of what is held are those of its table
+pub held_spelled : (hold : Option Trip) → held_bytes hold ≡ spell_optional trip_table hold
+held_spelled None = refl
+held_spelled (Some trip) = ap (λ (l : List ℕ). 1 ∷ l) (trip_spelled trip)

@@ -4,13 +4,12 @@ ghost use Rattle.totals_record.specs.Reading.{reads};
 ghost use Rattle.totals_record.specs.Spelling.{spelling};
 
 use crate::Durable;
-use crate::decoding::decode;
 use crate::ranges::is_durable;
-use crate::spelling::spell;
+use crate::table::{decode, spell};
 use slot_bodies::{BODY_SIZE, Body};
 
 impl Body for Durable {
-    ghost use Rattle.totals_record.specs.BodyLaws.{states_are_bodies};
+    ghost use Rattle.totals_record.specs.Reading.{states_are_bodies};
 
     ghost valid = { IsDurable };
 

@@ -1,18 +1,16 @@
 //! The durable state: what the meter keeps over any cut of the power.
 ghost use Rattle.std.specs.Prelude.{◌≡◌, ◌+◌, ◌≤◌};
-ghost use Rattle.totals_record.specs.Ranges.{IsDurable};
+ghost use Rattle.totals_record.specs.Ranges.{IsDurable, newest_layout};
 ghost use Rattle.totals_record.specs.States.{after, first_state};
 ghost use Rattle.taxi_units.specs.Limits.{last_number};
 
-use crate::{Change, Entry, Share, Totals, Trip};
-
-/// The layout that has shares, in which each commit is written.
-const WITH_SHARES: u8 = 2;
+use crate::ranges::NEWEST_LAYOUT;
+use crate::{Change, Entry, Totals, Trip};
 
 /// The number of the state, which each commit raises by 1, the totals, the trip that is held, and the
-/// layout in which a slot has them: 1 or 2. In layout 1 the shares are none, and all hirings and fares
-/// were counted before. The ranges of the fields are those of `IsDurable`.
-#[derive(Clone, Copy, Debug, PartialEq, Eq)]
+/// layout in which a slot has them. In layout 1 the shares are none, and all hirings and fares were
+/// counted before. The ranges of the fields are those of `IsDurable`.
+#[derive(Clone, Copy, PartialEq, Eq)]
 pub struct Durable {
     pub number: u64,
     pub totals: Totals,
@@ -21,29 +19,21 @@ pub struct Durable {
 }
 
 impl Durable {
-    /// What sealing begins with: number 1, totals of zero, no held trip, layout 2.
+    /// What sealing begins with: number 1, totals of zero, no held trip, the newest layout.
     pub fn zero() -> Durable
         ensures state { result ≡ first_state }
         ensures range { IsDurable result }
     {
         Durable {
             number: 1,
-            totals: Totals {
-                distance_mm: 0,
-                hired_mm: 0,
-                hirings: 0,
-                supplements: 0,
-                fare: 0,
-                shares: [Share::NONE; 9],
-                before: Share::NONE,
-            },
+            totals: Totals::NONE,
             hold: None,
-            layout: WITH_SHARES,
+            layout: NEWEST_LAYOUT,
         }
     }
 
-    /// The state after one commit, in layout 2. An entry is added to the totals, and where it closes a
-    /// hiring, no trip is held then. A trip that is held from now on leaves the totals. The ranges must
+    /// The state after one commit, in the newest layout. An entry is added to the totals, and where it closes
+    /// a hiring, no trip is held then. A trip that is held from now on leaves the totals. The ranges must
     /// hold afterwards, so the number is at most 2 * 10^15.
     pub fn after(&self, commit: &Change) -> Durable
         requires { IsDurable (after self.now commit.now) }
@@ -68,9 +58,10 @@ impl Durable {
     /// The state that follows, with these totals and this held trip.
     fn next(&self, totals: Totals, hold: Option<Trip>) -> Durable
         requires { self.now.number ≤ last_number }
-        ensures { result ≡ record { number = self.now.number + 1; totals = totals; hold = hold; layout = 2 } }
+        ensures { result
+            ≡ record { number = self.now.number + 1; totals = totals; hold = hold; layout = newest_layout } }
     {
-        let layout = WITH_SHARES;
+        let layout = NEWEST_LAYOUT;
         Durable {
             number: self.number + 1,
             totals,

@@ -7,14 +7,13 @@ mod body;
 mod body_laws;
 mod bytes;
 mod change;
-mod decoding;
 mod durable_state;
 mod entry;
 mod range_laws;
 mod ranges;
-mod spelling;
 mod state_laws;
 mod sum_laws;
+mod table;
 mod totals;
 mod trip;
 

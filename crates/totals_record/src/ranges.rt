@@ -15,6 +15,9 @@ use taxi_units::{
     ROAMING_AMID,
 };
 
+/// The layout in which each commit is written.
+pub const NEWEST_LAYOUT: u8 = 2;
+
 /// Whether each field of a state is in its range.
 pub fn is_durable(durable: &Durable) -> bool
     ensures { result ≡ (durable_test durable.now).passes }
@@ -116,7 +119,7 @@ fn are_few(counts: &[u8]) -> bool
 }
 
 /// Whether hirings and fare are what the shares and what was counted before come to, the shares being
-/// none in layout 1, and whether the layout is 1 or 2.
+/// none in layout 1, and whether there is such a layout.
 fn are_shares(layout: u8, totals: &Totals) -> bool
     ensures { result ≡ (sums_test totals.now.shares totals.now.before totals.now.hirings totals.now.fare
         & layout_test layout totals.now.shares).passes }
@@ -125,14 +128,14 @@ fn are_shares(layout: u8, totals: &Totals) -> bool
         && is_layout(layout, &totals.shares)
 }
 
-/// Whether the layout is 1 and has no share, or is 2.
+/// Whether the layout is 1 and has no share, or is the newest.
 fn is_layout(layout: u8, shares: &[Share; 9]) -> bool
     ensures { result ≡ (layout_test layout shares.now).passes }
 {
     if layout == 1 {
         are_none(shares)
     } else {
-        layout == 2
+        layout == NEWEST_LAYOUT
     }
 }
 

@@ -1,14 +1,14 @@
 //! The totals.
-ghost use Rattle.std.specs.Prelude.{◌≡◌, ◌<◌, ◌^◌, true};
+ghost use Rattle.std.specs.Prelude.{◌≡◌, ◌<◌, ◌^◌};
 ghost use Rattle.std.specs.List.{All};
-ghost use Rattle.totals_record.specs.Entries.{closes, shares_with, totals_with};
-ghost use Rattle.totals_record.specs.Fields.{Fit};
+ghost use Rattle.totals_record.specs.Entries.{shares_with, totals_with};
+ghost use Rattle.totals_record.specs.Reading.{Fit};
 
 use crate::Entry;
 use crate::ranges::is_digit;
 
 /// A number of closed hirings, and the sum of their fares.
-#[derive(Clone, Copy, Debug, PartialEq, Eq)]
+#[derive(Clone, Copy, PartialEq, Eq)]
 pub struct Share {
     pub hirings: u64,
     pub fare: u128,
@@ -26,7 +26,7 @@ impl Share {
 /// of hirings, and the money charged as supplements and as fare, in the tariff's smallest units. Then
 /// what hirings and fare are made of: a share for each tariff position, 1 to 9, and what was counted
 /// before there were shares.
-#[derive(Clone, Copy, Debug, PartialEq, Eq)]
+#[derive(Clone, Copy, PartialEq, Eq)]
 pub struct Totals {
     pub distance_mm: u128,
     pub hired_mm: u128,
@@ -38,36 +38,43 @@ pub struct Totals {
 }
 
 impl Totals {
+    /// Those of no entry.
+    pub(crate) const NONE: Totals = Totals {
+        distance_mm: 0,
+        hired_mm: 0,
+        hirings: 0,
+        supplements: 0,
+        fare: 0,
+        shares: [Share::NONE; 9],
+        before: Share::NONE,
+    };
+
     /// The totals with an entry more.
     pub(crate) fn with(&self, entry: &Entry) -> Totals
         requires { Fit (totals_with self.now entry.now) }
         ensures { result ≡ totals_with self.now entry.now }
     {
-        let totals = Totals {
+        Totals {
             distance_mm: self.distance_mm + (entry.roam_mm + entry.hired_mm),
             hired_mm: self.hired_mm + entry.hired_mm,
+            hirings: self.hirings + u64::from(entry.closes()),
             supplements: self.supplements + u128::from(entry.supplements),
             fare: self.fare + u128::from(entry.fare),
-            ..*self
-        };
-        if !entry.closes() {
-            return totals;
-        }
-        Totals {
-            hirings: self.hirings + 1,
             shares: shares_with(&self.shares, entry),
-            ..totals
+            before: self.before,
         }
     }
 }
 
-/// The shares with the entry of a closed hiring more: that of its tariff position grows.
+/// The shares with an entry more: where it closes a hiring, that of its tariff position grows.
 fn shares_with(shares: &[Share; 9], entry: &Entry) -> [Share; 9]
-    requires closes { closes entry.now ≡ true }
     requires hirings { All (λ share. share.hirings < 2 ^ 64) (shares_with entry.now 1 shares.now) }
     requires fare { All (λ share. share.fare < 2 ^ 128) (shares_with entry.now 1 shares.now) }
     ensures { result ≡ shares_with entry.now 1 shares.now }
 {
+    if !entry.closes() {
+        return *shares;
+    }
     if !is_digit(entry.position) {
         return *shares;
     }

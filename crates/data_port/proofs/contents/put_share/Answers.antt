@@ -1,5 +1,5 @@
-use Rattle.data_port.proofs.Parts.{more}
+use Rattle.taxi_units.proofs.Laws.{appended_behind}
 use Rattle.data_port.proofs.contents.put_share.Goals as goal
 
 pub returns-clause-items : goal.returns-clause-items
-returns-clause-items c = more _ _ _ _ _ c.put_eight.ensures.items c.put_sixteen.ensures.items
+returns-clause-items c = appended_behind _ _ _ _ _ c.put_eight.ensures.items c.put_sixteen.ensures.items

@@ -10,7 +10,7 @@ put_item-requires-clause-code c =
 
 pub put_item-requires-clause-room : goal.put_item-requires-clause-room
 put_item-requires-clause-room c =
-    room_before c.args.durable.now c.args.seal.now c.args.items.now c.loop-code.code-index c.loop-code.line.items
+    room_before c.args.durable.now c.args.seal.now c.args.items.now c.loop-code.code-index 0 c.loop-code.line.items
     c.requires.durable c.requires.seal c.requires.rise c.loop-code-test.true c.loop-code.invariant
 
 pub returns-clause-most : goal.returns-clause-most

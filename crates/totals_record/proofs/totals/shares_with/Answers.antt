@@ -1,15 +1,20 @@
 use Rattle.std.proofs.Common.{◌+◌, ◌<◌, ◌^◌, arith, sym, ◌∙◌}
 use Rattle.std.proofs.lemmas.Bool.{false≢true}
 use Rattle.taxi_units.specs.Test.{within}
-use Rattle.totals_record.proofs.Shares.{shares_apart, shares_set, elsewhere, grown_fits}
+use Rattle.totals_record.proofs.Shares.{shares_apart, shares_set, elsewhere, grown_fits, roams}
 use Rattle.totals_record.proofs.totals.shares_with.Goals as goal
+
+pub returns-then-not-closes : goal.returns-then-not-closes
+returns-then-not-closes c =
+    sym (shares_apart c.args.entry.now 1 c.args.shares.now
+    (λ i inside. roams c.args.entry.now (1 + i) (sym c.closes.ensures ∙ c.if-not-closes.true)))
 
 pub overflow_add-grown : goal.overflow_add-grown
 overflow_add-grown c =
     let in_range =
     (within 1 c.args.entry.now.position 9).decides.0 (sym c.is_digit.ensures ∙ c.if-not-is_digit.false) in
     let below = grown_fits (λ share. share.hirings < 2 ^ 64) c.args.entry.now c.args.shares.now c.from-place.result
-    c.requires.closes
+    (sym c.closes.ensures ∙ c.if-not-closes.false)
     (omega (arith, in_range.0, c.from-place.ensures))
     (omega (arith, in_range.0, in_range.1, c.from-place.ensures, c.told-shares)) c.requires.hirings in
     omega (arith, below)
@@ -19,7 +24,8 @@ overflow_add-grown-2 c =
     let in_range =
     (within 1 c.args.entry.now.position 9).decides.0 (sym c.is_digit.ensures ∙ c.if-not-is_digit.false) in
     let below =
-    grown_fits (λ share. share.fare < 2 ^ 128) c.args.entry.now c.args.shares.now c.from-place.result c.requires.closes
+    grown_fits (λ share. share.fare < 2 ^ 128) c.args.entry.now c.args.shares.now c.from-place.result
+    (sym c.closes.ensures ∙ c.if-not-closes.false)
     (omega (arith, in_range.0, c.from-place.ensures))
     (omega (arith, in_range.0, in_range.1, c.from-place.ensures, c.told-shares)) c.requires.fare in
     omega (arith, below, c.from.ensures)
@@ -35,6 +41,7 @@ pub returns : goal.returns
 returns c =
     let in_range =
     (within 1 c.args.entry.now.position 9).decides.0 (sym c.is_digit.ensures ∙ c.if-not-is_digit.false) in
-    rw c.from.ensures (sym (shares_set c.args.entry.now 1 c.args.shares.now c.from-place.result c.requires.closes
+    rw c.from.ensures (sym (shares_set c.args.entry.now 1 c.args.shares.now c.from-place.result
+    (sym c.closes.ensures ∙ c.if-not-closes.false)
     (omega (arith, in_range.0, c.from-place.ensures))
     (omega (arith, in_range.0, in_range.1, c.from-place.ensures, c.told-shares))))

@@ -1,5 +1,6 @@
-use Rattle.std.proofs.Common.{◌≡◌, ◌<◌, ℕ, List, true, false, length, ap, sym, ◌∙◌, arith}
+use Rattle.std.proofs.Common.{◌≡◌, ◌+◌, ◌<◌, ℕ, List, true, false, length, ap, refl, sym, ◌∙◌, arith}
 use Rattle.data_port.specs.ReadingStages.{follows, has_all}
+use Rattle.data_port.specs.Requests.{item_count}
 use Rattle.data_port.specs.State.{standing_of}
 use Rattle.data_port.proofs.Streams.{room_for}
 use Rattle.data_port.proofs.state.State.take.Goals as goal
@@ -11,6 +12,9 @@ push-requires-else-is_whole c =
     ∙ (sym c.may_follow.ensures ∙ c.if-not-may_follow.false) in
     let left : has_all c.args.self.now.part.items ≡ false =
     ap has_all (sym c.as_slice-2.ensures.value) ∙ (sym c.is_whole.ensures ∙ c.if-is_whole.false) in
-    let room : length c.args.self.now.part.items < 15 =
+    let room : length c.args.self.now.part.items < item_count + 2 =
     room_for (standing_of c.args.self.now) c.args.byte c.requires.sense c.requires.going fits left in
     (omega arith, room)
+
+pub returns-then-not-may_follow-clause-err : goal.returns-then-not-may_follow-clause-err
+returns-then-not-may_follow-clause-err c = (refl, refl)

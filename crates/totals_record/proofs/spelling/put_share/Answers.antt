@@ -1,5 +1,0 @@
-use Rattle.totals_record.proofs.Appends.{more}
-use Rattle.totals_record.proofs.spelling.put_share.Goals as goal
-
-pub returns-clause-items : goal.returns-clause-items
-returns-clause-items c = more _ _ _ _ _ (c.put_eight.ensures.items) c.put_sixteen.ensures.items
