@@ -10,7 +10,7 @@ use Rattle.tariff_calendar.proofs.Counts.{IsNotFalling-le, count_at_most-above, 
 use Rattle.tariff_calendar.proofs.Counts.{count_at_most-le-length}
 use Rattle.tariff_check.specs.Cuts.{most_cuts}
 use Rattle.tariff_check.specs.declared.fault.Dimension.{Dimension}
-use Rattle.tariff_check.specs.declared.fault.Dimension.TheVariants.{MonthDay, Minute, Distance, Time}
+use Rattle.tariff_check.specs.declared.fault.Dimension.TheVariants.{MonthDay}
 
 -- where none is at most the value, it isn't among them
 pub none_found : (v : ℕ) (xs : List ℕ) → IsNotFalling xs → count_at_most v xs ≡ 0 → list_any (λ x. eqb x v) xs ≡ false
@@ -43,9 +43,7 @@ last_found v last xs ordered some is =
 -- the reads of a look-up are enough for as many cuts as there may be
 pub enough_reads : (dimension : Dimension) (width : ℕ) → width ≤ most_cuts dimension → width < 2 ^ most_reads dimension
 enough_reads MonthDay width few = omega arith
-enough_reads Minute width few = omega arith
-enough_reads Distance width few = omega arith
-enough_reads Time width few = omega arith
+enough_reads dimension width few = omega arith
 
 -- a look-up that reads a list at all reads once at least where there is something to read
 pub at_least : (n old new : ℕ) → old ≤ new → (0 < n → old + 1 ≤ new) → old + min 1 n ≤ new

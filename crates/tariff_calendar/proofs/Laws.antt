@@ -12,9 +12,11 @@ use Rattle.tariff_calendar.proofs.Lists.{lists_ordered, no_distance_at_hiring, n
 use Rattle.tariff_calendar.proofs.SameCell.{same_cell_first, same_cell_holds}
 use Rattle.tariff_check.proofs.Laws.{sound_tariffs_have_sound_parts-parts}
 use Rattle.tariff_check.specs.Faults.{IsSound}
+use Rattle.tariff_check.specs.Kinds.{part_of}
 use Rattle.tariff_check.specs.Parts.{has_holidays}
+use Rattle.tariff_check.specs.declared.choice.ChoiceKind.{ChoiceKind}
 use Rattle.tariff_syntax.specs.Condition.{Condition}
-use Rattle.tariff_syntax.specs.Meaning.{holds, initial_place, minimum_place, rate_place}
+use Rattle.tariff_syntax.specs.Meaning.{at_hiring, choice_place, holds}
 use Rattle.tariff_syntax.specs.Tree.{Tree, Line, when_part}
 use Rattle.tariff_syntax.specs.Writable.{IsWritable}
 use Rattle.tariff_syntax.specs.declared.context.Context.{Context}
@@ -24,11 +26,11 @@ pub cuts_decide_conditions-condition : (t : Tree) (k : ℕ) (x y : Context) → 
     → (l : Line) (c : Condition) → Contains t.lines l → when_part l.entry ≡ Some c → holds c x ≡ holds c y
 cuts_decide_conditions-condition = same_cell_holds
 
-pub cuts_decide_conditions-first : (t : Tree) (k : ℕ) (x y : Context) → IsWritable t → IsSound t → IsInRangeOf t k x
-    → IsInRangeOf t k y → IsSameCell (lists_of t k) x y
-    → (rate_place t x ≡ rate_place t y) × (initial_place t x ≡ initial_place t y)
-    × (minimum_place t x ≡ minimum_place t y)
-cuts_decide_conditions-first = same_cell_first
+pub cuts_decide_conditions-first : (kind : ChoiceKind) (t : Tree) (k : ℕ) (x y : Context) → IsWritable t → IsSound t
+    → IsInRangeOf t k x → IsInRangeOf t k y → IsSameCell (lists_of t k) x y
+    → (choice_place (part_of kind) t x ≡ choice_place (part_of kind) t y)
+    × (choice_place (part_of kind) t (at_hiring x) ≡ choice_place (part_of kind) t (at_hiring y))
+cuts_decide_conditions-first kind = same_cell_first (part_of kind)
 
 pub cuts_are_the_fewest_pulses : (k decimetres pulses : ℕ) → (k * decimetres ≤ 10000 * pulses)
     ↔ (pulses_for k decimetres ≤ pulses)

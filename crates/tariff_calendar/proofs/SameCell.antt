@@ -18,9 +18,8 @@ use Rattle.tariff_check.proofs.Laws.{sound_tariffs_have_sound_parts-parts}
 use Rattle.tariff_check.specs.declared.fault.Dimension.{Dimension}
 use Rattle.tariff_check.specs.declared.fault.Dimension.TheVariants.{MonthDay, Minute, Distance, Time}
 use Rattle.tariff_syntax.specs.Condition.{Condition}
-use Rattle.tariff_syntax.specs.Choices.{choices, conditions_of, initial_part, minimum_part, rate_part}
-use Rattle.tariff_syntax.specs.Meaning.{at_hiring, choice_place, holds, holds_if, initial_place, minimum_place}
-use Rattle.tariff_syntax.specs.Meaning.{rate_place}
+use Rattle.tariff_syntax.specs.Choices.{choices, conditions_of}
+use Rattle.tariff_syntax.specs.Meaning.{at_hiring, choice_place, holds, holds_if}
 use Rattle.tariff_syntax.specs.Tree.{Tree, Line, Entry, when_part}
 use Rattle.tariff_syntax.specs.Writable.{IsWritable}
 use Rattle.tariff_syntax.specs.declared.context.Context.{Context}
@@ -156,17 +155,15 @@ hiring_same lists x y same = record {
   time = refl;
 }
 
--- so the same lines hold first
-pub same_cell_first : (t : Tree) (k : ℕ) (x y : Context) → IsWritable t → IsSound t → IsInRangeOf t k x
-    → IsInRangeOf t k y → IsSameCell (lists_of t k) x y
-    → (rate_place t x ≡ rate_place t y) × (initial_place t x ≡ initial_place t y)
-    × (minimum_place t x ≡ minimum_place t y)
-same_cell_first t k x y writable sound x_in y_in same =
+-- so the same line of each kind holds first
+pub same_cell_first : {V : Type 0} (part : Entry → Option V) (t : Tree) (k : ℕ) (x y : Context) → IsWritable t
+    → IsSound t → IsInRangeOf t k x → IsInRangeOf t k y → IsSameCell (lists_of t k) x y
+    → (choice_place part t x ≡ choice_place part t y)
+    × (choice_place part t (at_hiring x) ≡ choice_place part t (at_hiring y))
+same_cell_first part t k x y writable sound x_in y_in same =
     let parts = sound_tariffs_have_sound_parts-parts t writable sound in
-    let have = same_cell_has t k x y x_in y_in same in
-    let hiring = hiring_has k x y have in
-    let hired = hiring_same (lists_of t k) x y same in (
-      choices_alike rate_part t k x y parts have same,
-      choices_alike initial_part t k (at_hiring x) (at_hiring y) parts hiring hired,
-      choices_alike minimum_part t k (at_hiring x) (at_hiring y) parts hiring hired,
+    let have = same_cell_has t k x y x_in y_in same in (
+      choices_alike part t k x y parts have same,
+      choices_alike part t k (at_hiring x) (at_hiring y) parts (hiring_has k x y have)
+          (hiring_same (lists_of t k) x y same),
     )

@@ -1,11 +1,12 @@
 -- Rules: the cuts and the holidays of a tariff under a constant.
-use Rattle.std.specs.Prelude.{ℕ, ◌+◌, ◌*◌, ◌/◌, ◌<◌, ◌≤◌, Bool, ◌&&◌, ◌==◌, nat_le, nat_lt, List, [], map, length, get_or, ℤ, pos}
+use Rattle.std.specs.Prelude.{ℕ, ◌+◌, ◌*◌, ◌/◌, ◌<◌, ◌≤◌, Bool, nat_le, nat_lt, List, [], map, length, get_or, ℤ, pos}
 use Rattle.std.specs.List.{list_any, count_by}
 use Rattle.std.specs.Ordering.{int_eq}
 use Rattle.interval_clock.specs.Calendar.{day_number_of}
 use Rattle.tariff_syntax.specs.Tree.{Tree, Line}
 use Rattle.tariff_check.specs.Cuts.{cuts_of, with_each}
 use Rattle.tariff_check.specs.Parts.{DateNumbers, holidays_of}
+use Rattle.tariff_check.specs.SoundLookups.{has_date}
 use Rattle.tariff_check.specs.declared.fault.Dimension.{Dimension}
 use Rattle.tariff_check.specs.declared.fault.Dimension.TheVariants.{MonthDay, Minute, Distance, Time}
 
@@ -84,5 +85,4 @@ has_days lists = nat_lt 0 (length lists.holidays)
 
 -- the test `is_holiday` is true if a date stands in a holiday line
 abbrev pub is_holiday : List Line → (year month date : ℕ) → Bool
-is_holiday lines year month date =
-    list_any (λ (d : DateNumbers). (d.year == year) && ((d.month == month) && (d.date == date))) (holidays_of lines)
+is_holiday lines year month date = has_date (holidays_of lines) year month date

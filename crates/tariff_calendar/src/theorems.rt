@@ -4,24 +4,26 @@ ghost use Rattle.interval_clock.specs.Calendar.{IsDateOf};
 ghost use Rattle.tariff_calendar.specs.Lists.{AreOrdered, IsNotFalling, count_at_most, has_day, has_days, is_holiday, lists_of, pulses_for};
 ghost use Rattle.tariff_calendar.specs.Range.{IsInRangeOf, IsSameCell};
 ghost use Rattle.tariff_check.specs.Faults.{IsSound};
+ghost use Rattle.tariff_check.specs.Kinds.{part_of};
 ghost use Rattle.tariff_check.specs.Parts.{has_holidays};
+ghost use Rattle.tariff_check.specs.declared.choice.ChoiceKind.{ChoiceKind};
 ghost use Rattle.tariff_syntax.specs.Condition.{Condition};
-ghost use Rattle.tariff_syntax.specs.Meaning.{holds, initial_place, minimum_place, rate_place};
+ghost use Rattle.tariff_syntax.specs.Meaning.{at_hiring, choice_place, holds};
 ghost use Rattle.tariff_syntax.specs.Tree.{Tree, Line, when_part};
 ghost use Rattle.tariff_syntax.specs.Writable.{IsWritable};
 ghost use Rattle.tariff_syntax.specs.declared.context.Context.{Context};
 
 /// The law of cuts: in two contexts of one cell, each condition of a sound tariff holds alike, and so the
-/// same rate, the same initial hire fee and the same minimum fare hold first. A condition compares with the
-/// cuts of its tariff alone, and how many cuts are at most a value decides each such comparison.
+/// same line of each kind holds first, there and at the hiring. A condition compares with the cuts of its
+/// tariff alone, and how many cuts are at most a value decides each such comparison.
 pub fn cuts_decide_conditions()
     ensures condition { (t : Tree) (k : ℕ) (x y : Context) → IsWritable t → IsSound t → IsInRangeOf t k x
         → IsInRangeOf t k y → IsSameCell (lists_of t k) x y
         → (l : Line) (c : Condition) → Contains t.lines l → when_part l.entry ≡ Some c → holds c x ≡ holds c y }
-    ensures first { (t : Tree) (k : ℕ) (x y : Context) → IsWritable t → IsSound t → IsInRangeOf t k x
-        → IsInRangeOf t k y → IsSameCell (lists_of t k) x y
-        → (rate_place t x ≡ rate_place t y) × (initial_place t x ≡ initial_place t y)
-        × (minimum_place t x ≡ minimum_place t y) }
+    ensures first { (kind : ChoiceKind) (t : Tree) (k : ℕ) (x y : Context) → IsWritable t → IsSound t
+        → IsInRangeOf t k x → IsInRangeOf t k y → IsSameCell (lists_of t k) x y
+        → (choice_place (part_of kind) t x ≡ choice_place (part_of kind) t y)
+        × (choice_place (part_of kind) t (at_hiring x) ≡ choice_place (part_of kind) t (at_hiring y)) }
 {}
 
 /// The law of distances: the pulses at which a distance is cut are the fewest that are as far.

@@ -6,15 +6,17 @@ use Rattle.std.specs.List.{cons_option, filter, slice_get}
 use Rattle.std.specs.Option.{is_some, option_map}
 use Rattle.tariff_syntax.specs.Choices.{Choice, choices, values_of}
 use Rattle.tariff_syntax.specs.Condition.{Condition}
-use Rattle.tariff_syntax.specs.Tree.{Tree, Line, Entry, holiday, initial, minimum, rate, supplement, when_part}
-use Rattle.tariff_check.specs.Parts.{DateNumbers, InitialNumbers, RateNumbers, holiday_part}
-use Rattle.tariff_check.specs.Parts.{initial_part, minimum_part, parts, rate_part}
-use Rattle.tariff_check.specs.Resolved.{placed_from}
-use Rattle.tariff_check.specs.SoundTariff.{AreChoices, HasAllLines, entries_told, holiday_entry, initial_entry, is_told}
-use Rattle.tariff_check.specs.SoundTariff.{line_with, numbered_supplement, rate_entry, sound_of, supplement_entry}
-use Rattle.tariff_check.specs.SoundTariff.{when_at, when_of_line}
+use Rattle.tariff_syntax.specs.Tree.{Tree, Line, Entry, holiday, supplement, when_part}
+use Rattle.tariff_check.specs.Kinds.{entry_with, kept_of, part_of}
+use Rattle.tariff_check.specs.Parts.{DateNumbers, holiday_part, parts}
+use Rattle.tariff_check.specs.Resolved.{HasParts, placed_from}
+use Rattle.tariff_check.specs.SoundTariff.{AreChoices, HasAllLines, entries_told, holiday_entry, is_told, line_with}
+use Rattle.tariff_check.specs.SoundTariff.{numbered_supplement, sound_of, supplement_entry, when_at, when_of_line}
 use Rattle.tariff_check.specs.declared.values.Supplement.{Supplement}
 use Rattle.tariff_check.specs.declared.choice.Choice as program
+use Rattle.tariff_check.specs.declared.choice.ChoiceKind.{ChoiceKind}
+use Rattle.tariff_check.specs.declared.resolving.Parts.{Parts}
+use Rattle.tariff_check.proofs.KindLaws.{choices_are, entry_again}
 
 -- the line behind others is at the place that their number says
 pub at_end : (before : List Line) (l : Line) (ls : List Line) → slice_get (before ++ l ∷ ls) (length before) ≡ Some l
@@ -47,7 +49,7 @@ module _ {V : Type 0} (part : Entry → Option V) where
       one_more lines l (part l.entry) (length before) _ (choices part ls) (ap when_of_line (at_end before l ls)) rest
 
   -- what the program chose from lines are the choices among them
-  pub placed_are : (lines : List Line) (own : List (program.Choice V)) → own ≡ placed_from part 0 lines
+  placed_are : (lines : List Line) (own : List (program.Choice V)) → own ≡ placed_from part 0 lines
       → AreChoices lines own (choices part lines)
   placed_are lines own same =
       subst (λ (all : List (program.Choice V)). AreChoices lines all (choices part lines)) (sym same)
@@ -80,6 +82,11 @@ module _ {V : Type 0} (part : Entry → Option V) where
       more None here h = h
       more (Some v) here h = rw (here v refl, h) refl
 
+-- so the choices of a kind that the program keeps are those among the lines
+pub kept_are : (kind : ChoiceKind) (lines : List Line) (p : Parts) → HasParts lines p
+    → AreChoices lines (kept_of kind p.choices) (choices (part_of kind) lines)
+kept_are kind lines p has = placed_are (part_of kind) lines (kept_of kind p.choices) (has.choices kind)
+
 -- and so the entries of a kind without conditions
 pub entries_again : {A : Type 0} (part : Entry → Option A) (entry : A → Entry)
     → ((x : Entry) (a : A) → part x ≡ Some a → entry a ≡ x) → (ls : List Line)
@@ -95,23 +102,7 @@ entries_again {A} part entry again (l ∷ ls) =
     one_more None here h = h
     one_more (Some a) here h = rw (here a refl, h) refl
 
--- the kinds
-rate_again : (x : Entry) (r : RateNumbers) → rate_part x ≡ Some r → rate_entry r (when_part x) ≡ x
-rate_again (rate a b c e when) r h =
-    let same : r ≡ record { a = a; b = b; c = c; e = e } = cc in
-    ap (λ (r : RateNumbers). rate_entry r when) same
-rate_again x r h = absurd cc
-
-initial_again : (x : Entry) (i : InitialNumbers) → initial_part x ≡ Some i → initial_entry i (when_part x) ≡ x
-initial_again (initial amount covers when) i h =
-    let same : i ≡ record { amount = amount; covers = covers } = cc in
-    ap (λ (i : InitialNumbers). initial_entry i when) same
-initial_again x i h = absurd cc
-
-minimum_again : (x : Entry) (n : ℕ) → minimum_part x ≡ Some n → minimum n (when_part x) ≡ x
-minimum_again (minimum amount when) n h = let same : n ≡ amount = cc in ap (λ (n : ℕ). minimum n when) same
-minimum_again x n h = absurd cc
-
+-- the sorts of lines without conditions
 supplement_again : (x : Entry) (said : ℕ × Supplement) → numbered_supplement x ≡ Some said
     → supplement_entry said ≡ x
 supplement_again (supplement number amount most) said h =
@@ -128,9 +119,8 @@ holiday_again x d h = absurd cc
 -- nothing of these lines is lost
 pub all_lines : (t : Tree) → HasAllLines t (sound_of t)
 all_lines t = record {
-  rates = lines_again rate_part rate_entry rate_again t.lines;
-  initials = lines_again initial_part initial_entry initial_again t.lines;
-  minimums = lines_again minimum_part minimum minimum_again t.lines;
+  choices = λ (kind : ChoiceKind).
+      rw (choices_are t kind) (lines_again (part_of kind) (entry_with kind) (entry_again kind) t.lines);
   supplements = entries_again numbered_supplement supplement_entry supplement_again t.lines;
   holidays = entries_again holiday_part holiday_entry holiday_again t.lines;
 }

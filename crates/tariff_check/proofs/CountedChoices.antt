@@ -2,54 +2,41 @@
 use Rattle.std.proofs.Common.{◌≡◌, ◌∙◌, ap, sym, refl, subst, ℕ, suc, ◌+◌, ◌<◌, cond, List, [], ◌∷◌, ◌++◌, length, map}
 use Rattle.std.proofs.Common.{get_or, take, drop, drop-cons, append_assoc, Option, Some, None, arith}
 use Rattle.std.proofs.lemmas.List.{length-append, map-append, map_more, take-append-drop}
+use Rattle.std.proofs.lemmas.Grind.{common_steps}
 use Rattle.std.proofs.lemmas.List.Sums.{sum_by-append, sum_by-cons}
 use Rattle.std.specs.List.{cons_option}
 use Rattle.std.specs.Option.{is_some, option_map, option_to_list}
-use Rattle.tariff_syntax.specs.Tree.{Line, Entry, line_of, initial, minimum, rate}
+use Rattle.tariff_syntax.specs.Tree.{Line, line_of}
 use Rattle.tariff_syntax.specs.declared.tariff.TariffLine.{TariffLine}
-use Rattle.tariff_check.specs.ChoiceLines.{choice_behind, choice_lines, choices_behind, is_of, place_behind}
-use Rattle.tariff_check.specs.Resolved.{count_in, counted_choice, placed_from}
-use Rattle.tariff_check.specs.Parts.{initial_part, minimum_part, rate_part}
+use Rattle.tariff_check.specs.ChoiceLines.{choice_behind, choice_lines, choices_behind, place_behind}
+use Rattle.tariff_check.specs.Kinds.{EachKind, Said, is_of, kept_of, part_of}
+use Rattle.tariff_check.specs.Resolved.{count_in, counted_choice, placed, placed_from}
 use Rattle.tariff_check.specs.declared.choice.Choice.{Choice}
 use Rattle.tariff_check.specs.declared.choice.ChoiceKind.{ChoiceKind}
-use Rattle.tariff_check.specs.declared.choice.ChoiceKind.TheVariants.{Rate, Initial, Minimum}
 use Rattle.tariff_check.specs.declared.choice.ChoiceLine.{ChoiceLine}
+use Rattle.tariff_check.specs.declared.choice.Choices.{Choices}
 use Rattle.tariff_check.specs.declared.resolving.Parts.{Parts}
+use Rattle.tariff_check.proofs.KindLaws.{of_kind, part_is}
 
--- the lines of a kind are those that give a part
-abbrev IsOfPart : {V : Type 0} → (Entry → Option V) → ChoiceKind → Type 0
-IsOfPart part kind = (x : Entry) → is_some (part x) ≡ is_of kind x
-
-rates_are : IsOfPart rate_part Rate
-rates_are (rate a b c e when) = refl
-rates_are x = refl
-
-initials_are : IsOfPart initial_part Initial
-initials_are (initial amount covers when) = refl
-initials_are x = refl
-
-minimums_are : IsOfPart minimum_part Minimum
-minimums_are (minimum amount when) = refl
-minimums_are x = refl
-
-module _ {V : Type 0} (part : Entry → Option V) (kind : ChoiceKind) (are : IsOfPart part kind) where
+module _ (kind : ChoiceKind) where
   -- as many choices are placed as there are lines of the kind
-  length_placed : (place : ℕ) (ls : List Line) → length (placed_from part place ls) ≡ place_behind kind ls
+  length_placed : (place : ℕ) (ls : List Line) → length (placed_from (part_of kind) place ls) ≡ place_behind kind ls
   length_placed place [] = refl
   length_placed place (l ∷ ls) =
-      rw (sum_by-cons (λ (m : Line). cond (is_of kind m.entry) 1 0) l ls, ← are l.entry)
-      (one_more (part l.entry) (placed_from part (place + 1) ls) (length_placed (place + 1) ls))
+      rw (sum_by-cons (λ (m : Line). cond (is_of kind m.entry) 1 0) l ls, ← part_is kind l.entry)
+      (one_more (part_of kind l.entry) (placed_from (part_of kind) (place + 1) ls) (length_placed (place + 1) ls))
     where
-      one_more : (o : Option V) (own : List (Choice V)) → length own ≡ place_behind kind ls
+      one_more : (o : Option (Said kind)) (own : List (Choice (Said kind))) → length own ≡ place_behind kind ls
           → length (cons_option (option_map
-          (λ (said : V). record { value = said; line = l.line; place = place }) o) own)
+          (λ (said : Said kind). record { value = said; line = l.line; place = place }) o) own)
           ≡ cond (is_some o) 1 0 + place_behind kind ls
       one_more None own h = omega (arith, h)
       one_more (Some said) own h = omega (arith, h)
 
   -- so the choices that were found before a place are as many as the lines of the kind before it
-  counted_behind : (own : List (Choice V)) (lines : List TariffLine) (place : ℕ)
-      → own ++ placed_from part place (map line_of (drop place lines)) ≡ placed_from part 0 (map line_of lines)
+  counted_behind : (own : List (Choice (Said kind))) (lines : List TariffLine) (place : ℕ)
+      → own ++ placed_from (part_of kind) place (map line_of (drop place lines))
+      ≡ placed_from (part_of kind) 0 (map line_of lines)
       → length own ≡ place_behind kind (map line_of (take place lines))
   counted_behind own lines place all =
       let front = map line_of (take place lines) in
@@ -59,9 +46,9 @@ module _ {V : Type 0} (part : Entry → Option V) (kind : ChoiceKind) (are : IsO
       ∙ map-append line_of (take place lines) (drop place lines) in
       let counts : place_behind kind (map line_of lines) ≡ place_behind kind front + place_behind kind rest =
       ap (place_behind kind) joined ∙ sum_by-append (λ (m : Line). cond (is_of kind m.entry) 1 0) front rest in
-      let lengths : length own + length (placed_from part place rest)
-      ≡ length (placed_from part 0 (map line_of lines)) =
-      sym (length-append own (placed_from part place rest)) ∙ ap length all in
+      let lengths : length own + length (placed_from (part_of kind) place rest)
+      ≡ length (placed_from (part_of kind) 0 (map line_of lines)) =
+      sym (length-append own (placed_from (part_of kind) place rest)) ∙ ap length all in
       omega (arith, counts, lengths, length_placed place rest, length_placed 0 (map line_of lines))
 
 -- the choice of a line by such counts is the one behind the lines before it
@@ -114,22 +101,35 @@ choice_put lines place line o own more all within at is put so_far =
 -- and the place in its kind is how many of the kind were found before
 pub choice_line_put : (p : Parts) (lines : List TariffLine) (place : ℕ) (line : TariffLine) (more : List ChoiceLine)
     → place < length lines → line ≡ get_or lines place line
-    → p.rates.items ++ placed_from rate_part place (map line_of (drop place lines))
-    ≡ placed_from rate_part 0 (map line_of lines)
-    → p.initials.items ++ placed_from initial_part place (map line_of (drop place lines))
-    ≡ placed_from initial_part 0 (map line_of lines)
-    → p.minimums.items ++ placed_from minimum_part place (map line_of (drop place lines))
-    ≡ placed_from minimum_part 0 (map line_of lines)
-    → more ≡ p.choice_lines.items ++ option_to_list (counted_choice (count_in p) (line_of line))
+    → ((kind : ChoiceKind) → kept_of kind p.choices ++ placed_from (part_of kind) place (map line_of (drop place lines))
+    ≡ placed_from (part_of kind) 0 (map line_of lines))
+    → more ≡ p.choice_lines.items ++ option_to_list (counted_choice (count_in p.choices) (line_of line))
     → p.choice_lines.items ++ choices_behind (map line_of (take place lines)) (map line_of (drop place lines))
     ≡ choice_lines (map line_of lines)
     → more ++ choices_behind (map line_of (take (place + 1) lines)) (map line_of (drop (place + 1) lines))
     ≡ choice_lines (map line_of lines)
-choice_line_put p lines place line more within at rates initials minimums put so_far =
+choice_line_put p lines place line more within at kept put so_far =
     choice_put lines place line _ p.choice_lines.items more _ within at
-    (counted_is (count_in p) (map line_of (take place lines)) counts (line_of line)) put so_far
-  where
-    counts : (kind : ChoiceKind) → count_in p kind ≡ place_behind kind (map line_of (take place lines))
-    counts Rate = counted_behind rate_part Rate rates_are p.rates.items lines place rates
-    counts Initial = counted_behind initial_part Initial initials_are p.initials.items lines place initials
-    counts Minimum = counted_behind minimum_part Minimum minimums_are p.minimums.items lines place minimums
+    (counted_is (count_in p.choices) (map line_of (take place lines))
+    (λ kind. counted_behind kind (kept_of kind p.choices) lines place (kept kind)) (line_of line)) put so_far
+
+-- none is kept at first
+pub none_kept : (kept : Choices) (lines : List TariffLine) → EachKind (λ kind. kept_of kind kept ≡ [])
+    → (kind : ChoiceKind) → kept_of kind kept ++ placed_from (part_of kind) 0 (map line_of lines)
+    ≡ placed_from (part_of kind) 0 (map line_of lines)
+none_kept kept lines none kind = rw (of_kind (λ kind. kept_of kind kept ≡ []) none kind) refl
+
+-- and then the choice of each line, behind those of the lines before
+pub kept_put : (kept more : Choices) (lines : List TariffLine) (place : ℕ) (line : TariffLine)
+    → place < length lines → line ≡ get_or lines place line
+    → EachKind (λ kind. kept_of kind more
+    ≡ kept_of kind kept ++ option_to_list (placed (part_of kind) place (line_of line)))
+    → ((kind : ChoiceKind) → kept_of kind kept ++ placed_from (part_of kind) place (map line_of (drop place lines))
+    ≡ placed_from (part_of kind) 0 (map line_of lines))
+    → (kind : ChoiceKind) → kept_of kind more ++ placed_from (part_of kind) (place + 1)
+    (map line_of (drop (place + 1) lines)) ≡ placed_from (part_of kind) 0 (map line_of lines)
+kept_put kept more lines place line within at put so_far kind =
+    let one_more = of_kind (λ kind. kept_of kind more
+    ≡ kept_of kind kept ++ option_to_list (placed (part_of kind) place (line_of line))) put kind in
+    let behind = so_far kind in
+    grind (arith, common_steps)

@@ -14,7 +14,8 @@ use Rattle.tariff_syntax.specs.declared.context.Context.{Context}
 use Rattle.tariff_syntax.proofs.Laws.{first_lines_hold}
 use Rattle.tariff_check.specs.Faults.{IsSound, has_default}
 use Rattle.tariff_check.specs.Parts.{initial_part, rate_part}
-use Rattle.tariff_check.proofs.Staging.{not_if}
+use Rattle.tariff_check.specs.declared.fault.CheckFault.TheVariants.{NoDefaultInitial, NoDefaultRate}
+use Rattle.tariff_check.proofs.Staging.{faults_none, not_if}
 
 -- where one of some lines is without a condition, not all fail to hold
 default_holds : (x : Context) (conditions : List (Option Condition)) → list_any is_none conditions ≡ true
@@ -58,8 +59,12 @@ not_false false h = absurd cc
 
 -- a sound tariff has a rate without a condition
 pub default_rate : (t : Tree) → IsSound t → has_default rate_part t.lines ≡ true
-default_rate t h = not_false (has_default rate_part t.lines) (not_if _ _ (h 5 None (omega arith)))
+default_rate t h =
+    let none = faults_none t h in
+    not_false (has_default rate_part t.lines) (not_if _ NoDefaultRate (assumption none))
 
 -- and an initial hire fee without one
 pub default_initial : (t : Tree) → IsSound t → has_default initial_part t.lines ≡ true
-default_initial t h = not_false (has_default initial_part t.lines) (not_if _ _ (h 6 None (omega arith)))
+default_initial t h =
+    let none = faults_none t h in
+    not_false (has_default initial_part t.lines) (not_if _ NoDefaultInitial (assumption none))

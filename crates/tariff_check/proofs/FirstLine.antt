@@ -2,6 +2,7 @@
 use Rattle.std.proofs.Common.{◌≡◌, ◌⊎◌, inl, inr, ◌↔◌, ℕ, suc, ◌<◌, ◌≤◌, Bool, true, false, cond, List, [], ◌∷◌, ◌++◌}
 use Rattle.std.proofs.Common.{Option, Some, None, All, refl, ap, sym, ◌∙◌, subst, append_assoc, length, length-append}
 use Rattle.std.proofs.Common.{get_or, arith}
+use Rattle.std.proofs.lemmas.List.{append-nil}
 use Rattle.std.proofs.lemmas.List.Elements.{All-nil, All-cons}
 use Rattle.tariff_syntax.specs.Reads.{RiseInNumber}
 use Rattle.tariff_syntax.specs.Tree.{Line, Entry}
@@ -36,10 +37,6 @@ pub record IsFirstAfter (test : LineTest) (front ls : List Line) (number : ℕ) 
   pub is_so : test (front ++ before) line.entry ≡ true
   pub none_earlier : (xs ys : List Line) (l : Line) → before ≡ xs ++ l ∷ ys → test (front ++ xs) l.entry ≡ false
 
-append_none : (xs : List Line) → xs ++ [] ≡ xs
-append_none [] = refl
-append_none (x ∷ xs) = ap (λ (ys : List Line). x ∷ ys) (append_none xs)
-
 no_split : {A : Type 0} (xs ys : List Line) (l : Line) → [] ≡ xs ++ l ∷ ys → A
 no_split [] ys l h = absurd cc
 no_split (x ∷ xs) ys l h = absurd cc
@@ -52,7 +49,7 @@ first_here test front l ls number so named = record {
   after = ls;
   split = refl;
   number_is = named;
-  is_so = rw (append_none front) so;
+  is_so = rw (append-nil front) so;
   none_earlier = λ xs ys m e. no_split xs ys m e;
 }
 
@@ -61,7 +58,7 @@ earlier : (test : LineTest) (front : List Line) (l : Line) (before : List Line) 
     → (xs ys : List Line) (m : Line) → l ∷ before ≡ xs ++ m ∷ ys → test (front ++ xs) m.entry ≡ false
 earlier test front l before not_here none [] ys m e =
     let same : l ≡ m = cc in
-    rw (append_none front) (subst (λ (k : Line). test front k.entry ≡ false) same not_here)
+    rw (append-nil front) (subst (λ (k : Line). test front k.entry ≡ false) same not_here)
 earlier test front l before not_here none (x ∷ xs) ys m e =
     let same : l ≡ x = cc in
     let rest : before ≡ xs ++ m ∷ ys = cc in
@@ -96,10 +93,10 @@ first_after_is : (test : LineTest) (front ls : List Line) (number : ℕ) (before
     → ((xs ys : List Line) (l : Line) → before ≡ xs ++ l ∷ ys → test (front ++ xs) l.entry ≡ false)
     → first_after test front ls ≡ Some number
 first_after_is test front ls number [] line after split named so none =
-    let here : test front line.entry ≡ true = rw (append_none front) at so in
+    let here : test front line.entry ≡ true = rw (append-nil front) at so in
     rw (split, here, named) refl
 first_after_is test front ls number (l ∷ before) line after split named so none =
-    let first : test front l.entry ≡ false = rw (append_none front) at (none [] before l refl) in
+    let first : test front l.entry ≡ false = rw (append-nil front) at (none [] before l refl) in
     let rest = first_after_is test (front ++ l ∷ []) (before ++ line ∷ after) number before line after refl named
     (subst (λ (ks : List Line). test ks line.entry ≡ true) (sym (append_assoc front (l ∷ []) before)) so)
     (λ (xs ys : List Line) (m : Line) (e : before ≡ xs ++ m ∷ ys). subst (λ (ks : List Line). test ks m.entry ≡ false)
@@ -118,7 +115,7 @@ none_after : (test : LineTest) (front ls : List Line) → ((xs ys : List Line) (
     → test (front ++ xs) m.entry ≡ false) → first_after test front ls ≡ None
 none_after test front [] nowhere = refl
 none_after test front (l ∷ ls) nowhere =
-    let first : test front l.entry ≡ false = rw (append_none front) at (nowhere [] ls l refl) in
+    let first : test front l.entry ≡ false = rw (append-nil front) at (nowhere [] ls l refl) in
     let rest = none_after test (front ++ l ∷ []) ls
     (λ (xs ys : List Line) (m : Line) (e : ls ≡ xs ++ m ∷ ys). subst (λ (ks : List Line). test ks m.entry ≡ false)
     (sym (append_assoc front (l ∷ []) xs)) (nowhere (l ∷ xs) ys m (ap (λ (ks : List Line). l ∷ ks) e))) in
@@ -172,7 +169,7 @@ smallest_after test front [] number rising h before after line split so = absurd
 smallest_after test front (l ∷ ls) number rising h [] after line split so =
     let same : l ≡ line = cc in
     let here : test front l.entry ≡ true =
-    subst (λ (m : Line). test front m.entry ≡ true) (sym same) (rw (append_none front) at so) in
+    subst (λ (m : Line). test front m.entry ≡ true) (sym same) (rw (append-nil front) at so) in
     let named : Some l.line ≡ Some number = rw here at h in
     let number_is : l.line ≡ number = cc in
     let line_is : l.line ≡ line.line = ap (λ (m : Line). m.line) same in

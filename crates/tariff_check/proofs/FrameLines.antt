@@ -12,10 +12,10 @@ use Rattle.tariff_check.specs.Faults.{IsSound}
 use Rattle.tariff_check.specs.Lines.{excludes, first_after, first_line, is_duplicate}
 use Rattle.tariff_check.specs.Parts.{parts, positions_part, step_of, step_part, zones_part}
 use Rattle.tariff_check.specs.SoundTariff.{HasFrame, IsToldOnce, entries_told, sound_of}
-use Rattle.tariff_check.specs.declared.fault.CheckFault.TheVariants.{Duplicate}
+use Rattle.tariff_check.specs.declared.fault.CheckFault.TheVariants.{Duplicate, NoStep}
 use Rattle.tariff_check.proofs.FirstLine.{passed_by}
 use Rattle.tariff_check.proofs.ChoiceLaws.{entries_again}
-use Rattle.tariff_check.proofs.Staging.{not_if, nowhere, or_false}
+use Rattle.tariff_check.proofs.Staging.{faults_none, not_if, nowhere, or_false}
 
 module _ {A : Type 0} (part : Entry → Option A) where
   -- two entries with the part exclude each other
@@ -113,8 +113,9 @@ some_if (Some s) h = refl
 pub frame_told : (t : Tree) → IsSound t → HasFrame t (sound_of t)
 frame_told t h =
     let ls = t.lines in
-    let once = nowhere Duplicate (first_line is_duplicate ls) (h 2 None (omega arith)) in
-    let there = some_if (step_of ls) (not_if _ _ (h 0 None (omega arith))) in
+    let none = faults_none t h in
+    let once = nowhere Duplicate (first_line is_duplicate ls) (assumption none) in
+    let there = some_if (step_of ls) (not_if _ NoStep (assumption none)) in
     record {
       step = step_by (parts step_part ls) (entries_told step_part ls) (only_one step_part step_excludes ls once)
           (some_step (step_of ls) there)

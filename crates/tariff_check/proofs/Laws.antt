@@ -1,8 +1,9 @@
 -- The laws of the public empty functions.
-use Rattle.std.proofs.Common.{◌≡◌, ◌↔◌, ℕ, ◌<◌, ◌≤◌, ◌∷◌, ◌++◌, true, List, [], Some, None, All, length}
-use Rattle.tariff_syntax.specs.Meaning.{at_hiring, initial_place, minimum_place, rate_place}
+use Rattle.std.proofs.Common.{◌≡◌, ◌↔◌, ℕ, ◌<◌, ◌≤◌, ◌∷◌, ◌++◌, true, List, [], Some, None, All, length, refl}
+use Rattle.tariff_syntax.specs.Choices.{choices, values_of}
+use Rattle.tariff_syntax.specs.Meaning.{at_hiring, choice_place, initial_place, rate_place}
 use Rattle.tariff_syntax.specs.Reads.{RiseInNumber}
-use Rattle.tariff_syntax.specs.Tree.{Tree, Line}
+use Rattle.tariff_syntax.specs.Tree.{Tree, Line, Entry}
 use Rattle.tariff_syntax.specs.Writable.{IsFromTo, IsWritable}
 use Rattle.tariff_syntax.specs.declared.context.Context.{Context}
 use Rattle.tariff_check.specs.Amounts.{HasAmountsOf, IsFitInitial, initial_by}
@@ -10,10 +11,11 @@ use Rattle.tariff_check.specs.Cuts.{IsInOrder, all_cuts, cuts_of, with_each}
 use Rattle.tariff_check.specs.Faults.{IsSound, fault_of}
 use Rattle.tariff_check.specs.Lines.{LineTest, IsFirstLine, IsNowhere, first_line}
 use Rattle.tariff_check.specs.Measure.{IsLeastCommonMultiple, measures_of, measure_of}
-use Rattle.tariff_check.specs.Parts.{initial_part, initials_of, minimum_part, minimums_of, rate_part, rates_of}
+use Rattle.tariff_check.specs.Kinds.{initial_part, initials_of, part_of, rate_part, rates_of}
 use Rattle.tariff_check.specs.Parts.{supplement_of}
 use Rattle.tariff_check.specs.Sound.{HasSoundParts}
-use Rattle.tariff_check.specs.SoundTariff.{HasAllLines, HasFrame, sound_of, supplement_numbered}
+use Rattle.tariff_check.specs.SoundTariff.{HasAllLines, HasFrame, IsInOnePart, sound_of, supplement_numbered}
+use Rattle.tariff_check.specs.declared.choice.ChoiceKind.{ChoiceKind}
 use Rattle.tariff_check.specs.declared.fault.CheckFault.TheVariants.{NoCommonMeasure}
 use Rattle.tariff_check.specs.declared.fault.Dimension.{Dimension}
 use Rattle.tariff_check.proofs.Amounts.{fit_initial, has_amounts}
@@ -22,10 +24,11 @@ use Rattle.tariff_check.proofs.CutOrder.{cuts_in_order, each_in_order}
 use Rattle.tariff_check.proofs.DefaultLines.{choice_always, choice_there, default_initial, default_rate}
 use Rattle.tariff_check.proofs.FirstLine.{first_line_is, nowhere_is, smallest_line}
 use Rattle.tariff_check.proofs.FrameLines.{frame_told}
+use Rattle.tariff_check.proofs.KindLaws.{in_one_part}
 use Rattle.tariff_check.proofs.ChoiceLaws.{all_lines}
 use Rattle.tariff_check.proofs.SoundParts.{sound_parts}
 use Rattle.tariff_check.proofs.Staging.{none_if_sound, sound_if_none}
-use Rattle.tariff_check.proofs.Supplements.{none_of_other_numbers, numbered_is}
+use Rattle.tariff_check.proofs.Supplements.{none_of_other_numbers}
 
 pub faults_name_the_first_line-named : (test : LineTest) (lines : List Line) (number : ℕ)
     → (first_line test lines ≡ Some number) ↔ IsFirstLine test lines number
@@ -76,9 +79,9 @@ pub lines_that_hold_are_there-initial : (t : Tree) (x : Context) → IsSound t
     → (place : ℕ) × (initial_place t x ≡ Some place) × (place < length (initials_of t.lines))
 lines_that_hold_are_there-initial t x sound = choice_always initial_part t (at_hiring x) (default_initial t sound)
 
-pub lines_that_hold_are_there-minimum : (t : Tree) (x : Context) (place : ℕ) → minimum_place t x ≡ Some place
-    → place < length (minimums_of t.lines)
-lines_that_hold_are_there-minimum t x = choice_there minimum_part t (at_hiring x)
+pub lines_that_hold_are_there-there : (kind : ChoiceKind) (t : Tree) (x : Context) (place : ℕ)
+    → choice_place (part_of kind) t x ≡ Some place → place < length (values_of (choices (part_of kind) t.lines))
+lines_that_hold_are_there-there kind = choice_there (part_of kind)
 
 pub hirings_begin_with_first_lines-amounts : (t : Tree) (x : Context) → IsSound t → HasAmountsOf t x (initial_by t x)
 hirings_begin_with_first_lines-amounts = has_amounts
@@ -87,12 +90,15 @@ pub hirings_begin_with_first_lines-fit : (t : Tree) (x : Context) → IsWritable
     → IsFitInitial (initial_by t x)
 hirings_begin_with_first_lines-fit = fit_initial
 
+pub sound_tariffs_are_their_parts-one_part : (entry : Entry) → IsInOnePart entry
+sound_tariffs_are_their_parts-one_part = in_one_part
+
 pub sound_tariffs_are_their_parts-lines : (t : Tree) → HasAllLines t (sound_of t)
 sound_tariffs_are_their_parts-lines = all_lines
 
 pub sound_tariffs_are_their_parts-supplements : (t : Tree) (number : ℕ)
     → supplement_numbered (sound_of t).supplements number ≡ supplement_of t.lines number
-sound_tariffs_are_their_parts-supplements t number = numbered_is t.lines number
+sound_tariffs_are_their_parts-supplements t number = refl
 
 pub sound_tariffs_are_their_parts-frame : (t : Tree) → IsSound t → HasFrame t (sound_of t)
 sound_tariffs_are_their_parts-frame = frame_told

@@ -16,6 +16,8 @@ mod DefaultLines
 mod FirstLine
 -- a sound tariff tells its frame once
 mod FrameLines
+-- what is proved of each kind of line
+mod KindLaws
 -- the laws that the crates above may cite
 pub mod Laws
 -- what holds of each line of a sound tariff whose numbers a text can have

@@ -1,16 +1,19 @@
 -- What holds of the lines of a tariff holds of its parts.
 use Rattle.std.proofs.Common.{◌≡◌, ℕ, ◌+◌, ◌≤◌, Bool, true, false, cond, List, [], ◌∷◌, ◌++◌, Option, Some, None, All}
-use Rattle.std.proofs.Common.{length, refl, ◌∙◌, ap, subst, append_assoc, arith}
+use Rattle.std.proofs.Common.{length, refl, ◌∙◌, ap, sym, subst, append_assoc, arith}
 use Rattle.std.proofs.lemmas.Bool.{leb-false}
 use Rattle.std.proofs.lemmas.List.{append-nil, length-append}
 use Rattle.std.proofs.lemmas.List.Elements.{All-nil, All-cons, All-head, All-tail, filter_map-append}
 use Rattle.std.proofs.lemmas.List.Sums.{sum_by-cons}
 use Rattle.std.specs.List.{cons_option, count_by, slice_get}
 use Rattle.std.specs.Option.{is_some}
-use Rattle.tariff_syntax.specs.Tree.{Line, Entry, holiday, initial, rate, minimum}
+use Rattle.tariff_syntax.specs.Tree.{Line, Entry, holiday}
+use Rattle.tariff_check.specs.Kinds.{part_of}
 use Rattle.tariff_check.specs.Lines.{first_after, is_alike, is_one_too_many, most_alike}
-use Rattle.tariff_check.specs.Parts.{first_part, holiday_part, initial_part, minimum_part, parts, rate_part}
+use Rattle.tariff_check.specs.Parts.{first_part, holiday_part, parts}
+use Rattle.tariff_check.specs.declared.choice.ChoiceKind.{ChoiceKind}
 use Rattle.tariff_check.proofs.FirstLine.{passed_by}
+use Rattle.tariff_check.proofs.KindLaws.{kind_alike, part_is}
 
 parts_by : {A : Type 0} (P : A → Type 0) (o : Option A) (rest : List A) → ((y : A) → o ≡ Some y → P y) → All P rest
     → All P (cons_option o rest)
@@ -75,21 +78,9 @@ few part most kind before (l ∷ ls) h none =
     let next : length (parts part (before ++ l ∷ [])) ≤ most = rw filter_map-append (rw length-append more) in
     rw (← append_assoc before (l ∷ []) ls) (few part most kind (before ++ l ∷ []) ls next here.1)
 
--- the kinds
-pub rates_alike : IsKind rate_part 64
-rates_alike (rate a b c e when) (rate a₂ b₂ c₂ e₂ when₂) h = (refl, refl)
-rates_alike (rate a b c e when) y h = (refl, refl)
-rates_alike x y h = absurd cc
-
-pub initials_alike : IsKind initial_part 64
-initials_alike (initial amount covers when) (initial amount₂ covers₂ when₂) h = (refl, refl)
-initials_alike (initial amount covers when) y h = (refl, refl)
-initials_alike x y h = absurd cc
-
-pub minimums_alike : IsKind minimum_part 64
-minimums_alike (minimum amount when) (minimum amount₂ when₂) h = (refl, refl)
-minimums_alike (minimum amount when) y h = (refl, refl)
-minimums_alike x y h = absurd cc
+-- the sorts of lines
+pub choices_alike : (kind : ChoiceKind) → IsKind (part_of kind) 64
+choices_alike kind x y h = let alike = kind_alike kind x y h in (alike.0, alike.1 ∙ sym (part_is kind y))
 
 pub holidays_alike : IsKind holiday_part 255
 holidays_alike (holiday year month date) (holiday year₂ month₂ date₂) h = (refl, refl)

@@ -13,17 +13,21 @@ use Rattle.tariff_syntax.specs.Writable.{IsFromTo, IsWritable}
 use Rattle.tariff_check.specs.Cells.{bands_between, cells_of}
 use Rattle.tariff_check.specs.Counted.{HasNumbers}
 use Rattle.tariff_check.specs.Cuts.{count_of, most_cuts}
-use Rattle.tariff_check.specs.Faults.{IsSound, cuts_fault, is_step_zero}
+use Rattle.tariff_check.specs.Faults.{IsSound, cuts_fault, faults_of, is_step_zero}
 use Rattle.tariff_check.specs.Lines.{atoms_in, first_line, has_bad_date, has_great_amount, has_measure_zero}
-use Rattle.tariff_check.specs.Lines.{is_after_nothing, is_for_nothing, is_great, is_no_holiday, is_one_too_many}
+use Rattle.tariff_check.specs.Lines.{is_after_nothing, is_for_nothing, is_no_holiday, is_one_too_many}
 use Rattle.tariff_check.specs.Lines.{is_undated}
 use Rattle.tariff_check.specs.Measure.{measure_of, measures_of}
-use Rattle.tariff_check.specs.Parts.{first_part, has_holidays, holiday_part, initial_part}
+use Rattle.tariff_check.specs.Kinds.{IsSoundSaid, is_great, part_of}
+use Rattle.tariff_check.specs.Parts.{first_part, has_holidays, holiday_part}
 use Rattle.tariff_check.specs.declared.values.Supplement.{Supplement}
-use Rattle.tariff_check.specs.Parts.{minimum_part, positions_of, positions_part, rate_part, step_of, step_part}
-use Rattle.tariff_check.specs.Parts.{supplement_part, zones_of, zones_part}
-use Rattle.tariff_check.specs.Sound.{HasSoundParts, IsSoundHoliday, IsSoundInitial, IsSoundRate, IsSoundSupplement}
+use Rattle.tariff_check.specs.Parts.{numbered_supplement, parts, positions_of, positions_part, step_of, step_part}
+use Rattle.tariff_check.specs.Parts.{zones_of, zones_part}
+use Rattle.tariff_check.specs.Sound.{HasSoundParts, IsSoundHoliday, IsSoundSupplement}
+use Rattle.tariff_check.specs.declared.choice.ChoiceKind.{ChoiceKind}
+use Rattle.tariff_check.specs.declared.choice.ChoiceKind.TheVariants.{Rate, Initial, Minimum}
 use Rattle.tariff_check.specs.declared.fault.CheckFault.TheVariants.{AmountTooBig, BadDate, MeasureZero, TooManyLines}
+use Rattle.tariff_check.specs.declared.fault.CheckFault.TheVariants.{NoCommonMeasure, NoStep, StepZero, TooManyCells}
 use Rattle.tariff_check.specs.declared.fault.Dimension.{Dimension}
 use Rattle.tariff_check.specs.declared.fault.Dimension.TheVariants.{MonthDay, Minute, Distance, Time}
 use Rattle.tariff_check.specs.declared.numbers.Numbers.{Numbers}
@@ -31,13 +35,12 @@ use Rattle.tariff_check.proofs.ChoiceLaws.{values_are}
 use Rattle.tariff_check.proofs.CommonMeasure.{sound_measures}
 use Rattle.tariff_check.proofs.DefaultLines.{default_initial, default_rate}
 use Rattle.tariff_check.proofs.FirstLine.{never}
-use Rattle.tariff_check.proofs.LineFacts.{IsGoodEntry, good_atoms, holiday_fact, initial_fact, minimum_fact}
-use Rattle.tariff_check.proofs.LineFacts.{positions_fact, rate_fact, step_fact, supplement_fact, zones_fact}
+use Rattle.tariff_check.proofs.LineFacts.{IsGoodEntry, choice_fact, good_atoms, holiday_fact, positions_fact, step_fact}
+use Rattle.tariff_check.proofs.LineFacts.{supplement_fact, zones_fact}
 use Rattle.tariff_check.proofs.MeasureLaws.{common_grows}
-use Rattle.tariff_check.proofs.PartLaws.{Gives, IsKind, few, first_part_has, holidays_alike, initials_alike}
-use Rattle.tariff_check.proofs.PartLaws.{minimums_alike, parts_all, rates_alike}
-use Rattle.tariff_check.proofs.Staging.{not_if, nowhere, or_false, sound_if_none}
-use Rattle.taxi_units.specs.Money.{largest_amount}
+use Rattle.tariff_check.proofs.PartLaws.{Gives, choices_alike, few, first_part_has, holidays_alike, parts_all}
+use Rattle.tariff_check.proofs.Staging.{AreNone, faults_none, not_if, nowhere, or_false, sound_if_none}
+use Rattle.tariff_check.proofs.Supplements.{numbered_has}
 
 -- each line is good
 abbrev IsGoodLine : Line → Type 0
@@ -46,9 +49,10 @@ IsGoodLine l = IsGoodEntry l.entry
 lines_good : (t : Tree) → IsWritable t → IsSound t → All IsGoodLine t.lines
 lines_good t w h =
     let ls = t.lines in
-    let bad_date = nowhere BadDate (first_line has_bad_date ls) (h 8 None (omega arith)) in
-    let great = nowhere AmountTooBig (first_line has_great_amount ls) (h 9 None (omega arith)) in
-    let zero_measure = nowhere MeasureZero (first_line has_measure_zero ls) (h 10 None (omega arith)) in
+    let none = faults_none t h in
+    let bad_date = nowhere BadDate (first_line has_bad_date ls) (assumption none) in
+    let great = nowhere AmountTooBig (first_line has_great_amount ls) (assumption none) in
+    let zero_measure = nowhere MeasureZero (first_line has_measure_zero ls) (assumption none) in
     let holidays = never has_bad_date is_no_holiday (λ before x e. (or_false _ _ e).0) [] ls bad_date in
     let dates = never has_bad_date (λ (x : Entry). list_any is_undated (atoms_in x))
     (λ before x e. (or_false _ _ e).1) [] ls bad_date in
@@ -71,13 +75,15 @@ given : {A : Type 0} (part : Entry → Option A) (P : A → Type 0) (ls : List L
 given part P ls fact good = λ (k : ℕ) (d : Line) within. fact _ (good k d within)
 
 -- the choices of a kind are sound, and no more than there may be
-choices_sound : {V : Type 0} (part : Entry → Option V) (P : V → Type 0) (most : ℕ) → IsKind part most
-    → (ls : List Line) → ((x : Entry) → IsGoodEntry x → (v : V) → part x ≡ Some v → P v) → All IsGoodLine ls
-    → first_line is_one_too_many ls ≡ None
-    → All P (values_of (choices part ls)) × (length (values_of (choices part ls)) ≤ most)
-choices_sound part P most kind ls fact good many =
-    rw (values_are part ls)
-    (parts_all part P ls (given part P ls fact good), few part most kind [] ls (omega arith) many)
+choices_sound : (kind : ChoiceKind) (ls : List Line) → All IsGoodLine ls → first_line is_one_too_many ls ≡ None
+    → All (IsSoundSaid kind) (values_of (choices (part_of kind) ls))
+    × (length (values_of (choices (part_of kind) ls)) ≤ 64)
+choices_sound kind ls good many =
+    let part = part_of kind in
+    rw (values_are part ls) (
+      parts_all part (IsSoundSaid kind) ls (given part (IsSoundSaid kind) ls (choice_fact kind) good),
+      few part 64 (choices_alike kind) [] ls (omega arith) many,
+    )
 
 -- a number of 1 to 9, or 1 without a line
 number_or_one : (o : Option ℕ) → ((n : ℕ) → o ≡ Some n → IsFromTo 1 9 n) → IsFromTo 1 9 (unwrap_or o 1)
@@ -96,11 +102,12 @@ cuts_few : (ls : List Line) (dimension : Dimension) → cuts_fault ls dimension 
     → count_of dimension ls ≤ most_cuts dimension
 cuts_few ls dimension h = ltb-false (most_cuts dimension) (count_of dimension ls) (not_if _ _ h)
 
-all_cuts_few : (t : Tree) → IsSound t → (dimension : Dimension) → count_of dimension t.lines ≤ most_cuts dimension
-all_cuts_few t h MonthDay = cuts_few t.lines MonthDay (h 12 None (omega arith))
-all_cuts_few t h Minute = cuts_few t.lines Minute (h 13 None (omega arith))
-all_cuts_few t h Distance = cuts_few t.lines Distance (h 14 None (omega arith))
-all_cuts_few t h Time = cuts_few t.lines Time (h 15 None (omega arith))
+all_cuts_few : (ls : List Line) → AreNone (faults_of ls) → (dimension : Dimension)
+    → count_of dimension ls ≤ most_cuts dimension
+all_cuts_few ls none MonthDay = cuts_few ls MonthDay (assumption none)
+all_cuts_few ls none Minute = cuts_few ls Minute (assumption none)
+all_cuts_few ls none Distance = cuts_few ls Distance (assumption none)
+all_cuts_few ls none Time = cuts_few ls Time (assumption none)
 
 kinds_some : (b : Bool) → 0 < cond b 2 1
 kinds_some true = omega arith
@@ -116,19 +123,19 @@ cells_some ls p z =
 pub sound_parts : (t : Tree) → IsWritable t → IsSound t → HasSoundParts t
 sound_parts t w h =
     let ls = t.lines in
+    let none = faults_none t h in
     let good = lines_good t w h in
-    let many = nowhere TooManyLines (first_line is_one_too_many ls) (h 3 None (omega arith)) in
+    let many = nowhere TooManyLines (first_line is_one_too_many ls) (assumption none) in
     let positions = number_or_one (first_part positions_part ls) (λ (n : ℕ) e. first_part_has positions_part
     (IsFromTo 1 9) ls n (given positions_part (IsFromTo 1 9) ls positions_fact good) e) in
     let zones = number_or_one (first_part zones_part ls) (λ (n : ℕ) e. first_part_has zones_part (IsFromTo 1 9) ls n
     (given zones_part (IsFromTo 1 9) ls zones_fact good) e) in
-    let rates = choices_sound rate_part IsSoundRate 64 rates_alike ls rate_fact good many in
-    let initials = choices_sound initial_part IsSoundInitial 64 initials_alike ls initial_fact good many in
-    let minimums =
-    choices_sound minimum_part (λ amount. amount ≤ largest_amount) 64 minimums_alike ls minimum_fact good many in
+    let rates = choices_sound Rate ls good many in
+    let initials = choices_sound Initial ls good many in
+    let minimums = choices_sound Minimum ls good many in
     record {
       decimals = w.decimals;
-      step = step_there (step_of ls) (not_if _ _ (h 0 None (omega arith))) (not_if _ _ (h 1 None (omega arith)))
+      step = step_there (step_of ls) (not_if _ NoStep (assumption none)) (not_if _ StepZero (assumption none))
           (λ (s : ℕ × Rounding) e. first_part_has step_part (λ (s : ℕ × Rounding). s.0 ≤ 10 ^ 6) ls s
           (given step_part (λ (s : ℕ × Rounding). s.0 ≤ 10 ^ 6) ls step_fact good) e);
       positions = positions;
@@ -141,17 +148,21 @@ sound_parts t w h =
       default_initial = default_initial t h;
       minimums = minimums.0;
       minimum_count = minimums.1;
-      supplements = λ (number : ℕ) (s : Supplement) e. first_part_has (supplement_part number) IsSoundSupplement
-          ls s (given (supplement_part number) IsSoundSupplement ls (supplement_fact number) good) e;
+      supplements = λ (number : ℕ) (s : Supplement) e. numbered_has IsSoundSupplement (parts numbered_supplement ls)
+          number s (parts_all numbered_supplement (λ (x : ℕ × Supplement). IsSoundSupplement x.1) ls
+          (given numbered_supplement (λ (x : ℕ × Supplement). IsSoundSupplement x.1) ls supplement_fact good)) e;
       holidays = parts_all holiday_part IsSoundHoliday ls (given holiday_part IsSoundHoliday ls holiday_fact good);
       holiday_count = few holiday_part 255 holidays_alike [] ls (omega arith) many;
       atoms = λ (k : ℕ) (d : Line) within. good_atoms _ (good k d within);
       measure = (
         common_grows 1 (measures_of ls) (omega arith) (sound_measures t h),
-        ltb-false (10 ^ 18) (measure_of ls) (not_if _ _ (h 11 None (omega arith))),
+        ltb-false (10 ^ 18) (measure_of ls) (not_if _ NoCommonMeasure (assumption none)),
       );
-      cuts = all_cuts_few t h;
-      cells = (cells_some ls positions.0 zones.0, ltb-false 64512 (cells_of ls) (not_if _ _ (h 16 None (omega arith))));
+      cuts = all_cuts_few ls none;
+      cells = (
+        cells_some ls positions.0 zones.0,
+        ltb-false 64512 (cells_of ls) (not_if _ (TooManyCells (cells_of ls)) (assumption none)),
+      );
     }
 
 -- and so has one whose numbers are known

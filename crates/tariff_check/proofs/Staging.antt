@@ -1,21 +1,18 @@
 -- The first fault, stage by stage.
 use Rattle.std.proofs.Common.{◌≡◌, ℕ, ◌≤◌, ◌^◌, ◌||◌, Bool, true, false, List, [], ◌∷◌, ◌++◌, Option, Some, None, All}
-use Rattle.std.proofs.Common.{refl, ap, sym, subst, ◌∙◌}
+use Rattle.std.proofs.Common.{refl, ap, sym, subst, ◌∙◌, arith}
 use Rattle.std.proofs.lemmas.List.Elements.{All-nil, All-cons, All-head, All-tail}
 use Rattle.std.specs.Option.{option_or}
 use Rattle.tariff_syntax.specs.Tree.{Tree, Line}
 use Rattle.tariff_check.specs.Faults.{HasNone, faults_before_cuts, faults_from_cuts, faults_of, fault_of, first_some}
-use Rattle.tariff_check.specs.Faults.{fault_if, fault_at, IsSound}
+use Rattle.tariff_check.specs.Faults.{fault_if, fault_at, number_faults, IsSound}
 use Rattle.tariff_check.specs.Cells.{cells_of}
-use Rattle.tariff_check.specs.Lines.{first_line, has_bad_date, has_great_amount, has_measure_zero, is_for_nothing}
+use Rattle.tariff_check.specs.Lines.{first_line, has_measure_zero, is_for_nothing}
 use Rattle.tariff_check.specs.Measure.{measure_of}
 use Rattle.tariff_check.specs.Stages.{step_fault, line_fault, default_fault, number_fault, cut_fault, early_fault}
 use Rattle.tariff_check.specs.Stages.{late_fault}
-use Rattle.tariff_check.specs.declared.fault.CheckFault.TheVariants.{NoStep, StepZero, Duplicate, TooManyLines}
-use Rattle.tariff_check.specs.declared.fault.CheckFault.TheVariants.{UnknownNumber, NoDefaultRate, NoDefaultInitial}
-use Rattle.tariff_check.specs.declared.fault.CheckFault.TheVariants.{LineAfterDefault, BadDate, AmountTooBig}
-use Rattle.tariff_check.specs.declared.fault.CheckFault.TheVariants.{MeasureZero, NoCommonMeasure, TooManyCells}
-use Rattle.tariff_check.specs.declared.fault.CheckFault.TheVariants.{NoMemory}
+use Rattle.tariff_check.specs.declared.fault.CheckFault.TheVariants.{MeasureZero, NoCommonMeasure, NoMemory}
+use Rattle.tariff_check.specs.declared.fault.CheckFault.TheVariants.{TooManyCells}
 use Rattle.tariff_check.proofs.FirstLine.{never}
 use Rattle.tariff_check.proofs.MeasureLaws.{IsMeasured}
 use Rattle.std.proofs.lemmas.Bool.{le-ltb}
@@ -26,7 +23,7 @@ or_assoc : {A : Type 0} (x y z : Option A) → option_or (option_or x y) z ≡ o
 or_assoc None y z = refl
 or_assoc (Some a) y z = refl
 
-or_none : {A : Type 0} (x : Option A) → option_or x None ≡ x
+pub or_none : {A : Type 0} (x : Option A) → option_or x None ≡ x
 or_none None = refl
 or_none (Some a) = refl
 
@@ -59,6 +56,20 @@ sound_if_none t h = none_each (faults_of t.lines) h
 pub none_if_sound : (t : Tree) → IsSound t → fault_of t ≡ None
 none_if_sound t h = none_first (faults_of t.lines) h
 
+-- each of some values is none, one beside the other: the tactic `assumption` finds each by what it says
+abbrev pub AreNone : {A : Type 0} → List (Option A) → Type 0
+AreNone [] = Unit {0}
+AreNone (x ∷ xs) = (x ≡ None) × AreNone xs
+
+are_none : {A : Type 0} (xs : List (Option A)) → All (λ (x : Option A). x ≡ None) xs → AreNone xs
+are_none {A} [] h = tt
+are_none {A} (x ∷ xs) h =
+    (All-head (λ (y : Option A). y ≡ None) x xs h, are_none xs (All-tail (λ (y : Option A). y ≡ None) x xs h))
+
+-- so are the faults of a sound tariff
+pub faults_none : (t : Tree) → IsSound t → AreNone (faults_of t.lines)
+faults_none t h = are_none (faults_of t.lines) h
+
 -- what a fault that isn't there tells
 pub not_if : (b : Bool) (fault : CheckFault) → fault_if b fault ≡ None → b ≡ false
 not_if true fault h = absurd cc
@@ -78,10 +89,9 @@ measured_if ls h =
     let after_step = or_parts (step_fault ls) _ h in
     let after_line = or_parts (line_fault ls) _ after_step.1 in
     let after_default = or_parts (default_fault ls) (number_fault ls) after_line.1 in
-    let after_dates = or_parts (fault_at BadDate (first_line has_bad_date ls)) _ after_default.1 in
-    let after_amounts = or_parts (fault_at AmountTooBig (first_line has_great_amount ls)) _ after_dates.1 in
+    let none = are_none (number_faults ls) (none_each (number_faults ls) after_default.1) in
     never has_measure_zero is_for_nothing (λ before x e. (or_false (is_for_nothing x) _ e).0) [] ls
-    (nowhere MeasureZero (first_line has_measure_zero ls) after_amounts.1)
+    (nowhere MeasureZero (first_line has_measure_zero ls) (assumption none))
 
 -- the first fault is one of lines
 pub early_is_first : (ls : List Line) (fault : CheckFault) → Some fault ≡ early_fault ls
@@ -115,30 +125,11 @@ is_late fault = false
 abbrev IsEarly : Option CheckFault → Type 0
 IsEarly o = (fault : CheckFault) → o ≡ Some fault → is_late fault ≡ false
 
-early_or : (x y : Option CheckFault) → IsEarly x → IsEarly y → IsEarly (option_or x y)
-early_or None y first second = second
-early_or (Some f) y first second = first
-
-early_if : (b : Bool) (f : CheckFault) → is_late f ≡ false → IsEarly (fault_if b f)
-early_if true f early = λ fault e. let same : f ≡ fault = cc in subst (λ g. is_late g ≡ false) same early
-early_if false f early = λ fault e. absurd cc
-
-early_at : (f : ℕ → CheckFault) (line : Option ℕ) → ((n : ℕ) → is_late (f n) ≡ false) → IsEarly (fault_at f line)
-early_at f None early = λ fault e. absurd cc
-early_at f (Some n) early = λ fault e. let same : f n ≡ fault = cc in subst (λ g. is_late g ≡ false) same (early n)
-
 step_is_early : (ls : List Line) → IsEarly (step_fault ls)
-step_is_early ls = early_or _ _ (early_if _ NoStep refl) (early_if _ StepZero refl)
+step_is_early ls fault is = grind arith
 
 early_is_early : (ls : List Line) → IsEarly (early_fault ls)
-early_is_early ls =
-    early_or _ _ (step_is_early ls)
-    (early_or _ _ (early_or _ _ (early_at Duplicate _ (λ n. refl))
-    (early_or _ _ (early_at TooManyLines _ (λ n. refl)) (early_at UnknownNumber _ (λ n. refl))))
-    (early_or _ _ (early_or _ _ (early_if _ NoDefaultRate refl)
-    (early_or _ _ (early_if _ NoDefaultInitial refl) (early_at LineAfterDefault _ (λ n. refl))))
-    (early_or _ _ (early_at BadDate _ (λ n. refl))
-    (early_or _ _ (early_at AmountTooBig _ (λ n. refl)) (early_at MeasureZero _ (λ n. refl))))))
+early_is_early ls fault is = grind arith
 
 late_false : (fault late : CheckFault) → is_late fault ≡ false → is_late late ≡ true → fault ≡ late → ⊥
 late_false fault late early is same = absurd (cc (subst (λ f. is_late f ≡ false) same early))

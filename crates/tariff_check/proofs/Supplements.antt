@@ -1,51 +1,46 @@
--- Supplements outside the numbers that a text can have, and the one of a number among the parts.
-use Rattle.std.proofs.Common.{◌≡◌, ℕ, ◌==◌, Bool, List, [], ◌∷◌, Some, None, true, false, cond, All, refl}
+-- Supplements outside the numbers that a text can have, and what holds of each holds of the one of a number.
+use Rattle.std.proofs.Common.{◌≡◌, ℕ, ◌==◌, Bool, List, [], ◌∷◌, Option, Some, None, true, false, cond, All, refl}
+use Rattle.std.proofs.Common.{subst}
 use Rattle.std.proofs.lemmas.Bool.{ne_eqb}
 use Rattle.std.proofs.lemmas.List.Elements.{All-head, All-tail}
-use Rattle.std.specs.List.{cons_option, find, slice_get}
+use Rattle.std.specs.List.{cons_option, find}
 use Rattle.std.specs.Option.{option_map}
-use Rattle.tariff_check.specs.Parts.{parts, supplement_of, supplement_part}
+use Rattle.tariff_check.specs.Parts.{numbered_supplement, parts, supplement_numbered, supplement_of}
 use Rattle.tariff_check.specs.declared.values.Supplement.{Supplement}
-use Rattle.tariff_check.specs.SoundTariff.{numbered_supplement, supplement_numbered}
 use Rattle.tariff_syntax.specs.Tree.{Tree, Line, Entry, supplement}
 use Rattle.tariff_syntax.specs.Writable.{IsFromTo, IsWritable, IsWritableEntry}
 
-no_such_line : (n : ℕ) (entry : Entry) → (IsFromTo 1 16 n → ⊥) → IsWritableEntry entry → supplement_part n entry ≡ None
-no_such_line n (supplement number amount most) out writable =
+none_more : (n : ℕ) (entry : Entry) (rest : List (ℕ × Supplement)) → (IsFromTo 1 16 n → ⊥) → IsWritableEntry entry
+    → supplement_numbered rest n ≡ None
+    → supplement_numbered (cons_option (numbered_supplement entry) rest) n ≡ None
+none_more n (supplement number amount most) rest out writable h =
     let other : n == number ≡ false = ne_eqb n number (λ same. out (rw same writable.0)) in
-    rw other refl
-no_such_line n entry out writable = refl
+    rw other h
+none_more n entry rest out writable h = h
 
-no_such_lines : (n : ℕ) (lines : List Line) → (IsFromTo 1 16 n → ⊥) → All (λ (l : Line). IsWritableEntry l.entry) lines
-    → parts (supplement_part n) lines ≡ []
-no_such_lines n [] out writable = refl
-no_such_lines n (l ∷ ls) out writable =
+none_numbered : (n : ℕ) (lines : List Line) → (IsFromTo 1 16 n → ⊥) → All (λ (l : Line). IsWritableEntry l.entry) lines
+    → supplement_of lines n ≡ None
+none_numbered n [] out writable = refl
+none_numbered n (l ∷ ls) out writable =
     let P = λ (l : Line). IsWritableEntry l.entry in
-    rw (no_such_line n l.entry out (All-head P l ls writable)) (no_such_lines n ls out (All-tail P l ls writable))
+    none_more n l.entry (parts numbered_supplement ls) out (All-head P l ls writable)
+    (none_numbered n ls out (All-tail P l ls writable))
 
 -- a tariff has no supplement of another number than 1 to 16
 pub none_of_other_numbers : (t : Tree) (n : ℕ) → IsWritable t → (IsFromTo 1 16 n → ⊥) → supplement_of t.lines n ≡ None
-none_of_other_numbers t n writable out = rw (no_such_lines n t.lines out writable.lines) refl
+none_of_other_numbers t n writable out = none_numbered n t.lines out writable.lines
 
-numbered_by : (n number : ℕ) (said : Supplement) (b : Bool) (rest : List (ℕ × Supplement))
-    (parts : List Supplement)
-    → supplement_numbered rest n ≡ slice_get parts 0
-    → option_map (λ (s : ℕ × Supplement). s.1)
-    (cond b (Some (number, said)) (find (λ (s : ℕ × Supplement). n == s.0) rest))
-    ≡ slice_get (cons_option (cond b (Some said) None) parts) 0
-numbered_by n number said true rest parts h = refl
-numbered_by n number said false rest parts h = h
+has_by : (P : Supplement → Type 0) (b : Bool) (said : ℕ × Supplement) (found : Option (ℕ × Supplement)) (s : Supplement)
+    → P said.1 → (option_map (λ (x : ℕ × Supplement). x.1) found ≡ Some s → P s)
+    → option_map (λ (x : ℕ × Supplement). x.1) (cond b (Some said) found) ≡ Some s → P s
+has_by P true said found s here there e = let same : said.1 ≡ s = cc in subst P same here
+has_by P false said found s here there e = there e
 
-numbered_more : (n : ℕ) (entry : Entry) (ls : List Line)
-    → supplement_numbered (parts numbered_supplement ls) n ≡ supplement_of ls n
-    → supplement_numbered (cons_option (numbered_supplement entry) (parts numbered_supplement ls)) n
-    ≡ slice_get (cons_option (supplement_part n entry) (parts (supplement_part n) ls)) 0
-numbered_more n (supplement number amount most) ls h =
-    numbered_by n number (record { amount = amount; max = most }) (n == number) (parts numbered_supplement ls)
-    (parts (supplement_part n) ls) h
-numbered_more n entry ls h = h
-
--- the first supplement of a number is that of the first line with the number
-pub numbered_is : (ls : List Line) (n : ℕ) → supplement_numbered (parts numbered_supplement ls) n ≡ supplement_of ls n
-numbered_is [] n = refl
-numbered_is (l ∷ ls) n = numbered_more n l.entry ls (numbered_is ls n)
+-- what holds of each supplement holds of the one of a number
+pub numbered_has : (P : Supplement → Type 0) (all : List (ℕ × Supplement)) (n : ℕ) (s : Supplement)
+    → All (λ (x : ℕ × Supplement). P x.1) all → supplement_numbered all n ≡ Some s → P s
+numbered_has P [] n s each e = absurd cc
+numbered_has P (said ∷ rest) n s each e =
+    let Each = λ (x : ℕ × Supplement). P x.1 in
+    has_by P (n == said.0) said (find (λ (x : ℕ × Supplement). n == x.0) rest) s (All-head Each said rest each)
+    (λ more. numbered_has P rest n s (All-tail Each said rest each) more) e

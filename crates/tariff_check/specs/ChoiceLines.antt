@@ -1,24 +1,10 @@
 -- Rules: which choices the lines of a tariff give, over all kinds.
-use Rattle.std.specs.Prelude.{ℕ, ◌++◌, Bool, true, false, List, [], ◌∷◌, Option, Some, None, count_by, option_map}
+use Rattle.std.specs.Prelude.{ℕ, ◌++◌, List, [], ◌∷◌, Option, count_by, option_map}
 use Rattle.std.specs.List.{cons_option}
-use Rattle.tariff_syntax.specs.Tree.{Line, Entry, initial, rate, minimum}
+use Rattle.tariff_syntax.specs.Tree.{Line}
+use Rattle.tariff_check.specs.Kinds.{is_of, kind_of}
 use Rattle.tariff_check.specs.declared.choice.ChoiceKind.{ChoiceKind}
-use Rattle.tariff_check.specs.declared.choice.ChoiceKind.TheVariants.{Rate, Initial, Minimum}
 use Rattle.tariff_check.specs.declared.choice.ChoiceLine.{ChoiceLine}
-
--- the kind of an entry of which the first that holds is the one that counts, if it is of one
-abbrev pub kind_of : Entry → Option ChoiceKind
-kind_of (rate a b c e when) = Some Rate
-kind_of (initial amount covers when) = Some Initial
-kind_of (minimum amount when) = Some Minimum
-kind_of _ = None
-
--- the test `is_of` is true if an entry is of a kind
-abbrev pub is_of : ChoiceKind → Entry → Bool
-is_of Rate (rate a b c e when) = true
-is_of Initial (initial amount covers when) = true
-is_of Minimum (minimum amount when) = true
-is_of kind entry = false
 
 -- the place of a line among those of a kind is how many of them stand before it
 abbrev pub place_behind : ChoiceKind → (before : List Line) → ℕ

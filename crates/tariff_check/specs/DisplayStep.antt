@@ -1,12 +1,10 @@
 -- Rules: the display step of a tariff.
 use Rattle.std.specs.Prelude.{ℕ}
-use Rattle.std.specs.Option.{unwrap_or}
 use Rattle.drive_modes.specs.declared.meterage.Rounding.{Rounding}
-use Rattle.drive_modes.specs.declared.meterage.Rounding.TheVariants.{Behind}
-use Rattle.tariff_check.specs.Parts.{step_of}
+use Rattle.tariff_check.specs.SoundTariff.{sound_of}
 use Rattle.tariff_syntax.specs.Tree.{Tree}
 
--- the display step of a tariff, in the smallest units of money, with the rounding to it, is that of its first `step`
--- line, and 0 without one, which a sound tariff has
+-- the display step of a tariff, in the smallest units of money, with the rounding to it, is the one of its parts, which
+-- is that of its first `step` line, and 0 without one, which a sound tariff has
 abbrev pub display_step : Tree → ℕ × Rounding
-display_step t = unwrap_or (step_of t.lines) (0, Behind)
+display_step t = (sound_of t).step

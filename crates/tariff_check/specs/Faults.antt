@@ -46,22 +46,42 @@ cuts_fault lines dimension =
 abbrev pub has_default : {V : Type 0} → (Entry → Option V) → List Line → Bool
 has_default part lines = list_any is_none (conditions_of (choices part lines))
 
+-- the faults of the display step, each there or not
+abbrev pub step_faults : List Line → List (Option CheckFault)
+step_faults ls =
+    fault_if (is_none (step_of ls)) NoStep
+    ∷ fault_if (is_step_zero (step_of ls)) StepZero
+    ∷ []
+
+-- the faults of a line that is there too often, or that names what isn't there
+abbrev pub line_faults : List Line → List (Option CheckFault)
+line_faults ls =
+    fault_at Duplicate (first_line is_duplicate ls)
+    ∷ fault_at TooManyLines (first_line is_one_too_many ls)
+    ∷ fault_at UnknownNumber (first_line (names_unknown (positions_of ls) (zones_of ls)) ls)
+    ∷ []
+
+-- the faults of a default that isn't there, or of a line after it
+abbrev pub default_faults : List Line → List (Option CheckFault)
+default_faults ls =
+    fault_if (not (has_default rate_part ls)) NoDefaultRate
+    ∷ fault_if (not (has_default initial_part ls)) NoDefaultInitial
+    ∷ fault_at LineAfterDefault (first_line is_after_default ls)
+    ∷ []
+
+-- the faults of a line with a number that it may not have
+abbrev pub number_faults : List Line → List (Option CheckFault)
+number_faults ls =
+    fault_at BadDate (first_line has_bad_date ls)
+    ∷ fault_at AmountTooBig (first_line has_great_amount ls)
+    ∷ fault_at MeasureZero (first_line has_measure_zero ls)
+    ∷ []
+
 -- the faults before those of cuts, each there or not, stand in the order of the table of faults
 abbrev pub faults_before_cuts : List Line → List (Option CheckFault)
 faults_before_cuts ls =
-    fault_if (is_none (step_of ls)) NoStep
-    ∷ fault_if (is_step_zero (step_of ls)) StepZero
-    ∷ fault_at Duplicate (first_line is_duplicate ls)
-    ∷ fault_at TooManyLines (first_line is_one_too_many ls)
-    ∷ fault_at UnknownNumber (first_line (names_unknown (positions_of ls) (zones_of ls)) ls)
-    ∷ fault_if (not (has_default rate_part ls)) NoDefaultRate
-    ∷ fault_if (not (has_default initial_part ls)) NoDefaultInitial
-    ∷ fault_at LineAfterDefault (first_line is_after_default ls)
-    ∷ fault_at BadDate (first_line has_bad_date ls)
-    ∷ fault_at AmountTooBig (first_line has_great_amount ls)
-    ∷ fault_at MeasureZero (first_line has_measure_zero ls)
-    ∷ fault_if (nat_lt (10 ^ 18) (measure_of ls)) NoCommonMeasure
-    ∷ []
+    step_faults ls ++ (line_faults ls ++ (default_faults ls ++ (number_faults ls
+    ++ fault_if (nat_lt (10 ^ 18) (measure_of ls)) NoCommonMeasure ∷ [])))
 
 -- the last faults, each there or not, are those of the cuts of each dimension, and of the number of cells
 abbrev pub faults_from_cuts : List Line → List (Option CheckFault)

@@ -3,7 +3,7 @@ use Rattle.std.specs.Prelude.{Bool, true, false, ◌&&◌, ◌==◌, List, find,
 use Rattle.tariff_syntax.specs.Meaning.{holds_if}
 use Rattle.tariff_syntax.specs.Tree.{Line, Entry, step, positions, zones, supplement}
 use Rattle.tariff_syntax.specs.declared.context.Context.{Context}
-use Rattle.tariff_check.specs.ChoiceLines.{is_of}
+use Rattle.tariff_check.specs.Kinds.{is_of}
 use Rattle.tariff_check.specs.Parts.{when_part}
 use Rattle.tariff_check.specs.declared.choice.ChoiceKind.{ChoiceKind}
 use Rattle.tariff_check.specs.declared.found_lines.FramePart.{FramePart}

@@ -6,11 +6,13 @@ pub mod Cuts
 pub mod DisplayStep
 pub mod Faults
 pub mod FoundLines
+pub mod Kinds
 pub mod Lines
 pub mod Measure
 pub mod Parts
 pub mod Resolved
 pub mod Rules
 pub mod Sound
+pub mod SoundLookups
 pub mod SoundTariff
 pub mod Stages

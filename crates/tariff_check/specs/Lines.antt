@@ -1,27 +1,21 @@
 -- Rules: what may be wrong with a line, where the lines before it are known.
-use Rattle.std.specs.Prelude.{◌≡◌, ℕ, ◌^◌, Bool, true, false, not, ◌&&◌, ◌||◌, ◌==◌, if◌then◌else◌, nat_le, nat_lt}
-use Rattle.std.specs.Prelude.{List, [], ◌∷◌, ◌++◌, Option, Some, None}
+use Rattle.std.specs.Prelude.{◌≡◌, ℕ, Bool, true, false, not, ◌&&◌, ◌||◌, ◌==◌, if◌then◌else◌, nat_le, nat_lt}
+use Rattle.std.specs.Prelude.{List, [], ◌∷◌, ◌++◌, Option, Some, None, is_none}
 use Rattle.std.specs.List.{list_any, count_by}
 use Rattle.taxi_units.specs.Calendar.{is_date}
-use Rattle.taxi_units.specs.Money.{largest_amount}
 use Rattle.tariff_syntax.specs.Condition as tree
 use Rattle.tariff_syntax.specs.Condition.{Condition}
-use Rattle.tariff_syntax.specs.Tree.{Line, Entry, step, positions, zones, holiday, supplement, initial, rate, minimum}
+use Rattle.tariff_syntax.specs.Tree.{Line, Entry, step, positions, zones, holiday, supplement, rate}
+use Rattle.tariff_check.specs.Kinds.{is_great, is_of, kind_of}
 use Rattle.tariff_check.specs.Parts.{when_part}
+use Rattle.tariff_check.specs.declared.choice.ChoiceKind.{ChoiceKind}
 
 -- the atoms of a condition are its parts without `not`, `and` and `or`, in order
 abbrev pub atoms_of : Condition → List Condition
 atoms_of (tree.and left right) = atoms_of left ++ atoms_of right
 atoms_of (tree.or left right) = atoms_of left ++ atoms_of right
 atoms_of (tree.not inner) = atoms_of inner
-atoms_of (tree.position number) = tree.position number ∷ []
-atoms_of (tree.zone number) = tree.zone number ∷ []
-atoms_of (tree.time from to) = tree.time from to ∷ []
-atoms_of (tree.day from to) = tree.day from to ∷ []
-atoms_of (tree.date from_month from_date to_month to_date) = tree.date from_month from_date to_month to_date ∷ []
-atoms_of tree.holiday = tree.holiday ∷ []
-atoms_of (tree.after_distance decimetres) = tree.after_distance decimetres ∷ []
-atoms_of (tree.after_time tenths) = tree.after_time tenths ∷ []
+atoms_of atom = atom ∷ []
 
 -- the atoms of a condition that may be none are its own, and none for none
 abbrev pub atoms_if : Option Condition → List Condition
@@ -43,16 +37,17 @@ excludes (holiday year month date) (holiday year₂ month₂ date₂) =
     (year == year₂) && ((month == month₂) && (date == date₂))
 excludes entry other = false
 
--- the test `is_alike` is true if two lines are both rates, both initial hire fees, both minimum fares or both
--- holidays
-abbrev pub is_alike : Entry → Entry → Bool
-is_alike (rate a b c e when) (rate a₂ b₂ c₂ e₂ when₂) = true
-is_alike (initial amount covers when) (initial amount₂ covers₂ when₂) = true
-is_alike (minimum amount when) (minimum amount₂ when₂) = true
-is_alike (holiday year month date) (holiday year₂ month₂ date₂) = true
-is_alike entry other = false
+-- the test `is_of_same` is true if a line is of a kind, which may be none
+abbrev pub is_of_same : Option ChoiceKind → Entry → Bool
+is_of_same None other = false
+is_of_same (Some kind) other = is_of kind other
 
--- a tariff may have at most 255 holidays, 64 rates, 64 initial hire fees and 64 minimum fares
+-- the test `is_alike` is true if two lines are of one kind, as two rates are, or both holidays
+abbrev pub is_alike : Entry → Entry → Bool
+is_alike (holiday year month date) (holiday year₂ month₂ date₂) = true
+is_alike entry other = is_of_same (kind_of entry) other
+
+-- a tariff may have at most 255 holidays, and 64 lines of each kind
 abbrev pub most_alike : Entry → ℕ
 most_alike (holiday year month date) = 255
 most_alike entry = 64
@@ -60,10 +55,7 @@ most_alike entry = 64
 -- the test `is_default_for` is true if the second line is the default for the first: it is of the same kind and has
 -- no condition
 abbrev pub is_default_for : Entry → Entry → Bool
-is_default_for (rate a b c e when) (rate a₂ b₂ c₂ e₂ None) = true
-is_default_for (initial amount covers when) (initial amount₂ covers₂ None) = true
-is_default_for (minimum amount when) (minimum amount₂ None) = true
-is_default_for entry other = false
+is_default_for entry other = is_of_same (kind_of entry) other && is_none (when_part other)
 
 -- the test `is_unknown` is true if an atom names a position or a zone above the highest
 abbrev pub is_unknown : (highest_position highest_zone : ℕ) → Condition → Bool
@@ -87,16 +79,6 @@ is_after_nothing atom = false
 abbrev pub is_no_holiday : Entry → Bool
 is_no_holiday (holiday year month date) = not (nat_le 2000 year && (nat_le year 2199 && is_date year month date))
 is_no_holiday entry = false
-
--- the test `is_great` is true if a line has an amount that is too great: a step, an amount of a rate or a supplement
--- above 1,000,000, or an initial hire fee, its cover or a minimum fare above 99,999,999
-abbrev pub is_great : Entry → Bool
-is_great (step amount rounding) = nat_lt (10 ^ 6) amount
-is_great (supplement number amount most) = nat_lt (10 ^ 6) amount
-is_great (rate a b c e when) = nat_lt (10 ^ 6) a || nat_lt (10 ^ 6) c
-is_great (initial amount covers when) = nat_lt largest_amount amount || nat_lt largest_amount covers
-is_great (minimum amount when) = nat_lt largest_amount amount
-is_great entry = false
 
 -- the test `is_for_nothing` is true if a line is a rate with a measure of 0
 abbrev pub is_for_nothing : Entry → Bool

@@ -1,12 +1,12 @@
 -- Rules: the parts of a tariff, from its lines.
-use Rattle.std.specs.Prelude.{ℕ, Bool, true, ◌==◌, if◌then◌else◌, List, Option, Some, None}
+use Rattle.std.specs.Prelude.{ℕ, Bool, true, ◌==◌, List, find, Option, Some, None}
 use Rattle.std.specs.List.{filter_map, slice_get, list_any}
-use Rattle.std.specs.Option.{unwrap_or}
+use Rattle.std.specs.Option.{option_map, unwrap_or}
 use Rattle.drive_modes.specs.declared.meterage.Rounding.{Rounding}
-use Rattle.tariff_syntax.specs.Choices.{choices, values_of}
-pub use Rattle.tariff_syntax.specs.Choices.{InitialNumbers, RateNumbers, initial_part, minimum_part, rate_part}
 use Rattle.tariff_syntax.specs.Tree.{Line, Entry, step, positions, zones, holiday, supplement}
 pub use Rattle.tariff_syntax.specs.Tree.{when_part}
+pub use Rattle.tariff_check.specs.Kinds.{InitialNumbers, RateNumbers, initial_part, initials_of, minimum_part}
+pub use Rattle.tariff_check.specs.Kinds.{minimums_of, rate_part, rates_of}
 use Rattle.tariff_check.specs.declared.values.DateNumbers as dates
 use Rattle.tariff_check.specs.declared.values.Supplement.{Supplement}
 
@@ -42,12 +42,10 @@ abbrev pub holiday_part : Entry → Option DateNumbers
 holiday_part (holiday year month date) = Some (record { year = year; month = month; date = date })
 holiday_part _ = None
 
--- the supplement part of an entry is its amount and how often it may be added if it is the supplement of the number,
--- and none otherwise
-abbrev pub supplement_part : (number : ℕ) → Entry → Option Supplement
-supplement_part n (supplement number amount most) =
-    if n == number then Some (record { amount = amount; max = most }) else None
-supplement_part n _ = None
+-- a supplement says its number, its amount and how often a hiring may have it
+abbrev pub numbered_supplement : Entry → Option (ℕ × Supplement)
+numbered_supplement (supplement number amount most) = Some (number, record { amount = amount; max = most })
+numbered_supplement _ = None
 
 -- the display step of lines, with the rounding to it, is that of the first `step` line, if there is one
 abbrev pub step_of : List Line → Option (ℕ × Rounding)
@@ -69,18 +67,11 @@ holidays_of lines = parts holiday_part lines
 abbrev pub has_holidays : List Line → Bool
 has_holidays lines = list_any (λ (d : DateNumbers). true) (holidays_of lines)
 
+-- the supplement of a number is the first that has it, if there is one
+abbrev pub supplement_numbered : List (ℕ × Supplement) → (number : ℕ) → Option Supplement
+supplement_numbered all number =
+    option_map (λ (s : ℕ × Supplement). s.1) (find (λ (s : ℕ × Supplement). number == s.0) all)
+
 -- the supplement of a number in lines is that of the line with the number, if there is one
 abbrev pub supplement_of : List Line → (number : ℕ) → Option Supplement
-supplement_of lines number = first_part (supplement_part number) lines
-
--- the initial hire fees of lines are the amount and the cover of each `initial` line, in order
-abbrev pub initials_of : List Line → List InitialNumbers
-initials_of lines = values_of (choices initial_part lines)
-
--- the rates of lines are the amounts and the measures of each `rate` line, in order
-abbrev pub rates_of : List Line → List RateNumbers
-rates_of lines = values_of (choices rate_part lines)
-
--- the minimum fares of lines are the amount of each `minimum` line, in order
-abbrev pub minimums_of : List Line → List ℕ
-minimums_of lines = values_of (choices minimum_part lines)
+supplement_of lines number = supplement_numbered (parts numbered_supplement lines) number

@@ -3,13 +3,14 @@ use Rattle.std.specs.Prelude.{◌≡◌, ℕ, ◌+◌, List, [], ◌∷◌, Opti
 use Rattle.std.specs.List.{cons_option}
 use Rattle.std.specs.Option.{option_map}
 use Rattle.tariff_syntax.specs.Tree.{Line, Entry}
-use Rattle.tariff_check.specs.ChoiceLines.{choice_lines, kind_of}
-use Rattle.tariff_check.specs.Parts.{holidays_of, initial_part, minimum_part, parts, rate_part}
+use Rattle.tariff_check.specs.ChoiceLines.{choice_lines}
+use Rattle.tariff_check.specs.Kinds.{kept_of, kind_of, part_of}
+use Rattle.tariff_check.specs.Parts.{holidays_of, parts}
 use Rattle.tariff_check.specs.SoundTariff.{numbered_supplement}
 use Rattle.tariff_check.specs.declared.choice.Choice.{Choice}
 use Rattle.tariff_check.specs.declared.choice.ChoiceKind.{ChoiceKind}
-use Rattle.tariff_check.specs.declared.choice.ChoiceKind.TheVariants.{Rate, Initial, Minimum}
 use Rattle.tariff_check.specs.declared.choice.ChoiceLine.{ChoiceLine}
+use Rattle.tariff_check.specs.declared.choice.Choices.{Choices}
 use Rattle.tariff_check.specs.declared.resolving.Parts.{Parts}
 
 -- the choice of the program that a line at a place gives
@@ -28,17 +29,17 @@ counted_choice count l =
     option_map (λ (kind : ChoiceKind). record { kind = kind; place_in_kind = count kind; line = l.line })
     (kind_of l.entry)
 
--- how many choices of a kind the parts of the program have
-abbrev pub count_in : Parts → ChoiceKind → ℕ
-count_in p Rate = length p.rates.items
-count_in p Initial = length p.initials.items
-count_in p Minimum = length p.minimums.items
+-- how many choices of a kind the program keeps
+abbrev pub count_in : Choices → ChoiceKind → ℕ
+count_in kept kind = length (kept_of kind kept)
+
+-- the choices that the program keeps are those of lines
+abbrev pub AreKept : List Line → Choices → Type 0
+AreKept lines kept = (kind : ChoiceKind) → kept_of kind kept ≡ placed_from (part_of kind) 0 lines
 
 -- the parts of the program are those of lines
 pub record HasParts (lines : List Line) (p : Parts) : Type 0 where
   pub holidays : p.holidays.items ≡ holidays_of lines
   pub supplements : p.supplements.items ≡ parts numbered_supplement lines
-  pub rates : p.rates.items ≡ placed_from rate_part 0 lines
-  pub initials : p.initials.items ≡ placed_from initial_part 0 lines
-  pub minimums : p.minimums.items ≡ placed_from minimum_part 0 lines
+  pub choices : AreKept lines p.choices
   pub choice_lines : p.choice_lines.items ≡ choice_lines lines

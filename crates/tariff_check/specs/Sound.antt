@@ -10,25 +10,13 @@ use Rattle.tariff_syntax.specs.Writable.{IsFromTo, IsWritableCondition}
 use Rattle.tariff_check.specs.Cells.{cells_of}
 use Rattle.tariff_check.specs.Cuts.{count_of, most_cuts}
 use Rattle.tariff_check.specs.Faults.{has_default}
+pub use Rattle.tariff_check.specs.Kinds.{IsSoundInitial, IsSoundRate}
+use Rattle.tariff_check.specs.Kinds.{initial_part, initials_of, minimums_of, rate_part, rates_of}
 use Rattle.tariff_check.specs.Lines.{atoms_in}
 use Rattle.tariff_check.specs.Measure.{measure_of}
-use Rattle.tariff_check.specs.Parts.{RateNumbers, InitialNumbers, DateNumbers, step_of, positions_of}
-use Rattle.tariff_check.specs.Parts.{zones_of, holidays_of, supplement_of, initial_part, initials_of, minimums_of}
-use Rattle.tariff_check.specs.Parts.{rate_part, rates_of}
+use Rattle.tariff_check.specs.Parts.{DateNumbers, step_of, positions_of, zones_of, holidays_of, supplement_of}
 use Rattle.tariff_check.specs.declared.values.Supplement.{Supplement}
 use Rattle.tariff_check.specs.declared.fault.Dimension.{Dimension}
-
--- a rate is sound if its amounts are at most 1,000,000 and its measures 1 to 10^12
-pub record IsSoundRate (r : RateNumbers) : Type 0 where
-  pub distance_amount : r.a ≤ 10 ^ 6
-  pub distance : IsFromTo 1 (10 ^ 12) r.b
-  pub time_amount : r.c ≤ 10 ^ 6
-  pub time : IsFromTo 1 (10 ^ 12) r.e
-
--- an initial hire fee is sound if its amount and its cover are at most 99,999,999
-pub record IsSoundInitial (i : InitialNumbers) : Type 0 where
-  pub amount : i.amount ≤ largest_amount
-  pub covers : i.covers ≤ largest_amount
 
 -- a supplement is sound if its amount is at most 1,000,000 and it may be added 1 to 99 times
 pub record IsSoundSupplement (s : Supplement) : Type 0 where

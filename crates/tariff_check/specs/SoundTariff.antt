@@ -1,26 +1,24 @@
 -- Rules: a sound tariff as its parts.
-use Rattle.std.specs.Prelude.{◌≡◌, ◌⊎◌, ℕ, ◌==◌, Bool, List, [], ◌∷◌, filter, find, map, is_some, Option, Some, None}
+use Rattle.std.specs.Prelude.{◌≡◌, ◌⊎◌, ℕ, Bool, true, List, [], ◌∷◌, filter, map, is_some, Option, Some, None}
 use Rattle.std.specs.List.{slice_get}
-use Rattle.std.specs.Option.{option_map, unwrap_or}
+use Rattle.std.specs.Option.{unwrap_or}
 use Rattle.drive_modes.specs.declared.meterage.Rounding.{Rounding}
 use Rattle.drive_modes.specs.declared.meterage.Rounding.TheVariants.{Behind}
 pub use Rattle.tariff_syntax.specs.Choices.{Choice, choices, conditions_of, values_of}
 use Rattle.tariff_syntax.specs.Condition.{Condition}
 pub use Rattle.tariff_syntax.specs.Meaning.{place_of}
-use Rattle.tariff_syntax.specs.Tree.{Tree, Line, Entry, step, positions, zones, holiday, supplement, initial, rate}
-use Rattle.tariff_syntax.specs.Tree.{minimum, when_part}
+use Rattle.tariff_syntax.specs.Tree.{Tree, Line, Entry, step, positions, zones, holiday, supplement, when_part}
 use Rattle.tariff_check.specs.Cells.{cells_of}
+use Rattle.tariff_check.specs.Kinds.{InitialNumbers, RateNumbers, Said, entry_with, initial_part, minimum_part, part_of}
+use Rattle.tariff_check.specs.Kinds.{rate_part, tests_of_kinds}
 use Rattle.tariff_check.specs.Measure.{measure_of}
-use Rattle.tariff_check.specs.Parts.{RateNumbers, InitialNumbers, DateNumbers, parts, step_of}
-use Rattle.tariff_check.specs.Parts.{positions_of, zones_of, holidays_of, holiday_part, initial_part, minimum_part}
-use Rattle.tariff_check.specs.Parts.{positions_part, rate_part, step_part, zones_part}
+pub use Rattle.tariff_check.specs.Parts.{numbered_supplement, supplement_numbered}
+use Rattle.tariff_check.specs.Parts.{DateNumbers, parts, step_of, positions_of, zones_of, holidays_of, holiday_part}
+use Rattle.tariff_check.specs.Parts.{positions_part, step_part, zones_part}
 use Rattle.tariff_check.specs.declared.values.Supplement.{Supplement}
 use Rattle.tariff_check.specs.declared.choice.Choice as program
-
--- a supplement says its number, its amount and how often a hiring may have it
-abbrev pub numbered_supplement : Entry → Option (ℕ × Supplement)
-numbered_supplement (supplement number amount most) = Some (number, record { amount = amount; max = most })
-numbered_supplement _ = None
+use Rattle.tariff_check.specs.declared.choice.ChoiceKind.{ChoiceKind}
+use Rattle.tariff_check.specs.declared.choice.ChoiceKind.TheVariants.{Rate, Initial, Minimum}
 
 -- the line numbers of choices are that of each, in order
 abbrev pub lines_of : {V : Type 0} → List (Choice V) → List ℕ
@@ -59,10 +57,11 @@ sound_of t =
       cells = cells_of t.lines;
     }
 
--- the supplement of a number is the first that has it, if there is one
-abbrev pub supplement_numbered : List (ℕ × Supplement) → (number : ℕ) → Option Supplement
-supplement_numbered all number =
-    option_map (λ (s : ℕ × Supplement). s.1) (find (λ (s : ℕ × Supplement). number == s.0) all)
+-- the choices of a kind in a tariff as its parts
+abbrev pub choices_in : (kind : ChoiceKind) → SoundTariff → List (Choice (Said kind))
+choices_in Rate s = s.rates
+choices_in Initial s = s.initials
+choices_in Minimum s = s.minimums
 
 -- the condition of a line that may be none is the line's, if there is one and it has one
 abbrev pub when_of_line : Option Line → Option Condition
@@ -93,13 +92,7 @@ pub record AreChoices {V : Type 0} (lines : List Line) (own : List (program.Choi
   pub conditions : own_conditions lines own ≡ conditions_of all
   pub numbers : own_lines own ≡ lines_of all
 
--- what is said of a rate, an initial hire fee, a minimum fare, a supplement or a holiday makes an entry again
-abbrev pub rate_entry : RateNumbers → Option Condition → Entry
-rate_entry r when = rate r.a r.b r.c r.e when
-
-abbrev pub initial_entry : InitialNumbers → Option Condition → Entry
-initial_entry i when = initial i.amount i.covers when
-
+-- what is said of a supplement or a holiday makes an entry again
 abbrev pub supplement_entry : ℕ × Supplement → Entry
 supplement_entry said = supplement said.0 said.1.amount said.1.max
 
@@ -118,14 +111,24 @@ is_told part l = is_some (part l.entry)
 abbrev pub entries_told : {A : Type 0} → (Entry → Option A) → List Line → List Entry
 entries_told part lines = map (λ (l : Line). l.entry) (filter (is_told part) lines)
 
--- a tariff as its parts has all of its lines of a kind that may have a condition, with their numbers, and all its
+-- a tariff as its parts has all of its lines of each kind that may have a condition, with their numbers, and all its
 -- holidays and supplements
 pub record HasAllLines (t : Tree) (s : SoundTariff) : Type 0 where
-  pub rates : map (line_with rate_entry) s.rates ≡ filter (is_told rate_part) t.lines
-  pub initials : map (line_with initial_entry) s.initials ≡ filter (is_told initial_part) t.lines
-  pub minimums : map (line_with minimum) s.minimums ≡ filter (is_told minimum_part) t.lines
+  pub choices : (kind : ChoiceKind)
+      → map (line_with (entry_with kind)) (choices_in kind s) ≡ filter (is_told (part_of kind)) t.lines
   pub supplements : map supplement_entry s.supplements ≡ entries_told numbered_supplement t.lines
   pub holidays : map holiday_entry s.holidays ≡ entries_told holiday_part t.lines
+
+-- the tests of an entry tell, one after another, whether it is the display step, says the positions or the zones, is a
+-- holiday or a supplement, or is of each kind that may have a condition
+abbrev pub tests_of : Entry → List Bool
+tests_of entry =
+    is_some (step_part entry) ∷ is_some (positions_part entry) ∷ is_some (zones_part entry)
+    ∷ is_some (holiday_part entry) ∷ is_some (numbered_supplement entry) ∷ tests_of_kinds entry
+
+-- an entry is told by one part if exactly one of its tests is true
+abbrev pub IsInOnePart : Entry → Type 0
+IsInOnePart entry = filter (λ (b : Bool). b) (tests_of entry) ≡ true ∷ []
 
 -- a number is told once by entries if one entry says it, or if there is none and the number is 1
 abbrev pub IsToldOnce : (ℕ → Entry) → ℕ → List Entry → Type 0

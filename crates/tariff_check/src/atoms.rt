@@ -6,7 +6,7 @@ ghost use Rattle.tariff_check.specs.Rules.{breaks_atom_rule};
 ghost use Rattle.tariff_syntax.specs.Condition.{condition_of};
 ghost use Rattle.tariff_syntax.specs.Tree.{entry_of};
 
-use crate::parts::condition;
+use crate::choice::condition;
 use tariff_syntax::{Cond, Item};
 use taxi_units::is_date;
 

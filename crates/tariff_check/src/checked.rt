@@ -5,6 +5,7 @@ ghost use Rattle.tariff_check.specs.ChoiceLines.{choice_lines};
 ghost use Rattle.tariff_check.specs.Faults.{IsSound};
 ghost use Rattle.tariff_check.specs.Measure.{measure_of};
 ghost use Rattle.tariff_check.specs.Parts.{positions_of, step_of, supplement_of, zones_of};
+ghost use Rattle.tariff_check.specs.Resolved.{HasParts};
 ghost use Rattle.tariff_check.specs.SoundTariff.{AreChoices, own_conditions, place_of, sound_of, when_at};
 ghost use Rattle.tariff_syntax.specs.Condition.{condition_of};
 ghost use Rattle.tariff_syntax.specs.Meaning.{at_hiring, holds_if, initial_place, minimum_place, rate_place};
@@ -12,9 +13,8 @@ ghost use Rattle.tariff_syntax.specs.Tree.{tree_of};
 ghost use Rattle.tariff_syntax.specs.Writable.{IsFromTo, IsWritable};
 ghost use Rattle.taxi_units.specs.Reading.{Gives};
 
-use crate::choice::{Choice, ChoiceLine};
+use crate::choice::{Choice, ChoiceLine, condition};
 use crate::numbers::Numbers;
-use crate::parts::condition;
 use crate::resolving::{Parts, numbered};
 use crate::values::{DateNumbers, Supplement};
 use drive_modes::Rounding;
@@ -100,13 +100,22 @@ impl Checked {
         self.numbers.measure
     }
 
+    /// The parts, of a tariff that is known to be sound.
+    fn parts(&self) -> &Parts
+        ensures parts { HasParts (tree_of self.now).lines result.now }
+        ensures sound { IsSound (tree_of self.now) }
+        ensures writable { IsWritable (tree_of self.now) }
+    {
+        &self.parts
+    }
+
     /// The dates of its holidays, in the order of its lines.
     pub fn holidays(&self) -> &[DateNumbers]
         ensures value { result.now ≡ (sound_of (tree_of self.now)).holidays }
         ensures sound { IsSound (tree_of self.now) }
         ensures writable { IsWritable (tree_of self.now) }
     {
-        self.parts.holidays.as_slice()
+        self.parts().holidays.as_slice()
     }
 
     /// The supplement of a number; `None` exactly where it has none.
@@ -115,7 +124,7 @@ impl Checked {
         ensures sound { IsSound (tree_of self.now) }
         ensures writable { IsWritable (tree_of self.now) }
     {
-        numbered(self.parts.supplements.as_slice(), number)
+        numbered(self.parts().supplements.as_slice(), number)
     }
 
     /// The choices among its rates, in the order of its lines: 1 to 64, of which one has no condition.
@@ -124,7 +133,7 @@ impl Checked {
         ensures sound { IsSound (tree_of self.now) }
         ensures writable { IsWritable (tree_of self.now) }
     {
-        self.parts.rates.as_slice()
+        self.parts().choices.rates.as_slice()
     }
 
     /// The choices among its initial hire fees, in the order of its lines: 1 to 64, of which one has no
@@ -134,7 +143,7 @@ impl Checked {
         ensures sound { IsSound (tree_of self.now) }
         ensures writable { IsWritable (tree_of self.now) }
     {
-        self.parts.initials.as_slice()
+        self.parts().choices.initials.as_slice()
     }
 
     /// The choices among its minimum fares, in the order of its lines: at most 64.
@@ -143,14 +152,14 @@ impl Checked {
         ensures sound { IsSound (tree_of self.now) }
         ensures writable { IsWritable (tree_of self.now) }
     {
-        self.parts.minimums.as_slice()
+        self.parts().choices.minimums.as_slice()
     }
 
     /// The choices that its lines give, of all kinds, in the order of its lines.
     pub fn choice_lines(&self) -> &[ChoiceLine]
         ensures { result.now ≡ choice_lines (tree_of self.now).lines }
     {
-        self.parts.choice_lines.as_slice()
+        self.parts().choice_lines.as_slice()
     }
 
     /// The condition of the line at a place, from 0; `None` where that line has none, or there is no line.

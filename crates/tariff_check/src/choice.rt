@@ -1,4 +1,16 @@
-//! The choices of a tariff.
+//! The choices of a tariff: what is said of each kind of line of which the first that holds counts.
+ghost use Rattle.std.specs.Option.{option_to_list};
+ghost use Rattle.std.specs.Prelude.{◌≡◌, ◌++◌, ◌∷◌, [], OnOk};
+ghost use Rattle.taxi_units.specs.Reading.{Gives};
+ghost use Rattle.tariff_check.specs.Kinds.{EachKind, is_great, is_of, kept_of, kind_of, part_of};
+ghost use Rattle.tariff_check.specs.Parts.{when_part};
+ghost use Rattle.tariff_check.specs.Resolved.{counted_choice, count_in, placed};
+ghost use Rattle.tariff_syntax.specs.Condition.{condition_of};
+ghost use Rattle.tariff_syntax.specs.Tree.{entry_of, line_of};
+
+use std::alloc::Global;
+use tariff_syntax::{Cond, InitialNumbers, Item, RateLine, RateNumbers, TariffLine};
+use taxi_units::{LARGEST_AMOUNT, NoMemory};
 
 /// The kinds of lines of which the first that holds in a context is the one that counts: rates, initial hire fees and
 /// minimum fares.
@@ -26,4 +38,144 @@ pub struct Choice<V> {
     pub value: V,
     pub line: u32,
     pub place: usize,
+}
+
+/// The choices of each kind, in the order of the lines.
+#[derive(Drop)]
+pub(crate) struct Choices {
+    pub(crate) rates: Vec<Choice<RateNumbers>>,
+    pub(crate) initials: Vec<Choice<InitialNumbers>>,
+    pub(crate) minimums: Vec<Choice<u64>>,
+}
+
+impl Choices {
+    /// No choices.
+    pub(crate) fn new(alloc: Global) -> Choices
+        ensures { EachKind (λ kind. kept_of kind result ≡ []) }
+    {
+        Choices {
+            rates: Vec::new(alloc),
+            initials: Vec::new(alloc),
+            minimums: Vec::new(alloc),
+        }
+    }
+
+    /// Puts the choice that the line at a place gives, if it gives one, behind the others of its kind.
+    pub(crate) fn add(&mut self, place: usize, line: &TariffLine) -> Result<(), NoMemory>
+        ensures { OnOk result (EachKind (λ kind. kept_of kind self.new
+            ≡ kept_of kind self.old ++ option_to_list (placed (part_of kind) place (line_of line.now)))) }
+    {
+        let number = line.line;
+        match &line.item {
+            Item::Rate(rate) => put(&mut self.rates, chosen(numbers_of(rate), number, place)),
+            Item::Initial(initial) => {
+                let value = InitialNumbers {
+                    amount: initial.amount,
+                    covers: initial.covers,
+                };
+                put(&mut self.initials, chosen(value, number, place))
+            }
+            Item::Minimum(minimum) => {
+                put(&mut self.minimums, chosen(minimum.amount, number, place))
+            }
+            _ => Ok(()),
+        }
+    }
+
+    /// Which choice a line gives behind those that are there.
+    pub(crate) fn line_of(&self, line: &TariffLine) -> Option<ChoiceLine>
+        ensures { result ≡ counted_choice (count_in self.now) (line_of line.now) }
+    {
+        let (kind, place_in_kind) = match &line.item {
+            Item::Rate(_) => (ChoiceKind::Rate, self.rates.len()),
+            Item::Initial(_) => (ChoiceKind::Initial, self.initials.len()),
+            Item::Minimum(_) => (ChoiceKind::Minimum, self.minimums.len()),
+            _ => return None,
+        };
+        Some(ChoiceLine {
+            kind,
+            place_in_kind,
+            line: line.line,
+        })
+    }
+}
+
+/// What a rate charges, and for what.
+fn numbers_of(rate: &RateLine) -> RateNumbers
+    ensures { result ≡ record { a = rate.now.a; b = rate.now.b; c = rate.now.c; e = rate.now.e } }
+{
+    RateNumbers {
+        a: rate.a,
+        b: rate.b,
+        c: rate.c,
+        e: rate.e,
+    }
+}
+
+/// A choice of the line with a number at a place.
+fn chosen<V>(value: V, line: u32, place: usize) -> Choice<V>
+    ensures { result ≡ record { value = value; line = line; place = place } }
+{
+    Choice { value, line, place }
+}
+
+/// Puts a value behind others.
+pub(crate) fn put<V: Drop>(all: &mut Vec<V>, value: V) -> Result<(), NoMemory>
+    ensures { OnOk result (all.new.items ≡ all.old.items ++ value ∷ []) }
+{
+    all.push(value).map_err(|_| NoMemory)
+}
+
+/// The kind of an item, if it is of one.
+pub(crate) fn kind_of(item: &Item) -> Option<ChoiceKind>
+    ensures { result ≡ kind_of (entry_of item.now) }
+{
+    match item {
+        Item::Rate(_) => Some(ChoiceKind::Rate),
+        Item::Initial(_) => Some(ChoiceKind::Initial),
+        Item::Minimum(_) => Some(ChoiceKind::Minimum),
+        _ => None,
+    }
+}
+
+/// Whether an item is of a kind.
+pub(crate) fn is_of(kind: ChoiceKind, item: &Item) -> bool
+    ensures { result ≡ is_of kind (entry_of item.now) }
+{
+    match (kind, item) {
+        (ChoiceKind::Rate, Item::Rate(_)) => true,
+        (ChoiceKind::Initial, Item::Initial(_)) => true,
+        (ChoiceKind::Minimum, Item::Minimum(_)) => true,
+        _ => false,
+    }
+}
+
+/// The condition of a line, where it has one.
+pub(crate) fn condition(item: &Item) -> Option<&Cond>
+    ensures { Gives (λ cond. condition_of cond.now) result (when_part (entry_of item.now)) }
+{
+    match item {
+        Item::Rate(rate) => rate.cond.as_ref(),
+        Item::Initial(initial) => initial.cond.as_ref(),
+        Item::Minimum(minimum) => minimum.cond.as_ref(),
+        _ => None,
+    }
+}
+
+/// The most units of a step, of an amount of a rate and of a supplement.
+const MOST_AMOUNT: u64 = 1_000_000;
+
+/// Whether an item has an amount that is too big.
+pub(crate) fn is_great(item: &Item) -> bool
+    ensures { result ≡ is_great (entry_of item.now) }
+{
+    match item {
+        Item::Step { amount, .. } => *amount > MOST_AMOUNT,
+        Item::Supplement { amount, .. } => *amount > MOST_AMOUNT,
+        Item::Rate(rate) => rate.a > MOST_AMOUNT || rate.c > MOST_AMOUNT,
+        Item::Initial(initial) => initial.amount > LARGEST_AMOUNT
+            || initial.covers > LARGEST_AMOUNT,
+        Item::Minimum(minimum) => minimum.amount > LARGEST_AMOUNT,
+        _ => false,
+    }
 }

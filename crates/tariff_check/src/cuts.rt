@@ -10,8 +10,8 @@ ghost use Rattle.tariff_syntax.specs.Tree.{entry_of, line_of, tree_of};
 
 use crate::atom_cuts::atom_cuts;
 use crate::checked::Checked;
+use crate::choice::condition;
 use crate::fault::Dimension;
-use crate::parts::condition;
 use std::alloc::{AllocError, Global};
 use std::collections::BTreeSet;
 use tariff_syntax::{Cond, Item, TariffLine};

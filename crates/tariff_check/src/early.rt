@@ -29,6 +29,7 @@ pub(crate) fn early_fault(lines: &[TariffLine], positions: u8, zones: u8) -> Opt
 }
 
 /// A line that is there too often, or that names what isn't there.
+#[tactic(auto, using(crate::proofs::Staging::or_none))]
 fn line_fault(lines: &[TariffLine], positions: u8, zones: u8) -> Option<CheckFault>
     requires positions { positions ≡ positions_of (map line_of lines.now) }
     requires zones { zones ≡ zones_of (map line_of lines.now) }
@@ -44,6 +45,7 @@ fn line_fault(lines: &[TariffLine], positions: u8, zones: u8) -> Option<CheckFau
 }
 
 /// A default that isn't there, or a line after it.
+#[tactic(auto, using(crate::proofs::Staging::or_none))]
 fn default_fault(lines: &[TariffLine]) -> Option<CheckFault>
     ensures { result ≡ default_fault (map line_of lines.now) }
 {
@@ -57,6 +59,7 @@ fn default_fault(lines: &[TariffLine]) -> Option<CheckFault>
 }
 
 /// A line with a number that it may not have.
+#[tactic(auto, using(crate::proofs::Staging::or_none))]
 fn number_fault(lines: &[TariffLine]) -> Option<CheckFault>
     ensures { result ≡ number_fault (map line_of lines.now) }
 {

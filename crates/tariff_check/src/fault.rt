@@ -2,7 +2,7 @@
 
 /// What a condition may compare with a cut: the place of the day in a leap year, the minute of the day,
 /// the distance of the trip or its time.
-#[derive(Clone, Copy, Debug, PartialEq, Eq)]
+#[derive(Clone, Copy, PartialEq, Eq)]
 pub enum Dimension {
     MonthDay,
     Minute,
@@ -12,7 +12,7 @@ pub enum Dimension {
 
 /// The faults of a tariff, in the order in which they are looked for. Where a line is named, it is the
 /// first that has the fault, by its number in the text.
-#[derive(Clone, Copy, Debug, PartialEq, Eq)]
+#[derive(Clone, Copy, PartialEq, Eq)]
 pub enum CheckFault {
     /// There is no `step` line.
     NoStep,
@@ -21,7 +21,7 @@ pub enum CheckFault {
     /// A second `step`, `positions` or `zones` line, or a supplement's number or a holiday's date that an
     /// earlier line has.
     Duplicate(u32),
-    /// The 65th rate, the 65th initial hire fee, the 65th minimum fare or the 256th holiday.
+    /// The 65th line of a kind that may have a condition (`ChoiceKind`), or the 256th holiday.
     TooManyLines(u32),
     /// A condition names a tariff position or a zone that the tariff doesn't have.
     UnknownNumber(u32),
@@ -29,12 +29,11 @@ pub enum CheckFault {
     NoDefaultRate,
     /// Each initial hire fee has a condition.
     NoDefaultInitial,
-    /// A rate, an initial hire fee or a minimum fare after one of its kind without a condition.
+    /// A line that may have a condition after one of its kind without one.
     LineAfterDefault(u32),
     /// A holiday that is no date of the years 2000 to 2199, or a month and date that no leap year has.
     BadDate(u32),
-    /// A step, an amount of a rate or a supplement above 1,000,000 units, or an initial hire fee, its cover
-    /// or a minimum fare above 99,999,999.
+    /// An amount above the greatest of its kind of line, which is 1,000,000 units or 99,999,999.
     AmountTooBig(u32),
     /// A measure of a rate or of an `after` is 0.
     MeasureZero(u32),

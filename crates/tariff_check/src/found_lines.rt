@@ -1,13 +1,11 @@
 //! The line of a tariff that says a part of its frame, or that counts in a context.
 ghost use Rattle.std.specs.Prelude.{◌≡◌, map};
 ghost use Rattle.taxi_units.specs.Reading.{Gives};
-ghost use Rattle.tariff_check.specs.ChoiceLines.{is_of};
 ghost use Rattle.tariff_check.specs.FoundLines.{frame_line, is_in_force, line_in_force, says};
 ghost use Rattle.tariff_syntax.specs.Tree.{entry_of, line_of, tree_of};
 
 use crate::checked::Checked;
-use crate::choice::ChoiceKind;
-use crate::parts::condition;
+use crate::choice::{ChoiceKind, condition, is_of};
 use tariff_syntax::{Context, Item, TariffLine, sat};
 
 /// What a line of a tariff's frame says.
@@ -91,17 +89,5 @@ fn is_in_force(kind: ChoiceKind, x: &Context, item: &Item) -> bool
     match condition(item) {
         Some(cond) => sat(cond, x),
         None => true,
-    }
-}
-
-/// Whether an item is of a kind.
-fn is_of(kind: ChoiceKind, item: &Item) -> bool
-    ensures { result ≡ is_of kind (entry_of item.now) }
-{
-    match (kind, item) {
-        (ChoiceKind::Rate, Item::Rate(_)) => true,
-        (ChoiceKind::Initial, Item::Initial(_)) => true,
-        (ChoiceKind::Minimum, Item::Minimum(_)) => true,
-        _ => false,
     }
 }

@@ -1,10 +1,11 @@
 //! What a line has to do with the lines before it.
 ghost use Rattle.std.specs.List.{list_any, count_by};
 ghost use Rattle.std.specs.Prelude.{◌≡◌, map};
-ghost use Rattle.tariff_check.specs.Lines.{excludes, is_alike, is_default_for, most_alike};
+ghost use Rattle.tariff_check.specs.Lines.{excludes, is_alike, is_default_for, is_of_same, most_alike};
 ghost use Rattle.tariff_syntax.specs.Tree as Tree;
 ghost use Rattle.tariff_syntax.specs.Tree.{Line, entry_of, line_of};
 
+use crate::choice::{ChoiceKind, condition, is_of, kind_of};
 use tariff_syntax::{Item, TariffLine};
 
 /// Whether one of some lines excludes an item.
@@ -31,7 +32,7 @@ pub(crate) fn some_is_default_for(item: &Item, before: &[TariffLine]) -> bool
     false
 }
 
-/// How many of some lines are rates, initial hire fees, minimum fares or holidays, as an item is.
+/// How many of some lines are of an item's kind, or holidays as it is.
 pub(crate) fn count_alike(item: &Item, before: &[TariffLine]) -> usize
     ensures { result ≡ count_by (λ (l : Line). is_alike (entry_of item.now) l.entry) (map line_of before.now) }
 {
@@ -64,9 +65,7 @@ fn excludes(item: &Item, other: &Item) -> bool
         Item::Zones(_) => matches!(other, Item::Zones(_)),
         Item::Supplement { number, .. } => is_supplement(*number, other),
         Item::Holiday { year, month, date } => is_holiday(*year, *month, *date, other),
-        Item::Initial(_) => false,
-        Item::Rate(_) => false,
-        Item::Minimum(_) => false,
+        _ => false,
     }
 }
 
@@ -92,16 +91,13 @@ fn is_holiday(wanted_year: u16, wanted_month: u8, wanted_date: u8, item: &Item) 
     }
 }
 
-/// Whether two lines are both rates, both initial hire fees, both minimum fares or both holidays.
+/// Whether two lines are of one kind, or both holidays.
 fn is_alike(item: &Item, other: &Item) -> bool
     ensures { result ≡ is_alike (entry_of item.now) (entry_of other.now) }
 {
-    match item {
-        Item::Rate(_) => matches!(other, Item::Rate(_)),
-        Item::Initial(_) => matches!(other, Item::Initial(_)),
-        Item::Minimum(_) => matches!(other, Item::Minimum(_)),
-        Item::Holiday { .. } => matches!(other, Item::Holiday { .. }),
-        _ => false,
+    match (item, other) {
+        (Item::Holiday { .. }, Item::Holiday { .. }) => true,
+        _ => is_of_same(kind_of(item), other),
     }
 }
 
@@ -109,10 +105,15 @@ fn is_alike(item: &Item, other: &Item) -> bool
 fn is_default_for(item: &Item, other: &Item) -> bool
     ensures { result ≡ is_default_for (entry_of item.now) (entry_of other.now) }
 {
-    match (item, other) {
-        (Item::Rate(_), Item::Rate(rate)) => rate.cond.is_none(),
-        (Item::Initial(_), Item::Initial(initial)) => initial.cond.is_none(),
-        (Item::Minimum(_), Item::Minimum(minimum)) => minimum.cond.is_none(),
-        _ => false,
+    is_of_same(kind_of(item), other) && condition(other).is_none()
+}
+
+/// Whether an item is of a kind, which may be none.
+fn is_of_same(kind: Option<ChoiceKind>, item: &Item) -> bool
+    ensures { result ≡ is_of_same kind (entry_of item.now) }
+{
+    match kind {
+        Some(kind) => is_of(kind, item),
+        None => false,
     }
 }

@@ -1,16 +1,13 @@
 //! The parts of a tariff, from its lines.
 ghost use Rattle.std.specs.Prelude.{◌≡◌, Some, None, IfOk, IfErr, OnOk, map};
-ghost use Rattle.taxi_units.specs.Reading.{Gives};
 ghost use Rattle.tariff_check.specs.Faults.{has_default};
-ghost use Rattle.tariff_check.specs.Parts.{has_holidays, initial_part, positions_of, rate_part, step_of, when_part};
-ghost use Rattle.tariff_check.specs.Parts.{zones_of};
+ghost use Rattle.tariff_check.specs.Parts.{has_holidays, initial_part, positions_of, rate_part, step_of, zones_of};
 ghost use Rattle.tariff_check.specs.Stages.{step_fault};
-ghost use Rattle.tariff_syntax.specs.Condition.{condition_of};
-ghost use Rattle.tariff_syntax.specs.Tree.{entry_of, line_of};
+ghost use Rattle.tariff_syntax.specs.Tree.{line_of};
 
 use crate::fault::CheckFault;
 use drive_modes::Rounding;
-use tariff_syntax::{Cond, Item, TariffLine};
+use tariff_syntax::{Item, TariffLine};
 
 /// The display step, and how the fare is rounded to it, of the first such line; or what is wrong with it.
 pub(crate) fn step(lines: &[TariffLine]) -> Result<(u64, Rounding), CheckFault>
@@ -92,16 +89,4 @@ pub(crate) fn has_default_initial(lines: &[TariffLine]) -> bool
         }
     }
     false
-}
-
-/// The condition of a line, where it has one.
-pub(crate) fn condition(item: &Item) -> Option<&Cond>
-    ensures { Gives (λ cond. condition_of cond.now) result (when_part (entry_of item.now)) }
-{
-    match item {
-        Item::Rate(rate) => rate.cond.as_ref(),
-        Item::Initial(initial) => initial.cond.as_ref(),
-        Item::Minimum(minimum) => minimum.cond.as_ref(),
-        _ => None,
-    }
 }

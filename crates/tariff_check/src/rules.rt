@@ -1,21 +1,22 @@
 //! The rules for lines, and the first line that breaks one.
 ghost use Rattle.std.specs.Prelude.{◌≡◌, ◌&&◌, nat_le, map};
 ghost use Rattle.taxi_units.specs.Calendar.{is_date};
-ghost use Rattle.tariff_check.specs.Lines.{first_line, is_great, is_for_nothing, is_no_holiday};
+ghost use Rattle.tariff_check.specs.Lines.{first_line, is_for_nothing, is_no_holiday};
 ghost use Rattle.tariff_check.specs.Rules.{breaks_rule};
 ghost use Rattle.tariff_syntax.specs.Tree.{entry_of, line_of};
 
 use crate::atoms::{AtomRule, item_breaks};
+use crate::choice::is_great;
 use crate::pairs::{count_alike, most_alike, some_excludes, some_is_default_for};
 use tariff_syntax::{Item, TariffLine};
-use taxi_units::{LARGEST_AMOUNT, is_date};
+use taxi_units::is_date;
 
 /// What is asked of a line.
 #[derive(Clone, Copy)]
 pub(crate) enum LineRule {
     /// No earlier line excludes it.
     Once,
-    /// It is no 65th rate, initial hire fee or minimum fare, and no 256th holiday.
+    /// It is no 65th line of its kind, and no 256th holiday.
     Few,
     /// Its condition names no position and no zone above the highest.
     Known(u8, u8),
@@ -71,24 +72,6 @@ fn is_date_of_meter(year: u16, month: u8, date: u8) -> bool
     ensures { result ≡ (nat_le 2000 year && (nat_le year 2199 && is_date year month date)) }
 {
     2000 <= year && year <= 2199 && is_date(year, month, date)
-}
-
-/// The most units of a step, of an amount of a rate and of a supplement.
-const MOST_AMOUNT: u64 = 1_000_000;
-
-/// Whether an item has an amount that is too big.
-fn is_great(item: &Item) -> bool
-    ensures { result ≡ is_great (entry_of item.now) }
-{
-    match item {
-        Item::Step { amount, .. } => *amount > MOST_AMOUNT,
-        Item::Supplement { amount, .. } => *amount > MOST_AMOUNT,
-        Item::Rate(rate) => rate.a > MOST_AMOUNT || rate.c > MOST_AMOUNT,
-        Item::Initial(initial) => initial.amount > LARGEST_AMOUNT
-            || initial.covers > LARGEST_AMOUNT,
-        Item::Minimum(minimum) => minimum.amount > LARGEST_AMOUNT,
-        _ => false,
-    }
 }
 
 /// Whether an item is a rate with a measure of 0.

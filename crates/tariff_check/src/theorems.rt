@@ -5,15 +5,17 @@ ghost use Rattle.tariff_check.specs.Cuts.{IsInOrder, all_cuts, cuts_of, with_eac
 ghost use Rattle.tariff_check.specs.Faults.{IsSound, fault_of};
 ghost use Rattle.tariff_check.specs.Lines.{LineTest, IsFirstLine, IsNowhere, first_line};
 ghost use Rattle.tariff_check.specs.Measure.{IsLeastCommonMultiple, measures_of, measure_of};
-ghost use Rattle.tariff_check.specs.Parts.{initials_of, minimums_of, rates_of, supplement_of};
+ghost use Rattle.tariff_check.specs.Kinds.{initials_of, part_of, rates_of};
+ghost use Rattle.tariff_check.specs.Parts.{supplement_of};
 ghost use Rattle.tariff_check.specs.Sound.{HasSoundParts};
-ghost use Rattle.tariff_check.specs.SoundTariff.{HasAllLines, HasFrame, sound_of};
-ghost use Rattle.tariff_check.specs.SoundTariff.{supplement_numbered};
+ghost use Rattle.tariff_check.specs.SoundTariff.{HasAllLines, HasFrame, IsInOnePart, sound_of, supplement_numbered};
+ghost use Rattle.tariff_check.specs.declared.choice.ChoiceKind.{ChoiceKind};
 ghost use Rattle.tariff_check.specs.declared.fault.CheckFault.TheVariants.{NoCommonMeasure};
 ghost use Rattle.tariff_check.specs.declared.fault.Dimension.{Dimension};
-ghost use Rattle.tariff_syntax.specs.Meaning.{initial_place, minimum_place, rate_place};
+ghost use Rattle.tariff_syntax.specs.Choices.{choices, values_of};
+ghost use Rattle.tariff_syntax.specs.Meaning.{choice_place, initial_place, rate_place};
 ghost use Rattle.tariff_syntax.specs.Reads.{RiseInNumber};
-ghost use Rattle.tariff_syntax.specs.Tree.{Tree, Line};
+ghost use Rattle.tariff_syntax.specs.Tree.{Tree, Line, Entry};
 ghost use Rattle.tariff_syntax.specs.Writable.{IsFromTo, IsWritable};
 ghost use Rattle.tariff_syntax.specs.declared.context.Context.{Context};
 
@@ -61,14 +63,14 @@ pub fn supplements_are_numbered_to_16()
 {}
 
 /// The law of lines that hold: in a sound tariff a rate and an initial hire fee hold in each context, and
-/// the line that holds first is one of the tariff's.
+/// the line of a kind that holds first is one of the tariff's.
 pub fn lines_that_hold_are_there()
     ensures rate { (t : Tree) (x : Context) → IsSound t
         → (place : ℕ) × (rate_place t x ≡ Some place) × (place < length (rates_of t.lines)) }
     ensures initial { (t : Tree) (x : Context) → IsSound t
         → (place : ℕ) × (initial_place t x ≡ Some place) × (place < length (initials_of t.lines)) }
-    ensures minimum { (t : Tree) (x : Context) (place : ℕ) → minimum_place t x ≡ Some place
-        → place < length (minimums_of t.lines) }
+    ensures there { (kind : ChoiceKind) (t : Tree) (x : Context) (place : ℕ)
+        → choice_place (part_of kind) t x ≡ Some place → place < length (values_of (choices (part_of kind) t.lines)) }
 {}
 
 /// The law of hirings: what a hiring begins with is what the initial hire fee says that holds first at it, and the
@@ -81,8 +83,9 @@ pub fn hirings_begin_with_first_lines()
 /// The law of parts: a tariff as its parts has what its lines say. Each line that may have a condition stands
 /// in it once, with its number, and the lines of a kind stand in their order; so do holidays and
 /// supplements. The display step, the positions and the zones of a sound tariff are told by one line each
-/// at most.
+/// at most. Each line is told by exactly one of these parts, so none is left out.
 pub fn sound_tariffs_are_their_parts()
+    ensures one_part { (entry : Entry) → IsInOnePart entry }
     ensures lines { (t : Tree) → HasAllLines t (sound_of t) }
     ensures frame { (t : Tree) → IsSound t → HasFrame t (sound_of t) }
     ensures supplements { (t : Tree) (number : ℕ)

@@ -267,9 +267,7 @@ atom_again factors conditions ts (after_distance n) rest stops h =
     rw (h.1, amount_here 1 h.0 n (word (codes "m") ∷ rest) h.2, after_word_here (codes "m") rest) refl
 atom_again factors conditions ts (after_time n) rest stops h =
     rw (h.1, amount_here 1 h.0 n (word (codes "s") ∷ rest) h.2, no_seconds rest, after_word_here (codes "s") rest) refl
-atom_again factors conditions ts (and left right) rest stops h = absurd h
-atom_again factors conditions ts (or left right) rest stops h = absurd h
-atom_again factors conditions ts (not inner) rest stops h = absurd h
+atom_again factors conditions ts c rest stops h = absurd h
 
 -- the name of a weekday doesn't count
 pub day_light : (n : ℕ) → 1 ≤ n → n ≤ 7 → weight (word (day_name n) ∷ []) ≡ 0
@@ -284,14 +282,11 @@ weekdays_light ts from to (inr h) = rw h.2 (omega (arith, weekday_light h.0 from
 
 -- an atom counts once
 pub atom_weighs : (ts : List Token) (c : Condition) → IsAtom ts c → weight ts ≡ 1
-atom_weighs ts (position n) h = rw h.1 (omega arith)
-atom_weighs ts (zone n) h = rw h.1 (omega arith)
 atom_weighs ts (time from to) h = rw h.2 (omega arith)
 atom_weighs ts (day from to) h = rw h.1 (omega (arith, weekdays_light h.0 from to h.2))
 atom_weighs ts (date from_month from_date to_month to_date) h = rw h.2 (omega arith)
 atom_weighs ts holiday h = rw h (omega arith)
-atom_weighs ts (after_distance n) h = rw h.1 (omega arith)
-atom_weighs ts (after_time n) h = rw h.1 (omega arith)
 atom_weighs ts (and left right) h = absurd h
 atom_weighs ts (or left right) h = absurd h
 atom_weighs ts (not inner) h = absurd h
+atom_weighs ts c h = rw h.1 (omega arith)

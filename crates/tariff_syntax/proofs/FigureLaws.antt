@@ -1,6 +1,7 @@
 -- What figures say is read from their forms.
-use Rattle.std.proofs.Common.{◌≡◌, ℕ, ◌+◌, ◌*◌, ◌≤◌, List, [], ◌∷◌, ◌++◌, length, Option, Some, Result, Ok, Err, refl}
+use Rattle.std.proofs.Common.{◌≡◌, ℕ, ◌+◌, ◌*◌, ◌≤◌, List, [], ◌∷◌, ◌++◌, Option, Some, Result, Ok, Err, refl}
 use Rattle.std.proofs.Common.{ap, sym, ◌∙◌, subst, arith, codes}
+use Rattle.std.proofs.lemmas.List.{append-nil}
 use Rattle.std.proofs.lemmas.Bool.{and_parts, leb-true, le-leb}
 use Rattle.taxi_units.specs.Digits.{AreDigitsOf}
 use Rattle.taxi_units.specs.Number.{number_of_width, decimal_read, NoDigitFirst}
@@ -14,7 +15,6 @@ use Rattle.tariff_syntax.specs.Forms.{IsPair, IsDate, IsYearDate, IsMinute, IsAm
 use Rattle.tariff_syntax.specs.Token.{Token, figure}
 use Rattle.tariff_syntax.specs.Words.{figure_first}
 use Rattle.tariff_syntax.proofs.Tools.{bind_some, passed, ended_is, figure_first_is, figure_first_here, some_same}
-use Rattle.tariff_syntax.proofs.Tools.{append_none}
 
 word_again : (word rest : List ℕ) → word_at word (word ++ rest) ≡ Some rest
 word_again word rest = (words_are_read_by_their_text word (word ++ rest) rest).1 refl
@@ -45,7 +45,7 @@ pair_is between text first second e =
     let a = digits_are 2 text one.0.1 one.0.0 (omega arith) one.1 in
     let b = digits_are 2 two.0 three.0.1 three.0.0 (omega arith) three.1 in
     let between_is : one.0.1 ≡ between ++ two.0 = (words_are_read_by_their_text between one.0.1 two.0).0 two.1 in
-    let last : two.0 ≡ b.0 = b.1 ∙ (ap (λ (ys : List ℕ). b.0 ++ ys) end.0 ∙ append_none b.0) in
+    let last : two.0 ≡ b.0 = b.1 ∙ (ap (λ (ys : List ℕ). b.0 ++ ys) end.0 ∙ append-nil b.0) in
     let first_is : one.0.0 ≡ first = ap (λ (p : ℕ × ℕ). p.0) end.1 in
     let second_is : three.0.0 ≡ second = ap (λ (p : ℕ × ℕ). p.1) end.1 in (
       a.0,
@@ -62,7 +62,7 @@ pair_again between text first second stops h =
     let x = h.0 in
     let y = h.1 in
     let last : number_of_width 2 y ≡ Some (second, []) =
-    ap (number_of_width 2) (sym (append_none y)) ∙ digits_again 2 y [] second (omega arith) h.4 tt in
+    ap (number_of_width 2) (sym (append-nil y)) ∙ digits_again 2 y [] second (omega arith) h.4 tt in
     rw (h.2, digits_again 2 x (between ++ y) first (omega arith) h.3 (stops y), word_again between y, last) refl
 
 dash_stops : (y : List ℕ) → NoDigitFirst (codes "-" ++ y)

@@ -1,6 +1,7 @@
 -- What a line says is read from its form.
 use Rattle.std.proofs.Common.{◌≡◌, inl, inr, ℕ, ◌≤◌, List, [], ◌∷◌, ◌++◌, Option, Some, None, refl, ap, sym, ◌∙◌, subst}
 use Rattle.std.proofs.Common.{arith, codes, ◌↔◌}
+use Rattle.std.proofs.lemmas.List.{append-nil}
 use Rattle.std.proofs.lemmas.Bool.{leb-true, le-leb}
 use Rattle.drive_modes.specs.declared.meterage.Rounding.{Rounding}
 use Rattle.drive_modes.specs.declared.meterage.Rounding.TheVariants.{Behind, Ahead}
@@ -26,7 +27,6 @@ use Rattle.tariff_syntax.proofs.ConditionLaws.{condition_found}
 use Rattle.tariff_syntax.proofs.FigureLaws.{year_date_is, year_date_again, figure_as_is, figure_as_here}
 use Rattle.tariff_syntax.proofs.Tools.{bind_some, by_word, chosen, ended_is, after_word_is, after_word_here}
 use Rattle.tariff_syntax.proofs.Tools.{after_sign_is, after_sign_here, word_first_is, word_first_here, some_same}
-use Rattle.tariff_syntax.proofs.Tools.{append_none}
 
 nothing_behind : (w : List ℕ) → (after_sign w [] ≡ None) × (after_word w [] ≡ None)
 unfolding after_sign after_word
@@ -37,7 +37,7 @@ alone_is ts c e =
     let one = bind_some (condition_by (factor_first 64) ts) _ c e in
     let end = ended_is one.0.1 one.0.0 c one.2 in
     let found = condition_found ts one.0 one.1 in
-    let all : ts ≡ found.0 = found.1 ∙ (ap (λ (r : List Token). found.0 ++ r) end.0 ∙ append_none found.0) in
+    let all : ts ≡ found.0 = found.1 ∙ (ap (λ (r : List Token). found.0 ++ r) end.0 ∙ append-nil found.0) in
     subst (λ (us : List Token). IsCondition whole us c) (sym all) (subst (IsCondition whole found.0) end.1 found.2)
 
 bounded_is : (ts : List Token) (c : Condition) → bounded_condition ts ≡ Some c
@@ -54,7 +54,7 @@ unfolding bounded_condition
 bounded_again ts c h few =
     let free = nothing_behind in
     let read : condition_by (factor_first 64) ts ≡ Some (c, []) =
-    ap (condition_by (factor_first 64)) (sym (append_none ts))
+    ap (condition_by (factor_first 64)) (sym (append-nil ts))
     ∙ condition_again ts c [] h few ((free (codes "..")).0, (free (codes "and")).1, (free (codes "or")).1) in
     rw (le-leb _ _ few, read) refl
 

@@ -1,5 +1,6 @@
 -- No pair of parentheses of a printed form could go.
 use Rattle.std.proofs.Common.{◌≡◌, ℕ, List, [], ◌∷◌, ◌++◌, sym, ◌∙◌, ap, subst, arith, codes}
+use Rattle.std.proofs.lemmas.List.{append-nil}
 use Rattle.tariff_syntax.specs.Condition.{Condition}
 use Rattle.tariff_syntax.specs.Parentheses.{NeedsParentheses, with_pair}
 use Rattle.tariff_syntax.specs.PrintedCondition.{whole, condition_text}
@@ -12,7 +13,6 @@ use Rattle.tariff_syntax.proofs.ShownConditions.{fits}
 use Rattle.tariff_syntax.proofs.ShownGrammar.{shown}
 use Rattle.tariff_syntax.proofs.Shows.{line_feed}
 use Rattle.tariff_syntax.proofs.TokenLaws.{spelled_alone}
-use Rattle.tariff_syntax.proofs.Tools.{append_none}
 
 -- the law of parentheses: a condition has no fewer `(` than its printed form
 pub parentheses_stay : (c : Condition) → NeedsParentheses c
@@ -24,7 +24,7 @@ parentheses_stay c line before inside behind cut spelled other =
     let end = is.show (codes "\n") [] [] (line_feed []) in
     let same : end.text ≡ line = let both : end.text ∷ [] ≡ line ∷ [] = sym end.cut ∙ cut in cc in
     let printed : tokens_of line ≡ is.used = spelled_alone line is.used (subst (λ (xs : List ℕ). IsSpelled xs is.used)
-    same (subst (IsSpelled end.text) (append_none is.used) end.spelled)) in
+    same (subst (IsSpelled end.text) (append-nil is.used) end.spelled)) in
     let tokens : is.used ≡ long = sym printed ∙ spelled_alone line long spelled in
     omega (
       arith,

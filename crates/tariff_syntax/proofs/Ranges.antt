@@ -1,9 +1,8 @@
 -- The numbers of a text are in their ranges.
-use Rattle.std.proofs.Common.{inl, inr, ℕ, ◌+◌, ◌^◌, ◌<◌, ◌≤◌, List, [], ◌∷◌, Option, Some, None, All, subst, sym}
+use Rattle.std.proofs.Common.{inl, inr, ℕ, ◌+◌, ◌^◌, ◌≤◌, List, [], ◌∷◌, Option, Some, None, All, subst, sym}
 use Rattle.std.proofs.Common.{arith}
 use Rattle.std.proofs.lemmas.List.Elements.{All-nil, All-cons}
 use Rattle.taxi_units.specs.Digits.{AreDigitsOf}
-use Rattle.tariff_syntax.specs.Condition as tree
 use Rattle.tariff_syntax.specs.Condition.{Condition, position, zone, time, day, date, holiday, after_distance}
 use Rattle.tariff_syntax.specs.Condition.{after_time}
 use Rattle.tariff_syntax.specs.Forms.{IsAtom, IsMinute, AreWeekdays}
@@ -46,9 +45,7 @@ atom_small ts (date from_month from_date to_month to_date) h = (
 atom_small ts holiday h = tt
 atom_small ts (after_distance n) h = amount_small 1 h.0 n h.2
 atom_small ts (after_time n) h = amount_small 1 h.0 n h.2
-atom_small ts (tree.and left right) h = absurd h
-atom_small ts (tree.or left right) h = absurd h
-atom_small ts (tree.not inner) h = absurd h
+atom_small ts c h = absurd h
 
 condition_small : (place : Level) (ts : List Token) (c : Condition) → IsCondition place ts c → IsWritableCondition c
 condition_small factor ts c (atom ts' c' h) = atom_small ts' c' h

@@ -1,8 +1,8 @@
 -- A text reads as the tariff that is parsed, and its first bad line is the one that is named.
 use Rattle.std.proofs.Common.{◌≡◌, ◌⊎◌, inl, inr, ℕ, ◌+◌, ◌<◌, List, length, arith, [], ◌∷◌, Option, Some, None, Result}
-use Rattle.std.proofs.Common.{Ok, Err, refl, ap, sym, ◌∙◌, subst, ◌↔◌}
+use Rattle.std.proofs.Common.{Ok, Err, refl, ap, sym, ◌∙◌, subst, codes, ◌↔◌}
 use Rattle.tariff_syntax.specs.IsItem.{IsItem}
-use Rattle.tariff_syntax.specs.Items.{item_read, decimals_read}
+use Rattle.tariff_syntax.specs.Items.{item_named, item_read, decimals_read, plain_named}
 use Rattle.tariff_syntax.specs.Parsed.{put_entry, entries_read, heading_by, heading_read, tree_with, tree_below}
 use Rattle.tariff_syntax.specs.Parsed.{tree_parsed}
 use Rattle.tariff_syntax.specs.TextLines.{lines_of}
@@ -10,10 +10,9 @@ use Rattle.tariff_syntax.specs.Parses.{HasLines, IsFilled, IsAnswer}
 use Rattle.tariff_syntax.specs.Reads.{IsEmpty, IsLineOfDecimals, IsLineOfEntry, AreTextsOfLines, AreTextsOfTariff}
 use Rattle.tariff_syntax.specs.Reads.{Reads, FirstBad, FirstBadBelow, IsFirstBadLine, IsParsed}
 use Rattle.tariff_syntax.specs.Spelled.{IsSpelled}
-use Rattle.tariff_syntax.specs.Token.{Token}
+use Rattle.tariff_syntax.specs.Token.{Token, word, figure}
 use Rattle.tariff_syntax.specs.TokenReading.{tokens_of}
-use Rattle.tariff_syntax.specs.Tree.{Tree, Line, Entry, step, positions, zones, holiday, supplement, initial, rate}
-use Rattle.tariff_syntax.specs.Tree.{minimum, tree_of}
+use Rattle.tariff_syntax.specs.Tree.{Tree, Line, Entry, tree_of}
 use Rattle.tariff_syntax.specs.declared.parsing.ParseFault.{ParseFault}
 use Rattle.tariff_syntax.specs.declared.parsing.ParseFault.TheVariants.{TooLong, Syntax, NoMemory}
 use Rattle.tariff_syntax.specs.declared.tariff.Tariff.{Tariff}
@@ -46,17 +45,22 @@ no_decimals : decimals_read [] ≡ None
 unfolding decimals_read after_word
 no_decimals = refl
 
--- a line that says an entry doesn't say the decimals
+-- no entry begins with the word of the decimals
+no_entry : (decimals : ℕ) (ts : List Token) → item_read decimals (word (codes "decimals") ∷ ts) ≡ None
+unfolding item_read word_first item_named plain_named
+no_entry decimals ts = refl
+
+-- so a line that says an entry doesn't say the decimals
 item_alone : (decimals : ℕ) (ts : List Token) (x : Entry) → IsItem decimals ts x → decimals_read ts ≡ None
-unfolding decimals_read after_word
-item_alone decimals ts (step amount rounding) h = rw h.2 refl
-item_alone decimals ts (positions n) h = rw h.1 refl
-item_alone decimals ts (zones n) h = rw h.1 refl
-item_alone decimals ts (holiday year month date) h = rw h.1 refl
-item_alone decimals ts (supplement number amount most) h = rw h.3 refl
-item_alone decimals ts (initial amount covers when) h = rw h.3 refl
-item_alone decimals ts (rate a b c e when) h = rw h.3 refl
-item_alone decimals ts (minimum amount when) h = rw h.2 refl
+item_alone decimals ts x h = not_said (decimals_read ts) refl
+  where
+    not_said : (o : Option ℕ) → decimals_read ts ≡ o → o ≡ None
+    not_said None e = refl
+    not_said (Some n) e =
+        let said = decimals_are ts n e in
+        let none : item_read decimals ts ≡ None = rw said.1 (no_entry decimals (figure said.0 ∷ [])) in
+        let some = item_again decimals ts x h in
+        absurd cc
 
 -- a line's number and what it says
 abbrev numbered : ℕ → Entry → Line

@@ -33,66 +33,27 @@ Fits place (tree.and p q) w =
 Fits place (tree.or p q) w =
     (a : ℕ) × (b : ℕ) × Fits whole p a × Fits term q b × (a + b + extra (or_is_closed place) ≤ w)
 Fits place (tree.not p) w = (a : ℕ) × Fits factor p a × (a + 1 ≤ w)
-Fits place (position n) w = ((ts : List Token) × IsAtom ts (position n)) × (1 ≤ w)
-Fits place (zone n) w = ((ts : List Token) × IsAtom ts (zone n)) × (1 ≤ w)
-Fits place (time from to) w = ((ts : List Token) × IsAtom ts (time from to)) × (1 ≤ w)
-Fits place (day from to) w = ((ts : List Token) × IsAtom ts (day from to)) × (1 ≤ w)
-Fits place (date a b c d) w = ((ts : List Token) × IsAtom ts (date a b c d)) × (1 ≤ w)
-Fits place holiday w = ((ts : List Token) × IsAtom ts holiday) × (1 ≤ w)
-Fits place (after_distance n) w = ((ts : List Token) × IsAtom ts (after_distance n)) × (1 ≤ w)
-Fits place (after_time n) w = ((ts : List Token) × IsAtom ts (after_time n)) × (1 ≤ w)
+Fits place c w = ((ts : List Token) × IsAtom ts c) × (1 ≤ w)
 
 atom_fits : (ts : List Token) (c : Condition) → IsAtom ts c → 1 ≤ weight ts → Fits factor c (weight ts)
 atom_fits ts (tree.and p q) h some = absurd h
 atom_fits ts (tree.or p q) h some = absurd h
 atom_fits ts (tree.not p) h some = absurd h
-atom_fits ts (position n) h some = ((ts, h), some)
-atom_fits ts (zone n) h some = ((ts, h), some)
-atom_fits ts (time from to) h some = ((ts, h), some)
-atom_fits ts (day from to) h some = ((ts, h), some)
-atom_fits ts (date a b c d) h some = ((ts, h), some)
-atom_fits ts holiday h some = ((ts, h), some)
-atom_fits ts (after_distance n) h some = ((ts, h), some)
-atom_fits ts (after_time n) h some = ((ts, h), some)
+atom_fits ts c h some = ((ts, h), some)
 
 closes : (c : Condition) (v w : ℕ) → v + 1 ≤ w → Fits whole c v → Fits factor c w
 closes (tree.and p q) v w more h = (h.0, h.1, h.2, h.3, omega (arith, h.4))
 closes (tree.or p q) v w more h = (h.0, h.1, h.2, h.3, omega (arith, h.4))
 closes (tree.not p) v w more h = (h.0, h.1, omega (arith, h.2))
-closes (position n) v w more h = (h.0, omega (arith, h.1))
-closes (zone n) v w more h = (h.0, omega (arith, h.1))
-closes (time from to) v w more h = (h.0, omega (arith, h.1))
-closes (day from to) v w more h = (h.0, omega (arith, h.1))
-closes (date a b c d) v w more h = (h.0, omega (arith, h.1))
-closes holiday v w more h = (h.0, omega (arith, h.1))
-closes (after_distance n) v w more h = (h.0, omega (arith, h.1))
-closes (after_time n) v w more h = (h.0, omega (arith, h.1))
+closes c v w more h = (h.0, omega (arith, h.1))
 
 as_term : (c : Condition) (w : ℕ) → Fits factor c w → Fits term c w
 as_term (tree.and p q) w h = (h.0, h.1, h.2, h.3, omega (arith, h.4))
-as_term (tree.or p q) w h = h
-as_term (tree.not p) w h = h
-as_term (position n) w h = h
-as_term (zone n) w h = h
-as_term (time from to) w h = h
-as_term (day from to) w h = h
-as_term (date a b c d) w h = h
-as_term holiday w h = h
-as_term (after_distance n) w h = h
-as_term (after_time n) w h = h
+as_term c w h = h
 
 as_whole : (c : Condition) (w : ℕ) → Fits term c w → Fits whole c w
-as_whole (tree.and p q) w h = h
 as_whole (tree.or p q) w h = (h.0, h.1, h.2, h.3, omega (arith, h.4))
-as_whole (tree.not p) w h = h
-as_whole (position n) w h = h
-as_whole (zone n) w h = h
-as_whole (time from to) w h = h
-as_whole (day from to) w h = h
-as_whole (date a b c d) w h = h
-as_whole holiday w h = h
-as_whole (after_distance n) w h = h
-as_whole (after_time n) w h = h
+as_whole c w h = h
 
 -- a condition has no more of them printed than where it stands
 pub fits : (place : Level) (ts : List Token) (c : Condition) → IsCondition place ts c → Fits place c (weight ts)

@@ -7,9 +7,9 @@ use Rattle.tariff_syntax.specs.IsCondition.{atom, negation, parentheses, one_fac
 use Rattle.tariff_syntax.specs.PrintedCondition.{Level, whole, term, factor, condition_at}
 use Rattle.tariff_syntax.specs.Token.{Token, word, sign}
 use Rattle.tariff_syntax.proofs.ConditionAgain.{weight-append}
-use Rattle.tariff_syntax.proofs.ShownConditions.{Fits, Show, Shown, lift, position_shown, zone_shown, time_shown}
-use Rattle.tariff_syntax.proofs.ShownConditions.{day_atom_shown, date_atom_shown, holiday_shown, distance_shown}
-use Rattle.tariff_syntax.proofs.ShownConditions.{time_passed_shown}
+use Rattle.tariff_syntax.proofs.ShownConditions.{AtomShown, Fits, Show, Shown, lift, position_shown, zone_shown}
+use Rattle.tariff_syntax.proofs.ShownConditions.{time_shown, day_atom_shown, date_atom_shown, holiday_shown}
+use Rattle.tariff_syntax.proofs.ShownConditions.{distance_shown, time_passed_shown}
 use Rattle.tariff_syntax.proofs.Shows.{Shows, blank, shown_word, open_sign, close_sign}
 
 and_shown : (p q : Condition) (a b w : ℕ) → a + b ≤ w → Shown term p a → Shown factor q b → Shown term (tree.and p q) w
@@ -70,21 +70,17 @@ closed_shows c v inner more ts texts ready =
     (sym (append_assoc inner.used (sign (codes ")") ∷ []) ts)) middle in
     (open_sign behind ((inner.used ++ sign (codes ")") ∷ []) ++ ts) texts joined).shows
 
-and_closed : (p q : Condition) (v w : ℕ) → v + 1 ≤ w → Shown whole (tree.and p q) v → Shown factor (tree.and p q) w
-and_closed p q v w few inner = record {
+closed : (c : Condition) (v w : ℕ) → v + 1 ≤ w → (inner : Shown whole c v)
+    → Show (condition_at factor c) (sign (codes "(") ∷ (inner.used ++ sign (codes ")") ∷ [])) → Shown factor c w
+closed c v w few inner show = record {
   used = sign (codes "(") ∷ (inner.used ++ sign (codes ")") ∷ []);
-  is = parentheses inner.used (tree.and p q) inner.is;
+  is = parentheses inner.used c inner.is;
   few = omega (arith, weight-append inner.used (sign (codes ")") ∷ []), inner.few);
-  show = closed_shows (tree.and p q) v inner;
+  show = show;
 }
 
 or_closed : (p q : Condition) (v w : ℕ) → v + 1 ≤ w → Shown whole (tree.or p q) v → Shown factor (tree.or p q) w
-or_closed p q v w few inner = record {
-  used = sign (codes "(") ∷ (inner.used ++ sign (codes ")") ∷ []);
-  is = parentheses inner.used (tree.or p q) inner.is;
-  few = omega (arith, weight-append inner.used (sign (codes ")") ∷ []), inner.few);
-  show = closed_shows (tree.or p q) v inner;
-}
+or_closed p q v w few inner = closed (tree.or p q) v w few inner (closed_shows (tree.or p q) v inner)
 
 or_as_term : (p q : Condition) (w : ℕ) → Shown factor (tree.or p q) w → Shown term (tree.or p q) w
 or_as_term p q w h = record { used = h.used; is = one_factor h.used (tree.or p q) h.is; few = h.few; show = h.show }
@@ -95,6 +91,12 @@ and_as_whole p q w h = record { used = h.used; is = one_term h.used (tree.and p 
 not_lifted : (place : Level) (p : Condition) (w : ℕ) → Shown factor (tree.not p) w → Shown place (tree.not p) w
 not_lifted place p w h = record { used = h.used; is = lift place h.used (tree.not p) h.is; few = h.few; show = h.show }
 
+-- an atom is shown at each place
+of_atom : (place : Level) (c : Condition) (w : ℕ) (a : AtomShown c) → 1 ≤ w → Show (condition_at place c) a.0
+    → Shown place c w
+of_atom place c w a some show =
+    record { used = a.0; is = lift place a.0 c (atom a.0 c a.1); few = omega (arith, a.2, some); show = show }
+
 -- a condition that fits is shown
 pub shown : (place : Level) (c : Condition) (w : ℕ) → Fits place c w → Shown place c w
 shown whole (tree.and p q) w h =
@@ -102,8 +104,9 @@ shown whole (tree.and p q) w h =
 shown term (tree.and p q) w h =
     and_shown p q h.0 h.1 w (omega (arith, h.4)) (shown term p h.0 h.2) (shown factor q h.1 h.3)
 shown factor (tree.and p q) w h =
-    and_closed p q (h.0 + h.1) w (omega (arith, h.4)) (and_as_whole p q (h.0 + h.1)
-    (and_shown p q h.0 h.1 (h.0 + h.1) (omega arith) (shown term p h.0 h.2) (shown factor q h.1 h.3)))
+    let inner = and_as_whole p q (h.0 + h.1)
+    (and_shown p q h.0 h.1 (h.0 + h.1) (omega arith) (shown term p h.0 h.2) (shown factor q h.1 h.3)) in
+    closed (tree.and p q) (h.0 + h.1) w (omega (arith, h.4)) inner (closed_shows (tree.and p q) (h.0 + h.1) inner)
 shown whole (tree.or p q) w h =
     or_shown p q h.0 h.1 w (omega (arith, h.4)) (shown whole p h.0 h.2) (shown term q h.1 h.3)
 shown term (tree.or p q) w h =
@@ -113,62 +116,15 @@ shown factor (tree.or p q) w h =
     or_closed p q (h.0 + h.1) w (omega (arith, h.4))
     (or_shown p q h.0 h.1 (h.0 + h.1) (omega arith) (shown whole p h.0 h.2) (shown term q h.1 h.3))
 shown place (tree.not p) w h = not_lifted place p w (not_shown p h.0 w h.2 (shown factor p h.0 h.1))
-shown place (position n) w h =
-    let a = position_shown h.0.1.0 n h.0.1.2 in
-    record {
-      used = a.0;
-      is = lift place a.0 (position n) (atom a.0 (position n) a.1);
-      few = omega (arith, a.2, h.1);
-      show = a.3;
-    }
-shown place (zone n) w h =
-    let a = zone_shown h.0.1.0 n h.0.1.2 in
-    record {
-      used = a.0;
-      is = lift place a.0 (zone n) (atom a.0 (zone n) a.1);
-      few = omega (arith, a.2, h.1);
-      show = a.3;
-    }
+shown place (position n) w h = let a = position_shown h.0.1.0 n h.0.1.2 in of_atom place (position n) w a h.1 a.3
+shown place (zone n) w h = let a = zone_shown h.0.1.0 n h.0.1.2 in of_atom place (zone n) w a h.1 a.3
 shown place (time from to) w h =
-    let a = time_shown h.0.1.0 h.0.1.1 from to h.0.1.3 h.0.1.4 in
-    record {
-      used = a.0;
-      is = lift place a.0 (time from to) (atom a.0 (time from to) a.1);
-      few = omega (arith, a.2, h.1);
-      show = a.3;
-    }
+    let a = time_shown h.0.1.0 h.0.1.1 from to h.0.1.3 h.0.1.4 in of_atom place (time from to) w a h.1 a.3
 shown place (day from to) w h =
-    let a = day_atom_shown h.0.1.0 from to h.0.1.2 in
-    record {
-      used = a.0;
-      is = lift place a.0 (day from to) (atom a.0 (day from to) a.1);
-      few = omega (arith, a.2, h.1);
-      show = a.3;
-    }
+    let a = day_atom_shown h.0.1.0 from to h.0.1.2 in of_atom place (day from to) w a h.1 a.3
 shown place (date m n x y) w h =
-    let a = date_atom_shown h.0.1.0 h.0.1.1 m n x y h.0.1.3 h.0.1.4 in
-    record {
-      used = a.0;
-      is = lift place a.0 (date m n x y) (atom a.0 (date m n x y) a.1);
-      few = omega (arith, a.2, h.1);
-      show = a.3;
-    }
-shown place holiday w h =
-    let a = holiday_shown in
-    record { used = a.0; is = lift place a.0 holiday (atom a.0 holiday a.1); few = omega (arith, a.2, h.1); show = a.3 }
+    let a = date_atom_shown h.0.1.0 h.0.1.1 m n x y h.0.1.3 h.0.1.4 in of_atom place (date m n x y) w a h.1 a.3
+shown place holiday w h = of_atom place holiday w holiday_shown h.1 holiday_shown.3
 shown place (after_distance n) w h =
-    let a = distance_shown h.0.1.0 n h.0.1.2 in
-    record {
-      used = a.0;
-      is = lift place a.0 (after_distance n) (atom a.0 (after_distance n) a.1);
-      few = omega (arith, a.2, h.1);
-      show = a.3;
-    }
-shown place (after_time n) w h =
-    let a = time_passed_shown h.0.1.0 n h.0.1.2 in
-    record {
-      used = a.0;
-      is = lift place a.0 (after_time n) (atom a.0 (after_time n) a.1);
-      few = omega (arith, a.2, h.1);
-      show = a.3;
-    }
+    let a = distance_shown h.0.1.0 n h.0.1.2 in of_atom place (after_distance n) w a h.1 a.3
+shown place (after_time n) w h = let a = time_passed_shown h.0.1.0 n h.0.1.2 in of_atom place (after_time n) w a h.1 a.3

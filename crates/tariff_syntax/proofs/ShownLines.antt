@@ -1,6 +1,7 @@
 -- The printed form of a tariff reads as that tariff.
 use Rattle.std.proofs.Common.{◌≡◌, inl, inr, ℕ, ◌+◌, ◌^◌, ◌≤◌, true, List, [], ◌∷◌, ◌++◌, Option, Some, None, refl, ap}
 use Rattle.std.proofs.Common.{sym, ◌∙◌, subst, arith, codes, append_assoc}
+use Rattle.std.proofs.lemmas.List.{append-nil}
 use Rattle.std.specs.Prelude.{⊤}
 use Rattle.std.specs.Fmt.{decimal}
 use Rattle.drive_modes.specs.declared.meterage.Rounding.{Rounding}
@@ -54,10 +55,6 @@ LineShown d e rest = (ts : List Token) × IsItem d ts e × Shows (entry_line d e
 abbrev EndShown : Option Condition → List ℕ → Type 0
 EndShown when rest = (ts : List Token) × IsWhen ts when × Ready (when_text when rest) ts (lines_of rest)
 
-nothing : (xs : List Token) → xs ++ [] ≡ xs
-nothing [] = refl
-nothing (x ∷ xs) = ap (λ (ys : List Token). x ∷ ys) (nothing xs)
-
 when_shown : (when : Option Condition) (ws : List Token) (rest : List ℕ) → IsWhen ws when → EndShown when rest
 unfolding condition_text
 when_shown None ws rest h = ([], refl, line_feed rest)
@@ -65,7 +62,7 @@ when_shown (Some c) ws rest h =
     let is = shown whole c (weight h.0) (fits whole h.0 c h.2) in
     let texts = lines_of rest in
     let behind = condition_at whole c (codes "\n" ++ rest) in
-    let last = subst (λ (us : List Token). Shows behind us texts) (nothing is.used)
+    let last = subst (λ (us : List Token). Shows behind us texts) (append-nil is.used)
     (is.show (codes "\n" ++ rest) [] texts (line_feed rest)) in (
       word (codes "when") ∷ is.used,
       (is.used, refl, is.is, omega (arith, size_is whole is.used c is.is, is.few, size_is whole h.0 c h.2, h.3)),

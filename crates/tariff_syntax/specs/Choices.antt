@@ -1,4 +1,4 @@
--- Rules: the choices of a kind among lines, which are rates, initial hire fees or minimum fares.
+-- Rules: the choices of a kind among lines, such as rates.
 use Rattle.std.specs.Prelude.{ℕ, List, map, Option, Some, None}
 use Rattle.std.specs.List.{filter_map}
 use Rattle.std.specs.Option.{option_map}

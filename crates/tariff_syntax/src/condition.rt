@@ -1,8 +1,8 @@
-//! The condition of a rate, an initial hire fee or a minimum fare.
+//! The condition of a line, such as a rate.
 
-/// When a rate, an initial hire fee or a minimum fare holds. What it asks is asked at the beginning of a measuring
+/// When a line holds that may have a condition, such as a rate. What it asks is asked at the beginning of a measuring
 /// interval, in local time. The conditions are this project's own.
-#[derive(Debug, Drop)]
+#[derive(Drop)]
 pub enum Cond {
     /// Both hold.
     And(Box<Cond>, Box<Cond>),

@@ -2,7 +2,8 @@
 #![tactic(auto, unfolding(crate::specs::Parsed::entries_read))]
 
 ghost use Rattle.std.specs.Prelude.{◌≡◌, ◌+◌, ◌<◌, ◌≤◌, ◌^◌, ◌∷◌, [], ℕ, List, Result, length, map, MatchOption, IfOk};
-ghost use Rattle.std.specs.Prelude.{OnOk, OnErr, Err, Some, drop, if◌then◌else◌};
+ghost use Rattle.std.specs.Prelude.{OnOk, OnErr, Err, Some, drop, is_none, if◌then◌else◌};
+ghost use Rattle.tariff_syntax.specs.Items.{item_read};
 ghost use Rattle.tariff_syntax.specs.Parsed.{before, line_read, entries_read, heading_read};
 ghost use Rattle.tariff_syntax.specs.TextLines.{lines_of, is_inner};
 ghost use Rattle.tariff_syntax.specs.Parses.{AreRead, HasEntry, IsAnswer, IsFaultBelow, bad_in};
@@ -188,9 +189,14 @@ fn is_bad(alloc: Global, decimals: u8, line: &[u8]) -> bool
     ensures { (number : ℕ) → (below : Result (List Line) ℕ)
         → bad_in (line_read decimals number line.now below) ≡ (if result then Some number else bad_in below) }
 {
-    if is_over(line) {
-        return false;
-    }
+    !is_over(line) && has_no_form(alloc, decimals, line)
+}
+
+/// Whether a line has none of the forms of a line.
+fn has_no_form(alloc: Global, decimals: u8, line: &[u8]) -> bool
+    requires { decimals ≤ 3 }
+    ensures { result ≡ is_none (item_read decimals (tokens_of line.now)) }
+{
     matches!(item(alloc, decimals, line), Err(LineFault::Bad))
 }
 

@@ -10,7 +10,7 @@ use taxi_units::NoMemory;
 
 /// A rate: the amount `a` for each `b` decimetres, and the amount `c` for each `e` tenths of a second.
 /// Without a condition it holds always.
-#[derive(Debug, Drop)]
+#[derive(Drop)]
 pub struct RateLine {
     pub a: u64,
     pub b: u64,
@@ -30,7 +30,7 @@ pub struct RateNumbers {
 }
 
 /// An initial hire fee, and the amount of charges that it covers. Without a condition it holds always.
-#[derive(Debug, Drop)]
+#[derive(Drop)]
 pub struct InitialLine {
     pub amount: u64,
     pub covers: u64,
@@ -54,14 +54,14 @@ impl InitialNumbers {
 
 /// A minimum fare: what a trip costs at the least, without its supplements. Without a condition it holds
 /// always.
-#[derive(Debug, Drop)]
+#[derive(Drop)]
 pub struct MinimumLine {
     pub amount: u64,
     pub cond: Option<Cond>,
 }
 
 /// What a line of a tariff says.
-#[derive(Debug, Drop)]
+#[derive(Drop)]
 pub enum Item {
     /// The display step, and how the fare is rounded to it.
     Step { amount: u64, rounding: Rounding },
@@ -82,14 +82,14 @@ pub enum Item {
 }
 
 /// A line of a tariff, with its number in the text, from 1.
-#[derive(Debug, Drop)]
+#[derive(Drop)]
 pub struct TariffLine {
     pub line: u32,
     pub item: Item,
 }
 
 /// The lines of a tariff, in their order.
-#[derive(Debug, Drop)]
+#[derive(Drop)]
 pub struct Lines {
     lines: Vec<TariffLine>,
 }
@@ -134,7 +134,7 @@ impl Lines {
 }
 
 /// A tariff: the decimals of its money, 0 to 3, and its lines.
-#[derive(Debug, Drop)]
+#[derive(Drop)]
 pub struct Tariff {
     pub decimals: u8,
     pub lines: Lines,

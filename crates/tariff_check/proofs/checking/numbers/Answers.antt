@@ -1,10 +1,27 @@
-use Rattle.std.proofs.Common.{◌≤◌, ◌^◌, inl, inr, map, sym, subst}
+use Rattle.std.proofs.Common.{◌≡◌, ℕ, ◌<◌, ◌≤◌, ◌^◌, ◌∙◌, List, Option, Some, None, inl, inr, map, refl, sym, ap}
+use Rattle.std.proofs.Common.{arith, subst}
+use Rattle.std.specs.Option.{option_or}
+use Rattle.std.proofs.lemmas.Bool.{le-ltb, lt-ltb}
 use Rattle.std.proofs.lemmas.Result.{err_from_is_err_and}
-use Rattle.tariff_syntax.specs.Tree.{line_of}
+use Rattle.tariff_syntax.specs.Tree.{Line, line_of}
+use Rattle.tariff_check.specs.Cells.{cells_of}
+use Rattle.tariff_check.specs.Faults.{faults_of, first_some}
 use Rattle.tariff_check.specs.Measure.{measure_of}
+use Rattle.tariff_check.specs.Stages.{cut_fault, early_fault, late_fault}
+use Rattle.tariff_check.specs.declared.fault.CheckFault.{CheckFault}
+use Rattle.tariff_check.specs.declared.fault.CheckFault.TheVariants.{TooManyCells}
 use Rattle.tariff_check.proofs.Staging.{cuts_are_first, early_is_first, early_no_memory, measured_if, none_before_cuts}
-use Rattle.tariff_check.proofs.Staging.{step_is_first, step_no_memory}
+use Rattle.tariff_check.proofs.Staging.{staged, step_is_first, step_no_memory}
 use Rattle.tariff_check.proofs.checking.numbers.Goals as goal
+
+-- where no other fault is there, too many cells are
+cells_are_last : (ls : List Line) (cells : ℕ) → None ≡ early_fault ls → measure_of ls ≤ 10 ^ 18 → cut_fault ls ≡ None
+    → cells ≡ cells_of ls → 64512 < cells → first_some (faults_of ls) ≡ Some (TooManyCells cells)
+cells_are_last ls cells early common cuts is many =
+    let above : 64512 < cells_of ls = omega (arith, is, many) in
+    staged ls ∙ (ap (λ (o : Option CheckFault). option_or o (late_fault ls)) (sym early)
+    ∙ (rw (le-ltb (10 ^ 18) (measure_of ls) common, cuts, lt-ltb 64512 (cells_of ls) above) refl
+    ∙ ap (λ (n : ℕ). Some (TooManyCells n)) (sym is)))
 
 pub returns-in_err-step-clause-fault : goal.returns-in_err-step-clause-fault
 returns-in_err-step-clause-fault c =
@@ -45,3 +62,21 @@ returns-in_err-counts-clause-memory c =
     subst (λ m. m ≤ 10 ^ 18) c.in-Some-measure.ensures.0 c.in-Some-measure.ensures.1 in
     let p = err_from_is_err_and c.from_residual-in_err-counts.result c.from_residual-in_err-counts.ensures.1 in
     rw (p.1, p.2) (λ e. none_before_cuts (map line_of c.args.lines.now) (sym c.in_default.ensures) common)
+
+pub returns-then-cells-gt-MOST_CELLS-clause-fault : goal.returns-then-cells-gt-MOST_CELLS-clause-fault
+returns-then-cells-gt-MOST_CELLS-clause-fault c =
+    let lines = map line_of c.args.lines.now in
+    let common : measure_of lines ≤ 10 ^ 18 =
+    subst (λ m. m ≤ 10 ^ 18) c.in-Some-measure.ensures.0 c.in-Some-measure.ensures.1 in
+    let has = c.in_ok-counts.ensures.counts in
+    let cells : c.cells-cells.result ≡ cells_of lines = c.cells-cells.ensures ∙ rw (
+      c.positions-positions.ensures,
+      c.zones-zones.ensures,
+      c.has_holidays.ensures,
+      has.month_day.0,
+      has.minute.0,
+      has.distance.0,
+      has.time.0,
+    ) refl in
+    inr (cells_are_last lines c.cells-cells.result c.in_default.ensures common c.in_ok-counts.ensures.none cells
+    c.if-cells-gt-MOST_CELLS.true)

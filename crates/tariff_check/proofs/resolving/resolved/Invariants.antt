@@ -1,9 +1,11 @@
 use Rattle.std.proofs.Common.{◌≡◌, ◌++◌, map, drop, take}
 use Rattle.tariff_syntax.specs.Tree.{line_of}
 use Rattle.tariff_check.specs.ChoiceLines.{choice_lines, choices_behind}
-use Rattle.tariff_check.specs.Parts.{holidays_of, initial_part, minimum_part, parts, rate_part}
+use Rattle.tariff_check.specs.Kinds.{kept_of, part_of}
+use Rattle.tariff_check.specs.Parts.{holidays_of, parts}
 use Rattle.tariff_check.specs.Resolved.{placed_from}
 use Rattle.tariff_check.specs.SoundTariff.{numbered_supplement}
+use Rattle.tariff_check.specs.declared.choice.ChoiceKind.{ChoiceKind}
 use Rattle.tariff_check.proofs.resolving.resolved.Given as goal
 
 abbrev pub invariant-loop-place : goal.invariant-loop-place
@@ -12,12 +14,9 @@ invariant-loop-place l = record {
       ≡ holidays_of (map line_of l.lines);
   supplements : l.parts.supplements.items ++ parts numbered_supplement (map line_of (drop l.place l.lines))
       ≡ parts numbered_supplement (map line_of l.lines);
-  rates : l.parts.rates.items ++ placed_from rate_part l.place (map line_of (drop l.place l.lines))
-      ≡ placed_from rate_part 0 (map line_of l.lines);
-  initials : l.parts.initials.items ++ placed_from initial_part l.place (map line_of (drop l.place l.lines))
-      ≡ placed_from initial_part 0 (map line_of l.lines);
-  minimums : l.parts.minimums.items ++ placed_from minimum_part l.place (map line_of (drop l.place l.lines))
-      ≡ placed_from minimum_part 0 (map line_of l.lines);
+  choices : (kind : ChoiceKind)
+      → kept_of kind l.parts.choices ++ placed_from (part_of kind) l.place (map line_of (drop l.place l.lines))
+      ≡ placed_from (part_of kind) 0 (map line_of l.lines);
   choice_lines : l.parts.choice_lines.items
       ++ choices_behind (map line_of (take l.place l.lines)) (map line_of (drop l.place l.lines))
       ≡ choice_lines (map line_of l.lines);

@@ -1,5 +1,5 @@
-use Rattle.tariff_check.proofs.Laws.{lines_that_hold_are_there-initial, lines_that_hold_are_there-minimum}
-use Rattle.tariff_check.proofs.Laws.{lines_that_hold_are_there-rate}
+use Rattle.tariff_check.proofs.Laws.{lines_that_hold_are_there-initial, lines_that_hold_are_there-rate}
+use Rattle.tariff_check.proofs.Laws.{lines_that_hold_are_there-there}
 use Rattle.tariff_check.proofs.theorems.lines_that_hold_are_there.Goals as goal
 
 pub returns-clause-rate : goal.returns-clause-rate
@@ -8,5 +8,5 @@ returns-clause-rate c = lines_that_hold_are_there-rate
 pub returns-clause-initial : goal.returns-clause-initial
 returns-clause-initial c = lines_that_hold_are_there-initial
 
-pub returns-clause-minimum : goal.returns-clause-minimum
-returns-clause-minimum c = lines_that_hold_are_there-minimum
+pub returns-clause-there : goal.returns-clause-there
+returns-clause-there c = lines_that_hold_are_there-there

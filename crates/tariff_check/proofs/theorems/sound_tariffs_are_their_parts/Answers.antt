@@ -1,6 +1,9 @@
-use Rattle.tariff_check.proofs.Laws.{sound_tariffs_are_their_parts-frame}
+use Rattle.tariff_check.proofs.Laws.{sound_tariffs_are_their_parts-frame, sound_tariffs_are_their_parts-one_part}
 use Rattle.tariff_check.proofs.Laws.{sound_tariffs_are_their_parts-lines, sound_tariffs_are_their_parts-supplements}
 use Rattle.tariff_check.proofs.theorems.sound_tariffs_are_their_parts.Goals as goal
+
+pub returns-clause-one_part : goal.returns-clause-one_part
+returns-clause-one_part c = sound_tariffs_are_their_parts-one_part
 
 pub returns-clause-lines : goal.returns-clause-lines
 returns-clause-lines c = sound_tariffs_are_their_parts-lines
