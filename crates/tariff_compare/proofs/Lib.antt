@@ -20,6 +20,8 @@ pub mod Found
 pub mod GridIs
 -- the days of the grid are in order, and each day is like one of them
 pub mod GridDays
+-- what is so of each kind of line
+pub mod EachKind
 -- the laws that the crates above may cite
 pub mod Laws
 -- the first answer of one search after another
@@ -32,7 +34,5 @@ pub mod Numbers
 pub mod Order
 -- numbers from one on
 pub mod Ranges
--- what the rates of a side cost
-mod SideRates
 -- days and minutes of a meter
 pub mod Times

@@ -1,22 +1,15 @@
 -- Rules: the text of what differs first between two tariffs.
 use Rattle.std.specs.Prelude.{ℕ, List, [], ◌++◌, Option, Some, None, codes, decimal}
 use Rattle.tariff_check.specs.FoundLines.{frame_line, line_in_force}
-use Rattle.tariff_check.specs.declared.choice.ChoiceKind.{ChoiceKind}
-use Rattle.tariff_check.specs.declared.choice.ChoiceKind.TheVariants.{Rate, Initial, Minimum}
 use Rattle.tariff_check.specs.declared.found_lines.FramePart.TheVariants as frame
 use Rattle.tariff_syntax.specs.Printed.{entry_line, number_line, without_when}
 use Rattle.tariff_syntax.specs.Tree.{Tree, Line}
 use Rattle.tariff_syntax.specs.Writable.{IsFromTo}
 use Rattle.tariff_compare.specs.Contexts.{context_at}
+use Rattle.tariff_compare.specs.Kinds.{part_word}
 use Rattle.tariff_compare.specs.Texts.{context_text}
 use Rattle.tariff_compare.specs.declared.difference.Difference.{Difference}
 use Rattle.tariff_compare.specs.declared.difference.Difference.TheVariants.{Decimals, Step, Rounded, Positions, Zones, Supplement, In}
-
--- a kind of lines has its word in capitals where lines of it differ
-abbrev pub part_word : ChoiceKind → List ℕ
-part_word Rate = codes "RATE "
-part_word Initial = codes "INITIAL "
-part_word Minimum = codes "MINIMUM "
 
 -- what differs is told by a word, for a supplement with its number, and in a context with the context
 abbrev pub part_text : Difference → List ℕ

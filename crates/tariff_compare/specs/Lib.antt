@@ -3,6 +3,7 @@ pub mod Counting
 pub mod DifferenceTexts
 pub mod Differences
 pub mod Grids
+pub mod Kinds
 pub mod Same
 pub mod Searches
 pub mod Sides

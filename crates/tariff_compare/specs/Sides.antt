@@ -1,35 +1,32 @@
--- For proofs: what is asked of a tariff in a context of a meter, answered by its tables. Counting and Same say it of
+-- For proofs: what is asked of a tariff in a context of a meter, answered by its tables. Counting and Kinds say it of
 -- the tariff.
-use Rattle.std.specs.Prelude.{ℕ, ◌+◌, ◌*◌, Bool, not, ◌&&◌, ◌==◌, if◌then◌else◌, List, map, get_or, Option, Some, None, pos}
+use Rattle.std.specs.Prelude.{ℕ, ◌-◌, Bool, not, ◌&&◌, ◌==◌, if◌then◌else◌, List, get_or, Option, Some, None, pos}
 use Rattle.std.specs.Prelude.{is_some}
 use Rattle.std.specs.List.{list_any}
 use Rattle.interval_clock.specs.Calendar.{date_after, date_place, weekday_of}
 use Rattle.tariff_check.specs.Parts.{RateNumbers, rates_of}
 use Rattle.tariff_compile.specs.Tables.{TableParts, fees_in, lines_in, tables_of}
-use Rattle.tariff_compile.specs.declared.parts.CellLines.{CellLines}
+use Rattle.tariff_check.specs.Amounts.{initial_by}
+use Rattle.tariff_check.specs.declared.values.Initial as fees
+use Rattle.tariff_compile.specs.declared.cells.CellLines.{CellLines}
 use Rattle.tariff_syntax.specs.Tree.{Tree}
 use Rattle.tariff_syntax.specs.declared.context.Context.{Context}
 use Rattle.tariff_check.specs.declared.choice.ChoiceKind.{ChoiceKind}
 use Rattle.tariff_check.specs.declared.choice.ChoiceKind.TheVariants.{Rate, Initial, Minimum}
-use Rattle.tariff_compare.specs.Counting.{counts, is_hiring}
-use Rattle.tariff_compare.specs.Same.{difference_at, have_same_fee, have_same_minimum}
+use Rattle.tariff_compare.specs.Counting.{counts, is_asked, is_at}
+use Rattle.tariff_compare.specs.Kinds.{cost_same, difference_at, have_same_fee, have_same_minimum, is_hiring, rate_in}
 use Rattle.tariff_compare.specs.declared.meter_context.MeterContext.{MeterContext}
 use Rattle.tariff_compare.specs.declared.question.Question.{Question}
 use Rattle.tariff_compare.specs.declared.question.Question.TheVariants.{Counts, Differs}
-use Rattle.tariff_compare.specs.declared.costs.RateCosts.{RateCosts}
 
--- one side of a comparison has the tables of a tariff, and what its rates cost
+-- one side of a comparison has the tables of a tariff, and its rates
 pub record SideParts : Type 0 where
   pub tables : TableParts
-  pub rates : List RateCosts
+  pub rates : List RateNumbers
 
--- what a rate costs is its numbers
-abbrev pub costs_of : RateNumbers → RateCosts
-costs_of r = record { a = r.a; b = r.b; c = r.c; e = r.e }
-
--- the side of a tariff under a constant has its tables, and the numbers of its rates
+-- the side of a tariff under a constant has its tables and its rates
 abbrev pub side_of : Tree → (k : ℕ) → SideParts
-side_of t k = record { tables = tables_of t k; rates = map costs_of (rates_of t.lines) }
+side_of t k = record { tables = tables_of t k; rates = rates_of t.lines }
 
 -- a day is among holidays if one of them has its number
 abbrev pub is_among : List ℕ → (day : ℕ) → Bool
@@ -55,42 +52,47 @@ context_by tables m =
 unfoldable pub lines_by : TableParts → MeterContext → CellLines
 lines_by tables m = lines_in tables (context_by tables m)
 
+-- the place that a number from 1 on tells, and none where it is 0
+abbrev pub place_before : (number : ℕ) → Option ℕ
+place_before number = if number == 0 then None else Some (number - 1)
+
+-- the place of the line of a kind that a cell names, from 0, where it names one
+abbrev pub place_in : ChoiceKind → CellLines → Option ℕ
+place_in Rate lines = Some lines.rate
+place_in Initial lines = Some lines.initial
+place_in Minimum lines = place_before lines.minimum
+
 -- whether a line counts, by the tables
 abbrev pub counts_by : TableParts → ChoiceKind → (place : ℕ) → MeterContext → Bool
-counts_by tables Rate place m = (lines_by tables m).rate == place
-counts_by tables Initial place m = is_hiring m && ((lines_by tables m).initial == place)
-counts_by tables Minimum place m = is_hiring m && ((lines_by tables m).minimum == place + 1)
+counts_by tables kind place m = is_asked kind m && is_at place (place_in kind (lines_by tables m))
 
--- what the rate of a context costs, by the tables
-unfoldable pub costs_by : SideParts → MeterContext → RateCosts
-costs_by side m =
-    get_or side.rates (lines_by side.tables m).rate (record { a = 0; b = 0; c = 0; e = 0 })
+-- what is in force in a context is what its rate charges, and the fees at its hiring
+pub record InForce : Type 0 where
+  pub rate : RateNumbers
+  pub hiring : fees.Initial
 
--- two rates cost alike
-abbrev pub cost_alike : RateCosts → RateCosts → Bool
-cost_alike r s = (r.a * s.b == s.a * r.b) && (r.c * s.e == s.c * r.e)
+-- what is in force by a tariff, and by the tables of a side
+abbrev pub in_force : Tree → Context → InForce
+in_force t x = record { rate = rate_in t x; hiring = initial_by t x }
 
--- whether the fee differs, by the tables
-unfoldable pub is_fee_other_by : (one other : SideParts) → MeterContext → Bool
-is_fee_other_by one other m =
-    is_hiring m
-    && not (have_same_fee (fees_in one.tables (context_by one.tables m))
-    (fees_in other.tables (context_by other.tables m)))
+unfoldable pub in_force_by : SideParts → Context → InForce
+in_force_by side x = record {
+  rate = get_or side.rates (lines_in side.tables x).rate (record { a = 0; b = 0; c = 0; e = 0 });
+  hiring = fees_in side.tables x;
+}
 
--- whether the minimum fare differs, by the tables
-unfoldable pub is_minimum_other_by : (one other : SideParts) → MeterContext → Bool
-is_minimum_other_by one other m =
-    is_hiring m
-    && not (have_same_minimum (fees_in one.tables (context_by one.tables m))
-    (fees_in other.tables (context_by other.tables m)))
+-- the kind that differs first in a context of a meter, by what is in force there on both sides
+unfoldable pub differing_kind : MeterContext → (one other : InForce) → Option ChoiceKind
+differing_kind m one other =
+    if is_hiring m && not (have_same_fee one.hiring other.hiring) then Some Initial
+    else (if is_hiring m && not (have_same_minimum one.hiring other.hiring) then Some Minimum
+    else (if cost_same one.rate other.rate then None
+    else Some Rate))
 
 -- what differs in a context, by the tables
 abbrev pub difference_by : (one other : SideParts) → MeterContext → Option ChoiceKind
 difference_by one other m =
-    if is_fee_other_by one other m then Some Initial
-    else (if is_minimum_other_by one other m then Some Minimum
-    else (if cost_alike (costs_by one m) (costs_by other m) then None
-    else Some Rate))
+    differing_kind m (in_force_by one (context_by one.tables m)) (in_force_by other (context_by other.tables m))
 
 -- the answer to a question in a context, by the tables of both sides; of one line, the first side alone is asked
 abbrev pub is_met_by : (one other : SideParts) → Question → MeterContext → Bool

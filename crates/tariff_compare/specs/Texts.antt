@@ -1,12 +1,12 @@
 -- Rules: the texts of contexts of a meter, and of the uses of lines.
-use Rattle.std.specs.Prelude.{ℕ, ◌/◌, ◌%◌, List, ◌++◌, Option, Some, None, codes, decimal, pos}
+use Rattle.std.specs.Prelude.{ℕ, ◌/◌, ◌%◌, if◌then◌else◌, List, ◌++◌, Option, Some, None, codes, decimal, pos}
 use Rattle.std.specs.List.{flat_map}
 use Rattle.interval_clock.specs.Calendar.{date_after, weekday_of}
 use Rattle.interval_clock.specs.declared.day_numbers.CalendarDate.{CalendarDate}
 use Rattle.taxi_units.specs.Number.{padded_text}
 use Rattle.taxi_units.specs.Weekdays.{day_name}
 use Rattle.tariff_check.specs.declared.choice.ChoiceKind.{ChoiceKind}
-use Rattle.tariff_check.specs.declared.choice.ChoiceKind.TheVariants.{Rate, Initial, Minimum}
+use Rattle.tariff_compare.specs.Kinds.{is_asked_amid, kind_word}
 use Rattle.tariff_compare.specs.declared.meter_context.MeterContext.{MeterContext}
 use Rattle.tariff_compare.specs.declared.uses.LineUse.{LineUse}
 
@@ -35,16 +35,9 @@ hiring_text m = place_text m.position m.zone ++ (codes " " ++ moment_text m.day 
 unfoldable pub trip_text : MeterContext → List ℕ
 trip_text m = hiring_text m ++ (codes " " ++ (decimal m.ticks ++ (codes " t " ++ (decimal m.pulses ++ codes " p"))))
 
--- a context in which a rate is asked is one amid a trip, and one in which a fee or a minimum fare is asked is a hiring
+-- a context in which a kind is asked amid a trip is written as one, and one in which another kind is asked as a hiring
 abbrev pub context_text : ChoiceKind → MeterContext → List ℕ
-context_text Rate m = trip_text m
-context_text kind m = hiring_text m
-
--- a line of a kind has the word with which it begins
-abbrev pub kind_word : ChoiceKind → List ℕ
-kind_word Rate = codes "rate"
-kind_word Initial = codes "initial"
-kind_word Minimum = codes "minimum"
+context_text kind m = if is_asked_amid kind then trip_text m else hiring_text m
 
 -- a line holds first in a context, or never
 abbrev pub first_text : ChoiceKind → Option MeterContext → List ℕ

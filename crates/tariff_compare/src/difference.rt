@@ -34,15 +34,13 @@ pub enum Difference {
     Zones,
     /// The amount of the supplement of a number, or how often a hiring may have it.
     Supplement(u8),
-    /// In a context of a meter, which is a hiring but for a rate: the initial hire fee in amount or cover, the minimum
-    /// fare, or what the rate costs.
+    /// In a context of a meter, which is a hiring but for a rate: a fee of the hiring, or what the rate costs.
     In(ChoiceKind, MeterContext),
 }
 
 /// What differs first between two sound tariffs under a constant; `None` exactly where they are the same. Decimals,
-/// display step, rounding, positions, zones and supplements come before all contexts; in one context the initial hire
-/// fee comes before the minimum fare and that before the rate. When tariffs are the same is this project's own.
-/// `NoMemory` where memory runs out.
+/// display step, rounding, positions, zones and supplements come before all contexts; in one context the fees of a
+/// hiring come before the rate. When tariffs are the same is this project's own. `NoMemory` where memory runs out.
 pub fn first_difference(
     alloc: Global,
     one: &Checked,
@@ -151,8 +149,18 @@ fn context_difference(
 {
     let one = Side::of(alloc, one, k)?;
     let other = Side::of(alloc, other, k)?;
+    side_difference(alloc, &one, &other)
+}
+
+/// What differs first in the contexts of a meter between two sides of the same positions and zones.
+fn side_difference(alloc: Global, one: &Side, other: &Side) -> Result<Option<Difference>, NoMemory>
+    requires positions { one.now.tables.positions ≡ other.now.tables.positions }
+    requires zones { one.now.tables.zones ≡ other.now.tables.zones }
+    ensures value { IfOk result (λ d. d ≡ context_difference one.now other.now) }
+    ensures dated { IfOk result IsDatedOrNone }
+{
     let grid = Grid::of(alloc, one.tables(), other.tables())?;
-    Ok(difference_found(&one, &other, &grid))
+    Ok(difference_found(one, other, &grid))
 }
 
 /// What differs first in the contexts of a grid.

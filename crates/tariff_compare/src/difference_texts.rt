@@ -1,14 +1,15 @@
 //! The text of what differs first between two tariffs.
 ghost use Rattle.std.specs.Prelude.{◌≡◌, ◌≤◌, ◌++◌, [], IfOk, OnOk, Some, decimal};
 ghost use Rattle.tariff_syntax.specs.Tree.{line_of, tree_of};
-ghost use Rattle.tariff_compare.specs.DifferenceTexts.{IsDatedDifference, IsDatedOrNone, comparison_text, default_text, line_text, part_text, part_word, side_text};
+ghost use Rattle.tariff_compare.specs.DifferenceTexts.{IsDatedDifference, IsDatedOrNone, comparison_text, default_text, line_text, part_text, side_text};
 
 use crate::difference::Difference;
 use crate::difference_lines::line_of_difference;
+use crate::kinds::push_part_word;
 use crate::texts::{push_context, push_decimal};
 use drive_modes::Constant;
 use std::alloc::{AllocError, Global};
-use tariff_check::{Checked, ChoiceKind};
+use tariff_check::Checked;
 use tariff_syntax::{TariffLine, print_line};
 use taxi_units::NoMemory;
 
@@ -83,17 +84,6 @@ fn push_named(text: &mut Vec<u8>, name: &[u8], number: u8) -> Result<(), AllocEr
 {
     text.extend_from_slice(name)?;
     push_decimal(text, number as u64)
-}
-
-/// The word of a kind whose lines differ.
-fn push_part_word(text: &mut Vec<u8>, kind: ChoiceKind) -> Result<(), AllocError>
-    ensures { OnOk result (text.new.items ≡ text.old.items ++ part_word kind) }
-{
-    match kind {
-        ChoiceKind::Rate => text.extend_from_slice(b"RATE "),
-        ChoiceKind::Initial => text.extend_from_slice(b"INITIAL "),
-        ChoiceKind::Minimum => text.extend_from_slice(b"MINIMUM "),
-    }
 }
 
 /// A tariff's line of what differs.

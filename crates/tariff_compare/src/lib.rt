@@ -9,6 +9,7 @@ mod difference;
 mod difference_lines;
 mod difference_texts;
 mod grid;
+mod kinds;
 mod meter_context;
 mod question;
 mod search;

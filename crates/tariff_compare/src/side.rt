@@ -1,23 +1,23 @@
 //! One side of a comparison.
 ghost use Rattle.std.specs.Prelude.{◌≡◌, get_or, IfOk};
-ghost use Rattle.tariff_compile.specs.Tables.{IsCompiled, IsInRangeFor, lines_in};
+ghost use Rattle.tariff_compile.specs.Tables.{IsCompiled, IsInRangeFor, fees_in, lines_in};
 ghost use Rattle.tariff_compare.specs.Sides.{side_of};
 ghost use Rattle.tariff_syntax.specs.Tree.{tree_of};
 
-use crate::costs::{RateCosts, all_costs, costs_at};
+use crate::costs::{all_rates, rate_at};
 use drive_modes::Constant;
 use std::alloc::Global;
 use std::marker::Model;
-use tariff_check::Checked;
+use tariff_check::{Checked, Initial, RateNumbers};
 use tariff_compile::{Tables, compile};
 use tariff_syntax::Context;
 use taxi_units::NoMemory;
 
-/// The tables of a tariff, and what its rates cost.
+/// The tables of a tariff, and its rates.
 #[derive(Drop)]
 pub(crate) struct Side {
     tables: Tables,
-    rates: Vec<RateCosts>,
+    rates: Vec<RateNumbers>,
 }
 
 impl Model for Side {
@@ -35,7 +35,7 @@ impl Side {
     {
         Ok(Side {
             tables: compile(alloc, checked, k)?,
-            rates: all_costs(alloc, checked.rates())?,
+            rates: all_rates(alloc, checked.rates())?,
         })
     }
 
@@ -48,12 +48,20 @@ impl Side {
         &self.tables
     }
 
-    /// What the rate costs that holds first in a context.
-    pub(crate) fn costs_at(&self, x: &Context) -> RateCosts
+    /// The rate that holds first in a context.
+    pub(crate) fn rate_at(&self, x: &Context) -> RateNumbers
         requires { IsInRangeFor self.now.tables x.now }
         ensures { result ≡ get_or self.now.rates (lines_in self.now.tables x.now).rate
             (record { a = 0; b = 0; c = 0; e = 0 }) }
     {
-        costs_at(self.rates.as_slice(), self.tables.lines_at(x).rate as usize)
+        rate_at(self.rates.as_slice(), self.tables.lines_at(x).rate as usize)
+    }
+
+    /// The fees that hold first at the hiring of a context.
+    pub(crate) fn fees_at(&self, x: &Context) -> Initial
+        requires { IsInRangeFor self.now.tables x.now }
+        ensures { result ≡ fees_in self.now.tables x.now }
+    {
+        self.tables.fees_at(x)
     }
 }

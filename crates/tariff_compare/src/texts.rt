@@ -1,13 +1,14 @@
 //! The texts of contexts of a meter, and of the uses of lines.
 ghost use Rattle.std.specs.Prelude.{◌≡◌, ◌≤◌, ◌++◌, All, IfOk, OnOk, decimal, pos};
 ghost use Rattle.interval_clock.specs.Calendar.{weekday_of};
-ghost use Rattle.tariff_compare.specs.Texts.{context_text, date_text, first_text, hiring_text, kind_word, minute_text, moment_text, place_text, trip_text, use_text, uses_text};
+ghost use Rattle.tariff_compare.specs.Texts.{context_text, date_text, first_text, hiring_text, minute_text, moment_text, place_text, trip_text, use_text, uses_text};
 ghost use Rattle.tariff_compare.specs.Uses.{IsDated, IsDatedUse};
 ghost use Rattle.taxi_units.specs.Weekdays.{day_name};
 ghost use Rattle.tariff_syntax.specs.Writable.{IsFromTo};
 ghost use Rattle.taxi_units.specs.Number.{padded_text};
 
 use crate::day::weekday_of;
+use crate::kinds::{is_asked_amid, push_kind};
 use crate::meter_context::MeterContext;
 use crate::uses::LineUse;
 use interval_clock::{CalendarDate, date_of_day};
@@ -43,17 +44,6 @@ fn push_use(text: &mut Vec<u8>, one: &LineUse) -> Result<(), AllocError>
     push_first(text, one.kind, &one.first)
 }
 
-/// The word of a kind.
-fn push_kind(text: &mut Vec<u8>, kind: ChoiceKind) -> Result<(), AllocError>
-    ensures { OnOk result (text.new.items ≡ text.old.items ++ kind_word kind) }
-{
-    match kind {
-        ChoiceKind::Rate => text.extend_from_slice(b"rate"),
-        ChoiceKind::Initial => text.extend_from_slice(b"initial"),
-        ChoiceKind::Minimum => text.extend_from_slice(b"minimum"),
-    }
-}
-
 /// Where a line counts first.
 fn push_first(
     text: &mut Vec<u8>,
@@ -82,10 +72,10 @@ pub(crate) fn push_context(
     requires { IsFromTo 10956 84006 m.now.day }
     ensures { OnOk result (text.new.items ≡ text.old.items ++ context_text kind m.now) }
 {
-    match kind {
-        ChoiceKind::Rate => push_trip(text, m),
-        ChoiceKind::Initial => push_hiring(text, m),
-        ChoiceKind::Minimum => push_hiring(text, m),
+    if is_asked_amid(kind) {
+        push_trip(text, m)
+    } else {
+        push_hiring(text, m)
     }
 }
 

@@ -23,8 +23,8 @@ pub struct LineUse {
     pub first: Option<MeterContext>,
 }
 
-/// The use of each rate, initial hire fee and minimum fare of a sound tariff under a constant, in the order of the
-/// text. That a line is asked in all contexts of a meter is this project's own. `NoMemory` where memory runs out.
+/// The use of each line of a sound tariff that is of a kind, under a constant, in the order of the text. That a line
+/// is asked in all contexts of a meter is this project's own. `NoMemory` where memory runs out.
 pub fn line_uses(alloc: Global, checked: &Checked, k: Constant) -> Result<Vec<LineUse>, NoMemory>
     ensures value { IfOk result (λ uses. uses.items ≡ uses_of (tree_of checked.now) k) }
     ensures dated { IfOk result (λ uses. All IsDatedUse uses.items) }

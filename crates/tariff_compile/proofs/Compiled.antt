@@ -1,11 +1,11 @@
 -- What compiled tables have: the ranges of their numbers, and what is looked up in them.
-use Rattle.std.proofs.Common.{◌≡◌, ◌∙◌, ap, sym, subst, ltb, ℕ, zero, suc, ◌+◌, ◌-◌, ◌*◌, ◌^◌, ◌<◌, ◌≤◌, ℤ}
-use Rattle.std.proofs.Common.{Bool, true, false, if◌then◌else◌, length, get_or, List, [], ◌∷◌, Option, Some, None}
-use Rattle.std.proofs.Common.{All, refl, arith}
+use Rattle.std.proofs.Common.{◌≡◌, ◌∙◌, ap, sym, subst, ltb, ℕ, ◌+◌, ◌-◌, ◌*◌, ◌^◌, ◌<◌, ◌≤◌, ℤ}
+use Rattle.std.proofs.Common.{Bool, true, false, if◌then◌else◌, length, get_or, List, [], ◌∷◌, Option, None}
+use Rattle.std.proofs.Common.{All, arith}
 use Rattle.std.proofs.Math.Nat.{mul-pos, mul_assoc}
 use Rattle.std.proofs.lemmas.Bool.{lt-ltb}
 use Rattle.std.proofs.lemmas.List.{get_or-map, get_or_default, length-map}
-use Rattle.std.proofs.lemmas.List.Elements.{All-head, All-map, All-tail, All-weaker}
+use Rattle.std.proofs.lemmas.List.Elements.{All-map, All-weaker}
 use Rattle.std.proofs.lemmas.List.FromFn.{get_or-map-range_with_len, length-map-range_with_len}
 use Rattle.std.proofs.lemmas.Nat.{mul-le}
 use Rattle.std.proofs.lemmas.Option.{slice_get-get_or}
@@ -18,32 +18,30 @@ use Rattle.tariff_check.specs.Cells.{cells_of, day_kinds}
 use Rattle.tariff_check.specs.Cuts.{count_of, cuts_of}
 use Rattle.tariff_check.specs.Faults.{IsSound}
 use Rattle.tariff_check.specs.Measure.{measure_of}
-use Rattle.tariff_check.specs.Parts.{InitialNumbers, RateNumbers, has_holidays, initials_of, minimums_of, positions_of}
+use Rattle.tariff_check.specs.Parts.{RateNumbers, has_holidays, initials_of, positions_of}
 use Rattle.tariff_check.specs.Parts.{rates_of, zones_of}
-use Rattle.tariff_check.specs.Sound.{HasSoundParts, IsSoundInitial, IsSoundRate}
+use Rattle.tariff_check.specs.Sound.{HasSoundParts, IsSoundRate}
 use Rattle.tariff_check.specs.declared.fault.Dimension.TheVariants.{MonthDay, Minute, Distance, Time}
-use Rattle.tariff_syntax.specs.Meaning.{at_hiring, minimum_place}
+use Rattle.tariff_syntax.specs.Meaning.{at_hiring}
 use Rattle.tariff_syntax.specs.Tree.{Tree}
 use Rattle.tariff_syntax.specs.Writable.{IsFromTo, IsWritable}
 use Rattle.tariff_syntax.specs.declared.context.Context.{Context}
 use Rattle.taxi_units.specs.Counted.{IsElement}
 use Rattle.tariff_compile.specs.Cells.{IsBelow, IsNarrow, bands_at, bands_of, cell_count, cell_number, sizes_of}
 use Rattle.tariff_compile.specs.Tables.{AreFit, HasWeightsOf, IsCompiled, IsFit, IsInRangeFor, IsTablesOf}
-use Rattle.tariff_compile.specs.Tables.{TableParts, all_cells, all_weights, context_of, fees_in}
-use Rattle.tariff_compile.specs.Tables.{lines_at, lines_in, rate_by, sizes_for}
-use Rattle.tariff_check.specs.Amounts.{initial_by, initial_with, place_number}
+use Rattle.tariff_compile.specs.Tables.{TableParts, all_cells, all_weights, context_of}
+use Rattle.tariff_compile.specs.Tables.{lines_at, lines_in, no_lines, rate_by, sizes_for}
 use Rattle.tariff_compile.specs.Tables.{sizes_in, tables_of, weights_of}
 use Rattle.tariff_check.specs.Parts.{supplement_of}
 use Rattle.tariff_compile.specs.declared.parts.Bands.{Bands}
-use Rattle.tariff_compile.specs.declared.parts.CellLines.{CellLines}
+use Rattle.tariff_compile.specs.declared.cells.CellLines.{CellLines}
 use Rattle.tariff_check.specs.declared.values.Supplement.{Supplement}
-use Rattle.tariff_check.proofs.Laws.{lines_that_hold_are_there-initial, lines_that_hold_are_there-minimum}
-use Rattle.tariff_check.proofs.Laws.{lines_that_hold_are_there-rate, sound_tariffs_have_sound_parts-parts}
+use Rattle.tariff_check.proofs.Laws.{lines_that_hold_are_there-initial, lines_that_hold_are_there-rate}
+use Rattle.tariff_check.proofs.Laws.{sound_tariffs_have_sound_parts-parts}
 use Rattle.tariff_compile.proofs.Fits.{weights_of-fit}
 use Rattle.tariff_compile.proofs.ContextLines.{bands_at-below, cell_has_lines}
 use Rattle.tariff_compile.proofs.Numbering.{bands_of-below, cell_number_below}
 use Rattle.tariff_check.proofs.Laws.{supplements_are_numbered_to_16}
-use Rattle.taxi_units.specs.Money.{largest_amount}
 
 -- the parts of the tariff of which these are the tables
 pub parts_of_tree : (t : Tree) (tables : TableParts) → IsTablesOf t tables → HasSoundParts t
@@ -202,7 +200,7 @@ lines_in_is t tables x is x_in =
     let below : cell < length tables.cells = rw (length-cells tables (t, is))
     (cell_number_below (sizes_for tables) (bands_at tables.cuts x) (bands-below tables x x_in)) in
     lines-found t tables x (lines_in tables x) is x_in
-    (λ other. get_or_default tables.cells cell (record { rate = 0; initial = 0; minimum = 0 }) other below)
+    (λ other. get_or_default tables.cells cell no_lines other below)
 
 -- at the hiring no distance and no time is cut
 pub nothing_at_hiring : (tables : TableParts) → IsCompiled tables
@@ -248,72 +246,6 @@ weights-fit tables (t, is) =
     (All-weaker IsSoundRate (λ r. AreFit (k * measure) (weights_of k measure r))
     (λ r. weights_of-fit k measure r is.constant parts.measure.1) (rates_of t.lines) parts.rates) in
     subst (λ (p : TableParts). All (AreFit p.measure) p.weights) (sym is.parts) all
-
--- the initial hire fee of a context is there
-pub initial-below : (t : Tree) (tables : TableParts) (x : Context) → IsTablesOf t tables
-    → (lines_at t x).initial < length tables.initials
-initial-below t tables x is =
-    rw (ap (λ (p : TableParts). length p.initials) is.parts) (initial_place-below t x is.sound)
-
--- and is the one that holds first
-pub initial-amounts : (t : Tree) (tables : TableParts) (x : Context) (d : InitialNumbers) → IsTablesOf t tables
-    → get_or tables.initials (lines_at t x).initial d
-    ≡ get_or (initials_of t.lines) (lines_at t x).initial (record { amount = 0; covers = 0 })
-initial-amounts t tables x d is =
-    get_or_default tables.initials (lines_at t x).initial d (record { amount = 0; covers = 0 })
-    (initial-below t tables x is)
-    ∙ ap (λ (p : TableParts). get_or p.initials (lines_at t x).initial (record { amount = 0; covers = 0 })) is.parts
-
--- all initial hire fees are sound
-pub fees-fit : (tables : TableParts) → IsCompiled tables → All IsSoundInitial tables.initials
-fees-fit tables (t, is) =
-    subst (λ (p : TableParts). All IsSoundInitial p.initials) (sym is.parts) (parts_of_tree t tables is).initials
-
--- and so are all minimum fares
-pub minimums-fit : (tables : TableParts) → IsCompiled tables → All (λ amount. amount ≤ largest_amount) tables.minimums
-minimums-fit tables (t, is) =
-    subst (λ (p : TableParts). All (λ amount. amount ≤ largest_amount) p.minimums) (sym is.parts)
-    (parts_of_tree t tables is).minimums
-
-pub number_few : (minimums : List ℕ) (o : Option ℕ) → ((place : ℕ) → o ≡ Some place → place < length minimums)
-    → place_number o ≤ length minimums
-number_few minimums None there = omega arith
-number_few minimums (Some place) there = omega (arith, there place refl)
-
--- the minimum fare of a context is there, if it has one
-pub minimum-few : (t : Tree) (tables : TableParts) (x : Context) → IsTablesOf t tables
-    → (lines_at t x).minimum ≤ length tables.minimums
-minimum-few t tables x is =
-    rw (ap (λ (p : TableParts). length p.minimums) is.parts)
-    (number_few (minimums_of t.lines) (minimum_place t x) (lines_that_hold_are_there-minimum t x))
-
--- and is the one that holds first
-pub minimum-amount : (t : Tree) (tables : TableParts) (x : Context) → IsTablesOf t tables → get_or (0 ∷ tables.minimums)
-    (lines_at t x).minimum 0 ≡ get_or (0 ∷ minimums_of t.lines) (place_number (minimum_place t x)) 0
-minimum-amount t tables x is = ap (λ (p : TableParts). get_or (0 ∷ p.minimums) (lines_at t x).minimum 0) is.parts
-
--- the fees that tables have for a context are those of the tree
-pub fees_in_is : (t : Tree) (tables : TableParts) (x : Context) → IsTablesOf t tables → IsInRangeFor tables x
-    → fees_in tables x ≡ initial_by t x
-fees_in_is t tables x is x_in =
-    let none : InitialNumbers = record { amount = 0; covers = 0 } in
-    ap (λ (lines : CellLines). initial_with (get_or tables.initials lines.initial none)
-    (get_or (0 ∷ tables.minimums) lines.minimum 0)) (lines_in_is t tables x is x_in)
-    ∙ (ap (λ (f : InitialNumbers). initial_with f (get_or (0 ∷ tables.minimums) (lines_at t x).minimum 0))
-    (initial-amounts t tables x none is)
-    ∙ ap (initial_with _) (minimum-amount t tables x is))
-
-pub all_fit : (amounts : List ℕ) (n : ℕ) → All (λ amount. amount ≤ largest_amount) amounts
-    → get_or amounts n 0 ≤ largest_amount
-all_fit [] n all = omega arith
-all_fit (m ∷ ms) zero all = All-head (λ amount. amount ≤ largest_amount) m ms all
-all_fit (m ∷ ms) (suc n) all = all_fit ms n (All-tail (λ amount. amount ≤ largest_amount) m ms all)
-
--- an amount of the minimum fares, or 0, is fit
-pub minimum-fit : (minimums : List ℕ) (number : ℕ) → All (λ amount. amount ≤ largest_amount) minimums
-    → get_or (0 ∷ minimums) number 0 ≤ largest_amount
-minimum-fit minimums zero all = omega arith
-minimum-fit minimums (suc n) all = all_fit minimums n all
 
 -- a supplement is at the place before its number
 pub supplement-there : (t : Tree) (tables : TableParts) (number : ℕ) (d : Option Supplement) → IsTablesOf t tables

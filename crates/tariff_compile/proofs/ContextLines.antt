@@ -1,23 +1,22 @@
 -- What is looked up for a context: the lines that its cell has are those that the tree names.
-use Rattle.std.proofs.Common.{◌≡◌, ◌∙◌, sym, ap, ℕ, ◌<◌, ◌≤◌, ◌==◌, Bool, true, false, if◌then◌else◌, min, get_or, Some}
+use Rattle.std.proofs.Common.{◌≡◌, ◌∙◌, sym, ap, ℕ, ◌<◌, ◌≤◌, ◌==◌, Bool, true, false, if◌then◌else◌, min, get_or}
 use Rattle.std.proofs.Common.{refl, arith}
 use Rattle.std.proofs.Math.Nat.{min-eq_right}
-use Rattle.std.proofs.lemmas.List.FromFn.{get_or-map-range_with_len, length-map-range_with_len}
-use Rattle.std.proofs.lemmas.Option.{slice_get-get_or}
-use Rattle.std.specs.List.{slice_get}
+use Rattle.std.proofs.lemmas.List.FromFn.{get_or-map-range_with_len}
 use Rattle.tariff_calendar.specs.Lists.{AreOrdered, CutLists, count_at_most, lists_of}
 use Rattle.tariff_calendar.specs.Range.{IsInRange, IsInRangeOf, IsSameCell}
 use Rattle.taxi_units.specs.Time.{longest_trip}
 use Rattle.tariff_calendar.proofs.Laws.{counts_are_places-few, cuts_decide_conditions-first, lists_are_ordered-ordered}
 use Rattle.tariff_check.specs.Faults.{IsSound}
 use Rattle.tariff_check.specs.Parts.{has_holidays, positions_of, zones_of}
+use Rattle.tariff_check.specs.declared.choice.ChoiceKind.{ChoiceKind}
+use Rattle.tariff_check.specs.declared.choice.ChoiceKind.TheVariants.{Rate, Initial, Minimum}
 use Rattle.tariff_syntax.specs.Tree.{Tree}
 use Rattle.tariff_syntax.specs.Writable.{IsWritable}
 use Rattle.tariff_syntax.specs.declared.context.Context.{Context}
 use Rattle.tariff_compile.specs.Cells.{IsBelow, bands_at, beginning, cell_count, context_in, sizes_of}
-use Rattle.tariff_compile.specs.Tables.{HasLinesOf, all_cells, cell_of, context_of, lines_at, sizes_in}
-use Rattle.tariff_compile.specs.declared.parts.CellLines.{CellLines}
-use Rattle.tariff_check.proofs.Laws.{lines_that_hold_are_there-initial, lines_that_hold_are_there-rate}
+use Rattle.tariff_compile.specs.Tables.{all_cells, cell_of, context_of, lines_at, sizes_in}
+use Rattle.tariff_compile.specs.declared.cells.CellLines.{CellLines}
 use Rattle.tariff_compile.proofs.Beginnings.{beginning-le, count_at_most-beginning}
 use Rattle.tariff_compile.proofs.Numbering.{bands_of-cell_number, cell_number_below}
 
@@ -104,8 +103,9 @@ beginning_lines t k x writable sound x_in =
     let ordered = lists_are_ordered-ordered t k writable sound in
     let y_in = beginning_in_range t k x ordered x_in in
     let same = beginning_same_cell t k x ordered x_in in
-    let first = cuts_decide_conditions-first t k (beginning_of t k x) x writable sound y_in x_in same in
-    rw (first.0, first.1, first.2) refl
+    let first = λ (kind : ChoiceKind).
+    cuts_decide_conditions-first kind t k (beginning_of t k x) x writable sound y_in x_in same in
+    rw ((first Rate).0, (first Initial).1, (first Minimum).1) refl
 
 -- the cell of a context names the lines that the tree names
 pub cell_has_lines : (t : Tree) (k : ℕ) (x : Context) (d : CellLines) → IsWritable t → IsSound t → IsInRangeOf t k x
@@ -122,21 +122,3 @@ cell_has_lines t k x d writable sound x_in =
 -- there is such a cell
 pub cell_of-below : (t : Tree) (k : ℕ) (x : Context) → IsInRangeOf t k x → cell_of t k x < cell_count (sizes_in t k)
 cell_of-below t k x x_in = cell_number_below (sizes_in t k) (bands_at (lists_of t k) x) (bands_of_tree t k x x_in)
-
-has_lines : (t : Tree) (x : Context) → IsSound t → HasLinesOf t x (lines_at t x)
-has_lines t x sound =
-    let rate = lines_that_hold_are_there-rate t x sound in
-    let initial = lines_that_hold_are_there-initial t x sound in
-    record { rate = rw rate.1; initial = rw initial.1; minimum = refl }
-
--- the law of tables
-pub cell_names_lines : (t : Tree) (k : ℕ) (x : Context) → IsWritable t → IsSound t → IsInRangeOf t k x
-    → (lines : CellLines) × (slice_get (all_cells t k) (cell_of t k x) ≡ Some lines) × HasLinesOf t x lines
-cell_names_lines t k x writable sound x_in = (
-  lines_at t x,
-  slice_get-get_or (all_cells t k) (cell_of t k x) (lines_at t x)
-      (rw (length-map-range_with_len (λ (cell : ℕ). lines_at t (context_of t k cell)) 0 (cell_count (sizes_in t k)))
-      (cell_of-below t k x x_in))
-      ∙ ap Some (cell_has_lines t k x (lines_at t x) writable sound x_in),
-  has_lines t x sound,
-)

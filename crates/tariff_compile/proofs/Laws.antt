@@ -13,10 +13,10 @@ use Rattle.tariff_compile.specs.Tables.{IsTablesOf, TableParts, cell_of, fees_in
 use Rattle.tariff_check.specs.Amounts.{initial_by}
 use Rattle.tariff_compile.specs.Tables.{rate_by, tables_of}
 use Rattle.tariff_compile.specs.declared.parts.Bands.{Bands}
-use Rattle.tariff_compile.specs.declared.parts.CellLines.{CellLines}
-use Rattle.tariff_compile.proofs.Compiled.{cell_count-cells_of, fees_in_is, has_weights, length-all_cells}
+use Rattle.tariff_compile.specs.declared.cells.CellLines.{CellLines}
+use Rattle.tariff_compile.proofs.Compiled.{cell_count-cells_of, has_weights, length-all_cells}
 use Rattle.tariff_compile.proofs.Compiled.{lines_in_is, tables_fit}
-use Rattle.tariff_compile.proofs.ContextLines.{cell_names_lines}
+use Rattle.tariff_compile.proofs.EachKind.{cell_names_lines, fees_in_is}
 use Rattle.tariff_compile.proofs.Numbering.{bands_of-cell_number, bands_of-place, cell_number-bands_of}
 use Rattle.tariff_compile.proofs.Numbering.{cell_number-order, cell_number_below}
 use Rattle.tariff_compile.proofs.RowOrder.{length-all_rows, row_text-at}

@@ -8,6 +8,8 @@ mod Bits
 mod Blocks
 -- what compiled tables have: the ranges of their numbers, and what is looked up in them
 mod Compiled
+-- what is so of each kind of line in tables: its lines, its numbers and its rows
+mod EachKind
 -- how large the weights of a sound rate are
 mod Fits
 -- the laws that the crates above may cite
@@ -20,7 +22,7 @@ mod LowCuts
 mod Marked
 -- the numbers of cells: the bands of a cell give its number back, and a number its bands
 mod Numbering
--- the rows of the tables, one after another
+-- the rows of sections, one after another
 mod RowOrder
--- a row of tables fits into an empty line
+-- texts that fit into an empty line: numbers, amounts, and the rows of sections
 mod ShortRows

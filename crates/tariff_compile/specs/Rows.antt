@@ -1,10 +1,11 @@
 -- Rules: the rows of the tables, as texts.
-use Rattle.std.specs.Prelude.{ℕ, ◌+◌, ◌-◌, ◌==◌, Bool, if◌then◌else◌, nat_lt, List, [], ◌∷◌, ◌++◌, length, get_or, codes, decimal}
+use Rattle.std.specs.Prelude.{ℕ, ◌+◌, ◌-◌, Bool, if◌then◌else◌, nat_lt, List, [], ◌∷◌, ◌++◌, length, map, get_or}
+use Rattle.std.specs.Prelude.{codes, decimal}
 use Rattle.std.specs.List.{flat_map, range_with_len}
 use Rattle.taxi_units.specs.Number.{money_text}
 use Rattle.drive_modes.specs.declared.charges.Weights.{Weights}
-use Rattle.tariff_compile.specs.Tables.{TableParts}
-use Rattle.tariff_compile.specs.declared.parts.CellLines.{CellLines}
+use Rattle.tariff_compile.specs.Tables.{TableParts, no_lines}
+use Rattle.tariff_compile.specs.declared.cells.CellLines.{CellLines}
 use Rattle.tariff_check.specs.Parts.{InitialNumbers}
 
 -- the row `MEASURE` says how many units of charge make the smallest unit of money
@@ -43,47 +44,66 @@ cell_row minimums number lines =
     (decimal (lines.rate + 1) ++
     (codes " " ++ (decimal (lines.initial + 1) ++ minimum_field minimums lines.minimum)))))
 
--- the rows of a list are one for each of its elements, with its number, counted from `first` on
-abbrev pub numbered : {A : Type 0} → (row : ℕ → A → List ℕ) → (first : ℕ) → List A → List (List ℕ)
-numbered row first [] = []
-numbered row first (x ∷ xs) = row first x ∷ numbered row (first + 1) xs
+-- a section of rows is how many there are, and the row at each place in it, counted from 0
+pub record Section : Type 0 where
+  pub count : ℕ
+  pub row : (place : ℕ) → List ℕ
+
+-- the section of a list has a row for each of its elements, with its number, counted from 1
+abbrev pub from_one : {A : Type 0} → (row : ℕ → A → List ℕ) → List A → (default : A) → Section
+from_one row xs default = record { count = length xs; row = λ place. row (place + 1) (get_or xs place default) }
 
 -- the test `has_minimums` is true if the tariff has minimum fares
 abbrev pub has_minimums : TableParts → Bool
 has_minimums tables = nat_lt 0 (length tables.minimums)
 
--- the number of rows of tables is one for the row `MEASURE`, and one for each rate, initial hire fee, minimum fare and
--- cell
-abbrev pub row_count : TableParts → ℕ
-row_count tables = 1 + length tables.weights + length tables.initials + length tables.minimums + length tables.cells
+-- the section of cells has a row for each cell, with its number, counted from 0
+abbrev pub cell_section : TableParts → Section
+cell_section tables =
+    record {
+      count = length tables.cells;
+      row = λ cell. cell_row (has_minimums tables) cell (get_or tables.cells cell no_lines);
+    }
 
--- the row of tables at a place is first `MEASURE`, then that of each rate, each initial hire fee, each minimum fare,
--- and each cell
+-- the sections of tables are the row `MEASURE`, then the rates, the initial hire fees and the minimum fares, then the
+-- cells
+abbrev pub sections : TableParts → List Section
+sections tables =
+    record { count = 1; row = λ place. measure_row tables.measure }
+    ∷ from_one rate_row tables.weights (record { per_pulse = 0; per_tick = 0 })
+    ∷ from_one (initial_row tables.decimals) tables.initials (record { amount = 0; covers = 0 })
+    ∷ from_one (minimum_row tables.decimals) tables.minimums 0
+    ∷ cell_section tables
+    ∷ []
+
+-- the number of rows of sections is how many each has, added up
+abbrev pub count_of : List Section → ℕ
+count_of [] = 0
+count_of (section ∷ more) = section.count + count_of more
+
+-- the row of sections at a place is the one at its place in the section that has it, where each begins behind the last
+abbrev pub row_in : List Section → (place : ℕ) → List ℕ
+row_in [] place = []
+row_in (section ∷ more) place =
+    if nat_lt place section.count then section.row place else row_in more (place - section.count)
+
+-- the number of rows of tables is that of their sections
+abbrev pub row_count : TableParts → ℕ
+row_count tables = count_of (sections tables)
+
+-- the row of tables at a place is the one of their sections
 abbrev pub row_text : TableParts → (row : ℕ) → List ℕ
-row_text tables row =
-    if row == 0 then measure_row tables.measure
-    else (let rate = row - 1 in
-    if nat_lt rate (length tables.weights) then rate_row (rate + 1)
-    (get_or tables.weights rate (record { per_pulse = 0; per_tick = 0 }))
-    else (let initial = rate - length tables.weights in
-    if nat_lt initial (length tables.initials) then initial_row tables.decimals (initial + 1)
-    (get_or tables.initials initial (record { amount = 0; covers = 0 }))
-    else (let minimum = initial - length tables.initials in
-    if nat_lt minimum (length tables.minimums) then minimum_row tables.decimals (minimum + 1)
-    (get_or tables.minimums minimum 0)
-    else (let cell = minimum - length tables.minimums in
-    cell_row (has_minimums tables) cell (get_or tables.cells cell (record { rate = 0; initial = 0; minimum = 0 }))))))
+row_text tables row = row_in (sections tables) row
 
 -- tables are written as all of their rows, in order
 abbrev pub rows_text : TableParts → List ℕ
 rows_text tables = flat_map (row_text tables) (range_with_len 0 (row_count tables))
 
--- all rows of tables are, part by part, the row `MEASURE`, then the rates, the initial hire fees and the minimum fares,
--- numbered from 1, then the cells, numbered from 0
+-- all rows of sections are those of each section, one after another
+abbrev pub rows_of : List Section → List (List ℕ)
+rows_of [] = []
+rows_of (section ∷ more) = map section.row (range_with_len 0 section.count) ++ rows_of more
+
+-- all rows of tables are those of their sections
 abbrev pub all_rows : TableParts → List (List ℕ)
-all_rows tables =
-    measure_row tables.measure
-    ∷ (numbered rate_row 1 tables.weights
-    ++ (numbered (initial_row tables.decimals) 1 tables.initials
-    ++ (numbered (minimum_row tables.decimals) 1 tables.minimums
-    ++ numbered (cell_row (has_minimums tables)) 0 tables.cells)))
+all_rows tables = rows_of (sections tables)

@@ -15,13 +15,15 @@ use Rattle.tariff_check.specs.Cells.{day_kinds}
 use Rattle.tariff_check.specs.Faults.{IsSound}
 use Rattle.tariff_check.specs.Measure.{measure_of}
 use Rattle.tariff_check.specs.DisplayStep.{display_step}
+use Rattle.tariff_check.specs.SoundLookups.{place_in_force}
+use Rattle.tariff_check.specs.SoundTariff.{SoundTariff, sound_of, values_of}
 use Rattle.tariff_check.specs.Parts.{RateNumbers, InitialNumbers, positions_of, zones_of}
 use Rattle.tariff_check.specs.Parts.{supplement_of, initials_of, minimums_of, rates_of}
 use Rattle.tariff_calendar.specs.Lists.{CutLists, has_days, lists_of}
 use Rattle.tariff_calendar.specs.Range.{IsInRange}
 use Rattle.tariff_compile.specs.Cells.{sizes_of, cell_count, cell_number, bands_of, bands_at, context_in}
 use Rattle.tariff_compile.specs.declared.parts.Bands.{Bands}
-use Rattle.tariff_compile.specs.declared.parts.CellLines.{CellLines}
+use Rattle.tariff_compile.specs.declared.cells.CellLines.{CellLines}
 use Rattle.tariff_check.specs.declared.values.Initial.{Initial}
 use Rattle.tariff_check.specs.declared.values.Supplement.{Supplement}
 
@@ -61,6 +63,10 @@ lines_at t x =
       initial = unwrap_or (initial_place t x) 0;
       minimum = place_number (minimum_place t x);
     }
+
+-- no lines are those of a cell that names none: each number is 0
+abbrev pub no_lines : CellLines
+no_lines = record { rate = 0; initial = 0; minimum = 0 }
 
 -- the sizes of a tariff's dimensions are those of its positions, zones, kinds of days and cuts
 abbrev pub sizes_in : Tree → (k : ℕ) → Bands
@@ -126,15 +132,20 @@ pub record IsTablesOf (t : Tree) (tables : TableParts) : Type 0 where
 abbrev pub IsCompiled : TableParts → Type 0
 IsCompiled tables = (t : Tree) × IsTablesOf t tables
 
--- the weights of a context by the tree are those of the rate that holds first in it
+-- the weights in force in a context are those of the rate that holds first in it
+abbrev pub weights_in_force : SoundTariff → (k : ℕ) → Context → Weights
+weights_in_force tariff k x =
+    get_or (map (weights_of k tariff.measure) (values_of tariff.rates))
+    (unwrap_or (place_in_force tariff.rates x) 0) (record { per_pulse = 0; per_tick = 0 })
+
+-- the weights of a context by the tree are those that are in force in it
 abbrev pub rate_by : Tree → (k : ℕ) → Context → Weights
-rate_by t k x = get_or (all_weights t k) (unwrap_or (rate_place t x) 0) (record { per_pulse = 0; per_tick = 0 })
+rate_by t k x = weights_in_force (sound_of t) k x
 
 -- the lines that tables have for a context are those of the cell in which it is
 abbrev pub lines_in : TableParts → Context → CellLines
 lines_in tables x =
-    get_or tables.cells (cell_number (sizes_for tables) (bands_at tables.cuts x))
-    (record { rate = 0; initial = 0; minimum = 0 })
+    get_or tables.cells (cell_number (sizes_for tables) (bands_at tables.cuts x)) no_lines
 
 -- the fees that tables have for a context are those that its lines name: an initial hire fee, and a minimum fare or 0
 abbrev pub fees_in : TableParts → Context → Initial

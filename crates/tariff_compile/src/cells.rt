@@ -13,13 +13,34 @@ ghost use Rattle.tariff_syntax.specs.Tree.{tree_of};
 use crate::bands::{bands_of, sizes_of};
 use crate::contexts::context_in;
 use crate::marking::{first_marked, marks_of_each};
-use crate::parts::{Bands, CellLines};
+use crate::parts::Bands;
 use drive_modes::Constant;
 use std::alloc::Global;
 use tariff_calendar::Cuts;
 use tariff_check::Checked;
 use tariff_syntax::Context;
 use taxi_units::NoMemory;
+
+/// The lines of a cell: by their places from 0 the rate and the initial hire fee, and by its number from
+/// 1 the minimum fare, 0 where it has none.
+#[derive(Clone, Copy)]
+pub struct CellLines {
+    pub rate: u8,
+    pub initial: u8,
+    pub minimum: u8,
+}
+
+impl CellLines {
+    /// Takes the lines of a cell apart. It compiles only while they are three numbers and nothing else.
+    fn take_apart(self) -> (u8, u8, u8) {
+        let CellLines {
+            rate,
+            initial,
+            minimum,
+        } = self;
+        (rate, initial, minimum)
+    }
+}
 
 /// The lines of each cell. `NoMemory` where memory runs out.
 pub(crate) fn all_cells(

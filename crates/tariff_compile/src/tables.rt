@@ -1,31 +1,30 @@
-//! The tables and their look-ups.
-ghost use Rattle.std.specs.Prelude.{◌≡◌, ℕ, [], ◌∷◌, ◌+◌, ◌*◌, ◌^◌, ◌<◌, ◌≤◌, ◌≤ℤ◌, ◌++◌, ◌↔◌, true, pos, length, min, slice_index, IsOk, OnOk, OnErr};
-ghost use Rattle.arrayvec.specs.ArrayVec.{array_vec_len};
+//! The tables: how they are made, and their look-ups.
+ghost use Rattle.std.specs.Prelude.{◌≡◌, ℕ, ◌∷◌, ◌+◌, ◌*◌, ◌^◌, ◌<◌, ◌≤◌, ◌≤ℤ◌, true, pos, length, min, get_or, IfOk};
 ghost use Rattle.interval_clock.specs.Calendar.{IsDateOf};
 ghost use Rattle.drive_modes.specs.Constant.{least_constant, greatest_constant};
 ghost use Rattle.tariff_calendar.specs.Lists.{has_day, has_days, is_holiday};
 ghost use Rattle.tariff_compile.specs.Cells.{IsBelow, cell_number};
 ghost use Rattle.tariff_compile.specs.Near.{IsNear};
-ghost use Rattle.tariff_compile.specs.Rows.{row_count, row_text};
-ghost use Rattle.tariff_compile.specs.Tables.{AreFit, IsCompiled, IsFit, IsInRangeFor, IsTablesOf, fees_in, lines_in, rate_by, sizes_for};
+ghost use Rattle.tariff_compile.specs.Tables.{AreFit, IsCompiled, IsFit, IsInRangeFor, IsTablesOf, fees_in, lines_in, rate_by, sizes_for, tables_of};
 ghost use Rattle.tariff_check.specs.Amounts.{IsFitInitial, initial_by};
 ghost use Rattle.tariff_check.specs.Parts.{supplement_of};
-ghost use Rattle.tariff_syntax.specs.Tree.{Tree};
+ghost use Rattle.tariff_syntax.specs.Tree.{Tree, tree_of};
 ghost use Rattle.tariff_syntax.specs.declared.context.Context.{Context};
 ghost use Rattle.taxi_units.specs.Counted.{IsElement};
-ghost use Rattle.taxi_units.specs.Line.{line_size};
 
 use crate::bands::{cell_number, sizes_of};
+use crate::cells::{CellLines, all_cells};
+use crate::choices::{all_supplements, all_values, all_weights};
 use crate::contexts::{bands_at, bands_at_hiring, bands_until, plain_bands_at};
-use crate::parts::{Bands, CellLines, Lasting};
-use crate::rows::{cell_row, initial_row, measure_row, minimum_row, rate_row};
+use crate::parts::{Bands, Lasting};
 use drive_modes::{Constant, Rounding, Weights};
+use std::alloc::Global;
 use std::marker::Model;
 use std::sync::ledger::Ledger;
 use tariff_calendar::Cuts;
-use tariff_check::{Initial, InitialNumbers, Supplement};
+use tariff_check::{Checked, Initial, InitialNumbers, Supplement};
 use tariff_syntax::Context;
-use taxi_units::{Counted, Line, LineFull, Steps, put_bytes};
+use taxi_units::{Counted, NoMemory, Steps};
 
 /// The tables of a sound tariff under a constant: its cuts, what each rate weighs, its initial hire fees,
 /// minimum fares and supplements, and for each cell its lines. Of a condition, a line or a text they keep
@@ -70,6 +69,37 @@ impl Model for Tables {
     ghost view = { parts_of };
 
     ghost invariant = { λ t. IsCompiled (parts_of t) };
+}
+
+/// The tables of a tariff under a constant of the taximeter. Each cell has the lines that hold first in a
+/// context of it, at the beginning of its bands. `NoMemory` where memory runs out.
+pub fn compile(alloc: Global, checked: &Checked, k: Constant) -> Result<Tables, NoMemory>
+    ensures value { IfOk result (λ tables. tables ≡ tables_of (tree_of checked.now) k) }
+    ensures tables { IfOk result (IsTablesOf (tree_of checked.now)) }
+    ensures fit { IfOk result IsFit }
+{
+    let cuts = Cuts::collect(alloc, checked, k)?;
+    let weights = all_weights(alloc, checked.rates(), k, checked.measure())?;
+    let initials = all_values(alloc, checked.initials())?;
+    let minimums = all_values(alloc, checked.minimums())?;
+    let cells = all_cells(alloc, checked, &cuts, k)?;
+    let supplements = all_supplements(alloc, checked)?;
+    let (step, rounding) = checked.step();
+    Ok(Tables {
+        cuts,
+        weights,
+        initials,
+        minimums,
+        cells,
+        supplements,
+        constant: k,
+        measure: k.get() as u128 * checked.measure() as u128,
+        step,
+        rounding,
+        decimals: checked.tariff().decimals,
+        positions: checked.positions(),
+        zones: checked.zones(),
+    })
 }
 
 impl Tables {
@@ -152,7 +182,7 @@ impl Tables {
         Initial {
             amount: fee.amount,
             covers: fee.covers,
-            minimum: self.minimum(lines.minimum, steps),
+            minimum: counted_amount(self.minimums.as_slice(), lines.minimum, steps),
         }
     }
 
@@ -179,19 +209,7 @@ impl Tables {
         Initial {
             amount: fee.amount,
             covers: fee.covers,
-            minimum: self.plain_minimum(lines.minimum),
-        }
-    }
-
-    /// The amount of the minimum fare of a number from 1; 0 where the number is 0.
-    fn plain_minimum(&self, number: u8) -> u64
-        requires { number ≤ length self.now.minimums }
-        ensures { result ≡ slice_index (0 ∷ self.now.minimums) number }
-    {
-        if number == 0 {
-            0
-        } else {
-            self.minimums.as_slice()[number as usize - 1]
+            minimum: amount(self.minimums.as_slice(), lines.minimum),
         }
     }
 
@@ -211,18 +229,6 @@ impl Tables {
     {
         let sizes = sizes_of(self.positions, self.zones, &self.cuts);
         Counted::of(self.cells.as_slice()).read(cell_number(&sizes, bands), steps)
-    }
-
-    /// The amount of the minimum fare of a number from 1, one step; 0, without a step, where the number is 0.
-    fn minimum<L: Ledger>(&self, number: u8, steps: &mut Steps<L>) -> u64
-        requires { number ≤ length self.now.minimums }
-        ensures value { result ≡ slice_index (0 ∷ self.now.minimums) number }
-        ensures steps { (steps.old ≤ steps.new) × (steps.new ≤ steps.old + 1) }
-    {
-        if number == 0 {
-            return 0;
-        }
-        Counted::of(self.minimums.as_slice()).read(number as usize - 1, steps)
     }
 
     /// Says what the type keeps of each of its values: they are the tables of a tariff, and their numbers are
@@ -320,71 +326,25 @@ impl Tables {
     {
         self.constant
     }
+}
 
-    /// How many rows the tables have as a text: one, and one for each rate, initial hire fee, minimum fare
-    /// and cell.
-    pub fn rows(&self) -> u64
-        ensures { result ≡ row_count self.now }
-    {
-        let rates = self.weights.as_slice().len() as u64;
-        let initials = self.initials.as_slice().len() as u64;
-        let minimums = self.minimums.as_slice().len() as u64;
-        let cells = self.cells.as_slice().len() as u64;
-        1 + rates + initials + minimums + cells
+/// The amount of a number from 1; 0 where the number has none.
+fn amount(amounts: &[u64], number: u8) -> u64
+    ensures { result ≡ get_or (0 ∷ amounts.now) number 0 }
+{
+    if number == 0 || amounts.len() < number as usize {
+        return 0;
     }
+    amounts[number as usize - 1]
+}
 
-    /// Appends a row, ended by a line feed: row 0 is `MEASURE M`; then comes `RATE i per_pulse per_tick`
-    /// for each rate, `INITIAL i amount covers` for each initial hire fee and `MINIMUM i amount` for each
-    /// minimum fare, all numbered from 1, and `CELL c r i` for each cell, numbered from 0, with the numbers
-    /// of its rate and its initial hire fee. Where there are minimum fares a cell is `CELL c r i m`, with
-    /// the number of its minimum fare or 0. The form is this project's own.
-    ///
-    /// `LineFull` where it doesn't fit; the line is then unchanged.
-    pub fn put_row(&self, i: u64, line: &mut Line) -> Result<(), LineFull>
-        requires { i < row_count self.now }
-        ensures variant { IsOk result ↔ (array_vec_len line.old + length (row_text self.now i) ≤ line_size) }
-        ensures ok { OnOk result (line.new.items ≡ line.old.items ++ row_text self.now i) }
-        ensures err { OnErr result (line.new ≡ line.old) }
-        // A row fits into an empty line.
-        ensures short { (0 < length (row_text self.now i)) × (length (row_text self.now i) ≤ line_size) }
-    {
-        let mut row = Line::new();
-        self.make_row(i, &mut row)?;
-        put_bytes(line, row.as_slice())
+/// The amount of a number from 1, one step; 0, without a step, where the number has none.
+fn counted_amount<L: Ledger>(amounts: &[u64], number: u8, steps: &mut Steps<L>) -> u64
+    ensures value { result ≡ get_or (0 ∷ amounts.now) number 0 }
+    ensures steps { (steps.old ≤ steps.new) × (steps.new ≤ steps.old + 1) }
+{
+    if number == 0 || amounts.len() < number as usize {
+        return 0;
     }
-
-    /// Makes a row in an empty line.
-    fn make_row(&self, i: u64, row: &mut Line) -> Result<(), LineFull>
-        requires row { i < row_count self.now }
-        requires empty { row.old.items ≡ [] }
-        ensures variant { IsOk result ↔ (length (row_text self.now i) ≤ line_size) }
-        ensures ok { OnOk result (row.new.items ≡ row_text self.now i) }
-        ensures compiled { IsCompiled self.now }
-    {
-        if i == 0 {
-            return measure_row(row, self.measure);
-        }
-        let rate = (i - 1) as usize;
-        let weights = self.weights.as_slice();
-        if rate < weights.len() {
-            return rate_row(row, i, weights[rate]);
-        }
-        let initial = rate - weights.len();
-        let initials = self.initials.as_slice();
-        if initial < initials.len() {
-            return initial_row(row, self.decimals, initial as u64 + 1, initials[initial]);
-        }
-        let minimum = initial - initials.len();
-        let minimums = self.minimums.as_slice();
-        if minimum < minimums.len() {
-            return minimum_row(row, self.decimals, minimum as u64 + 1, minimums[minimum]);
-        }
-        let cell = minimum - minimums.len();
-        cell_row(
-            row,
-            minimums.len() > 0,
-            cell as u64,
-            self.cells.as_slice()[cell],
-        )
-    }
+    Counted::of(amounts).read(number as usize - 1, steps)
 }

@@ -9,14 +9,14 @@ ghost use Rattle.tariff_compile.specs.Rows.{all_rows, row_count, row_text};
 ghost use Rattle.tariff_compile.specs.Tables.{HasLinesOf, HasWeightsOf, IsCompiled, IsFit, IsInRangeFor, IsTablesOf, TableParts, cell_of, fees_in, lines_at, lines_in, rate_by, tables_of};
 ghost use Rattle.tariff_check.specs.Amounts.{HasAmountsOf, initial_by};
 ghost use Rattle.tariff_compile.specs.declared.parts.Bands.{Bands};
-ghost use Rattle.tariff_compile.specs.declared.parts.CellLines.{CellLines};
+ghost use Rattle.tariff_compile.specs.declared.cells.CellLines.{CellLines};
 ghost use Rattle.tariff_syntax.specs.Tree.{Tree};
 ghost use Rattle.tariff_syntax.specs.Writable.{IsWritable};
 ghost use Rattle.tariff_syntax.specs.declared.context.Context.{Context};
 
 /// The law of tables: for each sound tariff, constant and context that a trip may have, the cell of the
 /// context is there, and its lines are those that hold first in the tariff's tree. What is looked up is
-/// what those lines say: weights, amounts, and 0 where no minimum fare holds.
+/// what those lines say: weights, amounts, and 0 where no line of a kind holds.
 pub fn tables_equal_the_tree()
     ensures cell { (t : Tree) (k : ℕ) (x : Context) → IsWritable t → IsSound t → IsInRangeOf t k x
         → (lines : CellLines) × (slice_get (tables_of t k).cells (cell_of t k x) ≡ Some lines) × HasLinesOf t x lines }
@@ -45,8 +45,8 @@ pub fn tables_are_fit()
     ensures { (tables : TableParts) → IsCompiled tables → IsFit tables }
 {}
 
-/// The law of rows: they are the measure, the rates, the initial hire fees and the minimum fares from 1, and
-/// the cells from 0, one after another, and each row stands at its place.
+/// The law of rows: they are those of the measure, of each kind of line and of the cells, section after section,
+/// and each row stands at its place.
 pub fn rows_are_in_order()
     ensures count { (tables : TableParts) → length (all_rows tables) ≡ row_count tables }
     ensures row { (tables : TableParts) (i : ℕ) → i < row_count tables

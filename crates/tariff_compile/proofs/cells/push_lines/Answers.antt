@@ -14,7 +14,7 @@ use Rattle.tariff_syntax.specs.Tree.{Entry, Tree, tree_of}
 use Rattle.tariff_syntax.specs.declared.context.Context.{Context}
 use Rattle.tariff_compile.specs.Tables.{lines_at}
 use Rattle.tariff_check.specs.Amounts.{place_number}
-use Rattle.tariff_compile.specs.declared.parts.CellLines.{CellLines}
+use Rattle.tariff_compile.specs.declared.cells.CellLines.{CellLines}
 use Rattle.tariff_compile.proofs.Blocks.{at_place}
 use Rattle.tariff_compile.proofs.Marked.{first_holds}
 use Rattle.tariff_compile.proofs.cells.push_lines.Goals as goal

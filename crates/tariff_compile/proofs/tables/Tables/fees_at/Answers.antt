@@ -1,6 +1,7 @@
 use Rattle.std.proofs.Common.{◌∙◌, ap}
 use Rattle.tariff_compile.specs.Tables.{TableParts}
-use Rattle.tariff_compile.proofs.Compiled.{initial-below, lines_in_is, minimum-few}
+use Rattle.tariff_compile.proofs.Compiled.{lines_in_is}
+use Rattle.tariff_compile.proofs.EachKind.{initial-below}
 use Rattle.tariff_compile.proofs.tables.Tables.fees_at.Goals as goal
 
 pub bounds-as_slice-lines : goal.bounds-as_slice-lines
@@ -11,11 +12,3 @@ bounds-as_slice-lines c =
     let lines = c.lines_at-lines.ensures.value ∙ lines_in_is t tables c.args.x.now is c.requires.range in
     rw (c.as_slice.ensures.value ∙ ap (λ (p : TableParts). p.initials) c.self.view_is, lines)
     (initial-below t tables c.args.x.now is)
-
-pub plain_minimum-requires : goal.plain_minimum-requires
-plain_minimum-requires c =
-    let tables = c.args.self.now in
-    let t = c.lines_at-lines.ensures.compiled.0 in
-    let is = c.lines_at-lines.ensures.compiled.1 in
-    let lines = c.lines_at-lines.ensures.value ∙ lines_in_is t tables c.args.x.now is c.requires.range in
-    rw lines (minimum-few t tables c.args.x.now is)

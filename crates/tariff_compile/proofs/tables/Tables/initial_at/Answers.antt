@@ -1,14 +1,12 @@
-use Rattle.std.proofs.Common.{◌∙◌, ap, sym, subst, List, get_or, length, ◌<◌}
-use Rattle.std.proofs.lemmas.List.Elements.{All-get_or}
-use Rattle.tariff_check.specs.Sound.{IsSoundInitial}
+use Rattle.std.proofs.Common.{◌∙◌, ap, sym, subst, List, get_or}
+use Rattle.tariff_check.proofs.Laws.{hirings_begin_with_first_lines-fit}
 use Rattle.tariff_compile.specs.Cells.{bands_at}
 use Rattle.tariff_compile.specs.Inside.{parts_of}
 use Rattle.tariff_compile.specs.Tables.{TableParts}
-use Rattle.tariff_check.specs.Amounts.{initial_with}
+use Rattle.tariff_check.specs.Amounts.{IsFitInitial, initial_with}
 use Rattle.tariff_check.specs.Parts.{InitialNumbers}
-use Rattle.tariff_compile.proofs.Compiled.{bands-below, fees-fit, in_range-hiring, initial-amounts}
-use Rattle.tariff_compile.proofs.Compiled.{initial-below, lines-found_at, minimum-amount, minimum-few, minimum-fit}
-use Rattle.tariff_compile.proofs.Compiled.{minimums-fit, nothing_at_hiring}
+use Rattle.tariff_compile.proofs.Compiled.{bands-below, in_range-hiring, lines-found_at, nothing_at_hiring}
+use Rattle.tariff_compile.proofs.EachKind.{amounts_are, initial-amounts, initial-below}
 use Rattle.tariff_syntax.specs.Meaning.{at_hiring}
 use Rattle.tariff_compile.proofs.tables.Tables.initial_at.Goals as goal
 
@@ -38,17 +36,6 @@ read-fee-requires g c =
     rw (c.of.ensures ∙ (c.as_slice.ensures.value ∙ ap (λ (p : TableParts). p.initials) c.self.view_is), lines)
     (initial-below t tables x is)
 
-pub minimum-requires : goal.minimum-requires
-minimum-requires g c =
-    let tables = c.args.self.now in
-    let x = at_hiring c.args.x.now in
-    let t = c.lines_of-lines.ensures.compiled.0 in
-    let is = c.lines_of-lines.ensures.compiled.1 in
-    let bands = c.bands_at_hiring-bands.ensures.value ∙ ap (λ (p : TableParts). bands_at p.cuts x) c.self.view_is in
-    let lines = lines-found_at t tables x c.bands_at_hiring-bands.result c.lines_of-lines.result is
-    (in_range-hiring tables c.args.x.now c.requires.range) bands c.lines_of-lines.ensures.value in
-    rw lines (minimum-few t tables x is)
-
 pub returns-clause-tree : goal.returns-clause-tree
 returns-clause-tree g c = λ t is.
     let tables = c.args.self.now in
@@ -60,27 +47,12 @@ returns-clause-tree g c = λ t is.
     ∙ (ap (λ (list : List InitialNumbers). get_or list c.lines_of-lines.result.initial c.read-fee.result)
     (c.of.ensures ∙ (c.as_slice.ensures.value ∙ ap (λ (p : TableParts). p.initials) c.self.view_is))
     ∙ rw lines (initial-amounts t tables x c.read-fee.result is)) in
-    let minimum = c.minimum.ensures.value ∙ rw lines (minimum-amount t tables x is) in
-    ap (λ (f : InitialNumbers). initial_with f c.minimum.result) fee ∙ ap (initial_with _) minimum
+    let list = c.as_slice-2.ensures.value ∙ ap (λ (p : TableParts). p.minimums) c.self.view_is in
+    let minimum = c.counted_amount.ensures.value ∙ rw (list, lines) (amounts_are t tables x is) in
+    ap (λ (f : InitialNumbers). initial_with f c.counted_amount.result) fee ∙ ap (initial_with _) minimum
 
 pub returns-clause-fit : goal.returns-clause-fit
 returns-clause-fit g c =
-    let tables = c.args.self.now in
-    let x = at_hiring c.args.x.now in
     let compiled = c.lines_of-lines.ensures.compiled in
-    let bands = c.bands_at_hiring-bands.ensures.value ∙ ap (λ (p : TableParts). bands_at p.cuts x) c.self.view_is in
-    let lines = lines-found_at compiled.0 tables x c.bands_at_hiring-bands.result c.lines_of-lines.result compiled.1
-    (in_range-hiring tables c.args.x.now c.requires.range) bands c.lines_of-lines.ensures.value in
-    let there : c.lines_of-lines.result.initial < length tables.initials =
-    rw lines (initial-below compiled.0 tables x compiled.1) in
-    let read = c.read-fee.ensures.value c.read-fee.result
-    ∙ ap (λ (list : List InitialNumbers). get_or list c.lines_of-lines.result.initial c.read-fee.result)
-    (c.of.ensures ∙ (c.as_slice.ensures.value ∙ ap (λ (p : TableParts). p.initials) c.self.view_is)) in
-    let fee = subst IsSoundInitial (sym read) (All-get_or IsSoundInitial tables.initials c.lines_of-lines.result.initial
-    c.read-fee.result there (fees-fit tables compiled)) in
-    record {
-      amount = fee.amount;
-      covers = fee.covers;
-      minimum = rw c.minimum.ensures.value
-          (minimum-fit tables.minimums c.lines_of-lines.result.minimum (minimums-fit tables compiled));
-    }
+    subst IsFitInitial (sym (returns-clause-tree g c compiled.0 compiled.1))
+    (hirings_begin_with_first_lines-fit compiled.0 c.args.x.now compiled.1.writable compiled.1.sound)

@@ -1,7 +1,9 @@
+use Rattle.std.proofs.Common.{arith}
+use Rattle.std.proofs.lemmas.Grind.{common_steps}
 use Rattle.tariff_check.proofs.Laws.{sound_tariffs_have_sound_parts-parts}
 use Rattle.tariff_syntax.specs.Tree.{tree_of}
 use Rattle.tariff_compile.proofs.Compiled.{tables_fit}
-use Rattle.tariff_compile.proofs.compiling.compile.Goals as goal
+use Rattle.tariff_compile.proofs.tables.compile.Goals as goal
 
 pub all_weights-requires-clause-rates : goal.all_weights-requires-clause-rates
 all_weights-requires-clause-rates c =
@@ -24,24 +26,7 @@ invariant_of-result c = (
     writable = c.rates.ensures.writable;
     sound = c.rates.ensures.sound;
     constant = (rw (← c.get.ensures.value) c.get.ensures.least, rw (← c.get.ensures.value) c.get.ensures.most);
-    parts = rw (
-      c.step-step.ensures.value,
-      c.in_ok-cuts.ensures,
-      c.in_ok-weights.ensures,
-      c.in_ok-initials.ensures,
-      c.in_ok-minimums.ensures,
-      c.rates.ensures.value.values,
-      c.initials.ensures.value.values,
-      c.minimums.ensures.value.values,
-      c.in_ok-cells.ensures,
-      c.in_ok-supplements.ensures,
-      c.get.ensures.value,
-      c.measure.ensures.value,
-      c.measure-2.ensures.value,
-      c.positions.ensures.value,
-      c.zones.ensures.value,
-      c.tariff.ensures.value,
-    );
+    parts = grind (arith, common_steps);
   },
 )
 

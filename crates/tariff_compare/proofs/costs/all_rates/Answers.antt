@@ -1,6 +1,6 @@
 use Rattle.std.proofs.Common.{arith}
 use Rattle.std.proofs.lemmas.Grind.{common_steps}
-use Rattle.tariff_compare.proofs.costs.all_costs.Goals as goal
+use Rattle.tariff_compare.proofs.costs.all_rates.Goals as goal
 
 pub loop-rate-preserved : goal.loop-rate-preserved
 loop-rate-preserved c = grind (arith, common_steps)
