@@ -1,10 +1,11 @@
 -- No receipt lies in another's text with more behind it: only the last line of a receipt is that of its end.
 use Rattle.std.proofs.Common.{◌≡◌, ◌≢◌, inl, inr, ℕ, ℤ, ◌+◌, ◌<◌, List, [], ◌∷◌, ◌++◌, length, refl, ap, sym, ◌∙◌}
-use Rattle.std.proofs.Common.{subst, arith, append_assoc, length-append}
+use Rattle.std.proofs.Common.{subst, arith, append_assoc, length-append, Bool, true, false, not, ◌&&◌, ◌==◌}
 use Rattle.std.specs.Prelude.{codes}
 use Rattle.std.specs.Char.{digit_value}
 use Rattle.std.specs.List.{AllByRecursion}
 use Rattle.std.specs.Str.Parse.{AllDigits}
+use Rattle.std.proofs.lemmas.Bool.{and_parts, eq-eqb}
 use Rattle.std.proofs.lemmas.List.Elements.{recursion_from_All}
 use Rattle.seal_record.specs.Ranges.{IsTaxi}
 use Rattle.taxi_units.specs.Decimal.{IsDecimal}
@@ -14,8 +15,9 @@ use Rattle.taxi_units.specs.declared.receipt.Kind.TheVariants.{Closed, Aborted, 
 use Rattle.taxi_units.specs.declared.receipt.Receipt.{Receipt}
 use Rattle.taxi_units.specs.declared.receipt.Stamp.{Stamp}
 use Rattle.receipt_text.specs.Grammar.{IsKind, IsDateText, IsTimeText, IsStampText, IsDayText, IsHexDigit, IsHexText}
-use Rattle.receipt_text.specs.Grammar.{IsDistance, IsCalculation, Line, IsMoney, AreAmounts, HasMinimum, AreTripLines}
-use Rattle.receipt_text.specs.Grammar.{AreReceiptLines}
+use Rattle.receipt_text.specs.Grammar.{IsDistance, IsCalculation, Line, IsMoney, AreAmounts, AreLastLines, AreTripLines}
+use Rattle.receipt_text.specs.Grammar.{AreReceiptLines, HasOptional}
+use Rattle.receipt_text.specs.AmountLines.{optional_lines}
 use Rattle.receipt_text.specs.Part.{Part}
 use Rattle.log_commands.specs.Record.{Record, IsRecord}
 use Rattle.taxi_units.specs.Identifier.{IsIdentifierCharacter}
@@ -29,6 +31,29 @@ Plain (c ∷ cs) = (c ≢ 10) × Plain cs
 plain_append : (a b : List ℕ) → Plain a → Plain b → Plain (a ++ b)
 plain_append [] b h k = k
 plain_append (c ∷ cs) b h k = (h.0, plain_append cs b h.1 k)
+
+-- words that begin with no E and have no line feed
+abbrev is_plain : List ℕ → Bool
+is_plain [] = true
+is_plain (c ∷ cs) = not (c == 10) && is_plain cs
+
+abbrev is_word : List ℕ → Bool
+is_word [] = false
+is_word (c ∷ cs) = not (c == 69) && is_plain (c ∷ cs)
+
+abbrev are_words : List (List ℕ × ℕ) → Bool
+are_words [] = true
+are_words ((word, amount) ∷ more) = is_word word && are_words more
+
+not_same : (c d : ℕ) → not (c == d) ≡ true → c ≢ d
+not_same c d h e = let same = eq-eqb c d e in absurd cc
+
+plain_is : (text : List ℕ) → is_plain text ≡ true → Plain text
+plain_is [] h = tt
+plain_is (c ∷ cs) h = let parts = and_parts _ _ h in (not_same c 10 parts.0, plain_is cs parts.1)
+
+word_is : (c : ℕ) (cs : List ℕ) → is_word (c ∷ cs) ≡ true → (c ≢ 69) × Plain (c ∷ cs)
+word_is c cs h = let parts = and_parts _ _ h in (not_same c 69 parts.0, plain_is (c ∷ cs) parts.1)
 
 digit_plain : (c : ℕ) → digit_value c < 10 → c ≢ 10
 digit_plain c small e = let value : digit_value c ≡ 36 = ap digit_value e in omega (arith, small, value)
@@ -52,12 +77,9 @@ amount_plain : (decimals units : ℕ) (text : List ℕ) → IsAmountText decimal
 amount_plain decimals units text h = decimal_plain text h.whole h.parts h.form
 
 kind_plain : (kind : Kind) (text : List ℕ) → IsKind kind text → Plain text
-kind_plain Closed text h =
-    subst Plain (sym h) (omega arith, (omega arith, (omega arith, (omega arith, (omega arith, (omega arith, tt))))))
-kind_plain Aborted text h = subst Plain (sym h)
-    (omega arith, (omega arith, (omega arith, (omega arith, (omega arith, (omega arith, (omega arith, tt)))))))
-kind_plain Expired text h = subst Plain (sym h)
-    (omega arith, (omega arith, (omega arith, (omega arith, (omega arith, (omega arith, (omega arith, tt)))))))
+kind_plain Closed text h = subst Plain (sym h) (plain_is (codes "CLOSED") refl)
+kind_plain Aborted text h = subst Plain (sym h) (plain_is (codes "ABORTED") refl)
+kind_plain Expired text h = subst Plain (sym h) (plain_is (codes "EXPIRED") refl)
 kind_plain Roam text h = absurd h
 
 character_plain : (c : ℕ) → IsIdentifierCharacter c → c ≢ 10
@@ -161,10 +183,11 @@ pub record IsEnded (text : List ℕ) : Type 0 where
 last_ended : (text : List ℕ) → text ≡ codes "END\n" → IsEnded text
 last_ended text is = record { front = []; last = ap (λ (t : List ℕ). 10 ∷ t) is; once = last_once text is }
 
-line_ended : (c : ℕ) (cs : List ℕ) (Value Rest : List ℕ → Type 0) (text : List ℕ) → c ≢ 69 → Plain (c ∷ cs)
+line_ended : (c : ℕ) (cs : List ℕ) (Value Rest : List ℕ → Type 0) (text : List ℕ) → is_word (c ∷ cs) ≡ true
     → ((value : List ℕ) → Value value → Plain value) → ((rest : List ℕ) → Rest rest → IsEnded rest)
     → Line (c ∷ cs) Value Rest text → IsEnded text
-line_ended c cs Value Rest text other word plain ended h =
+line_ended c cs Value Rest text is plain ended h =
+    let word = word_is c cs is in
     let behind = ended h.rest h.rest_is in
     let body = (c ∷ cs) ++ h.value in
     record {
@@ -172,7 +195,7 @@ line_ended c cs Value Rest text other word plain ended h =
       last = ap (λ (t : List ℕ). 10 ∷ t) (h.text_is ∙ (sym (append_assoc (c ∷ cs) h.value (10 ∷ h.rest))
           ∙ (ap (λ (t : List ℕ). body ++ t) behind.last ∙ sym (append_assoc body behind.front (10 ∷ codes "END\n")))));
       once = subst EndsOnce (sym h.text_is)
-          (line_once c cs h.value h.rest other word (plain h.value h.value_is) behind.once);
+          (line_once c cs h.value h.rest word.0 word.1 (plain h.value h.value_is) behind.once);
     }
 
 -- ---- a receipt, from its last line up
@@ -180,99 +203,61 @@ line_ended c cs Value Rest text other word plain ended h =
 module _ (r : Receipt) (p : Part) where
   total_ended : (text : List ℕ)
       → Line (codes "TOTAL ") (IsMoney r (r.fare + r.supplements)) (λ t. t ≡ codes "END\n") text → IsEnded text
-  total_ended text h = line_ended 84 (codes "OTAL ") _ _ text (omega arith)
-      (omega arith, (omega arith, (omega arith, (omega arith, (omega arith, (omega arith, tt))))))
-      (amount_plain r.decimals _) last_ended h
+  total_ended text h = line_ended 84 (codes "OTAL ") _ _ text refl (amount_plain r.decimals _) last_ended h
 
   supplements_ended : (text : List ℕ) → Line (codes "SUPPLEMENTS ") (IsMoney r r.supplements)
       (Line (codes "TOTAL ") (IsMoney r (r.fare + r.supplements)) (λ t. t ≡ codes "END\n")) text → IsEnded text
-  supplements_ended text h = line_ended 83 (codes "UPPLEMENTS ") _ _ text (omega arith) (
-    omega arith,
-    (
-      omega arith,
-      (
-        omega arith,
-        (
-          omega arith,
-          (
-            omega arith,
-            (omega arith, (omega arith, (omega arith, (omega arith, (omega arith, (omega arith, (omega arith, tt))))))),
-          ),
-        ),
-      ),
-    ),
-  ) (amount_plain r.decimals r.supplements) (total_ended) h
+  supplements_ended text h = line_ended 83 (codes "UPPLEMENTS ") _ _ text refl
+      (amount_plain r.decimals r.supplements) total_ended h
 
   amounts_ended : (text : List ℕ) → AreAmounts r text → IsEnded text
-  amounts_ended text h = line_ended 70 (codes "ARE ") _ _ text (omega arith)
-      (omega arith, (omega arith, (omega arith, (omega arith, (omega arith, tt))))) (amount_plain r.decimals r.fare)
-      (supplements_ended) h
+  amounts_ended text h = line_ended 70 (codes "ARE ") _ _ text refl (amount_plain r.decimals r.fare)
+      supplements_ended h
 
-  minimum_ended : (text : List ℕ) → HasMinimum r text → IsEnded text
-  minimum_ended text (inl h) = line_ended 77 (codes "INIMUM ") _ _ text (omega arith) (
-    omega arith,
-    (omega arith, (omega arith, (omega arith, (omega arith, (omega arith, (omega arith, (omega arith, tt))))))),
-  ) (amount_plain r.decimals r.minimum) amounts_ended h.1
-  minimum_ended text (inr h) = amounts_ended text h.1
+  optional_ended : (lines : List (List ℕ × ℕ)) (text : List ℕ) → are_words lines ≡ true
+      → HasOptional r lines (AreAmounts r) text → IsEnded text
+  optional_ended [] text words h = amounts_ended text h
+  optional_ended (([], amount) ∷ more) text words h = absurd cc
+  optional_ended ((c ∷ cs, amount) ∷ more) text words h =
+      let first = and_parts (is_word (c ∷ cs)) (are_words more) words in
+      elim h [
+        | inl with ↦ line_ended c cs _ _ text first.0 (amount_plain r.decimals amount)
+            (λ rest rest_is. optional_ended more rest first.1 rest_is) with.1
+        | inr without ↦ optional_ended more text first.1 without.1
+      ]
 
-  calc_ended : (text : List ℕ) → Line (codes "CALC ") (IsCalculation r) (HasMinimum r) text → IsEnded text
-  calc_ended text h = line_ended 67 (codes "ALC ") _ _ text (omega arith)
-      (omega arith, (omega arith, (omega arith, (omega arith, (omega arith, tt))))) (calculation_plain r)
-      (minimum_ended) h
+  last_lines_ended : (text : List ℕ) → AreLastLines r text → IsEnded text
+  last_lines_ended text h = optional_ended (optional_lines r) text refl h
+
+  calc_ended : (text : List ℕ) → Line (codes "CALC ") (IsCalculation r) (AreLastLines r) text → IsEnded text
+  calc_ended text h = line_ended 67 (codes "ALC ") _ _ text refl (calculation_plain r) last_lines_ended h
 
   distance_ended : (text : List ℕ) → Line (codes "DISTANCE ") (IsDistance r.hired_mm)
-      (Line (codes "CALC ") (IsCalculation r) (HasMinimum r)) text → IsEnded text
-  distance_ended text h = line_ended 68 (codes "ISTANCE ") _ _ text (omega arith) (
-    omega arith,
-    (
-      omega arith,
-      (omega arith, (omega arith, (omega arith, (omega arith, (omega arith, (omega arith, (omega arith, tt))))))),
-    ),
-  ) (distance_plain r.hired_mm) (calc_ended) h
+      (Line (codes "CALC ") (IsCalculation r) (AreLastLines r)) text → IsEnded text
+  distance_ended text h = line_ended 68 (codes "ISTANCE ") _ _ text refl (distance_plain r.hired_mm) (calc_ended) h
 
   position_ended : (text : List ℕ) → Line (codes "POSITION ") (IsNumberText r.position) (Line (codes "DISTANCE ")
-      (IsDistance r.hired_mm) (Line (codes "CALC ") (IsCalculation r) (HasMinimum r))) text → IsEnded text
-  position_ended text h = line_ended 80 (codes "OSITION ") _ _ text (omega arith) (
-    omega arith,
-    (
-      omega arith,
-      (omega arith, (omega arith, (omega arith, (omega arith, (omega arith, (omega arith, (omega arith, tt))))))),
-    ),
-  ) (number_plain r.position) (distance_ended) h
+      (IsDistance r.hired_mm) (Line (codes "CALC ") (IsCalculation r) (AreLastLines r))) text → IsEnded text
+  position_ended text h = line_ended 80 (codes "OSITION ") _ _ text refl (number_plain r.position) (distance_ended) h
 
   finish_ended : (text : List ℕ) → Line (codes "FINISH ") (IsStampText r.finish)
       (Line (codes "POSITION ") (IsNumberText r.position) (Line (codes "DISTANCE ") (IsDistance r.hired_mm)
-      (Line (codes "CALC ") (IsCalculation r) (HasMinimum r)))) text → IsEnded text
-  finish_ended text h = line_ended 70 (codes "INISH ") _ _ text (omega arith)
-      (omega arith, (omega arith, (omega arith, (omega arith, (omega arith, (omega arith, (omega arith, tt)))))))
-      (stamp_plain r.finish) (position_ended) h
+      (Line (codes "CALC ") (IsCalculation r) (AreLastLines r)))) text → IsEnded text
+  finish_ended text h = line_ended 70 (codes "INISH ") _ _ text refl (stamp_plain r.finish) position_ended h
 
   start_ended : (text : List ℕ) → AreTripLines r text → IsEnded text
-  start_ended text h = line_ended 83 (codes "TART ") _ _ text (omega arith)
-      (omega arith, (omega arith, (omega arith, (omega arith, (omega arith, (omega arith, tt)))))) (stamp_plain r.start)
-      (finish_ended) h
+  start_ended text h = line_ended 83 (codes "TART ") _ _ text refl (stamp_plain r.start) finish_ended h
 
   tariff_ended : (text : List ℕ) → Line (codes "TARIFF ") (IsHexText p.digest) (AreTripLines r) text → IsEnded text
-  tariff_ended text h = line_ended 84 (codes "ARIFF ") _ _ text (omega arith)
-      (omega arith, (omega arith, (omega arith, (omega arith, (omega arith, (omega arith, (omega arith, tt)))))))
-      (digest_plain p.digest) (start_ended) h
+  tariff_ended text h = line_ended 84 (codes "ARIFF ") _ _ text refl (digest_plain p.digest) start_ended h
 
   secured_ended : (text : List ℕ) → Line (codes "SECURED ") (IsDayText p.secured)
       (Line (codes "TARIFF ") (IsHexText p.digest) (AreTripLines r)) text → IsEnded text
-  secured_ended text h = line_ended 83 (codes "ECURED ") _ _ text (omega arith) (
-    omega arith,
-    (omega arith, (omega arith, (omega arith, (omega arith, (omega arith, (omega arith, (omega arith, tt))))))),
-  ) (day_plain p.secured) (tariff_ended) h
+  secured_ended text h = line_ended 83 (codes "ECURED ") _ _ text refl (day_plain p.secured) (tariff_ended) h
 
   constant_ended : (text : List ℕ) → Line (codes "CONSTANT ") (IsNumberText p.constant) (Line (codes "SECURED ")
       (IsDayText p.secured) (Line (codes "TARIFF ") (IsHexText p.digest) (AreTripLines r))) text → IsEnded text
-  constant_ended text h = line_ended 67 (codes "ONSTANT ") _ _ text (omega arith) (
-    omega arith,
-    (
-      omega arith,
-      (omega arith, (omega arith, (omega arith, (omega arith, (omega arith, (omega arith, (omega arith, tt))))))),
-    ),
-  ) (number_plain p.constant) (secured_ended) h
+  constant_ended text h = line_ended 67 (codes "ONSTANT ") _ _ text refl (number_plain p.constant) (secured_ended) h
 
   -- the lines from that of the taxi on, and from that of the kind on
   abbrev AreTaxiLines : List ℕ → Type 0
@@ -283,20 +268,16 @@ module _ (r : Receipt) (p : Part) where
   AreKindLines = Line (codes "KIND ") (IsKind r.kind) AreTaxiLines
 
   taxi_ended : IsTaxi p.taxi → (text : List ℕ) → AreTaxiLines text → IsEnded text
-  taxi_ended taxi text h = line_ended 84 (codes "AXI ") _ _ text (omega arith)
-      (omega arith, (omega arith, (omega arith, (omega arith, (omega arith, tt)))))
+  taxi_ended taxi text h = line_ended 84 (codes "AXI ") _ _ text refl
       (λ value is. subst Plain (sym is) (taxi_plain p.taxi taxi)) constant_ended h
 
   kind_ended : IsTaxi p.taxi → (text : List ℕ) → AreKindLines text → IsEnded text
-  kind_ended taxi text h = line_ended 75 (codes "IND ") (IsKind r.kind) AreTaxiLines text (omega arith)
-      (omega arith, (omega arith, (omega arith, (omega arith, (omega arith, tt))))) (kind_plain r.kind)
+  kind_ended taxi text h = line_ended 75 (codes "IND ") (IsKind r.kind) AreTaxiLines text refl (kind_plain r.kind)
       (taxi_ended taxi) h
 
   lines_ended : IsTaxi p.taxi → (text : List ℕ) → AreReceiptLines r p text → IsEnded text
-  lines_ended taxi text h = line_ended 82 (codes "ECEIPT ") (IsNumberText r.number) AreKindLines text (omega arith) (
-    omega arith,
-    (omega arith, (omega arith, (omega arith, (omega arith, (omega arith, (omega arith, (omega arith, tt))))))),
-  ) (number_plain r.number) (kind_ended taxi) h
+  lines_ended taxi text h = line_ended 82 (codes "ECEIPT ") (IsNumberText r.number) AreKindLines text refl
+      (number_plain r.number) (kind_ended taxi) h
 
 -- a receipt's text has its last line at its end alone
 record_ended : (it : Record) → IsRecord it → (front : List ℕ) × (it.text ≡ front ++ 10 ∷ codes "END\n")

@@ -1,6 +1,5 @@
 -- Rules: which words are a command.
-use Rattle.std.specs.Prelude.{ℕ, Bool, List, [], ◌∷◌, Option, Some, None, if◌then◌else◌, nat_eq, codes}
-use Rattle.std.specs.Cmp.Lexicographic.{pointwise}
+use Rattle.std.specs.Prelude.{ℕ, List, [], ◌∷◌, Option, Some, None, if◌then◌else◌, codes}
 use Rattle.log_commands.specs.declared.words.Call.{Call}
 use Rattle.log_commands.specs.declared.words.Call.TheVariants.{File, Show}
 use Rattle.taxi_units.specs.Words.{is_word}

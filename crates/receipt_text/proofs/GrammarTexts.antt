@@ -18,16 +18,21 @@ use Rattle.taxi_units.specs.declared.receipt.Receipt.{Receipt}
 use Rattle.taxi_units.specs.declared.receipt.Stamp.{Stamp}
 use Rattle.taxi_units.proofs.Laws.{amounts_are_written_by_their_digits, numbers_are_written_by_their_digits}
 use Rattle.taxi_units.proofs.Laws.{padded_numbers_are_written_by_their_digits}
-use Rattle.receipt_text.specs.Grammar.{AreAmounts, AreReceiptLines, AreTripLines, HasMinimum, IsCalculation, IsDateText}
-use Rattle.receipt_text.specs.Grammar.{IsDayText, IsDistance, IsExactly, IsHexDigit, IsHexText, IsKind, IsMoney}
+use Rattle.receipt_text.specs.Grammar.{AreAmounts, AreLastLines, AreReceiptLines, AreTripLines, HasOptional}
+use Rattle.receipt_text.specs.Grammar.{IsCalculation}
+use Rattle.receipt_text.specs.Grammar.{IsDateText, IsDayText, IsDistance, IsExactly, IsHexDigit, IsHexText, IsKind}
+use Rattle.receipt_text.specs.Grammar.{IsMoney}
 use Rattle.receipt_text.specs.Grammar.{IsReceiptText, IsStampText, IsTimeText, Line}
+use Rattle.receipt_text.specs.AmountLines.{optional_lines}
 use Rattle.receipt_text.specs.Part.{Part, IsPart}
 use Rattle.receipt_text.specs.Receipts.{body_text, calculation_text, course_text, date_text, day_text, fare_text}
-use Rattle.receipt_text.specs.Receipts.{heading_text, hex_digit, hex_text, kind_text, minimum_text, part_text}
+use Rattle.receipt_text.specs.Receipts.{heading_text, hex_digit, hex_text, in_front, kind_text, optional_text}
+use Rattle.receipt_text.specs.Receipts.{part_text}
 use Rattle.receipt_text.specs.Receipts.{receipt_text, stamp_text, sums_text, supplements_text, time_text, total_text}
 use Rattle.receipt_text.specs.Receipts.{trip_text}
 use Rattle.receipt_text.specs.Spelling.{IsSpelled}
 use Rattle.receipt_text.proofs.Dates.{month_small, year_below}
+use Rattle.receipt_text.proofs.OptionalLines.{IsShort, optional_short}
 use Rattle.taxi_units.specs.Limits.{largest_supplements}
 use Rattle.taxi_units.specs.Money.{largest_amount}
 
@@ -256,40 +261,49 @@ amounts_only r fare supplements =
     line_only (codes "FARE ") (money_text r.decimals r.fare) _ (IsMoney r r.fare) _
     (amount_only r.decimals r.fare (omega arith)) second
 
-minimum_only : (r : Receipt) → IsReceipt r → Only (HasMinimum r) (minimum_text r.decimals r.minimum ++ amount_lines r)
-unfolding minimum_text
-minimum_only r is text =
-    let fare_small : r.fare ≤ largest_amount = omega (arith, is.fare) in
-    let amounts = amounts_only r fare_small is.supplements in
-    let line = line_only (codes "MINIMUM ") (money_text r.decimals r.minimum) (amount_lines r) (IsMoney r r.minimum)
-    (AreAmounts r) (amount_only r.decimals r.minimum (omega (arith, is.minimum))) amounts text in
-    elim (cases_lt 0 r.minimum) [
+-- optional lines have one text, where what stands behind them has one
+optional_only : (r : Receipt) (lines : List (List ℕ × ℕ)) (after : List ℕ) (Rest : List ℕ → Type 0)
+    → AllByRecursion IsShort lines → Only Rest after → Only (HasOptional r lines Rest) (in_front r.decimals lines after)
+unfolding optional_text
+optional_only r [] after Rest short rest text = rest text
+optional_only r ((word, amount) ∷ more) after Rest short rest text =
+    let behind = optional_only r more after Rest short.1 rest in
+    let tail = in_front r.decimals more after in
+    let line = line_only word (money_text r.decimals amount) tail (IsMoney r amount) (HasOptional r more Rest)
+    (amount_only r.decimals amount (omega (arith, short.0.amount))) behind text in
+    elim (cases_lt 0 amount) [
       | inl some ↦
-          let not_none : eqb r.minimum 0 ≡ false = ne_eqb r.minimum 0 (λ e. omega arith) in
-          let spelled : (codes "MINIMUM " ++ (money_text r.decimals r.minimum ++ codes "\n")) ++ amount_lines r
-          ≡ codes "MINIMUM " ++ (money_text r.decimals r.minimum ++ 10 ∷ amount_lines r) = simp append_assoc in
+          let not_none : eqb amount 0 ≡ false = ne_eqb amount 0 (λ e. omega arith) in
+          let spelled : (word ++ (money_text r.decimals amount ++ codes "\n")) ++ tail
+          ≡ word ++ (money_text r.decimals amount ++ 10 ∷ tail) = simp append_assoc in
           rw (not_none, spelled) (
             λ h. elim h [ inl with ↦ line.0 with.1 | inr without ↦ absurd (omega (arith, without.0, some)) ],
             λ e. inl (some, line.1 e),
           )
       | inr none ↦
-          let zero_is : r.minimum ≡ 0 = omega arith in
+          let zero_is : amount ≡ 0 = omega arith in
           rw zero_is (
-            λ h. elim h [ inl with ↦ absurd (omega (arith, with.0)) | inr without ↦ (amounts text).0 without.1 ],
-            λ e. inr (refl, (amounts text).1 e),
+            λ h. elim h [ inl with ↦ absurd (omega (arith, with.0)) | inr without ↦ (behind text).0 without.1 ],
+            λ e. inr (refl, (behind text).1 e),
           )
     ]
+
+last_only : (r : Receipt) → IsReceipt r
+    → Only (AreLastLines r) (in_front r.decimals (optional_lines r) (amount_lines r))
+last_only r is =
+    optional_only r (optional_lines r) (amount_lines r) (AreAmounts r) (optional_short r is)
+    (amounts_only r (omega (arith, is.fare)) is.supplements)
 
 abbrev trip_lines : Receipt → List ℕ
 trip_lines r =
     codes "START " ++ (stamp_text r.start ++ 10 ∷ (codes "FINISH " ++ (stamp_text r.finish ++ 10
     ∷ (codes "POSITION " ++ (decimal r.position ++ 10 ∷ (codes "DISTANCE " ++ ((money_text 3 r.hired_mm ++ codes " m")
-    ++ 10 ∷ (codes "CALC " ++ (calculated r ++ 10 ∷ (minimum_text r.decimals r.minimum ++ amount_lines r))))))))))
+    ++ 10 ∷ (codes "CALC " ++ (calculated r ++ 10 ∷ in_front r.decimals (optional_lines r) (amount_lines r))))))))))
 
 trip_only : (r : Receipt) → IsReceipt r → Only (AreTripLines r) (trip_lines r)
 trip_only r is =
-    let fifth = line_only (codes "CALC ") (calculated r) _ (IsCalculation r) (HasMinimum r) (calculation_only r is)
-    (minimum_only r is) in
+    let fifth = line_only (codes "CALC ") (calculated r) _ (IsCalculation r) (AreLastLines r) (calculation_only r is)
+    (last_only r is) in
     let fourth = line_only (codes "DISTANCE ") _ _ (IsDistance r.hired_mm) _
     (distance_only r.hired_mm (omega (arith, is.distance))) fifth in
     let third = line_only (codes "POSITION ") _ _ (IsNumberText r.position) _

@@ -1,11 +1,11 @@
 -- What is written of the lines of a receipt is read again.
-use Rattle.std.proofs.Common.{◌≡◌, ◌≢◌, ℕ, ◌+◌, ◌-◌, ◌*◌, ◌/◌, ◌%◌, ◌^◌, ◌<◌, ◌≤◌, true, false, List, [], ◌∷◌, ◌++◌}
-use Rattle.std.proofs.Common.{length, refl, ap, sym, ◌∙◌, arith, Some, None, inl, inr, eqb, append_assoc}
+use Rattle.std.proofs.Common.{◌≡◌, ◌≢◌, ℕ, ◌+◌, ◌-◌, ◌*◌, ◌/◌, ◌%◌, ◌^◌, ◌<◌, ◌≤◌, true, List, [], ◌∷◌, ◌++◌}
+use Rattle.std.proofs.Common.{length, refl, ap, sym, ◌∙◌, arith, Some, None, inl, inr, append_assoc}
 use Rattle.std.specs.Prelude.{codes}
 use Rattle.std.specs.Fmt.{decimal}
 use Rattle.std.specs.List.{AllByRecursion, prefix_len}
 use Rattle.std.proofs.Math.Seq.{take-append_seam, drop-append_seam}
-use Rattle.std.proofs.lemmas.Bool.{le-leb, le-ltb, lt-ltb, lt-leb, ne_eqb, cases_lt}
+use Rattle.std.proofs.lemmas.Bool.{le-leb, le-ltb, lt-ltb, lt-leb, cases_lt}
 use Rattle.std.proofs.lemmas.Bool.Decides.{nat_tests}
 use Rattle.std.proofs.lemmas.List.Elements.{recursion_from_All}
 use Rattle.taxi_units.specs.Number.{money_text}
@@ -15,12 +15,12 @@ use Rattle.taxi_units.specs.declared.receipt.Kind.{Kind}
 use Rattle.taxi_units.specs.declared.receipt.Kind.TheVariants.{Closed, Aborted, Expired, Roam}
 use Rattle.taxi_units.specs.declared.receipt.Receipt.{Receipt}
 use Rattle.receipt_text.specs.Digests.{byte_at, bytes_at, digest_at, hex_value}
-use Rattle.receipt_text.specs.Lines.{calculation_at, heading_at, kind_at, minimum_at, part_at, sums_at, taxi_at}
+use Rattle.receipt_text.specs.Lines.{calculation_at, heading_at, kind_at, part_at, sums_at, taxi_at}
 use Rattle.receipt_text.specs.Lines.{trip_at}
 use Rattle.receipt_text.specs.Part.{Part, IsDigest, IsPart}
 use Rattle.seal_record.specs.Ranges.{IsTaxi}
 use Rattle.receipt_text.specs.Receipts.{calculation_text, course_text, day_text, fare_text, heading_text, hex_digit}
-use Rattle.receipt_text.specs.Receipts.{hex_text, kind_text, minimum_text, part_text, stamp_text, sums_text}
+use Rattle.receipt_text.specs.Receipts.{hex_text, kind_text, part_text, stamp_text, sums_text}
 use Rattle.receipt_text.specs.Receipts.{supplements_text, trip_text}
 use Rattle.receipt_text.proofs.Again.{amount_again, number_again, word_again}
 use Rattle.receipt_text.proofs.Dates.{day_again, stamp_again}
@@ -181,34 +181,6 @@ calculation_again r rest is =
     let f = word_again (codes "\n") rest in
     ap calculation_at text ∙ rw (a, initial, b, steps, d, step, f) refl
 
-no_minimum : (decimals : ℕ) (rest : List ℕ)
-    → minimum_at (minimum_text decimals 0 ++ (codes "FARE " ++ rest)) ≡ Some (0, codes "FARE " ++ rest)
-unfolding minimum_at minimum_text word_at
-no_minimum decimals rest = refl
-
-some_minimum : (decimals minimum : ℕ) (rest : List ℕ) → decimals ≤ 3 → minimum < 10 ^ 18 → 0 < minimum
-    → minimum_at (minimum_text decimals minimum ++ rest) ≡ Some (minimum, rest)
-unfolding minimum_at minimum_text
-some_minimum decimals minimum rest few small some =
-    let not_none : eqb minimum 0 ≡ false = ne_eqb minimum 0 (λ e. omega arith) in
-    let text : (codes "MINIMUM " ++ (money_text decimals minimum ++ codes "\n")) ++ rest
-    ≡ codes "MINIMUM " ++ (money_text decimals minimum ++ 10 ∷ rest) = simp append_assoc in
-    let a = word_again (codes "MINIMUM ") (money_text decimals minimum ++ 10 ∷ rest) in
-    let m = amount_again (10 ^ 18) decimals minimum rest 10 few small (omega arith) (omega arith) (λ e. omega arith) in
-    let f = word_again (codes "\n") rest in
-    rw (not_none, text, a, m, f) refl
-
--- the line of the minimum fare, before a line of the fare
-pub minimum_again : (decimals minimum : ℕ) (rest more : List ℕ) → decimals ≤ 3 → minimum < 10 ^ 18
-    → rest ≡ codes "FARE " ++ more → minimum_at (minimum_text decimals minimum ++ rest) ≡ Some (minimum, rest)
-minimum_again decimals minimum rest more few small e =
-    elim (cases_lt 0 minimum) [
-      | inl some ↦ some_minimum decimals minimum rest few small some
-      | inr none ↦
-          let zero_is : minimum ≡ 0 = omega arith in
-          rw (zero_is, e) (no_minimum decimals more)
-    ]
-
 -- the lines of the fare and of the supplements
 pub sums_again : (r : Receipt) (rest : List ℕ) → r.decimals ≤ 3 → r.fare < 10 ^ 18 → r.supplements < 10 ^ 18
     → sums_at (sums_text r ++ rest) ≡ Some (record { fare = r.fare; supplements = r.supplements }, rest)
@@ -226,9 +198,3 @@ sums_again r rest few fare_small supplements_small =
     (omega arith) (λ e. omega arith) in
     let f = word_again (codes "\n") rest in
     ap sums_at text ∙ rw (a, fare, b, supplements, f) refl
-
--- the lines of the fare begin with its word
-pub sums_begin : (r : Receipt) (rest : List ℕ) → sums_text r ++ rest
-    ≡ codes "FARE " ++ (((money_text r.decimals r.fare ++ codes "\n") ++ supplements_text r) ++ rest)
-unfolding sums_text fare_text
-sums_begin r rest = refl

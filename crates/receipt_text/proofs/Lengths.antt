@@ -1,9 +1,8 @@
 -- How long receipts are.
-use Rattle.std.proofs.Common.{◌≡◌, ℕ, ◌+◌, ◌*◌, ◌/◌, ◌%◌, ◌^◌, ◌<◌, ◌≤◌, List, [], ◌∷◌, ◌++◌, length, refl, inl, inr}
-use Rattle.std.proofs.Common.{arith, length-append, eqb, false, ℤ, pos, ◌≤ℤ◌, unsigned_abs}
+use Rattle.std.proofs.Common.{◌≡◌, ℕ, ◌+◌, ◌*◌, ◌/◌, ◌%◌, ◌^◌, ◌<◌, ◌≤◌, List, [], ◌∷◌, ◌++◌, length, refl}
+use Rattle.std.proofs.Common.{arith, length-append, ℤ, pos, ◌≤ℤ◌, unsigned_abs}
 use Rattle.std.specs.Prelude.{codes}
 use Rattle.std.specs.Fmt.{decimal}
-use Rattle.std.proofs.lemmas.Bool.{ne_eqb, cases_lt}
 use Rattle.std.proofs.lemmas.Int.{ints}
 use Rattle.interval_clock.specs.Calendar.{date_after}
 use Rattle.interval_clock.proofs.Laws.{IsDateOf-date_after}
@@ -14,11 +13,13 @@ use Rattle.taxi_units.specs.declared.receipt.Kind.TheVariants.{Closed, Aborted, 
 use Rattle.taxi_units.specs.declared.receipt.Receipt.{Receipt}
 use Rattle.taxi_units.specs.declared.receipt.Stamp.{Stamp}
 use Rattle.taxi_units.proofs.Laws.{amounts_are_short, numbers_are_short, padded_numbers_fill_the_width}
+use Rattle.receipt_text.specs.AmountLines.{optional_lines}
 use Rattle.receipt_text.specs.Part.{Part, IsPart}
 use Rattle.receipt_text.specs.Receipts.{body_text, calculation_text, course_text, date_text, day_text, fare_text}
-use Rattle.receipt_text.specs.Receipts.{heading_text, hex_text, kind_text, minimum_text, part_text, receipt_text}
+use Rattle.receipt_text.specs.Receipts.{heading_text, hex_text, in_front, kind_text, part_text, receipt_text}
 use Rattle.receipt_text.specs.Receipts.{stamp_text, sums_text, supplements_text, time_text, total_text, trip_text}
 use Rattle.receipt_text.proofs.Dates.{month_small, year_below}
+use Rattle.receipt_text.proofs.OptionalLines.{optional_len, optional_short}
 use Rattle.taxi_units.specs.Limits.{largest_supplements}
 use Rattle.taxi_units.specs.Money.{largest_amount}
 
@@ -164,23 +165,6 @@ calculation_len r is =
       step,
     )
 
-minimum_len : (decimals minimum : ℕ) → decimals ≤ 3 → minimum ≤ largest_amount
-    → length (minimum_text decimals minimum) ≤ 18
-unfolding minimum_text
-minimum_len decimals minimum few small =
-    elim (cases_lt 0 minimum) [
-      | inl some ↦
-          let not_none : eqb minimum 0 ≡ false = ne_eqb minimum 0 (λ e. omega arith) in
-          rw not_none (omega (
-            arith,
-            length-append (money_text decimals minimum) (codes "\n"),
-            amount_len decimals 8 minimum (omega arith) (omega arith) (omega arith),
-          ))
-      | inr none ↦
-          let zero_is : minimum ≡ 0 = omega arith in
-          rw zero_is (omega arith)
-    ]
-
 sums_len : (r : Receipt) → r.decimals ≤ 3 → r.fare ≤ largest_amount → r.supplements ≤ largest_supplements
     → length (sums_text r) ≤ 39
 unfolding sums_text fare_text supplements_text
@@ -212,20 +196,20 @@ pub receipts_are_short : (r : Receipt) (p : Part) → IsReceipt r → IsPart p �
 unfolding receipt_text body_text
 receipts_are_short r p is part_is =
     let fare_small : r.fare ≤ largest_amount = omega (arith, is.fare) in
-    let body = minimum_text r.decimals r.minimum ++ (sums_text r ++ total_text r) in
+    let last = sums_text r ++ total_text r in
+    let body = in_front r.decimals (optional_lines r) last in
     omega (
       arith,
       length-append (heading_text r.number r.kind) (part_text p ++ (trip_text r ++ (calculation_text r ++ body))),
       length-append (part_text p) (trip_text r ++ (calculation_text r ++ body)),
       length-append (trip_text r) (calculation_text r ++ body),
       length-append (calculation_text r) body,
-      length-append (minimum_text r.decimals r.minimum) (sums_text r ++ total_text r),
       length-append (sums_text r) (total_text r),
       heading_len r.number r.kind (omega (arith, is.number)),
       part_len p part_is,
       trip_len r is,
       calculation_len r is,
-      minimum_len r.decimals r.minimum is.decimals is.minimum,
+      optional_len r.decimals (optional_lines r) last is.decimals (optional_short r is),
       sums_len r is.decimals fare_small is.supplements,
       total_len r is.decimals fare_small is.supplements,
     )

@@ -1,5 +1,7 @@
 -- what is written of a number, an amount or a word is read again
 mod Again
+-- texts that are appended in pieces
+mod Appending
 -- all elements of a list are bytes where each is
 mod Bytes
 -- what is written of a date, a day or a local time is read again
@@ -16,6 +18,8 @@ mod Groups
 pub mod Laws
 -- how long receipts are
 mod Lengths
+-- the optional lines of a receipt: they are short, and what is written of one is read again
+mod OptionalLines
 -- a receipt that was written is read again, and no other text is read as one
 mod ReadAgain
 -- what a receipt says of a seal is in its ranges

@@ -3,20 +3,25 @@ use Rattle.std.proofs.Common.{◌≡◌, ℕ, ◌≤◌, ◌↔◌, List, [], �
 use Rattle.std.proofs.Common.{append_assoc}
 use Rattle.std.proofs.lemmas.List.{append-nil}
 use Rattle.std.specs.Prelude.{codes}
-use Rattle.taxi_units.specs.Number.{money_text}
+use Rattle.taxi_units.specs.Reading.{word_at}
 use Rattle.taxi_units.specs.Shown.{IsReceipt}
 use Rattle.taxi_units.specs.declared.receipt.Receipt.{Receipt}
 use Rattle.receipt_text.specs.Lines.{receipt_at}
 use Rattle.receipt_text.specs.Part.{Part, IsPart}
-use Rattle.receipt_text.specs.Receipts.{body_text, calculation_text, heading_text, minimum_text, part_text}
-use Rattle.receipt_text.specs.Receipts.{receipt_text, sums_text, supplements_text, total_text, trip_text}
+use Rattle.receipt_text.specs.Receipts.{body_text, calculation_text, fare_text, heading_text, optional_text, part_text}
+use Rattle.receipt_text.specs.Receipts.{receipt_text, sums_text, total_text, trip_text}
 use Rattle.receipt_text.specs.Spelling.{IsSpelled}
-use Rattle.receipt_text.proofs.Groups.{calculation_again, heading_again, minimum_again, part_again, sums_again}
-use Rattle.receipt_text.proofs.Groups.{sums_begin, trip_again}
+use Rattle.receipt_text.proofs.Groups.{calculation_again, heading_again, part_again, sums_again, trip_again}
+use Rattle.receipt_text.proofs.OptionalLines.{optional_again}
 use Rattle.taxi_units.specs.Money.{largest_amount}
 
 fare_small : (r : Receipt) → IsReceipt r → r.fare ≤ largest_amount
 fare_small r is = omega (arith, is.fare)
+
+-- the lines of the amounts begin with no word of an optional line
+not_minimum : (r : Receipt) (rest : List ℕ) → word_at (codes "MINIMUM ") (sums_text r ++ rest) ≡ None
+unfolding word_at sums_text fare_text
+not_minimum r rest = refl
 
 -- what was written is read, whatever stands after it
 pub receipt_again : (r : Receipt) (p : Part) (more : List ℕ) → IsReceipt r → IsPart p
@@ -25,19 +30,18 @@ unfolding receipt_at receipt_text body_text
 receipt_again r p more is part_is =
     let t₆ = total_text r ++ more in
     let t₅ = sums_text r ++ t₆ in
-    let t₄ = minimum_text r.decimals r.minimum ++ t₅ in
+    let t₄ = optional_text r.decimals (codes "MINIMUM ") r.minimum ++ t₅ in
     let t₃ = calculation_text r ++ t₄ in
     let t₂ = trip_text r ++ t₃ in
-    let text : (heading_text r.number r.kind ++ (part_text p
-    ++ (trip_text r ++ (calculation_text r ++ (minimum_text r.decimals r.minimum ++ (sums_text r ++ total_text r))))))
-    ++ more ≡ heading_text r.number r.kind ++ (part_text p ++ t₂) = simp append_assoc in
+    let text : (heading_text r.number r.kind ++ (part_text p ++ (trip_text r ++ (calculation_text r
+    ++ (optional_text r.decimals (codes "MINIMUM ") r.minimum ++ (sums_text r ++ total_text r)))))) ++ more
+    ≡ heading_text r.number r.kind ++ (part_text p ++ t₂) = simp append_assoc in
     let heading = heading_again r.number r.kind (part_text p ++ t₂) (omega (arith, is.number)) is.kind in
     let part = part_again p t₂ part_is in
     let trip = trip_again r t₃ is in
     let calculation = calculation_again r t₄ is in
-    let minimum = minimum_again r.decimals r.minimum t₅
-    (((money_text r.decimals r.fare ++ codes "\n") ++ supplements_text r) ++ t₆) is.decimals (omega (arith, is.minimum))
-    (sums_begin r t₆) in
+    let minimum = optional_again r.decimals (codes "MINIMUM ") r.minimum t₅ is.decimals (omega (arith, is.minimum))
+    (not_minimum r t₆) in
     let sums = sums_again r t₆ is.decimals (omega (arith, fare_small r is)) (omega (arith, is.supplements)) in
     ap receipt_at text ∙ rw (heading, part, trip, calculation, minimum, sums) refl
 

@@ -6,16 +6,14 @@ use Rattle.interval_clock.specs.declared.day_numbers.CalendarDate.{CalendarDate}
 use Rattle.seal_record.specs.Limits.{first_day, last_day}
 use Rattle.taxi_units.specs.Reading.{◌>>=◌, word_at}
 use Rattle.taxi_units.specs.declared.receipt.Stamp.{Stamp}
-use Rattle.receipt_text.specs.Figures.{number_below}
+use Rattle.receipt_text.specs.Figures.{number_behind, number_below}
 
 -- a year, a month and a date in it stand at the front, with hyphens between them, and this text behind them
 unfoldable pub date_at : List ℕ → Option (CalendarDate × List ℕ)
 date_at text = do
   year ← number_below 10000 text
-  months ← word_at (codes "-") year.1
-  month ← number_below 100 months
-  dates ← word_at (codes "-") month.1
-  date ← number_below 100 dates
+  month ← number_behind (codes "-") 100 year.1
+  date ← number_behind (codes "-") 100 month.1
   Some (record { year = year.0; month = month.0; date = date.0 }, date.1)
 
 -- a day number is kept if it is one of the years 2000 to 2199, and is none otherwise
@@ -40,10 +38,8 @@ day_at text = do
 unfoldable pub time_at : List ℕ → Option (ℕ × List ℕ)
 time_at text = do
   hours ← number_below 100 text
-  minute ← word_at (codes ":") hours.1
-  minutes ← number_below 100 minute
-  second ← word_at (codes ":") minutes.1
-  seconds ← number_below 100 second
+  minutes ← number_behind (codes ":") 100 hours.1
+  seconds ← number_behind (codes ":") 100 minutes.1
   Some (hours.0 * 3600 + minutes.0 * 60 + seconds.0, seconds.1)
 
 -- a date and a second of the day stand at the front, with a blank between them, and this text behind them
@@ -53,3 +49,7 @@ stamp_at text = do
   time ← word_at (codes " ") date.1
   second ← time_at time
   Some (record { year = date.0.year; month = date.0.month; date = date.0.date; second = second.0 }, second.1)
+
+-- `word` and behind it a date and a second of the day stand at the front, and this text behind them
+abbrev pub stamp_behind : (word : List ℕ) → List ℕ → Option (Stamp × List ℕ)
+stamp_behind word text = word_at word text >>= stamp_at

@@ -3,7 +3,7 @@
 use Rattle.std.specs.Prelude.{◌≡◌, ℕ, ◌==◌, ◌||◌, nat_lt, if◌then◌else◌, List, [], ◌∷◌, length, take, drop, Option, Some, None}
 use Rattle.std.specs.Str.Parse.{digits_value_after}
 use Rattle.taxi_units.specs.Number.{digits_at_front}
-use Rattle.taxi_units.specs.Reading.{◌>>=◌}
+use Rattle.taxi_units.specs.Reading.{◌>>=◌, word_at}
 use Rattle.receipt_text.specs.declared.amounts.Amount.{Amount}
 
 -- all bytes are digits if as many digits stand at the front as there are bytes
@@ -23,6 +23,10 @@ digits_below limit digits rest =
 -- the digits at the front make this number, if it is below `limit`, and this text stands behind them
 unfoldable pub number_below : (limit : ℕ) → List ℕ → Option (ℕ × List ℕ)
 number_below limit text = digits_below limit (take (digits_at_front text) text) (drop (digits_at_front text) text)
+
+-- `word` and behind it a number below `limit` stand at the front, and this text behind them
+abbrev pub number_behind : (word : List ℕ) → (limit : ℕ) → List ℕ → Option (ℕ × List ℕ)
+number_behind word limit text = word_at word text >>= number_below limit
 
 -- one to three digits behind a point make this amount with `whole` before the point, if its units are below `limit`,
 -- and `rest` stands behind them
@@ -48,3 +52,8 @@ amount_after limit whole (c ∷ cs) =
 -- an amount of 0 to 3 decimals stands at the front, if its units are below `limit`, and this text behind it
 unfoldable pub amount_below : (limit : ℕ) → List ℕ → Option (Amount × List ℕ)
 amount_below limit text = number_below limit text >>= (λ whole. amount_after limit whole.0 whole.1)
+
+-- `word` and behind it an amount of 0 to 3 decimals stand at the front, if its units are below `limit`, and this text
+-- behind them
+abbrev pub amount_behind : (word : List ℕ) → (limit : ℕ) → List ℕ → Option (Amount × List ℕ)
+amount_behind word limit text = word_at word text >>= amount_below limit

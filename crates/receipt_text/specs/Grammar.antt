@@ -7,6 +7,7 @@ use Rattle.taxi_units.specs.declared.receipt.Kind.{Kind}
 use Rattle.taxi_units.specs.declared.receipt.Kind.TheVariants.{Closed, Aborted, Expired, Roam}
 use Rattle.taxi_units.specs.declared.receipt.Receipt.{Receipt}
 use Rattle.taxi_units.specs.declared.receipt.Stamp.{Stamp}
+use Rattle.receipt_text.specs.AmountLines.{optional_lines}
 use Rattle.receipt_text.specs.Part.{Part, IsPart}
 
 -- a text is exactly the wanted one if it has the same bytes
@@ -107,22 +108,26 @@ AreAmounts receipt =
     (Line (codes "SUPPLEMENTS ") (IsMoney receipt receipt.supplements)
     (Line (codes "TOTAL ") (IsMoney receipt (receipt.fare + receipt.supplements)) (IsExactly (codes "END\n"))))
 
--- a text is the line of the minimum fare, which is there exactly if the minimum is above 0, and the lines of the
--- amounts behind it
-abbrev pub HasMinimum : Receipt → List ℕ → Type 0
-HasMinimum receipt text =
-    ((0 < receipt.minimum) × Line (codes "MINIMUM ") (IsMoney receipt receipt.minimum) (AreAmounts receipt) text)
-    ⊎ ((receipt.minimum ≡ 0) × AreAmounts receipt text)
+-- a text begins with optional lines, of which each is there exactly if its amount is above 0, and what follows them has
+-- another form
+abbrev pub HasOptional : Receipt → List (List ℕ × ℕ) → (Rest : List ℕ → Type 0) → List ℕ → Type 0
+HasOptional receipt [] Rest = Rest
+HasOptional receipt ((word, amount) ∷ more) Rest = λ text.
+    ((0 < amount) × Line word (IsMoney receipt amount) (HasOptional receipt more Rest) text)
+    ⊎ ((amount ≡ 0) × HasOptional receipt more Rest text)
 
--- a text is the lines of the trip, from its start to the calculation of its fare, and behind them the lines from the
--- minimum fare on
+-- a text is the lines of a receipt behind its calculation: the optional ones, and those of the amounts
+abbrev pub AreLastLines : Receipt → List ℕ → Type 0
+AreLastLines receipt = HasOptional receipt (optional_lines receipt) (AreAmounts receipt)
+
+-- a text is the lines of the trip, from its start to the calculation of its fare, and behind them the last lines
 abbrev pub AreTripLines : Receipt → List ℕ → Type 0
 AreTripLines receipt =
     Line (codes "START ") (IsStampText receipt.start)
     (Line (codes "FINISH ") (IsStampText receipt.finish)
     (Line (codes "POSITION ") (IsNumberText receipt.position)
     (Line (codes "DISTANCE ") (IsDistance receipt.hired_mm)
-    (Line (codes "CALC ") (IsCalculation receipt) (HasMinimum receipt)))))
+    (Line (codes "CALC ") (IsCalculation receipt) (AreLastLines receipt)))))
 
 -- a text is all lines of a receipt, from its number to its end
 abbrev pub AreReceiptLines : Receipt → Part → List ℕ → Type 0

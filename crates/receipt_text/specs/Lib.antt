@@ -1,3 +1,4 @@
+pub mod AmountLines
 pub mod Dates
 pub mod Digests
 pub mod Figures
@@ -6,7 +7,6 @@ pub mod Grammar
 pub mod Lines
 pub mod Part
 pub mod Receipts
-pub mod ReceiptRanges
 pub mod SealParts
 pub mod Shows
 pub mod SpelledFront

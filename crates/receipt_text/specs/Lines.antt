@@ -10,9 +10,9 @@ use Rattle.receipt_text.specs.declared.headings.Heading.{Heading}
 use Rattle.receipt_text.specs.declared.trips.TripLines.{TripLines}
 use Rattle.receipt_text.specs.declared.calculations.Calculation.{Calculation}
 use Rattle.receipt_text.specs.declared.sums.Sums.{Sums}
-use Rattle.receipt_text.specs.Dates.{day_at, stamp_at}
+use Rattle.receipt_text.specs.Dates.{day_at, stamp_behind}
 use Rattle.receipt_text.specs.Digests.{digest_at}
-use Rattle.receipt_text.specs.Figures.{amount_below, number_below}
+use Rattle.receipt_text.specs.Figures.{amount_behind, amount_below, number_behind}
 use Rattle.receipt_text.specs.Part.{Part}
 use Rattle.taxi_units.specs.Identifier.{is_identifier_character}
 
@@ -31,10 +31,9 @@ kind_at text =
 -- the lines of a number and of a kind stand at the front, and this text behind them
 unfoldable pub heading_at : List ℕ → Option (Heading × List ℕ)
 heading_at text = do
-  a ← word_at (codes "RECEIPT ") text
-  number ← number_below (10 ^ 18) a
-  b ← word_at (codes "\nKIND ") number.1
-  kind ← kind_at b
+  number ← number_behind (codes "RECEIPT ") (10 ^ 18) text
+  a ← word_at (codes "\nKIND ") number.1
+  kind ← kind_at a
   rest ← word_at (codes "\n") kind.1
   Some (record { number = number.0; kind = kind.0 }, rest)
 
@@ -51,67 +50,52 @@ unfoldable pub part_at : List ℕ → Option (Part × List ℕ)
 part_at text = do
   a ← word_at (codes "TAXI ") text
   taxi ← taxi_at a
-  b ← word_at (codes "\nCONSTANT ") taxi.1
-  constant ← number_below (10 ^ 9) b
-  c ← word_at (codes "\nSECURED ") constant.1
-  secured ← day_at c
-  d ← word_at (codes "\nTARIFF ") secured.1
-  digest ← digest_at d
+  constant ← number_behind (codes "\nCONSTANT ") (10 ^ 9) taxi.1
+  b ← word_at (codes "\nSECURED ") constant.1
+  secured ← day_at b
+  c ← word_at (codes "\nTARIFF ") secured.1
+  digest ← digest_at c
   rest ← word_at (codes "\n") digest.1
   Some (record { taxi = taxi.0; constant = constant.0; secured = secured.0; digest = digest.0 }, rest)
 
 -- the lines of a trip, from its start to its distance, stand at the front, and this text behind them
 unfoldable pub trip_at : List ℕ → Option (TripLines × List ℕ)
 trip_at text = do
-  a ← word_at (codes "START ") text
-  start ← stamp_at a
-  b ← word_at (codes "\nFINISH ") start.1
-  finish ← stamp_at b
-  c ← word_at (codes "\nPOSITION ") finish.1
-  position ← number_below 100 c
-  d ← word_at (codes "\nDISTANCE ") position.1
-  hired ← amount_below (10 ^ 23) d
+  start ← stamp_behind (codes "START ") text
+  finish ← stamp_behind (codes "\nFINISH ") start.1
+  position ← number_behind (codes "\nPOSITION ") 100 finish.1
+  hired ← amount_behind (codes "\nDISTANCE ") (10 ^ 23) position.1
   rest ← word_at (codes " m\n") hired.1
   Some (record { start = start.0; finish = finish.0; position = position.0; hired_mm = hired.0.units }, rest)
 
 -- the line of a calculation stands at the front, and this text behind it
 unfoldable pub calculation_at : List ℕ → Option (Calculation × List ℕ)
 calculation_at text = do
-  a ← word_at (codes "CALC ") text
-  initial ← amount_below (10 ^ 18) a
-  b ← word_at (codes " + ") initial.1
-  steps ← number_below (10 ^ 18) b
-  c ← word_at (codes " x ") steps.1
-  step ← amount_below (10 ^ 18) c
+  initial ← amount_behind (codes "CALC ") (10 ^ 18) text
+  steps ← number_behind (codes " + ") (10 ^ 18) initial.1
+  step ← amount_behind (codes " x ") (10 ^ 18) steps.1
   rest ← word_at (codes "\n") step.1
   Some (record { decimals = initial.0.decimals; initial = initial.0.units; steps = steps.0; step = step.0.units }, rest)
 
--- a minimum fare is read from what stands behind its word, and is 0 if the word wasn't found
-abbrev pub minimum_from : (text : List ℕ) → Option (List ℕ) → Option (ℕ × List ℕ)
-minimum_from text None = Some (0, text)
-minimum_from text (Some after) = do
-  minimum ← amount_below (10 ^ 18) after
-  rest ← word_at (codes "\n") minimum.1
-  Some (minimum.0.units, rest)
-
--- the line of a minimum fare stands at the front, and this text behind it; without such a line the minimum is 0
-unfoldable pub minimum_at : List ℕ → Option (ℕ × List ℕ)
-minimum_at text = minimum_from text (word_at (codes "MINIMUM ") text)
-
--- `word` and an amount of this many units stand at the front, and this text behind them
-abbrev pub amount_field : (word : List ℕ) → List ℕ → Option (ℕ × List ℕ)
-amount_field word text = do
-  after ← word_at word text
+-- the amount of an optional line is read from what stands behind its word, and is 0 if the word wasn't found
+abbrev pub optional_from : (text : List ℕ) → Option (List ℕ) → Option (ℕ × List ℕ)
+optional_from text None = Some (0, text)
+optional_from text (Some after) = do
   amount ← amount_below (10 ^ 18) after
-  Some (amount.0.units, amount.1)
+  rest ← word_at (codes "\n") amount.1
+  Some (amount.0.units, rest)
+
+-- an optional line of a word stands at the front, and this text behind it; without such a line the amount is 0
+unfoldable pub optional_at : (word : List ℕ) → List ℕ → Option (ℕ × List ℕ)
+optional_at word text = optional_from text (word_at word text)
 
 -- the lines of a fare and of supplements stand at the front, and this text behind them
 unfoldable pub sums_at : List ℕ → Option (Sums × List ℕ)
 sums_at text = do
-  fare ← amount_field (codes "FARE ") text
-  supplements ← amount_field (codes "\nSUPPLEMENTS ") fare.1
+  fare ← amount_behind (codes "FARE ") (10 ^ 18) text
+  supplements ← amount_behind (codes "\nSUPPLEMENTS ") (10 ^ 18) fare.1
   rest ← word_at (codes "\n") supplements.1
-  Some (record { fare = fare.0; supplements = supplements.0 }, rest)
+  Some (record { fare = fare.0.units; supplements = supplements.0.units }, rest)
 
 -- a receipt has the number, the times and the amounts that its lines say
 abbrev pub receipt_of : Heading → TripLines → Calculation → (minimum : ℕ) → Sums → Receipt
@@ -139,6 +123,6 @@ receipt_at text = do
   part ← part_at heading.1
   trip ← trip_at part.1
   calculation ← calculation_at trip.1
-  minimum ← minimum_at calculation.1
+  minimum ← optional_at (codes "MINIMUM ") calculation.1
   sums ← sums_at minimum.1
   Some (receipt_of heading.0 trip.0 calculation.0 minimum.0 sums.0, part.0)

@@ -7,6 +7,7 @@ use Rattle.taxi_units.specs.declared.receipt.Kind.{Kind}
 use Rattle.taxi_units.specs.declared.receipt.Kind.TheVariants.{Closed, Aborted, Expired, Roam}
 use Rattle.taxi_units.specs.declared.receipt.Receipt.{Receipt}
 use Rattle.taxi_units.specs.declared.receipt.Stamp.{Stamp}
+use Rattle.receipt_text.specs.AmountLines.{optional_lines}
 use Rattle.receipt_text.specs.Part.{Part}
 
 -- the word for how a hiring ended is `CLOSED`, `ABORTED` or `EXPIRED`, and roaming, which has no receipt, has none
@@ -75,10 +76,15 @@ calculation_text receipt =
     codes "CALC " ++ (money_text receipt.decimals receipt.initial ++ (codes " + " ++ (decimal receipt.steps
     ++ (codes " x " ++ (money_text receipt.decimals receipt.step ++ codes "\n")))))
 
--- a minimum fare is written as a line of its own, and as nothing if it is 0
-unfoldable pub minimum_text : (decimals minimum : ℕ) → List ℕ
-minimum_text decimals minimum =
-    if minimum == 0 then [] else codes "MINIMUM " ++ (money_text decimals minimum ++ codes "\n")
+-- an optional line is written as its word and its amount, and as nothing if the amount is 0
+unfoldable pub optional_text : (decimals : ℕ) → (word : List ℕ) → (amount : ℕ) → List ℕ
+optional_text decimals word amount =
+    if amount == 0 then [] else word ++ (money_text decimals amount ++ codes "\n")
+
+-- optional lines are written in their order, in front of a text
+abbrev pub in_front : (decimals : ℕ) → List (List ℕ × ℕ) → (text : List ℕ) → List ℕ
+in_front decimals [] text = text
+in_front decimals ((word, amount) ∷ more) text = optional_text decimals word amount ++ in_front decimals more text
 
 -- a fare is written as a line
 unfoldable pub fare_text : Receipt → List ℕ
@@ -103,9 +109,7 @@ unfoldable pub body_text : Receipt → List ℕ
 body_text receipt =
     trip_text receipt
     ++ (calculation_text receipt
-    ++ (minimum_text receipt.decimals receipt.minimum
-    ++ (sums_text receipt
-    ++ total_text receipt)))
+    ++ in_front receipt.decimals (optional_lines receipt) (sums_text receipt ++ total_text receipt))
 
 -- a receipt is written as the lines of its number and kind, those of the seal, and those of the trip and its fare
 unfoldable pub receipt_text : Receipt → Part → List ℕ

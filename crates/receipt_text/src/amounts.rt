@@ -4,7 +4,7 @@ ghost use Rattle.taxi_units.specs.Reading.{Gives};
 ghost use Rattle.receipt_text.specs.Figures as spec;
 
 use crate::figures::{number_below, value_below};
-use taxi_units::count_digits;
+use taxi_units::{count_digits, word};
 
 /// An amount in units of the last of its decimals.
 #[derive(Clone, Copy)]
@@ -33,6 +33,21 @@ pub(crate) fn amount_below(text: &[u8], limit: u128) -> Option<(Amount, &[u8])>
         }
         None => Some((whole_amount(whole), rest)),
     }
+}
+
+/// The amount behind a word at the front of a text, and what stands after it.
+pub(crate) fn amount_behind<'a>(
+    text: &'a [u8],
+    before: &[u8],
+    limit: u128,
+) -> Option<(Amount, &'a [u8])>
+    requires some { 0 < limit }
+    requires most { limit ≤ 10 ^ 24 }
+    ensures value { Gives (λ x. (x.0, x.1.now)) result (spec.amount_behind before.now limit text.now) }
+    ensures below { IfSome result (λ x. x.0.units < limit) }
+    ensures decimals { IfSome result (λ x. x.0.decimals ≤ 3) }
+{
+    amount_below(word(text, before)?, limit)
 }
 
 /// An amount without decimals.

@@ -6,9 +6,9 @@ ghost use Rattle.taxi_units.specs.Reading.{Gives};
 ghost use Rattle.receipt_text.specs.Lines as spec;
 ghost use Rattle.receipt_text.specs.Receipts.{calculation_text};
 
-use crate::amounts::amount_below;
+use crate::amounts::amount_behind;
 use crate::fields::{put_amount, put_figure};
-use crate::figures::{READ_BELOW, number_below};
+use crate::figures::{READ_BELOW, number_behind};
 use taxi_units::{Line, LineFull, Receipt, put_bytes, word};
 
 /// What this line says.
@@ -38,12 +38,9 @@ pub(crate) fn put_calculation(line: &mut Line, receipt: &Receipt) -> Result<(), 
 pub(crate) fn calculation_at(text: &[u8]) -> Option<(Calculation, &[u8])>
     ensures { Gives (λ x. (x.0, x.1.now)) result (spec.calculation_at text.now) }
 {
-    let text = word(text, b"CALC ")?;
-    let (initial, text) = amount_below(text, READ_BELOW)?;
-    let text = word(text, b" + ")?;
-    let (steps, text) = number_below(text, READ_BELOW)?;
-    let text = word(text, b" x ")?;
-    let (step, text) = amount_below(text, READ_BELOW)?;
+    let (initial, text) = amount_behind(text, b"CALC ", READ_BELOW)?;
+    let (steps, text) = number_behind(text, b" + ", READ_BELOW)?;
+    let (step, text) = amount_behind(text, b" x ", READ_BELOW)?;
     let rest = word(text, b"\n")?;
     let calculation = Calculation {
         decimals: initial.decimals,

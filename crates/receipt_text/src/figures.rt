@@ -4,7 +4,7 @@ ghost use Rattle.taxi_units.specs.Reading.{Gives, GivesSame};
 ghost use Rattle.receipt_text.specs.Figures as spec;
 ghost use Rattle.receipt_text.specs.Figures.{AreDigits};
 
-use taxi_units::count_digits;
+use taxi_units::{count_digits, word};
 
 /// Numbers and amounts of a receipt are read where they are below this, but those of its trip and its dates.
 pub(crate) const READ_BELOW: u128 = 1_000_000_000_000_000_000;
@@ -24,6 +24,20 @@ pub(crate) fn number_below(text: &[u8], limit: u128) -> Option<(u128, &[u8])>
     }
     let value = value_below(0, digits, limit)?;
     Some((value, rest))
+}
+
+/// The number behind a word at the front of a text, and what stands after it.
+pub(crate) fn number_behind<'a>(
+    text: &'a [u8],
+    before: &[u8],
+    limit: u128,
+) -> Option<(u128, &'a [u8])>
+    requires some { 0 < limit }
+    requires most { limit ≤ 10 ^ 24 }
+    ensures value { Gives (λ x. (x.0, x.1.now)) result (spec.number_behind before.now limit text.now) }
+    ensures below { IfSome result (λ x. x.0 < limit) }
+{
+    number_below(word(text, before)?, limit)
 }
 
 /// The number that digits make after those of a number, where it is below the limit.

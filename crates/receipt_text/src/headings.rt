@@ -7,7 +7,7 @@ ghost use Rattle.receipt_text.specs.Lines as spec;
 ghost use Rattle.receipt_text.specs.Receipts.{heading_text, kind_text};
 
 use crate::fields::put_figure;
-use crate::figures::{READ_BELOW, number_below};
+use crate::figures::{READ_BELOW, number_behind};
 use taxi_units::{Kind, Line, LineFull, put_bytes, word};
 
 /// What these lines say.
@@ -47,8 +47,7 @@ pub(crate) fn put_kind(line: &mut Line, kind: Kind) -> Result<(), LineFull>
 pub(crate) fn heading_at(text: &[u8]) -> Option<(Heading, &[u8])>
     ensures { Gives (λ x. (x.0, x.1.now)) result (spec.heading_at text.now) }
 {
-    let text = word(text, b"RECEIPT ")?;
-    let (number, text) = number_below(text, READ_BELOW)?;
+    let (number, text) = number_behind(text, b"RECEIPT ", READ_BELOW)?;
     let text = word(text, b"\nKIND ")?;
     let (kind, text) = kind_at(text)?;
     let rest = word(text, b"\n")?;

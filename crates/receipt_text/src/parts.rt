@@ -13,7 +13,7 @@ ghost use Rattle.taxi_units.specs.Identifier.{is_identifier_character};
 
 use crate::digest::{digest_at, hex_of};
 use crate::fields::{put_figure, put_text};
-use crate::figures::number_below;
+use crate::figures::number_behind;
 use crate::stamps::{day_at, put_day};
 use arrayvec::ArrayVec;
 use seal_record::Seal;
@@ -129,8 +129,7 @@ pub(crate) fn part_at(text: &[u8]) -> Option<(SealPart, &[u8])>
 {
     let text = word(text, b"TAXI ")?;
     let (taxi, text) = taxi_at(text)?;
-    let text = word(text, b"\nCONSTANT ")?;
-    let (constant, text) = number_below(text, 1_000_000_000)?;
+    let (constant, text) = number_behind(text, b"\nCONSTANT ", 1_000_000_000)?;
     let text = word(text, b"\nSECURED ")?;
     let (secured, text) = day_at(text)?;
     let text = word(text, b"\nTARIFF ")?;

@@ -1,13 +1,14 @@
 //! Whether receipts and what they say of a seal are in their ranges.
-ghost use Rattle.std.specs.Prelude.{◌≡◌, ◌≢◌, ◌↔◌, ◌≤◌, ◌<◌, IsTrue};
+ghost use Rattle.std.specs.Prelude.{◌≡◌, ◌≢◌, ◌^◌, ◌↔◌, ◌≤◌, ◌<◌, IsTrue};
 ghost use Rattle.std.specs.List.{AllByRecursion};
 ghost use Rattle.taxi_units.specs.Shown.{IsReceipt, IsStamp, fare_of};
 ghost use Rattle.taxi_units.specs.declared.receipt.Kind.TheVariants.{Roam};
 ghost use Rattle.drive_modes.specs.Constant.{least_constant, greatest_constant};
 ghost use Rattle.receipt_text.specs.Part.{IsDigest, IsPart};
-ghost use Rattle.receipt_text.specs.ReceiptRanges.{HasAmounts, HasNumbers};
 ghost use Rattle.seal_record.specs.Ranges.{IsDay, IsTaxi};
 ghost use Rattle.taxi_units.specs.Identifier.{IsIdentifierCharacter};
+ghost use Rattle.taxi_units.specs.Limits.{largest_supplements, number_most};
+ghost use Rattle.taxi_units.specs.Money.{largest_amount};
 
 use crate::parts::SealPart;
 use drive_modes::{GREATEST_CONSTANT, LEAST_CONSTANT};
@@ -28,7 +29,9 @@ pub(crate) fn is_receipt(receipt: &Receipt) -> bool
 
 /// Whether the kind, the number, the position, the distance and the decimals are in their ranges.
 fn has_numbers(receipt: &Receipt) -> bool
-    ensures { IsTrue result ↔ HasNumbers receipt.now }
+    ensures { IsTrue result ↔ ((receipt.now.kind ≢ Roam) × (1 ≤ receipt.now.number) × (receipt.now.number ≤ number_most)
+        × (1 ≤ receipt.now.position) × (receipt.now.position ≤ 9) × (receipt.now.hired_mm < 10 ^ 23)
+        × (receipt.now.decimals ≤ 3)) }
 {
     is_hiring(receipt.kind)
         && 1 <= receipt.number
@@ -48,7 +51,9 @@ fn is_hiring(kind: Kind) -> bool
 
 /// Whether the amounts are in their ranges, and the fare is the one that they give.
 fn has_amounts(receipt: &Receipt) -> bool
-    ensures { IsTrue result ↔ HasAmounts receipt.now }
+    ensures { IsTrue result ↔ ((receipt.now.initial ≤ largest_amount) × (receipt.now.minimum ≤ largest_amount)
+        × (receipt.now.steps < 10 ^ 18) × (1 ≤ receipt.now.step) × (receipt.now.step ≤ 1000000)
+        × (receipt.now.supplements ≤ largest_supplements) × (receipt.now.fare ≡ fare_of receipt.now)) }
 {
     receipt.initial <= LARGEST_AMOUNT
         && receipt.minimum <= LARGEST_AMOUNT

@@ -15,7 +15,7 @@ use crate::headings::{Heading, heading_at};
 use crate::parts::{SealPart, part_at};
 use crate::ranges::{is_part, is_receipt};
 use crate::receipts::put_part_receipt;
-use crate::sums::{Sums, minimum_at, sums_at};
+use crate::sums::{Sums, optional_at, sums_at};
 use crate::trips::{TripLines, trip_at};
 use taxi_units::{Line, Receipt};
 
@@ -72,7 +72,7 @@ pub(crate) fn receipt_at(text: &[u8]) -> Option<(Receipt, SealPart)>
     let (part, text) = part_at(text)?;
     let (trip, text) = trip_at(text)?;
     let (calculation, text) = calculation_at(text)?;
-    let (minimum, text) = minimum_at(text)?;
+    let (minimum, text) = optional_at(text, b"MINIMUM ")?;
     let (sums, _) = sums_at(text)?;
     let receipt = receipt_of(heading, trip, calculation, minimum, sums);
     Some((receipt, part))

@@ -7,7 +7,7 @@ ghost use Rattle.seal_record.specs.Ranges.{IsDay};
 ghost use Rattle.receipt_text.specs.Dates as spec;
 ghost use Rattle.receipt_text.specs.Receipts.{date_text, day_text, stamp_text, time_text};
 
-use crate::figures::number_below;
+use crate::figures::{number_behind, number_below};
 use interval_clock::{CalendarDate, date_of_day, day_number};
 use seal_record::{FIRST_DAY, LAST_DAY};
 use taxi_units::{Line, LineFull, Stamp, put_bytes, put_padded, word};
@@ -67,10 +67,8 @@ fn date_at(text: &[u8]) -> Option<(CalendarDate, &[u8])>
     ensures year { IfSome result (λ x. x.0.year < 10000) }
 {
     let (year, text) = number_below(text, 10_000)?;
-    let text = word(text, b"-")?;
-    let (month, text) = number_below(text, 100)?;
-    let text = word(text, b"-")?;
-    let (date, text) = number_below(text, 100)?;
+    let (month, text) = number_behind(text, b"-", 100)?;
+    let (date, text) = number_behind(text, b"-", 100)?;
     let date = CalendarDate {
         year: year as u16,
         month: month as u8,
@@ -111,16 +109,14 @@ fn time_at(text: &[u8]) -> Option<(u32, &[u8])>
     ensures { Gives (λ x. (x.0, x.1.now)) result (spec.time_at text.now) }
 {
     let (hours, text) = number_below(text, 100)?;
-    let text = word(text, b":")?;
-    let (minutes, text) = number_below(text, 100)?;
-    let text = word(text, b":")?;
-    let (seconds, text) = number_below(text, 100)?;
+    let (minutes, text) = number_behind(text, b":", 100)?;
+    let (seconds, text) = number_behind(text, b":", 100)?;
     Some(((hours * 3600 + minutes * 60 + seconds) as u32, text))
 }
 
 /// A local date and time at the front of a text, and what stands after it.
 #[tactic(auto, unfolding(crate::specs::Dates::stamp_at))]
-pub(crate) fn stamp_at(text: &[u8]) -> Option<(Stamp, &[u8])>
+fn stamp_at(text: &[u8]) -> Option<(Stamp, &[u8])>
     ensures { Gives (λ x. (x.0, x.1.now)) result (spec.stamp_at text.now) }
 {
     let (date, text) = date_at(text)?;
@@ -133,4 +129,11 @@ pub(crate) fn stamp_at(text: &[u8]) -> Option<(Stamp, &[u8])>
         second,
     };
     Some((stamp, text))
+}
+
+/// The local date and time behind a word at the front of a text, and what stands after it.
+pub(crate) fn stamp_behind<'a>(text: &'a [u8], before: &[u8]) -> Option<(Stamp, &'a [u8])>
+    ensures { Gives (λ x. (x.0, x.1.now)) result (spec.stamp_behind before.now text.now) }
+{
+    stamp_at(word(text, before)?)
 }

@@ -1,12 +1,12 @@
-//! The lines of a receipt's minimum fare and of its amounts.
+//! The lines of a receipt's amounts.
 ghost use Rattle.std.specs.Prelude.{◌≡◌, ◌+◌, ◌≤◌, ◌++◌, ◌↔◌, length, IsOk, OnOk};
 ghost use Rattle.arrayvec.specs.ArrayVec.{array_vec_len};
 ghost use Rattle.taxi_units.specs.Line.{line_size};
 ghost use Rattle.taxi_units.specs.Reading.{Gives};
 ghost use Rattle.receipt_text.specs.Lines as spec;
-ghost use Rattle.receipt_text.specs.Receipts.{fare_text, minimum_text, sums_text, supplements_text, total_text};
+ghost use Rattle.receipt_text.specs.Receipts.{fare_text, optional_text, sums_text, supplements_text, total_text};
 
-use crate::amounts::amount_below;
+use crate::amounts::{amount_behind, amount_below};
 use crate::fields::put_amount;
 use crate::figures::READ_BELOW;
 use taxi_units::{Line, LineFull, Receipt, put_bytes, word};
@@ -18,18 +18,24 @@ pub(crate) struct Sums {
     pub supplements: u64,
 }
 
-/// Appends the line of the minimum fare, where it is above 0.
-#[tactic(auto, unfolding(crate::specs::Receipts::minimum_text))]
-pub(crate) fn put_minimum(line: &mut Line, decimals: u8, minimum: u64) -> Result<(), LineFull>
+/// Appends an optional line: a word and an amount, where it is above 0.
+#[tactic(auto, unfolding(crate::specs::Receipts::optional_text))]
+pub(crate) fn put_optional(
+    line: &mut Line,
+    word: &[u8],
+    amount: u64,
+    decimals: u8,
+) -> Result<(), LineFull>
     requires room { array_vec_len line.old ≤ line_size }
     requires decimals { decimals ≤ 3 }
-    ensures variant { IsOk result ↔ (array_vec_len line.old + length (minimum_text decimals minimum) ≤ line_size) }
-    ensures ok { OnOk result (line.new.items ≡ line.old.items ++ minimum_text decimals minimum) }
+    ensures variant { IsOk result
+        ↔ (array_vec_len line.old + length (optional_text decimals word.now amount) ≤ line_size) }
+    ensures ok { OnOk result (line.new.items ≡ line.old.items ++ optional_text decimals word.now amount) }
 {
-    if minimum == 0 {
+    if amount == 0 {
         return Ok(());
     }
-    put_amount(line, b"MINIMUM ", minimum as u128, decimals)?;
+    put_amount(line, word, amount as u128, decimals)?;
     put_bytes(line, b"\n")
 }
 
@@ -79,18 +85,18 @@ pub(crate) fn put_total(line: &mut Line, receipt: &Receipt) -> Result<(), LineFu
     put_bytes(line, b"\nEND\n")
 }
 
-/// The minimum fare of the line at the front of a text, and what stands after it; 0 where the text
-/// doesn't begin with such a line.
-#[tactic(auto, unfolding(crate::specs::Lines::minimum_at))]
-pub(crate) fn minimum_at(text: &[u8]) -> Option<(u64, &[u8])>
-    ensures { Gives (λ x. (x.0, x.1.now)) result (spec.minimum_at text.now) }
+/// The amount of the optional line of a word at the front of a text, and what stands after it; 0 where
+/// the text doesn't begin with such a line.
+#[tactic(auto, unfolding(crate::specs::Lines::optional_at))]
+pub(crate) fn optional_at<'a>(text: &'a [u8], before: &[u8]) -> Option<(u64, &'a [u8])>
+    ensures { Gives (λ x. (x.0, x.1.now)) result (spec.optional_at before.now text.now) }
 {
-    match word(text, b"MINIMUM ") {
+    match word(text, before) {
         None => Some((0, text)),
         Some(text) => {
-            let (minimum, text) = amount_below(text, READ_BELOW)?;
+            let (amount, text) = amount_below(text, READ_BELOW)?;
             let rest = word(text, b"\n")?;
-            Some((minimum.units as u64, rest))
+            Some((amount.units as u64, rest))
         }
     }
 }
@@ -100,18 +106,12 @@ pub(crate) fn minimum_at(text: &[u8]) -> Option<(u64, &[u8])>
 pub(crate) fn sums_at(text: &[u8]) -> Option<(Sums, &[u8])>
     ensures { Gives (λ x. (x.0, x.1.now)) result (spec.sums_at text.now) }
 {
-    let (fare, text) = amount_field(text, b"FARE ")?;
-    let (supplements, text) = amount_field(text, b"\nSUPPLEMENTS ")?;
+    let (fare, text) = amount_behind(text, b"FARE ", READ_BELOW)?;
+    let (supplements, text) = amount_behind(text, b"\nSUPPLEMENTS ", READ_BELOW)?;
     let rest = word(text, b"\n")?;
-    let sums = Sums { fare, supplements };
+    let sums = Sums {
+        fare: fare.units as u64,
+        supplements: supplements.units as u64,
+    };
     Some((sums, rest))
-}
-
-/// The units of the amount after a word at the front of a text, and what stands after it.
-fn amount_field<'a>(text: &'a [u8], before: &[u8]) -> Option<(u64, &'a [u8])>
-    ensures { Gives (λ x. (x.0, x.1.now)) result (spec.amount_field before.now text.now) }
-{
-    let text = word(text, before)?;
-    let (amount, rest) = amount_below(text, READ_BELOW)?;
-    Some((amount.units as u64, rest))
 }

@@ -6,10 +6,10 @@ ghost use Rattle.taxi_units.specs.Reading.{Gives};
 ghost use Rattle.receipt_text.specs.Lines as spec;
 ghost use Rattle.receipt_text.specs.Receipts.{course_text, stamp_text, trip_text};
 
-use crate::amounts::amount_below;
+use crate::amounts::amount_behind;
 use crate::fields::{put_amount, put_figure};
-use crate::figures::number_below;
-use crate::stamps::{put_stamp, stamp_at};
+use crate::figures::number_behind;
+use crate::stamps::{put_stamp, stamp_behind};
 use taxi_units::{Line, LineFull, Receipt, Stamp, put_bytes, word};
 
 /// What the lines of a trip say.
@@ -59,14 +59,10 @@ fn put_time(line: &mut Line, word: &[u8], stamp: &Stamp) -> Result<(), LineFull>
 pub(crate) fn trip_at(text: &[u8]) -> Option<(TripLines, &[u8])>
     ensures { Gives (λ x. (x.0, x.1.now)) result (spec.trip_at text.now) }
 {
-    let text = word(text, b"START ")?;
-    let (start, text) = stamp_at(text)?;
-    let text = word(text, b"\nFINISH ")?;
-    let (finish, text) = stamp_at(text)?;
-    let text = word(text, b"\nPOSITION ")?;
-    let (position, text) = number_below(text, 100)?;
-    let text = word(text, b"\nDISTANCE ")?;
-    let (hired, text) = amount_below(text, 100_000_000_000_000_000_000_000)?;
+    let (start, text) = stamp_behind(text, b"START ")?;
+    let (finish, text) = stamp_behind(text, b"\nFINISH ")?;
+    let (position, text) = number_behind(text, b"\nPOSITION ", 100)?;
+    let (hired, text) = amount_behind(text, b"\nDISTANCE ", 100_000_000_000_000_000_000_000)?;
     let rest = word(text, b" m\n")?;
     let trip = TripLines {
         start,
