@@ -1,6 +1,6 @@
 -- The weights of the tables give the charges that the rate's own numbers give.
 use Rattle.std.proofs.Common.{◌≡◌, ℕ, zero, suc, ◌+◌, ◌-◌, ◌*◌, ◌/◌, ◌<◌, ◌≤◌, Bool, true, false, cond, List, [], ◌∷◌}
-use Rattle.std.proofs.Common.{Option, length, get_or, refl, ap, sym, ◌∙◌, ltb, arith}
+use Rattle.std.proofs.Common.{Option, length, get_or, refl, ap, sym, subst, ◌∙◌, ltb, arith}
 use Rattle.std.specs.List.{flat_map}
 use Rattle.std.specs.Option.{unwrap_or}
 use Rattle.std.proofs.lemmas.Bool.{ltb-true, ltb-false, lt-ltb, le-ltb}
@@ -20,10 +20,13 @@ use Rattle.tariff_check.specs.Faults.{IsSound}
 use Rattle.tariff_check.specs.Measure.{IsMultipleOfAll, measure_of}
 use Rattle.tariff_check.specs.Parts.{RateNumbers, rates_of}
 use Rattle.tariff_check.specs.Sound.{IsSoundRate}
+use Rattle.tariff_check.specs.SoundLookups.{rate_in_force}
+use Rattle.tariff_check.specs.SoundTariff.{SoundTariff, sound_of}
 use Rattle.tariff_check.proofs.Laws.{sound_tariffs_have_sound_parts-parts, measures_are_least-least}
 use Rattle.tariff_check.proofs.Laws.{measures_are_least-sound, lines_that_hold_are_there-rate}
-use Rattle.tariff_compile.specs.Tables.{all_weights, rate_by, weights_of}
-use Rattle.meter_states.specs.Charge.{charge_by, rate_at, rate_of}
+use Rattle.tariff_compile.specs.Tables.{TableParts, all_weights, rate_by, weights_in_force, weights_of}
+use Rattle.meter_states.specs.Charge.{charge_at, charge_by}
+use Rattle.meter_states.specs.Setting.{Setting, IsTariffOf}
 
 -- numbers that are scaled alike compare alike
 same-below : (d t a c v w : ℕ) → 0 < v → 0 < w → d * v ≡ a * w → t * v ≡ c * w → (b : Bool) → ltb d t ≡ b → ltb a c ≡ b
@@ -75,9 +78,9 @@ each_divides m (r ∷ rs) all (suc place) d h =
     place d (omega (arith, h))
 
 -- the charge of an interval in a context, by weights and by the rate's own numbers
-pub charge-at : (mode : Mode) (t : Tree) (k : ℕ) (x : Context) (p : ℕ) → IsWritable t → IsSound t
-    → charge_of mode (rate_by t k x) p ≡ charge_by mode k (measure_of t.lines) (rate_of t x) p
-charge-at mode t k x p writable sound =
+charge-of-tree : (mode : Mode) (t : Tree) (k : ℕ) (x : Context) (p : ℕ) → IsWritable t → IsSound t
+    → charge_of mode (rate_by t k x) p ≡ charge_by mode k (measure_of t.lines) (rate_in_force (sound_of t) x) p
+charge-of-tree mode t k x p writable sound =
     let parts = sound_tariffs_have_sound_parts-parts t writable sound in
     let found = lines_that_hold_are_there-rate t x sound in
     let place = found.0 in
@@ -85,15 +88,23 @@ charge-at mode t k x p writable sound =
     let m = measure_of t.lines in
     let none : RateNumbers = record { a = 0; b = 0; c = 0; e = 0 } in
     let least = measures_are_least-least t.lines (measures_are_least-sound t sound) in
-    let r = rate_at t place in
+    let r = get_or (rates_of t.lines) place none in
     let numbers : IsSoundRate r = All-get_or IsSoundRate (rates_of t.lines) place none within parts.rates in
     let both = each_divides m (rates_of t.lines) least.multiple place none within in
     let weights : rate_by t k x ≡ weights_of k m r =
     ap (λ (o : Option ℕ). get_or (all_weights t k) (unwrap_or o 0) (record { per_pulse = 0; per_tick = 0 })) found.1
     ∙ get_or-map (weights_of k m) (rates_of t.lines) place none (record { per_pulse = 0; per_tick = 0 }) within in
-    let rate : rate_of t x ≡ r = ap (λ (o : Option ℕ). rate_at t (unwrap_or o 0)) found.1 in
+    let rate : rate_in_force (sound_of t) x ≡ r =
+    ap (λ (o : Option ℕ). get_or (rates_of t.lines) (unwrap_or o 0) none) found.1 in
     ap (λ (w : Weights). charge_of mode w p) weights ∙ by_speed mode k m p r numbers.distance.0 numbers.time.0
     least.positive both ∙ ap (λ (q : RateNumbers). charge_by mode k m q p) (sym rate)
+
+pub charge-at : (s : Setting) (tables : TableParts) (x : Context) (p : ℕ) → IsTariffOf s tables
+    → charge_of s.mode (weights_in_force s.tariff s.constant x) p ≡ charge_at s x p
+charge-at s tables x p is =
+    subst (λ (t : SoundTariff). charge_of s.mode (weights_in_force t s.constant x) p
+    ≡ charge_by s.mode s.constant t.measure (rate_in_force t x) p) (sym is.parts)
+    (charge-of-tree s.mode is.tree s.constant x p is.compiled.writable is.compiled.sound)
 
 charge-sum : (mode : Mode) (w : Weights) (p : ℕ) → charge_of mode w p ≤ p * w.per_pulse + w.per_tick
 charge-sum Single w p = grind (arith, common_steps)

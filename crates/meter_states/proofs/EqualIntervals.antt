@@ -3,7 +3,7 @@ use Rattle.std.proofs.Common.{◌≡◌, ◌≢◌, ◌⊎◌, inl, inr, ℕ, su
 use Rattle.std.proofs.Common.{option_map, sum, refl, ap, sym, subst, ◌∙◌, arith}
 use Rattle.std.proofs.Math.Nat.{mul-le-mul_right}
 use Rattle.std.proofs.lemmas.Grind.{common_steps}
-use Rattle.drive_modes.specs.Fare.{added, saved, shown_fare, steps_of}
+use Rattle.drive_modes.specs.Fare.{added, saved, steps_of}
 use Rattle.drive_modes.specs.declared.meterage.Meterage.{Meterage}
 use Rattle.drive_modes.specs.declared.meterage.Rounding.{Rounding}
 use Rattle.drive_modes.specs.declared.meterage.Rounding.TheVariants.{Behind, Ahead}
@@ -12,7 +12,7 @@ use Rattle.drive_modes.specs.declared.charges.Mode.{Mode}
 use Rattle.drive_modes.specs.declared.charges.Weights.{Weights}
 use Rattle.seal_record.specs.declared.seal.Seal.{Seal}
 use Rattle.tariff_compile.specs.Near.{IsNear}
-use Rattle.tariff_compile.specs.Tables.{IsInRangeFor, TableParts, rate_by}
+use Rattle.tariff_compile.specs.Tables.{IsInRangeFor, TableParts, weights_in_force}
 use Rattle.tariff_compile.specs.declared.parts.Lasting.{Lasting}
 use Rattle.tariff_syntax.specs.declared.context.Context.{Context}
 use Rattle.taxi_units.specs.declared.event.Operating.{Operating}
@@ -30,7 +30,8 @@ use Rattle.meter_states.specs.Run.{run}
 use Rattle.meter_states.specs.Setting.{Setting, IsSettingOf, IsTariffOf, local_at, modulus_of}
 use Rattle.meter_states.specs.declared.cache.Cache.{Cache}
 use Rattle.meter_states.specs.declared.cache.CachedRate.{CachedRate}
-use Rattle.meter_states.specs.Trip.{MeterTrip, InHired, InStopped, charges_of, opening_of, core_trip_of, with_part}
+use Rattle.meter_states.specs.Trip.{MeterTrip, InHired, InStopped, charges_of, core_trip_of, fare_by_fees, opening_of}
+use Rattle.meter_states.specs.Trip.{with_part}
 use Rattle.taxi_units.specs.Time.{longest_trip}
 use Rattle.meter_states.proofs.Charges.{charge-at}
 use Rattle.meter_states.proofs.Meterages.{added-less, sum-added}
@@ -262,7 +263,7 @@ display_at tables c t n = record {
   operating = c.operating;
   position = c.position;
   zone = c.zone;
-  fare = shown_fare t.initial t.minimum tables.step n;
+  fare = fare_by_fees t.fees tables.step n;
   supplements = t.extras_sum;
   decimals = tables.decimals;
 }
@@ -299,13 +300,13 @@ hired-equal s tables p q k m c t is some most e hired has still roam short rest 
 
 -- the weights of a context give its charge
 pub charge-by-weights : (s : Setting) (tables : TableParts) (seal : Seal) (y : Context) (p : ℕ) (w : Weights)
-    → IsSettingOf s tables seal → w ≡ rate_by s.tariff tables.constant y
+    → IsSettingOf s tables seal → w ≡ weights_in_force s.tariff tables.constant y
     → charge_of seal.params.mode w p ≡ charge_at s y p
 charge-by-weights s tables seal y p w is by =
     ap (λ (mode : Mode). charge_of mode w p) is.secured.mode
     ∙ ap (λ (w : Weights). charge_of s.mode w p) by
-    ∙ ap (λ (k : ℕ). charge_of s.mode (rate_by s.tariff k y) p) is.tariff.constant
-    ∙ charge-at s.mode s.tariff s.constant y p is.tariff.compiled.writable is.tariff.compiled.sound
+    ∙ ap (λ (k : ℕ). charge_of s.mode (weights_in_force s.tariff k y) p) is.tariff.constant
+    ∙ charge-at s tables y p is.tariff
 
 -- the context of an interval after i further ones is near that of the first
 pub near-later : (s : Setting) (m : Meter) (t : CoreTrip) (p i further longer : ℕ)

@@ -3,15 +3,14 @@ use Rattle.std.proofs.Common.{◌≡◌, ℕ, ◌+◌, ◌*◌, ◌/◌, ◌%◌
 use Rattle.std.proofs.Common.{arith}
 use Rattle.std.proofs.lemmas.Grind.{common_steps}
 use Rattle.drive_modes.specs.Fare as fares
-use Rattle.drive_modes.specs.Fare.{above_cover, opening_of, quotient, saved, shown_fare}
+use Rattle.drive_modes.specs.Fare.{above_cover, opening_of, quotient, saved}
 use Rattle.std.proofs.Math.Nat.{div-add-mod, mul_comm}
 use Rattle.meter_states.specs.KeptTrip.{hired_in, with_parts}
-use Rattle.meter_states.specs.Run.{trip_of}
-use Rattle.tariff_check.specs.DisplayStep.{display_step}
 use Rattle.meter_states.specs.Setting.{Setting, modulus_of, rounding_of}
 use Rattle.meter_states.specs.Trip as model
-use Rattle.meter_states.specs.Trip.{Part, MeterTrip, InHired, InStopped, Rest, charge_in, charges_of, fare_of}
-use Rattle.meter_states.specs.Trip.{held_trip}
+use Rattle.meter_states.specs.Trip.{Part, MeterTrip, InHired, InStopped, Rest, charge_in, charges_of, fare_by_fees}
+use Rattle.meter_states.specs.Trip.{fare_of, held_trip, steps_shown, trip_of}
+use Rattle.meter_states.specs.declared.trip.Fees.{Fees}
 
 -- intervals outside Hired cost nothing
 hired-charges : (s : Setting) (parts : List Part)
@@ -21,13 +20,15 @@ hired-charges s (InHired p x ∷ parts) = grind (arith, common_steps, hired-char
 hired-charges s (InStopped p ∷ parts) = grind (arith, common_steps, hired-charges s parts)
 hired-charges s (Rest p ∷ parts) = grind (arith, common_steps, hired-charges s parts)
 
-pub fare-by : (s : Setting) (t u : MeterTrip) → t.initial ≡ u.initial → t.minimum ≡ u.minimum
+pub fare-by : (s : Setting) (t u : MeterTrip) → t.fees ≡ u.fees
     → t.opening.cover ≡ u.opening.cover → t.opening.above ≡ u.opening.above
     → hired_in t.parts ≡ hired_in u.parts → fare_of s t ≡ fare_of s u
-fare-by s t u initial minimum cover above parts =
+fare-by s t u fees cover above parts =
     let charges : charges_of s t ≡ charges_of s u = sym (hired-charges s t.parts)
     ∙ ap (λ (ps : List Part). sum (map (charge_in s) ps)) parts ∙ hired-charges s u.parts in
-    cc
+    let steps : steps_shown s t ≡ steps_shown s u = cc in
+    ap (λ (f : Fees). fare_by_fees f s.tariff.step.0 (steps_shown s t)) fees
+    ∙ ap (fare_by_fees u.fees s.tariff.step.0) steps
 
 -- over two lists charges add up
 pub sum-parts : (s : Setting) (xs ys : List Part)
@@ -54,5 +55,5 @@ fare-resumed s t parts second stopped position zone =
     let both : charges_of s (with_parts parts t) ≡ charges_of s t + sum (map (charge_in s) parts) =
     sum-parts s t.parts parts in
     let more = above-more o (charges_of s t) (sum (map (charge_in s) parts)) in
-    ap (λ (n : ℕ). shown_fare t.initial t.minimum (display_step s.tariff).0 (quotient (rounding_of s) n (modulus_of s)))
+    ap (λ (n : ℕ). fare_by_fees t.fees s.tariff.step.0 (quotient (rounding_of s) n (modulus_of s)))
     (more ∙ ap (above_cover o) (sym both))

@@ -1,8 +1,7 @@
 -- A trip that fits the tables fits their setting.
 use Rattle.std.proofs.Common.{◌≡◌, ◌<◌, ℕ, ◌+◌, ◌*◌, List, [], ◌∷◌, Option, length, refl, ap, ◌∙◌, subst}
-use Rattle.tariff_check.specs.DisplayStep.{display_step}
 use Rattle.tariff_compile.specs.Tables.{TableParts}
-use Rattle.tariff_check.specs.Parts.{supplement_of}
+use Rattle.tariff_check.specs.SoundTariff.{supplement_numbered}
 use Rattle.tariff_check.specs.declared.values.Supplement.{Supplement}
 use Rattle.totals_record.specs.declared.trip.Trip.{Trip}
 use Rattle.meter_states.specs.Fits.{Fits}
@@ -10,7 +9,7 @@ use Rattle.meter_states.specs.KeptTrip.{FitsSetting}
 use Rattle.meter_states.specs.Setting.{Setting, IsTariffOf}
 use Rattle.meter_states.specs.Supplements.{amount_in, amounts_from, supplement_in}
 use Rattle.meter_states.proofs.Settings.{step-is, unit-is}
-use Rattle.meter_states.proofs.TableSupplements.{supplement-in}
+use Rattle.meter_states.proofs.TableSupplements.{supplement-of-setting}
 
 amounts-same : (f g : ℕ → Option Supplement) (first : ℕ) (counts : List ℕ) → ((n : ℕ) → f n ≡ g n)
     → amounts_from f first counts ≡ amounts_from g first counts
@@ -23,10 +22,10 @@ pub fits-setting : (s : Setting) (p : TableParts) (trip : Trip) → IsTariffOf s
     → FitsSetting s trip
 fits-setting s p trip is fits long =
     let step = ap (λ (n : ℕ). n * p.measure) (step-is s p is) in
-    let unit = ap (λ (n : ℕ). (display_step s.tariff).0 * n) (unit-is s p is) in
+    let unit = ap (λ (n : ℕ). s.tariff.step.0 * n) (unit-is s p is) in
     record {
       rest = subst (λ (n : ℕ). trip.meterage.rest < n) (step ∙ unit) fits.rest;
       extras = long;
-      extras_sum = fits.extras_sum ∙ amounts-same (supplement_in p) (supplement_of s.tariff.lines) 1 trip.extras
-          (λ n. supplement-in s.tariff p n is.compiled);
+      extras_sum = fits.extras_sum ∙ amounts-same (supplement_in p) (supplement_numbered s.tariff.supplements) 1
+          trip.extras (λ n. supplement-of-setting s p n is);
     }

@@ -1,5 +1,5 @@
 -- A trip of a powered core, as it is held, is in the ranges of the store and fits the tables.
-use Rattle.std.proofs.Common.{◌≡◌, ◌+◌, ◌*◌, ◌^◌, ◌<◌, ◌≤◌, Bool, Option, Some, subst, arith}
+use Rattle.std.proofs.Common.{◌≡◌, ◌+◌, ◌*◌, ◌^◌, Bool, Some, subst, arith}
 use Rattle.std.proofs.lemmas.Nat.{mul-le}
 use Rattle.tariff_compile.specs.Tables.{TableParts}
 use Rattle.tariff_compile.proofs.Laws.{tables_are_fit}
@@ -22,20 +22,20 @@ held-range p core stopped trip on has =
     let fit = tables_are_fit p on.compiled in
     let modulus = mul-le p.step p.measure (10 ^ 6) (2 * 10 ^ 23) fit.step.1 fit.measure.1 in
     record {
-      started = range.started;
+      started = range.others.started;
       saved = (subst (HasBegunBy core.clock) has on.begun, on.clock.1);
       position = (on.position.0, omega (arith, on.position.1, fit.positions.1));
       zone = (on.zone.0, omega (arith, on.zone.1, fit.zones.1));
-      roam = range.roam;
+      roam = range.others.roam;
       pulses = beside.pulses;
       ticks = range.ticks;
-      initial = range.initial;
-      cover_left = omega (arith, range.cover, fit.measure.1);
-      steps_full = range.steps;
-      rest = omega (arith, range.rest, modulus);
-      extras = (range.extras, counts-few p 8639999 trip range);
+      initial = range.others.initial;
+      cover_left = omega (arith, range.meterage.cover, fit.measure.1);
+      steps_full = range.meterage.steps;
+      rest = omega (arith, range.meterage.rest, modulus);
+      extras = (range.extras.sixteen, counts-few p 8639999 trip range);
       extras_sum = extras-few p 8639999 trip range;
-      minimum = range.minimum;
+      minimum = range.others.minimum;
     }
 
 pub held-fits : (p : TableParts) (core : CoreData) (stopped : Bool) (trip : CoreTrip)
@@ -47,8 +47,8 @@ held-fits p core stopped trip on has =
     record {
       position = on.position;
       zone = on.zone;
-      rest = range.rest;
-      cover = range.cover;
-      counts = range.counts;
-      extras_sum = range.extras_sum;
+      rest = range.meterage.rest;
+      cover = range.meterage.cover;
+      counts = range.extras.allowed;
+      extras_sum = range.extras.amounts;
     }

@@ -6,7 +6,6 @@ use Rattle.seal_record.specs.declared.seal.Seal.{Seal}
 use Rattle.tariff_compile.specs.Tables.{TableParts}
 use Rattle.tariff_check.specs.declared.values.Supplement.{Supplement}
 use Rattle.taxi_units.specs.declared.event.Key.{Key}
-use Rattle.taxi_units.specs.declared.event.Key.TheVariants as keys
 use Rattle.taxi_units.specs.declared.event.Operating.{Operating}
 use Rattle.taxi_units.specs.declared.event.Operating.TheVariants.{Off, ForHire, Hired, Stopped}
 use Rattle.taxi_units.specs.declared.event.Why.{Why}
@@ -143,48 +142,6 @@ refuses-row {p} {seal} {inside} {old} {before} {acts} {key} k view is ready done
           (subst (λ (o : Outcome). ComesToOutcome s old before acts o) (sym (none s m))
           (record { state = e; done = done }));
     }
-
-pub no-hire : (on : Operating) → (on ≡ ForHire → ⊥) → (on ≡ Stopped → ⊥) → (s : Setting) (m : Meter)
-    → key_in s keys.Hire on m ≡ refused NotNow m
-no-hire Off hire stopped s m = refl
-no-hire ForHire hire stopped s m = absurd (hire refl)
-no-hire Hired hire stopped s m = refl
-no-hire Stopped hire stopped s m = absurd (stopped refl)
-
-pub no-stop : (on : Operating) → (on ≡ Hired → ⊥) → (s : Setting) (m : Meter)
-    → key_in s keys.Stop on m ≡ refused NotNow m
-no-stop Off hired s m = refl
-no-stop ForHire hired s m = refl
-no-stop Hired hired s m = absurd (hired refl)
-no-stop Stopped hired s m = refl
-
-pub no-clear : (on : Operating) → (on ≡ Stopped → ⊥) → (s : Setting) (m : Meter)
-    → key_in s keys.Clear on m ≡ refused NotNow m
-no-clear Off stopped s m = refl
-no-clear ForHire stopped s m = refl
-no-clear Hired stopped s m = refl
-no-clear Stopped stopped s m = absurd (stopped refl)
-
-pub no-position : (n : ℕ) (on : Operating) → (on ≡ ForHire → ⊥) → (on ≡ Hired → ⊥) → (s : Setting) (m : Meter)
-    → key_in s (keys.Position n) on m ≡ refused NotNow m
-no-position n Off hire hired s m = refl
-no-position n ForHire hire hired s m = absurd (hire refl)
-no-position n Hired hire hired s m = absurd (hired refl)
-no-position n Stopped hire hired s m = refl
-
-pub no-zone : (n : ℕ) (on : Operating) → (on ≡ ForHire → ⊥) → (on ≡ Hired → ⊥) → (s : Setting) (m : Meter)
-    → key_in s (keys.Zone n) on m ≡ refused NotNow m
-no-zone n Off hire hired s m = refl
-no-zone n ForHire hire hired s m = absurd (hire refl)
-no-zone n Hired hire hired s m = absurd (hired refl)
-no-zone n Stopped hire hired s m = refl
-
-pub no-extra : (n : ℕ) (on : Operating) → (on ≡ Hired → ⊥) → (on ≡ Stopped → ⊥) → (s : Setting) (m : Meter)
-    → key_in s (keys.Extra n) on m ≡ refused NotNow m
-no-extra n Off hired stopped s m = refl
-no-extra n ForHire hired stopped s m = refl
-no-extra n Hired hired stopped s m = absurd (hired refl)
-no-extra n Stopped hired stopped s m = absurd (stopped refl)
 
 -- a stage that refuses
 pub refuses-stage : {p : TableParts} {seal : Seal} {old : CoreData} {before acts : List Act} (why : Why) (stage : Stage)

@@ -27,10 +27,11 @@ use Rattle.meter_states.specs.Keys.{latch_pressed}
 use Rattle.meter_states.specs.Meter.{Meter, quiet}
 use Rattle.meter_states.specs.Pairs.{ArePaired, commits_of}
 use Rattle.meter_states.specs.Refusals.{IsTooFast}
-use Rattle.meter_states.specs.Run.{actions_of, opened, run, run_both, trip_of, whole_run}
+use Rattle.meter_states.specs.Run.{actions_of, opened, run, run_both, whole_run}
 use Rattle.meter_states.specs.Setting.{Setting, IsTariffOf}
 use Rattle.meter_states.specs.Step.{expired, step, ticked}
-use Rattle.meter_states.specs.Trip.{InHired, Part, MeterTrip, fare_of, held_trip, core_trip_of, ticks_of, with_part}
+use Rattle.meter_states.specs.Trip.{InHired, Part, MeterTrip, fare_of, held_trip, core_trip_of, ticks_of, trip_of}
+use Rattle.meter_states.specs.Trip.{with_part}
 use Rattle.meter_states.specs.declared.act.Act.{Act}
 use Rattle.meter_states.specs.declared.act.Act.TheVariants.{Refuse}
 use Rattle.meter_states.proofs.ActRanges.{act-keeps}
@@ -142,9 +143,9 @@ pub resumed_trips_go_on-forms : (s : Setting) (t : MeterTrip) (parts : List Part
     ≡ core_trip_of s (with_more parts extras t)
 resumed_trips_go_on-forms = forms-resumed
 
-pub fares_depend_on_the_intervals_in_hired : (s : Setting) (t u : MeterTrip) → t.initial ≡ u.initial
-    → t.minimum ≡ u.minimum → t.opening.cover ≡ u.opening.cover
-    → t.opening.above ≡ u.opening.above → hired_in t.parts ≡ hired_in u.parts → fare_of s t ≡ fare_of s u
+pub fares_depend_on_the_intervals_in_hired : (s : Setting) (t u : MeterTrip) → t.fees ≡ u.fees
+    → t.opening.cover ≡ u.opening.cover → t.opening.above ≡ u.opening.above → hired_in t.parts ≡ hired_in u.parts
+    → fare_of s t ≡ fare_of s u
 fares_depend_on_the_intervals_in_hired = fare-by
 
 pub lawful_acts_keep_the_ranges : (tables : TableParts) (durable : Durable) (act : Act) → IsDurable durable

@@ -44,8 +44,6 @@ mod RoamingStages
 mod Runs
 -- what tables have of their setting
 mod Settings
--- displays, entries and receipts whose parts are equal
-mod SameParts
 -- each stage of an event commits what its acts say, and puts a receipt directly behind its entry
 mod Stages
 -- what a drop of the supply and its coming do in each case

@@ -44,17 +44,10 @@ trip-longer p number None range = tt
 trip-longer p number (Some t) range = record {
   range = record {
     compiled = range.range.compiled;
-    started = range.range.started;
-    roam = range.range.roam;
     ticks = omega (arith, range.range.ticks);
-    initial = range.range.initial;
-    minimum = range.range.minimum;
-    cover = range.range.cover;
-    steps = range.range.steps;
-    rest = range.range.rest;
+    meterage = range.range.meterage;
     extras = range.range.extras;
-    counts = range.range.counts;
-    extras_sum = range.range.extras_sum;
+    others = range.range.others;
   };
   pulses = range.pulses;
 }

@@ -2,11 +2,10 @@
 use Rattle.std.proofs.Common.{◌≡◌, ◌≢◌, ℕ, zero, suc, ◌+◌, ◌<◌, ◌≤◌, nat_le, if◌then◌else◌, Bool, true, false, List, []}
 use Rattle.std.proofs.Common.{◌∷◌, ◌++◌, Option, Some, None, option_map, sum, refl, ap, sym, subst, ◌∙◌, arith}
 use Rattle.std.proofs.lemmas.Grind.{common_steps}
-use Rattle.drive_modes.specs.Fare.{above_cover, quotient, saved, shown_fare, steps_above, steps_of}
+use Rattle.drive_modes.specs.Fare.{above_cover, quotient, saved, steps_above, steps_of}
 use Rattle.drive_modes.specs.Fare as fares
 use Rattle.drive_modes.specs.declared.meterage.Rounding.{Rounding}
 use Rattle.drive_modes.proofs.Laws.{shown-sum}
-use Rattle.tariff_check.specs.DisplayStep.{display_step}
 use Rattle.tariff_compile.specs.Tables.{TableParts}
 use Rattle.taxi_units.specs.Time.{longest_trip}
 use Rattle.taxi_units.specs.declared.event.Event.{Event}
@@ -26,13 +25,13 @@ use Rattle.meter_states.specs.Meter.{Meter, Outcome, ◌>>=◌, quiet}
 use Rattle.meter_states.specs.Run.{run}
 use Rattle.meter_states.specs.Setting.{Setting, IsTariffOf, modulus_of, rounding_of}
 use Rattle.meter_states.specs.Step.{expired, expired_or_pressed, powered_step, step_in, ticked}
-use Rattle.meter_states.specs.Trip.{MeterTrip, charges_of, opening_of, core_trip_of}
+use Rattle.meter_states.specs.Trip.{MeterTrip, charges_of, fare_by_fees, opening_of, core_trip_of}
 use Rattle.meter_states.specs.declared.act.Act.{Act}
 use Rattle.meter_states.specs.declared.act.Act.TheVariants.{Show}
 use Rattle.meter_states.proofs.Fares.{above-more}
 use Rattle.meter_states.proofs.Outcomes.{follows-then}
 use Rattle.meter_states.proofs.Runs.{run-append}
-use Rattle.meter_states.proofs.Settings.{rounding-is, step-is}
+use Rattle.meter_states.proofs.Settings.{decimals-is, rounding-is, step-is}
 use Rattle.taxi_units.specs.Limits.{roaming_between, roaming_most}
 
 -- as many intervals as the cores that they lead through
@@ -153,10 +152,9 @@ fare-by : (s : Setting) (p : TableParts) (trip : Option MeterTrip) → IsTariffO
 fare-by s p None is some = refl
 fare-by s p (Some t) is some =
     let kept = (core_trip_of s t).meterage in
-    ap (λ (n : ℕ). shown_fare t.initial t.minimum n (steps_of p.rounding kept)) (step-is s p is)
-    ∙ ap (λ (r : Rounding). shown_fare t.initial t.minimum (display_step s.tariff).0 (steps_of r kept))
-    (rounding-is s p is)
-    ∙ ap (shown_fare t.initial t.minimum (display_step s.tariff).0)
+    ap (λ (n : ℕ). fare_by_fees t.fees n (steps_of p.rounding kept)) (step-is s p is)
+    ∙ ap (λ (r : Rounding). fare_by_fees t.fees s.tariff.step.0 (steps_of r kept)) (rounding-is s p is)
+    ∙ ap (fare_by_fees t.fees s.tariff.step.0)
     (steps-saved (rounding_of s) (opening_of s t) (charges_of s t) some)
 
 extras-by : (s : Setting) (trip : Option MeterTrip) → extras_by (option_map (core_trip_of s) trip) ≡ extras_shown s trip
@@ -168,7 +166,7 @@ display-by : (s : Setting) (p : TableParts) (m : Meter) → IsTariffOf s p → 0
 display-by s p m is some =
     let fare = fare-by s p m.trip is some in
     let extras = extras-by s m.trip in
-    let decimals : p.decimals ≡ s.tariff.decimals = ap (λ (q : TableParts). q.decimals) is.compiled.parts in
+    let decimals = decimals-is s p is in
     cc
 
 abbrev pub ticks_by : Option CoreTrip → ℕ

@@ -4,15 +4,13 @@ use Rattle.std.proofs.Common.{None, option_map, refl, ap, sym, subst, ◌∙◌,
 use Rattle.std.proofs.lemmas.Grind.{common_steps}
 use Rattle.drive_modes.specs.declared.meterage.Meterage.{Meterage}
 use Rattle.drive_modes.proofs.Laws.{saved-any}
-use Rattle.tariff_check.specs.Parts.{supplement_of}
-use Rattle.tariff_syntax.specs.Tree.{Tree}
+use Rattle.tariff_check.specs.SoundTariff.{SoundTariff, supplement_numbered}
 use Rattle.totals_record.specs.declared.trip.Trip.{Trip}
 use Rattle.meter_states.specs.Core.{IsSavedIn}
 use Rattle.meter_states.specs.KeptTrip.{FitsSetting, HoldFits}
-use Rattle.meter_states.specs.Run.{numbers_from, trip_of}
 use Rattle.meter_states.specs.Setting.{Setting, modulus_of}
 use Rattle.meter_states.specs.Supplements.{amount_in, amounts_from, amounts_of, counts_from, counts_of, times}
-use Rattle.meter_states.specs.Trip.{core_trip_in, held_trip, saved_at}
+use Rattle.meter_states.specs.Trip.{core_trip_in, held_trip, numbers_from, saved_at, trip_of}
 use Rattle.meter_states.specs.declared.trip.CoreTrip.{CoreTrip}
 
 pub times-cons-same : (n : ℕ) (xs : List ℕ) → times n (n ∷ xs) ≡ times n xs + 1
@@ -61,13 +59,13 @@ counts-numbers n (c ∷ cs) =
     counts-earlier (length cs) c (n + 1) n (numbers_from (n + 1) cs) (omega arith) ∙ counts-numbers (n + 1) cs in
     cc
 
-amounts-repeated : (t : Tree) (c n : ℕ) (xs : List ℕ)
-    → amounts_of t (replicate c n ++ xs) ≡ c * amount_in (supplement_of t.lines n) + amounts_of t xs
+amounts-repeated : (t : SoundTariff) (c n : ℕ) (xs : List ℕ)
+    → amounts_of t (replicate c n ++ xs) ≡ c * amount_in (supplement_numbered t.supplements n) + amounts_of t xs
 amounts-repeated t zero n xs = omega arith
 amounts-repeated t (suc c) n xs = grind (arith, common_steps, amounts-repeated t c n xs)
 
-pub amounts-numbers : (t : Tree) (n : ℕ) (cs : List ℕ)
-    → amounts_of t (numbers_from n cs) ≡ amounts_from (supplement_of t.lines) n cs
+pub amounts-numbers : (t : SoundTariff) (n : ℕ) (cs : List ℕ)
+    → amounts_of t (numbers_from n cs) ≡ amounts_from (supplement_numbered t.supplements) n cs
 amounts-numbers t n [] = refl
 amounts-numbers t n (c ∷ cs) =
     omega (arith, amounts-repeated t c n (numbers_from (n + 1) cs), amounts-numbers t (n + 1) cs)

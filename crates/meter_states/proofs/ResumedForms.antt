@@ -6,16 +6,14 @@ use Rattle.std.proofs.lemmas.List.Elements.{All-head, All-tail}
 use Rattle.drive_modes.specs.Fare as fares
 use Rattle.drive_modes.specs.Fare.{above_cover, saved}
 use Rattle.drive_modes.specs.declared.meterage.Meterage.{Meterage}
-use Rattle.tariff_check.specs.Parts.{supplement_of}
+use Rattle.tariff_check.specs.SoundTariff.{SoundTariff, supplement_numbered}
 use Rattle.tariff_check.specs.declared.values.Supplement.{Supplement}
-use Rattle.tariff_syntax.specs.Tree.{Tree}
 use Rattle.meter_states.specs.KeptTrip.{IsSupplementNumber, with_more}
-use Rattle.meter_states.specs.Run.{numbers_from, trip_of}
 use Rattle.meter_states.specs.Setting.{Setting, modulus_of}
 use Rattle.meter_states.specs.Supplements.{amount_in, amounts_from, amounts_of, counts_from, counts_of, times}
 use Rattle.meter_states.specs.Trip as model
 use Rattle.meter_states.specs.Trip.{Part, MeterTrip, charge_in, charges_of, held_trip, pulses_in, core_trip_of}
-use Rattle.meter_states.specs.Trip.{ticks_in}
+use Rattle.meter_states.specs.Trip.{numbers_from, ticks_in, trip_of}
 use Rattle.meter_states.proofs.Fares.{above-more, sum-parts}
 use Rattle.meter_states.proofs.Resumed.{amounts-numbers, counts-earlier, counts-numbers, same_form, times-cons-other}
 use Rattle.meter_states.proofs.Resumed.{times-cons-same}
@@ -78,28 +76,29 @@ amounts-none f zero n = refl
 amounts-none f (suc many) n = omega (arith, amounts-none f many (n + 1))
 
 -- the counts of a list of supplements have the amounts of the list
-amounts-of-counts : (t : Tree) (xs : List ℕ) → All IsSupplementNumber xs
-    → amounts_from (supplement_of t.lines) 1 (counts_of xs) ≡ amounts_of t xs
-amounts-of-counts t [] are = amounts-none (supplement_of t.lines) 16 1
+amounts-of-counts : (t : SoundTariff) (xs : List ℕ) → All IsSupplementNumber xs
+    → amounts_from (supplement_numbered t.supplements) 1 (counts_of xs) ≡ amounts_of t xs
+amounts-of-counts t [] are = amounts-none (supplement_numbered t.supplements) 16 1
 amounts-of-counts t (x ∷ xs) are =
     let is : IsSupplementNumber x = All-head IsSupplementNumber x xs are in
     let from : 1 ≤ x = is.0 in
     let most : x ≤ 16 = is.1 in
     let place : x ≡ 1 + (x - 1) = omega arith in
     let within : x - 1 < 16 = omega arith in
-    let more : amounts_from (supplement_of t.lines) 1 (counts_of (x ∷ xs))
-    ≡ amount_in (supplement_of t.lines x) + amounts_from (supplement_of t.lines) 1 (counts_of xs) =
-    amounts-counted (supplement_of t.lines) 16 1 (x - 1) x xs place within in
+    let more : amounts_from (supplement_numbered t.supplements) 1 (counts_of (x ∷ xs))
+    ≡ amount_in (supplement_numbered t.supplements x)
+    + amounts_from (supplement_numbered t.supplements) 1 (counts_of xs) =
+    amounts-counted (supplement_numbered t.supplements) 16 1 (x - 1) x xs place within in
     let others = amounts-of-counts t xs (All-tail IsSupplementNumber x xs are) in
-    let parted : amounts_of t (x ∷ xs) ≡ amount_in (supplement_of t.lines x) + amounts_of t xs =
+    let parted : amounts_of t (x ∷ xs) ≡ amount_in (supplement_numbered t.supplements x) + amounts_of t xs =
     grind (arith, common_steps) in
-    more ∙ ap (λ (n : ℕ). amount_in (supplement_of t.lines x) + n) others ∙ sym parted
+    more ∙ ap (λ (n : ℕ). amount_in (supplement_numbered t.supplements x) + n) others ∙ sym parted
 
-amounts-append : (t : Tree) (xs ys : List ℕ) → amounts_of t (xs ++ ys) ≡ amounts_of t xs + amounts_of t ys
+amounts-append : (t : SoundTariff) (xs ys : List ℕ) → amounts_of t (xs ++ ys) ≡ amounts_of t xs + amounts_of t ys
 amounts-append t [] ys = omega arith
 amounts-append t (x ∷ xs) ys = grind (arith, common_steps, amounts-append t xs ys)
 
-amounts-listed : (t : Tree) (xs more : List ℕ) → All IsSupplementNumber xs
+amounts-listed : (t : SoundTariff) (xs more : List ℕ) → All IsSupplementNumber xs
     → amounts_of t (numbers_from 1 (counts_of xs) ++ more) ≡ amounts_of t (xs ++ more)
 amounts-listed t xs more are = omega (
   arith,

@@ -1,17 +1,18 @@
 -- The supplements of tables are those of the tariff.
 use Rattle.std.proofs.Common.{◌≡◌, ◌≢◌, ℕ, zero, suc, ltb, Bool, true, ◌+◌, ◌<◌, ◌≤◌, All, List, [], ◌∷◌, Option, Some}
 use Rattle.std.proofs.Common.{None, false, get_or, length, refl, ap, sym, ◌∙◌, arith}
-use Rattle.std.specs.Option.{option_map}
 use Rattle.std.proofs.lemmas.Bool.{ltb-false, ltb-true}
 use Rattle.std.proofs.lemmas.List.FromFn.{get_or-map-range_with_len, length-map-range_with_len}
 use Rattle.std.proofs.lemmas.List.{get_or_past}
 use Rattle.tariff_check.proofs.Laws.{sound_tariffs_have_sound_parts-parts, supplements_are_numbered_to_16}
 use Rattle.tariff_check.specs.Faults.{IsSound}
 use Rattle.tariff_check.specs.Parts.{supplement_of}
+use Rattle.tariff_check.specs.SoundTariff.{SoundTariff, supplement_numbered}
 use Rattle.tariff_compile.specs.Tables.{IsCompiled, IsTablesOf, TableParts}
 use Rattle.tariff_check.specs.declared.values.Supplement.{Supplement}
 use Rattle.tariff_syntax.specs.Tree.{Tree}
 use Rattle.tariff_syntax.specs.Writable.{IsFromTo, IsWritable}
+use Rattle.meter_states.specs.Setting.{Setting, IsTariffOf}
 use Rattle.meter_states.specs.Supplements.{AreAllowed, amount_in, amounts_from, most_in, supplement_in}
 use Rattle.meter_states.specs.declared.trip.CoreTrip.{CoreTrip}
 use Rattle.meter_states.specs.Lawful.{IsLawfulTrip}
@@ -51,6 +52,12 @@ pub supplement-in : (t : Tree) (p : TableParts) (n : ℕ) → IsTablesOf t p →
 supplement-in t p zero is = sym (supplement-none t 0 is.writable (λ range. absurd (omega (arith, range.0))))
 supplement-in t p (suc place) is = supplement-by t p place (ltb place 16) is refl
 
+pub supplement-of-setting : (s : Setting) (p : TableParts) (n : ℕ) → IsTariffOf s p
+    → supplement_in p n ≡ supplement_numbered s.tariff.supplements n
+supplement-of-setting s p n is =
+    supplement-in is.tree p n is.compiled
+    ∙ ap (λ (t : SoundTariff). supplement_numbered t.supplements n) (sym is.parts)
+
 in-range : (n : ℕ) (least most : Bool) → ltb 0 n ≡ least → ltb 16 n ≡ most → ((IsFromTo 1 16 n → ⊥) → ⊥)
     → IsFromTo 1 16 n
 in-range n true false e f some = (omega (arith, ltb-true 0 n e), ltb-false 16 n f)
@@ -89,14 +96,15 @@ zeros (suc count) = 0 ∷ zeros count
 -- a trip in its ranges has each supplement at most 99 times
 pub counts-few : (p : TableParts) (most : ℕ) (trip : CoreTrip) → IsLawfulTrip p most trip
     → All (λ count. count ≤ 99) trip.extras
-counts-few p most trip range = allowed-few (supplement_in p) 1 trip.extras (bounded p range.compiled) range.counts
+counts-few p most trip range =
+    allowed-few (supplement_in p) 1 trip.extras (bounded p range.compiled) range.extras.allowed
 
 -- and they come to at most 1,584,000,000
 pub extras-few : (p : TableParts) (most : ℕ) (trip : CoreTrip) → IsLawfulTrip p most trip
     → trip.extras_sum ≤ largest_supplements
 extras-few p most trip range =
-    let sum = amounts-most (supplement_in p) 1 trip.extras (bounded p range.compiled) range.counts in
-    omega (arith, sum, range.extras, range.extras_sum)
+    let sum = amounts-most (supplement_in p) 1 trip.extras (bounded p range.compiled) range.extras.allowed in
+    omega (arith, sum, range.extras.sixteen, range.extras.amounts)
 
 -- no supplements are allowed, and come to nothing
 none-allowed : (supplement : ℕ → Option Supplement) (first count : ℕ) → AreAllowed supplement first (zeros count)

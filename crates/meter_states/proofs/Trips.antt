@@ -1,12 +1,12 @@
 -- What the core keeps of a trip is its saved form.
-use Rattle.std.proofs.Common.{◌≡◌, ℕ, ◌+◌, ◌-◌, ◌*◌, ◌≤◌, [], ◌∷◌, ◌++◌, get_or, set, sum, ap, sym, ◌∙◌, arith}
+use Rattle.std.proofs.Common.{◌≡◌, ℕ, ◌+◌, ◌-◌, ◌*◌, ◌≤◌, List, [], ◌∷◌, ◌++◌, get_or, set, sum, ap, sym, ◌∙◌, arith}
 use Rattle.std.proofs.Common.{Option, Some, None, option_map}
 use Rattle.std.proofs.lemmas.Grind.{common_steps}
 use Rattle.std.proofs.lemmas.Option.{same_Some}
 use Rattle.drive_modes.specs.declared.meterage.Meterage.{Meterage}
 use Rattle.drive_modes.specs.Fare.{saved}
 use Rattle.tariff_compile.specs.Tables.{TableParts}
-use Rattle.tariff_check.specs.Parts.{supplement_of}
+use Rattle.tariff_check.specs.SoundTariff.{supplement_numbered}
 use Rattle.tariff_check.specs.declared.values.Initial.{Initial}
 use Rattle.tariff_syntax.specs.declared.context.Context.{Context}
 use Rattle.meter_states.specs.declared.trip.CoreTrip.{CoreTrip}
@@ -24,23 +24,18 @@ use Rattle.meter_states.proofs.Settings.{unit-is}
 -- a trip that begins
 pub begun-saved : (s : Setting) (p : TableParts) (fee : Initial) (second roam : ℕ) (m : Meterage) → IsTariffOf s p
     → m ≡ saved (record { cover = fee.covers * p.measure; above = 0; modulus = modulus_of s }) 0
-    → ◌≡◌ {A = CoreTrip} (record {
-      started = second;
-      roam = roam;
-      pulses = 0;
-      ticks = 0;
-      initial = fee.amount;
-      minimum = fee.minimum;
+    → record (core_trip_of s (begun s fee second roam)) {
       meterage = m;
       extras = 0 ∷ 0 ∷ 0 ∷ 0 ∷ 0 ∷ 0 ∷ 0 ∷ 0 ∷ 0 ∷ 0 ∷ 0 ∷ 0 ∷ 0 ∷ 0 ∷ 0 ∷ 0 ∷ [];
-      extras_sum = 0;
-    }) (core_trip_of s (begun s fee second roam))
+    } ≡ core_trip_of s (begun s fee second roam)
 begun-saved s p fee second roam m is e =
-    let none = counts-none in
+    let begins = core_trip_of s (begun s fee second roam) in
+    let none = 0 ∷ 0 ∷ 0 ∷ 0 ∷ 0 ∷ 0 ∷ 0 ∷ 0 ∷ 0 ∷ 0 ∷ 0 ∷ 0 ∷ 0 ∷ 0 ∷ 0 ∷ 0 ∷ [] in
     let whole : m ≡ saved (record { cover = fee.covers * unit_of s; above = 0; modulus = modulus_of s }) 0 =
     e ∙ ap (λ (unit : ℕ). saved (record { cover = fee.covers * unit; above = 0; modulus = modulus_of s }) 0)
     (unit-is s p is) in
-    cc
+    ap (λ (x : Meterage). record begins { meterage = x; extras = none }) whole
+    ∙ ap (λ (counts : List ℕ). record begins { extras = counts }) (sym counts-none)
 
 -- an interval in Hired
 pub hired-saved : (s : Setting) (t : MeterTrip) (p : ℕ) (context : Context) (x : CoreTrip) (m : Meterage)
@@ -51,7 +46,7 @@ hired-saved s t p context x m is e = grind (arith, common_steps)
 
 -- a supplement more
 pub extra-saved : (s : Setting) (t : MeterTrip) (n amount : ℕ) (x : CoreTrip) → 1 ≤ n → n ≤ 16
-    → amount ≡ amount_in (supplement_of s.tariff.lines n) → x ≡ core_trip_of s t
+    → amount ≡ amount_in (supplement_numbered s.tariff.supplements n) → x ≡ core_trip_of s t
     → record x { extras = set x.extras (n - 1) (get_or x.extras (n - 1) 0 + 1); extras_sum = x.extras_sum + amount }
     ≡ core_trip_of s (with_extra n t)
 extra-saved s t n amount x least most is e =

@@ -1,22 +1,11 @@
--- Rules: the charge of a measuring interval, by the numbers of the rate that the tariff's text names.
-use Rattle.std.specs.Prelude.{ℕ, ◌+◌, ◌*◌, ◌/◌, if◌then◌else◌, nat_lt, get_or}
-use Rattle.std.specs.Option.{unwrap_or}
+-- Rules: the charge of a measuring interval, by the numbers of the rate that is in force.
+use Rattle.std.specs.Prelude.{ℕ, ◌+◌, ◌*◌, ◌/◌, if◌then◌else◌, nat_lt}
 use Rattle.drive_modes.specs.declared.charges.Mode.{Mode}
 use Rattle.drive_modes.specs.declared.charges.Mode.TheVariants.{Single, Double}
-use Rattle.tariff_check.specs.Measure.{measure_of}
-use Rattle.tariff_check.specs.Parts.{RateNumbers, rates_of}
-use Rattle.tariff_syntax.specs.Meaning.{rate_place}
-use Rattle.tariff_syntax.specs.Tree.{Tree}
+use Rattle.tariff_check.specs.Parts.{RateNumbers}
+use Rattle.tariff_check.specs.SoundLookups.{rate_in_force}
 use Rattle.tariff_syntax.specs.declared.context.Context.{Context}
 use Rattle.meter_states.specs.Setting.{Setting}
-
--- the rate at a place, counted from 0, is the one that stands there among the rates of the tariff
-abbrev pub rate_at : Tree → (place : ℕ) → RateNumbers
-rate_at t place = get_or (rates_of t.lines) place (record { a = 0; b = 0; c = 0; e = 0 })
-
--- the rate of a context is the one that holds first in it
-abbrev pub rate_of : Tree → Context → RateNumbers
-rate_of t x = rate_at t (unwrap_or (rate_place t x) 0)
 
 -- the charge of the distance of p pulses, in units of charge, is what p times 10,000 / k decimetres cost at a per b
 -- decimetres, where k times the common measure units of charge make the smallest unit of money
@@ -36,7 +25,7 @@ charge_by Single k common r p =
     if nat_lt (10000 * p * r.a * r.e) (r.c * k * r.b) then time_charge k common r else distance_charge common r p
 charge_by Double k common r p = distance_charge common r p + time_charge k common r
 
--- the charge of an interval of p pulses in a context is made by the rate that holds first in the context, by the mode
--- and by the constant of the setting
+-- the charge of an interval of p pulses in a context is made by the rate that is in force in it, by the mode and by the
+-- constant of the setting
 abbrev pub charge_at : Setting → Context → (p : ℕ) → ℕ
-charge_at s x p = charge_by s.mode s.constant (measure_of s.tariff.lines) (rate_of s.tariff x) p
+charge_at s x p = charge_by s.mode s.constant s.tariff.measure (rate_in_force s.tariff x) p

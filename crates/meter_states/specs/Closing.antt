@@ -8,7 +8,6 @@ use Rattle.taxi_units.specs.declared.receipt.Kind.TheVariants.{Roam}
 use Rattle.taxi_units.specs.declared.receipt.Receipt.{Receipt}
 use Rattle.totals_record.specs.declared.entry.Entry.{Entry}
 use Rattle.meter_states.specs.Meter.{Meter, Outcome, ◌>>=◌, quiet, entered, printed}
-use Rattle.tariff_check.specs.DisplayStep.{display_step}
 use Rattle.meter_states.specs.Setting.{Setting, stamp_at}
 use Rattle.meter_states.specs.Supplements.{amounts_of}
 use Rattle.meter_states.specs.Trip.{MeterTrip, fare_of, pulses_of, steps_shown}
@@ -35,10 +34,10 @@ receipt_of s kind finish position t number = record {
   finish = stamp_at s finish;
   position = position;
   hired_mm = millimetres_of s.constant (pulses_of t);
-  initial = t.initial;
-  minimum = t.minimum;
+  initial = t.fees.initial;
+  minimum = t.fees.minimum;
   steps = steps_shown s t;
-  step = (display_step s.tariff).0;
+  step = s.tariff.step.0;
   fare = fare_of s t;
   supplements = amounts_of s.tariff t.extras;
   decimals = s.tariff.decimals;

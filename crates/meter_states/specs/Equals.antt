@@ -1,7 +1,7 @@
 -- Rules: equal measuring intervals, one after the other, and when one more of them may go at once with those before.
 use Rattle.std.specs.Prelude.{◌≡◌, ℕ, zero, suc, ◌+◌, ◌-◌, ◌*◌, ◌<◌, ◌≤◌, ◌==◌, if◌then◌else◌, nat_lt, Option, Some, None, List, [], ◌∷◌, ◌++◌}
 use Rattle.drive_modes.specs.Charge.{charge_of}
-use Rattle.drive_modes.specs.Fare.{shown_fare, steps_of}
+use Rattle.drive_modes.specs.Fare.{steps_of}
 use Rattle.drive_modes.specs.declared.meterage.Meterage.{Meterage}
 use Rattle.drive_modes.specs.declared.meterage.Rounding.{Rounding}
 use Rattle.drive_modes.specs.declared.meterage.Rounding.TheVariants.{Behind, Ahead}
@@ -16,6 +16,7 @@ use Rattle.taxi_units.specs.declared.event.Operating.{Operating}
 use Rattle.taxi_units.specs.declared.event.Operating.TheVariants.{Off, ForHire, Hired, Stopped}
 use Rattle.taxi_units.specs.declared.receipt.Display.{Display}
 use Rattle.meter_states.specs.Core.{CoreData}
+use Rattle.meter_states.specs.Trip.{fare_by_fees}
 use Rattle.meter_states.specs.declared.cache.Cache.{Cache}
 use Rattle.meter_states.specs.declared.cache.CachedTime.{CachedTime}
 use Rattle.meter_states.specs.declared.cache.CachedRate.{CachedRate}
@@ -35,7 +36,7 @@ intervals_of p (suc count) = interval_of p ++ intervals_of p count
 -- the fare that a core shows is the one of its trip, and 0 without one
 abbrev pub fare_by : TableParts → Option CoreTrip → ℕ
 fare_by tables None = 0
-fare_by tables (Some t) = shown_fare t.initial t.minimum tables.step (steps_of tables.rounding t.meterage)
+fare_by tables (Some t) = fare_by_fees t.fees tables.step (steps_of tables.rounding t.meterage)
 
 -- the amount of supplements that a core shows is the one of its trip, and 0 without one
 abbrev pub extras_by : Option CoreTrip → ℕ

@@ -1,7 +1,7 @@
 -- Rules: the measuring interval, its pulses, the context of its beginning, and what it becomes at its end.
 use Rattle.std.specs.Prelude.{ℕ, ◌-◌, List, [], ◌∷◌, ◌++◌, Option, Some, None, option_map, sum, min, if◌then◌else◌, nat_lt}
 use Rattle.interval_clock.specs.declared.local_time.LocalTime.{LocalTime}
-use Rattle.tariff_calendar.specs.Lists.{is_holiday}
+use Rattle.tariff_check.specs.SoundLookups.{has_date}
 use Rattle.tariff_syntax.specs.declared.context.Context.{Context}
 use Rattle.taxi_units.specs.declared.event.Operating.{Operating}
 use Rattle.taxi_units.specs.declared.event.Operating.TheVariants.{Off, ForHire, Hired, Stopped}
@@ -42,7 +42,7 @@ context_on s local m = record {
   zone = m.zone;
   weekday = local.weekday;
   month_day = local.month_day;
-  holiday = is_holiday s.tariff.lines local.year local.month local.date;
+  holiday = has_date s.tariff.holidays local.year local.month local.date;
   minute = local.minute;
   pulses = pulses_so_far m.trip;
   ticks = ticks_so_far m.trip;

@@ -2,7 +2,7 @@
 use Rattle.std.specs.Prelude.{◌≡◌, ◌≢◌, ℕ, ◌<◌, ◌≤◌, List, [], ◌∷◌, ◌++◌, Option, Some, None, length}
 use Rattle.taxi_units.specs.declared.event.Operating.{Operating}
 use Rattle.taxi_units.specs.declared.event.Operating.TheVariants.{Off, ForHire, Hired, Stopped}
-use Rattle.tariff_check.specs.Parts.{supplement_of}
+use Rattle.tariff_check.specs.SoundTariff.{supplement_numbered}
 use Rattle.totals_record.specs.declared.trip.Trip.{Trip}
 use Rattle.meter_states.specs.Core.{IsSavedIn}
 use Rattle.meter_states.specs.Meter.{Meter}
@@ -28,7 +28,7 @@ IsTripKept s m = IsTripKeptIn s m.operating m.durable.hold m.trip m.roaming
 pub record FitsSetting (s : Setting) (trip : Trip) : Type 0 where
   pub rest : trip.meterage.rest < modulus_of s
   pub extras : length trip.extras ≡ 16
-  pub extras_sum : trip.extras_sum ≡ amounts_from (supplement_of s.tariff.lines) 1 trip.extras
+  pub extras_sum : trip.extras_sum ≡ amounts_from (supplement_numbered s.tariff.supplements) 1 trip.extras
 
 -- what a store holds fits a setting where it is no trip, or one that fits the setting
 abbrev pub HoldFits : Setting → Option Trip → Type 0

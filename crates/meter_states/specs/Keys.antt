@@ -1,8 +1,7 @@
 -- Rules: keys, one of which may wait for the end of the interval, and acts then.
 use Rattle.std.specs.Prelude.{ℕ, Bool, ◌&&◌, [], Option, Some, None, sum, if◌then◌else◌, nat_le}
-use Rattle.tariff_check.specs.Parts.{positions_of, zones_of}
-use Rattle.tariff_check.specs.Amounts.{initial_by}
-use Rattle.tariff_check.specs.Parts.{supplement_of}
+use Rattle.tariff_check.specs.Amounts.{fees_in_force}
+use Rattle.tariff_check.specs.SoundTariff.{supplement_numbered}
 use Rattle.tariff_check.specs.declared.values.Supplement.{Supplement}
 use Rattle.taxi_units.specs.declared.event.Key.{Key}
 use Rattle.taxi_units.specs.declared.event.Key.TheVariants as keys
@@ -24,11 +23,11 @@ latched None key m = quiet (record m { latch = Some key })
 latched (Some waiting) key m = refused KeyWaiting m
 
 -- a meter that is hired has a trip that begins at the clock's second, with the initial hire fee and the minimum fare
--- that the tariff's text names there, and takes the roaming pulses
+-- that are in force there, and takes the roaming pulses
 abbrev pub hired : Setting → Meter → Meter
 hired s m = record m {
   operating = Hired;
-  trip = Some (begun s (initial_by s.tariff (context_now s m)) m.clock (sum m.roaming));
+  trip = Some (begun s (fees_in_force s.tariff (context_now s m)) m.clock (sum m.roaming));
   roaming = [];
 }
 
@@ -43,11 +42,11 @@ is_among most n = nat_le 1 n && nat_le n most
 -- the key of a tariff position sets it, and is refused where the tariff has no such position
 abbrev pub position_set : Setting → (n : ℕ) → Meter → Outcome
 position_set s n m =
-    if is_among (positions_of s.tariff.lines) n then quiet (record m { position = n }) else refused NoSuch m
+    if is_among s.tariff.positions n then quiet (record m { position = n }) else refused NoSuch m
 
 -- the key of a zone sets it, and is refused where the tariff has no such zone
 abbrev pub zone_set : Setting → (n : ℕ) → Meter → Outcome
-zone_set s n m = if is_among (zones_of s.tariff.lines) n then quiet (record m { zone = n }) else refused NoSuch m
+zone_set s n m = if is_among s.tariff.zones n then quiet (record m { zone = n }) else refused NoSuch m
 
 -- a supplement that the tariff has is added to the trip, and is refused where it was added as often as it may be
 abbrev pub extra_added_to : (n : ℕ) → Supplement → Option MeterTrip → Meter → Outcome
@@ -72,8 +71,8 @@ key_in s (keys.Position n) ForHire m = position_set s n m
 key_in s (keys.Position n) Hired m = position_set s n m
 key_in s (keys.Zone n) ForHire m = zone_set s n m
 key_in s (keys.Zone n) Hired m = zone_set s n m
-key_in s (keys.Extra n) Hired m = extra_added n (supplement_of s.tariff.lines n) m
-key_in s (keys.Extra n) Stopped m = extra_added n (supplement_of s.tariff.lines n) m
+key_in s (keys.Extra n) Hired m = extra_added n (supplement_numbered s.tariff.supplements n) m
+key_in s (keys.Extra n) Stopped m = extra_added n (supplement_numbered s.tariff.supplements n) m
 key_in s key operating m = refused NotNow m
 
 -- the key that waits, if one does, waits no more and acts in the meter's operating position

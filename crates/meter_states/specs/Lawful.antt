@@ -1,5 +1,6 @@
 -- Rules: which cores are lawful.
-use Rattle.std.specs.Prelude.{◌≡◌, ◌≢◌, ◌⊎◌, Bool, true, false, ℕ, ◌+◌, ◌*◌, ◌<◌, ◌≤◌, Option, Some, None, length}
+use Rattle.std.specs.Prelude.{◌≡◌, ◌≢◌, ◌⊎◌, Bool, true, false, ℕ, ◌+◌, ◌*◌, ◌<◌, ◌≤◌, List, Option, Some, None, length}
+use Rattle.drive_modes.specs.declared.meterage.Meterage.{Meterage}
 use Rattle.tariff_compile.specs.Tables.{IsCompiled, TableParts}
 use Rattle.taxi_units.specs.Money.{largest_amount}
 use Rattle.taxi_units.specs.Time.{IsSecond, last_tick}
@@ -12,6 +13,7 @@ use Rattle.meter_states.specs.Core.{CoreData}
 use Rattle.meter_states.specs.Cache.{IsCacheOf, CachedCore}
 use Rattle.meter_states.specs.Supplements.{AreAllowed, amounts_from, supplement_in}
 use Rattle.meter_states.specs.declared.trip.CoreTrip.{CoreTrip}
+use Rattle.meter_states.specs.declared.trip.Fees.{Fees}
 use Rattle.taxi_units.specs.Limits.{hirings_end, last_number, number_most, roaming_amid, roaming_between}
 
 -- an event is timely where its second, if it has one, is of the years 2000 to 2199
@@ -20,21 +22,36 @@ IsTimely (events.Up second) = IsSecond second
 IsTimely (events.Clock second) = IsSecond second
 IsTimely event = Unit {0}
 
--- a trip of a core is in range under the tables of a tariff where it has at most `most` ticks, fits the tables, and has
--- its numbers in their ranges
+-- what the charges of a trip of `ticks` ticks have come to is in range under the tables of a tariff where the cover and
+-- the rest fit the tables, and there are at most 41,000,000,000 full display steps for each tick
+pub record IsMeterageInRange (tables : TableParts) (ticks : ℕ) (meterage : Meterage) : Type 0 where
+  pub cover : meterage.cover_left ≤ largest_amount * tables.measure
+  pub steps : meterage.steps_full ≤ 41000000000 * ticks
+  pub rest : meterage.rest < tables.step * tables.measure
+
+-- the supplements of a trip are in range under the tables of a tariff where there are sixteen counts, which the tables
+-- allow, and their sum is that of the amounts
+pub record AreExtrasInRange (tables : TableParts) (counts : List ℕ) (sum : ℕ) : Type 0 where
+  pub sixteen : length counts ≡ 16
+  pub allowed : AreAllowed (supplement_in tables) 1 counts
+  pub amounts : sum ≡ amounts_from (supplement_in tables) 1 counts
+
+-- the numbers of a trip that neither an interval nor a supplement changes are in range where it started at a second,
+-- and the pulses that were roamed before it and its fees are in their ranges
+pub record AreOthersInRange (second roamed : ℕ) (fees : Fees) : Type 0 where
+  pub started : IsSecond second
+  pub roam : roamed ≤ roaming_amid
+  pub initial : fees.initial ≤ largest_amount
+  pub minimum : fees.minimum ≤ largest_amount
+
+-- a trip of a core is in range under the tables of a tariff where it has at most `most` ticks, and what its charges
+-- have come to, its supplements and its other numbers are in range
 pub record IsLawfulTrip (tables : TableParts) (most : ℕ) (trip : CoreTrip) : Type 0 where
   pub compiled : IsCompiled tables
-  pub started : IsSecond trip.started
-  pub roam : trip.roam ≤ roaming_amid
   pub ticks : trip.ticks ≤ most
-  pub initial : trip.initial ≤ largest_amount
-  pub minimum : trip.minimum ≤ largest_amount
-  pub cover : trip.meterage.cover_left ≤ largest_amount * tables.measure
-  pub steps : trip.meterage.steps_full ≤ 41000000000 * trip.ticks
-  pub rest : trip.meterage.rest < tables.step * tables.measure
-  pub extras : length trip.extras ≡ 16
-  pub counts : AreAllowed (supplement_in tables) 1 trip.extras
-  pub extras_sum : trip.extras_sum ≡ amounts_from (supplement_in tables) 1 trip.extras
+  pub meterage : IsMeterageInRange tables trip.ticks trip.meterage
+  pub extras : AreExtrasInRange tables trip.extras trip.extras_sum
+  pub others : AreOthersInRange trip.started trip.roam trip.fees
 
 -- a trip of a core is in range beside a store's number where it is in range, and has at most 2,000 pulses for each tick
 -- and for each number, since each supply drop adds one to the number and at most 2,000 pulses to the trip

@@ -6,6 +6,7 @@ pub mod Core
 pub mod Display
 pub mod EqualStages
 pub mod Equals
+pub mod FitTest
 pub mod Fits
 pub mod Interval
 pub mod KeptTrip

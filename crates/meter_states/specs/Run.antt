@@ -1,40 +1,16 @@
 -- Rules: a run, how it opens, its events one after the other, and the supply drop at its end.
-use Rattle.std.specs.Prelude.{ℕ, ◌+◌, ◌*◌, List, [], ◌∷◌, ◌++◌, replicate, None, option_map}
+use Rattle.std.specs.Prelude.{List, [], ◌∷◌, None, option_map}
 use Rattle.taxi_units.specs.Time.{first_second}
 use Rattle.taxi_units.specs.declared.event.Event.{Event}
 use Rattle.taxi_units.specs.declared.event.Operating.{Operating}
 use Rattle.taxi_units.specs.declared.event.Operating.TheVariants.{Off}
 use Rattle.totals_record.specs.declared.durable_state.Durable.{Durable}
-use Rattle.totals_record.specs.declared.trip.Trip.{Trip}
 use Rattle.meter_states.specs.Meter.{Meter, Outcome, ◌>>=◌, quiet}
-use Rattle.meter_states.specs.Setting.{Setting, modulus_of}
+use Rattle.meter_states.specs.Setting.{Setting}
 use Rattle.meter_states.specs.Step.{step}
 use Rattle.meter_states.specs.Supply.{supply_dropped}
-use Rattle.meter_states.specs.Trip.{MeterTrip}
+use Rattle.meter_states.specs.Trip.{trip_of}
 use Rattle.meter_states.specs.declared.act.Act.{Act}
-
--- a list of numbers is made of counts, the first of which is that of the number `first` and each further one that of
--- the next number: it has each number as often as its count says, in order
-abbrev pub numbers_from : (first : ℕ) → (counts : List ℕ) → List ℕ
-numbers_from first [] = []
-numbers_from first (count ∷ counts) = replicate count first ++ numbers_from (first + 1) counts
-
--- a held trip goes on as a trip whose opening has what was charged before, and whose list of intervals is what follows
-abbrev pub trip_of : Setting → Trip → MeterTrip
-trip_of s trip = record {
-  started = trip.started;
-  initial = trip.initial;
-  minimum = trip.minimum;
-  roam = trip.roam;
-  opening = record {
-    cover = trip.meterage.cover_left;
-    above = trip.meterage.steps_full * modulus_of s + trip.meterage.rest;
-    pulses = trip.pulses;
-    ticks = trip.ticks;
-  };
-  parts = [];
-  extras = numbers_from 1 trip.extras;
-}
 
 -- a meter is opened before the supply first comes, with what the store has: off, at the first second, with the held
 -- trip

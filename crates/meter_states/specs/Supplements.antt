@@ -1,9 +1,8 @@
 -- Rules: the supplements of a trip, and how often each was added.
 use Rattle.std.specs.Prelude.{ℕ, zero, suc, ◌+◌, ◌*◌, ◌≤◌, ◌==◌, List, [], ◌∷◌, Option, Some, None, sum, map, count_by, get_or}
 use Rattle.tariff_compile.specs.Tables.{TableParts}
-use Rattle.tariff_check.specs.Parts.{supplement_of}
+use Rattle.tariff_check.specs.SoundTariff.{SoundTariff, supplement_numbered}
 use Rattle.tariff_check.specs.declared.values.Supplement.{Supplement}
-use Rattle.tariff_syntax.specs.Tree.{Tree}
 
 -- the amount of a supplement that may be none is its own, and 0 for none
 abbrev pub amount_in : Option Supplement → ℕ
@@ -16,8 +15,8 @@ most_in None = 0
 most_in (Some supplement) = supplement.max
 
 -- the amount of a list of supplements, told by their numbers, is the sum of what the tariff says of each
-abbrev pub amounts_of : Tree → List ℕ → ℕ
-amounts_of t numbers = sum (map (λ number. amount_in (supplement_of t.lines number)) numbers)
+abbrev pub amounts_of : SoundTariff → List ℕ → ℕ
+amounts_of tariff numbers = sum (map (λ number. amount_in (supplement_numbered tariff.supplements number)) numbers)
 
 -- the times of a number in a list are how often it stands there
 abbrev pub times : ℕ → List ℕ → ℕ

@@ -1,15 +1,15 @@
 -- Rules: a trip, as the whole list of its intervals, and its fare.
-use Rattle.std.specs.Prelude.{ℕ, ◌+◌, ◌*◌, Bool, List, [], ◌∷◌, ◌++◌, map, sum}
+use Rattle.std.specs.Prelude.{ℕ, ◌+◌, ◌*◌, Bool, List, [], ◌∷◌, ◌++◌, map, replicate, sum}
 use Rattle.drive_modes.specs.Fare as fares
 use Rattle.drive_modes.specs.Fare.{saved, shown_fare, steps_above}
 use Rattle.tariff_check.specs.declared.values.Initial.{Initial}
 use Rattle.tariff_syntax.specs.declared.context.Context.{Context}
 use Rattle.totals_record.specs.declared.trip.Trip.{Trip}
 use Rattle.meter_states.specs.Charge.{charge_at}
-use Rattle.tariff_check.specs.DisplayStep.{display_step}
 use Rattle.meter_states.specs.Setting.{Setting, modulus_of, rounding_of, unit_of}
 use Rattle.meter_states.specs.Supplements.{amounts_of, counts_of}
 use Rattle.meter_states.specs.declared.trip.CoreTrip.{CoreTrip}
+use Rattle.meter_states.specs.declared.trip.Fees.{Fees}
 
 -- a part of a trip is an interval that ended in Hired, with the context at its beginning, one that ended in Stopped, or
 -- the pulses of one that a supply drop left unfinished
@@ -26,12 +26,11 @@ pub record Opening : Type 0 where
   pub pulses : ℕ
   pub ticks : ℕ
 
--- a trip has its start second, its initial hire fee and its minimum fare, the pulses that were roamed before the
--- hiring, its opening, its parts in order, and the numbers of its supplements in order
+-- a trip has its start second, its fees, the pulses that were roamed before the hiring, its opening, its parts in
+-- order, and the numbers of its supplements in order
 pub record MeterTrip : Type 0 where
   pub started : ℕ
-  pub initial : ℕ
-  pub minimum : ℕ
+  pub fees : Fees
   pub roam : ℕ
   pub opening : Opening
   pub parts : List Part
@@ -78,17 +77,24 @@ opening_of s t = record { cover = t.opening.cover; above = t.opening.above; modu
 abbrev pub steps_shown : Setting → MeterTrip → ℕ
 steps_shown s t = steps_above (rounding_of s) (opening_of s t) (charges_of s t)
 
--- the fare of a trip is its initial hire fee and the display step for each step shown, or its minimum fare where that
--- is more, and at most 99,999,999
-abbrev pub fare_of : Setting → MeterTrip → ℕ
-fare_of s t = shown_fare t.initial t.minimum (display_step s.tariff).0 (steps_shown s t)
+-- the fees of a hiring are the initial hire fee and the minimum fare of what it begins with
+abbrev pub fees_of : Initial → Fees
+fees_of fee = record { initial = fee.amount; minimum = fee.minimum }
 
--- a trip that is hired at a second, after some roaming pulses, begins with its fee and its cover, and has no parts yet
+-- the fare by fees after `steps` display steps is the initial hire fee and the display step for each of them, or the
+-- minimum fare where that is more, and at most 99,999,999
+abbrev pub fare_by_fees : Fees → (step steps : ℕ) → ℕ
+fare_by_fees fees step steps = shown_fare fees.initial fees.minimum step steps
+
+-- the fare of a trip is the one by its fees after the steps shown
+abbrev pub fare_of : Setting → MeterTrip → ℕ
+fare_of s t = fare_by_fees t.fees s.tariff.step.0 (steps_shown s t)
+
+-- a trip that is hired at a second, after some roaming pulses, begins with its fees and its cover, and has no parts yet
 abbrev pub begun : Setting → Initial → (second roam : ℕ) → MeterTrip
 begun s fee second roam = record {
   started = second;
-  initial = fee.amount;
-  minimum = fee.minimum;
+  fees = fees_of fee;
   roam = roam;
   opening = record { cover = fee.covers * unit_of s; above = 0; pulses = 0; ticks = 0 };
   parts = [];
@@ -110,8 +116,7 @@ core_trip_of s t = record {
   roam = t.roam;
   pulses = pulses_of t;
   ticks = ticks_of t;
-  initial = t.initial;
-  minimum = t.minimum;
+  fees = t.fees;
   meterage = saved (opening_of s t) (charges_of s t);
   extras = counts_of t.extras;
   extras_sum = amounts_of s.tariff t.extras;
@@ -128,8 +133,8 @@ saved_at second stopped position zone trip = record {
   roam = trip.roam;
   pulses = trip.pulses;
   ticks = trip.ticks;
-  initial = trip.initial;
-  minimum = trip.minimum;
+  initial = trip.fees.initial;
+  minimum = trip.fees.minimum;
   meterage = trip.meterage;
   extras = trip.extras;
   extras_sum = trip.extras_sum;
@@ -147,9 +152,30 @@ core_trip_in held = record {
   roam = held.roam;
   pulses = held.pulses;
   ticks = held.ticks;
-  initial = held.initial;
-  minimum = held.minimum;
+  fees = record { initial = held.initial; minimum = held.minimum };
   meterage = held.meterage;
   extras = held.extras;
   extras_sum = held.extras_sum;
+}
+
+-- a list of numbers is made of counts, the first of which is that of the number `first` and each further one that of
+-- the next number: it has each number as often as its count says, in order
+abbrev pub numbers_from : (first : ℕ) → (counts : List ℕ) → List ℕ
+numbers_from first [] = []
+numbers_from first (count ∷ counts) = replicate count first ++ numbers_from (first + 1) counts
+
+-- a held trip goes on as a trip whose opening has what was charged before, and whose list of intervals is what follows
+abbrev pub trip_of : Setting → Trip → MeterTrip
+trip_of s trip = record {
+  started = trip.started;
+  fees = record { initial = trip.initial; minimum = trip.minimum };
+  roam = trip.roam;
+  opening = record {
+    cover = trip.meterage.cover_left;
+    above = trip.meterage.steps_full * modulus_of s + trip.meterage.rest;
+    pulses = trip.pulses;
+    ticks = trip.ticks;
+  };
+  parts = [];
+  extras = numbers_from 1 trip.extras;
 }

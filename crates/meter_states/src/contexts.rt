@@ -1,7 +1,7 @@
 //! The context of an interval, and what the interval weighs in it.
 ghost use Rattle.std.specs.Prelude.{◌≡◌, ◌≤◌, ◌+◌, Some};
 ghost use Rattle.seal_record.specs.declared.seal.Seal.{Seal};
-ghost use Rattle.tariff_compile.specs.Tables.{AreFit, IsInRangeFor, rate_by};
+ghost use Rattle.tariff_compile.specs.Tables.{AreFit, IsInRangeFor, weights_in_force};
 ghost use Rattle.taxi_units.specs.Time.{IsSecond, longest_trip};
 ghost use Rattle.meter_states.specs.Core.{core_of};
 ghost use Rattle.meter_states.specs.Equals.{context_by};
@@ -35,7 +35,7 @@ impl State {
         requires cache { IsCacheOf tables.now seal.now cache.old }
         ensures cache { IsCacheOf tables.now seal.now cache.new }
         ensures rate { (s : Setting) (m : Meter) → IsSettingOf s tables.now seal.now → self.now ≡ core_of s m
-            → result ≡ rate_by s.tariff tables.now.constant (context_of s m) }
+            → result ≡ weights_in_force s.tariff tables.now.constant (context_of s m) }
         ensures fit { AreFit tables.now.measure result }
         ensures steps { steps.new ≤ steps.old + 36 }
     {

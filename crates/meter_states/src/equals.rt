@@ -3,7 +3,7 @@ ghost use Rattle.std.specs.Prelude.{◌≡◌, ◌≤◌, ◌⊎◌, ◌↔◌, 
 ghost use Rattle.std.specs.Option.{ForSome};
 ghost use Rattle.tariff_compile.specs.Near.{IsNear};
 ghost use Rattle.seal_record.specs.declared.seal.Seal.{Seal};
-ghost use Rattle.tariff_compile.specs.Tables.{AreFit, IsInRangeFor, TableParts, rate_by};
+ghost use Rattle.tariff_compile.specs.Tables.{AreFit, IsInRangeFor, TableParts, weights_in_force};
 ghost use Rattle.tariff_syntax.specs.declared.context.Context.{Context};
 ghost use Rattle.taxi_units.specs.declared.event.Operating.TheVariants.{ForHire, Hired, Stopped};
 ghost use Rattle.meter_states.specs.Core.{Meets, Stands, core_of};
@@ -184,7 +184,7 @@ impl State {
             → IsCacheOf tables.now seal cache.now → IsSettingOf s tables.now seal → self.now ≡ core_of s m
             → IsInRangeFor tables.now y
             → IsNear lasting.further lasting.longer (context_of s m) y
-            → lasting.weights ≡ rate_by s.tariff tables.now.constant y) }
+            → lasting.weights ≡ weights_in_force s.tariff tables.now.constant y) }
         ensures lasts { IfSome result (λ lasting. (t : CoreTrip) (rate : CachedRate) → self.now.trip ≡ Some t
             → cache.now.rate ≡ Some rate → LastsFrom rate t.pulses t.ticks lasting) }
         ensures none { IsNone result → (t : CoreTrip) → self.now.trip ≡ Some t

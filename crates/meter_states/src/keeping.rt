@@ -8,10 +8,10 @@ ghost use Rattle.meter_states.specs.Fits.{Fits};
 ghost use Rattle.meter_states.specs.KeptTrip.{FitsSetting, HoldFits, IsTripKept, IsSupplementNumber, hired_in, with_more};
 ghost use Rattle.meter_states.specs.KeptTrip.{with_parts};
 ghost use Rattle.meter_states.specs.Meter.{Meter};
-ghost use Rattle.meter_states.specs.Run.{opened, run, trip_of, whole_run};
+ghost use Rattle.meter_states.specs.Run.{opened, run, whole_run};
 ghost use Rattle.meter_states.specs.Setting.{IsTariffOf, Setting};
 ghost use Rattle.meter_states.specs.Step.{step};
-ghost use Rattle.meter_states.specs.Trip.{Part, MeterTrip, fare_of, held_trip, core_trip_of};
+ghost use Rattle.meter_states.specs.Trip.{Part, MeterTrip, fare_of, held_trip, core_trip_of, trip_of};
 
 /// While the meter is off the store holds the saved form of its trip, and for hire there is none: a run
 /// begins so where the held trip fits, as one that fits the tables does, and each event, each list of
@@ -45,7 +45,7 @@ pub fn resumed_trips_go_on()
 /// The fare of a trip depends on the initial hire fee, the cover and the minimum fare of its hiring and
 /// on its intervals in Hired alone, whatever drops and power-ups lay between them.
 pub fn fares_depend_on_the_intervals_in_hired()
-    ensures { (s : Setting) (t u : MeterTrip) → t.initial ≡ u.initial → t.minimum ≡ u.minimum
+    ensures { (s : Setting) (t u : MeterTrip) → t.fees ≡ u.fees
         → t.opening.cover ≡ u.opening.cover → t.opening.above ≡ u.opening.above
         → hired_in t.parts ≡ hired_in u.parts → fare_of s t ≡ fare_of s u }
 {}

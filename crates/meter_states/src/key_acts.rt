@@ -2,8 +2,8 @@
 ghost use Rattle.std.specs.Prelude.{◌≡◌, ◌≢◌, ◌≤◌, ◌+◌, None, Some};
 ghost use Rattle.seal_record.specs.declared.seal.Seal.{Seal};
 ghost use Rattle.tariff_compile.specs.Tables.{TableParts};
-ghost use Rattle.tariff_check.specs.Amounts.{IsFitInitial, initial_by};
-ghost use Rattle.tariff_check.specs.Parts.{supplement_of};
+ghost use Rattle.tariff_check.specs.Amounts.{IsFitInitial, fees_in_force};
+ghost use Rattle.tariff_check.specs.SoundTariff.{supplement_numbered};
 ghost use Rattle.taxi_units.specs.declared.event.Operating.TheVariants.{ForHire};
 ghost use Rattle.taxi_units.specs.declared.receipt.Kind.TheVariants.{Closed};
 ghost use Rattle.meter_states.specs.Closing.{closed};
@@ -55,7 +55,7 @@ impl State {
     fn fee<L: Ledger>(&self, tables: &Tables, seal: &Seal, steps: &mut Steps<L>) -> Initial
         requires lawful { IsAmidEvent tables.now self.now }
         ensures value { (s : Setting) (m : Meter) → IsSettingOf s tables.now seal.now → self.now ≡ core_of s m
-            → result ≡ initial_by s.tariff (context_now s m) }
+            → result ≡ fees_in_force s.tariff (context_now s m) }
         ensures fit { IsFitInitial result }
         ensures steps { steps.new ≤ steps.old + 29 }
     {
@@ -120,7 +120,7 @@ impl State {
     )
         requires ready { IsReadyForKey tables.now self.old acts.old.items }
         ensures stage { (seal : Seal) → CommitsNothing tables.now seal self.old self.new acts.old.items
-            acts.new.items (λ s. extra_added n (supplement_of s.tariff.lines n)) }
+            acts.new.items (λ s. extra_added n (supplement_numbered s.tariff.supplements n)) }
         ensures steps { steps.new ≤ steps.old + 1 }
     {
         let Some(supplement) = find_supplement(tables, n, steps) else {

@@ -2,7 +2,7 @@
 ghost use Rattle.std.specs.Prelude.{◌≡◌, ◌+◌, ◌*◌, ◌^◌, ◌<◌, ◌≤◌, ◌≢◌, None};
 ghost use Rattle.drive_modes.specs.Distance.{millimetres_of};
 ghost use Rattle.tariff_compile.specs.Tables.{IsFit};
-ghost use Rattle.tariff_check.specs.Parts.{supplement_of};
+ghost use Rattle.tariff_check.specs.SoundTariff.{supplement_numbered};
 ghost use Rattle.taxi_units.specs.Shown.{IsStamp};
 ghost use Rattle.taxi_units.specs.Time.{IsSecond};
 ghost use Rattle.meter_states.specs.Setting.{Setting, IsSealOf, IsTariffOf, modulus_of, stamp_at};
@@ -41,7 +41,8 @@ pub(crate) fn find_supplement<L: Ledger>(
     number: u8,
     steps: &mut Steps<L>,
 ) -> Option<Supplement>
-    ensures tree { (s : Setting) → IsTariffOf s tables.now → result ≡ supplement_of s.tariff.lines number }
+    ensures setting { (s : Setting) → IsTariffOf s tables.now
+        → result ≡ supplement_numbered s.tariff.supplements number }
     ensures value { result ≡ supplement_in tables.now number }
     ensures number { result ≢ None → (1 ≤ number) × (number ≤ 16) }
     ensures amount { amount_in result ≤ 1000000 }

@@ -1,8 +1,8 @@
 //! What the core keeps of a trip: what begins it, what an interval and a supplement add, and how it is saved
 //! and goes on.
 ghost use Rattle.std.specs.Prelude.{◌≡◌, ◌+◌, ◌-◌, ◌^◌, ◌<◌, ◌≤◌, Some, slice_index};
-ghost use Rattle.drive_modes.specs.Fare.{shown_fare, steps_of};
-ghost use Rattle.tariff_compile.specs.Tables.{AreFit, TableParts, rate_by};
+ghost use Rattle.drive_modes.specs.Fare.{steps_of};
+ghost use Rattle.tariff_compile.specs.Tables.{AreFit, TableParts, weights_in_force};
 ghost use Rattle.tariff_check.specs.Amounts.{IsFitInitial};
 ghost use Rattle.tariff_syntax.specs.declared.context.Context.{Context};
 ghost use Rattle.taxi_units.specs.Money.{largest_amount};
@@ -21,17 +21,23 @@ use tariff_check::{Initial, Supplement};
 use tariff_compile::Tables;
 use totals_record::Trip;
 
+/// The fees of a trip: its initial hire fee and its minimum fare, in the tariff's smallest units.
+#[derive(Clone, Copy)]
+pub(crate) struct Fees {
+    pub(crate) initial: u64,
+    pub(crate) minimum: u64,
+}
+
 /// A trip as the core keeps it: the second of its start, the pulses that were roamed before the hiring, its
-/// pulses and ticks, the initial hire fee and the minimum fare, what its charges have come to, how often each
-/// of the supplements 1 to 16 was added, and the sum of their amounts. Money is in the tariff's smallest units.
+/// pulses and ticks, its fees, what its charges have come to, how often each of the supplements 1 to 16 was
+/// added, and the sum of their amounts in the tariff's smallest units.
 #[derive(Clone, Copy)]
 pub(crate) struct CoreTrip {
     pub(crate) started: u64,
     pub(crate) roam: u32,
     pub(crate) pulses: u64,
     pub(crate) ticks: u32,
-    pub(crate) initial: u64,
-    pub(crate) minimum: u64,
+    pub(crate) fees: Fees,
     pub(crate) meterage: Meterage,
     pub(crate) extras: [u8; 16],
     pub(crate) extras_sum: u64,
@@ -46,8 +52,10 @@ pub(crate) fn core_trip(held: &Trip) -> CoreTrip
         roam: held.roam,
         pulses: held.pulses,
         ticks: held.ticks,
-        initial: held.initial,
-        minimum: held.minimum,
+        fees: Fees {
+            initial: held.initial,
+            minimum: held.minimum,
+        },
         meterage: held.meterage,
         extras: held.extras,
         extras_sum: held.extras_sum,
@@ -67,8 +75,8 @@ pub(crate) fn saved_at(trip: &CoreTrip, second: u64, stopped: bool, position: u8
         roam: trip.roam,
         pulses: trip.pulses,
         ticks: trip.ticks,
-        initial: trip.initial,
-        minimum: trip.minimum,
+        initial: trip.fees.initial,
+        minimum: trip.fees.minimum,
         meterage: trip.meterage,
         extras: trip.extras,
         extras_sum: trip.extras_sum,
@@ -91,8 +99,10 @@ pub(crate) fn begun(tables: &Tables, fee: Initial, second: u64, roam: u32) -> Co
         roam,
         pulses: 0,
         ticks: 0,
-        initial: fee.amount,
-        minimum: fee.minimum,
+        fees: Fees {
+            initial: fee.amount,
+            minimum: fee.minimum,
+        },
         meterage: Meterage::start(fee.covers, tables.measure()),
         extras: [0; 16],
         extras_sum: 0,
@@ -112,7 +122,7 @@ pub(crate) fn add_hired(
     requires few { trip.old.pulses ≤ 9000000000000000000 }
     requires range { IsLawfulTrip tables.now last_tick trip.old }
     ensures saved { (s : Setting) (t : model.MeterTrip) (x : Context) → IsSettingOf s tables.now seal.now
-        → weights ≡ rate_by s.tariff tables.now.constant x → trip.old ≡ model.core_trip_of s t
+        → weights ≡ weights_in_force s.tariff tables.now.constant x → trip.old ≡ model.core_trip_of s t
         → trip.new ≡ model.core_trip_of s (model.with_part (model.InHired pulses x) t) }
     ensures range { IsLawfulTrip tables.now longest_trip trip.new }
     ensures counts { (trip.new.pulses ≡ trip.old.pulses + pulses) × (trip.new.ticks ≡ trip.old.ticks + 1) }
@@ -173,11 +183,12 @@ pub(crate) fn fare(trip: &CoreTrip, tables: &Tables) -> u64
     requires range { IsLawfulTrip tables.now longest_trip trip.now }
     ensures value { (s : Setting) (t : model.MeterTrip) → IsTariffOf s tables.now → trip.now ≡ model.core_trip_of s t
         → result ≡ model.fare_of s t }
-    ensures exact { result ≡ shown_fare trip.now.initial trip.now.minimum tables.now.step
+    ensures exact { result ≡ model.fare_by_fees trip.now.fees tables.now.step
         (steps_of tables.now.rounding trip.now.meterage) }
     ensures most { result ≤ largest_amount }
 {
-    trip.meterage.shown(trip.initial, trip.minimum, tables.step(), tables.rounding())
+    let fees = trip.fees;
+    trip.meterage.shown(fees.initial, fees.minimum, tables.step(), tables.rounding())
 }
 
 /// How often the supplement of a number was added.

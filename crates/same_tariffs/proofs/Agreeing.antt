@@ -1,10 +1,8 @@
 -- What two settings agree on, so that their meters do the same.
 use Rattle.std.proofs.Common.{◌≡◌, ℕ, ◌<◌, ◌≤◌}
 use Rattle.taxi_units.specs.Time.{last_tick}
-use Rattle.tariff_check.specs.Parts.{positions_of, zones_of}
-use Rattle.tariff_check.specs.DisplayStep.{display_step}
-use Rattle.tariff_check.specs.Amounts.{initial_by}
-use Rattle.tariff_check.specs.Parts.{supplement_of}
+use Rattle.tariff_check.specs.Amounts.{fees_in_force}
+use Rattle.tariff_check.specs.SoundTariff.{supplement_numbered}
 use Rattle.meter_states.specs.Charge.{charge_at}
 use Rattle.meter_states.specs.Interval.{context_now, context_of, ticks_so_far}
 use Rattle.meter_states.specs.Meter.{Meter}
@@ -17,14 +15,14 @@ pub record Agree (s t : Setting) : Type 0 where
   pub constant : s.constant ≡ t.constant
   pub offsets : s.offsets ≡ t.offsets
   pub decimals : s.tariff.decimals ≡ t.tariff.decimals
-  pub step : display_step s.tariff ≡ display_step t.tariff
-  pub positions : positions_of s.tariff.lines ≡ positions_of t.tariff.lines
-  pub zones : zones_of s.tariff.lines ≡ zones_of t.tariff.lines
-  pub supplements : (n : ℕ) → supplement_of s.tariff.lines n ≡ supplement_of t.tariff.lines n
-  pub some_step : 0 < (display_step s.tariff).0
+  pub step : s.tariff.step ≡ t.tariff.step
+  pub positions : s.tariff.positions ≡ t.tariff.positions
+  pub zones : s.tariff.zones ≡ t.tariff.zones
+  pub supplements : (n : ℕ) → supplement_numbered s.tariff.supplements n ≡ supplement_numbered t.tariff.supplements n
+  pub some_step : 0 < s.tariff.step.0
   pub some_unit : 0 < unit_of s
   pub also_unit : 0 < unit_of t
   pub rates : (m : Meter) → IsPlaced s m → ticks_so_far m.trip ≤ last_tick → (p : ℕ)
       → IsSameMoney (unit_of s) (unit_of t) (charge_at s (context_of s m) p) (charge_at t (context_of t m) p)
-  pub hirings : (m : Meter) → IsPlaced s m → initial_by s.tariff (context_now s m) ≡ initial_by t.tariff
-      (context_now t m)
+  pub hirings : (m : Meter) → IsPlaced s m
+      → fees_in_force s.tariff (context_now s m) ≡ fees_in_force t.tariff (context_now t m)

@@ -35,39 +35,42 @@ pub same_charges_show_the_same_steps-steps : (u v : ℕ) (rounding : Rounding) (
     → AreOpeningsAlike u v o p → IsSameMoney u v a b → steps_above rounding o a ≡ steps_above rounding p b
 same_charges_show_the_same_steps-steps = steps-same
 
-pub same_tariffs_run_alike-outcomes : (s t : Setting) (d e : Durable) (events : List Event) → AreSameSettings s t
-    → All IsTimely events → HoldGoesOn s.tariff d.hold → AreStoresAlike s t d e
+pub same_tariffs_run_alike-outcomes : (a b : Tree) (s t : Setting) (d e : Durable) (events : List Event)
+    → AreSameSettings a b s t → All IsTimely events → HoldGoesOn s.tariff d.hold → AreStoresAlike s t d e
     → AreOutcomesAlike s t (whole_run s d events) (whole_run t e events)
-same_tariffs_run_alike-outcomes s t d e events same timely on alike = whole-alike s t d e events (agree s t same)
-    (has-places s same.one) timely on alike
+same_tariffs_run_alike-outcomes a b s t d e events same timely on alike =
+    whole-alike s t d e events (agree a b s t same) (has-places a s same.one) timely on alike
 
-pub same_tariffs_run_alike-stores : (s t : Setting) (d e : Durable) (events : List Event) → AreSameSettings s t
-    → All IsTimely events → HoldGoesOn s.tariff d.hold → AreStoresAlike s t d e
+pub same_tariffs_run_alike-stores : (a b : Tree) (s t : Setting) (d e : Durable) (events : List Event)
+    → AreSameSettings a b s t → All IsTimely events → HoldGoesOn s.tariff d.hold → AreStoresAlike s t d e
     → AreStoresAlike s t (whole_run s d events).next.durable (whole_run t e events).next.durable
-same_tariffs_run_alike-stores s t d e events same timely on alike =
-    let next = (same_tariffs_run_alike-outcomes s t d e events same timely on alike).next in
+same_tariffs_run_alike-stores a b s t d e events same timely on alike =
+    let next = (same_tariffs_run_alike-outcomes a b s t d e events same timely on alike).next in
     record { hold = next.hold; others = ap (λ (m : Meter). m.durable) next.others }
 
-pub same_tariffs_run_alike-goes_on : (s t : Setting) (d : Durable) (events : List Event) → AreSameSettings s t
-    → All IsTimely events → HoldGoesOn s.tariff d.hold
+pub same_tariffs_run_alike-goes_on : (a b : Tree) (s t : Setting) (d : Durable) (events : List Event)
+    → AreSameSettings a b s t → All IsTimely events → HoldGoesOn s.tariff d.hold
     → HoldGoesOn s.tariff (whole_run s d events).next.durable.hold
-same_tariffs_run_alike-goes_on s t d events same timely on =
-    (within-ended s (run s events (opened s d)).next (within-run s events (opened s d) (has-places s same.one) timely
-    (within-opened s d (has-places s same.one) on))).hold
+same_tariffs_run_alike-goes_on a b s t d events same timely on =
+    (within-ended s (run s events (opened s d)).next (within-run s events (opened s d) (has-places a s same.one) timely
+    (within-opened s d (has-places a s same.one) on))).hold
 
-pub intervals_are_charged_in_contexts_of_a_meter-reached : (s : Setting) (durable : Durable) (events : List Event)
-    → IsSettingInRange s → All IsTimely events → HoldGoesOn s.tariff durable.hold
+pub intervals_are_charged_in_contexts_of_a_meter-reached : (t : Tree) (s : Setting) (durable : Durable)
+    (events : List Event)
+    → IsSettingInRange t s → All IsTimely events → HoldGoesOn s.tariff durable.hold
     → IsWithinReach s (run s events (opened s durable)).next
-intervals_are_charged_in_contexts_of_a_meter-reached s durable events range timely on =
-    within-run s events (opened s durable) (has-places s range) timely (within-opened s durable (has-places s range) on)
+intervals_are_charged_in_contexts_of_a_meter-reached t s durable events range timely on =
+    within-run s events (opened s durable) (has-places t s range) timely
+    (within-opened s durable (has-places t s range) on)
 
-pub intervals_are_charged_in_contexts_of_a_meter-interval : (s : Setting) (m : Meter) → IsSettingInRange s
-    → IsWithinReach s m → IsChargedIn s m (meter_context_at s m.began m)
-intervals_are_charged_in_contexts_of_a_meter-interval s m range within = charged-in s m range within.placed within.ticks
+pub intervals_are_charged_in_contexts_of_a_meter-interval : (t : Tree) (s : Setting) (m : Meter) → IsSettingInRange t s
+    → IsWithinReach s m → IsChargedIn t s m (meter_context_at s m.began m)
+intervals_are_charged_in_contexts_of_a_meter-interval t s m range within =
+    charged-in t s m range within.placed within.ticks
 
-pub intervals_are_charged_in_contexts_of_a_meter-hiring : (s : Setting) (m : Meter) → IsSettingInRange s
-    → IsWithinReach s m → IsHiredIn s m (without_trip (meter_context_at s m.clock m))
-intervals_are_charged_in_contexts_of_a_meter-hiring s m range within = hired-in s m range within.placed
+pub intervals_are_charged_in_contexts_of_a_meter-hiring : (t : Tree) (s : Setting) (m : Meter) → IsSettingInRange t s
+    → IsWithinReach s m → IsHiredIn t s m (without_trip (meter_context_at s m.clock m))
+intervals_are_charged_in_contexts_of_a_meter-hiring t s m range within = hired-in t s m range within.placed
 
 pub each_context_is_reached : (t : Tree) (k : ℕ) (mode : Mode) (hold : ℕ) (c : MeterContext) → IsWritable t → IsSound t
     → IsMeterContext t c → IsReached t k mode hold c

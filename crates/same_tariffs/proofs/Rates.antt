@@ -11,13 +11,15 @@ use Rattle.tariff_check.specs.Faults.{IsSound}
 use Rattle.tariff_check.specs.Measure.{measure_of}
 use Rattle.tariff_check.specs.Parts.{RateNumbers, rates_of}
 use Rattle.tariff_check.specs.Sound.{IsSoundRate}
+use Rattle.tariff_check.specs.SoundLookups.{rate_in_force}
+use Rattle.tariff_check.specs.SoundTariff.{sound_of}
 use Rattle.tariff_check.proofs.Laws.{lines_that_hold_are_there-rate, measures_are_least-least, measures_are_least-sound}
 use Rattle.tariff_check.proofs.Laws.{sound_tariffs_have_sound_parts-parts}
 use Rattle.tariff_compare.specs.Same.{cost_same}
 use Rattle.tariff_syntax.specs.Tree.{Tree}
 use Rattle.tariff_syntax.specs.Writable.{IsWritable}
 use Rattle.tariff_syntax.specs.declared.context.Context.{Context}
-use Rattle.meter_states.specs.Charge.{charge_by, distance_charge, rate_of, time_charge}
+use Rattle.meter_states.specs.Charge.{charge_by, distance_charge, time_charge}
 use Rattle.same_tariffs.specs.Alike.{IsSameMoney}
 use Rattle.same_tariffs.proofs.Money.{sum-same, test-same}
 
@@ -40,7 +42,8 @@ both-measures P (r ∷ rs) each =
     All-cons (λ (q : RateNumbers). P q.b × P q.e) r rs (All-head P r.b (r.e ∷ rest) each, All-head P r.e rest later)
     (both-measures P rs (All-tail P r.e rest later))
 
-pub rate-fits : (t : Tree) (x : Context) → IsWritable t → IsSound t → FitsMeasure (measure_of t.lines) (rate_of t x)
+pub rate-fits : (t : Tree) (x : Context) → IsWritable t → IsSound t
+    → FitsMeasure (measure_of t.lines) (rate_in_force (sound_of t) x)
 rate-fits t x writable sound =
     let found = lines_that_hold_are_there-rate t x sound in
     let common = measure_of t.lines in

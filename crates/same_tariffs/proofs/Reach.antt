@@ -17,10 +17,8 @@ use Rattle.totals_record.specs.Entries.{closes}
 use Rattle.totals_record.specs.declared.durable_state.Durable.{Durable}
 use Rattle.totals_record.specs.declared.entry.Entry.{Entry}
 use Rattle.totals_record.specs.declared.trip.Trip.{Trip}
-use Rattle.tariff_check.specs.Parts.{positions_of, zones_of}
-use Rattle.tariff_check.specs.Parts.{supplement_of}
+use Rattle.tariff_check.specs.SoundTariff.{SoundTariff, supplement_numbered}
 use Rattle.tariff_check.specs.declared.values.Supplement.{Supplement}
-use Rattle.tariff_syntax.specs.Tree.{Tree}
 use Rattle.tariff_syntax.specs.Writable.{IsFromTo}
 use Rattle.meter_states.specs.Closing.{closed, entry_of, roaming_checked, roaming_checked_in, roaming_entered}
 use Rattle.meter_states.specs.Closing.{roaming_entry, trip_closed}
@@ -31,7 +29,7 @@ use Rattle.meter_states.specs.Keys.{extra_added, extra_added_to, hired, is_among
 use Rattle.meter_states.specs.Keys.{latched, position_set, zone_set}
 use Rattle.meter_states.specs.Lawful.{IsTimely}
 use Rattle.meter_states.specs.Meter.{Meter, Outcome, entered, held, quiet, refused}
-use Rattle.meter_states.specs.Run.{ended, ended_in, opened, run, trip_of}
+use Rattle.meter_states.specs.Run.{ended, ended_in, opened, run}
 use Rattle.meter_states.specs.Setting.{Setting}
 use Rattle.meter_states.specs.Step.{clock_read, expired, expired_or_pressed, latch_refused, off_step, powered_step}
 use Rattle.meter_states.specs.Step.{step, step_in, ticked}
@@ -39,7 +37,7 @@ use Rattle.meter_states.specs.Supplements.{times}
 use Rattle.meter_states.specs.Supply.{aborted, hold_taken, is_stopped, is_within_hold, held_or_closed, powered, resumed}
 use Rattle.meter_states.specs.Supply.{supply_came, supply_dropped}
 use Rattle.meter_states.specs.Trip.{InHired, InStopped, Part, Rest, MeterTrip, held_trip, ticks_in, with_extra}
-use Rattle.meter_states.specs.Trip.{with_part}
+use Rattle.meter_states.specs.Trip.{trip_of, with_part}
 use Rattle.same_tariffs.specs.Reached.{GoesOn, HoldGoesOn, IsPlace, IsPlaced, IsWithin, IsWithinReach}
 use Rattle.same_tariffs.proofs.Trips.{sum-more}
 use Rattle.taxi_units.specs.Limits.{hirings_end, last_number, roaming_most}
@@ -66,7 +64,7 @@ ticks-more part (Some t) n is = omega (arith, sum-more ticks_in t.parts part, is
 
 -- ---- entries and closings
 
-hold-after : (t : Tree) (closing : Bool) (hold : Option Trip) → HoldGoesOn t hold
+hold-after : (t : SoundTariff) (closing : Bool) (hold : Option Trip) → HoldGoesOn t hold
     → HoldGoesOn t (if closing then None else hold)
 hold-after t true hold x = tt
 hold-after t false hold x = x
@@ -124,11 +122,11 @@ within-set s m n false x y = x
 within-position : (s : Setting) (n : ℕ) (m : Meter) → IsWithin s last_tick m
     → IsWithin s last_tick (position_set s n m).next
 within-position s n m x =
-    within-set s m (record m { position = n }) (is_among (positions_of s.tariff.lines) n) x
+    within-set s m (record m { position = n }) (is_among s.tariff.positions n) x
     (λ is. record {
       placed = record {
         set = record {
-          position_in = among (positions_of s.tariff.lines) n is;
+          position_in = among s.tariff.positions n is;
           zone_in =
               x.placed.set.zone_in;
         };
@@ -141,13 +139,13 @@ within-position s n m x =
 
 within-zone : (s : Setting) (n : ℕ) (m : Meter) → IsWithin s last_tick m → IsWithin s last_tick (zone_set s n m).next
 within-zone s n m x =
-    within-set s m (record m { zone = n }) (is_among (zones_of s.tariff.lines) n) x
+    within-set s m (record m { zone = n }) (is_among s.tariff.zones n) x
     (λ is. record {
       placed = record {
         set = record {
           position_in = x.placed.set.position_in;
           zone_in =
-              among (zones_of s.tariff.lines) n is;
+              among s.tariff.zones n is;
         };
         clock_in = x.placed.clock_in;
         began_in = x.placed.began_in;
@@ -187,8 +185,8 @@ within-key s (keys.Position n) ForHire m x = within-position s n m x
 within-key s (keys.Position n) Hired m x = within-position s n m x
 within-key s (keys.Zone n) ForHire m x = within-zone s n m x
 within-key s (keys.Zone n) Hired m x = within-zone s n m x
-within-key s (keys.Extra n) Hired m x = within-added s n (supplement_of s.tariff.lines n) m x
-within-key s (keys.Extra n) Stopped m x = within-added s n (supplement_of s.tariff.lines n) m x
+within-key s (keys.Extra n) Hired m x = within-added s n (supplement_numbered s.tariff.supplements n) m x
+within-key s (keys.Extra n) Stopped m x = within-added s n (supplement_numbered s.tariff.supplements n) m x
 within-key s key operating m x = x
 
 within-press : (s : Setting) (latch : Option Key) (m : Meter) → IsWithin s last_tick m
@@ -282,11 +280,12 @@ within-dropped s m x =
     record { placed = after.placed; hold = after.hold; ticks = after.ticks }
 
 -- a tariff has at least one position and one zone
-pub record HasPlaces (t : Tree) : Type 0 where
-  pub positions : 1 ≤ positions_of t.lines
-  pub zones : 1 ≤ zones_of t.lines
+pub record HasPlaces (t : SoundTariff) : Type 0 where
+  pub positions : 1 ≤ t.positions
+  pub zones : 1 ≤ t.zones
 
-first-place : (t : Tree) (clock began : ℕ) → HasPlaces t → IsSecond clock → IsSecond began → IsPlace t 1 1 clock began
+first-place : (t : SoundTariff) (clock began : ℕ) → HasPlaces t → IsSecond clock → IsSecond began
+    → IsPlace t 1 1 clock began
 first-place t clock began some is also =
     record {
       set = record { position_in = (omega arith, some.positions); zone_in = (omega arith, some.zones) };

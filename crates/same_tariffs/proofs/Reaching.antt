@@ -23,13 +23,12 @@ use Rattle.totals_record.specs.States.{after, first_state}
 use Rattle.totals_record.specs.declared.change.Change.TheVariants as changes
 use Rattle.totals_record.specs.declared.durable_state.Durable.{Durable}
 use Rattle.totals_record.specs.declared.trip.Trip.{Trip}
-use Rattle.tariff_calendar.specs.Lists.{is_holiday}
 use Rattle.tariff_check.specs.Faults.{IsSound}
-use Rattle.tariff_check.specs.Parts.{positions_of, zones_of}
+use Rattle.tariff_check.specs.SoundLookups.{has_date}
 use Rattle.tariff_check.proofs.Laws.{sound_tariffs_have_sound_parts-parts}
 use Rattle.tariff_compare.specs.Contexts.{IsMeterContext, context_at, most_pulses}
 use Rattle.tariff_compare.specs.declared.meter_context.MeterContext.{MeterContext}
-use Rattle.tariff_check.specs.Amounts.{initial_by}
+use Rattle.tariff_check.specs.Amounts.{fees_in_force, initial_by}
 use Rattle.tariff_check.specs.declared.values.Initial.{Initial}
 use Rattle.tariff_syntax.specs.Tree.{Tree}
 use Rattle.tariff_syntax.specs.Writable.{IsFromTo, IsWritable}
@@ -44,7 +43,7 @@ use Rattle.meter_states.specs.Setting.{Setting, under_offset, unit_of}
 use Rattle.meter_states.specs.Step.{expired, step}
 use Rattle.meter_states.specs.Supply.{aborted, hold_taken, is_within_hold, powered, resumed, turned_off}
 use Rattle.meter_states.specs.Trip.{InHired, Part, Rest, MeterTrip, begun, held_trip, pulses_in, pulses_of, ticks_in}
-use Rattle.meter_states.specs.Trip.{ticks_of, with_part}
+use Rattle.meter_states.specs.Trip.{fees_of, ticks_of, with_part}
 use Rattle.meter_states.proofs.Laws.{runs_add_up}
 use Rattle.same_tariffs.specs.Contexts.{without_trip}
 use Rattle.same_tariffs.specs.Drives.{BeginsIn, IsReached, WasHiredIn, drop, drops, events_to, hire, meter_after}
@@ -80,8 +79,7 @@ pub record IsAt (b : MeterTrip) (second position zone pulses ticks number : ℕ)
   pub pulses_are : pulses_of trip ≡ pulses
   pub ticks_are : ticks_of trip ≡ ticks
   pub number_is : durable.number ≡ number
-  pub initial_is : trip.initial ≡ b.initial
-  pub minimum_is : trip.minimum ≡ b.minimum
+  pub fees_are : trip.fees ≡ b.fees
   pub cover_is : trip.opening.cover ≡ b.opening.cover
 
 -- a number that isn't below the most
@@ -137,8 +135,7 @@ tick-at s b second position zone pulses ticks number m short at =
       pulses_are = same;
       ticks_are = more;
       number_is = at.number_is;
-      initial_is = at.initial_is;
-      minimum_is = at.minimum_is;
+      fees_are = at.fees_are;
       cover_is = at.cover_is;
     }
 
@@ -216,8 +213,7 @@ drop-at s b second position zone pulses ticks number p m few low at =
       pulses_are = omega (arith, sum-more pulses_in at.trip.parts (part_of_drop p), at.pulses_are, few);
       ticks_are = omega (arith, sum-more ticks_in at.trip.parts (part_of_drop p), at.ticks_are);
       number_is = ap (λ (n : ℕ). n + 1) at.number_is;
-      initial_is = at.initial_is;
-      minimum_is = at.minimum_is;
+      fees_are = at.fees_are;
       cover_is = at.cover_is;
     }
 
@@ -243,8 +239,7 @@ counted b second position zone m p q t u n k ep et en at = record {
   pulses_are = at.pulses_are ∙ ep;
   ticks_are = at.ticks_are ∙ et;
   number_is = at.number_is ∙ en;
-  initial_is = at.initial_is;
-  minimum_is = at.minimum_is;
+  fees_are = at.fees_are;
   cover_is = at.cover_is;
 }
 
@@ -313,15 +308,14 @@ up-first : (s : Setting) (second : ℕ) → (step s (Up second) (opened s first_
     (for_hire second 1 1 None [] None)
 up-first s second = refl
 
-position-first : (s : Setting) (second n : ℕ) (last : Option Display) → is_among (positions_of s.tariff.lines) n ≡ true
+position-first : (s : Setting) (second n : ℕ) (last : Option Display) → is_among s.tariff.positions n ≡ true
     → (run s (events.Key (Position n) ∷ Tick ∷ []) (for_hire second 1 1 None [] last)).next ≡ showing s
     (for_hire second n 1 None (0 ∷ []) last)
 position-first s second n last is =
     let m = for_hire second 1 1 None (0 ∷ []) last in
     ap (λ (b : Bool). after_key s (if b then quiet (record m { position = n }) else refused why.NoSuch m).next) is
 
-zone-second : (s : Setting) (second position n : ℕ) (last : Option Display) → is_among (zones_of s.tariff.lines)
-    n ≡ true
+zone-second : (s : Setting) (second position n : ℕ) (last : Option Display) → is_among s.tariff.zones n ≡ true
     → (run s (events.Key (Zone n) ∷ Tick ∷ []) (for_hire second position 1 None (0 ∷ []) last)).next ≡ showing s
     (for_hire second position n None (0 ∷ 0 ∷ []) last)
 zone-second s second position n last is =
@@ -331,13 +325,13 @@ zone-second s second position n last is =
 -- the trip that a hiring begins there
 abbrev begun_there : Setting → (second position zone : ℕ) → MeterTrip
 begun_there s second position zone =
-    begun s (initial_by s.tariff (context_now s (for_hire second position zone None (0 ∷ 0 ∷ 0 ∷ []) None))) second 0
+    begun s (fees_in_force s.tariff (context_now s (for_hire second position zone None (0 ∷ 0 ∷ 0 ∷ []) None))) second 0
 
 hired-third : (s : Setting) (second position zone : ℕ) (last : Option Display)
     → IsAt (begun_there s second position zone) second position zone 0 0 1
     (run s (events.Key Hire ∷ Tick ∷ []) (for_hire second position zone None (0 ∷ 0 ∷ []) last)).next
 hired-third s second position zone last =
-    let fee = initial_by s.tariff (context_now s (for_hire second position zone None (0 ∷ 0 ∷ 0 ∷ []) last)) in
+    let fee = fees_in_force s.tariff (context_now s (for_hire second position zone None (0 ∷ 0 ∷ 0 ∷ []) last)) in
     let t = begun s fee second 0 in
     record {
       shown_last = Some (display_of s (hired_at second position zone last t first_state));
@@ -347,16 +341,15 @@ hired-third s second position zone last =
       pulses_are = refl;
       ticks_are = refl;
       number_is = refl;
-      initial_is = refl;
-      minimum_is = refl;
+      fees_are = refl;
       cover_is = refl;
     }
 
 among-is : (most n : ℕ) → IsFromTo 1 most n → is_among most n ≡ true
 among-is most n is = grind (arith, common_steps)
 
-hire-at : (s : Setting) (second position zone : ℕ) → IsFromTo 1 (positions_of s.tariff.lines) position
-    → IsFromTo 1 (zones_of s.tariff.lines) zone
+hire-at : (s : Setting) (second position zone : ℕ) → IsFromTo 1 s.tariff.positions position
+    → IsFromTo 1 s.tariff.zones zone
     → IsAt (begun_there s second position zone) second position zone 0 0 1
     (run s (hire second position zone) (opened s first_state)).next
 hire-at s second position zone one other =
@@ -364,16 +357,16 @@ hire-at s second position zone one other =
     let m = showing s (for_hire second position 1 None (0 ∷ []) first) in
     let n = showing s (for_hire second position zone None (0 ∷ 0 ∷ []) m.shown) in
     let third = hired-third s second position zone n.shown in
-    let set = position-first s second position first (among-is (positions_of s.tariff.lines) position one) in
-    let also = zone-second s second position zone m.shown (among-is (zones_of s.tariff.lines) zone other) in
+    let set = position-first s second position first (among-is s.tariff.positions position one) in
+    let also = zone-second s second position zone m.shown (among-is s.tariff.zones zone other) in
     moved (begun_there s second position zone) second position zone 0 0 1 _ _
     (ap (λ (x : Meter). (run s (events.Key (Zone zone) ∷ Tick ∷ events.Key Hire ∷ Tick ∷ []) x).next) set
     ∙ ap (λ (x : Meter). (run s (events.Key Hire ∷ Tick ∷ []) x).next) also) third
 
 -- ---- the whole drive
 
-events-at : (s : Setting) (second : ℕ) (c : MeterContext) → IsFromTo 1 (positions_of s.tariff.lines) c.position
-    → IsFromTo 1 (zones_of s.tariff.lines) c.zone → c.ticks ≤ last_tick → c.pulses ≤ most_pulses
+events-at : (s : Setting) (second : ℕ) (c : MeterContext) → IsFromTo 1 s.tariff.positions c.position
+    → IsFromTo 1 s.tariff.zones c.zone → c.ticks ≤ last_tick → c.pulses ≤ most_pulses
     → (k : ℕ) × IsAt (begun_there s second c.position c.zone) second c.position c.zone c.pulses c.ticks k
     (run s (events_to second c) (opened s first_state)).next
 events-at s second c one other short few =
@@ -412,7 +405,7 @@ context_from s day minute position zone pulses ticks =
       zone = zone;
       weekday = weekday_of day;
       month_day = date_place date.month date.date;
-      holiday = is_holiday s.tariff.lines date.year date.month date.date;
+      holiday = has_date s.tariff.holidays date.year date.month date.date;
       minute = minute;
       pulses = pulses;
       ticks = ticks;
@@ -446,7 +439,7 @@ module _ (t : Tree) (k : ℕ) (mode : Mode) (hold : ℕ) (c : MeterContext) (is 
 
   -- the last interval of the drive begins in the context
   begins-there : (number : ℕ) (m : Meter) → IsAt (begun_there here is.time.second c.position c.zone) is.time.second
-      c.position c.zone c.pulses c.ticks number m → BeginsIn here c m
+      c.position c.zone c.pulses c.ticks number m → BeginsIn t here c m
   begins-there number m at = record {
     hired = ap (λ (n : Meter). n.operating) at.state;
     begins = ap (λ (n : Meter). n.taken) at.state;
@@ -459,7 +452,7 @@ module _ (t : Tree) (k : ℕ) (mode : Mode) (hold : ℕ) (c : MeterContext) (is 
   -- and its trip was hired in the same, without ticks and pulses
   hired-there : (number : ℕ) (m : Meter) → IsAt (begun_there here is.time.second c.position c.zone) is.time.second
       c.position c.zone c.pulses c.ticks number m
-      → WasHiredIn here (without_trip c) m
+      → WasHiredIn t here (without_trip c) m
   hired-there number m at =
       let fee : initial_by t
       (context_now here (for_hire is.time.second c.position c.zone None (0 ∷ 0 ∷ 0 ∷ []) None)) ≡ initial_by t
@@ -468,8 +461,7 @@ module _ (t : Tree) (k : ℕ) (mode : Mode) (hold : ℕ) (c : MeterContext) (is 
       record {
         trip = at.trip;
         has = ap (λ (n : Meter). n.trip) at.state;
-        amount = at.initial_is ∙ ap (λ (i : Initial). i.amount) fee;
-        minimum = at.minimum_is ∙ ap (λ (i : Initial). i.minimum) fee;
+        fees = at.fees_are ∙ ap fees_of fee;
         cover = at.cover_is ∙ ap (λ (i : Initial). i.covers * unit_of here) fee;
       }
 

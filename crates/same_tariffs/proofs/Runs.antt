@@ -7,9 +7,10 @@ use Rattle.taxi_units.specs.declared.event.Operating.TheVariants.{Off, ForHire, 
 use Rattle.totals_record.specs.declared.durable_state.Durable.{Durable}
 use Rattle.meter_states.specs.Lawful.{IsTimely}
 use Rattle.meter_states.specs.Meter.{Meter}
-use Rattle.meter_states.specs.Run.{ended, ended_in, opened, run, trip_of, whole_run}
+use Rattle.meter_states.specs.Run.{ended, ended_in, opened, run, whole_run}
 use Rattle.meter_states.specs.Setting.{Setting}
 use Rattle.meter_states.specs.Step.{step}
+use Rattle.meter_states.specs.Trip.{trip_of}
 use Rattle.same_tariffs.specs.Alike.{AreMetersAlike, AreOutcomesAlike, AreStoresAlike, with_trips}
 use Rattle.same_tariffs.specs.Reached.{HoldGoesOn, IsWithinReach}
 use Rattle.same_tariffs.proofs.Agreeing.{Agree}

@@ -19,9 +19,8 @@ use Rattle.totals_record.specs.Entries.{closes}
 use Rattle.totals_record.specs.States.{after}
 use Rattle.totals_record.specs.declared.entry.Entry.{Entry}
 use Rattle.totals_record.specs.declared.trip.Trip.{Trip}
-use Rattle.tariff_check.specs.Parts.{positions_of, zones_of}
-use Rattle.tariff_check.specs.Amounts.{initial_by}
-use Rattle.tariff_check.specs.Parts.{supplement_of}
+use Rattle.tariff_check.specs.Amounts.{fees_in_force}
+use Rattle.tariff_check.specs.SoundTariff.{supplement_numbered}
 use Rattle.tariff_check.specs.declared.values.Supplement.{Supplement}
 use Rattle.tariff_syntax.specs.declared.context.Context.{Context}
 use Rattle.meter_states.specs.Charge.{charge_at}
@@ -243,12 +242,13 @@ hiring-alike s t true m trip hold agree placed same also = refused-alike s t why
     (meter-alike s t m trip hold same also)
 hiring-alike s t false m trip hold agree placed same also =
     let n = with_trips trip hold m in
-    let fee : initial_by s.tariff (context_now s m) ≡ initial_by t.tariff (context_now t n) = agree.hirings m placed
-    ∙ ap (initial_by t.tariff) (now-same s t m trip hold same) in
-    let trips = begun-alike s t (initial_by s.tariff (context_now s m)) (initial_by t.tariff (context_now t n)) m.clock
+    let fee : fees_in_force s.tariff (context_now s m) ≡ fees_in_force t.tariff (context_now t n) =
+    agree.hirings m placed ∙ ap (fees_in_force t.tariff) (now-same s t m trip hold same) in
+    let trips =
+    begun-alike s t (fees_in_force s.tariff (context_now s m)) (fees_in_force t.tariff (context_now t n)) m.clock
     (sum m.roaming) fee in
     quiet-alike s t (hired s m) (hired t n)
-    (meter-alike s t (hired s m) (Some (begun t (initial_by t.tariff (context_now t n)) m.clock (sum m.roaming)))
+    (meter-alike s t (hired s m) (Some (begun t (fees_in_force t.tariff (context_now t n)) m.clock (sum m.roaming)))
     hold trips also)
 
 set-alike : (s t : Setting) (b : Bool) (m n k l : Meter) → AreMetersAlike s t m n → AreMetersAlike s t k l
@@ -263,7 +263,7 @@ position-alike s t n m trip hold agree same also =
     let o = with_trips trip hold m in
     subst (λ (most : ℕ). AreOutcomesAlike s t (position_set s n m)
     (if is_among most n then quiet (record o { position = n }) else refused why.NoSuch o)) agree.positions
-    (set-alike s t (is_among (positions_of s.tariff.lines) n) m o (record m { position = n })
+    (set-alike s t (is_among s.tariff.positions n) m o (record m { position = n })
     (record o { position = n }) (meter-alike s t m trip hold same also)
     (meter-alike s t (record m { position = n }) trip hold same also))
 
@@ -274,7 +274,7 @@ zone-alike s t n m trip hold agree same also =
     let o = with_trips trip hold m in
     subst (λ (most : ℕ). AreOutcomesAlike s t (zone_set s n m) (if is_among most n then quiet (record o { zone = n })
     else refused why.NoSuch o)) agree.zones
-    (set-alike s t (is_among (zones_of s.tariff.lines) n) m o (record m { zone = n }) (record o { zone = n })
+    (set-alike s t (is_among s.tariff.zones n) m o (record m { zone = n }) (record o { zone = n })
     (meter-alike s t m trip hold same also)
     (meter-alike s t (record m { zone = n }) trip hold same also))
 
@@ -304,7 +304,8 @@ added-alike s t n supplement (Some a) None m trip hold trips same also = absurd 
 added-alike s t n supplement (Some a) (Some b) m trip hold trips same also =
     subst (λ (xs : List ℕ). AreOutcomesAlike s t (extra_added_to n supplement (Some a) m)
     (if nat_le supplement.max (times n xs) then refused why.AtMost (with_trips trip hold m) else quiet
-    (record (with_trips trip hold m) { trip = Some (with_extra n b) }))) trips.extras
+    (record (with_trips trip hold m) { trip = Some (with_extra n b) })))
+    (ap (λ (x : MeterTrip). x.extras) trips.others)
     (most-alike s t (nat_le supplement.max (times n a.extras)) n a b m trip hold trips same also)
 
 supplement-alike : (s t : Setting) (n : ℕ) (supplement : Option Supplement) (m : Meter) (trip : Option MeterTrip)
@@ -317,12 +318,13 @@ supplement-alike s t n (Some supplement) m trip hold same also = added-alike s t
 
 extra-key : (s t : Setting) (n : ℕ) (m : Meter) (trip : Option MeterTrip) (hold : Option Trip) → Agree s t
     → AreTripsOfBothAlike s t m.trip trip → AreHoldsAlike s t m.durable.hold hold
-    → AreOutcomesAlike s t (extra_added n (supplement_of s.tariff.lines n) m)
-    (extra_added n (supplement_of t.tariff.lines n) (with_trips trip hold m))
+    → AreOutcomesAlike s t (extra_added n (supplement_numbered s.tariff.supplements n) m)
+    (extra_added n (supplement_numbered t.tariff.supplements n) (with_trips trip hold m))
 extra-key s t n m trip hold agree same also =
-    subst (λ (x : Option Supplement). AreOutcomesAlike s t (extra_added n (supplement_of s.tariff.lines n) m)
+    subst (λ (x : Option Supplement).
+    AreOutcomesAlike s t (extra_added n (supplement_numbered s.tariff.supplements n) m)
     (extra_added n x (with_trips trip hold m))) (agree.supplements n)
-    (supplement-alike s t n (supplement_of s.tariff.lines n) m trip hold same also)
+    (supplement-alike s t n (supplement_numbered s.tariff.supplements n) m trip hold same also)
 
 key-by : (s t : Setting) (key : Key) (operating : Operating) (m : Meter) (trip : Option MeterTrip) (hold : Option Trip)
     → Agree s t → IsPlaced s m → AreTripsOfBothAlike s t m.trip trip → AreHoldsAlike s t m.durable.hold hold

@@ -6,17 +6,14 @@ use Rattle.std.specs.Str.Lines.{strip_carriage_return}
 use Rattle.std.proofs.lemmas.List.Elements.{All-append, All-cons, All-nil}
 use Rattle.std.proofs.lemmas.Grind.{flat_map-append}
 use Rattle.taxi_units.specs.declared.event.Event.{Event}
-use Rattle.taxi_units.specs.declared.event.Event.TheVariants.{Up, Down, Pulses, Tick, Clock}
-use Rattle.taxi_units.specs.declared.event.Event.TheVariants as events
-use Rattle.taxi_units.specs.declared.event.Key.TheVariants.{Hire, Stop, Clear, Position, Zone, Extra}
+use Rattle.taxi_units.specs.declared.event.Event.TheVariants.{Up, Pulses, Tick, Clock}
 use Rattle.drive_text.specs.declared.run.Run.{Run}
 use Rattle.drive_text.specs.Ending.{stream_limit, events_of}
 use Rattle.drive_text.specs.Fields.{line_runs}
 use Rattle.drive_text.specs.Lines.{ended_lines}
 use Rattle.drive_text.specs.Runs.{interval_events, intervals_events, run_events}
 use Rattle.drive_text.specs.Table.{Means}
-use Rattle.drive_text.specs.Table.Means.{empty, comment, up, down, clock, pulses, tick, intervals, hire, stop, clear}
-use Rattle.drive_text.specs.Table.Means.{position, zone, extra}
+use Rattle.drive_text.specs.Table.Means.{empty, comment, up, clock, intervals}
 use Rattle.drive_text.proofs.Laws.{lines_give_what_the_table_says}
 use Rattle.meter_states.specs.Lawful.{IsTimely}
 
@@ -36,18 +33,10 @@ means-timely : (text : List ℕ) (runs : List Run) → Means text runs → All I
 means-timely text runs empty = All-nil IsTimely
 means-timely text runs (comment more) = All-nil IsTimely
 means-timely text runs (up s digits h) = one (Up s) (h.above, h.below)
-means-timely text runs down = one Down tt
 means-timely text runs (clock s digits h) = one (Clock s) (h.above, h.below)
-means-timely text runs (pulses p digits h) = one (Pulses p) tt
-means-timely text runs tick = one Tick tt
 means-timely text runs (intervals p n first second h k) = All-append IsTimely (intervals_events p n) []
     (intervals-timely p n) (All-nil IsTimely)
-means-timely text runs hire = one (events.Key Hire) tt
-means-timely text runs stop = one (events.Key Stop) tt
-means-timely text runs clear = one (events.Key Clear) tt
-means-timely text runs (position n digits h) = one (events.Key (Position n)) tt
-means-timely text runs (zone n digits h) = one (events.Key (Zone n)) tt
-means-timely text runs (extra n digits h) = one (events.Key (Extra n)) tt
+means-timely text runs line = one _ tt
 
 runs-timely : (line : List ℕ) (runs : Option (List Run)) → line_runs line ≡ runs
     → All IsTimely (flat_map run_events (unwrap_or runs []))

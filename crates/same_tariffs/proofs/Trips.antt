@@ -2,26 +2,25 @@
 use Rattle.std.proofs.Common.{◌≡◌, ℕ, ℤ, ◌+◌, ◌*◌, ◌<◌, mul-pos, Bool, List, [], ◌∷◌, ◌++◌, map, sum, Option, Some}
 use Rattle.std.proofs.Common.{None, option_map, refl, ap, sym, subst, ◌∙◌, arith}
 use Rattle.std.proofs.lemmas.Grind.{common_steps}
-use Rattle.drive_modes.specs.Fare.{shown_fare, steps_above}
+use Rattle.drive_modes.specs.Fare.{steps_above}
 use Rattle.drive_modes.specs.declared.meterage.Meterage.{Meterage}
 use Rattle.drive_modes.specs.declared.meterage.Rounding.{Rounding}
 use Rattle.taxi_units.specs.declared.receipt.Kind.{Kind}
 use Rattle.totals_record.specs.declared.trip.Trip.{Trip}
 use Rattle.drive_modes.specs.Distance.{millimetres_of}
-use Rattle.tariff_check.specs.DisplayStep.{display_step}
-use Rattle.tariff_check.specs.Parts.{supplement_of}
+use Rattle.tariff_check.specs.SoundTariff.{supplement_numbered}
 use Rattle.tariff_check.specs.declared.values.Initial.{Initial}
 use Rattle.meter_states.specs.Closing.{entry_of, receipt_of}
 use Rattle.meter_states.specs.Display.{display_of, extras_shown, fare_shown}
 use Rattle.meter_states.specs.Interval.{pulses_so_far, ticks_so_far}
 use Rattle.meter_states.specs.Meter.{Meter}
-use Rattle.meter_states.specs.Run.{trip_of}
 use Rattle.meter_states.specs.Setting.{Setting, modulus_of, rounding_of, stamp_at, unit_of}
-use Rattle.meter_states.specs.Supplements.{amount_in, amounts_of, counts_of}
+use Rattle.meter_states.specs.Supplements.{amount_in, amounts_of}
 use Rattle.meter_states.specs.Trip as model
-use Rattle.meter_states.specs.Trip.{InHired, Part, Rest, MeterTrip, begun, charge_in, charges_of, fare_of, held_trip}
-use Rattle.meter_states.specs.Trip.{pulses_in, pulses_of, core_trip_of, steps_shown, ticks_in, ticks_of, with_extra}
-use Rattle.meter_states.specs.Trip.{with_part}
+use Rattle.meter_states.specs.Trip.{Part, MeterTrip, begun, charge_in, charges_of, core_trip_of, fare_by_fees, fare_of}
+use Rattle.meter_states.specs.Trip.{held_trip, pulses_in, pulses_of, saved_at, steps_shown, ticks_in, trip_of}
+use Rattle.meter_states.specs.Trip.{with_extra, with_part}
+use Rattle.meter_states.specs.declared.trip.CoreTrip.{CoreTrip}
 use Rattle.same_tariffs.specs.Alike.{AreHeldAlike, AreHoldsAlike, AreMeteragesAlike, AreOpeningsAlike, AreTripsAlike}
 use Rattle.same_tariffs.specs.Alike.{AreTripsOfBothAlike, IsSameMoney, with_trips}
 use Rattle.same_tariffs.proofs.Agreeing.{Agree}
@@ -39,11 +38,7 @@ pub part-alike : (s t : Setting) (a b : MeterTrip) (x y : Part) → pulses_in x 
     → IsSameMoney (unit_of s) (unit_of t) (charge_in s x) (charge_in t y) → AreTripsAlike s t a b
     → AreTripsAlike s t (with_part x a) (with_part y b)
 part-alike s t a b x y pulses ticks charge same = record {
-  started = same.started;
-  initial = same.initial;
-  minimum = same.minimum;
-  roam = same.roam;
-  extras = same.extras;
+  others = ap (with_part y) same.others;
   pulses = omega (arith, sum-more pulses_in a.parts x, sum-more pulses_in b.parts y, same.pulses, pulses);
   ticks = omega (arith, sum-more ticks_in a.parts x, sum-more ticks_in b.parts y, same.ticks, ticks);
   cover = same.cover;
@@ -69,11 +64,7 @@ parts-alike s t (Some a) None x y pulses ticks charge same = absurd same
 pub extra-alike : (s t : Setting) (n : ℕ) (a b : MeterTrip) → AreTripsAlike s t a b → AreTripsAlike s t (with_extra n a)
     (with_extra n b)
 extra-alike s t n a b same = record {
-  started = same.started;
-  initial = same.initial;
-  minimum = same.minimum;
-  roam = same.roam;
-  extras = ap (λ (xs : List ℕ). xs ++ n ∷ []) same.extras;
+  others = ap (with_extra n) same.others;
   pulses = same.pulses;
   ticks = same.ticks;
   cover = same.cover;
@@ -85,11 +76,8 @@ extra-alike s t n a b same = record {
 pub begun-alike : (s t : Setting) (fee other : Initial) (second roam : ℕ) → fee ≡ other
     → AreTripsAlike s t (begun s fee second roam) (begun t other second roam)
 begun-alike s t fee other second roam is = record {
-  started = refl;
-  initial = ap (λ (i : Initial). i.amount) is;
-  minimum = ap (λ (i : Initial). i.minimum) is;
-  roam = refl;
-  extras = refl;
+  others =
+      ap (λ (i : Initial). record (begun t i second roam) { opening = (begun t other second roam).opening }) is;
   pulses = refl;
   ticks = refl;
   cover = subst (λ (i : Initial). IsSameMoney (unit_of s) (unit_of t) (fee.covers * unit_of s) (i.covers * unit_of t))
@@ -114,7 +102,7 @@ ticks-alike s t (Some a) (Some b) same = same.ticks
 ticks-alike s t None (Some b) same = absurd same
 ticks-alike s t (Some a) None same = absurd same
 
-step-is : (s t : Setting) → Agree s t → (display_step s.tariff).0 ≡ (display_step t.tariff).0
+step-is : (s t : Setting) → Agree s t → s.tariff.step.0 ≡ t.tariff.step.0
 step-is s t agree = ap (λ (x : ℕ × Rounding). x.0) agree.step
 
 rounding-is : (s t : Setting) → Agree s t → rounding_of s ≡ rounding_of t
@@ -123,7 +111,7 @@ rounding-is s t agree = ap (λ (x : ℕ × Rounding). x.1) agree.step
 -- a display step of each tariff is the same money
 step-money : (s t : Setting) → Agree s t → IsSameMoney (unit_of s) (unit_of t) (modulus_of s) (modulus_of t)
 step-money s t agree =
-    let same = times-same (unit_of s) (unit_of t) (display_step s.tariff).0 in
+    let same = times-same (unit_of s) (unit_of t) s.tariff.step.0 in
     subst (λ (n : ℕ). IsSameMoney (unit_of s) (unit_of t) (modulus_of s) (n * unit_of t)) (step-is s t agree) same
 
 some-modulus : (n u : ℕ) → 0 < n → 0 < u → 0 < n * u
@@ -135,9 +123,9 @@ openings-alike s t a b agree same = record {
   cover = same.cover;
   above = same.above;
   modulus = step-money s t agree;
-  some = some-modulus (display_step s.tariff).0 (unit_of s) agree.some_step agree.some_unit;
+  some = some-modulus s.tariff.step.0 (unit_of s) agree.some_step agree.some_unit;
   also =
-      some-modulus (display_step t.tariff).0 (unit_of t) (subst (λ (n : ℕ). 0 < n) (step-is s t agree) agree.some_step)
+      some-modulus t.tariff.step.0 (unit_of t) (subst (λ (n : ℕ). 0 < n) (step-is s t agree) agree.some_step)
       agree.also_unit;
 }
 
@@ -158,15 +146,13 @@ pub fare-alike : (s t : Setting) (a b : MeterTrip) → Agree s t → AreTripsAli
 fare-alike s t a b agree same =
     let steps = shown-alike s t a b agree same in
     let step = step-is s t agree in
-    let initial = same.initial in
-    let minimum = same.minimum in
-    ap (λ (n : ℕ). shown_fare a.initial a.minimum (display_step s.tariff).0 n) steps
-    ∙ ap (λ (n : ℕ). shown_fare a.initial a.minimum n (steps_shown t b)) step
-    ∙ ap (λ (n : ℕ). shown_fare n a.minimum (display_step t.tariff).0 (steps_shown t b)) initial
-    ∙ ap (λ (n : ℕ). shown_fare b.initial n (display_step t.tariff).0 (steps_shown t b)) minimum
+    ap (λ (n : ℕ). fare_by_fees a.fees s.tariff.step.0 n) steps
+    ∙ ap (λ (n : ℕ). fare_by_fees a.fees n (steps_shown t b)) step
+    ∙ ap (λ (x : MeterTrip). fare_by_fees x.fees t.tariff.step.0 (steps_shown t b)) same.others
 
-amounts-each : (s t : Setting) → Agree s t → (numbers : List ℕ) → map (λ n. amount_in (supplement_of s.tariff.lines n))
-    numbers ≡ map (λ n. amount_in (supplement_of t.tariff.lines n)) numbers
+amounts-each : (s t : Setting) → Agree s t → (numbers : List ℕ)
+    → map (λ n. amount_in (supplement_numbered s.tariff.supplements n)) numbers
+    ≡ map (λ n. amount_in (supplement_numbered t.tariff.supplements n)) numbers
 amounts-each s t agree [] = refl
 amounts-each s t agree (n ∷ numbers) =
     let one = ap amount_in (agree.supplements n) in
@@ -179,33 +165,15 @@ amounts-by s t agree numbers = ap sum (amounts-each s t agree numbers)
 
 pub amounts-alike : (s t : Setting) (a b : MeterTrip) → Agree s t → AreTripsAlike s t a b
     → amounts_of s.tariff a.extras ≡ amounts_of t.tariff b.extras
-amounts-alike s t a b agree same = amounts-by s t agree a.extras ∙ ap (amounts_of t.tariff) same.extras
+amounts-alike s t a b agree same =
+    amounts-by s t agree a.extras ∙ ap (λ (x : MeterTrip). amounts_of t.tariff x.extras) same.others
 
 -- ---- held trips
 
-abbrev saved_with : Meterage → (started second : ℕ) → (stopped : Bool)
-    → (position zone roam pulses ticks initial minimum : ℕ) → (extras : List ℕ) → (extras_sum : ℕ) → Trip
-saved_with meterage started second stopped position zone roam pulses ticks initial minimum extras extras_sum = record {
-  started = started;
-  saved = second;
-  stopped = stopped;
-  position = position;
-  zone = zone;
-  roam = roam;
-  pulses = pulses;
-  ticks = ticks;
-  initial = initial;
-  minimum = minimum;
-  meterage = meterage;
-  extras = extras;
-  extras_sum = extras_sum;
-}
-
-saved-by : (m : Meterage) (second : ℕ) (stopped : Bool) (position zone : ℕ) {a a' r r' p p' t t' i i' n n' x x' : ℕ}
-    {e e' : List ℕ} → a ≡ a' → r ≡ r' → p ≡ p' → t ≡ t' → i ≡ i' → n ≡ n' → e ≡ e' → x ≡ x'
-    → saved_with m a second stopped position zone r p t i n e x ≡ saved_with m a' second stopped position zone r' p' t'
-    i' n' e' x'
-saved-by m second stopped position zone started roam pulses ticks initial minimum extras extras_sum = cc
+-- what a core keeps of a trip is the same where its sums are
+same-sums : (whole : CoreTrip) (p q t u a b : ℕ) → p ≡ q → t ≡ u → a ≡ b
+    → record whole { pulses = p; ticks = t; extras_sum = a } ≡ record whole { pulses = q; ticks = u; extras_sum = b }
+same-sums whole p q t u a b pulses ticks amounts = cc
 
 -- a trip is held alike
 pub held-alike : (s t : Setting) (a b : MeterTrip) (second : ℕ) (stopped : Bool) (position zone : ℕ) → Agree s t
@@ -214,8 +182,9 @@ pub held-alike : (s t : Setting) (a b : MeterTrip) (second : ℕ) (stopped : Boo
 held-alike s t a b second stopped position zone agree same =
     record {
       meterage = meterage-alike s t a b agree same;
-      others = saved-by (core_trip_of t b).meterage second stopped position zone same.started same.roam same.pulses
-          same.ticks same.initial same.minimum (ap counts_of same.extras) (amounts-alike s t a b agree same);
+      others = ap (saved_at second stopped position zone)
+          (same-sums (core_trip_of t (record a { opening = b.opening; parts = b.parts })) _ _ _ _ _ _ same.pulses
+          same.ticks (amounts-by s t agree a.extras) ∙ ap (core_trip_of t) same.others);
     }
 
 -- and goes on alike
@@ -229,11 +198,7 @@ opened-alike s t a b agree same =
         → AreMeteragesAlike (unit_of s) (unit_of t) a.meterage m
         → AreTripsAlike s t (trip_of s a) (trip_of t (record a { meterage = m }))
     opened-with s t a m agree same = record {
-      started = refl;
-      initial = refl;
-      minimum = refl;
-      roam = refl;
-      extras = refl;
+      others = refl;
       pulses = refl;
       ticks = refl;
       cover = same.cover;
@@ -261,7 +226,8 @@ pub entry-alike : (s t : Setting) (kind : Kind) (position : ℕ) (a b : MeterTri
 entry-alike s t kind position a b agree same =
     let constant = agree.constant in
     let roam : millimetres_of s.constant a.roam ≡ millimetres_of t.constant b.roam =
-    ap (λ (k : ℕ). millimetres_of k a.roam) constant ∙ ap (millimetres_of t.constant) same.roam in
+    ap (λ (k : ℕ). millimetres_of k a.roam) constant
+    ∙ ap (λ (x : MeterTrip). millimetres_of t.constant x.roam) same.others in
     let hired : millimetres_of s.constant (pulses_of a) ≡ millimetres_of t.constant (pulses_of b) =
     ap (λ (k : ℕ). millimetres_of k (pulses_of a)) constant ∙ ap (millimetres_of t.constant) same.pulses in
     let fare = fare-alike s t a b agree same in
@@ -277,19 +243,18 @@ pub receipt-alike : (s t : Setting) (kind : Kind) (finish position : ℕ) (a b :
     → receipt_of s kind finish position a number ≡ receipt_of t kind finish position b number
 receipt-alike s t kind finish position a b number agree same =
     let constant = agree.constant in
+    let other = record a { opening = b.opening; parts = b.parts } in
     let hired : millimetres_of s.constant (pulses_of a) ≡ millimetres_of t.constant (pulses_of b) =
     ap (λ (k : ℕ). millimetres_of k (pulses_of a)) constant ∙ ap (millimetres_of t.constant) same.pulses in
-    let start : stamp_at s a.started ≡ stamp_at t b.started = stamp-alike s t a.started agree
-    ∙ ap (stamp_at t) same.started in
+    let start = stamp-alike s t a.started agree in
     let end = stamp-alike s t finish agree in
-    let initial = same.initial in
-    let minimum = same.minimum in
     let steps = shown-alike s t a b agree same in
     let step = step-is s t agree in
-    let fare = fare-alike s t a b agree same in
-    let amounts = amounts-alike s t a b agree same in
+    let fare : fare_of s a ≡ fare_of t other = fare-alike s t a b agree same ∙ ap (fare_of t) (sym same.others) in
+    let amounts = amounts-by s t agree a.extras in
     let decimals = agree.decimals in
-    cc
+    let first : receipt_of s kind finish position a number ≡ receipt_of t kind finish position other number = cc in
+    first ∙ ap (λ (x : MeterTrip). receipt_of t kind finish position x number) same.others
 
 fare-shown-alike : (s t : Setting) (a b : Option MeterTrip) → Agree s t → AreTripsOfBothAlike s t a b
     → fare_shown s a ≡ fare_shown t b

@@ -47,14 +47,10 @@ pub record AreStoresAlike (s t : Setting) (a b : Durable) : Type 0 where
   pub hold : AreHoldsAlike s t a.hold b.hold
   pub others : record a { hold = b.hold } ≡ b
 
--- two trips are alike if they have the same start, amounts, roaming pulses and supplements, the same pulses and
--- ticks, and as cover, as charge above it before, and as charges of their parts the same money
+-- two trips are alike if they are equal but for their openings and their parts, and have the same pulses and ticks, and
+-- as cover, as charge above it before, and as charges of their parts the same money
 pub record AreTripsAlike (s t : Setting) (a b : MeterTrip) : Type 0 where
-  pub started : a.started ≡ b.started
-  pub initial : a.initial ≡ b.initial
-  pub minimum : a.minimum ≡ b.minimum
-  pub roam : a.roam ≡ b.roam
-  pub extras : a.extras ≡ b.extras
+  pub others : record a { opening = b.opening; parts = b.parts } ≡ b
   pub pulses : pulses_of a ≡ pulses_of b
   pub ticks : ticks_of a ≡ ticks_of b
   pub cover : IsSameMoney (unit_of s) (unit_of t) a.opening.cover b.opening.cover

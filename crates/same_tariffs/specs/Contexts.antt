@@ -7,17 +7,20 @@ use Rattle.tariff_check.specs.Faults.{IsSound}
 use Rattle.tariff_compare.specs.Contexts.{IsMeterContext, context_at, most_pulses}
 use Rattle.tariff_compare.specs.declared.meter_context.MeterContext.{MeterContext}
 use Rattle.tariff_check.specs.Amounts.{initial_by}
+use Rattle.tariff_check.specs.SoundTariff.{sound_of}
 use Rattle.tariff_syntax.specs.Meaning.{rate_place}
+use Rattle.tariff_syntax.specs.Tree.{Tree}
 use Rattle.tariff_syntax.specs.Writable.{IsFromTo, IsWritable}
 use Rattle.meter_states.specs.Interval.{context_now, context_of, pulses_so_far, ticks_so_far}
 use Rattle.meter_states.specs.Meter.{Meter}
 use Rattle.meter_states.specs.Setting.{Setting}
 
--- a setting is in range if its tariff is a sound one that a text can have, its constant is 500 to 200,000, and its
--- offsets are a list of offsets
-pub record IsSettingInRange (s : Setting) : Type 0 where
-  pub writable : IsWritable s.tariff
-  pub sound : IsSound s.tariff
+-- a setting of a tariff is in range if it has the tariff's parts, the tariff is a sound one that a text can have, the
+-- constant is 500 to 200,000, and the offsets are a list of offsets
+pub record IsSettingInRange (t : Tree) (s : Setting) : Type 0 where
+  pub parts : s.tariff ≡ sound_of t
+  pub writable : IsWritable t
+  pub sound : IsSound t
   pub constant : IsFromTo least_constant greatest_constant s.constant
   pub offsets : IsOffsetList s.offsets
 
@@ -39,12 +42,12 @@ without_trip c = record c { ticks = 0; pulses = 0 }
 
 -- the running interval of a meter is charged in the lines of a context of a meter if that context is one of a meter
 -- under the tariff, and the same rate holds first in it as at the beginning of the interval
-pub record IsChargedIn (s : Setting) (m : Meter) (c : MeterContext) : Type 0 where
-  pub context : IsMeterContext s.tariff c
-  pub rate : rate_place s.tariff (context_of s m) ≡ rate_place s.tariff (context_at s.tariff s.constant c)
+pub record IsChargedIn (t : Tree) (s : Setting) (m : Meter) (c : MeterContext) : Type 0 where
+  pub context : IsMeterContext t c
+  pub rate : rate_place t (context_of s m) ≡ rate_place t (context_at t s.constant c)
 
 -- a meter that is hired now has the fee of a context of a meter if that context is one of a meter under the tariff, and
 -- the same initial hire fee and the same minimum fare hold first in it as at the hiring
-pub record IsHiredIn (s : Setting) (m : Meter) (c : MeterContext) : Type 0 where
-  pub context : IsMeterContext s.tariff c
-  pub fee : initial_by s.tariff (context_now s m) ≡ initial_by s.tariff (context_at s.tariff s.constant c)
+pub record IsHiredIn (t : Tree) (s : Setting) (m : Meter) (c : MeterContext) : Type 0 where
+  pub context : IsMeterContext t c
+  pub fee : initial_by t (context_now s m) ≡ initial_by t (context_at t s.constant c)

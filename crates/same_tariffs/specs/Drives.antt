@@ -16,7 +16,7 @@ use Rattle.meter_states.specs.Interval.{context_of}
 use Rattle.meter_states.specs.Meter.{Meter}
 use Rattle.meter_states.specs.Run.{opened, run}
 use Rattle.meter_states.specs.Setting.{Setting, under_offset, unit_of}
-use Rattle.meter_states.specs.Trip.{MeterTrip}
+use Rattle.meter_states.specs.Trip.{MeterTrip, fees_of}
 use Rattle.same_tariffs.specs.Contexts.{without_trip}
 use Rattle.totals_record.specs.States.{first_state}
 
@@ -44,19 +44,18 @@ events_to second c =
 
 -- a meter is at the beginning of an interval in Hired in a context of a meter if no pulse of that interval has come
 -- yet, and the tariff is asked in that context
-pub record BeginsIn (s : Setting) (c : MeterContext) (m : Meter) : Type 0 where
+pub record BeginsIn (t : Tree) (s : Setting) (c : MeterContext) (m : Meter) : Type 0 where
   pub hired : m.operating ≡ Hired
   pub begins : m.taken ≡ []
-  pub context : context_of s m ≡ context_at s.tariff s.constant c
+  pub context : context_of s m ≡ context_at t s.constant c
 
 -- a meter has a trip that was hired in a context of a meter if it has the amount and the cover of the initial hire fee
 -- and the minimum fare that hold first there
-pub record WasHiredIn (s : Setting) (c : MeterContext) (m : Meter) : Type 0 where
+pub record WasHiredIn (t : Tree) (s : Setting) (c : MeterContext) (m : Meter) : Type 0 where
   pub trip : MeterTrip
   pub has : m.trip ≡ Some trip
-  pub amount : trip.initial ≡ (initial_by s.tariff (context_at s.tariff s.constant c)).amount
-  pub minimum : trip.minimum ≡ (initial_by s.tariff (context_at s.tariff s.constant c)).minimum
-  pub cover : trip.opening.cover ≡ (initial_by s.tariff (context_at s.tariff s.constant c)).covers * unit_of s
+  pub fees : trip.fees ≡ fees_of (initial_by t (context_at t s.constant c))
+  pub cover : trip.opening.cover ≡ (initial_by t (context_at t s.constant c)).covers * unit_of s
 
 -- the meter after events is the one that they lead to from a store without entries
 abbrev pub meter_after : Setting → List Event → Meter
@@ -70,6 +69,6 @@ pub record IsReached (t : Tree) (k : ℕ) (mode : Mode) (hold : ℕ) (c : MeterC
   pub events : List Event
   pub offset_in : IsOffset offset
   pub events_in : All IsInRange events
-  pub begins : BeginsIn (under_offset t k mode hold offset) c (meter_after (under_offset t k mode hold offset) events)
-  pub hired : WasHiredIn (under_offset t k mode hold offset) (without_trip c)
+  pub begins : BeginsIn t (under_offset t k mode hold offset) c (meter_after (under_offset t k mode hold offset) events)
+  pub hired : WasHiredIn t (under_offset t k mode hold offset) (without_trip c)
       (meter_after (under_offset t k mode hold offset) events)

@@ -2,32 +2,31 @@
 use Rattle.std.specs.Prelude.{ℕ, ◌≤◌, Option, Some, None}
 use Rattle.taxi_units.specs.Time.{IsSecond, last_tick}
 use Rattle.totals_record.specs.declared.trip.Trip.{Trip}
-use Rattle.tariff_check.specs.Parts.{positions_of, zones_of}
-use Rattle.tariff_syntax.specs.Tree.{Tree}
+use Rattle.tariff_check.specs.SoundTariff.{SoundTariff}
 use Rattle.tariff_syntax.specs.Writable.{IsFromTo}
 use Rattle.meter_states.specs.Interval.{ticks_so_far}
 use Rattle.meter_states.specs.Meter.{Meter}
 use Rattle.meter_states.specs.Setting.{Setting}
 
 -- a position and a zone are set under a tariff if they are among those that it has
-pub record AreSet (t : Tree) (position zone : ℕ) : Type 0 where
-  pub position_in : IsFromTo 1 (positions_of t.lines) position
-  pub zone_in : IsFromTo 1 (zones_of t.lines) zone
+pub record AreSet (tariff : SoundTariff) (position zone : ℕ) : Type 0 where
+  pub position_in : IsFromTo 1 tariff.positions position
+  pub zone_in : IsFromTo 1 tariff.zones zone
 
 -- a held trip goes on under a tariff if its position and its zone are set, and it has fewer ticks than the longest trip
-pub record GoesOn (t : Tree) (trip : Trip) : Type 0 where
-  pub set : AreSet t trip.position trip.zone
+pub record GoesOn (tariff : SoundTariff) (trip : Trip) : Type 0 where
+  pub set : AreSet tariff trip.position trip.zone
   pub ticks : trip.ticks ≤ last_tick
 
 -- what a store holds goes on if it is no trip, or one that goes on
-abbrev pub HoldGoesOn : Tree → Option Trip → Type 0
-HoldGoesOn t None = Unit {0}
-HoldGoesOn t (Some trip) = GoesOn t trip
+abbrev pub HoldGoesOn : SoundTariff → Option Trip → Type 0
+HoldGoesOn tariff None = Unit {0}
+HoldGoesOn tariff (Some trip) = GoesOn tariff trip
 
 -- a meter is in place if its position and its zone are set, and its clock and the beginning of its interval are seconds
 -- of the meter
-pub record IsPlace (t : Tree) (position zone clock began : ℕ) : Type 0 where
-  pub set : AreSet t position zone
+pub record IsPlace (tariff : SoundTariff) (position zone clock began : ℕ) : Type 0 where
+  pub set : AreSet tariff position zone
   pub clock_in : IsSecond clock
   pub began_in : IsSecond began
 

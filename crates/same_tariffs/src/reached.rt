@@ -26,12 +26,13 @@ pub fn events_of_drives_are_timely()
 /// interval is charged in the lines of the context of a meter at its beginning, and a hiring has the fee and
 /// the minimum fare of one without a trip.
 pub fn intervals_are_charged_in_contexts_of_a_meter()
-    ensures reached { (s : Setting) (durable : Durable) (events : List Event) → IsSettingInRange s → All IsTimely events
+    ensures reached { (t : Tree) (s : Setting) (durable : Durable) (events : List Event) → IsSettingInRange t s
+        → All IsTimely events
         → HoldGoesOn s.tariff durable.hold → IsWithinReach s (run s events (opened s durable)).next }
-    ensures interval { (s : Setting) (m : Meter) → IsSettingInRange s → IsWithinReach s m
-        → IsChargedIn s m (meter_context_at s m.began m) }
-    ensures hiring { (s : Setting) (m : Meter) → IsSettingInRange s → IsWithinReach s m
-        → IsHiredIn s m (without_trip (meter_context_at s m.clock m)) }
+    ensures interval { (t : Tree) (s : Setting) (m : Meter) → IsSettingInRange t s → IsWithinReach s m
+        → IsChargedIn t s m (meter_context_at s m.began m) }
+    ensures hiring { (t : Tree) (s : Setting) (m : Meter) → IsSettingInRange t s → IsWithinReach s m
+        → IsHiredIn t s m (without_trip (meter_context_at s m.clock m)) }
 {}
 
 /// Each context of a meter is reached by some drive, under the constant and each mode and hold: a list of events that

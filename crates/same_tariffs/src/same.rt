@@ -5,6 +5,7 @@ ghost use Rattle.drive_modes.specs.declared.meterage.Rounding.{Rounding};
 ghost use Rattle.meter_states.specs.Lawful.{IsTimely};
 ghost use Rattle.meter_states.specs.Run.{whole_run};
 ghost use Rattle.meter_states.specs.Setting.{Setting};
+ghost use Rattle.tariff_syntax.specs.Tree.{Tree};
 ghost use Rattle.taxi_units.specs.declared.event.Event.{Event};
 ghost use Rattle.totals_record.specs.declared.durable_state.Durable.{Durable};
 ghost use Rattle.same_tariffs.specs.Alike.{AreMeteragesAlike, AreOpeningsAlike, AreOutcomesAlike, AreStoresAlike, IsSameMoney};
@@ -25,12 +26,13 @@ pub fn same_charges_show_the_same_steps()
 /// displays, refusals, entries and receipts in the same order, held trips that are alike, and in the end
 /// stores that are alike again, whose trips go on, so that further runs are alike too.
 pub fn same_tariffs_run_alike()
-    ensures outcomes { (s t : Setting) (d e : Durable) (events : List Event) → AreSameSettings s t → All IsTimely events
-        → HoldGoesOn s.tariff d.hold → AreStoresAlike s t d e
+    ensures outcomes { (a b : Tree) (s t : Setting) (d e : Durable) (events : List Event) → AreSameSettings a b s t
+        → All IsTimely events → HoldGoesOn s.tariff d.hold → AreStoresAlike s t d e
         → AreOutcomesAlike s t (whole_run s d events) (whole_run t e events) }
-    ensures stores { (s t : Setting) (d e : Durable) (events : List Event) → AreSameSettings s t → All IsTimely events
-        → HoldGoesOn s.tariff d.hold → AreStoresAlike s t d e
+    ensures stores { (a b : Tree) (s t : Setting) (d e : Durable) (events : List Event) → AreSameSettings a b s t
+        → All IsTimely events → HoldGoesOn s.tariff d.hold → AreStoresAlike s t d e
         → AreStoresAlike s t (whole_run s d events).next.durable (whole_run t e events).next.durable }
-    ensures goes_on { (s t : Setting) (d : Durable) (events : List Event) → AreSameSettings s t → All IsTimely events
-        → HoldGoesOn s.tariff d.hold → HoldGoesOn s.tariff (whole_run s d events).next.durable.hold }
+    ensures goes_on { (a b : Tree) (s t : Setting) (d : Durable) (events : List Event) → AreSameSettings a b s t
+        → All IsTimely events → HoldGoesOn s.tariff d.hold
+        → HoldGoesOn s.tariff (whole_run s d events).next.durable.hold }
 {}

@@ -1,8 +1,14 @@
-use Rattle.std.proofs.Common.{◌≤◌, ◌∙◌, Option, sym, subst}
+use Rattle.std.proofs.Common.{◌≤◌, ◌∙◌, Option, ap, sym, subst}
+use Rattle.tariff_check.specs.SoundTariff.{SoundTariff, supplement_numbered}
 use Rattle.tariff_check.specs.declared.values.Supplement.{Supplement}
 use Rattle.meter_states.specs.Supplements.{amount_in, most_in}
 use Rattle.meter_states.proofs.TableSupplements.{bounded, supplement-in, supplement-number}
 use Rattle.meter_states.proofs.lookups.find_supplement.Goals as goal
+
+pub returns-clause-setting : goal.returns-clause-setting
+returns-clause-setting g c = λ s is.
+    c.supplement.ensures.tree is.tree is.compiled
+    ∙ ap (λ (t : SoundTariff). supplement_numbered t.supplements c.args.number) (sym is.parts)
 
 pub returns-clause-value : goal.returns-clause-value
 returns-clause-value g c =

@@ -3,8 +3,9 @@ use Rattle.std.proofs.Math.Nat.{mul_comm}
 use Rattle.drive_modes.specs.Distance.{millimetres_of}
 use Rattle.meter_states.specs.declared.trip.CoreTrip.{CoreTrip}
 use Rattle.meter_states.specs.Setting.{stamp_at}
+use Rattle.meter_states.specs.Supplements.{amounts_of}
+use Rattle.meter_states.specs.Trip.{pulses_of}
 use Rattle.meter_states.proofs.Settings.{decimals-is, step-is}
-use Rattle.meter_states.proofs.SameParts.{receipt-same}
 use Rattle.meter_states.proofs.TableSupplements.{extras-few}
 use Rattle.meter_states.proofs.records.receipt.Goals as goal
 use Rattle.taxi_units.specs.Money.{largest_amount}
@@ -18,7 +19,7 @@ returns-clause-range g c =
     let step = c.step.ensures.value in
     let fare = c.fare.ensures.exact in
     let shown : c.fare.result
-    ≡ min largest_amount (max trip.minimum (trip.initial + c.display_steps.result * c.step.result)) = cc in
+    ≡ min largest_amount (max trip.fees.minimum (trip.fees.initial + c.display_steps.result * c.step.result)) = cc in
     record {
       kind = c.requires.closing.kind;
       number = (omega arith, omega arith);
@@ -26,8 +27,8 @@ returns-clause-range g c =
       finish = c.stamp-finish.ensures.range;
       position = c.requires.position;
       distance = omega (arith, c.distance.ensures.most, range.pulses, range.range.ticks);
-      initial = range.range.initial;
-      minimum = range.range.minimum;
+      initial = range.range.others.initial;
+      minimum = range.range.others.minimum;
       steps = c.display_steps.ensures.most;
       step = (omega arith, c.step.ensures.most);
       fare = shown;
@@ -36,7 +37,7 @@ returns-clause-range g c =
     }
 
 pub stamp-start-requires : goal.stamp-start-requires
-stamp-start-requires g c = c.requires.range.range.started
+stamp-start-requires g c = c.requires.range.range.others.started
 
 pub stamp-finish-requires : goal.stamp-finish-requires
 stamp-finish-requires g c = c.requires.closing.finish
@@ -49,15 +50,17 @@ fare-requires g c = record { range = c.requires.range.range }
 
 pub returns-clause-value : goal.returns-clause-value
 returns-clause-value g c = λ s t is saved.
-    receipt-same c.args.number c.args.closing.kind c.args.position
-    (c.stamp-start.ensures.value s is.secured ∙ ap (λ (x : CoreTrip). stamp_at s x.started) saved)
-    (c.stamp-finish.ensures.value s is.secured)
-    (c.distance.ensures.value ∙ ap (λ (k : ℕ). millimetres_of k c.args.trip.now.pulses) is.tariff.constant
-    ∙ ap (λ (x : CoreTrip). millimetres_of s.constant x.pulses) saved)
-    (ap (λ (x : CoreTrip). x.initial) saved)
-    (ap (λ (x : CoreTrip). x.minimum) saved)
-    (c.display_steps.ensures.value s t is.tariff saved)
-    (c.step.ensures.value ∙ step-is s c.args.tables.now is.tariff)
-    (c.fare.ensures.value s t is.tariff saved)
-    (ap (λ (x : CoreTrip). x.extras_sum) saved)
-    (c.decimals.ensures.value ∙ decimals-is s c.args.tables.now is.tariff)
+    let start : c.stamp-start.result ≡ stamp_at s t.started =
+    c.stamp-start.ensures.value s is.secured ∙ ap (λ (x : CoreTrip). stamp_at s x.started) saved in
+    let finish = c.stamp-finish.ensures.value s is.secured in
+    let hired : c.distance.result ≡ millimetres_of s.constant (pulses_of t) =
+    c.distance.ensures.value ∙ ap (λ (k : ℕ). millimetres_of k c.args.trip.now.pulses) is.tariff.constant
+    ∙ ap (λ (x : CoreTrip). millimetres_of s.constant x.pulses) saved in
+    let fees : c.args.trip.now.fees ≡ t.fees = ap (λ (x : CoreTrip). x.fees) saved in
+    let steps = c.display_steps.ensures.value s t is.tariff saved in
+    let step = c.step.ensures.value ∙ step-is s c.args.tables.now is.tariff in
+    let fare = c.fare.ensures.value s t is.tariff saved in
+    let supplements : c.args.trip.now.extras_sum ≡ amounts_of s.tariff t.extras =
+    ap (λ (x : CoreTrip). x.extras_sum) saved in
+    let decimals = c.decimals.ensures.value ∙ decimals-is s c.args.tables.now is.tariff in
+    cc

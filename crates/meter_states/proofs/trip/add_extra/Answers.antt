@@ -1,18 +1,18 @@
 use Rattle.std.proofs.Common.{◌≡◌, ◌<◌, ℕ, ◌+◌, ◌-◌, get_or, length, ap, sym, subst, ◌∙◌, Option, Some, arith}
 use Rattle.std.proofs.Math.ListN.{length-set}
-use Rattle.tariff_check.specs.Parts.{supplement_of}
+use Rattle.tariff_check.specs.SoundTariff.{supplement_numbered}
 use Rattle.tariff_check.specs.declared.values.Supplement.{Supplement}
 use Rattle.meter_states.specs.Supplements.{amount_in, most_in, supplement_in}
 use Rattle.meter_states.proofs.Amounts.{allowed-more, amounts-more}
-use Rattle.meter_states.proofs.TableSupplements.{supplement-in}
+use Rattle.meter_states.proofs.TableSupplements.{supplement-of-setting}
 use Rattle.meter_states.proofs.Trips.{extra-saved}
 use Rattle.meter_states.proofs.trip.add_extra.Goals as goal
 
 pub returns-clause-saved : goal.returns-clause-saved
 returns-clause-saved c = λ p s t found is e.
     let n = c.args.number in
-    let amount : c.args.supplement.amount ≡ amount_in (supplement_of s.tariff.lines n) =
-    ap amount_in (sym found) ∙ ap amount_in (supplement-in s.tariff p n is.compiled) in
+    let amount : c.args.supplement.amount ≡ amount_in (supplement_numbered s.tariff.supplements n) =
+    ap amount_in (sym found) ∙ ap amount_in (supplement-of-setting s p n is) in
     extra-saved s t n c.args.supplement.amount c.args.trip.now (omega arith) (omega arith) amount e
 
 pub returns-clause-range : goal.returns-clause-range
@@ -24,20 +24,17 @@ returns-clause-range c = λ p is range.
     let found : supplement_in p (1 + i) ≡ Some c.args.supplement = ap (supplement_in p) same ∙ is in
     let most : get_or counts i 0 < most_in (supplement_in p (1 + i)) =
     subst (λ (o : Option Supplement). get_or counts i 0 < most_in o) (sym found) c.requires.few in
-    let within : i < length counts = omega (arith, range.extras) in
+    let within : i < length counts = omega (arith, range.extras.sixteen) in
     let sum = amounts-more (supplement_in p) 1 i counts within in
     let amount : amount_in (supplement_in p (1 + i)) ≡ c.args.supplement.amount = ap amount_in found in
     record {
       compiled = range.compiled;
-      started = range.started;
-      roam = range.roam;
       ticks = range.ticks;
-      initial = range.initial;
-      minimum = range.minimum;
-      cover = range.cover;
-      steps = range.steps;
-      rest = range.rest;
-      extras = omega (arith, length-set {A = ℕ}, range.extras);
-      counts = allowed-more (supplement_in p) 1 i counts within most range.counts;
-      extras_sum = omega (arith, range.extras_sum, sum, amount);
+      meterage = range.meterage;
+      extras = record {
+        sixteen = omega (arith, length-set {A = ℕ}, range.extras.sixteen);
+        allowed = allowed-more (supplement_in p) 1 i counts within most range.extras.allowed;
+        amounts = omega (arith, range.extras.amounts, sum, amount);
+      };
+      others = range.others;
     }

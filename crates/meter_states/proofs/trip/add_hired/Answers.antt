@@ -4,7 +4,7 @@ use Rattle.drive_modes.specs.Fare.{saved}
 use Rattle.drive_modes.specs.declared.charges.Mode.{Mode}
 use Rattle.drive_modes.specs.declared.charges.Weights.{Weights}
 use Rattle.drive_modes.specs.declared.meterage.Meterage.{Meterage}
-use Rattle.tariff_compile.specs.Tables.{rate_by}
+use Rattle.tariff_compile.specs.Tables.{weights_in_force}
 use Rattle.meter_states.specs.declared.trip.CoreTrip.{CoreTrip}
 use Rattle.meter_states.specs.Charge.{charge_at}
 use Rattle.meter_states.specs.Setting.{modulus_of}
@@ -20,8 +20,8 @@ returns-clause-saved c = λ s t x is by e.
     c.charge.ensures.charge
     ∙ ap (λ (mode : Mode). charge_of mode c.args.weights c.args.pulses) is.secured.mode
     ∙ ap (λ (w : Weights). charge_of s.mode w c.args.pulses) by
-    ∙ ap (λ (k : ℕ). charge_of s.mode (rate_by s.tariff k x) c.args.pulses) is.tariff.constant
-    ∙ charge-at s.mode s.tariff s.constant x c.args.pulses is.tariff.compiled.writable is.tariff.compiled.sound in
+    ∙ ap (λ (k : ℕ). charge_of s.mode (weights_in_force s.tariff k x) c.args.pulses) is.tariff.constant
+    ∙ charge-at s c.args.tables.now x c.args.pulses is.tariff in
     let before : c.args.trip.now.meterage
     ≡ saved (record { cover = t.opening.cover; above = t.opening.above; modulus = c.modulus.result }) (charges_of s t) =
     ap (λ (x : CoreTrip). x.meterage) e ∙ ap (λ (n : ℕ).
@@ -40,8 +40,8 @@ add_charge-requires-clause-steps c =
     let most : c.charge.result ≤ 40001000000 * p.measure = rw c.charge.ensures.charge (charge-most _ c.args.weights
     c.args.pulses p.measure c.requires.pulses c.requires.weights.pulse_units c.requires.weights.tick_units) in
     let filled = steps-most c.args.trip.now.meterage.rest c.charge.result c.args.trip.now.meterage.cover_left p.step
-    p.measure fit.step.0 fit.measure.0 c.requires.range.rest most in
-    rw c.modulus.ensures.value (omega (arith, filled, c.requires.range.steps, c.requires.range.ticks))
+    p.measure fit.step.0 fit.measure.0 c.requires.range.meterage.rest most in
+    rw c.modulus.ensures.value (omega (arith, filled, c.requires.range.meterage.steps, c.requires.range.ticks))
 
 pub returns-clause-range : goal.returns-clause-range
 returns-clause-range c =
@@ -51,19 +51,16 @@ returns-clause-range c =
     let most : c.charge.result ≤ 40001000000 * p.measure = rw c.charge.ensures.charge (charge-most _ c.args.weights
     c.args.pulses p.measure c.requires.pulses c.requires.weights.pulse_units c.requires.weights.tick_units) in
     let filled = steps-most c.args.trip.now.meterage.rest c.charge.result c.args.trip.now.meterage.cover_left p.step
-    p.measure fit.step.0 fit.measure.0 range.rest most in
+    p.measure fit.step.0 fit.measure.0 range.meterage.rest most in
     let steps = rw c.modulus.ensures.value at (ap (λ (m : Meterage). m.steps_full) c.add_charge.ensures.exact) in
     record {
       compiled = range.compiled;
-      started = range.started;
-      roam = range.roam;
       ticks = omega (arith, range.ticks);
-      initial = range.initial;
-      minimum = range.minimum;
-      cover = omega (arith, c.add_charge.ensures.cover, range.cover);
-      steps = omega (arith, filled, steps, range.steps);
-      rest = rw c.modulus.ensures.value at c.add_charge.ensures.rest;
+      meterage = record {
+        cover = omega (arith, c.add_charge.ensures.cover, range.meterage.cover);
+        steps = omega (arith, filled, steps, range.meterage.steps);
+        rest = rw c.modulus.ensures.value at c.add_charge.ensures.rest;
+      };
       extras = range.extras;
-      counts = range.counts;
-      extras_sum = range.extras_sum;
+      others = range.others;
     }

@@ -26,16 +26,18 @@ returns-clause-range c =
     c.requires.fee.covers in
     record {
       compiled = c.measure.ensures.compiled;
-      started = c.requires.second;
-      roam = c.requires.roam;
       ticks = omega arith;
-      initial = c.requires.fee.amount;
-      minimum = c.requires.fee.minimum;
-      cover = subst (λ (n : ℕ). c.start.result.cover_left ≤ largest_amount * n) c.measure.ensures.value (omega
-          (arith, cover, most));
-      steps = omega (arith, ap (λ (m : Meterage). m.steps_full) made);
-      rest = omega (arith, ap (λ (m : Meterage). m.rest) made, product-some step fit.measure.0);
-      extras = refl;
-      counts = begun-allowed p;
-      extras_sum = begun-amounts p;
+      meterage = record {
+        cover = subst (λ (n : ℕ). c.start.result.cover_left ≤ largest_amount * n) c.measure.ensures.value (omega
+            (arith, cover, most));
+        steps = omega (arith, ap (λ (m : Meterage). m.steps_full) made);
+        rest = omega (arith, ap (λ (m : Meterage). m.rest) made, product-some step fit.measure.0);
+      };
+      extras = record { sixteen = refl; allowed = begun-allowed p; amounts = begun-amounts p };
+      others = record {
+        started = c.requires.second;
+        roam = c.requires.roam;
+        initial = c.requires.fee.amount;
+        minimum = c.requires.fee.minimum;
+      };
     }

@@ -9,11 +9,11 @@ use Rattle.meter_states.proofs.Settings.{modulus-above, rounding-is}
 use Rattle.meter_states.proofs.trip.display_steps.Goals as goal
 
 pub steps-requires : goal.steps-requires
-steps-requires c = record { steps = steps-few c.requires.range.ticks c.requires.range.steps }
+steps-requires c = record { steps = steps-few c.requires.range.ticks c.requires.range.meterage.steps }
 
 pub returns-clause-value : goal.returns-clause-value
 returns-clause-value c = λ s t is saved.
-    let some = modulus-above s c.args.tables.now c.args.trip.now.meterage.rest is c.requires.range.rest in
+    let some = modulus-above s c.args.tables.now c.args.trip.now.meterage.rest is c.requires.range.meterage.rest in
     c.steps.ensures.sum t.opening.cover t.opening.above (modulus_of s) (charges_of s t) some
     (ap (λ (x : CoreTrip). x.meterage) saved)
     ∙ ap (λ (r : Rounding). steps_above r (opening_of s t) (charges_of s t))
@@ -25,4 +25,4 @@ returns-clause-exact c =
 
 pub returns-clause-most : goal.returns-clause-most
 returns-clause-most c = steps-below c.steps.result c.rounding.result c.args.trip.now.meterage c.steps.ensures.exact
-    (steps-few c.requires.range.ticks c.requires.range.steps)
+    (steps-few c.requires.range.ticks c.requires.range.meterage.steps)

@@ -1,22 +1,21 @@
 use Rattle.std.proofs.Common.{ℕ, ap, ◌∙◌}
-use Rattle.drive_modes.specs.Fare.{shown_fare, steps_above, steps_of}
+use Rattle.drive_modes.specs.Fare.{steps_above, steps_of}
 use Rattle.drive_modes.specs.declared.meterage.Rounding.{Rounding}
-use Rattle.tariff_check.specs.DisplayStep.{display_step}
 use Rattle.meter_states.specs.declared.trip.CoreTrip.{CoreTrip}
 use Rattle.meter_states.specs.Setting.{modulus_of}
-use Rattle.meter_states.specs.Trip.{charges_of, opening_of}
+use Rattle.meter_states.specs.Trip.{charges_of, fare_by_fees, opening_of}
 use Rattle.meter_states.proofs.Meterages.{steps-few}
 use Rattle.meter_states.proofs.Settings.{modulus-above, rounding-is, step-is}
 use Rattle.meter_states.proofs.trip.fare.Goals as goal
 
 pub shown-requires-clause-steps : goal.shown-requires-clause-steps
-shown-requires-clause-steps c = steps-few c.requires.range.ticks c.requires.range.steps
+shown-requires-clause-steps c = steps-few c.requires.range.ticks c.requires.range.meterage.steps
 
 pub shown-requires-clause-initial : goal.shown-requires-clause-initial
-shown-requires-clause-initial c = c.requires.range.initial
+shown-requires-clause-initial c = c.requires.range.others.initial
 
 pub shown-requires-clause-minimum : goal.shown-requires-clause-minimum
-shown-requires-clause-minimum c = c.requires.range.minimum
+shown-requires-clause-minimum c = c.requires.range.others.minimum
 
 pub shown-requires-clause-step : goal.shown-requires-clause-step
 shown-requires-clause-step c = c.step.ensures.most
@@ -24,24 +23,22 @@ shown-requires-clause-step c = c.step.ensures.most
 pub returns-clause-value : goal.returns-clause-value
 returns-clause-value c = λ s t is saved.
     let p = c.args.tables.now in
-    let some = modulus-above s p c.args.trip.now.meterage.rest is c.requires.range.rest in
+    let some = modulus-above s p c.args.trip.now.meterage.rest is c.requires.range.meterage.rest in
     c.shown.ensures.sum t.opening.cover t.opening.above (modulus_of s) (charges_of s t) some
     (ap (λ (x : CoreTrip). x.meterage) saved)
-    ∙ ap (λ (x : CoreTrip). shown_fare x.initial x.minimum c.step.result
+    ∙ ap (λ (x : CoreTrip). fare_by_fees x.fees c.step.result
     (steps_above c.rounding.result (opening_of s t) (charges_of s t))) saved
-    ∙ ap (λ (n : ℕ). shown_fare t.initial t.minimum n (steps_above c.rounding.result (opening_of s t) (charges_of s t)))
+    ∙ ap (λ (n : ℕ). fare_by_fees t.fees n (steps_above c.rounding.result (opening_of s t) (charges_of s t)))
     (c.step.ensures.value ∙ step-is s p is)
-    ∙ ap (λ (r : Rounding). shown_fare t.initial t.minimum (display_step s.tariff).0
+    ∙ ap (λ (r : Rounding). fare_by_fees t.fees s.tariff.step.0
     (steps_above r (opening_of s t) (charges_of s t))) (c.rounding.ensures ∙ rounding-is s p is)
 
 pub returns-clause-exact : goal.returns-clause-exact
 returns-clause-exact c =
     let trip = c.args.trip.now in
     c.shown.ensures.exact
-    ∙ ap (λ (n : ℕ). shown_fare trip.initial trip.minimum n (steps_of c.rounding.result trip.meterage))
-    c.step.ensures.value
-    ∙ ap (λ (r : Rounding). shown_fare trip.initial trip.minimum c.args.tables.now.step (steps_of r trip.meterage))
-    c.rounding.ensures
+    ∙ ap (λ (n : ℕ). fare_by_fees trip.fees n (steps_of c.rounding.result trip.meterage)) c.step.ensures.value
+    ∙ ap (λ (r : Rounding). fare_by_fees trip.fees c.args.tables.now.step (steps_of r trip.meterage)) c.rounding.ensures
 
 pub returns-clause-most : goal.returns-clause-most
 returns-clause-most c = c.shown.ensures.most

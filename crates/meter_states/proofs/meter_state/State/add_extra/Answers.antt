@@ -1,5 +1,5 @@
 use Rattle.std.proofs.Common.{◌≤◌, Option, sym, subst, ap, ◌∙◌}
-use Rattle.tariff_check.specs.Parts.{supplement_of}
+use Rattle.tariff_check.specs.SoundTariff.{supplement_numbered}
 use Rattle.tariff_check.specs.declared.values.Supplement.{Supplement}
 use Rattle.taxi_units.specs.declared.event.Why.TheVariants.{NoSuch}
 use Rattle.meter_states.specs.Keys.{extra_added, extra_added_to}
@@ -16,10 +16,11 @@ refuse-requires g c = room-none c.args.acts.now.items c.requires.ready.room
 
 pub returns-in_default-clause-stage : goal.returns-in_default-clause-stage
 returns-in_default-clause-stage g c = λ seal.
-    refuses-stage NoSuch (λ (s : Setting) (m : Meter). extra_added c.args.n (supplement_of s.tariff.lines c.args.n) m)
+    refuses-stage NoSuch
+    (λ (s : Setting) (m : Meter). extra_added c.args.n (supplement_numbered s.tariff.supplements c.args.n) m)
     c.requires.ready c.refuse.ensures
     (λ s m is. ap (λ (o : Option Supplement). extra_added c.args.n o m)
-    (sym (c.find_supplement.ensures.tree s is.tariff) ∙ c.in_default.is))
+    (sym (c.find_supplement.ensures.setting s is.tariff) ∙ c.in_default.is))
 
 pub returns-in_default-clause-steps : goal.returns-in_default-clause-steps
 returns-in_default-clause-steps g c =
@@ -42,11 +43,11 @@ add_found-requires-clause-most g c = subst (λ
 pub returns-clause-stage : goal.returns-clause-stage
 returns-clause-stage g c = λ seal.
     commits-as (λ (s : Setting) (m : Meter). extra_added_to c.args.n c.in-Some.supplement m.trip m) (λ (s : Setting)
-    (m : Meter). extra_added c.args.n (supplement_of s.tariff.lines c.args.n) m)
+    (m : Meter). extra_added c.args.n (supplement_numbered s.tariff.supplements c.args.n) m)
     (c.add_found.ensures.stage c.args.tables.now seal c.requires.ready (sym c.find_supplement.ensures.value
     ∙ c.in-Some.is))
     (λ s m is. ap (λ (o : Option Supplement). extra_added c.args.n o m)
-    (sym (c.find_supplement.ensures.tree s is.tariff) ∙ c.in-Some.is))
+    (sym (c.find_supplement.ensures.setting s is.tariff) ∙ c.in-Some.is))
 
 pub returns-clause-steps : goal.returns-clause-steps
 returns-clause-steps g c = steps-same c.find_supplement.new.steps c.args.steps.now c.find_supplement.ensures.steps

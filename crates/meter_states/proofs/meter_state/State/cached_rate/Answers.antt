@@ -2,7 +2,8 @@ use Rattle.std.proofs.lemmas.Grind.{common_steps, elements}
 use Rattle.std.proofs.Common.{◌≡◌, ℕ, ap, sym, subst, ◌∙◌, arith}
 use Rattle.std.proofs.lemmas.Option.{IfSome_then}
 use Rattle.tariff_compile.specs.Near.{IsNear}
-use Rattle.tariff_compile.specs.Tables.{IsInRangeFor}
+use Rattle.tariff_check.specs.SoundTariff.{SoundTariff}
+use Rattle.tariff_compile.specs.Tables.{IsInRangeFor, weights_in_force}
 use Rattle.tariff_syntax.specs.declared.context.Context.{Context}
 use Rattle.meter_states.specs.Core.{CoreData}
 use Rattle.meter_states.specs.Interval.{context_of, context_on}
@@ -17,8 +18,9 @@ returns-clause-near c = IfSome_then c.cached_rate.result c.cached_rate.ensures.n
     let same : c.context_on-x.result ≡ context_of s m = c.context_on-x.ensures.value seal s m
     (cache.local _ c.in_ok-local.ensures.kept) is e ∙ ap (λ (second : ℕ). context_on s
     (local_at s second) m) began in
-    near c.args.tables.now s.tariff y c.requires.lasting is.tariff.compiled y_in (subst (λ
-    (x : Context). IsNear lasting.further lasting.longer x y) (sym same) is_near))
+    near c.args.tables.now is.tariff.tree y c.requires.lasting is.tariff.compiled y_in (subst (λ
+    (x : Context). IsNear lasting.further lasting.longer x y) (sym same) is_near)
+    ∙ ap (λ (t : SoundTariff). weights_in_force t c.args.tables.now.constant y) (sym is.tariff.parts))
 
 pub returns-clause-fit : goal.returns-clause-fit
 returns-clause-fit c = IfSome_then c.cached_rate.result c.cached_rate.ensures.fit

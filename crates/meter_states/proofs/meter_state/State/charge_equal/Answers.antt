@@ -39,7 +39,7 @@ returns-clause-follows c = λ s m is e.
     omega (arith, fewer, c.most_times-longest.ensures.most, c.min-few.ensures, range.range.ticks) in
     let long : n ≤ lasting.longer = omega (arith, fewer, c.most_times-longest.ensures.room) in
     let modulus = modulus-is s tables is.tariff in
-    let rest : t.meterage.rest < modulus_of s = rw modulus at range.range.rest in
+    let rest : t.meterage.rest < modulus_of s = rw modulus at range.range.meterage.rest in
     let room = rw c.spare.ensures.value at c.most_times-n.ensures.room in
     let spare : n * q ≤ spare_of tables.rounding (modulus_of s) t.meterage =
     subst (λ (k : ℕ). n * q ≤ spare_of tables.rounding k t.meterage) modulus room in
@@ -113,7 +113,8 @@ add_charged-requires-clause-rest c =
     let has = sym (ap (λ (p : CoreData). p.trip) c.self.view_is) ∙ c.in-Some-trip.is in
     let range = rw has at c.requires.lawful.trip in
     let fit = tables_are_fit tables c.requires.lawful.compiled in
-    omega (arith, range.range.rest, mul-le tables.step tables.measure (10 ^ 6) (2 * 10 ^ 23) fit.step.1 fit.measure.1)
+    let rest = range.range.meterage.rest in
+    omega (arith, rest, mul-le tables.step tables.measure (10 ^ 6) (2 * 10 ^ 23) fit.step.1 fit.measure.1)
 
 pub returns-in_default-clause-full : goal.returns-in_default-clause-full
 returns-in_default-clause-full c =
@@ -133,7 +134,7 @@ returns-clause-full c =
     charged-full tables c.args.seal.now c.args.cache.now c.args.pulses c.charge-each.result n c.most_times-near.result
     c.most_times-longest.result c.min-few.result c.args.count _ t c.add_charged.new.trip c.in-Some.lasting refl
     c.add_charged.ensures.value c.charge-each.ensures.charge (λ rate is. c.in-Some.ensures.lasts t rate has is)
-    range.range.rest spare few c.most_times-longest.ensures.full c.most_times-near.ensures.full full
+    range.range.meterage.rest spare few c.most_times-longest.ensures.full c.most_times-near.ensures.full full
 
 pub returns-clause-taken : goal.returns-clause-taken
 returns-clause-taken c =

@@ -1,4 +1,7 @@
 use Rattle.std.proofs.Common.{◌≤◌, refl, ap, subst, sym, ◌∙◌, arith}
+use Rattle.tariff_check.specs.SoundLookups.{has_date}
+use Rattle.tariff_check.specs.SoundTariff.{SoundTariff}
+use Rattle.meter_states.specs.Cache.{sealed_time}
 use Rattle.meter_states.specs.Core.{CoreData}
 use Rattle.meter_states.proofs.meter_state.State.context_on.Goals as goal
 
@@ -28,7 +31,9 @@ returns-clause-value c = λ seal s m cached is stands.
       ap (λ (p : CoreData). p.zone) core,
       cached.weekday,
       cached.month_day,
-      cached.holiday s.tariff is.tariff.compiled,
+      cached.holiday is.tariff.tree is.tariff.compiled ∙ ap (λ (t : SoundTariff). has_date t.holidays
+          (sealed_time seal c.args.local.now.second).year (sealed_time seal c.args.local.now.second).month
+          (sealed_time seal c.args.local.now.second).date) (sym is.tariff.parts),
       cached.minute,
       c.pulses.ensures.state s m stands,
       c.ticks.ensures.state s m stands,

@@ -1,7 +1,23 @@
-use Rattle.std.proofs.Common.{◌∙◌}
-use Rattle.meter_states.proofs.SameParts.{display-same}
+use Rattle.std.proofs.Common.{◌≡◌, ℕ, ◌∙◌}
+use Rattle.taxi_units.specs.declared.receipt.Display.{Display}
+use Rattle.meter_states.specs.Core.{CoreData}
 use Rattle.meter_states.proofs.Settings.{decimals-is}
 use Rattle.meter_states.proofs.meter_state.State.display.Goals as goal
+
+-- displays whose parts are equal are equal
+abbrev display_with : CoreData → (fare supplements decimals : ℕ) → Display
+display_with c fare supplements decimals = record {
+  operating = c.operating;
+  position = c.position;
+  zone = c.zone;
+  fare = fare;
+  supplements = supplements;
+  decimals = decimals;
+}
+
+display-same : {c d : CoreData} {f g x y m n : ℕ} → c ≡ d → f ≡ g → x ≡ y → m ≡ n
+    → display_with c f x m ≡ display_with d g y n
+display-same of_core fare supplements decimals = cc
 
 pub fare-requires : goal.fare-requires
 fare-requires c = record { lawful = c.requires.lawful }

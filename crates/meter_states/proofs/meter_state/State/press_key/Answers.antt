@@ -1,8 +1,13 @@
-use Rattle.std.proofs.Common.{refl}
+use Rattle.std.proofs.Common.{◌≡◌, ℕ, refl}
 use Rattle.taxi_units.specs.declared.event.Key.TheVariants as keys
+use Rattle.taxi_units.specs.declared.event.Operating.{Operating}
 use Rattle.taxi_units.specs.declared.event.Operating.TheVariants.{ForHire, Hired, Stopped}
-use Rattle.meter_states.proofs.KeyStages.{closes-row, commits-row, moves-row, no-clear, no-extra, no-hire, no-position}
-use Rattle.meter_states.proofs.KeyStages.{no-stop, no-zone, refuses-row, steps-none, steps-one, steps-row}
+use Rattle.taxi_units.specs.declared.event.Why.TheVariants.{NotNow}
+use Rattle.meter_states.specs.Keys.{key_in}
+use Rattle.meter_states.specs.Meter.{Meter, refused}
+use Rattle.meter_states.specs.Setting.{Setting}
+use Rattle.meter_states.proofs.KeyStages.{closes-row, commits-row, moves-row, refuses-row, steps-none, steps-one}
+use Rattle.meter_states.proofs.KeyStages.{steps-row}
 use Rattle.meter_states.proofs.Pushes.{room-none}
 use Rattle.meter_states.proofs.meter_state.State.press_key.Goals as goal
 use Rattle.meter_states.proofs.meter_state.State.press_key.Goals.{in_default-via-in-Hire+in_default}
@@ -11,6 +16,40 @@ use Rattle.meter_states.proofs.meter_state.State.press_key.Goals.{in_default-via
 use Rattle.meter_states.proofs.meter_state.State.press_key.Goals.{in_default-via-in-Position+in_default}
 use Rattle.meter_states.proofs.meter_state.State.press_key.Goals.{in_default-via-in-Zone+in_default}
 use Rattle.meter_states.proofs.meter_state.State.press_key.Goals.{in_default-via-in-Extra+in_default}
+
+-- each key is refused where it has no row
+no-hire : (on : Operating) → (on ≡ ForHire → ⊥) → (on ≡ Stopped → ⊥) → (s : Setting) (m : Meter)
+    → key_in s keys.Hire on m ≡ refused NotNow m
+no-hire ForHire hire stopped s m = absurd (hire refl)
+no-hire Stopped hire stopped s m = absurd (stopped refl)
+no-hire on hire stopped s m = refl
+
+no-stop : (on : Operating) → (on ≡ Hired → ⊥) → (s : Setting) (m : Meter) → key_in s keys.Stop on m ≡ refused NotNow m
+no-stop Hired hired s m = absurd (hired refl)
+no-stop on hired s m = refl
+
+no-clear : (on : Operating) → (on ≡ Stopped → ⊥) → (s : Setting) (m : Meter)
+    → key_in s keys.Clear on m ≡ refused NotNow m
+no-clear Stopped stopped s m = absurd (stopped refl)
+no-clear on stopped s m = refl
+
+no-position : (n : ℕ) (on : Operating) → (on ≡ ForHire → ⊥) → (on ≡ Hired → ⊥) → (s : Setting) (m : Meter)
+    → key_in s (keys.Position n) on m ≡ refused NotNow m
+no-position n ForHire hire hired s m = absurd (hire refl)
+no-position n Hired hire hired s m = absurd (hired refl)
+no-position n on hire hired s m = refl
+
+no-zone : (n : ℕ) (on : Operating) → (on ≡ ForHire → ⊥) → (on ≡ Hired → ⊥) → (s : Setting) (m : Meter)
+    → key_in s (keys.Zone n) on m ≡ refused NotNow m
+no-zone n ForHire hire hired s m = absurd (hire refl)
+no-zone n Hired hire hired s m = absurd (hired refl)
+no-zone n on hire hired s m = refl
+
+no-extra : (n : ℕ) (on : Operating) → (on ≡ Hired → ⊥) → (on ≡ Stopped → ⊥) → (s : Setting) (m : Meter)
+    → key_in s (keys.Extra n) on m ≡ refused NotNow m
+no-extra n Hired hired stopped s m = absurd (hired refl)
+no-extra n Stopped hired stopped s m = absurd (stopped refl)
+no-extra n on hired stopped s m = refl
 
 pub hire-requires-clause-ready : goal.hire-requires-clause-ready
 hire-requires-clause-ready g c = c.requires.ready

@@ -1,6 +1,7 @@
 use Rattle.std.proofs.Common.{◌≡◌, ℕ, Option, ap, sym, subst, ◌∙◌}
 use Rattle.std.specs.Option.{ForSome}
-use Rattle.tariff_compile.specs.Tables.{rate_by}
+use Rattle.tariff_check.specs.SoundTariff.{SoundTariff}
+use Rattle.tariff_compile.specs.Tables.{weights_in_force}
 use Rattle.meter_states.specs.Core.{CoreData}
 use Rattle.meter_states.specs.Cache.{IsCachedTimeOf}
 use Rattle.meter_states.specs.Interval.{context_on}
@@ -12,8 +13,10 @@ pub returns-clause-rate : goal.returns-clause-rate
 returns-clause-rate g c = λ s m is st.
     let began : c.local_at-local.result.second ≡ m.began =
     c.local_at-local.ensures.second ∙ ap (λ (p : CoreData). p.began) (c.self.view_is ∙ st) in
-    c.rate_at.ensures.tree s.tariff is.tariff.compiled
-    ∙ ap (rate_by s.tariff c.args.tables.now.constant)
+    c.rate_at.ensures.tree is.tariff.tree is.tariff.compiled
+    ∙ ap (λ (t : SoundTariff). weights_in_force t c.args.tables.now.constant c.context_on-x.result)
+    (sym is.tariff.parts)
+    ∙ ap (weights_in_force s.tariff c.args.tables.now.constant)
     (c.context_on-x.ensures.value c.args.seal.now s m c.local_at-local.ensures.local is st ∙ ap (λ
     (second : ℕ). context_on s (local_at s second) m) began)
 
