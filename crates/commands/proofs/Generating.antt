@@ -143,7 +143,7 @@ pub setting_is : (t : Tree) (tables : TableParts) (seal : Seal) → IsTablesOf t
     → IsSettingOf (generated_setting t) tables seal
 setting_is t tables seal compiled is constant mode hold offsets =
     let of_tariff : IsTariffOf (generated_setting t) tables =
-    record { compiled = compiled; constant = ap (λ (p : TableParts). p.constant) is } in
+    record { tree = t; compiled = compiled; parts = refl; constant = ap (λ (p : TableParts). p.constant) is } in
     let of_seal : IsSealOf (generated_setting t) seal =
     record { constant = constant; mode = mode; hold_time = hold; offsets = offsets } in
     record { tariff = of_tariff; secured = of_seal }

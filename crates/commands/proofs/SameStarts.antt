@@ -19,6 +19,7 @@ use Rattle.seal_record.specs.Ranges.{IsSeal}
 use Rattle.seal_record.proofs.Laws.{seals_are_read_by_their_table}
 use Rattle.seal_record.specs.declared.seal.Seal.{Seal}
 use Rattle.tariff_check.specs.Faults.{fault_of}
+use Rattle.tariff_check.specs.SoundTariff.{sound_of}
 use Rattle.tariff_check.specs.declared.fault.CheckFault.{CheckFault}
 use Rattle.tariff_check.proofs.Laws.{sound_tariffs_have_sound_parts-none}
 use Rattle.tariff_syntax.specs.Parsed.{tree_parsed}
@@ -94,7 +95,7 @@ sealed-is false digest text t e = digest-is (pointwise nat_eq digest (sha256 tex
 -- ---- the setting of a run is in range
 
 setting-range : (image tariff : List ℕ) (a : Start) → start_of (opening_of image) tariff ≡ Ok a
-    → IsSettingInRange (setting_in a)
+    → IsSettingInRange a.tree (setting_in a)
 setting-range image tariff a e =
     let h = found_in image tariff a e in
     let at =
@@ -106,6 +107,7 @@ setting-range image tariff a e =
     a.seal).0 at.latest.body_is).0 in
     let text = sealed-is (nat_lt 65536 (length tariff)) a.seal.digest tariff a.tree h.tariff_is in
     record {
+      parts = refl;
       writable = texts_have_their_numbers tariff a.tree ((texts_are_parsed_as_they_read-tariff tariff a.tree).1
           text.parsed);
       sound = (sound_tariffs_have_sound_parts-none a.tree).0 text.none;
@@ -114,12 +116,12 @@ setting-range image tariff a e =
     }
 
 -- the settings of starts that go by the same are the same
-others-same : (a b : Start) → GoBySame a b → record (setting_in a) { tariff = b.tree } ≡ setting_in b
+others-same : (a b : Start) → GoBySame a b → record (setting_in a) { tariff = sound_of b.tree } ≡ setting_in b
 others-same a b same = ap (λ (x : Seal). setting_in (record b { seal = x })) same.seal
 
 settings-same : (image other tariff rewritten : List ℕ) (a b : Start) → start_of (opening_of image) tariff ≡ Ok a
     → start_of (opening_of other) rewritten ≡ Ok b → GoBySame a b
-    → AreSameSettings (setting_in a) (setting_in b)
+    → AreSameSettings a.tree b.tree (setting_in a) (setting_in b)
 settings-same image other tariff rewritten a b one second same = record {
   one = setting-range image tariff a one;
   other = setting-range other rewritten b second;
@@ -141,7 +143,7 @@ alike_begin a b starts = record {
         (ap (λ (d : Durable). d.hold) starts.durable);
     others = ap (λ (d : Durable). record a.durable { hold = d.hold }) (sym starts.durable) ∙ starts.durable;
   };
-  goes_on = subst (λ (x : Option Trip). HoldGoesOn a.tree x) (sym starts.free) tt;
+  goes_on = subst (λ (x : Option Trip). HoldGoesOn (sound_of a.tree) x) (sym starts.free) tt;
 }
 
 -- ---- the runs
@@ -158,13 +160,13 @@ left a drive =
 
 module _ (image other tariff rewritten drive : List ℕ) (a b : Start) (one : start_of (opening_of image) tariff ≡ Ok a)
     (second : start_of (opening_of other) rewritten ≡ Ok b) (alike : AreStartsAlike a b) where
-  settings : AreSameSettings (setting_in a) (setting_in b)
+  settings : AreSameSettings a.tree b.tree (setting_in a) (setting_in b)
   settings = settings-same image other tariff rewritten a b one second alike.same
 
   outcomes : AreOutcomesAlike (setting_in a) (setting_in b) (whole_run (setting_in a) a.durable (events_of drive))
       (whole_run (setting_in b) b.durable (events_of drive))
-  outcomes = same_tariffs_run_alike-outcomes (setting_in a) (setting_in b) a.durable b.durable (events_of drive)
-      settings (events_of_drives_are_timely drive) alike.goes_on alike.durable
+  outcomes = same_tariffs_run_alike-outcomes a.tree b.tree (setting_in a) (setting_in b) a.durable b.durable
+      (events_of drive) settings (events_of_drives_are_timely drive) alike.goes_on alike.durable
 
   pub same_answers : DoTheSame (start_of (opening_of image) tariff) (start_of (opening_of other) rewritten) a b drive
   same_answers = record {
@@ -177,9 +179,10 @@ module _ (image other tariff rewritten drive : List ℕ) (a b : Start) (one : st
 
   pub same_goes_on : AreStartsAlike (start_after a drive) (start_after b drive)
   same_goes_on =
-      let stores = same_tariffs_run_alike-stores (setting_in a) (setting_in b) a.durable b.durable (events_of drive)
-      settings (events_of_drives_are_timely drive) alike.goes_on alike.durable in
-      let on = same_tariffs_run_alike-goes_on (setting_in a) (setting_in b) a.durable (events_of drive) settings
+      let stores = same_tariffs_run_alike-stores a.tree b.tree (setting_in a) (setting_in b) a.durable b.durable
+      (events_of drive) settings (events_of_drives_are_timely drive) alike.goes_on alike.durable in
+      let on = same_tariffs_run_alike-goes_on a.tree b.tree (setting_in a) (setting_in b) a.durable (events_of drive)
+      settings
       (events_of_drives_are_timely drive) alike.goes_on in
       record {
         same = record { seal = alike.same.seal; tariffs = alike.same.tariffs };
@@ -187,5 +190,5 @@ module _ (image other tariff rewritten drive : List ℕ) (a b : Start) (one : st
             (after_deeds b.durable (deeds_in b drive))) (left a drive)
             (subst (λ (d : Durable). AreStoresAlike (setting_in a) (setting_in b)
             (whole_run (setting_in a) a.durable (events_of drive)).next.durable d) (left b drive) stores);
-        goes_on = subst (λ (d : Durable). HoldGoesOn a.tree d.hold) (left a drive) on;
+        goes_on = subst (λ (d : Durable). HoldGoesOn (sound_of a.tree) d.hold) (left a drive) on;
       }

@@ -36,21 +36,8 @@ syntax_of text line h =
 -- a refusal for a fault names it, and is none for want of memory
 refusal_is : (fault : CheckFault) (why : Refusal) → unsound_for fault ≡ texts.Refused why
     → (why ≡ Unsound fault) × (fault ≢ checks.NoMemory)
-refusal_is checks.NoStep why e = (cc, λ h. absurd cc)
-refusal_is checks.StepZero why e = (cc, λ h. absurd cc)
-refusal_is (checks.Duplicate n) why e = (cc, λ h. absurd cc)
-refusal_is (checks.TooManyLines n) why e = (cc, λ h. absurd cc)
-refusal_is (checks.UnknownNumber n) why e = (cc, λ h. absurd cc)
-refusal_is checks.NoDefaultRate why e = (cc, λ h. absurd cc)
-refusal_is checks.NoDefaultInitial why e = (cc, λ h. absurd cc)
-refusal_is (checks.LineAfterDefault n) why e = (cc, λ h. absurd cc)
-refusal_is (checks.BadDate n) why e = (cc, λ h. absurd cc)
-refusal_is (checks.AmountTooBig n) why e = (cc, λ h. absurd cc)
-refusal_is (checks.MeasureZero n) why e = (cc, λ h. absurd cc)
-refusal_is checks.NoCommonMeasure why e = (cc, λ h. absurd cc)
-refusal_is (checks.TooManyCuts d n) why e = (cc, λ h. absurd cc)
-refusal_is (checks.TooManyCells n) why e = (cc, λ h. absurd cc)
 refusal_is checks.NoMemory why e = absurd cc
+refusal_is fault why e = (cc, λ h. absurd cc)
 
 by_fault : (text : List ℕ) (t : Tariff) (fault : CheckFault) (why : Refusal) → IsParsed text (Ok t)
     → (fault ≡ checks.NoMemory) ⊎ (fault_of (tree_of t) ≡ Some fault)
@@ -66,18 +53,5 @@ unsound_of text t fault why h found e = by_fault text t fault why h found (refus
 
 -- no fault of a tariff is one of a read
 pub unsound-read : (fault : CheckFault) → unsound_for fault ≢ texts.ReadFault
-unsound-read checks.NoStep = λ e. absurd cc
-unsound-read checks.StepZero = λ e. absurd cc
-unsound-read (checks.Duplicate n) = λ e. absurd cc
-unsound-read (checks.TooManyLines n) = λ e. absurd cc
-unsound-read (checks.UnknownNumber n) = λ e. absurd cc
-unsound-read checks.NoDefaultRate = λ e. absurd cc
-unsound-read checks.NoDefaultInitial = λ e. absurd cc
-unsound-read (checks.LineAfterDefault n) = λ e. absurd cc
-unsound-read (checks.BadDate n) = λ e. absurd cc
-unsound-read (checks.AmountTooBig n) = λ e. absurd cc
-unsound-read (checks.MeasureZero n) = λ e. absurd cc
-unsound-read checks.NoCommonMeasure = λ e. absurd cc
-unsound-read (checks.TooManyCuts d n) = λ e. absurd cc
-unsound-read (checks.TooManyCells n) = λ e. absurd cc
 unsound-read checks.NoMemory = λ e. absurd cc
+unsound-read fault = λ e. absurd cc

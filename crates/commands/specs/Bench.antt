@@ -3,7 +3,6 @@ use Rattle.std.specs.Prelude.{◌≡◌, ◌⊎◌, ℕ, ◌+◌, ◌≤◌, Boo
 use Rattle.drive_text.specs.Ending.{StreamEnd, Whole, BadAt, Endless, IsGoing, drive_end, events_of}
 use Rattle.meter_states.specs.Setting.{Setting, setting_by}
 use Rattle.seal_record.specs.declared.seal.Seal.{Seal}
-use Rattle.tariff_check.specs.DisplayStep.{display_step}
 use Rattle.tariff_syntax.specs.Tree.{Tree}
 use Rattle.totals_record.specs.declared.durable_state.Durable.{Durable}
 use Rattle.verify_bench.specs.CrossOvers.{cross_overs_text}
@@ -63,12 +62,13 @@ hirings_under terms drive = expected_of (setting_under terms) (events_of drive)
 -- the text of a verification is the cross-over speeds of the tariff and then the report
 abbrev pub bench_text : Terms → (drive : List ℕ) → List Reading → List ℕ
 bench_text terms drive found =
-    cross_overs_text terms.tree.lines
-    ++ report_text (display_step terms.tree).0 terms.tree.decimals (hirings_under terms drive) found
+    cross_overs_text (setting_under terms).tariff
+    ++ report_text (setting_under terms).tariff.step.0 (setting_under terms).tariff.decimals
+    (hirings_under terms drive) found
 
 -- the test `does_bench_pass` is true where every row of the report passes
 abbrev pub does_bench_pass : Terms → (drive : List ℕ) → List Reading → Bool
-does_bench_pass terms drive found = do_all_pass (display_step terms.tree).0 (hirings_under terms drive) found
+does_bench_pass terms drive found = do_all_pass (setting_under terms).tariff.step.0 (hirings_under terms drive) found
 
 -- the command ended by the fault for which its readings weren't read
 abbrev pub ended_for_readings : ReadingsFault → Ended

@@ -3,7 +3,6 @@ use Rattle.std.specs.Prelude.{◌≡◌, ◌⊎◌, ℕ, List, [], ◌++◌, Boo
 use Rattle.drive_text.specs.Ending.{Whole, BadAt, Endless, IsGoing, IsSplit, TellsEnd, drive_end, events_of}
 use Rattle.drive_text.specs.Runs.{run_events}
 use Rattle.drive_text.specs.declared.run.Run.{Run}
-use Rattle.tariff_check.specs.DisplayStep.{display_step}
 use Rattle.meter_run.specs.declared.source.Stop.{Stop}
 use Rattle.meter_run.specs.declared.source.Stop.TheVariants as stops
 use Rattle.verify_bench.specs.Readings.{readings_in}
@@ -87,13 +86,14 @@ IsNoReadings decimals text read_failed why = ⊥
 -- what is printed of readings beside the events of a drive
 abbrev pub judged_text : Terms → List Event → List Reading → List ℕ
 judged_text terms events found =
-    cross_overs_text terms.tree.lines
-    ++ report_text (display_step terms.tree).0 terms.tree.decimals (expected_of (setting_under terms) events) found
+    cross_overs_text (setting_under terms).tariff
+    ++ report_text (setting_under terms).tariff.step.0 (setting_under terms).tariff.decimals
+    (expected_of (setting_under terms) events) found
 
 -- a test whether all rows of readings pass beside the events of a drive
 abbrev pub judged_pass : Terms → List Event → List Reading → Bool
 judged_pass terms events found =
-    do_all_pass (display_step terms.tree).0 (expected_of (setting_under terms) events) found
+    do_all_pass (setting_under terms).tariff.step.0 (expected_of (setting_under terms) events) found
 
 -- readings are judged where the drive and the readings were read, and what is printed and whether all rows pass is that
 -- of the verification

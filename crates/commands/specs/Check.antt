@@ -1,8 +1,7 @@
 -- Rules: the command `check TARIFF`.
 use Rattle.std.specs.Prelude.{◌≡◌, ◌+◌, ◌≤◌, [], None, Result, Ok, Err}
 use Rattle.tariff_syntax.specs.Tree.{Tree}
-use Rattle.tariff_check.specs.Cells.{cells_of}
-use Rattle.tariff_check.specs.Measure.{measure_of}
+use Rattle.tariff_check.specs.SoundTariff.{sound_of}
 use Rattle.commands.specs.Answer.{Answer, shows_line}
 use Rattle.commands.specs.Course.{Command}
 use Rattle.commands.specs.LastLine.{sound_line}
@@ -12,7 +11,7 @@ use Rattle.commands.specs.declared.tariff.Refusal.{Refusal}
 -- the answer to a sound tariff says how many cells it has and its common measure; to another text, why there is none
 abbrev pub check_answer : Result Tree Refusal → Answer
 check_answer (Err why) = bad_tariff why
-check_answer (Ok t) = shows_line (sound_line (cells_of t.lines) (measure_of t.lines))
+check_answer (Ok t) = shows_line (sound_line (sound_of t).cells (sound_of t).measure)
 
 -- the command `check` reads its tariff and prints one line, in one step at most
 abbrev pub check_command : Command

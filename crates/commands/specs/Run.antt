@@ -1,9 +1,8 @@
 -- Rules: the command `run TARIFF DRIVE`.
 use Rattle.std.specs.Cmp.Lexicographic.{pointwise}
-use Rattle.std.specs.Prelude.{◌≡◌, ◌≢◌, ◌⊎◌, ℕ, ◌+◌, ◌*◌, ◌==◌, ◌&&◌, nat_eq, nat_le, nat_lt, if◌then◌else◌, Bool, true, List, [], ◌∷◌, ◌++◌, length, Option, None, Some, Result, Ok, Err}
+use Rattle.std.specs.Prelude.{◌≡◌, ◌≢◌, ◌⊎◌, ℕ, nat_eq, nat_lt, if◌then◌else◌, Bool, true, List, [], ◌∷◌, ◌++◌, length, Option, None, Some, Result, Ok, Err}
 use Rattle.sha2.specs.Sha256.{sha256}
 use Rattle.drive_text.specs.Ending.{IsGoing, drive_end}
-use Rattle.taxi_units.specs.Money.{largest_amount}
 use Rattle.outside.specs.Disk.{IsWithin, SameBut}
 use Rattle.outside.specs.Printing.{Begins}
 use Rattle.outside.specs.Runs.{IsSettled, LeavesOnly}
@@ -16,9 +15,8 @@ use Rattle.meter_store.specs.Stored.{HasState}
 use Rattle.seal_record.specs.declared.seal.Seal.{Seal}
 use Rattle.tariff_syntax.specs.Tree.{Tree}
 use Rattle.tariff_compile.specs.Tables.{TableParts, tables_of}
-use Rattle.tariff_check.specs.declared.values.Supplement.{Supplement}
+use Rattle.meter_states.specs.FitTest.{fits_test}
 use Rattle.meter_states.specs.Setting.{Setting, setting_by}
-use Rattle.meter_states.specs.Supplements.{amounts_from, most_in, supplement_in}
 use Rattle.meter_run.specs.Deeds.{Deed, Prints, after_deeds, texts}
 use Rattle.meter_run.specs.Drives.{IsBoundedBy}
 use Rattle.meter_run.specs.Points.{IsCutOfDeeds}
@@ -54,30 +52,11 @@ sealed_tariff digest text =
     else (if pointwise nat_eq digest (sha256 text) then accepted (tariff_in text)
     else Err (ended.WrongTariff digest (sha256 text)))
 
--- the test `are_allowed` is true where no count of supplements, whose numbers run from a first one on, is above what a
--- hiring may have
-abbrev pub are_allowed : (supplement : ℕ → Option Supplement) → (first : ℕ) → (counts : List ℕ) → Bool
-are_allowed supplement first [] = true
-are_allowed supplement first (count ∷ counts) =
-    nat_le count (most_in (supplement first)) && are_allowed supplement (first + 1) counts
-
--- the test `does_fit` is true where a trip fits the tables: its position, zone, rest, cover and supplements may come
--- from a hiring by them
-abbrev pub does_fit : TableParts → Trip → Bool
-does_fit tables trip =
-    nat_le 1 trip.position
-    && (nat_le trip.position tables.positions
-    && (nat_le 1 trip.zone
-    && (nat_le trip.zone tables.zones
-    && (nat_lt trip.meterage.rest (tables.step * tables.measure)
-    && (nat_le trip.meterage.cover_left (largest_amount * tables.measure)
-    && (are_allowed (supplement_in tables) 1 trip.extras
-    && trip.extras_sum == amounts_from (supplement_in tables) 1 trip.extras))))))
-
--- the test `does_hold_fit` is true where a held trip fits the tables, or there is none
+-- the test `does_hold_fit` is true where a held trip fits the tables, or there is none: its position, zone, rest, cover
+-- and supplements may come from a hiring by them, as the fact of `fits_test` says
 abbrev pub does_hold_fit : TableParts → Option Trip → Bool
 does_hold_fit tables None = true
-does_hold_fit tables (Some trip) = does_fit tables trip
+does_hold_fit tables (Some trip) = (fits_test tables trip).passes
 
 -- a run begins with the durable state and the seal of the store, and with the tariff
 pub record Start : Type 0 where

@@ -27,7 +27,7 @@ pub record AreSameStarts (a b : Start) : Type 0 where
 pub record AreStartsAlike (a b : Start) : Type 0 where
   pub same : GoBySame a b
   pub durable : AreStoresAlike (setting_in a) (setting_in b) a.durable b.durable
-  pub goes_on : HoldGoesOn a.tree a.durable.hold
+  pub goes_on : HoldGoesOn (setting_in a).tariff a.durable.hold
 
 -- two runs over a drive do the same if each answers with the texts of the first one's deeds under its own seal, of
 -- which a receipt shows the digest, and ends as the drive does, and they make the same entries

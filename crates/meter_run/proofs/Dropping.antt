@@ -13,6 +13,7 @@ use Rattle.taxi_units.specs.declared.event.Event.TheVariants.{Up, Down, Pulses, 
 use Rattle.taxi_units.specs.declared.event.Operating.{Operating}
 use Rattle.taxi_units.specs.declared.event.Operating.TheVariants.{Off, ForHire, Hired, Stopped}
 use Rattle.taxi_units.specs.declared.event.Why.TheVariants.{NotNow}
+use Rattle.tariff_check.specs.SoundTariff.{sound_of}
 use Rattle.tariff_compile.specs.Tables.{IsCompiled, TableParts}
 use Rattle.seal_record.specs.declared.seal.Seal.{Seal}
 use Rattle.totals_record.specs.Ranges.{IsDurable}
@@ -154,7 +155,7 @@ pub ready_first : (tables : TableParts) (seal : Seal) (core : CachedCore) (d : D
     → IsReady tables seal core d
 ready_first tables seal core d compiled constant lawful off range is =
     let s : Setting = record {
-      tariff = compiled.0;
+      tariff = sound_of compiled.0;
       constant = tables.constant;
       mode = seal.params.mode;
       hold_time = seal.params.hold_time;
@@ -168,7 +169,7 @@ ready_first tables seal core d compiled constant lawful off range is =
         setting = s;
         meter = opened s first_state;
         is = record {
-          tariff = record { compiled = compiled.1; constant = refl };
+          tariff = record { tree = compiled.0; compiled = compiled.1; parts = refl; constant = refl };
           secured = record { constant = sym constant; mode = refl; hold_time = refl; offsets = refl };
         };
         stands = begins s core d off is;

@@ -1,6 +1,6 @@
 -- One event on a store.
 use Rattle.std.proofs.Common.{◌≡◌, ◌≢◌, inl, ℕ, List, [], ◌∷◌, ◌++◌, All, Option, Some, None, IfSome, Result, OnOk}
-use Rattle.std.proofs.Common.{refl, sym, ap, subst, ◌∙◌}
+use Rattle.std.proofs.Common.{OnErr, refl, sym, ap, subst, ◌∙◌}
 use Rattle.std.specs.Option.{ForSome}
 use Rattle.std.proofs.lemmas.List.{append-nil}
 use Rattle.std.proofs.lemmas.Result.{on_ok_weaker}
@@ -41,14 +41,15 @@ use Rattle.meter_run.specs.Deeds.{Deed, Does, deeds_of, texts}
 use Rattle.meter_run.specs.Dry.{IsReady}
 use Rattle.meter_run.specs.BetweenEvents.{StandsWith}
 use Rattle.meter_run.specs.OnStore.{Agrees, Attempts, CarriesOut, Has, IsReadyOn, IsSecured, Knows, MayDo, StandsOn}
-use Rattle.meter_run.specs.OnStore.{StopsAmid, WritesTotals}
+use Rattle.meter_run.specs.OnStore.{CarriesEvents, StopsAmid, WritesTotals}
 use Rattle.meter_run.specs.PointLaws.{keeps_longer, keeps_next}
 use Rattle.meter_run.specs.Points.{KeepsTo}
 use Rattle.meter_run.specs.StoreLaws.{beside_then, has_settled}
+use Rattle.meter_run.specs.Supply.{KeepsOff}
 use Rattle.meter_run.specs.declared.stored.Known.{Known}
 use Rattle.meter_run.specs.declared.stored.StoreMeter.{StoreMeter}
 use Rattle.meter_run.proofs.Dropping.{came, off_of, ready_after, stands_after}
-use Rattle.meter_run.proofs.Going.{on_ok, on_ok_both, on_ok_under}
+use Rattle.meter_run.proofs.Going.{on_err, on_ok, on_ok_both, on_ok_under}
 use Rattle.meter_run.proofs.Leaves.{beside_kept, print_point, settled_kept}
 
 -- ---- a meter that opens with a durable state
@@ -364,14 +365,13 @@ module _ {D L : Type 0} {N : ℕ} (B : Ghosts D N L) (tables : TableParts) (seal
     beside = h.beside;
   }
 
-  pub attempts_one : {T E : Type 0} (r : Result T E) (x : StoreMeter) (a : D) (y : StoreMeter) (b : D)
-      (event other : Event) → event ≡ other → Attempts B tables seal (λ s m. step s other m) x a r y b
-      → Attempts B tables seal (λ s m. run s (event ∷ []) m) x a r y b
-  attempts_one r x a y b event other is h =
-      subst (λ (e : Event). Attempts B tables seal (λ s m. run s (e ∷ []) m) x a r y b) (sym is)
-      (record {
-        ready = h.ready;
-        carried = on_ok_weaker r (out_one x a y b other) h.carried;
-        stopped = amid_one x a b other h.stopped;
-        cause = h.cause;
-      })
+  pub carried_one : {T E : Type 0} (r : Result T E) (x : StoreMeter) (a : D) (y : StoreMeter) (b : D) (event : Event)
+      → Attempts B tables seal (λ s m. step s event m) x a r y b → KeepsOff x.core.plain (event ∷ []) y.core.plain
+      → OnOk r (CarriesEvents B tables seal (event ∷ []) x a y b)
+  carried_one r x a y b event h off =
+      on_ok_weaker r (λ out. record { out = out_one x a y b event out; supply = off }) h.carried
+
+  pub stopped_one : {T E : Type 0} (r : Result T E) (x : StoreMeter) (a : D) (y : StoreMeter) (b : D) (event : Event)
+      → Attempts B tables seal (λ s m. step s event m) x a r y b
+      → OnErr r (StopsAmid B tables seal (λ s m. run s (event ∷ []) m) x a b)
+  stopped_one r x a y b event h = on_err r _ (amid_one x a b event h.stopped)

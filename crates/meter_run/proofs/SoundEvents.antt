@@ -11,8 +11,7 @@ use Rattle.taxi_units.specs.declared.event.Operating.{Operating}
 use Rattle.taxi_units.specs.declared.event.Operating.TheVariants.{Off, ForHire, Hired, Stopped}
 use Rattle.taxi_units.specs.declared.event.Why.TheVariants.{NotNow, NoSuch, AtMost, Powered, Ended}
 use Rattle.taxi_units.specs.declared.receipt.Kind.TheVariants as kinds
-use Rattle.tariff_check.specs.Parts.{positions_of, zones_of}
-use Rattle.tariff_check.specs.Parts.{supplement_of}
+use Rattle.tariff_check.specs.SoundTariff.{supplement_numbered}
 use Rattle.tariff_check.specs.declared.values.Supplement.{Supplement}
 use Rattle.totals_record.specs.declared.durable_state.Durable.{Durable}
 use Rattle.totals_record.specs.declared.trip.Trip.{Trip}
@@ -73,15 +72,13 @@ hire_key : (s : Setting) (key : Key) (m : Meter) → Idle s (for_hire m) (key_in
 hire_key s keys.Hire m = either (Idle s (for_hire m)) (nat_le hirings_end m.durable.number) (refused Ended (for_hire m))
     (quiet (hired s (for_hire m)))
     (refusing s Ended (for_hire m) (refl, refl)) (still s (hired s (for_hire m)) (λ e. absurd cc, refl))
-hire_key s keys.Stop m = refusing s NotNow (for_hire m) (refl, refl)
-hire_key s keys.Clear m = refusing s NotNow (for_hire m) (refl, refl)
-hire_key s (keys.Position n) m = either (Idle s (for_hire m)) (is_among (positions_of s.tariff.lines) n)
+hire_key s (keys.Position n) m = either (Idle s (for_hire m)) (is_among s.tariff.positions n)
     (quiet (record (for_hire m) { position = n })) (refused NoSuch (for_hire m))
     (still s (record (for_hire m) { position = n }) (refl, refl)) (refusing s NoSuch (for_hire m) (refl, refl))
-hire_key s (keys.Zone n) m = either (Idle s (for_hire m)) (is_among (zones_of s.tariff.lines) n)
+hire_key s (keys.Zone n) m = either (Idle s (for_hire m)) (is_among s.tariff.zones n)
     (quiet (record (for_hire m) { zone = n })) (refused NoSuch (for_hire m))
     (still s (record (for_hire m) { zone = n }) (refl, refl)) (refusing s NoSuch (for_hire m) (refl, refl))
-hire_key s (keys.Extra n) m = refusing s NotNow (for_hire m) (refl, refl)
+hire_key s key m = refusing s NotNow (for_hire m) (refl, refl)
 
 hire_pressed : (s : Setting) (latch : Option Key) (m : Meter) → Idle s (for_hire m) (latch_pressed s latch (for_hire m))
 hire_pressed s None m = still s (for_hire m) (refl, refl)
@@ -120,34 +117,33 @@ refused_in s t m operating kept = staying s (in_trip operating t m) (refused Not
 
 hired_key : (s : Setting) (key : Key) (t : MeterTrip) (m : Meter)
     → InTrip s (in_trip Hired t m) (key_in s key Hired (in_trip Hired t m))
-hired_key s keys.Hire t m = refused_in s t m Hired (some_is t, refl)
 hired_key s keys.Stop t m =
     staying s (in_trip Hired t m) (quiet (in_trip Stopped t m)) (still s (in_trip Stopped t m) (some_is t, refl)) refl
-hired_key s keys.Clear t m = refused_in s t m Hired (some_is t, refl)
-hired_key s (keys.Position n) t m = either (InTrip s (in_trip Hired t m)) (is_among (positions_of s.tariff.lines) n)
+hired_key s (keys.Position n) t m = either (InTrip s (in_trip Hired t m)) (is_among s.tariff.positions n)
     (quiet (record (in_trip Hired t m) { position = n })) (refused NoSuch (in_trip Hired t m))
     (staying s (in_trip Hired t m) (quiet (record (in_trip Hired t m) { position = n }))
     (still s (record (in_trip Hired t m) { position = n }) (some_is t, refl)) refl)
     (staying s (in_trip Hired t m) (refused NoSuch (in_trip Hired t m))
     (refusing s NoSuch (in_trip Hired t m) (some_is t, refl)) refl)
-hired_key s (keys.Zone n) t m = either (InTrip s (in_trip Hired t m)) (is_among (zones_of s.tariff.lines) n)
+hired_key s (keys.Zone n) t m = either (InTrip s (in_trip Hired t m)) (is_among s.tariff.zones n)
     (quiet (record (in_trip Hired t m) { zone = n })) (refused NoSuch (in_trip Hired t m))
     (staying s (in_trip Hired t m) (quiet (record (in_trip Hired t m) { zone = n }))
     (still s (record (in_trip Hired t m) { zone = n }) (some_is t, refl)) refl)
     (staying s (in_trip Hired t m) (refused NoSuch (in_trip Hired t m))
     (refusing s NoSuch (in_trip Hired t m) (some_is t, refl)) refl)
-hired_key s (keys.Extra n) t m = extra_in s n (supplement_of s.tariff.lines n) t m Hired (λ x. (some_is x, refl))
+hired_key s (keys.Extra n) t m =
+    extra_in s n (supplement_numbered s.tariff.supplements n) t m Hired (λ x. (some_is x, refl))
+hired_key s key t m = refused_in s t m Hired (some_is t, refl)
 
 stopped_key : (s : Setting) (key : Key) (t : MeterTrip) (m : Meter)
     → InTrip s (in_trip Stopped t m) (key_in s key Stopped (in_trip Stopped t m))
 stopped_key s keys.Hire t m =
     staying s (in_trip Stopped t m) (quiet (in_trip Hired t m)) (still s (in_trip Hired t m) (some_is t, refl)) refl
-stopped_key s keys.Stop t m = refused_in s t m Stopped (some_is t, refl)
 stopped_key s keys.Clear t m =
     record { leaves = closing s kinds.Closed m.clock (in_trip Stopped t m) refl (some_is t); none = refl }
-stopped_key s (keys.Position n) t m = refused_in s t m Stopped (some_is t, refl)
-stopped_key s (keys.Zone n) t m = refused_in s t m Stopped (some_is t, refl)
-stopped_key s (keys.Extra n) t m = extra_in s n (supplement_of s.tariff.lines n) t m Stopped (λ x. (some_is x, refl))
+stopped_key s (keys.Extra n) t m =
+    extra_in s n (supplement_numbered s.tariff.supplements n) t m Stopped (λ x. (some_is x, refl))
+stopped_key s key t m = refused_in s t m Stopped (some_is t, refl)
 
 hired_pressed : (s : Setting) (latch : Option Key) (t : MeterTrip) (m : Meter)
     → InTrip s (in_trip Hired t m) (latch_pressed s latch (in_trip Hired t m))

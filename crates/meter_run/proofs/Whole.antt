@@ -9,6 +9,7 @@ use Rattle.taxi_units.specs.declared.event.Event.{Event}
 use Rattle.taxi_units.specs.declared.event.Event.TheVariants.{Down}
 use Rattle.taxi_units.specs.declared.event.Operating.{Operating}
 use Rattle.taxi_units.specs.declared.event.Operating.TheVariants.{Off, ForHire, Hired, Stopped}
+use Rattle.tariff_check.specs.SoundTariff.{sound_of}
 use Rattle.tariff_compile.specs.Tables.{IsCompiled, TableParts}
 use Rattle.seal_record.specs.Ranges.{IsSeal}
 use Rattle.seal_record.specs.declared.seal.Seal.{Seal}
@@ -88,14 +89,14 @@ pub secured_of : (tables : TableParts) (seal : Seal) → IsCompiled tables → t
 secured_of tables seal compiled constant range = record {
   range = range;
   setting = record {
-    tariff = compiled.0;
+    tariff = sound_of compiled.0;
     constant = tables.constant;
     mode = seal.params.mode;
     hold_time = seal.params.hold_time;
     offsets = seal.params.offsets;
   };
   is = record {
-    tariff = record { compiled = compiled.1; constant = refl };
+    tariff = record { tree = compiled.0; compiled = compiled.1; parts = refl; constant = refl };
     secured = record { constant = sym constant; mode = refl; hold_time = refl; offsets = refl };
   };
 }
@@ -140,11 +141,12 @@ module _ {D L : Type 0} {N : ℕ} (B : Ghosts D N L) (tables : TableParts) (seal
   amid_of o x a y b h = record { points = h.points; beside = h.beside }
 
   -- carried out or not, it came amid nothing else
-  pub amid_either : {A E : Type 0} (r : Result A E) (o : Setting → Meter → Outcome) (x : StoreMeter) (a : D)
-      (y : StoreMeter) (b : D) → OnOk r (CarriesOut B tables seal o x a y b) → OnErr r (StopsAmid B tables seal o x a b)
-      → StopsAmid B tables seal o x a b
-  amid_either (Ok u) o x a y b h k = amid_of o x a y b h
-  amid_either (Err e) o x a y b h k = k
+  pub amid_either : {A E : Type 0} (r : Result A E) (events : List Event) (x : StoreMeter) (a : D) (y : StoreMeter)
+      (b : D) → OnOk r (CarriesEvents B tables seal events x a y b)
+      → OnErr r (StopsAmid B tables seal (λ s m. run s events m) x a b)
+      → StopsAmid B tables seal (λ s m. run s events m) x a b
+  amid_either (Ok u) events x a y b h k = amid_of (λ s m. run s events m) x a y b h.out
+  amid_either (Err e) events x a y b h k = k
 
   pub ends_off : (x : StoreMeter) (a : D) → LeavesNow B a → x.core.plain.operating ≡ Off
       → CarriesOut B tables seal (λ s m. ended s m) x a x a

@@ -73,7 +73,7 @@ pub(crate) const SHOWN: &str =
 const NONE: &str = "NUMBER 1\nDISTANCE 0.000 m\n";
 
 const ADDED: &str =
-    "NUMBER 2\nDISTANCE 234.800 m\nHIRED 234.800 m\nHIRINGS 1\nSUPPLEMENTS 0.00\nFARE 3.80\nHELD no\nLAYOUT 2\n";
+    "NUMBER 2\nDISTANCE 234.800 m\nHIRED 234.800 m\nHIRINGS 1\nSUPPLEMENTS 0.00\nFARE 3.80\nHELD no\n";
 
 /// A drive that ends in a hiring, and what it shows.
 const BEGUN: &str = "U 1767225600\nK H\nI 0 1\n";

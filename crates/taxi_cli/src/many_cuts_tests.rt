@@ -138,7 +138,7 @@ fn receipts_in(alloc: Global, text: &[u8]) -> Result<Vec<Receipt>, Fail> {
 }
 
 /// What receipts add up to.
-#[derive(Clone, Copy, Debug, PartialEq, Eq)]
+#[derive(Clone, Copy, PartialEq, Eq)]
 struct Sums {
     hirings: u64,
     fare: u128,

@@ -1,17 +1,25 @@
 -- The supply of the bench's meter.
-use Rattle.std.proofs.Common.{◌≡◌, ◌<◌, refl, sum, true, false, ◌≤◌, Option, Some, None, arith}
+use Rattle.std.proofs.Common.{◌≡◌, ◌≢◌, ◌<◌, ℕ, refl, sum, true, false, ◌≤◌, Option, Some, None, arith}
 use Rattle.std.specs.Prelude.{nat_lt, option_map}
 use Rattle.std.proofs.lemmas.Bool.{le-ltb, lt-ltb}
 use Rattle.meter_states.specs.Closing.{roaming_entered}
 use Rattle.meter_states.specs.Meter.{Meter}
+use Rattle.meter_states.specs.Run.{ended_in}
 use Rattle.meter_states.specs.Setting.{Setting}
-use Rattle.meter_states.specs.Supply.{held_or_closed}
+use Rattle.meter_states.specs.Step.{powered_step, step_in}
+use Rattle.meter_states.specs.Supply.{held_or_closed, supply_dropped}
 use Rattle.meter_states.specs.Trip.{MeterTrip}
 use Rattle.tariff_syntax.specs.declared.context.Context.{Context}
 use Rattle.taxi_units.specs.Limits.{last_number}
+use Rattle.taxi_units.specs.declared.event.Event.{Event}
+use Rattle.taxi_units.specs.declared.event.Key.{Key}
+use Rattle.taxi_units.specs.declared.event.Key.TheVariants as keys
+use Rattle.taxi_units.specs.declared.event.Operating.{Operating}
+use Rattle.taxi_units.specs.declared.event.Operating.TheVariants.{Off, ForHire, Hired, Stopped}
 use Rattle.totals_record.specs.declared.trip.Trip.{Trip}
 use Rattle.taxi_units.specs.Time.{IsSecond}
-use Rattle.verify_bench.specs.Bench.{AreTrips, IsHeldInRange, BenchStands, held_of}
+use Rattle.verify_bench.specs.Bench.{AreTrips, HasTicks, IsHeldInRange, BenchStands, held_of}
+use Rattle.verify_bench.specs.Explaining.{hired_by}
 use Rattle.verify_bench.specs.declared.hiring.Hiring.{Hiring}
 use Rattle.verify_bench.specs.declared.bench_meter.SavedState.{SavedState}
 use Rattle.verify_bench.specs.declared.bench_meter.BenchMeter.{BenchMeter}
@@ -56,3 +64,28 @@ none_held (Some trip) held none is = absurd cc
 pub holds_no_more : (s : Setting) (hired : Context) (meter : BenchMeter) (m : Meter) → BenchStands s hired meter m
     → last_number ≤ meter.number → nat_lt m.durable.number last_number ≡ false
 holds_no_more s hired meter m stands many = le-ltb m.durable.number last_number (omega (arith, stands.number))
+
+-- a meter that isn't off takes each event as a powered one, and a drive that ends there with a drop of the supply
+pub step_on : (s : Setting) (event : Event) (operating : Operating) (m : Meter) → operating ≢ Off
+    → step_in s operating event m ≡ powered_step s event m
+step_on s event Off m on = absurd (on refl)
+step_on s event ForHire m on = refl
+step_on s event Hired m on = refl
+step_on s event Stopped m on = refl
+
+pub ended_on : (s : Setting) (operating : Operating) (m : Meter) → operating ≢ Off
+    → ended_in s operating m ≡ supply_dropped s m
+ended_on s Off m on = absurd (on refl)
+ended_on s ForHire m on = refl
+ended_on s Hired m on = refl
+ended_on s Stopped m on = refl
+
+-- but for hire no trip is hired
+pub still_hired : (latch : Option Key) (operating : Operating) (now hired : Context) → operating ≢ ForHire
+    → hired_by latch operating now hired ≡ hired
+still_hired (Some keys.Hire) ForHire now hired on = absurd (on refl)
+still_hired latch operating now hired on = refl
+
+pub no_ticks : (hiring : Option Hiring) (ticks : ℕ) → hiring ≡ None → HasTicks hiring ticks → ticks ≡ 0
+no_ticks None ticks none has = has
+no_ticks (Some hiring) ticks none has = absurd cc

@@ -297,20 +297,8 @@ hired_in : (s : Setting) (operating : Operating) (pulses : ℕ) (latch : Option 
     ≡ hired_by latch operating (context_now s m) hired
 hired_in s Off pulses latch m hired = refl
 hired_in s ForHire pulses latch m hired = refl
-hired_in s Hired pulses None m hired = refl
-hired_in s Hired pulses (Some keys.Hire) m hired = refl
-hired_in s Hired pulses (Some keys.Stop) m hired = refl
-hired_in s Hired pulses (Some keys.Clear) m hired = refl
-hired_in s Hired pulses (Some (keys.Position n)) m hired = refl
-hired_in s Hired pulses (Some (keys.Zone n)) m hired = refl
-hired_in s Hired pulses (Some (keys.Extra n)) m hired = refl
-hired_in s Stopped pulses None m hired = refl
-hired_in s Stopped pulses (Some keys.Hire) m hired = refl
-hired_in s Stopped pulses (Some keys.Stop) m hired = refl
-hired_in s Stopped pulses (Some keys.Clear) m hired = refl
-hired_in s Stopped pulses (Some (keys.Position n)) m hired = refl
-hired_in s Stopped pulses (Some (keys.Zone n)) m hired = refl
-hired_in s Stopped pulses (Some (keys.Extra n)) m hired = refl
+hired_in s operating pulses (Some keys.Hire) m hired = refl
+hired_in s operating pulses latch m hired = refl
 
 same_latch : (s : Setting) (operating : Operating) (pulses : ℕ) (m : Meter)
     → (counted_in s operating pulses m).latch ≡ m.latch
@@ -361,8 +349,7 @@ extra_of : (s : Setting) (hired : Context) (hiring more : Hiring) (t : MeterTrip
 extra_of s hired hiring more t n others extras is =
     subst (λ (h : Hiring). IsHiringOf s hired h (model.with_extra n t)) (sym others) (record {
       started = is.started;
-      initial = is.initial;
-      minimum = is.minimum;
+      fees = is.fees;
       opening = is.opening;
       fee = is.fee;
       fee_line = is.fee_line;

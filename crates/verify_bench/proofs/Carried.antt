@@ -1,6 +1,7 @@
 -- Events that the bench carries out, one after another.
-use Rattle.std.proofs.Common.{◌≡◌, ℕ, zero, suc, ◌+◌, ◌<◌, ◌∙◌, List, length, drop, get_or, [], ◌∷◌, ◌++◌, ap, sym}
+use Rattle.std.proofs.Common.{◌≡◌, ◌≢◌, ℕ, zero, suc, ◌+◌, ◌<◌, ◌∙◌, List, length, drop, get_or, [], ◌∷◌, ◌++◌, ap, sym}
 use Rattle.std.proofs.Common.{refl, append_assoc, add-one, flat_map, map}
+use Rattle.std.proofs.lemmas.Bool.{ne_eqb}
 use Rattle.std.proofs.lemmas.List.{append-nil}
 use Rattle.std.proofs.Math.Seq.{drop-cons}
 use Rattle.drive_text.specs.Runs.{interval_events, intervals_events, run_events}
@@ -10,7 +11,7 @@ use Rattle.meter_states.specs.Run.{ended, opened}
 use Rattle.meter_states.specs.Setting.{Setting}
 use Rattle.meter_states.specs.Step.{step}
 use Rattle.taxi_units.specs.declared.event.Event.{Event}
-use Rattle.taxi_units.specs.declared.event.Event.TheVariants.{Down}
+use Rattle.taxi_units.specs.declared.event.Event.TheVariants.{Down, Pulses, Tick}
 use Rattle.tariff_syntax.specs.declared.context.Context.{Context}
 use Rattle.totals_record.specs.States.{first_state}
 use Rattle.verify_bench.specs.Bench.{GoesThroughEvent, BenchStands}
@@ -46,6 +47,13 @@ pub carries_then : (s : Setting) (first others : List Event) (old mid new : Benc
     → Carries s first old mid a b → Carries s others mid new b c → Carries s (first ++ others) old new a c
 carries_then s first others old mid new a b c one other all left amid =
     other all left (one all (others ++ left) (rw (append_assoc first others left) at amid))
+
+-- an interval without pulses is a tick, and any other one is its pulses and a tick
+pub interval_none : (pulses : ℕ) → pulses ≡ 0 → interval_events pulses ≡ Tick ∷ []
+interval_none pulses none = rw none refl
+
+pub interval_some : (pulses : ℕ) → pulses ≢ 0 → interval_events pulses ≡ Pulses pulses ∷ Tick ∷ []
+interval_some pulses some = rw (ne_eqb pulses 0 some) refl
 
 -- one interval more
 pub intervals_more : (pulses count : ℕ)

@@ -24,10 +24,8 @@ use Rattle.meter_states.specs.Supply.{supply_came, supply_dropped, turned_off}
 use Rattle.meter_states.specs.Trip.{InHired, InStopped, Part, Rest, MeterTrip}
 use Rattle.meter_states.specs.declared.act.Act.{Act}
 use Rattle.meter_states.specs.declared.act.Act.TheVariants.{Show, Refuse, Enter, Hold, Receipt}
-use Rattle.tariff_check.specs.Parts.{positions_of, zones_of}
-use Rattle.tariff_check.specs.Parts.{supplement_of}
+use Rattle.tariff_check.specs.SoundTariff.{supplement_numbered}
 use Rattle.tariff_check.specs.declared.values.Supplement.{Supplement}
-use Rattle.tariff_syntax.specs.Writable.{IsWritable}
 use Rattle.tariff_syntax.specs.declared.context.Context.{Context}
 use Rattle.taxi_units.specs.Limits.{hirings_end, last_number, roaming_most}
 use Rattle.taxi_units.specs.Time.{longest_trip}
@@ -45,10 +43,10 @@ use Rattle.totals_record.specs.States.{first_state}
 use Rattle.totals_record.specs.declared.trip.Trip.{Trip}
 use Rattle.verify_bench.proofs.AmountSums.{all_numbers}
 use Rattle.verify_bench.proofs.Benches.{hired_after}
-use Rattle.verify_bench.proofs.TreeParts.{supplement_number}
+use Rattle.verify_bench.proofs.TreeParts.{supplement_of_text}
 use Rattle.verify_bench.specs.Explaining.{Explanation, explanation, explanations_from, explanations_in, explanations_of}
 use Rattle.verify_bench.specs.Explaining.{hired_at, hired_by, trip_at}
-use Rattle.verify_bench.specs.Wholes.{BeganIn, IsOfTrip, receipts_in}
+use Rattle.verify_bench.specs.Wholes.{BeganIn, IsOfText, IsOfTrip, receipts_in}
 
 -- the receipts of explanations
 receipts_told : (s : Setting) (hired : Context) (trip : Option MeterTrip) (acts : List Act)
@@ -196,7 +194,7 @@ latch_by s hired trip None m fresh = goes_quietly s hired trip m fresh
 latch_by s hired trip (Some key) m fresh = record { are = tt; fresh = fresh }
 
 extra_by : (s : Setting) (hired : Context) (n : ℕ) (supplement : Supplement) (trip : Option MeterTrip) (m : Meter)
-    → (IsWritable s.tariff → IsSupplementNumber n) → m.trip ≡ trip → Fresh s hired trip
+    → (IsOfText s → IsSupplementNumber n) → m.trip ≡ trip → Fresh s hired trip
     → Goes s hired trip (extra_added_to n supplement trip m)
 extra_by s hired n supplement None m numbered is fresh = record { are = tt; fresh = rw is tt }
 extra_by s hired n supplement (Some t) m numbered is fresh =
@@ -204,30 +202,29 @@ extra_by s hired n supplement (Some t) m numbered is fresh =
     (record {
       are = tt;
       fresh = record {
-        initial = fresh.initial;
-        minimum = fresh.minimum;
+        fees = fresh.fees;
         opening = fresh.opening;
-        extras = λ writable. all_numbers n t.extras (numbered writable) (fresh.extras writable);
+        extras = λ of_text. all_numbers n t.extras (numbered of_text) (fresh.extras of_text);
       };
     })
 
 goes_extra : (s : Setting) (hired : Context) (n : ℕ) (supplement : Option Supplement) (m : Meter)
-    → supplement_of s.tariff.lines n ≡ supplement → Fresh s hired m.trip
+    → supplement_numbered s.tariff.supplements n ≡ supplement → Fresh s hired m.trip
     → Goes s hired m.trip (extra_added n supplement m)
 goes_extra s hired n None m there fresh = record { are = tt; fresh = fresh }
 goes_extra s hired n (Some supplement) m there fresh = extra_by s hired n supplement m.trip m
-    (λ writable. supplement_number s.tariff n supplement writable there) refl fresh
+    (λ of_text. supplement_of_text s n supplement of_text there) refl fresh
 
 goes_position : (s : Setting) (hired : Context) (n : ℕ) (m : Meter) → Fresh s hired m.trip
     → Goes s hired m.trip (position_set s n m)
 goes_position s hired n m fresh =
-    goes_if s hired m.trip (is_among (positions_of s.tariff.lines) n) _ _ (record { are = tt; fresh = fresh })
+    goes_if s hired m.trip (is_among s.tariff.positions n) _ _ (record { are = tt; fresh = fresh })
     (record { are = tt; fresh = fresh })
 
 goes_zone : (s : Setting) (hired : Context) (n : ℕ) (m : Meter) → Fresh s hired m.trip
     → Goes s hired m.trip (zone_set s n m)
 goes_zone s hired n m fresh =
-    goes_if s hired m.trip (is_among (zones_of s.tariff.lines) n) _ _ (record { are = tt; fresh = fresh })
+    goes_if s hired m.trip (is_among s.tariff.zones n) _ _ (record { are = tt; fresh = fresh })
     (record { are = tt; fresh = fresh })
 
 goes_hiring : (s : Setting) (trip : Option MeterTrip) (m : Meter) → m.trip ≡ None
@@ -237,38 +234,24 @@ goes_hiring s trip m none =
     (record {
       are = tt;
       fresh =
-          record { initial = refl; minimum = refl; opening = refl; extras = λ writable. All-nil IsSupplementNumber };
+          record { fees = refl; opening = refl; extras = λ of_text. All-nil IsSupplementNumber };
     })
 
 goes_key : (s : Setting) (hired : Context) (key : Key) (operating : Operating) (m : Meter)
     → (operating ≡ ForHire → m.trip ≡ None) → Fresh s hired m.trip
     → Goes s (hired_by (Some key) operating (context_now s m) hired) m.trip (key_in s key operating m)
-goes_key s hired keys.Hire Off m none fresh = record { are = tt; fresh = fresh }
 goes_key s hired keys.Hire ForHire m none fresh = goes_hiring s m.trip m (none refl)
-goes_key s hired keys.Hire Hired m none fresh = record { are = tt; fresh = fresh }
-goes_key s hired keys.Hire Stopped m none fresh = record { are = tt; fresh = fresh }
-goes_key s hired keys.Stop Off m none fresh = record { are = tt; fresh = fresh }
-goes_key s hired keys.Stop ForHire m none fresh = record { are = tt; fresh = fresh }
 goes_key s hired keys.Stop Hired m none fresh = record { are = tt; fresh = fresh }
-goes_key s hired keys.Stop Stopped m none fresh = record { are = tt; fresh = fresh }
-goes_key s hired keys.Clear Off m none fresh = record { are = tt; fresh = fresh }
-goes_key s hired keys.Clear ForHire m none fresh = record { are = tt; fresh = fresh }
-goes_key s hired keys.Clear Hired m none fresh = record { are = tt; fresh = fresh }
 goes_key s hired keys.Clear Stopped m none fresh = goes_closed s hired kinds.Closed m.clock m
-goes_key s hired (keys.Position n) Off m none fresh = record { are = tt; fresh = fresh }
 goes_key s hired (keys.Position n) ForHire m none fresh = goes_position s hired n m fresh
 goes_key s hired (keys.Position n) Hired m none fresh = goes_position s hired n m fresh
-goes_key s hired (keys.Position n) Stopped m none fresh = record { are = tt; fresh = fresh }
-goes_key s hired (keys.Zone n) Off m none fresh = record { are = tt; fresh = fresh }
 goes_key s hired (keys.Zone n) ForHire m none fresh = goes_zone s hired n m fresh
 goes_key s hired (keys.Zone n) Hired m none fresh = goes_zone s hired n m fresh
-goes_key s hired (keys.Zone n) Stopped m none fresh = record { are = tt; fresh = fresh }
-goes_key s hired (keys.Extra n) Off m none fresh = record { are = tt; fresh = fresh }
-goes_key s hired (keys.Extra n) ForHire m none fresh = record { are = tt; fresh = fresh }
 goes_key s hired (keys.Extra n) Hired m none fresh =
-    goes_extra s hired n (supplement_of s.tariff.lines n) m refl fresh
+    goes_extra s hired n (supplement_numbered s.tariff.supplements n) m refl fresh
 goes_key s hired (keys.Extra n) Stopped m none fresh =
-    goes_extra s hired n (supplement_of s.tariff.lines n) m refl fresh
+    goes_extra s hired n (supplement_numbered s.tariff.supplements n) m refl fresh
+goes_key s hired key operating m none fresh = record { are = tt; fresh = fresh }
 
 goes_latch : (s : Setting) (hired : Context) (latch : Option Key) (m : Meter) → (m.operating ≡ ForHire → m.trip ≡ None)
     → Fresh s hired m.trip
@@ -282,7 +265,7 @@ fresh_more : (s : Setting) (hired : Context) (part : Part) (m : Meter) (trip : O
 fresh_more s hired part m None is fresh = rw is tt
 fresh_more s hired part m (Some t) is fresh =
     let began : BeganIn s hired t = rw is at fresh in
-    rw is (record { initial = began.initial; minimum = began.minimum; opening = began.opening; extras = began.extras })
+    rw is (record { fees = began.fees; opening = began.opening; extras = began.extras })
 
 fresh_counted : (s : Setting) (hired : Context) (operating : Operating) (pulses : ℕ) (m : Meter) → Fresh s hired m.trip
     → Fresh s hired (counted_in s operating pulses m).trip
@@ -392,13 +375,8 @@ goes_came s hired second m fresh =
     goes_then s hired hired m.trip o (shown s) taken (goes_shown s hired m.trip o.next taken.fresh)
 
 hired_off : (latch : Option Key) (now hired : Context) → hired_by latch Off now hired ≡ hired
-hired_off None now hired = refl
 hired_off (Some keys.Hire) now hired = refl
-hired_off (Some keys.Stop) now hired = refl
-hired_off (Some keys.Clear) now hired = refl
-hired_off (Some (keys.Position n)) now hired = refl
-hired_off (Some (keys.Zone n)) now hired = refl
-hired_off (Some (keys.Extra n)) now hired = refl
+hired_off latch now hired = refl
 
 surplus_by : (s : Setting) (trip : Option MeterTrip) (b : Bool) (n : ℕ)
     → AreOf s trip (if b then Refuse (TooFast n) ∷ [] else [])

@@ -8,6 +8,8 @@ use Rattle.meter_states.specs.Run.{actions_of}
 use Rattle.meter_states.specs.Setting.{Setting}
 use Rattle.tariff_check.specs.Faults.{IsSound}
 use Rattle.tariff_check.specs.Parts.{RateNumbers}
+use Rattle.tariff_check.specs.SoundTariff.{sound_of}
+use Rattle.tariff_syntax.specs.Tree.{Tree}
 use Rattle.taxi_units.specs.declared.event.Event.{Event}
 use Rattle.totals_record.specs.States.{first_state}
 use Rattle.verify_bench.specs.Expecting.{expected_of, hirings_in, untimed}
@@ -54,7 +56,7 @@ pub explanations_have_the_receipts-trips : (s : Setting) (events : List Event)
     → All (IsOfTrip s) (explanations_of s events)
 explanations_have_the_receipts-trips = explained_are_of_trips
 
-pub explanations_add_up-whole : (s : Setting) (events : List Event) → IsSound s.tariff
+pub explanations_add_up-whole : (t : Tree) (s : Setting) (events : List Event) → IsSound t → s.tariff ≡ sound_of t
     → All ArePartsTheWhole (explanations_of s events)
 explanations_add_up-whole = all_add_up
 

@@ -9,9 +9,9 @@ use Rattle.drive_text.specs.Runs.{interval_events, intervals_events}
 use Rattle.drive_text.specs.Written.{event_text, event_fields, key_text}
 use Rattle.drive_text.specs.declared.run.Run.TheVariants.{One, Many}
 use Rattle.taxi_units.specs.declared.event.Event.{Event}
-use Rattle.taxi_units.specs.declared.event.Event.TheVariants.{Up, Down, Pulses, Tick, Clock}
+use Rattle.taxi_units.specs.declared.event.Event.TheVariants.{Up, Pulses, Clock}
 use Rattle.taxi_units.specs.declared.event.Event.TheVariants as events
-use Rattle.taxi_units.specs.declared.event.Key.TheVariants.{Hire, Stop, Clear, Position, Zone, Extra}
+use Rattle.taxi_units.specs.declared.event.Key.TheVariants.{Position, Zone, Extra}
 use Rattle.taxi_units.proofs.Laws as units
 use Rattle.verify_bench.specs.Generated.{line_text, lines_text}
 use Rattle.verify_bench.specs.Adding.{lines_events}
@@ -28,21 +28,17 @@ pub events_are_short : (event : Event) → IsInRange event → length (event_tex
 unfolding event_fields key_text
 events_are_short (Up second) range = let short =
     number_line 10 second 10 (omega arith) (omega arith) (omega arith) in omega arith
-events_are_short Down range = omega arith
 events_are_short (Pulses pulses) range = let short =
     number_line 5 pulses 10 (omega arith) (omega arith) (omega arith) in omega arith
-events_are_short Tick range = omega arith
 events_are_short (Clock second) range = let short =
     number_line 10 second 10 (omega arith) (omega arith) (omega arith) in omega arith
-events_are_short (events.Key Hire) range = omega arith
-events_are_short (events.Key Stop) range = omega arith
-events_are_short (events.Key Clear) range = omega arith
 events_are_short (events.Key (Position number)) range = let short =
     number_line 2 number 10 (omega arith) (omega arith) (omega arith) in omega arith
 events_are_short (events.Key (Zone number)) range = let short =
     number_line 2 number 10 (omega arith) (omega arith) (omega arith) in omega arith
 events_are_short (events.Key (Extra number)) range = let short =
     number_line 2 number 10 (omega arith) (omega arith) (omega arith) in omega arith
+events_are_short event range = omega arith
 
 -- the text of the line of an event
 pub event_line : (event : Event) → lines_text (One event ∷ []) ≡ event_text event

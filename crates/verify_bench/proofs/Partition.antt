@@ -1,6 +1,6 @@
 -- The groups of a trip's parts, those in Stopped and those that were left unfinished are all its parts.
 use Rattle.std.proofs.Common.{◌≡◌, ℕ, zero, suc, ◌+◌, ◌*◌, ◌<◌, ◌≤◌, ◌∙◌, List, [], ◌∷◌, ◌++◌, length, refl, ap, sym}
-use Rattle.std.proofs.Common.{map, sum, filter, All, Bool, true, false, inl, inr, arith}
+use Rattle.std.proofs.Common.{map, sum, filter, All, Bool, true, false, inl, inr, subst, arith}
 use Rattle.std.specs.Prelude.{◌&&◌, cond, nat_eq, nat_lt, if◌then◌else◌}
 use Rattle.std.proofs.lemmas.Bool.Decides.{eqb_tells}
 use Rattle.std.proofs.lemmas.List.{length-map}
@@ -9,13 +9,15 @@ use Rattle.drive_modes.specs.declared.charges.Mode.{Mode}
 use Rattle.drive_modes.specs.declared.charges.Mode.TheVariants.{Single, Double}
 use Rattle.meter_states.specs.Charge.{charge_by, distance_charge, time_charge}
 use Rattle.meter_states.specs.Setting.{Setting}
-use Rattle.meter_states.specs.Trip.{Part, InHired, InStopped, Rest, MeterTrip, charge_in, charges_of, pulses_in}
-use Rattle.meter_states.specs.Trip.{pulses_of, ticks_in, ticks_of}
+use Rattle.meter_states.specs.Trip.{Part, InHired, InStopped, Rest, charge_in, pulses_in}
+use Rattle.meter_states.specs.Trip.{ticks_in}
 use Rattle.meter_states.specs.Trip as model
 use Rattle.tariff_check.proofs.Laws as check
 use Rattle.tariff_check.specs.Faults.{IsSound}
 use Rattle.tariff_check.specs.Parts.{RateNumbers, rates_of}
-use Rattle.tariff_check.specs.SoundTariff.{Choice, lines_of, sound_of}
+use Rattle.tariff_check.specs.SoundLookups.{place_in_force}
+use Rattle.tariff_check.specs.SoundTariff.{Choice, SoundTariff, lines_of, sound_of, supplement_numbered}
+use Rattle.tariff_syntax.specs.Meaning.{rate_place}
 use Rattle.tariff_syntax.specs.Tree.{Tree}
 use Rattle.tariff_syntax.specs.declared.context.Context.{Context}
 use Rattle.taxi_units.specs.declared.event.Event.{Event}
@@ -31,7 +33,7 @@ use Rattle.std.specs.Prelude.{flat_map}
 use Rattle.std.specs.List.{range_with_len}
 use Rattle.meter_states.specs.KeptTrip.{IsSupplementNumber}
 use Rattle.meter_states.specs.Supplements.{amount_in, amounts_of, times}
-use Rattle.tariff_check.specs.Parts.{supplement_of}
+use Rattle.std.specs.Option.{unwrap_or}
 use Rattle.verify_bench.specs.Amounts.{amounts_among}
 use Rattle.verify_bench.specs.declared.explained.Taken.{Taken}
 use Rattle.verify_bench.proofs.AmountSums.{all_among, sum_head}
@@ -265,29 +267,31 @@ as_many t =
     length-map (sound_of t).rates (λ (c : Choice RateNumbers). c.line)
     ∙ sym (length-map (sound_of t).rates (λ (c : Choice RateNumbers). c.value))
 
-within_rates : (s : Setting) → IsSound s.tariff → (x : Context)
-    → rate_place_of s x < length (lines_of (sound_of s.tariff).rates)
-within_rates s sound x =
-    let holds = check.lines_that_hold_are_there-rate s.tariff x sound in
-    rw (as_many s.tariff, holds.1) holds.2
+within_rates : (t : Tree) (s : Setting) → IsSound t → s.tariff ≡ sound_of t → (x : Context)
+    → rate_place_of s x < length (lines_of s.tariff.rates)
+within_rates t s sound parts x =
+    let holds = check.lines_that_hold_are_there-rate t x sound in
+    let within : unwrap_or (rate_place t x) 0 < length (lines_of (sound_of t).rates) =
+    rw (as_many t, holds.1) holds.2 in
+    subst (λ (p : SoundTariff). unwrap_or (place_in_force p.rates x) 0 < length (lines_of p.rates)) (sym parts) within
 
 -- the supplements that were taken, number by number
-one_taken : (t : Tree) (numbers : List ℕ) (number : ℕ) (b : Bool) → nat_eq (times number numbers) 0 ≡ b
+one_taken : (t : SoundTariff) (numbers : List ℕ) (number : ℕ) (b : Bool) → nat_eq (times number numbers) 0 ≡ b
     → sum (map (λ (k : Taken). k.count * k.amount) (if b then []
     else record {
       number = number;
       count = times number numbers;
-      amount = amount_in (supplement_of t.lines number);
+      amount = amount_in (supplement_numbered t.supplements number);
     } ∷ []))
-    ≡ times number numbers * amount_in (supplement_of t.lines number)
+    ≡ times number numbers * amount_in (supplement_numbered t.supplements number)
 one_taken t numbers number true none =
     let zero_times : times number numbers ≡ 0 = eqb-true (times number numbers) 0 none in
     rw zero_times (omega arith)
 one_taken t numbers number false some = omega arith
 
-all_taken : (t : Tree) (numbers : List ℕ) (first many : ℕ)
+all_taken : (t : SoundTariff) (numbers : List ℕ) (first many : ℕ)
     → sum (map (λ (k : Taken). k.count * k.amount) (flat_map (taken_if t numbers) (range_with_len first many)))
-    ≡ amounts_among (λ number. amount_in (supplement_of t.lines number)) first many numbers
+    ≡ amounts_among (λ number. amount_in (supplement_numbered t.supplements number)) first many numbers
 unfolding amounts_among
 all_taken t numbers first zero = refl
 all_taken t numbers first (suc many) =
@@ -295,17 +299,18 @@ all_taken t numbers first (suc many) =
     (flat_map (taken_if t numbers) (range_with_len (first + 1) many))
     ∙ two_more (one_taken t numbers first (nat_eq (times first numbers) 0) refl) (all_taken t numbers (first + 1) many)
 
-taken_sum : (t : Tree) (numbers : List ℕ) → All IsSupplementNumber numbers
+taken_sum : (t : SoundTariff) (numbers : List ℕ) → All IsSupplementNumber numbers
     → sum (map (λ (k : Taken). k.count * k.amount) (taken_of t numbers)) ≡ amounts_of t numbers
 taken_sum t numbers all =
-    all_taken t numbers 1 16 ∙ all_among (λ number. amount_in (supplement_of t.lines number)) numbers all
+    all_taken t numbers 1 16 ∙ all_among (λ number. amount_in (supplement_numbered t.supplements number)) numbers all
 
 -- an explanation of a trip
-one_adds_up : (s : Setting) → IsSound s.tariff → (e : Explanation) → IsOfTrip s e → ArePartsTheWhole e
-one_adds_up s sound e is_of =
+one_adds_up : (a : Tree) (s : Setting) → IsSound a → s.tariff ≡ sound_of a → (e : Explanation) → IsOfTrip s e
+    → ArePartsTheWhole e
+one_adds_up a s sound parts e is_of =
     let t = is_of.trip in
-    let lines = lines_of (sound_of s.tariff).rates in
-    let few = within_rates s sound in
+    let lines = lines_of s.tariff.rates in
+    let few = within_rates a s sound parts in
     let no_pulses : t.opening.pulses ≡ 0 = ap (λ (o : model.Opening). o.pulses) is_of.began.opening in
     let no_ticks : t.opening.ticks ≡ 0 = ap (λ (o : model.Opening). o.ticks) is_of.began.opening in
     let charges = parts_are_whole s (charge_in s) (λ (w : Sums). w.charge) (λ parts. refl) lines few t.parts in
@@ -328,12 +333,13 @@ one_makes s e is_of =
       steps = rw began.opening refl;
       step = refl;
       fare = refl;
-      supplements = λ writable. taken_sum s.tariff is_of.trip.extras (began.extras writable);
+      supplements = λ of_text. taken_sum s.tariff is_of.trip.extras (began.extras of_text);
     })
 
-pub all_add_up : (s : Setting) (events : List Event) → IsSound s.tariff
+pub all_add_up : (t : Tree) (s : Setting) (events : List Event) → IsSound t → s.tariff ≡ sound_of t
     → All ArePartsTheWhole (explanations_of s events)
-all_add_up s events sound = All-weaker (IsOfTrip s) ArePartsTheWhole (one_adds_up s sound) (explanations_of s events)
+all_add_up t s events sound parts =
+    All-weaker (IsOfTrip s) ArePartsTheWhole (one_adds_up t s sound parts) (explanations_of s events)
     (explained_are_of_trips s events)
 
 pub all_make : (s : Setting) (events : List Event) → All (MakesReceipt s) (explanations_of s events)

@@ -1,26 +1,24 @@
 -- The parts of a sound tariff that hold in a context are sound.
-use Rattle.std.proofs.Common.{◌≡◌, ℕ, ◌<◌, ◌≤◌, ◌∙◌, List, get_or, ap, sym, refl, All, Option, Some, None, MatchOption}
+use Rattle.std.proofs.Common.{◌≡◌, ℕ, ◌<◌, ◌≤◌, ◌∙◌, ap, sym, Some}
 use Rattle.std.proofs.Common.{inl, inr, arith}
-use Rattle.std.specs.Prelude.{option_map}
 use Rattle.std.proofs.lemmas.Bool.{cases_lt}
-use Rattle.std.specs.List.{slice_get}
 use Rattle.std.specs.Option.{unwrap_or}
-use Rattle.std.proofs.lemmas.Option.{slice_get_within, unwrap_or-slice_get}
-use Rattle.meter_states.specs.Charge.{rate_of}
+use Rattle.meter_states.specs.Setting.{Setting}
 use Rattle.tariff_check.proofs.Laws as check
 use Rattle.tariff_check.specs.Faults.{IsSound}
 use Rattle.meter_states.specs.KeptTrip.{IsSupplementNumber}
-use Rattle.tariff_check.specs.Parts.{initials_of, minimums_of, supplement_of}
-use Rattle.tariff_check.specs.Sound.{IsSoundInitial, IsSoundRate}
-use Rattle.tariff_check.specs.Amounts.{IsFitInitial, initial_by}
+use Rattle.tariff_check.specs.Parts.{supplement_of}
+use Rattle.tariff_check.specs.Sound.{IsSoundRate}
+use Rattle.tariff_check.specs.SoundLookups.{rate_in_force}
+use Rattle.tariff_check.specs.SoundTariff.{SoundTariff, sound_of, supplement_numbered}
 use Rattle.tariff_check.specs.declared.values.Supplement.{Supplement}
-use Rattle.tariff_syntax.specs.Meaning.{minimum_place, rate_place}
+use Rattle.tariff_syntax.specs.Meaning.{rate_place}
 use Rattle.tariff_syntax.specs.Tree.{Tree}
 use Rattle.tariff_syntax.specs.Writable.{IsWritable}
 use Rattle.tariff_syntax.specs.declared.context.Context.{Context}
-use Rattle.taxi_units.specs.Money.{largest_amount}
+use Rattle.verify_bench.specs.Wholes.{IsOfText}
 
-pub sound_rate : (t : Tree) (x : Context) → IsWritable t → IsSound t → IsSoundRate (rate_of t x)
+pub sound_rate : (t : Tree) (x : Context) → IsWritable t → IsSound t → IsSoundRate (rate_in_force (sound_of t) x)
 sound_rate t x writable sound =
     let parts = check.sound_tariffs_have_sound_parts-parts t writable sound in
     let holds = check.lines_that_hold_are_there-rate t x sound in
@@ -43,6 +41,12 @@ supplement_number t number found writable there = elim (cases_lt 16 number) [
         (let none = check.supplements_are_numbered_to_16 t number writable (λ range. omega (arith, range.0)) in cc)
   ]
 ]
+
+pub supplement_of_text : (s : Setting) (number : ℕ) (found : Supplement) → IsOfText s
+    → supplement_numbered s.tariff.supplements number ≡ Some found → IsSupplementNumber number
+supplement_of_text s number found of_text there =
+    supplement_number of_text.0 number found of_text.1
+    (sym (ap (λ (p : SoundTariff). supplement_numbered p.supplements number) of_text.2) ∙ there)
 
 pub sound_supplement : (t : Tree) (number : ℕ) (found : Supplement) → IsWritable t → IsSound t
     → supplement_of t.lines number ≡ Some found

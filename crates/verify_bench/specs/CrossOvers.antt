@@ -1,7 +1,7 @@
 -- Rules: the cross-over speeds of a tariff's rates, a line each.
 use Rattle.std.specs.Prelude.{ℕ, ◌+◌, ◌*◌, ◌/◌, ◌==◌, List, [], ◌∷◌, ◌++◌, Option, Some, None, codes, decimal, if◌then◌else◌}
-use Rattle.tariff_check.specs.Parts.{RateNumbers, rates_of}
-use Rattle.tariff_syntax.specs.Tree.{Line}
+use Rattle.tariff_check.specs.Parts.{RateNumbers}
+use Rattle.tariff_check.specs.SoundTariff.{SoundTariff, values_of}
 
 -- the cross-over speed of a rate is the speed at which its distance and its time cost the same, in whole metres an
 -- hour; a rate whose distance costs nothing has none
@@ -23,6 +23,6 @@ unfoldable pub cross_over_lines : (number : ℕ) → List RateNumbers → List �
 cross_over_lines number [] = []
 cross_over_lines number (r ∷ rates) = cross_over_line number r ++ cross_over_lines (number + 1) rates
 
--- the lines of a tariff give a line of cross-over speed for each of its rates, numbered from 1
-abbrev pub cross_overs_text : List Line → List ℕ
-cross_overs_text lines = cross_over_lines 1 (rates_of lines)
+-- a tariff gives a line of cross-over speed for each of its rates, numbered from 1
+abbrev pub cross_overs_text : SoundTariff → List ℕ
+cross_overs_text tariff = cross_over_lines 1 (values_of tariff.rates)

@@ -12,11 +12,10 @@ use Rattle.meter_states.specs.Trip.{Part, MeterTrip, charges_of}
 use Rattle.meter_states.specs.declared.act.Act.{Act}
 use Rattle.meter_states.specs.declared.act.Act.TheVariants as acts
 use Rattle.meter_states.specs.declared.act.Act.TheVariants.{Show, Refuse, Enter, Hold}
-use Rattle.tariff_check.specs.SoundTariff.{lines_of, sound_of}
-use Rattle.tariff_check.specs.Amounts.{initial_by}
-use Rattle.tariff_check.specs.Parts.{supplement_of}
-use Rattle.tariff_syntax.specs.Meaning.{initial_place, minimum_place}
-use Rattle.tariff_syntax.specs.Tree.{Tree}
+use Rattle.tariff_check.specs.Amounts.{fees_in_force}
+use Rattle.tariff_check.specs.SoundLookups.{place_in_force}
+use Rattle.tariff_check.specs.SoundTariff.{SoundTariff, lines_of, supplement_numbered}
+use Rattle.tariff_syntax.specs.Meaning.{at_hiring}
 use Rattle.tariff_syntax.specs.declared.context.Context.{Context}
 use Rattle.taxi_units.specs.declared.event.Event.{Event}
 use Rattle.taxi_units.specs.declared.event.Event.TheVariants as events
@@ -61,27 +60,28 @@ explanation_of e = record {
 }
 
 -- the line of the initial hire fee of a context is the number in the text of the one that holds first at the hiring
-abbrev pub fee_line : Tree → Context → ℕ
-fee_line t x = get_or (lines_of (sound_of t).initials) (unwrap_or (initial_place t x) 0) 0
+abbrev pub fee_line : SoundTariff → Context → ℕ
+fee_line tariff x = get_or (lines_of tariff.initials) (unwrap_or (place_in_force tariff.initials (at_hiring x)) 0) 0
 
 -- the line of the minimum fare of a context is the number in the text of the one that holds first at the hiring, if
 -- one does
-abbrev pub minimum_line : Tree → Context → Option ℕ
-minimum_line t x = option_map (λ place. get_or (lines_of (sound_of t).minimums) place 0) (minimum_place t x)
+abbrev pub minimum_line : SoundTariff → Context → Option ℕ
+minimum_line tariff x =
+    option_map (λ place. get_or (lines_of tariff.minimums) place 0) (place_in_force tariff.minimums (at_hiring x))
 
 -- a supplement is taken where its number stands in a list, with its count there and its amount
-abbrev pub taken_if : Tree → (numbers : List ℕ) → (number : ℕ) → List Taken
-taken_if t numbers number =
+abbrev pub taken_if : SoundTariff → (numbers : List ℕ) → (number : ℕ) → List Taken
+taken_if tariff numbers number =
     if times number numbers == 0 then []
     else record {
       number = number;
       count = times number numbers;
-      amount = amount_in (supplement_of t.lines number);
+      amount = amount_in (supplement_numbered tariff.supplements number);
     } ∷ []
 
 -- the supplements that are taken in a list are those of the numbers 1 to 16, in order
-abbrev pub taken_of : Tree → (numbers : List ℕ) → List Taken
-taken_of t numbers = flat_map (taken_if t numbers) (range_with_len 1 16)
+abbrev pub taken_of : SoundTariff → (numbers : List ℕ) → List Taken
+taken_of tariff numbers = flat_map (taken_if tariff numbers) (range_with_len 1 16)
 
 -- the parts of a trip so far are its own, and none without a trip
 abbrev pub parts_so_far : Option MeterTrip → List Part
@@ -108,7 +108,7 @@ abbrev pub explanation : Setting → (hired : Context) → Option MeterTrip → 
 explanation s hired trip receipt = record {
   receipt = receipt;
   fee_line = fee_line s.tariff hired;
-  covers = (initial_by s.tariff hired).covers;
+  covers = (fees_in_force s.tariff hired).covers;
   minimum_line = minimum_line s.tariff hired;
   whole = whole_of s trip;
   groups = groups_of s (parts_so_far trip);

@@ -3,12 +3,11 @@ use Rattle.std.specs.Prelude.{ℕ, ◌+◌, ◌*◌, ◌==◌, ◌&&◌, Bool, t
 use Rattle.std.specs.Option.{unwrap_or}
 use Rattle.drive_modes.specs.declared.charges.Mode.{Mode}
 use Rattle.drive_modes.specs.declared.charges.Mode.TheVariants.{Single, Double}
-use Rattle.meter_states.specs.Charge.{rate_of}
 use Rattle.meter_states.specs.Setting.{Setting}
 use Rattle.meter_states.specs.Trip.{Part, InHired, InStopped, Rest, charge_in, pulses_in, ticks_in}
 use Rattle.tariff_check.specs.Parts.{RateNumbers}
-use Rattle.tariff_check.specs.SoundTariff.{lines_of, sound_of}
-use Rattle.tariff_syntax.specs.Meaning.{rate_place}
+use Rattle.tariff_check.specs.SoundLookups.{place_in_force, rate_in_force}
+use Rattle.tariff_check.specs.SoundTariff.{lines_of}
 use Rattle.tariff_syntax.specs.declared.context.Context.{Context}
 use Rattle.verify_bench.specs.declared.explained.Group.{Group}
 use Rattle.verify_bench.specs.declared.explained.Sums.{Sums}
@@ -21,13 +20,13 @@ abbrev pub way_by : Mode → (k : ℕ) → RateNumbers → (p : ℕ) → Way
 way_by Single k r p = if nat_lt (10000 * p * r.a * r.e) (r.c * k * r.b) then Time else Distance
 way_by Double k r p = Both
 
--- the way of an interval of p pulses in a context is that by the rate that holds first in the context
+-- the way of an interval of p pulses in a context is that by the rate that is in force in the context
 abbrev pub way_of : Setting → Context → (p : ℕ) → Way
-way_of s x p = way_by s.mode s.constant (rate_of s.tariff x) p
+way_of s x p = way_by s.mode s.constant (rate_in_force s.tariff x) p
 
 -- the rate line of a context is the one that holds first in it, told by its place among the rate lines, from 0
 abbrev pub rate_place_of : Setting → Context → ℕ
-rate_place_of s x = unwrap_or (rate_place s.tariff x) 0
+rate_place_of s x = unwrap_or (place_in_force s.tariff.rates x) 0
 
 -- the test `is_same_way` is true where two ways are the same
 abbrev pub is_same_way : Way → Way → Bool
@@ -84,4 +83,4 @@ groups_from s parts place (line ∷ lines) = groups_at s parts place line ++ gro
 
 -- the groups of parts are those of each rate line of the tariff, in the text's order
 abbrev pub groups_of : Setting → List Part → List Group
-groups_of s parts = groups_from s parts 0 (lines_of (sound_of s.tariff).rates)
+groups_of s parts = groups_from s parts 0 (lines_of s.tariff.rates)

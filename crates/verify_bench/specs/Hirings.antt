@@ -4,8 +4,8 @@ use Rattle.std.specs.Prelude.{◌≡◌, ℕ, ◌*◌, ◌≤◌, All, filter}
 use Rattle.meter_states.specs.KeptTrip.{IsSupplementNumber}
 use Rattle.meter_states.specs.Setting.{Setting, unit_of}
 use Rattle.meter_states.specs.Supplements.{times}
-use Rattle.meter_states.specs.Trip.{MeterTrip}
-use Rattle.tariff_check.specs.Amounts.{IsFitInitial, initial_by}
+use Rattle.meter_states.specs.Trip.{MeterTrip, fees_of}
+use Rattle.tariff_check.specs.Amounts.{IsFitInitial, fees_in_force}
 use Rattle.tariff_syntax.specs.declared.context.Context.{Context}
 use Rattle.taxi_units.specs.Time.{IsSecond}
 use Rattle.verify_bench.specs.Explaining.{fee_line, minimum_line}
@@ -19,11 +19,10 @@ use Rattle.verify_bench.specs.declared.hiring.Hiring.{Hiring}
 -- of money for each tick
 pub record IsHiringOf (s : Setting) (hired : Context) (hiring : Hiring) (trip : MeterTrip) : Type 0 where
   pub started : trip.started ≡ hiring.started
-  pub initial : trip.initial ≡ hiring.fee.initial.amount
-  pub minimum : trip.minimum ≡ hiring.fee.initial.minimum
+  pub fees : trip.fees ≡ fees_of hiring.fee.initial
   pub opening : trip.opening
       ≡ record { cover = hiring.fee.initial.covers * unit_of s; above = 0; pulses = 0; ticks = 0 }
-  pub fee : hiring.fee.initial ≡ initial_by s.tariff hired
+  pub fee : hiring.fee.initial ≡ fees_in_force s.tariff hired
   pub fee_line : hiring.fee.fee_line ≡ fee_line s.tariff hired
   pub minimum_line : hiring.fee.minimum_line ≡ minimum_line s.tariff hired
   pub whole : hiring.whole ≡ sums_of s trip.parts

@@ -5,14 +5,15 @@ use Rattle.meter_states.specs.Charge.{distance_charge, time_charge}
 use Rattle.meter_states.specs.Closing.{receipt_of}
 use Rattle.meter_states.specs.KeptTrip.{IsSupplementNumber}
 use Rattle.meter_states.specs.Setting.{Setting, rounding_of, unit_of}
-use Rattle.meter_states.specs.Trip.{MeterTrip}
+use Rattle.meter_states.specs.Trip.{MeterTrip, fees_of}
 use Rattle.meter_states.specs.declared.act.Act.{Act}
 use Rattle.meter_states.specs.declared.act.Act.TheVariants as acts
 use Rattle.meter_states.specs.declared.act.Act.TheVariants.{Show, Refuse, Enter, Hold}
 use Rattle.drive_modes.specs.Distance.{millimetres_of}
 use Rattle.tariff_check.specs.Parts.{RateNumbers}
-use Rattle.tariff_check.specs.DisplayStep.{display_step}
-use Rattle.tariff_check.specs.Amounts.{initial_by}
+use Rattle.tariff_check.specs.Amounts.{fees_in_force}
+use Rattle.tariff_check.specs.SoundTariff.{sound_of}
+use Rattle.tariff_syntax.specs.Tree.{Tree}
 use Rattle.tariff_syntax.specs.Writable.{IsWritable}
 use Rattle.tariff_syntax.specs.declared.context.Context.{Context}
 use Rattle.taxi_units.specs.declared.receipt.Kind.{Kind}
@@ -38,15 +39,17 @@ charge_in_way k common r p Distance = distance_charge common r p
 charge_in_way k common r p Time = time_charge k common r
 charge_in_way k common r p Both = distance_charge common r p + time_charge k common r
 
--- a trip began in a context with the initial hire fee, the minimum fare and the cover that the tariff's text names
--- there, and with nothing charged and no pulse and no tick; each of its supplements is numbered 1 to 16, as the numbers
--- of a text are
+-- a setting is of a text if it has the parts of a tariff whose numbers a text can have
+abbrev pub IsOfText : Setting → Type 0
+IsOfText s = (t : Tree) × IsWritable t × (s.tariff ≡ sound_of t)
+
+-- a trip began in a context with the initial hire fee, the minimum fare and the cover that are in force there, and with
+-- nothing charged and no pulse and no tick; each of its supplements is numbered 1 to 16, if the setting is of a text
 pub record BeganIn (s : Setting) (hired : Context) (trip : MeterTrip) : Type 0 where
-  pub initial : trip.initial ≡ (initial_by s.tariff hired).amount
-  pub minimum : trip.minimum ≡ (initial_by s.tariff hired).minimum
+  pub fees : trip.fees ≡ fees_of (fees_in_force s.tariff hired)
   pub opening : trip.opening
-      ≡ record { cover = (initial_by s.tariff hired).covers * unit_of s; above = 0; pulses = 0; ticks = 0 }
-  pub extras : IsWritable s.tariff → All IsSupplementNumber trip.extras
+      ≡ record { cover = (fees_in_force s.tariff hired).covers * unit_of s; above = 0; pulses = 0; ticks = 0 }
+  pub extras : IsOfText s → All IsSupplementNumber trip.extras
 
 -- an explanation is of a trip that was closed if it is by the context in which the trip began, and its receipt is the
 -- one with which the trip was closed
@@ -74,7 +77,7 @@ pub record MakesReceipt (s : Setting) (e : Explanation) : Type 0 where
   pub distance : e.receipt.hired_mm ≡ millimetres_of s.constant e.whole.pulses
   pub steps : e.receipt.steps ≡ steps_above (rounding_of s)
       (record { cover = e.covers * unit_of s; above = 0; modulus = e.receipt.step * unit_of s }) e.whole.charge
-  pub step : e.receipt.step ≡ (display_step s.tariff).0
+  pub step : e.receipt.step ≡ s.tariff.step.0
   pub fare : e.receipt.fare ≡ shown_fare e.receipt.initial e.receipt.minimum e.receipt.step e.receipt.steps
-  pub supplements : IsWritable s.tariff
+  pub supplements : IsOfText s
       → sum (map (λ (t : Taken). t.count * t.amount) e.taken) ≡ e.receipt.supplements

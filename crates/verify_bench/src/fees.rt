@@ -3,6 +3,7 @@ ghost use Rattle.std.specs.Prelude.{◌≡◌, ◌∷◌, get_or};
 ghost use Rattle.tariff_check.specs.Faults.{IsSound};
 ghost use Rattle.tariff_check.specs.Parts.{minimums_of};
 ghost use Rattle.tariff_check.specs.Amounts.{IsFitInitial, initial_by, place_number};
+ghost use Rattle.tariff_check.specs.SoundTariff.{sound_of};
 ghost use Rattle.tariff_syntax.specs.Meaning.{minimum_place};
 ghost use Rattle.tariff_syntax.specs.Tree.{tree_of};
 ghost use Rattle.tariff_syntax.specs.Writable.{IsWritable};
@@ -23,8 +24,8 @@ pub(crate) struct HireFee {
 /// The initial hire fee and the minimum fare of a context at the hiring.
 pub(crate) fn hire_fee(checked: &Checked, x: &Context) -> HireFee
     ensures fee { result.initial ≡ initial_by (tree_of checked.now) x.now }
-    ensures fee_line { result.fee_line ≡ fee_line (tree_of checked.now) x.now }
-    ensures minimum_line { result.minimum_line ≡ minimum_line (tree_of checked.now) x.now }
+    ensures fee_line { result.fee_line ≡ fee_line (sound_of (tree_of checked.now)) x.now }
+    ensures minimum_line { result.minimum_line ≡ minimum_line (sound_of (tree_of checked.now)) x.now }
     ensures fit { IsFitInitial result.initial }
 {
     fee_in(checked, x)
@@ -33,8 +34,8 @@ pub(crate) fn hire_fee(checked: &Checked, x: &Context) -> HireFee
 /// The hire fee in a context, of a tariff that is sound.
 fn fee_in(checked: &Checked, x: &Context) -> HireFee
     ensures fee { result.initial ≡ initial_by (tree_of checked.now) x.now }
-    ensures fee_line { result.fee_line ≡ fee_line (tree_of checked.now) x.now }
-    ensures minimum_line { result.minimum_line ≡ minimum_line (tree_of checked.now) x.now }
+    ensures fee_line { result.fee_line ≡ fee_line (sound_of (tree_of checked.now)) x.now }
+    ensures minimum_line { result.minimum_line ≡ minimum_line (sound_of (tree_of checked.now)) x.now }
     ensures sound { IsSound (tree_of checked.now) }
     ensures writable { IsWritable (tree_of checked.now) }
 {
@@ -64,7 +65,7 @@ fn minimum_fare(checked: &Checked, x: &Context) -> u64
 
 /// The line of the minimum fare of a context at the hiring.
 fn minimum_line(checked: &Checked, x: &Context) -> Option<u32>
-    ensures { result ≡ minimum_line (tree_of checked.now) x.now }
+    ensures { result ≡ minimum_line (sound_of (tree_of checked.now)) x.now }
 {
     match checked.minimum_of(x) {
         None => None,

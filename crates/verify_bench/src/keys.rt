@@ -6,7 +6,7 @@ ghost use Rattle.meter_states.specs.KeptTrip.{IsSupplementNumber};
 ghost use Rattle.meter_states.specs.Keys.{extra_added, latched, position_set, zone_set};
 ghost use Rattle.meter_states.specs.Setting.{Setting};
 ghost use Rattle.seal_record.specs.declared.params.Params.{Params};
-ghost use Rattle.tariff_check.specs.Parts.{supplement_of};
+ghost use Rattle.tariff_check.specs.SoundTariff.{supplement_numbered};
 ghost use Rattle.taxi_units.specs.Time.{last_tick};
 ghost use Rattle.taxi_units.specs.declared.event.Operating.TheVariants.{ForHire};
 ghost use Rattle.verify_bench.specs.Settings.{setting_under};
@@ -87,7 +87,7 @@ impl BenchMeter {
     fn add_supplement(&mut self, number: u8, checked: &Checked) -> Result<(), NoMemory>
         requires sound { IsMeterInRange last_tick 0 self.old }
         ensures moves { OnOk result ((params : Params) → GoesThroughQuietly (setting_under checked.now params)
-            (λ s. extra_added number (supplement_of s.tariff.lines number)) self.old self.new) }
+            (λ s. extra_added number (supplement_numbered s.tariff.supplements number)) self.old self.new) }
         ensures sound { OnOk result (IsMeterInRange last_tick 0 self.new) }
     {
         match checked.supplement(number) {

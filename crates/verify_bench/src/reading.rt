@@ -10,7 +10,7 @@ pub struct Reading {
 }
 
 /// Why a text of readings isn't read.
-#[derive(Clone, Copy, Debug, PartialEq, Eq)]
+#[derive(Clone, Copy, PartialEq, Eq)]
 pub enum ReadingsFault {
     /// It has more than 1,048,576 bytes.
     TooLong,

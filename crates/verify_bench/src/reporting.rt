@@ -1,5 +1,5 @@
 //! Writes the report.
-ghost use Rattle.std.specs.Prelude.{◌≡◌, ℕ, ◌+◌, ◌<◌, ◌≤◌, ◌++◌, ◌∷◌, [], List, option_map, slice_get, Some, IfOk, OnOk};
+ghost use Rattle.std.specs.Prelude.{◌≡◌, ℕ, ◌+◌, ◌<◌, ◌≤◌, ◌++◌, ◌∷◌, [], List, map, option_map, slice_get, Some, IfOk, OnOk};
 ghost use Rattle.std.specs.Fmt.{decimal};
 ghost use Rattle.taxi_units.specs.Number.{money_text};
 ghost use Rattle.csv.specs.Records.{fields_of};
@@ -13,6 +13,19 @@ use crate::reading::Reading;
 use csv::{ByteRecord, Writer, WriterBuilder};
 use std::alloc::Global;
 use taxi_units::{Kind, Line, NoMemory, push_bytes, push_money, push_number};
+
+/// The fields of the header.
+const HEADER: [&[u8]; 9] = [
+    b"hiring",
+    b"kind",
+    b"fare",
+    b"read_fare",
+    b"distance",
+    b"read_distance",
+    b"time",
+    b"read_time",
+    b"verdict",
+];
 
 /// Writes the report: a row of `csv` for each place of the two lists, under a header. Fares have the
 /// tariff's decimals, distances in metres three, times in seconds one. Where there is no reading its
@@ -72,21 +85,22 @@ fn put_field(row: &mut ByteRecord, field: &[u8]) -> Result<(), NoMemory>
     row.push_field(field).map_err(|_| NoMemory)
 }
 
+/// The row of these fields.
+fn row_with(alloc: Global, fields: &[&[u8]]) -> Result<ByteRecord, NoMemory>
+    ensures { IfOk result (λ row. IsRow row (map (λ field. field.now) fields.now)) }
+{
+    let mut row = begin_row(alloc);
+    for field in fields {
+        put_field(&mut row, field)?;
+    }
+    Ok(row)
+}
+
 /// The header.
 fn header(alloc: Global) -> Result<ByteRecord, NoMemory>
     ensures { IfOk result (λ row. IsRow row report_header) }
 {
-    let mut row = begin_row(alloc);
-    put_field(&mut row, b"hiring")?;
-    put_field(&mut row, b"kind")?;
-    put_field(&mut row, b"fare")?;
-    put_field(&mut row, b"read_fare")?;
-    put_field(&mut row, b"distance")?;
-    put_field(&mut row, b"read_distance")?;
-    put_field(&mut row, b"time")?;
-    put_field(&mut row, b"read_time")?;
-    put_field(&mut row, b"verdict")?;
-    Ok(row)
+    row_with(alloc, &HEADER)
 }
 
 /// The row of a place, from 0 on.

@@ -3,7 +3,7 @@ ghost use Rattle.std.specs.Prelude.{◌≡◌, ◌+◌, ◌≤◌, ◌<◌, ◌+
 ghost use Rattle.arrayvec.specs.ArrayVec.{array_vec_len};
 ghost use Rattle.taxi_units.specs.Line.{line_size};
 ghost use Rattle.tariff_check.specs.Sound.{IsSoundRate};
-ghost use Rattle.tariff_check.specs.SoundTariff.{own_values};
+ghost use Rattle.tariff_check.specs.SoundTariff.{own_values, sound_of};
 ghost use Rattle.tariff_syntax.specs.Tree.{tree_of};
 ghost use Rattle.verify_bench.specs.CrossOvers.{cross_over_line, cross_over_lines, cross_over_of, cross_overs_text, speed_text};
 
@@ -17,7 +17,7 @@ use taxi_units::{Line, NoMemory, push_bytes, push_number};
 ///
 /// `NoMemory` only where memory ran out. The form is this project's own.
 pub fn cross_overs(alloc: Global, checked: &Checked) -> Result<Vec<u8>, NoMemory>
-    ensures { IfOk result (λ text. text.items ≡ cross_overs_text (tree_of checked.now).lines) }
+    ensures { IfOk result (λ text. text.items ≡ cross_overs_text (sound_of (tree_of checked.now))) }
 {
     lines_of_rates(alloc, checked.rates())
 }

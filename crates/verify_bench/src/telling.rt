@@ -6,7 +6,7 @@ ghost use Rattle.meter_states.specs.KeptTrip.{IsSupplementNumber};
 ghost use Rattle.meter_states.specs.Setting.{Setting, stamp_at};
 ghost use Rattle.meter_states.specs.Supplements.{amount_in, amounts_of, times};
 ghost use Rattle.meter_states.specs.Trip.{Part, MeterTrip};
-ghost use Rattle.tariff_check.specs.SoundTariff.{own_lines};
+ghost use Rattle.tariff_check.specs.SoundTariff.{own_lines, sound_of};
 ghost use Rattle.tariff_check.specs.Parts.{supplement_of};
 ghost use Rattle.tariff_syntax.specs.Tree.{tree_of};
 ghost use Rattle.tariff_syntax.specs.declared.context.Context.{Context};
@@ -177,7 +177,7 @@ fn put_group(groups: &mut Vec<Group>, line: u32, way: Way, sums: Sums) -> Result
 /// The supplements that were added, by their numbers.
 fn taken(alloc: Global, hiring: &Hiring, checked: &Checked) -> Result<Vec<Taken>, NoMemory>
     requires { IsWhole hiring.now }
-    ensures { IfOk result (λ taken. taken.items ≡ taken_of (tree_of checked.now) hiring.now.extras.items) }
+    ensures { IfOk result (λ taken. taken.items ≡ taken_of (sound_of (tree_of checked.now)) hiring.now.extras.items) }
 {
     let mut taken = Vec::new(alloc);
     for number in 1..17u8 {
@@ -195,7 +195,7 @@ fn put_taken(
 ) -> Result<(), NoMemory>
     requires { IsWhole hiring.now }
     ensures { OnOk result (taken.new.items
-        ≡ taken.old.items ++ taken_if (tree_of checked.now) hiring.now.extras.items number) }
+        ≡ taken.old.items ++ taken_if (sound_of (tree_of checked.now)) hiring.now.extras.items number) }
 {
     let count = hiring.times(number);
     if count == 0 {
@@ -223,7 +223,7 @@ fn amount_of(number: u8, checked: &Checked) -> u64
 /// What the supplements cost together.
 fn supplements(hiring: &Hiring, checked: &Checked) -> u64
     requires { IsWhole hiring.now }
-    ensures { result ≡ amounts_of (tree_of checked.now) hiring.now.extras.items }
+    ensures { result ≡ amounts_of (sound_of (tree_of checked.now)) hiring.now.extras.items }
 {
     let mut sum = 0;
     for number in 1..17u8 {

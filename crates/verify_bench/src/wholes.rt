@@ -6,6 +6,8 @@ ghost use Rattle.meter_states.specs.Run.{actions_of};
 ghost use Rattle.meter_states.specs.Setting.{Setting};
 ghost use Rattle.tariff_check.specs.Faults.{IsSound};
 ghost use Rattle.tariff_check.specs.Parts.{RateNumbers};
+ghost use Rattle.tariff_check.specs.SoundTariff.{sound_of};
+ghost use Rattle.tariff_syntax.specs.Tree.{Tree};
 ghost use Rattle.taxi_units.specs.declared.event.Event.{Event};
 ghost use Rattle.totals_record.specs.States.{first_state};
 ghost use Rattle.verify_bench.specs.Explaining.{Explanation, explanations_of};
@@ -24,8 +26,8 @@ pub fn explanations_have_the_receipts()
 /// A law: the parts of each explanation are the whole trip, under a sound tariff; the whole trip makes the
 /// receipt, with the supplements that were taken; and an interval is charged what its way says.
 pub fn explanations_add_up()
-    ensures whole { (s : Setting) (events : List Event)
-        → IsSound s.tariff → All ArePartsTheWhole (explanations_of s events) }
+    ensures whole { (t : Tree) (s : Setting) (events : List Event) → IsSound t → s.tariff ≡ sound_of t
+        → All ArePartsTheWhole (explanations_of s events) }
     ensures receipt { (s : Setting) (events : List Event) → All (MakesReceipt s) (explanations_of s events) }
     ensures ways { (mode : Mode) (k common : ℕ) (r : RateNumbers) (p : ℕ)
         → charge_by mode k common r p ≡ charge_in_way k common r p (way_by mode k r p) }

@@ -74,7 +74,12 @@ returns g c =
     let runs = rw same at (c.dry_run-ran.ensures.ends tells) in
     let seal = c.fare_seal-seal.result in
     let of_tariff : IsTariffOf (setting_of k t) tables =
-    record { compiled = made.compiled; constant = ap (λ (p : TableParts). p.constant) made.value } in
+    record {
+      tree = t;
+      compiled = made.compiled;
+      parts = refl;
+      constant = ap (λ (p : TableParts). p.constant) made.value;
+    } in
     let of_seal : IsSealOf (setting_of k t) seal = record {
       constant = c.fare_seal-seal.ensures.constant;
       mode = c.fare_seal-seal.ensures.mode;

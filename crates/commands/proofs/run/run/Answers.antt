@@ -80,7 +80,7 @@ returns-clause-runs g c = λ tells told.
     no_fault c.begin.result c.in-Ok.begun ended.BoardFault c.in-Ok.is in
     let compiled : IsTablesOf s.tree (tables_in s) = subst (IsTablesOf s.tree) begun.tables_are begun.compiled in
     let is : IsSettingOf (setting_in s) (tables_in s) s.seal = record {
-      tariff = record { compiled = compiled; constant = refl };
+      tariff = record { tree = s.tree; compiled = compiled; parts = refl; constant = refl };
       secured = record { constant = refl; mode = refl; hold_time = refl; offsets = refl };
     } in
     let opens : OpensWith g.B.Board (tables_in s) mid s.durable =

@@ -1,9 +1,15 @@
-use Rattle.std.proofs.Common.{◌≡◌, ◌∙◌, ℕ, List, Err, refl, sym, ap, subst}
+use Rattle.std.proofs.Common.{◌≡◌, ◌∙◌, ℕ, List, Option, Result, Ok, Err, refl, sym, ap, subst, arith}
 use Rattle.std.proofs.lemmas.Result.{err_from_is_err_and}
 use Rattle.outside.specs.Faults.{Rose}
+use Rattle.seal_record.specs.Reading.{params_read}
+use Rattle.seal_record.specs.declared.params.Params.{Params}
+use Rattle.sha2.specs.Sha256.{sha256}
+use Rattle.tariff_syntax.specs.Tree.{Tree}
 use Rattle.commands.specs.Ending.{ended_for, ended_for_params}
-use Rattle.commands.specs.Seal.{HasDecimals}
+use Rattle.commands.specs.Seal.{HasDecimals, seal_read, where_decimals, with_params, with_tariff}
 use Rattle.commands.specs.SealSteps.{IsNoSeal}
+use Rattle.commands.specs.declared.ending.Ended.{Ended}
+use Rattle.commands.specs.declared.tariff.Refusal.{Refusal}
 use Rattle.commands.proofs.Counting.{read_fault-text}
 use Rattle.commands.specs.declared.params.ParamsFault.TheVariants as params
 use Rattle.commands.specs.declared.tariff.TextFault.TheVariants as texts
@@ -12,6 +18,18 @@ use Rattle.commands.proofs.Openings.{no_fault, same_fault}
 use Rattle.commands.proofs.Sealings.{no_seal-tariff, no_tariff-fault}
 use Rattle.commands.proofs.Turns.{first_alone, first_then}
 use Rattle.commands.proofs.seal.read_seal.Goals as goal
+
+-- the seal of a number that texts make has the digest of the tariff
+seal_made : (number : ℕ) (found : Option ℕ) (tariff text : List ℕ) (params : Params) (digest : List ℕ) (decimals : ℕ)
+    (has : HasDecimals found tariff) → has.tree.decimals ≡ decimals → params_read text ≡ Ok params
+    → digest ≡ sha256 tariff
+    → seal_read number found tariff text
+    ≡ Ok (record { seal_number = number; params = params; digest = digest; decimals = decimals })
+seal_made number found tariff text params digest decimals has decimals_are read digested =
+    ap (λ (r : Result Tree Refusal). with_tariff number found (sha256 tariff) r (params_read text)) has.sound
+    ∙ ap (λ (r : Result (Unit {0}) Ended). where_decimals r
+    (with_params number (sha256 tariff) has.tree.decimals (params_read text))) has.decimals
+    ∙ rw (sym digested, decimals_are, read) refl
 
 pub returns-in_err-decimals-clause-refused : goal.returns-in_err-decimals-clause-refused
 returns-in_err-decimals-clause-refused g c =
@@ -38,6 +56,16 @@ returns-in_err-decimals-clause-not_board g c =
 pub returns-in-Err-read_parameters-clause-not_board : goal.returns-in-Err-read_parameters-clause-not_board
 returns-in-Err-read_parameters-clause-not_board g c = λ e.
     not_board-params c.in-Err-read_parameters.fault (sym c.refused_params.ensures ∙ same_fault _ _ _ refl e)
+
+pub returns-clause-read : goal.returns-clause-read
+returns-clause-read g c = λ read.
+    let tariff = c.as_slice.ensures.value ∙ c.in-Ok.ensures.text read in
+    let params = ap params_read (sym (c.text_of_word.ensures.others 2 (λ e. absurd (omega (arith, e)))))
+    ∙ c.in-Ok-read_parameters.ensures.found read in
+    let text = g.F.Files.rest c.args.files.now 2 in
+    ap (λ (x : List ℕ). seal_read c.args.number c.args.found x text) (sym tariff)
+    ∙ seal_made c.args.number c.args.found c.as_slice.result.now text _ _ _ c.in_ok-decimals.ensures.sound.has
+    c.in_ok-decimals.ensures.sound.decimals_are params cc
 
 pub returns-clause-refused : goal.returns-clause-refused
 returns-clause-refused g c = λ why read e. absurd (no_fault _ _ _ refl e)

@@ -1,7 +1,7 @@
 use Rattle.std.proofs.Common.{◌∷◌, [], refl}
 use Rattle.std.proofs.lemmas.Result.{on_ok_weaker}
 use Rattle.taxi_units.specs.declared.event.Event.TheVariants.{Down}
-use Rattle.meter_states.specs.Run.{ended, run}
+use Rattle.meter_states.specs.Run.{ended}
 use Rattle.meter_run.proofs.Ended.{not_told}
 use Rattle.meter_run.proofs.Whole.{amid_either, amid_of, ends_amid, ends_off, ends_on}
 use Rattle.meter_run.proofs.store_drive.drop_at_end.Goals as goal
@@ -31,8 +31,8 @@ returns-clause-stopped g c =
     let a = c.args.board.now in
     let b = c.carry_out.new.board in
     ends_amid g.B.Board t k x a b (not_told c.is_off.result _ c.is_off.ensures.1 c.if-is_off.false)
-    (amid_either g.B.Board t k c.carry_out.result (λ s m. run s (Down ∷ []) m) x a c.carry_out.new.self b
-    (on_ok_weaker c.carry_out.result (λ h. h.out) c.carry_out.ensures.carried) c.carry_out.ensures.broke_off)
+    (amid_either g.B.Board t k c.carry_out.result (Down ∷ []) x a c.carry_out.new.self b c.carry_out.ensures.carried
+    c.carry_out.ensures.broke_off)
 
 pub returns-then-is_off-clause-idle : goal.returns-then-is_off-clause-idle
 returns-then-is_off-clause-idle g c = λ off. refl

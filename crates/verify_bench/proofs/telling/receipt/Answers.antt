@@ -2,7 +2,6 @@ use Rattle.std.proofs.Common.{◌≡◌, ℕ, ap, sym, refl, Option, arith}
 use Rattle.std.specs.Option.{unwrap_or}
 use Rattle.drive_modes.specs.declared.meterage.Rounding.{Rounding}
 use Rattle.drive_modes.specs.declared.meterage.Rounding.TheVariants.{Behind}
-use Rattle.tariff_check.specs.DisplayStep.{display_step}
 use Rattle.meter_states.specs.Setting.{stamp_at}
 use Rattle.meter_states.specs.Supplements.{amounts_of}
 use Rattle.meter_states.specs.Trip.{charges_of, fare_of, pulses_of, steps_shown}
@@ -26,12 +25,12 @@ returns g c hired trip is =
     rw (c.steps_shown-shown.ensures.steps, is.opening, charges) refl in
     let few = c.steps_shown-shown.ensures.few c.args.hiring.now.whole.ticks c.requires.ticks is.few in
     let steps : c.min.result ≡ steps_shown s trip = omega (arith, c.min.ensures, few, shown) in
-    let step : c.step-step.result.0 ≡ (display_step s.tariff).0 =
+    let step : c.step-step.result.0 ≡ s.tariff.step.0 =
     sym (ap (λ (o : Option (ℕ × Rounding)). (unwrap_or o (0, Behind)).0) c.step-step.ensures.value) in
     let fare : c.fare_shown-fare.result ≡ fare_of s trip =
-    rw (c.fare_shown-fare.ensures, step, shown, is.initial, is.minimum) refl in
+    rw (c.fare_shown-fare.ensures, step, shown, is.fees) refl in
     let amounts : c.supplements-sum.result ≡ amounts_of s.tariff trip.extras =
     rw (c.supplements-sum.ensures, is.extras) refl in
     let decimals : c.tariff.result.now.decimals ≡ s.tariff.decimals =
     ap (λ (t : Tariff). t.decimals) c.tariff.ensures.value in
-    rw (start, finish, distance, sym is.initial, sym is.minimum, steps, step, fare, amounts, decimals) refl
+    rw (start, finish, distance, steps, step, fare, amounts, decimals, is.fees) refl

@@ -1,4 +1,5 @@
 use Rattle.std.proofs.Common.{refl, arith}
+use Rattle.tariff_check.specs.SoundTariff.{sound_of}
 use Rattle.tariff_syntax.specs.Tree.{tree_of}
 use Rattle.verify_bench.specs.Explaining.{taken_if}
 use Rattle.verify_bench.proofs.TakenLists.{no_more_taken, one_more_taken}
@@ -9,9 +10,11 @@ loop-number-init c = rw c.new-taken.ensures.items refl
 
 pub loop-number-preserved : goal.loop-number-preserved
 loop-number-preserved c =
-    rw c.in_ok-put_taken.ensures (one_more_taken (taken_if (tree_of c.args.checked.now) c.args.hiring.now.extras.items)
+    rw c.in_ok-put_taken.ensures (one_more_taken
+    (taken_if (sound_of (tree_of c.args.checked.now)) c.args.hiring.now.extras.items)
     c.loop-number.number c.loop-number.taken.items _ (omega arith) c.loop-number.invariant)
 
 pub returns : goal.returns
-returns c = no_more_taken (taken_if (tree_of c.args.checked.now) c.args.hiring.now.extras.items) c.loop-number.number
+returns c =
+    no_more_taken (taken_if (sound_of (tree_of c.args.checked.now)) c.args.hiring.now.extras.items) c.loop-number.number
     c.loop-number.taken.items _ (omega arith) c.loop-number.invariant

@@ -1,9 +1,10 @@
 use Rattle.std.proofs.Common.{◌≡◌, ◌-◌, ◌++◌, flat_map}
 use Rattle.std.specs.List.{range_with_len}
+use Rattle.tariff_check.specs.SoundTariff.{sound_of}
 use Rattle.tariff_syntax.specs.Tree.{tree_of}
 use Rattle.verify_bench.specs.Explaining.{taken_if, taken_of}
 use Rattle.verify_bench.proofs.telling.taken.Given as goal
 
 abbrev pub invariant-loop-number : goal.invariant-loop-number
-invariant-loop-number l = l.taken.items ++ flat_map (taken_if (tree_of l.checked) l.hiring.extras.items)
-    (range_with_len l.number (17 - l.number)) ≡ taken_of (tree_of l.checked) l.hiring.extras.items
+invariant-loop-number l = l.taken.items ++ flat_map (taken_if (sound_of (tree_of l.checked)) l.hiring.extras.items)
+    (range_with_len l.number (17 - l.number)) ≡ taken_of (sound_of (tree_of l.checked)) l.hiring.extras.items

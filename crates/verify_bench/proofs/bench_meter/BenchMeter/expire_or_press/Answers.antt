@@ -1,12 +1,29 @@
-use Rattle.std.proofs.Common.{◌≡◌, ◌∙◌, sym, refl, arith, false, None, Some}
+use Rattle.std.proofs.Common.{◌≡◌, ◌≢◌, ◌∙◌, sym, refl, arith, true, false, None, Some}
 use Rattle.std.specs.Prelude.{nat_le}
+use Rattle.std.proofs.lemmas.Bool.{le-leb}
 use Rattle.std.proofs.lemmas.Result.{on_ok_weaker}
-use Rattle.meter_states.specs.Interval.{ticks_so_far}
+use Rattle.meter_states.specs.Interval.{context_now, ticks_so_far}
 use Rattle.taxi_units.specs.Time.{longest_trip}
+use Rattle.taxi_units.specs.declared.event.Operating.TheVariants.{ForHire}
 use Rattle.verify_bench.specs.Settings.{setting_under}
+use Rattle.verify_bench.proofs.BenchSupply.{no_ticks, still_hired}
 use Rattle.verify_bench.proofs.Benches.{stands_anew}
 use Rattle.verify_bench.proofs.Permitted.{not_at_most}
 use Rattle.verify_bench.proofs.bench_meter.BenchMeter.expire_or_press.Goals as goal
+
+pub returns-then-ticks-ge-LONGEST_TRIP-clause-moves : goal.returns-then-ticks-ge-LONGEST_TRIP-clause-moves
+returns-then-ticks-ge-LONGEST_TRIP-clause-moves g c =
+    let s = setting_under c.args.checked.now c.args.params.now in
+    on_ok_weaker c.expire.result (λ goes m hired stands.
+    let same = c.ticks.ensures.stands s m hired stands in
+    let long : nat_le longest_trip (ticks_so_far m.trip) ≡ true =
+    le-leb 8640000 (ticks_so_far m.trip) (omega (arith, same, c.if-ticks-ge-LONGEST_TRIP.true)) in
+    let busy : m.operating ≢ ForHire = λ is.
+    let none = no_ticks c.args.self.now.hiring c.ticks.result (c.requires.sound.for_hire (stands.operating ∙ is))
+    c.ticks.ensures.own in
+    absurd (omega (arith, none, c.if-ticks-ge-LONGEST_TRIP.true)) in
+    rw (long, still_hired m.latch m.operating (context_now s m) hired busy) (goes m hired stands))
+    c.expire.ensures.moves
 
 pub returns-in-Some-clause-moves : goal.returns-in-Some-clause-moves
 returns-in-Some-clause-moves g c =

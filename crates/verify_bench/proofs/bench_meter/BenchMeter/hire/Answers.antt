@@ -3,7 +3,7 @@ use Rattle.std.specs.Prelude.{nat_le}
 use Rattle.meter_states.specs.Interval.{context_now, context_on}
 use Rattle.meter_states.specs.Keys.{hired}
 use Rattle.meter_states.specs.Setting.{local_at}
-use Rattle.tariff_check.specs.Amounts.{initial_by}
+use Rattle.tariff_check.specs.Amounts.{fees_in_force}
 use Rattle.taxi_units.specs.Limits.{hirings_end}
 use Rattle.verify_bench.specs.Explaining.{fee_line, minimum_line}
 use Rattle.verify_bench.specs.Settings.{setting_under}
@@ -17,8 +17,8 @@ returns-clause-moves g c trip found m before stands =
     c.context-x.ensures m before stands ∙ ap (λ (second : ℕ). context_on s (local_at s second) m) stands.clock in
     let few : nat_le hirings_end m.durable.number ≡ false =
     hires_yet s before c.args.self.now m stands c.if-self-ge-HIRINGS_END.false in
-    let initial : c.hire_fee-fee.result.initial ≡ initial_by s.tariff (context_now s m) =
-    c.hire_fee-fee.ensures.fee ∙ ap (initial_by s.tariff) x in
+    let initial : c.hire_fee-fee.result.initial ≡ fees_in_force s.tariff (context_now s m) =
+    c.hire_fee-fee.ensures.fee ∙ ap (fees_in_force s.tariff) x in
     let line : c.hire_fee-fee.result.fee_line ≡ fee_line s.tariff (context_now s m) =
     c.hire_fee-fee.ensures.fee_line ∙ ap (fee_line s.tariff) x in
     let minimum : c.hire_fee-fee.result.minimum_line ≡ minimum_line s.tariff (context_now s m) =
@@ -37,8 +37,7 @@ returns-clause-moves g c trip found m before stands =
       held = stands.held;
       trips = record {
         started = rw made.started (sym stands.clock);
-        initial = rw (made.fee, initial) refl;
-        minimum = rw (made.fee, initial) refl;
+        fees = rw (made.fee, initial) refl;
         opening = rw (made.fee, initial) refl;
         fee = rw made.fee initial;
         fee_line = rw made.fee line;

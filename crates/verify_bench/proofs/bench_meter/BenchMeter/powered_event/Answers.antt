@@ -1,10 +1,27 @@
 use Rattle.std.proofs.Common.{subst, sym}
+use Rattle.std.proofs.lemmas.Result.{on_ok_weaker}
 use Rattle.meter_states.specs.Step.{powered_step}
 use Rattle.taxi_units.specs.declared.event.Event.{Event}
 use Rattle.verify_bench.specs.Bench.{Moves}
 use Rattle.verify_bench.specs.Explaining.{hired_at, trip_at}
 use Rattle.verify_bench.specs.Settings.{setting_under}
 use Rattle.verify_bench.proofs.bench_meter.BenchMeter.powered_event.Goals as goal
+
+pub returns-in-Down-clause-moves : goal.returns-in-Down-clause-moves
+returns-in-Down-clause-moves g c =
+    let s = setting_under c.args.checked.now c.args.params.now in
+    on_ok_weaker c.go_down.result (λ goes m hired stands.
+    subst (λ (e : Event). Moves s hired (hired_at s e m hired) (trip_at s e m) c.args.found.now.items
+    c.go_down.new.found.items c.go_down.new.self (powered_step s e m)) (sym c.in-Down.is) (goes m hired stands))
+    c.go_down.ensures.moves
+
+pub returns-in-Tick-clause-moves : goal.returns-in-Tick-clause-moves
+returns-in-Tick-clause-moves g c =
+    let s = setting_under c.args.checked.now c.args.params.now in
+    on_ok_weaker c.tick.result (λ goes m hired stands.
+    subst (λ (e : Event). Moves s hired (hired_at s e m hired) (trip_at s e m) c.args.found.now.items
+    c.tick.new.found.items c.tick.new.self (powered_step s e m)) (sym c.in-Tick.is) (goes m hired stands))
+    c.tick.ensures.moves
 
 pub returns-in-Pulses-clause-moves : goal.returns-in-Pulses-clause-moves
 returns-in-Pulses-clause-moves g c m hired stands =

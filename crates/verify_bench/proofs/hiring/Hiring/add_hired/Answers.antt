@@ -17,8 +17,7 @@ returns-clause-trip c = λ s hired x trip of price.
     ap (λ (n : ℕ). record { pulses = p; ticks = 1; charge = n }) price.charge in
     record {
       started = of.started;
-      initial = of.initial;
-      minimum = of.minimum;
+      fees = of.fees;
       opening = of.opening;
       fee = of.fee;
       fee_line = of.fee_line;

@@ -1,0 +1,14 @@
+use Rattle.std.proofs.Common.{◌≢◌, ◌∙◌, rules}
+use Rattle.std.proofs.lemmas.Result.{on_ok_weaker}
+use Rattle.taxi_units.specs.declared.event.Operating.TheVariants.{Off}
+use Rattle.verify_bench.specs.Settings.{setting_under}
+use Rattle.verify_bench.proofs.BenchSupply.{ended_on}
+use Rattle.verify_bench.proofs.bench_meter.BenchMeter.drop_at_end.Goals as goal
+
+pub returns-in-ForHire : goal.returns-in-ForHire
+returns-in-ForHire g c =
+    let s = setting_under c.args.checked.now c.args.params.now in
+    let on : c.args.self.now.operating ≢ Off = search rules in
+    on_ok_weaker c.go_down.result (λ goes m hired stands.
+    rw (ended_on s m.operating m (λ off. on (stands.operating ∙ off))) (goes m hired stands))
+    c.go_down.ensures.moves

@@ -1,0 +1,33 @@
+use Rattle.std.proofs.Common.{◌≡◌, ◌≢◌, ◌∙◌, rules, subst, sym}
+use Rattle.std.proofs.lemmas.Result.{on_ok_weaker}
+use Rattle.meter_states.specs.Step.{step, step_in}
+use Rattle.taxi_units.specs.declared.event.Event.{Event}
+use Rattle.taxi_units.specs.declared.event.Event.TheVariants.{Up}
+use Rattle.taxi_units.specs.declared.event.Operating.{Operating}
+use Rattle.taxi_units.specs.declared.event.Operating.TheVariants.{Off}
+use Rattle.verify_bench.specs.Bench.{Moves}
+use Rattle.verify_bench.specs.Explaining.{hired_at, trip_at}
+use Rattle.verify_bench.specs.Settings.{setting_under}
+use Rattle.verify_bench.proofs.BenchSupply.{step_on}
+use Rattle.verify_bench.proofs.bench_meter.BenchMeter.event.Goals as goal
+
+pub returns-in-Up-clause-moves : goal.returns-in-Up-clause-moves
+returns-in-Up-clause-moves g c =
+    let s = setting_under c.args.checked.now c.args.params.now in
+    let a = c.args.found.now.items in
+    let b = c.come_up.new.found.items in
+    let new = c.come_up.new.self in
+    on_ok_weaker c.come_up.result (λ goes m hired stands.
+    let off : m.operating ≡ Off = sym stands.operating ∙ c.in-Off.is in
+    subst (λ (e : Event). Moves s hired (hired_at s e m hired) (trip_at s e m) a b new (step s e m)) (sym c.in-Up.is)
+    (subst (λ (o : Operating). Moves s hired hired m.trip a b new (step_in s o (Up c.in-Up.second) m)) (sym off)
+    (goes m hired stands)))
+    c.come_up.ensures.moves
+
+pub returns-in-ForHire-clause-moves : goal.returns-in-ForHire-clause-moves
+returns-in-ForHire-clause-moves g c =
+    let s = setting_under c.args.checked.now c.args.params.now in
+    let on : c.args.self.now.operating ≢ Off = search rules in
+    on_ok_weaker c.powered_event.result (λ goes m hired stands.
+    rw (step_on s c.args.event m.operating m (λ off. on (stands.operating ∙ off))) (goes m hired stands))
+    c.powered_event.ensures.moves

@@ -1,0 +1,6 @@
+use Rattle.std.proofs.Common.{map, take}
+use Rattle.verify_bench.specs.Writing.{IsRow}
+use Rattle.verify_bench.proofs.reporting.row_with.Given as goal
+
+abbrev pub invariant-loop-field : goal.invariant-loop-field
+invariant-loop-field l = IsRow l.row (map (λ field. field.now) (take l.field-index l.fields))
