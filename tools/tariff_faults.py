@@ -9,6 +9,14 @@ DIMENSIONS = {"MonthDay": 63, "Minute": 63, "Distance": 15, "Time": 15}  # and h
 MOST_CELLS = 64_512
 LARGEST_MEASURE = 10**18
 MOST_ALIKE = {"rate": 64, "initial": 64, "minimum": 64, "holiday": 255}
+# The faults that a line which begins so could take away.
+MENDED_BY = {
+    "step": ["NoStep", "StepZero"],
+    "rate": ["NoDefaultRate"],
+    "initial": ["NoDefaultInitial"],
+    "positions": ["UnknownNumber"],
+    "zones": ["UnknownNumber"],
+}
 MONTHS = [31, 29, 31, 30, 31, 30, 31, 31, 30, 31, 30, 31]  # of a leap year
 
 
