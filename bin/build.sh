@@ -188,6 +188,13 @@ built_with() {
   sed -n "s/^$1 //p" "$record" 2>/dev/null | cut -d' ' -f1-"${2:-}"
 }
 
+# The layouts that a part of docs/STORE.md has, as `1 or 2`.
+layouts_of() {
+  local found row='^| 511 | layout | \([0-9]*\) |$'
+  found=$(sed -n "/^## The $1\$/,/^## /s/$row/\1/p" "$top/docs/STORE.md" 2>/dev/null | paste -sd ' ')
+  echo "${found:-unknown}" | sed 's/ / or /g'
+}
+
 # What program this is. It builds nothing.
 version() {
   local sum=''
@@ -199,7 +206,7 @@ version() {
   else
     printf 'commit: unknown, since this program was built by something else\nprogram: SHA-256 %s\nkit: unknown\n' "$sum"
   fi
-  echo "store: $layouts"
+  echo "store: $(layouts)"
   echo "pages: $top/docs"
 }
 

@@ -2,9 +2,9 @@
 # the top of the checkout or of what is installed; `name`, what the program is called; `program_crate`, the crate whose
 # program is run; `sample`, the words of a run that needs no file; `page`, where the program is described; `width`, of
 # the words in the help; `needs_store`, the commands that need a sealed store; `without_store`, those that open none;
-# `layouts`, those of its store that it reads; `fault_of_a_line`, the lines that end with the number of a line at fault;
-# and these functions:
+# `fault_of_a_line`, the lines that end with the number of a line at fault; and these functions:
 #
+#   layouts       prints the layouts of its store that it reads
 #   commands      prints a line `WORDS|WHAT|EXAMPLE` for each command
 #   meaning_of    prints what a status means, given the status and the words
 #   question_of   sets `file`, the file at fault, `other`, the one where the answer begins with `BAD OTHER`, and `question`,
