@@ -30,11 +30,10 @@ fare-by s t u fees cover above parts =
     ap (λ (f : Fees). fare_by_fees f s.tariff.step.0 (steps_shown s t)) fees
     ∙ ap (fare_by_fees u.fees s.tariff.step.0) steps
 
--- over two lists charges add up
-pub sum-parts : (s : Setting) (xs ys : List Part)
-    → sum (map (charge_in s) (xs ++ ys)) ≡ sum (map (charge_in s) xs) + sum (map (charge_in s) ys)
-sum-parts s [] ys = omega arith
-sum-parts s (x ∷ xs) ys = grind (arith, common_steps, sum-parts s xs ys)
+-- over two lists what each element counts adds up
+pub sum-lists : {A : Type 0} (f : A → ℕ) (xs ys : List A) → sum (map f (xs ++ ys)) ≡ sum (map f xs) + sum (map f ys)
+sum-lists f [] ys = omega arith
+sum-lists f (x ∷ xs) ys = grind (arith, common_steps, sum-lists f xs ys)
 
 -- from a saved state charges go on as from the opening
 pub above-more : (o : fares.Opening) (a b : ℕ)
@@ -53,7 +52,7 @@ pub fare-resumed : (s : Setting) (t : MeterTrip) (parts : List Part) (second : �
 fare-resumed s t parts second stopped position zone =
     let o = model.opening_of s t in
     let both : charges_of s (with_parts parts t) ≡ charges_of s t + sum (map (charge_in s) parts) =
-    sum-parts s t.parts parts in
+    sum-lists (charge_in s) t.parts parts in
     let more = above-more o (charges_of s t) (sum (map (charge_in s) parts)) in
     ap (λ (n : ℕ). fare_by_fees t.fees s.tariff.step.0 (quotient (rounding_of s) n (modulus_of s)))
     (more ∙ ap (above_cover o) (sym both))

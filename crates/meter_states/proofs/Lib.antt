@@ -14,8 +14,6 @@ mod EqualIntervals
 mod Fares
 -- a trip that fits the tables fits their setting
 mod HeldFits
--- a trip of a powered core, as it is held
-mod HeldForms
 -- each stage of an event keeps the trip of the store
 mod KeptTrips
 -- what a key does in its row, as a stage of an event

@@ -14,7 +14,7 @@ use Rattle.meter_states.specs.Supplements.{amount_in, amounts_from, amounts_of, 
 use Rattle.meter_states.specs.Trip as model
 use Rattle.meter_states.specs.Trip.{Part, MeterTrip, charge_in, charges_of, held_trip, pulses_in, core_trip_of}
 use Rattle.meter_states.specs.Trip.{numbers_from, ticks_in, trip_of}
-use Rattle.meter_states.proofs.Fares.{above-more, sum-parts}
+use Rattle.meter_states.proofs.Fares.{above-more, sum-lists}
 use Rattle.meter_states.proofs.Resumed.{amounts-numbers, counts-earlier, counts-numbers, same_form, times-cons-other}
 use Rattle.meter_states.proofs.Resumed.{times-cons-same}
 
@@ -94,29 +94,19 @@ amounts-of-counts t (x ∷ xs) are =
     grind (arith, common_steps) in
     more ∙ ap (λ (n : ℕ). amount_in (supplement_numbered t.supplements x) + n) others ∙ sym parted
 
-amounts-append : (t : SoundTariff) (xs ys : List ℕ) → amounts_of t (xs ++ ys) ≡ amounts_of t xs + amounts_of t ys
-amounts-append t [] ys = omega arith
-amounts-append t (x ∷ xs) ys = grind (arith, common_steps, amounts-append t xs ys)
-
 amounts-listed : (t : SoundTariff) (xs more : List ℕ) → All IsSupplementNumber xs
     → amounts_of t (numbers_from 1 (counts_of xs) ++ more) ≡ amounts_of t (xs ++ more)
-amounts-listed t xs more are = omega (
-  arith,
-  amounts-append t (numbers_from 1 (counts_of xs)) more,
-  amounts-append t xs more,
-  amounts-numbers t 1 (counts_of xs),
-  amounts-of-counts t xs are,
-)
+amounts-listed t xs more are =
+    let amount = λ (number : ℕ). amount_in (supplement_numbered t.supplements number) in
+    omega (
+      arith,
+      sum-lists amount (numbers_from 1 (counts_of xs)) more,
+      sum-lists amount xs more,
+      amounts-numbers t 1 (counts_of xs),
+      amounts-of-counts t xs are,
+    )
 
--- ---- pulses, ticks, charges
-
-pulses-append : (xs ys : List Part) → sum (map pulses_in (xs ++ ys)) ≡ sum (map pulses_in xs) + sum (map pulses_in ys)
-pulses-append [] ys = omega arith
-pulses-append (x ∷ xs) ys = grind (arith, common_steps, pulses-append xs ys)
-
-ticks-append : (xs ys : List Part) → sum (map ticks_in (xs ++ ys)) ≡ sum (map ticks_in xs) + sum (map ticks_in ys)
-ticks-append [] ys = omega arith
-ticks-append (x ∷ xs) ys = grind (arith, common_steps, ticks-append xs ys)
+-- ---- charges
 
 same_saved : (cover cover' above above' modulus : ℕ) → cover ≡ cover' → above ≡ above'
     → ◌≡◌ {A = Meterage} (record { cover_left = cover; steps_full = above / modulus; rest = above % modulus })
@@ -138,14 +128,14 @@ forms-resumed s t parts extras second stopped position zone are =
     let o = model.opening_of s t in
     let pulses : t.opening.pulses + sum (map pulses_in t.parts) + sum (map pulses_in parts)
     ≡ t.opening.pulses + sum (map pulses_in (t.parts ++ parts)) =
-    omega (arith, pulses-append t.parts parts) in
+    omega (arith, sum-lists pulses_in t.parts parts) in
     let ticks : t.opening.ticks + sum (map ticks_in t.parts) + sum (map ticks_in parts)
     ≡ t.opening.ticks + sum (map ticks_in (t.parts ++ parts)) =
-    omega (arith, ticks-append t.parts parts) in
+    omega (arith, sum-lists ticks_in t.parts parts) in
     let further = sum (map (charge_in s) parts) in
     let meterage : saved (fares.opening_of (modulus_of s) (saved o (charges_of s t))) further
     ≡ saved o (charges_of s (with_more parts extras t)) =
-    saved-more o (charges_of s t) further ∙ ap (saved o) (sym (sum-parts s t.parts parts)) in
+    saved-more o (charges_of s t) further ∙ ap (saved o) (sym (sum-lists (charge_in s) t.parts parts)) in
     let counts = counts-behind 16 1 (numbers_from 1 (counts_of t.extras)) t.extras extras (counts-listed t.extras) in
     let amounts = amounts-listed s.tariff t.extras extras are in
     same_form (core_trip_of s (with_more parts extras t)) _ _ _ _ _ _ _ _ _ _ pulses ticks meterage counts amounts

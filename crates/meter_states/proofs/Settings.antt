@@ -23,14 +23,6 @@ pub decimals-is : (s : Setting) (p : TableParts) → IsTariffOf s p → p.decima
 decimals-is s p is =
     ap (λ (q : TableParts). q.decimals) is.compiled.parts ∙ ap (λ (t : SoundTariff). t.decimals) (sym is.parts)
 
-pub positions-is : (s : Setting) (p : TableParts) → IsTariffOf s p → p.positions ≡ s.tariff.positions
-positions-is s p is =
-    ap (λ (q : TableParts). q.positions) is.compiled.parts ∙ ap (λ (t : SoundTariff). t.positions) (sym is.parts)
-
-pub zones-is : (s : Setting) (p : TableParts) → IsTariffOf s p → p.zones ≡ s.tariff.zones
-zones-is s p is =
-    ap (λ (q : TableParts). q.zones) is.compiled.parts ∙ ap (λ (t : SoundTariff). t.zones) (sym is.parts)
-
 -- what a display step takes, by the tables
 pub modulus-is : (s : Setting) (p : TableParts) → IsTariffOf s p → p.step * p.measure ≡ modulus_of s
 modulus-is s p is =

@@ -10,7 +10,7 @@ ghost use Rattle.meter_states.specs.Closing.{closed};
 ghost use Rattle.meter_states.specs.Core.{core_of};
 ghost use Rattle.meter_states.specs.Interval.{context_now};
 ghost use Rattle.meter_states.specs.Keys.{extra_added, extra_added_to, hiring, position_set, zone_set};
-ghost use Rattle.meter_states.specs.Lawful.{IsAmidEvent};
+ghost use Rattle.meter_states.specs.Lawful.{IsAmidEvent, pressing_steps};
 ghost use Rattle.meter_states.specs.Meter.{Meter};
 ghost use Rattle.meter_states.specs.Setting.{Setting, IsSettingOf};
 ghost use Rattle.meter_states.specs.Stages.{ClosesTrip, CommitsNothing, IsReadyForKey};
@@ -28,7 +28,7 @@ use tariff_compile::Tables;
 use taxi_units::{HIRINGS_END, Kind, Operating, Steps, Why};
 
 impl State {
-    /// The key Hire, for hire. At most 29 steps.
+    /// The key Hire, for hire. At most the steps of a key in For Hire.
     pub(crate) fn hire<L: Ledger>(
         &mut self,
         tables: &Tables,
@@ -39,7 +39,7 @@ impl State {
         requires ready { IsReadyForKey tables.now self.old acts.old.items }
         requires hire { self.old.operating ≡ ForHire }
         ensures stage { CommitsNothing tables.now seal.now self.old self.new acts.old.items acts.new.items hiring }
-        ensures steps { steps.new ≤ steps.old + 29 }
+        ensures steps { steps.new ≤ steps.old + pressing_steps ForHire }
     {
         if self.number >= HIRINGS_END {
             refuse(Why::Ended, acts);
@@ -51,13 +51,13 @@ impl State {
         self.roam = 0;
     }
 
-    /// What a hiring begins with at the clock's second. At most 29 steps.
+    /// What a hiring begins with at the clock's second. At most the steps of a key in For Hire.
     fn fee<L: Ledger>(&self, tables: &Tables, seal: &Seal, steps: &mut Steps<L>) -> Initial
         requires lawful { IsAmidEvent tables.now self.now }
         ensures value { (s : Setting) (m : Meter) → IsSettingOf s tables.now seal.now → self.now ≡ core_of s m
             → result ≡ fees_in_force s.tariff (context_now s m) }
         ensures fit { IsFitInitial result }
-        ensures steps { steps.new ≤ steps.old + 29 }
+        ensures steps { steps.new ≤ steps.old + pressing_steps ForHire }
     {
         let x = self.context_at(self.clock.second(), tables, seal, steps);
         tables.initial_at(&x, steps)

@@ -33,7 +33,7 @@ impl State {
         self.latch = Some(key);
     }
 
-    /// The key that waits leaves the latch and acts. At most 29 steps for hire, and 12 otherwise.
+    /// The key that waits leaves the latch and acts. At most the steps of a key in its operating position.
     pub(crate) fn press<L: Ledger>(
         &mut self,
         tables: &Tables,

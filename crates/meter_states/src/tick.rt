@@ -48,8 +48,8 @@ impl State {
         self.began = second;
     }
 
-    /// A trip that has reached its longest time expires; otherwise the key that waits acts. At most 29
-    /// steps for hire, and 12 otherwise.
+    /// A trip that has reached its longest time expires; otherwise the key that waits acts. At most the
+    /// steps of a key in its operating position.
     fn expire_or_press<L: Ledger>(
         &mut self,
         tables: &Tables,

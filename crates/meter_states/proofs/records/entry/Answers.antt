@@ -1,10 +1,6 @@
-use Rattle.std.proofs.Common.{◌≡◌, ℕ, false, ap, refl, ◌∙◌, arith}
-use Rattle.drive_modes.specs.Distance.{millimetres_of}
+use Rattle.std.proofs.Common.{◌≡◌, false, refl, arith}
 use Rattle.taxi_units.specs.declared.receipt.Kind.{Kind}
 use Rattle.taxi_units.specs.declared.receipt.Kind.TheVariants.{Closed, Aborted, Expired, Roam}
-use Rattle.meter_states.specs.declared.trip.CoreTrip.{CoreTrip}
-use Rattle.meter_states.specs.Supplements.{amounts_of}
-use Rattle.meter_states.specs.Trip.{pulses_of}
 use Rattle.totals_record.specs.Entries.{is_of_hiring}
 use Rattle.meter_states.proofs.TableSupplements.{extras-few}
 use Rattle.meter_states.proofs.records.entry.Goals as goal
@@ -32,13 +28,5 @@ fare-requires c = record { range = c.requires.range.range }
 
 pub returns-clause-value : goal.returns-clause-value
 returns-clause-value c = λ s t is saved.
-    let roam : c.distance.result ≡ millimetres_of s.constant t.roam =
-    c.distance.ensures.value ∙ ap (λ (k : ℕ). millimetres_of k c.args.trip.now.roam) is.constant
-    ∙ ap (λ (x : CoreTrip). millimetres_of s.constant x.roam) saved in
-    let hired : c.distance-2.result ≡ millimetres_of s.constant (pulses_of t) =
-    c.distance-2.ensures.value ∙ ap (λ (k : ℕ). millimetres_of k c.args.trip.now.pulses) is.constant
-    ∙ ap (λ (x : CoreTrip). millimetres_of s.constant x.pulses) saved in
     let fare = c.fare.ensures.value s t is saved in
-    let supplements : c.args.trip.now.extras_sum ≡ amounts_of s.tariff t.extras =
-    ap (λ (x : CoreTrip). x.extras_sum) saved in
-    cc
+    rw (c.distance.ensures.value, c.distance-2.ensures.value, fare, is.constant, saved) refl

@@ -1,4 +1,4 @@
-use Rattle.std.proofs.Common.{◌*◌, ◌<◌, ◌≤◌, ℕ, ap, refl, subst, arith}
+use Rattle.std.proofs.Common.{◌*◌, ◌<◌, ◌≤◌, ℕ, ap, refl, rules, subst, arith}
 use Rattle.std.proofs.Math.Nat.{mul-le-mul_right}
 use Rattle.drive_modes.specs.declared.meterage.Meterage.{Meterage}
 use Rattle.meter_states.proofs.Settings.{modulus-some, product-some}
@@ -34,10 +34,5 @@ returns-clause-range c =
         rest = omega (arith, ap (λ (m : Meterage). m.rest) made, product-some step fit.measure.0);
       };
       extras = record { sixteen = refl; allowed = begun-allowed p; amounts = begun-amounts p };
-      others = record {
-        started = c.requires.second;
-        roam = c.requires.roam;
-        initial = c.requires.fee.amount;
-        minimum = c.requires.fee.minimum;
-      };
+      others = search rules;
     }

@@ -1,11 +1,41 @@
-use Rattle.std.proofs.Common.{ℕ, ◌+◌, Bool, ap, sym, subst, ◌∙◌}
+use Rattle.std.proofs.Common.{◌≡◌, ℕ, ◌+◌, ◌*◌, ◌^◌, Bool, Some, ap, sym, subst, ◌∙◌, arith}
+use Rattle.std.proofs.lemmas.Grind.{common_steps}
+use Rattle.std.proofs.lemmas.Nat.{mul-le}
+use Rattle.taxi_units.specs.Limits.{roaming_amid}
+use Rattle.tariff_compile.specs.Tables.{TableParts}
+use Rattle.tariff_compile.proofs.Laws.{tables_are_fit}
 use Rattle.totals_record.specs.Ranges as store
 use Rattle.meter_states.specs.Core.{CoreData}
 use Rattle.meter_states.specs.Fits.{Fits}
+use Rattle.meter_states.specs.Lawful.{HasBegunBy, IsPowered, IsTripInRange}
 use Rattle.meter_states.specs.Supply.{is_stopped}
 use Rattle.meter_states.specs.Trip.{saved_at}
-use Rattle.meter_states.proofs.HeldForms.{held-fits, held-range}
+use Rattle.meter_states.specs.declared.trip.CoreTrip.{CoreTrip}
+use Rattle.meter_states.proofs.TableSupplements.{counts-few, extras-few}
 use Rattle.meter_states.proofs.meter_state.State.saved_trip.Goals as goal
+
+-- a trip of a powered core, as it is held, is in the ranges of the store
+held-range : (p : TableParts) (core : CoreData) (stopped : Bool) (trip : CoreTrip)
+    → IsPowered p 8639999 roaming_amid 1 core
+    → core.trip ≡ Some trip
+    → store.IsTripInItsRanges (core.number + 1) (saved_at core.clock stopped core.position core.zone trip)
+held-range p core stopped trip on has =
+    let beside = subst (IsTripInRange p (core.number + 1) 8639999) has on.trip in
+    let begun = subst (HasBegunBy core.clock) has on.begun in
+    let fit = tables_are_fit p on.compiled in
+    let modulus = mul-le p.step p.measure (10 ^ 6) (2 * 10 ^ 23) fit.step.1 fit.measure.1 in
+    let counts = counts-few p 8639999 trip beside.range in
+    let amounts = extras-few p 8639999 trip beside.range in
+    grind (arith, common_steps)
+
+-- and it fits the tables
+held-fits : (p : TableParts) (core : CoreData) (stopped : Bool) (trip : CoreTrip)
+    → IsPowered p 8639999 roaming_amid 1 core
+    → core.trip ≡ Some trip
+    → Fits p (saved_at core.clock stopped core.position core.zone trip)
+held-fits p core stopped trip on has =
+    let beside = subst (IsTripInRange p (core.number + 1) 8639999) has on.trip in
+    grind (arith, common_steps)
 
 pub returns-clause-value : goal.returns-clause-value
 returns-clause-value c =
