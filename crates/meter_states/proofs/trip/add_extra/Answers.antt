@@ -1,7 +1,8 @@
-use Rattle.std.proofs.Common.{◌≡◌, ◌<◌, ℕ, ◌+◌, ◌-◌, get_or, length, ap, sym, subst, ◌∙◌, Option, Some, arith}
+use Rattle.std.proofs.Common.{◌≡◌, ◌<◌, ℕ, ◌+◌, ◌-◌, get_or, set, length, rules, ap, sym, subst, ◌∙◌, Option, Some, arith}
 use Rattle.std.proofs.Math.ListN.{length-set}
 use Rattle.tariff_check.specs.SoundTariff.{supplement_numbered}
 use Rattle.tariff_check.specs.declared.values.Supplement.{Supplement}
+use Rattle.meter_states.specs.Lawful.{AreExtrasInRange}
 use Rattle.meter_states.specs.Supplements.{amount_in, most_in, supplement_in}
 use Rattle.meter_states.proofs.Amounts.{allowed-more, amounts-more}
 use Rattle.meter_states.proofs.TableSupplements.{supplement-of-setting}
@@ -27,14 +28,11 @@ returns-clause-range c = λ p is range.
     let within : i < length counts = omega (arith, range.extras.sixteen) in
     let sum = amounts-more (supplement_in p) 1 i counts within in
     let amount : amount_in (supplement_in p (1 + i)) ≡ c.args.supplement.amount = ap amount_in found in
+    let extras : AreExtrasInRange p (set counts i (get_or counts i 0 + 1))
+    (c.args.trip.now.extras_sum + c.args.supplement.amount) =
     record {
-      compiled = range.compiled;
-      ticks = range.ticks;
-      meterage = range.meterage;
-      extras = record {
-        sixteen = omega (arith, length-set {A = ℕ}, range.extras.sixteen);
-        allowed = allowed-more (supplement_in p) 1 i counts within most range.extras.allowed;
-        amounts = omega (arith, range.extras.amounts, sum, amount);
-      };
-      others = range.others;
-    }
+      sixteen = omega (arith, length-set {A = ℕ}, range.extras.sixteen);
+      allowed = allowed-more (supplement_in p) 1 i counts within most range.extras.allowed;
+      amounts = omega (arith, range.extras.amounts, sum, amount);
+    } in
+    search rules

@@ -1,4 +1,5 @@
-use Rattle.std.proofs.Common.{◌≡◌, ap, sym, ◌∙◌, ◌+◌, ◌*◌, ◌≤◌, ℕ, arith}
+use Rattle.std.proofs.Common.{◌≡◌, ap, sym, ◌∙◌, ◌+◌, ◌*◌, ◌≤◌, ℕ, arith, rules}
+use Rattle.taxi_units.specs.Money.{largest_amount}
 use Rattle.drive_modes.specs.Charge.{charge_of}
 use Rattle.drive_modes.specs.Fare.{saved}
 use Rattle.drive_modes.specs.declared.charges.Mode.{Mode}
@@ -53,14 +54,9 @@ returns-clause-range c =
     let filled = steps-most c.args.trip.now.meterage.rest c.charge.result c.args.trip.now.meterage.cover_left p.step
     p.measure fit.step.0 fit.measure.0 range.meterage.rest most in
     let steps = rw c.modulus.ensures.value at (ap (λ (m : Meterage). m.steps_full) c.add_charge.ensures.exact) in
-    record {
-      compiled = range.compiled;
-      ticks = omega (arith, range.ticks);
-      meterage = record {
-        cover = omega (arith, c.add_charge.ensures.cover, range.meterage.cover);
-        steps = omega (arith, filled, steps, range.meterage.steps);
-        rest = rw c.modulus.ensures.value at c.add_charge.ensures.rest;
-      };
-      extras = range.extras;
-      others = range.others;
-    }
+    let cover : c.add_charge.new.meterage.cover_left ≤ largest_amount * p.measure =
+    omega (arith, c.add_charge.ensures.cover, range.meterage.cover) in
+    let full : c.add_charge.new.meterage.steps_full ≤ 41000000000 * (c.args.trip.now.ticks + 1) =
+    omega (arith, filled, steps, range.meterage.steps) in
+    let rest = rw c.modulus.ensures.value at c.add_charge.ensures.rest in
+    search rules
