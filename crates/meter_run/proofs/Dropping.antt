@@ -31,14 +31,15 @@ use Rattle.meter_states.specs.Step.{step, step_in}
 use Rattle.meter_states.specs.Supply.{supply_came, supply_dropped}
 use Rattle.meter_states.specs.declared.act.Act.{Act}
 use Rattle.meter_states.specs.declared.act.Act.TheVariants.{Refuse}
+use Rattle.meter_states.proofs.Laws.{the_store_has_what_the_acts_commit-event, the_store_keeps_the_trip-step}
 use Rattle.meter_run.specs.Commits.{after_acts, commits_in, AreFor}
 use Rattle.meter_run.specs.Dry.{BreaksOff, Carries, IsReady, Prints, PrintsSome}
 use Rattle.meter_run.specs.BetweenEvents.{IsTripKept, IsTripKeptIn, StandsWith}
-use Rattle.meter_run.specs.RunLaws.{texts_append}
+use Rattle.meter_run.specs.RunLaws.{after_is, texts_append}
 use Rattle.meter_run.specs.Texts.{shown_texts}
 use Rattle.meter_run.specs.declared.dry.DryMeter.{DryMeter}
 use Rattle.meter_run.proofs.Committing.{are_for, fits_after, range_after}
-use Rattle.meter_run.proofs.SoundEvents.{event_leaves}
+use Rattle.meter_run.proofs.OneCommit.{commits_once}
 
 -- ---- off
 
@@ -95,14 +96,12 @@ stepped tables s event core d acts m st other is lawful = by st.core
 pub stands_after : (s : Setting) (event : Event) (core core' : CachedCore) (d d' : Durable) (acts : List Act)
     (m : Meter) → StandsWith s core.plain d m → Meets s core'.plain acts (step s event m) → d' ≡ after_acts d acts
     → StandsWith s core'.plain d' (step s event m).next
-stands_after s event core core' d d' acts m st meets is =
-    let leaves = event_leaves s event m st.kept in
-    record {
-      core = meets.state;
-      durable = is ∙ ap (λ (x : Durable). after_acts x acts) st.durable ∙ ap (after_acts m.durable) meets.done
-          ∙ sym leaves.durable;
-      kept = leaves.kept;
-    }
+stands_after s event core core' d d' acts m st meets is = record {
+  core = meets.state;
+  durable = is ∙ ap (λ (x : Durable). after_acts x acts) st.durable ∙ ap (after_acts m.durable) meets.done
+      ∙ after_is m.durable (step s event m).acts ∙ sym (the_store_has_what_the_acts_commit-event s event m);
+  kept = the_store_keeps_the_trip-step s event m st.kept;
+}
 
 -- they commit once at most
 pub few_commits : (tables : TableParts) (seal : Seal) (event : Event) (core core' : CachedCore) (d : Durable)
@@ -112,7 +111,7 @@ pub few_commits : (tables : TableParts) (seal : Seal) (event : Event) (core core
 few_commits tables seal event core core' d acts ready meets =
     let way = ready.way in
     subst (λ (xs : List Act). commits_in xs ≤ 1) (sym (meets way.setting way.meter way.is way.stands).done)
-    (event_leaves way.setting event way.meter way.stands.kept).few
+    (commits_once way.setting event way.meter way.stands.kept)
 
 -- the acts may be carried out
 pub acts_for : (tables : TableParts) (seal : Seal) (event : Event) (core core' : CachedCore) (d : Durable)

@@ -1,5 +1,5 @@
 -- Equal intervals that the core carries out at once.
-use Rattle.std.proofs.Common.{◌≡◌, ℕ, zero, suc, List, [], ◌∷◌, ◌++◌, refl, sym, ap, subst, ◌∙◌, Option, Some, None}
+use Rattle.std.proofs.Common.{◌≡◌, ℕ, zero, suc, List, [], ◌++◌, refl, sym, ap, subst, ◌∙◌, Option, Some, None}
 use Rattle.std.specs.Option.{ForSome}
 use Rattle.std.proofs.lemmas.Bool.{ne_eqb}
 use Rattle.std.proofs.lemmas.List.{append-nil}
@@ -19,11 +19,11 @@ use Rattle.meter_states.specs.Lawful.{IsLawful}
 use Rattle.meter_states.specs.Meter.{Meter}
 use Rattle.meter_states.specs.Run.{run}
 use Rattle.meter_states.specs.Setting.{Setting, IsSettingOf}
-use Rattle.meter_states.specs.Step.{step}
 use Rattle.meter_states.specs.declared.act.Act.{Act}
+use Rattle.meter_states.proofs.Laws.{the_store_keeps_the_trip-run}
 use Rattle.meter_run.specs.Deeds.{after_deeds, deeds_of, texts}
 use Rattle.meter_run.specs.Dry.{Carries, IsReady}
-use Rattle.meter_run.specs.BetweenEvents.{IsTripKept, StandsWith}
+use Rattle.meter_run.specs.BetweenEvents.{StandsWith}
 use Rattle.meter_run.specs.OnStore.{CarriesOut, Has, Knows}
 use Rattle.meter_run.specs.PointLaws.{keeps_still}
 use Rattle.meter_run.specs.Points.{KeepsTo}
@@ -33,7 +33,6 @@ use Rattle.meter_run.specs.Texts.{shown_texts}
 use Rattle.meter_run.specs.declared.dry.DryMeter.{DryMeter}
 use Rattle.meter_run.specs.declared.stored.Known.{Known}
 use Rattle.meter_run.specs.declared.stored.StoreMeter.{StoreMeter}
-use Rattle.meter_run.proofs.SoundEvents.{event_leaves}
 
 -- ---- the events of equal intervals
 
@@ -49,10 +48,6 @@ intervals_are p (suc n) =
 
 -- ---- events at which nothing is done
 
-kept_run : (s : Setting) (es : List Event) (m : Meter) → IsTripKept s m → IsTripKept s (run s es m).next
-kept_run s [] m kept = kept
-kept_run s (event ∷ es) m kept = kept_run s es (step s event m).next (event_leaves s event m kept).kept
-
 -- they commit nothing
 same_durable : (s : Setting) (es : List Event) (m : Meter) → [] ≡ (run s es m).acts
     → m.durable ≡ (run s es m).next.durable
@@ -64,7 +59,7 @@ pub stands_still : (s : Setting) (es : List Event) (core core' : CachedCore) (d 
 stands_still s es core core' d m st meets = record {
   core = meets.state;
   durable = st.durable ∙ same_durable s es m meets.done;
-  kept = kept_run s es m st.kept;
+  kept = the_store_keeps_the_trip-run s es m st.kept;
 }
 
 module _ (tables : TableParts) (seal : Seal) (es : List Event) (core core' : CachedCore)

@@ -30,13 +30,10 @@ mod Leaves
 mod Leavings
 -- lines that are printed: which text they have, and that it isn't empty
 mod Lines
+-- an event commits at most once
+mod OneCommit
 -- acts that are carried out, one after the other
 mod Performing
--- what each event leaves of the store: what it holds between two events, at most one commit, and its state after the
--- acts
-mod Sound
--- what each event leaves of the store, in each operating position
-mod SoundEvents
 -- how a source goes on and stops
 mod Sourcing
 -- the supply behind events, and the steps of a drive with the supply drop at its end

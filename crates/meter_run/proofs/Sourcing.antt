@@ -3,7 +3,7 @@ use Rattle.std.proofs.Common.{◌≡◌, ◌≢◌, ℕ, ◌+◌, ◌-◌, ◌^�
 use Rattle.std.proofs.Common.{false, refl, sym, ap, subst, ◌∙◌, append_assoc, arith, length-append, length-take}
 use Rattle.std.proofs.Common.{length-drop}
 use Rattle.std.proofs.lemmas.List.{append-nil, take-append-drop, drop-take, drop-drop, drop_all}
-use Rattle.drive_text.specs.Drive.{bad_at_end, events_in, runs_after, runs_in}
+use Rattle.drive_text.specs.Drive.{bad_at_end, runs_after, runs_in}
 use Rattle.drive_text.specs.Ending.{stream_limit, ReachesEnd, BadAt}
 use Rattle.drive_text.specs.Ending as ends
 use Rattle.drive_text.specs.Reading.{BreaksIn, HasTaken, Reading, TakesTo}

@@ -1,6 +1,6 @@
 -- Rules: where a source of a drive stands, and what it gives.
 use Rattle.std.specs.Prelude.{◌≡◌, ℕ, ◌+◌, ◌<◌, ◌≤◌, List, ◌++◌, length, false}
-use Rattle.drive_text.specs.Drive.{events_in, runs_after}
+use Rattle.drive_text.specs.Drive.{runs_after}
 use Rattle.drive_text.specs.Ending.{IsGoing, IsSplit, ReachesEnd, stream_limit}
 use Rattle.drive_text.specs.Ending as ends
 use Rattle.drive_text.specs.Reading.{Reading, HasTaken}

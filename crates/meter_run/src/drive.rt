@@ -1,5 +1,5 @@
 //! Carries out a drive, from its first byte to where no more of it is read.
-ghost use Rattle.std.specs.Prelude.{◌≡◌, ◌≢◌, ◌⊎◌, ℕ, IfOk, IsErr, OnOk, OnErr, Ok};
+ghost use Rattle.std.specs.Prelude.{◌≡◌, ◌⊎◌, ℕ, IfOk, IsErr, OnOk, OnErr, Ok};
 ghost use Rattle.outside.specs.Reading.{LeavesOthers};
 ghost use Rattle.outside.specs.Faults.{HasCause, MayRise, Rose};
 ghost use Rattle.meter_run.specs.Drives.{BreaksDrive, TakesDrive};

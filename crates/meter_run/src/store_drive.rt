@@ -1,5 +1,5 @@
 //! A drive that is carried out on a store.
-ghost use Rattle.std.specs.Prelude.{◌≡◌, ◌≢◌, ◌⊎◌, ℕ, ◌+◌, ◌≤◌, Err, IsOk, OnOk};
+ghost use Rattle.std.specs.Prelude.{◌≡◌, ◌⊎◌, ℕ, ◌+◌, ◌≤◌, Err, IsOk, OnOk};
 ghost use Rattle.outside.specs.Reading.{LeavesOthers};
 ghost use Rattle.drive_text.specs.Ending.{Whole, drive_end};
 ghost use Rattle.outside.specs.Faults.{HasCause, MayRise, RisesOnlyIf, Rose};
