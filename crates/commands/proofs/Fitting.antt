@@ -4,8 +4,7 @@ use Rattle.std.specs.Prelude.{IsTrue}
 use Rattle.std.specs.Option.{ForSome}
 use Rattle.tariff_compile.specs.Tables.{TableParts}
 use Rattle.totals_record.specs.declared.trip.Trip.{Trip}
-use Rattle.meter_states.specs.FitTest.{fits_test}
-use Rattle.meter_states.specs.Fits.{Fits}
+use Rattle.meter_states.specs.Fits.{Fits, fits_test}
 use Rattle.commands.specs.Run.{does_hold_fit}
 
 one_trip : (a b : Trip) → Some a ≡ Some b → a ≡ b

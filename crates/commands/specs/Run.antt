@@ -15,7 +15,7 @@ use Rattle.meter_store.specs.Stored.{HasState}
 use Rattle.seal_record.specs.declared.seal.Seal.{Seal}
 use Rattle.tariff_syntax.specs.Tree.{Tree}
 use Rattle.tariff_compile.specs.Tables.{TableParts, tables_of}
-use Rattle.meter_states.specs.FitTest.{fits_test}
+use Rattle.meter_states.specs.Fits.{fits_test}
 use Rattle.meter_states.specs.Setting.{Setting, setting_by}
 use Rattle.meter_run.specs.Deeds.{Deed, Prints, after_deeds, texts}
 use Rattle.meter_run.specs.Drives.{IsBoundedBy}

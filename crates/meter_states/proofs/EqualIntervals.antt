@@ -1,6 +1,6 @@
 -- Equal intervals in each operating position.
 use Rattle.std.proofs.Common.{◌≡◌, ◌≢◌, ◌⊎◌, inl, inr, ℕ, suc, ◌+◌, ◌-◌, ◌*◌, ◌^◌, ◌<◌, ◌≤◌, [], Option, Some, None}
-use Rattle.std.proofs.Common.{option_map, sum, refl, ap, sym, subst, ◌∙◌, arith}
+use Rattle.std.proofs.Common.{option_map, sum, refl, ap, sym, subst, ◌∙◌, arith, rules}
 use Rattle.std.proofs.Math.Nat.{mul-le-mul_right}
 use Rattle.std.proofs.lemmas.Grind.{common_steps}
 use Rattle.drive_modes.specs.Fare.{added, saved, steps_of}
@@ -24,6 +24,7 @@ use Rattle.meter_states.specs.Core.{CoreData, ComesToOutcome, core_of}
 use Rattle.meter_states.specs.EqualStages.{HasTaken, LastsFrom, charged, passed, unfilled}
 use Rattle.meter_states.specs.Equals.{IsStill, MayBeCharged, MayGo, MayGoIn, display_by, intervals_of, roams, spare_of}
 use Rattle.meter_states.specs.Interval.{context_of, context_on, counted_in, pulses_so_far, roaming_with, ticks_so_far}
+use Rattle.meter_states.specs.Interval.{with_interval}
 use Rattle.meter_states.specs.Lawful.{IsBetweenEvents, IsTripBeside}
 use Rattle.meter_states.specs.Meter.{Meter}
 use Rattle.meter_states.specs.Run.{run}
@@ -31,7 +32,7 @@ use Rattle.meter_states.specs.Setting.{Setting, IsSettingOf, IsTariffOf, local_a
 use Rattle.meter_states.specs.declared.cache.Cache.{Cache}
 use Rattle.meter_states.specs.declared.cache.CachedRate.{CachedRate}
 use Rattle.meter_states.specs.Trip.{MeterTrip, InHired, InStopped, charges_of, core_trip_of, fare_by_fees, opening_of}
-use Rattle.meter_states.specs.Trip.{with_part}
+use Rattle.meter_states.specs.Trip.{Part, with_part}
 use Rattle.taxi_units.specs.Time.{longest_trip}
 use Rattle.meter_states.proofs.Charges.{charge-at}
 use Rattle.meter_states.proofs.Meterages.{added-less, sum-added}
@@ -91,6 +92,20 @@ hire-equal s tables p k m c is some most e hire none still few =
     (below-roam c.roam q i k below few) (hire-counted s p i n c operating still.gate still.began same))
     (start ∙ e)
 
+-- ---- in a trip
+
+-- a core that is still, and whose trip takes an interval
+trip-counted : (s : Setting) (part : Part) (n : Meter) (c : CoreData) (x y : CoreTrip) → c.gate ≡ 0
+    → c.began ≡ c.clock → record c { trip = Some x } ≡ core_of s n
+    → Some y ≡ option_map (core_trip_of s) (option_map (with_part part) n.trip)
+    → record c { trip = Some y }
+    ≡ core_of s (record (with_interval part n) { began = (with_interval part n).clock })
+trip-counted s part n c x y gate began e trip =
+    ap (λ (g : ℕ). record c { gate = g; trip = Some y }) gate
+    ∙ ap (λ (b : ℕ). record c { began = b; gate = 0; trip = Some y }) began
+    ∙ ap (λ (d : CoreData). record d { began = d.clock; gate = 0; trip = Some y }) e
+    ∙ ap (λ (t : Option CoreTrip). record (core_of s n) { began = n.clock; gate = 0; trip = t }) trip
+
 -- ---- Stopped
 
 stopped-saved : (s : Setting) (t : MeterTrip) (p : ℕ) (x : CoreTrip) → x ≡ core_trip_of s t
@@ -123,12 +138,8 @@ stopped-counted : (s : Setting) (p i : ℕ) (n : Meter) (c : CoreData) (t : Core
     ≡ core_of s (record (counted_in s n.operating p n) { began = (counted_in s n.operating p n).clock })
 stopped-counted s p i n c t stopped gate began e =
     let trip = stopped-trip s n.trip p (passed p i t) (ap (λ (c : CoreData). c.trip) e) in
-    let next = record t { pulses = t.pulses + i * p + p; ticks = t.ticks + i + 1 } in
     ap (λ (t : CoreTrip). record c { trip = Some t }) (passed-more p i t)
-    ∙ ap (λ (g : ℕ). record c { gate = g; trip = Some next }) gate
-    ∙ ap (λ (b : ℕ). record c { began = b; gate = 0; trip = Some next }) began
-    ∙ ap (λ (d : CoreData). record d { began = d.clock; gate = 0; trip = Some next }) e
-    ∙ ap (λ (x : Option CoreTrip). record (core_of s n) { began = n.clock; gate = 0; trip = x }) trip
+    ∙ trip-counted s (InStopped p) n c (passed p i t) _ gate began e trip
     ∙ ap
     (λ (o : Operating). core_of s (record (counted_in s o p n) { began = (counted_in s o p n).clock })) (sym stopped)
 
@@ -222,21 +233,13 @@ context-later s m n c t x e has is =
 
 charged-more : (p q i : ℕ) (t : CoreTrip) → charged p q (suc i) t
     ≡ record t { pulses = t.pulses + i * p + p; ticks = t.ticks + i + 1; meterage = unfilled q (suc i) t.meterage }
-charged-more p q i t =
-    let pulses : t.pulses + suc i * p ≡ t.pulses + i * p + p = omega arith in
-    let ticks : t.ticks + suc i ≡ t.ticks + i + 1 = omega arith in
-    ap (λ (x : ℕ). record t { pulses = x; ticks = t.ticks + suc i; meterage = unfilled q (suc i) t.meterage }) pulses
-    ∙ ap
-    (λ (x : ℕ). record t { pulses = t.pulses + i * p + p; ticks = x; meterage = unfilled q (suc i) t.meterage }) ticks
+charged-more p q i t = ap (λ (x : CoreTrip). record x { meterage = unfilled q (suc i) t.meterage }) (passed-more p i t)
 
 none-charged : (p q : ℕ) (t : CoreTrip) → charged p q 0 t ≡ t
 none-charged p q t =
-    let pulses : t.pulses + 0 * p ≡ t.pulses = omega arith in
-    let ticks : t.ticks + 0 ≡ t.ticks = omega arith in
     let cover : t.meterage.cover_left - 0 * q ≡ t.meterage.cover_left = omega arith in
     let rest : t.meterage.rest + (0 * q - t.meterage.cover_left) ≡ t.meterage.rest = omega arith in
-    ap (λ (x : ℕ). record t { pulses = x; ticks = t.ticks + 0; meterage = unfilled q 0 t.meterage }) pulses
-    ∙ ap (λ (x : ℕ). record t { ticks = x; meterage = unfilled q 0 t.meterage }) ticks
+    ap (λ (x : CoreTrip). record x { meterage = unfilled q 0 t.meterage }) (none-passed p t)
     ∙ ap (λ (x : ℕ). record t { meterage = record (unfilled q 0 t.meterage) { cover_left = x } }) cover
     ∙ ap (λ (x : ℕ). record t { meterage = record t.meterage { rest = x } }) rest
 
@@ -247,15 +250,10 @@ hired-counted : (s : Setting) (p q i : ℕ) (n : Meter) (c : CoreData) (t : Core
     ≡ core_of s (record (counted_in s n.operating p n) { began = (counted_in s n.operating p n).clock })
 hired-counted s p q i n c t some hired gate began below charge e =
     let x = charged p q i t in
-    let next =
-    record t { pulses = t.pulses + i * p + p; ticks = t.ticks + i + 1; meterage = unfilled q (suc i) t.meterage } in
     let trip = hired-trip s n.trip p q (context_of s n) x (unfilled q (suc i) t.meterage) some
     (ap (λ (c : CoreData). c.trip) e) charge (unfilled-more (modulus_of s) q i t.meterage below) in
     ap (λ (t : CoreTrip). record c { trip = Some t }) (charged-more p q i t)
-    ∙ ap (λ (g : ℕ). record c { gate = g; trip = Some next }) gate
-    ∙ ap (λ (b : ℕ). record c { began = b; gate = 0; trip = Some next }) began
-    ∙ ap (λ (d : CoreData). record d { began = d.clock; gate = 0; trip = Some next }) e
-    ∙ ap (λ (x : Option CoreTrip). record (core_of s n) { began = n.clock; gate = 0; trip = x }) trip
+    ∙ trip-counted s (InHired p (context_of s n)) n c x _ gate began e trip
     ∙ ap (λ (o : Operating). core_of s (record (counted_in s o p n) { began = (counted_in s o p n).clock })) (sym hired)
 
 abbrev display_at : TableParts → CoreData → CoreTrip → (steps : ℕ) → Display
@@ -330,17 +328,7 @@ near-later s m t p i further longer has far long =
 -- and is one that a trip may have
 pub range-later : (tables : TableParts) (x : Context) (pulses ticks : ℕ) → IsInRangeFor tables x → pulses ≤ 5 * 10 ^ 18
     → ticks ≤ longest_trip → IsInRangeFor tables (record x { pulses = pulses; ticks = ticks })
-range-later tables x pulses ticks x_in few short = record {
-  constant = x_in.constant;
-  position = x_in.position;
-  zone = x_in.zone;
-  weekday = x_in.weekday;
-  month_day = x_in.month_day;
-  minute = x_in.minute;
-  holiday = x_in.holiday;
-  pulses = few;
-  ticks = short;
-}
+range-later tables x pulses ticks x_in few short = search rules
 
 -- ---- no more may go
 

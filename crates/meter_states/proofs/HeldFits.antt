@@ -1,5 +1,5 @@
 -- A trip that fits the tables fits their setting.
-use Rattle.std.proofs.Common.{◌≡◌, ◌<◌, ℕ, ◌+◌, ◌*◌, List, [], ◌∷◌, Option, length, refl, ap, ◌∙◌, subst}
+use Rattle.std.proofs.Common.{◌≡◌, ◌<◌, ℕ, ◌+◌, ◌*◌, List, [], ◌∷◌, Option, length, refl, ap, ◌∙◌, subst, arith, rules}
 use Rattle.tariff_compile.specs.Tables.{TableParts}
 use Rattle.tariff_check.specs.SoundTariff.{supplement_numbered}
 use Rattle.tariff_check.specs.declared.values.Supplement.{Supplement}
@@ -21,11 +21,13 @@ amounts-same f g first (count ∷ counts) same =
 pub fits-setting : (s : Setting) (p : TableParts) (trip : Trip) → IsTariffOf s p → Fits p trip → length trip.extras ≡ 16
     → FitsSetting s trip
 fits-setting s p trip is fits long =
+    let rest : trip.meterage.rest < p.step * p.measure = omega (arith, fits.all) in
+    let amounts : trip.extras_sum ≡ amounts_from (supplement_in p) 1 trip.extras = search rules in
     let step = ap (λ (n : ℕ). n * p.measure) (step-is s p is) in
     let unit = ap (λ (n : ℕ). s.tariff.step.0 * n) (unit-is s p is) in
     record {
-      rest = subst (λ (n : ℕ). trip.meterage.rest < n) (step ∙ unit) fits.rest;
+      rest = subst (λ (n : ℕ). trip.meterage.rest < n) (step ∙ unit) rest;
       extras = long;
-      extras_sum = fits.extras_sum ∙ amounts-same (supplement_in p) (supplement_numbered s.tariff.supplements) 1
+      extras_sum = amounts ∙ amounts-same (supplement_in p) (supplement_numbered s.tariff.supplements) 1
           trip.extras (λ n. supplement-of-setting s p n is);
     }

@@ -1,6 +1,6 @@
--- What a key does in its row of operating position and key, as a stage of an event.
-use Rattle.std.proofs.Common.{◌≡◌, ℕ, ◌+◌, ◌<◌, ◌≤◌, List, [], ◌∷◌, ◌++◌, length, ◌⊎◌, Option, Some, None, refl, ap}
-use Rattle.std.proofs.Common.{sym, subst, ◌∙◌, inl, inr, arith}
+-- What a key does, as a stage of an event.
+use Rattle.std.proofs.Common.{◌≡◌, ◌≢◌, ℕ, ◌+◌, ◌<◌, ◌≤◌, true, List, [], ◌∷◌, ◌++◌, length, ◌⊎◌, Option, Some}
+use Rattle.std.proofs.Common.{None, refl, ap, sym, subst, ◌∙◌, inl, inr, arith, rules}
 use Rattle.std.proofs.lemmas.Grind.{common_steps}
 use Rattle.seal_record.specs.declared.seal.Seal.{Seal}
 use Rattle.tariff_compile.specs.Tables.{TableParts}
@@ -9,11 +9,10 @@ use Rattle.taxi_units.specs.declared.event.Key.{Key}
 use Rattle.taxi_units.specs.declared.event.Operating.{Operating}
 use Rattle.taxi_units.specs.declared.event.Operating.TheVariants.{Off, ForHire, Hired, Stopped}
 use Rattle.taxi_units.specs.declared.event.Why.{Why}
-use Rattle.taxi_units.specs.declared.event.Why.TheVariants.{NotNow}
 use Rattle.meter_states.specs.Acts.{StayLawful}
 use Rattle.meter_states.specs.Core.{CoreData, ComesToOutcome, core_of}
-use Rattle.meter_states.specs.Keys.{extra_added_to, key_in, key_pressed, latch_pressed}
-use Rattle.meter_states.specs.Lawful.{HasTrip, IsAmidEvent, pressing_steps}
+use Rattle.meter_states.specs.Keys.{act_done, act_of, extra_added_to, key_in, key_pressed, latch_pressed}
+use Rattle.meter_states.specs.Lawful.{HasTrip, IsAmidEvent, is_busy, pressing_steps}
 use Rattle.meter_states.specs.Meter.{Meter, Outcome, quiet, refused}
 use Rattle.meter_states.specs.Setting.{Setting, IsSettingOf}
 use Rattle.meter_states.specs.Stages.{ClosesTrip, CommitsNothing, IsReadyForKey, MayClose, Stage}
@@ -21,93 +20,86 @@ use Rattle.meter_states.specs.Supplements.{times}
 use Rattle.meter_states.specs.Trip.{MeterTrip, with_extra}
 use Rattle.meter_states.specs.declared.act.Act.{Act}
 use Rattle.meter_states.specs.declared.act.Act.TheVariants.{Refuse}
+use Rattle.meter_states.specs.declared.keys.KeyAct.{KeyAct}
+use Rattle.meter_states.specs.declared.trip.CoreTrip.{CoreTrip}
 use Rattle.meter_states.proofs.Outcomes.{quiet-follows}
 use Rattle.meter_states.proofs.Powered.{between-amid, powered-unlatched}
 use Rattle.meter_states.proofs.Pushes.{few-more, few-none, lawful-more}
 
--- a key acts as its row says
-key-row : (s : Setting) (m : Meter) (old : CoreData) (key k : Key) (on : Operating) → key ≡ k → old.operating ≡ on
-    → old ≡ core_of s m → key_in s key m.operating m ≡ key_in s k on m
-key-row s m old key k on is at e =
-    ap (λ (x : Key). key_in s x m.operating m) is
-    ∙ ap (λ (o : Operating). key_in s k o m) (sym (ap (λ (p : CoreData). p.operating) e) ∙ at)
+-- a key comes to what it does
+follows-act : (s : Setting) (m : Meter) (old new : CoreData) (before acts : List Act) (key : Key) (act : KeyAct)
+    → act ≡ act_of key old.operating → old ≡ core_of s m → ComesToOutcome s new before acts (act_done s act m)
+    → ComesToOutcome s new before acts (key_in s key m.operating m)
+follows-act s m old new before acts key act is e done =
+    subst (λ (a : KeyAct). ComesToOutcome s new before acts (act_done s a m))
+    (is ∙ ap (λ (c : CoreData). act_of key c.operating) e) done
 
-follows-row : (s : Setting) (m : Meter) (old new : CoreData) (before acts : List Act) (key k : Key) (on : Operating)
-    → key ≡ k → old.operating ≡ on → old ≡ core_of s m
-    → ComesToOutcome s new before acts (key_in s k on m) → ComesToOutcome s new before acts (key_in s key m.operating m)
-follows-row s m old new before acts key k on is at e row =
-    subst (λ (o : Outcome). ComesToOutcome s new before acts o) (sym (key-row s m old key k on is at e)) row
-
--- a row that commits nothing
-pub commits-row : {p : TableParts} {seal : Seal} {inside old new : CoreData} {before acts : List Act} {key : Key}
-    (k : Key) (on : Operating) → inside ≡ old → key ≡ k → inside.operating ≡ on
-    → CommitsNothing p seal old new before acts (λ s m. key_in s k on m)
+-- a key that commits nothing
+pub commits-act : {p : TableParts} {seal : Seal} {inside old new : CoreData} {before acts : List Act} (key : Key)
+    (act : KeyAct) → inside ≡ old → act ≡ act_of key inside.operating
+    → CommitsNothing p seal old new before acts (λ s m. act_done s act m)
     → MayClose p seal 2 old new before acts (λ s m. key_in s key m.operating m)
-commits-row {p} {seal} {inside} {old} {new} {before} {acts} {key} k on view is at row =
-    let here : old.operating ≡ on = sym (ap (λ (c : CoreData). c.operating) view) ∙ at in
+commits-act {p} {seal} {inside} {old} {new} {before} {acts} key act view is done =
+    let here : act ≡ act_of key old.operating = is ∙ ap (λ (c : CoreData). act_of key c.operating) view in
     record {
-      lawful = row.lawful;
-      few = omega (arith, row.few);
-      roam = inl (row.few, row.number);
-      ranges = row.ranges;
-      follows = λ s m setting e. follows-row s m old new before acts key k on is here e (row.follows s m setting e);
+      lawful = done.lawful;
+      few = omega (arith, done.few);
+      roam = inl (done.few, done.number);
+      ranges = done.ranges;
+      follows = λ s m setting e. follows-act s m old new before acts key act here e (done.follows s m setting e);
     }
 
--- a row that closes the trip
-pub closes-row : {p : TableParts} {seal : Seal} {inside old new : CoreData} {before acts : List Act} {key : Key}
-    (k : Key) (on : Operating) → inside ≡ old → key ≡ k → inside.operating ≡ on
-    → ClosesTrip p seal 2 old new before acts (λ s m. key_in s k on m)
+-- a key that closes the trip
+pub closes-act : {p : TableParts} {seal : Seal} {inside old new : CoreData} {before acts : List Act} (key : Key)
+    (act : KeyAct) → inside ≡ old → act ≡ act_of key inside.operating
+    → ClosesTrip p seal 2 old new before acts (λ s m. act_done s act m)
     → MayClose p seal 2 old new before acts (λ s m. key_in s key m.operating m)
-closes-row {p} {seal} {inside} {old} {new} {before} {acts} {key} k on view is at row =
-    let here : old.operating ≡ on = sym (ap (λ (c : CoreData). c.operating) view) ∙ at in
+closes-act {p} {seal} {inside} {old} {new} {before} {acts} key act view is done =
+    let here : act ≡ act_of key old.operating = is ∙ ap (λ (c : CoreData). act_of key c.operating) view in
     record {
-      lawful = between-amid row.lawful;
-      few = row.few;
-      roam = inr row.roam;
-      ranges = row.ranges;
-      follows = λ s m setting e. follows-row s m old new before acts key k on is here e (row.follows s m setting e);
+      lawful = between-amid done.lawful;
+      few = done.few;
+      roam = inr done.roam;
+      ranges = done.ranges;
+      follows = λ s m setting e. follows-act s m old new before acts key act here e (done.follows s m setting e);
     }
 
--- a row that moves a trip to another operating position
-pub moves-row : {p : TableParts} {seal : Seal} {inside old : CoreData} {acts : List Act} {key : Key} (k : Key)
-    (on to : Operating) → inside ≡ old → key ≡ k → inside.operating ≡ on → IsReadyForKey p old acts
-    → (HasTrip on inside.trip → HasTrip to inside.trip)
-    → ((s : Setting) (m : Meter) → key_in s k on m ≡ quiet (record m { operating = to }))
-    → MayClose p seal 2 old (record inside { operating = to }) acts acts (λ s m. key_in s key m.operating m)
-moves-row {p} {seal} {inside} {old} {acts} {key} k on to view is at ready has row =
-    let here : old.operating ≡ on = sym (ap (λ (c : CoreData). c.operating) view) ∙ at in
+-- a powered meter has a trip where one runs in its operating position
+pub trip-there : (operating : Operating) (trip : Option CoreTrip) → is_busy operating ≡ true → HasTrip operating trip
+    → trip ≢ None
+trip-there Off trip busy has = absurd has
+trip-there ForHire trip busy has = absurd cc
+trip-there Hired trip busy has = has
+trip-there Stopped trip busy has = has
+
+there-trip : (operating : Operating) (trip : Option CoreTrip) → is_busy operating ≡ true → trip ≢ None
+    → HasTrip operating trip
+there-trip Off trip busy some = absurd cc
+there-trip ForHire trip busy some = absurd cc
+there-trip Hired trip busy some = some
+there-trip Stopped trip busy some = some
+
+-- a stage that takes a trip to another operating position
+pub moves-stage : {p : TableParts} {seal : Seal} {inside old : CoreData} {acts : List Act} (to : Operating)
+    → inside ≡ old → IsReadyForKey p old acts → (is_busy inside.operating ≡ true) × (is_busy to ≡ true)
+    → CommitsNothing p seal old (record inside { operating = to }) acts acts
+    (λ s m. quiet (record m { operating = to }))
+moves-stage {p} {seal} {inside} {old} {acts} to view ready busy =
     let amid : IsAmidEvent p inside = subst (IsAmidEvent p) (sym view) ready.lawful in
-    let none = few-none 0 acts ready.room in
+    let there = there-trip to inside.trip busy.1 (trip-there inside.operating inside.trip busy.0 amid.on) in
     record {
-      lawful = record {
-        compiled = amid.compiled;
-        on = has (subst (λ (o : Operating). HasTrip o inside.trip) at amid.on);
-        position = amid.position;
-        zone = amid.zone;
-        clock = amid.clock;
-        began = amid.began;
-        gate = amid.gate;
-        roam = amid.roam;
-        none = amid.none;
-        ended = amid.ended;
-        number = amid.number;
-        held = amid.held;
-        begun = amid.begun;
-        trip = amid.trip;
-      };
-      few = omega (arith, none);
-      roam = inl (omega (arith, none), ap (λ (c : CoreData). c.number) view);
+      lawful = search rules;
+      few = few-none 1 acts ready.room;
+      number = ap (λ (c : CoreData). c.number) view;
       ranges = λ before. before;
-      follows = λ s m setting e. follows-row s m old (record inside { operating = to }) acts acts key k on is here e
-          (subst (λ (o : Outcome). ComesToOutcome s (record inside { operating = to }) acts acts o) (sym (row s m))
-          (quiet-follows s (record inside { operating = to }) acts (record m { operating = to })
-          (ap (λ (c : CoreData). record c { operating = to }) (view ∙ e))));
+      follows = λ s m setting e. quiet-follows s (record inside { operating = to }) acts (record m { operating = to })
+          (ap (λ (c : CoreData). record c { operating = to }) (view ∙ e));
     }
 
--- the steps of a row
-pub steps-row : {inside old : CoreData} (n k : ℕ) (on : Operating) → inside ≡ old → inside.operating ≡ on
+-- the steps of a key
+pub steps-at : {inside old : CoreData} (n k : ℕ) (on : Operating) → inside ≡ old → inside.operating ≡ on
     → n ≤ k + pressing_steps on → n ≤ k + pressing_steps old.operating
-steps-row {inside} {old} n k on view at few =
+steps-at {inside} {old} n k on view at few =
     subst (λ (o : Operating). n ≤ k + pressing_steps o) (sym at ∙ ap (λ (c : CoreData). c.operating) view) few
 
 pub steps-none : (k : ℕ) (on : Operating) → k ≤ k + pressing_steps on
@@ -124,24 +116,6 @@ steps-twelve n k on few = omega (arith, some-steps on)
 
 pub steps-one : (n k : ℕ) (on : Operating) → n ≤ k + 1 → n ≤ k + pressing_steps on
 steps-one n k on one = omega (arith, some-steps on)
-
--- a key that has no row in the operating position is refused
-pub refuses-row : {p : TableParts} {seal : Seal} {inside old : CoreData} {before acts : List Act} {key : Key} (k : Key)
-    → inside ≡ old → key ≡ k → IsReadyForKey p old before → acts ≡ before ++ Refuse NotNow ∷ []
-    → ((s : Setting) (m : Meter) → key_in s k inside.operating m ≡ refused NotNow m)
-    → MayClose p seal 2 old old before acts (λ s m. key_in s key m.operating m)
-refuses-row {p} {seal} {inside} {old} {before} {acts} {key} k view is ready done none =
-    let one : length acts ≤ 1 = rw ready.room at (few-more before acts (Refuse NotNow) done) in
-    record {
-      lawful = ready.lawful;
-      few = omega (arith, one);
-      roam = inl (one, refl);
-      ranges = lawful-more p old.number before acts (Refuse NotNow) done tt;
-      follows = λ s m setting e. follows-row s m old old before acts key k inside.operating is
-          (sym (ap (λ (c : CoreData). c.operating) view)) e
-          (subst (λ (o : Outcome). ComesToOutcome s old before acts o) (sym (none s m))
-          (record { state = e; done = done }));
-    }
 
 -- a stage that refuses
 pub refuses-stage : {p : TableParts} {seal : Seal} {old : CoreData} {before acts : List Act} (why : Why) (stage : Stage)

@@ -16,7 +16,7 @@ mod Fares
 mod HeldFits
 -- each stage of an event keeps the trip of the store
 mod KeptTrips
--- what a key does in its row, as a stage of an event
+-- what a key does, as a stage of an event
 mod KeyStages
 -- the laws that the crates above may cite
 pub mod Laws

@@ -1,6 +1,6 @@
 -- What a powered core has in its operating position, and cores in wider ranges.
 use Rattle.std.proofs.Common.{◌≡◌, ◌≢◌, ◌⊎◌, ◌↔◌, ℕ, ◌+◌, ◌<◌, ◌≤◌, Bool, true, false, Option, Some, None, inl, inr}
-use Rattle.std.proofs.Common.{refl, ap, sym, subst, ◌∙◌, arith}
+use Rattle.std.proofs.Common.{refl, ap, sym, subst, ◌∙◌, arith, rules}
 use Rattle.tariff_compile.specs.Tables.{TableParts}
 use Rattle.taxi_units.specs.declared.event.Key.{Key}
 use Rattle.taxi_units.specs.declared.event.Operating.{Operating}
@@ -41,37 +41,13 @@ stands-on s core m (inr x) on = x.1
 trip-longer : (p : TableParts) (number : ℕ) (trip : Option CoreTrip) → IsTripInRange p number 8639999 trip
     → IsTripInRange p number 8640000 trip
 trip-longer p number None range = tt
-trip-longer p number (Some t) range = record {
-  range = record {
-    compiled = range.range.compiled;
-    ticks = omega (arith, range.range.ticks);
-    meterage = range.range.meterage;
-    extras = range.range.extras;
-    others = range.range.others;
-  };
-  pulses = range.pulses;
-}
+trip-longer p number (Some t) range = search rules
 
 -- a core in its ranges is so with another latch, and in other ranges that have its roaming pulses and its trip
 within : {p : TableParts} {ticks most spare ticks' most' spare' : ℕ} {core : CoreData} (latch : Option Key)
     → core.roam ≤ most' → IsTripInRange p (core.number + spare') ticks' core.trip
     → IsPowered p ticks most spare core → IsPowered p ticks' most' spare' (record core { latch = latch })
-within latch roam trip on = record {
-  compiled = on.compiled;
-  on = on.on;
-  position = on.position;
-  zone = on.zone;
-  clock = on.clock;
-  began = on.began;
-  gate = on.gate;
-  roam = roam;
-  none = on.none;
-  ended = on.ended;
-  number = on.number;
-  held = on.held;
-  begun = on.begun;
-  trip = trip;
-}
+within latch roam trip on = search rules
 
 -- a core in its ranges is in others that have its roaming pulses and its trip
 pub powered-within : {p : TableParts} {ticks most spare ticks' most' spare' : ℕ} {core : CoreData} → core.roam ≤ most'
@@ -113,22 +89,7 @@ pub powered-entered : {p : TableParts} {core : CoreData} → core.operating ≡ 
 powered-entered {p} {core} hire some on =
     let none : core.trip ≡ None = subst (λ (o : Operating). HasTrip o core.trip) hire on.on in
     let few = on.ended some in
-    record {
-      compiled = on.compiled;
-      on = on.on;
-      position = on.position;
-      zone = on.zone;
-      clock = on.clock;
-      began = on.began;
-      gate = on.gate;
-      roam = omega arith;
-      none = λ there. refl;
-      ended = λ more. absurd (omega (arith, more));
-      number = (omega arith, omega (arith, few));
-      held = λ there. absurd (there none);
-      begun = on.begun;
-      trip = subst (IsTripInRange p (core.number + 1 + 0) 8639999) (sym none) tt;
-    }
+    search rules
 
 pub roaming-room : {p : TableParts} {ticks most spare : ℕ} {core : CoreData} → 0 < core.roam
     → IsPowered p ticks most spare core → core.number + 1 ≤ last_number
@@ -145,22 +106,7 @@ pulses-below beside few = omega (arith, beside.pulses, beside.range.ticks, few)
 -- a core with another count of pulses in its interval
 pub powered-gated : {p : TableParts} {ticks most spare : ℕ} {core : CoreData} (gate : ℕ) → gate ≤ 2000
     → IsPowered p ticks most spare core → IsPowered p ticks most spare (record core { gate = gate })
-powered-gated gate few on = record {
-  compiled = on.compiled;
-  on = on.on;
-  position = on.position;
-  zone = on.zone;
-  clock = on.clock;
-  began = on.began;
-  gate = few;
-  roam = on.roam;
-  none = on.none;
-  ended = on.ended;
-  number = on.number;
-  held = on.held;
-  begun = on.begun;
-  trip = on.trip;
-}
+powered-gated gate few on = search rules
 
 has-other : (operating : Operating) (t u : CoreTrip) (o : Option CoreTrip) → o ≡ Some t → HasTrip operating o
     → HasTrip operating (Some u)
@@ -173,19 +119,8 @@ has-other Stopped t u o is has = λ none. absurd cc
 pub powered-trip : {p : TableParts} {ticks ticks' most spare spare' : ℕ} {core : CoreData} (t u : CoreTrip) → core.trip
     ≡ Some t → u.started ≡ t.started → IsTripBeside p (core.number + spare') ticks' u
     → IsPowered p ticks most spare core → IsPowered p ticks' most spare' (record core { trip = Some u })
-powered-trip {core = core} t u has started beside on = record {
-  compiled = on.compiled;
-  on = has-other core.operating t u core.trip has on.on;
-  position = on.position;
-  zone = on.zone;
-  clock = on.clock;
-  began = on.began;
-  gate = on.gate;
-  roam = on.roam;
-  none = λ there. on.none (some-there t has);
-  ended = on.ended;
-  number = on.number;
-  held = λ there. on.held (some-there t has);
-  begun = subst (λ (n : ℕ). n ≤ core.clock) (sym started) (subst (HasBegunBy core.clock) has on.begun);
-  trip = beside;
-}
+powered-trip {core = core} t u has started beside on =
+    let here = has-other core.operating t u core.trip has on.on in
+    let some = some-there t has in
+    let begun = subst (λ (n : ℕ). n ≤ core.clock) (sym started) (subst (HasBegunBy core.clock) has on.begun) in
+    search rules

@@ -44,11 +44,7 @@ unfilled charge count m = record m {
   rest = m.rest + (count * charge - m.cover_left);
 }
 
--- a trip after `count` further intervals of p pulses, whose charges fill no display step, has more pulses and ticks,
--- and its meterage has the charges
+-- a trip after `count` further intervals of p pulses, whose charges fill no display step, has passed them, and its
+-- meterage has the charges
 abbrev pub charged : (p charge count : ℕ) → CoreTrip → CoreTrip
-charged p charge count t = record t {
-  pulses = t.pulses + count * p;
-  ticks = t.ticks + count;
-  meterage = unfilled charge count t.meterage;
-}
+charged p charge count t = record (passed p count t) { meterage = unfilled charge count t.meterage }

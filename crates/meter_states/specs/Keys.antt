@@ -15,6 +15,8 @@ use Rattle.meter_states.specs.Meter.{Meter, Outcome, quiet, refused}
 use Rattle.meter_states.specs.Setting.{Setting}
 use Rattle.meter_states.specs.Supplements.{times}
 use Rattle.meter_states.specs.Trip.{MeterTrip, begun, with_extra}
+use Rattle.meter_states.specs.declared.keys.KeyAct.{KeyAct}
+use Rattle.meter_states.specs.declared.keys.KeyAct.TheVariants as key_acts
 use Rattle.taxi_units.specs.Limits.{hirings_end}
 
 -- a key that is pressed waits for the end of the interval, and is refused where another one waits
@@ -61,19 +63,34 @@ abbrev pub extra_added : (n : ℕ) → Option Supplement → Meter → Outcome
 extra_added n None m = refused NoSuch m
 extra_added n (Some supplement) m = extra_added_to n supplement m.trip m
 
--- a key acts in the operating positions in which the lines below let it, and is refused in all others
+-- a key does something in the operating positions in which the lines below let it, and is refused in all others
+abbrev pub act_of : Key → Operating → KeyAct
+act_of keys.Hire ForHire = key_acts.Hire
+act_of keys.Hire Stopped = key_acts.Move Hired
+act_of keys.Stop Hired = key_acts.Move Stopped
+act_of keys.Clear Stopped = key_acts.Clear
+act_of (keys.Position n) ForHire = key_acts.Position n
+act_of (keys.Position n) Hired = key_acts.Position n
+act_of (keys.Zone n) ForHire = key_acts.Zone n
+act_of (keys.Zone n) Hired = key_acts.Zone n
+act_of (keys.Extra n) Hired = key_acts.Extra n
+act_of (keys.Extra n) Stopped = key_acts.Extra n
+act_of key operating = key_acts.Refuse
+
+-- what a key does is to hire, to take the trip to another operating position, to close the trip, to set the tariff
+-- position or the zone, or to add a supplement, and a key that does nothing is refused
+abbrev pub act_done : Setting → KeyAct → Meter → Outcome
+act_done s key_acts.Hire m = hiring s m
+act_done s (key_acts.Move to) m = quiet (record m { operating = to })
+act_done s key_acts.Clear m = closed s Closed m.clock m
+act_done s (key_acts.Position n) m = position_set s n m
+act_done s (key_acts.Zone n) m = zone_set s n m
+act_done s (key_acts.Extra n) m = extra_added n (supplement_numbered s.tariff.supplements n) m
+act_done s key_acts.Refuse m = refused NotNow m
+
+-- a key in an operating position comes to what it does there
 abbrev pub key_in : Setting → Key → Operating → Meter → Outcome
-key_in s keys.Hire ForHire m = hiring s m
-key_in s keys.Hire Stopped m = quiet (record m { operating = Hired })
-key_in s keys.Stop Hired m = quiet (record m { operating = Stopped })
-key_in s keys.Clear Stopped m = closed s Closed m.clock m
-key_in s (keys.Position n) ForHire m = position_set s n m
-key_in s (keys.Position n) Hired m = position_set s n m
-key_in s (keys.Zone n) ForHire m = zone_set s n m
-key_in s (keys.Zone n) Hired m = zone_set s n m
-key_in s (keys.Extra n) Hired m = extra_added n (supplement_numbered s.tariff.supplements n) m
-key_in s (keys.Extra n) Stopped m = extra_added n (supplement_numbered s.tariff.supplements n) m
-key_in s key operating m = refused NotNow m
+key_in s key operating m = act_done s (act_of key operating) m
 
 -- the key that waits, if one does, waits no more and acts in the meter's operating position
 abbrev pub latch_pressed : Setting → Option Key → Meter → Outcome

@@ -1,4 +1,5 @@
 pub mod Acts
+pub mod AllowedTest
 pub mod Cache
 pub mod Charge
 pub mod Closing
@@ -6,7 +7,6 @@ pub mod Core
 pub mod Display
 pub mod EqualStages
 pub mod Equals
-pub mod FitTest
 pub mod Fits
 pub mod Interval
 pub mod KeptTrip

@@ -1,20 +1,24 @@
 -- For proofs: what a core keeps as it carries out a stage of an event, and how it follows the meter. `Core::step` says
 -- what the stages of an event come to.
-use Rattle.std.specs.Prelude.{◌≡◌, ◌≢◌, ◌⊎◌, ◌≤◌, ◌+◌, ℕ, List, [], Option, None, length}
+use Rattle.std.specs.Prelude.{◌≡◌, ◌≢◌, ◌⊎◌, ◌≤◌, ◌+◌, true, ℕ, List, [], Option, None, length}
 use Rattle.seal_record.specs.declared.seal.Seal.{Seal}
 use Rattle.tariff_compile.specs.Tables.{TableParts}
 use Rattle.taxi_units.specs.Limits.{last_number, number_most}
 use Rattle.taxi_units.specs.Time.{IsSecond, longest_trip}
+use Rattle.taxi_units.specs.declared.event.Operating.{Operating}
+use Rattle.taxi_units.specs.declared.event.Operating.TheVariants.{ForHire}
 use Rattle.taxi_units.specs.declared.receipt.Kind.TheVariants.{Roam}
 use Rattle.totals_record.specs.Ranges.{IsHeld}
 use Rattle.totals_record.specs.declared.trip.Trip.{Trip}
 use Rattle.meter_states.specs.Acts.{StayLawful}
 use Rattle.meter_states.specs.Core.{ComesToOutcome, CoreData, IsSavedIn, core_of}
 use Rattle.meter_states.specs.Fits.{Fits}
-use Rattle.meter_states.specs.Lawful.{IsAmidEvent, IsBetweenEvents, IsTripBeside}
+use Rattle.meter_states.specs.Lawful.{IsAmidEvent, IsBetweenEvents, IsTripBeside, is_busy}
 use Rattle.meter_states.specs.Meter.{Meter, Outcome}
 use Rattle.meter_states.specs.Setting.{Setting, IsSettingOf}
 use Rattle.meter_states.specs.declared.act.Act.{Act}
+use Rattle.meter_states.specs.declared.keys.KeyAct.{KeyAct}
+use Rattle.meter_states.specs.declared.keys.KeyAct.TheVariants as key_acts
 use Rattle.meter_states.specs.declared.records.Closing.{Closing}
 use Rattle.meter_states.specs.declared.trip.CoreTrip.{CoreTrip}
 
@@ -69,6 +73,14 @@ pub record ClosesTrip (tables : TableParts) (seal : Seal) (most : ℕ) (old new 
   pub roam : new.roam ≡ 0
   pub ranges : StayLawful tables old.number before acts
   pub follows : FollowsStage tables seal old new before acts stage
+
+-- what a key does may be done in an operating position if a hiring is done in For Hire, and a trip is closed, or taken
+-- to another position, only in one in which a trip runs, and only to one
+abbrev pub IsDoneIn : Operating → KeyAct → Type 0
+IsDoneIn operating key_acts.Hire = operating ≡ ForHire
+IsDoneIn operating (key_acts.Move to) = (is_busy operating ≡ true) × (is_busy to ≡ true)
+IsDoneIn operating key_acts.Clear = is_busy operating ≡ true
+IsDoneIn operating act = Unit {0}
 
 -- ---- a trip that is closed
 

@@ -4,11 +4,12 @@ ghost use Rattle.tariff_compile.specs.Tables.{TableParts};
 ghost use Rattle.taxi_units.specs.declared.event.Operating.TheVariants.{ForHire};
 ghost use Rattle.meter_states.specs.Acts.{StayLawful};
 ghost use Rattle.meter_states.specs.Core.{ComesToOutcome, core_of};
+ghost use Rattle.meter_states.specs.Keys as model;
 ghost use Rattle.meter_states.specs.Keys.{key_in, key_pressed, latched};
 ghost use Rattle.meter_states.specs.Lawful.{IsBetweenEvents, pressing_steps};
 ghost use Rattle.meter_states.specs.Meter.{Meter};
 ghost use Rattle.meter_states.specs.Setting.{Setting};
-ghost use Rattle.meter_states.specs.Stages.{IsReadyForKey, MayClose};
+ghost use Rattle.meter_states.specs.Stages.{IsDoneIn, IsReadyForKey, MayClose};
 
 use crate::act::{Acts, refuse};
 use crate::meter_state::State;
@@ -16,6 +17,45 @@ use seal_record::Seal;
 use std::sync::ledger::Ledger;
 use tariff_compile::Tables;
 use taxi_units::{Key, Operating, Steps, Why};
+
+/// What a key does in an operating position.
+#[derive(Clone, Copy)]
+pub(crate) enum KeyAct {
+    /// Begins a hiring.
+    Hire,
+    /// Takes the trip to another operating position.
+    Move(Operating),
+    /// Ends the hiring.
+    Clear,
+    /// Chooses a tariff position.
+    Position(u8),
+    /// Chooses a zone.
+    Zone(u8),
+    /// Adds a supplement, by its number.
+    Extra(u8),
+    /// Does nothing: the key is refused.
+    Refuse,
+}
+
+/// What a key does in an operating position.
+fn act_of(key: Key, operating: Operating) -> KeyAct
+    ensures value { result ≡ model.act_of key operating }
+    ensures done { IsDoneIn operating result }
+{
+    match (key, operating) {
+        (Key::Hire, Operating::ForHire) => KeyAct::Hire,
+        (Key::Hire, Operating::Stopped) => KeyAct::Move(Operating::Hired),
+        (Key::Stop, Operating::Hired) => KeyAct::Move(Operating::Stopped),
+        (Key::Clear, Operating::Stopped) => KeyAct::Clear,
+        (Key::Position(n), Operating::ForHire) => KeyAct::Position(n),
+        (Key::Position(n), Operating::Hired) => KeyAct::Position(n),
+        (Key::Zone(n), Operating::ForHire) => KeyAct::Zone(n),
+        (Key::Zone(n), Operating::Hired) => KeyAct::Zone(n),
+        (Key::Extra(n), Operating::Hired) => KeyAct::Extra(n),
+        (Key::Extra(n), Operating::Stopped) => KeyAct::Extra(n),
+        _ => KeyAct::Refuse,
+    }
+}
 
 impl State {
     /// A key waits for the end of the interval, where none does.
@@ -51,7 +91,7 @@ impl State {
         }
     }
 
-    /// A key acts, or is refused in this operating position.
+    /// A key does what it does in this operating position, or is refused.
     #[inline(never)]
     fn press_key<L: Ledger>(
         &mut self,
@@ -66,22 +106,16 @@ impl State {
             (λ s m. key_in s key m.operating m) }
         ensures steps { steps.new ≤ steps.old + pressing_steps self.old.operating }
     {
-        match (key, self.operating) {
-            (Key::Hire, Operating::ForHire) => self.hire(tables, seal, acts, steps),
-            (Key::Hire, Operating::Stopped) => {
-                self.operating = Operating::Hired;
+        match act_of(key, self.operating) {
+            KeyAct::Hire => self.hire(tables, seal, acts, steps),
+            KeyAct::Move(operating) => {
+                self.operating = operating;
             }
-            (Key::Stop, Operating::Hired) => {
-                self.operating = Operating::Stopped;
-            }
-            (Key::Clear, Operating::Stopped) => self.clear(tables, seal, acts, steps),
-            (Key::Position(n), Operating::ForHire) => self.set_position(n, tables, acts),
-            (Key::Position(n), Operating::Hired) => self.set_position(n, tables, acts),
-            (Key::Zone(n), Operating::ForHire) => self.set_zone(n, tables, acts),
-            (Key::Zone(n), Operating::Hired) => self.set_zone(n, tables, acts),
-            (Key::Extra(n), Operating::Hired) => self.add_extra(n, tables, acts, steps),
-            (Key::Extra(n), Operating::Stopped) => self.add_extra(n, tables, acts, steps),
-            _ => refuse(Why::NotNow, acts),
+            KeyAct::Clear => self.clear(tables, seal, acts, steps),
+            KeyAct::Position(n) => self.set_position(n, tables, acts),
+            KeyAct::Zone(n) => self.set_zone(n, tables, acts),
+            KeyAct::Extra(n) => self.add_extra(n, tables, acts, steps),
+            KeyAct::Refuse => refuse(Why::NotNow, acts),
         }
     }
 }
