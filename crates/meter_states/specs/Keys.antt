@@ -24,8 +24,8 @@ abbrev pub latched : Option Key → Key → Meter → Outcome
 latched None key m = quiet (record m { latch = Some key })
 latched (Some waiting) key m = refused KeyWaiting m
 
--- a meter that is hired has a trip that begins at the clock's second, with the initial hire fee and the minimum fare
--- that are in force there, and takes the roaming pulses
+-- a meter that is hired has a trip that begins at the clock's second, with the fees that are in force there, and takes
+-- the roaming pulses
 abbrev pub hired : Setting → Meter → Meter
 hired s m = record m {
   operating = Hired;

@@ -74,8 +74,8 @@ pub record ClosesTrip (tables : TableParts) (seal : Seal) (most : ℕ) (old new 
   pub ranges : StayLawful tables old.number before acts
   pub follows : FollowsStage tables seal old new before acts stage
 
--- what a key does may be done in an operating position if a hiring is done in For Hire, and a trip is closed, or taken
--- to another position, only in one in which a trip runs, and only to one
+-- an act of a key may be done in an operating position: a hiring in For Hire, a closing if a trip runs there, a move if
+-- a trip runs there and in the position that it leads to, and each other act in all
 abbrev pub IsDoneIn : Operating → KeyAct → Type 0
 IsDoneIn operating key_acts.Hire = operating ≡ ForHire
 IsDoneIn operating (key_acts.Move to) = (is_busy operating ≡ true) × (is_busy to ≡ true)
