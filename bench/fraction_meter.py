@@ -22,7 +22,7 @@ class FractionMeter:
         self.clock = self.begun = 0
         self.place, self.latch, self.is_hired, self.has_trip = {"P": 1, "Z": 1}, "", False, False
         self.pulses, self.ticks, self.charged = 0, 0, Fraction(0)
-        self.initial = self.minimum = None
+        self.hired_by = {}  # the line of each kind at the hiring
         self.charged_by = []  # the line of each interval in Hired
 
     def lines_at(self, second):
@@ -42,7 +42,7 @@ class FractionMeter:
         )
 
     def charge(self, pulses):
-        line = self.lines_at(self.begun)[0]
+        line = self.lines_at(self.begun)["rate"]
         self.charged_by.append(line.number)
         rate = line.parts
         self.charged += max(
@@ -61,7 +61,7 @@ class FractionMeter:
         """What the key does that waits."""
         word, _, number = self.latch.partition(" ")
         if word == "H" and not self.has_trip:
-            _, self.initial, self.minimum = self.lines_at(self.clock)
+            self.hired_by = self.lines_at(self.clock)
         self.has_trip |= word == "H"
         self.is_hired = word == "H" or self.is_hired and word != "S"
         if word in ("P", "Z"):
@@ -85,7 +85,8 @@ class FractionMeter:
     def fare(self):
         """The fare as it is shown."""
         step = of_kind(self.tables.lines, "step")[0].parts
-        above = max(Fraction(0), self.charged - self.initial.parts["covers"]) / step["amount"]
+        fee, minimum = self.hired_by["initial"].parts, self.hired_by["minimum"]
+        above = max(Fraction(0), self.charged - fee["covers"]) / step["amount"]
         full = ceil(above) if step["rounding"] == "ahead" else floor(above)
-        least = self.minimum.parts["amount"] if self.minimum else 0
-        return money(max(self.initial.parts["amount"] + full * step["amount"], least), self.tables.decimals)
+        least = minimum.parts["amount"] if minimum else 0
+        return money(max(fee["amount"] + full * step["amount"], least), self.tables.decimals)

@@ -34,7 +34,7 @@ def bands_of(tables, day, far, kind, asked):
     starts = [0, *tables.cuts["Minute"]]
     bands = []
     for first, last in zip(starts, [*starts[1:], DAY]):
-        line = band_at(tables, day, first, far, asked)[("rate", "initial", "minimum").index(kind)]
+        line = band_at(tables, day, first, far, asked)[kind]
         if bands and bands[-1][2] is line:
             first = bands.pop()[0]
         bands.append((first, last, line))

@@ -4,8 +4,10 @@ import collections
 import datetime
 import re
 
+from tariff_kinds import LARGEST_FARE, ON_RECEIPTS
+
 COLUMNS = ["receipt", "kind", "taxi", "constant", "secured", "tariff", "start", "finish", "position", "distance_m",
-           "initial", "steps", "step", "minimum", "fare", "supplements", "total"]
+           "initial", "steps", "step", *ON_RECEIPTS, "fare", "supplements", "total"]
 WHOLE = ["receipt", "constant", "position", "steps"]
 
 # A receipt: its fields by the names of the columns, the day on which it finished, and its text as it was printed.
@@ -20,11 +22,11 @@ LINES = re.compile("".join([
     rf"CONSTANT (?P<constant>{NUMBER})\n", rf"SECURED (?P<secured>{DAY})\n", r"TARIFF (?P<tariff>[0-9a-f]{64})\n",
     rf"START (?P<start>{STAMP})\n", rf"FINISH (?P<finish>{STAMP})\n", rf"POSITION (?P<position>{NUMBER})\n",
     rf"DISTANCE (?P<distance_m>{NUMBER}\.[0-9]{{3}}) m\n",
-    rf"CALC (?P<initial>{MONEY}) \+ (?P<steps>{NUMBER}) x (?P<step>{MONEY})\n", rf"(?:MINIMUM (?P<minimum>{MONEY})\n)?",
+    rf"CALC (?P<initial>{MONEY}) \+ (?P<steps>{NUMBER}) x (?P<step>{MONEY})\n",
+    *(rf"(?:{word.upper()} (?P<{word}>{MONEY})\n)?" for word in ON_RECEIPTS),
     rf"FARE (?P<fare>{MONEY})\n", rf"SUPPLEMENTS (?P<supplements>{MONEY})\n", rf"TOTAL (?P<total>{MONEY})\n", r"END\n",
 ]).encode())
 
-LARGEST_FARE = 99_999_999
 LARGEST_SUPPLEMENTS = 1_584_000_000
 
 
@@ -38,14 +40,15 @@ def decimals(amount):
 
 def has_sums(fields):
     """Whether the amounts have one number of decimals and their ranges, and fare and total are as they add up."""
-    money = {name: fields[name] for name in ("initial", "step", "minimum", "fare", "supplements", "total") if fields[name]}
+    names = ("initial", "step", *ON_RECEIPTS, "fare", "supplements", "total")
+    money = {name: fields[name] for name in names if fields[name]}
     if len({decimals(amount) for amount in money.values()}) != 1:
         return False
     amount = collections.defaultdict(int, {name: units(text) for name, text in money.items()})
     if not (amount["initial"] <= LARGEST_FARE and 1 <= amount["step"] <= 1_000_000 and fields["steps"] < 10**18
             and amount["supplements"] <= LARGEST_SUPPLEMENTS):
         return False
-    if fields["minimum"] and not 1 <= amount["minimum"] <= LARGEST_FARE:
+    if any(fields[word] and not 1 <= amount[word] <= LARGEST_FARE for word in ON_RECEIPTS):
         return False
     fare = max(amount["initial"] + fields["steps"] * amount["step"], amount["minimum"])
     return amount["fare"] == min(fare, LARGEST_FARE) and amount["total"] == amount["fare"] + amount["supplements"]

@@ -1,11 +1,13 @@
 """What the proved program makes of a tariff: its tables, beside the lines that they were made of."""
 
 import bisect
+from itertools import zip_longest
 from typing import NamedTuple
 
 from program import Differs, Refused
 from tariff import read_tariff
 from tariff_faults import cells_of, cuts_of, number_of, of_kind, place_of
+from tariff_kinds import IN_CELLS, KINDS
 
 
 def money(units, decimals):
@@ -15,10 +17,10 @@ def money(units, decimals):
 class Tables(NamedTuple):
     lines: list
     decimals: int
-    cells: list  # of the numbers of a rate, a hire fee and, where the tariff has one, a minimum fare
+    cells: list  # of the numbers of a line of each kind, of which the last may be left out
     rates: list  # what a pulse and a tick weigh under each rate
     cuts: dict  # of each dimension
-    by_kind: dict  # the `rate`, `initial` and `minimum` lines
+    by_kind: dict  # the lines of each kind of which a cell has one
     sizes: tuple  # how many zones and kinds of day there are
 
     def number_of_cell(self, context):
@@ -35,22 +37,17 @@ class Tables(NamedTuple):
         return number
 
     def lines_at(self, context):
-        """The `rate`, the `initial` and the `minimum` line that hold in a context; None for no minimum."""
-        cell = self.cells[self.number_of_cell(context)]
-        return [lines[number - 1] if number else None for lines, number in zip(self.by_kind.values(), (*cell, 0))]
+        """The line of each kind that holds in a context; None for no minimum."""
+        numbers = zip_longest(IN_CELLS, self.cells[self.number_of_cell(context)], fillvalue=0)
+        return {kind: self.by_kind[kind][number - 1] if number else None for kind, number in numbers}
 
 
-def amounts_of(tariff):
-    """The rows of hire fees and minimum fares that the tables of a tariff have."""
-    for number, line in enumerate(of_kind(tariff.lines, "initial"), 1):
-        yield [
-            "INITIAL",
-            str(number),
-            money(line.parts["amount"], tariff.decimals),
-            money(line.parts["covers"], tariff.decimals),
-        ]
-    for number, line in enumerate(of_kind(tariff.lines, "minimum"), 1):
-        yield ["MINIMUM", str(number), money(line.parts["amount"], tariff.decimals)]
+def rows_of(tariff):
+    """The rows of amounts that the tables of a tariff have, kind by kind."""
+    for word, kind in KINDS.items():
+        for number, line in enumerate(of_kind(tariff.lines, word) if kind.row else [], 1):
+            said = [(line.parts[name], tariff.decimals if name in kind.amounts else 0) for name in kind.row[1:]]
+            yield [kind.row[0], str(number), *(money(*amount) for amount in said)]
 
 
 def tables_of(taxi, text, constant):
@@ -64,11 +61,10 @@ def tables_of(taxi, text, constant):
     cells = [tuple(map(int, row[2:])) for row in rows if row[0] == "CELL"]
     if len(cells) != cells_of(tariff.lines):
         raise Differs(f"the program makes {len(cells)} cells, where {cells_of(tariff.lines)} were found")
-    if len(rates) != len(of_kind(tariff.lines, "rate")) or [
-        row for row in rows if row[0] in ("INITIAL", "MINIMUM")
-    ] != list(amounts_of(tariff)):
-        raise Differs("the program has other rates, hire fees or minimum fares than were found")
-    by_kind = {kind: of_kind(tariff.lines, kind) for kind in ("rate", "initial", "minimum")}
+    words = {kind.row[0] for kind in KINDS.values() if kind.row}
+    by_kind = {kind: of_kind(tariff.lines, kind) for kind in IN_CELLS}
+    if len(rates) != len(by_kind["rate"]) or [row for row in rows if row[0] in words] != list(rows_of(tariff)):
+        raise Differs("the program's tables have other lines than were found")
     sizes = number_of(tariff.lines, "zones"), 2 if of_kind(tariff.lines, "holiday") else 1
     return Tables(tariff.lines, tariff.decimals, cells, rates, cuts_of(tariff.lines), by_kind, sizes)
 

@@ -3,7 +3,8 @@
 import re
 from typing import NamedTuple
 
-from tariff_words import DAYS, KINDS, hint_at
+from tariff_kinds import KINDS
+from tariff_words import DAYS, hint_at
 
 MOST_BYTES = 65_536
 MOST_PARTS = 64  # atoms, `not` and `(` of a condition
@@ -198,58 +199,6 @@ ATOMS = {
 }
 
 
-def step(line):
-    amount = line.money()
-    rounding = "ahead" if line.skips("ahead") else "behind"
-    if rounding == "behind":
-        line.skips("behind")
-    return {"amount": amount, "rounding": rounding}, None
-
-
-def holiday(line):
-    found = line.figure("([0-9]{4})-([0-9]{2})-([0-9]{2})", "a date as 2026-12-25")
-    return {"date": tuple(map(int, found.groups()))}, None
-
-
-def supplement(line):
-    number, amount = line.number(1, 16, "the number of a supplement"), line.money()
-    line.need("max")
-    return {"number": number, "amount": amount, "most": line.number(1, 99, "how many there may be")}, None
-
-
-def initial(line):
-    amount = line.money()
-    covers = line.money() if line.skips("covers") else 0
-    return {"amount": amount, "covers": covers}, line.when()
-
-
-def rate(line):
-    a, b = line.per("m")
-    line.need(",")
-    c, e = line.per("s")
-    return {"a": a, "b": b, "c": c, "e": e}, line.when()
-
-
-def minimum(line):
-    return {"amount": line.money()}, line.when()
-
-
-def counted(what):
-    return lambda line: ({"number": line.number(1, 9, what)}, None)
-
-
-FORMS = {
-    "step": step,
-    "positions": counted("how many positions"),
-    "zones": counted("how many zones"),
-    "holiday": holiday,
-    "supplement": supplement,
-    "initial": initial,
-    "rate": rate,
-    "minimum": minimum,
-}
-
-
 def line_of(number, text, decimals, is_first):
     """What a line says: None where it is empty, the decimals, or a line."""
     line = Reader(text, decimals)
@@ -261,10 +210,11 @@ def line_of(number, text, decimals, is_first):
         said = line.number(0, 3, "how many decimals money has")
     elif token.text == "decimals":
         raise NoForm(token, "`decimals` may stand only in the first line that says something")
-    elif token.kind == "word" and token.text in FORMS:
-        said = Line(number, line.take().text, *FORMS[token.text](line))
+    elif token.kind == "word" and token.text in KINDS:
+        kind = KINDS[line.take().text]
+        said = Line(number, token.text, kind.form(line), line.when() if kind.may_have_condition else None)
     else:
-        line.refuse(f"one of the words {', '.join(KINDS)}")
+        line.refuse(f"one of the words {', '.join(['decimals', *KINDS])}")
     if line.next.kind != "end":
         line.refuse("nothing more")
     return said

@@ -5,18 +5,15 @@ import collections
 import math
 from typing import NamedTuple
 
+from tariff_kinds import IN_CELLS, KINDS, LARGEST_FARE
+
 DIMENSIONS = {"MonthDay": 63, "Minute": 63, "Distance": 15, "Time": 15}  # and how many cuts each may have
 MOST_CELLS = 64_512
 LARGEST_MEASURE = 10**18
-MOST_ALIKE = {"rate": 64, "initial": 64, "minimum": 64, "holiday": 255}
+NO_DEFAULT = {word: f"NoDefault{word.capitalize()}" for word in IN_CELLS if KINDS[word].needs_default}
 # The faults that a line which begins so could take away.
-MENDED_BY = {
-    "step": ["NoStep", "StepZero"],
-    "rate": ["NoDefaultRate"],
-    "initial": ["NoDefaultInitial"],
-    "positions": ["UnknownNumber"],
-    "zones": ["UnknownNumber"],
-}
+MENDED_BY = {word: [*kind.mends] for word, kind in KINDS.items() if kind.mends}
+MENDED_BY |= {word: [fault] for word, fault in NO_DEFAULT.items()}
 MONTHS = [31, 29, 31, 30, 31, 30, 31, 31, 30, 31, 30, 31]  # of a leap year
 
 
@@ -76,7 +73,7 @@ def cells_of(lines):
 
 
 def measure_of(lines):
-    return math.lcm(1, *(line.parts[name] for line in of_kind(lines, "rate") for name in "be"))
+    return math.lcm(1, *(line.parts[name] for line in lines for name in KINDS[line.kind].measures))
 
 
 def is_date(year, month, date):
@@ -88,13 +85,13 @@ def facts_of(line):
     facts = [("kind", line.kind)]
     if line.when is None:
         facts.append(("default", line.kind))
-    if line.kind in ("step", "positions", "zones", "supplement", "holiday"):
+    if not KINDS[line.kind].may_have_condition:
         facts.append(("thing", *thing_of(line)))
     return facts
 
 
 def thing_of(line):
-    return line.kind, line.parts["number"] if line.kind == "supplement" else line.parts.get("date")
+    return line.kind, line.parts.get(KINDS[line.kind].told_by)
 
 
 def is_duplicate(line, before, lines):
@@ -102,7 +99,8 @@ def is_duplicate(line, before, lines):
 
 
 def is_one_too_many(line, before, lines):
-    return line.kind in MOST_ALIKE and before["kind", line.kind] >= MOST_ALIKE[line.kind]
+    most = KINDS[line.kind].most
+    return most is not None and before["kind", line.kind] >= most
 
 
 def names_unknown(line, before, lines):
@@ -111,7 +109,7 @@ def names_unknown(line, before, lines):
 
 
 def is_after_default(line, before, lines):
-    return line.kind in ("rate", "initial", "minimum") and before["default", line.kind] > 0
+    return KINDS[line.kind].may_have_condition and before["default", line.kind] > 0
 
 
 def has_bad_date(line, before, lines):
@@ -122,13 +120,12 @@ def has_bad_date(line, before, lines):
 
 
 def has_great_amount(line, before, lines):
-    most = {"step": 10**6, "supplement": 10**6, "rate": 10**6, "initial": 99_999_999, "minimum": 99_999_999}
-    amounts = [line.parts[name] for name in ("amount", "covers", "a", "c") if name in line.parts]
-    return any(amount > most[line.kind] for amount in amounts)
+    kind = KINDS[line.kind]
+    return any(line.parts[name] > kind.largest for name in kind.amounts)
 
 
 def has_measure_zero(line, before, lines):
-    return (line.kind == "rate" and 0 in (line.parts["b"], line.parts["e"])) or any(
+    return any(line.parts[name] == 0 for name in KINDS[line.kind].measures) or any(
         atom[1] == 0 for atom in atoms_of(line.when) if atom[0] in ("distance", "time of trip")
     )
 
@@ -147,8 +144,8 @@ OF_LINES = {
     "BadDate": (has_bad_date, "a date that no calendar has, or a holiday outside of 2000 to 2199"),
     "AmountTooBig": (
         has_great_amount,
-        "an amount is above 1,000,000 units of the last decimal (99,999,999 of a hire fee, a "
-        "cover or a minimum fare)",
+        "an amount is above 1,000,000 units of the last decimal (99,999,999 in a line of "
+        f"{' or '.join(f'`{word}`' for word, kind in KINDS.items() if kind.largest == LARGEST_FARE)})",
     ),
     "MeasureZero": (has_measure_zero, "a measure of 0; what costs nothing has the amount 0"),
 }
@@ -171,9 +168,10 @@ def step_faults(lines):
         yield Fault("StepZero", steps[0].number, "the display step is 0")
 
 
-def default_faults(lines, kind):
-    if all(line.when for line in of_kind(lines, kind)):
-        yield Fault(f"NoDefault{kind.capitalize()}", None, f"there is no `{kind}` line without a condition")
+def default_faults(lines):
+    for kind, name in NO_DEFAULT.items():
+        if all(line.when for line in of_kind(lines, kind)):
+            yield Fault(name, None, f"there is no `{kind}` line without a condition")
 
 
 def size_faults(lines):
@@ -200,8 +198,7 @@ def faults_of(lines):
     yield from step_faults(lines)
     for name in ("Duplicate", "TooManyLines", "UnknownNumber"):
         yield from line_faults(lines, name)
-    for kind in ("rate", "initial"):
-        yield from default_faults(lines, kind)
+    yield from default_faults(lines)
     for name in ("LineAfterDefault", "BadDate", "AmountTooBig", "MeasureZero"):
         yield from line_faults(lines, name)
     yield from size_faults(lines)

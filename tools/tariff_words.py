@@ -2,9 +2,11 @@
 
 import re
 
+from tariff_kinds import KINDS
+
 DAYS = ["mon", "tue", "wed", "thu", "fri", "sat", "sun"]
-KINDS = ["decimals", "step", "positions", "zones", "holiday", "supplement", "initial", "rate", "minimum"]
 WORDS = {
+    "decimals",
     *KINDS,
     *DAYS,
     "ahead",

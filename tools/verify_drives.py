@@ -71,7 +71,7 @@ class Kit:
                 10_000 * context.pulses // self.meter.constant,
                 context.ticks,
             )
-        )[0]
+        )["rate"]
 
     def weights(self, line):
         return self.tables.rates[of_kind(self.tables.lines, "rate").index(line)]
