@@ -10,6 +10,7 @@ use Rattle.tariff_syntax.specs.Choices.{Choice, RateNumbers, choice_in, choices,
 use Rattle.tariff_syntax.specs.Condition as tree
 use Rattle.tariff_syntax.specs.Condition.{Condition}
 use Rattle.tariff_syntax.specs.Meaning.{holds, holds_if, rate_place}
+use Rattle.tariff_syntax.specs.Part as part
 use Rattle.tariff_syntax.specs.Tree.{Entry, Line, Tree}
 use Rattle.tariff_syntax.specs.Tree as entries
 use Rattle.tariff_syntax.specs.Writable.{IsWritable, IsWritableCondition, IsWritableEntry, IsWritableIf, greatest}
@@ -72,7 +73,7 @@ more-conditions : (line : ℕ) (e : Entry) (cs : List (Choice RateNumbers)) → 
     → All IsWritableIf (conditions_of cs)
     → All IsWritableIf (conditions_of (cons_option (choice_in rate_part (record { line = line; entry = e })) cs))
 more-conditions line (entries.rate a b c e when) cs can each =
-    All-cons IsWritableIf when (conditions_of cs) can.4 each
+    All-cons IsWritableIf when (conditions_of cs) (can 9 part.comma (omega arith)) each
 more-conditions line (entries.step amount rounding) cs can each = each
 more-conditions line e cs can each = each
 

@@ -4,6 +4,7 @@ use Rattle.std.proofs.lemmas.Bool.{ltb-false}
 use Rattle.std.specs.Option.{is_some}
 use Rattle.taxi_units.specs.Money.{largest_amount}
 use Rattle.tariff_syntax.specs.Choices.{choices}
+use Rattle.tariff_syntax.specs.Part as part
 use Rattle.tariff_syntax.specs.Tree.{Tree, Entry, step, initial, rate, minimum, when_part}
 use Rattle.tariff_syntax.specs.Writable.{IsWritableEntry, IsWritableIf}
 use Rattle.tariff_check.specs.Kinds.{EachKind, InitialNumbers, IsSoundInitial, IsSoundRate, IsSoundSaid, RateNumbers}
@@ -68,9 +69,9 @@ said_sound Rate (rate a b c e when) writable moderate measured r h =
     let measures = both_some b e measured in
     subst IsSoundRate same (record {
       distance_amount = ltb-false (10 ^ 6) a amounts.0;
-      distance = (measures.0, writable.1);
+      distance = (measures.0, writable 2 part.comma (omega arith));
       time_amount = ltb-false (10 ^ 6) c amounts.1;
-      time = (measures.1, writable.3);
+      time = (measures.1, writable 7 part.comma (omega arith));
     })
 said_sound Rate x writable moderate measured r h = absurd cc
 said_sound Initial (initial amount covers when) writable moderate measured i h =
@@ -87,9 +88,9 @@ said_sound Minimum x writable moderate measured n h = absurd cc
 
 -- the condition of a writable entry is writable
 pub when_writable : (x : Entry) → IsWritableEntry x → IsWritableIf (when_part x)
-when_writable (initial amount covers when) h = h.2
-when_writable (rate a b c e when) h = h.4
-when_writable (minimum amount when) h = h.1
+when_writable (initial amount covers when) h = h 2 part.comma (omega arith)
+when_writable (rate a b c e when) h = h 9 part.comma (omega arith)
+when_writable (minimum amount when) h = h 1 part.comma (omega arith)
 when_writable x h = tt
 
 -- each entry is told by exactly one part

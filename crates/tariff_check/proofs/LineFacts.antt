@@ -7,6 +7,7 @@ use Rattle.std.specs.List.{list_any}
 use Rattle.drive_modes.specs.declared.meterage.Rounding.{Rounding}
 use Rattle.tariff_syntax.specs.Condition as tree
 use Rattle.tariff_syntax.specs.Condition.{Condition}
+use Rattle.tariff_syntax.specs.Part as part
 use Rattle.tariff_syntax.specs.Tree.{Entry, step, positions, zones, holiday, supplement, when_part}
 use Rattle.tariff_syntax.specs.Writable.{IsFromTo, IsWritableCondition, IsWritableIf, IsWritableEntry}
 use Rattle.tariff_check.specs.Kinds.{IsSoundSaid, Said, is_great, part_of}
@@ -45,11 +46,13 @@ step_fact (step amount rounding) good s h =
 step_fact x good s h = absurd cc
 
 pub positions_fact : (x : Entry) → IsGoodEntry x → (n : ℕ) → positions_part x ≡ Some n → IsFromTo 1 9 n
-positions_fact (positions m) good n h = let same : m ≡ n = cc in subst (IsFromTo 1 9) same good.writable
+positions_fact (positions m) good n h =
+    let same : m ≡ n = cc in subst (IsFromTo 1 9) same (good.writable 0 part.comma (omega arith))
 positions_fact x good n h = absurd cc
 
 pub zones_fact : (x : Entry) → IsGoodEntry x → (n : ℕ) → zones_part x ≡ Some n → IsFromTo 1 9 n
-zones_fact (zones m) good n h = let same : m ≡ n = cc in subst (IsFromTo 1 9) same good.writable
+zones_fact (zones m) good n h =
+    let same : m ≡ n = cc in subst (IsFromTo 1 9) same (good.writable 0 part.comma (omega arith))
 zones_fact x good n h = absurd cc
 
 pub choice_fact : (kind : ChoiceKind) (x : Entry) → IsGoodEntry x → (said : Said kind) → part_of kind x ≡ Some said
@@ -61,7 +64,7 @@ pub supplement_fact : (x : Entry) → IsGoodEntry x → (said : ℕ × Supplemen
 supplement_fact (supplement n amount most) good said h =
     let same : (n, record { amount = amount; max = most }) ≡ said = cc in
     subst (λ (x : ℕ × Supplement). IsSoundSupplement x.1) same
-    (record { amount = ltb-false (10 ^ 6) amount good.moderate; most = good.writable.2 })
+    (record { amount = ltb-false (10 ^ 6) amount good.moderate; most = good.writable 3 part.comma (omega arith) })
 supplement_fact x good said h = absurd cc
 
 pub holiday_fact : (x : Entry) → IsGoodEntry x → (d : DateNumbers) → holiday_part x ≡ Some d → IsSoundHoliday d

@@ -1,12 +1,13 @@
 -- Supplements outside the numbers that a text can have, and what holds of each holds of the one of a number.
 use Rattle.std.proofs.Common.{◌≡◌, ℕ, ◌==◌, Bool, List, [], ◌∷◌, Option, Some, None, true, false, cond, All, refl}
-use Rattle.std.proofs.Common.{subst}
+use Rattle.std.proofs.Common.{subst, arith}
 use Rattle.std.proofs.lemmas.Bool.{ne_eqb}
 use Rattle.std.proofs.lemmas.List.Elements.{All-head, All-tail}
 use Rattle.std.specs.List.{cons_option, find}
 use Rattle.std.specs.Option.{option_map}
 use Rattle.tariff_check.specs.Parts.{numbered_supplement, parts, supplement_numbered, supplement_of}
 use Rattle.tariff_check.specs.declared.values.Supplement.{Supplement}
+use Rattle.tariff_syntax.specs.Part as part
 use Rattle.tariff_syntax.specs.Tree.{Tree, Line, Entry, supplement}
 use Rattle.tariff_syntax.specs.Writable.{IsFromTo, IsWritable, IsWritableEntry}
 
@@ -14,7 +15,8 @@ none_more : (n : ℕ) (entry : Entry) (rest : List (ℕ × Supplement)) → (IsF
     → supplement_numbered rest n ≡ None
     → supplement_numbered (cons_option (numbered_supplement entry) rest) n ≡ None
 none_more n (supplement number amount most) rest out writable h =
-    let other : n == number ≡ false = ne_eqb n number (λ same. out (rw same writable.0)) in
+    let range : IsFromTo 1 16 number = writable 0 part.comma (omega arith) in
+    let other : n == number ≡ false = ne_eqb n number (λ same. out (rw same range)) in
     rw other h
 none_more n entry rest out writable h = h
 

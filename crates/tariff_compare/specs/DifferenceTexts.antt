@@ -2,8 +2,8 @@
 use Rattle.std.specs.Prelude.{ℕ, List, [], ◌++◌, Option, Some, None, codes, decimal}
 use Rattle.tariff_check.specs.FoundLines.{frame_line, line_in_force}
 use Rattle.tariff_check.specs.declared.found_lines.FramePart.TheVariants as frame
-use Rattle.tariff_syntax.specs.Printed.{entry_line, number_line, without_when}
-use Rattle.tariff_syntax.specs.Tree.{Tree, Line}
+use Rattle.tariff_syntax.specs.Printed.{entry_line, number_line}
+use Rattle.tariff_syntax.specs.Tree.{Tree, Line, without_when}
 use Rattle.tariff_syntax.specs.Writable.{IsFromTo}
 use Rattle.tariff_compare.specs.Contexts.{context_at}
 use Rattle.tariff_compare.specs.Kinds.{part_word}

@@ -7,15 +7,17 @@ use Rattle.drive_modes.specs.declared.meterage.Rounding.{Rounding}
 use Rattle.drive_modes.specs.declared.meterage.Rounding.TheVariants.{Behind, Ahead}
 use Rattle.tariff_syntax.specs.Condition.{Condition}
 use Rattle.tariff_syntax.specs.Figure.{number_first, amount_first, year_date_read, year_date_first}
-use Rattle.tariff_syntax.specs.Forms.{IsNumber, IsYearDate}
+use Rattle.tariff_syntax.specs.Forms.{IsNumber}
 use Rattle.tariff_syntax.specs.Grammar.{condition_by, factor_first, condition_alone, bounded_condition, when_read}
 use Rattle.tariff_syntax.specs.Weight.{weight}
 use Rattle.tariff_syntax.specs.IsCondition.{IsCondition}
-use Rattle.tariff_syntax.specs.IsItem.{IsRounding, IsCovers, IsWhen, IsPer, IsItem, IsDecimals}
+use Rattle.tariff_syntax.specs.IsItem.{IsRounding, IsCovers, IsWhen, IsPart, AreParts, IsItem, IsDecimals}
 use Rattle.tariff_syntax.specs.Items.{rounding_read, rounding_end, step_read, count_read, positions_read, zones_read}
 use Rattle.tariff_syntax.specs.Items.{holiday_read, supplement_read, covers_after, covers_first, initial_read}
 use Rattle.tariff_syntax.specs.Items.{per_first, rate_read, minimum_read, plain_named, item_named, item_read}
 use Rattle.tariff_syntax.specs.Items.{decimals_read}
+use Rattle.tariff_syntax.specs.Part as part
+use Rattle.tariff_syntax.specs.Part.{Part}
 use Rattle.tariff_syntax.specs.Printed.{rounding_word}
 use Rattle.tariff_syntax.specs.PrintedCondition.{whole}
 use Rattle.tariff_syntax.specs.Token.{Token, word, figure, sign}
@@ -137,37 +139,132 @@ covers_here decimals cs ws n when (inl h) w = rw (h.0, when_covers_nothing ws wh
 covers_here decimals cs ws n when (inr h) w =
     rw (h.1, after_word_here (codes "covers") (figure h.0 ∷ ws), amount_here decimals h.0 n ws h.2) refl
 
-per_is : (decimals : ℕ) (unit : List ℕ) (ts : List Token) (x : (ℕ × ℕ) × List Token)
-    → per_first decimals unit ts ≡ Some x → (xs : List Token) × (ts ≡ xs ++ x.1) × IsPer decimals unit xs x.0.0 x.0.1
+-- one part is what all of the tokens are
+last : (decimals : ℕ) (ts : List Token) (p : Part) → IsPart decimals ts p → AreParts decimals ts (p ∷ [])
+last decimals ts p h = (ts, [], sym (append-nil ts), h, refl)
+
+alone : (decimals : ℕ) (ts : List Token) (p : Part) → AreParts decimals ts (p ∷ []) → IsPart decimals ts p
+alone decimals ts p h =
+    let all : ts ≡ h.0 = h.2 ∙ (ap (λ (us : List Token). h.0 ++ us) h.4 ∙ append-nil h.0) in
+    subst (λ (us : List Token). IsPart decimals us p) (sym all) h.3
+
+-- a part was read, and behind it stand others
+name_is : (decimals : ℕ) (w : List ℕ) (ts rest : List Token) (ps : List Part) → after_word w ts ≡ Some rest
+    → AreParts decimals rest ps → AreParts decimals ts (part.name w ∷ ps)
+name_is decimals w ts rest ps e h = (word w ∷ [], rest, after_word_is w ts rest e, refl, h)
+
+comma_is : (decimals : ℕ) (ts rest : List Token) (ps : List Part) → after_sign (codes ",") ts ≡ Some rest
+    → AreParts decimals rest ps → AreParts decimals ts (part.comma ∷ ps)
+comma_is decimals ts rest ps e h = (sign (codes ",") ∷ [], rest, after_sign_is (codes ",") ts rest e, refl, h)
+
+money_is : (decimals : ℕ) (ts : List Token) (x : ℕ × List Token) (ps : List Part) → amount_first decimals ts ≡ Some x
+    → AreParts decimals x.1 ps → AreParts decimals ts (part.money x.0 ∷ ps)
+money_is decimals ts x ps e h =
+    let is = amounts_are decimals ts x e in (figure is.0 ∷ [], x.1, is.1, (is.0, refl, is.2), h)
+
+measure_is : (decimals : ℕ) (ts : List Token) (x : ℕ × List Token) (ps : List Part) → amount_first 1 ts ≡ Some x
+    → AreParts decimals x.1 ps → AreParts decimals ts (part.measure x.0 ∷ ps)
+measure_is decimals ts x ps e h =
+    let is = amounts_are 1 ts x e in (figure is.0 ∷ [], x.1, is.1, (is.0, refl, is.2), h)
+
+counted_is : (decimals least most : ℕ) (ts : List Token) (x : ℕ × List Token) (ps : List Part)
+    → number_first least most ts ≡ Some x → AreParts decimals x.1 ps
+    → AreParts decimals ts (part.number least most x.0 ∷ ps)
+counted_is decimals least most ts x ps e h =
+    let is = number_is least most ts x e in (figure is.0 ∷ [], x.1, is.1, (is.0, refl, is.2), h)
+
+covered_is : (decimals : ℕ) (ts : List Token) (x : ℕ × List Token) (ps : List Part) → covers_first decimals ts ≡ Some x
+    → AreParts decimals x.1 ps → AreParts decimals ts (part.covers x.0 ∷ ps)
+covered_is decimals ts x ps e h = let is = covers_is decimals ts x e in (is.0, x.1, is.1, is.2, h)
+
+-- an amount for a measure, and others behind it
+abbrev per_parts : (unit : List ℕ) (amount measure : ℕ) → List Part → List Part
+per_parts unit amount measure ps =
+    part.money amount ∷ part.name (codes "per") ∷ part.measure measure ∷ part.name unit ∷ ps
+
+per_is : (decimals : ℕ) (unit : List ℕ) (ts : List Token) (x : (ℕ × ℕ) × List Token) (ps : List Part)
+    → per_first decimals unit ts ≡ Some x → AreParts decimals x.1 ps
+    → AreParts decimals ts (per_parts unit x.0.0 x.0.1 ps)
 unfolding per_first
-per_is decimals unit ts x e =
+per_is decimals unit ts x ps e =
     let one = bind_some (amount_first decimals ts) _ x e in
     let two = bind_some (after_word (codes "per") one.0.1) _ x one.2 in
     let three = bind_some (amount_first 1 two.0) _ x two.2 in
     let four = bind_some (after_word unit three.0.1) _ x three.2 in
-    let found = some_same ((one.0.0, three.0.0), four.0) x four.2 in
-    let f = amounts_are decimals ts one.0 one.1 in
-    let g = amounts_are 1 two.0 three.0 three.1 in
-    let xs = figure f.0 ∷ word (codes "per") ∷ figure g.0 ∷ word unit ∷ [] in
-    let all : ts ≡ xs ++ four.0 =
-    f.1 ∙ ap (λ (us : List Token). figure f.0 ∷ us)
-    (after_word_is (codes "per") one.0.1 two.0 two.1 ∙ ap (λ (us : List Token). word (codes "per") ∷ us)
-    (g.1 ∙ ap (λ (us : List Token). figure g.0 ∷ us) (after_word_is unit three.0.1 four.0 four.1))) in
+    let end = part.name unit ∷ ps in
+    let more = part.measure three.0.0 ∷ end in
     let P : (ℕ × ℕ) × List Token → Type 0 =
-    λ y. (us : List Token) × (ts ≡ us ++ y.1) × IsPer decimals unit us y.0.0 y.0.1 in
-    subst P found (xs, all, (f.0, g.0, refl, f.2, g.2))
+    λ y. AreParts decimals y.1 ps → AreParts decimals ts (per_parts unit y.0.0 y.0.1 ps) in
+    subst P (some_same ((one.0.0, three.0.0), four.0) x four.2)
+    (λ h. money_is decimals ts one.0 (part.name (codes "per") ∷ more) one.1
+    (name_is decimals (codes "per") one.0.1 two.0 more two.1
+    (measure_is decimals two.0 three.0 end three.1 (name_is decimals unit three.0.1 four.0 ps four.1 h))))
 
-per_here : (decimals : ℕ) (unit : List ℕ) (xs rest : List Token) (a b : ℕ) → IsPer decimals unit xs a b
-    → per_first decimals unit (xs ++ rest) ≡ Some ((a, b), rest)
+-- a part is read, and behind it stand the others
+name_again : (decimals : ℕ) (w : List ℕ) (ts : List Token) (ps : List Part) → AreParts decimals ts (part.name w ∷ ps)
+    → (rest : List Token) × (after_word w ts ≡ Some rest) × AreParts decimals rest ps
+name_again decimals w ts ps h = (h.1, rw (h.2, h.3) (after_word_here w h.1), h.4)
+
+comma_again : (decimals : ℕ) (ts : List Token) (ps : List Part) → AreParts decimals ts (part.comma ∷ ps)
+    → (rest : List Token) × (after_sign (codes ",") ts ≡ Some rest) × AreParts decimals rest ps
+comma_again decimals ts ps h = (h.1, rw (h.2, h.3) (after_sign_here (codes ",") h.1), h.4)
+
+money_again : (decimals n : ℕ) (ts : List Token) (ps : List Part) → AreParts decimals ts (part.money n ∷ ps)
+    → (rest : List Token) × (amount_first decimals ts ≡ Some (n, rest)) × AreParts decimals rest ps
+money_again decimals n ts ps h = (h.1, rw (h.2, h.3.1) (amount_here decimals h.3.0 n h.1 h.3.2), h.4)
+
+measure_again : (decimals n : ℕ) (ts : List Token) (ps : List Part) → AreParts decimals ts (part.measure n ∷ ps)
+    → (rest : List Token) × (amount_first 1 ts ≡ Some (n, rest)) × AreParts decimals rest ps
+measure_again decimals n ts ps h = (h.1, rw (h.2, h.3.1) (amount_here 1 h.3.0 n h.1 h.3.2), h.4)
+
+counted_again : (decimals least most n : ℕ) (ts : List Token) (ps : List Part)
+    → AreParts decimals ts (part.number least most n ∷ ps)
+    → (rest : List Token) × (number_first least most ts ≡ Some (n, rest)) × AreParts decimals rest ps
+counted_again decimals least most n ts ps h =
+    (h.1, rw (h.2, h.3.1) (number_here least most h.3.0 n h.1 h.3.2), h.4)
+
+covered_again : (decimals n : ℕ) (when : Option Condition) (ts : List Token)
+    → AreParts decimals ts (part.covers n ∷ part.condition when ∷ [])
+    → (rest : List Token) × (covers_first decimals ts ≡ Some (n, rest))
+    × AreParts decimals rest (part.condition when ∷ [])
+covered_again decimals n when ts h =
+    (h.1, rw h.2 (covers_here decimals h.0 h.1 n when h.3 (alone decimals h.1 (part.condition when) h.4)), h.4)
+
+per_again : (decimals : ℕ) (unit : List ℕ) (a b : ℕ) (ts : List Token) (ps : List Part)
+    → AreParts decimals ts (per_parts unit a b ps)
+    → (rest : List Token) × (per_first decimals unit ts ≡ Some ((a, b), rest)) × AreParts decimals rest ps
 unfolding per_first
-per_here decimals unit xs rest a b h =
-    rw (
-      h.2,
-      amount_here decimals h.0 a (word (codes "per") ∷ figure h.1 ∷ word unit ∷ rest) h.3,
-      after_word_here (codes "per") (figure h.1 ∷ word unit ∷ rest),
-      amount_here 1 h.1 b (word unit ∷ rest) h.4,
-      after_word_here unit rest,
-    ) refl
+per_again decimals unit a b ts ps h =
+    let end = part.name unit ∷ ps in
+    let more = part.measure b ∷ end in
+    let one = money_again decimals a ts (part.name (codes "per") ∷ more) h in
+    let two = name_again decimals (codes "per") one.0 more one.2 in
+    let three = measure_again decimals b two.0 end two.2 in
+    let four = name_again decimals unit three.0 ps three.2 in
+    (four.0, rw (one.1, two.1, three.1, four.1) refl, four.2)
+
+-- a number alone, and a condition at the end
+count_is : (decimals : ℕ) (ts : List Token) (n : ℕ) → count_read ts ≡ Some n
+    → AreParts decimals ts (part.number 1 9 n ∷ [])
+unfolding count_read
+count_is decimals ts n e =
+    let one = bind_some (number_first 1 9 ts) _ n e in
+    let end = ended_is one.0.1 one.0.0 n one.2 in
+    subst (λ (k : ℕ). AreParts decimals ts (part.number 1 9 k ∷ [])) end.1
+    (counted_is decimals 1 9 ts one.0 [] one.1 end.0)
+
+count_again : (decimals n : ℕ) (ts : List Token) → AreParts decimals ts (part.number 1 9 n ∷ [])
+    → count_read ts ≡ Some n
+unfolding count_read
+count_again decimals n ts h = let one = counted_again decimals 1 9 n ts [] h in rw (one.1, one.2) refl
+
+end_is : (decimals : ℕ) (ts : List Token) (when : Option Condition) → when_read ts ≡ Some when
+    → AreParts decimals ts (part.condition when ∷ [])
+end_is decimals ts when e = last decimals ts (part.condition when) (when_is ts when e)
+
+end_again : (decimals : ℕ) (when : Option Condition) (ts : List Token)
+    → AreParts decimals ts (part.condition when ∷ []) → when_read ts ≡ Some when
+end_again decimals when ts h = when_again ts when (alone decimals ts (part.condition when) h)
 
 step_is : (decimals : ℕ) (ts : List Token) (x : Entry) → step_read decimals ts ≡ Some x
     → IsItem decimals (word (codes "step") ∷ ts) x
@@ -175,37 +272,26 @@ unfolding step_read
 step_is decimals ts x e =
     let one = bind_some (amount_first decimals ts) _ x e in
     let two = bind_some (rounding_end one.0.1) _ x one.2 in
-    let f = amounts_are decimals ts one.0 one.1 in
-    subst (IsItem decimals (word (codes "step") ∷ ts)) (some_same (step one.0.0 two.0) x two.2)
-    (f.0, one.0.1, ap (λ (us : List Token). word (codes "step") ∷ us) f.1, f.2, rounding_is one.0.1 two.0 two.1)
-
-count_is : (ts : List Token) (n : ℕ) → count_read ts ≡ Some n → (f : List ℕ) × (ts ≡ figure f ∷ []) × IsNumber 1 9 f n
-unfolding count_read
-count_is ts n e =
-    let one = bind_some (number_first 1 9 ts) _ n e in
-    let end = ended_is one.0.1 one.0.0 n one.2 in
-    let f = number_is 1 9 ts one.0 one.1 in
-    (f.0, f.1 ∙ ap (λ (us : List Token). figure f.0 ∷ us) end.0, subst (IsNumber 1 9 f.0) end.1 f.2)
-
-count_again : (f : List ℕ) (n : ℕ) → IsNumber 1 9 f n → count_read (figure f ∷ []) ≡ Some n
-unfolding count_read
-count_again f n h = rw (number_here 1 9 f n [] h) refl
+    subst (IsItem decimals (word (codes "step") ∷ ts)) (some_same (step one.0.0 two.0) x two.2) (
+      ts,
+      refl,
+      money_is decimals ts one.0 (part.rounding two.0 ∷ []) one.1
+          (last decimals one.0.1 (part.rounding two.0) (rounding_is one.0.1 two.0 two.1)),
+    )
 
 positions_are : (decimals : ℕ) (ts : List Token) (x : Entry) → positions_read ts ≡ Some x
     → IsItem decimals (word (codes "positions") ∷ ts) x
 positions_are decimals ts x e =
     let one = bind_some (count_read ts) _ x e in
-    let f = count_is ts one.0 one.1 in
     subst (IsItem decimals (word (codes "positions") ∷ ts)) (some_same (positions one.0) x one.2)
-    (f.0, ap (λ (us : List Token). word (codes "positions") ∷ us) f.1, f.2)
+    (ts, refl, count_is decimals ts one.0 one.1)
 
 zones_are : (decimals : ℕ) (ts : List Token) (x : Entry) → zones_read ts ≡ Some x
     → IsItem decimals (word (codes "zones") ∷ ts) x
 zones_are decimals ts x e =
     let one = bind_some (count_read ts) _ x e in
-    let f = count_is ts one.0 one.1 in
     subst (IsItem decimals (word (codes "zones") ∷ ts)) (some_same (zones one.0) x one.2)
-    (f.0, ap (λ (us : List Token). word (codes "zones") ∷ us) f.1, f.2)
+    (ts, refl, count_is decimals ts one.0 one.1)
 
 holiday_is : (decimals : ℕ) (ts : List Token) (x : Entry) → holiday_read ts ≡ Some x
     → IsItem decimals (word (codes "holiday") ∷ ts) x
@@ -215,17 +301,16 @@ holiday_is decimals ts x e =
     let d = one.0.0 in
     let end = ended_is one.0.1 (holiday d.0 d.1 d.2) x one.2 in
     let f = figure_as_is year_date_read ts one.0 one.1 in
-    subst (IsItem decimals (word (codes "holiday") ∷ ts)) end.1 (
-      f.0,
-      ap (λ (us : List Token). word (codes "holiday") ∷ us) (f.1 ∙ ap (λ (us : List Token). figure f.0 ∷ us) end.0),
-      year_date_is f.0 d.0 d.1 d.2 f.2,
-    )
+    subst (IsItem decimals (word (codes "holiday") ∷ ts)) end.1
+    (ts, refl, (figure f.0 ∷ [], one.0.1, f.1, (f.0, refl, year_date_is f.0 d.0 d.1 d.2 f.2), end.0))
 
-holiday_again : (f : List ℕ) (year month date : ℕ) → IsYearDate f year month date
-    → holiday_read (figure f ∷ []) ≡ Some (holiday year month date)
+holiday_again : (decimals year month date : ℕ) (ts : List Token)
+    → AreParts decimals ts (part.year_date year month date ∷ []) → holiday_read ts ≡ Some (holiday year month date)
 unfolding holiday_read year_date_first
-holiday_again f year month date h =
-    rw (figure_as_here year_date_read f (year, month, date) [] (year_date_again f year month date h)) refl
+holiday_again decimals year month date ts h =
+    let is = alone decimals ts (part.year_date year month date) h in
+    let read = year_date_again is.0 year month date is.2 in
+    rw (is.1, figure_as_here year_date_read is.0 (year, month, date) [] read) refl
 
 supplement_is : (decimals : ℕ) (ts : List Token) (x : Entry) → supplement_read decimals ts ≡ Some x
     → IsItem decimals (word (codes "supplement") ∷ ts) x
@@ -236,14 +321,15 @@ supplement_is decimals ts x e =
     let three = bind_some (after_word (codes "max") two.0.1) _ x two.2 in
     let four = bind_some (number_first 1 99 three.0) _ x three.2 in
     let end = ended_is four.0.1 (supplement one.0.0 two.0.0 four.0.0) x four.2 in
-    let f = number_is 1 16 ts one.0 one.1 in
-    let g = amounts_are decimals one.0.1 two.0 two.1 in
-    let h = number_is 1 99 three.0 four.0 four.1 in
-    let last : three.0 ≡ figure h.0 ∷ [] = h.1 ∙ ap (λ (us : List Token). figure h.0 ∷ us) end.0 in
-    let all = f.1 ∙ ap (λ (us : List Token). figure f.0 ∷ us) (g.1 ∙ ap (λ (us : List Token). figure g.0 ∷ us)
-    (after_word_is (codes "max") two.0.1 three.0 three.1 ∙ ap (λ (us : List Token). word (codes "max") ∷ us) last)) in
-    subst (IsItem decimals (word (codes "supplement") ∷ ts)) end.1
-    (f.0, g.0, h.0, ap (λ (us : List Token). word (codes "supplement") ∷ us) all, f.2, g.2, h.2)
+    let most = part.number 1 99 four.0.0 ∷ [] in
+    let max = part.name (codes "max") ∷ most in
+    subst (IsItem decimals (word (codes "supplement") ∷ ts)) end.1 (
+      ts,
+      refl,
+      counted_is decimals 1 16 ts one.0 (part.money two.0.0 ∷ max) one.1
+          (money_is decimals one.0.1 two.0 max two.1 (name_is decimals (codes "max") two.0.1 three.0 most three.1
+          (counted_is decimals 1 99 three.0 four.0 [] four.1 end.0))),
+    )
 
 initial_is : (decimals : ℕ) (ts : List Token) (x : Entry) → initial_read decimals ts ≡ Some x
     → IsItem decimals (word (codes "initial") ∷ ts) x
@@ -252,17 +338,11 @@ initial_is decimals ts x e =
     let one = bind_some (amount_first decimals ts) _ x e in
     let two = bind_some (covers_first decimals one.0.1) _ x one.2 in
     let three = bind_some (when_read two.0.1) _ x two.2 in
-    let f = amounts_are decimals ts one.0 one.1 in
-    let g = covers_is decimals one.0.1 two.0 two.1 in
-    let all = f.1 ∙ ap (λ (us : List Token). figure f.0 ∷ us) g.1 in
     subst (IsItem decimals (word (codes "initial") ∷ ts)) (some_same (initial one.0.0 two.0.0 three.0) x three.2) (
-      f.0,
-      g.0,
-      two.0.1,
-      ap (λ (us : List Token). word (codes "initial") ∷ us) all,
-      f.2,
-      g.2,
-      when_is two.0.1 three.0 three.1,
+      ts,
+      refl,
+      money_is decimals ts one.0 (part.covers two.0.0 ∷ part.condition three.0 ∷ []) one.1
+          (covered_is decimals one.0.1 two.0 (part.condition three.0 ∷ []) two.1 (end_is decimals two.0.1 three.0 three.1)),
     )
 
 rate_is : (decimals : ℕ) (ts : List Token) (x : Entry) → rate_read decimals ts ≡ Some x
@@ -273,19 +353,15 @@ rate_is decimals ts x e =
     let two = bind_some (after_sign (codes ",") one.0.1) _ x one.2 in
     let three = bind_some (per_first decimals (codes "s") two.0) _ x two.2 in
     let four = bind_some (when_read three.0.1) _ x three.2 in
-    let f = per_is decimals (codes "m") ts one.0 one.1 in
-    let g = per_is decimals (codes "s") two.0 three.0 three.1 in
-    let all = f.1 ∙ ap (λ (us : List Token). f.0 ++ us)
-    (after_sign_is (codes ",") one.0.1 two.0 two.1 ∙ ap (λ (us : List Token). sign (codes ",") ∷ us) g.1) in
+    let end = part.condition four.0 ∷ [] in
+    let time = per_parts (codes "s") three.0.0.0 three.0.0.1 end in
     subst (IsItem decimals (word (codes "rate") ∷ ts))
     (some_same (rate one.0.0.0 one.0.0.1 three.0.0.0 three.0.0.1 four.0) x four.2) (
-      f.0,
-      g.0,
-      three.0.1,
-      ap (λ (us : List Token). word (codes "rate") ∷ us) all,
-      f.2,
-      g.2,
-      when_is three.0.1 four.0 four.1,
+      ts,
+      refl,
+      per_is decimals (codes "m") ts one.0 (part.comma ∷ time) one.1
+          (comma_is decimals one.0.1 two.0 time two.1 (per_is decimals (codes "s") two.0 three.0 end three.1
+          (end_is decimals three.0.1 four.0 four.1))),
     )
 
 minimum_is : (decimals : ℕ) (ts : List Token) (x : Entry) → minimum_read decimals ts ≡ Some x
@@ -294,9 +370,8 @@ unfolding minimum_read
 minimum_is decimals ts x e =
     let one = bind_some (amount_first decimals ts) _ x e in
     let two = bind_some (when_read one.0.1) _ x one.2 in
-    let f = amounts_are decimals ts one.0 one.1 in
     subst (IsItem decimals (word (codes "minimum") ∷ ts)) (some_same (minimum one.0.0 two.0) x two.2)
-    (f.0, one.0.1, ap (λ (us : List Token). word (codes "minimum") ∷ us) f.1, f.2, when_is one.0.1 two.0 two.1)
+    (ts, refl, money_is decimals ts one.0 (part.condition two.0 ∷ []) one.1 (end_is decimals one.0.1 two.0 two.1))
 
 plain_is : (decimals : ℕ) (name : List ℕ) (ts : List Token) (x : Entry) → plain_named decimals name ts ≡ Some x
     → IsItem decimals (word name ∷ ts) x
@@ -332,51 +407,40 @@ item_is decimals ts x e =
 pub item_again : (decimals : ℕ) (ts : List Token) (x : Entry) → IsItem decimals ts x → item_read decimals ts ≡ Some x
 unfolding item_read item_named plain_named step_read supplement_read initial_read rate_read minimum_read
 item_again decimals ts (step amount rounding) h =
-    rw (
-      h.2,
-      word_first_here (codes "step") (figure h.0 ∷ h.1),
-      amount_here decimals h.0 amount h.1 h.3,
-      rounding_here h.1 rounding h.4,
-    ) refl
+    let one = money_again decimals amount h.0 (part.rounding rounding ∷ []) h.2 in
+    let two = rounding_here one.0 rounding (alone decimals one.0 (part.rounding rounding) one.2) in
+    rw (h.1, word_first_here (codes "step") h.0, one.1, two) refl
 item_again decimals ts (positions n) h =
-    rw (h.1, word_first_here (codes "positions") (figure h.0 ∷ []), count_again h.0 n h.2) refl
+    rw (h.1, word_first_here (codes "positions") h.0, count_again decimals n h.0 h.2) refl
 item_again decimals ts (zones n) h =
-    rw (h.1, word_first_here (codes "zones") (figure h.0 ∷ []), count_again h.0 n h.2) refl
+    rw (h.1, word_first_here (codes "zones") h.0, count_again decimals n h.0 h.2) refl
 item_again decimals ts (holiday year month date) h =
-    rw (h.1, word_first_here (codes "holiday") (figure h.0 ∷ []), holiday_again h.0 year month date h.2) refl
+    rw (h.1, word_first_here (codes "holiday") h.0, holiday_again decimals year month date h.0 h.2) refl
 item_again decimals ts (supplement number amount most) h =
-    rw (
-      h.3,
-      word_first_here (codes "supplement") (figure h.0 ∷ figure h.1 ∷ word (codes "max") ∷ figure h.2 ∷ []),
-      number_here 1 16 h.0 number (figure h.1 ∷ word (codes "max") ∷ figure h.2 ∷ []) h.4,
-      amount_here decimals h.1 amount (word (codes "max") ∷ figure h.2 ∷ []) h.5,
-      after_word_here (codes "max") (figure h.2 ∷ []),
-      number_here 1 99 h.2 most [] h.6,
-    ) refl
+    let last = part.number 1 99 most ∷ [] in
+    let max = part.name (codes "max") ∷ last in
+    let one = counted_again decimals 1 16 number h.0 (part.money amount ∷ max) h.2 in
+    let two = money_again decimals amount one.0 max one.2 in
+    let three = name_again decimals (codes "max") two.0 last two.2 in
+    let four = counted_again decimals 1 99 most three.0 [] three.2 in
+    rw (h.1, word_first_here (codes "supplement") h.0, one.1, two.1, three.1, four.1, four.2) refl
 item_again decimals ts (initial amount covers when) h =
-    rw (
-      h.3,
-      word_first_here (codes "initial") (figure h.0 ∷ (h.1 ++ h.2)),
-      amount_here decimals h.0 amount (h.1 ++ h.2) h.4,
-      covers_here decimals h.1 h.2 covers when h.5 h.6,
-      when_again h.2 when h.6,
-    ) refl
+    let one = money_again decimals amount h.0 (part.covers covers ∷ part.condition when ∷ []) h.2 in
+    let two = covered_again decimals covers when one.0 one.2 in
+    let three = end_again decimals when two.0 two.2 in
+    rw (h.1, word_first_here (codes "initial") h.0, one.1, two.1, three) refl
 item_again decimals ts (rate a b c e when) h =
-    rw (
-      h.3,
-      word_first_here (codes "rate") (h.0 ++ sign (codes ",") ∷ (h.1 ++ h.2)),
-      per_here decimals (codes "m") h.0 (sign (codes ",") ∷ (h.1 ++ h.2)) a b h.4,
-      after_sign_here (codes ",") (h.1 ++ h.2),
-      per_here decimals (codes "s") h.1 h.2 c e h.5,
-      when_again h.2 when h.6,
-    ) refl
+    let end = part.condition when ∷ [] in
+    let time = per_parts (codes "s") c e end in
+    let one = per_again decimals (codes "m") a b h.0 (part.comma ∷ time) h.2 in
+    let two = comma_again decimals one.0 time one.2 in
+    let three = per_again decimals (codes "s") c e two.0 end two.2 in
+    let four = end_again decimals when three.0 three.2 in
+    rw (h.1, word_first_here (codes "rate") h.0, one.1, two.1, three.1, four) refl
 item_again decimals ts (minimum amount when) h =
-    rw (
-      h.2,
-      word_first_here (codes "minimum") (figure h.0 ∷ h.1),
-      amount_here decimals h.0 amount h.1 h.3,
-      when_again h.1 when h.4,
-    ) refl
+    let one = money_again decimals amount h.0 (part.condition when ∷ []) h.2 in
+    let two = end_again decimals when one.0 one.2 in
+    rw (h.1, word_first_here (codes "minimum") h.0, one.1, two) refl
 
 -- the law of lines
 pub items_are_read_by_their_forms : (decimals : ℕ) (ts : List Token) (x : Entry) → (item_read decimals ts ≡ Some x)

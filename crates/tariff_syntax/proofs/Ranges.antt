@@ -8,14 +8,16 @@ use Rattle.tariff_syntax.specs.Condition.{after_time}
 use Rattle.tariff_syntax.specs.Forms.{IsAtom, IsMinute, AreWeekdays}
 use Rattle.tariff_syntax.specs.IsCondition.{IsCondition, atom, negation, parentheses, one_factor, conjunction, one_term}
 use Rattle.tariff_syntax.specs.IsCondition.{disjunction}
-use Rattle.tariff_syntax.specs.IsItem.{IsItem, IsCovers, IsWhen}
+use Rattle.tariff_syntax.specs.IsItem.{AreParts, IsCovers, IsPart, IsWhen}
+use Rattle.tariff_syntax.specs.Part as part
+use Rattle.tariff_syntax.specs.Part.{Part}
 use Rattle.tariff_syntax.specs.PrintedCondition.{Level, whole, term, factor}
 use Rattle.tariff_syntax.specs.Reads.{AreTextsOfLines, AreTextsOfTariff, Reads}
 use Rattle.tariff_syntax.specs.TextLines.{lines_of}
 use Rattle.tariff_syntax.specs.Token.{Token}
-use Rattle.tariff_syntax.specs.Tree as entries
-use Rattle.tariff_syntax.specs.Tree.{Tree, Line, Entry}
-use Rattle.tariff_syntax.specs.Writable.{IsFromTo, IsWritableCondition, IsWritableIf, IsWritableEntry, IsWritable}
+use Rattle.tariff_syntax.specs.Tree.{Tree, Line, parts_of}
+use Rattle.tariff_syntax.specs.Writable.{IsFromTo, IsWritableCondition, IsWritableIf, IsWritablePart, IsWritableEntry}
+use Rattle.tariff_syntax.specs.Writable.{IsWritable}
 use Rattle.tariff_syntax.proofs.ShownFigures.{amount_small, digits_small}
 
 two_digits : (text : List ℕ) (n : ℕ) → AreDigitsOf 2 2 text n → n ≤ 99
@@ -62,29 +64,24 @@ when_small : (ts : List Token) (when : Option Condition) → IsWhen ts when → 
 when_small ts None h = tt
 when_small ts (Some c) h = condition_small whole h.0 c h.2
 
-covers_small : (decimals : ℕ) (ts : List Token) (n : ℕ) → IsCovers decimals ts n → n ≤ 10 ^ 12
+pub covers_small : (decimals : ℕ) (ts : List Token) (n : ℕ) → IsCovers decimals ts n → n ≤ 10 ^ 12
 covers_small decimals ts n (inl h) = omega (arith, h.1)
 covers_small decimals ts n (inr h) = amount_small decimals h.0 n h.2
 
-entry_small : (decimals : ℕ) (ts : List Token) (x : Entry) → IsItem decimals ts x → IsWritableEntry x
-entry_small decimals ts (entries.step amount rounding) h = amount_small decimals h.0 amount h.3
-entry_small decimals ts (entries.positions n) h = (h.2.above, h.2.below)
-entry_small decimals ts (entries.zones n) h = (h.2.above, h.2.below)
-entry_small decimals ts (entries.holiday year month number) h =
+part_small : (decimals : ℕ) (ts : List Token) (p : Part) → IsPart decimals ts p → IsWritablePart p
+part_small decimals ts (part.money n) h = amount_small decimals h.0 n h.2
+part_small decimals ts (part.measure n) h = amount_small 1 h.0 n h.2
+part_small decimals ts (part.number least most n) h = (h.2.above, h.2.below)
+part_small decimals ts (part.year_date year month number) h =
     (four_digits h.2.0 year h.2.3, two_digits h.2.4.0 month h.2.4.3, two_digits h.2.4.1 number h.2.4.4)
-entry_small decimals ts (entries.supplement number amount most) h =
-    ((h.4.above, h.4.below), amount_small decimals h.1 amount h.5, (h.6.above, h.6.below))
-entry_small decimals ts (entries.initial amount covers when) h =
-    (amount_small decimals h.0 amount h.4, covers_small decimals h.1 covers h.5, when_small h.2 when h.6)
-entry_small decimals ts (entries.rate a b c e when) h = (
-  amount_small decimals h.4.0 a h.4.3,
-  amount_small 1 h.4.1 b h.4.4,
-  amount_small decimals h.5.0 c h.5.3,
-  amount_small 1 h.5.1 e h.5.4,
-  when_small h.2 when h.6,
-)
-entry_small decimals ts (entries.minimum amount when) h =
-    (amount_small decimals h.0 amount h.3, when_small h.1 when h.4)
+part_small decimals ts (part.covers n) h = covers_small decimals ts n h
+part_small decimals ts (part.condition when) h = when_small ts when h
+part_small decimals ts p h = tt
+
+parts_small : (decimals : ℕ) (ts : List Token) (ps : List Part) → AreParts decimals ts ps → All IsWritablePart ps
+parts_small decimals ts [] h = All-nil IsWritablePart
+parts_small decimals ts (p ∷ ps) h =
+    All-cons IsWritablePart p ps (part_small decimals h.0 p h.3) (parts_small decimals h.1 ps h.4)
 
 abbrev Small : Line → Type 0
 Small l = IsWritableEntry l.entry
@@ -95,7 +92,8 @@ lines_small decimals number [] lines h = subst (All Small) (sym h) (All-nil Smal
 lines_small decimals number (text ∷ texts) lines (inl h) = lines_small decimals (number + 1) texts lines h.1
 lines_small decimals number (text ∷ texts) lines (inr h) =
     subst (All Small) (sym h.2)
-    (All-cons Small _ h.1 (entry_small decimals h.3.0 h.0 h.3.2) (lines_small decimals (number + 1) texts h.1 h.4))
+    (All-cons Small _ h.1 (parts_small decimals h.3.2.0 (parts_of h.0) h.3.2.2)
+    (lines_small decimals (number + 1) texts h.1 h.4))
 
 tariff_small : (number : ℕ) (texts : List (List ℕ)) (t : Tree) → AreTextsOfTariff number texts t → IsWritable t
 tariff_small number [] t h =

@@ -132,7 +132,7 @@ AtomShown c = (used : List Token) × IsAtom used c × (weight used ≤ 1) × Sho
 pub position_shown : (f : List ℕ) (n : ℕ) → IsNumber 1 9 f n → AtomShown (position n)
 position_shown f n h = (
   word (codes "position") ∷ figure (decimal n) ∷ [],
-  (decimal n, refl, number_again 1 9 f n (omega arith) h),
+  (decimal n, refl, number_again 1 9 f n h),
   omega arith,
   λ more ts texts ready. shown_word (codes "position") (32 ∷ (decimal n ++ more)) (figure (decimal n) ∷ ts) texts refl
       (blank (decimal n ++ more) (figure (decimal n) ∷ ts) texts
@@ -142,7 +142,7 @@ position_shown f n h = (
 pub zone_shown : (f : List ℕ) (n : ℕ) → IsNumber 1 9 f n → AtomShown (zone n)
 zone_shown f n h = (
   word (codes "zone") ∷ figure (decimal n) ∷ [],
-  (decimal n, refl, number_again 1 9 f n (omega arith) h),
+  (decimal n, refl, number_again 1 9 f n h),
   omega arith,
   λ more ts texts ready. shown_word (codes "zone") (32 ∷ (decimal n ++ more)) (figure (decimal n) ∷ ts) texts refl
       (blank (decimal n ++ more) (figure (decimal n) ∷ ts) texts

@@ -97,9 +97,22 @@ pub number_says : (least most n : ℕ) → most ≤ 99 → least ≤ n → n ≤
 number_says least most n few low high =
     numbers_are_written_as_figures 2 least most n (omega arith) (omega arith) (omega arith) low high
 
-pub number_again : (least most : ℕ) (f : List ℕ) (n : ℕ) → most ≤ 99 → IsNumber least most f n
-    → IsNumber least most (decimal n) n
-number_again least most f n few h = number_says least most n few h.above h.below
+of_two_digits : (x : List ℕ) (n : ℕ) → AreDigitsOf 1 2 x n → n ≤ 99
+of_two_digits [] n h = absurd (omega (arith, h.some))
+of_two_digits (a ∷ []) n h =
+    let small : digits_value 10 (a ∷ []) < 10 = digits_value-lt 10 (a ∷ []) h.numeral.1 in omega (arith, h.value)
+of_two_digits (a ∷ b ∷ []) n h =
+    let small : digits_value 10 (a ∷ b ∷ []) < 100 = digits_value-lt 10 (a ∷ b ∷ []) h.numeral.1 in
+    omega (arith, h.value)
+of_two_digits (a ∷ b ∷ c ∷ x) n h = absurd (omega (arith, h.few))
+
+pub number_small : (least most : ℕ) (f : List ℕ) (n : ℕ) → IsNumber least most f n → n ≤ 99
+number_small least most f n h = of_two_digits f n h.written
+
+pub number_again : (least most : ℕ) (f : List ℕ) (n : ℕ) → IsNumber least most f n → IsNumber least most (decimal n) n
+number_again least most f n h =
+    let says = number_says n n n (number_small least most f n h) (omega arith) (omega arith) in
+    record { written = says.written; above = h.above; below = h.below }
 
 digits_again : (width n : ℕ) → 0 < width → n < 10 ^ width → width ≤ 12 → AreDigitsOf width width (padded_text width n) n
 digits_again width n some small narrow =

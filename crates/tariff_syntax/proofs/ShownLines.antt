@@ -1,110 +1,47 @@
 -- The printed form of a tariff reads as that tariff.
-use Rattle.std.proofs.Common.{◌≡◌, inl, inr, ℕ, ◌+◌, ◌^◌, ◌≤◌, true, List, [], ◌∷◌, ◌++◌, Option, Some, None, refl, ap}
-use Rattle.std.proofs.Common.{sym, ◌∙◌, subst, arith, codes, append_assoc}
-use Rattle.std.proofs.lemmas.List.{append-nil}
+use Rattle.std.proofs.Common.{◌≡◌, inl, inr, ℕ, ◌+◌, ◌<◌, ◌≤◌, true, List, [], ◌∷◌, ◌++◌, length, Option, Some, None}
+use Rattle.std.proofs.Common.{refl, ap, sym, ◌∙◌, subst, arith, codes, append_assoc}
 use Rattle.std.specs.Prelude.{⊤}
 use Rattle.std.specs.Fmt.{decimal}
 use Rattle.drive_modes.specs.declared.meterage.Rounding.{Rounding}
 use Rattle.drive_modes.specs.declared.meterage.Rounding.TheVariants.{Behind, Ahead}
 use Rattle.taxi_units.specs.Number.{money_text, padded_text}
 use Rattle.tariff_syntax.specs.Condition.{Condition}
-use Rattle.tariff_syntax.specs.Forms.{IsNumber, IsYearDate}
 use Rattle.tariff_syntax.specs.Weight.{weight}
-use Rattle.tariff_syntax.specs.IsItem.{IsCovers, IsWhen, IsItem, IsDecimals}
+use Rattle.tariff_syntax.specs.IsItem.{IsWhen, IsPart, AreParts, IsItem, IsDecimals}
+use Rattle.tariff_syntax.specs.Part as part
+use Rattle.tariff_syntax.specs.Part.{Part}
 use Rattle.tariff_syntax.specs.TextLines.{lines_of}
-use Rattle.tariff_syntax.specs.Printed.{rounding_word, number_line, step_line, holiday_line, supplement_line, when_text}
-use Rattle.tariff_syntax.specs.Printed.{initial_line, per_text, rate_line, minimum_line, entry_line, lines_text}
-use Rattle.tariff_syntax.specs.Printed.{printed}
+use Rattle.tariff_syntax.specs.Printed.{rounding_word, number_line, when_text, part_text, parts_text, entry_line}
+use Rattle.tariff_syntax.specs.Printed.{lines_text, printed}
 use Rattle.tariff_syntax.specs.PrintedCondition.{whole, condition_at, condition_text}
 use Rattle.tariff_syntax.specs.Reads.{AreTextsOfLines, AreTextsOfTariff, Reads}
 use Rattle.tariff_syntax.specs.Renumbered.{renumbered_from, renumbered}
-use Rattle.tariff_syntax.specs.Token.{Token, word, figure, sign}
-use Rattle.tariff_syntax.specs.Tree.{Tree, Line, Entry, step, positions, zones, holiday, supplement, initial, rate}
-use Rattle.tariff_syntax.specs.Tree.{minimum}
+use Rattle.tariff_syntax.specs.Spelled.{IsRun, IsSpelled, IsToken}
+use Rattle.tariff_syntax.specs.Token.{Token, word, figure, sign, is_letter}
+use Rattle.tariff_syntax.specs.Tree.{Tree, Line, Entry, parts_of, word_of}
 use Rattle.tariff_syntax.proofs.ConditionAgain.{size_is}
+use Rattle.tariff_syntax.proofs.Ranges.{covers_small}
 use Rattle.tariff_syntax.proofs.ShownConditions.{fits}
 use Rattle.tariff_syntax.proofs.ShownFigures.{decimal_text, money_is_text, amount_small, amount_again, number_again}
-use Rattle.tariff_syntax.proofs.ShownFigures.{number_says, pair_figure, year_figure, year_shown}
+use Rattle.tariff_syntax.proofs.ShownFigures.{number_says, number_small, pair_figure, year_figure, year_shown}
 use Rattle.tariff_syntax.proofs.ShownGrammar.{shown}
-use Rattle.tariff_syntax.proofs.Shows.{Shows, Ready, line_feed, blank, shown_word, letters_test, figure_shows, comma}
+use Rattle.tariff_syntax.proofs.Shows.{AllLetters, IsFigureText, Shows, Ready, line_feed, blank, word_shows, shown_word}
+use Rattle.tariff_syntax.proofs.Shows.{letters_test, figure_shows, comma}
 
--- a word and a blank
-spaced : (w more : List ℕ) (ts : List Token) (texts : List (List ℕ)) → letters_test w ≡ true → Shows more ts texts
-    → Shows (w ++ 32 ∷ more) (word w ∷ ts) texts
-spaced w more ts texts letters h = shown_word w (32 ∷ more) ts texts letters (blank more ts texts h)
+-- a word and a blank before it
+worded : (w more : List ℕ) (ts : List Token) (texts : List (List ℕ)) → letters_test w ≡ true → Ready more ts texts
+    → Ready (32 ∷ (w ++ more)) (word w ∷ ts) texts
+worded w more ts texts letters r = blank (w ++ more) (word w ∷ ts) texts (shown_word w more ts texts letters r)
 
--- a number
-number_shows : (n : ℕ) (more : List ℕ) (ts : List Token) (texts : List (List ℕ)) → n ≤ 10 ^ 12 → Ready more ts texts
-    → Shows (decimal n ++ more) (figure (decimal n) ∷ ts) texts
-number_shows n more ts texts small ready = figure_shows (decimal n) more ts texts (decimal_text n small) ready
-
--- an amount
-money_shows : (d n : ℕ) (more : List ℕ) (ts : List Token) (texts : List (List ℕ)) → n ≤ 10 ^ 12 → Ready more ts texts
-    → Shows (money_text d n ++ more) (figure (money_text d n) ∷ ts) texts
-money_shows d n more ts texts small ready = figure_shows (money_text d n) more ts texts (money_is_text d n small) ready
+-- a figure and a blank before it
+figured : (f more : List ℕ) (ts : List Token) (texts : List (List ℕ)) → IsFigureText f → Ready more ts texts
+    → Ready (32 ∷ (f ++ more)) (figure f ∷ ts) texts
+figured f more ts texts is r = blank (f ++ more) (figure f ∷ ts) texts (figure_shows f more ts texts is r)
 
 rounding_letters : (r : Rounding) → letters_test (rounding_word r) ≡ true
 rounding_letters Behind = refl
 rounding_letters Ahead = refl
-
--- a line of an entry is shown
-abbrev LineShown : (d : ℕ) → Entry → List ℕ → Type 0
-LineShown d e rest = (ts : List Token) × IsItem d ts e × Shows (entry_line d e rest) ts (lines_of rest)
-
--- the end of a line is shown
-abbrev EndShown : Option Condition → List ℕ → Type 0
-EndShown when rest = (ts : List Token) × IsWhen ts when × Ready (when_text when rest) ts (lines_of rest)
-
-when_shown : (when : Option Condition) (ws : List Token) (rest : List ℕ) → IsWhen ws when → EndShown when rest
-unfolding condition_text
-when_shown None ws rest h = ([], refl, line_feed rest)
-when_shown (Some c) ws rest h =
-    let is = shown whole c (weight h.0) (fits whole h.0 c h.2) in
-    let texts = lines_of rest in
-    let behind = condition_at whole c (codes "\n" ++ rest) in
-    let last = subst (λ (us : List Token). Shows behind us texts) (append-nil is.used)
-    (is.show (codes "\n" ++ rest) [] texts (line_feed rest)) in (
-      word (codes "when") ∷ is.used,
-      (is.used, refl, is.is, omega (arith, size_is whole is.used c is.is, is.few, size_is whole h.0 c h.2, h.3)),
-      blank (codes "when " ++ behind) (word (codes "when") ∷ is.used) texts
-          (spaced (codes "when") behind is.used texts refl last),
-    )
-
-step_shown : (d amount : ℕ) (r : Rounding) (ts : List Token) (rest : List ℕ) → IsItem d ts (step amount r)
-    → LineShown d (step amount r) rest
-unfolding step_line
-step_shown d amount r ts rest h =
-    let texts = lines_of rest in
-    let small = amount_small d h.0 amount h.3 in
-    let x = money_text d amount in
-    let w = rounding_word r in
-    let last = shown_word w (codes "\n" ++ rest) [] texts (rounding_letters r) (line_feed rest) in
-    let first = money_shows d amount (32 ∷ (w ++ (codes "\n" ++ rest))) (word w ∷ []) texts small
-    (blank (w ++ (codes "\n" ++ rest)) (word w ∷ []) texts last) in (
-      word (codes "step") ∷ figure x ∷ word w ∷ [],
-      (x, word w ∷ [], refl, amount_again d amount small, inr refl),
-      spaced (codes "step") (x ++ (32 ∷ (w ++ (codes "\n" ++ rest)))) (figure x ∷ word w ∷ []) texts refl first,
-    )
-
-positions_shown : (d n : ℕ) (f : List ℕ) (rest : List ℕ) → IsNumber 1 9 f n → LineShown d (positions n) rest
-unfolding number_line
-positions_shown d n f rest h =
-    let x = decimal n in (
-      word (codes "positions") ∷ figure x ∷ [],
-      (x, refl, number_again 1 9 f n (omega arith) h),
-      spaced (codes "positions") (x ++ (codes "\n" ++ rest)) (figure x ∷ []) (lines_of rest) refl
-          (number_shows n (codes "\n" ++ rest) [] (lines_of rest) (omega (arith, h.below)) (line_feed rest)),
-    )
-
-zones_shown : (d n : ℕ) (f : List ℕ) (rest : List ℕ) → IsNumber 1 9 f n → LineShown d (zones n) rest
-unfolding number_line
-zones_shown d n f rest h =
-    let x = decimal n in (
-      word (codes "zones") ∷ figure x ∷ [],
-      (x, refl, number_again 1 9 f n (omega arith) h),
-      spaced (codes "zones") (x ++ (codes "\n" ++ rest)) (figure x ∷ []) (lines_of rest) refl
-          (number_shows n (codes "\n" ++ rest) [] (lines_of rest) (omega (arith, h.below)) (line_feed rest)),
-    )
 
 year_regroup : (y m n : ℕ) (rest : List ℕ)
     → year_figure y m n ++ rest ≡ padded_text 4 y ++ (45 ∷ (padded_text 2 m ++ (45 ∷ (padded_text 2 n ++ rest))))
@@ -112,167 +49,141 @@ year_regroup y m n rest =
     append_assoc (padded_text 4 y) (45 ∷ pair_figure 45 m n) rest
     ∙ ap (λ (xs : List ℕ). padded_text 4 y ++ 45 ∷ xs) (append_assoc (padded_text 2 m) (45 ∷ padded_text 2 n) rest)
 
-holiday_shown : (d y m n : ℕ) (f : List ℕ) (rest : List ℕ) → IsYearDate f y m n → LineShown d (holiday y m n) rest
-unfolding holiday_line
-holiday_shown d y m n f rest h =
-    let texts = lines_of rest in
-    let x = year_figure y m n in
-    let is = year_shown f y m n h in
-    let first = subst (λ (xs : List ℕ). Shows xs (figure x ∷ []) texts) (year_regroup y m n (codes "\n" ++ rest))
-    (figure_shows x (codes "\n" ++ rest) [] texts is.0 (line_feed rest)) in (
-      word (codes "holiday") ∷ figure x ∷ [],
+-- a word has letters, and each of its bytes is one
+abbrev HasLetters : Token → Type 0
+HasLetters (word w) = (0 < length w) × AllLetters w
+HasLetters t = ⊤
+
+abbrev AllHaveLetters : List Token → Type 0
+AllHaveLetters [] = ⊤
+AllHaveLetters (t ∷ ts) = HasLetters t × AllHaveLetters ts
+
+letters_of_run : (w rest : List ℕ) → IsRun is_letter w rest → AllLetters w
+letters_of_run [] rest h = tt
+letters_of_run (c ∷ w) rest h = (h.0, letters_of_run w rest h.1)
+
+letters_of : (t : Token) (rest : List ℕ) → IsToken t rest → HasLetters t
+letters_of (word w) rest h = (h.0, letters_of_run w rest h.1)
+letters_of t rest h = tt
+
+-- so it is with the words of a line
+letters_of_line : (text : List ℕ) (ts : List Token) → IsSpelled text ts → AllHaveLetters ts
+letters_of_line text [] h = tt
+letters_of_line text (t ∷ ts) h = (letters_of t h.1 h.4, letters_of_line h.1 ts h.5)
+
+letters_apart : (xs ys : List Token) → AllHaveLetters (xs ++ ys) → AllHaveLetters xs × AllHaveLetters ys
+letters_apart [] ys h = (tt, h)
+letters_apart (t ∷ xs) ys h = let more = letters_apart xs ys h.1 in ((h.0, more.0), more.1)
+
+word_shown : (w more : List ℕ) (ts : List Token) (texts : List (List ℕ)) → HasLetters (word w) → Ready more ts texts
+    → Shows (w ++ more) (word w ∷ ts) texts
+word_shown [] more ts texts h r = absurd (omega (arith, h.0))
+word_shown (c ∷ w) more ts texts h r = word_shows c w more ts texts h.1 r
+
+-- a part is shown in front of what follows it
+abbrev PartShown : (d : ℕ) → Part → Type 0
+PartShown d p = (us : List Token) × IsPart d us p × ((more : List ℕ) (ts : List Token) (texts : List (List ℕ))
+    → Ready more ts texts → Ready (part_text d p more) (us ++ ts) texts)
+
+when_shown : (d : ℕ) (when : Option Condition) (ws : List Token) → IsWhen ws when → PartShown d (part.condition when)
+unfolding condition_text
+when_shown d None ws h = ([], refl, λ more ts texts r. r)
+when_shown d (Some c) ws h =
+    let is = shown whole c (weight h.0) (fits whole h.0 c h.2) in (
+      word (codes "when") ∷ is.used,
+      (is.used, refl, is.is, omega (arith, size_is whole is.used c is.is, is.few, size_is whole h.0 c h.2, h.3)),
+      λ more ts texts r. worded (codes "when") (32 ∷ condition_at whole c more) (is.used ++ ts) texts refl
+          (blank (condition_at whole c more) (is.used ++ ts) texts (is.show more ts texts r)),
+    )
+
+part_shown : (d : ℕ) (p : Part) (xs : List Token) → AllHaveLetters xs → IsPart d xs p → PartShown d p
+part_shown d (part.name w) xs letters h =
+    let has = subst AllHaveLetters h letters in
+    (word w ∷ [], refl, λ more ts texts r. blank (w ++ more) (word w ∷ ts) texts (word_shown w more ts texts has.0 r))
+part_shown d part.comma xs letters h =
+    (sign (codes ",") ∷ [], refl, λ more ts texts r. comma more ts texts r.shows)
+part_shown d (part.money n) xs letters h =
+    let small = amount_small d h.0 n h.2 in
+    let x = money_text d n in (
+      figure x ∷ [],
+      (x, refl, amount_again d n small),
+      λ more ts texts r. figured x more ts texts (money_is_text d n small) r,
+    )
+part_shown d (part.measure n) xs letters h =
+    let small = amount_small 1 h.0 n h.2 in
+    let x = money_text 1 n in (
+      figure x ∷ [],
+      (x, refl, amount_again 1 n small),
+      λ more ts texts r. figured x more ts texts (money_is_text 1 n small) r,
+    )
+part_shown d (part.number least most n) xs letters h =
+    let few = number_small least most h.0 n h.2 in
+    let x = decimal n in (
+      figure x ∷ [],
+      (x, refl, number_again least most h.0 n h.2),
+      λ more ts texts r. figured x more ts texts (decimal_text n (omega (arith, few))) r,
+    )
+part_shown d (part.year_date y m n) xs letters h =
+    let is = year_shown h.0 y m n h.2 in
+    let x = year_figure y m n in (
+      figure x ∷ [],
       (x, refl, is.1),
-      spaced (codes "holiday")
-          (padded_text 4 y ++ (45 ∷ (padded_text 2 m ++ (45 ∷ (padded_text 2 n ++ (codes "\n" ++ rest))))))
-          (figure x ∷ []) texts refl first,
+      λ more ts texts r. subst (λ (text : List ℕ). Ready (32 ∷ text) (figure x ∷ ts) texts)
+          (year_regroup y m n more) (figured x more ts texts is.0 r),
+    )
+part_shown d (part.rounding r) xs letters h =
+    let w = rounding_word r in
+    (word w ∷ [], inr refl, λ more ts texts ready. worded w more ts texts (rounding_letters r) ready)
+part_shown d (part.covers n) xs letters h =
+    let small = covers_small d xs n h in
+    let x = money_text d n in (
+      word (codes "covers") ∷ figure x ∷ [],
+      inr (x, refl, amount_again d n small),
+      λ more ts texts r. worded (codes "covers") (32 ∷ (x ++ more)) (figure x ∷ ts) texts refl
+          (figured x more ts texts (money_is_text d n small) r),
+    )
+part_shown d (part.condition when) xs letters h = when_shown d when xs h
+
+-- the parts of a line are shown, up to its LF
+parts_shown : (d : ℕ) (ps : List Part) (ts : List Token) (rest : List ℕ) → AllHaveLetters ts → AreParts d ts ps
+    → (us : List Token) × AreParts d us ps × Ready (parts_text d ps (codes "\n" ++ rest)) us (lines_of rest)
+parts_shown d [] ts rest letters h = ([], refl, line_feed rest)
+parts_shown d (p ∷ ps) ts rest letters h =
+    let apart = letters_apart h.0 h.1 (subst AllHaveLetters h.2 letters) in
+    let first = part_shown d p h.0 apart.0 h.3 in
+    let more = parts_shown d ps h.1 rest apart.1 h.4 in (
+      first.0 ++ more.0,
+      (first.0, more.0, refl, first.1, more.1),
+      first.2 (parts_text d ps (codes "\n" ++ rest)) more.0 (lines_of rest) more.2,
     )
 
-supplement_shown : (d number amount most : ℕ) (ts : List Token) (rest : List ℕ)
-    → IsItem d ts (supplement number amount most) → LineShown d (supplement number amount most) rest
-unfolding supplement_line
-supplement_shown d number amount most ts rest h =
-    let texts = lines_of rest in
-    let small = amount_small d h.1 amount h.5 in
-    let x = decimal number in
-    let y = money_text d amount in
-    let z = decimal most in
-    let end = z ++ (codes "\n" ++ rest) in
-    let last = number_shows most (codes "\n" ++ rest) [] texts (omega (arith, h.6.below)) (line_feed rest) in
-    let max = spaced (codes "max") end (figure z ∷ []) texts refl last in
-    let money = money_shows d amount (32 ∷ (codes "max " ++ end)) (word (codes "max") ∷ figure z ∷ []) texts small
-    (blank (codes "max " ++ end) (word (codes "max") ∷ figure z ∷ []) texts max) in
-    let amounts = y ++ (codes " max " ++ end) in
-    let first = number_shows number (32 ∷ amounts) (figure y ∷ word (codes "max") ∷ figure z ∷ []) texts
-    (omega (arith, h.4.below)) (blank amounts (figure y ∷ word (codes "max") ∷ figure z ∷ []) texts money) in (
-      word (codes "supplement") ∷ figure x ∷ figure y ∷ word (codes "max") ∷ figure z ∷ [],
-      (
-        x,
-        y,
-        z,
-        refl,
-        number_again 1 16 h.0 number (omega arith) h.4,
-        amount_again d amount small,
-        number_again 1 99 h.2 most (omega arith) h.6,
-      ),
-      spaced (codes "supplement") (x ++ (32 ∷ amounts))
-          (figure x ∷ figure y ∷ word (codes "max") ∷ figure z ∷ []) texts refl first,
+-- a line of an entry is shown
+abbrev LineShown : (d : ℕ) → Entry → List ℕ → Type 0
+LineShown d e rest = (ts : List Token) × IsItem d ts e × Shows (entry_line d e rest) ts (lines_of rest)
+
+line_shown : (d : ℕ) (x : Entry) (ts : List Token) (rest : List ℕ) → AllHaveLetters ts → IsItem d ts x
+    → LineShown d x rest
+unfolding entry_line
+line_shown d x ts rest letters h =
+    let have = subst AllHaveLetters h.1 letters in
+    let more = parts_shown d (parts_of x) h.0 rest have.1 h.2 in (
+      word (word_of x) ∷ more.0,
+      (more.0, refl, more.1),
+      word_shown (word_of x) (parts_text d (parts_of x) (codes "\n" ++ rest)) more.0 (lines_of rest) have.0 more.2,
     )
 
-covers_small : (d : ℕ) (cs : List Token) (n : ℕ) → IsCovers d cs n → n ≤ 10 ^ 12
-covers_small d cs n (inl h) = omega (arith, h.1)
-covers_small d cs n (inr h) = amount_small d h.0 n h.2
-
-initial_shown : (d amount covers : ℕ) (when : Option Condition) (ts : List Token) (rest : List ℕ)
-    → IsItem d ts (initial amount covers when) → LineShown d (initial amount covers when) rest
-unfolding initial_line
-initial_shown d amount covers when ts rest h =
-    let texts = lines_of rest in
-    let small = amount_small d h.0 amount h.4 in
-    let less = covers_small d h.1 covers h.5 in
-    let x = money_text d amount in
-    let y = money_text d covers in
-    let end = when_shown when h.2 rest h.6 in
-    let tail = when_text when rest in
-    let last = money_shows d covers tail end.0 texts less end.2 in
-    let joint = spaced (codes "covers") (y ++ tail) (figure y ∷ end.0) texts refl last in
-    let first = money_shows d amount (32 ∷ (codes "covers " ++ (y ++ tail))) (word (codes "covers") ∷ figure y ∷ end.0)
-    texts small (blank (codes "covers " ++ (y ++ tail)) (word (codes "covers") ∷ figure y ∷ end.0) texts joint) in (
-      word (codes "initial") ∷ figure x ∷ word (codes "covers") ∷ figure y ∷ end.0,
-      (
-        x,
-        word (codes "covers") ∷ figure y ∷ [],
-        end.0,
-        refl,
-        amount_again d amount small,
-        inr (y, refl, amount_again d covers less),
-        end.1,
-      ),
-      spaced (codes "initial") (x ++ (codes " covers " ++ (y ++ tail)))
-          (figure x ∷ word (codes "covers") ∷ figure y ∷ end.0) texts refl first,
-    )
-
-per_shows : (d a b : ℕ) (more : List ℕ) (ts : List Token) (texts : List (List ℕ)) → a ≤ 10 ^ 12 → b ≤ 10 ^ 12
-    → Ready more ts texts
-    → Shows (per_text d a b more) (figure (money_text d a) ∷ word (codes "per") ∷ figure (money_text 1 b) ∷ ts) texts
-unfolding per_text
-per_shows d a b more ts texts first second ready =
-    let y = money_text 1 b in
-    let last = money_shows 1 b more ts texts second ready in
-    let joint = spaced (codes "per") (y ++ more) (figure y ∷ ts) texts refl last in
-    money_shows d a (32 ∷ (codes "per " ++ (y ++ more))) (word (codes "per") ∷ figure y ∷ ts) texts first
-    (blank (codes "per " ++ (y ++ more)) (word (codes "per") ∷ figure y ∷ ts) texts joint)
-
-rate_shown : (d a b c e : ℕ) (when : Option Condition) (ts : List Token) (rest : List ℕ)
-    → IsItem d ts (rate a b c e when) → LineShown d (rate a b c e when) rest
-unfolding rate_line
-rate_shown d a b c e when ts rest h =
-    let texts = lines_of rest in
-    let sa = amount_small d h.4.0 a h.4.3 in
-    let sb = amount_small 1 h.4.1 b h.4.4 in
-    let sc = amount_small d h.5.0 c h.5.3 in
-    let se = amount_small 1 h.5.1 e h.5.4 in
-    let end = when_shown when h.2 rest h.6 in
-    let tail = when_text when rest in
-    let unit = shown_word (codes "s") tail end.0 texts refl end.2 in
-    let ys = figure (money_text d c) ∷ word (codes "per") ∷ figure (money_text 1 e) ∷ word (codes "s") ∷ [] in
-    let second = per_shows d c e (codes " s" ++ tail) (word (codes "s") ∷ end.0) texts sc se
-    (blank (codes "s" ++ tail) (word (codes "s") ∷ end.0) texts unit) in
-    let time = per_text d c e (codes " s" ++ tail) in
-    let joint = comma (32 ∷ time) (ys ++ end.0) texts (blank time (ys ++ end.0) texts second).shows in
-    let metres = shown_word (codes "m") (codes ", " ++ time) (sign (codes ",") ∷ (ys ++ end.0)) texts refl joint in
-    let xs = figure (money_text d a) ∷ word (codes "per") ∷ figure (money_text 1 b) ∷ word (codes "m") ∷ [] in
-    let first = per_shows d a b (codes " m, " ++ time) (word (codes "m") ∷ sign (codes ",") ∷ (ys ++ end.0)) texts sa sb
-    (blank (codes "m, " ++ time) (word (codes "m") ∷ sign (codes ",") ∷ (ys ++ end.0)) texts metres) in (
-      word (codes "rate") ∷ (xs ++ sign (codes ",") ∷ (ys ++ end.0)),
-      (
-        xs,
-        ys,
-        end.0,
-        refl,
-        (money_text d a, money_text 1 b, refl, amount_again d a sa, amount_again 1 b sb),
-        (money_text d c, money_text 1 e, refl, amount_again d c sc, amount_again 1 e se),
-        end.1,
-      ),
-      spaced (codes "rate") (per_text d a b (codes " m, " ++ time))
-          (xs ++ sign (codes ",") ∷ (ys ++ end.0)) texts refl first,
-    )
-
-minimum_shown : (d amount : ℕ) (when : Option Condition) (ts : List Token) (rest : List ℕ)
-    → IsItem d ts (minimum amount when) → LineShown d (minimum amount when) rest
-unfolding minimum_line
-minimum_shown d amount when ts rest h =
-    let texts = lines_of rest in
-    let small = amount_small d h.0 amount h.3 in
-    let x = money_text d amount in
-    let end = when_shown when h.1 rest h.4 in
-    let tail = when_text when rest in
-    let first = money_shows d amount tail end.0 texts small end.2 in (
-      word (codes "minimum") ∷ figure x ∷ end.0,
-      (x, end.0, refl, amount_again d amount small, end.1),
-      spaced (codes "minimum") (x ++ tail) (figure x ∷ end.0) texts refl first,
-    )
-
-line_shown : (d : ℕ) (x : Entry) (ts : List Token) (rest : List ℕ) → IsItem d ts x → LineShown d x rest
-line_shown d (step amount r) ts rest h = step_shown d amount r ts rest h
-line_shown d (positions n) ts rest h = positions_shown d n h.0 rest h.2
-line_shown d (zones n) ts rest h = zones_shown d n h.0 rest h.2
-line_shown d (holiday y m n) ts rest h = holiday_shown d y m n h.0 rest h.2
-line_shown d (supplement number amount most) ts rest h = supplement_shown d number amount most ts rest h
-line_shown d (initial amount covers when) ts rest h = initial_shown d amount covers when ts rest h
-line_shown d (rate a b c e when) ts rest h = rate_shown d a b c e when ts rest h
-line_shown d (minimum amount when) ts rest h = minimum_shown d amount when ts rest h
-
--- each line of a tariff has the form of an entry somewhere
+-- each line of a tariff has the form of an entry somewhere, with words of letters
 abbrev AllSaid : (d : ℕ) → List Line → Type 0
 AllSaid d [] = ⊤
-AllSaid d (l ∷ ls) = ((ts : List Token) × IsItem d ts l.entry) × AllSaid d ls
+AllSaid d (l ∷ ls) = ((ts : List Token) × AllHaveLetters ts × IsItem d ts l.entry) × AllSaid d ls
 
 said_lines : (d number : ℕ) (texts : List (List ℕ)) (lines : List Line) → AreTextsOfLines d number texts lines
     → AllSaid d lines
 said_lines d number [] lines h = subst (AllSaid d) (sym h) tt
 said_lines d number (text ∷ texts) lines (inl h) = said_lines d (number + 1) texts lines h.1
 said_lines d number (text ∷ texts) lines (inr h) =
-    subst (AllSaid d) (sym h.2) ((h.3.0, h.3.2), said_lines d (number + 1) texts h.1 h.4)
+    subst (AllSaid d) (sym h.2)
+    ((h.3.0, letters_of_line text h.3.0 h.3.1, h.3.2), said_lines d (number + 1) texts h.1 h.4)
 
 -- a tariff that a text says has few decimals, and entries in their forms
 said_tariff : (number : ℕ) (texts : List (List ℕ)) (t : Tree) → AreTextsOfTariff number texts t
@@ -291,7 +202,7 @@ lines_shown : (d number : ℕ) (lines : List Line) → AllSaid d lines
 lines_shown d number [] h = refl
 lines_shown d number (l ∷ ls) h =
     let rest = lines_text d ls in
-    let is = line_shown d l.entry h.0.0 rest h.0.1 in
+    let is = line_shown d l.entry h.0.0 rest h.0.1 h.0.2 in
     let P : List (List ℕ) → Type 0 = λ texts. AreTextsOfLines d number texts (renumbered_from number (l ∷ ls)) in
     subst P (sym is.2.cut) (inr
     (l.entry, renumbered_from (number + 1) ls, refl, (is.0, is.2.spelled, is.1), lines_shown d (number + 1) ls h.1))
@@ -300,8 +211,9 @@ decimals_shown : (d : ℕ) (rest : List ℕ) → d ≤ 3
     → Shows (number_line (codes "decimals ") d rest) (word (codes "decimals") ∷ figure (decimal d) ∷ []) (lines_of rest)
 unfolding number_line
 decimals_shown d rest few =
-    spaced (codes "decimals") (decimal d ++ (codes "\n" ++ rest)) (figure (decimal d) ∷ []) (lines_of rest) refl
-    (number_shows d (codes "\n" ++ rest) [] (lines_of rest) (omega arith) (line_feed rest))
+    let texts = lines_of rest in
+    shown_word (codes "decimals") (32 ∷ (decimal d ++ (codes "\n" ++ rest))) (figure (decimal d) ∷ []) texts refl
+    (figured (decimal d) (codes "\n" ++ rest) [] texts (decimal_text d (omega arith)) (line_feed rest))
 
 decimals_say : (d : ℕ) → d ≤ 3 → IsDecimals (word (codes "decimals") ∷ figure (decimal d) ∷ []) d
 decimals_say d few = (decimal d, refl, number_says 0 3 d (omega arith) (omega arith) few)

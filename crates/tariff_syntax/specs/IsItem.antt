@@ -5,10 +5,12 @@ use Rattle.drive_modes.specs.declared.meterage.Rounding.TheVariants.{Behind}
 use Rattle.tariff_syntax.specs.Condition.{Condition}
 use Rattle.tariff_syntax.specs.Forms.{IsNumber, IsYearDate, IsAmount}
 use Rattle.tariff_syntax.specs.IsCondition.{IsCondition, size_of}
+use Rattle.tariff_syntax.specs.Part as part
+use Rattle.tariff_syntax.specs.Part.{Part}
 use Rattle.tariff_syntax.specs.Printed.{rounding_word}
 use Rattle.tariff_syntax.specs.PrintedCondition.{whole}
 use Rattle.tariff_syntax.specs.Token.{Token, word, figure, sign}
-use Rattle.tariff_syntax.specs.Tree.{Entry, step, positions, zones, holiday, supplement, initial, rate, minimum}
+use Rattle.tariff_syntax.specs.Tree.{Entry, parts_of, word_of}
 
 -- tokens say a rounding if they are its word, or if there are none and it is `behind`
 abbrev pub IsRounding : List Token → Rounding → Type 0
@@ -27,35 +29,30 @@ IsWhen ts (Some c) =
     (rest : List Token) × (ts ≡ word (codes "when") ∷ rest) × (is : IsCondition whole rest c)
     × (size_of whole rest c is ≤ 64)
 
--- tokens say an amount for a measure if they are the amount, `per`, the measure in at most one decimal, and its unit
-abbrev pub IsPer : (decimals : ℕ) (unit : List ℕ) → List Token → ℕ → ℕ → Type 0
-IsPer decimals unit ts amount measure =
-    (f : List ℕ) × (g : List ℕ) × (ts ≡ figure f ∷ word (codes "per") ∷ figure g ∷ word unit ∷ [])
-    × IsAmount decimals f amount × IsAmount 1 g measure
+-- tokens are a part of a line if they are its word, a comma, its figure, or what says a part that may be left out
+abbrev pub IsPart : (decimals : ℕ) → List Token → Part → Type 0
+IsPart decimals ts (part.name text) = ts ≡ word text ∷ []
+IsPart decimals ts part.comma = ts ≡ sign (codes ",") ∷ []
+IsPart decimals ts (part.money n) = (f : List ℕ) × (ts ≡ figure f ∷ []) × IsAmount decimals f n
+IsPart decimals ts (part.measure n) = (f : List ℕ) × (ts ≡ figure f ∷ []) × IsAmount 1 f n
+IsPart decimals ts (part.number least most n) = (f : List ℕ) × (ts ≡ figure f ∷ []) × IsNumber least most f n
+IsPart decimals ts (part.year_date year month date) =
+    (f : List ℕ) × (ts ≡ figure f ∷ []) × IsYearDate f year month date
+IsPart decimals ts (part.rounding rounding) = IsRounding ts rounding
+IsPart decimals ts (part.covers n) = IsCovers decimals ts n
+IsPart decimals ts (part.condition when) = IsWhen ts when
 
--- tokens say an entry if they are its word and its parts, in order
+-- tokens are some parts if they are the tokens of each, one after another
+abbrev pub AreParts : (decimals : ℕ) → List Token → List Part → Type 0
+AreParts decimals ts [] = ts ≡ []
+AreParts decimals ts (p ∷ ps) =
+    (first : List Token) × (rest : List Token) × (ts ≡ first ++ rest) × IsPart decimals first p
+    × AreParts decimals rest ps
+
+-- tokens say an entry if they are its word and its parts
 abbrev pub IsItem : (decimals : ℕ) → List Token → Entry → Type 0
-IsItem decimals ts (step amount rounding) =
-    (f : List ℕ) × (rs : List Token) × (ts ≡ word (codes "step") ∷ figure f ∷ rs) × IsAmount decimals f amount
-    × IsRounding rs rounding
-IsItem decimals ts (positions n) = (f : List ℕ) × (ts ≡ word (codes "positions") ∷ figure f ∷ []) × IsNumber 1 9 f n
-IsItem decimals ts (zones n) = (f : List ℕ) × (ts ≡ word (codes "zones") ∷ figure f ∷ []) × IsNumber 1 9 f n
-IsItem decimals ts (holiday year month date) =
-    (f : List ℕ) × (ts ≡ word (codes "holiday") ∷ figure f ∷ []) × IsYearDate f year month date
-IsItem decimals ts (supplement number amount most) =
-    (f : List ℕ) × (g : List ℕ) × (h : List ℕ)
-    × (ts ≡ word (codes "supplement") ∷ figure f ∷ figure g ∷ word (codes "max") ∷ figure h ∷ [])
-    × IsNumber 1 16 f number × IsAmount decimals g amount × IsNumber 1 99 h most
-IsItem decimals ts (initial amount covers when) =
-    (f : List ℕ) × (cs : List Token) × (ws : List Token) × (ts ≡ word (codes "initial") ∷ figure f ∷ (cs ++ ws))
-    × IsAmount decimals f amount × IsCovers decimals cs covers × IsWhen ws when
-IsItem decimals ts (rate a b c e when) =
-    (xs : List Token) × (ys : List Token) × (ws : List Token)
-    × (ts ≡ word (codes "rate") ∷ (xs ++ sign (codes ",") ∷ (ys ++ ws)))
-    × IsPer decimals (codes "m") xs a b × IsPer decimals (codes "s") ys c e × IsWhen ws when
-IsItem decimals ts (minimum amount when) =
-    (f : List ℕ) × (ws : List Token) × (ts ≡ word (codes "minimum") ∷ figure f ∷ ws) × IsAmount decimals f amount
-    × IsWhen ws when
+IsItem decimals ts entry =
+    (rest : List Token) × (ts ≡ word (word_of entry) ∷ rest) × AreParts decimals rest (parts_of entry)
 
 -- tokens say the decimals if they are `decimals` and a number of 0 to 3
 abbrev pub IsDecimals : List Token → ℕ → Type 0

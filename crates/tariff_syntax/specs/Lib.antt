@@ -15,6 +15,7 @@ pub mod Meaning
 pub mod Parentheses
 pub mod Parsed
 pub mod Parses
+pub mod Part
 pub mod Printed
 pub mod PrintedCondition
 pub mod Reads

@@ -5,9 +5,10 @@ use Rattle.taxi_units.specs.Number.{money_text, padded_text}
 use Rattle.drive_modes.specs.declared.meterage.Rounding.{Rounding}
 use Rattle.drive_modes.specs.declared.meterage.Rounding.TheVariants.{Behind, Ahead}
 use Rattle.tariff_syntax.specs.Condition.{Condition}
+use Rattle.tariff_syntax.specs.Part as part
+use Rattle.tariff_syntax.specs.Part.{Part}
 use Rattle.tariff_syntax.specs.PrintedCondition.{condition_text}
-use Rattle.tariff_syntax.specs.Tree.{Tree, Line, Entry, step, positions, zones, holiday, supplement, initial, rate}
-use Rattle.tariff_syntax.specs.Tree.{minimum}
+use Rattle.tariff_syntax.specs.Tree.{Tree, Line, Entry, parts_of, word_of}
 
 -- the word of a rounding to the display step is `behind` or `ahead`
 abbrev pub rounding_word : Rounding → List ℕ
@@ -18,65 +19,33 @@ rounding_word Ahead = codes "ahead"
 unfoldable pub number_line : (word : List ℕ) (number : ℕ) → List ℕ → List ℕ
 number_line word number rest = word ++ (decimal number ++ (codes "\n" ++ rest))
 
--- the line of the display step is `step`, the amount, and the rounding
-unfoldable pub step_line : (decimals amount : ℕ) → Rounding → List ℕ → List ℕ
-step_line decimals amount rounding rest =
-    codes "step " ++ (money_text decimals amount ++ (codes " " ++ (rounding_word rounding ++ (codes "\n" ++ rest))))
-
--- the line of a holiday is `holiday` and the date as YYYY-MM-DD
-unfoldable pub holiday_line : (year month date : ℕ) → List ℕ → List ℕ
-holiday_line year month date rest =
-    codes "holiday " ++ (padded_text 4 year ++ (codes "-" ++ (padded_text 2 month
-    ++ (codes "-" ++ (padded_text 2 date ++ (codes "\n" ++ rest))))))
-
--- the line of a supplement is `supplement`, its number, its amount, `max`, and how often it may be added
-unfoldable pub supplement_line : (decimals number amount most : ℕ) → List ℕ → List ℕ
-supplement_line decimals number amount most rest =
-    codes "supplement " ++ (decimal number ++ (codes " " ++ (money_text decimals amount
-    ++ (codes " max " ++ (decimal most ++ (codes "\n" ++ rest))))))
-
--- a line that may have a condition ends in an LF, or in ` when `, the condition, and an LF
+-- the end of a line that may have a condition is ` when ` and the condition, or nothing if it has none
 abbrev pub when_text : Option Condition → List ℕ → List ℕ
-when_text None rest = codes "\n" ++ rest
-when_text (Some when) rest = codes " when " ++ condition_text when (codes "\n" ++ rest)
+when_text None rest = rest
+when_text (Some when) rest = codes " when " ++ condition_text when rest
 
--- the line of an initial hire fee is `initial`, its amount, `covers`, the covered amount, and its condition if it has
--- one
-unfoldable pub initial_line : (decimals amount covers : ℕ) → Option Condition → List ℕ → List ℕ
-initial_line decimals amount covers when rest =
-    codes "initial " ++ (money_text decimals amount ++ (codes " covers "
-    ++ (money_text decimals covers ++ when_text when rest)))
+-- a part of a line is printed with a blank before it, but for a comma, and for a condition that isn't there
+abbrev pub part_text : (decimals : ℕ) → Part → List ℕ → List ℕ
+part_text decimals (part.name text) rest = codes " " ++ (text ++ rest)
+part_text decimals part.comma rest = codes "," ++ rest
+part_text decimals (part.money amount) rest = codes " " ++ (money_text decimals amount ++ rest)
+part_text decimals (part.measure amount) rest = codes " " ++ (money_text 1 amount ++ rest)
+part_text decimals (part.number least most n) rest = codes " " ++ (decimal n ++ rest)
+part_text decimals (part.year_date year month date) rest =
+    codes " " ++ (padded_text 4 year ++ (codes "-" ++ (padded_text 2 month
+    ++ (codes "-" ++ (padded_text 2 date ++ rest)))))
+part_text decimals (part.rounding rounding) rest = codes " " ++ (rounding_word rounding ++ rest)
+part_text decimals (part.covers amount) rest = codes " covers " ++ (money_text decimals amount ++ rest)
+part_text decimals (part.condition when) rest = when_text when rest
 
--- an amount for a measure is the amount, `per`, and the measure in one decimal
-unfoldable pub per_text : (decimals amount measure : ℕ) → List ℕ → List ℕ
-per_text decimals amount measure rest = money_text decimals amount ++ (codes " per " ++ (money_text 1 measure ++ rest))
+-- parts are printed one after another
+abbrev pub parts_text : (decimals : ℕ) → List Part → List ℕ → List ℕ
+parts_text decimals [] rest = rest
+parts_text decimals (p ∷ ps) rest = part_text decimals p (parts_text decimals ps rest)
 
--- the line of a rate is `rate`, its amount for metres, a comma, its amount for seconds, and its condition if it has one
-unfoldable pub rate_line : (decimals a b c e : ℕ) → Option Condition → List ℕ → List ℕ
-rate_line decimals a b c e when rest =
-    codes "rate " ++ per_text decimals a b (codes " m, " ++ per_text decimals c e (codes " s" ++ when_text when rest))
-
--- the line of a minimum fare is `minimum`, its amount, and its condition if it has one
-unfoldable pub minimum_line : (decimals amount : ℕ) → Option Condition → List ℕ → List ℕ
-minimum_line decimals amount when rest = codes "minimum " ++ (money_text decimals amount ++ when_text when rest)
-
--- the line of an entry is that of its kind
-abbrev pub entry_line : (decimals : ℕ) → Entry → List ℕ → List ℕ
-entry_line decimals (step amount rounding) rest = step_line decimals amount rounding rest
-entry_line decimals (positions number) rest = number_line (codes "positions ") number rest
-entry_line decimals (zones number) rest = number_line (codes "zones ") number rest
-entry_line decimals (holiday year month date) rest = holiday_line year month date rest
-entry_line decimals (supplement number amount most) rest = supplement_line decimals number amount most rest
-entry_line decimals (initial amount covers when) rest = initial_line decimals amount covers when rest
-entry_line decimals (rate a b c e when) rest = rate_line decimals a b c e when rest
-entry_line decimals (minimum amount when) rest = minimum_line decimals amount when rest
-
--- an entry without its condition says the same at all times
-abbrev pub without_when : Entry → Entry
-without_when (initial amount covers when) = initial amount covers None
-without_when (rate a b c e when) = rate a b c e None
-without_when (minimum amount when) = minimum amount None
-without_when entry = entry
+-- the line of an entry is its word, its parts, and an LF
+unfoldable pub entry_line : (decimals : ℕ) → Entry → List ℕ → List ℕ
+entry_line decimals entry rest = word_of entry ++ parts_text decimals (parts_of entry) (codes "\n" ++ rest)
 
 -- lines are printed one after another, in their order
 abbrev pub lines_text : (decimals : ℕ) → List Line → List ℕ

@@ -1,7 +1,9 @@
 -- Rules: a tariff, without where it lies in memory.
-use Rattle.std.specs.Prelude.{ℕ, List, map, Option, None}
+use Rattle.std.specs.Prelude.{ℕ, List, [], ◌∷◌, map, Option, None, codes}
 use Rattle.drive_modes.specs.declared.meterage.Rounding.{Rounding}
 use Rattle.tariff_syntax.specs.Condition.{Condition, condition_if}
+use Rattle.tariff_syntax.specs.Part as part
+use Rattle.tariff_syntax.specs.Part.{Part}
 use Rattle.tariff_syntax.specs.declared.tariff.Item.{Item}
 use Rattle.tariff_syntax.specs.declared.tariff.Item.TheVariants.{Step, Positions, Zones, Holiday, Supplement, Initial}
 use Rattle.tariff_syntax.specs.declared.tariff.Item.TheVariants.{Rate, Minimum}
@@ -20,12 +22,44 @@ pub data Entry : Type 0 where
   rate : (a b c e : ℕ) (when : Option Condition) → Entry
   minimum : (amount : ℕ) (when : Option Condition) → Entry
 
+-- the word of an entry is the one that its line begins with
+abbrev pub word_of : Entry → List ℕ
+word_of (step amount rounding) = codes "step"
+word_of (positions number) = codes "positions"
+word_of (zones number) = codes "zones"
+word_of (holiday year month date) = codes "holiday"
+word_of (supplement number amount most) = codes "supplement"
+word_of (initial amount covers when) = codes "initial"
+word_of (rate a b c e when) = codes "rate"
+word_of (minimum amount when) = codes "minimum"
+
+-- the parts of an entry stand behind its word, in this order
+abbrev pub parts_of : Entry → List Part
+parts_of (step amount rounding) = part.money amount ∷ part.rounding rounding ∷ []
+parts_of (positions number) = part.number 1 9 number ∷ []
+parts_of (zones number) = part.number 1 9 number ∷ []
+parts_of (holiday year month date) = part.year_date year month date ∷ []
+parts_of (supplement number amount most) =
+    part.number 1 16 number ∷ part.money amount ∷ part.name (codes "max") ∷ part.number 1 99 most ∷ []
+parts_of (initial amount covers when) = part.money amount ∷ part.covers covers ∷ part.condition when ∷ []
+parts_of (rate a b c e when) =
+    part.money a ∷ part.name (codes "per") ∷ part.measure b ∷ part.name (codes "m") ∷ part.comma
+    ∷ part.money c ∷ part.name (codes "per") ∷ part.measure e ∷ part.name (codes "s") ∷ part.condition when ∷ []
+parts_of (minimum amount when) = part.money amount ∷ part.condition when ∷ []
+
 -- the condition of an entry is the one that it has, if its kind may have one and it has one
 abbrev pub when_part : Entry → Option Condition
 when_part (initial amount covers when) = when
 when_part (rate a b c e when) = when
 when_part (minimum amount when) = when
 when_part _ = None
+
+-- an entry without its condition says the same at all times
+abbrev pub without_when : Entry → Entry
+without_when (initial amount covers when) = initial amount covers None
+without_when (rate a b c e when) = rate a b c e None
+without_when (minimum amount when) = minimum amount None
+without_when entry = entry
 
 -- a line has its number in the text, from 1 on, and the entry that it says
 pub record Line : Type 0 where

@@ -2,8 +2,9 @@
 use Rattle.std.specs.Prelude.{ℕ, ◌^◌, ◌≤◌, Option, Some, None, All}
 use Rattle.tariff_syntax.specs.Condition as tree
 use Rattle.tariff_syntax.specs.Condition.{Condition}
-use Rattle.tariff_syntax.specs.Tree.{Tree, Line, Entry, step, positions, zones, holiday, supplement, initial, rate}
-use Rattle.tariff_syntax.specs.Tree.{minimum}
+use Rattle.tariff_syntax.specs.Part as part
+use Rattle.tariff_syntax.specs.Part.{Part}
+use Rattle.tariff_syntax.specs.Tree.{Tree, Line, Entry, parts_of}
 
 -- a number is from one to another if it is neither below the least nor above the most
 abbrev pub IsFromTo : (least most n : ℕ) → Type 0
@@ -33,17 +34,19 @@ abbrev pub IsWritableIf : Option Condition → Type 0
 IsWritableIf None = Unit {0}
 IsWritableIf (Some when) = IsWritableCondition when
 
--- an entry is writable if a text can have its numbers
+-- a part of a line is writable if a text can have its numbers
+abbrev pub IsWritablePart : Part → Type 0
+IsWritablePart (part.money amount) = amount ≤ greatest
+IsWritablePart (part.measure amount) = amount ≤ greatest
+IsWritablePart (part.number least most n) = IsFromTo least most n
+IsWritablePart (part.year_date year month date) = (year ≤ 9999) × (month ≤ 99) × (date ≤ 99)
+IsWritablePart (part.covers amount) = amount ≤ greatest
+IsWritablePart (part.condition when) = IsWritableIf when
+IsWritablePart p = Unit {0}
+
+-- an entry is writable if a text can have the numbers of each of its parts
 abbrev pub IsWritableEntry : Entry → Type 0
-IsWritableEntry (step amount rounding) = amount ≤ greatest
-IsWritableEntry (positions number) = IsFromTo 1 9 number
-IsWritableEntry (zones number) = IsFromTo 1 9 number
-IsWritableEntry (holiday year month date) = (year ≤ 9999) × (month ≤ 99) × (date ≤ 99)
-IsWritableEntry (supplement number amount most) = IsFromTo 1 16 number × (amount ≤ greatest) × IsFromTo 1 99 most
-IsWritableEntry (initial amount covers when) = (amount ≤ greatest) × (covers ≤ greatest) × IsWritableIf when
-IsWritableEntry (rate a b c e when) =
-    (a ≤ greatest) × (b ≤ greatest) × (c ≤ greatest) × (e ≤ greatest) × IsWritableIf when
-IsWritableEntry (minimum amount when) = (amount ≤ greatest) × IsWritableIf when
+IsWritableEntry entry = All IsWritablePart (parts_of entry)
 
 -- a tariff is writable if a text can have all of its numbers
 pub record IsWritable (t : Tree) : Type 0 where

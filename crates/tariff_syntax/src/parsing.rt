@@ -33,26 +33,13 @@ pub enum ParseFault {
 }
 
 /// Reads a tariff, from a text of lines; each line ends with a line feed, the last one may end with the
-/// text. A `#` and all that stands behind it in a line is a comment. A line has one of these forms, with
-/// what stands in brackets left out or not, and blanks, tabs and carriage returns anywhere between its
-/// parts; an empty one is passed over:
+/// text. A `#` and all that stands behind it in a line is a comment. A line is `decimals N`, or has one of
+/// the forms that `Item` tells, with blanks, tabs and carriage returns anywhere between its parts; an empty
+/// one is passed over.
 ///
-/// ```text
-/// decimals N
-/// step MONEY [behind | ahead]
-/// positions N
-/// zones N
-/// holiday YYYY-MM-DD
-/// supplement N MONEY max N
-/// initial MONEY [covers MONEY] [when CONDITION]
-/// rate MONEY per TENTHS m , MONEY per TENTHS s [when CONDITION]
-/// minimum MONEY [when CONDITION]
-/// ```
-///
-/// `decimals` stands in the first filled line alone, with a number from 0 to 3, and is 2 without that
-/// line. Positions and zones are 1 to 9, a supplement's number 1 to 16, and how often it may be had 1 to
-/// 99. MONEY has at most these decimals, TENTHS at most one, and both at most 10^12 units of the last.
-/// A condition is made of `position N`, `zone N`, `time HH:MM..HH:MM`, `day mon` or `day mon..sun`,
+/// `decimals` stands in the first filled line alone, with a number from 0 to 3, and is 2 without that line.
+/// MONEY has at most these decimals, TENTHS at most one, and both at most 10^12 units of the last. A
+/// CONDITION is made of `position N`, `zone N`, `time HH:MM..HH:MM`, `day mon` or `day mon..sun`,
 /// `date MM-DD..MM-DD`, `holiday`, `after TENTHS m` and `after TENTHS s`, by `not`, `and`, `or` and
 /// parentheses; `not` binds closer than `and`, and `and` closer than `or`, and both join from the left. It
 /// has at most 64 of these atoms, `not` and `(` together. This language is this project's own.

@@ -1,15 +1,15 @@
 //! Writes the parts that lines of a tariff share.
-ghost use Rattle.std.specs.Prelude.{◌≡◌, ◌≤◌, ◌++◌, OnOk};
+ghost use Rattle.std.specs.Prelude.{◌≡◌, ◌≤◌, ◌∷◌, [], ◌++◌, OnOk, codes};
 ghost use Rattle.taxi_units.specs.Number.{money_text};
 ghost use Rattle.tariff_syntax.specs.Appends.{Appends};
-ghost use Rattle.tariff_syntax.specs.Printed.{rounding_word, per_text};
+ghost use Rattle.tariff_syntax.specs.Part as part;
+ghost use Rattle.tariff_syntax.specs.Printed.{rounding_word, parts_text};
 
 use drive_modes::Rounding;
 use std::alloc::AllocError;
 use taxi_units::{Line, put_money};
 
-/// An amount for each measure, and the unit behind it.
-#[tactic(auto, unfolding(crate::specs::Printed::per_text))]
+/// An amount for each measure, with a blank before it and its unit behind it.
 pub fn push_per(
     text: &mut Vec<u8>,
     decimals: u8,
@@ -19,8 +19,10 @@ pub fn push_per(
 ) -> Result<(), AllocError>
     requires { decimals ≤ 3 }
     ensures { OnOk result (Appends text.old.items text.new.items
-        (λ rest. per_text decimals amount measure (unit.now ++ rest))) }
+        (λ rest. parts_text decimals (part.money amount ∷ part.name (codes "per") ∷ part.measure measure ∷ [])
+        (unit.now ++ rest))) }
 {
+    text.push(b' ')?;
     push_money(text, amount, decimals)?;
     text.extend_from_slice(b" per ")?;
     push_money(text, measure, 1)?;

@@ -60,24 +60,25 @@ pub struct MinimumLine {
     pub cond: Option<Cond>,
 }
 
-/// What a line of a tariff says.
+/// What a line of a tariff says, and the form of the line, in which what stands in brackets may be left out.
 #[derive(Drop)]
 pub enum Item {
-    /// The display step, and how the fare is rounded to it.
+    /// `step MONEY [behind | ahead]`: the display step, and how the fare is rounded to it.
     Step { amount: u64, rounding: Rounding },
-    /// How many tariff positions there are, 1 to 9.
+    /// `positions N`: how many tariff positions there are, 1 to 9.
     Positions(u8),
-    /// How many zones there are, 1 to 9.
+    /// `zones N`: how many zones there are, 1 to 9.
     Zones(u8),
-    /// A date that is a holiday.
+    /// `holiday YYYY-MM-DD`: a date that is a holiday.
     Holiday { year: u16, month: u8, date: u8 },
-    /// A supplement, by its number from 1 to 16, and how often a hiring may have it, 1 to 99.
+    /// `supplement N MONEY max N`: a supplement, by its number from 1 to 16, and how often a hiring may have
+    /// it, 1 to 99.
     Supplement { number: u8, amount: u64, max: u8 },
-    /// An initial hire fee.
+    /// `initial MONEY [covers MONEY] [when CONDITION]`: an initial hire fee.
     Initial(InitialLine),
-    /// A rate.
+    /// `rate MONEY per TENTHS m , MONEY per TENTHS s [when CONDITION]`: a rate.
     Rate(RateLine),
-    /// A minimum fare.
+    /// `minimum MONEY [when CONDITION]`: a minimum fare.
     Minimum(MinimumLine),
 }
 

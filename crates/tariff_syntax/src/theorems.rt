@@ -1,6 +1,7 @@
 //! What the tariff language means. The relations of texts share with the parser the classes of bytes (blanks,
 //! letters, the bytes of a figure), which are tables, and the cutting into lines, which has its law here;
-//! with the printed form they share the names of weekdays and of roundings, which are tables.
+//! with the printed form they share the words and the parts of entries, and the names of weekdays and of
+//! roundings, which are tables.
 ghost use Rattle.std.specs.Prelude.{◌≡◌, ◌↔◌, ◌⊎◌, ℕ, List, Option, Ok, Err};
 ghost use Rattle.tariff_syntax.specs.Condition.{Condition};
 ghost use Rattle.tariff_syntax.specs.Meaning.{IsFirstPlace, holds_if, place_of};

@@ -5,10 +5,9 @@ ghost use Rattle.taxi_units.specs.Number.{money_text};
 ghost use Rattle.tariff_syntax.specs.Appends.{Appends};
 ghost use Rattle.tariff_syntax.specs.Condition.{condition_of, condition_if};
 ghost use Rattle.tariff_syntax.specs.PrintedCondition.{condition_text};
-ghost use Rattle.tariff_syntax.specs.Printed.{printed, number_line, step_line, holiday_line, supplement_line};
-ghost use Rattle.tariff_syntax.specs.Printed.{initial_line, rate_line, minimum_line, entry_line, lines_text, when_text};
-ghost use Rattle.tariff_syntax.specs.Printed.{without_when};
-ghost use Rattle.tariff_syntax.specs.Tree.{tree_of, entry_of, line_of};
+ghost use Rattle.tariff_syntax.specs.Printed.{printed, number_line, entry_line, lines_text, when_text};
+ghost use Rattle.tariff_syntax.specs.Tree as tree;
+ghost use Rattle.tariff_syntax.specs.Tree.{tree_of, entry_of, line_of, without_when};
 
 use crate::condition::Cond;
 use crate::printing::{push_money, push_per, push_rounding};
@@ -79,6 +78,7 @@ fn push_lines(text: &mut Vec<u8>, decimals: u8, lines: &[TariffLine]) -> Result<
 }
 
 /// A line.
+#[tactic(auto, unfolding(crate::specs::Printed::entry_line, crate::specs::Printed::number_line))]
 fn push_item(text: &mut Vec<u8>, decimals: u8, item: &Item) -> Result<(), AllocError>
     requires { decimals ≤ 3 }
     ensures { OnOk result (Appends text.old.items text.new.items (entry_line decimals (entry_of item.now))) }
@@ -111,7 +111,7 @@ fn push_number(text: &mut Vec<u8>, name: &[u8], number: u8) -> Result<(), AllocE
 }
 
 /// The line of a display step.
-#[tactic(auto, unfolding(crate::specs::Printed::step_line))]
+#[tactic(auto, unfolding(crate::specs::Printed::entry_line))]
 fn push_step(
     text: &mut Vec<u8>,
     decimals: u8,
@@ -119,7 +119,7 @@ fn push_step(
     rounding: Rounding,
 ) -> Result<(), AllocError>
     requires { decimals ≤ 3 }
-    ensures { OnOk result (Appends text.old.items text.new.items (step_line decimals amount rounding)) }
+    ensures { OnOk result (Appends text.old.items text.new.items (entry_line decimals (tree.step amount rounding))) }
 {
     text.extend_from_slice(b"step ")?;
     push_money(text, amount, decimals)?;
@@ -130,9 +130,9 @@ fn push_step(
 }
 
 /// The line of a holiday.
-#[tactic(auto, unfolding(crate::specs::Printed::holiday_line))]
+#[tactic(auto, unfolding(crate::specs::Printed::entry_line))]
 fn push_holiday(text: &mut Vec<u8>, year: u16, month: u8, date: u8) -> Result<(), AllocError>
-    ensures { OnOk result (Appends text.old.items text.new.items (holiday_line year month date)) }
+    ensures { OnOk result (Appends text.old.items text.new.items (entry_line 0 (tree.holiday year month date))) }
 {
     text.extend_from_slice(b"holiday ")?;
     push_padded(text, year as u64, 4)?;
@@ -143,7 +143,7 @@ fn push_holiday(text: &mut Vec<u8>, year: u16, month: u8, date: u8) -> Result<()
 }
 
 /// The line of a supplement.
-#[tactic(auto, unfolding(crate::specs::Printed::supplement_line))]
+#[tactic(auto, unfolding(crate::specs::Printed::entry_line))]
 fn push_supplement(
     text: &mut Vec<u8>,
     decimals: u8,
@@ -152,7 +152,8 @@ fn push_supplement(
     max: u8,
 ) -> Result<(), AllocError>
     requires { decimals ≤ 3 }
-    ensures { OnOk result (Appends text.old.items text.new.items (supplement_line decimals number amount max)) }
+    ensures { OnOk result (Appends text.old.items text.new.items
+        (entry_line decimals (tree.supplement number amount max))) }
 {
     push_named(text, b"supplement ", number)?;
     push_most(text, decimals, amount, max)
@@ -174,7 +175,7 @@ fn push_most(text: &mut Vec<u8>, decimals: u8, amount: u64, max: u8) -> Result<(
 }
 
 /// The line of an initial hire fee, with a condition or none.
-#[tactic(auto, unfolding(crate::specs::Printed::initial_line))]
+#[tactic(auto, unfolding(crate::specs::Printed::entry_line))]
 fn push_initial(
     text: &mut Vec<u8>,
     decimals: u8,
@@ -183,7 +184,7 @@ fn push_initial(
 ) -> Result<(), AllocError>
     requires { decimals ≤ 3 }
     ensures { OnOk result (Appends text.old.items text.new.items
-        (initial_line decimals initial.now.amount initial.now.covers (condition_if cond.now))) }
+        (entry_line decimals (tree.initial initial.now.amount initial.now.covers (condition_if cond.now)))) }
 {
     text.extend_from_slice(b"initial ")?;
     push_money(text, initial.amount, decimals)?;
@@ -193,7 +194,7 @@ fn push_initial(
 }
 
 /// The line of a rate, with a condition or none.
-#[tactic(auto, unfolding(crate::specs::Printed::rate_line))]
+#[tactic(auto, unfolding(crate::specs::Printed::entry_line))]
 fn push_rate(
     text: &mut Vec<u8>,
     decimals: u8,
@@ -202,16 +203,16 @@ fn push_rate(
 ) -> Result<(), AllocError>
     requires { decimals ≤ 3 }
     ensures { OnOk result (Appends text.old.items text.new.items
-        (rate_line decimals rate.now.a rate.now.b rate.now.c rate.now.e (condition_if cond.now))) }
+        (entry_line decimals (tree.rate rate.now.a rate.now.b rate.now.c rate.now.e (condition_if cond.now)))) }
 {
-    text.extend_from_slice(b"rate ")?;
-    push_per(text, decimals, rate.a, rate.b, b" m, ")?;
+    text.extend_from_slice(b"rate")?;
+    push_per(text, decimals, rate.a, rate.b, b" m,")?;
     push_per(text, decimals, rate.c, rate.e, b" s")?;
     push_when(text, cond)
 }
 
 /// The line of a minimum fare, with a condition or none.
-#[tactic(auto, unfolding(crate::specs::Printed::minimum_line))]
+#[tactic(auto, unfolding(crate::specs::Printed::entry_line))]
 fn push_minimum(
     text: &mut Vec<u8>,
     decimals: u8,
@@ -220,7 +221,7 @@ fn push_minimum(
 ) -> Result<(), AllocError>
     requires { decimals ≤ 3 }
     ensures { OnOk result (Appends text.old.items text.new.items
-        (minimum_line decimals amount (condition_if cond.now))) }
+        (entry_line decimals (tree.minimum amount (condition_if cond.now)))) }
 {
     text.extend_from_slice(b"minimum ")?;
     push_money(text, amount, decimals)?;
@@ -229,7 +230,8 @@ fn push_minimum(
 
 /// The end of a line that may have a condition.
 fn push_when(text: &mut Vec<u8>, cond: &Option<Cond>) -> Result<(), AllocError>
-    ensures { OnOk result (Appends text.old.items text.new.items (when_text (condition_if cond.now))) }
+    ensures { OnOk result (Appends text.old.items text.new.items
+        (λ rest. when_text (condition_if cond.now) (codes "\n" ++ rest))) }
 {
     match cond {
         None => {

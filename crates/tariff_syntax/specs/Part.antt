@@ -1,0 +1,17 @@
+-- Rules: what the lines of a tariff are made of.
+use Rattle.std.specs.Prelude.{ℕ, List, Option}
+use Rattle.drive_modes.specs.declared.meterage.Rounding.{Rounding}
+use Rattle.tariff_syntax.specs.Condition.{Condition}
+
+-- a part of a line is a word, a comma, an amount of money, a distance or a time, a number of a range, or a date of a
+-- year, which always stand, or a rounding, a covered amount or a condition, which may be left out
+pub data Part : Type 0 where
+  name : (text : List ℕ) → Part
+  comma : Part
+  money : (amount : ℕ) → Part
+  measure : (amount : ℕ) → Part
+  number : (least most n : ℕ) → Part
+  year_date : (year month date : ℕ) → Part
+  rounding : (by : Rounding) → Part
+  covers : (amount : ℕ) → Part
+  condition : (when : Option Condition) → Part
