@@ -1,6 +1,6 @@
 -- What a line says is read from its form.
 use Rattle.std.proofs.Common.{◌≡◌, inl, inr, ℕ, ◌≤◌, List, [], ◌∷◌, ◌++◌, Option, Some, None, refl, ap, sym, ◌∙◌, subst}
-use Rattle.std.proofs.Common.{arith, codes, ◌↔◌}
+use Rattle.std.proofs.Common.{arith, codes}
 use Rattle.std.proofs.lemmas.List.{append-nil}
 use Rattle.std.proofs.lemmas.Bool.{leb-true, le-leb}
 use Rattle.drive_modes.specs.declared.meterage.Rounding.{Rounding}
@@ -441,11 +441,6 @@ item_again decimals ts (minimum amount when) h =
     let one = money_again decimals amount h.0 (part.condition when ∷ []) h.2 in
     let two = end_again decimals when one.0 one.2 in
     rw (h.1, word_first_here (codes "minimum") h.0, one.1, two) refl
-
--- the law of lines
-pub items_are_read_by_their_forms : (decimals : ℕ) (ts : List Token) (x : Entry) → (item_read decimals ts ≡ Some x)
-    ↔ IsItem decimals ts x
-items_are_read_by_their_forms decimals ts x = (item_is decimals ts x, item_again decimals ts x)
 
 pub decimals_are : (ts : List Token) (n : ℕ) → decimals_read ts ≡ Some n → IsDecimals ts n
 unfolding decimals_read

@@ -12,7 +12,7 @@ use Rattle.tariff_syntax.specs.IsItem.{IsWhen, IsPart, AreParts, IsItem, IsDecim
 use Rattle.tariff_syntax.specs.Part as part
 use Rattle.tariff_syntax.specs.Part.{Part}
 use Rattle.tariff_syntax.specs.TextLines.{lines_of}
-use Rattle.tariff_syntax.specs.Printed.{rounding_word, number_line, when_text, part_text, parts_text, entry_line}
+use Rattle.tariff_syntax.specs.Printed.{rounding_word, number_line, part_text, parts_text, entry_line}
 use Rattle.tariff_syntax.specs.Printed.{lines_text, printed}
 use Rattle.tariff_syntax.specs.PrintedCondition.{whole, condition_at, condition_text}
 use Rattle.tariff_syntax.specs.Reads.{AreTextsOfLines, AreTextsOfTariff, Reads}

@@ -1,6 +1,6 @@
 -- The tokens of a line are those that stand in it.
 use Rattle.std.proofs.Common.{◌≡◌, ℕ, zero, suc, ◌+◌, ◌<◌, ◌≤◌, Bool, true, false, cond, ◌&&◌, List, [], ◌∷◌, ◌++◌}
-use Rattle.std.proofs.Common.{length, take, drop, Option, Some, None, refl, ap, sym, ◌∙◌, subst, arith, ◌==◌, ◌↔◌}
+use Rattle.std.proofs.Common.{length, take, drop, Option, Some, None, refl, ap, sym, ◌∙◌, subst, arith, ◌==◌}
 use Rattle.std.specs.Prelude.{⊤}
 use Rattle.std.specs.Char.{is_ascii_digit}
 use Rattle.std.proofs.Math.Seq.{take-append_seam, drop-append_seam}
@@ -185,7 +185,3 @@ spelled_alone text (t ∷ ts) h =
     let here : token_at text ≡ Some (t, h.1) =
     blanks_go text h.0 (text_of t ++ h.1) (Some (t, h.1)) h.2 h.3 (token_stands t h.1 h.4) in
     tokens_of-some text (t, h.1) here ∙ ap (λ (rest : List Token). t ∷ rest) (spelled_alone h.1 ts h.5)
-
--- the law of tokens
-pub lines_are_spelled : (text : List ℕ) (ts : List Token) → IsSpelled text ts ↔ (tokens_of text ≡ ts)
-lines_are_spelled text ts = (spelled_alone text ts, λ e. subst (IsSpelled text) e (spelled text))
