@@ -1,9 +1,8 @@
 -- What the command `explain` answers: why there is nothing to explain, and what it prints of a drive.
-use Rattle.std.proofs.Common.{◌≡◌, ◌≢◌, ℕ, ◌+◌, ◌<◌, ◌≤◌, List, [], ◌++◌, length, Result, Ok, Err, refl, sym, ap, subst}
+use Rattle.std.proofs.Common.{◌≡◌, ◌≢◌, ℕ, ◌<◌, List, [], length, Result, Ok, Err, refl, sym, ap}
 use Rattle.std.proofs.Common.{◌∙◌, inl, inr, arith}
 use Rattle.std.specs.Prelude.{◌⊎◌}
-use Rattle.std.proofs.lemmas.List.{append-nil}
-use Rattle.drive_text.specs.Ending.{StreamEnd, Whole, BadAt, Endless, IsGoing, IsSplit, TellsEnd, drive_end}
+use Rattle.drive_text.specs.Ending.{StreamEnd, Whole, BadAt, Endless, IsSplit, TellsEnd, drive_end}
 use Rattle.meter_states.specs.Setting.{Setting}
 use Rattle.seal_record.specs.Reading.{params_read}
 use Rattle.seal_record.specs.declared.params.ParamFault.{ParamFault}
@@ -11,15 +10,14 @@ use Rattle.seal_record.specs.declared.params.Params.{Params}
 use Rattle.tariff_syntax.specs.Tree.{Tree}
 use Rattle.commands.specs.Answer.{Answer, shows}
 use Rattle.commands.specs.BenchSteps.{IsNoDrive, ended_for_drive}
-use Rattle.commands.specs.Call.{MayTake}
 use Rattle.commands.specs.Course.{Answered, NoMemory, ReadFailed}
 use Rattle.commands.specs.Ending.{EndsUnprinted, ended_for, ended_for_params}
-use Rattle.commands.specs.Explain.{HasSetting, ending_answer, explain_answer, explain_command, explain_turn}
+use Rattle.commands.specs.Explain.{ending_answer, explain_answer, explain_command, explain_turn}
 use Rattle.commands.specs.Explain.{setting_from, setting_in, setting_with}
 use Rattle.commands.specs.ExplainSteps.{HasExplained}
-use Rattle.commands.specs.LastLine.{line_of, refused_as, status_of}
+use Rattle.commands.specs.LastLine.{refused_as, status_of}
 use Rattle.commands.specs.Pieces.{pieces_of}
-use Rattle.commands.specs.Tariffs.{bad_tariff, tariff_in}
+use Rattle.commands.specs.Tariffs.{tariff_in}
 use Rattle.commands.specs.declared.ending.Ended.{Ended}
 use Rattle.commands.specs.declared.ending.Ended.TheVariants as ended
 use Rattle.commands.specs.declared.params.ParamsFault.{ParamsFault}

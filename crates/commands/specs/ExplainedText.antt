@@ -12,6 +12,7 @@ use Rattle.verify_bench.specs.declared.explained.Sums.{Sums}
 use Rattle.verify_bench.specs.declared.explained.Taken.{Taken}
 use Rattle.verify_bench.specs.declared.explained.Way.{Way}
 use Rattle.verify_bench.specs.declared.explained.Way.TheVariants.{Distance, Time, Both}
+use Rattle.verify_bench.specs.declared.fees.HiringFees.{HiringFees}
 use Rattle.commands.specs.declared.explained_lines.Scale.{Scale}
 
 -- a setting is written by the decimals of its tariff, by its constant, and by the units of charge in the smallest unit
@@ -101,12 +102,11 @@ taken_text decimals taken =
 
 -- ---- hirings
 
--- a hiring is explained from its heading to its minimum fare, whose amounts are on its receipt
-unfoldable pub beginning_text : (decimals number : ℕ) → Explanation → List ℕ
-beginning_text decimals number e =
-    heading_text number e.receipt e.whole.ticks
-    ++ (fee_text decimals e.fee_line e.receipt.initial e.covers
-    ++ minimum_text decimals e.minimum_line e.receipt.minimum)
+-- the fees of a hiring are written with their lines, and with the amounts that are on its receipt
+unfoldable pub fees_text : (decimals : ℕ) → HiringFees → Receipt → List ℕ
+fees_text decimals fees receipt =
+    fee_text decimals fees.initial_line receipt.initial fees.amounts.covers
+    ++ minimum_text decimals fees.minimum_line receipt.minimum
 
 -- behind the groups stand what was free, the sum of all charges, and how the receipt makes the fare of it
 unfoldable pub sum_text : Scale → Explanation → Receipt → List ℕ
@@ -120,15 +120,16 @@ sum_text scale e receipt =
 abbrev pub receipt_in : Scale → Explanation → Receipt
 receipt_in scale e = record e.receipt { decimals = scale.decimals }
 
--- a hiring is explained by its beginning, a line for each group, the sum, a line for each supplement that was taken,
--- and the last lines of its receipt
+-- a hiring is explained by its heading, its fees, a line for each group, the sum, a line for each supplement that was
+-- taken, and the last lines of its receipt
 unfoldable pub hiring_text : Scale → (number : ℕ) → Explanation → List ℕ
 hiring_text scale number e =
-    beginning_text scale.decimals number e
+    heading_text number e.receipt e.whole.ticks
+    ++ (fees_text scale.decimals e.fees e.receipt
     ++ (flat_map (rate_text scale) e.groups
     ++ (sum_text scale e (receipt_in scale e)
     ++ (flat_map (taken_text scale.decimals) e.taken
-    ++ (supplements_text (receipt_in scale e) ++ total_text (receipt_in scale e)))))
+    ++ (supplements_text (receipt_in scale e) ++ total_text (receipt_in scale e))))))
 
 -- hirings are explained one after the other, the first with a number and each further one with the next
 unfoldable pub hirings_text : Scale → (number : ℕ) → List Explanation → List ℕ

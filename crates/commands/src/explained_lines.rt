@@ -4,15 +4,15 @@ ghost use Rattle.arrayvec.specs.ArrayVec.{array_vec_len};
 ghost use Rattle.taxi_units.specs.Line.{line_size};
 ghost use Rattle.taxi_units.specs.Number.{money_text, padded_text};
 ghost use Rattle.verify_bench.specs.Explaining.{explanation_of};
-ghost use Rattle.commands.specs.ExplainedText.{beginning_text, charge_text, charged_text, distance_text, dropped_text};
+ghost use Rattle.commands.specs.ExplainedText.{charge_text, charged_text, distance_text, dropped_text, duration_text};
 ghost use Rattle.commands.specs.ExplainSteps.{IsScale};
-ghost use Rattle.commands.specs.ExplainedText.{duration_text, fee_text, heading_text, minimum_text, rate_text};
+ghost use Rattle.commands.specs.ExplainedText.{fee_text, fees_text, heading_text, minimum_text, rate_text};
 ghost use Rattle.commands.specs.ExplainedText.{span_text, stopped_text, sum_text, taken_text, title_text, way_text};
 
 use drive_modes::{Constant, millimetres};
 use receipt_text::{push_calculation, push_course, push_fare, push_kind};
 use taxi_units::{Kind, Line, Receipt, push_bytes, push_money, push_number, put_padded};
-use verify_bench::{Explained, Group, Sums, Taken, Way};
+use verify_bench::{Explained, Group, HiringFees, Sums, Taken, Way};
 
 /// What an explanation is written by: the decimals of the tariff, 0 to 3, the constant, and the units of charge in the
 /// smallest unit of money, 1 to 10^24, which `tables` prints as M.
@@ -155,18 +155,18 @@ fn push_title(line: &mut Line, number: u64, kind: Kind)
     push_bytes(line, b"\n");
 }
 
-/// Appends the lines of a hiring's title and of the course of the trip, with its time.
+/// The lines of a hiring's title and of the course of the trip, with its time.
 #[tactic(auto, unfolding(crate::specs::ExplainedText::heading_text))]
-fn push_heading(line: &mut Line, number: u64, receipt: &Receipt, ticks: u32)
-    requires { array_vec_len line.old + 239 ≤ line_size }
-    ensures text { line.new.items ≡ line.old.items ++ heading_text number receipt.now ticks }
-    ensures len { array_vec_len line.new ≤ array_vec_len line.old + 239 }
+pub fn heading_lines(number: u64, receipt: &Receipt, ticks: u32) -> Line
+    ensures { result.items ≡ heading_text number receipt.now ticks }
 {
-    push_title(line, number, receipt.kind);
-    push_course(line, *receipt);
-    push_bytes(line, b" ");
-    push_duration(line, ticks);
-    push_bytes(line, b"\n");
+    let mut line = Line::new();
+    push_title(&mut line, number, receipt.kind);
+    push_course(&mut line, *receipt);
+    push_bytes(&mut line, b" ");
+    push_duration(&mut line, ticks);
+    push_bytes(&mut line, b"\n");
+    line
 }
 
 /// Appends the line of the initial hire fee.
@@ -208,28 +208,21 @@ fn push_minimum(line: &mut Line, decimals: u8, number: Option<u32>, amount: u64)
     }
 }
 
-/// The lines of a hiring from its heading to its minimum fare.
-#[tactic(auto, unfolding(crate::specs::ExplainedText::beginning_text))]
-pub fn beginning_lines(scale: &Scale, number: u64, explained: &Explained) -> Line
-    requires { IsScale scale.now }
-    ensures { result.items ≡ beginning_text scale.now.decimals number (explanation_of explained.now) }
+/// The lines of a hiring's fees, with the amounts of its receipt.
+#[tactic(auto, unfolding(crate::specs::ExplainedText::fees_text))]
+pub fn fee_lines(decimals: u8, fees: &HiringFees, receipt: &Receipt) -> Line
+    requires { decimals ≤ 3 }
+    ensures { result.items ≡ fees_text decimals fees.now receipt.now }
 {
     let mut line = Line::new();
-    let decimals = scale.decimals;
-    push_heading(&mut line, number, &explained.receipt, explained.whole.ticks);
     push_fee(
         &mut line,
         decimals,
-        explained.fee_line,
-        explained.receipt.initial,
-        explained.covers,
+        fees.initial_line,
+        receipt.initial,
+        fees.amounts.covers,
     );
-    push_minimum(
-        &mut line,
-        decimals,
-        explained.minimum_line,
-        explained.receipt.minimum,
-    );
+    push_minimum(&mut line, decimals, fees.minimum_line, receipt.minimum);
     line
 }
 

@@ -6,7 +6,7 @@ ghost use Rattle.verify_bench.specs.Settings.{setting_under};
 ghost use Rattle.commands.specs.ExplainSteps.{IsScale};
 ghost use Rattle.commands.specs.ExplainedText.{explanations_text, hiring_text, hirings_text, rate_text, scale_of, taken_text};
 
-use crate::explained_lines::{Scale, beginning_lines, rate_line, sum_lines, taken_line};
+use crate::explained_lines::{Scale, fee_lines, heading_lines, rate_line, sum_lines, taken_line};
 use receipt_text::{push_supplements, push_total};
 use seal_record::Params;
 use std::alloc::Global;
@@ -73,7 +73,14 @@ fn push_hiring(
     let decimals = scale.decimals;
     let mut receipt = explained.receipt;
     receipt.decimals = decimals;
-    push_line(text, beginning_lines(scale, number, explained))?;
+    push_line(
+        text,
+        heading_lines(number, &explained.receipt, explained.whole.ticks),
+    )?;
+    push_line(
+        text,
+        fee_lines(decimals, &explained.fees, &explained.receipt),
+    )?;
     push_rates(text, scale, explained.groups.as_slice())?;
     push_line(text, sum_lines(scale, explained, &receipt))?;
     push_taken(text, decimals, explained.taken.as_slice())?;

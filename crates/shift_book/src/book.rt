@@ -10,7 +10,7 @@ use std::alloc::Global;
 use totals_record::Durable;
 
 /// Why a text is no book.
-#[derive(Clone, Copy, PartialEq, Eq)]
+#[derive(Clone, Copy)]
 pub enum BookFault {
     /// The text has more than 1,048,576 bytes.
     TooLong,

@@ -4,6 +4,7 @@ use Rattle.std.proofs.Common.{subst, map, sum, true, false, Bool, Option, Some, 
 use Rattle.std.specs.Prelude.{min, nat_le, if◌then◌else◌}
 use Rattle.std.proofs.lemmas.Bool.{le-leb}
 use Rattle.std.proofs.lemmas.List.{append-nil, map-append}
+use Rattle.std.proofs.lemmas.List.Elements.{filter_map-append}
 use Rattle.meter_states.specs.Closing.{closed, receipt_of, roaming_checked, roaming_entered}
 use Rattle.meter_states.specs.Display.{shown, display_of, is_shown}
 use Rattle.taxi_units.specs.declared.event.Key.{Key}
@@ -16,7 +17,7 @@ use Rattle.meter_states.specs.Step.{latch_refused}
 use Rattle.meter_states.specs.Trip.{InHired, MeterTrip, pulses_in, pulses_of, ticks_in, ticks_of, with_part}
 use Rattle.meter_states.specs.Trip as model
 use Rattle.meter_states.specs.declared.act.Act.{Act}
-use Rattle.meter_states.specs.declared.act.Act.TheVariants.{Show, Refuse, Enter, Hold, Receipt}
+use Rattle.meter_states.specs.declared.act.Act.TheVariants.{Show}
 use Rattle.taxi_units.specs.declared.event.Operating.TheVariants.{Off, ForHire, Hired, Stopped}
 use Rattle.tariff_syntax.specs.declared.context.Context.{Context}
 use Rattle.verify_bench.proofs.Permitted.{not_at_most}
@@ -27,7 +28,6 @@ use Rattle.taxi_units.specs.Limits.{hirings_end, last_number}
 use Rattle.taxi_units.specs.declared.event.Operating.{Operating}
 use Rattle.taxi_units.specs.declared.receipt.Display.{Display}
 use Rattle.verify_bench.specs.Bench.{AreTrips, HasTicks, IsMeterInRange, IsHiringInRange, Moves, BenchStands}
-use Rattle.verify_bench.specs.Expecting.{hirings_in}
 use Rattle.verify_bench.specs.Explaining.{Explanation, explanation, explanation_of, explanations_in, hired_by, taken_of}
 use Rattle.verify_bench.specs.Explaining.{whole_of}
 use Rattle.taxi_units.specs.declared.receipt.Receipt as receipts
@@ -38,7 +38,7 @@ use Rattle.verify_bench.proofs.Gathering.{zero_plus}
 use Rattle.totals_record.specs.Entries.{is_of_hiring}
 use Rattle.taxi_units.specs.declared.receipt.Kind.{Kind}
 use Rattle.verify_bench.specs.Hirings.{IsHiringOf}
-use Rattle.verify_bench.specs.declared.expected.Expected.{Expected}
+use Rattle.verify_bench.specs.Receipts.{receipt_in, receipts_in}
 use Rattle.verify_bench.specs.declared.explained.Explained.{Explained}
 use Rattle.verify_bench.specs.declared.explained.Sums.{Sums}
 use Rattle.verify_bench.specs.declared.hiring.Hiring.{Hiring}
@@ -144,31 +144,11 @@ counted_hired s hired meter m x stands is context =
     let operating : m.operating ≡ Hired = sym stands.operating ∙ is in
     rw (operating, context, stands.taken) refl
 
--- receipts of acts and of those behind them
-pub hirings_in-append : (ticks : ℕ) (first others : List Act)
-    → hirings_in ticks (first ++ others) ≡ hirings_in ticks first ++ hirings_in ticks others
-hirings_in-append ticks [] others = refl
-hirings_in-append ticks (Show display ∷ acts) others = hirings_in-append ticks acts others
-hirings_in-append ticks (Refuse why ∷ acts) others = hirings_in-append ticks acts others
-hirings_in-append ticks (Enter entry ∷ acts) others = hirings_in-append ticks acts others
-hirings_in-append ticks (Hold trip ∷ acts) others = hirings_in-append ticks acts others
-hirings_in-append ticks (Receipt receipt ∷ acts) others =
-    ap (λ (list : List Expected).
-    record { kind = receipt.kind; fare = receipt.fare; hired_mm = receipt.hired_mm; ticks = ticks } ∷ list)
-    (hirings_in-append ticks acts others)
-
--- explanations of the receipts of acts and of those behind them
-pub explanations_in-append : (s : Setting) (hired : Context) (trip : Option MeterTrip) (first others : List Act)
-    → explanations_in s hired trip (first ++ others)
-    ≡ explanations_in s hired trip first ++ explanations_in s hired trip others
-explanations_in-append s hired trip [] others = refl
-explanations_in-append s hired trip (Show display ∷ acts) others = explanations_in-append s hired trip acts others
-explanations_in-append s hired trip (Refuse why ∷ acts) others = explanations_in-append s hired trip acts others
-explanations_in-append s hired trip (Enter entry ∷ acts) others = explanations_in-append s hired trip acts others
-explanations_in-append s hired trip (Hold held ∷ acts) others = explanations_in-append s hired trip acts others
-explanations_in-append s hired trip (Receipt receipt ∷ acts) others =
-    ap (λ (list : List Explanation). explanation s hired trip receipt ∷ list)
-    (explanations_in-append s hired trip acts others)
+-- what is made of the receipts of acts and of those behind them
+pub of_receipts-append : {A : Type 0} (make : receipts.Receipt → A) (first others : List Act)
+    → map make (receipts_in (first ++ others)) ≡ map make (receipts_in first) ++ map make (receipts_in others)
+of_receipts-append make first others =
+    ap (map make) (filter_map-append receipt_in first others) ∙ map-append make (receipts_in first) (receipts_in others)
 
 abbrev told : List Explained → List Explanation
 told list = map explanation_of list
@@ -184,7 +164,7 @@ moves_then s hired mid next trip a b c one two o more first other = record {
       ∙ (ap (λ (list : List Explanation). list ++ explanations_in s hired trip (more o.next).acts) first.found
       ∙ (append_assoc (told a) (explanations_in s hired trip o.acts) (explanations_in s hired trip (more o.next).acts)
       ∙ ap (λ (list : List Explanation). told a ++ list)
-      (sym (explanations_in-append s hired trip o.acts (more o.next).acts))));
+      (sym (of_receipts-append (explanation s hired trip) o.acts (more o.next).acts))));
 }
 
 -- a stage without acts
@@ -268,29 +248,6 @@ acts_by_either s hired now trip a b meter m key other operating one two is same 
 acts_by_either s hired now trip a b meter m key other operating one two is same (inr at) first second =
     acts_by s hired now trip a b meter m key other two is (sym same ∙ at) second
 
--- without a hiring it is no matter in which context the last trip was hired
-trips_without : (s : Setting) (hired next : Context) (hiring : Option Hiring) (trip : Option MeterTrip) → hiring ≡ None
-    → AreTrips s hired hiring trip → AreTrips s next hiring trip
-trips_without s hired next None None none are = tt
-trips_without s hired next None (Some trip) none are = absurd are
-trips_without s hired next (Some hiring) trip none are = absurd cc
-
-pub stands_without : (s : Setting) (hired next : Context) (meter : BenchMeter) (m : Meter) → meter.hiring ≡ None
-    → BenchStands s hired meter m → BenchStands s next meter m
-stands_without s hired next meter m none stands = record {
-  operating = stands.operating;
-  clock = stands.clock;
-  began = stands.began;
-  taken = stands.taken;
-  latch = stands.latch;
-  position = stands.position;
-  zone = stands.zone;
-  roam = stands.roam;
-  number = stands.number;
-  held = stands.held;
-  trips = trips_without s hired next meter.hiring m.trip none stands.trips;
-}
-
 -- the end of an interval leaves the key that waits and the operating position, and for hire the context of now
 hired_in : (s : Setting) (operating : Operating) (pulses : ℕ) (latch : Option Key) (m : Meter) (hired : Context)
     → hired_by latch operating (context_now s (counted_in s operating pulses m)) hired
@@ -351,9 +308,7 @@ extra_of s hired hiring more t n others extras is =
       started = is.started;
       fees = is.fees;
       opening = is.opening;
-      fee = is.fee;
-      fee_line = is.fee_line;
-      minimum_line = is.minimum_line;
+      own_fees = is.own_fees;
       whole = is.whole;
       rates = is.rates;
       stopped = is.stopped;
@@ -403,13 +358,6 @@ latch_lost s hired next trip found meter m (Some key) is stands = record {
   state = stands_anew s next meter m meter.began m.began None None m.shown stands.began refl stands;
   found = sym (append-nil (told found));
 }
-
--- it is no matter in which context the last trip was hired where there is no hiring
-pub moves_without : (s : Setting) (hired mid next : Context) (trip : Option MeterTrip) (a b : List Explained)
-    (meter : BenchMeter) (o : Outcome) → meter.hiring ≡ None → Moves s hired mid trip a b meter o
-    → Moves s hired next trip a b meter o
-moves_without s hired mid next trip a b meter o none moves =
-    record { state = stands_without s mid next meter o.next none moves.state; found = moves.found }
 
 -- a hiring has the sums of its whole trip
 pub whole_is : (s : Setting) (hired : Context) (hiring : Hiring) (trip : MeterTrip) → IsHiringOf s hired hiring trip
@@ -472,9 +420,7 @@ pub taken_apart : (s : Setting) (hired : Context) (hiring : Hiring) (trip : Mete
     → receipt ≡ made → groups ≡ groups_of s trip.parts → taken ≡ taken_of s.tariff hiring.extras.items
     → record {
       receipt = receipt;
-      fee_line = hiring.fee.fee_line;
-      covers = hiring.fee.initial.covers;
-      minimum_line = hiring.fee.minimum_line;
+      fees = hiring.fees;
       whole = hiring.whole;
       groups = groups;
       stopped = hiring.stopped;
@@ -485,9 +431,7 @@ pub taken_apart : (s : Setting) (hired : Context) (hiring : Hiring) (trip : Mete
 taken_apart s hired hiring trip receipt made groups taken is same grouped added =
     rw (
       same,
-      is.fee_line,
-      is.fee,
-      is.minimum_line,
+      is.own_fees,
       whole_is s hired hiring trip is,
       is.stopped,
       is.dropped,

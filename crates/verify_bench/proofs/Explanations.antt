@@ -3,7 +3,7 @@ use Rattle.std.proofs.Common.{◌≡◌, ℕ, ◌+◌, ◌-◌, ◌∙◌, List,
 use Rattle.std.proofs.Common.{false, Bool, Option, Some, None, append_assoc}
 use Rattle.std.specs.Prelude.{nat_le, nat_lt, if◌then◌else◌}
 use Rattle.std.proofs.lemmas.List.{map-append}
-use Rattle.std.proofs.lemmas.List.Elements.{All-append, All-cons, All-nil}
+use Rattle.std.proofs.lemmas.List.Elements.{All-append, All-cons, All-nil, filter_map-append}
 use Rattle.meter_states.proofs.Laws as states
 use Rattle.meter_states.specs.Closing.{closed, receipt_of, roaming_checked, roaming_checked_in, roaming_entered}
 use Rattle.meter_states.specs.Closing.{trip_closed}
@@ -22,8 +22,7 @@ use Rattle.meter_states.specs.Supplements.{times}
 use Rattle.meter_states.specs.Supply.{aborted, hold_taken, is_within_hold, held_or_closed, powered, resumed}
 use Rattle.meter_states.specs.Supply.{supply_came, supply_dropped, turned_off}
 use Rattle.meter_states.specs.Trip.{InHired, InStopped, Part, Rest, MeterTrip}
-use Rattle.meter_states.specs.declared.act.Act.{Act}
-use Rattle.meter_states.specs.declared.act.Act.TheVariants.{Show, Refuse, Enter, Hold, Receipt}
+use Rattle.meter_states.specs.declared.act.Act.TheVariants.{Show, Refuse}
 use Rattle.tariff_check.specs.SoundTariff.{supplement_numbered}
 use Rattle.tariff_check.specs.declared.values.Supplement.{Supplement}
 use Rattle.tariff_syntax.specs.declared.context.Context.{Context}
@@ -38,7 +37,7 @@ use Rattle.taxi_units.specs.declared.event.Operating.TheVariants.{Off, ForHire, 
 use Rattle.taxi_units.specs.declared.event.Why.TheVariants.{TooFast}
 use Rattle.taxi_units.specs.declared.receipt.Kind.{Kind}
 use Rattle.taxi_units.specs.declared.receipt.Kind.TheVariants as kinds
-use Rattle.taxi_units.specs.declared.receipt.Receipt as receipts
+use Rattle.taxi_units.specs.declared.receipt.Receipt.{Receipt}
 use Rattle.totals_record.specs.States.{first_state}
 use Rattle.totals_record.specs.declared.trip.Trip.{Trip}
 use Rattle.verify_bench.proofs.AmountSums.{all_numbers}
@@ -46,33 +45,21 @@ use Rattle.verify_bench.proofs.Benches.{hired_after}
 use Rattle.verify_bench.proofs.TreeParts.{supplement_of_text}
 use Rattle.verify_bench.specs.Explaining.{Explanation, explanation, explanations_from, explanations_in, explanations_of}
 use Rattle.verify_bench.specs.Explaining.{hired_at, hired_by, trip_at}
-use Rattle.verify_bench.specs.Wholes.{BeganIn, IsOfText, IsOfTrip, receipts_in}
+use Rattle.verify_bench.specs.Receipts.{receipt_in, receipts_in}
+use Rattle.verify_bench.specs.Wholes.{BeganIn, IsOfText, IsOfTrip}
 
 -- the receipts of explanations
-receipts_told : (s : Setting) (hired : Context) (trip : Option MeterTrip) (acts : List Act)
-    → map (λ (e : Explanation). e.receipt) (explanations_in s hired trip acts) ≡ receipts_in acts
+receipts_told : (s : Setting) (hired : Context) (trip : Option MeterTrip) (list : List Receipt)
+    → map (λ (e : Explanation). e.receipt) (map (explanation s hired trip) list) ≡ list
 receipts_told s hired trip [] = refl
-receipts_told s hired trip (Show display ∷ acts) = receipts_told s hired trip acts
-receipts_told s hired trip (Refuse why ∷ acts) = receipts_told s hired trip acts
-receipts_told s hired trip (Enter entry ∷ acts) = receipts_told s hired trip acts
-receipts_told s hired trip (Hold held ∷ acts) = receipts_told s hired trip acts
-receipts_told s hired trip (Receipt receipt ∷ acts) =
-    ap (λ (list : List receipts.Receipt). receipt ∷ list) (receipts_told s hired trip acts)
-
-receipts_in-append : (first others : List Act) → receipts_in (first ++ others) ≡ receipts_in first ++ receipts_in others
-receipts_in-append [] others = refl
-receipts_in-append (Show display ∷ acts) others = receipts_in-append acts others
-receipts_in-append (Refuse why ∷ acts) others = receipts_in-append acts others
-receipts_in-append (Enter entry ∷ acts) others = receipts_in-append acts others
-receipts_in-append (Hold held ∷ acts) others = receipts_in-append acts others
-receipts_in-append (Receipt receipt ∷ acts) others =
-    ap (λ (list : List receipts.Receipt). receipt ∷ list) (receipts_in-append acts others)
+receipts_told s hired trip (receipt ∷ more) =
+    ap (λ (list : List Receipt). receipt ∷ list) (receipts_told s hired trip more)
 
 receipts_from : (s : Setting) (events : List Event) (m : Meter) (hired : Context)
     → map (λ (e : Explanation). e.receipt) (explanations_from s events m hired)
     ≡ receipts_in ((run s events m).acts ++ (ended s (run s events m).next).acts)
 unfolding explanations_from
-receipts_from s [] m hired = receipts_told s hired (trip_at s events.Down m) (ended s m).acts
+receipts_from s [] m hired = receipts_told s hired (trip_at s events.Down m) (receipts_in (ended s m).acts)
 receipts_from s (event ∷ events) m hired =
     let next = (step s event m).next in
     let first = (step s event m).acts in
@@ -81,11 +68,12 @@ receipts_from s (event ∷ events) m hired =
     let told = explanations_in s hired (trip_at s event m) first in
     let rest = explanations_from s events next (hired_at s event m hired) in
     map-append (λ (e : Explanation). e.receipt) told rest
-    ∙ (ap (λ (list : List receipts.Receipt). list ++ map (λ (e : Explanation). e.receipt) rest)
-    (receipts_told s hired (trip_at s event m) first)
-    ∙ (ap (λ (list : List receipts.Receipt). receipts_in first ++ list)
+    ∙ (ap (λ (list : List Receipt). list ++ map (λ (e : Explanation). e.receipt) rest)
+    (receipts_told s hired (trip_at s event m) (receipts_in first))
+    ∙ (ap (λ (list : List Receipt). receipts_in first ++ list)
     (receipts_from s events next (hired_at s event m hired))
-    ∙ (sym (receipts_in-append first (others ++ last)) ∙ ap receipts_in (sym (append_assoc first others last)))))
+    ∙ (sym (filter_map-append receipt_in first (others ++ last))
+    ∙ ap receipts_in (sym (append_assoc first others last)))))
 
 pub receipts_explained : (s : Setting) (events : List Event)
     → map (λ (e : Explanation). e.receipt) (explanations_of s events) ≡ receipts_in (actions_of s first_state events)
@@ -97,7 +85,7 @@ Fresh s hired None = Unit {0}
 Fresh s hired (Some t) = BeganIn s hired t
 
 -- a receipt of a trip that may be none
-record IsReceiptOf (s : Setting) (trip : Option MeterTrip) (receipt : receipts.Receipt) : Type 0 where
+record IsReceiptOf (s : Setting) (trip : Option MeterTrip) (receipt : Receipt) : Type 0 where
   pub t : MeterTrip
   pub kind : Kind
   pub finish : ℕ
@@ -106,32 +94,28 @@ record IsReceiptOf (s : Setting) (trip : Option MeterTrip) (receipt : receipts.R
   pub there : trip ≡ Some t
   pub is : receipt ≡ receipt_of s kind finish position t number
 
-abbrev AreOf : Setting → Option MeterTrip → List Act → Type 0
+abbrev AreOf : Setting → Option MeterTrip → List Receipt → Type 0
 AreOf s trip [] = Unit {0}
-AreOf s trip (Show display ∷ acts) = AreOf s trip acts
-AreOf s trip (Refuse why ∷ acts) = AreOf s trip acts
-AreOf s trip (Enter entry ∷ acts) = AreOf s trip acts
-AreOf s trip (Hold held ∷ acts) = AreOf s trip acts
-AreOf s trip (Receipt receipt ∷ acts) = IsReceiptOf s trip receipt × AreOf s trip acts
+AreOf s trip (receipt ∷ more) = IsReceiptOf s trip receipt × AreOf s trip more
 
-are_both : (s : Setting) (trip : Option MeterTrip) (first others : List Act) → AreOf s trip first → AreOf s trip others
-    → AreOf s trip (first ++ others)
+are_both : (s : Setting) (trip : Option MeterTrip) (first others : List Receipt) → AreOf s trip first
+    → AreOf s trip others → AreOf s trip (first ++ others)
 are_both s trip [] others one other = other
-are_both s trip (Show display ∷ acts) others one other = are_both s trip acts others one other
-are_both s trip (Refuse why ∷ acts) others one other = are_both s trip acts others one other
-are_both s trip (Enter entry ∷ acts) others one other = are_both s trip acts others one other
-are_both s trip (Hold held ∷ acts) others one other = are_both s trip acts others one other
-are_both s trip (Receipt receipt ∷ acts) others one other = (one.0, are_both s trip acts others one.1 other)
+are_both s trip (receipt ∷ more) others one other = (one.0, are_both s trip more others one.1 other)
 
 -- an outcome whose receipts are of a trip, and whose own trip began in a context
 record Goes (s : Setting) (hired : Context) (trip : Option MeterTrip) (o : Outcome) : Type 0 where
-  pub are : AreOf s trip o.acts
+  pub are : AreOf s trip (receipts_in o.acts)
   pub fresh : Fresh s hired o.next.trip
 
 goes_then : (s : Setting) (mid hired : Context) (trip : Option MeterTrip) (o : Outcome) (more : Meter → Outcome)
     → Goes s mid trip o → Goes s hired trip (more o.next) → Goes s hired trip (o >>= more)
-goes_then s mid hired trip o more one other =
-    record { are = are_both s trip o.acts (more o.next).acts one.are other.are; fresh = other.fresh }
+goes_then s mid hired trip o more one other = record {
+  are = subst (λ (list : List Receipt). AreOf s trip list)
+      (sym (filter_map-append receipt_in o.acts (more o.next).acts))
+      (are_both s trip (receipts_in o.acts) (receipts_in (more o.next).acts) one.are other.are);
+  fresh = other.fresh;
+}
 
 goes_quietly : (s : Setting) (hired : Context) (trip : Option MeterTrip) (m : Meter) → Fresh s hired m.trip
     → Goes s hired trip (quiet m)
@@ -167,7 +151,7 @@ goes_closed s hired kind finish m =
     closed_by s hired kind finish m.trip (record m { operating = ForHire; trip = None }) refl
 
 shown_by : (s : Setting) (hired : Context) (trip : Option MeterTrip) (m : Meter) (b : Bool)
-    → AreOf s trip (if b then [] else Show (display_of s m) ∷ [])
+    → AreOf s trip (receipts_in (if b then [] else Show (display_of s m) ∷ []))
 shown_by s hired trip m true = tt
 shown_by s hired trip m false = tt
 
@@ -379,7 +363,7 @@ hired_off (Some keys.Hire) now hired = refl
 hired_off latch now hired = refl
 
 surplus_by : (s : Setting) (trip : Option MeterTrip) (b : Bool) (n : ℕ)
-    → AreOf s trip (if b then Refuse (TooFast n) ∷ [] else [])
+    → AreOf s trip (receipts_in (if b then Refuse (TooFast n) ∷ [] else []))
 surplus_by s trip true n = tt
 surplus_by s trip false n = tt
 
@@ -441,7 +425,7 @@ fresh_at s hired (events.Clock second) m fresh = fresh
 fresh_at s hired (events.Key key) m fresh = fresh
 
 -- a receipt of a trip that began in a context is explained by it
-one_told : (s : Setting) (hired : Context) (trip : Option MeterTrip) (receipt : receipts.Receipt) → Fresh s hired trip
+one_told : (s : Setting) (hired : Context) (trip : Option MeterTrip) (receipt : Receipt) → Fresh s hired trip
     → IsReceiptOf s trip receipt → IsOfTrip s (explanation s hired trip receipt)
 one_told s hired trip receipt fresh of = record {
   hired = hired;
@@ -454,19 +438,15 @@ one_told s hired trip receipt fresh of = record {
   is = rw (of.there, of.is) refl;
 }
 
-all_told : (s : Setting) (hired : Context) (trip : Option MeterTrip) (acts : List Act) → Fresh s hired trip
-    → AreOf s trip acts → All (IsOfTrip s) (explanations_in s hired trip acts)
+all_told : (s : Setting) (hired : Context) (trip : Option MeterTrip) (list : List Receipt) → Fresh s hired trip
+    → AreOf s trip list → All (IsOfTrip s) (map (explanation s hired trip) list)
 all_told s hired trip [] fresh are = All-nil (IsOfTrip s)
-all_told s hired trip (Show display ∷ acts) fresh are = all_told s hired trip acts fresh are
-all_told s hired trip (Refuse why ∷ acts) fresh are = all_told s hired trip acts fresh are
-all_told s hired trip (Enter entry ∷ acts) fresh are = all_told s hired trip acts fresh are
-all_told s hired trip (Hold held ∷ acts) fresh are = all_told s hired trip acts fresh are
-all_told s hired trip (Receipt receipt ∷ acts) fresh are =
-    All-cons (IsOfTrip s) (explanation s hired trip receipt) (explanations_in s hired trip acts)
-    (one_told s hired trip receipt fresh are.0) (all_told s hired trip acts fresh are.1)
+all_told s hired trip (receipt ∷ more) fresh are =
+    All-cons (IsOfTrip s) (explanation s hired trip receipt) (map (explanation s hired trip) more)
+    (one_told s hired trip receipt fresh are.0) (all_told s hired trip more fresh are.1)
 
 ended_by : (s : Setting) (hired : Context) (operating : Operating) (m : Meter) → Fresh s hired m.trip
-    → AreOf s (trip_at s events.Down m) (ended_in s operating m).acts
+    → AreOf s (trip_at s events.Down m) (receipts_in (ended_in s operating m).acts)
 ended_by s hired Off m fresh = tt
 ended_by s hired ForHire m fresh = (goes_dropped s hired m fresh).are
 ended_by s hired Hired m fresh = (goes_dropped s hired m fresh).are
@@ -476,13 +456,13 @@ of_trips_from : (s : Setting) (events : List Event) (m : Meter) (hired : Context
     → Fresh s hired m.trip → All (IsOfTrip s) (explanations_from s events m hired)
 unfolding explanations_from
 of_trips_from s [] m hired kept fresh =
-    all_told s hired (trip_at s events.Down m) (ended s m).acts (fresh_at s hired events.Down m fresh)
+    all_told s hired (trip_at s events.Down m) (receipts_in (ended s m).acts) (fresh_at s hired events.Down m fresh)
     (ended_by s hired m.operating m fresh)
 of_trips_from s (event ∷ events) m hired kept fresh =
     let goes = step_by s hired m.operating event m refl kept fresh in
     All-append (IsOfTrip s) (explanations_in s hired (trip_at s event m) (step s event m).acts)
     (explanations_from s events (step s event m).next (hired_at s event m hired))
-    (all_told s hired (trip_at s event m) (step s event m).acts (fresh_at s hired event m fresh) goes.are)
+    (all_told s hired (trip_at s event m) (receipts_in (step s event m).acts) (fresh_at s hired event m fresh) goes.are)
     (of_trips_from s events (step s event m).next (hired_at s event m hired)
     (states.the_store_keeps_the_trip-step s event m kept) goes.fresh)
 

@@ -2,16 +2,16 @@
 use Rattle.std.proofs.Common.{◌≡◌, ◌≢◌, ℕ, zero, suc, ◌+◌, ◌*◌, ◌≤◌, ◌∙◌, List, [], ◌∷◌, ◌++◌, refl, ap, sym, map, sum}
 use Rattle.std.proofs.Common.{filter, true, false, Bool, inl, inr, arith}
 use Rattle.std.specs.Prelude.{nat_eq}
-use Rattle.std.proofs.lemmas.Bool.{cases_eq, eq-eqb}
+use Rattle.std.proofs.lemmas.Bool.{eq-eqb}
 use Rattle.std.proofs.lemmas.Bool.Decides.{eqb_tells}
 use Rattle.std.proofs.lemmas.List.Elements.{filter-append}
 use Rattle.std.proofs.lemmas.List.Sums.{sum-map, sum_by-append}
 use Rattle.std.proofs.Math.Nat.{mul-add}
 use Rattle.meter_states.specs.Charge.{charge_at}
 use Rattle.meter_states.specs.Setting.{Setting}
-use Rattle.meter_states.specs.Trip.{Part, InHired, InStopped, Rest, charge_in, pulses_in, ticks_in}
+use Rattle.meter_states.specs.Trip.{Part, InHired, charge_in, pulses_in, ticks_in}
 use Rattle.tariff_syntax.specs.declared.context.Context.{Context}
-use Rattle.verify_bench.specs.Gathered.{AreRateWithin, AreWithin, IsTableOf, all_ways, no_rate_sums, no_sums, rate_at}
+use Rattle.verify_bench.specs.Gathered.{IsTableOf, all_ways, no_rate_sums, no_sums, rate_at}
 use Rattle.verify_bench.specs.Gathered.{rate_sums_with, sums_with}
 use Rattle.verify_bench.specs.Groups.{is_charged_by, is_same_way, rate_place_of, rate_sums, sums_of, way_of}
 use Rattle.verify_bench.specs.declared.explained.Sums.{Sums}
@@ -67,9 +67,6 @@ left_out s test parts part fails =
 
 module _ (s : Setting) (parts : List Part) (p : ℕ) (x : Context) (sums : Sums)
     (is : sums ≡ record { pulses = p; ticks = 1; charge = charge_at s x p }) where
-  with_hired : List Part
-  with_hired = parts ++ InHired p x ∷ []
-
   -- an interval in Hired more, of the rate and the way that charged it
   in_way : (way : Way) → is_same_way (way_of s x p) way ≡ true → (q : ℕ) → rate_place_of s x ≡ q
       → rate_sums s (parts ++ InHired p x ∷ []) q way ≡ sums_with (rate_sums s parts q way) sums
@@ -121,74 +118,6 @@ module _ (s : Setting) (parts : List Part) (p : ℕ) (x : Context) (sums : Sums)
     | inr apart ↦
         others q (λ e. apart.1 (sym at ∙ sym e)) ∙ (of q ∙ sym (other_rate q apart.0))
   ]
-
--- a part that no rate charged
-pub stopped_more : (s : Setting) (parts : List Part) (p : ℕ) (table : List RateSums) → IsTableOf s parts table
-    → IsTableOf s (parts ++ InStopped p ∷ []) table
-stopped_more s parts p table of q =
-    of q ∙ sym (rw (
-      left_out s (is_charged_by s q Distance) parts (InStopped p) refl,
-      left_out s (is_charged_by s q Time) parts (InStopped p) refl,
-      left_out s (is_charged_by s q Both) parts (InStopped p) refl,
-    ) refl)
-
-pub rest_more : (s : Setting) (parts : List Part) (p : ℕ) (table : List RateSums) → IsTableOf s parts table
-    → IsTableOf s (parts ++ Rest p ∷ []) table
-rest_more s parts p table of q =
-    of q ∙ sym (rw (
-      left_out s (is_charged_by s q Distance) parts (Rest p) refl,
-      left_out s (is_charged_by s q Time) parts (Rest p) refl,
-      left_out s (is_charged_by s q Both) parts (Rest p) refl,
-    ) refl)
-
--- within
-within_with : (a b more : Sums) → AreWithin a b → AreWithin a (sums_with b more)
-within_with a b more w =
-    record { pulses = omega (arith, w.pulses); ticks = omega (arith, w.ticks); charge = omega (arith, w.charge) }
-
-both_with : (a b more : Sums) → AreWithin a b → AreWithin (sums_with a more) (sums_with b more)
-both_with a b more w =
-    record { pulses = omega (arith, w.pulses); ticks = omega (arith, w.ticks); charge = omega (arith, w.charge) }
-
-pub stopped_within : (a b more : Sums) → AreWithin a b → AreWithin (sums_with a more) (sums_with b more)
-stopped_within = both_with
-
-pub still_within : (a b more : Sums) → AreWithin a b → AreWithin a (sums_with b more)
-still_within = within_with
-
-pub rate_still_within : (r : RateSums) (b more : Sums) → AreRateWithin r b → AreRateWithin r (sums_with b more)
-rate_still_within r b more w = record {
-  distance = within_with r.distance b more w.distance;
-  time = within_with r.time b more w.time;
-  both = within_with r.both b more w.both;
-}
-
-way_within : (r : RateSums) (way : Way) (b more : Sums) → AreRateWithin r b
-    → AreRateWithin (rate_sums_with r way more) (sums_with b more)
-way_within r Distance b more w = record {
-  distance = both_with r.distance b more w.distance;
-  time = within_with r.time b more w.time;
-  both = within_with r.both b more w.both;
-}
-way_within r Time b more w = record {
-  distance = within_with r.distance b more w.distance;
-  time = both_with r.time b more w.time;
-  both = within_with r.both b more w.both;
-}
-way_within r Both b more w = record {
-  distance = within_with r.distance b more w.distance;
-  time = within_with r.time b more w.time;
-  both = both_with r.both b more w.both;
-}
-
-pub table_within : (old new : List RateSums) (place : ℕ) (way : Way) (b more : Sums)
-    → rate_at new place ≡ rate_sums_with (rate_at old place) way more
-    → ((other : ℕ) → other ≢ place → rate_at new other ≡ rate_at old other)
-    → ((q : ℕ) → AreRateWithin (rate_at old q) b) → (q : ℕ) → AreRateWithin (rate_at new q) (sums_with b more)
-table_within old new place way b more here others within q = elim (cases_eq q place) [
-  | inl same ↦ rw (same, here) (way_within (rate_at old place) way b more (within place))
-  | inr apart ↦ rw (others q apart) (rate_still_within (rate_at old q) b more (within q))
-]
 
 -- charges that are few for their ticks
 pub few_more : (charge price unit ticks : ℕ) → charge ≤ 41000000000 * unit * ticks → price ≤ 41000000000 * unit

@@ -19,7 +19,8 @@ use Rattle.verify_bench.specs.Groups.{way_by}
 use Rattle.verify_bench.specs.Passing.{EachRowPasses, do_all_pass}
 use Rattle.verify_bench.specs.Readings.{IsReadAs, readings_in}
 use Rattle.verify_bench.specs.Verdicts.{IsVerdict, verdict_of}
-use Rattle.verify_bench.specs.Wholes.{ArePartsTheWhole, IsOfTrip, MakesReceipt, charge_in_way, receipts_in}
+use Rattle.verify_bench.specs.Receipts.{receipts_in}
+use Rattle.verify_bench.specs.Wholes.{ArePartsTheWhole, IsOfTrip, MakesReceipt, charge_in_way}
 use Rattle.verify_bench.specs.declared.expected.Expected.{Expected}
 use Rattle.verify_bench.specs.declared.judging.Verdict.{Verdict}
 use Rattle.verify_bench.specs.declared.reading.Reading.{Reading}

@@ -2,6 +2,7 @@
 use Rattle.std.proofs.Common.{◌≡◌, ℕ, ◌+◌, ◌∙◌, List, [], ◌∷◌, ◌++◌, refl, ap, sym, map, sum, Option, Some, None, arith}
 use Rattle.std.proofs.Common.{append_assoc}
 use Rattle.std.proofs.lemmas.List.{map-append}
+use Rattle.std.proofs.lemmas.Simd.{map-map}
 use Rattle.meter_states.specs.Interval.{left_in, ticks_so_far}
 use Rattle.meter_states.specs.Meter.{Meter}
 use Rattle.meter_states.specs.Run.{ended}
@@ -9,7 +10,6 @@ use Rattle.meter_states.specs.Setting.{Setting}
 use Rattle.meter_states.specs.Step.{step}
 use Rattle.meter_states.specs.Trip.{Part, Rest, MeterTrip, ticks_in}
 use Rattle.meter_states.specs.declared.act.Act.{Act}
-use Rattle.meter_states.specs.declared.act.Act.TheVariants.{Show, Refuse, Enter, Hold, Receipt}
 use Rattle.tariff_syntax.specs.declared.context.Context.{Context}
 use Rattle.taxi_units.specs.declared.event.Event.{Event}
 use Rattle.taxi_units.specs.declared.event.Event.TheVariants as events
@@ -20,6 +20,7 @@ use Rattle.verify_bench.specs.Carrying.{Carries, IsAmidExpected}
 use Rattle.verify_bench.specs.Expecting.{hirings_from, hirings_in, ticks_at}
 use Rattle.verify_bench.specs.Explaining.{explanation, explanation_of, explanations_from, explanations_in, hired_at}
 use Rattle.verify_bench.specs.Explaining.{trip_at}
+use Rattle.verify_bench.specs.Receipts.{receipts_in}
 use Rattle.verify_bench.proofs.Gathering.{sum_more}
 use Rattle.verify_bench.specs.Shortened.{short_of}
 use Rattle.verify_bench.specs.declared.expected.Expected.{Expected}
@@ -29,13 +30,7 @@ use Rattle.verify_bench.specs.declared.bench_meter.BenchMeter.{BenchMeter}
 -- the receipts of acts
 short_in : (s : Setting) (hired : Context) (trip : Option MeterTrip) (acts : List Act)
     → map short_of (explanations_in s hired trip acts) ≡ hirings_in (ticks_so_far trip) acts
-short_in s hired trip [] = refl
-short_in s hired trip (Show display ∷ acts) = short_in s hired trip acts
-short_in s hired trip (Refuse why ∷ acts) = short_in s hired trip acts
-short_in s hired trip (Enter entry ∷ acts) = short_in s hired trip acts
-short_in s hired trip (Hold held ∷ acts) = short_in s hired trip acts
-short_in s hired trip (Receipt receipt ∷ acts) =
-    ap (λ (list : List Expected). short_of (explanation s hired trip receipt) ∷ list) (short_in s hired trip acts)
+short_in s hired trip acts = map-map short_of (explanation s hired trip) (receipts_in acts)
 
 add_none : (n : ℕ) → n + 0 ≡ n
 add_none n = omega arith

@@ -1,28 +1,26 @@
 -- Rules: what a drive should come to, which is the receipts of the meter's run with the ticks of their trips.
-use Rattle.std.specs.Prelude.{ℕ, List, [], ◌∷◌, ◌++◌}
+use Rattle.std.specs.Prelude.{ℕ, List, [], ◌∷◌, ◌++◌, map}
 use Rattle.meter_states.specs.Interval.{interval_counted, ticks_so_far}
 use Rattle.meter_states.specs.Meter.{Meter}
 use Rattle.meter_states.specs.Run.{ended, opened}
 use Rattle.meter_states.specs.Setting.{Setting}
 use Rattle.meter_states.specs.Step.{step}
 use Rattle.meter_states.specs.declared.act.Act.{Act}
-use Rattle.meter_states.specs.declared.act.Act.TheVariants.{Show, Refuse, Enter, Hold, Receipt}
 use Rattle.taxi_units.specs.declared.event.Event.{Event}
 use Rattle.taxi_units.specs.declared.event.Event.TheVariants as events
+use Rattle.taxi_units.specs.declared.receipt.Receipt.{Receipt}
 use Rattle.totals_record.specs.States.{first_state}
+use Rattle.verify_bench.specs.Receipts.{receipts_in}
 use Rattle.verify_bench.specs.declared.expected.Expected.{Expected}
 
--- each receipt among acts gives a hiring of its kind, fare and distance, with the ticks of the trip; no other act gives
--- one
-abbrev pub hirings_in : (ticks : ℕ) → List Act → List Expected
-hirings_in ticks [] = []
-hirings_in ticks (Show display ∷ acts) = hirings_in ticks acts
-hirings_in ticks (Refuse why ∷ acts) = hirings_in ticks acts
-hirings_in ticks (Enter entry ∷ acts) = hirings_in ticks acts
-hirings_in ticks (Hold trip ∷ acts) = hirings_in ticks acts
-hirings_in ticks (Receipt receipt ∷ acts) =
+-- a hiring has the kind, the fare and the distance of its receipt, with the ticks of the trip
+abbrev pub hiring_of : (ticks : ℕ) → Receipt → Expected
+hiring_of ticks receipt =
     record { kind = receipt.kind; fare = receipt.fare; hired_mm = receipt.hired_mm; ticks = ticks }
-    ∷ hirings_in ticks acts
+
+-- the hirings among acts are one for each of their receipts
+abbrev pub hirings_in : (ticks : ℕ) → List Act → List Expected
+hirings_in ticks acts = map (hiring_of ticks) (receipts_in acts)
 
 -- a trip that an event closes has the ticks that it had before; if the event is a tick, the interval that it ends
 -- counts too

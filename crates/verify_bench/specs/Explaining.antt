@@ -1,7 +1,6 @@
 -- Rules: why the fare of each hiring of a drive is what it is, by the whole list of its intervals.
-use Rattle.std.specs.Prelude.{ℕ, ◌==◌, List, [], ◌∷◌, ◌++◌, Option, Some, None, option_map, flat_map, filter, get_or, if◌then◌else◌}
+use Rattle.std.specs.Prelude.{ℕ, ◌==◌, List, [], ◌∷◌, ◌++◌, Option, Some, None, flat_map, filter, map, if◌then◌else◌}
 use Rattle.std.specs.List.{range_with_len}
-use Rattle.std.specs.Option.{unwrap_or}
 use Rattle.meter_states.specs.Interval.{context_now, interval_counted, interval_left, pulses_so_far, ticks_so_far}
 use Rattle.meter_states.specs.Meter.{Meter}
 use Rattle.meter_states.specs.Run.{ended, opened}
@@ -10,12 +9,7 @@ use Rattle.meter_states.specs.Step.{step}
 use Rattle.meter_states.specs.Supplements.{amount_in, times}
 use Rattle.meter_states.specs.Trip.{Part, MeterTrip, charges_of}
 use Rattle.meter_states.specs.declared.act.Act.{Act}
-use Rattle.meter_states.specs.declared.act.Act.TheVariants as acts
-use Rattle.meter_states.specs.declared.act.Act.TheVariants.{Show, Refuse, Enter, Hold}
-use Rattle.tariff_check.specs.Amounts.{fees_in_force}
-use Rattle.tariff_check.specs.SoundLookups.{place_in_force}
-use Rattle.tariff_check.specs.SoundTariff.{SoundTariff, lines_of, supplement_numbered}
-use Rattle.tariff_syntax.specs.Meaning.{at_hiring}
+use Rattle.tariff_check.specs.SoundTariff.{SoundTariff, supplement_numbered}
 use Rattle.tariff_syntax.specs.declared.context.Context.{Context}
 use Rattle.taxi_units.specs.declared.event.Event.{Event}
 use Rattle.taxi_units.specs.declared.event.Event.TheVariants as events
@@ -25,20 +19,20 @@ use Rattle.taxi_units.specs.declared.event.Operating.{Operating}
 use Rattle.taxi_units.specs.declared.event.Operating.TheVariants.{ForHire}
 use Rattle.taxi_units.specs.declared.receipt.Receipt.{Receipt}
 use Rattle.totals_record.specs.States.{first_state}
+use Rattle.verify_bench.specs.Fees.{fees_of_hiring}
 use Rattle.verify_bench.specs.Groups.{groups_of, is_rest, is_in_stopped, sums_of}
+use Rattle.verify_bench.specs.Receipts.{receipts_in}
 use Rattle.verify_bench.specs.declared.explained.Explained.{Explained}
 use Rattle.verify_bench.specs.declared.explained.Group.{Group}
 use Rattle.verify_bench.specs.declared.explained.Sums.{Sums}
 use Rattle.verify_bench.specs.declared.explained.Taken.{Taken}
+use Rattle.verify_bench.specs.declared.fees.HiringFees.{HiringFees}
 
--- an explanation of a hiring has its receipt, the line of its initial hire fee and what the fee covers, the line of its
--- minimum fare, if it has one, the sums of its whole trip, the groups of its intervals in Hired, the sums of those in
--- Stopped, the pulses of those that were left unfinished, and its supplements
+-- an explanation of a hiring has its receipt, its fees with their lines, the sums of its whole trip, the groups of its
+-- intervals in Hired, the sums of those in Stopped, the pulses of those that were left unfinished, and its supplements
 pub record Explanation : Type 0 where
   pub receipt : Receipt
-  pub fee_line : ℕ
-  pub covers : ℕ
-  pub minimum_line : Option ℕ
+  pub fees : HiringFees
   pub whole : Sums
   pub groups : List Group
   pub stopped : Sums
@@ -49,25 +43,13 @@ pub record Explanation : Type 0 where
 abbrev pub explanation_of : Explained → Explanation
 explanation_of e = record {
   receipt = e.receipt;
-  fee_line = e.fee_line;
-  covers = e.covers;
-  minimum_line = e.minimum_line;
+  fees = e.fees;
   whole = e.whole;
   groups = e.groups.items;
   stopped = e.stopped;
   dropped = e.dropped;
   taken = e.taken.items;
 }
-
--- the line of the initial hire fee of a context is the number in the text of the one that holds first at the hiring
-abbrev pub fee_line : SoundTariff → Context → ℕ
-fee_line tariff x = get_or (lines_of tariff.initials) (unwrap_or (place_in_force tariff.initials (at_hiring x)) 0) 0
-
--- the line of the minimum fare of a context is the number in the text of the one that holds first at the hiring, if
--- one does
-abbrev pub minimum_line : SoundTariff → Context → Option ℕ
-minimum_line tariff x =
-    option_map (λ place. get_or (lines_of tariff.minimums) place 0) (place_in_force tariff.minimums (at_hiring x))
 
 -- a supplement is taken where its number stands in a list, with its count there and its amount
 abbrev pub taken_if : SoundTariff → (numbers : List ℕ) → (number : ℕ) → List Taken
@@ -107,9 +89,7 @@ whole_of s trip =
 abbrev pub explanation : Setting → (hired : Context) → Option MeterTrip → Receipt → Explanation
 explanation s hired trip receipt = record {
   receipt = receipt;
-  fee_line = fee_line s.tariff hired;
-  covers = (fees_in_force s.tariff hired).covers;
-  minimum_line = minimum_line s.tariff hired;
+  fees = fees_of_hiring s.tariff hired;
   whole = whole_of s trip;
   groups = groups_of s (parts_so_far trip);
   stopped = sums_of s (filter is_in_stopped (parts_so_far trip));
@@ -117,15 +97,9 @@ explanation s hired trip receipt = record {
   taken = taken_of s.tariff (extras_so_far trip);
 }
 
--- each receipt among acts is explained by the trip; no other act is
+-- each receipt among acts is explained by the trip
 abbrev pub explanations_in : Setting → (hired : Context) → Option MeterTrip → List Act → List Explanation
-explanations_in s hired trip [] = []
-explanations_in s hired trip (Show display ∷ acts) = explanations_in s hired trip acts
-explanations_in s hired trip (Refuse why ∷ acts) = explanations_in s hired trip acts
-explanations_in s hired trip (Enter entry ∷ acts) = explanations_in s hired trip acts
-explanations_in s hired trip (Hold held ∷ acts) = explanations_in s hired trip acts
-explanations_in s hired trip (acts.Receipt receipt ∷ acts) =
-    explanation s hired trip receipt ∷ explanations_in s hired trip acts
+explanations_in s hired trip acts = map (explanation s hired trip) (receipts_in acts)
 
 -- a trip that an event closes is the one that was there before; if the event is a tick, the interval that it ends
 -- belongs to it, and if it is a drop of the supply, the interval that it leaves unfinished

@@ -5,10 +5,10 @@ use Rattle.meter_states.specs.KeptTrip.{IsSupplementNumber}
 use Rattle.meter_states.specs.Setting.{Setting, unit_of}
 use Rattle.meter_states.specs.Supplements.{times}
 use Rattle.meter_states.specs.Trip.{MeterTrip, fees_of}
-use Rattle.tariff_check.specs.Amounts.{IsFitInitial, fees_in_force}
+use Rattle.tariff_check.specs.Amounts.{IsFitInitial}
 use Rattle.tariff_syntax.specs.declared.context.Context.{Context}
 use Rattle.taxi_units.specs.Time.{IsSecond}
-use Rattle.verify_bench.specs.Explaining.{fee_line, minimum_line}
+use Rattle.verify_bench.specs.Fees.{fees_of_hiring}
 use Rattle.verify_bench.specs.Gathered.{AreRateWithin, AreWithin, IsTableOf, rate_at}
 use Rattle.verify_bench.specs.Groups.{is_in_stopped, is_rest, sums_of}
 use Rattle.verify_bench.specs.Limits.{most_charge, most_money}
@@ -19,12 +19,10 @@ use Rattle.verify_bench.specs.declared.hiring.Hiring.{Hiring}
 -- of money for each tick
 pub record IsHiringOf (s : Setting) (hired : Context) (hiring : Hiring) (trip : MeterTrip) : Type 0 where
   pub started : trip.started ≡ hiring.started
-  pub fees : trip.fees ≡ fees_of hiring.fee.initial
+  pub fees : trip.fees ≡ fees_of hiring.fees.amounts
   pub opening : trip.opening
-      ≡ record { cover = hiring.fee.initial.covers * unit_of s; above = 0; pulses = 0; ticks = 0 }
-  pub fee : hiring.fee.initial ≡ fees_in_force s.tariff hired
-  pub fee_line : hiring.fee.fee_line ≡ fee_line s.tariff hired
-  pub minimum_line : hiring.fee.minimum_line ≡ minimum_line s.tariff hired
+      ≡ record { cover = hiring.fees.amounts.covers * unit_of s; above = 0; pulses = 0; ticks = 0 }
+  pub own_fees : hiring.fees ≡ fees_of_hiring s.tariff hired
   pub whole : hiring.whole ≡ sums_of s trip.parts
   pub rates : IsTableOf s trip.parts hiring.rates.items
   pub stopped : hiring.stopped ≡ sums_of s (filter is_in_stopped trip.parts)
@@ -36,7 +34,7 @@ pub record IsHiringOf (s : Setting) (hired : Context) (hiring : Hiring) (trip : 
 -- than that of the whole, and each of its supplements is numbered 1 to 16 and was added 99 times at most
 pub record IsWhole (hiring : Hiring) : Type 0 where
   pub started : IsSecond hiring.started
-  pub fee : IsFitInitial hiring.fee.initial
+  pub fees : IsFitInitial hiring.fees.amounts
   pub charge : hiring.whole.charge ≤ most_charge * hiring.whole.ticks
   pub rates : (place : ℕ) → AreRateWithin (rate_at hiring.rates.items place) hiring.whole
   pub stopped : AreWithin hiring.stopped hiring.whole

@@ -5,6 +5,7 @@ pub mod Carrying
 pub mod CrossOvers
 pub mod Expecting
 pub mod Explaining
+pub mod Fees
 pub mod Gathered
 pub mod Generated
 pub mod Groups
@@ -17,6 +18,7 @@ pub mod Pricing
 pub mod ReadingRows
 pub mod ReadingStages
 pub mod Readings
+pub mod Receipts
 pub mod Report
 pub mod RowsTaken
 pub mod Settings

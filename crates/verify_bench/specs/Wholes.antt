@@ -1,14 +1,11 @@
 -- Rules: what the parts of an explanation come to together, and which receipt it is of.
-use Rattle.std.specs.Prelude.{◌≡◌, ℕ, ◌+◌, ◌*◌, List, [], ◌∷◌, All, Some, map, sum}
+use Rattle.std.specs.Prelude.{◌≡◌, ℕ, ◌+◌, ◌*◌, All, Some, map, sum}
 use Rattle.drive_modes.specs.Fare.{shown_fare, steps_above}
 use Rattle.meter_states.specs.Charge.{distance_charge, time_charge}
 use Rattle.meter_states.specs.Closing.{receipt_of}
 use Rattle.meter_states.specs.KeptTrip.{IsSupplementNumber}
 use Rattle.meter_states.specs.Setting.{Setting, rounding_of, unit_of}
 use Rattle.meter_states.specs.Trip.{MeterTrip, fees_of}
-use Rattle.meter_states.specs.declared.act.Act.{Act}
-use Rattle.meter_states.specs.declared.act.Act.TheVariants as acts
-use Rattle.meter_states.specs.declared.act.Act.TheVariants.{Show, Refuse, Enter, Hold}
 use Rattle.drive_modes.specs.Distance.{millimetres_of}
 use Rattle.tariff_check.specs.Parts.{RateNumbers}
 use Rattle.tariff_check.specs.Amounts.{fees_in_force}
@@ -17,21 +14,11 @@ use Rattle.tariff_syntax.specs.Tree.{Tree}
 use Rattle.tariff_syntax.specs.Writable.{IsWritable}
 use Rattle.tariff_syntax.specs.declared.context.Context.{Context}
 use Rattle.taxi_units.specs.declared.receipt.Kind.{Kind}
-use Rattle.taxi_units.specs.declared.receipt.Receipt.{Receipt}
 use Rattle.verify_bench.specs.Explaining.{Explanation, explanation}
 use Rattle.verify_bench.specs.declared.explained.Group.{Group}
 use Rattle.verify_bench.specs.declared.explained.Taken.{Taken}
 use Rattle.verify_bench.specs.declared.explained.Way.{Way}
 use Rattle.verify_bench.specs.declared.explained.Way.TheVariants.{Distance, Time, Both}
-
--- the receipts among acts are those that are printed, in order
-abbrev pub receipts_in : List Act → List Receipt
-receipts_in [] = []
-receipts_in (Show display ∷ acts) = receipts_in acts
-receipts_in (Refuse why ∷ acts) = receipts_in acts
-receipts_in (Enter entry ∷ acts) = receipts_in acts
-receipts_in (Hold trip ∷ acts) = receipts_in acts
-receipts_in (acts.Receipt receipt ∷ acts) = receipt ∷ receipts_in acts
 
 -- an interval of p pulses is charged in a way by a rate what its distance costs, what its time costs, or both
 abbrev pub charge_in_way : (k common : ℕ) → RateNumbers → (p : ℕ) → Way → ℕ
@@ -43,8 +30,8 @@ charge_in_way k common r p Both = distance_charge common r p + time_charge k com
 abbrev pub IsOfText : Setting → Type 0
 IsOfText s = (t : Tree) × IsWritable t × (s.tariff ≡ sound_of t)
 
--- a trip began in a context with the initial hire fee, the minimum fare and the cover that are in force there, and with
--- nothing charged and no pulse and no tick; each of its supplements is numbered 1 to 16, if the setting is of a text
+-- a trip began in a context with the fees and the cover that are in force there, and with nothing charged and no pulse
+-- and no tick; each of its supplements is numbered 1 to 16, if the setting is of a text
 pub record BeganIn (s : Setting) (hired : Context) (trip : MeterTrip) : Type 0 where
   pub fees : trip.fees ≡ fees_of (fees_in_force s.tariff hired)
   pub opening : trip.opening
@@ -76,7 +63,8 @@ pub record ArePartsTheWhole (e : Explanation) : Type 0 where
 pub record MakesReceipt (s : Setting) (e : Explanation) : Type 0 where
   pub distance : e.receipt.hired_mm ≡ millimetres_of s.constant e.whole.pulses
   pub steps : e.receipt.steps ≡ steps_above (rounding_of s)
-      (record { cover = e.covers * unit_of s; above = 0; modulus = e.receipt.step * unit_of s }) e.whole.charge
+      (record { cover = e.fees.amounts.covers * unit_of s; above = 0; modulus = e.receipt.step * unit_of s })
+      e.whole.charge
   pub step : e.receipt.step ≡ s.tariff.step.0
   pub fare : e.receipt.fare ≡ shown_fare e.receipt.initial e.receipt.minimum e.receipt.step e.receipt.steps
   pub supplements : IsOfText s

@@ -1,7 +1,7 @@
 //! The meter of the bench: it charges each interval of a trip as it ends, and adds up by rates and ways.
 #![tactic(auto, using(crate::proofs::Benches::looser))]
 
-ghost use Rattle.std.specs.Prelude.{◌≡◌, ℕ, ◌+◌, ◌-◌, ◌≤◌, ◌<◌, None, OnOk, true};
+ghost use Rattle.std.specs.Prelude.{◌≡◌, ◌-◌, ◌<◌, None, OnOk, true};
 ghost use Rattle.meter_states.specs.Closing.{closed, roaming_checked, roaming_entered};
 ghost use Rattle.meter_states.specs.Interval.{context_on, interval_counted, interval_left, pulses_so_far, ticks_so_far, with_interval, with_roaming};
 ghost use Rattle.meter_states.specs.Meter.{Meter};

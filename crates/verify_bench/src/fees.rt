@@ -1,74 +1,74 @@
 //! The fees of a hiring, over the parts of a tariff.
 ghost use Rattle.std.specs.Prelude.{◌≡◌, ◌∷◌, get_or};
-ghost use Rattle.tariff_check.specs.Faults.{IsSound};
-ghost use Rattle.tariff_check.specs.Parts.{minimums_of};
-ghost use Rattle.tariff_check.specs.Amounts.{IsFitInitial, initial_by, place_number};
-ghost use Rattle.tariff_check.specs.SoundTariff.{sound_of};
-ghost use Rattle.tariff_syntax.specs.Meaning.{minimum_place};
+ghost use Rattle.tariff_check.specs.Amounts.{IsFitInitial, place_number};
+ghost use Rattle.tariff_check.specs.SoundTariff.{own_lines, own_values, sound_of};
 ghost use Rattle.tariff_syntax.specs.Tree.{tree_of};
-ghost use Rattle.tariff_syntax.specs.Writable.{IsWritable};
-ghost use Rattle.verify_bench.specs.Explaining.{fee_line, minimum_line};
+ghost use Rattle.verify_bench.specs.Fees.{fees_of_hiring, line_in};
 
-use crate::lookups::{fee_at, fee_line_at, minimum_at, minimum_line_at};
-use tariff_check::{Checked, Initial};
+use crate::lookups::value_at;
+use tariff_check::{Checked, Choice, Initial, InitialNumbers};
 use tariff_syntax::Context;
 
-/// The initial hire fee and the minimum fare of a hiring, with the numbers of their lines in the text.
+/// The fees of a hiring, with the number of the line of each in the text, counted from 1; the minimum fare has one
+/// where the tariff had a minimum fare at the hiring.
 #[derive(Clone, Copy)]
-pub(crate) struct HireFee {
-    pub(crate) initial: Initial,
-    pub(crate) fee_line: u32,
-    pub(crate) minimum_line: Option<u32>,
+pub struct HiringFees {
+    pub amounts: Initial,
+    pub initial_line: u32,
+    pub minimum_line: Option<u32>,
 }
 
-/// The initial hire fee and the minimum fare of a context at the hiring.
-pub(crate) fn hire_fee(checked: &Checked, x: &Context) -> HireFee
-    ensures fee { result.initial ≡ initial_by (tree_of checked.now) x.now }
-    ensures fee_line { result.fee_line ≡ fee_line (sound_of (tree_of checked.now)) x.now }
-    ensures minimum_line { result.minimum_line ≡ minimum_line (sound_of (tree_of checked.now)) x.now }
-    ensures fit { IsFitInitial result.initial }
+/// The fees of a hiring in a context.
+pub(crate) fn fees_of_hiring(checked: &Checked, x: &Context) -> HiringFees
+    ensures fees { result ≡ fees_of_hiring (sound_of (tree_of checked.now)) x.now }
+    ensures fit { IsFitInitial result.amounts }
 {
-    fee_in(checked, x)
-}
-
-/// The hire fee in a context, of a tariff that is sound.
-fn fee_in(checked: &Checked, x: &Context) -> HireFee
-    ensures fee { result.initial ≡ initial_by (tree_of checked.now) x.now }
-    ensures fee_line { result.fee_line ≡ fee_line (sound_of (tree_of checked.now)) x.now }
-    ensures minimum_line { result.minimum_line ≡ minimum_line (sound_of (tree_of checked.now)) x.now }
-    ensures sound { IsSound (tree_of checked.now) }
-    ensures writable { IsWritable (tree_of checked.now) }
-{
-    let place = checked.initial_of(x).unwrap_or(0);
-    let fee = fee_at(checked, place);
-    HireFee {
-        initial: Initial {
+    let none = InitialNumbers {
+        amount: 0,
+        covers: 0,
+    };
+    let initials = checked.initials();
+    let minimums = checked.minimums();
+    let initial = checked.initial_of(x).unwrap_or(0);
+    let minimum = checked.minimum_of(x);
+    let fee = value_at(initials, initial, none);
+    HiringFees {
+        amounts: Initial {
             amount: fee.amount,
             covers: fee.covers,
-            minimum: minimum_fare(checked, x),
+            minimum: amount_in(minimums, minimum),
         },
-        fee_line: fee_line_at(checked, place),
-        minimum_line: minimum_line(checked, x),
+        initial_line: line_at(initials, initial),
+        minimum_line: line_in(minimums, minimum),
     }
 }
 
-/// The minimum fare of a context at the hiring, 0 where there is none.
-fn minimum_fare(checked: &Checked, x: &Context) -> u64
-    ensures { result ≡ get_or (0 ∷ minimums_of (tree_of checked.now).lines)
-        (place_number (minimum_place (tree_of checked.now) x.now)) 0 }
+/// The amount of the choice at a place, from 0; 0 without a place.
+fn amount_in(choices: &[Choice<u64>], place: Option<usize>) -> u64
+    ensures { result ≡ get_or (0 ∷ own_values choices.now) (place_number place) 0 }
 {
-    match checked.minimum_of(x) {
+    match place {
         None => 0,
-        Some(place) => minimum_at(checked, place),
+        Some(place) => value_at(choices, place, 0),
     }
 }
 
-/// The line of the minimum fare of a context at the hiring.
-fn minimum_line(checked: &Checked, x: &Context) -> Option<u32>
-    ensures { result ≡ minimum_line (sound_of (tree_of checked.now)) x.now }
+/// The number of the line of the choice at a place, from 0; 0 where there is none.
+fn line_at<V>(choices: &[Choice<V>], place: usize) -> u32
+    ensures { result ≡ get_or (own_lines choices.now) place 0 }
 {
-    match checked.minimum_of(x) {
+    match choices.get(place) {
+        Some(choice) => choice.line,
+        None => 0,
+    }
+}
+
+/// The number of the line of the choice at a place, from 0; none without a place.
+fn line_in<V>(choices: &[Choice<V>], place: Option<usize>) -> Option<u32>
+    ensures { result ≡ line_in (own_lines choices.now) place }
+{
+    match place {
         None => None,
-        Some(place) => Some(minimum_line_at(checked, place)),
+        Some(place) => Some(line_at(choices, place)),
     }
 }

@@ -1,5 +1,5 @@
 //! The generated drive as a file.
-ghost use Rattle.std.specs.Prelude.{◌≡◌, ◌≢◌, ℕ, ◌<◌, ◌≤◌, ◌++◌, [], length, take, IfOk, IsErr, IsOk, OnErr};
+ghost use Rattle.std.specs.Prelude.{◌≡◌, ℕ, ◌<◌, ◌≤◌, ◌++◌, [], length, take, IfOk, IsErr, IsOk, OnErr};
 ghost use Rattle.outside.specs.Reading.{LeavesOthers};
 ghost use Rattle.outside.specs.Faults.{HasCause, MayRise};
 ghost use Rattle.verify_bench.specs.Generated.{generated, rest_of};

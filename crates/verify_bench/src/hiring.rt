@@ -1,19 +1,19 @@
 //! A hiring, with the sums of its intervals.
-ghost use Rattle.std.specs.Prelude.{◌≡◌, ℕ, ◌+◌, ◌*◌, ◌^◌, ◌<◌, ◌≤◌, ◌++◌, ◌∷◌, [], ◌==◌, OnOk};
+ghost use Rattle.std.specs.Prelude.{◌≡◌, ◌+◌, ◌*◌, ◌^◌, ◌<◌, ◌≤◌, ◌++◌, ◌∷◌, [], ◌==◌, OnOk};
 ghost use Rattle.meter_states.specs.KeptTrip.{IsSupplementNumber};
-ghost use Rattle.meter_states.specs.Setting.{Setting, unit_of};
+ghost use Rattle.meter_states.specs.Setting.{Setting};
 ghost use Rattle.meter_states.specs.Supplements.{times};
 ghost use Rattle.meter_states.specs.Trip.{InHired, InStopped, Rest, MeterTrip, with_part};
 ghost use Rattle.tariff_check.specs.Amounts.{IsFitInitial};
 ghost use Rattle.tariff_syntax.specs.declared.context.Context.{Context};
 ghost use Rattle.taxi_units.specs.Time.{IsSecond};
-ghost use Rattle.verify_bench.specs.Gathered.{no_sums, rate_at};
+ghost use Rattle.verify_bench.specs.Gathered.{no_sums};
 ghost use Rattle.verify_bench.specs.Hirings.{IsHiringOf};
 ghost use Rattle.verify_bench.specs.Limits.{most_charge};
 ghost use Rattle.verify_bench.specs.Pricing.{IsPriceOf};
 
 use crate::explained::Sums;
-use crate::fees::HireFee;
+use crate::fees::HiringFees;
 use crate::pricing::Price;
 use crate::sums::RateSums;
 use crate::table::add_to_table;
@@ -26,7 +26,7 @@ use taxi_units::NoMemory;
 #[derive(Drop)]
 pub(crate) struct Hiring {
     pub(crate) started: u64,
-    pub(crate) fee: HireFee,
+    pub(crate) fees: HiringFees,
     pub(crate) rates: Vec<RateSums>,
     pub(crate) whole: Sums,
     pub(crate) stopped: Sums,
@@ -38,19 +38,19 @@ impl Hiring {
     ghost use Rattle.verify_bench.specs.Hirings.{IsWhole};
 
     /// A hiring without intervals.
-    pub(crate) fn new(alloc: Global, started: u64, fee: HireFee) -> Hiring
+    pub(crate) fn new(alloc: Global, started: u64, fees: HiringFees) -> Hiring
         requires started { IsSecond started }
-        requires fee { IsFitInitial fee.initial }
+        requires fees { IsFitInitial fees.amounts }
         ensures whole { IsWhole result }
         ensures started { result.started ≡ started }
-        ensures fee { result.fee ≡ fee }
+        ensures fees { result.fees ≡ fees }
         ensures rates { result.rates.items ≡ [] }
         ensures sums { (result.whole ≡ no_sums) × (result.stopped ≡ no_sums) × (result.dropped ≡ 0) }
         ensures extras { result.extras.items ≡ [] }
     {
         Hiring {
             started,
-            fee,
+            fees,
             rates: Vec::new(alloc),
             whole: Sums::new(),
             stopped: Sums::new(),

@@ -10,7 +10,7 @@ use crate::expected::Expected;
 use crate::reading::Reading;
 
 /// What a comparison finds.
-#[derive(Clone, Copy, PartialEq, Eq)]
+#[derive(Clone, Copy)]
 pub enum Verdict {
     /// All three readings are within their permissible errors.
     Pass,

@@ -13,7 +13,7 @@ ghost use Rattle.verify_bench.specs.Settings.{setting_under};
 
 use crate::bench_meter::BenchMeter;
 use crate::explained::Explained;
-use crate::fees::hire_fee;
+use crate::fees::fees_of_hiring;
 use crate::hiring::Hiring;
 use seal_record::Params;
 use std::alloc::Global;
@@ -53,8 +53,8 @@ impl BenchMeter {
             return;
         }
         let x = self.context(self.clock, checked, params, steps);
-        let fee = hire_fee(checked, &x);
-        self.hiring = Some(Hiring::new(alloc, self.clock, fee));
+        let fees = fees_of_hiring(checked, &x);
+        self.hiring = Some(Hiring::new(alloc, self.clock, fees));
         self.operating = Operating::Hired;
         self.roam = 0;
     }

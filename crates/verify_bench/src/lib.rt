@@ -36,6 +36,7 @@ mod writing;
 pub use expected::Expected;
 pub use expecting::{expect, explain};
 pub use explained::{Explained, Group, Sums, Taken, Way};
+pub use fees::HiringFees;
 pub use generated::{generated_drives_mean_their_lines, generated_events};
 pub use generator::Generator;
 pub use judging::{Verdict, judge, verdicts_name_the_first_fault};

@@ -2,7 +2,7 @@
 
 /// The readings of a hiring: its fare in the tariff's smallest units, its distance in millimetres, and
 /// its duration in tenths of a second.
-#[derive(Clone, Copy, PartialEq, Eq)]
+#[derive(Clone, Copy)]
 pub struct Reading {
     pub fare: u64,
     pub distance_mm: u64,
@@ -10,7 +10,7 @@ pub struct Reading {
 }
 
 /// Why a text of readings isn't read.
-#[derive(Clone, Copy, PartialEq, Eq)]
+#[derive(Clone, Copy)]
 pub enum ReadingsFault {
     /// It has more than 1,048,576 bytes.
     TooLong,

@@ -12,7 +12,7 @@ use crate::judging::{Verdict, judge};
 use crate::reading::Reading;
 use csv::{ByteRecord, Writer, WriterBuilder};
 use std::alloc::Global;
-use taxi_units::{Kind, Line, NoMemory, push_bytes, push_money, push_number};
+use taxi_units::{Kind, Line, NoMemory, push_money, push_number};
 
 /// The fields of the header.
 const HEADER: [&[u8]; 9] = [

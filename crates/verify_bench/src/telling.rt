@@ -1,8 +1,6 @@
 //! What a hiring that is closed comes to: its receipt, and why its fare is what it is.
-ghost use Rattle.std.specs.Prelude.{◌≡◌, ℕ, ◌+◌, ◌*◌, ◌<◌, ◌≤◌, ◌++◌, [], List, Some, map, flat_map, All, IfOk, OnOk};
-ghost use Rattle.std.specs.List.{range_with_len};
+ghost use Rattle.std.specs.Prelude.{◌≡◌, ℕ, ◌+◌, ◌*◌, ◌<◌, ◌≤◌, ◌++◌, List, Some, IfOk, OnOk};
 ghost use Rattle.meter_states.specs.Closing.{receipt_of};
-ghost use Rattle.meter_states.specs.KeptTrip.{IsSupplementNumber};
 ghost use Rattle.meter_states.specs.Setting.{Setting, stamp_at};
 ghost use Rattle.meter_states.specs.Supplements.{amount_in, amounts_of, times};
 ghost use Rattle.meter_states.specs.Trip.{Part, MeterTrip};
@@ -62,9 +60,7 @@ pub(crate) fn explained<L: Ledger>(
     let taken = taken(alloc, hiring, checked)?;
     Ok(Explained {
         receipt,
-        fee_line: hiring.fee.fee_line,
-        covers: hiring.fee.initial.covers,
-        minimum_line: hiring.fee.minimum_line,
+        fees: hiring.fees,
         whole: hiring.whole,
         groups,
         stopped: hiring.stopped,
@@ -90,7 +86,7 @@ fn receipt<L: Ledger>(
         closing.kind closing.finish closing.position trip closing.number }
 {
     let (step, _) = checked.step();
-    let fee = hiring.fee.initial;
+    let fee = hiring.fees.amounts;
     let start = stamp(params, hiring.started, steps);
     let finish = stamp(params, closing.finish, steps);
     let hired_mm = millimetres(params.constant, hiring.whole.pulses);

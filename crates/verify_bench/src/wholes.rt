@@ -12,7 +12,8 @@ ghost use Rattle.taxi_units.specs.declared.event.Event.{Event};
 ghost use Rattle.totals_record.specs.States.{first_state};
 ghost use Rattle.verify_bench.specs.Explaining.{Explanation, explanations_of};
 ghost use Rattle.verify_bench.specs.Groups.{way_by};
-ghost use Rattle.verify_bench.specs.Wholes.{ArePartsTheWhole, IsOfTrip, MakesReceipt, charge_in_way, receipts_in};
+ghost use Rattle.verify_bench.specs.Receipts.{receipts_in};
+ghost use Rattle.verify_bench.specs.Wholes.{ArePartsTheWhole, IsOfTrip, MakesReceipt, charge_in_way};
 
 /// A law: the explanations of a drive have the receipts of the meter's actions from a new store, one for
 /// each, in order; and each is of the trip that was closed with that receipt.

@@ -1,4 +1,4 @@
-use Rattle.std.proofs.Common.{◌≡◌, ◌≢◌, ◌∙◌, ℕ, List, [], ◌++◌, Ok, Err, refl, sym, ap, subst, arith, inl, inr}
+use Rattle.std.proofs.Common.{◌≢◌, ◌∙◌, ℕ, List, [], ◌++◌, Ok, Err, refl, sym, ap, subst, arith, inl, inr}
 use Rattle.std.proofs.Common.{All, flat_map}
 use Rattle.std.proofs.lemmas.List.{append-nil}
 use Rattle.drive_text.specs.Ranges.{IsRunInRange}

@@ -3,9 +3,8 @@ use Rattle.std.specs.Prelude.{nat_le}
 use Rattle.meter_states.specs.Interval.{context_now, context_on}
 use Rattle.meter_states.specs.Keys.{hired}
 use Rattle.meter_states.specs.Setting.{local_at}
-use Rattle.tariff_check.specs.Amounts.{fees_in_force}
 use Rattle.taxi_units.specs.Limits.{hirings_end}
-use Rattle.verify_bench.specs.Explaining.{fee_line, minimum_line}
+use Rattle.verify_bench.specs.Fees.{fees_of_hiring}
 use Rattle.verify_bench.specs.Settings.{setting_under}
 use Rattle.verify_bench.proofs.Benches.{hires_yet, moves_quietly}
 use Rattle.verify_bench.proofs.bench_meter.BenchMeter.hire.Goals as goal
@@ -17,12 +16,8 @@ returns-clause-moves g c trip found m before stands =
     c.context-x.ensures m before stands ∙ ap (λ (second : ℕ). context_on s (local_at s second) m) stands.clock in
     let few : nat_le hirings_end m.durable.number ≡ false =
     hires_yet s before c.args.self.now m stands c.if-self-ge-HIRINGS_END.false in
-    let initial : c.hire_fee-fee.result.initial ≡ fees_in_force s.tariff (context_now s m) =
-    c.hire_fee-fee.ensures.fee ∙ ap (fees_in_force s.tariff) x in
-    let line : c.hire_fee-fee.result.fee_line ≡ fee_line s.tariff (context_now s m) =
-    c.hire_fee-fee.ensures.fee_line ∙ ap (fee_line s.tariff) x in
-    let minimum : c.hire_fee-fee.result.minimum_line ≡ minimum_line s.tariff (context_now s m) =
-    c.hire_fee-fee.ensures.minimum_line ∙ ap (minimum_line s.tariff) x in
+    let fees : c.fees_of_hiring-fees.result ≡ fees_of_hiring s.tariff (context_now s m) =
+    c.fees_of_hiring-fees.ensures.fees ∙ ap (fees_of_hiring s.tariff) x in
     let made = c.new.ensures in
     rw few (moves_quietly s before (context_now s m) trip found _ (hired s m) (record {
       operating = refl;
@@ -37,11 +32,9 @@ returns-clause-moves g c trip found m before stands =
       held = stands.held;
       trips = record {
         started = rw made.started (sym stands.clock);
-        fees = rw (made.fee, initial) refl;
-        opening = rw (made.fee, initial) refl;
-        fee = rw made.fee initial;
-        fee_line = rw made.fee line;
-        minimum_line = rw made.fee minimum;
+        fees = rw (made.fees, fees) refl;
+        opening = rw (made.fees, fees) refl;
+        own_fees = rw made.fees fees;
         whole = made.sums.0;
         rates = λ place. rw made.rates refl;
         stopped = made.sums.1;

@@ -10,7 +10,7 @@ returns-clause-whole c =
     let whole = c.requires.whole in
     on_ok_weaker c.map_err.result (λ items. record {
       started = whole.started;
-      fee = whole.fee;
+      fees = whole.fees;
       charge = whole.charge;
       rates = whole.rates;
       stopped = whole.stopped;

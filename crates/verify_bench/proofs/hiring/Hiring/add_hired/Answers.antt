@@ -19,9 +19,7 @@ returns-clause-trip c = λ s hired x trip of price.
       started = of.started;
       fees = of.fees;
       opening = of.opening;
-      fee = of.fee;
-      fee_line = of.fee_line;
-      minimum_line = of.minimum_line;
+      own_fees = of.own_fees;
       whole = c.with-self.ensures ∙ ap (λ (whole : Sums). sums_with whole sums) of.whole
           ∙ sym (part_more s trip.parts part sums is);
       rates = table_more s trip.parts p x sums is c.args.self.now.rates.items c.add_to_table.new.table.items

@@ -1,0 +1,30 @@
+use Rattle.std.proofs.Common.{refl, sym, subst}
+use Rattle.tariff_check.proofs.Laws.{hirings_begin_with_first_lines-fit}
+use Rattle.tariff_check.specs.Amounts.{IsFitInitial}
+use Rattle.tariff_syntax.specs.Tree.{tree_of}
+use Rattle.verify_bench.specs.declared.fees.HiringFees.{HiringFees}
+use Rattle.verify_bench.proofs.fees.fees_of_hiring.Goals as goal
+
+pub returns-clause-fees : goal.returns-clause-fees
+returns-clause-fees c =
+    let initials = c.initials-initials.ensures.value in
+    let minimums = c.minimums-minimums.ensures.value in
+    rw (
+      c.value_at-fee.ensures,
+      c.line_at.ensures,
+      c.unwrap_or-initial.ensures,
+      c.initial_of.ensures,
+      initials.values,
+      initials.numbers,
+      c.amount_in.ensures,
+      c.line_in.ensures,
+      c.minimum_of-minimum.ensures,
+      minimums.values,
+      minimums.numbers,
+    ) refl
+
+pub returns-clause-fit : goal.returns-clause-fit
+returns-clause-fit c =
+    subst (λ (fees : HiringFees). IsFitInitial fees.amounts) (sym (returns-clause-fees c))
+    (hirings_begin_with_first_lines-fit (tree_of c.args.checked.now) c.args.x.now
+    c.initials-initials.ensures.writable c.initials-initials.ensures.sound)

@@ -1,0 +1,15 @@
+-- Rules: the receipts that acts print.
+use Rattle.std.specs.Prelude.{List, Option, Some, None}
+use Rattle.std.specs.List.{filter_map}
+use Rattle.meter_states.specs.declared.act.Act.{Act}
+use Rattle.meter_states.specs.declared.act.Act.TheVariants as acts
+use Rattle.taxi_units.specs.declared.receipt.Receipt.{Receipt}
+
+-- the receipt of an act is the one that it prints, and none if it is of another kind
+abbrev pub receipt_in : Act → Option Receipt
+receipt_in (acts.Receipt receipt) = Some receipt
+receipt_in _ = None
+
+-- the receipts among acts are those that are printed, in order
+abbrev pub receipts_in : List Act → List Receipt
+receipts_in acts = filter_map receipt_in acts
