@@ -1,9 +1,8 @@
 -- The contexts that meters within reach are charged and hired in, and settings that agree because their tariffs are the
 -- same.
-use Rattle.std.proofs.Common.{◌≡◌, ℕ, ◌*◌, ◌<◌, ◌≤◌, Bool, true, false, not, ◌&&◌, ◌==◌, pos, unsigned_abs, Option}
-use Rattle.std.proofs.Common.{Some, None, get_or, if◌then◌else◌, mul-pos, refl, ap, sym, subst, ◌∙◌, arith}
+use Rattle.std.proofs.Common.{◌≡◌, ℕ, ◌*◌, ◌<◌, ◌≤◌, true, pos, unsigned_abs, Option, get_or, mul-pos, refl, ap, sym}
+use Rattle.std.proofs.Common.{subst, ◌∙◌, arith}
 use Rattle.std.specs.Option.{unwrap_or}
-use Rattle.std.proofs.lemmas.Grind.{common_steps}
 use Rattle.drive_modes.specs.declared.charges.Mode.{Mode}
 use Rattle.drive_modes.specs.declared.meterage.Rounding.{Rounding}
 use Rattle.drive_modes.specs.declared.meterage.Rounding.TheVariants.{Behind}
@@ -17,14 +16,13 @@ use Rattle.tariff_check.specs.SoundLookups.{rate_in_force}
 use Rattle.tariff_check.specs.SoundTariff.{SoundTariff, sound_of, supplement_numbered}
 use Rattle.tariff_check.proofs.Laws.{sound_tariffs_have_sound_parts-parts}
 use Rattle.tariff_compare.specs.Contexts.{IsMeterContext, IsMeterTime, context_at}
-use Rattle.tariff_compare.specs.Same.{cost_same, is_fee_other, is_minimum_other, rate_in}
+use Rattle.tariff_compare.specs.Same.{cost_same, rate_in}
 use Rattle.tariff_compare.specs.declared.meter_context.MeterContext.{MeterContext}
+use Rattle.tariff_compare.proofs.Laws.{no_difference-hiring, no_difference-rate}
 use Rattle.tariff_check.specs.Amounts.{fees_in_force, initial_by}
-use Rattle.tariff_check.specs.declared.values.Initial.{Initial}
 use Rattle.tariff_syntax.specs.Meaning.{at_hiring, rate_place}
 use Rattle.tariff_syntax.specs.Tree.{Tree}
 use Rattle.tariff_syntax.specs.Writable.{IsFromTo}
-use Rattle.tariff_check.specs.declared.choice.ChoiceKind.TheVariants as kinds
 use Rattle.meter_states.specs.Charge.{charge_at, charge_by}
 use Rattle.meter_states.specs.Interval.{context_now, context_of, context_on, ticks_so_far}
 use Rattle.meter_states.specs.Meter.{Meter}
@@ -137,39 +135,6 @@ hired-in t s m range placed = record {
 
 -- ---- settings with tariffs that are the same
 
-record NoDifference (fee minimum rate : Bool) : Type 0 where
-  pub no_fee : fee ≡ false
-  pub no_minimum : minimum ≡ false
-  pub no_rate : rate ≡ true
-
-none-different : (fee minimum rate : Bool)
-    → (if fee then Some kinds.Initial
-    else (if minimum then Some kinds.Minimum else (if rate then None else Some kinds.Rate))) ≡ None
-    → NoDifference fee minimum rate
-none-different true minimum rate is = absurd cc
-none-different false true rate is = absurd cc
-none-different false false false is = absurd cc
-none-different false false true is = record { no_fee = refl; no_minimum = refl; no_rate = refl }
-
-not-different : (a b : Tree) (s t : Setting) (c : MeterContext) → AreSameSettings a b s t → IsMeterContext a c
-    → NoDifference (is_fee_other a b s.constant c) (is_minimum_other a b s.constant c)
-    (cost_same (rate_in a (context_at a s.constant c)) (rate_in b (context_at b s.constant c)))
-not-different a b s t c same is = none-different _ _ _ (same.tariffs.contexts c is)
-
-abbrev fee_with : (amount covers minimum : ℕ) → Initial
-fee_with amount covers minimum = record { amount = amount; covers = covers; minimum = minimum }
-
-fee-by : {a a' c c' m m' : ℕ} → a ≡ a' → c ≡ c' → m ≡ m' → fee_with a c m ≡ fee_with a' c' m'
-fee-by amount covers minimum = cc
-
-same-fee : (i j : Initial) → not ((i.amount == j.amount) && (i.covers == j.covers)) ≡ false
-    → not (i.minimum == j.minimum) ≡ false → i ≡ j
-same-fee i j fee minimum =
-    let amount : i.amount ≡ j.amount = grind (arith, common_steps) in
-    let covers : i.covers ≡ j.covers = grind (arith, common_steps) in
-    let least : i.minimum ≡ j.minimum = grind (arith, common_steps) in
-    fee-by amount covers least
-
 -- what two settings have of their tariffs is equal if it is of the tariffs
 parts-both : {A : Type 0} (a b : Tree) (s t : Setting) (of : SoundTariff → A) → AreSameSettings a b s t
     → of (sound_of a) ≡ of (sound_of b) → of s.tariff ≡ of t.tariff
@@ -225,7 +190,7 @@ rates-over a b s t m same placed short p =
     let cost : cost_same r q ≡ true =
     ap (λ (x : RateNumbers). cost_same x q) (rate-there a s m c one)
     ∙ ap (cost_same (rate_in a (context_at a s.constant c))) rate
-    ∙ (not-different a b s t c same one.context).no_rate in
+    ∙ no_difference-rate a b s.constant c (same.tariffs.contexts c one.context) in
     let charges = charge-same s.mode s.constant (measure_of a.lines) (measure_of b.lines) p r q
     (rate-fits a (context_of s m) same.one.writable same.one.sound)
     (rate-fits b (context_of t m) same.other.writable same.other.sound) cost in
@@ -254,9 +219,7 @@ hirings-agree a b s t m same placed =
     let there = hired-in b t m same.other (placed-both a b s t m same placed) in
     let other : IsHiredIn b t m c = subst (λ (x : MeterContext). IsHiredIn b t m (without_trip x))
     (sym (context-both a b s t m.clock m same)) there in
-    let none = not-different a b s t c same one.context in
-    let fees : initial_by a (context_at a s.constant c) ≡ initial_by b (context_at b s.constant c) =
-    same-fee _ _ none.no_fee none.no_minimum in
+    let fees = no_difference-hiring a b s.constant c refl (same.tariffs.contexts c one.context) in
     ap (λ (x : SoundTariff). fees_in_force x (context_now s m)) same.one.parts
     ∙ one.fee ∙ fees ∙ ap (λ (k : ℕ). initial_by b (context_at b k c)) (constant-is a b s t same) ∙ sym other.fee
     ∙ ap (λ (x : SoundTariff). fees_in_force x (context_now t m)) (sym same.other.parts)

@@ -46,8 +46,8 @@ pub record IsChargedIn (t : Tree) (s : Setting) (m : Meter) (c : MeterContext) :
   pub context : IsMeterContext t c
   pub rate : rate_place t (context_of s m) ≡ rate_place t (context_at t s.constant c)
 
--- a meter that is hired now has the fee of a context of a meter if that context is one of a meter under the tariff, and
--- the same initial hire fee and the same minimum fare hold first in it as at the hiring
+-- a meter that is hired now has the fees of a context of a meter if that context is one of a meter under the tariff,
+-- and a hiring begins with the same in it as now
 pub record IsHiredIn (t : Tree) (s : Setting) (m : Meter) (c : MeterContext) : Type 0 where
   pub context : IsMeterContext t c
   pub fee : initial_by t (context_now s m) ≡ initial_by t (context_at t s.constant c)

@@ -49,8 +49,8 @@ pub record BeginsIn (t : Tree) (s : Setting) (c : MeterContext) (m : Meter) : Ty
   pub begins : m.taken ≡ []
   pub context : context_of s m ≡ context_at t s.constant c
 
--- a meter has a trip that was hired in a context of a meter if it has the amount and the cover of the initial hire fee
--- and the minimum fare that hold first there
+-- a meter has a trip that was hired in a context of a meter if it has the fees and the cover with which a hiring there
+-- begins
 pub record WasHiredIn (t : Tree) (s : Setting) (c : MeterContext) (m : Meter) : Type 0 where
   pub trip : MeterTrip
   pub has : m.trip ≡ Some trip

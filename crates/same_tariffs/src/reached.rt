@@ -23,8 +23,8 @@ pub fn events_of_drives_are_timely()
 {}
 
 /// Whatever events of the meter's seconds a run has, the meter is within reach after them. There the running
-/// interval is charged in the lines of the context of a meter at its beginning, and a hiring has the fee and
-/// the minimum fare of one without a trip.
+/// interval is charged in the lines of the context of a meter at its beginning, and a hiring begins with what one
+/// does in a context without a trip.
 pub fn intervals_are_charged_in_contexts_of_a_meter()
     ensures reached { (t : Tree) (s : Setting) (durable : Durable) (events : List Event) → IsSettingInRange t s
         → All IsTimely events

@@ -19,11 +19,11 @@ use Rattle.tariff_syntax.specs.Tree.{Tree}
 use Rattle.tariff_syntax.specs.declared.context.Context.{Context}
 use Rattle.tariff_check.specs.declared.choice.ChoiceKind.{ChoiceKind}
 use Rattle.tariff_compare.specs.Contexts.{HasTables, IsMeterContext, context_at}
-use Rattle.tariff_compare.specs.Counting.{counts, is_asked, is_at}
+use Rattle.tariff_compare.specs.Counting.{counts, is_at}
 use Rattle.tariff_compare.specs.Grids.{CanBeAsked}
-use Rattle.tariff_compare.specs.Kinds.{difference_at}
-use Rattle.tariff_compare.specs.Sides.{InForce, context_by, counts_by, difference_by, differing_kind, in_force}
-use Rattle.tariff_compare.specs.Sides.{in_force_by, is_among, is_met, is_met_by, lines_by, place_in, side_of}
+use Rattle.tariff_compare.specs.Kinds.{InForce, difference_at, differing_kind, in_force, is_asked, place_in}
+use Rattle.tariff_compare.specs.Sides.{context_by, counts_by, difference_by, in_force_by, is_among, is_met, is_met_by}
+use Rattle.tariff_compare.specs.Sides.{lines_by, side_of}
 use Rattle.tariff_compare.specs.declared.meter_context.MeterContext.{MeterContext}
 use Rattle.tariff_compare.specs.declared.question.Question.{Question}
 use Rattle.tariff_compare.specs.declared.question.Question.TheVariants.{Counts, Differs}
@@ -123,17 +123,12 @@ force_is t k m has is =
     (tables_equal_the_tree-fees t (tables_of t k) x (tables_are t k has) range)
 
 -- so is what differs there
-pub difference_at_is : (t u : Tree) (k : ℕ) (m : MeterContext)
-    → differing_kind m (in_force t (context_at t k m)) (in_force u (context_at u k m)) ≡ difference_at t u k m
-unfolding differing_kind
-difference_at_is t u k m = refl
-
 pub difference_is : (t u : Tree) (k : ℕ) (m : MeterContext) → HasTables t k → HasTables u k → IsMeterContext t m
     → IsMeterContext u m → difference_by (side_of t k) (side_of u k) m ≡ difference_at t u k m
 difference_is t u k m t_has u_has t_is u_is =
     ap (λ (f : InForce). differing_kind m f (in_force_by (side_of u k) (context_by (tables_of u k) m)))
     (force_is t k m t_has t_is)
-    ∙ (ap (differing_kind m (in_force t (context_at t k m))) (force_is u k m u_has u_is) ∙ difference_at_is t u k m)
+    ∙ ap (differing_kind m (in_force t (context_at t k m))) (force_is u k m u_has u_is)
 
 -- the answer to a question by the tables is that by the tariffs
 pub met_is : (t u : Tree) (k : ℕ) (question : Question) (m : MeterContext) → HasTables t k → HasTables u k

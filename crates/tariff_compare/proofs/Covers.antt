@@ -1,6 +1,6 @@
 -- For each context of a meter the grid has one in the same cell of both tariffs, which isn't later.
-use Rattle.std.proofs.Common.{◌≡◌, ◌≢◌, ◌∙◌, ◌⊎◌, ap, sym, subst, refl, ℕ, ◌≤◌, Bool, true, false, not, ◌&&◌, ◌||◌, eqb}
-use Rattle.std.proofs.Common.{List, [], ◌∷◌, inl, inr, pos, arith}
+use Rattle.std.proofs.Common.{◌≡◌, ◌≢◌, ◌∙◌, ◌⊎◌, ap, sym, subst, refl, ℕ, ◌≤◌, Bool, true, false, not, ◌||◌, eqb, List}
+use Rattle.std.proofs.Common.{[], ◌∷◌, inl, inr, pos, arith}
 use Rattle.std.proofs.lemmas.Bool.{eq-eqb, eqb-true}
 use Rattle.interval_clock.specs.Calendar.{date_after, date_place, weekday_of}
 use Rattle.tariff_calendar.specs.Lists.{count_at_most, lists_of}
@@ -17,6 +17,7 @@ use Rattle.tariff_compare.specs.declared.day.Day.{Day}
 use Rattle.tariff_compare.specs.declared.meter_context.MeterContext.{MeterContext}
 use Rattle.tariff_compare.proofs.Bridge.{among}
 use Rattle.tariff_compare.proofs.Found.{IsOfGrid, IsOn}
+use Rattle.tariff_compare.proofs.Frames.{both_parts, differ}
 use Rattle.tariff_compare.proofs.GridDays.{IsOneOfDays, IsLike, day_at_place, kept_like, kept_place, place_of_day}
 use Rattle.tariff_compare.proofs.Levels.{IsAtOne}
 use Rattle.tariff_compare.proofs.MeterTimes.{days_within, minutes_within, tested_first, tested_last, time_test}
@@ -26,26 +27,13 @@ use Rattle.tariff_compare.proofs.Order.{AllLe}
 
 -- ---- days that are like another
 
-pub both_parts : (a b : Bool) → (a && b) ≡ true → (a ≡ true) × (b ≡ true)
-both_parts true b h = (refl, h)
-both_parts false b h = absurd (differ h)
-  where
-    differ : false ≡ true → ⊥
-    differ h = cc
-
 not_true : (a : Bool) → not a ≡ true → a ≡ false
 not_true true h = absurd (differ h)
-  where
-    differ : false ≡ true → ⊥
-    differ h = cc
 not_true false h = refl
 
 same_values : (a b : Bool) → is_same a b ≡ true → a ≡ b
 same_values true b h = sym h
 same_values false true h = absurd (differ h)
-  where
-    differ : false ≡ true → ⊥
-    differ h = cc
 same_values false false h = refl
 
 -- days that mean the same to both tariffs
@@ -93,14 +81,8 @@ like_same d e (inr alike) = (alike_parts d e alike).same
 
 no_edge : (n edge : ℕ) → (edge ≡ 10956) ⊎ (edge ≡ 84006) → is_edge n ≡ false → n ≢ edge
 no_edge n edge (inl e) none = λ same. absurd (differ (sym none ∙ rw (eq-eqb n 10956 (same ∙ e)) refl))
-  where
-    differ : false ≡ true → ⊥
-    differ h = cc
 no_edge n edge (inr e) none = λ same. absurd (differ (sym none ∙ by (eqb n 10956) (eq-eqb n 84006 (same ∙ e))))
   where
-    differ : false ≡ true → ⊥
-    differ h = cc
-
     by : (b : Bool) → eqb n 84006 ≡ true → (b || eqb n 84006) ≡ true
     by true h = refl
     by false h = h

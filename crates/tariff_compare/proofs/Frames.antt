@@ -1,6 +1,6 @@
 -- The frame of two tariffs: nothing differs exactly where it is the same.
-use Rattle.std.proofs.Common.{◌≡◌, ◌∙◌, ◌⊎◌, ap, sym, refl, ℕ, Bool, true, false, not, eqb, if◌then◌else◌, List, []}
-use Rattle.std.proofs.Common.{◌∷◌, find, Option, Some, None, option_map, inl, inr, arith}
+use Rattle.std.proofs.Common.{◌≡◌, ◌∙◌, ◌⊎◌, ap, sym, refl, ℕ, Bool, true, false, not, ◌&&◌, eqb, if◌then◌else◌, List}
+use Rattle.std.proofs.Common.{[], ◌∷◌, find, Option, Some, None, option_map, inl, inr, arith}
 use Rattle.std.proofs.lemmas.Bool.{cases_lt, eq-eqb, eqb-true}
 use Rattle.drive_modes.specs.declared.meterage.Rounding.{Rounding}
 use Rattle.drive_modes.specs.declared.meterage.Rounding.TheVariants.{Behind, Ahead}
@@ -18,7 +18,7 @@ use Rattle.tariff_compare.specs.declared.difference.Difference.TheVariants.{Deci
 use Rattle.tariff_compare.specs.declared.difference.Difference.TheVariants.{Supplement}
 use Rattle.tariff_compare.proofs.Numbers.{IsIn, range_within}
 
-differ : false ≡ true → ⊥
+pub differ : false ≡ true → ⊥
 differ h = cc
 
 some_none : {A : Type 0} {a : A} → Some a ≡ None → ⊥
@@ -47,7 +47,8 @@ none_mapped : (o : Option ℕ) → option_map Supplement o ≡ None → o ≡ No
 none_mapped None h = refl
 none_mapped (Some n) h = absurd (some_none h)
 
-none_found : (p : ℕ → Bool) (xs : List ℕ) → find p xs ≡ None → (n : ℕ) → IsIn n xs → p n ≡ false
+-- a test that nothing in a list passes fails of each
+pub none_found : {X : Type 0} (p : X → Bool) (xs : List X) → find p xs ≡ None → (n : X) → IsIn n xs → p n ≡ false
 none_found p [] h n there = absurd there
 none_found p (x ∷ xs) h n there = by (p x) refl h there (λ rest later. none_found p xs rest n later)
   where
@@ -61,16 +62,21 @@ not_false : (b : Bool) → not b ≡ false → b ≡ true
 not_false true h = refl
 not_false false h = absurd (differ (sym h))
 
-both_parts : (a b : Bool) → (if a then b else false) ≡ true → (a ≡ true) × (b ≡ true)
+-- two tests that pass together each pass
+pub both_parts : (a b : Bool) → (a && b) ≡ true → (a ≡ true) × (b ≡ true)
 both_parts true b h = (refl, h)
 both_parts false b h = absurd (differ h)
+
+both_passed : (a b : Bool) → (if a then b else false) ≡ true → (a ≡ true) × (b ≡ true)
+both_passed true b h = (refl, h)
+both_passed false b h = absurd (differ h)
 
 same_supplements : (a b : Option supplements.Supplement) → is_same_supplement a b ≡ true → a ≡ b
 same_supplements None None h = refl
 same_supplements None (Some r) h = absurd (differ h)
 same_supplements (Some s) None h = absurd (differ h)
 same_supplements (Some s) (Some r) h =
-    let parts = both_parts (eqb s.amount r.amount) (eqb s.max r.max) h in
+    let parts = both_passed (eqb s.amount r.amount) (eqb s.max r.max) h in
     let amount = eqb-true s.amount r.amount parts.0 in
     let most = eqb-true s.max r.max parts.1 in
     λ i. Some (record { amount = amount i; max = most i })

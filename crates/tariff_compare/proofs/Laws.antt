@@ -13,6 +13,7 @@ use Rattle.tariff_compare.specs.declared.difference.Difference.TheVariants.{In}
 use Rattle.tariff_compare.specs.declared.meter_context.MeterContext.{MeterContext}
 use Rattle.tariff_compare.specs.declared.question.Question.TheVariants.{Counts}
 use Rattle.tariff_compare.proofs.DifferenceLaws.{in_is_first, none_is_same, same_is_none}
+pub use Rattle.tariff_compare.proofs.EachKind.{no_difference-hiring, no_difference-rate}
 use Rattle.tariff_compare.proofs.Firsts.{first_is_first}
 use Rattle.tariff_compare.proofs.Frames.{frame_same, same_frame}
 use Rattle.tariff_compare.proofs.MeterTimes.{days_within, minutes_within, tested_first, tested_last, time_test}

@@ -16,7 +16,7 @@ use Rattle.tariff_compare.proofs.Levels.{IsAtOne, IsBelowAll, Rises}
 
 -- ---- being among numbers
 
-abbrev pub IsIn : ℕ → List ℕ → Type 0
+abbrev pub IsIn : {X : Type 0} → X → List X → Type 0
 IsIn n [] = ⊥
 IsIn n (x ∷ xs) = (n ≡ x) ⊎ IsIn n xs
 

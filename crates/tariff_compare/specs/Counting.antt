@@ -1,9 +1,9 @@
 -- Rules: the line of a tariff that counts in a context of a meter.
-use Rattle.std.specs.Prelude.{ℕ, Bool, false, ◌&&◌, ◌||◌, ◌==◌, Option, Some, None}
+use Rattle.std.specs.Prelude.{ℕ, Bool, false, ◌&&◌, ◌==◌, Option, Some, None}
 use Rattle.tariff_syntax.specs.Tree.{Tree}
 use Rattle.tariff_check.specs.declared.choice.ChoiceKind.{ChoiceKind}
 use Rattle.tariff_compare.specs.Contexts.{context_at}
-use Rattle.tariff_compare.specs.Kinds.{is_asked_amid, is_hiring, place_at}
+use Rattle.tariff_compare.specs.Kinds.{is_asked, place_at}
 use Rattle.tariff_compare.specs.declared.meter_context.MeterContext.{MeterContext}
 
 -- the test `is_at` is true if there is a place, and it is the wanted one
@@ -11,12 +11,7 @@ abbrev pub is_at : (wanted : ℕ) → Option ℕ → Bool
 is_at wanted None = false
 is_at wanted (Some place) = place == wanted
 
--- the test `is_asked` is true if a line of a kind can count in a context of a meter: a rate in each, and a line of
--- another kind at a hiring
-abbrev pub is_asked : ChoiceKind → MeterContext → Bool
-is_asked kind m = is_asked_amid kind || is_hiring m
-
 -- the test `counts` is true if, of the lines of a kind, the one at a place, counted from 0, is the one that counts in a
--- context of a meter: the first rate that holds there, or at a hiring the first line of another kind that does
+-- context of a meter: the first that holds there, where a line of the kind can count there
 abbrev pub counts : Tree → (k : ℕ) → ChoiceKind → (place : ℕ) → MeterContext → Bool
 counts t k kind place m = is_asked kind m && is_at place (place_at kind t (context_at t k m))

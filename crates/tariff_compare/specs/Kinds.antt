@@ -1,15 +1,16 @@
--- Rules: the kinds of lines of which the first that holds counts: which choice of a kind counts in a context, what two
--- tariffs differ in there, and the words of a kind.
-use Rattle.std.specs.Prelude.{ℕ, ◌*◌, Bool, true, false, not, ◌&&◌, ◌==◌, if◌then◌else◌, List, get_or, Option, Some}
-use Rattle.std.specs.Prelude.{None}
-use Rattle.std.specs.Prelude.{codes}
+-- Rules: the kinds of lines of which the first that holds counts: which choice of a kind counts in a context, and which
+-- one the lines of a cell name; what two tariffs differ in there; and the words of a kind.
+use Rattle.std.specs.Prelude.{ℕ, ◌-◌, ◌*◌, Bool, true, false, not, ◌&&◌, ◌||◌, ◌==◌, if◌then◌else◌, List, [], ◌∷◌, find}
+use Rattle.std.specs.Prelude.{get_or, Option, Some, None, codes}
 use Rattle.std.specs.Option.{unwrap_or}
 use Rattle.tariff_check.specs.Amounts.{initial_by}
+use Rattle.tariff_check.specs.Kinds.{part_of}
 use Rattle.tariff_check.specs.Parts.{RateNumbers, rates_of}
 use Rattle.tariff_check.specs.declared.choice.ChoiceKind.{ChoiceKind}
 use Rattle.tariff_check.specs.declared.choice.ChoiceKind.TheVariants.{Rate, Initial, Minimum}
 use Rattle.tariff_check.specs.declared.values.Initial as fees
-use Rattle.tariff_syntax.specs.Meaning.{rate_place, initial_place, minimum_place}
+use Rattle.tariff_compile.specs.declared.cells.CellLines.{CellLines}
+use Rattle.tariff_syntax.specs.Meaning.{at_hiring, choice_place, rate_place}
 use Rattle.tariff_syntax.specs.Tree.{Tree}
 use Rattle.tariff_syntax.specs.declared.context.Context.{Context}
 use Rattle.tariff_compare.specs.Contexts.{context_at}
@@ -24,11 +25,25 @@ abbrev pub is_asked_amid : ChoiceKind → Bool
 is_asked_amid Rate = true
 is_asked_amid kind = false
 
--- the line of a kind that holds first in a context is told by its place among those of the kind, counted from 0
+-- the test `is_asked` is true if a line of a kind can count in a context of a meter: amid a trip, or as the context is
+-- one at a hiring
+abbrev pub is_asked : ChoiceKind → MeterContext → Bool
+is_asked kind m = is_asked_amid kind || is_hiring m
+
+-- the line of a kind that holds first in a context, or at its hiring if lines of the kind can't count amid a trip, is
+-- told by its place among those of the kind, counted from 0
 abbrev pub place_at : ChoiceKind → Tree → Context → Option ℕ
-place_at Rate t x = rate_place t x
-place_at Initial t x = initial_place t x
-place_at Minimum t x = minimum_place t x
+place_at kind t x = choice_place (part_of kind) t (if is_asked_amid kind then x else at_hiring x)
+
+-- the place that a number from 1 on tells, and none where it is 0
+abbrev pub place_before : (number : ℕ) → Option ℕ
+place_before number = if number == 0 then None else Some (number - 1)
+
+-- the line of a kind that the lines of a cell name, if they name one, is told by its place, too
+abbrev pub place_in : ChoiceKind → CellLines → Option ℕ
+place_in Rate lines = Some lines.rate
+place_in Initial lines = Some lines.initial
+place_in Minimum lines = place_before lines.minimum
 
 -- a line of a kind has the word with which it begins
 abbrev pub kind_word : ChoiceKind → List ℕ
@@ -59,23 +74,35 @@ have_same_fee one other = (one.amount == other.amount) && (one.covers == other.c
 abbrev pub have_same_minimum : (one other : fees.Initial) → Bool
 have_same_minimum one other = one.minimum == other.minimum
 
--- the test `is_fee_other` is true if a context of a meter is one at a hiring, and the initial hire fees of two tariffs
--- differ there in amount or cover
-abbrev pub is_fee_other : (t u : Tree) (k : ℕ) → MeterContext → Bool
-is_fee_other t u k m =
-    is_hiring m && not (have_same_fee (initial_by t (context_at t k m)) (initial_by u (context_at u k m)))
+-- what is in force in a context is the rate, and what a hiring there begins with
+pub record InForce : Type 0 where
+  pub rate : RateNumbers
+  pub hiring : fees.Initial
 
--- the test `is_minimum_other` is true if a context of a meter is one at a hiring, and the minimum fares of two tariffs
--- differ there
-abbrev pub is_minimum_other : (t u : Tree) (k : ℕ) → MeterContext → Bool
-is_minimum_other t u k m =
-    is_hiring m && not (have_same_minimum (initial_by t (context_at t k m)) (initial_by u (context_at u k m)))
+-- what is in force in a context by a tariff is the first rate that holds in it, and what a hiring in it begins with
+abbrev pub in_force : Tree → Context → InForce
+in_force t x = record { rate = rate_in t x; hiring = initial_by t x }
 
--- what differs between two tariffs in a context of a meter is first the initial hire fee, then the minimum fare, then
--- the rate, or nothing
+-- the test `is_same_of` is true if lines of a kind make no difference between what is in force here and there: rates
+-- that cost the same, or hirings with the same fee, or with the same minimum fare
+abbrev pub is_same_of : ChoiceKind → (one other : InForce) → Bool
+is_same_of Rate one other = cost_same one.rate other.rate
+is_same_of Initial one other = have_same_fee one.hiring other.hiring
+is_same_of Minimum one other = have_same_minimum one.hiring other.hiring
+
+-- two tariffs are compared in the initial hire fee, then in the minimum fare, and then in the rate
+abbrev pub compared_kinds : List ChoiceKind
+compared_kinds = Initial ∷ Minimum ∷ Rate ∷ []
+
+-- the test `is_other` is true if a line of a kind can count in a context of a meter, and makes a difference between
+-- what is in force in it here and there
+abbrev pub is_other : MeterContext → (one other : InForce) → ChoiceKind → Bool
+is_other m one other kind = is_asked kind m && not (is_same_of kind one other)
+
+-- what differs between what is in force here and there is the first of the compared kinds that does, or nothing
+unfoldable pub differing_kind : MeterContext → (one other : InForce) → Option ChoiceKind
+differing_kind m one other = find (is_other m one other) compared_kinds
+
+-- what differs between two tariffs in a context of a meter is what differs between what is in force in it by both
 abbrev pub difference_at : (t u : Tree) (k : ℕ) → MeterContext → Option ChoiceKind
-difference_at t u k m =
-    if is_fee_other t u k m then Some Initial
-    else (if is_minimum_other t u k m then Some Minimum
-    else (if cost_same (rate_in t (context_at t k m)) (rate_in u (context_at u k m)) then None
-    else Some Rate))
+difference_at t u k m = differing_kind m (in_force t (context_at t k m)) (in_force u (context_at u k m))

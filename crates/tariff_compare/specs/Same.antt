@@ -5,7 +5,7 @@ use Rattle.tariff_check.specs.DisplayStep.{display_step}
 use Rattle.tariff_syntax.specs.Tree.{Tree}
 use Rattle.tariff_check.specs.declared.choice.ChoiceKind.{ChoiceKind}
 use Rattle.tariff_compare.specs.Contexts.{IsFirst, IsMeterContext}
-pub use Rattle.tariff_compare.specs.Kinds.{cost_same, difference_at, is_fee_other, is_minimum_other, rate_in}
+pub use Rattle.tariff_compare.specs.Kinds.{cost_same, difference_at, rate_in}
 use Rattle.tariff_compare.specs.declared.meter_context.MeterContext.{MeterContext}
 
 -- two tariffs have the same frame if their decimals, display steps, roundings, positions, zones and supplements are

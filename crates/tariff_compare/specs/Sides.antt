@@ -1,20 +1,16 @@
 -- For proofs: what is asked of a tariff in a context of a meter, answered by its tables. Counting and Kinds say it of
 -- the tariff.
-use Rattle.std.specs.Prelude.{ℕ, ◌-◌, Bool, not, ◌&&◌, ◌==◌, if◌then◌else◌, List, get_or, Option, Some, None, pos}
-use Rattle.std.specs.Prelude.{is_some}
+use Rattle.std.specs.Prelude.{ℕ, Bool, ◌&&◌, ◌==◌, List, get_or, Option, is_some, pos}
 use Rattle.std.specs.List.{list_any}
 use Rattle.interval_clock.specs.Calendar.{date_after, date_place, weekday_of}
 use Rattle.tariff_check.specs.Parts.{RateNumbers, rates_of}
 use Rattle.tariff_compile.specs.Tables.{TableParts, fees_in, lines_in, tables_of}
-use Rattle.tariff_check.specs.Amounts.{initial_by}
-use Rattle.tariff_check.specs.declared.values.Initial as fees
 use Rattle.tariff_compile.specs.declared.cells.CellLines.{CellLines}
 use Rattle.tariff_syntax.specs.Tree.{Tree}
 use Rattle.tariff_syntax.specs.declared.context.Context.{Context}
 use Rattle.tariff_check.specs.declared.choice.ChoiceKind.{ChoiceKind}
-use Rattle.tariff_check.specs.declared.choice.ChoiceKind.TheVariants.{Rate, Initial, Minimum}
-use Rattle.tariff_compare.specs.Counting.{counts, is_asked, is_at}
-use Rattle.tariff_compare.specs.Kinds.{cost_same, difference_at, have_same_fee, have_same_minimum, is_hiring, rate_in}
+use Rattle.tariff_compare.specs.Counting.{counts, is_at}
+use Rattle.tariff_compare.specs.Kinds.{InForce, difference_at, differing_kind, is_asked, place_in}
 use Rattle.tariff_compare.specs.declared.meter_context.MeterContext.{MeterContext}
 use Rattle.tariff_compare.specs.declared.question.Question.{Question}
 use Rattle.tariff_compare.specs.declared.question.Question.TheVariants.{Counts, Differs}
@@ -52,42 +48,16 @@ context_by tables m =
 unfoldable pub lines_by : TableParts → MeterContext → CellLines
 lines_by tables m = lines_in tables (context_by tables m)
 
--- the place that a number from 1 on tells, and none where it is 0
-abbrev pub place_before : (number : ℕ) → Option ℕ
-place_before number = if number == 0 then None else Some (number - 1)
-
--- the place of the line of a kind that a cell names, from 0, where it names one
-abbrev pub place_in : ChoiceKind → CellLines → Option ℕ
-place_in Rate lines = Some lines.rate
-place_in Initial lines = Some lines.initial
-place_in Minimum lines = place_before lines.minimum
-
 -- whether a line counts, by the tables
 abbrev pub counts_by : TableParts → ChoiceKind → (place : ℕ) → MeterContext → Bool
 counts_by tables kind place m = is_asked kind m && is_at place (place_in kind (lines_by tables m))
 
--- what is in force in a context is what its rate charges, and the fees at its hiring
-pub record InForce : Type 0 where
-  pub rate : RateNumbers
-  pub hiring : fees.Initial
-
--- what is in force by a tariff, and by the tables of a side
-abbrev pub in_force : Tree → Context → InForce
-in_force t x = record { rate = rate_in t x; hiring = initial_by t x }
-
+-- what is in force in a context by the tables of a side
 unfoldable pub in_force_by : SideParts → Context → InForce
 in_force_by side x = record {
   rate = get_or side.rates (lines_in side.tables x).rate (record { a = 0; b = 0; c = 0; e = 0 });
   hiring = fees_in side.tables x;
 }
-
--- the kind that differs first in a context of a meter, by what is in force there on both sides
-unfoldable pub differing_kind : MeterContext → (one other : InForce) → Option ChoiceKind
-differing_kind m one other =
-    if is_hiring m && not (have_same_fee one.hiring other.hiring) then Some Initial
-    else (if is_hiring m && not (have_same_minimum one.hiring other.hiring) then Some Minimum
-    else (if cost_same one.rate other.rate then None
-    else Some Rate))
 
 -- what differs in a context, by the tables
 abbrev pub difference_by : (one other : SideParts) → MeterContext → Option ChoiceKind

@@ -1,12 +1,12 @@
 //! A question, answered in one context by the tables of both sides.
 ghost use Rattle.std.specs.Prelude.{◌≡◌};
 ghost use Rattle.tariff_compile.specs.Tables.{IsInRangeFor};
-ghost use Rattle.tariff_compare.specs.Counting.{is_asked, is_at};
+ghost use Rattle.tariff_compare.specs.Counting.{is_at};
 ghost use Rattle.tariff_compare.specs.Grids.{CanBeAsked, HasDate, day_in};
 ghost use Rattle.tariff_compare.specs.Sides.{context_by, counts_by, difference_by, is_among, is_met_by};
 
 use crate::day::{Day, day_in};
-use crate::kinds::{differing_kind, is_asked_amid, is_hiring, place_in};
+use crate::kinds::{differing_kind, is_asked, place_in};
 use crate::meter_context::MeterContext;
 use crate::question::Question;
 use crate::side::Side;
@@ -77,13 +77,6 @@ fn counts(tables: &Tables, kind: ChoiceKind, place: usize, m: &MeterContext, x: 
     ensures { result ≡ counts_by tables.now kind place m.now }
 {
     is_asked(kind, m) && is_at(place, place_in(kind, tables.lines_at(x)))
-}
-
-/// Whether a line of a kind can count in a context.
-fn is_asked(kind: ChoiceKind, m: &MeterContext) -> bool
-    ensures { result ≡ is_asked kind m.now }
-{
-    is_asked_amid(kind) || is_hiring(m)
 }
 
 /// Whether there is a place, and it is the wanted one.

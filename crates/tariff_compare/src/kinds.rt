@@ -1,8 +1,8 @@
 //! The kinds of lines of which the first that holds counts: which line counts by the tables, what differs, and words.
-ghost use Rattle.std.specs.Prelude.{◌≡◌, ◌++◌, OnOk};
+ghost use Rattle.std.specs.Prelude.{◌≡◌, ◌++◌, OnOk, find};
 ghost use Rattle.tariff_compile.specs.Tables.{IsInRangeFor};
-ghost use Rattle.tariff_compare.specs.Kinds.{have_same_fee, have_same_minimum, is_asked_amid, is_hiring, kind_word, part_word};
-ghost use Rattle.tariff_compare.specs.Sides.{differing_kind, in_force_by, place_before, place_in};
+ghost use Rattle.tariff_compare.specs.Kinds.{differing_kind, have_same_fee, have_same_minimum, is_asked, is_asked_amid, is_hiring, is_other, is_same_of, kind_word, part_word, place_before, place_in};
+ghost use Rattle.tariff_compare.specs.Sides.{in_force_by};
 
 use crate::costs::cost_same;
 use crate::meter_context::MeterContext;
@@ -11,6 +11,13 @@ use std::alloc::AllocError;
 use tariff_check::{ChoiceKind, Initial};
 use tariff_compile::CellLines;
 use tariff_syntax::Context;
+
+/// Whether a line of a kind can count in a context.
+pub(crate) fn is_asked(kind: ChoiceKind, m: &MeterContext) -> bool
+    ensures { result ≡ is_asked kind m.now }
+{
+    is_asked_amid(kind) || is_hiring(m)
+}
 
 /// Whether a line of a kind can count amid a trip, and not at a hiring alone.
 pub(crate) fn is_asked_amid(kind: ChoiceKind) -> bool
@@ -24,7 +31,7 @@ pub(crate) fn is_asked_amid(kind: ChoiceKind) -> bool
 }
 
 /// Whether a context is one at a hiring.
-pub(crate) fn is_hiring(m: &MeterContext) -> bool
+fn is_hiring(m: &MeterContext) -> bool
     ensures { result ≡ is_hiring m.now }
 {
     m.ticks == 0 && m.pulses == 0
@@ -52,8 +59,11 @@ fn place_before(number: u8) -> Option<usize>
     }
 }
 
+/// The kinds that are compared, one after another.
+const COMPARED: [ChoiceKind; 3] = [ChoiceKind::Initial, ChoiceKind::Minimum, ChoiceKind::Rate];
+
 /// The kind that differs first in a context, by what is in force there on both sides.
-#[tactic(auto, unfolding(crate::specs::Sides::differing_kind, crate::specs::Sides::in_force_by))]
+#[tactic(auto, unfolding(crate::specs::Kinds::differing_kind))]
 pub(crate) fn differing_kind(
     one: &Side,
     other: &Side,
@@ -65,16 +75,57 @@ pub(crate) fn differing_kind(
     requires other { IsInRangeFor other.now.tables y.now }
     ensures { result ≡ differing_kind m.now (in_force_by one.now x.now) (in_force_by other.now y.now) }
 {
-    if is_hiring(m) && !have_same_fee(one.fees_at(x), other.fees_at(y)) {
-        return Some(ChoiceKind::Initial);
+    first_other(one, other, m, x, y, &COMPARED)
+}
+
+/// The first of some kinds that differs in a context.
+fn first_other(
+    one: &Side,
+    other: &Side,
+    m: &MeterContext,
+    x: &Context,
+    y: &Context,
+    kinds: &[ChoiceKind],
+) -> Option<ChoiceKind>
+    requires one { IsInRangeFor one.now.tables x.now }
+    requires other { IsInRangeFor other.now.tables y.now }
+    ensures { result ≡ find (is_other m.now (in_force_by one.now x.now) (in_force_by other.now y.now)) kinds.now }
+{
+    for kind in kinds {
+        if is_other(*kind, one, other, m, x, y) {
+            return Some(*kind);
+        }
     }
-    if is_hiring(m) && !have_same_minimum(one.fees_at(x), other.fees_at(y)) {
-        return Some(ChoiceKind::Minimum);
-    }
-    if cost_same(one.rate_at(x), other.rate_at(y)) {
-        None
-    } else {
-        Some(ChoiceKind::Rate)
+    None
+}
+
+/// Whether a kind differs in a context.
+fn is_other(
+    kind: ChoiceKind,
+    one: &Side,
+    other: &Side,
+    m: &MeterContext,
+    x: &Context,
+    y: &Context,
+) -> bool
+    requires one { IsInRangeFor one.now.tables x.now }
+    requires other { IsInRangeFor other.now.tables y.now }
+    ensures { result ≡ is_other m.now (in_force_by one.now x.now) (in_force_by other.now y.now) kind }
+{
+    is_asked(kind, m) && !is_same_of(kind, one, other, x, y)
+}
+
+/// Whether lines of a kind make no difference between what is in force on both sides.
+#[tactic(auto, unfolding(crate::specs::Sides::in_force_by))]
+fn is_same_of(kind: ChoiceKind, one: &Side, other: &Side, x: &Context, y: &Context) -> bool
+    requires one { IsInRangeFor one.now.tables x.now }
+    requires other { IsInRangeFor other.now.tables y.now }
+    ensures { result ≡ is_same_of kind (in_force_by one.now x.now) (in_force_by other.now y.now) }
+{
+    match kind {
+        ChoiceKind::Rate => cost_same(one.rate_at(x), other.rate_at(y)),
+        ChoiceKind::Initial => have_same_fee(one.fees_at(x), other.fees_at(y)),
+        ChoiceKind::Minimum => have_same_minimum(one.fees_at(x), other.fees_at(y)),
     }
 }
 
