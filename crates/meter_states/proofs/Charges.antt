@@ -22,6 +22,7 @@ use Rattle.tariff_check.specs.Parts.{RateNumbers, rates_of}
 use Rattle.tariff_check.specs.Sound.{IsSoundRate}
 use Rattle.tariff_check.specs.SoundLookups.{rate_in_force}
 use Rattle.tariff_check.specs.SoundTariff.{SoundTariff, sound_of}
+use Rattle.tariff_check.specs.declared.choice.ChoiceKind.TheVariants.{Rate}
 use Rattle.tariff_check.proofs.Laws.{sound_tariffs_have_sound_parts-parts, measures_are_least-least}
 use Rattle.tariff_check.proofs.Laws.{measures_are_least-sound, lines_that_hold_are_there-rate}
 use Rattle.tariff_compile.specs.Tables.{TableParts, all_weights, rate_by, weights_in_force, weights_of}
@@ -89,7 +90,7 @@ charge-of-tree mode t k x p writable sound =
     let none : RateNumbers = record { a = 0; b = 0; c = 0; e = 0 } in
     let least = measures_are_least-least t.lines (measures_are_least-sound t sound) in
     let r = get_or (rates_of t.lines) place none in
-    let numbers : IsSoundRate r = All-get_or IsSoundRate (rates_of t.lines) place none within parts.rates in
+    let numbers : IsSoundRate r = All-get_or IsSoundRate (rates_of t.lines) place none within (parts.choices Rate) in
     let both = each_divides m (rates_of t.lines) least.multiple place none within in
     let weights : rate_by t k x ≡ weights_of k m r =
     ap (λ (o : Option ℕ). get_or (all_weights t k) (unwrap_or o 0) (record { per_pulse = 0; per_tick = 0 })) found.1

@@ -13,6 +13,7 @@ use Rattle.tariff_check.specs.Parts.{RateNumbers, rates_of}
 use Rattle.tariff_check.specs.Sound.{IsSoundRate}
 use Rattle.tariff_check.specs.SoundLookups.{rate_in_force}
 use Rattle.tariff_check.specs.SoundTariff.{sound_of}
+use Rattle.tariff_check.specs.declared.choice.ChoiceKind.TheVariants.{Rate}
 use Rattle.tariff_check.proofs.Laws.{lines_that_hold_are_there-rate, measures_are_least-least, measures_are_least-sound}
 use Rattle.tariff_check.proofs.Laws.{sound_tariffs_have_sound_parts-parts}
 use Rattle.tariff_compare.specs.Same.{cost_same}
@@ -50,7 +51,7 @@ rate-fits t x writable sound =
     let none : RateNumbers = record { a = 0; b = 0; c = 0; e = 0 } in
     let least = measures_are_least-least t.lines (measures_are_least-sound t sound) in
     let numbers = All-get_or IsSoundRate (rates_of t.lines) found.0 none found.2
-    (sound_tariffs_have_sound_parts-parts t writable sound).rates in
+    ((sound_tariffs_have_sound_parts-parts t writable sound).choices Rate) in
     let divide = All-get_or (λ (r : RateNumbers). (common / r.b * r.b ≡ common) × (common / r.e * r.e ≡ common))
     (rates_of t.lines) found.0 none found.2
     (both-measures (λ n. common / n * n ≡ common) (rates_of t.lines) least.multiple) in

@@ -12,6 +12,7 @@ use Rattle.tariff_check.specs.Amounts.{HasAmountsOf, IsFitInitial, initial_by, p
 use Rattle.tariff_check.specs.Faults.{IsSound}
 use Rattle.tariff_check.specs.Parts.{InitialNumbers, initial_part, initials_of, minimum_part, minimums_of}
 use Rattle.tariff_check.specs.Sound.{IsSoundInitial}
+use Rattle.tariff_check.specs.declared.choice.ChoiceKind.TheVariants.{Initial, Minimum}
 use Rattle.tariff_check.proofs.DefaultLines.{choice_always, choice_there, default_initial}
 use Rattle.tariff_check.proofs.SoundParts.{sound_parts}
 
@@ -49,10 +50,11 @@ unfolding no_fee
 fit_initial t x writable sound =
     let parts = sound_parts t writable sound in
     let always = choice_always initial_part t (at_hiring x) (default_initial t sound) in
-    let fee : IsSoundInitial (get_or (initials_of t.lines) always.0 no_fee) = parts.initials always.0 no_fee always.2 in
+    let fee : IsSoundInitial (get_or (initials_of t.lines) always.0 no_fee) =
+    parts.choices Initial always.0 no_fee always.2 in
     record {
       amount = rw always.1 fee.amount;
       covers = rw always.1 fee.covers;
-      minimum = few_by (minimums_of t.lines) (minimum_place t x) parts.minimums
+      minimum = few_by (minimums_of t.lines) (minimum_place t x) (parts.choices Minimum)
           (choice_there minimum_part t (at_hiring x));
     }

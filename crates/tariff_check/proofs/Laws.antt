@@ -1,6 +1,5 @@
 -- The laws of the public empty functions.
 use Rattle.std.proofs.Common.{◌≡◌, ◌↔◌, ℕ, ◌<◌, ◌≤◌, ◌∷◌, ◌++◌, true, List, [], Some, None, All, length, refl}
-use Rattle.tariff_syntax.specs.Choices.{choices, values_of}
 use Rattle.tariff_syntax.specs.Meaning.{at_hiring, choice_place, initial_place, rate_place}
 use Rattle.tariff_syntax.specs.Reads.{RiseInNumber}
 use Rattle.tariff_syntax.specs.Tree.{Tree, Line, Entry}
@@ -11,7 +10,7 @@ use Rattle.tariff_check.specs.Cuts.{IsInOrder, all_cuts, cuts_of, with_each}
 use Rattle.tariff_check.specs.Faults.{IsSound, fault_of}
 use Rattle.tariff_check.specs.Lines.{LineTest, IsFirstLine, IsNowhere, first_line}
 use Rattle.tariff_check.specs.Measure.{IsLeastCommonMultiple, measures_of, measure_of}
-use Rattle.tariff_check.specs.Kinds.{initial_part, initials_of, part_of, rate_part, rates_of}
+use Rattle.tariff_check.specs.Kinds.{initial_part, initials_of, part_of, rate_part, rates_of, said_by}
 use Rattle.tariff_check.specs.Parts.{supplement_of}
 use Rattle.tariff_check.specs.Sound.{HasSoundParts}
 use Rattle.tariff_check.specs.SoundTariff.{HasAllLines, HasFrame, IsInOnePart, sound_of, supplement_numbered}
@@ -80,7 +79,7 @@ pub lines_that_hold_are_there-initial : (t : Tree) (x : Context) → IsSound t
 lines_that_hold_are_there-initial t x sound = choice_always initial_part t (at_hiring x) (default_initial t sound)
 
 pub lines_that_hold_are_there-there : (kind : ChoiceKind) (t : Tree) (x : Context) (place : ℕ)
-    → choice_place (part_of kind) t x ≡ Some place → place < length (values_of (choices (part_of kind) t.lines))
+    → choice_place (part_of kind) t x ≡ Some place → place < length (said_by kind t.lines)
 lines_that_hold_are_there-there kind = choice_there (part_of kind)
 
 pub hirings_begin_with_first_lines-amounts : (t : Tree) (x : Context) → IsSound t → HasAmountsOf t x (initial_by t x)

@@ -1,13 +1,13 @@
 -- A sound tariff has its parts in their ranges.
 use Rattle.std.proofs.Common.{◌≡◌, ℕ, ◌^◌, ◌<◌, ◌≤◌, Bool, true, false, cond, List, [], Option, Some, None, All, refl}
-use Rattle.std.proofs.Common.{length}
-use Rattle.std.proofs.Common.{subst, arith}
+use Rattle.std.proofs.Common.{length, ap, subst, arith}
 use Rattle.std.proofs.lemmas.Bool.{ltb-false, eqb-false}
+use Rattle.std.proofs.lemmas.List.{length-map}
 use Rattle.std.proofs.Math.Nat.{mul-pos}
 use Rattle.std.specs.List.{list_any}
 use Rattle.std.specs.Option.{is_none, unwrap_or}
 use Rattle.drive_modes.specs.declared.meterage.Rounding.{Rounding}
-use Rattle.tariff_syntax.specs.Choices.{choices, values_of}
+use Rattle.tariff_syntax.specs.Choices.{choices}
 use Rattle.tariff_syntax.specs.Tree.{Tree, Line, Entry}
 use Rattle.tariff_syntax.specs.Writable.{IsFromTo, IsWritable}
 use Rattle.tariff_check.specs.Cells.{bands_between, cells_of}
@@ -18,14 +18,15 @@ use Rattle.tariff_check.specs.Lines.{atoms_in, first_line, has_bad_date, has_gre
 use Rattle.tariff_check.specs.Lines.{is_after_nothing, is_for_nothing, is_no_holiday, is_one_too_many}
 use Rattle.tariff_check.specs.Lines.{is_undated}
 use Rattle.tariff_check.specs.Measure.{measure_of, measures_of}
-use Rattle.tariff_check.specs.Kinds.{IsSoundSaid, is_great, part_of}
+use Rattle.tariff_check.specs.Kinds.{IsSoundSaid, Said, is_great, part_of, said_by}
 use Rattle.tariff_check.specs.Parts.{first_part, has_holidays, holiday_part}
 use Rattle.tariff_check.specs.declared.values.Supplement.{Supplement}
 use Rattle.tariff_check.specs.Parts.{numbered_supplement, parts, positions_of, positions_part, step_of, step_part}
 use Rattle.tariff_check.specs.Parts.{zones_of, zones_part}
 use Rattle.tariff_check.specs.Sound.{HasSoundParts, IsSoundHoliday, IsSoundSupplement}
+use Rattle.tariff_check.specs.SoundTariff.{AreChoices}
+use Rattle.tariff_check.specs.declared.choice.Choice.{Choice}
 use Rattle.tariff_check.specs.declared.choice.ChoiceKind.{ChoiceKind}
-use Rattle.tariff_check.specs.declared.choice.ChoiceKind.TheVariants.{Rate, Initial, Minimum}
 use Rattle.tariff_check.specs.declared.fault.CheckFault.TheVariants.{AmountTooBig, BadDate, MeasureZero, TooManyLines}
 use Rattle.tariff_check.specs.declared.fault.CheckFault.TheVariants.{NoCommonMeasure, NoStep, StepZero, TooManyCells}
 use Rattle.tariff_check.specs.declared.fault.Dimension.{Dimension}
@@ -76,8 +77,7 @@ given part P ls fact good = λ (k : ℕ) (d : Line) within. fact _ (good k d wit
 
 -- the choices of a kind are sound, and no more than there may be
 choices_sound : (kind : ChoiceKind) (ls : List Line) → All IsGoodLine ls → first_line is_one_too_many ls ≡ None
-    → All (IsSoundSaid kind) (values_of (choices (part_of kind) ls))
-    × (length (values_of (choices (part_of kind) ls)) ≤ 64)
+    → All (IsSoundSaid kind) (said_by kind ls) × (length (said_by kind ls) ≤ 64)
 choices_sound kind ls good many =
     let part = part_of kind in
     rw (values_are part ls) (
@@ -130,9 +130,6 @@ sound_parts t w h =
     (IsFromTo 1 9) ls n (given positions_part (IsFromTo 1 9) ls positions_fact good) e) in
     let zones = number_or_one (first_part zones_part ls) (λ (n : ℕ) e. first_part_has zones_part (IsFromTo 1 9) ls n
     (given zones_part (IsFromTo 1 9) ls zones_fact good) e) in
-    let rates = choices_sound Rate ls good many in
-    let initials = choices_sound Initial ls good many in
-    let minimums = choices_sound Minimum ls good many in
     record {
       decimals = w.decimals;
       step = step_there (step_of ls) (not_if _ NoStep (assumption none)) (not_if _ StepZero (assumption none))
@@ -140,14 +137,10 @@ sound_parts t w h =
           (given step_part (λ (s : ℕ × Rounding). s.0 ≤ 10 ^ 6) ls step_fact good) e);
       positions = positions;
       zones = zones;
-      rates = rates.0;
-      rate_count = rates.1;
+      choices = λ (kind : ChoiceKind). (choices_sound kind ls good many).0;
+      choice_count = λ (kind : ChoiceKind). (choices_sound kind ls good many).1;
       default_rate = default_rate t h;
-      initials = initials.0;
-      initial_count = initials.1;
       default_initial = default_initial t h;
-      minimums = minimums.0;
-      minimum_count = minimums.1;
       supplements = λ (number : ℕ) (s : Supplement) e. numbered_has IsSoundSupplement (parts numbered_supplement ls)
           number s (parts_all numbered_supplement (λ (x : ℕ × Supplement). IsSoundSupplement x.1) ls
           (given numbered_supplement (λ (x : ℕ × Supplement). IsSoundSupplement x.1) ls supplement_fact good)) e;
@@ -164,6 +157,17 @@ sound_parts t w h =
         ltb-false 64512 (cells_of ls) (not_if _ (TooManyCells (cells_of ls)) (assumption none)),
       );
     }
+
+-- the program has no more choices of a kind than there may be
+pub own_few : (kind : ChoiceKind) (t : Tree) (own : List (Choice (Said kind))) → IsWritable t → IsSound t
+    → AreChoices t.lines own (choices (part_of kind) t.lines) → length own ≤ 64
+own_few kind t own writable sound are =
+    omega (
+      arith,
+      (sound_parts t writable sound).choice_count kind,
+      ap (λ (said : List (Said kind)). length said) are.values,
+      length-map own (λ (c : Choice (Said kind)). c.value),
+    )
 
 -- and so has one whose numbers are known
 pub numbered_parts : (t : Tree) (n : Numbers) → IsWritable t → HasNumbers t.lines n → HasSoundParts t

@@ -45,6 +45,11 @@ is_of Initial (initial amount covers when) = true
 is_of Minimum (minimum amount when) = true
 is_of kind entry = false
 
+-- the test `is_asked_amid` is true if a line of a kind can count amid a trip, and not at a hiring alone
+abbrev pub is_asked_amid : ChoiceKind → Bool
+is_asked_amid Rate = true
+is_asked_amid kind = false
+
 -- a fact holds of each kind if it holds of rates, of initial hire fees and of minimum fares
 abbrev pub EachKind : (ChoiceKind → Type 0) → Type 0
 EachKind P = P Rate × P Initial × P Minimum
@@ -82,17 +87,21 @@ is_great (initial amount covers when) = nat_lt largest_amount amount || nat_lt l
 is_great (minimum amount when) = nat_lt largest_amount amount
 is_great entry = false
 
+-- the lines of a kind say what each of them does, in order
+abbrev pub said_by : (kind : ChoiceKind) → List Line → List (Said kind)
+said_by kind lines = values_of (choices (part_of kind) lines)
+
 -- the initial hire fees of lines are the amount and the cover of each `initial` line, in order
 abbrev pub initials_of : List Line → List InitialNumbers
-initials_of lines = values_of (choices initial_part lines)
+initials_of lines = said_by Initial lines
 
 -- the rates of lines are the amounts and the measures of each `rate` line, in order
 abbrev pub rates_of : List Line → List RateNumbers
-rates_of lines = values_of (choices rate_part lines)
+rates_of lines = said_by Rate lines
 
 -- the minimum fares of lines are the amount of each `minimum` line, in order
 abbrev pub minimums_of : List Line → List ℕ
-minimums_of lines = values_of (choices minimum_part lines)
+minimums_of lines = said_by Minimum lines
 
 -- the choices of a kind that the program keeps
 abbrev pub kept_of : (kind : ChoiceKind) → Choices → List (program.Choice (Said kind))

@@ -2,7 +2,6 @@
 use Rattle.std.specs.Prelude.{◌≡◌, ℕ, ◌^◌, ◌≤◌, true, Some, length, All, IsTrue}
 use Rattle.drive_modes.specs.declared.meterage.Rounding.{Rounding}
 use Rattle.taxi_units.specs.Calendar.{is_date}
-use Rattle.taxi_units.specs.Money.{largest_amount}
 use Rattle.tariff_syntax.specs.Condition as tree
 use Rattle.tariff_syntax.specs.Condition.{Condition}
 use Rattle.tariff_syntax.specs.Tree.{Tree, Line}
@@ -11,10 +10,11 @@ use Rattle.tariff_check.specs.Cells.{cells_of}
 use Rattle.tariff_check.specs.Cuts.{count_of, most_cuts}
 use Rattle.tariff_check.specs.Faults.{has_default}
 pub use Rattle.tariff_check.specs.Kinds.{IsSoundInitial, IsSoundRate}
-use Rattle.tariff_check.specs.Kinds.{initial_part, initials_of, minimums_of, rate_part, rates_of}
+use Rattle.tariff_check.specs.Kinds.{IsSoundSaid, initial_part, rate_part, said_by}
 use Rattle.tariff_check.specs.Lines.{atoms_in}
 use Rattle.tariff_check.specs.Measure.{measure_of}
 use Rattle.tariff_check.specs.Parts.{DateNumbers, step_of, positions_of, zones_of, holidays_of, supplement_of}
+use Rattle.tariff_check.specs.declared.choice.ChoiceKind.{ChoiceKind}
 use Rattle.tariff_check.specs.declared.values.Supplement.{Supplement}
 use Rattle.tariff_check.specs.declared.fault.Dimension.{Dimension}
 
@@ -46,14 +46,10 @@ pub record HasSoundParts (t : Tree) : Type 0 where
   pub step : (s : ℕ × Rounding) × (step_of t.lines ≡ Some s) × IsFromTo 1 (10 ^ 6) s.0
   pub positions : IsFromTo 1 9 (positions_of t.lines)
   pub zones : IsFromTo 1 9 (zones_of t.lines)
-  pub rates : All IsSoundRate (rates_of t.lines)
-  pub rate_count : length (rates_of t.lines) ≤ 64
+  pub choices : (kind : ChoiceKind) → All (IsSoundSaid kind) (said_by kind t.lines)
+  pub choice_count : (kind : ChoiceKind) → length (said_by kind t.lines) ≤ 64
   pub default_rate : has_default rate_part t.lines ≡ true
-  pub initials : All IsSoundInitial (initials_of t.lines)
-  pub initial_count : length (initials_of t.lines) ≤ 64
   pub default_initial : has_default initial_part t.lines ≡ true
-  pub minimums : All (λ amount. amount ≤ largest_amount) (minimums_of t.lines)
-  pub minimum_count : length (minimums_of t.lines) ≤ 64
   pub supplements : (number : ℕ) (s : Supplement) → supplement_of t.lines number ≡ Some s → IsSoundSupplement s
   pub holidays : All IsSoundHoliday (holidays_of t.lines)
   pub holiday_count : length (holidays_of t.lines) ≤ 255

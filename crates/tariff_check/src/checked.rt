@@ -6,9 +6,9 @@ ghost use Rattle.tariff_check.specs.Faults.{IsSound};
 ghost use Rattle.tariff_check.specs.Measure.{measure_of};
 ghost use Rattle.tariff_check.specs.Parts.{positions_of, step_of, supplement_of, zones_of};
 ghost use Rattle.tariff_check.specs.Resolved.{HasParts};
-ghost use Rattle.tariff_check.specs.SoundTariff.{AreChoices, own_conditions, place_of, sound_of, when_at};
+ghost use Rattle.tariff_check.specs.SoundTariff.{own_conditions, place_of, sound_of, when_at};
 ghost use Rattle.tariff_syntax.specs.Condition.{condition_of};
-ghost use Rattle.tariff_syntax.specs.Meaning.{at_hiring, holds_if, initial_place, minimum_place, rate_place};
+ghost use Rattle.tariff_syntax.specs.Meaning.{holds_if};
 ghost use Rattle.tariff_syntax.specs.Tree.{tree_of};
 ghost use Rattle.tariff_syntax.specs.Writable.{IsFromTo, IsWritable};
 ghost use Rattle.taxi_units.specs.Reading.{Gives};
@@ -19,7 +19,7 @@ use crate::resolving::{Parts, numbered};
 use crate::values::{DateNumbers, Supplement};
 use drive_modes::Rounding;
 use std::marker::Model;
-use tariff_syntax::{Cond, Context, InitialNumbers, RateNumbers, Tariff, sat};
+use tariff_syntax::{Cond, Context, Tariff, sat};
 
 /// A sound tariff, with its numbers and its parts.
 #[derive(Drop)]
@@ -101,7 +101,7 @@ impl Checked {
     }
 
     /// The parts, of a tariff that is known to be sound.
-    fn parts(&self) -> &Parts
+    pub(crate) fn parts(&self) -> &Parts
         ensures parts { HasParts (tree_of self.now).lines result.now }
         ensures sound { IsSound (tree_of self.now) }
         ensures writable { IsWritable (tree_of self.now) }
@@ -125,34 +125,6 @@ impl Checked {
         ensures writable { IsWritable (tree_of self.now) }
     {
         numbered(self.parts().supplements.as_slice(), number)
-    }
-
-    /// The choices among its rates, in the order of its lines: 1 to 64, of which one has no condition.
-    pub fn rates(&self) -> &[Choice<RateNumbers>]
-        ensures value { AreChoices (tree_of self.now).lines result.now (sound_of (tree_of self.now)).rates }
-        ensures sound { IsSound (tree_of self.now) }
-        ensures writable { IsWritable (tree_of self.now) }
-    {
-        self.parts().choices.rates.as_slice()
-    }
-
-    /// The choices among its initial hire fees, in the order of its lines: 1 to 64, of which one has no
-    /// condition.
-    pub fn initials(&self) -> &[Choice<InitialNumbers>]
-        ensures value { AreChoices (tree_of self.now).lines result.now (sound_of (tree_of self.now)).initials }
-        ensures sound { IsSound (tree_of self.now) }
-        ensures writable { IsWritable (tree_of self.now) }
-    {
-        self.parts().choices.initials.as_slice()
-    }
-
-    /// The choices among its minimum fares, in the order of its lines: at most 64.
-    pub fn minimums(&self) -> &[Choice<u64>]
-        ensures value { AreChoices (tree_of self.now).lines result.now (sound_of (tree_of self.now)).minimums }
-        ensures sound { IsSound (tree_of self.now) }
-        ensures writable { IsWritable (tree_of self.now) }
-    {
-        self.parts().choices.minimums.as_slice()
     }
 
     /// The choices that its lines give, of all kinds, in the order of its lines.
@@ -194,40 +166,5 @@ impl Checked {
             }
         }
         None
-    }
-
-    /// The rate of a context: the first one that has no condition or whose condition holds, by its place among the
-    /// rates, from 0.
-    pub fn rate_of(&self, x: &Context) -> Option<usize>
-        ensures { result ≡ rate_place (tree_of self.now) x.now }
-    {
-        self.place_of(self.rates(), x)
-    }
-
-    /// The initial hire fee of a context: the first one that has no condition or whose condition holds with no
-    /// pulse and no tick of the trip, by its place among the initial hire fees, from 0.
-    pub fn initial_of(&self, x: &Context) -> Option<usize>
-        ensures { result ≡ initial_place (tree_of self.now) x.now }
-    {
-        self.place_of(self.initials(), &hiring(x))
-    }
-
-    /// The minimum fare of a context: the first one that has no condition or whose condition holds with no pulse
-    /// and no tick of the trip, by its place among the minimum fares, from 0. `None` exactly where none holds.
-    pub fn minimum_of(&self, x: &Context) -> Option<usize>
-        ensures { result ≡ minimum_place (tree_of self.now) x.now }
-    {
-        self.place_of(self.minimums(), &hiring(x))
-    }
-}
-
-/// A context at the hiring, with no pulse and no tick of the trip.
-fn hiring(x: &Context) -> Context
-    ensures { result ≡ at_hiring x.now }
-{
-    Context {
-        pulses: 0,
-        ticks: 0,
-        ..*x
     }
 }

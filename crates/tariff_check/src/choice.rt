@@ -1,15 +1,20 @@
-//! The choices of a tariff: what is said of each kind of line of which the first that holds counts.
+//! The choices of a tariff: what is said of each kind of line of which the first that holds counts, and which holds.
 ghost use Rattle.std.specs.Option.{option_to_list};
-ghost use Rattle.std.specs.Prelude.{◌≡◌, ◌++◌, ◌∷◌, [], OnOk};
+ghost use Rattle.std.specs.Prelude.{◌≡◌, ◌≤◌, ◌++◌, ◌∷◌, [], OnOk, length};
 ghost use Rattle.taxi_units.specs.Reading.{Gives};
+ghost use Rattle.tariff_check.specs.Faults.{IsSound};
 ghost use Rattle.tariff_check.specs.Kinds.{EachKind, is_great, is_of, kept_of, kind_of, part_of};
 ghost use Rattle.tariff_check.specs.Parts.{when_part};
 ghost use Rattle.tariff_check.specs.Resolved.{counted_choice, count_in, placed};
+ghost use Rattle.tariff_check.specs.SoundTariff.{AreChoices, sound_of};
 ghost use Rattle.tariff_syntax.specs.Condition.{condition_of};
-ghost use Rattle.tariff_syntax.specs.Tree.{entry_of, line_of};
+ghost use Rattle.tariff_syntax.specs.Meaning.{at_hiring, initial_place, minimum_place, rate_place};
+ghost use Rattle.tariff_syntax.specs.Tree.{entry_of, line_of, tree_of};
+ghost use Rattle.tariff_syntax.specs.Writable.{IsWritable};
 
+use crate::checked::Checked;
 use std::alloc::Global;
-use tariff_syntax::{Cond, InitialNumbers, Item, RateLine, RateNumbers, TariffLine};
+use tariff_syntax::{Cond, Context, InitialNumbers, Item, RateLine, RateNumbers, TariffLine};
 use taxi_units::{LARGEST_AMOUNT, NoMemory};
 
 /// The kinds of lines of which the first that holds in a context is the one that counts: rates, initial hire fees and
@@ -97,6 +102,74 @@ impl Choices {
             place_in_kind,
             line: line.line,
         })
+    }
+}
+
+impl Checked {
+    /// The choices among its rates, in the order of its lines: 1 to 64, of which one has no condition.
+    pub fn rates(&self) -> &[Choice<RateNumbers>]
+        ensures value { AreChoices (tree_of self.now).lines result.now (sound_of (tree_of self.now)).rates }
+        ensures few { length result.now ≤ 64 }
+        ensures sound { IsSound (tree_of self.now) }
+        ensures writable { IsWritable (tree_of self.now) }
+    {
+        self.parts().choices.rates.as_slice()
+    }
+
+    /// The choices among its initial hire fees, in the order of its lines: 1 to 64, of which one has no
+    /// condition.
+    pub fn initials(&self) -> &[Choice<InitialNumbers>]
+        ensures value { AreChoices (tree_of self.now).lines result.now (sound_of (tree_of self.now)).initials }
+        ensures few { length result.now ≤ 64 }
+        ensures sound { IsSound (tree_of self.now) }
+        ensures writable { IsWritable (tree_of self.now) }
+    {
+        self.parts().choices.initials.as_slice()
+    }
+
+    /// The choices among its minimum fares, in the order of its lines: at most 64.
+    pub fn minimums(&self) -> &[Choice<u64>]
+        ensures value { AreChoices (tree_of self.now).lines result.now (sound_of (tree_of self.now)).minimums }
+        ensures few { length result.now ≤ 64 }
+        ensures sound { IsSound (tree_of self.now) }
+        ensures writable { IsWritable (tree_of self.now) }
+    {
+        self.parts().choices.minimums.as_slice()
+    }
+
+    /// The rate of a context: the first one that has no condition or whose condition holds, by its place among the
+    /// rates, from 0.
+    pub fn rate_of(&self, x: &Context) -> Option<usize>
+        ensures { result ≡ rate_place (tree_of self.now) x.now }
+    {
+        self.place_of(self.rates(), x)
+    }
+
+    /// The initial hire fee of a context: the first one that has no condition or whose condition holds with no
+    /// pulse and no tick of the trip, by its place among the initial hire fees, from 0.
+    pub fn initial_of(&self, x: &Context) -> Option<usize>
+        ensures { result ≡ initial_place (tree_of self.now) x.now }
+    {
+        self.place_of(self.initials(), &hiring(x))
+    }
+
+    /// The minimum fare of a context: the first one that has no condition or whose condition holds with no pulse
+    /// and no tick of the trip, by its place among the minimum fares, from 0. `None` exactly where none holds.
+    pub fn minimum_of(&self, x: &Context) -> Option<usize>
+        ensures { result ≡ minimum_place (tree_of self.now) x.now }
+    {
+        self.place_of(self.minimums(), &hiring(x))
+    }
+}
+
+/// A context at the hiring, with no pulse and no tick of the trip.
+fn hiring(x: &Context) -> Context
+    ensures { result ≡ at_hiring x.now }
+{
+    Context {
+        pulses: 0,
+        ticks: 0,
+        ..*x
     }
 }
 

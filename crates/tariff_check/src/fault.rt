@@ -2,7 +2,7 @@
 
 /// What a condition may compare with a cut: the place of the day in a leap year, the minute of the day,
 /// the distance of the trip or its time.
-#[derive(Clone, Copy, PartialEq, Eq)]
+#[derive(Clone, Copy)]
 pub enum Dimension {
     MonthDay,
     Minute,
@@ -12,7 +12,7 @@ pub enum Dimension {
 
 /// The faults of a tariff, in the order in which they are looked for. Where a line is named, it is the
 /// first that has the fault, by its number in the text.
-#[derive(Clone, Copy, PartialEq, Eq)]
+#[derive(Clone, Copy)]
 pub enum CheckFault {
     /// There is no `step` line.
     NoStep,

@@ -5,14 +5,13 @@ ghost use Rattle.tariff_check.specs.Cuts.{IsInOrder, all_cuts, cuts_of, with_eac
 ghost use Rattle.tariff_check.specs.Faults.{IsSound, fault_of};
 ghost use Rattle.tariff_check.specs.Lines.{LineTest, IsFirstLine, IsNowhere, first_line};
 ghost use Rattle.tariff_check.specs.Measure.{IsLeastCommonMultiple, measures_of, measure_of};
-ghost use Rattle.tariff_check.specs.Kinds.{initials_of, part_of, rates_of};
+ghost use Rattle.tariff_check.specs.Kinds.{initials_of, part_of, rates_of, said_by};
 ghost use Rattle.tariff_check.specs.Parts.{supplement_of};
 ghost use Rattle.tariff_check.specs.Sound.{HasSoundParts};
 ghost use Rattle.tariff_check.specs.SoundTariff.{HasAllLines, HasFrame, IsInOnePart, sound_of, supplement_numbered};
 ghost use Rattle.tariff_check.specs.declared.choice.ChoiceKind.{ChoiceKind};
 ghost use Rattle.tariff_check.specs.declared.fault.CheckFault.TheVariants.{NoCommonMeasure};
 ghost use Rattle.tariff_check.specs.declared.fault.Dimension.{Dimension};
-ghost use Rattle.tariff_syntax.specs.Choices.{choices, values_of};
 ghost use Rattle.tariff_syntax.specs.Meaning.{choice_place, initial_place, rate_place};
 ghost use Rattle.tariff_syntax.specs.Reads.{RiseInNumber};
 ghost use Rattle.tariff_syntax.specs.Tree.{Tree, Line, Entry};
@@ -70,11 +69,11 @@ pub fn lines_that_hold_are_there()
     ensures initial { (t : Tree) (x : Context) → IsSound t
         → (place : ℕ) × (initial_place t x ≡ Some place) × (place < length (initials_of t.lines)) }
     ensures there { (kind : ChoiceKind) (t : Tree) (x : Context) (place : ℕ)
-        → choice_place (part_of kind) t x ≡ Some place → place < length (values_of (choices (part_of kind) t.lines)) }
+        → choice_place (part_of kind) t x ≡ Some place → place < length (said_by kind t.lines) }
 {}
 
-/// The law of hirings: what a hiring begins with is what the initial hire fee says that holds first at it, and the
-/// minimum fare that does, or 0 where none holds; and each is within its limits.
+/// The law of hirings: each amount with which a hiring begins is that of the line of its kind that holds first at it,
+/// or 0 where none does; and each is within its limits.
 pub fn hirings_begin_with_first_lines()
     ensures amounts { (t : Tree) (x : Context) → IsSound t → HasAmountsOf t x (initial_by t x) }
     ensures fit { (t : Tree) (x : Context) → IsWritable t → IsSound t → IsFitInitial (initial_by t x) }

@@ -21,6 +21,7 @@ use Rattle.tariff_check.specs.Measure.{measure_of}
 use Rattle.tariff_check.specs.Parts.{RateNumbers, has_holidays, initials_of, positions_of}
 use Rattle.tariff_check.specs.Parts.{rates_of, zones_of}
 use Rattle.tariff_check.specs.Sound.{HasSoundParts, IsSoundRate}
+use Rattle.tariff_check.specs.declared.choice.ChoiceKind.TheVariants.{Rate}
 use Rattle.tariff_check.specs.declared.fault.Dimension.TheVariants.{MonthDay, Minute, Distance, Time}
 use Rattle.tariff_syntax.specs.Meaning.{at_hiring}
 use Rattle.tariff_syntax.specs.Tree.{Tree}
@@ -244,7 +245,7 @@ weights-fit tables (t, is) =
     let all : All (AreFit (k * measure)) (all_weights t k) =
     All-map (AreFit (k * measure)) (weights_of k measure) (rates_of t.lines)
     (All-weaker IsSoundRate (λ r. AreFit (k * measure) (weights_of k measure r))
-    (λ r. weights_of-fit k measure r is.constant parts.measure.1) (rates_of t.lines) parts.rates) in
+    (λ r. weights_of-fit k measure r is.constant parts.measure.1) (rates_of t.lines) (parts.choices Rate)) in
     subst (λ (p : TableParts). All (AreFit p.measure) p.weights) (sym is.parts) all
 
 -- a supplement is at the place before its number

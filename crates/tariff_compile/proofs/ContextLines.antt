@@ -1,21 +1,23 @@
 -- What is looked up for a context: the lines that its cell has are those that the tree names.
 use Rattle.std.proofs.Common.{◌≡◌, ◌∙◌, sym, ap, ℕ, ◌<◌, ◌≤◌, ◌==◌, Bool, true, false, if◌then◌else◌, min, get_or}
-use Rattle.std.proofs.Common.{refl, arith}
+use Rattle.std.proofs.Common.{Option, refl, arith}
 use Rattle.std.proofs.Math.Nat.{min-eq_right}
+use Rattle.std.proofs.Math.Path.{fun_ext}
 use Rattle.std.proofs.lemmas.List.FromFn.{get_or-map-range_with_len}
 use Rattle.tariff_calendar.specs.Lists.{AreOrdered, CutLists, count_at_most, lists_of}
 use Rattle.tariff_calendar.specs.Range.{IsInRange, IsInRangeOf, IsSameCell}
 use Rattle.taxi_units.specs.Time.{longest_trip}
 use Rattle.tariff_calendar.proofs.Laws.{counts_are_places-few, cuts_decide_conditions-first, lists_are_ordered-ordered}
 use Rattle.tariff_check.specs.Faults.{IsSound}
+use Rattle.tariff_check.specs.Kinds.{is_asked_amid, part_of}
 use Rattle.tariff_check.specs.Parts.{has_holidays, positions_of, zones_of}
 use Rattle.tariff_check.specs.declared.choice.ChoiceKind.{ChoiceKind}
-use Rattle.tariff_check.specs.declared.choice.ChoiceKind.TheVariants.{Rate, Initial, Minimum}
+use Rattle.tariff_syntax.specs.Meaning.{at_hiring, choice_place}
 use Rattle.tariff_syntax.specs.Tree.{Tree}
 use Rattle.tariff_syntax.specs.Writable.{IsWritable}
 use Rattle.tariff_syntax.specs.declared.context.Context.{Context}
 use Rattle.tariff_compile.specs.Cells.{IsBelow, bands_at, beginning, cell_count, context_in, sizes_of}
-use Rattle.tariff_compile.specs.Tables.{all_cells, cell_of, context_of, lines_at, sizes_in}
+use Rattle.tariff_compile.specs.Tables.{all_cells, cell_of, context_of, lines_at, lines_with, place_at, sizes_in}
 use Rattle.tariff_compile.specs.declared.cells.CellLines.{CellLines}
 use Rattle.tariff_compile.proofs.Beginnings.{beginning-le, count_at_most-beginning}
 use Rattle.tariff_compile.proofs.Numbering.{bands_of-cell_number, cell_number_below}
@@ -96,16 +98,30 @@ beginning_same_cell t k x ordered x_in =
           (count_at_most-beginning x.ticks lists.times ordered.times.not_falling);
     }
 
--- the same lines hold first in a context and at the beginning of its cell
-beginning_lines : (t : Tree) (k : ℕ) (x : Context) → IsWritable t → IsSound t → IsInRangeOf t k x
-    → lines_at t (beginning_of t k x) ≡ lines_at t x
-beginning_lines t k x writable sound x_in =
+-- what is the same in two contexts and at their hirings is the same where it is asked
+asked_alike : (place : Context → Option ℕ) (amid : Bool) (x y : Context) → place x ≡ place y
+    → place (at_hiring x) ≡ place (at_hiring y)
+    → place (if amid then x else at_hiring x) ≡ place (if amid then y else at_hiring y)
+asked_alike place true x y here hiring = here
+asked_alike place false x y here hiring = hiring
+
+-- the same line of a kind holds first in a context and at the beginning of its cell
+beginning_line : (t : Tree) (k : ℕ) (x : Context) → IsWritable t → IsSound t → IsInRangeOf t k x → (kind : ChoiceKind)
+    → place_at kind t (beginning_of t k x) ≡ place_at kind t x
+beginning_line t k x writable sound x_in kind =
     let ordered = lists_are_ordered-ordered t k writable sound in
     let y_in = beginning_in_range t k x ordered x_in in
     let same = beginning_same_cell t k x ordered x_in in
-    let first = λ (kind : ChoiceKind).
-    cuts_decide_conditions-first kind t k (beginning_of t k x) x writable sound y_in x_in same in
-    rw ((first Rate).0, (first Initial).1, (first Minimum).1) refl
+    let first = cuts_decide_conditions-first kind t k (beginning_of t k x) x writable sound y_in x_in same in
+    asked_alike (choice_place (part_of kind) t) (is_asked_amid kind) (beginning_of t k x) x first.0 first.1
+
+-- and so the same lines
+beginning_lines : (t : Tree) (k : ℕ) (x : Context) → IsWritable t → IsSound t → IsInRangeOf t k x
+    → lines_at t (beginning_of t k x) ≡ lines_at t x
+beginning_lines t k x writable sound x_in =
+    let same : (λ (kind : ChoiceKind). place_at kind t (beginning_of t k x))
+    ≡ (λ (kind : ChoiceKind). place_at kind t x) = fun_ext (beginning_line t k x writable sound x_in) in
+    ap lines_with same
 
 -- the cell of a context names the lines that the tree names
 pub cell_has_lines : (t : Tree) (k : ℕ) (x : Context) (d : CellLines) → IsWritable t → IsSound t → IsInRangeOf t k x

@@ -2,7 +2,6 @@
 -- and its rows are short.
 use Rattle.std.proofs.Common.{◌≡◌, ◌∙◌, ap, sym, subst, ℕ, zero, suc, ◌+◌, ◌^◌, ◌<◌, ◌≤◌, Bool, true, false, length}
 use Rattle.std.proofs.Common.{get_or, List, [], ◌∷◌, codes, decimal, Option, Some, None, All, refl, arith}
-use Rattle.std.proofs.lemmas.List.{get_or_default}
 use Rattle.std.proofs.lemmas.List.Elements.{All-get_or, All-head, All-tail}
 use Rattle.std.proofs.lemmas.List.FromFn.{get_or-map-range_with_len, length-map-range_with_len}
 use Rattle.std.proofs.lemmas.Option.{slice_get-get_or}
@@ -11,16 +10,16 @@ use Rattle.drive_modes.specs.declared.charges.Weights.{Weights}
 use Rattle.tariff_calendar.specs.Range.{IsInRangeOf}
 use Rattle.tariff_check.proofs.Laws.{lines_that_hold_are_there-initial, lines_that_hold_are_there-rate}
 use Rattle.tariff_check.proofs.Laws.{lines_that_hold_are_there-there}
-use Rattle.tariff_check.specs.Amounts.{initial_by, initial_with, place_number}
+use Rattle.tariff_check.specs.Amounts.{initial_by, place_number}
 use Rattle.tariff_check.specs.Faults.{IsSound}
-use Rattle.tariff_check.specs.Parts.{InitialNumbers, initials_of, minimums_of}
+use Rattle.tariff_check.specs.Parts.{InitialNumbers, minimums_of}
 use Rattle.tariff_check.specs.Kinds.{IsSoundInitial}
-use Rattle.tariff_check.specs.declared.choice.ChoiceKind.TheVariants.{Minimum}
+use Rattle.tariff_check.specs.declared.choice.ChoiceKind.TheVariants.{Rate, Initial, Minimum}
 use Rattle.tariff_compile.specs.Cells.{cell_count}
 use Rattle.tariff_compile.specs.Rows.{cell_row, has_minimums, initial_row, measure_row, minimum_field, minimum_row}
 use Rattle.tariff_compile.specs.Rows.{cell_section, rate_row, row_count, row_text, sections}
 use Rattle.tariff_compile.specs.Tables.{AreFit, HasLinesOf, IsCompiled, IsInRangeFor, IsTablesOf, TableParts, all_cells}
-use Rattle.tariff_compile.specs.Tables.{cell_of, context_of, fees_in, lines_at, no_lines, sizes_in}
+use Rattle.tariff_compile.specs.Tables.{cell_of, context_of, fees_in, fees_of, lines_at, no_lines, sizes_in}
 use Rattle.tariff_compile.specs.declared.cells.CellLines.{CellLines}
 use Rattle.tariff_syntax.specs.Meaning.{at_hiring, minimum_place}
 use Rattle.tariff_syntax.specs.Tree.{Tree}
@@ -59,46 +58,32 @@ pub initial-below : (t : Tree) (tables : TableParts) (x : Context) → IsTablesO
 initial-below t tables x is =
     rw (ap (λ (p : TableParts). length p.initials) is.parts) (initial_place-below t x is.sound)
 
--- and is the one that holds first
-pub initial-amounts : (t : Tree) (tables : TableParts) (x : Context) (d : InitialNumbers) → IsTablesOf t tables
-    → get_or tables.initials (lines_at t x).initial d
-    ≡ get_or (initials_of t.lines) (lines_at t x).initial (record { amount = 0; covers = 0 })
-initial-amounts t tables x d is =
-    get_or_default tables.initials (lines_at t x).initial d (record { amount = 0; covers = 0 })
-    (initial-below t tables x is)
-    ∙ ap (λ (p : TableParts). get_or p.initials (lines_at t x).initial (record { amount = 0; covers = 0 })) is.parts
-
 -- all initial hire fees are sound
 pub fees-fit : (tables : TableParts) → IsCompiled tables → All IsSoundInitial tables.initials
 fees-fit tables (t, is) =
-    subst (λ (p : TableParts). All IsSoundInitial p.initials) (sym is.parts) (parts_of_tree t tables is).initials
+    subst (λ (p : TableParts). All IsSoundInitial p.initials) (sym is.parts)
+    ((parts_of_tree t tables is).choices Initial)
 
 -- and so are all minimum fares
 pub minimums-fit : (tables : TableParts) → IsCompiled tables → All (λ amount. amount ≤ largest_amount) tables.minimums
 minimums-fit tables (t, is) =
     subst (λ (p : TableParts). All (λ amount. amount ≤ largest_amount) p.minimums) (sym is.parts)
-    (parts_of_tree t tables is).minimums
+    ((parts_of_tree t tables is).choices Minimum)
 
 pub number_few : (minimums : List ℕ) (o : Option ℕ) → ((place : ℕ) → o ≡ Some place → place < length minimums)
     → place_number o ≤ length minimums
 number_few minimums None there = omega arith
 number_few minimums (Some place) there = omega (arith, there place refl)
 
--- the amounts of the lines of a context are those of the lines that hold first
-pub amounts_are : (t : Tree) (tables : TableParts) (x : Context) → IsTablesOf t tables → get_or (0 ∷ tables.minimums)
-    (lines_at t x).minimum 0 ≡ get_or (0 ∷ minimums_of t.lines) (place_number (minimum_place t x)) 0
-amounts_are t tables x is = ap (λ (p : TableParts). get_or (0 ∷ p.minimums) (lines_at t x).minimum 0) is.parts
+-- the fees that the lines of a context name are those that are in force at its hiring
+pub fees_of_lines : (t : Tree) (tables : TableParts) (x : Context) → IsTablesOf t tables
+    → fees_of tables (lines_at t x) ≡ initial_by t x
+fees_of_lines t tables x is = ap (λ (p : TableParts). fees_of p (lines_at t x)) is.parts
 
 -- the fees that tables have for a context are those of the tree
 pub fees_in_is : (t : Tree) (tables : TableParts) (x : Context) → IsTablesOf t tables → IsInRangeFor tables x
     → fees_in tables x ≡ initial_by t x
-fees_in_is t tables x is x_in =
-    let none : InitialNumbers = record { amount = 0; covers = 0 } in
-    ap (λ (lines : CellLines). initial_with (get_or tables.initials lines.initial none)
-    (get_or (0 ∷ tables.minimums) lines.minimum 0)) (lines_in_is t tables x is x_in)
-    ∙ (ap (λ (f : InitialNumbers). initial_with f (get_or (0 ∷ tables.minimums) (lines_at t x).minimum 0))
-    (initial-amounts t tables x none is)
-    ∙ ap (initial_with _) (amounts_are t tables x is))
+fees_in_is t tables x is x_in = ap (fees_of tables) (lines_in_is t tables x is x_in) ∙ fees_of_lines t tables x is
 
 pub all_fit : (amounts : List ℕ) (n : ℕ) → All (λ amount. amount ≤ largest_amount) amounts
     → get_or amounts n 0 ≤ largest_amount
@@ -168,13 +153,13 @@ cell_few t tables cell d is h =
     let found = ap (λ (cells : List CellLines). get_or cells cell d) same ∙ get_or-map-range_with_len
     (λ (c : ℕ). lines_at t (context_of t k c)) 0 (cell_count (sizes_in t k)) cell cell d within (omega arith) in (
       omega (arith, within, cell_count-most t k is.writable is.sound),
-      rw found (omega (arith, rate_place-below t (context_of t k cell) is.sound, parts.rate_count)),
-      rw found (omega (arith, initial_place-below t (context_of t k cell) is.sound, parts.initial_count)),
+      rw found (omega (arith, rate_place-below t (context_of t k cell) is.sound, parts.choice_count Rate)),
+      rw found (omega (arith, initial_place-below t (context_of t k cell) is.sound, parts.choice_count Initial)),
       rw found (omega (
         arith,
         number_few (minimums_of t.lines) (minimum_place t (context_of t k cell))
             (lines_that_hold_are_there-there Minimum t (at_hiring (context_of t k cell))),
-        parts.minimum_count,
+        parts.choice_count Minimum,
       )),
     )
 

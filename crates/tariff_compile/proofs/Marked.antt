@@ -4,11 +4,11 @@ use Rattle.std.proofs.Common.{◌++◌, length, get_or, drop, map, Option, Some,
 use Rattle.std.proofs.lemmas.Grind.{common_steps}
 use Rattle.std.proofs.lemmas.List.{append-nil}
 use Rattle.std.specs.List.{position_from, slice_get}
-use Rattle.tariff_check.specs.SoundTariff.{AreChoices, own_conditions, when_at}
+use Rattle.tariff_check.specs.SoundTariff.{own_conditions, when_at}
 use Rattle.tariff_check.specs.declared.choice.Choice.{Choice}
-use Rattle.tariff_syntax.specs.Choices.{choices}
-use Rattle.tariff_syntax.specs.Meaning.{choice_place, holds_if, place_of}
-use Rattle.tariff_syntax.specs.Tree.{Entry, Line, Tree}
+use Rattle.tariff_syntax.specs.Condition.{Condition}
+use Rattle.tariff_syntax.specs.Meaning.{holds_if, place_of}
+use Rattle.tariff_syntax.specs.Tree.{Line}
 use Rattle.tariff_syntax.specs.declared.context.Context.{Context}
 use Rattle.tariff_compile.specs.Marks.{MarkEach, MarksThose, is_marked}
 use Rattle.tariff_compile.specs.declared.marks.Marks.{Marks}
@@ -32,18 +32,14 @@ first_by_answers f g n (x ∷ xs) (y ∷ ys) same =
     let tail : map f xs ≡ map g ys = cc in
     rw (head, first_by_answers f g (n + 1) xs ys tail)
 
--- so where these are the marks of each of the choices of a kind, the first marks that a place has are those of the
--- first choice that holds
-pub first_holds : {V : Type 0} (part : Entry → Option V) (t : Tree) (own : List (Choice V)) (xs : List Context)
-    (all read : List Marks) (place : ℕ) (x : Context) (found : Option ℕ)
-    → AreChoices t.lines own (choices part t.lines) → MarkEach (own_conditions t.lines own) xs all → read ≡ all
-    → slice_get xs place ≡ Some x → found ≡ position_from (λ (marks : Marks). is_marked marks place) 0 read
-    → found ≡ choice_place part t x
-first_holds part t own xs all read place x found are each same at is =
+-- so where these are the marks of each of some conditions, the first marks that a place has are those of the first
+-- condition that holds
+pub first_holds : (conditions : List (Option Condition)) (xs : List Context) (all read : List Marks) (place : ℕ)
+    (x : Context) (found : Option ℕ) → MarkEach conditions xs all → read ≡ all → slice_get xs place ≡ Some x
+    → found ≡ position_from (λ (marks : Marks). is_marked marks place) 0 read → found ≡ place_of x conditions
+first_holds conditions xs all read place x found each same at is =
     is ∙ (ap (position_from (λ (marks : Marks). is_marked marks place) 0) same
-    ∙ (first_by_answers (λ (marks : Marks). is_marked marks place) (holds_if x) 0 all (own_conditions t.lines own)
-    (each place x at)
-    ∙ ap (place_of x) are.conditions))
+    ∙ first_by_answers (λ (marks : Marks). is_marked marks place) (holds_if x) 0 all conditions (each place x at))
 
 -- the marks of the choices before a place
 pub record HasMarks {V : Type 0} (lines : List Line) (own : List (Choice V)) (xs : List Context) (n : ℕ)

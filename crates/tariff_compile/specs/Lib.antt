@@ -1,6 +1,5 @@
 pub mod Alike
 pub mod Cells
-pub mod Inside
 pub mod Marks
 pub mod Near
 pub mod Rows

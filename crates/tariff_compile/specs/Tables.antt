@@ -6,13 +6,14 @@ use Rattle.std.specs.Option.{unwrap_or}
 use Rattle.drive_modes.specs.declared.charges.Weights.{Weights}
 use Rattle.drive_modes.specs.declared.meterage.Rounding.{Rounding}
 use Rattle.drive_modes.specs.Constant.{least_constant, greatest_constant}
-use Rattle.tariff_syntax.specs.Meaning.{rate_place, initial_place, minimum_place}
+use Rattle.tariff_syntax.specs.Meaning.{at_hiring, choice_place, rate_place, initial_place, minimum_place}
 use Rattle.tariff_syntax.specs.Tree.{Tree}
 use Rattle.tariff_syntax.specs.Writable.{IsFromTo, IsWritable}
 use Rattle.tariff_syntax.specs.declared.context.Context.{Context}
 use Rattle.tariff_check.specs.Amounts.{initial_with, place_number}
 use Rattle.tariff_check.specs.Cells.{day_kinds}
 use Rattle.tariff_check.specs.Faults.{IsSound}
+use Rattle.tariff_check.specs.Kinds.{is_asked_amid, part_of}
 use Rattle.tariff_check.specs.Measure.{measure_of}
 use Rattle.tariff_check.specs.DisplayStep.{display_step}
 use Rattle.tariff_check.specs.SoundLookups.{place_in_force}
@@ -24,7 +25,10 @@ use Rattle.tariff_calendar.specs.Range.{IsInRange}
 use Rattle.tariff_compile.specs.Cells.{sizes_of, cell_count, cell_number, bands_of, bands_at, context_in}
 use Rattle.tariff_compile.specs.declared.parts.Bands.{Bands}
 use Rattle.tariff_compile.specs.declared.cells.CellLines.{CellLines}
-use Rattle.tariff_check.specs.declared.values.Initial.{Initial}
+use Rattle.tariff_compile.specs.declared.tables.Tables.TheInside.{Inside}
+use Rattle.tariff_check.specs.declared.choice.ChoiceKind.{ChoiceKind}
+use Rattle.tariff_check.specs.declared.choice.ChoiceKind.TheVariants.{Rate, Initial, Minimum}
+use Rattle.tariff_check.specs.declared.values.Initial as fees
 use Rattle.tariff_check.specs.declared.values.Supplement.{Supplement}
 
 -- tables have the cuts of their tariff, the weights of its rates, its initial hire fees, its minimum fares, the lines
@@ -45,6 +49,25 @@ pub record TableParts : Type 0 where
   pub positions : ℕ
   pub zones : ℕ
 
+-- the tables of the program are told by what each of their lists and numbers has
+abbrev pub parts_of : Inside → TableParts
+parts_of t =
+    record {
+      cuts = t.cuts;
+      weights = t.weights.items;
+      initials = t.initials.items;
+      minimums = t.minimums.items;
+      cells = t.cells.items;
+      supplements = t.supplements.items;
+      constant = t.constant;
+      measure = t.measure;
+      step = t.step;
+      rounding = t.rounding;
+      decimals = t.decimals;
+      positions = t.positions;
+      zones = t.zones;
+    }
+
 -- the weights of a rate, of a pulse and of a tick, are in units of charge, of which k times the common measure make the
 -- smallest unit of money
 abbrev pub weights_of : (k common : ℕ) → RateNumbers → Weights
@@ -54,15 +77,24 @@ weights_of k common r = record { per_pulse = 10000 * r.a * (common / r.b); per_t
 abbrev pub all_weights : Tree → (k : ℕ) → List Weights
 all_weights t k = map (weights_of k (measure_of t.lines)) (rates_of t.lines)
 
--- the lines of a context are the rate that holds first in it, and the initial hire fee and the minimum fare that hold
--- first at its hiring
-abbrev pub lines_at : Tree → Context → CellLines
-lines_at t x =
+-- the line of a kind that holds first in a context, or at its hiring if lines of the kind can't count amid a trip, is
+-- told by its place among those of the kind, counted from 0
+abbrev pub place_at : ChoiceKind → Tree → Context → Option ℕ
+place_at kind t x = choice_place (part_of kind) t (if is_asked_amid kind then x else at_hiring x)
+
+-- lines are made of the place of a line of each kind: a rate and an initial hire fee, of which one always holds, have
+-- their places from 0, and a minimum fare has its number from 1, or 0 if there is none
+abbrev pub lines_with : ((kind : ChoiceKind) → Option ℕ) → CellLines
+lines_with place =
     record {
-      rate = unwrap_or (rate_place t x) 0;
-      initial = unwrap_or (initial_place t x) 0;
-      minimum = place_number (minimum_place t x);
+      rate = unwrap_or (place Rate) 0;
+      initial = unwrap_or (place Initial) 0;
+      minimum = place_number (place Minimum);
     }
+
+-- the lines of a context are made of the line of each kind
+abbrev pub lines_at : Tree → Context → CellLines
+lines_at t x = lines_with (λ kind. place_at kind t x)
 
 -- no lines are those of a cell that names none: each number is 0
 abbrev pub no_lines : CellLines
@@ -147,11 +179,15 @@ abbrev pub lines_in : TableParts → Context → CellLines
 lines_in tables x =
     get_or tables.cells (cell_number (sizes_for tables) (bands_at tables.cuts x)) no_lines
 
--- the fees that tables have for a context are those that its lines name: an initial hire fee, and a minimum fare or 0
-abbrev pub fees_in : TableParts → Context → Initial
-fees_in tables x =
-    initial_with (get_or tables.initials (lines_in tables x).initial (record { amount = 0; covers = 0 }))
-    (get_or (0 ∷ tables.minimums) (lines_in tables x).minimum 0)
+-- the fees that lines name in tables are an initial hire fee, and a minimum fare or 0
+abbrev pub fees_of : TableParts → CellLines → fees.Initial
+fees_of tables lines =
+    initial_with (get_or tables.initials lines.initial (record { amount = 0; covers = 0 }))
+    (get_or (0 ∷ tables.minimums) lines.minimum 0)
+
+-- the fees that tables have for a context are those that its lines name
+abbrev pub fees_in : TableParts → Context → fees.Initial
+fees_in tables x = fees_of tables (lines_in tables x)
 
 -- weights are those of a context if they are made of the numbers of the rate that holds first in it
 pub record HasWeightsOf (t : Tree) (k : ℕ) (x : Context) (w : Weights) : Type 0 where

@@ -1,9 +1,10 @@
 //! The lines of each cell, by asking the tariff's conditions in contexts of 64 cells at a time.
 ghost use Rattle.std.specs.List.{range_with_len};
-ghost use Rattle.std.specs.Option.{ForSome, unwrap_or};
+ghost use Rattle.std.specs.Option.{ForSome};
 ghost use Rattle.std.specs.Prelude.{◌≡◌, ℕ, ◌-◌, ◌<◌, ◌≤◌, ◌++◌, IfOk, OnOk, length, map};
 ghost use Rattle.tariff_calendar.specs.Lists.{lists_of};
 ghost use Rattle.tariff_check.specs.Sound.{HasSoundParts};
+ghost use Rattle.tariff_check.specs.SoundTariff.{own_conditions, place_of};
 ghost use Rattle.tariff_compile.specs.Cells.{HasLowCuts, IsBelow, IsNarrow, bands_of, context_in};
 ghost use Rattle.tariff_compile.specs.Tables.{all_cells, lines_at};
 ghost use Rattle.tariff_check.specs.Amounts.{place_number};
@@ -17,7 +18,7 @@ use crate::parts::Bands;
 use drive_modes::Constant;
 use std::alloc::Global;
 use tariff_calendar::Cuts;
-use tariff_check::Checked;
+use tariff_check::{Checked, Choice};
 use tariff_syntax::Context;
 use taxi_units::NoMemory;
 
@@ -103,18 +104,44 @@ fn push_lines(
     ensures { OnOk result (cells.new.items ≡ cells.old.items ++ map (lines_at (tree_of checked.now)) contexts.now) }
 {
     let hirings = hirings(alloc, contexts)?;
-    let rates = marks_of_each(alloc, checked, checked.rates(), contexts)?;
-    let initials = marks_of_each(alloc, checked, checked.initials(), hirings.as_slice())?;
-    let minimums = marks_of_each(alloc, checked, checked.minimums(), hirings.as_slice())?;
+    let rates = first_numbers(alloc, checked, checked.rates(), contexts)?;
+    let initials = first_numbers(alloc, checked, checked.initials(), hirings.as_slice())?;
+    let minimums = first_numbers(alloc, checked, checked.minimums(), hirings.as_slice())?;
     for place in 0..contexts.len() {
-        let rate = first_marked(rates.as_slice(), place);
-        let initial = first_marked(initials.as_slice(), place);
-        let minimum = first_marked(minimums.as_slice(), place);
-        if cells.push(cell_lines(rate, initial, minimum)).is_err() {
+        let lines = CellLines {
+            rate: rates.as_slice()[place].saturating_sub(1),
+            initial: initials.as_slice()[place].saturating_sub(1),
+            minimum: minimums.as_slice()[place],
+        };
+        if cells.push(lines).is_err() {
             return Err(NoMemory);
         }
     }
     Ok(())
+}
+
+/// The first of some choices that holds in each of up to 64 contexts, by its number among them from 1; 0 where none
+/// holds.
+fn first_numbers<V>(
+    alloc: Global,
+    checked: &Checked,
+    choices: &[Choice<V>],
+    contexts: &[Context],
+) -> Result<Vec<u8>, NoMemory>
+    requires contexts { length contexts.now ≤ 64 }
+    requires choices { length choices.now ≤ 64 }
+    ensures { IfOk result (λ numbers. numbers.items ≡ map
+        (λ x. place_number (place_of x (own_conditions (tree_of checked.now).lines choices.now))) contexts.now) }
+{
+    let marks = marks_of_each(alloc, checked, choices, contexts)?;
+    let mut numbers = Vec::new(alloc);
+    for place in 0..contexts.len() {
+        let first = first_marked(marks.as_slice(), place);
+        if numbers.push(place_number(first)).is_err() {
+            return Err(NoMemory);
+        }
+    }
+    Ok(numbers)
 }
 
 /// Contexts at the hiring, with no pulse and no tick of the trip.
@@ -133,22 +160,6 @@ fn hirings(alloc: Global, contexts: &[Context]) -> Result<Vec<Context>, NoMemory
         }
     }
     Ok(hirings)
-}
-
-/// The lines of a cell, by the places of those that hold first.
-fn cell_lines(rate: Option<usize>, initial: Option<usize>, minimum: Option<usize>) -> CellLines
-    requires rate { ForSome rate (λ p. p < 255) }
-    requires initial { ForSome initial (λ p. p < 255) }
-    requires minimum { ForSome minimum (λ p. p < 255) }
-    ensures rate { result.rate ≡ unwrap_or rate 0 }
-    ensures initial { result.initial ≡ unwrap_or initial 0 }
-    ensures minimum { result.minimum ≡ place_number minimum }
-{
-    CellLines {
-        rate: rate.unwrap_or(0) as u8,
-        initial: initial.unwrap_or(0) as u8,
-        minimum: place_number(minimum),
-    }
 }
 
 /// The number of a place, from 1; 0 where there is none.

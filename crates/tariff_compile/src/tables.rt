@@ -5,7 +5,7 @@ ghost use Rattle.drive_modes.specs.Constant.{least_constant, greatest_constant};
 ghost use Rattle.tariff_calendar.specs.Lists.{has_day, has_days, is_holiday};
 ghost use Rattle.tariff_compile.specs.Cells.{IsBelow, cell_number};
 ghost use Rattle.tariff_compile.specs.Near.{IsNear};
-ghost use Rattle.tariff_compile.specs.Tables.{AreFit, IsCompiled, IsFit, IsInRangeFor, IsTablesOf, fees_in, lines_in, rate_by, sizes_for, tables_of};
+ghost use Rattle.tariff_compile.specs.Tables.{AreFit, IsCompiled, IsFit, IsInRangeFor, IsTablesOf, fees_in, fees_of, lines_in, rate_by, sizes_for, tables_of};
 ghost use Rattle.tariff_check.specs.Amounts.{IsFitInitial, initial_by};
 ghost use Rattle.tariff_check.specs.Parts.{supplement_of};
 ghost use Rattle.tariff_syntax.specs.Tree.{Tree, tree_of};
@@ -60,11 +60,9 @@ type Lists = (
 type Numbers = (Constant, u128, u64, Rounding, u8, u8, u8);
 
 impl Model for Tables {
-    ghost use Rattle.tariff_compile.specs.Tables.{IsCompiled, TableParts};
+    ghost use Rattle.tariff_compile.specs.Tables.{IsCompiled, TableParts, parts_of};
 
     ghost Value = { TableParts };
-
-    ghost use Rattle.tariff_compile.specs.Inside.{parts_of};
 
     ghost view = { parts_of };
 
@@ -178,6 +176,15 @@ impl Tables {
     {
         let bands = bands_at_hiring(&self.cuts, x, steps);
         let lines = self.lines_of(&bands, steps);
+        self.fees_of(lines, steps)
+    }
+
+    /// The fees that lines name. A step is the read of one: they are 1 or 2.
+    fn fees_of<L: Ledger>(&self, lines: CellLines, steps: &mut Steps<L>) -> Initial
+        requires { lines.initial < length self.now.initials }
+        ensures value { result ≡ fees_of self.now lines }
+        ensures steps { (steps.old + 1 ≤ steps.new) × (steps.new ≤ steps.old + 2) }
+    {
         let fee = Counted::of(self.initials.as_slice()).read(lines.initial as usize, steps);
         Initial {
             amount: fee.amount,

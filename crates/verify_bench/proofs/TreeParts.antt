@@ -11,6 +11,7 @@ use Rattle.tariff_check.specs.Parts.{supplement_of}
 use Rattle.tariff_check.specs.Sound.{IsSoundRate}
 use Rattle.tariff_check.specs.SoundLookups.{rate_in_force}
 use Rattle.tariff_check.specs.SoundTariff.{SoundTariff, sound_of, supplement_numbered}
+use Rattle.tariff_check.specs.declared.choice.ChoiceKind.TheVariants.{Rate}
 use Rattle.tariff_check.specs.declared.values.Supplement.{Supplement}
 use Rattle.tariff_syntax.specs.Meaning.{rate_place}
 use Rattle.tariff_syntax.specs.Tree.{Tree}
@@ -22,13 +23,13 @@ pub sound_rate : (t : Tree) (x : Context) → IsWritable t → IsSound t → IsS
 sound_rate t x writable sound =
     let parts = check.sound_tariffs_have_sound_parts-parts t writable sound in
     let holds = check.lines_that_hold_are_there-rate t x sound in
-    rw holds.1 (parts.rates holds.0 (record { a = 0; b = 0; c = 0; e = 0 }) holds.2)
+    rw holds.1 (parts.choices Rate holds.0 (record { a = 0; b = 0; c = 0; e = 0 }) holds.2)
 
 pub few_rates : (t : Tree) (x : Context) → IsWritable t → IsSound t → unwrap_or (rate_place t x) 0 < 64
 few_rates t x writable sound =
     let parts = check.sound_tariffs_have_sound_parts-parts t writable sound in
     let holds = check.lines_that_hold_are_there-rate t x sound in
-    rw holds.1 (omega (arith, holds.2, parts.rate_count))
+    rw holds.1 (omega (arith, holds.2, parts.choice_count Rate))
 
 pub supplement_number : (t : Tree) (number : ℕ) (found : Supplement) → IsWritable t
     → supplement_of t.lines number ≡ Some found → IsSupplementNumber number

@@ -1,6 +1,7 @@
 use Rattle.std.proofs.Common.{arith}
 use Rattle.std.proofs.lemmas.Grind.{common_steps}
 use Rattle.tariff_check.proofs.Laws.{sound_tariffs_have_sound_parts-parts}
+use Rattle.tariff_check.specs.declared.choice.ChoiceKind.TheVariants.{Rate}
 use Rattle.tariff_syntax.specs.Tree.{tree_of}
 use Rattle.tariff_compile.proofs.Compiled.{tables_fit}
 use Rattle.tariff_compile.proofs.tables.compile.Goals as goal
@@ -9,7 +10,7 @@ pub all_weights-requires-clause-rates : goal.all_weights-requires-clause-rates
 all_weights-requires-clause-rates c =
     let t = tree_of c.args.checked.now in
     let parts = sound_tariffs_have_sound_parts-parts t c.rates.ensures.writable c.rates.ensures.sound in
-    rw c.rates.ensures.value.values parts.rates
+    rw c.rates.ensures.value.values (parts.choices Rate)
 
 pub all_weights-requires-clause-measure : goal.all_weights-requires-clause-measure
 all_weights-requires-clause-measure c =

@@ -2,6 +2,7 @@ use Rattle.std.proofs.Common.{◌≡◌, List, subst}
 use Rattle.std.specs.Prelude.{IfOk}
 use Rattle.tariff_check.proofs.Laws.{sound_tariffs_have_sound_parts-parts}
 use Rattle.tariff_check.specs.Parts.{RateNumbers}
+use Rattle.tariff_check.specs.declared.choice.ChoiceKind.TheVariants.{Rate}
 use Rattle.tariff_syntax.specs.Tree.{tree_of}
 use Rattle.verify_bench.specs.CrossOvers.{cross_over_lines}
 use Rattle.verify_bench.proofs.speeds.cross_overs.Goals as goal
@@ -10,7 +11,7 @@ pub lines_of_rates-requires : goal.lines_of_rates-requires
 lines_of_rates-requires c =
     let t = tree_of c.args.checked.now in
     rw c.rates.ensures.value.values
-    (sound_tariffs_have_sound_parts-parts t c.rates.ensures.writable c.rates.ensures.sound).rates
+    ((sound_tariffs_have_sound_parts-parts t c.rates.ensures.writable c.rates.ensures.sound).choices Rate)
 
 pub returns : goal.returns
 returns c =

@@ -1,12 +1,10 @@
-use Rattle.std.proofs.Common.{◌∙◌, ap, sym, subst, List, get_or}
+use Rattle.std.proofs.Common.{◌∙◌, ap, sym, subst}
 use Rattle.tariff_check.proofs.Laws.{hirings_begin_with_first_lines-fit}
 use Rattle.tariff_compile.specs.Cells.{bands_at}
-use Rattle.tariff_compile.specs.Inside.{parts_of}
-use Rattle.tariff_compile.specs.Tables.{TableParts}
-use Rattle.tariff_check.specs.Amounts.{IsFitInitial, initial_with}
-use Rattle.tariff_check.specs.Parts.{InitialNumbers}
+use Rattle.tariff_compile.specs.Tables.{TableParts, fees_of, parts_of}
+use Rattle.tariff_check.specs.Amounts.{IsFitInitial}
 use Rattle.tariff_compile.proofs.Compiled.{bands-below, in_range-hiring, lines-found_at, nothing_at_hiring}
-use Rattle.tariff_compile.proofs.EachKind.{amounts_are, initial-amounts, initial-below}
+use Rattle.tariff_compile.proofs.EachKind.{fees_of_lines, initial-below}
 use Rattle.tariff_syntax.specs.Meaning.{at_hiring}
 use Rattle.tariff_compile.proofs.tables.Tables.initial_at.Goals as goal
 
@@ -24,8 +22,8 @@ lines_of-lines-requires g c =
           (bands-below c.args.self.now x (in_range-hiring c.args.self.now c.args.x.now c.requires.range));
     }
 
-pub read-fee-requires : goal.read-fee-requires
-read-fee-requires g c =
+pub fees_of-requires : goal.fees_of-requires
+fees_of-requires g c =
     let tables = c.args.self.now in
     let x = at_hiring c.args.x.now in
     let t = c.lines_of-lines.ensures.compiled.0 in
@@ -33,8 +31,7 @@ read-fee-requires g c =
     let bands = c.bands_at_hiring-bands.ensures.value ∙ ap (λ (p : TableParts). bands_at p.cuts x) c.self.view_is in
     let lines = lines-found_at t tables x c.bands_at_hiring-bands.result c.lines_of-lines.result is
     (in_range-hiring tables c.args.x.now c.requires.range) bands c.lines_of-lines.ensures.value in
-    rw (c.of.ensures ∙ (c.as_slice.ensures.value ∙ ap (λ (p : TableParts). p.initials) c.self.view_is), lines)
-    (initial-below t tables x is)
+    rw lines (initial-below t tables x is)
 
 pub returns-clause-tree : goal.returns-clause-tree
 returns-clause-tree g c = λ t is.
@@ -43,13 +40,7 @@ returns-clause-tree g c = λ t is.
     let bands = c.bands_at_hiring-bands.ensures.value ∙ ap (λ (p : TableParts). bands_at p.cuts x) c.self.view_is in
     let lines = lines-found_at t tables x c.bands_at_hiring-bands.result c.lines_of-lines.result is
     (in_range-hiring tables c.args.x.now c.requires.range) bands c.lines_of-lines.ensures.value in
-    let fee = c.read-fee.ensures.value c.read-fee.result
-    ∙ (ap (λ (list : List InitialNumbers). get_or list c.lines_of-lines.result.initial c.read-fee.result)
-    (c.of.ensures ∙ (c.as_slice.ensures.value ∙ ap (λ (p : TableParts). p.initials) c.self.view_is))
-    ∙ rw lines (initial-amounts t tables x c.read-fee.result is)) in
-    let list = c.as_slice-2.ensures.value ∙ ap (λ (p : TableParts). p.minimums) c.self.view_is in
-    let minimum = c.counted_amount.ensures.value ∙ rw (list, lines) (amounts_are t tables x is) in
-    ap (λ (f : InitialNumbers). initial_with f c.counted_amount.result) fee ∙ ap (initial_with _) minimum
+    c.fees_of.ensures.value ∙ (ap (fees_of tables) lines ∙ fees_of_lines t tables x is)
 
 pub returns-clause-fit : goal.returns-clause-fit
 returns-clause-fit g c =

@@ -1,6 +1,5 @@
 use Rattle.std.proofs.Common.{subst}
-use Rattle.tariff_compile.specs.Inside.{parts_of}
-use Rattle.tariff_compile.specs.Tables.{IsFit}
+use Rattle.tariff_compile.specs.Tables.{IsFit, parts_of}
 use Rattle.tariff_compile.proofs.Compiled.{measure_range, tables_fit}
 use Rattle.tariff_compile.proofs.tables.Tables.measure.Goals as goal
 

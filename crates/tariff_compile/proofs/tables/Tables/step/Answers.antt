@@ -1,4 +1,4 @@
-use Rattle.tariff_compile.specs.Inside.{parts_of}
+use Rattle.tariff_compile.specs.Tables.{parts_of}
 use Rattle.tariff_compile.proofs.Compiled.{step_range}
 use Rattle.tariff_compile.proofs.tables.Tables.step.Goals as goal
 

@@ -1,4 +1,4 @@
-use Rattle.tariff_compile.specs.Inside.{parts_of}
+use Rattle.tariff_compile.specs.Tables.{parts_of}
 use Rattle.tariff_compile.proofs.Compiled.{zones_range}
 use Rattle.tariff_compile.proofs.tables.Tables.zones.Goals as goal
 
