@@ -40,7 +40,7 @@ use Rattle.tariff_check.proofs.LineFacts.{IsGoodEntry, choice_fact, good_atoms, 
 use Rattle.tariff_check.proofs.LineFacts.{supplement_fact, zones_fact}
 use Rattle.tariff_check.proofs.MeasureLaws.{common_grows}
 use Rattle.tariff_check.proofs.PartLaws.{Gives, choices_alike, few, first_part_has, holidays_alike, parts_all}
-use Rattle.tariff_check.proofs.Staging.{AreNone, faults_none, not_if, nowhere, or_false, sound_if_none}
+use Rattle.tariff_check.proofs.Staging.{AreNone, faults_none, not_if, nowhere, or_false}
 use Rattle.tariff_check.proofs.Supplements.{numbered_has}
 
 -- each line is good
@@ -169,14 +169,10 @@ own_few kind t own writable sound are =
       length-map own (λ (c : Choice (Said kind)). c.value),
     )
 
--- and so has one whose numbers are known
-pub numbered_parts : (t : Tree) (n : Numbers) → IsWritable t → HasNumbers t.lines n → HasSoundParts t
-numbered_parts t n w h = sound_parts t w (sound_if_none t h.sound)
-
-pub step_range : (t : Tree) (n : Numbers) → IsWritable t → HasNumbers t.lines n → IsFromTo 1 (10 ^ 6) n.step
-step_range t n w h =
-    let step = (numbered_parts t n w h).step in
-    let found : step_of t.lines ≡ Some step.0 = step.1 in
+-- and the step that the program keeps is in its range
+pub step_range : (t : Tree) (n : Numbers) → HasSoundParts t → HasNumbers t.lines n → IsFromTo 1 (10 ^ 6) n.step
+step_range t n parts h =
+    let found : step_of t.lines ≡ Some parts.step.0 = parts.step.1 in
     let read : step_of t.lines ≡ Some (n.step, n.rounding) = h.step in
-    let same : step.0 ≡ (n.step, n.rounding) = cc in
-    subst (λ (s : ℕ × Rounding). IsFromTo 1 (10 ^ 6) s.0) same step.2
+    let same : parts.step.0 ≡ (n.step, n.rounding) = cc in
+    subst (λ (s : ℕ × Rounding). IsFromTo 1 (10 ^ 6) s.0) same parts.step.2

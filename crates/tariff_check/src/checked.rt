@@ -33,6 +33,7 @@ impl Model for Checked {
     ghost use Rattle.std.specs.Coded.{codes};
     ghost use Rattle.tariff_check.specs.Counted.{HasNumbers};
     ghost use Rattle.tariff_check.specs.Resolved.{HasParts};
+    ghost use Rattle.tariff_check.specs.Sound.{HasSoundParts};
     ghost use Rattle.tariff_syntax.specs.Tree.{tree_of};
     ghost use Rattle.tariff_syntax.specs.Writable.{IsWritable};
     ghost use Rattle.tariff_syntax.specs.contracts.condition.Cond as condition;
@@ -45,7 +46,7 @@ impl Model for Checked {
     ghost view = { λ c. c.tariff };
 
     ghost invariant = { λ c. IsWritable (tree_of c.tariff) × HasNumbers (tree_of c.tariff).lines c.numbers
-        × HasParts (tree_of c.tariff).lines c.parts };
+        × HasParts (tree_of c.tariff).lines c.parts × HasSoundParts (tree_of c.tariff) };
 }
 
 impl Checked {

@@ -56,27 +56,16 @@ measure_range tables (t, is) =
     rw same
     (mul-pos (omega (arith, is.constant.0)) parts.measure.0, mul-le k _ 200000 (10 ^ 18) is.constant.1 parts.measure.1)
 
-pub step_range : (tables : TableParts) → IsCompiled tables → IsFromTo 1 (10 ^ 6) tables.step
-step_range tables (t, is) =
-    let step = (parts_of_tree t tables is).step in
-    rw (ap (λ (p : TableParts). p.step) is.parts, step.1) step.2
-
-pub positions_range : (tables : TableParts) → IsCompiled tables → IsFromTo 1 9 tables.positions
-positions_range tables (t, is) =
-    rw (ap (λ (p : TableParts). p.positions) is.parts) (parts_of_tree t tables is).positions
-
-pub zones_range : (tables : TableParts) → IsCompiled tables → IsFromTo 1 9 tables.zones
-zones_range tables (t, is) = rw (ap (λ (p : TableParts). p.zones) is.parts) (parts_of_tree t tables is).zones
-
 -- tables have their numbers in their ranges
 pub tables_fit : (tables : TableParts) → IsCompiled tables → IsFit tables
 tables_fit tables (t, is) =
+    let parts = parts_of_tree t tables is in
     record {
       measure = measure_range tables (t, is);
-      step = step_range tables (t, is);
-      decimals = rw (ap (λ (p : TableParts). p.decimals) is.parts) (parts_of_tree t tables is).decimals;
-      positions = positions_range tables (t, is);
-      zones = zones_range tables (t, is);
+      step = rw (ap (λ (p : TableParts). p.step) is.parts, parts.step.1) parts.step.2;
+      decimals = rw (ap (λ (p : TableParts). p.decimals) is.parts) parts.decimals;
+      positions = rw (ap (λ (p : TableParts). p.positions) is.parts) parts.positions;
+      zones = rw (ap (λ (p : TableParts). p.zones) is.parts) parts.zones;
     }
 
 together : (n a b c d : ℕ) → n * a * b * c * d ≡ n * (a * b * c * d)

@@ -60,13 +60,13 @@ type Lists = (
 type Numbers = (Constant, u128, u64, Rounding, u8, u8, u8);
 
 impl Model for Tables {
-    ghost use Rattle.tariff_compile.specs.Tables.{IsCompiled, TableParts, parts_of};
+    ghost use Rattle.tariff_compile.specs.Tables.{IsCompiled, IsFit, TableParts, parts_of};
 
     ghost Value = { TableParts };
 
     ghost view = { parts_of };
 
-    ghost invariant = { λ t. IsCompiled (parts_of t) };
+    ghost invariant = { λ t. IsCompiled (parts_of t) × IsFit (parts_of t) };
 }
 
 /// The tables of a tariff under a constant of the taximeter. Each cell has the lines that hold first in a

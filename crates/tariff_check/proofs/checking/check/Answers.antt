@@ -1,5 +1,6 @@
 use Rattle.std.proofs.Common.{◌≡◌, List, map, refl, subst}
 use Rattle.std.proofs.lemmas.Result.{err_from_is_err_and}
+use Rattle.tariff_check.proofs.SoundParts.{sound_parts}
 use Rattle.tariff_check.proofs.Staging.{sound_if_none}
 use Rattle.tariff_check.specs.Faults.{HasNone, faults_before_cuts}
 use Rattle.tariff_check.specs.declared.fault.CheckFault.TheVariants.{NoMemory}
@@ -11,7 +12,8 @@ pub invariant_of-result : goal.invariant_of-result
 invariant_of-result c =
     let h = rw c.as_slice.ensures at c.in_ok-numbers.ensures.numbers in
     let parts = rw c.as_slice-2.ensures at c.in_ok-parts.ensures.parts in
-    (c.requires, h, parts)
+    let t = tree_of c.args.tariff in
+    (c.requires, h, parts, sound_parts t c.requires (sound_if_none t h.sound))
 
 pub returns-clause-sound : goal.returns-clause-sound
 returns-clause-sound c =

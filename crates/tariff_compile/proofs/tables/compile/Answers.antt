@@ -3,6 +3,7 @@ use Rattle.std.proofs.lemmas.Grind.{common_steps}
 use Rattle.tariff_check.proofs.Laws.{sound_tariffs_have_sound_parts-parts}
 use Rattle.tariff_check.specs.declared.choice.ChoiceKind.TheVariants.{Rate}
 use Rattle.tariff_syntax.specs.Tree.{tree_of}
+use Rattle.tariff_compile.specs.Tables.{IsCompiled, IsFit, TableParts}
 use Rattle.tariff_compile.proofs.Compiled.{tables_fit}
 use Rattle.tariff_compile.proofs.tables.compile.Goals as goal
 
@@ -20,8 +21,12 @@ pub all_cells-requires-clause-parts : goal.all_cells-requires-clause-parts
 all_cells-requires-clause-parts c =
     sound_tariffs_have_sound_parts-parts (tree_of c.args.checked.now) c.rates.ensures.writable c.rates.ensures.sound
 
+-- what is compiled is fit too
+abbrev with_fit : (tables : TableParts) → IsCompiled tables → IsCompiled tables × IsFit tables
+with_fit tables compiled = (compiled, tables_fit tables compiled)
+
 pub invariant_of-result : goal.invariant_of-result
-invariant_of-result c = (
+invariant_of-result c = with_fit _ (
   tree_of c.args.checked.now,
   record {
     writable = c.rates.ensures.writable;
@@ -32,12 +37,12 @@ invariant_of-result c = (
 )
 
 pub returns-clause-fit : goal.returns-clause-fit
-returns-clause-fit c = tables_fit _ (invariant_of-result c)
+returns-clause-fit c = (invariant_of-result c).1
 
 pub returns-clause-value : goal.returns-clause-value
 unfolding invariant_of-result
-returns-clause-value c = (invariant_of-result c).1.parts
+returns-clause-value c = (invariant_of-result c).0.1.parts
 
 pub returns-clause-tables : goal.returns-clause-tables
 unfolding invariant_of-result
-returns-clause-tables c = (invariant_of-result c).1
+returns-clause-tables c = (invariant_of-result c).0.1

@@ -9,10 +9,10 @@ use Rattle.tariff_syntax.specs.Meaning.{at_hiring}
 use Rattle.tariff_compile.proofs.tables.Tables.initial_at.Goals as goal
 
 pub bands_at_hiring-bands-requires-clause-distance : goal.bands_at_hiring-bands-requires-clause-distance
-bands_at_hiring-bands-requires-clause-distance g c = (nothing_at_hiring (parts_of c.self.inside) c.self.invariant).0
+bands_at_hiring-bands-requires-clause-distance g c = (nothing_at_hiring (parts_of c.self.inside) c.self.invariant.0).0
 
 pub bands_at_hiring-bands-requires-clause-time : goal.bands_at_hiring-bands-requires-clause-time
-bands_at_hiring-bands-requires-clause-time g c = (nothing_at_hiring (parts_of c.self.inside) c.self.invariant).1
+bands_at_hiring-bands-requires-clause-time g c = (nothing_at_hiring (parts_of c.self.inside) c.self.invariant.0).1
 
 pub lines_of-lines-requires : goal.lines_of-lines-requires
 lines_of-lines-requires g c =

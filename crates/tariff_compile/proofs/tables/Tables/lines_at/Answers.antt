@@ -13,19 +13,19 @@ cell_number-cell-requires-clause-below c =
 
 pub cell_number-cell-requires-clause-fits : goal.cell_number-cell-requires-clause-fits
 cell_number-cell-requires-clause-fits c =
-    let compiled = subst IsCompiled c.self.view_is c.self.invariant in
+    let compiled = subst IsCompiled c.self.view_is c.self.invariant.0 in
     rw (c.sizes_of-sizes.ensures ∙ ap sizes_for c.self.view_is) (omega (arith, sizes_for-most c.args.self.now compiled))
 
 pub offset_bounds-as_slice-cell : goal.offset_bounds-as_slice-cell
 offset_bounds-as_slice-cell c =
-    let compiled = subst IsCompiled c.self.view_is c.self.invariant in
+    let compiled = subst IsCompiled c.self.view_is c.self.invariant.0 in
     let below : c.cell_number-cell.result < cell_count (sizes_for c.args.self.now) =
     rw (c.sizes_of-sizes.ensures ∙ ap sizes_for c.self.view_is) at c.cell_number-cell.ensures.below in
     omega (arith, below, sizes_for-most c.args.self.now compiled)
 
 pub bounds-as_slice-cell : goal.bounds-as_slice-cell
 bounds-as_slice-cell c =
-    let compiled = subst IsCompiled c.self.view_is c.self.invariant in
+    let compiled = subst IsCompiled c.self.view_is c.self.invariant.0 in
     let below : c.cell_number-cell.result < cell_count (sizes_for c.args.self.now) =
     rw (c.sizes_of-sizes.ensures ∙ ap sizes_for c.self.view_is) at c.cell_number-cell.ensures.below in
     rw (

@@ -11,12 +11,12 @@ cell_number-requires-clause-below g c = rw (c.sizes_of-sizes.ensures ∙ ap size
 
 pub cell_number-requires-clause-fits : goal.cell_number-requires-clause-fits
 cell_number-requires-clause-fits g c =
-    let compiled = subst IsCompiled c.self.view_is c.self.invariant in
+    let compiled = subst IsCompiled c.self.view_is c.self.invariant.0 in
     rw (c.sizes_of-sizes.ensures ∙ ap sizes_for c.self.view_is) (omega (arith, sizes_for-most c.args.self.now compiled))
 
 pub read-requires : goal.read-requires
 read-requires g c =
-    let compiled = subst IsCompiled c.self.view_is c.self.invariant in
+    let compiled = subst IsCompiled c.self.view_is c.self.invariant.0 in
     let below = rw (c.sizes_of-sizes.ensures ∙ ap sizes_for c.self.view_is) at c.cell_number.ensures.below in
     rw (
       c.of.ensures ∙ (c.as_slice.ensures.value ∙ ap (λ (p : TableParts). p.cells) c.self.view_is),
