@@ -4,13 +4,14 @@ use Rattle.std.specs.Prelude.{ℕ, ◌-◌, ◌*◌, Bool, true, false, not, ◌
 use Rattle.std.specs.Prelude.{get_or, Option, Some, None, codes}
 use Rattle.std.specs.Option.{unwrap_or}
 use Rattle.tariff_check.specs.Amounts.{initial_by}
-use Rattle.tariff_check.specs.Kinds.{part_of}
+pub use Rattle.tariff_check.specs.Kinds.{is_asked_amid}
 use Rattle.tariff_check.specs.Parts.{RateNumbers, rates_of}
 use Rattle.tariff_check.specs.declared.choice.ChoiceKind.{ChoiceKind}
 use Rattle.tariff_check.specs.declared.choice.ChoiceKind.TheVariants.{Rate, Initial, Minimum}
 use Rattle.tariff_check.specs.declared.values.Initial as fees
+pub use Rattle.tariff_compile.specs.Tables.{place_at}
 use Rattle.tariff_compile.specs.declared.cells.CellLines.{CellLines}
-use Rattle.tariff_syntax.specs.Meaning.{at_hiring, choice_place, rate_place}
+use Rattle.tariff_syntax.specs.Meaning.{rate_place}
 use Rattle.tariff_syntax.specs.Tree.{Tree}
 use Rattle.tariff_syntax.specs.declared.context.Context.{Context}
 use Rattle.tariff_compare.specs.Contexts.{context_at}
@@ -20,20 +21,10 @@ use Rattle.tariff_compare.specs.declared.meter_context.MeterContext.{MeterContex
 abbrev pub is_hiring : MeterContext → Bool
 is_hiring m = (m.ticks == 0) && (m.pulses == 0)
 
--- the test `is_asked_amid` is true if a line of a kind can count amid a trip, and not at a hiring alone
-abbrev pub is_asked_amid : ChoiceKind → Bool
-is_asked_amid Rate = true
-is_asked_amid kind = false
-
 -- the test `is_asked` is true if a line of a kind can count in a context of a meter: amid a trip, or as the context is
 -- one at a hiring
 abbrev pub is_asked : ChoiceKind → MeterContext → Bool
 is_asked kind m = is_asked_amid kind || is_hiring m
-
--- the line of a kind that holds first in a context, or at its hiring if lines of the kind can't count amid a trip, is
--- told by its place among those of the kind, counted from 0
-abbrev pub place_at : ChoiceKind → Tree → Context → Option ℕ
-place_at kind t x = choice_place (part_of kind) t (if is_asked_amid kind then x else at_hiring x)
 
 -- the place that a number from 1 on tells, and none where it is 0
 abbrev pub place_before : (number : ℕ) → Option ℕ
