@@ -15,9 +15,9 @@ use Rattle.taxi_units.specs.declared.receipt.Kind.TheVariants.{Closed, Aborted, 
 use Rattle.taxi_units.specs.declared.receipt.Receipt.{Receipt}
 use Rattle.taxi_units.specs.declared.receipt.Stamp.{Stamp}
 use Rattle.receipt_text.specs.Grammar.{IsKind, IsDateText, IsTimeText, IsStampText, IsDayText, IsHexDigit, IsHexText}
-use Rattle.receipt_text.specs.Grammar.{IsDistance, IsCalculation, Line, IsMoney, AreAmounts, AreLastLines, AreTripLines}
-use Rattle.receipt_text.specs.Grammar.{AreReceiptLines, HasOptional}
-use Rattle.receipt_text.specs.AmountLines.{optional_lines}
+use Rattle.receipt_text.specs.Grammar.{IsDistance, IsCalculation, Line, AreAmounts, AreTripLines, AreReceiptLines}
+use Rattle.receipt_text.specs.Grammar.{HasOptional}
+use Rattle.receipt_text.specs.AmountLines.{optional_lines, total_of}
 use Rattle.receipt_text.specs.Part.{Part}
 use Rattle.log_commands.specs.Record.{Record, IsRecord}
 use Rattle.taxi_units.specs.Identifier.{IsIdentifierCharacter}
@@ -183,10 +183,13 @@ pub record IsEnded (text : List ℕ) : Type 0 where
 last_ended : (text : List ℕ) → text ≡ codes "END\n" → IsEnded text
 last_ended text is = record { front = []; last = ap (λ (t : List ℕ). 10 ∷ t) is; once = last_once text is }
 
-line_ended : (c : ℕ) (cs : List ℕ) (Value Rest : List ℕ → Type 0) (text : List ℕ) → is_word (c ∷ cs) ≡ true
-    → ((value : List ℕ) → Value value → Plain value) → ((rest : List ℕ) → Rest rest → IsEnded rest)
-    → Line (c ∷ cs) Value Rest text → IsEnded text
-line_ended c cs Value Rest text is plain ended h =
+-- each text of a form ends so
+abbrev Ends : (List ℕ → Type 0) → Type 0
+Ends Form = (text : List ℕ) → Form text → IsEnded text
+
+line_ended : (c : ℕ) (cs : List ℕ) (Value Rest : List ℕ → Type 0) → is_word (c ∷ cs) ≡ true
+    → ((value : List ℕ) → Value value → Plain value) → Ends Rest → Ends (Line (c ∷ cs) Value Rest)
+line_ended c cs Value Rest is plain ended text h =
     let word = word_is c cs is in
     let behind = ended h.rest h.rest_is in
     let body = (c ∷ cs) ++ h.value in
@@ -198,86 +201,50 @@ line_ended c cs Value Rest text is plain ended h =
           (line_once c cs h.value h.rest word.0 word.1 (plain h.value h.value_is) behind.once);
     }
 
--- ---- a receipt, from its last line up
+-- ---- the lines of a receipt, each of which begins with no E
 
 module _ (r : Receipt) (p : Part) where
-  total_ended : (text : List ℕ)
-      → Line (codes "TOTAL ") (IsMoney r (r.fare + r.supplements)) (λ t. t ≡ codes "END\n") text → IsEnded text
-  total_ended text h = line_ended 84 (codes "OTAL ") _ _ text refl (amount_plain r.decimals _) last_ended h
+  amounts_ended : Ends (AreAmounts r)
+  amounts_ended =
+      line_ended 70 (codes "ARE ") _ _ refl (amount_plain r.decimals r.fare)
+      (line_ended 83 (codes "UPPLEMENTS ") _ _ refl (amount_plain r.decimals r.supplements)
+      (line_ended 84 (codes "OTAL ") _ _ refl (amount_plain r.decimals (total_of r)) last_ended))
 
-  supplements_ended : (text : List ℕ) → Line (codes "SUPPLEMENTS ") (IsMoney r r.supplements)
-      (Line (codes "TOTAL ") (IsMoney r (r.fare + r.supplements)) (λ t. t ≡ codes "END\n")) text → IsEnded text
-  supplements_ended text h = line_ended 83 (codes "UPPLEMENTS ") _ _ text refl
-      (amount_plain r.decimals r.supplements) total_ended h
-
-  amounts_ended : (text : List ℕ) → AreAmounts r text → IsEnded text
-  amounts_ended text h = line_ended 70 (codes "ARE ") _ _ text refl (amount_plain r.decimals r.fare)
-      supplements_ended h
-
-  optional_ended : (lines : List (List ℕ × ℕ)) (text : List ℕ) → are_words lines ≡ true
-      → HasOptional r lines (AreAmounts r) text → IsEnded text
-  optional_ended [] text words h = amounts_ended text h
-  optional_ended (([], amount) ∷ more) text words h = absurd cc
-  optional_ended ((c ∷ cs, amount) ∷ more) text words h =
+  optional_ended : (lines : List (List ℕ × ℕ)) → are_words lines ≡ true → Ends (HasOptional r lines (AreAmounts r))
+  optional_ended [] words text h = amounts_ended text h
+  optional_ended (([], amount) ∷ more) words text h = absurd cc
+  optional_ended ((c ∷ cs, amount) ∷ more) words text h =
       let first = and_parts (is_word (c ∷ cs)) (are_words more) words in
       elim h [
-        | inl with ↦ line_ended c cs _ _ text first.0 (amount_plain r.decimals amount)
-            (λ rest rest_is. optional_ended more rest first.1 rest_is) with.1
-        | inr without ↦ optional_ended more text first.1 without.1
+        | inl with ↦
+            line_ended c cs _ _ first.0 (amount_plain r.decimals amount) (optional_ended more first.1) text with.1
+        | inr without ↦ optional_ended more first.1 text without.1
       ]
 
-  last_lines_ended : (text : List ℕ) → AreLastLines r text → IsEnded text
-  last_lines_ended text h = optional_ended (optional_lines r) text refl h
+  trip_ended : Ends (AreTripLines r)
+  trip_ended =
+      line_ended 83 (codes "TART ") _ _ refl (stamp_plain r.start)
+      (line_ended 70 (codes "INISH ") _ _ refl (stamp_plain r.finish)
+      (line_ended 80 (codes "OSITION ") _ _ refl (number_plain r.position)
+      (line_ended 68 (codes "ISTANCE ") _ _ refl (distance_plain r.hired_mm)
+      (line_ended 67 (codes "ALC ") _ _ refl (calculation_plain r) (optional_ended (optional_lines r) refl)))))
 
-  calc_ended : (text : List ℕ) → Line (codes "CALC ") (IsCalculation r) (AreLastLines r) text → IsEnded text
-  calc_ended text h = line_ended 67 (codes "ALC ") _ _ text refl (calculation_plain r) last_lines_ended h
-
-  distance_ended : (text : List ℕ) → Line (codes "DISTANCE ") (IsDistance r.hired_mm)
-      (Line (codes "CALC ") (IsCalculation r) (AreLastLines r)) text → IsEnded text
-  distance_ended text h = line_ended 68 (codes "ISTANCE ") _ _ text refl (distance_plain r.hired_mm) (calc_ended) h
-
-  position_ended : (text : List ℕ) → Line (codes "POSITION ") (IsNumberText r.position) (Line (codes "DISTANCE ")
-      (IsDistance r.hired_mm) (Line (codes "CALC ") (IsCalculation r) (AreLastLines r))) text → IsEnded text
-  position_ended text h = line_ended 80 (codes "OSITION ") _ _ text refl (number_plain r.position) (distance_ended) h
-
-  finish_ended : (text : List ℕ) → Line (codes "FINISH ") (IsStampText r.finish)
-      (Line (codes "POSITION ") (IsNumberText r.position) (Line (codes "DISTANCE ") (IsDistance r.hired_mm)
-      (Line (codes "CALC ") (IsCalculation r) (AreLastLines r)))) text → IsEnded text
-  finish_ended text h = line_ended 70 (codes "INISH ") _ _ text refl (stamp_plain r.finish) position_ended h
-
-  start_ended : (text : List ℕ) → AreTripLines r text → IsEnded text
-  start_ended text h = line_ended 83 (codes "TART ") _ _ text refl (stamp_plain r.start) finish_ended h
-
-  tariff_ended : (text : List ℕ) → Line (codes "TARIFF ") (IsHexText p.digest) (AreTripLines r) text → IsEnded text
-  tariff_ended text h = line_ended 84 (codes "ARIFF ") _ _ text refl (digest_plain p.digest) start_ended h
-
-  secured_ended : (text : List ℕ) → Line (codes "SECURED ") (IsDayText p.secured)
-      (Line (codes "TARIFF ") (IsHexText p.digest) (AreTripLines r)) text → IsEnded text
-  secured_ended text h = line_ended 83 (codes "ECURED ") _ _ text refl (day_plain p.secured) (tariff_ended) h
-
-  constant_ended : (text : List ℕ) → Line (codes "CONSTANT ") (IsNumberText p.constant) (Line (codes "SECURED ")
-      (IsDayText p.secured) (Line (codes "TARIFF ") (IsHexText p.digest) (AreTripLines r))) text → IsEnded text
-  constant_ended text h = line_ended 67 (codes "ONSTANT ") _ _ text refl (number_plain p.constant) (secured_ended) h
-
-  -- the lines from that of the taxi on, and from that of the kind on
-  abbrev AreTaxiLines : List ℕ → Type 0
-  AreTaxiLines = Line (codes "TAXI ") (λ t. t ≡ p.taxi) (Line (codes "CONSTANT ") (IsNumberText p.constant)
-      (Line (codes "SECURED ") (IsDayText p.secured) (Line (codes "TARIFF ") (IsHexText p.digest) (AreTripLines r))))
-
+  -- the lines from that of the kind on
   abbrev AreKindLines : List ℕ → Type 0
-  AreKindLines = Line (codes "KIND ") (IsKind r.kind) AreTaxiLines
+  AreKindLines = Line (codes "KIND ") (IsKind r.kind) (Line (codes "TAXI ") (λ t. t ≡ p.taxi)
+      (Line (codes "CONSTANT ") (IsNumberText p.constant) (Line (codes "SECURED ") (IsDayText p.secured)
+      (Line (codes "TARIFF ") (IsHexText p.digest) (AreTripLines r)))))
 
-  taxi_ended : IsTaxi p.taxi → (text : List ℕ) → AreTaxiLines text → IsEnded text
-  taxi_ended taxi text h = line_ended 84 (codes "AXI ") _ _ text refl
-      (λ value is. subst Plain (sym is) (taxi_plain p.taxi taxi)) constant_ended h
+  kind_ended : IsTaxi p.taxi → Ends AreKindLines
+  kind_ended taxi =
+      line_ended 75 (codes "IND ") _ _ refl (kind_plain r.kind)
+      (line_ended 84 (codes "AXI ") _ _ refl (λ value is. subst Plain (sym is) (taxi_plain p.taxi taxi))
+      (line_ended 67 (codes "ONSTANT ") _ _ refl (number_plain p.constant)
+      (line_ended 83 (codes "ECURED ") _ _ refl (day_plain p.secured)
+      (line_ended 84 (codes "ARIFF ") _ _ refl (digest_plain p.digest) trip_ended))))
 
-  kind_ended : IsTaxi p.taxi → (text : List ℕ) → AreKindLines text → IsEnded text
-  kind_ended taxi text h = line_ended 75 (codes "IND ") (IsKind r.kind) AreTaxiLines text refl (kind_plain r.kind)
-      (taxi_ended taxi) h
-
-  lines_ended : IsTaxi p.taxi → (text : List ℕ) → AreReceiptLines r p text → IsEnded text
-  lines_ended taxi text h = line_ended 82 (codes "ECEIPT ") (IsNumberText r.number) AreKindLines text refl
-      (number_plain r.number) (kind_ended taxi) h
+  lines_ended : IsTaxi p.taxi → Ends (AreReceiptLines r p)
+  lines_ended taxi = line_ended 82 (codes "ECEIPT ") _ _ refl (number_plain r.number) (kind_ended taxi)
 
 -- a receipt's text has its last line at its end alone
 record_ended : (it : Record) → IsRecord it → (front : List ℕ) × (it.text ≡ front ++ 10 ∷ codes "END\n")

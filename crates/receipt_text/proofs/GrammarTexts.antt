@@ -19,22 +19,17 @@ use Rattle.taxi_units.specs.declared.receipt.Stamp.{Stamp}
 use Rattle.taxi_units.proofs.Laws.{amounts_are_written_by_their_digits, numbers_are_written_by_their_digits}
 use Rattle.taxi_units.proofs.Laws.{padded_numbers_are_written_by_their_digits}
 use Rattle.receipt_text.specs.Grammar.{AreAmounts, AreLastLines, AreReceiptLines, AreTripLines, HasOptional}
-use Rattle.receipt_text.specs.Grammar.{IsCalculation}
-use Rattle.receipt_text.specs.Grammar.{IsDateText, IsDayText, IsDistance, IsExactly, IsHexDigit, IsHexText, IsKind}
-use Rattle.receipt_text.specs.Grammar.{IsMoney}
-use Rattle.receipt_text.specs.Grammar.{IsReceiptText, IsStampText, IsTimeText, Line}
-use Rattle.receipt_text.specs.AmountLines.{optional_lines}
+use Rattle.receipt_text.specs.Grammar.{IsCalculation, IsDateText, IsDayText, IsDistance, IsExactly, IsHexDigit}
+use Rattle.receipt_text.specs.Grammar.{IsHexText, IsKind, IsMoney, IsReceiptText, IsStampText, IsTimeText, Line}
+use Rattle.receipt_text.specs.AmountLines.{optional_lines, total_of}
 use Rattle.receipt_text.specs.Part.{Part, IsPart}
 use Rattle.receipt_text.specs.Receipts.{body_text, calculation_text, course_text, date_text, day_text, fare_text}
-use Rattle.receipt_text.specs.Receipts.{heading_text, hex_digit, hex_text, in_front, kind_text, optional_text}
-use Rattle.receipt_text.specs.Receipts.{part_text}
-use Rattle.receipt_text.specs.Receipts.{receipt_text, stamp_text, sums_text, supplements_text, time_text, total_text}
-use Rattle.receipt_text.specs.Receipts.{trip_text}
+use Rattle.receipt_text.specs.Receipts.{heading_text, hex_digit, hex_text, in_front, kind_text, last_text}
+use Rattle.receipt_text.specs.Receipts.{optional_text, part_text, receipt_text, stamp_text, supplements_text, time_text}
+use Rattle.receipt_text.specs.Receipts.{total_text, trip_text}
 use Rattle.receipt_text.specs.Spelling.{IsSpelled}
 use Rattle.receipt_text.proofs.Dates.{month_small, year_below}
-use Rattle.receipt_text.proofs.OptionalLines.{IsShort, optional_short}
-use Rattle.taxi_units.specs.Limits.{largest_supplements}
-use Rattle.taxi_units.specs.Money.{largest_amount}
+use Rattle.receipt_text.proofs.OptionalLines.{IsShort, optional_short, total_small}
 
 -- a form has one text
 abbrev Only : (List ℕ → Type 0) → List ℕ → Type 0
@@ -248,18 +243,17 @@ line_only word spelled after Value Rest value rest text = (
 abbrev amount_lines : Receipt → List ℕ
 amount_lines r =
     codes "FARE " ++ (money_text r.decimals r.fare ++ 10 ∷ (codes "SUPPLEMENTS " ++ (money_text r.decimals r.supplements
-    ++ 10 ∷ (codes "TOTAL " ++ (money_text r.decimals (r.fare + r.supplements) ++ 10 ∷ codes "END\n")))))
+    ++ 10 ∷ (codes "TOTAL " ++ (money_text r.decimals (total_of r) ++ 10 ∷ codes "END\n")))))
 
-amounts_only : (r : Receipt) → r.fare ≤ largest_amount → r.supplements ≤ largest_supplements
-    → Only (AreAmounts r) (amount_lines r)
-amounts_only r fare supplements =
-    let total = line_only (codes "TOTAL ") (money_text r.decimals (r.fare + r.supplements)) (codes "END\n")
-    (IsMoney r (r.fare + r.supplements)) (IsExactly (codes "END\n"))
-    (amount_only r.decimals (r.fare + r.supplements) (omega arith)) (exactly_only (codes "END\n")) in
+amounts_only : (r : Receipt) → IsReceipt r → Only (AreAmounts r) (amount_lines r)
+amounts_only r is =
+    let total = line_only (codes "TOTAL ") (money_text r.decimals (total_of r)) (codes "END\n")
+    (IsMoney r (total_of r)) (IsExactly (codes "END\n"))
+    (amount_only r.decimals (total_of r) (omega (arith, total_small r is))) (exactly_only (codes "END\n")) in
     let second = line_only (codes "SUPPLEMENTS ") (money_text r.decimals r.supplements) _ (IsMoney r r.supplements) _
-    (amount_only r.decimals r.supplements (omega arith)) total in
+    (amount_only r.decimals r.supplements (omega (arith, is.supplements))) total in
     line_only (codes "FARE ") (money_text r.decimals r.fare) _ (IsMoney r r.fare) _
-    (amount_only r.decimals r.fare (omega arith)) second
+    (amount_only r.decimals r.fare (omega (arith, is.fare))) second
 
 -- optional lines have one text, where what stands behind them has one
 optional_only : (r : Receipt) (lines : List (List ℕ × ℕ)) (after : List ℕ) (Rest : List ℕ → Type 0)
@@ -291,8 +285,7 @@ optional_only r ((word, amount) ∷ more) after Rest short rest text =
 last_only : (r : Receipt) → IsReceipt r
     → Only (AreLastLines r) (in_front r.decimals (optional_lines r) (amount_lines r))
 last_only r is =
-    optional_only r (optional_lines r) (amount_lines r) (AreAmounts r) (optional_short r is)
-    (amounts_only r (omega (arith, is.fare)) is.supplements)
+    optional_only r (optional_lines r) (amount_lines r) (AreAmounts r) (optional_short r is) (amounts_only r is)
 
 abbrev trip_lines : Receipt → List ℕ
 trip_lines r =
@@ -342,7 +335,7 @@ unfolding part_text
 part_lines p rest = simp append_assoc
 
 body_lines : (r : Receipt) → body_text r ≡ trip_lines r
-unfolding body_text trip_text course_text calculation_text sums_text fare_text supplements_text total_text
+unfolding body_text trip_text course_text calculation_text last_text fare_text supplements_text total_text
 body_lines r = simp append_assoc
 
 spelled_lines : (r : Receipt) (p : Part) → receipt_text r p ≡ all_lines r p

@@ -1,5 +1,5 @@
 -- What is written of the lines of a receipt is read again.
-use Rattle.std.proofs.Common.{◌≡◌, ◌≢◌, ℕ, ◌+◌, ◌-◌, ◌*◌, ◌/◌, ◌%◌, ◌^◌, ◌<◌, ◌≤◌, true, List, [], ◌∷◌, ◌++◌}
+use Rattle.std.proofs.Common.{◌≡◌, ◌≢◌, ℕ, ◌+◌, ◌-◌, ◌*◌, ◌/◌, ◌%◌, ◌^◌, ◌<◌, true, List, [], ◌∷◌, ◌++◌}
 use Rattle.std.proofs.Common.{length, refl, ap, sym, ◌∙◌, arith, Some, None, inl, inr, append_assoc}
 use Rattle.std.specs.Prelude.{codes}
 use Rattle.std.specs.Fmt.{decimal}
@@ -20,7 +20,7 @@ use Rattle.receipt_text.specs.Lines.{trip_at}
 use Rattle.receipt_text.specs.Part.{Part, IsDigest, IsPart}
 use Rattle.seal_record.specs.Ranges.{IsTaxi}
 use Rattle.receipt_text.specs.Receipts.{calculation_text, course_text, day_text, fare_text, heading_text, hex_digit}
-use Rattle.receipt_text.specs.Receipts.{hex_text, kind_text, part_text, stamp_text, sums_text}
+use Rattle.receipt_text.specs.Receipts.{hex_text, kind_text, part_text, stamp_text}
 use Rattle.receipt_text.specs.Receipts.{supplements_text, trip_text}
 use Rattle.receipt_text.proofs.Again.{amount_again, number_again, word_again}
 use Rattle.receipt_text.proofs.Dates.{day_again, stamp_again}
@@ -182,19 +182,19 @@ calculation_again r rest is =
     ap calculation_at text ∙ rw (a, initial, b, steps, d, step, f) refl
 
 -- the lines of the fare and of the supplements
-pub sums_again : (r : Receipt) (rest : List ℕ) → r.decimals ≤ 3 → r.fare < 10 ^ 18 → r.supplements < 10 ^ 18
-    → sums_at (sums_text r ++ rest) ≡ Some (record { fare = r.fare; supplements = r.supplements }, rest)
-unfolding sums_at sums_text fare_text supplements_text
-sums_again r rest few fare_small supplements_small =
+pub sums_again : (r : Receipt) (rest : List ℕ) → IsReceipt r → sums_at (fare_text r ++ (supplements_text r ++ rest))
+    ≡ Some (record { fare = r.fare; supplements = r.supplements }, rest)
+unfolding sums_at fare_text supplements_text
+sums_again r rest is =
     let tail = codes "SUPPLEMENTS " ++ (money_text r.decimals r.supplements ++ 10 ∷ rest) in
-    let text : ((codes "FARE " ++ (money_text r.decimals r.fare ++ codes "\n"))
-    ++ (codes "SUPPLEMENTS " ++ (money_text r.decimals r.supplements ++ codes "\n"))) ++ rest
+    let text : (codes "FARE " ++ (money_text r.decimals r.fare ++ codes "\n"))
+    ++ ((codes "SUPPLEMENTS " ++ (money_text r.decimals r.supplements ++ codes "\n")) ++ rest)
     ≡ codes "FARE " ++ (money_text r.decimals r.fare ++ 10 ∷ tail) = simp append_assoc in
     let a = word_again (codes "FARE ") (money_text r.decimals r.fare ++ 10 ∷ tail) in
-    let fare =
-    amount_again (10 ^ 18) r.decimals r.fare tail 10 few fare_small (omega arith) (omega arith) (λ e. omega arith) in
-    let b = word_again (codes "\nSUPPLEMENTS ") (money_text r.decimals r.supplements ++ 10 ∷ rest) in
-    let supplements = amount_again (10 ^ 18) r.decimals r.supplements rest 10 few supplements_small (omega arith)
+    let fare = amount_again (10 ^ 18) r.decimals r.fare tail 10 is.decimals (omega (arith, is.fare)) (omega arith)
     (omega arith) (λ e. omega arith) in
+    let b = word_again (codes "\nSUPPLEMENTS ") (money_text r.decimals r.supplements ++ 10 ∷ rest) in
+    let supplements = amount_again (10 ^ 18) r.decimals r.supplements rest 10 is.decimals
+    (omega (arith, is.supplements)) (omega arith) (omega arith) (λ e. omega arith) in
     let f = word_again (codes "\n") rest in
     ap sums_at text ∙ rw (a, fare, b, supplements, f) refl

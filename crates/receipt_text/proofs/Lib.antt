@@ -18,7 +18,7 @@ mod Groups
 pub mod Laws
 -- how long receipts are
 mod Lengths
--- the optional lines of a receipt: they are short, and what is written of one is read again
+-- the optional lines of a receipt and its total: they are short, and what is written of the lines is read again
 mod OptionalLines
 -- a receipt that was written is read again, and no other text is read as one
 mod ReadAgain

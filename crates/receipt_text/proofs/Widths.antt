@@ -1,6 +1,5 @@
 -- How long the lines of a receipt are at most, whatever it says.
-use Rattle.std.proofs.Common.{ℕ, ◌+◌, ◌/◌, ◌%◌, ◌^◌, ◌<◌, ◌≤◌, ◌++◌, length, arith, length-append}
-use Rattle.std.specs.Prelude.{codes}
+use Rattle.std.proofs.Common.{ℕ, ◌+◌, ◌/◌, ◌%◌, ◌^◌, ◌<◌, ◌≤◌, length, arith}
 use Rattle.std.specs.Fmt.{decimal}
 use Rattle.taxi_units.specs.Number.{money_text, padded_text}
 use Rattle.taxi_units.specs.declared.receipt.Kind.{Kind}
@@ -8,18 +7,20 @@ use Rattle.taxi_units.specs.declared.receipt.Kind.TheVariants.{Closed, Aborted, 
 use Rattle.taxi_units.specs.declared.receipt.Receipt.{Receipt}
 use Rattle.taxi_units.specs.declared.receipt.Stamp.{Stamp}
 use Rattle.taxi_units.proofs.Laws.{amounts_are_short, numbers_are_short, padded_numbers_fill_the_width}
+use Rattle.receipt_text.specs.AmountLines.{total_of}
 use Rattle.receipt_text.specs.Receipts.{calculation_text, course_text, date_text, fare_text, kind_text, stamp_text}
 use Rattle.receipt_text.specs.Receipts.{supplements_text, time_text, total_text}
+use Rattle.receipt_text.proofs.Appending.{lengths}
 
 padded_most : (width places value : ℕ) → 0 < places → places ≤ 64 → width ≤ places → value < 10 ^ places
     → length (padded_text width value) ≤ places
 padded_most width places value some few wide small =
     omega (arith, padded_numbers_fill_the_width width value, numbers_are_short places value some few small)
 
-number_most : (places value : ℕ) → 0 < places → places ≤ 64 → value < 10 ^ places → length (decimal value) ≤ places
+pub number_most : (places value : ℕ) → 0 < places → places ≤ 64 → value < 10 ^ places → length (decimal value) ≤ places
 number_most places value some few small = (numbers_are_short places value some few small).1
 
-amount_most : (decimals places units : ℕ) → decimals < places → places ≤ 64 → units < 10 ^ places
+pub amount_most : (decimals places units : ℕ) → decimals < places → places ≤ 64 → units < 10 ^ places
     → length (money_text decimals units) ≤ places + 1
 amount_most decimals places units more few small = (amounts_are_short decimals places units more few small).1
 
@@ -36,40 +37,20 @@ date_most year month date hy hm hd =
     let years = padded_most 4 5 year (omega arith) (omega arith) (omega arith) (omega arith) in
     let months = padded_most 2 3 month (omega arith) (omega arith) (omega arith) (omega arith) in
     let dates = padded_most 2 3 date (omega arith) (omega arith) (omega arith) (omega arith) in
-    omega (
-      arith,
-      length-append (padded_text 4 year) (codes "-" ++ (padded_text 2 month ++ (codes "-" ++ padded_text 2 date))),
-      length-append (padded_text 2 month) (codes "-" ++ padded_text 2 date),
-      years,
-      months,
-      dates,
-    )
+    omega (lengths, years, months, dates)
 
 time_most : (second : ℕ) → second < 2 ^ 32 → length (time_text second) ≤ 13
 time_most second small =
     let hours = padded_most 2 7 (second / 3600) (omega arith) (omega arith) (omega arith) (omega arith) in
     let minutes = padded_most 2 2 (second / 60 % 60) (omega arith) (omega arith) (omega arith) (omega arith) in
     let seconds = padded_most 2 2 (second % 60) (omega arith) (omega arith) (omega arith) (omega arith) in
-    omega (
-      arith,
-      length-append (padded_text 2 (second / 3600))
-          (codes ":" ++ (padded_text 2 (second / 60 % 60) ++ (codes ":" ++ padded_text 2 (second % 60)))),
-      length-append (padded_text 2 (second / 60 % 60)) (codes ":" ++ padded_text 2 (second % 60)),
-      hours,
-      minutes,
-      seconds,
-    )
+    omega (lengths, hours, minutes, seconds)
 
 stamp_most : (stamp : Stamp) → stamp.year < 2 ^ 16 → stamp.month < 2 ^ 8 → stamp.date < 2 ^ 8 → stamp.second < 2 ^ 32
     → length (stamp_text stamp) ≤ 27
 unfolding stamp_text
 stamp_most stamp hy hm hd hs =
-    omega (
-      arith,
-      length-append (date_text stamp.year stamp.month stamp.date) (codes " " ++ time_text stamp.second),
-      date_most stamp.year stamp.month stamp.date hy hm hd,
-      time_most stamp.second hs,
-    )
+    omega (lengths, date_most stamp.year stamp.month stamp.date hy hm hd, time_most stamp.second hs)
 
 -- the lines of a trip
 pub course_fits : (r : Receipt) → r.start.year < 2 ^ 16 → r.start.month < 2 ^ 8 → r.start.date < 2 ^ 8
@@ -80,19 +61,7 @@ unfolding course_text
 course_fits r sy sm sd ss fy fm fd fs hp hh =
     let position = number_most 3 r.position (omega arith) (omega arith) (omega arith) in
     let distance = amount_most 3 39 r.hired_mm (omega arith) (omega arith) (omega arith) in
-    omega (
-      arith,
-      length-append (stamp_text r.start) (codes "\nFINISH " ++ (stamp_text r.finish ++ (codes "\nPOSITION "
-          ++ (decimal r.position ++ (codes "\nDISTANCE " ++ (money_text 3 r.hired_mm ++ codes " m")))))),
-      length-append (stamp_text r.finish) (codes "\nPOSITION "
-          ++ (decimal r.position ++ (codes "\nDISTANCE " ++ (money_text 3 r.hired_mm ++ codes " m")))),
-      length-append (decimal r.position) (codes "\nDISTANCE " ++ (money_text 3 r.hired_mm ++ codes " m")),
-      length-append (money_text 3 r.hired_mm) (codes " m"),
-      stamp_most r.start sy sm sd ss,
-      stamp_most r.finish fy fm fd fs,
-      position,
-      distance,
-    )
+    omega (lengths, stamp_most r.start sy sm sd ss, stamp_most r.finish fy fm fd fs, position, distance)
 
 -- the line of a calculation
 pub calculation_fits : (r : Receipt) → r.decimals ≤ 3 → r.initial < 2 ^ 64 → r.steps < 2 ^ 64 → r.step < 2 ^ 64
@@ -102,41 +71,18 @@ calculation_fits r few hi hn hs =
     let initial = amount_most r.decimals 20 r.initial (omega arith) (omega arith) (omega arith) in
     let steps = number_most 20 r.steps (omega arith) (omega arith) (omega arith) in
     let step = amount_most r.decimals 20 r.step (omega arith) (omega arith) (omega arith) in
-    omega (
-      arith,
-      length-append (money_text r.decimals r.initial)
-          (codes " + " ++ (decimal r.steps ++ (codes " x " ++ (money_text r.decimals r.step ++ codes "\n")))),
-      length-append (decimal r.steps) (codes " x " ++ (money_text r.decimals r.step ++ codes "\n")),
-      length-append (money_text r.decimals r.step) (codes "\n"),
-      initial,
-      steps,
-      step,
-    )
+    omega (lengths, initial, steps, step)
 
 -- the lines of amounts
 pub fare_fits : (r : Receipt) → r.decimals ≤ 3 → r.fare < 2 ^ 64 → length (fare_text r) ≤ 40
 unfolding fare_text
-fare_fits r few small =
-    omega (
-      arith,
-      length-append (money_text r.decimals r.fare) (codes "\n"),
-      amount_most r.decimals 20 r.fare (omega arith) (omega arith) (omega arith),
-    )
+fare_fits r few small = omega (lengths, amount_most r.decimals 20 r.fare (omega arith) (omega arith) (omega arith))
 
 pub supplements_fit : (r : Receipt) → r.decimals ≤ 3 → r.supplements < 2 ^ 64 → length (supplements_text r) ≤ 40
 unfolding supplements_text
 supplements_fit r few small =
-    omega (
-      arith,
-      length-append (money_text r.decimals r.supplements) (codes "\n"),
-      amount_most r.decimals 20 r.supplements (omega arith) (omega arith) (omega arith),
-    )
+    omega (lengths, amount_most r.decimals 20 r.supplements (omega arith) (omega arith) (omega arith))
 
-pub total_fits : (r : Receipt) → r.decimals ≤ 3 → r.fare < 2 ^ 64 → r.supplements < 2 ^ 64 → length (total_text r) ≤ 40
+pub total_fits : (r : Receipt) → r.decimals ≤ 3 → total_of r < 10 ^ 20 → length (total_text r) ≤ 40
 unfolding total_text
-total_fits r few fare supplements =
-    omega (
-      arith,
-      length-append (money_text r.decimals (r.fare + r.supplements)) (codes "\nEND\n"),
-      amount_most r.decimals 20 (r.fare + r.supplements) (omega arith) (omega arith) (omega arith),
-    )
+total_fits r few small = omega (lengths, amount_most r.decimals 20 (total_of r) (omega arith) (omega arith) small)

@@ -7,7 +7,7 @@ use Rattle.taxi_units.specs.declared.receipt.Kind.{Kind}
 use Rattle.taxi_units.specs.declared.receipt.Kind.TheVariants.{Closed, Aborted, Expired, Roam}
 use Rattle.taxi_units.specs.declared.receipt.Receipt.{Receipt}
 use Rattle.taxi_units.specs.declared.receipt.Stamp.{Stamp}
-use Rattle.receipt_text.specs.AmountLines.{optional_lines}
+use Rattle.receipt_text.specs.AmountLines.{optional_lines, total_of}
 use Rattle.receipt_text.specs.Part.{Part, IsPart}
 
 -- a text is exactly the wanted one if it has the same bytes
@@ -101,12 +101,12 @@ pub record Line (word : List ℕ) (Value : List ℕ → Type 0) (Rest : List ℕ
 abbrev pub IsMoney : Receipt → (units : ℕ) → List ℕ → Type 0
 IsMoney receipt units text = IsAmountText receipt.decimals units text
 
--- a text is the lines of the fare, of the supplements, of the total of both, and of the end
+-- a text is the lines of the fare, of the supplements, of the total, and of the end
 abbrev pub AreAmounts : Receipt → List ℕ → Type 0
 AreAmounts receipt =
     Line (codes "FARE ") (IsMoney receipt receipt.fare)
     (Line (codes "SUPPLEMENTS ") (IsMoney receipt receipt.supplements)
-    (Line (codes "TOTAL ") (IsMoney receipt (receipt.fare + receipt.supplements)) (IsExactly (codes "END\n"))))
+    (Line (codes "TOTAL ") (IsMoney receipt (total_of receipt)) (IsExactly (codes "END\n"))))
 
 -- a text begins with optional lines, of which each is there exactly if its amount is above 0, and what follows them has
 -- another form

@@ -9,6 +9,7 @@ use Rattle.taxi_units.specs.declared.receipt.Receipt.{Receipt}
 use Rattle.receipt_text.specs.declared.headings.Heading.{Heading}
 use Rattle.receipt_text.specs.declared.trips.TripLines.{TripLines}
 use Rattle.receipt_text.specs.declared.calculations.Calculation.{Calculation}
+use Rattle.receipt_text.specs.declared.sums.OptionalAmounts.{OptionalAmounts}
 use Rattle.receipt_text.specs.declared.sums.Sums.{Sums}
 use Rattle.receipt_text.specs.Dates.{day_at, stamp_behind}
 use Rattle.receipt_text.specs.Digests.{digest_at}
@@ -89,6 +90,12 @@ optional_from text (Some after) = do
 unfoldable pub optional_at : (word : List ℕ) → List ℕ → Option (ℕ × List ℕ)
 optional_at word text = optional_from text (word_at word text)
 
+-- the optional lines that are there stand at the front, and this text behind them
+unfoldable pub optional_lines_at : List ℕ → Option (OptionalAmounts × List ℕ)
+optional_lines_at text = do
+  minimum ← optional_at (codes "MINIMUM ") text
+  Some (record { minimum = minimum.0 }, minimum.1)
+
 -- the lines of a fare and of supplements stand at the front, and this text behind them
 unfoldable pub sums_at : List ℕ → Option (Sums × List ℕ)
 sums_at text = do
@@ -98,8 +105,8 @@ sums_at text = do
   Some (record { fare = fare.0.units; supplements = supplements.0.units }, rest)
 
 -- a receipt has the number, the times and the amounts that its lines say
-abbrev pub receipt_of : Heading → TripLines → Calculation → (minimum : ℕ) → Sums → Receipt
-receipt_of heading trip calculation minimum sums =
+abbrev pub receipt_of : Heading → TripLines → Calculation → OptionalAmounts → Sums → Receipt
+receipt_of heading trip calculation optional sums =
     record {
       number = heading.number;
       kind = heading.kind;
@@ -108,7 +115,7 @@ receipt_of heading trip calculation minimum sums =
       position = trip.position;
       hired_mm = trip.hired_mm;
       initial = calculation.initial;
-      minimum = minimum;
+      minimum = optional.minimum;
       steps = calculation.steps;
       step = calculation.step;
       fare = sums.fare;
@@ -123,6 +130,6 @@ receipt_at text = do
   part ← part_at heading.1
   trip ← trip_at part.1
   calculation ← calculation_at trip.1
-  minimum ← optional_at (codes "MINIMUM ") calculation.1
-  sums ← sums_at minimum.1
-  Some (receipt_of heading.0 trip.0 calculation.0 minimum.0 sums.0, part.0)
+  optional ← optional_lines_at calculation.1
+  sums ← sums_at optional.1
+  Some (receipt_of heading.0 trip.0 calculation.0 optional.0 sums.0, part.0)

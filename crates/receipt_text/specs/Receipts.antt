@@ -7,7 +7,7 @@ use Rattle.taxi_units.specs.declared.receipt.Kind.{Kind}
 use Rattle.taxi_units.specs.declared.receipt.Kind.TheVariants.{Closed, Aborted, Expired, Roam}
 use Rattle.taxi_units.specs.declared.receipt.Receipt.{Receipt}
 use Rattle.taxi_units.specs.declared.receipt.Stamp.{Stamp}
-use Rattle.receipt_text.specs.AmountLines.{optional_lines}
+use Rattle.receipt_text.specs.AmountLines.{optional_lines, total_of}
 use Rattle.receipt_text.specs.Part.{Part}
 
 -- the word for how a hiring ended is `CLOSED`, `ABORTED` or `EXPIRED`, and roaming, which has no receipt, has none
@@ -95,21 +95,19 @@ unfoldable pub supplements_text : Receipt → List ℕ
 supplements_text receipt =
     codes "SUPPLEMENTS " ++ (money_text receipt.decimals receipt.supplements ++ codes "\n")
 
--- a fare and its supplements, which are no part of it, are written as a line each
-unfoldable pub sums_text : Receipt → List ℕ
-sums_text receipt = fare_text receipt ++ supplements_text receipt
-
--- a receipt's last two lines are the total, which is the fare and the supplements together, and the end
+-- a receipt's last two lines are the total and the end
 unfoldable pub total_text : Receipt → List ℕ
-total_text receipt =
-    codes "TOTAL " ++ (money_text receipt.decimals (receipt.fare + receipt.supplements) ++ codes "\nEND\n")
+total_text receipt = codes "TOTAL " ++ (money_text receipt.decimals (total_of receipt) ++ codes "\nEND\n")
+
+-- behind the calculation the optional lines are written, and then the fare, the supplements and the last two lines
+unfoldable pub last_text : Receipt → List ℕ
+last_text receipt =
+    in_front receipt.decimals (optional_lines receipt)
+    (fare_text receipt ++ (supplements_text receipt ++ total_text receipt))
 
 -- a trip and its fare are written as their lines, from the start to the end
 unfoldable pub body_text : Receipt → List ℕ
-body_text receipt =
-    trip_text receipt
-    ++ (calculation_text receipt
-    ++ in_front receipt.decimals (optional_lines receipt) (sums_text receipt ++ total_text receipt))
+body_text receipt = trip_text receipt ++ (calculation_text receipt ++ last_text receipt)
 
 -- a receipt is written as the lines of its number and kind, those of the seal, and those of the trip and its fare
 unfoldable pub receipt_text : Receipt → Part → List ℕ

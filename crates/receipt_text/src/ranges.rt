@@ -1,21 +1,19 @@
 //! Whether receipts and what they say of a seal are in their ranges.
-ghost use Rattle.std.specs.Prelude.{◌≡◌, ◌≢◌, ◌^◌, ◌↔◌, ◌≤◌, ◌<◌, IsTrue};
+ghost use Rattle.std.specs.Prelude.{◌≢◌, ◌^◌, ◌↔◌, ◌≤◌, ◌<◌, IsTrue};
 ghost use Rattle.std.specs.List.{AllByRecursion};
-ghost use Rattle.taxi_units.specs.Shown.{IsReceipt, IsStamp, fare_of};
+ghost use Rattle.taxi_units.specs.Shown.{IsReceipt, IsStamp};
 ghost use Rattle.taxi_units.specs.declared.receipt.Kind.TheVariants.{Roam};
 ghost use Rattle.drive_modes.specs.Constant.{least_constant, greatest_constant};
 ghost use Rattle.receipt_text.specs.Part.{IsDigest, IsPart};
 ghost use Rattle.seal_record.specs.Ranges.{IsDay, IsTaxi};
 ghost use Rattle.taxi_units.specs.Identifier.{IsIdentifierCharacter};
-ghost use Rattle.taxi_units.specs.Limits.{largest_supplements, number_most};
-ghost use Rattle.taxi_units.specs.Money.{largest_amount};
+ghost use Rattle.taxi_units.specs.Limits.{number_most};
 
 use crate::parts::SealPart;
+use crate::sums::has_amounts;
 use drive_modes::{GREATEST_CONSTANT, LEAST_CONSTANT};
 use seal_record::{FIRST_DAY, LAST_DAY};
-use taxi_units::{
-    Kind, LARGEST_AMOUNT, LARGEST_SUPPLEMENTS, Receipt, Stamp, is_date, is_identifier_character,
-};
+use taxi_units::{Kind, Receipt, Stamp, is_date, is_identifier_character};
 
 /// Whether a receipt is one for a hiring, with each number in its range and the fare that it calculates.
 pub(crate) fn is_receipt(receipt: &Receipt) -> bool
@@ -47,31 +45,6 @@ fn is_hiring(kind: Kind) -> bool
     ensures { IsTrue result ↔ (kind ≢ Roam) }
 {
     !matches!(kind, Kind::Roam)
-}
-
-/// Whether the amounts are in their ranges, and the fare is the one that they give.
-fn has_amounts(receipt: &Receipt) -> bool
-    ensures { IsTrue result ↔ ((receipt.now.initial ≤ largest_amount) × (receipt.now.minimum ≤ largest_amount)
-        × (receipt.now.steps < 10 ^ 18) × (1 ≤ receipt.now.step) × (receipt.now.step ≤ 1000000)
-        × (receipt.now.supplements ≤ largest_supplements) × (receipt.now.fare ≡ fare_of receipt.now)) }
-{
-    receipt.initial <= LARGEST_AMOUNT
-        && receipt.minimum <= LARGEST_AMOUNT
-        && receipt.steps < 1_000_000_000_000_000_000
-        && 1 <= receipt.step
-        && receipt.step <= 1_000_000
-        && receipt.supplements <= LARGEST_SUPPLEMENTS
-        && receipt.fare as u128 == fare_of(receipt)
-}
-
-/// The fare that a receipt calculates.
-fn fare_of(receipt: &Receipt) -> u128
-    ensures { result ≡ fare_of receipt.now }
-{
-    let calculated = receipt.initial as u128 + receipt.steps as u128 * receipt.step as u128;
-    calculated
-        .max(receipt.minimum as u128)
-        .min(LARGEST_AMOUNT as u128)
 }
 
 /// Whether a stamp is a real date of the years 1999 to 2200, and a second of a day.

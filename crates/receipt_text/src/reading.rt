@@ -15,7 +15,7 @@ use crate::headings::{Heading, heading_at};
 use crate::parts::{SealPart, part_at};
 use crate::ranges::{is_part, is_receipt};
 use crate::receipts::put_part_receipt;
-use crate::sums::{Sums, optional_at, sums_at};
+use crate::sums::{OptionalAmounts, Sums, optional_lines_at, sums_at};
 use crate::trips::{TripLines, trip_at};
 use taxi_units::{Line, Receipt};
 
@@ -72,9 +72,9 @@ pub(crate) fn receipt_at(text: &[u8]) -> Option<(Receipt, SealPart)>
     let (part, text) = part_at(text)?;
     let (trip, text) = trip_at(text)?;
     let (calculation, text) = calculation_at(text)?;
-    let (minimum, text) = optional_at(text, b"MINIMUM ")?;
+    let (optional, text) = optional_lines_at(text)?;
     let (sums, _) = sums_at(text)?;
-    let receipt = receipt_of(heading, trip, calculation, minimum, sums);
+    let receipt = receipt_of(heading, trip, calculation, optional, sums);
     Some((receipt, part))
 }
 
@@ -83,10 +83,10 @@ fn receipt_of(
     heading: Heading,
     trip: TripLines,
     calculation: Calculation,
-    minimum: u64,
+    optional: OptionalAmounts,
     sums: Sums,
 ) -> Receipt
-    ensures { result ≡ receipt_of heading trip calculation minimum sums }
+    ensures { result ≡ receipt_of heading trip calculation optional sums }
 {
     Receipt {
         number: heading.number,
@@ -96,7 +96,7 @@ fn receipt_of(
         position: trip.position,
         hired_mm: trip.hired_mm,
         initial: calculation.initial,
-        minimum,
+        minimum: optional.minimum,
         steps: calculation.steps,
         step: calculation.step,
         fare: sums.fare,

@@ -11,7 +11,7 @@ ghost use Rattle.receipt_text.specs.Spelling.{IsSpelled};
 use crate::calculations::put_calculation;
 use crate::headings::put_heading;
 use crate::parts::{SealPart, part_of, put_part};
-use crate::sums::{put_optional, put_sums, put_total};
+use crate::sums::put_last_lines;
 use crate::trips::put_trip;
 use seal_record::Seal;
 use taxi_units::{Line, LineFull, Receipt, put_bytes};
@@ -73,7 +73,5 @@ fn put_body(line: &mut Line, receipt: &Receipt) -> Result<(), LineFull>
 {
     put_trip(line, receipt)?;
     put_calculation(line, receipt)?;
-    put_optional(line, b"MINIMUM ", receipt.minimum, receipt.decimals)?;
-    put_sums(line, receipt)?;
-    put_total(line, receipt)
+    put_last_lines(line, receipt)
 }

@@ -69,8 +69,7 @@ pub fn push_supplements(line: &mut Line, receipt: Receipt)
     put_supplements(line, &receipt).unwrap();
 }
 
-/// Appends the line of the total, which is the fare and the supplements together, and the last line.
-#[tactic(auto, using(crate::proofs::Widths::total_fits))]
+/// Appends the line of the total, and the last line.
 pub fn push_total(line: &mut Line, receipt: Receipt)
     requires room { array_vec_len line.old + 40 ≤ line_size }
     requires decimals { receipt.decimals ≤ 3 }

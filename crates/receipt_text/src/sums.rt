@@ -1,31 +1,84 @@
-//! The lines of a receipt's amounts.
-ghost use Rattle.std.specs.Prelude.{◌≡◌, ◌+◌, ◌≤◌, ◌++◌, ◌↔◌, length, IsOk, OnOk};
+//! The amounts of a receipt: their ranges, and their lines, written and read.
+ghost use Rattle.std.specs.Prelude.{◌≡◌, ◌+◌, ◌^◌, ◌<◌, ◌≤◌, ◌++◌, ◌↔◌, length, IsOk, IsTrue, OnOk};
 ghost use Rattle.arrayvec.specs.ArrayVec.{array_vec_len};
 ghost use Rattle.taxi_units.specs.Line.{line_size};
+ghost use Rattle.taxi_units.specs.Limits.{largest_supplements};
+ghost use Rattle.taxi_units.specs.Money.{largest_amount};
 ghost use Rattle.taxi_units.specs.Reading.{Gives};
+ghost use Rattle.taxi_units.specs.Shown.{fare_of};
+ghost use Rattle.receipt_text.specs.AmountLines.{total_of};
 ghost use Rattle.receipt_text.specs.Lines as spec;
-ghost use Rattle.receipt_text.specs.Receipts.{fare_text, optional_text, sums_text, supplements_text, total_text};
+ghost use Rattle.receipt_text.specs.Receipts.{fare_text, last_text, optional_text, supplements_text, total_text};
 
 use crate::amounts::{amount_behind, amount_below};
 use crate::fields::put_amount;
 use crate::figures::READ_BELOW;
-use taxi_units::{Line, LineFull, Receipt, put_bytes, word};
+use taxi_units::{LARGEST_AMOUNT, LARGEST_SUPPLEMENTS, Line, LineFull, Receipt, put_bytes, word};
 
-/// What the lines of the amounts say.
+/// What the optional lines say: 0 of each that isn't there.
+#[derive(Clone, Copy)]
+pub(crate) struct OptionalAmounts {
+    pub minimum: u64,
+}
+
+/// What the lines of the fare and the supplements say.
 #[derive(Clone, Copy)]
 pub(crate) struct Sums {
     pub fare: u64,
     pub supplements: u64,
 }
 
+/// Whether the amounts are in their ranges, and the fare is the one that they give.
+pub(crate) fn has_amounts(receipt: &Receipt) -> bool
+    ensures { IsTrue result ↔ ((receipt.now.initial ≤ largest_amount) × (receipt.now.minimum ≤ largest_amount)
+        × (receipt.now.steps < 10 ^ 18) × (1 ≤ receipt.now.step) × (receipt.now.step ≤ 1000000)
+        × (receipt.now.supplements ≤ largest_supplements) × (receipt.now.fare ≡ fare_of receipt.now)) }
+{
+    receipt.initial <= LARGEST_AMOUNT
+        && receipt.minimum <= LARGEST_AMOUNT
+        && receipt.steps < 1_000_000_000_000_000_000
+        && 1 <= receipt.step
+        && receipt.step <= 1_000_000
+        && receipt.supplements <= LARGEST_SUPPLEMENTS
+        && receipt.fare as u128 == fare_of(receipt)
+}
+
+/// The fare that a receipt calculates.
+fn fare_of(receipt: &Receipt) -> u128
+    ensures { result ≡ fare_of receipt.now }
+{
+    let calculated = receipt.initial as u128 + receipt.steps as u128 * receipt.step as u128;
+    calculated
+        .max(receipt.minimum as u128)
+        .min(LARGEST_AMOUNT as u128)
+}
+
+/// The total of a receipt.
+#[tactic(auto, unfolding(crate::specs::AmountLines::total_of))]
+fn total_of(receipt: &Receipt) -> u128
+    ensures value { result ≡ total_of receipt.now }
+    ensures below { total_of receipt.now < 10 ^ 20 }
+{
+    receipt.fare as u128 + receipt.supplements as u128
+}
+
+/// Appends the lines behind the calculation: the optional ones, those of the amounts, and the last line.
+#[tactic(auto, unfolding(crate::specs::Receipts::last_text))]
+pub(crate) fn put_last_lines(line: &mut Line, receipt: &Receipt) -> Result<(), LineFull>
+    requires room { array_vec_len line.old ≤ line_size }
+    requires decimals { receipt.now.decimals ≤ 3 }
+    ensures variant { IsOk result ↔ (array_vec_len line.old + length (last_text receipt.now) ≤ line_size) }
+    ensures ok { OnOk result (line.new.items ≡ line.old.items ++ last_text receipt.now) }
+{
+    put_optional(line, b"MINIMUM ", receipt.minimum, receipt.decimals)?;
+    put_fare(line, receipt)?;
+    put_supplements(line, receipt)?;
+    put_total(line, receipt)
+}
+
 /// Appends an optional line: a word and an amount, where it is above 0.
 #[tactic(auto, unfolding(crate::specs::Receipts::optional_text))]
-pub(crate) fn put_optional(
-    line: &mut Line,
-    word: &[u8],
-    amount: u64,
-    decimals: u8,
-) -> Result<(), LineFull>
+fn put_optional(line: &mut Line, word: &[u8], amount: u64, decimals: u8) -> Result<(), LineFull>
     requires room { array_vec_len line.old ≤ line_size }
     requires decimals { decimals ≤ 3 }
     ensures variant { IsOk result
@@ -37,17 +90,6 @@ pub(crate) fn put_optional(
     }
     put_amount(line, word, amount as u128, decimals)?;
     put_bytes(line, b"\n")
-}
-
-/// Appends the lines of the fare and the supplements.
-#[tactic(auto, unfolding(crate::specs::Receipts::sums_text))]
-pub(crate) fn put_sums(line: &mut Line, receipt: &Receipt) -> Result<(), LineFull>
-    requires { receipt.now.decimals ≤ 3 }
-    ensures variant { IsOk result ↔ (array_vec_len line.old + length (sums_text receipt.now) ≤ line_size) }
-    ensures ok { OnOk result (line.new.items ≡ line.old.items ++ sums_text receipt.now) }
-{
-    put_fare(line, receipt)?;
-    put_supplements(line, receipt)
 }
 
 /// Appends the line of the fare.
@@ -74,21 +116,30 @@ pub(crate) fn put_supplements(line: &mut Line, receipt: &Receipt) -> Result<(), 
 }
 
 /// Appends the line of the total, and the last line.
-#[tactic(auto, unfolding(crate::specs::Receipts::total_text))]
+#[tactic(auto, using(crate::proofs::Widths::total_fits), unfolding(crate::specs::Receipts::total_text))]
 pub(crate) fn put_total(line: &mut Line, receipt: &Receipt) -> Result<(), LineFull>
     requires { receipt.now.decimals ≤ 3 }
     ensures variant { IsOk result ↔ (array_vec_len line.old + length (total_text receipt.now) ≤ line_size) }
     ensures ok { OnOk result (line.new.items ≡ line.old.items ++ total_text receipt.now) }
+    ensures most { length (total_text receipt.now) ≤ 40 }
 {
-    let total = receipt.fare as u128 + receipt.supplements as u128;
-    put_amount(line, b"TOTAL ", total, receipt.decimals)?;
+    put_amount(line, b"TOTAL ", total_of(receipt), receipt.decimals)?;
     put_bytes(line, b"\nEND\n")
+}
+
+/// The amounts of the optional lines that stand at the front of a text, and what stands after them.
+#[tactic(auto, unfolding(crate::specs::Lines::optional_lines_at))]
+pub(crate) fn optional_lines_at(text: &[u8]) -> Option<(OptionalAmounts, &[u8])>
+    ensures { Gives (λ x. (x.0, x.1.now)) result (spec.optional_lines_at text.now) }
+{
+    let (minimum, rest) = optional_at(text, b"MINIMUM ")?;
+    Some((OptionalAmounts { minimum }, rest))
 }
 
 /// The amount of the optional line of a word at the front of a text, and what stands after it; 0 where
 /// the text doesn't begin with such a line.
 #[tactic(auto, unfolding(crate::specs::Lines::optional_at))]
-pub(crate) fn optional_at<'a>(text: &'a [u8], before: &[u8]) -> Option<(u64, &'a [u8])>
+fn optional_at<'a>(text: &'a [u8], before: &[u8]) -> Option<(u64, &'a [u8])>
     ensures { Gives (λ x. (x.0, x.1.now)) result (spec.optional_at before.now text.now) }
 {
     match word(text, before) {
