@@ -6,8 +6,8 @@ use Rattle.drive_text.specs.declared.run.Run.{Run}
 use Rattle.drive_text.specs.Fields.{line_runs}
 use Rattle.drive_text.specs.Ranges.{IsRunInRange}
 use Rattle.drive_text.specs.Table.{Means}
-use Rattle.drive_text.specs.Table.Means.{empty, comment, up, clock, pulses, intervals, position, zone, extra}
-use Rattle.drive_text.proofs.Table.{line_runs-table}
+use Rattle.drive_text.specs.Table.Means.{empty, comment, up, clock, pulses, intervals, plain, position, zone, extra}
+use Rattle.drive_text.proofs.Table.{line_runs-table, plain_keys_are_read}
 
 one : (run : Run) → IsRunInRange run → All IsRunInRange (run ∷ [])
 one run h = All-cons IsRunInRange run [] h (All-nil IsRunInRange)
@@ -19,6 +19,7 @@ means_in_range text runs (up s digits h) = one _ (h.above, h.below)
 means_in_range text runs (clock s digits h) = one _ (h.above, h.below)
 means_in_range text runs (pulses p digits h) = one _ (h.above, h.below)
 means_in_range text runs (intervals p n first second h k) = one _ (h.below, k.above, k.below)
+means_in_range text runs (plain k among) = one _ (plain_keys_are_read k among).0
 means_in_range text runs (position n digits h) = one _ h.below
 means_in_range text runs (zone n digits h) = one _ h.below
 means_in_range text runs (extra n digits h) = one _ h.below

@@ -1,12 +1,14 @@
 -- What a line means is what the table says.
-use Rattle.std.proofs.Common.{◌≡◌, ℕ, ◌≤◌, Bool, true, false, cond, List, [], ◌∷◌, ◌++◌, length, refl, ap, sym, ◌∙◌}
-use Rattle.std.proofs.Common.{subst, arith, eqb, ltb, ◌↔◌, length-append, Option, Some, None, codes}
-use Rattle.std.specs.List.{slice_split, join_with_byte}
+use Rattle.std.proofs.Common.{◌≡◌, ℕ, suc, ◌≤◌, Bool, true, false, cond, List, [], ◌∷◌, ◌++◌, length, refl, ap, sym}
+use Rattle.std.proofs.Common.{◌∙◌, subst, arith, eqb, ltb, ◌↔◌, length-append, Option, Some, None, codes}
+use Rattle.std.specs.Prelude.{Contains}
+use Rattle.std.specs.List.{AllByRecursion, slice_split, join_with_byte}
 use Rattle.std.specs.Option.{option_map}
 use Rattle.std.specs.Cmp.Lexicographic.{same_text}
 use Rattle.std.specs.Str.Lines.{strip_carriage_return}
 use Rattle.std.specs.Str.Parse.{AllDigits}
 use Rattle.std.proofs.lemmas.Bool.{eqb-true, le-ltb}
+use Rattle.std.proofs.lemmas.List.Elements.{All-contains, All-from_recursion}
 use Rattle.std.proofs.lemmas.List.Splits.{slice_split_none, slice_split_at, join_with_byte-slice_split}
 use Rattle.taxi_units.specs.Digits.{IsNumberIn}
 use Rattle.taxi_units.specs.Number.{number_in}
@@ -16,14 +18,16 @@ use Rattle.taxi_units.specs.declared.event.Event.{Event}
 use Rattle.taxi_units.specs.declared.event.Event.TheVariants.{Up, Down, Pulses, Tick, Clock}
 use Rattle.taxi_units.specs.declared.event.Event.TheVariants as events
 use Rattle.taxi_units.specs.declared.event.Key.{Key}
-use Rattle.taxi_units.specs.declared.event.Key.TheVariants.{Hire, Stop, Clear, Position, Zone, Extra}
+use Rattle.taxi_units.specs.declared.event.Key.TheVariants.{Position, Zone, Extra}
 use Rattle.drive_text.specs.declared.run.Run.{Run}
 use Rattle.drive_text.specs.declared.run.Run.TheVariants.{One, Many}
-use Rattle.drive_text.specs.Fields.{second_in, plain_key, numbered_key, one, intervals_of, run_of_one_field}
+use Rattle.drive_text.specs.Fields.{second_in, key_among, plain_key, numbered_key, one, intervals_of, run_of_one_field}
 use Rattle.drive_text.specs.Fields.{run_of_two_fields, run_of_three_fields, run_of_fields, text_runs, line_runs}
 use Rattle.drive_text.specs.Table.{Means}
-use Rattle.drive_text.specs.Table.Means.{empty, comment, up, down, clock, pulses, tick, intervals, hire, stop, clear}
-use Rattle.drive_text.specs.Table.Means.{position, zone, extra}
+use Rattle.drive_text.specs.Table.Means.{empty, comment, up, down, clock, pulses, tick, intervals, plain, position}
+use Rattle.drive_text.specs.Table.Means.{zone, extra}
+use Rattle.drive_text.specs.Ranges.{IsKeyInRange}
+use Rattle.drive_text.specs.Written.{key_text, plain_keys}
 use Rattle.drive_text.proofs.Blanks.{none_tests}
 use Rattle.drive_text.proofs.Numbers.{number_sound, number_complete, digits_blankless}
 
@@ -59,6 +63,22 @@ interval_fields first second h k few fewer =
     ∙ ap (λ (x : List (List ℕ)). first ∷ x) (one_field second k) in
     rw (size, fields) refl
 
+-- the run of a key
+abbrev key_run : Key → Run
+key_run key = One (events.Key key)
+
+-- a key without a number is in range, and its line gives it
+abbrev IsRead : Key → Type 0
+IsRead k = IsKeyInRange k × (text_runs (codes "K " ++ key_text k) ≡ Some (key_run k ∷ []))
+
+each_read : AllByRecursion IsRead plain_keys
+unfolding text_runs run_of_two_fields plain_key key_text
+each_read = ((tt, refl), ((tt, refl), ((tt, refl), tt)))
+
+pub plain_keys_are_read : (k : Key) → Contains plain_keys k → IsRead k
+plain_keys_are_read k among =
+    All-contains IsRead plain_keys k (All-from_recursion IsRead plain_keys each_read) among
+
 complete : (t : List ℕ) (rs : List Run) → Means t rs → text_runs t ≡ Some rs
 unfolding text_runs run_of_one_field run_of_two_fields run_of_three_fields plain_key numbered_key
 complete t rs empty = refl
@@ -73,9 +93,7 @@ complete t rs (pulses p digits h) =
 complete t rs tick = refl
 complete t rs (intervals p n first second h k) = interval_fields first second h.written.numeral.1 k.written.numeral.1
     h.written.few k.written.few ∙ rw (number_complete 0 65535 first p h, number_complete 1 36000 second n k) refl
-complete t rs hire = refl
-complete t rs stop = refl
-complete t rs clear = refl
+complete t rs (plain k among) = (plain_keys_are_read k among).1
 complete t rs (position n digits h) =
     key_fields 80 digits refl h.written.numeral.1 h.written.few ∙ rw (number_complete 0 99 digits n h) refl
 complete t rs (zone n digits h) =
@@ -108,21 +126,22 @@ one_sound false false name r p q e = absurd (cc)
 named : (word name field t : List ℕ) → is_word name word ≡ true → t ≡ name ++ 32 ∷ field → t ≡ word ++ 32 ∷ field
 named word name field t e parts = parts ∙ ap (λ (x : List ℕ). x ++ 32 ∷ field) (word_is word name e)
 
--- the run of a key
-abbrev key_run : Key → Run
-key_run key = One (events.Key key)
+-- the key that is found is one of those that were looked for, and the field is its text
+key_by : (same : Bool) (k : Key) (more : List Key) (field : List ℕ) (found : Key) → is_word field (key_text k) ≡ same
+    → (key_among more field ≡ Some found → Contains more found × (field ≡ key_text found))
+    → cond same (Some k) (key_among more field) ≡ Some found → Contains (k ∷ more) found × (field ≡ key_text found)
+key_by true k more field found e others is =
+    let k_is : k ≡ found = cc in
+    ((0, omega arith, k_is), word_is (key_text k) field e ∙ ap key_text k_is)
+key_by false k more field found e others is =
+    let rest = others is in
+    ((suc rest.0.0, omega (arith, rest.0.1), rest.0.2), rest.1)
 
-key_sound : (h s c : Bool) (field t : List ℕ) (key : Key) → is_word field (codes "H") ≡ h
-    → is_word field (codes "S") ≡ s → is_word field (codes "C") ≡ c
-    → t ≡ codes "K" ++ 32 ∷ field → cond h (Some Hire) (cond s (Some Stop) (cond c (Some Clear) None)) ≡ Some key
-    → Means t (key_run key ∷ [])
-key_sound true s c field t key x y z parts e = means_at t (codes "K H") (key_run key) (key_run Hire)
-    (parts ∙ ap (λ (f : List ℕ). codes "K" ++ 32 ∷ f) (word_is (codes "H") field x)) (cc) hire
-key_sound false true c field t key x y z parts e = means_at t (codes "K S") (key_run key) (key_run Stop)
-    (parts ∙ ap (λ (f : List ℕ). codes "K" ++ 32 ∷ f) (word_is (codes "S") field y)) (cc) stop
-key_sound false false true field t key x y z parts e = means_at t (codes "K C") (key_run key) (key_run Clear)
-    (parts ∙ ap (λ (f : List ℕ). codes "K" ++ 32 ∷ f) (word_is (codes "C") field z)) (cc) clear
-key_sound false false false field t key x y z parts e = absurd (cc)
+key_found : (keys : List Key) (field : List ℕ) (found : Key) → key_among keys field ≡ Some found
+    → Contains keys found × (field ≡ key_text found)
+key_found [] field found e = absurd (cc)
+key_found (k ∷ more) field found e =
+    key_by (is_word field (key_text k)) k more field found refl (key_found more field found) e
 
 two_sound : (u c p k : Bool) (name field t : List ℕ) (r : Run) → is_word name (codes "U") ≡ u
     → is_word name (codes "C") ≡ c → is_word name (codes "P") ≡ p → is_word name (codes "K") ≡ k
@@ -144,8 +163,9 @@ two_sound false false true k name field t r x y z w parts e =
     (pulses g.0 field (number_sound 1 65535 field g.0 g.1))
 two_sound false false false true name field t r x y z w parts e =
     let g = given events.Key (plain_key field) r e in
-    subst (λ (q : Run). Means t (q ∷ [])) (sym g.2) (key_sound (is_word field (codes "H")) (is_word field (codes "S"))
-    (is_word field (codes "C")) field t g.0 refl refl refl (named (codes "K") name field t w parts) g.1)
+    let found = key_found plain_keys field g.0 g.1 in
+    means_at t (codes "K " ++ key_text g.0) r (key_run g.0)
+    (named (codes "K") name field t w parts ∙ ap (λ (f : List ℕ). codes "K" ++ 32 ∷ f) found.1) g.2 (plain g.0 found.0)
 two_sound false false false false name field t r x y z w parts e = absurd (cc)
 
 mapped : {A B : Type 0} (f : A → B) (found : Option A) (y : B) → option_map f found ≡ Some y

@@ -12,21 +12,23 @@ use Rattle.taxi_units.specs.declared.event.Event.{Event}
 use Rattle.taxi_units.specs.declared.event.Event.TheVariants.{Up, Down, Pulses, Tick, Clock}
 use Rattle.taxi_units.specs.declared.event.Event.TheVariants as events
 use Rattle.taxi_units.specs.declared.event.Key.{Key}
-use Rattle.taxi_units.specs.declared.event.Key.TheVariants.{Hire, Stop, Clear, Position, Zone, Extra}
+use Rattle.taxi_units.specs.declared.event.Key.TheVariants.{Position, Zone, Extra}
 use Rattle.drive_text.specs.declared.run.Run.{Run}
 use Rattle.drive_text.specs.declared.run.Run.TheVariants.{One, Many}
+use Rattle.drive_text.specs.Written.{key_text, plain_keys}
 
 -- the second of a field, if the field is a number of the meter's seconds
 abbrev pub second_in : List ℕ → Option ℕ
 second_in field = number_in first_second last_second field
 
--- the key of a field H, S or C
+-- the first of some keys that is written as a field
+abbrev pub key_among : List Key → List ℕ → Option Key
+key_among [] name = None
+key_among (key ∷ more) name = if is_word name (key_text key) then Some key else key_among more name
+
+-- the key without a number that is written as a field
 unfoldable pub plain_key : List ℕ → Option Key
-plain_key name =
-    if is_word name (codes "H") then Some Hire
-    else if is_word name (codes "S") then Some Stop
-    else if is_word name (codes "C") then Some Clear
-    else None
+plain_key name = key_among plain_keys name
 
 -- the key of the fields P n, Z n or E n
 unfoldable pub numbered_key : List ℕ → List ℕ → Option Key

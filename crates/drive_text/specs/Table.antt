@@ -1,11 +1,13 @@
 -- Rules: the lines of a drive, as a table.
-use Rattle.std.specs.Prelude.{ℕ, List, [], ◌∷◌, ◌++◌, codes}
+use Rattle.std.specs.Prelude.{ℕ, List, [], ◌∷◌, ◌++◌, Contains, codes}
 use Rattle.taxi_units.specs.Time.{first_second, last_second}
 use Rattle.taxi_units.specs.declared.event.Event.TheVariants.{Up, Down, Pulses, Tick, Clock}
 use Rattle.taxi_units.specs.declared.event.Event.TheVariants as events
-use Rattle.taxi_units.specs.declared.event.Key.TheVariants.{Hire, Stop, Clear, Position, Zone, Extra}
+use Rattle.taxi_units.specs.declared.event.Key.{Key}
+use Rattle.taxi_units.specs.declared.event.Key.TheVariants.{Position, Zone, Extra}
 use Rattle.drive_text.specs.declared.run.Run.{Run}
 use Rattle.drive_text.specs.declared.run.Run.TheVariants.{One, Many}
+use Rattle.drive_text.specs.Written.{key_text, plain_keys}
 use Rattle.taxi_units.specs.Digits.{IsNumberIn}
 
 -- a line without its line end means no run if it is empty or a comment, and else the one run that its word and its
@@ -22,9 +24,7 @@ pub data Means : List ℕ → List Run → Type 0 where
   tick : Means (codes "T") (One Tick ∷ [])
   intervals : (p n : ℕ) (first second : List ℕ) → IsNumberIn 0 65535 first p → IsNumberIn 1 36000 second n
       → Means (codes "I " ++ (first ++ (codes " " ++ second))) (Many p n ∷ [])
-  hire : Means (codes "K H") (One (events.Key Hire) ∷ [])
-  stop : Means (codes "K S") (One (events.Key Stop) ∷ [])
-  clear : Means (codes "K C") (One (events.Key Clear) ∷ [])
+  plain : (key : Key) → Contains plain_keys key → Means (codes "K " ++ key_text key) (One (events.Key key) ∷ [])
   position : (n : ℕ) (digits : List ℕ) → IsNumberIn 0 99 digits n
       → Means (codes "K P " ++ digits) (One (events.Key (Position n)) ∷ [])
   zone : (n : ℕ) (digits : List ℕ) → IsNumberIn 0 99 digits n

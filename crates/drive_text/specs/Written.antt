@@ -1,5 +1,5 @@
--- Rules: the line that is written for an event.
-use Rattle.std.specs.Prelude.{ℕ, List, ◌++◌, codes, decimal}
+-- Rules: the line that is written for an event, and the keys that are written without a number.
+use Rattle.std.specs.Prelude.{ℕ, List, [], ◌∷◌, ◌++◌, codes, decimal}
 use Rattle.taxi_units.specs.declared.event.Event.{Event}
 use Rattle.taxi_units.specs.declared.event.Event.TheVariants.{Up, Down, Pulses, Tick, Clock}
 use Rattle.taxi_units.specs.declared.event.Event.TheVariants as events
@@ -14,6 +14,10 @@ key_text Clear = codes "C"
 key_text (Position number) = codes "P " ++ decimal number
 key_text (Zone number) = codes "Z " ++ decimal number
 key_text (Extra number) = codes "E " ++ decimal number
+
+-- the keys without a number are Hire, Stop and Clear
+abbrev pub plain_keys : List Key
+plain_keys = Hire ∷ Stop ∷ Clear ∷ []
 
 -- an event is written by its letter and its number or key, with a blank between them
 unfoldable pub event_fields : Event → List ℕ

@@ -10,8 +10,9 @@ ghost use Rattle.drive_text.specs.Lines as lines;
 ghost use Rattle.drive_text.specs.Fields.{text_runs, line_runs};
 ghost use Rattle.drive_text.specs.Content.{runs_of};
 
+use crate::keys::{numbered_key, plain_key};
 use crate::run::Run;
-use taxi_units::{Event, FIRST_SECOND, Key, LAST_SECOND, is_word, number_in, split_at_byte};
+use taxi_units::{Event, FIRST_SECOND, LAST_SECOND, is_word, number_in, split_at_byte};
 
 /// A second that the clock may show.
 fn second_in(field: &[u8]) -> Option<u64>
@@ -19,38 +20,6 @@ fn second_in(field: &[u8]) -> Option<u64>
     ensures range { IfSome result IsSecond }
 {
     number_in(field, FIRST_SECOND, LAST_SECOND)
-}
-
-/// A key without a number.
-#[tactic(auto, unfolding(crate::specs::Fields::plain_key))]
-fn plain_key(name: &[u8]) -> Option<Key>
-    ensures { result ≡ spec.plain_key name.now }
-{
-    if is_word(name, b"H") {
-        Some(Key::Hire)
-    } else if is_word(name, b"S") {
-        Some(Key::Stop)
-    } else if is_word(name, b"C") {
-        Some(Key::Clear)
-    } else {
-        None
-    }
-}
-
-/// A key and its number.
-#[tactic(auto, unfolding(crate::specs::Fields::numbered_key))]
-fn numbered_key(name: &[u8], number: &[u8]) -> Option<Key>
-    ensures { result ≡ spec.numbered_key name.now number.now }
-{
-    if is_word(name, b"P") {
-        Some(Key::Position(number_in(number, 0, 99)? as u8))
-    } else if is_word(name, b"Z") {
-        Some(Key::Zone(number_in(number, 0, 99)? as u8))
-    } else if is_word(name, b"E") {
-        Some(Key::Extra(number_in(number, 0, 99)? as u8))
-    } else {
-        None
-    }
 }
 
 /// A line of one field.

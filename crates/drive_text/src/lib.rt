@@ -3,6 +3,7 @@
 
 mod ending;
 mod fields;
+mod keys;
 mod meaning;
 mod plain;
 mod reader;

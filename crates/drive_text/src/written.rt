@@ -2,10 +2,11 @@
 ghost use Rattle.std.specs.Prelude.{◌≡◌, ◌+◌, ◌^◌, ◌<◌, ◌≤◌, ◌++◌, ◌↔◌, length, decimal, IsOk, OnOk, OnErr};
 ghost use Rattle.arrayvec.specs.ArrayVec.{array_vec_len};
 ghost use Rattle.taxi_units.specs.Line.{line_size};
-ghost use Rattle.drive_text.specs.Ranges.{IsInRange, IsKeyInRange};
-ghost use Rattle.drive_text.specs.Written.{event_text, event_fields, key_text};
+ghost use Rattle.drive_text.specs.Ranges.{IsInRange};
+ghost use Rattle.drive_text.specs.Written.{event_text, event_fields};
 
-use taxi_units::{Event, Key, Line, LineFull, put_bytes, put_number};
+use crate::keys::put_key;
+use taxi_units::{Event, Line, LineFull, put_bytes, put_number};
 
 /// Appends the line of an event: its fields without leading zeros, parted by one blank each, and an
 /// LF. A reader reads that event from it.
@@ -46,27 +47,8 @@ fn put_fields(draft: &mut Line, event: Event) -> Result<(), LineFull>
     }
 }
 
-/// Appends the fields of a key.
-#[tactic(auto, unfolding(crate::specs::Written::key_text))]
-fn put_key(draft: &mut Line, key: Key) -> Result<(), LineFull>
-    requires range { IsKeyInRange key }
-    requires room { array_vec_len draft.old ≤ 402 }
-    ensures always { IsOk result }
-    ensures fields { draft.new.items ≡ draft.old.items ++ key_text key }
-    ensures len { array_vec_len draft.new ≤ array_vec_len draft.old + 18 }
-{
-    match key {
-        Key::Hire => put_bytes(draft, b"H"),
-        Key::Stop => put_bytes(draft, b"S"),
-        Key::Clear => put_bytes(draft, b"C"),
-        Key::Position(number) => put_numbered(draft, b"P ", number as u64),
-        Key::Zone(number) => put_numbered(draft, b"Z ", number as u64),
-        Key::Extra(number) => put_numbered(draft, b"E ", number as u64),
-    }
-}
-
 /// Appends a name and its blank, and a number.
-fn put_numbered(draft: &mut Line, name: &[u8], number: u64) -> Result<(), LineFull>
+pub(crate) fn put_numbered(draft: &mut Line, name: &[u8], number: u64) -> Result<(), LineFull>
     requires name { length name.now ≤ 2 }
     requires number { number < 10 ^ 12 }
     requires room { array_vec_len draft.old ≤ 402 }
