@@ -2,7 +2,7 @@
 use Rattle.std.proofs.Common.{◌≡◌, ℕ, suc, ◌≤◌, Bool, true, false, cond, List, [], ◌∷◌, ◌++◌, length, refl, ap, sym}
 use Rattle.std.proofs.Common.{◌∙◌, subst, arith, eqb, ltb, ◌↔◌, length-append, Option, Some, None, codes}
 use Rattle.std.specs.Prelude.{Contains}
-use Rattle.std.specs.List.{AllByRecursion, slice_split, join_with_byte}
+use Rattle.std.specs.List.{AllByRecursion, find, slice_split, join_with_byte}
 use Rattle.std.specs.Option.{option_map}
 use Rattle.std.specs.Cmp.Lexicographic.{same_text}
 use Rattle.std.specs.Str.Lines.{strip_carriage_return}
@@ -21,7 +21,7 @@ use Rattle.taxi_units.specs.declared.event.Key.{Key}
 use Rattle.taxi_units.specs.declared.event.Key.TheVariants.{Position, Zone, Extra}
 use Rattle.drive_text.specs.declared.run.Run.{Run}
 use Rattle.drive_text.specs.declared.run.Run.TheVariants.{One, Many}
-use Rattle.drive_text.specs.Fields.{second_in, key_among, plain_key, numbered_key, one, intervals_of, run_of_one_field}
+use Rattle.drive_text.specs.Fields.{second_in, plain_key, numbered_key, one, intervals_of, run_of_one_field}
 use Rattle.drive_text.specs.Fields.{run_of_two_fields, run_of_three_fields, run_of_fields, text_runs, line_runs}
 use Rattle.drive_text.specs.Table.{Means}
 use Rattle.drive_text.specs.Table.Means.{empty, comment, up, down, clock, pulses, tick, intervals, plain, position}
@@ -126,22 +126,24 @@ one_sound false false name r p q e = absurd (cc)
 named : (word name field t : List ℕ) → is_word name word ≡ true → t ≡ name ++ 32 ∷ field → t ≡ word ++ 32 ∷ field
 named word name field t e parts = parts ∙ ap (λ (x : List ℕ). x ++ 32 ∷ field) (word_is word name e)
 
--- the key that is found is one of those that were looked for, and the field is its text
-key_by : (same : Bool) (k : Key) (more : List Key) (field : List ℕ) (found : Key) → is_word field (key_text k) ≡ same
-    → (key_among more field ≡ Some found → Contains more found × (field ≡ key_text found))
-    → cond same (Some k) (key_among more field) ≡ Some found → Contains (k ∷ more) found × (field ≡ key_text found)
-key_by true k more field found e others is =
-    let k_is : k ≡ found = cc in
-    ((0, omega arith, k_is), word_is (key_text k) field e ∙ ap key_text k_is)
-key_by false k more field found e others is =
-    let rest = others is in
-    ((suc rest.0.0, omega (arith, rest.0.1), rest.0.2), rest.1)
-
-key_found : (keys : List Key) (field : List ℕ) (found : Key) → key_among keys field ≡ Some found
+-- what is found among some keys is one of them, and the field is its text
+abbrev Finds : List Key → List ℕ → Key → Type 0
+Finds keys field found = find (λ key. is_word field (key_text key)) keys ≡ Some found
     → Contains keys found × (field ≡ key_text found)
+
+key_found : (keys : List Key) (field : List ℕ) (found : Key) → Finds keys field found
 key_found [] field found e = absurd (cc)
-key_found (k ∷ more) field found e =
-    key_by (is_word field (key_text k)) k more field found refl (key_found more field found) e
+key_found (k ∷ more) field found e = by (is_word field (key_text k)) refl (key_found more field found) e
+  where
+    by : (same : Bool) → is_word field (key_text k) ≡ same → Finds more field found
+        → cond same (Some k) (find (λ key. is_word field (key_text key)) more) ≡ Some found
+        → Contains (k ∷ more) found × (field ≡ key_text found)
+    by true it others is =
+        let k_is : k ≡ found = cc in
+        ((0, omega arith, k_is), word_is (key_text k) field it ∙ ap key_text k_is)
+    by false it others is =
+        let rest = others is in
+        ((suc rest.0.0, omega (arith, rest.0.1), rest.0.2), rest.1)
 
 two_sound : (u c p k : Bool) (name field t : List ℕ) (r : Run) → is_word name (codes "U") ≡ u
     → is_word name (codes "C") ≡ c → is_word name (codes "P") ≡ p → is_word name (codes "K") ≡ k

@@ -2,7 +2,7 @@
 -- lines_give_what_the_table_says says what a line means, by the table in Table.
 use Rattle.std.specs.Prelude.{ℕ, List, [], ◌∷◌, length, nat_lt, ◌==◌, if◌then◌else◌, Option, Some, None, codes}
 use Rattle.std.specs.Option.{option_map}
-use Rattle.std.specs.List.{slice_split}
+use Rattle.std.specs.List.{find, slice_split}
 use Rattle.std.specs.Str.Lines.{strip_carriage_return}
 use Rattle.taxi_units.specs.Number.{number_in}
 use Rattle.taxi_units.specs.Reading.{◌>>=◌}
@@ -21,14 +21,9 @@ use Rattle.drive_text.specs.Written.{key_text, plain_keys}
 abbrev pub second_in : List ℕ → Option ℕ
 second_in field = number_in first_second last_second field
 
--- the first of some keys that is written as a field
-abbrev pub key_among : List Key → List ℕ → Option Key
-key_among [] name = None
-key_among (key ∷ more) name = if is_word name (key_text key) then Some key else key_among more name
-
 -- the key without a number that is written as a field
 unfoldable pub plain_key : List ℕ → Option Key
-plain_key name = key_among plain_keys name
+plain_key name = find (λ key. is_word name (key_text key)) plain_keys
 
 -- the key of the fields P n, Z n or E n
 unfoldable pub numbered_key : List ℕ → List ℕ → Option Key
