@@ -1,4 +1,5 @@
-use Rattle.std.proofs.Common.{◌*◌, arith}
+use Rattle.std.proofs.Common.{◌+◌, ◌*◌, ◌<◌, ◌≤◌, arith, rules}
+use Rattle.taxi_units.specs.Money.{largest_amount}
 use Rattle.meter_states.proofs.EqualIntervals.{unfilled-below}
 use Rattle.meter_states.proofs.equal_trip.add_charged.Goals as goal
 
@@ -6,14 +7,11 @@ pub returns-clause-range : goal.returns-clause-range
 returns-clause-range c = λ tables range spare.
     let below = unfilled-below tables.rounding
     (tables.step * tables.measure) c.args.charge c.args.count c.args.trip.now.meterage range.meterage.rest spare in
-    record {
-      compiled = range.compiled;
-      ticks = c.requires.short;
-      meterage = record {
-        cover = omega (arith, c.saturating_sub-trip.ensures, range.meterage.cover);
-        steps = omega (arith, range.meterage.steps);
-        rest = omega (arith, c.saturating_sub.ensures, below);
-      };
-      extras = range.extras;
-      others = range.others;
-    }
+    let trip = c.args.trip.now in
+    let cover : c.saturating_sub-trip.result ≤ largest_amount * tables.measure =
+    omega (arith, c.saturating_sub-trip.ensures, range.meterage.cover) in
+    let steps : trip.meterage.steps_full ≤ 41000000000 * (trip.ticks + c.args.count) =
+    omega (arith, range.meterage.steps) in
+    let rest : trip.meterage.rest + c.saturating_sub.result < tables.step * tables.measure =
+    omega (arith, c.saturating_sub.ensures, below) in
+    search rules

@@ -1,4 +1,4 @@
-use Rattle.std.proofs.Common.{◌*◌, ◌<◌, ◌≤◌, ℕ, ap, refl, rules, subst, arith}
+use Rattle.std.proofs.Common.{◌*◌, ◌<◌, ◌≤◌, ℕ, ap, rules, subst, arith}
 use Rattle.std.proofs.Math.Nat.{mul-le-mul_right}
 use Rattle.drive_modes.specs.declared.meterage.Meterage.{Meterage}
 use Rattle.meter_states.proofs.Settings.{modulus-some, product-some}
@@ -24,15 +24,13 @@ returns-clause-range c =
     let most : c.args.fee.covers * c.measure.result ≤ largest_amount * c.measure.result =
     mul-le-mul_right c.measure.result
     c.requires.fee.covers in
-    record {
-      compiled = c.measure.ensures.compiled;
-      ticks = omega arith;
-      meterage = record {
-        cover = subst (λ (n : ℕ). c.start.result.cover_left ≤ largest_amount * n) c.measure.ensures.value (omega
-            (arith, cover, most));
-        steps = omega (arith, ap (λ (m : Meterage). m.steps_full) made);
-        rest = omega (arith, ap (λ (m : Meterage). m.rest) made, product-some step fit.measure.0);
-      };
-      extras = record { sixteen = refl; allowed = begun-allowed p; amounts = begun-amounts p };
-      others = search rules;
-    }
+    let covered : c.start.result.cover_left ≤ largest_amount * p.measure =
+    subst (λ (n : ℕ). c.start.result.cover_left ≤ largest_amount * n) c.measure.ensures.value
+    (omega (arith, cover, most)) in
+    let steps : c.start.result.steps_full ≤ 41000000000 * 0 =
+    omega (arith, ap (λ (m : Meterage). m.steps_full) made) in
+    let rest : c.start.result.rest < p.step * p.measure =
+    omega (arith, ap (λ (m : Meterage). m.rest) made, product-some step fit.measure.0) in
+    let allowed = begun-allowed p in
+    let amounts = begun-amounts p in
+    search rules
