@@ -22,6 +22,7 @@ use Rattle.tariff_syntax.specs.Printed.{rounding_word}
 use Rattle.tariff_syntax.specs.PrintedCondition.{whole}
 use Rattle.tariff_syntax.specs.Token.{Token, word, figure, sign}
 use Rattle.tariff_syntax.specs.Tree.{Entry, step, positions, zones, holiday, supplement, initial, rate, minimum}
+use Rattle.tariff_syntax.specs.Tree.{parts_of, word_of}
 use Rattle.tariff_syntax.specs.Words.{after_word, after_sign, word_first}
 use Rattle.tariff_syntax.proofs.AtomLaws.{number_is, number_here, amounts_are, amount_here}
 use Rattle.tariff_syntax.proofs.ConditionAgain.{condition_again, size_is}
@@ -266,32 +267,32 @@ end_again : (decimals : ℕ) (when : Option Condition) (ts : List Token)
     → AreParts decimals ts (part.condition when ∷ []) → when_read ts ≡ Some when
 end_again decimals when ts h = when_again ts when (alone decimals ts (part.condition when) h)
 
+-- a line says the entry of which it has the word and the parts
+said : (decimals : ℕ) (ts : List Token) (x y : Entry) → x ≡ y → AreParts decimals ts (parts_of x)
+    → IsItem decimals (word (word_of x) ∷ ts) y
+said decimals ts x y same h = subst (IsItem decimals (word (word_of x) ∷ ts)) same (ts, refl, h)
+
 step_is : (decimals : ℕ) (ts : List Token) (x : Entry) → step_read decimals ts ≡ Some x
     → IsItem decimals (word (codes "step") ∷ ts) x
 unfolding step_read
 step_is decimals ts x e =
     let one = bind_some (amount_first decimals ts) _ x e in
     let two = bind_some (rounding_end one.0.1) _ x one.2 in
-    subst (IsItem decimals (word (codes "step") ∷ ts)) (some_same (step one.0.0 two.0) x two.2) (
-      ts,
-      refl,
-      money_is decimals ts one.0 (part.rounding two.0 ∷ []) one.1
-          (last decimals one.0.1 (part.rounding two.0) (rounding_is one.0.1 two.0 two.1)),
-    )
+    let is = last decimals one.0.1 (part.rounding two.0) (rounding_is one.0.1 two.0 two.1) in
+    said decimals ts (step one.0.0 two.0) x (some_same (step one.0.0 two.0) x two.2)
+    (money_is decimals ts one.0 (part.rounding two.0 ∷ []) one.1 is)
 
 positions_are : (decimals : ℕ) (ts : List Token) (x : Entry) → positions_read ts ≡ Some x
     → IsItem decimals (word (codes "positions") ∷ ts) x
 positions_are decimals ts x e =
     let one = bind_some (count_read ts) _ x e in
-    subst (IsItem decimals (word (codes "positions") ∷ ts)) (some_same (positions one.0) x one.2)
-    (ts, refl, count_is decimals ts one.0 one.1)
+    said decimals ts (positions one.0) x (some_same (positions one.0) x one.2) (count_is decimals ts one.0 one.1)
 
 zones_are : (decimals : ℕ) (ts : List Token) (x : Entry) → zones_read ts ≡ Some x
     → IsItem decimals (word (codes "zones") ∷ ts) x
 zones_are decimals ts x e =
     let one = bind_some (count_read ts) _ x e in
-    subst (IsItem decimals (word (codes "zones") ∷ ts)) (some_same (zones one.0) x one.2)
-    (ts, refl, count_is decimals ts one.0 one.1)
+    said decimals ts (zones one.0) x (some_same (zones one.0) x one.2) (count_is decimals ts one.0 one.1)
 
 holiday_is : (decimals : ℕ) (ts : List Token) (x : Entry) → holiday_read ts ≡ Some x
     → IsItem decimals (word (codes "holiday") ∷ ts) x
@@ -301,8 +302,8 @@ holiday_is decimals ts x e =
     let d = one.0.0 in
     let end = ended_is one.0.1 (holiday d.0 d.1 d.2) x one.2 in
     let f = figure_as_is year_date_read ts one.0 one.1 in
-    subst (IsItem decimals (word (codes "holiday") ∷ ts)) end.1
-    (ts, refl, (figure f.0 ∷ [], one.0.1, f.1, (f.0, refl, year_date_is f.0 d.0 d.1 d.2 f.2), end.0))
+    said decimals ts (holiday d.0 d.1 d.2) x end.1
+    (figure f.0 ∷ [], one.0.1, f.1, (f.0, refl, year_date_is f.0 d.0 d.1 d.2 f.2), end.0)
 
 holiday_again : (decimals year month date : ℕ) (ts : List Token)
     → AreParts decimals ts (part.year_date year month date ∷ []) → holiday_read ts ≡ Some (holiday year month date)
@@ -323,13 +324,10 @@ supplement_is decimals ts x e =
     let end = ended_is four.0.1 (supplement one.0.0 two.0.0 four.0.0) x four.2 in
     let most = part.number 1 99 four.0.0 ∷ [] in
     let max = part.name (codes "max") ∷ most in
-    subst (IsItem decimals (word (codes "supplement") ∷ ts)) end.1 (
-      ts,
-      refl,
-      counted_is decimals 1 16 ts one.0 (part.money two.0.0 ∷ max) one.1
-          (money_is decimals one.0.1 two.0 max two.1 (name_is decimals (codes "max") two.0.1 three.0 most three.1
-          (counted_is decimals 1 99 three.0 four.0 [] four.1 end.0))),
-    )
+    said decimals ts (supplement one.0.0 two.0.0 four.0.0) x end.1
+    (counted_is decimals 1 16 ts one.0 (part.money two.0.0 ∷ max) one.1
+    (money_is decimals one.0.1 two.0 max two.1 (name_is decimals (codes "max") two.0.1 three.0 most three.1
+    (counted_is decimals 1 99 three.0 four.0 [] four.1 end.0))))
 
 initial_is : (decimals : ℕ) (ts : List Token) (x : Entry) → initial_read decimals ts ≡ Some x
     → IsItem decimals (word (codes "initial") ∷ ts) x
@@ -338,12 +336,10 @@ initial_is decimals ts x e =
     let one = bind_some (amount_first decimals ts) _ x e in
     let two = bind_some (covers_first decimals one.0.1) _ x one.2 in
     let three = bind_some (when_read two.0.1) _ x two.2 in
-    subst (IsItem decimals (word (codes "initial") ∷ ts)) (some_same (initial one.0.0 two.0.0 three.0) x three.2) (
-      ts,
-      refl,
-      money_is decimals ts one.0 (part.covers two.0.0 ∷ part.condition three.0 ∷ []) one.1
-          (covered_is decimals one.0.1 two.0 (part.condition three.0 ∷ []) two.1 (end_is decimals two.0.1 three.0 three.1)),
-    )
+    let end = part.condition three.0 ∷ [] in
+    said decimals ts (initial one.0.0 two.0.0 three.0) x (some_same (initial one.0.0 two.0.0 three.0) x three.2)
+    (money_is decimals ts one.0 (part.covers two.0.0 ∷ end) one.1
+    (covered_is decimals one.0.1 two.0 end two.1 (end_is decimals two.0.1 three.0 three.1)))
 
 rate_is : (decimals : ℕ) (ts : List Token) (x : Entry) → rate_read decimals ts ≡ Some x
     → IsItem decimals (word (codes "rate") ∷ ts) x
@@ -355,14 +351,10 @@ rate_is decimals ts x e =
     let four = bind_some (when_read three.0.1) _ x three.2 in
     let end = part.condition four.0 ∷ [] in
     let time = per_parts (codes "s") three.0.0.0 three.0.0.1 end in
-    subst (IsItem decimals (word (codes "rate") ∷ ts))
-    (some_same (rate one.0.0.0 one.0.0.1 three.0.0.0 three.0.0.1 four.0) x four.2) (
-      ts,
-      refl,
-      per_is decimals (codes "m") ts one.0 (part.comma ∷ time) one.1
-          (comma_is decimals one.0.1 two.0 time two.1 (per_is decimals (codes "s") two.0 three.0 end three.1
-          (end_is decimals three.0.1 four.0 four.1))),
-    )
+    let found = rate one.0.0.0 one.0.0.1 three.0.0.0 three.0.0.1 four.0 in
+    said decimals ts found x (some_same found x four.2) (per_is decimals (codes "m") ts one.0 (part.comma ∷ time) one.1
+    (comma_is decimals one.0.1 two.0 time two.1 (per_is decimals (codes "s") two.0 three.0 end three.1
+    (end_is decimals three.0.1 four.0 four.1))))
 
 minimum_is : (decimals : ℕ) (ts : List Token) (x : Entry) → minimum_read decimals ts ≡ Some x
     → IsItem decimals (word (codes "minimum") ∷ ts) x
@@ -370,8 +362,8 @@ unfolding minimum_read
 minimum_is decimals ts x e =
     let one = bind_some (amount_first decimals ts) _ x e in
     let two = bind_some (when_read one.0.1) _ x one.2 in
-    subst (IsItem decimals (word (codes "minimum") ∷ ts)) (some_same (minimum one.0.0 two.0) x two.2)
-    (ts, refl, money_is decimals ts one.0 (part.condition two.0 ∷ []) one.1 (end_is decimals one.0.1 two.0 two.1))
+    said decimals ts (minimum one.0.0 two.0) x (some_same (minimum one.0.0 two.0) x two.2)
+    (money_is decimals ts one.0 (part.condition two.0 ∷ []) one.1 (end_is decimals one.0.1 two.0 two.1))
 
 plain_is : (decimals : ℕ) (name : List ℕ) (ts : List Token) (x : Entry) → plain_named decimals name ts ≡ Some x
     → IsItem decimals (word name ∷ ts) x
