@@ -8,14 +8,12 @@ use Rattle.std.proofs.lemmas.List.Elements.{All-get_or}
 use Rattle.totals_record.specs.declared.entry.Entry.{Entry}
 use Rattle.totals_record.specs.declared.totals.Share.{Share}
 use Rattle.totals_record.specs.Entries.{closes, closes_at, no_share, share_with, shares_with}
-
-abbrev share_of : ℕ → ℕ → Share
-share_of hirings fare = record { hirings = hirings; fare = fare }
+use Rattle.totals_record.specs.Reading.{share_in}
 
 same_share : (hirings hirings' fare fare' : ℕ) → hirings ≡ hirings' → fare ≡ fare'
-    → share_of hirings fare ≡ share_of hirings' fare'
+    → share_in hirings fare ≡ share_in hirings' fare'
 same_share hirings hirings' fare fare' one two =
-    ap (λ (n : ℕ). share_of n fare) one ∙ ap (λ (n : ℕ). share_of hirings' n) two
+    ap (λ (n : ℕ). share_in n fare) one ∙ ap (λ (n : ℕ). share_in hirings' n) two
 
 -- a share of another position stays
 pub share_apart : (entry : Entry) (position : ℕ) (share : Share) → closes_at position entry ≡ false
@@ -70,13 +68,13 @@ length_same entry first (share ∷ others) = ap (λ (n : ℕ). suc n) (length_sa
 pub shares_set : (entry : Entry) (first : ℕ) (shares : List Share) (i : ℕ) → closes entry ≡ true
     → entry.position ≡ first + i → i < length shares
     → shares_with entry first shares
-    ≡ set shares i (share_of ((get_or shares i no_share).hirings + 1) ((get_or shares i no_share).fare + entry.fare))
+    ≡ set shares i (share_in ((get_or shares i no_share).hirings + 1) ((get_or shares i no_share).fare + entry.fare))
 shares_set entry first [] i closing position within = absurd (omega (arith, within))
 shares_set entry first (share ∷ others) zero closing position within =
     ap (λ (s : Share). s ∷ shares_with entry (first + 1) others)
-    (ap (λ (b : Bool). share_of (share.hirings + (if b then 1 else 0)) (share.fare + (if b then entry.fare else 0)))
+    (ap (λ (b : Bool). share_in (share.hirings + (if b then 1 else 0)) (share.fare + (if b then entry.fare else 0)))
     (at_its_own entry first closing (omega (arith, position))))
-    ∙ ap (λ (l : List Share). share_of (share.hirings + 1) (share.fare + entry.fare) ∷ l)
+    ∙ ap (λ (l : List Share). share_in (share.hirings + 1) (share.fare + entry.fare) ∷ l)
     (shares_apart entry (first + 1) others
     (λ i within'. elsewhere entry (first + 1 + i) (λ same. omega (arith, position, same))))
 shares_set entry first (share ∷ others) (suc i) closing position within =
@@ -89,17 +87,17 @@ shares_set entry first (share ∷ others) (suc i) closing position within =
 pub grown_at : (entry : Entry) (shares : List Share) (place : ℕ) → closes entry ≡ true → entry.position ≡ 1 + place
     → place < length shares
     → get_or (shares_with entry 1 shares) place no_share
-    ≡ share_of ((get_or shares place no_share).hirings + 1) ((get_or shares place no_share).fare + entry.fare)
+    ≡ share_in ((get_or shares place no_share).hirings + 1) ((get_or shares place no_share).fare + entry.fare)
 grown_at entry shares place closing position within =
     ap (λ (l : List Share). get_or l place no_share) (shares_set entry 1 shares place closing position within)
-    ∙ get_or-set_same shares place (share_of ((get_or shares place no_share).hirings + 1)
+    ∙ get_or-set_same shares place (share_in ((get_or shares place no_share).hirings + 1)
     ((get_or shares place no_share).fare + entry.fare)) no_share within
 
 -- of all that grow, one fits where all do
 pub grown_fits : (P : Share → Type 0) (entry : Entry) (shares : List Share) (place : ℕ) → closes entry ≡ true
     → entry.position ≡ 1 + place → place < length shares
     → All P (shares_with entry 1 shares)
-    → P (share_of ((get_or shares place no_share).hirings + 1) ((get_or shares place no_share).fare + entry.fare))
+    → P (share_in ((get_or shares place no_share).hirings + 1) ((get_or shares place no_share).fare + entry.fare))
 grown_fits P entry shares place closing position within all =
     subst P (grown_at entry shares place closing position within)
     (All-get_or P (shares_with entry 1 shares) place no_share (omega (arith, within, length_same entry 1 shares)) all)

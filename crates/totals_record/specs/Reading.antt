@@ -1,87 +1,77 @@
--- For proofs: the bytes of a durable state as tables that are made of parts, the tests of its ranges as the code makes
--- them, and the state that bytes are read as. States in their ranges fit the tables, are spelled by them, and so are
+-- For proofs: the bytes of a durable state as a table that is made of parts, the tests of its ranges as the code makes
+-- them, and the state that bytes are read as. States in their ranges fit the table, are spelled by it, and so are
 -- bodies of slots. The law states_are_read_by_their_table says which state bytes are read as.
-use Rattle.std.specs.Prelude.{◌≡◌, ◌⊎◌, ℕ, ◌+◌, ◌*◌, ◌^◌, ◌<◌, ◌==◌, if◌then◌else◌, List, [], ◌∷◌, ◌++◌, length}
-use Rattle.std.specs.Prelude.{replicate, Option}
+use Rattle.std.specs.Prelude.{◌≡◌, ℕ, ◌+◌, ◌*◌, ◌^◌, ◌<◌, ◌==◌, ⊤, Bool, true, false, if◌then◌else◌, List, []}
+use Rattle.std.specs.Prelude.{◌∷◌, ◌++◌, length, replicate, Option}
 use Rattle.std.specs.List.{All, flat_map, sum_by}
-use Rattle.std.proofs.Common.{inl, inr, refl, sym, ap, subst, ◌∙◌, append_assoc, le_trans, zero-add}
-use Rattle.std.proofs.lemmas.Bool.{cases_eq}
+use Rattle.std.proofs.Common.{refl, sym, ap, subst, ◌∙◌, append_assoc, le_trans, lit<, lit≤, zero-add}
+use Rattle.std.proofs.lemmas.Bool.{eq-eqb, false≢true}
 use Rattle.std.proofs.lemmas.List.Elements.{All-head, All-replicate, All-tail}
 use Rattle.slot_bodies.specs.Bodies.{AreBodies, body_size}
-use Rattle.slot_bodies.specs.BytesAt.{byte_at}
 use Rattle.slot_bodies.specs.Codec.{Codec, byte, eight_bytes, made, optional, row, sixteen_bytes, zeros, ◌⊗◌}
 use Rattle.slot_bodies.specs.Codec.{spell_optional, ◌⊙◌}
 use Rattle.slot_bodies.specs.ReadBack.{read_back}
 use Rattle.slot_bodies.proofs.Laws.{alone_again, below_of_most, below_of_times, bodies_of, parts_below}
 use Rattle.taxi_units.specs.Limits.{last_number}
-use Rattle.taxi_units.specs.Test.{Test, at_most, choice, each, if_some, same, stated, ◌&◌}
+use Rattle.taxi_units.specs.Test.{Test, at_most, choice, each, if_some, same, stated, ◌&◌, ◌⊕◌}
 use Rattle.totals_record.specs.declared.durable_state.Durable.{Durable}
 use Rattle.totals_record.specs.declared.totals.Share.{Share}
 use Rattle.totals_record.specs.declared.totals.Totals.{Totals}
-use Rattle.totals_record.specs.declared.trip.Trip.{Trip}
 use Rattle.totals_record.specs.Entries.{no_share}
-use Rattle.totals_record.specs.Ranges.{IsDurable, newest_layout}
-use Rattle.totals_record.specs.Spelling.{head_bytes, share_bytes, shared_bytes, spelling}
+use Rattle.totals_record.specs.Ranges.{AreShares, AreTotalsInTheirRanges, IsDurable, IsInItsLayout}
+use Rattle.totals_record.specs.Ranges.{newest_layout}
+use Rattle.totals_record.specs.Spelling.{head_bytes, share_bytes, spelling}
 use Rattle.totals_record.specs.TripTable.{held_fits, held_spelled, held_test, trip_table}
 
 -- ---- the tables
 
+-- so many hirings, and their fares
+abbrev pub share_in : (hirings fare : ℕ) → Share
+share_in hirings fare = record { hirings = hirings; fare = fare }
+
 -- the bytes of a share
 abbrev pub share_table : Codec Share
 share_table = made (eight_bytes ⊗ sixteen_bytes) (λ (s : Share). (s.hirings, s.fare))
-    (λ (hirings, fare). record { hirings = hirings; fare = fare })
+    (λ (hirings, fare). share_in hirings fare)
 
--- what both layouts begin with: the number, the five totals, and the held trip
-abbrev pub Front : Type 0
-Front = ℕ × (ℕ × (ℕ × (ℕ × (ℕ × (ℕ × Option Trip)))))
+-- layout 1 has no bytes of what was counted before there were shares
+abbrev pub kept_before : (layout : ℕ) → Share → Share
+kept_before layout before = if layout == 1 then no_share else before
 
--- the bytes of what both layouts begin with
-abbrev pub front_table : Codec Front
-front_table =
-    eight_bytes ⊗ sixteen_bytes ⊗ sixteen_bytes ⊗ eight_bytes ⊗ sixteen_bytes ⊗ sixteen_bytes ⊗ optional trip_table
+-- what was counted before is all hirings and all fares in layout 1, and in a later one what its bytes say
+abbrev pub found_before : (layout hirings fare : ℕ) → Share → Share
+found_before layout hirings fare before = if layout == 1 then share_in hirings fare else before
 
--- what a state begins with
-abbrev pub front_of : Durable → Front
-front_of durable =
-    let totals = durable.totals in (
-      durable.number,
-      (totals.distance_mm, (totals.hired_mm, (totals.hirings, (totals.supplements, (totals.fare, durable.hold))))),
-    )
-
--- the state that begins so, with these shares, this that was counted before, and this layout
-abbrev pub state_of : Front → List Share → Share → ℕ → Durable
-state_of (number, (distance_mm, (hired_mm, (hirings, (supplements, (fare, hold)))))) shares before layout = record {
-  number = number;
-  totals = record {
-    distance_mm = distance_mm;
-    hired_mm = hired_mm;
-    hirings = hirings;
-    supplements = supplements;
-    fare = fare;
-    shares = shares;
-    before = before;
-  };
-  hold = hold;
-  layout = layout;
-}
-
--- all hirings and all fares, as one share
-abbrev pub all_in : Front → Share
-all_in (number, (distance_mm, (hired_mm, (hirings, (supplements, (fare, hold)))))) =
-    record { hirings = hirings; fare = fare }
-
--- the bytes of a state in layout 1, whose shares are those of no hiring, and in which all was counted before
-abbrev pub layout_1 : Codec Durable
-layout_1 = made (front_table ⊗ zeros 322 ⊗ byte) (λ (d : Durable). (front_of d, (tt, d.layout)))
-    (λ (front, (spare, layout)). state_of front (replicate 9 no_share) (all_in front) layout)
-
--- the bytes of a state in layout 2
-abbrev pub layout_2 : Codec Durable
-layout_2 = made (front_table ⊗ row 9 share_table ⊗ share_table ⊗ zeros 82 ⊗ byte)
-    (λ (d : Durable). (front_of d, (d.totals.shares, (d.totals.before, (tt, d.layout)))))
-    (λ (front, (shares, (before, (spare, layout)))). state_of front shares before layout)
+-- the bytes of a state in any layout, which has zeros for what came with a later one
+abbrev pub table : Codec Durable
+table = made
+    (eight_bytes ⊗ sixteen_bytes ⊗ sixteen_bytes ⊗ eight_bytes ⊗ sixteen_bytes ⊗ sixteen_bytes ⊗ optional trip_table
+    ⊗ row 9 share_table ⊗ share_table ⊗ zeros 82 ⊗ byte)
+    (λ (d : Durable).
+    let t = d.totals in
+    d.number ⊙ t.distance_mm ⊙ t.hired_mm ⊙ t.hirings ⊙ t.supplements ⊙ t.fare ⊙ d.hold
+    ⊙ t.shares ⊙ kept_before d.layout t.before ⊙ tt ⊙ d.layout)
+    (λ (number, (distance, (hired, (hirings, (supplements, (fare, (hold, (shares, (before, (_, layout)))))))))).
+    record {
+      number = number;
+      totals = record {
+        distance_mm = distance;
+        hired_mm = hired;
+        hirings = hirings;
+        supplements = supplements;
+        fare = fare;
+        shares = shares;
+        before = found_before layout hirings fare before;
+      };
+      hold = hold;
+      layout = layout;
+    })
 
 -- ---- the tests of the ranges
+
+-- a test that is always passed
+abbrev pub no_test : Test
+no_test = record { passes = true; Fact = ⊤; decides = (λ _. tt, λ _. refl) }
 
 -- a share of no hiring
 abbrev pub none_test : Share → Test
@@ -97,17 +87,26 @@ sums_test shares before hirings fare =
 
 -- each of the five totals, beside the number of a state
 abbrev pub totals_test : ℕ → Totals → Test
-totals_test number totals =
-    at_most totals.distance_mm (10 ^ 22 * number)
+totals_test number totals = stated (AreTotalsInTheirRanges number totals)
+    (at_most totals.distance_mm (10 ^ 22 * number)
     & at_most totals.hired_mm totals.distance_mm
     & at_most totals.hirings number
     & at_most totals.supplements (10 ^ 10 * number)
-    & at_most totals.fare (10 ^ 8 * number)
+    & at_most totals.fare (10 ^ 8 * number))
+    (λ facts. record {
+      distance = facts.0.0.0.0;
+      hired = facts.0.0.0.1;
+      hirings = facts.0.0.1;
+      supplements = facts.0.1;
+      fare = facts.1;
+    })
+    (λ is. is.distance ⊕ is.hired ⊕ is.hirings ⊕ is.supplements ⊕ is.fare)
 
--- a layout with its nine shares: 1 with shares of no hiring alone, or the newest
-abbrev pub layout_test : ℕ → List Share → Test
-layout_test layout shares =
-    same (length shares) 9 & choice (same layout 1) (each none_test shares) (same layout newest_layout)
+-- a state is in its layout, which is one of those up to the newest, and layout 1 has shares of no hiring alone
+abbrev pub layout_test : Durable → Test
+layout_test durable =
+    same (length durable.totals.shares) 9 & at_most 1 durable.layout & at_most durable.layout newest_layout
+    & choice (same durable.layout 1) (each none_test durable.totals.shares) no_test
 
 -- shares that are each of no hiring are as many of these
 pub all_none : (shares : List Share) → All (λ share. share ≡ no_share) shares
@@ -118,18 +117,12 @@ all_none (share ∷ others) each =
     let rest = all_none others (All-tail (λ s. s ≡ no_share) share others each) in
     λ i. first i ∷ rest i
 
--- where a layout that isn't 1 is another, it is 1 or that one
-pub one_or : (Other : Type 0) (layout : ℕ) → (¬ (layout ≡ 1) → Other) → (layout ≡ 1) ⊎ Other
-one_or Other layout other = by (cases_eq layout 1)
-  where
-    by : (layout ≡ 1) ⊎ ¬ (layout ≡ 1) → (layout ≡ 1) ⊎ Other
-    by (inl one) = inl one
-    by (inr not) = inr (other not)
-
--- a layout that is 1 or another, and isn't 1, is the other
-pub other_than_one : (Other : Type 0) (layout : ℕ) → (layout ≡ 1) ⊎ Other → ¬ (layout ≡ 1) → Other
-other_than_one Other layout (inl one) not = absurd (not one)
-other_than_one Other layout (inr other) not = other
+-- a state in the newest layout may have all that it has
+pub may_have_all : (durable : Durable) → IsInItsLayout (record durable { layout = newest_layout })
+may_have_all durable = record {
+  layout = (lit≤ tt, lit≤ tt);
+  unshared = λ one. absurd (false≢true (eq-eqb newest_layout 1 one));
+}
 
 -- a durable state
 abbrev pub durable_test : Durable → Test
@@ -139,45 +132,30 @@ durable_test durable =
     (at_most 1 durable.number & at_most durable.number (last_number + 1)
     & totals_test durable.number totals
     & if_some (held_test durable.number) durable.hold
-    & (sums_test totals.shares totals.before totals.hirings totals.fare & layout_test durable.layout totals.shares))
+    & sums_test totals.shares totals.before totals.hirings totals.fare
+    & layout_test durable)
     (λ facts.
-    let bounds = facts.0.0.1 in
-    let sums = facts.1.0 in
-    let layout = facts.1.1 in
+    let sums = facts.0.1 in
+    let layout = facts.1 in
     record {
-      number = (facts.0.0.0.0, facts.0.0.0.1);
-      distance = bounds.0.0.0.0;
-      hired = bounds.0.0.0.1;
-      hirings = bounds.0.0.1;
-      supplements = bounds.0.1;
-      fare = bounds.1;
-      held = facts.0.1;
-      shares = record {
-        nine = layout.0;
-        hirings = sums.0;
-        fare = sums.1;
+      number = facts.0.0.0.0;
+      totals = facts.0.0.0.1;
+      held = facts.0.0.1;
+      shares = record { nine = layout.0.0.0; hirings = sums.0; fare = sums.1 };
+      layout = record {
+        layout = (layout.0.0.1, layout.0.1);
         unshared = λ one. all_none totals.shares (layout.1.0 one)
-            ∙ ap (λ (n : ℕ). replicate n no_share) layout.0;
+            ∙ ap (λ (n : ℕ). replicate n no_share) layout.0.0.0;
       };
-      layout = one_or (durable.layout ≡ newest_layout) durable.layout layout.1.1;
     })
-    (λ is. (
-      (
-        ((is.number.0, is.number.1), ((((is.distance, is.hired), is.hirings), is.supplements), is.fare)),
-        is.held,
-      ),
-      (
-        (is.shares.hirings, is.shares.fare),
-        (
-          is.shares.nine,
-          (
-            λ one. subst (All (λ share. share ≡ no_share)) (sym (is.shares.unshared one))
-                (All-replicate (λ (s : Share). s ≡ no_share) 9 no_share refl),
-            other_than_one (durable.layout ≡ newest_layout) durable.layout is.layout,
-          ),
-        ),
-      ),
-    ))
+    (λ is.
+    let none = λ (one : durable.layout ≡ 1). subst (All (λ share. share ≡ no_share)) (sym (is.layout.unshared one))
+    (All-replicate (λ (s : Share). s ≡ no_share) 9 no_share refl) in
+    is.number
+    ⊕ is.totals
+    ⊕ is.held
+    ⊕ (is.shares.hirings ⊕ is.shares.fare)
+    ⊕ (is.shares.nine ⊕ is.layout.layout.0 ⊕ is.layout.layout.1 ⊕ (none, λ _. tt)))
 
 -- ---- what is in its range fits its bytes
 
@@ -191,122 +169,94 @@ pub record Fit (totals : Totals) : Type 0 where
   pub shares_hirings : All (λ share. share.hirings < 2 ^ 64) totals.shares
   pub shares_fare : All (λ share. share.fare < 2 ^ 128) totals.shares
 
--- the hirings of a state in its ranges fit
-hirings_fit : (durable : Durable) → IsDurable durable → durable.totals.hirings < 2 ^ 64
-hirings_fit durable is = below_of_most (le_trans is.hirings is.number.1) tt
+-- a share that is kept fits, if it fits
+kept_fits : (one : Bool) (share : Share) → share_table.Fits share
+    → share_table.Fits (if one then no_share else share)
+kept_fits true share fits = ((lit< tt, lit< tt), refl)
+kept_fits false share fits = fits
 
--- the fare of a state in its ranges fits
-fare_fits : (durable : Durable) → IsDurable durable → durable.totals.fare < 2 ^ 128
-fare_fits durable is = below_of_times (10 ^ 8) is.fare is.number.1 tt
+-- in layout 1 what was counted before is all
+all_before : (totals : Totals) → AreShares totals → totals.shares ≡ replicate 9 no_share
+    → share_in totals.hirings totals.fare ≡ totals.before
+all_before totals is none =
+    let before = totals.before in
+    let hirings : totals.hirings ≡ before.hirings =
+    sym is.hirings ∙ (λ i. sum_by (λ share. share.hirings) (none i) + before.hirings) ∙ zero-add before.hirings in
+    let fare : totals.fare ≡ before.fare =
+    sym is.fare ∙ (λ i. sum_by (λ share. share.fare) (none i) + before.fare) ∙ zero-add before.fare in
+    λ i. share_in (hirings i) (fare i)
 
--- what a state in its ranges begins with fits
-front_fits : (durable : Durable) → IsDurable durable → front_table.Fits (front_of durable)
-front_fits durable is =
-    below_of_most is.number.1 tt ⊙ below_of_times (10 ^ 22) is.distance is.number.1 tt
-    ⊙ below_of_times (10 ^ 22) (le_trans is.hired is.distance) is.number.1 tt ⊙ hirings_fit durable is
-    ⊙ below_of_times (10 ^ 10) is.supplements is.number.1 tt ⊙ fare_fits durable is
-    ⊙ held_fits durable.number durable.hold is.held
+-- what was counted before is found again
+before_again : (one : Bool) (all before : Share) → (one ≡ true → all ≡ before)
+    → (if one then all else if one then no_share else before) ≡ before
+before_again true all before same = same refl
+before_again false all before same = refl
 
--- a state in its ranges fits layout 1
-fits_1 : (durable : Durable) → IsDurable durable → durable.layout ≡ 1 → layout_1.Fits durable
-fits_1 durable is one =
-    let before = durable.totals.before in
-    let none = is.shares.unshared one in
-    let hirings : durable.totals.hirings ≡ before.hirings =
-    sym is.shares.hirings ∙ (λ i. sum_by (λ share. share.hirings) (none i) + before.hirings)
-    ∙ zero-add before.hirings in
-    let fare : durable.totals.fare ≡ before.fare =
-    sym is.shares.fare ∙ (λ i. sum_by (λ share. share.fare) (none i) + before.fare)
-    ∙ zero-add before.fare in (
-      (front_fits durable is, (tt, tt)),
-      λ i. state_of (front_of durable) (sym none i) (record { hirings = hirings i; fare = fare i }) durable.layout,
+-- a state in its ranges fits the table
+fits : (durable : Durable) → IsDurable durable → table.Fits durable
+fits durable is =
+    let totals = durable.totals in
+    let one = durable.layout == 1 in
+    let few_hirings : totals.hirings < 2 ^ 64 = below_of_most (le_trans is.totals.hirings is.number.1) tt in
+    let low_fare : totals.fare < 2 ^ 128 = below_of_times (10 ^ 8) is.totals.fare is.number.1 tt in
+    let hirings = parts_below (λ (share : Share). share.hirings) totals.shares is.shares.hirings few_hirings in
+    let fare = parts_below (λ (share : Share). share.fare) totals.shares is.shares.fare low_fare in
+    let shares : All share_table.Fits totals.shares = λ k d within. ((hirings.0 k d within, fare.0 k d within), refl) in
+    let before = before_again one (share_in totals.hirings totals.fare) totals.before
+    (λ first. all_before totals is.shares (is.layout.unshared ((same durable.layout 1).decides.0 first))) in (
+      below_of_most is.number.1 tt ⊙ below_of_times (10 ^ 22) is.totals.distance is.number.1 tt
+          ⊙ below_of_times (10 ^ 22) (le_trans is.totals.hired is.totals.distance) is.number.1 tt ⊙ few_hirings
+          ⊙ below_of_times (10 ^ 10) is.totals.supplements is.number.1 tt ⊙ low_fare
+          ⊙ held_fits durable.number durable.hold is.held ⊙ (is.shares.nine ⊙ shares)
+          ⊙ kept_fits one totals.before ((hirings.1, fare.1), refl) ⊙ tt ⊙ tt,
+      λ i. record durable { totals = record totals { before = before i } },
     )
 
--- a state in its ranges fits layout 2
-fits_2 : (durable : Durable) → IsDurable durable → layout_2.Fits durable
-fits_2 durable is =
-    let totals = durable.totals in
-    let hirings = parts_below (λ (share : Share). share.hirings) totals.shares is.shares.hirings
-    (hirings_fit durable is) in
-    let fare = parts_below (λ (share : Share). share.fare) totals.shares is.shares.fare (fare_fits durable is) in
-    let shares : All share_table.Fits totals.shares =
-    λ k d within. ((hirings.0 k d within, fare.0 k d within), refl) in
-    let before : share_table.Fits totals.before = ((hirings.1, fare.1), refl) in
-    (front_fits durable is ⊙ (is.shares.nine ⊙ shares) ⊙ before ⊙ tt ⊙ tt, refl)
+-- ---- the spelling is that of the table
 
--- ---- the spelling is that of the tables
+-- the bytes of the shares and of what was counted before are those of the table
+shared_spelled : (one : Bool) (totals : Totals) → (one ≡ true → totals.shares ≡ replicate 9 no_share)
+    → (if one then replicate 240 0 else flat_map share_bytes totals.shares ++ share_bytes totals.before)
+    ≡ flat_map share_bytes totals.shares ++ share_bytes (if one then no_share else totals.before)
+shared_spelled true totals none =
+    ap (λ (l : List Share). flat_map share_bytes l ++ share_bytes no_share) (sym (none refl))
+shared_spelled false totals none = refl
 
--- the bytes of a state in layout 1 are those of its table
-spelled_1 : (durable : Durable) → durable.layout ≡ 1 → spelling durable ≡ layout_1.spell durable
-spelled_1 durable one =
-    let head = head_bytes durable.number durable.totals in
-    let held = held_spelled durable.hold in
-    let end = durable.layout ∷ [] in
-    let shared : shared_bytes durable.layout durable.totals ≡ replicate 322 0 =
-    ap (λ (n : ℕ). shared_bytes n durable.totals) one in
-    (λ i. ((head ++ held i) ++ shared i) ++ end)
-    ∙ append_assoc (head ++ spell_optional trip_table durable.hold) (replicate 322 0) end
-
--- the bytes of a state in layout 2 are those of its table
-spelled_2 : (durable : Durable) → durable.layout ≡ 2 → spelling durable ≡ layout_2.spell durable
-spelled_2 durable two =
+-- the bytes of a state are those of the table
+spelled : (durable : Durable) → IsDurable durable → spelling durable ≡ table.spell durable
+spelled durable is =
     let totals = durable.totals in
     let head = head_bytes durable.number totals in
     let held = held_spelled durable.hold in
+    let front = head ++ spell_optional trip_table durable.hold in
+    let shared = shared_spelled (durable.layout == 1) totals
+    (λ one. is.layout.unshared ((same durable.layout 1).decides.0 one)) in
     let row = flat_map share_bytes totals.shares in
-    let before = share_bytes totals.before in
+    let before = share_bytes (kept_before durable.layout totals.before) in
     let spare = replicate 82 0 in
     let end = durable.layout ∷ [] in
-    let shared : shared_bytes durable.layout totals ≡ (row ++ before) ++ spare =
-    ap (λ (n : ℕ). shared_bytes n totals) two in
-    (λ i. ((head ++ held i) ++ shared i) ++ end)
-    ∙ append_assoc (head ++ spell_optional trip_table durable.hold) ((row ++ before) ++ spare) end
-    ∙ ap (λ (l : List ℕ). (head ++ spell_optional trip_table durable.hold) ++ l)
-    (append_assoc (row ++ before) spare end ∙ append_assoc row before (spare ++ end))
+    (λ i. (((head ++ held i) ++ shared i) ++ spare) ++ end)
+    ∙ append_assoc (front ++ (row ++ before)) spare end
+    ∙ append_assoc front (row ++ before) (spare ++ end)
+    ∙ ap (λ (l : List ℕ). front ++ l) (append_assoc row before (spare ++ end))
 
 -- ---- what bytes are read as
 
--- the state whose fields stand in the bytes at their places in a layout
-abbrev pub state_in : (layout : ℕ) → List ℕ → Durable
-state_in layout bytes = if layout == 1 then layout_1.read bytes 0 else layout_2.read bytes 0
-
 -- the state whose fields stand in the bytes at their places, whatever they are
 abbrev pub decoded : List ℕ → Durable
-decoded bytes = state_in (byte_at bytes 510) bytes
+decoded bytes = table.read bytes 0
 
 -- bytes are read as the state of their fields where each field is in its range and the bytes are the state's own
 unfoldable pub reads : List ℕ → Option Durable
 reads bytes = read_back durable_test spelling decoded bytes
 
--- the layouts
-by_layout : (P : Type 0) (layout : ℕ) → (layout ≡ 1) ⊎ (layout ≡ newest_layout) → (layout ≡ 1 → P)
-    → (layout ≡ 2 → P) → P
-by_layout P layout (inl one) first second = first one
-by_layout P layout (inr two) first second = second two
-
 -- a spelling fills a body
 long : (durable : Durable) → IsDurable durable → length (spelling durable) ≡ body_size
-long durable is = by_layout (length (spelling durable) ≡ body_size) durable.layout is.layout
-    (λ one. ap (λ (l : List ℕ). length l) (spelled_1 durable one) ∙ layout_1.long durable (fits_1 durable is one))
-    (λ two. ap (λ (l : List ℕ). length l) (spelled_2 durable two) ∙ layout_2.long durable (fits_2 durable is))
-
--- a state is read again that the table of its layout spells and reads again
-again_in : (durable : Durable) (table : Codec Durable) (layout : ℕ) → durable.layout ≡ layout
-    → spelling durable ≡ table.spell durable → table.Fits durable
-    → ((bytes : List ℕ) → (table.read bytes 0).layout ≡ byte_at bytes 510)
-    → ((bytes : List ℕ) → state_in layout bytes ≡ table.read bytes 0) → decoded (spelling durable) ≡ durable
-again_in durable table layout is spelled fits at reads_it =
-    let bytes = spelling durable in
-    let back : table.read bytes 0 ≡ durable =
-    ap (λ (l : List ℕ). table.read l 0) spelled ∙ alone_again table durable fits in
-    ap (λ (n : ℕ). state_in n bytes) (sym (at bytes) ∙ ap (λ (d : Durable). d.layout) back ∙ is)
-    ∙ reads_it bytes ∙ back
+long durable is = ap (λ (l : List ℕ). length l) (spelled durable is) ∙ table.long durable (fits durable is)
 
 -- each state in its ranges is read again
 pub again : (durable : Durable) → IsDurable durable → decoded (spelling durable) ≡ durable
-again durable is = by_layout (decoded (spelling durable) ≡ durable) durable.layout is.layout
-    (λ one. again_in durable layout_1 1 one (spelled_1 durable one) (fits_1 durable is one) (λ _. refl) (λ _. refl))
-    (λ two. again_in durable layout_2 2 two (spelled_2 durable two) (fits_2 durable is) (λ _. refl) (λ _. refl))
+again durable is = ap decoded (spelled durable is) ∙ alone_again table durable (fits durable is)
 
 -- states in their ranges are bodies
 pub states_are_bodies : AreBodies IsDurable spelling reads

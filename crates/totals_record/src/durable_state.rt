@@ -10,7 +10,7 @@ use crate::{Change, Entry, Totals, Trip};
 /// The number of the state, which each commit raises by 1, the totals, the trip that is held, and the
 /// layout in which a slot has them. In layout 1 the shares are none, and all hirings and fares were
 /// counted before. The ranges of the fields are those of `IsDurable`.
-#[derive(Clone, Copy, PartialEq, Eq)]
+#[derive(Clone, Copy)]
 pub struct Durable {
     pub number: u64,
     pub totals: Totals,

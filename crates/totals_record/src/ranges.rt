@@ -2,9 +2,9 @@
 ghost use Rattle.std.specs.Prelude.{◌≡◌, ◌+◌, ◌≤◌, nat_le};
 ghost use Rattle.std.specs.List.{list_all};
 ghost use Rattle.taxi_units.specs.Limits.{last_number};
-ghost use Rattle.taxi_units.specs.Test.{each, if_some, within, ◌&◌};
+ghost use Rattle.taxi_units.specs.Test.{choice, each, if_some, same, within};
 ghost use Rattle.taxi_units.specs.Time.{last_tick};
-ghost use Rattle.totals_record.specs.Reading.{durable_test, layout_test, none_test, sums_test, totals_test};
+ghost use Rattle.totals_record.specs.Reading.{durable_test, layout_test, no_test, none_test, sums_test, totals_test};
 ghost use Rattle.totals_record.specs.TripTable.{counts_test, course_test, extras_test, held_test};
 ghost use Rattle.totals_record.specs.TripTable.{meterage_test, trip_test};
 
@@ -22,11 +22,13 @@ pub const NEWEST_LAYOUT: u8 = 2;
 pub fn is_durable(durable: &Durable) -> bool
     ensures { result ≡ (durable_test durable.now).passes }
 {
+    let totals = &durable.totals;
     1 <= durable.number
         && durable.number <= LAST_NUMBER + 1
-        && are_totals(durable.number, &durable.totals)
+        && are_totals(durable.number, totals)
         && is_held(durable.number, &durable.hold)
-        && are_shares(durable.layout, &durable.totals)
+        && add_up(&totals.shares, totals.before, totals.hirings, totals.fare)
+        && is_in_layout(durable)
 }
 
 /// Whether the five totals are in their ranges beside a number.
@@ -118,25 +120,21 @@ fn are_few(counts: &[u8]) -> bool
     counts.iter().all(|count| *count <= 99)
 }
 
-/// Whether hirings and fare are what the shares and what was counted before come to, the shares being
-/// none in layout 1, and whether there is such a layout.
-fn are_shares(layout: u8, totals: &Totals) -> bool
-    ensures { result ≡ (sums_test totals.now.shares totals.now.before totals.now.hirings totals.now.fare
-        & layout_test layout totals.now.shares).passes }
+/// Whether the layout is one of those up to the newest, and the state has nothing of what came with a later
+/// one.
+fn is_in_layout(durable: &Durable) -> bool
+    ensures { result ≡ (layout_test durable.now).passes }
 {
-    add_up(&totals.shares, totals.before, totals.hirings, totals.fare)
-        && is_layout(layout, &totals.shares)
+    1 <= durable.layout
+        && durable.layout <= NEWEST_LAYOUT
+        && is_unshared(durable.layout, &durable.totals.shares)
 }
 
-/// Whether the layout is 1 and has no share, or is the newest.
-fn is_layout(layout: u8, shares: &[Share; 9]) -> bool
-    ensures { result ≡ (layout_test layout shares.now).passes }
+/// Whether the shares have no hiring where they are those of layout 1.
+fn is_unshared(layout: u8, shares: &[Share]) -> bool
+    ensures { result ≡ (choice (same layout 1) (each none_test shares.now) no_test).passes }
 {
-    if layout == 1 {
-        are_none(shares)
-    } else {
-        layout == NEWEST_LAYOUT
-    }
+    if layout == 1 { are_none(shares) } else { true }
 }
 
 /// Whether no share has a hiring.

@@ -7,7 +7,7 @@ ghost use Rattle.slot_bodies.specs.BytesAt.{byte_at};
 ghost use Rattle.slot_bodies.specs.Codec.{optional, row};
 ghost use Rattle.taxi_units.specs.Money.{largest_amount};
 ghost use Rattle.totals_record.specs.Ranges.{IsDurable};
-ghost use Rattle.totals_record.specs.Reading.{decoded, front_table, layout_1, layout_2, share_table, state_of};
+ghost use Rattle.totals_record.specs.Reading.{decoded, found_before, share_table};
 ghost use Rattle.totals_record.specs.Spelling.{head_bytes, course_bytes, meterage_bytes, trip_bytes};
 ghost use Rattle.totals_record.specs.Spelling.{held_bytes, share_bytes, shared_bytes, spelling};
 ghost use Rattle.totals_record.specs.TripTable.{trip_table};
@@ -26,6 +26,7 @@ pub fn spell(durable: &Durable) -> [u8; BODY_SIZE]
     put_head(&mut out, durable.number, &durable.totals);
     put_held(&mut out, durable);
     put_shared(&mut out, durable.layout, &durable.totals);
+    put_bytes(&mut out, &[0; 82]);
     put_bytes(&mut out, &[durable.layout]);
     let mut bytes = [0; BODY_SIZE];
     bytes.copy_from_slice(out.as_slice());
@@ -108,19 +109,18 @@ fn put_trip(out: &mut Spelled, trip: &Trip)
 
 /// Appends the shares and what was counted before, or in layout 1 zeros.
 fn put_shared(out: &mut Spelled, layout: u8, totals: &Totals)
-    requires { array_vec_len out.old + 322 ≤ body_size }
+    requires { array_vec_len out.old + 240 ≤ body_size }
     ensures items { out.new.items ≡ out.old.items ++ shared_bytes layout totals.now }
-    ensures len { array_vec_len out.new ≡ array_vec_len out.old + 322 }
+    ensures len { array_vec_len out.new ≡ array_vec_len out.old + 240 }
 {
     if layout == 1 {
-        put_bytes(out, &[0; 322]);
+        put_bytes(out, &[0; 240]);
         return;
     }
     for share in &totals.shares {
         put_share(out, share);
     }
     put_share(out, &totals.before);
-    put_bytes(out, &[0; 82]);
 }
 
 /// Appends a share.
@@ -137,48 +137,32 @@ fn put_share(out: &mut Spelled, share: &Share)
 pub fn decode(bytes: &[u8; BODY_SIZE]) -> Durable
     ensures { result ≡ decoded bytes.now }
 {
-    if bytes[510] == 1 {
-        unshared(bytes)
-    } else {
-        shared(bytes)
-    }
-}
-
-/// The state in layout 1, which has no shares, so that all was counted before.
-fn unshared(bytes: &[u8; BODY_SIZE]) -> Durable
-    ensures { result ≡ layout_1.read bytes.now 0 }
-{
-    let before = Share {
-        hirings: eight_at(bytes, 40),
-        fare: sixteen_at(bytes, 64),
-    };
-    state_with(bytes, [Share::NONE; 9], before)
-}
-
-/// The state in layout 2.
-fn shared(bytes: &[u8; BODY_SIZE]) -> Durable
-    ensures { result ≡ layout_2.read bytes.now 0 }
-{
-    state_with(bytes, shares_in(bytes), share_at(bytes, 404))
-}
-
-/// The state of these shares and what was counted before, whose other fields have these bytes.
-fn state_with(bytes: &[u8; BODY_SIZE], shares: [Share; 9], before: Share) -> Durable
-    ensures { result ≡ state_of (front_table.read bytes.now 0) shares before (byte_at bytes.now 510) }
-{
+    let hirings = eight_at(bytes, 40);
+    let fare = sixteen_at(bytes, 64);
     Durable {
         number: eight_at(bytes, 0),
         totals: Totals {
             distance_mm: sixteen_at(bytes, 8),
             hired_mm: sixteen_at(bytes, 24),
-            hirings: eight_at(bytes, 40),
+            hirings,
             supplements: sixteen_at(bytes, 48),
-            fare: sixteen_at(bytes, 64),
-            shares,
-            before,
+            fare,
+            shares: shares_in(bytes),
+            before: before_in(bytes, hirings, fare),
         },
         hold: held_in(bytes),
         layout: bytes[510],
+    }
+}
+
+/// What was counted before there were shares: in layout 1 all hirings and all fares.
+fn before_in(bytes: &[u8; BODY_SIZE], hirings: u64, fare: u128) -> Share
+    ensures { result ≡ found_before (byte_at bytes.now 510) hirings fare (share_table.read bytes.now 404) }
+{
+    if bytes[510] == 1 {
+        Share { hirings, fare }
+    } else {
+        share_at(bytes, 404)
     }
 }
 

@@ -8,7 +8,7 @@ use crate::Entry;
 use crate::ranges::is_digit;
 
 /// A number of closed hirings, and the sum of their fares.
-#[derive(Clone, Copy, PartialEq, Eq)]
+#[derive(Clone, Copy)]
 pub struct Share {
     pub hirings: u64,
     pub fare: u128,
@@ -26,7 +26,7 @@ impl Share {
 /// of hirings, and the money charged as supplements and as fare, in the tariff's smallest units. Then
 /// what hirings and fare are made of: a share for each tariff position, 1 to 9, and what was counted
 /// before there were shares.
-#[derive(Clone, Copy, PartialEq, Eq)]
+#[derive(Clone, Copy)]
 pub struct Totals {
     pub distance_mm: u128,
     pub hired_mm: u128,

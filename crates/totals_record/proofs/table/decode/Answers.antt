@@ -1,14 +1,26 @@
-use Rattle.std.proofs.Common.{◌==◌, ap, sym, ◌∙◌}
-use Rattle.std.proofs.lemmas.Bool.{cond-false, ne_eqb}
-use Rattle.slot_bodies.specs.BytesAt.{byte_at}
-use Rattle.totals_record.specs.Reading.{layout_1, layout_2, state_in}
+use Rattle.std.proofs.Common.{◌≡◌, ◌∙◌}
+use Rattle.slot_bodies.specs.BytesAt.{byte_at, eight_at, sixteen_at}
+use Rattle.totals_record.specs.Reading.{found_before, share_table}
 use Rattle.totals_record.proofs.table.decode.Goals as goal
 
-pub returns-then-bytes-eq1 : goal.returns-then-bytes-eq1
-returns-then-bytes-eq1 c =
-    c.unshared.ensures ∙ sym (ap (λ n. state_in n c.args.bytes.now) c.if-bytes-eq1.true)
-
-pub returns-else-bytes-eq1 : goal.returns-else-bytes-eq1
-returns-else-bytes-eq1 c = c.shared.ensures
-    ∙ sym (cond-false (byte_at c.args.bytes.now 510 == 1) (layout_1.read c.args.bytes.now 0)
-    (layout_2.read c.args.bytes.now 0) (ne_eqb (byte_at c.args.bytes.now 510) 1 c.if-bytes-eq1.false))
+pub returns : goal.returns
+returns c =
+    let bytes = c.args.bytes.now in
+    let kept = share_table.read bytes 404 in
+    let before : c.before_in.result ≡ found_before (byte_at bytes 510) (eight_at bytes 40) (sixteen_at bytes 64) kept =
+    c.before_in.ensures
+    ∙ (λ i. found_before (byte_at bytes 510) (c.eight_at-hirings.ensures i) (c.sixteen_at-fare.ensures i) kept) in
+    λ i. record {
+      number = c.eight_at.ensures i;
+      totals = record {
+        distance_mm = c.sixteen_at.ensures i;
+        hired_mm = c.sixteen_at-2.ensures i;
+        hirings = c.eight_at-hirings.ensures i;
+        supplements = c.sixteen_at-3.ensures i;
+        fare = c.sixteen_at-fare.ensures i;
+        shares = c.shares_in.ensures i;
+        before = before i;
+      };
+      hold = c.held_in.ensures i;
+      layout = byte_at bytes 510;
+    }
