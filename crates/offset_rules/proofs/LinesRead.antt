@@ -3,9 +3,9 @@ use Rattle.std.proofs.Common.{◌≡◌, ◌∙◌, ℕ, ℤ, List, [], ◌∷�
 use Rattle.taxi_units.specs.Number.{NoDigitFirst}
 use Rattle.taxi_units.specs.Reading.{word_at}
 use Rattle.taxi_units.proofs.Laws.{words_are_read_by_their_text}
-use Rattle.offset_rules.specs.Forms.{IsChangeLine, IsChangeText, IsOffsetLine}
+use Rattle.offset_rules.specs.Forms.{IsChangeText, IsNamedLine, IsSeconds}
 use Rattle.offset_rules.specs.Names.{month_names, number_names}
-use Rattle.offset_rules.specs.Reading.{change_at, change_line_at, numbered_at, offset_line_at, seconds_at, time_at}
+use Rattle.offset_rules.specs.Reading.{change_at, named_line_at, numbered_at, seconds_at, time_at}
 use Rattle.offset_rules.specs.Rule.{Change}
 use Rattle.offset_rules.proofs.Forms.{read_on, seconds_from, seconds_is, time_from, time_is}
 use Rattle.offset_rules.proofs.NamesRead.{day_from, month_from, name_is, number_from}
@@ -101,6 +101,21 @@ change_from text rest change is stops =
       time_from is.time rest change.minute is.time_is stops,
     ) refl
 
+-- a value is read by its form
+pub record IsReadBy {A : Type 0} (Form : List ℕ → A → Type 0) (value_at : List ℕ → Option (A × List ℕ)) : Type 0 where
+  pub is : (text : List ℕ) (x : A × List ℕ) → value_at text ≡ Some x → StandsAt Form text x.0 x.1
+  pub again : (text rest : List ℕ) (value : A) → Form text value → NoDigitFirst rest
+      → value_at (text ++ rest) ≡ Some (value, rest)
+
+pub offsets : IsReadBy IsSeconds seconds_at
+offsets = record {
+  is = λ text x e. let o = seconds_is text x e in record { front = o.value; text_is = o.text_is; is = o.seconds };
+  again = seconds_from;
+}
+
+pub changes : IsReadBy IsChangeText change_at
+changes = record { is = change_is; again = change_from }
+
 -- lines
 pub record LineFirst {A : Type 0} (Form : List ℕ → A → Type 0) (text : List ℕ) (value : A)
     (rest : List ℕ) : Type 0 where
@@ -108,62 +123,34 @@ pub record LineFirst {A : Type 0} (Form : List ℕ → A → Type 0) (text : Lis
   pub text_is : text ≡ line ++ 10 ∷ rest
   pub is : Form line value
 
-pub offset_line_is : (name text : List ℕ) (x : ℤ × List ℕ) → offset_line_at name text ≡ Some x
-    → LineFirst (IsOffsetLine name) text x.0 x.1
-unfolding offset_line_at
-offset_line_is name text x e =
-    let value = read_on (word_at name text) _ x e in
-    let offset = read_on (seconds_at value.0) _ x value.2 in
-    let rest = read_on (word_at (10 ∷ []) offset.0.1) _ x offset.2 in
-    let o = seconds_is value.0 offset.0 offset.1 in
-    let after = word_is (10 ∷ []) offset.0.1 rest.0 rest.1 in
-    let there : LineFirst (IsOffsetLine name) text offset.0.0 rest.0 = record {
-      line = name ++ o.value;
-      text_is = named text name o.value value.0 offset.0.1 rest.0 (word_is name text value.0 value.1) o.text_is after;
-      is = record { value = o.value; line_is = refl {a = name ++ o.value}; value_is = o.seconds };
-    } in
-    subst (λ (z : ℤ × List ℕ). LineFirst (IsOffsetLine name) text z.0 z.1)
-    (same_pair (offset.0.0, rest.0) x rest.2) there
+module _ {A : Type 0} {Form : List ℕ → A → Type 0} {value_at : List ℕ → Option (A × List ℕ)} where
+  pub line_is : IsReadBy Form value_at → (name text : List ℕ) (x : A × List ℕ)
+      → named_line_at value_at name text ≡ Some x → LineFirst (IsNamedLine Form name) text x.0 x.1
+  unfolding named_line_at
+  line_is read name text x e =
+      let after = read_on (word_at name text) _ x e in
+      let value = read_on (value_at after.0) _ x after.2 in
+      let rest = read_on (word_at (10 ∷ []) value.0.1) _ x value.2 in
+      let stands = read.is after.0 value.0 value.1 in
+      let ends = word_is (10 ∷ []) value.0.1 rest.0 rest.1 in
+      let there : LineFirst (IsNamedLine Form name) text value.0.0 rest.0 = record {
+        line = name ++ stands.front;
+        text_is = named text name stands.front after.0 value.0.1 rest.0 (word_is name text after.0 after.1)
+            stands.text_is ends;
+        is = record { text = stands.front; line_is = refl {a = name ++ stands.front}; text_is = stands.is };
+      } in
+      subst (λ (z : A × List ℕ). LineFirst (IsNamedLine Form name) text z.0 z.1)
+      (same_pair (value.0.0, rest.0) x rest.2) there
 
-pub offset_line_from : (name line rest : List ℕ) (offset : ℤ) → IsOffsetLine name line offset
-    → offset_line_at name (line ++ 10 ∷ rest) ≡ Some (offset, rest)
-unfolding offset_line_at
-offset_line_from name line rest offset is =
-    let text : line ++ 10 ∷ rest ≡ name ++ (is.value ++ 10 ∷ rest) =
-    ap (λ (t : List ℕ). t ++ 10 ∷ rest) is.line_is ∙ append_assoc name is.value (10 ∷ rest) in
-    rw (
-      text,
-      word_again name (is.value ++ 10 ∷ rest),
-      seconds_from is.value (10 ∷ rest) offset is.value_is (omega arith),
-      word_again (10 ∷ []) rest,
-    ) refl
-
-pub change_line_is : (name text : List ℕ) (x : Change × List ℕ) → change_line_at name text ≡ Some x
-    → LineFirst (IsChangeLine name) text x.0 x.1
-unfolding change_line_at
-change_line_is name text x e =
-    let value = read_on (word_at name text) _ x e in
-    let change = read_on (change_at value.0) _ x value.2 in
-    let rest = read_on (word_at (10 ∷ []) change.0.1) _ x change.2 in
-    let c = change_is value.0 change.0 change.1 in
-    let after = word_is (10 ∷ []) change.0.1 rest.0 rest.1 in
-    let there : LineFirst (IsChangeLine name) text change.0.0 rest.0 = record {
-      line = name ++ c.front;
-      text_is = named text name c.front value.0 change.0.1 rest.0 (word_is name text value.0 value.1) c.text_is after;
-      is = record { value = c.front; line_is = refl {a = name ++ c.front}; value_is = c.is };
-    } in
-    subst (λ (z : Change × List ℕ). LineFirst (IsChangeLine name) text z.0 z.1)
-    (same_pair (change.0.0, rest.0) x rest.2) there
-
-pub change_line_from : (name line rest : List ℕ) (change : Change) → IsChangeLine name line change
-    → change_line_at name (line ++ 10 ∷ rest) ≡ Some (change, rest)
-unfolding change_line_at
-change_line_from name line rest change is =
-    let text : line ++ 10 ∷ rest ≡ name ++ (is.value ++ 10 ∷ rest) =
-    ap (λ (t : List ℕ). t ++ 10 ∷ rest) is.line_is ∙ append_assoc name is.value (10 ∷ rest) in
-    rw (
-      text,
-      word_again name (is.value ++ 10 ∷ rest),
-      change_from is.value (10 ∷ rest) change is.value_is (omega arith),
-      word_again (10 ∷ []) rest,
-    ) refl
+  pub line_from : IsReadBy Form value_at → (name line rest : List ℕ) (value : A) → IsNamedLine Form name line value
+      → named_line_at value_at name (line ++ 10 ∷ rest) ≡ Some (value, rest)
+  unfolding named_line_at
+  line_from read name line rest value is =
+      let text : line ++ 10 ∷ rest ≡ name ++ (is.text ++ 10 ∷ rest) =
+      ap (λ (t : List ℕ). t ++ 10 ∷ rest) is.line_is ∙ append_assoc name is.text (10 ∷ rest) in
+      rw (
+        text,
+        word_again name (is.text ++ 10 ∷ rest),
+        read.again is.text (10 ∷ rest) value is.text_is (omega arith),
+        word_again (10 ∷ []) rest,
+      ) refl

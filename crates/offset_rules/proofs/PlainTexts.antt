@@ -12,7 +12,7 @@ use Rattle.taxi_units.specs.Digits.{IsFigure}
 use Rattle.taxi_units.specs.Number.{padded_text}
 use Rattle.taxi_units.proofs.Laws.{numbers_are_short, numbers_are_written_as_figures}
 use Rattle.taxi_units.proofs.Laws.{padded_numbers_are_written_as_figures}
-use Rattle.offset_rules.specs.Forms.{IsChangeLine, IsChangeText, IsOffsetLine, IsSeconds, IsTime}
+use Rattle.offset_rules.specs.Forms.{IsChangeText, IsNamedLine, IsSeconds, IsTime}
 use Rattle.offset_rules.specs.Forms.IsSeconds.{ahead, behind}
 use Rattle.offset_rules.specs.Names.{month_names, name_of, number_names}
 use Rattle.offset_rules.specs.Reading.{rules_read}
@@ -65,15 +65,9 @@ change_again change is = record {
   time_is = time_again change.minute is.minute;
 }
 
-offset_line_again : (name : List ℕ) (offset : ℤ) → IsOffset offset
-    → IsOffsetLine name (name ++ offset_text offset) offset
-offset_line_again name offset is =
-    record { value = offset_text offset; line_is = refl; value_is = seconds_text offset is }
-
-change_line_again : (name : List ℕ) (change : Change) → IsChange change
-    → IsChangeLine name (name ++ change_text change) change
-change_line_again name change is =
-    record { value = change_text change; line_is = refl; value_is = change_again change is }
+said : {A : Type 0} {Form : List ℕ → A → Type 0} {text : List ℕ} {value : A} (name : List ℕ) → Form text value
+    → IsNamedLine Form name (name ++ text) value
+said {text = text} name is = record { text = text; line_is = refl; text_is = is }
 
 plain_lines : (rule : Rule) → IsRule rule → AreLinesOf (plain_text rule) rule
 plain_lines rule is = record {
@@ -82,10 +76,10 @@ plain_lines rule is = record {
   third = codes "begin " ++ change_text rule.begin;
   fourth = codes "end " ++ change_text rule.end;
   text_is = refl;
-  standard = offset_line_again (codes "standard ") rule.standard is.standard;
-  summer = offset_line_again (codes "summer ") rule.summer is.summer;
-  begin = change_line_again (codes "begin ") rule.begin is.begin;
-  end = change_line_again (codes "end ") rule.end is.end;
+  standard = said (codes "standard ") (seconds_text rule.standard is.standard);
+  summer = said (codes "summer ") (seconds_text rule.summer is.summer);
+  begin = said (codes "begin ") (change_again rule.begin is.begin);
+  end = said (codes "end ") (change_again rule.end is.end);
 }
 
 -- ---- its length
@@ -164,10 +158,10 @@ change_said value change is = record {
 
 rule_said : (text : List ℕ) (rule : Rule) → IsReadAs text (Ok rule) → IsRule rule
 rule_said text rule is = record {
-  standard = offset_said is.1.standard.value rule.standard is.1.standard.value_is;
-  summer = offset_said is.1.summer.value rule.summer is.1.summer.value_is;
-  begin = change_said is.1.begin.value rule.begin is.1.begin.value_is;
-  end = change_said is.1.end.value rule.end is.1.end.value_is;
+  standard = offset_said is.1.standard.text rule.standard is.1.standard.text_is;
+  summer = offset_said is.1.summer.text rule.summer is.1.summer.text_is;
+  begin = change_said is.1.begin.text rule.begin is.1.begin.text_is;
+  end = change_said is.1.end.text rule.end is.1.end.text_is;
   months = is.2;
 }
 

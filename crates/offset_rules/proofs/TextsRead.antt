@@ -4,60 +4,55 @@ use Rattle.std.proofs.Common.{◌++◌, length, Option, Some, None, Result, Ok, 
 use Rattle.std.specs.Prelude.{codes}
 use Rattle.std.proofs.lemmas.Bool.{lt-ltb, le-ltb, ltb-true, ltb-false, eq-eqb, ne_eqb}
 use Rattle.std.proofs.lemmas.Bool.Decides.{Decides-eqb}
-use Rattle.offset_rules.specs.Forms.{IsChangeLine, IsOffsetLine}
-use Rattle.offset_rules.specs.Reading.{change_line_at, lines_read, offset_line_at, or_bad, rules_read, whole}
+use Rattle.offset_rules.specs.Forms.{IsChangeText, IsNamedLine, IsSeconds}
+use Rattle.offset_rules.specs.Reading.{change_at, lines_read, named_line_at, or_bad, rules_read, seconds_at, whole}
 use Rattle.offset_rules.specs.Rule.{Change, Rule}
 use Rattle.offset_rules.specs.RulesText.{AreLinesOf, BreaksAt, IsReadAs, Lacks, StandsFirst}
 use Rattle.offset_rules.specs.RulesText.BreaksAt.{at_first, at_second, at_third, at_fourth, after_them}
 use Rattle.offset_rules.specs.declared.fault.RuleFault.{RuleFault}
 use Rattle.offset_rules.specs.declared.fault.RuleFault.TheVariants.{TooLong, BadLine, SameMonth}
-use Rattle.offset_rules.proofs.LinesRead.{LineFirst, change_line_from, change_line_is, offset_line_from, offset_line_is}
+use Rattle.offset_rules.proofs.LinesRead.{IsReadBy, LineFirst, changes, line_from, line_is, offsets}
 
 -- ---- lines that stand there and lines that are lacking
 
-abbrev OffsetForm : (name : List ℕ) → List ℕ → Type 0
-OffsetForm name line = (offset : ℤ) × IsOffsetLine name line offset
+abbrev standard_at : List ℕ → Option (ℤ × List ℕ)
+standard_at = named_line_at seconds_at (codes "standard ")
 
-abbrev ChangeForm : (name : List ℕ) → List ℕ → Type 0
-ChangeForm name line = (change : Change) × IsChangeLine name line change
+abbrev summer_at : List ℕ → Option (ℤ × List ℕ)
+summer_at = named_line_at seconds_at (codes "summer ")
 
-offset_stands : (name text : List ℕ) (x : ℤ × List ℕ) → offset_line_at name text ≡ Some x
-    → StandsFirst (OffsetForm name) text x.1
-offset_stands name text x e = let there = offset_line_is name text x e in (there.line, there.text_is, (x.0, there.is))
+abbrev begin_at : List ℕ → Option (Change × List ℕ)
+begin_at = named_line_at change_at (codes "begin ")
 
-change_stands : (name text : List ℕ) (x : Change × List ℕ) → change_line_at name text ≡ Some x
-    → StandsFirst (ChangeForm name) text x.1
-change_stands name text x e = let there = change_line_is name text x e in (there.line, there.text_is, (x.0, there.is))
+abbrev end_at : List ℕ → Option (Change × List ℕ)
+end_at = named_line_at change_at (codes "end ")
 
-offset_there : (name text rest : List ℕ) (stands : StandsFirst (OffsetForm name) text rest)
-    → offset_line_at name text ≡ Some (stands.2.0, rest)
-offset_there name text rest stands =
-    ap (offset_line_at name) stands.1 ∙ offset_line_from name stands.0 rest stands.2.0 stands.2.1
+module _ {A : Type 0} {Form : List ℕ → A → Type 0} {value_at : List ℕ → Option (A × List ℕ)} where
+  -- a line of the name says some value
+  Says : (name line : List ℕ) → Type 0
+  Says name line = (value : A) × IsNamedLine Form name line value
 
-change_there : (name text rest : List ℕ) (stands : StandsFirst (ChangeForm name) text rest)
-    → change_line_at name text ≡ Some (stands.2.0, rest)
-change_there name text rest stands =
-    ap (change_line_at name) stands.1 ∙ change_line_from name stands.0 rest stands.2.0 stands.2.1
+  stands : IsReadBy Form value_at → (name text : List ℕ) (x : A × List ℕ) → named_line_at value_at name text ≡ Some x
+      → StandsFirst (Says name) text x.1
+  stands read name text x e = let there = line_is read name text x e in (there.line, there.text_is, (x.0, there.is))
 
-offset_lacks : (name text : List ℕ) → offset_line_at name text ≡ None → Lacks (OffsetForm name) text
-offset_lacks name text none rest stands = let some = offset_there name text rest stands in absurd cc
+  there : IsReadBy Form value_at → (name text rest : List ℕ) (first : StandsFirst (Says name) text rest)
+      → named_line_at value_at name text ≡ Some (first.2.0, rest)
+  there read name text rest first =
+      ap (named_line_at value_at name) first.1 ∙ line_from read name first.0 rest first.2.0 first.2.1
 
-change_lacks : (name text : List ℕ) → change_line_at name text ≡ None → Lacks (ChangeForm name) text
-change_lacks name text none rest stands = let some = change_there name text rest stands in absurd cc
+  lacks : IsReadBy Form value_at → (name text : List ℕ) → named_line_at value_at name text ≡ None
+      → Lacks (Says name) text
+  lacks read name text none rest first = let some = there read name text rest first in absurd cc
 
-offset_lacking : (name text : List ℕ) → Lacks (OffsetForm name) text → offset_line_at name text ≡ None
-offset_lacking name text lacks = by (offset_line_at name text) refl
-  where
-    by : (found : Option (ℤ × List ℕ)) → offset_line_at name text ≡ found → offset_line_at name text ≡ None
-    by None e = e
-    by (Some x) e = absurd (lacks x.1 (offset_stands name text x e))
-
-change_lacking : (name text : List ℕ) → Lacks (ChangeForm name) text → change_line_at name text ≡ None
-change_lacking name text lacks = by (change_line_at name text) refl
-  where
-    by : (found : Option (Change × List ℕ)) → change_line_at name text ≡ found → change_line_at name text ≡ None
-    by None e = e
-    by (Some x) e = absurd (lacks x.1 (change_stands name text x e))
+  lacking : IsReadBy Form value_at → (name text : List ℕ) → Lacks (Says name) text
+      → named_line_at value_at name text ≡ None
+  lacking read name text lacks = by (named_line_at value_at name text) refl
+    where
+      by : (found : Option (A × List ℕ)) → named_line_at value_at name text ≡ found
+          → named_line_at value_at name text ≡ None
+      by None e = e
+      by (Some x) e = absurd (lacks x.1 (stands read name text x e))
 
 -- ---- what is answered, the text says
 
@@ -66,10 +61,10 @@ record Front (text : List ℕ) (rule : Rule) (rest : List ℕ) : Type 0 where
   a : List ℕ
   b : List ℕ
   c : List ℕ
-  standard : LineFirst (IsOffsetLine (codes "standard ")) text rule.standard a
-  summer : LineFirst (IsOffsetLine (codes "summer ")) a rule.summer b
-  begin : LineFirst (IsChangeLine (codes "begin ")) b rule.begin c
-  end : LineFirst (IsChangeLine (codes "end ")) c rule.end rest
+  standard : LineFirst (IsNamedLine IsSeconds (codes "standard ")) text rule.standard a
+  summer : LineFirst (IsNamedLine IsSeconds (codes "summer ")) a rule.summer b
+  begin : LineFirst (IsNamedLine IsChangeText (codes "begin ")) b rule.begin c
+  end : LineFirst (IsNamedLine IsChangeText (codes "end ")) c rule.end rest
 
 lines_of : (text : List ℕ) (rule : Rule) → Front text rule [] → AreLinesOf text rule
 lines_of text rule front = record {
@@ -108,59 +103,59 @@ ends text (c ∷ cs) rule few front = (
 
 module _ (text : List ℕ) (few : length text ≤ 4096) where
   at_end : (standard summer : ℤ × List ℕ) (begin : Change × List ℕ) (found : Option (Change × List ℕ))
-      → offset_line_at (codes "standard ") text ≡ Some standard
-      → offset_line_at (codes "summer ") standard.1 ≡ Some summer
-      → change_line_at (codes "begin ") summer.1 ≡ Some begin → change_line_at (codes "end ") begin.1 ≡ found
+      → standard_at text ≡ Some standard
+      → summer_at standard.1 ≡ Some summer
+      → begin_at summer.1 ≡ Some begin → end_at begin.1 ≡ found
       → IsReadAs text (or_bad 4 found
       (λ end. whole (record { standard = standard.0; summer = summer.0; begin = begin.0; end = end.0 }) end.1))
   at_end standard summer begin None p q r e = (
     few,
-    at_fourth text standard.1 summer.1 begin.1 (offset_stands _ text standard p) (offset_stands _ standard.1 summer q)
-        (change_stands _ summer.1 begin r) (change_lacks _ begin.1 e),
+    at_fourth text standard.1 summer.1 begin.1 (stands offsets _ text standard p) (stands offsets _ standard.1 summer q)
+        (stands changes _ summer.1 begin r) (lacks changes _ begin.1 e),
   )
   at_end standard summer begin (Some end) p q r e =
       ends text end.1 (record { standard = standard.0; summer = summer.0; begin = begin.0; end = end.0 }) few (record {
         a = standard.1;
         b = summer.1;
         c = begin.1;
-        standard = offset_line_is (codes "standard ") text standard p;
-        summer = offset_line_is (codes "summer ") standard.1 summer q;
-        begin = change_line_is (codes "begin ") summer.1 begin r;
-        end = change_line_is (codes "end ") begin.1 end e;
+        standard = line_is offsets (codes "standard ") text standard p;
+        summer = line_is offsets (codes "summer ") standard.1 summer q;
+        begin = line_is changes (codes "begin ") summer.1 begin r;
+        end = line_is changes (codes "end ") begin.1 end e;
       })
 
   at_begin : (standard summer : ℤ × List ℕ) (found : Option (Change × List ℕ))
-      → offset_line_at (codes "standard ") text ≡ Some standard
-      → offset_line_at (codes "summer ") standard.1 ≡ Some summer → change_line_at (codes "begin ") summer.1 ≡ found
-      → IsReadAs text (or_bad 3 found (λ begin. or_bad 4 (change_line_at (codes "end ") begin.1)
+      → standard_at text ≡ Some standard
+      → summer_at standard.1 ≡ Some summer → begin_at summer.1 ≡ found
+      → IsReadAs text (or_bad 3 found (λ begin. or_bad 4 (end_at begin.1)
       (λ end. whole (record { standard = standard.0; summer = summer.0; begin = begin.0; end = end.0 }) end.1)))
   at_begin standard summer None p q e = (
     few,
-    at_third text standard.1 summer.1 (offset_stands _ text standard p) (offset_stands _ standard.1 summer q)
-        (change_lacks _ summer.1 e),
+    at_third text standard.1 summer.1 (stands offsets _ text standard p) (stands offsets _ standard.1 summer q)
+        (lacks changes _ summer.1 e),
   )
   at_begin standard summer (Some begin) p q e =
-      at_end standard summer begin (change_line_at (codes "end ") begin.1) p q e refl
+      at_end standard summer begin (end_at begin.1) p q e refl
 
   at_summer : (standard : ℤ × List ℕ) (found : Option (ℤ × List ℕ))
-      → offset_line_at (codes "standard ") text ≡ Some standard → offset_line_at (codes "summer ") standard.1 ≡ found
-      → IsReadAs text (or_bad 2 found (λ summer. or_bad 3 (change_line_at (codes "begin ") summer.1)
-      (λ begin. or_bad 4 (change_line_at (codes "end ") begin.1)
+      → standard_at text ≡ Some standard → summer_at standard.1 ≡ found
+      → IsReadAs text (or_bad 2 found (λ summer. or_bad 3 (begin_at summer.1)
+      (λ begin. or_bad 4 (end_at begin.1)
       (λ end. whole (record { standard = standard.0; summer = summer.0; begin = begin.0; end = end.0 }) end.1))))
   at_summer standard None p e =
-      (few, at_second text standard.1 (offset_stands _ text standard p) (offset_lacks _ standard.1 e))
-  at_summer standard (Some summer) p e = at_begin standard summer (change_line_at (codes "begin ") summer.1) p e refl
+      (few, at_second text standard.1 (stands offsets _ text standard p) (lacks offsets _ standard.1 e))
+  at_summer standard (Some summer) p e = at_begin standard summer (begin_at summer.1) p e refl
 
-  at_standard : (found : Option (ℤ × List ℕ)) → offset_line_at (codes "standard ") text ≡ found
-      → IsReadAs text (or_bad 1 found (λ standard. or_bad 2 (offset_line_at (codes "summer ") standard.1) (λ summer.
-      or_bad 3 (change_line_at (codes "begin ") summer.1) (λ begin. or_bad 4 (change_line_at (codes "end ") begin.1)
+  at_standard : (found : Option (ℤ × List ℕ)) → standard_at text ≡ found
+      → IsReadAs text (or_bad 1 found (λ standard. or_bad 2 (summer_at standard.1) (λ summer.
+      or_bad 3 (begin_at summer.1) (λ begin. or_bad 4 (end_at begin.1)
       (λ end. whole (record { standard = standard.0; summer = summer.0; begin = begin.0; end = end.0 }) end.1)))))
-  at_standard None e = (few, at_first text (offset_lacks _ text e))
-  at_standard (Some standard) e = at_summer standard (offset_line_at (codes "summer ") standard.1) e refl
+  at_standard None e = (few, at_first text (lacks offsets _ text e))
+  at_standard (Some standard) e = at_summer standard (summer_at standard.1) e refl
 
   lines_are : IsReadAs text (lines_read text)
   unfolding lines_read
-  lines_are = at_standard (offset_line_at (codes "standard ") text) refl
+  lines_are = at_standard (standard_at text) refl
 
 pub rules_are : (text : List ℕ) → IsReadAs text (rules_read text)
 unfolding rules_read
@@ -184,10 +179,10 @@ all_there text rule are =
     let b = are.second ++ 10 ∷ c in
     rw (
       are.text_is,
-      offset_line_from (codes "standard ") are.first b rule.standard are.standard,
-      offset_line_from (codes "summer ") are.second c rule.summer are.summer,
-      change_line_from (codes "begin ") are.third d rule.begin are.begin,
-      change_line_from (codes "end ") are.fourth [] rule.end are.end,
+      line_from offsets (codes "standard ") are.first b rule.standard are.standard,
+      line_from offsets (codes "summer ") are.second c rule.summer are.summer,
+      line_from changes (codes "begin ") are.third d rule.begin are.begin,
+      line_from changes (codes "end ") are.fourth [] rule.end are.end,
     ) refl
 
 ended_by : (rule : Rule) (d : List ℕ) → d ≢ [] → whole rule d ≡ Err (BadLine 5)
@@ -196,25 +191,25 @@ ended_by rule (c ∷ cs) some = refl
 
 breaks_there : (text : List ℕ) (line : ℕ) → BreaksAt text line → lines_read text ≡ Err (BadLine line)
 unfolding lines_read
-breaks_there text line (at_first t lacks) = rw (offset_lacking (codes "standard ") text lacks) refl
+breaks_there text line (at_first t lacks) = rw (lacking offsets (codes "standard ") text lacks) refl
 breaks_there text line (at_second t a p lacks) =
-    rw (offset_there (codes "standard ") text a p, offset_lacking (codes "summer ") a lacks) refl
+    rw (there offsets (codes "standard ") text a p, lacking offsets (codes "summer ") a lacks) refl
 breaks_there text line (at_third t a b p q lacks) = rw (
-  offset_there (codes "standard ") text a p,
-  offset_there (codes "summer ") a b q,
-  change_lacking (codes "begin ") b lacks,
+  there offsets (codes "standard ") text a p,
+  there offsets (codes "summer ") a b q,
+  lacking changes (codes "begin ") b lacks,
 ) refl
 breaks_there text line (at_fourth t a b c p q r lacks) = rw (
-  offset_there (codes "standard ") text a p,
-  offset_there (codes "summer ") a b q,
-  change_there (codes "begin ") b c r,
-  change_lacking (codes "end ") c lacks,
+  there offsets (codes "standard ") text a p,
+  there offsets (codes "summer ") a b q,
+  there changes (codes "begin ") b c r,
+  lacking changes (codes "end ") c lacks,
 ) refl
 breaks_there text line (after_them t a b c d p q r s some) = rw (
-  offset_there (codes "standard ") text a p,
-  offset_there (codes "summer ") a b q,
-  change_there (codes "begin ") b c r,
-  change_there (codes "end ") c d s,
+  there offsets (codes "standard ") text a p,
+  there offsets (codes "summer ") a b q,
+  there changes (codes "begin ") b c r,
+  there changes (codes "end ") c d s,
 ) (ended_by _ d some)
 
 answered : (text : List ℕ) (answer : Result Rule RuleFault) → IsReadAs text answer → rules_read text ≡ answer

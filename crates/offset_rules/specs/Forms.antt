@@ -35,14 +35,8 @@ pub record IsChangeText (text : List ℕ) (change : Change) : Type 0 where
   pub month_is : IsName month_names change.month month
   pub time_is : IsTime time change.minute
 
--- a line says an offset if it is the name, which ends in a blank, and then the offset
-pub record IsOffsetLine (name line : List ℕ) (offset : ℤ) : Type 0 where
-  pub value : List ℕ
-  pub line_is : line ≡ name ++ value
-  pub value_is : IsSeconds value offset
-
--- a line says a change if it is the name, which ends in a blank, and then the change
-pub record IsChangeLine (name line : List ℕ) (change : Change) : Type 0 where
-  pub value : List ℕ
-  pub line_is : line ≡ name ++ value
-  pub value_is : IsChangeText value change
+-- a line says a value if it is the name, which ends in a blank, and then a text of the value's form
+pub record IsNamedLine {A : Type 0} (Form : List ℕ → A → Type 0) (name line : List ℕ) (value : A) : Type 0 where
+  pub text : List ℕ
+  pub line_is : line ≡ name ++ text
+  pub text_is : Form text value

@@ -50,21 +50,14 @@ change_at text = do
   minute ← time_at time
   Some (record { number = number.0; weekday = weekday.0; month = month.0; minute = minute.0 }, minute.1)
 
--- the offset of a line of a name and an offset at the front of a text, and the rest after its LF
-unfoldable pub offset_line_at : (name text : List ℕ) → Option (ℤ × List ℕ)
-offset_line_at name text = do
-  value ← word_at name text
-  offset ← seconds_at value
-  rest ← word_at (codes "\n") offset.1
-  Some (offset.0, rest)
-
--- the change of a line of a name and a change at the front of a text, and the rest after its LF
-unfoldable pub change_line_at : (name text : List ℕ) → Option (Change × List ℕ)
-change_line_at name text = do
-  value ← word_at name text
-  change ← change_at value
-  rest ← word_at (codes "\n") change.1
-  Some (change.0, rest)
+-- the value of a line of a name and a value at the front of a text, and the rest after its LF
+unfoldable pub named_line_at : {A : Type 0} → (value_at : List ℕ → Option (A × List ℕ)) → (name text : List ℕ)
+    → Option (A × List ℕ)
+named_line_at value_at name text = do
+  after ← word_at name text
+  value ← value_at after
+  rest ← word_at (codes "\n") value.1
+  Some (value.0, rest)
 
 -- reading goes on with what was found in a line, and names the line if nothing was found
 abbrev pub or_bad : {A : Type 0} → (line : ℕ) → Option A → (A → Result Rule RuleFault) → Result Rule RuleFault
@@ -79,10 +72,10 @@ whole rule (c ∷ cs) = Err (BadLine 5)
 -- the answer to a text that isn't too long, read line by line
 unfoldable pub lines_read : List ℕ → Result Rule RuleFault
 lines_read text =
-    or_bad 1 (offset_line_at (codes "standard ") text) (λ standard.
-    or_bad 2 (offset_line_at (codes "summer ") standard.1) (λ summer.
-    or_bad 3 (change_line_at (codes "begin ") summer.1) (λ begin.
-    or_bad 4 (change_line_at (codes "end ") begin.1) (λ end.
+    or_bad 1 (named_line_at seconds_at (codes "standard ") text) (λ standard.
+    or_bad 2 (named_line_at seconds_at (codes "summer ") standard.1) (λ summer.
+    or_bad 3 (named_line_at change_at (codes "begin ") summer.1) (λ begin.
+    or_bad 4 (named_line_at change_at (codes "end ") begin.1) (λ end.
     whole (record { standard = standard.0; summer = summer.0; begin = begin.0; end = end.0 }) end.1))))
 
 -- the answer to any text

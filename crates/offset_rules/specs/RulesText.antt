@@ -1,6 +1,6 @@
 -- Rules: what a text of rules says.
 use Rattle.std.specs.Prelude.{◌≡◌, ◌≢◌, ℕ, ◌<◌, ◌≤◌, ℤ, List, [], ◌∷◌, ◌++◌, length, Result, Ok, Err, codes}
-use Rattle.offset_rules.specs.Forms.{IsChangeLine, IsOffsetLine}
+use Rattle.offset_rules.specs.Forms.{IsChangeText, IsNamedLine, IsSeconds}
 use Rattle.offset_rules.specs.Rule.{Change, Rule}
 use Rattle.offset_rules.specs.declared.fault.RuleFault.{RuleFault}
 use Rattle.offset_rules.specs.declared.fault.RuleFault.TheVariants.{TooLong, BadLine, SameMonth}
@@ -12,26 +12,26 @@ pub record AreLinesOf (text : List ℕ) (rule : Rule) : Type 0 where
   pub third : List ℕ
   pub fourth : List ℕ
   pub text_is : text ≡ first ++ 10 ∷ (second ++ 10 ∷ (third ++ 10 ∷ (fourth ++ 10 ∷ [])))
-  pub standard : IsOffsetLine (codes "standard ") first rule.standard
-  pub summer : IsOffsetLine (codes "summer ") second rule.summer
-  pub begin : IsChangeLine (codes "begin ") third rule.begin
-  pub end : IsChangeLine (codes "end ") fourth rule.end
+  pub standard : IsNamedLine IsSeconds (codes "standard ") first rule.standard
+  pub summer : IsNamedLine IsSeconds (codes "summer ") second rule.summer
+  pub begin : IsNamedLine IsChangeText (codes "begin ") third rule.begin
+  pub end : IsNamedLine IsChangeText (codes "end ") fourth rule.end
 
 -- a line has the form of a `standard` line if it says some offset by that name
 abbrev pub IsStandard : List ℕ → Type 0
-IsStandard line = (offset : ℤ) × IsOffsetLine (codes "standard ") line offset
+IsStandard line = (offset : ℤ) × IsNamedLine IsSeconds (codes "standard ") line offset
 
 -- a line has the form of a `summer` line if it says some offset by that name
 abbrev pub IsSummer : List ℕ → Type 0
-IsSummer line = (offset : ℤ) × IsOffsetLine (codes "summer ") line offset
+IsSummer line = (offset : ℤ) × IsNamedLine IsSeconds (codes "summer ") line offset
 
 -- a line has the form of a `begin` line if it says some change by that name
 abbrev pub IsBegin : List ℕ → Type 0
-IsBegin line = (change : Change) × IsChangeLine (codes "begin ") line change
+IsBegin line = (change : Change) × IsNamedLine IsChangeText (codes "begin ") line change
 
 -- a line has the form of an `end` line if it says some change by that name
 abbrev pub IsEnd : List ℕ → Type 0
-IsEnd line = (change : Change) × IsChangeLine (codes "end ") line change
+IsEnd line = (change : Change) × IsNamedLine IsChangeText (codes "end ") line change
 
 -- a line of a form stands first in a text if the text is that line, an LF, and then the rest
 abbrev pub StandsFirst : (Form : List ℕ → Type 0) → (text rest : List ℕ) → Type 0

@@ -1,7 +1,7 @@
 //! Reads the text of rules.
 ghost use Rattle.std.specs.Prelude.{◌≡◌, IfSome};
 ghost use Rattle.interval_clock.specs.Offsets.{IsOffset};
-ghost use Rattle.offset_rules.specs.Reading.{change_line_at, lines_read, offset_line_at, rules_read};
+ghost use Rattle.offset_rules.specs.Reading.{change_at, lines_read, named_line_at, rules_read, seconds_at};
 ghost use Rattle.offset_rules.specs.Rule.{IsChange};
 ghost use Rattle.offset_rules.specs.RulesText.{IsReadAs};
 ghost use Rattle.taxi_units.specs.Reading.{Gives};
@@ -70,9 +70,9 @@ fn read_lines(text: &[u8]) -> Result<Rules, RuleFault>
 }
 
 /// The offset of a line of a name and an offset, and what stands after the line.
-#[tactic(auto, unfolding(crate::specs::Reading::offset_line_at))]
+#[tactic(auto, unfolding(crate::specs::Reading::named_line_at))]
 fn offset_line<'a>(text: &'a [u8], name: &[u8]) -> Option<(i32, &'a [u8])>
-    ensures value { Gives (λ x. (x.0, x.1.now)) result (offset_line_at name.now text.now) }
+    ensures value { Gives (λ x. (x.0, x.1.now)) result (named_line_at seconds_at name.now text.now) }
     ensures range { IfSome result (λ x. IsOffset x.0) }
 {
     let value = word(text, name)?;
@@ -82,9 +82,9 @@ fn offset_line<'a>(text: &'a [u8], name: &[u8]) -> Option<(i32, &'a [u8])>
 }
 
 /// The change of a line of a name and a change, and what stands after the line.
-#[tactic(auto, unfolding(crate::specs::Reading::change_line_at))]
+#[tactic(auto, unfolding(crate::specs::Reading::named_line_at))]
 fn change_line<'a>(text: &'a [u8], name: &[u8]) -> Option<(Change, &'a [u8])>
-    ensures value { Gives (λ x. (x.0, x.1.now)) result (change_line_at name.now text.now) }
+    ensures value { Gives (λ x. (x.0, x.1.now)) result (named_line_at change_at name.now text.now) }
     ensures ranges { IfSome result (λ x. IsChange x.0) }
 {
     let value = word(text, name)?;
