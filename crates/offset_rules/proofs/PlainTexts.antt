@@ -65,9 +65,9 @@ change_again change is = record {
   time_is = time_again change.minute is.minute;
 }
 
-said : {A : Type 0} {Form : List ℕ → A → Type 0} {text : List ℕ} {value : A} (name : List ℕ) → Form text value
+said : {A : Type 0} {Form : List ℕ → A → Type 0} {value : A} (name text : List ℕ) → Form text value
     → IsNamedLine Form name (name ++ text) value
-said {text = text} name is = record { text = text; line_is = refl; text_is = is }
+said name text is = record { text = text; line_is = refl; text_is = is }
 
 plain_lines : (rule : Rule) → IsRule rule → AreLinesOf (plain_text rule) rule
 plain_lines rule is = record {
@@ -76,10 +76,10 @@ plain_lines rule is = record {
   third = codes "begin " ++ change_text rule.begin;
   fourth = codes "end " ++ change_text rule.end;
   text_is = refl;
-  standard = said (codes "standard ") (seconds_text rule.standard is.standard);
-  summer = said (codes "summer ") (seconds_text rule.summer is.summer);
-  begin = said (codes "begin ") (change_again rule.begin is.begin);
-  end = said (codes "end ") (change_again rule.end is.end);
+  standard = said (codes "standard ") (offset_text rule.standard) (seconds_text rule.standard is.standard);
+  summer = said (codes "summer ") (offset_text rule.summer) (seconds_text rule.summer is.summer);
+  begin = said (codes "begin ") (change_text rule.begin) (change_again rule.begin is.begin);
+  end = said (codes "end ") (change_text rule.end) (change_again rule.end is.end);
 }
 
 -- ---- its length

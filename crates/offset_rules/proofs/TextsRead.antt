@@ -27,25 +27,25 @@ begin_at = named_line_at change_at (codes "begin ")
 abbrev end_at : List ℕ → Option (Change × List ℕ)
 end_at = named_line_at change_at (codes "end ")
 
-module _ {A : Type 0} {Form : List ℕ → A → Type 0} {value_at : List ℕ → Option (A × List ℕ)} where
-  -- a line of the name says some value
-  Says : (name line : List ℕ) → Type 0
-  Says name line = (value : A) × IsNamedLine Form name line value
+-- a line of the name says some value
+abbrev Says : {A : Type 0} → (Form : List ℕ → A → Type 0) (name line : List ℕ) → Type 0
+Says {A = A} Form name line = (value : A) × IsNamedLine Form name line value
 
+module _ {A : Type 0} {Form : List ℕ → A → Type 0} {value_at : List ℕ → Option (A × List ℕ)} where
   stands : IsReadBy Form value_at → (name text : List ℕ) (x : A × List ℕ) → named_line_at value_at name text ≡ Some x
-      → StandsFirst (Says name) text x.1
+      → StandsFirst (Says Form name) text x.1
   stands read name text x e = let there = line_is read name text x e in (there.line, there.text_is, (x.0, there.is))
 
-  there : IsReadBy Form value_at → (name text rest : List ℕ) (first : StandsFirst (Says name) text rest)
+  there : IsReadBy Form value_at → (name text rest : List ℕ) (first : StandsFirst (Says Form name) text rest)
       → named_line_at value_at name text ≡ Some (first.2.0, rest)
   there read name text rest first =
       ap (named_line_at value_at name) first.1 ∙ line_from read name first.0 rest first.2.0 first.2.1
 
   lacks : IsReadBy Form value_at → (name text : List ℕ) → named_line_at value_at name text ≡ None
-      → Lacks (Says name) text
+      → Lacks (Says Form name) text
   lacks read name text none rest first = let some = there read name text rest first in absurd cc
 
-  lacking : IsReadBy Form value_at → (name text : List ℕ) → Lacks (Says name) text
+  lacking : IsReadBy Form value_at → (name text : List ℕ) → Lacks (Says Form name) text
       → named_line_at value_at name text ≡ None
   lacking read name text lacks = by (named_line_at value_at name text) refl
     where
