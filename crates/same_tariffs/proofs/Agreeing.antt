@@ -8,7 +8,7 @@ use Rattle.meter_states.specs.Interval.{context_now, context_of, ticks_so_far}
 use Rattle.meter_states.specs.Meter.{Meter}
 use Rattle.meter_states.specs.Setting.{Setting, unit_of}
 use Rattle.same_tariffs.specs.Alike.{IsSameMoney}
-use Rattle.same_tariffs.specs.Reached.{IsPlaced}
+use Rattle.same_tariffs.specs.Reached.{AreSet, IsPlaced}
 
 pub record Agree (s t : Setting) : Type 0 where
   pub hold : s.hold_time ≡ t.hold_time
@@ -19,6 +19,7 @@ pub record Agree (s t : Setting) : Type 0 where
   pub positions : s.tariff.positions ≡ t.tariff.positions
   pub zones : s.tariff.zones ≡ t.tariff.zones
   pub supplements : (n : ℕ) → supplement_numbered s.tariff.supplements n ≡ supplement_numbered t.tariff.supplements n
+  pub first : AreSet s.tariff 1 1
   pub some_step : 0 < s.tariff.step.0
   pub some_unit : 0 < unit_of s
   pub also_unit : 0 < unit_of t

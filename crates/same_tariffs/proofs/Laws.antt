@@ -20,11 +20,10 @@ use Rattle.same_tariffs.specs.Contexts.{IsChargedIn, IsHiredIn, IsSettingInRange
 use Rattle.same_tariffs.specs.Drives.{IsReached}
 use Rattle.same_tariffs.specs.Reached.{HoldGoesOn, IsWithinReach}
 use Rattle.same_tariffs.specs.Same.{AreSameSettings}
-use Rattle.same_tariffs.proofs.Meeting.{agree, charged-in, has-places, hired-in}
+use Rattle.same_tariffs.proofs.Meeting.{agree, agree-self, charged-in, hired-in}
 use Rattle.same_tariffs.proofs.Money.{saved-same, steps-same}
-use Rattle.same_tariffs.proofs.Reach.{within-ended, within-opened, within-run}
 use Rattle.same_tariffs.proofs.Reaching.{each-reached}
-use Rattle.same_tariffs.proofs.Runs.{whole-alike}
+use Rattle.same_tariffs.proofs.Runs.{run-within, whole-alike, whole-goes_on}
 use Rattle.same_tariffs.proofs.Timely.{drives-timely}
 
 pub same_charges_show_the_same_steps-saved : (u v : ℕ) (o p : Opening) (a b : ℕ) → 0 < u → 0 < v
@@ -39,7 +38,12 @@ pub same_tariffs_run_alike-outcomes : (a b : Tree) (s t : Setting) (d e : Durabl
     → AreSameSettings a b s t → All IsTimely events → HoldGoesOn s.tariff d.hold → AreStoresAlike s t d e
     → AreOutcomesAlike s t (whole_run s d events) (whole_run t e events)
 same_tariffs_run_alike-outcomes a b s t d e events same timely on alike =
-    whole-alike s t d e events (agree a b s t same) (has-places a s same.one) timely on alike
+    let whole = whole-alike d e events (agree a b s t same) timely on alike in
+    let trips = whole.next.beside in
+    record {
+      next = record { trip = trips.trips; hold = trips.holds; others = whole.next.others };
+      acts = whole.acts;
+    }
 
 pub same_tariffs_run_alike-stores : (a b : Tree) (s t : Setting) (d e : Durable) (events : List Event)
     → AreSameSettings a b s t → All IsTimely events → HoldGoesOn s.tariff d.hold → AreStoresAlike s t d e
@@ -52,16 +56,14 @@ pub same_tariffs_run_alike-goes_on : (a b : Tree) (s t : Setting) (d : Durable) 
     → AreSameSettings a b s t → All IsTimely events → HoldGoesOn s.tariff d.hold
     → HoldGoesOn s.tariff (whole_run s d events).next.durable.hold
 same_tariffs_run_alike-goes_on a b s t d events same timely on =
-    (within-ended s (run s events (opened s d)).next (within-run s events (opened s d) (has-places a s same.one) timely
-    (within-opened s d (has-places a s same.one) on))).hold
+    whole-goes_on s d events (agree-self a s same.one) timely on
 
 pub intervals_are_charged_in_contexts_of_a_meter-reached : (t : Tree) (s : Setting) (durable : Durable)
     (events : List Event)
     → IsSettingInRange t s → All IsTimely events → HoldGoesOn s.tariff durable.hold
     → IsWithinReach s (run s events (opened s durable)).next
 intervals_are_charged_in_contexts_of_a_meter-reached t s durable events range timely on =
-    within-run s events (opened s durable) (has-places t s range) timely
-    (within-opened s durable (has-places t s range) on)
+    run-within s durable events (agree-self t s range) timely on
 
 pub intervals_are_charged_in_contexts_of_a_meter-interval : (t : Tree) (s : Setting) (m : Meter) → IsSettingInRange t s
     → IsWithinReach s m → IsChargedIn t s m (meter_context_at s m.began m)

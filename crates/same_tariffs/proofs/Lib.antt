@@ -4,6 +4,8 @@ mod Agreeing
 mod Capped
 -- the local day and minute of a second of a meter
 mod Clocks
+-- what each key does at two meters that stand alike
+mod Keys
 -- the laws that the crates above may cite
 pub mod Laws
 -- the contexts that meters within reach are charged and hired in, and settings that agree
@@ -12,14 +14,14 @@ mod Meeting
 mod Money
 -- rates that cost the same make charges of the same money
 mod Rates
--- what each event leaves of a meter's place and of the ticks of its trip
-mod Reach
 -- a drive that comes to an interval in a context of a meter
 mod Reaching
--- runs that are alike
+-- runs of two meters that stand alike, and of one meter
 mod Runs
--- each stage of an event, alike at two meters that are
+-- each stage of an event, at two meters that stand alike
 mod Stages
+-- two meters that stand alike, and outcomes that come to such meters
+mod Standing
 -- the events of each drive are timely
 mod Timely
 -- what two meters make of trips that are alike

@@ -29,13 +29,12 @@ use Rattle.meter_states.specs.Meter.{Meter}
 use Rattle.meter_states.specs.Setting.{Setting, local_at, unit_of}
 use Rattle.same_tariffs.specs.Alike.{IsSameMoney}
 use Rattle.same_tariffs.specs.Contexts.{IsChargedIn, IsHiredIn, IsSettingInRange, meter_context_at, without_trip}
-use Rattle.same_tariffs.specs.Reached.{IsPlaced}
+use Rattle.same_tariffs.specs.Reached.{AreSet, IsPlaced}
 use Rattle.same_tariffs.specs.Same.{AreSameSettings}
 use Rattle.same_tariffs.proofs.Agreeing.{Agree}
 use Rattle.same_tariffs.proofs.Capped.{capped, rate-capped}
 use Rattle.same_tariffs.proofs.Clocks.{day-from, offset-in}
 use Rattle.same_tariffs.proofs.Rates.{charge-same, rate-fits}
-use Rattle.same_tariffs.proofs.Reach.{HasPlaces}
 
 -- ---- contexts of meters
 
@@ -237,11 +236,15 @@ step-some t s range =
     subst (λ (x : SoundTariff). 0 < x.step.0) (sym range.parts)
     (subst (λ (o : Option (ℕ × Rounding)). 0 < (unwrap_or o (0, Behind)).0) (sym parts.step.1) parts.step.2.0)
 
-pub has-places : (t : Tree) (s : Setting) → IsSettingInRange t s → HasPlaces s.tariff
-has-places t s range =
+-- the first position and the first zone are set
+first-set : (t : Tree) (s : Setting) → IsSettingInRange t s → AreSet s.tariff 1 1
+first-set t s range =
     let parts = sound_tariffs_have_sound_parts-parts t range.writable range.sound in
-    let places : HasPlaces (sound_of t) = record { positions = parts.positions.0; zones = parts.zones.0 } in
-    subst HasPlaces (sym range.parts) places
+    let first : AreSet (sound_of t) 1 1 = record {
+      position_in = (omega arith, parts.positions.0);
+      zone_in = (omega arith, parts.zones.0);
+    } in
+    subst (λ (x : SoundTariff). AreSet x 1 1) (sym range.parts) first
 
 pub agree : (a b : Tree) (s t : Setting) → AreSameSettings a b s t → Agree s t
 agree a b s t same = record {
@@ -254,9 +257,29 @@ agree a b s t same = record {
   zones = parts-both a b s t (λ p. p.zones) same same.tariffs.frame.zones;
   supplements = λ n. parts-both a b s t (λ p. supplement_numbered p.supplements n) same
       (same.tariffs.frame.supplements n);
+  first = first-set a s same.one;
   some_step = step-some a s same.one;
   some_unit = unit-some a s same.one;
   also_unit = unit-some b t same.other;
   rates = λ m placed short p. rates-agree a b s t m same placed short p;
   hirings = λ m placed. hirings-agree a b s t m same placed;
+}
+
+-- a setting agrees with itself
+pub agree-self : (t : Tree) (s : Setting) → IsSettingInRange t s → Agree s s
+agree-self t s range = record {
+  hold = refl;
+  constant = refl;
+  offsets = refl;
+  decimals = refl;
+  step = refl;
+  positions = refl;
+  zones = refl;
+  supplements = λ n. refl;
+  first = first-set t s range;
+  some_step = step-some t s range;
+  some_unit = unit-some t s range;
+  also_unit = unit-some t s range;
+  rates = λ m placed short p. record { scaled = refl };
+  hirings = λ m placed. refl;
 }

@@ -1,7 +1,7 @@
 -- A drive that comes to an interval in a context of a meter.
 use Rattle.std.proofs.Common.{◌≡◌, ℕ, zero, suc, ◌+◌, ◌*◌, ◌/◌, ◌%◌, ◌<◌, ◌≤◌, min, Bool, true, false, ◌&&◌, nat_le}
 use Rattle.std.proofs.Common.{nat_lt, ℤ, pos, ◌+ℤ◌, unsigned_abs, All, List, [], ◌∷◌, ◌++◌, replicate, sum, Option}
-use Rattle.std.proofs.Common.{Some, None, if◌then◌else◌, refl, ap, sym, subst, ◌∙◌, arith}
+use Rattle.std.proofs.Common.{Some, None, if◌then◌else◌, refl, ap, sym, ◌∙◌, arith}
 use Rattle.std.proofs.Math.Nat.{div-add-mod}
 use Rattle.std.proofs.lemmas.Grind.{common_steps}
 use Rattle.std.proofs.lemmas.List.Elements.{All-append, All-cons, All-nil}
@@ -15,6 +15,7 @@ use Rattle.taxi_units.specs.declared.event.Event.TheVariants.{Up, Down, Pulses, 
 use Rattle.taxi_units.specs.declared.event.Event.TheVariants as events
 use Rattle.taxi_units.specs.declared.event.Key.{Key}
 use Rattle.taxi_units.specs.declared.event.Key.TheVariants.{Hire, Position, Zone}
+use Rattle.taxi_units.specs.declared.event.Operating.{Operating}
 use Rattle.taxi_units.specs.declared.event.Operating.TheVariants.{Off, ForHire, Hired}
 use Rattle.taxi_units.specs.declared.event.Why.TheVariants as why
 use Rattle.taxi_units.specs.declared.receipt.Display.{Display}
@@ -50,10 +51,10 @@ use Rattle.same_tariffs.specs.Drives.{BeginsIn, IsReached, WasHiredIn, drop, dro
 use Rattle.same_tariffs.proofs.Trips.{sum-more}
 use Rattle.taxi_units.specs.Limits.{last_number}
 
--- a meter that is hired, at the beginning of an interval
-abbrev hired_at : (second position zone : ℕ) → Option Display → MeterTrip → Durable → Meter
-hired_at second position zone last t d = record {
-  operating = Hired;
+-- a meter with a trip at the beginning of an interval
+abbrev at_second : Operating → (second position zone : ℕ) → Option Display → MeterTrip → Durable → Meter
+at_second operating second position zone last t d = record {
+  operating = operating;
   clock = second;
   began = second;
   taken = [];
@@ -70,12 +71,12 @@ hired_at second position zone last t d = record {
 abbrev part_of_drop : (p : ℕ) → Part
 part_of_drop p = Rest (sum (min p 2000 ∷ []))
 
--- such a meter, with so many pulses and ticks, and the number of its store
+-- such a meter in Hired, with so many pulses and ticks, and the number of its store
 pub record IsAt (b : MeterTrip) (second position zone pulses ticks number : ℕ) (m : Meter) : Type 0 where
   pub shown_last : Option Display
   pub trip : MeterTrip
   pub durable : Durable
-  pub state : m ≡ hired_at second position zone shown_last trip durable
+  pub state : m ≡ at_second Hired second position zone shown_last trip durable
   pub pulses_are : pulses_of trip ≡ pulses
   pub ticks_are : ticks_of trip ≡ ticks
   pub number_is : durable.number ≡ number
@@ -89,198 +90,154 @@ not-reached most n below = grind (arith, common_steps)
 below-is : (n most : ℕ) → n < most → nat_lt n most ≡ true
 below-is n most below = grind (arith, common_steps)
 
--- ---- a tick
-
--- what is left of a tick behind a key or an expiry
-abbrev after_key : Setting → Meter → Meter
-after_key s m = (roaming_checked s m >>= (λ (n : Meter). shown s n >>= interval_begun)).next
-
-pulses-more : (t : MeterTrip) (p n : ℕ) (x : Context) → pulses_of t ≡ n → pulses_of (with_part (InHired p x) t) ≡ n + p
-pulses-more t p n x is = omega (arith, sum-more pulses_in t.parts (InHired p x), is)
-
-ticks-more : (t : MeterTrip) (p n : ℕ) (x : Context) → ticks_of t ≡ n → ticks_of (with_part (InHired p x) t) ≡ n + 1
-ticks-more t p n x is = omega (arith, sum-more ticks_in t.parts (InHired p x), is)
-
-tick-state : (s : Setting) (second position zone : ℕ) (last : Option Display) (t : MeterTrip) (d : Durable)
-    (u : MeterTrip)
-    → u ≡ with_part (InHired 0 (context_of s (hired_at second position zone last t d))) t
-    → ticks_of u < longest_trip
-    → (step s Tick (hired_at second position zone last t d)).next ≡ hired_at second position zone
-    (Some (display_of s (hired_at second position zone last u d))) u d
-tick-state s second position zone last t d u is short =
-    let n = hired_at second position zone last u d in
-    let first : (step s Tick (hired_at second position zone last t d)).next ≡ after_key s
-    (if nat_le longest_trip (ticks_of u) then expired s n else key_pressed s n).next =
-    ap (λ (v : MeterTrip). after_key s (if nat_le longest_trip (ticks_of v) then expired s
-    (hired_at second position zone last v d) else key_pressed s (hired_at second position zone last v d)).next)
-    (sym is) in
-    first ∙ ap (λ (b : Bool). after_key s (if b then expired s n else key_pressed s n).next)
-    (not-reached longest_trip (ticks_of u) short)
-
-tick-at : (s : Setting) (b : MeterTrip) (second position zone pulses ticks number : ℕ) (m : Meter)
-    → ticks + 1 < longest_trip
-    → IsAt b second position zone pulses ticks number m
-    → IsAt b second position zone pulses (ticks + 1) number (step s Tick m).next
-tick-at s b second position zone pulses ticks number m short at =
-    let x = context_of s (hired_at second position zone at.shown_last at.trip at.durable) in
-    let u = with_part (InHired 0 x) at.trip in
-    let more = ticks-more at.trip 0 ticks x at.ticks_are in
-    let same : pulses_of u ≡ pulses = omega (arith, pulses-more at.trip 0 pulses x at.pulses_are) in
-    record {
-      shown_last = Some (display_of s (hired_at second position zone at.shown_last u at.durable));
-      trip = u;
-      durable = at.durable;
-      state = ap (λ (n : Meter). (step s Tick n).next) at.state
-          ∙ tick-state s second position zone at.shown_last at.trip at.durable u refl (omega (arith, more, short));
-      pulses_are = same;
-      ticks_are = more;
-      number_is = at.number_is;
-      fees_are = at.fees_are;
-      cover_is = at.cover_is;
-    }
-
--- ---- a drop
-
--- a meter that is off, with a trip that the store holds
-abbrev off_at : (second position zone : ℕ) → Option Display → MeterTrip → Durable → Meter
-off_at second position zone last t d = record {
-  operating = Off;
-  clock = second;
-  began = second;
-  taken = [];
-  latch = None;
-  position = position;
-  zone = zone;
-  roaming = [];
-  shown = last;
-  trip = Some t;
-  durable = d;
-}
-
-abbrev turned : Outcome → Meter
-turned o = (turned_off o.next).next
-
-drop-state : (s : Setting) (second position zone p : ℕ) (last : Option Display) (t : MeterTrip) (d : Durable)
-    → d.number < last_number
-    → (run s (Pulses p ∷ Down ∷ []) (hired_at second position zone last t d)).next
-    ≡ off_at second position zone last (with_part (part_of_drop p) t)
-    (after d (changes.Hold (held_trip s second false position zone (with_part (part_of_drop p) t))))
-drop-state s second position zone p last t d low =
-    let u = with_part (part_of_drop p) t in
-    let n = hired_at second position zone last u d in
-    ap (λ (b : Bool). turned (if b then held (held_trip s second false position zone u) n else closed s kinds.Aborted
-    second n)) (below-is d.number last_number low)
-
 reached-self : (n : ℕ) → nat_le n n ≡ true
 reached-self n = grind (arith, common_steps)
 
 reached-more : (n k : ℕ) → nat_le n (n + k) ≡ true
 reached-more n k = grind (arith, common_steps)
 
+-- what is left of a tick behind a key or an expiry
+abbrev after_key : Setting → Meter → Meter
+after_key s m = (roaming_checked s m >>= (λ (n : Meter). shown s n >>= interval_begun)).next
+
+abbrev turned : Outcome → Meter
+turned o = (turned_off o.next).next
+
 abbrev came : Setting → Outcome → Meter
 came s o = (shown s o.next).next
-
-up-state : (s : Setting) (second position zone : ℕ) (last : Option Display) (t : MeterTrip) (d : Durable) (h : Trip)
-    → d.hold ≡ Some h → h ≡ held_trip s second false position zone t
-    → (step s (Up second) (off_at second position zone last t d)).next ≡ hired_at second position zone
-    (Some (display_of s (hired_at second position zone None t d))) t d
-up-state s second position zone last t d h is held =
-    let n = powered second (off_at second position zone last t d) in
-    let e = held_trip s second false position zone t in
-    let first = ap (λ (o : Option Trip). came s (hold_taken s second o n))
-    (is ∙ ap (λ (x : Trip). Some x) held) in
-    let within : is_within_hold s second e ≡ true = ap (λ (b : Bool). b && nat_le second (second + s.hold_time))
-    (reached-self second) ∙ reached-more second s.hold_time in
-    first ∙ ap (λ (b : Bool). came s (if b then resumed e n else aborted s e n)) within
-
-drop-at : (s : Setting) (b : MeterTrip) (second position zone pulses ticks number p : ℕ) (m : Meter) → p ≤ 2000
-    → number < last_number
-    → IsAt b second position zone pulses ticks number m
-    → IsAt b second position zone (pulses + p) ticks (number + 1) (run s (Pulses p ∷ Down ∷ Up second ∷ []) m).next
-drop-at s b second position zone pulses ticks number p m few low at =
-    let u = with_part (part_of_drop p) at.trip in
-    let h = held_trip s second false position zone u in
-    let d = after at.durable (changes.Hold h) in
-    let first = drop-state s second position zone p at.shown_last at.trip at.durable
-    (omega (arith, low, at.number_is)) in
-    record {
-      shown_last = Some (display_of s (hired_at second position zone None u d));
-      trip = u;
-      durable = d;
-      state = ap (λ (n : Meter). (run s (Pulses p ∷ Down ∷ Up second ∷ []) n).next) at.state
-          ∙ ap (λ (n : Meter). (step s (Up second) n).next) first
-          ∙ up-state s second position zone at.shown_last u d h refl refl;
-      pulses_are = omega (arith, sum-more pulses_in at.trip.parts (part_of_drop p), at.pulses_are, few);
-      ticks_are = omega (arith, sum-more ticks_in at.trip.parts (part_of_drop p), at.ticks_are);
-      number_is = ap (λ (n : ℕ). n + 1) at.number_is;
-      fees_are = at.fees_are;
-      cover_is = at.cover_is;
-    }
-
--- ---- any number of each
 
 both-next : (s : Setting) (xs ys : List Event) (m : Meter)
     → (run s (xs ++ ys) m).next ≡ (run s ys (run s xs m).next).next
 both-next s xs ys m = ap (λ (o : Outcome). o.next) (runs_add_up s xs ys m)
 
-moved : (b : MeterTrip) (second position zone pulses ticks number : ℕ) (m n : Meter) → m ≡ n
-    → IsAt b second position zone pulses ticks
-    number n → IsAt b second position zone pulses ticks number m
-moved b second position zone pulses ticks number m n is at = subst (IsAt b second position zone pulses ticks number)
-    (sym is) at
-
-counted : (b : MeterTrip) (second position zone : ℕ) (m : Meter) (p q t u n k : ℕ) → p ≡ q → t ≡ u → n ≡ k
-    → IsAt b second position zone p t n m → IsAt b second position zone q u k m
-counted b second position zone m p q t u n k ep et en at = record {
+-- the same meter, with the same counts
+same-at : {b : MeterTrip} {second position zone p q t u n k : ℕ} {m o : Meter} → IsAt b second position zone p t n m
+    → o ≡ m → p ≡ q → t ≡ u → n ≡ k → IsAt b second position zone q u k o
+same-at at is pulses ticks number = record {
   shown_last = at.shown_last;
   trip = at.trip;
   durable = at.durable;
-  state = at.state;
-  pulses_are = at.pulses_are ∙ ep;
-  ticks_are = at.ticks_are ∙ et;
-  number_is = at.number_is ∙ en;
+  state = is ∙ at.state;
+  pulses_are = at.pulses_are ∙ pulses;
+  ticks_are = at.ticks_are ∙ ticks;
+  number_is = at.number_is ∙ number;
   fees_are = at.fees_are;
   cover_is = at.cover_is;
 }
 
-drops-at : (s : Setting) (b : MeterTrip) (second position zone pulses ticks number many : ℕ) (m : Meter)
-    → number + many < last_number
-    → IsAt b second position zone pulses ticks number m
-    → IsAt b second position zone (pulses + 2000 * many) ticks (number + many) (run s (drops second many) m).next
-drops-at s b second position zone pulses ticks number zero m low at = counted b second position zone m _ _ _ _ _ _
-    (omega arith) refl (omega arith) at
-drops-at s b second position zone pulses ticks number (suc many) m low at =
-    let n = (run s (Pulses 2000 ∷ Down ∷ Up second ∷ []) m).next in
-    let first = drop-at s b second position zone pulses ticks number 2000 m (omega arith) (omega (arith, low)) at in
-    let others = drops-at s b second position zone (pulses + 2000) ticks (number + 1) many n (omega (arith, low))
-    first in
-    let whole : (run s (drops second (suc many)) m).next ≡ (run s (drops second many) n).next =
-    both-next s (Pulses 2000 ∷ Down ∷ Up second ∷ []) (drops second many) m in
-    moved b second position zone _ _ _ _ _ whole (counted b second position zone _ _ _ _ _ _ _ (omega arith) refl
-    (omega arith) others)
+module _ (s : Setting) (second position zone : ℕ) where
+  -- ---- a tick
 
-ticks-at : (s : Setting) (b : MeterTrip) (second position zone pulses ticks number many : ℕ) (m : Meter)
-    → ticks + many < longest_trip
-    → IsAt b second position zone pulses ticks number m
-    → IsAt b second position zone pulses (ticks + many) number (run s (replicate many Tick) m).next
-ticks-at s b second position zone pulses ticks number zero m short at = counted b second position zone m _ _ _ _ _ _
-    refl
-    (omega arith) refl at
-ticks-at s b second position zone pulses ticks number (suc many) m short at =
-    let first = tick-at s b second position zone pulses ticks number m (omega (arith, short)) at in
-    counted b second position zone _ _ _ _ _ _ _ refl (omega arith) refl
-    (ticks-at s b second position zone pulses (ticks + 1) number many (step s Tick m).next (omega (arith, short))
-    first)
+  tick-state : (last : Option Display) (t : MeterTrip) (d : Durable) (u : MeterTrip)
+      → u ≡ with_part (InHired 0 (context_of s (at_second Hired second position zone last t d))) t
+      → ticks_of u < longest_trip
+      → (step s Tick (at_second Hired second position zone last t d)).next ≡ at_second Hired second position zone
+      (Some (display_of s (at_second Hired second position zone last u d))) u d
+  tick-state last t d u is short =
+      let n = at_second Hired second position zone last u d in
+      let first : (step s Tick (at_second Hired second position zone last t d)).next ≡ after_key s
+      (if nat_le longest_trip (ticks_of u) then expired s n else key_pressed s n).next =
+      ap (λ (v : MeterTrip). after_key s (if nat_le longest_trip (ticks_of v) then expired s
+      (at_second Hired second position zone last v d) else key_pressed s
+      (at_second Hired second position zone last v d)).next)
+      (sym is) in
+      first ∙ ap (λ (b : Bool). after_key s (if b then expired s n else key_pressed s n).next)
+      (not-reached longest_trip (ticks_of u) short)
 
--- a drop for any pulses that an interval can have, and none for no pulse
-drop-some : (s : Setting) (b : MeterTrip) (second position zone pulses ticks number p : ℕ) (m : Meter) → p ≤ 2000
-    → number < last_number
-    → IsAt b second position zone pulses ticks number m
-    → (k : ℕ) × IsAt b second position zone (pulses + p) ticks k (run s (drop second p) m).next
-drop-some s b second position zone pulses ticks number zero m few low at =
-    (number, counted b second position zone m _ _ _ _ _ _ (omega arith) refl refl at)
-drop-some s b second position zone pulses ticks number (suc p) m few low at =
-    (number + 1, drop-at s b second position zone pulses ticks number (suc p) m few low at)
+  tick-at : {b : MeterTrip} {pulses ticks number : ℕ} {m : Meter} → IsAt b second position zone pulses ticks number m
+      → ticks + 1 < longest_trip → IsAt b second position zone pulses (ticks + 1) number (step s Tick m).next
+  tick-at {ticks} at short =
+      let x = context_of s (at_second Hired second position zone at.shown_last at.trip at.durable) in
+      let u = with_part (InHired 0 x) at.trip in
+      let more : ticks_of u ≡ ticks + 1 =
+      omega (arith, sum-more ticks_in at.trip.parts (InHired 0 x), at.ticks_are) in
+      record {
+        shown_last = Some (display_of s (at_second Hired second position zone at.shown_last u at.durable));
+        trip = u;
+        durable = at.durable;
+        state = ap (λ (n : Meter). (step s Tick n).next) at.state
+            ∙ tick-state at.shown_last at.trip at.durable u refl (omega (arith, more, short));
+        pulses_are = omega (arith, sum-more pulses_in at.trip.parts (InHired 0 x), at.pulses_are);
+        ticks_are = more;
+        number_is = at.number_is;
+        fees_are = at.fees_are;
+        cover_is = at.cover_is;
+      }
+
+  -- ---- a drop, behind which the store holds the trip
+
+  drop-state : (p : ℕ) (last : Option Display) (t : MeterTrip) (d : Durable) → d.number < last_number
+      → (run s (Pulses p ∷ Down ∷ []) (at_second Hired second position zone last t d)).next
+      ≡ at_second Off second position zone last (with_part (part_of_drop p) t)
+      (after d (changes.Hold (held_trip s second false position zone (with_part (part_of_drop p) t))))
+  drop-state p last t d low =
+      let u = with_part (part_of_drop p) t in
+      let n = at_second Hired second position zone last u d in
+      ap (λ (b : Bool). turned (if b then held (held_trip s second false position zone u) n else closed s kinds.Aborted
+      second n)) (below-is d.number last_number low)
+
+  up-state : (last : Option Display) (t : MeterTrip) (d : Durable) (h : Trip)
+      → d.hold ≡ Some h → h ≡ held_trip s second false position zone t
+      → (step s (Up second) (at_second Off second position zone last t d)).next
+      ≡ at_second Hired second position zone
+      (Some (display_of s (at_second Hired second position zone None t d))) t d
+  up-state last t d h is held =
+      let n = powered second (at_second Off second position zone last t d) in
+      let e = held_trip s second false position zone t in
+      let first = ap (λ (o : Option Trip). came s (hold_taken s second o n))
+      (is ∙ ap (λ (x : Trip). Some x) held) in
+      let within : is_within_hold s second e ≡ true = ap (λ (b : Bool). b && nat_le second (second + s.hold_time))
+      (reached-self second) ∙ reached-more second s.hold_time in
+      first ∙ ap (λ (b : Bool). came s (if b then resumed e n else aborted s e n)) within
+
+  drop-at : {b : MeterTrip} {pulses ticks number : ℕ} {m : Meter} (p : ℕ)
+      → IsAt b second position zone pulses ticks number m → p ≤ 2000 → number < last_number
+      → IsAt b second position zone (pulses + p) ticks (number + 1) (run s (Pulses p ∷ Down ∷ Up second ∷ []) m).next
+  drop-at p at few low =
+      let u = with_part (part_of_drop p) at.trip in
+      let h = held_trip s second false position zone u in
+      let d = after at.durable (changes.Hold h) in
+      let first = drop-state p at.shown_last at.trip at.durable (omega (arith, low, at.number_is)) in
+      record {
+        shown_last = Some (display_of s (at_second Hired second position zone None u d));
+        trip = u;
+        durable = d;
+        state = ap (λ (n : Meter). (run s (Pulses p ∷ Down ∷ Up second ∷ []) n).next) at.state
+            ∙ ap (λ (n : Meter). (step s (Up second) n).next) first
+            ∙ up-state at.shown_last u d h refl refl;
+        pulses_are = omega (arith, sum-more pulses_in at.trip.parts (part_of_drop p), at.pulses_are, few);
+        ticks_are = omega (arith, sum-more ticks_in at.trip.parts (part_of_drop p), at.ticks_are);
+        number_is = ap (λ (n : ℕ). n + 1) at.number_is;
+        fees_are = at.fees_are;
+        cover_is = at.cover_is;
+      }
+
+  -- ---- any number of each
+
+  drops-at : (many : ℕ) {b : MeterTrip} {pulses ticks number : ℕ} (m : Meter)
+      → IsAt b second position zone pulses ticks number m → number + many < last_number
+      → IsAt b second position zone (pulses + 2000 * many) ticks (number + many) (run s (drops second many) m).next
+  drops-at zero m at low = same-at at refl (omega arith) refl (omega arith)
+  drops-at (suc many) m at low =
+      let n = (run s (Pulses 2000 ∷ Down ∷ Up second ∷ []) m).next in
+      let first = drop-at 2000 at (omega arith) (omega (arith, low)) in
+      same-at (drops-at many n first (omega (arith, low)))
+      (both-next s (Pulses 2000 ∷ Down ∷ Up second ∷ []) (drops second many) m) (omega arith) refl (omega arith)
+
+  ticks-at : (many : ℕ) {b : MeterTrip} {pulses ticks number : ℕ} (m : Meter)
+      → IsAt b second position zone pulses ticks number m → ticks + many < longest_trip
+      → IsAt b second position zone pulses (ticks + many) number (run s (replicate many Tick) m).next
+  ticks-at zero m at short = same-at at refl refl (omega arith) refl
+  ticks-at (suc many) m at short =
+      same-at (ticks-at many (step s Tick m).next (tick-at at (omega (arith, short))) (omega (arith, short)))
+      refl refl (omega arith) refl
+
+  -- a drop for any pulses that an interval can have, and none for no pulse
+  drop-some : {b : MeterTrip} {pulses ticks number : ℕ} (p : ℕ) (m : Meter)
+      → IsAt b second position zone pulses ticks number m → p ≤ 2000 → number < last_number
+      → (k : ℕ) × IsAt b second position zone (pulses + p) ticks k (run s (drop second p) m).next
+  drop-some {number} zero m at few low = (number, same-at at refl (omega arith) refl refl)
+  drop-some {number} (suc p) m at few low = (number + 1, drop-at (suc p) at few low)
 
 -- ---- the hiring
 
@@ -334,7 +291,7 @@ hired-third s second position zone last =
     let fee = fees_in_force s.tariff (context_now s (for_hire second position zone None (0 ∷ 0 ∷ 0 ∷ []) last)) in
     let t = begun s fee second 0 in
     record {
-      shown_last = Some (display_of s (hired_at second position zone last t first_state));
+      shown_last = Some (display_of s (at_second Hired second position zone last t first_state));
       trip = t;
       durable = first_state;
       state = refl;
@@ -359,9 +316,8 @@ hire-at s second position zone one other =
     let third = hired-third s second position zone n.shown in
     let set = position-first s second position first (among-is s.tariff.positions position one) in
     let also = zone-second s second position zone m.shown (among-is s.tariff.zones zone other) in
-    moved (begun_there s second position zone) second position zone 0 0 1 _ _
-    (ap (λ (x : Meter). (run s (events.Key (Zone zone) ∷ Tick ∷ events.Key Hire ∷ Tick ∷ []) x).next) set
-    ∙ ap (λ (x : Meter). (run s (events.Key Hire ∷ Tick ∷ []) x).next) also) third
+    same-at third (ap (λ (x : Meter). (run s (events.Key (Zone zone) ∷ Tick ∷ events.Key Hire ∷ Tick ∷ []) x).next) set
+    ∙ ap (λ (x : Meter). (run s (events.Key Hire ∷ Tick ∷ []) x).next) also) refl refl refl
 
 -- ---- the whole drive
 
@@ -370,7 +326,6 @@ events-at : (s : Setting) (second : ℕ) (c : MeterContext) → IsFromTo 1 s.tar
     → (k : ℕ) × IsAt (begun_there s second c.position c.zone) second c.position c.zone c.pulses c.ticks k
     (run s (events_to second c) (opened s first_state)).next
 events-at s second c one other short few =
-    let b = begun_there s second c.position c.zone in
     let many = c.pulses / 2000 in
     let more = c.pulses % 2000 in
     let o = opened s first_state in
@@ -380,18 +335,13 @@ events-at s second c one other short few =
     let dropped = (run s (drops second many) hired).next in
     let more_dropped = (run s (drop second more) dropped).next in
     let first = hire-at s second c.position c.zone one other in
-    let second_at = drops-at s b second c.position c.zone 0 0 1 many hired (omega (arith, split, few)) first in
-    let third = drop-some s b second c.position c.zone (0 + 2000 * many) 0 (1 + many) more dropped (omega arith)
-    (omega (arith, split, few)) second_at in
-    let last = ticks-at s b second c.position c.zone (0 + 2000 * many + more) 0 third.0 c.ticks more_dropped
-    (omega (arith, short)) third.1 in
+    let second_at = drops-at s second c.position c.zone many hired first (omega (arith, split, few)) in
+    let third = drop-some s second c.position c.zone more dropped second_at (omega arith) (omega (arith, split, few)) in
+    let last = ticks-at s second c.position c.zone c.ticks more_dropped third.1 (omega (arith, short)) in
     let whole : (run s (events_to second c) o).next ≡ (run s (replicate c.ticks Tick) more_dropped).next =
     both-next s (hire second c.position c.zone) (drops second many ++ xs) o ∙ both-next s (drops second many) xs
-    hired ∙ both-next s (drop second more) (replicate c.ticks Tick) dropped in (
-      third.0,
-      moved b second c.position c.zone _ _ _ _ _ whole
-          (counted b second c.position c.zone _ _ _ _ _ _ _ (omega (arith, split)) (omega arith) refl last),
-    )
+    hired ∙ both-next s (drop second more) (replicate c.ticks Tick) dropped in
+    (third.0, same-at last whole (omega (arith, split)) (omega arith) refl)
 
 -- ---- the context
 

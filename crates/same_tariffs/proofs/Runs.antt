@@ -1,69 +1,105 @@
--- Runs that are alike.
-use Rattle.std.proofs.Common.{All, List, [], ◌∷◌, option_map, sum, subst}
+-- Runs of two meters that stand alike, and of one meter, which stands alike to itself.
+use Rattle.std.proofs.Common.{◌≤◌, All, List, [], ◌∷◌, Option, Some, None, option_map, refl, subst, arith}
 use Rattle.std.proofs.lemmas.List.Elements.{All-head, All-tail}
+use Rattle.taxi_units.specs.Time.{last_tick}
 use Rattle.taxi_units.specs.declared.event.Event.{Event}
 use Rattle.taxi_units.specs.declared.event.Operating.{Operating}
-use Rattle.taxi_units.specs.declared.event.Operating.TheVariants.{Off, ForHire, Hired, Stopped}
+use Rattle.taxi_units.specs.declared.event.Operating.TheVariants.{Off}
 use Rattle.totals_record.specs.declared.durable_state.Durable.{Durable}
+use Rattle.totals_record.specs.declared.trip.Trip.{Trip}
+use Rattle.meter_states.specs.Interval.{ticks_so_far}
 use Rattle.meter_states.specs.Lawful.{IsTimely}
 use Rattle.meter_states.specs.Meter.{Meter}
 use Rattle.meter_states.specs.Run.{ended, ended_in, opened, run, whole_run}
 use Rattle.meter_states.specs.Setting.{Setting}
 use Rattle.meter_states.specs.Step.{step}
-use Rattle.meter_states.specs.Trip.{trip_of}
-use Rattle.same_tariffs.specs.Alike.{AreMetersAlike, AreOutcomesAlike, AreStoresAlike, with_trips}
+use Rattle.meter_states.specs.Trip.{MeterTrip, trip_of}
+use Rattle.same_tariffs.specs.Alike.{AreHoldsAlike, AreStoresAlike, with_trips}
 use Rattle.same_tariffs.specs.Reached.{HoldGoesOn, IsWithinReach}
 use Rattle.same_tariffs.proofs.Agreeing.{Agree}
-use Rattle.same_tariffs.proofs.Reach.{HasPlaces, placed-counted, within-opened, within-step}
-use Rattle.same_tariffs.proofs.Stages.{by-trips, dropped-alike, meter-alike, quiet-alike, step-alike, then-alike}
+use Rattle.same_tariffs.proofs.Stages.{dropped-alike, step-alike}
+use Rattle.same_tariffs.proofs.Standing.{ComeAlike, IsBeside, StandAlike, by-trips, quiet-alike, stands, then-alike}
 use Rattle.same_tariffs.proofs.Trips.{opened-both}
 
-event-alike : (s t : Setting) (event : Event) (m n : Meter) → Agree s t → IsWithinReach s m → AreMetersAlike s t m n
-    → AreOutcomesAlike s t (step s event m) (step t event n)
-event-alike s t event m n agree within same =
-    step-alike s t event m n agree within.placed (placed-counted s m.operating (sum m.taken) m within.placed)
-    within.ticks same
+ticks-held : (s : Setting) (hold : Option Trip) → HoldGoesOn s.tariff hold
+    → ticks_so_far (option_map (trip_of s) hold) ≤ last_tick
+ticks-held s None on = omega arith
+ticks-held s (Some trip) on = omega (arith, on.ticks)
 
-pub run-alike : (s t : Setting) (events : List Event) (m n : Meter) → Agree s t → HasPlaces s.tariff
-    → All IsTimely events → IsWithinReach s m → AreMetersAlike s t m n
-    → AreOutcomesAlike s t (run s events m) (run t events n)
-run-alike s t [] m n agree some timely within same = quiet-alike s t m n same
-run-alike s t (event ∷ events) m n agree some timely within same =
-    let first = event-alike s t event m n agree within same in
-    let o = step s event m in
-    let p = step t event n in
-    let others = run-alike s t events o.next p.next agree some (All-tail IsTimely event events timely)
-    (within-step s event m some (All-head IsTimely event events timely) within) first.next in
-    then-alike s t o p (run s events) (run t events) first others
+module _ {s t : Setting} where
+  -- an event, and then others
+  event-then : (event : Event) (events : List Event) (m n : Meter) → IsTimely event → StandAlike s t last_tick m n
+      → ((o p : Meter) → StandAlike s t last_tick o p → ComeAlike s t last_tick (run s events o) (run t events p))
+      → ComeAlike s t last_tick (run s (event ∷ events) m) (run t (event ∷ events) n)
+  event-then event events m n timely x others =
+      let first = step-alike event timely x in
+      let both = then-alike first (others (step s event m).next (step t event n).next first.next) in both
 
-ended-by : (s t : Setting) (operating : Operating) (m n : Meter) → Agree s t → AreMetersAlike s t m n
-    → AreOutcomesAlike s t (ended_in s operating m) (ended_in t operating n)
-ended-by s t Off m n agree same = quiet-alike s t m n same
-ended-by s t ForHire m n agree same = dropped-alike s t m n agree same
-ended-by s t Hired m n agree same = dropped-alike s t m n agree same
-ended-by s t Stopped m n agree same = dropped-alike s t m n agree same
+  run-alike : (events : List Event) (m n : Meter) → All IsTimely events → StandAlike s t last_tick m n
+      → ComeAlike s t last_tick (run s events m) (run t events n)
+  run-alike [] m n timely x = record { next = x; acts = tt }
+  run-alike (event ∷ events) m n timely x =
+      event-then event events m n (All-head IsTimely event events timely) x
+      (λ o p y. run-alike events o p (All-tail IsTimely event events timely) y)
 
-ended-alike : (s t : Setting) (m n : Meter) → Agree s t → AreMetersAlike s t m n → AreOutcomesAlike s t (ended s m)
-    (ended t n)
-ended-alike s t m n agree same =
-    by-trips s t (λ (k : Meter). AreOutcomesAlike s t (ended s m) (ended t k)) m n same
-    (λ trip hold alike also. ended-by s t m.operating m (with_trips trip hold m) agree
-    (meter-alike s t m trip hold alike also))
+  ended-by : (operating : Operating) (m : Meter) (trip : Option MeterTrip) (hold : Option Trip)
+      → IsBeside s t last_tick m trip hold
+      → ComeAlike s t last_tick (ended_in s operating m) (ended_in t operating (with_trips trip hold m))
+  ended-by Off m trip hold x = quiet-alike m trip hold x
+  ended-by operating m trip hold x = dropped-alike (stands m trip hold x)
 
-opened-alike : (s t : Setting) (d e : Durable) → Agree s t → AreStoresAlike s t d e → AreMetersAlike s t (opened s d)
-    (opened t e)
-opened-alike s t d e agree same =
-    subst (λ (x : Durable). AreMetersAlike s t (opened s d) (opened t x)) same.others
-    (meter-alike s t (opened s d) (option_map (trip_of t) e.hold) e.hold (opened-both s t d.hold e.hold agree same.hold)
-    same.hold)
+  ended-alike : {m n : Meter} → StandAlike s t last_tick m n → ComeAlike s t last_tick (ended s m) (ended t n)
+  ended-alike x = by-trips x (ended s) (ended t) (λ m trip hold y. ended-by m.operating m trip hold y)
 
--- a whole run is alike over stores that are
-pub whole-alike : (s t : Setting) (d e : Durable) (events : List Event) → Agree s t → HasPlaces s.tariff
-    → All IsTimely events → HoldGoesOn s.tariff d.hold → AreStoresAlike s t d e
-    → AreOutcomesAlike s t (whole_run s d events) (whole_run t e events)
-whole-alike s t d e events agree some timely on same =
-    let first = run-alike s t events (opened s d) (opened t e) agree some timely (within-opened s d some on)
-    (opened-alike s t d e agree same) in
-    let o = run s events (opened s d) in
-    let p = run t events (opened t e) in
-    then-alike s t o p (ended s) (ended t) first (ended-alike s t o.next p.next agree first.next)
+  opened-alike : (d e : Durable) → Agree s t → HoldGoesOn s.tariff d.hold → AreStoresAlike s t d e
+      → StandAlike s t last_tick (opened s d) (opened t e)
+  opened-alike d e agree on same =
+      subst (λ (x : Durable). StandAlike s t last_tick (opened s d) (opened t x)) same.others (record {
+        beside = record {
+          agree = agree;
+          trips = opened-both s t d.hold e.hold agree same.hold;
+          holds = same.hold;
+          placed = record {
+            set = agree.first;
+            clock_in = (omega arith, omega arith);
+            began_in = (omega arith, omega arith);
+          };
+          goes_on = on;
+          ticks = ticks-held s d.hold on;
+        };
+        others = refl;
+      })
+
+  -- a whole run is alike over stores that are
+  pub whole-alike : (d e : Durable) (events : List Event) → Agree s t → All IsTimely events
+      → HoldGoesOn s.tariff d.hold → AreStoresAlike s t d e
+      → ComeAlike s t last_tick (whole_run s d events) (whole_run t e events)
+  whole-alike d e events agree timely on same =
+      let first = run-alike events (opened s d) (opened t e) timely (opened-alike d e agree on same) in
+      let both = then-alike first (ended-alike first.next) in both
+
+-- ---- one meter
+
+holds-self : (s : Setting) (hold : Option Trip) → AreHoldsAlike s s hold hold
+holds-self s None = tt
+holds-self s (Some trip) = record {
+  meterage = record { cover = record { scaled = refl }; steps = refl; rest = record { scaled = refl } };
+  others = refl;
+}
+
+stores-self : (s : Setting) (d : Durable) → AreStoresAlike s s d d
+stores-self s d = record { hold = holds-self s d.hold; others = refl }
+
+-- a run leaves a meter within reach
+pub run-within : (s : Setting) (d : Durable) (events : List Event) → Agree s s → All IsTimely events
+    → HoldGoesOn s.tariff d.hold → IsWithinReach s (run s events (opened s d)).next
+run-within s d events agree timely on =
+    let o = opened s d in
+    let x = (run-alike events o o timely (opened-alike d d agree on (stores-self s d))).next.beside in
+    record { placed = x.placed; hold = x.goes_on; ticks = x.ticks }
+
+-- and what its store holds goes on
+pub whole-goes_on : (s : Setting) (d : Durable) (events : List Event) → Agree s s → All IsTimely events
+    → HoldGoesOn s.tariff d.hold → HoldGoesOn s.tariff (whole_run s d events).next.durable.hold
+whole-goes_on s d events agree timely on =
+    (whole-alike d d events agree timely on (stores-self s d)).next.beside.goes_on

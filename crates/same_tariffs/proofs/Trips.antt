@@ -19,14 +19,14 @@ use Rattle.meter_states.specs.Supplements.{amount_in, amounts_of}
 use Rattle.meter_states.specs.Trip as model
 use Rattle.meter_states.specs.Trip.{Part, MeterTrip, begun, charge_in, charges_of, core_trip_of, fare_by_fees, fare_of}
 use Rattle.meter_states.specs.Trip.{held_trip, pulses_in, pulses_of, saved_at, steps_shown, ticks_in, trip_of}
-use Rattle.meter_states.specs.Trip.{with_extra, with_part}
+use Rattle.meter_states.specs.Trip.{with_part}
 use Rattle.meter_states.specs.declared.trip.CoreTrip.{CoreTrip}
 use Rattle.same_tariffs.specs.Alike.{AreHeldAlike, AreHoldsAlike, AreMeteragesAlike, AreOpeningsAlike, AreTripsAlike}
 use Rattle.same_tariffs.specs.Alike.{AreTripsOfBothAlike, IsSameMoney, with_trips}
 use Rattle.same_tariffs.proofs.Agreeing.{Agree}
 use Rattle.same_tariffs.proofs.Money.{none-same, saved-same, steps-same, sum-same, times-money, times-same}
 
--- ---- parts and supplements
+-- ---- parts
 
 pub sum-more : (f : Part → ℕ) (parts : List Part) (part : Part) → sum (map f (parts ++ part ∷ [])) ≡ sum
     (map f parts) + f part
@@ -52,25 +52,22 @@ part-alike s t a b x y pulses ticks charge same = record {
       };
 }
 
+-- what is so without trips and of each two that are alike is so of both
+pub trips-by : (s t : Setting) (P : Option MeterTrip → Option MeterTrip → Type 0) → P None None
+    → ((a b : MeterTrip) → AreTripsAlike s t a b → P (Some a) (Some b)) → (a b : Option MeterTrip)
+    → AreTripsOfBothAlike s t a b → P a b
+trips-by s t P none some None None same = none
+trips-by s t P none some (Some a) (Some b) same = some a b same
+trips-by s t P none some None (Some b) same = absurd same
+trips-by s t P none some (Some a) None same = absurd same
+
 pub parts-alike : (s t : Setting) (a b : Option MeterTrip) (x y : Part) → pulses_in x ≡ pulses_in y
     → ticks_in x ≡ ticks_in y
     → IsSameMoney (unit_of s) (unit_of t) (charge_in s x) (charge_in t y) → AreTripsOfBothAlike s t a b
     → AreTripsOfBothAlike s t (option_map (with_part x) a) (option_map (with_part y) b)
-parts-alike s t None None x y pulses ticks charge same = tt
-parts-alike s t (Some a) (Some b) x y pulses ticks charge same = part-alike s t a b x y pulses ticks charge same
-parts-alike s t None (Some b) x y pulses ticks charge same = absurd same
-parts-alike s t (Some a) None x y pulses ticks charge same = absurd same
-
-pub extra-alike : (s t : Setting) (n : ℕ) (a b : MeterTrip) → AreTripsAlike s t a b → AreTripsAlike s t (with_extra n a)
-    (with_extra n b)
-extra-alike s t n a b same = record {
-  others = ap (with_extra n) same.others;
-  pulses = same.pulses;
-  ticks = same.ticks;
-  cover = same.cover;
-  above = same.above;
-  charges = same.charges;
-}
+parts-alike s t a b x y pulses ticks charge same =
+    trips-by s t (λ a b. AreTripsOfBothAlike s t (option_map (with_part x) a) (option_map (with_part y) b)) tt
+    (λ a b same. part-alike s t a b x y pulses ticks charge same) a b same
 
 -- a trip that begins
 pub begun-alike : (s t : Setting) (fee other : Initial) (second roam : ℕ) → fee ≡ other
@@ -90,17 +87,12 @@ begun-alike s t fee other second roam is = record {
 
 pub pulses-alike : (s t : Setting) (a b : Option MeterTrip) → AreTripsOfBothAlike s t a b
     → pulses_so_far a ≡ pulses_so_far b
-pulses-alike s t None None same = refl
-pulses-alike s t (Some a) (Some b) same = same.pulses
-pulses-alike s t None (Some b) same = absurd same
-pulses-alike s t (Some a) None same = absurd same
+pulses-alike s t a b same =
+    trips-by s t (λ a b. pulses_so_far a ≡ pulses_so_far b) refl (λ a b same. same.pulses) a b same
 
 pub ticks-alike : (s t : Setting) (a b : Option MeterTrip) → AreTripsOfBothAlike s t a b
     → ticks_so_far a ≡ ticks_so_far b
-ticks-alike s t None None same = refl
-ticks-alike s t (Some a) (Some b) same = same.ticks
-ticks-alike s t None (Some b) same = absurd same
-ticks-alike s t (Some a) None same = absurd same
+ticks-alike s t a b same = trips-by s t (λ a b. ticks_so_far a ≡ ticks_so_far b) refl (λ a b same. same.ticks) a b same
 
 step-is : (s t : Setting) → Agree s t → s.tariff.step.0 ≡ t.tariff.step.0
 step-is s t agree = ap (λ (x : ℕ × Rounding). x.0) agree.step
@@ -258,17 +250,14 @@ receipt-alike s t kind finish position a b number agree same =
 
 fare-shown-alike : (s t : Setting) (a b : Option MeterTrip) → Agree s t → AreTripsOfBothAlike s t a b
     → fare_shown s a ≡ fare_shown t b
-fare-shown-alike s t None None agree same = refl
-fare-shown-alike s t (Some a) (Some b) agree same = fare-alike s t a b agree same
-fare-shown-alike s t None (Some b) agree same = absurd same
-fare-shown-alike s t (Some a) None agree same = absurd same
+fare-shown-alike s t a b agree same =
+    trips-by s t (λ a b. fare_shown s a ≡ fare_shown t b) refl (λ a b same. fare-alike s t a b agree same) a b same
 
 extras-shown-alike : (s t : Setting) (a b : Option MeterTrip) → Agree s t → AreTripsOfBothAlike s t a b
     → extras_shown s a ≡ extras_shown t b
-extras-shown-alike s t None None agree same = refl
-extras-shown-alike s t (Some a) (Some b) agree same = amounts-alike s t a b agree same
-extras-shown-alike s t None (Some b) agree same = absurd same
-extras-shown-alike s t (Some a) None agree same = absurd same
+extras-shown-alike s t a b agree same =
+    trips-by s t (λ a b. extras_shown s a ≡ extras_shown t b) refl (λ a b same. amounts-alike s t a b agree same) a b
+    same
 
 pub display-alike : (s t : Setting) (m : Meter) (trip : Option MeterTrip) (hold : Option Trip) → Agree s t
     → AreTripsOfBothAlike s t m.trip trip
