@@ -7,8 +7,9 @@ use Rattle.seal_record.specs.declared.seal.Seal.{Seal}
 use Rattle.seal_record.specs.Ranges.{IsSeal}
 use Rattle.totals_record.specs.declared.durable_state.Durable.{Durable}
 use Rattle.totals_record.specs.Ranges.{IsDurable}
-use Rattle.data_port.specs.Reply.{all_items_size, item_bytes, items_bytes, size_of, sizes}
-use Rattle.data_port.specs.Requests.{Rise, item_count}
+use Rattle.data_port.specs.Items.{all_items_size, size_of, sizes, item_count}
+use Rattle.data_port.specs.Reply.{item_bytes, items_bytes}
+use Rattle.data_port.specs.Requests.{Rise}
 use Rattle.data_port.proofs.Parts.{item_long}
 
 abbrev total : List ℕ → ℕ

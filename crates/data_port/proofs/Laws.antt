@@ -11,9 +11,9 @@ use Rattle.seal_record.specs.Ranges.{IsSeal}
 use Rattle.totals_record.specs.declared.durable_state.Durable.{Durable}
 use Rattle.totals_record.specs.Ranges.{IsDurable}
 use Rattle.data_port.specs.declared.request.Request.{Request}
-use Rattle.data_port.specs.Replies.{AgreeOn, answers_in, body_of, items_in}
-use Rattle.data_port.specs.Reply.{Agrees, all_items_size, content, framed, items_bytes, reply_to, size_of}
-use Rattle.data_port.specs.Requests.{IsRequest, Rise, codes_of, item_count}
+use Rattle.data_port.specs.Items.{Agrees, all_items_size, content, size_of, item_count}
+use Rattle.data_port.specs.Reply.{AgreeOn, answers_in, body_of, items_in, framed, items_bytes, reply_to}
+use Rattle.data_port.specs.Requests.{IsRequest, Rise, codes_of}
 use Rattle.data_port.specs.Reading.{HasTaken, Standing, bad_at_end, first_bad, given_by, requests_after, requests_in}
 use Rattle.data_port.specs.Streams.{EndsWhole, IsReadAs, bytes_of}
 use Rattle.data_port.proofs.Bodies.{rise_few, whole_items}

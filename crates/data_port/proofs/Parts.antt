@@ -14,22 +14,11 @@ use Rattle.totals_record.specs.declared.totals.Totals.{Totals}
 use Rattle.totals_record.specs.Bytes.{four, eight, sixteen}
 use Rattle.totals_record.specs.Ranges.{IsDurable}
 use Rattle.totals_record.specs.Spelling.{share_bytes}
-use Rattle.data_port.specs.Reply as items
-use Rattle.data_port.specs.Reply.{Agrees, HeldTrip, content, held_content, held_values, item_bytes, rows}
-use Rattle.data_port.specs.Reply.{shares_content, size_of, sizes}
-use Rattle.data_port.specs.Requests.{item_count}
+use Rattle.data_port.specs.Items as items
+use Rattle.data_port.specs.Items.{Agrees, HeldTrip, content, held_content, held_values}
+use Rattle.data_port.specs.Items.{rows, shares_content, size_of, sizes, item_count}
+use Rattle.data_port.specs.Reply.{item_bytes}
 use Rattle.taxi_units.proofs.Laws.{appended_behind}
-
--- seven parts, one after the other
-pub seven : (start a b c d e f g l1 l2 l3 l4 l5 l6 l7 : List ℕ) → l1 ≡ start ++ a → l2 ≡ l1 ++ b → l3 ≡ l2 ++ c
-    → l4 ≡ l3 ++ d → l5 ≡ l4 ++ e → l6 ≡ l5 ++ f → l7 ≡ l6 ++ g
-    → l7 ≡ start ++ (a ++ (b ++ (c ++ (d ++ (e ++ (f ++ g))))))
-seven start a b c d e f g l1 l2 l3 l4 l5 l6 l7 e1 e2 e3 e4 e5 e6 e7 =
-    appended_behind start a (b ++ (c ++ (d ++ (e ++ (f ++ g))))) l1 l7 e1
-    (appended_behind l1 b (c ++ (d ++ (e ++ (f ++ g)))) l2 l7 e2
-    (appended_behind l2 c (d ++ (e ++ (f ++ g))) l3 l7 e3
-    (appended_behind l3 d (e ++ (f ++ g)) l4 l7 e4
-    (appended_behind l4 e (f ++ g) l5 l7 e5 (appended_behind l5 f g l6 l7 e6 e7)))))
 
 -- one element more
 pub flat_more : {X A : Type 0} (f : X → List A) (xs : List X) (i : ℕ) (d : X) → i < length xs

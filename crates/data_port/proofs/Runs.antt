@@ -11,7 +11,8 @@ use Rattle.data_port.specs.declared.request.Request.{Request}
 use Rattle.data_port.specs.Reading.{Standing, between}
 use Rattle.data_port.specs.ReadingStages.{after_byte, after_bytes, after_good, ended_by, ended_in, failed_at, follows}
 use Rattle.data_port.specs.ReadingStages.{has_all, last_code, request_in}
-use Rattle.data_port.specs.Requests.{IsRequest, Rise, codes_of, request_bytes, stream_bytes, item_count}
+use Rattle.data_port.specs.Items.{item_count}
+use Rattle.data_port.specs.Requests.{IsRequest, Rise, codes_of, request_bytes, stream_bytes}
 use Rattle.data_port.proofs.Bodies.{rise_few}
 use Rattle.data_port.proofs.Shapes.{Ends, Grows, Shaped, last_from, last_is, last_push, nothing, step}
 

@@ -5,7 +5,8 @@ use Rattle.std.proofs.Common.{append_assoc, arith, length-append}
 use Rattle.std.proofs.lemmas.Bool.{and_parts, cond-false, cond-true, eqb-false, eqb-true, leb-true, ltb-true}
 use Rattle.data_port.specs.declared.request.Request.{Request}
 use Rattle.data_port.specs.ReadingStages.{follows, follows_codes, has_all, last_code, request_in}
-use Rattle.data_port.specs.Requests.{IsRequest, Rise, request_bytes, item_count}
+use Rattle.data_port.specs.Items.{item_count}
+use Rattle.data_port.specs.Requests.{IsRequest, Rise, request_bytes}
 use Rattle.data_port.specs.Streams.{IsUnfinished}
 
 -- ---- codes

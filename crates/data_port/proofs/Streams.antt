@@ -14,7 +14,8 @@ use Rattle.data_port.specs.declared.request.Request.{Request}
 use Rattle.data_port.specs.Reading.{Standing, bad_at_end, between, first_bad, given_by, requests_after, requests_in}
 use Rattle.data_port.specs.Reading.{standing_after, HasSense}
 use Rattle.data_port.specs.ReadingStages.{after_bytes, bad_end_of, bad_of, ended_in, follows, has_all}
-use Rattle.data_port.specs.Requests.{IsRequest, request_bytes, stream_bytes, item_count}
+use Rattle.data_port.specs.Items.{item_count}
+use Rattle.data_port.specs.Requests.{IsRequest, request_bytes, stream_bytes}
 use Rattle.data_port.specs.Streams.{BeginsStream, EndsWhole, IsFirstBad, IsGood, IsReadAs, bytes_of}
 use Rattle.data_port.proofs.Runs.{FailsIn, Runs, Stands, after-append, ended-append, reads_stream, runs, stream_push}
 use Rattle.data_port.proofs.Runs.{stuck}

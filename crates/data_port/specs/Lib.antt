@@ -1,6 +1,6 @@
+pub mod Items
 pub mod Reading
 pub mod ReadingStages
-pub mod Replies
 pub mod Reply
 pub mod Requests
 pub mod Serving

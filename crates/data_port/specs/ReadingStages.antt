@@ -3,7 +3,7 @@
 use Rattle.std.specs.Prelude.{ℕ, ◌+◌, ◌-◌, List, [], ◌∷◌, ◌++◌, length, drop, get_or, Bool, true, false}
 use Rattle.std.specs.Prelude.{if◌then◌else◌, ◌==◌, ◌&&◌, nat_le, nat_lt, Option, Some, None}
 use Rattle.data_port.specs.declared.request.Request.{Request}
-use Rattle.data_port.specs.Requests.{item_count}
+use Rattle.data_port.specs.Items.{item_count}
 use Rattle.data_port.specs.Standing.{Standing, between}
 
 -- a port has come to a bad place

@@ -2,10 +2,7 @@
 use Rattle.std.specs.Prelude.{ℕ, ◌<◌, ◌≤◌, List, [], ◌∷◌, ◌++◌, length}
 use Rattle.std.specs.List.{flat_map}
 use Rattle.data_port.specs.declared.request.Request.{Request}
-
--- there are 13 items, and their codes are 1 to 13
-abbrev pub item_count : ℕ
-item_count = 13
+use Rattle.data_port.specs.Items.{item_count}
 
 -- codes rise if each is above the one before it; the first is above `above`, and none is above that of the last item
 abbrev pub Rise : (above : ℕ) → List ℕ → Type 0

@@ -8,8 +8,8 @@ ghost use Rattle.seal_record.specs.Spelling.{padded};
 ghost use Rattle.totals_record.specs.Bytes.{four, eight, sixteen};
 ghost use Rattle.totals_record.specs.Ranges.{IsDurable};
 ghost use Rattle.totals_record.specs.Spelling.{share_bytes};
-ghost use Rattle.data_port.specs.Reply.{content, held_content, held_trip, held_values, shares_content, size_of, trip_content};
-ghost use Rattle.data_port.specs.Requests.{item_count};
+ghost use Rattle.data_port.specs.Items.{content, held_content, held_trip, held_values};
+ghost use Rattle.data_port.specs.Items.{shares_content, size_of, trip_content, item_count};
 
 use drive_modes::{Constant, millimetres};
 use seal_record::{Seal, mode_byte};
@@ -123,6 +123,9 @@ fn put_shares(line: &mut Line, totals: &Totals)
     }
     put_share(line, &totals.before);
 }
+
+/// How many items there are; their codes count from 1.
+pub(crate) const ITEM_COUNT: usize = 13;
 
 /// Appends the content of an item.
 pub(crate) fn put_content(line: &mut Line, code: u8, durable: &Durable, seal: &Seal)

@@ -4,8 +4,9 @@ ghost use Rattle.arrayvec.specs.ArrayVec.{array_vec_len};
 ghost use Rattle.taxi_units.specs.Line.{line_size};
 ghost use Rattle.seal_record.specs.Ranges.{IsSeal};
 ghost use Rattle.totals_record.specs.Ranges.{IsDurable};
-ghost use Rattle.data_port.specs.Reply.{all_items_size, items_bytes, item_bytes, longest_reply, reply_to, size_of};
-ghost use Rattle.data_port.specs.Requests.{IsRequest, Rise, item_count};
+ghost use Rattle.data_port.specs.Items.{all_items_size, size_of, item_count};
+ghost use Rattle.data_port.specs.Reply.{items_bytes, item_bytes, longest_reply, reply_to};
+ghost use Rattle.data_port.specs.Requests.{IsRequest, Rise};
 
 use crate::contents::put_content;
 use crate::request::Request;

@@ -5,8 +5,8 @@ ghost use Rattle.seal_record.specs.Ranges.{IsSeal};
 ghost use Rattle.totals_record.specs.declared.durable_state.Durable.{Durable};
 ghost use Rattle.totals_record.specs.Ranges.{IsDurable};
 ghost use Rattle.data_port.specs.declared.request.Request.{Request};
-ghost use Rattle.data_port.specs.Reply.{content, reply_to};
-ghost use Rattle.data_port.specs.Replies.{AgreeOn, answers_in};
+ghost use Rattle.data_port.specs.Items.{content};
+ghost use Rattle.data_port.specs.Reply.{reply_to, AgreeOn, answers_in};
 ghost use Rattle.data_port.specs.Requests.{IsRequest, codes_of};
 
 /// Two stores that agree on what the items of a request speak of give the same reply.

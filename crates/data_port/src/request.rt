@@ -1,8 +1,6 @@
 //! A request of the data port.
+use crate::contents::ITEM_COUNT;
 use arrayvec::ArrayVec;
-
-/// How many items there are; their codes count from 1.
-pub(crate) const ITEM_COUNT: usize = 13;
 
 /// A request: the codes of the items that it asks for, one or more, which rise. `IsRequest` says so.
 #[derive(Drop)]

@@ -2,12 +2,13 @@
 ghost use Rattle.std.specs.Prelude.{◌≡◌, ◌++◌, ◌+◌, ◌-◌, ◌<◌, ◌≤◌, ◌^◌, [], length, true, false, IfErr, OnOk};
 ghost use Rattle.arrayvec.specs.ArrayVec.{array_vec_len};
 ghost use Rattle.data_port.specs.Reading.{HasSense, HasTaken, between};
-ghost use Rattle.data_port.specs.Requests.{item_count};
+ghost use Rattle.data_port.specs.Items.{item_count};
 ghost use Rattle.data_port.specs.ReadingStages.{after_byte, ended_by, follows, follows_codes, follows_start, has_all, has_codes, last_code, request_in};
 
+use crate::contents::ITEM_COUNT;
 use crate::port::BadFrame;
 use crate::reply::{END, START};
-use crate::request::{ITEM_COUNT, Request};
+use crate::request::Request;
 use arrayvec::ArrayVec;
 
 /// How many bytes stand before the last one of a request, at most: 0x02, the count, and the codes.

@@ -1,5 +1,5 @@
 use Rattle.std.proofs.Common.{[], ◌∷◌}
-use Rattle.data_port.specs.Reply.{held_trip, trip_content}
+use Rattle.data_port.specs.Items.{held_trip, trip_content}
 use Rattle.taxi_units.proofs.Laws.{appended_behind}
 use Rattle.data_port.proofs.contents.put_held.Goals as goal
 

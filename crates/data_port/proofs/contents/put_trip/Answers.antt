@@ -1,8 +1,19 @@
-use Rattle.std.proofs.Common.{ℕ, ◌++◌, ◌∙◌, ap}
+use Rattle.std.proofs.Common.{◌≡◌, ℕ, List, ◌++◌, ◌∙◌, ap}
 use Rattle.drive_modes.specs.Distance.{millimetres_of}
 use Rattle.totals_record.specs.Bytes.{eight, four, sixteen}
-use Rattle.data_port.proofs.Parts.{seven}
+use Rattle.taxi_units.proofs.Laws.{appended_behind}
 use Rattle.data_port.proofs.contents.put_trip.Goals as goal
+
+-- seven parts, one after the other
+seven : (start a b c d e f g l1 l2 l3 l4 l5 l6 l7 : List ℕ) → l1 ≡ start ++ a → l2 ≡ l1 ++ b → l3 ≡ l2 ++ c
+    → l4 ≡ l3 ++ d → l5 ≡ l4 ++ e → l6 ≡ l5 ++ f → l7 ≡ l6 ++ g
+    → l7 ≡ start ++ (a ++ (b ++ (c ++ (d ++ (e ++ (f ++ g))))))
+seven start a b c d e f g l1 l2 l3 l4 l5 l6 l7 e1 e2 e3 e4 e5 e6 e7 =
+    appended_behind start a (b ++ (c ++ (d ++ (e ++ (f ++ g))))) l1 l7 e1
+    (appended_behind l1 b (c ++ (d ++ (e ++ (f ++ g)))) l2 l7 e2
+    (appended_behind l2 c (d ++ (e ++ (f ++ g))) l3 l7 e3
+    (appended_behind l3 d (e ++ (f ++ g)) l4 l7 e4
+    (appended_behind l4 e (f ++ g) l5 l7 e5 (appended_behind l5 f g l6 l7 e6 e7)))))
 
 pub returns-clause-items : goal.returns-clause-items
 returns-clause-items c =
