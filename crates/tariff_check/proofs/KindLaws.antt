@@ -22,6 +22,10 @@ of_kind P each Rate = each.0
 of_kind P each Initial = each.1
 of_kind P each Minimum = each.2
 
+-- and what holds of any kind holds of each
+pub each_kind : (P : ChoiceKind → Type 0) → ((kind : ChoiceKind) → P kind) → EachKind P
+each_kind P all = (all Rate, all Initial, all Minimum)
+
 -- the choices of a kind in a tariff as its parts are those of its lines
 pub choices_are : (t : Tree) (kind : ChoiceKind) → choices_in kind (sound_of t) ≡ choices (part_of kind) t.lines
 choices_are t Rate = refl

@@ -159,12 +159,12 @@ sound_parts t w h =
     }
 
 -- the program has no more choices of a kind than there may be
-pub own_few : (kind : ChoiceKind) (t : Tree) (own : List (Choice (Said kind))) → IsWritable t → IsSound t
+pub own_few : (kind : ChoiceKind) (t : Tree) (own : List (Choice (Said kind))) → HasSoundParts t
     → AreChoices t.lines own (choices (part_of kind) t.lines) → length own ≤ 64
-own_few kind t own writable sound are =
+own_few kind t own parts are =
     omega (
       arith,
-      (sound_parts t writable sound).choice_count kind,
+      parts.choice_count kind,
       ap (λ (said : List (Said kind)). length said) are.values,
       length-map own (λ (c : Choice (Said kind)). c.value),
     )

@@ -1,12 +1,13 @@
 //! A tariff that was found to be sound.
-ghost use Rattle.std.specs.Prelude.{◌≡◌, ◌^◌, Some};
+ghost use Rattle.std.specs.Prelude.{◌≡◌, ◌≤◌, ◌^◌, Some, length};
 ghost use Rattle.tariff_check.specs.Cells.{cells_of};
 ghost use Rattle.tariff_check.specs.ChoiceLines.{choice_lines};
 ghost use Rattle.tariff_check.specs.Faults.{IsSound};
+ghost use Rattle.tariff_check.specs.Kinds.{EachKind, kept_of, part_of};
 ghost use Rattle.tariff_check.specs.Measure.{measure_of};
 ghost use Rattle.tariff_check.specs.Parts.{positions_of, step_of, supplement_of, zones_of};
 ghost use Rattle.tariff_check.specs.Resolved.{HasParts};
-ghost use Rattle.tariff_check.specs.SoundTariff.{own_conditions, place_of, sound_of, when_at};
+ghost use Rattle.tariff_check.specs.SoundTariff.{AreChoices, choices, own_conditions, place_of, sound_of, when_at};
 ghost use Rattle.tariff_syntax.specs.Condition.{condition_of};
 ghost use Rattle.tariff_syntax.specs.Meaning.{holds_if};
 ghost use Rattle.tariff_syntax.specs.Tree.{tree_of};
@@ -104,6 +105,9 @@ impl Checked {
     /// The parts, of a tariff that is known to be sound.
     pub(crate) fn parts(&self) -> &Parts
         ensures parts { HasParts (tree_of self.now).lines result.now }
+        ensures choices { EachKind (λ kind. AreChoices (tree_of self.now).lines (kept_of kind result.now.choices)
+            (choices (part_of kind) (tree_of self.now).lines)) }
+        ensures few { EachKind (λ kind. length (kept_of kind result.now.choices) ≤ 64) }
         ensures sound { IsSound (tree_of self.now) }
         ensures writable { IsWritable (tree_of self.now) }
     {
