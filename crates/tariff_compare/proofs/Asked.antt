@@ -1,7 +1,7 @@
 -- What is asked of tables in a context of a meter.
 use Rattle.std.proofs.Common.{◌≡◌, ap, sym, subst, refl, ℕ, Bool, true, false, ◌&&◌, ltb, List, [], ◌∷◌, length, pos}
 use Rattle.std.proofs.Common.{arith}
-use Rattle.std.proofs.lemmas.Bool.{lt-ltb}
+use Rattle.std.proofs.lemmas.Bool.{false≢true, lt-ltb}
 use Rattle.interval_clock.specs.Calendar.{date_after, date_place, weekday_of}
 use Rattle.tariff_compile.specs.Tables.{IsInRangeFor, TableParts, lines_in}
 use Rattle.tariff_syntax.specs.declared.context.Context.{Context}
@@ -42,10 +42,7 @@ unfolding context_by
 same_asked tables m constant weekday month_day holiday h₁ h₂ h₃ h₄ = rw (h₁, h₂, h₃, h₄) refl
 
 some_among : (xs : List ℕ) (day : ℕ) → is_among xs day ≡ true → ltb 0 (length xs) ≡ true
-some_among [] day h = absurd (differ h)
-  where
-    differ : false ≡ true → ⊥
-    differ h = cc
+some_among [] day h = absurd (false≢true h)
 some_among (x ∷ xs) day h = lt-ltb 0 (length (x ∷ xs)) (omega arith)
 
 range_by : (tables : TableParts) (m : MeterContext) → CanBeAsked tables m → IsInRangeFor tables (context_by tables m)

@@ -1,7 +1,7 @@
 -- For each context of a meter the grid has one in the same cell of both tariffs, which isn't later.
 use Rattle.std.proofs.Common.{◌≡◌, ◌≢◌, ◌∙◌, ◌⊎◌, ap, sym, subst, refl, ℕ, ◌≤◌, Bool, true, false, not, ◌||◌, eqb, List}
 use Rattle.std.proofs.Common.{[], ◌∷◌, inl, inr, pos, arith}
-use Rattle.std.proofs.lemmas.Bool.{eq-eqb, eqb-true}
+use Rattle.std.proofs.lemmas.Bool.{eq-eqb, eqb-true, false≢true, not-true}
 use Rattle.interval_clock.specs.Calendar.{date_after, date_place, weekday_of}
 use Rattle.tariff_calendar.specs.Lists.{count_at_most, lists_of}
 use Rattle.tariff_calendar.specs.Range.{IsSameCell}
@@ -17,7 +17,7 @@ use Rattle.tariff_compare.specs.declared.day.Day.{Day}
 use Rattle.tariff_compare.specs.declared.meter_context.MeterContext.{MeterContext}
 use Rattle.tariff_compare.proofs.Bridge.{among}
 use Rattle.tariff_compare.proofs.Found.{IsOfGrid, IsOn}
-use Rattle.tariff_compare.proofs.Frames.{both_parts, differ}
+use Rattle.tariff_compare.proofs.Frames.{both_parts}
 use Rattle.tariff_compare.proofs.GridDays.{IsOneOfDays, IsLike, day_at_place, kept_like, kept_place, place_of_day}
 use Rattle.tariff_compare.proofs.Levels.{IsAtOne}
 use Rattle.tariff_compare.proofs.MeterTimes.{days_within, minutes_within, tested_first, tested_last, time_test}
@@ -27,13 +27,9 @@ use Rattle.tariff_compare.proofs.Order.{AllLe}
 
 -- ---- days that are like another
 
-not_true : (a : Bool) → not a ≡ true → a ≡ false
-not_true true h = absurd (differ h)
-not_true false h = refl
-
 same_values : (a b : Bool) → is_same a b ≡ true → a ≡ b
 same_values true b h = sym h
-same_values false true h = absurd (differ h)
+same_values false true h = absurd (false≢true h)
 same_values false false h = refl
 
 -- days that mean the same to both tariffs
@@ -58,8 +54,8 @@ alike_parts d e h =
     let p₅ = both_parts (eqb d.other_band e.other_band) _ p₄.1 in
     let p₆ = both_parts (is_same d.holiday e.holiday) (is_same d.other_holiday e.other_holiday) p₅.1 in
     record {
-      first = not_true (is_edge d.number) p₁.0;
-      second = not_true (is_edge e.number) p₂.0;
+      first = not-true (is_edge d.number) p₁.0;
+      second = not-true (is_edge e.number) p₂.0;
       same = record {
         weekday = eqb-true d.weekday e.weekday p₃.0;
         band = eqb-true d.band e.band p₄.0;
@@ -80,8 +76,8 @@ like_same d e (inl same) = record {
 like_same d e (inr alike) = (alike_parts d e alike).same
 
 no_edge : (n edge : ℕ) → (edge ≡ 10956) ⊎ (edge ≡ 84006) → is_edge n ≡ false → n ≢ edge
-no_edge n edge (inl e) none = λ same. absurd (differ (sym none ∙ rw (eq-eqb n 10956 (same ∙ e)) refl))
-no_edge n edge (inr e) none = λ same. absurd (differ (sym none ∙ by (eqb n 10956) (eq-eqb n 84006 (same ∙ e))))
+no_edge n edge (inl e) none = λ same. absurd (false≢true (sym none ∙ rw (eq-eqb n 10956 (same ∙ e)) refl))
+no_edge n edge (inr e) none = λ same. absurd (false≢true (sym none ∙ by (eqb n 10956) (eq-eqb n 84006 (same ∙ e))))
   where
     by : (b : Bool) → eqb n 84006 ≡ true → (b || eqb n 84006) ≡ true
     by true h = refl

@@ -1,5 +1,6 @@
 -- What differs first between two tariffs.
 use Rattle.std.proofs.Common.{◌≡◌, ◌∙◌, ap, sym, subst, refl, ℕ, true, false, is_some, Option, Some, None, option_map}
+use Rattle.std.proofs.lemmas.Bool.{false≢true}
 use Rattle.std.specs.Option.{option_or}
 use Rattle.tariff_syntax.specs.Tree.{Tree}
 use Rattle.tariff_check.specs.declared.choice.ChoiceKind.{ChoiceKind}
@@ -27,9 +28,6 @@ not_true : (o : Option ChoiceKind) → (is_some o ≡ true → ⊥) → o ≡ No
 not_true None h = refl
 not_true (Some kind) h = absurd (h refl)
 
-differ : false ≡ true → ⊥
-differ h = cc
-
 -- the parts of a chain of two
 first_none : (a b : Option Difference) → option_or a b ≡ None → (a ≡ None) × (b ≡ None)
 first_none None b h = (refl, h)
@@ -49,7 +47,7 @@ no_part t u k (Some n) are is none =
     (difference_is t u k n are.first are.second is.context (other_context t u k n are is.context)) ∙ is.has) none)
   where
     found : (o : Option ChoiceKind) → is_some o ≡ true → option_map (λ (kind : ChoiceKind). In kind n) o ≡ None → ⊥
-    found None some none = differ some
+    found None some none = false≢true some
     found (Some kind) some none = some_none none
 
 pub none_is_same : (t u : Tree) (k : ℕ) → HasTables t k → HasTables u k → difference_of t u k ≡ None → AreSame t u k
@@ -64,7 +62,7 @@ none_is_same t u k t_has u_has h =
 part_none : (t u : Tree) (k : ℕ) (r : Option MeterContext) → AreSame t u k
     → IsFirstOrNone t (λ m. is_met t u k Differs m ≡ true) r → part_in (side_of t k) (side_of u k) r ≡ None
 part_none t u k None same is = refl
-part_none t u k (Some n) same is = absurd (differ (sym (ap is_some (same.contexts n is.context)) ∙ is.has))
+part_none t u k (Some n) same is = absurd (false≢true (sym (ap is_some (same.contexts n is.context)) ∙ is.has))
 
 pub same_is_none : (t u : Tree) (k : ℕ) → HasTables t k → HasTables u k → AreSame t u k → difference_of t u k ≡ None
 same_is_none t u k t_has u_has same =

@@ -2,7 +2,7 @@
 -- what differs in one differs in the other, and where nothing differs all is the same.
 use Rattle.std.proofs.Common.{◌≡◌, ◌∙◌, ap, refl, ℕ, ◌+◌, ◌-◌, Bool, true, false, not, ◌&&◌, eqb, if◌then◌else◌, List}
 use Rattle.std.proofs.Common.{[], ◌∷◌, find, is_some, get_or, Option, Some, None, inl, inr, arith}
-use Rattle.std.proofs.lemmas.Bool.{eqb-true, ne_eqb}
+use Rattle.std.proofs.lemmas.Bool.{eqb-true, false≢true, ne_eqb}
 use Rattle.tariff_check.proofs.Laws.{lines_that_hold_are_there-initial, lines_that_hold_are_there-rate}
 use Rattle.tariff_check.specs.Amounts.{initial_by, place_number}
 use Rattle.tariff_check.specs.Faults.{IsSound}
@@ -21,7 +21,7 @@ use Rattle.tariff_compare.specs.Kinds.{have_same_minimum, in_force, is_asked, is
 use Rattle.tariff_compare.specs.Kinds.{place_before, place_in, rate_in}
 use Rattle.tariff_compare.specs.Sides.{in_force_by, side_of}
 use Rattle.tariff_compare.specs.declared.meter_context.MeterContext.{MeterContext}
-use Rattle.tariff_compare.proofs.Frames.{both_parts, differ, none_found}
+use Rattle.tariff_compare.proofs.Frames.{both_parts, none_found}
 use Rattle.tariff_compare.proofs.Numbers.{IsIn}
 
 number_back : (o : Option ℕ) → place_before (place_number o) ≡ o
@@ -72,12 +72,12 @@ some_found p q wider (kind ∷ kinds) h = by (p kind) (q kind) (wider kind) (som
         → is_some (if a then Some kind else find p kinds) ≡ true
         → is_some (if b then Some kind else find q kinds) ≡ true
     by a true carried later h = refl
-    by true false carried later h = absurd (differ (carried refl))
+    by true false carried later h = absurd (false≢true (carried refl))
     by false false carried later h = later h
 
 and_carried : (a b c : Bool) → (a ≡ true → b ≡ true) → (a && c) ≡ true → (b && c) ≡ true
 and_carried true b c carried h = rw (carried refl) h
-and_carried false b c carried h = absurd (differ h)
+and_carried false b c carried h = absurd (false≢true h)
 
 -- what differs in a context differs in another with the same in force in which each kind is asked that is in the first
 pub difference_carried : (n c : MeterContext) (one other : InForce)

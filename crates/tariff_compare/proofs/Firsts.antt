@@ -1,5 +1,6 @@
 -- The first context that the grid has is the first of the meter.
 use Rattle.std.proofs.Common.{◌≡◌, ◌∙◌, sym, ℕ, Bool, true, false, Option, Some, None}
+use Rattle.std.proofs.lemmas.Bool.{false≢true}
 use Rattle.tariff_compile.specs.Tables.{tables_of}
 use Rattle.tariff_check.specs.Parts.{positions_of, zones_of}
 use Rattle.tariff_syntax.specs.Tree.{Tree}
@@ -59,10 +60,7 @@ met_there t u k question n c are is cover h =
     ∙ met_carried t u k question n c t_is u_is h
 
 not_both : (b : Bool) → b ≡ true → b ≡ false → ⊥
-not_both b is not = differ (sym not ∙ is)
-  where
-    differ : false ≡ true → ⊥
-    differ h = cc
+not_both b is not = false≢true (sym not ∙ is)
 
 first_by_cases : (t u : Tree) (k : ℕ) (question : Question) (r : Option MeterContext) → AreCompared t u k
     → IsFirstOf (is_met_by (side_of t k) (side_of u k) question) (IsOfGrid (grid_of (tables_of t k) (tables_of u k))) r

@@ -1,6 +1,7 @@
 -- What is found in a grid is the first of its contexts that meets the test.
 use Rattle.std.proofs.Common.{◌≡◌, ◌∙◌, ap, sym, refl, ℕ, ◌<◌, Bool, true, false, if◌then◌else◌, ◌∷◌, [], Some, None}
 use Rattle.std.proofs.Common.{arith}
+use Rattle.std.proofs.lemmas.Bool.{false≢true}
 use Rattle.tariff_compile.specs.Cells.{IsBefore}
 use Rattle.tariff_compare.specs.Contexts.{IsEarlier, day_place}
 use Rattle.tariff_compare.specs.Grids.{GridLists, is_meter_time}
@@ -208,10 +209,7 @@ time_by met grid from true is ordered =
     (ticks_first met grid from ordered)
 time_by met grid from false is ordered = λ n kind.
     let there = rw (kind.0.0.1, kind.0.1) at kind.1.0 in
-    absurd (differ (sym is ∙ there))
-  where
-    differ : false ≡ true → ⊥
-    differ h = cc
+    absurd (false≢true (sym is ∙ there))
 
 time_first : (met : MeterContext → Bool) (grid : GridLists) (from : MeterContext) → IsOrderedGrid grid
     → IsFirstOf met (λ n. Fix4 from n × FreeTime grid n) (if_time met grid from)

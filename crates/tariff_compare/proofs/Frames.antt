@@ -1,7 +1,7 @@
 -- The frame of two tariffs: nothing differs exactly where it is the same.
 use Rattle.std.proofs.Common.{◌≡◌, ◌∙◌, ◌⊎◌, ap, sym, refl, ℕ, Bool, true, false, not, ◌&&◌, eqb, if◌then◌else◌, List}
 use Rattle.std.proofs.Common.{[], ◌∷◌, find, Option, Some, None, option_map, inl, inr, arith}
-use Rattle.std.proofs.lemmas.Bool.{cases_lt, eq-eqb, eqb-true}
+use Rattle.std.proofs.lemmas.Bool.{cases_lt, eq-eqb, eqb-true, false≢true, not-false}
 use Rattle.drive_modes.specs.declared.meterage.Rounding.{Rounding}
 use Rattle.drive_modes.specs.declared.meterage.Rounding.TheVariants.{Behind, Ahead}
 use Rattle.tariff_check.proofs.Laws.{supplements_are_numbered_to_16}
@@ -18,9 +18,6 @@ use Rattle.tariff_compare.specs.declared.difference.Difference.TheVariants.{Deci
 use Rattle.tariff_compare.specs.declared.difference.Difference.TheVariants.{Supplement}
 use Rattle.tariff_compare.proofs.Numbers.{IsIn, range_within}
 
-pub differ : false ≡ true → ⊥
-differ h = cc
-
 some_none : {A : Type 0} {a : A} → Some a ≡ None → ⊥
 some_none h = cc
 
@@ -33,8 +30,8 @@ passed d false rest h = absurd (some_none h)
 
 same_roundings : (a b : Rounding) → is_same_rounding a b ≡ true → a ≡ b
 same_roundings Behind Behind h = refl
-same_roundings Behind Ahead h = absurd (differ h)
-same_roundings Ahead Behind h = absurd (differ h)
+same_roundings Behind Ahead h = absurd (false≢true h)
+same_roundings Ahead Behind h = absurd (false≢true h)
 same_roundings Ahead Ahead h = refl
 
 pair_same : (a b : ℕ × Rounding) → a.0 ≡ b.0 → a.1 ≡ b.1 → a ≡ b
@@ -58,23 +55,19 @@ none_found p (x ∷ xs) h n there = by (p x) refl h there (λ rest later. none_f
     by false is found (inl e) later = ap p e ∙ is
     by false is found (inr more) later = later found more
 
-not_false : (b : Bool) → not b ≡ false → b ≡ true
-not_false true h = refl
-not_false false h = absurd (differ (sym h))
-
 -- two tests that pass together each pass
 pub both_parts : (a b : Bool) → (a && b) ≡ true → (a ≡ true) × (b ≡ true)
 both_parts true b h = (refl, h)
-both_parts false b h = absurd (differ h)
+both_parts false b h = absurd (false≢true h)
 
 both_passed : (a b : Bool) → (if a then b else false) ≡ true → (a ≡ true) × (b ≡ true)
 both_passed true b h = (refl, h)
-both_passed false b h = absurd (differ h)
+both_passed false b h = absurd (false≢true h)
 
 same_supplements : (a b : Option supplements.Supplement) → is_same_supplement a b ≡ true → a ≡ b
 same_supplements None None h = refl
-same_supplements None (Some r) h = absurd (differ h)
-same_supplements (Some s) None h = absurd (differ h)
+same_supplements None (Some r) h = absurd (false≢true h)
+same_supplements (Some s) None h = absurd (false≢true h)
 same_supplements (Some s) (Some r) h =
     let parts = both_passed (eqb s.amount r.amount) (eqb s.max r.max) h in
     let amount = eqb-true s.amount r.amount parts.0 in
@@ -90,7 +83,7 @@ supplement_same t u number t_is u_is none =
     elim (cases_lt 0 number) [
       | inl from ↦ elim (cases_lt number 17) [
         | inl to ↦
-            let same = not_false (is_same_supplement (supplement_of t.lines number) (supplement_of u.lines number))
+            let same = not-false (is_same_supplement (supplement_of t.lines number) (supplement_of u.lines number))
             (none_found (λ n. not (is_same_supplement (supplement_of t.lines n) (supplement_of u.lines n)))
             supplement_numbers none number (in_numbers number (omega arith, omega arith))) in
             same_supplements (supplement_of t.lines number) (supplement_of u.lines number) same

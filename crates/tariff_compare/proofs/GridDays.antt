@@ -1,7 +1,7 @@
 -- The days of the grid: they are in order, and for each day there is one that is like it and no later.
 use Rattle.std.proofs.Common.{◌≡◌, ◌⊎◌, ap, sym, subst, refl, ℕ, zero, suc, ◌+◌, ◌-◌, ◌<◌, ◌≤◌, Bool, true, false, ◌||◌}
 use Rattle.std.proofs.Common.{if◌then◌else◌, List, [], ◌∷◌, ◌++◌, inl, inr, arith}
-use Rattle.std.proofs.lemmas.Bool.{cases_lt}
+use Rattle.std.proofs.lemmas.Bool.{cases_lt, false≢true}
 use Rattle.std.proofs.lemmas.Bool.Decides.{nat_tests}
 use Rattle.std.specs.List.{list_any}
 use Rattle.tariff_compile.specs.Tables.{TableParts}
@@ -81,10 +81,7 @@ kept_place one other (suc count) d h =
 
 alike_there : (e : Day) (ds : List Day) → list_any (λ x. is_alike x e) ds ≡ true
     → (d : Day) × IsOneOfDays d ds × (is_alike d e ≡ true)
-alike_there e [] h = absurd (differ h)
-  where
-    differ : false ≡ true → ⊥
-    differ h = cc
+alike_there e [] h = absurd (false≢true h)
 alike_there e (x ∷ ds) h = by (is_alike x e) refl h (λ more. alike_there e ds more)
   where
     by : (b : Bool) → is_alike x e ≡ b → (b || list_any (λ x. is_alike x e) ds) ≡ true

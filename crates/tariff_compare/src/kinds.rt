@@ -92,27 +92,11 @@ fn first_other(
     ensures { result ≡ find (is_other m.now (in_force_by one.now x.now) (in_force_by other.now y.now)) kinds.now }
 {
     for kind in kinds {
-        if is_other(*kind, one, other, m, x, y) {
+        if is_asked(*kind, m) && !is_same_of(*kind, one, other, x, y) {
             return Some(*kind);
         }
     }
     None
-}
-
-/// Whether a kind differs in a context.
-fn is_other(
-    kind: ChoiceKind,
-    one: &Side,
-    other: &Side,
-    m: &MeterContext,
-    x: &Context,
-    y: &Context,
-) -> bool
-    requires one { IsInRangeFor one.now.tables x.now }
-    requires other { IsInRangeFor other.now.tables y.now }
-    ensures { result ≡ is_other m.now (in_force_by one.now x.now) (in_force_by other.now y.now) kind }
-{
-    is_asked(kind, m) && !is_same_of(kind, one, other, x, y)
 }
 
 /// Whether lines of a kind make no difference between what is in force on both sides.
