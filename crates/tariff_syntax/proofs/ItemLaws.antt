@@ -196,7 +196,7 @@ per_is decimals unit ts x ps e =
     let more = part.measure three.0.0 ∷ end in
     let P : (ℕ × ℕ) × List Token → Type 0 =
     λ y. AreParts decimals y.1 ps → AreParts decimals ts (per_parts unit y.0.0 y.0.1 ps) in
-    subst P (some_same ((one.0.0, three.0.0), four.0) x four.2)
+    subst P {x = ((one.0.0, three.0.0), four.0)} (some_same ((one.0.0, three.0.0), four.0) x four.2)
     (λ h. money_is decimals ts one.0 (part.name (codes "per") ∷ more) one.1
     (name_is decimals (codes "per") one.0.1 two.0 more two.1
     (measure_is decimals two.0 three.0 end three.1 (name_is decimals unit three.0.1 four.0 ps four.1 h))))

@@ -1,7 +1,9 @@
 use Rattle.std.proofs.Common.{refl, sym, subst}
 use Rattle.tariff_check.proofs.Laws.{hirings_begin_with_first_lines-fit}
 use Rattle.tariff_check.specs.Amounts.{IsFitInitial}
+use Rattle.tariff_check.specs.SoundTariff.{sound_of}
 use Rattle.tariff_syntax.specs.Tree.{tree_of}
+use Rattle.verify_bench.specs.Fees.{fees_of_hiring}
 use Rattle.verify_bench.specs.declared.fees.HiringFees.{HiringFees}
 use Rattle.verify_bench.proofs.fees.fees_of_hiring.Goals as goal
 
@@ -25,6 +27,7 @@ returns-clause-fees c =
 
 pub returns-clause-fit : goal.returns-clause-fit
 returns-clause-fit c =
-    subst (λ (fees : HiringFees). IsFitInitial fees.amounts) (sym (returns-clause-fees c))
+    subst (λ (fees : HiringFees). IsFitInitial fees.amounts)
+    {x = fees_of_hiring (sound_of (tree_of c.args.checked.now)) c.args.x.now} (sym (returns-clause-fees c))
     (hirings_begin_with_first_lines-fit (tree_of c.args.checked.now) c.args.x.now
     c.initials-initials.ensures.writable c.initials-initials.ensures.sound)
