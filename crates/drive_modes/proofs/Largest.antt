@@ -1,12 +1,13 @@
 -- The largest fare is shown from some number of display steps on.
-use Rattle.std.proofs.Common.{◌≡◌, ◌⊎◌, inl, inr, ℕ, zero, suc, ◌+◌, ◌*◌, ◌<◌, ◌≤◌, min, refl, ap, arith}
+use Rattle.std.proofs.Common.{◌≡◌, ◌⊎◌, inl, inr, ℕ, zero, suc, ◌*◌, ◌<◌, ◌≤◌, min, refl, arith}
 use Rattle.std.proofs.lemmas.Bool.{cases_lt}
 use Rattle.std.proofs.lemmas.Nat.{mul-le}
+use Rattle.taxi_units.specs.Money.{largest_display_step}
 use Rattle.drive_modes.specs.Fare.{shown_fare}
 
 -- the value of at most so many display steps
-pub steps_value : (step n : ℕ) → step ≤ 1000000 → step * min n 100000000 ≤ 100000000000000
-steps_value step n small = mul-le step (min n 100000000) 1000000 100000000 small (omega arith)
+pub steps_value : (step n : ℕ) → step ≤ largest_display_step → step * min n 100000000 ≤ 100000000000000
+steps_value step n small = mul-le step (min n 100000000) largest_display_step 100000000 small (omega arith)
 
 large : (initial minimum step n : ℕ) → 100000000 ≤ n
     → shown_fare initial minimum step (min n 100000000) ≡ shown_fare initial minimum step n

@@ -4,7 +4,7 @@ ghost use Rattle.std.specs.Prelude.{◌≡◌, ℕ, ◌+◌, ◌-◌, ◌*◌, �
 ghost use Rattle.std.specs.List.{fold};
 ghost use Rattle.drive_modes.specs.Fare.{Opening, added, opening_of, quotient, saved, shown_fare};
 ghost use Rattle.drive_modes.specs.Fare.{steps_above, steps_of};
-ghost use Rattle.taxi_units.specs.Money.{largest_amount};
+ghost use Rattle.taxi_units.specs.Money.{largest_amount, largest_display_step};
 
 use taxi_units::LARGEST_AMOUNT;
 
@@ -113,7 +113,7 @@ impl Meterage {
         requires steps { self.now.steps_full ≤ 4 * 10 ^ 17 }
         requires initial { initial ≤ largest_amount }
         requires minimum { minimum ≤ largest_amount }
-        requires step { step ≤ 1000000 }
+        requires step { step ≤ largest_display_step }
         ensures exact { result ≡ shown_fare initial minimum step (steps_of rounding self.now) }
         ensures sum { (cover above modulus charged : ℕ)
             → let opening : Opening = record { cover = cover; above = above; modulus = modulus } in

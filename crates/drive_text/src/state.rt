@@ -1,5 +1,5 @@
 //! Where a reader stands, and what one part of a piece changes of it.
-ghost use Rattle.std.specs.Prelude.{◌≡◌, ◌∷◌, ◌++◌, ◌+◌, ◌<◌, ◌^◌, [], List, length, true, false, if◌then◌else◌, ◌==◌, IfOk, IfErr, OnErr};
+ghost use Rattle.std.specs.Prelude.{◌≡◌, ◌∷◌, ◌++◌, ◌+◌, ◌<◌, ◌^◌, [], List, length, false, if◌then◌else◌, ◌==◌, IfOk, IfErr, OnErr};
 ghost use Rattle.arrayvec.specs.ArrayVec.{array_vec_len};
 ghost use Rattle.taxi_units.specs.Reading.{Gives};
 ghost use Rattle.drive_text.specs.declared.run.Run.{Run};

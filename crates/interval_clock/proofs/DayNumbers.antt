@@ -1,11 +1,11 @@
 -- The day numbers of dates.
 use Rattle.std.proofs.Common.{◌≡◌, ℕ, ◌*◌, ◌/◌, ◌≤◌, true, ℤ, pos, ◌-ℤ◌, ◌*ℤ◌, int_div, inl, inr, arith, ap}
-use Rattle.std.specs.Cmp.Derive.{both_true}
-use Rattle.std.proofs.lemmas.Bool.{cases_lt, le-leb}
+use Rattle.std.proofs.lemmas.Bool.{cases_lt}
 use Rattle.jiff_core.specs.declared.civil.date.Date.{Date}
 use Rattle.jiff_core.specs.Date.{epoch_day}
 use Rattle.jiff_core.proofs.SignedLemmas.{signed_arith}
 use Rattle.interval_clock.specs.Calendar.{days_of_years, days_of_month, day_number_of, is_date, IsDate, IsDateOf}
+use Rattle.taxi_units.specs.DateTest.{date_test}
 use Rattle.interval_clock.proofs.CalendarDays.{days_of_years-later}
 use Rattle.interval_clock.proofs.Dates.{epoch_day_is_date}
 
@@ -30,8 +30,7 @@ is_date_there d year month date e f g =
     let there = epoch_day_is_date d year e in
     let within : (1 ≤ date) × (date ≤ days_of_month year month) = rw (← g, ← f) there.date_in in
     let months : (1 ≤ month) × (month ≤ 12) = rw (← f) d.month_in in
-    both_true (le-leb 1 month months.0) (both_true (le-leb month 12 months.1)
-    (both_true (le-leb 1 date within.0) (le-leb date (days_of_month year month) within.1)))
+    (date_test year month date).decides.1 (months, within.0, within.1)
 
 -- a date of jiff, by its numbers
 pub number_there : (d : Date) (year month date : ℕ) → 1970 ≤ year → d.year ≡ pos year → d.month ≡ month → d.day ≡ date

@@ -1,15 +1,16 @@
 -- A plain text is read as its rule, and what is read is in its ranges.
-use Rattle.std.proofs.Common.{◌≡◌, ◌∙◌, ℕ, zero, suc, ◌-◌, ◌/◌, ◌%◌, ◌≤◌, ℤ, pos, negsuc, true, leb, get_or, List, []}
-use Rattle.std.proofs.Common.{◌∷◌, ◌++◌, length, Result, Ok, refl, sym, arith, length-append}
+use Rattle.std.proofs.Common.{◌≡◌, ◌∙◌, ℕ, suc, ◌-◌, ◌/◌, ◌%◌, ◌≤◌, ℤ, pos, negsuc, true, leb, get_or, List, []}
+use Rattle.std.proofs.Common.{◌∷◌, ◌++◌, length, Result, Ok, refl, sym, arith, inl, inr, length-append}
 use Rattle.std.specs.Prelude.{codes}
 use Rattle.std.specs.Fmt.{decimal}
 use Rattle.std.specs.List.{list_all}
-use Rattle.std.proofs.lemmas.Bool.{leb-true, le-leb}
-use Rattle.std.proofs.lemmas.Bool.Decides.{Decides-and}
+use Rattle.std.proofs.lemmas.Bool.{cases_lt}
 use Rattle.std.proofs.lemmas.Int.{ints}
+use Rattle.std.proofs.lemmas.List.{get_or_past}
 use Rattle.interval_clock.specs.Offsets.{IsOffset}
 use Rattle.taxi_units.specs.Digits.{IsFigure}
 use Rattle.taxi_units.specs.Number.{padded_text}
+use Rattle.taxi_units.specs.Test.{at_most, each}
 use Rattle.taxi_units.proofs.Laws.{numbers_are_short, numbers_are_written_as_figures}
 use Rattle.taxi_units.proofs.Laws.{padded_numbers_are_written_as_figures}
 use Rattle.offset_rules.specs.Forms.{IsChangeText, IsNamedLine, IsSeconds, IsTime}
@@ -86,18 +87,11 @@ plain_lines rule is = record {
 
 short_names : (names : List (List ℕ)) → list_all (λ name. leb (length name) 6) names ≡ true → (place : ℕ)
     → length (get_or names place []) ≤ 6
-short_names [] all place = omega arith
-short_names (name ∷ names) all place = by name names place ((Decides-and (leb (length name) 6)
-    (list_all (λ name. leb (length name) 6) names) (leb-true (length name) 6, le-leb (length name) 6) (
-      λ (h : list_all (λ name. leb (length name) 6) names ≡ true). h,
-      λ (h : list_all (λ name. leb (length name) 6) names ≡ true). h,
-    )).0 all) (λ rest k. short_names names rest k)
-  where
-    by : (name : List ℕ) (names : List (List ℕ)) (place : ℕ) → (length name ≤ 6)
-        × (list_all (λ name. leb (length name) 6) names ≡ true) → (list_all (λ name. leb (length name) 6) names ≡ true
-        → (k : ℕ) → length (get_or names k []) ≤ 6) → length (get_or (name ∷ names) place []) ≤ 6
-    by name names zero both rest = both.0
-    by name names (suc place) both rest = rest both.1 place
+short_names names all place =
+    elim (cases_lt place (length names)) [
+      | inl lt ↦ (each (λ (name : List ℕ). at_most (length name) 6) names).decides.0 all place [] lt
+      | inr past ↦ rw (get_or_past names place [] past) (omega arith)
+    ]
 
 short_offset : (offset : ℤ) → IsOffset offset → length (offset_text offset) ≤ 6
 short_offset (pos n) is =

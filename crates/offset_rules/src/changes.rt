@@ -1,5 +1,5 @@
 //! The dates and seconds of changes.
-ghost use Rattle.std.specs.Prelude.{◌≡◌, ◌+◌, ◌*◌, ◌≤◌, pos};
+ghost use Rattle.std.specs.Prelude.{◌≡◌, ◌≤◌, pos};
 ghost use Rattle.interval_clock.specs.Calendar.{IsDate, IsDateOf, day_number_of, weekday_of};
 ghost use Rattle.offset_rules.specs.Changes as spec;
 ghost use Rattle.offset_rules.specs.Changes.{IsDateOfChange};

@@ -1,5 +1,5 @@
 -- What a call that failed leaves, and what a count of faults says of a call behind others that left it.
-use Rattle.std.proofs.Common.{◌≡◌, ℕ, true, false, inl, inr, Result, Ok, Err, IfOk, IsErr, is_err}
+use Rattle.std.proofs.Common.{◌≡◌, ℕ, true, false, inl, Result, Ok, Err, IfOk, IsErr, is_err}
 use Rattle.std.proofs.Common.{ap, sym, subst, ◌∙◌}
 use Rattle.std.proofs.lemmas.Bool.{false≢true}
 use Rattle.outside.specs.Faults.{HasCause, MayRise, RisesOnlyIf, Rose}
@@ -32,12 +32,9 @@ rises_not none same = record { kept = λ _. same; rose = λ failed. absurd (none
 pub may_rise_not : {failed : Type 0} {before now : ℕ} → now ≡ before → MayRise failed before now
 may_rise_not same = record { kept = λ _. same; most = inl same }
 
--- a count that rose rises only if something failed, and may rise
+-- a count that rose rises only if something failed
 pub rises_by : {failed : Type 0} {before now : ℕ} → failed → Rose before now → RisesOnlyIf failed before now
 rises_by failed rose = record { kept = λ none. absurd (none failed); rose = λ _. rose }
-
-pub may_rise_by : {failed : Type 0} {before now : ℕ} → failed → Rose before now → MayRise failed before now
-may_rise_by failed rose = record { kept = λ none. absurd (none failed); most = inr rose }
 
 -- a count that may rise by one thing may rise by whatever that leads to
 pub may_rise_more : {failed more : Type 0} {before now : ℕ} → (failed → more) → MayRise failed before now

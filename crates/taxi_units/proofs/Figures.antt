@@ -1,16 +1,15 @@
 -- Numbers of a width and a range are read by their digits.
-use Rattle.std.proofs.Common.{◌≡◌, ◌∙◌, ℕ, ◌+◌, ◌^◌, ◌<◌, ◌≤◌, ◌&&◌, ◌↔◌, Bool, true, false, if◌then◌else◌, Decides}
-use Rattle.std.proofs.Common.{leb, List, []}
-use Rattle.std.proofs.Common.{◌∷◌, ◌++◌, length, Option, Some, None, refl, sym, ap, subst, arith, eqb, length-append}
+use Rattle.std.proofs.Common.{◌≡◌, ◌∙◌, ℕ, ◌+◌, ◌^◌, ◌<◌, ◌≤◌, ◌↔◌, true, List, [], ◌∷◌, ◌++◌, length, Option, Some}
+use Rattle.std.proofs.Common.{None, refl, sym, ap, subst, arith, length-append}
 use Rattle.std.specs.Fmt.{decimal}
 use Rattle.std.proofs.Math.Nat.{pow-le-pow_right}
-use Rattle.std.proofs.lemmas.Bool.{eqb-true, leb-true, le-leb}
-use Rattle.std.proofs.lemmas.Bool.Decides.{Decides-and}
 use Rattle.std.proofs.lemmas.Fmt.{decimal_is_IsNumeral_wide}
 use Rattle.std.proofs.lemmas.List.{append-nil}
+use Rattle.std.proofs.lemmas.Option.{cond_some}
 use Rattle.taxi_units.specs.Digits.{AreDigitsOf, IsFigure}
 use Rattle.taxi_units.specs.Number.{IsFigureAt, figure_at, figure_in, number_at, padded_text, where_alone, where_fits}
 use Rattle.taxi_units.specs.Reading.{◌>>=◌}
+use Rattle.taxi_units.specs.Test.{Test, at_most, same, within, ◌&◌}
 use Rattle.taxi_units.proofs.Lengths.{numbers_are_short, padded_numbers_fill_the_width}
 use Rattle.taxi_units.proofs.Numbers.{numbers_are_read_by_their_digits}
 use Rattle.taxi_units.proofs.Written.{digits_of_padded}
@@ -21,27 +20,15 @@ read_on : {A B : Type 0} (found : Option A) (on : A → Option B) (y : B) → fo
 read_on (Some x) on y e = (x, refl, e)
 read_on None on y e = absurd cc
 
--- what a test lets through
-let_through : {A : Type 0} (b : Bool) (x y : A) → (if b then Some x else None) ≡ Some y → (b ≡ true) × (x ≡ y)
-let_through true x y e = (refl, cc)
-let_through false x y e = absurd cc
-
 none_left : (xs : List ℕ) → length xs ≡ 0 → xs ≡ []
 none_left [] e = refl
 none_left (x ∷ xs) e = absurd (omega arith)
 
 module _ (fewest most low high : ℕ) where
-  abbrev fits : List ℕ → ℕ × List ℕ → Bool
-  fits text x =
-      leb (length x.1 + fewest) (length text)
-      && (leb (length text) (length x.1 + most) && (leb low x.0 && leb x.0 high))
-
-  fits_decides : (text : List ℕ) (x : ℕ × List ℕ) → Decides (fits text x)
-      ((length x.1 + fewest ≤ length text) × ((length text ≤ length x.1 + most) × ((low ≤ x.0) × (x.0 ≤ high))))
-  fits_decides text x =
-      Decides-and _ _ (leb-true (length x.1 + fewest) (length text), le-leb (length x.1 + fewest) (length text))
-      (Decides-and _ _ (leb-true (length text) (length x.1 + most), le-leb (length text) (length x.1 + most))
-      (Decides-and _ _ (leb-true low x.0, le-leb low x.0) (leb-true x.0 high, le-leb x.0 high)))
+  -- a number that was found has so many digits, and is in the range
+  abbrev fit_test : List ℕ → ℕ × List ℕ → Test
+  fit_test text x =
+      at_most (length x.1 + fewest) (length text) & (at_most (length text) (length x.1 + most) & within low x.0 high)
 
   figure_is : (text : List ℕ) (x : ℕ × List ℕ) → figure_at fewest most low high text ≡ Some x
       → IsFigureAt fewest most low high text x.0 x.1
@@ -49,8 +36,8 @@ module _ (fewest most low high : ℕ) where
   figure_is text x e =
       let found = read_on (number_at text) (where_fits fewest most low high text) x e in
       let y = found.0 in
-      let through = let_through (fits text y) y x found.2 in
-      let within = (fits_decides text y).0 through.0 in
+      let through = cond_some (fit_test text y).passes y x found.2 in
+      let within = (fit_test text y).decides.0 through.0 in
       let is = (numbers_are_read_by_their_digits text y.1 y.0).0 found.1 in
       let long : length text ≡ length is.0 + length y.1 = ap length is.1 ∙ length-append is.0 y.1 in
       let figure : IsFigure fewest most low high is.0 y.0 = record {
@@ -79,7 +66,7 @@ module _ (fewest most low high : ℕ) where
       let read : number_at text ≡ Some (value, rest) =
       (numbers_are_read_by_their_digits text rest value).1 (is.0, is.1, digits, is.3) in
       let long : length text ≡ length is.0 + length rest = ap length is.1 ∙ length-append is.0 rest in
-      let within : fits text (value, rest) ≡ true = (fits_decides text (value, rest)).1
+      let within : (fit_test text (value, rest)).passes ≡ true = (fit_test text (value, rest)).decides.1
       (omega (arith, is.2.written.some, long), (omega (arith, is.2.written.few, long), (is.2.above, is.2.below))) in
       rw (read, within) refl
 
@@ -94,9 +81,9 @@ module _ (fewest most low high : ℕ) where
   whole_is text value e =
       let found = read_on (figure_at fewest most low high text) where_alone value e in
       let y = found.0 in
-      let through = let_through (eqb (length y.1) 0) y.0 value found.2 in
+      let through = cond_some (same (length y.1) 0).passes y.0 value found.2 in
       let is = figure_is text y found.1 in
-      let none : y.1 ≡ [] = none_left y.1 (eqb-true (length y.1) 0 through.0) in
+      let none : y.1 ≡ [] = none_left y.1 ((same (length y.1) 0).decides.0 through.0) in
       let whole : text ≡ is.0 = is.1 ∙ (ap (λ (rest : List ℕ). is.0 ++ rest) none ∙ append-nil is.0) in
       subst (IsFigure fewest most low high text) through.1
       (subst (λ (digits : List ℕ). IsFigure fewest most low high digits y.0) (sym whole) is.2)

@@ -1,6 +1,7 @@
 pub mod Bytes
 pub mod Calendar
 pub mod Counted
+pub mod DateTest
 pub mod Decimal
 pub mod Digits
 pub mod Halving

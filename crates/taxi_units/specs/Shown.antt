@@ -7,7 +7,7 @@ use Rattle.taxi_units.specs.declared.receipt.Receipt.{Receipt}
 use Rattle.taxi_units.specs.declared.receipt.Stamp.{Stamp}
 use Rattle.taxi_units.specs.Calendar.{IsDate}
 use Rattle.taxi_units.specs.Limits.{largest_supplements, number_most}
-use Rattle.taxi_units.specs.Money.{largest_amount}
+use Rattle.taxi_units.specs.Money.{largest_amount, largest_display_step}
 
 -- decimals are those of an amount of money if they are 0 to 3
 abbrev pub AreDecimals : ℕ → Type 0
@@ -42,7 +42,7 @@ pub record IsReceipt (receipt : Receipt) : Type 0 where
   pub initial : receipt.initial ≤ largest_amount
   pub minimum : receipt.minimum ≤ largest_amount
   pub steps : receipt.steps < 10 ^ 18
-  pub step : (1 ≤ receipt.step) × (receipt.step ≤ 1000000)
+  pub step : (1 ≤ receipt.step) × (receipt.step ≤ largest_display_step)
   pub fare : receipt.fare ≡ fare_of receipt
   pub supplements : receipt.supplements ≤ largest_supplements
   pub decimals : AreDecimals receipt.decimals

@@ -1,17 +1,23 @@
 -- For proofs: tests, each with the fact that it decides, and how longer tests are made of shorter ones. So a list of
 -- comparisons passes exactly where each of them holds.
-use Rattle.std.specs.Prelude.{◌≡◌, ◌⊎◌, ℕ, ◌≤◌, ◌<◌, Bool, true, false, ◌&&◌, ◌||◌, ◌==◌, nat_le, nat_lt}
-use Rattle.std.specs.Prelude.{if◌then◌else◌, List, Option, Some, None, IfSome, Decides}
+use Rattle.std.specs.Prelude.{◌≡◌, ◌⊎◌, ℕ, zero, suc, ◌≤◌, ◌<◌, Bool, true, false, ◌&&◌, ◌||◌, ◌==◌, nat_le, nat_lt, T}
+use Rattle.std.specs.Prelude.{⊤, ℤ, ◌≤ℤ◌, int_le, if◌then◌else◌, List, Option, Some, None, IfSome, Decides}
+use Rattle.std.specs.Int.Signed.{le_z_yes}
 use Rattle.std.specs.List.{All, list_all}
-use Rattle.std.proofs.Common.{refl}
+use Rattle.std.proofs.Common.{refl, subst, sym}
 use Rattle.std.proofs.lemmas.Bool.{leb-true, le-leb, false≢true}
-use Rattle.std.proofs.lemmas.Bool.Decides.{Decides-and, Decides-by_and, Decides-eqb, Decides-like, Decides-ltb, Decides-or}
+use Rattle.std.proofs.lemmas.Bool.Decides.{Decides-and, Decides-below_and, Decides-by_and, Decides-eqb, Decides-like}
+use Rattle.std.proofs.lemmas.Bool.Decides.{Decides-ltb, Decides-or}
 
 -- a test passes, or doesn't, and it passes exactly where its fact holds
 pub record Test : Type 1 where
   pub passes : Bool
   pub Fact : Type 0
   pub decides : Decides passes Fact
+
+-- a test that is always passed
+abbrev pub no_test : Test
+no_test = record { passes = true; Fact = ⊤; decides = (λ _. tt, λ _. refl) }
 
 -- a number is at most another
 abbrev pub at_most : ℕ → ℕ → Test
@@ -24,6 +30,19 @@ less a b = record { passes = nat_lt a b; Fact = a < b; decides = Decides-ltb a b
 -- a number is another
 abbrev pub same : ℕ → ℕ → Test
 same a b = record { passes = a == b; Fact = a ≡ b; decides = Decides-eqb a b }
+
+-- a test that holds is true
+pub is_true : (b : Bool) → T b → b ≡ true
+is_true true holds = refl
+is_true false holds = absurd holds
+
+-- a signed number is at most another
+abbrev pub at_most_signed : ℤ → ℤ → Test
+at_most_signed a b = record {
+  passes = int_le a b;
+  Fact = a ≤ℤ b;
+  decides = (λ is. le_z_yes (subst T (sym is) tt), λ most. is_true (int_le a b) most.le);
+}
 
 infixl 20 ◌&◌
 -- both of two tests pass, the second being asked where the first passes
@@ -51,22 +70,18 @@ either one two = record {
 abbrev pub within : ℕ → ℕ → ℕ → Test
 within first n last = at_most first n & at_most n last
 
--- where one test passes, the next has to, and where it doesn't, the last has to
-pub choice_decides : {P Q R : Type 0} (one two three : Bool) → Decides one P → Decides two Q → Decides three R
-    → Decides (if one then two else three) ((P → Q) × (¬ P → R))
-choice_decides true two three p q r =
-    (λ passes. (λ holds. q.0 passes, λ not. absurd (not (p.0 refl))), λ facts. q.1 (facts.0 (p.0 refl)))
-choice_decides false two three p q r = (
-  λ passes. (λ holds. absurd (false≢true (p.1 holds)), λ not. r.0 passes),
-  λ facts. r.1 (facts.1 (λ holds. absurd (false≢true (p.1 holds)))),
-)
+-- if one test passes, the next has to
+pub decides_if_passes : {P Q : Type 0} (one two : Bool) → Decides one P → Decides two Q
+    → Decides (if one then two else true) (P → Q)
+decides_if_passes true two p q = (λ passes holds. q.0 passes, λ fact. q.1 (fact (p.0 refl)))
+decides_if_passes false two p q = (λ passes holds. absurd (false≢true (p.1 holds)), λ fact. refl)
 
--- where one test passes, the next has to, and where it doesn't, the last has to
-abbrev pub choice : Test → Test → Test → Test
-choice one two three = record {
-  passes = if one.passes then two.passes else three.passes;
-  Fact = (one.Fact → two.Fact) × (¬ one.Fact → three.Fact);
-  decides = choice_decides one.passes two.passes three.passes one.decides two.decides three.decides;
+-- if one test passes, the next has to
+abbrev pub if_passes : Test → Test → Test
+if_passes one two = record {
+  passes = if one.passes then two.passes else true;
+  Fact = one.Fact → two.Fact;
+  decides = decides_if_passes one.passes two.passes one.decides two.decides;
 }
 
 -- a test passes of each element of a list
@@ -76,6 +91,20 @@ each test xs = record {
   Fact = All (λ x. (test x).Fact) xs;
   decides = Decides-by_and (λ x. (test x).passes) (λ x. (test x).Fact) (list_all (λ x. (test x).passes))
       (λ x. (test x).decides) refl (λ _ _. refl) xs;
+}
+
+-- a test passes of each number below another
+abbrev pub passes_below : (ℕ → Bool) → ℕ → Bool
+passes_below passes zero = true
+passes_below passes (suc n) = passes n && passes_below passes n
+
+-- a test passes of each number below another
+abbrev pub below : (ℕ → Test) → ℕ → Test
+below test n = record {
+  passes = passes_below (λ k. (test k).passes) n;
+  Fact = (k : ℕ) → k < n → (test k).Fact;
+  decides = Decides-below_and (λ k. (test k).passes) (λ k. (test k).Fact) (passes_below (λ k. (test k).passes))
+      (λ k. (test k).decides) refl (λ _. refl) n;
 }
 
 -- a test passes of what may be there, which it does where nothing is

@@ -1,6 +1,5 @@
 //! Numbers that are read: whole texts of decimals, and numbers at the front of a text.
 ghost use Rattle.std.specs.Prelude.{◌≡◌, ◌+◌, ◌*◌, ◌^◌, ◌<◌, ◌≤◌, length, IfSome, MatchOption};
-ghost use Rattle.std.specs.Char.{is_ascii_digit};
 ghost use Rattle.std.specs.Str.Parse.{digits_value_after};
 ghost use Rattle.taxi_units.specs.Number as spec;
 ghost use Rattle.taxi_units.specs.NumberStages.{digits_at_front, decimal_read, whole_read, parts_read, units_read};

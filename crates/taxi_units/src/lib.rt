@@ -32,7 +32,7 @@ pub use event::{Event, Key, Operating, Why};
 pub use identifier::is_identifier_character;
 pub use limits::{HIRINGS_END, LARGEST_SUPPLEMENTS, LAST_NUMBER, ROAMING_AMID, ROAMING_MOST};
 pub use line::{LINE_SIZE, Line, LineFull, put_bytes, put_money, put_number, put_padded};
-pub use money::LARGEST_AMOUNT;
+pub use money::{LARGEST_AMOUNT, LARGEST_DISPLAY_STEP};
 pub use parting::split_at_byte;
 pub use push::{push_bytes, push_money, push_number};
 pub use reading::{is_word, word};

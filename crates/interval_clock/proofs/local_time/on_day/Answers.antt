@@ -11,6 +11,9 @@ returns-clause-weekday c =
     let weekday = weekday_number-weekday_of (epoch_day c.date_of-there.result) in
     rw (← day) (omega (arith, signed_arith))
 
+pub returns-clause-month_day : goal.returns-clause-month_day
+returns-clause-month_day c = c.date_place.ensures
+
 pub returns-clause-ranges : goal.returns-clause-ranges
 returns-clause-ranges c =
     record {
