@@ -54,7 +54,7 @@ padded_long : (taxi : List ℕ) → length taxi ≤ 16 → length (padded 16 tax
 padded_long taxi few =
     omega (arith, length-append taxi (replicate (16 - length taxi) 0), length-replicate {A = ℕ} (16 - length taxi) 0)
 
-held_long : (held : Option HeldTrip) → length (held_content held) ≡ 57
+held_long : (held : Option HeldTrip) → length (held_content held) ≡ size_of 12
 held_long None = refl
 held_long (Some held) = refl
 

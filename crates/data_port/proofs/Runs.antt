@@ -3,10 +3,11 @@ use Rattle.std.proofs.Common.{◌≡◌, ◌⊎◌, inl, inr, ℕ, suc, ◌+◌,
 use Rattle.std.proofs.Common.{nat_lt, List, [], ◌∷◌, ◌++◌, length, take, refl, sym, ap, subst, ◌∙◌, append_assoc, arith}
 use Rattle.std.proofs.Common.{length-append}
 use Rattle.std.specs.List.{All}
-use Rattle.std.proofs.lemmas.Bool.{and_from, cond-false, cond-true, eq-eqb, le-leb, lt-ltb, ne_eqb}
+use Rattle.std.proofs.lemmas.Bool.{cond-false, cond-true, eq-eqb, ne_eqb}
 use Rattle.std.proofs.lemmas.Grind.{flat_map-append}
 use Rattle.std.proofs.lemmas.List.{append-nil}
 use Rattle.std.proofs.lemmas.List.Elements.{All-head, All-push, All-tail}
+use Rattle.taxi_units.specs.Test.{at_most, less, within, ◌&◌}
 use Rattle.data_port.specs.declared.request.Request.{Request}
 use Rattle.data_port.specs.Reading.{Standing, between}
 use Rattle.data_port.specs.ReadingStages.{after_byte, after_bytes, after_good, ended_by, ended_in, failed_at, follows}
@@ -143,8 +144,7 @@ code_fits count code done codes long rise =
     omega (arith, long, rise_few code codes rise.1.1 rise.1.0) in
     cond-false (length done == count) (code == 3)
     (nat_lt (last_code done) code && nat_le (code + count) (length done + (item_count + 1))) left
-    ∙ and_from (nat_lt (last_code done) code) (nat_le (code + count) (length done + (item_count + 1)))
-    (lt-ltb (last_code done) code low) (le-leb (code + count) (length done + (item_count + 1)) high)
+    ∙ (less (last_code done) code & at_most (code + count) (length done + (item_count + 1))).decides.1 (low, high)
 
 reads_codes : (taken count : ℕ) (done codes : List ℕ) → length done + length codes ≡ count
     → Rise (last_from 0 done) codes
@@ -177,8 +177,7 @@ reads_request taken request good =
     let few : count ≤ item_count = omega (arith, rise_few 0 codes good.rise (omega arith)) in
     let begun : Standing = record { taken = taken + 1; part = 2 ∷ []; failed = false } in
     let fits : follows begun.part count ≡ true =
-    and_from (nat_le 1 count) (nat_le count item_count) (le-leb 1 count (omega (arith, good.some)))
-    (le-leb count item_count few) in
+    (within 1 count item_count).decides.1 (omega (arith, good.some), few) in
     let end : taken + 1 + 1 + count + 1 ≡ taken + length (request_bytes request) =
     omega (arith, length-append codes (3 ∷ [])) in
     let zero_done : length {A = ℕ} [] + length codes ≡ count = omega arith in

@@ -2,7 +2,8 @@
 use Rattle.std.proofs.Common.{◌≡◌, ◌⊎◌, inl, inr, ℕ, zero, suc, ◌+◌, ◌-◌, ◌<◌, ◌≤◌, Bool, true, false, ◌==◌, ◌&&◌}
 use Rattle.std.proofs.Common.{nat_le, nat_lt, List, [], ◌∷◌, ◌++◌, length, get_or, refl, sym, ap, subst, ◌∙◌}
 use Rattle.std.proofs.Common.{append_assoc, arith, length-append}
-use Rattle.std.proofs.lemmas.Bool.{and_parts, cond-false, cond-true, eqb-false, eqb-true, leb-true, ltb-true}
+use Rattle.std.proofs.lemmas.Bool.{cond-false, cond-true, eqb-false, eqb-true}
+use Rattle.taxi_units.specs.Test.{at_most, less, within, ◌&◌}
 use Rattle.data_port.specs.declared.request.Request.{Request}
 use Rattle.data_port.specs.ReadingStages.{follows, follows_codes, has_all, last_code, request_in}
 use Rattle.data_port.specs.Items.{item_count}
@@ -90,16 +91,14 @@ codes_grow count cs byte low high rise few left fits =
     let both : (nat_lt (last_code cs) byte && nat_le (byte + count) (length cs + (item_count + 1))) ≡ true =
     sym (cond-false (length cs == count) (byte == 3)
     (nat_lt (last_code cs) byte && nat_le (byte + count) (length cs + (item_count + 1))) left) ∙ fits in
-    let parts = and_parts (nat_lt (last_code cs) byte) (nat_le (byte + count) (length cs + (item_count + 1))) both in
-    let above : last_code cs < byte = ltb-true (last_code cs) byte parts.0 in
-    let room : byte + count ≤ length cs + (item_count + 1) =
-    leb-true (byte + count) (length cs + (item_count + 1)) parts.1 in
+    let parts = (less (last_code cs) byte & at_most (byte + count) (length cs + (item_count + 1))).decides.0 both in
+    let room = parts.1 in
     let other = eqb-false (length cs) count left in
     let fewer : length cs < count = omega (arith, other, few) in
     record {
       open_still = left;
       shaped = codes count (cs ++ byte ∷ []) low high
-          (rise_push 0 byte cs rise (omega (arith, above, last_is cs)) (omega (arith, room, fewer)))
+          (rise_push 0 byte cs rise (omega (arith, parts.0, last_is cs)) (omega (arith, room, fewer)))
           (omega (arith, fewer, length-append cs (byte ∷ [])))
           (omega (arith, room, last_push 0 byte cs, length-append cs (byte ∷ [])));
     }
@@ -112,10 +111,8 @@ step_codes count cs byte low high rise few false is fits = inr (codes_grow count
 
 step_start : (byte : ℕ) → (nat_le 1 byte && nat_le byte item_count) ≡ true → Grows (2 ∷ []) byte
 step_start byte fits =
-    let parts = and_parts (nat_le 1 byte) (nat_le byte item_count) fits in
-    let low : 1 ≤ byte = leb-true 1 byte parts.0 in
-    let high : byte ≤ item_count = leb-true byte item_count parts.1 in
-    record { open_still = refl; shaped = codes byte [] low high tt (omega arith) (omega arith) }
+    let range = (within 1 byte item_count).decides.0 fits in
+    record { open_still = refl; shaped = codes byte [] range.0 range.1 tt (omega arith) (omega (arith, range)) }
 
 step_nothing : (byte : ℕ) → (byte == 2) ≡ true → Grows [] byte
 step_nothing byte fits =

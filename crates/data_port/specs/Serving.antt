@@ -34,10 +34,6 @@ IsGoing taken = streams.IsGoing requests taken
 abbrev pub ShowsEnd : StreamEnd → (taken left : List ℕ) → Type 0
 ShowsEnd reached taken left = streams.ShowsEnd requests reached taken left
 
--- what is left of a stream of requests tells its end if the bytes taken before it show how the stream ends
-abbrev pub TellsEnd : (stream left : List ℕ) → Type 0
-TellsEnd stream left = streams.TellsEnd requests stream left
-
 -- the replies to requests are the reply to each, one behind the other
 abbrev pub replies : Durable → Seal → List Request → List ℕ
 replies durable seal requests = flat_map (reply_to durable seal) requests

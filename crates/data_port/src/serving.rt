@@ -1,5 +1,5 @@
 //! Serves a stream of requests: reads it from a file, and prints the replies.
-ghost use Rattle.std.specs.Prelude.{◌≡◌, ◌≢◌, ℕ, ◌+◌, ◌<◌, ◌≤◌, ◌^◌, ◌++◌, List, [], All, length, take, drop, false, None, Some, IfOk, IsErr, OnOk, OnErr};
+ghost use Rattle.std.specs.Prelude.{◌≡◌, ℕ, ◌+◌, ◌<◌, ◌≤◌, ◌^◌, ◌++◌, List, [], All, length, take, drop, false, None, Some, IfOk, IsErr, OnOk, OnErr};
 ghost use Rattle.outside.specs.Reading.{LeavesOthers};
 ghost use Rattle.outside.specs.Faults.{HasCause, MayRise, RisesOnlyIf, Rose};
 ghost use Rattle.outside.specs.Printing.{Begins};

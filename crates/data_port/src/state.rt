@@ -1,5 +1,5 @@
 //! What a port keeps of a stream, and what one byte changes of it.
-ghost use Rattle.std.specs.Prelude.{◌≡◌, ◌++◌, ◌+◌, ◌-◌, ◌<◌, ◌≤◌, ◌^◌, [], length, true, false, IfErr, OnOk};
+ghost use Rattle.std.specs.Prelude.{◌≡◌, ◌++◌, ◌+◌, ◌<◌, ◌≤◌, ◌^◌, [], length, true, false, IfErr, OnOk};
 ghost use Rattle.arrayvec.specs.ArrayVec.{array_vec_len};
 ghost use Rattle.data_port.specs.Reading.{HasSense, HasTaken, between};
 ghost use Rattle.data_port.specs.Items.{item_count};

@@ -11,8 +11,7 @@ use Rattle.totals_record.specs.declared.totals.Share.{Share}
 use Rattle.totals_record.specs.declared.totals.Totals.{Totals}
 use Rattle.totals_record.specs.declared.trip.Trip.{Trip}
 use Rattle.totals_record.specs.Entries.{closes, no_share, totals_with}
-use Rattle.totals_record.specs.Ranges.{IsTripInItsRanges, IsHeld, AreShares, IsDurable, IsEntry, HasRoom}
-use Rattle.totals_record.specs.Reading.{may_have_all}
+use Rattle.totals_record.specs.Ranges.{IsTripInItsRanges, IsHeld, AreShares, IsDurable, IsEntry, HasRoom, newest_layout}
 use Rattle.totals_record.specs.States.{after}
 use Rattle.totals_record.proofs.Shares.{roams, shares_apart, shares_set, length_same}
 
@@ -24,9 +23,9 @@ sum_grown field shares place share more within grows =
     omega (arith, sum_by-set field shares place share no_share within, grows)
 
 -- the totals with an entry more that closes a hiring
-closing_shares : (totals : Totals) (entry : Entry) → AreShares totals → closes entry ≡ true
-    → 1 ≤ entry.position → entry.position ≤ 9 → AreShares (totals_with totals entry)
-closing_shares totals entry shares closing low high =
+closing_shares : (layout : ℕ) (totals : Totals) (entry : Entry) → AreShares layout totals → closes entry ≡ true
+    → 1 ≤ entry.position → entry.position ≤ 9 → AreShares newest_layout (totals_with totals entry)
+closing_shares layout totals entry shares closing low high =
     let place = entry.position - 1 in
     let old = get_or totals.shares place no_share in
     let within : place < length totals.shares = omega (arith, low, high, shares.nine) in
@@ -47,12 +46,13 @@ closing_shares totals entry shares closing low high =
         ap (λ (l : List Share). sum_by (λ s. s.fare) l) grown,
         sum_grown (λ s. s.fare) totals.shares place share entry.fare within refl,
       );
+      unshared = λ one. absurd (omega (arith, one));
     }
 
 -- and with one of roaming
-roaming_shares : (totals : Totals) (entry : Entry) → AreShares totals → closes entry ≡ false → entry.fare ≡ 0
-    → AreShares (totals_with totals entry)
-roaming_shares totals entry shares roaming no_fare =
+roaming_shares : (layout : ℕ) (totals : Totals) (entry : Entry) → AreShares layout totals → closes entry ≡ false
+    → entry.fare ≡ 0 → AreShares newest_layout (totals_with totals entry)
+roaming_shares layout totals entry shares roaming no_fare =
     let same = shares_apart entry 1 totals.shares (λ i within. roams entry (1 + i) roaming) in
     record {
       nine = length_same entry 1 totals.shares ∙ shares.nine;
@@ -63,15 +63,17 @@ roaming_shares totals entry shares roaming no_fare =
         ap {B = ℕ} (λ (b : Bool). if b then 1 else 0) roaming,
       );
       fare = omega (arith, shares.fare, ap (λ (l : List Share). sum_by (λ s. s.fare) l) same, no_fare);
+      unshared = λ one. absurd (omega (arith, one));
     }
 
-shares_kept : (totals : Totals) (entry : Entry) → AreShares totals → IsEntry entry
-    → AreShares (totals_with totals entry)
-shares_kept totals entry shares made = by (closes entry) refl
+shares_kept : (layout : ℕ) (totals : Totals) (entry : Entry) → AreShares layout totals → IsEntry entry
+    → AreShares newest_layout (totals_with totals entry)
+shares_kept layout totals entry shares made = by (closes entry) refl
   where
-    by : (b : Bool) → closes entry ≡ b → AreShares (totals_with totals entry)
-    by true closing = closing_shares totals entry shares closing (made.position closing).0 (made.position closing).1
-    by false roaming = roaming_shares totals entry shares roaming (made.roaming roaming)
+    by : (b : Bool) → closes entry ≡ b → AreShares newest_layout (totals_with totals entry)
+    by true closing =
+        closing_shares layout totals entry shares closing (made.position closing).0 (made.position closing).1
+    by false roaming = roaming_shares layout totals entry shares roaming (made.roaming roaming)
 
 -- a held trip stays in its ranges beside a greater number
 trip_later : (number : ℕ) (trip : Trip) → IsTripInItsRanges number trip → IsTripInItsRanges (number + 1) trip
@@ -91,20 +93,12 @@ at_most false amount = omega arith
 
 pub entry_keeps : (durable : Durable) (entry : Entry) → IsDurable durable → durable.number ≤ last_number → IsEntry entry
     → HasRoom durable entry → IsDurable (after durable (Enter entry))
-entry_keeps durable entry valid room made held_room = record {
-  number = (omega arith, omega (arith, room));
-  totals = omega (arith, valid.totals, made, at_most);
-  held = held_kept durable.number durable.hold (closes entry) valid.held held_room;
-  shares = shares_kept durable.totals entry valid.shares made;
-  layout = may_have_all (after durable (Enter entry));
-}
+entry_keeps durable entry valid room made held_room =
+    let hirings = at_most (closes entry) 1 in
+    let held = held_kept durable.number durable.hold (closes entry) valid.held held_room in
+    let shares = shares_kept durable.layout durable.totals entry valid.shares made in
+    search (rules, arith)
 
 pub trip_keeps : (durable : Durable) (trip : Trip) → IsDurable durable → durable.number + 1 ≤ last_number
     → IsTripInItsRanges (durable.number + 1) trip → IsDurable (after durable (Hold trip))
-trip_keeps durable trip valid room ranges = record {
-  number = (omega arith, omega (arith, room));
-  totals = omega (arith, valid.totals);
-  held = record { room = room; ranges = ranges };
-  shares = valid.shares;
-  layout = may_have_all (after durable (Hold trip));
-}
+trip_keeps durable trip valid room ranges = search (rules, arith)

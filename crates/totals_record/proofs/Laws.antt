@@ -9,10 +9,11 @@ use Rattle.totals_record.specs.declared.change.Change.{Change}
 use Rattle.totals_record.specs.declared.entry.Entry.{Entry}
 use Rattle.totals_record.specs.declared.totals.Totals.{Totals}
 use Rattle.totals_record.specs.Ranges.{HasRoom, IsDurable, IsEntry, IsTripInItsRanges}
-use Rattle.totals_record.specs.Reading.{again, decoded, durable_test, reads}
+use Rattle.totals_record.specs.Reading.{again, decoded, reads}
 use Rattle.totals_record.specs.Spelling.{spelling}
 use Rattle.totals_record.specs.States.{after, after_all}
 use Rattle.totals_record.specs.Sums.{totals_of, AddsUp, GrowsBy}
+use Rattle.totals_record.specs.Table.{durable_test}
 use Rattle.totals_record.proofs.Adding.{adds_up}
 use Rattle.totals_record.proofs.CommitRanges.{entry_keeps, trip_keeps}
 use Rattle.totals_record.proofs.Changing.{follows, follows_then}

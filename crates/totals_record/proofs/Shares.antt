@@ -8,7 +8,7 @@ use Rattle.std.proofs.lemmas.List.Elements.{All-get_or}
 use Rattle.totals_record.specs.declared.entry.Entry.{Entry}
 use Rattle.totals_record.specs.declared.totals.Share.{Share}
 use Rattle.totals_record.specs.Entries.{closes, closes_at, no_share, share_with, shares_with}
-use Rattle.totals_record.specs.Reading.{share_in}
+use Rattle.totals_record.specs.Table.{share_in}
 
 same_share : (hirings hirings' fare fare' : ℕ) → hirings ≡ hirings' → fare ≡ fare'
     → share_in hirings fare ≡ share_in hirings' fare'

@@ -5,4 +5,4 @@ pub mod Reading
 pub mod Spelling
 pub mod States
 pub mod Sums
-pub mod TripTable
+pub mod Table

@@ -1,5 +1,5 @@
 -- Rules: the ranges of what a totals' slot holds, in the order of its table, and the number of a state.
-use Rattle.std.specs.Prelude.{◌≡◌, ℕ, ◌+◌, ◌*◌, ◌^◌, ◌<◌, ◌≤◌, true, false, length, replicate, is_some, IfSome}
+use Rattle.std.specs.Prelude.{◌≡◌, ◌⊎◌, ℕ, ◌+◌, ◌*◌, ◌^◌, ◌<◌, ◌≤◌, true, false, length, replicate, is_some, IfSome}
 use Rattle.std.specs.List.{All, sum_by}
 use Rattle.totals_record.specs.declared.durable_state.Durable.{Durable}
 use Rattle.totals_record.specs.declared.entry.Entry.{Entry}
@@ -17,14 +17,6 @@ state_number_of durable = durable.number
 -- the newest layout, in which each commit is written, is 2
 abbrev pub newest_layout : ℕ
 newest_layout = 2
-
--- totals are in their ranges, beside the number of a state, where each of the five is in its own
-pub record AreTotalsInTheirRanges (number : ℕ) (totals : Totals) : Type 0 where
-  pub distance : totals.distance_mm ≤ 10 ^ 22 * number
-  pub hired : totals.hired_mm ≤ totals.distance_mm
-  pub hirings : totals.hirings ≤ number
-  pub supplements : totals.supplements ≤ 10 ^ 10 * number
-  pub fare : totals.fare ≤ 10 ^ 8 * number
 
 -- a trip is in its ranges, beside the number of a state, where each of its fields is in its own
 pub record IsTripInItsRanges (number : ℕ) (trip : Trip) : Type 0 where
@@ -49,25 +41,24 @@ pub record IsHeld (number : ℕ) (trip : Trip) : Type 0 where
   pub ranges : IsTripInItsRanges number trip
 
 -- shares are those of their totals where hirings and fare are the sums of nine shares and of what was counted before
--- there were shares
-pub record AreShares (totals : Totals) : Type 0 where
+-- there were shares; in layout 1 the shares are all zero
+pub record AreShares (layout : ℕ) (totals : Totals) : Type 0 where
   pub nine : length totals.shares ≡ 9
   pub hirings : sum_by (λ share. share.hirings) totals.shares + totals.before.hirings ≡ totals.hirings
   pub fare : sum_by (λ share. share.fare) totals.shares + totals.before.fare ≡ totals.fare
+  pub unshared : layout ≡ 1 → totals.shares ≡ replicate 9 no_share
 
--- a state is in its layout where that is one of those up to the newest, and the state has nothing of what came with a
--- later one: in layout 1 the shares are all zero
-pub record IsInItsLayout (durable : Durable) : Type 0 where
-  pub layout : (1 ≤ durable.layout) × (durable.layout ≤ newest_layout)
-  pub unshared : durable.layout ≡ 1 → durable.totals.shares ≡ replicate 9 no_share
-
--- a durable state may stand in a slot where all that it has is in its ranges
+-- a durable state may stand in a slot where each of its fields is in its range
 pub record IsDurable (durable : Durable) : Type 0 where
   pub number : (1 ≤ durable.number) × (durable.number ≤ last_number + 1)
-  pub totals : AreTotalsInTheirRanges durable.number durable.totals
+  pub distance : durable.totals.distance_mm ≤ 10 ^ 22 * durable.number
+  pub hired : durable.totals.hired_mm ≤ durable.totals.distance_mm
+  pub hirings : durable.totals.hirings ≤ durable.number
+  pub supplements : durable.totals.supplements ≤ 10 ^ 10 * durable.number
+  pub fare : durable.totals.fare ≤ 10 ^ 8 * durable.number
   pub held : IfSome durable.hold (IsHeld durable.number)
-  pub shares : AreShares durable.totals
-  pub layout : IsInItsLayout durable
+  pub shares : AreShares durable.layout durable.totals
+  pub layout : (durable.layout ≡ 1) ⊎ (durable.layout ≡ 2)
 
 -- an entry is in its ranges where each of its numbers is one that the meter can make; roaming has no fare, since none
 -- of the shares would have it

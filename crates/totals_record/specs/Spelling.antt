@@ -56,17 +56,16 @@ held_bytes (Some trip) = 1 ∷ [] ++ trip_bytes trip
 abbrev pub share_bytes : Share → List ℕ
 share_bytes share = eight share.hirings ++ sixteen share.fare
 
--- bytes 189 to 428 of the slot have zeros in layout 1, and in each later one the shares and what was counted before
+-- bytes 189 to 510 of the slot have zeros in layout 1, and in layout 2 the shares, what was counted before, and zeros
 abbrev pub shared_bytes : ℕ → Totals → List ℕ
 shared_bytes layout totals =
-    if layout == 1 then replicate 240 0
-    else flat_map share_bytes totals.shares ++ share_bytes totals.before
+    if layout == 1 then replicate 322 0
+    else flat_map share_bytes totals.shares ++ share_bytes totals.before ++ replicate 82 0
 
--- bytes 1 to 511 of the slot spell the state, of which the last is the layout, and zeros stand in those of no field
+-- bytes 1 to 511 of the slot spell the state, and the last of them is the layout
 abbrev pub spelling : Durable → List ℕ
 spelling durable =
     head_bytes durable.number durable.totals
     ++ held_bytes durable.hold
     ++ shared_bytes durable.layout durable.totals
-    ++ replicate 82 0
     ++ durable.layout ∷ []

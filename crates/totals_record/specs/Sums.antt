@@ -2,7 +2,7 @@
 use Rattle.std.specs.Prelude.{◌≡◌, ◌+◌, List, length}
 use Rattle.totals_record.specs.declared.change.Change.{Change}
 use Rattle.totals_record.specs.declared.durable_state.Durable.{Durable}
-pub use Rattle.totals_record.specs.Entries.{AddsUp, ShareAddsUp, share_of, totals_of}
+pub use Rattle.totals_record.specs.Entries.{AddsUp, totals_of}
 use Rattle.totals_record.specs.States.{entries_of, layout_after, IsHeldAfter}
 
 -- a state follows another by a list of commits where its number grew by how many they are, its totals by their entries,

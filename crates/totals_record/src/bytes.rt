@@ -1,5 +1,5 @@
 //! Numbers in bytes, the greatest byte first.
-ghost use Rattle.std.specs.Prelude.{◌≡◌, ◌++◌, ◌+◌, ◌<◌, ◌≤◌, length};
+ghost use Rattle.std.specs.Prelude.{◌≡◌, ◌++◌, ◌+◌, ◌≤◌, length};
 ghost use Rattle.arrayvec.specs.ArrayVec.{array_vec_len};
 ghost use Rattle.slot_bodies.specs.Bodies.{body_size};
 ghost use Rattle.totals_record.specs.Bytes.{four, eight, sixteen, bit};

@@ -2,11 +2,11 @@
 ghost use Rattle.std.specs.Prelude.{◌≡◌, ◌+◌, ◌≤◌, nat_le};
 ghost use Rattle.std.specs.List.{list_all};
 ghost use Rattle.taxi_units.specs.Limits.{last_number};
-ghost use Rattle.taxi_units.specs.Test.{choice, each, if_some, same, within};
+ghost use Rattle.taxi_units.specs.Test.{each, if_passes, if_some, same, within};
 ghost use Rattle.taxi_units.specs.Time.{last_tick};
-ghost use Rattle.totals_record.specs.Reading.{durable_test, layout_test, no_test, none_test, sums_test, totals_test};
-ghost use Rattle.totals_record.specs.TripTable.{counts_test, course_test, extras_test, held_test};
-ghost use Rattle.totals_record.specs.TripTable.{meterage_test, trip_test};
+ghost use Rattle.totals_record.specs.Table.{counts_test, course_test, durable_test, extras_test, held_test};
+ghost use Rattle.totals_record.specs.Table.{layout_test, meterage_test, none_test, sums_test};
+ghost use Rattle.totals_record.specs.Table.{totals_test, trip_test};
 
 use crate::{Durable, Share, Totals, Trip};
 use drive_modes::Meterage;
@@ -28,7 +28,7 @@ pub fn is_durable(durable: &Durable) -> bool
         && are_totals(durable.number, totals)
         && is_held(durable.number, &durable.hold)
         && add_up(&totals.shares, totals.before, totals.hirings, totals.fare)
-        && is_in_layout(durable)
+        && is_layout(durable.layout, &totals.shares)
 }
 
 /// Whether the five totals are in their ranges beside a number.
@@ -120,19 +120,16 @@ fn are_few(counts: &[u8]) -> bool
     counts.iter().all(|count| *count <= 99)
 }
 
-/// Whether the layout is one of those up to the newest, and the state has nothing of what came with a later
-/// one.
-fn is_in_layout(durable: &Durable) -> bool
-    ensures { result ≡ (layout_test durable.now).passes }
+/// Whether there is such a layout, and the shares have no hiring where they are those of layout 1.
+fn is_layout(layout: u8, shares: &[Share; 9]) -> bool
+    ensures { result ≡ (layout_test layout shares.now).passes }
 {
-    1 <= durable.layout
-        && durable.layout <= NEWEST_LAYOUT
-        && is_unshared(durable.layout, &durable.totals.shares)
+    (layout == 1 || layout == NEWEST_LAYOUT) && is_unshared(layout, shares)
 }
 
 /// Whether the shares have no hiring where they are those of layout 1.
 fn is_unshared(layout: u8, shares: &[Share]) -> bool
-    ensures { result ≡ (choice (same layout 1) (each none_test shares.now) no_test).passes }
+    ensures { result ≡ (if_passes (same layout 1) (each none_test shares.now)).passes }
 {
     if layout == 1 { are_none(shares) } else { true }
 }

@@ -1,16 +1,16 @@
 //! The table of a durable state: its bytes, one field behind the other, and the fields at their places in
 //! bytes, each place one less than in the slot.
-ghost use Rattle.std.specs.Prelude.{◌≡◌, ◌++◌, ◌+◌, ◌≤◌, length};
+ghost use Rattle.std.specs.Prelude.{◌≡◌, ◌++◌, ◌+◌, ◌≤◌, drop, length, take};
 ghost use Rattle.arrayvec.specs.ArrayVec.{array_vec_len};
 ghost use Rattle.slot_bodies.specs.Bodies.{body_size};
-ghost use Rattle.slot_bodies.specs.BytesAt.{byte_at};
+ghost use Rattle.slot_bodies.specs.BytesAt.{byte_at, eight_at, sixteen_at};
 ghost use Rattle.slot_bodies.specs.Codec.{optional, row};
 ghost use Rattle.taxi_units.specs.Money.{largest_amount};
 ghost use Rattle.totals_record.specs.Ranges.{IsDurable};
-ghost use Rattle.totals_record.specs.Reading.{decoded, found_before, share_table};
+ghost use Rattle.totals_record.specs.Reading.{decoded};
 ghost use Rattle.totals_record.specs.Spelling.{head_bytes, course_bytes, meterage_bytes, trip_bytes};
 ghost use Rattle.totals_record.specs.Spelling.{held_bytes, share_bytes, shared_bytes, spelling};
-ghost use Rattle.totals_record.specs.TripTable.{trip_table};
+ghost use Rattle.totals_record.specs.Table.{found_before, meterage_table, share_table, trip_table};
 
 use crate::bytes::{bit_of, put_eight, put_four, put_sixteen, sixteen_at};
 use crate::{Durable, Share, Totals, Trip};
@@ -26,7 +26,6 @@ pub fn spell(durable: &Durable) -> [u8; BODY_SIZE]
     put_head(&mut out, durable.number, &durable.totals);
     put_held(&mut out, durable);
     put_shared(&mut out, durable.layout, &durable.totals);
-    put_bytes(&mut out, &[0; 82]);
     put_bytes(&mut out, &[durable.layout]);
     let mut bytes = [0; BODY_SIZE];
     bytes.copy_from_slice(out.as_slice());
@@ -109,18 +108,19 @@ fn put_trip(out: &mut Spelled, trip: &Trip)
 
 /// Appends the shares and what was counted before, or in layout 1 zeros.
 fn put_shared(out: &mut Spelled, layout: u8, totals: &Totals)
-    requires { array_vec_len out.old + 240 ≤ body_size }
+    requires { array_vec_len out.old + 322 ≤ body_size }
     ensures items { out.new.items ≡ out.old.items ++ shared_bytes layout totals.now }
-    ensures len { array_vec_len out.new ≡ array_vec_len out.old + 240 }
+    ensures len { array_vec_len out.new ≡ array_vec_len out.old + 322 }
 {
     if layout == 1 {
-        put_bytes(out, &[0; 240]);
+        put_bytes(out, &[0; 322]);
         return;
     }
     for share in &totals.shares {
         put_share(out, share);
     }
     put_share(out, &totals.before);
+    put_bytes(out, &[0; 82]);
 }
 
 /// Appends a share.
@@ -137,18 +137,16 @@ fn put_share(out: &mut Spelled, share: &Share)
 pub fn decode(bytes: &[u8; BODY_SIZE]) -> Durable
     ensures { result ≡ decoded bytes.now }
 {
-    let hirings = eight_at(bytes, 40);
-    let fare = sixteen_at(bytes, 64);
     Durable {
         number: eight_at(bytes, 0),
         totals: Totals {
             distance_mm: sixteen_at(bytes, 8),
             hired_mm: sixteen_at(bytes, 24),
-            hirings,
+            hirings: eight_at(bytes, 40),
             supplements: sixteen_at(bytes, 48),
-            fare,
+            fare: sixteen_at(bytes, 64),
             shares: shares_in(bytes),
-            before: before_in(bytes, hirings, fare),
+            before: before_in(bytes),
         },
         hold: held_in(bytes),
         layout: bytes[510],
@@ -156,11 +154,15 @@ pub fn decode(bytes: &[u8; BODY_SIZE]) -> Durable
 }
 
 /// What was counted before there were shares: in layout 1 all hirings and all fares.
-fn before_in(bytes: &[u8; BODY_SIZE], hirings: u64, fare: u128) -> Share
-    ensures { result ≡ found_before (byte_at bytes.now 510) hirings fare (share_table.read bytes.now 404) }
+fn before_in(bytes: &[u8; BODY_SIZE]) -> Share
+    ensures { result ≡ found_before (byte_at bytes.now 510) (eight_at bytes.now 40) (sixteen_at bytes.now 64)
+        (share_table.read bytes.now 404) }
 {
     if bytes[510] == 1 {
-        Share { hirings, fare }
+        Share {
+            hirings: eight_at(bytes, 40),
+            fare: sixteen_at(bytes, 64),
+        }
     } else {
         share_at(bytes, 404)
     }
@@ -209,8 +211,6 @@ fn held_in(bytes: &[u8; BODY_SIZE]) -> Option<Trip>
 fn trip_in(bytes: &[u8; BODY_SIZE]) -> Trip
     ensures { result ≡ trip_table.read bytes.now 81 }
 {
-    let mut extras = [0; 16];
-    extras.copy_from_slice(&bytes[160..176]);
     Trip {
         started: eight_at(bytes, 81),
         saved: eight_at(bytes, 89),
@@ -220,14 +220,30 @@ fn trip_in(bytes: &[u8; BODY_SIZE]) -> Trip
         roam: four_at(bytes, 100),
         pulses: eight_at(bytes, 104),
         ticks: four_at(bytes, 112),
-        initial: u64::from(four_at(bytes, 116)),
-        minimum: u64::from(four_at(bytes, 184)),
-        meterage: Meterage {
-            cover_left: sixteen_at(bytes, 120),
-            steps_full: eight_at(bytes, 136),
-            rest: sixteen_at(bytes, 144),
-        },
-        extras,
+        initial: four_at(bytes, 116) as u64,
+        minimum: four_at(bytes, 184) as u64,
+        meterage: meterage_in(bytes),
+        extras: extras_in(bytes),
         extras_sum: eight_at(bytes, 176),
     }
+}
+
+/// What the charges of the trip have come to.
+fn meterage_in(bytes: &[u8; BODY_SIZE]) -> Meterage
+    ensures { result ≡ meterage_table.read bytes.now 120 }
+{
+    Meterage {
+        cover_left: sixteen_at(bytes, 120),
+        steps_full: eight_at(bytes, 136),
+        rest: sixteen_at(bytes, 144),
+    }
+}
+
+/// How often each supplement of the trip was taken.
+fn extras_in(bytes: &[u8; BODY_SIZE]) -> [u8; 16]
+    ensures { result ≡ take 16 (drop 160 bytes.now) }
+{
+    let mut extras = [0; 16];
+    extras.copy_from_slice(&bytes[160..176]);
+    extras
 }

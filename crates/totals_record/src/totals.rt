@@ -2,7 +2,7 @@
 ghost use Rattle.std.specs.Prelude.{◌≡◌, ◌<◌, ◌^◌};
 ghost use Rattle.std.specs.List.{All};
 ghost use Rattle.totals_record.specs.Entries.{shares_with, totals_with};
-ghost use Rattle.totals_record.specs.Reading.{Fit};
+ghost use Rattle.totals_record.specs.Table.{Fit};
 
 use crate::Entry;
 use crate::ranges::is_digit;
