@@ -1,7 +1,7 @@
 -- A count of faults over calls one after another.
-use Rattle.std.proofs.Common.{◌≡◌, inl, ℕ, Result, refl, ap, ◌∙◌, subst}
+use Rattle.std.proofs.Common.{◌≡◌, inl, ℕ, Result, refl, ◌∙◌, subst}
 use Rattle.std.proofs.lemmas.Bool.{false≢true}
-use Rattle.std.specs.Prelude.{IsErrAnd, is_err}
+use Rattle.std.specs.Prelude.{IsErrAnd}
 use Rattle.std.specs.declared.result.Result.TheVariants.{Ok, Err}
 use Rattle.outside.specs.Faults.{HasCause, MayRise, RisesOnlyIf, Rose}
 
@@ -49,14 +49,6 @@ rises_for before now to back rises = record {
 pub may_rise_for : {failed failed' : Type 0} (before now : ℕ) → (failed → failed') → MayRise failed before now
     → MayRise failed' before now
 may_rise_for before now to may = record { kept = λ no. may.kept (λ yes. no (to yes)); most = may.most }
-
--- a fault that a call's failure comes to
-pub rises_failed : {T U E F : Type 0} (before now : ℕ) (r : Result T E) (r' : Result U F) (e : E) (d : F) → r ≡ Err e
-    → r' ≡ Err d → HasCause before now r → RisesOnlyIf (r' ≡ Err d) before now
-rises_failed before now r r' e d is is' cause = record {
-  kept = λ no. absurd (no is');
-  rose = λ _. cause.failed (ap is_err is);
-}
 
 -- a fault that is passed on
 pub rises_passed : {T U E : Type 0} (before now : ℕ) (r : Result T E) (r' : Result U E) (e d : E) → r ≡ Err e

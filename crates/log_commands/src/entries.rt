@@ -4,7 +4,6 @@ ghost use Rattle.outside.specs.Faults.{RisesOnlyIf};
 ghost use Rattle.slot_store.specs.Syncs.{ReadsOnly};
 ghost use Rattle.log_commands.specs.LogRow.{AreEntries};
 ghost use Rattle.log_commands.specs.LogScan.{IsBad, IsEntry, IsLowestBad};
-ghost use Rattle.log_commands.specs.declared.scanning.ScanFault.{ScanFault};
 ghost use Rattle.log_commands.specs.declared.scanning.ScanFault.TheVariants.{BadSlot, DeviceFailed};
 
 use crate::scanning::{Entry, SLOTS, ScanFault, entry_of, read_slot};

@@ -1,5 +1,5 @@
 //! Reads the receipts of a roll from its file, piece by piece.
-ghost use Rattle.std.specs.Prelude.{◌≡◌, ◌≢◌, ℕ, ◌+◌, ◌-◌, ◌<◌, ◌≤◌, ◌++◌, [], ◌∷◌, List, length, take, drop, true};
+ghost use Rattle.std.specs.Prelude.{◌≡◌, ℕ, ◌+◌, ◌-◌, ◌<◌, ◌≤◌, ◌++◌, [], ◌∷◌, List, length, take, drop, true};
 ghost use Rattle.std.specs.Prelude.{is_some, None, Some, Ok, Err, IsErr, IfOk, IfErr, OnErr, OnOk, IfSome, IfNone};
 ghost use Rattle.std.specs.Prelude.{option_to_list};
 ghost use Rattle.outside.specs.Reading.{LeavesOthers};

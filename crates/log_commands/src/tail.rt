@@ -1,5 +1,5 @@
 //! The end of the log, as it is kept in memory while receipts are filed.
-ghost use Rattle.std.specs.Prelude.{◌≡◌, ◌+◌, ◌^◌, ◌<◌, ◌≤◌, [], ◌∷◌, Ok, Some, OnOk, OnErr};
+ghost use Rattle.std.specs.Prelude.{◌≡◌, ◌+◌, ◌^◌, ◌<◌, ◌≤◌, [], ◌∷◌, Ok, OnOk, OnErr};
 ghost use Rattle.outside.specs.Faults.{HasCause};
 ghost use Rattle.log_commands.specs.Filed.{IsNewer, IsOther};
 ghost use Rattle.log_commands.specs.Filings.{FilesTo, IsLast, LeavesSome};

@@ -1,5 +1,5 @@
 //! The top call: words in, a status out.
-ghost use Rattle.std.specs.Prelude.{◌≡◌, ◌≢◌, ◌⊎◌, ℕ, ◌+◌, ◌<◌, ◌≤◌, List, [], length, true, false, Some, map, string_bytes};
+ghost use Rattle.std.specs.Prelude.{◌≡◌, ◌≢◌, ◌⊎◌, ℕ, ◌+◌, ◌≤◌, List, [], length, true, false, Some, map, string_bytes};
 ghost use Rattle.outside.specs.Faults.{MayRise, RisesOnlyIf, Rose};
 ghost use Rattle.outside.specs.Runs.{KeepsStore};
 ghost use Rattle.log_commands.specs.Calls.{AppendsNothing, AreFew, IsCall, IsFit, MayHave, MayHaveReadFault, LeavesLogUnwritten};

@@ -1,64 +1,36 @@
 -- What is written of a date, a day or a local time is read again.
 use Rattle.std.proofs.Common.{◌≡◌, ℕ, zero, suc, ◌+◌, ◌-◌, ◌*◌, ◌/◌, ◌%◌, ◌<◌, ◌≤◌, Bool, true, false, if◌then◌else◌, ℤ}
 use Rattle.std.proofs.Common.{pos, ◌≤ℤ◌, unsigned_abs, List, [], ◌∷◌, ◌++◌, get_or, refl, ap, ◌∙◌, subst, arith, Some}
-use Rattle.std.proofs.Common.{inl, inr, append_assoc}
+use Rattle.std.proofs.Common.{inl, inr, append_assoc, length, sym, All}
 use Rattle.std.specs.Char.{digit_value}
-use Rattle.std.specs.List.{AllByRecursion}
 use Rattle.std.proofs.lemmas.Bool.{le-leb, le-ltb, lt-ltb, cases_lt}
 use Rattle.std.proofs.lemmas.Int.{ints}
+use Rattle.std.proofs.lemmas.List.{get_or_past}
 use Rattle.interval_clock.specs.Calendar.{date_after, day_number_of, days_of_month, days_of_year, days_of_years}
-use Rattle.interval_clock.specs.Calendar.{is_date, is_leap_year, month_lengths, next_date}
+use Rattle.interval_clock.specs.Calendar.{is_leap_year, month_lengths, next_date}
 use Rattle.interval_clock.specs.declared.day_numbers.CalendarDate.{CalendarDate}
 use Rattle.interval_clock.proofs.Laws.{IsDateOf-date_after, one_day_number}
+use Rattle.taxi_units.specs.DateTest.{date_test}
 use Rattle.taxi_units.specs.Number.{padded_text}
 use Rattle.taxi_units.specs.Shown.{IsStamp}
+use Rattle.taxi_units.specs.Test.{at_most, each}
 use Rattle.taxi_units.specs.declared.receipt.Stamp.{Stamp}
 use Rattle.receipt_text.specs.Dates.{date_at, day_at, day_of, stamp_at, time_at}
 use Rattle.receipt_text.specs.Receipts.{date_text, day_text, stamp_text, time_text}
 use Rattle.receipt_text.proofs.Again.{padded_again, word_again}
 
-at_most : (xs : List ℕ) (i : ℕ) → AllByRecursion (λ x. x ≤ 31) xs → get_or xs i 0 ≤ 31
-at_most [] i all = omega arith
-at_most (x ∷ xs) zero all = all.0
-at_most (x ∷ xs) (suc i) all = at_most xs i all.1
-
-lengths_small : (leap : Bool) → AllByRecursion (λ x. x ≤ 31) (month_lengths leap)
-lengths_small true = (
-  omega arith,
-  (
-    omega arith,
-    (
-      omega arith,
-      (
-        omega arith,
-        (
-          omega arith,
-          (omega arith, (omega arith, (omega arith, (omega arith, (omega arith, (omega arith, (omega arith, tt))))))),
-        ),
-      ),
-    ),
-  ),
-)
-lengths_small false = (
-  omega arith,
-  (
-    omega arith,
-    (
-      omega arith,
-      (
-        omega arith,
-        (
-          omega arith,
-          (omega arith, (omega arith, (omega arith, (omega arith, (omega arith, (omega arith, (omega arith, tt))))))),
-        ),
-      ),
-    ),
-  ),
-)
+lengths_small : (leap : Bool) → All (λ d. d ≤ 31) (month_lengths leap)
+lengths_small true = (each (λ d. at_most d 31) (month_lengths true)).decides.0 refl
+lengths_small false = (each (λ d. at_most d 31) (month_lengths false)).decides.0 refl
 
 -- a month has at most 31 days
 pub month_small : (year month : ℕ) → days_of_month year month ≤ 31
-month_small year month = at_most (month_lengths (is_leap_year year)) (month - 1) (lengths_small (is_leap_year year))
+month_small year month =
+    let lengths = month_lengths (is_leap_year year) in
+    elim (cases_lt (month - 1) (length lengths)) [
+      | inl lt ↦ lengths_small (is_leap_year year) (month - 1) 0 lt
+      | inr past ↦ subst (λ (days : ℕ). days ≤ 31) (sym (get_or_past lengths (month - 1) 0 past)) (omega arith)
+    ]
 
 -- a date
 pub date_again : (year month date c : ℕ) (rest : List ℕ) → year < 10000 → month < 100 → date < 100 → 10 ≤ digit_value c
@@ -156,11 +128,6 @@ year_below day few =
     let long = rw same at (years_long 1970 (year - 1970)) in
     grind (arith, ints, is.count, long, few, from)
 
-is_date_true : (year month date : ℕ) → (1 ≤ month) × (month ≤ 12) → (1 ≤ date) × (date ≤ days_of_month year month)
-    → is_date year month date ≡ true
-is_date_true year month date m d =
-    rw (le-leb 1 month m.0, le-leb month 12 m.1, le-leb 1 date d.0, le-leb date (days_of_month year month) d.1) refl
-
 day_of_again : (day : ℕ) → 10957 ≤ day → day ≤ 84005 → day_of (date_after day) ≡ Some (pos day)
 day_of_again day low high =
     let is = IsDateOf-date_after day in
@@ -171,7 +138,7 @@ day_of_again day low high =
     let number_is : day_number_of d.year d.month d.date ≡ day = cc in
     rw (
       le-leb 1970 d.year from,
-      is_date_true d.year d.month d.date is.month_in is.date_in,
+      (date_test d.year d.month d.date).decides.1 (is.month_in, is.date_in.0, is.date_in.1),
       number_is,
       le-leb 10957 day low,
       le-leb day 84005 high,

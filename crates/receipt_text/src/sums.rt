@@ -3,7 +3,7 @@ ghost use Rattle.std.specs.Prelude.{◌≡◌, ◌+◌, ◌^◌, ◌<◌, ◌≤
 ghost use Rattle.arrayvec.specs.ArrayVec.{array_vec_len};
 ghost use Rattle.taxi_units.specs.Line.{line_size};
 ghost use Rattle.taxi_units.specs.Limits.{largest_supplements};
-ghost use Rattle.taxi_units.specs.Money.{largest_amount};
+ghost use Rattle.taxi_units.specs.Money.{largest_amount, largest_display_step};
 ghost use Rattle.taxi_units.specs.Reading.{Gives};
 ghost use Rattle.taxi_units.specs.Shown.{fare_of};
 ghost use Rattle.receipt_text.specs.AmountLines.{total_of};
@@ -13,7 +13,10 @@ ghost use Rattle.receipt_text.specs.Receipts.{fare_text, last_text, optional_tex
 use crate::amounts::{amount_behind, amount_below};
 use crate::fields::put_amount;
 use crate::figures::READ_BELOW;
-use taxi_units::{LARGEST_AMOUNT, LARGEST_SUPPLEMENTS, Line, LineFull, Receipt, put_bytes, word};
+use taxi_units::{
+    LARGEST_AMOUNT, LARGEST_DISPLAY_STEP, LARGEST_SUPPLEMENTS, Line, LineFull, Receipt, put_bytes,
+    word,
+};
 
 /// What the optional lines say: 0 of each that isn't there.
 #[derive(Clone, Copy)]
@@ -31,14 +34,14 @@ pub(crate) struct Sums {
 /// Whether the amounts are in their ranges, and the fare is the one that they give.
 pub(crate) fn has_amounts(receipt: &Receipt) -> bool
     ensures { IsTrue result ↔ ((receipt.now.initial ≤ largest_amount) × (receipt.now.minimum ≤ largest_amount)
-        × (receipt.now.steps < 10 ^ 18) × (1 ≤ receipt.now.step) × (receipt.now.step ≤ 1000000)
+        × (receipt.now.steps < 10 ^ 18) × (1 ≤ receipt.now.step) × (receipt.now.step ≤ largest_display_step)
         × (receipt.now.supplements ≤ largest_supplements) × (receipt.now.fare ≡ fare_of receipt.now)) }
 {
     receipt.initial <= LARGEST_AMOUNT
         && receipt.minimum <= LARGEST_AMOUNT
         && receipt.steps < 1_000_000_000_000_000_000
         && 1 <= receipt.step
-        && receipt.step <= 1_000_000
+        && receipt.step <= LARGEST_DISPLAY_STEP
         && receipt.supplements <= LARGEST_SUPPLEMENTS
         && receipt.fare as u128 == fare_of(receipt)
 }

@@ -1,13 +1,12 @@
 -- The day numbers of the years 2000 to 2199.
 use Rattle.std.proofs.Common.{◌≡◌, ℕ, zero, suc, ◌+◌, ◌-◌, ◌<◌, ◌≤◌, pos, Bool, true, false, sum, take, slice_index}
-use Rattle.std.proofs.Common.{if◌then◌else◌, inl, inr, refl, arith, Decides, leb}
+use Rattle.std.proofs.Common.{if◌then◌else◌, inl, inr, refl, arith}
 use Rattle.std.proofs.lemmas.Bool.{cases_lt}
-use Rattle.std.proofs.lemmas.Bool.Decides.{Decides-and, Decides-by_and}
 use Rattle.std.proofs.lemmas.Int.{ints}
-use Rattle.std.specs.List.{list_all}
-use Rattle.interval_clock.specs.Calendar.{IsDateOf, is_date, is_leap_year, month_lengths, days_of_month, days_of_months}
+use Rattle.interval_clock.specs.Calendar.{IsDate, IsDateOf, is_date, is_leap_year, month_lengths, days_of_months}
 use Rattle.interval_clock.specs.Calendar.{days_of_year, days_of_years, place_in_year, day_number_of}
-use Rattle.taxi_units.specs.Test.{at_most}
+use Rattle.taxi_units.specs.DateTest.{date_test}
+use Rattle.taxi_units.specs.Test.{at_most, each}
 
 -- later years begin later
 pub years_rise : (year later : ℕ) → year ≤ later → days_of_years year ≤ days_of_years later
@@ -76,23 +75,15 @@ place_bound false
 place_bound false (suc (suc (suc (suc (suc (suc (suc (suc (suc (suc (suc (suc (suc more))))))))))))) date low high first
     last = absurd (omega arith)
 
-pub date_decides : (year month date : ℕ) → Decides (is_date year month date)
-    ((1 ≤ month) × ((month ≤ 12) × ((1 ≤ date) × (date ≤ days_of_month year month))))
-date_decides year month date =
-    Decides-and _ _ (at_most 1 month).decides (Decides-and _ _ (at_most month 12).decides
-    (Decides-and _ _ (at_most 1 date).decides (at_most date (days_of_month year month)).decides))
-
-in_year : (year month date : ℕ) → is_date year month date ≡ true → place_in_year year month date < days_of_year year
+in_year : (year month date : ℕ) → IsDate year month date → place_in_year year month date < days_of_year year
 unfolding days_of_months
-in_year year month date is =
-    let there = (date_decides year month date).0 is in
-    place_bound (is_leap_year year) month date there.0 there.1.0 there.1.1.0 there.1.1.1
+in_year year month date is = place_bound (is_leap_year year) month date is.0.0 is.0.1 is.1 is.2
 
 -- a date of 2000 to 2199 has a day number of 10,957 to 84,005
 pub days_in_range : (year month date : ℕ) → 2000 ≤ year → year ≤ 2199 → is_date year month date ≡ true
     → (10957 ≤ day_number_of year month date) × (day_number_of year month date ≤ 84005)
 days_in_range year month date from to is =
-    let inside = in_year year month date is in
+    let inside = in_year year month date ((date_test year month date).decides.0 is) in
     let begun = years_rise 2000 year from in
     let over = years_rise (suc year) 2200 (omega arith) in
     let ends = year_ends year in (
@@ -102,25 +93,18 @@ days_in_range year month date from to is =
 
 -- a month has at most 31 days
 month_bound : (leap : Bool) (place : ℕ) → place < 12 → slice_index (month_lengths leap) place ≤ 31
-month_bound true place lt = (Decides-by_and (λ d. leb d 31) (λ d. d ≤ 31) (list_all (λ d. leb d 31))
-    (λ d. (at_most d 31).decides) refl (λ _ _. refl) (month_lengths true)).0 refl place 0 lt
-month_bound false place lt = (Decides-by_and (λ d. leb d 31) (λ d. d ≤ 31) (list_all (λ d. leb d 31))
-    (λ d. (at_most d 31).decides) refl (λ _ _. refl) (month_lengths false)).0 refl place 0 lt
+month_bound true place lt = (each (λ d. at_most d 31) (month_lengths true)).decides.0 refl place 0 lt
+month_bound false place lt = (each (λ d. at_most d 31) (month_lengths false)).decides.0 refl place 0 lt
 
-pub date_bound : (year month date : ℕ) → is_date year month date ≡ true → (month ≤ 12) × (date ≤ 31)
+pub date_bound : (year month date : ℕ) → IsDate year month date → (month ≤ 12) × (date ≤ 31)
 date_bound year month date is =
-    let there = (date_decides year month date).0 is in (
-      there.1.0,
-      omega (arith, there.1.1.1, month_bound (is_leap_year year) (month - 1) (omega (arith, there.0, there.1.0))),
-    )
+    (is.0.1, omega (arith, is.2, month_bound (is_leap_year year) (month - 1) (omega (arith, is.0))))
 
 -- and a day number of 10,957 to 84,005 is of a date of those years
 pub year_in_range : (n year month date : ℕ) → IsDateOf (pos n) year month date → 10957 ≤ n → n ≤ 84005
     → (2000 ≤ year) × (year ≤ 2199)
 year_in_range n year month date is from to =
-    let there : is_date year month date ≡ true =
-    (date_decides year month date).1 (is.month_in.0, (is.month_in.1, (is.date_in.0, is.date_in.1))) in
-    let inside = in_year year month date there in
+    let inside = in_year year month date (is.month_in, is.date_in.0, is.date_in.1) in
     let ends = year_ends year in
     let count : n + days_of_years 1970 ≡ days_of_years year + place_in_year year month date =
     omega (arith, ints, is.count) in (

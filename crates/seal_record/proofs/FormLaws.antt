@@ -3,12 +3,11 @@ use Rattle.std.proofs.Common.{◌≡◌, ℕ, ◌≤◌, ◌↔◌, Bool, true, 
 use Rattle.std.proofs.Common.{length, Option, Some, None, Decides, refl, sym, ap, subst, ◌∙◌, arith}
 use Rattle.std.specs.Prelude.{codes}
 use Rattle.std.specs.Str.{bytes_eq}
-use Rattle.std.proofs.lemmas.Bool.Decides.{Decides-and, Decides-eqb}
 use Rattle.std.proofs.lemmas.List.{append-nil}
 use Rattle.std.proofs.lemmas.Slice.Eq.{bytes_eq-Decides}
 use Rattle.drive_modes.specs.declared.charges.Mode.{Mode}
 use Rattle.drive_modes.specs.declared.charges.Mode.TheVariants.{Single, Double}
-use Rattle.interval_clock.specs.Calendar.{IsDateOf, day_number_of, is_date}
+use Rattle.interval_clock.specs.Calendar.{IsDateOf, day_number_of}
 use Rattle.interval_clock.proofs.Laws.{is_date_of_number, one_day_number}
 use Rattle.taxi_units.specs.Digits.{AreDigitsOf, IsNumberIn}
 use Rattle.taxi_units.specs.Number.{NoDigitFirst, number_at, number_in, number_of_width}
@@ -18,9 +17,9 @@ use Rattle.taxi_units.proofs.Laws.{words_are_read_by_their_text}
 use Rattle.seal_record.specs.Forms.{IsDateText, IsModeText, IsOffsetText, IsPairText}
 use Rattle.seal_record.specs.Forms.IsModeText.{double_said, single_said}
 use Rattle.seal_record.specs.Forms.IsOffsetText.{ahead, behind}
+use Rattle.taxi_units.specs.DateTest.{date_test}
 use Rattle.taxi_units.specs.Test.{at_most}
-use Rattle.seal_record.specs.Values.{mode_read, offset_read, pair_read, secured_read, where_date}
-use Rattle.seal_record.proofs.DayBounds.{date_decides}
+use Rattle.seal_record.specs.Values.{mode_read, offset_read, pair_read, secured_read, secured_test, where_date}
 use Rattle.seal_record.proofs.PlainValues.{minus_again, no_minus}
 use Rattle.seal_record.proofs.ParamRanges.{let_through, read_on}
 use Rattle.seal_record.proofs.TextLaws.{empty_of, numbers_in_ranges}
@@ -156,16 +155,13 @@ record IsRead (year month date : ℕ) (rest : List ℕ) (day : ℤ) : Type 0 whe
 read_is : (year month date : ℕ) (rest : List ℕ) (day : ℤ) → where_date year month date rest ≡ Some day
     → IsRead year month date rest day
 read_is year month date rest day e =
-    let through = let_through _ (pos (day_number_of year month date)) day (Decides-and _ _ (Decides-eqb (length rest) 0)
-    (Decides-and _ _ (at_most 2000 year).decides (Decides-and _ _ (at_most year 2199).decides
-    (λ (h : is_date year month date ≡ true). h, λ (h : is_date year month date ≡ true). h)))) e in
-    let there = (date_decides year month date).0 through.0.1.1.1 in
+    let through = let_through (secured_test year month date rest) (pos (day_number_of year month date)) day e in
     record {
       nothing_left = empty_of rest through.0.0;
       years_from = through.0.1.0;
       years_to = through.0.1.1.0;
-      day_of = subst (λ (d : ℤ). IsDateOf d year month date) through.1 (is_date_of_number year month date
-          (omega (arith, through.0.1.0)) ((there.0, there.1.0), there.1.1.0, there.1.1.1));
+      day_of = subst (λ (d : ℤ). IsDateOf d year month date) through.1
+          (is_date_of_number year month date (omega (arith, through.0.1.0)) through.0.1.1.1);
     }
 
 -- the parts of a date that were read one behind the other are its text
@@ -206,8 +202,6 @@ date_is text day e =
 date_from : (text : List ℕ) (day : ℤ) → IsDateText text day → secured_read text ≡ Some day
 unfolding secured_read
 date_from text day is =
-    let there : is_date is.year is.month is.date ≡ true = (date_decides is.year is.month is.date).1
-    (is.day_is.month_in.0, (is.day_is.month_in.1, (is.day_is.date_in.0, is.day_is.date_in.1))) in
     let same = one_day_number day is.year is.month is.date (omega (arith, is.year_is.above)) is.day_is in
     let last : number_of_width 2 is.dates ≡ Some (is.date, []) =
     ap (number_of_width 2) (sym (append-nil is.dates)) ∙ front_from 2 is.dates [] is.date (omega arith) is.date_is tt in
@@ -220,7 +214,7 @@ date_from text day is =
       last,
       (at_most 2000 is.year).decides.1 is.year_is.above,
       (at_most is.year 2199).decides.1 is.year_is.below,
-      there,
+      (date_test is.year is.month is.date).decides.1 (is.day_is.month_in, is.day_is.date_in.0, is.day_is.date_in.1),
     ) (ap (λ (x : ℤ). Some x) (sym same))
 
 pub dates_by_their_form : (text : List ℕ) (day : ℤ) → (secured_read text ≡ Some day) ↔ IsDateText text day

@@ -15,8 +15,7 @@ use Rattle.seal_record.specs.ParamLine.{IsSilent, LineAddsParam}
 use Rattle.seal_record.specs.ParamLine.IsSilent.{comment, empty}
 use Rattle.seal_record.specs.ParamLine.LineAddsParam.{constant_said, hold_said, mode_said, offset_said, secured_said}
 use Rattle.seal_record.specs.ParamLine.LineAddsParam.{silent, taxi_said}
-use Rattle.seal_record.specs.OffsetLaws.{Decides-is_offset_list}
-use Rattle.seal_record.specs.OffsetList.{is_offset_list}
+use Rattle.seal_record.specs.OffsetList.{offsets_test}
 use Rattle.seal_record.specs.ParamsSoFar.{ParamsSoFar}
 use Rattle.seal_record.specs.ParamLineStages.{is_twice, keyed_line, line_read, name_of, or_bad, with_pair, with_value}
 use Rattle.seal_record.specs.TextParts.{IsParted}
@@ -101,8 +100,7 @@ value_says said more Hold line value is once e =
 value_says said more Offset line value is once e =
     let read = read_on (pair_read value) (with_pair said) more e in
     let list = said.offsets ++ read.0 ∷ [] in
-    let through =
-    let_through (is_offset_list list) (record said { offsets = list }) more (Decides-is_offset_list list) read.2 in
+    let through = let_through (offsets_test list) (record said { offsets = list }) more read.2 in
     subst (LineAddsParam said line) through.1
     (offset_said line value read.0 is ((pairs_by_their_form value read.0).0 read.1) through.0)
 value_says said more Secured line value is once e =
@@ -189,7 +187,7 @@ line_from said more number line (hold_said l value n is none valid) =
     (rw ((numbers_in_ranges 0 600 value n).1 valid) refl)
 line_from said more number line (offset_said l value pair is valid lawful) =
     read_of said (record said { offsets = said.offsets ++ pair ∷ [] }) number Offset line value is refl refl
-    (rw ((pairs_by_their_form value pair).1 valid, (Decides-is_offset_list (said.offsets ++ pair ∷ [])).1 lawful) refl)
+    (rw ((pairs_by_their_form value pair).1 valid, (offsets_test (said.offsets ++ pair ∷ [])).decides.1 lawful) refl)
 line_from said more number line (secured_said l value day is none valid) =
     read_of said (record said { secured = Some day }) number Secured line value is refl (ap is_some none)
     (rw ((dates_by_their_form value day).1 valid) refl)

@@ -1,11 +1,11 @@
 -- Parameters that a text says are in their ranges.
 use Rattle.std.proofs.Common.{◌≡◌, ℕ, ◌+◌, ◌<◌, ◌≤◌, Bool, true, false, if◌then◌else◌, ℤ, pos, List, [], ◌∷◌, ◌++◌}
-use Rattle.std.proofs.Common.{length, Option, Some, None, Result, Ok, Err, IfOk, IfSome, Decides, ltb, refl, sym, ap}
+use Rattle.std.proofs.Common.{length, Option, Some, None, Result, Ok, Err, IfOk, IfSome, ltb, refl, sym, ap}
 use Rattle.std.proofs.Common.{subst, ◌∙◌, arith}
-use Rattle.std.proofs.lemmas.Bool.Decides.{Decides-and, Decides-eqb}
 use Rattle.std.proofs.lemmas.Int.{ints}
+use Rattle.std.proofs.lemmas.Option.{cond_some}
 use Rattle.drive_modes.specs.declared.charges.Mode.{Mode}
-use Rattle.interval_clock.specs.Calendar.{day_number_of, is_date}
+use Rattle.interval_clock.specs.Calendar.{day_number_of}
 use Rattle.interval_clock.specs.Offsets.{IsOffsetList}
 use Rattle.taxi_units.specs.Number.{number_in}
 use Rattle.taxi_units.proofs.Laws.{figures_are_read_by_their_digits}
@@ -17,16 +17,16 @@ use Rattle.seal_record.specs.declared.params.Params.{Params}
 use Rattle.seal_record.specs.declared.params.ParamFault.{ParamFault}
 use Rattle.seal_record.specs.declared.params.ParamFault.TheVariants.{TooLong, Twice}
 use Rattle.seal_record.specs.Lines.{is_passed, key_in, value_in, lines_of}
-use Rattle.seal_record.specs.OffsetLaws.{Decides-is_offset_list}
-use Rattle.seal_record.specs.OffsetList.{is_offset_list}
+use Rattle.seal_record.specs.OffsetList.{offsets_test}
 use Rattle.seal_record.specs.Ranges.{IsDay, IsParams, IsTaxi}
 use Rattle.seal_record.specs.Reading.{and_then, lines_read, params_read, whole, whole_of}
 use Rattle.seal_record.specs.ParamsSoFar.{ParamsSoFar, no_params_yet}
 use Rattle.seal_record.specs.ParamLineStages.{is_twice, keyed_line, line_read, name_of, or_bad, with_pair, with_value}
 use Rattle.seal_record.specs.RangeTests.{taxi_test}
-use Rattle.taxi_units.specs.Test.{at_most}
+use Rattle.taxi_units.specs.DateTest.{date_test}
+use Rattle.taxi_units.specs.Test.{Test}
 use Rattle.taxi_units.specs.Number.{number_of_width}
-use Rattle.seal_record.specs.Values.{is_taxi, mode_read, pair_read, secured_read, taxi_read, where_date}
+use Rattle.seal_record.specs.Values.{mode_read, pair_read, secured_read, secured_test, taxi_read, where_date}
 use Rattle.seal_record.proofs.DayBounds.{days_in_range}
 
 -- what has been said is in its ranges
@@ -44,14 +44,12 @@ read_on (Some x) f y e = (x, refl, e)
 read_on None f y e = absurd cc
 
 -- what a test let through
-pub let_through : {A : Type 0} {P : Type 0} (b : Bool) (x y : A) → Decides b P
-    → (if b then Some x else None) ≡ Some y → P × (x ≡ y)
-let_through true x y decides e = (decides.0 refl, cc)
-let_through false x y decides e = absurd cc
+pub let_through : {A : Type 0} (test : Test) (x y : A) → (if test.passes then Some x else None) ≡ Some y
+    → test.Fact × (x ≡ y)
+let_through test x y e = let through = cond_some test.passes x y e in (test.decides.0 through.0, through.1)
 
 taxi_said : (text taxi : List ℕ) → taxi_read text ≡ Some taxi → IsTaxi taxi
-taxi_said text taxi e = let through = let_through (is_taxi text) text taxi (taxi_test text).decides e in
-    subst IsTaxi through.1 through.0
+taxi_said text taxi e = let through = let_through (taxi_test text) text taxi e in subst IsTaxi through.1 through.0
 
 pub number_said : (low high : ℕ) (text : List ℕ) (n : ℕ) → number_in low high text ≡ Some n → (low ≤ n) × (n ≤ high)
 number_said low high text n e =
@@ -59,10 +57,9 @@ number_said low high text n e =
 
 date_said : (year month date : ℕ) (rest : List ℕ) (day : ℤ) → where_date year month date rest ≡ Some day → IsDay day
 date_said year month date rest day e =
-    let through = let_through _ (pos (day_number_of year month date)) day (Decides-and _ _ (Decides-eqb (length rest) 0)
-    (Decides-and _ _ (at_most 2000 year).decides (Decides-and _ _ (at_most year 2199).decides
-    (λ (h : is_date year month date ≡ true). h, λ (h : is_date year month date ≡ true). h)))) e in
-    let range = days_in_range year month date through.0.1.0 through.0.1.1.0 through.0.1.1.1 in
+    let through = let_through (secured_test year month date rest) (pos (day_number_of year month date)) day e in
+    let years = through.0.1 in
+    let range = days_in_range year month date years.0 years.1.0 ((date_test year month date).decides.1 years.1.1) in
     subst IsDay through.1 (omega (arith, ints, range.0), omega (arith, ints, range.1))
 
 secured_said : (text : List ℕ) (day : ℤ) → secured_read text ≡ Some day → IsDay day
@@ -78,8 +75,7 @@ secured_said text day e =
 pair_kept : (said more : ParamsSoFar) (pair : ℕ × ℤ) → IsSaid said → with_pair said pair ≡ Some more → IsSaid more
 pair_kept said more pair is e =
     let list = said.offsets ++ pair ∷ [] in
-    let through =
-    let_through (is_offset_list list) (record said { offsets = list }) more (Decides-is_offset_list list) e in
+    let through = let_through (offsets_test list) (record said { offsets = list }) more e in
     subst IsSaid through.1 (record {
       taxi = is.taxi;
       constant = is.constant;

@@ -28,7 +28,7 @@ use Rattle.seal_record.specs.declared.params.Name.TheVariants as name
 use Rattle.seal_record.specs.declared.params.Params.{Params}
 use Rattle.seal_record.specs.Lines.{is_passed, lines_of}
 use Rattle.seal_record.specs.TextParts.{HasNone}
-use Rattle.seal_record.specs.OffsetLaws.{Decides-is_offset_list}
+use Rattle.seal_record.specs.OffsetList.{offsets_test}
 use Rattle.seal_record.specs.PlainText.{AreShown, comment_line, commented_text, date_text, ended_text, line_of}
 use Rattle.seal_record.specs.PlainText.{mode_text, offset_line, offset_text, plain_lines, plain_text}
 use Rattle.seal_record.specs.Ranges.{IsParams}
@@ -37,7 +37,7 @@ use Rattle.seal_record.specs.ParamsSoFar.{ParamsSoFar, no_params_yet}
 use Rattle.seal_record.specs.ParamLineStages.{line_read, name_of, named_line}
 use Rattle.seal_record.specs.RangeTests.{taxi_test}
 use Rattle.taxi_units.specs.Test.{at_most, each}
-use Rattle.seal_record.proofs.DayBounds.{date_bound, date_decides, year_in_range}
+use Rattle.seal_record.proofs.DayBounds.{date_bound, year_in_range}
 use Rattle.seal_record.proofs.Parting.{ended_line, key_before, last_line, value_after}
 use Rattle.seal_record.proofs.PlainValues.{date_again, length-padded_text, mode_again, number_again, pair_again}
 use Rattle.taxi_units.specs.Identifier.{IsIdentifierCharacter}
@@ -151,8 +151,7 @@ date_shown n from to =
     let d = date_after n in
     let is = IsDateOf-date_after n in
     let year = year_in_range n d.year d.month d.date is from to in
-    let small = date_bound d.year d.month d.date
-    ((date_decides d.year d.month d.date).1 (is.month_in.0, (is.month_in.1, (is.date_in.0, is.date_in.1)))) in
+    let small = date_bound d.year d.month d.date (is.month_in, is.date_in.0, is.date_in.1) in
     let days = 45 ∷ padded_text 2 d.date in (
       All-append (λ b. 33 ≤ b) (padded_text 4 d.year) (45 ∷ (padded_text 2 d.month ++ days))
           (padded_word 4 d.year (omega (arith, year.1)))
@@ -306,7 +305,7 @@ pair_read_on : (params : Params) (number : ℕ) (done : List (ℕ × ℤ)) (pair
 pair_read_on params number done pair is to from offset =
     keyed_read (four_said params done) number (codes "offset") (decimal pair.0 ++ 32 ∷ offset_text pair.1) Offset
     (is_word (codes "offset") refl) refl named_offset
-    ∙ rw (pair_again pair (from, to) offset, (Decides-is_offset_list (done ++ pair ∷ [])).1 is) refl
+    ∙ rw (pair_again pair (from, to) offset, (offsets_test (done ++ pair ∷ [])).decides.1 is) refl
 
 pairs_read : (params : Params) (number : ℕ) (done left : List (ℕ × ℤ)) (rest : List (List ℕ))
     → IsOffsetList (done ++ left) → ((place : ℕ) → place < length left → IsInRangeAt left place)

@@ -6,7 +6,7 @@ use Rattle.std.proofs.lemmas.List.{append-nil}
 use Rattle.std.specs.Fmt.{decimal}
 use Rattle.drive_modes.specs.declared.charges.Mode.{Mode}
 use Rattle.drive_modes.specs.declared.charges.Mode.TheVariants.{Single, Double}
-use Rattle.interval_clock.specs.Calendar.{date_after, is_date}
+use Rattle.interval_clock.specs.Calendar.{IsDate, date_after}
 use Rattle.interval_clock.specs.Offsets.{IsOffset, IsSecond}
 use Rattle.interval_clock.proofs.Laws.{IsDateOf-date_after, one_day_number}
 use Rattle.taxi_units.specs.Number.{NoDigitFirst, number_at, number_in, number_of_width, padded_text}
@@ -15,10 +15,11 @@ use Rattle.taxi_units.proofs.Laws.{figures_are_read_by_their_digits, numbers_are
 use Rattle.taxi_units.proofs.Laws.{numbers_read_back, padded_numbers_are_written_as_figures}
 use Rattle.taxi_units.proofs.Laws.{padded_numbers_fill_the_width}
 use Rattle.taxi_units.proofs.Laws.{wide_numbers_are_read_by_their_digits, words_are_read_by_their_text}
+use Rattle.taxi_units.specs.DateTest.{date_test}
 use Rattle.taxi_units.specs.Test.{at_most}
 use Rattle.seal_record.specs.PlainText.{date_text, mode_text, offset_text}
 use Rattle.seal_record.specs.Values.{mode_read, offset_read, pair_read, secured_read}
-use Rattle.seal_record.proofs.DayBounds.{date_bound, date_decides, year_in_range}
+use Rattle.seal_record.proofs.DayBounds.{date_bound, year_in_range}
 
 -- a number alone
 number_alone : (n : ℕ) → n < 10 ^ 12 → number_at (decimal n) ≡ Some (n, [])
@@ -107,8 +108,7 @@ date_again n from to =
     let d = date_after n in
     let is = IsDateOf-date_after n in
     let year = year_in_range n d.year d.month d.date is from to in
-    let there : is_date d.year d.month d.date ≡ true =
-    (date_decides d.year d.month d.date).1 (is.month_in.0, (is.month_in.1, (is.date_in.0, is.date_in.1))) in
+    let there : IsDate d.year d.month d.date = (is.month_in, is.date_in.0, is.date_in.1) in
     let small = date_bound d.year d.month d.date there in
     let same = one_day_number (pos n) d.year d.month d.date (omega (arith, year.0)) is in
     rw (
@@ -121,5 +121,5 @@ date_again n from to =
       digits_alone 2 d.date (omega arith) (omega arith) (omega (arith, small.1)) (omega (arith, small.1)),
       (at_most 2000 d.year).decides.1 year.0,
       (at_most d.year 2199).decides.1 year.1,
-      there,
+      (date_test d.year d.month d.date).decides.1 there,
     ) (ap (λ (x : ℤ). Some x) (sym same))

@@ -4,47 +4,41 @@ use Rattle.std.proofs.Common.{Decides, refl, sym, ap, subst, ◌∙◌}
 use Rattle.std.specs.Str.{bytes_eq}
 use Rattle.std.proofs.lemmas.Bool.{false_from_ne_true}
 use Rattle.interval_clock.specs.Offsets.{IsOffsetList}
-use Rattle.taxi_units.specs.Reading.{Gives}
+use Rattle.taxi_units.specs.Reading.{Gives, GivesSame}
 use Rattle.seal_record.specs.declared.params.Params.{Params}
 use Rattle.seal_record.specs.declared.seal.Seal.{Seal}
 use Rattle.seal_record.specs.Decoding.{decoded, reads}
-use Rattle.seal_record.specs.OffsetList.{is_offset_list}
-use Rattle.seal_record.specs.OffsetLaws.{Decides-is_offset_list}
+use Rattle.seal_record.specs.OffsetList.{is_offset_list, offsets_test}
 use Rattle.seal_record.specs.Ranges.{IsSeal, IsTaxi}
 use Rattle.seal_record.specs.RangeTests.{seal_test, taxi_test}
 use Rattle.seal_record.specs.SealLaws.{again}
 use Rattle.slot_bodies.proofs.Laws.{not_in_range, other_bytes, own_bytes, reads_exactly}
 use Rattle.seal_record.specs.Spelling.{spelling}
-use Rattle.seal_record.specs.Values.{is_taxi, taxi_read}
+use Rattle.seal_record.specs.Values.{taxi_read}
 
-taxi_by_test : {R : Type 0} (view : R → List ℕ) (found : Option R) (text : List ℕ) (b : Bool) → Decides b (IsTaxi text)
-    → Gives view found (if b then Some text else None)
-    → MatchOption found (¬ (IsTaxi text)) (λ taxi. (view taxi ≡ text) × IsTaxi (view taxi))
-taxi_by_test view (Some taxi) text true decides given = let same : view taxi ≡ text = cc in
-    (same, subst IsTaxi (sym same) (decides.0 refl))
-taxi_by_test view (Some taxi) text false decides given = absurd cc
-taxi_by_test view None text true decides given = absurd cc
-taxi_by_test view None text false decides given = λ is. absurd (let e : false ≡ true = decides.1 is in cc)
+-- what is found if a test lets something through
+by_test : {R A : Type 0} (view : R → A) (P : A → Type 0) (found : Option R) (x : A) (b : Bool) → Decides b (P x)
+    → Gives view found (if b then Some x else None) → MatchOption found (¬ (P x)) (λ y. (view y ≡ x) × P (view y))
+by_test view P (Some y) x true decides given = let same : view y ≡ x = cc in (same, subst P (sym same) (decides.0 refl))
+by_test view P (Some y) x false decides given = absurd cc
+by_test view P None x true decides given = absurd cc
+by_test view P None x false decides given = λ is. absurd (let e : false ≡ true = decides.1 is in cc)
 
 pub taxi_by : {R : Type 0} (view : R → List ℕ) (found : Option R) (text : List ℕ) → Gives view found (taxi_read text)
     → MatchOption found (¬ (IsTaxi text)) (λ taxi. (view taxi ≡ text) × IsTaxi (view taxi))
-taxi_by view found text given = taxi_by_test view found text (is_taxi text) (taxi_test text).decides given
+taxi_by view found text given = by_test view IsTaxi found text (taxi_test text).passes (taxi_test text).decides given
 
-offsets_by_test : (found : Option (List (ℕ × ℤ))) (list : List (ℕ × ℤ)) (b : Bool) → Decides b (IsOffsetList list)
-    → found ≡ (if b then Some list else None)
-    → MatchOption found (¬ (IsOffsetList list)) (λ offsets. (offsets ≡ list) × IsOffsetList offsets)
-offsets_by_test (Some offsets) list true decides given = let same : offsets ≡ list = cc in
-    (same, subst IsOffsetList (sym same) (decides.0 refl))
-offsets_by_test (Some offsets) list false decides given = absurd cc
-offsets_by_test None list true decides given = absurd cc
-offsets_by_test None list false decides given = λ is. absurd (let e : false ≡ true = decides.1 is in cc)
+gives_same : {A : Type 0} (found read : Option A) → found ≡ read → GivesSame found read
+gives_same (Some x) read is = sym is
+gives_same None read is = sym is
 
 pub offsets_by : (found : Option (List (ℕ × ℤ))) (pairs list : List (ℕ × ℤ)) → pairs ≡ list
     → found ≡ (if is_offset_list pairs then Some pairs else None)
     → MatchOption found (¬ (IsOffsetList list)) (λ offsets. (offsets ≡ list) × IsOffsetList offsets)
 offsets_by found pairs list same given =
-    offsets_by_test found list (is_offset_list list) (Decides-is_offset_list list)
-    (given ∙ ap (λ (xs : List (ℕ × ℤ)). if is_offset_list xs then Some xs else None) same)
+    by_test (λ (xs : List (ℕ × ℤ)). xs) IsOffsetList found list (is_offset_list list) (offsets_test list).decides
+    (gives_same found (if is_offset_list list then Some list else None)
+    (given ∙ ap (λ (xs : List (ℕ × ℤ)). if is_offset_list xs then Some xs else None) same))
 
 -- parameters with the same fields
 pub same_params : (a b : Params) → a.taxi.items ≡ b.taxi.items → a.constant ≡ b.constant → a.mode ≡ b.mode

@@ -10,8 +10,7 @@ use Rattle.taxi_units.proofs.Laws.{figures_are_read_by_their_digits}
 use Rattle.seal_record.specs.declared.params.ParamFault.{ParamFault}
 use Rattle.seal_record.specs.Lines.{key_in, lines_of, value_in}
 use Rattle.interval_clock.specs.Offsets.{IsOffsetList}
-use Rattle.seal_record.specs.OffsetLaws.{Decides-is_offset_list}
-use Rattle.seal_record.specs.OffsetList.{is_offset_list}
+use Rattle.seal_record.specs.OffsetList.{is_offset_list, offsets_test}
 use Rattle.seal_record.specs.Ranges.{IsTaxi}
 use Rattle.seal_record.specs.RangeTests.{taxi_test}
 use Rattle.seal_record.specs.Reading.{and_then, lines_read}
@@ -20,7 +19,7 @@ use Rattle.seal_record.specs.ParamLineStages.{line_read}
 use Rattle.seal_record.specs.TextParts.{HasNone, AreLines, BreaksAt, IsParted}
 use Rattle.seal_record.specs.TextParts.AreLines.{ended, last}
 use Rattle.seal_record.specs.TextParts.IsParted.{alone, parted}
-use Rattle.seal_record.specs.Values.{is_taxi, taxi_read}
+use Rattle.seal_record.specs.Values.{taxi_read}
 use Rattle.seal_record.proofs.Parting.{ended_line, key_alone, key_before, last_line, no_value, value_after}
 use Rattle.seal_record.proofs.ParamRanges.{let_through}
 
@@ -179,9 +178,9 @@ the_first_bad_line said number lines fault = (
 
 pub taxis_are_texts : (text taxi : List ℕ) → (taxi_read text ≡ Some taxi) ↔ (IsTaxi text × (text ≡ taxi))
 taxis_are_texts text taxi = (
-  λ e. let_through (is_taxi text) text taxi (taxi_test text).decides e,
+  λ e. let_through (taxi_test text) text taxi e,
   λ is. rw ((taxi_test text).decides.1 is.0) (ap (λ (t : List ℕ). Some t) is.1),
 )
 
 pub lists_so_far : (pairs : List (ℕ × ℤ)) → (is_offset_list pairs ≡ true) ↔ IsOffsetList pairs
-lists_so_far pairs = Decides-is_offset_list pairs
+lists_so_far pairs = (offsets_test pairs).decides

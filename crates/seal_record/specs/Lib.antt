@@ -3,7 +3,6 @@ pub mod Faults
 pub mod Forms
 pub mod Limits
 pub mod Lines
-pub mod OffsetLaws
 pub mod OffsetList
 pub mod ParamLine
 pub mod ParamLineStages

@@ -1,6 +1,6 @@
 -- For proofs: what one more line of a parameter text says, in the stages of the code. The laws
 -- lines_say_their_parameter and bad_lines_have_their_fault say what it is.
-use Rattle.std.specs.Prelude.{ℕ, Bool, false, if◌then◌else◌, ℤ, List, [], ◌∷◌, ◌++◌, length, ◌==◌, not, Option, Some, None, is_some, Result, Ok, Err, codes}
+use Rattle.std.specs.Prelude.{ℕ, Bool, false, if◌then◌else◌, ℤ, List, [], ◌∷◌, ◌++◌, Option, Some, None, is_some, Result, Ok, Err, codes}
 use Rattle.std.specs.Str.{bytes_eq}
 use Rattle.taxi_units.specs.Reading.{◌>>=◌}
 use Rattle.seal_record.specs.declared.params.Name.{Name}
@@ -24,15 +24,6 @@ name_of key =
     else (if bytes_eq key (codes "hold") then Some Hold
     else (if bytes_eq key (codes "offset") then Some Offset
     else (if bytes_eq key (codes "secured") then Some Secured else None)))))
-
--- a test whether a parameter has been said
-abbrev pub has_param : ParamsSoFar → Name → Bool
-has_param said Taxi = is_some said.taxi
-has_param said Constant = is_some said.constant
-has_param said name.Mode = is_some said.mode
-has_param said Hold = is_some said.hold_time
-has_param said Offset = not (length said.offsets == 0)
-has_param said Secured = is_some said.secured
 
 -- a test whether a parameter that may be said once has been said, so that one line more would say it twice
 abbrev pub is_twice : ParamsSoFar → Name → Bool

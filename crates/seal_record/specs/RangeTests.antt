@@ -1,14 +1,12 @@
 -- For proofs: the tests of the ranges of parameters and seals, each with what it decides.
-use Rattle.std.specs.Prelude.{ℕ, ℤ, pos, ◌≤ℤ◌, int_le, List, length}
-use Rattle.interval_clock.specs.Offsets.{IsOffsetList}
+use Rattle.std.specs.Prelude.{ℕ, pos, List, length}
 use Rattle.seal_record.specs.declared.params.Params.{Params}
 use Rattle.seal_record.specs.declared.seal.Seal.{Seal}
 use Rattle.seal_record.specs.Limits.{longest_taxi, least_constant, greatest_constant, longest_hold, first_day, last_day}
 use Rattle.seal_record.specs.Limits.{last_seal_number, digest_size, most_decimals}
-use Rattle.seal_record.specs.OffsetLaws.{Decides-int_le, Decides-is_offset_list}
-use Rattle.seal_record.specs.OffsetList.{is_offset_list}
+use Rattle.seal_record.specs.OffsetList.{offsets_test}
 use Rattle.seal_record.specs.Ranges.{IsParams, IsSeal, IsTaxi}
-use Rattle.taxi_units.specs.Test.{Test, at_most, each, either, same, stated, within, ◌&◌}
+use Rattle.taxi_units.specs.Test.{Test, at_most, at_most_signed, each, either, same, stated, within, ◌&◌}
 
 -- a character of taxi identifiers
 abbrev pub character_test : ℕ → Test
@@ -20,18 +18,6 @@ taxi_test text = stated (IsTaxi text)
     (at_most 1 (length text) & (at_most (length text) longest_taxi & each character_test text))
     (λ facts. record { some = facts.0; few = facts.1.0; characters = facts.1.1 })
     (λ is. (is.some, (is.few, is.characters)))
-
--- a signed number is at most another
-abbrev pub at_most_signed : ℤ → ℤ → Test
-at_most_signed a b = record { passes = int_le a b; Fact = a ≤ℤ b; decides = Decides-int_le a b }
-
--- a list of offsets
-abbrev pub offsets_test : List (ℕ × ℤ) → Test
-offsets_test offsets = record {
-  passes = is_offset_list offsets;
-  Fact = IsOffsetList offsets;
-  decides = Decides-is_offset_list offsets;
-}
 
 -- parameters
 abbrev pub params_test : Params → Test

@@ -1,24 +1,20 @@
 -- For proofs: the values of the parameters, as they are read. The laws texts_say_parameters_line_by_line and
 -- values_are_read_by_their_forms say what they are.
-use Rattle.std.specs.Prelude.{ℕ, ◌&&◌, ◌==◌, nat_le, Bool, if◌then◌else◌, ℤ, pos, neg_ℤ, List, length, Option, Some}
-use Rattle.std.specs.Prelude.{None, codes}
-use Rattle.std.specs.List.{list_all}
+use Rattle.std.specs.Prelude.{ℕ, if◌then◌else◌, ℤ, pos, neg_ℤ, List, length, Option, Some, None, codes}
 use Rattle.std.specs.Str.{bytes_eq}
 use Rattle.drive_modes.specs.declared.charges.Mode.{Mode}
 use Rattle.drive_modes.specs.declared.charges.Mode.TheVariants.{Single, Double}
-use Rattle.interval_clock.specs.Calendar.{is_date, day_number_of}
+use Rattle.interval_clock.specs.Calendar.{day_number_of}
+use Rattle.taxi_units.specs.DateTest.{date_test}
 use Rattle.taxi_units.specs.Number.{number_at, number_in, number_of_width}
 use Rattle.taxi_units.specs.Reading.{◌>>=◌, word_at}
-use Rattle.seal_record.specs.Limits.{longest_taxi, greatest_offset, first_year, last_year}
-use Rattle.taxi_units.specs.Identifier.{is_identifier_character}
-
--- a test whether a text has 1 to 16 characters of taxi identifiers, and no other
-abbrev pub is_taxi : List ℕ → Bool
-is_taxi text = nat_le 1 (length text) && (nat_le (length text) longest_taxi && list_all is_identifier_character text)
+use Rattle.taxi_units.specs.Test.{Test, at_most, same, ◌&◌}
+use Rattle.seal_record.specs.Limits.{greatest_offset, first_year, last_year}
+use Rattle.seal_record.specs.RangeTests.{taxi_test}
 
 -- a text is read as a taxi identifier if it is one
 abbrev pub taxi_read : List ℕ → Option (List ℕ)
-taxi_read text = if is_taxi text then Some text else None
+taxi_read text = if (taxi_test text).passes then Some text else None
 
 -- a text is read as a mode if it is the word of one
 unfoldable pub mode_read : List ℕ → Option Mode
@@ -42,12 +38,15 @@ pair_read text = do
   offset ← offset_read rest
   Some (second.0, offset)
 
--- a year, a month and a date that were read are a day number if nothing stands behind them and they are a date of
--- the years 2000 to 2199
+-- a year, a month and a date are a date of the years 2000 to 2199, and nothing stands behind them
+abbrev pub secured_test : (year month date : ℕ) → (rest : List ℕ) → Test
+secured_test year month date rest =
+    same (length rest) 0 & (at_most first_year year & (at_most year last_year & date_test year month date))
+
+-- a year, a month and a date that were read are a day number if they pass `secured_test`
 abbrev pub where_date : (year month date : ℕ) → (rest : List ℕ) → Option ℤ
 where_date year month date rest =
-    if (length rest == 0 && (nat_le first_year year && (nat_le year last_year && is_date year month date)))
-    then Some (pos (day_number_of year month date)) else None
+    if (secured_test year month date rest).passes then Some (pos (day_number_of year month date)) else None
 
 -- a text is read as the day number of a date if it is YYYY-MM-DD
 unfoldable pub secured_read : List ℕ → Option ℤ

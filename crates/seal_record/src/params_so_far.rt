@@ -1,5 +1,5 @@
 //! What the lines of a text have said so far.
-ghost use Rattle.std.specs.Prelude.{◌≡◌, ◌++◌, ◌∷◌, [], if◌then◌else◌, Option, Some, None, Ok, Err};
+ghost use Rattle.std.specs.Prelude.{◌≡◌, ◌++◌, ◌∷◌, [], if◌then◌else◌, Some, None};
 ghost use Rattle.taxi_units.specs.Reading.{Gives};
 ghost use Rattle.seal_record.specs.OffsetList.{is_offset_list};
 ghost use Rattle.seal_record.specs.ParamLineStages as spec;

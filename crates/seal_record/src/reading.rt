@@ -1,5 +1,5 @@
 //! Reads the text of the parameters.
-ghost use Rattle.std.specs.Prelude.{◌≡◌, ◌+◌, ◌<◌, ◌≤◌, length, IfOk};
+ghost use Rattle.std.specs.Prelude.{◌≡◌, ◌≤◌, length, IfOk};
 ghost use Rattle.seal_record.specs.Limits.{longest_text};
 ghost use Rattle.seal_record.specs.Ranges.{IsParams};
 ghost use Rattle.seal_record.specs.Lines.{lines_of};

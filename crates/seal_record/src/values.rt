@@ -1,8 +1,9 @@
 //! The values of the parameters.
-ghost use Rattle.std.specs.Prelude.{◌≡◌, ◌<◌, ◌≤◌, [], IfSome};
+ghost use Rattle.std.specs.Prelude.{◌≡◌, ◌≤◌, []};
 ghost use Rattle.std.specs.List.{list_all};
 ghost use Rattle.taxi_units.specs.Reading.{Gives, GivesSame};
 ghost use Rattle.seal_record.specs.Limits.{least_constant, greatest_constant, longest_hold, first_year, last_year};
+ghost use Rattle.seal_record.specs.RangeTests.{taxi_test};
 ghost use Rattle.seal_record.specs.Values as spec;
 ghost use Rattle.taxi_units.specs.Identifier.{is_identifier_character};
 ghost use Rattle.taxi_units.specs.Number.{number_in};
@@ -29,7 +30,7 @@ fn are_taxi_characters(text: &[u8]) -> bool
 
 /// Whether a text is a taxi identifier.
 pub(crate) fn is_taxi(text: &[u8]) -> bool
-    ensures { result ≡ spec.is_taxi text.now }
+    ensures { result ≡ (taxi_test text.now).passes }
 {
     1 <= text.len() && (text.len() <= LONGEST_TAXI && are_taxi_characters(text))
 }

@@ -1,13 +1,12 @@
 use Rattle.std.proofs.Common.{false, refl}
 use Rattle.std.proofs.lemmas.Bool.Decides.{same_from_decides}
-use Rattle.seal_record.specs.OffsetList.{is_offset_list}
-use Rattle.seal_record.specs.OffsetLaws.{Decides-is_offset_list}
+use Rattle.seal_record.specs.OffsetList.{is_offset_list, offsets_test}
 use Rattle.seal_record.proofs.offset_list.offsets_of.Goals as goal
 
 pub returns-in-Ok : goal.returns-in-Ok
 returns-in-Ok c =
-    rw ((Decides-is_offset_list c.args.pairs.now).1 (c.in-Ok.ensures.lawful.0 refl), c.in-Ok.ensures.value) refl
+    rw ((offsets_test c.args.pairs.now).decides.1 (c.in-Ok.ensures.lawful.0 refl), c.in-Ok.ensures.value) refl
 
 pub returns-in-Err : goal.returns-in-Err
 returns-in-Err c = rw (same_from_decides (is_offset_list c.args.pairs.now) false
-    (Decides-is_offset_list c.args.pairs.now) c.in-Err.ensures.lawful) refl
+    (offsets_test c.args.pairs.now).decides c.in-Err.ensures.lawful) refl
