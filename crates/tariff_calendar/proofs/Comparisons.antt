@@ -6,7 +6,8 @@ use Rattle.std.proofs.lemmas.List.Concat.{flat_map-append}
 use Rattle.std.proofs.lemmas.List.Elements.{All-head, All-tail, All-cons, All-nil}
 use Rattle.std.specs.List.{All, flat_map}
 use Rattle.taxi_units.specs.Calendar.{date_place}
-use Rattle.tariff_calendar.proofs.Dates.{has_date, on_places}
+use Rattle.taxi_units.specs.DateTest.{date_test}
+use Rattle.tariff_calendar.proofs.Dates.{on_places}
 use Rattle.tariff_calendar.specs.Lists.{pulses_for}
 use Rattle.tariff_check.specs.Cuts.{atom_cuts, day_cut, minute_cut}
 use Rattle.tariff_check.specs.Lines.{atoms_of}
@@ -171,8 +172,8 @@ holds_alike (tree.date from_month from_date to_month to_date) k x y good have al
     let cuts = All-of_atom P (atom_cuts MonthDay) (tree.date from_month from_date to_month to_date) alike.month_day in
     let parts = All-parts P (day_cut from) (day_cut (to + 1)) cuts in
     let dates = (All-head IsGoodAtom (tree.date from_month from_date to_month to_date) [] good).1 in
-    let first = has_date 2000 from_month from_date dates.0 in
-    let last = has_date 2000 to_month to_date dates.1 in
+    let first = (date_test 2000 from_month from_date).decides.0 dates.0 in
+    let last = (date_test 2000 to_month to_date).decides.0 dates.1 in
     on_places from_month from_date to_month to_date x.month_day first last have.month_day.0
     ∙ (date_alike from to x.month_day y.month_day
     (day_alike from x.month_day y.month_day have.month_day.0 have.month_day.1 parts.0)

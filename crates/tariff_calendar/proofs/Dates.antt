@@ -1,22 +1,10 @@
 -- Months and dates compare as their places in a leap year do.
 use Rattle.std.proofs.Common.{◌≡◌, ◌⊎◌, inl, inr, ◌∙◌, sym, ap, refl, ℕ, ◌<◌, ◌≤◌, true, false, ◌&&◌, ◌||◌, leb, ltb}
 use Rattle.std.proofs.Common.{eqb, Option, Some, None, arith}
-use Rattle.std.proofs.lemmas.Bool.{and_parts, cases_lt, cases_order, eq-eqb, le-leb, le-ltb, leb-true, lt-leb, lt-ltb}
-use Rattle.std.proofs.lemmas.Bool.{ne_eqb}
+use Rattle.std.proofs.lemmas.Bool.{cases_lt, cases_order, eq-eqb, le-leb, le-ltb, lt-leb, lt-ltb, ne_eqb}
 use Rattle.taxi_units.proofs.Laws.{dates_have_places, dates_in_order, places_have_dates}
-use Rattle.taxi_units.specs.Calendar.{IsDate, IsLeapYearDate, date_of_place, date_place, days_of_month, is_date}
+use Rattle.taxi_units.specs.Calendar.{IsLeapYearDate, date_of_place, date_place}
 use Rattle.tariff_syntax.specs.Meaning.{is_by, is_in_dates, is_on, is_within}
-
--- the test whether the calendar has a date tells that it has
-pub has_date : (year month date : ℕ) → is_date year month date ≡ true → IsDate year month date
-has_date year month date is =
-    let months = and_parts (leb 1 month) (leb month 12 && (leb 1 date && leb date (days_of_month year month))) is in
-    let more = and_parts (leb month 12) (leb 1 date && leb date (days_of_month year month)) months.1 in
-    let dates = and_parts (leb 1 date) (leb date (days_of_month year month)) more.1 in (
-      (leb-true 1 month months.0, leb-true month 12 more.0),
-      leb-true 1 date dates.0,
-      leb-true date (days_of_month year month) dates.1,
-    )
 
 -- a date that isn't after another comes by it
 by_where : (a b c d : ℕ) → ((c < a) ⊎ ((c ≡ a) × (d < b)) → ⊥) → (ltb a c || (eqb a c && leb b d)) ≡ true

@@ -1,7 +1,7 @@
 -- Holidays by their day numbers.
-use Rattle.std.proofs.Common.{ltb, ◌==◌, length, ◌≡◌, ◌∙◌, ℕ, Bool, true, false, ◌&&◌, eqb, List, [], ◌∷◌, map}
+use Rattle.std.proofs.Common.{ltb, length, ◌≡◌, ◌∙◌, ℕ, Bool, true, false, List, [], ◌∷◌, map}
 use Rattle.std.proofs.Common.{ℤ, pos, ◌<ℤ◌, arith, refl, ap, subst}
-use Rattle.std.proofs.lemmas.Bool.{and_parts, lt-ltb, eqb-true, eq-eqb, false_from_ne_true}
+use Rattle.std.proofs.lemmas.Bool.{lt-ltb, false_from_ne_true}
 use Rattle.std.proofs.lemmas.Bool.Decides.{Decides-int_eq, same_from_decides}
 use Rattle.std.proofs.lemmas.Int.{ints}
 use Rattle.std.proofs.lemmas.List.Elements.{All-head, All-tail}
@@ -10,7 +10,6 @@ use Rattle.std.specs.Ordering.{int_eq}
 use Rattle.interval_clock.proofs.Laws.{IsDateOf-only, is_date_of_number}
 use Rattle.interval_clock.specs.declared.day_numbers.CalendarDate.{CalendarDate}
 use Rattle.interval_clock.specs.Calendar.{IsDateOf}
-use Rattle.tariff_calendar.proofs.Dates.{has_date}
 use Rattle.tariff_calendar.proofs.Insertions.{list_any-with_each, with_each-some}
 use Rattle.tariff_calendar.specs.Lists.{day_of, has_day, has_days, is_holiday, lists_of}
 use Rattle.tariff_check.proofs.Laws.{sound_tariffs_have_sound_parts-parts}
@@ -18,6 +17,8 @@ use Rattle.tariff_check.specs.Cuts.{with_each}
 use Rattle.tariff_check.specs.Faults.{IsSound}
 use Rattle.tariff_check.specs.Parts.{DateNumbers, has_holidays, holidays_of}
 use Rattle.tariff_check.specs.Sound.{HasSoundParts, IsSoundHoliday}
+use Rattle.taxi_units.specs.DateTest.{date_test}
+use Rattle.taxi_units.specs.Test.{Test, same, ◌&◌}
 use Rattle.tariff_syntax.specs.Tree.{Tree}
 use Rattle.tariff_syntax.specs.Writable.{IsWritable}
 
@@ -32,7 +33,8 @@ has_day-before (h ∷ hs) day before =
 -- a date of the calendar from 2000 on is that of its day number
 IsDateOf-day_of : (d : DateNumbers) → IsSoundHoliday d → IsDateOf (pos (day_of d)) d.year d.month d.date
 IsDateOf-day_of d sound =
-    is_date_of_number d.year d.month d.date (omega (arith, sound.year)) (has_date d.year d.month d.date sound.date)
+    is_date_of_number d.year d.month d.date (omega (arith, sound.year))
+    ((date_test d.year d.month d.date).decides.0 sound.date)
 
 -- two days of one date are the same
 same_day : (day other : ℤ) (year month date : ℕ) → IsDateOf day year month date
@@ -45,19 +47,11 @@ same_day_by day other year month date year₂ month₂ date₂ a b c is also =
     same_day day other year month date (rw (a, b, c) at is) also
 
 -- a holiday is of this date
-abbrev pub is_of_date : (year month date : ℕ) → DateNumbers → Bool
-is_of_date year month date d = (d.year == year) && ((d.month == month) && (d.date == date))
+abbrev of_date_test : (year month date : ℕ) → DateNumbers → Test
+of_date_test year month date d = same d.year year & (same d.month month & same d.date date)
 
-of_date-parts : (year month date : ℕ) (d : DateNumbers) → is_of_date year month date d ≡ true
-    → (d.year ≡ year) × (d.month ≡ month) × (d.date ≡ date)
-of_date-parts year month date d is =
-    let first = and_parts (eqb d.year year) (eqb d.month month && eqb d.date date) is in
-    let second = and_parts (eqb d.month month) (eqb d.date date) first.1 in
-    (eqb-true d.year year first.0, eqb-true d.month month second.0, eqb-true d.date date second.1)
-
-of_date-from : (year month date : ℕ) (d : DateNumbers) → d.year ≡ year → d.month ≡ month → d.date ≡ date
-    → is_of_date year month date d ≡ true
-of_date-from year month date d a b c = rw (eq-eqb d.year year a, eq-eqb d.month month b, eq-eqb d.date date c) refl
+abbrev is_of_date : (year month date : ℕ) → DateNumbers → Bool
+is_of_date year month date d = (of_date_test year month date d).passes
 
 abbrev date_in : DateNumbers → CalendarDate
 date_in d = record { year = d.year; month = d.month; date = d.date }
@@ -73,13 +67,15 @@ day_decides_date day year month date d is sound =
     same_from_decides (int_eq (pos (day_of d)) day) (is_of_date year month date d)
     (Decides-int_eq (pos (day_of d)) day) (
       (λ of_date.
-          let parts = of_date-parts year month date d of_date in
-          same_day_by (pos (day_of d)) day year month date d.year d.month d.date parts.0 parts.1 parts.2 own is),
+          let parts = (of_date_test year month date d).decides.0 of_date in
+          same_day_by (pos (day_of d)) day year month date d.year d.month d.date parts.0 parts.1.0 parts.1.1 own is),
       (λ same.
           let only = IsDateOf-only day (date_in d) (date_is year month date)
           (subst (λ (z : ℤ). IsDateOf z d.year d.month d.date) same own) is in
-          of_date-from year month date d (ap (λ (e : CalendarDate). e.year) only)
-          (ap (λ (e : CalendarDate). e.month) only) (ap (λ (e : CalendarDate). e.date) only)),
+          (of_date_test year month date d).decides.1 (
+            ap (λ (e : CalendarDate). e.year) only,
+            (ap (λ (e : CalendarDate). e.month) only, ap (λ (e : CalendarDate). e.date) only),
+          )),
     )
 
 -- so one of them has that day number where one is of that date

@@ -1,5 +1,5 @@
 //! The lists of cuts and of holidays.
-ghost use Rattle.std.specs.Prelude.{◌≡◌, ℕ, ◌+◌, ◌<◌, ◌≤◌, ◌≤ℤ◌, pos, length, min, IfOk};
+ghost use Rattle.std.specs.Prelude.{◌≡◌, ℕ, ◌+◌, ◌≤◌, ◌≤ℤ◌, pos, length, min, IfOk};
 ghost use Rattle.tariff_calendar.specs.Lists.{IsOrdered, count_at_most, has_day, has_days, list_in, lists_of, most_reads};
 ghost use Rattle.tariff_check.specs.Cuts.{most_cuts};
 ghost use Rattle.tariff_syntax.specs.Tree.{tree_of};

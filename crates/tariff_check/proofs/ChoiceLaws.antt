@@ -1,17 +1,21 @@
 -- The parts of the program are those of the tariff.
-use Rattle.std.proofs.Common.{◌≡◌, ℕ, ◌+◌, cond, List, [], ◌∷◌, ◌++◌, Option, Some, None, length, map, refl, ap, subst}
-use Rattle.std.proofs.Common.{append_assoc, sym}
+use Rattle.std.proofs.Common.{◌≡◌, ℕ, zero, suc, ◌+◌, cond, List, [], ◌∷◌, ◌++◌, Option, Some, None, length, map, refl}
+use Rattle.std.proofs.Common.{ap, append_assoc, subst, sym}
 use Rattle.std.proofs.lemmas.List.{length-append}
 use Rattle.std.specs.List.{cons_option, filter, slice_get}
-use Rattle.std.specs.Option.{is_some, option_map}
-use Rattle.tariff_syntax.specs.Choices.{Choice, choices, values_of}
+use Rattle.std.specs.Option.{is_some, option_and_then, option_map}
+use Rattle.tariff_syntax.specs.Choices.{Choice, choices, conditions_of, values_of}
 use Rattle.tariff_syntax.specs.Condition.{Condition}
+use Rattle.tariff_syntax.specs.Meaning.{place_of}
 use Rattle.tariff_syntax.specs.Tree.{Tree, Line, Entry, holiday, supplement, when_part}
-use Rattle.tariff_check.specs.Kinds.{entry_with, kept_of, part_of}
+use Rattle.tariff_syntax.specs.declared.context.Context.{Context}
+use Rattle.tariff_check.specs.FoundLines.{line_in_force}
+use Rattle.tariff_check.specs.Kinds.{Said, entry_with, kept_of, part_of}
 use Rattle.tariff_check.specs.Parts.{DateNumbers, holiday_part, parts}
-use Rattle.tariff_check.specs.Resolved.{HasParts, placed_from}
+use Rattle.tariff_check.specs.Resolved.{HasParts, line_of_own, placed_from}
 use Rattle.tariff_check.specs.SoundTariff.{AreChoices, HasAllLines, entries_told, holiday_entry, is_told, line_with}
-use Rattle.tariff_check.specs.SoundTariff.{numbered_supplement, sound_of, supplement_entry, when_at, when_of_line}
+use Rattle.tariff_check.specs.SoundTariff.{numbered_supplement, own_conditions, sound_of, supplement_entry, when_at}
+use Rattle.tariff_check.specs.SoundTariff.{when_of_line}
 use Rattle.tariff_check.specs.declared.values.Supplement.{Supplement}
 use Rattle.tariff_check.specs.declared.choice.Choice as program
 use Rattle.tariff_check.specs.declared.choice.ChoiceKind.{ChoiceKind}
@@ -55,6 +59,42 @@ module _ {V : Type 0} (part : Entry → Option V) where
       subst (λ (all : List (program.Choice V)). AreChoices lines all (choices part lines)) (sym same)
       (placed_after [] lines)
 
+  -- what the program chose stands at the place of a line of the kind
+  placed_lines : (before ls : List Line) (place : ℕ)
+      → line_of_own (before ++ ls) (placed_from part (length before) ls) place
+      ≡ slice_get (filter (is_told part) ls) place
+  placed_lines before [] place = refl
+  placed_lines before (l ∷ ls) place =
+      let lines = before ++ l ∷ ls in
+      let told = filter (is_told part) ls in
+      let more : (n : ℕ) → line_of_own lines (placed_from part (length (before ++ l ∷ [])) ls) n ≡ slice_get told n =
+      λ (n : ℕ). rw (← append_assoc before (l ∷ []) ls) (placed_lines (before ++ l ∷ []) ls n) in
+      let rest : (n : ℕ) → line_of_own lines (placed_from part (length before + 1) ls) n ≡ slice_get told n =
+      subst (λ (m : ℕ). (n : ℕ) → line_of_own lines (placed_from part m ls) n ≡ slice_get told n)
+      (length-append before (l ∷ [])) more in
+      at_place (part l.entry) (placed_from part (length before + 1) ls) rest place
+    where
+      at_place : (o : Option V) (own : List (program.Choice V))
+          → ((n : ℕ) → line_of_own (before ++ l ∷ ls) own n ≡ slice_get (filter (is_told part) ls) n)
+          → (n : ℕ) → line_of_own (before ++ l ∷ ls) (cons_option
+          (option_map (λ (v : V). record { value = v; line = l.line; place = length before }) o) own) n
+          ≡ slice_get (cond (is_some o) (l ∷ filter (is_told part) ls) (filter (is_told part) ls)) n
+      at_place None own rest n = rest n
+      at_place (Some v) own rest zero = at_end before l ls
+      at_place (Some v) own rest (suc n) = rest n
+
+  -- so the line of the first that holds is the one in force
+  own_in_force : (lines : List Line) (own : List (program.Choice V)) (x : Context) → own ≡ placed_from part 0 lines
+      → option_and_then (line_of_own lines own) (place_of x (own_conditions lines own))
+      ≡ option_and_then (slice_get (filter (is_told part) lines)) (place_of x (conditions_of (choices part lines)))
+  own_in_force lines own x same =
+      rw ((placed_are lines own same).conditions, same) (by_place (place_of x (conditions_of (choices part lines))))
+    where
+      by_place : (o : Option ℕ) → option_and_then (line_of_own lines (placed_from part 0 lines)) o
+          ≡ option_and_then (slice_get (filter (is_told part) lines)) o
+      by_place None = refl
+      by_place (Some place) = placed_lines [] lines place
+
   -- their values are the parts of the lines
   pub values_are : (ls : List Line) → values_of (choices part ls) ≡ parts part ls
   values_are [] = refl
@@ -86,6 +126,12 @@ module _ {V : Type 0} (part : Entry → Option V) where
 pub kept_are : (kind : ChoiceKind) (lines : List Line) (p : Parts) → HasParts lines p
     → AreChoices lines (kept_of kind p.choices) (choices (part_of kind) lines)
 kept_are kind lines p has = placed_are (part_of kind) lines (kept_of kind p.choices) (has.choices kind)
+
+-- and the line of the first of them that holds is the one in force
+pub in_force : (kind : ChoiceKind) (lines : List Line) (own : List (program.Choice (Said kind))) (x : Context)
+    → own ≡ placed_from (part_of kind) 0 lines
+    → option_and_then (line_of_own lines own) (place_of x (own_conditions lines own)) ≡ line_in_force kind x lines
+in_force kind = own_in_force (part_of kind)
 
 -- and so the entries of a kind without conditions
 pub entries_again : {A : Type 0} (part : Entry → Option A) (entry : A → Entry)

@@ -11,7 +11,7 @@ use Rattle.tariff_syntax.specs.Condition.{Condition}
 use Rattle.tariff_syntax.specs.Meaning.{choice_place, holds_if}
 use Rattle.tariff_syntax.specs.Tree.{Tree, Entry}
 use Rattle.tariff_syntax.specs.declared.context.Context.{Context}
-use Rattle.tariff_syntax.proofs.Laws.{first_lines_hold}
+use Rattle.tariff_syntax.proofs.Laws.{first_lines_hold-conditions}
 use Rattle.tariff_check.specs.Faults.{IsSound, has_default}
 use Rattle.tariff_check.specs.Parts.{initial_part, rate_part}
 use Rattle.tariff_check.specs.declared.fault.CheckFault.TheVariants.{NoDefaultInitial, NoDefaultRate}
@@ -33,7 +33,7 @@ module _ {V : Type 0} (part : Entry → Option V) (t : Tree) (x : Context) where
       → place < length (values_of (choices part t.lines))
   choice_there place h =
       let all = choices part t.lines in
-      let first = (first_lines_hold x (conditions_of all) (Some place)).0 h in
+      let first = (first_lines_hold-conditions x (conditions_of all) (Some place)).0 h in
       omega (
         arith,
         slice_get_within (conditions_of all) place first.0 first.1,
@@ -50,7 +50,7 @@ module _ {V : Type 0} (part : Entry → Option V) (t : Tree) (x : Context) where
           → (place : ℕ) × (choice_place part t x ≡ Some place) × (place < length (values_of (choices part t.lines)))
       by_place None e =
           let conditions = conditions_of (choices part t.lines) in
-          absurd (default_holds x conditions default ((first_lines_hold x conditions None).0 e))
+          absurd (default_holds x conditions default ((first_lines_hold-conditions x conditions None).0 e))
       by_place (Some place) e = (place, e, choice_there place e)
 
 not_false : (b : Bool) → not b ≡ false → b ≡ true

@@ -14,6 +14,8 @@ mod CutOrder
 mod DefaultLines
 -- the first line that meets a test
 mod FirstLine
+-- what is looked for among lines one by one is found among their parts
+mod FirstParts
 -- a sound tariff tells its frame once
 mod FrameLines
 -- what is proved of each kind of line

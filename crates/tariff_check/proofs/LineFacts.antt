@@ -5,6 +5,7 @@ use Rattle.std.proofs.lemmas.Bool.{leb-true, ltb-false, eqb-false}
 use Rattle.std.proofs.lemmas.List.Elements.{All-nil, All-cons, All-append}
 use Rattle.std.specs.List.{list_any}
 use Rattle.drive_modes.specs.declared.meterage.Rounding.{Rounding}
+use Rattle.taxi_units.specs.Money.{largest_display_step}
 use Rattle.tariff_syntax.specs.Condition as tree
 use Rattle.tariff_syntax.specs.Condition.{Condition}
 use Rattle.tariff_syntax.specs.Part as part
@@ -38,10 +39,10 @@ both_true : (a b : Bool) → (a && b) ≡ true → (a ≡ true) × (b ≡ true)
 both_true true b h = (refl, h)
 both_true false b h = absurd cc
 
-pub step_fact : (x : Entry) → IsGoodEntry x → (s : ℕ × Rounding) → step_part x ≡ Some s → s.0 ≤ 10 ^ 6
+pub step_fact : (x : Entry) → IsGoodEntry x → (s : ℕ × Rounding) → step_part x ≡ Some s → s.0 ≤ largest_display_step
 step_fact (step amount rounding) good s h =
     let same : amount ≡ s.0 = cc in
-    let most = ltb-false (10 ^ 6) amount good.moderate in
+    let most = ltb-false largest_display_step amount good.moderate in
     omega arith
 step_fact x good s h = absurd cc
 

@@ -7,6 +7,7 @@ use Rattle.std.proofs.Math.Nat.{mul-pos}
 use Rattle.std.specs.List.{list_any}
 use Rattle.std.specs.Option.{is_none, unwrap_or}
 use Rattle.drive_modes.specs.declared.meterage.Rounding.{Rounding}
+use Rattle.taxi_units.specs.Money.{largest_display_step}
 use Rattle.tariff_syntax.specs.Choices.{choices}
 use Rattle.tariff_syntax.specs.Tree.{Tree, Line, Entry}
 use Rattle.tariff_syntax.specs.Writable.{IsFromTo, IsWritable}
@@ -92,7 +93,8 @@ number_or_one (Some n) h = h n refl
 
 -- a step that is there and isn't 0
 step_there : (o : Option (ℕ × Rounding)) → is_none o ≡ false → is_step_zero o ≡ false
-    → ((s : ℕ × Rounding) → o ≡ Some s → s.0 ≤ 10 ^ 6) → (s : ℕ × Rounding) × (o ≡ Some s) × IsFromTo 1 (10 ^ 6) s.0
+    → ((s : ℕ × Rounding) → o ≡ Some s → s.0 ≤ largest_display_step)
+    → (s : ℕ × Rounding) × (o ≡ Some s) × IsFromTo 1 largest_display_step s.0
 step_there None there some most = absurd cc
 step_there (Some s) there some most =
     let apart = eqb-false s.0 0 some in
@@ -133,8 +135,8 @@ sound_parts t w h =
     record {
       decimals = w.decimals;
       step = step_there (step_of ls) (not_if _ NoStep (assumption none)) (not_if _ StepZero (assumption none))
-          (λ (s : ℕ × Rounding) e. first_part_has step_part (λ (s : ℕ × Rounding). s.0 ≤ 10 ^ 6) ls s
-          (given step_part (λ (s : ℕ × Rounding). s.0 ≤ 10 ^ 6) ls step_fact good) e);
+          (λ (s : ℕ × Rounding) e. first_part_has step_part (λ (s : ℕ × Rounding). s.0 ≤ largest_display_step) ls s
+          (given step_part (λ (s : ℕ × Rounding). s.0 ≤ largest_display_step) ls step_fact good) e);
       positions = positions;
       zones = zones;
       choices = λ (kind : ChoiceKind). (choices_sound kind ls good many).0;
@@ -170,9 +172,10 @@ own_few kind t own parts are =
     )
 
 -- and the step that the program keeps is in its range
-pub step_range : (t : Tree) (n : Numbers) → HasSoundParts t → HasNumbers t.lines n → IsFromTo 1 (10 ^ 6) n.step
+pub step_range : (t : Tree) (n : Numbers) → HasSoundParts t → HasNumbers t.lines n
+    → IsFromTo 1 largest_display_step n.step
 step_range t n parts h =
     let found : step_of t.lines ≡ Some parts.step.0 = parts.step.1 in
     let read : step_of t.lines ≡ Some (n.step, n.rounding) = h.step in
     let same : parts.step.0 ≡ (n.step, n.rounding) = cc in
-    subst (λ (s : ℕ × Rounding). IsFromTo 1 (10 ^ 6) s.0) same parts.step.2
+    subst (λ (s : ℕ × Rounding). IsFromTo 1 largest_display_step s.0) same parts.step.2

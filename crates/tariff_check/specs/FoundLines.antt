@@ -1,10 +1,11 @@
 -- Rules: the line of a tariff that says a part of its frame, or that counts in a context.
-use Rattle.std.specs.Prelude.{Bool, true, false, ◌&&◌, ◌==◌, List, find, Option}
-use Rattle.tariff_syntax.specs.Meaning.{holds_if}
+use Rattle.std.specs.Prelude.{Bool, true, false, ◌==◌, List, filter, find, Option, option_and_then}
+use Rattle.std.specs.List.{slice_get}
 use Rattle.tariff_syntax.specs.Tree.{Line, Entry, step, positions, zones, supplement}
 use Rattle.tariff_syntax.specs.declared.context.Context.{Context}
-use Rattle.tariff_check.specs.Kinds.{is_of}
-use Rattle.tariff_check.specs.Parts.{when_part}
+use Rattle.tariff_check.specs.Kinds.{part_of}
+use Rattle.tariff_check.specs.SoundLookups.{place_in_force}
+use Rattle.tariff_check.specs.SoundTariff.{choices, is_told}
 use Rattle.tariff_check.specs.declared.choice.ChoiceKind.{ChoiceKind}
 use Rattle.tariff_check.specs.declared.found_lines.FramePart.{FramePart}
 use Rattle.tariff_check.specs.declared.found_lines.FramePart.TheVariants.{Step, Positions, Zones, Supplement}
@@ -22,10 +23,12 @@ says part entry = false
 abbrev pub frame_line : FramePart → List Line → Option Line
 frame_line part lines = find (λ (l : Line). says part l.entry) lines
 
--- the test `is_in_force` is true if an entry is of a kind, and has no condition or its condition holds in a context
-abbrev pub is_in_force : ChoiceKind → Context → Entry → Bool
-is_in_force kind x entry = is_of kind entry && holds_if x (when_part entry)
+-- the lines of a kind are those that have the part of it, in order
+abbrev pub lines_of_kind : ChoiceKind → List Line → List Line
+lines_of_kind kind lines = filter (is_told (part_of kind)) lines
 
--- the line of a kind in force in a context is the first of the kind that holds there, if there is one
+-- the line of a kind in force in a context is the one of the first choice of the kind that holds there, if one does: it
+-- stands at the same place among the lines of the kind
 abbrev pub line_in_force : ChoiceKind → Context → List Line → Option Line
-line_in_force kind x lines = find (λ (l : Line). is_in_force kind x l.entry) lines
+line_in_force kind x lines =
+    option_and_then (slice_get (lines_of_kind kind lines)) (place_in_force (choices (part_of kind) lines) x)

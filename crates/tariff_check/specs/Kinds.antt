@@ -1,7 +1,7 @@
 -- Rules: what is said of each kind of line.
 use Rattle.std.specs.Prelude.{ℕ, ◌^◌, ◌≤◌, Bool, true, false, ◌||◌, nat_lt, List, [], ◌∷◌, Option, Some, None}
 use Rattle.std.specs.Option.{is_some}
-use Rattle.taxi_units.specs.Money.{largest_amount}
+use Rattle.taxi_units.specs.Money.{largest_amount, largest_display_step}
 pub use Rattle.tariff_syntax.specs.Choices.{InitialNumbers, RateNumbers, initial_part, minimum_part, rate_part}
 use Rattle.tariff_syntax.specs.Choices.{choices, values_of}
 use Rattle.tariff_syntax.specs.Condition.{Condition}
@@ -80,7 +80,7 @@ IsSoundSaid Minimum amount = amount ≤ largest_amount
 -- the test `is_great` is true if a line has an amount that is too great: a step, an amount of a rate or a supplement
 -- above 1,000,000, or an initial hire fee, its cover or a minimum fare above 99,999,999
 abbrev pub is_great : Entry → Bool
-is_great (step amount rounding) = nat_lt (10 ^ 6) amount
+is_great (step amount rounding) = nat_lt largest_display_step amount
 is_great (supplement number amount most) = nat_lt (10 ^ 6) amount
 is_great (rate a b c e when) = nat_lt (10 ^ 6) a || nat_lt (10 ^ 6) c
 is_great (initial amount covers when) = nat_lt largest_amount amount || nat_lt largest_amount covers

@@ -1,7 +1,7 @@
 -- For proofs: the parts of a tariff as the program keeps them. SoundTariff says what they are.
 use Rattle.std.specs.Prelude.{◌≡◌, ℕ, ◌+◌, List, [], ◌∷◌, Option, length}
-use Rattle.std.specs.List.{cons_option}
-use Rattle.std.specs.Option.{option_map}
+use Rattle.std.specs.List.{cons_option, slice_get}
+use Rattle.std.specs.Option.{option_and_then, option_map}
 use Rattle.tariff_syntax.specs.Tree.{Line, Entry}
 use Rattle.tariff_check.specs.ChoiceLines.{choice_lines}
 use Rattle.tariff_check.specs.Kinds.{kept_of, kind_of, part_of}
@@ -22,6 +22,10 @@ placed {V} part place l =
 abbrev pub placed_from : {V : Type 0} → (Entry → Option V) → (place : ℕ) → List Line → List (Choice V)
 placed_from part place [] = []
 placed_from part place (l ∷ ls) = cons_option (placed part place l) (placed_from part (place + 1) ls)
+
+-- the line of the choice of the program at a place among some, if there is one, is the line at the place that it keeps
+abbrev pub line_of_own : {V : Type 0} → List Line → List (Choice V) → (place : ℕ) → Option Line
+line_of_own {V} lines own place = option_and_then (λ (c : Choice V). slice_get lines c.place) (slice_get own place)
 
 -- the choice that a line gives, of any kind, where it is told of each kind how many stand before
 abbrev pub counted_choice : (ChoiceKind → ℕ) → Line → Option ChoiceLine

@@ -2,6 +2,7 @@
 use Rattle.std.specs.Prelude.{◌≡◌, ℕ, ◌^◌, ◌≤◌, true, Some, length, All, IsTrue}
 use Rattle.drive_modes.specs.declared.meterage.Rounding.{Rounding}
 use Rattle.taxi_units.specs.Calendar.{is_date}
+use Rattle.taxi_units.specs.Money.{largest_display_step}
 use Rattle.tariff_syntax.specs.Condition as tree
 use Rattle.tariff_syntax.specs.Condition.{Condition}
 use Rattle.tariff_syntax.specs.Tree.{Tree, Line}
@@ -43,7 +44,7 @@ IsGoodAtom atom = IsWritableCondition atom × IsSoundAtom atom
 -- a tariff has sound parts if each of them is sound and there are no more of them than there may be
 pub record HasSoundParts (t : Tree) : Type 0 where
   pub decimals : t.decimals ≤ 3
-  pub step : (s : ℕ × Rounding) × (step_of t.lines ≡ Some s) × IsFromTo 1 (10 ^ 6) s.0
+  pub step : (s : ℕ × Rounding) × (step_of t.lines ≡ Some s) × IsFromTo 1 largest_display_step s.0
   pub positions : IsFromTo 1 9 (positions_of t.lines)
   pub zones : IsFromTo 1 9 (zones_of t.lines)
   pub choices : (kind : ChoiceKind) → All (IsSoundSaid kind) (said_by kind t.lines)

@@ -1,5 +1,5 @@
 //! The cuts of an atom.
-ghost use Rattle.std.specs.Prelude.{◌≡◌, Some, None};
+ghost use Rattle.std.specs.Prelude.{◌≡◌, None};
 ghost use Rattle.tariff_check.specs.Cuts.{atom_cuts, day_cut, minute_cut};
 ghost use Rattle.tariff_check.specs.Rules.{cut_list};
 ghost use Rattle.tariff_check.specs.declared.fault.Dimension.TheVariants.{Distance, Minute, MonthDay, Time};

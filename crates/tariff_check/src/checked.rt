@@ -12,6 +12,7 @@ ghost use Rattle.tariff_syntax.specs.Condition.{condition_of};
 ghost use Rattle.tariff_syntax.specs.Meaning.{holds_if};
 ghost use Rattle.tariff_syntax.specs.Tree.{tree_of};
 ghost use Rattle.tariff_syntax.specs.Writable.{IsFromTo, IsWritable};
+ghost use Rattle.taxi_units.specs.Money.{largest_display_step};
 ghost use Rattle.taxi_units.specs.Reading.{Gives};
 
 use crate::choice::{Choice, ChoiceLine, condition};
@@ -60,10 +61,18 @@ impl Checked {
         &self.tariff
     }
 
+    /// The decimals of money, 0 to 3.
+    pub fn decimals(&self) -> u8
+        ensures value { result ≡ (tree_of self.now).decimals }
+        ensures range { result ≤ 3 }
+    {
+        self.tariff.decimals
+    }
+
     /// The display step, 1 to 1,000,000 units, and how the fare is rounded to it.
     pub fn step(&self) -> (u64, Rounding)
         ensures value { step_of (tree_of self.now).lines ≡ Some result }
-        ensures range { IsFromTo 1 (10 ^ 6) result.0 }
+        ensures range { IsFromTo 1 largest_display_step result.0 }
     {
         (self.numbers.step, self.numbers.rounding)
     }

@@ -15,7 +15,7 @@ ghost use Rattle.tariff_syntax.specs.Writable.{IsWritable};
 use crate::checked::Checked;
 use std::alloc::Global;
 use tariff_syntax::{Cond, Context, InitialNumbers, Item, RateLine, RateNumbers, TariffLine};
-use taxi_units::{LARGEST_AMOUNT, NoMemory};
+use taxi_units::{LARGEST_AMOUNT, LARGEST_DISPLAY_STEP, NoMemory};
 
 /// The kinds of lines of which the first that holds in a context is the one that counts: rates, initial hire fees and
 /// minimum fares.
@@ -235,7 +235,7 @@ pub(crate) fn condition(item: &Item) -> Option<&Cond>
     }
 }
 
-/// The most units of a step, of an amount of a rate and of a supplement.
+/// The most units of an amount of a rate and of a supplement.
 const MOST_AMOUNT: u64 = 1_000_000;
 
 /// Whether an item has an amount that is too big.
@@ -243,7 +243,7 @@ pub(crate) fn is_great(item: &Item) -> bool
     ensures { result ≡ is_great (entry_of item.now) }
 {
     match item {
-        Item::Step { amount, .. } => *amount > MOST_AMOUNT,
+        Item::Step { amount, .. } => *amount > LARGEST_DISPLAY_STEP,
         Item::Supplement { amount, .. } => *amount > MOST_AMOUNT,
         Item::Rate(rate) => rate.a > MOST_AMOUNT || rate.c > MOST_AMOUNT,
         Item::Initial(initial) => initial.amount > LARGEST_AMOUNT

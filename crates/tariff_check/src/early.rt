@@ -7,8 +7,9 @@ ghost use Rattle.tariff_check.specs.Rules.{breaks_rule, fault_of_rule};
 ghost use Rattle.tariff_check.specs.Stages.{default_fault, early_fault, line_fault, number_fault, step_fault};
 ghost use Rattle.tariff_syntax.specs.Tree.{line_of};
 
+use crate::choice::ChoiceKind;
 use crate::fault::CheckFault;
-use crate::parts::{has_default_initial, has_default_rate};
+use crate::parts::has_default;
 use crate::rules::{LineRule, first_line};
 use tariff_syntax::TariffLine;
 
@@ -49,10 +50,10 @@ fn line_fault(lines: &[TariffLine], positions: u8, zones: u8) -> Option<CheckFau
 fn default_fault(lines: &[TariffLine]) -> Option<CheckFault>
     ensures { result ≡ default_fault (map line_of lines.now) }
 {
-    if !has_default_rate(lines) {
+    if !has_default(ChoiceKind::Rate, lines) {
         return Some(CheckFault::NoDefaultRate);
     }
-    if !has_default_initial(lines) {
+    if !has_default(ChoiceKind::Initial, lines) {
         return Some(CheckFault::NoDefaultInitial);
     }
     fault_at(LineRule::NotAfterDefault, lines)

@@ -1,12 +1,14 @@
 //! The line of a tariff that says a part of its frame, or that counts in a context.
-ghost use Rattle.std.specs.Prelude.{◌≡◌, map};
+ghost use Rattle.std.specs.Prelude.{◌≡◌, map, option_and_then};
 ghost use Rattle.taxi_units.specs.Reading.{Gives};
-ghost use Rattle.tariff_check.specs.FoundLines.{frame_line, is_in_force, line_in_force, says};
+ghost use Rattle.tariff_check.specs.FoundLines.{frame_line, line_in_force, says};
+ghost use Rattle.tariff_check.specs.Resolved.{line_of_own};
+ghost use Rattle.tariff_check.specs.SoundTariff.{own_conditions, place_of};
 ghost use Rattle.tariff_syntax.specs.Tree.{entry_of, line_of, tree_of};
 
 use crate::checked::Checked;
-use crate::choice::{ChoiceKind, condition, is_of};
-use tariff_syntax::{Context, Item, TariffLine, sat};
+use crate::choice::{Choice, ChoiceKind};
+use tariff_syntax::{Context, Item, TariffLine};
 
 /// What a line of a tariff's frame says.
 #[derive(Clone, Copy)]
@@ -29,17 +31,45 @@ impl Checked {
         first_saying(part, self.tariff.lines.as_slice())
     }
 
-    /// The first line of a kind that has no condition or whose condition holds in a context; `None` exactly where none
-    /// holds.
+    /// The line of the first choice of a kind that has no condition or whose condition holds in a context; `None`
+    /// exactly where none holds.
     pub fn line_in_force(&self, kind: ChoiceKind, x: &Context) -> Option<&TariffLine>
         ensures { Gives (λ line. line_of line.now) result (line_in_force kind x.now (tree_of self.now).lines) }
     {
-        first_in_force(kind, x, self.tariff.lines.as_slice())
+        let parts = self.parts();
+        match kind {
+            ChoiceKind::Rate => self.line_of_first(parts.choices.rates.as_slice(), x),
+            ChoiceKind::Initial => self.line_of_first(parts.choices.initials.as_slice(), x),
+            ChoiceKind::Minimum => self.line_of_first(parts.choices.minimums.as_slice(), x),
+        }
+    }
+
+    /// The line of the first of some choices that holds in a context, if one does.
+    fn line_of_first<V>(&self, choices: &[Choice<V>], x: &Context) -> Option<&TariffLine>
+        ensures { Gives (λ line. line_of line.now) result (option_and_then
+            (line_of_own (tree_of self.now).lines choices.now)
+            (place_of x.now (own_conditions (tree_of self.now).lines choices.now))) }
+    {
+        match self.place_of(choices, x) {
+            Some(place) => self.line_of_own(choices, place),
+            None => None,
+        }
+    }
+
+    /// The line of the choice at a place among some, from 0, if there is one.
+    fn line_of_own<V>(&self, choices: &[Choice<V>], place: usize) -> Option<&TariffLine>
+        ensures { Gives (λ line. line_of line.now) result
+            (line_of_own (tree_of self.now).lines choices.now place) }
+    {
+        match choices.get(place) {
+            Some(choice) => self.tariff.lines.as_slice().get(choice.place),
+            None => None,
+        }
     }
 }
 
 /// The first of some lines that says a part of the frame.
-fn first_saying(part: FramePart, lines: &[TariffLine]) -> Option<&TariffLine>
+pub(crate) fn first_saying(part: FramePart, lines: &[TariffLine]) -> Option<&TariffLine>
     ensures { Gives (λ line. line_of line.now) result (frame_line part (map line_of lines.now)) }
 {
     for line in lines {
@@ -60,34 +90,5 @@ fn says(part: FramePart, item: &Item) -> bool
         (FramePart::Zones, Item::Zones(_)) => true,
         (FramePart::Supplement(wanted), Item::Supplement { number, .. }) => *number == wanted,
         _ => false,
-    }
-}
-
-/// The first of some lines that is of a kind and holds in a context.
-fn first_in_force<'a>(
-    kind: ChoiceKind,
-    x: &Context,
-    lines: &'a [TariffLine],
-) -> Option<&'a TariffLine>
-    ensures { Gives (λ line. line_of line.now) result (line_in_force kind x.now (map line_of lines.now)) }
-{
-    for line in lines {
-        if is_in_force(kind, x, &line.item) {
-            return Some(line);
-        }
-    }
-    None
-}
-
-/// Whether an item is of a kind and holds in a context.
-fn is_in_force(kind: ChoiceKind, x: &Context, item: &Item) -> bool
-    ensures { result ≡ is_in_force kind x.now (entry_of item.now) }
-{
-    if !is_of(kind, item) {
-        return false;
-    }
-    match condition(item) {
-        Some(cond) => sat(cond, x),
-        None => true,
     }
 }

@@ -1,11 +1,15 @@
-//! The parts of a tariff, from its lines.
-ghost use Rattle.std.specs.Prelude.{◌≡◌, Some, None, IfOk, IfErr, OnOk, map};
+//! The parts of a tariff on which faults depend, from its lines.
+ghost use Rattle.std.specs.Prelude.{◌≡◌, ◌&&◌, Some, None, IfOk, IfErr, OnOk, is_none, map, unwrap_or};
 ghost use Rattle.tariff_check.specs.Faults.{has_default};
-ghost use Rattle.tariff_check.specs.Parts.{has_holidays, initial_part, positions_of, rate_part, step_of, zones_of};
+ghost use Rattle.tariff_check.specs.Kinds.{is_of, part_of};
+ghost use Rattle.tariff_check.specs.Parts.{has_holidays, positions_of, positions_part, step_of, step_part, zones_of};
+ghost use Rattle.tariff_check.specs.Parts.{when_part, zones_part};
 ghost use Rattle.tariff_check.specs.Stages.{step_fault};
-ghost use Rattle.tariff_syntax.specs.Tree.{line_of};
+ghost use Rattle.tariff_syntax.specs.Tree.{entry_of, line_of};
 
+use crate::choice::{ChoiceKind, condition, is_of};
 use crate::fault::CheckFault;
+use crate::found_lines::{FramePart, first_saying};
 use drive_modes::Rounding;
 use tariff_syntax::{Item, TariffLine};
 
@@ -15,40 +19,76 @@ pub(crate) fn step(lines: &[TariffLine]) -> Result<(u64, Rounding), CheckFault>
     ensures none { OnOk result (step_fault (map line_of lines.now) ≡ None) }
     ensures fault { IfErr result (λ f. step_fault (map line_of lines.now) ≡ Some f) }
 {
-    for line in lines {
-        if let Item::Step { amount, rounding } = &line.item {
-            return if *amount == 0 {
+    match step_said(lines) {
+        Some((amount, rounding)) => {
+            if amount == 0 {
                 Err(CheckFault::StepZero)
             } else {
-                Ok((*amount, *rounding))
-            };
+                Ok((amount, rounding))
+            }
         }
+        None => Err(CheckFault::NoStep),
     }
-    Err(CheckFault::NoStep)
+}
+
+/// The display step, and how the fare is rounded to it, of the first such line, if there is one.
+fn step_said(lines: &[TariffLine]) -> Option<(u64, Rounding)>
+    ensures { result ≡ step_of (map line_of lines.now) }
+{
+    match first_saying(FramePart::Step, lines) {
+        Some(line) => step_in(&line.item),
+        None => None,
+    }
+}
+
+/// What a line says of the display step.
+fn step_in(item: &Item) -> Option<(u64, Rounding)>
+    ensures { result ≡ step_part (entry_of item.now) }
+{
+    match item {
+        Item::Step { amount, rounding } => Some((*amount, *rounding)),
+        _ => None,
+    }
 }
 
 /// How many tariff positions there are.
 pub(crate) fn positions(lines: &[TariffLine]) -> u8
     ensures { result ≡ positions_of (map line_of lines.now) }
 {
-    for line in lines {
-        if let Item::Positions(number) = &line.item {
-            return *number;
-        }
+    match first_saying(FramePart::Positions, lines) {
+        Some(line) => positions_in(&line.item),
+        None => 1,
     }
-    1
+}
+
+/// How many tariff positions a line says that there are, or 1.
+fn positions_in(item: &Item) -> u8
+    ensures { result ≡ unwrap_or (positions_part (entry_of item.now)) 1 }
+{
+    match item {
+        Item::Positions(number) => *number,
+        _ => 1,
+    }
 }
 
 /// How many zones there are.
 pub(crate) fn zones(lines: &[TariffLine]) -> u8
     ensures { result ≡ zones_of (map line_of lines.now) }
 {
-    for line in lines {
-        if let Item::Zones(number) = &line.item {
-            return *number;
-        }
+    match first_saying(FramePart::Zones, lines) {
+        Some(line) => zones_in(&line.item),
+        None => 1,
     }
-    1
+}
+
+/// How many zones a line says that there are, or 1.
+fn zones_in(item: &Item) -> u8
+    ensures { result ≡ unwrap_or (zones_part (entry_of item.now)) 1 }
+{
+    match item {
+        Item::Zones(number) => *number,
+        _ => 1,
+    }
 }
 
 /// Whether there is a holiday.
@@ -63,30 +103,21 @@ pub(crate) fn has_holidays(lines: &[TariffLine]) -> bool
     false
 }
 
-/// Whether there is a rate without a condition.
-pub(crate) fn has_default_rate(lines: &[TariffLine]) -> bool
-    ensures { result ≡ has_default rate_part (map line_of lines.now) }
+/// Whether there is a line of a kind without a condition.
+pub(crate) fn has_default(kind: ChoiceKind, lines: &[TariffLine]) -> bool
+    ensures { result ≡ has_default (part_of kind) (map line_of lines.now) }
 {
     for line in lines {
-        if let Item::Rate(rate) = &line.item {
-            if rate.cond.is_none() {
-                return true;
-            }
+        if is_default(kind, &line.item) {
+            return true;
         }
     }
     false
 }
 
-/// Whether there is an initial hire fee without a condition.
-pub(crate) fn has_default_initial(lines: &[TariffLine]) -> bool
-    ensures { result ≡ has_default initial_part (map line_of lines.now) }
+/// Whether an item is of a kind and has no condition.
+fn is_default(kind: ChoiceKind, item: &Item) -> bool
+    ensures { result ≡ (is_of kind (entry_of item.now) && is_none (when_part (entry_of item.now))) }
 {
-    for line in lines {
-        if let Item::Initial(initial) = &line.item {
-            if initial.cond.is_none() {
-                return true;
-            }
-        }
-    }
-    false
+    is_of(kind, item) && condition(item).is_none()
 }

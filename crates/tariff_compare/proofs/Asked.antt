@@ -1,5 +1,5 @@
 -- What is asked of tables in a context of a meter.
-use Rattle.std.proofs.Common.{◌≡◌, ap, sym, subst, refl, ℕ, Bool, true, false, ◌&&◌, ltb, List, [], ◌∷◌, length, pos}
+use Rattle.std.proofs.Common.{◌≡◌, ap, sym, subst, refl, ℕ, Bool, true, ◌&&◌, ltb, List, [], ◌∷◌, length, pos}
 use Rattle.std.proofs.Common.{arith}
 use Rattle.std.proofs.lemmas.Bool.{false≢true, lt-ltb}
 use Rattle.interval_clock.specs.Calendar.{date_after, date_place, weekday_of}

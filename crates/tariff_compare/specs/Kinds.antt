@@ -1,6 +1,6 @@
 -- Rules: the kinds of lines of which the first that holds counts: which choice of a kind counts in a context, and which
 -- one the lines of a cell name; what two tariffs differ in there; and the words of a kind.
-use Rattle.std.specs.Prelude.{ℕ, ◌-◌, ◌*◌, Bool, true, false, not, ◌&&◌, ◌||◌, ◌==◌, if◌then◌else◌, List, [], ◌∷◌, find}
+use Rattle.std.specs.Prelude.{ℕ, ◌-◌, ◌*◌, Bool, not, ◌&&◌, ◌||◌, ◌==◌, if◌then◌else◌, List, [], ◌∷◌, find}
 use Rattle.std.specs.Prelude.{get_or, Option, Some, None, codes}
 use Rattle.std.specs.Option.{unwrap_or}
 use Rattle.tariff_check.specs.Amounts.{initial_by}

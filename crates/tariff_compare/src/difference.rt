@@ -34,13 +34,14 @@ pub enum Difference {
     Zones,
     /// The amount of the supplement of a number, or how often a hiring may have it.
     Supplement(u8),
-    /// In a context of a meter, which is a hiring but for a rate: a fee of the hiring, or what the rate costs.
+    /// In a context of a meter: what the line of a kind that counts there says. It is a hiring where lines of the kind
+    /// count at one alone.
     In(ChoiceKind, MeterContext),
 }
 
 /// What differs first between two sound tariffs under a constant; `None` exactly where they are the same. Decimals,
-/// display step, rounding, positions, zones and supplements come before all contexts; in one context the fees of a
-/// hiring come before the rate. When tariffs are the same is this project's own. `NoMemory` where memory runs out.
+/// display step, rounding, positions, zones and supplements come before all contexts; in one context the kinds come in
+/// the order of docs/FORMATS.md. When tariffs are the same is this project's own. `NoMemory` where memory runs out.
 pub fn first_difference(
     alloc: Global,
     one: &Checked,
@@ -63,7 +64,7 @@ fn frame_difference(one: &Checked, other: &Checked) -> Option<Difference>
 {
     let (step, rounding) = one.step();
     let (other_step, other_rounding) = other.step();
-    if one.tariff().decimals != other.tariff().decimals {
+    if one.decimals() != other.decimals() {
         Some(Difference::Decimals)
     } else if step != other_step {
         Some(Difference::Step)

@@ -98,7 +98,7 @@ fn push_side(
     requires { IsDatedDifference difference.now }
     ensures { OnOk result (text.new.items ≡ text.old.items ++ side_text (tree_of checked.now) k difference.now) }
 {
-    let decimals = checked.tariff().decimals;
+    let decimals = checked.decimals();
     match difference {
         Difference::Decimals => {
             text.extend_from_slice(b"decimals ")?;

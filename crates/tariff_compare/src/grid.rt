@@ -1,5 +1,5 @@
 //! The contexts that are looked at: at least one of each common cell of two tariffs.
-ghost use Rattle.std.specs.Prelude.{◌≡◌, ◌≤◌, [], IfOk, OnOk};
+ghost use Rattle.std.specs.Prelude.{◌≡◌, ◌≤◌, IfOk, OnOk};
 ghost use Rattle.std.specs.List.{range_with_len};
 ghost use Rattle.tariff_check.specs.Cuts.{with_each};
 ghost use Rattle.tariff_compare.specs.Grids.{IsGridOf, grid_of, listed, up_to};

@@ -1,6 +1,5 @@
 //! The texts of contexts of a meter, and of the uses of lines.
-ghost use Rattle.std.specs.Prelude.{◌≡◌, ◌≤◌, ◌++◌, All, IfOk, OnOk, decimal, pos};
-ghost use Rattle.interval_clock.specs.Calendar.{weekday_of};
+ghost use Rattle.std.specs.Prelude.{◌≡◌, ◌++◌, All, IfOk, OnOk, decimal};
 ghost use Rattle.tariff_compare.specs.Texts.{context_text, date_text, first_text, hiring_text, minute_text, moment_text, place_text, trip_text, use_text, uses_text};
 ghost use Rattle.tariff_compare.specs.Uses.{IsDated, IsDatedUse};
 ghost use Rattle.taxi_units.specs.Weekdays.{day_name};

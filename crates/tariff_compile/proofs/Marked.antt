@@ -18,9 +18,6 @@ pub record MarksFirst (passes : Context → Bool) (xs : List Context) (n : ℕ) 
   pub so_far : (place : ℕ) (x : Context) → slice_get xs place ≡ Some x → place < n → is_marked marks place ≡ passes x
   pub left : (place : ℕ) → n ≤ place → is_marked marks place ≡ false
 
-one_value : (x y : Context) → Some x ≡ Some y → x ≡ y
-one_value x y same = cc
-
 -- the first that passes a test is known by which of them pass
 pub first_by_answers : {A B : Type 0} (f : A → Bool) (g : B → Bool) (n : ℕ) (xs : List A) (ys : List B)
     → map f xs ≡ map g ys → position_from f n xs ≡ position_from g n ys

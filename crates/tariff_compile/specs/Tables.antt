@@ -6,6 +6,7 @@ use Rattle.std.specs.Option.{unwrap_or}
 use Rattle.drive_modes.specs.declared.charges.Weights.{Weights}
 use Rattle.drive_modes.specs.declared.meterage.Rounding.{Rounding}
 use Rattle.drive_modes.specs.Constant.{least_constant, greatest_constant}
+use Rattle.taxi_units.specs.Money.{largest_display_step}
 use Rattle.tariff_syntax.specs.Meaning.{at_hiring, choice_place, rate_place, initial_place, minimum_place}
 use Rattle.tariff_syntax.specs.Tree.{Tree}
 use Rattle.tariff_syntax.specs.Writable.{IsFromTo, IsWritable}
@@ -208,7 +209,7 @@ pub record AreFit (measure : ℕ) (w : Weights) : Type 0 where
 -- tables are fit if their measure, step, decimals, positions and zones are within their limits
 pub record IsFit (tables : TableParts) : Type 0 where
   pub measure : (0 < tables.measure) × (tables.measure ≤ 2 * 10 ^ 23)
-  pub step : IsFromTo 1 (10 ^ 6) tables.step
+  pub step : IsFromTo 1 largest_display_step tables.step
   pub decimals : tables.decimals ≤ 3
   pub positions : IsFromTo 1 9 tables.positions
   pub zones : IsFromTo 1 9 tables.zones

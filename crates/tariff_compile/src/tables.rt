@@ -11,6 +11,7 @@ ghost use Rattle.tariff_check.specs.Parts.{supplement_of};
 ghost use Rattle.tariff_syntax.specs.Tree.{Tree, tree_of};
 ghost use Rattle.tariff_syntax.specs.declared.context.Context.{Context};
 ghost use Rattle.taxi_units.specs.Counted.{IsElement};
+ghost use Rattle.taxi_units.specs.Money.{largest_display_step};
 
 use crate::bands::{cell_number, sizes_of};
 use crate::cells::{CellLines, all_cells};
@@ -94,7 +95,7 @@ pub fn compile(alloc: Global, checked: &Checked, k: Constant) -> Result<Tables, 
         measure: k.get() as u128 * checked.measure() as u128,
         step,
         rounding,
-        decimals: checked.tariff().decimals,
+        decimals: checked.decimals(),
         positions: checked.positions(),
         zones: checked.zones(),
     })
@@ -290,7 +291,7 @@ impl Tables {
     pub fn step(&self) -> u64
         ensures value { result ≡ self.now.step }
         ensures positive { 0 < result }
-        ensures most { result ≤ 10 ^ 6 }
+        ensures most { result ≤ largest_display_step }
     {
         self.step
     }

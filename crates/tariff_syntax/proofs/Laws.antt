@@ -1,7 +1,9 @@
 -- The laws of tariffs' texts, one for each clause of the public laws.
 use Rattle.std.proofs.Common.{◌≡◌, ◌⊎◌, ◌↔◌, ℕ, List, Option, Ok, Err}
+use Rattle.tariff_syntax.specs.Choices.{choices, conditions_of, initial_part, minimum_part, rate_part}
 use Rattle.tariff_syntax.specs.Condition.{Condition}
-use Rattle.tariff_syntax.specs.Meaning.{IsFirstPlace, holds_if, place_of}
+use Rattle.tariff_syntax.specs.Meaning.{IsFirstPlace, at_hiring, holds_if, initial_place, minimum_place, place_of}
+use Rattle.tariff_syntax.specs.Meaning.{rate_place}
 use Rattle.tariff_syntax.specs.Parentheses.{NeedsParentheses}
 use Rattle.tariff_syntax.specs.Parsed.{tree_parsed}
 use Rattle.tariff_syntax.specs.Printed.{printed}
@@ -58,6 +60,18 @@ lines_rise_in_number = numbers_rise
 pub parentheses_are_needed : (c : Condition) → NeedsParentheses c
 parentheses_are_needed = parentheses_stay
 
-pub first_lines_hold : (x : Context) (conditions : List (Option Condition)) (place : Option ℕ)
+pub first_lines_hold-conditions : (x : Context) (conditions : List (Option Condition)) (place : Option ℕ)
     → (place_of x conditions ≡ place) ↔ IsFirstPlace (holds_if x) conditions place
-first_lines_hold x = first_place_is (holds_if x)
+first_lines_hold-conditions x = first_place_is (holds_if x)
+
+pub first_lines_hold-rate : (t : Tree) (x : Context) (place : Option ℕ) → (rate_place t x ≡ place)
+    ↔ IsFirstPlace (holds_if x) (conditions_of (choices rate_part t.lines)) place
+first_lines_hold-rate t x = first_lines_hold-conditions x (conditions_of (choices rate_part t.lines))
+
+pub first_lines_hold-initial : (t : Tree) (x : Context) (place : Option ℕ) → (initial_place t x ≡ place)
+    ↔ IsFirstPlace (holds_if (at_hiring x)) (conditions_of (choices initial_part t.lines)) place
+first_lines_hold-initial t x = first_lines_hold-conditions (at_hiring x) (conditions_of (choices initial_part t.lines))
+
+pub first_lines_hold-minimum : (t : Tree) (x : Context) (place : Option ℕ) → (minimum_place t x ≡ place)
+    ↔ IsFirstPlace (holds_if (at_hiring x)) (conditions_of (choices minimum_part t.lines)) place
+first_lines_hold-minimum t x = first_lines_hold-conditions (at_hiring x) (conditions_of (choices minimum_part t.lines))

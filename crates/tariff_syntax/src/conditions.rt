@@ -1,5 +1,5 @@
 //! Reads conditions.
-ghost use Rattle.std.specs.Prelude.{◌≡◌, ◌+◌, ◌≤◌, length, if◌then◌else◌};
+ghost use Rattle.std.specs.Prelude.{◌≡◌, ◌≤◌, length, if◌then◌else◌};
 ghost use Rattle.tariff_syntax.specs.Built.{Builds, HasParts, HasPartsIf, IsBuilt};
 ghost use Rattle.tariff_syntax.specs.Condition.{Condition, condition_of, condition_if};
 ghost use Rattle.tariff_syntax.specs.Faults.{GivesOrFails};

@@ -1,5 +1,5 @@
 //! Writes the printed form of a condition.
-ghost use Rattle.std.specs.Prelude.{◌≡◌, ◌++◌, ◌/◌, ◌%◌, OnOk, codes, true};
+ghost use Rattle.std.specs.Prelude.{◌≡◌, ◌++◌, OnOk, codes, true};
 ghost use Rattle.std.specs.Fmt.{decimal};
 ghost use Rattle.taxi_units.specs.Number.{padded_text, money_text};
 ghost use Rattle.tariff_syntax.specs.Appends.{Appends};

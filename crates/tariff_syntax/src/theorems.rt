@@ -3,8 +3,10 @@
 //! with the printed form they share the words and the parts of entries, and the names of weekdays and of
 //! roundings, which are tables.
 ghost use Rattle.std.specs.Prelude.{◌≡◌, ◌↔◌, ◌⊎◌, ℕ, List, Option, Ok, Err};
+ghost use Rattle.tariff_syntax.specs.Choices.{choices, conditions_of, initial_part, minimum_part, rate_part};
 ghost use Rattle.tariff_syntax.specs.Condition.{Condition};
-ghost use Rattle.tariff_syntax.specs.Meaning.{IsFirstPlace, holds_if, place_of};
+ghost use Rattle.tariff_syntax.specs.Meaning.{IsFirstPlace, at_hiring, holds_if, initial_place, minimum_place};
+ghost use Rattle.tariff_syntax.specs.Meaning.{place_of, rate_place};
 ghost use Rattle.tariff_syntax.specs.Parentheses.{NeedsParentheses};
 ghost use Rattle.tariff_syntax.specs.Parsed.{tree_parsed};
 ghost use Rattle.tariff_syntax.specs.Printed.{printed};
@@ -63,9 +65,15 @@ pub fn parentheses_are_needed()
 {}
 
 /// The law of places: the choice that is found in a context is the one at which a condition holds or there is none,
-/// and before which none holds; there is none exactly where no choice holds. So it is for the rate of a context, and
-/// for its initial hire fee and its minimum fare at the hiring.
+/// and before which none holds; there is none exactly where no choice holds. So it is for the rate of a context among
+/// the rates of a tariff, and for its initial hire fee and its minimum fare at the hiring.
 pub fn first_lines_hold()
-    ensures { (x : Context) (conditions : List (Option Condition)) (place : Option ℕ)
+    ensures conditions { (x : Context) (conditions : List (Option Condition)) (place : Option ℕ)
         → (place_of x conditions ≡ place) ↔ IsFirstPlace (holds_if x) conditions place }
+    ensures rate { (t : Tree) (x : Context) (place : Option ℕ) → (rate_place t x ≡ place)
+        ↔ IsFirstPlace (holds_if x) (conditions_of (choices rate_part t.lines)) place }
+    ensures initial { (t : Tree) (x : Context) (place : Option ℕ) → (initial_place t x ≡ place)
+        ↔ IsFirstPlace (holds_if (at_hiring x)) (conditions_of (choices initial_part t.lines)) place }
+    ensures minimum { (t : Tree) (x : Context) (place : Option ℕ) → (minimum_place t x ≡ place)
+        ↔ IsFirstPlace (holds_if (at_hiring x)) (conditions_of (choices minimum_part t.lines)) place }
 {}

@@ -6,7 +6,7 @@ use Rattle.std.proofs.lemmas.Option.{slice_get_within}
 use Rattle.tariff_check.specs.Amounts.{place_number}
 use Rattle.tariff_check.specs.SoundTariff.{own_conditions, place_of, when_at}
 use Rattle.tariff_check.specs.declared.choice.Choice.{Choice}
-use Rattle.tariff_syntax.proofs.Laws.{first_lines_hold}
+use Rattle.tariff_syntax.proofs.Laws.{first_lines_hold-conditions}
 use Rattle.tariff_syntax.specs.Tree.{Line, tree_of}
 use Rattle.tariff_syntax.specs.declared.context.Context.{Context}
 use Rattle.tariff_compile.proofs.Blocks.{at_place}
@@ -17,7 +17,7 @@ use Rattle.tariff_compile.proofs.cells.first_numbers.Goals as goal
 place_few : {V : Type 0} (lines : List Line) (own : List (Choice V)) (x : Context) (found : Option ℕ) (place : ℕ)
     → length own ≤ 64 → found ≡ place_of x (own_conditions lines own) → found ≡ Some place → place < 255
 place_few {V} lines own x found place few first is =
-    let there = (first_lines_hold x (own_conditions lines own) (Some place)).0 (sym first ∙ is) in
+    let there = (first_lines_hold-conditions x (own_conditions lines own) (Some place)).0 (sym first ∙ is) in
     omega (
       arith,
       few,
