@@ -1,5 +1,5 @@
 //! Carries out the runs of a drive.
-ghost use Rattle.std.specs.Prelude.{◌+◌, ◌*◌, All, OnOk, OnErr};
+ghost use Rattle.std.specs.Prelude.{All, OnOk, OnErr};
 ghost use Rattle.std.specs.List.{flat_map};
 ghost use Rattle.outside.specs.Faults.{HasCause};
 ghost use Rattle.drive_text.specs.Ranges.{IsRunInRange};

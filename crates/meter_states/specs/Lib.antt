@@ -1,5 +1,4 @@
 pub mod Acts
-pub mod AllowedTest
 pub mod Cache
 pub mod Charge
 pub mod Closing

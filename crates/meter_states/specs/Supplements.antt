@@ -1,8 +1,9 @@
 -- Rules: the supplements of a trip, and how often each was added.
-use Rattle.std.specs.Prelude.{ℕ, zero, suc, ◌+◌, ◌*◌, ◌≤◌, ◌==◌, List, [], ◌∷◌, Option, Some, None, sum, map, count_by, get_or}
+use Rattle.std.specs.Prelude.{ℕ, zero, suc, ◌+◌, ◌*◌, ◌==◌, List, [], ◌∷◌, Option, Some, None, sum, map, count_by, get_or}
 use Rattle.tariff_compile.specs.Tables.{TableParts}
 use Rattle.tariff_check.specs.SoundTariff.{SoundTariff, supplement_numbered}
 use Rattle.tariff_check.specs.declared.values.Supplement.{Supplement}
+use Rattle.taxi_units.specs.Test.{Test, at_most, no_test, ◌&◌}
 
 -- the amount of a supplement that may be none is its own, and 0 for none
 abbrev pub amount_in : Option Supplement → ℕ
@@ -36,11 +37,15 @@ counts_of numbers = counts_from 16 1 numbers
 abbrev pub supplement_in : TableParts → (number : ℕ) → Option Supplement
 supplement_in tables number = get_or (None ∷ tables.supplements) number None
 
--- counts of the numbers from `first` on are allowed where none is above what a hiring may have of its supplement
+-- the test of counts of the numbers from `first` on is that none is above what a hiring may have of its supplement
+abbrev pub allowed_test : (supplement : ℕ → Option Supplement) → (first : ℕ) → (counts : List ℕ) → Test
+allowed_test supplement first [] = no_test
+allowed_test supplement first (count ∷ counts) =
+    at_most count (most_in (supplement first)) & allowed_test supplement (first + 1) counts
+
+-- counts of the numbers from `first` on are allowed if what `allowed_test` says holds
 abbrev pub AreAllowed : (supplement : ℕ → Option Supplement) → (first : ℕ) → (counts : List ℕ) → Type 0
-AreAllowed supplement first [] = Unit {0}
-AreAllowed supplement first (count ∷ counts) =
-    (count ≤ most_in (supplement first)) × AreAllowed supplement (first + 1) counts
+AreAllowed supplement first counts = (allowed_test supplement first counts).Fact
 
 -- the amounts of counts, the first of which is that of the number `first`, are added up: each count times its
 -- supplement's amount

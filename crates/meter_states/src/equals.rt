@@ -1,5 +1,5 @@
 //! Equal measuring intervals that are carried out at once.
-ghost use Rattle.std.specs.Prelude.{◌≡◌, ◌≤◌, ◌⊎◌, ◌↔◌, ◌+◌, ◌*◌, [], IfSome, IsNone, IsTrue, None, Some};
+ghost use Rattle.std.specs.Prelude.{◌≡◌, ◌≤◌, ◌⊎◌, ◌↔◌, ◌+◌, [], IfSome, IsNone, IsTrue, Some};
 ghost use Rattle.std.specs.Option.{ForSome};
 ghost use Rattle.tariff_compile.specs.Near.{IsNear};
 ghost use Rattle.seal_record.specs.declared.seal.Seal.{Seal};

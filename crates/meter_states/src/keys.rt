@@ -1,7 +1,6 @@
 //! Keys: one may wait for the end of the interval, and acts then.
-ghost use Rattle.std.specs.Prelude.{◌≡◌, ◌≤◌, ◌+◌, [], None, Some};
+ghost use Rattle.std.specs.Prelude.{◌≡◌, ◌≤◌, ◌+◌, []};
 ghost use Rattle.tariff_compile.specs.Tables.{TableParts};
-ghost use Rattle.taxi_units.specs.declared.event.Operating.TheVariants.{ForHire};
 ghost use Rattle.meter_states.specs.Acts.{StayLawful};
 ghost use Rattle.meter_states.specs.Core.{ComesToOutcome, core_of};
 ghost use Rattle.meter_states.specs.Keys as model;
@@ -20,7 +19,7 @@ use taxi_units::{Key, Operating, Steps, Why};
 
 /// What a key does in an operating position.
 #[derive(Clone, Copy)]
-pub(crate) enum KeyAct {
+pub enum KeyAct {
     /// Begins a hiring.
     Hire,
     /// Takes the trip to another operating position.

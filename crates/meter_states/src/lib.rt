@@ -38,6 +38,7 @@ pub use fitting::fits;
 pub use keeping::{
     fares_depend_on_the_intervals_in_hired, resumed_trips_go_on, the_store_keeps_the_trip,
 };
+pub use keys::KeyAct;
 pub use pairs::{receipts_follow_their_entries, runs_add_up, the_store_has_what_the_acts_commit};
 pub use refusals::{
     keys_act_after_their_interval, keys_are_refused_at_an_expiry,

@@ -1,5 +1,5 @@
 //! What the core looks up: in the tables, and in the seal's offsets.
-ghost use Rattle.std.specs.Prelude.{◌≡◌, ◌+◌, ◌*◌, ◌^◌, ◌<◌, ◌≤◌, ◌≢◌, None};
+ghost use Rattle.std.specs.Prelude.{◌≡◌, ◌+◌, ◌*◌, ◌^◌, ◌≤◌, ◌≢◌, None};
 ghost use Rattle.drive_modes.specs.Distance.{millimetres_of};
 ghost use Rattle.tariff_compile.specs.Tables.{IsFit};
 ghost use Rattle.tariff_check.specs.SoundTariff.{supplement_numbered};

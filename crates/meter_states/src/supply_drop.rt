@@ -1,10 +1,9 @@
 //! What a supply drop leaves.
-ghost use Rattle.std.specs.Prelude.{◌≡◌, ◌<◌, ◌≤◌, ◌+◌, [], None, Some};
+ghost use Rattle.std.specs.Prelude.{◌≡◌, ◌<◌, ◌≤◌, ◌+◌, [], Some};
 ghost use Rattle.tariff_compile.specs.Tables.{TableParts};
 ghost use Rattle.taxi_units.specs.Time.{last_tick};
 ghost use Rattle.taxi_units.specs.declared.event.Operating.TheVariants.{Off};
 ghost use Rattle.totals_record.specs.Ranges.{IsTripInItsRanges};
-ghost use Rattle.taxi_units.specs.declared.receipt.Kind.TheVariants.{Aborted};
 ghost use Rattle.meter_states.specs.Acts.{StayLawful};
 ghost use Rattle.meter_states.specs.Core.{ComesToOutcome, core_of};
 ghost use Rattle.meter_states.specs.Fits.{Fits};

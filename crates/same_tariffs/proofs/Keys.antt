@@ -1,13 +1,10 @@
--- What each key does at two meters that stand alike.
+-- What each act of a key comes to at two meters that stand alike.
 use Rattle.std.proofs.Common.{◌≡◌, ℕ, ◌≤◌, Bool, true, nat_le, List, sum, Option, Some, None, if◌then◌else◌, ap, subst}
 use Rattle.std.proofs.Common.{◌∙◌, arith}
 use Rattle.std.proofs.lemmas.Grind.{common_steps}
 use Rattle.taxi_units.specs.Limits.{hirings_end}
 use Rattle.taxi_units.specs.Time.{last_tick}
 use Rattle.taxi_units.specs.declared.event.Key.{Key}
-use Rattle.taxi_units.specs.declared.event.Key.TheVariants as keys
-use Rattle.taxi_units.specs.declared.event.Operating.{Operating}
-use Rattle.taxi_units.specs.declared.event.Operating.TheVariants.{ForHire, Hired, Stopped}
 use Rattle.taxi_units.specs.declared.event.Why.TheVariants as why
 use Rattle.taxi_units.specs.declared.receipt.Kind.TheVariants as kinds
 use Rattle.totals_record.specs.declared.trip.Trip.{Trip}
@@ -16,12 +13,14 @@ use Rattle.tariff_check.specs.SoundTariff.{supplement_numbered}
 use Rattle.tariff_check.specs.declared.values.Supplement.{Supplement}
 use Rattle.tariff_syntax.specs.Writable.{IsFromTo}
 use Rattle.meter_states.specs.Interval.{context_now, ticks_so_far}
-use Rattle.meter_states.specs.Keys.{extra_added, extra_added_to, hired, hiring, is_among, key_in, latch_pressed}
-use Rattle.meter_states.specs.Keys.{position_set, zone_set}
+use Rattle.meter_states.specs.Keys.{act_done, act_of, extra_added, extra_added_to, hired, hiring, is_among}
+use Rattle.meter_states.specs.Keys.{latch_pressed, position_set, zone_set}
 use Rattle.meter_states.specs.Meter.{Meter, quiet, refused}
 use Rattle.meter_states.specs.Setting.{Setting, local_at}
 use Rattle.meter_states.specs.Supplements.{times}
 use Rattle.meter_states.specs.Trip.{MeterTrip, begun, with_extra}
+use Rattle.meter_states.specs.declared.keys.KeyAct.{KeyAct}
+use Rattle.meter_states.specs.declared.keys.KeyAct.TheVariants as key_acts
 use Rattle.same_tariffs.specs.Alike.{AreTripsAlike, AreTripsOfBothAlike, with_trips}
 use Rattle.same_tariffs.proofs.Standing.{ComeAlike, IsBeside, closed-alike, context-same, either-alike, having}
 use Rattle.same_tariffs.proofs.Standing.{placed_at, quiet-alike, refused-alike}
@@ -124,25 +123,22 @@ module _ {s t : Setting} where
       (extra_added n o (with_trips trip hold m))) (x.agree.supplements n)
       (supplement-alike n one m trip hold x)
 
-  -- a key in each operating position in which it acts, and in all others
-  key-alike : (key : Key) (operating : Operating) (m : Meter) (trip : Option MeterTrip) (hold : Option Trip)
+  -- each act of a key
+  act-alike : (act : KeyAct) (m : Meter) (trip : Option MeterTrip) (hold : Option Trip)
       → IsBeside s t last_tick m trip hold
-      → ComeAlike s t last_tick (key_in s key operating m) (key_in t key operating (with_trips trip hold m))
-  key-alike keys.Hire ForHire m trip hold x = hiring-alike m trip hold x
-  key-alike keys.Hire Stopped m trip hold x = quiet-alike (record m { operating = Hired }) trip hold x
-  key-alike keys.Stop Hired m trip hold x = quiet-alike (record m { operating = Stopped }) trip hold x
-  key-alike keys.Clear Stopped m trip hold x = closed-alike kinds.Closed m.clock m trip hold x
-  key-alike (keys.Position n) ForHire m trip hold x = position-alike n m trip hold x
-  key-alike (keys.Position n) Hired m trip hold x = position-alike n m trip hold x
-  key-alike (keys.Zone n) ForHire m trip hold x = zone-alike n m trip hold x
-  key-alike (keys.Zone n) Hired m trip hold x = zone-alike n m trip hold x
-  key-alike (keys.Extra n) Hired m trip hold x = extra-key n m trip hold x
-  key-alike (keys.Extra n) Stopped m trip hold x = extra-key n m trip hold x
-  key-alike key operating m trip hold x = refused-alike why.NotNow m trip hold x
+      → ComeAlike s t last_tick (act_done s act m) (act_done t act (with_trips trip hold m))
+  act-alike key_acts.Hire m trip hold x = hiring-alike m trip hold x
+  act-alike (key_acts.Move to) m trip hold x = quiet-alike (record m { operating = to }) trip hold x
+  act-alike key_acts.Clear m trip hold x = closed-alike kinds.Closed m.clock m trip hold x
+  act-alike (key_acts.Position n) m trip hold x = position-alike n m trip hold x
+  act-alike (key_acts.Zone n) m trip hold x = zone-alike n m trip hold x
+  act-alike (key_acts.Extra n) m trip hold x = extra-key n m trip hold x
+  act-alike key_acts.Refuse m trip hold x = refused-alike why.NotNow m trip hold x
 
   -- the key that waits, if one does
   pub press-alike : (latch : Option Key) (m : Meter) (trip : Option MeterTrip) (hold : Option Trip)
       → IsBeside s t last_tick m trip hold
       → ComeAlike s t last_tick (latch_pressed s latch m) (latch_pressed t latch (with_trips trip hold m))
   press-alike None m trip hold x = quiet-alike m trip hold x
-  press-alike (Some key) m trip hold x = key-alike key m.operating (record m { latch = None }) trip hold x
+  press-alike (Some key) m trip hold x =
+      act-alike (act_of key m.operating) (record m { latch = None }) trip hold x

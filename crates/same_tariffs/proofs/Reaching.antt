@@ -261,10 +261,6 @@ for_hire second position zone latch roaming last = record {
 abbrev showing : Setting → Meter → Meter
 showing s m = record m { shown = Some (display_of s m) }
 
-up-first : (s : Setting) (second : ℕ) → (step s (Up second) (opened s first_state)).next ≡ showing s
-    (for_hire second 1 1 None [] None)
-up-first s second = refl
-
 position-first : (s : Setting) (second n : ℕ) (last : Option Display) → is_among s.tariff.positions n ≡ true
     → (run s (events.Key (Position n) ∷ Tick ∷ []) (for_hire second 1 1 None [] last)).next ≡ showing s
     (for_hire second n 1 None (0 ∷ []) last)
