@@ -70,14 +70,6 @@ no_tariff-decimals (Some own) tariff t end sound h = by (own == t.decimals) refl
         (same_fault (answer false) (ended.OtherDecimals own t.decimals) end refl h)
         (t, sound, ap answer (sym is))
 
--- what a tariff that fits makes with the parameters
-seal_with : (number : ℕ) (found : Option ℕ) (tariff params : List ℕ) (h : HasDecimals found tariff)
-    → seal_read number found tariff params ≡ with_params number (sha256 tariff) h.tree.decimals (params_read params)
-seal_with number found tariff params h =
-    ap (λ (r : Result Tree Refusal). with_tariff number found (sha256 tariff) r (params_read params)) h.sound
-    ∙ ap (λ (r : Result (Unit {0}) Ended). where_decimals r
-    (with_params number (sha256 tariff) h.tree.decimals (params_read params))) h.decimals
-
 -- ---- the answer
 
 -- the store speaks against a sealing

@@ -39,7 +39,7 @@ use Rattle.commands.specs.RunSteps.{AreNoTables, HasNotBegun, IsNoTables}
 use Rattle.commands.specs.Tariffs.{tariff_in}
 use Rattle.commands.proofs.EndsApart.{refusal_by}
 use Rattle.commands.proofs.Barring.{owed-refused}
-use Rattle.commands.proofs.Fitting.{Decides-hold, hold_fits}
+use Rattle.commands.proofs.Fitting.{Decides-hold}
 
 -- ---- the sealed tariff
 
@@ -174,7 +174,7 @@ start_stands image tariff s e =
     ((answer_is totals.reads states.state_number_of 0 image
     (found_at totals.reads states.state_number_of 0 image)).0 refl) in (
       at_stands totals.reads states.state_number_of 0 h.totals.0 image s.durable at,
-      hold_fits (tables_in s) s.durable.hold h.fits,
+      (Decides-hold (tables_in s) s.durable.hold).0 h.fits,
     )
 
 -- an image with other totals, whose held trip fits, beside the same seal: a run begins with it too

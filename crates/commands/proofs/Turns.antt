@@ -1,5 +1,5 @@
 -- What is left of the files of two words that are read one behind the other.
-use Rattle.std.proofs.Common.{◌≡◌, ◌≢◌, ◌∙◌, ℕ, inl, inr, subst}
+use Rattle.std.proofs.Common.{◌≡◌, ◌∙◌, ℕ, inl, inr, subst}
 use Rattle.outside.specs.Reading.{LeavesOthers}
 use Rattle.outside.specs.Faults.{Rose}
 use Rattle.outside.specs.declared.files.Files.{Ghosts as FileGhosts}

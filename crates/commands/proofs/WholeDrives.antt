@@ -1,7 +1,7 @@
 -- A drive that is read whole into memory, part by part.
 use Rattle.std.proofs.Common.{◌≡◌, ℕ, ◌+◌, ◌<◌, List, [], ◌++◌, length, Option, Some, None, IfSome, refl, sym, ap}
 use Rattle.std.proofs.Common.{subst, ◌∙◌, append_assoc, arith, length-append, flat_map}
-use Rattle.drive_text.specs.Drive.{events_in, runs_after, runs_in}
+use Rattle.drive_text.specs.Drive.{runs_after, runs_in}
 use Rattle.drive_text.specs.Ending.{Whole, BadAt, Endless, ReachesEnd, ShowsEnd, TellsEnd, StreamEnd, drive_end}
 use Rattle.drive_text.specs.Runs.{run_events}
 use Rattle.drive_text.specs.declared.run.Run.{Run}

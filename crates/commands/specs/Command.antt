@@ -1,6 +1,5 @@
 -- Rules: the commands of the program. What each of them is stands in a file of its own.
 use Rattle.std.specs.Prelude.{ℕ, List, Option, Some, None}
-use Rattle.commands.specs.Answer.{Answer}
 use Rattle.commands.specs.Bench.{bench_command}
 use Rattle.commands.specs.Check.{check_command}
 use Rattle.commands.specs.Compare.{compare_command}
@@ -65,7 +64,3 @@ IsStoreQuery row = ⊥
 -- words call the command of the row that they are
 abbrev pub called : List (List ℕ) → Command
 called words = command_of (row_of words)
-
--- the answer to words, where the file of word n has the contents n and the store holds an image
-abbrev pub command : List (List ℕ) → (ℕ → List ℕ) → List ℕ → Answer
-command words contents image = (called words).answer contents image

@@ -1,5 +1,5 @@
 -- Rules: the command `compare TARIFF OTHER CONSTANT`.
-use Rattle.std.specs.Prelude.{◌≡◌, ◌⊎◌, ℕ, ◌+◌, ◌≤◌, Bool, true, false, List, [], length, is_some, None, Result, Ok, Err}
+use Rattle.std.specs.Prelude.{◌≡◌, ◌⊎◌, ℕ, ◌+◌, ◌≤◌, Bool, true, false, [], length, is_some, None, Result, Ok, Err}
 use Rattle.tariff_syntax.specs.Tree.{Tree}
 use Rattle.tariff_compare.specs.DifferenceTexts.{comparison_text}
 use Rattle.tariff_compare.specs.Differences.{difference_of}

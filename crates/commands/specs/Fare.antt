@@ -1,12 +1,11 @@
 -- Rules: the command `fare TARIFF DRIVE CONSTANT`.
-use Rattle.std.specs.Prelude.{◌≡◌, ◌⊎◌, ℕ, pos, List, [], ◌∷◌, Some, Result, Ok, Err}
+use Rattle.std.specs.Prelude.{◌≡◌, ◌⊎◌, ℕ, pos, List, [], Some, Result, Ok, Err}
 use Rattle.drive_modes.specs.declared.charges.Mode.TheVariants.{Single}
 use Rattle.drive_text.specs.Ending.{StreamEnd, Whole, BadAt, Endless, IsGoing, drive_end}
 use Rattle.tariff_syntax.specs.Tree.{Tree}
 use Rattle.meter_run.specs.Drives.{IsBoundedBy}
 use Rattle.meter_run.specs.Texts.{drive_shown}
 use Rattle.meter_states.specs.Setting.{Setting, under_offset}
-use Rattle.taxi_units.specs.Time.{first_second}
 use Rattle.commands.specs.Answer.{Answer, shows}
 use Rattle.commands.specs.Course.{Command}
 use Rattle.commands.specs.LastLine.{bad_drive_line, endless_drive_line}

@@ -1,12 +1,11 @@
 -- Rules: the command `gen SEED N`.
-use Rattle.std.specs.Prelude.{◌≡◌, ℕ, ◌+◌, ◌*◌, ◌≤◌, pos, List, [], ◌∷◌, ◌++◌, length, None, Result, Ok, Err, codes, decimal}
+use Rattle.std.specs.Prelude.{◌≡◌, ℕ, ◌+◌, ◌*◌, ◌≤◌, pos, List, [], ◌++◌, length, None, Result, Ok, Err, codes, decimal}
 use Rattle.drive_modes.specs.declared.charges.Mode.TheVariants.{Single}
 use Rattle.drive_text.specs.Drive.{events_in}
 use Rattle.meter_run.specs.Deeds.{after_deeds}
 use Rattle.meter_run.specs.Runs.{run_deeds}
 use Rattle.meter_states.specs.Setting.{Setting, under_offset}
 use Rattle.tariff_syntax.specs.Tree.{Tree}
-use Rattle.taxi_units.specs.Time.{first_second}
 use Rattle.totals_record.specs.States.{first_state}
 use Rattle.totals_record.specs.declared.durable_state.Durable.{Durable}
 use Rattle.verify_bench.specs.Generated.{generated}

@@ -9,8 +9,8 @@ use Rattle.commands.specs.Pieces.{pieces_of}
 use Rattle.commands.specs.Tariffs.{tariff_in, bad_tariff}
 use Rattle.commands.specs.declared.tariff.Refusal.{Refusal}
 
--- the answer to a sound tariff shows for each rate, initial hire fee and minimum fare the first context of a meter in
--- which it is the one that counts, if there is one; to another text, it says why there is none
+-- the answer to a sound tariff shows for each line of a kind of which the first that holds counts the first context of
+-- a meter in which it is the one that does, if there is one; to another text, it says why there is none
 abbrev pub lines_answer : (k : ℕ) → Result Tree Refusal → Answer
 lines_answer k (Err why) = bad_tariff why
 lines_answer k (Ok t) = shows (uses_text (uses_of t k))

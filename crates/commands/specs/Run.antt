@@ -1,6 +1,6 @@
 -- Rules: the command `run TARIFF DRIVE`.
 use Rattle.std.specs.Cmp.Lexicographic.{pointwise}
-use Rattle.std.specs.Prelude.{◌≡◌, ◌≢◌, ◌⊎◌, ℕ, nat_eq, nat_lt, if◌then◌else◌, Bool, true, List, [], ◌∷◌, ◌++◌, length, Option, None, Some, Result, Ok, Err}
+use Rattle.std.specs.Prelude.{◌≡◌, ◌≢◌, ◌⊎◌, ℕ, nat_eq, nat_lt, if◌then◌else◌, Bool, List, [], ◌∷◌, ◌++◌, length, Option, Some, Result, Ok, Err}
 use Rattle.sha2.specs.Sha256.{sha256}
 use Rattle.drive_text.specs.Ending.{IsGoing, drive_end}
 use Rattle.outside.specs.Disk.{IsWithin, SameBut}
@@ -14,6 +14,7 @@ use Rattle.totals_record.specs.declared.trip.Trip.{Trip}
 use Rattle.meter_store.specs.Stored.{HasState}
 use Rattle.seal_record.specs.declared.seal.Seal.{Seal}
 use Rattle.tariff_syntax.specs.Tree.{Tree}
+use Rattle.taxi_units.specs.Test.{if_some}
 use Rattle.tariff_compile.specs.Tables.{TableParts, tables_of}
 use Rattle.meter_states.specs.Fits.{fits_test}
 use Rattle.meter_states.specs.Setting.{Setting, setting_by}
@@ -55,8 +56,7 @@ sealed_tariff digest text =
 -- the test `does_hold_fit` is true where a held trip fits the tables, or there is none: its position, zone, rest, cover
 -- and supplements may come from a hiring by them, as the fact of `fits_test` says
 abbrev pub does_hold_fit : TableParts → Option Trip → Bool
-does_hold_fit tables None = true
-does_hold_fit tables (Some trip) = (fits_test tables trip).passes
+does_hold_fit tables hold = (if_some (fits_test tables) hold).passes
 
 -- a run begins with the durable state and the seal of the store, and with the tariff
 pub record Start : Type 0 where

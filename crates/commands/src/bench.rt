@@ -1,5 +1,5 @@
 //! The command `bench`.
-ghost use Rattle.std.specs.Prelude.{◌≡◌, Err};
+ghost use Rattle.std.specs.Prelude.{◌≡◌};
 ghost use Rattle.commands.specs.Carried.{Carries};
 ghost use Rattle.commands.specs.Bench.{bench_command};
 ghost use Rattle.commands.specs.Ending.{ended_with};

@@ -1,5 +1,5 @@
 //! The text by which hirings are explained.
-ghost use Rattle.std.specs.Prelude.{◌≡◌, ◌++◌, ◌+◌, ◌≤◌, IfOk, OnOk, flat_map, map};
+ghost use Rattle.std.specs.Prelude.{◌≡◌, ◌++◌, ◌≤◌, IfOk, OnOk, flat_map, map};
 ghost use Rattle.receipt_text.specs.Receipts.{supplements_text, total_text};
 ghost use Rattle.verify_bench.specs.Explaining.{explanation_of};
 ghost use Rattle.verify_bench.specs.Settings.{setting_under};
@@ -38,7 +38,7 @@ fn scale_by(checked: &Checked, params: &Params) -> Scale
     ensures scale { IsScale result }
 {
     Scale {
-        decimals: checked.tariff().decimals,
+        decimals: checked.decimals(),
         constant: params.constant,
         unit: params.constant.get() as u128 * checked.measure() as u128,
     }

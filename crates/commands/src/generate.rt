@@ -7,7 +7,6 @@ ghost use Rattle.meter_states.specs.Setting.{Setting, IsSettingOf};
 ghost use Rattle.outside.specs.Faults.{Rose};
 ghost use Rattle.seal_record.specs.Ranges.{IsSeal};
 ghost use Rattle.meter_store.specs.Sealing.{FoundSeal, FoundTotals, totals_found};
-ghost use Rattle.slot_store.specs.declared.found.Found.{Found};
 ghost use Rattle.taxi_units.specs.Line.{line_size};
 ghost use Rattle.taxi_units.specs.Time.{first_second};
 ghost use Rattle.meter_store.specs.Stored.{HasState};

@@ -52,7 +52,7 @@ pub fn judge_drive<F: Files>(
         Ok(runs) => runs,
         Err(fault) => return Err(refused_drive(fault)),
     };
-    let decimals = terms.checked.tariff().decimals;
+    let decimals = terms.checked.decimals();
     let readings = readings_of_word(alloc, files, 3, decimals)?;
     match judge_readings(alloc, terms, runs.as_slice(), readings.as_slice()) {
         Ok(judgement) => Ok(judgement),
@@ -113,7 +113,7 @@ fn judge_readings(
         ≡ judged_pass (terms_in terms.now) (flat_map run_events runs.now) readings.now) }
 {
     let (step, _) = terms.checked.step();
-    let decimals = terms.checked.tariff().decimals;
+    let decimals = terms.checked.decimals();
     let expected = expect(alloc, &terms.checked, &terms.seal, runs)?;
     let mut text = cross_overs(alloc, &terms.checked)?;
     let rows = report(alloc, expected.as_slice(), readings, step, decimals)?;

@@ -1,5 +1,5 @@
 //! The command `seal`.
-ghost use Rattle.std.specs.Prelude.{◌≡◌, ◌≢◌, ◌⊎◌, ◌+◌, ◌<◌, ◌≤◌, [], IfOk, OnOk, Ok, Err};
+ghost use Rattle.std.specs.Prelude.{◌≡◌, ◌≢◌, ◌⊎◌, ◌<◌, ◌≤◌, [], IfOk, OnOk, Ok, Err};
 ghost use Rattle.std.specs.Option.{ForSome};
 ghost use Rattle.slot_store.specs.Scan.{IsValidFinding};
 ghost use Rattle.seal_record.specs.Limits.{last_seal_number};
@@ -107,7 +107,7 @@ fn decimals_of(alloc: Global, text: &[u8], found: Option<u8>) -> Result<u8, Ende
     ensures refused { (ended : Ended) → result ≡ Err ended → IsNoTariff found text.now ended }
 {
     let decimals = match tariff_of_text(alloc, text) {
-        Ok(checked) => checked.tariff().decimals,
+        Ok(checked) => checked.decimals(),
         Err(fault) => return Err(refused_by(fault)),
     };
     are_decimals(found, decimals)?;

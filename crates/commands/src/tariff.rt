@@ -1,5 +1,5 @@
 //! Reads the tariff of a word.
-ghost use Rattle.std.specs.Prelude.{◌≡◌, ◌≢◌, ℕ, ◌-◌, ◌<◌, ◌≤◌, [], length, IfOk, OnOk, Ok, Err, vec_len};
+ghost use Rattle.std.specs.Prelude.{◌≡◌, ◌≢◌, ℕ, ◌<◌, ◌≤◌, [], length, IfOk, OnOk, Ok, Err, vec_len};
 ghost use Rattle.outside.specs.Reading.{LeavesOthers};
 ghost use Rattle.outside.specs.Faults.{Rose};
 ghost use Rattle.tariff_syntax.specs.Tree.{tree_of};

@@ -90,8 +90,8 @@ fn carry_out<F: Files, B: Board<STORE_SIZE, L>, L: Ledger>(
 ///   was on
 /// - `sealed`: what the store was sealed with, as a text of parameters
 /// - `form TARIFF`: the printed form of the tariff, sound or not
-/// - `lines TARIFF CONSTANT`: for each rate, initial hire fee and minimum fare whether it is ever the one that counts,
-///   and the first context of a meter in which it is
+/// - `lines TARIFF CONSTANT`: for each line of a kind of which the first that holds counts whether it is ever the one
+///   that does, and the first context of a meter in which it is
 /// - `explain TARIFF DRIVE PARAMS`: why the fare of each hiring that the drive closes is what it is, on a new store
 ///   that is sealed with the tariff and the parameters
 /// - `compare TARIFF OTHER CONSTANT`: what differs first between two tariffs, and the line of each, or `SAME`

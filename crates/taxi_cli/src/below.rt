@@ -3,4 +3,3 @@
 
 mod meter_states_tests;
 mod tariff_texts;
-mod verify_bench_tests;

@@ -2,7 +2,7 @@
 use Rattle.std.proofs.Common.{◌≡◌, ℕ, ◌+◌, ◌-◌, ◌^◌, ◌<◌, ◌≤◌, ◌∙◌, ◌⊎◌, inl, inr, List, [], ◌∷◌, ◌++◌, refl, ap, sym}
 use Rattle.std.proofs.Common.{subst, map, sum, true, false, Bool, Option, Some, None, arith, append_assoc}
 use Rattle.std.specs.Prelude.{min, nat_le, if◌then◌else◌}
-use Rattle.std.proofs.lemmas.Bool.{le-leb}
+use Rattle.std.proofs.lemmas.Bool.{le-leb, lt-leb}
 use Rattle.std.proofs.lemmas.List.{append-nil, map-append}
 use Rattle.std.proofs.lemmas.List.Elements.{filter_map-append}
 use Rattle.meter_states.specs.Closing.{closed, receipt_of, roaming_checked, roaming_entered}
@@ -20,7 +20,6 @@ use Rattle.meter_states.specs.declared.act.Act.{Act}
 use Rattle.meter_states.specs.declared.act.Act.TheVariants.{Show}
 use Rattle.taxi_units.specs.declared.event.Operating.TheVariants.{Off, ForHire, Hired, Stopped}
 use Rattle.tariff_syntax.specs.declared.context.Context.{Context}
-use Rattle.verify_bench.proofs.Permitted.{not_at_most}
 use Rattle.meter_states.specs.Keys.{extra_added, key_in}
 use Rattle.meter_states.specs.Supplements.{times}
 use Rattle.tariff_check.specs.declared.values.Supplement.{Supplement}
@@ -213,7 +212,7 @@ moves_shown s hired next trip found meter m stands = record {
 -- the store takes a hiring yet
 pub hires_yet : (s : Setting) (hired : Context) (meter : BenchMeter) (m : Meter) → BenchStands s hired meter m
     → meter.number < hirings_end → nat_le hirings_end m.durable.number ≡ false
-hires_yet s hired meter m stands few = not_at_most hirings_end m.durable.number (omega (arith, stands.number))
+hires_yet s hired meter m stands few = lt-leb hirings_end m.durable.number (omega (arith, stands.number))
 
 -- the next interval begins
 pub moves_begun : (s : Setting) (hired next : Context) (trip : Option MeterTrip) (found : List Explained)
@@ -327,7 +326,7 @@ moves_extra s trip found hired next meter m n supplement hiring more is few othe
     let beside = trip_beside s next hiring meter.hiring m.trip is stands.trips in
     let t = beside.0 in
     let may : nat_le supplement.max (times n t.extras) ≡ false =
-    not_at_most supplement.max (times n t.extras)
+    lt-leb supplement.max (times n t.extras)
     (subst (λ (numbers : List ℕ). times n numbers < supplement.max) (sym beside.2.extras) few) in
     rw (beside.1, may) (record {
       state = record {

@@ -1,12 +1,9 @@
 -- A verdict is the first fault.
-use Rattle.std.proofs.Common.{◌≡◌, ◌↔◌, ℕ, ◌*◌, ◌≤◌, Bool, true, false, refl}
+use Rattle.std.proofs.Common.{◌≡◌, ◌↔◌, ℕ, Bool, true, false, refl}
 use Rattle.std.specs.Bool.{Decides}
-use Rattle.std.specs.Int.{abs_diff}
-use Rattle.std.specs.Prelude.{nat_le}
-use Rattle.std.proofs.lemmas.Bool.{false≢true, le-leb, leb-true}
-use Rattle.std.proofs.lemmas.Bool.Decides.{Decides-or}
-use Rattle.verify_bench.specs.Verdicts.{IsVerdict, IsWithin, verdict_of}
-use Rattle.verify_bench.specs.VerdictStages.{is_within, verdict_by}
+use Rattle.std.proofs.lemmas.Bool.{false≢true}
+use Rattle.verify_bench.specs.Verdicts.{DistancePasses, FarePasses, IsVerdict, TimePasses, verdict_of}
+use Rattle.verify_bench.specs.VerdictStages.{verdict_by, within_test}
 use Rattle.verify_bench.specs.declared.expected.Expected.{Expected}
 use Rattle.verify_bench.specs.declared.judging.Verdict.{Verdict}
 use Rattle.verify_bench.specs.declared.judging.Verdict.TheVariants as verdicts
@@ -44,27 +41,15 @@ module _ (F D T : Type 0) where
   by_tests true true true fare distance time verdicts.Distance = (λ e. absurd cc, λ h. absurd (h.1 (distance.0 refl)))
   by_tests true true true fare distance time verdicts.Time = (λ e. absurd cc, λ h. absurd (h.2 (time.0 refl)))
 
-Decides-le : (a b : ℕ) → Decides (nat_le a b) (a ≤ b)
-Decides-le a b = (leb-true a b, le-leb a b)
-
-Decides-within : (parts least expected read : ℕ)
-    → Decides (is_within parts least expected read) (IsWithin parts least expected read)
-Decides-within parts least expected read =
-    let error = abs_diff expected read in
-    Decides-or (nat_le (parts * error) expected) (nat_le error least) (Decides-le (parts * error) expected)
-    (Decides-le error least)
-
 all : (expected : Expected) (reading : Reading) (step : ℕ) (verdict : Verdict)
     → (verdict_of expected reading step ≡ verdict)
-    ↔ Gives (IsWithin 1000 step expected.fare reading.fare) (IsWithin 500 4000 expected.hired_mm reading.distance_mm)
-    (IsWithin 1000 2 expected.ticks reading.tenths) verdict
+    ↔ Gives (FarePasses expected reading step) (DistancePasses expected reading) (TimePasses expected reading) verdict
 all expected reading step verdict =
-    by_tests (IsWithin 1000 step expected.fare reading.fare) (IsWithin 500 4000 expected.hired_mm reading.distance_mm)
-    (IsWithin 1000 2 expected.ticks reading.tenths)
-    (is_within 1000 step expected.fare reading.fare) (is_within 500 4000 expected.hired_mm reading.distance_mm)
-    (is_within 1000 2 expected.ticks reading.tenths)
-    (Decides-within 1000 step expected.fare reading.fare) (Decides-within 500 4000 expected.hired_mm
-    reading.distance_mm) (Decides-within 1000 2 expected.ticks reading.tenths) verdict
+    let fare = within_test 1000 step expected.fare reading.fare in
+    let distance = within_test 500 4000 expected.hired_mm reading.distance_mm in
+    let time = within_test 1000 2 expected.ticks reading.tenths in
+    by_tests fare.Fact distance.Fact time.Fact fare.passes distance.passes time.passes fare.decides distance.decides
+    time.decides verdict
 
 pub first_fault : (expected : Expected) (reading : Reading) (step : ℕ) (verdict : Verdict)
     → (verdict_of expected reading step ≡ verdict) ↔ IsVerdict expected reading step verdict

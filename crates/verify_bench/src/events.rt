@@ -4,7 +4,6 @@ ghost use Rattle.meter_states.specs.Interval.{pulses_taken};
 ghost use Rattle.meter_states.specs.Setting.{Setting};
 ghost use Rattle.meter_states.specs.Step.{clock_read, powered_step, step};
 ghost use Rattle.taxi_units.specs.Time.{IsSecond, last_tick};
-ghost use Rattle.taxi_units.specs.declared.event.Operating.TheVariants.{Off};
 ghost use Rattle.verify_bench.specs.Settings.{setting_under};
 
 use crate::bench_meter::BenchMeter;

@@ -25,7 +25,7 @@ use tariff_check::Checked;
 use taxi_units::{Event, FIRST_SECOND, NoMemory, Operating, Steps};
 
 /// What a drive should come to: the receipts of its hirings, from an empty store of number 1, with the
-/// supply dropping at its end. It charges every interval of a trip over the tariff's tree, in the context of
+/// supply dropping at its end. It charges every interval of a trip by the tariff's parts, in the context of
 /// its beginning; so it is the plain program of the definition, beside which a meter is judged. A trip that
 /// is held at the end has no receipt.
 ///

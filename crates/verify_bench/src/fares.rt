@@ -3,6 +3,7 @@ ghost use Rattle.std.specs.Prelude.{◌≡◌, ℕ, ◌+◌, ◌*◌, ◌^◌, �
 ghost use Rattle.drive_modes.specs.Fare.{quotient, shown_fare, steps_above};
 ghost use Rattle.meter_states.specs.Setting.{modulus_of, rounding_of, unit_of};
 ghost use Rattle.tariff_check.specs.Amounts.{IsFitInitial};
+ghost use Rattle.taxi_units.specs.Money.{largest_display_step};
 ghost use Rattle.taxi_units.specs.Time.{longest_trip};
 ghost use Rattle.verify_bench.specs.Limits.{most_charge, most_money};
 ghost use Rattle.verify_bench.specs.Settings.{setting_under};
@@ -47,7 +48,7 @@ fn divided(rounding: Rounding, x: u128, y: u128) -> u128
 #[tactic(auto, using(crate::proofs::Capped::capped_fare))]
 pub(crate) fn fare_shown(fee: Initial, step: u64, steps: u128) -> u64
     requires fee { IsFitInitial fee }
-    requires step { (1 ≤ step) × (step ≤ 10 ^ 6) }
+    requires step { (1 ≤ step) × (step ≤ largest_display_step) }
     ensures { result ≡ shown_fare fee.amount fee.minimum step steps }
 {
     let few = steps.min(LARGEST_AMOUNT as u128) as u64;

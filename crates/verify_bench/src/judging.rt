@@ -4,7 +4,7 @@ ghost use Rattle.verify_bench.specs.declared.expected.Expected.{Expected};
 ghost use Rattle.verify_bench.specs.declared.judging.Verdict.{Verdict};
 ghost use Rattle.verify_bench.specs.declared.reading.Reading.{Reading};
 ghost use Rattle.verify_bench.specs.Verdicts.{verdict_of, IsVerdict};
-ghost use Rattle.verify_bench.specs.VerdictStages.{is_within};
+ghost use Rattle.verify_bench.specs.VerdictStages.{within_test};
 
 use crate::expected::Expected;
 use crate::reading::Reading;
@@ -68,7 +68,7 @@ pub fn judge(expected: &Expected, reading: &Reading, step: u64) -> Verdict
 #[tactic(auto, using(crate::proofs::Permitted::parts_are_divided))]
 fn is_permitted(parts: u128, least: u128, expected: u128, read: u128) -> bool
     requires { 0 < parts }
-    ensures { result ≡ is_within parts least expected read }
+    ensures { result ≡ (within_test parts least expected read).passes }
 {
     let error = expected.abs_diff(read);
     error <= expected / parts || error <= least

@@ -1,5 +1,5 @@
 //! Whether readings pass.
-ghost use Rattle.std.specs.Prelude.{◌≡◌, ℕ, ◌↔◌, List, max, true};
+ghost use Rattle.std.specs.Prelude.{◌≡◌, ℕ, ◌↔◌, List, true};
 ghost use Rattle.verify_bench.specs.declared.expected.Expected.{Expected};
 ghost use Rattle.verify_bench.specs.declared.reading.Reading.{Reading};
 ghost use Rattle.verify_bench.specs.Passing.{EachRowPasses};

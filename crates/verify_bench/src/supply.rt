@@ -1,5 +1,5 @@
 //! What the supply does to the meter of the bench.
-ghost use Rattle.std.specs.Prelude.{◌≡◌, ◌+◌, ◌<◌, ◌&&◌, nat_le, None, Some, OnOk};
+ghost use Rattle.std.specs.Prelude.{◌≡◌, ◌+◌, ◌<◌, ◌&&◌, nat_le, None, OnOk};
 ghost use Rattle.meter_states.specs.Meter.{Meter, held};
 ghost use Rattle.meter_states.specs.Trip.{MeterTrip, held_trip};
 ghost use Rattle.meter_states.specs.Run.{ended};
@@ -9,7 +9,6 @@ ghost use Rattle.tariff_syntax.specs.declared.context.Context.{Context};
 ghost use Rattle.taxi_units.specs.Limits.{last_number};
 ghost use Rattle.taxi_units.specs.Time.{IsSecond, last_tick};
 ghost use Rattle.taxi_units.specs.declared.event.Event.TheVariants.{Down};
-ghost use Rattle.taxi_units.specs.declared.event.Operating.TheVariants.{Off};
 ghost use Rattle.totals_record.specs.declared.trip.Trip.{Trip};
 ghost use Rattle.verify_bench.specs.Bench.{held_of};
 ghost use Rattle.verify_bench.specs.Settings.{setting_under};

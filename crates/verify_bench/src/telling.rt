@@ -1,8 +1,8 @@
 //! What a hiring that is closed comes to: its receipt, and why its fare is what it is.
-ghost use Rattle.std.specs.Prelude.{◌≡◌, ℕ, ◌+◌, ◌*◌, ◌<◌, ◌≤◌, ◌++◌, List, Some, IfOk, OnOk};
+ghost use Rattle.std.specs.Prelude.{◌≡◌, ℕ, ◌≤◌, ◌++◌, List, Some, IfOk, OnOk};
 ghost use Rattle.meter_states.specs.Closing.{receipt_of};
 ghost use Rattle.meter_states.specs.Setting.{Setting, stamp_at};
-ghost use Rattle.meter_states.specs.Supplements.{amount_in, amounts_of, times};
+ghost use Rattle.meter_states.specs.Supplements.{amount_in, amounts_of};
 ghost use Rattle.meter_states.specs.Trip.{Part, MeterTrip};
 ghost use Rattle.tariff_check.specs.SoundTariff.{own_lines, sound_of};
 ghost use Rattle.tariff_check.specs.Parts.{supplement_of};
@@ -106,7 +106,7 @@ fn receipt<L: Ledger>(
         step,
         fare,
         supplements: sum,
-        decimals: checked.tariff().decimals,
+        decimals: checked.decimals(),
     }
 }
 

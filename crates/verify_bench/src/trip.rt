@@ -1,5 +1,4 @@
 //! Writes the trips of a generated drive.
-ghost use Rattle.std.specs.Prelude.{◌+◌};
 ghost use Rattle.verify_bench.specs.Generated.{driven, drop_perhaps, extra_chosen, extra_perhaps, leg, position_chosen, roamed, supply_away, trip, zone_chosen};
 
 use crate::writing::Writing;

@@ -1,5 +1,5 @@
 //! Writes the lines of a generated drive.
-ghost use Rattle.std.specs.Prelude.{◌≡◌, ◌+◌, ◌<◌, ◌≤◌, ◌*◌, ◌∷◌, []};
+ghost use Rattle.std.specs.Prelude.{◌≡◌, ◌<◌, ◌≤◌, ◌*◌, ◌∷◌, []};
 ghost use Rattle.arrayvec.specs.ArrayVec.{array_vec_len};
 ghost use Rattle.drive_text.specs.Ranges.{IsInRange};
 ghost use Rattle.drive_text.specs.declared.run.Run.TheVariants.{One, Many};

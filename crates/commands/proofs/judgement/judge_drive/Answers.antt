@@ -2,7 +2,6 @@ use Rattle.std.proofs.Common.{◌≡◌, ◌≢◌, ◌∙◌, ℕ, List, All, E
 use Rattle.std.proofs.lemmas.Result.{err_from_is_err_and}
 use Rattle.drive_text.specs.Ranges.{IsRunInRange}
 use Rattle.outside.specs.Faults.{Rose}
-use Rattle.tariff_syntax.specs.declared.tariff.Tariff.{Tariff}
 use Rattle.commands.specs.BenchSteps.{IsNoReadings, IsNotJudged, IsWholeDrive, ended_for_drive, terms_in}
 use Rattle.commands.specs.declared.ending.Ended.{Ended}
 use Rattle.commands.specs.declared.ending.Ended.TheVariants as ended
@@ -52,13 +51,13 @@ returns-in_err-readings-clause-refused g c =
     let text_failed = Rose (faults files 3) (faults new 3) in
     let first_failed = Rose (faults mid 3) (faults new 3) in
     let end = c.in_err-readings.field-0.0 in
-    let first : IsNoReadings c.tariff.result.now.decimals (rest mid 3) first_failed end =
+    let first : IsNoReadings c.decimals-decimals.result (rest mid 3) first_failed end =
     c.readings_of_word.ensures.refused end tells c.in_err-readings.was in
-    let of_text : IsNoReadings c.tariff.result.now.decimals (rest files 3) first_failed end =
-    subst (λ (x : List ℕ). IsNoReadings c.tariff.result.now.decimals x first_failed end)
+    let of_text : IsNoReadings c.decimals-decimals.result (rest files 3) first_failed end =
+    subst (λ (x : List ℕ). IsNoReadings c.decimals-decimals.result x first_failed end)
     (c.read_drive.ensures.others 3 (three-two 3 refl)) first in
     let of_tariff : IsNoReadings terms.tree.decimals (rest files 3) first_failed end =
-    subst (λ (t : Tariff). IsNoReadings t.decimals (rest files 3) first_failed end) c.tariff.ensures.value of_text in
+    subst (λ (n : ℕ). IsNoReadings n (rest files 3) first_failed end) c.decimals-decimals.ensures.value of_text in
     let later = no_readings-as terms.tree.decimals (rest files 3) first_failed text_failed end
     (λ rose. omega (
       arith,

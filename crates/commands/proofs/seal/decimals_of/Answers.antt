@@ -1,7 +1,6 @@
 use Rattle.std.proofs.Common.{◌∙◌, Err, refl, sym, ap}
 use Rattle.std.proofs.lemmas.Result.{err_from_is_err_and}
 use Rattle.tariff_syntax.specs.Tree.{tree_of}
-use Rattle.tariff_syntax.specs.declared.tariff.Tariff.{Tariff}
 use Rattle.commands.specs.Seal.{are_decimals}
 use Rattle.commands.proofs.Openings.{same_fault}
 use Rattle.commands.proofs.Sealings.{no_tariff-decimals}
@@ -9,22 +8,21 @@ use Rattle.commands.proofs.seal.decimals_of.Goals as goal
 
 pub returns-clause-sound : goal.returns-clause-sound
 returns-clause-sound c =
-    let same = sym c.tariff.ensures.value in
+    let same = sym c.decimals-decimals.ensures.value in
     record {
       has = record {
         tree = tree_of c.in-Ok.checked;
         sound = c.in-Ok.ensures.found;
-        decimals = ap (λ (t : Tariff). are_decimals c.args.found t.decimals) same ∙ sym c.are_decimals.ensures
-            ∙ c.in_ok-are_decimals.was;
+        decimals = ap (are_decimals c.args.found) same ∙ sym c.are_decimals.ensures ∙ c.in_ok-are_decimals.was;
       };
-      decimals_are = ap (λ (t : Tariff). t.decimals) same;
+      decimals_are = same;
     }
 
 pub returns-in_err-are_decimals-clause-refused : goal.returns-in_err-are_decimals-clause-refused
 returns-in_err-are_decimals-clause-refused c =
-    let same = sym c.tariff.ensures.value in
+    let same = sym c.decimals-decimals.ensures.value in
     let p = err_from_is_err_and c.from_residual.result c.from_residual.ensures.1 in
     rw (p.1, p.2) (λ end e.
     no_tariff-decimals c.args.found c.args.text.now (tree_of c.in-Ok.checked) end c.in-Ok.ensures.found
-    (ap (λ (t : Tariff). are_decimals c.args.found t.decimals) same ∙ sym c.are_decimals.ensures
-    ∙ c.in_err-are_decimals.was ∙ ap Err (same_fault _ _ _ refl e)))
+    (ap (are_decimals c.args.found) same ∙ sym c.are_decimals.ensures ∙ c.in_err-are_decimals.was
+    ∙ ap Err (same_fault _ _ _ refl e)))

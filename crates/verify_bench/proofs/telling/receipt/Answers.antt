@@ -6,7 +6,6 @@ use Rattle.meter_states.specs.Setting.{stamp_at}
 use Rattle.meter_states.specs.Supplements.{amounts_of}
 use Rattle.meter_states.specs.Trip.{charges_of, fare_of, pulses_of, steps_shown}
 use Rattle.drive_modes.specs.Distance.{millimetres_of}
-use Rattle.tariff_syntax.specs.declared.tariff.Tariff.{Tariff}
 use Rattle.verify_bench.specs.Settings.{setting_under}
 use Rattle.verify_bench.specs.declared.explained.Sums.{Sums}
 use Rattle.verify_bench.proofs.Benches.{whole_pulses}
@@ -31,6 +30,4 @@ returns g c hired trip is =
     rw (c.fare_shown-fare.ensures, step, shown, is.fees) refl in
     let amounts : c.supplements-sum.result ≡ amounts_of s.tariff trip.extras =
     rw (c.supplements-sum.ensures, is.extras) refl in
-    let decimals : c.tariff.result.now.decimals ≡ s.tariff.decimals =
-    ap (λ (t : Tariff). t.decimals) c.tariff.ensures.value in
-    rw (start, finish, distance, steps, step, fare, amounts, decimals, is.fees) refl
+    rw (start, finish, distance, steps, step, fare, amounts, c.decimals.ensures.value, is.fees) refl

@@ -1,6 +1,6 @@
 use Rattle.std.proofs.Common.{◌≡◌, ◌≢◌, ◌∙◌, sym, refl, arith, true, false, None, Some}
 use Rattle.std.specs.Prelude.{nat_le}
-use Rattle.std.proofs.lemmas.Bool.{le-leb}
+use Rattle.std.proofs.lemmas.Bool.{le-leb, lt-leb}
 use Rattle.std.proofs.lemmas.Result.{on_ok_weaker}
 use Rattle.meter_states.specs.Interval.{context_now, ticks_so_far}
 use Rattle.taxi_units.specs.Time.{longest_trip}
@@ -8,7 +8,6 @@ use Rattle.taxi_units.specs.declared.event.Operating.TheVariants.{ForHire}
 use Rattle.verify_bench.specs.Settings.{setting_under}
 use Rattle.verify_bench.proofs.BenchSupply.{no_ticks, still_hired}
 use Rattle.verify_bench.proofs.Benches.{stands_anew}
-use Rattle.verify_bench.proofs.Permitted.{not_at_most}
 use Rattle.verify_bench.proofs.bench_meter.BenchMeter.expire_or_press.Goals as goal
 
 pub returns-then-ticks-ge-LONGEST_TRIP-clause-moves : goal.returns-then-ticks-ge-LONGEST_TRIP-clause-moves
@@ -31,7 +30,7 @@ returns-in-Some-clause-moves g c =
     on_ok_weaker c.act.result (λ goes m hired stands.
     let same = c.ticks.ensures.stands s m hired stands in
     let few : nat_le longest_trip (ticks_so_far m.trip) ≡ false =
-    not_at_most 8640000 (ticks_so_far m.trip) (omega (arith, same)) in
+    lt-leb 8640000 (ticks_so_far m.trip) (omega (arith, same)) in
     let waits : m.latch ≡ Some c.in-Some.key = sym stands.latch ∙ c.in-Some.is in
     rw (few, waits) (goes (record m { latch = None }) hired
     (stands_anew s hired c.args.self.now m c.args.self.now.began m.began None None m.shown stands.began refl stands)))
