@@ -52,13 +52,19 @@ read_shares() {
   done
 }
 
-# How many functions of the crates that are being proved are done: rt keeps a file of each as it goes.
+# How many functions are done of a crate that is being proved, given its folder: rt keeps a file of each as it goes. It
+# keeps files of other things too, and those of earlier checks, so no more are counted than the crate has functions.
+proved_in() {
+  local count most=${has[${1##*/}]-0}
+  count=$(find "$1/out/incremental" -name '*-proofs.*.Proof.oantt' ! -name '*.TheImpl.Proof.oantt' 2>/dev/null | wc -l)
+  [ "$count" -le "$most" ] || count=$most
+  echo "$count"
+}
+
+# The same of all crates that are being proved.
 proved_inside() {
-  local count
-  [ ${#proving[@]} -gt 0 ] || { echo 0; return; }
-  count=$(find "${proving[@]/%//out/incremental}" -name '*-proofs.*.Proof.oantt' ! -name '*.TheImpl.Proof.oantt' \
-    2>/dev/null | wc -l)
-  [ "$count" -le "$proving_functions" ] || count=$proving_functions
+  local folder count=0
+  for folder in "${proving[@]}"; do count=$((count + $(proved_in "$folder"))); done
   echo "$count"
 }
 
@@ -76,16 +82,18 @@ now_proving() {
 minutes() { echo "$(($1 / 60)) min $(($1 % 60)) s"; }
 
 # Shows how far the build is: the crates, functions, the time so far, and the time expected. What was proved in this run
-# says how fast it goes; before that a tenth of a minute is one. On a terminal it stays in one line.
+# says how fast it goes; before that a tenth of a minute is one. No fewer functions are shown than were shown before. On
+# a terminal it stays in one line.
 show_progress() {
-  local inside=0 spent=$((SECONDS - began_building)) ahead=$left pace=600 from='' to='\n'
+  local inside spent=$((SECONDS - began_building)) ahead=$left pace=600 from='' to='\n'
   [ ! -t 2 ] || from='\r\033[K' to=''
-  [ "$1" = begin ] || inside=$(proved_inside)
+  inside=$(proved_inside)
+  [ $((done_functions + inside)) -le "$shown_functions" ] || shown_functions=$((done_functions + inside))
   [ "$done_share" -lt 5 ] || pace=$((done_seconds * 100 / done_share))
   [ "$proving_functions" -eq 0 ] || ahead=$((left - proving_share * inside / proving_functions))
   [ "$ahead" -gt 0 ] || ahead=1
   printf "$from%s: crate %s of %s, %s; %s of %s functions; %s so far, about %s min to go$to" "$name" "$place" "$all" \
-    "$proving_names" $((done_functions + inside)) "$all_functions" "$(minutes $spent)" $(((ahead * pace / 100 + 59) / 60)) >&2
+    "$proving_names" "$shown_functions" "$all_functions" "$(minutes $spent)" $(((ahead * pace / 100 + 59) / 60)) >&2
 }
 
 # Shows progress while a crate is proved: on a terminal in one line each second, else in a line a minute.
@@ -93,16 +101,17 @@ show_on() {
   local second=0
   while sleep 1 && kill -0 $$ 2>/dev/null; do
     second=$((second + 1))
-    [ ! -t 2 ] && [ $((second % 60)) -ne 0 ] || show_progress on
+    [ ! -t 2 ] && [ $((second % 60)) -ne 0 ] || show_progress
   done
 }
 
-# Counts a crate that was proved as done.
+# Counts a crate that was proved as done, given its folder.
 count_done() {
-  local functions
+  local functions inside
   functions=$(sed -n 's/^logic=proved functions=\([0-9]*\).*/\1/p' "$log/$crate" | tail -n 1)
-  # The table may be older than the crate.
-  functions=${functions:-${has[$crate]-0}}
+  # The table may be older than the crate. What was shown of it isn't taken back.
+  functions=${functions:-${has[$crate]-0}} inside=$(proved_in "$1")
+  [ "$functions" -ge "$inside" ] || functions=$inside
   all_functions=$((all_functions + functions - ${has[$crate]-0})) done_functions=$((done_functions + functions))
   left=$((left - ${share[$crate]-0}))
 }
@@ -122,14 +131,14 @@ build_crate() {
   # shellcheck disable=SC2046,SC2086
   if [ "$crate" = "$program_crate" ]; then set -- rt run $(jobs) -- $sample; else set -- rt lib $(jobs); fi
   now_proving "$top/crates/$crate"
-  show_progress begin
+  show_progress
   show_on &
   watcher=$!
   (cd "$top/crates/$crate" && exec "$@") </dev/null >"$log/$crate" 2>&1
   status=$?
   kill $watcher 2>/dev/null
   wait $watcher 2>/dev/null
-  count_done
+  count_done "$top/crates/$crate"
   # What was proved before tells nothing of the pace.
   if [ "${share[$crate]-0}" -gt 0 ] && [ $((SECONDS - begins)) -gt 10 ]; then
     done_share=$((done_share + ${share[$crate]})) done_seconds=$((done_seconds + SECONDS - begins))
@@ -154,7 +163,7 @@ build_in_turn() {
 # Proves and builds the program, and only the crates that it needs.
 build() {
   local crate place=0 all log began_building=$SECONDS commit
-  local left=0 all_functions=0 done_functions=0 done_share=0 done_seconds=0
+  local left=0 all_functions=0 done_functions=0 shown_functions=0 done_share=0 done_seconds=0
   local proving_names='' proving_share=0 proving_functions=0
   local lane=''
   local -a proving=() folder=()
@@ -225,7 +234,7 @@ answer_now() {
       { say "--now reads plain files alone, and $(shown_name "$file") is none"; exit 125; }
   done
   log=$(mktemp) || exit 125
-  [ ! -t 2 ] || say 'building without a proof; this takes half a minute or more'
+  [ ! -t 2 ] || say 'building without a proof; this takes half a minute to a minute'
   (cd "$top/crates/$program_crate" && exec rt try -- "${words[@]}") </dev/null 2>"$log"
   status=$(sed -n 's/^run=ended status=\([0-9]*\) .*proved=no$/\1/p' "$log" | tail -n 1)
   if [ -z "$status" ]; then

@@ -73,7 +73,7 @@ begin_in() {
   (cd "${folder[$1]}/$crate" && exec rt "${@:2}") </dev/null >"$log/$crate" 2>&1 &
   pid[$1]=$!
   note_lanes
-  show_progress begin
+  show_progress
 }
 
 # Takes note of what both lanes prove.
@@ -88,7 +88,7 @@ end_in() {
   crate=${of[$1]}
   wait "${pid[$1]}" || return 1
   of[$1]='' made+="$crate "
-  count_done
+  count_done "${folder[$1]}/$crate"
   done_share=$((done_share + ${share[$crate]-0})) done_seconds=$((SECONDS - began_building))
   give "$crate" "$1"
   note_lanes
@@ -111,7 +111,7 @@ build_in_lanes() {
     for at in 0 1; do [ -n "${of[at]}" ] || begin_in $at; done
     sleep 1
     second=$((second + 1))
-    [ ! -t 2 ] && [ $((second % 60)) -ne 0 ] || show_progress on
+    [ ! -t 2 ] && [ $((second % 60)) -ne 0 ] || show_progress
     for at in 0 1; do
       [ -n "${of[at]}" ] && ! kill -0 "${pid[at]}" 2>/dev/null || continue
       end_in $at || { status=1 of[at]=''; break; }

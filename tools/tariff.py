@@ -91,9 +91,10 @@ class Reader:
         return found
 
     def number(self, least, most, what):
-        wanted = f"{what}, {least} to {most}, in one or two digits,"
+        digits = max(2, len(str(most)))
+        wanted = f"{what}, {least} to {most}, in one {'or two' if digits == 2 else f'to {digits}'} digits,"
         token = self.next
-        number = int(self.figure("[0-9]{1,2}", wanted)[0])
+        number = int(self.figure(f"[0-9]{{1,{digits}}}", wanted)[0])
         if not least <= number <= most:
             self.refuse(wanted, token)
         return number
