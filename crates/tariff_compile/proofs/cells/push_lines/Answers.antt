@@ -40,3 +40,18 @@ loop-place-preserved c =
 
 pub returns : goal.returns
 returns c = grind (arith, common_steps)
+
+pub bounds-as_slice-place : goal.bounds-as_slice-place
+bounds-as_slice-place c = grind (arith, common_steps)
+
+pub bounds-as_slice-place-in-loop-place : goal.bounds-as_slice-place-in-loop-place
+bounds-as_slice-place-in-loop-place c = grind (arith, common_steps)
+
+pub bounds-as_slice-place-in-loop-place-2 : goal.bounds-as_slice-place-in-loop-place-2
+bounds-as_slice-place-in-loop-place-2 c = grind (arith, common_steps)
+
+pub first_numbers-requires-2-clause-contexts : goal.first_numbers-requires-2-clause-contexts
+first_numbers-requires-2-clause-contexts c = grind (arith, common_steps)
+
+pub first_numbers-requires-3-clause-contexts : goal.first_numbers-requires-3-clause-contexts
+first_numbers-requires-3-clause-contexts c = grind (arith, common_steps)

@@ -1,4 +1,5 @@
 use Rattle.std.proofs.Common.{◌-◌, arith, refl}
+use Rattle.std.proofs.lemmas.Grind.{common_steps}
 use Rattle.tariff_syntax.specs.Grammar.{factor_first, chain_on}
 use Rattle.tariff_syntax.specs.Joints.{word_of, joined_by}
 use Rattle.tariff_syntax.specs.TokenReading.{tokens_of}
@@ -37,3 +38,27 @@ more_parts-returns t c = λ x h.
     c.in_ok-joined.rest.now) (joined_by c.args.joint (factor_first c.args.depth) x (tokens_of c.in-Some.rest.now))
     (λ y. chain_on (word_of c.args.joint) (joined_by c.args.joint (factor_first c.args.depth))
     (c.args.most - 1) y.0 y.1) (c.in_ok-joined.ensures x h) c.more_parts.ensures)
+
+pub joined_part-returns-in_ok-right-in-Or : goal.joined_part-returns-in_ok-right-in-Or
+joined_part-returns-in_ok-right-in-Or t c = grind (arith, common_steps)
+
+pub joined_part-returns-in_ok-right-in-And : goal.joined_part-returns-in_ok-right-in-And
+joined_part-returns-in_ok-right-in-And t c = grind (arith, common_steps)
+
+pub factor_above-returns-in_ok-atom-in-Word : goal.factor_above-returns-in_ok-atom-in-Word
+factor_above-returns-in_ok-atom-in-Word t c = grind (arith, common_steps)
+
+pub factor_above-returns-in_err-atom-in-Word : goal.factor_above-returns-in_err-atom-in-Word
+factor_above-returns-in_err-atom-in-Word t c = grind (arith, common_steps)
+
+pub in_parentheses-returns-in_err-rest : goal.in_parentheses-returns-in_err-rest
+in_parentheses-returns-in_err-rest t c = grind (arith, common_steps)
+
+pub factor_above-returns-then-is_text-2 : goal.factor_above-returns-then-is_text-2
+factor_above-returns-then-is_text-2 t c = grind (arith, common_steps)
+
+pub factor_above-returns-then-is_text : goal.factor_above-returns-then-is_text
+factor_above-returns-then-is_text t c = grind (arith, common_steps)
+
+pub joined_part-returns-in_err-right-in-And : goal.joined_part-returns-in_err-right-in-And
+joined_part-returns-in_err-right-in-And t c = grind (arith, common_steps)

@@ -1,4 +1,5 @@
-use Rattle.std.proofs.Common.{List, ℕ, [], ◌∷◌, ◌++◌, ◌∙◌, ap, append_assoc}
+use Rattle.std.proofs.Common.{List, ℕ, [], ◌∷◌, ◌++◌, ◌∙◌, ap, append_assoc, arith}
+use Rattle.std.proofs.lemmas.Grind.{common_steps}
 use Rattle.tariff_syntax.specs.Condition.{condition_of}
 use Rattle.tariff_syntax.specs.PrintedCondition.{condition_at, whole}
 use Rattle.tariff_syntax.proofs.spelling.+spelling.Goals as goal
@@ -12,3 +13,15 @@ push_closed-returns t c = λ rest.
     ∙ c.in_ok-push_condition.ensures (41 ∷ rest)
     ∙ ap (λ (text : List ℕ). text ++ closed) c.in_ok-push.ensures.items
     ∙ append_assoc old (40 ∷ []) closed
+
+pub push_condition-returns-in_ok-extend_from_slice-in-And : goal.push_condition-returns-in_ok-extend_from_slice-in-And
+push_condition-returns-in_ok-extend_from_slice-in-And t c = grind (arith, common_steps)
+
+pub push_condition-returns-in_ok-extend_from_slice-in-Or : goal.push_condition-returns-in_ok-extend_from_slice-in-Or
+push_condition-returns-in_ok-extend_from_slice-in-Or t c = grind (arith, common_steps)
+
+pub push_condition-returns-in_ok-extend_from_slice-in-Not : goal.push_condition-returns-in_ok-extend_from_slice-in-Not
+push_condition-returns-in_ok-extend_from_slice-in-Not t c = grind (arith, common_steps)
+
+pub push_condition-returns-in-Holiday : goal.push_condition-returns-in-Holiday
+push_condition-returns-in-Holiday t c = grind (arith, common_steps)

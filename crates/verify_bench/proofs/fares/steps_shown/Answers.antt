@@ -1,4 +1,5 @@
 use Rattle.std.proofs.Common.{◌≡◌, ◌*◌, ◌≤◌, refl, arith}
+use Rattle.std.proofs.lemmas.Grind.{common_steps}
 use Rattle.meter_states.specs.Setting.{unit_of}
 use Rattle.verify_bench.specs.Settings.{setting_under}
 use Rattle.verify_bench.proofs.StepCounts.{few_steps, some_unit}
@@ -14,3 +15,6 @@ returns-clause-few c ticks time few =
     (c.args.fee.covers * unit) unit c.step-step.result.0 ticks c.step-step.ensures.range.0
     (some_unit c.get.result c.measure.result c.get.ensures.least c.measure.ensures.range.0) time little in
     rw (c.divided.ensures, c.saturating_sub-above.ensures) (omega (arith, most))
+
+pub divided-requires-clause-small : goal.divided-requires-clause-small
+divided-requires-clause-small c = grind (arith, common_steps)

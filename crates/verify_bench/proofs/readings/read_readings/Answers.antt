@@ -68,3 +68,13 @@ returns-else-headed-clause-err c =
     default_config inv.rest inv.config inv.source step in
     let short : length c.args.text.now ≤ readings_limit = omega arith in
     (short, empty (c.loop-row.row-iterator.rdr.state, inv.rest, rw none.0 at inv.reached, ended))
+
+-- all rows came, and the text ends
+pub returns-then-headed-clause-ok : goal.returns-then-headed-clause-ok
+returns-then-headed-clause-ok c =
+    let inv = c.loop-row.invariant in
+    let reader = c.loop-row.row-iterator.rdr in
+    let step = rw c.in-None.is at ((c.next.ensures.steps inv.left inv.trim).0 inv.ready) in
+    let ended = rows-end (λ (s : Bor (List ℕ)). Some s.now) reader c.next.new.self.rdr []
+    default_config inv.rest inv.config inv.source step in
+    (omega arith, inv.rows, (reader.state, inv.rest, inv.reached, ended), rw c.if-headed.true at inv.given)

@@ -1,4 +1,5 @@
-use Rattle.std.proofs.Common.{◌≡◌, ◌⊎◌, ◌∙◌, sym, rules}
+use Rattle.std.proofs.Common.{◌≡◌, ◌⊎◌, ◌∙◌, sym, arith, rules}
+use Rattle.std.proofs.lemmas.Grind.{common_steps}
 use Rattle.std.proofs.lemmas.Result.{on_ok_weaker}
 use Rattle.meter_states.specs.Interval.{context_now}
 use Rattle.taxi_units.specs.declared.event.Key.TheVariants as keys
@@ -46,3 +47,30 @@ returns-in-Extra-Hired-clause-moves g c =
     at (goes c.args.params.now m.trip list m hired hired stands)
     (goes c.args.params.now m.trip list m hired hired stands))
     c.add_supplement.ensures.moves
+
+pub returns-in_ok-close-in-Clear-Stopped-clause-moves : goal.returns-in_ok-close-in-Clear-Stopped-clause-moves
+returns-in_ok-close-in-Clear-Stopped-clause-moves g c = grind (arith, common_steps)
+
+pub returns-in_default-2 : goal.returns-in_default-2
+returns-in_default-2 g c = grind (arith, common_steps)
+
+pub returns-in_default-3 : goal.returns-in_default-3
+returns-in_default-3 g c = grind (arith, common_steps)
+
+pub returns-in_default-4-clause-moves : goal.returns-in_default-4-clause-moves
+returns-in_default-4-clause-moves g c = grind (arith, common_steps)
+
+pub returns-in_default-5-clause-moves : goal.returns-in_default-5-clause-moves
+returns-in_default-5-clause-moves g c = grind (arith, common_steps)
+
+pub returns-in_default-6-clause-moves : goal.returns-in_default-6-clause-moves
+returns-in_default-6-clause-moves g c = grind (arith, common_steps)
+
+pub returns-in_default-clause-moves : goal.returns-in_default-clause-moves
+returns-in_default-clause-moves g c = grind (arith, common_steps)
+
+pub returns-in-Hire-Stopped-clause-moves : goal.returns-in-Hire-Stopped-clause-moves
+returns-in-Hire-Stopped-clause-moves g c = grind (arith, common_steps)
+
+pub returns-in-Stop-Hired-clause-moves : goal.returns-in-Stop-Hired-clause-moves
+returns-in-Stop-Hired-clause-moves g c = grind (arith, common_steps)

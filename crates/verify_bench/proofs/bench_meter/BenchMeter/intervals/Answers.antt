@@ -1,3 +1,4 @@
+use Rattle.std.proofs.Common.{◌≡◌, arith}
 use Rattle.drive_text.specs.Runs.{interval_events, intervals_events}
 use Rattle.verify_bench.specs.Settings.{setting_under}
 use Rattle.verify_bench.proofs.Carried.{carries_none, carries_then, intervals_more}
@@ -20,3 +21,8 @@ loop-place-preserved g c =
           c.in_ok-interval.ensures.carries);
       sound = c.in_ok-interval.ensures.sound;
     }
+
+pub returns-clause-carries : goal.returns-clause-carries
+returns-clause-carries g c =
+    let all : c.loop-place.place ≡ c.args.count = omega arith in
+    rw all at c.loop-place.invariant.carries
