@@ -10,8 +10,9 @@ COLUMNS = ["receipt", "kind", "taxi", "constant", "secured", "tariff", "start", 
            "initial", "steps", "step", *ON_RECEIPTS, "fare", "supplements", "total"]
 WHOLE = ["receipt", "constant", "position", "steps"]
 
-# A receipt: its fields by the names of the columns, the day on which it finished, and its text as it was printed.
-Receipt = collections.namedtuple("Receipt", "fields finished text")
+# A receipt: its fields by the names of the columns, the day on which it finished, its text as it was printed, and the
+# place of the roll where it begins.
+Receipt = collections.namedtuple("Receipt", "fields finished text place")
 
 NUMBER = r"(?:0|[1-9][0-9]{0,19})"  # no number of a receipt has more digits
 MONEY = NUMBER + r"(?:\.[0-9]{1,3})?"
@@ -67,7 +68,7 @@ def receipt_of(match):
               and 1 <= fields["position"] <= 9 and 2000 <= secured.year <= 2199
               and 1999 <= start.year <= 2200 and 1999 <= finish.year <= 2200
               and units(fields["distance_m"]) < 10**23)
-    return Receipt(fields, finish.date(), match[0]) if ranged and has_sums(fields) else None
+    return Receipt(fields, finish.date(), match[0], match.start()) if ranged and has_sums(fields) else None
 
 
 def receipts_in(roll):
