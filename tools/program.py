@@ -1,5 +1,6 @@
 """Calls of the proved programs, each in a folder of its own that goes when the work is done."""
 
+import os
 import pathlib
 import signal
 import subprocess
@@ -24,11 +25,12 @@ class Differs(Exception):
 
 
 def called(program, folder, *words):
-    """What a program of bin/ prints to words in a folder, and its status."""
+    """What a program of bin/ prints to words in a folder, and its status. Nobody would see its warnings."""
     command = TOP / "bin" / program
     done = subprocess.run(
         [command, *words],
         cwd=folder,
+        env={**os.environ, "TAXI_QUIET": "1"},
         stdin=subprocess.DEVNULL,
         stdout=subprocess.PIPE,
         stderr=subprocess.DEVNULL,
@@ -72,6 +74,8 @@ def read(path):
 
 def ending(tool, work):
     """Does the work of a tool, and gives its status. What it can't do is a line on standard error."""
+    if sys.stderr is None:  # it is closed, and its lines would go to the output
+        sys.stderr = open(os.devnull, "w", encoding="utf-8")
     try:
         status = work()
     except (Refused, Differs) as why:

@@ -10,9 +10,9 @@ COLUMNS = ["receipt", "kind", "taxi", "constant", "secured", "tariff", "start", 
            "initial", "steps", "step", *ON_RECEIPTS, "fare", "supplements", "total"]
 WHOLE = ["receipt", "constant", "position", "steps"]
 
-# A receipt: its fields by the names of the columns, the day on which it finished, its text as it was printed, and the
-# place of the roll where it begins.
-Receipt = collections.namedtuple("Receipt", "fields finished text place")
+# A receipt: its fields by the names of the columns, the day on which it finished, its text as it was printed, the place
+# of the roll where it begins, and a name of that place, where it has one.
+Receipt = collections.namedtuple("Receipt", "fields finished text place where", defaults=[""])
 
 NUMBER = r"(?:0|[1-9][0-9]{0,19})"  # no number of a receipt has more digits
 MONEY = NUMBER + r"(?:\.[0-9]{1,3})?"
