@@ -11,6 +11,7 @@
 #                 what is asked for the fault again, given status and words
 #   help_on_fault prints what a fault is, given its words, and fails where there is no such fault
 #   warn_behind   says what to mind behind a call that ended with 0, given its words; mostly nothing
+#   keep_before   where there is one: keeps what warn_behind looks at, given the words
 #
 # A command is judged and carried out by the program alone. Words go to it as they are, and its output isn't touched.
 
@@ -138,5 +139,6 @@ main() {
   fi
   [ -z "$now" ] || is_installed || answer_now "${given[@]}"
   make_ready || exit 125
+  ! declare -F keep_before >/dev/null || keep_before "${given[@]}"
   run_program "${given[@]}"
 }
