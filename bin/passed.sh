@@ -40,6 +40,6 @@ warn_behind() {
   if ! passed=$(passed_over "$2"); then
     say 'what was passed over of the roll was not counted: it was written meanwhile, or there was no room'
   elif [ "$passed" -gt 0 ]; then
-    say "whole receipts of the roll that were passed over: $passed. Their numbers are not above the newest one's of the log (docs/use/HIRING_LOG.md, \"What is passed over\")"
+    say "whole receipts of the roll that were passed over: $passed (docs/use/HIRING_LOG.md, \"What is passed over\")"
   fi
 }
