@@ -28,7 +28,7 @@ passed : (d : Difference) (b : Bool) (rest : Option Difference) → (if not b th
 passed d true rest h = (refl, h)
 passed d false rest h = absurd (some_none h)
 
-same_roundings : (a b : Rounding) → is_same_rounding a b ≡ true → a ≡ b
+pub same_roundings : (a b : Rounding) → is_same_rounding a b ≡ true → a ≡ b
 same_roundings Behind Behind h = refl
 same_roundings Behind Ahead h = absurd (false≢true h)
 same_roundings Ahead Behind h = absurd (false≢true h)
@@ -64,7 +64,7 @@ both_passed : (a b : Bool) → (if a then b else false) ≡ true → (a ≡ true
 both_passed true b h = (refl, h)
 both_passed false b h = absurd (false≢true h)
 
-same_supplements : (a b : Option supplements.Supplement) → is_same_supplement a b ≡ true → a ≡ b
+pub same_supplements : (a b : Option supplements.Supplement) → is_same_supplement a b ≡ true → a ≡ b
 same_supplements None None h = refl
 same_supplements None (Some r) h = absurd (false≢true h)
 same_supplements (Some s) None h = absurd (false≢true h)
@@ -140,11 +140,11 @@ frame_same t u t_is u_is h =
 
 -- ---- and the other way round
 
-rounding_self : (a : Rounding) → is_same_rounding a a ≡ true
+pub rounding_self : (a : Rounding) → is_same_rounding a a ≡ true
 rounding_self Behind = refl
 rounding_self Ahead = refl
 
-supplement_self : (o : Option supplements.Supplement) → is_same_supplement o o ≡ true
+pub supplement_self : (o : Option supplements.Supplement) → is_same_supplement o o ≡ true
 supplement_self None = refl
 supplement_self (Some s) = rw (eq-eqb s.amount s.amount refl, eq-eqb s.max s.max refl) refl
 

@@ -4,7 +4,9 @@ use Rattle.std.specs.Option.{option_or}
 use Rattle.tariff_compare.specs.Contexts.{HasTables, IsFirstOrNone, IsMeterTime}
 use Rattle.tariff_compare.specs.Counting.{counts}
 use Rattle.tariff_compare.specs.Differences.{context_difference, difference_of, frame_difference}
+use Rattle.tariff_compare.specs.FirstParts.{IsFirstKind, IsFirstOfFrame}
 use Rattle.tariff_compare.specs.Grids.{IsTimeOf}
+use Rattle.tariff_compare.specs.Kinds.{InForce, differing_kind}
 use Rattle.tariff_compare.specs.Same.{AreSame, DiffersFirst, HasSameFrame}
 use Rattle.tariff_compare.specs.Sides.{side_of}
 use Rattle.tariff_compare.specs.Uses.{first_counting}
@@ -14,6 +16,7 @@ use Rattle.tariff_compare.specs.declared.meter_context.MeterContext.{MeterContex
 use Rattle.tariff_compare.specs.declared.question.Question.TheVariants.{Counts}
 use Rattle.tariff_compare.proofs.DifferenceLaws.{in_is_first, none_is_same, same_is_none}
 pub use Rattle.tariff_compare.proofs.EachKind.{no_difference-hiring, no_difference-rate}
+use Rattle.tariff_compare.proofs.FirstParts.{frame_is_first, kind_is_first}
 use Rattle.tariff_compare.proofs.Firsts.{first_is_first}
 use Rattle.tariff_compare.proofs.Frames.{frame_same, same_frame}
 use Rattle.tariff_compare.proofs.MeterTimes.{days_within, minutes_within, tested_first, tested_last, time_test}
@@ -43,6 +46,14 @@ pub differences_are_first-context : (t u : Tree) (k : ℕ) (kind : ChoiceKind) (
     → HasTables u k → HasSameFrame t u
     → difference_of t u k ≡ Some (In kind m) → DiffersFirst t u k kind m
 differences_are_first-context = in_is_first
+
+pub first_parts_differ-frame : (t u : Tree) (k : ℕ) (d : Difference) → HasTables t k → HasTables u k
+    → frame_difference t u ≡ Some d → IsFirstOfFrame t u d
+first_parts_differ-frame t u k d t_has u_has = frame_is_first t u d t_has.writable u_has.writable
+
+pub first_parts_differ-kind : (m : MeterContext) (one other : InForce) (kind : ChoiceKind)
+    → differing_kind m one other ≡ Some kind → IsFirstKind m one other kind
+first_parts_differ-kind = kind_is_first
 
 pub meters_have_their_times : (day minute : ℕ) → IsMeterTime day minute ↔ IsTimeOf day minute
 meters_have_their_times day minute = (

@@ -8,6 +8,8 @@ pub mod Carried
 pub mod Covers
 -- the days that are kept
 pub mod Days
+-- the part that is found is the first that differs
+pub mod FirstParts
 -- the first context that the grid has is the first of the meter
 pub mod Firsts
 -- what differs first between two tariffs

@@ -2,6 +2,7 @@ pub mod Contexts
 pub mod Counting
 pub mod DifferenceTexts
 pub mod Differences
+pub mod FirstParts
 pub mod Grids
 pub mod Kinds
 pub mod Same

@@ -3,7 +3,9 @@ ghost use Rattle.std.specs.Prelude.{◌≡◌, ◌↔◌, ℕ, true, None, Some}
 ghost use Rattle.tariff_compare.specs.Contexts.{HasTables, IsFirstOrNone, IsMeterTime};
 ghost use Rattle.tariff_compare.specs.Counting.{counts};
 ghost use Rattle.tariff_compare.specs.Differences.{difference_of, frame_difference};
+ghost use Rattle.tariff_compare.specs.FirstParts.{IsFirstKind, IsFirstOfFrame};
 ghost use Rattle.tariff_compare.specs.Grids.{IsTimeOf};
+ghost use Rattle.tariff_compare.specs.Kinds.{InForce, differing_kind};
 ghost use Rattle.tariff_compare.specs.Same.{AreSame, DiffersFirst, HasSameFrame};
 ghost use Rattle.tariff_compare.specs.Sides.{side_of};
 ghost use Rattle.tariff_compare.specs.Uses.{first_counting};
@@ -31,6 +33,16 @@ pub fn differences_are_first()
         → (frame_difference t u ≡ None) ↔ HasSameFrame t u }
     ensures context { (t u : Tree) (k : ℕ) (kind : ChoiceKind) (m : MeterContext) → HasTables t k → HasTables u k
         → HasSameFrame t u → difference_of t u k ≡ Some (In kind m) → DiffersFirst t u k kind m }
+{}
+
+/// The law of first parts: what is found of two frames is the first part in which they differ, of decimals, display
+/// step, rounding, positions, zones and the supplements by number; what is found in a context is the first kind of line
+/// that is asked for there and differs, of initial hire fee, minimum fare and rate.
+pub fn first_parts_differ()
+    ensures frame { (t u : Tree) (k : ℕ) (d : Difference) → HasTables t k → HasTables u k
+        → frame_difference t u ≡ Some d → IsFirstOfFrame t u d }
+    ensures kind { (m : MeterContext) (one other : InForce) (kind : ChoiceKind)
+        → differing_kind m one other ≡ Some kind → IsFirstKind m one other kind }
 {}
 
 /// The law of times: a meter has each minute of the days from 2000-01-01 to 2199-12-31, those of 1999-12-31 from 10:00

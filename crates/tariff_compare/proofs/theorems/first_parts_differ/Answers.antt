@@ -1,0 +1,8 @@
+use Rattle.tariff_compare.proofs.Laws.{first_parts_differ-frame, first_parts_differ-kind}
+use Rattle.tariff_compare.proofs.theorems.first_parts_differ.Goals as goal
+
+pub returns-clause-frame : goal.returns-clause-frame
+returns-clause-frame c = first_parts_differ-frame
+
+pub returns-clause-kind : goal.returns-clause-kind
+returns-clause-kind c = first_parts_differ-kind
