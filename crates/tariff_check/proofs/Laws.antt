@@ -6,8 +6,10 @@ use Rattle.tariff_syntax.specs.Tree.{Tree, Line, Entry}
 use Rattle.tariff_syntax.specs.Writable.{IsFromTo, IsWritable}
 use Rattle.tariff_syntax.specs.declared.context.Context.{Context}
 use Rattle.tariff_check.specs.Amounts.{HasAmountsOf, IsFitInitial, initial_by}
+use Rattle.tariff_check.specs.ChoiceLines.{choice_lines}
 use Rattle.tariff_check.specs.Cuts.{IsInOrder, all_cuts, cuts_of, with_each}
 use Rattle.tariff_check.specs.Faults.{IsSound, fault_of}
+use Rattle.tariff_check.specs.FoundLines.{StandsAtItsLine}
 use Rattle.tariff_check.specs.Lines.{LineTest, IsFirstLine, IsNowhere, first_line}
 use Rattle.tariff_check.specs.Measure.{IsLeastCommonMultiple, measures_of, measure_of}
 use Rattle.tariff_check.specs.Kinds.{initial_part, initials_of, part_of, rate_part, rates_of, said_by}
@@ -18,6 +20,7 @@ use Rattle.tariff_check.specs.declared.choice.ChoiceKind.{ChoiceKind}
 use Rattle.tariff_check.specs.declared.fault.CheckFault.TheVariants.{NoCommonMeasure}
 use Rattle.tariff_check.specs.declared.fault.Dimension.{Dimension}
 use Rattle.tariff_check.proofs.Amounts.{fit_initial, has_amounts}
+use Rattle.tariff_check.proofs.ChoicePlaces.{choices_there}
 use Rattle.tariff_check.proofs.CommonMeasure.{least_of_some, refused_measures, sound_measures}
 use Rattle.tariff_check.proofs.CutOrder.{cuts_in_order, each_in_order}
 use Rattle.tariff_check.proofs.DefaultLines.{choice_always, choice_there, default_initial, default_rate}
@@ -101,3 +104,6 @@ sound_tariffs_are_their_parts-supplements t number = refl
 
 pub sound_tariffs_are_their_parts-frame : (t : Tree) → IsSound t → HasFrame t (sound_of t)
 sound_tariffs_are_their_parts-frame = frame_told
+
+pub choices_stand_at_their_lines : (lines : List Line) → All (StandsAtItsLine lines) (choice_lines lines)
+choices_stand_at_their_lines = choices_there

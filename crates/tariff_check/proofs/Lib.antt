@@ -2,6 +2,8 @@
 mod Amounts
 -- the choices of the program are those of the tariff
 mod ChoiceLaws
+-- each choice of the lines stands at its line
+mod ChoicePlaces
 -- the common measure is the least common multiple of all measures
 mod CommonMeasure
 -- the choices that lines give, line after line

@@ -1,5 +1,5 @@
 -- Rules: the line of a tariff that says a part of its frame, or that counts in a context.
-use Rattle.std.specs.Prelude.{Bool, true, false, ◌==◌, List, filter, find, Option, option_and_then}
+use Rattle.std.specs.Prelude.{◌≡◌, Bool, true, false, ◌==◌, List, filter, find, Option, Some, option_and_then, option_map}
 use Rattle.std.specs.List.{slice_get}
 use Rattle.tariff_syntax.specs.Tree.{Line, Entry, step, positions, zones, supplement}
 use Rattle.tariff_syntax.specs.declared.context.Context.{Context}
@@ -7,6 +7,7 @@ use Rattle.tariff_check.specs.Kinds.{part_of}
 use Rattle.tariff_check.specs.SoundLookups.{place_in_force}
 use Rattle.tariff_check.specs.SoundTariff.{choices, is_told}
 use Rattle.tariff_check.specs.declared.choice.ChoiceKind.{ChoiceKind}
+use Rattle.tariff_check.specs.declared.choice.ChoiceLine.{ChoiceLine}
 use Rattle.tariff_check.specs.declared.found_lines.FramePart.{FramePart}
 use Rattle.tariff_check.specs.declared.found_lines.FramePart.TheVariants.{Step, Positions, Zones, Supplement}
 
@@ -32,3 +33,8 @@ lines_of_kind kind lines = filter (is_told (part_of kind)) lines
 abbrev pub line_in_force : ChoiceKind → Context → List Line → Option Line
 line_in_force kind x lines =
     option_and_then (slice_get (lines_of_kind kind lines)) (place_in_force (choices (part_of kind) lines) x)
+
+-- a choice stands at its line if the line that stands at the choice's place among those of its kind has its number
+abbrev pub StandsAtItsLine : List Line → ChoiceLine → Type 0
+StandsAtItsLine lines c =
+    option_map (λ (l : Line). l.line) (slice_get (lines_of_kind c.kind lines) c.place_in_kind) ≡ Some c.line

@@ -1,8 +1,10 @@
 //! What the definitions of faults and cuts come to.
 ghost use Rattle.std.specs.Prelude.{◌≡◌, ℕ, ◌<◌, ◌≤◌, ◌↔◌, ◌∷◌, ◌++◌, true, List, [], Some, None, All, length};
 ghost use Rattle.tariff_check.specs.Amounts.{HasAmountsOf, IsFitInitial, initial_by};
+ghost use Rattle.tariff_check.specs.ChoiceLines.{choice_lines};
 ghost use Rattle.tariff_check.specs.Cuts.{IsInOrder, all_cuts, cuts_of, with_each};
 ghost use Rattle.tariff_check.specs.Faults.{IsSound, fault_of};
+ghost use Rattle.tariff_check.specs.FoundLines.{StandsAtItsLine};
 ghost use Rattle.tariff_check.specs.Lines.{LineTest, IsFirstLine, IsNowhere, first_line};
 ghost use Rattle.tariff_check.specs.Measure.{IsLeastCommonMultiple, measures_of, measure_of};
 ghost use Rattle.tariff_check.specs.Kinds.{initials_of, part_of, rates_of, said_by};
@@ -89,4 +91,10 @@ pub fn sound_tariffs_are_their_parts()
     ensures frame { (t : Tree) → IsSound t → HasFrame t (sound_of t) }
     ensures supplements { (t : Tree) (number : ℕ)
         → supplement_numbered (sound_of t).supplements number ≡ supplement_of t.lines number }
+{}
+
+/// The law of choices: each choice that the lines of a tariff give stands at its line. The line at the choice's place
+/// among the lines of its kind has the number that the choice names.
+pub fn choices_stand_at_their_lines()
+    ensures { (lines : List Line) → All (StandsAtItsLine lines) (choice_lines lines) }
 {}

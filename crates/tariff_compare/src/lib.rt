@@ -22,5 +22,7 @@ pub use difference::{Difference, first_difference};
 pub use difference_texts::print_difference;
 pub use meter_context::MeterContext;
 pub use texts::print_uses;
-pub use theorems::{differences_are_first, first_contexts_are_first, meters_have_their_times};
+pub use theorems::{
+    differences_are_first, first_contexts_are_first, first_parts_differ, meters_have_their_times,
+};
 pub use uses::{LineUse, line_uses};
