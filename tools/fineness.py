@@ -1,6 +1,6 @@
-"""How fine mode S is under a constant: how much more than its exact charge an even speed can be charged, by docs/METER.md,
-"How fine mode S is". All numbers are exact. They are compared with the weights that `tables` prints, and with the
-cross-over speeds of `bench`."""
+"""How fine mode S is under a constant: how much more than its exact charge an even speed can be charged, by
+docs/METER.md, "How fine mode S is". All numbers are exact. They are compared with the weights that `tables` prints, and
+with the cross-over speeds of `bench`."""
 
 from fractions import Fraction
 from math import ceil
@@ -9,6 +9,7 @@ from typing import NamedTuple
 from program import Differs, Refused
 
 CONSTANTS = 500, 200_000  # the least and the greatest
+USUAL_PERCENT = Fraction(10)  # from which on bin/taxi warns behind a sealing
 NO_DRIVE, NO_READINGS = b"U 946684800\n", b"fare,distance,time\n"
 
 
@@ -118,10 +119,9 @@ def as_text(fineness):
     """What is said of a rate."""
     if fineness.speed is None:
         return f"rate {fineness.number}: no cross-over speed, never too much"
-    return (
-        f"rate {fineness.number}: cross-over speed {fineness.speed} m/h, {decimal(fineness.pulses)} pulses an interval, "
-        + (f"at most {percent_text(fineness.percent)} too much" if fineness.percent else "never too much")
-    )
+    above = f"at most {percent_text(fineness.percent)} too much" if fineness.percent else "never too much"
+    pulses = f"{decimal(fineness.pulses)} pulses an interval"
+    return f"rate {fineness.number}: cross-over speed {fineness.speed} m/h, {pulses}, {above}"
 
 
 def nearest_text(rates, constant, most):
