@@ -1,6 +1,7 @@
 -- The cross-over speed reaches the bound of even speeds.
-use Rattle.std.proofs.Common.{◌≡◌, ◌⊎◌, inl, inr, ℕ, ◌+◌, ◌-◌, ◌*◌, ◌/◌, ◌%◌, ◌<◌, ◌++◌, length, replicate, sum, refl, ap, arith, length-append}
-use Rattle.std.specs.List.{sum_by}
+use Rattle.std.proofs.Common.{◌≡◌, ◌⊎◌, inl, inr, ℕ, ◌+◌, ◌-◌, ◌*◌, ◌/◌, ◌%◌, ◌<◌, ◌++◌, length, replicate, sum}
+use Rattle.std.proofs.Common.{refl, ap, arith, length-append}
+use Rattle.std.specs.List.{All, sum_by}
 use Rattle.std.proofs.lemmas.List.{length-replicate}
 use Rattle.std.proofs.lemmas.List.Elements.{All-append, All-replicate}
 use Rattle.std.proofs.lemmas.List.Folds.{sum_by-replicate}
@@ -23,8 +24,9 @@ cross_over_even w some =
     let n = w.per_tick / w.per_pulse in
     let u = w.per_tick % w.per_pulse in
     let is = λ (p : ℕ). (p ≡ n) ⊎ (p ≡ n + 1) in
-    All-append is (replicate (w.per_pulse - u) n) (replicate u (n + 1)) (All-replicate is (w.per_pulse - u) n (inl refl))
-    (All-replicate is u (n + 1) (inr refl))
+    let fewer : All is (replicate (w.per_pulse - u) n) = All-replicate is (w.per_pulse - u) n (inl refl) in
+    let more : All is (replicate u (n + 1)) = All-replicate is u (n + 1) (inr refl) in
+    All-append is (replicate (w.per_pulse - u) n) (replicate u (n + 1)) fewer more
 
 pub cross_over_count : (w : Weights) → 0 < w.per_pulse → length (at_cross_over w) ≡ w.per_pulse
 cross_over_count w some =

@@ -1,5 +1,6 @@
 -- Mode S charges even speeds nearly what their intervals come to as one.
-use Rattle.std.proofs.Common.{◌≡◌, ◌⊎◌, inl, inr, ℕ, ◌+◌, ◌-◌, ◌*◌, ◌%◌, ◌<◌, ◌≤◌, List, [], ◌∷◌, length, max, sum, ap, sym, ◌∙◌, arith}
+use Rattle.std.proofs.Common.{◌≡◌, ◌⊎◌, inl, inr, ℕ, ◌+◌, ◌-◌, ◌*◌, ◌%◌, ◌<◌, ◌≤◌, List, [], ◌∷◌, length, max, sum, ap}
+use Rattle.std.proofs.Common.{sym, ◌∙◌, arith}
 use Rattle.std.proofs.lemmas.Bool.{cases_lt}
 use Rattle.std.proofs.lemmas.List.Elements.{All-head, All-tail}
 use Rattle.std.proofs.lemmas.Nat.{mod-mul-add, mul-le}
@@ -74,8 +75,8 @@ record IsBetween (w : Weights) (n u v : ℕ) : Type 0 where
   high : w.per_pulse ≡ u + v
   some : 0 < v
 
--- `fewer` intervals have n pulses, and `more` have n + 1: each of the first is charged u more than its distance, and each
--- of the others v more than its time
+-- `fewer` intervals have n pulses, and `more` have n + 1: each of the first is charged u more than its distance, and
+-- each of the others v more than its time
 record Parts (w : Weights) (u v : ℕ) (pulses : List ℕ) : Type 0 where
   fewer : ℕ
   more : ℕ
