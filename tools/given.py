@@ -5,6 +5,7 @@ import datetime
 import pathlib
 import re
 from decimal import Decimal, InvalidOperation
+from fractions import Fraction
 
 from program import TOP, read
 
@@ -29,6 +30,17 @@ def positive(text):
     if not number.is_finite() or not 0 < number <= 10**6:
         raise argparse.ArgumentTypeError(f"{text!r} is no number above 0 and up to 1000000")
     return number
+
+
+def percentage(text):
+    """A decimal number of 0 to 100, exactly."""
+    try:
+        number = Decimal(text)
+    except InvalidOperation:
+        number = Decimal(-1)
+    if not number.is_finite() or not 0 <= number <= 100:
+        raise argparse.ArgumentTypeError(f"{text!r} is no number of 0 to 100")
+    return Fraction(number)
 
 
 def minute(text):

@@ -4,3 +4,5 @@ pub mod Distance
 pub mod Fare
 pub mod Gate
 pub mod Speed
+pub mod Speeds
+pub mod Stretches

@@ -9,6 +9,8 @@
 mod charges;
 mod constant;
 mod distance;
+mod even_fares;
+mod even_speeds;
 mod gate;
 mod meterage;
 mod speed;
@@ -18,6 +20,11 @@ pub use charges::{
 };
 pub use constant::{BadConstant, Constant, GREATEST_CONSTANT, LEAST_CONSTANT};
 pub use distance::{distances_are_whole_millimetres, millimetres, reached};
+pub use even_fares::{even_fares_are_shown_nearly, fares_rise_with_their_charge};
+pub use even_speeds::{
+    charges_in_mode_s_lie_between, even_speeds_are_charged_nearly,
+    the_cross_over_speed_reaches_the_bound,
+};
 pub use gate::{Gate, a_gate_counts_the_sum};
 pub use meterage::{Meterage, Rounding, fares_add_up, steps_are_whole_steps};
 pub use speed::cross_over;
