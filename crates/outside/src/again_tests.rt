@@ -107,10 +107,7 @@ const LATER: &[Case] = &[
     },
     Case {
         name: "a sync is Ok, and the file is cut short meanwhile",
-        faults: &[Fault::Meanwhile(
-            Call::Sync(STORE),
-            Change::File(STORE, 7, 2047),
-        )],
+        faults: &[Fault::Meanwhile(Call::Sync(STORE), Change::File(STORE, 7, 2047))],
         before: &[Read(7)],
         calls: &[(Write, true), (Sync, false), (Print, false)],
         left: &[Sight::Holds(STORE, &[], 7, 2047, &[])],
@@ -118,10 +115,7 @@ const LATER: &[Case] = &[
     },
     Case {
         name: "a sync is Ok, and the name is gone meanwhile",
-        faults: &[Fault::Meanwhile(
-            Call::Sync(STORE),
-            Change::Rename(STORE, "kept"),
-        )],
+        faults: &[Fault::Meanwhile(Call::Sync(STORE), Change::Rename(STORE, "kept"))],
         before: &[Read(7)],
         calls: &[(Write, true), (Sync, false), (Print, false)],
         left: &[

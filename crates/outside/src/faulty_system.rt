@@ -402,7 +402,8 @@ impl<'a> OpenFile for FaultyFile<'a> {
         } else {
             self.trial.has_bytes.set(false);
         }
-        self.trial.sync(is_folder, self.pass(Call::Sync(self.name)))?;
+        let answer = self.pass(Call::Sync(self.name));
+        self.trial.sync(is_folder, answer)?;
         self.file.sync_all()
     }
 

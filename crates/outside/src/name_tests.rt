@@ -3,8 +3,7 @@
 use crate::faulty_system::{Again, Call, Fault};
 use crate::faulty_tests::Ask::{Print, Read, Sync, Write};
 use crate::faulty_tests::{
-    Ask, Case, FOUND_CASE, HARD, MADE, NEW_CASE, NO_CALL, NO_MAKING, NO_PRINT, UNTOUCHED,
-    play_all,
+    Ask, Case, FOUND_CASE, HARD, MADE, NEW_CASE, NO_CALL, NO_MAKING, NO_PRINT, UNTOUCHED, play_all,
 };
 use crate::file_tests::{Change, STORE, Sight, UNFINISHED};
 use std::fs;
@@ -27,20 +26,14 @@ const MEANWHILE: &[Case] = &[
     Case {
         name: "the store's name is given to another's file, which is then no store of ours",
         folder: &[Change::File("kept", 7, 2048)],
-        faults: &[Fault::Meanwhile(
-            Call::Link(STORE),
-            Change::Rename("kept", UNFINISHED),
-        )],
+        faults: &[Fault::Meanwhile(Call::Link(STORE), Change::Rename("kept", UNFINISHED))],
         calls: NO_MAKING,
         left: &[Sight::Holds(STORE, &[], 7, 2048, &[])],
         ..NEW_CASE
     },
     Case {
         name: "another's file gets the store's name first",
-        faults: &[Fault::Meanwhile(
-            Call::Link(STORE),
-            Change::File(STORE, 7, 2048),
-        )],
+        faults: &[Fault::Meanwhile(Call::Link(STORE), Change::File(STORE, 7, 2048))],
         calls: NO_MAKING,
         left: &[Sight::Holds(STORE, &[], 7, 2048, &[])],
         ..NEW_CASE
