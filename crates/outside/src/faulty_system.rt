@@ -1,11 +1,13 @@
 //! For tests: the system, of which chosen calls fail, and which sees to the order of what it is asked.
+use crate::file_tests::{Change, make};
 use crate::held_file::HeldFile;
 use std::alloc::Allocator;
 use std::cell::Cell;
 use std::fmt::Display;
-use std::fs::{File, Metadata, OpenFile, OpenOptions};
+use std::fs::{File, Metadata, OpenFile, OpenOptions, Permissions};
 use std::io;
 use std::io::{ErrorKind, Read, Seek, SeekFrom, Write};
+use std::os::unix::fs::PermissionsExt;
 use std::path::PathBuf;
 use std::rt::Files as HostSystem;
 
@@ -15,12 +17,16 @@ pub(crate) enum Call {
     Open(&'static str),
     OpenToWrite(&'static str),
     Metadata(&'static str),
+    OwnMetadata(&'static str),
     Link(&'static str),
     Remove(&'static str),
+    Allow(&'static str),
     Lock(&'static str),
+    Length(&'static str),
     Sync(&'static str),
     Read(&'static str),
     Write(&'static str),
+    Print,
 }
 
 /// What is off with a system.
@@ -32,9 +38,44 @@ pub(crate) enum Fault {
     /// This call fails with this error.
     FailsSo(Call, ErrorKind),
 
+    /// This call fails with the error that is tried, but for the first time that it is made.
+    FailsLater(Call),
+
     /// Who asks for the first name is told of the second.
     Leads(&'static str, &'static str),
+
+    /// As this call is made for the first time, another makes this change in the folder.
+    Meanwhile(Call, Change),
+
+    /// A new file gets this mode.
+    Masked(u32),
 }
+
+/// What was done behind a sync that failed.
+#[derive(Clone, Copy, PartialEq, Eq)]
+pub(crate) enum Again {
+    Nothing,
+
+    /// Bytes of the file were written, from the first place up to the end.
+    Bytes(u64, u64),
+
+    /// A name was taken away in the folder.
+    Name,
+
+    /// The file was synced once more.
+    Synced,
+}
+
+/// Which sync failed last.
+#[derive(Clone, Copy, PartialEq, Eq)]
+enum FailedSync {
+    Neither,
+    OfFile,
+    OfFolder,
+}
+
+/// The most bytes that may be written at once.
+const PIECE: usize = 512;
 
 /// The faults, the error that is tried, and what is known of the order of the calls.
 #[derive(Drop)]
@@ -50,6 +91,13 @@ pub(crate) struct Trial {
 
     /// A name was given since a folder's sync was last asked for.
     has_names: Cell<bool>,
+
+    /// A call was made that fails later, or amid which another changes the folder.
+    was_made: Cell<bool>,
+
+    failed: Cell<FailedSync>,
+
+    again: Cell<Again>,
 }
 
 impl Trial {
@@ -61,6 +109,9 @@ impl Trial {
             has_begun: Cell::new(false),
             has_bytes: Cell::new(false),
             has_names: Cell::new(false),
+            was_made: Cell::new(false),
+            failed: Cell::new(FailedSync::Neither),
+            again: Cell::new(Again::Nothing),
         }
     }
 
@@ -69,19 +120,77 @@ impl Trial {
         self.has_begun.set(true);
     }
 
+    /// What was done behind a sync that failed.
+    pub(crate) fn again(&self) -> Again {
+        self.again.get()
+    }
+
     /// Fails where a fault is of this call.
-    fn pass(&self, call: Call) -> io::Result<()> {
+    fn pass(&self, rt: HostRuntime, call: Call) -> io::Result<()> {
         if !self.has_begun.get() {
             return Ok(());
         }
         for fault in self.faults {
             match fault {
+                Fault::Meanwhile(of, change) if *of == call && !self.was_made.get() => {
+                    self.was_made.set(true);
+                    make(rt, change)?;
+                }
+                Fault::FailsLater(of) if *of == call && !self.was_made.get() => {
+                    self.was_made.set(true);
+                }
+                Fault::FailsLater(of) if *of == call => return Err(io::Error::from(self.kind)),
                 Fault::Fails(of) if *of == call => return Err(io::Error::from(self.kind)),
                 Fault::FailsSo(of, kind) if *of == call => return Err(io::Error::from(*kind)),
                 _ => {}
             }
         }
         Ok(())
+    }
+
+    /// A sync is asked for. What the call answers is told, and what was done behind one that failed.
+    fn sync(&self, is_folder: bool, answer: io::Result<()>) -> io::Result<()> {
+        if self.failed.get() == FailedSync::OfFile && !is_folder {
+            self.again.set(Again::Synced);
+        }
+        if answer.is_err() {
+            self.failed.set(if is_folder {
+                FailedSync::OfFolder
+            } else {
+                FailedSync::OfFile
+            });
+        }
+        answer
+    }
+
+    /// Bytes are written in a file from this place on.
+    fn note_write(&self, at: u64, count: usize) {
+        if self.failed.get() != FailedSync::OfFile {
+            return;
+        }
+        let end = at.saturating_add(count as u64);
+        self.again.set(match self.again.get() {
+            Again::Nothing => Again::Bytes(at, end),
+            Again::Bytes(first, last) => Again::Bytes(first.min(at), last.max(end)),
+            other => other,
+        });
+    }
+
+    /// A name is taken away.
+    fn note_removal(&self) {
+        if self.failed.get() == FailedSync::OfFolder {
+            self.again.set(Again::Name);
+        }
+    }
+
+    /// The mode that a new file gets, if it isn't the one that was asked for.
+    fn mask(&self) -> Option<u32> {
+        for fault in self.faults {
+            if let Fault::Masked(mode) = fault {
+                return Some(*mode);
+            }
+        }
+        None
     }
 
     /// The name that is told of in place of this one.
@@ -113,34 +222,66 @@ pub(crate) struct FaultyFile<'a> {
     file: File,
     name: &'static str,
     is_synced: Cell<bool>,
+    rt: HostRuntime,
     trial: &'a Trial,
 }
 
+impl<'a> FaultyFile<'a> {
+    /// Fails where a fault is of this call.
+    fn pass(&self, call: Call) -> io::Result<()> {
+        self.trial.pass(self.rt, call)
+    }
+}
+
 /// The names that a fault may be of.
-const NAMES: [&str; 8] = [
+const NAMES: [&str; 9] = [
     "taxi.store",
     "taxi.store.new",
     ".",
     "kept",
     "kept/store",
+    "/proc/self",
     "/proc/self/fd",
     "/proc/self/fd/1",
     "/proc/self/fd/2",
 ];
 
-/// The name among those that a fault may be of, and else one that none is of.
+/// The name among those that a fault may be of, and else one that none is of. The folder at the end of a link has
+/// a path that ends in its name.
 fn listed(name: &str) -> &'static str {
     for one in NAMES {
         if one == name {
             return one;
         }
     }
-    "another"
+    if name.ends_with("/kept") {
+        "kept"
+    } else {
+        "another"
+    }
 }
 
 /// What is not in the right order.
 fn disorder() -> io::Error {
     io::Error::from(ErrorKind::Deadlock)
+}
+
+impl<'a> FaultySystem<'a> {
+    /// Fails where a fault is of this call.
+    fn pass(&self, call: Call) -> io::Result<()> {
+        self.trial.pass(self.rt, call)
+    }
+
+    /// The file, which gets the mode of a trial if it is new.
+    fn opened(&self, how: &OpenOptions, path: &str) -> io::Result<File> {
+        let file = how.open(&self.rt, path)?;
+        if how.asks_create_new() {
+            if let Some(mode) = self.trial.mask() {
+                file.set_permissions(Permissions::from_mode(mode))?;
+            }
+        }
+        Ok(file)
+    }
 }
 
 impl<'a> HostSystem for FaultySystem<'a> {
@@ -150,15 +291,16 @@ impl<'a> HostSystem for FaultySystem<'a> {
 
     fn open_file(&self, how: &OpenOptions, path: &str) -> io::Result<FaultyFile<'a>> {
         let name = listed(path);
-        self.trial.pass(if how.asks_write() {
+        self.pass(if how.asks_write() {
             Call::OpenToWrite(name)
         } else {
             Call::Open(name)
         })?;
         Ok(FaultyFile {
-            file: how.open(&self.rt, path)?,
+            file: self.opened(how, path)?,
             name,
             is_synced: Cell::new(false),
+            rt: self.rt,
             trial: self.trial,
         })
     }
@@ -168,11 +310,12 @@ impl<'a> HostSystem for FaultySystem<'a> {
     }
 
     fn metadata(&self, path: &str) -> io::Result<Metadata> {
-        self.trial.pass(Call::Metadata(listed(path)))?;
+        self.pass(Call::Metadata(listed(path)))?;
         self.rt.metadata(self.trial.led(path))
     }
 
     fn symlink_metadata(&self, path: &str) -> io::Result<Metadata> {
+        self.pass(Call::OwnMetadata(listed(path)))?;
         self.rt.symlink_metadata(path)
     }
 
@@ -185,11 +328,13 @@ impl<'a> HostSystem for FaultySystem<'a> {
     }
 
     fn remove_file(&self, path: &str) -> io::Result<()> {
-        self.trial.pass(Call::Remove(listed(path)))?;
+        self.pass(Call::Remove(listed(path)))?;
         if self.trial.has_names.get() {
             return Err(disorder());
         }
-        self.rt.remove_file(path)
+        self.rt.remove_file(path)?;
+        self.trial.note_removal();
+        Ok(())
     }
 
     fn create_dir(&self, path: &str) -> io::Result<()> {
@@ -209,7 +354,7 @@ impl<'a> HostSystem for FaultySystem<'a> {
     }
 
     fn hard_link(&self, original: &str, link: &str) -> io::Result<()> {
-        self.trial.pass(Call::Link(listed(link)))?;
+        self.pass(Call::Link(listed(link)))?;
         if self.trial.has_bytes.get() {
             return Err(disorder());
         }
@@ -217,9 +362,13 @@ impl<'a> HostSystem for FaultySystem<'a> {
         self.trial.has_names.set(true);
         Ok(())
     }
+
+    fn set_permissions(&self, path: &str, allowed: Permissions) -> io::Result<()> {
+        self.rt.set_permissions(path, allowed)
+    }
 }
 
-/// Nothing is printed, and each print is Ok.
+/// Nothing is printed.
 impl<'a> Print for FaultySystem<'a> {
     fn print<D: Display + Drop>(&self, _value: D) -> io::Result<()> {
         Ok(())
@@ -230,12 +379,13 @@ impl<'a> Print for FaultySystem<'a> {
     }
 
     fn write_all(&self, _bytes: &[u8]) -> io::Result<()> {
-        Ok(())
+        self.pass(Call::Print)
     }
 }
 
 impl<'a> OpenFile for FaultyFile<'a> {
     fn metadata(&self) -> io::Result<Metadata> {
+        self.pass(Call::Length(self.name))?;
         self.file.metadata()
     }
 
@@ -246,13 +396,20 @@ impl<'a> OpenFile for FaultyFile<'a> {
     fn sync_all(&self) -> io::Result<()> {
         // A sync that fails was asked for too, so that one which is passed over isn't taken for disorder.
         self.is_synced.set(true);
-        if self.file.metadata()?.is_dir() {
+        let is_folder = self.file.metadata()?.is_dir();
+        if is_folder {
             self.trial.has_names.set(false);
         } else {
             self.trial.has_bytes.set(false);
         }
-        self.trial.pass(Call::Sync(self.name))?;
+        let answer = self.pass(Call::Sync(self.name));
+        self.trial.sync(is_folder, answer)?;
         self.file.sync_all()
+    }
+
+    fn set_permissions(&self, allowed: Permissions) -> io::Result<()> {
+        self.pass(Call::Allow(self.name))?;
+        self.file.set_permissions(allowed)
     }
 
     fn sync_data(&self) -> io::Result<()> {
@@ -262,7 +419,7 @@ impl<'a> OpenFile for FaultyFile<'a> {
 
 impl<'a> Read for FaultyFile<'a> {
     fn read(&mut self, buf: &mut [u8]) -> io::Result<usize> {
-        self.trial.pass(Call::Read(self.name))?;
+        self.pass(Call::Read(self.name))?;
         if !self.is_synced.get() {
             return Err(disorder());
         }
@@ -272,11 +429,13 @@ impl<'a> Read for FaultyFile<'a> {
 
 impl<'a> Write for FaultyFile<'a> {
     fn write(&mut self, buf: &[u8]) -> io::Result<usize> {
-        self.trial.pass(Call::Write(self.name))?;
-        if self.trial.has_names.get() {
+        self.pass(Call::Write(self.name))?;
+        if self.trial.has_names.get() || buf.len() > PIECE {
             return Err(disorder());
         }
         self.trial.has_bytes.set(true);
+        let at = self.file.seek(SeekFrom::Current(0))?;
+        self.trial.note_write(at, buf.len());
         self.file.write(buf)
     }
 
@@ -293,7 +452,7 @@ impl<'a> Seek for FaultyFile<'a> {
 
 impl<'a> HeldFile for FaultyFile<'a> {
     fn lock_alone(&self) -> io::Result<()> {
-        self.trial.pass(Call::Lock(self.name))?;
+        self.pass(Call::Lock(self.name))?;
         self.file.lock_alone()
     }
 

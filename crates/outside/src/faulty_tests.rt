@@ -4,7 +4,7 @@ ghost use Rattle.std.specs.Prelude.{◌≡◌, ◌<◌};
 
 use crate::FileBoard;
 use crate::board_tests::{Asked, call};
-use crate::faulty_system::{Call, Fault, FaultySystem, Trial};
+use crate::faulty_system::{Again, Call, Fault, FaultySystem, Trial};
 use crate::file_tests::{Change, STORE, Sight, UNFINISHED, enter, is_seen, leave, make};
 use crate::store_file::Access;
 use crate::tests::must;
@@ -16,12 +16,15 @@ use taxi_units::Steps;
 
 /// What is asked of the device.
 #[derive(Clone, Copy)]
-enum Ask {
+pub(crate) enum Ask {
     /// A read of the first byte. One that is Ok has to give this byte.
     Read(u8),
 
     /// A write of a 1 at the front.
     Write,
+
+    /// A write of a 9 at the store's last place.
+    WriteLast,
 
     Sync,
 
@@ -32,26 +35,29 @@ use Ask::{Print, Read, Sync, Write};
 
 /// A case, by what it tells.
 #[derive(Clone, Copy)]
-struct Case {
-    name: &'static str,
-    folder: &'static [Change],
-    access: Access,
-    faults: &'static [Fault],
+pub(crate) struct Case {
+    pub name: &'static str,
+    pub folder: &'static [Change],
+    pub access: Access,
+    pub faults: &'static [Fault],
 
     /// The errors that are tried.
-    kinds: &'static [ErrorKind],
+    pub kinds: &'static [ErrorKind],
 
     /// What is asked before the faults begin. Each is Ok.
-    before: &'static [Ask],
+    pub before: &'static [Ask],
 
     /// What is asked behind that, and whether it is Ok.
-    calls: &'static [(Ask, bool)],
+    pub calls: &'static [(Ask, bool)],
 
-    left: &'static [Sight],
+    /// What is done behind a sync that failed.
+    pub again: Again,
+
+    pub left: &'static [Sight],
 }
 
 /// The errors that most calls are tried with.
-const ALL: &[ErrorKind] = &[
+pub(crate) const ALL: &[ErrorKind] = &[
     ErrorKind::Other,
     ErrorKind::StorageFull,
     ErrorKind::Interrupted,
@@ -63,7 +69,7 @@ const ALL: &[ErrorKind] = &[
 ];
 
 /// Those that never mean that a thing can't be done by us.
-const HARD: &[ErrorKind] = &[
+pub(crate) const HARD: &[ErrorKind] = &[
     ErrorKind::Other,
     ErrorKind::StorageFull,
     ErrorKind::Interrupted,
@@ -71,28 +77,28 @@ const HARD: &[ErrorKind] = &[
 ];
 
 /// One of any kind.
-const ONE: &[ErrorKind] = &[ErrorKind::Other];
+pub(crate) const ONE: &[ErrorKind] = &[ErrorKind::Other];
 
 /// A folder with a store of sevens, and a longer file.
-const FOUND: &[Change] = &[Change::File(STORE, 7, 2050)];
+pub(crate) const FOUND: &[Change] = &[Change::File(STORE, 7, 2050)];
 
 /// That store, untouched.
-const UNTOUCHED: &[Sight] = &[Sight::Holds(STORE, &[], 7, 2050, &[])];
+pub(crate) const UNTOUCHED: &[Sight] = &[Sight::Holds(STORE, &[], 7, 2050, &[])];
 
 /// That store with one byte written.
-const WRITTEN: &[Sight] = &[Sight::Holds(STORE, &[1], 7, 2049, &[])];
+pub(crate) const WRITTEN: &[Sight] = &[Sight::Holds(STORE, &[1], 7, 2049, &[])];
 
 /// A new store with one byte written, under its name alone.
-const MADE: &[Sight] = &[
+pub(crate) const MADE: &[Sight] = &[
     Sight::Holds(STORE, &[1], 0, 2047, &[]),
     Sight::IsAbsent(UNFINISHED),
 ];
 
 /// No store.
-const NOTHING: &[Sight] = &[Sight::IsAbsent(STORE)];
+pub(crate) const NOTHING: &[Sight] = &[Sight::IsAbsent(STORE)];
 
 /// Each call of a store of sevens fails.
-const NO_CALL: &[(Ask, bool)] = &[
+pub(crate) const NO_CALL: &[(Ask, bool)] = &[
     (Read(7), false),
     (Sync, false),
     (Write, false),
@@ -100,7 +106,7 @@ const NO_CALL: &[(Ask, bool)] = &[
 ];
 
 /// Likewise, a print being the first.
-const NO_PRINT: &[(Ask, bool)] = &[
+pub(crate) const NO_PRINT: &[(Ask, bool)] = &[
     (Print, false),
     (Read(7), false),
     (Write, false),
@@ -109,7 +115,7 @@ const NO_PRINT: &[(Ask, bool)] = &[
 ];
 
 /// A making fails, and then each call.
-const NO_MAKING: &[(Ask, bool)] = &[
+pub(crate) const NO_MAKING: &[(Ask, bool)] = &[
     (Read(0), true),
     (Write, false),
     (Write, false),
@@ -119,7 +125,7 @@ const NO_MAKING: &[(Ask, bool)] = &[
 ];
 
 /// The store is read, written and synced.
-const EACH_CALL: &[(Ask, bool)] = &[
+pub(crate) const EACH_CALL: &[(Ask, bool)] = &[
     (Print, true),
     (Read(7), true),
     (Write, true),
@@ -128,7 +134,7 @@ const EACH_CALL: &[(Ask, bool)] = &[
 ];
 
 /// A new store is made and synced.
-const A_MAKING: &[(Ask, bool)] = &[
+pub(crate) const A_MAKING: &[(Ask, bool)] = &[
     (Read(0), true),
     (Write, true),
     (Sync, true),
@@ -136,7 +142,7 @@ const A_MAKING: &[(Ask, bool)] = &[
 ];
 
 /// What holds of most cases, which change it.
-const FOUND_CASE: Case = Case {
+pub(crate) const FOUND_CASE: Case = Case {
     name: "a found store",
     folder: FOUND,
     access: Access::Write,
@@ -144,11 +150,12 @@ const FOUND_CASE: Case = Case {
     kinds: ONE,
     before: &[],
     calls: EACH_CALL,
+    again: Again::Nothing,
     left: WRITTEN,
 };
 
 /// Likewise, of a new store.
-const NEW_CASE: Case = Case {
+pub(crate) const NEW_CASE: Case = Case {
     name: "a new store",
     folder: &[],
     access: Access::Write,
@@ -156,6 +163,7 @@ const NEW_CASE: Case = Case {
     kinds: ONE,
     before: &[],
     calls: A_MAKING,
+    again: Again::Nothing,
     left: MADE,
 };
 
@@ -168,6 +176,7 @@ const OPENINGS: &[Case] = &[
         kinds: ALL,
         calls: NO_CALL,
         left: UNTOUCHED,
+        again: Again::Bytes(0, 2048),
         ..FOUND_CASE
     },
     Case {
@@ -200,6 +209,7 @@ const FOLDERS: &[Case] = &[
         ],
         calls: NO_CALL,
         left: UNTOUCHED,
+        again: Again::Name,
         ..FOUND_CASE
     },
     Case {
@@ -405,6 +415,7 @@ const LATER: &[Case] = &[
             (Write, false),
             (Print, false),
         ],
+        again: Again::Bytes(0, 1),
         ..FOUND_CASE
     },
     Case {
@@ -418,6 +429,7 @@ const LATER: &[Case] = &[
             (Sync, false),
             (Read(1), false),
         ],
+        again: Again::Bytes(0, 1),
         ..NEW_CASE
     },
     Case {
@@ -494,6 +506,7 @@ const NAMINGS: &[Case] = &[
         kinds: ALL,
         calls: NO_MAKING,
         left: &[Sight::IsAbsent(UNFINISHED)],
+        again: Again::Bytes(0, 2048),
         ..NEW_CASE
     },
     Case {
@@ -505,6 +518,7 @@ const NAMINGS: &[Case] = &[
         kinds: ALL,
         calls: NO_MAKING,
         left: &[Sight::IsAbsent(UNFINISHED)],
+        again: Again::Name,
         ..NEW_CASE
     },
 ];
@@ -517,6 +531,7 @@ const MAKINGS: &[Case] = &[
         kinds: ALL,
         calls: NO_MAKING,
         left: NOTHING,
+        again: Again::Bytes(0, 2048),
         ..NEW_CASE
     },
     Case {
@@ -549,6 +564,7 @@ const MAKINGS: &[Case] = &[
         kinds: ALL,
         calls: NO_MAKING,
         left: &[Sight::Holds(STORE, &[], 0, 2048, &[])],
+        again: Again::Name,
         ..NEW_CASE
     },
 ];
@@ -558,6 +574,7 @@ fn asked_by(ask: &Ask) -> Asked<'static> {
     match ask {
         Ask::Read(_) => Asked::Read(0),
         Ask::Write => Asked::Write(0, &[1]),
+        Ask::WriteLast => Asked::Write(2047, &[9]),
         Ask::Sync => Asked::Sync,
         Ask::Print => Asked::Print(b"FOR HIRE\n"),
     }
@@ -607,7 +624,7 @@ fn must_come<L: Ledger>(
         let came = is_ok(&mut device, ask, &mut steps) == *want;
         must(came, case.name, number as u64 + 1)?;
     }
-    Ok(())
+    must(trial.again() == case.again, case.name, 99)
 }
 
 /// Asks what a case says, under a ledger of its own.
@@ -636,7 +653,7 @@ fn play_apart(rt: HostRuntime, case: &Case, kind: ErrorKind) -> Result<(), Fail>
 }
 
 /// Plays each case, with each error that it tries.
-fn play_all(rt: HostRuntime, cases: &[Case]) -> Result<(), Fail> {
+pub(crate) fn play_all(rt: HostRuntime, cases: &[Case]) -> Result<(), Fail> {
     for case in cases {
         for kind in case.kinds {
             play_apart(rt, case, *kind)?;

@@ -32,24 +32,28 @@ const LOG_FILE: StoreNames = StoreNames {
 /// A store in a file of the working folder, of which its first `N` bytes are used, and the standard output.
 /// Nothing is told of what the file holds or of what was printed: that both behave as a board's should is
 /// trusted. The count of faults is the number of calls that failed, which stands still at the last value
-/// of a `u64`: a call is Ok exactly where the system answered no error. A call that a signal interrupts is
+/// of a `u64`. A call fails where the system answered an error, but for those errors that docs/STORE.md names as
+/// passed over, and where the device itself finds something wrong. A call that a signal interrupts is
 /// made again, a bounded number of times. All of it is this project's own.
 ///
-/// - At the first call, a print too, the file is looked for. Where the standard output or the standard error
-///   is that file, each call fails.
+/// - At the first call, a print too, the file is looked for, and one under the name of a store in the making.
+///   Where the standard output or the standard error is either, each call fails.
 /// - A file that was found is opened at the first call of the store, and is under the system's lock from then
 ///   on, also where it is only read. While another has the lock, the call fails. What isn't a plain file is
 ///   refused, and so is a file that is shorter than the store: nothing is ever written to it.
-/// - An opening syncs the file, and its folder, at the end of a symbolic link the file's own. That the system
-///   then reads the medium, and no copy of its own, can't be asked for here: docs/STORE.md says when it matters.
+/// - An opening syncs the file, and its folder, at the end of a symbolic link the file's own. Where a device to
+///   write finds the name of a store in the making on the store's own file, that name goes.
 /// - Where there was no file, the store reads as zeros, and the first write makes it: whole, on the medium,
 ///   for its owner alone, and only then under its name. Where it was absent and another made it since, each
 ///   call of the store fails.
 /// - A device to read fails at each write. It opens a file that may not be written as well; a device to
 ///   write refuses that at its opening. What stands behind the store's bytes is left as it is.
-/// - A sync fails where the name leads to this file no more.
-/// - After an opening, a making or a sync that failed the device is lost: each later call fails, since the
-///   system may forget what it could not write.
+/// - A sync fails where the name leads to this file no more, and a sync and a write fail where the file is
+///   shorter than the store.
+/// - Where the system could not sync, the same bytes are written again without a sync, so that the next process is
+///   told the truth by its own. At an opening these are all bytes of a store that may be written.
+/// - After an opening, a making or a sync that failed, and where the file was found to be cut short, the device is
+///   lost: each later call fails.
 #[derive(Drop)]
 pub struct FileDevice<R: HostSystem + Print + Drop, const N: usize>
 where

@@ -1,4 +1,6 @@
 //! What the store asks of its open file.
+ghost use Rattle.std.specs.Prelude.{◌↔◌, ◌≤ℤ◌, IsTrue, pos};
+
 use std::fs::{File, OpenFile};
 use std::io;
 use std::io::{Read, Seek, Write};
@@ -6,6 +8,13 @@ use std::os::fd::AsRawFd;
 
 /// The last number of a standard stream.
 const LAST_STREAM: i32 = 2;
+
+/// Whether a standard stream has this number, or had it before it was closed.
+fn is_of_stream(number: i32) -> bool
+    ensures { IsTrue result ↔ number ≤ℤ pos 2 }
+{
+    number <= LAST_STREAM
+}
 
 /// An open file of a system, with what the store asks of it beside reading, writing and `OpenFile`.
 pub trait HeldFile: OpenFile + Read + Write + Seek + Drop {
@@ -25,7 +34,7 @@ impl HeldFile for File {
     }
 
     fn above_streams(self) -> io::Result<File> {
-        if self.as_raw_fd() <= LAST_STREAM {
+        if is_of_stream(self.as_raw_fd()) {
             self.try_clone()
         } else {
             Ok(self)

@@ -9,6 +9,7 @@ mod fault;
 mod file_device;
 mod file_store;
 mod files;
+mod folder;
 mod held_file;
 mod host_files;
 mod image;
@@ -18,14 +19,17 @@ mod memory_device;
 mod memory_file;
 mod memory_files;
 mod memory_state;
+mod named_file;
 mod new_store;
 mod program;
 mod quiet_board;
 mod replay;
 mod retried;
 mod run_laws;
+mod second_name;
 mod store_file;
 mod text;
+mod written_again;
 
 pub use board::{Board, LOG_SIZE, STORE_SIZE};
 pub use fault::Failed;
@@ -46,6 +50,8 @@ pub use run_laws::{
 pub use text::{RoomFault, TextFault, read_text, read_whole};
 
 #[cfg(test)]
+mod again_tests;
+#[cfg(test)]
 mod board_tests;
 #[cfg(test)]
 mod faulty_system;
@@ -53,5 +59,11 @@ mod faulty_system;
 mod faulty_tests;
 #[cfg(test)]
 mod file_tests;
+#[cfg(test)]
+mod log_tests;
+#[cfg(test)]
+mod name_tests;
+#[cfg(test)]
+mod program_tests;
 #[cfg(test)]
 mod tests;

@@ -1,10 +1,13 @@
 //! A new store, which is whole before it has its name.
+use crate::failures::unless_one_of;
+use crate::folder::sync_folder;
 use crate::held_file::HeldFile;
+use crate::named_file::{OWNER_ALONE, is_same, locked, new_file, require_named};
 use crate::retried::write_whole;
-use crate::store_file::{is_same, locked, require_named, sync_folder};
-use std::fs::{OpenFile, OpenOptions};
+use crate::written_again::{Unsynced, sync_or_write_again};
+use std::fs::{OpenFile, OpenOptions, Permissions};
 use std::io::ErrorKind;
-use std::os::unix::fs::{MetadataExt, OpenOptionsExt};
+use std::os::unix::fs::{MetadataExt, PermissionsExt};
 use std::rt::Files as HostSystem;
 use std::{fs, io};
 
@@ -18,8 +21,8 @@ pub struct StoreNames {
     pub unfinished: &'static str,
 }
 
-/// A new store belongs to its owner alone.
-const OWNER_ALONE: u32 = 0o600;
+/// The bits of a mode that say who may do what, and under whose name.
+const MODE_BITS: u32 = 0o7777;
 
 /// What the system keeps of this process, which belongs to its user.
 const PROCESS: &str = "/proc/self";
@@ -42,17 +45,20 @@ where
         return Ok(file);
     }
     let file = made(rt, names.store, size)?;
-    sync_folder(rt)?;
+    sync_folder(rt, names)?;
     Ok(file)
 }
 
 /// Gives a whole file the store's name, and syncs the folder. The answer is false where the file system has
 /// no second names.
-fn name_store<R: HostSystem>(rt: &R, names: StoreNames, file: &R::File) -> io::Result<bool> {
+fn name_store<R: HostSystem>(rt: &R, names: StoreNames, file: &R::File) -> io::Result<bool>
+where
+    R::File: HeldFile,
+{
     match rt.hard_link(names.unfinished, names.store) {
         Ok(()) => {
             require_named(rt, names.store, file)?;
-            sync_folder(rt)?;
+            sync_folder(rt, names)?;
             Ok(true)
         }
         Err(error) => match error.kind() {
@@ -69,16 +75,24 @@ fn made<R: HostSystem>(rt: &R, name: &str, size: u64) -> io::Result<R::File>
 where
     R::File: HeldFile,
 {
-    let file = OpenOptions::new()
-        .read(true)
-        .write(true)
-        .create_new(true)
-        .mode(OWNER_ALONE)
-        .open(rt, name)?;
+    let file = new_file(rt, name)?;
     let mut file = locked(rt, name, file)?;
+    give_to_owner_alone(&file)?;
     write_zeros(&mut file, size)?;
-    file.sync_all()?;
+    sync_or_write_again(&mut file, size, Unsynced::whole(size))?;
     Ok(file)
+}
+
+/// Gives a new file the mode of a store, from which the process's mask may have taken its owner's own leave. A
+/// file system that keeps no modes refuses this, which is passed over.
+fn give_to_owner_alone<F: OpenFile>(file: &F) -> io::Result<()> {
+    if file.metadata()?.permissions().mode() & MODE_BITS == OWNER_ALONE {
+        return Ok(());
+    }
+    unless_one_of(
+        file.set_permissions(Permissions::from_mode(OWNER_ALONE)),
+        &[ErrorKind::PermissionDenied, ErrorKind::Unsupported],
+    )
 }
 
 /// Writes this number of zeros.
@@ -107,10 +121,23 @@ where
     if !found.is_file() || found.uid() != fs::metadata(rt, PROCESS)?.uid() {
         return Err(io::Error::from(ErrorKind::AlreadyExists));
     }
-    let file = OpenOptions::new().read(true).write(true).open(rt, name)?;
+    let file = open_unfinished(rt, name)?;
     let file = locked(rt, name, file)?;
     if !is_same(&found, &file.metadata()?) {
         return Err(io::Error::from(ErrorKind::AlreadyExists));
     }
     rt.remove_file(name)
+}
+
+/// The file of this user that a cut has left. Where its mode keeps its owner out, it first gets that of a store.
+fn open_unfinished<R: HostSystem>(rt: &R, name: &str) -> io::Result<R::File> {
+    let mut options = OpenOptions::new();
+    options.read(true).write(true);
+    match options.open(rt, name) {
+        Err(error) if error.kind() == ErrorKind::PermissionDenied => {
+            rt.set_permissions(name, Permissions::from_mode(OWNER_ALONE))?;
+            options.open(rt, name)
+        }
+        answer => answer,
+    }
 }

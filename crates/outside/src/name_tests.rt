@@ -1,0 +1,342 @@
+//! The names of a store, its mode, and what others do to them meanwhile. The cases are those of the system of which
+//! chosen calls fail.
+use crate::faulty_system::{Again, Call, Fault};
+use crate::faulty_tests::Ask::{Print, Read, Sync, Write};
+use crate::faulty_tests::{
+    Ask, Case, FOUND_CASE, HARD, MADE, NEW_CASE, NO_CALL, NO_MAKING, NO_PRINT, UNTOUCHED, play_all,
+};
+use crate::file_tests::{Change, STORE, Sight, UNFINISHED};
+use std::fs;
+use std::io::ErrorKind;
+use std::os::unix::fs::MetadataExt;
+use std::test::Fail;
+
+/// Another file comes, or takes a name, while a new store gets its name.
+const MEANWHILE: &[Case] = &[
+    Case {
+        name: "where there are no second names, another's file has the store's name meanwhile",
+        faults: &[
+            Fault::Meanwhile(Call::Link(STORE), Change::File(STORE, 7, 2048)),
+            Fault::FailsSo(Call::Link(STORE), ErrorKind::PermissionDenied),
+        ],
+        calls: NO_MAKING,
+        left: &[Sight::Holds(STORE, &[], 7, 2048, &[])],
+        ..NEW_CASE
+    },
+    Case {
+        name: "the store's name is given to another's file, which is then no store of ours",
+        folder: &[Change::File("kept", 7, 2048)],
+        faults: &[Fault::Meanwhile(Call::Link(STORE), Change::Rename("kept", UNFINISHED))],
+        calls: NO_MAKING,
+        left: &[Sight::Holds(STORE, &[], 7, 2048, &[])],
+        ..NEW_CASE
+    },
+    Case {
+        name: "another's file gets the store's name first",
+        faults: &[Fault::Meanwhile(Call::Link(STORE), Change::File(STORE, 7, 2048))],
+        calls: NO_MAKING,
+        left: &[Sight::Holds(STORE, &[], 7, 2048, &[])],
+        ..NEW_CASE
+    },
+];
+
+/// What a cut left of another user's store. For anybody but root it is enough that this process seems to belong to
+/// whoever has the root folder.
+const ANYBODYS: Case = Case {
+    name: "a store in the making is another user's",
+    folder: &[Change::File(UNFINISHED, 9, 700)],
+    faults: &[Fault::Leads("/proc/self", "/")],
+    calls: NO_MAKING,
+    left: &[
+        Sight::IsAbsent(STORE),
+        Sight::Holds(UNFINISHED, &[], 9, 700, &[]),
+    ],
+    ..NEW_CASE
+};
+
+/// Likewise for root, who can give a file away.
+const ROOTS: Case = Case {
+    name: "a store in the making is another user's, and this process is root's",
+    folder: &[
+        Change::File(UNFINISHED, 9, 700),
+        Change::Give(UNFINISHED, 1234),
+    ],
+    faults: &[],
+    ..ANYBODYS
+};
+
+/// The mode of a new store.
+const MODES: &[Case] = &[
+    Case {
+        name: "a new store that its owner may only read becomes its owner's to write",
+        faults: &[Fault::Masked(0o400)],
+        left: &[
+            Sight::Holds(STORE, &[1], 0, 2047, &[]),
+            Sight::IsAllowed(STORE, 0o600),
+        ],
+        ..NEW_CASE
+    },
+    Case {
+        name: "a new store that others may read becomes its owner's alone",
+        faults: &[Fault::Masked(0o644)],
+        left: &[Sight::IsAllowed(STORE, 0o600)],
+        ..NEW_CASE
+    },
+    Case {
+        name: "a new store of the right mode is left as it is",
+        faults: &[Fault::Fails(Call::Allow(UNFINISHED))],
+        kinds: HARD,
+        left: &[Sight::IsAllowed(STORE, 0o600)],
+        ..NEW_CASE
+    },
+    Case {
+        name: "a file system has no modes",
+        faults: &[Fault::Masked(0o755), Fault::Fails(Call::Allow(UNFINISHED))],
+        kinds: &[ErrorKind::PermissionDenied, ErrorKind::Unsupported],
+        left: &[
+            Sight::Holds(STORE, &[1], 0, 2047, &[]),
+            Sight::IsAllowed(STORE, 0o755),
+        ],
+        ..NEW_CASE
+    },
+    Case {
+        name: "the mode of a new store can't be set",
+        faults: &[Fault::Masked(0o755), Fault::Fails(Call::Allow(UNFINISHED))],
+        kinds: HARD,
+        calls: NO_MAKING,
+        left: &[Sight::IsAbsent(STORE)],
+        ..NEW_CASE
+    },
+];
+
+/// A store whose file has the name of one in the making too.
+const TWICE_NAMED: &[Change] = &[
+    Change::File(STORE, 7, 2050),
+    Change::SecondName(STORE, UNFINISHED),
+];
+
+/// The second name of a store.
+const SECOND_NAMES: &[Case] = &[
+    Case {
+        name: "a second name goes",
+        folder: TWICE_NAMED,
+        left: &[
+            Sight::Holds(STORE, &[1], 7, 2049, &[]),
+            Sight::IsAbsent(UNFINISHED),
+        ],
+        ..FOUND_CASE
+    },
+    Case {
+        name: "a second name may not be removed by us",
+        folder: TWICE_NAMED,
+        faults: &[Fault::Fails(Call::Remove(UNFINISHED))],
+        kinds: &[ErrorKind::PermissionDenied, ErrorKind::ReadOnlyFilesystem],
+        left: &[Sight::Holds(UNFINISHED, &[1], 7, 2049, &[])],
+        ..FOUND_CASE
+    },
+    Case {
+        name: "the removal of a second name fails",
+        folder: TWICE_NAMED,
+        faults: &[Fault::Fails(Call::Remove(UNFINISHED))],
+        kinds: HARD,
+        calls: NO_CALL,
+        left: &[Sight::Holds(UNFINISHED, &[], 7, 2050, &[])],
+        ..FOUND_CASE
+    },
+    Case {
+        name: "the sync of the folder behind the removal of a second name fails",
+        folder: TWICE_NAMED,
+        faults: &[Fault::FailsLater(Call::Sync("."))],
+        kinds: HARD,
+        calls: NO_CALL,
+        again: Again::Name,
+        left: &[
+            Sight::Holds(STORE, &[], 7, 2050, &[]),
+            Sight::IsAbsent(UNFINISHED),
+        ],
+        ..FOUND_CASE
+    },
+    Case {
+        name: "nobody tells whether there is a second name",
+        faults: &[Fault::Fails(Call::OwnMetadata(UNFINISHED))],
+        kinds: HARD,
+        calls: NO_CALL,
+        left: UNTOUCHED,
+        ..FOUND_CASE
+    },
+];
+
+/// An output under the name of a store in the making.
+const OUTPUTS: &[Case] = &[
+    Case {
+        name: "the standard output is a store in the making, and there is no store",
+        folder: &[Change::File(UNFINISHED, 9, 3)],
+        faults: &[Fault::Leads("/proc/self/fd/1", UNFINISHED)],
+        calls: &[
+            (Print, false),
+            (Read(0), false),
+            (Write, false),
+            (Sync, false),
+        ],
+        left: &[
+            Sight::IsAbsent(STORE),
+            Sight::Holds(UNFINISHED, &[], 9, 3, &[]),
+        ],
+        ..NEW_CASE
+    },
+    Case {
+        name: "the standard error is a store in the making, and there is no store",
+        folder: &[Change::File(UNFINISHED, 9, 3)],
+        faults: &[Fault::Leads("/proc/self/fd/2", UNFINISHED)],
+        calls: NO_MAKING_AT_ALL,
+        left: &[
+            Sight::IsAbsent(STORE),
+            Sight::Holds(UNFINISHED, &[], 9, 3, &[]),
+        ],
+        ..NEW_CASE
+    },
+    Case {
+        name: "the standard output has the name of a store in the making beside a store",
+        folder: &[Change::File(STORE, 7, 2050), Change::File(UNFINISHED, 9, 3)],
+        faults: &[Fault::Leads("/proc/self/fd/1", UNFINISHED)],
+        calls: NO_PRINT,
+        left: UNTOUCHED,
+        ..FOUND_CASE
+    },
+    Case {
+        name: "the standard output is another file than what a cut left",
+        folder: &[
+            Change::File("kept", 7, 2050),
+            Change::File(UNFINISHED, 9, 3),
+        ],
+        faults: &[Fault::Leads("/proc/self/fd/1", "kept")],
+        ..NEW_CASE
+    },
+];
+
+/// No call is Ok, not even a read.
+const NO_MAKING_AT_ALL: &[(Ask, bool)] = &[
+    (Write, false),
+    (Read(0), false),
+    (Sync, false),
+    (Print, false),
+];
+
+/// Prints that fail, each of which is told.
+const PRINTS: &[Case] = &[
+    Case {
+        name: "a print fails beside a store",
+        faults: &[Fault::Fails(Call::Print)],
+        kinds: HARD,
+        calls: &[
+            (Print, false),
+            (Read(7), true),
+            (Print, false),
+            (Write, true),
+            (Sync, true),
+        ],
+        ..FOUND_CASE
+    },
+    Case {
+        name: "a print fails, and there is no store",
+        faults: &[Fault::Fails(Call::Print)],
+        kinds: HARD,
+        calls: &[(Print, false), (Read(0), true), (Write, true), (Sync, true)],
+        left: MADE,
+        ..NEW_CASE
+    },
+];
+
+/// A file of the system, and one that has its number of inode on another device. The root of a file system that is
+/// kept in memory often has the number 1.
+const TWINS: &[(&[Fault], &str, &str)] = &[
+    (
+        &[
+            Fault::Leads(STORE, "/proc"),
+            Fault::Leads("/proc/self/fd/1", "/dev"),
+        ],
+        "/proc",
+        "/dev",
+    ),
+    (
+        &[
+            Fault::Leads(STORE, "/proc"),
+            Fault::Leads("/proc/self/fd/1", "/sys"),
+        ],
+        "/proc",
+        "/sys",
+    ),
+    (
+        &[
+            Fault::Leads(STORE, "/proc"),
+            Fault::Leads("/proc/self/fd/1", "/dev/shm"),
+        ],
+        "/proc",
+        "/dev/shm",
+    ),
+    (
+        &[
+            Fault::Leads(STORE, "/proc"),
+            Fault::Leads("/proc/self/fd/1", "/dev/pts"),
+        ],
+        "/proc",
+        "/dev/pts",
+    ),
+];
+
+/// Whether two names lead to files of one number of inode on two devices.
+fn are_twins(rt: HostRuntime, one: &str, other: &str) -> bool {
+    match (fs::metadata(&rt, one), fs::metadata(&rt, other)) {
+        (Ok(one), Ok(other)) => one.ino() == other.ino() && one.dev() != other.dev(),
+        _ => false,
+    }
+}
+
+#[test]
+fn names_that_another_takes_meanwhile(rt: HostRuntime) -> Result<(), Fail> {
+    play_all(rt, MEANWHILE)
+}
+
+#[test]
+fn a_store_in_the_making_of_another_user(rt: HostRuntime) -> Result<(), Fail> {
+    let is_root = fs::metadata(&rt, "/proc/self")?.uid() == fs::metadata(&rt, "/")?.uid();
+    play_all(rt, if is_root { &[ROOTS] } else { &[ANYBODYS] })
+}
+
+#[test]
+fn modes_of_new_stores(rt: HostRuntime) -> Result<(), Fail> {
+    play_all(rt, MODES)
+}
+
+#[test]
+fn second_names_of_stores(rt: HostRuntime) -> Result<(), Fail> {
+    play_all(rt, SECOND_NAMES)
+}
+
+#[test]
+fn outputs_that_are_a_store_in_the_making(rt: HostRuntime) -> Result<(), Fail> {
+    play_all(rt, OUTPUTS)
+}
+
+#[test]
+fn prints_that_fail(rt: HostRuntime) -> Result<(), Fail> {
+    play_all(rt, PRINTS)
+}
+
+#[test]
+fn outputs_on_another_device(rt: HostRuntime) -> Result<(), Fail> {
+    for (faults, one, other) in TWINS {
+        if are_twins(rt, *one, *other) {
+            let case = Case {
+                name: "an output has the store's number of inode on another device",
+                faults: *faults,
+                calls: &[(Print, true)],
+                left: UNTOUCHED,
+                ..FOUND_CASE
+            };
+            return play_all(rt, &[case]);
+        }
+    }
+    println!(rt; "skipped: no two files of one number of inode on two devices")?;
+    Ok(())
+}
