@@ -104,7 +104,7 @@ pub record Outlasts (c : CoreData) : Type 0 where
   pub short : trip.ticks + 1 < longest_trip
 
 -- an interval of p pulses may be charged at once where the trip outlasts it, the cache serves for it and, by the pulses
--- and ticks of its rate, for the one behind it, and its charge fills no display step
+-- and ticks of its rate, for the one behind it, and its charge moves the fare on by no display step
 pub record MayBeCharged (tables : TableParts) (seal : Seal) (cache : Cache) (p : ℕ) (c : CoreData) : Type 0 where
   pub outlasts : Outlasts c
   pub serve : Serves tables cache c outlasts.trip

@@ -31,11 +31,11 @@ use taxi_units::{LONGEST_TRIP, Operating, ROAMING_MOST};
 
 impl Core {
     /// Carries out equal intervals of `pulses` pulses at once, and answers how many: all `count`, or so many
-    /// that one more may not go at once. They show, refuse and enter nothing. An interval may not go where
-    /// roaming is entered behind it, it is the trip's last, its charge fills a display step, or what the
-    /// interval behind it weighs isn't known from the cache; and none may where the meter is off,
-    /// the clock was read or pulses came since the last tick, a key waits, another display was shown last, or
-    /// an interval has more than 2,000 pulses. The tables' constant is the seal's. No steps. That rows of
+    /// that one more may not go at once. They show, refuse and enter nothing. An interval may not go if
+    /// roaming is entered behind it, it is the trip's last, its charge moves the fare on by a display step, or
+    /// what the interval behind it weighs isn't known from the cache. None may if the meter is off, the clock
+    /// was read with another second or a pulse came since the last tick, a key waits, another display was shown
+    /// last, or an interval has more than 2,000 pulses. The tables' constant is the seal's. No steps. That rows of
     /// intervals are carried out at once is this project's own.
     #[inline(always)]
     pub fn equal_intervals(&mut self, tables: &Tables, seal: &Seal, pulses: u32, count: u32) -> u32

@@ -1,11 +1,10 @@
 -- The laws of the public empty functions.
 use Rattle.std.proofs.Common.{◌≡◌, ◌↔◌, ap, ℕ, true, None, Some}
 use Rattle.std.specs.Option.{option_or}
-use Rattle.tariff_compare.specs.Contexts.{HasTables, IsFirstOrNone, IsMeterTime}
+use Rattle.tariff_compare.specs.Contexts.{HasTables, IsFirstOrNone, IsMeterTime, IsTimeOf}
 use Rattle.tariff_compare.specs.Counting.{counts}
 use Rattle.tariff_compare.specs.Differences.{context_difference, difference_of, frame_difference}
 use Rattle.tariff_compare.specs.FirstParts.{IsFirstKind, IsFirstOfFrame}
-use Rattle.tariff_compare.specs.Grids.{IsTimeOf}
 use Rattle.tariff_compare.specs.Kinds.{InForce, differing_kind}
 use Rattle.tariff_compare.specs.Same.{AreSame, DiffersFirst, HasSameFrame}
 use Rattle.tariff_compare.specs.Sides.{side_of}

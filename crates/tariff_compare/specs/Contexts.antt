@@ -1,5 +1,5 @@
 -- Rules: the contexts that a meter under a tariff can have, and their order.
-use Rattle.std.specs.Prelude.{◌≡◌, ℕ, ◌+◌, ◌≤◌, if◌then◌else◌, nat_le, List, [], ◌∷◌, Option, Some, None, ℤ, pos, ◌+ℤ◌}
+use Rattle.std.specs.Prelude.{◌≡◌, ℕ, ◌+◌, ◌<◌, ◌≤◌, if◌then◌else◌, nat_le, List, [], ◌∷◌, Option, Some, None, ℤ, pos, ◌+ℤ◌}
 use Rattle.interval_clock.specs.Calendar.{date_after, date_place, weekday_of}
 use Rattle.interval_clock.specs.LocalTime.{day_of, minute_of_day}
 use Rattle.interval_clock.specs.Offsets.{IsOffset}
@@ -29,6 +29,14 @@ pub record IsMeterTime (day minute : ℕ) : Type 0 where
   pub offset_in : IsOffset offset
   pub day_is : day_of (pos second +ℤ offset) ≡ pos day
   pub minute_is : minute_of_day (pos second +ℤ offset) ≡ minute
+
+-- the same by their numbers: all minutes of the days 2000-01-01 to 2199-12-31, those of 1999-12-31 (day 10956) from
+-- 10:00 (minute 600) on, and those of 2200-01-01 (day 84006) before 14:00 (minute 840)
+pub record IsTimeOf (day minute : ℕ) : Type 0 where
+  pub days : IsFromTo 10956 84006 day
+  pub minutes : minute ≤ 1439
+  pub first : day ≡ 10956 → 600 ≤ minute
+  pub last : day ≡ 84006 → minute < 840
 
 -- a trip is asked about at no more pulses than these; no distance that a tariff can name is more pulses, so further
 -- pulses change nothing

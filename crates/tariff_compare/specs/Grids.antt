@@ -74,13 +74,6 @@ abbrev pub is_meter_time : (day minute : ℕ) → Bool
 is_meter_time day minute =
     if day == 10956 then nat_le 600 minute else (if day == 84006 then nat_lt minute 840 else true)
 
--- a day and a minute are a meter's by their numbers
-pub record IsTimeOf (day minute : ℕ) : Type 0 where
-  pub days : IsFromTo 10956 84006 day
-  pub minutes : minute ≤ 1439
-  pub first : day ≡ 10956 → 600 ≤ minute
-  pub last : day ≡ 84006 → minute < 840
-
 -- ---- the grid
 
 -- numbers that are at most another

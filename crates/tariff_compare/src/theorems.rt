@@ -1,10 +1,9 @@
 //! What first contexts and differences are.
 ghost use Rattle.std.specs.Prelude.{◌≡◌, ◌↔◌, ℕ, true, None, Some};
-ghost use Rattle.tariff_compare.specs.Contexts.{HasTables, IsFirstOrNone, IsMeterTime};
+ghost use Rattle.tariff_compare.specs.Contexts.{HasTables, IsFirstOrNone, IsMeterTime, IsTimeOf};
 ghost use Rattle.tariff_compare.specs.Counting.{counts};
 ghost use Rattle.tariff_compare.specs.Differences.{difference_of, frame_difference};
 ghost use Rattle.tariff_compare.specs.FirstParts.{IsFirstKind, IsFirstOfFrame};
-ghost use Rattle.tariff_compare.specs.Grids.{IsTimeOf};
 ghost use Rattle.tariff_compare.specs.Kinds.{InForce, differing_kind};
 ghost use Rattle.tariff_compare.specs.Same.{AreSame, DiffersFirst, HasSameFrame};
 ghost use Rattle.tariff_compare.specs.Sides.{side_of};

@@ -1,4 +1,4 @@
--- For proofs: tests, each with the fact that it decides, and how longer tests are made of shorter ones. So a list of
+-- Rules: tests, each with the fact that it decides, and how longer tests are made of shorter ones. So a list of
 -- comparisons passes exactly where each of them holds.
 use Rattle.std.specs.Prelude.{◌≡◌, ◌⊎◌, ℕ, zero, suc, ◌≤◌, ◌<◌, Bool, true, false, ◌&&◌, ◌||◌, ◌==◌, nat_le, nat_lt, T}
 use Rattle.std.specs.Prelude.{⊤, ℤ, ◌≤ℤ◌, int_le, if◌then◌else◌, List, Option, Some, None, IfSome, Decides}
