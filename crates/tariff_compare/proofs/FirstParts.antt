@@ -132,6 +132,7 @@ frame_is_first t u d t_is u_is h =
           first = parts_before t u (5 + found.0) (λ lt. p₀) (λ lt. p₁) (λ lt. p₂) (λ lt. p₃) (λ lt. p₄)
               (λ m lt. supplements_before t u found.0 m t_is u_is found.1 (omega (arith, lt)));
         })
+
     behind_positions : IsSameIn t u Decimals → IsSameIn t u Step → IsSameIn t u Rounded → IsSameIn t u Positions
         → (if not (eqb (zones_of t.lines) (zones_of u.lines)) then Some Zones
         else option_map Supplement (other_supplement t u)) ≡ Some d → IsFirstOfFrame t u d
@@ -144,6 +145,7 @@ frame_is_first t u d t_is u_is h =
           })
           | inr on ↦ behind_zones p₀ p₁ p₂ p₃ (eqb-true (zones_of t.lines) (zones_of u.lines) on.0) on.1
         ]
+
     behind_rounding : IsSameIn t u Decimals → IsSameIn t u Step → IsSameIn t u Rounded
         → (if not (eqb (positions_of t.lines) (positions_of u.lines)) then Some Positions
         else (if not (eqb (zones_of t.lines) (zones_of u.lines)) then Some Zones
@@ -157,6 +159,7 @@ frame_is_first t u d t_is u_is h =
           })
           | inr on ↦ behind_positions p₀ p₁ p₂ (eqb-true (positions_of t.lines) (positions_of u.lines) on.0) on.1
         ]
+
     behind_step : IsSameIn t u Decimals → IsSameIn t u Step
         → (if not (is_same_rounding (display_step t).1 (display_step u).1) then Some Rounded
         else (if not (eqb (positions_of t.lines) (positions_of u.lines)) then Some Positions
@@ -173,6 +176,7 @@ frame_is_first t u d t_is u_is h =
           })
           | inr on ↦ behind_rounding p₀ p₁ (same_roundings (display_step t).1 (display_step u).1 on.0) on.1
         ]
+
     behind_decimals : IsSameIn t u Decimals
         → (if not (eqb (display_step t).0 (display_step u).0) then Some Step
         else (if not (is_same_rounding (display_step t).1 (display_step u).1) then Some Rounded
@@ -224,8 +228,7 @@ is_then_same Minimum one other same = eq-eqb _ _ same
 other_then : (kind : ChoiceKind) (m : MeterContext) (one other : InForce) → is_other m one other kind ≡ true
     → IsAskedFor kind m × (IsSameBy kind one other → ⊥)
 other_then kind m one other h =
-    let parts = both_parts (is_asked kind m) (not (is_same_of kind one other)) h in
-    (
+    let parts = both_parts (is_asked kind m) (not (is_same_of kind one other)) h in (
       asked kind m parts.0,
       λ same. false≢true (sym (not-true (is_same_of kind one other) parts.1) ∙ is_then_same kind one other same),
     )
@@ -251,12 +254,14 @@ kind_is_first m one other kind h =
     before_minimum fee Initial lt at = fee at
     before_minimum fee Minimum lt at = absurd (omega (arith, lt))
     before_minimum fee Rate lt at = absurd (omega (arith, lt))
+
     before_rate : (IsAskedFor Initial m → IsSameBy Initial one other)
         → (IsAskedFor Minimum m → IsSameBy Minimum one other) → (earlier : ChoiceKind) → kind_place earlier < 2
         → IsAskedFor earlier m → IsSameBy earlier one other
     before_rate fee least Initial lt at = fee at
     before_rate fee least Minimum lt at = least at
     before_rate fee least Rate lt at = absurd (omega (arith, lt))
+
     by : (a b c : Bool) → is_other m one other Initial ≡ a → is_other m one other Minimum ≡ b
         → is_other m one other Rate ≡ c
         → (if a then Some Initial else (if b then Some Minimum else (if c then Some Rate else None))) ≡ Some kind
