@@ -77,9 +77,9 @@ warn_of_coarse_rates() {
     [[ ${rows[place]-} == *' holds '* ]] || continue
     # shellcheck disable=SC2046
     look_at_rate $(numbers_of "${rates[place]}") "$constant"
-    [ -z "$is_coarse" ] || said+=$'\n'"  --> $(shown_name "$file"):${rows[place]%% *}: $(percent "$tenths") percent: $(printf %s "${rates[place]}" | shown)"
+    [ -z "$is_coarse" ] || said+=$'\n'"  --> $(shown_name "$file"):${rows[place]%% *}: at most $((tenths / 10)).$((tenths % 10)) % too much: $(printf %s "${rates[place]}" | shown)"
   done
-  [ -z "$said" ] || say "in mode single and with a constant of $constant an even speed can be charged too much by as much as stands below (docs/METER.md, \"How fine mode S is\")$said"
+  [ -z "$said" ] || say "in mode single and with a constant of $constant an even speed is charged too much by what stands below (docs/METER.md, \"How fine mode S is\")$said"
 }
 
 # The four numbers of a printed rate, in units, decimetres and tenths of a second.
@@ -89,6 +89,3 @@ numbers_of() {
     echo $((10#$number))
   done
 }
-
-# Tenths of a percent as they are read.
-percent() { if [ $(($1 % 10)) -eq 0 ]; then echo $(($1 / 10)); else echo $(($1 / 10)).$(($1 % 10)); fi; }

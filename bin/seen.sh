@@ -27,8 +27,7 @@ look_behind() {
 look_at_outputs() {
   local output=$streams/1 stream file
   if [ ! -e "$output" ]; then see 'the output' 'is closed'
-  elif [ -p "$output" ] || [ -S "$output" ]; then
-    see 'the output' "$gone"
+  elif [ -p "$output" ] || [ -S "$output" ]; then has_reader "$output" || see 'the output' "$gone"
   elif [ -f "$output" ] && ! has_room "$output"; then see 'the output' 'is a file, and its file system has no room left'
   elif [ "$(LC_ALL=C stat -L -c %t:%T "$output" 2>/dev/null)" = 1:7 ]; then see 'the output' 'is /dev/full'; fi
   for stream in 1 2; do
@@ -36,6 +35,13 @@ look_at_outputs() {
       [ ! "$streams/$stream" -ef "$file" ] || see "$([ $stream = 1 ] && echo 'the output' || echo 'the standard error')" "is $file itself; print to another file"
     done
   done
+}
+
+# Whether some process reads a pipe, of those that this user can look into.
+has_reader() {
+  local pipe
+  pipe=$(readlink -- "$1" | sed 's/[][*?\\]/\\&/g')
+  [ -n "$(find /proc/[0-9]*/fd -maxdepth 1 -lname "$pipe" -perm -400 -print -quit 2>/dev/null)" ]
 }
 
 # Whether the file system of a file has room left for this user.
