@@ -29,6 +29,7 @@ look_at_outputs() {
   if [ ! -e "$output" ]; then see 'the output' 'is closed'
   elif [ -p "$output" ] || [ -S "$output" ]; then has_reader "$output" || see 'the output' "$gone"
   elif [ -f "$output" ] && ! has_room "$output"; then see 'the output' 'is a file, and its file system has no room left'
+  elif [ -f "$output" ] && is_at_limit "$output"; then see 'the output' 'is a file that is as long as this process may make one (ulimit -f)'
   elif [ "$(LC_ALL=C stat -L -c %t:%T "$output" 2>/dev/null)" = 1:7 ]; then see 'the output' 'is /dev/full'; fi
   for stream in 1 2; do
     for file in "$store" "$store.new"; do
@@ -50,6 +51,14 @@ has_room() {
   read -r left for_root < <(LC_ALL=C stat -L -f -c '%a %f' -- "$1" 2>/dev/null) || return 0
   [ "$EUID" -ne 0 ] || left=$for_root
   [ "$left" -gt 0 ]
+}
+
+# Whether a file is as long as this process may make one.
+is_at_limit() {
+  local most bytes
+  most=$(ulimit -f)
+  bytes=$(LC_ALL=C stat -L -c %s -- "$1" 2>/dev/null)
+  [ "$most" != unlimited ] && [ "${bytes:-0}" -ge $((most * 1024)) ]
 }
 
 # Looks at the store's name, as each command does; fails where it leads to no file.
