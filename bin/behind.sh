@@ -1,7 +1,5 @@
 # What bin/taxi says on standard error behind a sealing and a run that ended with 0: what to mind, though nothing failed.
-# `TAXI_QUIET=1` leaves all of it out; nothing is asked of the program for it then.
-
-is_quiet() { [ "${TAXI_QUIET-}" = 1 ]; }
+# Where that is left out, nothing is asked of the program for it.
 
 # Before a sealing over a store: sets `sealed_before` to what is sealed, to nothing where nothing is, and to `?` where
 # that can't be told.

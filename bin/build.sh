@@ -252,7 +252,7 @@ answer_now() {
   done
   log=$(mktemp) || exit 125
   [ ! -t 2 ] || say 'building without a proof; this takes half a minute to a minute'
-  (waited=''; while sleep 1 && kill -0 $$ 2>/dev/null; do say_wait "$log" "$program_crate"; done) &
+  (waited=''; while sleep 1 && kill -0 $$ 2>/dev/null; do say_wait "$log" "$program_crate"; done) >/dev/null &
   watcher=$!
   (cd "$top/crates/$program_crate" && exec rt try -- "${words[@]}") </dev/null 2>"$log"
   { kill $watcher && wait $watcher; } 2>/dev/null
