@@ -14,6 +14,7 @@ WHAT = {
     "receipts": "the receipts of all rolls, a row each",
     "run": "carries out one drive a folder, on all processors, and none twice",
     "settle": "says what a run that broke off carried out, and makes `left.drive` of what is left",
+    "seal": "seals each store with another tariff or other parameters",
 }
 
 
@@ -55,10 +56,19 @@ def add_options_of_settle(command):
     )
 
 
+def add_options_of_seal(command):
+    command.add_argument("--tariff", metavar="FILE", required=True, help="the tariff with which each store is sealed")
+    command.add_argument(
+        "--params", metavar="NAME", help="what the parameters are called in each folder; without it they stay as sealed"
+    )
+    command.add_argument("--dry-run", action="store_true", help="says what would change, and seals nothing")
+
+
 OPTIONS = {
     "check": add_options_of_check,
     "run": add_options_of_run,
     "settle": add_options_of_settle,
+    "seal": add_options_of_seal,
 }
 
 
