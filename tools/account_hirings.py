@@ -35,24 +35,33 @@ def fields_of(lines):
             "step": step, **{name: words[name.upper()][0] for name in ("fare", "supplements", "total")}}
 
 
-def place_of(asked, meter, told):
-    """The number of the hiring, from 1, of which the roll that was asked for has the receipt."""
-    receipt = next((one.fields for one in filed_in([asked.roll]) if one.fields["receipt"] == asked.receipt), None)
-    if not receipt:
-        raise Refused(1, f"{asked.roll} has no receipt {asked.receipt}")
-    name = f"receipt {asked.receipt} is none of the drive's hirings"
+def unlike(asked, meter, receipt):
+    """Why a receipt isn't of this meter and tariff, if it isn't."""
     if receipt["tariff"] != (digest := hashlib.sha256(meter.tariff).hexdigest()):
-        raise Refused(1, f"{name}: its tariff has the SHA-256 {receipt['tariff']}, and {asked.tariff} has {digest}")
+        return f"its tariff has the SHA-256 {receipt['tariff']}, and {asked.tariff} has {digest}"
     for field, what in OF_METER.items():
         if receipt[field] != getattr(meter, field):
-            raise Refused(1, f"{name}: its {what} is {receipt[field]}, and that of {asked.params} is {getattr(meter, field)}")
-    alike = []
-    for number, (_, lines) in enumerate(told, 1):
-        fields = fields_of(lines)
-        if fields == {field: receipt[field] for field in fields}:
-            alike.append(number)
+            return f"its {what} is {receipt[field]}, and that of {asked.params} is {getattr(meter, field)}"
+    return None
+
+
+def place_of(asked, meter, told):
+    """The number of the hiring, from 1, of which the roll that was asked for has the receipt. A roll may have receipts of
+    one number and with other texts; then one of them has to be a hiring's."""
+    receipts = [one.fields for one in filed_in([asked.roll]) if one.fields["receipt"] == asked.receipt]
+    if not receipts:
+        raise Refused(1, f"{asked.roll} has no receipt {asked.receipt}")
+    alike, why = [], "none has its start, finish, distance, calculation and total"
+    for receipt in receipts:
+        if other := unlike(asked, meter, receipt):
+            why = other
+            continue
+        for number, (_, lines) in enumerate(told, 1):
+            fields = fields_of(lines)
+            if fields == {field: receipt[field] for field in fields}:
+                alike.append(number)
     if not alike:
-        raise Refused(1, f"{name}: none has its start, finish, distance, calculation and total")
+        raise Refused(1, f"receipt {asked.receipt} is none of the drive's hirings: {why}")
     if len(alike) > 1:
         numbers = ", ".join(map(str, alike))
         raise Refused(1, f"the hirings {numbers} are all as receipt {asked.receipt} says: name one by --hiring")
