@@ -12,22 +12,25 @@ from power_cuts import (
     traced,
 )
 
+# A program whose syncs fail: the contents that it begins with, its words, the numbers of the pairs of the store, and the
+# check of what a cut behind it leaves, by the receipts that there are and the rows of totals, where they are known.
+Subject = collections.namedtuple("Subject", "what contents words numbers check")
 # Where a program left things: its folder, the moment it ended at, and the receipts that the store may have entries of.
 Place = collections.namedtuple("Place", "folder moment receipts")
-# Programs behind a failed sync, each with the calls of it that fail, by its own number.
+# Programs behind a failed sync, each with the calls of it that fail.
 OPENING, ITS_FOLDER = "fsync:error=EIO:when=1", "fsync:error=EIO:when=2"
-READ_AND_RUN = [("totals", ()), ("run", ())]
-FURTHER = [
+RUNS = [
+    [("totals", ()), ("run", ())],
     [("run", ()), ("totals", ())],
     [("totals", [OPENING]), ("totals", ()), ("run", ())],
     [("run", [OPENING]), ("run", ())],
     [("totals", [ITS_FOLDER]), ("run", [OPENING]), ("totals", ())],
 ]
-FURTHER_SEALINGS = [
+SEALINGS = [
     [("seal", ()), ("totals", ())],
     [("totals", ()), ("seal", ())],
-    [("seal", [OPENING]), ("seal", ())],
     [("totals", [OPENING]), ("totals", [ITS_FOLDER]), ("seal", ())],
+    [("seal", [OPENING]), ("seal", ())],
 ]
 
 
@@ -49,7 +52,7 @@ def receipts_up_to(tried, contents, receipts):
     return [receipt for receipt in receipts if receipt[0] <= number]
 
 
-def go_on(tried, what, place, further, check_of, apart=False):
+def go_on(tried, what, place, further, check, apart=False):
     """Programs that go on where another one ended, each behind the one before; tries the cuts under each."""
     for name, inject in further:
         contents = place.folder.relative(place.moment.medium.contents())
@@ -59,71 +62,68 @@ def go_on(tried, what, place, further, check_of, apart=False):
         )
         what = f"{what}, then {name}{' with a failed sync' if inject else ''}"
         receipts = receipts_up_to(tried, contents, place.receipts) + receipts_in(said)
-        tried.each(what, moments, check_of(receipts), folder, 6, apart)
+        tried.each(what, moments, check(receipts, None), folder, 4, apart)
         place = Place(folder, moments[-1], receipts)
 
 
-def syncs_of(tried, contents, words):
-    """How many syncs a program asks for."""
+def calls_in(tried, contents, words):
+    """The calls of a program on these contents."""
     folder = Folder(tried.within, contents)
-    calls, _, _ = medium.calls_of([PROGRAM, *words], folder.work, os.path.join(folder.top, "trace"))
-    return sum(name in medium.SYNCS for name, *_ in calls)
+    return medium.calls_of([PROGRAM, *words], folder.work, os.path.join(folder.top, "trace"))[0]
 
 
-def to_read_alone(tried, contents):
-    """What lets `totals` find a file that may only be read: its opening to write fails."""
-    folder = Folder(tried.within, contents)
-    calls, _, _ = medium.calls_of([PROGRAM, "totals"], folder.work, os.path.join(folder.top, "trace"))
+def to_read_alone(tried):
+    """What lets `totals` find a file that may only be read: its opening to be written fails."""
+    calls = calls_in(tried, {f"work/{STORE}": (0, bytes(2048))}, ["totals"])
     openings = [" ".join(fields) for name, fields, _ in calls if name == "openat"]
-    return f"openat:error=EROFS:when={[ 'O_RDWR' in fields for fields in openings].index(True) + 1}"
+    return f"openat:error=EROFS:when={['O_RDWR' in fields for fields in openings].index(True) + 1}"
 
 
-def try_failed(tried, what, contents, words, numbers, check_of, chains):
+def try_failed(tried, subject, chains):
     """Each sync of a program fails in its turn, and others go on behind it: where it ended, and, counted apart, where it
     was killed between the failed sync and the new write."""
-    _, _, printed = traced(tried, contents, words, numbers)
-    receipts = receipts_in(printed)
-    before, syncs = tried.cuts, syncs_of(tried, contents, words)
+    what, contents, words, numbers, check = subject
+    receipts = receipts_in(traced(tried, contents, words, numbers)[2])
+    before, syncs = tried.cuts, sum(name in medium.SYNCS for name, *_ in calls_in(tried, contents, words))
     for turn in range(1, syncs + 1):
         folder, moments, _ = traced(tried, contents, words, numbers, inject=[f"fsync:error=EIO:when={turn}"])
-        name = f"{what} in which sync {turn} fails"
-        tried.each(name, moments[-1:], check_of(receipts), folder, 16)
-        for further in chains(turn):
-            go_on(tried, name, Place(folder, moments[-1], receipts), further, check_of)
-        if tried.writes_again:
-            for moment in moments:
-                if moment.medium.has_given_up(store_of(folder)) and moment is not moments[-1]:
-                    go_on(tried, name, Place(folder, moment, receipts), chains(turn)[0][:1], check_of, apart=True)
+        failed = f"{what} in which sync {turn} fails"
+        tried.each(failed, moments[-1:], check(receipts, MORNING), folder, 16)
+        for further in (chains[0], chains[1 + turn % (len(chains) - 1)]):
+            go_on(tried, failed, Place(folder, moments[-1], receipts), further, check)
+        for moment in moments[:-1] if tried.writes_again else []:
+            if moment.medium.has_given_up(store_of(folder)):
+                go_on(tried, failed, Place(folder, moment, receipts), chains[0][:1], check, apart=True)
     print(f"{what} in which a sync fails, each of {syncs} in turn: {tried.cuts - before} cuts", flush=True)
 
 
-def try_killed(tried, what, contents, words, numbers, check_of, chains):
-    """A program is killed where something of the store is in flight, and the opening sync of the next one fails."""
+def try_killed(tried, subject, chains):
+    """A program is killed where something of the store is in flight, and the opening sync of the next one fails; counted
+    apart, where that has the file open to be read alone."""
+    what, contents, words, numbers, check = subject
     folder, moments, printed = traced(tried, contents, words, numbers)
-    receipts, before = receipts_in(printed), tried.cuts
+    receipts, before, alone = receipts_in(printed), tried.cuts, to_read_alone(tried)
     moments = [moment for moment in moments if moment.medium.is_in_flight(store_of(folder))]
-    alone = to_read_alone(tried, {f"work/{STORE}": (0, bytes(2048))})
     for turn, moment in enumerate(moments):
         place = Place(folder, moment, receipts)
-        go_on(tried, f"{what} that is killed", place, chains(turn)[0], check_of)
+        go_on(tried, f"{what} that is killed", place, chains[turn % len(chains)], check)
         if tried.writes_again:
-            go_on(tried, what, place, [("totals", [alone, OPENING]), ("totals", ())], check_of, apart=True)
+            go_on(tried, what, place, [("totals", [alone, OPENING]), ("totals", ())], check, apart=True)
     print(f"{what} that is killed, and then an opening fails: {tried.cuts - before} cuts", flush=True)
 
 
 def try_all(tried):
+    """Tries runs, first sealings and later ones."""
     pathlib.Path(tried.within, "next.drive").write_text(NEXT_DRIVE)
     sealed = Folder(tried.within, {})
     sealed.run(*SEAL)
     contents, numbers = {f"work/{STORE}": sealed.store()}, {"totals": 1, "seal": 1}
-    run = ["run", TARIFF, MORNING_DRIVE]
-    check = lambda receipts: check_run(receipts, None)
-    try_failed(tried, "a run", contents, run, numbers, check, lambda turn: [READ_AND_RUN, FURTHER[turn % 4]])
-    try_killed(tried, "a run", contents, run, numbers, check, lambda turn: [FURTHER[1 + turn % 2]])
     empty = (TOP / "examples/sealed.totals").read_text().rsplit("status", 1)[0]
-    check = lambda receipts: check_sealing(empty)
-    none = {"totals": 0, "seal": 0}
-    chains = lambda turn: [FURTHER_SEALINGS[0], FURTHER_SEALINGS[turn % 4]]
-    try_failed(tried, "a first sealing", {}, SEAL, none, check, chains)
-    try_killed(tried, "a first sealing", {}, SEAL, none, check, lambda turn: [FURTHER_SEALINGS[2 + turn % 2]])
-    try_failed(tried, "a sealing", contents, SEAL, numbers, check, chains)
+    check_seal = lambda receipts, rows: check_sealing(empty)
+    run = Subject("a run", contents, ["run", TARIFF, MORNING_DRIVE], numbers, check_run)
+    first = Subject("a first sealing", {}, SEAL, {"totals": 0, "seal": 0}, check_seal)
+    try_failed(tried, run, RUNS)
+    try_killed(tried, run, RUNS[2:4])
+    try_failed(tried, first, SEALINGS)
+    try_killed(tried, first, SEALINGS[2:])
+    try_failed(tried, Subject("a sealing", contents, SEAL, numbers, check_seal), SEALINGS)
