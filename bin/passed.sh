@@ -36,9 +36,9 @@ passed_over() {
 # Behind a filing: what it passed over.
 warn_behind() {
   local passed
-  [ -n "${aside-}" ] || return 0
-  if ! passed=$(passed_over "$2"); then
-    say 'what was passed over of the roll was not counted: it was written meanwhile, or there was no room'
+  [ "${1-}" = file ] && [ "${TAXI_QUIET-}" != 1 ] || return 0
+  if [ -z "$aside" ] || ! passed=$(passed_over "$2"); then
+    say 'what was passed over of the roll was not counted: it is no plain file, was written meanwhile, or no copy of the log could be made'
   elif [ "$passed" -gt 0 ]; then
     say "whole receipts of the roll that were passed over: $passed (docs/use/HIRING_LOG.md, \"What is passed over\")"
   fi
