@@ -8,17 +8,18 @@ keep_before() {
   [ "${1-}" = file ] && ! is_quiet && [ -f "${2-}" ] || return 0
   aside=$(mktemp -d -p /dev/shm 2>/dev/null || mktemp -d) || return 0
   trap 'rm -rf "$aside"' EXIT
-  [ ! -e taxi.log ] || cp taxi.log "$aside" 2>/dev/null || true
+  [ ! -e taxi.log ] || cp taxi.log "$aside" 2>/dev/null || { rm -rf "$aside"; aside=''; }
 }
 
-# The newest receipt of the log, as one of another taxi.
-of_another_taxi() {
+# The newest receipt of the log, as one of another taxi; nothing of a log without receipts.
+of_another_taxi() (
+  set -o pipefail
   "$program" show 2>/dev/null | awk '
     /^RECEIPT / { text = "" }
     /^TAXI / { $0 = $2 == "A" ? "TAXI B" : "TAXI A" }
     { text = text $0 "\n" }
     END { printf "%s", text }'
-}
+)
 
 # What the program says of a roll at its input, in that folder.
 filed_aside() { (cd "$aside" && "$program" file /dev/stdin 2>/dev/null); }
@@ -36,7 +37,7 @@ passed_over() {
 # Behind a filing: what it passed over.
 warn_behind() {
   local passed
-  [ "${1-}" = file ] && [ "${TAXI_QUIET-}" != 1 ] || return 0
+  [ "${1-}" = file ] && ! is_quiet || return 0
   if [ -z "$aside" ] || ! passed=$(passed_over "$2"); then
     say 'what was passed over of the roll was not counted: it is no plain file, was written meanwhile, or no copy of the log could be made'
   elif [ "$passed" -gt 0 ]; then
