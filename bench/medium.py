@@ -1,12 +1,18 @@
 """What a medium may hold after a cut of the power, from the system calls that strace saw of a program.
 
-A file has the bytes of its last sync that returned, and the writes since then; a folder has the names of its last sync,
-and those that came or went since. A cut leaves any of these writes and names, in any choice, and a write that it leaves
-may be torn, or have any bytes at all in its range."""
+A file has the bytes of its last sync that was Ok, and the writes since then; a folder has the names of its last sync, and
+those that came or went since. A cut leaves any of these writes and names, in any choice, and a write that it leaves may be
+torn, or have any bytes at all in its range. Where a write gives a range the bytes that it had, each byte that was at rest
+there stays.
+
+A sync that fails takes all of these for written, as ext4 and XFS do: who reads next finds them, and no later sync writes
+them. So whether the medium has them is open for good, byte by byte, until they are written again: a new write puts its
+range in flight once more, and a name that comes or goes in a folder puts the folder's others in flight with it."""
 
 import collections
 import copy
 import itertools
+import math
 import os
 import re
 import subprocess
@@ -15,9 +21,13 @@ CALL = re.compile(r"^(\w+)\((.*)\)\s+= (-?\d+|0x[0-9a-f]+)\b")
 FIELD = re.compile(r'"(?:\\x[0-9a-f]{2})*"(?:\.\.\.)?|\{[^}]*\}|\[[^\]]*\]|[^,\s"][^,"]*')
 # Calls on an open file that change nothing of it or of its names.
 HARMLESS = {
-    "read", "pread64", "readv", "fstat", "newfstatat", "statx", "flock", "fcntl", "fadvise64", "ioctl", "poll",
+    "pread64", "fstat", "newfstatat", "statx", "flock", "fadvise64", "ioctl", "poll", "fchmod", "chmod", "fchmodat",
     "readlink", "readlinkat", "stat", "lstat", "access", "faccessat", "faccessat2", "statfs", "getdents64", "execve",
 }
+SYNCS = {"fsync", "fdatasync"}
+MOVES = {"link", "linkat", "rename", "renameat", "renameat2", "unlink", "unlinkat"}
+# Calls of which nothing is said here.
+UNTOLD = {"mkdir", "mkdirat", "rmdir", "symlink", "symlinkat", "mknod", "mknodat", "truncate", "fallocate", "writev", "pwritev"}
 # The pairs of slots of the store, by the places of their gates, and the byte that opens a gate.
 GATES = {0: "totals", 512: "totals", 1024: "seal", 1536: "seal"}
 OPEN = b"\xa5"
@@ -27,17 +37,50 @@ Moment = collections.namedtuple("Moment", "medium printed")
 
 
 class File:
-    """The bytes that a file has now, those of its last sync, or None before the first, and the writes since."""
+    """The bytes that a file has now, and those that the medium has for sure, or None before the first sync; the writes
+    since the last sync, and those of syncs that failed, which the medium has or hasn't."""
 
     def __init__(self, content=None):
-        self.now, self.kept, self.writes = bytearray(content or b""), content, []
+        self.now, self.kept, self.writes, self.doubtful = bytearray(content or b""), content, [], []
 
     def write(self, place, piece):
+        if piece is not None and self.now[place:place + len(piece)] == piece:
+            # The bytes that the range had: only what a failed sync took for written is in flight again.
+            ranges = {(at, at + len(part)) for at, part in parts_of(self.doubtful, place, place + len(piece))}
+            self.writes += [(begin, piece[begin - place:end - place]) for begin, end in sorted(ranges)]
+        else:
+            self.writes.append((place, piece))
         self.now = bytearray(written(self.now, place, piece))
-        self.writes.append((place, piece))
 
-    def sync(self):
-        self.kept, self.writes = bytes(self.now), []
+    def sync(self, is_good):
+        if is_good:
+            self.kept = self.kept or b""
+            for place, piece in self.writes:
+                self.kept = written(self.kept, place, piece)
+            self.doubtful = self.given_up()
+        elif any(piece is None for _, piece in self.writes):
+            raise ValueError("nothing says what a failed sync leaves of a length")
+        else:
+            self.doubtful = [write for write in self.doubtful if write not in self.writes] + self.writes
+        self.writes = []
+
+    def given_up(self):
+        """What failed syncs took for written, but for what was written again: no later sync writes it."""
+        left = self.doubtful
+        for place, piece in self.writes:
+            end = math.inf if piece is None else place + len(piece)
+            left = parts_of(left, 0, place) + parts_of(left, end, math.inf)
+        return left
+
+
+def parts_of(writes, begin, end):
+    """What of some writes lies between two places."""
+    found = []
+    for place, piece in writes:
+        first, last = max(place, begin), min(place + len(piece), end)
+        if first < last:
+            found.append((first, piece[first - place:last - place]))
+    return found
 
 
 def written(content, place, piece):
@@ -47,14 +90,14 @@ def written(content, place, piece):
 
 
 class Medium:
-    """Files by their number, their names, and the names that came or went since the last sync of their folder; and the
-    number of each pair of the store, once its gate is being opened (`begun`), and once that is at rest (`rested`).
-    Contents have for each name the file's number and its bytes."""
+    """Files by their number, their names, and the names that came or went since the last sync of their folder, or before
+    one that failed; and the number of each pair of the store, once its gate is being opened (`begun`), and once a sync
+    behind that was Ok (`rested`). Contents have for each name the file's number and its bytes."""
 
     def __init__(self, contents, numbers):
         self.files = {number: File(content) for number, content in contents.values()}
         self.names = {path: number for path, (number, _) in contents.items()}
-        self.kept, self.moves = dict(self.names), []
+        self.kept, self.moves, self.doubtful = dict(self.names), [], []
         self.begun, self.rested = dict(numbers), dict(numbers)
         self.opened = {}
 
@@ -62,20 +105,34 @@ class Medium:
         """What each name leads to now, as the next program finds it where the power stays."""
         return {path: (number, bytes(self.files[number].now)) for path, number in self.names.items()}
 
+    def has_given_up(self, path):
+        """Whether a failed sync took for written what no later one writes: bytes of the file of a name, or names of its
+        folder."""
+        here, _ = split(self.doubtful, os.path.dirname(path))
+        return bool(here) or path in self.names and bool(self.files[self.names[path]].given_up())
+
+    def is_in_flight(self, path):
+        """Whether bytes of the file of a name, or names of its folder, wait for a sync."""
+        here, _ = split(self.moves, os.path.dirname(path))
+        return bool(here) or path in self.names and bool(self.files[self.names[path]].writes)
+
     def move(self, path, number):
         """A name comes, or where no file is given goes."""
-        self.moves.append((path, number))
+        again, self.doubtful = split(self.doubtful, os.path.dirname(path))
+        self.moves += again + [(path, number)]
         self.names = moved(self.names, [(path, number)])
 
-    def sync(self, descriptor):
+    def sync(self, descriptor, is_good):
         opened = self.opened[descriptor]
-        if isinstance(opened, str):
-            here = [move for move in self.moves if os.path.dirname(move[0]) == opened]
+        if not isinstance(opened, str):
+            self.files[opened[0]].sync(is_good)
+            self.rested = dict(self.begun) if is_good else self.rested
+            return
+        here, self.moves = split(self.moves, opened)
+        if is_good:
             self.kept = moved(self.kept, here)
-            self.moves = [move for move in self.moves if move not in here]
         else:
-            self.files[opened[0]].sync()
-            self.rested = dict(self.begun)
+            self.doubtful += here
 
     def open(self, path, flags, descriptor):
         if path not in self.names and "O_CREAT" in flags:
@@ -92,11 +149,19 @@ class Medium:
     def write(self, descriptor, piece, place=None):
         opened = self.opened[descriptor]
         at = opened[1] if place is None else place
-        self.files[opened[0]].write(at, piece)
+        file = self.files[opened[0]]
+        if piece == OPEN and at in GATES and file.now[at:at + 1] != OPEN:
+            self.begun[GATES[at]] += 1
+        file.write(at, piece)
         if place is None:
             opened[1] += len(piece)
-        if piece == OPEN and at in GATES:
-            self.begun[GATES[at]] += 1
+
+
+def split(moves, folder):
+    """The moves of names in a folder, and the others."""
+    return [move for move in moves if os.path.dirname(move[0]) == folder], [
+        move for move in moves if os.path.dirname(move[0]) != folder
+    ]
 
 
 def moved(names, moves):
@@ -104,10 +169,10 @@ def moved(names, moves):
     return {path: number for path, number in names.items() if number is not None}
 
 
-def calls_of(words, folder, trace, inject=None):
-    """Runs a program under strace, which may let a call fail; gives its calls, each with fields and result, what it
+def calls_of(words, folder, trace, inject=()):
+    """Runs a program under strace, which may let calls fail; gives its calls, each with fields and result, what it
     printed, and its status."""
-    injected = ["-e", f"inject={inject}"] if inject else []
+    injected = [word for one in inject for word in ("-e", f"inject={one}")]
     ran = subprocess.run(
         ["strace", "-qq", "-xx", "-s", "65536", "-o", trace, *injected, *words], cwd=folder, check=False,
         stdin=subprocess.DEVNULL, stdout=subprocess.PIPE, stderr=subprocess.DEVNULL,
@@ -131,54 +196,103 @@ def path_of(field, folder, follows):
     return os.path.join(os.path.realpath(os.path.dirname(path)), os.path.basename(path))
 
 
-def moments_of(medium, calls, folder):
-    """The moments of a run on a medium: behind each call that writes, syncs, prints, or changes a name."""
-    printed = b""
-    yield Moment(copy.deepcopy(medium), printed)
-    for name, fields, result in calls:
-        descriptor = int(fields[0]) if fields and fields[0].isdigit() else None
+class Run:
+    """A program's run on a medium, call by call, and what it printed. It may be told as if the program wrote nothing
+    behind a sync that failed, and made no name there."""
+
+    def __init__(self, medium, folder, printed, writes_again):
+        self.medium, self.folder, self.printed, self.writes_again = medium, folder, printed, writes_again
+        self.is_over = False
+
+    def path(self, text, follows=False):
+        return path_of(text, self.folder, follows)
+
+    def carries(self, name, fields, result):
+        """Carries out a call, and says whether it makes a moment."""
         text = [field for field in fields if field.startswith('"')]
-        if result < 0 or name in HARMLESS:
-            continue
+        descriptor = int(fields[0]) if fields and fields[0].isdigit() else None
+        if name in SYNCS:
+            self.is_over = self.is_over or (result < 0 and not self.writes_again)
+        elif result < 0 or name in HARMLESS:
+            return False
+        is_shared = name == "mmap" and "MAP_SHARED" in fields[3] and "PROT_WRITE" in fields[2]
+        if name in UNTOLD or is_shared or name.endswith("at") and descriptor is not None:
+            raise ValueError(f"nothing says what {name} does to files")
         if name in ("open", "openat", "creat"):
-            flags = fields[-1] if "O_" in fields[-1] else fields[-2]
-            medium.open(path_of(text[0], folder, "O_EXCL" not in flags and "O_NOFOLLOW" not in flags), flags, result)
-        elif name in ("link", "linkat"):
-            medium.move(path_of(text[1], folder, False), medium.names[path_of(text[0], folder, False)])
-        elif name in ("rename", "renameat", "renameat2"):
-            medium.move(path_of(text[1], folder, False), medium.names[path_of(text[0], folder, False)])
-            medium.move(path_of(text[0], folder, False), None)
-        elif name in ("unlink", "unlinkat"):
-            medium.move(path_of(text[0], folder, False), None)
-        elif name == "write" and descriptor in (1, 2):
-            printed += bytes_of(text[0]) if descriptor == 1 else b""
-        elif descriptor not in medium.opened:
-            continue
-        elif name == "lseek":
-            medium.opened[descriptor][1] = result
-            continue
-        elif name == "write":
-            medium.write(descriptor, bytes_of(text[0])[:result])
-        elif name == "pwrite64":
-            medium.write(descriptor, bytes_of(text[0])[:result], int(fields[-1]))
+            return self.opens(text[0], fields[-1] if "O_" in fields[-1] else fields[-2], result)
+        if name in MOVES:
+            return self.moves(name, text)
+        if name == "write" and descriptor in (1, 2):
+            self.printed += bytes_of(text[0])[:result] if descriptor == 1 else b""
+            return True
+        return descriptor in self.medium.opened and self.does(name, descriptor, fields, text, result)
+
+    def opens(self, text, flags, descriptor):
+        path = self.path(text, "O_EXCL" not in flags and "O_NOFOLLOW" not in flags)
+        if self.is_over and path not in self.medium.names and "O_CREAT" in flags:
+            return False
+        self.medium.open(path, flags, descriptor)
+        return True
+
+    def moves(self, name, text):
+        """A name comes or goes."""
+        names, paths = self.medium.names, [self.path(one) for one in text]
+        if name in ("unlink", "unlinkat"):
+            if paths[0] in names:
+                self.medium.move(paths[0], None)
+        elif not self.is_over:
+            self.medium.move(paths[1], names[paths[0]])
+            if name.startswith("rename"):
+                self.medium.move(paths[0], None)
+        return True
+
+    def does(self, name, descriptor, fields, text, result):
+        """What is done with an open file or folder."""
+        opened = self.medium.opened
+        if name in SYNCS:
+            self.medium.sync(descriptor, result == 0)
+        elif name in ("write", "pwrite64"):
+            if not self.is_over:
+                piece = bytes_of(text[0])[:result]
+                self.medium.write(descriptor, piece, None if name == "write" else int(fields[-1]))
         elif name == "ftruncate":
-            medium.files[medium.opened[descriptor][0]].write(int(fields[1]), None)
-        elif name in ("fsync", "fdatasync"):
-            medium.sync(descriptor)
+            self.medium.files[opened[descriptor][0]].write(int(fields[1]), None)
+        elif name == "lseek":
+            opened[descriptor][1] = result
+            return False
+        elif name == "read":
+            if not isinstance(opened[descriptor], str):
+                opened[descriptor][1] += result
+            return False
+        elif name in ("dup", "dup2", "dup3", "fcntl"):
+            if name != "fcntl" or "F_DUPFD" in fields[1]:
+                opened[result] = opened[descriptor]
+            return False
         elif name == "close":
-            del medium.opened[descriptor]
-            continue
+            del opened[descriptor]
+            return False
         else:
             raise ValueError(f"nothing says what {name} does to a file")
-        yield Moment(copy.deepcopy(medium), printed)
+        return True
+
+
+def moments_of(medium, calls, folder, printed=b"", writes_again=True):
+    """The moments of a run on a medium: behind each call that writes, syncs, prints, or changes a name. What was printed
+    before goes on."""
+    run = Run(medium, folder, printed, writes_again)
+    yield Moment(copy.deepcopy(medium), printed)
+    for call in calls:
+        if run.carries(*call):
+            yield Moment(copy.deepcopy(medium), run.printed)
 
 
 def choices_of(items, dice, most):
-    """Choices of some items, in their order: each, where they are few, else as many as are asked for."""
+    """Choices of some items, in their order: each, where they are few, else as many as are asked for, with none and all
+    among them."""
     if 2 ** len(items) <= most:
         stays = itertools.product([False, True], repeat=len(items))
         return [list(itertools.compress(items, stay)) for stay in stays]
-    return [[item for item in items if dice.random() < 0.5] for _ in range(most)]
+    return [[], items] + [[item for item in items if dice.random() < 0.5] for _ in range(most - 2)]
 
 
 def torn(piece, dice):
@@ -208,10 +322,10 @@ def left_by_cuts(medium, dice, most):
     """What a cut may leave: the contents by their names, for choices of names and of whole writes, each where they are
     few, and then of torn writes; for each choice of names up to about as many as are asked for."""
     found = {}
-    for moves in choices_of(medium.moves, dice, most):
+    for moves in choices_of(medium.doubtful + medium.moves, dice, most):
         names = moved(medium.kept, moves)
         files = {number: medium.files[number] for number in names.values()}
-        pending = [(number, write) for number, file in files.items() for write in file.writes]
+        pending = [(number, write) for number, file in files.items() for write in file.doubtful + file.writes]
         whole = [(choice, False) for choice in choices_of(pending, dice, most)]
         for choice, are_torn in whole + [(pending, True)] * (most if pending else 0):
             contents = {

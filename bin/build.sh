@@ -1,5 +1,8 @@
 # How the program is made ready: proved and built with the kit's `rt` where it is missing or older than its sources.
 
+# The logic of the kit for which these proofs were written, as `rt version` names it.
+logic=dac8208d650f15bf
+
 # The crates that the program is made of, lowest first: crates.txt has them in that order.
 needed_crates() {
   awk -F: -v program="$program_crate" '{ sub(/#.*/, "") } NF > 1 { name[++n] = $1; rest[n] = $2 }
@@ -98,9 +101,10 @@ show_progress() {
 
 # Shows progress while a crate is proved: on a terminal in one line each second, else in a line a minute.
 show_on() {
-  local second=0
+  local second=0 waited=''
   while sleep 1 && kill -0 $$ 2>/dev/null; do
     second=$((second + 1))
+    say_wait "$log/$crate" "$crate"
     [ ! -t 2 ] && [ $((second % 60)) -ne 0 ] || show_progress
   done
 }
@@ -146,10 +150,22 @@ build_crate() {
   return $status
 }
 
+# Whether there is a kit; says so where its logic is another one.
 has_kit() {
-  ! command -v rt >/dev/null 2>&1 || return 0
-  say 'the command rt of the Rattle kit is not in the PATH; README.md says more'
-  return 1
+  local kit
+  command -v rt >/dev/null 2>&1 ||
+    { say 'the command rt of the Rattle kit is not in the PATH; README.md says more'; return 1; }
+  kit=$(rt version 2>/dev/null)
+  [[ "$kit " == *" logic $logic "* ]] ||
+    say "this kit is '$kit', and the proofs are written for logic $logic, so with it they may fail or mean something else"
+}
+
+# Says where rt waits for another one that works on a crate, once for each, given its log and the crate.
+say_wait() {
+  [[ " $waited " != *" $2 "* ]] && grep -q '^rt: waiting for another rt' "$1" 2>/dev/null || return 0
+  waited+=" $2"
+  [ ! -t 2 ] || printf '\r\033[K' >&2
+  say "another process is at $2 in this checkout; this one waits until that is done"
 }
 
 # Proves and builds the crates, one after the other.
@@ -221,8 +237,9 @@ version() {
 
 # Answers from the same code, built at once and not proved, and ends.
 answer_now() {
-  local log status named file place words=("$@")
+  local log status named file place watcher words=("$@")
   [[ " $without_store " == *" $1 "* ]] || { say "--now is for the commands without a store: $without_store"; exit 1; }
+  ! leads_to_store 1 || { say "status 8: the output is $store itself; print to another file"; exit 8; }
   has_kit || exit 125
   # The program runs in another folder, so the files go by their whole names.
   name_files "$@"
@@ -235,7 +252,10 @@ answer_now() {
   done
   log=$(mktemp) || exit 125
   [ ! -t 2 ] || say 'building without a proof; this takes half a minute to a minute'
+  (waited=''; while sleep 1 && kill -0 $$ 2>/dev/null; do say_wait "$log" "$program_crate"; done) >/dev/null &
+  watcher=$!
   (cd "$top/crates/$program_crate" && exec rt try -- "${words[@]}") </dev/null 2>"$log"
+  { kill $watcher && wait $watcher; } 2>/dev/null
   status=$(sed -n 's/^run=ended status=\([0-9]*\) .*proved=no$/\1/p' "$log" | tail -n 1)
   if [ -z "$status" ]; then
     tail -n 20 "$log" >&2

@@ -103,7 +103,7 @@ end_lanes() {
 
 # Proves and builds the crates in both lanes.
 build_in_lanes() {
-  local todo made=' ' second=0 at status=0 of=('' '') pid=()
+  local todo made=' ' second=0 at status=0 waited='' of=('' '') pid=()
   crates=${crates//$'\n'/ }
   todo=" $(longest_first | sed 's/$/ /' | tr '\n' ' ') "
   trap 'end_lanes; exit 130' INT TERM
@@ -113,6 +113,7 @@ build_in_lanes() {
     second=$((second + 1))
     [ ! -t 2 ] && [ $((second % 60)) -ne 0 ] || show_progress
     for at in 0 1; do
+      [ -z "${of[at]}" ] || say_wait "$log/${of[at]}" "${of[at]}"
       [ -n "${of[at]}" ] && ! kill -0 "${pid[at]}" 2>/dev/null || continue
       end_in $at || { status=1 of[at]=''; break; }
     done

@@ -5,7 +5,7 @@
 # Keeps what is asked behind a filing, in the folder `aside`.
 keep_before() {
   aside=''
-  [ "${1-}" = file ] && [ "${TAXI_QUIET-}" != 1 ] && [ -f "${2-}" ] || return 0
+  [ "${1-}" = file ] && ! is_quiet && [ -f "${2-}" ] || return 0
   aside=$(mktemp -d -p /dev/shm 2>/dev/null || mktemp -d) || return 0
   trap 'rm -rf "$aside"' EXIT
   [ ! -e taxi.log ] || cp taxi.log "$aside" 2>/dev/null || true

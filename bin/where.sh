@@ -3,18 +3,25 @@
 # hasn't changed since the run began.
 
 # At most $1 bytes of the input, 80 without it, as a terminal may have them: control characters as ^X, and what is no
-# text in UTF-8 as \xHH. A character that the end cuts is left out.
+# text in UTF-8 as \xHH, and so what stands in a text unseen, as a byte order mark. A character that the end cuts is left
+# out.
 shown() {
   local most=${1:-80}
   od -An -v -tu1 -N $((most + 1)) | LC_ALL=C awk -v most="$most" '
     function spell() { for (i = 1; i <= n; i++) text = text sprintf("\\x%02x", part[i]); n = wanted = 0 }
     function print_part() { for (i = 1; i <= n; i++) text = text sprintf("%c", part[i]); n = 0 }
+    # Control characters, blanks that do not break, and marks without a width.
+    function is_unseen() {
+      if (part[1] == 194) return part[2] <= 160 || part[2] == 173
+      if (part[1] == 226 && part[2] == 128) return part[3] >= 139 && part[3] <= 143 || part[3] >= 168 && part[3] <= 174
+      return part[1] == 226 && part[2] == 129 && part[3] >= 160 || part[1] == 239 && part[2] == 187 && part[3] == 191
+    }
     { for (k = 1; k <= NF; k++) {
         byte = $k + 0
         if (++at > most) { is_cut = 1; next }
         if (wanted > 0 && byte >= 128 && byte < 192) {
           part[++n] = byte
-          if (--wanted == 0) { if (part[1] == 194 && part[2] < 160) spell(); else print_part() }
+          if (--wanted == 0) { if (is_unseen()) spell(); else print_part() }
           continue
         }
         spell()
@@ -107,7 +114,8 @@ say_unreadable() {
   name_files "$@"
   for file in "${named[@]}"; do
     why=''
-    if [ ! -e "$file" ]; then why='is not there'
+    if [ "$file" = - ] && [ ! -e - ]; then why='is not there; the standard input is /dev/stdin'
+    elif [ ! -e "$file" ]; then why='is not there'
     elif [ -d "$file" ]; then why='is a folder'
     elif [ ! -r "$file" ]; then why='may not be read'
     elif [ -f "$file" ] && ! head -c 1 <"$file" >/dev/null 2>&1; then why='cannot be read'; fi
@@ -119,7 +127,10 @@ say_unreadable() {
 say_where() {
   local status=$1 file='' other='' question=() named fault word
   shift
-  [ "$status" -ne 7 ] || { say_unreadable "$@"; return; }
+  case $status in
+    7) say_unreadable "$@"; return ;;
+    8) say_seen; return ;;
+  esac
   question_of "$status" "$@"
   [ ${#question[@]} -gt 0 ] && [ -n "${began-}" ] || return 0
   name_files "${question[@]}"

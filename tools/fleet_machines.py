@@ -9,6 +9,7 @@ import re
 import shlex
 import shutil
 import subprocess
+import sys
 
 from program import TOP, Refused, read
 
@@ -30,6 +31,22 @@ def machines_in(path):
     return machines
 
 
+def whole_names(name):
+    """The whole names of a folder, with links and without."""
+    return {os.path.normpath("/" + os.path.abspath(name).lstrip("/")), os.path.realpath(name)}
+
+
+def named_otherwise(asked):
+    """For each folder that an entry names, though not as it stands in the call, that entry."""
+    entries = {name: entry for entry in asked.machines for name in whole_names(entry)}
+    found = {}
+    for folder in asked.folders:
+        entry = next((entries[name] for name in whole_names(folder) if name in entries), None)
+        if entry is not None and folder not in asked.machines:
+            found[folder] = entry
+    return found
+
+
 def job_of(folder, asked):
     """A job as letters and digits alone, so that no shell sees a name."""
     name = folder if folder in asked.machines else os.path.abspath(folder)
@@ -43,8 +60,8 @@ def tariff_here(name):
 
 
 def answers_of(machine, jobs, asked):
-    """The row of each job that answers, and what GNU parallel says first. The jobs run on that machine, or on this one
-    where it has no name."""
+    """The row of each job that answers, and what was said besides. The jobs run on that machine, or on this one where
+    it has no name."""
     words = ["parallel", "--plain", "--will-cite", "-j", "100%"]
     if machine:
         words += ["-S", machine] + (
@@ -57,23 +74,44 @@ def answers_of(machine, jobs, asked):
         job, _, row = line.partition(" ")
         if job in jobs:
             rows[job] = json.loads(row)
-    return rows, done.stderr.strip().splitlines()[:1]
+    said = [line for line in done.stderr.splitlines() if line.strip() and not line.startswith("parallel: Warning: ")]
+    return rows, said
+
+
+def answers_by_machine(jobs, asked):
+    """The row of each job that answered, on all machines side by side. What ssh said is printed once a machine."""
+    by_machine = collections.defaultdict(dict)  # of jobs as keys, since two names of a folder are one job
+    for folder, job in jobs.items():
+        by_machine[asked.machines.get(folder, "")][job] = folder
+    answers = {}
+    with concurrent.futures.ThreadPoolExecutor(len(by_machine) or 1) as pool:
+        found = pool.map(lambda machine: answers_of(machine, by_machine[machine], asked), by_machine)
+        for machine, (rows, said) in zip(by_machine, found):
+            answers |= rows
+            for line in dict.fromkeys(said):
+                print(f"fleet: {machine or 'here'}: {line}", file=sys.stderr, flush=True)
+    return answers
+
+
+def row_there(row, machine, asked):
+    """A row of another machine, which says where a file is to lie that isn't there."""
+    name = os.path.basename(asked.tariff)
+    if row["status"] == "refused" and not os.path.isabs(asked.tariff) and row["why"].startswith(f"{name}: "):
+        row["why"] += f"; a tariff without a whole name lies in each folder on {machine}"
+    return row
 
 
 def rows_of_runs(asked):
     """A row for each folder, in their order, when all have ended."""
     if not shutil.which("parallel"):
         raise Refused(125, "GNU parallel is not installed (on Debian: apt-get install parallel)")
-    jobs = {folder: job_of(folder, asked) for folder in asked.folders}
-    by_machine = collections.defaultdict(list)
-    for folder, job in jobs.items():
-        by_machine[asked.machines.get(folder, "")].append(job)
-    with concurrent.futures.ThreadPoolExecutor(len(by_machine)) as pool:
-        answers = dict(
-            zip(by_machine, pool.map(lambda machine: answers_of(machine, by_machine[machine], asked), by_machine))
-        )
-    for folder, job in jobs.items():
+    otherwise = named_otherwise(asked)
+    jobs = {folder: job_of(folder, asked) for folder in asked.folders if folder not in otherwise}
+    answers = answers_by_machine(jobs, asked)
+    for folder in dict.fromkeys(asked.folders):
         machine = asked.machines.get(folder, "")
-        rows, said = answers[machine]
-        silent = {"status": "unknown", "why": "; ".join(["no answer: look there for begun", *said])}
-        yield {"folder": folder, "machine": machine} | rows.get(job, silent)
+        if folder in otherwise:
+            row = {"status": "refused", "why": f"--machines names this folder as {otherwise[folder]}: name it so"}
+        else:
+            row = answers.get(jobs[folder], {"status": "unknown", "why": "no answer: look there for begun"})
+        yield {"folder": folder, "machine": machine} | (row_there(row, machine, asked) if machine else row)

@@ -16,6 +16,8 @@ class Meter(NamedTuple):
     mode: str  # single or double
     hold: int
     offsets: list  # of a second and the offset from it on
+    taxi: str
+    secured: str
 
     def offset_at(self, second):
         return [offset for begins, offset in self.offsets if begins <= second][-1]
@@ -29,16 +31,22 @@ class Meter(NamedTuple):
         )
 
 
+def sealed_meter(tariff, params, sealed):
+    """The meter of a tariff and parameters of which `sealed` says this."""
+    lines = [line.split(" ") for line in sealed.decode().splitlines()]
+    said = {words[0]: words[1] for words in lines}
+    offsets = [(int(words[1]), int(words[2])) for words in lines if words[0] == "offset"]
+    numbers = int(said["constant"]), said["mode"], int(said["hold"])
+    return Meter(tariff, params, *numbers, offsets, said["taxi"], said["secured"])
+
+
 def meter_of(taxi, asked):
     """The meter that is sealed with the tariff and the parameters that were asked for, in the program's folder."""
     tariff, params = read(asked.tariff), params_of(asked)
     printed, status = taxi.call("seal", "tariff", "params", tariff=tariff, params=params)
     if status:
         raise Refused(status, f"the store can't be sealed: {printed.decode().strip()}")
-    lines = [line.split(" ") for line in taxi.call("sealed")[0].decode().splitlines()]
-    said = {words[0]: words[1] for words in lines}
-    offsets = [(int(words[1]), int(words[2])) for words in lines if words[0] == "offset"]
-    return Meter(tariff, params, int(said["constant"]), said["mode"], int(said["hold"]), offsets)
+    return sealed_meter(tariff, params, taxi.call("sealed")[0])
 
 
 def asked_of(taxi, meter, command, drive):

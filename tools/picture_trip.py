@@ -1,7 +1,10 @@
 """What a meter shows over the time of a drive: fares and supplements, operating positions, keys, losses of supply, and
 the line of the rate by which it charges."""
 
+import datetime
 from typing import NamedTuple
+
+from matplotlib.ticker import MaxNLocator
 
 from drives import SECOND
 from meter import LAST, hirings_of, meter_of, tenths
@@ -16,6 +19,9 @@ MARK, MARKED = "U 946684800", "REFUSED POWERED"  # a second power-up is refused 
 WIDTH, HEIGHT, STRIP, KEYS = 9.0, 3.4, 0.3, 0.55  # inches
 
 
+KEYS_SAID = {"H": "Hire", "S": "Stop", "C": "Clear", "P": "tariff position", "Z": "zone", "E": "supplement"}
+
+
 class Moment(NamedTuple):
     """A place of a drive at which it is marked: the ticks before it, and how many of the parted lines stand before
     it."""
@@ -24,12 +30,22 @@ class Moment(NamedTuple):
     lines: int
 
 
+class Reading(NamedTuple):
+    """A reading of the clock: whether the supply came with it, how many moments there were before, the ticks, and the
+    second."""
+
+    is_power_up: bool
+    moments: int
+    ticks: int
+    second: int
+
+
 class Parted:
     """A drive in parts: its lines, the same with marks, and when keys were pressed and the supply was lost."""
 
     def __init__(self, text):
         self.lines, self.marked, self.is_mark, self.moments = [], [], [], []
-        self.keys, self.losses, self.powered, self.ticks, self.clock = [], [], [], 0, 0
+        self.keys, self.losses, self.readings, self.ticks, self.clock = [], [], [], 0, 0
         lines = [line for line in text.decode().replace("\r\n", "\n").split("\n") if line and not line.startswith("#")]
         whole = sum(int(line.split()[2]) for line in lines if line.startswith("I "))
         self.part = max(1, whole // POINTS)
@@ -42,13 +58,13 @@ class Parted:
         word, *rest = line.split()
         if word == "U":
             self.is_mark += [False] * self.is_on
-            self.clock = max(self.clock, int(rest[0]))
+            self.read_clock(not self.is_on, int(rest[0]))
             self.is_on = True
         elif word == "D":
             self.losses += [self.ticks] * self.is_on
             self.is_on = False
-        elif word == "C" and self.is_on:
-            self.clock = max(self.clock, int(rest[0]))
+        elif word == "C":
+            self.read_clock(False, int(rest[0]))
         elif word == "K" and self.is_on:
             self.keys.append((self.ticks, "".join(rest)))
         if word != "I":
@@ -59,6 +75,11 @@ class Parted:
             count = min(left, self.part)
             self.put(f"I {rest[0]} {count}", count)
             left -= count
+
+    def read_clock(self, is_power_up, second):
+        if is_power_up or self.is_on:
+            self.clock = max(self.clock, second)
+            self.readings.append(Reading(is_power_up, len(self.moments), self.ticks, second))
 
     def put(self, line, ticks):
         self.lines.append(line)
@@ -142,6 +163,37 @@ def joined(pieces):
     return whole
 
 
+class Clock:
+    """What the meter's clock says as time passes: its last reading, and the time since. In a trip an earlier second than the
+    last one is refused."""
+
+    def __init__(self, parted, displays, meter):
+        self.meter, self.read = meter, []
+        for reading in parted.readings:
+            is_in_trip = reading.moments and displays[reading.moments - 1] and displays[reading.moments - 1][0] != "FOR"
+            if reading.is_power_up or not is_in_trip or reading.second >= self.read[-1].second:
+                self.read.append(reading)
+
+    def at(self, ticks):
+        """Local time after so many ticks with supply."""
+        last = [reading for reading in self.read if reading.ticks <= ticks][-1]
+        second = min(LAST, last.second + int(ticks - last.ticks) // SECOND)
+        return datetime.datetime.fromtimestamp(second + self.meter.offset_at(second), datetime.timezone.utc)
+
+
+def draw_times(axes, clock, width, unit, unit_name):
+    """The seconds or minutes below the picture, and below each the clock."""
+    places = [place for place in MaxNLocator(8, steps=[1, 2, 3, 5, 6, 10]).tick_values(0, width) if 0 <= place <= width]
+    axes.set_xticks(places, [f"{place:g}\n{clock.at(place * unit):%H:%M:%S}" for place in places])
+    axes.set_xlabel(f"time with supply ({unit_name}), and the clock from {clock.at(0):%A} {clock.at(0).date()} on")
+
+
+def keys_said(parted):
+    """What the keys of a drive are called."""
+    said = [f"{key} is {name}" for key, name in KEYS_SAID.items() if any(pressed[0] == key for _, pressed in parted.keys)]
+    return [f"Keys: {', '.join(said)}"] if said else []
+
+
 def draw_fares(axes, parted, displays, unit):
     """The fare and the supplements as steps, and the time in which the meter is stopped."""
     times = [moment.ticks / unit for moment in parted.moments]
@@ -176,6 +228,7 @@ def draw_fares(axes, parted, displays, unit):
         0, 1.15 * max([float(amount) for shown in displays if shown for amount in shown[1:] if amount], default=1)
     )
     axes.grid(axis="y", color="#dddddd", linewidth=0.6)
+    axes.set_ylabel("money of the tariff")
     axes.legend(loc="best", frameon=True, fontsize=8)
 
 
@@ -238,10 +291,8 @@ def trip(taxi, text, name, asked):
     unit, unit_name = (60 * SECOND, "minutes") if parted.ticks > 3000 else (SECOND, "seconds")
     width = parted.ticks / unit
     used = [line for line in of_kind(tables.lines, "rate") if line.number in {piece[2] for piece in pieces}]
-    legend = rows_of_legend(text, used)
-    figure = new_figure(
-        WIDTH + 1.0, 0.5 + KEYS + HEIGHT + STRIP + 0.75 + sum(0.2 * len(rows) + 0.04 for _, rows in legend)
-    )
+    legend, keys, under = rows_of_legend(text, used), keys_said(parted), 0.45 + KEYS + HEIGHT + STRIP + 0.8
+    figure = new_figure(WIDTH + 1.0, under + 0.25 * len(keys) + 0.1 + sum(0.2 * len(rows) + 0.04 for _, rows in legend))
     write_at(figure, 0.35, 0.12, f"{name}, {asked.drive.name}: what the meter shows", fontsize=11)
     marks = axes_in(figure, 0.75, 0.45, WIDTH, KEYS)
     fares = axes_in(figure, 0.75, 0.45 + KEYS, WIDTH, HEIGHT)
@@ -252,11 +303,9 @@ def trip(taxi, text, name, asked):
     draw_fares(fares, parted, displays, unit)
     fares.set_xticklabels([])
     draw_strip(strip, pieces, tables, unit, width)
-    strip.set_xlabel(f"{unit_name} with supply")
-    draw_legend(
-        figure,
-        legend,
-        0.45 + KEYS + HEIGHT + STRIP + 0.6,
-        {line.number: at for at, line in enumerate(of_kind(tables.lines, "rate"))},
-    )
+    draw_times(strip, Clock(parted, displays, meter), width, unit, unit_name)
+    for said in keys:
+        write_at(figure, 0.35, under, said, fontsize=8)
+    places = {line.number: at for at, line in enumerate(of_kind(tables.lines, "rate"))}
+    draw_legend(figure, legend, under + 0.25 * len(keys), places)
     return svg_of(figure)

@@ -11,7 +11,8 @@ from tariff_faults import of_kind
 MOST_PANELS = 6
 TOP = 0.38  # inches above the panels
 DAY = 1440
-ROW, HEAD, FOOT, WIDTH = 0.26, 0.46, 0.3, 4.3  # inches of a day, of what stands over and under a panel, and across
+# Inches of a day, of what stands over and under a panel, of a panel, and of the names of its days.
+ROW, HEAD, FOOT, WIDTH, LEFT = 0.26, 0.46, 0.5, 4.3, 1.15
 LEGEND_LETTERS = 118
 
 
@@ -106,6 +107,7 @@ def draw_panel(axes, panel, week, tables, places):
     title, kind, rows = panel
     axes.set(xlim=(0, DAY), ylim=(7, 0), xticks=range(0, DAY + 1, 180), yticks=[at + 0.5 for at in range(7)])
     axes.set_xticklabels([f"{hour:02}:00" for hour in range(0, 25, 3)], fontsize=7.5)
+    axes.set_xlabel("local time (hours and minutes)", fontsize=7.5, labelpad=2)
     holidays = holidays_in(tables, week)
     axes.set_yticklabels([f"{day:%a} {day.day} {day:%b}{' *' if day in holidays else ''}" for day in week])
     axes.tick_params(length=2)
@@ -157,29 +159,56 @@ def draw_legend(figure, legend, top, places):
         top += 0.04
 
 
+def week_of(day):
+    """The seven days of the week of a day."""
+    monday = day - datetime.timedelta(days=day.weekday())
+    return [monday + datetime.timedelta(days=at) for at in range(7)]
+
+
+def weeks_of(tables, day):
+    """The week of a day; and beside it, where it has no holiday and the tariff has one, that of the next holiday, or of the
+    last where none is to come."""
+    week = week_of(day)
+    holidays = sorted(datetime.date(*line.parts["date"]) for line in of_kind(tables.lines, "holiday"))
+    if not holidays or holidays_in(tables, week):
+        return [week]
+    return [week, week_of(next((holiday for holiday in holidays if holiday > day), holidays[-1]))]
+
+
+def placed(tables, weeks, asked):
+    """The panels from the top: each with the days of its week, and its row and column. One week has its panels in two
+    columns; of two weeks each has a column."""
+    panels = [panels_of(tables, days, asked) for days in weeks]
+    if len(weeks) == 1:
+        return [(panel, weeks[0], at // 2, at % 2) for at, panel in enumerate(panels[0])]
+    return [(panel, weeks[column], row, column) for column in range(2) for row, panel in enumerate(panels[column])]
+
+
+def places_of(tables):
+    """The place among the colours and patterns of each line."""
+    return {line.number: place for kind, first in (("rate", 0), ("initial", 4), ("minimum", 6))
+            for place, line in enumerate(of_kind(tables.lines, kind), first)}
+
+
+def said_of(tables, weeks):
+    """Which weeks are drawn."""
+    said = f"the week of {weeks[0][0]}" + (f", and that of {weeks[1][0]} with a holiday" if weeks[1:] else "")
+    return said + (" (* is a holiday)" if any(holidays_in(tables, days) for days in weeks) else "")
+
+
 def week(taxi, text, name, asked):
-    """The picture of a week."""
+    """The picture of a week, and of one with a holiday beside it."""
     tables = tables_of(taxi, text, asked.constant)
     need_place(tables, asked.position, asked.zone)
-    monday = asked.week - datetime.timedelta(days=asked.week.weekday())
-    days = [monday + datetime.timedelta(days=at) for at in range(7)]
-    panels = panels_of(tables, days, asked)
-    legend = legend_of(text, panels)
-    places = {
-        line.number: place
-        for kind in ("rate", "initial", "minimum")
-        for place, line in enumerate(of_kind(tables.lines, kind), {"rate": 0, "initial": 4, "minimum": 6}[kind])
-    }
-    height = (len(panels) + 1) // 2 * (HEAD + 7 * ROW + FOOT)
-    figure = new_figure(
-        2 * (WIDTH + 1.0) + 0.1, TOP + height + 0.1 + sum(0.2 * len(rows) + 0.04 for _, rows in legend) + 0.1
-    )
-    starred = " (* is a holiday)" if holidays_in(tables, days) else ""
-    write_at(figure, 0.35, 0.12, f"{name}, tariff position {asked.position}, zone {asked.zone}{starred}", fontsize=11)
-    for at, panel in enumerate(panels):
-        axes = axes_in(
-            figure, 0.85 + at % 2 * (WIDTH + 1.0), TOP + at // 2 * (HEAD + 7 * ROW + FOOT) + HEAD, WIDTH, 7 * ROW
-        )
+    weeks = weeks_of(tables, asked.week)
+    panels, places = placed(tables, weeks, asked), places_of(tables)
+    legend = legend_of(text, [panel for panel, *_ in panels])
+    high = HEAD + 7 * ROW + FOOT
+    height = (1 + max(row for _, _, row, _ in panels)) * high
+    figure = new_figure(2 * (WIDTH + LEFT) + 0.25, TOP + height + 0.1 + sum(0.2 * len(rows) + 0.04 for _, rows in legend) + 0.1)
+    write_at(figure, 0.35, 0.12, f"{name}, tariff position {asked.position}, zone {asked.zone}, {said_of(tables, weeks)}", fontsize=11)
+    for panel, days, row, column in panels:
+        axes = axes_in(figure, LEFT + column * (WIDTH + LEFT), TOP + row * high + HEAD, WIDTH, 7 * ROW)
         draw_panel(axes, panel, days, tables, places)
     draw_legend(figure, legend, TOP + height + 0.1, places)
     return svg_of(figure)

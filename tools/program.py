@@ -26,9 +26,8 @@ class Differs(Exception):
 
 def called(program, folder, *words):
     """What a program of bin/ prints to words in a folder, and its status. Nobody would see its warnings."""
-    command = TOP / "bin" / program
     done = subprocess.run(
-        [command, *words],
+        [TOP / "bin" / program, *words],
         cwd=folder,
         env={**os.environ, "TAXI_QUIET": "1"},
         stdin=subprocess.DEVNULL,
@@ -37,7 +36,7 @@ def called(program, folder, *words):
         check=False,
     )
     if done.returncode == 125:
-        raise Refused(125, f"{command} was not built; run it once by itself to see why")
+        raise not_built(program)
     return done.stdout, done.returncode
 
 
@@ -63,6 +62,32 @@ class Scratch:
         for name, content in texts.items():
             pathlib.Path(self.folder.name, name).write_bytes(content)
         return called(self.program, self.folder.name, *words)
+
+
+def make_ready(tool, programs):
+    """Waits until programs are built, and passes on what they say of it, which `called` doesn't show. Each is called in an
+    empty folder, where it finds nothing to do and says so alone."""
+    for program, command in programs:
+        with Scratch(program) as empty, subprocess.Popen(
+            [TOP / "bin" / program, command],
+            cwd=empty.folder.name,
+            stdin=subprocess.DEVNULL,
+            stdout=subprocess.DEVNULL,
+            stderr=subprocess.PIPE,
+            text=True,
+            errors="replace",
+        ) as started:
+            own, of_status = f"{program}: ", f"{program}: status "
+            said = (line for line in started.stderr if line.startswith(own) and not line.startswith(of_status))
+            for place, line in enumerate(said):
+                waits = "" if place else f"{tool}: waits for a build of bin/{program}\n"
+                print(f"{waits}{line}", end="", file=sys.stderr, flush=True)
+        if started.returncode == 125:
+            raise not_built(program)
+
+
+def not_built(program):
+    return Refused(125, f"{TOP / 'bin' / program} was not built; run it once by itself to see why")
 
 
 def read(path):
