@@ -35,7 +35,8 @@ by_test : (d e : Difference) (b : Bool) (rest : Option Difference) → (if not b
 by_test d e true rest h = inr (refl, h)
 by_test d e false rest h = inl (refl, cc)
 
-mapped : (o : Option ℕ) (e : Difference) → option_map Supplement o ≡ Some e → (n : ℕ) × (o ≡ Some n) × (Supplement n ≡ e)
+mapped : (o : Option ℕ) (e : Difference) → option_map Supplement o ≡ Some e
+    → (n : ℕ) × (o ≡ Some n) × (Supplement n ≡ e)
 mapped None e h = absurd (none_some h)
 mapped (Some n) e h = (n, refl, cc)
 
