@@ -171,7 +171,7 @@ pub fn taxi<F: Files, B: Board<STORE_SIZE, L>, L: Ledger>(
     // printed of a bench, a form, lines or a comparison, one for each reply, and two for each byte of a shift book.
     ensures steps { TakesSteps F.Files B.Board (called_by words.now) files.old files.new board.old steps.old steps.new }
 
-    // What the store holds is left alone where it isn't opened, though no clause says that it isn't read; and nothing is
+    // What the store holds is left alone where it isn't opened, though no clause says that it isn't read. Nothing is
     // written but where a command may write.
     ensures kept { ¬ (called_by words.now).opens → KeepsStore B.Board board.old board.new }
     ensures unwritten { ¬ (called_by words.now).writes result → WritesNothing B.Board board.old board.new result }
