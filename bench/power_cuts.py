@@ -97,6 +97,10 @@ class Tried:
             self.faults += [f"{what}: {fault}" for fault in faults]
         return cuts
 
+    def is_over(self):
+        """Whether what was left out was found, so that nothing more is to be tried."""
+        return bool(self.faults) and not self.writes_again
+
     def fault_of(self, check, left, moment):
         found = Folder(self.within, left)
         fault = check(found, moment)
