@@ -86,6 +86,8 @@ def try_failed(tried, subject, chains):
     receipts = receipts_in(traced(tried, contents, words, numbers)[2])
     before, syncs = tried.cuts, sum(name in medium.SYNCS for name, *_ in calls_in(tried, contents, words))
     for turn in range(1, syncs + 1):
+        if tried.is_over():
+            return
         folder, moments, _ = traced(tried, contents, words, numbers, inject=[f"fsync:error=EIO:when={turn}"])
         failed = f"{what} in which sync {turn} fails"
         tried.each(failed, moments[-1:], check(receipts, MORNING), folder, 16)
@@ -104,7 +106,7 @@ def try_killed(tried, subject, chains):
     folder, moments, printed = traced(tried, contents, words, numbers)
     receipts, before, alone = receipts_in(printed), tried.cuts, to_read_alone(tried)
     moments = [moment for moment in moments if moment.medium.is_in_flight(store_of(folder))]
-    for turn, moment in enumerate(moments):
+    for turn, moment in enumerate(moments if not tried.is_over() else []):
         place = Place(folder, moment, receipts)
         go_on(tried, f"{what} that is killed", place, chains[turn % len(chains)], check)
         if tried.writes_again:

@@ -72,12 +72,12 @@ class Folder:
 
 
 class Tried:
-    """How many cuts were tried, how many behind a failed sync, and what was off; how many were counted apart, and behind
-    how many of these something was lost."""
+    """How many cuts were tried, and what was off; how many were counted apart, and behind how many of these something was
+    lost."""
 
     def __init__(self, within, dice, writes_again=True):
         self.within, self.dice, self.writes_again = within, dice, writes_again
-        self.cuts, self.behind, self.faults, self.apart, self.lost = 0, 0, [], 0, 0
+        self.cuts, self.faults, self.apart, self.lost = 0, [], 0, 0
 
     def each(self, what, moments, check, folder, most, apart=False):
         """Tries what cuts at these moments may leave, each once; gives what was left, with its moment."""
@@ -96,6 +96,10 @@ class Tried:
             self.cuts += len(cuts)
             self.faults += [f"{what}: {fault}" for fault in faults]
         return cuts
+
+    def is_over(self):
+        """Whether what was left out was found, so that nothing more is to be tried."""
+        return bool(self.faults) and not self.writes_again
 
     def fault_of(self, check, left, moment):
         found = Folder(self.within, left)
@@ -128,6 +132,7 @@ def moved_to(folder, state, before):
     state.names = {there(path): number for path, number in state.names.items()}
     state.kept = {there(path): number for path, number in state.kept.items()}
     state.moves = [(there(path), number) for path, number in state.moves]
+    state.doubtful = [(there(path), number) for path, number in state.doubtful]
     state.opened = {}
     return state
 
