@@ -102,13 +102,14 @@ help_on_status() {
     END { exit !found }' "$top/$page" 2>/dev/null && echo "more: $page"
 }
 
-# What a refusal of the meter means, by the table of docs/FORMATS.md: `REFUSED` names all of them.
+# What a refusal of the meter means, by the table of docs/FORMATS.md: `REFUSED` and `REFUSED ..` name all.
 help_on_refusal() {
   [ -n "$fault_of_a_line" ] && [[ $1 == REFUSED* ]] || return 1
   asked=$1 awk -F' *[|] *' '
+    BEGIN { asked = ENVIRON["asked"]; sub(/ [.][.]$/, "", asked); asked = asked " " }
     $2 ~ /^`REFUSED / {
       gsub(/`/, "", $2); form = $2; sub(/( [a-z]+)+$/, "", form)
-      if (ENVIRON["asked"] != "REFUSED" && index(ENVIRON["asked"] " ", form " ") != 1) next
+      if (index(asked, form " ") != 1 && index(form " ", asked) != 1) next
       if (!found++) print "the meter refuses the event and goes on (docs/METER.md, \"Operating positions\"):"
       print "  " $2 ": " $3
     }

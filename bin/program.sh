@@ -50,8 +50,8 @@ go_to() {
   fi
 }
 
-# Whether a stream of this process leads into the store.
-leads_to_store() { [ "/proc/$$/fd/$1" -ef "$store" ]; }
+# Whether a stream of this process leads into the store; it isn't asked in a subshell, which has other streams.
+leads_to_store() { [ "/proc/self/fd/$1" -ef "$store" ]; }
 
 # Keeps what is said out of the store, where the standard error leads there. The program gets it as it is, and refuses.
 keep_out_of_store() {

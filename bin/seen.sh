@@ -16,8 +16,8 @@ gone='is a pipe, whose reader may have gone, as | head does when it has its line
 look_behind() {
   local streams=/proc/$$/fd command=$1
   seen=()
-  if [ ! -d "$streams" ]; then
-    [ ! -e "$store" ] || see /proc 'is not there, so the system cannot tell what the outputs are; mount it'
+  if [ ! -d /proc/self/fd ]; then
+    [ ! -e "$store" ] || see /proc 'does not show this process, so nobody can tell what its outputs are; mount it'
     return
   fi
   look_at_outputs
