@@ -34,6 +34,7 @@ def new_tariff(place):
     expect("the parameters", behind[3:], before[3:])
     rows = sealed(place, "--tariff", SIMPLE, folders=folders)
     expect("a second seal", rows, [("0", "", "2", "nothing")] * len(folders))
+    expect("the seals behind it", {taxi(place / name, "sealed")[0].split("\n")[0] for name in folders}, {"# SEAL 2"})
     print("fleet: stores were sealed with a new tariff, once")
 
 
