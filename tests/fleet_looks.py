@@ -103,6 +103,9 @@ def held(place):
     rows, _, _ = fleet(*CHECK, "HG 1", "none", folder=place)
     found = [(row["status"], row["held"], row["begun"]) for row in rows]
     expect("a held trip", found, [("0", "yes", "no"), ("none", "", "")])
+    for text in (b"", b"NUMBER\n", b"\xff", b"HIRINGS x\nFARE 0.00\nSUPPLEMENTS 0.00\n"):
+        (place / "HG 1/opening.totals").write_bytes(text)
+        expect(f"totals before of {text}", checked(place, ["HG 1"]), [("7", "opening.totals is no text of totals")])
     print("fleet: a held trip has its column")
 
 

@@ -54,8 +54,9 @@ def broken(place, name, size):
     """A folder whose run was ended when its roll had so many bytes, and what its whole drive comes to."""
     taxis(place, [name], trips(BEGINS, TRIPS))
     wanted = twin_of(place / name)
+    job = json.dumps([str(place / name), str(TARIFF), "drive"]).encode()
     done = subprocess.run(
-        [TOOLS["fleet"], "one", base64.urlsafe_b64encode(json.dumps([str(place / name), str(TARIFF), "drive"]).encode())],
+        [TOOLS["fleet"], "one", base64.urlsafe_b64encode(job)],
         capture_output=True,
         check=False,
         preexec_fn=lambda: resource.setrlimit(resource.RLIMIT_FSIZE, (size, size)),
@@ -132,8 +133,9 @@ def wait_for(what, is_so):
 
 
 def gated(place):
-    """The tool with a program that waits for the file `gate` before a run."""
-    return tree(place / "tree", f'[ "$1" != run ] || until [ -e "{place}/gate" ]; do sleep 0.02; done')
+    """The tool with a program that waits for the file `gate` before a run, as long as the folder is there."""
+    wait = f'until [ -e "{place}/gate" ] || [ ! -d "{place}" ]; do sleep 0.02; done'
+    return tree(place / "tree", f'[ "$1" != run ] || {wait}')
 
 
 @contextlib.contextmanager
@@ -147,8 +149,12 @@ def waiting(tool, place, *words):
             meters[:] = [number for number in children(run.pid) if words_of(number)[1:3] == [program, b"run"]]
             return bool(meters)
 
-        wait_for("a program that waits", is_there)
-        yield run, meters[0]
+        try:
+            wait_for("a program that waits", is_there)
+            yield run, meters[0]
+        except BaseException:  # then nobody is to wait any longer
+            (place / "gate").write_text("")
+            raise
 
 
 def left_alone(place):

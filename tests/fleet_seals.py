@@ -34,6 +34,7 @@ def new_tariff(place):
     expect("the parameters", behind[3:], before[3:])
     rows = sealed(place, "--tariff", SIMPLE, folders=folders)
     expect("a second seal", rows, [("0", "", "2", "nothing")] * len(folders))
+    expect("the seals behind it", {taxi(place / name, "sealed")[0].split("\n")[0] for name in folders}, {"# SEAL 2"})
     print("fleet: stores were sealed with a new tariff, once")
 
 
@@ -59,7 +60,7 @@ def trip_held(place):
 
 def parameters(place):
     """Parameters of each folder; those of another taxi, none, wrong ones, and a store that went away are refused."""
-    folders = taxis(place, ["same", "new", "other", "none", "wrong", "lost", "first"], trips(BEGINS, 1))
+    folders = taxis(place, ["same", "new", "other", "none", "wrong", "lost", "first", "cut"], trips(BEGINS, 1))
     text = PARAMS.read_text()
     last = [line for line in text.splitlines() if line.startswith("offset ")][-1]
     texts = {
@@ -69,12 +70,14 @@ def parameters(place):
         "wrong": text.replace("hold 120", "hold 700"),
         "lost": text,
         "first": text.replace("HG-0815", "FIRST-1"),
+        "cut": text,
     }
     for name, params in texts.items():
         (place / name / "params").write_text(params)
     expect("a run", fleet("run", "--tariff", TARIFF, "lost", folder=place)[1], 0)
     for name in ("lost", "first"):
         (place / name / "taxi.store").unlink()
+    (place / "cut/taxi.store").write_bytes(bytes(2048))
     found = sealed(place, "--tariff", TARIFF, "--params", "params", folders=folders)
     rows = dict(zip((name[2:] for name in folders), found))
     expect("the same", rows["same"], ("0", "", "1", "nothing"))
@@ -85,6 +88,7 @@ def parameters(place):
     expect("wrong ones", (rows["wrong"][0], rows["wrong"][1][:10]), ("9", "BAD PARAMS"))
     expect("a lost store", (rows["lost"][0], (place / "lost/taxi.store").exists()), ("refused", False))
     expect("a new store", rows["first"], ("0", "", "1", "a first seal"))
+    expect("a first sealing that was cut", rows["cut"], ("0", "", "1", "a first seal"))
     expect("the taxi of another one's parameters", "taxi HG-0815" in taxi(place / "other", "sealed")[0], True)
     (place / "bad.tariff").write_text("step 0.10\n")
     rows = sealed(place, "--tariff", "bad.tariff", folders=["same", "nowhere"])

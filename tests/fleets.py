@@ -12,7 +12,7 @@ from built import PARAMS, TOP
 
 TOOLS = {"fleet": TOP / "tools/fleet"}  # the one that is tried
 BEGINS = 1_772_434_800
-# Names that a shell would take for something else. The files `made` and `touched` must never come.
+# Names that a shell would take for something else. The file `made` must never come.
 NAMES = ["HG 1", "a;touch made", "line\nend", "$(touch made)", "it's 'one'", "-e", "{}", "`touch made`", "x\\", "é ü"]
 
 
@@ -54,8 +54,8 @@ def fleet(*words, folder, tool=None):
 
 
 def tree(place, script):
-    """The tool in a folder like a checkout, where a program is a script: it begins as said, NAME being the program's, and
-    goes on as the program."""
+    """The tool in a folder like a checkout, where a program is a script: it begins as said, NAME being the program's,
+    and goes on as the program."""
     tools = built.tree(place)
     for name, program in (("taxi", built.TAXI), ("hiring_log", built.HIRING_LOG)):
         starter = place / "bin" / name

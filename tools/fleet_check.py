@@ -30,10 +30,13 @@ AT_WORK = {"status": 11, "why": "a run is at work", "begun": "yes"}
 def opening_of(folder):
     """The totals before the first run of the roll."""
     path = os.path.join(folder, OPENING_TOTALS)
-    opening = totals_in(read(path)) if os.path.exists(path) else dict.fromkeys(GROWING, "0")
+    if not os.path.exists(path):
+        return dict.fromkeys(GROWING, Decimal(0))
+    text = read(path)
     try:
+        opening = totals_in(text)
         return {name: Decimal(opening[name]) for name in GROWING}
-    except (KeyError, ArithmeticError):
+    except (LookupError, ValueError, ArithmeticError):
         raise Refused(7, f"{OPENING_TOTALS} is no text of totals") from None
 
 

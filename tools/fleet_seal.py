@@ -11,6 +11,7 @@ from fleet_stores import Unread, asked_of, image_of, text_of, words_in
 from program import Differs, Scratch, called, read
 
 CHANGED = ["seal", "changes"]
+NOT_SEALED = 4
 
 
 class NotSealed(Exception):
@@ -52,15 +53,17 @@ def changes_of(before, behind):
     return [f"{name} {shown(name, old[name])} -> {shown(name, new[name])}" for name in new if old[name] != new[name]]
 
 
-def found_store(folder, is_given):
-    """The bytes of the store and what it was sealed with; None for both where a first sealing with given parameters is
-    to make it."""
-    if (folder / STORE).exists() or not is_given:
-        return image_of(folder) if (folder / STORE).exists() else None, asked_of(folder, "sealed")
+def sealed_before(folder, is_given):
+    """What the store was sealed with; None where a first sealing with given parameters is to make it."""
+    try:
+        return asked_of(folder, "sealed")
+    except Unread as why:
+        if why.status != NOT_SEALED or not is_given:
+            raise
     traces = [name for name in (ROLL, DONE) if (folder / name).exists()]
     if traces:
-        raise NotSealed(f"there is no {STORE}, though there is {traces[0]}: its totals are lost")
-    return None, None
+        raise NotSealed(f"there is no sealed store, though there is {traces[0]}: its totals are lost")
+    return None
 
 
 def tried(image, texts):
@@ -84,7 +87,8 @@ def seal_there(folder, texts, behind):
 
 def sealed_row(folder, asked):
     """The row of a taxi that may be sealed."""
-    image, before = found_store(folder, asked.params is not None)
+    before = sealed_before(folder, asked.params is not None)
+    image = image_of(folder) if (folder / STORE).exists() else None
     params = before if asked.params is None else read(folder / asked.params)
     texts = {"tariff": asked.text, "params": params}
     behind = tried(image, texts)

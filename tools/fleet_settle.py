@@ -118,8 +118,9 @@ def left_before(folder, begun):
     ended = ended_before(folder, begun.sha256)
     if ended == "done":
         return "nothing"
-    is_left = (folder / begun.drive).resolve() == (folder / LEFT).resolve()
-    if ended == "broken" and is_left and sha256_of(read(folder / LEFT)) != begun.sha256:
+    left = folder / LEFT
+    is_left = left.exists() and left.resolve() == (folder / begun.drive).resolve()
+    if ended == "broken" and is_left and sha256_of(read(left)) != begun.sha256:
         return LEFT
     return None
 

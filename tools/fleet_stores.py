@@ -9,6 +9,7 @@ from fleet_marks import STORE
 from program import Refused, Scratch, called
 
 TOTALS = ["number", "distance", "hired", "hirings", "supplements", "fare", "held", "before_hirings", "before_fare"]
+WITHOUT_LINE = "the store can't be read or written, or is in use"
 SEALED = ["seal", "decimals", "tariff", "taxi", "constant", "mode", "hold", "offsets", "last_offset", "secured"]
 
 
@@ -20,7 +21,7 @@ def text_of(answer):
     """What a program printed, where it ended with 0."""
     text, status = answer
     if status:
-        raise Unread(status, text.decode("ascii", "replace").strip() or "the store can't be read or written, or is in use")
+        raise Unread(status, text.decode("ascii", "replace").strip() or WITHOUT_LINE)
     return text
 
 

@@ -5,8 +5,8 @@ import datetime
 
 from program import TOP
 
-STATUSES = """Statuses: 0; 1 where a row has a status other than 0, or a roll is out of order; 2 for wrong words; 7 for a
-file that can't be read; 125 where the program was not built."""
+STATUSES = """Statuses: 0; 1 where a row has a status other than 0, or a roll is out of order; 2 for wrong words; 7 for
+a file that can't be read; 125 where the program was not built."""
 WHAT = {
     "totals": "what `taxi totals` prints",
     "sealed": "what `taxi sealed` prints",
