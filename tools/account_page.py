@@ -54,9 +54,14 @@ def text_rows(account):
     yield from ["", *wrapped(NOTE, "", "")]
 
 
+def clean(text):
+    """A text in which each letter can be shown: names of files and comments of tariffs may have others."""
+    return "".join(letter if letter.isprintable() or letter == "\n" else "?" for letter in text)
+
+
 def as_text(accounts):
     """The accounts one behind the other."""
-    return "\n\n".join("".join(f"{line}\n" for line in text_rows(account)) for account in accounts)
+    return clean("\n\n".join("".join(f"{line}\n" for line in text_rows(account)) for account in accounts))
 
 
 def cell(text, kind="", name="td"):
@@ -65,7 +70,8 @@ def cell(text, kind="", name="td"):
 
 def charged_rows(account):
     """The table of what was charged."""
-    yield "<table><thead><tr><th></th>" + "".join(cell(name, "number", "th") for name in COLUMNS[:3]) + cell(COLUMNS[3], "exact", "th") + "</tr></thead>"
+    columns = "".join(cell(name, "exact" if name == COLUMNS[3] else "number", "th") for name in COLUMNS)
+    yield f"<table><thead><tr><th></th>{columns}</tr></thead>"
     for name, rows in account.groups:
         yield f'<tr><th class="line" colspan="5">{html.escape(name)}</th></tr>'
         for way, *cells, exact in rows:
@@ -92,5 +98,6 @@ def as_html(accounts):
     """The accounts as pages that print on A4."""
     title = html.escape(accounts[0].title)
     pages = [row for account in accounts for row in article(account)]
-    head = f'<!DOCTYPE html>\n<html lang="en"><head><meta charset="utf-8"><title>{title}</title>\n<style>\n{STYLE}</style></head><body>'
-    return "\n".join([head, *pages, "</body></html>", ""])
+    head = f'<!DOCTYPE html>\n<html lang="en"><head><meta charset="utf-8"><title>{title}</title>\n'
+    head += f"<style>\n{STYLE}</style></head><body>"
+    return clean("\n".join([head, *pages, "</body></html>", ""]))

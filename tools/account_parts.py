@@ -182,7 +182,8 @@ def fare_of(told, tables, meter, unit):
     yield (f"it covers the first {covers}: {rounded(charged, more)} - {covers} = {rounded(above, more)} is above it" if above
            else f"it covers the first {covers}, and so all that was charged"), ""
     if above:
-        yield f"{rounded(above, more)} / {amount}, a display step, is {steps_said(above, Fraction(amount), steps, step['rounding'])}", ""
+        said = steps_said(above, Fraction(amount), steps, step["rounding"])
+        yield f"{rounded(above, more)} / {amount}, a display step, is {said}", ""
     yield "hire fee and display steps", f"{initial} + {steps} x {amount}"
     if minimum := told.one("MINIMUM"):
         yield f"minimum fare, line {minimum[0]}: {numbers[int(minimum[0])]}", f"at least {minimum[1]}"

@@ -11,7 +11,7 @@ import subprocess
 import threading
 import time
 
-from program import TOP, called
+from program import TOP, Refused, called
 
 INTERVAL = 0.1  # seconds, the measuring interval of docs/METER.md
 SECOND = 10  # intervals
@@ -52,9 +52,13 @@ def new_drive(folder):
     """A new file for the drive of one start: panel.drive, and panel.2.drive and so on where earlier ones are there."""
     for number in itertools.count(1):
         path = folder / ("panel.drive" if number == 1 else f"panel.{number}.drive")
-        with contextlib.suppress(FileExistsError):
+        try:
             path.open("x").close()
             return path
+        except FileExistsError:
+            continue
+        except OSError as error:
+            raise Refused(7, f"{path.name} can't be written: {error.strerror}") from None
 
 
 def hirings_in(folder):
@@ -85,7 +89,8 @@ class LiveMeter:
 
     def start(self):
         """Starts the program with a drive of its own, and the supply comes."""
-        self.drive, self.kept = new_drive(self.folder), 0
+        self.drive, self.kept, self.fault = new_drive(self.folder), 0, None
+        self.printed.display = None
         self.program = subprocess.Popen([TOP / "bin/taxi", "run", self.tariff, "/dev/stdin"], cwd=self.folder,
                                         stdin=subprocess.PIPE, stdout=subprocess.PIPE, start_new_session=True)
         self.reader = threading.Thread(target=self.printed.keep, args=[self.program.stdout], daemon=True)
@@ -198,22 +203,28 @@ class LiveMeter:
             with contextlib.suppress(BrokenPipeError):
                 self.program.stdin.close()
             self.away, self.killed = None, self.told()
-            self.start()
+            try:
+                self.start()
+            except Refused as why:
+                self.fault = str(why)
             return True
 
     def told(self):
         """What a kill lost, and what the store has."""
         totals, hirings = hirings_in(self.folder)
-        display = self.printed.display
-        lost = ["No trip was going on. Metres for hire since the last entry are in no total."]
-        if display and display[1] != "FOR HIRE":
-            lost = [f"The trip that was going on showed {display[2]}, and supplements of {display[3]}."]
-            lost.append("It is lost: it has no receipt, and is in no total." if "\nHELD yes\n" not in totals else
-                        "What came behind the last loss of supply is lost. The store has the trip as it was then: it goes on "
-                        f"from there if that was at most {self.meter.hold} s ago.")
-        if hirings > self.opening + self.printed.receipts:
-            lost.append("The store has a hiring whose receipt was not printed whole.")
-        return {"lost": " ".join(lost), "totals": totals}
+        display, is_torn = self.printed.display, hirings > self.opening + self.printed.receipts
+        self.opening = hirings - self.printed.receipts
+        lost = "No trip was going on. Metres for hire since the last entry are in no total."
+        if is_torn:
+            lost = "A trip had just ended: the store has it, and its receipt was not printed whole."
+        elif not display:
+            lost = "It had shown nothing yet."
+        elif display[1] != "FOR HIRE":
+            lost = f"The trip that was going on showed {display[2]}, and supplements of {display[3]}. "
+            lost += "It is lost: it has no receipt, and is in no total." if "\nHELD yes\n" not in totals else (
+                "What came behind the last loss of supply is lost. The store has the trip as it was then: it goes on from there "
+                f"if that was at most {self.meter.hold} s ago.")
+        return {"lost": lost, "totals": totals}
 
     def since(self, number):
         """What the page is to know, and the lines from that number on, of all that were printed."""
