@@ -24,10 +24,11 @@ class Differs(Exception):
     status = 3
 
 
-def called(program, folder, *words):
-    """What a program of bin/ prints to words in a folder, and its status. Nobody would see its warnings."""
+def called(program, folder, *words, command=None):
+    """What a program of bin/ prints to words in a folder, and its status. Nobody would see its warnings. With `command`
+    that file is called."""
     done = subprocess.run(
-        [TOP / "bin" / program, *words],
+        [command or TOP / "bin" / program, *words],
         cwd=folder,
         env={**os.environ, "TAXI_QUIET": "1"},
         stdin=subprocess.DEVNULL,
@@ -40,11 +41,16 @@ def called(program, folder, *words):
     return done.stdout, done.returncode
 
 
+BUILT = {"taxi": "taxi_cli", "hiring_log": "hiring_log"}  # where bin/ has its programs: the crate of each
+
+
 class Scratch:
-    """A new folder in which a program runs, as `taxi` or `hiring_log`."""
+    """A new folder in which a program runs, as `taxi` or `hiring_log`. The first call goes through bin/, which proves
+    and builds what is missing or older than its sources; the others go to the built file itself, since a tool may make
+    a thousand."""
 
     def __init__(self, program):
-        self.program = program
+        self.program, self.command = program, None
         self.folder = tempfile.TemporaryDirectory(prefix="taxi-")
 
     def __enter__(self):
@@ -61,7 +67,10 @@ class Scratch:
             words = (*words, "given")
         for name, content in texts.items():
             pathlib.Path(self.folder.name, name).write_bytes(content)
-        return called(self.program, self.folder.name, *words)
+        answer = called(self.program, self.folder.name, *words, command=self.command)
+        built = TOP / "crates" / BUILT[self.program] / "out" / BUILT[self.program]
+        self.command = built if built.is_file() else None
+        return answer
 
 
 def make_ready(tool, programs):

@@ -10,7 +10,7 @@ import time
 
 TOP = pathlib.Path(__file__).resolve().parent.parent.parent
 sys.path.insert(0, str(TOP / "tools"))
-from judge import NOTHING, NOT_PERMITTED, REFUSAL, WITHIN, joined  # noqa: E402
+from judge import NOTHING, NOT_PERMITTED, REFUSAL, WITHIN  # noqa: E402
 from mutants import LARGE, mutants, wrong_params  # noqa: E402
 from reasons import Driver, reason_of  # noqa: E402
 
@@ -34,8 +34,8 @@ def made(tariff, params, folder, words):
     began = time.monotonic()
     constant = re.search(r"^constant (\d+)", params, re.MULTILINE)[1]
     (folder / "taxi.params").write_text(params)
-    command = [TOP / "tools/verify", "drives", tariff, constant, folder / "kit", "--params", folder / "taxi.params", *words]
-    subprocess.run(command, stdout=subprocess.DEVNULL, check=True)
+    words = ["drives", tariff, constant, folder / "kit", "--params", folder / "taxi.params", *words]
+    subprocess.run([TOP / "tools/verify", *words], stdout=subprocess.DEVNULL, check=True)
     return time.monotonic() - began
 
 
@@ -80,13 +80,18 @@ def driver_of(params, fastest=FASTEST, longest=LONGEST):
     return Driver(fast, longest * 600, datetime.date.fromisoformat(said["secured"]), constant)
 
 
-def beside(meters, folder):
+def beside(meters):
     """How many hirings right meters a little beside show otherwise: not permitted, and within what is permitted."""
-    text = joined(folder / "kit")
     for name, change in BESIDE.items():
-        meters.put("drive", change(text))
-        shown = meters.drive(meters.form)
-        meters.put("drive", text)
-        off = sum(verdict != "PASS" for verdict in meters.verdicts(shown))
-        other = sum(one.fare != two.fare for one, two in zip(shown, meters.right))
-        yield name, off, other - off
+        off = other = 0
+        for text, right in zip(meters.drives, meters.right):
+            shown = meters.drive(change(text), meters.form)
+            wrong = sum(verdict != "PASS" for verdict in meters.verdicts(text, shown))
+            off += wrong
+            other += sum(one.fare != two.fare for one, two in zip(shown, right)) - wrong
+        yield name, off, other
+
+
+def passes(meters):
+    """Whether the right meter passes."""
+    return all(set(meters.verdicts(text, right)) == {"PASS"} for text, right in zip(meters.drives, meters.right))

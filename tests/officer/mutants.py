@@ -1,5 +1,5 @@
-"""Wrong tariffs, each with one change, made from the printed form as letters: nothing here knows how tools/officer turns
-a tariff."""
+"""Wrong tariffs, each with one change, made from the printed form as letters: nothing here knows how tools/officer
+turns a tariff."""
 
 import datetime
 import re
@@ -88,7 +88,8 @@ def of_numbers(head, units, money, step):
     if words[0] == "rate":
         for at, name in ((3, "distance"), (7, "time")):
             value = round(10 * float(words[at]))
-            for new, size in ((-(-value * 1021 // 1000), LARGE), (value * 1000 // 1021, LARGE), (value + 1, SMALL), (value - 1, SMALL)):
+            large = (-(-value * 1021 // 1000), value * 1000 // 1021)
+            for new, size in (*((number, LARGE) for number in large), (value + 1, SMALL), (value - 1, SMALL)):
                 if new > 0:
                     yield size, f"{name} {new / 10}", put(at, f"{new // 10}.{new % 10}")
     for at in {"initial": (1, 3), "minimum": (1,), "supplement": (2,)}.get(words[0], ()):
@@ -158,7 +159,8 @@ def of_line(lines, at, units, money, step, with_days):
         yield size, name, put(new)
     for behind in range(at + 1, len(lines)):
         if lines[behind].split()[0] == head.split()[0] and " when " in lines[behind]:
-            yield LARGE, f"moved behind line {behind + 1}", lines[:at] + lines[at + 1 : behind + 1] + [lines[at]] + lines[behind + 1 :]
+            between, rest = lines[at + 1 : behind + 1], lines[behind + 1 :]
+            yield LARGE, f"moved behind line {behind + 1}", [*lines[:at], *between, lines[at], *rest]
 
 
 def wrong_params(params):

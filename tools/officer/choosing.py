@@ -47,8 +47,8 @@ class Beside:
 
 
 class Choice:
-    """The choice among the hirings of a matrix. On a bench any hiring may be chosen; on the road none that a right meter
-    fails, and for each case the best hiring that hangs on nothing is, too."""
+    """The choice among the hirings of a matrix. On a bench any hiring may be chosen; on the road none that a right
+    meter fails, and for each case the best hiring that hangs on nothing is, too."""
 
     def __init__(self, matrix, beside, is_on_bench):
         self.matrix, self.is_on_bench = matrix, is_on_bench
@@ -90,11 +90,22 @@ class Choice:
                     shares[at] = shares.get(at, 0) + 1
             chosen.add(max(sorted(shares), key=lambda at: shares[at] / self.cost(at)))
             left = [need for need in left if not need & chosen]
-        return self.without_idle(chosen)
+        return sorted(self.improved(self.without_idle(chosen)))
 
-    def without_idle(self, chosen):
+    def improved(self, chosen):
+        """The chosen hirings, or cheaper ones: with one that makes others idle which cost more together."""
+        for at in range(len(self.matrix.hirings)):
+            other = self.without_idle(chosen | {at}, at)
+            if self.sum_of(other) < self.sum_of(chosen):
+                chosen = other
+        return chosen
+
+    def sum_of(self, chosen):
+        return sum(map(self.cost, chosen))
+
+    def without_idle(self, chosen, kept=None):
         """The chosen hirings but those without which all is done too; the dearest are left out first."""
-        for at in sorted(chosen, key=self.cost, reverse=True):
+        for at in sorted(chosen - {kept}, key=self.cost, reverse=True):
             if all(need & (chosen - {at}) for need in self.needs):
                 chosen = chosen - {at}
-        return sorted(chosen)
+        return chosen

@@ -1,5 +1,5 @@
-"""Ends in step: where a difference is less than a display step, a hiring is driven on to where the sum of one tariff has
-begun the next step and that of the other hasn't."""
+"""Ends in step: where a difference is less than a display step, a hiring is driven on to where the sum of one tariff
+has begun the next step and that of the other hasn't."""
 
 from officer.hirings import Leg
 

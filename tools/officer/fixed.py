@@ -1,5 +1,5 @@
-"""Hirings that no line of a tariff asks for: supplements, numbers that aren't there, losses of supply, the longest trip,
-and even speeds beside the cross-over of each rate."""
+"""Hirings that no line of a tariff asks for: supplements, numbers that aren't there, losses of supply, the longest
+trip, and even speeds beside the cross-over of each rate."""
 
 import datetime
 from fractions import Fraction

@@ -33,7 +33,8 @@ def alike(one, other):
 
 def groups(hirings):
     """Hirings with a long way that they have in common, the shortest way first."""
-    left = sorted((hiring for hiring in hirings if hiring.at >= LONG_WAY), key=lambda hiring: (hiring.second, hiring.at))
+    left = [hiring for hiring in hirings if hiring.at >= LONG_WAY]
+    left.sort(key=lambda hiring: (hiring.second, hiring.at))
     while left:
         group = [hiring for hiring in left if alike(left[0], hiring)]
         left = [hiring for hiring in left if hiring not in group]
@@ -74,8 +75,8 @@ class Joining:
             self.matrix.add(hiring, *(purpose for part in parts for purpose in self.matrix.purposes[part]))
 
     def loses(self, hiring, parts):
-        """Whether a joined hiring tells a case less well than its parts, of those that aren't permitted. The others go by
-        where a step begins, and are retuned."""
+        """Whether a joined hiring tells a case less well than its parts, of those that aren't permitted. The others go
+        by where a step begins, and are retuned."""
         at = self.matrix.add(hiring)
         for title, best in self.told_by(parts).items():
             if best > NOT_EQUAL and self.matrix.tried(self.matrix.cases[title], [at])[at] < best:
@@ -83,8 +84,8 @@ class Joining:
         return False
 
     def retune(self, group):
-        """What shows only where a step begins is looked for at the ends of one hiring with the tails of all that show it:
-        an end behind a border tells what is cheaper, and one before it what is dearer."""
+        """What shows only where a step begins is looked for at the ends of one hiring with the tails of all that show
+        it: an end behind a border tells what is cheaper, and one before it what is dearer."""
         told = self.told_by(group)
         cases = [self.matrix.cases[title] for title, best in told.items() if best == NOT_EQUAL]
         places = [self.matrix.hirings.index(hiring) for hiring in group]

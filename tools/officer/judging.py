@@ -157,7 +157,8 @@ def plain_row(values, decimals):
 
 
 def values_of(expected, reading, step):
-    """Each value of a hiring beside its reading. A column that the bench doesn't have is looked at where it was read."""
+    """Each value of a hiring beside its reading. A column that the bench doesn't have is looked at where it was
+    read."""
     for name in QUANTITIES:
         permitted = most(name, expected[name], step)
         shown = reading.values[name] if reading and reading.is_there else None
@@ -172,7 +173,8 @@ def values_of(expected, reading, step):
 
 def verdict_of(values):
     """The verdict of the bench that the values come to."""
-    off = next((value for value in values if value.name in QUANTITIES and value.state != EQUAL and value.state != WITHIN), None)
+    judged = (value for value in values if value.name in QUANTITIES)
+    off = next((value for value in judged if value.state not in (EQUAL, WITHIN)), None)
     return "PASS" if off is None else "MISSING" if off.state == NOT_READ else off.name.upper()
 
 

@@ -67,7 +67,7 @@ class Kit:
     def chosen(self, among=None):
         """The hirings that are chosen; among others that were chosen before, only those that are still needed."""
         choice = Choice(self.matrix, self.beside, self.asked.is_on_bench)
-        return choice.places() if among is None else choice.without_idle(set(among))
+        return choice.places() if among is None else sorted(choice.without_idle(set(among)))
 
     def follow(self, turn):
         """Finds a hiring for a turn, and where it isn't told as it should be, for the same turn by more."""

@@ -175,8 +175,9 @@ class Lister:
             name = f"{number:0{width}}_{slug((self.purposes[hiring] or [''])[0])}.drive"
             lines += ["", *self.entry(number, hiring, name)]
             made.append((name, hiring, self.purposes[hiring]))
+        weaker = [f"{title}: {SAID[best]}{self.because(title)}" for title, best in self.weaker]
         for title, found in (
-            ("Told less well than it should be:", [f"{title}: {SAID[best]}" + self.because(title) for title, best in self.weaker]),
+            ("Told less well than it should be:", weaker),
             ("Told by no drive:", [f"{title}: {reason}" for title, reason in self.untold]),
             ("Left out:", self.kit.notes),
         ):

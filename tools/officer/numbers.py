@@ -82,8 +82,8 @@ def refuse_bad(cells):
     """Names a cell that is no number, whichever sign stands before decimals."""
     for cell in cells:
         if all(value(cell, sign) is None for sign in SIGNS):
-            most = f"with at most {cell.decimals} decimal{'s' * (cell.decimals > 1)}" if cell.decimals else "without decimals"
-            raise BadCell(f"{name_of(cell)} is no number {most}")
+            many = f"with at most {cell.decimals} decimal{'s' * (cell.decimals > 1)}"
+            raise BadCell(f"{name_of(cell)} is no number {many if cell.decimals else 'without decimals'}")
 
 
 def sign_of(cells, has_commas_between):
@@ -95,7 +95,8 @@ def sign_of(cells, has_commas_between):
     fits = [sign for sign in SIGNS if all(value(cell, sign) is not None for cell in cells)]
     if not fits:
         point, comma = (next(cell for cell in cells if value(cell, sign) is None) for sign in SIGNS)
-        raise BadCell(f"{name_of(point)} has a comma before decimals, or points for thousands, and {name_of(comma)} hasn't")
+        signs = f"{name_of(point)} has its decimals behind a comma, and {name_of(comma)} behind a point"
+        raise BadCell(signs)
     if len(fits) == 2:
         for cell in cells:
             if value(cell, ".") != value(cell, ","):

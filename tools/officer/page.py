@@ -8,9 +8,11 @@ STYLE = """@page { size: A4; margin: 16mm 16mm 18mm
   @bottom-right { content: counter(page) " / " counter(pages); font: 8pt "DejaVu Sans" } }
 body { font: 9.5pt "DejaVu Sans", Verdana, sans-serif; max-width: 178mm; margin: auto; color: #000; background: #fff }
 h1 { font-size: 16pt; margin: 0 0 3mm } h2 { font-size: 11pt; margin: 6mm 0 1.5mm; break-after: avoid }
-.result { border: 0.8mm solid #000; padding: 2mm 3mm; font-size: 12pt; font-weight: bold } .bad.result { border-width: 1.6mm }
+.result { border: 0.8mm solid #000; padding: 2mm 3mm; font-size: 12pt; font-weight: bold }
+.bad.result { border-width: 1.6mm }
 ul { margin: 2mm 0; padding-left: 5mm } li { margin: 0.6mm 0 }
-dl { display: grid; grid-template-columns: 52mm auto; gap: 1mm 3mm; margin: 0; align-items: end } dt { font-weight: bold }
+dl { display: grid; grid-template-columns: 52mm auto; gap: 1mm 3mm; margin: 0; align-items: end }
+dt { font-weight: bold }
 dd { margin: 0; overflow-wrap: anywhere } dd.blank { border-bottom: 0.3mm solid #444; min-height: 7mm }
 dd.sign { min-height: 14mm } dd.digest { font: 7pt "DejaVu Sans Mono", monospace }
 table { border-collapse: collapse; width: 100%; font-size: 8pt } thead { display: table-header-group }
@@ -47,7 +49,8 @@ def cell_of(cell, at, is_blank):
 
 def table(part):
     """A table, of which the rows of a reading stay together."""
-    heads = "".join(f'<th{" class=left" if at < LEFT else ""}>{escape(name)}</th>' for at, name in enumerate(part.columns))
+    kinds = [' class="left"' if at < LEFT else "" for at in range(len(part.columns))]
+    heads = "".join(f"<th{kind}>{escape(name)}</th>" for kind, name in zip(kinds, part.columns))
     yield f"<table><thead><tr>{heads}</tr></thead>"
     for number, row in enumerate(part.rows):
         if row[0].rows:

@@ -110,7 +110,8 @@ class Writer:
             return f"{where}: {value.name} wasn't read"
         shown, expected = (self.units(value.name, units) for units in (value.shown, value.expected))
         off = self.off(value)
-        permitted = "exactly that is asked" if value.permitted is None else f"permitted {self.units(value.name, value.permitted)}"
+        permitted = f"permitted {self.units(value.name, value.permitted)}"
+        permitted = "and nothing else is permitted" if value.permitted is None else permitted
         return f"{where}: {value.name} {shown}, expected {expected}{': ' + off if off else ''}, {permitted}"
 
 
@@ -138,8 +139,9 @@ def report_table(judged):
         about = f"{hiring.kind}{' ' + hiring.remark if hiring.remark else ''}"
         for at, value in enumerate(hiring.values):
             height = 0 if at else len(hiring.values)
-            left = [Cell(str(hiring.number), not hiring.passes, height), Cell(f"{hiring.drive} {about}".strip(), False, height)]
-            rows.append(left + writer.cells(value))
+            number = Cell(str(hiring.number), not hiring.passes, height)
+            drive = Cell(f"{hiring.drive} {about}".strip(), False, height)
+            rows.append([number, drive, *writer.cells(value)])
     columns = ["no.", "drive", "value", "read", "expected", "difference", "permitted", "result"]
     return Table("Readings", columns, rows)
 

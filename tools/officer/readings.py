@@ -165,7 +165,7 @@ def in_order(readings, count, name):
     for reading in readings.rows:
         number = reading.values.get("hiring")
         if number is None or not 1 <= number <= count or number in by_number:
-            wrong = "is empty" if number is None else "stands twice" if number in by_number else f"is none of 1 to {count}"
-            raise Refused(10, f"{name}: row {reading.row}, hiring: {'' if number is None else f'{number} '}{wrong}")
+            wrong = f"{number} stands twice" if number in by_number else f"{number} is none of 1 to {count}"
+            raise Refused(10, f"{name}: row {reading.row}, hiring: {'is empty' if number is None else wrong}")
         by_number[number] = reading
     return [by_number.get(number) for number in range(1, count + 1)], []

@@ -161,8 +161,8 @@ class Search:
         return best
 
     def short_ways(self, turn, base):
-        """How late within the minute the clock is set, how far is driven beyond the border that was come to, and what is
-        driven from there, in the order in which it is tried; of a rate so long that 103 steps are driven."""
+        """How late within the minute the clock is set, how far is driven beyond the border that was come to, and what
+        is driven from there, in the order in which it is tried; of a rate so long that 103 steps are driven."""
         if turn.is_of_steps:
             name = turn.rate[1]
             length = self.lengths(self.line_of(turn))[name == "time"]
@@ -215,7 +215,8 @@ class Search:
     def why_not(self, context):
         if context.pulses > context.ticks * self.fast:
             metres = context.pulses * 1000 // self.meter.constant
-            return f"it differs from {metres} m and {context.ticks / SECOND} s on, and no car of {self.kmh} km/h shows it"
+            seconds = context.ticks / SECOND
+            return f"it differs from {metres} m and {seconds} s on, and no car of {self.kmh} km/h shows it"
         if context.kind == "MINIMUM":
             return "the hire fee hides it: the minimum fare isn't above it"
         return f"nothing is charged otherwise at up to {self.fast} pulses an interval"

@@ -7,8 +7,8 @@ DISPLAY = re.compile(r"(?:HIRED|STOPPED) T(\d) Z(\d) ")
 
 
 class Shown(NamedTuple):
-    """What was shown and printed of a hiring: money in its smallest units, the distance in millimetres; position and zone
-    as they were shown last, and how many events were refused since the hiring before it."""
+    """What was shown and printed of a hiring: money in its smallest units, the distance in millimetres; position and
+    zone as they were shown last, and how many events were refused since the hiring before it."""
 
     kind: str
     fare: int

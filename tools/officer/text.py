@@ -18,7 +18,8 @@ def table(part):
     """The rows of a table in columns; the first of them to the left, and a mark before a row with a bad cell."""
     rows = [[cell.text if cell.rows else "" for cell in row] for row in part.rows]
     widths = [max(map(len, column)) for column in zip(part.columns, *rows)]
-    widths = [max(width, BLANK if not any(column) else 0) for width, column in zip(widths, zip(*rows))] if rows else widths
+    if rows:
+        widths = [max(width, 0 if any(column) else BLANK) for width, column in zip(widths, zip(*rows))]
     yield "    " + written(part.columns, widths)
     for cells, row in zip(rows, part.rows):
         if cells[0]:

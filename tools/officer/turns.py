@@ -123,7 +123,8 @@ def border_turns(tariff):
         for path, atom in atoms(line.when) if line.when else ():
             for end, name in borders(atom):
                 for sign in (1, -1):
-                    yield from a_border_turn(tariff, at, path, atom, (end, name), [sign * by for by in FURTHER[atom[0]]])
+                    ways = [sign * by for by in FURTHER[atom[0]]]
+                    yield from a_border_turn(tariff, at, path, atom, (end, name), ways)
 
 
 def a_border_turn(tariff, at, path, atom, border, ways):
@@ -202,18 +203,20 @@ def step_of(tariff):
     return of_kind(tariff.lines, "step")[0].parts["amount"]
 
 
+AMOUNTS = {"initial": (("amount", "fee"), ("covers", "cover")), "minimum": (("amount", "minimum"),)}
+
+
 def amount_turns(tariff):
     """Each hire fee, cover and minimum fare, one and two steps off."""
     step = step_of(tariff)
     for at, line in enumerate(tariff.lines):
-        for part, name in {"initial": (("amount", "fee"), ("covers", "cover")), "minimum": (("amount", "minimum"),)}.get(
-            line.kind, ()
-        ):
+        for part, name in AMOUNTS.get(line.kind, ()):
             for by in (1, 2, -1, -2):
                 new = line.parts[part] + by * step
                 if new >= 0:
                     turned = with_parts(line, **{part: new})
-                    title = f"line {line.number}: the {name} is {abs(by)} step{'s' * (abs(by) > 1)} {'more' if by > 0 else 'less'}"
+                    much = f"{abs(by)} step{'s' * (abs(by) > 1)} {'more' if by > 0 else 'less'}"
+                    title = f"line {line.number}: the {name} is {much}"
                     yield Turn(title, replaced(tariff.lines, at, turned), NOT_EQUAL if abs(by) == 1 else NOT_PERMITTED)
 
 
