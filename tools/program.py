@@ -45,12 +45,12 @@ BUILT = {"taxi": "taxi_cli", "hiring_log": "hiring_log"}  # where bin/ has its p
 
 
 class Scratch:
-    """A new folder in which a program runs, as `taxi` or `hiring_log`. The first call goes through bin/, which proves
-    and builds what is missing or older than its sources; the others go to the built file itself, since a tool may make
-    a thousand."""
+    """A new folder in which a program runs, as `taxi` or `hiring_log`. Calls go through bin/, which proves and builds
+    what is missing or older than its sources. Of a tool that calls it `often` only the first one does, and the others
+    go to the built file itself."""
 
-    def __init__(self, program):
-        self.program, self.command = program, None
+    def __init__(self, program, often=False):
+        self.program, self.often, self.command = program, often, None
         self.folder = tempfile.TemporaryDirectory(prefix="taxi-")
 
     def __enter__(self):
@@ -69,7 +69,7 @@ class Scratch:
             pathlib.Path(self.folder.name, name).write_bytes(content)
         answer = called(self.program, self.folder.name, *words, command=self.command)
         built = TOP / "crates" / BUILT[self.program] / "out" / BUILT[self.program]
-        self.command = built if built.is_file() else None
+        self.command = built if self.often and built.is_file() else None
         return answer
 
 

@@ -63,6 +63,7 @@ class Judged(NamedTuple):
     sealed: dict  # what `sealed` says, by its words
     offsets: list
     crossovers: list  # of fineness.py
+    rates: list  # the `rate` lines
     decimals: int
     form: str
     readings: object
@@ -204,7 +205,7 @@ def version_of(folder):
 
 def judged(asked, content=None):
     """What is to be said of the readings of drives; without readings, what is expected of each hiring."""
-    with Scratch("taxi") as taxi:
+    with Scratch("taxi", often=True) as taxi:
         bench, drives = Bench(taxi, asked), drives_of(asked.drive)
         expected = [bench.expected(drive) for drive in drives]
         count = sum(map(len, expected))
@@ -251,6 +252,7 @@ def judged_of(bench, hirings, drives, crossovers, readings):
         dict(lines),
         [line[1] for line in lines if line[0] == "offset"],
         crossovers,
+        bench.rates,
         bench.decimals,
         bench.well("form", "tariff"),
         readings,

@@ -5,7 +5,7 @@ import hashlib
 from decimal import Decimal
 from typing import NamedTuple
 
-from fineness import decimal, percent_text
+from fineness import decimal, nearest_text, percent_text
 from officer.judging import DECIMALS, EQUAL, NOT_READ, OFF, TOO_MANY, WITHIN
 from officer.readings import EXACT, QUANTITIES
 
@@ -190,8 +190,9 @@ def hirings_driven(judged):
     return sum(bool(hiring.drive) for hiring in judged.hirings)
 
 
-def crossovers(judged):
-    """The cross-over speed of each rate, and what mode S may charge too much there."""
+def crossovers(judged, percent):
+    """The cross-over speed of each rate, and what mode S may charge too much there; and the nearest constants for which
+    that is at most so many percent."""
     pairs = []
     for found in judged.crossovers:
         if found.speed is None:
@@ -202,6 +203,8 @@ def crossovers(judged):
             most = f"at most {percent_text(found.percent)} too much" if found.percent else "never too much"
             said = f"{found.speed} m/h, {decimal(found.pulses)} pulses an interval; at an even speed {most}"
         pairs.append((f"Line {found.line}", said))
+    if judged.sealed["mode"] == "single":
+        pairs.append(("Constants", nearest_text(judged.rates, int(judged.sealed["constant"]), percent)))
     return Facts("Cross-over speeds, and what an even speed may be charged too much", pairs)
 
 
@@ -237,7 +240,7 @@ def form_of(judged, asked):
         verified(judged),
         by_what(judged, False),
         form_table(judged, asked.expected),
-        crossovers(judged),
+        crossovers(judged, asked.percent),
         *at_the_end(judged),
     ]
     return Paper("Verification form", None, "", [], parts)
@@ -250,7 +253,7 @@ def report_of(judged, asked):
         by_what(judged, True),
         filled_in(asked),
         report_table(judged),
-        crossovers(judged),
+        crossovers(judged, asked.percent),
         *at_the_end(judged),
     ]
     return Paper("Verification report", not failures, result_of(judged), failures, parts)

@@ -8,6 +8,7 @@ from typing import NamedTuple
 
 from drives import SECOND
 from officer.ends import Ends
+from officer.fixed import NOON
 from officer.hirings import LATE, Context, Hiring, Leg
 from officer.levels import NOT_EQUAL, NOT_PERMITTED, NOT_TOLD, SHORT_OF_STEPS, level
 from officer.turns import step_of
@@ -16,6 +17,7 @@ from tariff_kinds import IN_CELLS
 
 SHORT = [1, 10, 50, 100, 200, 300, 400, 500, 600]  # ticks
 LONG = [1000, 1600, 2500, 4000, 6000, 10_000, 16_000, 25_000]
+OF_ALL = ("DIFFERENT STEP", "DIFFERENT ROUNDING")  # what each hiring may show
 BEYOND = 20  # ticks that are driven on behind a border of distance or duration, so that a pulse less is no matter
 BASES = [50, 600, 2500]  # ticks behind which an end in step is looked for
 MOST_STEPS = 2000
@@ -121,6 +123,8 @@ class Search:
         masks = [] if turn.is_within and turn.further() else self.masks
         for mask in [None, *masks]:
             context = self.where(turn.lines, mask)
+            if mask is None and context in OF_ALL:
+                context = Context("STEP", 1, 1, self.secured, NOON)
             if not isinstance(context, Context):
                 if mask is None:
                     return Found(NOT_TOLD, None, context or "unsound")
