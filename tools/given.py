@@ -82,10 +82,12 @@ def add_params(parser, with_constant=True):
 
 def params_of(asked):
     """The text of the parameters that were asked for."""
-    text = read(asked.params)
-    if asked.constant:
-        text = re.sub(rb"(?m)^constant [0-9]+", b"constant %d" % asked.constant, text)
-    return text
+    return with_constant(read(asked.params), asked.constant)
+
+
+def with_constant(text, constant):
+    """A text of parameters, with another constant where one is given."""
+    return re.sub(rb"(?m)^constant [0-9]+", b"constant %d" % constant, text) if constant else text
 
 
 def add_place(parser, as_words=True):

@@ -40,9 +40,11 @@ def sealed_meter(tariff, params, sealed):
     return Meter(tariff, params, *numbers, offsets, said["taxi"], said["secured"])
 
 
-def meter_of(taxi, asked):
-    """The meter that is sealed with the tariff and the parameters that were asked for, in the program's folder."""
-    tariff, params = read(asked.tariff), params_of(asked)
+def meter_of(taxi, asked, params=None):
+    """The meter that is sealed with the tariff and the parameters that were asked for, in the program's folder; or with
+    these parameters."""
+    tariff = read(asked.tariff)
+    params = params_of(asked) if params is None else params
     printed, status = taxi.call("seal", "tariff", "params", tariff=tariff, params=params)
     if status:
         raise Refused(status, f"the store can't be sealed: {printed.decode().strip()}")

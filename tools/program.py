@@ -24,10 +24,11 @@ class Differs(Exception):
     status = 3
 
 
-def called(program, folder, *words):
-    """What a program of bin/ prints to words in a folder, and its status. Nobody would see its warnings."""
+def called(program, folder, *words, command=None):
+    """What a program of bin/ prints to words in a folder, and its status. Nobody would see its warnings. With `command`
+    that file is called."""
     done = subprocess.run(
-        [TOP / "bin" / program, *words],
+        [command or TOP / "bin" / program, *words],
         cwd=folder,
         env={**os.environ, "TAXI_QUIET": "1"},
         stdin=subprocess.DEVNULL,
@@ -40,11 +41,16 @@ def called(program, folder, *words):
     return done.stdout, done.returncode
 
 
-class Scratch:
-    """A new folder in which a program runs, as `taxi` or `hiring_log`."""
+BUILT = {"taxi": "taxi_cli", "hiring_log": "hiring_log"}  # where bin/ has its programs: the crate of each
 
-    def __init__(self, program):
-        self.program = program
+
+class Scratch:
+    """A new folder in which a program runs, as `taxi` or `hiring_log`. Calls go through bin/, which proves and builds
+    what is missing or older than its sources. Of a tool that calls it `often` only the first one does, and the others
+    go to the built file itself."""
+
+    def __init__(self, program, often=False):
+        self.program, self.often, self.command = program, often, None
         self.folder = tempfile.TemporaryDirectory(prefix="taxi-")
 
     def __enter__(self):
@@ -61,7 +67,10 @@ class Scratch:
             words = (*words, "given")
         for name, content in texts.items():
             pathlib.Path(self.folder.name, name).write_bytes(content)
-        return called(self.program, self.folder.name, *words)
+        answer = called(self.program, self.folder.name, *words, command=self.command)
+        built = TOP / "crates" / BUILT[self.program] / "out" / BUILT[self.program]
+        self.command = built if self.often and built.is_file() else None
+        return answer
 
 
 def make_ready(tool, programs):
