@@ -8,6 +8,9 @@ import sys
 import tempfile
 
 TOP = pathlib.Path(__file__).resolve().parent.parent
+CRATES = {"taxi": "taxi_cli", "hiring_log": "hiring_log"}
+BUILT = {program: TOP / "crates" / crate / "out" / crate for program, crate in CRATES.items()}
+ANSWERED = set()  # the programs that were called and so are built
 
 
 class Refused(Exception):
@@ -24,11 +27,17 @@ class Differs(Exception):
     status = 3
 
 
-def called(program, folder, *words, command=None):
-    """What a program of bin/ prints to words in a folder, and its status. Nobody would see its warnings. With `command`
-    that file is called."""
+def command_of(program):
+    """What is called for a program: its wrapper, which proves and builds it where that is needed, and once that has
+    answered the built program itself. It ends sooner, which counts where a tool asks thousands of times."""
+    built = BUILT[program]
+    return built if program in ANSWERED and built.exists() else TOP / "bin" / program
+
+
+def called(program, folder, *words):
+    """What a program of bin/ prints to words in a folder, and its status. Nobody would see its warnings."""
     done = subprocess.run(
-        [command or TOP / "bin" / program, *words],
+        [command_of(program), *words],
         cwd=folder,
         env={**os.environ, "TAXI_QUIET": "1"},
         stdin=subprocess.DEVNULL,
@@ -38,19 +47,15 @@ def called(program, folder, *words, command=None):
     )
     if done.returncode == 125:
         raise not_built(program)
+    ANSWERED.add(program)
     return done.stdout, done.returncode
 
 
-BUILT = {"taxi": "taxi_cli", "hiring_log": "hiring_log"}  # where bin/ has its programs: the crate of each
-
-
 class Scratch:
-    """A new folder in which a program runs, as `taxi` or `hiring_log`. Calls go through bin/, which proves and builds
-    what is missing or older than its sources. Of a tool that calls it `often` only the first one does, and the others
-    go to the built file itself."""
+    """A new folder in which a program runs, as `taxi` or `hiring_log`."""
 
-    def __init__(self, program, often=False):
-        self.program, self.often, self.command = program, often, None
+    def __init__(self, program):
+        self.program = program
         self.folder = tempfile.TemporaryDirectory(prefix="taxi-")
 
     def __enter__(self):
@@ -67,10 +72,7 @@ class Scratch:
             words = (*words, "given")
         for name, content in texts.items():
             pathlib.Path(self.folder.name, name).write_bytes(content)
-        answer = called(self.program, self.folder.name, *words, command=self.command)
-        built = TOP / "crates" / BUILT[self.program] / "out" / BUILT[self.program]
-        self.command = built if self.often and built.is_file() else None
-        return answer
+        return called(self.program, self.folder.name, *words)
 
 
 def make_ready(tool, programs):
@@ -93,6 +95,7 @@ def make_ready(tool, programs):
                 print(f"{waits}{line}", end="", file=sys.stderr, flush=True)
         if started.returncode == 125:
             raise not_built(program)
+        ANSWERED.add(program)
 
 
 def not_built(program):

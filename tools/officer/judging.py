@@ -205,7 +205,7 @@ def version_of(folder):
 
 def judged(asked, content=None):
     """What is to be said of the readings of drives; without readings, what is expected of each hiring."""
-    with Scratch("taxi", often=True) as taxi:
+    with Scratch("taxi") as taxi:
         bench, drives = Bench(taxi, asked), drives_of(asked.drive)
         expected = [bench.expected(drive) for drive in drives]
         count = sum(map(len, expected))

@@ -138,7 +138,7 @@ def asked_for(words):
 
 def drives(words):
     """Writes the drives and their list into a new folder; gives the list."""
-    with Scratch("taxi", often=True) as taxi:
+    with Scratch("taxi") as taxi:
         kit = Kit(Program(taxi, words), asked_for(words))
         made = listing(kit, kit.make())
     write(words.folder, made)
