@@ -47,6 +47,12 @@ def told_of(lines):
     )
 
 
+def supply_of(hiring):
+    """Orders hirings by how long the supply is lost. One that is aborted comes last: the keys that are refused behind
+    it would be counted to the next one, which has to show the same whatever it stands behind."""
+    return -1 if hiring.lost is None else hiring.lost
+
+
 class Program:
     """The program, asked about hirings of a meter; its tariff is read by the tools too, and both have to agree."""
 
@@ -96,10 +102,11 @@ class Program:
             self.sealed = (text, params) if status == 0 else None
             if status:
                 return None
-        found = shown_in(self.well("run", "asked", "hirings", hirings=drive_of(hirings)))
+        order = sorted(range(len(hirings)), key=lambda at: supply_of(hirings[at]))
+        found = shown_in(self.well("run", "asked", "hirings", hirings=drive_of([hirings[at] for at in order])))
         if len(found) != len(hirings):
             raise Differs(f"run prints {len(found)} receipts, where {len(hirings)} were driven")
-        return found
+        return [one for _, one in sorted(zip(order, found))]
 
     def show(self, hirings):
         """What the right meter shows of hirings."""

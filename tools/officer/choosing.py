@@ -47,8 +47,8 @@ class Beside:
 
 
 class Choice:
-    """The choice among the hirings of a matrix. On a bench any hiring may be chosen; on the road none that a right
-    meter fails, and for each case the best hiring that hangs on nothing is, too."""
+    """The choice among the hirings of a matrix. On a bench any hiring may be chosen. On the road none is that a right
+    meter fails; and for each case that is more than a unit or a step the best hiring that hangs on nothing is, too."""
 
     def __init__(self, matrix, beside, is_on_bench):
         self.matrix, self.is_on_bench = matrix, is_on_bench
@@ -71,7 +71,8 @@ class Choice:
         """Each case, as the hirings that tell it best, or as well as it should be."""
         for title, row in self.matrix.rows.items():
             most = self.matrix.cases[title].wanted
-            for among in (self.allowed,) if self.is_on_bench else (self.steady, self.allowed):
+            is_small = most < NOT_PERMITTED
+            for among in (self.allowed,) if self.is_on_bench or is_small else (self.steady, self.allowed):
                 levels = {at: min(level, most) for at, level in row.items() if at in among and level > NOT_TOLD}
                 if levels:
                     best = max(levels.values())

@@ -15,9 +15,9 @@ dl { display: grid; grid-template-columns: 52mm auto; gap: 1mm 3mm; margin: 0; a
 dt { font-weight: bold }
 dd { margin: 0; overflow-wrap: anywhere } dd.blank { border-bottom: 0.3mm solid #444; min-height: 7mm }
 dd.sign { min-height: 14mm } dd.digest { font: 7pt "DejaVu Sans Mono", monospace }
-table { border-collapse: collapse; width: 100%; font-size: 8pt } thead { display: table-header-group }
+table { border-collapse: collapse; width: 100%; font-size: 7.5pt } thead { display: table-header-group }
 tbody { break-inside: avoid } tbody tr:first-child td { border-top: 0.5mm solid #000 }
-td, th { border: 0.2mm solid #666; padding: 0.7mm 1.2mm; text-align: right; overflow-wrap: anywhere }
+td, th { border: 0.2mm solid #666; padding: 0.7mm 1mm; text-align: right }
 td.left, th.left { text-align: left; vertical-align: top } td.fill { height: 7mm }
 td.bad { font-weight: bold; border: 0.7mm solid #000; background: #ddd }
 pre { font: 8pt "DejaVu Sans Mono", monospace; margin: 0; white-space: pre-wrap } pre.columns { columns: 3 }

@@ -148,15 +148,25 @@ def conditional(tariff, kind):
 
 
 def line_turns(tariff):
-    """Each line lost, and each two that changed places."""
+    """Each line lost, and each moved behind and before each other one of its kind."""
     for kind in IN_CELLS:
         places = conditional(tariff, kind)
         for number, at in enumerate(places):
             line = tariff.lines[at]
             yield Turn(f"line {line.number}: lost", replaced(tariff.lines, at))
             for other in places[number + 1 :]:
-                lines = replaced(replaced(tariff.lines, at, tariff.lines[other]), other, line)
-                yield Turn(f"lines {line.number} and {tariff.lines[other].number}: changed places", lines)
+                last = tariff.lines[other]
+                between = tariff.lines[at + 1 : other]
+                lines = among(tariff, at, other, [*between, last, line])
+                yield Turn(f"line {line.number}: moved behind line {last.number}", lines)
+                if between:
+                    lines = among(tariff, at, other, [last, line, *between])
+                    yield Turn(f"line {last.number}: moved before line {line.number}", lines)
+
+
+def among(tariff, first, last, lines):
+    """The lines of a tariff with others in the place of those from one to another one."""
+    return [*tariff.lines[:first], *lines, *tariff.lines[last + 1 :]]
 
 
 def holiday_turns(tariff):
