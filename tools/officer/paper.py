@@ -1,7 +1,6 @@
 """What stands on a form and on a report, part by part; both are printed as text and as a page from the same parts."""
 
 import datetime
-import hashlib
 from decimal import Decimal
 from typing import NamedTuple
 
