@@ -33,7 +33,7 @@ setting_with (Ok t) params = setting_from t params
 
 -- the setting of two texts is that of their tariff and of their parameters, or the refusal of the first text that isn't
 -- accepted; `params_read` gives the parameters of a text or its fault, as the law texts_say_their_parameters of
--- seal_store says
+-- seal_record says
 abbrev pub setting_in : (tariff params : List ℕ) → Result Setting Ended
 setting_in tariff params = setting_with (tariff_in tariff) (params_read params)
 

@@ -14,8 +14,8 @@ use outside::{Board, Failed, Files, STORE_SIZE};
 use std::sync::ledger::Ledger;
 use taxi_units::Steps;
 
-/// Reads the drive of a word, and carries out each event as soon as its line is read. The answer is why
-/// no more of the drive is read. At most 64 steps an event.
+/// Reads the drive of a word, and carries out each event as soon as its line is read, though no clause says
+/// when. The answer is why no more of the drive is read. At most 64 steps an event.
 pub(crate) fn carry_drive<C: Carrier<B, L>, F: Files, B: Board<STORE_SIZE, L>, L: Ledger>(
     meter: &mut C,
     by: &SealedTables<'_>,

@@ -21,12 +21,12 @@ use std::sync::ledger::Ledger;
 use tariff_compile::Tables;
 use taxi_units::{Event, Steps};
 
-/// Reads the drive of a word to its end, and carries out each event as soon as its line is read, under
-/// tables that were compiled with the seal's constant. The durable state is a value, which begins with
-/// number 1, totals of zero and no held trip; entries and held trips change it, and an `Up` goes on from
-/// it. Displays and refusals are printed, and no receipts; the store is left as it is. At most 64 steps for
-/// each event of the bytes that were taken, and for the supply drop at the end, if the supply is there then.
-/// It takes no memory itself; the devices may.
+/// Reads the drive of a word to its end, and carries out each event as soon as its line is read, though
+/// no clause says when, under tables that were compiled with the seal's constant. The durable state is a
+/// value, which begins with number 1, totals of zero and no held trip; entries and held trips change it,
+/// and an `Up` goes on from it. Displays and refusals are printed, and no receipts; the store is left as
+/// it is. At most 64 steps for each event of the bytes that were taken, and for the supply drop at the
+/// end, if the supply is there then. It takes no memory itself; the devices may.
 ///
 /// `BadDrive` with the first line that is no line of a drive; `TooLong` where 2^40 bytes were taken, none
 /// of their lines is bad, and the end wasn't told; `ReadFault` only where the count of faults of the word

@@ -24,11 +24,11 @@ use tariff_compile::Tables;
 use taxi_units::{Event, Steps};
 
 /// Reads the drive of a word to its end, and carries out each event on the board as soon as its line is
-/// read, under tables that were compiled with the constant of a seal in its ranges. Displays, refusals and
-/// receipts are printed; entries and held trips are committed to the pair of totals; and an `Up` while the
-/// meter is off scans that pair, and goes on from what it finds. At most 64 steps for each event of the bytes
-/// that were taken, and for the supply drop at the end, if the supply is there then. It takes no memory
-/// itself; the devices may.
+/// read, though no clause says when, under tables that were compiled with the constant of a seal in its
+/// ranges. Displays, refusals and receipts are printed; entries and held trips are committed to the pair
+/// of totals; and an `Up` while the meter is off scans that pair, and goes on from what it finds. At most
+/// 64 steps for each event of the bytes that were taken, and for the supply drop at the end, if the
+/// supply is there then. It takes no memory itself; the devices may.
 ///
 /// `BadDrive` with the first line that is no line of a drive; `TooLong` where 2^40 bytes were taken, none
 /// of their lines is bad, and the end wasn't told; `ReadFault` only where the count of faults of the word
