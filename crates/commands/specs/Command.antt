@@ -6,6 +6,7 @@ use Rattle.commands.specs.Compare.{compare_command}
 use Rattle.commands.specs.Course.{Command, IsReadOnlyCommand}
 use Rattle.commands.specs.Explain.{explain_command}
 use Rattle.commands.specs.Fare.{fare_command}
+use Rattle.commands.specs.Faults.{faults_command}
 use Rattle.commands.specs.Form.{form_command}
 use Rattle.commands.specs.Generate.{gen_command}
 use Rattle.commands.specs.Lines.{lines_command}
@@ -23,7 +24,7 @@ use Rattle.commands.specs.Words.{row_of}
 use Rattle.commands.specs.declared.words.Row.{Row}
 use Rattle.commands.specs.declared.words.Row.TheVariants.{Check, Tables, Fare, Totals, Seal, Run, Bench, Gen}
 use Rattle.commands.specs.declared.words.Row.TheVariants.{Port, Offsets, Mark, Shifts, Sealed, Form, Lines, Explain}
-use Rattle.commands.specs.declared.words.Row.TheVariants.{Compare}
+use Rattle.commands.specs.declared.words.Row.TheVariants.{Compare, Faults}
 
 -- each row of words is a command, and words that are no row are refused
 abbrev pub command_of : Option Row → Command
@@ -45,6 +46,7 @@ command_of (Some Form) = form_command
 command_of (Some (Lines k)) = lines_command k
 command_of (Some Explain) = explain_command
 command_of (Some (Compare k)) = compare_command k
+command_of (Some Faults) = faults_command
 
 -- words only look at the store where their command opens the store and writes nothing; these commands are the six of
 -- `IsStoreQuery`, as the law six_commands_only_look says

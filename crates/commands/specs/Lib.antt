@@ -24,6 +24,7 @@ pub mod Bench
 pub mod Check
 pub mod Explain
 pub mod Fare
+pub mod Faults
 pub mod Form
 pub mod Generate
 pub mod Lines
@@ -49,6 +50,7 @@ pub mod Carried
 pub mod ChainSteps
 pub mod Ending
 pub mod ExplainSteps
+pub mod FaultsSteps
 pub mod FormSteps
 pub mod LinesSteps
 pub mod Opened

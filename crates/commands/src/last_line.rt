@@ -42,6 +42,7 @@ pub fn last_line(ended: Ended) -> Line
         Ended::LongReadings => push_bytes(&mut line, b"BAD READINGS TOO LONG\n"),
         Ended::NotPassed => {}
         Ended::Different => {}
+        Ended::Faulty => {}
         Ended::BadRules(fault) => push_bad_rules(&mut line, fault),
         Ended::LongBook => push_bytes(&mut line, b"BAD BOOK TOO LONG\n"),
         Ended::BadBook(number) => push_number_line(&mut line, b"BAD BOOK ", number),

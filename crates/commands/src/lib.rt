@@ -16,6 +16,7 @@ mod explained_lines;
 mod explained_text;
 mod fare;
 mod fare_seal;
+mod faults;
 mod form;
 mod generate;
 mod judgement;

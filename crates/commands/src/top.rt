@@ -18,6 +18,7 @@ use crate::compare::print_comparison;
 use crate::ending::{Ended, finish};
 use crate::explain::explain;
 use crate::fare::fare;
+use crate::faults::print_faults;
 use crate::form::print_form;
 use crate::generate::generate;
 use crate::lines::print_lines;
@@ -64,6 +65,7 @@ fn carry_out<F: Files, B: Board<STORE_SIZE, L>, L: Ledger>(
         Row::Lines(k) => print_lines(alloc, k, files, board, steps),
         Row::Explain => explain(alloc, files, board, steps),
         Row::Compare(k) => print_comparison(alloc, k, files, board, steps),
+        Row::Faults => print_faults(alloc, files, board, steps),
     }
 }
 
@@ -90,6 +92,7 @@ fn carry_out<F: Files, B: Board<STORE_SIZE, L>, L: Ledger>(
 ///   was on
 /// - `sealed`: what the store was sealed with, as a text of parameters
 /// - `form TARIFF`: the printed form of the tariff, sound or not
+/// - `faults TARIFF`: as `check`, for a sound tariff; at 2 it prints a line of that status for each fault
 /// - `lines TARIFF CONSTANT`: for each line of a kind of which the first that holds counts whether it is ever the one
 ///   that does, and the first context of a meter in which it is
 /// - `explain TARIFF DRIVE PARAMS`: why the fare of each hiring that the drive closes is what it is, on a new store

@@ -2,6 +2,7 @@
 #![tactic(auto)]
 
 mod atoms;
+mod bad_lines;
 mod building;
 mod condition;
 mod conditions;
@@ -18,6 +19,7 @@ mod tokens;
 mod words;
 mod writing;
 
+pub use bad_lines::bad_lines;
 pub use condition::Cond;
 pub use context::Context;
 pub use meaning::{initial_of, minimum_of, rate_of, sat};
@@ -27,7 +29,7 @@ pub use tariff::{
     TariffLine,
 };
 pub use theorems::{
-    first_lines_hold, lines_rise_in_number, parentheses_are_needed, printed_forms_read_back,
+    bad_lines_have_no_form, first_lines_hold, lines_rise_in_number, parentheses_are_needed, printed_forms_read_back,
     texts_are_cut_at_their_line_feeds, texts_are_parsed_as_they_read, texts_have_their_numbers,
     texts_read_as_one_tariff,
 };
