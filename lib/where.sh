@@ -131,15 +131,13 @@ say_line() {
 # Says where each fault of the tariff `file` is that names a line, with a caret below the line's first character, given
 # what `faults` prints.
 say_each_fault() {
-  local lines fault number name
-  name=$(shown_name "$file")
-  mapfile -t lines < <(shown_lines <"$file")
-  while read -r fault; do
-    [[ $fault =~ $fault_of_a_line ]] || continue
-    number=${BASH_REMATCH[-1]}
-    printf '  --> %s:%d: %s\n      %s\n      %*s^\n' "$name" "$number" "${BASH_REMATCH[3]}" \
-      "${lines[number - 1]#* }" "${lines[number - 1]%% *}" '' >&2
-  done <<<"$1"
+  name=$(shown_name "$file") form=$fault_of_a_line LC_ALL=C awk '
+    NR == FNR { lead[NR] = $1; text[NR] = substr($0, length($1) + 2); next }
+    $0 ~ ENVIRON["form"] {
+      print "  --> " ENVIRON["name"] ":" $NF ": " $3
+      print "      " text[$NF]
+      print "      " sprintf("%" lead[$NF] "s", "") "^"
+    }' <(shown_lines <"$file") <(printf '%s\n' "$1") >&2
 }
 
 # Says which files of a call can't be read.

@@ -38,10 +38,10 @@ use Rattle.commands.proofs.Tariffs.{sound_of}
 
 -- ---- what a text is refused for
 
-refused_long : (text : List ℕ) → 65536 < length text → refusals_in text ≡ TooLong ∷ []
+pub refused_long : (text : List ℕ) → 65536 < length text → refusals_in text ≡ TooLong ∷ []
 refused_long text long = rw (lt-ltb 65536 (length text) long) refl
 
-tariff_long : (text : List ℕ) → 65536 < length text → tariff_in text ≡ Err TooLong
+pub tariff_long : (text : List ℕ) → 65536 < length text → tariff_in text ≡ Err TooLong
 tariff_long text long = rw (lt-ltb 65536 (length text) long) refl
 
 pub refused_bad : (text : List ℕ) (line : ℕ) → length text ≤ 65536 → tree_parsed text ≡ Err line

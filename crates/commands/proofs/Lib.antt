@@ -40,6 +40,10 @@ mod ExplainedLines
 mod Explaining
 -- the drive of the command `fare`, under its tariff
 mod Faring
+-- what the command `faults` answers begins with the answer of `check`
+mod FaultsLaws
+-- what the command `faults` found of a text is what it answers
+mod Finding
 -- the test whether a held trip fits the tables decides it
 mod Fitting
 -- a form is its own form

@@ -1,15 +1,19 @@
 //! The command `faults`.
-ghost use Rattle.std.specs.Prelude.{◌≡◌, ◌≢◌, ℕ, ◌<◌, ◌≤◌, ◌++◌, List, None, Err, IfOk, OnOk, length, map};
+ghost use Rattle.std.specs.List.{Contains, slice_get};
+ghost use Rattle.std.specs.Prelude.{◌≡◌, ◌≢◌, ◌↔◌, ℕ, ◌<◌, ◌≤◌, ◌++◌, List, [], Some, None, Err, IfOk, OnOk, length, map};
 ghost use Rattle.outside.specs.Faults.{Rose};
 ghost use Rattle.outside.specs.Reading.{LeavesOthers};
 ghost use Rattle.tariff_check.specs.Faults.{fault_of};
+ghost use Rattle.tariff_syntax.specs.Formless.{HasNoForm};
 ghost use Rattle.tariff_syntax.specs.Parsed.{tree_parsed};
 ghost use Rattle.tariff_syntax.specs.Tree.{tree_of};
 ghost use Rattle.tariff_syntax.specs.Writable.{IsWritable};
 ghost use Rattle.commands.specs.Carried.{Carries};
-ghost use Rattle.commands.specs.Faults.{faults_command, refusal_lines};
-ghost use Rattle.commands.specs.FaultsSteps.{IsFoundIn, IsFoundOf, EndsFile, ended_for_find};
+ghost use Rattle.commands.specs.Check.{check_answer};
+ghost use Rattle.commands.specs.Faults.{faults_command, faults_in, refusal_lines, refusals_in};
+ghost use Rattle.commands.specs.FaultsSteps.{EndsFile, IsFoundIn, IsFoundOf, ended_for_find};
 ghost use Rattle.commands.specs.LastLine.{bad_tariff_line};
+ghost use Rattle.commands.specs.Tariffs.{HasTariff, tariff_in};
 ghost use Rattle.commands.specs.declared.tariff.Refusal.TheVariants.{Syntax, Unsound};
 
 use crate::ending::Ended;
@@ -176,3 +180,18 @@ fn push_line(lines: &mut Vec<u8>, why: Refusal) -> Result<(), NoMemory>
     let line = last_line(Ended::BadTariff(why));
     lines.extend_from_slice(line.as_slice()).map_err(|_| NoMemory)
 }
+
+/// The law of faults: what `faults` prints of a text begins with the line that `check` prints, and has the same status;
+/// of a sound tariff it is that line alone. A text is refused for something exactly where it has no sound tariff, first
+/// for what `check` names; and for a line as `Syntax` exactly where the line has no form.
+pub fn faults_begin_with_the_line_of_check()
+    ensures status { (text : List ℕ) → (faults_in text).status ≡ (check_answer (tariff_in text)).status }
+    ensures begins { (text : List ℕ) → (rest : List ℕ)
+        × ((faults_in text).shown ++ (faults_in text).line ≡ (check_answer (tariff_in text)).line ++ rest) }
+    ensures sound { (text : List ℕ) → HasTariff text → faults_in text ≡ check_answer (tariff_in text) }
+    ensures none { (text : List ℕ) → (refusals_in text ≡ []) ↔ HasTariff text }
+    ensures first { (text : List ℕ) (why : Refusal) → tariff_in text ≡ Err why
+        → slice_get (refusals_in text) 0 ≡ Some why }
+    ensures syntax { (text : List ℕ) (line : ℕ) → length text ≤ 65536
+        → HasNoForm text line ↔ Contains (refusals_in text) (Syntax line) }
+{}

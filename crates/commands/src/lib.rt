@@ -51,6 +51,7 @@ mod years;
 pub use chain_laws::{chains_add_up, receipts_are_in_their_prefix};
 pub use chains::{chain, may_begin};
 pub use command_laws::six_commands_only_look;
+pub use faults::faults_begin_with_the_line_of_check;
 pub use program::{Program, Taximeter};
 pub use same_runs::same_tariffs_print_the_same;
 pub use text_laws::{forms_are_their_own_form, sealed_texts_are_read_back};
