@@ -11,7 +11,7 @@ mod counts;
 mod cuts;
 mod early;
 mod fault;
-mod faults;
+mod all_faults;
 mod found_lines;
 mod measure;
 mod multiples;
@@ -28,7 +28,7 @@ pub use checking::check;
 pub use choice::{Choice, ChoiceKind, ChoiceLine};
 pub use cuts::cut_values;
 pub use fault::{CheckFault, Dimension};
-pub use faults::faults;
+pub use all_faults::faults;
 pub use found_lines::FramePart;
 pub use tariff_syntax::{InitialNumbers, RateNumbers};
 pub use theorems::{

@@ -2,7 +2,7 @@
 #![tactic(auto)]
 
 mod atoms;
-mod bad_lines;
+mod formless;
 mod building;
 mod condition;
 mod conditions;
@@ -19,7 +19,7 @@ mod tokens;
 mod words;
 mod writing;
 
-pub use bad_lines::bad_lines;
+pub use formless::bad_lines;
 pub use condition::Cond;
 pub use context::Context;
 pub use meaning::{initial_of, minimum_of, rate_of, sat};
