@@ -28,7 +28,8 @@ first_of_others : (faults others : List CheckFault)
 first_of_others [] others = refl
 first_of_others (fault ∷ faults) others = refl
 
-first_joined : {A : Type 0} (xs ys : List (Option A)) → first_some (xs ++ ys) ≡ option_or (first_some xs) (first_some ys)
+first_joined : {A : Type 0} (xs ys : List (Option A))
+    → first_some (xs ++ ys) ≡ option_or (first_some xs) (first_some ys)
 first_joined [] ys = refl
 first_joined (x ∷ xs) ys = ap (option_or x) (first_joined xs ys) ∙ sym (or_assoc x (first_some xs) (first_some ys))
 

@@ -19,11 +19,11 @@ use std::alloc::Global;
 use tariff_syntax::{Tariff, TariffLine};
 use taxi_units::NoMemory;
 
-/// All faults of a tariff, in the order of `CheckFault`: each kind of fault once, which names the first line that has it.
-/// Those of cuts and of cells are looked for only where no other is there, and then those of each dimension. The first
-/// is the one that `check` answers, and there is none exactly where the tariff is sound. `NoMemory` where memory runs
-/// out, and where a number of cuts or of cells is above what 32 or 64 bits hold, which no text comes to. That these are
-/// the faults is this project's own.
+/// All faults of a tariff, in the order of `CheckFault`: each kind of fault once, which names the first line that has
+/// it. Those of cuts and of cells are looked for only where no other is there, and then those of each dimension. The
+/// first is the one that `check` answers, and there is none exactly where the tariff is sound. `NoMemory` where memory
+/// runs out, and where there are more cuts or cells than 32 or 64 bits count, which no text comes to. That these are the
+/// faults is this project's own.
 pub fn faults(alloc: Global, tariff: &Tariff) -> Result<Vec<CheckFault>, NoMemory>
     ensures { IfOk result (λ faults. faults.items ≡ all_faults (tree_of tariff.now).lines) }
 {
@@ -89,8 +89,8 @@ fn is_step_zero(lines: &[TariffLine]) -> bool
     }
 }
 
-/// The faults of cuts and of cells, each there or not, in their order. `NoMemory` too where there are more cells than 64
-/// bits count.
+/// The faults of cuts and of cells, each there or not, in their order. `NoMemory` too where there are more cells than
+/// 64 bits count.
 fn faults_from_cuts(alloc: Global, lines: &[TariffLine]) -> Result<[Option<CheckFault>; 5], NoMemory>
     ensures { IfOk result (λ faults. faults ≡ faults_from_cuts (map line_of lines.now)) }
 {

@@ -45,8 +45,8 @@ fn count(alloc: Global, lines: &[TariffLine], dimension: Dimension) -> Result<u3
     }
 }
 
-/// How many cuts some lines have in a dimension. `NoMemory` too where they are more than fit 32 bits, which is more than
-/// 32 GiB of them.
+/// How many cuts some lines have in a dimension. `NoMemory` too where they are more than fit 32 bits, which is more
+/// than 32 GiB of them.
 pub(crate) fn cut_count(
     alloc: Global,
     lines: &[TariffLine],

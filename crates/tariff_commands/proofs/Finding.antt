@@ -34,7 +34,6 @@ use Rattle.call_ends.specs.declared.tariff.Refusal.{Refusal}
 use Rattle.call_ends.specs.declared.tariff.Refusal.TheVariants.{TooLong, Syntax, Unsound}
 use Rattle.call_ends.proofs.Laws.{course-no_memory}
 use Rattle.call_ends.proofs.Laws.{Here, course-part, course-whole}
-use Rattle.call_ends.proofs.Laws.{sound_of}
 
 -- ---- what a text is refused for
 
@@ -46,11 +45,13 @@ tariff_long text long = rw (lt-ltb 65536 (length text) long) refl
 
 pub refused_bad : (text : List ℕ) (line : ℕ) → length text ≤ 65536 → tree_parsed text ≡ Err line
     → (refusals_in text ≡ map Syntax (bad_lines text)) × (tariff_in text ≡ Err (Syntax line))
-refused_bad text line few bad = (rw (le-ltb 65536 (length text) few, bad) refl, rw (le-ltb 65536 (length text) few, bad) refl)
+refused_bad text line few bad =
+    (rw (le-ltb 65536 (length text) few, bad) refl, rw (le-ltb 65536 (length text) few, bad) refl)
 
 pub refused_tree : (text : List ℕ) (t : Tree) → length text ≤ 65536 → tree_parsed text ≡ Ok t
     → (refusals_in text ≡ map Unsound (all_faults t.lines)) × (tariff_in text ≡ sound_in t (fault_of t))
-refused_tree text t few read = (rw (le-ltb 65536 (length text) few, read) refl, rw (le-ltb 65536 (length text) few, read) refl)
+refused_tree text t few read =
+    (rw (le-ltb 65536 (length text) few, read) refl, rw (le-ltb 65536 (length text) few, read) refl)
 
 -- ---- what was found
 
@@ -75,17 +76,20 @@ bad_found text line numbers lines few bad named are = record {
 -- what was found of a tariff is found of a text that reads as it
 pub tree_found : (text : List ℕ) (t : Tariff) (found : Found) → IsParsed text (Ok t) → IsFoundOf (tree_of t) found
     → IsFoundIn text found
-tree_found text t (Sound cells measure) h is = record {
-  tree = tree_of t;
-  reads = sound_of text t None h is.sound;
-  numbers = is.numbers;
-}
-tree_found text t (Faults lines) h is = record {
-  why = Unsound is.first;
-  refused = sound_of text t (Some is.first) h is.unsound;
-  are = is.are ∙ ap refusal_lines (sym (refused_tree text (tree_of t) h.0
-      ((texts_are_parsed_as_they_read-tariff text (tree_of t)).0 h.1)).0);
-}
+tree_found text t (Sound cells measure) h is =
+    let both = refused_tree text (tree_of t) h.0 ((texts_are_parsed_as_they_read-tariff text (tree_of t)).0 h.1) in
+    record {
+      tree = tree_of t;
+      reads = both.1 ∙ ap (sound_in (tree_of t)) is.sound;
+      numbers = is.numbers;
+    }
+tree_found text t (Faults lines) h is =
+    let both = refused_tree text (tree_of t) h.0 ((texts_are_parsed_as_they_read-tariff text (tree_of t)).0 h.1) in
+    record {
+      why = Unsound is.first;
+      refused = both.1 ∙ ap (sound_in (tree_of t)) is.unsound;
+      are = is.are ∙ ap refusal_lines (sym both.0);
+    }
 
 -- a tariff without faults has no first one, and one with faults has
 pub none_first : (t : Tree) → all_faults t.lines ≡ [] → fault_of t ≡ None

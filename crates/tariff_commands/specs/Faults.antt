@@ -1,5 +1,6 @@
 -- Rules: the command `faults TARIFF`.
-use Rattle.std.specs.Prelude.{◌≡◌, ℕ, ◌+◌, ◌≤◌, List, [], ◌∷◌, length, map, None, Result, Ok, Err, if◌then◌else◌, nat_lt}
+use Rattle.std.specs.Prelude.{◌≡◌, ℕ, ◌+◌, ◌≤◌, List, [], ◌∷◌, length, map, None, Result, Ok, Err, if◌then◌else◌}
+use Rattle.std.specs.Prelude.{nat_lt}
 use Rattle.std.specs.List.{flat_map}
 use Rattle.tariff_syntax.specs.BadLines.{bad_lines}
 use Rattle.tariff_syntax.specs.Parsed.{tree_parsed}
@@ -19,9 +20,9 @@ abbrev pub refusals_of : (bad : List ℕ) → Result Tree ℕ → List Refusal
 refusals_of bad (Ok t) = map Unsound (all_faults t.lines)
 refusals_of bad (Err line) = map Syntax bad
 
--- a text is refused because it has more than 65,536 bytes, or else for each line that has no form, or else for each fault
--- of its tariff; `bad_lines` gives the numbers of the lines that have no form, as the law bad_lines_have_no_form of
--- tariff_syntax says
+-- a text is refused because it has more than 65,536 bytes, or else for each line that has no form, or else for each
+-- fault of its tariff; `bad_lines` gives the numbers of the lines that have no form, as the law bad_lines_have_no_form
+-- of tariff_syntax says
 abbrev pub refusals_in : List ℕ → List Refusal
 refusals_in text =
     if nat_lt 65536 (length text) then TooLong ∷ [] else refusals_of (bad_lines text) (tree_parsed text)

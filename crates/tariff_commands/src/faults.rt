@@ -1,6 +1,7 @@
 //! The command `faults`.
 ghost use Rattle.std.specs.List.{Contains, slice_get};
-ghost use Rattle.std.specs.Prelude.{◌≡◌, ◌≢◌, ◌↔◌, ℕ, ◌<◌, ◌≤◌, ◌++◌, List, [], Some, None, Err, IfOk, OnOk, length, map};
+ghost use Rattle.std.specs.Prelude.{◌≡◌, ◌≢◌, ◌↔◌, ℕ, ◌<◌, ◌≤◌, ◌++◌, List, [], Some, None, Err, IfOk, OnOk};
+ghost use Rattle.std.specs.Prelude.{length, map};
 ghost use Rattle.outside.specs.Faults.{Rose};
 ghost use Rattle.outside.specs.Reading.{LeavesOthers};
 ghost use Rattle.tariff_check.specs.Faults.{fault_of};
@@ -16,7 +17,7 @@ ghost use Rattle.call_ends.specs.LastLine.{bad_tariff_line};
 ghost use Rattle.call_ends.specs.Tariffs.{HasTariff, tariff_in};
 ghost use Rattle.call_ends.specs.declared.tariff.Refusal.TheVariants.{Syntax, Unsound};
 
-use call_ends::{Ended, Refusal, TextFault, last_line, print_text, text_of_word};
+use call_ends::{Ended, Refusal, TextFault, bad_tariff_line, print_text, text_of_word};
 use outside::{Board, Files, STORE_SIZE};
 use std::alloc::Global;
 use std::sync::ledger::Ledger;
@@ -174,7 +175,7 @@ fn fault_lines(alloc: Global, faults: &[CheckFault]) -> Result<Vec<u8>, NoMemory
 fn push_line(lines: &mut Vec<u8>, why: Refusal) -> Result<(), NoMemory>
     ensures { OnOk result (lines.new.items ≡ lines.old.items ++ bad_tariff_line why) }
 {
-    let line = last_line(Ended::BadTariff(why));
+    let line = bad_tariff_line(why);
     lines.extend_from_slice(line.as_slice()).map_err(|_| NoMemory)
 }
 
