@@ -3,6 +3,7 @@ use Rattle.std.proofs.Common.{◌≡◌, ◌↔◌, ℕ, zero, suc, ◌+◌, ◌
 use Rattle.std.proofs.Common.{Option, Some, None, All, length, refl, sym, ap, ◌∙◌, subst, arith}
 use Rattle.std.proofs.lemmas.Bool.{eqb-true}
 use Rattle.std.specs.List.{Contains, list_any, slice_get, slice_index_or}
+use Rattle.std.specs.Prelude.{◌^◌, nat_lt, not}
 use Rattle.std.specs.Option.{option_or}
 use Rattle.std.proofs.lemmas.List.Elements.{All-nil, All-cons, All-weaker, All-head, All-tail}
 use Rattle.std.proofs.lemmas.List.Elements.{Contains-append_left, Contains-append_right}
@@ -184,15 +185,33 @@ pub nothing_measured : (ls : List Line) → list_any (λ (l : Line). is_for_noth
     → measure_of ls ≡ 0
 nothing_measured ls h = zero_measure ls (nothing_is_zero ls h)
 
--- and no rate has where none does
+-- so that it isn't too great there
+pub not_great : (ls : List Line) (any : Bool) → any ≡ list_any (λ (l : Line). is_for_nothing l.entry) ls
+    → any ≡ true → not any ≡ nat_lt (10 ^ 18) (measure_of ls)
+not_great ls any e h = rw (h, nothing_measured ls (sym e ∙ h)) refl
+
+-- and no rate has a measure of 0 where none does
+measured_by : (l : Line) (ls : List Line) (here : Bool) → is_for_nothing l.entry ≡ here
+    → (here || list_any (λ (m : Line). is_for_nothing m.entry) ls) ≡ false
+    → (list_any (λ (m : Line). is_for_nothing m.entry) ls ≡ false
+    → All (λ (m : Line). is_for_nothing m.entry ≡ false) ls)
+    → All (λ (m : Line). is_for_nothing m.entry ≡ false) (l ∷ ls)
+measured_by l ls true is h rest = absurd cc
+measured_by l ls false is h rest = All-cons (λ (m : Line). is_for_nothing m.entry ≡ false) l ls is (rest h)
+
 pub all_measured : (ls : List Line) → list_any (λ (l : Line). is_for_nothing l.entry) ls ≡ false
     → All (λ (l : Line). is_for_nothing l.entry ≡ false) ls
 all_measured [] h = All-nil (λ (l : Line). is_for_nothing l.entry ≡ false)
-all_measured (l ∷ ls) h = measured_by (is_for_nothing l.entry) refl
-  where
-    measured_by : (here : Bool) → is_for_nothing l.entry ≡ here
-        → All (λ (m : Line). is_for_nothing m.entry ≡ false) (l ∷ ls)
-    measured_by true e = absurd (let never = rw e at h in cc)
-    measured_by false e =
-        let rest = rw e at h in
-        All-cons (λ (m : Line). is_for_nothing m.entry ≡ false) l ls e (all_measured ls rest)
+all_measured (l ∷ ls) h = measured_by l ls (is_for_nothing l.entry) refl h (all_measured ls)
+
+-- ---- the list that is made of those before the cuts
+
+some_first : (faults others : List CheckFault) → (length faults == 0) ≡ false → or_others faults others ≡ faults
+some_first [] others some = absurd cc
+some_first (fault ∷ faults) others some = refl
+
+pub all_before : (ls : List Line) (faults : List CheckFault) (len : ℕ) → len ≡ length faults
+    → faults ≡ those_there (faults_before_cuts ls) → (len == 0) ≡ false → faults ≡ all_faults ls
+all_before ls faults len is made some =
+    let more : (length (those_there (faults_before_cuts ls)) == 0) ≡ false = rw (← made, ← is) some in
+    made ∙ sym (some_first (those_there (faults_before_cuts ls)) (those_there (faults_from_cuts ls)) more)

@@ -9,7 +9,8 @@ ghost use Rattle.tariff_syntax.specs.Tree.{line_of, tree_of};
 
 use crate::cells::{Counts, MOST_CELLS, any_cells};
 use crate::choice::ChoiceKind;
-use crate::counts::{cut_count, cuts_fault};
+use crate::counts::cuts_fault;
+use crate::cuts::cut_count;
 use crate::early::fault_at;
 use crate::fault::{CheckFault, Dimension};
 use crate::measure::has_great_measure;
@@ -30,17 +31,15 @@ pub fn faults(alloc: Global, tariff: &Tariff) -> Result<Vec<CheckFault>, NoMemor
     let lines = tariff.lines.as_slice();
     let mut faults = Vec::new(alloc);
     put_there(&faults_before_cuts(lines), &mut faults)?;
-    if faults.is_empty() {
-        put_there(&faults_from_cuts(alloc, lines)?, &mut faults)?;
+    if !faults.is_empty() {
+        return Ok(faults);
     }
+    put_there(&faults_from_cuts(alloc, lines)?, &mut faults)?;
     Ok(faults)
 }
 
 /// Puts those of some faults that are there behind others.
-fn put_there(
-    some: &[Option<CheckFault>],
-    faults: &mut Vec<CheckFault>,
-) -> Result<(), NoMemory>
+fn put_there(some: &[Option<CheckFault>], faults: &mut Vec<CheckFault>) -> Result<(), NoMemory>
     ensures { OnOk result (faults.new.items ≡ faults.old.items ++ those_there some.now) }
 {
     for fault in some {
@@ -69,8 +68,14 @@ fn faults_before_cuts(lines: &[TariffLine]) -> [Option<CheckFault>; 12]
         fault_at(LineRule::Once, lines),
         fault_at(LineRule::Few, lines),
         fault_at(known, lines),
-        fault_if(!has_default(ChoiceKind::Rate, lines), CheckFault::NoDefaultRate),
-        fault_if(!has_default(ChoiceKind::Initial, lines), CheckFault::NoDefaultInitial),
+        fault_if(
+            !has_default(ChoiceKind::Rate, lines),
+            CheckFault::NoDefaultRate,
+        ),
+        fault_if(
+            !has_default(ChoiceKind::Initial, lines),
+            CheckFault::NoDefaultInitial,
+        ),
         fault_at(LineRule::NotAfterDefault, lines),
         fault_at(LineRule::Dated, lines),
         fault_at(LineRule::Moderate, lines),
@@ -91,11 +96,16 @@ fn is_step_zero(lines: &[TariffLine]) -> bool
 
 /// The faults of cuts and of cells, each there or not, in their order. `NoMemory` too where there are more cells than
 /// 64 bits count.
-fn faults_from_cuts(alloc: Global, lines: &[TariffLine]) -> Result<[Option<CheckFault>; 5], NoMemory>
+fn faults_from_cuts(
+    alloc: Global,
+    lines: &[TariffLine],
+) -> Result<[Option<CheckFault>; 5], NoMemory>
     ensures { IfOk result (λ faults. faults ≡ faults_from_cuts (map line_of lines.now)) }
 {
     let counts = any_counts(alloc, lines)?;
-    let cells = any_cells(positions(lines), zones(lines), has_holidays(lines), &counts).ok_or(NoMemory)?;
+    let cells = any_cells(positions(lines), zones(lines), has_holidays(lines), &counts).ok_or(
+        NoMemory,
+    )?;
     Ok([
         cuts_fault(Dimension::MonthDay, counts.month_day),
         cuts_fault(Dimension::Minute, counts.minute),

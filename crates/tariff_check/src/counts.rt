@@ -8,11 +8,10 @@ ghost use Rattle.tariff_check.specs.declared.fault.CheckFault.TheVariants.{NoMem
 ghost use Rattle.tariff_syntax.specs.Tree.{line_of};
 
 use crate::cells::Counts;
-use crate::cuts::cuts;
+use crate::cuts::cut_count;
 use crate::fault::{CheckFault, Dimension};
 use std::alloc::Global;
 use tariff_syntax::TariffLine;
-use taxi_units::NoMemory;
 
 /// How many cuts some lines have in each dimension, or that they are too many.
 pub(crate) fn counts(alloc: Global, lines: &[TariffLine]) -> Result<Counts, CheckFault>
@@ -43,22 +42,6 @@ fn count(alloc: Global, lines: &[TariffLine], dimension: Dimension) -> Result<u3
         Some(fault) => Err(fault),
         None => Ok(count),
     }
-}
-
-/// How many cuts some lines have in a dimension. `NoMemory` too where they are more than fit 32 bits, which is more
-/// than 32 GiB of them.
-pub(crate) fn cut_count(
-    alloc: Global,
-    lines: &[TariffLine],
-    dimension: Dimension,
-) -> Result<u32, NoMemory>
-    ensures { IfOk result (λ n. n ≡ count_of dimension (map line_of lines.now)) }
-{
-    let count = cuts(alloc, lines, dimension)?.len();
-    if count > u32::MAX as usize {
-        return Err(NoMemory);
-    }
-    Ok(count as u32)
 }
 
 /// That a dimension has this many cuts, where that is too many.

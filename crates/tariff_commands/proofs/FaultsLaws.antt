@@ -171,8 +171,8 @@ named_by text line (bad more other e) few =
     rw is (
       (λ h. contains_to (bad_lines text) line (bad_lines_have_no_form-each text line h)),
       λ (h : Contains (map Syntax (bad_lines text)) (Syntax line)).
-      All-contains (HasNoForm text) (bad_lines text) line (bad_lines_have_no_form-named text)
-      (contains_from (bad_lines text) line h),
+          All-contains (HasNoForm text) (bad_lines text) line (bad_lines_have_no_form-named text)
+          (contains_from (bad_lines text) line h),
     )
 named_by text line (tree more t e) few =
     let is = (refused_tree text t few e).0 in
@@ -180,7 +180,7 @@ named_by text line (tree more t e) few =
     rw is (
       (λ h. let at = rw none at (bad_lines_have_no_form-each text line h) in absurd (omega (arith, at.1))),
       λ (h : Contains (map Unsound (all_faults t.lines)) (Syntax line)).
-      absurd (no_syntax (all_faults t.lines) line h.0 h.1 h.2),
+          absurd (no_syntax (all_faults t.lines) line h.0 h.1 h.2),
     )
 
 pub named_is : (text : List ℕ) (line : ℕ) → length text ≤ 65536

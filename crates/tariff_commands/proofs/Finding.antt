@@ -9,8 +9,9 @@ use Rattle.tariff_syntax.specs.BadLines.{bad_lines}
 use Rattle.tariff_syntax.specs.Parsed.{tree_parsed}
 use Rattle.tariff_syntax.specs.Reads.{IsParsed}
 use Rattle.tariff_syntax.specs.Tree.{Tree, tree_of}
+use Rattle.tariff_syntax.specs.declared.parsing.ParseFault.TheVariants as faults
 use Rattle.tariff_syntax.specs.declared.tariff.Tariff.{Tariff}
-use Rattle.tariff_syntax.proofs.Laws.{bad_lines_have_no_form-first, texts_are_parsed_as_they_read-bad_line}
+use Rattle.tariff_syntax.proofs.Laws.{texts_are_parsed_as_they_read-bad_line}
 use Rattle.tariff_syntax.proofs.Laws.{texts_are_parsed_as_they_read-tariff}
 use Rattle.tariff_check.specs.AllFaults.{all_faults}
 use Rattle.tariff_check.specs.Faults.{fault_of}
@@ -22,7 +23,8 @@ use Rattle.tariff_commands.specs.Check.{check_answer}
 use Rattle.call_ends.specs.Course.{Answered, ReadFailed}
 use Rattle.call_ends.specs.Ending.{EndsUnprinted}
 use Rattle.tariff_commands.specs.Faults.{faults_answer, faults_command, faults_in, refusal_lines, refusals_in, refusals_of}
-use Rattle.tariff_commands.specs.FaultsSteps.{IsFoundIn, IsFoundOf, IsRefusedText, IsSoundText, ended_for_find}
+use Rattle.tariff_commands.specs.FaultsSteps.{EndsFile, HasLines, IsFoundIn, IsFoundOf, IsRefusedText, IsSoundText}
+use Rattle.tariff_commands.specs.FaultsSteps.{ended_for_find}
 use Rattle.call_ends.specs.LastLine.{bad_tariff_line}
 use Rattle.call_ends.specs.Tariffs.{sound_in, tariff_in}
 use Rattle.call_ends.specs.declared.ending.Ended.TheVariants as ended
@@ -56,7 +58,7 @@ refused_tree text t few read =
 -- ---- what was found
 
 pub long_found : (text lines : List ℕ) → 65536 < length text → lines ≡ bad_tariff_line TooLong
-    → IsFoundIn text (Faults lines)
+    → IsRefusedText text lines
 long_found text lines long are = record {
   why = TooLong;
   refused = tariff_long text long;
@@ -65,13 +67,18 @@ long_found text lines long are = record {
 
 pub bad_found : (text : List ℕ) (line : ℕ) (numbers lines : List ℕ) → length text ≤ 65536
     → tree_parsed text ≡ Err line → numbers ≡ bad_lines text → lines ≡ refusal_lines (map Syntax numbers)
-    → IsFoundIn text (Faults lines)
+    → IsRefusedText text lines
 bad_found text line numbers lines few bad named are = record {
   why = Syntax line;
   refused = (refused_bad text line few bad).1;
   are = are ∙ (ap (λ (ns : List ℕ). refusal_lines (map Syntax ns)) named
       ∙ ap refusal_lines (sym (refused_bad text line few bad).0));
 }
+
+-- a text of which the first bad line was told has it
+pub bad_parsed : (text : List ℕ) (line : ℕ) → IsParsed text (Err (faults.Syntax line))
+    → (length text ≤ 65536) × (tree_parsed text ≡ Err line)
+bad_parsed text line h = (h.0, (texts_are_parsed_as_they_read-bad_line text line).0 h.1)
 
 -- what was found of a tariff is found of a text that reads as it
 pub tree_found : (text : List ℕ) (t : Tariff) (found : Found) → IsParsed text (Ok t) → IsFoundOf (tree_of t) found
@@ -101,7 +108,7 @@ some_first [] some = absurd (some refl)
 some_first (fault ∷ faults) some = (fault, refl)
 
 pub faults_found : (t : Tree) (faults : List CheckFault) (lines : List ℕ) → faults ≡ all_faults t.lines → faults ≢ []
-    → lines ≡ refusal_lines (map Unsound faults) → IsFoundOf t (Faults lines)
+    → lines ≡ refusal_lines (map Unsound faults) → HasLines t lines
 faults_found t faults lines all some are =
     let first = some_first faults some in
     record {
@@ -111,15 +118,21 @@ faults_found t faults lines all some are =
       are = are ∙ ap (λ (fs : List CheckFault). refusal_lines (map Unsound fs)) all;
     }
 
+-- a file that was read to its end was, whatever was found
+pub file_ended : (found : Found) (left : List ℕ) → left ≡ [] → EndsFile found left
+file_ended (Sound cells measure) left e = e
+file_ended (Faults lines) left e = tt
+
 -- ---- what the command answers
 
 answer_sound : (text : List ℕ) (t : Tree) → tariff_in text ≡ Ok t → faults_in text ≡ check_answer (Ok t)
 answer_sound text t e = ap (faults_answer (refusals_in text)) e
 
-answer_refused : (text lines : List ℕ) → IsRefusedText text lines
-    → faults_in text ≡ record { status = 2; shown = lines; line = [] }
-answer_refused text lines h = ap (faults_answer (refusals_in text)) h.refused
-    ∙ ap (λ (shown : List ℕ). record { status = 2; shown = shown; line = [] }) (sym h.are)
+abbrev shows_all : List ℕ → Answer
+shows_all lines = record { status = 2; shown = lines; line = [] }
+
+answer_refused : (text lines : List ℕ) → IsRefusedText text lines → faults_in text ≡ shows_all lines
+answer_refused text lines h = ap (faults_answer (refusals_in text)) h.refused ∙ ap shows_all (sym h.are)
 
 pub shown_refused : (text lines : List ℕ) → IsRefusedText text lines → length (faults_in text).shown ≡ length lines
 shown_refused text lines h = ap (λ (a : Answer). length a.shown) (answer_refused text lines h)
@@ -161,7 +174,7 @@ module _ (contents left : ℕ → List ℕ) (image : List ℕ) (read_failed : �
 
   -- the faults were printed, or a beginning of them
   module _ (failed told : Type 0) (before now : List ℕ) (lines : List ℕ) (is : IsRefusedText (contents 1) lines) where
-    answer : faults_command.answer contents image ≡ record { status = 2; shown = lines; line = [] }
+    answer : faults_command.answer contents image ≡ shows_all lines
     answer = answer_refused (contents 1) lines is
 
     may : MayTake faults_command contents left image read_failed failed Answered

@@ -35,7 +35,7 @@ pub record HasLines (t : Tree) (lines : List ℕ) : Type 0 where
 -- what was found is that of a tariff
 abbrev pub IsFoundOf : Tree → Found → Type 0
 IsFoundOf t (Sound cells measure) = IsSoundTree t cells measure
-IsFoundOf t (Faults lines) = HasLines t lines
+IsFoundOf t (Faults lines) = HasLines t lines.items
 
 -- a text was found to have a sound tariff, with its numbers
 pub record IsSoundText (text : List ℕ) (cells measure : ℕ) : Type 0 where
@@ -52,7 +52,7 @@ pub record IsRefusedText (text lines : List ℕ) : Type 0 where
 -- what was found is that of a text
 abbrev pub IsFoundIn : (text : List ℕ) → Found → Type 0
 IsFoundIn text (Sound cells measure) = IsSoundText text cells measure
-IsFoundIn text (Faults lines) = IsRefusedText text lines
+IsFoundIn text (Faults lines) = IsRefusedText text lines.items
 
 -- a file was read to its end where its tariff was found sound
 abbrev pub EndsFile : Found → (left : List ℕ) → Type 0

@@ -1,12 +1,10 @@
 //! The command `faults`.
 ghost use Rattle.std.specs.List.{Contains, slice_get};
-ghost use Rattle.std.specs.Prelude.{◌≡◌, ◌≢◌, ◌↔◌, ℕ, ◌<◌, ◌≤◌, ◌++◌, List, [], Some, None, Err, IfOk, OnOk};
+ghost use Rattle.std.specs.Prelude.{◌≡◌, ◌≢◌, ◌↔◌, ℕ, ◌<◌, ◌≤◌, ◌++◌, List, [], Some, Err, IfOk, OnOk};
 ghost use Rattle.std.specs.Prelude.{length, map};
 ghost use Rattle.outside.specs.Faults.{Rose};
 ghost use Rattle.outside.specs.Reading.{LeavesOthers};
-ghost use Rattle.tariff_check.specs.Faults.{fault_of};
 ghost use Rattle.tariff_syntax.specs.Formless.{HasNoForm};
-ghost use Rattle.tariff_syntax.specs.Parsed.{tree_parsed};
 ghost use Rattle.tariff_syntax.specs.Tree.{tree_of};
 ghost use Rattle.tariff_syntax.specs.Writable.{IsWritable};
 ghost use Rattle.call_ends.specs.Carried.{Carries};
@@ -15,11 +13,11 @@ ghost use Rattle.tariff_commands.specs.Faults.{faults_command, faults_in, refusa
 ghost use Rattle.tariff_commands.specs.FaultsSteps.{EndsFile, IsFoundIn, IsFoundOf, ended_for_find};
 ghost use Rattle.call_ends.specs.LastLine.{bad_tariff_line};
 ghost use Rattle.call_ends.specs.Tariffs.{HasTariff, tariff_in};
-ghost use Rattle.call_ends.specs.declared.tariff.Refusal.TheVariants.{Syntax, Unsound};
+ghost use Rattle.call_ends.specs.declared.tariff.Refusal.TheVariants.{Syntax, TooLong, Unsound};
 
 use call_ends::{Ended, Refusal, TextFault, bad_tariff_line, print_text, text_of_word};
 use outside::{Board, Files, STORE_SIZE};
-use std::alloc::Global;
+use std::alloc::{AllocError, Global};
 use std::sync::ledger::Ledger;
 use tariff_check::{CheckFault, check, faults};
 use tariff_syntax::{ParseFault, Tariff, bad_lines, parse};
@@ -88,20 +86,17 @@ fn found_in_word<F: Files>(alloc: Global, files: &mut F, word: usize) -> Result<
         → (other : ℕ) → F.faults files.new other ≡ F.faults files.old other }
 {
     match text_of_word(alloc, files, word) {
-        Ok(text) => found_in_text(alloc, text.as_slice()).map_err(|_| FindFault::NoMemory),
+        Ok(text) => match found_in_text(alloc, text.as_slice()) {
+            Ok(found) => Ok(found),
+            Err(_) => Err(FindFault::NoMemory),
+        },
         Err(TextFault::ReadFault) => Err(FindFault::ReadFault),
-        Err(TextFault::Refused(_)) => found_too_long(alloc).map_err(|_| FindFault::NoMemory),
+        Err(TextFault::Refused(_)) => match long_line(alloc) {
+            Ok(line) => Ok(Found::Faults(line)),
+            Err(_) => Err(FindFault::NoMemory),
+        },
         Err(TextFault::NoMemory) => Err(FindFault::NoMemory),
     }
-}
-
-/// What is found of a text that is too long.
-fn found_too_long(alloc: Global) -> Result<Found, NoMemory>
-    ensures { (text : List ℕ) → 65536 < length text → IfOk result (IsFoundIn text) }
-{
-    let mut lines = Vec::new(alloc);
-    push_line(&mut lines, Refusal::TooLong)?;
-    Ok(Found::Faults(lines))
 }
 
 /// What is found of a text.
@@ -110,20 +105,19 @@ fn found_in_text(alloc: Global, text: &[u8]) -> Result<Found, NoMemory>
 {
     match parse(alloc, text) {
         Ok(tariff) => found_in_tariff(alloc, tariff),
-        Err(ParseFault::TooLong) => found_too_long(alloc),
-        Err(ParseFault::Syntax { .. }) => found_bad(alloc, text),
+        Err(ParseFault::TooLong) => match long_line(alloc) {
+            Ok(line) => Ok(Found::Faults(line)),
+            Err(_) => Err(NoMemory),
+        },
+        Err(ParseFault::Syntax { .. }) => {
+            let numbers = bad_lines(alloc, text)?;
+            match syntax_lines(alloc, numbers.as_slice()) {
+                Ok(lines) => Ok(Found::Faults(lines)),
+                Err(_) => Err(NoMemory),
+            }
+        }
         Err(ParseFault::NoMemory) => Err(NoMemory),
     }
-}
-
-/// What is found of a text that has lines without a form.
-fn found_bad(alloc: Global, text: &[u8]) -> Result<Found, NoMemory>
-    requires { length text.now ≤ 65536 }
-    ensures { (line : ℕ) → tree_parsed text.now ≡ Err line → IfOk result (IsFoundIn text.now) }
-{
-    let numbers = bad_lines(alloc, text)?;
-    let lines = syntax_lines(alloc, numbers.as_slice())?;
-    Ok(Found::Faults(lines))
 }
 
 /// What is found of a tariff that was parsed.
@@ -133,24 +127,29 @@ fn found_in_tariff(alloc: Global, tariff: Tariff) -> Result<Found, NoMemory>
 {
     let faults = faults(alloc, &tariff)?;
     if faults.is_empty() {
-        return found_sound(alloc, tariff);
+        return match check(alloc, tariff) {
+            Ok(checked) => Ok(Found::Sound(checked.cells(), checked.measure())),
+            // It has no fault, so memory ran out.
+            Err(_) => Err(NoMemory),
+        };
     }
-    let lines = fault_lines(alloc, faults.as_slice())?;
-    Ok(Found::Faults(lines))
+    match fault_lines(alloc, faults.as_slice()) {
+        Ok(lines) => Ok(Found::Faults(lines)),
+        Err(_) => Err(NoMemory),
+    }
 }
 
-/// What is found of a sound tariff.
-fn found_sound(alloc: Global, tariff: Tariff) -> Result<Found, NoMemory>
-    requires writable { IsWritable (tree_of tariff) }
-    requires sound { fault_of (tree_of tariff) ≡ None }
-    ensures { IfOk result (IsFoundOf (tree_of tariff)) }
+/// The line of a text that is too long.
+fn long_line(alloc: Global) -> Result<Vec<u8>, AllocError>
+    ensures { IfOk result (λ line. line.items ≡ bad_tariff_line TooLong) }
 {
-    let checked = check(alloc, tariff).map_err(|_| NoMemory)?;
-    Ok(Found::Sound(checked.cells(), checked.measure()))
+    let mut line = Vec::new(alloc);
+    push_line(&mut line, Refusal::TooLong)?;
+    Ok(line)
 }
 
 /// The lines that name lines which have no form.
-fn syntax_lines(alloc: Global, numbers: &[u32]) -> Result<Vec<u8>, NoMemory>
+fn syntax_lines(alloc: Global, numbers: &[u32]) -> Result<Vec<u8>, AllocError>
     ensures { IfOk result (λ lines. lines.items ≡ refusal_lines (map Syntax numbers.now)) }
 {
     let mut lines = Vec::new(alloc);
@@ -161,7 +160,7 @@ fn syntax_lines(alloc: Global, numbers: &[u32]) -> Result<Vec<u8>, NoMemory>
 }
 
 /// The lines of faults of a tariff.
-fn fault_lines(alloc: Global, faults: &[CheckFault]) -> Result<Vec<u8>, NoMemory>
+fn fault_lines(alloc: Global, faults: &[CheckFault]) -> Result<Vec<u8>, AllocError>
     ensures { IfOk result (λ lines. lines.items ≡ refusal_lines (map Unsound faults.now)) }
 {
     let mut lines = Vec::new(alloc);
@@ -172,11 +171,11 @@ fn fault_lines(alloc: Global, faults: &[CheckFault]) -> Result<Vec<u8>, NoMemory
 }
 
 /// Puts the line of a refusal behind other lines.
-fn push_line(lines: &mut Vec<u8>, why: Refusal) -> Result<(), NoMemory>
+fn push_line(lines: &mut Vec<u8>, why: Refusal) -> Result<(), AllocError>
     ensures { OnOk result (lines.new.items ≡ lines.old.items ++ bad_tariff_line why) }
 {
     let line = bad_tariff_line(why);
-    lines.extend_from_slice(line.as_slice()).map_err(|_| NoMemory)
+    lines.extend_from_slice(line.as_slice())
 }
 
 /// The law of faults: what `faults` prints of a text begins with the line that `check` prints, and has the same status;

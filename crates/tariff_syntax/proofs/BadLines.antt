@@ -239,10 +239,9 @@ unfolding bad_lines tree_parsed
 none_named text =
     let heading = heading_read 1 (lines_of text) in
     let read = entries_read heading.0 heading.1 heading.2 in
-    let first = first_from heading.0 heading.1 heading.2 in
-    (
+    let first = first_from heading.0 heading.1 heading.2 in (
       (λ e. let good = tree_good heading.0 read (sym first ∙ ap (λ (ns : List ℕ). slice_get ns 0) e) in
-      (good.0, (reads_exactly text good.0).1 good.1)),
+          (good.0, (reads_exactly text good.0).1 good.1)),
       λ h. none_first (bad_lines text)
-      (first ∙ none_bad heading.0 read h.0 ((reads_exactly text h.0).0 h.1)),
+          (first ∙ none_bad heading.0 read h.0 ((reads_exactly text h.0).0 h.1)),
     )
