@@ -1,6 +1,6 @@
 -- The command `run`: how it begins.
-use Rattle.std.proofs.Common.{◌≡◌, ◌≢◌, ℕ, ◌<◌, ◌≤◌, Bool, true, false, if◌then◌else◌, List, length, take, drop, Option}
-use Rattle.std.proofs.Common.{Some, Result, Ok, Err, refl, sym, ap, subst, ◌∙◌, arith}
+use Rattle.std.proofs.Common.{◌≡◌, ◌≢◌, ℕ, ◌<◌, ◌≤◌, Bool, true, false, if◌then◌else◌, List, length, take, drop, Result}
+use Rattle.std.proofs.Common.{Ok, Err, refl, sym, ap, subst, ◌∙◌, arith}
 use Rattle.std.specs.Option.{ForSome}
 use Rattle.std.specs.Cmp.Lexicographic.{pointwise}
 use Rattle.std.specs.Prelude.{nat_eq}
@@ -92,16 +92,6 @@ text-read_fault (texts.Refused why) e = absurd cc
 text-read_fault texts.NoMemory e = absurd cc
 
 -- ---- the start
-
-abbrev as_store : Durable → Seal → Option (Durable × Seal)
-as_store d l = Some (d, l)
-
-first_of : (a b : Durable) (x y : Seal) → as_store a x ≡ as_store b y → a ≡ b
-first_of a b x y e =
-    let one : Durable × Seal = (a, x) in
-    let other : Durable × Seal = (b, y) in
-    let same : one ≡ other = cc in
-    ap (λ (p : Durable × Seal). p.0) same
 
 -- what a start has
 record HasStart (d : Durable) (l : Seal) (r : Result Tree Ended) (s : Start) : Type 0 where

@@ -9,7 +9,7 @@ use Rattle.seal_record.specs.declared.seal.Seal.{Seal}
 use Rattle.tariff_compile.specs.Tables.{IsTablesOf, TableParts, tables_of}
 use Rattle.tariff_syntax.specs.Tree.{Tree}
 use Rattle.meter_run.specs.Runs.{OpensWith}
-use Rattle.call_ends.specs.Ending.{EndsOnDevices}
+use Rattle.call_ends.specs.Ending.{EndsOnDevices, IsRefusal}
 use Rattle.call_ends.specs.LastLine.{line_of, status_of}
 use Rattle.store_commands.specs.Opening.{IsSealedIn, opening_of}
 use Rattle.drive_commands.specs.Run.{IsCutOfCourse, Stands, Start, bytes_in, run_command, sealed_tariff, start_at}

@@ -1,4 +1,4 @@
-//! The commands that go through a drive: on a store, without one, with readings, or to say why its fares are what they are.
+//! The commands that go through a drive: on a store, without one, with readings, or to explain its fares.
 #![tactic(auto)]
 
 pub mod bench;

@@ -22,6 +22,7 @@ use Rattle.store_commands.specs.declared.opening.Opening.{Opening}
 use Rattle.store_commands.specs.declared.opening.StoreFault.TheVariants.{BoardFault}
 use Rattle.store_commands.specs.Opened.{OnlyOpens}
 use Rattle.store_commands.specs.Opening.{fault_from, opened, opening_of, sealed_or, sealed_store, store_of}
+use Rattle.call_ends.proofs.Laws.{same_fault, no_fault}
 use Rattle.slot_store.specs.declared.pair.Place.{Place}
 
 -- only the board's fault in a scan is one of the opening
@@ -100,6 +101,16 @@ module _ {D L : Type 0} {N : ℕ} (B : Ghosts D N L) (old mid new : D) (first : 
   synced-on fails fails' went settled synced next =
       goes_on B (IsAsHeld B old) (IsAsHeld B old) fails fails' old mid new went (λ i x is. is) synced
       (held_on B old mid new (record { reads = first; same = same; settled = settled }) next)
+
+abbrev as_store : Durable → Seal → Option (Durable × Seal)
+as_store d l = Some (d, l)
+
+first_of : (a b : Durable) (x y : Seal) → as_store a x ≡ as_store b y → a ≡ b
+first_of a b x y e =
+    let one : Durable × Seal = (a, x) in
+    let other : Durable × Seal = (b, y) in
+    let same : one ≡ other = cc in
+    ap (λ (p : Durable × Seal). p.0) same
 
 -- what is found of a store that is sealed
 pub sealed_found : (found : Found Durable) (seal : Found Seal) (d : Durable) (l : Seal)

@@ -13,7 +13,6 @@ use Rattle.call_ends.specs.declared.ending.Ended.TheVariants.{BoardFault}
 use Rattle.outside.specs.declared.files.Files.{Ghosts as FileGhosts}
 use Rattle.call_ends.specs.LastLine.{line_of, status_of}
 use Rattle.store_commands.specs.Opening.{opening_of}
-use Rattle.store_commands.specs.SealSteps.{RestsAmid}
 
 -- a text has a tariff with decimals where its tariff is sound and has them, and they are those that were found, if any
 pub record IsTariffWith (found : Option ℕ) (decimals : ℕ) (tariff : List ℕ) : Type 0 where

@@ -1,4 +1,5 @@
--- For proofs: how a command ends by parameters, rules, books or requests that were not read. Course says what a call is.
+-- For proofs: how a command ends by parameters, rules, books or requests that were not read. Course says what a
+-- call is.
 use Rattle.std.specs.Prelude.{Result, Ok, Err}
 use Rattle.store_commands.specs.Shifts.{ended_for_book}
 use Rattle.call_ends.specs.declared.ending.Ended.{Ended}
