@@ -50,7 +50,7 @@ returns-in-Sound g c =
     carries-kept g.F.Files g.B.Board faults_command files files' board board steps steps _ (λ none. none) (λ status w. w)
     (λ tells.
     course-unprinted faults_command (rest files) (rest files') (g.B.Board.image board) _ _ _ (g.B.Board.printed board) _
-    (course-sound (rest files) (rest files') (g.B.Board.image board) _ c.in-Sound.field-0 c.in-Sound.field-1
+    (course-sound (rest files) (rest files') (g.B.Board.image board) _ c.in-Sound.cells c.in-Sound.measure
     (subst (λ (f : Found). IsFoundIn (rest files 1) f) c.in-Sound.is (c.in-Ok.ensures.found tells))
     (subst (λ (f : Found). EndsFile f (rest files' 1)) c.in-Sound.is (c.in-Ok.ensures.ended tells))))
     (λ later le tells. omega (arith, le))
