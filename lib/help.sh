@@ -98,6 +98,7 @@ help_on_status() {
       found = 1
       gsub(/[`*]/, ""); gsub("bin/[a-z_]+", ENVIRON["called"], $4)
       print "status " ($2 == "other" ? asked : $2) ($3 == "" ? "" : ", printed last: " $3) "\nwhat to do: " $4
+      if ($5 != "") print "commands: " $5
     }
     END { exit !found }' "$top/$page" 2>/dev/null && echo "more: $page"
 }

@@ -17,7 +17,6 @@ use Rattle.slot_store.specs.Writes.{IsApart, OrWithin, LeavesThroughout, WritesI
 pub use Rattle.slot_store.proofs.Causes.{fewer_steps, steps_then}
 use Rattle.slot_store.proofs.Findings as findings
 use Rattle.slot_store.proofs.Moments as moments
-use Rattle.slot_store.proofs.Ordered as ordered
 pub use Rattle.slot_store.proofs.Moments.{in_part_as, run_on, writes_in_part, writes_on}
 pub use Rattle.slot_store.proofs.Synced.{from_sync_as, goes_on, held_on, settled_already}
 use Rattle.slot_store.proofs.Untouched as untouched
@@ -76,7 +75,7 @@ module _ {T : Type 0} (reads : List ℕ → Option T) (number_of : T → ℕ) wh
       → IsReady reads number_of pair image in_flight latest
       → SameBut in_flight image left → Shows reads number_of pair.at left latest
   ready_left pair latest image in_flight left ready same =
-      ordered.quiet_leaves reads number_of pair.at pair.latest latest image left in_flight ready same
+      untouched.quiet_leaves reads number_of pair.at pair.latest latest image left in_flight ready same
 
 zeros : (n i : ℕ) → get_or {A = ℕ} (replicate n 0) i 0 ≡ 0
 zeros zero i = refl

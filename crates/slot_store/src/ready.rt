@@ -56,14 +56,6 @@ impl Ready {
         }
     }
 
-    /// Where the pair begins.
-    pub fn at(&self) -> u32
-        ensures is { result ≡ self.now.at }
-        ensures in_store { result ≤ last_pair }
-    {
-        self.pair.at
-    }
-
     /// Shuts the slot that is written next: where its gate is open, writes 0x00 there and syncs, and
     /// else makes no call. At each moment a cut leaves an image that stands for the latest body, or
     /// is blank as before, and so does the board's own image, also where the stage failed. `Failed`
