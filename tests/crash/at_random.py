@@ -8,7 +8,7 @@ import time
 from each_call import CITY, PARAMS
 from filings import left_by, roll_of
 from heglorwy.roll import receipts_in, units
-from support.drives import stretch
+from support.drives import LATER, drive_of, text_of
 
 
 class Off(Exception):
@@ -68,8 +68,8 @@ class Days(Killed):
 
     def run_whole(self):
         """A new drive, and what its run prints where it isn't killed."""
-        drive, self.second = stretch(self.dice, self.second, 6)
-        (self.folder / "drive").write_text(drive)
+        (self.folder / "drive").write_text(text_of(drive_of(self.dice.randrange(2**32), 6, self.second)))
+        self.second += LATER
         (self.whole / "taxi.store").write_bytes((self.folder / "taxi.store").read_bytes())
         return self.call("run", CITY, "../drive", folder=self.whole)
 
