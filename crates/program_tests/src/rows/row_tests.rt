@@ -9,6 +9,18 @@ use std::test::Fail;
 /// How many rows passed and failed.
 type Tally = (u64, u64);
 
+/// The totals of a folder without a store: a right row, one with a wrong status, and one with a wrong text.
+const ROWS: &[u8] = b"\0\0\0\0\0\0\0\x03\
+    \0\0\0\0\0\0\0\x0ba right row\0\0\0\0\0\0\0\x01\
+    t\0\0\0\0\0\0\0\x01\0\0\0\0\0\0\0\x06totals\0\0\0\0\0\0\0\0\
+    \0\0\0\0\0\0\0\0\0\0\0\0\0\0\0\x0bNOT SEALED\n\0\0\0\0\0\0\0\x04\0\0\0\0\0\0\0\0\
+    \0\0\0\0\0\0\0\x17a row of another status\0\0\0\0\0\0\0\x01\
+    t\0\0\0\0\0\0\0\x01\0\0\0\0\0\0\0\x06totals\0\0\0\0\0\0\0\0\
+    \0\0\0\0\0\0\0\0\0\0\0\0\0\0\0\x0bNOT SEALED\n\0\0\0\0\0\0\0\0\0\0\0\0\0\0\0\0\
+    \0\0\0\0\0\0\0\x15a row of another text\0\0\0\0\0\0\0\x01\
+    t\0\0\0\0\0\0\0\x01\0\0\0\0\0\0\0\x06totals\0\0\0\0\0\0\0\0\
+    \0\0\0\0\0\0\0\0\0\0\0\0\0\0\0\x09SEALED 1\n\0\0\0\0\0\0\0\x04\0\0\0\0\0\0\0\0";
+
 /// Carries a row out, with stores of its own, and says whether all was as it has to be.
 fn carry_out(alloc: Global, rows: &mut Packed<'_>) -> Result<bool, Fail> {
     let mut stores = Stores::new(alloc)?;
@@ -46,11 +58,10 @@ fn file_of_rows(rt: HostRuntime, alloc: Global) -> Result<Vec<u8>, Fail> {
     let mut whole = Vec::new(alloc);
     let mut piece = [0; 512];
     for _ in 0..100_000 {
-        let count = files.read(0, &mut piece).unwrap_or(0);
-        if count == 0 {
-            break;
+        match files.read(0, &mut piece) {
+            Ok(0) | Err(_) => break,
+            Ok(count) => whole.extend_from_slice(&piece[..count])?,
         }
-        whole.extend_from_slice(&piece[..count])?;
     }
     Ok(whole)
 }
@@ -66,6 +77,15 @@ fn rows_in_memory(rt: HostRuntime) -> Result<(), Fail> {
     println!(rt; "{passed} passed, {failed} failed")?;
     if failed > 0 {
         return Err(Fail::new("a row fails"));
+    }
+    Ok(())
+}
+
+/// Of these rows one passes, and both wrong ones fail.
+#[test]
+fn wrong_rows_fail(rt: HostRuntime) -> Result<(), Fail> {
+    if tally(rt, ROWS)? != (1, 2) {
+        return Err(Fail::new("a wrong row passes, or a right one fails"));
     }
     Ok(())
 }
