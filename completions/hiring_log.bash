@@ -1,4 +1,4 @@
-# Completion for hiring_log in bash. Made of bin/hiring_log by tools/completions.
+# Completion for hiring_log in bash. Made of bin/hiring_log by tools/make/completions.
 _hiring_log() {
   local at=1 folder= choices= choice ending= current=${COMP_WORDS[COMP_CWORD]}
   COMPREPLY=()

@@ -1,4 +1,4 @@
-# Completion for taxi in bash. Made of bin/taxi by tools/completions.
+# Completion for taxi in bash. Made of bin/taxi by tools/make/completions.
 _taxi() {
   local at=1 folder= choices= choice ending= current=${COMP_WORDS[COMP_CWORD]}
   COMPREPLY=()

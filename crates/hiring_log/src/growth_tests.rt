@@ -1,4 +1,4 @@
-//! A filing over a log in memory, for bench/growths, which refuses one growth of memory after the other in it.
+//! A filing over a log in memory, for tests/crash/growths, which refuses one growth of memory after the other in it.
 use crate::keep_log_tests::{Ended, SHOW, called, filing, is_end, receipts};
 use std::alloc::Global;
 use std::test::Fail;
@@ -23,7 +23,7 @@ fn told(alloc: Global, ended: &Ended, roll: &[u8]) -> Result<(), Fail> {
 }
 
 /// The roll is filed whole; or the log has no memory to grow, with 8, and its first receipts are filed. Only the first
-/// passes, and bench/growths reads which of the others it is.
+/// passes, and tests/crash/growths reads which of the others it is.
 #[test]
 fn a_filing(rt: HostRuntime) -> Result<(), Fail> {
     let roll = receipts(rt.alloc(), 2, 3)?;

@@ -1,4 +1,4 @@
-//! A run over a board in memory, for bench/growths, which refuses one growth of memory after the other in it.
+//! A run over a board in memory, for tests/crash/growths, which refuses one growth of memory after the other in it.
 use crate::failure_tests::SHOWN;
 use crate::run_tests::{HIRING, RUN};
 use crate::store_tests::{SECOND_LAYOUT, image_of};
@@ -31,7 +31,7 @@ fn told(image: &[u8; 2048], board: &MemoryBoard, status: u8) -> Result<(), Fail>
 }
 
 /// The hiring is carried out whole; or memory runs out before it begins, with 12 and nothing written; or the board has
-/// no memory to grow, with 8. Only the first passes, and bench/growths reads which of the others it is.
+/// no memory to grow, with 8. Only the first passes, and tests/crash/growths reads which of the others it is.
 #[test]
 fn a_hiring(rt: HostRuntime) -> Result<(), Fail> {
     let image = sealed_image();

@@ -1,0 +1,270 @@
+# How the program is made ready: proved and built with the kit's `rt` where it is missing or older than its sources.
+
+# The logic of the kit for which these proofs were written, as `rt version` names it.
+logic=dac8208d650f15bf
+
+# The crates that the program is made of, lowest first: crates.txt has them in that order.
+needed_crates() {
+  awk -F: -v program="$program_crate" '{ sub(/#.*/, "") } NF > 1 { name[++n] = $1; rest[n] = $2 }
+    END {
+      need[program] = 1
+      for (i = n; i > 0; i--) if (need[name[i]]) { k = split(rest[i], low, " "); while (k) need[low[k--]] = 1 }
+      for (i = 1; i <= n; i++) if (need[name[i]]) print name[i]
+    }' "$top/crates.txt"
+}
+
+# Whether a source of these crates is newer than a file. Tests are no part of what is built.
+is_older() {
+  local file=$1 crate places=("$top/crates.txt")
+  shift
+  [ -e "$file" ] || return 0
+  for crate in "$@"; do places+=("$top/crates/$crate"/{src,specs,proofs}); done
+  [ -n "$(find "${places[@]}" -type f ! -name '*tests.rt' ! -path '*tests/*' -newer "$file" -print -quit 2>/dev/null)" ]
+}
+
+# Makes the program ready: it is, where it is installed; else it is built where that is needed.
+make_ready() {
+  local crates
+  ! is_installed || return 0
+  crates=$(needed_crates)
+  # shellcheck disable=SC2086
+  { [ -x "$program" ] && ! is_older "$program" $crates; } || build
+}
+
+# The commit of the checkout, and -dirty where a source of the program is changed.
+commit() {
+  local commit crate places=(crates.txt)
+  commit=$(git -C "$top" rev-parse HEAD 2>/dev/null) || { echo unknown; return; }
+  for crate in $crates; do places+=("crates/$crate"); done
+  [ -z "$(git -C "$top" status --porcelain -- "${places[@]}" 2>/dev/null)" ] || commit+=-dirty
+  echo "$commit"
+}
+
+# Reads lib/shares into `share`, what each crate takes of the time in tenths of a minute, and `has`, its functions;
+# counts the functions of all crates, and the time of those that have to be proved.
+read_shares() {
+  local crate part functions stale=''
+  while read -r crate part functions; do
+    share[$crate]=$part has[$crate]=$functions
+  done < <(grep -v '^#' "$top/lib/shares")
+  for crate in $crates; do
+    all_functions=$((all_functions + ${has[$crate]-0}))
+    if [ "$crate" = "$program_crate" ] || is_older "$top/crates/$crate/out/rlib/stamp" "$crate"; then stale=yes; fi
+    [ -n "$stale" ] || share[$crate]=0
+    left=$((left + ${share[$crate]-0}))
+  done
+}
+
+# How many functions are done of a crate that is being proved, given its folder: rt keeps a file of each as it goes. It
+# keeps files of other things too, and those of earlier checks, so no more are counted than the crate has functions.
+proved_in() {
+  local count most=${has[${1##*/}]-0}
+  count=$(find "$1/out/incremental" -name '*-proofs.*.Proof.oantt' ! -name '*.TheImpl.Proof.oantt' 2>/dev/null | wc -l)
+  [ "$count" -le "$most" ] || count=$most
+  echo "$count"
+}
+
+# The same of all crates that are being proved.
+proved_inside() {
+  local folder count=0
+  for folder in "${proving[@]}"; do count=$((count + $(proved_in "$folder"))); done
+  echo "$count"
+}
+
+# Takes note of the crates that are being proved now, of each its folder.
+now_proving() {
+  local folder
+  proving=("$@") proving_names='' proving_share=0 proving_functions=0
+  for folder in "$@"; do
+    proving_names+=${proving_names:+ and }${folder##*/}
+    proving_share=$((proving_share + ${share[${folder##*/}]-0}))
+    proving_functions=$((proving_functions + ${has[${folder##*/}]-0}))
+  done
+}
+
+minutes() { echo "$(($1 / 60)) min $(($1 % 60)) s"; }
+
+# Shows how far the build is: the crates, functions, the time so far, and the time expected. What was proved in this run
+# says how fast it goes; before that a tenth of a minute is one. No fewer functions are shown than were shown before. On
+# a terminal it stays in one line.
+show_progress() {
+  local inside spent=$((SECONDS - began_building)) ahead=$left pace=600 from='' to='\n'
+  [ ! -t 2 ] || from='\r\033[K' to=''
+  inside=$(proved_inside)
+  [ $((done_functions + inside)) -le "$shown_functions" ] || shown_functions=$((done_functions + inside))
+  [ "$done_share" -lt 5 ] || pace=$((done_seconds * 100 / done_share))
+  [ "$proving_functions" -eq 0 ] || ahead=$((left - proving_share * inside / proving_functions))
+  [ "$ahead" -gt 0 ] || ahead=1
+  printf "$from%s: crate %s of %s, %s; %s of %s functions; %s so far, about %s min to go$to" "$name" "$place" "$all" \
+    "$proving_names" "$shown_functions" "$all_functions" "$(minutes $spent)" $(((ahead * pace / 100 + 59) / 60)) >&2
+}
+
+# Shows progress while a crate is proved: on a terminal in one line each second, else in a line a minute.
+show_on() {
+  local second=0 waited=''
+  while sleep 1 && kill -0 $$ 2>/dev/null; do
+    second=$((second + 1))
+    say_wait "$log/$crate" "$crate"
+    [ ! -t 2 ] && [ $((second % 60)) -ne 0 ] || show_progress
+  done
+}
+
+# Counts a crate that was proved as done, given its folder.
+count_done() {
+  local functions inside
+  functions=$(sed -n 's/^logic=proved functions=\([0-9]*\).*/\1/p' "$log/$crate" | tail -n 1)
+  # The table may be older than the crate. What was shown of it isn't taken back.
+  functions=${functions:-${has[$crate]-0}} inside=$(proved_in "$1")
+  [ "$functions" -ge "$inside" ] || functions=$inside
+  all_functions=$((all_functions + functions - ${has[$crate]-0})) done_functions=$((done_functions + functions))
+  left=$((left - ${share[$crate]-0}))
+}
+
+# What to tell rt of its jobs: two, where there is room for them. Of itself it gives the upper crates one, since it plans
+# three times the memory that they take (docs/STATUS.md).
+jobs() {
+  local free
+  free=$(awk '$1 == "MemAvailable:" { print int($2 / 1048576) }' /proc/meminfo)
+  [ "$(nproc)" -lt 2 ] || [ "${free:-0}" -lt 10 ] || echo --jobs 2
+}
+
+# Proves and builds a crate; its output goes to the log.
+build_crate() {
+  local watcher status begins=$SECONDS
+  # The program itself is built by a run that needs no file.
+  # shellcheck disable=SC2046,SC2086
+  if [ "$crate" = "$program_crate" ]; then set -- rt run $(jobs) -- $sample; else set -- rt lib $(jobs); fi
+  now_proving "$top/crates/$crate"
+  show_progress
+  show_on &
+  watcher=$!
+  (cd "$top/crates/$crate" && exec "$@") </dev/null >"$log/$crate" 2>&1
+  status=$?
+  kill $watcher 2>/dev/null
+  wait $watcher 2>/dev/null
+  count_done "$top/crates/$crate"
+  # What was proved before tells nothing of the pace.
+  if [ "${share[$crate]-0}" -gt 0 ] && [ $((SECONDS - begins)) -gt 10 ]; then
+    done_share=$((done_share + ${share[$crate]})) done_seconds=$((done_seconds + SECONDS - begins))
+  fi
+  return $status
+}
+
+# Whether there is a kit; says so where its logic is another one.
+has_kit() {
+  local kit
+  command -v rt >/dev/null 2>&1 ||
+    { say 'the command rt of the Rattle kit is not in the PATH; README.md says more'; return 1; }
+  kit=$(rt version 2>/dev/null)
+  [[ "$kit " == *" logic $logic "* ]] ||
+    say "this kit is '$kit', and the proofs are written for logic $logic, so with it they may fail or mean something else"
+}
+
+# Says where rt waits for another one that works on a crate, once for each, given its log and the crate.
+say_wait() {
+  [[ " $waited " != *" $2 "* ]] && grep -q '^rt: waiting for another rt' "$1" 2>/dev/null || return 0
+  waited+=" $2"
+  [ ! -t 2 ] || printf '\r\033[K' >&2
+  say "another process is at $2 in this checkout; this one waits until that is done"
+}
+
+# Proves and builds the crates, one after the other.
+build_in_turn() {
+  for crate in $crates; do
+    place=$((place + 1))
+    build_crate || return 1
+  done
+}
+
+# Proves and builds the program, and only the crates that it needs.
+build() {
+  local crate place=0 all log began_building=$SECONDS commit
+  local left=0 all_functions=0 done_functions=0 shown_functions=0 done_share=0 done_seconds=0
+  local proving_names='' proving_share=0 proving_functions=0
+  local lane=''
+  local -a proving=() folder=()
+  local -A share=() has=()
+  has_kit || return 1
+  log=$(mktemp -d) || return 1
+  touch "$log/began"
+  commit=$(commit)
+  all=$(wc -w <<<"$crates")
+  read_shares
+  say 'proving and building the program: from nothing 20 minutes to an hour (docs/STATUS.md); later it is only run'
+  if have_two_lanes && make_lane; then build_in_lanes; else build_in_turn; fi || {
+    [ ! -t 2 ] || echo >&2
+    tail -n 20 "$log/$crate" >&2
+    say "$crate was not proved and built, so nothing was run; the whole output is in $log/$crate"
+    return 1
+  }
+  [ ! -t 2 ] || echo >&2
+  [ "$commit" = "$(commit)" ] || commit=${commit%-dirty}-dirty
+  printf 'program %s\ncommit %s\nkit %s\n' "$(sum_of_program)" "$commit" "$(rt version 2>/dev/null)" >"$program.built"
+  touch -r "$log/began" "$program"
+  rm -rf "$log"
+}
+
+sum_of_program() { sha256sum <"$program" | cut -d' ' -f1; }
+
+# What is written of the program where it was built, or installed.
+built_with() {
+  local record=$program.built
+  ! is_installed || record=$top/INSTALLED
+  sed -n "s/^$1 //p" "$record" 2>/dev/null | cut -d' ' -f1-"${2:-}"
+}
+
+# The layouts that a part of docs/STORE.md has, as `1 or 2`.
+layouts_of() {
+  local found row='^| 511 | layout | \([0-9]*\) |$'
+  found=$(sed -n "/^## The $1\$/,/^## /s/$row/\1/p" "$top/docs/STORE.md" 2>/dev/null | paste -sd ' ')
+  echo "${found:-unknown}" | sed 's/ / or /g'
+}
+
+# What program this is. It builds nothing.
+version() {
+  local sum=''
+  echo "$name $(cat "$top/VERSION" 2>/dev/null || echo unknown)"
+  [ ! -x "$program" ] || sum=$(sum_of_program)
+  if [ -z "$sum" ]; then echo 'program: none is built'
+  elif built_with program 1 | grep -qx "$sum"; then
+    printf 'commit: %s\nprogram: SHA-256 %s\nkit: %s\n' "$(built_with commit)" "$sum" "$(built_with kit)"
+  else
+    printf 'commit: unknown, since this program was built by something else\nprogram: SHA-256 %s\nkit: unknown\n' "$sum"
+  fi
+  echo "store: $(layouts)"
+  echo "pages: $top/docs"
+}
+
+# Answers from the same code, built at once and not proved, and ends.
+answer_now() {
+  local log status named file place watcher words=("$@")
+  [[ " $without_store " == *" $1 "* ]] || { say "--now is for the commands without a store: $without_store"; exit 1; }
+  ! leads_to_store 1 || { say "status 8: the output is $store itself; print to another file"; exit 8; }
+  has_kit || exit 125
+  # The program runs in another folder, so the files go by their whole names.
+  name_files "$@"
+  for file in "${named[@]}"; do
+    for place in "${!words[@]}"; do
+      [ "$place" -eq 0 ] || [ "${words[place]}" != "$file" ] || [[ $file == /* ]] || words[place]=$PWD/$file
+    done
+    [ ! -e "$file" ] || [ -f "$file" ] ||
+      { say "--now reads plain files alone, and $(shown_name "$file") is none"; exit 125; }
+  done
+  log=$(mktemp) || exit 125
+  [ ! -t 2 ] || say 'building without a proof; this takes half a minute to a minute'
+  (waited=''; while sleep 1 && kill -0 $$ 2>/dev/null; do say_wait "$log" "$program_crate"; done) >/dev/null &
+  watcher=$!
+  (cd "$top/crates/$program_crate" && exec rt try -- "${words[@]}") </dev/null 2>"$log"
+  { kill $watcher && wait $watcher; } 2>/dev/null
+  status=$(sed -n 's/^run=ended status=\([0-9]*\) .*proved=no$/\1/p' "$log" | tail -n 1)
+  if [ -z "$status" ]; then
+    tail -n 20 "$log" >&2
+    say "nothing was answered; the whole output is in $log"
+    exit 125
+  fi
+  rm -f "$log"
+  say 'nothing is proved of this answer: it is of the same code, built at once'
+  [ "$status" -eq 0 ] || say "status $status: $(meaning_of "$status" "$@")"
+  [ "$status" -ne 7 ] || say_unreadable "$@"
+  exit "$status"
+}

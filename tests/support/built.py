@@ -1,0 +1,27 @@
+"""The built programs, and a folder like a checkout whose programs are these themselves, without their wrappers."""
+
+import os
+import pathlib
+import shutil
+import sys
+
+TOP = pathlib.Path(__file__).resolve().parents[2]
+TAXI = TOP / "crates/taxi_cli/out/taxi_cli"
+HIRING_LOG = TOP / "crates/hiring_log/out/hiring_log"
+CITY, PARAMS = TOP / "examples/city.tariff", TOP / "examples/taxi.params"
+
+
+def need(test, *programs):
+    """Ends a test where a program that it needs isn't built."""
+    for program in programs:
+        if not os.access(program, os.X_OK):
+            sys.exit(f"{test}: {program} is not there; build it first, by bin/taxi or bin/hiring_log")
+
+
+def tree(folder):
+    """Makes that folder, and gives its tools."""
+    shutil.copytree(TOP / "tools", folder / "tools", ignore=shutil.ignore_patterns("__pycache__"))
+    (folder / "bin").mkdir()
+    (folder / "bin/taxi").symlink_to(TAXI)
+    (folder / "bin/hiring_log").symlink_to(HIRING_LOG)
+    return folder / "tools"

@@ -1,0 +1,1 @@
+"""The account of a trip for its passenger."""

@@ -1,0 +1,1 @@
+"""Pages of the public types and calls of each crate, made of its sources."""

@@ -1,0 +1,105 @@
+"""Words that several tools take: of a meter, of a day, and of a place in a tariff."""
+
+import argparse
+import datetime
+import pathlib
+import re
+from decimal import Decimal, InvalidOperation
+from fractions import Fraction
+
+from heglorwy.program import TOP, read
+
+
+def ranged(least, most):
+    """A whole number of a range."""
+
+    def read(text):
+        if not text.isascii() or not text.isdigit() or not least <= int(text) <= most:
+            raise argparse.ArgumentTypeError(f"{text!r} is no number of {least} to {most}")
+        return int(text)
+
+    return read
+
+
+def positive(text):
+    """A decimal number above 0."""
+    try:
+        number = Decimal(text)
+    except InvalidOperation:
+        number = Decimal(0)
+    if not number.is_finite() or not 0 < number <= 10**6:
+        raise argparse.ArgumentTypeError(f"{text!r} is no number above 0 and up to 1000000")
+    return number
+
+
+def percentage(text):
+    """A decimal number of 0 to 100, exactly."""
+    try:
+        number = Decimal(text)
+    except InvalidOperation:
+        number = Decimal(-1)
+    if not number.is_finite() or not 0 <= number <= 100:
+        raise argparse.ArgumentTypeError(f"{text!r} is no number of 0 to 100")
+    return Fraction(number)
+
+
+def minute(text):
+    """A minute of the day, from an hour as 22 or a time as 22:30."""
+    hours, colon, minutes = text.partition(":")
+    if (
+        not (hours.isascii() and hours.isdigit() and len(hours) <= 2 and int(hours) < 24)
+        or colon
+        and not (minutes.isascii() and minutes.isdigit() and len(minutes) == 2 and int(minutes) < 60)
+    ):
+        raise argparse.ArgumentTypeError(f"{text!r} is no hour as 22 and no time as 22:30")
+    return 60 * int(hours) + int(minutes or 0)
+
+
+def add_constant(parser):
+    parser.add_argument(
+        "--constant",
+        type=ranged(500, 200_000),
+        default=10_000,
+        metavar="K",
+        help="the constant, in pulses a kilometre (10000)",
+    )
+
+
+def add_params(parser, with_constant=True):
+    """A meter's parameters, and a constant in the place of theirs."""
+    parser.add_argument(
+        "--params",
+        default=TOP / "examples/taxi.params",
+        type=pathlib.Path,
+        metavar="PARAMS",
+        help="the secured parameters, as `taxi sealed` prints them (examples/taxi.params)",
+    )
+    if with_constant:
+        parser.add_argument(
+            "--constant", type=ranged(500, 200_000), metavar="K", help="the constant, in the place of theirs"
+        )
+
+
+def params_of(asked):
+    """The text of the parameters that were asked for."""
+    return with_constant(read(asked.params), asked.constant)
+
+
+def with_constant(text, constant):
+    """A text of parameters, with another constant where one is given."""
+    return re.sub(rb"(?m)^constant [0-9]+", b"constant %d" % constant, text) if constant else text
+
+
+def add_place(parser, as_words=True):
+    """Words for a tariff position and a zone, or options."""
+    for name in ("position", "zone"):
+        if as_words:
+            parser.add_argument(
+                name, nargs="?", type=ranged(1, 9), default=1, metavar=name.upper(), help=f"the {name} (1)"
+            )
+        else:
+            parser.add_argument(f"--{name}", type=ranged(1, 9), default=1, metavar="N", help=f"the {name} (1)")
+
+
+date = datetime.date.fromisoformat
+EXAMPLE_DAY = date("2026-03-02")  # a Monday, and no holiday of the examples

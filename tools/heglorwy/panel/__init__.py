@@ -1,0 +1,1 @@
+"""A meter behind a page of the browser."""

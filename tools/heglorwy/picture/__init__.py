@@ -1,0 +1,1 @@
+"""Pictures of a tariff's week, of its fares and of a trip."""
