@@ -1,6 +1,6 @@
 -- What accepted keys do, key by key.
-use Rattle.std.proofs.Common.{◌≡◌, ◌⊎◌, inl, inr, ◌<◌, ◌≤◌, ◌&&◌, ℕ, [], Bool, true, false, Option, Some, None, sum, refl}
-use Rattle.std.proofs.Common.{if◌then◌else◌, nat_le, arith}
+use Rattle.std.proofs.Common.{◌≡◌, ◌⊎◌, inl, inr, ◌<◌, ◌≤◌, ℕ, [], Some, None, sum, refl}
+use Rattle.std.proofs.Common.{arith}
 use Rattle.std.proofs.lemmas.Grind.{common_steps}
 use Rattle.tariff_check.specs.Amounts.{fees_in_force}
 use Rattle.tariff_check.specs.SoundTariff.{supplement_numbered}
@@ -15,12 +15,11 @@ use Rattle.taxi_units.specs.declared.receipt.Kind.TheVariants.{Closed}
 use Rattle.meter_states.specs.Closing.{closed}
 use Rattle.meter_states.specs.Interval.{context_now}
 use Rattle.meter_states.specs.KeyTable.{MayAct}
-use Rattle.meter_states.specs.Keys.{act_done, act_of, latch_pressed}
-use Rattle.meter_states.specs.Meter.{Meter, Outcome, quiet, refused}
+use Rattle.meter_states.specs.Keys.{act_of, latch_pressed}
+use Rattle.meter_states.specs.Meter.{Meter, quiet, refused}
 use Rattle.meter_states.specs.Setting.{Setting}
 use Rattle.meter_states.specs.Supplements.{times}
 use Rattle.meter_states.specs.Trip.{MeterTrip, begun, with_extra}
-use Rattle.meter_states.specs.declared.keys.KeyAct.{KeyAct}
 use Rattle.meter_states.specs.declared.keys.KeyAct.TheVariants as key_acts
 
 pub hires : (s : Setting) (m : Meter) → m.operating ≡ ForHire → m.durable.number < hirings_end
