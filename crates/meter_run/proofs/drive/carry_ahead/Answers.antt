@@ -9,8 +9,8 @@ use Rattle.meter_run.proofs.Ended.{not_told}
 use Rattle.meter_run.proofs.Going.{counts_more, no_more, not_ok, not_this, on_err, went_well, went_wrong, true_is}
 use Rattle.meter_run.proofs.drive.carry_ahead.Goals as goal
 
-pub loop-stop-init : goal.loop-stop-init
-loop-stop-init g c = record {
+pub ahead-init : goal.ahead-init
+ahead-init g c = record {
   ready = c.requires.ready;
   way = way_none (g.C.Carrier.carried c.args.by.now) (g.C.Carrier.broke_off c.args.by.now)
       (g.met.C.Carrier.behind c.args.by.now) (g.met.C.Carrier.later c.args.by.now)
@@ -22,13 +22,13 @@ loop-stop-init g c = record {
 
 pub feed-stop-requires : goal.feed-stop-requires
 feed-stop-requires g c = record {
-  given = c.loop-stop.invariant.given;
-  some = c.loop-stop.invariant.some;
+  given = c.ahead.invariant.given;
+  some = c.ahead.invariant.some;
   none = c.clear.ensures;
 }
 
 pub carry_runs-requires-clause-ready : goal.carry_runs-requires-clause-ready
-carry_runs-requires-clause-ready g c = c.loop-stop.invariant.ready
+carry_runs-requires-clause-ready g c = c.ahead.invariant.ready
 
 pub carry_runs-requires-clause-ranges : goal.carry_runs-requires-clause-ranges
 carry_runs-requires-clause-ranges g c =
@@ -50,22 +50,22 @@ returns-in_err-carry_runs-clause-bad g c =
 
 pub returns-in_err-carry_runs-clause-cause : goal.returns-in_err-carry_runs-clause-cause
 returns-in_err-carry_runs-clause-cause g c =
-    went_wrong (g.B.Board.faults c.args.board.now) (g.B.Board.faults c.loop-stop.board)
+    went_wrong (g.B.Board.faults c.args.board.now) (g.B.Board.faults c.ahead.board)
     (g.B.Board.faults c.carry_runs.new.board) _ c.from_residual.result c.from_residual.ensures.0
-    c.loop-stop.invariant.faults c.in_err-carry_runs.ensures.cause
+    c.ahead.invariant.faults c.in_err-carry_runs.ensures.cause
 
 pub returns-in_err-carry_runs-clause-broke_off : goal.returns-in_err-carry_runs-clause-broke_off
 returns-in_err-carry_runs-clause-broke_off g c =
     let r = c.args.by.now in
     let runs = c.feed-stop.new.runs.items in
-    let broken = subst (λ (rs : List Run). g.C.Carrier.broke_off r c.loop-stop.meter c.loop-stop.board
+    let broken = subst (λ (rs : List Run). g.C.Carrier.broke_off r c.ahead.meter c.ahead.board
     (flat_map run_events rs) c.carry_runs.new.board) c.as_slice.ensures.value
     c.in_err-carry_runs.ensures.broke_off in
     on_err c.from_residual.result _
     (way_breaks (g.C.Carrier.carried r) (g.C.Carrier.broke_off r) (g.met.C.Carrier.behind r) (g.met.C.Carrier.later r)
-    (g.met.C.Carrier.sooner r) c.args.source.now c.args.meter.now c.args.board.now c.args.steps.now c.loop-stop.source
-    c.loop-stop.meter c.loop-stop.board c.loop-stop.steps c.carry_runs.new.steps runs c.loop-stop.invariant.way
-    (subst (λ (rs : List Run). IsBounded c.loop-stop.steps c.carry_runs.new.steps (flat_map run_events rs))
+    (g.met.C.Carrier.sooner r) c.args.source.now c.args.meter.now c.args.board.now c.args.steps.now c.ahead.source
+    c.ahead.meter c.ahead.board c.ahead.steps c.carry_runs.new.steps runs c.ahead.invariant.way
+    (subst (λ (rs : List Run). IsBounded c.ahead.steps c.carry_runs.new.steps (flat_map run_events rs))
     c.as_slice.ensures.value c.carry_runs.ensures.steps)
     c.feed-stop.new.self c.carry_runs.new.board c.feed-stop.result c.feed-stop.ensures.more
     (λ stop is. rw is at c.feed-stop.ensures.stops) broken)
@@ -80,12 +80,12 @@ pub returns-in-Some-clause-stops : goal.returns-in-Some-clause-stops
 returns-in-Some-clause-stops g c =
     let r = c.args.by.now in
     let runs = c.feed-stop.new.runs.items in
-    let next = subst (λ (rs : List Run). g.C.Carrier.carried r c.loop-stop.meter c.loop-stop.board (flat_map run_events
+    let next = subst (λ (rs : List Run). g.C.Carrier.carried r c.ahead.meter c.ahead.board (flat_map run_events
     rs) c.carry_runs.new.meter c.carry_runs.new.board) c.as_slice.ensures.value c.in_ok-carry_runs.ensures.carried in
     way_stops (g.C.Carrier.carried r) (g.C.Carrier.broke_off r) (g.met.C.Carrier.behind r) (g.met.C.Carrier.later r)
-    (g.met.C.Carrier.sooner r) c.args.source.now c.args.meter.now c.args.board.now c.args.steps.now c.loop-stop.source
-    c.loop-stop.meter c.loop-stop.board c.loop-stop.steps c.carry_runs.new.steps runs c.loop-stop.invariant.way
-    (subst (λ (rs : List Run). IsBounded c.loop-stop.steps c.carry_runs.new.steps (flat_map run_events rs))
+    (g.met.C.Carrier.sooner r) c.args.source.now c.args.meter.now c.args.board.now c.args.steps.now c.ahead.source
+    c.ahead.meter c.ahead.board c.ahead.steps c.carry_runs.new.steps runs c.ahead.invariant.way
+    (subst (λ (rs : List Run). IsBounded c.ahead.steps c.carry_runs.new.steps (flat_map run_events rs))
     c.as_slice.ensures.value c.carry_runs.ensures.steps)
     c.carry_runs.new.meter c.carry_runs.new.board c.in-Some.stop c.in-Some.ensures.stops next
 
@@ -99,8 +99,8 @@ returns-in-Some-clause-bad g c =
 pub returns-in-Some-clause-cause : goal.returns-in-Some-clause-cause
 returns-in-Some-clause-cause g c =
     went_well (g.B.Board.faults c.args.board.now) (g.B.Board.faults c.carry_runs.new.board) _
-    (counts_more (g.B.Board.faults c.args.board.now) (g.B.Board.faults c.loop-stop.board)
-    (g.B.Board.faults c.carry_runs.new.board) c.loop-stop.invariant.faults
+    (counts_more (g.B.Board.faults c.args.board.now) (g.B.Board.faults c.ahead.board)
+    (g.B.Board.faults c.carry_runs.new.board) c.ahead.invariant.faults
     (c.in_ok-carry_runs.ensures.cause.kept true_is))
 
 pub returns-then-is_through-clause-ready : goal.returns-then-is_through-clause-ready
@@ -110,15 +110,15 @@ pub returns-then-is_through-clause-goes_on : goal.returns-then-is_through-clause
 returns-then-is_through-clause-goes_on g c = λ none.
     let r = c.args.by.now in
     let runs = c.feed-stop.new.runs.items in
-    let next = subst (λ (rs : List Run). g.C.Carrier.carried r c.loop-stop.meter c.loop-stop.board (flat_map run_events
+    let next = subst (λ (rs : List Run). g.C.Carrier.carried r c.ahead.meter c.ahead.board (flat_map run_events
     rs) c.carry_runs.new.meter c.carry_runs.new.board) c.as_slice.ensures.value c.in_ok-carry_runs.ensures.carried in
     way_through (g.C.Carrier.carried r) (g.C.Carrier.broke_off r) (g.met.C.Carrier.behind r) (g.met.C.Carrier.later r)
     (g.met.C.Carrier.sooner r) c.args.source.now c.args.meter.now c.args.board.now c.args.steps.now c.feed-stop.new.self
     c.carry_runs.new.meter c.carry_runs.new.board c.carry_runs.new.steps
     (way_more (g.C.Carrier.carried r) (g.C.Carrier.broke_off r) (g.met.C.Carrier.behind r) (g.met.C.Carrier.later r)
-    (g.met.C.Carrier.sooner r) c.args.source.now c.args.meter.now c.args.board.now c.args.steps.now c.loop-stop.source
-    c.loop-stop.meter c.loop-stop.board c.loop-stop.steps c.carry_runs.new.steps runs c.loop-stop.invariant.way
-    (subst (λ (rs : List Run). IsBounded c.loop-stop.steps c.carry_runs.new.steps (flat_map run_events rs))
+    (g.met.C.Carrier.sooner r) c.args.source.now c.args.meter.now c.args.board.now c.args.steps.now c.ahead.source
+    c.ahead.meter c.ahead.board c.ahead.steps c.carry_runs.new.steps runs c.ahead.invariant.way
+    (subst (λ (rs : List Run). IsBounded c.ahead.steps c.carry_runs.new.steps (flat_map run_events rs))
     c.as_slice.ensures.value c.carry_runs.ensures.steps)
     c.feed-stop.new.self c.carry_runs.new.meter c.carry_runs.new.board (c.feed-stop.ensures.more c.in_default.is) next)
     (c.is_through.ensures.0 c.if-is_through.true)
@@ -129,37 +129,37 @@ returns-then-is_through-clause-bad g c = λ stop is. absurd (none_not_some _ sto
 pub returns-then-is_through-clause-cause : goal.returns-then-is_through-clause-cause
 returns-then-is_through-clause-cause g c =
     went_well (g.B.Board.faults c.args.board.now) (g.B.Board.faults c.carry_runs.new.board) _
-    (counts_more (g.B.Board.faults c.args.board.now) (g.B.Board.faults c.loop-stop.board)
-    (g.B.Board.faults c.carry_runs.new.board) c.loop-stop.invariant.faults
+    (counts_more (g.B.Board.faults c.args.board.now) (g.B.Board.faults c.ahead.board)
+    (g.B.Board.faults c.carry_runs.new.board) c.ahead.invariant.faults
     (c.in_ok-carry_runs.ensures.cause.kept true_is))
 
-pub loop-stop-smaller : goal.loop-stop-smaller
-loop-stop-smaller g c =
-    let given = c.loop-stop.invariant.given in
-    smaller (Unit {0}) c.loop-stop.source c.feed-stop.new.self [] [] given.0 c.feed-stop.new.runs.items given.1
+pub ahead-smaller : goal.ahead-smaller
+ahead-smaller g c =
+    let given = c.ahead.invariant.given in
+    smaller (Unit {0}) c.ahead.source c.feed-stop.new.self [] [] given.0 c.feed-stop.new.runs.items given.1
     (c.feed-stop.ensures.more c.in_default.is given.0 [] given.1)
 
-pub loop-stop-preserved : goal.loop-stop-preserved
-loop-stop-preserved g c =
+pub ahead-preserved : goal.ahead-preserved
+ahead-preserved g c =
     let r = c.args.by.now in
     let runs = c.feed-stop.new.runs.items in
-    let given = c.loop-stop.invariant.given in
+    let given = c.ahead.invariant.given in
     let gives = c.feed-stop.ensures.more c.in_default.is given.0 [] given.1 in
-    let next = subst (λ (rs : List Run). g.C.Carrier.carried r c.loop-stop.meter c.loop-stop.board (flat_map run_events
+    let next = subst (λ (rs : List Run). g.C.Carrier.carried r c.ahead.meter c.ahead.board (flat_map run_events
     rs) c.carry_runs.new.meter c.carry_runs.new.board) c.as_slice.ensures.value c.in_ok-carry_runs.ensures.carried in
     record {
       ready = c.in_ok-carry_runs.ensures.ready;
       way = way_more (g.C.Carrier.carried r) (g.C.Carrier.broke_off r) (g.met.C.Carrier.behind r) (g.met.C.Carrier.later r)
-    (g.met.C.Carrier.sooner r) c.args.source.now c.args.meter.now c.args.board.now c.args.steps.now c.loop-stop.source
-    c.loop-stop.meter c.loop-stop.board c.loop-stop.steps c.carry_runs.new.steps runs c.loop-stop.invariant.way
-    (subst (λ (rs : List Run). IsBounded c.loop-stop.steps c.carry_runs.new.steps (flat_map run_events rs))
-    c.as_slice.ensures.value c.carry_runs.ensures.steps)
+          (g.met.C.Carrier.sooner r) c.args.source.now c.args.meter.now c.args.board.now c.args.steps.now c.ahead.source
+          c.ahead.meter c.ahead.board c.ahead.steps c.carry_runs.new.steps runs c.ahead.invariant.way
+          (subst (λ (rs : List Run). IsBounded c.ahead.steps c.carry_runs.new.steps (flat_map run_events rs))
+          c.as_slice.ensures.value c.carry_runs.ensures.steps)
           c.feed-stop.new.self c.carry_runs.new.meter c.carry_runs.new.board
           (c.feed-stop.ensures.more c.in_default.is) next;
       given = (given.0 ++ gives.fed, gives.goes_on);
       some = some_ahead c.feed-stop.new.self.ahead
           (not_told c.is_through.result _ c.is_through.ensures.1 c.if-is_through.false);
-      faults = counts_more (g.B.Board.faults c.args.board.now) (g.B.Board.faults c.loop-stop.board)
-          (g.B.Board.faults c.carry_runs.new.board) c.loop-stop.invariant.faults
+      faults = counts_more (g.B.Board.faults c.args.board.now) (g.B.Board.faults c.ahead.board)
+          (g.B.Board.faults c.carry_runs.new.board) c.ahead.invariant.faults
           (c.in_ok-carry_runs.ensures.cause.kept true_is);
     }

@@ -1,4 +1,4 @@
-use Rattle.std.proofs.Common.{◌∙◌, ℕ, List, [], ◌++◌, None, Ok, Some, ap, sym}
+use Rattle.std.proofs.Common.{◌∙◌, List, ◌++◌, Ok, Some, ap, sym}
 use Rattle.outside.proofs.Laws.{may_rise_more, may_rise_not}
 use Rattle.taxi_units.specs.declared.event.Event.{Event}
 use Rattle.meter_run.proofs.Driving.{answer_of_call, answers_then, bad_not_fault, breaks_as, carries_filled, err_then}

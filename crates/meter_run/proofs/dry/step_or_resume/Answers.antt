@@ -1,4 +1,4 @@
-use Rattle.std.proofs.Common.{◌∙◌, List, All, sym, subst}
+use Rattle.std.proofs.Common.{◌∙◌, sym, subst}
 use Rattle.taxi_units.specs.declared.event.Event.{Event}
 use Rattle.meter_states.specs.Core.{Meets}
 use Rattle.meter_states.specs.Lawful.{IsTimely}
