@@ -4,17 +4,15 @@ use Rattle.outside.specs.declared.board.Board.{Ghosts}
 use Rattle.outside.specs.declared.files.Files.{Ghosts as FileGhosts}
 use Rattle.outside.specs.Faults.{RisesOnlyIf, Rose}
 use Rattle.outside.specs.Runs.{IsSettled, KeepsStore}
-use Rattle.commands.specs.declared.ending.Ended.{Ended}
-use Rattle.commands.specs.declared.ending.Ended.TheVariants as ended
-use Rattle.commands.specs.Call.{HasReadFault, IsCall, IsEnd, LeavesUnread, MayLack, MayTake}
-use Rattle.commands.specs.Carried.{Carries}
-use Rattle.commands.specs.Course.{Command, Course, Answered, ReadFailed, NoMemory, BoardFailed, status_in, text_in}
-use Rattle.commands.specs.Ending.{EndsOnDevices, HasCauseOn}
-use Rattle.commands.specs.LastLine.{line_of, status_of}
-use Rattle.commands.specs.Unwritten.{WritesNothing}
-use Rattle.commands.proofs.Counting.{rose_after, rose_before}
-use Rattle.commands.proofs.Endings.{ends-with, finishes-later, may-then}
-use Rattle.commands.proofs.Unwritten.{bytes-kept, bytes-then}
+use Rattle.call_ends.specs.declared.ending.Ended.{Ended}
+use Rattle.call_ends.specs.declared.ending.Ended.TheVariants as ended
+use Rattle.call_ends.specs.Call.{HasReadFault, IsCall, IsEnd, LeavesUnread, MayLack, MayTake}
+use Rattle.call_ends.specs.Carried.{Carries}
+use Rattle.call_ends.specs.Course.{Command, Course, Answered, ReadFailed, NoMemory, BoardFailed, status_in, text_in}
+use Rattle.call_ends.specs.Ending.{EndsOnDevices, HasCauseOn}
+use Rattle.call_ends.specs.LastLine.{line_of, status_of}
+use Rattle.call_ends.specs.Unwritten.{WritesNothing}
+use Rattle.call_ends.proofs.Laws.{rose_after, rose_before, ends-with, finishes-later, may-then, bytes-kept, bytes-then}
 
 module _ {E D L : Type 0} {N : ℕ} (F : FileGhosts E) (B : Ghosts D N L) (files files' : E) (old mid new : D)
     (end : Ended) (status : ℕ)

@@ -6,11 +6,10 @@ use Rattle.std.specs.Str.Parse.{digits_value}
 use Rattle.taxi_units.specs.Number.{digits_at_front, figure_in}
 use Rattle.drive_modes.specs.Constant.{least_constant, greatest_constant}
 use Rattle.shift_book.specs.Reading.{driver_of}
-use Rattle.commands.specs.Years.{years_of}
+use Rattle.store_commands.specs.Years.{years_of}
 use Rattle.commands.specs.declared.words.Row.{Row}
-use Rattle.commands.specs.declared.words.Row.TheVariants.{Check, Tables, Fare, Totals, Seal, Run, Bench, Gen}
-use Rattle.commands.specs.declared.words.Row.TheVariants.{Port, Offsets, Mark, Shifts, Sealed, Form, Lines, Explain}
-use Rattle.commands.specs.declared.words.Row.TheVariants.{Compare}
+use Rattle.commands.specs.declared.words.Row.TheVariants.{Check, Tables, Fare, Totals, Seal, Run, Bench, Gen, Port}
+use Rattle.commands.specs.declared.words.Row.TheVariants.{Offsets, Mark, Shifts, Sealed, Form, Lines, Explain, Compare}
 use Rattle.taxi_units.specs.Words.{is_word}
 
 -- a word is a constant where it is a number of at most 6 digits and of 500 to 200,000, and else none; `figure_in` gives

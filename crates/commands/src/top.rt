@@ -1,39 +1,39 @@
 //! The top call: words in, a status out.
-#![tactic(auto, using(crate::proofs::BoardRuns::board_runs))]
+#![tactic(auto, using(call_ends::proofs::Laws::board_runs))]
 
 ghost use Rattle.std.specs.Prelude.{◌≡◌, ◌≢◌, ℕ, None, Some};
 ghost use Rattle.outside.specs.Faults.{RisesOnlyIf};
 ghost use Rattle.outside.specs.Runs.{IsSettled, KeepsStore, LeavesOnly};
-ghost use Rattle.commands.specs.Call.{IsCall, StopsReading};
+ghost use Rattle.call_ends.specs.Call.{IsCall, StopsReading};
 ghost use Rattle.commands.specs.Called.{called_by, row_in, ComesToAnswer, MayLeaveSealingBy, TakesSteps, sealing_by};
 ghost use Rattle.commands.specs.Carried.{CarriesRow};
 ghost use Rattle.commands.specs.Command.{IsReadOnlyRow};
-ghost use Rattle.commands.specs.Run.{IsRun};
-ghost use Rattle.commands.specs.Seal.{Seals};
-ghost use Rattle.commands.specs.Unwritten.{LeavesImage, WritesNothing};
+ghost use Rattle.drive_commands.specs.Run.{IsRun};
+ghost use Rattle.store_commands.specs.Seal.{Seals};
+ghost use Rattle.call_ends.specs.Unwritten.{LeavesImage, WritesNothing};
 
-use crate::bench::bench;
-use crate::check::check_tariff;
-use crate::compare::print_comparison;
-use crate::ending::{Ended, finish};
-use crate::explain::explain;
-use crate::fare::fare;
-use crate::form::print_form;
-use crate::generate::generate;
-use crate::lines::print_lines;
-use crate::mark::print_mark;
-use crate::offsets::print_offsets;
-use crate::port::serve_requests;
-use crate::run::run;
-use crate::seal::seal_store;
-use crate::sealed_params::print_sealed;
-use crate::shifts::print_shifts;
-use crate::tables::print_tables;
-use crate::totals::print_store;
 use crate::words::{Row, row_in};
+use call_ends::{Ended, finish};
+use drive_commands::bench::bench;
+use drive_commands::explain::explain;
+use drive_commands::fare::fare;
+use drive_commands::generate::generate;
+use drive_commands::run::run;
 use outside::{Board, Files, STORE_SIZE};
 use std::alloc::Global;
 use std::sync::ledger::Ledger;
+use store_commands::mark::print_mark;
+use store_commands::offsets::print_offsets;
+use store_commands::port::serve_requests;
+use store_commands::seal::seal_store;
+use store_commands::sealed_params::print_sealed;
+use store_commands::shifts::print_shifts;
+use store_commands::totals::print_store;
+use tariff_commands::check::check_tariff;
+use tariff_commands::compare::print_comparison;
+use tariff_commands::form::print_form;
+use tariff_commands::lines::print_lines;
+use tariff_commands::tables::print_tables;
 use taxi_units::Steps;
 
 /// Carries out a command, but for its last line.

@@ -8,11 +8,11 @@ ghost use Rattle.shift_book.specs.Reading.{driver_of};
 ghost use Rattle.commands.specs.Words.{constant_of, fitting, row_of, seed_of, signs_on, trips_of};
 ghost use Rattle.commands.specs.Words as spec;
 
-use crate::years::Years;
 use arrayvec::ArrayVec;
 use drive_modes::{Constant, GREATEST_CONSTANT, LEAST_CONSTANT};
 use shift_book::read_driver;
 use std::marker::Model;
+use store_commands::Years;
 use taxi_units::{figure_in, is_word};
 
 /// How many trips a generated drive has: 1 to 1,000.

@@ -4,23 +4,20 @@ use Rattle.outside.specs.Runs.{IsSettled, KeepsStore}
 use Rattle.outside.proofs.Laws.{keeps_then}
 use Rattle.outside.specs.declared.board.Board.{Ghosts}
 use Rattle.outside.specs.declared.files.Files.{Ghosts as FileGhosts}
-use Rattle.commands.proofs.Counting.{board_counts, cause_carried, files_left, not_some}
-use Rattle.commands.specs.declared.ending.Ended.{Ended}
-use Rattle.commands.specs.declared.ending.Ended.TheVariants as ended
+use Rattle.call_ends.proofs.Laws.{board_counts, cause_carried, files_left, not_some, not_status, bytes-kept, bytes-then}
+use Rattle.call_ends.specs.declared.ending.Ended.{Ended}
+use Rattle.call_ends.specs.declared.ending.Ended.TheVariants as ended
 use Rattle.commands.specs.declared.words.Row.{Row}
 use Rattle.commands.specs.declared.words.Row.TheVariants as rows
-use Rattle.commands.specs.Call.{IsCall, LeavesUnread}
+use Rattle.call_ends.specs.Call.{IsCall, LeavesUnread}
 use Rattle.commands.specs.Carried.{RowReachesLine}
 use Rattle.commands.specs.Command.{IsReadOnlyRow, called, command_of}
-use Rattle.commands.specs.Course.{Answered}
-use Rattle.commands.specs.Run.{run_command}
-use Rattle.commands.specs.Unwritten.{LeavesImage, WritesNothing}
-use Rattle.commands.proofs.Amid.{seals-finished, seals-settled}
+use Rattle.call_ends.specs.Course.{Answered}
+use Rattle.drive_commands.specs.Run.{run_command}
+use Rattle.call_ends.specs.Unwritten.{LeavesImage, WritesNothing}
+use Rattle.store_commands.proofs.Laws.{seals-finished, seals-settled, unwritten-finished}
 use Rattle.commands.proofs.Calls.{call_course, call_from, completes, nothing_written, rests_after}
-use Rattle.commands.proofs.EndsApart.{not_status}
-use Rattle.commands.proofs.ReadOnlyCalls.{unwritten-finished}
-use Rattle.commands.proofs.RunEnds.{run-finished}
-use Rattle.commands.proofs.Unwritten.{bytes-kept, bytes-then}
+use Rattle.drive_commands.proofs.Laws.{run-finished}
 use Rattle.commands.proofs.top.taxi.Goals as goal
 
 is_seal : (row : Row) → Some row ≡ Some rows.Seal → row ≡ rows.Seal
