@@ -2,7 +2,7 @@
 use Rattle.std.specs.Prelude.{◌≡◌, ◌≢◌, ℕ, ◌+◌, ◌≤◌, List, [], Some}
 use Rattle.outside.specs.Disk.{store_size}
 use Rattle.outside.specs.Faults.{Rose}
-use Rattle.outside.specs.Runs.{IsSettled, KeepsStore}
+use Rattle.outside.specs.Runs.{IsAtRest, KeepsStore}
 use Rattle.outside.specs.declared.board.Board.{Ghosts}
 use Rattle.outside.specs.declared.files.Files.{Ghosts as FileGhosts}
 use Rattle.commands.specs.Call.{LeavesUnread, StopsReading}
@@ -14,7 +14,7 @@ use Rattle.commands.specs.Opening.{opening_of}
 use Rattle.commands.specs.RunSteps.{RunReachesLine}
 use Rattle.commands.specs.Seal.{Seals, sealing_of}
 use Rattle.commands.specs.SealSteps.{RestsAmid}
-use Rattle.commands.specs.Unwritten.{KeepsBytes}
+use Rattle.commands.specs.Unwritten.{WritesNothing}
 use Rattle.commands.specs.declared.ending.Ended.{Ended}
 use Rattle.commands.specs.declared.ending.Ended.TheVariants.{BoardFault, ReadFault}
 use Rattle.commands.specs.declared.words.Row.{Row}
@@ -26,20 +26,20 @@ module _ {E D L : Type 0} {N : ℕ} (F : FileGhosts E) (B : Ghosts D N L) where
   -- all may have written where the board fails, and one that opens the store leaves nothing in flight unless the board
   -- failed
   pub record Carries (c : Command) (files files' : E) (old new : D) (before now : ℕ) (ended : Ended) : Type 0 where
-    pub ends : c.known F.tells B.tells_image → EndsOnDevices F B c files files' old new ended
+    pub ends : c.told F.tells B.tells_image → EndsOnDevices F B c files files' old new ended
     pub steps : (later : ℕ) → later ≤ now + 1
         → c.steps F.tells B.tells_image (F.rest files) (F.rest files') (B.image old) before later
     pub read_fault : ended ≡ ReadFault → StopsReading F c files files'
     pub board_fault : ended ≡ BoardFault → Rose (B.faults old) (B.faults new)
     pub others : (word : ℕ) → ¬ c.reads word → F.rest files' word ≡ F.rest files word
-    pub unread : c.known F.tells B.tells_image → LeavesUnread c (F.rest files) (F.rest files') (B.image old)
+    pub unread : c.told F.tells B.tells_image → LeavesUnread c (F.rest files) (F.rest files') (B.image old)
     pub count : ended ≢ BoardFault → B.faults new ≡ B.faults old
     pub counts : ended ≢ ReadFault → ended ≢ BoardFault → (word : ℕ) → F.faults files' word ≡ F.faults files word
     pub kept : ¬ c.opens → KeepsStore B old new
-    pub unwritten : ¬ c.writes (status_of ended) → KeepsBytes B old new
+    pub unwritten : ¬ c.writes (status_of ended) → WritesNothing B old new
     pub same : ¬ c.writes (status_of ended) → ended ≢ BoardFault → B.image new ≡ B.image old
     pub fails : (status : ℕ) → c.writes status → c.writes 8
-    pub at_rest : c.known F.tells B.tells_image → B.tells_image → c.opens → ended ≢ BoardFault → IsSettled B new
+    pub at_rest : c.told F.tells B.tells_image → B.tells_image → c.opens → ended ≢ BoardFault → IsAtRest B new
     pub looks : IsReadOnlyCommand c → B.tells_image → LeavesImageSettled B old new ended
 
   -- a sealing comes to its last line where all holds of it that `Seals` says, and a cut while that line is printed

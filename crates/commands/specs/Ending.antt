@@ -2,14 +2,14 @@
 use Rattle.std.specs.Prelude.{◌≡◌, ◌≢◌, ◌⊎◌, ℕ, Bool, true, false, List, [], ◌++◌, Result, Ok, Err}
 use Rattle.outside.specs.Faults.{Rose}
 use Rattle.outside.specs.Printing.{Begins}
-use Rattle.outside.specs.Runs.{IsSettled}
+use Rattle.outside.specs.Runs.{IsAtRest}
 use Rattle.outside.specs.declared.board.Board.{Ghosts}
 use Rattle.outside.specs.declared.files.Files.{Ghosts as FileGhosts}
 use Rattle.commands.specs.Call.{MayTake}
-use Rattle.commands.specs.Course.{Command, Course, status_in, shown_in, line_in, text_in}
+use Rattle.commands.specs.Course.{Command, Course, status_in, shown_in, line_in, call_text}
 use Rattle.commands.specs.LastLine.{status_of, line_of}
 use Rattle.commands.specs.Shifts.{ended_for_book}
-use Rattle.commands.specs.Unwritten.{KeepsBytes, LeavesImage}
+use Rattle.commands.specs.Unwritten.{WritesNothing, LeavesImage}
 use Rattle.commands.specs.declared.ending.Ended.{Ended}
 use Rattle.commands.specs.declared.ending.Ended.TheVariants.{Done, BadTariff, BadDrive, BadRules, NotPassed}
 use Rattle.commands.specs.declared.ending.Ended.TheVariants.{BadParams, EndlessDrive, ReadFault, BoardFault, NoMemory}
@@ -95,7 +95,7 @@ module _ (c : Command) (contents left : ℕ → List ℕ) (image : List ℕ) (re
   pub record IsBrokenOff (course : Course) (ended : Ended) : Type 0 where
     pub ended_is : ended ≡ BoardFault
     pub failed : board_failed
-    pub started : begun (text_in c contents image course)
+    pub started : begun (call_text c contents image course)
 
   -- a command comes to an end where it may take a course, and the last line of that is due or the course is broken off
   pub record EndsByCourse (ended : Ended) : Type 0 where
@@ -131,12 +131,12 @@ module _ {D L : Type 0} {N : ℕ} (B : Ghosts D N L) where
   pub record LeavesImageSettled (old new : D) (ended : Ended) : Type 0 where
     pub leaves : LeavesImage B (ended ≡ BoardFault) old new
     pub same : ended ≢ BoardFault → B.image new ≡ B.image old
-    pub settled : ended ≢ BoardFault → IsSettled B new
+    pub settled : ended ≢ BoardFault → IsAtRest B new
 
   -- a command keeps the store where nothing was written, unless the board failed no byte has changed, and, where the
   -- image is told, the command has only looked at the store
   pub record LeavesStoreUnwritten (old new : D) (ended : Ended) : Type 0 where
-    pub bytes : KeepsBytes B old new
+    pub bytes : WritesNothing B old new
     pub same : ended ≢ BoardFault → B.image new ≡ B.image old
     pub looks : B.tells_image → LeavesImageSettled old new ended
 

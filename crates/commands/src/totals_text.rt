@@ -2,7 +2,7 @@
 ghost use Rattle.std.specs.Prelude.{◌≡◌, ◌+◌, ◌<◌, ◌≤◌, ◌++◌, length};
 ghost use Rattle.arrayvec.specs.ArrayVec.{array_vec_len};
 ghost use Rattle.taxi_units.specs.Line.{line_size};
-ghost use Rattle.commands.specs.TotalsText.{amount_line, distances_text, heading_text, held_line, money_lines, position_text, share_text, summary_text};
+ghost use Rattle.commands.specs.TotalsText.{amount_line, distances_text, totals_heading, held_line, money_lines, position_text, share_text, summary_text};
 
 use crate::number_line::push_number_line;
 use taxi_units::{Line, push_bytes, push_money, push_number};
@@ -82,7 +82,7 @@ fn push_share(line: &mut Line, share: &Share, decimals: u8)
 /// All lines of totals but those of the tariff positions.
 pub fn heading(durable: &Durable, decimals: u8) -> Line
     requires { decimals ≤ 3 }
-    ensures text { result.items ≡ heading_text decimals durable.now }
+    ensures text { result.items ≡ totals_heading decimals durable.now }
     ensures few { array_vec_len result ≤ line_size }
 {
     let mut line = Line::new();
