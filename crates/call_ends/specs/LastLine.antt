@@ -8,7 +8,7 @@ use Rattle.call_ends.specs.declared.ending.Ended.TheVariants.{SameNumber, BadDri
 use Rattle.call_ends.specs.declared.ending.Ended.TheVariants.{NoMemory, TripHeld, SealEnded, OtherDecimals, BadParams}
 use Rattle.call_ends.specs.declared.ending.Ended.TheVariants.{Sealed, BadTrip, WrongTariff, BadRules, BadReadings}
 use Rattle.call_ends.specs.declared.ending.Ended.TheVariants.{LongReadings, NotPassed, BadFrame, EndlessRequests}
-use Rattle.call_ends.specs.declared.ending.Ended.TheVariants.{LongBook, BadBook, BadOther, Different}
+use Rattle.call_ends.specs.declared.ending.Ended.TheVariants.{LongBook, BadBook, BadOther, Different, Faulty}
 use Rattle.offset_rules.specs.declared.fault.RuleFault.{RuleFault}
 use Rattle.offset_rules.specs.declared.fault.RuleFault.TheVariants as rules
 use Rattle.receipt_text.specs.Receipts.{hex_text}
@@ -187,6 +187,7 @@ status_of (BadReadings row) = 10
 status_of LongReadings = 10
 status_of NotPassed = 11
 status_of Different = 11
+status_of Faulty = 2
 status_of (BadRules fault) = 17
 status_of LongBook = 18
 status_of (BadBook line) = 18
@@ -219,6 +220,7 @@ line_of (BadReadings row) = bad_readings_line row
 line_of LongReadings = long_readings_line
 line_of NotPassed = []
 line_of Different = []
+line_of Faulty = []
 line_of (BadRules fault) = bad_rules_line fault
 line_of LongBook = long_book_line
 line_of (BadBook line) = bad_book_line line

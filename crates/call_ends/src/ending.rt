@@ -66,6 +66,8 @@ pub enum Ended {
     NotPassed,
     /// What differs first between two tariffs was printed.
     Different,
+    /// The lines of a tariff's faults were printed.
+    Faulty,
     /// The rules of offsets aren't accepted, and why.
     BadRules(RuleFault),
     /// The book has more than 1,048,576 bytes.
@@ -121,6 +123,7 @@ fn status(ended: Ended) -> u8
         Ended::LongReadings => 10,
         Ended::NotPassed => 11,
         Ended::Different => 11,
+        Ended::Faulty => 2,
         Ended::BadRules(_) => 17,
         Ended::LongBook => 18,
         Ended::BadBook(_) => 18,

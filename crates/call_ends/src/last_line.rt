@@ -2,9 +2,10 @@
 ghost use Rattle.std.specs.Prelude.{◌≡◌, ◌+◌, ◌≤◌, ◌++◌, [], codes, length};
 ghost use Rattle.arrayvec.specs.ArrayVec.{array_vec_len};
 ghost use Rattle.taxi_units.specs.Line.{line_size};
-ghost use Rattle.call_ends.specs.LastLine.{bad_params_line, bad_rules_line, dimension_text, fault_text, refusal_text};
-ghost use Rattle.call_ends.specs.LastLine.{line_of, name_text, numbered, other_decimals_line, param_fault_text};
-ghost use Rattle.call_ends.specs.LastLine.{same_number_line, sound_line, wrong_tariff_line};
+ghost use Rattle.call_ends.specs.LastLine.{bad_params_line, bad_rules_line, bad_tariff_line, dimension_text};
+ghost use Rattle.call_ends.specs.LastLine.{fault_text, line_of, name_text, numbered, other_decimals_line};
+ghost use Rattle.call_ends.specs.LastLine.{param_fault_text, refusal_text, same_number_line, sound_line};
+ghost use Rattle.call_ends.specs.LastLine.{wrong_tariff_line};
 
 use crate::ending::Ended;
 use crate::number_line::push_number_line;
@@ -42,6 +43,7 @@ pub fn last_line(ended: Ended) -> Line
         Ended::LongReadings => push_bytes(&mut line, b"BAD READINGS TOO LONG\n"),
         Ended::NotPassed => {}
         Ended::Different => {}
+        Ended::Faulty => {}
         Ended::BadRules(fault) => push_bad_rules(&mut line, fault),
         Ended::LongBook => push_bytes(&mut line, b"BAD BOOK TOO LONG\n"),
         Ended::BadBook(number) => push_number_line(&mut line, b"BAD BOOK ", number),
@@ -51,6 +53,15 @@ pub fn last_line(ended: Ended) -> Line
         Ended::BoardFault => {}
         Ended::NoMemory => push_bytes(&mut line, b"NO MEMORY\n"),
     }
+    line
+}
+
+/// The last line where a tariff isn't accepted, by why it isn't.
+pub fn bad_tariff_line(why: Refusal) -> Line
+    ensures { result.items ≡ bad_tariff_line why }
+{
+    let mut line = Line::new();
+    push_bad(&mut line, b"BAD TARIFF ", why);
     line
 }
 

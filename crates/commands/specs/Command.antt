@@ -6,6 +6,7 @@ use Rattle.tariff_commands.specs.Compare.{compare_command}
 use Rattle.call_ends.specs.Course.{Command, IsReadOnlyCommand}
 use Rattle.drive_commands.specs.Explain.{explain_command}
 use Rattle.drive_commands.specs.Fare.{fare_command}
+use Rattle.tariff_commands.specs.Faults.{faults_command}
 use Rattle.tariff_commands.specs.Form.{form_command}
 use Rattle.drive_commands.specs.Generate.{gen_command}
 use Rattle.tariff_commands.specs.Lines.{lines_command}
@@ -23,6 +24,7 @@ use Rattle.commands.specs.Words.{row_of}
 use Rattle.commands.specs.declared.words.Row.{Row}
 use Rattle.commands.specs.declared.words.Row.TheVariants.{Check, Tables, Fare, Totals, Seal, Run, Bench, Gen, Port}
 use Rattle.commands.specs.declared.words.Row.TheVariants.{Offsets, Mark, Shifts, Sealed, Form, Lines, Explain, Compare}
+use Rattle.commands.specs.declared.words.Row.TheVariants.{Faults}
 
 -- each row of words is a command, and words that are no row are refused
 abbrev pub command_of : Option Row → Command
@@ -44,6 +46,7 @@ command_of (Some Form) = form_command
 command_of (Some (Lines k)) = lines_command k
 command_of (Some Explain) = explain_command
 command_of (Some (Compare k)) = compare_command k
+command_of (Some Faults) = faults_command
 
 -- words only look at the store where their command opens the store and writes nothing; these commands are the six of
 -- `IsStoreQuery`, as the law six_commands_only_look says

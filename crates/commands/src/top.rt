@@ -31,6 +31,7 @@ use store_commands::shifts::print_shifts;
 use store_commands::totals::print_store;
 use tariff_commands::check::check_tariff;
 use tariff_commands::compare::print_comparison;
+use tariff_commands::faults::print_faults;
 use tariff_commands::form::print_form;
 use tariff_commands::lines::print_lines;
 use tariff_commands::tables::print_tables;
@@ -64,6 +65,7 @@ fn carry_out<F: Files, B: Board<STORE_SIZE, L>, L: Ledger>(
         Row::Lines(k) => print_lines(alloc, k, files, board, steps),
         Row::Explain => explain(alloc, files, board, steps),
         Row::Compare(k) => print_comparison(alloc, k, files, board, steps),
+        Row::Faults => print_faults(alloc, files, board, steps),
     }
 }
 
@@ -90,6 +92,7 @@ fn carry_out<F: Files, B: Board<STORE_SIZE, L>, L: Ledger>(
 ///   was on
 /// - `sealed`: what the store was sealed with, as a text of parameters
 /// - `form TARIFF`: the printed form of the tariff, sound or not
+/// - `faults TARIFF`: as `check`, for a sound tariff; at 2 it prints a line of that status for each fault
 /// - `lines TARIFF CONSTANT`: for each line of a kind of which the first that holds counts whether it is ever the one
 ///   that does, and the first context of a meter in which it is
 /// - `explain TARIFF DRIVE PARAMS`: why the fare of each hiring that the drive closes is what it is, on a new store
@@ -104,7 +107,8 @@ fn carry_out<F: Files, B: Board<STORE_SIZE, L>, L: Ledger>(
 ///   passes, and for `compare`, the tariffs are the same
 /// - 1, `BAD WORDS`: exactly where the words are no command
 /// - 2, `BAD TARIFF` with `TooLong`, `Syntax n` or the fault: exactly where the tariff has more than 65,536
-///   bytes, its line n is the first that is no line of a tariff, or, but for `form`, this is its first fault;
+///   bytes, its line n is the first that is no line of a tariff, or, but for `form`, this is its first fault; with
+///   `faults` such a line for each line that is none of a tariff, or else for each fault;
 ///   `BAD OTHER` with the same, for `compare`: exactly where the other tariff isn't accepted for this
 /// - 3, `BAD DRIVE n` or `BAD DRIVE TOO LONG`, for `fare`, `run`, `bench` and `explain`: exactly where line n is the
 ///   first that is no line of a drive, or where 2^40 bytes were taken, none of their lines is bad, and the end wasn't
@@ -168,7 +172,8 @@ pub fn taxi<F: Files, B: Board<STORE_SIZE, L>, L: Ledger>(
 
     // One step for the last line, one for each row of tables, at most 31 for offsets, 64 for an opening of the store,
     // 64 for each event of a drive that is run and for the supply drop at its end, one for each 512 bytes that are
-    // printed of a bench, a form, lines or a comparison, one for each reply, and two for each byte of a shift book.
+    // printed of a bench, a form, faults, lines or a comparison, one for each reply, and two for each byte of a shift
+    // book.
     ensures steps { TakesSteps F.Files B.Board (called_by words.now) files.old files.new board.old steps.old steps.new }
 
     // What the store holds is left alone if it isn't opened, though no clause says that it isn't read. And nothing is

@@ -74,6 +74,8 @@ pub enum Row {
     Sealed,
     /// `form TARIFF`
     Form,
+    /// `faults TARIFF`
+    Faults,
     /// `lines TARIFF CONSTANT`
     Lines(Constant),
     /// `explain TARIFF DRIVE PARAMS`
@@ -167,6 +169,8 @@ fn two_words(command: &[u8], last: &[u8]) -> Option<Row>
         Some(Row::Shifts)
     } else if is_word(command, b"form") {
         Some(Row::Form)
+    } else if is_word(command, b"faults") {
+        Some(Row::Faults)
     } else {
         None
     }

@@ -48,6 +48,9 @@ returns-in-Explain g c = rw c.in-Explain.is (record { carries = c.explain.ensure
 pub returns-in-Compare : goal.returns-in-Compare
 returns-in-Compare g c = rw c.in-Compare.is (record { carries = c.print_comparison.ensures; comes = tt })
 
+pub returns-in-Faults : goal.returns-in-Faults
+returns-in-Faults g c = rw c.in-Faults.is (record { carries = c.print_faults.ensures; comes = tt })
+
 -- ---- commands that are given no board, or no files
 
 pub returns-in-Check : goal.returns-in-Check
