@@ -14,9 +14,10 @@ _taxi() {
   done
   case "$((COMP_CWORD - at)) ${COMP_WORDS[at]}" in
     '0 -'*) choices='-C --now -h --help --version' ;;
-    '0 '*) choices='check form tables lines compare fare seal run bench explain totals sealed port gen offsets mark shifts help version' ;;
-    '1 help') choices='check form tables lines compare fare seal run bench explain totals sealed port gen offsets mark shifts TooLong Syntax NoStep StepZero Duplicate TooManyLines UnknownNumber NoDefaultRate NoDefaultInitial LineAfterDefault BadDate AmountTooBig MeasureZero NoCommonMeasure TooManyCuts TooManyCells Unknown Twice BadValue Missing BadLine SameMonth' ;;
+    '0 '*) choices='check faults form tables lines compare fare seal run bench explain totals sealed port gen offsets mark shifts help version' ;;
+    '1 help') choices='check faults form tables lines compare fare seal run bench explain totals sealed port gen offsets mark shifts TooLong Syntax NoStep StepZero Duplicate TooManyLines UnknownNumber NoDefaultRate NoDefaultInitial LineAfterDefault BadDate AmountTooBig MeasureZero NoCommonMeasure TooManyCuts TooManyCells Unknown Twice BadValue Missing BadLine SameMonth' ;;
     '1 check') ending=tariff ;;
+    '1 faults') ending=tariff ;;
     '1 form') ending=tariff ;;
     '1 tables') ending=tariff ;;
     '2 tables') ;;

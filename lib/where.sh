@@ -7,7 +7,16 @@
 # out.
 shown() {
   local most=${1:-80}
-  od -An -v -tu1 -N $((most + 1)) | LC_ALL=C awk -v most="$most" '
+  od -An -v -tu1 -N $((most + 1)) | show "$most"
+}
+
+# Each line of the input, at most 80 bytes of it, as a terminal may have it, behind the number of columns that its blanks
+# in front take and a blank.
+shown_lines() { od -An -v -tu1 | show 80 lines; }
+
+# Bytes, given as od prints them, as a terminal may have them: at most $1 of a text, or of each line with $2.
+show() {
+  LC_ALL=C awk -v most="$1" -v lines="${2-}" '
     function spell() { for (i = 1; i <= n; i++) text = text sprintf("\\x%02x", part[i]); n = wanted = 0 }
     function print_part() { for (i = 1; i <= n; i++) text = text sprintf("%c", part[i]); n = 0 }
     # Control characters, blanks that do not break, and marks without a width.
@@ -16,9 +25,18 @@ shown() {
       if (part[1] == 226 && part[2] == 128) return part[3] >= 139 && part[3] <= 143 || part[3] >= 168 && part[3] <= 174
       return part[1] == 226 && part[2] == 129 && part[3] >= 160 || part[1] == 239 && part[2] == 187 && part[3] == 191
     }
+    function close_text() { if (is_cut) text = text " .."; else spell() }
+    function end_line() {
+      close_text()
+      print (begun ? lead : length(text)) " " text
+      text = ""; n = wanted = at = is_cut = begun = 0
+    }
     { for (k = 1; k <= NF; k++) {
         byte = $k + 0
-        if (++at > most) { is_cut = 1; next }
+        if (lines && byte == 10) { end_line(); is_open = 0; continue }
+        is_open = 1
+        if (++at > most) { is_cut = 1; continue }
+        if (!begun && byte != 32 && byte != 9 && byte != 13) { begun = 1; lead = length(text) }
         if (wanted > 0 && byte >= 128 && byte < 192) {
           part[++n] = byte
           if (--wanted == 0) { if (is_unseen()) spell(); else print_part() }
@@ -30,7 +48,7 @@ shown() {
         else if (byte < 128) text = text sprintf("%c", byte)
         else { part[n = 1] = byte; wanted = byte < 194 || byte > 244 ? 0 : byte < 224 ? 1 : byte < 240 ? 2 : 3 }
     } }
-    END { if (is_cut) text = text " .."; else spell(); printf "%s", text }'
+    END { if (!lines) { close_text(); printf "%s", text } else if (is_open) end_line() }'
 }
 
 # The name of a file as a terminal may have it.
@@ -80,16 +98,18 @@ row_place() {
     END { if (!found && state != "between" && rows == row) print line, begin, at - begin }'
 }
 
-# The last line that `question` is answered with, where it ends with the status $1. A sealing writes, so it has a folder
-# of its own.
+# The last line that `question` is answered with, or each of `faults`, where it ends with the status $1. A sealing writes,
+# so it has a folder of its own.
 ask_again() (
+  lines=1
+  [ "${question[0]}" != faults ] || lines=+1
   if [ "${question[0]}" = seal ]; then
     apart=$(mktemp -d) || exit 1
     trap 'rm -rf "$apart"' EXIT
     for place in 1 2; do [[ ${question[place]} == /* ]] || question[place]=$PWD/${question[place]}; done
     cd "$apart" || exit 1
   fi
-  timeout --foreground 60 "$program" "${question[@]}" 2>/dev/null | tail -n 1
+  timeout --foreground 60 "$program" "${question[@]}" 2>/dev/null | tail -n "$lines"
   [ "${PIPESTATUS[0]}" -eq "$1" ]
 )
 
@@ -106,6 +126,18 @@ say_line() {
     case $1 in 3 | 17 | 18) [ "$(wc -l <"$file")" -ge "$line" ] || end=' (the line has no end)' ;; esac
   fi
   echo "  --> $(shown_name "$file"):$line${text:+: }$text$end" >&2
+}
+
+# Says where each fault of the tariff `file` is that names a line, with a caret below the line's first character, given
+# what `faults` prints.
+say_each_fault() {
+  name=$(shown_name "$file") form=$fault_of_a_line LC_ALL=C awk '
+    NR == FNR { lead[NR] = $1; text[NR] = substr($0, length($1) + 2); next }
+    $0 ~ ENVIRON["form"] {
+      print "  --> " ENVIRON["name"] ":" $NF ": " $3
+      print "      " text[$NF]
+      print "      " sprintf("%" lead[$NF] "s", "") "^"
+    }' <(shown_lines <"$file") <(printf '%s\n' "$1") >&2
 }
 
 # Says which files of a call can't be read.
@@ -135,7 +167,12 @@ say_where() {
   [ ${#question[@]} -gt 0 ] && [ -n "${began-}" ] || return 0
   name_files "${question[@]}"
   for word in "${named[@]}"; do is_unchanged "$word" || return 0; done
-  fault=$(ask_again "$status") && [[ $fault =~ $fault_of_a_line ]] || return 0
+  fault=$(ask_again "$status") || return 0
+  if [ "${question[0]}" = faults ]; then
+    ! is_unchanged "$file" || say_each_fault "$fault"
+    return
+  fi
+  [[ $fault =~ $fault_of_a_line ]] || return 0
   [[ $fault != 'BAD OTHER '* ]] || file=$other
   ! is_unchanged "$file" || say_line "$status" "${BASH_REMATCH[-1]}"
 }

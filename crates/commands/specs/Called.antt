@@ -5,13 +5,13 @@ use Rattle.outside.specs.Faults.{Rose}
 use Rattle.outside.specs.declared.board.Board.{Ghosts}
 use Rattle.outside.specs.declared.files.Files.{Ghosts as FileGhosts}
 use Rattle.meter_store.specs.Sealing.{Sealing}
-use Rattle.commands.specs.Call.{HasReadFault, MayLack}
+use Rattle.call_ends.specs.Call.{HasReadFault, MayLack}
 use Rattle.commands.specs.Command.{called}
-use Rattle.commands.specs.Course.{Command}
-use Rattle.commands.specs.Opening.{opening_of}
-use Rattle.commands.specs.Seal.{MayLeaveSealing, sealing_of}
+use Rattle.call_ends.specs.Course.{Command}
+use Rattle.store_commands.specs.Opening.{opening_of}
+use Rattle.store_commands.specs.Seal.{MayLeaveSealing, sealing_of}
 use Rattle.commands.specs.Words.{row_of}
-use Rattle.commands.specs.declared.ending.Ended.{Ended}
+use Rattle.call_ends.specs.declared.ending.Ended.{Ended}
 use Rattle.commands.specs.declared.words.Row.{Row}
 
 -- the row of a call's words is the one that their bytes are, and there is none if they are no row

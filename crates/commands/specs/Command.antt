@@ -1,29 +1,30 @@
 -- Rules: the commands of the program. What each of them is stands in a file of its own.
 use Rattle.std.specs.Prelude.{ℕ, List, Option, Some, None}
-use Rattle.commands.specs.Bench.{bench_command}
-use Rattle.commands.specs.Check.{check_command}
-use Rattle.commands.specs.Compare.{compare_command}
-use Rattle.commands.specs.Course.{Command, IsReadOnlyCommand}
-use Rattle.commands.specs.Explain.{explain_command}
-use Rattle.commands.specs.Fare.{fare_command}
-use Rattle.commands.specs.Form.{form_command}
-use Rattle.commands.specs.Generate.{gen_command}
-use Rattle.commands.specs.Lines.{lines_command}
-use Rattle.commands.specs.Mark.{mark_command}
+use Rattle.drive_commands.specs.Bench.{bench_command}
+use Rattle.tariff_commands.specs.Check.{check_command}
+use Rattle.tariff_commands.specs.Compare.{compare_command}
+use Rattle.call_ends.specs.Course.{Command, IsReadOnlyCommand}
+use Rattle.drive_commands.specs.Explain.{explain_command}
+use Rattle.drive_commands.specs.Fare.{fare_command}
+use Rattle.tariff_commands.specs.Faults.{faults_command}
+use Rattle.tariff_commands.specs.Form.{form_command}
+use Rattle.drive_commands.specs.Generate.{gen_command}
+use Rattle.tariff_commands.specs.Lines.{lines_command}
+use Rattle.store_commands.specs.Mark.{mark_command}
 use Rattle.commands.specs.NoCommand.{no_command}
-use Rattle.commands.specs.Offsets.{offsets_command}
-use Rattle.commands.specs.Port.{port_command}
-use Rattle.commands.specs.Run.{run_command}
-use Rattle.commands.specs.Seal.{seal_command}
-use Rattle.commands.specs.Sealed.{sealed_command}
-use Rattle.commands.specs.Shifts.{shifts_command}
-use Rattle.commands.specs.Tables.{tables_command}
-use Rattle.commands.specs.Totals.{totals_command}
+use Rattle.store_commands.specs.Offsets.{offsets_command}
+use Rattle.store_commands.specs.Port.{port_command}
+use Rattle.drive_commands.specs.Run.{run_command}
+use Rattle.store_commands.specs.Seal.{seal_command}
+use Rattle.store_commands.specs.Sealed.{sealed_command}
+use Rattle.store_commands.specs.Shifts.{shifts_command}
+use Rattle.tariff_commands.specs.Tables.{tables_command}
+use Rattle.store_commands.specs.Totals.{totals_command}
 use Rattle.commands.specs.Words.{row_of}
 use Rattle.commands.specs.declared.words.Row.{Row}
-use Rattle.commands.specs.declared.words.Row.TheVariants.{Check, Tables, Fare, Totals, Seal, Run, Bench, Gen}
-use Rattle.commands.specs.declared.words.Row.TheVariants.{Port, Offsets, Mark, Shifts, Sealed, Form, Lines, Explain}
-use Rattle.commands.specs.declared.words.Row.TheVariants.{Compare}
+use Rattle.commands.specs.declared.words.Row.TheVariants.{Check, Tables, Fare, Totals, Seal, Run, Bench, Gen, Port}
+use Rattle.commands.specs.declared.words.Row.TheVariants.{Offsets, Mark, Shifts, Sealed, Form, Lines, Explain, Compare}
+use Rattle.commands.specs.declared.words.Row.TheVariants.{Faults}
 
 -- each row of words is a command, and words that are no row are refused
 abbrev pub command_of : Option Row → Command
@@ -45,6 +46,7 @@ command_of (Some Form) = form_command
 command_of (Some (Lines k)) = lines_command k
 command_of (Some Explain) = explain_command
 command_of (Some (Compare k)) = compare_command k
+command_of (Some Faults) = faults_command
 
 -- words only look at the store where their command opens the store and writes nothing; these commands are the six of
 -- `IsStoreQuery`, as the law six_commands_only_look says

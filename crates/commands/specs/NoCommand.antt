@@ -1,8 +1,8 @@
 -- Rules: words that are no command.
 use Rattle.std.specs.Prelude.{◌≡◌, ◌+◌, ◌≤◌, [], None}
-use Rattle.commands.specs.Answer.{Answer, refuses}
-use Rattle.commands.specs.Course.{Command}
-use Rattle.commands.specs.LastLine.{bad_words_line}
+use Rattle.call_ends.specs.Answer.{Answer, refuses}
+use Rattle.call_ends.specs.Course.{Command}
+use Rattle.call_ends.specs.LastLine.{bad_words_line}
 
 -- the answer to words that are no command is the status 1 and the last line `BAD WORDS`
 abbrev pub bad_words : Answer
@@ -19,7 +19,7 @@ no_command = record {
   reads_all = λ status. status ≡ 0;
   comes_to = λ contents image word taken. ⊥;
   may_lack = λ contents image taken. ⊥;
-  known = λ files_tell image_told. Unit {0};
+  told = λ files_tell image_told. Unit {0};
   opens = ⊥;
   writes = λ ended. ⊥;
   steps = λ files_tell image_told contents left image before now. now ≤ before + 1;

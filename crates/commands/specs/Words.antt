@@ -6,11 +6,11 @@ use Rattle.std.specs.Str.Parse.{digits_value}
 use Rattle.taxi_units.specs.Number.{digits_at_front, figure_in}
 use Rattle.drive_modes.specs.Constant.{least_constant, greatest_constant}
 use Rattle.shift_book.specs.Reading.{driver_of}
-use Rattle.commands.specs.Years.{years_of}
+use Rattle.store_commands.specs.Years.{years_of}
 use Rattle.commands.specs.declared.words.Row.{Row}
-use Rattle.commands.specs.declared.words.Row.TheVariants.{Check, Tables, Fare, Totals, Seal, Run, Bench, Gen}
-use Rattle.commands.specs.declared.words.Row.TheVariants.{Port, Offsets, Mark, Shifts, Sealed, Form, Lines, Explain}
-use Rattle.commands.specs.declared.words.Row.TheVariants.{Compare}
+use Rattle.commands.specs.declared.words.Row.TheVariants.{Check, Tables, Fare, Totals, Seal, Run, Bench, Gen, Port}
+use Rattle.commands.specs.declared.words.Row.TheVariants.{Offsets, Mark, Shifts, Sealed, Form, Lines, Explain, Compare}
+use Rattle.commands.specs.declared.words.Row.TheVariants.{Faults}
 use Rattle.taxi_units.specs.Words.{is_word}
 
 -- a word is a constant where it is a number of at most 6 digits and of 500 to 200,000, and else none; `figure_in` gives
@@ -47,14 +47,15 @@ one_word command =
     if is_word command (codes "totals") then Some Totals
     else (if is_word command (codes "sealed") then Some Sealed else None)
 
--- the row of two words is `check TARIFF`, `port REQUESTS`, `mark off`, `shifts BOOK` or `form TARIFF`
+-- the row of two words is `check TARIFF`, `port REQUESTS`, `mark off`, `shifts BOOK`, `form TARIFF` or `faults TARIFF`
 abbrev pub two_words : (command last : List ℕ) → Option Row
 two_words command last =
     if is_word command (codes "check") then Some Check
     else (if is_word command (codes "port") then Some Port
     else (if (is_word command (codes "mark") && is_word last (codes "off")) then Some (Mark None)
     else (if is_word command (codes "shifts") then Some Shifts
-    else (if is_word command (codes "form") then Some Form else None))))
+    else (if is_word command (codes "form") then Some Form
+    else (if is_word command (codes "faults") then Some Faults else None)))))
 
 -- the row of three words is `tables TARIFF CONSTANT`, `seal TARIFF PARAMS`, `run TARIFF DRIVE`, `gen SEED N`,
 -- `mark on DRIVER` or `lines TARIFF CONSTANT`; `driver_of` gives a word as a driver where it is 1 to 16 of the

@@ -1,39 +1,40 @@
 //! The top call: words in, a status out.
-#![tactic(auto, using(crate::proofs::BoardRuns::board_runs))]
+#![tactic(auto, using(call_ends::proofs::Laws::board_runs))]
 
 ghost use Rattle.std.specs.Prelude.{◌≡◌, ◌≢◌, ℕ, None, Some};
 ghost use Rattle.outside.specs.Faults.{RisesOnlyIf};
-ghost use Rattle.outside.specs.Runs.{IsSettled, KeepsStore, LeavesOnly};
-ghost use Rattle.commands.specs.Call.{IsCall, StopsReading};
+ghost use Rattle.outside.specs.Runs.{IsAtRest, KeepsStore, LeavesOnly};
+ghost use Rattle.call_ends.specs.Call.{IsCall, StopsReading};
 ghost use Rattle.commands.specs.Called.{called_by, row_in, ComesToAnswer, MayLeaveSealingBy, TakesSteps, sealing_by};
 ghost use Rattle.commands.specs.Carried.{CarriesRow};
 ghost use Rattle.commands.specs.Command.{IsReadOnlyRow};
-ghost use Rattle.commands.specs.Run.{IsRun};
-ghost use Rattle.commands.specs.Seal.{Seals};
-ghost use Rattle.commands.specs.Unwritten.{LeavesImage, WritesNothing};
+ghost use Rattle.drive_commands.specs.Run.{IsRun};
+ghost use Rattle.store_commands.specs.Seal.{Seals};
+ghost use Rattle.call_ends.specs.Unwritten.{LeavesImage, WritesNothing};
 
-use crate::bench::bench;
-use crate::check::check_tariff;
-use crate::compare::print_comparison;
-use crate::ending::{Ended, finish};
-use crate::explain::explain;
-use crate::fare::fare;
-use crate::form::print_form;
-use crate::generate::generate;
-use crate::lines::print_lines;
-use crate::mark::print_mark;
-use crate::offsets::print_offsets;
-use crate::port::serve_requests;
-use crate::run::run;
-use crate::seal::seal_store;
-use crate::sealed_params::print_sealed;
-use crate::shifts::print_shifts;
-use crate::tables::print_tables;
-use crate::totals::print_store;
 use crate::words::{Row, row_in};
+use call_ends::{Ended, finish};
+use drive_commands::bench::bench;
+use drive_commands::explain::explain;
+use drive_commands::fare::fare;
+use drive_commands::generate::generate;
+use drive_commands::run::run;
 use outside::{Board, Files, STORE_SIZE};
 use std::alloc::Global;
 use std::sync::ledger::Ledger;
+use store_commands::mark::print_mark;
+use store_commands::offsets::print_offsets;
+use store_commands::port::serve_requests;
+use store_commands::seal::seal_store;
+use store_commands::sealed_params::print_sealed;
+use store_commands::shifts::print_shifts;
+use store_commands::totals::print_store;
+use tariff_commands::check::check_tariff;
+use tariff_commands::compare::print_comparison;
+use tariff_commands::faults::print_faults;
+use tariff_commands::form::print_form;
+use tariff_commands::lines::print_lines;
+use tariff_commands::tables::print_tables;
 use taxi_units::Steps;
 
 /// Carries out a command, but for its last line.
@@ -64,6 +65,7 @@ fn carry_out<F: Files, B: Board<STORE_SIZE, L>, L: Ledger>(
         Row::Lines(k) => print_lines(alloc, k, files, board, steps),
         Row::Explain => explain(alloc, files, board, steps),
         Row::Compare(k) => print_comparison(alloc, k, files, board, steps),
+        Row::Faults => print_faults(alloc, files, board, steps),
     }
 }
 
@@ -90,6 +92,7 @@ fn carry_out<F: Files, B: Board<STORE_SIZE, L>, L: Ledger>(
 ///   was on
 /// - `sealed`: what the store was sealed with, as a text of parameters
 /// - `form TARIFF`: the printed form of the tariff, sound or not
+/// - `faults TARIFF`: as `check`, for a sound tariff; at 2 it prints a line of that status for each fault
 /// - `lines TARIFF CONSTANT`: for each line of a kind of which the first that holds counts whether it is ever the one
 ///   that does, and the first context of a meter in which it is
 /// - `explain TARIFF DRIVE PARAMS`: why the fare of each hiring that the drive closes is what it is, on a new store
@@ -104,7 +107,8 @@ fn carry_out<F: Files, B: Board<STORE_SIZE, L>, L: Ledger>(
 ///   passes, and for `compare`, the tariffs are the same
 /// - 1, `BAD WORDS`: exactly where the words are no command
 /// - 2, `BAD TARIFF` with `TooLong`, `Syntax n` or the fault: exactly where the tariff has more than 65,536
-///   bytes, its line n is the first that is no line of a tariff, or, but for `form`, this is its first fault;
+///   bytes, its line n is the first that is no line of a tariff, or, but for `form`, this is its first fault; with
+///   `faults` such a line for each line that is none of a tariff, or else for each fault;
 ///   `BAD OTHER` with the same, for `compare`: exactly where the other tariff isn't accepted for this
 /// - 3, `BAD DRIVE n` or `BAD DRIVE TOO LONG`, for `fare`, `run`, `bench` and `explain`: exactly where line n is the
 ///   first that is no line of a drive, or where 2^40 bytes were taken, none of their lines is bad, and the end wasn't
@@ -148,7 +152,7 @@ pub fn taxi<F: Files, B: Board<STORE_SIZE, L>, L: Ledger>(
 ) -> u8
     // A call takes a course that its words, their files' contents and the opening image allow, ends as it says, and
     // leaves each file unread to whose read the command doesn't come, as the drive's where the tariff is refused.
-    ensures call { (called_by words.now).known F.tells B.tells_image
+    ensures call { (called_by words.now).told F.tells B.tells_image
         → IsCall F.Files B.Board (called_by words.now) files.old files.new board.old board.new result }
 
     // Refused words read nothing, and no command reads a word that it doesn't name, whatever the files tell.
@@ -163,12 +167,13 @@ pub fn taxi<F: Files, B: Board<STORE_SIZE, L>, L: Ledger>(
     ensures unfailed { result ≢ 7 → result ≢ 8 → (word : ℕ) → F.faults files.new word ≡ F.faults files.old word }
 
     // Where no count rose, the status is that of the answer, unless memory ran out.
-    ensures complete { (called_by words.now).known F.tells B.tells_image
+    ensures complete { (called_by words.now).told F.tells B.tells_image
         → ComesToAnswer F.Files B.Board (called_by words.now) files.old files.new board.old board.new result }
 
     // One step for the last line, one for each row of tables, at most 31 for offsets, 64 for an opening of the store,
     // 64 for each event of a drive that is run and for the supply drop at its end, one for each 512 bytes that are
-    // printed of a bench, a form, lines or a comparison, one for each reply, and two for each byte of a shift book.
+    // printed of a bench, a form, faults, lines or a comparison, one for each reply, and two for each byte of a shift
+    // book.
     ensures steps { TakesSteps F.Files B.Board (called_by words.now) files.old files.new board.old steps.old steps.new }
 
     // What the store holds is left alone if it isn't opened, though no clause says that it isn't read. And nothing is
@@ -177,8 +182,8 @@ pub fn taxi<F: Files, B: Board<STORE_SIZE, L>, L: Ledger>(
     ensures unwritten { ¬ (called_by words.now).writes result → WritesNothing B.Board board.old board.new result }
 
     // A command that opens the store leaves nothing in flight, unless the board failed.
-    ensures at_rest { (called_by words.now).known F.tells B.tells_image → B.tells_image
-        → (called_by words.now).opens → result ≢ 8 → IsSettled B.Board board.new }
+    ensures at_rest { (called_by words.now).told F.tells B.tells_image → B.tells_image
+        → (called_by words.now).opens → result ≢ 8 → IsAtRest B.Board board.new }
 
     // Where a command only looks at the store, a cut of the power from its opening sync on leaves the image as it was.
     ensures looks { IsReadOnlyRow (row_in words.now) → B.tells_image
@@ -190,7 +195,7 @@ pub fn taxi<F: Files, B: Board<STORE_SIZE, L>, L: Ledger>(
     // which a byte of the line `SEALED n` stands printed leaves the new seal.
     ensures seals { row_in words.now ≡ Some Row.Seal → F.tells → B.tells_image
         → Seals B.Board (sealing_by F.Files B.Board files.old board.old) board.old board.new result }
-    ensures settled { row_in words.now ≡ Some Row.Seal → F.tells → B.tells_image → IsSettled B.Board board.old
+    ensures settled { row_in words.now ≡ Some Row.Seal → F.tells → B.tells_image → IsAtRest B.Board board.old
         → LeavesOnly B.Board board.old board.new (MayLeaveSealingBy F.Files B.Board files.old board.old) }
 
     // The headline. A run prints the displays, refusals and receipts that the tariff's text means for its drive, and no

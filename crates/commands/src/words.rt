@@ -8,11 +8,11 @@ ghost use Rattle.shift_book.specs.Reading.{driver_of};
 ghost use Rattle.commands.specs.Words.{constant_of, fitting, row_of, seed_of, signs_on, trips_of};
 ghost use Rattle.commands.specs.Words as spec;
 
-use crate::years::Years;
 use arrayvec::ArrayVec;
 use drive_modes::{Constant, GREATEST_CONSTANT, LEAST_CONSTANT};
 use shift_book::read_driver;
 use std::marker::Model;
+use store_commands::Years;
 use taxi_units::{figure_in, is_word};
 
 /// How many trips a generated drive has: 1 to 1,000.
@@ -74,6 +74,8 @@ pub enum Row {
     Sealed,
     /// `form TARIFF`
     Form,
+    /// `faults TARIFF`
+    Faults,
     /// `lines TARIFF CONSTANT`
     Lines(Constant),
     /// `explain TARIFF DRIVE PARAMS`
@@ -167,6 +169,8 @@ fn two_words(command: &[u8], last: &[u8]) -> Option<Row>
         Some(Row::Shifts)
     } else if is_word(command, b"form") {
         Some(Row::Form)
+    } else if is_word(command, b"faults") {
+        Some(Row::Faults)
     } else {
         None
     }

@@ -3,9 +3,9 @@ use Rattle.std.proofs.Common.{◌≡◌, ℕ, ◌<◌, ◌≤◌, List, [], ◌�
 use Rattle.std.specs.Prelude.{get_or}
 use Rattle.outside.specs.Disk.{MayLeaveAmid}
 use Rattle.outside.specs.Printing.{Begins}
-use Rattle.outside.specs.Runs.{IsSettled, KeepsStore, LeavesOnly}
+use Rattle.outside.specs.Runs.{IsAtRest, KeepsStore, LeavesOnly}
 use Rattle.outside.specs.declared.board.Board.{Ghosts}
-use Rattle.meter_store.specs.Sealing.{HasSeal, KeepsSeal}
+use Rattle.meter_store.specs.Sealing.{HasSeal, HoldsSeal}
 use Rattle.seal_record.specs.declared.seal.Seal.{Seal}
 use Rattle.slot_store.specs.declared.pair.Place.{Place}
 use Rattle.tariff_compile.specs.Tables.{TableParts}
@@ -43,7 +43,7 @@ module _ (tables : TableParts) (seal : Seal) (told : Type 0) (opening : Durable)
   receipts_are_numbered_in_order-cut = receipt_numbered tables seal told opening printed deeds image text cut
 
   pub cuts_open_the_next_run : {D L : Type 0} {N : ℕ} (B : Ghosts D N L) (board : D) → B.image board ≡ image
-      → IsSettled B board → OpensWith B tables board cut.found
+      → IsAtRest B board → OpensWith B tables board cut.found
   cuts_open_the_next_run B board is settled =
       next_opens tables seal told opening printed deeds image text cut B board is settled
 
@@ -64,11 +64,11 @@ module _ {D L : Type 0} {N : ℕ} (B : Ghosts D N L) where
   runs_leave_the_seals-bytes = beside_bytes B
 
   pub runs_leave_the_seals-left : (board : D) (left : List ℕ) (place : Place) (seal : Seal) → HasBeside B board left
-      → KeepsSeal B place board seal → HasSeal left seal
+      → HoldsSeal B place board seal → HasSeal left seal
   runs_leave_the_seals-left = seal_left B
 
   pub runs_leave_the_seals-kept : (old new : D) (place : Place) (seal : Seal) → WritesTotals B old new
-      → KeepsSeal B place old seal → KeepsSeal B place new seal
+      → HoldsSeal B place old seal → HoldsSeal B place new seal
   runs_leave_the_seals-kept = seal_kept B
 
   pub lines_follow_a_run-whole : (tables : TableParts) (seal : Seal) (old mid new : D) (opening : Durable) (deeds : List

@@ -22,7 +22,7 @@ use Rattle.meter_states.specs.declared.act.Act.{Act}
 use Rattle.meter_run.specs.Dry.{Carries, IsReady}
 use Rattle.meter_run.specs.BetweenEvents.{StandsWith}
 use Rattle.meter_run.specs.OnStore.{IsReadyOn}
-use Rattle.meter_run.specs.Supply.{KeepsOff, drop_steps, is_supplied, is_supplied_after}
+use Rattle.meter_run.specs.Supply.{StaysOff, drop_steps, is_supplied, is_supplied_after}
 use Rattle.meter_run.specs.SupplyLaws.{supplied_joined}
 use Rattle.meter_run.specs.declared.dry.DryMeter.{DryMeter}
 use Rattle.meter_run.specs.declared.stored.StoreMeter.{StoreMeter}
@@ -74,7 +74,7 @@ pub event_keeps_off : (tables : TableParts) (seal : Seal) (event : Event) (core 
     (acts : List Act) → IsReady tables seal core d
     → ((s : Setting) (m : Meter) → IsSettingOf s tables seal → StandsWith s core.plain d m
     → Meets s core'.plain acts (step s event m))
-    → KeepsOff core.plain (event ∷ []) core'.plain
+    → StaysOff core.plain (event ∷ []) core'.plain
 event_keeps_off tables seal event core core' d acts ready meets =
     λ before off none.
     let way = ready.way in
@@ -85,14 +85,14 @@ event_keeps_off tables seal event core core' d acts ready meets =
 
 -- behind the coming of the supply it is there
 pub supply_keeps : (core core' : CoreData) (event : Event) (second : ℕ) → event ≡ Up second
-    → KeepsOff core (event ∷ []) core'
+    → StaysOff core (event ∷ []) core'
 supply_keeps core core' event second is =
-    subst (λ (e : Event). KeepsOff core (e ∷ []) core') (sym is) (λ before off none. absurd cc)
+    subst (λ (e : Event). StaysOff core (e ∷ []) core') (sym is) (λ before off none. absurd cc)
 
 -- a core that is off, and left as it was, is off
 pub unknown_keeps_off : {D L : Type 0} {N : ℕ} (B : Ghosts D N L) (tables : TableParts) (seal : Seal) (x : StoreMeter)
     (a : D)
-    (events : List Event) → x.known ≡ None → IsReadyOn B tables seal x a → KeepsOff x.core.plain events x.core.plain
+    (events : List Event) → x.known ≡ None → IsReadyOn B tables seal x a → StaysOff x.core.plain events x.core.plain
 unknown_keeps_off B tables seal x a events unknown ready =
     λ before off none. unknown_off B tables seal x a unknown ready
 
@@ -109,7 +109,7 @@ intervals_keep p (suc n) before =
     ∙ ap (λ (b : Bool). is_supplied b (intervals_events p n)) (interval_keeps p before) ∙ intervals_keep p n before
 
 pub equal_keep_off : (old new : CoreData) (p n : ℕ) → new.operating ≡ old.operating
-    → KeepsOff old (intervals_events p n) new
+    → StaysOff old (intervals_events p n) new
 equal_keep_off old new p n same = λ before off none. same ∙ off (sym (intervals_keep p n before) ∙ none)
 
 -- ---- a drive

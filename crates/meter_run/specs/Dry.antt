@@ -21,7 +21,7 @@ use Rattle.meter_run.specs.declared.dry.DryMeter.{DryMeter}
 
 -- a core and a durable state are under way where they stand for some state of the meter, under some setting of the
 -- tables and the seal; the core is one beside its cache, which has what was looked up in the tables and only saves
--- look-ups, as `Core::step` says by its clause `meets`
+-- look-ups, as `Core::step_into` says by its clause `takes`
 pub record IsUnderWay (tables : TableParts) (seal : Seal) (core : CachedCore) (durable : Durable) : Type 0 where
   pub setting : Setting
   pub meter : Meter

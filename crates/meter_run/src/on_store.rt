@@ -7,7 +7,7 @@ ghost use Rattle.taxi_units.specs.declared.event.Event.TheVariants.{Up};
 ghost use Rattle.taxi_units.specs.declared.event.Operating.TheVariants.{Off};
 ghost use Rattle.totals_record.specs.Ranges.{IsDurable};
 ghost use Rattle.meter_run.specs.OnStore.{Agrees, Attempts, IsReadyOn};
-ghost use Rattle.meter_run.specs.Supply.{KeepsOff};
+ghost use Rattle.meter_run.specs.Supply.{StaysOff};
 
 use crate::carrier::{Carrier, SealedTables};
 use crate::printing::print_refusal;
@@ -96,7 +96,7 @@ impl StoreMeter {
         requires timely { IsTimely event }
         ensures attempts { Attempts B.Board tables.now seal.now (λ s m. step s event m) self.old board.old result
             self.new board.new }
-        ensures supply { KeepsOff self.old.core.plain (event ∷ []) self.new.core.plain }
+        ensures supply { StaysOff self.old.core.plain (event ∷ []) self.new.core.plain }
         ensures steps { steps.new ≤ steps.old + 64 }
     {
         match supply_at(&self.core, event) {

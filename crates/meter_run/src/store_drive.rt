@@ -6,7 +6,7 @@ ghost use Rattle.outside.specs.Faults.{HasCause, MayRise, RisesOnlyIf, Rose};
 ghost use Rattle.meter_states.specs.Run.{ended};
 ghost use Rattle.seal_record.specs.Ranges.{IsSeal};
 ghost use Rattle.taxi_units.specs.declared.event.Operating.TheVariants.{Off};
-ghost use Rattle.meter_run.specs.Drives.{IsBoundedBy};
+ghost use Rattle.meter_run.specs.Drives.{IsBoundedByDrive};
 ghost use Rattle.meter_run.specs.OnStore.{CarriesOut, IsReadyOn, StopsAmid, WritesTotals};
 ghost use Rattle.meter_run.specs.Runs.{EndsRun, LeavesPoints};
 
@@ -60,14 +60,14 @@ pub fn run_events<F: Files, B: Board<STORE_SIZE, L>, L: Ledger>(
     ensures complete { F.tells → drive_end (F.rest files.old word) ≡ Whole
         → ¬ Rose (F.faults files.old word) (F.faults files.new word)
         → ¬ Rose (B.faults board.old) (B.faults board.new) → IsOk result }
-    ensures steps { IsBoundedBy 0 F.tells (F.rest files.old word) (F.rest files.new word) steps.old steps.new }
+    ensures steps { IsBoundedByDrive 0 F.tells (F.rest files.old word) (F.rest files.new word) steps.old steps.new }
     ensures others { LeavesOthers F.rest word files.old files.new }
     ensures read_fault { result ≡ Err RunFault.ReadFault → Rose (F.faults files.old word) (F.faults files.new word) }
     ensures board_fault { RisesOnlyIf (result ≡ Err RunFault.BoardFault) (B.faults board.old) (B.faults board.new) }
     ensures counts { (other : ℕ) → MayRise ((result ≡ Err RunFault.ReadFault) ⊎ (result ≡ Err RunFault.BoardFault))
         (F.faults files.old other) (F.faults files.new other) }
 {
-    tables.known();
+    tables.recall();
     let by = SealedTables { tables, seal };
     let mut meter = StoreMeter::new();
     match carry_drive(&mut meter, &by, files, word, board, steps) {

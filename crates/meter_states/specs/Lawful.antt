@@ -107,7 +107,7 @@ IsAmidEvent tables core = IsPowered tables last_tick roaming_amid 0 core
 
 -- a core is lawful between two events where it is off, or powered and in its ranges, and its cache is one of the tables
 -- and the seal: the cache has what was looked up in them and only saves look-ups, so that it takes no part in which
--- state of the meter the core stands for, as the clause `meets` of `Core::step` says
+-- state of the meter the core stands for, as the clause `takes` of `Core::step_into` says
 pub record IsLawful (tables : TableParts) (seal : Seal) (core : CachedCore) : Type 0 where
   pub powered : (core.plain.operating ≡ Off) ⊎ IsBetweenEvents tables core.plain
   pub cache : IsCacheOf tables seal core.cache

@@ -52,7 +52,7 @@ impl Core {
             → Meets s result.0.plain result.1.items (model.supply_came s second m) }
         ensures steps { steps.new ≤ steps.old + 12 }
     {
-        tables.known();
+        tables.recall();
         let mut state = State::idle(Operating::ForHire, durable.number, second);
         let mut acts = Acts::new();
         state.take_hold(durable.hold, second, tables, seal, &mut acts, steps);

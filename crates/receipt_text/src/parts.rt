@@ -48,7 +48,7 @@ pub(crate) fn part_of(seal: &Seal) -> SealPart
     ensures part { result ≡ part_of seal.now }
     ensures range { IsPart result }
 {
-    known(&seal.digest);
+    recall(&seal.digest);
     let mut taxi = ArrayVec::new();
     taxi.try_extend_from_slice(seal.params.taxi.as_slice())
         .unwrap();
@@ -61,7 +61,7 @@ pub(crate) fn part_of(seal: &Seal) -> SealPart
 }
 
 /// Says of 32 bytes what is known of each: it is below 256. It does nothing.
-fn known(bytes: &[u8])
+fn recall(bytes: &[u8])
     requires { length bytes.now ≡ 32 }
     ensures { IsDigest bytes.now }
 {}

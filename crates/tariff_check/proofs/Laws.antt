@@ -5,10 +5,12 @@ use Rattle.tariff_syntax.specs.Reads.{RiseInNumber}
 use Rattle.tariff_syntax.specs.Tree.{Tree, Line, Entry}
 use Rattle.tariff_syntax.specs.Writable.{IsFromTo, IsWritable}
 use Rattle.tariff_syntax.specs.declared.context.Context.{Context}
+use Rattle.std.specs.List.{Contains, slice_get}
+use Rattle.tariff_check.specs.AllFaults.{all_faults}
 use Rattle.tariff_check.specs.Amounts.{HasAmountsOf, IsFitInitial, initial_by}
 use Rattle.tariff_check.specs.ChoiceLines.{choice_lines}
 use Rattle.tariff_check.specs.Cuts.{IsInOrder, all_cuts, cuts_of, with_each}
-use Rattle.tariff_check.specs.Faults.{IsSound, fault_of}
+use Rattle.tariff_check.specs.Faults.{HasNone, IsSound, fault_of, faults_before_cuts, faults_from_cuts, faults_of}
 use Rattle.tariff_check.specs.FoundLines.{StandsAtItsLine}
 use Rattle.tariff_check.specs.Lines.{LineTest, IsFirstLine, IsNowhere, first_line}
 use Rattle.tariff_check.specs.Measure.{IsLeastCommonMultiple, measures_of, measure_of}
@@ -17,8 +19,11 @@ use Rattle.tariff_check.specs.Parts.{supplement_of}
 use Rattle.tariff_check.specs.Sound.{HasSoundParts}
 use Rattle.tariff_check.specs.SoundTariff.{HasAllLines, HasFrame, IsInOnePart, sound_of, supplement_numbered}
 use Rattle.tariff_check.specs.declared.choice.ChoiceKind.{ChoiceKind}
+use Rattle.tariff_check.specs.declared.fault.CheckFault.{CheckFault}
 use Rattle.tariff_check.specs.declared.fault.CheckFault.TheVariants.{NoCommonMeasure}
 use Rattle.tariff_check.specs.declared.fault.Dimension.{Dimension}
+use Rattle.tariff_check.proofs.AllFaults.{each_before_cuts_is_named, each_named_is_there, each_of_cuts_is_named}
+use Rattle.tariff_check.proofs.AllFaults.{first_named, none_named, zero_measure}
 use Rattle.tariff_check.proofs.Amounts.{fit_initial, has_amounts}
 use Rattle.tariff_check.proofs.ChoicePlaces.{choices_there}
 use Rattle.tariff_check.proofs.CommonMeasure.{least_of_some, refused_measures, sound_measures}
@@ -45,6 +50,29 @@ faults_name_the_first_line-smallest = smallest_line
 pub faults_name_the_first_line-none : (test : LineTest) (lines : List Line) → (first_line test lines ≡ None)
     ↔ IsNowhere test lines
 faults_name_the_first_line-none = nowhere_is
+
+pub all_faults_begin_with_the_first-first : (t : Tree) → slice_get (all_faults t.lines) 0 ≡ fault_of t
+all_faults_begin_with_the_first-first = first_named
+
+pub all_faults_begin_with_the_first-none : (t : Tree) → (all_faults t.lines ≡ []) ↔ IsSound t
+all_faults_begin_with_the_first-none = none_named
+
+pub all_faults_begin_with_the_first-there : (lines : List Line)
+    → All (λ (fault : CheckFault). Contains (faults_of lines) (Some fault)) (all_faults lines)
+all_faults_begin_with_the_first-there = each_named_is_there
+
+pub all_faults_begin_with_the_first-before_cuts : (lines : List Line) (fault : CheckFault)
+    → Contains (faults_before_cuts lines) (Some fault) → Contains (all_faults lines) fault
+all_faults_begin_with_the_first-before_cuts = each_before_cuts_is_named
+
+pub all_faults_begin_with_the_first-from_cuts : (lines : List Line) (fault : CheckFault)
+    → HasNone (faults_before_cuts lines) → Contains (faults_from_cuts lines) (Some fault)
+    → Contains (all_faults lines) fault
+all_faults_begin_with_the_first-from_cuts = each_of_cuts_is_named
+
+pub all_faults_begin_with_the_first-measure : (lines : List Line) → Contains (measures_of lines) 0
+    → measure_of lines ≡ 0
+all_faults_begin_with_the_first-measure = zero_measure
 
 pub cuts_are_in_order-cuts : (dimension : Dimension) (lines : List Line)
     → IsInOrder (all_cuts dimension lines) (cuts_of dimension lines)

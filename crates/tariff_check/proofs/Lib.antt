@@ -1,3 +1,5 @@
+-- all faults: the first is the one that is answered, and each that is there is named
+mod AllFaults
 -- what a hiring begins with is what the lines that hold first say
 mod Amounts
 -- the choices of the program are those of the tariff

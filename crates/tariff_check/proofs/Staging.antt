@@ -19,7 +19,7 @@ use Rattle.std.proofs.lemmas.Bool.{le-ltb}
 use Rattle.std.specs.Prelude.{nat_lt}
 use Rattle.tariff_check.specs.declared.fault.CheckFault.{CheckFault}
 
-or_assoc : {A : Type 0} (x y z : Option A) → option_or (option_or x y) z ≡ option_or x (option_or y z)
+pub or_assoc : {A : Type 0} (x y z : Option A) → option_or (option_or x y) z ≡ option_or x (option_or y z)
 or_assoc None y z = refl
 or_assoc (Some a) y z = refl
 

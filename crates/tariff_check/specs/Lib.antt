@@ -1,3 +1,4 @@
+pub mod AllFaults
 pub mod Amounts
 pub mod Cells
 pub mod ChoiceLines

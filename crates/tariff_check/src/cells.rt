@@ -1,5 +1,8 @@
 //! How many cells a tariff has.
-ghost use Rattle.std.specs.Prelude.{◌≡◌, ◌+◌, ◌*◌, ◌≤◌, if◌then◌else◌};
+ghost use Rattle.std.specs.Prelude.{◌≡◌, ◌+◌, ◌*◌, ◌≤◌, IfSome, if◌then◌else◌};
+
+/// The most cells that a tariff may have.
+pub(crate) const MOST_CELLS: u64 = 64_512;
 
 /// How many cuts there are in each dimension.
 #[derive(Clone, Copy)]
@@ -21,6 +24,30 @@ pub(crate) fn cells(positions: u8, zones: u8, holidays: bool, counts: &Counts) -
 {
     let kinds = if holidays { 2 } else { 1 };
     days(positions, zones, kinds) * bands(counts)
+}
+
+/// The same product for any counts; `None` where 64 bits don't hold it.
+pub(crate) fn any_cells(positions: u8, zones: u8, holidays: bool, counts: &Counts) -> Option<u64>
+    ensures { IfSome result (λ cells. cells ≡ positions * zones * 7 * (if holidays then 2 else 1)
+        * ((counts.now.month_day + 1) * (counts.now.minute + 1) * (counts.now.distance + 1) * (counts.now.time + 1))) }
+{
+    let kinds = if holidays { 2 } else { 1 };
+    let bands = any_bands(counts)?;
+    days(positions, zones, kinds).checked_mul(bands)
+}
+
+/// How many bands there are between any cuts; `None` where 64 bits don't hold it.
+fn any_bands(counts: &Counts) -> Option<u64>
+    ensures { IfSome result (λ bands. bands ≡ (counts.now.month_day + 1) * (counts.now.minute + 1)
+        * (counts.now.distance + 1) * (counts.now.time + 1)) }
+{
+    let days = counts.month_day as u64 + 1;
+    let minutes = counts.minute as u64 + 1;
+    let distances = counts.distance as u64 + 1;
+    let times = counts.time as u64 + 1;
+    days.checked_mul(minutes)?
+        .checked_mul(distances)?
+        .checked_mul(times)
 }
 
 /// How many there are of positions, zones and weekdays that are holidays or not: at most 910,350.

@@ -7,7 +7,7 @@ ghost use Rattle.tariff_check.specs.declared.fault.CheckFault.TheVariants.{NoMem
 ghost use Rattle.tariff_syntax.specs.Tree.{line_of, tree_of};
 ghost use Rattle.tariff_syntax.specs.Writable.{IsWritable};
 
-use crate::cells::cells;
+use crate::cells::{MOST_CELLS, cells};
 use crate::checked::Checked;
 use crate::counts::counts;
 use crate::early::early_fault;
@@ -48,9 +48,6 @@ fn parts_of(alloc: Global, lines: &[TariffLine]) -> Result<Parts, CheckFault>
 {
     resolved(alloc, lines).map_err(|_| CheckFault::NoMemory)
 }
-
-/// The most cells that a tariff may have.
-const MOST_CELLS: u64 = 64_512;
 
 /// The numbers of lines, or their first fault. Nothing is counted on lines that have an earlier fault.
 fn numbers(alloc: Global, lines: &[TariffLine]) -> Result<Numbers, CheckFault>

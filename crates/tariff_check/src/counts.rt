@@ -1,14 +1,14 @@
 //! How many cuts there are.
-ghost use Rattle.std.specs.Prelude.{◌≡◌, ◌≤◌, ◌⊎◌, Some, None, IfOk, IfErr, OnOk, map};
+ghost use Rattle.std.specs.Prelude.{◌≡◌, ◌≤◌, ◌⊎◌, Some, None, IfOk, IfErr, OnOk, map, nat_lt};
 ghost use Rattle.tariff_check.specs.Counted.{HasCounts};
 ghost use Rattle.tariff_check.specs.Cuts.{count_of, most_cuts};
-ghost use Rattle.tariff_check.specs.Faults.{cuts_fault};
+ghost use Rattle.tariff_check.specs.Faults.{cuts_fault, fault_if};
 ghost use Rattle.tariff_check.specs.Stages.{cut_fault};
-ghost use Rattle.tariff_check.specs.declared.fault.CheckFault.TheVariants.{NoMemory};
+ghost use Rattle.tariff_check.specs.declared.fault.CheckFault.TheVariants.{NoMemory, TooManyCuts};
 ghost use Rattle.tariff_syntax.specs.Tree.{line_of};
 
 use crate::cells::Counts;
-use crate::cuts::cuts;
+use crate::cuts::cut_count;
 use crate::fault::{CheckFault, Dimension};
 use std::alloc::Global;
 use tariff_syntax::TariffLine;
@@ -31,22 +31,28 @@ pub(crate) fn counts(alloc: Global, lines: &[TariffLine]) -> Result<Counts, Chec
     })
 }
 
-/// How many cuts some lines have in a dimension, or that they are too many. `NoMemory` too where they are
-/// more than fit 32 bits, which is more than 32 GiB of them.
+/// How many cuts some lines have in a dimension, or that they are too many.
 fn count(alloc: Global, lines: &[TariffLine], dimension: Dimension) -> Result<u32, CheckFault>
     ensures count { IfOk result (λ n. (n ≡ count_of dimension (map line_of lines.now)) × (n ≤ most_cuts dimension)) }
     ensures none { OnOk result (cuts_fault (map line_of lines.now) dimension ≡ None) }
     ensures fault { IfErr result (λ f. (f ≡ NoMemory) ⊎ (cuts_fault (map line_of lines.now) dimension ≡ Some f)) }
 {
-    let cuts = cuts(alloc, lines, dimension).map_err(|_| CheckFault::NoMemory)?;
-    let count = cuts.len();
-    if count > u32::MAX as usize {
-        return Err(CheckFault::NoMemory);
+    let count = cut_count(alloc, lines, dimension).map_err(|_| CheckFault::NoMemory)?;
+    match cuts_fault(dimension, count) {
+        Some(fault) => Err(fault),
+        None => Ok(count),
     }
-    if count as u32 > most(dimension) {
-        return Err(CheckFault::TooManyCuts(dimension, count as u32));
+}
+
+/// That a dimension has this many cuts, where that is too many.
+pub(crate) fn cuts_fault(dimension: Dimension, count: u32) -> Option<CheckFault>
+    ensures { result ≡ fault_if (nat_lt (most_cuts dimension) count) (TooManyCuts dimension count) }
+{
+    if count > most(dimension) {
+        Some(CheckFault::TooManyCuts(dimension, count))
+    } else {
+        None
     }
-    Ok(count as u32)
 }
 
 /// How many cuts there may be in a dimension.

@@ -3,7 +3,7 @@ ghost use Rattle.std.specs.BTreeSet.{insert_key};
 ghost use Rattle.std.specs.List.{flat_map};
 ghost use Rattle.std.specs.Ordering.{nat_cmp};
 ghost use Rattle.std.specs.Prelude.{◌≡◌, IfOk, OnOk, map};
-ghost use Rattle.tariff_check.specs.Cuts.{atom_cuts, cuts_of, with_each};
+ghost use Rattle.tariff_check.specs.Cuts.{atom_cuts, count_of, cuts_of, with_each};
 ghost use Rattle.tariff_check.specs.Lines.{atoms_in, atoms_of};
 ghost use Rattle.tariff_syntax.specs.Condition.{condition_of};
 ghost use Rattle.tariff_syntax.specs.Tree.{entry_of, line_of, tree_of};
@@ -44,6 +44,22 @@ pub(crate) fn cuts(
         add_line(&mut cuts, dimension, &line.item)?;
     }
     Ok(cuts)
+}
+
+/// How many cuts some lines have in a dimension. `NoMemory` too where they are more than fit 32 bits, which is more
+/// than 32 GiB of them.
+pub(crate) fn cut_count(
+    alloc: Global,
+    lines: &[TariffLine],
+    dimension: Dimension,
+) -> Result<u32, NoMemory>
+    ensures { IfOk result (λ n. n ≡ count_of dimension (map line_of lines.now)) }
+{
+    let count = cuts(alloc, lines, dimension)?.len();
+    if count > u32::MAX as usize {
+        return Err(NoMemory);
+    }
+    Ok(count as u32)
 }
 
 /// Puts the cuts of a line among others.

@@ -74,7 +74,7 @@ fn number_fault(lines: &[TariffLine]) -> Option<CheckFault>
 }
 
 /// The fault of the first line that breaks a rule.
-fn fault_at(rule: LineRule, lines: &[TariffLine]) -> Option<CheckFault>
+pub(crate) fn fault_at(rule: LineRule, lines: &[TariffLine]) -> Option<CheckFault>
     ensures { result ≡ fault_at (fault_of_rule rule) (first_line (breaks_rule rule) (map line_of lines.now)) }
 {
     let line = first_line(rule, lines)?;

@@ -1,10 +1,12 @@
 //! The common measure of a tariff.
-ghost use Rattle.std.specs.Prelude.{◌≡◌, ◌^◌, ◌<◌, ◌≤◌, All, MatchOption, false, map};
+ghost use Rattle.std.specs.Prelude.{◌≡◌, ◌^◌, ◌<◌, ◌≤◌, All, MatchOption, false, map, nat_lt};
+ghost use Rattle.std.specs.List.{list_any};
 ghost use Rattle.tariff_check.specs.Lines.{is_for_nothing};
 ghost use Rattle.tariff_check.specs.Measure.{lcm_of, measure_of};
 ghost use Rattle.tariff_syntax.specs.Tree.{Line, line_of};
 
 use crate::multiples::common_measure;
+use crate::rules::is_for_nothing;
 use tariff_syntax::{Item, RateLine, TariffLine};
 
 /// The greatest common measure that a tariff may have.
@@ -23,6 +25,25 @@ pub(crate) fn measure(lines: &[TariffLine]) -> Option<u64>
         }
     }
     Some(common)
+}
+
+/// Whether the common measure of all rates is above 10^18; it is 0 where one of their measures is.
+pub(crate) fn has_great_measure(lines: &[TariffLine]) -> bool
+    ensures { result ≡ nat_lt (10 ^ 18) (measure_of (map line_of lines.now)) }
+{
+    !some_is_for_nothing(lines) && measure(lines).is_none()
+}
+
+/// Whether one of some lines is a rate with a measure of 0.
+fn some_is_for_nothing(lines: &[TariffLine]) -> bool
+    ensures { result ≡ list_any (λ (l : Line). is_for_nothing l.entry) (map line_of lines.now) }
+{
+    for line in lines {
+        if is_for_nothing(&line.item) {
+            return true;
+        }
+    }
+    false
 }
 
 /// The least common multiple of a measure and the two of a rate, where it is at most 10^18.

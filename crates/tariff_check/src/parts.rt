@@ -32,7 +32,7 @@ pub(crate) fn step(lines: &[TariffLine]) -> Result<(u64, Rounding), CheckFault>
 }
 
 /// The display step, and how the fare is rounded to it, of the first such line, if there is one.
-fn step_said(lines: &[TariffLine]) -> Option<(u64, Rounding)>
+pub(crate) fn step_said(lines: &[TariffLine]) -> Option<(u64, Rounding)>
     ensures { result ≡ step_of (map line_of lines.now) }
 {
     match first_saying(FramePart::Step, lines) {

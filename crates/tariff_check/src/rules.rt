@@ -75,7 +75,7 @@ fn is_date_of_meter(year: u16, month: u8, date: u8) -> bool
 }
 
 /// Whether an item is a rate with a measure of 0.
-fn is_for_nothing(item: &Item) -> bool
+pub(crate) fn is_for_nothing(item: &Item) -> bool
     ensures { result ≡ is_for_nothing (entry_of item.now) }
 {
     match item {

@@ -1,9 +1,12 @@
 //! What the definitions of faults and cuts come to.
 ghost use Rattle.std.specs.Prelude.{◌≡◌, ℕ, ◌<◌, ◌≤◌, ◌↔◌, ◌∷◌, ◌++◌, true, List, [], Some, None, All, length};
+ghost use Rattle.std.specs.List.{Contains, slice_get};
+ghost use Rattle.tariff_check.specs.AllFaults.{all_faults};
 ghost use Rattle.tariff_check.specs.Amounts.{HasAmountsOf, IsFitInitial, initial_by};
 ghost use Rattle.tariff_check.specs.ChoiceLines.{choice_lines};
 ghost use Rattle.tariff_check.specs.Cuts.{IsInOrder, all_cuts, cuts_of, with_each};
-ghost use Rattle.tariff_check.specs.Faults.{IsSound, fault_of};
+ghost use Rattle.tariff_check.specs.Faults.{HasNone, IsSound, fault_of, faults_before_cuts, faults_from_cuts};
+ghost use Rattle.tariff_check.specs.Faults.{faults_of};
 ghost use Rattle.tariff_check.specs.FoundLines.{StandsAtItsLine};
 ghost use Rattle.tariff_check.specs.Lines.{LineTest, IsFirstLine, IsNowhere, first_line};
 ghost use Rattle.tariff_check.specs.Measure.{IsLeastCommonMultiple, measures_of, measure_of};
@@ -12,6 +15,7 @@ ghost use Rattle.tariff_check.specs.Parts.{supplement_of};
 ghost use Rattle.tariff_check.specs.Sound.{HasSoundParts};
 ghost use Rattle.tariff_check.specs.SoundTariff.{HasAllLines, HasFrame, IsInOnePart, sound_of, supplement_numbered};
 ghost use Rattle.tariff_check.specs.declared.choice.ChoiceKind.{ChoiceKind};
+ghost use Rattle.tariff_check.specs.declared.fault.CheckFault.{CheckFault};
 ghost use Rattle.tariff_check.specs.declared.fault.CheckFault.TheVariants.{NoCommonMeasure};
 ghost use Rattle.tariff_check.specs.declared.fault.Dimension.{Dimension};
 ghost use Rattle.tariff_syntax.specs.Meaning.{choice_place, initial_place, rate_place};
@@ -39,6 +43,22 @@ pub fn cuts_are_in_order()
     ensures cuts { (dimension : Dimension) (lines : List Line)
         → IsInOrder (all_cuts dimension lines) (cuts_of dimension lines) }
     ensures numbers { (numbers : List ℕ) → IsInOrder numbers (with_each [] numbers) }
+{}
+
+/// The law of all faults: the first of them is the one that `check` answers, and there is none exactly where the tariff
+/// is sound. Each that is named is there; each before those of cuts that is there is named, and each of cuts and of
+/// cells, too, where none of those before is there. Where a measure of a rate is 0 the common measure is 0, and so isn't
+/// too great.
+pub fn all_faults_begin_with_the_first()
+    ensures first { (t : Tree) → slice_get (all_faults t.lines) 0 ≡ fault_of t }
+    ensures none { (t : Tree) → (all_faults t.lines ≡ []) ↔ IsSound t }
+    ensures there { (lines : List Line)
+        → All (λ (fault : CheckFault). Contains (faults_of lines) (Some fault)) (all_faults lines) }
+    ensures before_cuts { (lines : List Line) (fault : CheckFault) → Contains (faults_before_cuts lines) (Some fault)
+        → Contains (all_faults lines) fault }
+    ensures from_cuts { (lines : List Line) (fault : CheckFault) → HasNone (faults_before_cuts lines)
+        → Contains (faults_from_cuts lines) (Some fault) → Contains (all_faults lines) fault }
+    ensures measure { (lines : List Line) → Contains (measures_of lines) 0 → measure_of lines ≡ 0 }
 {}
 
 /// The law of sound tariffs: a tariff without a first fault is sound, and a sound one has its parts in

@@ -1,7 +1,10 @@
 -- The laws of tariffs' texts, one for each clause of the public laws.
-use Rattle.std.proofs.Common.{◌≡◌, ◌⊎◌, ◌↔◌, ℕ, List, Option, Ok, Err}
+use Rattle.std.proofs.Common.{◌≡◌, ◌<◌, ◌⊎◌, ◌↔◌, ℕ, List, [], All, Option, Some, Ok, Err}
+use Rattle.std.specs.List.{AllPairs, Contains, slice_get}
+use Rattle.tariff_syntax.specs.BadLines.{bad_lines}
 use Rattle.tariff_syntax.specs.Choices.{choices, conditions_of, initial_part, minimum_part, rate_part}
 use Rattle.tariff_syntax.specs.Condition.{Condition}
+use Rattle.tariff_syntax.specs.Formless.{HasNoForm}
 use Rattle.tariff_syntax.specs.Meaning.{IsFirstPlace, at_hiring, holds_if, initial_place, minimum_place, place_of}
 use Rattle.tariff_syntax.specs.Meaning.{rate_place}
 use Rattle.tariff_syntax.specs.Parentheses.{NeedsParentheses}
@@ -13,6 +16,8 @@ use Rattle.tariff_syntax.specs.TextLines.{AreLines, lines_of}
 use Rattle.tariff_syntax.specs.Tree.{Tree}
 use Rattle.tariff_syntax.specs.Writable.{IsWritable}
 use Rattle.tariff_syntax.specs.declared.context.Context.{Context}
+use Rattle.tariff_syntax.proofs.BadLines.{first_named, formless_are_named, named_are_formless, named_in_order}
+use Rattle.tariff_syntax.proofs.BadLines.{none_named}
 use Rattle.tariff_syntax.proofs.NumberLaws.{numbers_rise}
 use Rattle.tariff_syntax.proofs.ParenthesesLaws.{parentheses_stay}
 use Rattle.tariff_syntax.proofs.PlaceLaws.{first_place_is}
@@ -43,6 +48,23 @@ texts_are_parsed_as_they_read-tariff = reads_exactly
 pub texts_are_parsed_as_they_read-bad_line : (text : List ℕ) (line : ℕ) → IsFirstBadLine text line
     ↔ (tree_parsed text ≡ Err line)
 texts_are_parsed_as_they_read-bad_line = first_bad_exactly
+
+pub bad_lines_have_no_form-named : (text : List ℕ) → All (HasNoForm text) (bad_lines text)
+bad_lines_have_no_form-named = named_are_formless
+
+pub bad_lines_have_no_form-each : (text : List ℕ) (line : ℕ) → HasNoForm text line → Contains (bad_lines text) line
+bad_lines_have_no_form-each = formless_are_named
+
+pub bad_lines_have_no_form-in_order : (text : List ℕ)
+    → AllPairs (λ (above below : ℕ). above < below) (bad_lines text)
+bad_lines_have_no_form-in_order = named_in_order
+
+pub bad_lines_have_no_form-first : (text : List ℕ) (line : ℕ)
+    → IsFirstBadLine text line ↔ (slice_get (bad_lines text) 0 ≡ Some line)
+bad_lines_have_no_form-first = first_named
+
+pub bad_lines_have_no_form-none : (text : List ℕ) → (bad_lines text ≡ []) ↔ ((t : Tree) × Reads text t)
+bad_lines_have_no_form-none = none_named
 
 pub printed_forms_read_back : (text : List ℕ) (t : Tree) → Reads text t → Reads (printed t) (renumbered t)
 printed_forms_read_back = printed_reads_back

@@ -1,5 +1,7 @@
 -- atoms are read from their forms
 mod AtomLaws
+-- the lines of a text that are named as bad are those that have no form
+mod BadLines
 -- what is a condition is read
 mod ConditionAgain
 -- conditions are read by their grammar

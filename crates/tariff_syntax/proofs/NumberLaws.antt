@@ -6,7 +6,7 @@ use Rattle.tariff_syntax.specs.Reads.{AreTextsOfLines, AreTextsOfTariff, Reads, 
 use Rattle.tariff_syntax.specs.TextLines.{lines_of}
 use Rattle.tariff_syntax.specs.Tree.{Tree, Line}
 
-pairs_cons : {X : Type 0} (R : X → X → Type 0) (x : X) (xs : List X) → All (R x) xs → AllPairs R xs
+pub pairs_cons : {X : Type 0} (R : X → X → Type 0) (x : X) (xs : List X) → All (R x) xs → AllPairs R xs
     → AllPairs R (x ∷ xs)
 pairs_cons R x xs first rest i zero d less within = absurd (omega arith)
 pairs_cons R x xs first rest zero (suc j) d less within = first j d (omega arith)

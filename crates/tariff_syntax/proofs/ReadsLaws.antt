@@ -20,21 +20,21 @@ use Rattle.tariff_syntax.specs.Words.{after_word, word_first}
 use Rattle.tariff_syntax.proofs.ItemLaws.{item_is, item_again, decimals_are, decimals_again}
 use Rattle.tariff_syntax.proofs.TokenLaws.{spelled, spelled_alone}
 
-empty_is : (text : List ℕ) → tokens_of text ≡ [] → IsEmpty text
+pub empty_is : (text : List ℕ) → tokens_of text ≡ [] → IsEmpty text
 empty_is text e = subst (λ (ts : List Token). IsSpelled text ts) e (spelled text)
 
-says_is : (decimals : ℕ) (text : List ℕ) (x : Entry) → item_read decimals (tokens_of text) ≡ Some x
+pub says_is : (decimals : ℕ) (text : List ℕ) (x : Entry) → item_read decimals (tokens_of text) ≡ Some x
     → IsLineOfEntry decimals text x
 says_is decimals text x e = (tokens_of text, spelled text, item_is decimals (tokens_of text) x e)
 
-says_again : (decimals : ℕ) (text : List ℕ) (x : Entry) → IsLineOfEntry decimals text x
+pub says_again : (decimals : ℕ) (text : List ℕ) (x : Entry) → IsLineOfEntry decimals text x
     → item_read decimals (tokens_of text) ≡ Some x
 says_again decimals text x h = ap (item_read decimals) (spelled_alone text h.0 h.1) ∙ item_again decimals h.0 x h.2
 
-decimals_is : (text : List ℕ) (n : ℕ) → decimals_read (tokens_of text) ≡ Some n → IsLineOfDecimals text n
+pub decimals_is : (text : List ℕ) (n : ℕ) → decimals_read (tokens_of text) ≡ Some n → IsLineOfDecimals text n
 decimals_is text n e = (tokens_of text, spelled text, decimals_are (tokens_of text) n e)
 
-says_decimals : (text : List ℕ) (n : ℕ) → IsLineOfDecimals text n → decimals_read (tokens_of text) ≡ Some n
+pub says_decimals : (text : List ℕ) (n : ℕ) → IsLineOfDecimals text n → decimals_read (tokens_of text) ≡ Some n
 says_decimals text n h = ap decimals_read (spelled_alone text h.0 h.1) ∙ decimals_again h.0 n h.2
 
 no_item : (decimals : ℕ) → item_read decimals [] ≡ None
@@ -202,18 +202,18 @@ tariff_said number (text ∷ texts) t e =
     tariff_by number text texts t (tariff_said (number + 1) texts t) (tokens_of text) refl
     (decimals_read (tokens_of text)) refl e
 
-head_empty : (number : ℕ) (text : List ℕ) (texts : List (List ℕ)) (ts : List Token) (said : Option ℕ)
+pub head_empty : (number : ℕ) (text : List ℕ) (texts : List (List ℕ)) (ts : List Token) (said : Option ℕ)
     (below : ℕ × ℕ × List (List ℕ)) → ts ≡ [] → heading_by number text texts ts said below ≡ below
 head_empty number text texts [] said below e = refl
 head_empty number text texts (t ∷ ts) said below e = absurd cc
 
-head_says : (number : ℕ) (text : List ℕ) (texts : List (List ℕ)) (ts : List Token) (n : ℕ)
+pub head_says : (number : ℕ) (text : List ℕ) (texts : List (List ℕ)) (ts : List Token) (n : ℕ)
     (below : ℕ × ℕ × List (List ℕ)) → decimals_read ts ≡ Some n
     → heading_by number text texts ts (decimals_read ts) below ≡ (n, number + 1, texts)
 head_says number text texts [] n below e = absurd (let none = no_decimals in cc)
 head_says number text texts (t ∷ ts) n below e = rw e refl
 
-head_other : (number : ℕ) (text : List ℕ) (texts : List (List ℕ)) (ts : List Token) (below : ℕ × ℕ × List (List ℕ))
+pub head_other : (number : ℕ) (text : List ℕ) (texts : List (List ℕ)) (ts : List Token) (below : ℕ × ℕ × List (List ℕ))
     → (ts ≡ [] → ⊥) → decimals_read ts ≡ None
     → heading_by number text texts ts (decimals_read ts) below ≡ (2, number, text ∷ texts)
 head_other number text texts [] below filled e = absurd (filled refl)
@@ -271,7 +271,7 @@ bad_said number (text ∷ texts) bad e =
     below_by number text texts bad (bad_said (number + 1) texts bad) (tokens_of text) refl
     (decimals_read (tokens_of text)) refl e
 
-none_said : (text : List ℕ) (said : Option ℕ) → decimals_read (tokens_of text) ≡ said
+pub none_said : (text : List ℕ) (said : Option ℕ) → decimals_read (tokens_of text) ≡ said
     → ((n : ℕ) → IsLineOfDecimals text n → ⊥) → said ≡ None
 none_said text None e h = refl
 none_said text (Some n) e h = absurd (h n (decimals_is text n e))

@@ -1,10 +1,12 @@
 pub mod Appends
 pub mod Atom
+pub mod BadLines
 pub mod Built
 pub mod Choices
 pub mod Condition
 pub mod Faults
 pub mod Figure
+pub mod Formless
 pub mod Forms
 pub mod Grammar
 pub mod IsCondition

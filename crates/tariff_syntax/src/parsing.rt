@@ -3,6 +3,7 @@
 
 ghost use Rattle.std.specs.Prelude.{◌≡◌, ◌+◌, ◌<◌, ◌≤◌, ◌^◌, ◌∷◌, [], ℕ, List, Result, length, map, MatchOption, IfOk};
 ghost use Rattle.std.specs.Prelude.{OnOk, OnErr, Err, Some, drop, is_none, if◌then◌else◌};
+ghost use Rattle.tariff_syntax.specs.BadLines.{is_bad};
 ghost use Rattle.tariff_syntax.specs.Items.{item_read};
 ghost use Rattle.tariff_syntax.specs.Parsed.{before, line_read, entries_read, heading_read};
 ghost use Rattle.tariff_syntax.specs.TextLines.{lines_of, is_inner};
@@ -70,7 +71,7 @@ fn parse_text(alloc: Global, text: &[u8]) -> Result<Tariff, ParseFault>
 /// The decimals of a text, the number of the line from which its other lines are read, and the text
 /// from there on: behind a line of decimals, where it is the first that has tokens.
 #[tactic(auto, unfolding(crate::specs::Parsed::heading_read))]
-fn heading(text: &[u8]) -> (u8, u32, &[u8])
+pub(crate) fn heading(text: &[u8]) -> (u8, u32, &[u8])
     requires { length text.now ≤ 65536 }
     ensures value { heading_read 1 (lines_of text.now) ≡ (result.0, result.1, lines_of result.2.now) }
     ensures decimals { result.0 ≤ 3 }
@@ -171,9 +172,10 @@ fn first_bad(alloc: Global, decimals: u8, first: u32, text: &[u8]) -> Option<u32
 }
 
 /// Whether a line has tokens and none of the forms of a line.
-fn is_bad(alloc: Global, decimals: u8, line: &[u8]) -> bool
+pub(crate) fn is_bad(alloc: Global, decimals: u8, line: &[u8]) -> bool
     requires { decimals ≤ 3 }
-    ensures { (number : ℕ) → (below : Result (List Line) ℕ)
+    ensures line { result ≡ is_bad decimals (tokens_of line.now) }
+    ensures first { (number : ℕ) → (below : Result (List Line) ℕ)
         → bad_in (line_read decimals number line.now below) ≡ (if result then Some number else bad_in below) }
 {
     !is_over(line) && has_no_form(alloc, decimals, line)
@@ -188,7 +190,7 @@ fn has_no_form(alloc: Global, decimals: u8, line: &[u8]) -> bool
 }
 
 /// The first line of a text, without its line feed, and what stands after it. `None` at the end.
-fn first_line(text: &[u8]) -> Option<(&[u8], &[u8])>
+pub(crate) fn first_line(text: &[u8]) -> Option<(&[u8], &[u8])>
     ensures { MatchOption result (lines_of text.now ≡ [])
         (λ x. (lines_of text.now ≡ x.0.now ∷ lines_of x.1.now) × (length x.1.now < length text.now)) }
 {

@@ -2,11 +2,14 @@
 //! letters, the bytes of a figure), which are tables, and the cutting into lines, which has its law here;
 //! with the printed form they share the words and the parts of entries, and the names of weekdays and of
 //! roundings, which are tables.
-ghost use Rattle.std.specs.Prelude.{◌≡◌, ◌↔◌, ◌⊎◌, ℕ, List, Option, Ok, Err};
+ghost use Rattle.std.specs.Prelude.{◌≡◌, ◌<◌, ◌↔◌, ◌⊎◌, ℕ, List, [], All, Option, Some, Ok, Err};
+ghost use Rattle.std.specs.List.{AllPairs, Contains, slice_get};
+ghost use Rattle.tariff_syntax.specs.BadLines.{bad_lines};
 ghost use Rattle.tariff_syntax.specs.Choices.{choices, conditions_of, initial_part, minimum_part, rate_part};
 ghost use Rattle.tariff_syntax.specs.Condition.{Condition};
 ghost use Rattle.tariff_syntax.specs.IsItem.{IsItem};
 ghost use Rattle.tariff_syntax.specs.LineTable.{HasTableRanges, IsTableLine};
+ghost use Rattle.tariff_syntax.specs.Formless.{HasNoForm};
 ghost use Rattle.tariff_syntax.specs.Meaning.{IsFirstPlace, at_hiring, holds_if, initial_place, minimum_place};
 ghost use Rattle.tariff_syntax.specs.Meaning.{place_of, rate_place};
 ghost use Rattle.tariff_syntax.specs.Parentheses.{NeedsParentheses};
@@ -35,6 +38,17 @@ pub fn texts_read_as_one_tariff()
 pub fn texts_are_parsed_as_they_read()
     ensures tariff { (text : List ℕ) (t : Tree) → Reads text t ↔ (tree_parsed text ≡ Ok t) }
     ensures bad_line { (text : List ℕ) (line : ℕ) → IsFirstBadLine text line ↔ (tree_parsed text ≡ Err line) }
+{}
+
+/// The law of bad lines: each line that is named as bad has no form, and each line that has none is named, once and in
+/// order. The first of them is the text's first bad line, and none is named exactly where the text reads as a tariff.
+pub fn bad_lines_have_no_form()
+    ensures named { (text : List ℕ) → All (HasNoForm text) (bad_lines text) }
+    ensures each { (text : List ℕ) (line : ℕ) → HasNoForm text line → Contains (bad_lines text) line }
+    ensures in_order { (text : List ℕ) → AllPairs (λ (above below : ℕ). above < below) (bad_lines text) }
+    ensures first { (text : List ℕ) (line : ℕ)
+        → IsFirstBadLine text line ↔ (slice_get (bad_lines text) 0 ≡ Some line) }
+    ensures none { (text : List ℕ) → (bad_lines text ≡ []) ↔ ((t : Tree) × Reads text t) }
 {}
 
 /// The law of printed forms: the printed form of a tariff that a text reads as reads as that tariff, but

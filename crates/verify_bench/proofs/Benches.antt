@@ -256,14 +256,14 @@ hired_in s ForHire pulses latch m hired = refl
 hired_in s operating pulses (Some keys.Hire) m hired = refl
 hired_in s operating pulses latch m hired = refl
 
-same_latch : (s : Setting) (operating : Operating) (pulses : ℕ) (m : Meter)
+pub same_latch : (s : Setting) (operating : Operating) (pulses : ℕ) (m : Meter)
     → (counted_in s operating pulses m).latch ≡ m.latch
 same_latch s Off pulses m = refl
 same_latch s ForHire pulses m = refl
 same_latch s Hired pulses m = refl
 same_latch s Stopped pulses m = refl
 
-same_operating : (s : Setting) (operating : Operating) (pulses : ℕ) (m : Meter)
+pub same_operating : (s : Setting) (operating : Operating) (pulses : ℕ) (m : Meter)
     → (counted_in s operating pulses m).operating ≡ m.operating
 same_operating s Off pulses m = refl
 same_operating s ForHire pulses m = refl

@@ -12,6 +12,7 @@ use std::test::Fail;
 /// first print, and how many in all.
 const PRINTED: &[(&[&str], &str, usize, u64, u64)] = &[
     (&["form", "t"], "holiday 2026-01-01\n", 60, 0, 3),
+    (&["faults", "t"], "holiday\n", 60, 0, 3),
     (
         &["shifts", "b"],
         "ON ANNA 1 0 0 0 0 0\nOFF 1 0 0 0 0 0\n",

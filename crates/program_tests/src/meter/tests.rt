@@ -375,6 +375,14 @@ const GENERATED: &str =
     "GEN 7 1\nEVENTS 4662\nNUMBER 2\nDISTANCE 2129.500 m\nHIRED 1751.500 m\nHIRINGS 1\nSUPPLEMENTS 5.00\n\
      FARE 9.00\n";
 
+/// A tariff with seven faults, and their lines.
+const FAULTY: &str =
+    "zones 2\nzones 2\nrate 0.1 per 0.0 m, 0.1 per 0.0 s when zone 4\nholiday 2026-02-30\n";
+
+const SEVEN_FAULTS: &str =
+    "BAD TARIFF NoStep\nBAD TARIFF Duplicate 2\nBAD TARIFF UnknownNumber 3\nBAD TARIFF NoDefaultRate\n\
+     BAD TARIFF NoDefaultInitial\nBAD TARIFF BadDate 4\nBAD TARIFF MeasureZero 3\n";
+
 /// Each command that doesn't look at the store, and words that are none.
 const WITHOUT_STORE: &[Call] = &[
     (
@@ -384,6 +392,7 @@ const WITHOUT_STORE: &[Call] = &[
         &["OK CELLS 7 MEASURE 147924\n"],
         0,
     ),
+    (&["faults", "t"], &[FAULTY], 2, &[SEVEN_FAULTS], 2),
     (&["form", "t"], &[A], 2, &[A], 0),
     (&["tables", "t", "10000"], &[A], 2, &[ROWS], 0),
     (&["lines", "t", "10000"], &[A], 2, &[LINES], 0),

@@ -1,10 +1,10 @@
 use Rattle.std.proofs.Common.{arith}
-use Rattle.commands.specs.Check.{check_command}
-use Rattle.commands.specs.Totals.{totals_command}
-use Rattle.commands.specs.Generate.{gen_command}
-use Rattle.commands.specs.Mark.{mark_command}
-use Rattle.commands.specs.Sealed.{sealed_command}
-use Rattle.commands.proofs.Carrying.{carries-shut, carries-unread}
+use Rattle.tariff_commands.specs.Check.{check_command}
+use Rattle.store_commands.specs.Totals.{totals_command}
+use Rattle.drive_commands.specs.Generate.{gen_command}
+use Rattle.store_commands.specs.Mark.{mark_command}
+use Rattle.store_commands.specs.Sealed.{sealed_command}
+use Rattle.call_ends.proofs.Laws.{carries-shut, carries-unread}
 use Rattle.commands.proofs.top.carry_out.Goals as goal
 
 -- ---- commands that are given files and a board
@@ -47,6 +47,9 @@ returns-in-Explain g c = rw c.in-Explain.is (record { carries = c.explain.ensure
 
 pub returns-in-Compare : goal.returns-in-Compare
 returns-in-Compare g c = rw c.in-Compare.is (record { carries = c.print_comparison.ensures; comes = tt })
+
+pub returns-in-Faults : goal.returns-in-Faults
+returns-in-Faults g c = rw c.in-Faults.is (record { carries = c.print_faults.ensures; comes = tt })
 
 -- ---- commands that are given no board, or no files
 

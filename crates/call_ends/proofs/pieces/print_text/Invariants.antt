@@ -1,0 +1,18 @@
+use Rattle.std.proofs.Common.{◌≡◌, ◌+◌, ◌≤◌, ◌++◌, List, ℕ, length}
+use Rattle.outside.specs.Runs.{KeepsStore}
+use Rattle.call_ends.specs.Pieces.{pieces_of}
+use Rattle.call_ends.proofs.pieces.print_text.Given as goal
+
+-- a part of the text was printed, and the rest is left
+abbrev pub invariant-loop-rest : goal.invariant-loop-rest
+invariant-loop-rest g l = record {
+  done : List ℕ;
+  split : l.fn.text ≡ done ++ l.rest;
+  printed : g.B.Board.tells_text → g.B.Board.printed l.board ≡ g.B.Board.printed l.fn.board ++ done;
+  faults : g.B.Board.faults l.board ≡ g.B.Board.faults l.fn.board;
+  store : KeepsStore g.B.Board l.fn.board l.board;
+  steps : l.steps + pieces_of (length l.rest) ≤ l.fn.steps + pieces_of (length l.fn.text);
+}
+
+abbrev pub decreases-loop-rest : goal.decreases-loop-rest
+decreases-loop-rest g l = length l.rest

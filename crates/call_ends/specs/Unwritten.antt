@@ -1,0 +1,27 @@
+-- Rules: calls that write nothing.
+use Rattle.std.specs.Prelude.{◌≡◌, ◌≢◌, ◌⊎◌, ℕ, ◌≤◌, List}
+use Rattle.outside.specs.declared.board.Board.{Ghosts}
+use Rattle.outside.specs.Disk.{SameBut}
+use Rattle.outside.specs.Runs.{MayHold}
+use Rattle.slot_store.specs.Syncs.{LeavesFromSync}
+
+module _ {D L : Type 0} {N : ℕ} (B : Ghosts D N L) where
+  -- nothing was written where bytes may have changed only where some were in flight, nothing more is in flight, and a
+  -- cut at a moment since any earlier one might have left what it might have left before, or an image that it might
+  -- have left at the old board
+  pub record WritesNothing (old new : D) : Type 0 where
+    pub image : SameBut (B.in_flight old) (B.image old) (B.image new)
+    pub flight : (place : ℕ) → B.in_flight new place → B.in_flight old place
+    pub later : B.moment old ≤ B.moment new
+    pub before : (start : ℕ) (left_image left_text : List ℕ) → start ≤ B.moment old
+        → B.left_since new start left_image left_text
+        → B.left_since old start left_image left_text ⊎ MayHold (B.image old) (B.in_flight old) left_image
+
+  -- a call leaves the image where a cut from its opening sync on leaves the image as it was
+  abbrev pub LeavesImage : (fails : Type 0) (old new : D) → Type 0
+  LeavesImage fails old new = LeavesFromSync B fails old new (λ left_image left_text. left_image ≡ B.image old)
+
+  -- a call writes nothing where nothing was written, and unless it ended with 8 no byte has changed
+  pub record WritesNothing (old new : D) (ended : ℕ) : Type 0 where
+    pub bytes : WritesNothing old new
+    pub same : ended ≢ 8 → B.image new ≡ B.image old

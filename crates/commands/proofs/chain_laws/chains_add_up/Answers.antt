@@ -1,8 +1,0 @@
-use Rattle.commands.proofs.ChainSums.{chain-state}
-use Rattle.commands.proofs.chain_laws.chains_add_up.Goals as goal
-
-pub returns-clause-totals : goal.returns-clause-totals
-returns-clause-totals c = λ durable image links chain. (chain-state durable image links chain).totals
-
-pub returns-clause-state : goal.returns-clause-state
-returns-clause-state c = chain-state

@@ -1,0 +1,126 @@
+-- A drive that is read whole into memory, part by part.
+use Rattle.std.proofs.Common.{◌≡◌, ℕ, ◌+◌, ◌<◌, List, [], ◌++◌, length, Option, Some, None, IfSome, refl, sym, ap}
+use Rattle.std.proofs.Common.{subst, ◌∙◌, append_assoc, arith, length-append, flat_map}
+use Rattle.drive_text.specs.Drive.{runs_after, runs_in}
+use Rattle.drive_text.specs.Ending.{Whole, BadAt, Endless, ReachesEnd, ShowsEnd, TellsEnd, StreamEnd, drive_end}
+use Rattle.drive_text.specs.Runs.{run_events}
+use Rattle.drive_text.specs.declared.run.Run.{Run}
+use Rattle.drive_text.proofs.Laws.{runs_are_added}
+use Rattle.meter_run.specs.Source.{EndsBy, GivesRuns, HasGiven, Progress, StopsBy}
+use Rattle.meter_run.specs.declared.source.Stop.{Stop}
+use Rattle.meter_run.specs.declared.source.Stop.TheVariants as stops
+use Rattle.drive_commands.specs.BenchSteps.{IsNoDrive, IsStopped, IsWholeDrive, fault_by}
+use Rattle.drive_commands.specs.declared.whole_drive.DriveFault.{DriveFault}
+use Rattle.drive_commands.specs.declared.whole_drive.DriveFault.TheVariants as drives
+
+-- these bytes of the drive were given to the reader of lines, and these are their runs
+pub record IsSoFar (told : Type 0) (progress : Progress) (drive rest : List ℕ) (runs : List Run) : Type 0 where
+  pub given : List ℕ
+  pub stands : HasGiven progress given
+  pub split : told → drive ≡ given ++ (progress.ahead ++ rest)
+  pub runs_are : runs ≡ runs_in given
+
+same : (a b : DriveFault) → Some a ≡ Some b → a ≡ b
+same a b e = cc
+
+module _ (told : Type 0) (old : Progress) (drive rest rest' : List ℕ) (runs part : List Run)
+    (s : IsSoFar told old drive rest runs) where
+  -- the runs with those of a part more
+  with_part : (fed : List ℕ) → part ≡ runs_after s.given fed → runs ++ part ≡ runs_in (s.given ++ fed)
+  with_part fed is =
+      ap (λ (xs : List Run). xs ++ part) s.runs_are ∙ ap (λ (xs : List Run). runs_in s.given ++ xs) is
+      ∙ sym (runs_are_added s.given fed)
+
+  pub so_far_more : (new : Progress) → GivesRuns told old new rest rest' s.given part
+      → IsSoFar told new drive rest' (runs ++ part)
+  so_far_more new gives = record {
+    given = s.given ++ gives.fed;
+    stands = gives.goes_on;
+    split = λ t. s.split t ∙ ap (λ (xs : List ℕ). s.given ++ xs) (gives.passes t)
+        ∙ sym (append_assoc s.given gives.fed (new.ahead ++ rest'));
+    runs_are = with_part gives.fed gives.runs_are;
+  }
+
+  -- fewer bytes are left than before
+  pub smaller : (new : Progress) → GivesRuns told old new rest rest' s.given part
+      → length new.ahead + new.left < length old.ahead + old.left
+  smaller new gives = omega (arith, s.stands.count, gives.some, gives.goes_on.count, length-append s.given gives.fed)
+
+  -- the bytes that were taken, with those that lie ahead
+  taken_more : (new : Progress) → GivesRuns told old new rest rest' s.given part → told
+      → IsStopped drive rest' (λ taken. Unit {0})
+  taken_more new gives t = record {
+    taken = (s.given ++ gives.fed) ++ new.ahead;
+    split = record {
+      bytes = s.split t ∙ ap (λ (xs : List ℕ). s.given ++ xs) (gives.passes t)
+          ∙ sym (append_assoc s.given gives.fed (new.ahead ++ rest'))
+          ∙ sym (append_assoc (s.given ++ gives.fed) new.ahead rest');
+    };
+    stands = tt;
+  }
+
+  taken_last : (stop : Stop) → StopsBy told old rest rest' s.given part stop → told
+      → IsStopped drive rest' (λ taken. Unit {0})
+  taken_last stop stops t = record {
+    taken = s.given ++ stops.fed;
+    split = record { bytes = s.split t ∙ (stops.split t).bytes };
+    stands = tt;
+  }
+
+  -- memory ran out
+  pub no_room : (new : Progress) (stop : Option Stop) → (stop ≡ None → GivesRuns told old new rest rest' s.given part)
+      → ((x : Stop) → stop ≡ Some x → StopsBy told old rest rest' s.given part x) → told
+      → IsNoDrive drive rest' drives.NoMemory
+  no_room new None more last t = taken_more new (more refl) t
+  no_room new (Some stop) more last t = taken_last stop (last stop refl) t
+
+  -- how it ends
+  ends_by : (stop : Stop) → (stops : StopsBy told old rest rest' s.given part stop) → told
+      → EndsBy drive (s.given ++ stops.fed) rest' stop
+  ends_by stop stops t =
+      subst (λ (d : List ℕ). EndsBy d (s.given ++ stops.fed) rest' stop) (sym (s.split t)) (stops.ends t)
+
+  tells : (taken : List ℕ) (reached : StreamEnd) → ReachesEnd drive taken rest' reached → TellsEnd drive rest'
+  tells taken reached h = record { taken = taken; split = h.ends.split; shows = h.ends.shows }
+
+  none_left : TellsEnd drive rest' → drive_end drive ≡ Whole → rest' ≡ []
+  none_left tells e = subst (λ (x : StreamEnd). ShowsEnd x tells.taken rest') e tells.shows
+
+  pub whole_drive : (stop : Stop) → fault_by stop ≡ None → StopsBy told old rest rest' s.given part stop → told
+      → IsWholeDrive drive rest' (runs ++ part)
+  whole_drive stops.Whole none last t =
+      let h : ReachesEnd drive (s.given ++ last.fed) rest' Whole = ends_by stops.Whole last t in
+      record {
+        end_is = h.ends.end_is;
+        none_left = none_left (tells (s.given ++ last.fed) Whole h) h.ends.end_is;
+        events = ap (flat_map run_events) (with_part last.fed last.runs_are) ∙ sym h.given_is;
+      }
+  whole_drive (stops.BadLine line) none last t = absurd cc
+  whole_drive stops.TooLong none last t = absurd cc
+  whole_drive stops.ReadFault none last t = absurd cc
+
+  pub no_drive : (stop : Stop) (fault : DriveFault) → fault_by stop ≡ Some fault
+      → StopsBy told old rest rest' s.given part stop → told → IsNoDrive drive rest' fault
+  no_drive stops.Whole fault some last t = absurd cc
+  no_drive (stops.BadLine line) fault some last t =
+      let h : ReachesEnd drive (s.given ++ last.fed) rest' (BadAt line) = ends_by (stops.BadLine line) last t in
+      subst (λ (f : DriveFault). IsNoDrive drive rest' f) (same (drives.BadLine line) fault some)
+      (h.ends.end_is, tells (s.given ++ last.fed) (BadAt line) h)
+  no_drive stops.TooLong fault some last t =
+      let h : ReachesEnd drive (s.given ++ last.fed) rest' Endless = ends_by stops.TooLong last t in
+      subst (λ (f : DriveFault). IsNoDrive drive rest' f) (same drives.TooLong fault some)
+      (h.ends.end_is, tells (s.given ++ last.fed) Endless h)
+  no_drive stops.ReadFault fault some last t =
+      subst (λ (f : DriveFault). IsNoDrive drive rest' f) (same drives.ReadFault fault some) (record {
+        taken = s.given ++ last.fed;
+        split = record { bytes = s.split t ∙ (last.split t).bytes };
+        stands = ends_by stops.ReadFault last t;
+      })
+
+-- what a clause says of the stop that came
+pub stop_at : (stop : Option Stop) (P : Stop → Type 0) (x : Stop) → stop ≡ Some x → IfSome stop P → P x
+stop_at None P x is h = absurd cc
+stop_at (Some y) P x is h = subst P (same_stop y x is) h
+  where
+    same_stop : (a b : Stop) → Some a ≡ Some b → a ≡ b
+    same_stop a b e = cc

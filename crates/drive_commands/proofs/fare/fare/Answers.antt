@@ -1,0 +1,142 @@
+use Rattle.std.proofs.Common.{◌≡◌, ◌≢◌, ◌∙◌, ℕ, List, [], Err, refl, sym, ap, arith, rules, inl, inr, ⊎_elim}
+use Rattle.tariff_compile.specs.Tables.{TableParts}
+use Rattle.meter_states.specs.Setting.{IsSealOf, IsSettingOf, IsTariffOf}
+use Rattle.drive_text.specs.Ending.{IsSplit}
+use Rattle.outside.proofs.Laws.{keeps_none}
+use Rattle.call_ends.specs.declared.tariff.TextFault.TheVariants as texts
+use Rattle.drive_commands.specs.DriveEnds.{ended_by}
+use Rattle.call_ends.specs.Ending.{ended_for}
+use Rattle.call_ends.proofs.Laws.{read_fault-text, stops_by, unless_read, no_fault, carries-kept, course-unprinted}
+use Rattle.call_ends.proofs.Laws.{course-refused}
+use Rattle.drive_commands.specs.Fare.{fare_command, setting_of}
+use Rattle.call_ends.specs.Tariffs.{tariff_in}
+use Rattle.drive_commands.proofs.Faring.{begins_going, course-ran, shows_nothing, board_fault-ran, refused-fare}
+use Rattle.drive_commands.proofs.Faring.{read_fault-ran}
+use Rattle.drive_commands.proofs.fare.fare.Goals as goal
+
+two-one : (n : ℕ) → n ≡ 2 → n ≢ 1
+two-one n e = λ f. omega arith
+
+one-two : (n : ℕ) → n ≡ 1 → n ≢ 2
+one-two n e = λ f. omega arith
+
+-- nothing of the drive was taken
+untouched : (drive left : List ℕ) → left ≡ drive → IsSplit drive [] left
+untouched drive left e = record { bytes = sym e }
+
+pub returns-in-Err : goal.returns-in-Err
+returns-in-Err g c =
+    carries-kept g.F.Files g.B.Board (fare_command c.args.constant) c.args.files.now c.tables_of_word.new.files
+    c.args.board.now c.args.board.now c.args.steps.now c.args.steps.now _ (λ none. none) (λ status w. w)
+    (λ tells.
+    let rest = g.F.Files.rest in
+    let k = c.args.constant in
+    let image = g.B.Board.image c.args.board.now in
+    let found = tariff_in (rest c.args.files.now 1) in
+    rw c.refused_by.ensures
+    (course-unprinted (fare_command k) (rest c.args.files.now) (rest c.tables_of_word.new.files) image _ _ _
+    (g.B.Board.printed c.args.board.now) _
+    (course-refused (fare_command k) (rest c.args.files.now) (rest c.tables_of_word.new.files) image _
+    (untouched (rest c.args.files.now 2) (rest c.tables_of_word.new.files 2)
+    (c.tables_of_word.ensures.others 2 (two-one 2 refl))) refl (λ e. absurd cc) c.in-Err.fault
+    (inl refl) (inl (refl, refl)) (shows_nothing k found)
+    (λ e. c.tables_of_word.ensures.read_fault (c.in-Err.is ∙ ap Err e))
+    (λ why e. refused-fare k found (rest c.args.files.now 2) why
+    (c.tables_of_word.ensures.refused why tells (c.in-Err.is ∙ ap Err e))))))
+    (λ later le. record {
+      taken = [];
+      few = omega arith;
+      split = λ tells. untouched (g.F.Files.rest c.args.files.now 2) (g.F.Files.rest c.tables_of_word.new.files 2)
+          (c.tables_of_word.ensures.others 2 (two-one 2 refl));
+      bound = omega (arith, le);
+    })
+    (stops_by 1 c.tables_of_word.result c.in-Err.fault texts.ReadFault ended_for c.in-Err.is c.refused_by.ensures
+    (read_fault-text c.in-Err.fault) (inl refl) c.tables_of_word.ensures.read_fault c.tables_of_word.ensures.others)
+    (search rules)
+    (λ word not. c.tables_of_word.ensures.others word (λ e. not (inl e)))
+    (λ tells word never. c.tables_of_word.ensures.others word (λ e. never [] (inl (e, refl))))
+    (unless_read c.tables_of_word.result c.in-Err.fault texts.ReadFault ended_for c.in-Err.is c.refused_by.ensures
+    refl c.tables_of_word.ensures.counts) (keeps_none g.B.Board c.args.board.now)
+
+pub returns : goal.returns
+returns g c =
+    carries-kept g.F.Files g.B.Board (fare_command c.args.constant) c.args.files.now c.dry_run-ran.new.files
+    c.args.board.now c.dry_run-ran.new.board c.args.steps.now c.dry_run-ran.new.steps _ (λ none. none) (λ status w. w)
+    (λ tells.
+    let rest = g.F.Files.rest in
+    let k = c.args.constant in
+    let made = c.in-Ok.ensures.found tells in
+    let t = made.tree in
+    let tables = c.in-Ok.tables in
+    let same = c.tables_of_word.ensures.others 2 (two-one 2 refl) in
+    let runs = rw same at (c.dry_run-ran.ensures.ends tells) in
+    let seal = c.fare_seal-seal.result in
+    let of_tariff : IsTariffOf (setting_of k t) tables =
+    record {
+      tree = t;
+      compiled = made.compiled;
+      parts = refl;
+      constant = ap (λ (p : TableParts). p.constant) made.value;
+    } in
+    let of_seal : IsSealOf (setting_of k t) seal = record {
+      constant = c.fare_seal-seal.ensures.constant;
+      mode = c.fare_seal-seal.ensures.mode;
+      hold_time = c.fare_seal-seal.ensures.hold;
+      offsets = c.fare_seal-seal.ensures.offsets;
+    } in
+    let is : IsSettingOf (setting_of k t) tables seal = record { tariff = of_tariff; secured = of_seal } in
+    let read : rest c.dry_run-ran.new.files 1 ≡ [] =
+    c.dry_run-ran.ensures.others 1 (one-two 1 refl) ∙ c.in-Ok.ensures.ended tells in
+    rw c.ended_of.ensures
+    (course-ran k (rest c.args.files.now) (rest c.dry_run-ran.new.files) (g.B.Board.image c.args.board.now) _ _ _
+    (g.B.Board.printed c.args.board.now) (g.B.Board.printed c.dry_run-ran.new.board) tables seal t made.sound is read
+    c.dry_run-ran.result runs
+    (λ e. omega (
+      arith,
+      c.dry_run-ran.ensures.read_fault e,
+      c.tables_of_word.ensures.counts
+          (no_fault c.tables_of_word.result c.in-Ok.tables texts.ReadFault c.in-Ok.is) 2,
+    ))
+    c.dry_run-ran.ensures.board_fault.rose))
+    (λ later le.
+    let h = c.dry_run-ran.ensures.steps in
+    record {
+      taken = h.taken;
+      few = h.few;
+      split =
+          λ tells. record { bytes = sym (c.tables_of_word.ensures.others 2 (two-one 2 refl)) ∙ (h.split tells).bytes };
+      bound = omega (arith, le, h.bound);
+    })
+    (λ e.
+    let failed = c.dry_run-ran.ensures.read_fault (read_fault-ran c.dry_run-ran.result (sym c.ended_of.ensures ∙ e)) in
+    record {
+      word = 2;
+      reads = inr refl;
+      rose = omega (
+        arith,
+        failed,
+        c.tables_of_word.ensures.counts
+            (no_fault c.tables_of_word.result c.in-Ok.tables texts.ReadFault c.in-Ok.is) 2,
+      );
+      behind = λ other lt. c.dry_run-ran.ensures.others other (λ e. absurd (omega (arith, lt, e)))
+          ∙ c.tables_of_word.ensures.others other (λ e. absurd (omega (arith, lt, e)));
+    })
+    (record {
+      count = λ good. c.dry_run-ran.ensures.board_fault.kept (λ f. good (c.ended_of.ensures ∙ ap ended_by f));
+      failed = λ e. c.dry_run-ran.ensures.board_fault.rose (board_fault-ran c.dry_run-ran.result
+          (sym c.ended_of.ensures ∙ e));
+    })
+    (λ word not. c.dry_run-ran.ensures.others word (λ e. not (inr e))
+    ∙ c.tables_of_word.ensures.others word (λ e. not (inl e)))
+    (λ tells word never.
+    let made = c.in-Ok.ensures.found tells in
+    c.dry_run-ran.ensures.others word (λ e. never [] (inr (
+      e,
+      record { tree = made.tree; sound = made.sound; going = begins_going },
+    )))
+    ∙ c.tables_of_word.ensures.others word (λ e. never [] (inl (e, refl))))
+    (λ read good word.
+    (c.dry_run-ran.ensures.counts word).kept (λ failed. ⊎_elim (λ f. read (c.ended_of.ensures ∙ ap ended_by f))
+    (λ f. good (c.ended_of.ensures ∙ ap ended_by f)) failed)
+    ∙ c.tables_of_word.ensures.counts (no_fault c.tables_of_word.result c.in-Ok.tables texts.ReadFault c.in-Ok.is)
+    word) (c.dry_run-ran.ensures.store)

@@ -1,0 +1,22 @@
+use Rattle.std.proofs.Common.{◌≡◌, ◌∙◌, true, sym, ap}
+use Rattle.std.proofs.lemmas.Bool.Decides.{Decides-at, same_from_decides}
+use Rattle.meter_states.specs.Fits.{fits_test}
+use Rattle.drive_commands.specs.Run.{does_hold_fit}
+use Rattle.drive_commands.proofs.Fitting.{Decides-hold}
+use Rattle.drive_commands.proofs.run.hold_fits.Goals as goal
+
+pub returns-in-Some-clause-value : goal.returns-in-Some-clause-value
+returns-in-Some-clause-value g c =
+    same_from_decides c.fits.result (fits_test c.args.tables.now c.in-Some.trip).passes c.fits.ensures.value
+    (fits_test c.args.tables.now c.in-Some.trip).decides
+    ∙ ap (does_hold_fit c.args.tables.now) (sym c.in-Some.is)
+
+pub returns-in-Some-clause-decides : goal.returns-in-Some-clause-decides
+returns-in-Some-clause-decides g c =
+    Decides-at c.fits.result (does_hold_fit c.args.tables.now c.args.hold.now) (returns-in-Some-clause-value g c)
+    (Decides-hold c.args.tables.now c.args.hold.now)
+
+pub returns-in-None-clause-decides : goal.returns-in-None-clause-decides
+returns-in-None-clause-decides g c =
+    Decides-at true (does_hold_fit c.args.tables.now c.args.hold.now)
+    (ap (does_hold_fit c.args.tables.now) (sym c.in-None.is)) (Decides-hold c.args.tables.now c.args.hold.now)

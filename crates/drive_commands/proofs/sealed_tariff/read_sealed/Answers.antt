@@ -1,0 +1,51 @@
+use Rattle.std.proofs.Common.{◌≡◌, ◌∙◌, ℕ, List, Ok, Err, refl, sym, ap, subst}
+use Rattle.std.specs.Prelude.{IfOk}
+use Rattle.outside.specs.Faults.{Rose}
+use Rattle.call_ends.specs.declared.ending.Ended.{Ended}
+use Rattle.call_ends.specs.declared.ending.Ended.TheVariants as ended
+use Rattle.tariff_syntax.specs.Tree.{tree_of}
+use Rattle.drive_commands.specs.Run.{sealed_tariff}
+use Rattle.drive_commands.specs.RunSteps.{AreNoTables}
+use Rattle.call_ends.proofs.Laws.{same_fault}
+use Rattle.drive_commands.proofs.Starting.{no_tables-as, no_tables-read, text-not_board, text-read_fault}
+use Rattle.drive_commands.proofs.sealed_tariff.read_sealed.Goals as goal
+
+pub returns-in-Err-clause-refused : goal.returns-in-Err-clause-refused
+returns-in-Err-clause-refused g c = λ why tells e.
+    let rest = g.F.Files.rest in
+    let faults = g.F.Files.faults in
+    let failed = Rose (faults c.args.files.now 1) (faults c.text_of_word.new.files 1) in
+    subst (λ (w : Ended). AreNoTables c.args.digest.now (rest c.args.files.now 1) failed w)
+    (sym c.refused_by.ensures ∙ same_fault _ _ _ refl e)
+    (no_tables-read c.args.digest.now (rest c.args.files.now 1) failed c.in-Err.fault
+    (λ f. c.text_of_word.ensures.read_fault (c.in-Err.is ∙ ap Err f))
+    (λ w f. c.text_of_word.ensures.long w tells (c.in-Err.is ∙ ap Err f)))
+
+pub returns-in-Err-clause-read_fault : goal.returns-in-Err-clause-read_fault
+returns-in-Err-clause-read_fault g c = λ e.
+    c.text_of_word.ensures.read_fault
+    (c.in-Err.is ∙ ap Err (text-read_fault c.in-Err.fault (sym c.refused_by.ensures ∙ same_fault _ _ _ refl e)))
+
+pub returns-in-Err-clause-not_board : goal.returns-in-Err-clause-not_board
+returns-in-Err-clause-not_board g c =
+    λ e. text-not_board c.in-Err.fault (sym c.refused_by.ensures ∙ same_fault _ _ _ refl e)
+
+pub returns-clause-found : goal.returns-clause-found
+returns-clause-found g c = λ tells.
+    subst (λ (x : List ℕ). IfOk c.sealed_of_text.result (λ checked. sealed_tariff c.args.digest.now x
+    ≡ Ok (tree_of checked))) (c.as_slice.ensures.value ∙ c.in-Ok.ensures.text tells) c.sealed_of_text.ensures.found
+
+pub returns-clause-refused : goal.returns-clause-refused
+returns-clause-refused g c = λ why tells e.
+    let rest = g.F.Files.rest in
+    let faults = g.F.Files.faults in
+    let failed = Rose (faults c.args.files.now 1) (faults c.text_of_word.new.files 1) in
+    no_tables-as c.args.digest.now (rest c.args.files.now 1) ⊥ failed why (λ none. absurd none)
+    (subst (λ (x : List ℕ). AreNoTables c.args.digest.now x ⊥ why)
+    (c.as_slice.ensures.value ∙ c.in-Ok.ensures.text tells) (c.sealed_of_text.ensures.refused why e))
+
+pub returns-clause-read_fault : goal.returns-clause-read_fault
+returns-clause-read_fault g c = λ e. absurd (c.sealed_of_text.ensures.refused ended.ReadFault e)
+
+pub returns-clause-not_board : goal.returns-clause-not_board
+returns-clause-not_board g c = λ e. absurd (c.sealed_of_text.ensures.refused ended.BoardFault e)

@@ -1,0 +1,150 @@
+use Rattle.std.proofs.Common.{◌≡◌, ◌∙◌, ◌++◌, List, All, sym, ap, subst, refl, Some}
+use Rattle.std.proofs.lemmas.List.Elements.{All-append}
+use Rattle.drive_text.specs.Ranges.{IsRunInRange}
+use Rattle.drive_text.specs.declared.run.Run.{Run}
+use Rattle.outside.proofs.Laws.{rose_behind}
+use Rattle.meter_run.specs.declared.source.Stop.{Stop}
+use Rattle.meter_run.specs.declared.source.Stop.TheVariants as stops
+use Rattle.drive_commands.specs.declared.whole_drive.DriveFault.TheVariants as drives
+use Rattle.call_ends.proofs.Laws.{same_fault, not_true}
+use Rattle.drive_commands.specs.BenchSteps.{IsWholeDrive, fault_by}
+use Rattle.drive_commands.proofs.WholeDrives.{IsSoFar, no_drive, no_room, smaller, so_far_more, stop_at, whole_drive}
+use Rattle.drive_commands.proofs.whole_drive.read_drive.Goals as goal
+
+-- the runs that were there, and those of a part of the drive
+grown_by : (runs part piece now : List Run) → now ≡ runs ++ piece → piece ≡ part → now ≡ runs ++ part
+grown_by runs part piece now is same = is ∙ ap (λ (x : List Run). runs ++ x) same
+
+pub returns-in-Err-clause-refused : goal.returns-in-Err-clause-refused
+returns-in-Err-clause-refused g c = λ told.
+    let rest = g.F.Files.rest in
+    let word = c.args.word in
+    let s = c.loop-source.invariant.so_far in
+    no_room g.F.Files.tells c.loop-source.source (rest c.args.files.now word) (rest c.loop-source.files word)
+    (rest c.next-stop.new.files word) c.loop-source.runs.items c.next-stop.new.runs.items s
+    c.next-stop.new.self c.next-stop.result (λ none. c.next-stop.ensures.more none s.given s.stands)
+    (λ x is. stop_at c.next-stop.result _ x is c.next-stop.ensures.stops s.given s.stands) told
+
+pub returns-in-None-clause-whole : goal.returns-in-None-clause-whole
+returns-in-None-clause-whole g c = λ told.
+    let rest = g.F.Files.rest in
+    let word = c.args.word in
+    let s = c.loop-source.invariant.so_far in
+    let runs = c.loop-source.runs.items in
+    let part = c.next-stop.new.runs.items in
+    let grown = grown_by runs part c.as_slice.result.now c.extend_from_slice.new.self.items c.in-Ok.ensures.items
+    c.as_slice.ensures.value in
+    subst (λ (x : List Run). IsWholeDrive (rest c.args.files.now word) (rest c.next-stop.new.files word) x) (sym grown)
+    (whole_drive g.F.Files.tells c.loop-source.source (rest c.args.files.now word) (rest c.loop-source.files word)
+    (rest c.next-stop.new.files word) runs part s
+    c.in-Some.stop (sym c.fault_of.ensures ∙ c.in-None.is) (c.in-Some.ensures.stops s.given s.stands) told)
+
+pub returns-in-None-clause-range : goal.returns-in-None-clause-range
+returns-in-None-clause-range g c =
+    let runs = c.loop-source.runs.items in
+    let part = c.next-stop.new.runs.items in
+    let grown = grown_by runs part c.as_slice.result.now c.extend_from_slice.new.self.items c.in-Ok.ensures.items
+    c.as_slice.ensures.value in
+    subst (All IsRunInRange) (sym grown)
+    (All-append IsRunInRange runs part c.loop-source.invariant.range c.next-stop.ensures.range)
+
+pub returns-in-None-clause-others : goal.returns-in-None-clause-others
+returns-in-None-clause-others g c =
+    λ other differs. c.next-stop.ensures.others other differs ∙ c.loop-source.invariant.others other differs
+
+pub returns-in-Some-fault_of-clause-refused : goal.returns-in-Some-fault_of-clause-refused
+returns-in-Some-fault_of-clause-refused g c = λ told.
+    let rest = g.F.Files.rest in
+    let word = c.args.word in
+    let s = c.loop-source.invariant.so_far in
+    no_drive g.F.Files.tells c.loop-source.source (rest c.args.files.now word) (rest c.loop-source.files word)
+    (rest c.next-stop.new.files word) c.loop-source.runs.items c.next-stop.new.runs.items s
+    c.in-Some.stop c.in-Some-fault_of.fault (sym c.fault_of.ensures ∙ c.in-Some-fault_of.is)
+    (c.in-Some.ensures.stops s.given s.stands) told
+
+-- a drive isn't had for a fault of a read only where its reading stopped by one
+stopped_by : (stop : Stop) → fault_by stop ≡ Some drives.ReadFault → stop ≡ stops.ReadFault
+stopped_by stops.Whole e = absurd cc
+stopped_by (stops.BadLine line) e = absurd cc
+stopped_by stops.TooLong e = absurd cc
+stopped_by stops.ReadFault e = refl
+
+pub returns-in-Some-fault_of-clause-read_fault : goal.returns-in-Some-fault_of-clause-read_fault
+returns-in-Some-fault_of-clause-read_fault g c = λ e.
+    let fault = sym c.fault_of.ensures ∙ c.in-Some-fault_of.is ∙ ap Some (same_fault _ _ _ refl e) in
+    absurd (not_true c.has_failed.result c.if-has_failed.false c.has_failed.ensures
+    (c.in-Some.is ∙ ap Some (stopped_by c.in-Some.stop fault)))
+
+pub returns-in-Some-fault_of-clause-others : goal.returns-in-Some-fault_of-clause-others
+returns-in-Some-fault_of-clause-others g c =
+    λ other differs. c.next-stop.ensures.others other differs ∙ c.loop-source.invariant.others other differs
+
+pub loop-source-smaller : goal.loop-source-smaller
+loop-source-smaller g c =
+    let rest = g.F.Files.rest in
+    let word = c.args.word in
+    let s = c.loop-source.invariant.so_far in
+    smaller g.F.Files.tells c.loop-source.source (rest c.args.files.now word) (rest c.loop-source.files word)
+    (rest c.next-stop.new.files word) c.loop-source.runs.items c.next-stop.new.runs.items s
+    c.next-stop.new.self (c.next-stop.ensures.more c.in_default.is s.given s.stands)
+
+pub loop-source-preserved : goal.loop-source-preserved
+loop-source-preserved g c =
+    let rest = g.F.Files.rest in
+    let word = c.args.word in
+    let s = c.loop-source.invariant.so_far in
+    let runs = c.loop-source.runs.items in
+    let part = c.next-stop.new.runs.items in
+    let grown = grown_by runs part c.as_slice.result.now c.extend_from_slice.new.self.items c.in-Ok.ensures.items
+    c.as_slice.ensures.value in
+    record {
+      so_far = subst (λ (x : List Run). IsSoFar g.F.Files.tells c.next-stop.new.self (rest c.args.files.now word)
+          (rest c.next-stop.new.files word) x) (sym grown)
+          (so_far_more g.F.Files.tells c.loop-source.source (rest c.args.files.now word) (rest c.loop-source.files word)
+          (rest c.next-stop.new.files word) runs part s
+          c.next-stop.new.self (c.next-stop.ensures.more c.in_default.is s.given s.stands));
+      range = subst (All IsRunInRange) (sym grown)
+          (All-append IsRunInRange runs part c.loop-source.invariant.range c.next-stop.ensures.range);
+      others = λ other differs. c.next-stop.ensures.others other differs ∙ c.loop-source.invariant.others other differs;
+      counts = λ other. (c.next-stop.ensures.counts other).kept
+          (not_true c.has_failed.result c.if-has_failed.false c.has_failed.ensures)
+          ∙ c.loop-source.invariant.counts other;
+    }
+
+pub returns-in-Err-clause-counts : goal.returns-in-Err-clause-counts
+returns-in-Err-clause-counts g c = λ good other. (c.next-stop.ensures.counts other).kept
+    (not_true c.has_failed.result c.if-has_failed.false c.has_failed.ensures) ∙ c.loop-source.invariant.counts other
+
+pub returns-in-None-clause-counts : goal.returns-in-None-clause-counts
+returns-in-None-clause-counts g c = λ good other. (c.next-stop.ensures.counts other).kept
+    (not_true c.has_failed.result c.if-has_failed.false c.has_failed.ensures) ∙ c.loop-source.invariant.counts other
+
+pub returns-in-Some-fault_of-clause-counts : goal.returns-in-Some-fault_of-clause-counts
+returns-in-Some-fault_of-clause-counts g c = λ good other. (c.next-stop.ensures.counts other).kept
+    (not_true c.has_failed.result c.if-has_failed.false c.has_failed.ensures) ∙ c.loop-source.invariant.counts other
+
+-- ---- a read failed
+
+pub returns-then-has_failed-clause-refused : goal.returns-then-has_failed-clause-refused
+returns-then-has_failed-clause-refused g c = λ told.
+    let rest = g.F.Files.rest in
+    let word = c.args.word in
+    let s = c.loop-source.invariant.so_far in
+    no_drive g.F.Files.tells c.loop-source.source (rest c.args.files.now word) (rest c.loop-source.files word)
+    (rest c.next-stop.new.files word)
+    c.loop-source.runs.items c.next-stop.new.runs.items s stops.ReadFault drives.ReadFault refl
+    (stop_at c.next-stop.result _ stops.ReadFault (c.has_failed.ensures.0 c.if-has_failed.true)
+    c.next-stop.ensures.stops s.given s.stands) told
+
+pub returns-then-has_failed-clause-read_fault : goal.returns-then-has_failed-clause-read_fault
+returns-then-has_failed-clause-read_fault g c = λ e.
+    rose_behind (g.F.Files.faults c.args.files.now c.args.word) (g.F.Files.faults c.loop-source.files c.args.word)
+    (g.F.Files.faults c.next-stop.new.files c.args.word) (c.loop-source.invariant.counts c.args.word)
+    (c.next-stop.ensures.read_fault (c.has_failed.ensures.0 c.if-has_failed.true))
+
+pub returns-then-has_failed-clause-others : goal.returns-then-has_failed-clause-others
+returns-then-has_failed-clause-others g c = λ other differs. c.next-stop.ensures.others other differs
+    ∙ c.loop-source.invariant.others other differs
+
+pub returns-then-has_failed-clause-counts : goal.returns-then-has_failed-clause-counts
+returns-then-has_failed-clause-counts g c = λ good. absurd (good refl)

@@ -1,0 +1,33 @@
+//! How a command ends by its drive.
+ghost use Rattle.std.specs.Prelude.{◌≡◌};
+ghost use Rattle.drive_commands.specs.BenchSteps.{ended_for_drive};
+ghost use Rattle.drive_commands.specs.DriveEnds.{ended_by};
+
+use crate::whole_drive::DriveFault;
+use call_ends::Ended;
+use meter_run::RunFault;
+
+/// How a command ended whose drive wasn't read.
+pub fn refused_drive(fault: DriveFault) -> Ended
+    ensures { result ≡ ended_for_drive fault }
+{
+    match fault {
+        DriveFault::ReadFault => Ended::ReadFault,
+        DriveFault::BadLine(line) => Ended::BadDrive(line),
+        DriveFault::TooLong => Ended::EndlessDrive,
+        DriveFault::NoMemory => Ended::NoMemory,
+    }
+}
+
+/// How a command ended where the run of its drive ended so.
+pub fn ended_of(ran: Result<(), RunFault>) -> Ended
+    ensures { result ≡ ended_by ran }
+{
+    match ran {
+        Ok(()) => Ended::Done,
+        Err(RunFault::ReadFault) => Ended::ReadFault,
+        Err(RunFault::BoardFault) => Ended::BoardFault,
+        Err(RunFault::BadDrive(line)) => Ended::BadDrive(line),
+        Err(RunFault::TooLong) => Ended::EndlessDrive,
+    }
+}

@@ -1,0 +1,35 @@
+//! The command `fare`.
+ghost use Rattle.call_ends.specs.Carried.{Carries};
+ghost use Rattle.drive_commands.specs.Fare.{fare_command};
+
+use crate::drive_ends::ended_of;
+use crate::fare_seal::fare_seal;
+use call_ends::{Ended, refused_by};
+use drive_modes::Constant;
+use meter_run::dry_run;
+use outside::{Board, Files, STORE_SIZE};
+use std::alloc::Global;
+use std::sync::ledger::Ledger;
+use tariff_commands::tables_of_word;
+use taxi_units::Steps;
+
+/// Reads the tariff of word 1, and carries out the drive of word 2 under its tables, without a store.
+#[tactic(auto, using(call_ends::proofs::Laws::board_runs))]
+pub fn fare<F: Files, B: Board<STORE_SIZE, L>, L: Ledger>(
+    alloc: Global,
+    constant: Constant,
+    files: &mut F,
+    board: &mut B,
+    steps: &mut Steps<L>,
+) -> Ended
+    ensures { Carries F.Files B.Board (fare_command constant) files.old files.new board.old board.new
+        steps.old steps.new result }
+{
+    let tables = match tables_of_word(alloc, files, 1, constant) {
+        Ok(tables) => tables,
+        Err(fault) => return refused_by(fault),
+    };
+    let seal = fare_seal(constant, tables.decimals());
+    let ran = dry_run(&tables, &seal, files, 2, board, steps);
+    ended_of(ran)
+}

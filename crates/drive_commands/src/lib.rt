@@ -1,0 +1,16 @@
+//! The commands that go through a drive: on a store, without one, with readings, or to explain its fares.
+#![tactic(auto)]
+
+pub mod bench;
+mod bench_terms;
+mod drive_ends;
+pub mod explain;
+mod explained_lines;
+mod explained_text;
+pub mod fare;
+mod fare_seal;
+pub mod generate;
+mod judgement;
+pub mod run;
+mod sealed_tariff;
+mod whole_drive;

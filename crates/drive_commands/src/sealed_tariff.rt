@@ -1,0 +1,70 @@
+//! Reads the tariff that was sealed.
+ghost use Rattle.std.specs.Prelude.{◌≡◌, ◌≢◌, ℕ, ◌≤◌, [], length, nat_eq, IfOk, OnOk, Ok, Err};
+ghost use Rattle.std.specs.Cmp.Lexicographic.{pointwise};
+ghost use Rattle.outside.specs.Reading.{LeavesOthers};
+ghost use Rattle.outside.specs.Faults.{Rose};
+ghost use Rattle.tariff_syntax.specs.Tree.{tree_of};
+ghost use Rattle.drive_commands.specs.Run.{sealed_tariff};
+ghost use Rattle.drive_commands.specs.RunSteps.{AreNoTables, IsNoTables};
+ghost use Rattle.call_ends.specs.Tariffs.{tariff_in};
+
+use call_ends::{Ended, refused_by, tariff_of_text, text_of_word};
+use outside::Files;
+use sha2::{Digest, Sha256};
+use std::alloc::Global;
+use tariff_check::Checked;
+
+/// Whether a digest is the sealed one.
+fn is_sealed(digest: &[u8; 32], own: &[u8; 32]) -> bool
+    ensures { result ≡ pointwise nat_eq digest.now own.now }
+{
+    digest.as_slice() == own.as_slice()
+}
+
+/// The tariff of a text.
+fn tariff_of(alloc: Global, text: &[u8]) -> Result<Checked, Ended>
+    ensures found { IfOk result (λ checked. tariff_in text.now ≡ Ok (tree_of checked)) }
+    ensures refused { (why : Ended) → result ≡ Err why → IsNoTables text.now why }
+{
+    match tariff_of_text(alloc, text) {
+        Ok(checked) => Ok(checked),
+        Err(fault) => Err(refused_by(fault)),
+    }
+}
+
+/// The tariff of a text, where it is the one that was sealed: its digest is asked before its content.
+fn sealed_of_text(alloc: Global, text: &[u8], digest: &[u8; 32]) -> Result<Checked, Ended>
+    requires { length text.now ≤ 65536 }
+    ensures found { IfOk result (λ checked. sealed_tariff digest.now text.now ≡ Ok (tree_of checked)) }
+    ensures refused { (why : Ended) → result ≡ Err why → AreNoTables digest.now text.now ⊥ why }
+{
+    let own = Sha256::digest(text);
+    if is_sealed(digest, &own) {
+        return tariff_of(alloc, text);
+    }
+    let digest = *digest;
+    Err(Ended::WrongTariff(digest, own))
+}
+
+/// Reads the tariff of word 1, where it is the one that was sealed: its length is asked before its digest.
+pub fn read_sealed<F: Files>(
+    alloc: Global,
+    files: &mut F,
+    digest: &[u8; 32],
+) -> Result<Checked, Ended>
+    ensures found { F.tells
+        → IfOk result (λ checked. sealed_tariff digest.now (F.rest files.old 1) ≡ Ok (tree_of checked)) }
+    ensures ended { F.tells → OnOk result (F.rest files.new 1 ≡ []) }
+    ensures refused { (why : Ended) → F.tells → result ≡ Err why
+        → AreNoTables digest.now (F.rest files.old 1) (Rose (F.faults files.old 1) (F.faults files.new 1)) why }
+    ensures read_fault { result ≡ Err Ended.ReadFault → Rose (F.faults files.old 1) (F.faults files.new 1) }
+    ensures not_board { result ≢ Err Ended.BoardFault }
+    ensures others { LeavesOthers F.rest 1 files.old files.new }
+    ensures counts { result ≢ Err Ended.ReadFault → (other : ℕ) → F.faults files.new other ≡ F.faults files.old other }
+{
+    let text = match text_of_word(alloc, files, 1) {
+        Ok(text) => text,
+        Err(fault) => return Err(refused_by(fault)),
+    };
+    sealed_of_text(alloc, text.as_slice(), digest)
+}

@@ -1,0 +1,11 @@
+use Rattle.run_chains.proofs.SameStarts.{alike_begin, same_answers, same_goes_on}
+use Rattle.run_chains.proofs.same_runs.same_tariffs_print_the_same.Goals as goal
+
+pub returns-clause-begins : goal.returns-clause-begins
+returns-clause-begins c = alike_begin
+
+pub returns-clause-answers : goal.returns-clause-answers
+returns-clause-answers c = same_answers
+
+pub returns-clause-goes_on : goal.returns-clause-goes_on
+returns-clause-goes_on c = same_goes_on

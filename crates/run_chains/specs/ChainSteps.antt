@@ -1,0 +1,22 @@
+-- For proofs: one run of a chain by the values that the code has of it. Link says what such a run is.
+use Rattle.std.specs.Prelude.{◌≡◌, ℕ, List, [], Option}
+use Rattle.outside.specs.MemoryBoard.{new_board}
+use Rattle.outside.specs.MemoryFiles.{FilesState}
+use Rattle.outside.specs.declared.replay.Fill.{Fill}
+use Rattle.totals_record.specs.declared.durable_state.Durable.{Durable}
+use Rattle.run_chains.specs.Chain.{Ran}
+use Rattle.run_chains.specs.Link.{IsLink, Link}
+
+-- there is a run over an image, by a call of a program on a new board with that image, that has these files before and
+-- after it, this cut, this status, and this image and number behind it
+pub record HasLink (ran : Ran) (durable : Durable) (image : List ℕ) (files files_left : FilesState)
+    (cut : Option (ℕ × Fill)) (status : ℕ) (next : List ℕ) (number : ℕ) : Type 0 where
+  pub link : Link
+  pub is : IsLink durable image link
+  pub call : ran link.files (new_board image []) link.files_left link.board link.status
+  pub files_are : link.files ≡ files
+  pub left_are : link.files_left ≡ files_left
+  pub cut_is : link.cut ≡ cut
+  pub status_is : link.status ≡ status
+  pub image_is : link.image ≡ next
+  pub number_is : link.number ≡ number

@@ -1,0 +1,13 @@
+//! Any number of runs of a program, as the taximeter is, with cuts of the power between them or inside; and runs under
+//! tariffs that are the same.
+#![tactic(auto)]
+
+mod chain_laws;
+mod chains;
+mod program;
+mod same_runs;
+
+pub use chain_laws::{chains_add_up, receipts_are_in_their_prefix};
+pub use chains::{chain, may_begin};
+pub use program::{Program, Taximeter};
+pub use same_runs::same_tariffs_print_the_same;

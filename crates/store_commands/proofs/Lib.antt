@@ -1,0 +1,32 @@
+-- what the command `seal` leaves of the store, in the end and after a cut
+mod Amid
+-- commands that end by the store, with a refusal or with a fault of the board before their answer
+mod Answering
+-- the ends by which a store bars a command, case by case
+mod Barring
+-- the lemmas that the crates above cite
+pub mod Laws
+-- the lines of a list of offsets, printed one after the other, and the answers of the command `offsets`
+mod Listing
+-- the opening of the store, from its two scans, and what is known of it behind its answer
+mod Openings
+-- the replies to requests over a sealed store, and what is left of the store
+mod Porting
+-- which faults of parameters, rules and books are those of a read
+mod ReadFaults
+-- what a cut leaves of calls that only look at the store
+mod ReadOnlyCalls
+-- in which texts no byte of the line `SEALED n` stands
+mod SealLines
+-- the text of what a store was sealed with is read as the parameters of its seal
+mod SealedLaws
+-- the text of what a store was sealed with, part by part
+mod SealedTexts
+-- what the command `seal` answers
+mod Sealings
+-- the report of a book beside a sealed store
+mod Shifting
+-- commands that show a text of a sealed store, or end because the store bars them
+mod StoreTexts
+-- the files of two words that are read one behind the other
+mod Turns

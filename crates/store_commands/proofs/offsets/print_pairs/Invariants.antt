@@ -1,0 +1,14 @@
+use Rattle.std.proofs.Common.{◌≡◌, ◌+◌, ◌≤◌, ◌++◌, take}
+use Rattle.outside.specs.Runs.{KeepsStore}
+use Rattle.offset_rules.specs.Texts.{offset_lines}
+use Rattle.store_commands.proofs.offsets.print_pairs.Given as goal
+
+-- the lines of the pairs so far were printed
+abbrev pub invariant-loop-pair : goal.invariant-loop-pair
+invariant-loop-pair g l = record {
+  printed : g.B.Board.tells_text
+      → g.B.Board.printed l.board ≡ g.B.Board.printed l.fn.board ++ offset_lines (take l.pair-index l.pairs);
+  faults : g.B.Board.faults l.board ≡ g.B.Board.faults l.fn.board;
+  store : KeepsStore g.B.Board l.fn.board l.board;
+  steps : l.steps ≤ l.fn.steps + l.pair-index;
+}

@@ -1,0 +1,19 @@
+use Rattle.std.proofs.Common.{◌≡◌, ℕ, ◌<◌, List, length, Err, refl}
+use Rattle.std.proofs.lemmas.Bool.{lt-ltb}
+use Rattle.seal_record.specs.Reading.{params_read}
+use Rattle.seal_record.specs.declared.params.ParamFault.{ParamFault}
+use Rattle.seal_record.specs.declared.params.ParamFault.TheVariants.{TooLong}
+use Rattle.store_commands.specs.declared.params.ParamsFault.TheVariants as params
+use Rattle.call_ends.proofs.Laws.{same_fault}
+use Rattle.store_commands.proofs.params.read_parameters.Goals as goal
+
+-- a text that is longer than parameters may be is refused for that
+long_refused : (text : List ℕ) (why : ParamFault) → 65536 < length text → params.Refused TooLong ≡ params.Refused why
+    → params_read text ≡ Err why
+unfolding params_read
+long_refused text why longer same = rw (lt-ltb 65536 (length text) longer) cc
+
+pub returns-in-Err-TooLong-clause-refused : goal.returns-in-Err-TooLong-clause-refused
+returns-in-Err-TooLong-clause-refused g c = λ why tells e.
+    long_refused (g.F.Files.rest c.args.files.now c.args.word) why (c.read_text.ensures.too_long tells cc).longer
+    (same_fault _ _ _ refl e)

@@ -1,0 +1,176 @@
+-- Rules: the command `seal TARIFF PARAMS`.
+use Rattle.std.specs.Prelude.{◌≡◌, ◌⊎◌, ℕ, ◌+◌, ◌<◌, ◌≤◌, ◌==◌, if◌then◌else◌, is_some, List, [], ◌++◌, take, Option}
+use Rattle.std.specs.Prelude.{None, Some, Result, Ok, Err}
+use Rattle.sha2.specs.Sha256.{sha256}
+use Rattle.slot_store.specs.declared.found.Found.{Found}
+use Rattle.slot_store.specs.declared.found.Found.TheVariants.{Blank, Latest}
+use Rattle.tariff_syntax.specs.Tree.{Tree}
+use Rattle.totals_record.specs.declared.durable_state.Durable.{Durable}
+use Rattle.seal_record.specs.declared.params.Params.{Params}
+use Rattle.seal_record.specs.declared.params.ParamFault.{ParamFault}
+use Rattle.seal_record.specs.declared.seal.Seal.{Seal}
+use Rattle.seal_record.specs.Limits.{last_seal_number}
+use Rattle.seal_record.specs.Reading.{params_read}
+use Rattle.meter_store.specs.Sealing.{IsAmid, IsSealed, Sealing, found_number, next_number, old_seal}
+use Rattle.outside.specs.declared.board.Board.{Ghosts}
+use Rattle.slot_store.specs.Syncs.{LeavesFromSync}
+use Rattle.call_ends.specs.Answer.{Answer, shows_line}
+use Rattle.call_ends.specs.Course.{Command}
+use Rattle.call_ends.specs.LastLine.{refused_as, sealed_line}
+use Rattle.store_commands.specs.Opening.{opening_of, store_ended}
+use Rattle.call_ends.specs.Tariffs.{tariff_in}
+use Rattle.call_ends.specs.declared.ending.Ended.{Ended}
+use Rattle.call_ends.specs.declared.ending.Ended.TheVariants.{BadParams, BadTariff, OtherDecimals, SealEnded, TripHeld}
+use Rattle.store_commands.specs.declared.opening.Opening.{Opening}
+use Rattle.store_commands.specs.declared.opening.StoreFault.{StoreFault}
+use Rattle.store_commands.specs.declared.seal.Base.{Base}
+use Rattle.call_ends.specs.declared.tariff.Refusal.{Refusal}
+
+-- ---- what is sealed over
+
+-- the base of a sealing has the place, the number and the decimals of the found seal; a seal with the last number is
+-- the end `SealEnded`
+abbrev pub over_seal : Option Durable → Found Seal → Result Base Ended
+over_seal totals Blank = Ok (record { totals = totals; found = None; decimals = None })
+over_seal totals (Latest place seal) =
+    if seal.seal_number == last_seal_number then Err SealEnded
+    else Ok (record { totals = totals; found = Some (place, seal.seal_number); decimals = Some seal.decimals })
+
+-- the base of a sealing has the found totals, where they hold no trip; a held trip is the end `TripHeld`
+abbrev pub over_totals : Found Durable → Found Seal → Result Base Ended
+over_totals Blank seal = over_seal None seal
+over_totals (Latest place durable) seal = if is_some durable.hold then Err TripHeld else over_seal (Some durable) seal
+
+-- the base of a sealing over what was opened is made of the totals and the seal that were found, or is the end by which
+-- the store is refused
+abbrev pub base_in : Result Opening StoreFault → Result Base Ended
+base_in (Err fault) = Err (store_ended fault)
+base_in (Ok opening) = over_totals opening.totals opening.seal
+
+-- ---- the new seal
+
+-- decimals may be sealed where they are the decimals of the found seal, or no seal was found
+abbrev pub are_decimals : Option ℕ → ℕ → Result (Unit {0}) Ended
+are_decimals None own = Ok tt
+are_decimals (Some found) own = if found == own then Ok tt else Err (OtherDecimals found own)
+
+-- a seal is made of a number, a digest, decimals and parameters, and is refused where the parameters are
+abbrev pub with_params : (number : ℕ) → (digest : List ℕ) → (decimals : ℕ) → Result Params ParamFault
+    → Result Seal Ended
+with_params number digest decimals (Err fault) = Err (BadParams fault)
+with_params number digest decimals (Ok params) =
+    Ok (record { seal_number = number; params = params; digest = digest; decimals = decimals })
+
+-- a seal is refused where its decimals are, and is otherwise made or refused for another reason
+abbrev pub where_decimals : Result (Unit {0}) Ended → Result Seal Ended → Result Seal Ended
+where_decimals (Err ended) seal = Err ended
+where_decimals (Ok same) seal = seal
+
+-- a seal is made of a number, a digest, a tariff and parameters, and is refused where the tariff is, before its
+-- decimals and its parameters are asked
+abbrev pub with_tariff : (number : ℕ) → Option ℕ → (digest : List ℕ) → Result Tree Refusal → Result Params ParamFault
+    → Result Seal Ended
+with_tariff number found digest (Err why) params = Err (BadTariff why)
+with_tariff number found digest (Ok t) params =
+    where_decimals (are_decimals found t.decimals) (with_params number digest t.decimals params)
+
+-- a tariff's text and a parameter text give the seal of a number, beside decimals that were found, or the first
+-- refusal; `params_read` gives the parameters or their first fault, as the laws texts_say_their_parameters,
+-- texts_are_too_long_or_lack_a_parameter and texts_say_parameters_line_by_line of seal_record say
+abbrev pub seal_read : (number : ℕ) → Option ℕ → (tariff params : List ℕ) → Result Seal Ended
+seal_read number found tariff params = with_tariff number found (sha256 tariff) (tariff_in tariff) (params_read params)
+
+-- a text fits decimals that were found where its tariff is sound and has them
+pub record HasDecimals (found : Option ℕ) (tariff : List ℕ) : Type 0 where
+  pub tree : Tree
+  pub sound : tariff_in tariff ≡ Ok tree
+  pub decimals : are_decimals found tree.decimals ≡ Ok tt
+
+-- ---- the answer
+
+-- a sealing puts its new seal beside the totals of its base, in place of the old seal
+abbrev pub sealing_with : (old : Option Seal) → Base → Result Seal Ended → Result Sealing Ended
+sealing_with old base (Err ended) = Err ended
+sealing_with old base (Ok seal) = Ok (record { totals = base.totals; old = old; new = seal })
+
+-- the sealing over a base puts in a seal whose number follows that of the found seal
+abbrev pub sealing_over : (old : Option Seal) → Result Base Ended → (tariff params : List ℕ) → Result Sealing Ended
+sealing_over old (Err ended) tariff params = Err ended
+sealing_over old (Ok base) tariff params =
+    sealing_with old base (seal_read (next_number (found_number base.found)) base.decimals tariff params)
+
+-- the sealing of what was opened is made with a tariff's text and a parameter text, or is the first refusal, which is
+-- one of the store before one of the tariff, and of the tariff before one of the parameters
+abbrev pub sealing_of : Result Opening StoreFault → (tariff params : List ℕ) → Result Sealing Ended
+sealing_of (Err fault) tariff params = Err (store_ended fault)
+sealing_of (Ok opening) tariff params =
+    sealing_over (old_seal opening.seal) (over_totals opening.totals opening.seal) tariff params
+
+-- the answer to a sealing is the line with the number of the new seal, or the refusal
+abbrev pub seal_answer : Result Sealing Ended → Answer
+seal_answer (Err ended) = refused_as ended
+seal_answer (Ok sealing) = shows_line (sealed_line sealing.new.seal_number)
+
+-- the store of an image may be sealed where it has a base of a sealing
+pub record IsSealable (image : List ℕ) : Type 0 where
+  pub base : Base
+  pub is : base_in (opening_of image) ≡ Ok base
+
+-- the store of an image may be sealed with a tariff where it has a base, and the tariff fits the base's decimals
+pub record IsFitting (tariff image : List ℕ) : Type 0 where
+  pub base : Base
+  pub is : base_in (opening_of image) ≡ Ok base
+  pub fits : HasDecimals base.decimals tariff
+
+-- the command `seal` opens the store, reads its tariff and then its parameters, and writes, in at most 64 steps and one
+-- for the last line
+abbrev pub seal_command : Command
+seal_command = record {
+  answer = λ contents image. seal_answer (sealing_of (opening_of image) (contents 1) (contents 2));
+  drive = None;
+  shown = λ contents image taken. [];
+  reads = λ word. (word ≡ 1) ⊎ (word ≡ 2);
+  turn = λ word. word;
+  reads_all = λ status. status ≡ 0;
+  comes_to = λ contents image word taken.
+      ((word ≡ 1) × IsSealable image) ⊎ ((word ≡ 2) × IsFitting (contents 1) image);
+  may_lack = λ contents image taken. IsSealable image;
+  told = λ files_tell image_told. files_tell × image_told;
+  opens = Unit {0};
+  writes = λ ended. (ended ≡ 0) ⊎ (ended ≡ 8);
+  steps = λ files_tell image_told contents left image before now. now ≤ before + 64 + 1;
+}
+
+-- ---- the store
+
+-- an image has been sealed where it stands for the totals and the new seal of the sealing
+abbrev pub HasSealed : Result Sealing Ended → List ℕ → Type 0
+HasSealed (Err ended) image = ⊥
+HasSealed (Ok sealing) image = IsSealed sealing image
+
+-- a text shows a byte of a line if it is what was `printed` before, and behind that one or more of the line's first
+-- bytes
+pub record ShowsByteOf (line printed text : List ℕ) : Type 0 where
+  pub count : ℕ
+  pub some : 0 < count
+  pub is : text ≡ printed ++ take count line
+
+-- a cut of a sealing may leave an image amid the sealing, and a text that shows a byte of the line `SEALED n` only if
+-- the image has been sealed
+pub record IsSealCut (sealing : Sealing) (printed left_image left_text : List ℕ) : Type 0 where
+  pub amid : IsAmid sealing left_image
+  pub behind : ShowsByteOf (sealed_line sealing.new.seal_number) printed left_text → IsSealed sealing left_image
+
+-- from the opening sync on a cut may leave what a cut of the sealing may leave, or the opening image where nothing is
+-- sealed
+abbrev pub MayLeaveSealing : Result Sealing Ended → (image printed left_image left_text : List ℕ) → Type 0
+MayLeaveSealing (Err ended) image printed left_image left_text = left_image ≡ image
+MayLeaveSealing (Ok sealing) image printed left_image left_text = IsSealCut sealing printed left_image left_text
+
+module _ {D L : Type 0} {N : ℕ} (B : Ghosts D N L) where
+  -- a call seals the store where at 0 the store stands for what the sealing says, and a cut from the opening sync on
+  -- leaves what a cut of the sealing may leave, and one before that sync has succeeded what it might have left before
+  -- the call
+  pub record Seals (sealing : Result Sealing Ended) (old new : D) (ended : ℕ) : Type 0 where
+    pub sealed : ended ≡ 0 → HasSealed sealing (B.image new)
+    pub leaves : LeavesFromSync B (ended ≡ 8) old new (MayLeaveSealing sealing (B.image old) (B.printed old))

@@ -1,0 +1,42 @@
+//! The store of a command that needs a sealed one.
+ghost use Rattle.std.specs.Prelude.{◌≡◌, ◌≢◌, ◌+◌, ◌≤◌, IfErr, IfOk, IsErrOf};
+ghost use Rattle.seal_record.specs.Ranges.{IsSeal};
+ghost use Rattle.totals_record.specs.Ranges.{IsDurable};
+ghost use Rattle.call_ends.specs.Ending.{HasCauseOn, LeavesStoreUnwritten};
+ghost use Rattle.store_commands.specs.Opened.{IsBarred, IsOpenedWith, OnlyOpens};
+ghost use Rattle.store_commands.specs.Opening.{opening_of, store_of};
+
+use crate::opening::{open_store, refused_store, sealed_store};
+use call_ends::Ended;
+use outside::{Board, STORE_SIZE};
+use seal_record::Seal;
+use std::sync::ledger::Ledger;
+use taxi_units::Steps;
+use totals_record::Durable;
+
+/// Scans the store, and gives its totals and its seal, where it is sealed. Nothing is written or printed.
+pub fn open_sealed<B: Board<STORE_SIZE, L>, L: Ledger>(
+    board: &mut B,
+    steps: &mut Steps<L>,
+) -> Result<(Durable, Seal), Ended>
+    ensures exact { B.tells_image → ¬ IsErrOf result Ended.BoardFault
+        → result ≡ store_of (opening_of (B.image board.old)) }
+    ensures found { B.tells_image → IfOk result (λ store. IsOpenedWith B.Board board.new store.0) }
+    ensures durable { IfOk result (λ store. IsDurable store.0) }
+    ensures seal { IfOk result (λ store. IsSeal store.1) }
+    ensures barred { IfErr result IsBarred }
+    ensures not_read { IfErr result (λ why. why ≢ Ended.ReadFault) }
+    ensures cause { IfErr result (HasCauseOn B.Board board.old board.new) }
+    ensures looks { IfErr result (LeavesStoreUnwritten B.Board board.old board.new) }
+    ensures opens { OnlyOpens B.Board (IsErrOf result Ended.BoardFault) board.old board.new }
+    ensures steps { steps.new ≤ steps.old + 6 }
+{
+    let opening = match open_store(board, steps) {
+        Ok(opening) => opening,
+        Err(fault) => return Err(refused_store(fault)),
+    };
+    match sealed_store(opening) {
+        Some((durable, seal)) => Ok((durable, seal)),
+        None => Err(Ended::NotSealed),
+    }
+}

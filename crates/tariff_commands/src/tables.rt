@@ -1,0 +1,72 @@
+//! The command `tables`.
+#![tactic(auto, using(call_ends::proofs::Laws::board_runs))]
+
+ghost use Rattle.std.specs.Prelude.{◌≡◌, ◌+◌, ◌<◌, ◌≤◌, ◌++◌, length, OnOk};
+ghost use Rattle.taxi_units.specs.Line.{line_size};
+ghost use Rattle.outside.specs.Faults.{HasCause};
+ghost use Rattle.outside.specs.Printing.{Begins};
+ghost use Rattle.outside.specs.Runs.{KeepsStore};
+ghost use Rattle.tariff_compile.specs.Rows.{row_count, row_text, rows_text};
+ghost use Rattle.call_ends.specs.Carried.{Carries};
+ghost use Rattle.tariff_commands.specs.Tables.{tables_command};
+
+use crate::compiled::tables_of_word;
+use call_ends::{Ended, refused_by};
+use drive_modes::Constant;
+use outside::{Board, Failed, Files, STORE_SIZE};
+use std::alloc::Global;
+use std::sync::ledger::Ledger;
+use tariff_compile::Tables;
+use taxi_units::{Line, Steps};
+
+/// Reads the tariff of word 1, and prints all rows of its tables under a constant.
+pub fn print_tables<F: Files, B: Board<STORE_SIZE, L>, L: Ledger>(
+    alloc: Global,
+    constant: Constant,
+    files: &mut F,
+    board: &mut B,
+    steps: &mut Steps<L>,
+) -> Ended
+    ensures { Carries F.Files B.Board (tables_command constant) files.old files.new board.old board.new
+        steps.old steps.new result }
+{
+    let tables = match tables_of_word(alloc, files, 1, constant) {
+        Ok(tables) => tables,
+        Err(fault) => return refused_by(fault),
+    };
+    match print_rows(&tables, board, steps) {
+        Ok(()) => Ended::Done,
+        Err(_) => Ended::BoardFault,
+    }
+}
+
+/// Prints the rows of tables, one after the other.
+fn print_rows<B: Board<STORE_SIZE, L>, L: Ledger>(
+    tables: &Tables,
+    board: &mut B,
+    steps: &mut Steps<L>,
+) -> Result<(), Failed>
+    ensures whole { B.tells_text → OnOk result (B.printed board.new ≡ B.printed board.old ++ rows_text tables.now) }
+    ensures begun { B.tells_text → Begins (B.printed board.old) (B.printed board.new) (rows_text tables.now) }
+    ensures cause { HasCause (B.faults board.old) (B.faults board.new) result }
+    ensures steps { steps.new ≤ steps.old + row_count tables.now }
+    ensures store { KeepsStore B.Board board.old board.new }
+{
+    for i in 0..tables.rows() {
+        let line = row_of(tables, i);
+        board.print(line.as_slice(), steps)?;
+    }
+    Ok(())
+}
+
+/// A row of tables.
+fn row_of(tables: &Tables, i: u64) -> Line
+    requires { i < row_count tables.now }
+    ensures text { result.items ≡ row_text tables.now i }
+    ensures some { 0 < length result.items }
+    ensures few { length result.items ≤ line_size }
+{
+    let mut line = Line::new();
+    tables.put_row(i, &mut line).unwrap();
+    line
+}

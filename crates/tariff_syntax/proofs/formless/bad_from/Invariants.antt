@@ -1,0 +1,14 @@
+use Rattle.std.proofs.Common.{◌≡◌, ◌+◌, ◌≤◌, ◌++◌, length}
+use Rattle.tariff_syntax.specs.BadLines.{bad_from}
+use Rattle.tariff_syntax.specs.TextLines.{lines_of}
+use Rattle.tariff_syntax.proofs.formless.bad_from.Given as goal
+
+abbrev pub invariant-loop-line : goal.invariant-loop-line
+invariant-loop-line l = record {
+  room : l.number + length l.rest ≤ l.fn.first + length l.text;
+  same : l.numbers.items ++ bad_from l.decimals l.number (lines_of l.rest)
+      ≡ bad_from l.decimals l.fn.first (lines_of l.text);
+}
+
+abbrev pub decreases-loop-line : goal.decreases-loop-line
+decreases-loop-line l = length l.rest
