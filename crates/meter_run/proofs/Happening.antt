@@ -32,6 +32,7 @@ use Rattle.meter_states.specs.Meter.{Meter, Outcome, refused}
 use Rattle.meter_states.specs.Run.{opened, run}
 use Rattle.meter_states.specs.Setting.{Setting, IsSettingOf, IsTariffOf}
 use Rattle.meter_states.specs.Step.{step}
+use Rattle.meter_states.specs.Stepping.{Takes}
 use Rattle.meter_states.specs.Supply.{supply_came}
 use Rattle.meter_states.specs.declared.act.Act.{Act}
 use Rattle.meter_states.specs.declared.act.Act.TheVariants.{Refuse}
@@ -48,7 +49,7 @@ use Rattle.meter_run.specs.StoreLaws.{beside_then, has_settled}
 use Rattle.meter_run.specs.Supply.{KeepsOff}
 use Rattle.meter_run.specs.declared.stored.Known.{Known}
 use Rattle.meter_run.specs.declared.stored.StoreMeter.{StoreMeter}
-use Rattle.meter_run.proofs.Dropping.{came, off_of, ready_after, stands_after}
+use Rattle.meter_run.proofs.Dropping.{came, off_of, ready_after, stands_after, stepped}
 use Rattle.meter_run.proofs.Going.{on_err, on_ok, on_ok_both, on_ok_under}
 use Rattle.meter_run.proofs.Leaves.{beside_kept, print_point, settled_kept}
 
@@ -93,6 +94,22 @@ refused_event s (Pulses n) m off other = rw off refl
 refused_event s Tick m off other = rw off refl
 refused_event s (Clock second) m off other = rw off refl
 refused_event s (Key key) m off other = rw off refl
+
+-- what the core's step says of its acts beside the durable state that is known
+pub meets_with : (tables : TableParts) (seal : Seal) (event : Event) (core core' : CachedCore) (d : Durable)
+    (acts : List Act) → Takes tables seal event core acts core'
+    → (s : Setting) (m : Meter) → IsSettingOf s tables seal → StandsWith s core.plain d m
+    → Meets s core'.plain acts (step s event m)
+meets_with tables seal event core core' d acts takes s m is st = takes.meets s m is st.core
+
+pub lawful_beside : (tables : TableParts) (seal : Seal) (event : Event) (core core' : CachedCore) (d : Durable)
+    (acts : List Act) → IsReady tables seal core d
+    → ((second : ℕ) → core.plain.operating ≡ Off → event ≢ Up second) → Takes tables seal event core acts core'
+    → All (IsLawfulAct tables d.number) acts
+lawful_beside tables seal event core core' d acts ready other takes =
+    let way = ready.way in
+    stepped tables way.setting event core d acts way.meter way.stands other
+    (takes.meets way.setting way.meter way.is way.stands.core).done takes.ranges
 
 -- acts under another name
 pub meets_as : (tables : TableParts) (seal : Seal) (core : CachedCore) (d : Durable) (core' : CachedCore)

@@ -1,5 +1,5 @@
 -- The laws of the public empty functions.
-use Rattle.std.proofs.Common.{◌≡◌, ℕ, ◌+◌, ◌<◌, ◌≤◌, List, [], ◌∷◌, ◌++◌, length}
+use Rattle.std.proofs.Common.{◌≡◌, ℕ, ◌<◌, ◌≤◌, List, [], ◌∷◌, ◌++◌}
 use Rattle.std.specs.Prelude.{get_or}
 use Rattle.outside.specs.Disk.{MayLeaveAmid}
 use Rattle.outside.specs.Printing.{Begins}
@@ -10,8 +10,7 @@ use Rattle.seal_record.specs.declared.seal.Seal.{Seal}
 use Rattle.slot_store.specs.declared.pair.Place.{Place}
 use Rattle.tariff_compile.specs.Tables.{TableParts}
 use Rattle.taxi_units.specs.declared.receipt.Receipt as receipts
-use Rattle.totals_record.specs.States.{IsHeldAfter, entries_of}
-use Rattle.totals_record.specs.Sums.{AddsUp}
+use Rattle.totals_record.specs.States.{entries_of}
 use Rattle.totals_record.specs.declared.durable_state.Durable.{Durable}
 use Rattle.meter_states.specs.Run.{actions_of}
 use Rattle.meter_states.specs.Setting.{Setting}
@@ -23,7 +22,7 @@ use Rattle.meter_run.specs.OnStore.{HasBeside, WritesTotals}
 pub use Rattle.meter_run.specs.PointLaws.{left_has, settled_has, texts_joined}
 use Rattle.meter_run.specs.Points.{HasEntries, HasEntryOf, IsCutOfDeeds, IsNumberedWithin}
 use Rattle.meter_run.specs.Runs.{HasDone, HasStopped, OpensWith, run_deeds}
-use Rattle.meter_run.proofs.Cuts.{acts_have_entries, line_has_entries}
+use Rattle.meter_run.proofs.Cuts.{acts_have_entries}
 pub use Rattle.meter_run.proofs.Cuts.{begins_in, deeds_follow}
 use Rattle.meter_run.proofs.LastLines.{line_begun, line_whole}
 use Rattle.meter_run.proofs.Leavings.{beside_bytes, kept_begins, next_opens, numbers_rise, receipt_entered}
@@ -34,15 +33,6 @@ module _ (tables : TableParts) (seal : Seal) (told : Type 0) (opening : Durable)
     (image text : List ℕ) (cut : IsCutOfDeeds tables seal told opening printed deeds image text) where
   pub the_number_tells_the_commits-beginning : (more : List Deed) × (deeds ≡ cut.kept ++ more)
   the_number_tells_the_commits-beginning = kept_begins tables seal told opening printed deeds image text cut
-
-  pub the_number_tells_the_commits-number : cut.found.number ≡ opening.number + length (changes_of cut.kept)
-  the_number_tells_the_commits-number = cut.follows.number
-
-  pub the_number_tells_the_commits-totals : AddsUp opening.totals cut.found.totals (entries_of (changes_of cut.kept))
-  the_number_tells_the_commits-totals = cut.follows.totals
-
-  pub the_number_tells_the_commits-held : IsHeldAfter opening.hold (changes_of cut.kept) cut.found.hold
-  the_number_tells_the_commits-held = cut.follows.held
 
   pub receipts_have_their_entries-cut : (earlier later : List Deed) (receipt : receipts.Receipt) → cut.done ++ cut.next
       ≡ earlier ++ Does (Receipt receipt) ∷ later → HasEntryOf receipt (entries_of (changes_of cut.kept))
@@ -67,11 +57,6 @@ pub receipts_are_numbered_in_order-rise : (number : ℕ) (earlier between later 
     → HasEntries number (earlier ++ Does (Receipt first) ∷ (between ++ Does (Receipt next) ∷ later))
     → first.number < next.number
 receipts_are_numbered_in_order-rise = numbers_rise
-
--- and with a line behind them
-pub receipts_have_their_entries-line : (number : ℕ) (deeds : List Deed) (line : List ℕ) → HasEntries number deeds
-    → HasEntries number (deeds ++ Prints line ∷ [])
-receipts_have_their_entries-line = line_has_entries
 
 module _ {D L : Type 0} {N : ℕ} (B : Ghosts D N L) where
   pub runs_leave_the_seals-bytes : (board : D) (left : List ℕ) (place : ℕ) → HasBeside B board left → 1024 ≤ place

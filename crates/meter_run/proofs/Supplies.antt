@@ -1,6 +1,6 @@
 -- The supply behind events: a meter is off without it, and the steps of a drive with the supply drop at its end.
 use Rattle.std.proofs.Common.{◌≡◌, ◌≢◌, inl, inr, ℕ, zero, suc, ◌+◌, ◌*◌, ◌≤◌, List, [], ◌∷◌, Bool, true, false, None}
-use Rattle.std.proofs.Common.{arith, refl, sym, ap, ◌∙◌}
+use Rattle.std.proofs.Common.{arith, refl, sym, ap, subst, ◌∙◌}
 use Rattle.std.proofs.lemmas.Bool.{ne_eqb}
 use Rattle.drive_text.specs.Runs.{interval_events, intervals_events}
 use Rattle.outside.specs.declared.board.Board.{Ghosts}
@@ -82,6 +82,12 @@ event_keeps_off tables seal event core core' d acts ready meets =
     let m = way.meter in
     core_off s core'.plain (step s event m).next (meets s m way.is way.stands).state
     (off_after s event m before (λ unsupplied. off_of s core m way.stands.core (off unsupplied)) none)
+
+-- behind the coming of the supply it is there
+pub supply_keeps : (core core' : CoreData) (event : Event) (second : ℕ) → event ≡ Up second
+    → KeepsOff core (event ∷ []) core'
+supply_keeps core core' event second is =
+    subst (λ (e : Event). KeepsOff core (e ∷ []) core') (sym is) (λ before off none. absurd cc)
 
 -- a core that is off, and left as it was, is off
 pub unknown_keeps_off : {D L : Type 0} {N : ℕ} (B : Ghosts D N L) (tables : TableParts) (seal : Seal) (x : StoreMeter)

@@ -1,4 +1,4 @@
--- For proofs: points of a list of deeds, by recursion over the list. IsCutOfDeeds, in Points, says what they are.
+-- Rules: points of a list of deeds, by recursion over the list. IsCutOfDeeds, in Points, says which deeds a cut has.
 use Rattle.std.specs.Prelude.{◌≡◌, ◌⊎◌, ℕ, List, [], ◌∷◌, ◌++◌}
 use Rattle.std.specs.Option.{ForSome}
 use Rattle.outside.specs.Printing.{Begins}

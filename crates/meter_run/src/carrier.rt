@@ -34,7 +34,7 @@ pub(crate) trait Carrier<B: Board<STORE_SIZE, L>, L: Ledger> {
     ghost broke_off: { SealedTables → Self → B → List Event → B → Type 0 };
 
     /// Carries out an event; its acts come into a list that is handed in, whatever that has. At most 64 steps.
-    fn carry_out(
+    fn carry_event(
         &mut self,
         by: &SealedTables<'_>,
         event: Event,

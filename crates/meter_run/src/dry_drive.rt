@@ -8,12 +8,12 @@ ghost use Rattle.taxi_units.specs.declared.event.Operating.TheVariants.{Off};
 ghost use Rattle.meter_run.specs.Drives.{IsBoundedBy, RunsDrive, answer_of};
 ghost use Rattle.meter_run.specs.Dry.{IsReady, Prints, PrintsSome};
 
-use crate::advancing::is_off;
-use crate::carrier::{Carrier, SealedTables};
+use crate::carrier::SealedTables;
 use crate::drive::carry_drive;
 use crate::dry::DryMeter;
 use crate::fault::RunFault;
 use crate::source::Stop;
+use crate::supply::is_off;
 use meter_states::Acts;
 use outside::{Board, Failed, Files, STORE_SIZE};
 use seal_record::Seal;
@@ -21,12 +21,12 @@ use std::sync::ledger::Ledger;
 use tariff_compile::Tables;
 use taxi_units::{Event, Steps};
 
-/// Reads the drive of a word to its end, and carries out each event as soon as its line is read, though
-/// no clause says when, under tables that were compiled with the seal's constant. The durable state is a
-/// value, which begins with number 1, totals of zero and no held trip; entries and held trips change it,
-/// and an `Up` goes on from it. Displays and refusals are printed, and no receipts; the store is left as
-/// it is. At most 64 steps for each event of the bytes that were taken, and for the supply drop at the
-/// end, if the supply is there then. It takes no memory itself; the devices may.
+/// Reads the drive of a word to its end, in pieces of at most 512 bytes, and carries out the events of each piece before
+/// it reads the next one, under tables that were compiled with the seal's constant. The durable state is a value, which
+/// begins with number 1, totals of zero and no held trip; entries and held trips change it, and an `Up` goes on from it.
+/// Displays and refusals are printed, and no receipts; the store is left as it is. At most 64 steps for each event of
+/// the bytes that were taken, and for the supply drop at the end, if the supply is there then. It takes no memory
+/// itself; the devices may.
 ///
 /// `BadDrive` with the first line that is no line of a drive; `TooLong` where 2^40 bytes were taken, none
 /// of their lines is bad, and the end wasn't told; `ReadFault` only where the count of faults of the word
@@ -84,8 +84,7 @@ fn drop_at_end<B: Board<STORE_SIZE, L>, L: Ledger>(
         return Ok(());
     }
     let mut acts = Acts::new();
-    let by = SealedTables { tables, seal };
-    meter.carry_out(&by, Event::Down, &mut acts, board, steps)
+    meter.carry_event(tables, seal, Event::Down, &mut acts, board, steps)
 }
 
 /// The answer of a run that stopped so.

@@ -30,10 +30,10 @@ fn carry_interval<C: Carrier<B, L>, B: Board<STORE_SIZE, L>, L: Ledger>(
     ensures steps { IsBounded steps.old steps.new (interval_events pulses) }
 {
     if pulses == 0 {
-        return meter.carry_out(by, Event::Tick, acts, board, steps);
+        return meter.carry_event(by, Event::Tick, acts, board, steps);
     }
-    meter.carry_out(by, Event::Pulses(pulses), acts, board, steps)?;
-    meter.carry_out(by, Event::Tick, acts, board, steps)
+    meter.carry_event(by, Event::Pulses(pulses), acts, board, steps)?;
+    meter.carry_event(by, Event::Tick, acts, board, steps)
 }
 
 /// Carries out a row of equal measuring intervals: one, and then as many as go at once, again and again.
@@ -82,7 +82,7 @@ fn carry_run<C: Carrier<B, L>, B: Board<STORE_SIZE, L>, L: Ledger>(
     ensures steps { IsBounded steps.old steps.new (run_events run) }
 {
     match run {
-        Run::One(event) => meter.carry_out(by, event, acts, board, steps),
+        Run::One(event) => meter.carry_event(by, event, acts, board, steps),
         Run::Many { pulses, count } => {
             carry_intervals(meter, by, pulses, count, acts, board, steps)
         }

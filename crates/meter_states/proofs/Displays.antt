@@ -1,6 +1,6 @@
 -- When two displays are the same, when a core shows one, and what a display for hire has.
-use Rattle.std.proofs.Common.{◌≡◌, ◌↔◌, true, false, None, Some, Option, List, [], ◌∷◌, ◌++◌, append-nil, ap, sym, ◌∙◌}
-use Rattle.std.proofs.Common.{refl, subst, arith}
+use Rattle.std.proofs.Common.{◌≡◌, ◌↔◌, Bool, true, false, None, Some, Option, List, [], ◌∷◌, ◌++◌, append-nil, ap, sym}
+use Rattle.std.proofs.Common.{◌∙◌, refl, subst, arith, if◌then◌else◌}
 use Rattle.std.proofs.lemmas.Grind.{common_steps}
 use Rattle.tariff_compile.specs.Tables.{TableParts}
 use Rattle.taxi_units.specs.declared.event.Operating.{Operating}
@@ -72,3 +72,24 @@ pub hire-shows : (s : Setting) (m : Meter) → IsTripKept s m → m.operating �
 hire-shows s m kept hire =
     let in_hire = subst (λ (o : Operating). IsTripKeptIn s o m.durable.hold m.trip m.roaming) hire kept in
     no-fare s m.trip in_hire.1
+
+some_act : (act : Act) → act ∷ [] ≡ [] → ⊥
+some_act act bad = absurd cc
+
+-- acts that depend on a test
+none_by : (b : Bool) (act : Act) → ((if b then [] else act ∷ []) ≡ []) ↔ (b ≡ true)
+none_by true act = ((λ none. refl), (λ is. refl))
+none_by false act = ((λ none. absurd (some_act act none)), (λ is. absurd cc))
+
+last_is : (a b : Display) → Some a ≡ Some b → a ≡ b
+last_is a b same = cc
+
+-- nothing is shown where the display was shown last
+pub shows-none : (old : Option Display) (new : Display)
+    → ((if is_shown old new then [] else Show new ∷ []) ≡ []) ↔ (old ≡ Some new)
+shows-none None new = ((λ none. absurd (some_act (Show new) none)), (λ is. absurd cc))
+shows-none (Some old) new =
+    let acts = none_by (same_display old new) (Show new) in (
+      λ none. ap Some (equal-same old new (acts.0 none)),
+      λ is. acts.1 (ap (λ (last : Display). same_display last new) (last_is old new is) ∙ same-self new),
+    )

@@ -16,8 +16,12 @@ mod Fares
 mod HeldFits
 -- each stage of an event keeps the trip of the store
 mod KeptTrips
+-- what accepted keys do, key by key
+mod KeyActs
 -- what a key does, as a stage of an event
 mod KeyStages
+-- what was shown last is the display of a state that keeps its trip
+mod LastDisplays
 -- the laws that the crates above may cite
 pub mod Laws
 -- a charge more
@@ -30,7 +34,7 @@ mod Powered
 mod Pushes
 -- intervals at which nothing is done
 mod Quiet
--- what a refusal leaves, and when a key acts
+-- what a refusal leaves
 mod Refused
 -- a held trip that is opened is saved again as it was held
 mod Resumed

@@ -9,7 +9,9 @@ pub mod Equals
 pub mod Fits
 pub mod Interval
 pub mod KeptTrip
+pub mod KeyTable
 pub mod Keys
+pub mod LastShown
 pub mod Lawful
 pub mod Meter
 pub mod Pairs
@@ -18,6 +20,7 @@ pub mod Run
 pub mod Setting
 pub mod Stages
 pub mod Step
+pub mod Stepping
 pub mod Supplements
 pub mod Supply
 pub mod Trip

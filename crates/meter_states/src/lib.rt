@@ -17,6 +17,7 @@ mod held;
 mod interval;
 mod keeping;
 mod key_acts;
+mod key_table;
 mod keys;
 mod lookups;
 mod meter_state;
@@ -38,10 +39,11 @@ pub use fitting::fits;
 pub use keeping::{
     fares_depend_on_the_intervals_in_hired, resumed_trips_go_on, the_store_keeps_the_trip,
 };
+pub use key_table::accepted_keys_act;
 pub use keys::KeyAct;
 pub use pairs::{receipts_follow_their_entries, runs_add_up, the_store_has_what_the_acts_commit};
 pub use refusals::{
     keys_act_after_their_interval, keys_are_refused_at_an_expiry,
     pulses_too_fast_fill_the_interval, refused_events_change_nothing,
 };
-pub use shown::displays_are_compared_by_their_fields;
+pub use shown::{displays_are_compared_by_their_fields, the_last_display_is_one_of_the_meter};

@@ -26,6 +26,8 @@ mod ReadAgain
 mod Sealed
 -- displays are told apart by their texts
 mod ShownApart
+-- receipts under seals that say the same but for the digest
+mod TariffLines
 -- a text is one receipt at most, and no beginning of it is another
 mod Unique
 -- how long the lines of a receipt are at most, whatever it says

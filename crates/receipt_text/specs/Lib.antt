@@ -11,4 +11,5 @@ pub mod SealParts
 pub mod Shows
 pub mod SpelledFront
 pub mod Spelling
+pub mod TariffLine
 pub mod Texts

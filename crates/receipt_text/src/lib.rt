@@ -26,7 +26,7 @@ pub use displays::put_display;
 pub use front::receipt_in_front;
 pub use grammar::{
     displays_differ_by_their_fields, receipts_are_short, receipts_are_their_texts,
-    receipts_begin_with_their_word, texts_are_one_receipt,
+    receipts_begin_with_their_word, receipts_differ_in_their_tariff_alone, texts_are_one_receipt,
 };
 pub use parts::SealPart;
 pub use reading::read_receipt;
