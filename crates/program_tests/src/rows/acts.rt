@@ -3,11 +3,9 @@ use super::calls::{is_wanted, words_of};
 use super::packed::Packed;
 use crate::log::keep_log_tests;
 use crate::log::memory_log::memory_log;
-use crate::meter::tests::counted;
+use crate::meter::tests::status_of;
 use outside::{LOG_SIZE, MemoryBoard, STORE_SIZE};
 use std::alloc::Global;
-use std::marker::Brand;
-use std::sync::ledger::Blank;
 use std::test::Fail;
 
 /// The stores of a row: the meter's and the log's.
@@ -45,13 +43,7 @@ impl Stores {
     fn call_taxi(&mut self, rows: &mut Packed<'_>) -> Result<bool, Fail> {
         let (words, mut files) = words_of(self.alloc, rows)?;
         let mut board = MemoryBoard::new(self.alloc, &self.totals, &[])?;
-        let status = counted::<Brand>(
-            self.alloc,
-            Blank::new(1),
-            words.as_slice(),
-            &mut files,
-            &mut board,
-        );
+        let status = status_of(self.alloc, words.as_slice(), &mut files, &mut board);
         let is_printed = is_wanted(rows, board.printed())?;
         let has_status = rows.number()? == usize::from(status);
         let may_write = rows.number()? == 1;
@@ -64,12 +56,7 @@ impl Stores {
     fn call_log(&mut self, rows: &mut Packed<'_>) -> Result<bool, Fail> {
         let (words, mut files) = words_of(self.alloc, rows)?;
         let mut log = keep_log_tests::log_of(self.alloc, self.log.as_slice(), &[])?;
-        let status = keep_log_tests::counted::<Brand>(
-            Blank::new(1),
-            words.as_slice(),
-            &mut files,
-            &mut log,
-        );
+        let status = keep_log_tests::status_of(words.as_slice(), &mut files, &mut log);
         let is_printed = is_wanted(rows, log.printed())?;
         let has_status = rows.number()? == usize::from(status);
         let may_write = rows.number()? == 1;
