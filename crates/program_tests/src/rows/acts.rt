@@ -8,7 +8,7 @@ use outside::{LOG_SIZE, MemoryBoard, STORE_SIZE};
 use std::alloc::Global;
 use std::test::Fail;
 
-/// The stores of a row: the meter's and the log's.
+/// The stores of a row: the meter's, and the log's, which is made once it is needed.
 #[derive(Drop)]
 pub(crate) struct Stores {
     alloc: Global,
@@ -18,17 +18,29 @@ pub(crate) struct Stores {
 
 impl Stores {
     /// Stores of zeros, as where there are none.
-    pub(crate) fn new(alloc: Global) -> Result<Stores, Fail> {
-        Ok(Stores {
+    pub(crate) fn new(alloc: Global) -> Stores {
+        Stores {
             alloc,
             totals: [0; STORE_SIZE],
-            log: vec![in alloc; 0u8; LOG_SIZE]?,
-        })
+            log: Vec::new(alloc),
+        }
+    }
+
+    /// Makes the log, if it isn't there.
+    fn make_log(&mut self) -> Result<(), Fail> {
+        if self.log.is_empty() {
+            self.log = vec![in self.alloc; 0u8; LOG_SIZE]?;
+        }
+        Ok(())
     }
 
     /// Carries out the next act, and says whether all is as it has to be.
     pub(crate) fn act(&mut self, rows: &mut Packed<'_>) -> Result<bool, Fail> {
-        match rows.kind()? {
+        let kind = rows.kind()?;
+        if kind == b'l' || kind == b'L' || kind == b'h' {
+            self.make_log()?;
+        }
+        match kind {
             b's' => put(rows, &mut self.totals),
             b'l' => put(rows, self.log.as_mut_slice()),
             b'S' => is_left(self.alloc, rows, &self.totals),
