@@ -10,10 +10,16 @@ PROGRAMS = {"taxi": b"t", "hiring_log": b"h"}
 PUT, LEFT = {"store": b"s", "log": b"l"}, {"store": b"S", "log": b"L"}
 # The statuses of calls in which the system fails: files that can't be read, outputs that take nothing.
 OF_THE_SYSTEM = {7, 8}
+MOST_TICKS = 1_000_000
 
 
-class NeedsFile(Exception):
-    """A row of which a file has to be a real one."""
+class LeftOut(Exception):
+    """A row of which a file has to be a real one, or of which a drive is so long that it takes minutes without a proof."""
+
+
+def ticks_of(drive):
+    """The ticks of the lines of many intervals of a drive; of another text mostly none."""
+    return sum(int(count) for count in re.findall(rb"(?m)^I \d+ (\d+)\r?$", drive))
 
 
 def number(count):
@@ -55,7 +61,7 @@ class Packing:
         if how == "is":
             return LEFT[name] + pieces_of(image_of(name, block))
         if how == "has":
-            raise NeedsFile
+            raise LeftOut
         size = STORES[name][1]
         if how == "then":
             ones = image_of(name, block, b"\1" * size)
@@ -69,7 +75,9 @@ class Packing:
         wanted = text_of([fill(line, self.values) for line in block], self.row.texts)
         status = int(fill(status, self.values))
         if status in OF_THE_SYSTEM or any(word.startswith(("/", ".")) or word in ("taxi.store", "taxi.log") for word in words):
-            raise NeedsFile
+            raise LeftOut
+        if sum(ticks_of(self.files.get(word, b"")) for word in words) > MOST_TICKS:
+            raise LeftOut
         pieces = re.split(rb"(?<![^\n])\.\.\.\n", wanted)
         may_write = tuple(words[:2]) in WRITERS and not stays
         return b"".join([
@@ -80,11 +88,11 @@ class Packing:
 
 
 def packed(cases):
-    """The rows of these cases, packed, how many they are, and how many need a real file."""
+    """The rows of these cases, packed, how many they are, and how many are left out."""
     found, left_out = [], 0
     for row, name, values in cases:
         try:
             found.append(Packing(row, values).packed(f"{row.page.name}: {name}"))
-        except NeedsFile:
+        except LeftOut:
             left_out += 1
     return number(len(found)) + b"".join(found), len(found), left_out

@@ -20,7 +20,7 @@ pub(crate) const SHOW: &[&str] = &["show"];
 pub(crate) type Ended = (MemoryLog, u8);
 
 /// A call under a new counter.
-pub(crate) fn counted<L: Ledger>(
+fn counted<L: Ledger>(
     blank: Blank,
     words: &[String],
     files: &mut MemoryFiles,
@@ -32,6 +32,11 @@ pub(crate) fn counted<L: Ledger>(
 {
     let mut steps: Steps<L> = Steps::open(blank);
     keep_log(words, files, log, &mut steps)
+}
+
+/// The status of a call of these words, under a counter of its own.
+pub(crate) fn status_of(words: &[String], files: &mut MemoryFiles, log: &mut MemoryLog) -> u8 {
+    counted::<Brand>(Blank::new(1), words, files, log)
 }
 
 /// Words as a program has them.
@@ -72,7 +77,7 @@ pub(crate) fn failing(
     let words = strings(alloc, words)?;
     let mut files = files_of(alloc, roll, reads)?;
     let mut log = log_of(alloc, image, calls)?;
-    let status = counted::<Brand>(Blank::new(1), words.as_slice(), &mut files, &mut log);
+    let status = status_of(words.as_slice(), &mut files, &mut log);
     Ok((log, status))
 }
 

@@ -37,7 +37,7 @@ pub(crate) const SEVENS: &[u8; 2048] = &[7; 2048];
 pub(crate) const CALM: (u64, u64) = (0, 0);
 
 /// A call under a new counter.
-pub(crate) fn counted<L: Ledger>(
+fn counted<L: Ledger>(
     alloc: Global,
     blank: Blank,
     words: &[String],
@@ -50,6 +50,16 @@ pub(crate) fn counted<L: Ledger>(
 {
     let mut steps: Steps<L> = Steps::open(blank);
     taxi(alloc, words, files, board, &mut steps)
+}
+
+/// The status of a call of these words, under a counter of its own.
+pub(crate) fn status_of(
+    alloc: Global,
+    words: &[String],
+    files: &mut MemoryFiles,
+    board: &mut MemoryBoard,
+) -> u8 {
+    counted::<Brand>(alloc, Blank::new(1), words, files, board)
 }
 
 /// Words as a program has them.
@@ -85,7 +95,7 @@ pub(crate) fn call(
 ) -> Result<u8, Fail> {
     let words = strings(alloc, words)?;
     let mut files = files_of(alloc, texts, fail)?;
-    Ok(counted::<Brand>(alloc, Blank::new(1), words.as_slice(), &mut files, board))
+    Ok(status_of(alloc, words.as_slice(), &mut files, board))
 }
 
 /// A call over an image, where these calls of the board and these reads fail.

@@ -3,14 +3,12 @@ use super::calls::{is_wanted, words_of};
 use super::packed::Packed;
 use crate::log::keep_log_tests;
 use crate::log::memory_log::memory_log;
-use crate::meter::tests::counted;
+use crate::meter::tests::status_of;
 use outside::{LOG_SIZE, MemoryBoard, STORE_SIZE};
 use std::alloc::Global;
-use std::marker::Brand;
-use std::sync::ledger::Blank;
 use std::test::Fail;
 
-/// The stores of a row: the meter's and the log's.
+/// The stores of a row: the meter's, and the log's, which is made once it is needed.
 #[derive(Drop)]
 pub(crate) struct Stores {
     alloc: Global,
@@ -20,17 +18,29 @@ pub(crate) struct Stores {
 
 impl Stores {
     /// Stores of zeros, as where there are none.
-    pub(crate) fn new(alloc: Global) -> Result<Stores, Fail> {
-        Ok(Stores {
+    pub(crate) fn new(alloc: Global) -> Stores {
+        Stores {
             alloc,
             totals: [0; STORE_SIZE],
-            log: vec![in alloc; 0u8; LOG_SIZE]?,
-        })
+            log: Vec::new(alloc),
+        }
+    }
+
+    /// Makes the log, if it isn't there.
+    fn make_log(&mut self) -> Result<(), Fail> {
+        if self.log.is_empty() {
+            self.log = vec![in self.alloc; 0u8; LOG_SIZE]?;
+        }
+        Ok(())
     }
 
     /// Carries out the next act, and says whether all is as it has to be.
     pub(crate) fn act(&mut self, rows: &mut Packed<'_>) -> Result<bool, Fail> {
-        match rows.kind()? {
+        let kind = rows.kind()?;
+        if kind == b'l' || kind == b'L' || kind == b'h' {
+            self.make_log()?;
+        }
+        match kind {
             b's' => put(rows, &mut self.totals),
             b'l' => put(rows, self.log.as_mut_slice()),
             b'S' => is_left(self.alloc, rows, &self.totals),
@@ -45,13 +55,7 @@ impl Stores {
     fn call_taxi(&mut self, rows: &mut Packed<'_>) -> Result<bool, Fail> {
         let (words, mut files) = words_of(self.alloc, rows)?;
         let mut board = MemoryBoard::new(self.alloc, &self.totals, &[])?;
-        let status = counted::<Brand>(
-            self.alloc,
-            Blank::new(1),
-            words.as_slice(),
-            &mut files,
-            &mut board,
-        );
+        let status = status_of(self.alloc, words.as_slice(), &mut files, &mut board);
         let is_printed = is_wanted(rows, board.printed())?;
         let has_status = rows.number()? == usize::from(status);
         let may_write = rows.number()? == 1;
@@ -64,12 +68,7 @@ impl Stores {
     fn call_log(&mut self, rows: &mut Packed<'_>) -> Result<bool, Fail> {
         let (words, mut files) = words_of(self.alloc, rows)?;
         let mut log = keep_log_tests::log_of(self.alloc, self.log.as_slice(), &[])?;
-        let status = keep_log_tests::counted::<Brand>(
-            Blank::new(1),
-            words.as_slice(),
-            &mut files,
-            &mut log,
-        );
+        let status = keep_log_tests::status_of(words.as_slice(), &mut files, &mut log);
         let is_printed = is_wanted(rows, log.printed())?;
         let has_status = rows.number()? == usize::from(status);
         let may_write = rows.number()? == 1;

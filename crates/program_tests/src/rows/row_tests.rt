@@ -23,7 +23,7 @@ const ROWS: &[u8] = b"\0\0\0\0\0\0\0\x03\
 
 /// Carries a row out, with stores of its own, and says whether all was as it has to be.
 fn carry_out(alloc: Global, rows: &mut Packed<'_>) -> Result<bool, Fail> {
-    let mut stores = Stores::new(alloc)?;
+    let mut stores = Stores::new(alloc);
     let mut is_well = true;
     for _ in 0..rows.number()? {
         is_well = stores.act(rows)? && is_well;

@@ -1,4 +1,0 @@
-use Rattle.program_tests.proofs.rows.acts.Stores.call_log.Given as goal
-
-abbrev pub ghosts-counted : goal.ghosts-counted
-ghosts-counted a = record { name = a.blank.name; parts = a.blank.parts }
