@@ -1,11 +1,11 @@
 -- Rules: what the parts of an explanation come to together, and which receipt it is of.
 use Rattle.std.specs.Prelude.{◌≡◌, ℕ, ◌+◌, ◌*◌, All, Some, map, sum}
 use Rattle.drive_modes.specs.Fare.{shown_fare, steps_above}
-use Rattle.meter_states.specs.Charge.{distance_charge, time_charge}
-use Rattle.meter_states.specs.Closing.{receipt_of}
-use Rattle.meter_states.specs.KeptTrip.{IsSupplementNumber}
-use Rattle.meter_states.specs.Setting.{Setting, rounding_of, unit_of}
-use Rattle.meter_states.specs.Trip.{MeterTrip, fees_of}
+use Rattle.meter_model.specs.Charge.{distance_charge, time_charge}
+use Rattle.meter_model.specs.Closing.{receipt_of}
+use Rattle.meter_model.specs.KeptTrip.{IsSupplementNumber}
+use Rattle.meter_model.specs.Setting.{Setting, rounding_of, unit_of}
+use Rattle.meter_model.specs.Trip.{MeterTrip, fees_of}
 use Rattle.drive_modes.specs.Distance.{millimetres_of}
 use Rattle.tariff_check.specs.Parts.{RateNumbers}
 use Rattle.tariff_check.specs.Amounts.{fees_in_force}
