@@ -2,7 +2,7 @@
 use Rattle.std.proofs.Common.{◌≡◌, ◌≢◌, ℕ, ◌<◌, List, [], length, Result, Ok, Err, refl, sym, ap, ◌∙◌, inl, inr, arith}
 use Rattle.std.specs.Prelude.{◌⊎◌}
 use Rattle.drive_text.specs.Ending.{StreamEnd, Whole, BadAt, Endless, IsSplit, TellsEnd, drive_end}
-use Rattle.meter_states.specs.Setting.{Setting}
+use Rattle.meter_model.specs.Setting.{Setting}
 use Rattle.seal_record.specs.Reading.{params_read}
 use Rattle.seal_record.specs.declared.params.ParamFault.{ParamFault}
 use Rattle.seal_record.specs.declared.params.Params.{Params}

@@ -19,7 +19,8 @@ use Rattle.slot_store.specs.Scan.{found_at}
 use Rattle.slot_store.proofs.Laws.{body_found}
 use Rattle.meter_store.specs.Sealing.{totals_found}
 use Rattle.seal_record.specs.declared.seal.Seal.{Seal}
-use Rattle.meter_states.specs.Setting.{IsSealOf, IsSettingOf, IsTariffOf}
+use Rattle.meter_model.specs.Setting.{IsSealOf}
+use Rattle.meter_states.specs.Setting.{IsSettingOf, IsTariffOf}
 use Rattle.tariff_compile.specs.Tables.{IsTablesOf, TableParts, tables_of}
 use Rattle.verify_bench.specs.Generated.{generated}
 use Rattle.totals_record.specs.declared.durable_state.Durable.{Durable}

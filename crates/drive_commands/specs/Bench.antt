@@ -1,7 +1,7 @@
 -- Rules: the command `bench TARIFF DRIVE READINGS`.
 use Rattle.std.specs.Prelude.{◌≡◌, ◌⊎◌, ℕ, ◌+◌, ◌≤◌, Bool, true, false, List, [], ◌++◌, length, Some, Result, Ok, Err}
 use Rattle.drive_text.specs.Ending.{StreamEnd, Whole, BadAt, Endless, IsGoing, drive_end, events_of}
-use Rattle.meter_states.specs.Setting.{Setting, setting_by}
+use Rattle.meter_model.specs.Setting.{Setting, setting_by}
 use Rattle.seal_record.specs.declared.seal.Seal.{Seal}
 use Rattle.tariff_syntax.specs.Tree.{Tree}
 use Rattle.totals_record.specs.declared.durable_state.Durable.{Durable}

@@ -1,7 +1,7 @@
 -- Rules: the command `explain TARIFF DRIVE PARAMS`.
 use Rattle.std.specs.Prelude.{◌≡◌, ◌⊎◌, ℕ, ◌+◌, ◌≤◌, ◌==◌, if◌then◌else◌, List, [], length, Some, Result, Ok, Err}
 use Rattle.drive_text.specs.Ending.{StreamEnd, Whole, BadAt, Endless, IsGoing, drive_end, events_of}
-use Rattle.meter_states.specs.Setting.{Setting, setting_by}
+use Rattle.meter_model.specs.Setting.{Setting, setting_by}
 use Rattle.seal_record.specs.Reading.{params_read}
 use Rattle.seal_record.specs.declared.params.ParamFault.{ParamFault}
 use Rattle.seal_record.specs.declared.params.Params.{Params}

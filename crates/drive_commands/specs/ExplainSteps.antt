@@ -1,7 +1,7 @@
 -- For proofs: that the command `explain` has come to what it prints. Explain says what an explanation is.
 use Rattle.std.specs.Prelude.{◌≡◌, ◌⊎◌, ◌<◌, ◌≤◌, ℕ, List, [], Ok}
 use Rattle.drive_text.specs.Ending.{Whole, drive_end}
-use Rattle.meter_states.specs.Setting.{Setting}
+use Rattle.meter_model.specs.Setting.{Setting}
 use Rattle.drive_commands.specs.Explain.{explanation_text, read_setting}
 use Rattle.drive_commands.specs.declared.explained_lines.Scale.{Scale}
 

@@ -1,7 +1,7 @@
 -- Rules: the text by which hirings are explained.
 use Rattle.std.specs.Prelude.{ℕ, ◌+◌, ◌*◌, ◌/◌, ◌==◌, if◌then◌else◌, List, [], ◌∷◌, ◌++◌, codes, decimal, flat_map}
 use Rattle.std.specs.Prelude.{Option, Some, None}
-use Rattle.meter_states.specs.Setting.{Setting, unit_of}
+use Rattle.meter_model.specs.Setting.{Setting, unit_of}
 use Rattle.drive_modes.specs.Distance.{millimetres_of}
 use Rattle.receipt_text.specs.Receipts.{calculation_text, course_text, fare_text, kind_text, supplements_text}
 use Rattle.receipt_text.specs.Receipts.{total_text}

@@ -5,7 +5,7 @@ use Rattle.drive_text.specs.Ending.{StreamEnd, Whole, BadAt, Endless, IsGoing, d
 use Rattle.tariff_syntax.specs.Tree.{Tree}
 use Rattle.meter_run.specs.Drives.{IsBoundedByDrive}
 use Rattle.meter_run.specs.Texts.{drive_shown}
-use Rattle.meter_states.specs.Setting.{Setting, under_offset}
+use Rattle.meter_model.specs.Setting.{Setting, under_offset}
 use Rattle.call_ends.specs.Answer.{Answer, shows}
 use Rattle.call_ends.specs.Course.{Command}
 use Rattle.call_ends.specs.LastLine.{bad_drive_line, endless_drive_line}

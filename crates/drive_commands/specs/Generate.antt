@@ -4,7 +4,7 @@ use Rattle.drive_modes.specs.declared.charges.Mode.TheVariants.{Single}
 use Rattle.drive_text.specs.Drive.{events_in}
 use Rattle.meter_run.specs.Deeds.{after_deeds}
 use Rattle.meter_run.specs.Runs.{run_deeds}
-use Rattle.meter_states.specs.Setting.{Setting, under_offset}
+use Rattle.meter_model.specs.Setting.{Setting, under_offset}
 use Rattle.tariff_syntax.specs.Tree.{Tree}
 use Rattle.totals_record.specs.States.{first_state}
 use Rattle.totals_record.specs.declared.durable_state.Durable.{Durable}

@@ -18,7 +18,7 @@ use Rattle.tariff_syntax.specs.Tree.{Tree}
 use Rattle.taxi_units.specs.Test.{if_some}
 use Rattle.tariff_compile.specs.Tables.{TableParts, tables_of}
 use Rattle.meter_states.specs.Fits.{fits_test}
-use Rattle.meter_states.specs.Setting.{Setting, setting_by}
+use Rattle.meter_model.specs.Setting.{Setting, setting_by}
 use Rattle.meter_run.specs.Deeds.{Deed, Prints, after_deeds, texts}
 use Rattle.meter_run.specs.Drives.{IsBoundedByDrive}
 use Rattle.meter_run.specs.Points.{IsCutOfDeeds}

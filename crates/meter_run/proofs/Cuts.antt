@@ -21,8 +21,8 @@ use Rattle.totals_record.specs.declared.durable_state.Durable.{Durable}
 use Rattle.totals_record.specs.declared.entry.Entry.{Entry}
 use Rattle.totals_record.proofs.Laws.{changes_add_up}
 use Rattle.meter_states.specs.Pairs.{ArePaired, IsReceiptOf, waiting_after}
-use Rattle.meter_states.specs.declared.act.Act.{Act}
-use Rattle.meter_states.specs.declared.act.Act.TheVariants.{Show, Refuse, Enter, Hold, Receipt}
+use Rattle.meter_model.specs.declared.act.Act.{Act}
+use Rattle.meter_model.specs.declared.act.Act.TheVariants.{Show, Refuse, Enter, Hold, Receipt}
 use Rattle.meter_run.specs.Deeds.{Deed, Does, Prints, after_deed, after_deeds, changes_of, deeds_of, deed_text, texts}
 use Rattle.meter_run.specs.Points.{IsPointOfDeeds, EndsInEntryOf, HasEntries, HasFittingState, IsCutOfDeeds, IsEntered}
 

@@ -7,11 +7,11 @@ use Rattle.taxi_units.specs.declared.receipt.Display.{Display}
 use Rattle.receipt_text.specs.Shows.{HasFields, ShowsSame}
 use Rattle.receipt_text.specs.Texts.{display_text}
 use Rattle.receipt_text.proofs.Laws.{displays_differ_by_their_fields}
-use Rattle.meter_states.specs.Display.{display_of, same_display, shown}
-use Rattle.meter_states.specs.KeptTrip.{IsTripKept}
+use Rattle.meter_model.specs.Display.{display_of, same_display, shown}
+use Rattle.meter_model.specs.KeptTrip.{IsTripKept}
 use Rattle.meter_states.specs.LastShown.{IsOfMeter}
-use Rattle.meter_states.specs.Meter.{Meter}
-use Rattle.meter_states.specs.Setting.{Setting}
+use Rattle.meter_model.specs.Meter.{Meter}
+use Rattle.meter_model.specs.Setting.{Setting}
 use Rattle.meter_states.proofs.Laws as laws
 
 -- a display with these fields

@@ -8,7 +8,7 @@ use Rattle.tariff_compile.specs.Tables.{TableParts}
 use Rattle.seal_record.specs.declared.seal.Seal.{Seal}
 use Rattle.totals_record.specs.declared.durable_state.Durable.{Durable}
 use Rattle.meter_states.specs.Acts.{IsLawfulAct}
-use Rattle.meter_states.specs.declared.act.Act.{Act}
+use Rattle.meter_model.specs.declared.act.Act.{Act}
 use Rattle.meter_run.specs.Commits.{after_act, after_acts, commits_in}
 use Rattle.meter_run.specs.Deeds.{Deed, Does, act_text, deeds_of, texts}
 use Rattle.meter_run.specs.OnStore.{Agrees, MayDo}

@@ -16,10 +16,11 @@ use Rattle.meter_states.specs.Equals.{interval_of, intervals_of}
 use Rattle.meter_states.specs.Cache.{CachedCore}
 use Rattle.meter_states.specs.Fits.{Fits}
 use Rattle.meter_states.specs.Lawful.{IsLawful}
-use Rattle.meter_states.specs.Meter.{Meter}
-use Rattle.meter_states.specs.Run.{run}
-use Rattle.meter_states.specs.Setting.{Setting, IsSettingOf}
-use Rattle.meter_states.specs.declared.act.Act.{Act}
+use Rattle.meter_model.specs.Meter.{Meter}
+use Rattle.meter_model.specs.Run.{run}
+use Rattle.meter_model.specs.Setting.{Setting}
+use Rattle.meter_states.specs.Setting.{IsSettingOf}
+use Rattle.meter_model.specs.declared.act.Act.{Act}
 use Rattle.meter_states.proofs.Laws.{the_store_keeps_the_trip-run}
 use Rattle.meter_run.specs.Deeds.{after_deeds, deeds_of, texts}
 use Rattle.meter_run.specs.Dry.{Carries, IsReady}

@@ -23,20 +23,23 @@ use Rattle.meter_store.specs.Stored.{HoldsState}
 use Rattle.totals_record.specs.declared.durable_state.Durable.{Durable}
 use Rattle.totals_record.specs.declared.trip.Trip.{Trip}
 use Rattle.meter_states.specs.Acts.{IsLawfulAct}
-use Rattle.meter_states.specs.Core.{IsSavedIn, Meets}
+use Rattle.meter_model.specs.KeptTrip.{IsSavedIn}
+use Rattle.meter_states.specs.Core.{Meets}
 use Rattle.meter_states.specs.Cache.{CachedCore}
 use Rattle.meter_states.specs.Fits.{Fits}
-use Rattle.meter_states.specs.KeptTrip as kept
+use Rattle.meter_model.specs.KeptTrip as kept
 use Rattle.meter_states.specs.Lawful.{IsLawful}
-use Rattle.meter_states.specs.Meter.{Meter, Outcome, refused}
-use Rattle.meter_states.specs.Run.{opened, run}
-use Rattle.meter_states.specs.Setting.{Setting, IsSettingOf, IsTariffOf}
-use Rattle.meter_states.specs.Step.{step}
+use Rattle.meter_model.specs.Meter.{Meter, Outcome, refused}
+use Rattle.meter_model.specs.Run.{opened, run}
+use Rattle.meter_model.specs.Setting.{Setting}
+use Rattle.meter_states.specs.Setting.{IsSettingOf, IsTariffOf}
+use Rattle.meter_model.specs.Step.{step}
 use Rattle.meter_states.specs.Stepping.{Takes}
-use Rattle.meter_states.specs.Supply.{supply_came}
-use Rattle.meter_states.specs.declared.act.Act.{Act}
-use Rattle.meter_states.specs.declared.act.Act.TheVariants.{Refuse}
-use Rattle.meter_states.proofs.Laws.{the_store_keeps_the_trip-begins, the_store_keeps_the_trip-fits}
+use Rattle.meter_model.specs.Supply.{supply_came}
+use Rattle.meter_model.specs.declared.act.Act.{Act}
+use Rattle.meter_model.specs.declared.act.Act.TheVariants.{Refuse}
+use Rattle.meter_model.proofs.Laws.{the_store_keeps_the_trip-begins}
+use Rattle.meter_states.proofs.Laws.{the_store_keeps_the_trip-fits}
 use Rattle.meter_run.specs.Commits.{after_acts}
 use Rattle.meter_run.specs.Deeds.{Deed, Does, deeds_of, texts}
 use Rattle.meter_run.specs.Dry.{IsReady}

@@ -12,9 +12,9 @@ use Rattle.tariff_compile.specs.Tables.{TableParts}
 use Rattle.taxi_units.specs.declared.receipt.Receipt as receipts
 use Rattle.totals_record.specs.States.{entries_of}
 use Rattle.totals_record.specs.declared.durable_state.Durable.{Durable}
-use Rattle.meter_states.specs.Run.{actions_of}
-use Rattle.meter_states.specs.Setting.{Setting}
-use Rattle.meter_states.specs.declared.act.Act.TheVariants.{Receipt}
+use Rattle.meter_model.specs.Run.{actions_of}
+use Rattle.meter_model.specs.Setting.{Setting}
+use Rattle.meter_model.specs.declared.act.Act.TheVariants.{Receipt}
 use Rattle.meter_states.proofs.Laws.{receipts_follow_their_entries-run}
 use Rattle.drive_text.specs.Ending.{events_of}
 use Rattle.meter_run.specs.Deeds.{Deed, Does, Prints, changes_of}

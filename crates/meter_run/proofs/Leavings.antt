@@ -20,7 +20,7 @@ use Rattle.totals_record.specs.declared.change.Change.{Change}
 use Rattle.totals_record.specs.declared.change.Change.TheVariants as changes
 use Rattle.totals_record.specs.declared.durable_state.Durable.{Durable}
 use Rattle.totals_record.specs.declared.entry.Entry.{Entry}
-use Rattle.meter_states.specs.declared.act.Act.TheVariants.{Enter, Receipt}
+use Rattle.meter_model.specs.declared.act.Act.TheVariants.{Enter, Receipt}
 use Rattle.meter_run.specs.Deeds.{Deed, Does, changes_in, changes_of}
 use Rattle.meter_run.specs.OnStore.{HasBeside, WritesTotals}
 use Rattle.meter_run.specs.Points.{HasEntries, HasEntryOf, IsCutOfDeeds, IsEntered, IsNumberedWithin}

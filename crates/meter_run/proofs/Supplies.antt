@@ -14,11 +14,12 @@ use Rattle.totals_record.specs.States.{first_state}
 use Rattle.totals_record.specs.declared.durable_state.Durable.{Durable}
 use Rattle.meter_states.specs.Core.{Meets, CoreData, Stands}
 use Rattle.meter_states.specs.Cache.{CachedCore}
-use Rattle.meter_states.specs.Meter.{Meter, Outcome}
-use Rattle.meter_states.specs.Run.{opened, run}
-use Rattle.meter_states.specs.Setting.{Setting, IsSettingOf}
-use Rattle.meter_states.specs.Step.{step, step_in}
-use Rattle.meter_states.specs.declared.act.Act.{Act}
+use Rattle.meter_model.specs.Meter.{Meter, Outcome}
+use Rattle.meter_model.specs.Run.{opened, run}
+use Rattle.meter_model.specs.Setting.{Setting}
+use Rattle.meter_states.specs.Setting.{IsSettingOf}
+use Rattle.meter_model.specs.Step.{step, step_in}
+use Rattle.meter_model.specs.declared.act.Act.{Act}
 use Rattle.meter_run.specs.Dry.{Carries, IsReady}
 use Rattle.meter_run.specs.BetweenEvents.{StandsWith}
 use Rattle.meter_run.specs.OnStore.{IsReadyOn}

@@ -23,11 +23,12 @@ use Rattle.totals_record.specs.declared.durable_state.Durable.{Durable}
 use Rattle.totals_record.proofs.Laws.{states_are_read_by_their_table}
 use Rattle.meter_states.specs.Fits.{Fits}
 use Rattle.meter_states.specs.Lawful.{IsLawful}
-use Rattle.meter_states.specs.Meter.{Meter, Outcome}
-use Rattle.meter_states.specs.Run.{actions_of, ended, ended_in, opened, run}
-use Rattle.meter_states.specs.Setting.{Setting, IsSettingOf}
-use Rattle.meter_states.specs.Step.{step_in}
-use Rattle.meter_states.specs.declared.act.Act.{Act}
+use Rattle.meter_model.specs.Meter.{Meter, Outcome}
+use Rattle.meter_model.specs.Run.{actions_of, ended, ended_in, opened, run}
+use Rattle.meter_model.specs.Setting.{Setting}
+use Rattle.meter_states.specs.Setting.{IsSettingOf}
+use Rattle.meter_model.specs.Step.{step_in}
+use Rattle.meter_model.specs.declared.act.Act.{Act}
 use Rattle.meter_states.proofs.Laws.{receipts_follow_their_entries-run, the_store_has_what_the_acts_commit-run}
 use Rattle.meter_run.specs.Deeds.{Deed, after_deeds, deeds_of, texts}
 use Rattle.meter_run.specs.OnStore.{CarriesEvents, CarriesOut, Has, HasBeside, IsReadyOn, IsSecured, Knows, StandsOn}

@@ -7,8 +7,8 @@ use Rattle.seal_record.specs.declared.seal.Seal.{Seal}
 use Rattle.totals_record.specs.declared.change.Change.{Change}
 use Rattle.totals_record.specs.declared.durable_state.Durable.{Durable}
 use Rattle.meter_states.specs.Pairs.{commits_of}
-use Rattle.meter_states.specs.declared.act.Act.{Act}
-use Rattle.meter_states.specs.declared.act.Act.TheVariants.{Show, Refuse, Enter, Hold, Receipt}
+use Rattle.meter_model.specs.declared.act.Act.{Act}
+use Rattle.meter_model.specs.declared.act.Act.TheVariants.{Show, Refuse, Enter, Hold, Receipt}
 use Rattle.meter_run.specs.Commits.{after_act}
 
 -- a deed is an act of the meter, or the print of a line

@@ -8,7 +8,8 @@ use Rattle.drive_text.specs.Ending.{StreamEnd, Whole, BadAt, Endless, IsGoing, I
 use Rattle.drive_text.specs.Ending.{stream_limit}
 use Rattle.tariff_compile.specs.Tables.{TableParts}
 use Rattle.seal_record.specs.declared.seal.Seal.{Seal}
-use Rattle.meter_states.specs.Setting.{Setting, IsSettingOf}
+use Rattle.meter_model.specs.Setting.{Setting}
+use Rattle.meter_states.specs.Setting.{IsSettingOf}
 use Rattle.meter_run.specs.Source.{EndsBy}
 use Rattle.meter_run.specs.Supply.{drop_steps}
 use Rattle.meter_run.specs.Texts.{drive_shown}

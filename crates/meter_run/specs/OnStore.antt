@@ -19,10 +19,11 @@ use Rattle.meter_states.specs.Acts.{IsLawfulAct}
 use Rattle.meter_states.specs.Cache.{CachedCore}
 use Rattle.meter_states.specs.Fits.{Fits}
 use Rattle.meter_states.specs.Lawful.{IsLawful}
-use Rattle.meter_states.specs.Meter.{Meter, Outcome}
-use Rattle.meter_states.specs.Run.{run}
-use Rattle.meter_states.specs.Setting.{Setting, IsSettingOf}
-use Rattle.meter_states.specs.declared.act.Act.{Act}
+use Rattle.meter_model.specs.Meter.{Meter, Outcome}
+use Rattle.meter_model.specs.Run.{run}
+use Rattle.meter_model.specs.Setting.{Setting}
+use Rattle.meter_states.specs.Setting.{IsSettingOf}
+use Rattle.meter_model.specs.declared.act.Act.{Act}
 use Rattle.meter_run.specs.Deeds.{deeds_of, texts}
 use Rattle.meter_run.specs.Dry.{IsReady}
 use Rattle.meter_run.specs.BetweenEvents.{StandsWith}

@@ -16,7 +16,7 @@ use Rattle.totals_record.specs.Reading.{reads}
 use Rattle.meter_store.specs.Stored.{HasState, HoldsState, state_number_of}
 use Rattle.totals_record.specs.declared.durable_state.Durable.{Durable}
 use Rattle.meter_states.specs.Fits.{Fits}
-use Rattle.meter_states.specs.declared.act.Act.{Act}
+use Rattle.meter_model.specs.declared.act.Act.{Act}
 use Rattle.meter_run.specs.Deeds.{Deed, Does, after_deed, after_deeds, deeds_of, deed_text, texts}
 use Rattle.meter_run.specs.Points.{IsPointOfDeeds, GoesBy}
 

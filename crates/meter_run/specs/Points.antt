@@ -15,7 +15,7 @@ use Rattle.totals_record.specs.declared.durable_state.Durable.{Durable}
 use Rattle.totals_record.specs.declared.entry.Entry.{Entry}
 use Rattle.meter_states.specs.Fits.{Fits}
 use Rattle.meter_states.specs.Pairs.{IsReceiptOf}
-use Rattle.meter_states.specs.declared.act.Act.TheVariants.{Enter, Receipt}
+use Rattle.meter_model.specs.declared.act.Act.TheVariants.{Enter, Receipt}
 use Rattle.meter_run.specs.Deeds.{Deed, Does, changes_of, texts}
 pub use Rattle.meter_run.specs.DeedPoints.{HasFittingState, IsPointOfDeeds, GoesBy}
 

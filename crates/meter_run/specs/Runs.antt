@@ -12,8 +12,9 @@ use Rattle.meter_store.specs.Stored.{HoldsState}
 use Rattle.totals_record.specs.Sums.{GrowsBy}
 use Rattle.totals_record.specs.declared.durable_state.Durable.{Durable}
 use Rattle.meter_states.specs.Fits.{Fits}
-use Rattle.meter_states.specs.Run.{actions_of}
-use Rattle.meter_states.specs.Setting.{Setting, IsSettingOf}
+use Rattle.meter_model.specs.Run.{actions_of}
+use Rattle.meter_model.specs.Setting.{Setting}
+use Rattle.meter_states.specs.Setting.{IsSettingOf}
 use Rattle.meter_run.specs.Deeds.{Deed, after_deeds, changes_of, deeds_of, texts}
 use Rattle.meter_run.specs.OnStore.{HasBeside}
 use Rattle.meter_run.specs.Points.{IsCutOfDeeds}

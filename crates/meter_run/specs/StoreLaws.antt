@@ -12,9 +12,9 @@ use Rattle.tariff_compile.specs.Tables.{TableParts}
 use Rattle.taxi_units.specs.declared.event.Event.{Event}
 use Rattle.meter_store.specs.Stored.{HoldsState}
 use Rattle.totals_record.specs.declared.durable_state.Durable.{Durable}
-use Rattle.meter_states.specs.Meter.{Meter}
-use Rattle.meter_states.specs.Run.{run}
-use Rattle.meter_states.specs.Setting.{Setting}
+use Rattle.meter_model.specs.Meter.{Meter}
+use Rattle.meter_model.specs.Run.{run}
+use Rattle.meter_model.specs.Setting.{Setting}
 use Rattle.meter_run.specs.Deeds.{Deed, deeds_of, texts}
 use Rattle.meter_run.specs.OnStore.{CarriesOut, Has, HasBeside, StandsOn, StopsAmid, WritesTotals}
 use Rattle.meter_run.specs.PointLaws.{deeds_joined, keeps_longer, keeps_next, keeps_still, text_next}

@@ -6,7 +6,7 @@ use Rattle.seal_record.specs.declared.seal.Seal.{Seal}
 use Rattle.tariff_compile.specs.Tables.{TableParts}
 use Rattle.taxi_units.specs.declared.event.Event.{Event}
 use Rattle.meter_states.specs.Core.{CoreData}
-use Rattle.meter_states.specs.Run.{run}
+use Rattle.meter_model.specs.Run.{run}
 use Rattle.meter_run.specs.OnStore.{CarriesEvents, StopsAmid}
 use Rattle.meter_run.specs.StoreLaws.{amid_later, out_none, out_then}
 use Rattle.meter_run.specs.Supply.{StaysOff, is_supplied, is_supplied_after}

@@ -4,7 +4,7 @@ ghost use Rattle.outside.specs.Faults.{HasCause};
 ghost use Rattle.drive_text.specs.Runs.{intervals_events};
 ghost use Rattle.meter_states.specs.Lawful.{IsTimely};
 
-use meter_states::Acts;
+use meter_model::Acts;
 use outside::{Board, Failed, STORE_SIZE};
 use seal_record::Seal;
 use std::sync::ledger::Ledger;

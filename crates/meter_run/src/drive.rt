@@ -12,7 +12,7 @@ use crate::runs::carry_runs;
 use crate::source::{Source, Stop};
 use arrayvec::ArrayVec;
 use drive_text::Run;
-use meter_states::Acts;
+use meter_model::Acts;
 use outside::{Board, Failed, Files, STORE_SIZE};
 use std::sync::ledger::Ledger;
 use taxi_units::Steps;

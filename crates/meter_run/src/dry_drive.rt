@@ -3,7 +3,7 @@ ghost use Rattle.std.specs.Prelude.{◌≡◌, ◌⊎◌, ℕ, ◌+◌, ◌≤�
 ghost use Rattle.outside.specs.Reading.{LeavesOthers};
 ghost use Rattle.outside.specs.Runs.{KeepsStore};
 ghost use Rattle.outside.specs.Faults.{HasCause, MayRise, RisesOnlyIf, Rose};
-ghost use Rattle.meter_states.specs.Run.{ended};
+ghost use Rattle.meter_model.specs.Run.{ended};
 ghost use Rattle.taxi_units.specs.declared.event.Operating.TheVariants.{Off};
 ghost use Rattle.meter_run.specs.Drives.{IsBoundedByDrive, RunsDrive, answer_of};
 ghost use Rattle.meter_run.specs.Dry.{IsReady, Prints, PrintsSome};
@@ -14,7 +14,7 @@ use crate::dry::DryMeter;
 use crate::fault::RunFault;
 use crate::source::Stop;
 use crate::supply::is_off;
-use meter_states::Acts;
+use meter_model::Acts;
 use outside::{Board, Failed, Files, STORE_SIZE};
 use seal_record::Seal;
 use std::sync::ledger::Ledger;

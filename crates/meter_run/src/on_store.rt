@@ -1,7 +1,7 @@
 //! The meter on a store carries out events.
 ghost use Rattle.std.specs.Prelude.{◌≡◌, ◌≢◌, ℕ, ◌+◌, ◌≤◌, [], ◌∷◌};
 ghost use Rattle.meter_states.specs.Lawful.{IsTimely};
-ghost use Rattle.meter_states.specs.Step.{step};
+ghost use Rattle.meter_model.specs.Step.{step};
 ghost use Rattle.taxi_units.specs.Time.{IsSecond};
 ghost use Rattle.taxi_units.specs.declared.event.Event.TheVariants.{Up};
 ghost use Rattle.taxi_units.specs.declared.event.Operating.TheVariants.{Off};
@@ -15,7 +15,8 @@ use crate::reading::read_store;
 use crate::stored::{Known, StoreMeter};
 use crate::storing::do_acts;
 use crate::supply::supply_at;
-use meter_states::{Acts, Core};
+use meter_model::Acts;
+use meter_states::Core;
 use outside::{Board, Failed, STORE_SIZE};
 use seal_record::Seal;
 use std::sync::ledger::Ledger;
@@ -114,7 +115,7 @@ impl StoreMeter {
 }
 
 impl<B: Board<STORE_SIZE, L>, L: Ledger> Carrier<B, L> for StoreMeter {
-    ghost use Rattle.meter_states.specs.Run.{run};
+    ghost use Rattle.meter_model.specs.Run.{run};
     ghost use Rattle.meter_run.specs.OnStore.{CarriesEvents, IsReadyOn, StopsAmid};
     ghost use Rattle.meter_run.specs.StoreLaws.{amid_sooner};
     ghost use Rattle.meter_run.specs.SupplyLaws.{carried_later, carried_none, carried_then};

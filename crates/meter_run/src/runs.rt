@@ -8,7 +8,7 @@ ghost use Rattle.meter_run.specs.Drives.{IsBounded};
 
 use crate::carrier::{Carrier, SealedTables};
 use drive_text::Run;
-use meter_states::Acts;
+use meter_model::Acts;
 use outside::{Board, Failed, STORE_SIZE};
 use std::sync::ledger::Ledger;
 use taxi_units::{Event, Steps};

@@ -3,7 +3,7 @@ ghost use Rattle.std.specs.Prelude.{◌≡◌, ◌⊎◌, ℕ, ◌+◌, ◌≤�
 ghost use Rattle.outside.specs.Reading.{LeavesOthers};
 ghost use Rattle.drive_text.specs.Ending.{Whole, drive_end};
 ghost use Rattle.outside.specs.Faults.{HasCause, MayRise, RisesOnlyIf, Rose};
-ghost use Rattle.meter_states.specs.Run.{ended};
+ghost use Rattle.meter_model.specs.Run.{ended};
 ghost use Rattle.seal_record.specs.Ranges.{IsSeal};
 ghost use Rattle.taxi_units.specs.declared.event.Operating.TheVariants.{Off};
 ghost use Rattle.meter_run.specs.Drives.{IsBoundedByDrive};
@@ -16,7 +16,7 @@ use crate::dry_drive::answer;
 use crate::fault::RunFault;
 use crate::stored::StoreMeter;
 use crate::supply::is_off;
-use meter_states::Acts;
+use meter_model::Acts;
 use outside::{Board, Failed, Files, STORE_SIZE};
 use seal_record::Seal;
 use std::sync::ledger::Ledger;

@@ -15,7 +15,7 @@ ghost use Rattle.meter_run.specs.Points.{GoesBy};
 
 use crate::printing::{print_display, print_receipt, print_refusal};
 use crate::stored::Known;
-use meter_states::Act;
+use meter_model::Act;
 use meter_store::commit;
 use outside::{Board, Failed, STORE_SIZE};
 use seal_record::Seal;

@@ -7,14 +7,14 @@ use Rattle.taxi_units.specs.declared.event.Operating.{Operating}
 use Rattle.taxi_units.specs.declared.event.Operating.TheVariants.{ForHire}
 use Rattle.taxi_units.specs.declared.receipt.Display.{Display}
 use Rattle.meter_states.specs.Core.{CoreData, ComesToOutcome, core_of}
-use Rattle.meter_states.specs.Display.{display_of, extras_shown, fare_shown, is_shown, same_display, shown}
+use Rattle.meter_model.specs.Display.{display_of, extras_shown, fare_shown, is_shown, same_display, shown}
 use Rattle.meter_states.specs.Equals.{display_by}
-use Rattle.meter_states.specs.KeptTrip.{IsTripKept, IsTripKeptIn}
-use Rattle.meter_states.specs.Meter.{Meter}
-use Rattle.meter_states.specs.Setting.{Setting}
-use Rattle.meter_states.specs.Trip.{MeterTrip}
-use Rattle.meter_states.specs.declared.act.Act.{Act}
-use Rattle.meter_states.specs.declared.act.Act.TheVariants.{Show}
+use Rattle.meter_model.specs.KeptTrip.{IsTripKept, IsTripKeptIn}
+use Rattle.meter_model.specs.Meter.{Meter}
+use Rattle.meter_model.specs.Setting.{Setting}
+use Rattle.meter_model.specs.Trip.{MeterTrip}
+use Rattle.meter_model.specs.declared.act.Act.{Act}
+use Rattle.meter_model.specs.declared.act.Act.TheVariants.{Show}
 use Rattle.meter_states.proofs.Quiet.{same-self}
 
 equal-same : (a b : Display) → same_display a b ≡ true → a ≡ b

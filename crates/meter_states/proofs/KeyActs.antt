@@ -1,6 +1,5 @@
 -- What accepted keys do, key by key.
-use Rattle.std.proofs.Common.{◌≡◌, ◌⊎◌, inl, inr, ◌<◌, ◌≤◌, ℕ, [], Some, None, sum, refl}
-use Rattle.std.proofs.Common.{arith}
+use Rattle.std.proofs.Common.{◌≡◌, ◌⊎◌, inl, inr, ◌<◌, ◌≤◌, ℕ, [], Some, None, sum, refl, arith}
 use Rattle.std.proofs.lemmas.Grind.{common_steps}
 use Rattle.tariff_check.specs.Amounts.{fees_in_force}
 use Rattle.tariff_check.specs.SoundTariff.{supplement_numbered}
@@ -12,15 +11,15 @@ use Rattle.taxi_units.specs.declared.event.Operating.{Operating}
 use Rattle.taxi_units.specs.declared.event.Operating.TheVariants.{Off, ForHire, Hired, Stopped}
 use Rattle.taxi_units.specs.declared.event.Why.TheVariants.{NotNow}
 use Rattle.taxi_units.specs.declared.receipt.Kind.TheVariants.{Closed}
-use Rattle.meter_states.specs.Closing.{closed}
-use Rattle.meter_states.specs.Interval.{context_now}
+use Rattle.meter_model.specs.Closing.{closed}
+use Rattle.meter_model.specs.Interval.{context_now}
 use Rattle.meter_states.specs.KeyTable.{MayAct}
-use Rattle.meter_states.specs.Keys.{act_of, latch_pressed}
-use Rattle.meter_states.specs.Meter.{Meter, quiet, refused}
-use Rattle.meter_states.specs.Setting.{Setting}
-use Rattle.meter_states.specs.Supplements.{times}
-use Rattle.meter_states.specs.Trip.{MeterTrip, begun, with_extra}
-use Rattle.meter_states.specs.declared.keys.KeyAct.TheVariants as key_acts
+use Rattle.meter_model.specs.Keys.{act_of, latch_pressed}
+use Rattle.meter_model.specs.Meter.{Meter, quiet, refused}
+use Rattle.meter_model.specs.Setting.{Setting}
+use Rattle.meter_model.specs.Supplements.{times}
+use Rattle.meter_model.specs.Trip.{MeterTrip, begun, with_extra}
+use Rattle.meter_model.specs.declared.key_act.KeyAct.TheVariants as key_acts
 
 pub hires : (s : Setting) (m : Meter) → m.operating ≡ ForHire → m.durable.number < hirings_end
     → latch_pressed s (Some keys.Hire) m ≡ quiet (record m {

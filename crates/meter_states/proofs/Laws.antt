@@ -7,20 +7,20 @@ use Rattle.taxi_units.specs.declared.receipt.Display.{Display}
 use Rattle.totals_record.specs.States.{after_all}
 use Rattle.totals_record.specs.declared.durable_state.Durable.{Durable}
 use Rattle.totals_record.specs.declared.trip.Trip.{Trip}
-use Rattle.meter_states.specs.Display.{display_of, same_display, shown}
+use Rattle.meter_model.specs.Display.{display_of, same_display, shown}
 use Rattle.meter_states.specs.Fits.{Fits}
-use Rattle.meter_states.specs.KeptTrip.{FitsSetting, HoldFits, IsTripKept}
-use Rattle.meter_states.specs.Meter.{Meter}
+use Rattle.meter_model.specs.KeptTrip.{FitsSetting, IsTripKept}
+use Rattle.meter_model.specs.Meter.{Meter}
 use Rattle.meter_states.specs.Pairs.{ArePaired, commits_of}
-use Rattle.meter_states.specs.Run.{actions_of, opened, run, run_both, whole_run}
-use Rattle.meter_states.specs.Setting.{Setting, IsTariffOf}
-use Rattle.meter_states.specs.Step.{step}
+use Rattle.meter_model.specs.Run.{actions_of, run, run_both, whole_run}
+use Rattle.meter_model.specs.Setting.{Setting}
+use Rattle.meter_states.specs.Setting.{IsTariffOf}
+use Rattle.meter_model.specs.Step.{step}
 use Rattle.meter_states.proofs.Displays.{hire-shows, same-equal, shows-none}
 use Rattle.meter_states.proofs.HeldFits.{fits-setting}
-use Rattle.meter_states.proofs.KeptTrips.{kept-step}
-use Rattle.meter_states.proofs.Resumed.{begins}
-use Rattle.meter_states.proofs.Runs.{kept-run, run-append}
+use Rattle.meter_model.proofs.Laws.{kept-run, run-append}
 use Rattle.meter_states.proofs.Stages.{commits-step, commits-whole}
+pub use Rattle.meter_model.proofs.Laws.{the_store_keeps_the_trip-begins, the_store_keeps_the_trip-step}
 
 pub displays_are_compared_by_their_fields-same : (a b : Display) → (same_display a b ≡ true) ↔ (a ≡ b)
 displays_are_compared_by_their_fields-same = same-equal
@@ -48,14 +48,6 @@ the_store_has_what_the_acts_commit-run s durable events = (commits-whole s durab
 pub runs_add_up : (s : Setting) (first second : List Event) (m : Meter)
     → run s (first ++ second) m ≡ run_both s first second m
 runs_add_up = run-append
-
-pub the_store_keeps_the_trip-begins : (s : Setting) (durable : Durable) → HoldFits s durable.hold
-    → IsTripKept s (opened s durable)
-the_store_keeps_the_trip-begins s durable fits = begins s durable.hold fits
-
-pub the_store_keeps_the_trip-step : (s : Setting) (event : Event) (m : Meter) → IsTripKept s m
-    → IsTripKept s (step s event m).next
-the_store_keeps_the_trip-step = kept-step
 
 pub the_store_keeps_the_trip-run : (s : Setting) (events : List Event) (m : Meter) → IsTripKept s m
     → IsTripKept s (run s events m).next

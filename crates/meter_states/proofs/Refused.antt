@@ -5,12 +5,12 @@ use Rattle.taxi_units.specs.declared.event.Event.{Event}
 use Rattle.taxi_units.specs.declared.event.Event.TheVariants.{Tick}
 use Rattle.taxi_units.specs.declared.event.Key.{Key}
 use Rattle.taxi_units.specs.declared.event.Why.{Why}
-use Rattle.meter_states.specs.Keys.{latch_pressed}
-use Rattle.meter_states.specs.Meter.{Meter}
+use Rattle.meter_model.specs.Keys.{latch_pressed}
+use Rattle.meter_model.specs.Meter.{Meter}
 use Rattle.meter_states.specs.Refusals.{IsTooFast}
-use Rattle.meter_states.specs.Setting.{Setting}
-use Rattle.meter_states.specs.Step.{step}
-use Rattle.meter_states.specs.declared.act.Act.TheVariants.{Refuse}
+use Rattle.meter_model.specs.Setting.{Setting}
+use Rattle.meter_model.specs.Step.{step}
+use Rattle.meter_model.specs.declared.act.Act.TheVariants.{Refuse}
 
 pub refused-event : (s : Setting) (event : Event) (m : Meter) (why : Why) → event ≢ Tick → (IsTooFast why → ⊥)
     → (step s event m).acts ≡ Refuse why ∷ [] → (step s event m).next ≡ m

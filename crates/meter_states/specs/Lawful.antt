@@ -11,9 +11,10 @@ use Rattle.taxi_units.specs.declared.event.Operating.TheVariants.{Off, ForHire, 
 use Rattle.seal_record.specs.declared.seal.Seal.{Seal}
 use Rattle.meter_states.specs.Core.{CoreData}
 use Rattle.meter_states.specs.Cache.{IsCacheOf, CachedCore}
-use Rattle.meter_states.specs.Supplements.{AreAllowed, amounts_from, supplement_in}
-use Rattle.meter_states.specs.declared.trip.CoreTrip.{CoreTrip}
-use Rattle.meter_states.specs.declared.trip.Fees.{Fees}
+use Rattle.meter_model.specs.Supplements.{AreAllowed, amounts_from}
+use Rattle.meter_states.specs.Supplements.{supplement_in}
+use Rattle.meter_model.specs.declared.core_trip.CoreTrip.{CoreTrip}
+use Rattle.meter_model.specs.declared.core_trip.Fees.{Fees}
 use Rattle.taxi_units.specs.Limits.{hirings_end, last_number, number_most, roaming_amid, roaming_between}
 
 -- an event is timely where its second, if it has one, is of the years 2000 to 2199

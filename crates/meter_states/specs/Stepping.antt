@@ -11,10 +11,11 @@ use Rattle.meter_states.specs.Acts.{IsLawfulAct, KeepsRanges}
 use Rattle.meter_states.specs.Cache.{CachedCore}
 use Rattle.meter_states.specs.Core.{Meets, Stands}
 use Rattle.meter_states.specs.Lawful.{IsLawful, IsTimely}
-use Rattle.meter_states.specs.Meter.{Meter}
-use Rattle.meter_states.specs.Setting.{Setting, IsSettingOf}
-use Rattle.meter_states.specs.Step.{step}
-use Rattle.meter_states.specs.declared.act.Act.{Act}
+use Rattle.meter_model.specs.Meter.{Meter}
+use Rattle.meter_model.specs.Setting.{Setting}
+use Rattle.meter_states.specs.Setting.{IsSettingOf}
+use Rattle.meter_model.specs.Step.{step}
+use Rattle.meter_model.specs.declared.act.Act.{Act}
 
 -- a core may take an event under tables and a seal if it is lawful, the tables were compiled with the seal's constant,
 -- the event is timely, and it isn't an `Up` while the core is off, which is for `Core::resume`

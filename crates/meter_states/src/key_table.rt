@@ -9,14 +9,14 @@ ghost use Rattle.taxi_units.specs.declared.event.Key.TheVariants as keys;
 ghost use Rattle.taxi_units.specs.declared.event.Operating.TheVariants.{ForHire, Hired, Stopped};
 ghost use Rattle.taxi_units.specs.declared.event.Why.TheVariants.{NotNow};
 ghost use Rattle.taxi_units.specs.declared.receipt.Kind.TheVariants.{Closed};
-ghost use Rattle.meter_states.specs.Closing.{closed};
-ghost use Rattle.meter_states.specs.Interval.{context_now};
+ghost use Rattle.meter_model.specs.Closing.{closed};
+ghost use Rattle.meter_model.specs.Interval.{context_now};
 ghost use Rattle.meter_states.specs.KeyTable.{MayAct};
-ghost use Rattle.meter_states.specs.Keys.{latch_pressed};
-ghost use Rattle.meter_states.specs.Meter.{Meter, quiet, refused};
-ghost use Rattle.meter_states.specs.Setting.{Setting};
-ghost use Rattle.meter_states.specs.Supplements.{times};
-ghost use Rattle.meter_states.specs.Trip.{MeterTrip, begun, with_extra};
+ghost use Rattle.meter_model.specs.Keys.{latch_pressed};
+ghost use Rattle.meter_model.specs.Meter.{Meter, quiet, refused};
+ghost use Rattle.meter_model.specs.Setting.{Setting};
+ghost use Rattle.meter_model.specs.Supplements.{times};
+ghost use Rattle.meter_model.specs.Trip.{MeterTrip, begun, with_extra};
 
 /// The law of accepted keys: what a key that waited comes to as it acts. In For Hire the key Hire begins a trip at the
 /// clock's second, with the fees in force there, which takes the roaming pulses; Stop takes the trip from Hired to

@@ -3,7 +3,6 @@
 //! states keep each interval of a trip, and an interval is charged by the rate that the tariff's text names.
 #![tactic(auto)]
 
-mod act;
 mod act_ranges;
 mod cache;
 mod closing;
@@ -26,21 +25,18 @@ mod pairs;
 mod power_up;
 mod records;
 mod refusals;
+mod refusing;
 mod shown;
 mod stepping;
 mod supply_drop;
 mod tick;
 mod trip;
 
-pub use act::{Act, Acts};
 pub use act_ranges::lawful_acts_keep_the_ranges;
 pub use core_state::Core;
 pub use fitting::fits;
-pub use keeping::{
-    fares_depend_on_the_intervals_in_hired, resumed_trips_go_on, the_store_keeps_the_trip,
-};
+pub use keeping::the_store_keeps_the_trip;
 pub use key_table::accepted_keys_act;
-pub use keys::KeyAct;
 pub use pairs::{receipts_follow_their_entries, runs_add_up, the_store_has_what_the_acts_commit};
 pub use refusals::{
     keys_act_after_their_interval, keys_are_refused_at_an_expiry,

@@ -1,7 +1,7 @@
 -- A drive that comes to an interval in a context of a meter.
 use Rattle.std.proofs.Common.{◌≡◌, ℕ, zero, suc, ◌+◌, ◌*◌, ◌/◌, ◌%◌, ◌<◌, ◌≤◌, min, Bool, true, false, ◌&&◌, nat_le}
-use Rattle.std.proofs.Common.{nat_lt, ℤ, pos, ◌+ℤ◌, unsigned_abs, List, [], ◌∷◌, ◌++◌, replicate, sum, Option}
-use Rattle.std.proofs.Common.{Some, None, if◌then◌else◌, refl, ap, sym, subst, ◌∙◌, arith}
+use Rattle.std.proofs.Common.{nat_lt, ℤ, pos, ◌+ℤ◌, unsigned_abs, List, [], ◌∷◌, ◌++◌, replicate, sum, Option, Some}
+use Rattle.std.proofs.Common.{None, if◌then◌else◌, refl, ap, sym, subst, ◌∙◌, arith}
 use Rattle.std.proofs.Math.Nat.{div-add-mod}
 use Rattle.std.proofs.lemmas.Grind.{common_steps}
 use Rattle.drive_text.proofs.Laws.{written_drive_ends, written_drive_means}
@@ -34,17 +34,17 @@ use Rattle.tariff_check.specs.declared.values.Initial.{Initial}
 use Rattle.tariff_syntax.specs.Tree.{Tree}
 use Rattle.tariff_syntax.specs.Writable.{IsFromTo, IsWritable}
 use Rattle.tariff_syntax.specs.declared.context.Context.{Context}
-use Rattle.meter_states.specs.Closing.{closed, roaming_checked}
-use Rattle.meter_states.specs.Display.{display_of, shown}
-use Rattle.meter_states.specs.Interval.{context_now, context_of, interval_begun}
-use Rattle.meter_states.specs.Keys.{is_among, key_pressed}
-use Rattle.meter_states.specs.Meter.{Meter, Outcome, ◌>>=◌, held, quiet, refused}
-use Rattle.meter_states.specs.Run.{opened, run}
-use Rattle.meter_states.specs.Setting.{Setting, under_offset, unit_of}
-use Rattle.meter_states.specs.Step.{expired, step}
-use Rattle.meter_states.specs.Supply.{aborted, hold_taken, is_within_hold, powered, resumed, turned_off}
-use Rattle.meter_states.specs.Trip.{InHired, Part, Rest, MeterTrip, begun, held_trip, pulses_in, pulses_of, ticks_in}
-use Rattle.meter_states.specs.Trip.{fees_of, ticks_of, with_part}
+use Rattle.meter_model.specs.Closing.{closed, roaming_checked}
+use Rattle.meter_model.specs.Display.{display_of, shown}
+use Rattle.meter_model.specs.Interval.{context_now, context_of, interval_begun}
+use Rattle.meter_model.specs.Keys.{is_among, key_pressed}
+use Rattle.meter_model.specs.Meter.{Meter, Outcome, ◌>>=◌, held, quiet, refused}
+use Rattle.meter_model.specs.Run.{opened, run}
+use Rattle.meter_model.specs.Setting.{Setting, under_offset, unit_of}
+use Rattle.meter_model.specs.Step.{expired, step}
+use Rattle.meter_model.specs.Supply.{aborted, hold_taken, is_within_hold, powered, resumed, turned_off}
+use Rattle.meter_model.specs.Trip.{InHired, Part, Rest, MeterTrip, begun, held_trip, pulses_in, pulses_of, ticks_in}
+use Rattle.meter_model.specs.Trip.{fees_of, ticks_of, with_part}
 use Rattle.meter_states.proofs.Laws.{runs_add_up}
 use Rattle.same_tariffs.specs.Contexts.{without_trip}
 use Rattle.same_tariffs.specs.Drives.{BeginsIn, IsReached, WasHiredIn, drop, drops, events_to, hire, meter_after}

@@ -13,11 +13,11 @@ use Rattle.tariff_compare.specs.Contexts.{context_at}
 use Rattle.tariff_compare.specs.declared.meter_context.MeterContext.{MeterContext}
 use Rattle.tariff_check.specs.Amounts.{initial_by}
 use Rattle.tariff_syntax.specs.Tree.{Tree}
-use Rattle.meter_states.specs.Interval.{context_of}
-use Rattle.meter_states.specs.Meter.{Meter}
-use Rattle.meter_states.specs.Run.{opened, run}
-use Rattle.meter_states.specs.Setting.{Setting, under_offset, unit_of}
-use Rattle.meter_states.specs.Trip.{MeterTrip, fees_of}
+use Rattle.meter_model.specs.Interval.{context_of}
+use Rattle.meter_model.specs.Meter.{Meter}
+use Rattle.meter_model.specs.Run.{opened, run}
+use Rattle.meter_model.specs.Setting.{Setting, under_offset, unit_of}
+use Rattle.meter_model.specs.Trip.{MeterTrip, fees_of}
 use Rattle.same_tariffs.specs.Contexts.{without_trip}
 use Rattle.totals_record.specs.States.{first_state}
 

@@ -6,10 +6,10 @@ use Rattle.std.proofs.lemmas.List.{append-nil}
 use Rattle.std.proofs.Math.Seq.{drop-cons}
 use Rattle.drive_text.specs.Runs.{interval_events, intervals_events, run_events}
 use Rattle.drive_text.specs.declared.run.Run.{Run}
-use Rattle.meter_states.specs.Interval.{context_now}
-use Rattle.meter_states.specs.Run.{ended, opened}
-use Rattle.meter_states.specs.Setting.{Setting}
-use Rattle.meter_states.specs.Step.{step}
+use Rattle.meter_model.specs.Interval.{context_now}
+use Rattle.meter_model.specs.Run.{ended, opened}
+use Rattle.meter_model.specs.Setting.{Setting}
+use Rattle.meter_model.specs.Step.{step}
 use Rattle.taxi_units.specs.declared.event.Event.{Event}
 use Rattle.taxi_units.specs.declared.event.Event.TheVariants.{Down, Pulses, Tick}
 use Rattle.tariff_syntax.specs.declared.context.Context.{Context}

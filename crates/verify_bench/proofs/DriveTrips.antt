@@ -4,14 +4,14 @@ use Rattle.std.proofs.Common.{◌≡◌, ℕ, ◌∙◌, List, [], ◌∷◌, �
 use Rattle.std.proofs.Common.{append_assoc, option_map}
 use Rattle.std.proofs.lemmas.List.{append-nil}
 use Rattle.std.proofs.lemmas.List.Elements.{All-append, All-cons, All-nil}
-use Rattle.meter_states.proofs.Laws as states
-use Rattle.meter_states.specs.Interval.{context_now, context_of, counted_in, interval_counted, left_in, with_interval}
-use Rattle.meter_states.specs.KeptTrip.{IsSupplementNumber, IsTripKept, with_parts}
-use Rattle.meter_states.specs.Meter.{Meter}
-use Rattle.meter_states.specs.Run.{ended, ended_in, opened, run}
-use Rattle.meter_states.specs.Setting.{Setting}
-use Rattle.meter_states.specs.Step.{step, step_in}
-use Rattle.meter_states.specs.Trip.{InHired, InStopped, Part, Rest, MeterTrip, with_extra}
+use Rattle.meter_model.proofs.Laws as states
+use Rattle.meter_model.specs.Interval.{context_now, context_of, counted_in, interval_counted, left_in, with_interval}
+use Rattle.meter_model.specs.KeptTrip.{IsSupplementNumber, IsTripKept, with_parts}
+use Rattle.meter_model.specs.Meter.{Meter}
+use Rattle.meter_model.specs.Run.{ended, ended_in, opened, run}
+use Rattle.meter_model.specs.Setting.{Setting}
+use Rattle.meter_model.specs.Step.{step, step_in}
+use Rattle.meter_model.specs.Trip.{InHired, InStopped, Part, Rest, MeterTrip, with_extra}
 use Rattle.tariff_syntax.specs.declared.context.Context.{Context}
 use Rattle.taxi_units.specs.declared.event.Event.{Event}
 use Rattle.taxi_units.specs.declared.event.Event.TheVariants as events

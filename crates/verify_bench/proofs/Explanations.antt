@@ -3,26 +3,26 @@ use Rattle.std.proofs.Common.{◌≡◌, ℕ, ◌+◌, ◌-◌, ◌∙◌, List,
 use Rattle.std.proofs.Common.{false, Bool, Option, Some, None, append_assoc}
 use Rattle.std.specs.Prelude.{nat_le, nat_lt, if◌then◌else◌}
 use Rattle.std.proofs.lemmas.List.{map-append}
-use Rattle.std.proofs.lemmas.List.Elements.{filter_map-append}
-use Rattle.meter_states.proofs.Laws as states
-use Rattle.meter_states.specs.Closing.{closed, receipt_of, roaming_checked, roaming_checked_in, roaming_entered}
-use Rattle.meter_states.specs.Closing.{trip_closed}
-use Rattle.meter_states.specs.Display.{display_of, is_shown, shown}
-use Rattle.meter_states.specs.Interval.{context_now, counted_in, interval_begun, interval_counted}
-use Rattle.meter_states.specs.Interval.{interval_left, left_in, pulses_taken, room_of, ticks_so_far}
-use Rattle.meter_states.specs.KeptTrip.{IsTripKept, IsTripKeptIn, IsSupplementNumber}
-use Rattle.meter_states.specs.Keys.{extra_added, extra_added_to, hired, hiring, is_among, key_in, key_pressed}
-use Rattle.meter_states.specs.Keys.{latch_pressed, latched, position_set, zone_set}
-use Rattle.meter_states.specs.Meter.{Meter, Outcome, ◌>>=◌, quiet}
-use Rattle.meter_states.specs.Run.{actions_of, ended, opened, run}
-use Rattle.meter_states.specs.Setting.{Setting}
-use Rattle.meter_states.specs.Step.{clock_read, expired, expired_or_pressed, latch_refused, off_step, powered_step}
-use Rattle.meter_states.specs.Step.{step, step_in, ticked}
-use Rattle.meter_states.specs.Supplements.{times}
-use Rattle.meter_states.specs.Supply.{aborted, hold_taken, is_within_hold, held_or_closed, powered, resumed}
-use Rattle.meter_states.specs.Supply.{supply_came, supply_dropped, turned_off}
-use Rattle.meter_states.specs.Trip.{MeterTrip, begun, with_extra}
-use Rattle.meter_states.specs.declared.act.Act.TheVariants.{Show, Refuse}
+use Rattle.meter_model.proofs.Laws as states
+use Rattle.meter_model.specs.Closing.{closed, receipt_of, roaming_checked, roaming_checked_in, roaming_entered}
+use Rattle.meter_model.specs.Closing.{trip_closed}
+use Rattle.meter_model.specs.Display.{display_of, is_shown, shown}
+use Rattle.meter_model.specs.Interval.{context_now, counted_in, interval_begun, interval_counted, interval_left}
+use Rattle.meter_model.specs.Interval.{left_in, pulses_taken, room_of, ticks_so_far, context_of, with_interval}
+use Rattle.meter_model.specs.KeptTrip.{IsTripKept, IsTripKeptIn, IsSupplementNumber}
+use Rattle.meter_model.specs.Keys.{extra_added, extra_added_to, hired, hiring, is_among, key_in, key_pressed}
+use Rattle.meter_model.specs.Keys.{latch_pressed, latched, position_set, zone_set}
+use Rattle.meter_model.specs.Meter.{Meter, Outcome, ◌>>=◌, quiet}
+use Rattle.meter_model.specs.Run.{actions_of, ended, opened, run, ended_in}
+use Rattle.meter_model.specs.Setting.{Setting}
+use Rattle.meter_model.specs.Step.{clock_read, expired, expired_or_pressed, latch_refused, off_step, powered_step}
+use Rattle.meter_model.specs.Step.{step, step_in, ticked}
+use Rattle.meter_model.specs.Supplements.{times}
+use Rattle.meter_model.specs.Supply.{aborted, hold_taken, is_within_hold, held_or_closed, powered, resumed}
+use Rattle.meter_model.specs.Supply.{supply_came, supply_dropped, turned_off}
+use Rattle.meter_model.specs.Trip.{MeterTrip, begun, with_extra, InHired, InStopped, Part, Rest}
+use Rattle.meter_model.specs.declared.act.Act.TheVariants.{Show, Refuse}
+use Rattle.std.proofs.lemmas.List.Elements.{filter_map-append, All-append, All-cons, All-nil}
 use Rattle.tariff_check.specs.Amounts.{fees_in_force}
 use Rattle.tariff_check.specs.SoundTariff.{supplement_numbered}
 use Rattle.tariff_check.specs.declared.values.Supplement.{Supplement}

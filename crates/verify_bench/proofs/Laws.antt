@@ -3,9 +3,9 @@ use Rattle.std.proofs.Common.{◌≡◌, ◌≢◌, ◌↔◌, ℕ, ◌<◌, ◌
 use Rattle.drive_text.specs.Drive.{bad_at_end, runs_in}
 use Rattle.drive_text.specs.Ending.{stream_limit}
 use Rattle.drive_modes.specs.declared.charges.Mode.{Mode}
-use Rattle.meter_states.specs.Charge.{charge_by}
-use Rattle.meter_states.specs.Run.{actions_of}
-use Rattle.meter_states.specs.Setting.{Setting}
+use Rattle.meter_model.specs.Charge.{charge_by}
+use Rattle.meter_model.specs.Run.{actions_of}
+use Rattle.meter_model.specs.Setting.{Setting}
 use Rattle.tariff_check.specs.Faults.{IsSound}
 use Rattle.tariff_check.specs.Parts.{RateNumbers}
 use Rattle.tariff_check.specs.SoundTariff.{sound_of}

@@ -4,9 +4,9 @@ use Rattle.std.proofs.Common.{map, get_or, length, Option, Some, None, arith, sl
 use Rattle.std.specs.Option.{unwrap_or}
 use Rattle.std.proofs.lemmas.List.{length-map}
 use Rattle.std.proofs.lemmas.List.Elements.{All-weaker}
-use Rattle.meter_states.specs.Interval.{context_now}
-use Rattle.meter_states.specs.Setting.{Setting}
-use Rattle.meter_states.specs.declared.trip.Fees.{Fees}
+use Rattle.meter_model.specs.Interval.{context_now}
+use Rattle.meter_model.specs.Setting.{Setting}
+use Rattle.meter_model.specs.declared.trip.Fees.{Fees}
 use Rattle.tariff_check.proofs.Laws as check
 use Rattle.tariff_check.specs.Amounts.{fees_in_force, place_number}
 use Rattle.tariff_check.specs.Faults.{IsSound}

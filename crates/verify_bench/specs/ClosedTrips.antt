@@ -1,12 +1,12 @@
 -- Rules: the trips of a drive that were closed, each with the tick that hired it, the event that closed it, and the
 -- parts that the events between them added.
 use Rattle.std.specs.Prelude.{◌≡◌, ℕ, List, [], ◌∷◌, ◌++◌, Some, sum}
-use Rattle.meter_states.specs.Interval.{context_of}
-use Rattle.meter_states.specs.Meter.{Meter}
-use Rattle.meter_states.specs.Run.{opened, run}
-use Rattle.meter_states.specs.Setting.{Setting}
-use Rattle.meter_states.specs.Step.{step}
-use Rattle.meter_states.specs.Trip.{InHired, InStopped, MeterTrip, Part, Rest}
+use Rattle.meter_model.specs.Interval.{context_of}
+use Rattle.meter_model.specs.Meter.{Meter}
+use Rattle.meter_model.specs.Run.{opened, run}
+use Rattle.meter_model.specs.Setting.{Setting}
+use Rattle.meter_model.specs.Step.{step}
+use Rattle.meter_model.specs.Trip.{InHired, InStopped, MeterTrip, Part, Rest}
 use Rattle.taxi_units.specs.declared.event.Event.{Event}
 use Rattle.taxi_units.specs.declared.event.Event.TheVariants.{Down, Tick}
 use Rattle.taxi_units.specs.declared.event.Key.TheVariants.{Hire}

@@ -2,14 +2,14 @@
 use Rattle.std.specs.Prelude.{◌≡◌, ◌↔◌, ◌⊎◌, ℕ, ◌+◌, ◌*◌, ◌<◌, ◌++◌, ◌∷◌, All, Bool, List, None, Some, filter, map, sum, true}
 use Rattle.std.specs.List.{slice_get}
 use Rattle.drive_modes.specs.Fare.{shown_fare, steps_above}
-use Rattle.meter_states.specs.Charge.{distance_charge, time_charge}
-use Rattle.meter_states.specs.Closing.{receipt_of}
-use Rattle.meter_states.specs.Interval.{context_now}
-use Rattle.meter_states.specs.KeptTrip.{IsSupplementNumber}
-use Rattle.meter_states.specs.Setting.{Setting, rounding_of, unit_of}
-use Rattle.meter_states.specs.Step.{step}
-use Rattle.meter_states.specs.Trip.{InHired, MeterTrip, Part, fees_of, pulses_in, ticks_in}
-use Rattle.meter_states.specs.declared.act.Act.{Act}
+use Rattle.meter_model.specs.Charge.{distance_charge, time_charge}
+use Rattle.meter_model.specs.Closing.{receipt_of}
+use Rattle.meter_model.specs.Interval.{context_now}
+use Rattle.meter_model.specs.KeptTrip.{IsSupplementNumber}
+use Rattle.meter_model.specs.Setting.{Setting, rounding_of, unit_of}
+use Rattle.meter_model.specs.Step.{step}
+use Rattle.meter_model.specs.Trip.{InHired, MeterTrip, Part, fees_of, pulses_in, ticks_in}
+use Rattle.meter_model.specs.declared.act.Act.{Act}
 use Rattle.drive_modes.specs.Distance.{millimetres_of}
 use Rattle.tariff_check.specs.Parts.{InitialNumbers, RateNumbers}
 use Rattle.tariff_check.specs.Amounts.{fees_in_force}

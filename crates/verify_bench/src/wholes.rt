@@ -1,9 +1,9 @@
 //! What explanations are of, and what they add up to.
 ghost use Rattle.std.specs.Prelude.{◌≡◌, ℕ, List, All, map};
 ghost use Rattle.drive_modes.specs.declared.charges.Mode.{Mode};
-ghost use Rattle.meter_states.specs.Charge.{charge_by};
-ghost use Rattle.meter_states.specs.Run.{actions_of};
-ghost use Rattle.meter_states.specs.Setting.{Setting};
+ghost use Rattle.meter_model.specs.Charge.{charge_by};
+ghost use Rattle.meter_model.specs.Run.{actions_of};
+ghost use Rattle.meter_model.specs.Setting.{Setting};
 ghost use Rattle.tariff_check.specs.Faults.{IsSound};
 ghost use Rattle.tariff_check.specs.Parts.{RateNumbers};
 ghost use Rattle.tariff_check.specs.SoundTariff.{sound_of};

@@ -2,7 +2,7 @@ use Rattle.std.proofs.Common.{◌∙◌, sym, subst}
 use Rattle.taxi_units.specs.declared.event.Event.{Event}
 use Rattle.meter_states.specs.Core.{Meets}
 use Rattle.meter_states.specs.Lawful.{IsTimely}
-use Rattle.meter_states.specs.Step.{step}
+use Rattle.meter_model.specs.Step.{step}
 use Rattle.meter_run.proofs.Dropping.{came}
 use Rattle.meter_run.proofs.Happening.{lawful_beside}
 use Rattle.meter_run.proofs.dry.step_or_resume.Goals as goal

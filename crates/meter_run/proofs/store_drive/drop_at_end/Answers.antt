@@ -1,7 +1,7 @@
 use Rattle.std.proofs.Common.{◌∷◌, [], refl}
 use Rattle.std.proofs.lemmas.Result.{on_ok_weaker}
 use Rattle.taxi_units.specs.declared.event.Event.TheVariants.{Down}
-use Rattle.meter_states.specs.Run.{ended}
+use Rattle.meter_model.specs.Run.{ended}
 use Rattle.meter_run.proofs.Ended.{not_told}
 use Rattle.meter_run.proofs.Happening.{carried_one, stopped_one}
 use Rattle.meter_run.proofs.Whole.{amid_either, amid_of, ends_amid, ends_off, ends_on}

@@ -1,4 +1,4 @@
-use Rattle.meter_states.specs.Display.{display_of}
+use Rattle.meter_model.specs.Display.{display_of}
 use Rattle.meter_states.proofs.Displays.{hire-shows, same-equal, shows-none}
 use Rattle.meter_states.proofs.shown.displays_are_compared_by_their_fields.Goals as goal
 

@@ -1,7 +1,7 @@
 use Rattle.std.proofs.Common.{ap, subst, sym, ◌∙◌, ◌++◌, List}
 use Rattle.outside.specs.Printing.{Begins}
 use Rattle.std.proofs.lemmas.Result.{on_ok_weaker}
-use Rattle.meter_states.specs.declared.act.Act.{Act}
+use Rattle.meter_model.specs.declared.act.Act.{Act}
 use Rattle.meter_run.specs.Commits.{AreFor, after_acts}
 use Rattle.meter_run.specs.Texts.{shown_texts}
 use Rattle.meter_run.proofs.Dropping.{acts_for, breaks_event, carries_event, ready_after}

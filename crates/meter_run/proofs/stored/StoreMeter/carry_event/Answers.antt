@@ -2,8 +2,8 @@ use Rattle.std.proofs.Common.{◌∙◌, List, [], ◌∷◌, All, arith, subst,
 use Rattle.taxi_units.specs.declared.event.Event.{Event}
 use Rattle.meter_states.specs.Acts.{IsLawfulAct}
 use Rattle.meter_states.specs.Lawful.{IsTimely}
-use Rattle.meter_states.specs.Step.{step}
-use Rattle.meter_states.specs.declared.act.Act.{Act}
+use Rattle.meter_model.specs.Step.{step}
+use Rattle.meter_model.specs.declared.act.Act.{Act}
 use Rattle.meter_run.specs.Commits.{AreFor}
 use Rattle.meter_run.specs.OnStore.{Attempts}
 use Rattle.meter_run.proofs.Dropping.{acts_for, few_commits}

@@ -4,8 +4,8 @@ use Rattle.taxi_units.specs.declared.event.Why.TheVariants.{NotNow}
 use Rattle.meter_states.specs.Acts.{IsLawfulAct, KeepsRanges}
 use Rattle.meter_states.specs.Cache.{CachedCore}
 use Rattle.meter_states.specs.Core.{CoreData}
-use Rattle.meter_states.specs.declared.act.Act.{Act}
-use Rattle.meter_states.specs.declared.act.Act.TheVariants.{Refuse}
+use Rattle.meter_model.specs.declared.act.Act.{Act}
+use Rattle.meter_model.specs.declared.act.Act.TheVariants.{Refuse}
 use Rattle.meter_states.proofs.ActRanges.{acts-keep}
 use Rattle.meter_states.proofs.Outcomes.{not_off, off-meets, on-meets}
 use Rattle.meter_states.proofs.Powered.{powered-on}

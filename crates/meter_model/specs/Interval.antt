@@ -1,15 +1,16 @@
 -- Rules: the measuring interval, its pulses, the context of its beginning, and what it becomes at its end.
-use Rattle.std.specs.Prelude.{ℕ, ◌-◌, List, [], ◌∷◌, ◌++◌, Option, Some, None, option_map, sum, min, if◌then◌else◌, nat_lt}
+use Rattle.std.specs.Prelude.{ℕ, ◌-◌, List, [], ◌∷◌, ◌++◌, Option, Some, None, option_map, sum, min, if◌then◌else◌}
+use Rattle.std.specs.Prelude.{nat_lt}
 use Rattle.interval_clock.specs.declared.local_time.LocalTime.{LocalTime}
 use Rattle.tariff_check.specs.SoundLookups.{has_date}
 use Rattle.tariff_syntax.specs.declared.context.Context.{Context}
 use Rattle.taxi_units.specs.declared.event.Operating.{Operating}
 use Rattle.taxi_units.specs.declared.event.Operating.TheVariants.{Off, ForHire, Hired, Stopped}
 use Rattle.taxi_units.specs.declared.event.Why.TheVariants.{TooFast}
-use Rattle.meter_states.specs.Meter.{Meter, Outcome, quiet}
-use Rattle.meter_states.specs.Setting.{Setting, local_at}
-use Rattle.meter_states.specs.Trip.{MeterTrip, Part, InHired, InStopped, Rest, with_part, pulses_of, ticks_of}
-use Rattle.meter_states.specs.declared.act.Act.TheVariants.{Refuse}
+use Rattle.meter_model.specs.Meter.{Meter, Outcome, quiet}
+use Rattle.meter_model.specs.Setting.{Setting, local_at}
+use Rattle.meter_model.specs.Trip.{MeterTrip, Part, InHired, InStopped, Rest, with_part, pulses_of, ticks_of}
+use Rattle.meter_model.specs.declared.act.Act.TheVariants.{Refuse}
 use Rattle.taxi_units.specs.Limits.{hirings_end}
 
 -- the running interval has room for as many pulses as are left of 2,000 behind those that it has taken

@@ -2,14 +2,14 @@
 use Rattle.std.proofs.Common.{◌≡◌, List, [], ◌∷◌, ◌++◌, refl, ap, sym, ◌∙◌, append_assoc}
 use Rattle.taxi_units.specs.declared.event.Event.{Event}
 use Rattle.totals_record.specs.declared.durable_state.Durable.{Durable}
-use Rattle.meter_states.specs.KeptTrip.{HoldFits, IsTripKept}
-use Rattle.meter_states.specs.Meter.{Meter, Outcome, ◌>>=◌}
-use Rattle.meter_states.specs.Run.{opened, run, run_both, whole_run}
-use Rattle.meter_states.specs.Setting.{Setting}
-use Rattle.meter_states.specs.Step.{step}
-use Rattle.meter_states.specs.declared.act.Act.{Act}
-use Rattle.meter_states.proofs.KeptTrips.{kept-ended, kept-step}
-use Rattle.meter_states.proofs.Resumed.{begins}
+use Rattle.meter_model.specs.KeptTrip.{HoldFits, IsTripKept}
+use Rattle.meter_model.specs.Meter.{Meter, Outcome, ◌>>=◌}
+use Rattle.meter_model.specs.Run.{opened, run, run_both, whole_run}
+use Rattle.meter_model.specs.Setting.{Setting}
+use Rattle.meter_model.specs.Step.{step}
+use Rattle.meter_model.specs.declared.act.Act.{Act}
+use Rattle.meter_model.proofs.KeptTrips.{kept-ended, kept-step}
+use Rattle.meter_model.proofs.Resumed.{begins}
 
 -- one thing after the other, and then a third
 joined : (o : Outcome) (f g : Meter → Outcome) → o >>= (λ (m : Meter). f m >>= g) ≡ (o >>= f) >>= g

@@ -8,15 +8,15 @@ use Rattle.drive_modes.specs.Fare.{above_cover, saved}
 use Rattle.drive_modes.specs.declared.meterage.Meterage.{Meterage}
 use Rattle.tariff_check.specs.SoundTariff.{SoundTariff, supplement_numbered}
 use Rattle.tariff_check.specs.declared.values.Supplement.{Supplement}
-use Rattle.meter_states.specs.KeptTrip.{IsSupplementNumber, with_more}
-use Rattle.meter_states.specs.Setting.{Setting, modulus_of}
-use Rattle.meter_states.specs.Supplements.{amount_in, amounts_from, amounts_of, counts_from, counts_of, times}
-use Rattle.meter_states.specs.Trip as model
-use Rattle.meter_states.specs.Trip.{Part, MeterTrip, charge_in, charges_of, held_trip, pulses_in, core_trip_of}
-use Rattle.meter_states.specs.Trip.{numbers_from, ticks_in, trip_of}
-use Rattle.meter_states.proofs.Fares.{above-more, sum-lists}
-use Rattle.meter_states.proofs.Resumed.{amounts-numbers, counts-earlier, counts-numbers, same_form, times-cons-other}
-use Rattle.meter_states.proofs.Resumed.{times-cons-same}
+use Rattle.meter_model.specs.KeptTrip.{IsSupplementNumber, with_more}
+use Rattle.meter_model.specs.Setting.{Setting, modulus_of}
+use Rattle.meter_model.specs.Supplements.{amount_in, amounts_from, amounts_of, counts_from, counts_of, times}
+use Rattle.meter_model.specs.Trip as model
+use Rattle.meter_model.specs.Trip.{Part, MeterTrip, charge_in, charges_of, held_trip, pulses_in, core_trip_of}
+use Rattle.meter_model.specs.Trip.{numbers_from, ticks_in, trip_of}
+use Rattle.meter_model.proofs.Fares.{above-more, sum-lists}
+use Rattle.meter_model.proofs.Resumed.{amounts-numbers, counts-earlier, counts-numbers, same_form, times-cons-other}
+use Rattle.meter_model.proofs.Resumed.{times-cons-same}
 
 -- ---- counts of supplements
 

@@ -1,6 +1,6 @@
 //! What the meter does.
-ghost use Rattle.std.specs.Prelude.{◌≡◌, ◌<◌, ◌∷◌, [], ◌++◌, length};
-ghost use Rattle.meter_states.specs.declared.act.Act.TheVariants.{Refuse};
+ghost use Rattle.std.specs.Prelude.{◌<◌};
+ghost use Rattle.meter_model.specs.declared.act.Act.TheVariants.{Refuse};
 
 use arrayvec::ArrayVec;
 use taxi_units::{Display, Receipt, Why};
@@ -30,11 +30,3 @@ impl Default for Act {
 
 /// The acts of one event, in order.
 pub type Acts = ArrayVec<Act, 4>;
-
-/// A refusal more.
-pub(crate) fn refuse(why: Why, acts: &mut Acts)
-    requires { length acts.old.items < 4 }
-    ensures { acts.new.items ≡ acts.old.items ++ Refuse why ∷ [] }
-{
-    acts.push(Act::Refuse(why));
-}

@@ -9,13 +9,13 @@ use Rattle.taxi_units.specs.declared.event.Operating.TheVariants.{Off, ForHire, 
 use Rattle.taxi_units.specs.declared.event.Why.TheVariants.{NotNow, ClockBack, Powered}
 use Rattle.taxi_units.specs.declared.event.Why.TheVariants as why
 use Rattle.taxi_units.specs.declared.receipt.Kind.TheVariants as kinds
-use Rattle.meter_states.specs.Closing.{closed, roaming_checked}
-use Rattle.meter_states.specs.Display.{shown}
-use Rattle.meter_states.specs.Interval.{interval_begun, interval_counted, pulses_taken, ticks_so_far}
-use Rattle.meter_states.specs.Keys.{key_pressed, latched}
-use Rattle.meter_states.specs.Meter.{Meter, Outcome, ◌>>=◌, quiet, refused}
-use Rattle.meter_states.specs.Setting.{Setting}
-use Rattle.meter_states.specs.Supply.{supply_came, supply_dropped}
+use Rattle.meter_model.specs.Closing.{closed, roaming_checked}
+use Rattle.meter_model.specs.Display.{shown}
+use Rattle.meter_model.specs.Interval.{interval_begun, interval_counted, pulses_taken, ticks_so_far}
+use Rattle.meter_model.specs.Keys.{key_pressed, latched}
+use Rattle.meter_model.specs.Meter.{Meter, Outcome, ◌>>=◌, quiet, refused}
+use Rattle.meter_model.specs.Setting.{Setting}
+use Rattle.meter_model.specs.Supply.{supply_came, supply_dropped}
 
 -- the key that waits, if one does, is refused, since the trip has expired, and waits no more
 abbrev pub latch_refused : Option Key → Meter → Outcome

@@ -6,12 +6,11 @@ use Rattle.drive_modes.specs.declared.meterage.Meterage.{Meterage}
 use Rattle.drive_modes.proofs.Laws.{saved-any}
 use Rattle.tariff_check.specs.SoundTariff.{SoundTariff, supplement_numbered}
 use Rattle.totals_record.specs.declared.trip.Trip.{Trip}
-use Rattle.meter_states.specs.Core.{IsSavedIn}
-use Rattle.meter_states.specs.KeptTrip.{FitsSetting, HoldFits}
-use Rattle.meter_states.specs.Setting.{Setting, modulus_of}
-use Rattle.meter_states.specs.Supplements.{amount_in, amounts_from, amounts_of, counts_from, counts_of, times}
-use Rattle.meter_states.specs.Trip.{core_trip_in, held_trip, numbers_from, saved_at, trip_of}
-use Rattle.meter_states.specs.declared.trip.CoreTrip.{CoreTrip}
+use Rattle.meter_model.specs.KeptTrip.{IsSavedIn, FitsSetting, HoldFits}
+use Rattle.meter_model.specs.Setting.{Setting, modulus_of}
+use Rattle.meter_model.specs.Supplements.{amount_in, amounts_from, amounts_of, counts_from, counts_of, times}
+use Rattle.meter_model.specs.Trip.{core_trip_in, held_trip, numbers_from, saved_at, trip_of}
+use Rattle.meter_model.specs.declared.core_trip.CoreTrip.{CoreTrip}
 
 pub times-cons-same : (n : ℕ) (xs : List ℕ) → times n (n ∷ xs) ≡ times n xs + 1
 times-cons-same n xs = grind (arith, common_steps)

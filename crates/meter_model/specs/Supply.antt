@@ -1,15 +1,16 @@
 -- Rules: the supply, what a drop of it leaves, and what its coming finds.
-use Rattle.std.specs.Prelude.{ℕ, ◌+◌, Bool, true, false, ◌&&◌, [], Option, Some, None, sum, if◌then◌else◌, nat_le, nat_lt}
+use Rattle.std.specs.Prelude.{ℕ, ◌+◌, Bool, true, false, ◌&&◌, [], Option, Some, None, sum, if◌then◌else◌, nat_le}
+use Rattle.std.specs.Prelude.{nat_lt}
 use Rattle.taxi_units.specs.declared.event.Operating.{Operating}
 use Rattle.taxi_units.specs.declared.event.Operating.TheVariants.{Off, ForHire, Hired, Stopped}
 use Rattle.taxi_units.specs.declared.receipt.Kind.TheVariants.{Aborted}
 use Rattle.totals_record.specs.declared.trip.Trip.{Trip}
-use Rattle.meter_states.specs.Closing.{closed, roaming_entered}
-use Rattle.meter_states.specs.Display.{shown}
-use Rattle.meter_states.specs.Interval.{interval_left}
-use Rattle.meter_states.specs.Meter.{Meter, Outcome, ◌>>=◌, quiet, held}
-use Rattle.meter_states.specs.Setting.{Setting}
-use Rattle.meter_states.specs.Trip.{MeterTrip, held_trip}
+use Rattle.meter_model.specs.Closing.{closed, roaming_entered}
+use Rattle.meter_model.specs.Display.{shown}
+use Rattle.meter_model.specs.Interval.{interval_left}
+use Rattle.meter_model.specs.Meter.{Meter, Outcome, ◌>>=◌, quiet, held}
+use Rattle.meter_model.specs.Setting.{Setting}
+use Rattle.meter_model.specs.Trip.{MeterTrip, held_trip}
 use Rattle.taxi_units.specs.Limits.{last_number}
 
 -- the test `is_stopped` is true where an operating position is Stopped

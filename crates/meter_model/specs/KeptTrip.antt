@@ -1,14 +1,17 @@
 -- Rules: what the store keeps of the trip.
-use Rattle.std.specs.Prelude.{◌≡◌, ◌≢◌, ℕ, ◌<◌, ◌≤◌, List, [], ◌∷◌, ◌++◌, Option, Some, None, length}
+use Rattle.std.specs.Prelude.{◌≡◌, ◌≢◌, ℕ, ◌<◌, ◌≤◌, List, [], ◌∷◌, ◌++◌, Option, Some, None, length, option_map}
 use Rattle.taxi_units.specs.declared.event.Operating.{Operating}
 use Rattle.taxi_units.specs.declared.event.Operating.TheVariants.{Off, ForHire, Hired, Stopped}
 use Rattle.tariff_check.specs.SoundTariff.{supplement_numbered}
 use Rattle.totals_record.specs.declared.trip.Trip.{Trip}
-use Rattle.meter_states.specs.Core.{IsSavedIn}
-use Rattle.meter_states.specs.Meter.{Meter}
-use Rattle.meter_states.specs.Setting.{Setting, modulus_of}
-use Rattle.meter_states.specs.Supplements.{amounts_from}
-use Rattle.meter_states.specs.Trip.{MeterTrip, Part, InHired, InStopped, Rest}
+use Rattle.meter_model.specs.Meter.{Meter}
+use Rattle.meter_model.specs.Setting.{Setting, modulus_of}
+use Rattle.meter_model.specs.Supplements.{amounts_from}
+use Rattle.meter_model.specs.Trip.{MeterTrip, Part, InHired, InStopped, Rest, core_trip_in, core_trip_of}
+
+-- a held trip is the saved form of a trip where both are none, or where a core keeps the same of both
+abbrev pub IsSavedIn : Setting → (hold : Option Trip) → Option MeterTrip → Type 0
+IsSavedIn s hold trip = option_map core_trip_in hold ≡ option_map (core_trip_of s) trip
 
 -- the trip is kept in an operating position where in Off the store holds the saved form of the meter's trip, and no
 -- trip where it has none; in For Hire there is no trip, and none is held; and in Hired and Stopped there is a trip, and

@@ -5,12 +5,12 @@ use Rattle.taxi_units.specs.declared.event.Event.{Event}
 use Rattle.taxi_units.specs.declared.event.Operating.{Operating}
 use Rattle.taxi_units.specs.declared.event.Operating.TheVariants.{Off}
 use Rattle.totals_record.specs.declared.durable_state.Durable.{Durable}
-use Rattle.meter_states.specs.Meter.{Meter, Outcome, ◌>>=◌, quiet}
-use Rattle.meter_states.specs.Setting.{Setting}
-use Rattle.meter_states.specs.Step.{step}
-use Rattle.meter_states.specs.Supply.{supply_dropped}
-use Rattle.meter_states.specs.Trip.{trip_of}
-use Rattle.meter_states.specs.declared.act.Act.{Act}
+use Rattle.meter_model.specs.Meter.{Meter, Outcome, ◌>>=◌, quiet}
+use Rattle.meter_model.specs.Setting.{Setting}
+use Rattle.meter_model.specs.Step.{step}
+use Rattle.meter_model.specs.Supply.{supply_dropped}
+use Rattle.meter_model.specs.Trip.{trip_of}
+use Rattle.meter_model.specs.declared.act.Act.{Act}
 
 -- a meter is opened before the supply first comes, with what the store has: off, at the first second, with the held
 -- trip

@@ -9,14 +9,14 @@ use Rattle.taxi_units.specs.declared.event.Operating.{Operating}
 use Rattle.taxi_units.specs.declared.event.Operating.TheVariants.{ForHire, Hired, Stopped}
 use Rattle.taxi_units.specs.declared.event.Why.TheVariants.{NotNow, KeyWaiting, NoSuch, AtMost, Ended}
 use Rattle.taxi_units.specs.declared.receipt.Kind.TheVariants.{Closed}
-use Rattle.meter_states.specs.Closing.{closed}
-use Rattle.meter_states.specs.Interval.{context_now}
-use Rattle.meter_states.specs.Meter.{Meter, Outcome, quiet, refused}
-use Rattle.meter_states.specs.Setting.{Setting}
-use Rattle.meter_states.specs.Supplements.{times}
-use Rattle.meter_states.specs.Trip.{MeterTrip, begun, with_extra}
-use Rattle.meter_states.specs.declared.keys.KeyAct.{KeyAct}
-use Rattle.meter_states.specs.declared.keys.KeyAct.TheVariants as key_acts
+use Rattle.meter_model.specs.Closing.{closed}
+use Rattle.meter_model.specs.Interval.{context_now}
+use Rattle.meter_model.specs.Meter.{Meter, Outcome, quiet, refused}
+use Rattle.meter_model.specs.Setting.{Setting}
+use Rattle.meter_model.specs.Supplements.{times}
+use Rattle.meter_model.specs.Trip.{MeterTrip, begun, with_extra}
+use Rattle.meter_model.specs.declared.key_act.KeyAct.{KeyAct}
+use Rattle.meter_model.specs.declared.key_act.KeyAct.TheVariants as key_acts
 use Rattle.taxi_units.specs.Limits.{hirings_end}
 
 -- a key that is pressed waits for the end of the interval, and is refused where another one waits

@@ -11,10 +11,10 @@ use Rattle.totals_record.specs.declared.change.Change.TheVariants as changes
 use Rattle.totals_record.specs.declared.durable_state.Durable.{Durable}
 use Rattle.totals_record.specs.declared.entry.Entry.{Entry}
 use Rattle.totals_record.specs.declared.trip.Trip.{Trip}
-use Rattle.meter_states.specs.Trip.{MeterTrip}
-use Rattle.meter_states.specs.declared.act.Act.{Act}
-use Rattle.meter_states.specs.declared.act.Act.TheVariants.{Refuse, Enter, Hold}
-use Rattle.meter_states.specs.declared.act.Act.TheVariants as acts
+use Rattle.meter_model.specs.Trip.{MeterTrip}
+use Rattle.meter_model.specs.declared.act.Act.{Act}
+use Rattle.meter_model.specs.declared.act.Act.TheVariants.{Refuse, Enter, Hold}
+use Rattle.meter_model.specs.declared.act.Act.TheVariants as acts
 
 -- a state of the meter has its operating position, its clock, its running interval, the key that waits, the position
 -- and the zone, its roaming pulses, what was shown last, its trip, and what the store has

@@ -5,7 +5,7 @@ use Rattle.drive_modes.specs.declared.charges.Mode.TheVariants.{Single, Double}
 use Rattle.tariff_check.specs.Parts.{RateNumbers}
 use Rattle.tariff_check.specs.SoundLookups.{rate_in_force}
 use Rattle.tariff_syntax.specs.declared.context.Context.{Context}
-use Rattle.meter_states.specs.Setting.{Setting}
+use Rattle.meter_model.specs.Setting.{Setting}
 
 -- the charge of the distance of p pulses, in units of charge, is what p times 10,000 / k decimetres cost at a per b
 -- decimetres, where k times the common measure units of charge make the smallest unit of money

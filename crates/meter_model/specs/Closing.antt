@@ -7,10 +7,10 @@ use Rattle.taxi_units.specs.declared.receipt.Kind.{Kind}
 use Rattle.taxi_units.specs.declared.receipt.Kind.TheVariants.{Roam}
 use Rattle.taxi_units.specs.declared.receipt.Receipt.{Receipt}
 use Rattle.totals_record.specs.declared.entry.Entry.{Entry}
-use Rattle.meter_states.specs.Meter.{Meter, Outcome, ◌>>=◌, quiet, entered, printed}
-use Rattle.meter_states.specs.Setting.{Setting, stamp_at}
-use Rattle.meter_states.specs.Supplements.{amounts_of}
-use Rattle.meter_states.specs.Trip.{MeterTrip, fare_of, pulses_of, steps_shown}
+use Rattle.meter_model.specs.Meter.{Meter, Outcome, ◌>>=◌, quiet, entered, printed}
+use Rattle.meter_model.specs.Setting.{Setting, stamp_at}
+use Rattle.meter_model.specs.Supplements.{amounts_of}
+use Rattle.meter_model.specs.Trip.{MeterTrip, fare_of, pulses_of, steps_shown}
 use Rattle.taxi_units.specs.Limits.{roaming_most}
 
 -- the entry of a trip that is closed at a tariff position has its kind, its distances, its fare and its supplements

@@ -1,7 +1,7 @@
-use Rattle.meter_states.proofs.Fares.{fare-resumed}
-use Rattle.meter_states.proofs.Resumed.{resumed-saved}
-use Rattle.meter_states.proofs.ResumedForms.{forms-resumed}
-use Rattle.meter_states.proofs.keeping.resumed_trips_go_on.Goals as goal
+use Rattle.meter_model.proofs.Fares.{fare-resumed}
+use Rattle.meter_model.proofs.Resumed.{resumed-saved}
+use Rattle.meter_model.proofs.ResumedForms.{forms-resumed}
+use Rattle.meter_model.proofs.resuming.resumed_trips_go_on.Goals as goal
 
 pub returns-clause-saved : goal.returns-clause-saved
 returns-clause-saved c = resumed-saved
