@@ -168,7 +168,7 @@ trip_grows s (events.Key key) m = same_without m.trip
 
 next_over : (s : Setting) (xs ys : List Event) (m : Meter)
     → (run s (xs ++ ys) m).next ≡ (run s ys (run s xs m).next).next
-next_over s xs ys m = ap (λ o. o.next) (states.runs_add_up s xs ys m)
+next_over s xs ys m = ap (λ o. o.next) (states.run-append s xs ys m)
 
 lasts_more : (s : Setting) (xs : List Event) (event : Event) (m : Meter) → Lasts s xs m → HasTrip (run s xs m).next
     → Lasts s (xs ++ event ∷ []) m
