@@ -44,7 +44,7 @@ class Edit:
         parts = self.path.split("/")
         self.crate = parts[1]
         self.name = f"{self.crate}/{parts[-1].removesuffix('.edit')}"
-        self.pairs, self.breaks = [], []
+        self.pairs, self.breaks, self.may_break = [], [], []
         file = old = None
         with open(path, encoding="utf-8") as lines:
             for line in lines.read().split("\n"):
@@ -56,9 +56,10 @@ class Edit:
                     old = text
                 elif key == "new":
                     self.pairs.append((file, old, text))
-                elif key == "breaks":
+                elif key in ("breaks", "may-break"):
                     function, _, clause = text.partition(",")
-                    self.breaks.append((function.strip(), Clause(*clause.split(" by "))))
+                    told = self.breaks if key == "breaks" else self.may_break
+                    told.append((function.strip(), Clause(*clause.split(" by "))))
 
     def change(self, texts):
         """Puts the change into the texts of files, and says what is wrong with it."""

@@ -82,8 +82,6 @@ now_proving() {
   done
 }
 
-minutes() { echo "$(($1 / 60)) min $(($1 % 60)) s"; }
-
 # Shows how far the build is: the crates, functions, the time so far, and the time expected. What was proved in this run
 # says how fast it goes; before that a tenth of a minute is one. No fewer functions are shown than were shown before. On
 # a terminal it stays in one line.
@@ -92,21 +90,11 @@ show_progress() {
   [ ! -t 2 ] || from='\r\033[K' to=''
   inside=$(proved_inside)
   [ $((done_functions + inside)) -le "$shown_functions" ] || shown_functions=$((done_functions + inside))
-  [ "$done_share" -lt 5 ] || pace=$((done_seconds * 100 / done_share))
+  [ "$done_share" -lt 5 ] || pace=$((spent * 100 / done_share))
   [ "$proving_functions" -eq 0 ] || ahead=$((left - proving_share * inside / proving_functions))
   [ "$ahead" -gt 0 ] || ahead=1
   printf "$from%s: crate %s of %s, %s; %s of %s functions; %s so far, about %s min to go$to" "$name" "$place" "$all" \
-    "$proving_names" "$shown_functions" "$all_functions" "$(minutes $spent)" $(((ahead * pace / 100 + 59) / 60)) >&2
-}
-
-# Shows progress while a crate is proved: on a terminal in one line each second, else in a line a minute.
-show_on() {
-  local second=0 waited=''
-  while sleep 1 && kill -0 $$ 2>/dev/null; do
-    second=$((second + 1))
-    say_wait "$log/$crate" "$crate"
-    [ ! -t 2 ] && [ $((second % 60)) -ne 0 ] || show_progress
-  done
+    "$proving_names" "$shown_functions" "$all_functions" "$((spent / 60)) min $((spent % 60)) s" $(((ahead * pace / 100 + 59) / 60)) >&2
 }
 
 # Counts a crate that was proved as done, given its folder.
@@ -117,37 +105,7 @@ count_done() {
   functions=${functions:-${has[$crate]-0}} inside=$(proved_in "$1")
   [ "$functions" -ge "$inside" ] || functions=$inside
   all_functions=$((all_functions + functions - ${has[$crate]-0})) done_functions=$((done_functions + functions))
-  left=$((left - ${share[$crate]-0}))
-}
-
-# What to tell rt of its jobs: two, where there is room for them. Of itself it gives the upper crates one, since it plans
-# three times the memory that they take (docs/STATUS.md).
-jobs() {
-  local free
-  free=$(awk '$1 == "MemAvailable:" { print int($2 / 1048576) }' /proc/meminfo)
-  [ "$(nproc)" -lt 2 ] || [ "${free:-0}" -lt 10 ] || echo --jobs 2
-}
-
-# Proves and builds a crate; its output goes to the log.
-build_crate() {
-  local watcher status begins=$SECONDS
-  # The program itself is built by a run that needs no file.
-  # shellcheck disable=SC2046,SC2086
-  if [ "$crate" = "$program_crate" ]; then set -- rt run $(jobs) -- $sample; else set -- rt lib $(jobs); fi
-  now_proving "$top/crates/$crate"
-  show_progress
-  show_on &
-  watcher=$!
-  (cd "$top/crates/$crate" && exec "$@") </dev/null >"$log/$crate" 2>&1
-  status=$?
-  kill $watcher 2>/dev/null
-  wait $watcher 2>/dev/null
-  count_done "$top/crates/$crate"
-  # What was proved before tells nothing of the pace.
-  if [ "${share[$crate]-0}" -gt 0 ] && [ $((SECONDS - begins)) -gt 10 ]; then
-    done_share=$((done_share + ${share[$crate]})) done_seconds=$((done_seconds + SECONDS - begins))
-  fi
-  return $status
+  left=$((left - ${share[$crate]-0})) done_share=$((done_share + ${share[$crate]-0}))
 }
 
 # Whether there is a kit; says so where its logic is another one.
@@ -168,21 +126,12 @@ say_wait() {
   say "another process is at $2 in this checkout; this one waits until that is done"
 }
 
-# Proves and builds the crates, one after the other.
-build_in_turn() {
-  for crate in $crates; do
-    place=$((place + 1))
-    build_crate || return 1
-  done
-}
-
 # Proves and builds the program, and only the crates that it needs.
 build() {
-  local crate place=0 all log began_building=$SECONDS commit
-  local left=0 all_functions=0 done_functions=0 shown_functions=0 done_share=0 done_seconds=0
+  local crate place=0 all log began_building=$SECONDS commit waited=''
+  local left=0 all_functions=0 done_functions=0 shown_functions=0 done_share=0
   local proving_names='' proving_share=0 proving_functions=0
-  local lane=''
-  local -a proving=() folder=()
+  local -a proving=()
   local -A share=() has=()
   has_kit || return 1
   log=$(mktemp -d) || return 1
@@ -191,7 +140,7 @@ build() {
   all=$(wc -w <<<"$crates")
   read_shares
   say 'proving and building the program: from nothing 20 minutes to an hour (docs/STATUS.md); later it is only run'
-  if have_two_lanes && make_lane; then build_in_lanes; else build_in_turn; fi || {
+  build_in_lanes || {
     [ ! -t 2 ] || echo >&2
     tail -n 20 "$log/$crate" >&2
     say "$crate was not proved and built, so nothing was run; the whole output is in $log/$crate"

@@ -66,8 +66,8 @@ fault_in() {
     fi
     before=${!place}
   done
-  [ $# -ge ${#row[@]} ] || echo "$place there are too few words behind $1"
-  [ $# -le ${#row[@]} ] || echo "$place there are too many words behind $1"
+  [ $# -ge ${#row[@]} ] || echo "$place there are too few words after $1"
+  [ $# -le ${#row[@]} ] || echo "$place there are too many words after $1"
 }
 
 # Says which word is off and ends with 1, where words can only be refused. Of several rows the one counts that goes on

@@ -12,6 +12,8 @@ import sys
 import tempfile
 
 import medium
+from heglorwy import roll
+from heglorwy.roll import units
 
 TOP = pathlib.Path(__file__).resolve().parents[2]
 PROGRAM = os.environ.get("TAXI_PROGRAM") or str(TOP / "crates/taxi_cli/out/taxi_cli")
@@ -27,9 +29,6 @@ MORNING = {
     5: ("2", "8.50", "1.00", "520.000 m", "670.000 m"), 6: ("3", "12.40", "1.00", "620.000 m", "770.000 m"),
 }
 ROWS = ("HIRINGS", "FARE", "SUPPLEMENTS", "HIRED", "DISTANCE")
-RECEIPT = re.compile(
-    r"^RECEIPT (\d+)$.*?^DISTANCE (\S+) m$.*?^FARE (\S+)$\n^SUPPLEMENTS (\S+)$.*?^END$", re.MULTILINE | re.DOTALL
-)
 
 
 class Folder:
@@ -164,19 +163,16 @@ def check_sealing(before):
     return check
 
 
-def units(text):
-    return int(text.replace(".", "").replace(" m", ""))
-
-
 def receipts_in(text):
     """The whole receipts of a text: number, fare, supplements and distance in their smallest units."""
-    return [(int(number), units(fare), units(more), units(far)) for number, far, fare, more in RECEIPT.findall(text)]
+    found = [receipt.fields for receipt in roll.receipts_in(text.encode())]
+    return [(one["receipt"], *(units(one[name]) for name in ("fare", "supplements", "distance_m"))) for one in found]
 
 
 def differ(totals, receipts):
     """Whether totals aren't the sums over receipts."""
     sums = [len(receipts), *(sum(receipt[field] for receipt in receipts) for field in (1, 2, 3))]
-    return sums != [units(totals[row]) for row in ROWS[:4]]
+    return sums != [units(totals[row].removesuffix(" m")) for row in ROWS[:4]]
 
 
 def check_run(receipts, rows):

@@ -7,7 +7,7 @@ from fractions import Fraction
 from math import ceil, floor
 
 from heglorwy.tables import money
-from heglorwy.tariff_faults import of_kind
+from heglorwy.tariff_parts import of_kind
 
 TOP = pathlib.Path(__file__).resolve().parents[2]
 

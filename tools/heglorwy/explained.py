@@ -5,7 +5,7 @@ import datetime
 
 from heglorwy.meter import millimetres
 from heglorwy.tables import money
-from heglorwy.tariff_faults import measure_of, of_kind
+from heglorwy.tariff_parts import measure_of, of_kind
 from heglorwy.tariff_kinds import LARGEST_FARE
 
 WAYS = ["DISTANCE", "TIME", "BOTH"]

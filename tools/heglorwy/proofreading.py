@@ -1,10 +1,36 @@
-"""The findings of a tariff that is proofread: lines without a form, faults, and lines that never hold."""
+"""The findings of a tariff that is proofread: what `taxi faults` names, in words, and advice on a sound tariff."""
 
-from heglorwy.program import Differs
-from heglorwy.tariff import MOST_BYTES, lines_in, read_tariff
-from heglorwy.tariff_faults import MENDED_BY, cells_of, faults_of, measure_of
+from heglorwy import advice
+from heglorwy.faults import BROUGHT_BY, faults_of
+from heglorwy.guesses import guess
+from heglorwy.program import Refused
+from heglorwy.tariff import lines_in
 
-NEVER = "never: a meter comes to no position, zone, day, minute, distance and time at which it is the first that holds"
+
+class Finding:
+    """A finding: its line (None for the whole text), the place there and how many bytes it marks, and what it says."""
+
+    def __init__(self, line, said, at=0, width=0):
+        self.line, self.said, self.at, self.width = line, said, at, width
+
+    def as_text(self, name, text):
+        """The finding as it is printed: `FILE:LINE:COLUMN: text`, the line, and a caret."""
+        if self.line is None:
+            return f"{name}: {self.said}"
+        line = lines_in(text)[self.line - 1]
+        end = self.at + self.width
+        before, marked, whole = (
+            shown(part.decode(errors="replace")) for part in (line[: self.at], line[self.at : end], line.rstrip(b"\r"))
+        )
+        if not self.width and not self.at:
+            before, marked = whole[: len(whole) - len(whole.lstrip())], whole.strip()
+        blanks = "".join("\t" if letter == "\t" else " " for letter in before)
+        return f"{name}:{self.line}:{len(before) + 1}: {self.said}\n  {whole}\n  {blanks}{'^' * max(1, len(marked))}"
+
+
+def shown(line):
+    """A line as a terminal may have it."""
+    return "".join(letter if letter.isprintable() or letter == "\t" else "?" for letter in line)
 
 
 def is_wide(text):
@@ -20,72 +46,34 @@ def without(text, bad):
     return b"\n".join(lines)
 
 
-def instead(text, bad):
-    """A text in which lines are others that have a form."""
-    lines = text.split(b"\n")
-    for number in bad:
-        lines[number - 1] = b"zones 1"
-    return b"\n".join(lines)
+def brought_by(text, bad):
+    """The faults that lines without a form may bring, so that they aren't told before these lines are mended."""
+    words = [(lines_in(text)[number - 1].decode("latin-1").split() or [""])[0] for number in bad]
+    return {fault for word in words for fault in BROUGHT_BY.get(word, sum(BROUGHT_BY.values(), []))}
 
 
-def compare(taxi, text, wanted):
-    """Compares what `check` says of a text with what was found."""
-    said = taxi.call("check", text=text)[0].decode().strip()
-    if said != wanted:
-        raise Differs(f"check says {said!r} where {wanted!r} was found")
-
-
-def verdict_of(tariff):
-    """What `check` has to say of a tariff whose lines have their forms, and its faults."""
-    faults = list(faults_of(tariff.lines))
-    if faults:
-        return f"BAD TARIFF {faults[0].said}", faults
-    return f"OK CELLS {cells_of(tariff.lines)} MEASURE {measure_of(tariff.lines)}", []
-
-
-def mended_by(text, bad):
-    """The faults that the lines without a form could take away when they are mended."""
-    lines = lines_in(text)
-    words = [(lines[number - 1].split() or [""])[0] for number in bad]
-    return {fault for word in words for fault in MENDED_BY.get(word, sum(MENDED_BY.values(), []))}
-
-
-def lines_that_never_hold(taxi, text, constant):
-    """The lines of a sound tariff that `lines` calls `never`."""
-    printed, status = taxi.call("lines", "tariff", str(constant), tariff=text)
-    if status:
-        raise Differs(f"lines ends with {status} of a tariff that check finds sound")
-    rows = [line.split(" ") for line in printed.decode().splitlines()]
-    return [(int(row[0]), 0, 0, NEVER) for row in rows if row[2] == "never"]
+def of_faults(taxi, text):
+    """The findings of a text that isn't sound: lines without a form, and then the faults of the others."""
+    faults = faults_of(taxi, text)
+    bad = [fault.line for fault in faults if fault.name == "Syntax"]
+    if bad and is_wide(text):
+        return [Finding(bad[0], "the text is UTF-16: save it as UTF-8, or as plain ASCII", 0, 1)]
+    found = [(number, guess(lines_in(text)[number - 1])) for number in bad]
+    found = [Finding(number, one.said, one.at, one.width) for number, one in found]
+    untold = brought_by(text, bad)
+    others = faults_of(taxi, without(text, bad)) if bad else faults
+    if any(fault.name == "Syntax" for fault in others):
+        return found  # without its first line the text means something else
+    return found + [Finding(fault.line, f"{fault.name}: {fault.text}") for fault in others if fault.name not in untold]
 
 
 def findings(taxi, text, constant):
-    """Each finding: the number of its line and its place there, how many letters it marks, and what it says."""
-    if len(text) > MOST_BYTES:
-        compare(taxi, text, "BAD TARIFF TooLong")
-        return [(None, 0, 0, f"the text has {len(text)} bytes, and there may be {MOST_BYTES}")]
-    tariff = read_tariff(text)
-    bad = [number for number, _ in tariff.bad]
-    for place, number in enumerate(bad):
-        compare(taxi, instead(text, bad[:place]), f"BAD TARIFF Syntax {number}")
-    if bad and is_wide(text):
-        return [(bad[0], 0, 1, "the text is UTF-16: save it as UTF-8, or as plain ASCII")]
-    found = [(number, why.at, why.width, str(why)) for number, why in tariff.bad]
-    rest = read_tariff(without(text, bad)) if bad else tariff
-    if rest.bad:
-        return found  # without its first line the text means something else
-    verdict, faults = verdict_of(rest)
-    compare(taxi, without(text, bad), verdict)
-    if not bad and not faults:
-        return lines_that_never_hold(taxi, text, constant)
-    untold = mended_by(text, bad)
-    return found + [
-        (fault.line, 0, 0, f"{fault.said.split(' ')[0]}: {fault.text}")
-        for fault in faults
-        if fault.said.split(" ")[0] not in untold
-    ]
+    """All findings of a text; of a sound tariff those of `lines` and of its conditions."""
+    found = of_faults(taxi, text)
+    return found or [Finding(*one) for one in advice.of_tariff(taxi, text, constant)]
 
 
-def is_sound(found):
-    """Whether a tariff with these findings is carried out."""
-    return all(said == NEVER for *_, said in found)
+def need_sound(taxi, name, text):
+    """Refuses a tariff that isn't sound, with its first finding."""
+    if found := of_faults(taxi, text):
+        raise Refused(2, f"the tariff is refused\n{found[0].as_text(name, text)}")

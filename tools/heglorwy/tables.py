@@ -6,7 +6,7 @@ from typing import NamedTuple
 
 from heglorwy.program import Differs, Refused
 from heglorwy.tariff import read_tariff
-from heglorwy.tariff_faults import cells_of, cuts_of, number_of, of_kind, place_of
+from heglorwy.tariff_parts import cells_of, cuts_of, number_of, of_kind, place_of
 from heglorwy.tariff_kinds import IN_CELLS, KINDS
 
 
@@ -56,7 +56,7 @@ def tables_of(taxi, text, constant):
     if status:
         raise Refused(status, f"the tariff is refused: {(printed.decode().splitlines() or [''])[-1]}")
     rows = [line.split(" ") for line in printed.decode().splitlines()]
-    tariff = read_tariff(text)
+    tariff = read_tariff(taxi, text)
     rates = [tuple(map(int, row[2:])) for row in rows if row[0] == "RATE"]
     cells = [tuple(map(int, row[2:])) for row in rows if row[0] == "CELL"]
     if len(cells) != cells_of(tariff.lines):

@@ -50,12 +50,12 @@ module _ {E D L : Type 0} {N : ℕ} (F : FileGhosts E) (B : Ghosts D N L) (c : C
   -- a command that only looks at the store
   pub carries-looked : (files files' : E) (old new : D) (before now : ℕ) (ended : Ended) → c.opens
       → ((status : ℕ) → ¬ (c.writes status))
-      → (c.known F.tells B.tells_image → EndsOnDevices F B c files files' old new ended)
+      → (c.told F.tells B.tells_image → EndsOnDevices F B c files files' old new ended)
       → ((later : ℕ) → later ≤ now + 1
       → c.steps F.tells B.tells_image (F.rest files) (F.rest files') (B.image old) before later)
       → (ended ≡ ends.ReadFault → StopsReading F c files files') → HasCauseOn B old new ended
       → ((word : ℕ) → ¬ (c.reads word) → F.rest files' word ≡ F.rest files word)
-      → (c.known F.tells B.tells_image → LeavesUnread c (F.rest files) (F.rest files') (B.image old))
+      → (c.told F.tells B.tells_image → LeavesUnread c (F.rest files) (F.rest files') (B.image old))
       → (ended ≢ ends.ReadFault → ended ≢ ends.BoardFault → (word : ℕ) → F.faults files' word ≡ F.faults files word)
       → LeavesStoreUnwritten B old new ended → Carries F B c files files' old new before now ended
   carries-looked files files' old new _ _ ended opens none comes steps read cause others unread counts looked = record {
@@ -78,12 +78,12 @@ module _ {E D L : Type 0} {N : ℕ} (F : FileGhosts E) (B : Ghosts D N L) (c : C
   -- a command that doesn't open the store, and keeps it
   pub carries-kept : (files files' : E) (old new : D) (before now : ℕ) (ended : Ended) → ¬ c.opens
       → ((status : ℕ) → ¬ (c.writes status))
-      → (c.known F.tells B.tells_image → EndsOnDevices F B c files files' old new ended)
+      → (c.told F.tells B.tells_image → EndsOnDevices F B c files files' old new ended)
       → ((later : ℕ) → later ≤ now + 1
       → c.steps F.tells B.tells_image (F.rest files) (F.rest files') (B.image old) before later)
       → (ended ≡ ends.ReadFault → StopsReading F c files files') → HasCauseOn B old new ended
       → ((word : ℕ) → ¬ (c.reads word) → F.rest files' word ≡ F.rest files word)
-      → (c.known F.tells B.tells_image → LeavesUnread c (F.rest files) (F.rest files') (B.image old))
+      → (c.told F.tells B.tells_image → LeavesUnread c (F.rest files) (F.rest files') (B.image old))
       → (ended ≢ ends.ReadFault → ended ≢ ends.BoardFault → (word : ℕ) → F.faults files' word ≡ F.faults files word)
       → KeepsStore B old new → Carries F B c files files' old new before now ended
   carries-kept files files' old new _ _ ended shut none comes steps read cause others unread counts kept = record {
@@ -105,7 +105,7 @@ module _ {E D L : Type 0} {N : ℕ} (F : FileGhosts E) (B : Ghosts D N L) (c : C
 
   -- a command without files, whose bounds and whose answer need nothing of them
   pub carries-unread : (files : E) (old new : D) (before now : ℕ) (ended : Ended)
-      → (c.known F.tells B.tells_image → c.known (Unit {0}) B.tells_image)
+      → (c.told F.tells B.tells_image → c.told (Unit {0}) B.tells_image)
       → ((later : ℕ) → c.steps (Unit {0}) B.tells_image (F.rest files) (F.rest files) (B.image old) before later
       → c.steps F.tells B.tells_image (F.rest files) (F.rest files) (B.image old) before later)
       → Carries (no_files (F.rest files)) B c tt tt old new before now ended
@@ -132,7 +132,7 @@ module _ {E D L : Type 0} {N : ℕ} (F : FileGhosts E) (B : Ghosts D N L) (c : C
 
   -- a command without a board, which doesn't open the store, and whose bounds and whose answer need nothing of it
   pub carries-shut : (files files' : E) (board : D) (before : ℕ) (ended : Ended) → ¬ c.opens
-      → (c.known F.tells B.tells_image → c.known F.tells (Unit {0}))
+      → (c.told F.tells B.tells_image → c.told F.tells (Unit {0}))
       → (((later : ℕ) → later ≤ 1 → c.steps F.tells (Unit {0}) (F.rest files) (F.rest files') (B.image board) 0 later)
       → (later : ℕ) → later ≤ before + 1
       → c.steps F.tells B.tells_image (F.rest files) (F.rest files') (B.image board) before later)
@@ -168,12 +168,12 @@ shut-kept image =
 -- a command without a board, from what it says and what it does to its files
 pub carries-said : {E : Type 0} (F : FileGhosts E) (image : List ℕ) (c : Command) (files files' : E) (ended : Ended)
     → ¬ c.opens → ((status : ℕ) → ¬ (c.writes status))
-    → (c.known F.tells (Unit {0}) → EndsUnprinted c (F.rest files) (F.rest files') image
+    → (c.told F.tells (Unit {0}) → EndsUnprinted c (F.rest files) (F.rest files') image
     (λ word. Rose (F.faults files word) (F.faults files' word)) ended)
     → ((later : ℕ) → later ≤ 1 → c.steps F.tells (Unit {0}) (F.rest files) (F.rest files') image 0 later)
     → (ended ≡ ends.ReadFault → StopsReading F c files files') → ended ≢ ends.BoardFault
     → ((word : ℕ) → ¬ (c.reads word) → F.rest files' word ≡ F.rest files word)
-    → (c.known F.tells (Unit {0}) → LeavesUnread c (F.rest files) (F.rest files') image)
+    → (c.told F.tells (Unit {0}) → LeavesUnread c (F.rest files) (F.rest files') image)
     → (ended ≢ ends.ReadFault → ended ≢ ends.BoardFault → (word : ℕ) → F.faults files' word ≡ F.faults files word)
     → Carries F (no_board image) c files files' tt tt 0 0 ended
 carries-said F image c files files' ended shut none comes steps read not_board others unread counts =

@@ -9,7 +9,7 @@ use Rattle.call_ends.specs.declared.ending.Ended.{Ended}
 use Rattle.call_ends.specs.declared.ending.Ended.TheVariants.{BoardFault}
 use Rattle.call_ends.specs.Call.{MayTake, IsWhole, IsCutShort}
 use Rattle.call_ends.specs.Course.{Command, Course, Answered, ReadFailed, NoMemory, BoardFailed, status_in, shown_in}
-use Rattle.call_ends.specs.Course.{line_in, text_in}
+use Rattle.call_ends.specs.Course.{line_in, call_text}
 use Rattle.call_ends.specs.Ending.{IsDue, IsBrokenOff, EndsByCourse, EndsUnprinted}
 use Rattle.call_ends.specs.LastLine.{status_of, line_of}
 
@@ -71,8 +71,8 @@ Finishes told failed ended status mid now =
 -- how the course ends
 abbrev Ends : Command → (contents : ℕ → List ℕ) → List ℕ → Type 0 → Type 0 → Course → ℕ → List ℕ → List ℕ → Type 0
 Ends c contents image told failed course status before now =
-    IsWhole told (status_in c contents image course) (text_in c contents image course) status before now
-    ⊎ IsCutShort told failed (text_in c contents image course) status before now
+    IsWhole told (status_in c contents image course) (call_text c contents image course) status before now
+    ⊎ IsCutShort told failed (call_text c contents image course) status before now
 
 module _ (c : Command) (contents left : ℕ → List ℕ) (image : List ℕ) (read_failed : ℕ → Type 0)
     (failed failed' told : Type 0) (before mid now : List ℕ) where
@@ -115,7 +115,7 @@ module _ (c : Command) (contents left : ℕ → List ℕ) (image : List ℕ) (re
       inr (record {
         status_is = same.0;
         failed = more b.failed;
-        begun = λ t. kept_begun before mid now (text_in c contents image course) (b.started t) (same.1 t);
+        begun = λ t. kept_begun before mid now (call_text c contents image course) (b.started t) (same.1 t);
       })
 
   -- a command that came to its end, and its last line

@@ -4,7 +4,7 @@ use Rattle.outside.specs.Faults.{Rose}
 use Rattle.outside.specs.Printing.{Begins}
 use Rattle.outside.specs.declared.board.Board.{Ghosts}
 use Rattle.outside.specs.declared.files.Files.{Ghosts as FileGhosts}
-use Rattle.call_ends.specs.Course.{Command, Course, Answered, ReadFailed, NoMemory, BoardFailed, status_in, text_in}
+use Rattle.call_ends.specs.Course.{Command, Course, Answered, ReadFailed, NoMemory, BoardFailed, status_in, call_text}
 use Rattle.call_ends.specs.Stream.{Takes, TellsItsEnd, bad_status}
 
 -- a call leaves a word's file unread where its command, with these contents and this image, comes to no read of the
@@ -81,7 +81,7 @@ module _ {E D L : Type 0} {N : ℕ} (F : FileGhosts E) (B : Ghosts D N L) where
     pub may : MayTake c (F.rest files) (F.rest files') (B.image board)
         (λ word. Rose (F.faults files word) (F.faults files' word)) (Rose (B.faults board) (B.faults board')) course
     pub ends : IsEnd B.tells_text (Rose (B.faults board) (B.faults board'))
-        (status_in c (F.rest files) (B.image board) course) (text_in c (F.rest files) (B.image board) course)
+        (status_in c (F.rest files) (B.image board) course) (call_text c (F.rest files) (B.image board) course)
         ended (B.printed board) (B.printed board')
     pub unread : LeavesUnread c (F.rest files) (F.rest files') (B.image board)
 

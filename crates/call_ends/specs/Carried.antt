@@ -2,14 +2,14 @@
 use Rattle.std.specs.Prelude.{◌≡◌, ◌≢◌, ℕ, ◌+◌, ◌≤◌, List, []}
 use Rattle.outside.specs.Disk.{store_size}
 use Rattle.outside.specs.Faults.{Rose}
-use Rattle.outside.specs.Runs.{IsSettled, KeepsStore}
+use Rattle.outside.specs.Runs.{IsAtRest, KeepsStore}
 use Rattle.outside.specs.declared.board.Board.{Ghosts}
 use Rattle.outside.specs.declared.files.Files.{Ghosts as FileGhosts}
 use Rattle.call_ends.specs.Call.{LeavesUnread, StopsReading}
 use Rattle.call_ends.specs.Course.{Command, IsReadOnlyCommand}
 use Rattle.call_ends.specs.Ending.{EndsOnDevices, LeavesImageSettled}
 use Rattle.call_ends.specs.LastLine.{status_of}
-use Rattle.call_ends.specs.Unwritten.{KeepsBytes}
+use Rattle.call_ends.specs.Unwritten.{WritesNothing}
 use Rattle.call_ends.specs.declared.ending.Ended.{Ended}
 use Rattle.call_ends.specs.declared.ending.Ended.TheVariants.{BoardFault, ReadFault}
 
@@ -19,20 +19,20 @@ module _ {E D L : Type 0} {N : ℕ} (F : FileGhosts E) (B : Ghosts D N L) where
   -- all may have written where the board fails, and one that opens the store leaves nothing in flight unless the board
   -- failed
   pub record Carries (c : Command) (files files' : E) (old new : D) (before now : ℕ) (ended : Ended) : Type 0 where
-    pub ends : c.known F.tells B.tells_image → EndsOnDevices F B c files files' old new ended
+    pub ends : c.told F.tells B.tells_image → EndsOnDevices F B c files files' old new ended
     pub steps : (later : ℕ) → later ≤ now + 1
         → c.steps F.tells B.tells_image (F.rest files) (F.rest files') (B.image old) before later
     pub read_fault : ended ≡ ReadFault → StopsReading F c files files'
     pub board_fault : ended ≡ BoardFault → Rose (B.faults old) (B.faults new)
     pub others : (word : ℕ) → ¬ c.reads word → F.rest files' word ≡ F.rest files word
-    pub unread : c.known F.tells B.tells_image → LeavesUnread c (F.rest files) (F.rest files') (B.image old)
+    pub unread : c.told F.tells B.tells_image → LeavesUnread c (F.rest files) (F.rest files') (B.image old)
     pub count : ended ≢ BoardFault → B.faults new ≡ B.faults old
     pub counts : ended ≢ ReadFault → ended ≢ BoardFault → (word : ℕ) → F.faults files' word ≡ F.faults files word
     pub kept : ¬ c.opens → KeepsStore B old new
-    pub unwritten : ¬ c.writes (status_of ended) → KeepsBytes B old new
+    pub unwritten : ¬ c.writes (status_of ended) → WritesNothing B old new
     pub same : ¬ c.writes (status_of ended) → ended ≢ BoardFault → B.image new ≡ B.image old
     pub fails : (status : ℕ) → c.writes status → c.writes 8
-    pub at_rest : c.known F.tells B.tells_image → B.tells_image → c.opens → ended ≢ BoardFault → IsSettled B new
+    pub at_rest : c.told F.tells B.tells_image → B.tells_image → c.opens → ended ≢ BoardFault → IsAtRest B new
     pub looks : IsReadOnlyCommand c → B.tells_image → LeavesImageSettled B old new ended
 
 -- a command that is given no files may hold any contents, and has no fault of a read

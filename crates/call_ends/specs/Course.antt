@@ -23,7 +23,7 @@ pub record Command : Type 1 where
   -- whether the command comes to a place where memory may run out when the bytes `taken` were taken
   pub may_lack : (contents : ℕ → List ℕ) (image taken : List ℕ) → Type 0
   -- what has to be told of the files' contents and of the image, so that the answer of the command is known
-  pub known : (files_tell image_told : Type 0) → Type 0
+  pub told : (files_tell image_told : Type 0) → Type 0
   -- whether the command opens the store
   pub opens : Type 0
   -- whether the command may have written the store where it ends with a status
@@ -48,7 +48,7 @@ store_command answer = record {
   reads_all = λ status. status ≡ 0;
   comes_to = λ contents image word taken. ⊥;
   may_lack = λ contents image taken. ⊥;
-  known = λ files_tell image_told. image_told;
+  told = λ files_tell image_told. image_told;
   opens = Unit {0};
   writes = λ ended. ⊥;
   steps = λ files_tell image_told contents left image before now. now ≤ before + 64 + 1;
@@ -88,5 +88,5 @@ module _ (c : Command) (contents : ℕ → List ℕ) (image : List ℕ) where
   line_in (BoardFailed taken) = []
 
   -- the text of a course is what is shown in it, and then its last line
-  abbrev pub text_in : Course → List ℕ
-  text_in course = shown_in course ++ line_in course
+  abbrev pub call_text : Course → List ℕ
+  call_text course = shown_in course ++ line_in course

@@ -2,13 +2,13 @@
 use Rattle.std.specs.Prelude.{◌≡◌, ◌≢◌, ◌⊎◌, ℕ, List, [], ◌++◌}
 use Rattle.outside.specs.Faults.{Rose}
 use Rattle.outside.specs.Printing.{Begins}
-use Rattle.outside.specs.Runs.{IsSettled}
+use Rattle.outside.specs.Runs.{IsAtRest}
 use Rattle.outside.specs.declared.board.Board.{Ghosts}
 use Rattle.outside.specs.declared.files.Files.{Ghosts as FileGhosts}
 use Rattle.call_ends.specs.Call.{MayTake}
-use Rattle.call_ends.specs.Course.{Command, Course, status_in, shown_in, line_in, text_in}
+use Rattle.call_ends.specs.Course.{Command, Course, status_in, shown_in, line_in, call_text}
 use Rattle.call_ends.specs.LastLine.{status_of, line_of}
-use Rattle.call_ends.specs.Unwritten.{KeepsBytes, LeavesImage}
+use Rattle.call_ends.specs.Unwritten.{WritesNothing, LeavesImage}
 use Rattle.call_ends.specs.declared.ending.Ended.{Ended}
 use Rattle.call_ends.specs.declared.ending.Ended.TheVariants.{BadTariff, ReadFault, BoardFault, NoMemory}
 use Rattle.tariff_check.specs.declared.fault.CheckFault.{CheckFault}
@@ -44,7 +44,7 @@ module _ (c : Command) (contents left : ℕ → List ℕ) (image : List ℕ) (re
   pub record IsBrokenOff (course : Course) (ended : Ended) : Type 0 where
     pub ended_is : ended ≡ BoardFault
     pub failed : board_failed
-    pub started : begun (text_in c contents image course)
+    pub started : begun (call_text c contents image course)
 
   -- a command comes to an end where it may take a course, and the last line of that is due or the course is broken off
   pub record EndsByCourse (ended : Ended) : Type 0 where
@@ -80,12 +80,12 @@ module _ {D L : Type 0} {N : ℕ} (B : Ghosts D N L) where
   pub record LeavesImageSettled (old new : D) (ended : Ended) : Type 0 where
     pub leaves : LeavesImage B (ended ≡ BoardFault) old new
     pub same : ended ≢ BoardFault → B.image new ≡ B.image old
-    pub settled : ended ≢ BoardFault → IsSettled B new
+    pub settled : ended ≢ BoardFault → IsAtRest B new
 
   -- a command keeps the store where nothing was written, unless the board failed no byte has changed, and, where the
   -- image is told, the command has only looked at the store
   pub record LeavesStoreUnwritten (old new : D) (ended : Ended) : Type 0 where
-    pub bytes : KeepsBytes B old new
+    pub bytes : WritesNothing B old new
     pub same : ended ≢ BoardFault → B.image new ≡ B.image old
     pub looks : B.tells_image → LeavesImageSettled old new ended
 

@@ -3,12 +3,12 @@ use Rattle.std.proofs.Common.{◌≡◌, ◌≢◌, ◌⊎◌, inl, inr, ℕ, Li
 use Rattle.outside.specs.declared.board.Board.{Ghosts}
 use Rattle.outside.specs.declared.files.Files.{Ghosts as FileGhosts}
 use Rattle.outside.specs.Faults.{RisesOnlyIf, Rose}
-use Rattle.outside.specs.Runs.{IsSettled, KeepsStore}
+use Rattle.outside.specs.Runs.{IsAtRest, KeepsStore}
 use Rattle.call_ends.specs.declared.ending.Ended.{Ended}
 use Rattle.call_ends.specs.declared.ending.Ended.TheVariants as ended
 use Rattle.call_ends.specs.Call.{HasReadFault, IsCall, IsEnd, LeavesUnread, MayLack, MayTake}
 use Rattle.call_ends.specs.Carried.{Carries}
-use Rattle.call_ends.specs.Course.{Command, Course, Answered, ReadFailed, NoMemory, BoardFailed, status_in, text_in}
+use Rattle.call_ends.specs.Course.{Command, Course, Answered, ReadFailed, NoMemory, BoardFailed, status_in, call_text}
 use Rattle.call_ends.specs.Ending.{EndsOnDevices, HasCauseOn}
 use Rattle.call_ends.specs.LastLine.{line_of, status_of}
 use Rattle.call_ends.specs.Unwritten.{WritesNothing}
@@ -75,7 +75,7 @@ module _ {E D L : Type 0} {N : ℕ} (F : FileGhosts E) (B : Ghosts D N L) (files
 
   pub rests_after : (command : Command) (before now : ℕ) → KeepsStore B mid new
       → Carries F B command files files' old mid before now end
-      → command.known F.tells B.tells_image → B.tells_image → command.opens → status ≢ 8 → IsSettled B new
+      → command.told F.tells B.tells_image → B.tells_image → command.opens → status ≢ 8 → IsAtRest B new
   rests_after command before now kept carried known told opened not_8 place flies =
       carried.at_rest known told opened (no_board not_8) place (kept.flight place flies)
 
@@ -99,7 +99,7 @@ module _ {E D L : Type 0} {N : ℕ} (F : FileGhosts E) (B : Ghosts D N L) (c : C
       → MayTake c (F.rest files) (F.rest files') (B.image old)
       (λ word. Rose (F.faults files word) (F.faults files' word)) (Rose (B.faults old) (B.faults new)) course
       → EndsWith (status_in c (F.rest files) (B.image old) course)
-      (text_in c (F.rest files) (B.image old) course) → Completes
+      (call_text c (F.rest files) (B.image old) course) → Completes
   by_course Answered may ends = inl (status_whole _ _ ends)
   by_course (ReadFailed word taken) may ends =
       absurd (read (record { word = word; reads = may.reads; rose = may.failed }))

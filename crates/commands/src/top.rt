@@ -3,7 +3,7 @@
 
 ghost use Rattle.std.specs.Prelude.{◌≡◌, ◌≢◌, ℕ, None, Some};
 ghost use Rattle.outside.specs.Faults.{RisesOnlyIf};
-ghost use Rattle.outside.specs.Runs.{IsSettled, KeepsStore, LeavesOnly};
+ghost use Rattle.outside.specs.Runs.{IsAtRest, KeepsStore, LeavesOnly};
 ghost use Rattle.call_ends.specs.Call.{IsCall, StopsReading};
 ghost use Rattle.commands.specs.Called.{called_by, row_in, ComesToAnswer, MayLeaveSealingBy, TakesSteps, sealing_by};
 ghost use Rattle.commands.specs.Carried.{CarriesRow};
@@ -152,7 +152,7 @@ pub fn taxi<F: Files, B: Board<STORE_SIZE, L>, L: Ledger>(
 ) -> u8
     // A call takes a course that its words, their files' contents and the opening image allow, ends as it says, and
     // leaves each file unread to whose read the command doesn't come, as the drive's where the tariff is refused.
-    ensures call { (called_by words.now).known F.tells B.tells_image
+    ensures call { (called_by words.now).told F.tells B.tells_image
         → IsCall F.Files B.Board (called_by words.now) files.old files.new board.old board.new result }
 
     // Refused words read nothing, and no command reads a word that it doesn't name, whatever the files tell.
@@ -167,7 +167,7 @@ pub fn taxi<F: Files, B: Board<STORE_SIZE, L>, L: Ledger>(
     ensures unfailed { result ≢ 7 → result ≢ 8 → (word : ℕ) → F.faults files.new word ≡ F.faults files.old word }
 
     // Where no count rose, the status is that of the answer, unless memory ran out.
-    ensures complete { (called_by words.now).known F.tells B.tells_image
+    ensures complete { (called_by words.now).told F.tells B.tells_image
         → ComesToAnswer F.Files B.Board (called_by words.now) files.old files.new board.old board.new result }
 
     // One step for the last line, one for each row of tables, at most 31 for offsets, 64 for an opening of the store,
@@ -182,8 +182,8 @@ pub fn taxi<F: Files, B: Board<STORE_SIZE, L>, L: Ledger>(
     ensures unwritten { ¬ (called_by words.now).writes result → WritesNothing B.Board board.old board.new result }
 
     // A command that opens the store leaves nothing in flight, unless the board failed.
-    ensures at_rest { (called_by words.now).known F.tells B.tells_image → B.tells_image
-        → (called_by words.now).opens → result ≢ 8 → IsSettled B.Board board.new }
+    ensures at_rest { (called_by words.now).told F.tells B.tells_image → B.tells_image
+        → (called_by words.now).opens → result ≢ 8 → IsAtRest B.Board board.new }
 
     // Where a command only looks at the store, a cut of the power from its opening sync on leaves the image as it was.
     ensures looks { IsReadOnlyRow (row_in words.now) → B.tells_image
@@ -195,7 +195,7 @@ pub fn taxi<F: Files, B: Board<STORE_SIZE, L>, L: Ledger>(
     // which a byte of the line `SEALED n` stands printed leaves the new seal.
     ensures seals { row_in words.now ≡ Some Row.Seal → F.tells → B.tells_image
         → Seals B.Board (sealing_by F.Files B.Board files.old board.old) board.old board.new result }
-    ensures settled { row_in words.now ≡ Some Row.Seal → F.tells → B.tells_image → IsSettled B.Board board.old
+    ensures settled { row_in words.now ≡ Some Row.Seal → F.tells → B.tells_image → IsAtRest B.Board board.old
         → LeavesOnly B.Board board.old board.new (MayLeaveSealingBy F.Files B.Board files.old board.old) }
 
     // The headline. A run prints the displays, refusals and receipts that the tariff's text means for its drive, and no

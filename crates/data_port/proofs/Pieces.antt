@@ -18,7 +18,7 @@ use Rattle.data_port.specs.Reading.{requests_in, standing_after}
 use Rattle.data_port.specs.ReadingStages.{after_bytes, bad_of, ended_in}
 use Rattle.data_port.specs.Reply.{reply_to}
 use Rattle.data_port.specs.Requests.{IsRequest}
-use Rattle.data_port.specs.Serving.{BadAt, Endless, IsBoundedBy, ReachesEnd, Serves, ServesTo, StopsAfter, StreamEnd}
+use Rattle.data_port.specs.Serving.{BadAt, Endless, IsBoundedByRequests, ReachesEnd, Serves, ServesTo, StopsAfter, StreamEnd}
 use Rattle.data_port.specs.Serving.{Whole, replies, stream_limit}
 use Rattle.data_port.specs.ServingStages.{ServesPiece}
 use Rattle.data_port.proofs.Endings.{bad_ends, endless_ends, unfinished_ends, whole_ends}
@@ -375,7 +375,7 @@ module _ (known told : Type 0) (durable : Durable) (seal : Seal) (port : Standin
   }
 
   pub more_steps : (piece rest' : List ℕ) (steps' : ℕ) → (known → rest ≡ piece ++ rest')
-      → steps' ≤ steps + length (ended_in port piece) → known → IsBoundedBy stream rest' opening steps'
+      → steps' ≤ steps + length (ended_in port piece) → known → IsBoundedByRequests stream rest' opening steps'
   more_steps piece rest' steps' passes more k = record {
     taken = f.taken ++ piece;
     split = record { bytes = longer piece rest' passes k };

@@ -1,4 +1,4 @@
--- For proofs: a stream of requests, byte by byte, as a port reads it. The law `streams_are_read_by_their_frames` says
+-- By law: a stream of requests, byte by byte, as a port reads it. The law `streams_are_read_by_their_frames` says
 -- what the requests and the first bad place of a stream are.
 use Rattle.std.specs.Prelude.{ℕ, ◌+◌, ◌-◌, List, [], ◌∷◌, ◌++◌, length, drop, get_or, Bool, true, false}
 use Rattle.std.specs.Prelude.{if◌then◌else◌, ◌==◌, ◌&&◌, nat_le, nat_lt, Option, Some, None}

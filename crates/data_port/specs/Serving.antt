@@ -39,7 +39,7 @@ abbrev pub replies : Durable → Seal → List Request → List ℕ
 replies durable seal requests = flat_map (reply_to durable seal) requests
 
 -- steps are bounded by a stream if at most one was counted for each request in the bytes that were taken
-pub record IsBoundedBy (stream left : List ℕ) (before now : ℕ) : Type 0 where
+pub record IsBoundedByRequests (stream left : List ℕ) (before now : ℕ) : Type 0 where
   pub taken : List ℕ
   pub split : IsSplit stream taken left
   pub bound : now ≤ before + length (requests_in taken)

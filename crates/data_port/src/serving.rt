@@ -10,7 +10,7 @@ ghost use Rattle.data_port.specs.Reading.{HasSense, HasTaken, bad_at_end};
 ghost use Rattle.data_port.specs.ReadingStages.{ended_in};
 ghost use Rattle.data_port.specs.Reply.{reply_to};
 ghost use Rattle.data_port.specs.Requests.{IsRequest};
-ghost use Rattle.data_port.specs.Serving.{IsBoundedBy, Serves, replies};
+ghost use Rattle.data_port.specs.Serving.{IsBoundedByRequests, Serves, replies};
 ghost use Rattle.data_port.specs.ServingStages.{ServesPiece};
 
 use crate::port::Port;
@@ -58,7 +58,7 @@ pub fn serve<F: Files, B: Board<STORE_SIZE, L>, L: Ledger>(
     requires seal { IsSeal seal.now }
     ensures serves { F.tells → Serves B.tells_text durable.now seal.now
         (F.rest files.old word) (F.rest files.new word) (B.printed board.old) (B.printed board.new) result }
-    ensures steps { F.tells → IsBoundedBy (F.rest files.old word) (F.rest files.new word) steps.old steps.new }
+    ensures steps { F.tells → IsBoundedByRequests (F.rest files.old word) (F.rest files.new word) steps.old steps.new }
     ensures others { LeavesOthers F.rest word files.old files.new }
     ensures read_fault { result ≡ Err PortFault.ReadFault → Rose (F.faults files.old word) (F.faults files.new word) }
     ensures board_fault { RisesOnlyIf (result ≡ Err PortFault.BoardFault) (B.faults board.old) (B.faults board.new) }

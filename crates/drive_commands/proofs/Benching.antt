@@ -9,7 +9,7 @@ use Rattle.verify_bench.specs.Readings.{readings_in}
 use Rattle.verify_bench.specs.declared.reading.Reading.{Reading}
 use Rattle.verify_bench.specs.declared.reading.ReadingsFault.{ReadingsFault}
 use Rattle.call_ends.specs.Answer.{Answer}
-use Rattle.drive_commands.specs.Bench.{Terms, bench_answer, bench_command, bench_text, ending_answer, passing_status}
+use Rattle.drive_commands.specs.Bench.{Terms, bench_answer, bench_command, bench_text, judged_ending, passing_status}
 use Rattle.drive_commands.specs.Bench.{readings_answer, terms_of}
 use Rattle.drive_commands.specs.BenchSteps.{HasNoTerms, IsJudged, IsNotJudged, IsStopped}
 use Rattle.call_ends.specs.Call.{LeavesUnread, MayTake}
@@ -103,12 +103,12 @@ module _ (contents left : ℕ → List ℕ) (image : List ℕ) (read_failed : �
 
   -- there are terms
   module _ (terms : Terms) (are : terms_of (opening_of image) (contents 1) ≡ Ok terms) where
-    by_terms : answer ≡ ending_answer terms (contents 2) (contents 3) (drive_end (contents 2))
+    by_terms : answer ≡ judged_ending terms (contents 2) (contents 3) (drive_end (contents 2))
     by_terms = ap (λ (r : Result Terms Ended). bench_answer r (contents 2) (contents 3)) are
 
     by_end : (reached : StreamEnd) → drive_end (contents 2) ≡ reached
-        → answer ≡ ending_answer terms (contents 2) (contents 3) reached
-    by_end reached e = by_terms ∙ ap (ending_answer terms (contents 2) (contents 3)) e
+        → answer ≡ judged_ending terms (contents 2) (contents 3) reached
+    by_end reached e = by_terms ∙ ap (judged_ending terms (contents 2) (contents 3)) e
 
     by_readings : (read : Result (List Reading) ReadingsFault) → drive_end (contents 2) ≡ Whole
         → readings_in terms.tree.decimals (contents 3) ≡ read

@@ -2,7 +2,7 @@
 use Rattle.std.proofs.Common.{◌≡◌, ◌≢◌, ℕ, ◌<◌, List, [], length, Result, Ok, Err, refl, sym, ap, ◌∙◌, inl, inr, arith}
 use Rattle.std.specs.Prelude.{◌⊎◌}
 use Rattle.drive_text.specs.Ending.{StreamEnd, Whole, BadAt, Endless, IsSplit, TellsEnd, drive_end}
-use Rattle.meter_states.specs.Setting.{Setting}
+use Rattle.meter_model.specs.Setting.{Setting}
 use Rattle.seal_record.specs.Reading.{params_read}
 use Rattle.seal_record.specs.declared.params.ParamFault.{ParamFault}
 use Rattle.seal_record.specs.declared.params.Params.{Params}
@@ -13,7 +13,7 @@ use Rattle.call_ends.specs.Course.{Answered, NoMemory, ReadFailed}
 use Rattle.call_ends.specs.Ending.{EndsUnprinted, ended_for}
 use Rattle.store_commands.specs.StoreEnds.{ended_for_params}
 use Rattle.drive_commands.specs.Explain.{ending_answer, explain_answer, explain_command, explain_turn, setting_from}
-use Rattle.drive_commands.specs.Explain.{setting_in, setting_with}
+use Rattle.drive_commands.specs.Explain.{read_setting, setting_with}
 use Rattle.drive_commands.specs.ExplainSteps.{HasExplained}
 use Rattle.call_ends.specs.LastLine.{refused_as, status_of}
 use Rattle.call_ends.specs.Pieces.{pieces_of}
@@ -31,7 +31,7 @@ use Rattle.call_ends.proofs.Laws.{course-no_memory, course-refused}
 
 -- the setting of a tariff and of parameters that were read
 pub setting_is : (tariff text : List ℕ) (t : Tree) (read : Result Params ParamFault) → tariff_in tariff ≡ Ok t
-    → params_read text ≡ read → setting_in tariff text ≡ setting_from t read
+    → params_read text ≡ read → read_setting tariff text ≡ setting_from t read
 setting_is tariff text t read sound e =
     ap (λ (r : Result Tree Refusal). setting_with r (params_read text)) sound ∙ ap (setting_from t) e
 
@@ -54,11 +54,11 @@ module _ (contents left : ℕ → List ℕ) (image : List ℕ) (read_failed : �
   Ends end = EndsUnprinted explain_command contents left image read_failed end
 
   -- the tariff or the parameters are refused, or the drive is
-  refused : (end : Ended) → explain_answer (setting_in (contents 1) (contents 3)) (contents 2) ≡ refused_as end
+  refused : (end : Ended) → explain_answer (read_setting (contents 1) (contents 3)) (contents 2) ≡ refused_as end
       → status_of end ≢ 0
       → (status_of end ≡ 3 → TellsEnd (contents 2) (left 2)) → Ends end
   refused end e not_0 bad =
-      let status : (explain_answer (setting_in (contents 1) (contents 3)) (contents 2)).status ≡ status_of end =
+      let status : (explain_answer (read_setting (contents 1) (contents 3)) (contents 2)).status ≡ status_of end =
       ap (λ (a : Answer). a.status) e in
       record {
         course = Answered;
@@ -109,9 +109,9 @@ module _ (contents left : ℕ → List ℕ) (image : List ℕ) (read_failed : �
       course-no_memory explain_command contents left image read_failed untouched (inl refl)
 
   -- there is a setting
-  module _ (s : Setting) (is : setting_in (contents 1) (contents 3) ≡ Ok s) where
+  module _ (s : Setting) (is : read_setting (contents 1) (contents 3) ≡ Ok s) where
     by_end : (reached : StreamEnd) → drive_end (contents 2) ≡ reached
-        → explain_answer (setting_in (contents 1) (contents 3)) (contents 2) ≡ ending_answer s (contents 2) reached
+        → explain_answer (read_setting (contents 1) (contents 3)) (contents 2) ≡ ending_answer s (contents 2) reached
     by_end reached e =
         ap (λ (r : Result Setting Ended). explain_answer r (contents 2)) is ∙ ap (ending_answer s (contents 2)) e
 
@@ -153,13 +153,13 @@ each_read left one two three word (inr (inr e)) = ap left e ∙ three
 
 -- the answer shows the text
 pub explained_shown : (contents left : ℕ → List ℕ) (text : List ℕ) → HasExplained contents left text
-    → explain_answer (setting_in (contents 1) (contents 3)) (contents 2) ≡ shows text
+    → explain_answer (read_setting (contents 1) (contents 3)) (contents 2) ≡ shows text
 explained_shown contents left text h =
     by_end contents left [] (λ word. ⊥) h.setting h.is Whole h.whole ∙ ap shows (sym h.text_is)
 
 -- in as many pieces as it has
 pub explained_pieces : (contents left : ℕ → List ℕ) (text : List ℕ) → HasExplained contents left text
     → pieces_of (length text)
-    ≡ pieces_of (length (explain_answer (setting_in (contents 1) (contents 3)) (contents 2)).shown)
+    ≡ pieces_of (length (explain_answer (read_setting (contents 1) (contents 3)) (contents 2)).shown)
 explained_pieces contents left text h =
     ap (λ (a : Answer). pieces_of (length a.shown)) (sym (explained_shown contents left text h))

@@ -9,7 +9,7 @@ use Rattle.drive_text.specs.Drive.{bad_at_end, events_in}
 use Rattle.drive_text.specs.Ending.{Whole, drive_end, stream_limit}
 use Rattle.drive_modes.specs.declared.charges.Mode.TheVariants.{Single}
 use Rattle.interval_clock.specs.Offsets.{EachPlace, IsInRangeAt, IsOffsetList, RisesAt}
-use Rattle.meter_run.specs.Drives.{IsBoundedBy}
+use Rattle.meter_run.specs.Drives.{IsBoundedByDrive}
 use Rattle.meter_run.specs.Supply.{drop_steps, is_supplied}
 use Rattle.taxi_units.specs.declared.event.Event.{Event}
 use Rattle.outside.specs.Printing.{Begins}
@@ -19,7 +19,8 @@ use Rattle.slot_store.specs.Scan.{found_at}
 use Rattle.slot_store.proofs.Laws.{body_found}
 use Rattle.meter_store.specs.Sealing.{totals_found}
 use Rattle.seal_record.specs.declared.seal.Seal.{Seal}
-use Rattle.meter_states.specs.Setting.{IsSealOf, IsSettingOf, IsTariffOf}
+use Rattle.meter_model.specs.Setting.{IsSealOf}
+use Rattle.meter_states.specs.Setting.{IsSettingOf, IsTariffOf}
 use Rattle.tariff_compile.specs.Tables.{IsTablesOf, TableParts, tables_of}
 use Rattle.verify_bench.specs.Generated.{generated}
 use Rattle.totals_record.specs.declared.durable_state.Durable.{Durable}
@@ -109,7 +110,7 @@ whole_drive drive good short = let first : nat_lt (length drive) stream_limit �
 
 -- a drive that was taken to its end is bounded by all of its events
 pub whole_bound : (told : Type 0) (drive left : List ℕ) (before now : ℕ) → told → left ≡ []
-    → IsBoundedBy 0 told drive left before now → now ≤ before + 64 + 64 * length (events_in drive)
+    → IsBoundedByDrive 0 told drive left before now → now ≤ before + 64 + 64 * length (events_in drive)
 whole_bound told drive left before now tells e h =
     let all : drive ≡ h.taken = (h.split tells).bytes ∙ ap (λ (x : List ℕ). h.taken ++ x) e ∙ append-nil h.taken in
     subst (λ (x : List ℕ). now ≤ before + 64 + 64 * length (events_in x)) (sym all)

@@ -14,7 +14,7 @@ use Rattle.totals_record.proofs.Laws.{changes_add_up}
 use Rattle.seal_record.specs.declared.seal.Seal.{Seal}
 use Rattle.tariff_compile.specs.Tables.{TableParts}
 use Rattle.meter_states.specs.Fits.{Fits}
-use Rattle.meter_states.specs.declared.act.Act.TheVariants.{Receipt}
+use Rattle.meter_model.specs.declared.act.Act.TheVariants.{Receipt}
 use Rattle.meter_run.specs.Deeds.{Deed, Does, Prints, after_deeds, changes_of, texts}
 use Rattle.meter_run.proofs.Laws.{texts_joined}
 use Rattle.meter_run.specs.Points.{HasEntries, IsCutOfDeeds}

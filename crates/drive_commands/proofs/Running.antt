@@ -7,7 +7,7 @@ use Rattle.outside.specs.declared.files.Files.{Ghosts as FileGhosts}
 use Rattle.outside.specs.Disk.{SameBut}
 use Rattle.outside.specs.Faults.{Rose}
 use Rattle.outside.specs.Printing.{Begins}
-use Rattle.outside.specs.Runs.{IsSettled as NothingFlies}
+use Rattle.outside.specs.Runs.{IsAtRest as NothingFlies}
 use Rattle.outside.proofs.Laws.{begins_not}
 use Rattle.slot_store.specs.Syncs.{IsAsHeld, LeavesFromSync, ReadsOnly}
 use Rattle.slot_store.proofs.Laws.{from_sync_as}

@@ -1,7 +1,7 @@
 -- Rules: the command `bench TARIFF DRIVE READINGS`.
 use Rattle.std.specs.Prelude.{◌≡◌, ◌⊎◌, ℕ, ◌+◌, ◌≤◌, Bool, true, false, List, [], ◌++◌, length, Some, Result, Ok, Err}
 use Rattle.drive_text.specs.Ending.{StreamEnd, Whole, BadAt, Endless, IsGoing, drive_end, events_of}
-use Rattle.meter_states.specs.Setting.{Setting, setting_by}
+use Rattle.meter_model.specs.Setting.{Setting, setting_by}
 use Rattle.seal_record.specs.declared.seal.Seal.{Seal}
 use Rattle.tariff_syntax.specs.Tree.{Tree}
 use Rattle.totals_record.specs.declared.durable_state.Durable.{Durable}
@@ -91,15 +91,15 @@ readings_answer terms drive (Ok found) = record {
 readings_answer terms drive (Err fault) = refused_as (ended_for_readings fault)
 
 -- the answer to a drive that has an end is that of the readings, and else it is the refusal of the drive
-abbrev pub ending_answer : Terms → (drive text : List ℕ) → StreamEnd → Answer
-ending_answer terms drive text Whole = readings_answer terms drive (readings_in terms.tree.decimals text)
-ending_answer terms drive text (BadAt line) = refused_as (ended.BadDrive line)
-ending_answer terms drive text Endless = refused_as ended.EndlessDrive
+abbrev pub judged_ending : Terms → (drive text : List ℕ) → StreamEnd → Answer
+judged_ending terms drive text Whole = readings_answer terms drive (readings_in terms.tree.decimals text)
+judged_ending terms drive text (BadAt line) = refused_as (ended.BadDrive line)
+judged_ending terms drive text Endless = refused_as ended.EndlessDrive
 
 -- the answer under the terms is that of the drive, and where there are none it is their refusal
 abbrev pub bench_answer : Result Terms Ended → (drive text : List ℕ) → Answer
 bench_answer (Err why) drive text = refused_as why
-bench_answer (Ok terms) drive text = ending_answer terms drive text (drive_end drive)
+bench_answer (Ok terms) drive text = judged_ending terms drive text (drive_end drive)
 
 -- ---- the command
 
@@ -137,7 +137,7 @@ bench_command = record {
       ⊎ (((word ≡ 2) × IsTakingDrive image (contents 1) taken)
       ⊎ ((word ≡ 3) × HasTakenDrive image (contents 1) (contents 2) taken));
   may_lack = λ contents image taken. ((taken ≡ []) × IsSealedIn image) ⊎ HasTerms image (contents 1);
-  known = λ files_tell image_told. files_tell × image_told;
+  told = λ files_tell image_told. files_tell × image_told;
   opens = Unit {0};
   writes = λ ended. ⊥;
   steps = λ files_tell image_told contents left image before now. files_tell → image_told

@@ -1,7 +1,7 @@
 -- Rules: the command `explain TARIFF DRIVE PARAMS`.
 use Rattle.std.specs.Prelude.{◌≡◌, ◌⊎◌, ℕ, ◌+◌, ◌≤◌, ◌==◌, if◌then◌else◌, List, [], length, Some, Result, Ok, Err}
 use Rattle.drive_text.specs.Ending.{StreamEnd, Whole, BadAt, Endless, IsGoing, drive_end, events_of}
-use Rattle.meter_states.specs.Setting.{Setting, setting_by}
+use Rattle.meter_model.specs.Setting.{Setting, setting_by}
 use Rattle.seal_record.specs.Reading.{params_read}
 use Rattle.seal_record.specs.declared.params.ParamFault.{ParamFault}
 use Rattle.seal_record.specs.declared.params.Params.{Params}
@@ -34,8 +34,8 @@ setting_with (Ok t) params = setting_from t params
 -- the setting of two texts is that of their tariff and of their parameters, or the refusal of the first text that isn't
 -- accepted; `params_read` gives the parameters of a text or its fault, as the law texts_say_their_parameters of
 -- seal_record says
-abbrev pub setting_in : (tariff params : List ℕ) → Result Setting Ended
-setting_in tariff params = setting_with (tariff_in tariff) (params_read params)
+abbrev pub read_setting : (tariff params : List ℕ) → Result Setting Ended
+read_setting tariff params = setting_with (tariff_in tariff) (params_read params)
 
 -- ---- the answer
 
@@ -60,7 +60,7 @@ explain_answer (Ok s) drive = ending_answer s drive (drive_end drive)
 -- two texts have a tariff and parameters
 pub record HasSetting (tariff params : List ℕ) : Type 0 where
   pub setting : Setting
-  pub is : setting_in tariff params ≡ Ok setting
+  pub is : read_setting tariff params ≡ Ok setting
 
 -- the drive is read behind the parameters, which are the last word
 abbrev pub explain_turn : (word : ℕ) → ℕ
@@ -70,7 +70,7 @@ explain_turn word = if word == 2 then 3 else (if word == 3 then 2 else word)
 -- in pieces, in a step for each piece and one for the last line
 abbrev pub explain_command : Command
 explain_command = record {
-  answer = λ contents image. explain_answer (setting_in (contents 1) (contents 3)) (contents 2);
+  answer = λ contents image. explain_answer (read_setting (contents 1) (contents 3)) (contents 2);
   drive = Some (Drive 2);
   shown = λ contents image taken. [];
   reads = λ word. (word ≡ 1) ⊎ ((word ≡ 2) ⊎ (word ≡ 3));
@@ -81,10 +81,10 @@ explain_command = record {
       ⊎ (((word ≡ 3) × ((taken ≡ []) × HasTariff (contents 1)))
       ⊎ ((word ≡ 2) × (IsGoing taken × HasSetting (contents 1) (contents 3))));
   may_lack = λ contents image taken. (taken ≡ []) ⊎ HasSetting (contents 1) (contents 3);
-  known = λ files_tell image_told. files_tell;
+  told = λ files_tell image_told. files_tell;
   opens = ⊥;
   writes = λ ended. ⊥;
   steps = λ files_tell image_told contents left image before now. files_tell
       → now ≤ before + 1 + pieces_of (length
-      (explain_answer (setting_in (contents 1) (contents 3)) (contents 2)).shown);
+      (explain_answer (read_setting (contents 1) (contents 3)) (contents 2)).shown);
 }

@@ -1,8 +1,8 @@
 -- For proofs: that the command `explain` has come to what it prints. Explain says what an explanation is.
 use Rattle.std.specs.Prelude.{◌≡◌, ◌⊎◌, ◌<◌, ◌≤◌, ℕ, List, [], Ok}
 use Rattle.drive_text.specs.Ending.{Whole, drive_end}
-use Rattle.meter_states.specs.Setting.{Setting}
-use Rattle.drive_commands.specs.Explain.{explanation_text, setting_in}
+use Rattle.meter_model.specs.Setting.{Setting}
+use Rattle.drive_commands.specs.Explain.{explanation_text, read_setting}
 use Rattle.drive_commands.specs.declared.explained_lines.Scale.{Scale}
 
 -- what an explanation is written by is in its ranges
@@ -15,7 +15,7 @@ pub record IsScale (scale : Scale) : Type 0 where
 -- whole, and each file was read to its end
 pub record HasExplained (contents left : ℕ → List ℕ) (text : List ℕ) : Type 0 where
   pub setting : Setting
-  pub is : setting_in (contents 1) (contents 3) ≡ Ok setting
+  pub is : read_setting (contents 1) (contents 3) ≡ Ok setting
   pub whole : drive_end (contents 2) ≡ Whole
   pub text_is : text ≡ explanation_text setting (contents 2)
   pub read : (word : ℕ) → (word ≡ 1) ⊎ ((word ≡ 2) ⊎ (word ≡ 3)) → left word ≡ []

@@ -1,7 +1,7 @@
 -- Rules: the text by which hirings are explained.
 use Rattle.std.specs.Prelude.{ℕ, ◌+◌, ◌*◌, ◌/◌, ◌==◌, if◌then◌else◌, List, [], ◌∷◌, ◌++◌, codes, decimal, flat_map}
 use Rattle.std.specs.Prelude.{Option, Some, None}
-use Rattle.meter_states.specs.Setting.{Setting, unit_of}
+use Rattle.meter_model.specs.Setting.{Setting, unit_of}
 use Rattle.drive_modes.specs.Distance.{millimetres_of}
 use Rattle.receipt_text.specs.Receipts.{calculation_text, course_text, fare_text, kind_text, supplements_text}
 use Rattle.receipt_text.specs.Receipts.{total_text}
@@ -48,8 +48,8 @@ unfoldable pub title_text : (number : ℕ) → Kind → List ℕ
 title_text number kind = codes "HIRING " ++ (decimal number ++ (codes " " ++ (kind_text kind ++ codes "\n")))
 
 -- a hiring is headed by its title and the course of its trip, with the trip's time
-unfoldable pub heading_text : (number : ℕ) → Receipt → (ticks : ℕ) → List ℕ
-heading_text number receipt ticks =
+unfoldable pub explained_heading : (number : ℕ) → Receipt → (ticks : ℕ) → List ℕ
+explained_heading number receipt ticks =
     title_text number receipt.kind
     ++ (course_text receipt ++ (codes " " ++ (duration_text ticks ++ codes "\n")))
 
@@ -119,19 +119,19 @@ sum_text scale e receipt =
     ++ (calculation_text receipt ++ fare_text receipt)))
 
 -- a receipt is written with the decimals of the tariff
-abbrev pub receipt_in : Scale → Explanation → Receipt
-receipt_in scale e = record e.receipt { decimals = scale.decimals }
+abbrev pub scaled_receipt : Scale → Explanation → Receipt
+scaled_receipt scale e = record e.receipt { decimals = scale.decimals }
 
 -- a hiring is explained by its heading, its fees, a line for each group, the sum, a line for each supplement that was
 -- taken, and the last lines of its receipt
 unfoldable pub hiring_text : Scale → (number : ℕ) → Explanation → List ℕ
 hiring_text scale number e =
-    heading_text number e.receipt e.whole.ticks
+    explained_heading number e.receipt e.whole.ticks
     ++ (fees_text scale.decimals e.fees e.receipt
     ++ (flat_map (rate_text scale) e.groups
-    ++ (sum_text scale e (receipt_in scale e)
+    ++ (sum_text scale e (scaled_receipt scale e)
     ++ (flat_map (taken_text scale.decimals) e.taken
-    ++ (supplements_text (receipt_in scale e) ++ total_text (receipt_in scale e))))))
+    ++ (supplements_text (scaled_receipt scale e) ++ total_text (scaled_receipt scale e))))))
 
 -- hirings are explained one after the other, the first with a number and each further one with the next
 unfoldable pub hirings_text : Scale → (number : ℕ) → List Explanation → List ℕ

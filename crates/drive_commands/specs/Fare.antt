@@ -3,9 +3,9 @@ use Rattle.std.specs.Prelude.{◌≡◌, ◌⊎◌, ℕ, pos, List, [], Some, Re
 use Rattle.drive_modes.specs.declared.charges.Mode.TheVariants.{Single}
 use Rattle.drive_text.specs.Ending.{StreamEnd, Whole, BadAt, Endless, IsGoing, drive_end}
 use Rattle.tariff_syntax.specs.Tree.{Tree}
-use Rattle.meter_run.specs.Drives.{IsBoundedBy}
+use Rattle.meter_run.specs.Drives.{IsBoundedByDrive}
 use Rattle.meter_run.specs.Texts.{drive_shown}
-use Rattle.meter_states.specs.Setting.{Setting, under_offset}
+use Rattle.meter_model.specs.Setting.{Setting, under_offset}
 use Rattle.call_ends.specs.Answer.{Answer, shows}
 use Rattle.call_ends.specs.Course.{Command}
 use Rattle.call_ends.specs.LastLine.{bad_drive_line, endless_drive_line}
@@ -53,9 +53,9 @@ fare_command k = record {
   reads_all = λ status. status ≡ 0;
   comes_to = λ contents image word taken. ((word ≡ 1) × (taken ≡ [])) ⊎ ((word ≡ 2) × IsDriving (contents 1) taken);
   may_lack = λ contents image taken. taken ≡ [];
-  known = λ files_tell image_told. files_tell;
+  told = λ files_tell image_told. files_tell;
   opens = ⊥;
   writes = λ ended. ⊥;
   steps = λ files_tell image_told contents left image before now.
-      IsBoundedBy 1 files_tell (contents 2) (left 2) before now;
+      IsBoundedByDrive 1 files_tell (contents 2) (left 2) before now;
 }

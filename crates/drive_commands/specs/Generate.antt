@@ -4,7 +4,7 @@ use Rattle.drive_modes.specs.declared.charges.Mode.TheVariants.{Single}
 use Rattle.drive_text.specs.Drive.{events_in}
 use Rattle.meter_run.specs.Deeds.{after_deeds}
 use Rattle.meter_run.specs.Runs.{run_deeds}
-use Rattle.meter_states.specs.Setting.{Setting, under_offset}
+use Rattle.meter_model.specs.Setting.{Setting, under_offset}
 use Rattle.tariff_syntax.specs.Tree.{Tree}
 use Rattle.totals_record.specs.States.{first_state}
 use Rattle.totals_record.specs.declared.durable_state.Durable.{Durable}
@@ -66,7 +66,7 @@ gen_command seed trips = record {
   reads_all = λ status. status ≡ 0;
   comes_to = λ contents image word taken. ⊥;
   may_lack = λ contents image taken. Unit {0};
-  known = λ files_tell image_told. Unit {0};
+  told = λ files_tell image_told. Unit {0};
   opens = ⊥;
   writes = λ ended. ⊥;
   steps = λ files_tell image_told contents left image before now.

@@ -6,7 +6,7 @@ use Rattle.sha2.specs.Sha256.{sha256}
 use Rattle.drive_text.specs.Ending.{IsGoing, drive_end}
 use Rattle.outside.specs.Disk.{IsWithin, SameBut}
 use Rattle.outside.specs.Printing.{Begins}
-use Rattle.outside.specs.Runs.{IsSettled, LeavesOnly}
+use Rattle.outside.specs.Runs.{IsAtRest, LeavesOnly}
 use Rattle.outside.specs.declared.board.Board.{Ghosts}
 use Rattle.outside.specs.declared.files.Files.{Ghosts as FileGhosts}
 use Rattle.slot_store.specs.Syncs.{LeavesFromSync}
@@ -18,9 +18,9 @@ use Rattle.tariff_syntax.specs.Tree.{Tree}
 use Rattle.taxi_units.specs.Test.{if_some}
 use Rattle.tariff_compile.specs.Tables.{TableParts, tables_of}
 use Rattle.meter_states.specs.Fits.{fits_test}
-use Rattle.meter_states.specs.Setting.{Setting, setting_by}
+use Rattle.meter_model.specs.Setting.{Setting, setting_by}
 use Rattle.meter_run.specs.Deeds.{Deed, Prints, after_deeds, texts}
-use Rattle.meter_run.specs.Drives.{IsBoundedBy}
+use Rattle.meter_run.specs.Drives.{IsBoundedByDrive}
 use Rattle.meter_run.specs.Points.{IsCutOfDeeds}
 use Rattle.meter_run.specs.Runs.{run_deeds}
 use Rattle.call_ends.specs.Answer.{Answer}
@@ -127,11 +127,11 @@ run_command = record {
   comes_to = λ contents image word taken.
       ((word ≡ 1) × ((taken ≡ []) × IsSealedIn image)) ⊎ ((word ≡ 2) × IsRunning image (contents 1) taken);
   may_lack = λ contents image taken. (taken ≡ []) × IsSealedIn image;
-  known = λ files_tell image_told. files_tell × image_told;
+  told = λ files_tell image_told. files_tell × image_told;
   opens = Unit {0};
   writes = λ ended. (ended ≡ 0) ⊎ ((ended ≡ 3) ⊎ ((ended ≡ 7) ⊎ (ended ≡ 8)));
   steps = λ files_tell image_told contents left image before now.
-      IsBoundedBy 64 files_tell (contents 2) (left 2) before now;
+      IsBoundedByDrive 64 files_tell (contents 2) (left 2) before now;
 }
 
 -- ---- the headline
@@ -200,7 +200,7 @@ module _ {E D L : Type 0} {N : ℕ} (F : FileGhosts E) (B : Ghosts D N L) where
         → Stands B.tells_text (B.image old) (B.printed old) (start_at files old)
         (bytes_in call.course (F.rest files 2)) (B.image new)
     pub leaves : LeavesFromSync B (ended ≡ 8) old new (IsCutOfCourse files old call.course)
-    pub settled : IsSettled B old → LeavesOnly B old new (IsCutOfCourse files old call.course)
+    pub settled : IsAtRest B old → LeavesOnly B old new (IsCutOfCourse files old call.course)
     pub again : (start : Start) (left_image left_text : List ℕ) → start_at files old ≡ Ok start
         → IsCutOfCourse files old call.course left_image left_text
         → (durable : Durable)

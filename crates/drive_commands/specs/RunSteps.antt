@@ -1,7 +1,7 @@
 -- For proofs: how far the command `run` came before its last line is printed. Run says what a run is.
 use Rattle.std.specs.Prelude.{◌≡◌, ◌≢◌, ℕ, List, Ok, Err}
 use Rattle.outside.specs.Printing.{Begins}
-use Rattle.outside.specs.Runs.{IsSettled, MayHold}
+use Rattle.outside.specs.Runs.{IsAtRest, MayHold}
 use Rattle.outside.specs.declared.board.Board.{Ghosts}
 use Rattle.outside.specs.declared.files.Files.{Ghosts as FileGhosts}
 use Rattle.slot_store.specs.Syncs.{LeavesFromSync}
@@ -15,7 +15,7 @@ use Rattle.store_commands.specs.Opening.{IsSealedIn, opening_of}
 use Rattle.drive_commands.specs.Run.{IsCutOfCourse, Stands, Start, bytes_in, run_command, sealed_tariff, start_at}
 use Rattle.drive_commands.specs.Run.{start_of, tables_in}
 use Rattle.call_ends.specs.Tariffs.{tariff_in}
-use Rattle.call_ends.specs.Unwritten.{KeepsBytes}
+use Rattle.call_ends.specs.Unwritten.{WritesNothing}
 use Rattle.call_ends.specs.declared.ending.Ended.{Ended}
 use Rattle.call_ends.specs.declared.ending.Ended.TheVariants.{BadTariff, BoardFault, NoMemory, ReadFault, WrongTariff}
 
@@ -77,6 +77,6 @@ module _ {E D L : Type 0} {N : ℕ} (F : FileGhosts E) (B : Ghosts D N L) where
         → MayHold (B.image new) (B.in_flight new) left_image
         → (B.tells_text → Begins (B.printed new) left_text (line_of ended))
         → IsCutOfCourse F B files old comes.course left_image left_text
-    pub settled : ended ≢ BoardFault → IsSettled B new
-    pub unwritten : (why : Ended) → start_at F B files old ≡ Err why → KeepsBytes B old new
+    pub settled : ended ≢ BoardFault → IsAtRest B new
+    pub unwritten : (why : Ended) → start_at F B files old ≡ Err why → WritesNothing B old new
     pub same : (why : Ended) → start_at F B files old ≡ Err why → ended ≢ BoardFault → B.image new ≡ B.image old

@@ -5,7 +5,7 @@ ghost use Rattle.taxi_units.specs.Line.{line_size};
 ghost use Rattle.taxi_units.specs.Number.{money_text, padded_text};
 ghost use Rattle.verify_bench.specs.Explaining.{explanation_of};
 ghost use Rattle.drive_commands.specs.ExplainedText.{charge_text, charged_text, distance_text, dropped_text};
-ghost use Rattle.drive_commands.specs.ExplainedText.{duration_text, fee_text, fees_text, heading_text, minimum_text};
+ghost use Rattle.drive_commands.specs.ExplainedText.{duration_text, fee_text, fees_text, explained_heading, minimum_text};
 ghost use Rattle.drive_commands.specs.ExplainedText.{rate_text, span_text, stopped_text, sum_text, taken_text};
 ghost use Rattle.drive_commands.specs.ExplainedText.{title_text, way_text};
 ghost use Rattle.drive_commands.specs.ExplainSteps.{IsScale};
@@ -157,9 +157,9 @@ fn push_title(line: &mut Line, number: u64, kind: Kind)
 }
 
 /// The lines of a hiring's title and of the course of the trip, with its time.
-#[tactic(auto, unfolding(crate::specs::ExplainedText::heading_text))]
+#[tactic(auto, unfolding(crate::specs::ExplainedText::explained_heading))]
 pub fn heading_lines(number: u64, receipt: &Receipt, ticks: u32) -> Line
-    ensures { result.items ≡ heading_text number receipt.now ticks }
+    ensures { result.items ≡ explained_heading number receipt.now ticks }
 {
     let mut line = Line::new();
     push_title(&mut line, number, receipt.kind);

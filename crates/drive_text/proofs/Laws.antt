@@ -6,7 +6,7 @@ use Rattle.taxi_units.specs.declared.event.Event.{Event}
 use Rattle.drive_text.specs.declared.run.Run.{Run}
 use Rattle.drive_text.specs.declared.run.Run.TheVariants.{One}
 use Rattle.drive_text.specs.Drive.{first_bad, bad_at_end, runs_in, runs_after, events_in}
-use Rattle.drive_text.specs.Ending.{stream_limit, Whole, BadAt, Endless, ReachesEnd}
+use Rattle.drive_text.specs.Ending.{stream_limit, Whole, BadAt, Endless, ReachesEnd, drive_end, events_of}
 use Rattle.drive_text.specs.Fields.{line_runs}
 use Rattle.drive_text.specs.Lines.{ended_lines, unfinished_line, text_of, IsOneLine}
 use Rattle.drive_text.specs.Ranges.{IsInRange}
@@ -14,7 +14,7 @@ use Rattle.drive_text.specs.Reading.{Reading, HasTaken}
 use Rattle.drive_text.specs.Runs.{run_events}
 use Rattle.drive_text.specs.Table.{Means}
 use Rattle.drive_text.specs.Whole.{IsReadAs, EndsWhole, given_by, bytes_of}
-use Rattle.drive_text.specs.Written.{event_text}
+use Rattle.drive_text.specs.Written.{drive_of, event_text}
 use Rattle.drive_text.proofs.Cuts as cuts
 use Rattle.drive_text.proofs.Ends as ends
 use Rattle.drive_text.proofs.LineLaw as lines
@@ -22,6 +22,7 @@ use Rattle.drive_text.proofs.ReadBack as back
 use Rattle.drive_text.proofs.Standing as standing
 use Rattle.drive_text.proofs.Table as table
 use Rattle.drive_text.proofs.Wholes as wholes
+use Rattle.drive_text.proofs.WrittenDrives as drives
 
 pub lines_make_the_text : (bytes : List ℕ) (lines : List (List ℕ)) (rest : List ℕ) → ((ended_lines bytes ≡ lines)
     × (unfinished_line bytes ≡ rest)) ↔ ((bytes ≡ text_of lines rest) × All IsOneLine lines × IsOneLine rest)
@@ -91,6 +92,19 @@ written_line_gives = back.runs_in-event_text
 pub written_line_is_good : (b : List ℕ) (event : Event) → IsInRange event → bad_at_end b ≡ None
     → bad_at_end (b ++ event_text event) ≡ None
 written_line_is_good = back.bad_at_end-event_text
+
+pub written_line_is_short : (event : Event) → IsInRange event → length (event_text event) ≤ 13
+written_line_is_short = drives.event-short
+
+-- of written_drives_read_back
+pub written_drive_ends : (events : List Event) → All IsInRange events → length (drive_of events) < stream_limit
+    → drive_end (drive_of events) ≡ Whole
+written_drive_ends events range few = (drives.drive-whole events range few).ends.end_is
+
+pub written_drive_means : (events : List Event) → All IsInRange events → length (drive_of events) < stream_limit
+    → events_of (drive_of events) ≡ events
+written_drive_means events range few =
+    (drives.drive-whole events range few).given_is ∙ drives.drive-gives events range
 
 -- of bytes_tell_how_a_drive_ends
 pub whole_drive_ends : (drive : List ℕ) → length drive < stream_limit → bad_at_end drive ≡ None

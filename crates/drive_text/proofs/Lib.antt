@@ -34,3 +34,5 @@ mod Standing
 mod Table
 -- the first bad line and the runs of a text are those that its lines say
 mod Wholes
+-- the lines of events, and the drive of all of them
+mod WrittenDrives

@@ -1,4 +1,4 @@
--- For proofs: what a line of a drive gives, read field by field as the code reads it. The law
+-- By law: what a line of a drive gives, read field by field as the code reads it. The law
 -- lines_give_what_the_table_says says what a line means, by the table in Table.
 use Rattle.std.specs.Prelude.{ℕ, List, [], ◌∷◌, length, nat_lt, ◌==◌, if◌then◌else◌, Option, Some, None, codes}
 use Rattle.std.specs.Option.{option_map}

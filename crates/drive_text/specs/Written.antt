@@ -1,5 +1,5 @@
 -- Rules: the line that is written for an event, and the keys that are written without a number.
-use Rattle.std.specs.Prelude.{ℕ, List, [], ◌∷◌, ◌++◌, codes, decimal}
+use Rattle.std.specs.Prelude.{ℕ, List, [], ◌∷◌, ◌++◌, codes, decimal, flat_map}
 use Rattle.taxi_units.specs.declared.event.Event.{Event}
 use Rattle.taxi_units.specs.declared.event.Event.TheVariants.{Up, Down, Pulses, Tick, Clock}
 use Rattle.taxi_units.specs.declared.event.Event.TheVariants as events
@@ -31,3 +31,7 @@ event_fields (events.Key key) = codes "K " ++ key_text key
 -- the line of an event is its fields, without leading zeros, and an LF
 abbrev pub event_text : Event → List ℕ
 event_text event = event_fields event ++ codes "\n"
+
+-- the drive of events has the line of each, in their order
+abbrev pub drive_of : List Event → List ℕ
+drive_of events = flat_map event_text events

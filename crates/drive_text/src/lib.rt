@@ -15,7 +15,7 @@ pub use ending::bytes_tell_how_a_drive_ends;
 pub use meaning::{
     a_reader_is_known_by_its_bytes, drives_mean_what_their_lines_say,
     lines_give_what_the_table_says, lines_make_the_text, more_bytes_add_runs,
-    pieces_give_the_runs_of_all_bytes, written_lines_read_back,
+    pieces_give_the_runs_of_all_bytes, written_drives_read_back, written_lines_read_back,
 };
 pub use reader::{BadLine, Reader};
 pub use run::Run;

@@ -1,10 +1,11 @@
 //! What holds of drives whatever a reader does.
-ghost use Rattle.std.specs.Prelude.{◌≡◌, ℕ, ◌≤◌, ◌++◌, ◌∷◌, ◌↔◌, [], All, List, Option, length, flat_map, true, false, None, Some};
+ghost use Rattle.std.specs.Prelude.{◌≡◌, ℕ, ◌<◌, ◌≤◌, ◌++◌, ◌∷◌, ◌↔◌, [], All, List, Option, length, flat_map, true, false, None, Some};
 ghost use Rattle.std.specs.Str.Lines.{strip_carriage_return};
 ghost use Rattle.taxi_units.specs.declared.event.Event.{Event};
 ghost use Rattle.drive_text.specs.declared.run.Run.{Run};
 ghost use Rattle.drive_text.specs.declared.run.Run.TheVariants.{One};
 ghost use Rattle.drive_text.specs.Drive.{first_bad, bad_at_end, runs_in, runs_after, events_in};
+ghost use Rattle.drive_text.specs.Ending.{Whole, drive_end, events_of, stream_limit};
 ghost use Rattle.drive_text.specs.Fields.{line_runs};
 ghost use Rattle.drive_text.specs.Lines.{ended_lines, unfinished_line, text_of, IsOneLine};
 ghost use Rattle.drive_text.specs.Ranges.{IsInRange};
@@ -12,7 +13,7 @@ ghost use Rattle.drive_text.specs.Reading.{Reading, HasTaken};
 ghost use Rattle.drive_text.specs.Runs.{run_events};
 ghost use Rattle.drive_text.specs.Table.{Means};
 ghost use Rattle.drive_text.specs.Whole.{IsReadAs, EndsWhole, given_by, bytes_of};
-ghost use Rattle.drive_text.specs.Written.{event_text};
+ghost use Rattle.drive_text.specs.Written.{drive_of, event_text};
 
 /// A text is its ended lines, each with its LF, and the unfinished one, and no line has an LF. No
 /// other lines make that text.
@@ -71,10 +72,19 @@ pub fn a_reader_is_known_by_its_bytes()
 {}
 
 /// The line of an event, after ended lines of which none is bad, adds this event alone, and is not
-/// bad.
+/// bad. It has at most 13 bytes.
 pub fn written_lines_read_back()
     ensures run { (b : List ℕ) (event : Event) → IsInRange event → bad_at_end b ≡ None
         → runs_in (b ++ event_text event) ≡ runs_in b ++ One event ∷ [] }
     ensures good { (b : List ℕ) (event : Event) → IsInRange event → bad_at_end b ≡ None
         → bad_at_end (b ++ event_text event) ≡ None }
+    ensures short { (event : Event) → IsInRange event → length (event_text event) ≤ 13 }
+{}
+
+/// The lines of events are a drive that ends whole and means these events, if it is within the limit.
+pub fn written_drives_read_back()
+    ensures ends { (events : List Event) → All IsInRange events → length (drive_of events) < stream_limit
+        → drive_end (drive_of events) ≡ Whole }
+    ensures means { (events : List Event) → All IsInRange events → length (drive_of events) < stream_limit
+        → events_of (drive_of events) ≡ events }
 {}

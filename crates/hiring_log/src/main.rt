@@ -1,18 +1,5 @@
-//! The hiring log: the program, and the tests that go through it.
+//! The hiring log: the program.
 #![tactic(auto)]
-
-#[cfg(test)]
-mod cut_tests;
-#[cfg(test)]
-mod failure_tests;
-#[cfg(test)]
-mod growth_tests;
-#[cfg(test)]
-mod keep_log_tests;
-#[cfg(test)]
-mod memory_log;
-#[cfg(test)]
-mod receipt_tests;
 
 ghost use Rattle.std.specs.Prelude.{◌≡◌, ◌<◌};
 

@@ -6,7 +6,7 @@ use Rattle.std.proofs.lemmas.List.{ext_get_or}
 use Rattle.outside.specs.Disk.{MayLeave, SameBut}
 use Rattle.outside.specs.Faults.{RisesOnlyIf, Rose}
 use Rattle.outside.specs.Printing.{Begins}
-use Rattle.outside.specs.Runs.{IsSettled, KeepsStore, LeavesNow, LeavesOnly, MayHold}
+use Rattle.outside.specs.Runs.{IsAtRest, KeepsStore, LeavesNow, LeavesOnly, MayHold}
 use Rattle.outside.specs.declared.board.Board.{Ghosts}
 use Rattle.outside.specs.declared.files.Files.{Ghosts as FileGhosts}
 use Rattle.outside.proofs.Laws.{begins_after, begins_more, leaves_kept, leaves_then, leaves_wider}
@@ -69,7 +69,7 @@ may_later call image roll rest read_failed then now BoardFault found filed later
 -- ---- what the last line leaves of the log
 
 module _ {D L : Type 0} {N : ℕ} (B : Ghosts D N L) where
-  settled_hold : (board : D) (image : List ℕ) → IsSettled B board → MayHold (B.image board) (B.in_flight board) image
+  settled_hold : (board : D) (image : List ℕ) → IsAtRest B board → MayHold (B.image board) (B.in_flight board) image
       → image ≡ B.image board
   settled_hold board image settled hold =
       ext_get_or 0 image (B.image board) hold.bytes.size (λ place lt. hold.bytes.rest place (settled place))

@@ -1,4 +1,4 @@
--- For proofs: the three stages in which the log gets one more record, on the one slot of its place. IsStep, in Appends,
+-- Rules: the three stages in which the log gets one more record, on the one slot of its place. IsStep, in Appends,
 -- says what a cut leaves meanwhile.
 use Rattle.std.specs.Prelude.{◌≡◌, ℕ, ◌+◌, ◌≤◌, Bool, true, false, List, length}
 use Rattle.log_commands.specs.Record.{Record}

@@ -3,7 +3,7 @@ use Rattle.std.specs.Prelude.{◌≡◌, ◌≢◌, ◌⊎◌, ℕ, ◌+◌, ◌
 use Rattle.outside.specs.Disk.{SameBut}
 use Rattle.outside.specs.Faults.{Rose}
 use Rattle.outside.specs.Printing.{Begins}
-use Rattle.outside.specs.Runs.{IsSettled, LeavesOnly, MayHold}
+use Rattle.outside.specs.Runs.{IsAtRest, LeavesOnly, MayHold}
 use Rattle.outside.specs.declared.board.Board.{Ghosts}
 use Rattle.outside.specs.declared.files.Files.{Ghosts as FileGhosts}
 use Rattle.slot_store.specs.Syncs.{LeavesFromSync}
@@ -128,7 +128,7 @@ module _ {D L : Type 0} {N : ℕ} (B : Ghosts D N L) where
     pub moments : LeavesFromSync B (status ≡ 8) log log'
         (λ left_image left_text. StandsForSome list filed left_image)
     pub stands : status ≢ 8 → StandsFor (last_ones 256 (list ++ filed)) (B.image log')
-    pub settled : status ≢ 8 → IsSettled B log'
+    pub settled : status ≢ 8 → IsAtRest B log'
 
   -- a call only looks at the log where it writes nothing to it: a byte may have changed only where some were in flight,
   -- unless the board failed none has, and at no moment might a cut have left an image that it couldn't have left before

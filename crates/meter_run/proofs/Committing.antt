@@ -14,8 +14,8 @@ use Rattle.totals_record.specs.declared.trip.Trip.{Trip}
 use Rattle.totals_record.proofs.Laws.{entries_keep_the_ranges, held_trips_keep_the_ranges}
 use Rattle.meter_states.specs.Acts.{IsLawfulAct, IsEntryBeside, IsHoldBeside}
 use Rattle.meter_states.specs.Fits.{Fits}
-use Rattle.meter_states.specs.declared.act.Act.{Act}
-use Rattle.meter_states.specs.declared.act.Act.TheVariants.{Show, Refuse, Enter, Hold, Receipt}
+use Rattle.meter_model.specs.declared.act.Act.{Act}
+use Rattle.meter_model.specs.declared.act.Act.TheVariants.{Show, Refuse, Enter, Hold, Receipt}
 use Rattle.meter_run.specs.Commits.{after_act, after_acts, commits_in, AreFor}
 
 pub after_append : (d : Durable) (xs ys : List Act) → after_acts d (xs ++ ys) ≡ after_acts (after_acts d xs) ys

@@ -21,9 +21,9 @@ use Rattle.totals_record.specs.declared.durable_state.Durable.{Durable}
 use Rattle.totals_record.specs.declared.entry.Entry.{Entry}
 use Rattle.totals_record.proofs.Laws.{changes_add_up}
 use Rattle.meter_states.specs.Pairs.{ArePaired, IsReceiptOf, waiting_after}
-use Rattle.meter_states.specs.declared.act.Act.{Act}
-use Rattle.meter_states.specs.declared.act.Act.TheVariants.{Show, Refuse, Enter, Hold, Receipt}
-use Rattle.meter_run.specs.Deeds.{Deed, Does, Prints, after_deed, after_deeds, changes_of, deeds_of, text_in, texts}
+use Rattle.meter_model.specs.declared.act.Act.{Act}
+use Rattle.meter_model.specs.declared.act.Act.TheVariants.{Show, Refuse, Enter, Hold, Receipt}
+use Rattle.meter_run.specs.Deeds.{Deed, Does, Prints, after_deed, after_deeds, changes_of, deeds_of, deed_text, texts}
 use Rattle.meter_run.specs.Points.{IsPointOfDeeds, EndsInEntryOf, HasEntries, HasFittingState, IsCutOfDeeds, IsEntered}
 
 -- ---- what deeds commit
@@ -227,15 +227,15 @@ module _ (tables : TableParts) (seal : Seal) (told : Type 0) where
 
   amid_reaches : (d : Durable) (p : List ℕ) (deed : Deed) (deeds : List Deed) (i x : List ℕ) (kept : List Deed)
       → (kept ≡ []) ⊎ (kept ≡ [] ++ deed ∷ []) → HasFittingState tables i (after_deeds d kept)
-      → (told → Begins p x (text_in seal deed)) → Reaches d p (deed ∷ deeds) i x
+      → (told → Begins p x (deed_text seal deed)) → Reaches d p (deed ∷ deeds) i x
   amid_reaches d p deed deeds i x kept kept_is holds begun = record {
     done = [];
     next = deed ∷ [];
     left = deeds;
     split = refl;
     one = omega arith;
-    begun = λ t. subst (λ (q : List ℕ). Begins q x (text_in seal deed ++ [])) (sym (append-nil p))
-        (subst (λ (text : List ℕ). Begins p x text) (sym (append-nil (text_in seal deed))) (begun t));
+    begun = λ t. subst (λ (q : List ℕ). Begins q x (deed_text seal deed ++ [])) (sym (append-nil p))
+        (subst (λ (text : List ℕ). Begins p x text) (sym (append-nil (deed_text seal deed))) (begun t));
     kept = kept;
     kept_is = kept_is;
     holds = holds;
@@ -260,7 +260,7 @@ module _ (tables : TableParts) (seal : Seal) (told : Type 0) where
       by (inl before) = amid_reaches d p deed deeds i x [] (inl refl) before amid.begun
       by (inr behind) = amid_reaches d p deed deeds i x (deed ∷ []) (inr refl) behind amid.begun
   reaches d p (deed ∷ deeds) i x (inr later) =
-      let r = reaches (after_deed d deed) (p ++ text_in seal deed) deeds i x later in
+      let r = reaches (after_deed d deed) (p ++ deed_text seal deed) deeds i x later in
       record {
         done = deed ∷ r.done;
         next = r.next;
@@ -268,7 +268,7 @@ module _ (tables : TableParts) (seal : Seal) (told : Type 0) where
         split = ap (λ (l : List Deed). deed ∷ l) r.split;
         one = r.one;
         begun = λ t. subst (λ (q : List ℕ). Begins q x (texts seal r.next))
-            (append_assoc p (text_in seal deed) (texts seal r.done)) (r.begun t);
+            (append_assoc p (deed_text seal deed) (texts seal r.done)) (r.begun t);
         kept = deed ∷ r.kept;
         kept_is = ⊎_elim (λ same. inl (ap (λ (l : List Deed). deed ∷ l) same))
             (λ same. inr (ap (λ (l : List Deed). deed ∷ l) same)) r.kept_is;

@@ -1,5 +1,5 @@
 -- Displays of a meter, by their texts.
-use Rattle.std.proofs.Common.{◌≡◌, ◌≢◌, ◌↔◌, ◌∙◌, ℕ, true, refl, ap, sym}
+use Rattle.std.proofs.Common.{◌≡◌, ◌≢◌, ◌↔◌, ◌∙◌, ℕ, true, [], Some, refl, ap, subst, sym}
 use Rattle.taxi_units.specs.Shown.{IsShown}
 use Rattle.taxi_units.specs.declared.event.Operating.{Operating}
 use Rattle.taxi_units.specs.declared.event.Operating.TheVariants.{Off, ForHire, Hired, Stopped}
@@ -7,10 +7,11 @@ use Rattle.taxi_units.specs.declared.receipt.Display.{Display}
 use Rattle.receipt_text.specs.Shows.{HasFields, ShowsSame}
 use Rattle.receipt_text.specs.Texts.{display_text}
 use Rattle.receipt_text.proofs.Laws.{displays_differ_by_their_fields}
-use Rattle.meter_states.specs.Display.{display_of, same_display}
-use Rattle.meter_states.specs.KeptTrip.{IsTripKept}
-use Rattle.meter_states.specs.Meter.{Meter}
-use Rattle.meter_states.specs.Setting.{Setting}
+use Rattle.meter_model.specs.Display.{display_of, same_display, shown}
+use Rattle.meter_model.specs.KeptTrip.{IsTripKept}
+use Rattle.meter_states.specs.LastShown.{IsOfMeter}
+use Rattle.meter_model.specs.Meter.{Meter}
+use Rattle.meter_model.specs.Setting.{Setting}
 use Rattle.meter_states.proofs.Laws as laws
 
 -- a display with these fields
@@ -48,7 +49,7 @@ fields_same s m n km kn same =
     made_same s.tariff.decimals a.operating b.operating a.position b.position a.zone b.zone a.fare b.fare a.supplements
     b.supplements same.operating same.position same.zone amounts.0 amounts.1
 
-pub by_their_texts : (s : Setting) (m n : Meter) → IsTripKept s m → IsTripKept s n → IsShown (display_of s m)
+by_their_texts : (s : Setting) (m n : Meter) → IsTripKept s m → IsTripKept s n → IsShown (display_of s m)
     → IsShown (display_of s n) → HasFields (display_of s m) → HasFields (display_of s n)
     → (display_text (display_of s m) ≡ display_text (display_of s n))
     ↔ (same_display (display_of s m) (display_of s n) ≡ true)
@@ -58,3 +59,20 @@ by_their_texts s m n km kn shown_m shown_n fields_m fields_n =
     let texts = displays_differ_by_their_fields a b shown_m shown_n fields_m fields_n refl in
     let fields = laws.displays_are_compared_by_their_fields-same a b in
     (λ e. fields.1 (fields_same s m n km kn (texts.0 e)), λ same. ap display_text (fields.0 same))
+
+value_is : (a b : Display) → Some a ≡ Some b → a ≡ b
+value_is a b same = cc
+
+-- the last display is one of the meter
+pub shown_by_texts : (s : Setting) (m : Meter) (last : Display) → IsTripKept s m → m.shown ≡ Some last
+    → IsOfMeter s m.shown → IsShown last → IsShown (display_of s m) → HasFields last → HasFields (display_of s m)
+    → ((shown s m).acts ≡ []) ↔ (display_text last ≡ display_text (display_of s m))
+shown_by_texts s m last kept is of shown_last shown_m fields_last fields_m =
+    let it = subst (IsOfMeter s) is of in
+    let texts = by_their_texts s it.0 m it.1 kept (subst IsShown it.2 shown_last) shown_m
+    (subst HasFields it.2 fields_last) fields_m in
+    let acts = laws.displays_are_compared_by_their_fields-shows s m in
+    let same = laws.displays_are_compared_by_their_fields-same (display_of s it.0) (display_of s m) in (
+      λ none. ap display_text (value_is last (display_of s m) (sym is ∙ acts.0 none)),
+      λ text. acts.1 (is ∙ ap Some (it.2 ∙ same.0 (texts.0 (sym (ap display_text it.2) ∙ text)))),
+    )

@@ -8,12 +8,12 @@ use Rattle.tariff_compile.specs.Tables.{TableParts}
 use Rattle.seal_record.specs.declared.seal.Seal.{Seal}
 use Rattle.totals_record.specs.declared.durable_state.Durable.{Durable}
 use Rattle.meter_states.specs.Acts.{IsLawfulAct}
-use Rattle.meter_states.specs.declared.act.Act.{Act}
+use Rattle.meter_model.specs.declared.act.Act.{Act}
 use Rattle.meter_run.specs.Commits.{after_act, after_acts, commits_in}
 use Rattle.meter_run.specs.Deeds.{Deed, Does, act_text, deeds_of, texts}
 use Rattle.meter_run.specs.OnStore.{Agrees, MayDo}
 use Rattle.meter_run.specs.PointLaws.{deeds_joined, keeps_longer, keeps_next, text_next}
-use Rattle.meter_run.specs.Points.{KeepsTo}
+use Rattle.meter_run.specs.Points.{GoesBy}
 use Rattle.meter_run.specs.RunLaws.{after_deeds_of}
 use Rattle.meter_run.specs.declared.stored.Known.{Known}
 use Rattle.meter_run.proofs.Committing.{commits_append}
@@ -87,13 +87,13 @@ module _ {D L : Type 0} {N : ℕ} (B : Ghosts D N L) (tables : TableParts) (seal
   module _ (a b c : D) (acts : List Act) (n : ℕ) (x : Act) (lt : n < length acts)
       (text : B.tells_text → B.printed b ≡ B.printed a ++ texts seal (deeds_of (take n acts))) where
     -- an act more
-    pub points_more : (d e : Durable) → e ≡ after_acts d (take n acts) → KeepsTo B tables seal a b d
-        (deeds_of (take n acts)) → KeepsTo B tables seal b c e (Does (get_or acts n x) ∷ [])
-        → KeepsTo B tables seal a c d (deeds_of (take (n + 1) acts))
+    pub points_more : (d e : Durable) → e ≡ after_acts d (take n acts) → GoesBy B tables seal a b d
+        (deeds_of (take n acts)) → GoesBy B tables seal b c e (Does (get_or acts n x) ∷ [])
+        → GoesBy B tables seal a c d (deeds_of (take (n + 1) acts))
     points_more d e is h k =
-        subst (λ (deeds : List Deed). KeepsTo B tables seal a c d deeds) (sym (deeds_more acts n x lt))
+        subst (λ (deeds : List Deed). GoesBy B tables seal a c d deeds) (sym (deeds_more acts n x lt))
         (keeps_next B tables seal a b c d (deeds_of (take n acts)) (Does (get_or acts n x) ∷ []) text h
-        (subst (λ (y : Durable). KeepsTo B tables seal b c y (Does (get_or acts n x) ∷ []))
+        (subst (λ (y : Durable). GoesBy B tables seal b c y (Does (get_or acts n x) ∷ []))
         (is ∙ sym (after_deeds_of d (take n acts))) k))
 
     pub text_more : (B.tells_text → B.printed c ≡ B.printed b ++ act_text seal (get_or acts n x)) → B.tells_text
@@ -104,6 +104,6 @@ module _ {D L : Type 0} {N : ℕ} (B : Ghosts D N L) (tables : TableParts) (seal
         (λ t. next t ∙ ap (λ (p : List ℕ). B.printed b ++ p) (sym (append-nil (act_text seal (get_or acts n x))))))
 
   pub points_whole : (a b : D) (d : Durable) (acts : List Act) (n : ℕ)
-      → KeepsTo B tables seal a b d (deeds_of (take n acts)) → KeepsTo B tables seal a b d (deeds_of acts)
-  points_whole a b d acts n h = subst (λ (deeds : List Deed). KeepsTo B tables seal a b d deeds) (deeds_whole acts n)
+      → GoesBy B tables seal a b d (deeds_of (take n acts)) → GoesBy B tables seal a b d (deeds_of acts)
+  points_whole a b d acts n h = subst (λ (deeds : List Deed). GoesBy B tables seal a b d deeds) (deeds_whole acts n)
       (keeps_longer B tables seal a b d (deeds_of (take n acts)) (deeds_of (drop n acts)) h)

@@ -1,15 +1,19 @@
 -- A drive, from its first byte to where no more of it is read.
-use Rattle.std.proofs.Common.{◌≡◌, ℕ, ◌+◌, ◌≤◌, ◌<◌, List, [], ◌++◌, length, Option, Some, None, Result, Ok}
+use Rattle.std.proofs.Common.{◌≡◌, ℕ, ◌+◌, ◌≤◌, ◌<◌, List, [], ◌++◌, length, Option, Some, None, Result, Ok, Err}
+use Rattle.std.proofs.Common.{◌∷◌, IfOk, IfSome, OnErr}
 use Rattle.std.proofs.Common.{refl, sym, ap, subst, ◌∙◌, append_assoc, arith, length-append, flat_map}
 use Rattle.taxi_units.specs.declared.event.Event.{Event}
 use Rattle.drive_text.specs.Drive.{events_in, runs_after}
-use Rattle.drive_text.specs.Ending.{stream_limit}
+use Rattle.drive_text.specs.Ending.{IsSplit, stream_limit}
 use Rattle.drive_text.specs.Runs.{run_events}
 use Rattle.drive_text.specs.declared.run.Run.{Run}
 use Rattle.drive_text.proofs.Laws.{events_are_added}
+use Rattle.std.proofs.lemmas.List.{append-nil}
 use Rattle.meter_run.specs.Drives.{BreaksDrive, IsBounded, TakesDrive}
-use Rattle.meter_run.specs.Source.{EndsBy, GivesRuns, HasGiven, Progress, StopsBy}
+use Rattle.meter_run.specs.Pieces.{AreCarried, CarriesAhead, CarriesPiece, IsThrough}
+use Rattle.meter_run.specs.Source.{EndsBy, Fills, GivesRuns, HasGiven, Progress, StopsBy}
 use Rattle.meter_run.specs.declared.source.Stop.{Stop}
+use Rattle.meter_run.specs.declared.source.Stop.TheVariants.{BadLine, ReadFault}
 
 -- the runs of these bytes were given, and their events were carried out
 pub record IsSoFar (told : Type 0) (place : Progress) (drive rest : List ℕ) (done : List Event → Type 0)
@@ -20,15 +24,14 @@ pub record IsSoFar (told : Type 0) (place : Progress) (drive rest : List ℕ) (d
   pub carried : done (events_in given)
   pub bounded : IsBounded before now (events_in given)
 
-pub so_far_none : (told : Type 0) (place : Progress) (drive : List ℕ) (carried : List Event → Type 0) (steps : ℕ)
-    → HasGiven place [] → place.ahead ≡ [] → carried [] → IsSoFar told place drive drive carried steps steps
-so_far_none told place drive carried steps stands none h = record {
-  given = [];
-  stands = stands;
-  split = λ t. sym (ap (λ (xs : List ℕ). xs ++ drive) none);
-  carried = h;
-  bounded = omega arith;
-}
+-- what is ahead of a source is on its way where, whatever was carried out before, the events of what was given of it
+-- were carried out behind that
+abbrev pub IsOnWay : {M D : Type 0} → (M → D → List Event → M → D → Type 0) → Progress → M → D → ℕ → Progress → M → D
+    → ℕ → Type 0
+IsOnWay {M} {D} carried old m b before place m' b' now =
+    (x : M) (a : D) (start : ℕ) (given rest : List ℕ) → HasGiven old given
+    → AreCarried given (λ es. carried x a es m b) start before
+    → IsSoFar (Unit {0}) place (given ++ (old.ahead ++ rest)) rest (λ es. carried x a es m' b') start now
 
 -- what a source gave of a drive, whether more may follow or not
 pub record Gave (told : Type 0) (drive rest' given : List ℕ) (runs : List Run) : Type 0 where
@@ -144,15 +147,233 @@ breaks_amid told old new drive rest rest' carried broke_off x y z runs stop s mo
       );
     }
 
-abbrev ended_by : (E : Type 0) → Stop → Result Stop E
-ended_by E stop = Ok stop
-
--- one answer has one stop
-pub stop_of : (E : Type 0) (a b : Stop) → ended_by E a ≡ ended_by E b → a ≡ b
-stop_of E a b same = cc
-
 -- fewer bytes are left than before
 pub smaller : (told : Type 0) (old new : Progress) (rest rest' given : List ℕ) (runs : List Run) → HasGiven old given
     → GivesRuns told old new rest rest' given runs → length new.ahead + new.left < length old.ahead + old.left
 smaller told old new rest rest' given runs h gives =
     omega (arith, h.count, gives.some, gives.goes_on.count, length-append given gives.fed)
+
+-- ---- pieces
+
+-- what is said of the reason for which a call stopped, if it did, and of a board that failed
+pub answers_then : {E : Type 0} (r : Result (Option Stop) E) (P Q : Stop → Type 0) → ((stop : Stop) → P stop → Q stop)
+    → IfOk r (λ answer. IfSome answer P) → IfOk r (λ answer. IfSome answer Q)
+answers_then (Ok None) P Q then h = tt
+answers_then (Ok (Some stop)) P Q then h = then stop h
+answers_then (Err e) P Q then h = tt
+
+pub err_then : {T E : Type 0} (r : Result T E) (P Q : Type 0) → (P → Q) → OnErr r P → OnErr r Q
+err_then (Ok x) P Q then h = tt
+err_then (Err e) P Q then h = then h
+
+abbrev answered_by : (E : Type 0) → Option Stop → Result (Option Stop) E
+answered_by E answer = Ok answer
+
+pub answer_of_call : (E : Type 0) (a b : Stop) → answered_by E (Some a) ≡ answered_by E (Some b) → a ≡ b
+answer_of_call E a b same = cc
+
+pub none_not_some : (E : Type 0) (a : Stop) → answered_by E None ≡ answered_by E (Some a) → ⊥
+none_not_some E a same = absurd cc
+
+pub some_not_none : (E : Type 0) (a : Stop) → answered_by E (Some a) ≡ answered_by E None → ⊥
+some_not_none E a same = absurd cc
+
+pub bad_not_fault : (line : ℕ) → ReadFault ≡ BadLine line → ⊥
+bad_not_fault line same = absurd cc
+
+pub some_ahead : (xs : List ℕ) → (xs ≡ [] → ⊥) → 0 < length xs
+some_ahead [] none = absurd (none refl)
+some_ahead (x ∷ xs) none = omega arith
+
+-- the same of a drive that is the same
+pub takes_as : (told : Type 0) (drive other left : List ℕ) (stop : Stop) (carried : List Event → Type 0) (x z : ℕ)
+    → (told → other ≡ drive) → TakesDrive (Unit {0}) other left stop carried x z
+    → TakesDrive told drive left stop carried x z
+takes_as told drive other left stop carried x z same h = record {
+  taken = h.taken;
+  few = h.few;
+  split = λ t. subst (λ (d : List ℕ). IsSplit d h.taken left) (same t) (h.split tt);
+  ends = λ t. subst (λ (d : List ℕ). EndsBy d h.taken left stop) (same t) (h.ends tt);
+  carried = h.carried;
+  bounded = h.bounded;
+}
+
+pub takes_told : (told : Type 0) (drive other left : List ℕ) (stop : Stop) (carried : List Event → Type 0) (x z : ℕ)
+    → (told → other ≡ drive) → TakesDrive told other left stop carried x z → TakesDrive told drive left stop carried x z
+takes_told told drive other left stop carried x z same h = record {
+  taken = h.taken;
+  few = h.few;
+  split = λ t. subst (λ (d : List ℕ). IsSplit d h.taken left) (same t) (h.split t);
+  ends = λ t. subst (λ (d : List ℕ). EndsBy d h.taken left stop) (same t) (h.ends t);
+  carried = h.carried;
+  bounded = h.bounded;
+}
+
+pub breaks_as : (told : Type 0) (drive other left : List ℕ) (broken : List Event → Type 0) (x z : ℕ)
+    → (told → other ≡ drive) → BreaksDrive (Unit {0}) other left broken x z → BreaksDrive told drive left broken x z
+breaks_as told drive other left broken x z same h = record {
+  taken = h.taken;
+  few = h.few;
+  split = λ t. subst (λ (d : List ℕ). IsSplit d h.taken left) (same t) (h.split tt);
+  broke_off = h.broke_off;
+  bounded = h.bounded;
+}
+
+pub breaks_told : (told : Type 0) (drive other left : List ℕ) (broken : List Event → Type 0) (x z : ℕ)
+    → (told → other ≡ drive) → BreaksDrive told other left broken x z → BreaksDrive told drive left broken x z
+breaks_told told drive other left broken x z same h = record {
+  taken = h.taken;
+  few = h.few;
+  split = λ t. subst (λ (d : List ℕ). IsSplit d h.taken left) (same t) (h.split t);
+  broke_off = h.broke_off;
+  bounded = h.bounded;
+}
+
+-- what was filled is what was left
+pub filled_is : (told : Type 0) (old mid : Progress) (rest rest' taken : List ℕ) → Fills told old mid rest rest'
+    → old.ahead ≡ [] → told → taken ++ (mid.ahead ++ rest') ≡ taken ++ rest
+filled_is told old mid rest rest' taken filled none t =
+    ap (λ (xs : List ℕ). taken ++ xs)
+    (sym (filled.passes t) ∙ ap (λ (xs : List ℕ). xs ++ rest) none)
+
+-- a source stops where nothing is ahead, and nothing more is carried out
+pub stops_before : (told : Type 0) (old : Progress) (rest rest' taken : List ℕ) (carried : List Event → Type 0)
+    (x y : ℕ) (stop : Stop) → IsThrough old taken → AreCarried taken carried x y
+    → StopsBy told old rest rest' taken [] stop → TakesDrive told (taken ++ rest) rest' stop carried x y
+stops_before told old rest rest' taken carried x y stop through done stops =
+    takes_last told old (taken ++ rest) rest rest' carried carried x y y [] stop
+    (record {
+      given = taken;
+      stands = through.given;
+      split = λ t. ap (λ (xs : List ℕ). taken ++ (xs ++ rest)) (sym through.none);
+      carried = done.all;
+      bounded = done.bounded;
+    }) stops (λ all. subst carried (sym (append-nil (events_in taken))) all) (omega arith)
+
+-- a piece that was filled and carried out
+pub carries_filled : (told : Type 0) (old mid new : Progress) (rest rest' taken : List ℕ)
+    (carried : List Event → Type 0) (x z : ℕ) → IsThrough old taken → Fills told old mid rest rest'
+    → length mid.ahead ≤ 512 → CarriesAhead mid new taken carried x z
+    → CarriesPiece told new rest rest' taken carried x z
+carries_filled told old mid new rest rest' taken carried x z through filled few h = record {
+  piece = mid.ahead;
+  some = filled.some;
+  few = few;
+  split = λ t. sym (ap (λ (xs : List ℕ). xs ++ rest) through.none) ∙ filled.passes t;
+  through = h.through;
+  done = h.done;
+}
+
+-- fewer bytes may be taken behind a piece
+pub fewer : (told : Type 0) (old new : Progress) (rest rest' taken : List ℕ) (carried : List Event → Type 0)
+    (x z : ℕ) → IsThrough old taken → CarriesPiece told new rest rest' taken carried x z → new.left < old.left
+fewer told old new rest rest' taken carried x z through h = omega (
+  arith,
+  through.given.count,
+  ap length through.none,
+  h.through.given.count,
+  ap length h.through.none,
+  h.some,
+  length-append taken h.piece,
+)
+
+module _ {M D : Type 0} (carried : M → D → List Event → M → D → Type 0) (broke_off : M → D → List Event → D → Type 0)
+    (behind : (es fs : List Event) (x : M) (a : D) (y : M) (b : D) (z : M) (c : D) → carried x a es y b
+    → carried y b fs z c → carried x a (es ++ fs) z c)
+    (later : (es fs : List Event) (x : M) (a : D) (y : M) (b c : D) → carried x a es y b → broke_off y b fs c
+    → broke_off x a (es ++ fs) c)
+    (sooner : (es fs : List Event) (x : M) (a c : D) → broke_off x a es c → broke_off x a (es ++ fs) c) where
+  module _ (old : Progress) (m : M) (b : D) (before : ℕ) where
+    pub way_none : IsOnWay carried old m b before old m b before
+    way_none x a start given rest h done =
+        record { given = given; stands = h; split = λ t. refl; carried = done.all; bounded = done.bounded }
+
+    -- from where it stands so far
+    module _ (place : Progress) (m' : M) (b' : D) (y z : ℕ) (runs : List Run)
+        (way : IsOnWay carried old m b before place m' b' y) (bounded : IsBounded y z (flat_map run_events runs)) where
+      pub way_more : (new : Progress) (n : M) (c : D)
+          → ((given rest : List ℕ) → HasGiven place given → GivesRuns (Unit {0}) place new rest rest given runs)
+          → carried m' b' (flat_map run_events runs) n c → IsOnWay carried old m b before new n c z
+      way_more new n c gives next x a start given rest h done =
+          let s = way x a start given rest h done in
+          so_far_more (Unit {0}) place new (given ++ (old.ahead ++ rest)) rest rest
+          (λ (es : List Event). carried x a es m' b') (λ (es : List Event). carried x a es n c) start y z runs s
+          (gives s.given rest s.stands)
+          (λ all. behind (events_in s.given) (flat_map run_events runs) x a m' b' n c all next) bounded
+
+      pub way_stops : (n : M) (c : D) (stop : Stop)
+          → ((given rest : List ℕ) → HasGiven place given → StopsBy (Unit {0}) place rest rest given runs stop)
+          → carried m' b' (flat_map run_events runs) n c
+          → (x : M) (a : D) (start : ℕ) (given rest : List ℕ) → HasGiven old given
+          → AreCarried given (λ es. carried x a es m b) start before
+          → TakesDrive (Unit {0}) (given ++ (old.ahead ++ rest)) rest stop (λ es. carried x a es n c) start z
+      way_stops n c stop stops next x a start given rest h done =
+          let s = way x a start given rest h done in
+          takes_last (Unit {0}) place (given ++ (old.ahead ++ rest)) rest rest
+          (λ (es : List Event). carried x a es m' b') (λ (es : List Event). carried x a es n c) start y z runs stop s
+          (stops s.given rest s.stands)
+          (λ all. behind (events_in s.given) (flat_map run_events runs) x a m' b' n c all next) bounded
+
+      pub way_breaks : (new : Progress) (c : D) (stop : Option Stop)
+          → (stop ≡ None → (given rest : List ℕ) → HasGiven place given
+          → GivesRuns (Unit {0}) place new rest rest given runs)
+          → ((s : Stop) → stop ≡ Some s → (given rest : List ℕ) → HasGiven place given
+          → StopsBy (Unit {0}) place rest rest given runs s)
+          → broke_off m' b' (flat_map run_events runs) c
+          → (x : M) (a : D) (start : ℕ) (given rest : List ℕ) → HasGiven old given
+          → AreCarried given (λ es. carried x a es m b) start before
+          → BreaksDrive (Unit {0}) (given ++ (old.ahead ++ rest)) rest (λ es. broke_off x a es c) start z
+      way_breaks new c stop more stops broken x a start given rest h done =
+          let s = way x a start given rest h done in
+          breaks_amid (Unit {0}) place new (given ++ (old.ahead ++ rest)) rest rest
+          (λ (es : List Event). carried x a es m' b') (λ (es : List Event). broke_off x a es c) start y z runs stop s
+          (λ none. more none s.given rest s.stands) (λ t is. stops t is s.given rest s.stands)
+          (λ all. later (events_in s.given) (flat_map run_events runs) x a m' b' c all broken)
+          (λ es fs broke. sooner es fs x a c broke) bounded
+
+    -- the source came through what was ahead
+    pub way_through : (place : Progress) (m' : M) (b' : D) (z : ℕ) → IsOnWay carried old m b before place m' b' z
+        → place.ahead ≡ [] → (x : M) (a : D) (start : ℕ) (given : List ℕ) → HasGiven old given
+        → AreCarried given (λ es. carried x a es m b) start before
+        → CarriesAhead old place given (λ es. carried x a es m' b') start z
+    way_through place m' b' z way none x a start given h done =
+        let s = way x a start given [] h done in
+        let same : s.given ≡ given ++ old.ahead =
+        sym (append-nil s.given) ∙ ap (λ (xs : List ℕ). s.given ++ xs) (sym (append-nil place.ahead ∙ none))
+        ∙ sym (s.split tt) ∙ ap (λ (xs : List ℕ). given ++ xs) (append-nil old.ahead) in
+        record {
+          through = record { given = subst (HasGiven place) same s.stands; none = none };
+          done = record {
+            all = subst (λ (bytes : List ℕ). carried x a (events_in bytes) m' b') same s.carried;
+            bounded = subst (λ (bytes : List ℕ). IsBounded start z (events_in bytes)) same s.bounded;
+          };
+        }
+
+-- ---- a whole drive
+
+-- all bytes that were taken of a drive were given, and their events were carried out
+pub record IsUpTo (told : Type 0) (place : Progress) (drive rest : List ℕ) (carried : List Event → Type 0)
+    (before now : ℕ) : Type 0 where
+  pub taken : List ℕ
+  pub through : IsThrough place taken
+  pub split : told → drive ≡ taken ++ rest
+  pub done : AreCarried taken carried before now
+
+pub up_to_none : (told : Type 0) (place : Progress) (drive : List ℕ) (carried : List Event → Type 0) (steps : ℕ)
+    → HasGiven place [] → place.ahead ≡ [] → carried [] → IsUpTo told place drive drive carried steps steps
+up_to_none told place drive carried steps given none all = record {
+  taken = [];
+  through = record { given = given; none = none };
+  split = λ t. refl;
+  done = record { all = all; bounded = omega arith };
+}
+
+pub up_to_more : (told : Type 0) (old new : Progress) (drive rest rest' : List ℕ)
+    (carried carried' : List Event → Type 0) (x y z : ℕ) → (s : IsUpTo told old drive rest carried x y)
+    → CarriesPiece told new rest rest' s.taken carried' x z → IsUpTo told new drive rest' carried' x z
+up_to_more told old new drive rest rest' carried carried' x y z s h = record {
+  taken = s.taken ++ h.piece;
+  through = h.through;
+  split = λ t. s.split t ∙ ap (λ (xs : List ℕ). s.taken ++ xs) (h.split t) ∙ sym (append_assoc s.taken h.piece rest');
+  done = h.done;
+}

@@ -20,18 +20,21 @@ use Rattle.totals_record.specs.Ranges.{IsDurable}
 use Rattle.totals_record.specs.States.{first_state}
 use Rattle.totals_record.specs.declared.durable_state.Durable.{Durable}
 use Rattle.meter_states.specs.Acts.{IsLawfulAct}
-use Rattle.meter_states.specs.Core.{IsSavedIn, Meets, CoreData, Stands}
+use Rattle.meter_model.specs.KeptTrip.{IsSavedIn}
+use Rattle.meter_states.specs.Core.{Meets, CoreData, Stands}
 use Rattle.meter_states.specs.Cache.{CachedCore}
 use Rattle.meter_states.specs.Fits.{Fits}
 use Rattle.meter_states.specs.Lawful.{IsLawful}
-use Rattle.meter_states.specs.Meter.{Meter, Outcome}
-use Rattle.meter_states.specs.Run.{actions_of, ended, ended_in, opened, run}
-use Rattle.meter_states.specs.Setting.{Setting, IsSettingOf}
-use Rattle.meter_states.specs.Step.{step, step_in}
-use Rattle.meter_states.specs.Supply.{supply_came, supply_dropped}
-use Rattle.meter_states.specs.declared.act.Act.{Act}
-use Rattle.meter_states.specs.declared.act.Act.TheVariants.{Refuse}
-use Rattle.meter_states.proofs.Laws.{the_store_has_what_the_acts_commit-event, the_store_keeps_the_trip-step}
+use Rattle.meter_model.specs.Meter.{Meter, Outcome}
+use Rattle.meter_model.specs.Run.{actions_of, ended, ended_in, opened, run}
+use Rattle.meter_model.specs.Setting.{Setting}
+use Rattle.meter_states.specs.Setting.{IsSettingOf}
+use Rattle.meter_model.specs.Step.{step, step_in}
+use Rattle.meter_model.specs.Supply.{supply_came, supply_dropped}
+use Rattle.meter_model.specs.declared.act.Act.{Act}
+use Rattle.meter_model.specs.declared.act.Act.TheVariants.{Refuse}
+use Rattle.meter_states.proofs.Laws.{the_store_has_what_the_acts_commit-event}
+use Rattle.meter_model.proofs.Laws.{the_store_keeps_the_trip-step}
 use Rattle.meter_run.specs.Commits.{after_acts, commits_in, AreFor}
 use Rattle.meter_run.specs.Dry.{BreaksOff, Carries, IsReady, Prints, PrintsSome}
 use Rattle.meter_run.specs.BetweenEvents.{IsTripKept, IsTripKeptIn, StandsWith}

@@ -9,8 +9,9 @@ use Rattle.seal_record.specs.declared.seal.Seal.{Seal}
 use Rattle.drive_text.specs.Drive.{events_in}
 use Rattle.drive_text.specs.Ending.{StreamEnd, Whole, BadAt, Endless, IsSplit, ReachesEnd, stream_limit, events_of}
 use Rattle.totals_record.specs.States.{first_state}
-use Rattle.meter_states.specs.Run.{actions_of}
-use Rattle.meter_states.specs.Setting.{Setting, IsSettingOf}
+use Rattle.meter_model.specs.Run.{actions_of}
+use Rattle.meter_model.specs.Setting.{Setting}
+use Rattle.meter_states.specs.Setting.{IsSettingOf}
 use Rattle.meter_run.specs.Drives.{RunsDrive, RunsTo, answer_of}
 use Rattle.meter_run.specs.Source.{EndsBy}
 use Rattle.meter_run.specs.Texts.{shown_texts}

@@ -16,17 +16,18 @@ use Rattle.meter_states.specs.Equals.{interval_of, intervals_of}
 use Rattle.meter_states.specs.Cache.{CachedCore}
 use Rattle.meter_states.specs.Fits.{Fits}
 use Rattle.meter_states.specs.Lawful.{IsLawful}
-use Rattle.meter_states.specs.Meter.{Meter}
-use Rattle.meter_states.specs.Run.{run}
-use Rattle.meter_states.specs.Setting.{Setting, IsSettingOf}
-use Rattle.meter_states.specs.declared.act.Act.{Act}
+use Rattle.meter_model.specs.Meter.{Meter}
+use Rattle.meter_model.specs.Run.{run}
+use Rattle.meter_model.specs.Setting.{Setting}
+use Rattle.meter_states.specs.Setting.{IsSettingOf}
+use Rattle.meter_model.specs.declared.act.Act.{Act}
 use Rattle.meter_states.proofs.Laws.{the_store_keeps_the_trip-run}
 use Rattle.meter_run.specs.Deeds.{after_deeds, deeds_of, texts}
 use Rattle.meter_run.specs.Dry.{Carries, IsReady}
 use Rattle.meter_run.specs.BetweenEvents.{StandsWith}
 use Rattle.meter_run.specs.OnStore.{CarriesOut, Has, Knows}
 use Rattle.meter_run.specs.PointLaws.{keeps_still}
-use Rattle.meter_run.specs.Points.{KeepsTo}
+use Rattle.meter_run.specs.Points.{GoesBy}
 use Rattle.meter_run.specs.RunLaws.{run_durable}
 use Rattle.meter_run.specs.StoreLaws.{beside_none, has_settled}
 use Rattle.meter_run.specs.Texts.{shown_texts}
@@ -112,7 +113,7 @@ module _ {D L : Type 0} {N : ℕ} (B : Ghosts D N L) (tables : TableParts) (seal
     printed = λ told s m is h t. sym (append-nil (B.printed a))
         ∙ ap (λ (acts : List Act). B.printed a ++ texts seal (deeds_of acts)) (meets s m is h.stands.core).done;
     points = λ told s m is h. let at = has_settled B x.known a m.durable h.has in
-        subst (λ (acts : List Act). KeepsTo B tables seal a a m.durable (deeds_of acts))
+        subst (λ (acts : List Act). GoesBy B tables seal a a m.durable (deeds_of acts))
         (meets s m is h.stands.core).done
         (keeps_still B tables seal a at.0 m.durable now at.1 h.fits);
     beside = λ told. beside_none B a now;

@@ -19,23 +19,27 @@ use Rattle.tariff_compile.specs.Tables.{TableParts}
 use Rattle.seal_record.specs.declared.seal.Seal.{Seal}
 use Rattle.slot_store.specs.declared.pair.Place.{Place}
 use Rattle.totals_record.specs.Ranges.{IsDurable, IsHeld}
-use Rattle.meter_store.specs.Stored.{KeepsState}
+use Rattle.meter_store.specs.Stored.{HoldsState}
 use Rattle.totals_record.specs.declared.durable_state.Durable.{Durable}
 use Rattle.totals_record.specs.declared.trip.Trip.{Trip}
 use Rattle.meter_states.specs.Acts.{IsLawfulAct}
-use Rattle.meter_states.specs.Core.{IsSavedIn, Meets}
+use Rattle.meter_model.specs.KeptTrip.{IsSavedIn}
+use Rattle.meter_states.specs.Core.{Meets}
 use Rattle.meter_states.specs.Cache.{CachedCore}
 use Rattle.meter_states.specs.Fits.{Fits}
-use Rattle.meter_states.specs.KeptTrip as kept
+use Rattle.meter_model.specs.KeptTrip as kept
 use Rattle.meter_states.specs.Lawful.{IsLawful}
-use Rattle.meter_states.specs.Meter.{Meter, Outcome, refused}
-use Rattle.meter_states.specs.Run.{opened, run}
-use Rattle.meter_states.specs.Setting.{Setting, IsSettingOf, IsTariffOf}
-use Rattle.meter_states.specs.Step.{step}
-use Rattle.meter_states.specs.Supply.{supply_came}
-use Rattle.meter_states.specs.declared.act.Act.{Act}
-use Rattle.meter_states.specs.declared.act.Act.TheVariants.{Refuse}
-use Rattle.meter_states.proofs.Laws.{the_store_keeps_the_trip-begins, the_store_keeps_the_trip-fits}
+use Rattle.meter_model.specs.Meter.{Meter, Outcome, refused}
+use Rattle.meter_model.specs.Run.{opened, run}
+use Rattle.meter_model.specs.Setting.{Setting}
+use Rattle.meter_states.specs.Setting.{IsSettingOf, IsTariffOf}
+use Rattle.meter_model.specs.Step.{step}
+use Rattle.meter_states.specs.Stepping.{Takes}
+use Rattle.meter_model.specs.Supply.{supply_came}
+use Rattle.meter_model.specs.declared.act.Act.{Act}
+use Rattle.meter_model.specs.declared.act.Act.TheVariants.{Refuse}
+use Rattle.meter_model.proofs.Laws.{the_store_keeps_the_trip-begins}
+use Rattle.meter_states.proofs.Laws.{the_store_keeps_the_trip-fits}
 use Rattle.meter_run.specs.Commits.{after_acts}
 use Rattle.meter_run.specs.Deeds.{Deed, Does, deeds_of, texts}
 use Rattle.meter_run.specs.Dry.{IsReady}
@@ -43,12 +47,12 @@ use Rattle.meter_run.specs.BetweenEvents.{StandsWith}
 use Rattle.meter_run.specs.OnStore.{Agrees, Attempts, CarriesOut, Has, IsReadyOn, IsSecured, Knows, MayDo, StandsOn}
 use Rattle.meter_run.specs.OnStore.{CarriesEvents, StopsAmid, WritesTotals}
 use Rattle.meter_run.specs.PointLaws.{keeps_longer, keeps_next}
-use Rattle.meter_run.specs.Points.{KeepsTo}
+use Rattle.meter_run.specs.Points.{GoesBy}
 use Rattle.meter_run.specs.StoreLaws.{beside_then, has_settled}
-use Rattle.meter_run.specs.Supply.{KeepsOff}
+use Rattle.meter_run.specs.Supply.{StaysOff}
 use Rattle.meter_run.specs.declared.stored.Known.{Known}
 use Rattle.meter_run.specs.declared.stored.StoreMeter.{StoreMeter}
-use Rattle.meter_run.proofs.Dropping.{came, off_of, ready_after, stands_after}
+use Rattle.meter_run.proofs.Dropping.{came, off_of, ready_after, stands_after, stepped}
 use Rattle.meter_run.proofs.Going.{on_err, on_ok, on_ok_both, on_ok_under}
 use Rattle.meter_run.proofs.Leaves.{beside_kept, print_point, settled_kept}
 
@@ -93,6 +97,22 @@ refused_event s (Pulses n) m off other = rw off refl
 refused_event s Tick m off other = rw off refl
 refused_event s (Clock second) m off other = rw off refl
 refused_event s (Key key) m off other = rw off refl
+
+-- what the core's step says of its acts beside the durable state that is known
+pub meets_with : (tables : TableParts) (seal : Seal) (event : Event) (core core' : CachedCore) (d : Durable)
+    (acts : List Act) → Takes tables seal event core acts core'
+    → (s : Setting) (m : Meter) → IsSettingOf s tables seal → StandsWith s core.plain d m
+    → Meets s core'.plain acts (step s event m)
+meets_with tables seal event core core' d acts takes s m is st = takes.meets s m is st.core
+
+pub lawful_beside : (tables : TableParts) (seal : Seal) (event : Event) (core core' : CachedCore) (d : Durable)
+    (acts : List Act) → IsReady tables seal core d
+    → ((second : ℕ) → core.plain.operating ≡ Off → event ≢ Up second) → Takes tables seal event core acts core'
+    → All (IsLawfulAct tables d.number) acts
+lawful_beside tables seal event core core' d acts ready other takes =
+    let way = ready.way in
+    stepped tables way.setting event core d acts way.meter way.stands other
+    (takes.meets way.setting way.meter way.is way.stands.core).done takes.ranges
 
 -- acts under another name
 pub meets_as : (tables : TableParts) (seal : Seal) (core : CachedCore) (d : Durable) (core' : CachedCore)
@@ -149,7 +169,7 @@ module _ {D L : Type 0} {N : ℕ} (B : Ghosts D N L) (tables : TableParts) (seal
 
   -- the state that is known
   known_is : (known : Option Known) (k : Known) (a : D) (d : Durable) → known ≡ Some k → Has B known a d
-      → (d ≡ k.durable) × KeepsState B k.place a k.durable
+      → (d ≡ k.durable) × HoldsState B k.place a k.durable
   known_is known k a d is has = subst (λ (o : Option Known). Has B o a d) is has
 
   stands_known : (s : Setting) (x : StoreMeter) (k : Known) (a : D) (m : Meter) → x.known ≡ Some k
@@ -162,18 +182,18 @@ module _ {D L : Type 0} {N : ℕ} (B : Ghosts D N L) (tables : TableParts) (seal
       (known : x.known ≡ Some k)
       (meets : (s : Setting) (m : Meter) → IsSettingOf s tables seal → StandsWith s x.core.plain k.durable m
       → Meets s core.plain acts (step s event m))
-      (points : B.tells_image → KeepsTo B tables seal a b k.durable (deeds_of acts))
+      (points : B.tells_image → GoesBy B tables seal a b k.durable (deeds_of acts))
       (beside : B.tells_image → WritesTotals B a b) where
     acts_are : (s : Setting) (m : Meter) → IsSettingOf s tables seal → StandsOn B tables s x a m
         → acts ≡ (step s event m).acts
     acts_are s m is h = (meets s m is (stands_known s x k a m known h)).done
 
     points_are : B.tells_image → (s : Setting) (m : Meter) → IsSettingOf s tables seal → StandsOn B tables s x a m
-        → KeepsTo B tables seal a b m.durable (deeds_of (step s event m).acts)
+        → GoesBy B tables seal a b m.durable (deeds_of (step s event m).acts)
     points_are told s m is h =
-        subst (λ (d : Durable). KeepsTo B tables seal a b d (deeds_of (step s event m).acts))
+        subst (λ (d : Durable). GoesBy B tables seal a b d (deeds_of (step s event m).acts))
         (sym (known_is x.known k a m.durable known h.has).0)
-        (subst (λ (xs : List Act). KeepsTo B tables seal a b k.durable (deeds_of xs)) (acts_are s m is h) (points told))
+        (subst (λ (xs : List Act). GoesBy B tables seal a b k.durable (deeds_of xs)) (acts_are s m is h) (points told))
 
     out_event : (l : Known) → l.durable ≡ after_acts k.durable acts → Agrees B tables l b
         → (B.tells_text → B.printed b ≡ B.printed a ++ texts seal (deeds_of acts))
@@ -226,10 +246,10 @@ module _ {D L : Type 0} {N : ℕ} (B : Ghosts D N L) (tables : TableParts) (seal
     refuses s m h = refused_event s event m (off_of s x.core m h.stands.core off) (λ second. other second off)
 
     refused_points : (s : Setting) (m : Meter) → StandsOn B tables s x a m
-        → KeepsTo B tables seal a b m.durable (deeds_of (step s event m).acts)
+        → GoesBy B tables seal a b m.durable (deeds_of (step s event m).acts)
     refused_points s m h =
         let at = has_settled B x.known a m.durable h.has in
-        subst (λ (o : Outcome). KeepsTo B tables seal a b m.durable (deeds_of o.acts)) (sym (refuses s m h))
+        subst (λ (o : Outcome). GoesBy B tables seal a b m.durable (deeds_of o.acts)) (sym (refuses s m h))
         (print_point B tables seal a b m.durable at.0 (Does (Refuse NotNow))
         (refusal_text NotNow) refl at.1 h.fits kept leaves begun)
 
@@ -267,8 +287,8 @@ module _ {D L : Type 0} {N : ℕ} (B : Ghosts D N L) (tables : TableParts) (seal
 
   -- a scan before it: what is found is the state of the store
   module _ (x : StoreMeter) (a b : D) (second : ℕ)
-      (points : B.tells_image → (place : Place) (d : Durable) → KeepsState B place a d → ForSome d.hold (Fits tables)
-      → KeepsTo B tables seal a b d [])
+      (points : B.tells_image → (place : Place) (d : Durable) → HoldsState B place a d → ForSome d.hold (Fits tables)
+      → GoesBy B tables seal a b d [])
       (text : B.printed b ≡ B.printed a) (beside : B.tells_image → WritesTotals B a b) where
     -- the board failed in it
     pub amid_scan : StopsAmid B tables seal (λ s m. step s (Up second) m) x a b
@@ -297,7 +317,7 @@ module _ {D L : Type 0} {N : ℕ} (B : Ghosts D N L) (tables : TableParts) (seal
     }
 
     module _ (k : Known) (agrees : Agrees B tables k b) (finds : B.tells_image → (place : Place) (d : Durable)
-        → KeepsState B place a d → ForSome d.hold (Fits tables) → k.durable ≡ d) where
+        → HoldsState B place a d → ForSome d.hold (Fits tables) → k.durable ≡ d) where
       abbrev found : StoreMeter
       found = record { core = x.core; known = Some k }
 
@@ -309,14 +329,14 @@ module _ {D L : Type 0} {N : ℕ} (B : Ghosts D N L) (tables : TableParts) (seal
         fits = h.fits;
       }
 
-      behind_scan : (c : D) (d : Durable) (deeds : List Deed) → KeepsTo B tables seal a b d []
-          → KeepsTo B tables seal b c d deeds → KeepsTo B tables seal a c d deeds
+      behind_scan : (c : D) (d : Durable) (deeds : List Deed) → GoesBy B tables seal a b d []
+          → GoesBy B tables seal b c d deeds → GoesBy B tables seal a c d deeds
       behind_scan c d deeds h k =
           keeps_next B tables seal a b c d [] deeds (λ t. text ∙ sym (append-nil (B.printed a))) h k
 
       points_found : (c : D) → StopsAmid B tables seal (λ s m. step s (Up second) m) found b c → B.tells_image
           → (s : Setting) (m : Meter) → IsSettingOf s tables seal → StandsOn B tables s x a m
-          → KeepsTo B tables seal a c m.durable (deeds_of (step s (Up second) m).acts)
+          → GoesBy B tables seal a c m.durable (deeds_of (step s (Up second) m).acts)
       points_found c h told s m is st = let at = has_settled B x.known a m.durable st.has in
           behind_scan c m.durable (deeds_of (step s (Up second) m).acts) (points told at.0 m.durable at.1 st.fits)
           (h.points told s m is (stands_found told s m st))
@@ -352,7 +372,7 @@ module _ {D L : Type 0} {N : ℕ} (B : Ghosts D N L) (tables : TableParts) (seal
     stands = h.stands;
     printed = λ told s m is st t. subst (λ (xs : List Act). B.printed b ≡ B.printed a ++ texts seal (deeds_of xs))
         (sym (append-nil (step s event m).acts)) (h.printed told s m is st t);
-    points = λ told s m is st. subst (λ (xs : List Act). KeepsTo B tables seal a b m.durable (deeds_of xs))
+    points = λ told s m is st. subst (λ (xs : List Act). GoesBy B tables seal a b m.durable (deeds_of xs))
         (sym (append-nil (step s event m).acts)) (h.points told s m is st);
     beside = h.beside;
   }
@@ -360,13 +380,13 @@ module _ {D L : Type 0} {N : ℕ} (B : Ghosts D N L) (tables : TableParts) (seal
   amid_one : (x : StoreMeter) (a b : D) (event : Event) → StopsAmid B tables seal (λ s m. step s event m) x a b
       → StopsAmid B tables seal (λ s m. run s (event ∷ []) m) x a b
   amid_one x a b event h = record {
-    points = λ told s m is st. subst (λ (xs : List Act). KeepsTo B tables seal a b m.durable (deeds_of xs))
+    points = λ told s m is st. subst (λ (xs : List Act). GoesBy B tables seal a b m.durable (deeds_of xs))
         (sym (append-nil (step s event m).acts)) (h.points told s m is st);
     beside = h.beside;
   }
 
   pub carried_one : {T E : Type 0} (r : Result T E) (x : StoreMeter) (a : D) (y : StoreMeter) (b : D) (event : Event)
-      → Attempts B tables seal (λ s m. step s event m) x a r y b → KeepsOff x.core.plain (event ∷ []) y.core.plain
+      → Attempts B tables seal (λ s m. step s event m) x a r y b → StaysOff x.core.plain (event ∷ []) y.core.plain
       → OnOk r (CarriesEvents B tables seal (event ∷ []) x a y b)
   carried_one r x a y b event h off =
       on_ok_weaker r (λ out. record { out = out_one x a y b event out; supply = off }) h.carried

@@ -9,7 +9,7 @@ use Rattle.outside.specs.declared.board.Board.{Ghosts}
 use Rattle.outside.proofs.Laws.{leaves_then, leaves_wider}
 use Rattle.seal_record.specs.declared.seal.Seal.{Seal}
 use Rattle.tariff_compile.specs.Tables.{TableParts}
-use Rattle.meter_store.specs.Stored.{KeepsState}
+use Rattle.meter_store.specs.Stored.{HoldsState}
 use Rattle.totals_record.specs.declared.durable_state.Durable.{Durable}
 use Rattle.meter_states.specs.Fits.{Fits}
 use Rattle.meter_run.specs.Deeds.{Deed, Prints, after_deeds}
@@ -70,7 +70,7 @@ module _ {D L : Type 0} {N : ℕ} (B : Ghosts D N L) (tables : TableParts) (seal
     opens = record {
       place = done.opens.place;
       settled =
-          subst (λ (e : Durable). KeepsState B done.opens.place c e) (sym (after_joined d deeds (Prints line ∷ [])))
+          subst (λ (e : Durable). HoldsState B done.opens.place c e) (sym (after_joined d deeds (Prints line ∷ [])))
           (settled_kept B done.opens.place (after_deeds d deeds) b c kept done.opens.settled);
       fits = subst (λ (e : Durable). ForSome e.hold (Fits tables))
           (sym (after_joined d deeds (Prints line ∷ []))) done.opens.fits;

@@ -15,13 +15,13 @@ use Rattle.slot_store.specs.declared.pair.Place.{Place}
 use Rattle.slot_store.proofs.Laws.{settled_stays, whole_leaves, whole_writes}
 use Rattle.tariff_compile.specs.Tables.{TableParts}
 use Rattle.totals_record.specs.Reading.{reads}
-use Rattle.meter_store.specs.Stored.{HasEither, KeepsState, LeavesEither, state_number_of, written_at}
+use Rattle.meter_store.specs.Stored.{HasEither, HoldsState, LeavesEither, state_number_of, written_at}
 use Rattle.totals_record.specs.declared.durable_state.Durable.{Durable}
 use Rattle.meter_states.specs.Fits.{Fits}
-use Rattle.meter_run.specs.Deeds.{Deed, after_deed, text_in}
+use Rattle.meter_run.specs.Deeds.{Deed, after_deed, deed_text}
 use Rattle.meter_run.specs.OnStore.{Agrees, HasBeside, WritesTotals}
 use Rattle.meter_run.specs.PointLaws.{left_has}
-use Rattle.meter_run.specs.Points.{IsPointOfDeeds, HasFittingState, KeepsTo}
+use Rattle.meter_run.specs.Points.{IsPointOfDeeds, HasFittingState, GoesBy}
 use Rattle.meter_run.specs.declared.stored.Known.{Known}
 
 -- the pair of totals, whose latest body is at a place
@@ -30,7 +30,7 @@ pair_at place = record { at = 0; latest = Some place }
 
 -- a pair that was settled stays so on a board whose store is kept
 pub settled_kept : {D L : Type 0} {N : ℕ} (B : Ghosts D N L) (place : Place) (d : Durable) (a b : D) → KeepsStore B a b
-    → KeepsState B place a d → KeepsState B place b d
+    → HoldsState B place a d → HoldsState B place b d
 settled_kept B place d a b kept settled =
     settled_stays reads state_number_of 0 place d (B.image a) (B.image b) (B.in_flight a) (B.in_flight b) settled
     (record {
@@ -93,11 +93,11 @@ module _ {D L : Type 0} {N : ℕ} (B : Ghosts D N L) where
 
 module _ {D L : Type 0} {N : ℕ} (B : Ghosts D N L) (tables : TableParts) (seal : Seal) (a b : D) (d : Durable) where
   -- a print is any deed with its text
-  pub print_point : (place : Place) (deed : Deed) (piece : List ℕ) → text_in seal deed ≡ piece → KeepsState B place a d
-      → ForSome d.hold (Fits tables) → KeepsStore B a b
+  pub print_point : (place : Place) (deed : Deed) (piece : List ℕ) → deed_text seal deed ≡ piece
+      → HoldsState B place a d → ForSome d.hold (Fits tables) → KeepsStore B a b
       → LeavesOnly B a b (MayLeaveAmid (B.image a) (B.in_flight a) (B.printed a) piece)
       → (B.tells_text → Begins (B.printed a) (B.printed b) piece)
-      → KeepsTo B tables seal a b d (deed ∷ [])
+      → GoesBy B tables seal a b d (deed ∷ [])
   print_point place deed piece is settled fits kept run begun = record {
     leaves = leaves_wider B (MayLeaveAmid (B.image a) (B.in_flight a) (B.printed a) piece)
         (IsPointOfDeeds tables seal B.tells_text d (B.printed a) (deed ∷ [])) a b
@@ -125,25 +125,25 @@ module _ {D L : Type 0} {N : ℕ} (B : Ghosts D N L) (tables : TableParts) (seal
 
   pub commit_point : (place : Place) (e : Durable) (deed : Deed) → after_deed d deed ≡ e → ForSome d.hold (Fits tables)
       → ForSome e.hold (Fits tables) → LeavesEither B place d e a b → B.printed b ≡ B.printed a
-      → KeepsTo B tables seal a b d (deed ∷ [])
+      → GoesBy B tables seal a b d (deed ∷ [])
   commit_point place e deed is fits fitting run same = record {
     leaves = leaves_wider B (LeavesBeside (B.image a) (B.in_flight a) (B.printed a) (written_at place) 512
         (HasEither d e)) (IsPointOfDeeds tables seal B.tells_text d (B.printed a) (deed ∷ [])) a b
         (λ i x left. inl (record {
           holds = either_holds e deed i is fits fitting left.stands;
-          begun = λ t. begins_not (B.printed a) x (text_in seal deed) left.beside.text;
+          begun = λ t. begins_not (B.printed a) x (deed_text seal deed) left.beside.text;
         })) run.leaves;
     stops = inl (record {
       holds = either_holds e deed (B.image b) is fits fitting run.holds;
-      begun = λ t. begins_not (B.printed a) (B.printed b) (text_in seal deed) same;
+      begun = λ t. begins_not (B.printed a) (B.printed b) (deed_text seal deed) same;
     });
   }
 
   -- a scan is no deed
-  pub scan_point : (place : Place) → KeepsState B place a d → ForSome d.hold (Fits tables)
+  pub scan_point : (place : Place) → HoldsState B place a d → ForSome d.hold (Fits tables)
       → SameBut (B.in_flight a) (B.image a) (B.image b)
       → LeavesOnly B a b (MayLeave (B.image a) (B.in_flight a) (B.printed a)) → B.printed b ≡ B.printed a
-      → KeepsTo B tables seal a b d []
+      → GoesBy B tables seal a b d []
   scan_point place settled fits same run text = record {
     leaves = leaves_wider B (MayLeave (B.image a) (B.in_flight a) (B.printed a))
         (IsPointOfDeeds tables seal B.tells_text d (B.printed a) []) a b

@@ -3,10 +3,10 @@ use Rattle.std.proofs.Common.{◌≡◌, ◌⊎◌, inl, inr, ⊎_elim, ℕ, ◌
 use Rattle.std.proofs.Common.{subst, ◌∙◌, append_assoc, arith, length-append}
 use Rattle.std.specs.Prelude.{get_or, Contains}
 use Rattle.std.proofs.lemmas.List.Elements.{Contains-append_left, Contains-push}
-use Rattle.outside.specs.Runs.{IsSettled}
+use Rattle.outside.specs.Runs.{IsAtRest}
 use Rattle.outside.specs.declared.board.Board.{Ghosts}
 use Rattle.seal_record.specs.Decoding as seals
-use Rattle.meter_store.specs.Sealing.{HasSeal, KeepsSeal}
+use Rattle.meter_store.specs.Sealing.{HasSeal, HoldsSeal}
 use Rattle.seal_record.specs.declared.seal.Seal.{Seal}
 use Rattle.slot_store.specs.Slots.{IsAt}
 use Rattle.slot_store.specs.declared.pair.Place.{Place}
@@ -20,7 +20,7 @@ use Rattle.totals_record.specs.declared.change.Change.{Change}
 use Rattle.totals_record.specs.declared.change.Change.TheVariants as changes
 use Rattle.totals_record.specs.declared.durable_state.Durable.{Durable}
 use Rattle.totals_record.specs.declared.entry.Entry.{Entry}
-use Rattle.meter_states.specs.declared.act.Act.TheVariants.{Enter, Receipt}
+use Rattle.meter_model.specs.declared.act.Act.TheVariants.{Enter, Receipt}
 use Rattle.meter_run.specs.Deeds.{Deed, Does, changes_in, changes_of}
 use Rattle.meter_run.specs.OnStore.{HasBeside, WritesTotals}
 use Rattle.meter_run.specs.Points.{HasEntries, HasEntryOf, IsCutOfDeeds, IsEntered, IsNumberedWithin}
@@ -136,7 +136,7 @@ module _ (tables : TableParts) (seal : Seal) (told : Type 0) (d : Durable) (p : 
       cut.follows.number (cut.receipts earlier later receipt is)
 
   -- the next run may open with it
-  pub next_opens : {D L : Type 0} {N : ℕ} (B : Ghosts D N L) (board : D) → B.image board ≡ i → IsSettled B board
+  pub next_opens : {D L : Type 0} {N : ℕ} (B : Ghosts D N L) (board : D) → B.image board ≡ i → IsAtRest B board
       → OpensWith B tables board cut.found
   next_opens B board is settled = record {
     place = cut.scanned.0;
@@ -157,14 +157,14 @@ module _ {D L : Type 0} {N : ℕ} (B : Ghosts D N L) where
       h.bytes.rest place (⊎_elim grounded (λ within. omega (arith, le, within.high)))
 
   pub seal_left : (board : D) (left : List ℕ) (place : Place) (seal : Seal) → HasBeside B board left
-      → KeepsSeal B place board seal → HasSeal left seal
+      → HoldsSeal B place board seal → HasSeal left seal
   seal_left board left place seal h keeps =
       at_stands seals.reads seals.seal_number_of 1024 place left seal
       (same_at seals.reads seals.seal_number_of 1024 place (B.image board) left seal keeps.is_at
       (apart_same 1024 0 1024 (B.image board) (B.in_flight board) left (inl (omega arith)) keeps.quiet h.bytes))
 
-  pub seal_kept : (a b : D) (place : Place) (seal : Seal) → WritesTotals B a b → KeepsSeal B place a seal
-      → KeepsSeal B place b seal
+  pub seal_kept : (a b : D) (place : Place) (seal : Seal) → WritesTotals B a b → HoldsSeal B place a seal
+      → HoldsSeal B place b seal
   seal_kept a b place seal h keeps = record {
     quiet = λ byte within flies. ⊎_elim (keeps.quiet byte within) (λ touched. omega (arith, within.low, touched.high))
         (h.flight byte flies);

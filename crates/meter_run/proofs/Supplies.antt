@@ -1,6 +1,6 @@
 -- The supply behind events: a meter is off without it, and the steps of a drive with the supply drop at its end.
 use Rattle.std.proofs.Common.{◌≡◌, ◌≢◌, inl, inr, ℕ, zero, suc, ◌+◌, ◌*◌, ◌≤◌, List, [], ◌∷◌, Bool, true, false, None}
-use Rattle.std.proofs.Common.{arith, refl, sym, ap, ◌∙◌}
+use Rattle.std.proofs.Common.{arith, refl, sym, ap, subst, ◌∙◌}
 use Rattle.std.proofs.lemmas.Bool.{ne_eqb}
 use Rattle.drive_text.specs.Runs.{interval_events, intervals_events}
 use Rattle.outside.specs.declared.board.Board.{Ghosts}
@@ -14,15 +14,16 @@ use Rattle.totals_record.specs.States.{first_state}
 use Rattle.totals_record.specs.declared.durable_state.Durable.{Durable}
 use Rattle.meter_states.specs.Core.{Meets, CoreData, Stands}
 use Rattle.meter_states.specs.Cache.{CachedCore}
-use Rattle.meter_states.specs.Meter.{Meter, Outcome}
-use Rattle.meter_states.specs.Run.{opened, run}
-use Rattle.meter_states.specs.Setting.{Setting, IsSettingOf}
-use Rattle.meter_states.specs.Step.{step, step_in}
-use Rattle.meter_states.specs.declared.act.Act.{Act}
+use Rattle.meter_model.specs.Meter.{Meter, Outcome}
+use Rattle.meter_model.specs.Run.{opened, run}
+use Rattle.meter_model.specs.Setting.{Setting}
+use Rattle.meter_states.specs.Setting.{IsSettingOf}
+use Rattle.meter_model.specs.Step.{step, step_in}
+use Rattle.meter_model.specs.declared.act.Act.{Act}
 use Rattle.meter_run.specs.Dry.{Carries, IsReady}
 use Rattle.meter_run.specs.BetweenEvents.{StandsWith}
 use Rattle.meter_run.specs.OnStore.{IsReadyOn}
-use Rattle.meter_run.specs.Supply.{KeepsOff, drop_steps, is_supplied, is_supplied_after}
+use Rattle.meter_run.specs.Supply.{StaysOff, drop_steps, is_supplied, is_supplied_after}
 use Rattle.meter_run.specs.SupplyLaws.{supplied_joined}
 use Rattle.meter_run.specs.declared.dry.DryMeter.{DryMeter}
 use Rattle.meter_run.specs.declared.stored.StoreMeter.{StoreMeter}
@@ -74,7 +75,7 @@ pub event_keeps_off : (tables : TableParts) (seal : Seal) (event : Event) (core 
     (acts : List Act) → IsReady tables seal core d
     → ((s : Setting) (m : Meter) → IsSettingOf s tables seal → StandsWith s core.plain d m
     → Meets s core'.plain acts (step s event m))
-    → KeepsOff core.plain (event ∷ []) core'.plain
+    → StaysOff core.plain (event ∷ []) core'.plain
 event_keeps_off tables seal event core core' d acts ready meets =
     λ before off none.
     let way = ready.way in
@@ -83,10 +84,16 @@ event_keeps_off tables seal event core core' d acts ready meets =
     core_off s core'.plain (step s event m).next (meets s m way.is way.stands).state
     (off_after s event m before (λ unsupplied. off_of s core m way.stands.core (off unsupplied)) none)
 
+-- behind the coming of the supply it is there
+pub supply_keeps : (core core' : CoreData) (event : Event) (second : ℕ) → event ≡ Up second
+    → StaysOff core (event ∷ []) core'
+supply_keeps core core' event second is =
+    subst (λ (e : Event). StaysOff core (e ∷ []) core') (sym is) (λ before off none. absurd cc)
+
 -- a core that is off, and left as it was, is off
 pub unknown_keeps_off : {D L : Type 0} {N : ℕ} (B : Ghosts D N L) (tables : TableParts) (seal : Seal) (x : StoreMeter)
     (a : D)
-    (events : List Event) → x.known ≡ None → IsReadyOn B tables seal x a → KeepsOff x.core.plain events x.core.plain
+    (events : List Event) → x.known ≡ None → IsReadyOn B tables seal x a → StaysOff x.core.plain events x.core.plain
 unknown_keeps_off B tables seal x a events unknown ready =
     λ before off none. unknown_off B tables seal x a unknown ready
 
@@ -103,7 +110,7 @@ intervals_keep p (suc n) before =
     ∙ ap (λ (b : Bool). is_supplied b (intervals_events p n)) (interval_keeps p before) ∙ intervals_keep p n before
 
 pub equal_keep_off : (old new : CoreData) (p n : ℕ) → new.operating ≡ old.operating
-    → KeepsOff old (intervals_events p n) new
+    → StaysOff old (intervals_events p n) new
 equal_keep_off old new p n same = λ before off none. same ∙ off (sym (intervals_keep p n before) ∙ none)
 
 -- ---- a drive

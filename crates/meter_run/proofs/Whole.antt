@@ -18,22 +18,23 @@ use Rattle.drive_text.specs.Ending.{StreamEnd, Whole, BadAt, Endless, IsSplit, R
 use Rattle.slot_store.specs.Slots.{slot_at}
 use Rattle.slot_store.specs.declared.pair.Place.{Place}
 use Rattle.totals_record.specs.Ranges.{IsDurable}
-use Rattle.meter_store.specs.Stored.{KeepsState}
+use Rattle.meter_store.specs.Stored.{HoldsState}
 use Rattle.totals_record.specs.declared.durable_state.Durable.{Durable}
 use Rattle.totals_record.proofs.Laws.{states_are_read_by_their_table}
 use Rattle.meter_states.specs.Fits.{Fits}
 use Rattle.meter_states.specs.Lawful.{IsLawful}
-use Rattle.meter_states.specs.Meter.{Meter, Outcome}
-use Rattle.meter_states.specs.Run.{actions_of, ended, ended_in, opened, run}
-use Rattle.meter_states.specs.Setting.{Setting, IsSettingOf}
-use Rattle.meter_states.specs.Step.{step_in}
-use Rattle.meter_states.specs.declared.act.Act.{Act}
+use Rattle.meter_model.specs.Meter.{Meter, Outcome}
+use Rattle.meter_model.specs.Run.{actions_of, ended, ended_in, opened, run}
+use Rattle.meter_model.specs.Setting.{Setting}
+use Rattle.meter_states.specs.Setting.{IsSettingOf}
+use Rattle.meter_model.specs.Step.{step_in}
+use Rattle.meter_model.specs.declared.act.Act.{Act}
 use Rattle.meter_states.proofs.Laws.{receipts_follow_their_entries-run, the_store_has_what_the_acts_commit-run}
 use Rattle.meter_run.specs.Deeds.{Deed, after_deeds, deeds_of, texts}
 use Rattle.meter_run.specs.OnStore.{CarriesEvents, CarriesOut, Has, HasBeside, IsReadyOn, IsSecured, Knows, StandsOn}
 use Rattle.meter_run.specs.OnStore.{StopsAmid, WritesTotals}
 use Rattle.meter_run.specs.PointLaws.{deeds_joined, keeps_longer, keeps_next, text_next}
-use Rattle.meter_run.specs.Points.{IsPointOfDeeds, IsCutOfDeeds, KeepsTo}
+use Rattle.meter_run.specs.Points.{IsPointOfDeeds, IsCutOfDeeds, GoesBy}
 use Rattle.meter_run.specs.RunLaws.{after_deeds_of, after_is, run_durable}
 use Rattle.meter_run.specs.Runs.{CutsLeave, EndsRun, FromOpening, HasDone, HasStopped, LeavesPoints, OpensWith}
 use Rattle.meter_run.specs.Runs.{RunsUpTo}
@@ -121,7 +122,7 @@ module _ {D L : Type 0} {N : ℕ} (B : Ghosts D N L) (tables : TableParts) (seal
     stands = λ told s m is st. subst (λ (n : Meter). StandsOn B tables s y b n) (next s m st) (h.stands told s m is st);
     printed = λ told s m is st t. subst (λ (xs : List Act). B.printed b ≡ B.printed a ++ texts seal (deeds_of xs))
         (acts s m st) (h.printed told s m is st t);
-    points = λ told s m is st. subst (λ (xs : List Act). KeepsTo B tables seal a b m.durable (deeds_of xs))
+    points = λ told s m is st. subst (λ (xs : List Act). GoesBy B tables seal a b m.durable (deeds_of xs))
         (acts s m st) (h.points told s m is st);
     beside = h.beside;
   }
@@ -130,7 +131,7 @@ module _ {D L : Type 0} {N : ℕ} (B : Ghosts D N L) (tables : TableParts) (seal
       → ((s : Setting) (m : Meter) → StandsOn B tables s x a m → (o s m).acts ≡ (p s m).acts)
       → StopsAmid B tables seal o x a b → StopsAmid B tables seal p x a b
   amid_as o p x a b acts h = record {
-    points = λ told s m is st. subst (λ (xs : List Act). KeepsTo B tables seal a b m.durable (deeds_of xs))
+    points = λ told s m is st. subst (λ (xs : List Act). GoesBy B tables seal a b m.durable (deeds_of xs))
         (acts s m st) (h.points told s m is st);
     beside = h.beside;
   }
@@ -168,7 +169,7 @@ module _ {D L : Type 0} {N : ℕ} (B : Ghosts D N L) (tables : TableParts) (seal
 
   -- ---- from the opening
 
-  settled_range : (place : Place) (a : D) (d : Durable) → KeepsState B place a d → IsDurable d
+  settled_range : (place : Place) (a : D) (d : Durable) → HoldsState B place a d → IsDurable d
   settled_range place a d settled = ((states_are_read_by_their_table
       (take 511 (drop (slot_at 0 place.slot + 1) (B.image a))) d).0 settled.is_at.latest.body_is).0
 
@@ -188,7 +189,7 @@ module _ {D L : Type 0} {N : ℕ} (B : Ghosts D N L) (tables : TableParts) (seal
       ≡ deeds_of (run s events (opened s d)).acts ++ deeds_of (ended s (run s events (opened s d)).next).acts
   all_joined s d events = deeds_joined (run s events (opened s d)).acts (ended s (run s events (opened s d)).next).acts
 
-  cuts_of : (a c : D) (s : Setting) (d : Durable) (events : List Event) → KeepsTo B tables seal a c d
+  cuts_of : (a c : D) (s : Setting) (d : Durable) (events : List Event) → GoesBy B tables seal a c d
       (all_deeds s d events) → WritesTotals B a c → CutsLeave B tables seal a c d (all_deeds s d events)
   cuts_of a c s d events h beside = leaves_both B a c
       (IsCutOfDeeds tables seal B.tells_text d (B.printed a) (all_deeds s d events)) (λ i x. HasBeside B a i)
@@ -202,9 +203,9 @@ module _ {D L : Type 0} {N : ℕ} (B : Ghosts D N L) (tables : TableParts) (seal
     -- the board failed amid the events
     run_points : (c : D) → StopsAmid B tables seal (λ s m. run s events m) x a c → B.tells_image
         → (s : Setting) (d : Durable) → IsSettingOf s tables seal → OpensWith B tables a d
-        → KeepsTo B tables seal a c d (all_deeds s d events)
+        → GoesBy B tables seal a c d (all_deeds s d events)
     run_points c h told s d is opens =
-        subst (λ (deeds : List Deed). KeepsTo B tables seal a c d deeds) (sym (all_joined s d events))
+        subst (λ (deeds : List Deed). GoesBy B tables seal a c d deeds) (sym (all_joined s d events))
         (keeps_longer B tables seal a c d (deeds_of (run s events (opened s d)).acts)
         (deeds_of (ended s (run s events (opened s d)).next).acts)
         (h.points told s (opened s d) is (opening x a s d off unknown is opens)))
@@ -213,19 +214,19 @@ module _ {D L : Type 0} {N : ℕ} (B : Ghosts D N L) (tables : TableParts) (seal
     end_points : (y : StoreMeter) (b c : D) → CarriesOut B tables seal (λ s m. run s events m) x a y b
         → StopsAmid B tables seal (λ s m. ended s m) y b c
         → B.tells_image → (s : Setting) (d : Durable) → IsSettingOf s tables seal → OpensWith B tables a d
-        → KeepsTo B tables seal a c d (all_deeds s d events)
+        → GoesBy B tables seal a c d (all_deeds s d events)
     end_points y b c h k told s d is opens =
         let m = opened s d in
         let n = (run s events m).next in
         let st = opening x a s d off unknown is opens in
-        subst (λ (deeds : List Deed). KeepsTo B tables seal a c d deeds) (sym (all_joined s d events))
+        subst (λ (deeds : List Deed). GoesBy B tables seal a c d deeds) (sym (all_joined s d events))
         (keeps_next B tables seal a b c d (deeds_of (run s events m).acts) (deeds_of (ended s n).acts)
         (h.printed told s m is st) (h.points told s m is st)
-        (subst (λ (e : Durable). KeepsTo B tables seal b c e (deeds_of (ended s n).acts)) (run_durable s events m)
+        (subst (λ (e : Durable). GoesBy B tables seal b c e (deeds_of (ended s n).acts)) (run_durable s events m)
         (k.points told s n is (h.stands told s m is st))))
 
     stopped_of : (c : D) → (B.tells_image → (s : Setting) (d : Durable) → IsSettingOf s tables seal → OpensWith B tables
-        a d → KeepsTo B tables seal a c d (all_deeds s d events)) → (B.tells_image → WritesTotals B a c)
+        a d → GoesBy B tables seal a c d (all_deeds s d events)) → (B.tells_image → WritesTotals B a c)
         → FromOpening B tables seal a c (λ s d. HasStopped B tables seal a c d (all_deeds s d events))
     stopped_of c points beside told s d is opens = let h = points told s d is opens in record {
       stops = cut_of tables seal B.tells_text d (B.printed a) (all_deeds s d events) (B.image c) (B.printed c)
@@ -267,7 +268,7 @@ module _ {D L : Type 0} {N : ℕ} (B : Ghosts D N L) (tables : TableParts) (seal
               (h.printed told s m is st) (k.printed told s n is at) t);
           opens = record {
             place = place.0;
-            settled = subst (λ (f : Durable). KeepsState B place.0 c f) (durable_end s d) place.1;
+            settled = subst (λ (f : Durable). HoldsState B place.0 c f) (durable_end s d) place.1;
             fits = subst (λ (f : Durable). ForSome f.hold (Fits tables)) (durable_end s d) last.fits;
           };
           follows = deeds_follow d (all_deeds s d events);

@@ -2,9 +2,9 @@
 use Rattle.std.specs.Prelude.{◌≡◌}
 use Rattle.totals_record.specs.declared.durable_state.Durable.{Durable}
 use Rattle.meter_states.specs.Core.{CoreData, Stands}
-use Rattle.meter_states.specs.Meter.{Meter}
-use Rattle.meter_states.specs.Setting.{Setting}
-pub use Rattle.meter_states.specs.KeptTrip.{IsTripKept, IsTripKeptIn}
+use Rattle.meter_model.specs.Meter.{Meter}
+use Rattle.meter_model.specs.Setting.{Setting}
+pub use Rattle.meter_model.specs.KeptTrip.{IsTripKept, IsTripKeptIn}
 
 -- a core, with the durable state that the store has, stands for a state of the meter where the core does, the durable
 -- state is the state's, and the meter's trip is kept

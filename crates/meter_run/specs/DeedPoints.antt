@@ -1,4 +1,4 @@
--- For proofs: points of a list of deeds, by recursion over the list. IsCutOfDeeds, in Points, says what they are.
+-- Rules: points of a list of deeds, by recursion over the list. IsCutOfDeeds, in Points, says which deeds a cut has.
 use Rattle.std.specs.Prelude.{◌≡◌, ◌⊎◌, ℕ, List, [], ◌∷◌, ◌++◌}
 use Rattle.std.specs.Option.{ForSome}
 use Rattle.outside.specs.Printing.{Begins}
@@ -9,7 +9,7 @@ use Rattle.tariff_compile.specs.Tables.{TableParts}
 use Rattle.meter_store.specs.Stored.{HasState}
 use Rattle.totals_record.specs.declared.durable_state.Durable.{Durable}
 use Rattle.meter_states.specs.Fits.{Fits}
-use Rattle.meter_run.specs.Deeds.{Deed, after_deed, text_in}
+use Rattle.meter_run.specs.Deeds.{Deed, after_deed, deed_text}
 
 -- an image holds a durable state where it stands for it and the state's held trip fits the tables
 pub record HasFittingState (tables : TableParts) (image : List ℕ) (durable : Durable) : Type 0 where
@@ -19,20 +19,20 @@ pub record HasFittingState (tables : TableParts) (image : List ℕ) (durable : D
 module _ (tables : TableParts) (seal : Seal) (told : Type 0) where
   -- an image and a text are amid a deed where the image stands for the state before the deed or for that after it, and
   -- a beginning of the deed's text was printed, where the text is told
-  pub record IsAmid (durable : Durable) (printed : List ℕ) (deed : Deed) (image text : List ℕ) : Type 0 where
+  pub record IsAmidDeed (durable : Durable) (printed : List ℕ) (deed : Deed) (image text : List ℕ) : Type 0 where
     pub holds : HasFittingState tables image durable ⊎ HasFittingState tables image (after_deed durable deed)
-    pub begun : told → Begins printed text (text_in seal deed)
+    pub begun : told → Begins printed text (deed_text seal deed)
 
   -- an image and a text are at a point of a list of deeds where they are at its end, or amid one of the deeds
   abbrev pub IsPointOfDeeds : Durable → (printed : List ℕ) → List Deed → (image text : List ℕ) → Type 0
   IsPointOfDeeds durable printed [] image text = HasFittingState tables image durable × (told → text ≡ printed)
   IsPointOfDeeds durable printed (deed ∷ deeds) image text =
-      IsAmid durable printed deed image text
-      ⊎ IsPointOfDeeds (after_deed durable deed) (printed ++ text_in seal deed) deeds image text
+      IsAmidDeed durable printed deed image text
+      ⊎ IsPointOfDeeds (after_deed durable deed) (printed ++ deed_text seal deed) deeds image text
 
 module _ {D L : Type 0} {N : ℕ} (B : Ghosts D N L) (tables : TableParts) (seal : Seal) where
   -- calls of the board keep to deeds where they carried them out, or a part of them: a cut at each moment leaves a
   -- point of the list, and the board is at one
-  pub record KeepsTo (old new : D) (durable : Durable) (deeds : List Deed) : Type 0 where
+  pub record GoesBy (old new : D) (durable : Durable) (deeds : List Deed) : Type 0 where
     pub leaves : LeavesOnly B old new (IsPointOfDeeds tables seal B.tells_text durable (B.printed old) deeds)
     pub stops : IsPointOfDeeds tables seal B.tells_text durable (B.printed old) deeds (B.image new) (B.printed new)

@@ -7,8 +7,8 @@ use Rattle.seal_record.specs.declared.seal.Seal.{Seal}
 use Rattle.totals_record.specs.declared.change.Change.{Change}
 use Rattle.totals_record.specs.declared.durable_state.Durable.{Durable}
 use Rattle.meter_states.specs.Pairs.{commits_of}
-use Rattle.meter_states.specs.declared.act.Act.{Act}
-use Rattle.meter_states.specs.declared.act.Act.TheVariants.{Show, Refuse, Enter, Hold, Receipt}
+use Rattle.meter_model.specs.declared.act.Act.{Act}
+use Rattle.meter_model.specs.declared.act.Act.TheVariants.{Show, Refuse, Enter, Hold, Receipt}
 use Rattle.meter_run.specs.Commits.{after_act}
 
 -- a deed is an act of the meter, or the print of a line
@@ -26,14 +26,14 @@ act_text seal (Hold trip) = []
 act_text seal (Receipt receipt) = receipt_text receipt (part_of seal)
 
 -- the text that a deed prints under a seal is that of its act, or its line
-abbrev pub text_in : Seal → Deed → List ℕ
-text_in seal (Does act) = act_text seal act
-text_in seal (Prints line) = line
+abbrev pub deed_text : Seal → Deed → List ℕ
+deed_text seal (Does act) = act_text seal act
+deed_text seal (Prints line) = line
 
 -- the texts of deeds under a seal are the text of each deed, one behind the other
 abbrev pub texts : Seal → List Deed → List ℕ
 texts seal [] = []
-texts seal (deed ∷ deeds) = text_in seal deed ++ texts seal deeds
+texts seal (deed ∷ deeds) = deed_text seal deed ++ texts seal deeds
 
 -- the durable state after a deed is the one after its act, and a print of a line leaves it as it is
 abbrev pub after_deed : Durable → Deed → Durable

@@ -8,7 +8,8 @@ use Rattle.drive_text.specs.Ending.{StreamEnd, Whole, BadAt, Endless, IsGoing, I
 use Rattle.drive_text.specs.Ending.{stream_limit}
 use Rattle.tariff_compile.specs.Tables.{TableParts}
 use Rattle.seal_record.specs.declared.seal.Seal.{Seal}
-use Rattle.meter_states.specs.Setting.{Setting, IsSettingOf}
+use Rattle.meter_model.specs.Setting.{Setting}
+use Rattle.meter_states.specs.Setting.{IsSettingOf}
 use Rattle.meter_run.specs.Source.{EndsBy}
 use Rattle.meter_run.specs.Supply.{drop_steps}
 use Rattle.meter_run.specs.Texts.{drive_shown}
@@ -48,7 +49,7 @@ pub record BreaksDrive (told : Type 0) (drive left : List ℕ) (broken : List Ev
 -- the steps of a call are bounded by a drive if the count of steps rose from `before` to `now` by at most `spare`, 64
 -- for each event of some bytes, and 64 for the supply drop behind them, if the supply is there then; the bytes are at
 -- most 2^40, and if the drive is told they are those that were taken of it
-pub record IsBoundedBy (spare : ℕ) (told : Type 0) (drive left : List ℕ) (before now : ℕ) : Type 0 where
+pub record IsBoundedByDrive (spare : ℕ) (told : Type 0) (drive left : List ℕ) (before now : ℕ) : Type 0 where
   pub taken : List ℕ
   pub few : length taken ≤ stream_limit
   pub split : told → IsSplit drive taken left

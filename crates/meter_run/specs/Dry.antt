@@ -12,16 +12,17 @@ use Rattle.totals_record.specs.declared.durable_state.Durable.{Durable}
 use Rattle.meter_states.specs.Cache.{CachedCore}
 use Rattle.meter_states.specs.Fits.{Fits}
 use Rattle.meter_states.specs.Lawful.{IsLawful}
-use Rattle.meter_states.specs.Meter.{Meter, Outcome}
-use Rattle.meter_states.specs.Run.{run}
-use Rattle.meter_states.specs.Setting.{Setting, IsSettingOf}
+use Rattle.meter_model.specs.Meter.{Meter, Outcome}
+use Rattle.meter_model.specs.Run.{run}
+use Rattle.meter_model.specs.Setting.{Setting}
+use Rattle.meter_states.specs.Setting.{IsSettingOf}
 use Rattle.meter_run.specs.BetweenEvents.{StandsWith}
 use Rattle.meter_run.specs.Texts.{shown_texts}
 use Rattle.meter_run.specs.declared.dry.DryMeter.{DryMeter}
 
 -- a core and a durable state are under way where they stand for some state of the meter, under some setting of the
 -- tables and the seal; the core is one beside its cache, which has what was looked up in the tables and only saves
--- look-ups, as `Core::step` says by its clause `meets`
+-- look-ups, as `Core::step_into` says by its clause `takes`
 pub record IsUnderWay (tables : TableParts) (seal : Seal) (core : CachedCore) (durable : Durable) : Type 0 where
   pub setting : Setting
   pub meter : Meter

@@ -7,8 +7,8 @@ use Rattle.outside.proofs.Laws.{begins_after, begins_more, keeps_none, keeps_the
 use Rattle.taxi_units.specs.declared.event.Event.{Event}
 use Rattle.tariff_compile.specs.Tables.{TableParts}
 use Rattle.seal_record.specs.declared.seal.Seal.{Seal}
-use Rattle.meter_states.specs.Meter.{Meter}
-use Rattle.meter_states.specs.Run.{run}
+use Rattle.meter_model.specs.Meter.{Meter}
+use Rattle.meter_model.specs.Run.{run}
 use Rattle.meter_run.specs.Dry.{Carries, BreaksOff}
 use Rattle.meter_run.specs.BetweenEvents.{StandsWith}
 use Rattle.meter_run.specs.RunLaws.{run_next, run_texts}

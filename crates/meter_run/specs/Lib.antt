@@ -6,6 +6,7 @@ pub mod Drives
 pub mod Dry
 pub mod DryLaws
 pub mod OnStore
+pub mod Pieces
 pub mod PointLaws
 pub mod Points
 pub mod Printing

@@ -13,21 +13,22 @@ use Rattle.slot_store.specs.declared.pair.Place.{Place}
 use Rattle.tariff_compile.specs.Tables.{TableParts}
 use Rattle.taxi_units.specs.declared.event.Event.{Event}
 use Rattle.taxi_units.specs.declared.event.Operating.TheVariants.{Off}
-use Rattle.meter_store.specs.Stored.{KeepsState}
+use Rattle.meter_store.specs.Stored.{HoldsState}
 use Rattle.totals_record.specs.declared.durable_state.Durable.{Durable}
 use Rattle.meter_states.specs.Acts.{IsLawfulAct}
 use Rattle.meter_states.specs.Cache.{CachedCore}
 use Rattle.meter_states.specs.Fits.{Fits}
 use Rattle.meter_states.specs.Lawful.{IsLawful}
-use Rattle.meter_states.specs.Meter.{Meter, Outcome}
-use Rattle.meter_states.specs.Run.{run}
-use Rattle.meter_states.specs.Setting.{Setting, IsSettingOf}
-use Rattle.meter_states.specs.declared.act.Act.{Act}
+use Rattle.meter_model.specs.Meter.{Meter, Outcome}
+use Rattle.meter_model.specs.Run.{run}
+use Rattle.meter_model.specs.Setting.{Setting}
+use Rattle.meter_states.specs.Setting.{IsSettingOf}
+use Rattle.meter_model.specs.declared.act.Act.{Act}
 use Rattle.meter_run.specs.Deeds.{deeds_of, texts}
 use Rattle.meter_run.specs.Dry.{IsReady}
 use Rattle.meter_run.specs.BetweenEvents.{StandsWith}
-use Rattle.meter_run.specs.Points.{KeepsTo}
-use Rattle.meter_run.specs.Supply.{KeepsOff}
+use Rattle.meter_run.specs.Points.{GoesBy}
+use Rattle.meter_run.specs.Supply.{StaysOff}
 use Rattle.meter_run.specs.declared.stored.Known.{Known}
 use Rattle.meter_run.specs.declared.stored.StoreMeter.{StoreMeter}
 
@@ -57,8 +58,8 @@ module _ {D L : Type 0} {N : ℕ} (B : Ghosts D N L) where
   -- a board has a durable state where the pair of totals is settled with it, at the place and with the state that the
   -- meter knows, if it knows them
   abbrev pub Has : Option Known → D → Durable → Type 0
-  Has None board durable = (place : Place) × KeepsState B place board durable
-  Has (Some known) board durable = (durable ≡ known.durable) × KeepsState B known.place board known.durable
+  Has None board durable = (place : Place) × HoldsState B place board durable
+  Has (Some known) board durable = (durable ≡ known.durable) × HoldsState B known.place board known.durable
 
   -- a meter and a board stand for a state of the meter where the core does, the board has the state's durable state,
   -- and its held trip fits
@@ -71,7 +72,7 @@ module _ {D L : Type 0} {N : ℕ} (B : Ghosts D N L) where
   -- the held trip fits
   pub record Agrees (tables : TableParts) (known : Known) (board : D) : Type 0 where
     pub slot : known.place.slot ≤ 1
-    pub settled : B.tells_image → KeepsState B known.place board known.durable
+    pub settled : B.tells_image → HoldsState B known.place board known.durable
     pub fits : ForSome known.durable.hold (Fits tables)
 
   -- acts may be done on a board under tables where it agrees with what the meter knows, and they are lawful acts of a
@@ -83,7 +84,7 @@ module _ {D L : Type 0} {N : ℕ} (B : Ghosts D N L) where
 
   -- a meter knows of the store nothing where it is off, and else a state at which the next event may come, with which
   -- the board agrees; the core of the meter is one beside its cache, which has what was looked up in the tables and
-  -- only saves look-ups, as `Core::step` says by its clause `meets`
+  -- only saves look-ups, as `Core::step_into` says by its clause `takes`
   abbrev pub Knows : TableParts → Seal → CachedCore → Option Known → D → Type 0
   Knows tables seal core None board = core.plain.operating ≡ Off
   Knows tables seal core (Some known) board = IsReady tables seal core known.durable × Agrees tables known board
@@ -111,19 +112,19 @@ module _ {D L : Type 0} {N : ℕ} (B : Ghosts D N L) (tables : TableParts) (seal
     pub stands : ForEach x old (λ s m. StandsOn B tables s y new (outcome s m).next)
     pub printed : ForEach x old (λ s m. B.tells_text
         → B.printed new ≡ B.printed old ++ texts seal (deeds_of (outcome s m).acts))
-    pub points : ForEach x old (λ s m. KeepsTo B tables seal old new m.durable (deeds_of (outcome s m).acts))
+    pub points : ForEach x old (λ s m. GoesBy B tables seal old new m.durable (deeds_of (outcome s m).acts))
     pub beside : B.tells_image → WritesTotals B old new
 
   -- a board stops amid an outcome where a cut at each moment leaves a point of its acts, and the board is at one
   pub record StopsAmid (outcome : Setting → Meter → Outcome) (x : StoreMeter) (old new : D) : Type 0 where
-    pub points : ForEach x old (λ s m. KeepsTo B tables seal old new m.durable (deeds_of (outcome s m).acts))
+    pub points : ForEach x old (λ s m. GoesBy B tables seal old new m.durable (deeds_of (outcome s m).acts))
     pub beside : B.tells_image → WritesTotals B old new
 
   -- a meter and a board carry events out if they carry out what the events come to, and the events keep the core off
   -- without the supply
   pub record CarriesEvents (events : List Event) (x : StoreMeter) (old : D) (y : StoreMeter) (new : D) : Type 0 where
     pub out : CarriesOut (λ s m. run s events m) x old y new
-    pub supply : KeepsOff x.core.plain events y.core.plain
+    pub supply : StaysOff x.core.plain events y.core.plain
 
   -- a call attempts an outcome where, if it succeeds, a meter and a board carry the outcome out and are ready for the
   -- next event; where the board stops amid the outcome, however the call ends; and where the call has a cause

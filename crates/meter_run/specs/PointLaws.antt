@@ -13,12 +13,12 @@ use Rattle.slot_store.specs.Slots.{IsSettled}
 use Rattle.slot_store.proofs.Laws.{ready_left}
 use Rattle.tariff_compile.specs.Tables.{TableParts}
 use Rattle.totals_record.specs.Reading.{reads}
-use Rattle.meter_store.specs.Stored.{HasState, KeepsState, state_number_of}
+use Rattle.meter_store.specs.Stored.{HasState, HoldsState, state_number_of}
 use Rattle.totals_record.specs.declared.durable_state.Durable.{Durable}
 use Rattle.meter_states.specs.Fits.{Fits}
-use Rattle.meter_states.specs.declared.act.Act.{Act}
-use Rattle.meter_run.specs.Deeds.{Deed, Does, after_deed, after_deeds, deeds_of, text_in, texts}
-use Rattle.meter_run.specs.Points.{IsPointOfDeeds, KeepsTo}
+use Rattle.meter_model.specs.declared.act.Act.{Act}
+use Rattle.meter_run.specs.Deeds.{Deed, Does, after_deed, after_deeds, deeds_of, deed_text, texts}
+use Rattle.meter_run.specs.Points.{IsPointOfDeeds, GoesBy}
 
 -- ---- lists of deeds
 
@@ -26,8 +26,8 @@ use Rattle.meter_run.specs.Points.{IsPointOfDeeds, KeepsTo}
 pub texts_joined : (seal : Seal) (xs ys : List Deed) → texts seal (xs ++ ys) ≡ texts seal xs ++ texts seal ys
 texts_joined seal [] ys = refl
 texts_joined seal (x ∷ xs) ys =
-    ap (λ (t : List ℕ). text_in seal x ++ t) (texts_joined seal xs ys)
-    ∙ sym (append_assoc (text_in seal x) (texts seal xs) (texts seal ys))
+    ap (λ (t : List ℕ). deed_text seal x ++ t) (texts_joined seal xs ys)
+    ∙ sym (append_assoc (deed_text seal x) (texts seal xs) (texts seal ys))
 
 -- the state after two lists of deeds that are joined is the one after the second, from the state after the first
 pub after_joined : (d : Durable) (xs ys : List Deed) → after_deeds d (xs ++ ys) ≡ after_deeds (after_deeds d xs) ys
@@ -52,28 +52,28 @@ module _ (tables : TableParts) (seal : Seal) (told : Type 0) where
   at_same d p q [] i x is h = (h.0, λ t. h.1 t ∙ is t)
   at_same d p q (deed ∷ deeds) i x is (inl amid) = inl (record {
     holds = amid.holds;
-    begun = λ t. subst (λ (before : List ℕ). Begins before x (text_in seal deed)) (is t) (amid.begun t);
+    begun = λ t. subst (λ (before : List ℕ). Begins before x (deed_text seal deed)) (is t) (amid.begun t);
   })
-  at_same d p q (deed ∷ deeds) i x is (inr later) = inr (at_same (after_deed d deed) (p ++ text_in seal deed)
-      (q ++ text_in seal deed) deeds i x (λ t. ap (λ (before : List ℕ). before ++ text_in seal deed) (is t)) later)
+  at_same d p q (deed ∷ deeds) i x is (inr later) = inr (at_same (after_deed d deed) (p ++ deed_text seal deed)
+      (q ++ deed_text seal deed) deeds i x (λ t. ap (λ (before : List ℕ). before ++ deed_text seal deed) (is t)) later)
 
   -- a point of a list is one of that list with more behind it
   pub at_longer : (d : Durable) (p : List ℕ) (xs ys : List Deed) (i x : List ℕ) → At d p xs i x → At d p (xs ++ ys) i x
   at_longer d p [] [] i x h = h
   at_longer d p [] (y ∷ ys) i x h =
-      inl (record { holds = inl h.0; begun = λ t. begins_not p x (text_in seal y) (h.1 t) })
+      inl (record { holds = inl h.0; begun = λ t. begins_not p x (deed_text seal y) (h.1 t) })
   at_longer d p (deed ∷ xs) ys i x (inl amid) = inl amid
   at_longer d p (deed ∷ xs) ys i x (inr later) =
-      inr (at_longer (after_deed d deed) (p ++ text_in seal deed) xs ys i x later)
+      inr (at_longer (after_deed d deed) (p ++ deed_text seal deed) xs ys i x later)
 
   -- a point of the second of two lists is one of both, joined
   pub at_later : (d : Durable) (p : List ℕ) (xs ys : List Deed) (i x : List ℕ)
       → At (after_deeds d xs) (p ++ texts seal xs) ys i x → At d p (xs ++ ys) i x
   at_later d p [] ys i x h = at_same d (p ++ []) p ys i x (λ t. append-nil p) h
-  at_later d p (deed ∷ xs) ys i x h = inr (at_later (after_deed d deed) (p ++ text_in seal deed) xs ys i x
-      (at_same (after_deeds (after_deed d deed) xs) (p ++ (text_in seal deed ++ texts seal xs))
-      ((p ++ text_in seal deed) ++ texts seal xs) ys i x
-      (λ t. sym (append_assoc p (text_in seal deed) (texts seal xs))) h))
+  at_later d p (deed ∷ xs) ys i x h = inr (at_later (after_deed d deed) (p ++ deed_text seal deed) xs ys i x
+      (at_same (after_deeds (after_deed d deed) xs) (p ++ (deed_text seal deed ++ texts seal xs))
+      ((p ++ deed_text seal deed) ++ texts seal xs) ys i x
+      (λ t. sym (append_assoc p (deed_text seal deed) (texts seal xs))) h))
 
 -- ---- what a settled board has
 
@@ -93,16 +93,16 @@ settled_has place d image flying settled =
 
 module _ {D L : Type 0} {N : ℕ} (B : Ghosts D N L) (tables : TableParts) (seal : Seal) where
   -- calls of the board keep to deeds, by the tables and the seal at hand
-  abbrev KeepsToDeeds : D → D → Durable → List Deed → Type 0
-  KeepsToDeeds old new d deeds = KeepsTo B tables seal old new d deeds
+  abbrev GoesByDeeds : D → D → Durable → List Deed → Type 0
+  GoesByDeeds old new d deeds = GoesBy B tables seal old new d deeds
 
   -- an image and a text are at a point of deeds that began at an old board
   abbrev Point : D → Durable → List Deed → List ℕ → List ℕ → Type 0
   Point old d deeds i x = IsPointOfDeeds tables seal B.tells_text d (B.printed old) deeds i x
 
   -- a board that is not called keeps to no deeds
-  pub keeps_still : (a : D) (place : Place) (d : Durable) → LeavesNow B a → KeepsState B place a d
-      → ForSome d.hold (Fits tables) → KeepsToDeeds a a d []
+  pub keeps_still : (a : D) (place : Place) (d : Durable) → LeavesNow B a → HoldsState B place a d
+      → ForSome d.hold (Fits tables) → GoesByDeeds a a d []
   keeps_still a place d now settled fits = record {
     leaves = leaves_none B (Point a d []) a
         (λ i x left. let may = now i x left in (
@@ -113,7 +113,7 @@ module _ {D L : Type 0} {N : ℕ} (B : Ghosts D N L) (tables : TableParts) (seal
   }
 
   -- calls that keep to deeds keep to them with more deeds behind them
-  pub keeps_longer : (a b : D) (d : Durable) (xs ys : List Deed) → KeepsToDeeds a b d xs → KeepsToDeeds a b d (xs ++ ys)
+  pub keeps_longer : (a b : D) (d : Durable) (xs ys : List Deed) → GoesByDeeds a b d xs → GoesByDeeds a b d (xs ++ ys)
   keeps_longer a b d xs ys h = record {
     leaves = leaves_wider B (Point a d xs) (Point a d (xs ++ ys)) a b
         (at_longer tables seal B.tells_text d (B.printed a) xs ys) h.leaves;
@@ -123,7 +123,7 @@ module _ {D L : Type 0} {N : ℕ} (B : Ghosts D N L) (tables : TableParts) (seal
   -- calls that keep to deeds, and calls behind them that keep to more, keep to both lists, joined
   pub keeps_next : (a b c : D) (d : Durable) (xs ys : List Deed)
       → (B.tells_text → B.printed b ≡ B.printed a ++ texts seal xs)
-      → KeepsToDeeds a b d xs → KeepsToDeeds b c (after_deeds d xs) ys → KeepsToDeeds a c d (xs ++ ys)
+      → GoesByDeeds a b d xs → GoesByDeeds b c (after_deeds d xs) ys → GoesByDeeds a c d (xs ++ ys)
   keeps_next a b c d xs ys text h k = record {
     leaves = leaves_then B (Point a d (xs ++ ys)) a b c (keeps_longer a b d xs ys h).leaves
         (leaves_wider B (Point b (after_deeds d xs) ys) (Point a d (xs ++ ys)) b c shifted k.leaves);

@@ -15,9 +15,9 @@ use Rattle.totals_record.specs.declared.durable_state.Durable.{Durable}
 use Rattle.totals_record.specs.declared.entry.Entry.{Entry}
 use Rattle.meter_states.specs.Fits.{Fits}
 use Rattle.meter_states.specs.Pairs.{IsReceiptOf}
-use Rattle.meter_states.specs.declared.act.Act.TheVariants.{Enter, Receipt}
+use Rattle.meter_model.specs.declared.act.Act.TheVariants.{Enter, Receipt}
 use Rattle.meter_run.specs.Deeds.{Deed, Does, changes_of, texts}
-pub use Rattle.meter_run.specs.DeedPoints.{HasFittingState, IsPointOfDeeds, KeepsTo}
+pub use Rattle.meter_run.specs.DeedPoints.{HasFittingState, IsPointOfDeeds, GoesBy}
 
 -- a scan answers a durable state of an image where it finds that state as the latest body, at some place; `reads` says
 -- which state the bytes of a slot are read as, as the law states_are_read_by_their_table of totals_record says

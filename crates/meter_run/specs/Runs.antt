@@ -8,12 +8,13 @@ use Rattle.outside.specs.declared.board.Board.{Ghosts}
 use Rattle.seal_record.specs.declared.seal.Seal.{Seal}
 use Rattle.slot_store.specs.declared.pair.Place.{Place}
 use Rattle.tariff_compile.specs.Tables.{TableParts}
-use Rattle.meter_store.specs.Stored.{KeepsState}
+use Rattle.meter_store.specs.Stored.{HoldsState}
 use Rattle.totals_record.specs.Sums.{GrowsBy}
 use Rattle.totals_record.specs.declared.durable_state.Durable.{Durable}
 use Rattle.meter_states.specs.Fits.{Fits}
-use Rattle.meter_states.specs.Run.{actions_of}
-use Rattle.meter_states.specs.Setting.{Setting, IsSettingOf}
+use Rattle.meter_model.specs.Run.{actions_of}
+use Rattle.meter_model.specs.Setting.{Setting}
+use Rattle.meter_states.specs.Setting.{IsSettingOf}
 use Rattle.meter_run.specs.Deeds.{Deed, after_deeds, changes_of, deeds_of, texts}
 use Rattle.meter_run.specs.OnStore.{HasBeside}
 use Rattle.meter_run.specs.Points.{IsCutOfDeeds}
@@ -29,7 +30,7 @@ module _ {D L : Type 0} {N : ℕ} (B : Ghosts D N L) (tables : TableParts) where
   -- a run opens with a durable state where the pair of totals is settled with it and its held trip fits
   pub record OpensWith (board : D) (durable : Durable) : Type 0 where
     pub place : Place
-    pub settled : KeepsState B place board durable
+    pub settled : HoldsState B place board durable
     pub fits : ForSome durable.hold (Fits tables)
 
 module _ {D L : Type 0} {N : ℕ} (B : Ghosts D N L) (tables : TableParts) (seal : Seal) (old new : D) where

@@ -10,15 +10,15 @@ use Rattle.slot_store.specs.Writes.{OrWithin}
 use Rattle.slot_store.specs.declared.pair.Place.{Place}
 use Rattle.tariff_compile.specs.Tables.{TableParts}
 use Rattle.taxi_units.specs.declared.event.Event.{Event}
-use Rattle.meter_store.specs.Stored.{KeepsState}
+use Rattle.meter_store.specs.Stored.{HoldsState}
 use Rattle.totals_record.specs.declared.durable_state.Durable.{Durable}
-use Rattle.meter_states.specs.Meter.{Meter}
-use Rattle.meter_states.specs.Run.{run}
-use Rattle.meter_states.specs.Setting.{Setting}
+use Rattle.meter_model.specs.Meter.{Meter}
+use Rattle.meter_model.specs.Run.{run}
+use Rattle.meter_model.specs.Setting.{Setting}
 use Rattle.meter_run.specs.Deeds.{Deed, deeds_of, texts}
 use Rattle.meter_run.specs.OnStore.{CarriesOut, Has, HasBeside, StandsOn, StopsAmid, WritesTotals}
 use Rattle.meter_run.specs.PointLaws.{deeds_joined, keeps_longer, keeps_next, keeps_still, text_next}
-use Rattle.meter_run.specs.Points.{KeepsTo}
+use Rattle.meter_run.specs.Points.{GoesBy}
 use Rattle.meter_run.specs.RunLaws.{run_acts, run_durable, run_next}
 use Rattle.meter_run.specs.declared.stored.Known.{Known}
 use Rattle.meter_run.specs.declared.stored.StoreMeter.{StoreMeter}
@@ -43,10 +43,10 @@ beside_more flown flying a b c flight h k = record {
 module _ {D L : Type 0} {N : ℕ} (B : Ghosts D N L) where
   -- the state that the store has is settled somewhere
   pub has_settled : (known : Option Known) (a : D) (d : Durable) → Has B known a d
-      → (place : Place) × KeepsState B place a d
+      → (place : Place) × HoldsState B place a d
   has_settled None a d h = h
   has_settled (Some known) a d h =
-      (known.place, subst (λ (x : Durable). KeepsState B known.place a x) (sym h.0) h.1)
+      (known.place, subst (λ (x : Durable). HoldsState B known.place a x) (sym h.0) h.1)
 
   -- ---- outside the pair of totals
 
@@ -83,8 +83,8 @@ module _ {D L : Type 0} {N : ℕ} (B : Ghosts D N L) (tables : TableParts) (seal
   Amid events x a b = StopsAmid B tables seal (λ s m. run s events m) x a b
 
   -- calls of the board keep to deeds, by the tables and the seal at hand
-  abbrev KeepsToDeeds : D → D → Durable → List Deed → Type 0
-  KeepsToDeeds a b d deeds = KeepsTo B tables seal a b d deeds
+  abbrev GoesByDeeds : D → D → Durable → List Deed → Type 0
+  GoesByDeeds a b d deeds = GoesBy B tables seal a b d deeds
 
   -- a meter and a board that is not called carry out no events
   pub out_none : (x : StoreMeter) (a : D) → LeavesNow B a → Out [] x a x a
@@ -107,10 +107,10 @@ module _ {D L : Type 0} {N : ℕ} (B : Ghosts D N L) (tables : TableParts) (seal
         (text_next B tables seal a b c (deeds_of (run s es m).acts) (deeds_of (run s fs (run s es m).next).acts)
         (first.printed told s m is h) (next.printed told s (run s es m).next is (first.stands told s m is h)) t);
     points =
-        λ told s m is h. subst (λ (deeds : List Deed). KeepsToDeeds a c m.durable deeds) (sym (run_deeds s m es fs))
+        λ told s m is h. subst (λ (deeds : List Deed). GoesByDeeds a c m.durable deeds) (sym (run_deeds s m es fs))
         (keeps_next B tables seal a b c m.durable (deeds_of (run s es m).acts)
         (deeds_of (run s fs (run s es m).next).acts) (first.printed told s m is h) (first.points told s m is h)
-        (subst (λ (d : Durable). KeepsToDeeds b c d (deeds_of (run s fs (run s es m).next).acts)) (run_durable s es m)
+        (subst (λ (d : Durable). GoesByDeeds b c d (deeds_of (run s fs (run s es m).next).acts)) (run_durable s es m)
         (next.points told s (run s es m).next is (first.stands told s m is h))));
     beside = λ told. beside_then B a b c (first.beside told) (next.beside told);
   }
@@ -120,10 +120,10 @@ module _ {D L : Type 0} {N : ℕ} (B : Ghosts D N L) (tables : TableParts) (seal
       → Out es x a y b → Amid fs y b c → Amid (es ++ fs) x a c
   amid_later es fs x a y b c first next = record {
     points =
-        λ told s m is h. subst (λ (deeds : List Deed). KeepsToDeeds a c m.durable deeds) (sym (run_deeds s m es fs))
+        λ told s m is h. subst (λ (deeds : List Deed). GoesByDeeds a c m.durable deeds) (sym (run_deeds s m es fs))
         (keeps_next B tables seal a b c m.durable (deeds_of (run s es m).acts)
         (deeds_of (run s fs (run s es m).next).acts) (first.printed told s m is h) (first.points told s m is h)
-        (subst (λ (d : Durable). KeepsToDeeds b c d (deeds_of (run s fs (run s es m).next).acts)) (run_durable s es m)
+        (subst (λ (d : Durable). GoesByDeeds b c d (deeds_of (run s fs (run s es m).next).acts)) (run_durable s es m)
         (next.points told s (run s es m).next is (first.stands told s m is h))));
     beside = λ told. beside_then B a b c (first.beside told) (next.beside told);
   }
@@ -132,7 +132,7 @@ module _ {D L : Type 0} {N : ℕ} (B : Ghosts D N L) (tables : TableParts) (seal
   pub amid_sooner : (es fs : List Event) (x : StoreMeter) (a c : D) → Amid es x a c → Amid (es ++ fs) x a c
   amid_sooner es fs x a c h = record {
     points =
-        λ told s m is st. subst (λ (deeds : List Deed). KeepsToDeeds a c m.durable deeds) (sym (run_deeds s m es fs))
+        λ told s m is st. subst (λ (deeds : List Deed). GoesByDeeds a c m.durable deeds) (sym (run_deeds s m es fs))
         (keeps_longer B tables seal a c m.durable (deeds_of (run s es m).acts)
         (deeds_of (run s fs (run s es m).next).acts) (h.points told s m is st));
     beside = h.beside;

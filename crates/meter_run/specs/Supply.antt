@@ -31,6 +31,6 @@ abbrev pub IsOffWithout : (supplied : Bool) → CoreData → Type 0
 IsOffWithout supplied core = supplied ≡ false → core.operating ≡ Off
 
 -- events keep a core off without the supply if a core that was so before them is so behind them
-abbrev pub KeepsOff : (old : CoreData) → List Event → (new : CoreData) → Type 0
-KeepsOff old events new =
+abbrev pub StaysOff : (old : CoreData) → List Event → (new : CoreData) → Type 0
+StaysOff old events new =
     (before : Bool) → IsOffWithout before old → IsOffWithout (is_supplied before events) new

@@ -6,10 +6,10 @@ use Rattle.seal_record.specs.declared.seal.Seal.{Seal}
 use Rattle.tariff_compile.specs.Tables.{TableParts}
 use Rattle.taxi_units.specs.declared.event.Event.{Event}
 use Rattle.meter_states.specs.Core.{CoreData}
-use Rattle.meter_states.specs.Run.{run}
+use Rattle.meter_model.specs.Run.{run}
 use Rattle.meter_run.specs.OnStore.{CarriesEvents, StopsAmid}
 use Rattle.meter_run.specs.StoreLaws.{amid_later, out_none, out_then}
-use Rattle.meter_run.specs.Supply.{KeepsOff, is_supplied, is_supplied_after}
+use Rattle.meter_run.specs.Supply.{StaysOff, is_supplied, is_supplied_after}
 use Rattle.meter_run.specs.declared.stored.StoreMeter.{StoreMeter}
 
 -- the supply behind two lists of events is that behind the second, from that behind the first on
@@ -18,7 +18,7 @@ pub supplied_joined : (before : Bool) (es fs : List Event)
 supplied_joined before [] fs = refl
 supplied_joined before (event ∷ es) fs = supplied_joined (is_supplied_after before event) es fs
 
-pub off_then : (es fs : List Event) (a b c : CoreData) → KeepsOff a es b → KeepsOff b fs c → KeepsOff a (es ++ fs) c
+pub off_then : (es fs : List Event) (a b c : CoreData) → StaysOff a es b → StaysOff b fs c → StaysOff a (es ++ fs) c
 off_then es fs a b c first next =
     λ before off none. next (is_supplied before es) (first before off) (sym (supplied_joined before es fs) ∙ none)
 

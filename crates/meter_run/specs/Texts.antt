@@ -1,9 +1,9 @@
 -- Rules: what is printed where receipts aren't.
 use Rattle.std.specs.Prelude.{ℕ, List, [], ◌∷◌, ◌++◌}
-use Rattle.meter_states.specs.Run.{actions_of}
-use Rattle.meter_states.specs.Setting.{Setting}
-use Rattle.meter_states.specs.declared.act.Act.{Act}
-use Rattle.meter_states.specs.declared.act.Act.TheVariants.{Show, Refuse, Enter, Hold, Receipt}
+use Rattle.meter_model.specs.Run.{actions_of}
+use Rattle.meter_model.specs.Setting.{Setting}
+use Rattle.meter_model.specs.declared.act.Act.{Act}
+use Rattle.meter_model.specs.declared.act.Act.TheVariants.{Show, Refuse, Enter, Hold, Receipt}
 use Rattle.receipt_text.specs.Texts.{display_text, refusal_text}
 use Rattle.drive_text.specs.Ending.{events_of}
 use Rattle.totals_record.specs.States.{first_state}

@@ -4,7 +4,7 @@ ghost use Rattle.outside.specs.Faults.{HasCause};
 ghost use Rattle.drive_text.specs.Runs.{intervals_events};
 ghost use Rattle.meter_states.specs.Lawful.{IsTimely};
 
-use meter_states::Acts;
+use meter_model::Acts;
 use outside::{Board, Failed, STORE_SIZE};
 use seal_record::Seal;
 use std::sync::ledger::Ledger;
@@ -34,7 +34,7 @@ pub(crate) trait Carrier<B: Board<STORE_SIZE, L>, L: Ledger> {
     ghost broke_off: { SealedTables → Self → B → List Event → B → Type 0 };
 
     /// Carries out an event; its acts come into a list that is handed in, whatever that has. At most 64 steps.
-    fn carry_out(
+    fn carry_event(
         &mut self,
         by: &SealedTables<'_>,
         event: Event,

@@ -2,8 +2,8 @@
 ghost use Rattle.std.specs.Prelude.{◌≡◌, ℕ, ◌+◌, ◌<◌, ◌≤◌, List, [], ◌∷◌, ◌++◌, length, get_or};
 ghost use Rattle.outside.specs.Disk.{MayLeaveAmid};
 ghost use Rattle.outside.specs.Printing.{Begins};
-ghost use Rattle.outside.specs.Runs.{IsSettled, KeepsStore, LeavesOnly};
-ghost use Rattle.meter_store.specs.Sealing.{HasSeal, KeepsSeal};
+ghost use Rattle.outside.specs.Runs.{IsAtRest, KeepsStore, LeavesOnly};
+ghost use Rattle.meter_store.specs.Sealing.{HasSeal, HoldsSeal};
 ghost use Rattle.seal_record.specs.declared.seal.Seal.{Seal};
 ghost use Rattle.slot_store.specs.declared.pair.Place.{Place};
 ghost use Rattle.tariff_compile.specs.Tables.{TableParts};
@@ -11,8 +11,8 @@ ghost use Rattle.taxi_units.specs.declared.receipt.Receipt as receipts;
 ghost use Rattle.totals_record.specs.States.{IsHeldAfter, entries_of};
 ghost use Rattle.totals_record.specs.Sums.{AddsUp};
 ghost use Rattle.totals_record.specs.declared.durable_state.Durable.{Durable};
-ghost use Rattle.meter_states.specs.Setting.{Setting};
-ghost use Rattle.meter_states.specs.declared.act.Act.TheVariants.{Receipt};
+ghost use Rattle.meter_model.specs.Setting.{Setting};
+ghost use Rattle.meter_model.specs.declared.act.Act.TheVariants.{Receipt};
 ghost use Rattle.meter_run.specs.Deeds.{Deed, Does, Prints, changes_of};
 ghost use Rattle.meter_run.specs.OnStore.{HasBeside, WritesTotals};
 ghost use Rattle.meter_run.specs.Points.{HasEntries, HasEntryOf, IsCutOfDeeds, IsNumberedWithin};
@@ -70,7 +70,7 @@ pub fn receipts_are_numbered_in_order<B: Board<STORE_SIZE, L>, L: Ledger>()
 pub fn cuts_open_the_next_run<B: Board<STORE_SIZE, L>, C: Board<STORE_SIZE, L>, L: Ledger>()
     ensures { (tables : TableParts) (seal : Seal) (opening : Durable) (printed : List ℕ) (deeds : List Deed)
         (image text : List ℕ) → (cut : IsCutOfDeeds tables seal B.tells_text opening printed deeds image text)
-        → (board : C) → C.image board ≡ image → IsSettled C.Board board
+        → (board : C) → C.image board ≡ image → IsAtRest C.Board board
         → OpensWith C.Board tables board cut.found }
 {}
 
@@ -80,9 +80,9 @@ pub fn runs_leave_the_seals<B: Board<STORE_SIZE, L>, L: Ledger>()
     ensures bytes { (board : B) (left_image : List ℕ) (place : ℕ) → HasBeside B.Board board left_image
         → 1024 ≤ place → ¬ B.in_flight board place → get_or left_image place 0 ≡ get_or (B.image board) place 0 }
     ensures left { (board : B) (left_image : List ℕ) (place : Place) (seal : Seal) → HasBeside B.Board board left_image
-        → KeepsSeal B.Board place board seal → HasSeal left_image seal }
+        → HoldsSeal B.Board place board seal → HasSeal left_image seal }
     ensures kept { (old new : B) (place : Place) (seal : Seal) → WritesTotals B.Board old new
-        → KeepsSeal B.Board place old seal → KeepsSeal B.Board place new seal }
+        → HoldsSeal B.Board place old seal → HoldsSeal B.Board place new seal }
 {}
 
 /// A line that is printed behind a run, whole or in part, is one deed more of it.

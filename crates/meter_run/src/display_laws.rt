@@ -1,19 +1,21 @@
 //! Displays, by their texts.
-ghost use Rattle.std.specs.Prelude.{◌≡◌, ◌↔◌, true};
+ghost use Rattle.std.specs.Prelude.{◌≡◌, ◌↔◌, [], Some};
 ghost use Rattle.taxi_units.specs.Shown.{IsShown};
+ghost use Rattle.taxi_units.specs.declared.receipt.Display.{Display};
 ghost use Rattle.receipt_text.specs.Shows.{HasFields};
 ghost use Rattle.receipt_text.specs.Texts.{display_text};
-ghost use Rattle.meter_states.specs.Display.{display_of, same_display};
-ghost use Rattle.meter_states.specs.KeptTrip.{IsTripKept};
-ghost use Rattle.meter_states.specs.Meter.{Meter};
-ghost use Rattle.meter_states.specs.Setting.{Setting};
+ghost use Rattle.meter_model.specs.Display.{display_of, shown};
+ghost use Rattle.meter_model.specs.KeptTrip.{IsTripKept};
+ghost use Rattle.meter_states.specs.LastShown.{IsOfMeter};
+ghost use Rattle.meter_model.specs.Meter.{Meter};
+ghost use Rattle.meter_model.specs.Setting.{Setting};
 
-/// A law: a meter that keeps its trip as the store does shows a display where its text differs from the last
-/// one's. It compares fields, and two of its displays have one text exactly where they have equal fields:
-/// what no text shows, the fare and the supplements for hire, is 0 there.
+/// A law: a meter that keeps its trip as the store does shows nothing exactly where its display has the text of the one
+/// that it showed last, which is one of its own (`the_last_display_is_one_of_the_meter` of `meter_states`). It compares
+/// fields, and two of its displays have one text exactly where they have equal fields: what no text shows, the fare and
+/// the supplements for hire, is 0 there.
 pub fn displays_are_shown_where_their_texts_differ()
-    ensures { (s : Setting) (m n : Meter) → IsTripKept s m → IsTripKept s n
-        → IsShown (display_of s m) → IsShown (display_of s n) → HasFields (display_of s m) → HasFields (display_of s n)
-        → (display_text (display_of s m) ≡ display_text (display_of s n))
-        ↔ (same_display (display_of s m) (display_of s n) ≡ true) }
+    ensures { (s : Setting) (m : Meter) (last : Display) → IsTripKept s m → m.shown ≡ Some last
+        → IsOfMeter s m.shown → IsShown last → IsShown (display_of s m) → HasFields last → HasFields (display_of s m)
+        → ((shown s m).acts ≡ []) ↔ (display_text last ≡ display_text (display_of s m)) }
 {}

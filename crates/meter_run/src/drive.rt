@@ -1,21 +1,24 @@
 //! Carries out a drive, from its first byte to where no more of it is read.
-ghost use Rattle.std.specs.Prelude.{◌≡◌, ◌⊎◌, ℕ, IfOk, IsErr, OnOk, OnErr, Ok};
+ghost use Rattle.std.specs.Prelude.{◌≡◌, ◌≢◌, ◌⊎◌, ◌<◌, ◌++◌, ℕ, List, length, IfOk, IfSome, IsErr, OnOk, OnErr, Ok, None, Some};
 ghost use Rattle.outside.specs.Reading.{LeavesOthers};
 ghost use Rattle.outside.specs.Faults.{HasCause, MayRise, Rose};
+ghost use Rattle.drive_text.specs.Drive.{events_in};
 ghost use Rattle.meter_run.specs.Drives.{BreaksDrive, TakesDrive};
+ghost use Rattle.meter_run.specs.Pieces.{AreCarried, CarriesAhead, CarriesPiece, IsThrough};
+ghost use Rattle.meter_run.specs.Source.{HasGiven};
 
 use crate::carrier::{Carrier, SealedTables};
 use crate::runs::carry_runs;
 use crate::source::{Source, Stop};
 use arrayvec::ArrayVec;
 use drive_text::Run;
-use meter_states::Acts;
+use meter_model::Acts;
 use outside::{Board, Failed, Files, STORE_SIZE};
 use std::sync::ledger::Ledger;
 use taxi_units::Steps;
 
-/// Reads the drive of a word, and carries out each event as soon as its line is read, though no clause says
-/// when. The answer is why no more of the drive is read. At most 64 steps an event.
+/// Reads the drive of a word, piece by piece, and carries out the events of each piece before it reads the next one.
+/// The answer is why no more of the drive is read. At most 64 steps an event.
 pub(crate) fn carry_drive<C: Carrier<B, L>, F: Files, B: Board<STORE_SIZE, L>, L: Ledger>(
     meter: &mut C,
     by: &SealedTables<'_>,
@@ -40,10 +43,107 @@ pub(crate) fn carry_drive<C: Carrier<B, L>, F: Files, B: Board<STORE_SIZE, L>, L
     let mut runs: ArrayVec<Run, 64> = ArrayVec::new();
     let mut acts = Acts::new();
     loop {
-        let stop = source.next(files, word, &mut runs);
-        carry_runs(meter, by, runs.as_slice(), &mut acts, board, steps)?;
+        let stop = carry_piece(
+            meter,
+            by,
+            &mut source,
+            files,
+            word,
+            &mut runs,
+            &mut acts,
+            board,
+            steps,
+        )?;
         if let Some(stop) = stop {
             return Ok(stop);
+        }
+    }
+}
+
+/// Reads one piece of a drive at most, and carries out the events of all bytes that were taken so far, those of this
+/// piece too. `None` where more may follow; no bytes were taken where it stops for another reason than a bad line, so
+/// no piece is read behind another. `runs` and `acts` are lists to work with.
+fn carry_piece<C: Carrier<B, L>, F: Files, B: Board<STORE_SIZE, L>, L: Ledger>(
+    meter: &mut C,
+    by: &SealedTables<'_>,
+    source: &mut Source,
+    files: &mut F,
+    word: usize,
+    runs: &mut ArrayVec<Run, 64>,
+    acts: &mut Acts,
+    board: &mut B,
+    steps: &mut Steps<L>,
+) -> Result<Option<Stop>, Failed>
+    requires ready { C.ready by.now meter.old board.old }
+    requires through { (taken : List ℕ) × IsThrough source.old taken }
+    ensures ready { OnOk result (C.ready by.now meter.new board.new) }
+    ensures goes_on { result ≡ Ok None → (x : C) (a : B) (start : ℕ) (taken : List ℕ) → IsThrough source.old taken
+        → AreCarried taken (λ events. C.carried by.now x a events meter.old board.old) start steps.old
+        → CarriesPiece F.tells source.new (F.rest files.old word) (F.rest files.new word) taken
+        (λ events. C.carried by.now x a events meter.new board.new) start steps.new }
+    ensures stops { IfOk result (λ answer. IfSome answer (λ stop. (x : C) (a : B) (start : ℕ) (taken : List ℕ)
+        → IsThrough source.old taken
+        → AreCarried taken (λ events. C.carried by.now x a events meter.old board.old) start steps.old
+        → TakesDrive F.tells (taken ++ F.rest files.old word) (F.rest files.new word) stop
+        (λ events. C.carried by.now x a events meter.new board.new) start steps.new)) }
+    ensures broke_off { OnErr result ((x : C) (a : B) (start : ℕ) (taken : List ℕ) → IsThrough source.old taken
+        → AreCarried taken (λ events. C.carried by.now x a events meter.old board.old) start steps.old
+        → BreaksDrive F.tells (taken ++ F.rest files.old word) (F.rest files.new word)
+        (λ events. C.broke_off by.now x a events board.new) start steps.new) }
+    ensures unread { (stop : Stop) → result ≡ Ok (Some stop) → ((line : ℕ) → stop ≢ Stop.BadLine line) → F.tells
+        → F.rest files.new word ≡ F.rest files.old word }
+    ensures cause { HasCause (B.faults board.old) (B.faults board.new) result }
+    ensures others { LeavesOthers F.rest word files.old files.new }
+    ensures read_fault { result ≡ Ok (Some Stop.ReadFault) → Rose (F.faults files.old word) (F.faults files.new word) }
+    ensures counts { (other : ℕ) → MayRise (result ≡ Ok (Some Stop.ReadFault))
+        (F.faults files.old other) (F.faults files.new other) }
+{
+    if let Some(stop) = source.read_piece(files, word) {
+        return Ok(Some(stop));
+    }
+    carry_ahead(meter, by, source, runs, acts, board, steps)
+}
+
+/// Carries out the events of the bytes that are ahead of a source, of which there is one at least. `None` where it came
+/// through them, and else the first bad line among them, before which the events were carried out.
+fn carry_ahead<C: Carrier<B, L>, B: Board<STORE_SIZE, L>, L: Ledger>(
+    meter: &mut C,
+    by: &SealedTables<'_>,
+    source: &mut Source,
+    runs: &mut ArrayVec<Run, 64>,
+    acts: &mut Acts,
+    board: &mut B,
+    steps: &mut Steps<L>,
+) -> Result<Option<Stop>, Failed>
+    requires ready { C.ready by.now meter.old board.old }
+    requires given { (given : List ℕ) × HasGiven source.old given }
+    requires some { 0 < length source.old.ahead }
+    ensures ready { OnOk result (C.ready by.now meter.new board.new) }
+    ensures goes_on { result ≡ Ok None → (x : C) (a : B) (start : ℕ) (given : List ℕ) → HasGiven source.old given
+        → AreCarried given (λ events. C.carried by.now x a events meter.old board.old) start steps.old
+        → CarriesAhead source.old source.new given (λ events. C.carried by.now x a events meter.new board.new)
+        start steps.new }
+    ensures stops { IfOk result (λ answer. IfSome answer (λ stop. (x : C) (a : B) (start : ℕ) (given rest : List ℕ)
+        → HasGiven source.old given
+        → AreCarried given (λ events. C.carried by.now x a events meter.old board.old) start steps.old
+        → TakesDrive (Unit {0}) (given ++ (source.old.ahead ++ rest)) rest stop
+        (λ events. C.carried by.now x a events meter.new board.new) start steps.new)) }
+    ensures broke_off { OnErr result ((x : C) (a : B) (start : ℕ) (given rest : List ℕ) → HasGiven source.old given
+        → AreCarried given (λ events. C.carried by.now x a events meter.old board.old) start steps.old
+        → BreaksDrive (Unit {0}) (given ++ (source.old.ahead ++ rest)) rest
+        (λ events. C.broke_off by.now x a events board.new) start steps.new) }
+    ensures bad { (stop : Stop) → result ≡ Ok (Some stop) → (line : ℕ) × (stop ≡ Stop.BadLine line) }
+    ensures cause { HasCause (B.faults board.old) (B.faults board.new) result }
+{
+    'ahead: loop {
+        runs.clear();
+        let stop = source.feed(runs);
+        carry_runs(meter, by, runs.as_slice(), acts, board, steps)?;
+        if let Some(stop) = stop {
+            return Ok(Some(stop));
+        }
+        if source.is_through() {
+            return Ok(None);
         }
     }
 }

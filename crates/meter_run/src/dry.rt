@@ -1,22 +1,30 @@
 //! The meter whose durable state is a value.
-ghost use Rattle.std.specs.Prelude.{◌≡◌, ◌+◌, ◌≤◌, [], ◌∷◌, ◌++◌, length, OnOk, OnErr};
+ghost use Rattle.std.specs.Prelude.{◌≡◌, ◌+◌, ◌≤◌, [], ◌∷◌, ◌++◌, All, length, OnOk, OnErr};
 ghost use Rattle.outside.specs.Faults.{HasCause};
 ghost use Rattle.outside.specs.Printing.{Begins};
 ghost use Rattle.outside.specs.Runs.{KeepsStore};
 ghost use Rattle.tariff_compile.specs.Tables.{TableParts};
 ghost use Rattle.seal_record.specs.declared.seal.Seal.{Seal};
+ghost use Rattle.meter_states.specs.Acts.{IsLawfulAct};
+ghost use Rattle.meter_states.specs.Core.{Meets};
 ghost use Rattle.meter_states.specs.Lawful.{IsLawful, IsTimely};
+ghost use Rattle.meter_model.specs.Meter.{Meter};
+ghost use Rattle.meter_model.specs.Setting.{Setting};
+ghost use Rattle.meter_states.specs.Setting.{IsSettingOf};
+ghost use Rattle.meter_model.specs.Step.{step};
 ghost use Rattle.taxi_units.specs.declared.event.Operating.TheVariants.{Off};
 ghost use Rattle.totals_record.specs.Ranges.{IsDurable};
 ghost use Rattle.totals_record.specs.States.{first_state};
+ghost use Rattle.meter_run.specs.BetweenEvents.{StandsWith};
 ghost use Rattle.meter_run.specs.Commits.{AreFor, IsFor, after_act, after_acts};
 ghost use Rattle.meter_run.specs.Dry.{BreaksOff, Carries, IsReady};
 ghost use Rattle.meter_run.specs.Texts.{shown_text, shown_texts};
 
-use crate::advancing::advance;
 use crate::carrier::{Carrier, SealedTables};
 use crate::printing::{print_display, print_refusal};
-use meter_states::{Act, Acts, Core};
+use crate::supply::supply_at;
+use meter_model::{Act, Acts};
+use meter_states::Core;
 use outside::{Board, Failed, STORE_SIZE};
 use seal_record::Seal;
 use std::sync::ledger::Ledger;
@@ -76,6 +84,37 @@ fn perform_all<B: Board<STORE_SIZE, L>, L: Ledger>(
     Ok(())
 }
 
+/// Moves the core by an event, with its acts in a list that is handed in empty. An `Up` while the meter is off goes on
+/// from the durable state. At most 48 steps.
+#[inline(always)]
+fn step_or_resume<L: Ledger>(
+    core: &mut Core,
+    tables: &Tables,
+    seal: &Seal,
+    durable: &Durable,
+    event: Event,
+    acts: &mut Acts,
+    steps: &mut Steps<L>,
+)
+    requires ready { IsReady tables.now seal.now core.old durable.now }
+    requires timely { IsTimely event }
+    requires empty { acts.old.items ≡ [] }
+    ensures lawful { IsLawful tables.now seal.now core.new }
+    ensures ranges { All (IsLawfulAct tables.now durable.now.number) acts.new.items }
+    ensures meets { (s : Setting) (m : Meter) → IsSettingOf s tables.now seal.now
+        → StandsWith s core.old.plain durable.now m → Meets s core.new.plain acts.new.items (step s event m) }
+    ensures steps { steps.new ≤ steps.old + 48 }
+{
+    match supply_at(core, event) {
+        Some(second) => {
+            let (powered, done) = Core::resume(tables, seal, durable, second, steps);
+            *core = powered;
+            *acts = done;
+        }
+        None => core.step_into(tables, seal, event, acts, steps),
+    }
+}
+
 /// A meter without a store: its durable state is kept as a value.
 #[derive(Drop)]
 pub struct DryMeter {
@@ -125,7 +164,7 @@ impl DryMeter {
     {
         acts.clear();
         let durable = &self.durable;
-        advance(&mut self.core, tables, seal, durable, event, acts, steps);
+        step_or_resume(&mut self.core, tables, seal, durable, event, acts, steps);
         perform_all(&mut self.durable, acts.as_slice(), board, steps)
     }
 }
@@ -153,7 +192,7 @@ impl<B: Board<STORE_SIZE, L>, L: Ledger> Carrier<B, L> for DryMeter {
     }
 
     #[inline(always)]
-    fn carry_out(
+    fn carry_event(
         &mut self,
         by: &SealedTables<'_>,
         event: Event,

@@ -3,30 +3,30 @@ ghost use Rattle.std.specs.Prelude.{◌≡◌, ◌⊎◌, ℕ, ◌+◌, ◌≤�
 ghost use Rattle.outside.specs.Reading.{LeavesOthers};
 ghost use Rattle.outside.specs.Runs.{KeepsStore};
 ghost use Rattle.outside.specs.Faults.{HasCause, MayRise, RisesOnlyIf, Rose};
-ghost use Rattle.meter_states.specs.Run.{ended};
+ghost use Rattle.meter_model.specs.Run.{ended};
 ghost use Rattle.taxi_units.specs.declared.event.Operating.TheVariants.{Off};
-ghost use Rattle.meter_run.specs.Drives.{IsBoundedBy, RunsDrive, answer_of};
+ghost use Rattle.meter_run.specs.Drives.{IsBoundedByDrive, RunsDrive, answer_of};
 ghost use Rattle.meter_run.specs.Dry.{IsReady, Prints, PrintsSome};
 
-use crate::advancing::is_off;
-use crate::carrier::{Carrier, SealedTables};
+use crate::carrier::SealedTables;
 use crate::drive::carry_drive;
 use crate::dry::DryMeter;
 use crate::fault::RunFault;
 use crate::source::Stop;
-use meter_states::Acts;
+use crate::supply::is_off;
+use meter_model::Acts;
 use outside::{Board, Failed, Files, STORE_SIZE};
 use seal_record::Seal;
 use std::sync::ledger::Ledger;
 use tariff_compile::Tables;
 use taxi_units::{Event, Steps};
 
-/// Reads the drive of a word to its end, and carries out each event as soon as its line is read, though
-/// no clause says when, under tables that were compiled with the seal's constant. The durable state is a
-/// value, which begins with number 1, totals of zero and no held trip; entries and held trips change it,
-/// and an `Up` goes on from it. Displays and refusals are printed, and no receipts; the store is left as
-/// it is. At most 64 steps for each event of the bytes that were taken, and for the supply drop at the
-/// end, if the supply is there then. It takes no memory itself; the devices may.
+/// Reads the drive of a word to its end, in pieces of at most 512 bytes, and carries out the events of each piece
+/// before it reads the next one, under tables that were compiled with the seal's constant. The durable state is a
+/// value, which begins with number 1, totals of zero and no held trip; entries and held trips change it, and an `Up`
+/// goes on from it. Displays and refusals are printed, and no receipts; the store is left as it is. At most 64 steps
+/// for each event of the bytes that were taken, and for the supply drop at the end, if the supply is there then. It
+/// takes no memory itself; the devices may.
 ///
 /// `BadDrive` with the first line that is no line of a drive; `TooLong` where 2^40 bytes were taken, none
 /// of their lines is bad, and the end wasn't told; `ReadFault` only where the count of faults of the word
@@ -44,7 +44,7 @@ pub fn dry_run<F: Files, B: Board<STORE_SIZE, L>, L: Ledger>(
     requires constant { tables.now.constant ≡ seal.now.params.constant }
     ensures ends { F.tells → RunsDrive B.tells_text tables.now seal.now
         (F.rest files.old word) (F.rest files.new word) (B.printed board.old) (B.printed board.new) result }
-    ensures steps { IsBoundedBy 0 F.tells (F.rest files.old word) (F.rest files.new word) steps.old steps.new }
+    ensures steps { IsBoundedByDrive 0 F.tells (F.rest files.old word) (F.rest files.new word) steps.old steps.new }
     ensures others { LeavesOthers F.rest word files.old files.new }
     ensures read_fault { result ≡ Err RunFault.ReadFault → Rose (F.faults files.old word) (F.faults files.new word) }
     ensures board_fault { RisesOnlyIf (result ≡ Err RunFault.BoardFault) (B.faults board.old) (B.faults board.new) }
@@ -52,7 +52,7 @@ pub fn dry_run<F: Files, B: Board<STORE_SIZE, L>, L: Ledger>(
         (F.faults files.old other) (F.faults files.new other) }
     ensures store { KeepsStore B.Board board.old board.new }
 {
-    tables.known();
+    tables.recall();
     let by = SealedTables { tables, seal };
     let mut meter = DryMeter::new();
     match carry_drive(&mut meter, &by, files, word, board, steps) {
@@ -84,8 +84,7 @@ fn drop_at_end<B: Board<STORE_SIZE, L>, L: Ledger>(
         return Ok(());
     }
     let mut acts = Acts::new();
-    let by = SealedTables { tables, seal };
-    meter.carry_out(&by, Event::Down, &mut acts, board, steps)
+    meter.carry_event(tables, seal, Event::Down, &mut acts, board, steps)
 }
 
 /// The answer of a run that stopped so.

@@ -2,7 +2,6 @@
 //! and what the meter does is printed. It takes no memory. All of it is this project's own.
 #![tactic(auto)]
 
-mod advancing;
 mod carrier;
 mod cut_laws;
 mod display_laws;
@@ -18,6 +17,7 @@ mod source;
 mod store_drive;
 mod stored;
 mod storing;
+mod supply;
 
 pub use cut_laws::{
     cuts_open_the_next_run, lines_follow_a_run, receipts_are_numbered_in_order,

@@ -1,63 +1,27 @@
 //! The meter on a store carries out events.
 ghost use Rattle.std.specs.Prelude.{◌≡◌, ◌≢◌, ℕ, ◌+◌, ◌≤◌, [], ◌∷◌};
 ghost use Rattle.meter_states.specs.Lawful.{IsTimely};
-ghost use Rattle.meter_states.specs.Step.{step};
+ghost use Rattle.meter_model.specs.Step.{step};
 ghost use Rattle.taxi_units.specs.Time.{IsSecond};
 ghost use Rattle.taxi_units.specs.declared.event.Event.TheVariants.{Up};
 ghost use Rattle.taxi_units.specs.declared.event.Operating.TheVariants.{Off};
 ghost use Rattle.totals_record.specs.Ranges.{IsDurable};
 ghost use Rattle.meter_run.specs.OnStore.{Agrees, Attempts, IsReadyOn};
-ghost use Rattle.meter_run.specs.Supply.{KeepsOff};
+ghost use Rattle.meter_run.specs.Supply.{StaysOff};
 
-use crate::advancing::{advance, is_off};
 use crate::carrier::{Carrier, SealedTables};
 use crate::printing::print_refusal;
 use crate::reading::read_store;
 use crate::stored::{Known, StoreMeter};
 use crate::storing::do_acts;
-use meter_states::{Acts, Core};
+use crate::supply::supply_at;
+use meter_model::Acts;
+use meter_states::Core;
 use outside::{Board, Failed, STORE_SIZE};
 use seal_record::Seal;
 use std::sync::ledger::Ledger;
 use tariff_compile::Tables;
 use taxi_units::{Event, Steps, Why};
-
-/// An event, but the coming of the supply while the meter is off. At most 57 steps.
-#[inline(always)]
-fn go_on<B: Board<STORE_SIZE, L>, L: Ledger>(
-    meter: &mut StoreMeter,
-    tables: &Tables,
-    seal: &Seal,
-    event: Event,
-    acts: &mut Acts,
-    board: &mut B,
-    steps: &mut Steps<L>,
-) -> Result<(), Failed>
-    requires ready { IsReadyOn B.Board tables.now seal.now meter.old board.old }
-    requires timely { IsTimely event }
-    requires supply { (second : ℕ) → meter.old.core.plain.operating ≡ Off → event ≢ Up second }
-    ensures attempts { Attempts B.Board tables.now seal.now (λ s m. step s event m) meter.old board.old result
-        meter.new board.new }
-    ensures supply { KeepsOff meter.old.core.plain (event ∷ []) meter.new.core.plain }
-    ensures steps { steps.new ≤ steps.old + 57 }
-{
-    match &mut meter.known {
-        None => print_refusal(Why::NotNow, board, steps),
-        Some(known) => {
-            acts.clear();
-            advance(
-                &mut meter.core,
-                tables,
-                seal,
-                &known.durable,
-                event,
-                acts,
-                steps,
-            );
-            do_acts(known, acts.as_slice(), seal, board, steps)
-        }
-    }
-}
 
 /// The supply comes, and what the store has was read. At most 21 steps.
 fn resume<B: Board<STORE_SIZE, L>, L: Ledger>(
@@ -111,28 +75,6 @@ fn power_up<B: Board<STORE_SIZE, L>, L: Ledger>(
     }
 }
 
-/// The supply comes. At most 57 steps.
-fn take_supply<B: Board<STORE_SIZE, L>, L: Ledger>(
-    meter: &mut StoreMeter,
-    tables: &Tables,
-    seal: &Seal,
-    second: u64,
-    acts: &mut Acts,
-    board: &mut B,
-    steps: &mut Steps<L>,
-) -> Result<(), Failed>
-    requires ready { IsReadyOn B.Board tables.now seal.now meter.old board.old }
-    requires second { IsSecond second }
-    ensures attempts { Attempts B.Board tables.now seal.now (λ s m. step s (Up second) m) meter.old board.old result
-        meter.new board.new }
-    ensures steps { steps.new ≤ steps.old + 57 }
-{
-    if is_off(&meter.core) {
-        return power_up(meter, tables, seal, second, board, steps);
-    }
-    go_on(meter, tables, seal, Event::Up(second), acts, board, steps)
-}
-
 impl StoreMeter {
     /// Carries out an event on the board: its display, refusal and receipt are printed, its entry or held trip
     /// is committed, and an `Up` while the meter is off goes on from what a scan of the store finds. At most
@@ -155,18 +97,25 @@ impl StoreMeter {
         requires timely { IsTimely event }
         ensures attempts { Attempts B.Board tables.now seal.now (λ s m. step s event m) self.old board.old result
             self.new board.new }
-        ensures supply { KeepsOff self.old.core.plain (event ∷ []) self.new.core.plain }
+        ensures supply { StaysOff self.old.core.plain (event ∷ []) self.new.core.plain }
         ensures steps { steps.new ≤ steps.old + 64 }
     {
-        match event {
-            Event::Up(second) => take_supply(self, tables, seal, second, acts, board, steps),
-            event => go_on(self, tables, seal, event, acts, board, steps),
+        match supply_at(&self.core, event) {
+            Some(second) => power_up(self, tables, seal, second, board, steps),
+            None => match &mut self.known {
+                None => print_refusal(Why::NotNow, board, steps),
+                Some(known) => {
+                    acts.clear();
+                    self.core.step_into(tables, seal, event, acts, steps);
+                    do_acts(known, acts.as_slice(), seal, board, steps)
+                }
+            },
         }
     }
 }
 
 impl<B: Board<STORE_SIZE, L>, L: Ledger> Carrier<B, L> for StoreMeter {
-    ghost use Rattle.meter_states.specs.Run.{run};
+    ghost use Rattle.meter_model.specs.Run.{run};
     ghost use Rattle.meter_run.specs.OnStore.{CarriesEvents, IsReadyOn, StopsAmid};
     ghost use Rattle.meter_run.specs.StoreLaws.{amid_sooner};
     ghost use Rattle.meter_run.specs.SupplyLaws.{carried_later, carried_none, carried_then};
@@ -195,7 +144,7 @@ impl<B: Board<STORE_SIZE, L>, L: Ledger> Carrier<B, L> for StoreMeter {
     ghost sooner = { λ r es fs x a c h. amid_sooner _ r.tables.now r.seal.now es fs x a c h };
 
     #[inline(always)]
-    fn carry_out(
+    fn carry_event(
         &mut self,
         by: &SealedTables<'_>,
         event: Event,

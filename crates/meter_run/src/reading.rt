@@ -6,10 +6,10 @@ ghost use Rattle.meter_states.specs.Fits.{Fits};
 ghost use Rattle.seal_record.specs.declared.seal.Seal.{Seal};
 ghost use Rattle.slot_store.specs.declared.pair.Place.{Place};
 ghost use Rattle.totals_record.specs.Ranges.{IsDurable};
-ghost use Rattle.meter_store.specs.Stored.{KeepsState};
+ghost use Rattle.meter_store.specs.Stored.{HoldsState};
 ghost use Rattle.totals_record.specs.declared.durable_state.Durable.{Durable};
 ghost use Rattle.meter_run.specs.OnStore.{Agrees, WritesTotals};
-ghost use Rattle.meter_run.specs.Points.{KeepsTo};
+ghost use Rattle.meter_run.specs.Points.{GoesBy};
 ghost use Rattle.meter_run.specs.declared.stored.Known.{Known};
 
 use crate::stored::Known;
@@ -30,12 +30,12 @@ pub(crate) fn read_store<B: Board<STORE_SIZE, L>, L: Ledger>(
 ) -> Result<Option<Known>, Failed>
     ensures agrees { IfOk result (λ found. ForSome found (λ known. Agrees B.Board tables.now known board.new)) }
     ensures range { IfOk result (λ found. ForSome found (λ known. IsDurable known.durable)) }
-    ensures finds { B.tells_image → (place : Place) (durable : Durable) → KeepsState B.Board place board.old durable
+    ensures finds { B.tells_image → (place : Place) (durable : Durable) → HoldsState B.Board place board.old durable
         → ForSome durable.hold (Fits tables.now)
         → IfOk result (λ found. (known : Known) × ((found ≡ Some known) × (known.durable ≡ durable))) }
     ensures points { B.tells_image → (seal : Seal) (place : Place) (durable : Durable)
-        → KeepsState B.Board place board.old durable → ForSome durable.hold (Fits tables.now)
-        → KeepsTo B.Board tables.now seal board.old board.new durable [] }
+        → HoldsState B.Board place board.old durable → ForSome durable.hold (Fits tables.now)
+        → GoesBy B.Board tables.now seal board.old board.new durable [] }
     ensures text { B.printed board.new ≡ B.printed board.old }
     ensures beside { B.tells_image → WritesTotals B.Board board.old board.new }
     ensures cause { HasCause (B.faults board.old) (B.faults board.new) result }

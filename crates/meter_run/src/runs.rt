@@ -8,7 +8,7 @@ ghost use Rattle.meter_run.specs.Drives.{IsBounded};
 
 use crate::carrier::{Carrier, SealedTables};
 use drive_text::Run;
-use meter_states::Acts;
+use meter_model::Acts;
 use outside::{Board, Failed, STORE_SIZE};
 use std::sync::ledger::Ledger;
 use taxi_units::{Event, Steps};
@@ -30,10 +30,10 @@ fn carry_interval<C: Carrier<B, L>, B: Board<STORE_SIZE, L>, L: Ledger>(
     ensures steps { IsBounded steps.old steps.new (interval_events pulses) }
 {
     if pulses == 0 {
-        return meter.carry_out(by, Event::Tick, acts, board, steps);
+        return meter.carry_event(by, Event::Tick, acts, board, steps);
     }
-    meter.carry_out(by, Event::Pulses(pulses), acts, board, steps)?;
-    meter.carry_out(by, Event::Tick, acts, board, steps)
+    meter.carry_event(by, Event::Pulses(pulses), acts, board, steps)?;
+    meter.carry_event(by, Event::Tick, acts, board, steps)
 }
 
 /// Carries out a row of equal measuring intervals: one, and then as many as go at once, again and again.
@@ -82,7 +82,7 @@ fn carry_run<C: Carrier<B, L>, B: Board<STORE_SIZE, L>, L: Ledger>(
     ensures steps { IsBounded steps.old steps.new (run_events run) }
 {
     match run {
-        Run::One(event) => meter.carry_out(by, event, acts, board, steps),
+        Run::One(event) => meter.carry_event(by, event, acts, board, steps),
         Run::Many { pulses, count } => {
             carry_intervals(meter, by, pulses, count, acts, board, steps)
         }

@@ -1,5 +1,5 @@
 //! Reads a drive from its file, piece by piece, whatever its events are wanted for.
-ghost use Rattle.std.specs.Prelude.{◌≡◌, ◌≢◌, ℕ, ◌-◌, ◌<◌, ◌≤◌, [], List, All, length, take, drop, None, Some, IfSome};
+ghost use Rattle.std.specs.Prelude.{◌≡◌, ◌≢◌, ◌↔◌, IsTrue, ℕ, ◌-◌, ◌<◌, ◌≤◌, [], List, All, length, take, drop, None, Some, IfSome};
 ghost use Rattle.outside.specs.Reading.{LeavesOthers};
 ghost use Rattle.outside.specs.Faults.{MayRise, Rose};
 ghost use Rattle.drive_text.specs.Drive.{bad_at_end};
@@ -96,6 +96,13 @@ impl Source {
         self.feed(runs)
     }
 
+    /// Whether nothing that was taken is ahead.
+    pub(crate) fn is_through(&self) -> bool
+        ensures { IsTrue result ↔ (self.now.ahead ≡ []) }
+    {
+        part(&self.piece, self.from, self.to).is_empty()
+    }
+
     /// Reads the next piece, where nothing is ahead.
     fn fill<F: Files>(&mut self, files: &mut F, word: usize) -> Option<Stop>
         ensures filled { result ≡ None → Fills F.tells self.old self.new (F.rest files.old word)
@@ -113,13 +120,15 @@ impl Source {
         self.read_piece(files, word)
     }
 
-    /// Reads the next piece.
-    fn read_piece<F: Files>(&mut self, files: &mut F, word: usize) -> Option<Stop>
+    /// Reads the next piece, by one read. Where it stops, no bytes were taken.
+    pub(crate) fn read_piece<F: Files>(&mut self, files: &mut F, word: usize) -> Option<Stop>
         requires none { self.old.ahead ≡ [] }
         ensures filled { result ≡ None → Fills F.tells self.old self.new (F.rest files.old word)
             (F.rest files.new word) }
         ensures stops { IfSome result (λ stop. (given : List ℕ) → HasGiven self.old given
             → StopsBy F.tells self.old (F.rest files.old word) (F.rest files.new word) given [] stop) }
+        ensures few { result ≡ None → length self.new.ahead ≤ 512 }
+        ensures unread { result ≢ None → F.tells → F.rest files.new word ≡ F.rest files.old word }
         ensures others { LeavesOthers F.rest word files.old files.new }
         ensures read_fault { result ≡ Some Stop.ReadFault → Rose (F.faults files.old word) (F.faults files.new word) }
         ensures counts { (other : ℕ)
@@ -156,8 +165,8 @@ impl Source {
         }
     }
 
-    /// Gives the reader what is ahead, and appends its runs.
-    fn feed(&mut self, runs: &mut ArrayVec<Run, 64>) -> Option<Stop>
+    /// Gives the reader what is ahead, and appends its runs. It stops at a bad line alone.
+    pub(crate) fn feed(&mut self, runs: &mut ArrayVec<Run, 64>) -> Option<Stop>
         requires given { (given : List ℕ) × HasGiven self.old given }
         requires some { 0 < length self.old.ahead }
         requires none { runs.old.items ≡ [] }
@@ -166,6 +175,7 @@ impl Source {
         ensures stops { IfSome result (λ stop. (given rest : List ℕ) → HasGiven self.old given
             → StopsBy (Unit {0}) self.old rest rest given runs.new.items stop) }
         ensures no_fault { result ≢ Some Stop.ReadFault }
+        ensures bad { (stop : Stop) → result ≡ Some stop → (line : ℕ) × (stop ≡ Stop.BadLine line) }
         ensures range { All IsRunInRange runs.new.items }
     {
         let ahead = part(&self.piece, self.from, self.to);

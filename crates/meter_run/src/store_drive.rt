@@ -3,32 +3,32 @@ ghost use Rattle.std.specs.Prelude.{◌≡◌, ◌⊎◌, ℕ, ◌+◌, ◌≤�
 ghost use Rattle.outside.specs.Reading.{LeavesOthers};
 ghost use Rattle.drive_text.specs.Ending.{Whole, drive_end};
 ghost use Rattle.outside.specs.Faults.{HasCause, MayRise, RisesOnlyIf, Rose};
-ghost use Rattle.meter_states.specs.Run.{ended};
+ghost use Rattle.meter_model.specs.Run.{ended};
 ghost use Rattle.seal_record.specs.Ranges.{IsSeal};
 ghost use Rattle.taxi_units.specs.declared.event.Operating.TheVariants.{Off};
-ghost use Rattle.meter_run.specs.Drives.{IsBoundedBy};
+ghost use Rattle.meter_run.specs.Drives.{IsBoundedByDrive};
 ghost use Rattle.meter_run.specs.OnStore.{CarriesOut, IsReadyOn, StopsAmid, WritesTotals};
 ghost use Rattle.meter_run.specs.Runs.{EndsRun, LeavesPoints};
 
-use crate::advancing::is_off;
-use crate::carrier::{Carrier, SealedTables};
+use crate::carrier::SealedTables;
 use crate::drive::carry_drive;
 use crate::dry_drive::answer;
 use crate::fault::RunFault;
 use crate::stored::StoreMeter;
-use meter_states::Acts;
+use crate::supply::is_off;
+use meter_model::Acts;
 use outside::{Board, Failed, Files, STORE_SIZE};
 use seal_record::Seal;
 use std::sync::ledger::Ledger;
 use tariff_compile::Tables;
 use taxi_units::{Event, Steps};
 
-/// Reads the drive of a word to its end, and carries out each event on the board as soon as its line is
-/// read, though no clause says when, under tables that were compiled with the constant of a seal in its
-/// ranges. Displays, refusals and receipts are printed; entries and held trips are committed to the pair
-/// of totals; and an `Up` while the meter is off scans that pair, and goes on from what it finds. At most
-/// 64 steps for each event of the bytes that were taken, and for the supply drop at the end, if the
-/// supply is there then. It takes no memory itself; the devices may.
+/// Reads the drive of a word to its end, in pieces of at most 512 bytes, and carries out the events of each piece on
+/// the board before it reads the next one, under tables that were compiled with the constant of a seal in its ranges.
+/// Displays, refusals and receipts are printed; entries and held trips are committed to the pair of totals; and an
+/// `Up` while the meter is off scans that pair, and goes on from what it finds. At most 64 steps for each event of the
+/// bytes that were taken, and for the supply drop at the end, if the supply is there then. It takes no memory itself;
+/// the devices may.
 ///
 /// `BadDrive` with the first line that is no line of a drive; `TooLong` where 2^40 bytes were taken, none
 /// of their lines is bad, and the end wasn't told; `ReadFault` only where the count of faults of the word
@@ -60,14 +60,14 @@ pub fn run_events<F: Files, B: Board<STORE_SIZE, L>, L: Ledger>(
     ensures complete { F.tells → drive_end (F.rest files.old word) ≡ Whole
         → ¬ Rose (F.faults files.old word) (F.faults files.new word)
         → ¬ Rose (B.faults board.old) (B.faults board.new) → IsOk result }
-    ensures steps { IsBoundedBy 0 F.tells (F.rest files.old word) (F.rest files.new word) steps.old steps.new }
+    ensures steps { IsBoundedByDrive 0 F.tells (F.rest files.old word) (F.rest files.new word) steps.old steps.new }
     ensures others { LeavesOthers F.rest word files.old files.new }
     ensures read_fault { result ≡ Err RunFault.ReadFault → Rose (F.faults files.old word) (F.faults files.new word) }
     ensures board_fault { RisesOnlyIf (result ≡ Err RunFault.BoardFault) (B.faults board.old) (B.faults board.new) }
     ensures counts { (other : ℕ) → MayRise ((result ≡ Err RunFault.ReadFault) ⊎ (result ≡ Err RunFault.BoardFault))
         (F.faults files.old other) (F.faults files.new other) }
 {
-    tables.known();
+    tables.recall();
     let by = SealedTables { tables, seal };
     let mut meter = StoreMeter::new();
     match carry_drive(&mut meter, &by, files, word, board, steps) {
@@ -99,6 +99,5 @@ fn drop_at_end<B: Board<STORE_SIZE, L>, L: Ledger>(
         return Ok(());
     }
     let mut acts = Acts::new();
-    let by = SealedTables { tables, seal };
-    meter.carry_out(&by, Event::Down, &mut acts, board, steps)
+    meter.carry_event(tables, seal, Event::Down, &mut acts, board, steps)
 }

@@ -7,15 +7,15 @@ ghost use Rattle.seal_record.specs.Ranges.{IsSeal};
 ghost use Rattle.tariff_compile.specs.Tables.{TableParts};
 ghost use Rattle.totals_record.specs.Ranges.{IsDurable};
 ghost use Rattle.totals_record.specs.States.{after};
-ghost use Rattle.meter_store.specs.Stored.{KeepsState};
+ghost use Rattle.meter_store.specs.Stored.{HoldsState};
 ghost use Rattle.meter_run.specs.Commits.{AreFor, IsFor, after_act, after_acts, commits_in};
 ghost use Rattle.meter_run.specs.Deeds.{Deed, Does, act_text, after_deed, deeds_of, texts};
 ghost use Rattle.meter_run.specs.OnStore.{Agrees, MayDo, WritesTotals};
-ghost use Rattle.meter_run.specs.Points.{KeepsTo};
+ghost use Rattle.meter_run.specs.Points.{GoesBy};
 
 use crate::printing::{print_display, print_receipt, print_refusal};
 use crate::stored::Known;
-use meter_states::Act;
+use meter_model::Act;
 use meter_store::commit;
 use outside::{Board, Failed, STORE_SIZE};
 use seal_record::Seal;
@@ -31,7 +31,7 @@ fn store<B: Board<STORE_SIZE, L>, L: Ledger>(
     steps: &mut Steps<L>,
 ) -> Result<(), Failed>
     requires slot { known.old.place.slot ≤ 1 }
-    requires settled { B.tells_image → KeepsState B.Board known.old.place board.old known.old.durable }
+    requires settled { B.tells_image → HoldsState B.Board known.old.place board.old known.old.durable }
     requires range { IsDurable (after known.old.durable change.now) }
     ensures durable { OnOk result (known.new.durable ≡ after known.old.durable change.now) }
     ensures agrees { (tables : TableParts) → ForSome (after known.old.durable change.now).hold (Fits tables)
@@ -39,7 +39,7 @@ fn store<B: Board<STORE_SIZE, L>, L: Ledger>(
     ensures points { B.tells_image → (tables : TableParts) (seal : Seal) (deed : Deed)
         → ForSome known.old.durable.hold (Fits tables) → ForSome (after known.old.durable change.now).hold (Fits tables)
         → after_deed known.old.durable deed ≡ after known.old.durable change.now
-        → KeepsTo B.Board tables seal board.old board.new known.old.durable (deed ∷ []) }
+        → GoesBy B.Board tables seal board.old board.new known.old.durable (deed ∷ []) }
     ensures text { B.printed board.new ≡ B.printed board.old }
     ensures beside { B.tells_image → WritesTotals B.Board board.old board.new }
     ensures cause { HasCause (B.faults board.old) (B.faults board.new) result }
@@ -73,7 +73,7 @@ fn do_act<B: Board<STORE_SIZE, L>, L: Ledger>(
     ensures whole { B.tells_text → OnOk result
         (B.printed board.new ≡ B.printed board.old ++ act_text seal.now act.now) }
     ensures points { B.tells_image → (tables : TableParts) → MayDo B.Board tables known.old board.old (act.now ∷ [])
-        → KeepsTo B.Board tables seal.now board.old board.new known.old.durable (Does act.now ∷ []) }
+        → GoesBy B.Board tables seal.now board.old board.new known.old.durable (Does act.now ∷ []) }
     ensures beside { B.tells_image → WritesTotals B.Board board.old board.new }
     ensures cause { HasCause (B.faults board.old) (B.faults board.new) result }
     ensures steps { steps.new ≤ steps.old + 1 + 5 * commits_in (act.now ∷ []) }
@@ -105,7 +105,7 @@ pub(crate) fn do_acts<B: Board<STORE_SIZE, L>, L: Ledger>(
     ensures whole { B.tells_text → OnOk result
         (B.printed board.new ≡ B.printed board.old ++ texts seal.now (deeds_of acts.now)) }
     ensures points { B.tells_image → (tables : TableParts) → MayDo B.Board tables known.old board.old acts.now
-        → KeepsTo B.Board tables seal.now board.old board.new known.old.durable (deeds_of acts.now) }
+        → GoesBy B.Board tables seal.now board.old board.new known.old.durable (deeds_of acts.now) }
     ensures beside { B.tells_image → WritesTotals B.Board board.old board.new }
     ensures cause { HasCause (B.faults board.old) (B.faults board.new) result }
     ensures steps { steps.new ≤ steps.old + length acts.now + 5 * commits_in acts.now }

@@ -5,8 +5,8 @@ use Rattle.totals_record.specs.Ranges.{IsDurable}
 use Rattle.totals_record.proofs.Laws.{entries_keep_the_ranges, held_trips_keep_the_ranges}
 use Rattle.tariff_compile.specs.Tables.{TableParts}
 use Rattle.meter_states.specs.Acts.{IsLawfulAct, KeepsRanges}
-use Rattle.meter_states.specs.declared.act.Act.{Act}
-use Rattle.meter_states.specs.declared.act.Act.TheVariants.{Show, Refuse, Enter, Hold, Receipt}
+use Rattle.meter_model.specs.declared.act.Act.{Act}
+use Rattle.meter_model.specs.declared.act.Act.TheVariants.{Show, Refuse, Enter, Hold, Receipt}
 
 pub act-keeps : (tables : TableParts) (durable : Durable) (act : Act) → IsDurable durable
     → IsLawfulAct tables durable.number act → KeepsRanges durable act

@@ -5,7 +5,7 @@ use Rattle.std.proofs.Math.Nat.{mul-le-mul_right}
 use Rattle.std.proofs.lemmas.List.Elements.{All-from_recursion}
 use Rattle.std.specs.List.{AllByRecursion}
 use Rattle.tariff_check.specs.declared.values.Supplement.{Supplement}
-use Rattle.meter_states.specs.Supplements.{AreAllowed, amount_in, amounts_from, most_in}
+use Rattle.meter_model.specs.Supplements.{AreAllowed, amount_in, amounts_from, most_in}
 
 -- what every supplement of a tariff keeps to
 pub record AreBounded (supplement : ℕ → Option Supplement) : Type 0 where

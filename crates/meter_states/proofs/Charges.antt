@@ -26,8 +26,9 @@ use Rattle.tariff_check.specs.declared.choice.ChoiceKind.TheVariants.{Rate}
 use Rattle.tariff_check.proofs.Laws.{sound_tariffs_have_sound_parts-parts, measures_are_least-least}
 use Rattle.tariff_check.proofs.Laws.{measures_are_least-sound, lines_that_hold_are_there-rate}
 use Rattle.tariff_compile.specs.Tables.{TableParts, all_weights, rate_by, weights_in_force, weights_of}
-use Rattle.meter_states.specs.Charge.{charge_at, charge_by}
-use Rattle.meter_states.specs.Setting.{Setting, IsTariffOf}
+use Rattle.meter_model.specs.Charge.{charge_at, charge_by}
+use Rattle.meter_model.specs.Setting.{Setting}
+use Rattle.meter_states.specs.Setting.{IsTariffOf}
 
 -- numbers that are scaled alike compare alike
 same-below : (d t a c v w : ℕ) → 0 < v → 0 < w → d * v ≡ a * w → t * v ≡ c * w → (b : Bool) → ltb d t ≡ b → ltb a c ≡ b

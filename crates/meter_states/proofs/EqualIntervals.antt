@@ -18,21 +18,22 @@ use Rattle.tariff_syntax.specs.declared.context.Context.{Context}
 use Rattle.taxi_units.specs.declared.event.Operating.{Operating}
 use Rattle.taxi_units.specs.declared.event.Operating.TheVariants.{Off, ForHire, Hired, Stopped}
 use Rattle.taxi_units.specs.declared.receipt.Display.{Display}
-use Rattle.meter_states.specs.declared.trip.CoreTrip.{CoreTrip}
-use Rattle.meter_states.specs.Charge.{charge_at}
+use Rattle.meter_model.specs.declared.core_trip.CoreTrip.{CoreTrip}
+use Rattle.meter_model.specs.Charge.{charge_at}
 use Rattle.meter_states.specs.Core.{CoreData, ComesToOutcome, core_of}
 use Rattle.meter_states.specs.EqualStages.{HasTaken, LastsFrom, charged, passed, unfilled}
 use Rattle.meter_states.specs.Equals.{IsStill, MayBeCharged, MayGo, MayGoIn, display_by, intervals_of, roams, spare_of}
-use Rattle.meter_states.specs.Interval.{context_of, context_on, counted_in, pulses_so_far, roaming_with, ticks_so_far}
-use Rattle.meter_states.specs.Interval.{with_interval}
+use Rattle.meter_model.specs.Interval.{context_of, context_on, counted_in, pulses_so_far, roaming_with, ticks_so_far}
+use Rattle.meter_model.specs.Interval.{with_interval}
 use Rattle.meter_states.specs.Lawful.{IsBetweenEvents, IsTripBeside}
-use Rattle.meter_states.specs.Meter.{Meter}
-use Rattle.meter_states.specs.Run.{run}
-use Rattle.meter_states.specs.Setting.{Setting, IsSettingOf, IsTariffOf, local_at, modulus_of}
+use Rattle.meter_model.specs.Meter.{Meter}
+use Rattle.meter_model.specs.Run.{run}
+use Rattle.meter_model.specs.Setting.{Setting, local_at, modulus_of}
+use Rattle.meter_states.specs.Setting.{IsSettingOf, IsTariffOf}
 use Rattle.meter_states.specs.declared.cache.Cache.{Cache}
 use Rattle.meter_states.specs.declared.cache.CachedRate.{CachedRate}
-use Rattle.meter_states.specs.Trip.{MeterTrip, InHired, InStopped, charges_of, core_trip_of, fare_by_fees, opening_of}
-use Rattle.meter_states.specs.Trip.{Part, with_part}
+use Rattle.meter_model.specs.Trip.{MeterTrip, InHired, InStopped, charges_of, core_trip_of, fare_by_fees, opening_of}
+use Rattle.meter_model.specs.Trip.{Part, with_part}
 use Rattle.taxi_units.specs.Time.{longest_trip}
 use Rattle.meter_states.proofs.Charges.{charge-at}
 use Rattle.meter_states.proofs.Meterages.{added-less, sum-added}

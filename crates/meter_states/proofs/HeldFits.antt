@@ -5,9 +5,11 @@ use Rattle.tariff_check.specs.SoundTariff.{supplement_numbered}
 use Rattle.tariff_check.specs.declared.values.Supplement.{Supplement}
 use Rattle.totals_record.specs.declared.trip.Trip.{Trip}
 use Rattle.meter_states.specs.Fits.{Fits}
-use Rattle.meter_states.specs.KeptTrip.{FitsSetting}
-use Rattle.meter_states.specs.Setting.{Setting, IsTariffOf}
-use Rattle.meter_states.specs.Supplements.{amount_in, amounts_from, supplement_in}
+use Rattle.meter_model.specs.KeptTrip.{FitsSetting}
+use Rattle.meter_model.specs.Setting.{Setting}
+use Rattle.meter_states.specs.Setting.{IsTariffOf}
+use Rattle.meter_model.specs.Supplements.{amount_in, amounts_from}
+use Rattle.meter_states.specs.Supplements.{supplement_in}
 use Rattle.meter_states.proofs.Settings.{step-is, unit-is}
 use Rattle.meter_states.proofs.TableSupplements.{supplement-of-setting}
 

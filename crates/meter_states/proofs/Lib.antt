@@ -10,14 +10,14 @@ mod Counts
 mod Displays
 -- equal intervals in each operating position
 mod EqualIntervals
--- what the fare of a trip depends on
-mod Fares
 -- a trip that fits the tables fits their setting
 mod HeldFits
--- each stage of an event keeps the trip of the store
-mod KeptTrips
+-- what accepted keys do, key by key
+mod KeyActs
 -- what a key does, as a stage of an event
 mod KeyStages
+-- what was shown last is the display of a state that keeps its trip
+mod LastDisplays
 -- the laws that the crates above may cite
 pub mod Laws
 -- a charge more
@@ -30,16 +30,10 @@ mod Powered
 mod Pushes
 -- intervals at which nothing is done
 mod Quiet
--- what a refusal leaves, and when a key acts
+-- what a refusal leaves
 mod Refused
--- a held trip that is opened is saved again as it was held
-mod Resumed
--- a trip that is opened from its saved form has the saved form of the whole trip
-mod ResumedForms
 -- what the check of the roaming pulses does in each case
 mod RoamingStages
--- runs over lists of events
-mod Runs
 -- what tables have of their setting
 mod Settings
 -- each stage of an event commits what its acts say, and puts a receipt directly behind its entry

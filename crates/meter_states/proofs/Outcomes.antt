@@ -7,18 +7,18 @@ use Rattle.taxi_units.specs.declared.event.Event.TheVariants.{Up, Down, Pulses, 
 use Rattle.taxi_units.specs.declared.event.Operating.{Operating}
 use Rattle.taxi_units.specs.declared.event.Operating.TheVariants.{Off, ForHire, Hired, Stopped}
 use Rattle.taxi_units.specs.declared.event.Why.TheVariants.{NotNow}
-use Rattle.meter_states.specs.declared.trip.CoreTrip.{CoreTrip}
+use Rattle.meter_model.specs.declared.core_trip.CoreTrip.{CoreTrip}
 use Rattle.meter_states.specs.Core.{CoreData, ComesToOutcome, Meets, Stands, core_of}
-use Rattle.meter_states.specs.Display.{fare_shown}
+use Rattle.meter_model.specs.Display.{fare_shown}
 use Rattle.meter_states.specs.Lawful.{IsBetweenEvents, IsPowered, HasTrip}
-use Rattle.meter_states.specs.Meter.{Meter, Outcome, ◌>>=◌, quiet}
-use Rattle.meter_states.specs.Setting.{Setting}
-use Rattle.meter_states.specs.Step.{off_step, powered_step, step, step_in}
-use Rattle.meter_states.specs.Supply.{supply_dropped}
-use Rattle.meter_states.specs.Trip as model
-use Rattle.meter_states.specs.Trip.{core_trip_of}
-use Rattle.meter_states.specs.declared.act.Act.{Act}
-use Rattle.meter_states.specs.declared.act.Act.TheVariants.{Refuse}
+use Rattle.meter_model.specs.Meter.{Meter, Outcome, ◌>>=◌, quiet}
+use Rattle.meter_model.specs.Setting.{Setting}
+use Rattle.meter_model.specs.Step.{off_step, powered_step, step, step_in}
+use Rattle.meter_model.specs.Supply.{supply_dropped}
+use Rattle.meter_model.specs.Trip as model
+use Rattle.meter_model.specs.Trip.{core_trip_of}
+use Rattle.meter_model.specs.declared.act.Act.{Act}
+use Rattle.meter_model.specs.declared.act.Act.TheVariants.{Refuse}
 use Rattle.meter_states.proofs.Powered.{stands-on}
 use Rattle.taxi_units.specs.Limits.{roaming_between}
 

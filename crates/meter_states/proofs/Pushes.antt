@@ -8,7 +8,7 @@ use Rattle.totals_record.specs.Entries.{closes}
 use Rattle.totals_record.specs.declared.entry.Entry.{Entry}
 use Rattle.std.proofs.lemmas.Grind.{common_steps}
 use Rattle.meter_states.specs.Acts.{IsLawfulAct, StayLawful}
-use Rattle.meter_states.specs.declared.act.Act.{Act}
+use Rattle.meter_model.specs.declared.act.Act.{Act}
 
 pub few-more : (before acts : List Act) (act : Act) → acts ≡ before ++ act ∷ [] → length acts ≤ length before + 1
 few-more before acts act e = rw e (rw length-append (omega arith))

@@ -14,23 +14,23 @@ use Rattle.taxi_units.specs.declared.event.Key.{Key}
 use Rattle.taxi_units.specs.declared.event.Operating.{Operating}
 use Rattle.taxi_units.specs.declared.event.Operating.TheVariants.{Off, ForHire, Hired, Stopped}
 use Rattle.taxi_units.specs.declared.receipt.Display.{Display}
-use Rattle.meter_states.specs.declared.trip.CoreTrip.{CoreTrip}
-use Rattle.meter_states.specs.Closing.{roaming_checked, roaming_checked_in, roaming_entered}
+use Rattle.meter_model.specs.declared.core_trip.CoreTrip.{CoreTrip}
+use Rattle.meter_model.specs.Closing.{roaming_checked, roaming_checked_in, roaming_entered}
 use Rattle.meter_states.specs.Core.{CoreData, ComesToOutcome, core_of}
-use Rattle.meter_states.specs.Display.{display_of, extras_shown, fare_shown, is_shown, same_display, shown}
+use Rattle.meter_model.specs.Display.{display_of, extras_shown, fare_shown, is_shown, same_display, shown}
 use Rattle.meter_states.specs.Equals.{IsStill, display_by, extras_by, fare_by, interval_of, intervals_of}
-use Rattle.meter_states.specs.Interval.{counted_in, interval_begun, pulses_taken, ticks_so_far}
-use Rattle.meter_states.specs.Keys.{key_pressed, latch_pressed}
-use Rattle.meter_states.specs.Meter.{Meter, Outcome, ◌>>=◌, quiet}
-use Rattle.meter_states.specs.Run.{run}
-use Rattle.meter_states.specs.Setting.{Setting, IsTariffOf, modulus_of, rounding_of}
-use Rattle.meter_states.specs.Step.{expired, expired_or_pressed, powered_step, step_in, ticked}
-use Rattle.meter_states.specs.Trip.{MeterTrip, charges_of, fare_by_fees, opening_of, core_trip_of}
-use Rattle.meter_states.specs.declared.act.Act.{Act}
-use Rattle.meter_states.specs.declared.act.Act.TheVariants.{Show}
-use Rattle.meter_states.proofs.Fares.{above-more}
+use Rattle.meter_model.specs.Interval.{counted_in, interval_begun, pulses_taken, ticks_so_far}
+use Rattle.meter_model.specs.Keys.{key_pressed, latch_pressed}
+use Rattle.meter_model.specs.Meter.{Meter, Outcome, ◌>>=◌, quiet}
+use Rattle.meter_model.specs.Run.{run}
+use Rattle.meter_model.specs.Setting.{Setting, modulus_of, rounding_of}
+use Rattle.meter_states.specs.Setting.{IsTariffOf}
+use Rattle.meter_model.specs.Step.{expired, expired_or_pressed, powered_step, step_in, ticked}
+use Rattle.meter_model.specs.Trip.{MeterTrip, charges_of, fare_by_fees, opening_of, core_trip_of}
+use Rattle.meter_model.specs.declared.act.Act.{Act}
+use Rattle.meter_model.specs.declared.act.Act.TheVariants.{Show}
+use Rattle.meter_model.proofs.Laws.{above-more, run-append}
 use Rattle.meter_states.proofs.Outcomes.{follows-then}
-use Rattle.meter_states.proofs.Runs.{run-append}
 use Rattle.meter_states.proofs.Settings.{decimals-is, rounding-is, step-is}
 use Rattle.taxi_units.specs.Limits.{roaming_between, roaming_most}
 

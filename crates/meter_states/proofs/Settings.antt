@@ -4,7 +4,8 @@ use Rattle.std.proofs.Math.Nat.{mul-pos}
 use Rattle.tariff_check.specs.Measure.{measure_of}
 use Rattle.tariff_check.specs.SoundTariff.{SoundTariff}
 use Rattle.tariff_compile.specs.Tables.{IsFit, TableParts}
-use Rattle.meter_states.specs.Setting.{Setting, IsTariffOf, rounding_of, unit_of, modulus_of}
+use Rattle.meter_model.specs.Setting.{Setting, rounding_of, unit_of, modulus_of}
+use Rattle.meter_states.specs.Setting.{IsTariffOf}
 
 pub unit-is : (s : Setting) (p : TableParts) → IsTariffOf s p → p.measure ≡ unit_of s
 unit-is s p is =

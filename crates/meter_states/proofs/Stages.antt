@@ -13,18 +13,18 @@ use Rattle.totals_record.specs.declared.durable_state.Durable.{Durable}
 use Rattle.totals_record.specs.declared.entry.Entry.{Entry}
 use Rattle.totals_record.specs.declared.trip.Trip.{Trip}
 use Rattle.totals_record.proofs.Laws.{changes_add_up}
-use Rattle.meter_states.specs.Closing.{roaming_checked}
-use Rattle.meter_states.specs.Display.{shown}
-use Rattle.meter_states.specs.Interval.{interval_begun, interval_counted, interval_left}
-use Rattle.meter_states.specs.Meter.{Meter, Outcome, ◌>>=◌}
+use Rattle.meter_model.specs.Closing.{roaming_checked}
+use Rattle.meter_model.specs.Display.{shown}
+use Rattle.meter_model.specs.Interval.{interval_begun, interval_counted, interval_left}
+use Rattle.meter_model.specs.Meter.{Meter, Outcome, ◌>>=◌}
 use Rattle.meter_states.specs.Pairs.{ArePaired, commits_of, waiting_after}
-use Rattle.meter_states.specs.Run.{ended, ended_in, opened, run, whole_run}
-use Rattle.meter_states.specs.Setting.{Setting}
-use Rattle.meter_states.specs.Step.{expired_or_pressed, off_step, powered_step, step, step_in, ticked}
-use Rattle.meter_states.specs.Supply.{hold_taken, held_or_closed, powered, supply_came, supply_dropped, turned_off}
-use Rattle.meter_states.specs.Trip.{MeterTrip}
-use Rattle.meter_states.specs.declared.act.Act.{Act}
-use Rattle.meter_states.specs.declared.act.Act.TheVariants.{Show, Refuse, Enter, Hold, Receipt}
+use Rattle.meter_model.specs.Run.{ended, ended_in, opened, run, whole_run}
+use Rattle.meter_model.specs.Setting.{Setting}
+use Rattle.meter_model.specs.Step.{expired_or_pressed, off_step, powered_step, step, step_in, ticked}
+use Rattle.meter_model.specs.Supply.{hold_taken, held_or_closed, powered, supply_came, supply_dropped, turned_off}
+use Rattle.meter_model.specs.Trip.{MeterTrip}
+use Rattle.meter_model.specs.declared.act.Act.{Act}
+use Rattle.meter_model.specs.declared.act.Act.TheVariants.{Show, Refuse, Enter, Hold, Receipt}
 
 -- the store has what the acts commit, and receipts follow their entries
 pub record Commits (m : Meter) (o : Outcome) : Type 0 where

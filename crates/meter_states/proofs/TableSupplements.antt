@@ -12,9 +12,11 @@ use Rattle.tariff_compile.specs.Tables.{IsCompiled, IsTablesOf, TableParts}
 use Rattle.tariff_check.specs.declared.values.Supplement.{Supplement}
 use Rattle.tariff_syntax.specs.Tree.{Tree}
 use Rattle.tariff_syntax.specs.Writable.{IsFromTo, IsWritable}
-use Rattle.meter_states.specs.Setting.{Setting, IsTariffOf}
-use Rattle.meter_states.specs.Supplements.{AreAllowed, amount_in, amounts_from, most_in, supplement_in}
-use Rattle.meter_states.specs.declared.trip.CoreTrip.{CoreTrip}
+use Rattle.meter_model.specs.Setting.{Setting}
+use Rattle.meter_states.specs.Setting.{IsTariffOf}
+use Rattle.meter_model.specs.Supplements.{AreAllowed, amount_in, amounts_from, most_in}
+use Rattle.meter_states.specs.Supplements.{supplement_in}
+use Rattle.meter_model.specs.declared.core_trip.CoreTrip.{CoreTrip}
 use Rattle.meter_states.specs.Lawful.{IsLawfulTrip}
 use Rattle.meter_states.proofs.Amounts.{AreBounded, allowed-few, amounts-most}
 use Rattle.taxi_units.specs.Limits.{largest_supplements}

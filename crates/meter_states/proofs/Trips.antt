@@ -9,15 +9,16 @@ use Rattle.tariff_compile.specs.Tables.{TableParts}
 use Rattle.tariff_check.specs.SoundTariff.{supplement_numbered}
 use Rattle.tariff_check.specs.declared.values.Initial.{Initial}
 use Rattle.tariff_syntax.specs.declared.context.Context.{Context}
-use Rattle.meter_states.specs.declared.trip.CoreTrip.{CoreTrip}
-use Rattle.meter_states.specs.Charge.{charge_at}
+use Rattle.meter_model.specs.declared.core_trip.CoreTrip.{CoreTrip}
+use Rattle.meter_model.specs.Charge.{charge_at}
 use Rattle.meter_states.specs.Core.{CoreData, core_of}
-use Rattle.meter_states.specs.Interval.{with_interval}
-use Rattle.meter_states.specs.Meter.{Meter}
-use Rattle.meter_states.specs.Setting.{Setting, IsTariffOf, modulus_of, unit_of}
-use Rattle.meter_states.specs.Supplements.{amount_in, amounts_of, counts_of, times}
-use Rattle.meter_states.specs.Trip.{MeterTrip, InHired, Part, begun, charges_of, opening_of, core_trip_of, with_extra}
-use Rattle.meter_states.specs.Trip.{with_part}
+use Rattle.meter_model.specs.Interval.{with_interval}
+use Rattle.meter_model.specs.Meter.{Meter}
+use Rattle.meter_model.specs.Setting.{Setting, modulus_of, unit_of}
+use Rattle.meter_states.specs.Setting.{IsTariffOf}
+use Rattle.meter_model.specs.Supplements.{amount_in, amounts_of, counts_of, times}
+use Rattle.meter_model.specs.Trip.{MeterTrip, InHired, Part, begun, charges_of, opening_of, core_trip_of, with_extra}
+use Rattle.meter_model.specs.Trip.{with_part}
 use Rattle.meter_states.proofs.Counts.{counts-at, counts-more, counts-none}
 use Rattle.meter_states.proofs.Settings.{unit-is}
 

@@ -4,12 +4,11 @@ use Rattle.taxi_units.specs.declared.event.Key.{Key}
 use Rattle.taxi_units.specs.declared.event.Operating.{Operating}
 use Rattle.taxi_units.specs.declared.event.Operating.TheVariants.{Off}
 use Rattle.taxi_units.specs.declared.receipt.Display.{Display}
-use Rattle.totals_record.specs.declared.trip.Trip.{Trip}
-use Rattle.meter_states.specs.Meter.{Meter, Outcome}
-use Rattle.meter_states.specs.Setting.{Setting}
-use Rattle.meter_states.specs.Trip.{MeterTrip, core_trip_in, core_trip_of}
-use Rattle.meter_states.specs.declared.act.Act.{Act}
-use Rattle.meter_states.specs.declared.trip.CoreTrip.{CoreTrip}
+use Rattle.meter_model.specs.Meter.{Meter, Outcome}
+use Rattle.meter_model.specs.Setting.{Setting}
+use Rattle.meter_model.specs.Trip.{core_trip_of}
+use Rattle.meter_model.specs.declared.act.Act.{Act}
+use Rattle.meter_model.specs.declared.core_trip.CoreTrip.{CoreTrip}
 
 -- a core as plain data has counts in place of lists, the sums of the trip in place of its intervals, and the store's
 -- number in place of what the store has
@@ -57,7 +56,3 @@ pub record ComesToOutcome (s : Setting) (core : CoreData) (before acts : List Ac
 pub record Meets (s : Setting) (core : CoreData) (acts : List Act) (o : Outcome) : Type 0 where
   pub state : Stands s core o.next
   pub done : acts ≡ o.acts
-
--- a held trip is the saved form of a trip where both are none, or where a core keeps the same of both
-abbrev pub IsSavedIn : Setting → (hold : Option Trip) → Option MeterTrip → Type 0
-IsSavedIn s hold trip = option_map core_trip_in hold ≡ option_map (core_trip_of s) trip

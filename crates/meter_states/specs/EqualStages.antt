@@ -8,10 +8,10 @@ use Rattle.tariff_compile.specs.declared.parts.Lasting.{Lasting}
 use Rattle.meter_states.specs.Core.{CoreData}
 use Rattle.meter_states.specs.Equals.{intervals_of}
 use Rattle.meter_states.specs.Lawful.{IsBetweenEvents}
-use Rattle.meter_states.specs.Run.{run}
+use Rattle.meter_model.specs.Run.{run}
 use Rattle.meter_states.specs.Stages.{FollowsStage}
 use Rattle.meter_states.specs.declared.cache.CachedRate.{CachedRate}
-use Rattle.meter_states.specs.declared.trip.CoreTrip.{CoreTrip}
+use Rattle.meter_model.specs.declared.core_trip.CoreTrip.{CoreTrip}
 
 -- a core has taken `taken` of `count` equal intervals where these are at most as many, it is between two events then,
 -- and its operating position and the store's number are the same

@@ -1,5 +1,6 @@
 -- Rules: equal measuring intervals, one after the other, and when one more of them may go at once with those before.
-use Rattle.std.specs.Prelude.{◌≡◌, ℕ, zero, suc, ◌+◌, ◌-◌, ◌*◌, ◌<◌, ◌≤◌, ◌==◌, if◌then◌else◌, nat_lt, Option, Some, None, List, [], ◌∷◌, ◌++◌}
+use Rattle.std.specs.Prelude.{◌≡◌, ℕ, zero, suc, ◌+◌, ◌-◌, ◌*◌, ◌<◌, ◌≤◌, ◌==◌, if◌then◌else◌, nat_lt, Option, Some}
+use Rattle.std.specs.Prelude.{None, List, [], ◌∷◌, ◌++◌}
 use Rattle.drive_modes.specs.Charge.{charge_of}
 use Rattle.drive_modes.specs.Fare.{steps_of}
 use Rattle.drive_modes.specs.declared.meterage.Meterage.{Meterage}
@@ -16,11 +17,11 @@ use Rattle.taxi_units.specs.declared.event.Operating.{Operating}
 use Rattle.taxi_units.specs.declared.event.Operating.TheVariants.{Off, ForHire, Hired, Stopped}
 use Rattle.taxi_units.specs.declared.receipt.Display.{Display}
 use Rattle.meter_states.specs.Core.{CoreData}
-use Rattle.meter_states.specs.Trip.{fare_by_fees}
+use Rattle.meter_model.specs.Trip.{fare_by_fees}
 use Rattle.meter_states.specs.declared.cache.Cache.{Cache}
 use Rattle.meter_states.specs.declared.cache.CachedTime.{CachedTime}
 use Rattle.meter_states.specs.declared.cache.CachedRate.{CachedRate}
-use Rattle.meter_states.specs.declared.trip.CoreTrip.{CoreTrip}
+use Rattle.meter_model.specs.declared.core_trip.CoreTrip.{CoreTrip}
 use Rattle.taxi_units.specs.Limits.{hirings_end, roaming_most}
 
 -- a measuring interval has the event of its pulses, if it has any, and then the tick at its end

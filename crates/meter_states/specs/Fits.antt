@@ -4,7 +4,8 @@ use Rattle.tariff_compile.specs.Tables.{TableParts}
 use Rattle.taxi_units.specs.Money.{largest_amount}
 use Rattle.taxi_units.specs.Test.{Test, at_most, less, same, stated, within, ◌&◌}
 use Rattle.totals_record.specs.declared.trip.Trip.{Trip}
-use Rattle.meter_states.specs.Supplements.{allowed_test, amounts_from, supplement_in}
+use Rattle.meter_model.specs.Supplements.{allowed_test, amounts_from}
+use Rattle.meter_states.specs.Supplements.{supplement_in}
 
 -- the tests of a saved trip under tables are that its position and zone are among the tariff's, that what was charged
 -- fits the display step and the cover, and that its supplements are ones that the tariff allows, with their amounts

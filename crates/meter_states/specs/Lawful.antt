@@ -11,9 +11,10 @@ use Rattle.taxi_units.specs.declared.event.Operating.TheVariants.{Off, ForHire, 
 use Rattle.seal_record.specs.declared.seal.Seal.{Seal}
 use Rattle.meter_states.specs.Core.{CoreData}
 use Rattle.meter_states.specs.Cache.{IsCacheOf, CachedCore}
-use Rattle.meter_states.specs.Supplements.{AreAllowed, amounts_from, supplement_in}
-use Rattle.meter_states.specs.declared.trip.CoreTrip.{CoreTrip}
-use Rattle.meter_states.specs.declared.trip.Fees.{Fees}
+use Rattle.meter_model.specs.Supplements.{AreAllowed, amounts_from}
+use Rattle.meter_states.specs.Supplements.{supplement_in}
+use Rattle.meter_model.specs.declared.core_trip.CoreTrip.{CoreTrip}
+use Rattle.meter_model.specs.declared.core_trip.Fees.{Fees}
 use Rattle.taxi_units.specs.Limits.{hirings_end, last_number, number_most, roaming_amid, roaming_between}
 
 -- an event is timely where its second, if it has one, is of the years 2000 to 2199
@@ -107,7 +108,7 @@ IsAmidEvent tables core = IsPowered tables last_tick roaming_amid 0 core
 
 -- a core is lawful between two events where it is off, or powered and in its ranges, and its cache is one of the tables
 -- and the seal: the cache has what was looked up in them and only saves look-ups, so that it takes no part in which
--- state of the meter the core stands for, as the clause `meets` of `Core::step` says
+-- state of the meter the core stands for, as the clause `takes` of `Core::step_into` says
 pub record IsLawful (tables : TableParts) (seal : Seal) (core : CachedCore) : Type 0 where
   pub powered : (core.plain.operating ≡ Off) ⊎ IsBetweenEvents tables core.plain
   pub cache : IsCacheOf tables seal core.cache

@@ -6,8 +6,8 @@ use Rattle.taxi_units.specs.declared.receipt.Receipt as receipts
 use Rattle.totals_record.specs.declared.change.Change.{Change}
 use Rattle.totals_record.specs.declared.change.Change.TheVariants as changes
 use Rattle.totals_record.specs.declared.entry.Entry.{Entry}
-use Rattle.meter_states.specs.declared.act.Act.{Act}
-use Rattle.meter_states.specs.declared.act.Act.TheVariants.{Enter, Hold, Receipt}
+use Rattle.meter_model.specs.declared.act.Act.{Act}
+use Rattle.meter_model.specs.declared.act.Act.TheVariants.{Enter, Hold, Receipt}
 
 -- a receipt is that of an entry where it has the entry's kind, position, distance, fare and supplements
 pub record IsReceiptOf (entry : Entry) (receipt : receipts.Receipt) : Type 0 where

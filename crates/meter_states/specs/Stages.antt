@@ -11,16 +11,18 @@ use Rattle.taxi_units.specs.declared.receipt.Kind.TheVariants.{Roam}
 use Rattle.totals_record.specs.Ranges.{IsHeld}
 use Rattle.totals_record.specs.declared.trip.Trip.{Trip}
 use Rattle.meter_states.specs.Acts.{StayLawful}
-use Rattle.meter_states.specs.Core.{ComesToOutcome, CoreData, IsSavedIn, core_of}
+use Rattle.meter_states.specs.Core.{ComesToOutcome, CoreData, core_of}
+use Rattle.meter_model.specs.KeptTrip.{IsSavedIn}
 use Rattle.meter_states.specs.Fits.{Fits}
 use Rattle.meter_states.specs.Lawful.{IsAmidEvent, IsBetweenEvents, IsTripBeside, is_busy}
-use Rattle.meter_states.specs.Meter.{Meter, Outcome}
-use Rattle.meter_states.specs.Setting.{Setting, IsSettingOf}
-use Rattle.meter_states.specs.declared.act.Act.{Act}
-use Rattle.meter_states.specs.declared.keys.KeyAct.{KeyAct}
-use Rattle.meter_states.specs.declared.keys.KeyAct.TheVariants as key_acts
+use Rattle.meter_model.specs.Meter.{Meter, Outcome}
+use Rattle.meter_model.specs.Setting.{Setting}
+use Rattle.meter_states.specs.Setting.{IsSettingOf}
+use Rattle.meter_model.specs.declared.act.Act.{Act}
+use Rattle.meter_model.specs.declared.key_act.KeyAct.{KeyAct}
+use Rattle.meter_model.specs.declared.key_act.KeyAct.TheVariants as key_acts
 use Rattle.meter_states.specs.declared.records.Closing.{Closing}
-use Rattle.meter_states.specs.declared.trip.CoreTrip.{CoreTrip}
+use Rattle.meter_model.specs.declared.core_trip.CoreTrip.{CoreTrip}
 
 -- a stage of an event comes to an outcome from each state of the meter, under a setting
 abbrev pub Stage : Type 0

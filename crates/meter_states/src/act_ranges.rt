@@ -3,7 +3,7 @@ ghost use Rattle.totals_record.specs.Ranges.{IsDurable};
 ghost use Rattle.totals_record.specs.declared.durable_state.Durable.{Durable};
 ghost use Rattle.tariff_compile.specs.Tables.{TableParts};
 ghost use Rattle.meter_states.specs.Acts.{IsLawfulAct, KeepsRanges};
-ghost use Rattle.meter_states.specs.declared.act.Act.{Act};
+ghost use Rattle.meter_model.specs.declared.act.Act.{Act};
 
 /// A lawful act, where the store's state is in its ranges and has the number that the act is lawful
 /// beside, leaves a state in its ranges.

@@ -6,11 +6,12 @@ ghost use Rattle.taxi_units.specs.Time.{IsSecond, longest_trip};
 ghost use Rattle.meter_states.specs.Core.{core_of};
 ghost use Rattle.meter_states.specs.Equals.{context_by};
 ghost use Rattle.meter_states.specs.Cache.{IsCachedTimeOf, IsCacheOf};
-ghost use Rattle.meter_states.specs.Interval.{context_of, context_on};
+ghost use Rattle.meter_model.specs.Interval.{context_of, context_on};
 ghost use Rattle.meter_states.specs.Lawful.{IsPowered};
-ghost use Rattle.meter_states.specs.Meter.{Meter};
-ghost use Rattle.meter_states.specs.Setting.{Setting, IsSettingOf, local_at};
-ghost use Rattle.meter_states.specs.declared.trip.CoreTrip.{CoreTrip};
+ghost use Rattle.meter_model.specs.Meter.{Meter};
+ghost use Rattle.meter_model.specs.Setting.{Setting, local_at};
+ghost use Rattle.meter_states.specs.Setting.{IsSettingOf};
+ghost use Rattle.meter_model.specs.declared.core_trip.CoreTrip.{CoreTrip};
 ghost use Rattle.taxi_units.specs.Limits.{roaming_amid};
 
 use crate::cache::{Cache, CachedTime, cached_time};

@@ -4,17 +4,18 @@ ghost use Rattle.seal_record.specs.declared.seal.Seal.{Seal};
 ghost use Rattle.taxi_units.specs.Shown.{IsShown};
 ghost use Rattle.meter_states.specs.Acts.{IsLawfulAct};
 ghost use Rattle.meter_states.specs.Core.{core_of};
-ghost use Rattle.meter_states.specs.Display.{display_of, extras_shown, fare_shown, shown};
+ghost use Rattle.meter_model.specs.Display.{display_of, extras_shown, fare_shown, shown};
 ghost use Rattle.meter_states.specs.Equals.{display_by, extras_by, fare_by};
 ghost use Rattle.meter_states.specs.Lawful.{IsBetweenEvents};
-ghost use Rattle.meter_states.specs.Meter.{Meter};
-ghost use Rattle.meter_states.specs.Setting.{Setting, IsTariffOf};
+ghost use Rattle.meter_model.specs.Meter.{Meter};
+ghost use Rattle.meter_model.specs.Setting.{Setting};
+ghost use Rattle.meter_states.specs.Setting.{IsTariffOf};
 ghost use Rattle.meter_states.specs.Stages.{FollowsStage};
 
-use crate::act::{Act, Acts};
 use crate::meter_state::State;
 use crate::shown::is_shown;
 use crate::trip::fare;
+use meter_model::{Act, Acts};
 use tariff_compile::Tables;
 use taxi_units::Display;
 

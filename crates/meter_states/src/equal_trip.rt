@@ -7,8 +7,8 @@ ghost use Rattle.meter_states.specs.Equals as model;
 ghost use Rattle.meter_states.specs.Lawful.{IsLawfulTrip};
 
 use crate::lookups::modulus;
-use crate::trip::CoreTrip;
 use drive_modes::Rounding;
+use meter_model::CoreTrip;
 use tariff_compile::Tables;
 use taxi_units::HIRINGS_END;
 

@@ -6,16 +6,18 @@ ghost use Rattle.taxi_units.specs.declared.event.Operating.TheVariants.{ForHire,
 ghost use Rattle.meter_states.specs.Acts.{StayLawful};
 ghost use Rattle.meter_states.specs.Core.{ComesToOutcome, core_of};
 ghost use Rattle.meter_states.specs.Cache.{IsCacheOf};
-ghost use Rattle.meter_states.specs.Interval.{counted_in, interval_counted, interval_left, left_in, pulses_taken};
+ghost use Rattle.meter_model.specs.Interval.{counted_in, interval_counted, interval_left, left_in, pulses_taken};
 ghost use Rattle.meter_states.specs.Lawful.{IsAmidEvent, IsBetweenEvents, IsPowered, counting_steps};
-ghost use Rattle.meter_states.specs.Meter.{Meter};
-ghost use Rattle.meter_states.specs.Setting.{Setting, IsSettingOf};
+ghost use Rattle.meter_model.specs.Meter.{Meter};
+ghost use Rattle.meter_model.specs.Setting.{Setting};
+ghost use Rattle.meter_states.specs.Setting.{IsSettingOf};
 ghost use Rattle.taxi_units.specs.Limits.{roaming_amid, roaming_between};
 
-use crate::act::{Acts, refuse};
 use crate::cache::Cache;
 use crate::meter_state::State;
+use crate::refusing::refuse;
 use crate::trip::{add_hired, add_rest, add_stopped};
+use meter_model::Acts;
 use seal_record::Seal;
 use std::sync::ledger::Ledger;
 use tariff_compile::Tables;

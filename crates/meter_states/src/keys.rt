@@ -3,38 +3,20 @@ ghost use Rattle.std.specs.Prelude.{◌≡◌, ◌≤◌, ◌+◌, []};
 ghost use Rattle.tariff_compile.specs.Tables.{TableParts};
 ghost use Rattle.meter_states.specs.Acts.{StayLawful};
 ghost use Rattle.meter_states.specs.Core.{ComesToOutcome, core_of};
-ghost use Rattle.meter_states.specs.Keys as model;
-ghost use Rattle.meter_states.specs.Keys.{key_in, key_pressed, latched};
+ghost use Rattle.meter_model.specs.Keys as model;
+ghost use Rattle.meter_model.specs.Keys.{key_in, key_pressed, latched};
 ghost use Rattle.meter_states.specs.Lawful.{IsBetweenEvents, pressing_steps};
-ghost use Rattle.meter_states.specs.Meter.{Meter};
-ghost use Rattle.meter_states.specs.Setting.{Setting};
+ghost use Rattle.meter_model.specs.Meter.{Meter};
+ghost use Rattle.meter_model.specs.Setting.{Setting};
 ghost use Rattle.meter_states.specs.Stages.{IsDoneIn, IsReadyForKey, MayClose};
 
-use crate::act::{Acts, refuse};
 use crate::meter_state::State;
+use crate::refusing::refuse;
+use meter_model::{Acts, KeyAct};
 use seal_record::Seal;
 use std::sync::ledger::Ledger;
 use tariff_compile::Tables;
 use taxi_units::{Key, Operating, Steps, Why};
-
-/// What a key does in an operating position.
-#[derive(Clone, Copy)]
-pub enum KeyAct {
-    /// Begins a hiring.
-    Hire,
-    /// Takes the trip to another operating position.
-    Move(Operating),
-    /// Ends the hiring.
-    Clear,
-    /// Chooses a tariff position.
-    Position(u8),
-    /// Chooses a zone.
-    Zone(u8),
-    /// Adds a supplement, by its number.
-    Extra(u8),
-    /// Does nothing: the key is refused.
-    Refuse,
-}
 
 /// What a key does in an operating position.
 fn act_of(key: Key, operating: Operating) -> KeyAct

@@ -3,7 +3,6 @@
 //! states keep each interval of a trip, and an interval is charged by the rate that the tariff's text names.
 #![tactic(auto)]
 
-mod act;
 mod act_ranges;
 mod cache;
 mod closing;
@@ -17,6 +16,7 @@ mod held;
 mod interval;
 mod keeping;
 mod key_acts;
+mod key_table;
 mod keys;
 mod lookups;
 mod meter_state;
@@ -25,23 +25,21 @@ mod pairs;
 mod power_up;
 mod records;
 mod refusals;
+mod refusing;
 mod shown;
 mod stepping;
 mod supply_drop;
 mod tick;
 mod trip;
 
-pub use act::{Act, Acts};
 pub use act_ranges::lawful_acts_keep_the_ranges;
 pub use core_state::Core;
 pub use fitting::fits;
-pub use keeping::{
-    fares_depend_on_the_intervals_in_hired, resumed_trips_go_on, the_store_keeps_the_trip,
-};
-pub use keys::KeyAct;
+pub use keeping::the_store_keeps_the_trip;
+pub use key_table::accepted_keys_act;
 pub use pairs::{receipts_follow_their_entries, runs_add_up, the_store_has_what_the_acts_commit};
 pub use refusals::{
     keys_act_after_their_interval, keys_are_refused_at_an_expiry,
     pulses_too_fast_fill_the_interval, refused_events_change_nothing,
 };
-pub use shown::displays_are_compared_by_their_fields;
+pub use shown::{displays_are_compared_by_their_fields, the_last_display_is_one_of_the_meter};

@@ -5,8 +5,10 @@ ghost use Rattle.tariff_compile.specs.Tables.{IsFit};
 ghost use Rattle.tariff_check.specs.SoundTariff.{supplement_numbered};
 ghost use Rattle.taxi_units.specs.Shown.{IsStamp};
 ghost use Rattle.taxi_units.specs.Time.{IsSecond};
-ghost use Rattle.meter_states.specs.Setting.{Setting, IsSealOf, IsTariffOf, modulus_of, stamp_at};
-ghost use Rattle.meter_states.specs.Supplements.{amount_in, most_in, supplement_in};
+ghost use Rattle.meter_model.specs.Setting.{Setting, IsSealOf, modulus_of, stamp_at};
+ghost use Rattle.meter_states.specs.Setting.{IsTariffOf};
+ghost use Rattle.meter_model.specs.Supplements.{amount_in, most_in};
+ghost use Rattle.meter_states.specs.Supplements.{supplement_in};
 
 use drive_modes::millimetres;
 use interval_clock::civil;

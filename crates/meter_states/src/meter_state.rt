@@ -4,17 +4,17 @@ ghost use Rattle.tariff_compile.specs.Tables.{TableParts};
 ghost use Rattle.taxi_units.specs.Time.{longest_trip};
 ghost use Rattle.taxi_units.specs.declared.event.Operating.TheVariants.{Off};
 ghost use Rattle.meter_states.specs.Core.{core_of};
-ghost use Rattle.meter_states.specs.Interval as interval;
+ghost use Rattle.meter_model.specs.Interval as interval;
 ghost use Rattle.meter_states.specs.Lawful.{IsPowered, is_busy};
-ghost use Rattle.meter_states.specs.Meter.{Meter};
-ghost use Rattle.meter_states.specs.Setting.{Setting};
-ghost use Rattle.meter_states.specs.Supply as supply;
-ghost use Rattle.meter_states.specs.declared.trip.CoreTrip.{CoreTrip};
+ghost use Rattle.meter_model.specs.Meter.{Meter};
+ghost use Rattle.meter_model.specs.Setting.{Setting};
+ghost use Rattle.meter_model.specs.Supply as supply;
+ghost use Rattle.meter_model.specs.declared.core_trip.CoreTrip.{CoreTrip};
 ghost use Rattle.taxi_units.specs.Limits.{roaming_amid};
 
-use crate::trip::CoreTrip;
 use drive_modes::Gate;
 use interval_clock::Clock;
+use meter_model::CoreTrip;
 use std::marker::Model;
 use taxi_units::{Display, FIRST_SECOND, Key, Operating};
 

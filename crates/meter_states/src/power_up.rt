@@ -6,22 +6,24 @@ ghost use Rattle.taxi_units.specs.Time.{IsSecond};
 ghost use Rattle.taxi_units.specs.declared.event.Operating.TheVariants.{ForHire};
 ghost use Rattle.totals_record.specs.Ranges.{IsDurable, IsHeld};
 ghost use Rattle.meter_states.specs.Acts.{IsLawfulAct, KeepsRanges};
-ghost use Rattle.meter_states.specs.Core.{IsSavedIn, Meets, core_of};
+ghost use Rattle.meter_model.specs.KeptTrip.{IsSavedIn};
+ghost use Rattle.meter_states.specs.Core.{Meets, core_of};
 ghost use Rattle.meter_states.specs.Fits.{Fits};
 ghost use Rattle.meter_states.specs.Lawful.{IsBetweenEvents, IsLawful};
-ghost use Rattle.meter_states.specs.Meter.{Meter};
-ghost use Rattle.meter_states.specs.Setting.{Setting, IsSettingOf};
+ghost use Rattle.meter_model.specs.Meter.{Meter};
+ghost use Rattle.meter_model.specs.Setting.{Setting};
+ghost use Rattle.meter_states.specs.Setting.{IsSettingOf};
 ghost use Rattle.meter_states.specs.Stages.{IsNewlyPowered, MayBeTaken, TakesHold};
-ghost use Rattle.meter_states.specs.Supply as model;
-ghost use Rattle.meter_states.specs.Trip as trips;
+ghost use Rattle.meter_model.specs.Supply as model;
+ghost use Rattle.meter_model.specs.Trip as trips;
 
-use crate::act::Acts;
 use crate::cache::Cache;
 use crate::core_state::Core;
 use crate::held::{is_within_hold, running};
 use crate::meter_state::State;
 use crate::records::Closing;
 use crate::trip::core_trip;
+use meter_model::Acts;
 use seal_record::Seal;
 use std::sync::ledger::Ledger;
 use tariff_compile::Tables;
@@ -52,7 +54,7 @@ impl Core {
             → Meets s result.0.plain result.1.items (model.supply_came s second m) }
         ensures steps { steps.new ≤ steps.old + 12 }
     {
-        tables.known();
+        tables.recall();
         let mut state = State::idle(Operating::ForHire, durable.number, second);
         let mut acts = Acts::new();
         state.take_hold(durable.hold, second, tables, seal, &mut acts, steps);

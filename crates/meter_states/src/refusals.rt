@@ -9,15 +9,15 @@ ghost use Rattle.taxi_units.specs.declared.event.Why.{Why};
 ghost use Rattle.taxi_units.specs.declared.event.Why.TheVariants.{TooFast};
 ghost use Rattle.taxi_units.specs.declared.event.Why.TheVariants as why;
 ghost use Rattle.taxi_units.specs.declared.receipt.Kind.TheVariants as kinds;
-ghost use Rattle.meter_states.specs.Closing.{closed};
-ghost use Rattle.meter_states.specs.Interval.{context_of, interval_counted};
-ghost use Rattle.meter_states.specs.Keys.{latch_pressed};
-ghost use Rattle.meter_states.specs.Meter.{Meter, quiet};
+ghost use Rattle.meter_model.specs.Closing.{closed};
+ghost use Rattle.meter_model.specs.Interval.{context_of, interval_counted};
+ghost use Rattle.meter_model.specs.Keys.{latch_pressed};
+ghost use Rattle.meter_model.specs.Meter.{Meter, quiet};
 ghost use Rattle.meter_states.specs.Refusals.{IsTooFast};
-ghost use Rattle.meter_states.specs.Setting.{Setting};
-ghost use Rattle.meter_states.specs.Step.{expired, step, ticked};
-ghost use Rattle.meter_states.specs.Trip.{InHired, MeterTrip, ticks_of, with_part};
-ghost use Rattle.meter_states.specs.declared.act.Act.TheVariants.{Refuse};
+ghost use Rattle.meter_model.specs.Setting.{Setting};
+ghost use Rattle.meter_model.specs.Step.{expired, step, ticked};
+ghost use Rattle.meter_model.specs.Trip.{InHired, MeterTrip, ticks_of, with_part};
+ghost use Rattle.meter_model.specs.declared.act.Act.TheVariants.{Refuse};
 
 /// A refused event changes nothing, but pulses that are too fast, of which the interval takes those that
 /// it has room for. A key that is refused at a tick leaves the latch, and changes nothing else.

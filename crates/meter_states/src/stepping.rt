@@ -1,23 +1,23 @@
 //! What each event does.
-ghost use Rattle.std.specs.Prelude.{◌≡◌, ◌≢◌, ◌≤◌, ◌+◌, ◌⊎◌, ◌↔◌, ℕ, [], All, IsTrue};
+ghost use Rattle.std.specs.Prelude.{◌≡◌, ◌≤◌, ◌+◌, ◌⊎◌, ◌↔◌, [], IsTrue};
 ghost use Rattle.tariff_compile.specs.Tables.{TableParts};
 ghost use Rattle.taxi_units.specs.Time.{IsSecond};
-ghost use Rattle.taxi_units.specs.declared.event.Event.TheVariants.{Up};
 ghost use Rattle.taxi_units.specs.declared.event.Operating.TheVariants.{Off};
-ghost use Rattle.totals_record.specs.Ranges.{IsDurable};
-ghost use Rattle.totals_record.specs.declared.durable_state.Durable.{Durable};
-ghost use Rattle.meter_states.specs.Acts.{IsLawfulAct, KeepsRanges, StayLawful};
-ghost use Rattle.meter_states.specs.Core.{ComesToOutcome, Meets, Stands, core_of};
+ghost use Rattle.meter_states.specs.Acts.{StayLawful};
+ghost use Rattle.meter_states.specs.Core.{ComesToOutcome, Meets, core_of};
 ghost use Rattle.meter_states.specs.Cache.{IsCacheOf};
-ghost use Rattle.meter_states.specs.Lawful.{IsBetweenEvents, IsLawful, IsTimely};
-ghost use Rattle.meter_states.specs.Meter.{Meter};
-ghost use Rattle.meter_states.specs.Setting.{Setting, IsSettingOf};
-ghost use Rattle.meter_states.specs.Step.{clock_read, powered_step, step};
+ghost use Rattle.meter_states.specs.Lawful.{IsBetweenEvents, IsTimely};
+ghost use Rattle.meter_model.specs.Meter.{Meter};
+ghost use Rattle.meter_model.specs.Setting.{Setting};
+ghost use Rattle.meter_states.specs.Setting.{IsSettingOf};
+ghost use Rattle.meter_model.specs.Step.{clock_read, powered_step};
+ghost use Rattle.meter_states.specs.Stepping.{MayTake, Takes};
 
-use crate::act::{Acts, refuse};
 use crate::cache::Cache;
 use crate::core_state::Core;
 use crate::meter_state::State;
+use crate::refusing::refuse;
+use meter_model::Acts;
 use seal_record::Seal;
 use std::sync::ledger::Ledger;
 use tariff_compile::Tables;
@@ -39,16 +39,8 @@ impl Core {
         event: Event,
         steps: &mut Steps<L>,
     ) -> Acts
-        requires lawful { IsLawful tables.now seal.now self.old }
-        requires constant { tables.now.constant ≡ seal.now.params.constant }
-        requires timely { IsTimely event }
-        requires supply { (second : ℕ) → self.old.plain.operating ≡ Off → event ≢ Up second }
-        ensures lawful { IsLawful tables.now seal.now self.new }
-        ensures ranges { All (IsLawfulAct tables.now self.old.plain.number) result.items }
-        ensures commits { (durable : Durable) → IsDurable durable → durable.number ≡ self.old.plain.number
-            → All (KeepsRanges durable) result.items }
-        ensures meets { (s : Setting) (m : Meter) → IsSettingOf s tables.now seal.now → Stands s self.old.plain m
-            → Meets s self.new.plain result.items (step s event m) }
+        requires ready { MayTake tables.now seal.now self.old event }
+        ensures takes { Takes tables.now seal.now event self.old result.items self.new }
         ensures steps { steps.new ≤ steps.old + 48 }
     {
         let mut acts = Acts::new();
@@ -56,8 +48,8 @@ impl Core {
         acts
     }
 
-    /// Carries out an event, with the acts in a list that is handed in empty. A list for four acts is large, so whoever
-    /// goes over many events hands in one list again and again.
+    /// What an event does, as `step` says it, with the acts in a list that is handed in empty. A list for four acts is
+    /// large, so whoever goes over many events, as the programs do, hands in one list again and again.
     #[inline(always)]
     pub fn step_into<L: Ledger>(
         &mut self,
@@ -67,17 +59,9 @@ impl Core {
         acts: &mut Acts,
         steps: &mut Steps<L>,
     )
-        requires lawful { IsLawful tables.now seal.now self.old }
-        requires constant { tables.now.constant ≡ seal.now.params.constant }
-        requires timely { IsTimely event }
-        requires supply { (second : ℕ) → self.old.plain.operating ≡ Off → event ≢ Up second }
+        requires ready { MayTake tables.now seal.now self.old event }
         requires empty { acts.old.items ≡ [] }
-        ensures lawful { IsLawful tables.now seal.now self.new }
-        ensures ranges { All (IsLawfulAct tables.now self.old.plain.number) acts.new.items }
-        ensures commits { (durable : Durable) → IsDurable durable → durable.number ≡ self.old.plain.number
-            → All (KeepsRanges durable) acts.new.items }
-        ensures meets { (s : Setting) (m : Meter) → IsSettingOf s tables.now seal.now → Stands s self.old.plain m
-            → Meets s self.new.plain acts.new.items (step s event m) }
+        ensures takes { Takes tables.now seal.now event self.old acts.new.items self.new }
         ensures steps { steps.new ≤ steps.old + 48 }
     {
         if self.state.is_off() {

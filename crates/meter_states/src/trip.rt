@@ -8,40 +8,21 @@ ghost use Rattle.tariff_syntax.specs.declared.context.Context.{Context};
 ghost use Rattle.taxi_units.specs.Money.{largest_amount};
 ghost use Rattle.taxi_units.specs.Time.{IsSecond, last_tick, longest_trip};
 ghost use Rattle.meter_states.specs.Lawful.{IsLawfulTrip};
-ghost use Rattle.meter_states.specs.Setting.{Setting, IsSettingOf, IsTariffOf};
-ghost use Rattle.meter_states.specs.Supplements.{supplement_in, times};
-ghost use Rattle.meter_states.specs.Trip as model;
+ghost use Rattle.meter_model.specs.Setting.{Setting};
+ghost use Rattle.meter_states.specs.Setting.{IsSettingOf, IsTariffOf};
+ghost use Rattle.meter_states.specs.Supplements.{supplement_in};
+ghost use Rattle.meter_model.specs.Supplements.{times};
+ghost use Rattle.meter_model.specs.Trip as model;
 ghost use Rattle.taxi_units.specs.Limits.{largest_supplements, roaming_amid};
 
 use crate::lookups::modulus;
 use crate::meterage::add_charge;
 use drive_modes::{Meterage, Weights, charge};
+use meter_model::{CoreTrip, Fees};
 use seal_record::Seal;
 use tariff_check::{Initial, Supplement};
 use tariff_compile::Tables;
 use totals_record::Trip;
-
-/// The fees of a trip: its initial hire fee and its minimum fare, in the tariff's smallest units.
-#[derive(Clone, Copy)]
-pub(crate) struct Fees {
-    pub(crate) initial: u64,
-    pub(crate) minimum: u64,
-}
-
-/// A trip as the core keeps it: the second of its start, the pulses that were roamed before the hiring, its
-/// pulses and ticks, its fees, what its charges have come to, how often each of the supplements 1 to 16 was
-/// added, and the sum of their amounts in the tariff's smallest units.
-#[derive(Clone, Copy)]
-pub(crate) struct CoreTrip {
-    pub(crate) started: u64,
-    pub(crate) roam: u32,
-    pub(crate) pulses: u64,
-    pub(crate) ticks: u32,
-    pub(crate) fees: Fees,
-    pub(crate) meterage: Meterage,
-    pub(crate) extras: [u8; 16],
-    pub(crate) extras_sum: u64,
-}
 
 /// What the core keeps of a held trip.
 pub(crate) fn core_trip(held: &Trip) -> CoreTrip

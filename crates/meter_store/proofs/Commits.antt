@@ -8,7 +8,7 @@ use Rattle.slot_store.specs.Stages.{spare_at}
 use Rattle.slot_store.specs.Writes.{LeavesThroughout, WritesIn}
 use Rattle.totals_record.specs.declared.durable_state.Durable.{Durable}
 use Rattle.totals_record.specs.Reading.{reads}
-use Rattle.meter_store.specs.Stored.{state_number_of, written_at, HasEither, KeepsState, LeavesEither}
+use Rattle.meter_store.specs.Stored.{state_number_of, written_at, HasEither, HoldsState, LeavesEither}
 
 abbrev pair_at : Place → Pair
 pair_at place = record { at = 0; latest = Some place }
@@ -30,7 +30,7 @@ module _ {D L : Type 0} {N : ℕ} (B : Ghosts D N L) where
 
   pub keeps_state : (pair : Pair) (place new_place : Place) (state : Durable) (board : D) → pair ≡ pair_at place
       → IsSettled reads state_number_of pair.at new_place (B.image board) (B.in_flight board) state
-      → KeepsState B new_place board state
+      → HoldsState B new_place board state
   keeps_state pair place new_place state board at settled =
       subst (λ (p : Pair). IsSettled reads state_number_of p.at new_place (B.image board)
       (B.in_flight board) state) at settled

@@ -14,11 +14,11 @@ use Rattle.totals_record.specs.declared.durable_state.Durable.{Durable}
 use Rattle.totals_record.specs.Reading as totals
 use Rattle.totals_record.specs.States.{first_state}
 use Rattle.meter_store.specs.Stored as stored
-use Rattle.meter_store.specs.Stored.{HasState, KeepsState}
+use Rattle.meter_store.specs.Stored.{HasState, HoldsState}
 use Rattle.seal_record.specs.declared.seal.Seal.{Seal}
 use Rattle.seal_record.specs.Decoding.{reads, seal_number_of}
-use Rattle.meter_store.specs.Sealing.{FoundSeal, FoundTotals, HasEitherSeal, IsAmid, KeepsSeal, KeepsSealed}
-use Rattle.meter_store.specs.Sealing.{KeepsTotals, LeavesSealing, ShowsSeal, found_number, next_number}
+use Rattle.meter_store.specs.Sealing.{FoundSeal, FoundTotals, HasEitherSeal, IsAmid, HoldsSeal, HoldsSealing}
+use Rattle.meter_store.specs.Sealing.{StillHas, LeavesSealing, ShowsSeal, found_number, next_number}
 
 -- the pair of seals has the found place, or none where it was found blank
 abbrev pub pair_for : Option (Place × ℕ) → Pair
@@ -61,9 +61,9 @@ module _ {D L : Type 0} {N : ℕ} (B : Ghosts D N L) where
   -- what a store of the first totals, and of a seal, leaves of its pair
   pub put_first : (pair : Pair) (durable : Durable) (old new : D) → pair ≡ first_pair → durable ≡ first_state
       → LeavesThroughout B (spare_at pair) 512 (ShowsEither totals.reads stored.state_number_of pair.at None durable)
-      old new → LeavesThroughout B 0 1024 (KeepsTotals None) old new
+      old new → LeavesThroughout B 0 1024 (StillHas None) old new
   put_first pair durable old new p d run =
-      slots.whole_leaves B first_pair (KeepsTotals None) old new (record { at_in = omega arith; slot_in = omega arith })
+      slots.whole_leaves B first_pair (StillHas None) old new (record { at_in = omega arith; slot_in = omega arith })
       (subst
       (λ (x : Durable). LeavesThroughout B 0 512 (ShowsEither totals.reads stored.state_number_of 0 None x) old new) d
       (subst (λ (x : Pair). LeavesThroughout B (spare_at x) 512
@@ -121,7 +121,7 @@ module _ {D L : Type 0} {N : ℕ} (B : Ghosts D N L) where
   )
 
   -- settled totals stand in each image with the same bytes
-  totals_stand : (board : D) (place : Place) (durable : Durable) (left : List ℕ) → KeepsState B place board durable
+  totals_stand : (board : D) (place : Place) (durable : Durable) (left : List ℕ) → HoldsState B place board durable
       → SameBut (OrWithin (B.in_flight board) 1024 1024) (B.image board) left → HasState left durable
   totals_stand board place durable left kept same =
       slots.at_stands totals.reads stored.state_number_of 0 place left durable
@@ -144,7 +144,7 @@ module _ {D L : Type 0} {N : ℕ} (B : Ghosts D N L) where
 
   keeps_beside : (board after : D) (durable : Durable) (new : Seal) (place : Place) → FoundTotals B board (Some durable)
       → WritesIn B 1024 1024 board after
-      → KeepsSeal B place after new → KeepsSealed B (Some durable) new after
+      → HoldsSeal B place after new → HoldsSealing B (Some durable) new after
   keeps_beside board after durable new place found writes kept = record {
     totals = (
       found.0,
@@ -168,18 +168,18 @@ module _ {D L : Type 0} {N : ℕ} (B : Ghosts D N L) where
 
   pub keeps_found : (board after : D) (totals : Option Durable) (durable : Durable) (new : Seal) (place : Place)
       → totals ≡ Some durable → FoundTotals B board totals → WritesIn B 1024 1024 board after
-      → KeepsSeal B place after new → KeepsSealed B totals new after
+      → HoldsSeal B place after new → HoldsSealing B totals new after
   keeps_found board after totals durable new place is found writes kept =
-      subst (λ (t : Option Durable). KeepsSealed B t new after) (sym is) (keeps_beside board after durable new place
+      subst (λ (t : Option Durable). HoldsSealing B t new after) (sym is) (keeps_beside board after durable new place
       (subst (λ (t : Option Durable). FoundTotals B board t) is found) writes kept)
 
   -- the first totals, before the seal
   pub leaves_first : (board after : D) (found : Option (Place × ℕ)) (old : Option Seal) (new : Seal)
       → FoundSeal B board found old → WritesIn B 0 1024 board after
-      → LeavesThroughout B 0 1024 (KeepsTotals None) board after
+      → LeavesThroughout B 0 1024 (StillHas None) board after
       → LeavesSealing B (record { totals = None; old = old; new = new }) board after
   leaves_first board after found old new is writes run =
-      in_part_as B 0 2048 0 1024 (KeepsTotals None) (IsAmid (record { totals = None; old = old; new = new })) board
+      in_part_as B 0 2048 0 1024 (StillHas None) (IsAmid (record { totals = None; old = old; new = new })) board
       after (omega arith) (omega arith) (λ left same kept. record {
         totals = kept;
         seal = inl (shows_found board found old left is (slots.apart_same 1024 0 1024 (B.image board)
@@ -195,7 +195,7 @@ module _ {D L : Type 0} {N : ℕ} (B : Ghosts D N L) where
   -- the seal after them
   pub leaves_both : (board between after : D) (found : Option (Place × ℕ)) (old : Option Seal) (new : Seal)
       (place : Place) → FoundSeal B board found old → WritesIn B 0 1024 board between
-      → LeavesThroughout B 0 1024 (KeepsTotals None) board between → KeepsState B place between first_state
+      → LeavesThroughout B 0 1024 (StillHas None) board between → HoldsState B place between first_state
       → WritesIn B 1024 1024 between after
       → LeavesThroughout B 1024 1024 (HasEitherSeal old new) between after
       → LeavesSealing B (record { totals = None; old = old; new = new }) board after
@@ -210,9 +210,9 @@ module _ {D L : Type 0} {N : ℕ} (B : Ghosts D N L) where
         seal = ⊎_elim (λ shows. inl shows) (λ sealed. inr (record { totals = stands; seal = sealed })) either;
       }) more second)
 
-  pub keeps_both : (between after : D) (new : Seal) (place at : Place) → KeepsState B place between first_state
+  pub keeps_both : (between after : D) (new : Seal) (place at : Place) → HoldsState B place between first_state
       → WritesIn B 1024 1024 between after
-      → KeepsSeal B at after new → KeepsSealed B None new after
+      → HoldsSeal B at after new → HoldsSealing B None new after
   keeps_both between after new place at kept writes sealed =
       let both = keeps_beside between after first_state new at (place, kept) writes sealed in
       record { totals = both.totals; seal_is = both.seal_is }

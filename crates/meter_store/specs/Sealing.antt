@@ -12,7 +12,7 @@ use Rattle.totals_record.specs.declared.durable_state.Durable.{Durable}
 use Rattle.totals_record.specs.Reading as totals
 use Rattle.totals_record.specs.States.{first_state}
 use Rattle.meter_store.specs.Stored as stored
-use Rattle.meter_store.specs.Stored.{HasState, KeepsState}
+use Rattle.meter_store.specs.Stored.{HasState, HoldsState}
 use Rattle.seal_record.specs.declared.seal.Seal.{Seal}
 pub use Rattle.seal_record.specs.Decoding.{reads}
 use Rattle.seal_record.specs.Ranges.{seal_number_of}
@@ -51,9 +51,9 @@ totals_after None = first_state
 totals_after (Some durable) = durable
 
 -- an image keeps totals if it has those that were found, or, if none were found, has none or the first ones
-abbrev pub KeepsTotals : (found : Option Durable) → List ℕ → Type 0
-KeepsTotals None image = IsBlank 0 image ⊎ HasState image first_state
-KeepsTotals (Some durable) image = HasState image durable
+abbrev pub StillHas : (found : Option Durable) → List ℕ → Type 0
+StillHas None image = IsBlank 0 image ⊎ HasState image first_state
+StillHas (Some durable) image = HasState image durable
 
 -- an image is sealed if it has the totals after the sealing and the new seal
 pub record IsSealed (sealing : Sealing) (image : List ℕ) : Type 0 where
@@ -63,7 +63,7 @@ pub record IsSealed (sealing : Sealing) (image : List ℕ) : Type 0 where
 -- an image is amid a sealing if the totals are kept, and the seal is the old one, or none as before, or the new one
 -- beside totals
 pub record IsAmid (sealing : Sealing) (image : List ℕ) : Type 0 where
-  pub totals : KeepsTotals sealing.totals image
+  pub totals : StillHas sealing.totals image
   pub seal : ShowsSeal image sealing.old ⊎ IsSealed sealing image
 
 -- the writes of a sealing begin at the pair of seals if totals were found, and else at the pair of totals
@@ -102,11 +102,11 @@ module _ {D L : Type 0} {N : ℕ} (B : Ghosts D N L) where
   -- nothing in flight
   abbrev pub FoundTotals : D → Option Durable → Type 0
   FoundTotals board None = IsBlank 0 (B.image board) × IsQuiet 0 (B.in_flight board)
-  FoundTotals board (Some durable) = (place : Place) × KeepsState B place board durable
+  FoundTotals board (Some durable) = (place : Place) × HoldsState B place board durable
 
   -- a board keeps a seal at a place if its pair of seals is settled there with that seal
-  abbrev pub KeepsSeal : Place → D → Seal → Type 0
-  KeepsSeal place board seal = IsSettled reads seal_number_of seals_at place (B.image board) (B.in_flight board) seal
+  abbrev pub HoldsSeal : Place → D → Seal → Type 0
+  HoldsSeal place board seal = IsSettled reads seal_number_of seals_at place (B.image board) (B.in_flight board) seal
 
   -- a board has a found seal if its pair of seals is settled with it at the found place, and it has the found
   -- number; or if none was found, the pair is blank with nothing in flight
@@ -114,7 +114,7 @@ module _ {D L : Type 0} {N : ℕ} (B : Ghosts D N L) where
   FoundSeal board None None = IsBlank seals_at (B.image board) × IsQuiet seals_at (B.in_flight board)
   FoundSeal board None (Some seal) = ⊥
   FoundSeal board (Some found) None = ⊥
-  FoundSeal board (Some found) (Some seal) = KeepsSeal found.0 board seal × (seal.seal_number ≡ found.1)
+  FoundSeal board (Some found) (Some seal) = HoldsSeal found.0 board seal × (seal.seal_number ≡ found.1)
 
   -- a scan has found totals on a board if its pair of totals is as the scan found it, with nothing in flight
   abbrev pub ScannedTotals : D → Found Durable → Type 0
@@ -126,9 +126,9 @@ module _ {D L : Type 0} {N : ℕ} (B : Ghosts D N L) where
 
   -- a board keeps what was sealed if both pairs are settled, the totals' with those that were found or the first
   -- ones, and the seals' with the new seal
-  pub record KeepsSealed (found : Option Durable) (seal : Seal) (board : D) : Type 0 where
-    pub totals : (place : Place) × KeepsState B place board (totals_after found)
-    pub seal_is : (place : Place) × KeepsSeal place board seal
+  pub record HoldsSealing (found : Option Durable) (seal : Seal) (board : D) : Type 0 where
+    pub totals : (place : Place) × HoldsState B place board (totals_after found)
+    pub seal_is : (place : Place) × HoldsSeal place board seal
 
   -- a run leaves a sealing if a cut at each of its moments leaves an image amid the sealing, and outside the places
   -- that are written what it might have left at the old board

@@ -28,8 +28,8 @@ place_after place = record { slot = 1 - place.slot; other_open = true }
 
 module _ {D L : Type 0} {N : ℕ} (B : Ghosts D N L) where
   -- a board keeps a state at a place where its pair of totals is settled there with that state
-  abbrev pub KeepsState : Place → D → Durable → Type 0
-  KeepsState place board durable = IsSettled reads state_number_of 0 place (B.image board) (B.in_flight board) durable
+  abbrev pub HoldsState : Place → D → Durable → Type 0
+  HoldsState place board durable = IsSettled reads state_number_of 0 place (B.image board) (B.in_flight board) durable
 
   -- a run over the state at a place leaves either of two states where a cut at each of its moments leaves an image of
   -- the one or the other, and outside the slot that is written what it might have left at the old board

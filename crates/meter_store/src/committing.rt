@@ -5,7 +5,7 @@ ghost use Rattle.slot_store.specs.Sizes.{slot_size};
 ghost use Rattle.slot_store.specs.Writes.{WritesIn};
 ghost use Rattle.totals_record.specs.Ranges.{IsDurable};
 ghost use Rattle.totals_record.specs.States.{after};
-ghost use Rattle.meter_store.specs.Stored.{place_after, written_at, KeepsState, LeavesEither};
+ghost use Rattle.meter_store.specs.Stored.{place_after, written_at, HoldsState, LeavesEither};
 
 use outside::{Board, Failed, STORE_SIZE};
 use slot_store::{Place, Ready};
@@ -42,10 +42,10 @@ pub fn commit<B: Board<STORE_SIZE, L>, L: Ledger>(
 ) -> Result<(Durable, Place), DeviceFailed>
     requires range { IsDurable (after durable.now commit.now) }
     requires slot { place.slot ≤ 1 }
-    requires settled { B.tells_image → KeepsState B.Board place board.old durable.now }
+    requires settled { B.tells_image → HoldsState B.Board place board.old durable.now }
     ensures any_moment { B.tells_image
         → LeavesEither B.Board place durable.now (after durable.now commit.now) board.old board.new }
-    ensures settled { B.tells_image → IfOk result (λ answer. KeepsState B.Board answer.1 board.new answer.0) }
+    ensures settled { B.tells_image → IfOk result (λ answer. HoldsState B.Board answer.1 board.new answer.0) }
     ensures state { IfOk result (λ answer. answer.0 ≡ after durable.now commit.now) }
     ensures place { IfOk result (λ answer. answer.1 ≡ place_after place) }
     ensures slot_in { IfOk result (λ answer. answer.1.slot ≤ 1) }

@@ -5,10 +5,10 @@ ghost use Rattle.outside.specs.Faults.{HasCause};
 ghost use Rattle.slot_store.specs.Sizes.{pair_size};
 ghost use Rattle.slot_store.specs.Writes.{LeavesThroughout, WritesIn};
 ghost use Rattle.totals_record.specs.States.{first_state};
-ghost use Rattle.meter_store.specs.Stored.{KeepsState};
+ghost use Rattle.meter_store.specs.Stored.{HoldsState};
 ghost use Rattle.seal_record.specs.declared.seal.Seal.{Seal};
 ghost use Rattle.seal_record.specs.Ranges.{IsSeal};
-ghost use Rattle.meter_store.specs.Sealing.{FoundSeal, FoundTotals, HasEitherSeal, KeepsSeal, KeepsSealed, KeepsTotals};
+ghost use Rattle.meter_store.specs.Sealing.{FoundSeal, FoundTotals, HasEitherSeal, HoldsSeal, HoldsSealing, StillHas};
 ghost use Rattle.meter_store.specs.Sealing.{LeavesSealing, first_written, found_number, next_number, places_written, seals_at};
 
 use crate::DeviceFailed;
@@ -47,7 +47,7 @@ pub fn place_seal<B: Board<STORE_SIZE, L>, L: Ledger>(
     requires found { B.tells_image → (old : Option Seal) × FoundSeal B.Board board.old found old }
     ensures any_moment { B.tells_image → (old : Option Seal) → FoundSeal B.Board board.old found old
         → LeavesSealing B.Board (record { totals = totals; old = old; new = seal.now }) board.old board.new }
-    ensures sealed { B.tells_image → OnOk result (KeepsSealed B.Board totals seal.now board.new) }
+    ensures sealed { B.tells_image → OnOk result (HoldsSealing B.Board totals seal.now board.new) }
     ensures beside { WritesIn B.Board (first_written totals) (places_written totals) board.old board.new }
     ensures cause { HasCause (B.faults board.old) (B.faults board.new) result }
     ensures steps { steps.new ≤ steps.old + 10 }
@@ -71,8 +71,8 @@ fn put_totals<B: Board<STORE_SIZE, L>, L: Ledger>(
     steps: &mut Steps<L>,
 ) -> Result<Place, DeviceFailed>
     requires { B.tells_image → FoundTotals B.Board board.old None }
-    ensures any_moment { B.tells_image → LeavesThroughout B.Board 0 pair_size (KeepsTotals None) board.old board.new }
-    ensures settled { B.tells_image → IfOk result (λ place. KeepsState B.Board place board.new first_state) }
+    ensures any_moment { B.tells_image → LeavesThroughout B.Board 0 pair_size (StillHas None) board.old board.new }
+    ensures settled { B.tells_image → IfOk result (λ place. HoldsState B.Board place board.new first_state) }
     ensures beside { WritesIn B.Board 0 pair_size board.old board.new }
     ensures cause { HasCause (B.faults board.old) (B.faults board.new) result }
     ensures steps { steps.new ≤ steps.old + 4 }
@@ -94,7 +94,7 @@ fn put_seal<B: Board<STORE_SIZE, L>, L: Ledger>(
     requires found { B.tells_image → (old : Option Seal) × FoundSeal B.Board board.old found old }
     ensures any_moment { B.tells_image → (old : Option Seal) → FoundSeal B.Board board.old found old
         → LeavesThroughout B.Board seals_at pair_size (HasEitherSeal old seal.now) board.old board.new }
-    ensures settled { B.tells_image → IfOk result (λ place. KeepsSeal B.Board place board.new seal.now) }
+    ensures settled { B.tells_image → IfOk result (λ place. HoldsSeal B.Board place board.new seal.now) }
     ensures beside { WritesIn B.Board seals_at pair_size board.old board.new }
     ensures cause { HasCause (B.faults board.old) (B.faults board.new) result }
     ensures steps { steps.new ≤ steps.old + 6 }

@@ -1,4 +1,4 @@
--- For proofs: how rules are read from the front of a text, in the stages of the code. The law
+-- By law: how rules are read from the front of a text, in the stages of the code. The law
 -- texts_say_rules_line_by_line says what the answers mean.
 use Rattle.std.specs.Prelude.{ℕ, ◌+◌, ◌*◌, ◌==◌, nat_lt, if◌then◌else◌, ℤ, pos, neg_ℤ, List, [], ◌∷◌, length, Option}
 use Rattle.std.specs.Prelude.{Some, None, Result, Ok, Err, codes}

@@ -12,8 +12,8 @@ pub record MayHold (image : List ℕ) (in_flight : ℕ → Type 0) (left_image :
 
 module _ {D L : Type 0} {N : ℕ} (B : Ghosts D N L) where
   -- a board is settled if no place is in flight, so that a cut leaves what a read gives
-  abbrev pub IsSettled : D → Type 0
-  IsSettled board = (place : ℕ) → ¬ B.in_flight board place
+  abbrev pub IsAtRest : D → Type 0
+  IsAtRest board = (place : ℕ) → ¬ B.in_flight board place
 
   -- a run leaves only a kind of image and text if whatever a cut at any moment since its beginning might have left
   -- is of that kind, and a cut since an earlier moment might have left beside that only what it might have left before

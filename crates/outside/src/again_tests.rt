@@ -88,6 +88,16 @@ const LATER: &[Case] = &[
         ..FOUND_CASE
     },
     Case {
+        name: "the first of two writes is written again, not the later one alone",
+        folder: &[Change::File(STORE, 7, 2048)],
+        faults: &[Fault::Fails(Call::Sync(STORE))],
+        before: &[Read(7), Write],
+        calls: &[(WriteLast, true), (Sync, false), (Print, false)],
+        again: Again::Bytes(0, 2048),
+        left: &[Sight::Holds(STORE, &[1], 7, 2046, &[9])],
+        ..FOUND_CASE
+    },
+    Case {
         name: "a sync fails behind which nothing was written",
         faults: &[Fault::Fails(Call::Sync(STORE))],
         before: &[Write, Sync],

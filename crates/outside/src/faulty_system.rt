@@ -59,7 +59,7 @@ pub(crate) enum Again {
     /// Bytes of the file were written, from the first place up to the end.
     Bytes(u64, u64),
 
-    /// A name was taken away in the folder.
+    /// A name was taken away in the folder whose sync failed.
     Name,
 
     /// The file was synced once more.
@@ -72,6 +72,9 @@ enum FailedSync {
     Neither,
     OfFile,
     OfFolder,
+
+    /// Of the folder at the end of a link.
+    OfLinkedFolder,
 }
 
 /// The most bytes that may be written at once.
@@ -149,16 +152,12 @@ impl Trial {
     }
 
     /// A sync is asked for. What the call answers is told, and what was done behind one that failed.
-    fn sync(&self, is_folder: bool, answer: io::Result<()>) -> io::Result<()> {
-        if self.failed.get() == FailedSync::OfFile && !is_folder {
+    fn sync(&self, of: FailedSync, answer: io::Result<()>) -> io::Result<()> {
+        if self.failed.get() == FailedSync::OfFile && of == FailedSync::OfFile {
             self.again.set(Again::Synced);
         }
         if answer.is_err() {
-            self.failed.set(if is_folder {
-                FailedSync::OfFolder
-            } else {
-                FailedSync::OfFile
-            });
+            self.failed.set(of);
         }
         answer
     }
@@ -176,9 +175,14 @@ impl Trial {
         });
     }
 
-    /// A name is taken away.
-    fn note_removal(&self) {
-        if self.failed.get() == FailedSync::OfFolder {
+    /// A name is taken away, in one of the two folders.
+    fn note_removal(&self, path: &str) {
+        let folder = if path.ends_with("/kept/taxi.store.new") {
+            FailedSync::OfLinkedFolder
+        } else {
+            FailedSync::OfFolder
+        };
+        if self.failed.get() == folder {
             self.again.set(Again::Name);
         }
     }
@@ -333,7 +337,7 @@ impl<'a> HostSystem for FaultySystem<'a> {
             return Err(disorder());
         }
         self.rt.remove_file(path)?;
-        self.trial.note_removal();
+        self.trial.note_removal(path);
         Ok(())
     }
 
@@ -396,14 +400,19 @@ impl<'a> OpenFile for FaultyFile<'a> {
     fn sync_all(&self) -> io::Result<()> {
         // A sync that fails was asked for too, so that one which is passed over isn't taken for disorder.
         self.is_synced.set(true);
-        let is_folder = self.file.metadata()?.is_dir();
-        if is_folder {
-            self.trial.has_names.set(false);
-        } else {
+        let of = if !self.file.metadata()?.is_dir() {
             self.trial.has_bytes.set(false);
-        }
+            FailedSync::OfFile
+        } else {
+            self.trial.has_names.set(false);
+            if self.name == "kept" {
+                FailedSync::OfLinkedFolder
+            } else {
+                FailedSync::OfFolder
+            }
+        };
         let answer = self.pass(Call::Sync(self.name));
-        self.trial.sync(is_folder, answer)?;
+        self.trial.sync(of, answer)?;
         self.file.sync_all()
     }
 

@@ -5,8 +5,10 @@ ghost use Rattle.taxi_units.specs.declared.receipt.Display.{Display};
 ghost use Rattle.taxi_units.specs.declared.receipt.Receipt.{Receipt};
 ghost use Rattle.receipt_text.specs.Grammar.{IsReceiptText};
 ghost use Rattle.receipt_text.specs.Part.{Part};
+ghost use Rattle.receipt_text.specs.Receipts.{receipt_text};
 ghost use Rattle.receipt_text.specs.Shows.{HasFields, ShowsSame};
 ghost use Rattle.receipt_text.specs.Spelling.{IsSpelled};
+ghost use Rattle.receipt_text.specs.TariffLine.{DifferInTariff};
 ghost use Rattle.receipt_text.specs.Texts.{display_text};
 
 /// A law: the grammar of receipts has exactly the texts that are written of receipts in their ranges.
@@ -42,4 +44,11 @@ pub fn receipts_begin_with_their_word()
 pub fn displays_differ_by_their_fields()
     ensures { (a b : Display) → IsShown a → IsShown b → HasFields a → HasFields b → a.decimals ≡ b.decimals
         → (display_text a ≡ display_text b) ↔ ShowsSame a b }
+{}
+
+/// A law: under two seals that say the same but for the digest, the texts of a receipt differ in their line `TARIFF`
+/// alone: both have one front and one back, and between them this line with the seal's digest.
+pub fn receipts_differ_in_their_tariff_alone()
+    ensures { (receipt : Receipt) (a b : Part) → record a { digest = b.digest } ≡ b
+        → DifferInTariff a.digest b.digest (receipt_text receipt a) (receipt_text receipt b) }
 {}

@@ -11,7 +11,7 @@ use Rattle.outside.specs.Faults.{Rose}
 use Rattle.outside.specs.MemoryBoard.{BoardState, image_of, left_since_of, new_board, text_of}
 use Rattle.outside.specs.MemoryFiles.{FilesState, rest_of}
 use Rattle.outside.specs.Printing.{Begins}
-use Rattle.outside.specs.Runs.{IsSettled as NothingFlies}
+use Rattle.outside.specs.Runs.{IsAtRest as NothingFlies}
 use Rattle.slot_store.proofs.Laws.{one_body}
 use Rattle.totals_record.specs.Reading.{reads}
 use Rattle.meter_store.specs.Stored.{HasState, state_number_of}
@@ -23,7 +23,7 @@ use Rattle.meter_run.specs.Deeds.{Deed, Prints, after_deeds, changes_of, texts}
 use Rattle.meter_run.proofs.Laws.{changes_joined, deeds_follow, the_number_tells_the_commits-beginning}
 use Rattle.call_ends.specs.Call.{IsEnd, MayTake}
 use Rattle.commands.specs.Command.{command_of}
-use Rattle.call_ends.specs.Course.{Course, Answered, ReadFailed, NoMemory, BoardFailed, line_in, status_in, text_in}
+use Rattle.call_ends.specs.Course.{Course, Answered, ReadFailed, NoMemory, BoardFailed, line_in, status_in, call_text}
 use Rattle.run_chains.specs.Link.{IsLeftInside, call_of, deeds_from, text_before}
 use Rattle.run_chains.specs.Chain.{Ran}
 use Rattle.run_chains.specs.ChainSteps.{HasLink}
@@ -275,7 +275,7 @@ module _ {D L : Type 0} {N : ℕ} (B : Ghosts D N L) (files left : FilesState) (
             );
             printed = sym prints
                 ∙ whole_text B.tells_text (Rose (B.faults old) (B.faults new)) (status_in run_command
-                (rest_of files) image run.call.course) (text_in run_command (rest_of files) image run.call.course)
+                (rest_of files) image run.call.course) (call_text run_command (rest_of files) image run.call.course)
                 ended (B.printed old) (B.printed new) run.call.ends told silent not_8;
             moments = λ j x h. left_pair j x (since j x h);
             text_is = refl;

@@ -10,7 +10,7 @@ use Rattle.totals_record.specs.States.{entries_of}
 use Rattle.meter_store.specs.Stored.{HasState}
 use Rattle.totals_record.specs.declared.change.Change.{Change}
 use Rattle.totals_record.specs.declared.durable_state.Durable.{Durable}
-use Rattle.meter_states.specs.declared.act.Act.TheVariants.{Receipt}
+use Rattle.meter_model.specs.declared.act.Act.TheVariants.{Receipt}
 use Rattle.meter_run.specs.Deeds.{Deed, Does, Prints, changes_of, texts}
 use Rattle.meter_run.specs.Points.{HasEntryOf, IsNumberedWithin}
 use Rattle.meter_run.proofs.Laws.{begins_in, changes_joined, receipts_are_numbered_in_order-cut}

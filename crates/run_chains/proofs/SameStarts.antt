@@ -25,9 +25,9 @@ use Rattle.tariff_check.proofs.Laws.{sound_tariffs_have_sound_parts-none}
 use Rattle.tariff_syntax.specs.Parsed.{tree_parsed}
 use Rattle.tariff_syntax.specs.Tree.{Tree}
 use Rattle.tariff_syntax.proofs.Laws.{texts_are_parsed_as_they_read-tariff, texts_have_their_numbers}
-use Rattle.meter_states.specs.Run.{whole_run}
-use Rattle.meter_states.specs.Setting.{Setting}
-use Rattle.meter_states.specs.declared.act.Act.{Act}
+use Rattle.meter_model.specs.Run.{whole_run}
+use Rattle.meter_model.specs.Setting.{Setting}
+use Rattle.meter_model.specs.declared.act.Act.{Act}
 use Rattle.meter_run.specs.Deeds.{after_deeds}
 use Rattle.meter_run.specs.RunLaws.{after_deeds_of, after_is}
 use Rattle.same_tariffs.specs.Alike.{AreHoldsAlike, AreOutcomesAlike, AreStoresAlike}

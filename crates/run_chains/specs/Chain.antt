@@ -9,7 +9,7 @@ use Rattle.taxi_units.specs.declared.receipt.Receipt as receipts
 use Rattle.meter_store.specs.Stored.{HasState}
 use Rattle.totals_record.specs.declared.change.Change.{Change}
 use Rattle.totals_record.specs.declared.durable_state.Durable.{Durable}
-use Rattle.meter_states.specs.declared.act.Act.TheVariants.{Receipt}
+use Rattle.meter_model.specs.declared.act.Act.TheVariants.{Receipt}
 use Rattle.meter_run.specs.Deeds.{Deed, Does, texts}
 use Rattle.run_chains.specs.Link.{IsLink, Link, begun_with, deeds_done, prefix_of}
 use Rattle.drive_commands.specs.Run.{Start}

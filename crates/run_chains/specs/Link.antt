@@ -13,7 +13,7 @@ use Rattle.totals_record.specs.declared.change.Change.{Change}
 use Rattle.totals_record.specs.declared.durable_state.Durable.{Durable}
 use Rattle.meter_run.specs.Deeds.{Deed, changes_of}
 use Rattle.call_ends.specs.Call.{LeavesUnread, MayTake}
-use Rattle.call_ends.specs.Course.{Course, line_in, status_in, text_in}
+use Rattle.call_ends.specs.Course.{Course, line_in, status_in, call_text}
 use Rattle.store_commands.specs.Opening.{opening_of}
 use Rattle.drive_commands.specs.Run.{IsOfTotals, IsCutOfRun, Start, bytes_in, deeds_in, run_command, start_of}
 use Rattle.call_ends.specs.declared.ending.Ended.{Ended}
@@ -109,7 +109,7 @@ pub record IsLink (durable : Durable) (image : List ℕ) (link : Link) : Type 0 
   pub whole : link.cut ≡ None → link.number ≡ durable.number + length (commits_done image link)
   pub none : (fill : Fill) → link.cut ≡ Some (0, fill) → (link.image ≡ image) × (link.number ≡ durable.number)
   -- the board has printed the text of the run, and at each of its moments a cut leaves a point of the run
-  pub printed : text_of link.board ≡ text_in run_command (rest_of link.files) image link.course
+  pub printed : text_of link.board ≡ call_text run_command (rest_of link.files) image link.course
   pub moments : (left_image left_text : List ℕ) → left_since_of link.board 0 left_image left_text
       → IsCutOfLink image link left_image left_text
   -- the next image and what had been printed are those of the board: in the end, or inside the call of the cut

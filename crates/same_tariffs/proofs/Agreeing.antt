@@ -3,10 +3,10 @@ use Rattle.std.proofs.Common.{◌≡◌, ℕ, ◌<◌, ◌≤◌}
 use Rattle.taxi_units.specs.Time.{last_tick}
 use Rattle.tariff_check.specs.Amounts.{fees_in_force}
 use Rattle.tariff_check.specs.SoundTariff.{supplement_numbered}
-use Rattle.meter_states.specs.Charge.{charge_at}
-use Rattle.meter_states.specs.Interval.{context_now, context_of, ticks_so_far}
-use Rattle.meter_states.specs.Meter.{Meter}
-use Rattle.meter_states.specs.Setting.{Setting, unit_of}
+use Rattle.meter_model.specs.Charge.{charge_at}
+use Rattle.meter_model.specs.Interval.{context_now, context_of, ticks_so_far}
+use Rattle.meter_model.specs.Meter.{Meter}
+use Rattle.meter_model.specs.Setting.{Setting, unit_of}
 use Rattle.same_tariffs.specs.Alike.{IsSameMoney}
 use Rattle.same_tariffs.specs.Reached.{AreSet, IsPlaced}
 

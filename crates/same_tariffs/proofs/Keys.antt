@@ -12,15 +12,15 @@ use Rattle.tariff_check.specs.Amounts.{fees_in_force}
 use Rattle.tariff_check.specs.SoundTariff.{supplement_numbered}
 use Rattle.tariff_check.specs.declared.values.Supplement.{Supplement}
 use Rattle.tariff_syntax.specs.Writable.{IsFromTo}
-use Rattle.meter_states.specs.Interval.{context_now, ticks_so_far}
-use Rattle.meter_states.specs.Keys.{act_done, act_of, extra_added, extra_added_to, hired, hiring, is_among}
-use Rattle.meter_states.specs.Keys.{latch_pressed, position_set, zone_set}
-use Rattle.meter_states.specs.Meter.{Meter, quiet, refused}
-use Rattle.meter_states.specs.Setting.{Setting, local_at}
-use Rattle.meter_states.specs.Supplements.{times}
-use Rattle.meter_states.specs.Trip.{MeterTrip, begun, with_extra}
-use Rattle.meter_states.specs.declared.keys.KeyAct.{KeyAct}
-use Rattle.meter_states.specs.declared.keys.KeyAct.TheVariants as key_acts
+use Rattle.meter_model.specs.Interval.{context_now, ticks_so_far}
+use Rattle.meter_model.specs.Keys.{act_done, act_of, extra_added, extra_added_to, hired, hiring, is_among}
+use Rattle.meter_model.specs.Keys.{latch_pressed, position_set, zone_set}
+use Rattle.meter_model.specs.Meter.{Meter, quiet, refused}
+use Rattle.meter_model.specs.Setting.{Setting, local_at}
+use Rattle.meter_model.specs.Supplements.{times}
+use Rattle.meter_model.specs.Trip.{MeterTrip, begun, with_extra}
+use Rattle.meter_model.specs.declared.key_act.KeyAct.{KeyAct}
+use Rattle.meter_model.specs.declared.key_act.KeyAct.TheVariants as key_acts
 use Rattle.same_tariffs.specs.Alike.{AreTripsAlike, AreTripsOfBothAlike, with_trips}
 use Rattle.same_tariffs.proofs.Standing.{ComeAlike, IsBeside, closed-alike, context-same, either-alike, having}
 use Rattle.same_tariffs.proofs.Standing.{placed_at, quiet-alike, refused-alike}

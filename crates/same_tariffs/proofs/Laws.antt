@@ -5,9 +5,9 @@ use Rattle.drive_modes.specs.declared.meterage.Rounding.{Rounding}
 use Rattle.drive_modes.specs.declared.charges.Mode.{Mode}
 use Rattle.drive_text.specs.Ending.{events_of}
 use Rattle.meter_states.specs.Lawful.{IsTimely}
-use Rattle.meter_states.specs.Meter.{Meter}
-use Rattle.meter_states.specs.Run.{opened, run, whole_run}
-use Rattle.meter_states.specs.Setting.{Setting}
+use Rattle.meter_model.specs.Meter.{Meter}
+use Rattle.meter_model.specs.Run.{opened, run, whole_run}
+use Rattle.meter_model.specs.Setting.{Setting}
 use Rattle.tariff_check.specs.Faults.{IsSound}
 use Rattle.tariff_compare.specs.Contexts.{IsMeterContext}
 use Rattle.tariff_compare.specs.declared.meter_context.MeterContext.{MeterContext}

@@ -26,3 +26,5 @@ mod Standing
 mod Timely
 -- what two meters make of trips that are alike
 mod Trips
+-- the events that lead to a context are those of a drive, whose lines are within the limit
+mod WayTexts

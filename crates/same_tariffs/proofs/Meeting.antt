@@ -23,10 +23,10 @@ use Rattle.tariff_check.specs.Amounts.{fees_in_force, initial_by}
 use Rattle.tariff_syntax.specs.Meaning.{at_hiring, rate_place}
 use Rattle.tariff_syntax.specs.Tree.{Tree}
 use Rattle.tariff_syntax.specs.Writable.{IsFromTo}
-use Rattle.meter_states.specs.Charge.{charge_at, charge_by}
-use Rattle.meter_states.specs.Interval.{context_now, context_of, context_on, ticks_so_far}
-use Rattle.meter_states.specs.Meter.{Meter}
-use Rattle.meter_states.specs.Setting.{Setting, local_at, unit_of}
+use Rattle.meter_model.specs.Charge.{charge_at, charge_by}
+use Rattle.meter_model.specs.Interval.{context_now, context_of, context_on, ticks_so_far}
+use Rattle.meter_model.specs.Meter.{Meter}
+use Rattle.meter_model.specs.Setting.{Setting, local_at, unit_of}
 use Rattle.same_tariffs.specs.Alike.{IsSameMoney}
 use Rattle.same_tariffs.specs.Contexts.{IsChargedIn, IsHiredIn, IsSettingInRange, meter_context_at, without_trip}
 use Rattle.same_tariffs.specs.Reached.{AreSet, IsPlaced}

@@ -20,7 +20,7 @@ use Rattle.tariff_compare.specs.Same.{cost_same}
 use Rattle.tariff_syntax.specs.Tree.{Tree}
 use Rattle.tariff_syntax.specs.Writable.{IsWritable}
 use Rattle.tariff_syntax.specs.declared.context.Context.{Context}
-use Rattle.meter_states.specs.Charge.{charge_by, distance_charge, time_charge}
+use Rattle.meter_model.specs.Charge.{charge_by, distance_charge, time_charge}
 use Rattle.same_tariffs.specs.Alike.{IsSameMoney}
 use Rattle.same_tariffs.proofs.Money.{sum-same, test-same}
 

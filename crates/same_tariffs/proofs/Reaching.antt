@@ -1,15 +1,15 @@
 -- A drive that comes to an interval in a context of a meter.
 use Rattle.std.proofs.Common.{◌≡◌, ℕ, zero, suc, ◌+◌, ◌*◌, ◌/◌, ◌%◌, ◌<◌, ◌≤◌, min, Bool, true, false, ◌&&◌, nat_le}
-use Rattle.std.proofs.Common.{nat_lt, ℤ, pos, ◌+ℤ◌, unsigned_abs, All, List, [], ◌∷◌, ◌++◌, replicate, sum, Option}
-use Rattle.std.proofs.Common.{Some, None, if◌then◌else◌, refl, ap, sym, ◌∙◌, arith}
+use Rattle.std.proofs.Common.{nat_lt, ℤ, pos, ◌+ℤ◌, unsigned_abs, List, [], ◌∷◌, ◌++◌, replicate, sum, Option, Some}
+use Rattle.std.proofs.Common.{None, if◌then◌else◌, refl, ap, sym, subst, ◌∙◌, arith}
 use Rattle.std.proofs.Math.Nat.{div-add-mod}
 use Rattle.std.proofs.lemmas.Grind.{common_steps}
-use Rattle.std.proofs.lemmas.List.Elements.{All-append, All-cons, All-nil}
-use Rattle.drive_text.specs.Ranges.{IsInRange}
+use Rattle.drive_text.proofs.Laws.{written_drive_ends, written_drive_means}
+use Rattle.drive_text.specs.Written.{drive_of}
 use Rattle.drive_modes.specs.declared.charges.Mode.{Mode}
 use Rattle.interval_clock.specs.Calendar.{date_after, date_place, weekday_of}
 use Rattle.interval_clock.specs.LocalTime.{day_of, local_second, minute_of_day}
-use Rattle.taxi_units.specs.Time.{IsSecond, first_second, last_tick, longest_trip}
+use Rattle.taxi_units.specs.Time.{first_second, last_tick, longest_trip}
 use Rattle.taxi_units.specs.declared.event.Event.{Event}
 use Rattle.taxi_units.specs.declared.event.Event.TheVariants.{Up, Down, Pulses, Tick}
 use Rattle.taxi_units.specs.declared.event.Event.TheVariants as events
@@ -34,21 +34,22 @@ use Rattle.tariff_check.specs.declared.values.Initial.{Initial}
 use Rattle.tariff_syntax.specs.Tree.{Tree}
 use Rattle.tariff_syntax.specs.Writable.{IsFromTo, IsWritable}
 use Rattle.tariff_syntax.specs.declared.context.Context.{Context}
-use Rattle.meter_states.specs.Closing.{closed, roaming_checked}
-use Rattle.meter_states.specs.Display.{display_of, shown}
-use Rattle.meter_states.specs.Interval.{context_now, context_of, interval_begun}
-use Rattle.meter_states.specs.Keys.{is_among, key_pressed}
-use Rattle.meter_states.specs.Meter.{Meter, Outcome, ◌>>=◌, held, quiet, refused}
-use Rattle.meter_states.specs.Run.{opened, run}
-use Rattle.meter_states.specs.Setting.{Setting, under_offset, unit_of}
-use Rattle.meter_states.specs.Step.{expired, step}
-use Rattle.meter_states.specs.Supply.{aborted, hold_taken, is_within_hold, powered, resumed, turned_off}
-use Rattle.meter_states.specs.Trip.{InHired, Part, Rest, MeterTrip, begun, held_trip, pulses_in, pulses_of, ticks_in}
-use Rattle.meter_states.specs.Trip.{fees_of, ticks_of, with_part}
+use Rattle.meter_model.specs.Closing.{closed, roaming_checked}
+use Rattle.meter_model.specs.Display.{display_of, shown}
+use Rattle.meter_model.specs.Interval.{context_now, context_of, interval_begun}
+use Rattle.meter_model.specs.Keys.{is_among, key_pressed}
+use Rattle.meter_model.specs.Meter.{Meter, Outcome, ◌>>=◌, held, quiet, refused}
+use Rattle.meter_model.specs.Run.{opened, run}
+use Rattle.meter_model.specs.Setting.{Setting, under_offset, unit_of}
+use Rattle.meter_model.specs.Step.{expired, step}
+use Rattle.meter_model.specs.Supply.{aborted, hold_taken, is_within_hold, powered, resumed, turned_off}
+use Rattle.meter_model.specs.Trip.{InHired, Part, Rest, MeterTrip, begun, held_trip, pulses_in, pulses_of, ticks_in}
+use Rattle.meter_model.specs.Trip.{fees_of, ticks_of, with_part}
 use Rattle.meter_states.proofs.Laws.{runs_add_up}
 use Rattle.same_tariffs.specs.Contexts.{without_trip}
 use Rattle.same_tariffs.specs.Drives.{BeginsIn, IsReached, WasHiredIn, drop, drops, events_to, hire, meter_after}
 use Rattle.same_tariffs.proofs.Trips.{sum-more}
+use Rattle.same_tariffs.proofs.WayTexts.{events-in, way-short}
 use Rattle.taxi_units.specs.Limits.{last_number}
 
 -- a meter with a trip at the beginning of an interval
@@ -415,52 +416,7 @@ module _ (t : Tree) (k : ℕ) (mode : Mode) (hold : ℕ) (c : MeterContext) (is 
       c.pulses c.ticks number (meter_after here (events_to is.time.second c))
   there = events-at here is.time.second c is.position is.zone is.ticks is.pulses
 
--- ---- and its events are ones that a drive can have
-
-all-append : (xs ys : List Event) → All IsInRange xs → All IsInRange ys → All IsInRange (xs ++ ys)
-all-append xs ys one other = All-append IsInRange xs ys one other
-
-three-in : (second p : ℕ) → IsSecond second → 1 ≤ p → p ≤ 2000 → All IsInRange (Pulses p ∷ Down ∷ Up second ∷ [])
-three-in second p is some few =
-    All-cons IsInRange (Pulses p) (Down ∷ Up second ∷ []) (some, omega (arith, few))
-    (All-cons IsInRange Down (Up second ∷ []) tt (All-cons IsInRange (Up second) [] is (All-nil IsInRange)))
-
-drops-in : (second many : ℕ) → IsSecond second → All IsInRange (drops second many)
-drops-in second zero is = All-nil IsInRange
-drops-in second (suc many) is = all-append (Pulses 2000 ∷ Down ∷ Up second ∷ []) (drops second many)
-    (three-in second 2000 is (omega arith) (omega arith)) (drops-in second many is)
-
-drop-in : (second p : ℕ) → IsSecond second → p ≤ 2000 → All IsInRange (drop second p)
-drop-in second zero is few = All-nil IsInRange
-drop-in second (suc p) is few = three-in second (suc p) is (omega arith) few
-
-ticks-in : (many : ℕ) → All IsInRange (replicate many Tick)
-ticks-in zero = All-nil IsInRange
-ticks-in (suc many) = All-cons IsInRange Tick (replicate many Tick) tt (ticks-in many)
-
-hire-in : (second position zone : ℕ) → IsSecond second → position ≤ 99 → zone ≤ 99
-    → All IsInRange (hire second position zone)
-hire-in second position zone is one other =
-    let last = All-cons IsInRange (events.Key Hire) (Tick ∷ []) tt
-    (All-cons IsInRange Tick [] tt (All-nil IsInRange)) in
-    let set = All-cons IsInRange (events.Key (Zone zone)) (Tick ∷ events.Key Hire ∷ Tick ∷ []) other
-    (All-cons IsInRange Tick (events.Key Hire ∷ Tick ∷ []) tt last) in
-    let first = All-cons IsInRange (events.Key (Position position)) (Tick ∷ events.Key (Zone zone) ∷ Tick ∷ events.Key
-    Hire ∷ Tick ∷ []) one
-    (All-cons IsInRange Tick (events.Key (Zone zone) ∷ Tick ∷ events.Key Hire ∷ Tick ∷ []) tt set) in
-    All-cons IsInRange (Up second) (events.Key (Position position) ∷ Tick ∷ events.Key (Zone zone) ∷ Tick ∷ events.Key
-    Hire ∷ Tick ∷ []) is first
-
-events-in : (second : ℕ) (c : MeterContext) → IsSecond second → c.position ≤ 99 → c.zone ≤ 99
-    → All IsInRange (events_to second c)
-events-in second c is one other =
-    all-append (hire second c.position c.zone)
-    (drops second (c.pulses / 2000) ++ (drop second (c.pulses % 2000) ++ replicate c.ticks Tick))
-    (hire-in second c.position c.zone is one other)
-    (all-append (drops second (c.pulses / 2000)) (drop second (c.pulses % 2000) ++ replicate c.ticks Tick)
-    (drops-in second (c.pulses / 2000) is)
-    (all-append (drop second (c.pulses % 2000)) (replicate c.ticks Tick)
-    (drop-in second (c.pulses % 2000) is (omega arith)) (ticks-in c.ticks)))
+-- ---- and its events are those of a drive
 
 pub each-reached : (t : Tree) (k : ℕ) (mode : Mode) (hold : ℕ) (c : MeterContext) → IsWritable t → IsSound t
     → IsMeterContext t c → IsReached t k mode hold c
@@ -468,12 +424,19 @@ each-reached t k mode hold c writable sound is =
     let parts = sound_tariffs_have_sound_parts-parts t writable sound in
     let s = under_offset t k mode hold is.time.offset in
     let at = there t k mode hold c is in
+    let events = events_to is.time.second c in
+    let range = events-in is.time.second c is.time.second_in (omega (arith, is.position.1, parts.positions.1))
+    (omega (arith, is.zone.1, parts.zones.1)) in
+    let few = way-short is.time.second c range is.ticks is.pulses in
+    let means = sym (written_drive_means events range few) in
     record {
       offset = is.time.offset;
-      events = events_to is.time.second c;
+      drive = drive_of events;
       offset_in = is.time.offset_in;
-      events_in = events-in is.time.second c is.time.second_in (omega (arith, is.position.1, parts.positions.1))
-          (omega (arith, is.zone.1, parts.zones.1));
-      begins = begins-there t k mode hold c is at.0 (meter_after s (events_to is.time.second c)) at.1;
-      hired = hired-there t k mode hold c is at.0 (meter_after s (events_to is.time.second c)) at.1;
+      lines = ap drive_of means;
+      ends = written_drive_ends events range few;
+      begins = subst (λ (es : List Event). BeginsIn t s c (meter_after s es)) means
+          (begins-there t k mode hold c is at.0 (meter_after s events) at.1);
+      hired = subst (λ (es : List Event). WasHiredIn t s (without_trip c) (meter_after s es)) means
+          (hired-there t k mode hold c is at.0 (meter_after s events) at.1);
     }

@@ -7,13 +7,13 @@ use Rattle.taxi_units.specs.declared.event.Operating.{Operating}
 use Rattle.taxi_units.specs.declared.event.Operating.TheVariants.{Off}
 use Rattle.totals_record.specs.declared.durable_state.Durable.{Durable}
 use Rattle.totals_record.specs.declared.trip.Trip.{Trip}
-use Rattle.meter_states.specs.Interval.{ticks_so_far}
+use Rattle.meter_model.specs.Interval.{ticks_so_far}
 use Rattle.meter_states.specs.Lawful.{IsTimely}
-use Rattle.meter_states.specs.Meter.{Meter}
-use Rattle.meter_states.specs.Run.{ended, ended_in, opened, run, whole_run}
-use Rattle.meter_states.specs.Setting.{Setting}
-use Rattle.meter_states.specs.Step.{step}
-use Rattle.meter_states.specs.Trip.{MeterTrip, trip_of}
+use Rattle.meter_model.specs.Meter.{Meter}
+use Rattle.meter_model.specs.Run.{ended, ended_in, opened, run, whole_run}
+use Rattle.meter_model.specs.Setting.{Setting}
+use Rattle.meter_model.specs.Step.{step}
+use Rattle.meter_model.specs.Trip.{MeterTrip, trip_of}
 use Rattle.same_tariffs.specs.Alike.{AreHoldsAlike, AreStoresAlike, with_trips}
 use Rattle.same_tariffs.specs.Reached.{HoldGoesOn, IsWithinReach}
 use Rattle.same_tariffs.proofs.Agreeing.{Agree}

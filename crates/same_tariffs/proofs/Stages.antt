@@ -16,22 +16,22 @@ use Rattle.taxi_units.specs.declared.receipt.Display.{Display}
 use Rattle.taxi_units.specs.declared.receipt.Kind.TheVariants as kinds
 use Rattle.totals_record.specs.declared.trip.Trip.{Trip}
 use Rattle.tariff_syntax.specs.declared.context.Context.{Context}
-use Rattle.meter_states.specs.Charge.{charge_at}
-use Rattle.meter_states.specs.Closing.{roaming_checked, roaming_checked_in, roaming_entered, roaming_entry}
-use Rattle.meter_states.specs.Display.{display_of, is_shown, shown}
-use Rattle.meter_states.specs.Interval.{context_of, counted_in, interval_begun, interval_counted, interval_left}
-use Rattle.meter_states.specs.Interval.{left_in, room_of, ticks_so_far}
-use Rattle.meter_states.specs.Keys.{key_pressed, latched}
+use Rattle.meter_model.specs.Charge.{charge_at}
+use Rattle.meter_model.specs.Closing.{roaming_checked, roaming_checked_in, roaming_entered, roaming_entry}
+use Rattle.meter_model.specs.Display.{display_of, is_shown, shown}
+use Rattle.meter_model.specs.Interval.{context_of, counted_in, interval_begun, interval_counted, interval_left, left_in}
+use Rattle.meter_model.specs.Interval.{room_of, ticks_so_far}
+use Rattle.meter_model.specs.Keys.{key_pressed, latched}
 use Rattle.meter_states.specs.Lawful.{IsTimely}
-use Rattle.meter_states.specs.Meter.{Meter, Outcome, quiet}
-use Rattle.meter_states.specs.Setting.{Setting, local_at, unit_of}
-use Rattle.meter_states.specs.Step.{clock_read, clock_read_in_trip, expired, expired_or_pressed, latch_refused}
-use Rattle.meter_states.specs.Step.{off_step, powered_step, step, step_in, ticked}
-use Rattle.meter_states.specs.Supply.{aborted, hold_taken, is_stopped, is_within_hold, held_or_closed, powered, resumed}
-use Rattle.meter_states.specs.Supply.{running, supply_came, supply_dropped, turned_off}
-use Rattle.meter_states.specs.Trip.{InHired, InStopped, Part, Rest, MeterTrip, charge_in, held_trip, pulses_in}
-use Rattle.meter_states.specs.Trip.{ticks_in, with_part}
-use Rattle.meter_states.specs.declared.act.Act.TheVariants.{Show, Refuse}
+use Rattle.meter_model.specs.Meter.{Meter, Outcome, quiet}
+use Rattle.meter_model.specs.Setting.{Setting, local_at, unit_of}
+use Rattle.meter_model.specs.Step.{clock_read, clock_read_in_trip, expired, expired_or_pressed, latch_refused, off_step}
+use Rattle.meter_model.specs.Step.{powered_step, step, step_in, ticked}
+use Rattle.meter_model.specs.Supply.{aborted, hold_taken, is_stopped, is_within_hold, held_or_closed, powered, resumed}
+use Rattle.meter_model.specs.Supply.{running, supply_came, supply_dropped, turned_off}
+use Rattle.meter_model.specs.Trip.{InHired, InStopped, Part, Rest, MeterTrip, charge_in, held_trip, pulses_in, ticks_in}
+use Rattle.meter_model.specs.Trip.{with_part}
+use Rattle.meter_model.specs.declared.act.Act.TheVariants.{Show, Refuse}
 use Rattle.same_tariffs.specs.Alike.{AreActsAlike, AreHoldsAlike, AreTripsOfBothAlike, IsSameMoney, with_trips}
 use Rattle.same_tariffs.specs.Reached.{GoesOn, HoldGoesOn}
 use Rattle.same_tariffs.proofs.Keys.{press-alike}

@@ -9,13 +9,13 @@ use Rattle.taxi_units.specs.declared.receipt.Receipt as receipts
 use Rattle.totals_record.specs.Entries.{closes}
 use Rattle.totals_record.specs.declared.entry.Entry.{Entry}
 use Rattle.totals_record.specs.declared.trip.Trip.{Trip}
-use Rattle.meter_states.specs.Closing.{closed, entry_of, receipt_of, trip_closed}
-use Rattle.meter_states.specs.Interval.{context_on, ticks_so_far}
-use Rattle.meter_states.specs.Meter.{Meter, Outcome, entered, held, printed, quiet, refused}
-use Rattle.meter_states.specs.Setting.{Setting}
-use Rattle.meter_states.specs.Trip.{MeterTrip}
-use Rattle.meter_states.specs.declared.act.Act.{Act}
-use Rattle.meter_states.specs.declared.act.Act.TheVariants.{Receipt}
+use Rattle.meter_model.specs.Closing.{closed, entry_of, receipt_of, trip_closed}
+use Rattle.meter_model.specs.Interval.{context_on, ticks_so_far}
+use Rattle.meter_model.specs.Meter.{Meter, Outcome, entered, held, printed, quiet, refused}
+use Rattle.meter_model.specs.Setting.{Setting}
+use Rattle.meter_model.specs.Trip.{MeterTrip}
+use Rattle.meter_model.specs.declared.act.Act.{Act}
+use Rattle.meter_model.specs.declared.act.Act.TheVariants.{Receipt}
 use Rattle.same_tariffs.specs.Alike.{AreActsAlike, AreHeldAlike, AreHoldsAlike, AreTripsOfBothAlike, with_trips}
 use Rattle.same_tariffs.specs.Reached.{GoesOn, HoldGoesOn, IsPlace}
 use Rattle.same_tariffs.proofs.Agreeing.{Agree}

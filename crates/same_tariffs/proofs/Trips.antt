@@ -10,17 +10,16 @@ use Rattle.totals_record.specs.declared.trip.Trip.{Trip}
 use Rattle.drive_modes.specs.Distance.{millimetres_of}
 use Rattle.tariff_check.specs.SoundTariff.{supplement_numbered}
 use Rattle.tariff_check.specs.declared.values.Initial.{Initial}
-use Rattle.meter_states.specs.Closing.{entry_of, receipt_of}
-use Rattle.meter_states.specs.Display.{display_of, extras_shown, fare_shown}
-use Rattle.meter_states.specs.Interval.{pulses_so_far, ticks_so_far}
-use Rattle.meter_states.specs.Meter.{Meter}
-use Rattle.meter_states.specs.Setting.{Setting, modulus_of, rounding_of, stamp_at, unit_of}
-use Rattle.meter_states.specs.Supplements.{amount_in, amounts_of}
-use Rattle.meter_states.specs.Trip as model
-use Rattle.meter_states.specs.Trip.{Part, MeterTrip, begun, charge_in, charges_of, core_trip_of, fare_by_fees, fare_of}
-use Rattle.meter_states.specs.Trip.{held_trip, pulses_in, pulses_of, saved_at, steps_shown, ticks_in, trip_of}
-use Rattle.meter_states.specs.Trip.{with_part}
-use Rattle.meter_states.specs.declared.trip.CoreTrip.{CoreTrip}
+use Rattle.meter_model.specs.Closing.{entry_of, receipt_of}
+use Rattle.meter_model.specs.Display.{display_of, extras_shown, fare_shown}
+use Rattle.meter_model.specs.Interval.{pulses_so_far, ticks_so_far}
+use Rattle.meter_model.specs.Meter.{Meter}
+use Rattle.meter_model.specs.Setting.{Setting, modulus_of, rounding_of, stamp_at, unit_of}
+use Rattle.meter_model.specs.Supplements.{amount_in, amounts_of}
+use Rattle.meter_model.specs.Trip as model
+use Rattle.meter_model.specs.Trip.{Part, MeterTrip, begun, charge_in, charges_of, core_trip_of, fare_by_fees, fare_of}
+use Rattle.meter_model.specs.Trip.{held_trip, pulses_in, pulses_of, saved_at, steps_shown, ticks_in, trip_of, with_part}
+use Rattle.meter_model.specs.declared.core_trip.CoreTrip.{CoreTrip}
 use Rattle.same_tariffs.specs.Alike.{AreHeldAlike, AreHoldsAlike, AreMeteragesAlike, AreOpeningsAlike, AreTripsAlike}
 use Rattle.same_tariffs.specs.Alike.{AreTripsOfBothAlike, IsSameMoney, with_trips}
 use Rattle.same_tariffs.proofs.Agreeing.{Agree}

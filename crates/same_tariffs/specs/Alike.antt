@@ -4,11 +4,11 @@ use Rattle.drive_modes.specs.Fare.{Opening}
 use Rattle.drive_modes.specs.declared.meterage.Meterage.{Meterage}
 use Rattle.totals_record.specs.declared.durable_state.Durable.{Durable}
 use Rattle.totals_record.specs.declared.trip.Trip.{Trip}
-use Rattle.meter_states.specs.Meter.{Meter, Outcome}
-use Rattle.meter_states.specs.Setting.{Setting, unit_of}
-use Rattle.meter_states.specs.Trip.{MeterTrip, charges_of, pulses_of, ticks_of}
-use Rattle.meter_states.specs.declared.act.Act.{Act}
-use Rattle.meter_states.specs.declared.act.Act.TheVariants.{Hold}
+use Rattle.meter_model.specs.Meter.{Meter, Outcome}
+use Rattle.meter_model.specs.Setting.{Setting, unit_of}
+use Rattle.meter_model.specs.Trip.{MeterTrip, charges_of, pulses_of, ticks_of}
+use Rattle.meter_model.specs.declared.act.Act.{Act}
+use Rattle.meter_model.specs.declared.act.Act.TheVariants.{Hold}
 
 -- `a` units of charge, of which `u` make the smallest unit of money, are the same money as `b`, of which `v` make it,
 -- if `a` and `b` stand to each other as `u` and `v`

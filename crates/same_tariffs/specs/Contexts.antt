@@ -11,9 +11,9 @@ use Rattle.tariff_check.specs.SoundTariff.{sound_of}
 use Rattle.tariff_syntax.specs.Meaning.{rate_place}
 use Rattle.tariff_syntax.specs.Tree.{Tree}
 use Rattle.tariff_syntax.specs.Writable.{IsFromTo, IsWritable}
-use Rattle.meter_states.specs.Interval.{context_now, context_of, pulses_so_far, ticks_so_far}
-use Rattle.meter_states.specs.Meter.{Meter}
-use Rattle.meter_states.specs.Setting.{Setting}
+use Rattle.meter_model.specs.Interval.{context_now, context_of, pulses_so_far, ticks_so_far}
+use Rattle.meter_model.specs.Meter.{Meter}
+use Rattle.meter_model.specs.Setting.{Setting}
 
 -- a setting of a tariff is in range if it has the tariff's parts, the tariff is a sound one that a text can have, the
 -- constant is 500 to 200,000, and the offsets are a list of offsets

@@ -1,6 +1,7 @@
--- Rules: a list of events that leads to a context of a meter.
-use Rattle.std.specs.Prelude.{◌≡◌, ℕ, zero, suc, ◌*◌, ◌/◌, ◌%◌, All, List, [], ◌∷◌, ◌++◌, replicate, Some, ℤ}
-use Rattle.drive_text.specs.Ranges.{IsInRange}
+-- Rules: a drive that leads to a context of a meter.
+use Rattle.std.specs.Prelude.{◌≡◌, ℕ, zero, suc, ◌*◌, ◌/◌, ◌%◌, List, [], ◌∷◌, ◌++◌, replicate, Some, ℤ}
+use Rattle.drive_text.specs.Ending.{Whole, drive_end, events_of}
+use Rattle.drive_text.specs.Written.{drive_of}
 use Rattle.interval_clock.specs.Offsets.{IsOffset}
 use Rattle.drive_modes.specs.declared.charges.Mode.{Mode}
 use Rattle.taxi_units.specs.declared.event.Event.{Event}
@@ -12,11 +13,11 @@ use Rattle.tariff_compare.specs.Contexts.{context_at}
 use Rattle.tariff_compare.specs.declared.meter_context.MeterContext.{MeterContext}
 use Rattle.tariff_check.specs.Amounts.{initial_by}
 use Rattle.tariff_syntax.specs.Tree.{Tree}
-use Rattle.meter_states.specs.Interval.{context_of}
-use Rattle.meter_states.specs.Meter.{Meter}
-use Rattle.meter_states.specs.Run.{opened, run}
-use Rattle.meter_states.specs.Setting.{Setting, under_offset, unit_of}
-use Rattle.meter_states.specs.Trip.{MeterTrip, fees_of}
+use Rattle.meter_model.specs.Interval.{context_of}
+use Rattle.meter_model.specs.Meter.{Meter}
+use Rattle.meter_model.specs.Run.{opened, run}
+use Rattle.meter_model.specs.Setting.{Setting, under_offset, unit_of}
+use Rattle.meter_model.specs.Trip.{MeterTrip, fees_of}
 use Rattle.same_tariffs.specs.Contexts.{without_trip}
 use Rattle.totals_record.specs.States.{first_state}
 
@@ -62,13 +63,15 @@ abbrev pub meter_after : Setting → List Event → Meter
 meter_after s events = (run s events (opened s first_state)).next
 
 -- a context of a meter is reached under a tariff, a constant, a mode and a hold if under some offset of at most 14
--- hours some events, each of which a line of a drive can say, lead to an interval in it, of a trip that was hired in
--- the same context without ticks and pulses
+-- hours a drive that ends whole, so within 2^40 bytes, leads to an interval in it, of a trip that was hired in the same
+-- context without ticks and pulses; the drive has a line for each of its events
 pub record IsReached (t : Tree) (k : ℕ) (mode : Mode) (hold : ℕ) (c : MeterContext) : Type 0 where
   pub offset : ℤ
-  pub events : List Event
+  pub drive : List ℕ
   pub offset_in : IsOffset offset
-  pub events_in : All IsInRange events
-  pub begins : BeginsIn t (under_offset t k mode hold offset) c (meter_after (under_offset t k mode hold offset) events)
+  pub lines : drive ≡ drive_of (events_of drive)
+  pub ends : drive_end drive ≡ Whole
+  pub begins : BeginsIn t (under_offset t k mode hold offset) c
+      (meter_after (under_offset t k mode hold offset) (events_of drive))
   pub hired : WasHiredIn t (under_offset t k mode hold offset) (without_trip c)
-      (meter_after (under_offset t k mode hold offset) events)
+      (meter_after (under_offset t k mode hold offset) (events_of drive))

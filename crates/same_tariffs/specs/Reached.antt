@@ -4,9 +4,9 @@ use Rattle.taxi_units.specs.Time.{IsSecond, last_tick}
 use Rattle.totals_record.specs.declared.trip.Trip.{Trip}
 use Rattle.tariff_check.specs.SoundTariff.{SoundTariff}
 use Rattle.tariff_syntax.specs.Writable.{IsFromTo}
-use Rattle.meter_states.specs.Interval.{ticks_so_far}
-use Rattle.meter_states.specs.Meter.{Meter}
-use Rattle.meter_states.specs.Setting.{Setting}
+use Rattle.meter_model.specs.Interval.{ticks_so_far}
+use Rattle.meter_model.specs.Meter.{Meter}
+use Rattle.meter_model.specs.Setting.{Setting}
 
 -- a position and a zone are set under a tariff if they are among those that it has
 pub record AreSet (tariff : SoundTariff) (position zone : ℕ) : Type 0 where

@@ -2,7 +2,7 @@
 use Rattle.std.specs.Prelude.{◌≡◌}
 use Rattle.tariff_compare.specs.Same.{AreSame}
 use Rattle.tariff_syntax.specs.Tree.{Tree}
-use Rattle.meter_states.specs.Setting.{Setting}
+use Rattle.meter_model.specs.Setting.{Setting}
 use Rattle.same_tariffs.specs.Contexts.{IsSettingInRange}
 
 -- two settings of two tariffs are the same if both are in range, the tariffs are the same under the constant, and all

@@ -3,9 +3,9 @@ ghost use Rattle.std.specs.Prelude.{ℕ, All, List};
 ghost use Rattle.drive_modes.specs.declared.charges.Mode.{Mode};
 ghost use Rattle.drive_text.specs.Ending.{events_of};
 ghost use Rattle.meter_states.specs.Lawful.{IsTimely};
-ghost use Rattle.meter_states.specs.Meter.{Meter};
-ghost use Rattle.meter_states.specs.Run.{opened, run};
-ghost use Rattle.meter_states.specs.Setting.{Setting};
+ghost use Rattle.meter_model.specs.Meter.{Meter};
+ghost use Rattle.meter_model.specs.Run.{opened, run};
+ghost use Rattle.meter_model.specs.Setting.{Setting};
 ghost use Rattle.tariff_check.specs.Faults.{IsSound};
 ghost use Rattle.tariff_compare.specs.Contexts.{IsMeterContext};
 ghost use Rattle.tariff_compare.specs.declared.meter_context.MeterContext.{MeterContext};
@@ -35,10 +35,10 @@ pub fn intervals_are_charged_in_contexts_of_a_meter()
         → IsHiredIn t s m (without_trip (meter_context_at s m.clock m)) }
 {}
 
-/// Each context of a meter is reached by some drive, under the constant and each mode and hold: a list of events that
-/// a drive can have leads from a store without entries to an interval in Hired that begins in it, of a trip that was
-/// hired in the same context without ticks and pulses. Its pulses come by drops of the supply, each of which leaves an
-/// interval unfinished, whose pulses count and whose tick doesn't.
+/// Each context of a meter is reached by some drive, under the constant and each mode and hold: a drive that ends
+/// whole, with fewer than 2^40 bytes, leads from a store without entries to an interval in Hired that begins in it, of
+/// a trip that was hired in the same context without ticks and pulses. Its pulses come by drops of the supply, each of
+/// which leaves an interval unfinished, whose pulses count and whose tick doesn't.
 pub fn each_context_is_reached()
     ensures { (t : Tree) (k : ℕ) (mode : Mode) (hold : ℕ) (c : MeterContext) → IsWritable t → IsSound t
         → IsMeterContext t c → IsReached t k mode hold c }

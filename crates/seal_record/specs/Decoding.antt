@@ -1,4 +1,4 @@
--- For proofs: the bytes of a seal as a table that is made of parts, and the seal that bytes are read as. The law
+-- By law: the bytes of a seal as a table that is made of parts, and the seal that bytes are read as. The law
 -- seals_are_read_by_their_table says which it is. A place is one less here than in the slot.
 use Rattle.std.specs.Prelude.{◌≡◌, ◌≢◌, ℕ, zero, suc, ◌-◌, ◌==◌, if◌then◌else◌, ⊤, ℤ, FitsSigned}
 use Rattle.std.specs.Prelude.{List, [], ◌∷◌, ◌++◌, length, replicate, Option}

@@ -1,4 +1,4 @@
--- For proofs: what one more line of a parameter text says, in the stages of the code. The laws
+-- By law: what one more line of a parameter text says, in the stages of the code. The laws
 -- lines_say_their_parameter and bad_lines_have_their_fault say what it is.
 use Rattle.std.specs.Prelude.{ℕ, Bool, false, if◌then◌else◌, ℤ, List, [], ◌∷◌, ◌++◌, Option, Some, None, is_some, Result, Ok, Err, codes}
 use Rattle.std.specs.Str.{bytes_eq}

@@ -1,4 +1,4 @@
--- For proofs: the parameters that a text is read as, or its first fault. The laws texts_say_their_parameters,
+-- By law: the parameters that a text is read as, or its first fault. The laws texts_say_their_parameters,
 -- texts_are_too_long_or_lack_a_parameter and texts_say_parameters_line_by_line say which they are.
 use Rattle.std.specs.Prelude.{ℕ, ◌+◌, nat_lt, if◌then◌else◌, ℤ, List, [], ◌∷◌, length, Option, Some, None, Result, Ok, Err}
 use Rattle.drive_modes.specs.declared.charges.Mode.{Mode}

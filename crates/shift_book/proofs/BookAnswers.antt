@@ -61,7 +61,7 @@ counted count text found within pass e = by (count == 0) (nat_lt 16 count) refl 
           characters = pass;
         })
 
-driver_read : (text : List ℕ) (found : List ℕ × List ℕ) → driver_at text ≡ Some found → IsDriver found.0
+pub driver_read : (text : List ℕ) (found : List ℕ × List ℕ) → driver_at text ≡ Some found → IsDriver found.0
 unfolding driver_at
 driver_read text found e = counted (prefix_len is_identifier_character text) text found
     (front_short is_identifier_character text) (characters_in_front text) e

@@ -11,14 +11,14 @@ use Rattle.shift_book.proofs.Again.{driver_back}
 use Rattle.taxi_units.specs.Identifier.{is_identifier_character}
 
 -- a driver is read as it is
-driver_read : (word : List ℕ) → IsDriver word → driver_of word ≡ Some word
+pub driver_word : (word : List ℕ) → IsDriver word → driver_of word ≡ Some word
 unfolding driver_of
-driver_read word valid = ap (λ (o : Option (List ℕ × List ℕ)). o >>= (λ found. alone found))
+driver_word word valid = ap (λ (o : Option (List ℕ × List ℕ)). o >>= (λ found. alone found))
     (ap driver_at (sym (append-nil word)) ∙ driver_back word [] valid refl)
 
 -- where none is read, the word is none
 no_driver : (word : List ℕ) → driver_of word ≡ None → ¬ (IsDriver word)
-no_driver word none valid = let some = driver_read word valid in absurd cc
+no_driver word none valid = let some = driver_word word valid in absurd cc
 
 pub driver_not_read : (word : List ℕ) → driver_at word ≡ None → ¬ (IsDriver word)
 unfolding driver_of

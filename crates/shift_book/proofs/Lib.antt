@@ -5,6 +5,8 @@ pub mod Assembling
 -- what is read of a text is what the text says
 pub mod BookAnswers
 -- which words are drivers
+mod DriverLaw
+-- which words are drivers
 pub mod DriverWords
 -- characters of drivers at the front of a text
 pub mod Drivers

@@ -1,4 +1,4 @@
--- For proofs: how a book is read, line by line. The law `texts_are_read_as_they_say` says what `book_read` answers.
+-- By law: how a book is read, line by line. The law `texts_are_read_as_they_say` says what `book_read` answers.
 use Rattle.std.specs.Prelude.{ℕ, zero, suc, ◌+◌, ◌&&◌, nat_le, nat_lt, Bool, true, not, if◌then◌else◌, List, [], ◌∷◌, ◌++◌, length, Option, Some, None, Result, Ok, Err}
 use Rattle.taxi_units.specs.Reading.{◌>>=◌, word_at}
 use Rattle.totals_record.specs.declared.durable_state.Durable.{Durable}

@@ -1,5 +1,5 @@
--- For proofs: the mark that a line says, if it is one, as the code reads it from the front of a text. The law
--- `marks_are_their_lines` says which lines are marks, and the clauses of `read_driver` which words are drivers.
+-- By law: the mark that a line says, if it is one, as the code reads it from the front of a text. The law
+-- `drivers_are_their_words` says which words are drivers; which lines are marks says the law that BookReading names.
 use Rattle.std.specs.Prelude.{ℕ, ◌-◌, ◌^◌, nat_lt, nat_le, ◌==◌, ◌||◌, true, false, if◌then◌else◌, List, [], ◌∷◌, take, drop, codes, Option, Some, None}
 use Rattle.std.specs.List.{prefix_len}
 use Rattle.std.specs.Str.Parse.{digits_value}

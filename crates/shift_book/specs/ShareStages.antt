@@ -1,4 +1,4 @@
--- For proofs: the drivers' sums, shift by shift as the code adds them, and what keeps the sums in their fields.
+-- Rules: the drivers' sums, shift by shift as the code adds them, and what keeps the sums in their fields.
 -- AreSums, in Shares, says what the sums are.
 use Rattle.std.specs.Prelude.{List, [], ◌∷◌, unwrap_or, ⊤}
 use Rattle.std.specs.BTreeMap.{insert_entry, is_at}

@@ -3,7 +3,7 @@ use Rattle.std.proofs.Common.{◌≡◌, inl, inr, ⊎_elim, ℕ, List, length, 
 use Rattle.std.proofs.lemmas.List.{ext_get_or}
 use Rattle.outside.specs.declared.board.Board.{Ghosts}
 use Rattle.outside.specs.Disk.{Elapses, MayLeave, SameBut}
-use Rattle.outside.specs.Runs.{IsSettled, LeavesNow, LeavesOnly}
+use Rattle.outside.specs.Runs.{IsAtRest, LeavesNow, LeavesOnly}
 use Rattle.outside.proofs.Laws.{leaves_then, leaves_wider}
 use Rattle.slot_store.specs.Syncs.{IsAsHeld, IsSynced, LeavesFromSync, ReadsOnly, SyncsFirst}
 
@@ -13,19 +13,19 @@ same_image : (image left : List ℕ) (in_flight : ℕ → Type 0) → ((place : 
 same_image image left in_flight none same = ext_get_or 0 left image same.size (λ place lt. same.rest place (none place))
 
 module _ {D L : Type 0} {N : ℕ} (B : Ghosts D N L) where
-  as_held : (old new : D) → IsSettled B old → LeavesOnly B old new
+  as_held : (old new : D) → IsAtRest B old → LeavesOnly B old new
       (MayLeave (B.image old) (B.in_flight old) (B.printed old)) → LeavesOnly B old new (IsAsHeld B old)
   as_held old new settled run =
       leaves_wider B (MayLeave (B.image old) (B.in_flight old) (B.printed old)) (IsAsHeld B old) old new
       (λ i x left.
       record { image = same_image (B.image old) i (B.in_flight old) settled left.bytes; text = left.text }) run
 
-  pub settled_already : (kind : List ℕ → List ℕ → Type 0) (fails : Type 0) (old new : D) → IsSettled B old
+  pub settled_already : (kind : List ℕ → List ℕ → Type 0) (fails : Type 0) (old new : D) → IsAtRest B old
       → kind (B.image old) (B.printed old)
       → LeavesFromSync B fails old new kind → LeavesOnly B old new kind
   settled_already kind fails old new settled holds (inl failed) = held old new settled holds failed.1.leaves
     where
-      held : (old new : D) → IsSettled B old → kind (B.image old) (B.printed old)
+      held : (old new : D) → IsAtRest B old → kind (B.image old) (B.printed old)
           → LeavesOnly B old new (MayLeave (B.image old) (B.in_flight old) (B.printed old)) → LeavesOnly B old new kind
       held old new settled holds run =
           leaves_wider B (IsAsHeld B old) kind old new (λ i x is. rw (is.image, is.text) holds)

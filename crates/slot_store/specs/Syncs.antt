@@ -2,7 +2,7 @@
 use Rattle.std.specs.Prelude.{◌≡◌, ◌⊎◌, ℕ, List}
 use Rattle.outside.specs.declared.board.Board.{Ghosts}
 use Rattle.outside.specs.Disk.{MayLeave, SameBut}
-use Rattle.outside.specs.Runs.{IsSettled, LeavesOnly}
+use Rattle.outside.specs.Runs.{IsAtRest, LeavesOnly}
 
 module _ {D L : Type 0} {N : ℕ} (B : Ghosts D N L) where
   -- a run only reads if bytes changed at most where some were in flight, no more is in flight, nothing was printed,
@@ -18,7 +18,7 @@ module _ {D L : Type 0} {N : ℕ} (B : Ghosts D N L) where
   pub record IsSynced (old synced : D) : Type 0 where
     pub reads : ReadsOnly old synced
     pub same : B.image synced ≡ B.image old
-    pub settled : IsSettled B synced
+    pub settled : IsAtRest B synced
 
   -- a call leaves a kind of image and text from its opening sync on if a cut behind that sync leaves only what is of
   -- that kind, and a cut before it leaves what it might have left before the call; if the sync fails, nothing is
@@ -37,4 +37,4 @@ module _ {D L : Type 0} {N : ℕ} (B : Ghosts D N L) where
   pub record SyncsFirst (fails : Type 0) (old new : D) : Type 0 where
     pub leaves : B.tells_image → LeavesFromSync fails old new (IsAsHeld old)
     pub same : ¬ fails → B.image new ≡ B.image old
-    pub settled : B.tells_image → ¬ fails → IsSettled B new
+    pub settled : B.tells_image → ¬ fails → IsAtRest B new

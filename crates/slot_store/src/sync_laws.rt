@@ -1,7 +1,7 @@
 //! What follows for a call that syncs before anything else.
 ghost use Rattle.std.specs.Prelude.{List, ℕ};
 ghost use Rattle.outside.specs.Disk.{MayLeave};
-ghost use Rattle.outside.specs.Runs.{IsSettled, LeavesOnly};
+ghost use Rattle.outside.specs.Runs.{IsAtRest, LeavesOnly};
 ghost use Rattle.slot_store.specs.Syncs.{IsAsHeld, IsSynced, LeavesFromSync};
 
 use outside::{Board, Kind};
@@ -29,7 +29,7 @@ pub fn a_settled_board_is_synced_already<
     L: Ledger,
     const N: usize,
 >()
-    ensures { (old new : B) → IsSettled B.Board old → K.kind (B.image old) (B.printed old)
+    ensures { (old new : B) → IsAtRest B.Board old → K.kind (B.image old) (B.printed old)
         → LeavesFromSync B.Board F.fails old new K.kind → LeavesOnly B.Board old new K.kind }
 {}
 

@@ -7,7 +7,7 @@ use Rattle.std.proofs.lemmas.List.{ext_get_or}
 use Rattle.outside.specs.declared.board.Board.{Ghosts}
 use Rattle.outside.specs.Disk.{IsWithin, MayLeaveAmid, SameBut}
 use Rattle.outside.specs.Printing.{Begins}
-use Rattle.outside.specs.Runs.{IsSettled as NothingFlies, KeepsStore, LeavesOnly, MayHold}
+use Rattle.outside.specs.Runs.{IsAtRest as NothingFlies, KeepsStore, LeavesOnly, MayHold}
 use Rattle.outside.proofs.Laws.{leaves_wider}
 use Rattle.slot_store.specs.declared.found.Found.{Found}
 use Rattle.slot_store.specs.declared.found.Found.TheVariants.{Blank, Latest}
@@ -24,7 +24,7 @@ use Rattle.meter_store.specs.Stored as states
 use Rattle.seal_record.specs.declared.seal.Seal.{Seal}
 use Rattle.seal_record.specs.Decoding as seals
 use Rattle.seal_record.specs.Limits.{last_seal_number}
-use Rattle.meter_store.specs.Sealing.{FoundSeal, IsAmid, IsSealed, KeepsSealed, KeepsTotals, LeavesSealing, ScannedSeal}
+use Rattle.meter_store.specs.Sealing.{FoundSeal, IsAmid, IsSealed, HoldsSealing, StillHas, LeavesSealing, ScannedSeal}
 use Rattle.meter_store.specs.Sealing.{Sealing, ShowsSeal, first_written, found_number, next_number, old_seal}
 use Rattle.meter_store.specs.Sealing.{places_written, seal_found, totals_after, totals_found}
 use Rattle.meter_store.proofs.Laws.{seal_is_found}
@@ -80,7 +80,7 @@ over_found old (Ok base) tariff params s e = let both = with_found old base _ s 
 
 -- what an image shows is what was found in it
 shows_totals : (image : List ℕ) (found : Found Durable)
-    → IsAnswer totals.reads states.state_number_of 0 image (Ok found) → KeepsTotals (totals_found found) image
+    → IsAnswer totals.reads states.state_number_of 0 image (Ok found) → StillHas (totals_found found) image
 shows_totals image Blank is = inl is
 shows_totals image (Latest place durable) is = at_stands totals.reads states.state_number_of 0 place image durable is
 
@@ -99,7 +99,7 @@ amid_found image tariff params (Ok found) (Ok seal) s one two e =
     let over = over_found (old_seal seal) (over_totals found seal) tariff params s e in
     let totals_are : totals_found found ≡ s.totals = base_found found seal over.0 over.1 ∙ over.2 in
     record {
-      totals = subst (λ (t : Option Durable). KeepsTotals t image) totals_are (shows_totals image found one);
+      totals = subst (λ (t : Option Durable). StillHas t image) totals_are (shows_totals image found one);
       seal = inl (subst (λ (o : Option Seal). ShowsSeal image o) over.3 (shows_seal image seal two));
     }
 
@@ -258,7 +258,7 @@ module _ {D L : Type 0} {N : ℕ} (B : Ghosts D N L) where
       (placed (old_seal opening.seal) (found-as mid opening.seal base.found latest scanned)) sealed
 
   -- the store stands for what the sealing says, also behind a cut
-  sealed_left : (s : Sealing) (board : D) → KeepsSealed B s.totals s.new board → (image : List ℕ)
+  sealed_left : (s : Sealing) (board : D) → HoldsSealing B s.totals s.new board → (image : List ℕ)
       → SameBut (B.in_flight board) (B.image board) image → IsSealed s image
   sealed_left s board h image same = record {
     totals = stays_settled totals.reads states.state_number_of 0 h.totals.0 (B.image board) image (B.in_flight board)
@@ -267,16 +267,16 @@ module _ {D L : Type 0} {N : ℕ} (B : Ghosts D N L) where
         (B.in_flight board) s.new h.seal_is.1 same;
   }
 
-  pub is_sealed : (s : Sealing) (board : D) → KeepsSealed B s.totals s.new board → IsSealed s (B.image board)
+  pub is_sealed : (s : Sealing) (board : D) → HoldsSealing B s.totals s.new board → IsSealed s (B.image board)
   is_sealed s board h = sealed_left s board h (B.image board) (record { size = refl; rest = λ place none. refl })
 
   kept_totals : (found : Option Durable) (image : List ℕ) → states.HasState image (totals_after found)
-      → KeepsTotals found image
+      → StillHas found image
   kept_totals None image h = inr h
   kept_totals (Some durable) image h = h
 
   pub rests-placed : (sealing : Result Sealing Ended) (s : Sealing) (image printed line : List ℕ) (new : D)
-      → sealing ≡ Ok s → KeepsSealed B s.totals s.new new
+      → sealing ≡ Ok s → HoldsSealing B s.totals s.new new
       → RestsAmid B sealing image printed line new
   rests-placed sealing s image printed line new e h left x held begun =
       let is = sealed_left s new h left held.bytes in
@@ -286,7 +286,7 @@ module _ {D L : Type 0} {N : ℕ} (B : Ghosts D N L) where
   -- nothing flies where both pairs are settled and nothing flew beside what was written
   pub settled-sealed : (found : Option Durable) (seal : Seal) (mid new : D) → NothingFlies B mid
       → WritesIn B (first_written found) (places_written found) mid new
-      → KeepsSealed B found seal new → NothingFlies B new
+      → HoldsSealing B found seal new → NothingFlies B new
   settled-sealed found seal mid new settled writes h place flies =
       ⊎_elim (settled place) (by found) (writes.flight place flies)
     where

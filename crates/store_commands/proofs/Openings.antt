@@ -2,7 +2,7 @@
 use Rattle.std.proofs.Common.{◌≡◌, ℕ, List, Option, Result, Ok, Err, refl, sym, ap, subst, ◌∙◌, Some}
 use Rattle.outside.specs.declared.board.Board.{Ghosts}
 use Rattle.outside.specs.Disk.{MayLeave}
-use Rattle.outside.specs.Runs.{IsSettled, LeavesOnly}
+use Rattle.outside.specs.Runs.{IsAtRest, LeavesOnly}
 use Rattle.slot_store.specs.declared.found.Found.{Found}
 use Rattle.slot_store.specs.declared.found.Found.TheVariants.{Blank, Latest}
 use Rattle.slot_store.specs.declared.found.SlotFault.{SlotFault}
@@ -95,7 +95,7 @@ opens-behind B r x fails old new is good h =
 -- the second scan behind a first one that went well
 module _ {D L : Type 0} {N : ℕ} (B : Ghosts D N L) (old mid new : D) (first : ReadsOnly B old mid)
     (same : B.image mid ≡ B.image old) where
-  pub synced-on : (fails fails' : Type 0) → ¬ fails → IsSettled B mid → LeavesFromSync B fails old mid (IsAsHeld B old)
+  pub synced-on : (fails fails' : Type 0) → ¬ fails → IsAtRest B mid → LeavesFromSync B fails old mid (IsAsHeld B old)
       → LeavesOnly B mid new (MayLeave (B.image mid) (B.in_flight mid) (B.printed mid))
       → LeavesFromSync B fails' old new (IsAsHeld B old)
   synced-on fails fails' went settled synced next =

@@ -2,7 +2,7 @@
 use Rattle.std.proofs.Common.{◌≡◌, ◌≢◌, ◌⊎◌, inl, inr, ℕ, List, [], sym, ap, subst, ◌∙◌}
 use Rattle.std.proofs.lemmas.List.{ext_get_or}
 use Rattle.outside.specs.declared.board.Board.{Ghosts}
-use Rattle.outside.specs.Runs.{IsSettled, KeepsStore, LeavesNow, LeavesOnly, MayHold}
+use Rattle.outside.specs.Runs.{IsAtRest, KeepsStore, LeavesNow, LeavesOnly, MayHold}
 use Rattle.outside.proofs.Laws.{leaves_kept, leaves_wider}
 use Rattle.slot_store.specs.Syncs.{IsAsHeld, LeavesFromSync}
 use Rattle.slot_store.proofs.Laws.{from_sync_as, goes_on}
@@ -29,7 +29,7 @@ module _ {D L : Type 0} {N : ℕ} (B : Ghosts D N L) where
 
   pub unwritten-only : (fails : Type 0) (end : Ended) (old new : D) → (fails → end ≡ ended.BoardFault)
       → LeavesFromSync B fails old new (IsAsHeld B old)
-      → (¬ fails → B.image new ≡ B.image old) → (¬ fails → IsSettled B new) → LeavesImageSettled B old new end
+      → (¬ fails → B.image new ≡ B.image old) → (¬ fails → IsAtRest B new) → LeavesImageSettled B old new end
   unwritten-only fails end old new board synced same settled = record {
     leaves = unwritten-scanned fails (end ≡ ended.BoardFault) old new board synced;
     same = λ good. same (λ f. good (board f));
@@ -37,7 +37,7 @@ module _ {D L : Type 0} {N : ℕ} (B : Ghosts D N L) where
   }
 
   -- where nothing is in flight, calls that keep the store leave the image
-  kept_image : (old mid new : D) → LeavesNow B mid → IsSettled B mid → B.image mid ≡ B.image old → KeepsStore B mid new
+  kept_image : (old mid new : D) → LeavesNow B mid → IsAtRest B mid → B.image mid ≡ B.image old → KeepsStore B mid new
       → LeavesOnly B mid new (Same old)
   kept_image old mid new now settled same kept =
       leaves_wider B (λ i x. MayHold (B.image mid) (B.in_flight mid) i) (Same old) mid new
@@ -47,7 +47,7 @@ module _ {D L : Type 0} {N : ℕ} (B : Ghosts D N L) where
 
   -- behind them too
   pub unwritten-on : (fails fails' : Type 0) (old mid new : D) → ¬ fails → LeavesImage B fails old mid → LeavesNow B mid
-      → IsSettled B mid
+      → IsAtRest B mid
       → B.image mid ≡ B.image old → KeepsStore B mid new → LeavesImage B fails' old new
   unwritten-on fails fails' old mid new went leaves now settled same kept =
       goes_on B (Same old) (Same old) fails fails' old mid new went (λ i x is. is) leaves
@@ -56,7 +56,7 @@ module _ {D L : Type 0} {N : ℕ} (B : Ghosts D N L) where
   -- a scan that went well, and calls that keep the store
   pub unwritten-kept : (fails : Type 0) (end : Ended) (old mid new : D) → ¬ fails
       → LeavesFromSync B fails old mid (IsAsHeld B old) → LeavesNow B mid
-      → IsSettled B mid → B.image mid ≡ B.image old → KeepsStore B mid new → LeavesImageSettled B old new end
+      → IsAtRest B mid → B.image mid ≡ B.image old → KeepsStore B mid new → LeavesImageSettled B old new end
   unwritten-kept fails end old mid new went synced now settled same kept = record {
     leaves = unwritten-on fails (end ≡ ended.BoardFault) old mid new went
         (unwritten-scanned fails fails old mid (λ f. f) synced) now settled same kept;

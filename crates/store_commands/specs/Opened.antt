@@ -1,7 +1,7 @@
 -- For proofs: what an opening of the store leaves. Opening says what an image stands for.
 use Rattle.std.specs.Prelude.{◌≡◌, ◌⊎◌, ℕ}
 use Rattle.outside.specs.Faults.{Rose}
-use Rattle.outside.specs.Runs.{IsSettled}
+use Rattle.outside.specs.Runs.{IsAtRest}
 use Rattle.outside.specs.declared.board.Board.{Ghosts}
 use Rattle.slot_store.specs.declared.pair.Place.{Place}
 use Rattle.slot_store.specs.Scan.{IsAsFound, IsValidFinding}
@@ -35,7 +35,7 @@ module _ {D L : Type 0} {N : ℕ} (B : Ghosts D N L) where
 
   -- a board is opened with a durable state where its pair of totals is settled with the state
   abbrev pub IsOpenedWith : (board : D) → Durable → Type 0
-  IsOpenedWith board durable = (place : Place) × states.KeepsState B place board durable
+  IsOpenedWith board durable = (place : Place) × states.HoldsState B place board durable
 
   -- a call only opens the store where it only reads, a cut from its opening sync on leaves the store as it was, unless
   -- the call `fails` nothing is in flight and no byte has changed, and the board's count of faults rose if it fails and
@@ -43,7 +43,7 @@ module _ {D L : Type 0} {N : ℕ} (B : Ghosts D N L) where
   pub record OnlyOpens (fails : Type 0) (old new : D) : Type 0 where
     pub reads : ReadsOnly B old new
     pub synced : B.tells_image → LeavesFromSync B fails old new (IsAsHeld B old)
-    pub settled : B.tells_image → ¬ fails → IsSettled B new
+    pub settled : B.tells_image → ¬ fails → IsAtRest B new
     pub same : ¬ fails → B.image new ≡ B.image old
     pub count : ¬ fails → B.faults new ≡ B.faults old
     pub cause : fails → Rose (B.faults old) (B.faults new)

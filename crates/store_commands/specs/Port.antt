@@ -3,7 +3,7 @@ use Rattle.std.specs.Prelude.{◌≡◌, ℕ, ◌+◌, List, [], Some, Result, O
 use Rattle.totals_record.specs.declared.durable_state.Durable.{Durable}
 use Rattle.seal_record.specs.declared.seal.Seal.{Seal}
 use Rattle.data_port.specs.Reading.{requests_in}
-use Rattle.data_port.specs.Serving.{StreamEnd, Whole, BadAt, Endless, IsBoundedBy, IsGoing, replies, requests_of}
+use Rattle.data_port.specs.Serving.{StreamEnd, Whole, BadAt, Endless, IsBoundedByRequests, IsGoing, replies, requests_of}
 use Rattle.data_port.specs.Serving.{stream_end}
 use Rattle.call_ends.specs.Answer.{Answer, shows}
 use Rattle.call_ends.specs.Course.{Command}
@@ -46,9 +46,9 @@ port_command = record {
   reads_all = λ status. status ≡ 0;
   comes_to = λ contents image word taken. (word ≡ 1) × IsServing image taken;
   may_lack = λ contents image taken. ⊥;
-  known = λ files_tell image_told. files_tell × image_told;
+  told = λ files_tell image_told. files_tell × image_told;
   opens = Unit {0};
   writes = λ ended. ⊥;
   steps = λ files_tell image_told contents left image before now.
-      files_tell → IsBoundedBy (contents 1) (left 1) (before + 64) now;
+      files_tell → IsBoundedByRequests (contents 1) (left 1) (before + 64) now;
 }

@@ -135,7 +135,7 @@ seal_command = record {
   comes_to = λ contents image word taken.
       ((word ≡ 1) × IsSealable image) ⊎ ((word ≡ 2) × IsFitting (contents 1) image);
   may_lack = λ contents image taken. IsSealable image;
-  known = λ files_tell image_told. files_tell × image_told;
+  told = λ files_tell image_told. files_tell × image_told;
   opens = Unit {0};
   writes = λ ended. (ended ≡ 0) ⊎ (ended ≡ 8);
   steps = λ files_tell image_told contents left image before now. now ≤ before + 64 + 1;

@@ -42,8 +42,8 @@ share_text decimals share = decimal share.hirings ++ (codes " " ++ (money_text d
 
 -- the text of totals has at its head the number, the five totals, whether a trip is held, the layout, and what was
 -- counted before there were shares
-abbrev pub heading_text : (decimals : ℕ) → Durable → List ℕ
-heading_text decimals d =
+abbrev pub totals_heading : (decimals : ℕ) → Durable → List ℕ
+totals_heading decimals d =
     summary_text decimals d
     ++ (held_line d.hold ++ (number_line (codes "LAYOUT ") d.layout
     ++ (codes "BEFORE " ++ share_text decimals d.totals.before)))
@@ -64,4 +64,4 @@ positions_text decimals shares = flat_map (position_at decimals shares) (range_w
 
 -- the text of totals is its heading, and then the lines of the tariff positions
 abbrev pub totals_text : (decimals : ℕ) → Durable → List ℕ
-totals_text decimals d = heading_text decimals d ++ positions_text decimals d.totals.shares
+totals_text decimals d = totals_heading decimals d ++ positions_text decimals d.totals.shares

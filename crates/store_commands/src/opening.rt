@@ -1,7 +1,7 @@
 //! The opening of the store, with which some commands begin.
 ghost use Rattle.std.specs.Prelude.{◌≡◌, ◌+◌, ◌≤◌, IfOk, IfSome, IsErrOf};
 ghost use Rattle.outside.specs.Faults.{Rose};
-ghost use Rattle.outside.specs.Runs.{IsSettled};
+ghost use Rattle.outside.specs.Runs.{IsAtRest};
 ghost use Rattle.slot_store.specs.Syncs.{IsAsHeld, LeavesFromSync, ReadsOnly};
 ghost use Rattle.seal_record.specs.Ranges.{IsSeal};
 ghost use Rattle.totals_record.specs.Ranges.{IsDurable};
@@ -50,7 +50,7 @@ pub fn open_store<B: Board<STORE_SIZE, L>, L: Ledger>(
     ensures reads { ReadsOnly B.Board board.old board.new }
     ensures synced { B.tells_image → LeavesFromSync B.Board (IsErrOf result StoreFault.BoardFault)
         board.old board.new (IsAsHeld B.Board board.old) }
-    ensures settled { B.tells_image → ¬ IsErrOf result StoreFault.BoardFault → IsSettled B.Board board.new }
+    ensures settled { B.tells_image → ¬ IsErrOf result StoreFault.BoardFault → IsAtRest B.Board board.new }
     ensures same { ¬ IsErrOf result StoreFault.BoardFault → B.image board.new ≡ B.image board.old }
     ensures count { ¬ IsErrOf result StoreFault.BoardFault → B.faults board.new ≡ B.faults board.old }
     ensures cause { IsErrOf result StoreFault.BoardFault → Rose (B.faults board.old) (B.faults board.new) }

@@ -2,7 +2,7 @@
 ghost use Rattle.std.specs.Prelude.{◌≡◌, ◌+◌, ◌<◌, ◌≤◌, ◌++◌, length};
 ghost use Rattle.arrayvec.specs.ArrayVec.{array_vec_len};
 ghost use Rattle.taxi_units.specs.Line.{line_size};
-ghost use Rattle.store_commands.specs.TotalsText.{amount_line, distances_text, heading_text, held_line, money_lines};
+ghost use Rattle.store_commands.specs.TotalsText.{amount_line, distances_text, totals_heading, held_line, money_lines};
 ghost use Rattle.store_commands.specs.TotalsText.{position_text, share_text, summary_text};
 
 use call_ends::push_number_line;
@@ -83,7 +83,7 @@ fn push_share(line: &mut Line, share: &Share, decimals: u8)
 /// All lines of totals but those of the tariff positions.
 pub fn heading(durable: &Durable, decimals: u8) -> Line
     requires { decimals ≤ 3 }
-    ensures text { result.items ≡ heading_text decimals durable.now }
+    ensures text { result.items ≡ totals_heading decimals durable.now }
     ensures few { array_vec_len result ≤ line_size }
 {
     let mut line = Line::new();

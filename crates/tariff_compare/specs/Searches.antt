@@ -1,5 +1,5 @@
--- For proofs: the first context of a grid that meets a test, in the order of its lists. The law
--- first_contexts_are_first says what the answers mean.
+-- By law: the first context of a grid that meets a test, in the order of its lists. The laws
+-- first_contexts_are_first and differences_are_first say what the answers mean.
 use Rattle.std.specs.Prelude.{ℕ, Bool, if◌then◌else◌, List, [], ◌∷◌, Option, Some, None}
 use Rattle.std.specs.Option.{option_or}
 use Rattle.tariff_syntax.specs.Tree.{Tree}

@@ -1,5 +1,5 @@
--- For proofs: what is asked of a tariff in a context of a meter, answered by its tables. Counting and Kinds say it of
--- the tariff.
+-- By law: what is asked of a tariff in a context of a meter, answered by its tables. Counting and Kinds say it of the
+-- tariff, and the laws first_contexts_are_first and differences_are_first that both come to the same.
 use Rattle.std.specs.Prelude.{ℕ, Bool, ◌&&◌, ◌==◌, List, get_or, Option, is_some, pos}
 use Rattle.std.specs.List.{list_any}
 use Rattle.interval_clock.specs.Calendar.{date_after, date_place, weekday_of}

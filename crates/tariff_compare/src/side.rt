@@ -44,7 +44,7 @@ impl Side {
         ensures value { result.now ≡ self.now.tables }
         ensures compiled { IsCompiled self.now.tables }
     {
-        self.tables.known();
+        self.tables.recall();
         &self.tables
     }
 

@@ -241,7 +241,7 @@ impl Tables {
 
     /// Says what the type keeps of each of its values: they are the tables of a tariff, and their numbers are
     /// within their limits. It does nothing.
-    pub fn known(&self)
+    pub fn recall(&self)
         ensures compiled { IsCompiled self.now }
         ensures fit { IsFit self.now }
     {

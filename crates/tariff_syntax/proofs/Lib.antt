@@ -40,6 +40,8 @@ mod ShownGrammar
 mod ShownLines
 -- a printed line shows its tokens, from its end to its front
 mod Shows
+-- the parts of an entry come to the table of lines
+mod TableLines
 -- the lines of a text are cut at its line feeds
 mod TextLaws
 -- the tokens of a line are those that stand in it

@@ -13,6 +13,7 @@ pub mod IsCondition
 pub mod IsItem
 pub mod Items
 pub mod Joints
+pub mod LineTable
 pub mod Meaning
 pub mod Parentheses
 pub mod Parsed

@@ -1,4 +1,4 @@
--- For proofs: the tariff of a text, read line after line. The law texts_are_parsed_as_they_read says what the answers
+-- By law: the tariff of a text, read line after line. The law texts_are_parsed_as_they_read says what the answers
 -- mean.
 use Rattle.std.specs.Prelude.{ℕ, ◌+◌, List, [], ◌∷◌, ◌++◌, Option, Some, None, Result, Ok, Err}
 use Rattle.tariff_syntax.specs.Items.{item_read, decimals_read}

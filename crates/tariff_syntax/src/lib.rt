@@ -29,8 +29,8 @@ pub use tariff::{
     TariffLine,
 };
 pub use theorems::{
-    bad_lines_have_no_form, first_lines_hold, lines_rise_in_number, parentheses_are_needed,
-    printed_forms_read_back, texts_are_cut_at_their_line_feeds, texts_are_parsed_as_they_read,
-    texts_have_their_numbers, texts_read_as_one_tariff,
+    bad_lines_have_no_form, first_lines_hold, lines_are_those_of_the_table, lines_rise_in_number,
+    parentheses_are_needed, printed_forms_read_back, texts_are_cut_at_their_line_feeds,
+    texts_are_parsed_as_they_read, texts_have_their_numbers, texts_read_as_one_tariff,
 };
 pub use writing::{print, print_line};

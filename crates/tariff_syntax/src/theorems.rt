@@ -7,6 +7,8 @@ ghost use Rattle.std.specs.List.{AllPairs, Contains, slice_get};
 ghost use Rattle.tariff_syntax.specs.BadLines.{bad_lines};
 ghost use Rattle.tariff_syntax.specs.Choices.{choices, conditions_of, initial_part, minimum_part, rate_part};
 ghost use Rattle.tariff_syntax.specs.Condition.{Condition};
+ghost use Rattle.tariff_syntax.specs.IsItem.{IsItem};
+ghost use Rattle.tariff_syntax.specs.LineTable.{HasTableRanges, IsTableLine};
 ghost use Rattle.tariff_syntax.specs.Formless.{HasNoForm};
 ghost use Rattle.tariff_syntax.specs.Meaning.{IsFirstPlace, at_hiring, holds_if, initial_place, minimum_place};
 ghost use Rattle.tariff_syntax.specs.Meaning.{place_of, rate_place};
@@ -16,8 +18,9 @@ ghost use Rattle.tariff_syntax.specs.Printed.{printed};
 ghost use Rattle.tariff_syntax.specs.Reads.{Reads, IsFirstBadLine, RiseInNumber};
 ghost use Rattle.tariff_syntax.specs.Renumbered.{renumbered};
 ghost use Rattle.tariff_syntax.specs.TextLines.{AreLines, lines_of};
-ghost use Rattle.tariff_syntax.specs.Tree.{Tree};
-ghost use Rattle.tariff_syntax.specs.Writable.{IsWritable};
+ghost use Rattle.tariff_syntax.specs.Token.{Token};
+ghost use Rattle.tariff_syntax.specs.Tree.{Entry, Tree};
+ghost use Rattle.tariff_syntax.specs.Writable.{IsWritable, IsWritableEntry};
 ghost use Rattle.tariff_syntax.specs.declared.context.Context.{Context};
 
 /// The law of texts: a text either reads as a tariff, and as no other, or it has a first bad line, and
@@ -58,6 +61,15 @@ pub fn printed_forms_read_back()
 /// text has.
 pub fn texts_have_their_numbers()
     ensures { (text : List ℕ) (t : Tree) → Reads text t → IsWritable t }
+{}
+
+/// The law of the table: the tokens of a line say an entry exactly where the table of lines has them, and an entry is
+/// one that a text can have exactly where each of its numbers is in the range that the table gives. The parts of an
+/// entry, of which its text, its printed form and its ranges are made, are so tied to a table of their own.
+pub fn lines_are_those_of_the_table()
+    ensures forms { (decimals : ℕ) (tokens : List Token) (entry : Entry)
+        → IsItem decimals tokens entry ↔ IsTableLine decimals tokens entry }
+    ensures ranges { (entry : Entry) → IsWritableEntry entry ↔ HasTableRanges entry }
 {}
 
 /// The law of lines: none of the lines of a text has a line feed, and the text is each of them, followed

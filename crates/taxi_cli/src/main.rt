@@ -1,28 +1,5 @@
-//! The taximeter: the program, and the tests that go through several crates.
+//! The taximeter: the program.
 #![tactic(auto)]
-
-#[cfg(test)]
-mod below;
-#[cfg(test)]
-mod chain_tests;
-#[cfg(test)]
-mod failure_tests;
-#[cfg(test)]
-mod growth_tests;
-#[cfg(test)]
-mod many_cuts_tests;
-#[cfg(test)]
-mod piece_tests;
-#[cfg(test)]
-mod run_tests;
-#[cfg(test)]
-mod seal_tests;
-#[cfg(test)]
-mod shifts_tests;
-#[cfg(test)]
-mod store_tests;
-#[cfg(test)]
-mod tests;
 
 ghost use Rattle.std.specs.Prelude.{◌≡◌, ◌<◌};
 

@@ -1,5 +1,5 @@
--- For proofs: a decimal, read in the stages of the code. The law decimals_are_read_by_their_form says what the answers
--- mean.
+-- By law: a decimal, read in the stages of the code. The laws decimals_are_read_by_their_form and
+-- numbers_are_read_by_their_digits say what the answers mean.
 use Rattle.std.specs.Prelude.{ℕ, ◌+◌, ◌^◌, List, [], ◌∷◌, length, take, drop, if◌then◌else◌, nat_lt, ◌==◌, ◌||◌, Result, Ok, Err}
 use Rattle.std.specs.Char.{is_ascii_digit}
 use Rattle.std.specs.List.{prefix_len}

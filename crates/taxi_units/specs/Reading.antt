@@ -1,4 +1,4 @@
--- For proofs: reading from the front of a text, which gives what is found there and what stands after it. The law
+-- Rules: reading from the front of a text, which gives what is found there and what stands after it. The law
 -- words_are_read_by_their_text says what `word_at` gives.
 use Rattle.std.specs.Prelude.{◌≡◌, ℕ, List, length, take, drop, Option, Some, None, if◌then◌else◌}
 use Rattle.std.specs.Str.{bytes_eq}

@@ -1,4 +1,4 @@
--- For proofs: the state that bytes are read as. States in their ranges are bodies of slots. The law
+-- By law: the state that bytes are read as. States in their ranges are bodies of slots. The law
 -- states_are_read_by_their_table says which state bytes are read as.
 use Rattle.std.specs.Prelude.{◌≡◌, List, ℕ, length, Option}
 use Rattle.std.proofs.Common.{ap, ◌∙◌}

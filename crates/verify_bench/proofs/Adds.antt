@@ -4,6 +4,7 @@ use Rattle.std.proofs.Common.{append_assoc, arith, length-append}
 use Rattle.std.specs.Prelude.{replicate}
 use Rattle.std.proofs.lemmas.List.{append-nil, replicate-append-replicate}
 use Rattle.std.proofs.lemmas.Grind.{flat_map-append}
+use Rattle.drive_text.proofs.Laws.{written_line_is_short}
 use Rattle.drive_text.specs.Ranges.{IsInRange}
 use Rattle.drive_text.specs.Runs.{run_events}
 use Rattle.drive_text.specs.Written.{event_text}
@@ -14,7 +15,7 @@ use Rattle.verify_bench.specs.Adding.{Adds, place_of, lines_events}
 use Rattle.verify_bench.specs.Generated.{Place, Written, and_then, drawn, in_turn, intervals, line, line_text}
 use Rattle.verify_bench.specs.Generated.{lines_text, next_state, nothing}
 use Rattle.verify_bench.specs.declared.writing.Writing.{Writing}
-use Rattle.verify_bench.proofs.Lines.{event_line, events_are_short, intervals_are_short, intervals_line}
+use Rattle.verify_bench.proofs.Lines.{event_line, intervals_are_short, intervals_line}
 
 -- the texts and the events of lines behind others
 pub lines_text-append : (first others : List Run) → lines_text (first ++ others) ≡ lines_text first ++ lines_text others
@@ -146,7 +147,7 @@ adds_event old new event range state tenths events text = record {
   text = rw (event_line event) text;
   counted = events;
   few_bytes =
-      omega (arith, ap length text, length-append old.text.items (event_text event), events_are_short event range);
+      omega (arith, ap length text, length-append old.text.items (event_text event), written_line_is_short event range);
   few_tenths = omega arith;
   few_events = omega arith;
 }

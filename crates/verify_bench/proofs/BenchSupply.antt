@@ -2,13 +2,13 @@
 use Rattle.std.proofs.Common.{◌≡◌, ◌≢◌, ◌<◌, ℕ, refl, sum, true, false, ◌≤◌, Option, Some, None, arith}
 use Rattle.std.specs.Prelude.{nat_lt, option_map}
 use Rattle.std.proofs.lemmas.Bool.{le-ltb, lt-ltb}
-use Rattle.meter_states.specs.Closing.{roaming_entered}
-use Rattle.meter_states.specs.Meter.{Meter}
-use Rattle.meter_states.specs.Run.{ended_in}
-use Rattle.meter_states.specs.Setting.{Setting}
-use Rattle.meter_states.specs.Step.{powered_step, step_in}
-use Rattle.meter_states.specs.Supply.{held_or_closed, supply_dropped}
-use Rattle.meter_states.specs.Trip.{MeterTrip}
+use Rattle.meter_model.specs.Closing.{roaming_entered}
+use Rattle.meter_model.specs.Meter.{Meter}
+use Rattle.meter_model.specs.Run.{ended_in}
+use Rattle.meter_model.specs.Setting.{Setting}
+use Rattle.meter_model.specs.Step.{powered_step, step_in}
+use Rattle.meter_model.specs.Supply.{held_or_closed, supply_dropped}
+use Rattle.meter_model.specs.Trip.{MeterTrip}
 use Rattle.tariff_syntax.specs.declared.context.Context.{Context}
 use Rattle.taxi_units.specs.Limits.{last_number}
 use Rattle.taxi_units.specs.declared.event.Event.{Event}

@@ -5,23 +5,23 @@ use Rattle.std.specs.Prelude.{min, nat_le, if◌then◌else◌}
 use Rattle.std.proofs.lemmas.Bool.{le-leb, lt-leb}
 use Rattle.std.proofs.lemmas.List.{append-nil, map-append}
 use Rattle.std.proofs.lemmas.List.Elements.{filter_map-append}
-use Rattle.meter_states.specs.Closing.{closed, receipt_of, roaming_checked, roaming_entered}
-use Rattle.meter_states.specs.Display.{shown, display_of, is_shown}
+use Rattle.meter_model.specs.Closing.{closed, receipt_of, roaming_checked, roaming_entered}
+use Rattle.meter_model.specs.Display.{shown, display_of, is_shown}
 use Rattle.taxi_units.specs.declared.event.Key.{Key}
 use Rattle.taxi_units.specs.declared.event.Key.TheVariants as keys
-use Rattle.meter_states.specs.Interval.{context_now, context_of, counted_in, interval_begun, interval_counted}
-use Rattle.meter_states.specs.Interval.{pulses_so_far, ticks_so_far, with_interval}
-use Rattle.meter_states.specs.Meter.{Meter, Outcome, ◌>>=◌}
-use Rattle.meter_states.specs.Setting.{Setting}
-use Rattle.meter_states.specs.Step.{latch_refused}
-use Rattle.meter_states.specs.Trip.{InHired, MeterTrip, pulses_in, pulses_of, ticks_in, ticks_of, with_part}
-use Rattle.meter_states.specs.Trip as model
-use Rattle.meter_states.specs.declared.act.Act.{Act}
-use Rattle.meter_states.specs.declared.act.Act.TheVariants.{Show}
+use Rattle.meter_model.specs.Interval.{context_now, context_of, counted_in, interval_begun, interval_counted}
+use Rattle.meter_model.specs.Interval.{pulses_so_far, ticks_so_far, with_interval}
+use Rattle.meter_model.specs.Meter.{Meter, Outcome, ◌>>=◌}
+use Rattle.meter_model.specs.Setting.{Setting}
+use Rattle.meter_model.specs.Step.{latch_refused}
+use Rattle.meter_model.specs.Trip.{InHired, MeterTrip, pulses_in, pulses_of, ticks_in, ticks_of, with_part}
+use Rattle.meter_model.specs.Trip as model
+use Rattle.meter_model.specs.declared.act.Act.{Act}
+use Rattle.meter_model.specs.declared.act.Act.TheVariants.{Show}
 use Rattle.taxi_units.specs.declared.event.Operating.TheVariants.{Off, ForHire, Hired, Stopped}
 use Rattle.tariff_syntax.specs.declared.context.Context.{Context}
-use Rattle.meter_states.specs.Keys.{extra_added, key_in}
-use Rattle.meter_states.specs.Supplements.{times}
+use Rattle.meter_model.specs.Keys.{extra_added, key_in}
+use Rattle.meter_model.specs.Supplements.{times}
 use Rattle.tariff_check.specs.declared.values.Supplement.{Supplement}
 use Rattle.taxi_units.specs.Limits.{hirings_end, last_number}
 use Rattle.taxi_units.specs.declared.event.Operating.{Operating}
@@ -256,14 +256,14 @@ hired_in s ForHire pulses latch m hired = refl
 hired_in s operating pulses (Some keys.Hire) m hired = refl
 hired_in s operating pulses latch m hired = refl
 
-same_latch : (s : Setting) (operating : Operating) (pulses : ℕ) (m : Meter)
+pub same_latch : (s : Setting) (operating : Operating) (pulses : ℕ) (m : Meter)
     → (counted_in s operating pulses m).latch ≡ m.latch
 same_latch s Off pulses m = refl
 same_latch s ForHire pulses m = refl
 same_latch s Hired pulses m = refl
 same_latch s Stopped pulses m = refl
 
-same_operating : (s : Setting) (operating : Operating) (pulses : ℕ) (m : Meter)
+pub same_operating : (s : Setting) (operating : Operating) (pulses : ℕ) (m : Meter)
     → (counted_in s operating pulses m).operating ≡ m.operating
 same_operating s Off pulses m = refl
 same_operating s ForHire pulses m = refl

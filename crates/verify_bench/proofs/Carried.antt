@@ -6,16 +6,16 @@ use Rattle.std.proofs.lemmas.List.{append-nil}
 use Rattle.std.proofs.Math.Seq.{drop-cons}
 use Rattle.drive_text.specs.Runs.{interval_events, intervals_events, run_events}
 use Rattle.drive_text.specs.declared.run.Run.{Run}
-use Rattle.meter_states.specs.Interval.{context_now}
-use Rattle.meter_states.specs.Run.{ended, opened}
-use Rattle.meter_states.specs.Setting.{Setting}
-use Rattle.meter_states.specs.Step.{step}
+use Rattle.meter_model.specs.Interval.{context_now}
+use Rattle.meter_model.specs.Run.{ended, opened}
+use Rattle.meter_model.specs.Setting.{Setting}
+use Rattle.meter_model.specs.Step.{step}
 use Rattle.taxi_units.specs.declared.event.Event.{Event}
 use Rattle.taxi_units.specs.declared.event.Event.TheVariants.{Down, Pulses, Tick}
 use Rattle.tariff_syntax.specs.declared.context.Context.{Context}
 use Rattle.totals_record.specs.States.{first_state}
 use Rattle.verify_bench.specs.Bench.{GoesThroughEvent, BenchStands}
-use Rattle.verify_bench.specs.Carrying.{Carries, IsAmid, IsAmidExpected}
+use Rattle.verify_bench.specs.Carrying.{Carries, IsAmidDrive, IsAmidExpected}
 use Rattle.verify_bench.specs.Expecting.{expected_of}
 use Rattle.verify_bench.specs.Explaining.{Explanation, explanation_of, explanations_from, explanations_of}
 use Rattle.verify_bench.specs.Explaining.{explanations_in, hired_at, trip_at}
@@ -67,7 +67,7 @@ intervals_more pulses (suc count) =
 
 -- the end of the drive
 pub carried_to_the_end : (s : Setting) (all : List Explanation) (old new : BenchMeter) (a b : List Explained)
-    → GoesThroughEvent s Down ended old new a b → IsAmid s all [] old a → map explanation_of b ≡ all
+    → GoesThroughEvent s Down ended old new a b → IsAmidDrive s all [] old a → map explanation_of b ≡ all
 unfolding explanations_from
 carried_to_the_end s all old new a b moves amid = (moves amid.m amid.hired amid.stands).found ∙ amid.split
 
@@ -82,8 +82,8 @@ events_next runs place d within =
 
 pub amid_next : (s : Setting) (all : List Explanation) (runs : List Run) (place : ℕ) (d : Run) (meter : BenchMeter)
     (found : List Explained) → place < length runs
-    → IsAmid s all (flat_map run_events (drop place runs)) meter found
-    → IsAmid s all (run_events (get_or runs place d) ++ flat_map run_events (drop (place + 1) runs)) meter found
+    → IsAmidDrive s all (flat_map run_events (drop place runs)) meter found
+    → IsAmidDrive s all (run_events (get_or runs place d) ++ flat_map run_events (drop (place + 1) runs)) meter found
 amid_next s all runs place d meter found within amid =
     let split : drop place runs ≡ get_or runs place d ∷ drop (place + 1) runs =
     rw add-one (drop-cons runs place d within) in
@@ -91,7 +91,7 @@ amid_next s all runs place d meter found within amid =
 
 -- before a drive
 pub amid_first : (s : Setting) (events : List Event) (meter : BenchMeter) → ((hired : Context)
-    → BenchStands s hired meter (opened s first_state)) → IsAmid s (explanations_of s events) events meter []
+    → BenchStands s hired meter (opened s first_state)) → IsAmidDrive s (explanations_of s events) events meter []
 amid_first s events meter stands = record {
   m = opened s first_state;
   hired = context_now s (opened s first_state);

@@ -5,7 +5,7 @@ use Rattle.std.proofs.lemmas.Nat.{mul-le}
 use Rattle.std.proofs.Math.Nat.{div-le_self, mul-le-mul_right, mul_assoc}
 use Rattle.drive_modes.specs.declared.charges.Mode.{Mode}
 use Rattle.drive_modes.specs.declared.charges.Mode.TheVariants.{Single, Double}
-use Rattle.meter_states.specs.Charge.{charge_by}
+use Rattle.meter_model.specs.Charge.{charge_by}
 use Rattle.tariff_check.specs.Parts.{RateNumbers}
 use Rattle.verify_bench.specs.Groups.{way_by}
 use Rattle.verify_bench.specs.declared.explained.Way.TheVariants.{Distance, Time, Both}

@@ -1,28 +1,29 @@
--- Explanations, by the receipts and the trips of the meter's run.
-use Rattle.std.proofs.Common.{◌≡◌, ℕ, ◌+◌, ◌-◌, ◌∙◌, List, [], ◌∷◌, ◌++◌, All, refl, ap, sym, subst, map, sum, true}
+-- Explanations have the receipts of the meter's run, and what an event makes of a trip and its receipts.
+use Rattle.std.proofs.Common.{◌≡◌, ℕ, ◌+◌, ◌-◌, ◌∙◌, List, [], ◌∷◌, ◌++◌, refl, ap, sym, subst, map, sum, true}
 use Rattle.std.proofs.Common.{false, Bool, Option, Some, None, append_assoc}
 use Rattle.std.specs.Prelude.{nat_le, nat_lt, if◌then◌else◌}
 use Rattle.std.proofs.lemmas.List.{map-append}
-use Rattle.std.proofs.lemmas.List.Elements.{All-append, All-cons, All-nil, filter_map-append}
-use Rattle.meter_states.proofs.Laws as states
-use Rattle.meter_states.specs.Closing.{closed, receipt_of, roaming_checked, roaming_checked_in, roaming_entered}
-use Rattle.meter_states.specs.Closing.{trip_closed}
-use Rattle.meter_states.specs.Display.{display_of, is_shown, shown}
-use Rattle.meter_states.specs.Interval.{context_now, context_of, counted_in, interval_begun, interval_counted}
-use Rattle.meter_states.specs.Interval.{interval_left, left_in, pulses_taken, room_of, ticks_so_far, with_interval}
-use Rattle.meter_states.specs.KeptTrip.{IsTripKept, IsTripKeptIn, IsSupplementNumber}
-use Rattle.meter_states.specs.Keys.{extra_added, extra_added_to, hired, hiring, is_among, key_in, key_pressed}
-use Rattle.meter_states.specs.Keys.{latch_pressed, latched, position_set, zone_set}
-use Rattle.meter_states.specs.Meter.{Meter, Outcome, ◌>>=◌, quiet}
-use Rattle.meter_states.specs.Run.{actions_of, ended, ended_in, opened, run}
-use Rattle.meter_states.specs.Setting.{Setting}
-use Rattle.meter_states.specs.Step.{clock_read, expired, expired_or_pressed, latch_refused, off_step, powered_step}
-use Rattle.meter_states.specs.Step.{step, step_in, ticked}
-use Rattle.meter_states.specs.Supplements.{times}
-use Rattle.meter_states.specs.Supply.{aborted, hold_taken, is_within_hold, held_or_closed, powered, resumed}
-use Rattle.meter_states.specs.Supply.{supply_came, supply_dropped, turned_off}
-use Rattle.meter_states.specs.Trip.{InHired, InStopped, Part, Rest, MeterTrip}
-use Rattle.meter_states.specs.declared.act.Act.TheVariants.{Show, Refuse}
+use Rattle.meter_model.proofs.Laws as states
+use Rattle.meter_model.specs.Closing.{closed, receipt_of, roaming_checked, roaming_checked_in, roaming_entered}
+use Rattle.meter_model.specs.Closing.{trip_closed}
+use Rattle.meter_model.specs.Display.{display_of, is_shown, shown}
+use Rattle.meter_model.specs.Interval.{context_now, counted_in, interval_begun, interval_counted, interval_left}
+use Rattle.meter_model.specs.Interval.{left_in, pulses_taken, room_of, ticks_so_far, context_of, with_interval}
+use Rattle.meter_model.specs.KeptTrip.{IsTripKept, IsTripKeptIn, IsSupplementNumber}
+use Rattle.meter_model.specs.Keys.{extra_added, extra_added_to, hired, hiring, is_among, key_in, key_pressed}
+use Rattle.meter_model.specs.Keys.{latch_pressed, latched, position_set, zone_set}
+use Rattle.meter_model.specs.Meter.{Meter, Outcome, ◌>>=◌, quiet}
+use Rattle.meter_model.specs.Run.{actions_of, ended, opened, run, ended_in}
+use Rattle.meter_model.specs.Setting.{Setting}
+use Rattle.meter_model.specs.Step.{clock_read, expired, expired_or_pressed, latch_refused, off_step, powered_step}
+use Rattle.meter_model.specs.Step.{step, step_in, ticked}
+use Rattle.meter_model.specs.Supplements.{times}
+use Rattle.meter_model.specs.Supply.{aborted, hold_taken, is_within_hold, held_or_closed, powered, resumed}
+use Rattle.meter_model.specs.Supply.{supply_came, supply_dropped, turned_off}
+use Rattle.meter_model.specs.Trip.{MeterTrip, begun, with_extra, InHired, InStopped, Part, Rest}
+use Rattle.meter_model.specs.declared.act.Act.TheVariants.{Show, Refuse}
+use Rattle.std.proofs.lemmas.List.Elements.{filter_map-append, All-append, All-cons, All-nil}
+use Rattle.tariff_check.specs.Amounts.{fees_in_force}
 use Rattle.tariff_check.specs.SoundTariff.{supplement_numbered}
 use Rattle.tariff_check.specs.declared.values.Supplement.{Supplement}
 use Rattle.tariff_syntax.specs.declared.context.Context.{Context}
@@ -40,13 +41,12 @@ use Rattle.taxi_units.specs.declared.receipt.Kind.TheVariants as kinds
 use Rattle.taxi_units.specs.declared.receipt.Receipt.{Receipt}
 use Rattle.totals_record.specs.States.{first_state}
 use Rattle.totals_record.specs.declared.trip.Trip.{Trip}
-use Rattle.verify_bench.proofs.AmountSums.{all_numbers}
 use Rattle.verify_bench.proofs.Benches.{hired_after}
 use Rattle.verify_bench.proofs.TreeParts.{supplement_of_text}
 use Rattle.verify_bench.specs.Explaining.{Explanation, explanation, explanations_from, explanations_in, explanations_of}
 use Rattle.verify_bench.specs.Explaining.{hired_at, hired_by, trip_at}
 use Rattle.verify_bench.specs.Receipts.{receipt_in, receipts_in}
-use Rattle.verify_bench.specs.Wholes.{BeganIn, IsOfText, IsOfTrip}
+use Rattle.verify_bench.specs.Wholes.{IsOfText}
 
 -- the receipts of explanations
 receipts_told : (s : Setting) (hired : Context) (trip : Option MeterTrip) (list : List Receipt)
@@ -79,13 +79,8 @@ pub receipts_explained : (s : Setting) (events : List Event)
     → map (λ (e : Explanation). e.receipt) (explanations_of s events) ≡ receipts_in (actions_of s first_state events)
 receipts_explained s events = receipts_from s events (opened s first_state) (context_now s (opened s first_state))
 
--- a trip that may be none began in a context
-abbrev Fresh : Setting → Context → Option MeterTrip → Type 0
-Fresh s hired None = Unit {0}
-Fresh s hired (Some t) = BeganIn s hired t
-
 -- a receipt of a trip that may be none
-record IsReceiptOf (s : Setting) (trip : Option MeterTrip) (receipt : Receipt) : Type 0 where
+pub record IsReceiptOf (s : Setting) (trip : Option MeterTrip) (receipt : Receipt) : Type 0 where
   pub t : MeterTrip
   pub kind : Kind
   pub finish : ℕ
@@ -94,7 +89,7 @@ record IsReceiptOf (s : Setting) (trip : Option MeterTrip) (receipt : Receipt) :
   pub there : trip ≡ Some t
   pub is : receipt ≡ receipt_of s kind finish position t number
 
-abbrev AreOf : Setting → Option MeterTrip → List Receipt → Type 0
+abbrev pub AreOf : Setting → Option MeterTrip → List Receipt → Type 0
 AreOf s trip [] = Unit {0}
 AreOf s trip (receipt ∷ more) = IsReceiptOf s trip receipt × AreOf s trip more
 
@@ -103,260 +98,35 @@ are_both : (s : Setting) (trip : Option MeterTrip) (first others : List Receipt)
 are_both s trip [] others one other = other
 are_both s trip (receipt ∷ more) others one other = (one.0, are_both s trip more others one.1 other)
 
--- an outcome whose receipts are of a trip, and whose own trip began in a context
-record Goes (s : Setting) (hired : Context) (trip : Option MeterTrip) (o : Outcome) : Type 0 where
+-- an outcome whose receipts are of a trip, and of whose own trip something holds that goes by a context
+pub record Goes (F : Context → Option MeterTrip → Type 0) (s : Setting) (hired : Context) (trip : Option MeterTrip)
+    (o : Outcome) : Type 0 where
   pub are : AreOf s trip (receipts_in o.acts)
-  pub fresh : Fresh s hired o.next.trip
+  pub holds : F hired o.next.trip
 
-goes_then : (s : Setting) (mid hired : Context) (trip : Option MeterTrip) (o : Outcome) (more : Meter → Outcome)
-    → Goes s mid trip o → Goes s hired trip (more o.next) → Goes s hired trip (o >>= more)
-goes_then s mid hired trip o more one other = record {
-  are = subst (λ (list : List Receipt). AreOf s trip list)
-      (sym (filter_map-append receipt_in o.acts (more o.next).acts))
-      (are_both s trip (receipts_in o.acts) (receipts_in (more o.next).acts) one.are other.are);
-  fresh = other.fresh;
-}
+-- the trip that a hiring begins
+abbrev pub begun_at : Setting → Meter → MeterTrip
+begun_at s m = begun s (fees_in_force s.tariff (context_now s m)) m.clock (sum m.roaming)
 
-goes_quietly : (s : Setting) (hired : Context) (trip : Option MeterTrip) (m : Meter) → Fresh s hired m.trip
-    → Goes s hired trip (quiet m)
-goes_quietly s hired trip m fresh = record { are = tt; fresh = fresh }
-
-goes_if : (s : Setting) (hired : Context) (trip : Option MeterTrip) (b : Bool) (first second : Outcome)
-    → Goes s hired trip first → Goes s hired trip second → Goes s hired trip (if b then first else second)
-goes_if s hired trip true first second one other = one
-goes_if s hired trip false first second one other = other
-
-closed_by : (s : Setting) (hired : Context) (kind : Kind) (finish : ℕ) (trip : Option MeterTrip) (m : Meter)
-    → m.trip ≡ None → Goes s hired trip (trip_closed s kind finish trip m)
-closed_by s hired kind finish None m none = record { are = tt; fresh = rw none tt }
-closed_by s hired kind finish (Some t) m none = record {
-  are = (
-    record {
-      t = t;
-      kind = kind;
-      finish = finish;
-      position = m.position;
-      number = m.durable.number + 1;
-      there = refl;
-      is = refl;
-    },
-    tt,
-  );
-  fresh = rw none tt;
-}
-
-goes_closed : (s : Setting) (hired : Context) (kind : Kind) (finish : ℕ) (m : Meter)
-    → Goes s hired m.trip (closed s kind finish m)
-goes_closed s hired kind finish m =
-    closed_by s hired kind finish m.trip (record m { operating = ForHire; trip = None }) refl
-
-shown_by : (s : Setting) (hired : Context) (trip : Option MeterTrip) (m : Meter) (b : Bool)
-    → AreOf s trip (receipts_in (if b then [] else Show (display_of s m) ∷ []))
-shown_by s hired trip m true = tt
-shown_by s hired trip m false = tt
-
-goes_shown : (s : Setting) (hired : Context) (trip : Option MeterTrip) (m : Meter) → Fresh s hired m.trip
-    → Goes s hired trip (shown s m)
-goes_shown s hired trip m fresh =
-    record { are = shown_by s hired trip m (is_shown m.shown (display_of s m)); fresh = fresh }
-
-goes_entered : (s : Setting) (hired : Context) (trip : Option MeterTrip) (m : Meter) → Fresh s hired m.trip
-    → Goes s hired trip (roaming_entered s m)
-goes_entered s hired trip m fresh = record { are = tt; fresh = fresh }
-
-roaming_by : (s : Setting) (hired : Context) (trip : Option MeterTrip) (operating : Operating) (m : Meter)
-    → Fresh s hired m.trip → Goes s hired trip (roaming_checked_in s operating m)
-roaming_by s hired trip Off m fresh = goes_quietly s hired trip m fresh
-roaming_by s hired trip ForHire m fresh = goes_if s hired trip (nat_le roaming_most (sum m.roaming))
-    (roaming_entered s m) (quiet m) (goes_entered s hired trip m fresh) (goes_quietly s hired trip m fresh)
-roaming_by s hired trip Hired m fresh = goes_quietly s hired trip m fresh
-roaming_by s hired trip Stopped m fresh = goes_quietly s hired trip m fresh
-
-latch_by : (s : Setting) (hired : Context) (trip : Option MeterTrip) (latch : Option Key) (m : Meter)
-    → Fresh s hired m.trip → Goes s hired trip (latch_refused latch m)
-latch_by s hired trip None m fresh = goes_quietly s hired trip m fresh
-latch_by s hired trip (Some key) m fresh = record { are = tt; fresh = fresh }
-
-extra_by : (s : Setting) (hired : Context) (n : ℕ) (supplement : Supplement) (trip : Option MeterTrip) (m : Meter)
-    → (IsOfText s → IsSupplementNumber n) → m.trip ≡ trip → Fresh s hired trip
-    → Goes s hired trip (extra_added_to n supplement trip m)
-extra_by s hired n supplement None m numbered is fresh = record { are = tt; fresh = rw is tt }
-extra_by s hired n supplement (Some t) m numbered is fresh =
-    goes_if s hired (Some t) (nat_le supplement.max (times n t.extras)) _ _ (record { are = tt; fresh = rw is fresh })
-    (record {
-      are = tt;
-      fresh = record {
-        fees = fresh.fees;
-        opening = fresh.opening;
-        extras = λ of_text. all_numbers n t.extras (numbered of_text) (fresh.extras of_text);
-      };
-    })
-
-goes_extra : (s : Setting) (hired : Context) (n : ℕ) (supplement : Option Supplement) (m : Meter)
-    → supplement_numbered s.tariff.supplements n ≡ supplement → Fresh s hired m.trip
-    → Goes s hired m.trip (extra_added n supplement m)
-goes_extra s hired n None m there fresh = record { are = tt; fresh = fresh }
-goes_extra s hired n (Some supplement) m there fresh = extra_by s hired n supplement m.trip m
-    (λ of_text. supplement_of_text s n supplement of_text there) refl fresh
-
-goes_position : (s : Setting) (hired : Context) (n : ℕ) (m : Meter) → Fresh s hired m.trip
-    → Goes s hired m.trip (position_set s n m)
-goes_position s hired n m fresh =
-    goes_if s hired m.trip (is_among s.tariff.positions n) _ _ (record { are = tt; fresh = fresh })
-    (record { are = tt; fresh = fresh })
-
-goes_zone : (s : Setting) (hired : Context) (n : ℕ) (m : Meter) → Fresh s hired m.trip
-    → Goes s hired m.trip (zone_set s n m)
-goes_zone s hired n m fresh =
-    goes_if s hired m.trip (is_among s.tariff.zones n) _ _ (record { are = tt; fresh = fresh })
-    (record { are = tt; fresh = fresh })
-
-goes_hiring : (s : Setting) (trip : Option MeterTrip) (m : Meter) → m.trip ≡ None
-    → Goes s (context_now s m) trip (hiring s m)
-goes_hiring s trip m none =
-    goes_if s (context_now s m) trip (nat_le hirings_end m.durable.number) _ _ (record { are = tt; fresh = rw none tt })
-    (record {
-      are = tt;
-      fresh =
-          record { fees = refl; opening = refl; extras = λ of_text. All-nil IsSupplementNumber };
-    })
-
-goes_key : (s : Setting) (hired : Context) (key : Key) (operating : Operating) (m : Meter)
-    → (operating ≡ ForHire → m.trip ≡ None) → Fresh s hired m.trip
-    → Goes s (hired_by (Some key) operating (context_now s m) hired) m.trip (key_in s key operating m)
-goes_key s hired keys.Hire ForHire m none fresh = goes_hiring s m.trip m (none refl)
-goes_key s hired keys.Stop Hired m none fresh = record { are = tt; fresh = fresh }
-goes_key s hired keys.Clear Stopped m none fresh = goes_closed s hired kinds.Closed m.clock m
-goes_key s hired (keys.Position n) ForHire m none fresh = goes_position s hired n m fresh
-goes_key s hired (keys.Position n) Hired m none fresh = goes_position s hired n m fresh
-goes_key s hired (keys.Zone n) ForHire m none fresh = goes_zone s hired n m fresh
-goes_key s hired (keys.Zone n) Hired m none fresh = goes_zone s hired n m fresh
-goes_key s hired (keys.Extra n) Hired m none fresh =
-    goes_extra s hired n (supplement_numbered s.tariff.supplements n) m refl fresh
-goes_key s hired (keys.Extra n) Stopped m none fresh =
-    goes_extra s hired n (supplement_numbered s.tariff.supplements n) m refl fresh
-goes_key s hired key operating m none fresh = record { are = tt; fresh = fresh }
-
-goes_latch : (s : Setting) (hired : Context) (latch : Option Key) (m : Meter) → (m.operating ≡ ForHire → m.trip ≡ None)
-    → Fresh s hired m.trip
-    → Goes s (hired_by latch m.operating (context_now s m) hired) m.trip (latch_pressed s latch m)
-goes_latch s hired None m none fresh = goes_quietly s hired m.trip m fresh
-goes_latch s hired (Some key) m none fresh = goes_key s hired key m.operating (record m { latch = None }) none fresh
-
--- an interval more
-fresh_more : (s : Setting) (hired : Context) (part : Part) (m : Meter) (trip : Option MeterTrip) → m.trip ≡ trip
-    → Fresh s hired m.trip → Fresh s hired (with_interval part m).trip
-fresh_more s hired part m None is fresh = rw is tt
-fresh_more s hired part m (Some t) is fresh =
-    let began : BeganIn s hired t = rw is at fresh in
-    rw is (record { fees = began.fees; opening = began.opening; extras = began.extras })
-
-fresh_counted : (s : Setting) (hired : Context) (operating : Operating) (pulses : ℕ) (m : Meter) → Fresh s hired m.trip
-    → Fresh s hired (counted_in s operating pulses m).trip
-fresh_counted s hired Off pulses m fresh = fresh
-fresh_counted s hired ForHire pulses m fresh = fresh
-fresh_counted s hired Hired pulses m fresh = fresh_more s hired (InHired pulses (context_of s m)) m m.trip refl fresh
-fresh_counted s hired Stopped pulses m fresh = fresh_more s hired (InStopped pulses) m m.trip refl fresh
-
-fresh_left : (s : Setting) (hired : Context) (operating : Operating) (pulses : ℕ) (m : Meter) → Fresh s hired m.trip
-    → Fresh s hired (left_in operating pulses m).trip
-fresh_left s hired Off pulses m fresh = fresh
-fresh_left s hired ForHire pulses m fresh = fresh
-fresh_left s hired Hired pulses m fresh = fresh_more s hired (Rest pulses) m m.trip refl fresh
-fresh_left s hired Stopped pulses m fresh = fresh_more s hired (Rest pulses) m m.trip refl fresh
-
--- for hire there is no trip
-none_kept : (s : Setting) (operating : Operating) (m : Meter) → operating ≡ ForHire
+-- what is for hire has no trip
+pub none_kept : (s : Setting) (operating : Operating) (m : Meter) → operating ≡ ForHire
     → IsTripKeptIn s operating m.durable.hold m.trip m.roaming → m.trip ≡ None
 none_kept s operating m is kept = (rw is at kept).1
 
-none_counted : (s : Setting) (operating : Operating) (pulses : ℕ) (m : Meter) → m.operating ≡ operating → IsTripKept s m
+pub none_counted : (s : Setting) (operating : Operating) (pulses : ℕ) (m : Meter) → m.operating ≡ operating
+    → IsTripKept s m
     → (counted_in s operating pulses m).operating ≡ ForHire → (counted_in s operating pulses m).trip ≡ None
 none_counted s Off pulses m is kept for_hire = none_kept s m.operating m for_hire kept
 none_counted s ForHire pulses m is kept for_hire = none_kept s m.operating m for_hire kept
 none_counted s Hired pulses m is kept for_hire = absurd (let e : Hired ≡ ForHire = sym is ∙ for_hire in cc)
 none_counted s Stopped pulses m is kept for_hire = absurd (let e : Stopped ≡ ForHire = sym is ∙ for_hire in cc)
 
-goes_expired : (s : Setting) (hired : Context) (m : Meter) → Goes s hired m.trip (expired s m)
-goes_expired s hired m =
-    let first = goes_closed s hired kinds.Expired m.clock m in
-    let o = closed s kinds.Expired m.clock m in
-    goes_then s hired hired m.trip o (λ (n : Meter). latch_refused n.latch n) first
-    (latch_by s hired m.trip o.next.latch o.next first.fresh)
+-- an event in Off ends no interval, and leaves none unfinished
+counted_off : (s : Setting) (m : Meter) → m.operating ≡ Off → (interval_counted s m).next.trip ≡ m.trip
+counted_off s m off = ap (λ (o : Operating). (counted_in s o (sum m.taken) m).trip) off
 
-goes_pressed : (s : Setting) (hired : Context) (m : Meter) → (m.operating ≡ ForHire → m.trip ≡ None)
-    → Fresh s hired m.trip
-    → Goes s (hired_by m.latch m.operating (context_now s m) hired) m.trip (expired_or_pressed s m)
-goes_pressed s hired m none fresh =
-    goes_if s _ m.trip (nat_le longest_trip (ticks_so_far m.trip)) (expired s m) (key_pressed s m)
-    (goes_expired s _ m) (goes_latch s hired m.latch m none fresh)
-
-goes_ticked : (s : Setting) (hired : Context) (m : Meter) → IsTripKept s m → Fresh s hired m.trip
-    → Goes s (hired_at s events.Tick m hired) (trip_at s events.Tick m) (ticked s m)
-goes_ticked s hired m kept fresh =
-    let m1 = (interval_counted s m).next in
-    let t = m1.trip in
-    let x = hired_by m.latch m.operating (context_now s m) hired in
-    let fresh1 = fresh_counted s hired m.operating (sum m.taken) m fresh in
-    let none1 = none_counted s m.operating (sum m.taken) m refl kept in
-    let acted = subst (λ (y : Context). Goes s y t (expired_or_pressed s m1)) (hired_after s m hired)
-    (goes_pressed s hired m1 none1 fresh1) in
-    let m2 = (expired_or_pressed s m1).next in
-    let roamed = roaming_by s x t m2.operating m2 acted.fresh in
-    let m3 = (roaming_checked s m2).next in
-    let seen = goes_shown s x t m3 roamed.fresh in
-    let begun : Goes s x t (interval_begun (shown s m3).next) = record { are = tt; fresh = seen.fresh } in
-    let four = goes_then s x x t (shown s m3) interval_begun seen begun in
-    let five = goes_then s x x t (roaming_checked s m2) (λ (n : Meter). shown s n >>= interval_begun) roamed four in
-    let six = goes_then s x x t (expired_or_pressed s m1)
-    (λ (n : Meter). roaming_checked s n >>= (λ (n : Meter). shown s n >>= interval_begun)) acted five in
-    goes_then s hired x t (interval_counted s m) (λ (n : Meter). expired_or_pressed s n
-    >>= (λ (n : Meter). roaming_checked s n >>= (λ (n : Meter). shown s n >>= interval_begun)))
-    (goes_quietly s hired t m1 fresh1) six
-
-kept_by : (s : Setting) (hired : Context) (trip : Option MeterTrip) (m : Meter) → m.trip ≡ trip → Fresh s hired trip
-    → Goes s hired trip (held_or_closed s trip m)
-kept_by s hired None m is fresh =
-    goes_if s hired None (nat_lt 0 (sum m.roaming)) (roaming_entered s m) (quiet m)
-    (goes_entered s hired None m (rw is tt)) (goes_quietly s hired None m (rw is tt))
-kept_by s hired (Some t) m is fresh =
-    goes_if s hired (Some t) (nat_lt m.durable.number last_number) _ (closed s kinds.Aborted m.clock m)
-    (record { are = tt; fresh = rw is fresh })
-    (subst (λ (o : Option MeterTrip). Goes s hired o (closed s kinds.Aborted m.clock m)) is
-    (goes_closed s hired kinds.Aborted m.clock m))
-
-goes_dropped : (s : Setting) (hired : Context) (m : Meter) → Fresh s hired m.trip
-    → Goes s hired (trip_at s events.Down m) (supply_dropped s m)
-goes_dropped s hired m fresh =
-    let m1 = (interval_left m).next in
-    let fresh1 = fresh_left s hired m.operating (sum m.taken) m fresh in
-    let stays = kept_by s hired m1.trip m1 refl fresh1 in
-    let off : Goes s hired m1.trip (turned_off (held_or_closed s m1.trip m1).next) =
-    record { are = tt; fresh = stays.fresh } in
-    goes_then s hired hired m1.trip (interval_left m) (λ (n : Meter). held_or_closed s n.trip n >>= turned_off)
-    (goes_quietly s hired m1.trip m1 fresh1)
-    (goes_then s hired hired m1.trip (held_or_closed s m1.trip m1) turned_off stays off)
-
-goes_aborted : (s : Setting) (hired : Context) (trip : Trip) (m : Meter) → Goes s hired m.trip (aborted s trip m)
-goes_aborted s hired trip m =
-    let o = closed s kinds.Aborted trip.saved (record m { position = trip.position }) in
-    let first = goes_closed s hired kinds.Aborted trip.saved (record m { position = trip.position }) in
-    goes_then s hired hired m.trip o (λ (n : Meter). quiet (record n { position = 1; zone = 1 })) first
-    (record { are = tt; fresh = first.fresh })
-
-hold_by : (s : Setting) (hired : Context) (second : ℕ) (hold : Option Trip) (m : Meter) → Fresh s hired m.trip
-    → Goes s hired m.trip (hold_taken s second hold m)
-hold_by s hired second None m fresh = record { are = tt; fresh = tt }
-hold_by s hired second (Some trip) m fresh =
-    goes_if s hired m.trip (is_within_hold s second trip) (resumed trip m) (aborted s trip m)
-    (record { are = tt; fresh = fresh }) (goes_aborted s hired trip m)
-
-goes_came : (s : Setting) (hired : Context) (second : ℕ) (m : Meter) → Fresh s hired m.trip
-    → Goes s hired m.trip (supply_came s second m)
-goes_came s hired second m fresh =
-    let taken = hold_by s hired second m.durable.hold (powered second m) fresh in
-    let o = hold_taken s second m.durable.hold (powered second m) in
-    goes_then s hired hired m.trip o (shown s) taken (goes_shown s hired m.trip o.next taken.fresh)
+left_off : (m : Meter) → m.operating ≡ Off → (interval_left m).next.trip ≡ m.trip
+left_off m off = ap (λ (o : Operating). (left_in o (sum m.taken) m).trip) off
 
 hired_off : (latch : Option Key) (now hired : Context) → hired_by latch Off now hired ≡ hired
 hired_off (Some keys.Hire) now hired = refl
@@ -367,106 +137,267 @@ surplus_by : (s : Setting) (trip : Option MeterTrip) (b : Bool) (n : ℕ)
 surplus_by s trip true n = tt
 surplus_by s trip false n = tt
 
-goes_pulses : (s : Setting) (hired : Context) (n : ℕ) (m : Meter) → Fresh s hired m.trip
-    → Goes s hired m.trip (pulses_taken n m)
-goes_pulses s hired n m fresh =
-    record { are = surplus_by s m.trip (nat_lt 0 (n - room_of m)) (n - room_of m); fresh = fresh }
+shown_by : (s : Setting) (trip : Option MeterTrip) (m : Meter) (b : Bool)
+    → AreOf s trip (receipts_in (if b then [] else Show (display_of s m) ∷ []))
+shown_by s trip m true = tt
+shown_by s trip m false = tt
 
-goes_clock : (s : Setting) (hired : Context) (operating : Operating) (second : ℕ) (m : Meter) → Fresh s hired m.trip
-    → Goes s hired m.trip (clock_read operating second m)
-goes_clock s hired Off second m fresh = record { are = tt; fresh = fresh }
-goes_clock s hired ForHire second m fresh = record { are = tt; fresh = fresh }
-goes_clock s hired Hired second m fresh = goes_if s hired m.trip (nat_lt second m.clock) _ _
-    (record { are = tt; fresh = fresh }) (record { are = tt; fresh = fresh })
-goes_clock s hired Stopped second m fresh = goes_if s hired m.trip (nat_lt second m.clock) _ _
-    (record { are = tt; fresh = fresh }) (record { are = tt; fresh = fresh })
+-- what holds without a trip, and of a trip with a supplement more where it holds of the trip, holds behind an event if
+-- it holds of the trip with the event's part, and of the trip that a hiring begins
+module _ (s : Setting) (F : Context → Option MeterTrip → Type 0) (nothing : (hired : Context) → F hired None)
+    (extra : (hired : Context) (n : ℕ) (t : MeterTrip) → (IsOfText s → IsSupplementNumber n) → F hired (Some t)
+    → F hired (Some (with_extra n t))) where
+  abbrev Comes : Context → Option MeterTrip → Outcome → Type 0
+  Comes hired trip o = Goes F s hired trip o
 
-goes_latched : (s : Setting) (hired : Context) (latch : Option Key) (key : Key) (m : Meter) → Fresh s hired m.trip
-    → Goes s hired m.trip (latched latch key m)
-goes_latched s hired None key m fresh = record { are = tt; fresh = fresh }
-goes_latched s hired (Some waiting) key m fresh = record { are = tt; fresh = fresh }
+  without : (hired : Context) (trip : Option MeterTrip) → trip ≡ None → F hired trip
+  without hired trip none = subst (λ (o : Option MeterTrip). F hired o) (sym none) (nothing hired)
 
-goes_powered : (s : Setting) (hired : Context) (event : Event) (m : Meter) → IsTripKept s m → Fresh s hired m.trip
-    → Goes s (hired_at s event m hired) (trip_at s event m) (powered_step s event m)
-goes_powered s hired (events.Up second) m kept fresh = record { are = tt; fresh = fresh }
-goes_powered s hired events.Down m kept fresh = goes_dropped s hired m fresh
-goes_powered s hired (events.Pulses n) m kept fresh = goes_pulses s hired n m fresh
-goes_powered s hired events.Tick m kept fresh = goes_ticked s hired m kept fresh
-goes_powered s hired (events.Clock second) m kept fresh = goes_clock s hired m.operating second m fresh
-goes_powered s hired (events.Key key) m kept fresh = goes_latched s hired m.latch key m fresh
+  goes_then : (mid hired : Context) (trip : Option MeterTrip) (o : Outcome) (next : Meter → Outcome)
+      → Comes mid trip o → Comes hired trip (next o.next) → Comes hired trip (o >>= next)
+  goes_then mid hired trip o next one other = record {
+    are = subst (λ (list : List Receipt). AreOf s trip list)
+        (sym (filter_map-append receipt_in o.acts (next o.next).acts))
+        (are_both s trip (receipts_in o.acts) (receipts_in (next o.next).acts) one.are other.are);
+    holds = other.holds;
+  }
 
-goes_off : (s : Setting) (hired : Context) (event : Event) (m : Meter) → m.operating ≡ Off → Fresh s hired m.trip
-    → Goes s (hired_at s event m hired) (trip_at s event m) (off_step s event m)
-goes_off s hired (events.Up second) m off fresh = goes_came s hired second m fresh
-goes_off s hired events.Down m off fresh = record { are = tt; fresh = fresh }
-goes_off s hired (events.Pulses n) m off fresh = record { are = tt; fresh = fresh }
-goes_off s hired events.Tick m off fresh = record {
-  are = tt;
-  fresh = subst (λ (y : Context). Fresh s y m.trip) (sym (rw off (hired_off m.latch (context_now s m) hired))) fresh;
-}
-goes_off s hired (events.Clock second) m off fresh = record { are = tt; fresh = fresh }
-goes_off s hired (events.Key key) m off fresh = record { are = tt; fresh = fresh }
+  goes_quietly : (hired : Context) (trip : Option MeterTrip) (m : Meter) → F hired m.trip → Comes hired trip (quiet m)
+  goes_quietly hired trip m holds = record { are = tt; holds = holds }
 
-step_by : (s : Setting) (hired : Context) (operating : Operating) (event : Event) (m : Meter) → m.operating ≡ operating
-    → IsTripKept s m → Fresh s hired m.trip
-    → Goes s (hired_at s event m hired) (trip_at s event m) (step_in s operating event m)
-step_by s hired Off event m is kept fresh = goes_off s hired event m is fresh
-step_by s hired ForHire event m is kept fresh = goes_powered s hired event m kept fresh
-step_by s hired Hired event m is kept fresh = goes_powered s hired event m kept fresh
-step_by s hired Stopped event m is kept fresh = goes_powered s hired event m kept fresh
+  goes_if : (hired : Context) (trip : Option MeterTrip) (b : Bool) (first second : Outcome)
+      → Comes hired trip first → Comes hired trip second → Comes hired trip (if b then first else second)
+  goes_if hired trip true first second one other = one
+  goes_if hired trip false first second one other = other
 
-fresh_at : (s : Setting) (hired : Context) (event : Event) (m : Meter) → Fresh s hired m.trip
-    → Fresh s hired (trip_at s event m)
-fresh_at s hired events.Tick m fresh = fresh_counted s hired m.operating (sum m.taken) m fresh
-fresh_at s hired events.Down m fresh = fresh_left s hired m.operating (sum m.taken) m fresh
-fresh_at s hired (events.Up second) m fresh = fresh
-fresh_at s hired (events.Pulses n) m fresh = fresh
-fresh_at s hired (events.Clock second) m fresh = fresh
-fresh_at s hired (events.Key key) m fresh = fresh
+  closed_by : (hired : Context) (kind : Kind) (finish : ℕ) (trip : Option MeterTrip) (m : Meter)
+      → m.trip ≡ None → Comes hired trip (trip_closed s kind finish trip m)
+  closed_by hired kind finish None m none = record { are = tt; holds = without hired m.trip none }
+  closed_by hired kind finish (Some t) m none = record {
+    are = (
+      record {
+        t = t;
+        kind = kind;
+        finish = finish;
+        position = m.position;
+        number = m.durable.number + 1;
+        there = refl;
+        is = refl;
+      },
+      tt,
+    );
+    holds = without hired m.trip none;
+  }
 
--- a receipt of a trip that began in a context is explained by it
-one_told : (s : Setting) (hired : Context) (trip : Option MeterTrip) (receipt : Receipt) → Fresh s hired trip
-    → IsReceiptOf s trip receipt → IsOfTrip s (explanation s hired trip receipt)
-one_told s hired trip receipt fresh of = record {
-  hired = hired;
-  trip = of.t;
-  kind = of.kind;
-  finish = of.finish;
-  position = of.position;
-  number = of.number;
-  began = rw of.there at fresh;
-  is = rw (of.there, of.is) refl;
-}
+  goes_closed : (hired : Context) (kind : Kind) (finish : ℕ) (m : Meter) → Comes hired m.trip (closed s kind finish m)
+  goes_closed hired kind finish m =
+      closed_by hired kind finish m.trip (record m { operating = ForHire; trip = None }) refl
 
-all_told : (s : Setting) (hired : Context) (trip : Option MeterTrip) (list : List Receipt) → Fresh s hired trip
-    → AreOf s trip list → All (IsOfTrip s) (map (explanation s hired trip) list)
-all_told s hired trip [] fresh are = All-nil (IsOfTrip s)
-all_told s hired trip (receipt ∷ more) fresh are =
-    All-cons (IsOfTrip s) (explanation s hired trip receipt) (map (explanation s hired trip) more)
-    (one_told s hired trip receipt fresh are.0) (all_told s hired trip more fresh are.1)
+  goes_shown : (hired : Context) (trip : Option MeterTrip) (m : Meter) → F hired m.trip → Comes hired trip (shown s m)
+  goes_shown hired trip m holds =
+      record { are = shown_by s trip m (is_shown m.shown (display_of s m)); holds = holds }
 
-ended_by : (s : Setting) (hired : Context) (operating : Operating) (m : Meter) → Fresh s hired m.trip
-    → AreOf s (trip_at s events.Down m) (receipts_in (ended_in s operating m).acts)
-ended_by s hired Off m fresh = tt
-ended_by s hired ForHire m fresh = (goes_dropped s hired m fresh).are
-ended_by s hired Hired m fresh = (goes_dropped s hired m fresh).are
-ended_by s hired Stopped m fresh = (goes_dropped s hired m fresh).are
+  goes_entered : (hired : Context) (trip : Option MeterTrip) (m : Meter) → F hired m.trip
+      → Comes hired trip (roaming_entered s m)
+  goes_entered hired trip m holds = record { are = tt; holds = holds }
 
-of_trips_from : (s : Setting) (events : List Event) (m : Meter) (hired : Context) → IsTripKept s m
-    → Fresh s hired m.trip → All (IsOfTrip s) (explanations_from s events m hired)
-unfolding explanations_from
-of_trips_from s [] m hired kept fresh =
-    all_told s hired (trip_at s events.Down m) (receipts_in (ended s m).acts) (fresh_at s hired events.Down m fresh)
-    (ended_by s hired m.operating m fresh)
-of_trips_from s (event ∷ events) m hired kept fresh =
-    let goes = step_by s hired m.operating event m refl kept fresh in
-    All-append (IsOfTrip s) (explanations_in s hired (trip_at s event m) (step s event m).acts)
-    (explanations_from s events (step s event m).next (hired_at s event m hired))
-    (all_told s hired (trip_at s event m) (receipts_in (step s event m).acts) (fresh_at s hired event m fresh) goes.are)
-    (of_trips_from s events (step s event m).next (hired_at s event m hired)
-    (states.the_store_keeps_the_trip-step s event m kept) goes.fresh)
+  roaming_by : (hired : Context) (trip : Option MeterTrip) (operating : Operating) (m : Meter)
+      → F hired m.trip → Comes hired trip (roaming_checked_in s operating m)
+  roaming_by hired trip Off m holds = goes_quietly hired trip m holds
+  roaming_by hired trip ForHire m holds = goes_if hired trip (nat_le roaming_most (sum m.roaming))
+      (roaming_entered s m) (quiet m) (goes_entered hired trip m holds) (goes_quietly hired trip m holds)
+  roaming_by hired trip Hired m holds = goes_quietly hired trip m holds
+  roaming_by hired trip Stopped m holds = goes_quietly hired trip m holds
 
-pub explained_are_of_trips : (s : Setting) (events : List Event) → All (IsOfTrip s) (explanations_of s events)
-explained_are_of_trips s events =
-    of_trips_from s events (opened s first_state) (context_now s (opened s first_state))
-    (states.the_store_keeps_the_trip-begins s first_state tt) tt
+  latch_by : (hired : Context) (trip : Option MeterTrip) (latch : Option Key) (m : Meter)
+      → F hired m.trip → Comes hired trip (latch_refused latch m)
+  latch_by hired trip None m holds = goes_quietly hired trip m holds
+  latch_by hired trip (Some key) m holds = record { are = tt; holds = holds }
+
+  extra_by : (hired : Context) (n : ℕ) (supplement : Supplement) (trip : Option MeterTrip) (m : Meter)
+      → (IsOfText s → IsSupplementNumber n) → m.trip ≡ trip → F hired trip
+      → Comes hired trip (extra_added_to n supplement trip m)
+  extra_by hired n supplement None m numbered is holds = record { are = tt; holds = without hired m.trip is }
+  extra_by hired n supplement (Some t) m numbered is holds =
+      let refused_there : F hired m.trip = subst (λ (o : Option MeterTrip). F hired o) (sym is) holds in
+      goes_if hired (Some t) (nat_le supplement.max (times n t.extras)) _ _
+      (record { are = tt; holds = refused_there }) (record { are = tt; holds = extra hired n t numbered holds })
+
+  goes_extra : (hired : Context) (n : ℕ) (supplement : Option Supplement) (m : Meter)
+      → supplement_numbered s.tariff.supplements n ≡ supplement → F hired m.trip
+      → Comes hired m.trip (extra_added n supplement m)
+  goes_extra hired n None m there holds = record { are = tt; holds = holds }
+  goes_extra hired n (Some supplement) m there holds = extra_by hired n supplement m.trip m
+      (λ of_text. supplement_of_text s n supplement of_text there) refl holds
+
+  goes_position : (hired : Context) (n : ℕ) (m : Meter) → F hired m.trip → Comes hired m.trip (position_set s n m)
+  goes_position hired n m holds =
+      goes_if hired m.trip (is_among s.tariff.positions n) _ _ (record { are = tt; holds = holds })
+      (record { are = tt; holds = holds })
+
+  goes_zone : (hired : Context) (n : ℕ) (m : Meter) → F hired m.trip → Comes hired m.trip (zone_set s n m)
+  goes_zone hired n m holds =
+      goes_if hired m.trip (is_among s.tariff.zones n) _ _ (record { are = tt; holds = holds })
+      (record { are = tt; holds = holds })
+
+  goes_hiring : (trip : Option MeterTrip) (m : Meter) → m.trip ≡ None → F (context_now s m) (Some (begun_at s m))
+      → Comes (context_now s m) trip (hiring s m)
+  goes_hiring trip m none begins =
+      goes_if (context_now s m) trip (nat_le hirings_end m.durable.number) _ _
+      (record { are = tt; holds = without (context_now s m) m.trip none }) (record { are = tt; holds = begins })
+
+  goes_key : (hired : Context) (key : Key) (operating : Operating) (m : Meter)
+      → (operating ≡ ForHire → m.trip ≡ None)
+      → (key ≡ keys.Hire → operating ≡ ForHire → F (context_now s m) (Some (begun_at s m))) → F hired m.trip
+      → Comes (hired_by (Some key) operating (context_now s m) hired) m.trip (key_in s key operating m)
+  goes_key hired keys.Hire ForHire m none begins holds = goes_hiring m.trip m (none refl) (begins refl refl)
+  goes_key hired keys.Stop Hired m none begins holds = record { are = tt; holds = holds }
+  goes_key hired keys.Clear Stopped m none begins holds = goes_closed hired kinds.Closed m.clock m
+  goes_key hired (keys.Position n) ForHire m none begins holds = goes_position hired n m holds
+  goes_key hired (keys.Position n) Hired m none begins holds = goes_position hired n m holds
+  goes_key hired (keys.Zone n) ForHire m none begins holds = goes_zone hired n m holds
+  goes_key hired (keys.Zone n) Hired m none begins holds = goes_zone hired n m holds
+  goes_key hired (keys.Extra n) Hired m none begins holds =
+      goes_extra hired n (supplement_numbered s.tariff.supplements n) m refl holds
+  goes_key hired (keys.Extra n) Stopped m none begins holds =
+      goes_extra hired n (supplement_numbered s.tariff.supplements n) m refl holds
+  goes_key hired key operating m none begins holds = record { are = tt; holds = holds }
+
+  goes_latch : (hired : Context) (latch : Option Key) (m : Meter) → (m.operating ≡ ForHire → m.trip ≡ None)
+      → (latch ≡ Some keys.Hire → m.operating ≡ ForHire → F (context_now s m) (Some (begun_at s m))) → F hired m.trip
+      → Comes (hired_by latch m.operating (context_now s m) hired) m.trip (latch_pressed s latch m)
+  goes_latch hired None m none begins holds = goes_quietly hired m.trip m holds
+  goes_latch hired (Some key) m none begins holds = goes_key hired key m.operating (record m { latch = None }) none
+      (λ is for_hire. begins (ap (λ (k : Key). Some k) is) for_hire) holds
+
+  goes_expired : (hired : Context) (m : Meter) → Comes hired m.trip (expired s m)
+  goes_expired hired m =
+      let first = goes_closed hired kinds.Expired m.clock m in
+      let o = closed s kinds.Expired m.clock m in
+      goes_then hired hired m.trip o (λ (n : Meter). latch_refused n.latch n) first
+      (latch_by hired m.trip o.next.latch o.next first.holds)
+
+  -- the hiring that a tick may begin
+  abbrev Begins : Meter → Type 0
+  Begins m = m.latch ≡ Some keys.Hire → m.operating ≡ ForHire → F (context_now s m) (Some (begun_at s m))
+
+  goes_pressed : (hired : Context) (m : Meter) → (m.operating ≡ ForHire → m.trip ≡ None) → Begins m → F hired m.trip
+      → Comes (hired_by m.latch m.operating (context_now s m) hired) m.trip (expired_or_pressed s m)
+  goes_pressed hired m none begins holds =
+      goes_if _ m.trip (nat_le longest_trip (ticks_so_far m.trip)) (expired s m) (key_pressed s m)
+      (goes_expired _ m) (goes_latch hired m.latch m none begins holds)
+
+  goes_ticked : (hired : Context) (m : Meter) → IsTripKept s m → Begins (interval_counted s m).next
+      → F hired (trip_at s events.Tick m)
+      → Comes (hired_at s events.Tick m hired) (trip_at s events.Tick m) (ticked s m)
+  goes_ticked hired m kept begins holds =
+      let m1 = (interval_counted s m).next in
+      let t = m1.trip in
+      let x = hired_by m.latch m.operating (context_now s m) hired in
+      let none1 = none_counted s m.operating (sum m.taken) m refl kept in
+      let acted = subst (λ (y : Context). Comes y t (expired_or_pressed s m1)) (hired_after s m hired)
+      (goes_pressed hired m1 none1 begins holds) in
+      let m2 = (expired_or_pressed s m1).next in
+      let roamed = roaming_by x t m2.operating m2 acted.holds in
+      let m3 = (roaming_checked s m2).next in
+      let seen = goes_shown x t m3 roamed.holds in
+      let last : Comes x t (interval_begun (shown s m3).next) = record { are = tt; holds = seen.holds } in
+      let four = goes_then x x t (shown s m3) interval_begun seen last in
+      let five = goes_then x x t (roaming_checked s m2) (λ (n : Meter). shown s n >>= interval_begun) roamed four in
+      let six = goes_then x x t (expired_or_pressed s m1)
+      (λ (n : Meter). roaming_checked s n >>= (λ (n : Meter). shown s n >>= interval_begun)) acted five in
+      goes_then hired x t (interval_counted s m) (λ (n : Meter). expired_or_pressed s n
+      >>= (λ (n : Meter). roaming_checked s n >>= (λ (n : Meter). shown s n >>= interval_begun)))
+      (goes_quietly hired t m1 holds) six
+
+  kept_by : (hired : Context) (trip : Option MeterTrip) (m : Meter) → m.trip ≡ trip → F hired trip
+      → Comes hired trip (held_or_closed s trip m)
+  kept_by hired None m is holds =
+      goes_if hired None (nat_lt 0 (sum m.roaming)) (roaming_entered s m) (quiet m)
+      (goes_entered hired None m (without hired m.trip is)) (goes_quietly hired None m (without hired m.trip is))
+  kept_by hired (Some t) m is holds =
+      goes_if hired (Some t) (nat_lt m.durable.number last_number) _ (closed s kinds.Aborted m.clock m)
+      (record { are = tt; holds = subst (λ (o : Option MeterTrip). F hired o) (sym is) holds })
+      (subst (λ (o : Option MeterTrip). Comes hired o (closed s kinds.Aborted m.clock m)) is
+      (goes_closed hired kinds.Aborted m.clock m))
+
+  pub goes_dropped : (hired : Context) (m : Meter) → F hired (trip_at s events.Down m)
+      → Comes hired (trip_at s events.Down m) (supply_dropped s m)
+  goes_dropped hired m holds =
+      let m1 = (interval_left m).next in
+      let stays = kept_by hired m1.trip m1 refl holds in
+      let off : Comes hired m1.trip (turned_off (held_or_closed s m1.trip m1).next) =
+      record { are = tt; holds = stays.holds } in
+      goes_then hired hired m1.trip (interval_left m) (λ (n : Meter). held_or_closed s n.trip n >>= turned_off)
+      (goes_quietly hired m1.trip m1 holds)
+      (goes_then hired hired m1.trip (held_or_closed s m1.trip m1) turned_off stays off)
+
+  goes_aborted : (hired : Context) (trip : Trip) (m : Meter) → Comes hired m.trip (aborted s trip m)
+  goes_aborted hired trip m =
+      let o = closed s kinds.Aborted trip.saved (record m { position = trip.position }) in
+      let first = goes_closed hired kinds.Aborted trip.saved (record m { position = trip.position }) in
+      goes_then hired hired m.trip o (λ (n : Meter). quiet (record n { position = 1; zone = 1 })) first
+      (record { are = tt; holds = first.holds })
+
+  hold_by : (hired : Context) (second : ℕ) (hold : Option Trip) (m : Meter) → F hired m.trip
+      → Comes hired m.trip (hold_taken s second hold m)
+  hold_by hired second None m holds = record { are = tt; holds = nothing hired }
+  hold_by hired second (Some trip) m holds =
+      goes_if hired m.trip (is_within_hold s second trip) (resumed trip m) (aborted s trip m)
+      (record { are = tt; holds = holds }) (goes_aborted hired trip m)
+
+  goes_came : (hired : Context) (second : ℕ) (m : Meter) → F hired m.trip
+      → Comes hired m.trip (supply_came s second m)
+  goes_came hired second m holds =
+      let taken = hold_by hired second m.durable.hold (powered second m) holds in
+      let o = hold_taken s second m.durable.hold (powered second m) in
+      goes_then hired hired m.trip o (shown s) taken (goes_shown hired m.trip o.next taken.holds)
+
+  goes_pulses : (hired : Context) (n : ℕ) (m : Meter) → F hired m.trip → Comes hired m.trip (pulses_taken n m)
+  goes_pulses hired n m holds =
+      record { are = surplus_by s m.trip (nat_lt 0 (n - room_of m)) (n - room_of m); holds = holds }
+
+  goes_clock : (hired : Context) (operating : Operating) (second : ℕ) (m : Meter) → F hired m.trip
+      → Comes hired m.trip (clock_read operating second m)
+  goes_clock hired Off second m holds = record { are = tt; holds = holds }
+  goes_clock hired ForHire second m holds = record { are = tt; holds = holds }
+  goes_clock hired Hired second m holds = goes_if hired m.trip (nat_lt second m.clock) _ _
+      (record { are = tt; holds = holds }) (record { are = tt; holds = holds })
+  goes_clock hired Stopped second m holds = goes_if hired m.trip (nat_lt second m.clock) _ _
+      (record { are = tt; holds = holds }) (record { are = tt; holds = holds })
+
+  goes_latched : (hired : Context) (latch : Option Key) (key : Key) (m : Meter) → F hired m.trip
+      → Comes hired m.trip (latched latch key m)
+  goes_latched hired None key m holds = record { are = tt; holds = holds }
+  goes_latched hired (Some waiting) key m holds = record { are = tt; holds = holds }
+
+  goes_powered : (hired : Context) (event : Event) (m : Meter) → IsTripKept s m
+      → (event ≡ events.Tick → Begins (interval_counted s m).next) → F hired (trip_at s event m)
+      → Comes (hired_at s event m hired) (trip_at s event m) (powered_step s event m)
+  goes_powered hired (events.Up second) m kept begins holds = record { are = tt; holds = holds }
+  goes_powered hired events.Down m kept begins holds = goes_dropped hired m holds
+  goes_powered hired (events.Pulses n) m kept begins holds = goes_pulses hired n m holds
+  goes_powered hired events.Tick m kept begins holds = goes_ticked hired m kept (begins refl) holds
+  goes_powered hired (events.Clock second) m kept begins holds = goes_clock hired m.operating second m holds
+  goes_powered hired (events.Key key) m kept begins holds = goes_latched hired m.latch key m holds
+
+  goes_off : (hired : Context) (event : Event) (m : Meter) → m.operating ≡ Off → F hired (trip_at s event m)
+      → Comes (hired_at s event m hired) (trip_at s event m) (off_step s event m)
+  goes_off hired (events.Up second) m off holds = goes_came hired second m holds
+  goes_off hired events.Down m off holds =
+      record { are = tt; holds = subst (λ (o : Option MeterTrip). F hired o) (left_off m off) holds }
+  goes_off hired (events.Pulses n) m off holds = record { are = tt; holds = holds }
+  goes_off hired events.Tick m off holds =
+      let there : F hired m.trip = subst (λ (o : Option MeterTrip). F hired o) (counted_off s m off) holds in
+      let same : hired_at s events.Tick m hired ≡ hired = rw off (hired_off m.latch (context_now s m) hired) in
+      record { are = tt; holds = subst (λ (y : Context). F y m.trip) (sym same) there }
+  goes_off hired (events.Clock second) m off holds = record { are = tt; holds = holds }
+  goes_off hired (events.Key key) m off holds = record { are = tt; holds = holds }
+
+  pub step_goes : (hired : Context) (operating : Operating) (event : Event) (m : Meter) → m.operating ≡ operating
+      → IsTripKept s m → (event ≡ events.Tick → Begins (interval_counted s m).next) → F hired (trip_at s event m)
+      → Comes (hired_at s event m hired) (trip_at s event m) (step_in s operating event m)
+  step_goes hired Off event m is kept begins holds = goes_off hired event m is holds
+  step_goes hired ForHire event m is kept begins holds = goes_powered hired event m kept begins holds
+  step_goes hired Hired event m is kept begins holds = goes_powered hired event m kept begins holds
+  step_goes hired Stopped event m is kept begins holds = goes_powered hired event m kept begins holds

@@ -7,12 +7,11 @@ use Rattle.std.proofs.lemmas.Bool.Decides.{eqb_tells}
 use Rattle.std.proofs.lemmas.List.Elements.{filter-append}
 use Rattle.std.proofs.lemmas.List.Sums.{sum-map, sum_by-append}
 use Rattle.std.proofs.Math.Nat.{mul-add}
-use Rattle.meter_states.specs.Charge.{charge_at}
-use Rattle.meter_states.specs.Setting.{Setting}
-use Rattle.meter_states.specs.Trip.{Part, InHired, charge_in, pulses_in, ticks_in}
+use Rattle.meter_model.specs.Charge.{charge_at}
+use Rattle.meter_model.specs.Setting.{Setting}
+use Rattle.meter_model.specs.Trip.{Part, InHired, charge_in, pulses_in, ticks_in}
 use Rattle.tariff_syntax.specs.declared.context.Context.{Context}
-use Rattle.verify_bench.specs.Gathered.{IsTableOf, all_ways, no_rate_sums, no_sums, rate_at}
-use Rattle.verify_bench.specs.Gathered.{rate_sums_with, sums_with}
+use Rattle.verify_bench.specs.Gathered.{IsTableOf, all_ways, no_rate_sums, no_sums, rate_at, rate_sums_with, sums_with}
 use Rattle.verify_bench.specs.Groups.{is_charged_by, is_same_way, rate_place_of, rate_sums, sums_of, way_of}
 use Rattle.verify_bench.specs.declared.explained.Sums.{Sums}
 use Rattle.verify_bench.specs.declared.explained.Way.{Way}

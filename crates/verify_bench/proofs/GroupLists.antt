@@ -2,8 +2,8 @@
 use Rattle.std.proofs.Common.{◌≡◌, ◌∙◌, ℕ, zero, suc, ◌+◌, ◌<◌, ◌≤◌, List, [], ◌∷◌, ◌++◌, length, drop, drop-cons}
 use Rattle.std.proofs.Common.{get_or, refl, ap, sym, subst, append_assoc, arith}
 use Rattle.std.proofs.lemmas.List.{append-nil}
-use Rattle.meter_states.specs.Setting.{Setting}
-use Rattle.meter_states.specs.Trip.{Part}
+use Rattle.meter_model.specs.Setting.{Setting}
+use Rattle.meter_model.specs.Trip.{Part}
 use Rattle.tariff_check.specs.SoundTariff.{own_lines}
 use Rattle.tariff_check.specs.declared.choice.Choice.{Choice}
 use Rattle.verify_bench.specs.Groups.{groups_at, groups_from}

@@ -3,9 +3,9 @@ use Rattle.std.proofs.Common.{◌≡◌, ◌≢◌, ◌↔◌, ℕ, ◌<◌, ◌
 use Rattle.drive_text.specs.Drive.{bad_at_end, runs_in}
 use Rattle.drive_text.specs.Ending.{stream_limit}
 use Rattle.drive_modes.specs.declared.charges.Mode.{Mode}
-use Rattle.meter_states.specs.Charge.{charge_by}
-use Rattle.meter_states.specs.Run.{actions_of}
-use Rattle.meter_states.specs.Setting.{Setting}
+use Rattle.meter_model.specs.Charge.{charge_by}
+use Rattle.meter_model.specs.Run.{actions_of}
+use Rattle.meter_model.specs.Setting.{Setting}
 use Rattle.tariff_check.specs.Faults.{IsSound}
 use Rattle.tariff_check.specs.Parts.{RateNumbers}
 use Rattle.tariff_check.specs.SoundTariff.{sound_of}
@@ -20,19 +20,22 @@ use Rattle.verify_bench.specs.Passing.{EachRowPasses, do_all_pass}
 use Rattle.verify_bench.specs.Readings.{IsReadAs, readings_in}
 use Rattle.verify_bench.specs.Verdicts.{IsVerdict, verdict_of}
 use Rattle.verify_bench.specs.Receipts.{receipts_in}
-use Rattle.verify_bench.specs.Wholes.{ArePartsTheWhole, IsOfTrip, MakesReceipt, charge_in_way}
+use Rattle.verify_bench.specs.Wholes.{ArePartsTheWhole, HasFees, HasGroups, IsOfTrip, MakesReceipt, charge_in_way}
 use Rattle.verify_bench.specs.declared.expected.Expected.{Expected}
 use Rattle.verify_bench.specs.declared.judging.Verdict.{Verdict}
 use Rattle.verify_bench.specs.declared.reading.Reading.{Reading}
 use Rattle.verify_bench.specs.declared.reading.ReadingsFault.{ReadingsFault}
 use Rattle.verify_bench.specs.declared.reading.ReadingsFault.TheVariants.{NoMemory}
 use Rattle.verify_bench.proofs.EachPasses.{each_passes}
-use Rattle.verify_bench.proofs.Explanations.{explained_are_of_trips, receipts_explained}
+use Rattle.verify_bench.proofs.DriveTrips.{explained_are_of_trips}
+use Rattle.verify_bench.proofs.Explanations.{receipts_explained}
 use Rattle.verify_bench.proofs.FirstFaults.{first_fault}
 use Rattle.verify_bench.proofs.GeneratedLaws.{generated_is_good, generated_is_short, generated_means_its_lines}
 use Rattle.verify_bench.proofs.OneReading.{one_reading}
 use Rattle.verify_bench.proofs.Partition.{all_add_up, all_make, ways_charge}
 use Rattle.verify_bench.proofs.ReceiptList.{expected_are_receipts}
+use Rattle.verify_bench.proofs.TripFees.{all_have_fees}
+use Rattle.verify_bench.proofs.TripGroups.{all_have_groups}
 
 pub generated_drives_mean_their_lines-good : (seed trips : ℕ) → trips ≤ 1000 → bad_at_end (generated seed trips) ≡ None
 generated_drives_mean_their_lines-good = generated_is_good
@@ -54,8 +57,12 @@ pub explanations_have_the_receipts-receipts : (s : Setting) (events : List Event
 explanations_have_the_receipts-receipts = receipts_explained
 
 pub explanations_have_the_receipts-trips : (s : Setting) (events : List Event)
-    → All (IsOfTrip s) (explanations_of s events)
+    → All (IsOfTrip s events) (explanations_of s events)
 explanations_have_the_receipts-trips = explained_are_of_trips
+
+pub explanations_have_the_receipts-fees : (t : Tree) (s : Setting) (events : List Event) → IsSound t
+    → s.tariff ≡ sound_of t → All (HasFees s events) (explanations_of s events)
+explanations_have_the_receipts-fees = all_have_fees
 
 pub explanations_add_up-whole : (t : Tree) (s : Setting) (events : List Event) → IsSound t → s.tariff ≡ sound_of t
     → All ArePartsTheWhole (explanations_of s events)
@@ -67,6 +74,10 @@ explanations_add_up-receipt = all_make
 pub explanations_add_up-ways : (mode : Mode) (k common : ℕ) (r : RateNumbers) (p : ℕ)
     → charge_by mode k common r p ≡ charge_in_way k common r p (way_by mode k r p)
 explanations_add_up-ways = ways_charge
+
+pub explanations_add_up-groups : (t : Tree) (s : Setting) (events : List Event) → IsSound t → s.tariff ≡ sound_of t
+    → All (HasGroups s events) (explanations_of s events)
+explanations_add_up-groups = all_have_groups
 
 pub verdicts_name_the_first_fault : (expected : Expected) (reading : Reading) (step : ℕ) (verdict : Verdict)
     → (verdict_of expected reading step ≡ verdict) ↔ IsVerdict expected reading step verdict

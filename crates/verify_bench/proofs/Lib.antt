@@ -18,7 +18,9 @@ mod CrossOverLines
 mod CsvRows
 -- readings pass exactly where each row of the report does
 mod EachPasses
--- explanations have the receipts and the trips of the run of the meter
+-- each explanation is of a trip of its drive
+mod DriveTrips
+-- explanations have the receipts of the run of the meter, and what an event makes of a trip
 mod Explanations
 -- the fields of a row of csv, where it has three
 mod Fields
@@ -58,5 +60,9 @@ mod StepCounts
 mod TakenLists
 -- the parts of a sound tariff that hold in a context are sound
 mod TreeParts
+-- each explanation has the fees in force at the hiring, with their lines
+mod TripFees
+-- each group has the line and the way that charged its intervals
+mod TripGroups
 -- the trips of a generated drive, one behind the other
 mod Trips

@@ -4,14 +4,12 @@ use Rattle.std.proofs.Common.{length, arith, length-append}
 use Rattle.std.specs.Prelude.{decimal}
 use Rattle.std.proofs.lemmas.Bool.{ne_eqb}
 use Rattle.std.proofs.lemmas.List.{append-nil}
-use Rattle.drive_text.specs.Ranges.{IsInRange}
+use Rattle.drive_text.proofs.Laws.{written_line_is_short}
 use Rattle.drive_text.specs.Runs.{interval_events, intervals_events}
-use Rattle.drive_text.specs.Written.{event_text, event_fields, key_text}
+use Rattle.drive_text.specs.Written.{event_text}
 use Rattle.drive_text.specs.declared.run.Run.TheVariants.{One, Many}
 use Rattle.taxi_units.specs.declared.event.Event.{Event}
-use Rattle.taxi_units.specs.declared.event.Event.TheVariants.{Up, Pulses, Clock}
-use Rattle.taxi_units.specs.declared.event.Event.TheVariants as events
-use Rattle.taxi_units.specs.declared.event.Key.TheVariants.{Position, Zone, Extra}
+use Rattle.taxi_units.specs.declared.event.Event.TheVariants.{Up}
 use Rattle.taxi_units.proofs.Laws as units
 use Rattle.verify_bench.specs.Generated.{line_text, lines_text}
 use Rattle.verify_bench.specs.Adding.{lines_events}
@@ -22,23 +20,6 @@ number_line : (places value : ℕ) (byte : ℕ) → 0 < places → places ≤ 64
 number_line places value byte some few small =
     let short = units.numbers_are_short places value some few small in
     omega (arith, length-append (decimal value) (byte ∷ []), short.1)
-
--- the line of an event has at most 13 bytes
-pub events_are_short : (event : Event) → IsInRange event → length (event_text event) ≤ 13
-unfolding event_fields key_text
-events_are_short (Up second) range = let short =
-    number_line 10 second 10 (omega arith) (omega arith) (omega arith) in omega arith
-events_are_short (Pulses pulses) range = let short =
-    number_line 5 pulses 10 (omega arith) (omega arith) (omega arith) in omega arith
-events_are_short (Clock second) range = let short =
-    number_line 10 second 10 (omega arith) (omega arith) (omega arith) in omega arith
-events_are_short (events.Key (Position number)) range = let short =
-    number_line 2 number 10 (omega arith) (omega arith) (omega arith) in omega arith
-events_are_short (events.Key (Zone number)) range = let short =
-    number_line 2 number 10 (omega arith) (omega arith) (omega arith) in omega arith
-events_are_short (events.Key (Extra number)) range = let short =
-    number_line 2 number 10 (omega arith) (omega arith) (omega arith) in omega arith
-events_are_short event range = omega arith
 
 -- the text of the line of an event
 pub event_line : (event : Event) → lines_text (One event ∷ []) ≡ event_text event
@@ -84,4 +65,4 @@ loud_events pulses count some =
 -- the first line
 pub first_is_short : length (line_text (One (Up 1772406000))) ≤ 13
 unfolding line_text
-first_is_short = events_are_short (Up 1772406000) (omega arith, omega arith)
+first_is_short = written_line_is_short (Up 1772406000) (omega arith, omega arith)

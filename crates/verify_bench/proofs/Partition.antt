@@ -1,17 +1,16 @@
 -- The groups of a trip's parts, those in Stopped and those that were left unfinished are all its parts.
 use Rattle.std.proofs.Common.{◌≡◌, ℕ, zero, suc, ◌+◌, ◌*◌, ◌<◌, ◌≤◌, ◌∙◌, List, [], ◌∷◌, ◌++◌, length, refl, ap, sym}
 use Rattle.std.proofs.Common.{map, sum, filter, All, Bool, true, false, inl, inr, subst, arith}
-use Rattle.std.specs.Prelude.{◌&&◌, cond, nat_eq, nat_lt, if◌then◌else◌}
+use Rattle.std.specs.Prelude.{◌&&◌, cond, nat_eq, nat_lt, if◌then◌else◌, flat_map}
 use Rattle.std.proofs.lemmas.Bool.Decides.{eqb_tells}
 use Rattle.std.proofs.lemmas.List.{length-map}
 use Rattle.std.proofs.lemmas.List.Elements.{All-weaker}
 use Rattle.drive_modes.specs.declared.charges.Mode.{Mode}
 use Rattle.drive_modes.specs.declared.charges.Mode.TheVariants.{Single, Double}
-use Rattle.meter_states.specs.Charge.{charge_by, distance_charge, time_charge}
-use Rattle.meter_states.specs.Setting.{Setting}
-use Rattle.meter_states.specs.Trip.{Part, InHired, InStopped, Rest, charge_in, pulses_in}
-use Rattle.meter_states.specs.Trip.{ticks_in}
-use Rattle.meter_states.specs.Trip as model
+use Rattle.meter_model.specs.Charge.{charge_by, distance_charge, time_charge}
+use Rattle.meter_model.specs.Setting.{Setting}
+use Rattle.meter_model.specs.Trip.{Part, InHired, InStopped, Rest, charge_in, pulses_in, ticks_in}
+use Rattle.meter_model.specs.Trip as model
 use Rattle.tariff_check.proofs.Laws as check
 use Rattle.tariff_check.specs.Faults.{IsSound}
 use Rattle.tariff_check.specs.Parts.{RateNumbers, rates_of}
@@ -29,15 +28,14 @@ use Rattle.verify_bench.specs.declared.explained.Group.{Group}
 use Rattle.verify_bench.specs.declared.explained.Sums.{Sums}
 use Rattle.verify_bench.specs.declared.explained.Way.{Way}
 use Rattle.verify_bench.specs.declared.explained.Way.TheVariants.{Distance, Time, Both}
-use Rattle.std.specs.Prelude.{flat_map}
 use Rattle.std.specs.List.{range_with_len}
-use Rattle.meter_states.specs.KeptTrip.{IsSupplementNumber}
-use Rattle.meter_states.specs.Supplements.{amount_in, amounts_of, times}
+use Rattle.meter_model.specs.KeptTrip.{IsSupplementNumber}
+use Rattle.meter_model.specs.Supplements.{amount_in, amounts_of, times}
 use Rattle.std.specs.Option.{unwrap_or}
 use Rattle.verify_bench.specs.Amounts.{amounts_among}
 use Rattle.verify_bench.specs.declared.explained.Taken.{Taken}
 use Rattle.verify_bench.proofs.AmountSums.{all_among, sum_head}
-use Rattle.verify_bench.proofs.Explanations.{explained_are_of_trips}
+use Rattle.verify_bench.proofs.DriveTrips.{explained_are_of_trips}
 use Rattle.std.proofs.lemmas.Bool.{eqb-true}
 use Rattle.std.proofs.lemmas.List.Sums.{sum-map, sum_by-append}
 
@@ -305,9 +303,9 @@ taken_sum t numbers all =
     all_taken t numbers 1 16 ∙ all_among (λ number. amount_in (supplement_numbered t.supplements number)) numbers all
 
 -- an explanation of a trip
-one_adds_up : (a : Tree) (s : Setting) → IsSound a → s.tariff ≡ sound_of a → (e : Explanation) → IsOfTrip s e
-    → ArePartsTheWhole e
-one_adds_up a s sound parts e is_of =
+one_adds_up : (a : Tree) (s : Setting) (events : List Event) → IsSound a → s.tariff ≡ sound_of a → (e : Explanation)
+    → IsOfTrip s events e → ArePartsTheWhole e
+one_adds_up a s events sound parts e is_of =
     let t = is_of.trip in
     let lines = lines_of s.tariff.rates in
     let few = within_rates a s sound parts in
@@ -325,8 +323,8 @@ one_adds_up a s sound parts e is_of =
       ticks = omega (arith, ticks, timeless, no_ticks);
     })
 
-one_makes : (s : Setting) (e : Explanation) → IsOfTrip s e → MakesReceipt s e
-one_makes s e is_of =
+one_makes : (s : Setting) (events : List Event) (e : Explanation) → IsOfTrip s events e → MakesReceipt s e
+one_makes s events e is_of =
     let began = is_of.began in
     rw is_of.is (record {
       distance = refl;
@@ -339,12 +337,13 @@ one_makes s e is_of =
 pub all_add_up : (t : Tree) (s : Setting) (events : List Event) → IsSound t → s.tariff ≡ sound_of t
     → All ArePartsTheWhole (explanations_of s events)
 all_add_up t s events sound parts =
-    All-weaker (IsOfTrip s) ArePartsTheWhole (one_adds_up t s sound parts) (explanations_of s events)
+    All-weaker (IsOfTrip s events) ArePartsTheWhole (one_adds_up t s events sound parts) (explanations_of s events)
     (explained_are_of_trips s events)
 
 pub all_make : (s : Setting) (events : List Event) → All (MakesReceipt s) (explanations_of s events)
 all_make s events =
-    All-weaker (IsOfTrip s) (MakesReceipt s) (one_makes s) (explanations_of s events) (explained_are_of_trips s events)
+    All-weaker (IsOfTrip s events) (MakesReceipt s) (one_makes s events) (explanations_of s events)
+    (explained_are_of_trips s events)
 
 ways_by : (b : Bool) (k common : ℕ) (r : RateNumbers) (p : ℕ) → (if b then time_charge k common r
     else distance_charge common r p) ≡ charge_in_way k common r p (if b then Time else Distance)

@@ -5,6 +5,7 @@ use Rattle.std.specs.Prelude.{if◌then◌else◌, replicate}
 use Rattle.std.proofs.Math.Nat.{mod-lt}
 use Rattle.std.proofs.lemmas.List.{append-nil}
 use Rattle.std.proofs.lemmas.List.Elements.{All-nil, All-cons, All-append}
+use Rattle.drive_text.proofs.Laws.{written_line_is_short}
 use Rattle.drive_text.specs.Ranges.{IsKeyInRange, IsRunInRange}
 use Rattle.drive_text.specs.declared.run.Run.{Run}
 use Rattle.drive_text.specs.declared.run.Run.TheVariants.{One, Many}
@@ -17,7 +18,7 @@ use Rattle.verify_bench.specs.Generated.{drop_perhaps, extra_chosen, extra_perha
 use Rattle.verify_bench.specs.Generated.{leg, line, line_text, lines_text, nothing, position_chosen, road, roamed}
 use Rattle.verify_bench.specs.Generated.{second_of, supply_away, trip, trips_from, value, way, zone_chosen}
 use Rattle.verify_bench.proofs.Adds.{lines_text-append}
-use Rattle.verify_bench.proofs.Lines.{events_are_short, intervals_are_short, intervals_line}
+use Rattle.verify_bench.proofs.Lines.{intervals_are_short, intervals_line}
 
 -- the lines are in range, and they take no more than the given tenths of a second and bytes
 record IsRanged (start : ℕ) (written : Written) (tenths bytes : ℕ) : Type 0 where
@@ -90,7 +91,7 @@ line_part run b range short place small = record {
 
 event_length : (event : _) → IsRunInRange (One event) → length (line_text (One event)) ≤ 13
 unfolding line_text
-event_length event range = events_are_short event range
+event_length event range = written_line_is_short event range
 
 clock_part : IsPart clock_read 0 13
 clock_part place small =

@@ -2,12 +2,12 @@
 use Rattle.std.proofs.Common.{◌≡◌, ℕ, ◌∙◌, List, [], ◌∷◌, ◌++◌, ap, sym, map, append_assoc}
 use Rattle.std.proofs.lemmas.List.{map-append}
 use Rattle.std.proofs.lemmas.Simd.{map-map}
-use Rattle.meter_states.specs.Interval.{ticks_so_far}
-use Rattle.meter_states.specs.Meter.{Meter}
-use Rattle.meter_states.specs.Run.{actions_of, ended, opened, run}
-use Rattle.meter_states.specs.Setting.{Setting}
-use Rattle.meter_states.specs.Step.{step}
-use Rattle.meter_states.specs.declared.act.Act.{Act}
+use Rattle.meter_model.specs.Interval.{ticks_so_far}
+use Rattle.meter_model.specs.Meter.{Meter}
+use Rattle.meter_model.specs.Run.{actions_of, ended, opened, run}
+use Rattle.meter_model.specs.Setting.{Setting}
+use Rattle.meter_model.specs.Step.{step}
+use Rattle.meter_model.specs.declared.act.Act.{Act}
 use Rattle.taxi_units.specs.declared.event.Event.{Event}
 use Rattle.totals_record.specs.States.{first_state}
 use Rattle.verify_bench.specs.Expecting.{expected_of, hiring_of, hirings_from, hirings_in, ticks_at, untimed}

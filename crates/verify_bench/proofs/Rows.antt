@@ -111,4 +111,4 @@ pub fault_of_row : (decimals : ℕ) (text : List ℕ) (rows : List Row) (row : R
     → IsReadAs decimals text (Err fault)
 fault_of_row decimals text rows row TooLong short first why = absurd why
 fault_of_row decimals text rows row (BadRow number) short first why = (short, rw why.0 (bad rows row first why.1))
-fault_of_row decimals text rows row NoMemory short first why = tt
+fault_of_row decimals text rows row NoMemory short first why = short

@@ -1,12 +1,11 @@
 -- The parts of a sound tariff that hold in a context are sound.
-use Rattle.std.proofs.Common.{◌≡◌, ℕ, ◌<◌, ◌≤◌, ◌∙◌, ap, sym, Some}
-use Rattle.std.proofs.Common.{inl, inr, arith}
+use Rattle.std.proofs.Common.{◌≡◌, ℕ, ◌<◌, ◌≤◌, ◌∙◌, ap, sym, Some, inl, inr, arith}
 use Rattle.std.proofs.lemmas.Bool.{cases_lt}
 use Rattle.std.specs.Option.{unwrap_or}
-use Rattle.meter_states.specs.Setting.{Setting}
+use Rattle.meter_model.specs.Setting.{Setting}
 use Rattle.tariff_check.proofs.Laws as check
 use Rattle.tariff_check.specs.Faults.{IsSound}
-use Rattle.meter_states.specs.KeptTrip.{IsSupplementNumber}
+use Rattle.meter_model.specs.KeptTrip.{IsSupplementNumber}
 use Rattle.tariff_check.specs.Parts.{supplement_of}
 use Rattle.tariff_check.specs.Sound.{IsSoundRate}
 use Rattle.tariff_check.specs.SoundLookups.{rate_in_force}

@@ -1,13 +1,14 @@
--- For proofs: the meter of the bench, and which state of the meter it stands for. Meter, of meter_states, says what a
+-- For proofs: the meter of the bench, and which state of the meter it stands for. Meter, of meter_model, says what a
 -- state is.
-use Rattle.std.specs.Prelude.{◌≡◌, ℕ, ◌+◌, ◌*◌, ◌-◌, ◌^◌, ◌≤◌, ◌++◌, min, sum, map, List, Option, Some, None, option_map}
+use Rattle.std.specs.Prelude.{◌≡◌, ℕ, ◌+◌, ◌*◌, ◌-◌, ◌^◌, ◌≤◌, ◌++◌, min, sum, map, List, Option, Some, None}
+use Rattle.std.specs.Prelude.{option_map}
 use Rattle.drive_text.specs.Ranges.{IsInRange}
-use Rattle.meter_states.specs.Interval.{context_now}
-use Rattle.meter_states.specs.Keys.{hiring, key_in}
-use Rattle.meter_states.specs.Meter.{Meter, Outcome}
-use Rattle.meter_states.specs.Setting.{Setting}
-use Rattle.meter_states.specs.Step.{expired_or_pressed}
-use Rattle.meter_states.specs.Trip.{MeterTrip}
+use Rattle.meter_model.specs.Interval.{context_now}
+use Rattle.meter_model.specs.Keys.{hiring, key_in}
+use Rattle.meter_model.specs.Meter.{Meter, Outcome}
+use Rattle.meter_model.specs.Setting.{Setting}
+use Rattle.meter_model.specs.Step.{expired_or_pressed}
+use Rattle.meter_model.specs.Trip.{MeterTrip}
 use Rattle.tariff_syntax.specs.declared.context.Context.{Context}
 use Rattle.taxi_units.specs.Limits.{last_number}
 use Rattle.taxi_units.specs.Time.{IsSecond, last_tick}

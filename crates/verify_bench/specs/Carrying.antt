@@ -1,7 +1,7 @@
 -- For proofs: how far the bench has carried out a drive. Explaining says what the whole drive comes to.
 use Rattle.std.specs.Prelude.{◌≡◌, ◌++◌, List, map}
-use Rattle.meter_states.specs.Meter.{Meter}
-use Rattle.meter_states.specs.Setting.{Setting}
+use Rattle.meter_model.specs.Meter.{Meter}
+use Rattle.meter_model.specs.Setting.{Setting}
 use Rattle.tariff_syntax.specs.declared.context.Context.{Context}
 use Rattle.taxi_units.specs.declared.event.Event.{Event}
 use Rattle.verify_bench.specs.Bench.{BenchStands}
@@ -13,7 +13,7 @@ use Rattle.verify_bench.specs.declared.bench_meter.BenchMeter.{BenchMeter}
 
 -- a meter of the bench is amid a drive if what was found, and behind it the explanations that the events that are left
 -- come to from the state that it stands for, is all that the drive comes to
-pub record IsAmid (s : Setting) (all : List Explanation) (left : List Event) (meter : BenchMeter)
+pub record IsAmidDrive (s : Setting) (all : List Explanation) (left : List Event) (meter : BenchMeter)
     (found : List Explained) : Type 0 where
   pub m : Meter
   pub hired : Context
@@ -25,7 +25,7 @@ pub record IsAmid (s : Setting) (all : List Explanation) (left : List Event) (me
 abbrev pub Carries : Setting → List Event → (old new : BenchMeter) → (before after : List Explained) → Type 0
 Carries s events old new before after =
     (all : List Explanation) (left : List Event)
-    → IsAmid s all (events ++ left) old before → IsAmid s all left new after
+    → IsAmidDrive s all (events ++ left) old before → IsAmidDrive s all left new after
 
 -- a meter of the bench is amid what a drive should come to if the hirings that were found, and behind them those that
 -- the events that are left come to from the state that it stands for, are all of them

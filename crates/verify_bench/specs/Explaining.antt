@@ -1,14 +1,14 @@
 -- Rules: why the fare of each hiring of a drive is what it is, by the whole list of its intervals.
 use Rattle.std.specs.Prelude.{ℕ, ◌==◌, List, [], ◌∷◌, ◌++◌, Option, Some, None, flat_map, filter, map, if◌then◌else◌}
 use Rattle.std.specs.List.{range_with_len}
-use Rattle.meter_states.specs.Interval.{context_now, interval_counted, interval_left, pulses_so_far, ticks_so_far}
-use Rattle.meter_states.specs.Meter.{Meter}
-use Rattle.meter_states.specs.Run.{ended, opened}
-use Rattle.meter_states.specs.Setting.{Setting}
-use Rattle.meter_states.specs.Step.{step}
-use Rattle.meter_states.specs.Supplements.{amount_in, times}
-use Rattle.meter_states.specs.Trip.{Part, MeterTrip, charges_of}
-use Rattle.meter_states.specs.declared.act.Act.{Act}
+use Rattle.meter_model.specs.Interval.{context_now, interval_counted, interval_left, pulses_so_far, ticks_so_far}
+use Rattle.meter_model.specs.Meter.{Meter}
+use Rattle.meter_model.specs.Run.{ended, opened}
+use Rattle.meter_model.specs.Setting.{Setting}
+use Rattle.meter_model.specs.Step.{step}
+use Rattle.meter_model.specs.Supplements.{amount_in, times}
+use Rattle.meter_model.specs.Trip.{Part, MeterTrip, charges_of}
+use Rattle.meter_model.specs.declared.act.Act.{Act}
 use Rattle.tariff_check.specs.SoundTariff.{SoundTariff, supplement_numbered}
 use Rattle.tariff_syntax.specs.declared.context.Context.{Context}
 use Rattle.taxi_units.specs.declared.event.Event.{Event}

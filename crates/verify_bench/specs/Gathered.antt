@@ -1,8 +1,8 @@
 -- For proofs: the sums of a hiring that the bench gathers interval by interval, a table of them by rates. Groups says
 -- what they come to.
 use Rattle.std.specs.Prelude.{◌≡◌, ℕ, ◌+◌, ◌<◌, ◌≤◌, ◌^◌, List, get_or}
-use Rattle.meter_states.specs.Setting.{Setting}
-use Rattle.meter_states.specs.Trip.{Part}
+use Rattle.meter_model.specs.Setting.{Setting}
+use Rattle.meter_model.specs.Trip.{Part}
 use Rattle.verify_bench.specs.Groups.{rate_sums}
 use Rattle.verify_bench.specs.declared.explained.Sums.{Sums}
 use Rattle.verify_bench.specs.declared.explained.Way.{Way}

@@ -1,10 +1,10 @@
 -- For proofs: a hiring of the bench with the sums of its intervals, and which trip of the meter it is. Trip, of
--- meter_states, says what a trip is.
+-- meter_model, says what a trip is.
 use Rattle.std.specs.Prelude.{◌≡◌, ℕ, ◌*◌, ◌≤◌, All, filter}
-use Rattle.meter_states.specs.KeptTrip.{IsSupplementNumber}
-use Rattle.meter_states.specs.Setting.{Setting, unit_of}
-use Rattle.meter_states.specs.Supplements.{times}
-use Rattle.meter_states.specs.Trip.{MeterTrip, fees_of}
+use Rattle.meter_model.specs.KeptTrip.{IsSupplementNumber}
+use Rattle.meter_model.specs.Setting.{Setting, unit_of}
+use Rattle.meter_model.specs.Supplements.{times}
+use Rattle.meter_model.specs.Trip.{MeterTrip, fees_of}
 use Rattle.tariff_check.specs.Amounts.{IsFitInitial}
 use Rattle.tariff_syntax.specs.declared.context.Context.{Context}
 use Rattle.taxi_units.specs.Time.{IsSecond}

@@ -2,6 +2,7 @@ pub mod Adding
 pub mod Amounts
 pub mod Bench
 pub mod Carrying
+pub mod ClosedTrips
 pub mod CrossOvers
 pub mod Expecting
 pub mod Explaining

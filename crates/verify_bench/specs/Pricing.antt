@@ -1,9 +1,9 @@
 -- For proofs: the price of an interval, as the bench finds it. Groups says what its rate and its way are, and Charge,
--- of meter_states, what its charge is.
+-- of meter_model, what its charge is.
 use Rattle.std.specs.Prelude.{◌≡◌, ℕ, ◌*◌, ◌≤◌}
 use Rattle.drive_modes.specs.declared.charges.Mode.{Mode}
-use Rattle.meter_states.specs.Charge.{charge_at, charge_by}
-use Rattle.meter_states.specs.Setting.{Setting, unit_of}
+use Rattle.meter_model.specs.Charge.{charge_at, charge_by}
+use Rattle.meter_model.specs.Setting.{Setting, unit_of}
 use Rattle.tariff_check.specs.Parts.{RateNumbers}
 use Rattle.tariff_syntax.specs.declared.context.Context.{Context}
 use Rattle.verify_bench.specs.Groups.{rate_place_of, way_by, way_of}

@@ -1,4 +1,4 @@
--- For proofs: what a text of readings says, as a function of the text, row after row. Readings says what it means, by
+-- By law: what a text of readings says, as a function of the text, row after row. Readings says what it means, by
 -- the law `texts_have_one_reading`.
 use Rattle.std.specs.Cmp.Lexicographic.{pointwise}
 use Rattle.std.specs.Prelude.{ℕ, ◌+◌, nat_eq, nat_lt, if◌then◌else◌, List, [], ◌∷◌, length, Option, Some, None, Result, Ok, Err}

@@ -1,5 +1,5 @@
 -- Rules: what the bench goes by.
-use Rattle.meter_states.specs.Setting.{Setting, setting_by}
+use Rattle.meter_model.specs.Setting.{Setting, setting_by}
 use Rattle.seal_record.specs.declared.params.Params.{Params}
 use Rattle.tariff_syntax.specs.Tree.{tree_of}
 use Rattle.tariff_syntax.specs.declared.tariff.Tariff.{Tariff}

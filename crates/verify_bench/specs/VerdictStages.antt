@@ -1,4 +1,4 @@
--- For proofs: the verdict on a reading, as three tests give it. Verdicts says what it means, by the law
+-- By law: the verdict on a reading, as three tests give it. Verdicts says what it means, by the law
 -- `verdicts_name_the_first_fault`.
 use Rattle.std.specs.Prelude.{ℕ, ◌*◌, Bool, true, false}
 use Rattle.std.specs.Int.{abs_diff}

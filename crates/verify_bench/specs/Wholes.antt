@@ -1,24 +1,36 @@
--- Rules: what the parts of an explanation come to together, and which receipt it is of.
-use Rattle.std.specs.Prelude.{◌≡◌, ℕ, ◌+◌, ◌*◌, All, Some, map, sum}
+-- Rules: which trip and which receipt an explanation is of, and what its parts come to together.
+use Rattle.std.specs.Prelude.{◌≡◌, ◌↔◌, ◌⊎◌, ℕ, ◌+◌, ◌*◌, ◌<◌, ◌++◌, ◌∷◌, All, Bool, List, None, Some, filter, map, sum, true}
+use Rattle.std.specs.List.{slice_get}
 use Rattle.drive_modes.specs.Fare.{shown_fare, steps_above}
-use Rattle.meter_states.specs.Charge.{distance_charge, time_charge}
-use Rattle.meter_states.specs.Closing.{receipt_of}
-use Rattle.meter_states.specs.KeptTrip.{IsSupplementNumber}
-use Rattle.meter_states.specs.Setting.{Setting, rounding_of, unit_of}
-use Rattle.meter_states.specs.Trip.{MeterTrip, fees_of}
+use Rattle.meter_model.specs.Charge.{distance_charge, time_charge}
+use Rattle.meter_model.specs.Closing.{receipt_of}
+use Rattle.meter_model.specs.Interval.{context_now}
+use Rattle.meter_model.specs.KeptTrip.{IsSupplementNumber}
+use Rattle.meter_model.specs.Setting.{Setting, rounding_of, unit_of}
+use Rattle.meter_model.specs.Step.{step}
+use Rattle.meter_model.specs.Trip.{InHired, MeterTrip, Part, fees_of, pulses_in, ticks_in}
+use Rattle.meter_model.specs.declared.act.Act.{Act}
 use Rattle.drive_modes.specs.Distance.{millimetres_of}
-use Rattle.tariff_check.specs.Parts.{RateNumbers}
+use Rattle.tariff_check.specs.Parts.{InitialNumbers, RateNumbers}
 use Rattle.tariff_check.specs.Amounts.{fees_in_force}
-use Rattle.tariff_check.specs.SoundTariff.{sound_of}
+use Rattle.tariff_check.specs.SoundLookups.{place_in_force}
+use Rattle.tariff_check.specs.SoundTariff.{Choice, sound_of}
+use Rattle.tariff_syntax.specs.Meaning.{at_hiring}
 use Rattle.tariff_syntax.specs.Tree.{Tree}
 use Rattle.tariff_syntax.specs.Writable.{IsWritable}
 use Rattle.tariff_syntax.specs.declared.context.Context.{Context}
+use Rattle.taxi_units.specs.declared.event.Event.{Event}
 use Rattle.taxi_units.specs.declared.receipt.Kind.{Kind}
+use Rattle.taxi_units.specs.declared.receipt.Receipt.{Receipt}
+use Rattle.verify_bench.specs.ClosedTrips.{IsClosedTrip, TripOf, closing_meter, hiring_meter}
 use Rattle.verify_bench.specs.Explaining.{Explanation, explanation}
+use Rattle.verify_bench.specs.Groups.{way_by}
+use Rattle.verify_bench.specs.Receipts.{receipts_in}
 use Rattle.verify_bench.specs.declared.explained.Group.{Group}
 use Rattle.verify_bench.specs.declared.explained.Taken.{Taken}
 use Rattle.verify_bench.specs.declared.explained.Way.{Way}
 use Rattle.verify_bench.specs.declared.explained.Way.TheVariants.{Distance, Time, Both}
+use Rattle.verify_bench.specs.declared.fees.HiringFees.{HiringFees}
 
 -- an interval of p pulses is charged in a way by a rate what its distance costs, what its time costs, or both
 abbrev pub charge_in_way : (k common : ℕ) → RateNumbers → (p : ℕ) → Way → ℕ
@@ -38,17 +50,26 @@ pub record BeganIn (s : Setting) (hired : Context) (trip : MeterTrip) : Type 0 w
       ≡ record { cover = (fees_in_force s.tariff hired).covers * unit_of s; above = 0; pulses = 0; ticks = 0 }
   pub extras : IsOfText s → All IsSupplementNumber trip.extras
 
--- an explanation is of a trip that was closed if it is by the context in which the trip began, and its receipt is the
--- one with which the trip was closed
-pub record IsOfTrip (s : Setting) (e : Explanation) : Type 0 where
-  pub hired : Context
+-- a receipt is printed among acts if it is one of those that they print
+pub record IsPrinted (acts : List Act) (receipt : Receipt) : Type 0 where
+  pub front : List Receipt
+  pub back : List Receipt
+  pub among : receipts_in acts ≡ front ++ receipt ∷ back
+
+-- an explanation is of a trip of a drive that was closed if it is by the context in which the meter hired the trip, by
+-- the trip with the parts that the drive's events added, and by the receipt with which the trip was closed
+pub record IsOfTrip (s : Setting) (events : List Event) (e : Explanation) : Type 0 where
+  pub of : TripOf s events
   pub trip : MeterTrip
   pub kind : Kind
   pub finish : ℕ
   pub position : ℕ
   pub number : ℕ
-  pub began : BeganIn s hired trip
-  pub is : e ≡ explanation s hired (Some trip) (receipt_of s kind finish position trip number)
+  pub closed : IsClosedTrip s events of trip
+  pub began : BeganIn s (context_now s (hiring_meter s events of)) trip
+  pub printed : IsPrinted (step s of.closing (closing_meter s events of)).acts e.receipt
+  pub is : e ≡ explanation s (context_now s (hiring_meter s events of)) (Some trip)
+      (receipt_of s kind finish position trip number)
 
 -- the parts of an explanation are the whole if the charges of its groups are those of the trip, and the pulses and the
 -- ticks of its groups, of the intervals in Stopped and of those that were left unfinished are the trip's
@@ -69,3 +90,58 @@ pub record MakesReceipt (s : Setting) (e : Explanation) : Type 0 where
   pub fare : e.receipt.fare ≡ shown_fare e.receipt.initial e.receipt.minimum e.receipt.step e.receipt.steps
   pub supplements : IsOfText s
       → sum (map (λ (t : Taken). t.count * t.amount) e.taken) ≡ e.receipt.supplements
+
+-- a choice is in force in a context if it is the first whose condition holds in it
+pub record IsInForce {V : Type 0} (all : List (Choice V)) (x : Context) (choice : Choice V) : Type 0 where
+  pub place : ℕ
+  pub first : place_in_force all x ≡ Some place
+  pub there : slice_get all place ≡ Some choice
+
+-- fees have the minimum fare of a context if it is that in force in it, with its line, and none if none is in force
+abbrev pub HasMinimum : (minimums : List (Choice ℕ)) → Context → HiringFees → Type 0
+HasMinimum minimums x fees =
+    ((place_in_force minimums x ≡ None) × (fees.minimum_line ≡ None) × (fees.amounts.minimum ≡ 0))
+    ⊎ ((choice : Choice ℕ) × IsInForce minimums x choice × (fees.minimum_line ≡ Some choice.line)
+    × (fees.amounts.minimum ≡ choice.value))
+
+-- an explanation has the fees of its trip if they are the initial hire fee, the cover and the minimum fare in force at
+-- the hiring, with their lines, and the receipt has this fee and this minimum fare
+pub record HasFees (s : Setting) (events : List Event) (e : Explanation) : Type 0 where
+  pub of : IsOfTrip s events e
+  pub fee : Choice InitialNumbers
+  pub first : IsInForce s.tariff.initials (at_hiring (context_now s (hiring_meter s events of.of))) fee
+  pub line : e.fees.initial_line ≡ fee.line
+  pub amount : e.fees.amounts.amount ≡ fee.value.amount
+  pub covers : e.fees.amounts.covers ≡ fee.value.covers
+  pub minimum : HasMinimum s.tariff.minimums (at_hiring (context_now s (hiring_meter s events of.of))) e.fees
+  pub initial : e.receipt.initial ≡ e.fees.amounts.amount
+  pub least : e.receipt.minimum ≡ e.fees.amounts.minimum
+
+-- a part of a trip was charged by a rate in a way if it is an interval that ended in Hired, the rate is the first whose
+-- condition holds in the context of its beginning, and the way is the one in which the rate charges so many pulses
+pub record WasCharged (s : Setting) (place : ℕ) (rate : RateNumbers) (way : Way) (part : Part) : Type 0 where
+  pub pulses : ℕ
+  pub context : Context
+  pub is : part ≡ InHired pulses context
+  pub first : place_in_force s.tariff.rates context ≡ Some place
+  pub in_way : way_by s.mode s.constant rate pulses ≡ way
+
+-- a group of parts has the line of a rate if its intervals are the parts that this rate charged in the group's way, of
+-- which there is one at least, and its sums are their pulses, their ticks, and what each is charged in this way
+pub record IsGroupOf (s : Setting) (parts : List Part) (group : Group) : Type 0 where
+  pub place : ℕ
+  pub rate : Choice RateNumbers
+  pub there : slice_get s.tariff.rates place ≡ Some rate
+  pub line : group.line ≡ rate.line
+  pub is_its : Part → Bool
+  pub tells : (part : Part) → (is_its part ≡ true) ↔ WasCharged s place rate.value group.way part
+  pub pulses : group.sums.pulses ≡ sum (map pulses_in (filter is_its parts))
+  pub ticks : group.sums.ticks ≡ sum (map ticks_in (filter is_its parts))
+  pub charge : group.sums.charge ≡ sum (map (λ (part : Part). charge_in_way s.constant s.tariff.measure rate.value
+      (pulses_in part) group.way) (filter is_its parts))
+  pub some : 0 < group.sums.ticks
+
+-- an explanation has the groups of its trip if each is a group of the trip's parts
+pub record HasGroups (s : Setting) (events : List Event) (e : Explanation) : Type 0 where
+  pub of : IsOfTrip s events e
+  pub groups : All (IsGroupOf s of.trip.parts) e.groups

@@ -2,11 +2,12 @@
 #![tactic(auto, using(crate::proofs::Benches::looser))]
 
 ghost use Rattle.std.specs.Prelude.{◌≡◌, None, OnOk, true};
-ghost use Rattle.meter_states.specs.Closing.{closed, roaming_checked, roaming_entered};
-ghost use Rattle.meter_states.specs.Interval.{context_on, interval_counted, interval_left, pulses_so_far, ticks_so_far, with_interval, with_roaming};
-ghost use Rattle.meter_states.specs.Meter.{Meter};
-ghost use Rattle.meter_states.specs.Setting.{Setting, local_at};
-ghost use Rattle.meter_states.specs.Trip.{InHired, InStopped, Rest};
+ghost use Rattle.meter_model.specs.Closing.{closed, roaming_checked, roaming_entered};
+ghost use Rattle.meter_model.specs.Interval.{context_on, interval_counted, interval_left, pulses_so_far, ticks_so_far};
+ghost use Rattle.meter_model.specs.Interval.{with_interval, with_roaming};
+ghost use Rattle.meter_model.specs.Meter.{Meter};
+ghost use Rattle.meter_model.specs.Setting.{Setting, local_at};
+ghost use Rattle.meter_model.specs.Trip.{InHired, InStopped, Rest};
 ghost use Rattle.tariff_syntax.specs.declared.context.Context as contexts;
 ghost use Rattle.taxi_units.specs.Time.{IsSecond, last_tick, longest_trip};
 ghost use Rattle.totals_record.specs.Entries.{is_of_hiring};

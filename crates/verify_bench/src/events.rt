@@ -1,8 +1,8 @@
 //! What the events of a drive do to the meter of the bench.
 ghost use Rattle.std.specs.Prelude.{OnOk};
-ghost use Rattle.meter_states.specs.Interval.{pulses_taken};
-ghost use Rattle.meter_states.specs.Setting.{Setting};
-ghost use Rattle.meter_states.specs.Step.{clock_read, powered_step, step};
+ghost use Rattle.meter_model.specs.Interval.{pulses_taken};
+ghost use Rattle.meter_model.specs.Setting.{Setting};
+ghost use Rattle.meter_model.specs.Step.{clock_read, powered_step, step};
 ghost use Rattle.taxi_units.specs.Time.{IsSecond, last_tick};
 ghost use Rattle.verify_bench.specs.Settings.{setting_under};
 

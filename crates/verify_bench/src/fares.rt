@@ -1,7 +1,7 @@
 //! The fare of a hiring.
 ghost use Rattle.std.specs.Prelude.{◌≡◌, ℕ, ◌+◌, ◌*◌, ◌^◌, ◌<◌, ◌≤◌};
 ghost use Rattle.drive_modes.specs.Fare.{quotient, shown_fare, steps_above};
-ghost use Rattle.meter_states.specs.Setting.{modulus_of, rounding_of, unit_of};
+ghost use Rattle.meter_model.specs.Setting.{modulus_of, rounding_of, unit_of};
 ghost use Rattle.tariff_check.specs.Amounts.{IsFitInitial};
 ghost use Rattle.taxi_units.specs.Money.{largest_display_step};
 ghost use Rattle.taxi_units.specs.Time.{longest_trip};

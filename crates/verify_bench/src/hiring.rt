@@ -1,9 +1,9 @@
 //! A hiring, with the sums of its intervals.
 ghost use Rattle.std.specs.Prelude.{◌≡◌, ◌+◌, ◌^◌, ◌<◌, ◌≤◌, ◌++◌, ◌∷◌, [], OnOk};
-ghost use Rattle.meter_states.specs.KeptTrip.{IsSupplementNumber};
-ghost use Rattle.meter_states.specs.Setting.{Setting};
-ghost use Rattle.meter_states.specs.Supplements.{times};
-ghost use Rattle.meter_states.specs.Trip.{InHired, InStopped, Rest, MeterTrip, with_part};
+ghost use Rattle.meter_model.specs.KeptTrip.{IsSupplementNumber};
+ghost use Rattle.meter_model.specs.Setting.{Setting};
+ghost use Rattle.meter_model.specs.Supplements.{times};
+ghost use Rattle.meter_model.specs.Trip.{InHired, InStopped, Rest, MeterTrip, with_part};
 ghost use Rattle.tariff_check.specs.Amounts.{IsFitInitial};
 ghost use Rattle.tariff_syntax.specs.declared.context.Context.{Context};
 ghost use Rattle.taxi_units.specs.Time.{IsSecond};

@@ -2,9 +2,9 @@
 #![tactic(auto, using(crate::proofs::Benches::looser))]
 
 ghost use Rattle.std.specs.Prelude.{◌≡◌, ◌≤◌, Some, OnOk};
-ghost use Rattle.meter_states.specs.KeptTrip.{IsSupplementNumber};
-ghost use Rattle.meter_states.specs.Keys.{extra_added, latched, position_set, zone_set};
-ghost use Rattle.meter_states.specs.Setting.{Setting};
+ghost use Rattle.meter_model.specs.KeptTrip.{IsSupplementNumber};
+ghost use Rattle.meter_model.specs.Keys.{extra_added, latched, position_set, zone_set};
+ghost use Rattle.meter_model.specs.Setting.{Setting};
 ghost use Rattle.seal_record.specs.declared.params.Params.{Params};
 ghost use Rattle.tariff_check.specs.SoundTariff.{supplement_numbered};
 ghost use Rattle.taxi_units.specs.Time.{last_tick};

@@ -20,7 +20,7 @@ const LONGEST: usize = 1_048_576;
 ///
 /// `TooLong` above 1,048,576 bytes; `BadRow` with the first row, counted from 1 as `csv` gives them,
 /// that is neither the header nor a reading where it has to be, which is 1 for a text without rows;
-/// `NoMemory` where memory ran out. The form is this project's own.
+/// `NoMemory` where memory ran out, of a text within the limit. The form is this project's own.
 pub fn read_readings(
     alloc: Global,
     text: &[u8],
@@ -53,7 +53,7 @@ pub fn read_readings(
 }
 
 /// Takes a row behind those that gave these readings: the header, where none was taken yet, and else a
-/// reading.
+/// reading. `NoMemory` only where the row says one.
 fn take_row(
     row: &ByteRecord,
     decimals: u8,

@@ -1,7 +1,7 @@
 //! What the expected list is, by the actions of the meter.
 ghost use Rattle.std.specs.Prelude.{◌≡◌, List, map};
-ghost use Rattle.meter_states.specs.Run.{actions_of};
-ghost use Rattle.meter_states.specs.Setting.{Setting};
+ghost use Rattle.meter_model.specs.Run.{actions_of};
+ghost use Rattle.meter_model.specs.Setting.{Setting};
 ghost use Rattle.taxi_units.specs.declared.event.Event.{Event};
 ghost use Rattle.totals_record.specs.States.{first_state};
 ghost use Rattle.verify_bench.specs.Expecting.{expected_of, hirings_in, untimed};

@@ -1,10 +1,11 @@
 //! What the supply does to the meter of the bench.
 ghost use Rattle.std.specs.Prelude.{◌≡◌, ◌+◌, ◌<◌, ◌&&◌, nat_le, None, OnOk};
-ghost use Rattle.meter_states.specs.Meter.{Meter, held};
-ghost use Rattle.meter_states.specs.Trip.{MeterTrip, held_trip};
-ghost use Rattle.meter_states.specs.Run.{ended};
-ghost use Rattle.meter_states.specs.Setting.{Setting};
-ghost use Rattle.meter_states.specs.Supply.{aborted, hold_taken, is_stopped, held_or_closed, powered, resumed, supply_came, supply_dropped};
+ghost use Rattle.meter_model.specs.Meter.{Meter, held};
+ghost use Rattle.meter_model.specs.Trip.{MeterTrip, held_trip};
+ghost use Rattle.meter_model.specs.Run.{ended};
+ghost use Rattle.meter_model.specs.Setting.{Setting};
+ghost use Rattle.meter_model.specs.Supply.{aborted, hold_taken, is_stopped, held_or_closed, powered, resumed};
+ghost use Rattle.meter_model.specs.Supply.{supply_came, supply_dropped};
 ghost use Rattle.tariff_syntax.specs.declared.context.Context.{Context};
 ghost use Rattle.taxi_units.specs.Limits.{last_number};
 ghost use Rattle.taxi_units.specs.Time.{IsSecond, last_tick};

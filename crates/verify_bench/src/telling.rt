@@ -1,9 +1,9 @@
 //! What a hiring that is closed comes to: its receipt, and why its fare is what it is.
 ghost use Rattle.std.specs.Prelude.{◌≡◌, ℕ, ◌≤◌, ◌++◌, List, Some, IfOk, OnOk};
-ghost use Rattle.meter_states.specs.Closing.{receipt_of};
-ghost use Rattle.meter_states.specs.Setting.{Setting, stamp_at};
-ghost use Rattle.meter_states.specs.Supplements.{amount_in, amounts_of};
-ghost use Rattle.meter_states.specs.Trip.{Part, MeterTrip};
+ghost use Rattle.meter_model.specs.Closing.{receipt_of};
+ghost use Rattle.meter_model.specs.Setting.{Setting, stamp_at};
+ghost use Rattle.meter_model.specs.Supplements.{amount_in, amounts_of};
+ghost use Rattle.meter_model.specs.Trip.{Part, MeterTrip};
 ghost use Rattle.tariff_check.specs.SoundTariff.{own_lines, sound_of};
 ghost use Rattle.tariff_check.specs.Parts.{supplement_of};
 ghost use Rattle.tariff_syntax.specs.Tree.{tree_of};

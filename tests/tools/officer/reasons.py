@@ -8,7 +8,7 @@ from fractions import Fraction
 from typing import NamedTuple
 
 from heglorwy.tables import tables_of
-from heglorwy.tariff_faults import number_of, of_kind, place_of
+from heglorwy.tariff_parts import number_of, of_kind, place_of
 
 HIDDEN = "a minimum fare that isn't above the hire fee that holds with it"
 PAST = "a moment before the securing"

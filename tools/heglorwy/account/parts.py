@@ -9,7 +9,7 @@ from typing import NamedTuple
 
 from heglorwy.explained import local
 from heglorwy.tables import text_of
-from heglorwy.tariff_faults import of_kind
+from heglorwy.tariff_parts import of_kind
 
 MODES = {"single": "single: each interval of 0.1 s is charged by distance or by time, by whichever is more",
          "double": "double: each interval of 0.1 s is charged by distance and by time"}

@@ -6,7 +6,7 @@ import datetime
 from typing import NamedTuple
 
 from heglorwy.drives import FASTEST, SECOND
-from heglorwy.tariff_faults import number_of, of_kind
+from heglorwy.tariff_parts import number_of, of_kind
 
 LONGEST = 8_640_000  # ticks of a trip
 

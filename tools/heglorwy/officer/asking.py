@@ -58,7 +58,7 @@ class Program:
 
     def __init__(self, taxi, asked):
         self.taxi, self.meter = taxi, meter_of(taxi, asked, params_for(asked, read(asked.tariff)))
-        self.tariff = read_tariff(self.meter.tariff)
+        self.tariff = read_tariff(taxi, self.meter.tariff)
         self.right = wording.form(self.tariff.lines, self.tariff.decimals)
         printed, status = taxi.call("form", "tariff")
         if status or printed != self.right:

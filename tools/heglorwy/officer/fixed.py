@@ -8,7 +8,7 @@ from typing import NamedTuple
 from heglorwy.fineness import fineness_of, weights_of
 from heglorwy.officer.hirings import LATE, LONGEST_TRIP, Hiring, Leg
 from heglorwy.tables import money
-from heglorwy.tariff_faults import number_of, of_kind
+from heglorwy.tariff_parts import number_of, of_kind
 
 NOON = 720  # minutes
 EVEN = 300  # ticks at each speed

@@ -15,7 +15,7 @@ from heglorwy.officer.sealed import params_for
 from heglorwy.officer.showing import shown_in
 from heglorwy.program import Differs, Refused, Scratch, called, read
 from heglorwy.tariff import read_tariff
-from heglorwy.tariff_faults import of_kind
+from heglorwy.tariff_parts import of_kind
 
 EQUAL, WITHIN, OFF, NOT_READ, TOO_MANY = "equal", "within", "not permitted", "not read", "one too many"
 DECIMALS = {"distance": 3, "time": 1}
@@ -89,7 +89,7 @@ class Bench:
         self.tariff = read(asked.tariff)
         self.params = params_for(asked, self.tariff)
         self.seal()
-        told = read_tariff(self.tariff)
+        told = read_tariff(taxi, self.tariff)
         self.decimals, self.step = told.decimals, of_kind(told.lines, "step")[0].parts["amount"]
         self.rates = of_kind(told.lines, "rate")
         self.crossovers = []

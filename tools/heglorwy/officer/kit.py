@@ -15,7 +15,7 @@ from heglorwy.officer.matrix import Case, Matrix
 from heglorwy.officer.search import Search
 from heglorwy.officer.turns import turns_of
 from heglorwy.program import Refused, Scratch
-from heglorwy.tariff_faults import of_kind
+from heglorwy.tariff_parts import of_kind
 
 HALF_A_YEAR = 182 * 86_400  # seconds: whole weeks
 MINUTES = 60 * SECOND  # ticks

@@ -9,7 +9,7 @@ from typing import NamedTuple
 from heglorwy.drives import SECOND
 from heglorwy.officer.levels import NOT_TOLD, SAID, SHORT_OF_STEPS
 from heglorwy.tables import money
-from heglorwy.tariff_faults import atoms_in, of_kind
+from heglorwy.tariff_parts import atoms_in, of_kind
 
 OF_TIME = {"minute", "day", "date", "holiday"}
 MOST_MOMENTS = 120  # at which a hiring is tried, to see whether the clock has to be set for it

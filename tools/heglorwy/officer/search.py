@@ -12,7 +12,7 @@ from heglorwy.officer.fixed import NOON
 from heglorwy.officer.hirings import LATE, Context, Hiring, Leg
 from heglorwy.officer.levels import NOT_EQUAL, NOT_PERMITTED, NOT_TOLD, SHORT_OF_STEPS, level
 from heglorwy.officer.turns import step_of
-from heglorwy.tariff_faults import atoms_in, number_of, of_kind
+from heglorwy.tariff_parts import atoms_in, number_of, of_kind
 from heglorwy.tariff_kinds import IN_CELLS
 
 SHORT = [1, 10, 50, 100, 200, 300, 400, 500, 600]  # ticks

@@ -6,9 +6,8 @@ from typing import Callable, NamedTuple
 from heglorwy.officer import wording
 from heglorwy.officer.levels import BY_REFUSAL, NOT_EQUAL, NOT_PERMITTED
 from heglorwy.tariff import Tariff
-from heglorwy.tariff_faults import MONTHS, number_of, of_kind, place_of
-from heglorwy.tariff_kinds import IN_CELLS
-from heglorwy.tariff_words import DAYS
+from heglorwy.tariff_kinds import DAYS, IN_CELLS
+from heglorwy.tariff_parts import MONTHS, number_of, of_kind, place_of
 
 SURE = ("or", ("position", 1), ("not", ("position", 1)))
 NEVER = ("and", ("position", 1), ("not", ("position", 1)))

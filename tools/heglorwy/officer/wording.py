@@ -1,7 +1,7 @@
 """The printed form of a tariff, by docs/TARIFF.md, from lines as tools/heglorwy/tariff.py reads them."""
 
 from heglorwy.tables import money
-from heglorwy.tariff_words import DAYS
+from heglorwy.tariff_kinds import DAYS
 
 
 def tenths(measure):

@@ -12,7 +12,7 @@ from heglorwy.picture.style import axes_in, new_figure, patch, svg_of, write_at
 from heglorwy.picture.week import draw_legend, rows_of_legend
 from heglorwy.program import Differs, Refused, Scratch, read
 from heglorwy.tables import tables_of
-from heglorwy.tariff_faults import of_kind
+from heglorwy.tariff_parts import of_kind
 
 POINTS = 600  # into at least so many parts a drive is parted, to see when a display came
 MARK, MARKED = "U 946684800", "REFUSED POWERED"  # a second power-up is refused and changes nothing

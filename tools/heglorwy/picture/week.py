@@ -6,7 +6,7 @@ import textwrap
 from heglorwy.picture.style import axes_in, new_figure, patch, svg_of, write_at
 from heglorwy.program import Refused
 from heglorwy.tables import money, need_place, tables_of, text_of
-from heglorwy.tariff_faults import of_kind
+from heglorwy.tariff_parts import of_kind
 
 MOST_PANELS = 6
 TOP = 0.38  # inches above the panels

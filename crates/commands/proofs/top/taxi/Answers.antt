@@ -1,6 +1,6 @@
 use Rattle.std.proofs.Common.{◌≡◌, ◌≢◌, ℕ, ◌∙◌, map, string_bytes, refl, sym, subst, Some}
 use Rattle.std.specs.Prelude.{Option}
-use Rattle.outside.specs.Runs.{IsSettled, KeepsStore}
+use Rattle.outside.specs.Runs.{IsAtRest, KeepsStore}
 use Rattle.outside.proofs.Laws.{keeps_then}
 use Rattle.outside.specs.declared.board.Board.{Ghosts}
 use Rattle.outside.specs.declared.files.Files.{Ghosts as FileGhosts}
@@ -34,7 +34,7 @@ course_as F B row row' files files' old new end e h =
 
 pub returns-in-Some-clause-call : goal.returns-in-Some-clause-call
 returns-in-Some-clause-call g c =
-    subst (λ (o : Option Row). (command_of o).known g.F.Files.tells g.B.Board.tells_image
+    subst (λ (o : Option Row). (command_of o).told g.F.Files.tells g.B.Board.tells_image
     → IsCall g.F.Files g.B.Board (command_of o) c.args.files.now c.carry_out-ended.new.files c.args.board.now
     c.finish-in-Some.new.board c.finish-in-Some.result)
     c.in-Some.ensures
@@ -47,7 +47,7 @@ returns-in-Some-clause-call g c =
 
 pub returns-in-None-clause-call : goal.returns-in-None-clause-call
 returns-in-None-clause-call g c =
-    subst (λ (o : Option Row). (command_of o).known g.F.Files.tells g.B.Board.tells_image
+    subst (λ (o : Option Row). (command_of o).told g.F.Files.tells g.B.Board.tells_image
     → IsCall g.F.Files g.B.Board
     (command_of o) c.args.files.now c.args.files.now c.args.board.now c.finish.new.board c.finish.result)
     c.in-None.ensures
@@ -129,7 +129,7 @@ returns-in-Some-clause-runs g c = λ e read tells.
     let comes = course_as g.F.Files g.B.Board c.in-Some.row rows.Run files files' old mid end
     (is_run c.in-Some.row (c.in-Some.ensures ∙ e)) c.carry_out-ended.ensures.comes read tells in
     let unread : LeavesUnread run_command (g.F.Files.rest files) (g.F.Files.rest files') (g.B.Board.image old) =
-    subst (λ (o : Option Row). (command_of o).known g.F.Files.tells g.B.Board.tells_image → LeavesUnread (command_of o)
+    subst (λ (o : Option Row). (command_of o).told g.F.Files.tells g.B.Board.tells_image → LeavesUnread (command_of o)
     (g.F.Files.rest files) (g.F.Files.rest files') (g.B.Board.image old))
     (c.in-Some.ensures ∙ e) c.carry_out-ended.ensures.carries.unread (read, tells) in
     let call = call_from g.F.Files g.B.Board files files' old mid new end status
@@ -156,9 +156,9 @@ returns-in-Some-clause-kept g c =
 
 pub returns-in-Some-clause-at_rest : goal.returns-in-Some-clause-at_rest
 returns-in-Some-clause-at_rest g c =
-    subst (λ (o : Option Row). (command_of o).known g.F.Files.tells g.B.Board.tells_image → g.B.Board.tells_image →
+    subst (λ (o : Option Row). (command_of o).told g.F.Files.tells g.B.Board.tells_image → g.B.Board.tells_image →
     (command_of o).opens → c.finish-in-Some.result ≢ 8
-    → IsSettled g.B.Board c.finish-in-Some.new.board)
+    → IsAtRest g.B.Board c.finish-in-Some.new.board)
     c.in-Some.ensures
     (rests_after g.F.Files g.B.Board c.args.files.now c.carry_out-ended.new.files c.args.board.now
     c.carry_out-ended.new.board c.finish-in-Some.new.board

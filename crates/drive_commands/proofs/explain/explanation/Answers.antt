@@ -4,7 +4,7 @@ use Rattle.std.proofs.lemmas.List.{append-nil}
 use Rattle.drive_text.specs.Ranges.{IsRunInRange}
 use Rattle.drive_text.specs.Runs.{run_events}
 use Rattle.drive_text.specs.declared.run.Run.{Run}
-use Rattle.meter_states.specs.Setting.{setting_by}
+use Rattle.meter_model.specs.Setting.{setting_by}
 use Rattle.outside.specs.Faults.{Rose}
 use Rattle.seal_record.specs.Reading.{params_read}
 use Rattle.tariff_syntax.specs.Tree.{tree_of}

@@ -1,6 +1,7 @@
 use Rattle.std.proofs.Common.{◌≡◌, ◌≢◌, ◌∙◌, ℕ, List, [], Err, refl, sym, ap, arith, rules, inl, inr, ⊎_elim}
 use Rattle.tariff_compile.specs.Tables.{TableParts}
-use Rattle.meter_states.specs.Setting.{IsSealOf, IsSettingOf, IsTariffOf}
+use Rattle.meter_model.specs.Setting.{IsSealOf}
+use Rattle.meter_states.specs.Setting.{IsSettingOf, IsTariffOf}
 use Rattle.drive_text.specs.Ending.{IsSplit}
 use Rattle.outside.proofs.Laws.{keeps_none}
 use Rattle.call_ends.specs.declared.tariff.TextFault.TheVariants as texts

@@ -6,3 +6,6 @@ returns-clause-run c = law.written_line_gives
 
 pub returns-clause-good : goal.returns-clause-good
 returns-clause-good c = law.written_line_is_good
+
+pub returns-clause-short : goal.returns-clause-short
+returns-clause-short c = law.written_line_is_short

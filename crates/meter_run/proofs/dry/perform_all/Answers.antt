@@ -1,7 +1,7 @@
 use Rattle.std.proofs.Common.{◌++◌, List, ap, arith, refl, sym, ◌∙◌}
 use Rattle.std.proofs.lemmas.List.{append-nil, take_all}
 use Rattle.outside.proofs.Laws.{keeps_none, keeps_then}
-use Rattle.meter_states.specs.declared.act.Act.{Act}
+use Rattle.meter_model.specs.declared.act.Act.{Act}
 use Rattle.meter_run.specs.Commits.{after_acts}
 use Rattle.meter_run.specs.Texts.{shown_texts}
 use Rattle.meter_run.proofs.Going.{not_ok, went_well, went_wrong, true_is}

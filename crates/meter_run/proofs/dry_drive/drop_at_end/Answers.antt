@@ -9,16 +9,16 @@ use Rattle.meter_run.proofs.dry_drive.drop_at_end.Goals as goal
 
 pub returns-clause-whole : goal.returns-clause-whole
 returns-clause-whole g c =
-    on_ok_weaker c.carry_out.result (λ h. ends_on g.B.Board c.args.tables.now c.args.seal.now c.args.meter.now
-    c.args.board.now c.carry_out.new.self c.carry_out.new.board
-    (not_told c.is_off.result _ c.is_off.ensures.1 c.if-is_off.false) h) c.carry_out.ensures.carried
+    on_ok_weaker c.carry_event.result (λ h. ends_on g.B.Board c.args.tables.now c.args.seal.now c.args.meter.now
+    c.args.board.now c.carry_event.new.self c.carry_event.new.board
+    (not_told c.is_off.result _ c.is_off.ensures.1 c.if-is_off.false) h) c.carry_event.ensures.carried
 
 pub returns-clause-begun : goal.returns-clause-begun
 returns-clause-begun g c =
-    ends_some g.B.Board c.args.tables.now c.args.seal.now c.carry_out.result c.args.meter.now c.args.board.now
-    c.carry_out.new.self c.carry_out.new.board
-    (not_told c.is_off.result _ c.is_off.ensures.1 c.if-is_off.false) c.carry_out.ensures.carried
-    c.carry_out.ensures.broke_off
+    ends_some g.B.Board c.args.tables.now c.args.seal.now c.carry_event.result c.args.meter.now c.args.board.now
+    c.carry_event.new.self c.carry_event.new.board
+    (not_told c.is_off.result _ c.is_off.ensures.1 c.if-is_off.false) c.carry_event.ensures.carried
+    c.carry_event.ensures.broke_off
 
 pub returns-then-is_off-clause-whole : goal.returns-then-is_off-clause-whole
 returns-then-is_off-clause-whole g c = ends_off g.B.Board c.args.tables.now c.args.seal.now c.args.meter.now
@@ -39,16 +39,16 @@ pub returns-then-is_off-clause-store : goal.returns-then-is_off-clause-store
 returns-then-is_off-clause-store g c = keeps_none g.B.Board c.args.board.now
 
 pub returns-clause-cause : goal.returns-clause-cause
-returns-clause-cause g c = c.carry_out.ensures.cause
+returns-clause-cause g c = c.carry_event.ensures.cause
 
 pub returns-clause-steps : goal.returns-clause-steps
-returns-clause-steps g c = c.carry_out.ensures.steps
+returns-clause-steps g c = c.carry_event.ensures.steps
 
 pub returns-clause-store : goal.returns-clause-store
 returns-clause-store g c =
-    event_store g.B.Board c.args.tables.now c.args.seal.now c.carry_out.result c.args.meter.now c.args.board.now
-    c.carry_out.new.self c.carry_out.new.board (Down ∷ [])
-    c.carry_out.ensures.carried c.carry_out.ensures.broke_off
+    event_store g.B.Board c.args.tables.now c.args.seal.now c.carry_event.result c.args.meter.now c.args.board.now
+    c.carry_event.new.self c.carry_event.new.board (Down ∷ [])
+    c.carry_event.ensures.carried c.carry_event.ensures.broke_off
 
 pub returns-then-is_off-clause-idle : goal.returns-then-is_off-clause-idle
 returns-then-is_off-clause-idle g c = λ off. refl

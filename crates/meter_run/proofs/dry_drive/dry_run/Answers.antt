@@ -10,7 +10,7 @@ use Rattle.meter_run.proofs.dry_drive.dry_run.Goals as goal
 pub carry_drive-requires : goal.carry_drive-requires
 carry_drive-requires g c = record {
   ready = ready_first c.args.tables.now c.args.seal.now c.new-meter.result.core c.new-meter.result.durable
-      c.known.ensures.compiled c.requires.constant
+      c.recall.ensures.compiled c.requires.constant
       (c.new-meter.ensures.lawful c.args.tables.now c.args.seal.now) c.new-meter.ensures.off c.new-meter.ensures.range
       c.new-meter.ensures.first;
 }

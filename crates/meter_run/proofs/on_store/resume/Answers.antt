@@ -1,7 +1,7 @@
 use Rattle.std.proofs.Common.{List, All, Some, arith, refl, subst, sym, ◌∙◌}
 use Rattle.taxi_units.specs.declared.event.Event.TheVariants.{Up}
 use Rattle.meter_states.specs.Acts.{IsLawfulAct}
-use Rattle.meter_states.specs.declared.act.Act.{Act}
+use Rattle.meter_model.specs.declared.act.Act.{Act}
 use Rattle.meter_run.specs.OnStore.{MayDo}
 use Rattle.meter_run.proofs.Dropping.{acts_for, few_commits}
 use Rattle.meter_run.proofs.Happening.{came_as, event_attempted, ready_opened}

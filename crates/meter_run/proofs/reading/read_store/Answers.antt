@@ -5,7 +5,7 @@ use Rattle.slot_store.specs.Scan.{IsAsFound, IsValidFinding}
 use Rattle.slot_store.specs.declared.found.Found.{Found}
 use Rattle.totals_record.specs.Ranges.{IsDurable}
 use Rattle.totals_record.specs.Reading.{reads}
-use Rattle.meter_store.specs.Stored.{KeepsState, state_number_of}
+use Rattle.meter_store.specs.Stored.{HoldsState, state_number_of}
 use Rattle.totals_record.specs.declared.durable_state.Durable.{Durable}
 use Rattle.meter_run.specs.declared.stored.Known.{Known}
 use Rattle.meter_run.proofs.Finding.{answers, bad_body, found_is, no_fault, not_blank, same_number}
@@ -27,7 +27,7 @@ returns-in-Ok-Latest-clause-agrees g c = λ x is.
     subst (λ (f : Found Durable). IsValidFinding IsDurable f) c.in-Ok-Latest.field-0-is c.in-Ok-Latest.ensures.sound in
     record {
       slot = subst (λ (k : Known). k.place.slot ≤ 1) (sym same) sound.0;
-      settled = λ told. subst (λ (k : Known). KeepsState g.B.Board k.place b k.durable) (sym same)
+      settled = λ told. subst (λ (k : Known). HoldsState g.B.Board k.place b k.durable) (sym same)
           (subst (λ (f : Found Durable). IsAsFound reads state_number_of 0 (g.B.Board.image b)
           (g.B.Board.in_flight b) f) c.in-Ok-Latest.field-0-is (c.in-Ok-Latest.ensures.settled told));
       fits = c.where_it_fits.ensures.fits x is;

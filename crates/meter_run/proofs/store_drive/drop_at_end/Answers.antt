@@ -1,8 +1,9 @@
 use Rattle.std.proofs.Common.{◌∷◌, [], refl}
 use Rattle.std.proofs.lemmas.Result.{on_ok_weaker}
 use Rattle.taxi_units.specs.declared.event.Event.TheVariants.{Down}
-use Rattle.meter_states.specs.Run.{ended}
+use Rattle.meter_model.specs.Run.{ended}
 use Rattle.meter_run.proofs.Ended.{not_told}
+use Rattle.meter_run.proofs.Happening.{carried_one, stopped_one}
 use Rattle.meter_run.proofs.Whole.{amid_either, amid_of, ends_amid, ends_off, ends_on}
 use Rattle.meter_run.proofs.store_drive.drop_at_end.Goals as goal
 
@@ -19,9 +20,16 @@ returns-then-is_off-clause-stopped g c =
 
 pub returns-clause-carried : goal.returns-clause-carried
 returns-clause-carried g c =
-    on_ok_weaker c.carry_out.result (λ h. ends_on g.B.Board c.args.tables.now c.args.seal.now c.args.meter.now
-    c.args.board.now c.carry_out.new.self c.carry_out.new.board
-    (not_told c.is_off.result _ c.is_off.ensures.1 c.if-is_off.false) h.out) c.carry_out.ensures.carried
+    let t = c.args.tables.now in
+    let k = c.args.seal.now in
+    let x = c.args.meter.now in
+    let a = c.args.board.now in
+    let y = c.carry_event.new.self in
+    let b = c.carry_event.new.board in
+    let done = c.carry_event.ensures in
+    on_ok_weaker c.carry_event.result (λ h. ends_on g.B.Board t k x a y b
+    (not_told c.is_off.result _ c.is_off.ensures.1 c.if-is_off.false) h.out)
+    (carried_one g.B.Board t k c.carry_event.result x a y b Down done.attempts done.supply)
 
 pub returns-clause-stopped : goal.returns-clause-stopped
 returns-clause-stopped g c =
@@ -29,10 +37,16 @@ returns-clause-stopped g c =
     let k = c.args.seal.now in
     let x = c.args.meter.now in
     let a = c.args.board.now in
-    let b = c.carry_out.new.board in
+    let y = c.carry_event.new.self in
+    let b = c.carry_event.new.board in
+    let r = c.carry_event.result in
+    let done = c.carry_event.ensures in
     ends_amid g.B.Board t k x a b (not_told c.is_off.result _ c.is_off.ensures.1 c.if-is_off.false)
-    (amid_either g.B.Board t k c.carry_out.result (Down ∷ []) x a c.carry_out.new.self b c.carry_out.ensures.carried
-    c.carry_out.ensures.broke_off)
+    (amid_either g.B.Board t k r (Down ∷ []) x a y b (carried_one g.B.Board t k r x a y b Down done.attempts done.supply)
+    (stopped_one g.B.Board t k r x a y b Down done.attempts))
+
+pub returns-clause-cause : goal.returns-clause-cause
+returns-clause-cause g c = c.carry_event.ensures.attempts.cause
 
 pub returns-then-is_off-clause-idle : goal.returns-then-is_off-clause-idle
 returns-then-is_off-clause-idle g c = λ off. refl

@@ -11,7 +11,7 @@ use Rattle.meter_run.proofs.store_drive.run_events.Goals as goal
 pub carry_drive-requires : goal.carry_drive-requires
 carry_drive-requires g c = record {
   ready = ready_new g.B.Board c.args.tables.now c.args.seal.now c.new-meter.result c.args.board.now
-      (secured_of c.args.tables.now c.args.seal.now c.known.ensures.compiled c.requires.constant c.requires.seal)
+      (secured_of c.args.tables.now c.args.seal.now c.recall.ensures.compiled c.requires.constant c.requires.seal)
       (c.new-meter.ensures.lawful c.args.tables.now c.args.seal.now) c.new-meter.ensures.off
       c.new-meter.ensures.unknown;
 }

@@ -4,8 +4,8 @@ use Rattle.receipt_text.specs.Receipts.{receipt_text}
 use Rattle.receipt_text.specs.SealParts.{part_of}
 use Rattle.receipt_text.specs.Texts.{display_text, refusal_text}
 use Rattle.meter_states.specs.Acts.{IsLawfulAct}
-use Rattle.meter_states.specs.declared.act.Act.{Act}
-use Rattle.meter_states.specs.declared.act.Act.TheVariants.{Enter, Hold}
+use Rattle.meter_model.specs.declared.act.Act.{Act}
+use Rattle.meter_model.specs.declared.act.Act.TheVariants.{Enter, Hold}
 use Rattle.meter_run.specs.Commits.{after_act, IsFor}
 use Rattle.meter_run.specs.Deeds.{Does, act_text}
 use Rattle.meter_run.proofs.Committing.{fits_after}

@@ -1,6 +1,6 @@
 use Rattle.std.proofs.Common.{◌+◌, ◌++◌, ◌∙◌, List, ap, arith, refl, sym}
 use Rattle.std.proofs.lemmas.List.{append-nil, take_all}
-use Rattle.meter_states.specs.declared.act.Act.{Act}
+use Rattle.meter_model.specs.declared.act.Act.{Act}
 use Rattle.meter_run.specs.Commits.{after_acts}
 use Rattle.meter_run.specs.Deeds.{deeds_of, texts}
 use Rattle.meter_run.specs.StoreLaws.{beside_none, beside_then}

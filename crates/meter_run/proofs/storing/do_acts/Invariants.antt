@@ -3,7 +3,7 @@ use Rattle.tariff_compile.specs.Tables.{TableParts}
 use Rattle.meter_run.specs.Commits.{AreFor, after_acts, commits_in}
 use Rattle.meter_run.specs.Deeds.{deeds_of, texts}
 use Rattle.meter_run.specs.OnStore.{Agrees, MayDo, WritesTotals}
-use Rattle.meter_run.specs.Points.{KeepsTo}
+use Rattle.meter_run.specs.Points.{GoesBy}
 use Rattle.meter_run.proofs.storing.do_acts.Given as goal
 
 -- so far the first acts were carried out
@@ -16,7 +16,7 @@ invariant-loop-act g l = record {
   printed : g.B.Board.tells_text
       → g.B.Board.printed l.board ≡ g.B.Board.printed l.fn.board ++ texts l.seal (deeds_of (take l.act-index l.acts));
   points : g.B.Board.tells_image → (tables : TableParts) → MayDo g.B.Board tables l.fn.known l.fn.board l.acts
-      → KeepsTo g.B.Board tables l.seal l.fn.board l.board l.fn.known.durable (deeds_of (take l.act-index l.acts));
+      → GoesBy g.B.Board tables l.seal l.fn.board l.board l.fn.known.durable (deeds_of (take l.act-index l.acts));
   beside : g.B.Board.tells_image → WritesTotals g.B.Board l.fn.board l.board;
   faults : g.B.Board.faults l.board ≡ g.B.Board.faults l.fn.board;
   steps : l.steps ≤ l.fn.steps + l.act-index + 5 * commits_in (take l.act-index l.acts);

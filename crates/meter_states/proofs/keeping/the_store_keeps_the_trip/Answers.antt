@@ -1,7 +1,5 @@
 use Rattle.meter_states.proofs.HeldFits.{fits-setting}
-use Rattle.meter_states.proofs.KeptTrips.{kept-step}
-use Rattle.meter_states.proofs.Resumed.{begins}
-use Rattle.meter_states.proofs.Runs.{kept-run, kept-whole}
+use Rattle.meter_model.proofs.Laws.{kept-step, begins, kept-run, kept-whole}
 use Rattle.meter_states.proofs.keeping.the_store_keeps_the_trip.Goals as goal
 
 pub returns-clause-begins : goal.returns-clause-begins

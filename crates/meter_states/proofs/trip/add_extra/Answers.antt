@@ -1,9 +1,11 @@
-use Rattle.std.proofs.Common.{◌≡◌, ◌<◌, ℕ, ◌+◌, ◌-◌, get_or, set, length, rules, ap, sym, subst, ◌∙◌, Option, Some, arith}
+use Rattle.std.proofs.Common.{◌≡◌, ◌<◌, ℕ, ◌+◌, ◌-◌, get_or, set, length, rules, ap, sym, subst, ◌∙◌, Option, Some}
+use Rattle.std.proofs.Common.{arith}
 use Rattle.std.proofs.Math.ListN.{length-set}
 use Rattle.tariff_check.specs.SoundTariff.{supplement_numbered}
 use Rattle.tariff_check.specs.declared.values.Supplement.{Supplement}
 use Rattle.meter_states.specs.Lawful.{AreExtrasInRange}
-use Rattle.meter_states.specs.Supplements.{amount_in, most_in, supplement_in}
+use Rattle.meter_model.specs.Supplements.{amount_in, most_in}
+use Rattle.meter_states.specs.Supplements.{supplement_in}
 use Rattle.meter_states.proofs.Amounts.{allowed-more, amounts-more}
 use Rattle.meter_states.proofs.TableSupplements.{supplement-of-setting}
 use Rattle.meter_states.proofs.Trips.{extra-saved}

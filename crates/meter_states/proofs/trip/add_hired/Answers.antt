@@ -6,10 +6,10 @@ use Rattle.drive_modes.specs.declared.charges.Mode.{Mode}
 use Rattle.drive_modes.specs.declared.charges.Weights.{Weights}
 use Rattle.drive_modes.specs.declared.meterage.Meterage.{Meterage}
 use Rattle.tariff_compile.specs.Tables.{weights_in_force}
-use Rattle.meter_states.specs.declared.trip.CoreTrip.{CoreTrip}
-use Rattle.meter_states.specs.Charge.{charge_at}
-use Rattle.meter_states.specs.Setting.{modulus_of}
-use Rattle.meter_states.specs.Trip.{charges_of, opening_of}
+use Rattle.meter_model.specs.declared.core_trip.CoreTrip.{CoreTrip}
+use Rattle.meter_model.specs.Charge.{charge_at}
+use Rattle.meter_model.specs.Setting.{modulus_of}
+use Rattle.meter_model.specs.Trip.{charges_of, opening_of}
 use Rattle.meter_states.proofs.Charges.{charge-at, charge-most, steps-most}
 use Rattle.meter_states.proofs.Trips.{hired-saved}
 use Rattle.meter_states.proofs.trip.add_hired.Goals as goal

@@ -4,7 +4,7 @@ use Rattle.drive_modes.specs.declared.meterage.Meterage.{Meterage}
 use Rattle.meter_states.proofs.Settings.{modulus-some, product-some}
 use Rattle.meter_states.proofs.TableSupplements.{begun-allowed, begun-amounts}
 use Rattle.meter_states.proofs.Trips.{begun-saved}
-use Rattle.meter_states.specs.Setting.{modulus_of}
+use Rattle.meter_model.specs.Setting.{modulus_of}
 use Rattle.meter_states.proofs.trip.begun.Goals as goal
 use Rattle.taxi_units.specs.Money.{largest_amount}
 

@@ -3,7 +3,7 @@ use Rattle.std.proofs.lemmas.List.{append-nil}
 use Rattle.std.specs.List.{flat_map, range_with_len}
 use Rattle.outside.specs.Printing.{Begins}
 use Rattle.outside.proofs.Laws.{begins_after, begins_more, begins_whole, keeps_print, keeps_then}
-use Rattle.store_commands.specs.TotalsText.{heading_text, position_at, positions_text, totals_text}
+use Rattle.store_commands.specs.TotalsText.{totals_heading, position_at, positions_text, totals_text}
 use Rattle.call_ends.proofs.Laws.{begins-row, printed-row}
 use Rattle.store_commands.proofs.totals.print_totals.Goals as goal
 
@@ -12,7 +12,7 @@ use Rattle.store_commands.proofs.totals.print_totals.Goals as goal
 pub returns-in_err-print-clause-begun : goal.returns-in_err-print-clause-begun
 returns-in_err-print-clause-begun g c = λ tells.
     let printed = g.B.Board.printed in
-    let heading = heading_text c.args.decimals c.args.durable.now in
+    let heading = totals_heading c.args.decimals c.args.durable.now in
     begins_more (printed c.args.board.now) (printed c.print.new.self) heading
     (positions_text c.args.decimals c.args.durable.now.totals.shares)
     (subst (λ (t : List ℕ). Begins (printed c.args.board.now) (printed c.print.new.self) t) {y = heading}
@@ -23,7 +23,7 @@ returns-in_err-print-clause-begun g c = λ tells.
 pub loop-place-init : goal.loop-place-init
 loop-place-init g c =
     let old = g.B.Board.printed c.args.board.now in
-    let heading = heading_text c.args.decimals c.args.durable.now in
+    let heading = totals_heading c.args.decimals c.args.durable.now in
     record {
       printed = λ tells.
           c.in_ok-print.ensures.whole tells
@@ -40,7 +40,7 @@ pub returns-in_err-print_position-clause-begun : goal.returns-in_err-print_posit
 returns-in_err-print_position-clause-begun g c = λ tells.
     let printed = g.B.Board.printed in
     let old = printed c.args.board.now in
-    let heading = heading_text c.args.decimals c.args.durable.now in
+    let heading = totals_heading c.args.decimals c.args.durable.now in
     let row = position_at c.args.decimals c.args.durable.now.totals.shares in
     let i = c.loop-place.place in
     begins_after old (old ++ heading) (printed c.print_position.new.board) heading
@@ -52,7 +52,7 @@ returns-in_err-print_position-clause-begun g c = λ tells.
 pub loop-place-preserved : goal.loop-place-preserved
 loop-place-preserved g c =
     let printed = g.B.Board.printed in
-    let start = printed c.args.board.now ++ heading_text c.args.decimals c.args.durable.now in
+    let start = printed c.args.board.now ++ totals_heading c.args.decimals c.args.durable.now in
     let row = position_at c.args.decimals c.args.durable.now.totals.shares in
     let i = c.loop-place.place in
     record {
@@ -79,7 +79,7 @@ returns-clause-whole g c = λ tells.
     let printed = g.B.Board.printed in
     let all : c.loop-place.place ≡ 9 = omega (arith, c.loop-place-test.false, c.loop-place.auto.place-end) in
     whole_at (position_at c.args.decimals c.args.durable.now.totals.shares) c.loop-place.place
-    (printed c.args.board.now) (heading_text c.args.decimals c.args.durable.now)
+    (printed c.args.board.now) (totals_heading c.args.decimals c.args.durable.now)
     (printed c.loop-place.board) all (c.loop-place.invariant.printed tells)
 
 pub returns-clause-begun : goal.returns-clause-begun
@@ -89,5 +89,5 @@ returns-clause-begun g c = λ tells.
     begins_whole (printed c.args.board.now) (printed c.loop-place.board)
     (totals_text c.args.decimals c.args.durable.now)
     (whole_at (position_at c.args.decimals c.args.durable.now.totals.shares) c.loop-place.place
-    (printed c.args.board.now) (heading_text c.args.decimals c.args.durable.now)
+    (printed c.args.board.now) (totals_heading c.args.decimals c.args.durable.now)
     (printed c.loop-place.board) all (c.loop-place.invariant.printed tells))

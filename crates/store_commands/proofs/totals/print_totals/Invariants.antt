@@ -1,14 +1,14 @@
 use Rattle.std.proofs.Common.{◌≡◌, ◌+◌, ◌≤◌, ◌++◌}
 use Rattle.std.specs.List.{flat_map, range_with_len}
 use Rattle.outside.specs.Runs.{KeepsStore}
-use Rattle.store_commands.specs.TotalsText.{heading_text, position_at}
+use Rattle.store_commands.specs.TotalsText.{totals_heading, position_at}
 use Rattle.store_commands.proofs.totals.print_totals.Given as goal
 
 -- the heading and the lines of the positions so far were printed
 abbrev pub invariant-loop-place : goal.invariant-loop-place
 invariant-loop-place g l = record {
   printed : g.B.Board.tells_text → g.B.Board.printed l.board
-      ≡ (g.B.Board.printed l.fn.board ++ heading_text l.decimals l.durable)
+      ≡ (g.B.Board.printed l.fn.board ++ totals_heading l.decimals l.durable)
       ++ flat_map (position_at l.decimals l.durable.totals.shares) (range_with_len 0 l.place);
   faults : g.B.Board.faults l.board ≡ g.B.Board.faults l.fn.board;
   store : KeepsStore g.B.Board l.fn.board l.board;

@@ -1,14 +1,14 @@
 use Rattle.std.proofs.Common.{drop, flat_map}
 use Rattle.drive_text.specs.Runs.{run_events}
 use Rattle.verify_bench.specs.Bench.{IsMeterInRange}
-use Rattle.verify_bench.specs.Carrying.{IsAmid}
+use Rattle.verify_bench.specs.Carrying.{IsAmidDrive}
 use Rattle.verify_bench.specs.Explaining.{explanations_of}
 use Rattle.verify_bench.specs.Settings.{setting_under}
 use Rattle.verify_bench.proofs.expecting.explain_counted.Given as goal
 
 abbrev pub invariant-loop-run : goal.invariant-loop-run
 invariant-loop-run g l = record {
-  amid : IsAmid (setting_under l.checked l.params) (explanations_of (setting_under l.checked l.params)
+  amid : IsAmidDrive (setting_under l.checked l.params) (explanations_of (setting_under l.checked l.params)
       (flat_map run_events l.runs)) (flat_map run_events (drop l.run-index l.runs)) l.meter l.found.items;
   sound : IsMeterInRange 8639999 0 l.meter;
 }

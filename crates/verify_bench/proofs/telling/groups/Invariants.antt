@@ -1,6 +1,6 @@
 use Rattle.std.proofs.Common.{◌≡◌, ◌++◌, List, drop}
-use Rattle.meter_states.specs.Setting.{Setting}
-use Rattle.meter_states.specs.Trip.{Part}
+use Rattle.meter_model.specs.Setting.{Setting}
+use Rattle.meter_model.specs.Trip.{Part}
 use Rattle.tariff_check.specs.SoundTariff.{own_lines}
 use Rattle.verify_bench.specs.Gathered.{IsTableOf}
 use Rattle.verify_bench.specs.Groups.{groups_from}

@@ -2,9 +2,9 @@ use Rattle.std.proofs.Common.{◌≡◌, ℕ, ap, sym, refl, Option, arith}
 use Rattle.std.specs.Option.{unwrap_or}
 use Rattle.drive_modes.specs.declared.meterage.Rounding.{Rounding}
 use Rattle.drive_modes.specs.declared.meterage.Rounding.TheVariants.{Behind}
-use Rattle.meter_states.specs.Setting.{stamp_at}
-use Rattle.meter_states.specs.Supplements.{amounts_of}
-use Rattle.meter_states.specs.Trip.{charges_of, fare_of, pulses_of, steps_shown}
+use Rattle.meter_model.specs.Setting.{stamp_at}
+use Rattle.meter_model.specs.Supplements.{amounts_of}
+use Rattle.meter_model.specs.Trip.{charges_of, fare_of, pulses_of, steps_shown}
 use Rattle.drive_modes.specs.Distance.{millimetres_of}
 use Rattle.verify_bench.specs.Settings.{setting_under}
 use Rattle.verify_bench.specs.declared.explained.Sums.{Sums}

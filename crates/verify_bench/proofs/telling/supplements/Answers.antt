@@ -1,6 +1,6 @@
 use Rattle.std.proofs.Common.{◌∙◌, arith}
 use Rattle.std.proofs.lemmas.Nat.{mul-le}
-use Rattle.meter_states.specs.Supplements.{amount_in}
+use Rattle.meter_model.specs.Supplements.{amount_in}
 use Rattle.tariff_check.specs.Parts.{supplement_of}
 use Rattle.tariff_syntax.specs.Tree.{tree_of}
 use Rattle.verify_bench.proofs.AmountSums.{all_among, among_here, among_nothing}

@@ -1,5 +1,5 @@
 use Rattle.std.proofs.Common.{◌≡◌, ◌+◌, ◌*◌, ◌-◌, ◌≤◌}
-use Rattle.meter_states.specs.Supplements.{amount_in, amounts_of}
+use Rattle.meter_model.specs.Supplements.{amount_in, amounts_of}
 use Rattle.tariff_check.specs.Parts.{supplement_of}
 use Rattle.tariff_check.specs.SoundTariff.{sound_of}
 use Rattle.tariff_syntax.specs.Tree.{tree_of}

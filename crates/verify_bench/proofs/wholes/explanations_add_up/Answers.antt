@@ -1,4 +1,5 @@
 use Rattle.verify_bench.proofs.Partition.{all_add_up, all_make, ways_charge}
+use Rattle.verify_bench.proofs.TripGroups.{all_have_groups}
 use Rattle.verify_bench.proofs.wholes.explanations_add_up.Goals as goal
 
 pub returns-clause-whole : goal.returns-clause-whole
@@ -9,3 +10,6 @@ returns-clause-receipt c = all_make
 
 pub returns-clause-ways : goal.returns-clause-ways
 returns-clause-ways c = ways_charge
+
+pub returns-clause-groups : goal.returns-clause-groups
+returns-clause-groups c = all_have_groups

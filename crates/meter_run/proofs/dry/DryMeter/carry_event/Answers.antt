@@ -1,7 +1,7 @@
 use Rattle.std.proofs.Common.{ap, subst, sym, ◌∙◌, ◌++◌, List}
 use Rattle.outside.specs.Printing.{Begins}
 use Rattle.std.proofs.lemmas.Result.{on_ok_weaker}
-use Rattle.meter_states.specs.declared.act.Act.{Act}
+use Rattle.meter_model.specs.declared.act.Act.{Act}
 use Rattle.meter_run.specs.Commits.{AreFor, after_acts}
 use Rattle.meter_run.specs.Texts.{shown_texts}
 use Rattle.meter_run.proofs.Dropping.{acts_for, breaks_event, carries_event, ready_after}
@@ -11,15 +11,15 @@ use Rattle.meter_run.proofs.dry.DryMeter.carry_event.Goals as goal
 pub perform_all-requires : goal.perform_all-requires
 perform_all-requires g c =
     subst (AreFor c.args.self.now.durable) (sym c.as_slice.ensures.value)
-    (acts_for c.args.tables.now c.args.seal.now c.args.event c.args.self.now.core c.advance.new.core
-    c.args.self.now.durable c.advance.new.acts.items c.requires.ready c.advance.ensures.meets c.advance.ensures.ranges)
+    (acts_for c.args.tables.now c.args.seal.now c.args.event c.args.self.now.core c.step_or_resume.new.core
+    c.args.self.now.durable c.step_or_resume.new.acts.items c.requires.ready c.step_or_resume.ensures.meets c.step_or_resume.ensures.ranges)
 
 pub returns-clause-ready : goal.returns-clause-ready
 returns-clause-ready g c =
     let d = c.args.self.now.durable in
     on_ok_weaker c.perform_all.result (λ is. ready_after c.args.tables.now c.args.seal.now c.args.event
-    c.args.self.now.core c.advance.new.core d c.perform_all.new.durable c.advance.new.acts.items
-    c.requires.ready c.advance.ensures.meets c.advance.ensures.ranges c.advance.ensures.lawful
+    c.args.self.now.core c.step_or_resume.new.core d c.perform_all.new.durable c.step_or_resume.new.acts.items
+    c.requires.ready c.step_or_resume.ensures.meets c.step_or_resume.ensures.ranges c.step_or_resume.ensures.lawful
     (is ∙ ap (after_acts d) c.as_slice.ensures.value)) c.perform_all.ensures.durable
 
 pub returns-clause-carried : goal.returns-clause-carried
@@ -28,9 +28,9 @@ returns-clause-carried g c =
     let e = c.as_slice.ensures.value in
     on_ok_weaker c.perform_all.result
     (λ both. carries_event g.B.Board c.args.tables.now c.args.seal.now c.args.self.now c.args.board.now
-    (record { core = c.advance.new.core; durable = c.perform_all.new.durable }) c.perform_all.new.board c.args.event
-    c.advance.new.acts.items
-    c.advance.ensures.meets (both.0 ∙ ap (after_acts d) e) (λ told. both.1 told
+    (record { core = c.step_or_resume.new.core; durable = c.perform_all.new.durable }) c.perform_all.new.board c.args.event
+    c.step_or_resume.new.acts.items
+    c.step_or_resume.ensures.meets (both.0 ∙ ap (after_acts d) e) (λ told. both.1 told
     ∙ ap (λ (acts : List Act). g.B.Board.printed c.args.board.now ++ shown_texts acts) e) c.perform_all.ensures.store)
     (on_ok_both _ _ c.perform_all.result c.perform_all.ensures.durable
     (on_ok_under _ _ c.perform_all.result c.perform_all.ensures.whole))
@@ -38,7 +38,7 @@ returns-clause-carried g c =
 pub returns-clause-broke_off : goal.returns-clause-broke_off
 returns-clause-broke_off g c =
     on_err c.perform_all.result _ (breaks_event g.B.Board c.args.tables.now c.args.seal.now c.args.self.now
-    c.args.board.now c.perform_all.new.board c.advance.new.core c.args.event c.advance.new.acts.items
-    c.advance.ensures.meets (λ told. subst (λ (acts : List Act). Begins (g.B.Board.printed c.args.board.now)
+    c.args.board.now c.perform_all.new.board c.step_or_resume.new.core c.args.event c.step_or_resume.new.acts.items
+    c.step_or_resume.ensures.meets (λ told. subst (λ (acts : List Act). Begins (g.B.Board.printed c.args.board.now)
     (g.B.Board.printed c.perform_all.new.board) (shown_texts acts)) c.as_slice.ensures.value
     (c.perform_all.ensures.begun told)) c.perform_all.ensures.store)

@@ -1,5 +1,5 @@
 use Rattle.meter_run.proofs.Happening.{carried_one, stopped_one}
-use Rattle.meter_run.proofs.on_store.StoreMeterCarrier.carry_out.Goals as goal
+use Rattle.meter_run.proofs.on_store.StoreMeterCarrier.carry_event.Goals as goal
 
 pub returns-clause-carried : goal.returns-clause-carried
 returns-clause-carried g c =

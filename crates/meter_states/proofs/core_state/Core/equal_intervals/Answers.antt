@@ -2,7 +2,7 @@ use Rattle.std.proofs.Common.{◌≡◌, ◌⊎◌, [], refl, inr, ap, sym, subs
 use Rattle.meter_states.specs.Core.{CoreData}
 use Rattle.meter_states.specs.Equals.{MayGo, intervals_of}
 use Rattle.meter_states.specs.Cache.{IsCacheOf, CachedCore}
-use Rattle.meter_states.specs.Run.{run}
+use Rattle.meter_model.specs.Run.{run}
 use Rattle.meter_states.proofs.Outcomes.{follows-meets, not_off}
 use Rattle.meter_states.proofs.Powered.{powered-on, stands-on}
 use Rattle.meter_states.proofs.core_state.Core.equal_intervals.Goals as goal

@@ -4,10 +4,10 @@ use Rattle.totals_record.specs.declared.durable_state.Durable.{Durable}
 use Rattle.totals_record.specs.declared.trip.Trip.{Trip}
 use Rattle.meter_states.specs.Acts.{IsLawfulAct}
 use Rattle.meter_states.specs.Core.{ComesToOutcome, core_of}
-use Rattle.meter_states.specs.Display.{shown}
-use Rattle.meter_states.specs.Meter.{Meter}
-use Rattle.meter_states.specs.Supply.{hold_taken, powered, supply_came}
-use Rattle.meter_states.specs.declared.act.Act.{Act}
+use Rattle.meter_model.specs.Display.{shown}
+use Rattle.meter_model.specs.Meter.{Meter}
+use Rattle.meter_model.specs.Supply.{hold_taken, powered, supply_came}
+use Rattle.meter_model.specs.declared.act.Act.{Act}
 use Rattle.meter_states.proofs.ActRanges.{acts-keep}
 use Rattle.meter_states.proofs.Outcomes.{follows-meets, follows-then}
 use Rattle.meter_states.proofs.core_state.Core.resume.Goals as goal

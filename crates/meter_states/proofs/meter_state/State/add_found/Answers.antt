@@ -1,12 +1,12 @@
 use Rattle.std.proofs.lemmas.Grind.{common_steps}
 use Rattle.std.proofs.Common.{◌≡◌, ◌<◌, Some, ap, sym, subst, ◌∙◌, arith}
-use Rattle.meter_states.specs.declared.trip.CoreTrip.{CoreTrip}
+use Rattle.meter_model.specs.declared.core_trip.CoreTrip.{CoreTrip}
 use Rattle.meter_states.specs.Core.{CoreData, ComesToOutcome, core_of}
-use Rattle.meter_states.specs.Keys.{extra_added_to}
+use Rattle.meter_model.specs.Keys.{extra_added_to}
 use Rattle.meter_states.specs.Lawful.{IsAmidEvent}
-use Rattle.meter_states.specs.Meter.{Outcome}
-use Rattle.meter_states.specs.Supplements.{times}
-use Rattle.meter_states.specs.Trip.{with_extra}
+use Rattle.meter_model.specs.Meter.{Outcome}
+use Rattle.meter_model.specs.Supplements.{times}
+use Rattle.meter_model.specs.Trip.{with_extra}
 use Rattle.meter_states.proofs.KeyStages.{extra-more}
 use Rattle.meter_states.proofs.Outcomes.{quiet-follows, trip-saved}
 use Rattle.meter_states.proofs.Powered.{powered-trip}

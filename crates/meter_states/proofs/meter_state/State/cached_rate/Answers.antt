@@ -6,8 +6,8 @@ use Rattle.tariff_check.specs.SoundTariff.{SoundTariff}
 use Rattle.tariff_compile.specs.Tables.{IsInRangeFor, weights_in_force}
 use Rattle.tariff_syntax.specs.declared.context.Context.{Context}
 use Rattle.meter_states.specs.Core.{CoreData}
-use Rattle.meter_states.specs.Interval.{context_of, context_on}
-use Rattle.meter_states.specs.Setting.{local_at}
+use Rattle.meter_model.specs.Interval.{context_of, context_on}
+use Rattle.meter_model.specs.Setting.{local_at}
 use Rattle.meter_states.proofs.meter_state.State.cached_rate.Goals as goal
 
 pub returns-clause-near : goal.returns-clause-near

@@ -3,16 +3,16 @@ use Rattle.std.proofs.Math.Nat.{mul-le-mul_left, mul-le-mul_right}
 use Rattle.std.proofs.lemmas.Nat.{mul-le}
 use Rattle.tariff_compile.proofs.Laws.{tables_are_fit}
 use Rattle.tariff_syntax.specs.declared.context.Context.{Context}
-use Rattle.meter_states.specs.declared.trip.CoreTrip.{CoreTrip}
-use Rattle.meter_states.specs.Charge.{charge_at}
+use Rattle.meter_model.specs.declared.core_trip.CoreTrip.{CoreTrip}
+use Rattle.meter_model.specs.Charge.{charge_at}
 use Rattle.meter_states.specs.Core.{CoreData, ComesToOutcome, core_of}
 use Rattle.meter_states.specs.EqualStages.{charged}
 use Rattle.meter_states.specs.Equals.{intervals_of, spare_of}
-use Rattle.meter_states.specs.Interval.{context_of}
+use Rattle.meter_model.specs.Interval.{context_of}
 use Rattle.meter_states.specs.Lawful.{IsBetweenEvents}
-use Rattle.meter_states.specs.Meter.{Meter, quiet}
-use Rattle.meter_states.specs.Run.{run}
-use Rattle.meter_states.specs.Setting.{modulus_of}
+use Rattle.meter_model.specs.Meter.{Meter, quiet}
+use Rattle.meter_model.specs.Run.{run}
+use Rattle.meter_model.specs.Setting.{modulus_of}
 use Rattle.taxi_units.specs.Time.{longest_trip}
 use Rattle.meter_states.proofs.EqualIntervals.{charge-by-weights, charged-full, context-later, hired-equal, near-later}
 use Rattle.meter_states.proofs.EqualIntervals.{pulses-few, range-later, taken-none}

@@ -3,10 +3,10 @@ use Rattle.tariff_compile.proofs.Laws.{tables_are_fit}
 use Rattle.taxi_units.specs.declared.event.Operating.TheVariants.{ForHire}
 use Rattle.meter_states.specs.Acts.{StayLawful}
 use Rattle.meter_states.specs.Core.{CoreData, ComesToOutcome}
-use Rattle.meter_states.specs.Closing.{trip_closed}
+use Rattle.meter_model.specs.Closing.{trip_closed}
 use Rattle.meter_states.specs.Lawful.{IsTripInRange}
 use Rattle.meter_states.specs.Stages.{MayEnter}
-use Rattle.meter_states.specs.Trip.{MeterTrip}
+use Rattle.meter_model.specs.Trip.{MeterTrip}
 use Rattle.taxi_units.specs.Time.{longest_trip}
 use Rattle.meter_states.proofs.Outcomes.{trip-saved}
 use Rattle.meter_states.proofs.Powered.{some-there}

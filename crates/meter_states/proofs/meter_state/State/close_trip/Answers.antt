@@ -1,5 +1,5 @@
-use Rattle.meter_states.specs.Closing.{entry_of, receipt_of}
-use Rattle.meter_states.specs.Meter.{Meter, entered, printed}
+use Rattle.meter_model.specs.Closing.{entry_of, receipt_of}
+use Rattle.meter_model.specs.Meter.{Meter, entered, printed}
 use Rattle.meter_states.proofs.Outcomes.{follows-then}
 use Rattle.meter_states.proofs.meter_state.State.close_trip.Goals as goal
 

@@ -1,7 +1,7 @@
 use Rattle.std.proofs.Common.{◌+◌, ◌≤◌, ap, sym, subst, sum, ◌∙◌}
 use Rattle.taxi_units.specs.declared.event.Operating.{Operating}
 use Rattle.meter_states.specs.Core.{CoreData, core_of}
-use Rattle.meter_states.specs.Interval.{counted_in}
+use Rattle.meter_model.specs.Interval.{counted_in}
 use Rattle.meter_states.specs.Lawful.{counting_steps}
 use Rattle.meter_states.proofs.Outcomes.{not_off}
 use Rattle.meter_states.proofs.Powered.{powered-longer, powered-wider}

@@ -1,9 +1,9 @@
 use Rattle.std.proofs.Common.{◌+◌, ◌≤◌, [], ◌∷◌, ◌++◌, ap, sym, subst, ◌∙◌}
 use Rattle.totals_record.specs.declared.entry.Entry as store
-use Rattle.meter_states.specs.Closing.{roaming_entry}
+use Rattle.meter_model.specs.Closing.{roaming_entry}
 use Rattle.meter_states.specs.Core.{CoreData}
 use Rattle.meter_states.specs.Lawful.{IsBetweenEvents}
-use Rattle.meter_states.specs.declared.act.Act.TheVariants.{Enter}
+use Rattle.meter_model.specs.declared.act.Act.TheVariants.{Enter}
 use Rattle.meter_states.proofs.Powered.{powered-entered, roaming-beside, roaming-room}
 use Rattle.meter_states.proofs.Pushes.{few-more, lawful-more}
 use Rattle.meter_states.proofs.meter_state.State.enter_roaming.Goals as goal

@@ -1,8 +1,8 @@
 use Rattle.std.proofs.Common.{◌+◌, ◌≤◌, [], ◌∷◌, ◌++◌, ap, sym, subst, ◌∙◌, arith}
 use Rattle.totals_record.specs.declared.entry.Entry as store
-use Rattle.meter_states.specs.Closing.{entry_of}
+use Rattle.meter_model.specs.Closing.{entry_of}
 use Rattle.meter_states.specs.Core.{CoreData}
-use Rattle.meter_states.specs.declared.act.Act.TheVariants.{Enter}
+use Rattle.meter_model.specs.declared.act.Act.TheVariants.{Enter}
 use Rattle.meter_states.proofs.Pushes.{closing-room, few-more, lawful-more}
 use Rattle.meter_states.proofs.meter_state.State.enter_trip.Goals as goal
 use Rattle.taxi_units.specs.Limits.{last_number}

@@ -1,8 +1,8 @@
 use Rattle.std.proofs.Common.{Bool, if◌then◌else◌, ap, sym, subst, inr, ◌∙◌}
 use Rattle.meter_states.specs.Core.{ComesToOutcome}
-use Rattle.meter_states.specs.Keys.{key_pressed}
-use Rattle.meter_states.specs.Meter.{Outcome}
-use Rattle.meter_states.specs.Step.{expired}
+use Rattle.meter_model.specs.Keys.{key_pressed}
+use Rattle.meter_model.specs.Meter.{Outcome}
+use Rattle.meter_model.specs.Step.{expired}
 use Rattle.meter_states.proofs.KeyStages.{steps-twelve}
 use Rattle.meter_states.proofs.Powered.{between-amid}
 use Rattle.meter_states.proofs.Pushes.{few-longer}

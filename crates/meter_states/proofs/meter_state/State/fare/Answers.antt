@@ -1,6 +1,6 @@
 use Rattle.std.proofs.Common.{ap, sym, ◌∙◌}
 use Rattle.meter_states.specs.Core.{CoreData}
-use Rattle.meter_states.specs.Display.{fare_shown}
+use Rattle.meter_model.specs.Display.{fare_shown}
 use Rattle.meter_states.specs.Equals.{fare_by}
 use Rattle.meter_states.proofs.Outcomes.{fare-none, trip-saved}
 use Rattle.meter_states.proofs.Powered.{powered-longer}

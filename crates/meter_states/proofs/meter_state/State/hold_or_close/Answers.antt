@@ -1,9 +1,9 @@
 use Rattle.std.proofs.Common.{ℕ, ◌<◌, ◌≤◌, ap, sym, subst, ◌∙◌}
 use Rattle.taxi_units.specs.Time.{IsSecond}
 use Rattle.taxi_units.specs.declared.receipt.Kind.TheVariants.{Aborted}
-use Rattle.meter_states.specs.Closing.{closed}
+use Rattle.meter_model.specs.Closing.{closed}
 use Rattle.meter_states.specs.Core.{ComesToOutcome, CoreData}
-use Rattle.meter_states.specs.Meter.{Outcome}
+use Rattle.meter_model.specs.Meter.{Outcome}
 use Rattle.meter_states.proofs.Outcomes.{quiet-follows, trip-saved}
 use Rattle.meter_states.proofs.Powered.{none-hires, powered-longer, some-there}
 use Rattle.meter_states.proofs.Pushes.{few-none}

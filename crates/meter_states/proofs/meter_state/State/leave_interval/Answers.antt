@@ -1,7 +1,7 @@
 use Rattle.std.proofs.Common.{ap, sym, sum, ◌∙◌}
 use Rattle.taxi_units.specs.declared.event.Operating.{Operating}
 use Rattle.meter_states.specs.Core.{CoreData, core_of}
-use Rattle.meter_states.specs.Interval.{left_in}
+use Rattle.meter_model.specs.Interval.{left_in}
 use Rattle.meter_states.proofs.Powered.{powered-wider}
 use Rattle.meter_states.proofs.RoamingStages.{amid-enters}
 use Rattle.meter_states.proofs.meter_state.State.leave_interval.Goals as goal

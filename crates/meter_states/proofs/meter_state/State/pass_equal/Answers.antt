@@ -1,14 +1,14 @@
 use Rattle.std.proofs.Common.{◌≡◌, ◌+◌, ◌*◌, ◌≤◌, [], Some, ap, sym, subst, ◌∙◌, inl, inr, arith}
 use Rattle.std.proofs.lemmas.Bool.{cases_lt}
 use Rattle.std.proofs.Math.Nat.{mul-le-mul_left}
-use Rattle.meter_states.specs.declared.trip.CoreTrip.{CoreTrip}
+use Rattle.meter_model.specs.declared.core_trip.CoreTrip.{CoreTrip}
 use Rattle.tariff_compile.proofs.Laws.{tables_are_fit}
 use Rattle.meter_states.specs.Core.{CoreData, ComesToOutcome}
 use Rattle.meter_states.specs.EqualStages.{passed}
 use Rattle.meter_states.specs.Equals.{intervals_of}
 use Rattle.meter_states.specs.Lawful.{IsBetweenEvents}
-use Rattle.meter_states.specs.Meter.{quiet}
-use Rattle.meter_states.specs.Run.{run}
+use Rattle.meter_model.specs.Meter.{quiet}
+use Rattle.meter_model.specs.Run.{run}
 use Rattle.meter_states.proofs.EqualIntervals.{stopped-equal, taken-none}
 use Rattle.meter_states.proofs.Outcomes.{quiet-follows}
 use Rattle.meter_states.proofs.Powered.{powered-trip}

@@ -2,7 +2,7 @@ use Rattle.std.proofs.Common.{◌≡◌, Some, ap, sym, subst, ◌∙◌, arith}
 use Rattle.taxi_units.specs.declared.event.Operating.{Operating}
 use Rattle.meter_states.specs.Core.{CoreData}
 use Rattle.meter_states.specs.Lawful.{HasTrip, IsPowered}
-use Rattle.meter_states.specs.Trip.{InStopped}
+use Rattle.meter_model.specs.Trip.{InStopped}
 use Rattle.meter_states.proofs.Powered.{powered-gated, powered-trip, pulses-below}
 use Rattle.meter_states.proofs.Trips.{interval-taken}
 use Rattle.meter_states.proofs.meter_state.State.pass_interval.Goals as goal

@@ -2,7 +2,7 @@ use Rattle.std.proofs.Common.{◌≡◌, ◌+◌, ◌*◌, ◌≤◌, [], None, 
 use Rattle.tariff_compile.proofs.Laws.{tables_are_fit}
 use Rattle.meter_states.specs.Core.{CoreData, ComesToOutcome}
 use Rattle.meter_states.specs.Equals.{intervals_of, roams}
-use Rattle.meter_states.specs.Run.{run}
+use Rattle.meter_model.specs.Run.{run}
 use Rattle.meter_states.proofs.EqualIntervals.{hire-equal}
 use Rattle.meter_states.proofs.Settings.{modulus-some}
 use Rattle.meter_states.proofs.meter_state.State.roam_equal.Goals as goal

@@ -8,9 +8,9 @@ use Rattle.totals_record.specs.Ranges as store
 use Rattle.meter_states.specs.Core.{CoreData}
 use Rattle.meter_states.specs.Fits.{Fits}
 use Rattle.meter_states.specs.Lawful.{HasBegunBy, IsPowered, IsTripInRange}
-use Rattle.meter_states.specs.Supply.{is_stopped}
-use Rattle.meter_states.specs.Trip.{saved_at}
-use Rattle.meter_states.specs.declared.trip.CoreTrip.{CoreTrip}
+use Rattle.meter_model.specs.Supply.{is_stopped}
+use Rattle.meter_model.specs.Trip.{saved_at}
+use Rattle.meter_model.specs.declared.core_trip.CoreTrip.{CoreTrip}
 use Rattle.meter_states.proofs.TableSupplements.{counts-few, extras-few}
 use Rattle.meter_states.proofs.meter_state.State.saved_trip.Goals as goal
 

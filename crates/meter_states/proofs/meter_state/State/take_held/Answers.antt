@@ -1,7 +1,7 @@
 use Rattle.std.proofs.Common.{sym, subst, ◌∙◌}
 use Rattle.meter_states.specs.Core.{ComesToOutcome}
-use Rattle.meter_states.specs.Meter.{Outcome}
-use Rattle.meter_states.specs.Supply.{resumed}
+use Rattle.meter_model.specs.Meter.{Outcome}
+use Rattle.meter_model.specs.Supply.{resumed}
 use Rattle.meter_states.proofs.Outcomes.{quiet-follows}
 use Rattle.meter_states.proofs.Powered.{none-hires}
 use Rattle.meter_states.proofs.Pushes.{few-none}

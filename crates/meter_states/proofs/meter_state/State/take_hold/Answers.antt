@@ -1,8 +1,8 @@
 use Rattle.std.proofs.Common.{Option, None, option_map, sym, subst, ap, ◌∙◌}
 use Rattle.totals_record.specs.declared.trip.Trip.{Trip}
 use Rattle.meter_states.specs.Core.{ComesToOutcome}
-use Rattle.meter_states.specs.Trip.{core_trip_in}
-use Rattle.meter_states.specs.Supply.{hold_taken}
+use Rattle.meter_model.specs.Trip.{core_trip_in}
+use Rattle.meter_model.specs.Supply.{hold_taken}
 use Rattle.meter_states.proofs.Outcomes.{quiet-follows}
 use Rattle.meter_states.proofs.Pushes.{few-none}
 use Rattle.meter_states.proofs.meter_state.State.take_hold.Goals as goal

@@ -4,8 +4,8 @@ use Rattle.tariff_check.specs.SoundTariff.{SoundTariff}
 use Rattle.tariff_compile.specs.Tables.{weights_in_force}
 use Rattle.meter_states.specs.Core.{CoreData}
 use Rattle.meter_states.specs.Cache.{IsCachedTimeOf}
-use Rattle.meter_states.specs.Interval.{context_on}
-use Rattle.meter_states.specs.Setting.{local_at}
+use Rattle.meter_model.specs.Interval.{context_on}
+use Rattle.meter_model.specs.Setting.{local_at}
 use Rattle.meter_states.specs.declared.cache.CachedTime.{CachedTime}
 use Rattle.meter_states.proofs.meter_state.State.weights.Goals as goal
 

@@ -1,6 +1,6 @@
 use Rattle.std.proofs.Common.{ap, refl}
-use Rattle.meter_states.specs.Closing.{closed}
-use Rattle.meter_states.specs.Meter.{Meter, quiet}
+use Rattle.meter_model.specs.Closing.{closed}
+use Rattle.meter_model.specs.Meter.{Meter, quiet}
 use Rattle.taxi_units.specs.declared.receipt.Kind.TheVariants.{Aborted}
 use Rattle.verify_bench.specs.Settings.{setting_under}
 use Rattle.verify_bench.specs.declared.bench_meter.SavedState.{SavedState}

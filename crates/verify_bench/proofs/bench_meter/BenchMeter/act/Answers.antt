@@ -1,7 +1,7 @@
 use Rattle.std.proofs.Common.{◌≡◌, ◌⊎◌, ◌∙◌, sym, arith, rules}
 use Rattle.std.proofs.lemmas.Grind.{common_steps}
 use Rattle.std.proofs.lemmas.Result.{on_ok_weaker}
-use Rattle.meter_states.specs.Interval.{context_now}
+use Rattle.meter_model.specs.Interval.{context_now}
 use Rattle.taxi_units.specs.declared.event.Key.TheVariants as keys
 use Rattle.taxi_units.specs.declared.event.Operating.TheVariants.{ForHire, Hired, Stopped}
 use Rattle.verify_bench.specs.Settings.{setting_under}

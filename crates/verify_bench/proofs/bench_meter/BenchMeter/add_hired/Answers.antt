@@ -1,5 +1,5 @@
 use Rattle.std.proofs.lemmas.Result.{on_ok_weaker}
-use Rattle.meter_states.specs.Trip.{InHired}
+use Rattle.meter_model.specs.Trip.{InHired}
 use Rattle.verify_bench.specs.Settings.{setting_under}
 use Rattle.verify_bench.proofs.Benches.{stands_with}
 use Rattle.verify_bench.proofs.bench_meter.BenchMeter.add_hired.Goals as goal

@@ -1,4 +1,4 @@
-use Rattle.meter_states.specs.Trip.{Rest}
+use Rattle.meter_model.specs.Trip.{Rest}
 use Rattle.verify_bench.proofs.Benches.{stands_with}
 use Rattle.verify_bench.proofs.bench_meter.BenchMeter.add_rest.Goals as goal
 

@@ -1,4 +1,4 @@
-use Rattle.meter_states.specs.Trip.{InStopped}
+use Rattle.meter_model.specs.Trip.{InStopped}
 use Rattle.verify_bench.proofs.Benches.{stands_with}
 use Rattle.verify_bench.proofs.bench_meter.BenchMeter.add_stopped.Goals as goal
 

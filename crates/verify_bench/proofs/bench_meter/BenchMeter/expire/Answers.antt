@@ -1,7 +1,7 @@
 use Rattle.std.proofs.Common.{None, refl}
-use Rattle.meter_states.specs.Closing.{closed}
-use Rattle.meter_states.specs.Meter.{Meter}
-use Rattle.meter_states.specs.Step.{latch_refused}
+use Rattle.meter_model.specs.Closing.{closed}
+use Rattle.meter_model.specs.Meter.{Meter}
+use Rattle.meter_model.specs.Step.{latch_refused}
 use Rattle.taxi_units.specs.declared.receipt.Kind.TheVariants.{Expired}
 use Rattle.verify_bench.specs.Settings.{setting_under}
 use Rattle.verify_bench.proofs.Benches.{latch_lost, moves_then}

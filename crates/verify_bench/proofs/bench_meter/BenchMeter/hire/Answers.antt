@@ -1,8 +1,8 @@
 use Rattle.std.proofs.Common.{◌≡◌, ◌∙◌, ℕ, ap, sym, refl, false, arith}
 use Rattle.std.specs.Prelude.{nat_le}
-use Rattle.meter_states.specs.Interval.{context_now, context_on}
-use Rattle.meter_states.specs.Keys.{hired}
-use Rattle.meter_states.specs.Setting.{local_at}
+use Rattle.meter_model.specs.Interval.{context_now, context_on}
+use Rattle.meter_model.specs.Keys.{hired}
+use Rattle.meter_model.specs.Setting.{local_at}
 use Rattle.taxi_units.specs.Limits.{hirings_end}
 use Rattle.verify_bench.specs.Fees.{fees_of_hiring}
 use Rattle.verify_bench.specs.Settings.{setting_under}

@@ -1,7 +1,7 @@
 use Rattle.std.proofs.Common.{Option, subst, sym}
 use Rattle.std.proofs.lemmas.Result.{on_ok_weaker}
-use Rattle.meter_states.specs.Supply.{held_or_closed}
-use Rattle.meter_states.specs.Trip.{MeterTrip}
+use Rattle.meter_model.specs.Supply.{held_or_closed}
+use Rattle.meter_model.specs.Trip.{MeterTrip}
 use Rattle.verify_bench.specs.Bench.{Moves}
 use Rattle.verify_bench.specs.Settings.{setting_under}
 use Rattle.verify_bench.proofs.BenchSupply.{holds_no_more, holds_yet}

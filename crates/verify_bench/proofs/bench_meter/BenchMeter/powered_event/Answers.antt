@@ -1,6 +1,6 @@
 use Rattle.std.proofs.Common.{subst, sym}
 use Rattle.std.proofs.lemmas.Result.{on_ok_weaker}
-use Rattle.meter_states.specs.Step.{powered_step}
+use Rattle.meter_model.specs.Step.{powered_step}
 use Rattle.taxi_units.specs.declared.event.Event.{Event}
 use Rattle.verify_bench.specs.Bench.{Moves}
 use Rattle.verify_bench.specs.Explaining.{hired_at, trip_at}

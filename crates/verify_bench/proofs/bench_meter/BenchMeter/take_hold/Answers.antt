@@ -1,5 +1,5 @@
 use Rattle.std.proofs.Common.{◌≡◌, ◌∙◌, ap, Option, subst, sym, true, false, None, refl}
-use Rattle.meter_states.specs.Supply.{hold_taken, is_within_hold, powered}
+use Rattle.meter_model.specs.Supply.{hold_taken, is_within_hold, powered}
 use Rattle.taxi_units.specs.declared.event.Operating.TheVariants.{ForHire}
 use Rattle.totals_record.specs.declared.trip.Trip.{Trip}
 use Rattle.verify_bench.specs.Bench.{Moves}

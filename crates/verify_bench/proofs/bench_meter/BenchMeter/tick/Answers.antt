@@ -1,9 +1,9 @@
 use Rattle.std.proofs.Common.{subst}
-use Rattle.meter_states.specs.Closing.{roaming_checked}
-use Rattle.meter_states.specs.Display.{shown}
-use Rattle.meter_states.specs.Interval.{context_now, interval_begun, interval_counted}
-use Rattle.meter_states.specs.Meter.{Meter, ◌>>=◌}
-use Rattle.meter_states.specs.Step.{expired_or_pressed}
+use Rattle.meter_model.specs.Closing.{roaming_checked}
+use Rattle.meter_model.specs.Display.{shown}
+use Rattle.meter_model.specs.Interval.{context_now, interval_begun, interval_counted}
+use Rattle.meter_model.specs.Meter.{Meter, ◌>>=◌}
+use Rattle.meter_model.specs.Step.{expired_or_pressed}
 use Rattle.tariff_syntax.specs.declared.context.Context.{Context}
 use Rattle.verify_bench.specs.Bench.{Moves}
 use Rattle.verify_bench.specs.Explaining.{hired_by}

@@ -1,7 +1,7 @@
 use Rattle.std.proofs.Common.{◌≡◌, ℕ, ◌∙◌, ap, sym, refl}
-use Rattle.meter_states.specs.Charge.{charge_at}
-use Rattle.meter_states.specs.Setting.{unit_of}
-use Rattle.meter_states.specs.Trip.{InHired}
+use Rattle.meter_model.specs.Charge.{charge_at}
+use Rattle.meter_model.specs.Setting.{unit_of}
+use Rattle.meter_model.specs.Trip.{InHired}
 use Rattle.verify_bench.specs.Gathered.{sums_with}
 use Rattle.verify_bench.specs.Groups.{is_in_stopped, is_rest}
 use Rattle.verify_bench.specs.declared.explained.Sums.{Sums}

@@ -1,4 +1,0 @@
-use Rattle.hiring_log.proofs.keep_log_tests.failing.Given as goal
-
-abbrev pub ghosts-counted : goal.ghosts-counted
-ghosts-counted a = record { name = a.blank.name; parts = a.blank.parts }

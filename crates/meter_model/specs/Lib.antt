@@ -1,0 +1,13 @@
+pub mod Charge
+pub mod Closing
+pub mod Display
+pub mod Interval
+pub mod KeptTrip
+pub mod Keys
+pub mod Meter
+pub mod Run
+pub mod Setting
+pub mod Step
+pub mod Supplements
+pub mod Supply
+pub mod Trip

@@ -1,0 +1,53 @@
+use Rattle.std.proofs.Common.{◌∙◌, sym, subst}
+use Rattle.taxi_units.specs.declared.event.Event.{Event}
+use Rattle.meter_states.specs.Core.{Meets}
+use Rattle.meter_states.specs.Lawful.{IsTimely}
+use Rattle.meter_model.specs.Step.{step}
+use Rattle.meter_run.proofs.Dropping.{came}
+use Rattle.meter_run.proofs.Happening.{lawful_beside}
+use Rattle.meter_run.proofs.dry.step_or_resume.Goals as goal
+
+pub resume-powered-requires : goal.resume-powered-requires
+resume-powered-requires g c = record {
+  range = c.requires.ready.range;
+  fits = c.requires.ready.fits;
+  constant = c.requires.ready.way.is.tariff.constant ∙ sym c.requires.ready.way.is.secured.constant;
+  second = subst IsTimely c.in-Some.ensures.comes.0 c.requires.timely;
+}
+
+pub returns-in-Some-clause-lawful : goal.returns-in-Some-clause-lawful
+returns-in-Some-clause-lawful g c = c.resume-powered.ensures.lawful
+
+pub returns-in-Some-clause-ranges : goal.returns-in-Some-clause-ranges
+returns-in-Some-clause-ranges g c = c.resume-powered.ensures.ranges
+
+pub returns-in-Some-clause-meets : goal.returns-in-Some-clause-meets
+returns-in-Some-clause-meets g c = λ s m is stands.
+    let core = c.resume-powered.result.0 in
+    let acts = c.resume-powered.result.1.items in
+    subst (λ (event : Event). Meets s core.plain acts (step s event m)) (sym c.in-Some.ensures.comes.0)
+    (came s c.in-Some.second c.args.core.now core c.args.durable.now acts c.in-Some.ensures.comes.1
+    (λ n at saved. c.resume-powered.ensures.meets s n is at saved) m stands)
+
+pub step_into-requires : goal.step_into-requires
+step_into-requires g c = record {
+  ready = record {
+    lawful = c.requires.ready.lawful;
+    constant = c.requires.ready.way.is.tariff.constant ∙ sym c.requires.ready.way.is.secured.constant;
+    timely = c.requires.timely;
+    supply = c.supply_at.ensures.other c.in-None.is;
+  };
+  empty = c.requires.empty;
+}
+
+pub returns-in-None-clause-lawful : goal.returns-in-None-clause-lawful
+returns-in-None-clause-lawful g c = c.step_into.ensures.takes.lawful
+
+pub returns-in-None-clause-ranges : goal.returns-in-None-clause-ranges
+returns-in-None-clause-ranges g c =
+    lawful_beside c.args.tables.now c.args.seal.now c.args.event c.args.core.now c.step_into.new.self
+    c.args.durable.now c.step_into.new.acts.items c.requires.ready (c.supply_at.ensures.other c.in-None.is)
+    c.step_into.ensures.takes
+
+pub returns-in-None-clause-meets : goal.returns-in-None-clause-meets
+returns-in-None-clause-meets g c = λ s m is stands. c.step_into.ensures.takes.meets s m is stands.core

@@ -1,5 +1,0 @@
-use Rattle.receipt_text.proofs.Bytes.{all_bytes}
-use Rattle.receipt_text.proofs.parts.known.Goals as goal
-
-pub returns : goal.returns
-returns c = record { size = c.requires; bytes = all_bytes c.args.bytes.now c.type_inv.bytes }

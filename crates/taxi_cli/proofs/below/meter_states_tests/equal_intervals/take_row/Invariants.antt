@@ -1,5 +1,0 @@
-use Rattle.meter_states.specs.Lawful.{IsLawful}
-use Rattle.taxi_cli.proofs.below.meter_states_tests.equal_intervals.take_row.Given as goal
-
-abbrev pub invariant-loop : goal.invariant-loop
-invariant-loop g l = IsLawful l.tables l.seal l.core

@@ -1,4 +1,0 @@
-use Rattle.taxi_cli.proofs.chain_tests.counted.Goals as goal
-
-pub chain-requires-clause-sealed : goal.chain-requires-clause-sealed
-chain-requires-clause-sealed g c = c.may_begin.ensures.0 c.if-may_begin.true

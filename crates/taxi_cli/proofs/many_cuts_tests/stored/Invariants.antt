@@ -1,4 +1,0 @@
-use Rattle.taxi_cli.proofs.many_cuts_tests.stored.Given as goal
-
-abbrev pub ghosts-counted : goal.ghosts-counted
-ghosts-counted a = record { name = a.blank.name; parts = a.blank.parts }
