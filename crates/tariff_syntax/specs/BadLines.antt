@@ -1,4 +1,4 @@
--- For proofs: the lines of a text that have no form, read line after line. The law bad_lines_have_no_form says which
+-- By law: the lines of a text that have no form, read line after line. The law bad_lines_have_no_form says which
 -- they are.
 use Rattle.std.specs.Prelude.{ℕ, ◌+◌, Bool, false, if◌then◌else◌, List, [], ◌∷◌, is_none}
 use Rattle.tariff_syntax.specs.Items.{item_read}
