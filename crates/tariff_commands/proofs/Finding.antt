@@ -23,7 +23,8 @@ use Rattle.call_ends.specs.Call.{MayTake}
 use Rattle.tariff_commands.specs.Check.{check_answer}
 use Rattle.call_ends.specs.Course.{Answered, ReadFailed}
 use Rattle.call_ends.specs.Ending.{EndsUnprinted}
-use Rattle.tariff_commands.specs.Faults.{faults_answer, faults_command, faults_in, refusal_lines, refusals_in, refusals_of}
+use Rattle.tariff_commands.specs.Faults.{faults_answer, faults_command, faults_in, refusal_lines, refusals_in}
+use Rattle.tariff_commands.specs.Faults.{refusals_of}
 use Rattle.tariff_commands.specs.FaultsSteps.{EndsFile, HasLines, IsFoundIn, IsFoundOf, IsRefusedText, IsSoundText}
 use Rattle.tariff_commands.specs.FaultsSteps.{ended_for_find}
 use Rattle.call_ends.specs.LastLine.{bad_tariff_line}
