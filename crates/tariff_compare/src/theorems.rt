@@ -3,8 +3,8 @@ ghost use Rattle.std.specs.Prelude.{◌≡◌, ◌↔◌, ℕ, true, None, Some}
 ghost use Rattle.tariff_compare.specs.Contexts.{HasTables, IsFirstOrNone, IsMeterTime, IsTimeOf};
 ghost use Rattle.tariff_compare.specs.Counting.{counts};
 ghost use Rattle.tariff_compare.specs.Differences.{difference_of, frame_difference};
-ghost use Rattle.tariff_compare.specs.FirstParts.{IsFirstKind, IsFirstOfFrame};
-ghost use Rattle.tariff_compare.specs.Kinds.{InForce, differing_kind};
+ghost use Rattle.tariff_compare.specs.FirstParts.{IsFirstKind, IsFirstOfFrame, IsSameBy};
+ghost use Rattle.tariff_compare.specs.Kinds.{InForce, differing_kind, is_same_of};
 ghost use Rattle.tariff_compare.specs.Same.{AreSame, DiffersFirst, HasSameFrame};
 ghost use Rattle.tariff_compare.specs.Sides.{side_of};
 ghost use Rattle.tariff_compare.specs.Uses.{first_counting};
@@ -36,12 +36,15 @@ pub fn differences_are_first()
 
 /// The law of first parts: what is found of two frames is the first part in which they differ, of decimals, display
 /// step, rounding, positions, zones and the supplements by number; what is found in a context is the first kind of line
-/// that is asked for there and differs, of initial hire fee, minimum fare and rate.
+/// that is asked for there and differs, of initial hire fee, minimum fare and rate; and two are the same in a kind
+/// exactly if their numbers say so.
 pub fn first_parts_differ()
     ensures frame { (t u : Tree) (k : ℕ) (d : Difference) → HasTables t k → HasTables u k
         → frame_difference t u ≡ Some d → IsFirstOfFrame t u d }
     ensures kind { (m : MeterContext) (one other : InForce) (kind : ChoiceKind)
         → differing_kind m one other ≡ Some kind → IsFirstKind m one other kind }
+    ensures same { (kind : ChoiceKind) (one other : InForce)
+        → (is_same_of kind one other ≡ true) ↔ IsSameBy kind one other }
 {}
 
 /// The law of times: a meter has each minute of the days from 2000-01-01 to 2199-12-31, those of 1999-12-31 from 10:00
