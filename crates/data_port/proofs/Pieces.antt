@@ -18,7 +18,8 @@ use Rattle.data_port.specs.Reading.{requests_in, standing_after}
 use Rattle.data_port.specs.ReadingStages.{after_bytes, bad_of, ended_in}
 use Rattle.data_port.specs.Reply.{reply_to}
 use Rattle.data_port.specs.Requests.{IsRequest}
-use Rattle.data_port.specs.Serving.{BadAt, Endless, IsBoundedByRequests, ReachesEnd, Serves, ServesTo, StopsAfter, StreamEnd}
+use Rattle.data_port.specs.Serving.{BadAt, Endless, IsBoundedByRequests, ReachesEnd, Serves, ServesTo, StopsAfter}
+use Rattle.data_port.specs.Serving.{StreamEnd}
 use Rattle.data_port.specs.Serving.{Whole, replies, stream_limit}
 use Rattle.data_port.specs.ServingStages.{ServesPiece}
 use Rattle.data_port.proofs.Endings.{bad_ends, endless_ends, unfinished_ends, whole_ends}

@@ -1,5 +1,6 @@
 //! What holds of drives whatever a reader does.
-ghost use Rattle.std.specs.Prelude.{◌≡◌, ℕ, ◌<◌, ◌≤◌, ◌++◌, ◌∷◌, ◌↔◌, [], All, List, Option, length, flat_map, true, false, None, Some};
+ghost use Rattle.std.specs.Prelude.{◌≡◌, ℕ, ◌<◌, ◌≤◌, ◌++◌, ◌∷◌, ◌↔◌, [], All, List, Option, length, flat_map, true};
+ghost use Rattle.std.specs.Prelude.{false, None, Some};
 ghost use Rattle.std.specs.Str.Lines.{strip_carriage_return};
 ghost use Rattle.taxi_units.specs.declared.event.Event.{Event};
 ghost use Rattle.drive_text.specs.declared.run.Run.{Run};

@@ -4,7 +4,7 @@ use Rattle.std.proofs.Common.{Ok, Err}
 use Rattle.std.specs.Prelude.{IsOk, OnOk}
 use Rattle.std.proofs.Math.Seq.{take-append_seam}
 use Rattle.taxi_units.specs.declared.receipt.Receipt.{Receipt}
-use Rattle.receipt_text.specs.Front.{IsInFront}
+use Rattle.receipt_reading.specs.Front.{IsInFront}
 use Rattle.receipt_text.specs.Grammar.{IsReceiptText}
 use Rattle.receipt_text.specs.Part.{Part}
 use Rattle.receipt_text.proofs.Laws.{short_texts}

@@ -5,7 +5,7 @@ ghost use Rattle.log_commands.specs.Roll.{BeginsWithNone};
 
 use crate::log_record::LogRecord;
 use arrayvec::ArrayVec;
-use receipt_text::receipt_in_front;
+use receipt_reading::receipt_in_front;
 
 /// How many bytes stand before the first with which a receipt can begin: all, where there is none.
 pub(crate) fn before_letter(text: &[u8]) -> usize

@@ -6,7 +6,7 @@ ghost use Rattle.log_commands.specs.Slots.{Spells, IsRecordOf, spelling};
 
 use crate::log_record::{LONGEST, LogRecord};
 use arrayvec::ArrayVec;
-use receipt_text::read_receipt;
+use receipt_reading::read_receipt;
 use slot_bodies::{Spelled, eight_at, put_bytes, put_zeros, two_at};
 
 /// The bytes of a record at a place in the log.

@@ -5,7 +5,8 @@ use Rattle.taxi_units.specs.declared.event.Key.TheVariants.{Hire, Stop, Clear, P
 use Rattle.taxi_units.specs.declared.event.Operating.{Operating}
 use Rattle.taxi_units.specs.declared.event.Operating.TheVariants.{ForHire, Hired, Stopped}
 
--- a key may act in these operating positions: Hire in For Hire and in Stopped, Stop in Hired, Clear in Stopped, a tariff
+-- a key may act in these operating positions: Hire in For Hire and in Stopped, Stop in Hired, Clear in Stopped, a
+-- tariff
 -- position and a zone in For Hire and in Hired, and a supplement in Hired and in Stopped
 abbrev pub MayAct : Key → Operating → Type 0
 MayAct Hire operating = (operating ≡ ForHire) ⊎ (operating ≡ Stopped)

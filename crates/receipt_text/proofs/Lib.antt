@@ -8,8 +8,6 @@ mod Bytes
 mod Dates
 -- the numbers that digits make, and a limit
 mod Digits
--- a receipt stands at the front of a text where it is read there and is written so
-mod Fronts
 -- a text is a receipt of the grammar exactly where it is the one that is written
 mod GrammarTexts
 -- what is written of a group of lines is read again

@@ -2,14 +2,12 @@ pub mod AmountLines
 pub mod Dates
 pub mod Digests
 pub mod Figures
-pub mod Front
 pub mod Grammar
 pub mod Lines
 pub mod Part
 pub mod Receipts
 pub mod SealParts
 pub mod Shows
-pub mod SpelledFront
 pub mod Spelling
 pub mod TariffLine
 pub mod Texts

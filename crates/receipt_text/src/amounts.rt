@@ -1,76 +1,8 @@
-//! Amounts at the front of a text.
-ghost use Rattle.std.specs.Prelude.{◌≡◌, ◌^◌, ◌<◌, ◌≤◌, IfSome};
-ghost use Rattle.taxi_units.specs.Reading.{Gives};
-ghost use Rattle.receipt_text.specs.Figures as spec;
-
-use crate::figures::{number_below, value_below};
-use taxi_units::{count_digits, word};
+//! An amount that a line says.
 
 /// An amount in units of the last of its decimals.
 #[derive(Clone, Copy)]
-pub(crate) struct Amount {
+pub struct Amount {
     pub units: u128,
     pub decimals: u8,
-}
-
-/// An amount at the front of a text, and what stands after it: digits, and perhaps a point and one to
-/// three digits. `None` where no such amount stands there, or its units aren't below the limit.
-#[tactic(auto, unfolding(crate::specs::Figures::amount_below))]
-pub(crate) fn amount_below(text: &[u8], limit: u128) -> Option<(Amount, &[u8])>
-    requires some { 0 < limit }
-    requires most { limit ≤ 10 ^ 24 }
-    ensures value { Gives (λ x. (x.0, x.1.now)) result (spec.amount_below limit text.now) }
-    ensures below { IfSome result (λ x. x.0.units < limit) }
-    ensures decimals { IfSome result (λ x. x.0.decimals ≤ 3) }
-{
-    let (whole, rest) = number_below(text, limit)?;
-    match rest.split_first() {
-        Some((byte, parts)) => {
-            if *byte == b'.' {
-                return with_parts(whole, parts, limit);
-            }
-            Some((whole_amount(whole), rest))
-        }
-        None => Some((whole_amount(whole), rest)),
-    }
-}
-
-/// The amount behind a word at the front of a text, and what stands after it.
-pub(crate) fn amount_behind<'a>(
-    text: &'a [u8],
-    before: &[u8],
-    limit: u128,
-) -> Option<(Amount, &'a [u8])>
-    requires some { 0 < limit }
-    requires most { limit ≤ 10 ^ 24 }
-    ensures value { Gives (λ x. (x.0, x.1.now)) result (spec.amount_behind before.now limit text.now) }
-    ensures below { IfSome result (λ x. x.0.units < limit) }
-    ensures decimals { IfSome result (λ x. x.0.decimals ≤ 3) }
-{
-    amount_below(word(text, before)?, limit)
-}
-
-/// An amount without decimals.
-fn whole_amount(units: u128) -> Amount
-    ensures { result ≡ record { units = units; decimals = 0 } }
-{
-    Amount { units, decimals: 0 }
-}
-
-/// The amount of what stands before a point and the digits at the front of what stands after it.
-#[tactic(auto, using(taxi_units::proofs::Laws::digits_in_front))]
-fn with_parts(whole: u128, text: &[u8], limit: u128) -> Option<(Amount, &[u8])>
-    requires whole { whole < limit }
-    requires most { limit ≤ 10 ^ 24 }
-    ensures value { Gives (λ x. (x.0, x.1.now)) result (spec.amount_with_parts limit whole text.now) }
-    ensures below { IfSome result (λ x. x.0.units < limit) }
-    ensures decimals { IfSome result (λ x. x.0.decimals ≤ 3) }
-{
-    let (digits, rest) = text.split_at(count_digits(text));
-    if digits.is_empty() || digits.len() > 3 {
-        return None;
-    }
-    let units = value_below(whole, digits, limit)?;
-    let decimals = digits.len() as u8;
-    Some((Amount { units, decimals }, rest))
 }

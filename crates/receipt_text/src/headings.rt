@@ -2,17 +2,14 @@
 ghost use Rattle.std.specs.Prelude.{◌≡◌, ◌+◌, ◌≤◌, ◌++◌, ◌↔◌, length, IsOk, OnOk};
 ghost use Rattle.arrayvec.specs.ArrayVec.{array_vec_len};
 ghost use Rattle.taxi_units.specs.Line.{line_size};
-ghost use Rattle.taxi_units.specs.Reading.{Gives};
-ghost use Rattle.receipt_text.specs.Lines as spec;
 ghost use Rattle.receipt_text.specs.Receipts.{heading_text, kind_text};
 
 use crate::fields::put_figure;
-use crate::figures::{READ_BELOW, number_behind};
-use taxi_units::{Kind, Line, LineFull, put_bytes, word};
+use taxi_units::{Kind, Line, LineFull, put_bytes};
 
 /// What these lines say.
 #[derive(Clone, Copy)]
-pub(crate) struct Heading {
+pub struct Heading {
     pub number: u64,
     pub kind: Kind,
 }
@@ -40,34 +37,4 @@ pub(crate) fn put_kind(line: &mut Line, kind: Kind) -> Result<(), LineFull>
         Kind::Expired => put_bytes(line, b"EXPIRED"),
         Kind::Roam => put_bytes(line, b""),
     }
-}
-
-/// The lines of the number and the kind at the front of a text, and what stands after them.
-#[tactic(auto, unfolding(crate::specs::Lines::heading_at))]
-pub(crate) fn heading_at(text: &[u8]) -> Option<(Heading, &[u8])>
-    ensures { Gives (λ x. (x.0, x.1.now)) result (spec.heading_at text.now) }
-{
-    let (number, text) = number_behind(text, b"RECEIPT ", READ_BELOW)?;
-    let text = word(text, b"\nKIND ")?;
-    let (kind, text) = kind_at(text)?;
-    let rest = word(text, b"\n")?;
-    let heading = Heading {
-        number: number as u64,
-        kind,
-    };
-    Some((heading, rest))
-}
-
-/// A kind at the front of a text, and what stands after it.
-fn kind_at(text: &[u8]) -> Option<(Kind, &[u8])>
-    ensures { Gives (λ x. (x.0, x.1.now)) result (spec.kind_at text.now) }
-{
-    if let Some(rest) = word(text, b"CLOSED") {
-        return Some((Kind::Closed, rest));
-    }
-    if let Some(rest) = word(text, b"ABORTED") {
-        return Some((Kind::Aborted, rest));
-    }
-    let rest = word(text, b"EXPIRED")?;
-    Some((Kind::Expired, rest))
 }

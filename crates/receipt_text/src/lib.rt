@@ -1,5 +1,5 @@
-//! The texts that passengers and offices read: displays, refusals and receipts, each written exactly,
-//! and receipts read back. All of these texts are this project's own.
+//! The texts that passengers and offices read: displays, refusals and receipts, each written exactly, with the
+//! grammar of receipts. `receipt_reading` reads them back. All of these texts are this project's own.
 #![tactic(auto)]
 
 mod amounts;
@@ -7,13 +7,9 @@ mod calculations;
 mod digest;
 mod displays;
 mod fields;
-mod figures;
-mod front;
 mod grammar;
 mod headings;
 mod parts;
-mod ranges;
-mod reading;
 mod receipts;
 mod refusals;
 mod shared;
@@ -21,18 +17,21 @@ mod stamps;
 mod sums;
 mod trips;
 
+pub use amounts::Amount;
+pub use calculations::Calculation;
 pub use digest::push_hex;
 pub use displays::put_display;
-pub use front::receipt_in_front;
 pub use grammar::{
     displays_differ_by_their_fields, receipts_are_short, receipts_are_their_texts,
     receipts_begin_with_their_word, receipts_differ_in_their_tariff_alone, texts_are_one_receipt,
 };
+pub use headings::Heading;
 pub use parts::SealPart;
-pub use reading::read_receipt;
-pub use receipts::put_receipt;
+pub use receipts::{put_part_receipt, put_receipt};
 pub use refusals::put_refusal;
 pub use shared::{
     push_calculation, push_course, push_fare, push_kind, push_supplements, push_total,
 };
 pub use stamps::put_day;
+pub use sums::{OptionalAmounts, Sums};
+pub use trips::TripLines;

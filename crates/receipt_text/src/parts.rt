@@ -1,24 +1,19 @@
 //! What a receipt says of the meter's seal, and its lines.
 ghost use Rattle.std.specs.Prelude.{◌≡◌, ◌+◌, ◌≤◌, ◌++◌, ◌↔◌, codes, length, IsOk, OnOk};
-ghost use Rattle.std.specs.List.{prefix_len};
 ghost use Rattle.arrayvec.specs.ArrayVec.{array_vec_len};
 ghost use Rattle.taxi_units.specs.Line.{line_size};
-ghost use Rattle.taxi_units.specs.Reading.{Gives};
-ghost use Rattle.receipt_text.specs.Lines as spec;
 ghost use Rattle.receipt_text.specs.Part.{IsDigest, IsPart};
 ghost use Rattle.receipt_text.specs.Receipts.{day_text, part_text};
 ghost use Rattle.receipt_text.specs.SealParts.{part_of};
 ghost use Rattle.seal_record.specs.Ranges.{IsDay, IsSeal};
-ghost use Rattle.taxi_units.specs.Identifier.{is_identifier_character};
 
-use crate::digest::{digest_at, hex_of};
+use crate::digest::hex_of;
 use crate::fields::{put_figure, put_text};
-use crate::figures::number_behind;
-use crate::stamps::{day_at, put_day};
+use crate::stamps::put_day;
 use arrayvec::ArrayVec;
 use seal_record::Seal;
 use std::marker::Model;
-use taxi_units::{Line, LineFull, is_identifier_character, put_bytes, word};
+use taxi_units::{Line, LineFull, put_bytes};
 
 /// What a receipt says of the seal of the meter that wrote it.
 #[derive(Drop)]
@@ -88,58 +83,4 @@ fn put_secured(line: &mut Line, secured: i32) -> Result<(), LineFull>
 {
     put_bytes(line, b"\nSECURED ")?;
     put_day(line, secured)
-}
-
-/// How many characters of taxi identifiers stand at the front.
-fn count_characters(text: &[u8]) -> usize
-    ensures count { result ≡ prefix_len is_identifier_character text.now }
-    ensures within { result ≤ length text.now }
-{
-    let mut count = 0;
-    for byte in text {
-        if !is_identifier_character(*byte) {
-            return count;
-        }
-        count += 1;
-    }
-    count
-}
-
-/// A taxi identifier at the front of a text, and what stands after it.
-#[tactic(auto, unfolding(crate::specs::Lines::taxi_at))]
-fn taxi_at(text: &[u8]) -> Option<(ArrayVec<u8, 16>, &[u8])>
-    ensures { Gives (λ x. (x.0.items, x.1.now)) result (spec.taxi_at text.now) }
-{
-    let count = count_characters(text);
-    if count == 0 || count > 16 {
-        return None;
-    }
-    let (characters, rest) = text.split_at(count);
-    let mut taxi = ArrayVec::new();
-    match taxi.try_extend_from_slice(characters) {
-        Ok(()) => Some((taxi, rest)),
-        Err(_) => None,
-    }
-}
-
-/// The lines of the seal at the front of a text, and what stands after them.
-#[tactic(auto, unfolding(crate::specs::Lines::part_at))]
-pub(crate) fn part_at(text: &[u8]) -> Option<(SealPart, &[u8])>
-    ensures { Gives (λ x. (x.0, x.1.now)) result (spec.part_at text.now) }
-{
-    let text = word(text, b"TAXI ")?;
-    let (taxi, text) = taxi_at(text)?;
-    let (constant, text) = number_behind(text, b"\nCONSTANT ", 1_000_000_000)?;
-    let text = word(text, b"\nSECURED ")?;
-    let (secured, text) = day_at(text)?;
-    let text = word(text, b"\nTARIFF ")?;
-    let (digest, text) = digest_at(text)?;
-    let rest = word(text, b"\n")?;
-    let part = SealPart {
-        taxi,
-        constant: constant as u32,
-        secured,
-        digest,
-    };
-    Some((part, rest))
 }

@@ -35,11 +35,7 @@ pub fn put_receipt(line: &mut Line, receipt: &Receipt, seal: &Seal) -> Result<()
 }
 
 /// Appends the text of a receipt, which only asks that its amounts and its date can be written.
-pub(crate) fn put_part_receipt(
-    line: &mut Line,
-    receipt: &Receipt,
-    part: &SealPart,
-) -> Result<(), LineFull>
+pub fn put_part_receipt(line: &mut Line, receipt: &Receipt, part: &SealPart) -> Result<(), LineFull>
     requires decimals { receipt.now.decimals ≤ 3 }
     requires secured { IsDay part.now.secured }
     ensures variant { IsOk result ↔ (array_vec_len line.old + length (receipt_text receipt.now part.now) ≤ line_size) }

@@ -2,19 +2,15 @@
 ghost use Rattle.std.specs.Prelude.{◌≡◌, ◌+◌, ◌≤◌, ◌++◌, ◌↔◌, length, IsOk, OnOk};
 ghost use Rattle.arrayvec.specs.ArrayVec.{array_vec_len};
 ghost use Rattle.taxi_units.specs.Line.{line_size};
-ghost use Rattle.taxi_units.specs.Reading.{Gives};
-ghost use Rattle.receipt_text.specs.Lines as spec;
 ghost use Rattle.receipt_text.specs.Receipts.{course_text, stamp_text, trip_text};
 
-use crate::amounts::amount_behind;
 use crate::fields::{put_amount, put_figure};
-use crate::figures::number_behind;
-use crate::stamps::{put_stamp, stamp_behind};
+use crate::stamps::put_stamp;
 use taxi_units::{Line, LineFull, Receipt, Stamp, put_bytes, word};
 
 /// What the lines of a trip say.
 #[derive(Clone, Copy)]
-pub(crate) struct TripLines {
+pub struct TripLines {
     pub start: Stamp,
     pub finish: Stamp,
     pub position: u8,
@@ -52,23 +48,4 @@ fn put_time(line: &mut Line, word: &[u8], stamp: &Stamp) -> Result<(), LineFull>
 {
     put_bytes(line, word)?;
     put_stamp(line, stamp)
-}
-
-/// The lines of the trip at the front of a text, and what stands after them.
-#[tactic(auto, unfolding(crate::specs::Lines::trip_at))]
-pub(crate) fn trip_at(text: &[u8]) -> Option<(TripLines, &[u8])>
-    ensures { Gives (λ x. (x.0, x.1.now)) result (spec.trip_at text.now) }
-{
-    let (start, text) = stamp_behind(text, b"START ")?;
-    let (finish, text) = stamp_behind(text, b"\nFINISH ")?;
-    let (position, text) = number_behind(text, b"\nPOSITION ", 100)?;
-    let (hired, text) = amount_behind(text, b"\nDISTANCE ", 100_000_000_000_000_000_000_000)?;
-    let rest = word(text, b" m\n")?;
-    let trip = TripLines {
-        start,
-        finish,
-        position: position as u8,
-        hired_mm: hired.units,
-    };
-    Some((trip, rest))
 }

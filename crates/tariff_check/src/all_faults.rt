@@ -21,10 +21,10 @@ use tariff_syntax::{Tariff, TariffLine};
 use taxi_units::NoMemory;
 
 /// All faults of a tariff, in the order of `CheckFault`: each kind of fault once, which names the first line that has
-/// it. Those of cuts and of cells are looked for only where no other is there, and then those of each dimension. The
-/// first is the one that `check` answers, and there is none exactly where the tariff is sound. `NoMemory` where memory
-/// runs out, and where there are more cuts or cells than 32 or 64 bits count, which no text comes to. That these are the
-/// faults is this project's own.
+/// it. Those of cuts and of cells are looked for only if no other is there, and then those of each dimension. The first
+/// is the one that `check` answers, and there is none exactly if the tariff is sound. `NoMemory` if memory runs out, or
+/// if there are more cuts or cells than 32 or 64 bits count, which no text comes to. That these are the faults is this
+/// project's own.
 pub fn faults(alloc: Global, tariff: &Tariff) -> Result<Vec<CheckFault>, NoMemory>
     ensures { IfOk result (λ faults. faults.items ≡ all_faults (tree_of tariff.now).lines) }
 {

@@ -45,10 +45,9 @@ pub fn cuts_are_in_order()
     ensures numbers { (numbers : List ℕ) → IsInOrder numbers (with_each [] numbers) }
 {}
 
-/// The law of all faults: the first of them is the one that `check` answers, and there is none exactly where the tariff
-/// is sound. Each that is named is there; each before those of cuts that is there is named, and each of cuts and of
-/// cells, too, where none of those before is there. Where a measure of a rate is 0 the common measure is 0, and so isn't
-/// too great.
+/// The law of all faults: the first of them is the one that `check` answers, and there is none exactly if the tariff is
+/// sound. Each that is named is there. Each before those of cuts that is there is named, and each of cuts and of cells,
+/// too, if none of those before is there. If a measure of a rate is 0, the common measure is 0, and so isn't too great.
 pub fn all_faults_begin_with_the_first()
     ensures first { (t : Tree) → slice_get (all_faults t.lines) 0 ≡ fault_of t }
     ensures none { (t : Tree) → (all_faults t.lines ≡ []) ↔ IsSound t }

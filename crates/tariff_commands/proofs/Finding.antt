@@ -1,6 +1,7 @@
 -- What the command `faults` found of a text is what it answers.
-use Rattle.std.proofs.Common.{◌≡◌, ◌≢◌, ℕ, ◌<◌, ◌≤◌, List, [], ◌∷◌, ◌++◌, Option, Some, None, Result, Ok, Err, length, map}
-use Rattle.std.proofs.Common.{refl, sym, ap, ◌∙◌, inl}
+use Rattle.std.proofs.Common.{◌≡◌, ◌≢◌, ℕ, ◌<◌, ◌≤◌, List, [], ◌∷◌, ◌++◌, ◌==◌, false, Some, None, Result, Ok, Err}
+use Rattle.std.proofs.Common.{length, map, refl, sym, ap, ◌∙◌, inl}
+use Rattle.std.specs.Prelude.{IfOk}
 use Rattle.std.specs.List.{slice_get}
 use Rattle.std.proofs.lemmas.Bool.{le-ltb, lt-ltb}
 use Rattle.std.proofs.lemmas.List.{append-nil}
@@ -22,7 +23,8 @@ use Rattle.call_ends.specs.Call.{MayTake}
 use Rattle.tariff_commands.specs.Check.{check_answer}
 use Rattle.call_ends.specs.Course.{Answered, ReadFailed}
 use Rattle.call_ends.specs.Ending.{EndsUnprinted}
-use Rattle.tariff_commands.specs.Faults.{faults_answer, faults_command, faults_in, refusal_lines, refusals_in, refusals_of}
+use Rattle.tariff_commands.specs.Faults.{faults_answer, faults_command, faults_in, refusal_lines, refusals_in}
+use Rattle.tariff_commands.specs.Faults.{refusals_of}
 use Rattle.tariff_commands.specs.FaultsSteps.{EndsFile, HasLines, IsFoundIn, IsFoundOf, IsRefusedText, IsSoundText}
 use Rattle.tariff_commands.specs.FaultsSteps.{ended_for_find}
 use Rattle.call_ends.specs.LastLine.{bad_tariff_line}
@@ -98,10 +100,15 @@ tree_found text t (Faults lines) h is =
       are = is.are ∙ ap refusal_lines (sym both.0);
     }
 
--- a tariff without faults has no first one, and one with faults has
-pub none_first : (t : Tree) → all_faults t.lines ≡ [] → fault_of t ≡ None
-none_first t e =
-    sym (all_faults_begin_with_the_first-first t) ∙ ap (λ (faults : List CheckFault). slice_get faults 0) e
+pub tree_found_in : {E : Type 0} (r : Result Found E) (text : List ℕ) (t : Tariff) → IsParsed text (Ok t)
+    → IfOk r (IsFoundOf (tree_of t)) → IfOk r (IsFoundIn text)
+tree_found_in (Ok found) text t h is = tree_found text t found h is
+tree_found_in (Err e) text t h is = tt
+
+-- a tariff with faults has a first one
+pub not_none : (faults : List CheckFault) (len : ℕ) → len ≡ length faults → (len == 0) ≡ false → faults ≢ []
+not_none [] len is some e = absurd (let never = rw is at some in cc)
+not_none (fault ∷ faults) len is some e = absurd cc
 
 some_first : (faults : List CheckFault) → faults ≢ [] → (first : CheckFault) × (slice_get faults 0 ≡ Some first)
 some_first [] some = absurd (some refl)

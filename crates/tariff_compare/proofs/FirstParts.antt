@@ -219,7 +219,8 @@ same_by Rate one other h = let parts = both_parts _ _ h in (eqb-true _ _ parts.0
 same_by Initial one other h = let parts = both_parts _ _ h in (eqb-true _ _ parts.0, eqb-true _ _ parts.1)
 same_by Minimum one other h = eqb-true _ _ h
 
-pub is_then_same : (kind : ChoiceKind) (one other : InForce) → IsSameBy kind one other → is_same_of kind one other ≡ true
+pub is_then_same : (kind : ChoiceKind) (one other : InForce) → IsSameBy kind one other
+    → is_same_of kind one other ≡ true
 is_then_same Rate one other same = both_true _ _ (eq-eqb _ _ same.0) (eq-eqb _ _ same.1)
 is_then_same Initial one other same = both_true _ _ (eq-eqb _ _ same.0) (eq-eqb _ _ same.1)
 is_then_same Minimum one other same = eq-eqb _ _ same

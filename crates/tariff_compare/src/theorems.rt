@@ -36,8 +36,8 @@ pub fn differences_are_first()
 
 /// The law of first parts: what is found of two frames is the first part in which they differ, of decimals, display
 /// step, rounding, positions, zones and the supplements by number; what is found in a context is the first kind of line
-/// that is asked for there and differs, of initial hire fee, minimum fare and rate; and two are the same in a kind exactly
-/// if their numbers say so.
+/// that is asked for there and differs, of initial hire fee, minimum fare and rate; and two are the same in a kind
+/// exactly if their numbers say so.
 pub fn first_parts_differ()
     ensures frame { (t u : Tree) (k : ℕ) (d : Difference) → HasTables t k → HasTables u k
         → frame_difference t u ≡ Some d → IsFirstOfFrame t u d }

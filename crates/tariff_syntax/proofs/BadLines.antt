@@ -1,16 +1,15 @@
 -- The lines of a text that are named as bad are those that have no form.
-use Rattle.std.proofs.Common.{◌≡◌, ◌≢◌, ◌⊎◌, ◌↔◌, inl, inr, ℕ, zero, suc, ◌+◌, ◌<◌, ◌≤◌, List, [], ◌∷◌, length, arith}
+use Rattle.std.proofs.Common.{◌≡◌, ◌⊎◌, ◌↔◌, inl, inr, ℕ, suc, ◌+◌, ◌<◌, ◌≤◌, List, [], ◌∷◌, arith}
 use Rattle.std.proofs.Common.{Bool, true, false, if◌then◌else◌, Option, Some, None, Result, Ok, Err, All, refl, sym, ap}
 use Rattle.std.proofs.Common.{◌∙◌, subst}
 use Rattle.std.specs.List.{AllPairs, Contains, slice_get}
-use Rattle.std.specs.Prelude.{is_none}
 use Rattle.std.proofs.lemmas.List.Elements.{All-nil, All-cons, All-weaker}
 use Rattle.tariff_syntax.specs.BadLines.{bad_below, bad_from, bad_lines, is_bad}
 use Rattle.tariff_syntax.specs.Formless.{HasFormless, HasFormlessBelow, HasNoForm, IsFormless}
 use Rattle.tariff_syntax.specs.Items.{decimals_read, item_read}
 use Rattle.tariff_syntax.specs.Parsed.{entries_read, heading_by, heading_read, put_entry, tree_parsed, tree_with}
 use Rattle.tariff_syntax.specs.Parses.{bad_in}
-use Rattle.tariff_syntax.specs.Reads.{IsEmpty, IsFirstBadLine, IsLineOfDecimals, IsLineOfEntry, Reads}
+use Rattle.tariff_syntax.specs.Reads.{IsFirstBadLine, Reads}
 use Rattle.tariff_syntax.specs.TextLines.{lines_of}
 use Rattle.tariff_syntax.specs.Token.{Token}
 use Rattle.tariff_syntax.specs.TokenReading.{tokens_of}

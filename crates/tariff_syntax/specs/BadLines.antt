@@ -1,6 +1,6 @@
 -- By law: the lines of a text that have no form, read line after line. The law bad_lines_have_no_form says which
 -- they are.
-use Rattle.std.specs.Prelude.{ℕ, ◌+◌, Bool, true, false, if◌then◌else◌, List, [], ◌∷◌, is_none}
+use Rattle.std.specs.Prelude.{ℕ, ◌+◌, Bool, false, if◌then◌else◌, List, [], ◌∷◌, is_none}
 use Rattle.tariff_syntax.specs.Items.{item_read}
 use Rattle.tariff_syntax.specs.Parsed.{heading_read}
 use Rattle.tariff_syntax.specs.TextLines.{lines_of}

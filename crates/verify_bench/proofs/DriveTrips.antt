@@ -1,4 +1,5 @@
--- Each explanation is of a trip of its drive: by the tick that hired it, the parts that events added, and the event that
+-- Each explanation is of a trip of its drive: by the tick that hired it, the parts that events added, and the event
+-- that
 -- closed it.
 use Rattle.std.proofs.Common.{◌≡◌, ℕ, ◌∙◌, List, [], ◌∷◌, ◌++◌, All, refl, ap, sym, subst, map, sum, Option, Some, None}
 use Rattle.std.proofs.Common.{append_assoc, option_map}

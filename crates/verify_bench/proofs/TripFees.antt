@@ -6,7 +6,7 @@ use Rattle.std.proofs.lemmas.List.{length-map}
 use Rattle.std.proofs.lemmas.List.Elements.{All-weaker}
 use Rattle.meter_model.specs.Interval.{context_now}
 use Rattle.meter_model.specs.Setting.{Setting}
-use Rattle.meter_model.specs.declared.trip.Fees.{Fees}
+use Rattle.meter_model.specs.declared.core_trip.Fees.{Fees}
 use Rattle.tariff_check.proofs.Laws as check
 use Rattle.tariff_check.specs.Amounts.{fees_in_force, place_number}
 use Rattle.tariff_check.specs.Faults.{IsSound}

@@ -10,7 +10,8 @@ abbrev pub HaveGiven : (decimals : ℕ) → List Row → (headed : Bool) → Lis
 HaveGiven decimals rows false readings = (rows ≡ []) × (readings ≡ [])
 HaveGiven decimals rows true readings = AreGood decimals rows readings
 
--- a row isn't taken behind other rows if it is bad, which its number tells, or if memory ran out for the reading that it
+-- a row isn't taken behind other rows if it is bad, which its number tells, or if memory ran out for the reading that
+-- it
 -- says behind good rows
 abbrev pub IsRowFault : (decimals : ℕ) → List Row → Row → ReadingsFault → Type 0
 IsRowFault decimals rows row TooLong = ⊥

@@ -1,5 +1,5 @@
-//! Rows as `tests/run --now` packs them: numbers of eight bytes, the highest first, and texts, each with its length before
-//! it.
+//! Rows as `tests/run --now` packs them: numbers of eight bytes, the highest first, and texts, each with its length
+//! before it.
 use std::test::Fail;
 
 /// What is left of packed rows.

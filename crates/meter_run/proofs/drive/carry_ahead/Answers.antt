@@ -149,7 +149,8 @@ ahead-preserved g c =
     rs) c.carry_runs.new.meter c.carry_runs.new.board) c.as_slice.ensures.value c.in_ok-carry_runs.ensures.carried in
     record {
       ready = c.in_ok-carry_runs.ensures.ready;
-      way = way_more (g.C.Carrier.carried r) (g.C.Carrier.broke_off r) (g.met.C.Carrier.behind r) (g.met.C.Carrier.later r)
+      way = way_more (g.C.Carrier.carried r) (g.C.Carrier.broke_off r) (g.met.C.Carrier.behind r)
+          (g.met.C.Carrier.later r)
           (g.met.C.Carrier.sooner r) c.args.source.now c.args.meter.now c.args.board.now c.args.steps.now c.ahead.source
           c.ahead.meter c.ahead.board c.ahead.steps c.carry_runs.new.steps runs c.ahead.invariant.way
           (subst (λ (rs : List Run). IsBounded c.ahead.steps c.carry_runs.new.steps (flat_map run_events rs))

@@ -11,7 +11,8 @@ use Rattle.call_ends.proofs.Laws.{carries-kept}
 use Rattle.call_ends.proofs.Laws.{cause_board, stops_by, unless_read}
 use Rattle.call_ends.proofs.Laws.{course-unprinted}
 use Rattle.call_ends.proofs.Laws.{board_not_read, ends_apart}
-use Rattle.tariff_commands.proofs.Finding.{course-faulty, course-faulty_begun, course-sound, course-unfound, not_board-find}
+use Rattle.tariff_commands.proofs.Finding.{course-faulty, course-faulty_begun, course-sound, course-unfound}
+use Rattle.tariff_commands.proofs.Finding.{not_board-find}
 use Rattle.tariff_commands.proofs.Finding.{read_fault-find, shown_refused}
 use Rattle.call_ends.proofs.Laws.{no_fault}
 use Rattle.tariff_commands.proofs.faults.print_faults.Goals as goal
@@ -25,9 +26,11 @@ returns-in-Err g c =
     let board = c.args.board.now in
     let steps = c.args.steps.now in
     let fault = c.in-Err.fault in
-    carries-kept g.F.Files g.B.Board faults_command files files' board board steps steps _ (λ none. none) (λ status w. w)
+    carries-kept g.F.Files g.B.Board faults_command files files' board board steps steps _ (λ none. none)
+    (λ status w. w)
     (λ tells. rw c.not_found.ensures
-    (course-unprinted faults_command (rest files) (rest files') (g.B.Board.image board) _ _ _ (g.B.Board.printed board) _
+    (course-unprinted faults_command (rest files) (rest files') (g.B.Board.image board) _ _ _
+    (g.B.Board.printed board) _
     (course-unfound (rest files) (rest files') (g.B.Board.image board) _ fault
     (λ e. c.found_in_word.ensures.read_fault (c.in-Err.is ∙ ap Err e)))))
     (λ later le tells. omega (arith, le))
@@ -47,10 +50,11 @@ returns-in-Sound g c =
     let files' = c.found_in_word.new.files in
     let board = c.args.board.now in
     let steps = c.args.steps.now in
-    carries-kept g.F.Files g.B.Board faults_command files files' board board steps steps _ (λ none. none) (λ status w. w)
+    carries-kept g.F.Files g.B.Board faults_command files files' board board steps steps _ (λ none. none)
+    (λ status w. w)
     (λ tells.
     course-unprinted faults_command (rest files) (rest files') (g.B.Board.image board) _ _ _ (g.B.Board.printed board) _
-    (course-sound (rest files) (rest files') (g.B.Board.image board) _ c.in-Sound.field-0 c.in-Sound.field-1
+    (course-sound (rest files) (rest files') (g.B.Board.image board) _ c.in-Sound.cells c.in-Sound.measure
     (subst (λ (f : Found). IsFoundIn (rest files 1) f) c.in-Sound.is (c.in-Ok.ensures.found tells))
     (subst (λ (f : Found). EndsFile f (rest files' 1)) c.in-Sound.is (c.in-Ok.ensures.ended tells))))
     (λ later le tells. omega (arith, le))

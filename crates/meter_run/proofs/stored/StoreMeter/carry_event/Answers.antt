@@ -71,7 +71,8 @@ do_acts-requires-clause-acts g c =
     let core = c.step_into.new.self in
     let acts = c.step_into.new.acts.items in
     let takes = c.step_into.ensures.takes in
-    let ready = known_ready g.B.Board t k x c.in-Some-known.known c.args.board.now c.in-Some-known.is c.requires.ready in
+    let ready = known_ready g.B.Board t k x c.in-Some-known.known c.args.board.now c.in-Some-known.is c.requires.ready
+    in
     subst (AreFor d) (sym c.as_slice.ensures.value)
     (acts_for t k c.args.event x.core core d acts ready (meets_with t k c.args.event x.core core d acts takes)
     (lawful_beside t k c.args.event x.core core d acts ready (c.supply_at.ensures.other c.in-None.is) takes))
@@ -83,7 +84,8 @@ do_acts-requires-clause-may g c =
     let x = c.args.self.now in
     let ready = known_ready g.B.Board t c.args.seal.now x k c.args.board.now c.in-Some-known.is c.requires.ready in (
       t,
-      may_known g.B.Board t c.args.seal.now x k c.args.board.now c.as_slice.result.now c.in-Some-known.is c.requires.ready
+      may_known g.B.Board t c.args.seal.now x k c.args.board.now c.as_slice.result.now c.in-Some-known.is
+          c.requires.ready
           (subst (λ (acts : List Act). All (IsLawfulAct t k.durable.number) acts) (sym c.as_slice.ensures.value)
           (lawful_beside t c.args.seal.now c.args.event x.core c.step_into.new.self k.durable c.step_into.new.acts.items
           ready (c.supply_at.ensures.other c.in-None.is) c.step_into.ensures.takes)),

@@ -1,0 +1,10 @@
+use Rattle.std.proofs.Common.{arith}
+use Rattle.std.proofs.lemmas.Bool.Decides.{nat_tests}
+use Rattle.receipt_text.proofs.Laws.{all_bytes}
+use Rattle.receipt_reading.proofs.ranges.is_digest.Goals as goal
+
+pub returns : goal.returns
+returns c = (
+  λ e. record { size = grind (arith, nat_tests); bytes = all_bytes c.args.digest.now c.type_inv.digest },
+  λ h. let size = h.size in grind (arith, nat_tests),
+)
