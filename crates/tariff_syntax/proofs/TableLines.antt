@@ -69,53 +69,77 @@ line_of_item decimals ts (supplement number amount most) h =
     (part.name (codes "max") ∷ part.number 1 99 most ∷ []) (λ first is. is) (x0.4) in
     let x2 = fixed decimals (x1.1) (word (codes "max")) (part.name (codes "max"))
     (part.number 1 99 most ∷ []) (λ first is. is) (x1.4) in
-    let x3 = last decimals (x2.0) (part.number 1 99 most) (x2.2) in
-    (x0.0, x1.0, x3.0, h.1 ∙ ap (λ (rest : List Token). word (codes "supplement") ∷ rest) (x0.2
-        ∙ ap (λ (rest : List Token). figure x0.0 ∷ rest) (x1.2
-            ∙ ap (λ (rest : List Token). figure x1.0 ∷ rest) (x2.1
-                ∙ ap (λ (rest : List Token). word (codes "max") ∷ rest) (x3.1)))), x0.3, x1.3, x3.2)
+    let x3 = last decimals (x2.0) (part.number 1 99 most) (x2.2) in (
+      x0.0,
+      x1.0,
+      x3.0,
+      h.1 ∙ ap (λ (rest : List Token). word (codes "supplement") ∷ rest) (x0.2
+          ∙ ap (λ (rest : List Token). figure x0.0 ∷ rest) (x1.2
+          ∙ ap (λ (rest : List Token). figure x1.0 ∷ rest) (x2.1
+          ∙ ap (λ (rest : List Token). word (codes "max") ∷ rest) (x3.1)))),
+      x0.3,
+      x1.3,
+      x3.2,
+    )
 line_of_item decimals ts (initial amount covers when) h =
     let x0 = figured decimals (h.0) (λ (f : List ℕ). IsAmount decimals f amount) (part.money amount)
     (part.covers covers ∷ part.condition when ∷ []) (λ first is. is) (h.2) in
-    let x2 = last decimals (x0.4.1) (part.condition when) (x0.4.4) in
-    (x0.0, x0.4.0, x0.4.1, h.1 ∙ ap (λ (rest : List Token). word (codes "initial") ∷ rest) (x0.2
-        ∙ ap (λ (rest : List Token). figure x0.0 ∷ rest) (x0.4.2)), x0.3, x0.4.3, x2)
+    let x2 = last decimals (x0.4.1) (part.condition when) (x0.4.4) in (
+      x0.0,
+      x0.4.0,
+      x0.4.1,
+      h.1 ∙ ap (λ (rest : List Token). word (codes "initial") ∷ rest) (x0.2
+          ∙ ap (λ (rest : List Token). figure x0.0 ∷ rest) (x0.4.2)),
+      x0.3,
+      x0.4.3,
+      x2,
+    )
 line_of_item decimals ts (rate a b c e when) h =
     let x0 = figured decimals (h.0) (λ (f : List ℕ). IsAmount decimals f a) (part.money a)
     (part.name (codes "per") ∷ part.measure b ∷ part.name (codes "m") ∷ part.comma ∷ part.money c ∷ part.name
-        (codes "per") ∷ part.measure e ∷ part.name (codes "s") ∷ part.condition when ∷ []) (λ first is. is) (h.2) in
+    (codes "per") ∷ part.measure e ∷ part.name (codes "s") ∷ part.condition when ∷ []) (λ first is. is) (h.2) in
     let x1 = fixed decimals (x0.1) (word (codes "per")) (part.name (codes "per"))
     (part.measure b ∷ part.name (codes "m") ∷ part.comma ∷ part.money c ∷ part.name
-        (codes "per") ∷ part.measure e ∷ part.name (codes "s") ∷ part.condition when ∷ []) (λ first is. is) (x0.4) in
+    (codes "per") ∷ part.measure e ∷ part.name (codes "s") ∷ part.condition when ∷ []) (λ first is. is) (x0.4) in
     let x2 = figured decimals (x1.0) (λ (f : List ℕ). IsAmount 1 f b) (part.measure b)
     (part.name (codes "m") ∷ part.comma ∷ part.money c ∷ part.name (codes "per") ∷ part.measure e ∷ part.name
-        (codes "s") ∷ part.condition when ∷ []) (λ first is. is) (x1.2) in
+    (codes "s") ∷ part.condition when ∷ []) (λ first is. is) (x1.2) in
     let x3 = fixed decimals (x2.1) (word (codes "m")) (part.name (codes "m"))
     (part.comma ∷ part.money c ∷ part.name (codes "per") ∷ part.measure e ∷ part.name
-        (codes "s") ∷ part.condition when ∷ []) (λ first is. is) (x2.4) in
+    (codes "s") ∷ part.condition when ∷ []) (λ first is. is) (x2.4) in
     let x4 = fixed decimals (x3.0) (sign (codes ",")) (part.comma)
     (part.money c ∷ part.name (codes "per") ∷ part.measure e ∷ part.name (codes "s") ∷ part.condition when ∷ [])
-        (λ first is. is) (x3.2) in
+    (λ first is. is) (x3.2) in
     let x5 = figured decimals (x4.0) (λ (f : List ℕ). IsAmount decimals f c) (part.money c)
     (part.name (codes "per") ∷ part.measure e ∷ part.name (codes "s") ∷ part.condition when ∷ []) (λ first is. is)
-        (x4.2) in
+    (x4.2) in
     let x6 = fixed decimals (x5.1) (word (codes "per")) (part.name (codes "per"))
     (part.measure e ∷ part.name (codes "s") ∷ part.condition when ∷ []) (λ first is. is) (x5.4) in
     let x7 = figured decimals (x6.0) (λ (f : List ℕ). IsAmount 1 f e) (part.measure e)
     (part.name (codes "s") ∷ part.condition when ∷ []) (λ first is. is) (x6.2) in
     let x8 = fixed decimals (x7.1) (word (codes "s")) (part.name (codes "s"))
     (part.condition when ∷ []) (λ first is. is) (x7.4) in
-    let x9 = last decimals (x8.0) (part.condition when) (x8.2) in
-    (x0.0, x2.0, x5.0, x7.0, x8.0, h.1 ∙ ap (λ (rest : List Token). word (codes "rate") ∷ rest) (x0.2
-        ∙ ap (λ (rest : List Token). figure x0.0 ∷ rest) (x1.1
-            ∙ ap (λ (rest : List Token). word (codes "per") ∷ rest) (x2.2
-                ∙ ap (λ (rest : List Token). figure x2.0 ∷ rest) (x3.1
-                    ∙ ap (λ (rest : List Token). word (codes "m") ∷ rest) (x4.1
-                        ∙ ap (λ (rest : List Token). sign (codes ",") ∷ rest) (x5.2
-                            ∙ ap (λ (rest : List Token). figure x5.0 ∷ rest) (x6.1
-                                ∙ ap (λ (rest : List Token). word (codes "per") ∷ rest) (x7.2
-                                    ∙ ap (λ (rest : List Token). figure x7.0 ∷ rest) (x8.1))))))))), x0.3, x2.3, x5.3,
-                                        x7.3, x9)
+    let x9 = last decimals (x8.0) (part.condition when) (x8.2) in (
+      x0.0,
+      x2.0,
+      x5.0,
+      x7.0,
+      x8.0,
+      h.1 ∙ ap (λ (rest : List Token). word (codes "rate") ∷ rest) (x0.2
+          ∙ ap (λ (rest : List Token). figure x0.0 ∷ rest) (x1.1
+          ∙ ap (λ (rest : List Token). word (codes "per") ∷ rest) (x2.2
+          ∙ ap (λ (rest : List Token). figure x2.0 ∷ rest) (x3.1
+          ∙ ap (λ (rest : List Token). word (codes "m") ∷ rest) (x4.1
+          ∙ ap (λ (rest : List Token). sign (codes ",") ∷ rest) (x5.2
+          ∙ ap (λ (rest : List Token). figure x5.0 ∷ rest) (x6.1
+          ∙ ap (λ (rest : List Token). word (codes "per") ∷ rest) (x7.2
+          ∙ ap (λ (rest : List Token). figure x7.0 ∷ rest) (x8.1))))))))),
+      x0.3,
+      x2.3,
+      x5.3,
+      x7.3,
+      x9,
+    )
 line_of_item decimals ts (minimum amount when) h =
     let x0 = figured decimals (h.0) (λ (f : List ℕ). IsAmount decimals f amount) (part.money amount)
     (part.condition when ∷ []) (λ first is. is) (h.2) in
@@ -144,10 +168,10 @@ item_of_line decimals ts (supplement number amount most) h = (
       (codes "max") ∷ figure h.2 ∷ []) (figure h.0) (part.number 1 16 number)
       (part.money amount ∷ part.name (codes "max") ∷ part.number 1 99 most ∷ []) refl (h.0, refl, h.4)
       (behind decimals (figure h.1 ∷ word (codes "max") ∷ figure h.2 ∷ []) (word (codes "max") ∷ figure h.2 ∷ [])
-          (figure h.1) (part.money amount)
+      (figure h.1) (part.money amount)
       (part.name (codes "max") ∷ part.number 1 99 most ∷ []) refl (h.1, refl, h.5)
       (behind decimals (word (codes "max") ∷ figure h.2 ∷ []) (figure h.2 ∷ []) (word (codes "max")) (part.name
-          (codes "max"))
+      (codes "max"))
       (part.number 1 99 most ∷ []) refl refl
       (alone decimals (figure h.2 ∷ []) (part.number 1 99 most) (h.2, refl, h.6)))),
 )
@@ -164,37 +188,40 @@ item_of_line decimals ts (rate a b c e when) h = (
   h.5,
   behind decimals (figure h.0 ∷ word (codes "per") ∷ figure h.1 ∷ word (codes "m") ∷ sign
       (codes ",") ∷ figure h.2 ∷ word (codes "per") ∷ figure h.3 ∷ word (codes "s") ∷ h.4) (word
-          (codes "per") ∷ figure h.1 ∷ word (codes "m") ∷ sign (codes ",") ∷ figure h.2 ∷ word
-              (codes "per") ∷ figure h.3 ∷ word (codes "s") ∷ h.4) (figure h.0) (part.money a)
+      (codes "per") ∷ figure h.1 ∷ word (codes "m") ∷ sign (codes ",") ∷ figure h.2 ∷ word
+      (codes "per") ∷ figure h.3 ∷ word (codes "s") ∷ h.4) (figure h.0) (part.money a)
       (part.name (codes "per") ∷ part.measure b ∷ part.name (codes "m") ∷ part.comma ∷ part.money c ∷ part.name
-          (codes "per") ∷ part.measure e ∷ part.name (codes "s") ∷ part.condition when ∷ []) refl (h.0, refl, h.6)
+      (codes "per") ∷ part.measure e ∷ part.name (codes "s") ∷ part.condition when ∷ []) refl (h.0, refl, h.6)
       (behind decimals (word (codes "per") ∷ figure h.1 ∷ word (codes "m") ∷ sign (codes ",") ∷ figure h.2 ∷ word
-          (codes "per") ∷ figure h.3 ∷ word (codes "s") ∷ h.4) (figure h.1 ∷ word (codes "m") ∷ sign
-              (codes ",") ∷ figure h.2 ∷ word (codes "per") ∷ figure h.3 ∷ word (codes "s") ∷ h.4) (word
-                  (codes "per")) (part.name (codes "per"))
+      (codes "per") ∷ figure h.3 ∷ word (codes "s") ∷ h.4) (figure h.1 ∷ word (codes "m") ∷ sign
+      (codes ",") ∷ figure h.2 ∷ word (codes "per") ∷ figure h.3 ∷ word (codes "s") ∷ h.4) (word
+      (codes "per")) (part.name (codes "per"))
       (part.measure b ∷ part.name (codes "m") ∷ part.comma ∷ part.money c ∷ part.name
-          (codes "per") ∷ part.measure e ∷ part.name (codes "s") ∷ part.condition when ∷ []) refl refl
+      (codes "per") ∷ part.measure e ∷ part.name (codes "s") ∷ part.condition when ∷ []) refl refl
       (behind decimals (figure h.1 ∷ word (codes "m") ∷ sign (codes ",") ∷ figure h.2 ∷ word
-          (codes "per") ∷ figure h.3 ∷ word (codes "s") ∷ h.4) (word (codes "m") ∷ sign
-              (codes ",") ∷ figure h.2 ∷ word (codes "per") ∷ figure h.3 ∷ word (codes "s") ∷ h.4) (figure h.1)
-                  (part.measure b)
+      (codes "per") ∷ figure h.3 ∷ word (codes "s") ∷ h.4) (word (codes "m") ∷ sign
+      (codes ",") ∷ figure h.2 ∷ word (codes "per") ∷ figure h.3 ∷ word (codes "s") ∷ h.4) (figure h.1)
+      (part.measure b)
       (part.name (codes "m") ∷ part.comma ∷ part.money c ∷ part.name (codes "per") ∷ part.measure e ∷ part.name
-          (codes "s") ∷ part.condition when ∷ []) refl (h.1, refl, h.7)
+      (codes "s") ∷ part.condition when ∷ []) refl (h.1, refl, h.7)
       (behind decimals (word (codes "m") ∷ sign (codes ",") ∷ figure h.2 ∷ word (codes "per") ∷ figure h.3 ∷ word
-          (codes "s") ∷ h.4) (sign (codes ",") ∷ figure h.2 ∷ word (codes "per") ∷ figure h.3 ∷ word
-              (codes "s") ∷ h.4) (word (codes "m")) (part.name (codes "m"))
+      (codes "s") ∷ h.4) (sign (codes ",") ∷ figure h.2 ∷ word (codes "per") ∷ figure h.3 ∷ word
+      (codes "s") ∷ h.4) (word (codes "m")) (part.name (codes "m"))
       (part.comma ∷ part.money c ∷ part.name (codes "per") ∷ part.measure e ∷ part.name
-          (codes "s") ∷ part.condition when ∷ []) refl refl
+      (codes "s") ∷ part.condition when ∷ []) refl refl
       (behind decimals (sign (codes ",") ∷ figure h.2 ∷ word (codes "per") ∷ figure h.3 ∷ word (codes "s") ∷ h.4)
-          (figure h.2 ∷ word (codes "per") ∷ figure h.3 ∷ word (codes "s") ∷ h.4) (sign (codes ",")) (part.comma)
+      (figure h.2 ∷ word (codes "per") ∷ figure h.3 ∷ word (codes "s") ∷ h.4) (sign (codes ",")) (part.comma)
       (part.money c ∷ part.name (codes "per") ∷ part.measure e ∷ part.name
-          (codes "s") ∷ part.condition when ∷ []) refl refl
+      (codes "s") ∷ part.condition when ∷ []) refl refl
       (behind decimals (figure h.2 ∷ word (codes "per") ∷ figure h.3 ∷ word (codes "s") ∷ h.4) (word
-          (codes "per") ∷ figure h.3 ∷ word (codes "s") ∷ h.4) (figure h.2) (part.money c)
-      (part.name (codes "per") ∷ part.measure e ∷ part.name (codes "s") ∷ part.condition when ∷ []) refl (h.2, refl,
-          h.8)
+      (codes "per") ∷ figure h.3 ∷ word (codes "s") ∷ h.4) (figure h.2) (part.money c)
+      (part.name (codes "per") ∷ part.measure e ∷ part.name (codes "s") ∷ part.condition when ∷ []) refl (
+        h.2,
+        refl,
+        h.8,
+      )
       (behind decimals (word (codes "per") ∷ figure h.3 ∷ word (codes "s") ∷ h.4) (figure h.3 ∷ word
-          (codes "s") ∷ h.4) (word (codes "per")) (part.name (codes "per"))
+      (codes "s") ∷ h.4) (word (codes "per")) (part.name (codes "per"))
       (part.measure e ∷ part.name (codes "s") ∷ part.condition when ∷ []) refl refl
       (behind decimals (figure h.3 ∷ word (codes "s") ∷ h.4) (word (codes "s") ∷ h.4) (figure h.3) (part.measure e)
       (part.name (codes "s") ∷ part.condition when ∷ []) refl (h.3, refl, h.9)
@@ -257,16 +284,16 @@ ranges_of_parts (initial amount covers when) h =
 ranges_of_parts (rate a b c e when) h =
     let y1 = tail (part.money a)
     (part.name (codes "per") ∷ part.measure b ∷ part.name (codes "m") ∷ part.comma ∷ part.money c ∷ part.name
-        (codes "per") ∷ part.measure e ∷ part.name (codes "s") ∷ part.condition when ∷ []) h in
+    (codes "per") ∷ part.measure e ∷ part.name (codes "s") ∷ part.condition when ∷ []) h in
     let y2 = tail (part.name (codes "per"))
     (part.measure b ∷ part.name (codes "m") ∷ part.comma ∷ part.money c ∷ part.name
-        (codes "per") ∷ part.measure e ∷ part.name (codes "s") ∷ part.condition when ∷ []) y1 in
+    (codes "per") ∷ part.measure e ∷ part.name (codes "s") ∷ part.condition when ∷ []) y1 in
     let y3 = tail (part.measure b)
     (part.name (codes "m") ∷ part.comma ∷ part.money c ∷ part.name (codes "per") ∷ part.measure e ∷ part.name
-        (codes "s") ∷ part.condition when ∷ []) y2 in
+    (codes "s") ∷ part.condition when ∷ []) y2 in
     let y4 = tail (part.name (codes "m"))
     (part.comma ∷ part.money c ∷ part.name (codes "per") ∷ part.measure e ∷ part.name
-        (codes "s") ∷ part.condition when ∷ []) y3 in
+    (codes "s") ∷ part.condition when ∷ []) y3 in
     let y5 = tail (part.comma)
     (part.money c ∷ part.name (codes "per") ∷ part.measure e ∷ part.name (codes "s") ∷ part.condition when ∷ []) y4 in
     let y6 = tail (part.money c)
@@ -279,7 +306,7 @@ ranges_of_parts (rate a b c e when) h =
     (part.condition when ∷ []) y8 in (
       head (part.money a) (part.name (codes "per") ∷ part.measure b ∷ part.name
           (codes "m") ∷ part.comma ∷ part.money c ∷ part.name (codes "per") ∷ part.measure e ∷ part.name
-              (codes "s") ∷ part.condition when ∷ []) h,
+          (codes "s") ∷ part.condition when ∷ []) h,
       head (part.measure b) (part.name (codes "m") ∷ part.comma ∷ part.money c ∷ part.name
           (codes "per") ∷ part.measure e ∷ part.name (codes "s") ∷ part.condition when ∷ []) y2,
       head (part.money c) (part.name (codes "per") ∷ part.measure e ∷ part.name
@@ -315,18 +342,18 @@ parts_of_ranges (initial amount covers when) h =
     (cons (part.condition when) ([]) h.2 none))
 parts_of_ranges (rate a b c e when) h =
     cons (part.money a) (part.name (codes "per") ∷ part.measure b ∷ part.name
-        (codes "m") ∷ part.comma ∷ part.money c ∷ part.name (codes "per") ∷ part.measure e ∷ part.name
-            (codes "s") ∷ part.condition when ∷ []) h.0
+    (codes "m") ∷ part.comma ∷ part.money c ∷ part.name (codes "per") ∷ part.measure e ∷ part.name
+    (codes "s") ∷ part.condition when ∷ []) h.0
     (cons (part.name (codes "per")) (part.measure b ∷ part.name (codes "m") ∷ part.comma ∷ part.money c ∷ part.name
-        (codes "per") ∷ part.measure e ∷ part.name (codes "s") ∷ part.condition when ∷ []) tt
+    (codes "per") ∷ part.measure e ∷ part.name (codes "s") ∷ part.condition when ∷ []) tt
     (cons (part.measure b) (part.name (codes "m") ∷ part.comma ∷ part.money c ∷ part.name
-        (codes "per") ∷ part.measure e ∷ part.name (codes "s") ∷ part.condition when ∷ []) h.1
+    (codes "per") ∷ part.measure e ∷ part.name (codes "s") ∷ part.condition when ∷ []) h.1
     (cons (part.name (codes "m")) (part.comma ∷ part.money c ∷ part.name (codes "per") ∷ part.measure e ∷ part.name
-        (codes "s") ∷ part.condition when ∷ []) tt
+    (codes "s") ∷ part.condition when ∷ []) tt
     (cons (part.comma) (part.money c ∷ part.name (codes "per") ∷ part.measure e ∷ part.name
-        (codes "s") ∷ part.condition when ∷ []) tt
+    (codes "s") ∷ part.condition when ∷ []) tt
     (cons (part.money c) (part.name (codes "per") ∷ part.measure e ∷ part.name
-        (codes "s") ∷ part.condition when ∷ []) h.2
+    (codes "s") ∷ part.condition when ∷ []) h.2
     (cons (part.name (codes "per")) (part.measure e ∷ part.name (codes "s") ∷ part.condition when ∷ []) tt
     (cons (part.measure e) (part.name (codes "s") ∷ part.condition when ∷ []) h.3
     (cons (part.name (codes "s")) (part.condition when ∷ []) tt

@@ -71,7 +71,7 @@ module _ (s : Setting) (holds : (x : Context) → (n : ℕ) × (place_in_force s
   rate_is x is =
       let none : RateNumbers = record { a = 0; b = 0; c = 0; e = 0 } in
       ap (λ (n : ℕ). get_or (values_of s.tariff.rates) n none) is
-          ∙ mapped_there (λ (c : Choice RateNumbers). c.value) s.tariff.rates place rate none there
+      ∙ mapped_there (λ (c : Choice RateNumbers). c.value) s.tariff.rates place rate none there
 
   passes_by : (p : ℕ) (x : Context) → test (InHired p x) ≡ true → Passes p x
   passes_by p x passes =

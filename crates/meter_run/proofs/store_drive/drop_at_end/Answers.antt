@@ -43,7 +43,7 @@ returns-clause-stopped g c =
     let done = c.carry_event.ensures in
     ends_amid g.B.Board t k x a b (not_told c.is_off.result _ c.is_off.ensures.1 c.if-is_off.false)
     (amid_either g.B.Board t k r (Down ∷ []) x a y b
-        (carried_one g.B.Board t k r x a y b Down done.attempts done.supply)
+    (carried_one g.B.Board t k r x a y b Down done.attempts done.supply)
     (stopped_one g.B.Board t k r x a y b Down done.attempts))
 
 pub returns-clause-cause : goal.returns-clause-cause

@@ -27,10 +27,10 @@ returns-in-Err g c =
     let steps = c.args.steps.now in
     let fault = c.in-Err.fault in
     carries-kept g.F.Files g.B.Board faults_command files files' board board steps steps _ (λ none. none)
-        (λ status w. w)
+    (λ status w. w)
     (λ tells. rw c.not_found.ensures
     (course-unprinted faults_command (rest files) (rest files') (g.B.Board.image board) _ _ _
-        (g.B.Board.printed board) _
+    (g.B.Board.printed board) _
     (course-unfound (rest files) (rest files') (g.B.Board.image board) _ fault
     (λ e. c.found_in_word.ensures.read_fault (c.in-Err.is ∙ ap Err e)))))
     (λ later le tells. omega (arith, le))
@@ -51,7 +51,7 @@ returns-in-Sound g c =
     let board = c.args.board.now in
     let steps = c.args.steps.now in
     carries-kept g.F.Files g.B.Board faults_command files files' board board steps steps _ (λ none. none)
-        (λ status w. w)
+    (λ status w. w)
     (λ tells.
     course-unprinted faults_command (rest files) (rest files') (g.B.Board.image board) _ _ _ (g.B.Board.printed board) _
     (course-sound (rest files) (rest files') (g.B.Board.image board) _ c.in-Sound.cells c.in-Sound.measure

@@ -13,7 +13,7 @@ perform_all-requires g c =
     subst (AreFor c.args.self.now.durable) (sym c.as_slice.ensures.value)
     (acts_for c.args.tables.now c.args.seal.now c.args.event c.args.self.now.core c.step_or_resume.new.core
     c.args.self.now.durable c.step_or_resume.new.acts.items c.requires.ready c.step_or_resume.ensures.meets
-        c.step_or_resume.ensures.ranges)
+    c.step_or_resume.ensures.ranges)
 
 pub returns-clause-ready : goal.returns-clause-ready
 returns-clause-ready g c =
@@ -29,8 +29,10 @@ returns-clause-carried g c =
     let e = c.as_slice.ensures.value in
     on_ok_weaker c.perform_all.result
     (λ both. carries_event g.B.Board c.args.tables.now c.args.seal.now c.args.self.now c.args.board.now
-    (record { core = c.step_or_resume.new.core;
-        durable = c.perform_all.new.durable }) c.perform_all.new.board c.args.event
+    (record {
+      core = c.step_or_resume.new.core;
+      durable = c.perform_all.new.durable;
+    }) c.perform_all.new.board c.args.event
     c.step_or_resume.new.acts.items
     c.step_or_resume.ensures.meets (both.0 ∙ ap (after_acts d) e) (λ told. both.1 told
     ∙ ap (λ (acts : List Act). g.B.Board.printed c.args.board.now ++ shown_texts acts) e) c.perform_all.ensures.store)

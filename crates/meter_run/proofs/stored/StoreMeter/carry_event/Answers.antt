@@ -72,7 +72,7 @@ do_acts-requires-clause-acts g c =
     let acts = c.step_into.new.acts.items in
     let takes = c.step_into.ensures.takes in
     let ready = known_ready g.B.Board t k x c.in-Some-known.known c.args.board.now c.in-Some-known.is c.requires.ready
-        in
+    in
     subst (AreFor d) (sym c.as_slice.ensures.value)
     (acts_for t k c.args.event x.core core d acts ready (meets_with t k c.args.event x.core core d acts takes)
     (lawful_beside t k c.args.event x.core core d acts ready (c.supply_at.ensures.other c.in-None.is) takes))

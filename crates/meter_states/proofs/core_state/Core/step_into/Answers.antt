@@ -19,7 +19,7 @@ returns-then-is_off-clause-takes g c =
       lawful = c.requires.ready.lawful;
       ranges = subst (All (IsLawfulAct c.args.tables.now n)) (sym acts)
           (All-cons (IsLawfulAct c.args.tables.now n) (Refuse NotNow) [] tt (All-nil
-              (IsLawfulAct c.args.tables.now n)));
+          (IsLawfulAct c.args.tables.now n)));
       commits = λ durable range same. subst (All (KeepsRanges durable)) (sym acts)
           (All-cons (KeepsRanges durable) (Refuse NotNow) [] tt (All-nil (KeepsRanges durable)));
       meets = λ s m is stands.
