@@ -98,4 +98,5 @@ module _ {D L : Type 0} {N : ℕ} (B : Ghosts D N L) (tables : TableParts) (seal
         ∙ ap (λ (p : List ℕ). p ++ shown_texts (run s e (run s es m).next).acts) printed
         ∙ append_assoc before (shown_texts (run s es m).acts) (shown_texts (run s e (run s es m).next).acts)
         ∙ ap (λ (p : List ℕ). before ++ p)
-        (sym (run_texts s m es e) ∙ ap (λ (fs : List Event). shown_texts (run s fs m).acts) (sym (one_more events i d h)))
+        (sym (run_texts s m es e)
+        ∙ ap (λ (fs : List Event). shown_texts (run s fs m).acts) (sym (one_more events i d h)))
