@@ -15,13 +15,10 @@ TARIFF, CITY, PARAMS, DRIVE = (
 OWN = re.compile(r"taxi\.(store|log)|city\.tariff")
 # The errors that a call may give, of those that a medium or a signal causes.
 ERRORS = [
-    (r"read|pread64", "EIO EINTR"),
-    (r"write|pwrite64", "EIO ENOSPC EINTR EDQUOT"),
+    (r"read|pread64", "EIO EINTR"), (r"write|pwrite64", "EIO ENOSPC EINTR EDQUOT"),
     (r"fsync|fdatasync|open|openat", "EIO ENOSPC EINTR EDQUOT EROFS"),
-    (r"link|linkat|rename|renameat\w*", "EIO ENOSPC EDQUOT EROFS"),
-    (r"unlink|unlinkat", "EIO EROFS"),
-    (r"ftruncate", "EIO EINTR EROFS"),
-    (r"flock", "EINTR"),
+    (r"link|linkat|rename|renameat\w*", "EIO ENOSPC EDQUOT EROFS"), (r"unlink|unlinkat", "EIO EROFS"),
+    (r"ftruncate", "EIO EINTR EROFS"), (r"flock", "EINTR"),
     (r"lseek|fstat|newfstatat|statx|fcntl|fadvise64|readlink\w*", "EIO"),
 ]
 

@@ -8,6 +8,7 @@ import shutil
 
 import medium
 from power_cuts import (
+
     MORNING, MORNING_DRIVE, NEXT_DRIVE, PROGRAM, SEAL, STORE, TARIFF, TOP, Folder, check_run, check_sealing, receipts_in,
     traced,
 )
@@ -20,17 +21,12 @@ Place = collections.namedtuple("Place", "folder moment receipts")
 # Programs behind a failed sync, each with the calls of it that fail.
 OPENING, ITS_FOLDER = "fsync:error=EIO:when=1", "fsync:error=EIO:when=2"
 RUNS = [
-    [("totals", ()), ("run", ())],
-    [("run", ()), ("totals", ())],
-    [("totals", [OPENING]), ("totals", ()), ("run", ())],
-    [("run", [OPENING]), ("run", ())],
-    [("totals", [ITS_FOLDER]), ("run", [OPENING]), ("totals", ())],
+    [("totals", ()), ("run", ())], [("run", ()), ("totals", ())], [("totals", [OPENING]), ("totals", ()), ("run", ())],
+    [("run", [OPENING]), ("run", ())], [("totals", [ITS_FOLDER]), ("run", [OPENING]), ("totals", ())],
 ]
 SEALINGS = [
-    [("seal", ()), ("totals", ())],
-    [("totals", ()), ("seal", ())],
-    [("totals", [OPENING]), ("totals", [ITS_FOLDER]), ("seal", ())],
-    [("seal", [OPENING]), ("seal", ())],
+    [("seal", ()), ("totals", ())], [("totals", ()), ("seal", ())],
+    [("totals", [OPENING]), ("totals", [ITS_FOLDER]), ("seal", ())], [("seal", [OPENING]), ("seal", ())],
 ]
 
 

@@ -29,14 +29,8 @@ class FractionMeter:
         at = datetime.datetime.fromtimestamp(second + self.offset, datetime.timezone.utc)
         return self.tables.lines_at(
             (
-                self.place["P"],
-                self.place["Z"],
-                at.isoweekday(),
-                (at.year, at.month, at.day) in self.holidays,
-                (at.month, at.day),
-                60 * at.hour + at.minute,
-                10_000 * self.pulses // self.constant,
-                self.ticks,
+                self.place["P"], self.place["Z"], at.isoweekday(), (at.year, at.month, at.day) in self.holidays,
+                (at.month, at.day), 60 * at.hour + at.minute, 10_000 * self.pulses // self.constant, self.ticks,
             )
         )
 

@@ -1,4 +1,4 @@
-"""What a test leaves out for want of a tool: it says so, and .ci/run says it once more at its end."""
+"""What a test leaves out since a tool is missing: it says so, and .ci/run says it once more at its end."""
 
 import os
 

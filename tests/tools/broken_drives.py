@@ -66,10 +66,8 @@ class Drive:
         for _ in range(self.draw.randrange(4)):
             self.any_of(
                 lambda: self.way(self.draw.randrange(200), self.draw.randrange(1, 900)),
-                lambda: self.key(self.draw.choice(["P 1", "P 2", "Z 1", "Z 2", "P 7", "Z 0", "S", "E 1"])),
-                self.clock,
-                self.loss,
-                self.long_way,
+                lambda: self.key(self.draw.choice(["P 1", "P 2", "Z 1", "Z 2", "P 7", "Z 0", "S", "E 1"])), self.clock,
+                self.loss, self.long_way,
             )
 
     def trip(self):
@@ -77,8 +75,7 @@ class Drive:
             self.any_of(
                 lambda: self.way(self.draw.randrange(40), self.draw.randrange(1, 2000)),
                 lambda: self.way(self.draw.randrange(40), self.draw.randrange(1, 2000)),
-                lambda: self.key(self.draw.choice(["E 1", "E 2", "E 1", "P 2", "Z 2", "P 1", "S", "H"])),
-                self.clock,
+                lambda: self.key(self.draw.choice(["E 1", "E 2", "E 1", "P 2", "Z 2", "P 1", "S", "H"])), self.clock,
                 self.loss,
             )
 

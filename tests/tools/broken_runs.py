@@ -33,8 +33,7 @@ class Taxi:
         self.put("tariff", with_line(tariff, "step", "100.00 ahead") if may_expire else tariff)
         self.hold = draw.choice([0, 60, 120, 600])
         for key, value in (
-            ("hold", self.hold),
-            ("constant", draw.choice([500, 10_000, 14_230, 200_000])),
+            ("hold", self.hold), ("constant", draw.choice([500, 10_000, 14_230, 200_000])),
             ("mode", draw.choice(["single", "double"])),
         ):
             params = with_line(params, key, value)

@@ -53,9 +53,7 @@ def broken(place, name, size):
     wanted = twin_of(place / name)
     job = json.dumps([str(place / name), str(TARIFF), "drive"]).encode()
     done = subprocess.run(
-        [TOOLS["fleet"], "one", base64.urlsafe_b64encode(job)],
-        capture_output=True,
-        check=False,
+        [TOOLS["fleet"], "one", base64.urlsafe_b64encode(job)], capture_output=True, check=False,
         preexec_fn=lambda: resource.setrlimit(resource.RLIMIT_FSIZE, (size, size)),
     )
     row = json.loads(done.stdout.partition(b" ")[2])

@@ -64,13 +64,9 @@ def parameters(place):
     text = PARAMS.read_text()
     last = [line for line in text.splitlines() if line.startswith("offset ")][-1]
     texts = {
-        "same": text,
-        "new": text.replace("hold 120", "hold 60").replace(last + "\n", ""),
-        "other": text.replace("HG-0815", "OTHER-1"),
-        "wrong": text.replace("hold 120", "hold 700"),
-        "lost": text,
-        "first": text.replace("HG-0815", "FIRST-1"),
-        "cut": text,
+        "same": text, "new": text.replace("hold 120", "hold 60").replace(last + "\n", ""),
+        "other": text.replace("HG-0815", "OTHER-1"), "wrong": text.replace("hold 120", "hold 700"), "lost": text,
+        "first": text.replace("HG-0815", "FIRST-1"), "cut": text,
     }
     for name, params in texts.items():
         (place / name / "params").write_text(params)

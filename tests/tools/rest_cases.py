@@ -132,6 +132,7 @@ def goes_on(run):
 
 # What is done to the run of TWO that broke off behind its first hiring, the words, the status, and a piece of the reason.
 REFUSED = [
+
     ("another drive", lambda run: run.put("a drive", ROAMED), {}, 1, "no beginning of the drive leaves what the store has"),
     ("an empty drive", lambda run: run.put("a drive", ""), {}, 1, "no beginning of the drive leaves what the store has"),
     ("a bad line", lambda run: run.put("a drive", TWO + "X\n"), {}, 1, "ends with status 3 BAD DRIVE 18"),

@@ -33,11 +33,8 @@ MEANING = {
 MOST_CUTS = {"MonthDay": "63", "Minute": "63", "Distance": "15", "Time": "15"}
 # The faults that a line without a form may bring, by the word with which it begins.
 BROUGHT_BY = {
-    "step": ["NoStep", "StepZero"],
-    "positions": ["UnknownNumber"],
-    "zones": ["UnknownNumber"],
-    "rate": ["NoDefaultRate"],
-    "initial": ["NoDefaultInitial"],
+    "step": ["NoStep", "StepZero"], "positions": ["UnknownNumber"], "zones": ["UnknownNumber"],
+    "rate": ["NoDefaultRate"], "initial": ["NoDefaultInitial"],
 }
 
 

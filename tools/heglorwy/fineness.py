@@ -44,11 +44,8 @@ def fineness_of(number, line, constant):
     rate = line.parts
     per_pulse, per_tick = weights_of(rate, constant)
     return Fineness(
-        number,
-        line.number,
-        3600 * rate["c"] * rate["b"] // (rate["a"] * rate["e"]) if per_pulse else None,
-        Fraction(per_tick, per_pulse) if per_pulse else None,
-        percent_of(per_pulse, per_tick),
+        number, line.number, 3600 * rate["c"] * rate["b"] // (rate["a"] * rate["e"]) if per_pulse else None,
+        Fraction(per_tick, per_pulse) if per_pulse else None, percent_of(per_pulse, per_tick),
     )
 
 

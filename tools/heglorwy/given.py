@@ -57,10 +57,7 @@ def minute(text):
 
 def add_constant(parser):
     parser.add_argument(
-        "--constant",
-        type=ranged(500, 200_000),
-        default=10_000,
-        metavar="K",
+        "--constant", type=ranged(500, 200_000), default=10_000, metavar="K",
         help="the constant, in pulses a kilometre (10000)",
     )
 
@@ -68,10 +65,7 @@ def add_constant(parser):
 def add_params(parser, with_constant=True):
     """A meter's parameters, and a constant in the place of theirs."""
     parser.add_argument(
-        "--params",
-        default=TOP / "examples/taxi.params",
-        type=pathlib.Path,
-        metavar="PARAMS",
+        "--params", default=TOP / "examples/taxi.params", type=pathlib.Path, metavar="PARAMS",
         help="the secured parameters, as `taxi sealed` prints them (examples/taxi.params)",
     )
     if with_constant:

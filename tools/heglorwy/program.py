@@ -37,13 +37,8 @@ def command_of(program):
 def called(program, folder, *words):
     """What a program of bin/ prints to words in a folder, and its status. Nobody would see its warnings."""
     done = subprocess.run(
-        [command_of(program), *words],
-        cwd=folder,
-        env={**os.environ, "TAXI_QUIET": "1"},
-        stdin=subprocess.DEVNULL,
-        stdout=subprocess.PIPE,
-        stderr=subprocess.DEVNULL,
-        check=False,
+        [command_of(program), *words], cwd=folder, env={**os.environ, "TAXI_QUIET": "1"}, stdin=subprocess.DEVNULL,
+        stdout=subprocess.PIPE, stderr=subprocess.DEVNULL, check=False,
     )
     if done.returncode == 125:
         raise not_built(program)
@@ -80,13 +75,8 @@ def make_ready(tool, programs):
     empty folder, where it finds nothing to do and says so alone."""
     for program, command in programs:
         with Scratch(program) as empty, subprocess.Popen(
-            [TOP / "bin" / program, command],
-            cwd=empty.folder.name,
-            stdin=subprocess.DEVNULL,
-            stdout=subprocess.DEVNULL,
-            stderr=subprocess.PIPE,
-            text=True,
-            errors="replace",
+            [TOP / "bin" / program, command], cwd=empty.folder.name, stdin=subprocess.DEVNULL,
+            stdout=subprocess.DEVNULL, stderr=subprocess.PIPE, text=True, errors="replace",
         ) as started:
             own, of_status = f"{program}: ", f"{program}: status "
             said = (line for line in started.stderr if line.startswith(own) and not line.startswith(of_status))

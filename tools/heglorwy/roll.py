@@ -19,6 +19,7 @@ MONEY = NUMBER + r"(?:\.[0-9]{1,3})?"
 DAY = r"[0-9]{4}-[0-9]{2}-[0-9]{2}"
 STAMP = DAY + r" [0-9]{2}:[0-9]{2}:[0-9]{2}"
 LINES = re.compile("".join([
+
     rf"RECEIPT (?P<receipt>{NUMBER})\n", r"KIND (?P<kind>CLOSED|ABORTED|EXPIRED)\n", r"TAXI (?P<taxi>[A-Z0-9-]{1,16})\n",
     rf"CONSTANT (?P<constant>{NUMBER})\n", rf"SECURED (?P<secured>{DAY})\n", r"TARIFF (?P<tariff>[0-9a-f]{64})\n",
     rf"START (?P<start>{STAMP})\n", rf"FINISH (?P<finish>{STAMP})\n", rf"POSITION (?P<position>{NUMBER})\n",

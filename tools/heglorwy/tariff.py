@@ -104,13 +104,9 @@ class Reader:
 
 
 ATOMS = {
-    "position": lambda line: ("position", line.number()),
-    "zone": lambda line: ("zone", line.number()),
-    "time": lambda line: line.range_of("minute", line.minute),
-    "date": lambda line: line.range_of("date", line.date),
-    "day": Reader.days,
-    "holiday": lambda line: ("holiday",),
-    "after": Reader.after,
+    "position": lambda line: ("position", line.number()), "zone": lambda line: ("zone", line.number()),
+    "time": lambda line: line.range_of("minute", line.minute), "date": lambda line: line.range_of("date", line.date),
+    "day": Reader.days, "holiday": lambda line: ("holiday",), "after": Reader.after,
 }
 
 

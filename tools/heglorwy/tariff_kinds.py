@@ -50,10 +50,7 @@ def amount_alone(line):
 
 
 KINDS = {
-    "step": Kind(step, ("amount",)),
-    "positions": Kind(counted),
-    "zones": Kind(counted),
-    "holiday": Kind(holiday),
+    "step": Kind(step, ("amount",)), "positions": Kind(counted), "zones": Kind(counted), "holiday": Kind(holiday),
     "supplement": Kind(supplement, ("amount",)),
     "initial": Kind(initial, ("amount", "covers"), row=("INITIAL", "amount", "covers")),
     "rate": Kind(rate, ("a", "c"), measures=("b", "e")),

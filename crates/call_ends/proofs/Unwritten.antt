@@ -5,7 +5,7 @@ use Rattle.outside.specs.Disk.{MayLeave, SameBut}
 use Rattle.outside.specs.Runs.{KeepsStore, MayHold}
 use Rattle.outside.proofs.Laws.{leaves_then, leaves_wider}
 use Rattle.slot_store.specs.Syncs.{ReadsOnly}
-use Rattle.call_ends.specs.Unwritten.{WritesNothing}
+use Rattle.call_ends.specs.Unwritten.{LeavesUnwritten}
 
 -- the same bytes are the same but anywhere
 same_but : (places : ℕ → Type 0) (old new : List ℕ) → new ≡ old → SameBut places old new
@@ -41,7 +41,7 @@ module _ {D L : Type 0} {N : ℕ} (B : Ghosts D N L) where
   }
 
   -- a scan writes nothing
-  pub bytes-read : (old new : D) → ReadsOnly B old new → WritesNothing B old new
+  pub bytes-read : (old new : D) → ReadsOnly B old new → LeavesUnwritten B old new
   bytes-read old new reads = record {
     image = reads.image;
     flight = reads.flight;
@@ -52,7 +52,7 @@ module _ {D L : Type 0} {N : ℕ} (B : Ghosts D N L) where
   }
 
   -- what keeps the store writes nothing
-  pub bytes-kept : (old new : D) → KeepsStore B old new → WritesNothing B old new
+  pub bytes-kept : (old new : D) → KeepsStore B old new → LeavesUnwritten B old new
   bytes-kept old new kept = record {
     image = same_but (B.in_flight old) (B.image old) (B.image new) kept.same;
     flight = kept.flight;
@@ -61,7 +61,7 @@ module _ {D L : Type 0} {N : ℕ} (B : Ghosts D N L) where
   }
 
   -- one after the other
-  pub bytes-then : (old mid new : D) → WritesNothing B old mid → WritesNothing B mid new → WritesNothing B old new
+  pub bytes-then : (old mid new : D) → LeavesUnwritten B old mid → LeavesUnwritten B mid new → LeavesUnwritten B old new
   bytes-then old mid new first next = record {
     image = but_then (B.in_flight old) (B.in_flight mid) (B.image old) (B.image mid)
         (B.image new) first.flight first.image next.image;

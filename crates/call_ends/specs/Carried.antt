@@ -9,7 +9,7 @@ use Rattle.call_ends.specs.Call.{LeavesUnread, StopsReading}
 use Rattle.call_ends.specs.Course.{Command, IsReadOnlyCommand}
 use Rattle.call_ends.specs.Ending.{EndsOnDevices, LeavesImageSettled}
 use Rattle.call_ends.specs.LastLine.{status_of}
-use Rattle.call_ends.specs.Unwritten.{WritesNothing}
+use Rattle.call_ends.specs.Unwritten.{LeavesUnwritten}
 use Rattle.call_ends.specs.declared.ending.Ended.{Ended}
 use Rattle.call_ends.specs.declared.ending.Ended.TheVariants.{BoardFault, ReadFault}
 
@@ -29,7 +29,7 @@ module _ {E D L : Type 0} {N : ℕ} (F : FileGhosts E) (B : Ghosts D N L) where
     pub count : ended ≢ BoardFault → B.faults new ≡ B.faults old
     pub counts : ended ≢ ReadFault → ended ≢ BoardFault → (word : ℕ) → F.faults files' word ≡ F.faults files word
     pub kept : ¬ c.opens → KeepsStore B old new
-    pub unwritten : ¬ c.writes (status_of ended) → WritesNothing B old new
+    pub unwritten : ¬ c.writes (status_of ended) → LeavesUnwritten B old new
     pub same : ¬ c.writes (status_of ended) → ended ≢ BoardFault → B.image new ≡ B.image old
     pub fails : (status : ℕ) → c.writes status → c.writes 8
     pub at_rest : c.told F.tells B.tells_image → B.tells_image → c.opens → ended ≢ BoardFault → IsAtRest B new

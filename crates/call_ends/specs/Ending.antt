@@ -8,7 +8,7 @@ use Rattle.outside.specs.declared.files.Files.{Ghosts as FileGhosts}
 use Rattle.call_ends.specs.Call.{MayTake}
 use Rattle.call_ends.specs.Course.{Command, Course, status_in, shown_in, line_in, call_text}
 use Rattle.call_ends.specs.LastLine.{status_of, line_of}
-use Rattle.call_ends.specs.Unwritten.{WritesNothing, LeavesImage}
+use Rattle.call_ends.specs.Unwritten.{LeavesUnwritten, LeavesImage}
 use Rattle.call_ends.specs.declared.ending.Ended.{Ended}
 use Rattle.call_ends.specs.declared.ending.Ended.TheVariants.{BadTariff, ReadFault, BoardFault, NoMemory}
 use Rattle.tariff_check.specs.declared.fault.CheckFault.{CheckFault}
@@ -85,7 +85,7 @@ module _ {D L : Type 0} {N : ℕ} (B : Ghosts D N L) where
   -- a command keeps the store where nothing was written, unless the board failed no byte has changed, and, where the
   -- image is told, the command has only looked at the store
   pub record LeavesStoreUnwritten (old new : D) (ended : Ended) : Type 0 where
-    pub bytes : WritesNothing B old new
+    pub bytes : LeavesUnwritten B old new
     pub same : ended ≢ BoardFault → B.image new ≡ B.image old
     pub looks : B.tells_image → LeavesImageSettled old new ended
 

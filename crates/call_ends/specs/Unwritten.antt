@@ -9,7 +9,7 @@ module _ {D L : Type 0} {N : ℕ} (B : Ghosts D N L) where
   -- nothing was written where bytes may have changed only where some were in flight, nothing more is in flight, and a
   -- cut at a moment since any earlier one might have left what it might have left before, or an image that it might
   -- have left at the old board
-  pub record WritesNothing (old new : D) : Type 0 where
+  pub record LeavesUnwritten (old new : D) : Type 0 where
     pub image : SameBut (B.in_flight old) (B.image old) (B.image new)
     pub flight : (place : ℕ) → B.in_flight new place → B.in_flight old place
     pub later : B.moment old ≤ B.moment new
@@ -23,5 +23,5 @@ module _ {D L : Type 0} {N : ℕ} (B : Ghosts D N L) where
 
   -- a call writes nothing where nothing was written, and unless it ended with 8 no byte has changed
   pub record WritesNothing (old new : D) (ended : ℕ) : Type 0 where
-    pub bytes : WritesNothing old new
+    pub bytes : LeavesUnwritten old new
     pub same : ended ≢ 8 → B.image new ≡ B.image old

@@ -35,7 +35,7 @@ use Rattle.drive_commands.specs.Run.{IsOfTotals, IsRun, IsCutOfStart, IsCutOfRun
 use Rattle.drive_commands.specs.Run.{bytes_in, deeds_in, run_answer, run_command, setting_in, shown_in_run, start_at}
 use Rattle.drive_commands.specs.Run.{start_of, tables_in}
 use Rattle.drive_commands.specs.RunSteps.{RunReachesLine}
-use Rattle.call_ends.specs.Unwritten.{WritesNothing}
+use Rattle.call_ends.specs.Unwritten.{LeavesUnwritten}
 use Rattle.drive_commands.proofs.Faring.{end_of-status, left-whole, one_of}
 use Rattle.call_ends.proofs.Laws.{board_or_not}
 use Rattle.drive_commands.proofs.RunCuts.{cut_begins, last_cut, longer_cut}
@@ -313,7 +313,7 @@ module _ {E D L : Type 0} {N : ℕ} (F : FileGhosts E) (B : Ghosts D N L) (files
   pub run-finished : (call : IsCall F B run_command files files' old new status) → call.course ≡ h.comes.course
       → IsEnd B.tells_text (Rose (B.faults mid) (B.faults new)) (status_of end) (line_of end) status (B.printed mid)
       (B.printed new)
-      → (WritesNothing B old mid → WritesNothing B old new) → IsRun F B files files' old new status
+      → (LeavesUnwritten B old mid → LeavesUnwritten B old new) → IsRun F B files files' old new status
   run-finished call course ends bytes =
       let leaves : LeavesFromSync B (status ≡ 8) old new (IsCutOfCourse F B files old call.course) =
       from_sync_as B Kind (IsCutOfCourse F B files old call.course) (status ≡ 8) (status ≡ 8) old new (λ f. f)

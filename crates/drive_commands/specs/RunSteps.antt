@@ -15,7 +15,7 @@ use Rattle.store_commands.specs.Opening.{IsSealedIn, opening_of}
 use Rattle.drive_commands.specs.Run.{IsCutOfCourse, Stands, Start, bytes_in, run_command, sealed_tariff, start_at}
 use Rattle.drive_commands.specs.Run.{start_of, tables_in}
 use Rattle.call_ends.specs.Tariffs.{tariff_in}
-use Rattle.call_ends.specs.Unwritten.{WritesNothing}
+use Rattle.call_ends.specs.Unwritten.{LeavesUnwritten}
 use Rattle.call_ends.specs.declared.ending.Ended.{Ended}
 use Rattle.call_ends.specs.declared.ending.Ended.TheVariants.{BadTariff, BoardFault, NoMemory, ReadFault, WrongTariff}
 
@@ -78,5 +78,5 @@ module _ {E D L : Type 0} {N : ℕ} (F : FileGhosts E) (B : Ghosts D N L) where
         → (B.tells_text → Begins (B.printed new) left_text (line_of ended))
         → IsCutOfCourse F B files old comes.course left_image left_text
     pub settled : ended ≢ BoardFault → IsAtRest B new
-    pub unwritten : (why : Ended) → start_at F B files old ≡ Err why → WritesNothing B old new
+    pub unwritten : (why : Ended) → start_at F B files old ≡ Err why → LeavesUnwritten B old new
     pub same : (why : Ended) → start_at F B files old ≡ Err why → ended ≢ BoardFault → B.image new ≡ B.image old

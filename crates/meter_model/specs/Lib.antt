@@ -3,7 +3,9 @@ pub mod Closing
 pub mod Display
 pub mod Interval
 pub mod KeptTrip
+pub mod KeyTable
 pub mod Keys
+pub mod LastShown
 pub mod Meter
 pub mod Run
 pub mod Setting

@@ -9,10 +9,10 @@ use Rattle.receipt_text.specs.Texts.{display_text}
 use Rattle.receipt_text.proofs.Laws.{displays_differ_by_their_fields}
 use Rattle.meter_model.specs.Display.{display_of, same_display, shown}
 use Rattle.meter_model.specs.KeptTrip.{IsTripKept}
-use Rattle.meter_states.specs.LastShown.{IsOfMeter}
+use Rattle.meter_model.specs.LastShown.{IsOfMeter}
 use Rattle.meter_model.specs.Meter.{Meter}
 use Rattle.meter_model.specs.Setting.{Setting}
-use Rattle.meter_states.proofs.Laws as laws
+use Rattle.meter_model.proofs.Laws as laws
 
 -- a display with these fields
 abbrev made : (decimals : ℕ) → Operating → (position zone fare supplements : ℕ) → Display

@@ -6,12 +6,12 @@ ghost use Rattle.receipt_text.specs.Shows.{HasFields};
 ghost use Rattle.receipt_text.specs.Texts.{display_text};
 ghost use Rattle.meter_model.specs.Display.{display_of, shown};
 ghost use Rattle.meter_model.specs.KeptTrip.{IsTripKept};
-ghost use Rattle.meter_states.specs.LastShown.{IsOfMeter};
+ghost use Rattle.meter_model.specs.LastShown.{IsOfMeter};
 ghost use Rattle.meter_model.specs.Meter.{Meter};
 ghost use Rattle.meter_model.specs.Setting.{Setting};
 
 /// A law: a meter that keeps its trip as the store does shows nothing exactly where its display has the text of the one
-/// that it showed last, which is one of its own (`the_last_display_is_one_of_the_meter` of `meter_states`). It compares
+/// that it showed last, which is one of its own (`the_last_display_is_one_of_the_meter` of `meter_model`). It compares
 /// fields, and two of its displays have one text exactly where they have equal fields: what no text shows, the fare and
 /// the supplements for hire, is 0 there.
 pub fn displays_are_shown_where_their_texts_differ()

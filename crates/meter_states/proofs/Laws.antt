@@ -1,13 +1,10 @@
 -- The laws of the public empty functions.
-use Rattle.std.proofs.Common.{◌≡◌, ◌↔◌, true, List, [], ◌++◌, length, None, Some}
+use Rattle.std.proofs.Common.{◌≡◌, List, ◌++◌, length, None}
 use Rattle.tariff_compile.specs.Tables.{TableParts}
 use Rattle.taxi_units.specs.declared.event.Event.{Event}
-use Rattle.taxi_units.specs.declared.event.Operating.TheVariants.{ForHire}
-use Rattle.taxi_units.specs.declared.receipt.Display.{Display}
 use Rattle.totals_record.specs.States.{after_all}
 use Rattle.totals_record.specs.declared.durable_state.Durable.{Durable}
 use Rattle.totals_record.specs.declared.trip.Trip.{Trip}
-use Rattle.meter_model.specs.Display.{display_of, same_display, shown}
 use Rattle.meter_states.specs.Fits.{Fits}
 use Rattle.meter_model.specs.KeptTrip.{FitsSetting, IsTripKept}
 use Rattle.meter_model.specs.Meter.{Meter}
@@ -16,22 +13,10 @@ use Rattle.meter_model.specs.Run.{actions_of, run, run_both, whole_run}
 use Rattle.meter_model.specs.Setting.{Setting}
 use Rattle.meter_states.specs.Setting.{IsTariffOf}
 use Rattle.meter_model.specs.Step.{step}
-use Rattle.meter_states.proofs.Displays.{hire-shows, same-equal, shows-none}
 use Rattle.meter_states.proofs.HeldFits.{fits-setting}
 use Rattle.meter_model.proofs.Laws.{kept-run, run-append}
 use Rattle.meter_states.proofs.Stages.{commits-step, commits-whole}
 pub use Rattle.meter_model.proofs.Laws.{the_store_keeps_the_trip-begins, the_store_keeps_the_trip-step}
-
-pub displays_are_compared_by_their_fields-same : (a b : Display) → (same_display a b ≡ true) ↔ (a ≡ b)
-displays_are_compared_by_their_fields-same = same-equal
-
-pub displays_are_compared_by_their_fields-shows : (s : Setting) (m : Meter)
-    → ((shown s m).acts ≡ []) ↔ (m.shown ≡ Some (display_of s m))
-displays_are_compared_by_their_fields-shows s m = shows-none m.shown (display_of s m)
-
-pub displays_are_compared_by_their_fields-hire : (s : Setting) (m : Meter) → IsTripKept s m → m.operating ≡ ForHire
-    → ((display_of s m).fare ≡ 0) × ((display_of s m).supplements ≡ 0)
-displays_are_compared_by_their_fields-hire = hire-shows
 
 pub receipts_follow_their_entries-run : (s : Setting) (durable : Durable) (events : List Event)
     → ArePaired durable.number None (actions_of s durable events)

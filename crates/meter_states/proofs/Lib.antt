@@ -6,18 +6,14 @@ mod Amounts
 mod Charges
 -- how often each number stands in a list
 mod Counts
--- when two displays are the same, when a core shows one, and what a display for hire has
+-- when a core shows a display
 mod Displays
 -- equal intervals in each operating position
 mod EqualIntervals
 -- a trip that fits the tables fits their setting
 mod HeldFits
--- what accepted keys do, key by key
-mod KeyActs
 -- what a key does, as a stage of an event
 mod KeyStages
--- what was shown last is the display of a state that keeps its trip
-mod LastDisplays
 -- the laws that the crates above may cite
 pub mod Laws
 -- a charge more

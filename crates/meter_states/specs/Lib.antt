@@ -4,8 +4,6 @@ pub mod Core
 pub mod EqualStages
 pub mod Equals
 pub mod Fits
-pub mod KeyTable
-pub mod LastShown
 pub mod Lawful
 pub mod Pairs
 pub mod Refusals

@@ -17,9 +17,9 @@ use Rattle.meter_states.specs.Setting.{IsSettingOf}
 use Rattle.meter_model.specs.Step.{step}
 use Rattle.meter_model.specs.declared.act.Act.{Act}
 
--- a core may take an event under tables and a seal if it is lawful, the tables were compiled with the seal's constant,
--- the event is timely, and it isn't an `Up` while the core is off, which is for `Core::resume`
-pub record MayTake (tables : TableParts) (seal : Seal) (core : CachedCore) (event : Event) : Type 0 where
+-- a core may step under tables and a seal if it is lawful, the tables were compiled with the seal's constant, the event
+-- is timely, and it isn't an `Up` while the core is off, which is for `Core::resume`
+pub record MayStep (tables : TableParts) (seal : Seal) (core : CachedCore) (event : Event) : Type 0 where
   pub lawful : IsLawful tables seal core
   pub constant : tables.constant ≡ seal.params.constant
   pub timely : IsTimely event

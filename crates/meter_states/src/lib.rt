@@ -16,7 +16,6 @@ mod held;
 mod interval;
 mod keeping;
 mod key_acts;
-mod key_table;
 mod keys;
 mod lookups;
 mod meter_state;
@@ -36,10 +35,8 @@ pub use act_ranges::lawful_acts_keep_the_ranges;
 pub use core_state::Core;
 pub use fitting::fits;
 pub use keeping::the_store_keeps_the_trip;
-pub use key_table::accepted_keys_act;
 pub use pairs::{receipts_follow_their_entries, runs_add_up, the_store_has_what_the_acts_commit};
 pub use refusals::{
     keys_act_after_their_interval, keys_are_refused_at_an_expiry,
     pulses_too_fast_fill_the_interval, refused_events_change_nothing,
 };
-pub use shown::{displays_are_compared_by_their_fields, the_last_display_is_one_of_the_meter};

@@ -11,7 +11,7 @@ ghost use Rattle.meter_model.specs.Meter.{Meter};
 ghost use Rattle.meter_model.specs.Setting.{Setting};
 ghost use Rattle.meter_states.specs.Setting.{IsSettingOf};
 ghost use Rattle.meter_model.specs.Step.{clock_read, powered_step};
-ghost use Rattle.meter_states.specs.Stepping.{MayTake, Takes};
+ghost use Rattle.meter_states.specs.Stepping.{MayStep, Takes};
 
 use crate::cache::Cache;
 use crate::core_state::Core;
@@ -39,7 +39,7 @@ impl Core {
         event: Event,
         steps: &mut Steps<L>,
     ) -> Acts
-        requires ready { MayTake tables.now seal.now self.old event }
+        requires ready { MayStep tables.now seal.now self.old event }
         ensures takes { Takes tables.now seal.now event self.old result.items self.new }
         ensures steps { steps.new ≤ steps.old + 48 }
     {
@@ -59,7 +59,7 @@ impl Core {
         acts: &mut Acts,
         steps: &mut Steps<L>,
     )
-        requires ready { MayTake tables.now seal.now self.old event }
+        requires ready { MayStep tables.now seal.now self.old event }
         requires empty { acts.old.items ≡ [] }
         ensures takes { Takes tables.now seal.now event self.old acts.new.items self.new }
         ensures steps { steps.new ≤ steps.old + 48 }

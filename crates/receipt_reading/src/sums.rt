@@ -9,6 +9,7 @@ ghost use Rattle.receipt_text.specs.Lines as spec;
 use crate::amounts::{amount_behind, amount_below};
 use crate::figures::READ_BELOW;
 use receipt_text::{OptionalAmounts, Sums};
+use taxi_units::{LARGEST_AMOUNT, LARGEST_DISPLAY_STEP, LARGEST_SUPPLEMENTS, Receipt, word};
 
 /// Whether the amounts are in their ranges, and the fare is the one that they give.
 pub fn has_amounts(receipt: &Receipt) -> bool

@@ -17,8 +17,7 @@ FASTEST, LONGEST = 100, 120  # km/h, minutes
 MISSED, SAME, UNSOUND = "MISSED", "same", "unsound"
 # Right meters that are a little beside, as changes of the lines of a drive.
 BESIDE = {
-    "clock 1 s fast": lambda text: clocks(text, 1),
-    "clock 1 s slow": lambda text: clocks(text, -1),
+    "clock 1 s fast": lambda text: clocks(text, 1), "clock 1 s slow": lambda text: clocks(text, -1),
     "a pulse more": lambda text: text.replace("K H\nI 0 1\n", "K H\nI 0 1\nP 1\n"),
     "stopped 0.1 s later": lambda text: text.replace("K S\n", "I 0 1\nK S\n"),
 }

@@ -12,9 +12,7 @@ DAYS = ["mon", "tue", "wed", "thu", "fri", "sat", "sun"]
 ALWAYS, NEVER = "(position 1 or not position 1)", "(position 1 and not position 1)"
 # Of each kind of atom: what a border looks like in it, and by how much it is moved.
 BORDERS = {
-    "time": (r"\d\d:\d\d", (-1, 1, -25, 25)),
-    "date": (r"\d\d-\d\d", (-1, 1, 4)),
-    "day": (r"[a-z]{3}", (-1, 1)),
+    "time": (r"\d\d:\d\d", (-1, 1, -25, 25)), "date": (r"\d\d-\d\d", (-1, 1, 4)), "day": (r"[a-z]{3}", (-1, 1)),
     "after": (r"\d+\.\d", (-1, 1, -2500, 2500)),
 }
 SMALL, LARGE = "a unit or a step", "more"

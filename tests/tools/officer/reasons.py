@@ -110,9 +110,7 @@ def reason_of(taxi, right, wrong, driver):
     if differs(both, driver, Limits()):
         return None
     for limits, reason in (
-        (Limits(hidden=False), HIDDEN),
-        (Limits(past=False), PAST),
-        (Limits(far=False), FAR),
+        (Limits(hidden=False), HIDDEN), (Limits(past=False), PAST), (Limits(far=False), FAR),
         (Limits(fast=False), FAST),
     ):
         if differs(both, driver, limits):

@@ -80,18 +80,14 @@ class Told:
 def head_of(told, meter, asked, number, receipt):
     way, _, time, _ = told.one("DISTANCE")
     return [
-        ("Taxi", meter.taxi),
-        ("Constant", f"{meter.constant} pulses a kilometre"),
-        ("Mode", MODES[meter.mode]),
-        ("Secured", meter.secured),
-        ("Tariff", asked.tariff.name),
+        ("Taxi", meter.taxi), ("Constant", f"{meter.constant} pulses a kilometre"), ("Mode", MODES[meter.mode]),
+        ("Secured", meter.secured), ("Tariff", asked.tariff.name),
         ("Its SHA-256", hashlib.sha256(meter.tariff).hexdigest()),
         *([("Receipt", f"{receipt['receipt']} of {receipt['roll'].name}")] if receipt else []),
         ("Drive", f"{asked.drive.name}, hiring {number} of those that it closes"),
         ("Start", " ".join(told.one("START"))),
         ("Finish", f"{' '.join(told.one('FINISH'))}: {ENDS[told.one('HIRING')[1]]}"),
-        ("Distance", f"{metres(way)} ({way} m)"),
-        ("Time counted", f"{seconds(time)} ({time} s)"),
+        ("Distance", f"{metres(way)} ({way} m)"), ("Time counted", f"{seconds(time)} ({time} s)"),
     ]
 
 

@@ -13,16 +13,8 @@ from heglorwy.roll_order import disorder_in
 LASTS = 400  # days: `bin/taxi` warns of offsets of which the last begins sooner
 GROWING = ["hirings", "fare", "supplements"]
 CHECKED = [
-    "hirings",
-    "receipts",
-    "fare",
-    "receipts_fare",
-    "supplements",
-    "receipts_supplements",
-    "secured",
-    "last_offset",
-    "begun",
-    "held",
+    "hirings", "receipts", "fare", "receipts_fare", "supplements", "receipts_supplements", "secured", "last_offset",
+    "begun", "held",
 ]
 AT_WORK = {"status": 11, "why": "a run is at work", "begun": "yes"}
 

@@ -10,22 +10,8 @@ import pathlib
 import subprocess
 
 from heglorwy.fleet.marks import (
-    BEGUN,
-    DONE,
-    OPENING_STORE,
-    OPENING_TOTALS,
-    ROLL,
-    STORE,
-    AtWork,
-    Begun,
-    Done,
-    alone_in,
-    ended_before,
-    replace_synced,
-    sha256_of,
-    take_away,
-    write_begun,
-    write_done,
+    BEGUN, DONE, OPENING_STORE, OPENING_TOTALS, ROLL, STORE, AtWork, Begun, Done, alone_in, ended_before,
+    replace_synced, sha256_of, take_away, write_begun, write_done,
 )
 from heglorwy.fleet.stores import Unread, asked_of, image_of, totals_in, totals_of_image
 from heglorwy.rest.left_drive import number_for
@@ -92,13 +78,8 @@ def carry_out(folder, begun, lock):
     """Runs the program, which prints behind the folder's roll and holds its lock; its status and its last line."""
     with open(folder / ROLL, "ab") as roll:
         status = subprocess.run(
-            [TOP / "bin/taxi", "run", begun.tariff, begun.drive],
-            cwd=folder,
-            stdin=subprocess.DEVNULL,
-            stdout=roll,
-            stderr=subprocess.DEVNULL,
-            check=False,
-            pass_fds=[lock],
+            [TOP / "bin/taxi", "run", begun.tariff, begun.drive], cwd=folder, stdin=subprocess.DEVNULL, stdout=roll,
+            stderr=subprocess.DEVNULL, check=False, pass_fds=[lock],
         ).returncode
         os.fsync(roll.fileno())
     with open(folder / ROLL, "rb") as roll:

@@ -10,22 +10,8 @@ import subprocess
 import tempfile
 
 from heglorwy.fleet.marks import (
-    BEGUN,
-    LEFT,
-    OPENING_STORE,
-    ROLL,
-    AtWork,
-    Done,
-    Unknown,
-    alone_in,
-    append_synced,
-    begun_in,
-    ended_before,
-    replace_synced,
-    sha256_of,
-    take_away,
-    write_begun,
-    write_done,
+    BEGUN, LEFT, OPENING_STORE, ROLL, AtWork, Done, Unknown, alone_in, append_synced, begun_in, ended_before,
+    replace_synced, sha256_of, take_away, write_begun, write_done,
 )
 from heglorwy.fleet.stores import Unread, asked_of, totals_in
 from heglorwy.program import TOP, Refused, read
@@ -64,10 +50,8 @@ def asked_rest(folder, begun, printed, tariff):
         roll.flush()
         words = ["--tariff", folder / tariff, "--opening", folder / OPENING_STORE]
         done = subprocess.run(
-            [TOP / "tools/rest", *words, "--", folder, folder / begun.drive, roll.name],
-            stdin=subprocess.DEVNULL,
-            capture_output=True,
-            check=False,
+            [TOP / "tools/rest", *words, "--", folder, folder / begun.drive, roll.name], stdin=subprocess.DEVNULL,
+            capture_output=True, check=False,
         )
     said = done.stderr.decode("utf-8", "replace")
     if done.returncode:

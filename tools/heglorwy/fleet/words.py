@@ -8,8 +8,7 @@ from heglorwy.program import TOP
 STATUSES = """Statuses: 0; 1 where a row has a status other than 0, or a roll is out of order; 2 for wrong words; 7 for
 a file that can't be read; 125 where the program was not built."""
 WHAT = {
-    "totals": "what `taxi totals` prints",
-    "sealed": "what `taxi sealed` prints",
+    "totals": "what `taxi totals` prints", "sealed": "what `taxi sealed` prints",
     "check": "receipts beside totals, the seal's tariff and date, how long its offsets last, and runs that broke off",
     "receipts": "the receipts of all rolls, a row each",
     "run": "carries out one drive a folder, on all processors, and none twice",
@@ -40,9 +39,7 @@ def add_options_of_run(command):
     )
     command.add_argument("--ssh", metavar="FILE", help="ssh's settings for these machines, in place of your own")
     command.add_argument(
-        "--there",
-        default=str(TOP / "tools/fleet"),
-        metavar="PATH",
+        "--there", default=str(TOP / "tools/fleet"), metavar="PATH",
         help="where this tool lies on those machines (the same place as here)",
     )
 
@@ -50,8 +47,7 @@ def add_options_of_run(command):
 def add_options_of_settle(command):
     command.add_argument("--tariff", metavar="FILE", help="the tariff of the run, where it has gone from its place")
     command.add_argument(
-        "--without-rest",
-        action="store_true",
+        "--without-rest", action="store_true",
         help="settles also where it can't be told what is left of the drive; the drive is refused from then on",
     )
 
@@ -65,9 +61,7 @@ def add_options_of_seal(command):
 
 
 OPTIONS = {
-    "check": add_options_of_check,
-    "run": add_options_of_run,
-    "settle": add_options_of_settle,
+    "check": add_options_of_check, "run": add_options_of_run, "settle": add_options_of_settle,
     "seal": add_options_of_seal,
 }
 

@@ -36,12 +36,8 @@ def told_of(lines):
     words = [line.split(" ") for line in lines]
     said = {line[0]: line for line in words}
     return Told(
-        kind=said["HIRING"][2],
-        fare=units(said["FARE"][1]),
-        distance=units(said["DISTANCE"][1]),
-        time=tenths(said["DISTANCE"][3]),
-        charged=int(said["CHARGED"][2]),
-        unit=int(said["CHARGED"][4]),
+        kind=said["HIRING"][2], fare=units(said["FARE"][1]), distance=units(said["DISTANCE"][1]),
+        time=tenths(said["DISTANCE"][3]), charged=int(said["CHARGED"][2]), unit=int(said["CHARGED"][4]),
         cover=units(said["FEE"][3]),
         groups=tuple((int(line[1]), line[2], units(line[3]), tenths(line[5])) for line in words if line[0] == "RATE"),
     )

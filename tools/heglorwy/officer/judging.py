@@ -124,10 +124,8 @@ class Bench:
             raise Differs(f"{drive.name}: run prints {of_run}, where bench and explain have {of_others}")
         return [
             {
-                "fare": units(row["fare"], self.decimals),
-                "distance": units(row["distance"], 3),
-                "time": units(row["time"], 1),
-                "receipt": row["kind"],
+                "fare": units(row["fare"], self.decimals), "distance": units(row["distance"], 3),
+                "time": units(row["time"], 1), "receipt": row["kind"],
                 **{name: getattr(one, name) for name in ("supplements", "position", "zone", "refused")},
             }
             for row, one in zip(rows, shown)
@@ -233,10 +231,7 @@ def hirings_of(bench, drive, expected, readings, before):
     """The hirings of a drive, numbered behind those of the drives before it."""
     return [
         Hiring(
-            before + at,
-            drive.name,
-            wanted["receipt"],
-            list(values_of(wanted, reading, bench.step)),
+            before + at, drive.name, wanted["receipt"], list(values_of(wanted, reading, bench.step)),
             reading.remark if isinstance(reading, Reading) else "",
         )
         for at, (wanted, reading) in enumerate(zip(expected, readings), 1)
@@ -247,14 +242,6 @@ def judged_of(bench, hirings, drives, crossovers, readings):
     sealed = bench.well("sealed")
     lines = [line.removeprefix("# ").split(" ", 1) for line in sealed.splitlines()]
     return Judged(
-        hirings,
-        drives,
-        dict(lines),
-        [line[1] for line in lines if line[0] == "offset"],
-        crossovers,
-        bench.rates,
-        bench.decimals,
-        bench.well("form", "tariff"),
-        readings,
-        version_of(bench.taxi.folder.name),
+        hirings, drives, dict(lines), [line[1] for line in lines if line[0] == "offset"], crossovers, bench.rates,
+        bench.decimals, bench.well("form", "tariff"), readings, version_of(bench.taxi.folder.name),
     )

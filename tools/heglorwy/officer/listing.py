@@ -14,15 +14,9 @@ from heglorwy.tariff_parts import atoms_in, of_kind
 OF_TIME = {"minute", "day", "date", "holiday"}
 MOST_MOMENTS = 120  # at which a hiring is tried, to see whether the clock has to be set for it
 SLUGS = [
-    (r"lines? (\d+)", r"line\1"),
-    (r"supplement (\d+)", r"supplement\1"),
-    (r"numbers of supplements", "supplements"),
-    (r"position (\d+)", r"position\1"),
-    (r"zone (\d+)", r"zone\1"),
-    (r"\d+ s without supply", "supply"),
-    (r"the other mode", "mode"),
-    (r"the first sealed offset", "offset"),
-    (r"the longest", "expiry"),
+    (r"lines? (\d+)", r"line\1"), (r"supplement (\d+)", r"supplement\1"), (r"numbers of supplements", "supplements"),
+    (r"position (\d+)", r"position\1"), (r"zone (\d+)", r"zone\1"), (r"\d+ s without supply", "supply"),
+    (r"the other mode", "mode"), (r"the first sealed offset", "offset"), (r"the longest", "expiry"),
 ]
 
 

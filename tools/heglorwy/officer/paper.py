@@ -11,14 +11,8 @@ from heglorwy.officer.readings import EXACT, QUANTITIES
 UNITS = {"distance": " m", "time": " s"}
 SAYS = {EQUAL: "equal", WITHIN: "permitted", OFF: "NOT PERMITTED", NOT_READ: "NOT READ", TOO_MANY: "ONE TOO MANY"}
 TO_FILL_IN = [
-    "Date of the verification",
-    "Office",
-    "Officer",
-    "Place",
-    "Vehicle",
-    "Instruments",
-    "Software identification that the meter shows",
-    "Seals put on",
+    "Date of the verification", "Office", "Officer", "Place", "Vehicle", "Instruments",
+    "Software identification that the meter shows", "Seals put on",
 ]
 DIGITS = 8  # of a digest, between blanks
 
@@ -92,12 +86,9 @@ class Writer:
         permitted = "exact" if value.permitted is None else self.units(value.name, value.permitted)
         bad = value.state not in (EQUAL, WITHIN)
         return [
-            Cell(value.name),
-            Cell(self.units(value.name, value.shown), bad),
-            Cell(self.units(value.name, value.expected)),
-            Cell(self.off(value), bad),
-            Cell(permitted if value.expected is not None else ""),
-            Cell(SAYS[value.state], bad),
+            Cell(value.name), Cell(self.units(value.name, value.shown), bad),
+            Cell(self.units(value.name, value.expected)), Cell(self.off(value), bad),
+            Cell(permitted if value.expected is not None else ""), Cell(SAYS[value.state], bad),
         ]
 
     def failure(self, hiring, value):
@@ -152,8 +143,7 @@ def form_table(judged, is_expected):
         return table._replace(rows=[[*row[:3], Cell(""), row[4], Cell(""), row[6], Cell("")] for row in table.rows])
     columns = ["no.", "drive", *QUANTITIES[:1], "distance m", "time s", *EXACT, "remark"]
     return Table(
-        "Readings",
-        columns,
+        "Readings", columns,
         [[Cell(str(hiring.number)), Cell(hiring.drive)] + [Cell("")] * (len(columns) - 2) for hiring in judged.hirings],
     )
 
@@ -235,12 +225,8 @@ def filled_in(asked):
 
 def form_of(judged, asked):
     parts = [
-        filled_in(asked),
-        verified(judged),
-        by_what(judged, False),
-        form_table(judged, asked.expected),
-        crossovers(judged, asked.percent),
-        *at_the_end(judged),
+        filled_in(asked), verified(judged), by_what(judged, False), form_table(judged, asked.expected),
+        crossovers(judged, asked.percent), *at_the_end(judged),
     ]
     return Paper("Verification form", None, "", [], parts)
 
@@ -248,12 +234,8 @@ def form_of(judged, asked):
 def report_of(judged, asked):
     failures = list(failures_of(judged))
     parts = [
-        verified(judged),
-        by_what(judged, True),
-        filled_in(asked),
-        report_table(judged),
-        crossovers(judged, asked.percent),
-        *at_the_end(judged),
+        verified(judged), by_what(judged, True), filled_in(asked), report_table(judged),
+        crossovers(judged, asked.percent), *at_the_end(judged),
     ]
     return Paper("Verification report", not failures, result_of(judged), failures, parts)
 

@@ -75,8 +75,7 @@ class Search:
         """The text in which all contexts but those of a mask are the same."""
         new, seen = [], set()
         neutral = {
-            "rate": of_kind(self.lines, "rate")[-1].parts,
-            "initial": {"amount": 0, "covers": 0},
+            "rate": of_kind(self.lines, "rate")[-1].parts, "initial": {"amount": 0, "covers": 0},
             "minimum": {"amount": 0},
         }
         for line in lines:

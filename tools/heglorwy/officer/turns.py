@@ -14,10 +14,7 @@ NEVER = ("and", ("position", 1), ("not", ("position", 1)))
 MOST_PLACES = 16  # pairs of a position and a zone that are tried; where there are more, each alone
 # By how many units the border of an atom is moved: by more where by fewer the difference would be permitted.
 FURTHER = {
-    "minute": (1, 16, 256),
-    "date": (1, 16),
-    "day": (1,),
-    "distance": (1, 16, 256, 4096, 65536),
+    "minute": (1, 16, 256), "date": (1, 16), "day": (1,), "distance": (1, 16, 256, 4096, 65536),
     "time of trip": (1, 16, 256, 4096, 65536),
 }
 WITHIN = 256  # units by which a border of distance or duration is moved, over which a short hiring leads
@@ -71,8 +68,7 @@ def date_at(place):
 
 
 MOVES = {
-    "minute": lambda minute, by: (minute + by) % 1440,
-    "date": lambda date, by: date_at(place_of(*date) + by),
+    "minute": lambda minute, by: (minute + by) % 1440, "date": lambda date, by: date_at(place_of(*date) + by),
     "day": lambda day, by: (day - 1 + by) % 7 + 1,
 }
 
@@ -135,9 +131,7 @@ def a_border_turn(tariff, at, path, atom, border, ways):
     title = f"line {line.number}: `{wording.condition(atom)}` {name} {by_how_much(atom[0], ways[0])}"
     lines = replaced(tariff.lines, at, line._replace(when=put(line.when, path, new)))
     yield Turn(
-        title,
-        lines,
-        further=lambda: next(a_border_turn(tariff, at, path, atom, border, ways[1:]), None),
+        title, lines, further=lambda: next(a_border_turn(tariff, at, path, atom, border, ways[1:]), None),
         is_within=atom[0] in ("distance", "time of trip") and abs(ways[0]) <= WITHIN,
     )
 
@@ -197,9 +191,7 @@ def rate_turns(tariff):
                 continue
             longer, shorter = max(value + 1, -(-value * 102 // 100)), min(value - 1, value * 100 // 102)
             for new, what, large in (
-                (longer, "2 % too cheap", True),
-                (shorter, "2 % too dear", True),
-                (value + 1, "a unit longer", False),
+                (longer, "2 % too cheap", True), (shorter, "2 % too dear", True), (value + 1, "a unit longer", False),
                 (value - 1, "a unit shorter", False),
             ):
                 if new > 0:
@@ -236,9 +228,7 @@ def supplement_turns(tariff):
             continue
         yield Turn(f"line {line.number}: no such supplement", replaced(tariff.lines, at))
         for part, by, name in (
-            ("amount", 1, "a unit dearer"),
-            ("amount", -1, "a unit cheaper"),
-            ("most", 1, "once more than max"),
+            ("amount", 1, "a unit dearer"), ("amount", -1, "a unit cheaper"), ("most", 1, "once more than max"),
             ("most", -1, "once less than max"),
         ):
             new = line.parts[part] + by
@@ -297,10 +287,7 @@ def place_turns(tariff, with_days):
                     turned = [dearer(line, tariff)._replace(when=place), line]
                     yield Turn(f"line {line.number}: dearer {where}", replaced(tariff.lines, at, *turned))
                     continue
-                for title, when in (
-                    ("not", ("and", line.when, ("not", place))),
-                    ("also", ("or", line.when, place)),
-                ):
+                for title, when in (("not", ("and", line.when, ("not", place))), ("also", ("or", line.when, place))):
                     lines = replaced(tariff.lines, at, line._replace(when=when))
                     yield Turn(f"line {line.number}: {title} {where}", lines)
 

@@ -22,12 +22,10 @@ def days(first, last):
 
 
 ATOMS = {
-    "position": lambda number: f"position {number}",
-    "zone": lambda number: f"zone {number}",
+    "position": lambda number: f"position {number}", "zone": lambda number: f"zone {number}",
     "minute": lambda first, last: f"time {minute(first)}..{minute(last)}",
     "day": lambda first, last: f"day {days(first, last)}",
-    "date": lambda first, last: f"date {month_date(first)}..{month_date(last)}",
-    "holiday": lambda: "holiday",
+    "date": lambda first, last: f"date {month_date(first)}..{month_date(last)}", "holiday": lambda: "holiday",
     "distance": lambda measure: f"after {tenths(measure)} m",
     "time of trip": lambda measure: f"after {tenths(measure)} s",
 }

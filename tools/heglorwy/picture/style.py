@@ -21,14 +21,8 @@ FONTS = {"DejaVu Sans": "Verdana, sans-serif", "DejaVu Sans Mono": "monospace"}
 
 matplotlib.rcParams.update(
     {
-        "svg.fonttype": "none",
-        "svg.hashsalt": "taxi",
-        "font.family": "DejaVu Sans",
-        "font.size": 9,
-        "hatch.linewidth": 0.5,
-        "axes.titlesize": 9,
-        "axes.titlelocation": "left",
-        "axes.spines.top": False,
+        "svg.fonttype": "none", "svg.hashsalt": "taxi", "font.family": "DejaVu Sans", "font.size": 9,
+        "hatch.linewidth": 0.5, "axes.titlesize": 9, "axes.titlelocation": "left", "axes.spines.top": False,
         "axes.spines.right": False,
     }
 )
@@ -37,13 +31,8 @@ matplotlib.rcParams.update(
 def patch(place, size, number, **more):
     """A rectangle in the colour and pattern of a number."""
     return Rectangle(
-        place,
-        *size,
-        facecolor=COLOURS[number % len(COLOURS)],
-        edgecolor="#444444",
-        linewidth=0.6,
-        hatch=PATTERNS[(number + number // len(COLOURS)) % len(PATTERNS)],
-        **more,
+        place, *size, facecolor=COLOURS[number % len(COLOURS)], edgecolor="#444444", linewidth=0.6,
+        hatch=PATTERNS[(number + number // len(COLOURS)) % len(PATTERNS)], **more,
     )
 
 

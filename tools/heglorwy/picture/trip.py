@@ -201,12 +201,7 @@ def draw_fares(axes, parted, displays, unit):
         values = [float(shown[1 + at]) if shown and shown[1] else float("nan") for shown in displays]
         if at == 0 or any(value > 0 for value in values):
             axes.step(
-                times,
-                values,
-                where="post",
-                linestyle=dash,
-                color=("#0072b2", "#d55e00")[at],
-                linewidth=1.6,
+                times, values, where="post", linestyle=dash, color=("#0072b2", "#d55e00")[at], linewidth=1.6,
                 label=label,
             )
     stopped = [shown is not None and shown[0] == "STOPPED" for shown in displays]
@@ -214,12 +209,7 @@ def draw_fares(axes, parted, displays, unit):
     for at in range(len(times) - 1):
         if stopped[at]:
             axes.axvspan(
-                times[at],
-                times[at + 1],
-                facecolor="#eeeeee",
-                hatch="////",
-                edgecolor="#bbbbbb",
-                linewidth=0,
+                times[at], times[at + 1], facecolor="#eeeeee", hatch="////", edgecolor="#bbbbbb", linewidth=0,
                 label=labels.pop() if labels else None,
             )
     for loss in parted.losses:
@@ -267,12 +257,7 @@ def draw_strip(axes, pieces, tables, unit, width):
         axes.add_patch(patch((begins / unit, 0.05), ((ends - begins) / unit, 0.9), places[line]))
         if (ends - begins) / unit > 0.03 * width:
             axes.text(
-                (begins + ends) / 2 / unit,
-                0.5,
-                str(line),
-                ha="center",
-                va="center",
-                fontsize=7.5,
+                (begins + ends) / 2 / unit, 0.5, str(line), ha="center", va="center", fontsize=7.5,
                 bbox={"facecolor": "white", "edgecolor": "none", "pad": 1.0},
             )
 

@@ -19,12 +19,7 @@ LEGEND_LETTERS = 118
 def band_at(tables, day, minute, far, asked):
     """The lines that hold at a minute of a day, for a trip that has a distance and a time behind it."""
     context = (
-        asked.position,
-        asked.zone,
-        day.isoweekday(),
-        bool(holidays_in(tables, [day])),
-        (day.month, day.day),
-        minute,
+        asked.position, asked.zone, day.isoweekday(), bool(holidays_in(tables, [day])), (day.month, day.day), minute,
         *far,
     )
     return tables.lines_at(context)
@@ -120,12 +115,7 @@ def draw_panel(axes, panel, week, tables, places):
             label = label_of(tables, line)
             if last - first >= 30 * len(label):
                 axes.text(
-                    (first + last) / 2,
-                    at + 0.52,
-                    label,
-                    ha="center",
-                    va="center",
-                    fontsize=7.5,
+                    (first + last) / 2, at + 0.52, label, ha="center", va="center", fontsize=7.5,
                     bbox={"facecolor": "white", "edgecolor": "none", "pad": 1.0},
                 )
 

@@ -1,6 +1,6 @@
 use Rattle.meter_model.specs.Display.{display_of}
-use Rattle.meter_states.proofs.Displays.{hire-shows, same-equal, shows-none}
-use Rattle.meter_states.proofs.shown.displays_are_compared_by_their_fields.Goals as goal
+use Rattle.meter_model.proofs.ShownDisplays.{hire-shows, same-equal, shows-none}
+use Rattle.meter_model.proofs.displays.displays_are_compared_by_their_fields.Goals as goal
 
 pub returns-clause-same : goal.returns-clause-same
 returns-clause-same c = same-equal

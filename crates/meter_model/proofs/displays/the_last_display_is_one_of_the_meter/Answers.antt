@@ -1,5 +1,5 @@
-use Rattle.meter_states.proofs.LastDisplays.{last-run, last-step}
-use Rattle.meter_states.proofs.shown.the_last_display_is_one_of_the_meter.Goals as goal
+use Rattle.meter_model.proofs.LastDisplays.{last-run, last-step}
+use Rattle.meter_model.proofs.displays.the_last_display_is_one_of_the_meter.Goals as goal
 
 pub returns-clause-opens : goal.returns-clause-opens
 returns-clause-opens c = λ s durable. tt

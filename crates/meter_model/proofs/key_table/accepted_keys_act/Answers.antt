@@ -1,5 +1,5 @@
-use Rattle.meter_states.proofs.KeyActs.{adds, clears, goes_on, hires, refuses, sets_position, sets_zone, stops}
-use Rattle.meter_states.proofs.key_table.accepted_keys_act.Goals as goal
+use Rattle.meter_model.proofs.KeyActs.{adds, clears, goes_on, hires, refuses, sets_position, sets_zone, stops}
+use Rattle.meter_model.proofs.key_table.accepted_keys_act.Goals as goal
 
 pub returns-clause-hire : goal.returns-clause-hire
 returns-clause-hire c = hires

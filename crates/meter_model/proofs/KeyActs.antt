@@ -13,7 +13,7 @@ use Rattle.taxi_units.specs.declared.event.Why.TheVariants.{NotNow}
 use Rattle.taxi_units.specs.declared.receipt.Kind.TheVariants.{Closed}
 use Rattle.meter_model.specs.Closing.{closed}
 use Rattle.meter_model.specs.Interval.{context_now}
-use Rattle.meter_states.specs.KeyTable.{MayAct}
+use Rattle.meter_model.specs.KeyTable.{MayAct}
 use Rattle.meter_model.specs.Keys.{act_of, latch_pressed}
 use Rattle.meter_model.specs.Meter.{Meter, quiet, refused}
 use Rattle.meter_model.specs.Setting.{Setting}

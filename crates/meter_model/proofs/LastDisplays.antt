@@ -8,13 +8,13 @@ use Rattle.taxi_units.specs.declared.event.Operating.TheVariants.{Off, ForHire, 
 use Rattle.taxi_units.specs.declared.receipt.Display.{Display}
 use Rattle.meter_model.specs.Display.{display_of}
 use Rattle.meter_model.specs.KeptTrip.{IsTripKept}
-use Rattle.meter_states.specs.LastShown.{IsOfMeter}
+use Rattle.meter_model.specs.LastShown.{IsOfMeter}
 use Rattle.meter_model.specs.Meter.{Meter}
 use Rattle.meter_model.specs.Run.{run}
 use Rattle.meter_model.specs.Setting.{Setting}
 use Rattle.meter_model.specs.Step.{off_step, powered_step, step, step_in, ticked}
 use Rattle.meter_model.specs.Supply.{supply_came, supply_dropped}
-use Rattle.meter_model.proofs.Laws.{kept-step}
+use Rattle.meter_model.proofs.KeptTrips.{kept-step}
 
 -- a display that the state behind an event shows
 of-next : (s : Setting) (m : Meter) → IsTripKept s m → m.shown ≡ Some (display_of s m) → IsOfMeter s m.shown

@@ -11,7 +11,7 @@ ghost use Rattle.taxi_units.specs.declared.event.Why.TheVariants.{NotNow};
 ghost use Rattle.taxi_units.specs.declared.receipt.Kind.TheVariants.{Closed};
 ghost use Rattle.meter_model.specs.Closing.{closed};
 ghost use Rattle.meter_model.specs.Interval.{context_now};
-ghost use Rattle.meter_states.specs.KeyTable.{MayAct};
+ghost use Rattle.meter_model.specs.KeyTable.{MayAct};
 ghost use Rattle.meter_model.specs.Keys.{latch_pressed};
 ghost use Rattle.meter_model.specs.Meter.{Meter, quiet, refused};
 ghost use Rattle.meter_model.specs.Setting.{Setting};

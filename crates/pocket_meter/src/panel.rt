@@ -1,0 +1,86 @@
+//! The board: a display in memory, and no store.
+ghost use Rattle.std.specs.Prelude.{◌≡◌, [], IsErr};
+ghost use Rattle.outside.specs.Faults.{Rose};
+
+use arrayvec::ArrayVec;
+use outside::{Board, Failed, STORE_SIZE};
+use std::sync::ledger::Ledger;
+use taxi_units::Steps;
+
+/// What the display showed, line by line, and how often a call failed. It has room for 4,096 bytes. It has no store, so
+/// it tells no image of one; the dry meter asks for none.
+#[derive(Drop)]
+pub struct Panel {
+    pub text: ArrayVec<u8, 4096>,
+    pub faults: u64,
+}
+
+impl Panel {
+    /// An empty display.
+    pub fn new() -> Panel
+        ensures { result.text.items ≡ [] }
+    {
+        Panel {
+            text: ArrayVec::new(),
+            faults: 0,
+        }
+    }
+
+    /// A call fails, and is counted.
+    fn fail(&mut self) -> Result<(), Failed>
+        ensures failed { IsErr result }
+        ensures text { self.new.text ≡ self.old.text }
+        ensures counted { Rose self.old.faults self.new.faults }
+    {
+        self.faults = self.faults.saturating_add(1);
+        Err(Failed)
+    }
+}
+
+impl<L: Ledger> Board<STORE_SIZE, L> for Panel {
+    ghost tells_image = { ⊥ };
+
+    ghost tells_text = { Unit {0} };
+
+    ghost image = { λ _. [] };
+
+    ghost in_flight = { λ _ _. ⊥ };
+
+    ghost printed = { λ p. p.text.items };
+
+    ghost moment = { λ _. 0 };
+
+    ghost left_since = { λ _ _ _ _. ⊥ };
+
+    ghost faults = { λ p. p.faults };
+
+    ghost store = { λ _ told. absurd told };
+
+    ghost counts_now = { λ _ _ _ _ told _ _ _. absurd told };
+
+    ghost only_now = { λ _ _ _ left. absurd left };
+
+    fn read(&mut self, _at: u32, _buf: &mut [u8], steps: &mut Steps<L>) -> Result<(), Failed> {
+        steps.spend();
+        self.fail()
+    }
+
+    fn write_at(&mut self, _at: u32, _bytes: &[u8], steps: &mut Steps<L>) -> Result<(), Failed> {
+        steps.spend();
+        self.fail()
+    }
+
+    fn sync(&mut self, steps: &mut Steps<L>) -> Result<(), Failed> {
+        steps.spend();
+        Ok(())
+    }
+
+    #[tactic(auto, using(outside::proofs::Laws::begins_whole, outside::proofs::Laws::begins_not))]
+    fn print(&mut self, bytes: &[u8], steps: &mut Steps<L>) -> Result<(), Failed> {
+        steps.spend();
+        match self.text.try_extend_from_slice(bytes) {
+            Ok(()) => Ok(()),
+            Err(_) => self.fail(),
+        }
+    }
+}
