@@ -28,3 +28,5 @@ mod Running
 mod Starting
 -- a drive that is read whole into memory, part by part
 mod WholeDrives
+-- a run on a new store prints the receipts that are explained
+mod NewStores

@@ -4,6 +4,7 @@ pub mod Explain
 pub mod ExplainedText
 pub mod Fare
 pub mod Generate
+pub mod NewStore
 pub mod Run
 -- For proofs
 pub mod BenchSteps

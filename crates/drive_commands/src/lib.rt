@@ -11,6 +11,9 @@ pub mod fare;
 mod fare_seal;
 pub mod generate;
 mod judgement;
+mod new_store_laws;
 pub mod run;
 mod sealed_tariff;
 mod whole_drive;
+
+pub use new_store_laws::explanations_are_of_the_run;
