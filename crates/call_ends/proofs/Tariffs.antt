@@ -15,7 +15,7 @@ use Rattle.tariff_check.specs.declared.fault.CheckFault.TheVariants as checks
 use Rattle.call_ends.specs.declared.tariff.Refusal.{Refusal}
 use Rattle.call_ends.specs.declared.tariff.Refusal.TheVariants.{Syntax, Unsound}
 use Rattle.call_ends.specs.declared.tariff.TextFault.TheVariants as texts
-use Rattle.call_ends.specs.Tariffs.{sound_in, tariff_in}
+use Rattle.call_ends.specs.Tariffs.{IsOfLines, sound_in, tariff_in}
 use Rattle.call_ends.specs.Ending.{unsound_for}
 
 -- a text that reads as a tariff is answered by the tariff's first fault
@@ -55,3 +55,12 @@ unsound_of text t fault why h found e = by_fault text t fault why h found (refus
 pub unsound-read : (fault : CheckFault) → unsound_for fault ≢ texts.ReadFault
 unsound-read checks.NoMemory = λ e. absurd cc
 unsound-read fault = λ e. absurd cc
+
+-- memory runs out only for a text of tariff lines
+pub lines_of_tariff : (text : List ℕ) (t : Tariff) → IsParsed text (Ok t) → IsOfLines text
+lines_of_tariff text t h =
+    record { few = h.0; tree = tree_of t; reads = (texts_are_parsed_as_they_read-tariff text (tree_of t)).0 h.1 }
+
+pub lines_of_starved : (text : List ℕ) → IsParsed text (Err faults.NoMemory) → IsOfLines text
+lines_of_starved text h =
+    record { few = h.0; tree = h.1.0; reads = (texts_are_parsed_as_they_read-tariff text h.1.0).0 h.1.1 }

@@ -1,5 +1,5 @@
 -- Rules: the tariff of a text, and what is answered where there is none.
-use Rattle.std.specs.Prelude.{◌≡◌, ℕ, List, length, Option, Some, None, Result, Ok, Err, if◌then◌else◌, nat_lt}
+use Rattle.std.specs.Prelude.{◌≡◌, ◌≤◌, ℕ, List, length, Option, Some, None, Result, Ok, Err, if◌then◌else◌, nat_lt}
 use Rattle.tariff_syntax.specs.Parsed.{tree_parsed}
 use Rattle.tariff_syntax.specs.Tree.{Tree}
 use Rattle.tariff_check.specs.Faults.{fault_of}
@@ -29,6 +29,12 @@ tariff_in text = if nat_lt 65536 (length text) then Err TooLong else checked_in 
 pub record HasTariff (text : List ℕ) : Type 0 where
   pub tree : Tree
   pub reads : tariff_in text ≡ Ok tree
+
+-- a text is one of tariff lines if it has at most 65,536 bytes, and reads as a tariff, sound or not
+pub record IsOfLines (text : List ℕ) : Type 0 where
+  pub few : length text ≤ 65536
+  pub tree : Tree
+  pub reads : tree_parsed text ≡ Ok tree
 
 -- the answer to a text that has no sound tariff is a refusal with the status 2
 abbrev pub bad_tariff : Refusal → Answer

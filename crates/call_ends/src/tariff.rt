@@ -4,7 +4,7 @@ ghost use Rattle.outside.specs.Reading.{LeavesOthers};
 ghost use Rattle.outside.specs.Faults.{Rose};
 ghost use Rattle.tariff_syntax.specs.Tree.{tree_of};
 ghost use Rattle.call_ends.specs.Ending.{unsound_for};
-ghost use Rattle.call_ends.specs.Tariffs.{tariff_in};
+ghost use Rattle.call_ends.specs.Tariffs.{IsOfLines, tariff_in};
 
 use outside::{Files, read_text};
 use std::alloc::Global;
@@ -72,11 +72,12 @@ fn unsound(fault: CheckFault) -> TextFault
     }
 }
 
-/// The sound tariff of a text.
+/// The sound tariff of a text. `NoMemory` only of a text whose lines are those of a tariff, sound or not.
 #[tactic(auto, using(crate::proofs::Tariffs::writable_of, crate::proofs::Tariffs::syntax_of))]
 pub fn tariff_of_text(alloc: Global, text: &[u8]) -> Result<Checked, TextFault>
     ensures found { IfOk result (λ c. tariff_in text.now ≡ Ok (tree_of c)) }
     ensures refused { (why : Refusal) → result ≡ Err (TextFault.Refused why) → tariff_in text.now ≡ Err why }
+    ensures memory { result ≡ Err TextFault.NoMemory → IsOfLines text.now }
     ensures read { result ≢ Err TextFault.ReadFault }
 {
     match parse(alloc, text) {

@@ -1,6 +1,6 @@
 -- For proofs: one run of a chain by the values that the code has of it. Link says what such a run is.
-use Rattle.std.specs.Prelude.{◌≡◌, ℕ, List, [], Option}
-use Rattle.outside.specs.MemoryBoard.{new_board}
+use Rattle.std.specs.Prelude.{◌≡◌, ◌⊎◌, ℕ, List, [], Option}
+use Rattle.outside.specs.MemoryBoard.{BoardState, new_board}
 use Rattle.outside.specs.MemoryFiles.{FilesState}
 use Rattle.outside.specs.declared.replay.Fill.{Fill}
 use Rattle.totals_record.specs.declared.durable_state.Durable.{Durable}
@@ -20,3 +20,11 @@ pub record HasLink (ran : Ran) (durable : Durable) (image : List ℕ) (files fil
   pub status_is : link.status ≡ status
   pub image_is : link.image ≡ next
   pub number_is : link.number ≡ number
+
+-- a run of a chain lacks memory if none was there for its board, so that its files are as they were, or if it is a call
+-- of the program on a new board that ended with 8, since that board fails for want of memory alone, or with 12
+abbrev pub LacksMemory : Ran → (image : List ℕ) → (files files_left : FilesState) → Type 0
+LacksMemory ran image files files_left =
+    (files_left ≡ files)
+    ⊎ ((board : BoardState) × (status : ℕ) × ran files (new_board image []) files_left board status
+    × ((status ≡ 8) ⊎ (status ≡ 12)))

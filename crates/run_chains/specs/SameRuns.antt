@@ -5,7 +5,12 @@ use Rattle.tariff_compare.specs.Same.{AreSame}
 use Rattle.same_tariffs.specs.Alike.{AreStoresAlike}
 use Rattle.same_tariffs.specs.Reached.{HoldGoesOn}
 use Rattle.totals_record.specs.States.{entries_of}
-use Rattle.meter_run.specs.Deeds.{after_deeds, changes_of, texts}
+use Rattle.meter_run.specs.Deeds.{Deed, Does, after_deeds, changes_of, deed_text, texts}
+use Rattle.meter_model.specs.declared.act.Act.TheVariants.{Receipt}
+use Rattle.receipt_text.specs.Receipts.{receipt_text}
+use Rattle.receipt_text.specs.SealParts.{part_of}
+use Rattle.receipt_text.specs.TariffLine.{DifferInTariff}
+use Rattle.seal_record.specs.declared.seal.Seal.{Seal}
 use Rattle.drive_commands.specs.Fare.{drive_answer}
 use Rattle.drive_commands.specs.Run.{Start, deeds_in, run_answer, setting_in}
 use Rattle.call_ends.specs.declared.ending.Ended.{Ended}
@@ -28,6 +33,13 @@ pub record AreStartsAlike (a b : Start) : Type 0 where
   pub same : GoBySame a b
   pub durable : AreStoresAlike (setting_in a) (setting_in b) a.durable b.durable
   pub goes_on : HoldGoesOn (setting_in a).tariff a.durable.hold
+
+-- the text of a deed is alike under two seals if it is the same, or that of a receipt, and differs in the line of the
+-- tariff alone, in which each seal's digest stands
+abbrev pub IsTextAlike : (a b : Seal) → Deed → Type 0
+IsTextAlike a b (Does (Receipt receipt)) =
+    DifferInTariff a.digest b.digest (receipt_text receipt (part_of a)) (receipt_text receipt (part_of b))
+IsTextAlike a b deed = deed_text b deed ≡ deed_text a deed
 
 -- two runs over a drive do the same if each answers with the texts of the first one's deeds under its own seal, of
 -- which a receipt shows the digest, and ends as the drive does, and they make the same entries

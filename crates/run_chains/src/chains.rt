@@ -1,5 +1,6 @@
 //! Any chain of runs and cuts of the power, over boards in memory.
-ghost use Rattle.std.specs.Prelude.{◌≡◌, ◌≢◌, ◌⊎◌, ℕ, ◌↔◌, [], length, map, string_bytes, IfOk, IsTrue, None, Some};
+ghost use Rattle.std.specs.Prelude.{◌≡◌, ◌≢◌, ◌⊎◌, ℕ, ◌↔◌, [], length, map, string_bytes, IfOk, IsTrue};
+ghost use Rattle.std.specs.Prelude.{None, OnErr, Some};
 ghost use Rattle.outside.specs.Disk.{SameBut};
 ghost use Rattle.outside.specs.MemoryBoard.{image_of, left_since_of};
 ghost use Rattle.outside.specs.declared.replay.Fill.{Fill};
@@ -8,7 +9,7 @@ ghost use Rattle.seal_record.specs.declared.seal.Seal.{Seal};
 ghost use Rattle.meter_store.specs.Stored.{HasState};
 ghost use Rattle.totals_record.specs.declared.durable_state.Durable.{Durable};
 ghost use Rattle.run_chains.specs.Chain.{HasChain, IsSealedStore};
-ghost use Rattle.run_chains.specs.ChainSteps.{HasLink};
+ghost use Rattle.run_chains.specs.ChainSteps.{HasLink, LacksMemory};
 ghost use Rattle.run_chains.specs.Link.{IsLeftInside, call_of, text_before};
 ghost use Rattle.drive_commands.specs.Run.{IsOfTotals};
 ghost use Rattle.commands.specs.Words.{row_of};
@@ -81,7 +82,7 @@ fn left_by(
 }
 
 /// One run of a chain, over an image. Its board in memory fails nowhere by its list, so it fails only for want
-/// of memory.
+/// of memory. `NoMemory` only where there was none for the board, or the run ended with 8 or 12.
 fn run_over<P: Program<L>, L: Ledger>(
     alloc: Global,
     words: &[String],
@@ -91,8 +92,9 @@ fn run_over<P: Program<L>, L: Ledger>(
     steps: &mut Steps<L>,
 ) -> Result<Left, NoMemory>
     requires { row_of (map string_bytes words.now) ≡ Some Run }
-    ensures { (durable : Durable) → HasState image.now durable → IfOk result (λ left.
+    ensures link { (durable : Durable) → HasState image.now durable → IfOk result (λ left.
         HasLink P.ran durable image.now files.old files.new cut left.status left.image left.number) }
+    ensures memory { OnErr result (LacksMemory P.ran image.now files.old files.new) }
 {
     let mut board = MemoryBoard::new(alloc, image, &[])?;
     let status = P::run(alloc, words, files, &mut board, steps);

@@ -1,9 +1,10 @@
 //! Runs on two stores that differ in the sealed digest alone, each sealed with its tariff, where the tariffs are the
 //! same.
 ghost use Rattle.std.specs.Prelude.{◌≡◌, ℕ, List, Ok};
+ghost use Rattle.meter_run.specs.Deeds.{Deed};
 ghost use Rattle.store_commands.specs.Opening.{opening_of};
 ghost use Rattle.drive_commands.specs.Run.{Start, start_of};
-ghost use Rattle.run_chains.specs.SameRuns.{AreSameStarts, AreStartsAlike, DoTheSame, start_after};
+ghost use Rattle.run_chains.specs.SameRuns.{AreSameStarts, AreStartsAlike, DoTheSame, IsTextAlike, start_after};
 
 /// A law: where two stores are equal but for the sealed digest, hold no trip, and are each sealed with a tariff, and
 /// the two tariffs are the same under the sealed constant, runs over any drive do the same on both: their answers have
@@ -16,6 +17,7 @@ pub fn same_tariffs_print_the_same()
     ensures answers { (image other tariff rewritten drive : List ℕ) (a b : Start)
         → start_of (opening_of image) tariff ≡ Ok a → start_of (opening_of other) rewritten ≡ Ok b → AreStartsAlike a b
         → DoTheSame (start_of (opening_of image) tariff) (start_of (opening_of other) rewritten) a b drive }
+    ensures texts { (a b : Start) (deed : Deed) → AreStartsAlike a b → IsTextAlike a.seal b.seal deed }
     ensures goes_on { (image other tariff rewritten drive : List ℕ) (a b : Start)
         → start_of (opening_of image) tariff ≡ Ok a → start_of (opening_of other) rewritten ≡ Ok b → AreStartsAlike a b
         → AreStartsAlike (start_after a drive) (start_after b drive) }

@@ -4,7 +4,7 @@ use Rattle.tariff_syntax.specs.declared.tariff.Tariff.{Tariff}
 use Rattle.tariff_check.proofs.Laws.{sound_tariffs_have_sound_parts-none}
 use Rattle.call_ends.specs.declared.tariff.TextFault.TheVariants as TextFault
 use Rattle.call_ends.specs.Ending.{unsound_for}
-use Rattle.call_ends.proofs.Tariffs.{sound_of, unsound_of, unsound-read}
+use Rattle.call_ends.proofs.Tariffs.{lines_of_starved, lines_of_tariff, sound_of, unsound_of, unsound-read}
 use Rattle.call_ends.proofs.tariff.tariff_of_text.Goals as goal
 
 pub returns-in-Ok-check-clause-found : goal.returns-in-Ok-check-clause-found
@@ -22,3 +22,10 @@ pub returns-in-Err-clause-read : goal.returns-in-Err-clause-read
 returns-in-Err-clause-read c = λ e.
     let same : unsound_for c.in-Err.fault ≡ TextFault.ReadFault = sym c.unsound.ensures ∙ cc in
     unsound-read c.in-Err.fault same
+
+pub returns-in-Err-clause-memory : goal.returns-in-Err-clause-memory
+returns-in-Err-clause-memory c = λ e. lines_of_tariff c.args.text.now c.in-Ok.tariff c.in-Ok.ensures.answer
+
+pub returns-in-Err-NoMemory-clause-memory : goal.returns-in-Err-NoMemory-clause-memory
+returns-in-Err-NoMemory-clause-memory c = λ e.
+    lines_of_starved c.args.text.now (rw c.in-Err-NoMemory.field-0-is at c.in-Err-NoMemory.ensures.answer)

@@ -17,7 +17,7 @@ loop-i-preserved g c = record {
       next_run d c.args.image.now c.args.files.now c.loop-i.files c.args.cuts.now c.loop-i.last c.loop-i.answers.items
       c.loop-i.i h c.loop-i.invariant.rest
       (omega arith) (omega arith) c.requires.cuts _ _ _ _ _ _ c.push.new.self.items c.in-Ok.ensures.items
-      (c.in_ok-left.ensures (last_state d h.links) h.stands);
+      (c.in_ok-left.ensures.link (last_state d h.links) h.stands);
   rest = rest_more c.loop-i.files c.args.files.now c.loop-i.i c.run_over.new.files c.loop-i.invariant.rest;
 }
 

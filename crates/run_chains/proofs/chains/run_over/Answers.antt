@@ -1,4 +1,4 @@
-use Rattle.std.proofs.Common.{◌∙◌, refl, sym, subst, List, [], ℕ}
+use Rattle.std.proofs.Common.{◌∙◌, refl, sym, subst, inl, inr, ⊎_elim, List, [], ℕ}
 use Rattle.outside.specs.MemoryBoard.{BoardState, image_of, left_since_of, moment_of, new_board}
 use Rattle.meter_store.specs.Stored.{HasState}
 use Rattle.run_chains.specs.ChainSteps.{HasLink}
@@ -6,8 +6,8 @@ use Rattle.run_chains.specs.Link.{text_before}
 use Rattle.run_chains.proofs.ChainLinks.{linked, since_first}
 use Rattle.run_chains.proofs.chains.run_over.Goals as goal
 
-pub returns : goal.returns
-returns g c = λ d has.
+pub returns-clause-link : goal.returns-clause-link
+returns-clause-link g c = λ d has.
     let files = c.args.files.now in
     let files_left = c.run-status.new.files in
     let old = c.in_ok-board.board in
@@ -31,3 +31,13 @@ returns g c = λ d has.
     (text_before c.args.cut new.state) c.args.image.now (image_of old.state) fresh.image_is left.left)
     refl left.whole (λ fill first. left.none fill first ∙ sym fresh.image_is) left.inside c.stored_number-number.result
     c.stored_number-number.ensures)
+
+pub returns-then-status-eq-BOARD_FAULT-clause-memory : goal.returns-then-status-eq-BOARD_FAULT-clause-memory
+returns-then-status-eq-BOARD_FAULT-clause-memory g c =
+    let files_left = c.run-status.new.files in
+    let new = c.run-status.new.board in
+    let status = c.run-status.result in
+    let call : g.P.Program.ran c.args.files.now (new_board c.args.image.now []) files_left new.state status =
+    subst (λ (board : BoardState). g.P.Program.ran c.args.files.now board files_left new.state status)
+    c.in_ok-board.ensures.state c.run-status.ensures.ran in
+    inr (new.state, status, call, ⊎_elim inl (λ failed. inr failed.1) c.then-status-eq-BOARD_FAULT.either)

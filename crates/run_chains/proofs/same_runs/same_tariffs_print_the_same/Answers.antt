@@ -1,4 +1,5 @@
 use Rattle.run_chains.proofs.SameStarts.{alike_begin, same_answers, same_goes_on}
+use Rattle.run_chains.proofs.SameTexts.{alike-deed}
 use Rattle.run_chains.proofs.same_runs.same_tariffs_print_the_same.Goals as goal
 
 pub returns-clause-begins : goal.returns-clause-begins
@@ -9,3 +10,6 @@ returns-clause-answers c = same_answers
 
 pub returns-clause-goes_on : goal.returns-clause-goes_on
 returns-clause-goes_on c = same_goes_on
+
+pub returns-clause-texts : goal.returns-clause-texts
+returns-clause-texts c = λ a b deed alike. alike-deed a.seal b.seal deed alike.same.seal
