@@ -26,7 +26,8 @@ use Rattle.seal_record.specs.Decoding as seals
 use Rattle.seal_record.specs.Limits.{last_seal_number}
 use Rattle.meter_store.specs.Sealing.{FoundSeal, IsAmid, IsSealed, HoldsSealing, StillHas, LeavesSealing, ScannedSeal}
 use Rattle.meter_store.specs.Sealing.{Sealing, ShowsSeal, first_written, found_number, next_number, old_seal}
-use Rattle.meter_store.specs.Sealing.{places_written, seal_found, totals_after, totals_found}
+use Rattle.meter_store.specs.Sealing.{places_written, seal_found, seals_at, totals_after, totals_found}
+use Rattle.slot_store.specs.Sizes.{pair_size}
 use Rattle.meter_store.proofs.Laws.{seal_is_found}
 use Rattle.call_ends.specs.declared.ending.Ended.{Ended}
 use Rattle.call_ends.specs.declared.ending.Ended.TheVariants as ended
@@ -37,7 +38,8 @@ use Rattle.store_commands.specs.declared.seal.Base.{Base}
 use Rattle.call_ends.specs.Call.{IsEnd}
 use Rattle.call_ends.specs.LastLine.{line_of, sealed_line, status_of}
 use Rattle.store_commands.specs.Opening.{opened, opening_of}
-use Rattle.store_commands.specs.Seal.{HasSealed, MayLeaveSealing, Seals, ShowsByteOf, over_seal, over_totals, seal_read}
+use Rattle.store_commands.specs.Seal.{HasSealed, MayLeaveSealing, Seals, ShowsByteOf, TotalsStay, over_seal}
+use Rattle.store_commands.specs.Seal.{over_totals, seal_read}
 use Rattle.store_commands.specs.Seal.{sealing_of, sealing_over, sealing_with}
 use Rattle.store_commands.specs.SealSteps.{IsNoSeal, RestsAmid}
 use Rattle.call_ends.proofs.Laws.{no_fault, board_or_not}
@@ -218,12 +220,12 @@ module _ {D L : Type 0} {N : ℕ} (B : Ghosts D N L) where
   seals-placed : (tariff params : List ℕ) (s : Sealing) (fails : Type 0) (old mid new : D) (status : ℕ)
       → Made old tariff params ≡ Ok s → ¬ fails
       → B.printed mid ≡ B.printed old → LeavesFromSync B fails old mid (IsAsHeld B old) → LeavesSealing B s mid new
-      → (status ≡ 0 → IsSealed s (B.image new))
+      → (status ≡ 0 → IsSealed s (B.image new) × TotalsStay s.totals (B.image old) (B.image new))
       → Seals B (Made old tariff params) old new status
   seals-placed tariff params s fails old mid new status e went text synced placed is =
       let sealing = Made old tariff params in
       record {
-        sealed = λ z. subst (λ (r : Result Sealing Ended). HasSealed r (B.image new)) (sym e) (is z);
+        sealed = λ z. subst (λ (r : Result Sealing Ended). HasSealed r (B.image old) (B.image new)) (sym e) (is z);
         leaves = goes_on B (IsAsHeld B old) (Amid sealing old) fails (status ≡ 8) old mid new went
             (λ i x held. rw (held.image, held.text) (cut_still (B.image old) tariff params (B.printed old))) synced
             (leaves_wider B (LeavesBeside (B.image mid) (B.in_flight mid) (B.printed mid) (first_written s.totals)
@@ -247,7 +249,8 @@ module _ {D L : Type 0} {N : ℕ} (B : Ghosts D N L) where
       → B.printed mid ≡ B.printed old → LeavesFromSync B (r ≡ Err stores.BoardFault) old mid (IsAsHeld B old)
       → ((found : Option Seal) → FoundSeal B mid base.found found
       → LeavesSealing B (record { totals = base.totals; old = found; new = seal }) mid new)
-      → (status ≡ 0 → IsSealed (record { totals = base.totals; old = old_seal opening.seal; new = seal }) (B.image new))
+      → (status ≡ 0 → IsSealed (record { totals = base.totals; old = old_seal opening.seal; new = seal }) (B.image new)
+      × TotalsStay base.totals (B.image old) (B.image new))
       → Seals B (Made old tariff params) old new status
   seals-over tariff params r opening b base number seal old mid new status is exact based answer counted read latest
       scanned text synced placed sealed =
@@ -269,6 +272,17 @@ module _ {D L : Type 0} {N : ℕ} (B : Ghosts D N L) where
 
   pub is_sealed : (s : Sealing) (board : D) → HoldsSealing B s.totals s.new board → IsSealed s (B.image board)
   is_sealed s board h = sealed_left s board h (B.image board) (record { size = refl; rest = λ place none. refl })
+
+  -- what is written over found totals lies within the pair of seals
+  pub stays_beside : (found : Option Durable) (old mid new : D) → B.image mid ≡ B.image old → NothingFlies B mid
+      → WritesIn B (first_written found) (places_written found) mid new → TotalsStay found (B.image old) (B.image new)
+  stays_beside None old mid new same settled writes = tt
+  stays_beside (Some durable) old mid new same settled writes =
+      subst (λ (image : List ℕ). SameBut (IsWithin seals_at pair_size) image (B.image new)) same
+      (record {
+        size = writes.rest.size;
+        rest = λ place apart. writes.rest.rest place (⊎_elim (settled place) apart);
+      })
 
   kept_totals : (found : Option Durable) (image : List ℕ) → states.HasState image (totals_after found)
       → StillHas found image
@@ -329,7 +343,8 @@ module _ {D L : Type 0} {N : ℕ} (B : Ghosts D N L) where
       → (line_of end ≡ [] → new ≡ mid)
       → IsEnd told failed (status_of end) (line_of end) status before now → Seals B sealing old new status
   seals-finished sealing old mid new end status told failed before now h rests kept line silent ends = record {
-    sealed = λ z. subst (λ (image : List ℕ). HasSealed sealing image) (sym kept.same) (h.sealed (zero z ends));
+    sealed = λ z. subst (λ (image : List ℕ). HasSealed sealing (B.image old) image) (sym kept.same)
+        (h.sealed (zero z ends));
     leaves = finished sealing old mid new end status (eight ends) h.leaves rests line silent (board_or_not end);
   }
     where

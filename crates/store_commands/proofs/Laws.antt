@@ -5,4 +5,5 @@ pub use Rattle.store_commands.proofs.Barring.{owed-refused}
 pub use Rattle.store_commands.proofs.Openings.{opens-barred, opens-behind}
 pub use Rattle.store_commands.proofs.ReadFaults.{not_board-params, read_fault-params}
 pub use Rattle.store_commands.proofs.ReadOnlyCalls.{unwritten-finished, unwritten-kept, unwritten-only}
+pub use Rattle.store_commands.proofs.SealsOfTexts.{seal_of_texts}
 pub use Rattle.store_commands.proofs.Turns.{first_alone, first_then}

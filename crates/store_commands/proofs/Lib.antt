@@ -30,3 +30,5 @@ mod Shifting
 mod StoreTexts
 -- the files of two words that are read one behind the other
 mod Turns
+-- the seal of a sealing is of its two texts, and what was sealed is sealed the same again
+mod SealsOfTexts

@@ -4,6 +4,7 @@ pub mod Offsets
 pub mod Opening
 pub mod Port
 pub mod Seal
+pub mod SealOfTexts
 pub mod Sealed
 pub mod SealedText
 pub mod Shifts

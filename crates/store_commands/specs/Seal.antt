@@ -11,8 +11,10 @@ use Rattle.seal_record.specs.declared.params.ParamFault.{ParamFault}
 use Rattle.seal_record.specs.declared.seal.Seal.{Seal}
 use Rattle.seal_record.specs.Limits.{last_seal_number}
 use Rattle.seal_record.specs.Reading.{params_read}
-use Rattle.meter_store.specs.Sealing.{IsAmid, IsSealed, Sealing, found_number, next_number, old_seal}
+use Rattle.meter_store.specs.Sealing.{IsAmid, IsSealed, Sealing, found_number, next_number, old_seal, seals_at}
+use Rattle.outside.specs.Disk.{IsWithin, SameBut}
 use Rattle.outside.specs.declared.board.Board.{Ghosts}
+use Rattle.slot_store.specs.Sizes.{pair_size}
 use Rattle.slot_store.specs.Syncs.{LeavesFromSync}
 use Rattle.call_ends.specs.Answer.{Answer, shows_line}
 use Rattle.call_ends.specs.Course.{Command}
@@ -143,10 +145,16 @@ seal_command = record {
 
 -- ---- the store
 
--- an image has been sealed where it stands for the totals and the new seal of the sealing
-abbrev pub HasSealed : Result Sealing Ended → List ℕ → Type 0
-HasSealed (Err ended) image = ⊥
-HasSealed (Ok sealing) image = IsSealed sealing image
+-- the bytes of totals that were found stay if the image before and the one now differ within the pair of seals alone
+abbrev pub TotalsStay : (found : Option Durable) → (image now : List ℕ) → Type 0
+TotalsStay None image now = Unit {0}
+TotalsStay (Some durable) image now = SameBut (IsWithin seals_at pair_size) image now
+
+-- an image has been sealed if the one now stands for the totals and the new seal of the sealing, and totals that were
+-- found have their bytes
+abbrev pub HasSealed : Result Sealing Ended → (image now : List ℕ) → Type 0
+HasSealed (Err ended) image now = ⊥
+HasSealed (Ok sealing) image now = IsSealed sealing now × TotalsStay sealing.totals image now
 
 -- a text shows a byte of a line if it is what was `printed` before, and behind that one or more of the line's first
 -- bytes
@@ -172,5 +180,5 @@ module _ {D L : Type 0} {N : ℕ} (B : Ghosts D N L) where
   -- leaves what a cut of the sealing may leave, and one before that sync has succeeded what it might have left before
   -- the call
   pub record Seals (sealing : Result Sealing Ended) (old new : D) (ended : ℕ) : Type 0 where
-    pub sealed : ended ≡ 0 → HasSealed sealing (B.image new)
+    pub sealed : ended ≡ 0 → HasSealed sealing (B.image old) (B.image new)
     pub leaves : LeavesFromSync B (ended ≡ 8) old new (MayLeaveSealing sealing (B.image old) (B.printed old))

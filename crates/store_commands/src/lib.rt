@@ -19,6 +19,6 @@ mod years;
 pub use opening::{open_store, sealed_store};
 pub use params::{read_parameters, refused_params};
 pub use sealed::open_sealed;
-pub use sealed_laws::sealed_texts_are_read_back;
+pub use sealed_laws::{sealed_texts_are_read_back, sealed_texts_seal_the_same};
 pub use totals_text::push_summary;
 pub use years::Years;

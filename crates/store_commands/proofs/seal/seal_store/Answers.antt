@@ -15,7 +15,7 @@ use Rattle.store_commands.specs.SealSteps.{IsNoSeal}
 use Rattle.call_ends.proofs.Laws.{ends_apart, not_status, stops_at, as_found, as_refused, no_fault, same_fault}
 use Rattle.call_ends.proofs.Laws.{bytes-read}
 use Rattle.store_commands.proofs.Amid.{found-as, is_sealed, rests-no_seal, rests-placed, rests-refused, seals-over}
-use Rattle.store_commands.proofs.Amid.{seals-read, settled-sealed}
+use Rattle.store_commands.proofs.Amid.{seals-read, settled-sealed, stays_beside}
 use Rattle.store_commands.proofs.Answering.{course-barred as comes-barred_by_store, course-board}
 use Rattle.store_commands.proofs.Barring.{board_fault-store, not_read-store}
 use Rattle.store_commands.proofs.Sealings.{barred-fault, course-barred, course-no_seal, course-sealed, not_0-barred}
@@ -281,7 +281,13 @@ returns-in-Ok-place_seal-clause-comes g c = λ read tells. record {
       (c.in-Ok.ensures.opened tells).seal
       c.open_store.ensures.reads.text (c.open_store.ensures.synced tells)
       (c.place_seal.ensures.any_moment tells)
-      (λ z. is_sealed g.B.Board _ c.place_seal.new.board (c.in-Ok-place_seal.ensures.sealed tells));
+      (λ z. let went : ¬ (c.open_store.result ≡ Err stores.BoardFault) =
+      no_fault c.open_store.result c.in-Ok.opening stores.BoardFault c.in-Ok.is in (
+        is_sealed g.B.Board _ c.place_seal.new.board (c.in-Ok-place_seal.ensures.sealed tells),
+        stays_beside g.B.Board c.in-Ok-base_of.base.totals c.args.board.now c.open_store.new.board
+            c.place_seal.new.board (c.open_store.ensures.same went) (c.open_store.ensures.settled tells went)
+            c.place_seal.ensures.beside,
+      ));
   rests = λ good. let rest = g.F.Files.rest c.args.files.now in
       rests-placed g.B.Board _ _ (g.B.Board.image c.args.board.now) (g.B.Board.printed c.args.board.now)
       (line_of (ended.Sealed c.number_after-number.result)) c.place_seal.new.board
