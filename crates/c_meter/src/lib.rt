@@ -19,8 +19,8 @@ use std::sync::ledger::Blank;
 /// that is off and has entered nothing. This project's own.
 ///
 /// The answer is a status of the program `taxi`: 0; 2 if the tariff is refused, and 9 if the parameters are; 3 if the
-/// drive has a bad line, or 2^40 bytes or more; 8 if `text` has no room for the lines; 12 if memory runs out. At each but
-/// 0 `used` is 0, and `text` may have changed.
+/// drive has a bad line, or 2^40 bytes or more; 8 if `text` has no room for the lines; 12 if memory runs out. At each
+/// but 0 `used` is 0, and `text` may have changed.
 #[unsafe(no_mangle)]
 pub extern "C" fn c_meter_fare(
     alloc: Global,
