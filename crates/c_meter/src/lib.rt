@@ -1,0 +1,49 @@
+//! The meter for C: a static library with one call, which puts what a meter shows of a drive into memory of its caller.
+//! examples/c has its header, and docs/use/EMBEDDING.md says how it is built and linked.
+#![tactic(auto)]
+
+mod making;
+mod showing;
+
+ghost use Rattle.std.specs.Prelude.{◌≡◌, ◌≤◌, IsErr, length, take};
+ghost use Rattle.seal_record.specs.Reading.{params_read};
+ghost use Rattle.c_meter.specs.Shown.{HasNoRoom, HasNoTariff, IsNotWhole, IsStatus, ShowsDrive};
+
+use crate::showing::show_drive;
+use std::alloc::Global;
+use std::marker::Brand;
+use std::sync::ledger::Blank;
+
+/// Carries out a drive under the texts of a tariff and of parameters, without a store, and puts the lines of its
+/// displays and refusals into `text`, and their length into `used`. Each call is a whole drive: it begins with a meter
+/// that is off and has entered nothing. This project's own.
+///
+/// The answer is a status of the program `taxi`: 0; 2 if the tariff is refused, and 9 if the parameters are; 3 if the
+/// drive has a bad line, or 2^40 bytes or more; 8 if `text` has no room for the lines; 12 if memory runs out. At each
+/// but 0 `used` is 0, and `text` may have changed.
+#[unsafe(no_mangle)]
+pub extern "C" fn c_meter_fare(
+    alloc: Global,
+    tariff: &[u8],
+    params: &[u8],
+    drive: &[u8],
+    text: &mut [u8],
+    used: &mut usize,
+) -> u8
+    ensures shown { result ≡ 0 → ShowsDrive tariff.now params.now drive.now (take used.new text.new) }
+    ensures within { used.new ≤ length text.old }
+    ensures no_tariff { result ≡ 2 → HasNoTariff tariff.now }
+    ensures no_params { result ≡ 9 → IsErr (params_read params.now) }
+    ensures no_drive { result ≡ 3 → IsNotWhole drive.now }
+    ensures no_room { result ≡ 8 → HasNoRoom tariff.now params.now drive.now (length text.old) }
+    ensures answers { IsStatus result }
+{
+    *used = 0;
+    match show_drive::<Brand>(alloc, tariff, params, drive, text, Blank::new(1)) {
+        Ok(count) => {
+            *used = count;
+            0
+        }
+        Err(stop) => stop.status(),
+    }
+}

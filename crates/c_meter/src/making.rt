@@ -1,0 +1,89 @@
+//! A meter is made of two texts.
+ghost use Rattle.std.specs.Prelude.{◌≡◌, ◌⊎◌, Err, IfErr, IfOk, IsErr};
+ghost use Rattle.seal_record.specs.Reading.{params_read};
+ghost use Rattle.tariff_check.specs.Faults.{IsSound};
+ghost use Rattle.tariff_syntax.specs.Reads.{Reads};
+ghost use Rattle.tariff_syntax.specs.Tree.{tree_of};
+ghost use Rattle.c_meter.specs.Shown.{AreMadeOf, HasNoTariff, status_of};
+
+use seal_record::{Seal, read_params};
+use std::alloc::Global;
+use tariff_check::{CheckFault, Checked, check};
+use tariff_compile::{Tables, compile};
+use tariff_syntax::{ParseFault, parse};
+
+/// Why a drive isn't shown.
+#[derive(Clone, Copy)]
+pub(crate) enum Stop {
+    /// The tariff is too long, has a bad line or isn't sound.
+    NoTariff,
+    /// The parameters are refused.
+    NoParams,
+    /// The drive has a bad line or is too long.
+    NoDrive,
+    /// The lines don't fit into the caller's memory.
+    NoRoom,
+    /// Memory ran out.
+    NoMemory,
+}
+
+impl Stop {
+    /// The status that says so.
+    pub(crate) fn status(self) -> u8
+        ensures { result ≡ status_of self }
+    {
+        match self {
+            Stop::NoTariff => 2,
+            Stop::NoDrive => 3,
+            Stop::NoRoom => 8,
+            Stop::NoParams => 9,
+            Stop::NoMemory => 12,
+        }
+    }
+}
+
+/// The sound tariff of a text.
+#[tactic(auto, using(crate::proofs::TariffTexts::writable_of))]
+fn sound_tariff(alloc: Global, text: &[u8]) -> Result<Checked, Stop>
+    ensures read { IfOk result (λ c. Reads text.now (tree_of c) × IsSound (tree_of c)) }
+    ensures no_tariff { result ≡ Err Stop.NoTariff → HasNoTariff text.now }
+    ensures why { IfErr result (λ stop. (stop ≡ Stop.NoTariff) ⊎ (stop ≡ Stop.NoMemory)) }
+{
+    match parse(alloc, text) {
+        Ok(tariff) => match check(alloc, tariff) {
+            Ok(checked) => Ok(checked),
+            Err(CheckFault::NoMemory) => Err(Stop::NoMemory),
+            Err(_) => Err(Stop::NoTariff),
+        },
+        Err(ParseFault::NoMemory) => Err(Stop::NoMemory),
+        Err(_) => Err(Stop::NoTariff),
+    }
+}
+
+/// The tables of a tariff's text, and a seal with the parameters of the other text. The seal has no digest, which
+/// receipts alone print.
+pub(crate) fn made_of(alloc: Global, tariff: &[u8], params: &[u8]) -> Result<(Tables, Seal), Stop>
+    ensures made { IfOk result (λ made. AreMadeOf tariff.now params.now made.0 made.1) }
+    ensures constant { IfOk result (λ made. made.0.constant ≡ made.1.params.constant) }
+    ensures no_tariff { result ≡ Err Stop.NoTariff → HasNoTariff tariff.now }
+    ensures no_params { result ≡ Err Stop.NoParams → IsErr (params_read params.now) }
+    ensures why { IfErr result (λ stop. (stop ≡ Stop.NoTariff) ⊎ ((stop ≡ Stop.NoParams) ⊎ (stop ≡ Stop.NoMemory))) }
+{
+    let checked = match sound_tariff(alloc, tariff) {
+        Ok(checked) => checked,
+        Err(stop) => return Err(stop),
+    };
+    let Ok(params) = read_params(params) else {
+        return Err(Stop::NoParams);
+    };
+    let Ok(tables) = compile(alloc, &checked, params.constant) else {
+        return Err(Stop::NoMemory);
+    };
+    let seal = Seal {
+        seal_number: 1,
+        params,
+        digest: [0; 32],
+        decimals: tables.decimals(),
+    };
+    Ok((tables, seal))
+}

@@ -1,0 +1,98 @@
+//! What a meter shows of a drive.
+ghost use Rattle.std.specs.Prelude.{◌≡◌, ◌⊎◌, ◌<◌, ◌≤◌, Err, IfErr, IfOk, IsErr, OnOk, length, take};
+ghost use Rattle.outside.specs.MemoryBoard.{text_of};
+ghost use Rattle.drive_text.specs.Ending.{Whole, drive_end};
+ghost use Rattle.meter_run.specs.Texts.{drive_shown};
+ghost use Rattle.meter_model.specs.Setting.{Setting};
+ghost use Rattle.meter_states.specs.Setting.{IsSettingOf};
+ghost use Rattle.seal_record.specs.Reading.{params_read};
+ghost use Rattle.c_meter.specs.Shown.{HasNoRoom, HasNoTariff, IsNotWhole, ShowsDrive};
+
+use crate::making::{Stop, made_of};
+use meter_run::{RunFault, dry_run};
+use outside::{MemoryBoard, MemoryFiles, STORE_SIZE};
+use seal_record::Seal;
+use std::alloc::Global;
+use std::sync::ledger::{Blank, Ledger};
+use tariff_compile::Tables;
+use taxi_units::Steps;
+
+/// Puts lines into the caller's memory, and answers their length.
+fn put_lines(lines: &[u8], text: &mut [u8]) -> Result<usize, Stop>
+    ensures put { IfOk result (λ used. (used ≡ length lines.now) × (take used text.new ≡ lines.now)) }
+    ensures within { IfOk result (λ used. used ≤ length text.old) }
+    ensures no_room { IsErr result → length text.old < length lines.now }
+    ensures why { IfErr result (λ stop. stop ≡ Stop.NoRoom) }
+{
+    let used = lines.len();
+    if used > text.len() {
+        return Err(Stop::NoRoom);
+    }
+    text[..used].copy_from_slice(lines);
+    Ok(used)
+}
+
+/// Carries out a drive on a board in memory, where the lines that are shown are printed.
+fn board_of<L: Ledger>(
+    alloc: Global,
+    tables: &Tables,
+    seal: &Seal,
+    drive: &[u8],
+    steps: &mut Steps<L>,
+) -> Result<MemoryBoard, Stop>
+    requires constant { tables.now.constant ≡ seal.now.params.constant }
+    ensures shown { IfOk result (λ board. (s : Setting) → IsSettingOf s tables.now seal.now
+        → text_of board.state ≡ drive_shown s drive.now) }
+    ensures whole { OnOk result (drive_end drive.now ≡ Whole) }
+    ensures no_drive { result ≡ Err Stop.NoDrive → IsNotWhole drive.now }
+    ensures why { IfErr result (λ stop. (stop ≡ Stop.NoDrive) ⊎ (stop ≡ Stop.NoMemory)) }
+{
+    let Ok(mut files) = MemoryFiles::new(alloc, &[]) else {
+        return Err(Stop::NoMemory);
+    };
+    let Ok(()) = files.add(drive) else {
+        return Err(Stop::NoMemory);
+    };
+    let Ok(mut board) = MemoryBoard::new(alloc, &[0; STORE_SIZE], &[]) else {
+        return Err(Stop::NoMemory);
+    };
+    match dry_run(tables, seal, &mut files, 0, &mut board, steps) {
+        Ok(()) => Ok(board),
+        Err(RunFault::BadDrive(_)) => Err(Stop::NoDrive),
+        Err(RunFault::TooLong) => Err(Stop::NoDrive),
+        // Neither fails by its number, so memory ran out.
+        Err(RunFault::ReadFault) => Err(Stop::NoMemory),
+        Err(RunFault::BoardFault) => Err(Stop::NoMemory),
+    }
+}
+
+/// Puts the lines that a meter shows of a drive into the caller's memory, under its one counter of steps, and answers
+/// their length.
+pub(crate) fn show_drive<L: Ledger>(
+    alloc: Global,
+    tariff: &[u8],
+    params: &[u8],
+    drive: &[u8],
+    text: &mut [u8],
+    blank: Blank,
+) -> Result<usize, Stop>
+    requires name { blank.name ≡ L.name }
+    requires parts { blank.parts ≡ L.parts }
+    requires some { 0 < blank.parts }
+    ensures shown { IfOk result (λ used. ShowsDrive tariff.now params.now drive.now (take used text.new)) }
+    ensures within { IfOk result (λ used. used ≤ length text.old) }
+    ensures no_tariff { result ≡ Err Stop.NoTariff → HasNoTariff tariff.now }
+    ensures no_params { result ≡ Err Stop.NoParams → IsErr (params_read params.now) }
+    ensures no_drive { result ≡ Err Stop.NoDrive → IsNotWhole drive.now }
+    ensures no_room { result ≡ Err Stop.NoRoom → HasNoRoom tariff.now params.now drive.now (length text.old) }
+{
+    let (tables, seal) = match made_of(alloc, tariff, params) {
+        Ok(made) => made,
+        Err(stop) => return Err(stop),
+    };
+    let mut steps: Steps<L> = Steps::open(blank);
+    match board_of(alloc, &tables, &seal, drive, &mut steps) {
+        Ok(board) => put_lines(board.printed(), text),
+        Err(stop) => Err(stop),
+    }
+}
