@@ -24,8 +24,9 @@ pub record IsNewStore (tariff params image : List ℕ) : Type 0 where
   pub none : sealing.totals ≡ None
   pub sealed : IsSealed sealing image
 
--- an explanation of a drive is of its run on an image if both answer with the status 0, the run by the texts of the acts
--- of its events, and the explanation by hirings whose receipts are those that these acts print, each once and in order
+-- an explanation of a drive is of its run on an image if both answer with the status 0, the run by the texts of the
+-- acts of its events, and the explanation by hirings whose receipts are those that these acts print, each once and in
+-- order
 pub record ExplainsRun (tariff params drive image : List ℕ) : Type 0 where
   pub start : Start
   pub setting : Setting
