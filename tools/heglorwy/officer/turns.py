@@ -163,18 +163,18 @@ def among(tariff, first, last, lines):
 
 
 def holiday_turns(tariff):
-    """Each holiday lost, and a day off."""
+    """Each holiday lost, a day off, and a year later, as in a list of another year."""
     known = {line.parts["date"] for line in of_kind(tariff.lines, "holiday")}
     for at, line in enumerate(tariff.lines):
         if line.kind != "holiday":
             continue
         yield Turn(f"line {line.number}: no holiday", replaced(tariff.lines, at))
-        for by, way in ((-1, "earlier"), (1, "later")):
+        for by, way in ((-1, "a day earlier"), (1, "a day later"), (365, "a year later")):
             day = datetime.date(*line.parts["date"]) + datetime.timedelta(days=by)
             date = (day.year, day.month, day.day)
-            if date not in known:
+            if date not in known and 2000 <= day.year <= 2199:
                 new = with_parts(line, date=date)
-                yield Turn(f"line {line.number}: the holiday is a day {way}", replaced(tariff.lines, at, new))
+                yield Turn(f"line {line.number}: the holiday is {way}", replaced(tariff.lines, at, new))
 
 
 def rate_turns(tariff):
