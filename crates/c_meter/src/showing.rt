@@ -1,6 +1,6 @@
 //! What a meter shows of a drive.
 ghost use Rattle.std.specs.Prelude.{◌≡◌, ◌⊎◌, ◌<◌, ◌≤◌, Err, IfErr, IfOk, IsErr, OnOk, length, take};
-ghost use Rattle.outside.specs.MemoryBoard.{text_of};
+ghost use Rattle.memory_devices.specs.MemoryBoard.{text_of};
 ghost use Rattle.drive_text.specs.Ending.{Whole, drive_end};
 ghost use Rattle.meter_run.specs.Texts.{drive_shown};
 ghost use Rattle.meter_model.specs.Setting.{Setting};
@@ -9,8 +9,9 @@ ghost use Rattle.seal_record.specs.Reading.{params_read};
 ghost use Rattle.c_meter.specs.Shown.{HasNoRoom, HasNoTariff, IsNotWhole, ShowsDrive};
 
 use crate::making::{Stop, made_of};
+use memory_devices::{MemoryBoard, MemoryFiles};
 use meter_run::{RunFault, dry_run};
-use outside::{MemoryBoard, MemoryFiles, STORE_SIZE};
+use outside::STORE_SIZE;
 use seal_record::Seal;
 use std::alloc::Global;
 use std::sync::ledger::{Blank, Ledger};

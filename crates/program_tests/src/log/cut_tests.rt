@@ -1,7 +1,7 @@
 //! Cuts of the power inside the calls of a filing, over logs in memory.
 use crate::log::keep_log_tests::{FILE, called, filing, must_at, receipts, shows};
 use crate::log::memory_log::cut_of;
-use outside::{Fill, MemoryLog};
+use memory_devices::{Fill, MemoryLog};
 use std::alloc::Global;
 use std::test::Fail;
 

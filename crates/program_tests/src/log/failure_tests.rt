@@ -4,7 +4,7 @@ use crate::log::keep_log_tests::{
     FILE, SHOW, called, failing, filed, filed_to, filing, image_of, is_end, must, must_at, receipts,
 };
 use crate::log::receipt_tests::put_receipt;
-use outside::MemoryLog;
+use memory_devices::MemoryLog;
 use std::alloc::Global;
 use std::test::Fail;
 

@@ -5,7 +5,7 @@ ghost use Rattle.std.specs.Prelude.{◌≡◌, ◌<◌};
 use crate::log::memory_log::memory_log;
 use crate::log::receipt_tests::put_receipt;
 use log_commands::keep_log;
-use outside::{MemoryFiles, MemoryLog};
+use memory_devices::{MemoryFiles, MemoryLog};
 use std::alloc::Global;
 use std::marker::Brand;
 use std::sync::ledger::{Blank, Ledger};

@@ -1,10 +1,11 @@
 //! The board of the log in memory, from bytes and back to bytes that stand on no stack.
 ghost use Rattle.std.specs.Prelude.{◌≡◌, ◌≤◌, [], length, IfOk};
-ghost use Rattle.outside.specs.Calls.{IsInSome};
+ghost use Rattle.memory_devices.specs.Calls.{IsInSome};
 ghost use Rattle.outside.specs.Disk.{SameBut, log_size};
-ghost use Rattle.outside.specs.MemoryBoard.{IsNew, new_board, contents_inside, left_since_of};
+ghost use Rattle.memory_devices.specs.MemoryBoard.{IsNew, new_board, contents_inside, left_since_of};
 
-use outside::{Fill, LOG_SIZE, MemoryLog};
+use memory_devices::{Fill, MemoryLog};
+use outside::LOG_SIZE;
 use std::alloc::Global;
 use taxi_units::NoMemory;
 

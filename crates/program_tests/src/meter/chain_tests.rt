@@ -5,7 +5,7 @@ use crate::meter::run_tests::{HELD, HIRING, RUN, sealed};
 use crate::meter::store_tests::filled_or;
 use crate::meter::tests::{A, P, files_of, must, must_behind, strings};
 use commands::{Row, row_in};
-use outside::{Fill, MemoryFiles};
+use memory_devices::{Fill, MemoryFiles};
 use run_chains::{Taximeter, chain, may_begin};
 use std::alloc::Global;
 use std::marker::Brand;

@@ -4,7 +4,7 @@ use crate::meter::run_tests::{HELD, HIRING, RUN, has_totals, sealed};
 use crate::meter::tests::{
     A, Ended, FILLS, P, broken_off, called, cut_in, is_made_of, must, must_at, must_behind, whole,
 };
-use outside::{Fill, MemoryBoard};
+use memory_devices::{Fill, MemoryBoard};
 use std::alloc::Global;
 use std::test::Fail;
 

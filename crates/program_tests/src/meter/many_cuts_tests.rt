@@ -3,7 +3,8 @@ ghost use Rattle.std.specs.Prelude.{◌≡◌, ◌<◌};
 
 use crate::meter::run_tests::{CITY, RUN, sealed};
 use crate::meter::tests::{Ended, FILLS, P, called, cut_in, must};
-use outside::{Fill, MemoryBoard, QuietBoard};
+use memory_devices::{Fill, MemoryBoard};
+use outside::QuietBoard;
 use receipt_reading::read_receipt;
 use slot_store::{Found, scan};
 use std::alloc::Global;

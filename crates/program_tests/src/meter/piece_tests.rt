@@ -4,7 +4,7 @@ use crate::meter::store_tests::{
     CONSTANT_AND_HIRINGS, NUMBER, OF_CONSTANT_AND_HIRINGS, OF_NUMBER, SECOND_LAYOUT, image_of,
 };
 use crate::meter::tests::{A, broken_off, must_answer, must_at, must_break_off, repeated, whole};
-use outside::MemoryBoard;
+use memory_devices::MemoryBoard;
 use std::alloc::Global;
 use std::test::Fail;
 

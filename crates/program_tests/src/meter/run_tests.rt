@@ -2,7 +2,7 @@
 use crate::meter::many_cuts_tests::stored;
 use crate::meter::store_tests::{FIRST_LAYOUT, image_of};
 use crate::meter::tests::{A, Ended, P, ZEROS, cut_in, cuts_of, must, must_behind, whole};
-use outside::{Fill, MemoryBoard};
+use memory_devices::{Fill, MemoryBoard};
 use std::alloc::Global;
 use std::test::Fail;
 

@@ -3,7 +3,7 @@ use crate::meter::store_tests::{SECOND_LAYOUT, image_of};
 use crate::meter::tests::{
     A, Ended, P, ZEROS, broken_off, cut_in, cuts_of, must, must_behind, whole,
 };
-use outside::{Fill, MemoryBoard};
+use memory_devices::{Fill, MemoryBoard};
 use std::alloc::Global;
 use std::test::Fail;
 

@@ -2,7 +2,7 @@
 ghost use Rattle.std.specs.Prelude.{◌≡◌, ◌<◌};
 
 use commands::taxi;
-use outside::{Fill, MemoryBoard, MemoryFiles};
+use memory_devices::{Fill, MemoryBoard, MemoryFiles};
 use std::alloc::Global;
 use std::marker::Brand;
 use std::sync::ledger::{Blank, Ledger};

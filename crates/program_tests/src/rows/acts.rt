@@ -4,7 +4,8 @@ use super::packed::Packed;
 use crate::log::keep_log_tests;
 use crate::log::memory_log::memory_log;
 use crate::meter::tests::status_of;
-use outside::{LOG_SIZE, MemoryBoard, STORE_SIZE};
+use memory_devices::MemoryBoard;
+use outside::{LOG_SIZE, STORE_SIZE};
 use std::alloc::Global;
 use std::test::Fail;
 

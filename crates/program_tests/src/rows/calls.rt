@@ -1,6 +1,6 @@
 //! A call of a row: its words with their files, and what it has to print.
 use super::packed::Packed;
-use outside::MemoryFiles;
+use memory_devices::MemoryFiles;
 use std::alloc::Global;
 use std::str;
 use std::test::Fail;
