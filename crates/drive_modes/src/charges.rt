@@ -4,7 +4,7 @@ ghost use Rattle.drive_modes.specs.Charge.{charge_of};
 ghost use Rattle.drive_modes.specs.Speed.{AreWeightsOf, IsBelowCrossOver, Rate};
 
 /// How time and distance share in the fare: the two modes of the measuring instruments directive.
-#[derive(Clone, Copy, PartialEq, Eq)]
+#[derive(Clone, Copy)]
 pub enum Mode {
     /// Mode S: the time tariff applies below the cross-over speed, the distance tariff above it.
     Single,
@@ -14,7 +14,7 @@ pub enum Mode {
 
 /// What a pulse of the distance signal generator costs, and what a measuring interval of 0.1 s costs,
 /// in units of charge: at most 10^28 and 2 * 10^29, this project's own limits.
-#[derive(Clone, Copy, PartialEq, Eq)]
+#[derive(Clone, Copy)]
 pub struct Weights {
     pub per_pulse: u128,
     pub per_tick: u128,

@@ -11,7 +11,7 @@ pub const LEAST_CONSTANT: u32 = 500;
 pub const GREATEST_CONSTANT: u32 = 200_000;
 
 /// A constant of less than 500 or more than 200,000 pulses a kilometre.
-#[derive(Clone, Copy, PartialEq, Eq)]
+#[derive(Clone, Copy)]
 pub struct BadConstant;
 
 /// The constant of the taximeter: how many pulses of the distance signal generator make a kilometre,

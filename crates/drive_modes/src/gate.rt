@@ -10,7 +10,7 @@ const MOST_PULSES: u32 = 2000;
 
 /// The gate that counts the pulses of the measuring interval that runs: at most 2,000, which is this
 /// project's own limit.
-#[derive(Clone, Copy, PartialEq, Eq)]
+#[derive(Clone, Copy)]
 pub struct Gate {
     pulses: u32,
 }

@@ -9,7 +9,7 @@ ghost use Rattle.taxi_units.specs.Money.{largest_amount, largest_display_step};
 use taxi_units::LARGEST_AMOUNT;
 
 /// Whether the fare is shown behind what was driven or ahead of it.
-#[derive(Clone, Copy, PartialEq, Eq)]
+#[derive(Clone, Copy)]
 pub enum Rounding {
     /// A display step is shown once it is used up.
     Behind,
@@ -30,7 +30,7 @@ impl Rounding {
 /// What the charges of a trip have come to, with no list of them: what the initial hire fee still
 /// covers, the full display steps above that, and what has begun the next one. `cover_left` and `rest`
 /// are in units of charge, and `rest` is less than a display step.
-#[derive(Clone, Copy, PartialEq, Eq)]
+#[derive(Clone, Copy)]
 pub struct Meterage {
     pub cover_left: u128,
     pub steps_full: u64,

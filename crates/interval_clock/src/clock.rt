@@ -4,7 +4,7 @@ ghost use Rattle.std.specs.Prelude.{◌≡◌, ℕ, ◌<◌, ◌↔◌, IsTrue, 
 use std::marker::Model;
 
 /// A busy clock was given a second that lies before the last one.
-#[derive(Clone, Copy, PartialEq, Eq)]
+#[derive(Clone, Copy)]
 pub struct ClockBack {
     pub last: u64,
     pub given: u64,
@@ -12,7 +12,7 @@ pub struct ClockBack {
 
 /// A clock that holds the last second that it accepted. It doesn't advance by itself, and how it is
 /// set is this project's own rule.
-#[derive(Clone, Copy, PartialEq, Eq)]
+#[derive(Clone, Copy)]
 pub struct Clock {
     second: u64,
 }

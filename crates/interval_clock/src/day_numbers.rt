@@ -7,7 +7,7 @@ use jiff::ToSpan;
 use jiff::civil::{Date, date};
 
 /// A date of the proleptic Gregorian calendar: a year, the month from 1 and the date of the month from 1.
-#[derive(Clone, Copy, PartialEq, Eq)]
+#[derive(Clone, Copy)]
 pub struct CalendarDate {
     pub year: u16,
     pub month: u8,

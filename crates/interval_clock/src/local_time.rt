@@ -13,7 +13,7 @@ use taxi_units::{Steps, date_place};
 const SECONDS_OF_DAY: u64 = 86_400;
 
 /// A local date and time, in the proleptic Gregorian calendar.
-#[derive(Clone, Copy, PartialEq, Eq)]
+#[derive(Clone, Copy)]
 pub struct LocalTime {
     /// The day number, 0 for 1970-01-01.
     pub day: i32,

@@ -11,7 +11,7 @@ use taxi_units::{Counted, FIRST_SECOND, LAST_SECOND, Steps};
 pub const GREATEST_OFFSET: i32 = 50_400;
 
 /// Why a list of offsets was refused. A place counts from 0.
-#[derive(Clone, Copy, PartialEq, Eq)]
+#[derive(Clone, Copy)]
 pub enum OffsetFault {
     /// It has no pair.
     Empty,

@@ -7,7 +7,7 @@ ghost use Rattle.memory_devices.specs.Replays.{AreLeftOf, call_end};
 use crate::kept_call::{KeptCall, Request};
 
 /// What the bytes in flight are after a cut.
-#[derive(Clone, Copy, Debug, PartialEq, Eq)]
+#[derive(Clone, Copy, Debug)]
 pub enum Fill {
     /// The bytes of the last good sync.
     Old,

@@ -14,7 +14,7 @@ use std::marker::Model;
 use taxi_units::STREAM_LIMIT;
 
 /// Why no more of a drive is read.
-#[derive(Clone, Copy, PartialEq, Eq)]
+#[derive(Clone, Copy)]
 pub enum Stop {
     /// The drive was read to its end.
     Whole,

@@ -1,7 +1,7 @@
 //! What may be wrong with a text of rules.
 
 /// Why a text has no rules.
-#[derive(Clone, Copy, PartialEq, Eq)]
+#[derive(Clone, Copy)]
 pub enum RuleFault {
     /// It has more than 4,096 bytes.
     TooLong,

@@ -14,7 +14,7 @@ use std::marker::Model;
 
 /// A change of the offset, which comes once a year: on a date that is named by its weekday and its month, at
 /// a minute of that day in UTC.
-#[derive(Clone, Copy, PartialEq, Eq)]
+#[derive(Clone, Copy)]
 pub struct Change {
     /// Which date of its weekday in its month: 1 to 4 for the first to the fourth, 5 for the last.
     pub number: u8,

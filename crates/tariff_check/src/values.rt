@@ -12,7 +12,7 @@ pub struct Initial {
 
 /// A supplement, in units of the last decimal, and how often a hiring may have it: at most 1,000,000, and 1 to 99,
 /// in a sound tariff.
-#[derive(Clone, Copy, PartialEq, Eq)]
+#[derive(Clone, Copy)]
 pub struct Supplement {
     pub amount: u64,
     pub max: u8,

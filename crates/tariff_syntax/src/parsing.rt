@@ -20,7 +20,7 @@ use std::alloc::Global;
 use thiserror::Error;
 
 /// Why a text gives no tariff.
-#[derive(Clone, Copy, Debug, PartialEq, Eq, Drop, Error)]
+#[derive(Clone, Copy, Debug, Drop, Error)]
 pub enum ParseFault {
     /// It has more than 65,536 bytes.
     #[error("the tariff is too long")]

@@ -61,7 +61,7 @@ impl Keyed for (u64, i32) {
 }
 
 /// How many elements of a list have keys up to a given one, and the last of them.
-#[derive(Clone, Copy, PartialEq, Eq)]
+#[derive(Clone, Copy)]
 pub struct AtMost<T> {
     pub count: usize,
     pub last: Option<T>,

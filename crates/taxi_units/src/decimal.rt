@@ -6,7 +6,7 @@ ghost use Rattle.taxi_units.specs.NumberStages.{digits_at_front, decimal_read, w
 ghost use Rattle.taxi_units.specs.Reading.{Gives, GivesSame};
 
 /// Why a text is no amount. A place is a byte's, from 0.
-#[derive(Clone, Copy, PartialEq, Eq)]
+#[derive(Clone, Copy)]
 pub enum NumberFault {
     /// The text is empty.
     Empty,

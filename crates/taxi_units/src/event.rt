@@ -1,7 +1,7 @@
 //! What happens to a meter, and what it may answer.
 
 /// A key of the meter, pressed by the driver.
-#[derive(Clone, Copy, PartialEq, Eq)]
+#[derive(Clone, Copy)]
 pub enum Key {
     /// Begins a hiring, or goes on with one that was stopped.
     Hire,
@@ -19,7 +19,7 @@ pub enum Key {
 
 /// An event, which takes the meter from one state to the next. Seconds are counted from
 /// 1970-01-01T00:00Z, and are 946,684,800 to 7,258,118,399.
-#[derive(Clone, Copy, PartialEq, Eq)]
+#[derive(Clone, Copy)]
 pub enum Event {
     /// The supply comes, at a second.
     Up(u64),
@@ -45,7 +45,7 @@ pub enum Operating {
 }
 
 /// Why an event or a key was refused.
-#[derive(Clone, Copy, PartialEq, Eq)]
+#[derive(Clone, Copy)]
 pub enum Why {
     /// It isn't allowed in this operating position.
     NotNow,

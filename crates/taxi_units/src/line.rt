@@ -16,7 +16,7 @@ pub const LINE_SIZE: usize = 512;
 pub type Line = ArrayVec<u8, LINE_SIZE>;
 
 /// The text doesn't fit into what is left of the line.
-#[derive(Clone, Copy, PartialEq, Eq)]
+#[derive(Clone, Copy)]
 pub struct LineFull;
 
 /// A text before it is appended. The longest has 255 bytes.

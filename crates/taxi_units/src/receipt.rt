@@ -17,7 +17,7 @@ pub enum Kind {
 
 /// A local date and time: the year 1999 to 2200, the month 1 to 12, the date 1 to 31, and the second
 /// of the day 0 to 86,399.
-#[derive(Clone, Copy, PartialEq, Eq)]
+#[derive(Clone, Copy)]
 pub struct Stamp {
     pub year: u16,
     pub month: u8,
@@ -39,7 +39,7 @@ pub struct Display {
 /// What a receipt says. `number` is the store's number after the entry, and `hired_mm` the distance of
 /// the trip in millimetres. `steps` display steps of `step` each are added to `initial`, and the fare is
 /// at least `minimum`.
-#[derive(Clone, Copy, PartialEq, Eq)]
+#[derive(Clone, Copy)]
 pub struct Receipt {
     pub number: u64,
     pub kind: Kind,

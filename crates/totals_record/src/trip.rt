@@ -6,7 +6,7 @@ use drive_modes::Meterage;
 /// hiring, the trip's pulses and ticks, the initial hire fee and the minimum fare, what its charges
 /// have come to, how often each of the supplements 1 to 16 was taken, and the sum of their amounts.
 /// Money is in the tariff's smallest units.
-#[derive(Clone, Copy, PartialEq, Eq)]
+#[derive(Clone, Copy)]
 pub struct Trip {
     pub started: u64,
     pub saved: u64,
