@@ -69,11 +69,11 @@ roaming_entry s pulses = record {
 abbrev pub roaming_entered : Setting → Meter → Outcome
 roaming_entered s m = entered (roaming_entry s (sum m.roaming)) (record m { roaming = [] })
 
--- in For Hire the roaming pulses are entered where they are 1,000,000 or more, and in no other operating position
+-- in For Hire the roaming pulses are entered if they are 1,000,000 or more, and in no other operating position
 abbrev pub roaming_checked_in : Setting → Operating → Meter → Outcome
 roaming_checked_in s ForHire m = if nat_le roaming_most (sum m.roaming) then roaming_entered s m else quiet m
 roaming_checked_in s operating m = quiet m
 
--- the roaming pulses of a meter are entered where it is for hire and they are 1,000,000 or more
+-- the roaming pulses of a meter are entered if it is for hire and they are 1,000,000 or more
 abbrev pub roaming_checked : Setting → Meter → Outcome
 roaming_checked s m = roaming_checked_in s m.operating m

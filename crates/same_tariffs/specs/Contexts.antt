@@ -25,7 +25,7 @@ pub record IsSettingInRange (t : Tree) (s : Setting) : Type 0 where
   pub offsets : IsOffsetList s.offsets
 
 -- the context of a meter at a second has its position and its zone, the local day and the minute of the second, the
--- ticks of its trip, and the pulses of its trip, or 2 * 10^13 where they are more
+-- ticks of its trip, and the pulses of its trip, of which it counts at most 2 * 10^13
 abbrev pub meter_context_at : Setting → (second : ℕ) → Meter → MeterContext
 meter_context_at s second m = record {
   position = m.position;
