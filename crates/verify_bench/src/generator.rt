@@ -8,8 +8,8 @@ use crate::remaining::Remaining;
 use outside::{Failed, Files};
 use std::marker::Model;
 
-/// Files of which word 0 is a generated drive, and every other word is empty. They never fail. The drive
-/// is written trip by trip as it is read, and takes no memory.
+/// Files whose word 0 is a generated drive; each other word is empty. They never fail. The drive is written trip by
+/// trip as it is read, and takes no memory.
 ///
 /// The drive begins with the supply coming at 2026-03-01T23:00:00Z, and goes on with its trips: a way of
 /// 100 to 999 intervals for hire, one of two tariff positions and one of two zones, one to five legs of
