@@ -21,8 +21,8 @@ pub record HasLink (ran : Ran) (durable : Durable) (image : List ℕ) (files fil
   pub image_is : link.image ≡ next
   pub number_is : link.number ≡ number
 
--- a run of a chain lacks memory if none was there for its board, so that its files are as they were, or if it is a call
--- of the program on a new board that ended with 8, since that board fails for want of memory alone, or with 12
+-- a run of a chain lacks memory if none was there for its board and its files are as they were, or if it is a call of
+-- the program on a new board that ended with 8, since that board fails only if memory runs out, or with 12
 abbrev pub LacksMemory : Ran → (image : List ℕ) → (files files_left : FilesState) → Type 0
 LacksMemory ran image files files_left =
     (files_left ≡ files)
