@@ -169,10 +169,9 @@ pub fn taxi<F: Files, B: Board<STORE_SIZE, L>, L: Ledger>(
     ensures complete { (called_by words.now).told F.tells B.tells_image
         → ComesToAnswer F.Files B.Board (called_by words.now) files.old files.new board.old board.new result }
 
-    // One step for the last line, one for each row of tables, at most 31 for offsets, 64 for an opening of the store,
-    // 64 for each event of a drive that is run and for the supply drop at its end, one for each 512 bytes that are
-    // printed of a bench, a form, faults, lines or a comparison, one for each reply, and two for each byte of a shift
-    // book.
+    // The steps: one for the last line, one for each row of tables, at most 31 for offsets; 64 for an opening of the
+    // store, and for each event of a drive that is run and the supply drop at its end; one for each 512 bytes that are
+    // printed of a bench, a form, faults, lines or a comparison; one for each reply, two for each byte of a shift book.
     ensures steps { TakesSteps F.Files B.Board (called_by words.now) files.old files.new board.old steps.old steps.new }
 
     // A command that doesn't open the store leaves alone what it holds; no clause says that it doesn't read it. Nothing

@@ -25,7 +25,7 @@ entry_of s kind position t = record {
 }
 
 -- the receipt of a trip that is closed has the store's number after its entry, its kind, its start and its finish in
--- local time, its position, its distance, how its fare is made, its supplements, and the decimals of the tariff
+-- local time, its position, its distance, what makes its fare, its supplements, and the tariff's decimals
 abbrev pub receipt_of : Setting → Kind → (finish position : ℕ) → MeterTrip → (number : ℕ) → Receipt
 receipt_of s kind finish position t number = record {
   number = number;

@@ -78,7 +78,7 @@ act_of (keys.Extra n) Stopped = key_acts.Extra n
 act_of key operating = key_acts.Refuse
 
 -- what a key does is to hire, to take the trip to another operating position, to close the trip, to set the tariff
--- position or the zone, or to add a supplement, and a key that does nothing is refused
+-- position or the zone, or to add a supplement; a key that does nothing is refused
 abbrev pub act_done : Setting → KeyAct → Meter → Outcome
 act_done s key_acts.Hire m = hiring s m
 act_done s (key_acts.Move to) m = quiet (record m { operating = to })

@@ -12,7 +12,7 @@ use Rattle.taxi_units.specs.Time.{first_second}
 use Rattle.taxi_units.specs.declared.receipt.Stamp.{Stamp}
 
 -- a setting has the parts of the tariff, the constant of the taximeter, how time and distance share in the fare, how
--- long a trip may be held without supply and go on then, and the offsets from UTC
+-- long a trip may be held without supply, and the offsets from UTC
 pub record Setting : Type 0 where
   pub tariff : SoundTariff
   pub constant : ℕ

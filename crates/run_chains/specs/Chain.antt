@@ -55,8 +55,8 @@ AreCalls ran image (link ∷ links) =
     ran link.files (new_board image []) link.files_left link.board link.status × AreCalls ran link.image links
 
 -- a call has made a chain of runs of a program if they are calls of the program, have the files `files` before them and
--- `files_left` behind them, the cuts `cuts` and the answers `answers`, and the last image is that of the call and
--- stands for the last state
+-- `files_left` behind them, the cuts `cuts` and the answers `answers`; the last image is that of the call and stands
+-- for the last state
 pub record HasChain (ran : Ran) (durable : Durable) (image : List ℕ) (files files_left : List FilesState)
     (cuts : List (Option (ℕ × Fill))) (last : List ℕ) (answers : List (ℕ × ℕ)) : Type 0 where
   pub links : List Link
@@ -69,8 +69,8 @@ pub record HasChain (ran : Ran) (durable : Durable) (image : List ℕ) (files fi
   pub last_is : last_image image links ≡ last
   pub stands : HasState last (last_state durable links)
 
--- the text that a run over an image left has a byte of a receipt if the receipt is among the deeds of the run, and the
--- texts of the deeds before it are shorter than the text
+-- the text that a run over an image left has a byte of a receipt if the receipt is among the run's deeds, and the texts
+-- of the deeds before it are shorter than the text
 pub record HasByteOf (image : List ℕ) (link : Link) (receipt : receipts.Receipt) : Type 0 where
   pub start : Start
   pub begins : begun_with image link ≡ Ok start

@@ -19,9 +19,8 @@ use Rattle.drive_commands.specs.Run.{IsOfTotals, IsCutOfRun, Start, bytes_in, de
 use Rattle.call_ends.specs.declared.ending.Ended.{Ended}
 
 -- A run of a chain is told by what its files held and what is left of them, its board as the run left it, how the power
--- was cut, how far the run came, its status, and what is left behind it: the next image, the state for which that image
--- stands, the number of that state, and what had been printed. A cut is one inside the board's call with a number, and
--- what it makes of the bytes in flight.
+-- was cut, how far the run came, and its status. What is left behind it is the next image, the state for which that
+-- image stands, the number of that state, and what had been printed. A cut is one inside the board's call with a
 -- number, and what it makes of the bytes in flight.
 pub record Link : Type 0 where
   pub files : FilesState

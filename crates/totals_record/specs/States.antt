@@ -68,8 +68,8 @@ pub record IsLast (changes : List Change) (last : Change) : Type 0 where
   pub split : changes ≡ earlier ++ last ∷ later
   pub roaming : All IsRoaming later
 
--- a trip, or none, is held after a list of commits, before which `opening` was held, as the last commit that isn't of
--- roaming leaves it, or as it was held before if there is no such commit
+-- a trip, or none, is held after a list of commits, before which `opening` was held; the last commit that isn't of
+-- roaming leaves it, or it was held before if there is no such commit
 abbrev pub IsHeldAfter : Option Trip → List Change → Option Trip → Type 0
 -- a trip: it was held last, and no closing entry follows, or it stood first, and there is neither
 IsHeldAfter opening changes (Some trip) =

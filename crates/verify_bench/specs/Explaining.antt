@@ -29,7 +29,7 @@ use Rattle.verify_bench.specs.declared.explained.Taken.{Taken}
 use Rattle.verify_bench.specs.declared.fees.HiringFees.{HiringFees}
 
 -- an explanation of a hiring has its receipt, its fees with their lines, the sums of its whole trip, the groups of its
--- intervals in Hired, the sums of those in Stopped, the pulses of those that were left unfinished, and its supplements
+-- intervals in Hired, the sums of those in Stopped, the pulses of unfinished ones, and its supplements
 pub record Explanation : Type 0 where
   pub receipt : Receipt
   pub fees : HiringFees
