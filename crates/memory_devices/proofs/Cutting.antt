@@ -82,7 +82,7 @@ inside_is held (first ∷ more) zero kept below is = ap (λ (k : CallOutcome). b
 inside_is held (first ∷ more) (suc number) kept below is =
     inside_is (after held first) more number kept (omega (arith, below)) is
 
--- where nothing is in flight, one image alone may be left
+-- if nothing is in flight, one image alone may be left
 pub settled_is : (held : Contents) (i : List ℕ) → held.ranges ≡ [] → SameBut (IsInSome held.ranges) held.image i
     → i ≡ held.image
 settled_is held i none left = ext_get_or 0 i held.image left.size

@@ -6,7 +6,7 @@ use Rattle.outside.specs.Faults.{one_more}
 use Rattle.memory_devices.specs.Moments.{LeftSince}
 
 -- a board in memory is the image that it opened with, the numbers of the calls that fail, the calls that were kept, and
--- how many were refused for want of memory
+-- how many calls found no memory
 pub record BoardState : Type 0 where
   pub start : List ℕ
   pub fail : List ℕ
@@ -41,8 +41,8 @@ moment_of board = length board.calls
 abbrev pub left_since_of : BoardState → ℕ → List ℕ → List ℕ → Type 0
 left_since_of board start left_image left_text = LeftSince (opened board.start) board.calls start left_image left_text
 
--- the faults of a board are the calls that failed by their numbers and those that were refused for want of memory, as
--- many as 64 bits count
+-- the faults of a board are the calls that failed by their numbers and those that found no memory, as many as 64 bits
+-- count
 abbrev pub faults_of : BoardState → ℕ
 faults_of board = min (board.refused + count_by (λ kept. kept.failed) board.calls) (2 ^ 64 - 1)
 
@@ -51,8 +51,8 @@ pub record Memory (size : ℕ) : Type 0 where
   pub state : BoardState
   pub is_image : IsImage size (image_of state)
 
--- a board is new with an image if at moment 0 a read gives that image, nothing is in flight or printed, and there
--- were no faults, and a cut might have left that image and no text alone
+-- a board is new with an image if a read gives it, nothing is in flight or printed, there were no faults, the moment is
+-- 0, and a cut might have left only that image and no text
 pub record IsNew (image : List ℕ) (board : BoardState) : Type 0 where
   pub image_is : image_of board ≡ image
   pub settled : (place : ℕ) → ¬ in_flight_of board place
@@ -74,7 +74,7 @@ done_on board call = record board { calls = board.calls ++ record { call = call;
 abbrev pub failed_on : BoardState → Call → BoardState
 failed_on board call = record board { calls = board.calls ++ record { call = call; failed = true } ∷ [] }
 
--- after a call that found no memory the board has one more call refused, and has kept no more calls than before
+-- after a call that found no memory the board is the same, with one more such call counted
 abbrev pub refused_on : BoardState → BoardState
 refused_on board = record board { refused = one_more board.refused }
 
@@ -82,23 +82,23 @@ refused_on board = record board { refused = one_more board.refused }
 abbrev pub IsDone : BoardState → Call → BoardState → Type 0
 IsDone old call new = (¬ IsListedCall old) × (new ≡ done_on old call)
 
--- a call is undone if it is listed and was kept as one that failed, or if it was refused for want of memory
+-- a call is undone if it is listed and was kept as one that failed, or if it found no memory
 abbrev pub IsUndone : BoardState → Call → BoardState → Type 0
 IsUndone old call new = (IsListedCall old × (new ≡ failed_on old call)) ⊎ (new ≡ refused_on old)
 
--- time passes from one state of a board to another with an outcome if a cut might have left nothing more than before
--- but that outcome
+-- time passes between two states of a board with an outcome if it goes on from the first one's moment to the second's,
+-- and a cut might have left only that outcome more
 abbrev pub TimePasses : BoardState → BoardState → (List ℕ → List ℕ → Type 0) → Type 0
 TimePasses old new outcome = Elapses (moment_of old) (moment_of new) (left_since_of old) (left_since_of new) outcome
 
--- inside the call with a number, counted from 1, the board holds what the calls before it left, with that call begun;
--- with the number 0 it holds what it held before the first call
+-- inside a call, numbered from 1, the board holds what the calls before it left, with that call begun; number 0 is
+-- before the first call
 abbrev pub inside : Contents → List CallOutcome → ℕ → Contents
 inside held calls zero = held
 inside held [] (suc number) = held
 inside held (kept ∷ more) (suc zero) = begun held kept.call
 inside held (kept ∷ more) (suc (suc number)) = inside (after held kept) more (suc number)
 
--- a cut inside the call with a number finds what the board holds there, of the image that it opened with
+-- a cut inside the call with a number finds what a board that opened with its image holds there
 abbrev pub contents_inside : BoardState → ℕ → Contents
 contents_inside board number = inside (opened board.start) board.calls number

@@ -20,7 +20,7 @@ counts_now held [] (suc start) left_image left_text le now = now
 counts_now held (kept ∷ more) (suc start) left_image left_text le now =
     counts_now (after held kept) more start left_image left_text (le_of_suc-le-suc le) now
 
--- a cut since the moment of now might have left only what a cut leaves of the board now
+-- since the moment of now a cut might have left only what it leaves of the board now
 pub only_now : (held : Contents) (calls : List CallOutcome) (left_image left_text : List ℕ)
     → LeftSince held calls (length calls) left_image left_text
     → Leaves (after_all held calls) left_image left_text

@@ -7,8 +7,8 @@ use Rattle.outside.specs.Disk.{MayLeave, MayLeaveAmid}
 abbrev pub Leaves : Contents → List ℕ → List ℕ → Type 0
 Leaves held left_image left_text = MayLeave held.image (IsInSome held.ranges) held.text left_image left_text
 
--- a cut inside a call leaves, beside what one before the call or behind it leaves, a beginning of what a print prints,
--- and nothing else inside any other call
+-- a cut inside a print leaves what was printed before with a beginning of its piece; one inside any other call leaves
+-- nothing but what a cut before or after it leaves
 abbrev pub LeavesAmid : Contents → Call → List ℕ → List ℕ → Type 0
 LeavesAmid held Read left_image left_text = ⊥
 LeavesAmid held (Write at bytes) left_image left_text = ⊥

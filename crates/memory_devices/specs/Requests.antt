@@ -3,7 +3,7 @@ use Rattle.memory_devices.specs.declared.kept_call.Request.{Request}
 use Rattle.memory_devices.specs.declared.kept_call.Request.TheVariants as request
 use Rattle.memory_devices.specs.Calls.{Call, Read, Write, Sync, Print}
 
--- the call of a request is the request without where its bytes lie in memory
+-- the call of a request is the request with its bytes as a list
 abbrev pub call_of : Request → Call
 call_of request.Read = Read
 call_of (request.Write at bytes) = Write at bytes.items

@@ -10,10 +10,9 @@ use std::alloc::Global;
 use std::marker::Model;
 use taxi_units::NoMemory;
 
-/// Files in memory. The words have them in the order in which they were added, and a word beyond
-/// them reads as an empty file. The reads are numbered from 1, over all words, and exactly those with
-/// chosen numbers fail. The count of faults of every word is the number of reads that failed. A
-/// number stands still at the last value of a `u64`.
+/// Files in memory. The words have them in the order in which they were added, and a word without one reads an empty
+/// file. The reads are numbered from 1, over all words, and exactly those with chosen numbers fail. Each word's count
+/// of faults is the number of all reads that failed. A number stops at the last value of a `u64`.
 #[derive(Drop)]
 pub struct MemoryFiles {
     alloc: Global,
@@ -30,8 +29,7 @@ impl Model for MemoryFiles {
 }
 
 impl MemoryFiles {
-    /// No file yet. The reads with the numbers in `fail` will fail. `NoMemory` comes only where there
-    /// is no memory.
+    /// No file yet. The reads with the numbers in `fail` will fail. `NoMemory`: there is no memory.
     pub fn new(alloc: Global, fail: &[u64]) -> Result<MemoryFiles, NoMemory>
         ensures { IfOk result (λ f. f ≡ record { files = []; fail = fail.now; reads = 0; failed = 0 }) }
     {
@@ -47,8 +45,8 @@ impl MemoryFiles {
         })
     }
 
-    /// Gives the next word a file with this content: word 0 first, then word 1 and so on. `NoMemory`
-    /// comes only where there is no memory, and nothing has changed then.
+    /// Gives the next word a file with this content: word 0 first, then word 1 and so on. `NoMemory`: there is no
+    /// memory, and nothing has changed.
     pub fn add(&mut self, content: &[u8]) -> Result<(), NoMemory>
         ensures added { OnOk result (self.new ≡ record self.old { files = self.old.files ++ content.now ∷ [] }) }
         ensures same { OnErr result (self.new ≡ self.old) }
@@ -79,7 +77,7 @@ impl Files for MemoryFiles {
         ensures cause { HasCause self.old.failed self.new.failed result }
         ensures counts { ℕ → MayRise (IsErr result) self.old.failed self.new.failed }
 
-        // Exactly the reads whose numbers are in the list fail. The others fill the buffer or end the file.
+        // Exactly the reads whose numbers are in the list fail. The others fill the buffer or take all that is left.
         ensures exactly { IsErr result ↔ IsListedRead self.old }
         ensures count { IfOk result (λ n. n ≡ min (length buf.old) (length (rest_of self.old word))) }
         ensures read { IfOk result (λ n. self.new ≡ read_from self.old word n) }

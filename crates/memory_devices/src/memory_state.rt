@@ -45,7 +45,7 @@ impl<const N: usize> Model for MemoryState<N> {
 }
 
 impl<const N: usize> MemoryState<N> {
-    /// No call was kept yet.
+    /// The state before the first call.
     pub(crate) fn new(alloc: Global, image: &[u8], fail: &[u64]) -> Result<MemoryState<N>, NoMemory>
         requires size { N ≤ 2 ^ 32 }
         requires image { length image.now ≡ N }
@@ -103,10 +103,10 @@ impl<const N: usize> MemoryState<N> {
         self.refused
     }
 
-    /// Puts into `left` an image that a cut inside the call with this number may leave, 0 being before
-    /// the first. What was in flight before the call is still so, inside a sync too, and so is the range
-    /// that the call itself writes. The bytes in flight become what `fill` says. All others are those
-    /// that a read gave before the call. `image` and `settled` are room of the store's size.
+    /// Puts into `left` an image that a cut inside the call with this number may leave; 0 is before the first. What was
+    /// in flight before the call still is, inside a sync too, and so is the range that the call itself writes. `fill`
+    /// says what the bytes in flight become; all others are those that a read gave before the call. `image` and
+    /// `settled` are room of the store's size.
     pub(crate) fn cut_into(
         &self,
         call: u64,
@@ -139,7 +139,7 @@ impl<const N: usize> MemoryState<N> {
         begin(settled, left, &self.calls[count - 1], fill);
     }
 
-    /// Counts a call that found no memory, and answers its failure.
+    /// Counts a call that found no memory, and gives its failure.
     fn refuse(&mut self) -> Failed
         ensures refused { self.new ≡ refused_on self.old }
     {
@@ -147,7 +147,7 @@ impl<const N: usize> MemoryState<N> {
         Failed
     }
 
-    /// Keeps a read, and fills the buffer where it doesn't fail.
+    /// Keeps a read, and fills the buffer if it doesn't fail.
     pub(crate) fn keep_read(&mut self, at: u32, buf: &mut [u8]) -> Result<(), Failed>
         requires { at + length buf.old ≤ N }
         ensures bytes { OnOk result (buf.new ≡ take (length buf.old) (drop at (image_of self.old))) }
@@ -167,7 +167,7 @@ impl<const N: usize> MemoryState<N> {
         Ok(())
     }
 
-    /// Keeps a write, and puts its bytes where it doesn't fail.
+    /// Keeps a write, and puts its bytes if it doesn't fail.
     pub(crate) fn keep_write(&mut self, at: u32, bytes: &[u8]) -> Result<(), Failed>
         requires { at + length bytes.now ≤ N }
         ensures kept { OnOk result (IsDone self.old (Write at bytes.now) self.new) }
@@ -197,7 +197,7 @@ impl<const N: usize> MemoryState<N> {
         if failed { Err(Failed) } else { Ok(()) }
     }
 
-    /// Keeps a print, and puts its bytes behind the text where it doesn't fail.
+    /// Keeps a print, and puts its bytes behind the text if it doesn't fail.
     pub(crate) fn keep_print(&mut self, bytes: &[u8]) -> Result<(), Failed>
         ensures kept { OnOk result (IsDone self.old (Print bytes.now) self.new) }
         ensures failed { OnErr result (IsUndone self.old (Print bytes.now) self.new) }
@@ -221,7 +221,7 @@ impl<const N: usize> MemoryState<N> {
     }
 }
 
-/// Keeps a call, and answers whether it fails by its number. A call that finds no memory isn't kept.
+/// Keeps a call, and tells whether it fails by its number. A call that finds no memory isn't kept.
 fn add_call<const N: usize>(
     calls: &mut Vec<KeptCall>,
     fail: &[u64],

@@ -1,4 +1,4 @@
-//! The kept calls of a board, gone through again up to a cut.
+//! Goes through the kept calls of a board again, up to a cut.
 ghost use Rattle.std.specs.Prelude.{◌≡◌, ℕ, ◌+◌, ◌≤◌, List, length};
 ghost use Rattle.memory_devices.specs.Calls.{Contents, after, begun, overwrite};
 ghost use Rattle.outside.specs.Disk.{IsWithin, SameBut};
@@ -12,18 +12,18 @@ pub enum Fill {
     /// The bytes of the last good sync.
     Old,
 
-    /// The bytes that were written last, by the call itself too.
+    /// The bytes that were written last, those of the call itself too.
     New,
 
-    /// The written ones in the first half of each range, the half being rounded down, and those of
-    /// the last good sync in its rest. Where ranges overlap the later one decides.
+    /// In the first half of each range, rounded down, the bytes that were written, and those of the last good sync in
+    /// its rest. If ranges overlap, the later one decides.
     Half,
 
     /// This byte at each place.
     Byte(u8),
 }
 
-/// A call has begun: puts what a cut inside it leaves of what it writes.
+/// Puts into `left` what a cut inside a call leaves of the bytes that the call writes.
 pub(crate) fn begin(settled: &[u8], left: &mut [u8], kept: &KeptCall, fill: Fill)
     requires inside { call_end kept.now.call ≤ length left.old }
     requires alike { length settled.now ≡ length left.old }
@@ -35,8 +35,8 @@ pub(crate) fn begin(settled: &[u8], left: &mut [u8], kept: &KeptCall, fill: Fill
     }
 }
 
-/// A call is over: makes what it leaves of what a read gave, of the bytes of the last good sync, and of
-/// what a cut left, before the call.
+/// Makes of the images before a call those after it: what a read gives, what the last good sync had, and what a cut
+/// leaves.
 pub(crate) fn pass(
     image: &mut [u8],
     settled: &mut [u8],

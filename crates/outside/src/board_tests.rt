@@ -27,8 +27,8 @@ const QUIET: &[(Asked<'static>, [u8; 4])] = &[
     (Asked::Read(0), [3; 4]),
 ];
 
-/// Makes a call, and answers the four bytes of a read, and zeros of any other call. A piece that doesn't
-/// lie in the store isn't asked for.
+/// Makes a call, and gives the four bytes of a read, or zeros for any other call. A piece that doesn't lie in the store
+/// isn't asked for.
 pub(crate) fn call<B: Board<STORE_SIZE, L>, L: Ledger>(
     board: &mut B,
     asked: &Asked,

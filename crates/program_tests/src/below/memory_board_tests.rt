@@ -27,13 +27,13 @@ struct Story {
     /// The numbers of the calls that fail.
     fail: &'static [u64],
 
-    /// Each call, its answer, and what is printed behind it.
+    /// Each call, its answer, and what is printed after it.
     calls: &'static [(Asked, Result<[u8; 4], Failed>, &'static [u8])],
 
     /// The bytes in front that a cut inside a call leaves, by the fill.
     cuts: &'static [(u64, Fill, &'static [u8])],
 
-    /// The bytes in front that a read gives behind the calls.
+    /// The bytes in front that a read gives after the calls.
     image: &'static [u8],
 }
 
@@ -128,7 +128,7 @@ fn is_piece(bytes: &[u8]) -> bool
     0 < bytes.len() && bytes.len() <= 512
 }
 
-/// Makes a call, and answers the four bytes of a read, and zeros of any other call.
+/// Makes a call, and gives the four bytes of a read, or zeros for any other call.
 fn call<L: Ledger>(
     board: &mut MemoryBoard,
     asked: &Asked,
@@ -169,7 +169,7 @@ fn must_answer<L: Ledger>(
     Ok(())
 }
 
-/// The board behind a story's calls.
+/// The board after a story's calls.
 fn called<L: Ledger>(alloc: Global, blank: Blank, story: &Story) -> Result<MemoryBoard, Fail>
     requires name { blank.name ≡ L.name }
     requires parts { blank.parts ≡ L.parts }

@@ -34,7 +34,7 @@ fn reads_of_memory_files(rt: HostRuntime) -> Result<(), Fail> {
     Ok(())
 }
 
-/// Buffers of this size over a file of seven bytes, of which this read fails, and what is answered.
+/// Buffers of this size over a file of seven bytes, the read that fails, and the answer.
 const WHOLE: &[(usize, u64, Result<usize, RoomFault>)] = &[
     (8, 0, Ok(7)),
     (7, 0, Ok(7)),
@@ -45,7 +45,7 @@ const WHOLE: &[(usize, u64, Result<usize, RoomFault>)] = &[
     (6, 2, Err(RoomFault::DeviceFailed)),
 ];
 
-/// What a reading into a buffer of this size answers.
+/// The answer of a reading into a buffer of this size.
 fn whole(files: &mut MemoryFiles, room: usize) -> Result<usize, RoomFault> {
     let mut buf = [0; 8];
     match buf.get_mut(..room) {
@@ -54,7 +54,7 @@ fn whole(files: &mut MemoryFiles, room: usize) -> Result<usize, RoomFault> {
     }
 }
 
-/// The length of a text that has the file's seven bytes, or why it wasn't read, where memory is not to blame.
+/// The length of a text that has the file's seven bytes, or why it wasn't read, if memory isn't to blame.
 fn length_of(text: Result<Vec<u8>, TextFault>) -> Option<Result<usize, RoomFault>> {
     match text {
         Ok(text) => {
@@ -70,7 +70,7 @@ fn length_of(text: Result<Vec<u8>, TextFault>) -> Option<Result<usize, RoomFault
     }
 }
 
-/// Fails unless both ways of reading a whole text answer this.
+/// Fails unless both ways of reading a whole text give this.
 fn must_read_whole(
     alloc: Global,
     room: usize,

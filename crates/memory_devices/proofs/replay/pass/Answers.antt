@@ -4,7 +4,7 @@ use Rattle.memory_devices.specs.Replays.{AreLeftOf}
 use Rattle.memory_devices.specs.Requests.{call_of}
 use Rattle.memory_devices.proofs.replay.pass.Goals as goal
 
--- behind a good sync nothing is in flight
+-- after a good sync nothing is in flight
 synced : (held : Contents) (kept : CallOutcome) (image left : List ℕ) → kept.failed ≡ false → kept.call ≡ Sync
     → image ≡ held.image → left ≡ image → AreLeftOf (after held kept) image left
 synced held kept image left good call is same =
