@@ -17,7 +17,7 @@ UNREAD = re.compile(r"is not in scope|has no field|has no `|that can be named|is
 
 
 class Clause:
-    """A clause of a contract, and the part of a loop's invariant from which it follows, if it is said."""
+    """A clause of a contract, and the part of a loop's invariant, or the lemma, from which it follows, if it is said."""
 
     def __init__(self, name, by=""):
         self.name = name.strip()
@@ -25,6 +25,11 @@ class Clause:
 
     def __str__(self):
         return self.name + (f" by {self.loop}" + (f".{self.field}" if self.field else "") if self.loop else "")
+
+    def lemma_in(self, texts):
+        """The lemma of a crate's own proofs from which the clause follows, by module and name, if `by` names one."""
+        is_lemma = self.field and f"proofs/{self.loop.replace('.', '/')}.antt" in texts
+        return (self.loop, self.field) if is_lemma else None
 
     def has(self, goal, field):
         """Whether a goal is of this clause. The field is that of its record, `*` where all fields need what failed."""
@@ -205,6 +210,46 @@ def has_failed(lemma, failed, texts, crate):
     return bool(lemma)
 
 
+def rests_on(clause, texts, crate, function):
+    """Whether the answers of a clause name the lemma from which it follows, or name one that does, and so on."""
+    left = [lemma for goal, (_, lines) in answers_of(texts, function).items() if Clause(clause.name).has(goal, clause.name)
+            for lemma in lemmas_cited("\n".join(lines), texts.get(f"proofs/{function.replace('::', '/')}/Answers.antt", ""), crate)]
+    seen = set()
+    while left:
+        lemma = left.pop()
+        if lemma == (clause.loop, clause.field):
+            return True
+        if lemma not in seen:
+            seen.add(lemma)
+            module = texts.get(f"proofs/{lemma[0].replace('.', '/')}.antt", "")
+            left += lemmas_cited(lemma_text(module, lemma[1]), module, crate, lemma[0])
+    return False
+
+
+def lemma_text(module, name):
+    """The lines of a lemma in the text of its module: up to the next line that is indented no further and begins another."""
+    begins = re.search(rf"(?m)^( *)(?:pub )?{re.escape(name)} :.*$", module)
+    if not begins:
+        return ""
+    ends = re.search(rf"(?m)^ {{0,{len(begins[1])}}}(?:module|(?:(?:pub|abbrev|unfoldable) )*(?:record [A-Z]|\S+ :))",
+                     module[begins.end():])
+    return module[begins.start():begins.end() + (ends.start() if ends else len(module))]
+
+
+def lemmas_cited(text, module, crate, own=None):
+    """The lemmas of a crate's own proofs that a part of a module names: those that it imports, and those of the module."""
+    named = lemmas_named(module, crate)
+    wholes = {alias: name for name, alias in re.findall(rf"(?m)^use Rattle\.{crate}\.proofs\.(\S+) as (\S+)$", module)}
+    for word in set(re.findall(r"[^\s(){};,]+", text)):
+        alias, _, name = word.partition(".")
+        if word in named:
+            yield named[word]
+        elif alias in wholes and name:
+            yield wholes[alias], name
+        elif own:
+            yield own, word
+
+
 def fault_of(edit, said, texts, before=None):
     """Why what the prover said doesn't show that the edit is refused, if it doesn't. `before` has the answers that were taken
     out: a clause that had one isn't judged by what no search proves without it."""
@@ -214,6 +259,12 @@ def fault_of(edit, said, texts, before=None):
             return "the copy didn't reach the prover"
         if status[1] == "proved":
             return f"{function} is still proved"
+        if clause.lemma_in(texts):
+            if clause.lemma_in(texts) not in lemmas_that_failed(said):
+                return f"{clause.loop}.{clause.field} has no error"
+            if not rests_on(clause, texts, edit.crate, function):
+                return f"{clause.name} of {function} doesn't rest on {clause.loop}.{clause.field}"
+            continue
         goals = failed_goals(said, texts, function) + goals_without_lemma(said, texts, edit.crate, function)
         if before and any(clause.has(goal, clause.field or clause.name) for goal in answers_of(before, function)):
             goals = []

@@ -93,8 +93,8 @@ fn carry_out<F: Files, B: Board<STORE_SIZE, L>, L: Ledger>(
 /// - `sealed`: what the store was sealed with, as a text of parameters
 /// - `form TARIFF`: the printed form of the tariff, sound or not
 /// - `faults TARIFF`: as `check`, for a sound tariff; at 2 it prints a line of that status for each fault
-/// - `lines TARIFF CONSTANT`: for each line of a kind of which the first that holds counts, the first context of a meter
-///   in which it counts, or that it never does
+/// - `lines TARIFF CONSTANT`: for each line of a kind of which the first that holds counts, the first context of a
+///   meter in which it counts, or that it never does
 /// - `explain TARIFF DRIVE PARAMS`: why the fare of each hiring that the drive closes is what it is, on a new store
 ///   that is sealed with the tariff and the parameters
 /// - `compare TARIFF OTHER CONSTANT`: what differs first between two tariffs, and the line of each, or `SAME`
