@@ -61,6 +61,10 @@ class Edit:
                     told = self.breaks if key == "breaks" else self.may_break
                     told.append((function.strip(), Clause(*clause.split(" by "))))
 
+    def changes_more(self):
+        """Whether it changes a definition or a constant, which more than one function may need."""
+        return any(not file.startswith("src/") or "const " in old for file, old, _ in self.pairs)
+
     def change(self, texts):
         """Puts the change into the texts of files, and says what is wrong with it."""
         for file, old, new in self.pairs:
@@ -196,13 +200,27 @@ def lemmas_named(text, crate):
     return {name: (module, name) for module, names in lines for name in re.split(r",\s*", names)}
 
 
+def lemmas_below(lemma, texts, crate):
+    """The lemmas of a crate's own proofs that a lemma's equations name. A name that an equation binds is none."""
+    text, found = texts.get(f"proofs/{lemma[0].replace('.', '/')}.antt", ""), set()
+    known = {name: (lemma[0], name) for name in re.findall(r"(?m)^ *(?:pub |abbrev |#)*(\S+) :", text)}
+    known.update(lemmas_named(text, crate))
+    for equation in re.finditer(rf"(?m)^( *){re.escape(lemma[1])}(?= )(?! :).*\n?(?:\1 +.*\n?)*", text):
+        left, _, right = re.sub(r"--.*", "", equation[0]).partition(" =")
+        binders = re.findall(r"\blet (\S+)|λ ([^.]*)\.", right)
+        bound = set(re.findall(r"[^\s(){};,:]+", " ".join([left, *(part for binder in binders for part in binder)])))
+        words = set(re.findall(r"(?<![^\s(){};,])[^\s(){};,]+(?![^\s(){};,]| =)", right))
+        found |= {known[word] for word in words - bound if word in known}
+    return found - {lemma}
+
+
 def has_failed(lemma, failed, texts, crate):
-    """Whether a lemma has an error of its own. One that is another's name stands for that other."""
-    while lemma and lemma not in failed:
-        text = texts.get(f"proofs/{lemma[0].replace('.', '/')}.antt", "")
-        other = re.search(rf"(?m)^{re.escape(lemma[1])} = (\S+)$", text)
-        lemma = other and (lemmas_named(text, crate).get(other[1]) or (lemma[0], other[1]))
-    return bool(lemma)
+    """Whether a lemma has an error of its own, or one on which it stands in the crate's own proofs, however far below."""
+    passed, left = set(), {lemma} - {None}
+    while left and not left & failed:
+        passed |= left
+        left = set().union(*(lemmas_below(below, texts, crate) for below in left)) - passed
+    return bool(left)
 
 
 def fault_of(edit, said, texts, before=None):
@@ -239,11 +257,13 @@ def without_failed(said, texts, functions):
 
 
 def rounds_of(edits):
-    """The edits of a crate in rounds: those of a round break other functions, and each text that one replaces stands."""
+    """The edits of a crate in rounds: those of a round break other functions, and each text that one replaces stands. What
+    is changed in a definition or a constant may break any function, so such an edit has a round of its own."""
     rounds = []
     for edit in edits:
         for texts, functions, members in rounds:
-            if functions.isdisjoint(function for function, _ in edit.breaks):
+            alone = edit.changes_more() or members[0].changes_more()
+            if not alone and functions.isdisjoint(function for function, _ in edit.breaks):
                 tried = dict(texts)
                 if edit.change(tried) is None:
                     texts.update(tried)
