@@ -61,9 +61,12 @@ class Edit:
                     told = self.breaks if key == "breaks" else self.may_break
                     told.append((function.strip(), Clause(*clause.split(" by "))))
 
-    def changes_more(self):
-        """Whether it changes a definition or a constant, which more than one function may need."""
-        return any(not file.startswith("src/") or "const " in old for file, old, _ in self.pairs)
+    def changes_more(self, texts):
+        """Whether it changes a definition, or a constant of more than one use, on which other functions may stand."""
+        used = [name for _, old, _ in self.pairs for name in re.findall(r"\bconst (\w+)", old)]
+        code = "".join(text for file, text in texts.items() if file.startswith("src/") and "tests" not in file)
+        return (any(file.startswith("specs/") for file, _, _ in self.pairs)
+                or any(len(re.findall(rf"\b{name}\b", code)) > 2 for name in used))
 
     def change(self, texts):
         """Puts the change into the texts of files, and says what is wrong with it."""
@@ -259,10 +262,10 @@ def without_failed(said, texts, functions):
 def rounds_of(edits):
     """The edits of a crate in rounds: those of a round break other functions, and each text that one replaces stands. What
     is changed in a definition or a constant may break any function, so such an edit has a round of its own."""
-    rounds = []
+    rounds, more = [], [edit for edit in edits if edit.changes_more(texts_of(edit.crate))]
     for edit in edits:
         for texts, functions, members in rounds:
-            alone = edit.changes_more() or members[0].changes_more()
+            alone = edit in more or members[0] in more
             if not alone and functions.isdisjoint(function for function, _ in edit.breaks):
                 tried = dict(texts)
                 if edit.change(tried) is None:
