@@ -66,6 +66,13 @@ class Edit:
                     told = self.breaks if key == "breaks" else self.may_break
                     told.append((function.strip(), Clause(*clause.split(" by "))))
 
+    def changes_more(self, texts):
+        """Whether it changes a definition, or a constant of more than one use, on which other functions may stand."""
+        used = [name for _, old, _ in self.pairs for name in re.findall(r"\bconst (\w+)", old)]
+        code = "".join(text for file, text in texts.items() if file.startswith("src/") and "tests" not in file)
+        return (any(file.startswith("specs/") for file, _, _ in self.pairs)
+                or any(len(re.findall(rf"\b{name}\b", code)) > 2 for name in used))
+
     def change(self, texts):
         """Puts the change into the texts of files, and says what is wrong with it."""
         for file, old, new in self.pairs:
@@ -201,53 +208,39 @@ def lemmas_named(text, crate):
     return {name: (module, name) for module, names in lines for name in re.split(r",\s*", names)}
 
 
+def lemmas_below(lemma, texts, crate):
+    """The lemmas of a crate's own proofs that a lemma's equations name. A name that an equation binds is none."""
+    text, found = texts.get(f"proofs/{lemma[0].replace('.', '/')}.antt", ""), set()
+    known = {name: (lemma[0], name) for name in re.findall(r"(?m)^ *(?:pub |abbrev |#)*(\S+) :", text)}
+    known.update(lemmas_named(text, crate))
+    for equation in re.finditer(rf"(?m)^( *){re.escape(lemma[1])}(?= )(?! :).*\n?(?:\1 +.*\n?)*", text):
+        left, _, right = re.sub(r"--.*", "", equation[0]).partition(" =")
+        binders = re.findall(r"\blet (\S+)|λ ([^.]*)\.", right)
+        bound = set(re.findall(r"[^\s(){};,:]+", " ".join([left, *(part for binder in binders for part in binder)])))
+        words = set(re.findall(r"(?<![^\s(){};,])[^\s(){};,]+(?![^\s(){};,]| =)", right))
+        found |= {known[word] for word in words - bound if word in known}
+    return found - {lemma}
+
+
 def has_failed(lemma, failed, texts, crate):
-    """Whether a lemma has an error of its own. One that is another's name stands for that other."""
-    while lemma and lemma not in failed:
-        text = texts.get(f"proofs/{lemma[0].replace('.', '/')}.antt", "")
-        other = re.search(rf"(?m)^{re.escape(lemma[1])} = (\S+)$", text)
-        lemma = other and (lemmas_named(text, crate).get(other[1]) or (lemma[0], other[1]))
-    return bool(lemma)
+    """Whether a lemma has an error of its own, or one on which it stands in the crate's own proofs, however far below."""
+    passed, left = set(), {lemma} - {None}
+    while left and not left & failed:
+        passed |= left
+        left = set().union(*(lemmas_below(below, texts, crate) for below in left)) - passed
+    return bool(left)
 
 
 def rests_on(clause, texts, crate, function):
-    """Whether the answers of a clause name the lemma from which it follows, or name one that does, and so on."""
-    left = [lemma for goal, (_, lines) in answers_of(texts, function).items() if Clause(clause.name).has(goal, clause.name)
-            for lemma in lemmas_cited("\n".join(lines), texts.get(f"proofs/{function.replace('::', '/')}/Answers.antt", ""), crate)]
-    seen = set()
-    while left:
-        lemma = left.pop()
-        if lemma == (clause.loop, clause.field):
-            return True
-        if lemma not in seen:
-            seen.add(lemma)
-            module = texts.get(f"proofs/{lemma[0].replace('.', '/')}.antt", "")
-            left += lemmas_cited(lemma_text(module, lemma[1]), module, crate, lemma[0])
-    return False
-
-
-def lemma_text(module, name):
-    """The lines of a lemma in the text of its module: up to the next line that is indented no further and begins another."""
-    begins = re.search(rf"(?m)^( *)(?:pub )?{re.escape(name)} :.*$", module)
-    if not begins:
-        return ""
-    ends = re.search(rf"(?m)^ {{0,{len(begins[1])}}}(?:module|(?:(?:pub|abbrev|unfoldable) )*(?:record [A-Z]|\S+ :))",
-                     module[begins.end():])
-    return module[begins.start():begins.end() + (ends.start() if ends else len(module))]
-
-
-def lemmas_cited(text, module, crate, own=None):
-    """The lemmas of a crate's own proofs that a part of a module names: those that it imports, and those of the module."""
-    named = lemmas_named(module, crate)
-    wholes = {alias: name for name, alias in re.findall(rf"(?m)^use Rattle\.{crate}\.proofs\.(\S+) as (\S+)$", module)}
-    for word in set(re.findall(r"[^\s(){};,]+", text)):
-        alias, _, name = word.partition(".")
-        if word in named:
-            yield named[word]
-        elif alias in wholes and name:
-            yield wholes[alias], name
-        elif own:
-            yield own, word
+    """Whether the answers of a clause name the lemma from which it follows, or one that stands on it."""
+    named = lemmas_named(texts.get(f"proofs/{function.replace('::', '/')}/Answers.antt", ""), crate)
+    left = {named[word] for goal, (_, lines) in answers_of(texts, function).items() if Clause(clause.name).has(goal, clause.name)
+            for line in lines for word in re.findall(r"[^\s(){};,]+", line) if word in named}
+    passed = set()
+    while left and (clause.loop, clause.field) not in left:
+        passed |= left
+        left = set().union(*(lemmas_below(below, texts, crate) for below in left)) - passed
+    return bool(left)
 
 
 def fault_of(edit, said, texts, before=None):
@@ -290,11 +283,13 @@ def without_failed(said, texts, functions):
 
 
 def rounds_of(edits):
-    """The edits of a crate in rounds: those of a round break other functions, and each text that one replaces stands."""
-    rounds = []
+    """The edits of a crate in rounds: those of a round break other functions, and each text that one replaces stands. What
+    is changed in a definition or a constant may break any function, so such an edit has a round of its own."""
+    rounds, more = [], [edit for edit in edits if edit.changes_more(texts_of(edit.crate))]
     for edit in edits:
         for texts, functions, members in rounds:
-            if functions.isdisjoint(function for function, _ in edit.breaks):
+            alone = edit in more or members[0] in more
+            if not alone and functions.isdisjoint(function for function, _ in edit.breaks):
                 tried = dict(texts)
                 if edit.change(tried) is None:
                     texts.update(tried)
