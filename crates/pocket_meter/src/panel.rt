@@ -1,42 +1,19 @@
 //! The board: a display in memory, and no store.
-ghost use Rattle.std.specs.Prelude.{◌≡◌, [], IsErr};
-ghost use Rattle.outside.specs.Faults.{Rose};
+ghost use Rattle.std.specs.Prelude.{[]};
 
 use arrayvec::ArrayVec;
 use outside::{Board, Failed, STORE_SIZE};
 use std::sync::ledger::Ledger;
 use taxi_units::Steps;
 
-/// What the display showed, line by line, and how often a call failed. It has room for 4,096 bytes. It has no store, so
-/// it tells no image of one; the dry meter asks for none.
-#[derive(Drop)]
+/// What the display showed, line by line, with room for 4,096 bytes, and how often a call failed.
+#[derive(Drop, Default)]
 pub struct Panel {
     pub text: ArrayVec<u8, 4096>,
     pub faults: u64,
 }
 
-impl Panel {
-    /// An empty display.
-    pub fn new() -> Panel
-        ensures { result.text.items ≡ [] }
-    {
-        Panel {
-            text: ArrayVec::new(),
-            faults: 0,
-        }
-    }
-
-    /// A call fails, and is counted.
-    fn fail(&mut self) -> Result<(), Failed>
-        ensures failed { IsErr result }
-        ensures text { self.new.text ≡ self.old.text }
-        ensures counted { Rose self.old.faults self.new.faults }
-    {
-        self.faults = self.faults.saturating_add(1);
-        Err(Failed)
-    }
-}
-
+/// It has no store, so it tells no image of one; the dry meter asks for none.
 impl<L: Ledger> Board<STORE_SIZE, L> for Panel {
     ghost tells_image = { ⊥ };
 
@@ -60,14 +37,14 @@ impl<L: Ledger> Board<STORE_SIZE, L> for Panel {
 
     ghost only_now = { λ _ _ _ left. absurd left };
 
-    fn read(&mut self, _at: u32, _buf: &mut [u8], steps: &mut Steps<L>) -> Result<(), Failed> {
-        steps.spend();
-        self.fail()
+    fn read(&mut self, at: u32, _buf: &mut [u8], steps: &mut Steps<L>) -> Result<(), Failed> {
+        self.write_at(at, &[], steps)
     }
 
     fn write_at(&mut self, _at: u32, _bytes: &[u8], steps: &mut Steps<L>) -> Result<(), Failed> {
         steps.spend();
-        self.fail()
+        self.faults = self.faults.saturating_add(1);
+        Err(Failed)
     }
 
     fn sync(&mut self, steps: &mut Steps<L>) -> Result<(), Failed> {
@@ -78,9 +55,8 @@ impl<L: Ledger> Board<STORE_SIZE, L> for Panel {
     #[tactic(auto, using(outside::proofs::Laws::begins_whole, outside::proofs::Laws::begins_not))]
     fn print(&mut self, bytes: &[u8], steps: &mut Steps<L>) -> Result<(), Failed> {
         steps.spend();
-        match self.text.try_extend_from_slice(bytes) {
-            Ok(()) => Ok(()),
-            Err(_) => self.fail(),
-        }
+        let printed = self.text.try_extend_from_slice(bytes);
+        self.faults = self.faults.saturating_add(printed.is_err() as u64);
+        printed.or(Err(Failed))
     }
 }

@@ -4,7 +4,7 @@ use Rattle.tariff_syntax.specs.Reads.{Reads}
 use Rattle.tariff_syntax.specs.Tree.{tree_of}
 use Rattle.tariff_syntax.specs.declared.tariff.Tariff.{Tariff}
 use Rattle.pocket_meter.proofs.Making.{made_by}
-use Rattle.pocket_meter.proofs.meter.made_of.Goals as goal
+use Rattle.pocket_meter.proofs.made_of.Goals as goal
 
 pub returns-clause-made : goal.returns-clause-made
 returns-clause-made c =
