@@ -1,4 +1,4 @@
-//! A meter is made of two texts.
+//! A meter made of two texts.
 ghost use Rattle.std.specs.Prelude.{◌≡◌, ◌⊎◌, Err, IfErr, IfOk, IsErr};
 ghost use Rattle.seal_record.specs.Reading.{params_read};
 ghost use Rattle.tariff_check.specs.Faults.{IsSound};
@@ -28,7 +28,7 @@ pub(crate) enum Stop {
 }
 
 impl Stop {
-    /// The status that says so.
+    /// The status of this stop.
     pub(crate) fn status(self) -> u8
         ensures { result ≡ status_of self }
     {
@@ -60,8 +60,8 @@ fn sound_tariff(alloc: Global, text: &[u8]) -> Result<Checked, Stop>
     }
 }
 
-/// The tables of a tariff's text, and a seal with the parameters of the other text. The seal has no digest, which
-/// receipts alone print.
+/// The tables of a tariff's text, and a seal with the parameters of the other text. The seal has no digest: only
+/// receipts print one.
 pub(crate) fn made_of(alloc: Global, tariff: &[u8], params: &[u8]) -> Result<(Tables, Seal), Stop>
     ensures made { IfOk result (λ made. AreMadeOf tariff.now params.now made.0 made.1) }
     ensures constant { IfOk result (λ made. made.0.constant ≡ made.1.params.constant) }

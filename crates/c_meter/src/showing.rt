@@ -32,7 +32,7 @@ fn put_lines(lines: &[u8], text: &mut [u8]) -> Result<usize, Stop>
     Ok(used)
 }
 
-/// Carries out a drive on a board in memory, where the lines that are shown are printed.
+/// Carries out a drive on a board in memory, which gets the lines that are shown.
 fn board_of<L: Ledger>(
     alloc: Global,
     tables: &Tables,
@@ -60,7 +60,7 @@ fn board_of<L: Ledger>(
         Ok(()) => Ok(board),
         Err(RunFault::BadDrive(_)) => Err(Stop::NoDrive),
         Err(RunFault::TooLong) => Err(Stop::NoDrive),
-        // Neither fails by its number, so memory ran out.
+        // Both fail only if memory ran out.
         Err(RunFault::ReadFault) => Err(Stop::NoMemory),
         Err(RunFault::BoardFault) => Err(Stop::NoMemory),
     }

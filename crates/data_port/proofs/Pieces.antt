@@ -240,7 +240,7 @@ module _ (told : Type 0) (durable : Durable) (seal : Seal) (first now : Standing
   pub piece_few : first.taken + length piece < 2 ^ 64 → now.taken + length rest < 2 ^ 64
   piece_few few = omega (arith, few, f.counted, ap length f.split, length-append f.done rest)
 
-  -- where nothing is left the piece was served
+  -- if nothing is left the piece was served
   all_done : length rest ≡ 0 → piece ≡ f.done
   all_done none = f.split ∙ (ap (λ (l : List ℕ). f.done ++ l) (nil_from_length rest none) ∙ append-nil f.done)
 

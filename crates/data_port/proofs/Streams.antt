@@ -289,7 +289,7 @@ at_end bytes requests = ((λ h. ends_whole bytes requests h.0 h.1), whole_ends b
 some_same : (a b : ℕ) → Some a ≡ Some b → a ≡ b
 some_same a b e = cc
 
--- where no bad place came, an unfinished request is bad behind the last byte
+-- if no bad place came, an unfinished request is bad behind the last byte
 pub unfinished_end : (bytes : List ℕ) (place : ℕ) → first_bad bytes ≡ None → bad_at_end bytes ≡ Some place
     → place ≡ length bytes
 unfinished_end bytes place good bad = either (cases_Bool (standing_after bytes).failed)

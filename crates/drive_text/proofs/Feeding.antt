@@ -65,7 +65,7 @@ takes_bytes old new p one some going counted reader runs = record {
   quiet = λ b count few. no_runs b (take count p) (All-take (λ c. c ≢ 10) count p one);
 }
 
--- where a line is bad
+-- if a line is bad
 pub fails_line : (old new : Reading) (l : List ℕ) (number line : ℕ) → IsOneLine l → line_runs (old.kept ++ l) ≡ None
     → old.failed ≡ false → old.comment ≡ false → number ≡ line_number_of old → line ≡ number → HasFailed new number
     → FailsIn old new (l ++ 10 ∷ []) line
@@ -257,7 +257,7 @@ breaks_reader first now after piece rest old new line f t b h =
     ap (λ (x : List ℕ). b ++ x) f.split ∙ sym (append_assoc b f.done rest) in
     subst (HasTaken after) (sym whole) (t.reader (b ++ f.done) (f.reader b h))
 
--- where the list is full and wasn't at first, some of the piece was taken
+-- if the list is full and wasn't at first, some of the piece was taken
 pub some_taken : (first now : Reading) (piece rest : List ℕ) (old new : List Run) → Feeds first now piece rest old new
     → length new ≡ 64 → length old < 64 → 0 < length piece - length rest
 some_taken first now piece rest old new f full room = either (cases_lt 0 (length piece - length rest))

@@ -21,7 +21,7 @@ use Rattle.drive_text.proofs.Positions.{runs_of_lines-bad, runs_of_lines-good, r
 use Rattle.drive_text.proofs.Standing.{none_by, none_of}
 use Rattle.drive_text.proofs.Table.{line_runs-table}
 
--- where the first of lines that are counted from a number is bad
+-- if the first of lines that are counted from a number is bad
 abbrev found_from : ℕ → List (List ℕ) → Option ℕ
 found_from i lines = position_from (λ line. is_none (line_runs line)) i lines
 

@@ -15,8 +15,8 @@ pub enum Filing {
     Appended,
 }
 
-/// What is done with a receipt of a roll, beside a log with this newest record, or with none. The rule is
-/// this project's own.
+/// What is done with a receipt of a roll, beside a log with this newest record, or with none. The rule is this
+/// project's own.
 pub fn filing_of(newest: &Option<LogRecord>, receipt: &LogRecord) -> Filing
     ensures { IsFiledBy result newest.now receipt.now }
 {

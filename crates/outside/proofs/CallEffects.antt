@@ -149,7 +149,7 @@ module _ (old new : Contents) (bytes : List ℕ) where
   print_text (inr (inl e)) = begins_not old.text new.text bytes (ap (λ (h : Contents). h.text) e)
   print_text (inr (inr e)) = begins_not old.text new.text bytes (ap (λ (h : Contents). h.text) e)
 
-  -- what a cut inside it or behind it leaves is what one amid its bytes does
+  -- what a cut inside it or after it leaves is what one amid its bytes does
   print_leaves : Became old new (Print bytes) → (i x : List ℕ) → LeavesIn old (Print bytes) new i x
       → MayLeaveAmid new.image (IsInSome new.ranges) old.text bytes i x
   print_leaves b i x (inl amid) = record {

@@ -10,7 +10,7 @@ pub after_pushed : (held : Contents) (calls : List CallOutcome) (kept : CallOutc
 after_pushed held [] kept = refl
 after_pushed held (first ∷ more) kept = after_pushed (after held first) more kept
 
--- what a cut inside a call, or behind it, leaves
+-- what a cut inside a call, or after it, leaves
 abbrev pub LeavesIn : Contents → Call → Contents → List ℕ → List ℕ → Type 0
 LeavesIn old call new i x = LeavesAmid old call i x ⊎ Leaves new i x
 

@@ -26,13 +26,13 @@ struct Story {
     /// The numbers of the calls that fail.
     fail: &'static [u64],
 
-    /// Each call, its answer, and what is printed behind it.
+    /// Each call, its answer, and what is printed after it.
     calls: &'static [(Asked<'static>, Result<[u8; 4], Failed>, &'static [u8])],
 
     /// The bytes in front that a cut inside a call leaves, by the fill.
     cuts: &'static [(u64, Fill, &'static [u8])],
 
-    /// The bytes in front that a read gives behind the calls.
+    /// The bytes in front that a read gives after the calls.
     image: &'static [u8],
 }
 
@@ -130,8 +130,8 @@ const QUIET: &[(Asked<'static>, [u8; 4])] = &[
     (Asked::Read(0), [3; 4]),
 ];
 
-/// Makes a call, and answers the four bytes of a read, and zeros of any other call. A piece that doesn't
-/// lie in the store isn't asked for.
+/// Makes a call, and gives the four bytes of a read, or zeros for any other call. A piece that doesn't lie in the store
+/// isn't asked for.
 pub(crate) fn call<B: Board<STORE_SIZE, L>, L: Ledger>(
     board: &mut B,
     asked: &Asked,
@@ -188,7 +188,7 @@ fn must_answer<L: Ledger>(
     Ok(())
 }
 
-/// The board behind a story's calls.
+/// The board after a story's calls.
 fn called<L: Ledger>(alloc: Global, blank: Blank, story: &Story) -> Result<MemoryBoard, Fail>
     requires name { blank.name ≡ L.name }
     requires parts { blank.parts ≡ L.parts }

@@ -1,6 +1,5 @@
-//! The outside of the taximeter: the files that its words name, and the board, which has a store and
-//! prints. Each is a trait with its meanings, and has devices in memory and one of the system. All of
-//! it is this project's own.
+//! The outside of the taximeter: the files that a program's words name, and the board, which has a store and prints.
+//! Each is a trait, with devices in memory and one of the system. All of it is this project's own.
 #![tactic(auto)]
 
 mod board;

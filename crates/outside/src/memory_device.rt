@@ -1,4 +1,4 @@
-//! The board in memory, of which chosen calls fail: a store of some size, and a printer.
+//! The board in memory, of which chosen calls fail.
 ghost use Rattle.std.specs.Prelude.{◌≡◌, ◌+◌, ◌^◌, ◌<◌, ◌≤◌, [], length, IfOk};
 ghost use Rattle.outside.specs.Calls.{IsInSome, opened};
 ghost use Rattle.outside.specs.Disk.{piece_size, IsImage, IsPiece, SameBut};
@@ -16,13 +16,12 @@ use std::marker::Model;
 use std::sync::ledger::Ledger;
 use taxi_units::{NoMemory, Steps};
 
-/// A store of `N` bytes in memory and a printer, which tell what they hold, and of whose calls chosen
-/// ones fail. A call that finds no memory fails and raises `refused` by one; it isn't kept, takes no
-/// number and changes nothing else. The other calls are kept and numbered from 1, and exactly those with
-/// chosen numbers fail. A write among these leaves the image as it was, and its range in flight; a print
-/// among them prints nothing. The count of faults is `refused` and the number of the calls that
-/// failed by their numbers, together, which stands still at the last value of a `u64`, as `refused` itself does.
-/// All of it is this project's own.
+/// A store of `N` bytes in memory and a printer, which tell what they hold, and of which chosen calls fail. A call that
+/// finds no memory fails, raises `refused` by one and changes nothing else: it isn't kept and takes no number. All
+/// other calls are kept and numbered from 1, and exactly those with chosen numbers fail. A write that fails by its
+/// number leaves the image as it was, and its range in flight; such a print prints nothing. The count of faults is
+/// `refused` and the number of calls that failed by their numbers, together. It stops at the last value of a `u64`, as
+/// `refused` does. All of it is this project's own.
 #[derive(Drop)]
 pub struct MemoryDevice<const N: usize> {
     state: MemoryState<N>,
@@ -42,8 +41,8 @@ impl<const N: usize> Model for MemoryDevice<N> {
 }
 
 impl<const N: usize> MemoryDevice<N> {
-    /// A device at moment 0, whose store holds these bytes, with nothing in flight, nothing printed and
-    /// no faults. The calls with the numbers in `fail` will fail. `NoMemory` comes only where there is no memory.
+    /// A device at moment 0, whose store holds these bytes, with nothing in flight, nothing printed and no faults. The
+    /// calls with the numbers in `fail` will fail. `NoMemory`: there is no memory.
     pub fn new(alloc: Global, image: &[u8; N], fail: &[u64]) -> Result<MemoryDevice<N>, NoMemory>
         requires { N ≤ 2 ^ 32 }
         ensures state { IfOk result (λ d. d.state ≡ new_board image.now fail.now) }
@@ -53,7 +52,7 @@ impl<const N: usize> MemoryDevice<N> {
         Ok(MemoryDevice { state })
     }
 
-    /// How many calls were kept, those that failed by their numbers among them.
+    /// How many calls were kept, those that failed by their numbers too.
     pub fn calls(&self) -> u64
         ensures { result ≡ length self.now.state.calls }
     {
@@ -74,17 +73,16 @@ impl<const N: usize> MemoryDevice<N> {
         self.state.image()
     }
 
-    /// How many calls failed for want of memory.
+    /// How many calls found no memory.
     pub fn refused(&self) -> u64
         ensures { result ≡ self.now.state.refused }
     {
         self.state.refused()
     }
 
-    /// An image that a cut inside the call with this number may leave, 0 being before the first. What
-    /// was in flight before the call is still so, inside a sync too, and so is the range that the call
-    /// itself writes. The bytes in flight become what `fill` says. All others are those that a read
-    /// gave before the call.
+    /// An image that a cut inside the call with this number may leave; 0 is before the first. What was in flight before
+    /// the call still is, inside a sync too, and so is the range that the call itself writes. `fill` says what the
+    /// bytes in flight become; all others are those that a read gave before the call.
     pub fn cut(&self, call: u64, fill: Fill) -> [u8; N]
         requires { call ≤ length self.now.state.calls }
         ensures left { left_since_of self.now.state 0 result (contents_inside self.now.state call).text }
@@ -102,8 +100,8 @@ impl<const N: usize> MemoryDevice<N> {
         left
     }
 
-    /// Puts into `left` the image that `cut` answers, for a store too large for the stack. `image` and
-    /// `settled` are room of the store's size.
+    /// Puts into `left` the image that `cut` gives, for a store too large for the stack. `image` and `settled` are room
+    /// of the store's size.
     pub fn cut_into(
         &self,
         call: u64,

@@ -12,10 +12,9 @@ use std::alloc::Global;
 use std::sync::ledger::Ledger;
 use taxi_units::Steps;
 
-/// A program that carries out runs, on files and boards in memory. What one of its calls may leave is known to the
-/// program alone. So code that is given any program knows that a call has left a board only where it made that
-/// call, with these files and this board: it can't make the board up, and can't make calls of it beside those of
-/// the program.
+/// A program that carries out runs, on files and boards in memory. The program alone knows what one of its calls may
+/// leave. So code that is given any program knows that a call has left a board only if it made that call, with these
+/// files and this board. It can't make the board up, and can't make other calls of it than those of the program.
 pub trait Program<L: Ledger> {
     ghost use Rattle.outside.specs.MemoryBoard.{BoardState};
     ghost use Rattle.outside.specs.MemoryFiles.{FilesState};

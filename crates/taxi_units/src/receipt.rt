@@ -36,9 +36,9 @@ pub struct Display {
     pub decimals: u8,
 }
 
-/// What a receipt says. `number` is the store's number after the entry, `hired_mm` the distance of
-/// the trip in millimetres, `steps` the number of display steps of `step` each, above `initial`, and
-/// `minimum` what the fare is at least.
+/// What a receipt says. `number` is the store's number after the entry, and `hired_mm` the distance of
+/// the trip in millimetres. `steps` display steps of `step` each are added to `initial`, and the fare is
+/// at least `minimum`.
 #[derive(Clone, Copy, PartialEq, Eq)]
 pub struct Receipt {
     pub number: u64,

@@ -31,7 +31,7 @@ fn must_go_on(alloc: Global, board: &MemoryBoard, number: u64, fills: &[Fill]) -
     Ok(())
 }
 
-/// Fails unless the run breaks off where this call of the board fails, and another run goes on over what it leaves.
+/// Fails unless the run breaks off at this failing call of the board, and another run goes on over what it leaves.
 fn must_outlast(
     alloc: Global,
     image: &[u8; 2048],

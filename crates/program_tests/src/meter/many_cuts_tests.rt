@@ -170,7 +170,7 @@ fn sums_of(durable: &Durable) -> Sums {
     }
 }
 
-/// Whether a run ended as it should where a call of the board fails or not: with a beginning of what the whole one
+/// Whether a run ended as it should, if a call of the board fails or not: with a beginning of what the whole one
 /// prints.
 fn is_begun(run: &Ended, whole: &[u8], fails: bool) -> bool {
     (run.1 == 8) == fails && whole.starts_with(run.0.printed())
@@ -264,8 +264,8 @@ fn broken_off(
     must_add_up(alloc, drive, whole.printed(), &found, sums)
 }
 
-/// Each receipt that was printed has its entry among those that are found after a cut, and the totals are those of
-/// the receipts of the runs so far, added up plainly, as far as the number says.
+/// Each receipt that was printed has its entry among those that are found after a cut. The totals are those of the
+/// receipts of the runs so far, as many as the number says, added up plainly.
 #[test]
 fn a_hundred_cuts(rt: HostRuntime) -> Result<(), Fail> {
     let mut image = sealed(rt.alloc(), CITY, P)?;

@@ -17,7 +17,7 @@ pub(crate) struct Stores {
 }
 
 impl Stores {
-    /// Stores of zeros, as where there are none.
+    /// Stores of zeros, for a folder that has none.
     pub(crate) fn new(alloc: Global) -> Stores {
         Stores {
             alloc,

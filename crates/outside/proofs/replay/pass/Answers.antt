@@ -4,7 +4,7 @@ use Rattle.outside.specs.Replays.{AreLeftOf}
 use Rattle.outside.specs.Requests.{call_of}
 use Rattle.outside.proofs.replay.pass.Goals as goal
 
--- behind a good sync nothing is in flight
+-- after a good sync nothing is in flight
 synced : (held : Contents) (kept : CallOutcome) (image left : List ℕ) → kept.failed ≡ false → kept.call ≡ Sync
     → image ≡ held.image → left ≡ image → AreLeftOf (after held kept) image left
 synced held kept image left good call is same =
