@@ -6,10 +6,10 @@ mod panel;
 
 ghost use Rattle.std.specs.{Prelude.{◌≡◌, ◌+◌, ◌*◌, ◌<◌, ◌≤◌, ◌++◌, All, IfSome, OnOk, length}, Option.{ForSome}};
 ghost use Rattle.{outside.specs.Faults.{HasCause}, meter_run.specs.Texts.{shown_texts}};
-ghost use Rattle.meter_states.specs.{Lawful.{IsTimely}, Setting.{IsSettingOf}};
+ghost use Rattle.meter_states.specs.{Lawful.{IsTimely}, MadeOf.{AreMadeOf}, Setting.{IsSettingOf}};
 ghost use Rattle.meter_model.specs.{Run.{opened, run}, Setting.{Setting}};
 ghost use Rattle.totals_record.specs.States.{first_state};
-ghost use Rattle.pocket_meter.specs.{Lines as spec, Made.{AreMadeOf}};
+ghost use Rattle.pocket_meter.specs.Lines as spec;
 
 use crate::panel::Panel;
 use meter_model::Acts;
@@ -46,7 +46,7 @@ fn event_of(line: &[u8]) -> Option<Event>
 
 /// The tables of a tariff's text, and a seal with the parameters of the other text. The seal has no digest, which
 /// receipts alone print. `None` if one of the texts is refused or memory runs out.
-#[tactic(auto, using(crate::proofs::Making::writable_of))]
+#[tactic(auto, using(tariff_syntax::proofs::Laws::parsed_is_writable))]
 fn made_of(alloc: Global, tariff: &[u8], params: &[u8]) -> Option<(Tables, Seal)>
     ensures made { IfSome result (λ made. AreMadeOf tariff.now params.now made.0 made.1) }
     ensures constant { IfSome result (λ made. made.0.constant ≡ made.1.params.constant) }

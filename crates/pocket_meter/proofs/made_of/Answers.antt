@@ -3,7 +3,7 @@ use Rattle.tariff_check.specs.Faults.{IsSound}
 use Rattle.tariff_syntax.specs.Reads.{Reads}
 use Rattle.tariff_syntax.specs.Tree.{tree_of}
 use Rattle.tariff_syntax.specs.declared.tariff.Tariff.{Tariff}
-use Rattle.pocket_meter.proofs.Making.{made_by}
+use Rattle.meter_states.proofs.Laws.{made_by}
 use Rattle.pocket_meter.proofs.made_of.Goals as goal
 
 pub returns-clause-made : goal.returns-clause-made
