@@ -2,19 +2,16 @@
 //! an event of each line of standard input, and prints what the display shows. docs/use/EMBEDDING.md leads through it.
 #![tactic(auto)]
 
-mod panel;
-
-ghost use Rattle.std.specs.{Prelude.{◌≡◌, ◌+◌, ◌*◌, ◌<◌, ◌≤◌, ◌++◌, All, IfSome, OnOk, length}, Option.{ForSome}};
-ghost use Rattle.{outside.specs.Faults.{HasCause}, meter_run.specs.Texts.{shown_texts}};
+ghost use Rattle.std.specs.{Prelude.{◌≡◌, ◌+◌, ◌*◌, ◌<◌, ◌≤◌, ◌++◌, [], All, IfSome, OnOk, length}, Option.{ForSome}};
+ghost use Rattle.{meter_run.specs.Texts.{shown_texts}, meter_model.specs.{Run.{opened, run}, Setting.{Setting}}};
 ghost use Rattle.meter_states.specs.{Lawful.{IsTimely}, MadeOf.{AreMadeOf}, Setting.{IsSettingOf}};
-ghost use Rattle.meter_model.specs.{Run.{opened, run}, Setting.{Setting}};
-ghost use Rattle.totals_record.specs.States.{first_state};
+ghost use Rattle.{outside.specs.Faults.{HasCause}, totals_record.specs.States.{first_state}};
 ghost use Rattle.pocket_meter.specs.Lines as spec;
 
-use crate::panel::Panel;
+use arrayvec::ArrayVec;
 use meter_model::Acts;
 use meter_run::DryMeter;
-use outside::{Failed, program_words};
+use outside::{Board, Failed, STORE_SIZE, program_words};
 use seal_record::{Seal, read_params};
 use std::alloc::Global;
 use std::io::Write;
@@ -27,7 +24,63 @@ use tariff_compile::{Tables, compile};
 use tariff_syntax::parse;
 use taxi_units::{Event, FIRST_SECOND, Key, LAST_SECOND, Steps, is_word, number_in, word};
 
-/// The event that a line says, or `None`: `up SECOND`, `down`, `pulses COUNT`, `tick`, or a key: `hire`, `stop`, `clear`.
+/// The board, without a store: what the display showed, in room for 4,096 bytes, and how often a call failed.
+#[derive(Drop, Default)]
+struct Panel {
+    text: ArrayVec<u8, 4096>,
+    faults: u64,
+}
+
+impl<L: Ledger> Board<STORE_SIZE, L> for Panel {
+    ghost tells_image = { ⊥ };
+
+    ghost tells_text = { Unit {0} };
+
+    ghost image = { λ _. [] };
+
+    ghost in_flight = { λ _ _. ⊥ };
+
+    ghost printed = { λ p. p.text.items };
+
+    ghost moment = { λ _. 0 };
+
+    ghost left_since = { λ _ _ _ _. ⊥ };
+
+    ghost faults = { λ p. p.faults };
+
+    ghost store = { λ _ told. absurd told };
+
+    ghost counts_now = { λ _ _ _ _ told _ _ _. absurd told };
+
+    ghost only_now = { λ _ _ _ left. absurd left };
+
+    fn read(&mut self, _at: u32, _buf: &mut [u8], steps: &mut Steps<L>) -> Result<(), Failed> {
+        steps.spend();
+        self.faults = self.faults.saturating_add(1);
+        Err(Failed)
+    }
+
+    fn write_at(&mut self, _at: u32, _bytes: &[u8], steps: &mut Steps<L>) -> Result<(), Failed> {
+        steps.spend();
+        self.faults = self.faults.saturating_add(1);
+        Err(Failed)
+    }
+
+    fn sync(&mut self, steps: &mut Steps<L>) -> Result<(), Failed> {
+        steps.spend();
+        Ok(())
+    }
+
+    #[tactic(auto, using(outside::proofs::Laws::begins_whole, outside::proofs::Laws::begins_not))]
+    fn print(&mut self, bytes: &[u8], steps: &mut Steps<L>) -> Result<(), Failed> {
+        steps.spend();
+        let printed = self.text.try_extend_from_slice(bytes);
+        self.faults = self.faults.saturating_add(printed.is_err() as u64);
+        printed.or(Err(Failed))
+    }
+}
+
+/// The event of a line, or `None`: `up SECOND`, `down`, `pulses COUNT`, `tick`, or a key: `hire`, `stop`, `clear`.
 #[tactic(auto, unfolding(crate::specs::Lines::event_said))]
 fn event_of(line: &[u8]) -> Option<Event>
     ensures said { result ≡ spec.event_said line.now }
@@ -42,6 +95,18 @@ fn event_of(line: &[u8]) -> Option<Event>
         Some(count) => Some(Event::Pulses(number_in(count, 1, 65535)? as u32)),
         None => Some(Event::Up(number_in(word(line, b"up ")?, FIRST_SECOND, LAST_SECOND)?)),
     }
+}
+
+/// The events of all lines of standard input. `None` if one isn't read, or says none.
+fn read_events(rt: &HostRuntime) -> Option<Vec<Event>>
+    ensures timely { ForSome result (λ events. All IsTimely events.items) }
+{
+    let mut events = Vec::new(rt.alloc());
+    for line in rt.lines(rt.alloc()) {
+        let event = event_of(line.ok()?.as_bytes())?;
+        events.push(event).ok()?;
+    }
+    Some(events)
 }
 
 /// The tables of a tariff's text, and a seal with the parameters of the other text. The seal has no digest, which
@@ -87,9 +152,7 @@ fn carry_all<L: Ledger>(
 
 /// Carries out the program under its one counter of steps. An `Err` has the status.
 fn carry<L: Ledger>(rt: HostRuntime, blank: Blank) -> Result<(), u8>
-    requires name { blank.name ≡ L.name }
-    requires parts { blank.parts ≡ L.parts }
-    requires some { 0 < blank.parts }
+    requires opens { (blank.name ≡ L.name) × (blank.parts ≡ L.parts) × (0 < blank.parts) }
 {
     let words = program_words(&rt).or(Err(1))?;
     let [tariff, params] = words.as_slice() else {
@@ -98,11 +161,7 @@ fn carry<L: Ledger>(rt: HostRuntime, blank: Blank) -> Result<(), u8>
     let tariff = fs::read_to_string(&rt, tariff.as_str()).or(Err(1))?;
     let params = fs::read_to_string(&rt, params.as_str()).or(Err(1))?;
     let made = made_of(rt.alloc(), tariff.as_bytes(), params.as_bytes()).ok_or(2)?;
-    let mut events = Vec::new(rt.alloc());
-    for line in rt.lines(rt.alloc()) {
-        let event = event_of(line.or(Err(3))?.as_bytes()).ok_or(3)?;
-        events.push(event).or(Err(3))?;
-    }
+    let events = read_events(&rt).ok_or(3)?;
     let mut panel = Panel::default();
     let mut steps: Steps<L> = Steps::open(blank);
     carry_all(&made, events.as_slice(), &mut panel, &mut steps).or(Err(8))?;

@@ -1,4 +1,4 @@
-use Rattle.std.proofs.Common.{ap, sym, ◌∙◌, ◌++◌, List, arith, refl}
+use Rattle.std.proofs.Common.{ap, sym, ◌∙◌, ◌++◌, List, arith, refl, subst}
 use Rattle.std.proofs.lemmas.List.{append-nil, take_all}
 use Rattle.taxi_units.specs.declared.event.Event.{Event}
 use Rattle.meter_model.specs.Run.{opened, run}
