@@ -1,15 +1,12 @@
 -- Rules: what a call from C shows, and why it shows nothing.
-use Rattle.std.specs.Prelude.{◌≡◌, ◌≢◌, ◌⊎◌, ℕ, ◌<◌, ◌≤◌, List, [], ◌∷◌, Ok, Some, length, Contains}
+use Rattle.std.specs.Prelude.{◌≡◌, ◌≢◌, ◌⊎◌, ℕ, ◌<◌, List, [], ◌∷◌, Ok, Some, length, Contains}
 use Rattle.drive_text.specs.Ending.{Whole, drive_end}
 use Rattle.meter_run.specs.Texts.{drive_shown}
 use Rattle.meter_model.specs.Setting.{setting_by}
-use Rattle.meter_states.specs.Setting.{IsSettingOf}
 use Rattle.seal_record.specs.Reading.{params_read}
 use Rattle.seal_record.specs.declared.params.Params.{Params}
-use Rattle.seal_record.specs.declared.seal.Seal.{Seal}
 use Rattle.tariff_check.specs.Faults.{IsSound, fault_of}
 use Rattle.tariff_check.specs.declared.fault.CheckFault.{CheckFault}
-use Rattle.tariff_compile.specs.Tables.{TableParts}
 use Rattle.tariff_syntax.specs.Reads.{IsFirstBadLine, Reads}
 use Rattle.tariff_syntax.specs.Tree.{Tree}
 use Rattle.c_meter.specs.declared.making.Stop.{Stop}
@@ -37,15 +34,6 @@ HasNoTariff text =
 -- a drive isn't whole if it ends with a bad line or too many bytes
 abbrev pub IsNotWhole : (drive : List ℕ) → Type 0
 IsNotWhole drive = drive_end drive ≢ Whole
-
--- tables and a seal are made of two texts if the first reads as a sound tariff and the second as parameters, and they
--- are those of the setting of both
-pub record AreMadeOf (tariff params : List ℕ) (tables : TableParts) (seal : Seal) : Type 0 where
-  pub tree : Tree
-  pub reads : Reads tariff tree
-  pub sound : IsSound tree
-  pub secured : params_read params ≡ Ok seal.params
-  pub setting : IsSettingOf (setting_by tree seal.params) tables seal
 
 -- lines are what a meter shows of a drive if the first text reads as a sound tariff, the second as parameters, the
 -- drive is whole, and the lines are the displays and refusals of its events under both

@@ -4,7 +4,8 @@ ghost use Rattle.seal_record.specs.Reading.{params_read};
 ghost use Rattle.tariff_check.specs.Faults.{IsSound};
 ghost use Rattle.tariff_syntax.specs.Reads.{Reads};
 ghost use Rattle.tariff_syntax.specs.Tree.{tree_of};
-ghost use Rattle.c_meter.specs.Shown.{AreMadeOf, HasNoTariff, status_of};
+ghost use Rattle.meter_states.specs.MadeOf.{AreMadeOf};
+ghost use Rattle.c_meter.specs.Shown.{HasNoTariff, status_of};
 
 use seal_record::{Seal, read_params};
 use std::alloc::Global;
@@ -43,7 +44,7 @@ impl Stop {
 }
 
 /// The sound tariff of a text.
-#[tactic(auto, using(crate::proofs::TariffTexts::writable_of))]
+#[tactic(auto, using(tariff_syntax::proofs::Laws::parsed_is_writable))]
 fn sound_tariff(alloc: Global, text: &[u8]) -> Result<Checked, Stop>
     ensures read { IfOk result (λ c. Reads text.now (tree_of c) × IsSound (tree_of c)) }
     ensures no_tariff { result ≡ Err Stop.NoTariff → HasNoTariff text.now }

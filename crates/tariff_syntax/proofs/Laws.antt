@@ -10,10 +10,11 @@ use Rattle.tariff_syntax.specs.Meaning.{rate_place}
 use Rattle.tariff_syntax.specs.Parentheses.{NeedsParentheses}
 use Rattle.tariff_syntax.specs.Parsed.{tree_parsed}
 use Rattle.tariff_syntax.specs.Printed.{printed}
-use Rattle.tariff_syntax.specs.Reads.{Reads, IsFirstBadLine, RiseInNumber}
+use Rattle.tariff_syntax.specs.Reads.{Reads, IsFirstBadLine, IsParsed, RiseInNumber}
 use Rattle.tariff_syntax.specs.Renumbered.{renumbered}
 use Rattle.tariff_syntax.specs.TextLines.{AreLines, lines_of}
-use Rattle.tariff_syntax.specs.Tree.{Tree}
+use Rattle.tariff_syntax.specs.Tree.{Tree, tree_of}
+use Rattle.tariff_syntax.specs.declared.tariff.Tariff.{Tariff}
 use Rattle.tariff_syntax.specs.Writable.{IsWritable}
 use Rattle.tariff_syntax.specs.declared.context.Context.{Context}
 use Rattle.tariff_syntax.proofs.BadLines.{first_named, formless_are_named, named_are_formless, named_in_order}
@@ -71,6 +72,10 @@ printed_forms_read_back = printed_reads_back
 
 pub texts_have_their_numbers : (text : List ℕ) (t : Tree) → Reads text t → IsWritable t
 texts_have_their_numbers = numbers_of_text
+
+-- the numbers of a tariff that was read are such as a text can have
+pub parsed_is_writable : (text : List ℕ) (t : Tariff) → IsParsed text (Ok t) → IsWritable (tree_of t)
+parsed_is_writable text t h = numbers_of_text text (tree_of t) h.1
 
 pub texts_are_cut_at_their_line_feeds : (text : List ℕ) (lines : List (List ℕ)) → AreLines text lines
     ↔ (lines_of text ≡ lines)

@@ -6,16 +6,9 @@ use Rattle.seal_record.specs.Reading.{params_read}
 use Rattle.seal_record.specs.declared.seal.Seal.{Seal}
 use Rattle.tariff_check.specs.Faults.{IsSound}
 use Rattle.tariff_compile.specs.Tables.{IsTablesOf, TableParts, tables_of}
-use Rattle.tariff_syntax.specs.Reads.{IsParsed, Reads}
-use Rattle.tariff_syntax.specs.Tree.{Tree, tree_of}
-use Rattle.tariff_syntax.specs.Writable.{IsWritable}
-use Rattle.tariff_syntax.specs.declared.tariff.Tariff.{Tariff}
-use Rattle.tariff_syntax.proofs.Laws.{texts_have_their_numbers}
-use Rattle.pocket_meter.specs.Made.{AreMadeOf}
-
--- the numbers of a tariff that was read are such as a text can have
-pub writable_of : (text : List ℕ) (t : Tariff) → IsParsed text (Ok t) → IsWritable (tree_of t)
-writable_of text t h = texts_have_their_numbers text (tree_of t) h.1
+use Rattle.tariff_syntax.specs.Reads.{Reads}
+use Rattle.tariff_syntax.specs.Tree.{Tree}
+use Rattle.meter_states.specs.MadeOf.{AreMadeOf}
 
 -- tables that are compiled of a tree under the constant of a seal are those of the setting of both
 pub setting_of : (t : Tree) (tables : TableParts) (seal : Seal) → IsTablesOf t tables
@@ -26,6 +19,7 @@ setting_of t tables seal compiled is = record {
   secured = record { constant = refl; mode = refl; hold_time = refl; offsets = refl };
 }
 
+-- what was read, checked and compiled of two texts is made of them
 pub made_by : (tariff params : List ℕ) (t : Tree) (tables : TableParts) (seal : Seal) → Reads tariff t → IsSound t
     → params_read params ≡ Ok seal.params → IsTablesOf t tables → tables ≡ tables_of t seal.params.constant
     → AreMadeOf tariff params tables seal
