@@ -213,8 +213,8 @@ end_is_no_fault P same = absurd cc
 pub read_is_no_fault : (P : Type 0) → ◌≡◌ {A = Result (Unit {0}) PortFault} (Err ReadFault) (Err BoardFault) → P
 read_is_no_fault P same = absurd (let bad : ReadFault ≡ BoardFault = cc in cc)
 
-module _ (told : Type 0) (durable : Durable) (seal : Seal) (first now : Standing) (piece rest before printed : List ℕ)
-    (opening steps : ℕ)
+module _ {told : Type 0} {durable : Durable} {seal : Seal} {first now : Standing} {piece rest before printed : List ℕ}
+    {opening steps : ℕ}
     (f : PieceSoFar told durable seal first now piece rest before printed opening steps) where
   pub piece_sense : HasSense first → HasSense now
   piece_sense sense = (
@@ -333,8 +333,8 @@ pub record ServedSoFar (known told : Type 0) (durable : Durable) (seal : Seal) (
   pub shown : told → printed ≡ before ++ replies durable seal (requests_in taken)
   pub bounded : steps ≤ opening + length (requests_in taken)
 
-module _ (known told : Type 0) (durable : Durable) (seal : Seal) (port : Standing) (stream rest before printed : List ℕ)
-    (left opening steps : ℕ)
+module _ {known told : Type 0} {durable : Durable} {seal : Seal} {port : Standing} {stream rest before printed : List ℕ}
+    {left opening steps : ℕ}
     (f : ServedSoFar known told durable seal port stream rest before printed left opening steps) where
   good : first_bad f.taken ≡ None
   good = going_port port f.taken f.stands f.going
