@@ -1,8 +1,9 @@
 //! Why cuts are enough: contexts between the same cuts mean the same.
-ghost use Rattle.std.specs.Prelude.{◌≡◌, ℕ, ◌*◌, ◌<◌, ◌≤◌, ◌↔◌, ℤ, List, Some, Contains, length, slice_index};
+ghost use Rattle.std.specs.Prelude.{◌≡◌, ℕ, ◌+◌, ◌*◌, ◌<◌, ◌≤◌, ◌↔◌, ℤ, List, Some, Contains, length, slice_index};
 ghost use Rattle.interval_clock.specs.Calendar.{IsDateOf};
 ghost use Rattle.tariff_calendar.specs.Lists.{AreOrdered, IsNotFalling, count_at_most, has_day, has_days, is_holiday, lists_of, pulses_for};
 ghost use Rattle.tariff_calendar.specs.Range.{IsInRangeOf, IsSameCell};
+ghost use Rattle.tariff_check.specs.Cuts.{with_each};
 ghost use Rattle.tariff_check.specs.Faults.{IsSound};
 ghost use Rattle.tariff_check.specs.Kinds.{part_of};
 ghost use Rattle.tariff_check.specs.Parts.{has_holidays};
@@ -42,11 +43,12 @@ pub fn counts_are_places()
 {}
 
 /// The law of lists: the numbers of a sound tariff's lists don't fall, and no list is longer than a look-up
-/// by halving reaches. No distance and no time is cut at the hiring.
+/// by halving reaches. No distance and no time is cut at the hiring. No more numbers are in a list than were put in.
 pub fn lists_are_ordered()
     ensures hiring { (t : Tree) (k : ℕ) → IsWritable t → IsSound t → 0 < k
         → (count_at_most 0 (lists_of t k).distances ≡ 0) × (count_at_most 0 (lists_of t k).times ≡ 0) }
     ensures ordered { (t : Tree) (k : ℕ) → IsWritable t → IsSound t → AreOrdered (lists_of t k) }
+    ensures few { (xs ns : List ℕ) → length (with_each xs ns) ≤ length xs + length ns }
 {}
 
 /// The law of holidays: the day numbers of a sound tariff's holidays are those of the dates in its holiday lines. There

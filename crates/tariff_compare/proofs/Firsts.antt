@@ -13,9 +13,8 @@ use Rattle.tariff_compare.specs.declared.question.Question.{Question}
 use Rattle.tariff_compare.proofs.Bridge.{met_is}
 use Rattle.tariff_compare.proofs.Carried.{StandsFor, met_carried}
 use Rattle.tariff_compare.proofs.Covers.{IsCover, cover}
-use Rattle.tariff_compare.proofs.Found.{IsOfGrid, grid_first}
+use Rattle.tariff_compare.proofs.Found.{IsFirstOf, IsOfGrid, grid_first}
 use Rattle.tariff_compare.proofs.GridIs.{is_ordered, of_grid}
-use Rattle.tariff_compare.proofs.Levels.{IsFirstOf}
 use Rattle.tariff_compare.proofs.Order.{le_before}
 
 -- two tariffs that are compared

@@ -1,5 +1,5 @@
 -- For proofs: the contexts that are looked at, at least one of each common cell of two tariffs.
-use Rattle.std.specs.Prelude.{◌≡◌, ℕ, zero, suc, ◌+◌, ◌-◌, ◌<◌, ◌≤◌, Bool, true, false, not, ◌&&◌, ◌||◌, ◌==◌, if◌then◌else◌, nat_le, nat_lt, List, [], ◌∷◌, ◌++◌, All, filter, pos}
+use Rattle.std.specs.Prelude.{◌≡◌, ℕ, zero, suc, ◌+◌, ◌-◌, ◌<◌, ◌≤◌, Bool, true, false, not, ◌&&◌, ◌||◌, ◌==◌, if◌then◌else◌, nat_le, nat_lt, List, [], ◌∷◌, ◌++◌, length, All, filter, pos}
 use Rattle.std.specs.List.{list_any, range_with_len}
 use Rattle.interval_clock.specs.Calendar.{date_after, date_place, weekday_of}
 use Rattle.tariff_calendar.specs.Lists.{count_at_most}
@@ -118,10 +118,18 @@ pub record HasDate (day : Day) (number : ℕ) : Type 0 where
   pub weekday : day.weekday ≡ weekday_of (pos number)
   pub month_day : day.month_day ≡ date_place (date_after number).month (date_after number).date
 
--- a grid is one of two tariffs' tables if each of its numbers is one that a meter under both can have, and there are
--- positions and zones
+-- the lists of a grid are so short that its contexts can be counted
+pub record AreShort (grid : GridLists) : Type 0 where
+  pub positions : length grid.positions ≤ 9
+  pub zones : length grid.zones ≤ 9
+  pub days : length grid.days ≤ day_count
+  pub minutes : length grid.minutes ≤ 128
+  pub ticks : length grid.ticks ≤ 31
+  pub pulses : length grid.pulses ≤ 31
+
+-- a grid is one of two tariffs' tables if each of its numbers is one that a meter under both can have, and it is short
 pub record IsGridOf (one other : TableParts) (grid : GridLists) : Type 0 where
-  pub zone : IsFromTo 1 one.zones 1 × IsFromTo 1 other.zones 1
+  pub short : AreShort grid
   pub positions : All (λ n. IsFromTo 1 one.positions n × IsFromTo 1 other.positions n) grid.positions
   pub zones : All (λ n. IsFromTo 1 one.zones n × IsFromTo 1 other.zones n) grid.zones
   pub days : All (IsDayIn one other) grid.days
@@ -142,7 +150,3 @@ pub record CanBeAsked (tables : TableParts) (m : MeterContext) : Type 0 where
 pub record CanAskBoth (tables others : TableParts) (m : MeterContext) : Type 0 where
   pub one : CanBeAsked tables m
   pub other : CanBeAsked others m
-
--- a day of a grid is the one with a number
-pub record IsDayOf (one other : TableParts) (day : Day) (number : ℕ) : Type 0 where
-  pub is : day ≡ day_in one other number

@@ -12,13 +12,13 @@ pub struct Lasting {
 
 /// The number of a cell in each dimension, from 0; or how many numbers each dimension has.
 #[derive(Clone, Copy)]
-pub(crate) struct Bands {
-    pub(crate) position: usize,
-    pub(crate) zone: usize,
-    pub(crate) weekday: usize,
-    pub(crate) holiday: usize,
-    pub(crate) month_day: usize,
-    pub(crate) minute: usize,
-    pub(crate) distance: usize,
-    pub(crate) time: usize,
+pub struct Bands {
+    pub position: usize,
+    pub zone: usize,
+    pub weekday: usize,
+    pub holiday: usize,
+    pub month_day: usize,
+    pub minute: usize,
+    pub distance: usize,
+    pub time: usize,
 }
