@@ -10,7 +10,7 @@ use arrayvec::ArrayVec;
 use std::marker::Model;
 
 /// A place in a stream, from 0 on: the first whose byte no stream of requests has there.
-#[derive(Clone, Copy, PartialEq, Eq)]
+#[derive(Clone, Copy)]
 pub struct BadFrame {
     pub place: u64,
 }

@@ -24,7 +24,7 @@ use taxi_units::{Line, STREAM_LIMIT, Steps};
 use totals_record::Durable;
 
 /// Why a stream of requests wasn't served to its end.
-#[derive(Clone, Copy, PartialEq, Eq)]
+#[derive(Clone, Copy)]
 pub enum PortFault {
     /// A read of the stream failed.
     ReadFault,

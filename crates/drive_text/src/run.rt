@@ -6,7 +6,7 @@ use taxi_units::Event;
 ///
 /// What the reader gives is in the ranges of a drive: seconds are 946,684,800 to 7,258,118,399, the pulses of `One` 1
 /// to 65,535 and those of `Many` 0 to 65,535, `count` is 1 to 36,000, and the numbers of keys are 0 to 99.
-#[derive(Clone, Copy, PartialEq, Eq)]
+#[derive(Clone, Copy)]
 pub enum Run {
     One(Event),
     Many { pulses: u32, count: u32 },

@@ -5,7 +5,7 @@ ghost use Rattle.log_commands.specs.Filed.{IsFiledBy};
 use crate::log_record::LogRecord;
 
 /// What is done with a receipt of a roll, beside a log.
-#[derive(Clone, Copy, PartialEq, Eq)]
+#[derive(Clone, Copy)]
 pub enum Filing {
     /// It ends the filing, since it is of another taxi than the log's newest record.
     OtherTaxi,

@@ -19,7 +19,7 @@ use taxi_units::STREAM_LIMIT;
 const WINDOW: usize = 8192;
 
 /// Why no more of a roll is read.
-#[derive(Clone, Copy, PartialEq, Eq)]
+#[derive(Clone, Copy)]
 pub enum RollEnd {
     /// The roll was read to its end.
     Whole,

@@ -13,9 +13,9 @@ ghost use Rattle.tariff_syntax.specs.Tree.{Tree, Line, when_part};
 ghost use Rattle.tariff_syntax.specs.Writable.{IsWritable};
 ghost use Rattle.tariff_syntax.specs.declared.context.Context.{Context};
 
-/// The law of cuts: in two contexts of one cell, each condition of a sound tariff holds alike, and so the
-/// same line of each kind holds first, there and at the hiring. A condition compares with the cuts of its
-/// tariff alone, and how many cuts are at most a value decides each such comparison.
+/// The law of cuts: in two contexts of one cell, each condition of a sound tariff holds alike. So the same line of each
+/// kind holds first, there and at the hiring. A condition compares with the cuts of its tariff alone, and how many cuts
+/// are at most a value decides each such comparison.
 pub fn cuts_decide_conditions()
     ensures condition { (t : Tree) (k : ℕ) (x y : Context) → IsWritable t → IsSound t → IsInRangeOf t k x
         → IsInRangeOf t k y → IsSameCell (lists_of t k) x y
@@ -31,8 +31,8 @@ pub fn cuts_are_the_fewest_pulses()
     ensures { (k decimetres pulses : ℕ) → (k * decimetres ≤ 10000 * pulses) ↔ (pulses_for k decimetres ≤ pulses) }
 {}
 
-/// The law of counts: no more numbers are at most a value than there are, and where they don't fall, those
-/// before the place of that number are at most it, and those from there on are greater.
+/// The law of counts: at most all numbers are at most a value. If they don't fall, those before the place of that count
+/// are at most the value, and those from there on are greater.
 pub fn counts_are_places()
     ensures few { (value : ℕ) (xs : List ℕ) → count_at_most value xs ≤ length xs }
     ensures before { (value : ℕ) (xs : List ℕ) (i : ℕ) → IsNotFalling xs → i < count_at_most value xs
@@ -49,8 +49,8 @@ pub fn lists_are_ordered()
     ensures ordered { (t : Tree) (k : ℕ) → IsWritable t → IsSound t → AreOrdered (lists_of t k) }
 {}
 
-/// The law of holidays: the day numbers of a sound tariff's holidays are those of the dates in its
-/// holiday lines, and there is one exactly where there is such a line.
+/// The law of holidays: the day numbers of a sound tariff's holidays are those of the dates in its holiday lines. There
+/// is one exactly if there is such a line.
 pub fn holidays_are_dates()
     ensures some { (t : Tree) (k : ℕ) → has_days (lists_of t k) ≡ has_holidays t.lines }
     ensures dates { (t : Tree) (k : ℕ) (day : ℤ) (year month date : ℕ) → IsWritable t → IsSound t

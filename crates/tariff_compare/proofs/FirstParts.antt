@@ -29,7 +29,7 @@ none_some h = cc
 
 -- ---- the first that passes a test
 
--- where a test fails what stands there is found, and else something behind it
+-- if a test fails, what stands there is found, and else something behind it
 by_test : (d e : Difference) (b : Bool) (rest : Option Difference) → (if not b then Some d else rest) ≡ Some e
     → ((b ≡ false) × (d ≡ e)) ⊎ ((b ≡ true) × (rest ≡ Some e))
 by_test d e true rest h = inr (refl, h)

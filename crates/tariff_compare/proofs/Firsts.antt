@@ -36,7 +36,7 @@ other_context t u k m are is = record {
   pulses = is.pulses;
 }
 
--- where the answer is yes, it is yes in the context of the grid that stands for it
+-- if the answer is yes, it is yes in the context of the grid that stands for it
 met_there : (t u : Tree) (k : ℕ) (question : Question) (n c : MeterContext) → AreCompared t u k → IsMeterContext t n
     → IsCover t u k n c → is_met t u k question n ≡ true → is_met_by (side_of t k) (side_of u k) question c ≡ true
 met_there t u k question n c are is cover h =

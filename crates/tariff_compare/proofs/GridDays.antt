@@ -57,7 +57,7 @@ kept_either d e [] (inr h) = absurd h
 kept_either d e (x ∷ ds) (inl h) = inl (inl h)
 kept_either d e (x ∷ ds) (inr h) = elim (kept_either d e ds h) [ inl l ↦ inl (inr l) | inr r ↦ inr r ]
 
--- where one more day is put behind, those there stay, and no other comes
+-- if one more day is put behind, those there stay, and no other comes
 with_kept : (d e : Day) (ds : List Day) (b : Bool) → IsOneOfDays d ds → IsOneOfDays d (if b then ds else ds ++ e ∷ [])
 with_kept d e ds true h = h
 with_kept d e ds false h = kept_left d ds (e ∷ []) h

@@ -216,7 +216,7 @@ none_or_reached v (x ∷ xs) =
       | inr some ↦ inr (reached_more v x xs some.0 some.1)
     ]
 
--- there is one where some number is at most the value
+-- there is one if some number is at most the value
 pub reached : (v first : ℕ) (xs : List ℕ) → IsIn first xs → first ≤ v → (w : ℕ) × IsReached v xs w
 reached v first xs there le =
     elim (none_or_reached v xs) [ inl none ↦ absurd (omega (arith, none first there)) | inr some ↦ some ]

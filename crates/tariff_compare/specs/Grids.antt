@@ -14,8 +14,8 @@ use Rattle.tariff_compare.specs.declared.meter_context.MeterContext.{MeterContex
 
 -- ---- days
 
--- what two tariffs ask of a day, by their tables: its weekday, its place in a leap year, and for each of the tables
--- whether it is a holiday and between which cuts it lies
+-- what two tariffs ask of a day, by their tables: its weekday, its place in a leap year, and for each of them whether
+-- it is a holiday and between which cuts it lies
 abbrev pub day_in : (one other : TableParts) → (number : ℕ) → Day
 day_in one other number =
     let date = date_after number in
@@ -34,7 +34,7 @@ day_in one other number =
 abbrev pub is_edge : (number : ℕ) → Bool
 is_edge number = (number == 10956) || (number == 84006)
 
--- two truth values are the same
+-- two truth values are the same if both are true, or neither is
 abbrev pub is_same : (one other : Bool) → Bool
 is_same true other = other
 is_same false other = not other
@@ -80,13 +80,14 @@ is_meter_time day minute =
 abbrev pub up_to : (most : ℕ) → List ℕ → List ℕ
 up_to most numbers = filter (λ n. nat_le n most) numbers
 
--- a list of the grid has some beginnings and the cuts of both tariffs, each once and in order, as far as a meter comes
+-- a list of the grid has some beginnings and the cuts of both tariffs, each once and in order, up to the most that a
+-- meter has
 abbrev pub listed : (most : ℕ) → (beginnings one other : List ℕ) → List ℕ
 listed most beginnings one other =
     with_each (with_each (with_each [] (up_to most beginnings)) (up_to most one)) (up_to most other)
 
--- a grid has positions, zones, days, minutes, ticks and pulses, of which each combination is looked at that is a time
--- of the meter
+-- a grid has positions, zones, days, minutes, ticks and pulses; each combination is looked at that is a time of the
+-- meter
 pub record GridLists : Type 0 where
   pub positions : List ℕ
   pub zones : List ℕ
@@ -137,7 +138,7 @@ pub record CanBeAsked (tables : TableParts) (m : MeterContext) : Type 0 where
   pub ticks : m.ticks ≤ last_tick
   pub pulses : m.pulses ≤ most_pulses
 
--- and in both tables
+-- a context of a grid can be looked up in both tables
 pub record CanAskBoth (tables others : TableParts) (m : MeterContext) : Type 0 where
   pub one : CanBeAsked tables m
   pub other : CanBeAsked others m

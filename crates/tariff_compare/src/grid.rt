@@ -38,11 +38,11 @@ impl Model for Grid {
     } };
 }
 
-/// The pulses beyond which none are looked at: no distance that a tariff can name is more pulses.
+/// The most pulses that are looked at: no distance that a tariff can name is more pulses.
 const MOST_PULSES: u64 = 20_000_000_000_000;
 
 impl Grid {
-    /// The grid of two tariffs with as many positions and zones.
+    /// The grid of two tariffs that have the same numbers of positions and zones.
     pub(crate) fn of(alloc: Global, one: &Tables, other: &Tables) -> Result<Grid, NoMemory>
         requires positions { one.now.positions ≡ other.now.positions }
         requires zones { one.now.zones ≡ other.now.zones }
@@ -55,7 +55,7 @@ impl Grid {
         }
     }
 
-    /// The same. On 1999-12-31 a meter begins at 10:00, so a band begins there too.
+    /// Makes the grid. On 1999-12-31 a meter begins at 10:00, so a band begins there too.
     fn make(alloc: Global, one: &Tables, other: &Tables) -> Result<Grid, NoMemory>
         ensures value { IfOk result (λ grid. grid ≡ grid_of one.now other.now) }
         ensures some { IfOk result (λ grid. 1 ≤ one.now.zones) }
@@ -175,7 +175,7 @@ fn together(
     Ok(numbers)
 }
 
-/// Puts those of some numbers that are at most another among others.
+/// Adds those of some numbers that are at most another.
 fn put_each(numbers: &mut BTreeSet<u64>, most: u64, more: &[u64]) -> Result<(), NoMemory>
     ensures { OnOk result (numbers.new.keys ≡ with_each numbers.old.keys (up_to most more.now)) }
 {

@@ -21,7 +21,7 @@ const FIRST: MeterContext = MeterContext {
     pulses: 0,
 };
 
-/// The first context of the grid of two sides that meets a question. `None` where none does.
+/// The first context of the grid of two sides that meets a question. `None` if none does.
 pub(crate) fn first_met(
     one: &Side,
     other: &Side,

@@ -2,7 +2,7 @@
 
 use drive_modes::Weights;
 
-/// What a rate weighs, and for how many further pulses and further ticks of a trip it holds at least.
+/// What a rate weighs, and for how many more pulses and more ticks of a trip it at least holds.
 #[derive(Clone, Copy)]
 pub struct Lasting {
     pub weights: Weights,

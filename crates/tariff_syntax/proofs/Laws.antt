@@ -1,10 +1,13 @@
 -- The laws of tariffs' texts, one for each clause of the public laws.
-use Rattle.std.proofs.Common.{◌≡◌, ◌↔◌, ℕ, List, Option}
+use Rattle.std.proofs.Common.{◌≡◌, ◌↔◌, ℕ, List, Option, Ok}
 use Rattle.tariff_syntax.specs.Choices.{choices, conditions_of, initial_part, minimum_part, rate_part}
 use Rattle.tariff_syntax.specs.Condition.{Condition}
 use Rattle.tariff_syntax.specs.Meaning.{IsFirstPlace, at_hiring, holds_if, initial_place, minimum_place, place_of}
 use Rattle.tariff_syntax.specs.Meaning.{rate_place}
-use Rattle.tariff_syntax.specs.Tree.{Tree}
+use Rattle.tariff_syntax.specs.Reads.{IsParsed}
+use Rattle.tariff_syntax.specs.Tree.{Tree, tree_of}
+use Rattle.tariff_syntax.specs.Writable.{IsWritable}
+use Rattle.tariff_syntax.specs.declared.tariff.Tariff.{Tariff}
 use Rattle.tariff_syntax.specs.declared.context.Context.{Context}
 pub use Rattle.tariff_syntax.proofs.BadLines.{named_are_formless as bad_lines_have_no_form-named}
 pub use Rattle.tariff_syntax.proofs.BadLines.{formless_are_named as bad_lines_have_no_form-each}
@@ -23,6 +26,10 @@ pub use Rattle.tariff_syntax.proofs.ReadsLaws.{first_bad_exactly as texts_are_pa
 pub use Rattle.tariff_syntax.proofs.ShownLines.{printed_reads_back as printed_forms_read_back}
 pub use Rattle.tariff_syntax.proofs.TextLaws.{lines_are as texts_are_cut_at_their_line_feeds}
 use Rattle.tariff_syntax.proofs.PlaceLaws.{first_place_is}
+
+-- the numbers of a tariff that was read are such as a text can have
+pub parsed_is_writable : (text : List ℕ) (t : Tariff) → IsParsed text (Ok t) → IsWritable (tree_of t)
+parsed_is_writable text t h = texts_have_their_numbers text (tree_of t) h.1
 
 pub first_lines_hold-conditions : (x : Context) (conditions : List (Option Condition)) (place : Option ℕ)
     → (place_of x conditions ≡ place) ↔ IsFirstPlace (holds_if x) conditions place
