@@ -177,9 +177,15 @@ def lemmas_that_failed(said):
 
 
 def failed_goals(said, texts, function):
-    """The goals of a function that failed, each with the field of its record: answers, and those that no search proved."""
+    """The goals of a function that failed, each with the field of its record: answers, and those that no search proved. A
+    cycle of functions has its answers together."""
     goals, answers, place = [], answers_of(texts, function), function.replace("::", "/")
+    module, _, name = place.rpartition("/")
     for line in said.split("\n"):
+        of_cycle = re.match(rf"(?:\./)?proofs/{re.escape(module)}/\+\S+/Answers.antt:\d+:\d+: error: "
+                            rf"`{re.escape(name)}-([^`\s]+)`: (.*)", line)
+        if of_cycle and not UNREAD.search(re.sub(r"`[^`]*`", "``", of_cycle[2])):
+            goals.append((of_cycle[1], "?"))
         at = re.match(rf"(?:\./)?proofs/{re.escape(place)}/Answers.antt:(\d+):(\d+): error: `([^`\s]+)`: (.*)", line)
         if at and not UNREAD.search(re.sub(r"`[^`]*`", "``", at[4])):
             first, lines = answers.get(at[3], (0, []))
