@@ -5,6 +5,7 @@ import re
 from typing import NamedTuple
 
 USE = re.compile(r"^([ \t]*)((?:(?:pub|ghost|unfoldable) )*use) (?=[^\s:;]*(?:\.\{|;$|$| as ))", re.M)
+COMMENT = re.compile(r"\s(?:--|//).*")
 COMMON = "specs/Common.antt"
 
 
@@ -17,13 +18,14 @@ class Import(NamedTuple):
 
 
 class Statement(NamedTuple):
-    """A `use` statement: where it stands in its text, with what it begins, and what it brings in."""
+    """A `use` statement: where it stands in its text, with what it begins, what it brings in, and whether it has a comment."""
 
     start: int
     end: int
     indent: str
     words: str
     imports: tuple
+    has_comment: bool
 
 
 def end_of(text, at):
@@ -62,10 +64,11 @@ def statements(text):
     found = []
     for use in USE.finditer(text):
         end = end_of(text, use.end())
-        path = text[use.end():end].split(" --")[0].strip().removesuffix(";")
+        whole = text[use.end():end]
+        path = COMMENT.sub("", whole).strip().removesuffix(";")
         module, _, alias = path.partition(" as ")
         imports = names_in(path) if ".{" in path else [Import(module.strip(), "", alias.strip())]
-        found.append(Statement(use.start(), end, use.group(1), use.group(2), tuple(imports)))
+        found.append(Statement(use.start(), end, use.group(1), use.group(2), tuple(imports), bool(COMMENT.search(whole))))
     return found
 
 
