@@ -6,7 +6,7 @@ use Rattle.call_ends.specs.declared.ending.Ended.TheVariants as ended
 use Rattle.call_ends.specs.declared.tariff.TextFault.TheVariants as texts
 use Rattle.tariff_commands.specs.Check.{check_command}
 use Rattle.call_ends.specs.Tariffs.{tariff_in}
-use Rattle.tariff_commands.proofs.Tabling.{refused-check}
+use Rattle.tariff_commands.proofs.TariffAnswers.{refused-check}
 use Rattle.tariff_commands.proofs.check.check_tariff.Goals as goal
 
 pub returns-in-Ok : goal.returns-in-Ok

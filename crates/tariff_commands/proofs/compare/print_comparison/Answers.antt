@@ -10,8 +10,8 @@ use Rattle.tariff_commands.specs.CompareSteps.{IsCompared, ended_uncompared}
 use Rattle.call_ends.specs.Ending.{EndsOnDevices}
 use Rattle.call_ends.specs.Pieces.{pieces_of}
 use Rattle.call_ends.proofs.Laws.{carries-kept, course-unprinted, no_fault, same_fault}
-use Rattle.tariff_commands.proofs.Comparing.{course-compared, course-cut, course-uncompared, not_board-uncompared}
-use Rattle.tariff_commands.proofs.Comparing.{not_fault-comparing, steps-compared, stops-comparing}
+use Rattle.tariff_commands.proofs.ComparedTariffs.{course-compared, course-cut, course-uncompared, not_board-uncompared}
+use Rattle.tariff_commands.proofs.ComparedTariffs.{not_fault-comparing, steps-compared, stops-comparing}
 use Rattle.tariff_commands.proofs.compare.print_comparison.Goals as goal
 
 -- a tariff wasn't read

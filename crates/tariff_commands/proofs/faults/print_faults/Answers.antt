@@ -11,9 +11,9 @@ use Rattle.call_ends.proofs.Laws.{carries-kept}
 use Rattle.call_ends.proofs.Laws.{cause_board, stops_by, unless_read}
 use Rattle.call_ends.proofs.Laws.{course-unprinted}
 use Rattle.call_ends.proofs.Laws.{board_not_read, ends_apart}
-use Rattle.tariff_commands.proofs.Finding.{course-faulty, course-faulty_begun, course-sound, course-unfound}
-use Rattle.tariff_commands.proofs.Finding.{not_board-find}
-use Rattle.tariff_commands.proofs.Finding.{read_fault-find, shown_refused}
+use Rattle.tariff_commands.proofs.FoundFaults.{course-faulty, course-faulty_begun, course-sound, course-unfound}
+use Rattle.tariff_commands.proofs.FoundFaults.{not_board-find}
+use Rattle.tariff_commands.proofs.FoundFaults.{read_fault-find, shown_refused}
 use Rattle.call_ends.proofs.Laws.{no_fault}
 use Rattle.tariff_commands.proofs.faults.print_faults.Goals as goal
 

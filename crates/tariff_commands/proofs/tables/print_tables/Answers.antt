@@ -8,7 +8,7 @@ use Rattle.call_ends.specs.declared.ending.Ended.TheVariants as ended
 use Rattle.call_ends.specs.declared.tariff.TextFault.TheVariants as texts
 use Rattle.tariff_commands.specs.Tables.{tables_command}
 use Rattle.call_ends.specs.Tariffs.{tariff_in}
-use Rattle.tariff_commands.proofs.Tabling.{course-rows, course-rows_begun, refused-tables}
+use Rattle.tariff_commands.proofs.TariffAnswers.{course-rows, course-rows_begun, refused-tables}
 use Rattle.tariff_commands.proofs.tables.print_tables.Goals as goal
 
 pub returns-in-Err : goal.returns-in-Err
