@@ -1,15 +1,10 @@
 -- A command whose tariff isn't accepted, or that finds no memory.
-use Rattle.std.proofs.Common.{◌≡◌, ◌∙◌, ℕ, List, [], refl, sym, ap, subst, inl}
-use Rattle.call_ends.specs.declared.ending.Ended.TheVariants as ended
-use Rattle.call_ends.specs.declared.tariff.Refusal.{Refusal}
-use Rattle.call_ends.specs.declared.tariff.TextFault.{TextFault}
-use Rattle.call_ends.specs.declared.tariff.TextFault.TheVariants as texts
+use Rattle.{std.proofs.Common.{[], ℕ, ◌∙◌, ◌≡◌, List, ap, inl, refl, subst, sym}, call_ends.specs.Tariffs.{bad_tariff}}
 use Rattle.call_ends.specs.Answer.{Answer}
-use Rattle.call_ends.specs.Course.{Command, Answered, ReadFailed, NoMemory}
-use Rattle.call_ends.specs.Ending.{EndsUnprinted, ended_for}
-use Rattle.call_ends.specs.Stream.{TakesBytes}
-use Rattle.call_ends.specs.Tariffs.{bad_tariff}
-use Rattle.call_ends.proofs.Streams.{not_bad}
+use Rattle.call_ends.{specs.{Common.{Refusal, TextFault}, Stream.{TakesBytes}}, proofs.Streams.{not_bad}}
+use Rattle.call_ends.specs.{Course.{Answered, Command, NoMemory, ReadFailed}, Ending.{EndsUnprinted, ended_for}}
+use Rattle.call_ends.specs.declared.ending.Ended.TheVariants as ended
+use Rattle.call_ends.specs.declared.tariff.TextFault.TheVariants as texts
 
 module _ (c : Command) (contents left : ℕ → List ℕ) (image : List ℕ) (read_failed : ℕ → Type 0)
     (untouched : TakesBytes c.drive contents left []) (may : c.may_lack contents image []) where

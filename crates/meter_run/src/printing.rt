@@ -1,11 +1,7 @@
 //! Prints displays, refusals and receipts.
-ghost use Rattle.std.specs.Prelude.{◌+◌, ◌<◌, ◌≤◌, length};
-ghost use Rattle.outside.specs.Disk.{piece_size};
-ghost use Rattle.receipt_text.specs.Receipts.{receipt_text};
-ghost use Rattle.receipt_text.specs.SealParts.{part_of_seal};
-ghost use Rattle.receipt_text.specs.Texts.{display_text, refusal_text};
-ghost use Rattle.seal_record.specs.Ranges.{IsSeal};
-ghost use Rattle.taxi_units.specs.Shown.{IsReceipt, IsShown};
+ghost use Rattle.{std.specs.Prelude.{◌+◌, ◌<◌, ◌≤◌, length}, taxi_units.specs.Shown.{IsReceipt}};
+ghost use Rattle.{outside.specs.Disk.{piece_size}, receipt_text.specs.Receipts.{receipt_text}};
+ghost use Rattle.meter_run.specs.Common.{IsSeal, IsShown, display_text, part_of_seal, refusal_text};
 ghost use Rattle.meter_run.specs.PrintedText.{PrintsText};
 
 use outside::{Board, Failed, STORE_SIZE};

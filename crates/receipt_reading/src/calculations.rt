@@ -1,6 +1,5 @@
 //! The line of a calculation, read back.
-ghost use Rattle.std.specs.Prelude.{◌+◌};
-ghost use Rattle.taxi_units.specs.Reading.{Gives};
+ghost use Rattle.{std.specs.Prelude.{◌+◌}, receipt_reading.specs.Common.{Gives}};
 ghost use Rattle.receipt_text.specs.Lines as spec;
 
 use crate::amounts::amount_behind;

@@ -1,6 +1,5 @@
 //! Digests, read back.
-ghost use Rattle.std.specs.Prelude.{◌≡◌, ◌+◌, ◌*◌, ◌<◌, length, IfSome};
-ghost use Rattle.taxi_units.specs.Reading.{Gives};
+ghost use Rattle.{std.specs.Prelude.{◌*◌, ◌+◌, ◌<◌, ◌≡◌, IfSome, length}, receipt_reading.specs.Common.{Gives}};
 ghost use Rattle.receipt_text.specs.Digests as spec;
 
 /// The value of a lower-case hexadecimal digit.

@@ -1,10 +1,7 @@
 //! What a pair of slots stands for.
-ghost use Rattle.std.specs.Prelude.{◌≡◌, ◌+◌, ◌≤◌, IfOk, OnOk, IsErr, IsErrOf};
-ghost use Rattle.outside.specs.Faults.{HasCause, RisesOnlyIf};
-ghost use Rattle.slot_store.specs.Scan.{found_at, IsAsFound, IsValidFinding};
-ghost use Rattle.slot_store.specs.Sizes.{last_pair};
-ghost use Rattle.slot_store.specs.Syncs.{ReadsOnly, SyncsFirst};
-ghost use Rattle.slot_store.specs.Verdicts.{content_of, verdict_on, AreOfSlots};
+ghost use Rattle.{std.specs.Prelude.{◌+◌, ◌≡◌, ◌≤◌, IfOk, IsErr, IsErrOf, OnOk}, outside.specs.Faults.{RisesOnlyIf}};
+ghost use Rattle.slot_store.specs.{Common.{HasCause}, Scan.{IsAsFound, IsValidFinding, found_at}, Sizes.{last_pair}};
+ghost use Rattle.slot_store.specs.{Syncs.{ReadsOnly, SyncsFirst}, Verdicts.{AreOfSlots, content_of, verdict_on}};
 
 use crate::found::SlotContent;
 use crate::pair::{OPEN, SLOT_SIZE};

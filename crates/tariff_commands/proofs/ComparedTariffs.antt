@@ -1,24 +1,15 @@
 -- Two tariffs, compared, or the one of them that wasn't read.
-use Rattle.std.proofs.Common.{◌≡◌, ◌≢◌, ◌∙◌, ℕ, ◌++◌, Bool, true, false, List, [], length, Ok, Err, refl, sym, ap, inl}
-use Rattle.std.proofs.Common.{inr, ⊎_elim, arith}
-use Rattle.outside.specs.Faults.{Rose}
-use Rattle.outside.specs.PrintedText.{Begins}
-use Rattle.outside.specs.declared.files.Files.{Ghosts as FileGhosts}
-use Rattle.tariff_commands.specs.declared.compare.CompareFault.{CompareFault}
-use Rattle.tariff_commands.specs.declared.compare.CompareFault.TheVariants as faults
-use Rattle.call_ends.specs.declared.ending.Ended.TheVariants as ended
-use Rattle.call_ends.specs.declared.tariff.Refusal.{Refusal}
-use Rattle.call_ends.specs.declared.tariff.TextFault.{TextFault}
-use Rattle.call_ends.specs.declared.tariff.TextFault.TheVariants as texts
-use Rattle.call_ends.specs.Answer.{Answer}
-use Rattle.call_ends.specs.Call.{MayTake, StopsReading}
+use Rattle.std.proofs.Common.{[], ℕ, ◌++◌, ◌∙◌, ◌≡◌, ◌≢◌, Bool, Err, List, Ok, ap, arith, false, inl, inr, length, refl}
+use Rattle.{std.proofs.Common.{sym, true, ⊎_elim}, outside.specs.declared.files.Files.{Ghosts as FileGhosts}}
+use Rattle.call_ends.specs.{Call.{MayTake, StopsReading}, Ending.{EndsUnprinted}, LastLine.{line_of, status_of}}
+use Rattle.{call_ends.specs.{Course.{ReadFailed}, Tariffs.{bad_other}}, tariff_commands.specs.Common.{tariff_in}}
+use Rattle.call_ends.proofs.Laws.{Here, course-bad_tariff, course-no_memory, course-part, course-whole, stops_at}
+use Rattle.tariff_commands.specs.Common.{Answer, Answered, Begins, CompareFault, HasTariff, Refusal, Rose, TextFault}
 use Rattle.tariff_commands.specs.Compare.{compare_answer, compare_command, comparing_status}
 use Rattle.tariff_commands.specs.CompareSteps.{IsCompared, IsNotCompared, ended_comparing, ended_uncompared}
-use Rattle.call_ends.specs.Course.{Answered, ReadFailed}
-use Rattle.call_ends.specs.Ending.{EndsUnprinted}
-use Rattle.call_ends.specs.LastLine.{line_of, status_of}
-use Rattle.call_ends.specs.Tariffs.{HasTariff, bad_other, tariff_in}
-use Rattle.call_ends.proofs.Laws.{stops_at, course-bad_tariff, course-no_memory, Here, course-part, course-whole}
+use Rattle.tariff_commands.specs.declared.compare.CompareFault.TheVariants as faults
+use Rattle.call_ends.specs.declared.ending.Ended.TheVariants as ended
+use Rattle.call_ends.specs.declared.tariff.TextFault.TheVariants as texts
 
 -- ---- nothing was compared
 

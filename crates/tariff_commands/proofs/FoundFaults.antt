@@ -1,43 +1,21 @@
 -- What the command `faults` found of a text is what it answers.
-use Rattle.std.proofs.Common.{◌≡◌, ◌≢◌, ℕ, ◌<◌, ◌≤◌, List, [], ◌∷◌, ◌++◌, ◌==◌, false, Some, None, Result, Ok, Err}
-use Rattle.std.proofs.Common.{length, map, refl, sym, ap, ◌∙◌, inl}
-use Rattle.std.specs.Prelude.{IfOk}
-use Rattle.std.specs.List.{slice_get}
-use Rattle.std.proofs.lemmas.Bool.{le-ltb, lt-ltb}
-use Rattle.std.proofs.lemmas.List.{append-nil}
-use Rattle.outside.specs.PrintedText.{Begins}
-use Rattle.tariff_syntax.specs.BadLines.{bad_lines}
-use Rattle.tariff_syntax.specs.Parsed.{tree_parsed}
-use Rattle.tariff_syntax.specs.Reads.{IsParsed}
-use Rattle.tariff_syntax.specs.Tree.{Tree, tree_of}
-use Rattle.tariff_syntax.specs.declared.parsing.ParseFault.TheVariants as faults
-use Rattle.tariff_syntax.specs.declared.tariff.Tariff.{Tariff}
-use Rattle.tariff_syntax.proofs.Laws.{texts_are_parsed_as_they_read-bad_line}
-use Rattle.tariff_syntax.proofs.Laws.{texts_are_parsed_as_they_read-tariff}
-use Rattle.tariff_check.specs.AllFaults.{all_faults}
-use Rattle.tariff_check.specs.Faults.{fault_of}
-use Rattle.tariff_check.specs.declared.fault.CheckFault.{CheckFault}
-use Rattle.tariff_check.proofs.Laws.{all_faults_begin_with_the_first-first}
-use Rattle.call_ends.specs.Answer.{Answer}
-use Rattle.call_ends.specs.Call.{MayTake}
-use Rattle.tariff_commands.specs.Check.{check_answer}
-use Rattle.call_ends.specs.Course.{Answered, ReadFailed}
-use Rattle.call_ends.specs.Ending.{EndsUnprinted}
+use Rattle.{std.specs.{List.{slice_get}, Prelude.{IfOk}}, tariff_syntax.specs.declared.tariff.Tariff.{Tariff}}
+use Rattle.std.proofs.Common.{[], ℕ, ◌++◌, ◌<◌, ◌==◌, ◌∙◌, ◌∷◌, ◌≡◌, ◌≢◌, ◌≤◌, Err, List, None, Ok, Result, Some, ap}
+use Rattle.std.proofs.{Common.{false, inl, length, map, refl, sym}, lemmas.{Bool.{le-ltb, lt-ltb}, List.{append-nil}}}
+use Rattle.tariff_syntax.specs.{BadLines.{bad_lines}, Parsed.{tree_parsed}, Reads.{IsParsed}}
+use Rattle.tariff_syntax.proofs.Laws.{texts_are_parsed_as_they_read-bad_line, texts_are_parsed_as_they_read-tariff}
+use Rattle.{tariff_check.proofs.Laws.{all_faults_begin_with_the_first-first}, call_ends.specs.Course.{ReadFailed}}
+use Rattle.{call_ends.specs.{Call.{MayTake}, Tariffs.{sound_in}}, tariff_commands.specs.FaultsSteps.{ended_for_find}}
+use Rattle.call_ends.{specs.Ending.{EndsUnprinted}, proofs.Laws.{Here, course-no_memory, course-part, course-whole}}
+use Rattle.tariff_commands.specs.{Check.{check_answer}, declared.faults.FindFault.{FindFault}}
+use Rattle.tariff_commands.specs.Common.{Answer, Answered, Begins, CheckFault, Found, Refusal, Syntax, TooLong, Tree}
+use Rattle.tariff_commands.specs.Common.{Unsound, all_faults, bad_tariff_line, fault_of, tariff_in, tree_of}
 use Rattle.tariff_commands.specs.Faults.{faults_answer, faults_command, faults_in, refusal_lines, refusals_in}
-use Rattle.tariff_commands.specs.Faults.{refusals_of}
+use Rattle.tariff_commands.specs.{Faults.{refusals_of}, declared.faults.Found.TheVariants.{Faults, Sound}}
 use Rattle.tariff_commands.specs.FaultsSteps.{EndsFile, HasLines, IsFoundIn, IsFoundOf, IsRefusedText, IsSoundText}
-use Rattle.tariff_commands.specs.FaultsSteps.{ended_for_find}
-use Rattle.call_ends.specs.LastLine.{bad_tariff_line}
-use Rattle.call_ends.specs.Tariffs.{sound_in, tariff_in}
+use Rattle.tariff_syntax.specs.declared.parsing.ParseFault.TheVariants as faults
 use Rattle.call_ends.specs.declared.ending.Ended.TheVariants as ended
-use Rattle.tariff_commands.specs.declared.faults.FindFault.{FindFault}
 use Rattle.tariff_commands.specs.declared.faults.FindFault.TheVariants as finds
-use Rattle.tariff_commands.specs.declared.faults.Found.{Found}
-use Rattle.tariff_commands.specs.declared.faults.Found.TheVariants.{Faults, Sound}
-use Rattle.call_ends.specs.declared.tariff.Refusal.{Refusal}
-use Rattle.call_ends.specs.declared.tariff.Refusal.TheVariants.{TooLong, Syntax, Unsound}
-use Rattle.call_ends.proofs.Laws.{course-no_memory}
-use Rattle.call_ends.proofs.Laws.{Here, course-part, course-whole}
 
 -- ---- what a text is refused for
 

@@ -1,19 +1,10 @@
 -- The commands that say something of a tariff alone.
-use Rattle.std.proofs.Common.{◌≡◌, ◌≢◌, ℕ, List, [], ◌++◌, Result, Ok, Err, refl, sym, ap, subst, ◌∙◌, inl, inr}
-use Rattle.std.proofs.lemmas.List.{append-nil}
-use Rattle.outside.specs.PrintedText.{Begins}
-use Rattle.tariff_syntax.specs.Tree.{Tree}
-use Rattle.tariff_compile.specs.Rows.{rows_text}
-use Rattle.tariff_compile.specs.Tables.{TableParts, tables_of}
-use Rattle.call_ends.specs.declared.ending.Ended.{Ended}
-use Rattle.call_ends.specs.declared.ending.Ended.TheVariants as ended
-use Rattle.call_ends.specs.declared.tariff.Refusal.{Refusal}
-use Rattle.call_ends.specs.Answer.{Answer}
+use Rattle.std.proofs.Common.{[], ℕ, ◌++◌, ◌∙◌, ◌≡◌, ◌≢◌, Err, List, Ok, Result, ap, inl, inr, refl, subst, sym}
+use Rattle.{std.proofs.lemmas.List.{append-nil}, call_ends.specs.Ending.{EndsByCourse}}
 use Rattle.tariff_commands.specs.Check.{check_answer}
-use Rattle.call_ends.specs.Course.{Answered}
-use Rattle.call_ends.specs.Ending.{EndsByCourse}
-use Rattle.tariff_commands.specs.Tables.{tables_answer, tables_command}
-use Rattle.call_ends.specs.Tariffs.{bad_tariff, tariff_in}
+use Rattle.tariff_commands.specs.Common.{Answer, Answered, Begins, Ended, Refusal, TableParts, Tree, bad_tariff}
+use Rattle.tariff_commands.specs.{Common.{rows_text, tables_of, tariff_in}, Tables.{tables_answer, tables_command}}
+use Rattle.call_ends.specs.declared.ending.Ended.TheVariants as ended
 
 pub refused-check : (o : Result Tree Refusal) (why : Refusal) → o ≡ Err why → check_answer o ≡ bad_tariff why
 refused-check o why e = ap check_answer e

@@ -1,15 +1,9 @@
 -- For proofs: what the command `compare` has before it prints. Compare says what a comparison is.
-use Rattle.std.specs.Prelude.{◌≡◌, ℕ, Bool, true, false, List, is_some, Ok, Err}
-use Rattle.tariff_syntax.specs.Tree.{Tree}
-use Rattle.tariff_compare.specs.DifferenceTexts.{comparison_text}
-use Rattle.tariff_compare.specs.Differences.{difference_of}
-use Rattle.call_ends.specs.Ending.{ended_for}
-use Rattle.call_ends.specs.Tariffs.{HasTariff, tariff_in}
-use Rattle.tariff_commands.specs.declared.compare.CompareFault.{CompareFault}
-use Rattle.tariff_commands.specs.declared.compare.CompareFault.TheVariants as faults
-use Rattle.call_ends.specs.declared.ending.Ended.{Ended}
+use Rattle.std.specs.Prelude.{ℕ, ◌≡◌, Bool, Err, List, Ok, false, is_some, true}
 use Rattle.call_ends.specs.declared.ending.Ended.TheVariants.{BadOther, Different, Done, NoMemory, ReadFault}
-use Rattle.call_ends.specs.declared.tariff.TextFault.{TextFault}
+use Rattle.tariff_commands.specs.Common.{CompareFault, Ended, HasTariff, TextFault, Tree, comparison_text}
+use Rattle.tariff_commands.specs.Common.{difference_of, ended_for, tariff_in}
+use Rattle.tariff_commands.specs.declared.compare.CompareFault.TheVariants as faults
 use Rattle.call_ends.specs.declared.tariff.TextFault.TheVariants as texts
 
 -- two texts are compared if both have a tariff, the printed text is that of what differs first, and the test says

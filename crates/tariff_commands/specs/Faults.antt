@@ -1,19 +1,9 @@
 -- Rules: the command `faults TARIFF`.
-use Rattle.std.specs.Prelude.{◌≡◌, ℕ, ◌+◌, ◌≤◌, List, [], ◌∷◌, length, map, None, Result, Ok, Err, if◌then◌else◌}
-use Rattle.std.specs.Prelude.{nat_lt}
-use Rattle.std.specs.List.{flat_map}
-use Rattle.tariff_syntax.specs.BadLines.{bad_lines}
+use Rattle.{std.specs.{List.{flat_map}, Prelude.{nat_lt}}, tariff_syntax.specs.BadLines.{bad_lines}}
+use Rattle.std.specs.Prelude.{[], ℕ, ◌+◌, ◌∷◌, ◌≡◌, ◌≤◌, Err, List, None, Ok, Result, if◌then◌else◌, length, map}
 use Rattle.tariff_syntax.specs.Parsed.{tree_parsed}
-use Rattle.tariff_syntax.specs.Tree.{Tree}
-use Rattle.tariff_check.specs.AllFaults.{all_faults}
-use Rattle.call_ends.specs.Answer.{Answer}
-use Rattle.tariff_commands.specs.Check.{check_answer}
-use Rattle.call_ends.specs.Course.{Command}
-use Rattle.call_ends.specs.LastLine.{bad_tariff_line}
-use Rattle.call_ends.specs.Pieces.{pieces_of}
-use Rattle.call_ends.specs.Tariffs.{tariff_in}
-use Rattle.call_ends.specs.declared.tariff.Refusal.{Refusal}
-use Rattle.call_ends.specs.declared.tariff.Refusal.TheVariants.{TooLong, Syntax, Unsound}
+use Rattle.tariff_commands.specs.{Check.{check_answer}, Common.{bad_tariff_line, pieces_of, tariff_in}}
+use Rattle.tariff_commands.specs.Common.{Answer, Command, Refusal, Syntax, TooLong, Tree, Unsound, all_faults}
 
 -- a tariff that was read is refused for each of its faults, and else a text for each of its bad lines
 abbrev pub refusals_of : (bad : List ℕ) → Result Tree ℕ → List Refusal

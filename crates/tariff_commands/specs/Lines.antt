@@ -1,13 +1,7 @@
 -- Rules: the command `lines TARIFF CONSTANT`.
-use Rattle.std.specs.Prelude.{◌≡◌, ℕ, ◌+◌, ◌≤◌, [], length, None, Result, Ok, Err}
-use Rattle.tariff_syntax.specs.Tree.{Tree}
-use Rattle.tariff_compare.specs.Texts.{uses_text}
-use Rattle.tariff_compare.specs.Uses.{uses_of}
-use Rattle.call_ends.specs.Answer.{Answer, shows}
-use Rattle.call_ends.specs.Course.{Command}
-use Rattle.call_ends.specs.Pieces.{pieces_of}
-use Rattle.call_ends.specs.Tariffs.{tariff_in, bad_tariff}
-use Rattle.call_ends.specs.declared.tariff.Refusal.{Refusal}
+use Rattle.std.specs.Prelude.{[], ℕ, ◌+◌, ◌≡◌, ◌≤◌, Err, None, Ok, Result, length}
+use Rattle.tariff_commands.specs.Common.{Answer, Command, Refusal, Tree, bad_tariff, pieces_of, shows, tariff_in}
+use Rattle.tariff_commands.specs.Common.{uses_of, uses_text}
 
 -- the answer to a sound tariff shows, for each line of a kind of which the first that holds counts, the first context
 -- of a meter in which that line counts, if there is one. To another text it says why it has no sound tariff.

@@ -1,14 +1,8 @@
 //! The command `compare`.
-ghost use Rattle.std.specs.Prelude.{◌≡◌, ◌≢◌, ℕ, [], IfOk, OnOk, Err, is_some};
-ghost use Rattle.outside.specs.Faults.{Rose};
-ghost use Rattle.tariff_compare.specs.DifferenceTexts.{comparison_text};
-ghost use Rattle.tariff_compare.specs.Differences.{difference_of};
-ghost use Rattle.tariff_syntax.specs.Tree.{tree_of};
-ghost use Rattle.call_ends.specs.Carried.{Carries};
-ghost use Rattle.tariff_commands.specs.Compare.{compare_command};
+ghost use Rattle.std.specs.Prelude.{[], ℕ, ◌≡◌, ◌≢◌, Err, IfOk, OnOk, is_some};
+ghost use Rattle.tariff_commands.specs.Common.{Carries, HasTariff, Rose, comparison_text, difference_of, tree_of};
+ghost use Rattle.tariff_commands.specs.{Compare.{compare_command}, CompareSteps.{ended_uncompared}};
 ghost use Rattle.tariff_commands.specs.CompareSteps.{IsCompared, IsNotCompared, ended_comparing, ended_for_other};
-ghost use Rattle.tariff_commands.specs.CompareSteps.{ended_uncompared};
-ghost use Rattle.call_ends.specs.Tariffs.{HasTariff};
 
 use call_ends::{Ended, TextFault, print_text, read_tariff, refused_by};
 use drive_modes::Constant;

@@ -1,10 +1,6 @@
 //! The command `form`.
-ghost use Rattle.std.specs.Prelude.{◌≡◌, ◌≢◌, ℕ, [], IfOk, OnOk, Err};
-ghost use Rattle.outside.specs.Reading.{LeavesOthers};
-ghost use Rattle.outside.specs.Faults.{Rose};
-ghost use Rattle.call_ends.specs.Carried.{Carries};
-ghost use Rattle.tariff_commands.specs.Form.{form_command, tree_in};
-ghost use Rattle.tariff_commands.specs.FormSteps.{IsFormOf};
+ghost use Rattle.{std.specs.Prelude.{[], ℕ, ◌≡◌, ◌≢◌, Err, IfOk, OnOk}, tariff_commands.specs.FormSteps.{IsFormOf}};
+ghost use Rattle.tariff_commands.specs.{Common.{Carries, LeavesOthers, Rose}, Form.{form_command, tree_in}};
 
 use call_ends::{Ended, Refusal, TextFault, print_text, refused_by, text_of_word};
 use outside::{Board, Files, STORE_SIZE};

@@ -1,11 +1,6 @@
 //! The command `lines`.
-ghost use Rattle.std.specs.Prelude.{◌≡◌, ◌≢◌, ℕ, [], IfOk, OnOk, Err};
-ghost use Rattle.outside.specs.Reading.{LeavesOthers};
-ghost use Rattle.outside.specs.Faults.{Rose};
-ghost use Rattle.call_ends.specs.Carried.{Carries};
-ghost use Rattle.tariff_commands.specs.Lines.{lines_command};
-ghost use Rattle.tariff_commands.specs.LinesSteps.{IsListOf};
-ghost use Rattle.call_ends.specs.Tariffs.{tariff_in};
+ghost use Rattle.{std.specs.Prelude.{[], ℕ, ◌≡◌, ◌≢◌, Err, IfOk, OnOk}, tariff_commands.specs.LinesSteps.{IsListOf}};
+ghost use Rattle.tariff_commands.specs.{Common.{Carries, LeavesOthers, Rose, tariff_in}, Lines.{lines_command}};
 
 use call_ends::{Ended, Refusal, TextFault, print_text, refused_by, tariff_of_text, text_of_word};
 use drive_modes::Constant;

@@ -1,14 +1,9 @@
 //! The command `tables`.
 #![tactic(auto, using(call_ends::proofs::Laws::board_runs))]
 
-ghost use Rattle.std.specs.Prelude.{◌≡◌, ◌+◌, ◌<◌, ◌≤◌, ◌++◌, length, OnOk};
-ghost use Rattle.taxi_units.specs.Line.{line_size};
-ghost use Rattle.outside.specs.Faults.{HasCause};
-ghost use Rattle.outside.specs.PrintedText.{Begins};
-ghost use Rattle.outside.specs.Runs.{KeepsStore};
-ghost use Rattle.tariff_compile.specs.Rows.{row_count, row_text, rows_text};
-ghost use Rattle.call_ends.specs.Carried.{Carries};
-ghost use Rattle.tariff_commands.specs.Tables.{tables_command};
+ghost use Rattle.{std.specs.Prelude.{◌++◌, ◌+◌, ◌<◌, ◌≡◌, ◌≤◌, OnOk, length}, taxi_units.specs.Line.{line_size}};
+ghost use Rattle.{outside.specs.{Faults.{HasCause}, Runs.{KeepsStore}}, tariff_commands.specs.Tables.{tables_command}};
+ghost use Rattle.tariff_commands.specs.Common.{Begins, Carries, row_count, row_text, rows_text};
 
 use crate::compiled::tables_of_word;
 use call_ends::{Ended, refused_by};

@@ -1,5 +1,4 @@
-use Rattle.std.proofs.Common.{◌≡◌, ◌+◌, ◌≤◌, ◌++◌, List, ℕ, length}
-use Rattle.outside.specs.Runs.{KeepsStore}
+use Rattle.{std.proofs.Common.{ℕ, ◌++◌, ◌+◌, ◌≡◌, ◌≤◌, List, length}, call_ends.specs.Common.{KeepsStore}}
 use Rattle.call_ends.specs.Pieces.{pieces_of}
 use Rattle.call_ends.proofs.pieces.print_text.Given as goal
 

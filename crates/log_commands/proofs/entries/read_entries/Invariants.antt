@@ -1,5 +1,4 @@
-use Rattle.std.proofs.Common.{◌≡◌, ℕ, ◌+◌, ◌<◌, ◌≤◌, get_or, length, None}
-use Rattle.slot_store.specs.Syncs.{ReadsOnly}
+use Rattle.{std.proofs.Common.{ℕ, ◌+◌, ◌<◌, ◌≡◌, ◌≤◌, None, get_or, length}, log_commands.specs.Common.{ReadsOnly}}
 use Rattle.log_commands.specs.LogScan.{IsEntry}
 use Rattle.log_commands.proofs.entries.read_entries.Given as goal
 

@@ -1,5 +1,4 @@
-use Rattle.std.proofs.Common.{◌≡◌, refl, sym, ◌∙◌, arith, Option, Some, None}
-use Rattle.log_commands.specs.Record.{Record}
+use Rattle.{std.proofs.Common.{◌∙◌, ◌≡◌, None, Option, Some, arith, refl, sym}, log_commands.specs.Record.{Record}}
 use Rattle.log_commands.proofs.NewestFound.{newest_told, none_newest}
 use Rattle.log_commands.proofs.finding.read_newest.Goals as goal
 

@@ -1,5 +1,4 @@
-use Rattle.std.proofs.Common.{◌≡◌, ◌⊎◌, ℕ, ◌<◌, get_or, None}
-use Rattle.log_commands.specs.LogRow.{IsAtMost, IsPlaceOf}
+use Rattle.{std.proofs.Common.{ℕ, ◌<◌, ◌≡◌, ◌⊎◌, None, get_or}, log_commands.specs.LogRow.{IsAtMost, IsPlaceOf}}
 use Rattle.log_commands.proofs.newest.newest_place.Given as goal
 
 -- the greatest place of the entries so far

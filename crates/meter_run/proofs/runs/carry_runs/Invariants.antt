@@ -1,6 +1,4 @@
-use Rattle.std.proofs.Common.{take, ◌≡◌}
-use Rattle.std.specs.List.{flat_map}
-use Rattle.drive_text.specs.Runs.{run_events}
+use Rattle.{std.{specs.List.{flat_map}, proofs.Common.{◌≡◌, take}}, meter_run.specs.Common.{run_events}}
 use Rattle.meter_run.specs.Drives.{IsBounded}
 use Rattle.meter_run.proofs.runs.carry_runs.Given as goal
 

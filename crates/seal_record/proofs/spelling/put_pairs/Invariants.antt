@@ -1,5 +1,4 @@
-use Rattle.std.proofs.Common.{◌≡◌, ◌+◌, ◌*◌, ◌++◌, take, flat_map}
-use Rattle.arrayvec.specs.ArrayVec.{array_vec_len}
+use Rattle.{std.proofs.Common.{◌*◌, ◌++◌, ◌+◌, ◌≡◌, flat_map, take}, arrayvec.specs.ArrayVec.{array_vec_len}}
 use Rattle.seal_record.specs.Spelling.{pair_bytes}
 use Rattle.seal_record.proofs.spelling.put_pairs.Given as goal
 

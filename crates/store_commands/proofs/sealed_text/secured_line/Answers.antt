@@ -1,6 +1,4 @@
-use Rattle.std.proofs.Common.{◌≡◌, ◌++◌, rules}
-use Rattle.std.specs.Prelude.{codes}
-use Rattle.receipt_text.specs.Receipts.{day_text}
+use Rattle.{std.{specs.Prelude.{codes}, proofs.Common.{◌++◌, ◌≡◌, rules}}, receipt_text.specs.Receipts.{day_text}}
 use Rattle.store_commands.proofs.SealedTexts.{secured_joined}
 use Rattle.store_commands.proofs.sealed_text.secured_line.Goals as goal
 

@@ -1,15 +1,9 @@
-use Rattle.std.proofs.Common.{◌≡◌, ◌≢◌, ◌∙◌, ℕ, List, Err, refl, sym, ap, subst, arith}
-use Rattle.tariff_syntax.specs.Tree.{tree_of}
-use Rattle.outside.specs.Faults.{Rose}
-use Rattle.outside.proofs.Laws.{rose_behind}
-use Rattle.tariff_commands.specs.CompareSteps.{IsNotCompared, IsNoTariff}
-use Rattle.call_ends.specs.Tariffs.{tariff_in}
-use Rattle.tariff_commands.specs.declared.compare.CompareFault.{CompareFault}
+use Rattle.std.proofs.Common.{ℕ, ◌∙◌, ◌≡◌, ◌≢◌, Err, List, ap, arith, refl, subst, sym}
+use Rattle.{outside.proofs.Laws.{rose_behind}, call_ends.proofs.Laws.{no_fault, same_fault}}
+use Rattle.tariff_commands.specs.Common.{CompareFault, Refusal, Rose, TextFault, tariff_in, tree_of}
+use Rattle.tariff_commands.specs.CompareSteps.{IsNoTariff, IsNotCompared}
 use Rattle.tariff_commands.specs.declared.compare.CompareFault.TheVariants as compares
-use Rattle.call_ends.specs.declared.tariff.Refusal.{Refusal}
-use Rattle.call_ends.specs.declared.tariff.TextFault.{TextFault}
 use Rattle.call_ends.specs.declared.tariff.TextFault.TheVariants as texts
-use Rattle.call_ends.proofs.Laws.{no_fault, same_fault}
 use Rattle.tariff_commands.proofs.compare.compare_words.Goals as goal
 
 two-one : ◌≢◌ {A = ℕ} 2 1

@@ -1,6 +1,4 @@
-use Rattle.std.proofs.Common.{ap, ◌∙◌}
-use Rattle.tariff_compare.specs.Grids.{GridLists}
-use Rattle.tariff_compare.specs.Searches.{in_grid}
+use Rattle.{std.proofs.Common.{◌∙◌, ap}, tariff_compare.specs.{Grids.{GridLists}, Searches.{in_grid}}}
 use Rattle.tariff_compare.specs.Sides.{is_met_by}
 use Rattle.tariff_compare.proofs.search.first_met.Goals as goal
 

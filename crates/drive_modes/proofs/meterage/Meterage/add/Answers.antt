@@ -1,6 +1,4 @@
-use Rattle.std.proofs.Common.{ap, refl, ◌∙◌, arith}
-use Rattle.drive_modes.specs.declared.meterage.Meterage.{Meterage}
-use Rattle.drive_modes.specs.Fare.{Opening, added}
+use Rattle.{std.proofs.Common.{◌∙◌, ap, arith, refl}, drive_modes.specs.{Common.{Meterage}, Fare.{Opening, added}}}
 use Rattle.drive_modes.proofs.Sums.{added-saved}
 use Rattle.drive_modes.proofs.meterage.Meterage.add.Goals as goal
 

@@ -1,6 +1,4 @@
-use Rattle.std.proofs.Common.{◌∙◌}
-use Rattle.tariff_check.specs.declared.choice.ChoiceKind.TheVariants.{Rate, Initial, Minimum}
-use Rattle.tariff_syntax.specs.Tree.{tree_of}
+use Rattle.{std.proofs.Common.{◌∙◌}, tariff_check.specs.Common.{Initial, Minimum, Rate, tree_of}}
 use Rattle.tariff_check.proofs.ChoiceLaws.{in_force}
 use Rattle.tariff_check.proofs.checked.Checked.line_in_force.Goals as goal
 

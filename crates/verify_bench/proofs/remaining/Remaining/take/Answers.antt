@@ -1,5 +1,4 @@
-use Rattle.std.proofs.Common.{◌≡◌, ◌∙◌, sym, arith}
-use Rattle.arrayvec.specs.ArrayVec.{array_vec_len}
+use Rattle.{std.proofs.Common.{◌∙◌, ◌≡◌, arith, sym}, arrayvec.specs.ArrayVec.{array_vec_len}}
 use Rattle.verify_bench.proofs.Trips.{none_left}
 use Rattle.verify_bench.proofs.remaining.Remaining.take.Goals as goal
 
