@@ -1,6 +1,6 @@
 -- What a stop says, by its status.
-use Rattle.{std.proofs.Common.{◌≡◌, Err, IfOk, Ok, Result, arith, refl}, c_meter.specs.Shown.{IsStatus, status_of}}
-use Rattle.c_meter.specs.Common.{NoMemory, Stop}
+use Rattle.std.proofs.Common.{◌≡◌, Err, IfOk, Ok, Result, arith, refl}
+use Rattle.c_meter.specs.{Common.{NoMemory, Stop}, Shown.{IsStatus, status_of}}
 use Rattle.c_meter.specs.declared.making.Stop.TheVariants.{NoDrive, NoParams, NoRoom, NoTariff}
 
 -- the stop of an answer that has one, and else another

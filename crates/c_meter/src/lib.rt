@@ -5,7 +5,8 @@
 mod making;
 mod showing;
 
-ghost use Rattle.{std.specs.Prelude.{◌≡◌, ◌≤◌, IsErr, length, take}, seal_record.specs.Reading.{params_read}};
+ghost use Rattle.std.specs.Prelude.{◌≡◌, ◌≤◌, IsErr, length, take};
+ghost use Rattle.seal_record.specs.Reading.{params_read};
 ghost use Rattle.c_meter.specs.Shown.{HasNoRoom, HasNoTariff, IsNotWhole, IsStatus, ShowsDrive};
 
 use crate::showing::show_drive;

@@ -1,8 +1,8 @@
 -- A command whose tariff isn't accepted, or that finds no memory.
-use Rattle.{std.proofs.Common.{[], ℕ, ◌∙◌, ◌≡◌, List, ap, inl, refl, subst, sym}, call_ends.specs.Tariffs.{bad_tariff}}
-use Rattle.call_ends.specs.Answer.{Answer}
-use Rattle.call_ends.{specs.{Common.{Refusal, TextFault}, Stream.{TakesBytes}}, proofs.Streams.{not_bad}}
+use Rattle.std.proofs.Common.{[], ℕ, ◌∙◌, ◌≡◌, List, ap, inl, refl, subst, sym}
+use Rattle.call_ends.specs.{Answer.{Answer}, Common.{Refusal, TextFault}, Stream.{TakesBytes}, Tariffs.{bad_tariff}}
 use Rattle.call_ends.specs.{Course.{Answered, Command, NoMemory, ReadFailed}, Ending.{EndsUnprinted, ended_for}}
+use Rattle.call_ends.proofs.Streams.{not_bad}
 use Rattle.call_ends.specs.declared.ending.Ended.TheVariants as ended
 use Rattle.call_ends.specs.declared.tariff.TextFault.TheVariants as texts
 

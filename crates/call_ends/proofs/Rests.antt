@@ -1,5 +1,6 @@
 -- Whether a command ended by a fault of the board.
-use Rattle.{std.proofs.Common.{◌≡◌, ◌≢◌, ◌⊎◌, inl, inr, refl}, call_ends.specs.{Common.{Ended}, LastLine.{status_of}}}
+use Rattle.std.proofs.Common.{◌≡◌, ◌≢◌, ◌⊎◌, inl, inr, refl}
+use Rattle.call_ends.specs.{Common.{Ended}, LastLine.{status_of}}
 use Rattle.call_ends.specs.declared.ending.Ended.TheVariants as ended
 
 -- a fault of the board is the one end with status 8

@@ -1,6 +1,7 @@
 -- Rules: what a command takes in pieces of at most 512 bytes, and no further than it has to.
-use Rattle.{std.specs.Prelude.{[], ℕ, ◌≡◌, List, None, Option, Some}, taxi_units.specs.Streams.{IsSplit, TellsEnd}}
-use Rattle.{drive_text.specs.Ending.{drives}, data_port.specs.ServedStream.{requests}}
+use Rattle.std.specs.Prelude.{[], ℕ, ◌≡◌, List, None, Option, Some}
+use Rattle.{taxi_units.specs.Streams.{IsSplit, TellsEnd}, drive_text.specs.Ending.{drives}}
+use Rattle.data_port.specs.ServedStream.{requests}
 
 -- a stream is a drive, or the requests of a data port, in the file of a word
 pub data Stream : Type 0 where

@@ -1,8 +1,9 @@
 //! The top call: words in, a status out.
 #![tactic(auto, using(call_ends::proofs::Laws::board_runs))]
 
-ghost use Rattle.{std.specs.Prelude.{ℕ, ◌≡◌, ◌≢◌, None, Some}, outside.specs.{Faults.{RisesOnlyIf}, Runs.{LeavesOnly}}};
-ghost use Rattle.{call_ends.specs.{Call.{StopsReading}, Unwritten.{LeavesImage}}, store_commands.specs.Seal.{Seals}};
+ghost use Rattle.std.specs.Prelude.{ℕ, ◌≡◌, ◌≢◌, None, Some};
+ghost use Rattle.{outside.specs.{Faults.{RisesOnlyIf}, Runs.{LeavesOnly}}, call_ends.specs.Unwritten.{LeavesImage}};
+ghost use Rattle.{call_ends.specs.Call.{StopsReading}, store_commands.specs.Seal.{Seals}};
 ghost use Rattle.{drive_commands.specs.Run.{IsRun}, commands.specs.Carried.{CarriesRow}};
 ghost use Rattle.commands.specs.Called.{ComesToAnswer, MayLeaveSealingBy, TakesSteps, called_by, row_in, sealing_by};
 ghost use Rattle.commands.specs.{Command.{IsReadOnlyRow}, Common.{IsAtRest, IsCall, KeepsStore, WritesNothing}};

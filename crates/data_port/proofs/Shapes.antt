@@ -2,9 +2,10 @@
 use Rattle.std.proofs.Common.{[], ℕ, ◌&&◌, ◌++◌, ◌+◌, ◌-◌, ◌<◌, ◌==◌, ◌∙◌, ◌∷◌, ◌≡◌, ◌≤◌, ◌⊎◌, Bool, List, ap}
 use Rattle.std.proofs.Common.{append_assoc, arith, false, get_or, inl, inr, length, length-append, nat_le, nat_lt, refl}
 use Rattle.std.proofs.{Common.{subst, suc, sym, true, zero}, lemmas.Bool.{cond-false, cond-true, eqb-false, eqb-true}}
-use Rattle.{taxi_units.specs.Test.{◌&◌, at_most, less, within}, data_port.specs.Streams.{IsUnfinished}}
+use Rattle.taxi_units.specs.Test.{◌&◌, at_most, less, within}
 use Rattle.data_port.specs.{Items.{item_count}, ReadingStages.{follows, follows_codes, has_all, last_code, request_in}}
 use Rattle.data_port.specs.{Requests.{IsRequest, Rise, request_bytes}, declared.request.Request.{Request}}
+use Rattle.data_port.specs.Streams.{IsUnfinished}
 
 -- ---- codes
 

@@ -1,8 +1,9 @@
 //! The contents of the items.
-ghost use Rattle.{std.specs.Prelude.{◌++◌, ◌+◌, ◌≡◌, ◌≤◌, length, replicate}, arrayvec.specs.ArrayVec.{array_vec_len}};
-ghost use Rattle.{taxi_units.specs.Money.{largest_amount}, data_port.specs.Items.{size_of, trip_content}};
+ghost use Rattle.std.specs.Prelude.{◌++◌, ◌+◌, ◌≡◌, ◌≤◌, length, replicate};
+ghost use Rattle.{arrayvec.specs.ArrayVec.{array_vec_len}, taxi_units.specs.Money.{largest_amount}};
 ghost use Rattle.data_port.specs.Common.{IsDurable, IsSeal, eight, four, line_size, padded, share_bytes, sixteen};
 ghost use Rattle.data_port.specs.Items.{content, held_content, held_trip, held_values, item_count, shares_content};
+ghost use Rattle.data_port.specs.Items.{size_of, trip_content};
 
 use drive_modes::{Constant, millimetres};
 use seal_record::{Seal, mode_byte};

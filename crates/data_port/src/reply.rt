@@ -1,6 +1,7 @@
 //! The reply to a request.
-ghost use Rattle.{std.specs.Prelude.{[], ◌++◌, ◌+◌, ◌≡◌, ◌≤◌}, arrayvec.specs.ArrayVec.{array_vec_len}};
-ghost use Rattle.data_port.specs.{Common.{IsDurable, IsSeal, line_size}, Items.{all_items_size, item_count, size_of}};
+ghost use Rattle.std.specs.Prelude.{[], ◌++◌, ◌+◌, ◌≡◌, ◌≤◌};
+ghost use Rattle.{arrayvec.specs.ArrayVec.{array_vec_len}, data_port.specs.Items.{all_items_size, item_count, size_of}};
+ghost use Rattle.data_port.specs.Common.{IsDurable, IsSeal, line_size};
 ghost use Rattle.data_port.specs.{Reply.{item_bytes, items_bytes, longest_reply, reply_to}, Requests.{IsRequest, Rise}};
 
 use crate::contents::put_content;

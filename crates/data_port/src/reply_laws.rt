@@ -1,7 +1,7 @@
 //! What holds of replies.
-ghost use Rattle.{std.specs.Prelude.{ℕ, ◌≡◌, map}, data_port.specs.Common.{Durable, IsDurable, IsSeal, Seal}};
-ghost use Rattle.data_port.specs.{Items.{content}, Requests.{IsRequest, codes_of}};
-ghost use Rattle.data_port.specs.{Reply.{AgreeOn, answers_in, reply_to}, declared.request.Request.{Request}};
+ghost use Rattle.std.specs.Prelude.{ℕ, ◌≡◌, map};
+ghost use Rattle.data_port.specs.{Common.{Durable, IsDurable, IsSeal, Seal}, Reply.{AgreeOn, answers_in, reply_to}};
+ghost use Rattle.data_port.specs.{Items.{content}, Requests.{IsRequest, codes_of}, declared.request.Request.{Request}};
 
 /// Two stores that agree on what the items of a request speak of give the same reply.
 pub fn replies_speak_of_their_items()

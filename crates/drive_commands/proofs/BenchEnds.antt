@@ -1,8 +1,9 @@
 -- The command `bench`: how it comes to its last line.
-use Rattle.{std.specs.Prelude.{◌⊎◌}, call_ends.proofs.Laws.{course-part, course-whole}}
+use Rattle.std.specs.Prelude.{◌⊎◌}
 use Rattle.std.proofs.Common.{[], ℕ, ◌++◌, ◌+◌, ◌∙◌, ◌≡◌, ◌≢◌, ◌≤◌, Bool, Err, List, Ok, Result, ap, arith, false, inl}
 use Rattle.std.proofs.{Common.{inr, length, refl, subst, sym, true, ⊎_elim}, lemmas.List.{append-nil}}
-use Rattle.{call_ends.specs.Call.{LeavesUnread, MayTake}, store_commands.proofs.Laws.{course-board, course-refusal}}
+use Rattle.call_ends.{specs.Call.{LeavesUnread, MayTake}, proofs.Laws.{course-part, course-whole}}
+use Rattle.store_commands.proofs.Laws.{course-board, course-refusal}
 use Rattle.drive_commands.specs.Bench.{Terms, bench_answer, bench_command, bench_text, judged_ending, passing_status}
 use Rattle.drive_commands.specs.{Bench.{readings_answer, terms_of}, Common.{readings_in, refused_as, status_of}}
 use Rattle.drive_commands.specs.{BenchSteps.{HasNoTerms, IsJudged, IsNotJudged, IsStopped}, DriveEnds.{ended_with}}

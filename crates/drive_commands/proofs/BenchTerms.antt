@@ -1,6 +1,6 @@
 -- What a verification goes by, and why there is nothing.
-use Rattle.{std.proofs.Common.{ℕ, ◌∙◌, ◌≡◌, ◌≢◌, Err, List, Ok, Result, ap, refl}, call_ends.proofs.Laws.{refusal_by}}
-use Rattle.store_commands.{specs.Opened.{IsBarred}, proofs.Laws.{owed-refused}}
+use Rattle.std.proofs.Common.{ℕ, ◌∙◌, ◌≡◌, ◌≢◌, Err, List, Ok, Result, ap, refl}
+use Rattle.{call_ends.proofs.Laws.{refusal_by}, store_commands.{specs.Opened.{IsBarred}, proofs.Laws.{owed-refused}}}
 use Rattle.drive_commands.specs.{Bench.{terms_of, terms_over, terms_with}, BenchSteps.{HasNoTerms}, Run.{sealed_tariff}}
 use Rattle.drive_commands.specs.Common.{Durable, Ended, IsSealedIn, Seal, Tree, opening_in, store_of}
 use Rattle.drive_commands.specs.RunSteps.{AreNoTables}

@@ -1,7 +1,7 @@
 -- What the command `explain` answers: why there is nothing to explain, and what it prints of a drive.
-use Rattle.{std.specs.Prelude.{◌⊎◌}, seal_record.specs.Reading.{params_read}}
+use Rattle.std.specs.Prelude.{◌⊎◌}
 use Rattle.std.proofs.Common.{[], ℕ, ◌<◌, ◌∙◌, ◌≡◌, ◌≢◌, Err, List, Ok, Result, ap, arith, inl, inr, length, refl, sym}
-use Rattle.call_ends.proofs.Laws.{course-no_memory, course-refused}
+use Rattle.{seal_record.specs.Reading.{params_read}, call_ends.proofs.Laws.{course-no_memory, course-refused}}
 use Rattle.store_commands.specs.{StoreEnds.{ended_for_params}, declared.params.ParamsFault.{ParamsFault}}
 use Rattle.drive_commands.specs.{BenchSteps.{IsNoDrive, ended_for_drive}, ExplainSteps.{HasExplained}}
 use Rattle.drive_commands.specs.Common.{Answer, Answered, BadAt, DriveFault, Ended, Endless, EndsUnprinted, IsSplit}

@@ -1,10 +1,10 @@
 -- Rules: the text by which hirings are explained.
 use Rattle.std.specs.Prelude.{[], ℕ, ◌*◌, ◌++◌, ◌+◌, ◌/◌, ◌==◌, ◌∷◌, List, None, Option, Some, codes, decimal, flat_map}
-use Rattle.{std.specs.Prelude.{if◌then◌else◌}, taxi_units.specs.declared.receipt.{Kind.{Kind}, Receipt.{Receipt}}}
-use Rattle.{drive_modes.specs.Distance.{millimetres_of}, meter_model.specs.Setting.{unit_of}}
+use Rattle.std.specs.Prelude.{if◌then◌else◌}
+use Rattle.{taxi_units.specs.declared.receipt.{Kind.{Kind}, Receipt.{Receipt}}, meter_model.specs.Setting.{unit_of}}
+use Rattle.{drive_modes.specs.Distance.{millimetres_of}, receipt_text.specs.Receipts.{total_text}}
 use Rattle.receipt_text.specs.Receipts.{calculation_text, course_text, fare_text, kind_text, supplements_text}
-use Rattle.{receipt_text.specs.Receipts.{total_text}, verify_bench.specs.declared.explained.{Group.{Group}, Way.{Way}}}
-use Rattle.verify_bench.specs.declared.explained.{Sums.{Sums}, Taken.{Taken}}
+use Rattle.verify_bench.specs.declared.explained.{Group.{Group}, Sums.{Sums}, Taken.{Taken}, Way.{Way}}
 use Rattle.verify_bench.specs.declared.{explained.Way.TheVariants.{Both, Distance, Time}, fees.HiringFees.{HiringFees}}
 use Rattle.drive_commands.specs.Common.{Explanation, Scale, Setting, money_text}
 

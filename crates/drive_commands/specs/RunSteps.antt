@@ -1,12 +1,12 @@
 -- For proofs: what the command `run` has before its last line is printed. Run says what a run is.
-use Rattle.{std.specs.Prelude.{ℕ, ◌≡◌, ◌≢◌, Err, List, Ok}, outside.specs.declared.files.Files.{Ghosts as FileGhosts}}
-use Rattle.{outside.specs.Runs.{IsAtRest, MayHold}, call_ends.specs.Unwritten.{LeavesUnwritten}}
+use Rattle.std.specs.Prelude.{ℕ, ◌≡◌, ◌≢◌, Err, List, Ok}
+use Rattle.outside.specs.{Runs.{IsAtRest, MayHold}, declared.files.Files.{Ghosts as FileGhosts}}
+use Rattle.{call_ends.specs.Unwritten.{LeavesUnwritten}, drive_commands.specs.Run.{start_at, start_of, tables_in}}
 use Rattle.call_ends.specs.declared.ending.Ended.TheVariants.{BadTariff, NoMemory, WrongTariff}
 use Rattle.drive_commands.specs.Common.{Begins, BoardFault, Ended, EndsOnDevices, Ghosts, IsRefusal, IsSealedIn}
 use Rattle.drive_commands.specs.Common.{IsTablesOf, LeavesFromSync, OpensWith, ReadFault, Seal, TableParts, Tree}
 use Rattle.drive_commands.specs.Common.{line_of, opening_in, status_of, tables_of, tariff_in}
 use Rattle.drive_commands.specs.Run.{IsCutOfCourse, StandsAfterRun, Start, bytes_in, run_command, sealed_tariff}
-use Rattle.drive_commands.specs.Run.{start_at, start_of, tables_in}
 
 -- ---- the tables of the sealed tariff
 

@@ -1,6 +1,6 @@
 //! The command `bench`.
-ghost use Rattle.{std.specs.Prelude.{◌≡◌}, drive_commands.specs.{Bench.{bench_command}, DriveEnds.{ended_with}}};
-ghost use Rattle.drive_commands.specs.Common.{Carries};
+ghost use Rattle.std.specs.Prelude.{◌≡◌};
+ghost use Rattle.drive_commands.specs.{Bench.{bench_command}, Common.{Carries}, DriveEnds.{ended_with}};
 
 use crate::bench_terms::open_terms;
 use crate::judgement::judge_drive;

@@ -2,9 +2,10 @@
 -- lines_give_what_the_table_says says what a line means, by the table in Table.
 use Rattle.std.specs.{List.{find, slice_split}, Option.{option_map}, Str.Lines.{strip_carriage_return}}
 use Rattle.std.specs.Prelude.{[], ℕ, ◌==◌, ◌∷◌, List, None, Option, Some, codes, if◌then◌else◌, length, nat_lt}
-use Rattle.{taxi_units.specs.{Reading.{◌>>=◌}, Words.{is_word}}, drive_text.specs.Common.{last_second, number_in}}
+use Rattle.taxi_units.specs.{Reading.{◌>>=◌}, Words.{is_word}}
 use Rattle.drive_text.specs.Common.{Clock, Down, Event, Extra, Key, Position, Pulses, Tick, Up, Zone, first_second}
-use Rattle.drive_text.specs.{Written.{key_text, plain_keys}, declared.run.Run.{Run, TheVariants.{Many, One}}}
+use Rattle.drive_text.specs.{Common.{last_second, number_in}, declared.run.Run.{Run, TheVariants.{Many, One}}}
+use Rattle.drive_text.specs.Written.{key_text, plain_keys}
 use Rattle.taxi_units.specs.declared.event.Event.TheVariants as events
 
 -- the second of a field, if the field is a number of the meter's seconds

@@ -1,5 +1,6 @@
 -- Rules: the numbers that a drive may have.
-use Rattle.{std.specs.Prelude.{⊤, ◌≤◌}, taxi_units.specs.{Time.{IsSecond}, declared.event.Event.TheVariants.{Key}}}
+use Rattle.std.specs.Prelude.{⊤, ◌≤◌}
+use Rattle.taxi_units.specs.{Time.{IsSecond}, declared.event.Event.TheVariants.{Key}}
 use Rattle.drive_text.specs.Common.{Clock, Down, Event, Extra, Position, Pulses, Tick, Up, Zone}
 use Rattle.drive_text.specs.declared.run.Run.{Run, TheVariants.{Many, One}}
 use Rattle.taxi_units.specs.declared.event.Key as keys

@@ -1,7 +1,8 @@
 -- Rules: the lines of a drive, as a table.
-use Rattle.{std.specs.Prelude.{[], ℕ, ◌++◌, ◌∷◌, Contains, List, codes}, drive_text.specs.Common.{last_second}}
+use Rattle.std.specs.Prelude.{[], ℕ, ◌++◌, ◌∷◌, Contains, List, codes}
 use Rattle.drive_text.specs.Common.{Clock, Down, Extra, IsNumberIn, Key, Position, Pulses, Tick, Up, Zone, first_second}
-use Rattle.drive_text.specs.{Written.{key_text, plain_keys}, declared.run.Run.{Run, TheVariants.{Many, One}}}
+use Rattle.drive_text.specs.{Common.{last_second}, declared.run.Run.{Run, TheVariants.{Many, One}}}
+use Rattle.drive_text.specs.Written.{key_text, plain_keys}
 use Rattle.taxi_units.specs.declared.event.Event.TheVariants as events
 
 -- a line without its line end means no run if it is empty or a comment, and else the one run that its word and its

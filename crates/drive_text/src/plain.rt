@@ -1,6 +1,7 @@
 //! The lines that a drive has most of, read in one pass over their bytes: ticks, pulses and intervals, with numbers of
 //! at most 5 digits and an LF alone at the end. `None` says nothing of a line: fields.rt reads it then.
-ghost use Rattle.{std.specs.Prelude.{◌++◌, IfSome, codes}, drive_text.specs.Plain.{BeginsWithLine, BeginsWithNumber}};
+ghost use Rattle.std.specs.Prelude.{◌++◌, IfSome, codes};
+ghost use Rattle.drive_text.specs.Plain.{BeginsWithLine, BeginsWithNumber};
 
 use crate::run::Run;
 use taxi_units::Event;

@@ -13,7 +13,8 @@ pub enum Run {
 }
 
 impl Default for Run {
-    ghost use Rattle.{std.specs.Prelude.{◌≡◌}, drive_text.specs.{Common.{Tick}, declared.run.Run.TheVariants.{One}}};
+    ghost use Rattle.std.specs.Prelude.{◌≡◌};
+    ghost use Rattle.drive_text.specs.{Common.{Tick}, declared.run.Run.TheVariants.{One}};
 
     ghost is_default = { λ run. run ≡ One Tick };
 

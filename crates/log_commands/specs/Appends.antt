@@ -1,6 +1,6 @@
 -- Rules: what a cut leaves while the log gets one more record.
-use Rattle.{std.specs.Prelude.{[], ℕ, ◌++◌, ◌∷◌, ◌⊎◌, List}, log_commands.specs.LogList.{StandsFor, last_ones}}
-use Rattle.log_commands.specs.Record.{Record}
+use Rattle.std.specs.Prelude.{[], ℕ, ◌++◌, ◌∷◌, ◌⊎◌, List}
+use Rattle.log_commands.specs.{LogList.{StandsFor, last_ones}, Record.{Record}}
 pub use Rattle.log_commands.specs.AppendStages.{IsReady, IsShut, IsStill, IsWritten}
 
 -- a list is kept in an image that stands for the list, or for its last 255

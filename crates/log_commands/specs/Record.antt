@@ -1,5 +1,6 @@
 -- Rules: what the log keeps of a receipt.
-use Rattle.{std.specs.Prelude.{ℕ, ◌≡◌, List}, log_commands.specs.Common.{IsReceiptText, Part, Receipt}}
+use Rattle.std.specs.Prelude.{ℕ, ◌≡◌, List}
+use Rattle.log_commands.specs.Common.{IsReceiptText, Part, Receipt}
 
 -- a record of the log is the text of a receipt, its number, and the identifier of its taxi
 pub record Record : Type 0 where

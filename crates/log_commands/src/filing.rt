@@ -1,5 +1,6 @@
 //! What is done with a receipt of a roll.
-ghost use Rattle.{std.specs.Prelude.{◌↔◌, ◌≡◌, IsTrue, Some}, log_commands.specs.Filed.{IsFiledBy}};
+ghost use Rattle.std.specs.Prelude.{◌↔◌, ◌≡◌, IsTrue, Some};
+ghost use Rattle.log_commands.specs.Filed.{IsFiledBy};
 
 use crate::log_record::LogRecord;
 

@@ -1,7 +1,7 @@
 //! Laws of what the words of the hiring log mean.
-ghost use Rattle.{std.specs.Prelude.{[], ℕ, ◌++◌, ◌≡◌, List, Option, Some}, log_commands.specs.Common.{File, FileEnd}};
+ghost use Rattle.std.specs.Prelude.{[], ℕ, ◌++◌, ◌≡◌, List, Option, Some};
 ghost use Rattle.log_commands.specs.{Calls.{AppendsNothing, FilesUpTo}, declared.roll.RollEnd.TheVariants.{Whole}};
-ghost use Rattle.log_commands.specs.Filed.{EndsAt, Files};
+ghost use Rattle.log_commands.specs.{Common.{File, FileEnd}, Filed.{EndsAt, Files}};
 ghost use Rattle.log_commands.specs.{Reading.{HasRead, Place}, Record.{IsRecord, Record}, Roll.{AreOnRoll, Reads}};
 
 /// A law: no receipt's text is the beginning of another's, and none lies in another's with more behind it.

@@ -37,7 +37,8 @@ pub struct Roll {
 }
 
 impl Model for Roll {
-    ghost use Rattle.{std.specs.Prelude.{◌-◌, ◌≤◌, drop, take}, log_commands.specs.Reading.{Place}};
+    ghost use Rattle.std.specs.Prelude.{◌-◌, ◌≤◌, drop, take};
+    ghost use Rattle.log_commands.specs.Reading.{Place};
 
     ghost Value = { Place };
 

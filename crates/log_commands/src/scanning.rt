@@ -1,5 +1,6 @@
 //! The slots of the log, read one after another.
-ghost use Rattle.{std.specs.Prelude.{◌+◌, ◌<◌, ◌≡◌, IfOk}, log_commands.specs.Common.{HasCause, ReadsOnly}};
+ghost use Rattle.std.specs.Prelude.{◌+◌, ◌<◌, ◌≡◌, IfOk};
+ghost use Rattle.log_commands.specs.Common.{HasCause, ReadsOnly};
 ghost use Rattle.log_commands.specs.LogScan.{IsContent, IsContentInRange, IsContentOf, IsEntryOf};
 ghost use Rattle.log_commands.specs.declared.scanning.ScanFault.TheVariants.{DeviceFailed};
 

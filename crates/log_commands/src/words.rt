@@ -1,5 +1,6 @@
 //! The words of a command.
-ghost use Rattle.{std.specs.Prelude.{◌≡◌, map, string_bytes}, log_commands.specs.Words.{call_of}};
+ghost use Rattle.std.specs.Prelude.{◌≡◌, map, string_bytes};
+ghost use Rattle.log_commands.specs.Words.{call_of};
 ghost use Rattle.log_commands.specs.Words as spec;
 
 use taxi_units::is_word;

@@ -1,7 +1,7 @@
 -- Rules: what a cut might have left at the moments of a board in memory.
-use Rattle.{std.specs.Prelude.{[], ℕ, ◌∷◌, ◌⊎◌, List, suc, zero}, outside.specs.Disk.{MayLeave}}
+use Rattle.std.specs.Prelude.{[], ℕ, ◌∷◌, ◌⊎◌, List, suc, zero}
+use Rattle.{outside.specs.Disk.{MayLeave}, memory_devices.specs.Common.{MayLeaveAmid}}
 use Rattle.memory_devices.specs.Calls.{Call, CallOutcome, Contents, IsInSome, Print, Read, Sync, Write, after}
-use Rattle.memory_devices.specs.Common.{MayLeaveAmid}
 
 -- a cut leaves of a board any bytes at the places in flight, all others as a read gives them, and what was printed
 abbrev pub Leaves : Contents → List ℕ → List ℕ → Type 0

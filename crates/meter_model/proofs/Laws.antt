@@ -1,7 +1,7 @@
 -- The lemmas that the crates above cite.
-use Rattle.{std.proofs.Common.{[], ◌↔◌, ◌≡◌, Some, true}, meter_model.specs.Common.{Display, Durable, Event, ForHire}}
-use Rattle.meter_model.specs.{Display.{display_of, same_display, shown}, KeptTrip.{HoldFits, IsTripKept}, Meter.{Meter}}
-use Rattle.meter_model.specs.{Run.{opened}, Step.{step}}
+use Rattle.std.proofs.Common.{[], ◌↔◌, ◌≡◌, Some, true}
+use Rattle.meter_model.specs.{Common.{Display, Durable, Event, ForHire}, Display.{display_of, same_display, shown}}
+use Rattle.meter_model.specs.{KeptTrip.{HoldFits, IsTripKept}, Meter.{Meter}, Run.{opened}, Step.{step}}
 use Rattle.meter_model.{specs.Setting.{Setting}, proofs.ShownDisplays.{hire-shows, same-equal, shows-none}}
 pub use Rattle.meter_model.proofs.{Fares.{above-more}, KeptTrips.{kept-step}, Runs.{kept-run, kept-whole, run-append}}
 pub use Rattle.meter_model.proofs.Resumed.{begins}

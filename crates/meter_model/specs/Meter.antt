@@ -1,9 +1,9 @@
 -- Rules: the states of the meter, and what a part of an event comes to, which is the next state and what the meter
 -- does.
-use Rattle.{std.specs.Prelude.{[], ℕ, ◌++◌, ◌∷◌, List, Option}, taxi_units.specs.declared.event.Why.{Why}}
-use Rattle.totals_record.specs.{States.{after}, declared.entry.Entry.{Entry}}
+use Rattle.std.specs.Prelude.{[], ℕ, ◌++◌, ◌∷◌, List, Option}
+use Rattle.{taxi_units.specs.declared.event.Why.{Why}, totals_record.specs.declared.entry.Entry.{Entry}}
+use Rattle.{totals_record.specs.States.{after}, meter_model.specs.declared.act.Act.TheVariants.{Enter, Hold}}
 use Rattle.meter_model.specs.{Common.{Act, Display, Durable, Key, Operating, Refuse, Trip}, Trip.{MeterTrip}}
-use Rattle.meter_model.specs.declared.act.Act.TheVariants.{Enter, Hold}
 use Rattle.taxi_units.specs.declared.receipt.Receipt as receipts
 use Rattle.totals_record.specs.declared.change.Change.TheVariants as changes
 use Rattle.meter_model.specs.declared.act.Act.TheVariants as acts

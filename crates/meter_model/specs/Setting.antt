@@ -1,9 +1,9 @@
 -- Rules: what the meter goes by, its tariff and its secured parameters.
-use Rattle.{std.specs.Prelude.{[], ℕ, ℤ, ◌*◌, ◌∷◌, ◌≡◌, List}, taxi_units.specs.declared.receipt.Stamp.{Stamp}}
-use Rattle.{taxi_units.specs.Time.{first_second}, drive_modes.specs.declared.meterage.Rounding.{Rounding}}
-use Rattle.{drive_modes.specs.declared.charges.Mode.{Mode}, seal_record.specs.declared.params.Params.{Params}}
+use Rattle.std.specs.Prelude.{[], ℕ, ℤ, ◌*◌, ◌∷◌, ◌≡◌, List}
+use Rattle.{taxi_units.specs.{Time.{first_second}, declared.receipt.Stamp.{Stamp}}, tariff_syntax.specs.Tree.{Tree}}
+use Rattle.drive_modes.specs.declared.{charges.Mode.{Mode}, meterage.Rounding.{Rounding}}
 use Rattle.interval_clock.specs.{LocalTime.{local_second, local_time_of}, declared.local_time.LocalTime.{LocalTime}}
-use Rattle.{seal_record.specs.declared.seal.Seal.{Seal}, tariff_syntax.specs.Tree.{Tree}}
+use Rattle.seal_record.specs.declared.{params.Params.{Params}, seal.Seal.{Seal}}
 use Rattle.{tariff_check.specs.SoundTariff.{sound_of}, meter_model.specs.Common.{SoundTariff}}
 
 -- a setting has the parts of the tariff, the constant of the taximeter, how time and distance share in the fare, how

@@ -1,8 +1,8 @@
 -- Rules: the supply, what a drop of it leaves, and what its coming finds.
 use Rattle.std.specs.Prelude.{[], ℕ, ◌&&◌, ◌+◌, Bool, None, Option, Some, false, if◌then◌else◌, nat_le, nat_lt, sum}
 use Rattle.{std.specs.Prelude.{true}, taxi_units.specs.declared.receipt.Kind.TheVariants.{Aborted}}
-use Rattle.{taxi_units.specs.Limits.{last_number}, meter_model.specs.Meter.{◌>>=◌, Meter, Outcome, held, quiet}}
-use Rattle.meter_model.specs.{ClosedTrip.{closed, roaming_entered}, Interval.{interval_left}, Setting.{Setting}}
+use Rattle.{taxi_units.specs.Limits.{last_number}, meter_model.specs.{Interval.{interval_left}, Setting.{Setting}}}
+use Rattle.meter_model.specs.{ClosedTrip.{closed, roaming_entered}, Meter.{◌>>=◌, Meter, Outcome, held, quiet}}
 use Rattle.meter_model.specs.{Common.{ForHire, Hired, Off, Operating, Stopped, Trip}, Trip.{MeterTrip, held_trip}}
 use Rattle.meter_model.specs.Display.{shown}
 

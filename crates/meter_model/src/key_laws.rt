@@ -1,6 +1,6 @@
 //! What accepted keys do.
-ghost use Rattle.{std.specs.Prelude.{[], ℕ, ◌<◌, ◌≡◌, ◌≤◌, ◌⊎◌, None, Some, sum}, meter_model.specs.KeyTable.{MayAct}};
-ghost use Rattle.meter_model.specs.{ClosedTrip.{closed}, Setting.{Setting}, Supplements.{times}};
+ghost use Rattle.std.specs.Prelude.{[], ℕ, ◌<◌, ◌≡◌, ◌≤◌, ◌⊎◌, None, Some, sum};
+ghost use Rattle.meter_model.specs.{ClosedTrip.{closed}, KeyTable.{MayAct}, Setting.{Setting}, Supplements.{times}};
 ghost use Rattle.meter_model.specs.Common.{Closed, ForHire, Hired, Key, NotNow, Stopped, Supplement, fees_in_force};
 ghost use Rattle.meter_model.specs.{Common.{hirings_end, supplement_numbered}, Trip.{MeterTrip, begun, with_extra}};
 ghost use Rattle.meter_model.specs.{Interval.{context_now}, Keys.{latch_pressed}, Meter.{Meter, quiet, refused}};

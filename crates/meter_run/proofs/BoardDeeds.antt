@@ -1,7 +1,7 @@
 -- One call of the board as a deed: a print, a commit, a scan.
-use Rattle.{std.specs.{Option.{ForSome}, Prelude.{◌⊎◌, get_or, length}}, outside.specs.Disk.{MayLeave}}
+use Rattle.std.specs.{Option.{ForSome}, Prelude.{◌⊎◌, get_or, length}}
 use Rattle.std.proofs.Common.{[], ℕ, ◌∷◌, ◌≡◌, ◌≤◌, List, Some, ap, arith, inl, inr, refl, subst, sym}
-use Rattle.outside.{specs.Runs.{MayHold}, proofs.Laws.{begins_not, leaves_kept, leaves_wider}}
+use Rattle.outside.{specs.{Disk.{MayLeave}, Runs.{MayHold}}, proofs.Laws.{begins_not, leaves_kept, leaves_wider}}
 use Rattle.{slot_store.specs.{Stages.{IsPair}, declared.pair.Pair.{Pair}}, totals_record.specs.Reading.{reads}}
 use Rattle.slot_store.{specs.Writes.{LeavesBeside, WritesIn}, proofs.Laws.{settled_stays, whole_leaves, whole_writes}}
 use Rattle.{meter_store.specs.Stored.{HasEither, LeavesEither, written_at}, meter_run.specs.PointLaws.{left_has}}

@@ -1,8 +1,9 @@
 -- What a point of a list of deeds says of an image that a cut leaves.
-use Rattle.{std.specs.Prelude.{◌⊎◌}, outside.proofs.Laws.{begins_whole}, slot_store.proofs.Laws.{body_found}}
+use Rattle.std.specs.Prelude.{◌⊎◌}
 use Rattle.std.proofs.Common.{[], ℕ, ◌++◌, ◌+◌, ◌∙◌, ◌∷◌, ◌≡◌, ◌≤◌, List, None, Option, Some, ap, append_assoc, arith}
 use Rattle.std.proofs.{Common.{inl, inr, length, length-append, refl, subst, sym, ⊎_elim}, lemmas.List.{append-nil}}
 use Rattle.taxi_units.specs.declared.receipt.Kind.{Kind, TheVariants.{Aborted, Closed, Expired, Roam}}
+use Rattle.{outside.proofs.Laws.{begins_whole}, slot_store.proofs.Laws.{body_found}}
 use Rattle.totals_record.{specs.{Reading.{reads}, States.{after_all}}, proofs.Laws.{changes_add_up}}
 use Rattle.meter_states.specs.Pairs.{ArePaired, IsReceiptOf, waiting_after}
 use Rattle.meter_run.specs.Common.{Act, Begins, Change, Durable, Enter, Entry, GrowsBy, Hold, Receipt, Refuse, Seal}

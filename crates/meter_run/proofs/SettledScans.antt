@@ -1,6 +1,6 @@
 -- What a scan of the pair of totals finds on a board that is settled.
-use Rattle.{std.proofs.Common.{ℕ, ◌∙◌, ◌≡◌, Err, List, Ok, Result, ap, sym}, slot_store.specs.Scan.{found_at}}
-use Rattle.{slot_store.specs.Slots.{IsAt}, totals_record.specs.Reading.{reads}}
+use Rattle.std.proofs.Common.{ℕ, ◌∙◌, ◌≡◌, Err, List, Ok, Result, ap, sym}
+use Rattle.{slot_store.specs.{Scan.{found_at}, Slots.{IsAt}}, totals_record.specs.Reading.{reads}}
 use Rattle.slot_store.{specs.declared.found.Found.{Found, TheVariants.{Blank, Latest}}, proofs.Laws.{answer_is}}
 use Rattle.slot_store.specs.declared.found.SlotFault.{SlotFault, TheVariants.{BadBody, DeviceFailed, SameNumber}}
 use Rattle.meter_run.specs.Common.{Durable, Place, state_number_of}

@@ -1,7 +1,7 @@
 -- Rules: what a run does, deed by deed: the acts of the meter, and lines that the caller prints behind them.
-use Rattle.{std.specs.Prelude.{[], ℕ, ◌++◌, ◌∷◌, List}, meter_states.specs.Pairs.{commits_of}}
-use Rattle.{receipt_text.specs.Receipts.{receipt_text}, meter_run.specs.Common.{part_of_seal, refusal_text}}
-use Rattle.meter_run.specs.Commits.{after_act}
+use Rattle.std.specs.Prelude.{[], ℕ, ◌++◌, ◌∷◌, List}
+use Rattle.{meter_states.specs.Pairs.{commits_of}, receipt_text.specs.Receipts.{receipt_text}}
+use Rattle.meter_run.specs.{Commits.{after_act}, Common.{part_of_seal, refusal_text}}
 use Rattle.meter_run.specs.Common.{Act, Change, Durable, Enter, Hold, Receipt, Refuse, Seal, Show, display_text}
 
 -- a deed is an act of the meter, or the print of a line

@@ -1,8 +1,8 @@
 -- Rules: the meter whose durable state is a value, and what it prints.
-use Rattle.{std.specs.{Option.{ForSome}, Prelude.{ℕ, ◌++◌, ◌≡◌, List}}, meter_run.specs.BetweenEvents.{StandsWith}}
+use Rattle.std.specs.{Option.{ForSome}, Prelude.{ℕ, ◌++◌, ◌≡◌, List}}
+use Rattle.meter_run.specs.{BetweenEvents.{StandsWith}, declared.dry.DryMeter.{DryMeter}}
 use Rattle.meter_run.specs.Common.{Begins, CachedCore, Durable, Event, Fits, Ghosts, IsDurable, IsLawful, IsSettingOf}
 use Rattle.meter_run.specs.{Common.{KeepsStore, Meter, Outcome, Seal, Setting, TableParts, run}, Texts.{shown_texts}}
-use Rattle.meter_run.specs.declared.dry.DryMeter.{DryMeter}
 
 -- a core and a durable state are under way if they stand for some state of the meter, under some setting of the tables
 -- and the seal; the core is one beside its cache, which only saves look-ups, as `Core::step_into` says by its clause

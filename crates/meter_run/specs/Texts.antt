@@ -1,6 +1,7 @@
 -- Rules: what is printed without receipts.
-use Rattle.{std.specs.Prelude.{[], ℕ, ◌++◌, ◌∷◌, List}, meter_run.specs.Common.{events_of, first_state, refusal_text}}
+use Rattle.std.specs.Prelude.{[], ℕ, ◌++◌, ◌∷◌, List}
 use Rattle.meter_run.specs.Common.{Act, Enter, Hold, Receipt, Refuse, Setting, Show, actions_of, display_text}
+use Rattle.meter_run.specs.Common.{events_of, first_state, refusal_text}
 
 -- the line that is shown of an act is that of its display or its refusal, and is empty for any other act
 abbrev pub shown_text : Act → List ℕ

@@ -1,6 +1,6 @@
 //! Displays, by their texts.
-ghost use Rattle.{std.specs.Prelude.{[], ◌↔◌, ◌≡◌, Some}, meter_model.specs.KeptTrip.{IsTripKept}};
-ghost use Rattle.meter_model.specs.{Display.{display_of}, LastShown.{IsOfMeter}};
+ghost use Rattle.std.specs.Prelude.{[], ◌↔◌, ◌≡◌, Some};
+ghost use Rattle.meter_model.specs.{Display.{display_of}, KeptTrip.{IsTripKept}, LastShown.{IsOfMeter}};
 ghost use Rattle.receipt_text.specs.Shows.{HasFields};
 ghost use Rattle.meter_run.specs.Common.{Display, IsShown, Meter, Setting, display_text, shown};
 

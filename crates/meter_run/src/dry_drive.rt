@@ -1,7 +1,7 @@
 //! A drive that is carried out without a store.
-ghost use Rattle.{std.specs.Prelude.{ℕ, ◌+◌, ◌≡◌, ◌≤◌, ◌⊎◌, Err, OnOk}, outside.specs.Faults.{RisesOnlyIf}};
+ghost use Rattle.std.specs.Prelude.{ℕ, ◌+◌, ◌≡◌, ◌≤◌, ◌⊎◌, Err, OnOk};
+ghost use Rattle.{outside.specs.Faults.{RisesOnlyIf}, meter_run.specs.Drives.{IsBoundedByDrive, RunsDrive, answer_of}};
 ghost use Rattle.meter_run.specs.Common.{HasCause, KeepsStore, LeavesOthers, MayRise, Off, Rose, ended};
-ghost use Rattle.meter_run.specs.Drives.{IsBoundedByDrive, RunsDrive, answer_of};
 ghost use Rattle.meter_run.specs.Dry.{IsMeterReady, Prints, PrintsSome};
 
 use crate::carrier::SealedTables;

@@ -1,7 +1,7 @@
 //! The meter on a store carries out events.
-ghost use Rattle.{std.specs.Prelude.{[], ℕ, ◌+◌, ◌∷◌, ◌≡◌, ◌≢◌, ◌≤◌}, taxi_units.specs.Time.{IsSecond}};
-ghost use Rattle.meter_run.specs.{Common.{IsDurable, IsTimely, Off, Up, step}, Supply.{StaysOff}};
-ghost use Rattle.meter_run.specs.OnStore.{Agrees, Attempts, IsMeterReadyOn};
+ghost use Rattle.std.specs.Prelude.{[], ℕ, ◌+◌, ◌∷◌, ◌≡◌, ◌≢◌, ◌≤◌};
+ghost use Rattle.{taxi_units.specs.Time.{IsSecond}, meter_run.specs.Common.{IsDurable, IsTimely, Off, Up, step}};
+ghost use Rattle.meter_run.specs.{OnStore.{Agrees, Attempts, IsMeterReadyOn}, Supply.{StaysOff}};
 
 use crate::carrier::{Carrier, SealedTables};
 use crate::printing::print_refusal;

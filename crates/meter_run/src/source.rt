@@ -35,7 +35,8 @@ pub struct Source {
 }
 
 impl Model for Source {
-    ghost use Rattle.{std.specs.Prelude.{◌-◌, ◌≤◌, drop, take}, meter_run.specs.Source.{Progress}};
+    ghost use Rattle.std.specs.Prelude.{◌-◌, ◌≤◌, drop, take};
+    ghost use Rattle.meter_run.specs.Source.{Progress};
 
     ghost Value = { Progress };
 

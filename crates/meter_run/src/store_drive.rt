@@ -1,7 +1,8 @@
 //! A drive that is carried out on a store.
-ghost use Rattle.{std.specs.Prelude.{ℕ, ◌+◌, ◌≡◌, ◌≤◌, ◌⊎◌, Err, IsOk, OnOk}, outside.specs.Faults.{RisesOnlyIf}};
+ghost use Rattle.std.specs.Prelude.{ℕ, ◌+◌, ◌≡◌, ◌≤◌, ◌⊎◌, Err, IsOk, OnOk};
+ghost use Rattle.{outside.specs.Faults.{RisesOnlyIf}, meter_run.specs.Runs.{EndsRun, LeavesPoints}};
 ghost use Rattle.meter_run.specs.Common.{HasCause, IsSeal, LeavesOthers, MayRise, Off, Rose, Whole, drive_end, ended};
-ghost use Rattle.meter_run.specs.{Drives.{IsBoundedByDrive}, Runs.{EndsRun, LeavesPoints}};
+ghost use Rattle.meter_run.specs.Drives.{IsBoundedByDrive};
 ghost use Rattle.meter_run.specs.OnStore.{CarriesOut, IsMeterReadyOn, StopsAmid, WritesTotals};
 
 use crate::carrier::SealedTables;

@@ -1,5 +1,6 @@
 //! The meter on a store, and what it knows of it.
-ghost use Rattle.{std.specs.Prelude.{◌≡◌, None}, meter_run.specs.Common.{IsLawful, Off, Seal, TableParts}};
+ghost use Rattle.std.specs.Prelude.{◌≡◌, None};
+ghost use Rattle.meter_run.specs.Common.{IsLawful, Off, Seal, TableParts};
 
 use meter_states::Core;
 use slot_store::Place;

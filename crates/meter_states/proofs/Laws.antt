@@ -1,6 +1,6 @@
 -- The laws of the public empty functions.
-use Rattle.{std.proofs.Common.{◌++◌, ◌≡◌, List, None, length}, meter_model.proofs.Laws.{kept-run, run-append}}
-use Rattle.meter_model.specs.{KeptTrip.{IsTripKept}, Run.{actions_of, run_both}}
+use Rattle.std.proofs.Common.{◌++◌, ◌≡◌, List, None, length}
+use Rattle.meter_model.{specs.{KeptTrip.{IsTripKept}, Run.{actions_of, run_both}}, proofs.Laws.{kept-run, run-append}}
 use Rattle.meter_states.specs.Common.{Durable, Event, FitsSetting, Meter, Setting, TableParts, Trip, after_all, run}
 use Rattle.meter_states.{specs.{Common.{step, whole_run}, Fits.{Fits}}, proofs.Stages.{commits-step, commits-whole}}
 use Rattle.meter_states.{specs.{Pairs.{ArePaired, commits_of}, Setting.{IsTariffOf}}, proofs.HeldFits.{fits-setting}}

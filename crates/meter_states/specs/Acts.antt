@@ -1,8 +1,9 @@
 -- Rules: the ranges of what the meter does.
-use Rattle.{std.specs.Prelude.{ℕ, ◌+◌, ◌≡◌, ◌≤◌, All, List, false}, taxi_units.specs.Shown.{IsReceipt, IsShown}}
-use Rattle.totals_record.specs.{Entries.{closes}, Ranges.{IsEntry, IsTripInItsRanges}, States.{after}}
+use Rattle.std.specs.Prelude.{ℕ, ◌+◌, ◌≡◌, ◌≤◌, All, List, false}
+use Rattle.{taxi_units.specs.Shown.{IsReceipt, IsShown}, totals_record.specs.Ranges.{IsEntry, IsTripInItsRanges}}
+use Rattle.{totals_record.specs.{Entries.{closes}, States.{after}}, meter_states.specs.Common.{last_number}}
 use Rattle.meter_states.specs.Common.{Act, Durable, Enter, Hold, IsDurable, Receipt, Refuse, Show, TableParts, Trip}
-use Rattle.meter_states.specs.{Common.{last_number}, Fits.{Fits}}
+use Rattle.meter_states.specs.Fits.{Fits}
 use Rattle.totals_record.specs.declared.change.Change.TheVariants as changes
 use Rattle.totals_record.specs.declared.entry.Entry as store
 

@@ -1,8 +1,9 @@
 -- For proofs: a core that carries out equal measuring intervals at once. `Equals` says what they are, and when one more
 -- of them may go.
-use Rattle.{std.specs.Prelude.{[], ℕ, ◌*◌, ◌+◌, ◌-◌, ◌≡◌, ◌≤◌}, tariff_compile.specs.declared.parts.Lasting.{Lasting}}
+use Rattle.std.specs.Prelude.{[], ℕ, ◌*◌, ◌+◌, ◌-◌, ◌≡◌, ◌≤◌}
+use Rattle.{tariff_compile.specs.declared.parts.Lasting.{Lasting}, meter_states.specs.Equals.{intervals_of}}
 use Rattle.meter_states.specs.{Common.{CachedRate, CoreTrip, Meterage, Seal, TableParts, run}, Lawful.{IsBetweenEvents}}
-use Rattle.meter_states.specs.{Core.{CoreData}, Equals.{intervals_of}, Stages.{FollowsStage}}
+use Rattle.meter_states.specs.{Core.{CoreData}, Stages.{FollowsStage}}
 
 -- a core has taken `taken` of `count` equal intervals if these are at most as many, it is between two events then, and
 -- its operating position and the store's number are the same

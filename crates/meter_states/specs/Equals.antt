@@ -1,11 +1,11 @@
 -- Rules: equal measuring intervals, one after the other, and when one more of them may go at once with those before.
 use Rattle.std.specs.Prelude.{[], ℕ, ◌*◌, ◌++◌, ◌+◌, ◌-◌, ◌<◌, ◌==◌, ◌∷◌, ◌≡◌, ◌≤◌, List, None, Option, Some}
-use Rattle.{std.specs.Prelude.{if◌then◌else◌, nat_lt, suc, zero}, taxi_units.specs.Limits.{hirings_end}}
+use Rattle.std.specs.Prelude.{if◌then◌else◌, nat_lt, suc, zero}
+use Rattle.{taxi_units.specs.Limits.{hirings_end}, meter_states.specs.Core.{CoreData}}
 use Rattle.drive_modes.specs.declared.meterage.Rounding.TheVariants.{Ahead, Behind}
 use Rattle.meter_states.specs.Common.{Cache, CachedRate, CachedTime, Context, CoreTrip, Display, Event, ForHire, Hired}
 use Rattle.meter_states.specs.Common.{IsNear, Meterage, Off, Operating, Pulses, Rounding, Seal, Stopped, TableParts}
 use Rattle.meter_states.specs.Common.{Tick, charge_of, fare_by_fees, longest_trip, roaming_most, steps_of}
-use Rattle.meter_states.specs.Core.{CoreData}
 
 -- a measuring interval has the event of its pulses, if it has any, and then the tick at its end
 abbrev pub interval_of : (pulses : ℕ) → List Event

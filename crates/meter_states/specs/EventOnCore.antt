@@ -1,8 +1,9 @@
 -- Rules: one event on the core, as `Core::step` and `Core::step_into` promise it.
-use Rattle.{std.specs.Prelude.{ℕ, ◌≡◌, ◌≢◌, All, List}, taxi_units.specs.declared.event.Event.TheVariants.{Up}}
-use Rattle.meter_states.specs.{Acts.{IsLawfulAct, KeepsRanges}, Lawful.{IsLawful, IsTimely}, Setting.{IsSettingOf}}
-use Rattle.meter_states.specs.{Cache.{CachedCore}, Core.{Meets, Stands}}
+use Rattle.std.specs.Prelude.{ℕ, ◌≡◌, ◌≢◌, All, List}
+use Rattle.{taxi_units.specs.declared.event.Event.TheVariants.{Up}, meter_states.specs.Acts.{IsLawfulAct, KeepsRanges}}
+use Rattle.meter_states.specs.Cache.{CachedCore}
 use Rattle.meter_states.specs.Common.{Act, Durable, Event, IsDurable, Meter, Off, Seal, Setting, TableParts, step}
+use Rattle.meter_states.specs.{Core.{Meets, Stands}, Lawful.{IsLawful, IsTimely}, Setting.{IsSettingOf}}
 
 -- a core may step under tables and a seal if it is lawful, the tables were compiled with the seal's constant, the event
 -- is timely, and it isn't an `Up` while the core is off, which is for `Core::resume`

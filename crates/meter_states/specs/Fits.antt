@@ -1,5 +1,6 @@
 -- Rules: which saved trips fit the tables.
-use Rattle.{std.specs.Prelude.{◌*◌}, taxi_units.specs.Test.{◌&◌, Test, at_most, less, same, stated, within}}
+use Rattle.std.specs.Prelude.{◌*◌}
+use Rattle.taxi_units.specs.Test.{◌&◌, Test, at_most, less, same, stated, within}
 use Rattle.meter_model.specs.Supplements.{allowed_test}
 use Rattle.meter_states.specs.{Common.{TableParts, Trip, amounts_from, largest_amount}, Supplements.{supplement_in}}
 

@@ -1,7 +1,8 @@
 -- Rules: of which texts tables and a seal are made.
-use Rattle.{std.specs.Prelude.{ℕ, ◌≡◌, List, Ok}, seal_record.specs.Reading.{params_read}}
-use Rattle.{tariff_syntax.specs.Reads.{Reads}, meter_model.specs.Setting.{setting_by}}
-use Rattle.meter_states.specs.{Common.{IsSound, Seal, TableParts, Tree}, Setting.{IsSettingOf}}
+use Rattle.std.specs.Prelude.{ℕ, ◌≡◌, List, Ok}
+use Rattle.{seal_record.specs.Reading.{params_read}, tariff_syntax.specs.Reads.{Reads}}
+use Rattle.{meter_model.specs.Setting.{setting_by}, meter_states.specs.Common.{IsSound, Seal, TableParts, Tree}}
+use Rattle.meter_states.specs.Setting.{IsSettingOf}
 
 -- tables and a seal are made of two texts if the first reads as a sound tariff and the second as parameters, and they
 -- are those of the setting of both

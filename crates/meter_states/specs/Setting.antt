@@ -1,5 +1,6 @@
 -- Rules: which tables are those of what the meter goes by.
-use Rattle.{std.specs.Prelude.{◌≡◌}, tariff_check.specs.SoundTariff.{sound_of}}
+use Rattle.std.specs.Prelude.{◌≡◌}
+use Rattle.tariff_check.specs.SoundTariff.{sound_of}
 use Rattle.meter_states.specs.Common.{IsSealOf, IsTablesOf, Seal, Setting, TableParts, Tree}
 
 -- tables are those of a setting if they are compiled, under its constant, from a tariff with the setting's parts

@@ -1,8 +1,9 @@
 //! The context of an interval, and what the interval weighs in it.
-ghost use Rattle.{std.specs.Prelude.{◌+◌, ◌≡◌, ◌≤◌, Some}, meter_states.specs.Cache.{IsCacheOf, IsCachedTimeOf}};
+ghost use Rattle.std.specs.Prelude.{◌+◌, ◌≡◌, ◌≤◌, Some};
+ghost use Rattle.meter_states.specs.{Cache.{IsCacheOf, IsCachedTimeOf}, Equals.{context_by}, Setting.{IsSettingOf}};
 ghost use Rattle.meter_states.specs.Common.{AreFit, CoreTrip, IsInRangeFor, IsSecond, Meter, Seal, Setting, context_of};
 ghost use Rattle.meter_states.specs.Common.{context_on, local_at, longest_trip, roaming_amid, weights_in_force};
-ghost use Rattle.meter_states.specs.{Core.{core_of}, Equals.{context_by}, Lawful.{IsPowered}, Setting.{IsSettingOf}};
+ghost use Rattle.meter_states.specs.{Core.{core_of}, Lawful.{IsPowered}};
 
 use crate::cache::{Cache, CachedTime, cached_time};
 use crate::meter_state::State;

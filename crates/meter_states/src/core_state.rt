@@ -1,5 +1,6 @@
 //! The core: the state of the meter, and the cache beside it.
-ghost use Rattle.{std.specs.Prelude.{◌≡◌}, meter_states.specs.{Common.{Off, Seal, TableParts}, Lawful.{IsLawful}}};
+ghost use Rattle.std.specs.Prelude.{◌≡◌};
+ghost use Rattle.meter_states.specs.{Common.{Off, Seal, TableParts}, Lawful.{IsLawful}};
 
 use crate::cache::Cache;
 use crate::meter_state::State;

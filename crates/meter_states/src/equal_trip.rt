@@ -1,6 +1,6 @@
 //! Trips after equal intervals, and how many there may be.
-ghost use Rattle.{std.specs.Prelude.{◌*◌, ◌+◌, ◌<◌, ◌^◌, ◌≡◌, ◌≤◌, ◌⊎◌}, meter_states.specs.Lawful.{IsLawfulTrip}};
-ghost use Rattle.meter_states.specs.Common.{TableParts, last_tick};
+ghost use Rattle.std.specs.Prelude.{◌*◌, ◌+◌, ◌<◌, ◌^◌, ◌≡◌, ◌≤◌, ◌⊎◌};
+ghost use Rattle.meter_states.specs.{Common.{TableParts, last_tick}, Lawful.{IsLawfulTrip}};
 ghost use Rattle.meter_states.specs.EqualStages as stages;
 ghost use Rattle.meter_states.specs.Equals as model;
 

@@ -1,8 +1,8 @@
 //! What the store keeps of a trip, and what its fare depends on.
-ghost use Rattle.{std.specs.Prelude.{◌≡◌, List, length}, meter_model.specs.KeptTrip.{HoldFits, IsTripKept}};
-ghost use Rattle.{meter_model.specs.Run.{opened}, meter_states.specs.{Common.{whole_run}, Setting.{IsTariffOf}}};
+ghost use Rattle.std.specs.Prelude.{◌≡◌, List, length};
+ghost use Rattle.{meter_model.specs.{KeptTrip.{HoldFits, IsTripKept}, Run.{opened}}, meter_states.specs.Fits.{Fits}};
 ghost use Rattle.meter_states.specs.Common.{Durable, Event, FitsSetting, Meter, Setting, TableParts, Trip, run, step};
-ghost use Rattle.meter_states.specs.Fits.{Fits};
+ghost use Rattle.meter_states.specs.{Common.{whole_run}, Setting.{IsTariffOf}};
 
 /// While the meter is off the store holds the saved form of its trip, and none for hire. A run begins so if the held
 /// trip fits, as one that fits the tables does. Each event, each list of events and each whole run keeps it so.

@@ -1,7 +1,8 @@
 //! The measuring interval: its pulses, the context of its beginning, and what it becomes at its end.
-ghost use Rattle.{std.specs.Prelude.{[], ◌+◌, ◌≡◌, ◌≢◌, ◌≤◌, None, sum}, meter_states.specs.Setting.{IsSettingOf}};
+ghost use Rattle.std.specs.Prelude.{[], ◌+◌, ◌≡◌, ◌≢◌, ◌≤◌, None, sum};
 ghost use Rattle.meter_model.specs.Interval.{interval_left, left_in, pulses_taken};
-ghost use Rattle.meter_states.specs.{Acts.{StayLawful}, Cache.{IsCacheOf}, Core.{ComesToOutcome, core_of}};
+ghost use Rattle.meter_states.specs.{Acts.{StayLawful}, Core.{ComesToOutcome, core_of}, Setting.{IsSettingOf}};
+ghost use Rattle.meter_states.specs.Cache.{IsCacheOf};
 ghost use Rattle.meter_states.specs.Common.{ForHire, Hired, Meter, Setting, Stopped, TableParts, counted_in};
 ghost use Rattle.meter_states.specs.Common.{interval_counted, last_tick, longest_trip, roaming_amid, roaming_between};
 ghost use Rattle.meter_states.specs.Lawful.{IsAmidEvent, IsBetweenEvents, IsPowered, counting_steps};

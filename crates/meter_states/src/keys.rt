@@ -1,5 +1,6 @@
 //! Keys: one may wait for the end of the interval, and acts then.
-ghost use Rattle.{std.specs.Prelude.{[], ◌+◌, ◌≡◌, ◌≤◌}, meter_model.specs.Keys.{key_in, latched}};
+ghost use Rattle.std.specs.Prelude.{[], ◌+◌, ◌≡◌, ◌≤◌};
+ghost use Rattle.meter_model.specs.Keys.{key_in, latched};
 ghost use Rattle.meter_states.specs.{Acts.{StayLawful}, Stages.{IsDoneIn, IsReadyForKey, MayClose}};
 ghost use Rattle.meter_states.specs.{Common.{Meter, Setting, TableParts, key_pressed}, Core.{ComesToOutcome, core_of}};
 ghost use Rattle.meter_states.specs.Lawful.{IsBetweenEvents, pressing_steps};

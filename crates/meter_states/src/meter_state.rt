@@ -1,7 +1,7 @@
 //! The state of the meter, as the core keeps it.
-ghost use Rattle.{std.specs.Prelude.{◌≡◌, ◌≤◌, None, Some}, meter_states.specs.Lawful.{IsPowered, is_busy}};
+ghost use Rattle.std.specs.Prelude.{◌≡◌, ◌≤◌, None, Some};
 ghost use Rattle.meter_states.specs.Common.{CoreTrip, Meter, Off, Setting, TableParts, longest_trip, roaming_amid};
-ghost use Rattle.meter_states.specs.Core.{core_of};
+ghost use Rattle.meter_states.specs.{Core.{core_of}, Lawful.{IsPowered, is_busy}};
 ghost use Rattle.meter_model.specs.Interval as interval;
 ghost use Rattle.meter_model.specs.Supply as supply;
 

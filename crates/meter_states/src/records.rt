@@ -1,8 +1,8 @@
 //! Entries and receipts.
-ghost use Rattle.{std.specs.Prelude.{◌+◌, ◌≡◌, ◌≢◌, ◌≤◌}, taxi_units.specs.Shown.{IsReceipt}};
-ghost use Rattle.{totals_record.specs.Ranges.{IsEntry}, meter_states.specs.Setting.{IsSettingOf, IsTariffOf}};
+ghost use Rattle.std.specs.Prelude.{◌+◌, ◌≡◌, ◌≢◌, ◌≤◌};
+ghost use Rattle.{taxi_units.specs.Shown.{IsReceipt}, totals_record.specs.Ranges.{IsEntry}};
 ghost use Rattle.meter_states.specs.Common.{Roam, Setting, longest_trip, number_most, roaming_amid};
-ghost use Rattle.meter_states.specs.{Lawful.{IsTripBeside}, Stages.{IsTripClosing}};
+ghost use Rattle.meter_states.specs.{Lawful.{IsTripBeside}, Setting.{IsSettingOf, IsTariffOf}, Stages.{IsTripClosing}};
 ghost use Rattle.meter_model.specs.ClosedTrip as model;
 ghost use Rattle.meter_model.specs.Trip as trips;
 

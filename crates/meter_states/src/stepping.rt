@@ -1,9 +1,9 @@
 //! What each event does.
-ghost use Rattle.{std.specs.Prelude.{[], ◌+◌, ◌↔◌, ◌≡◌, ◌≤◌, ◌⊎◌, IsTrue}, meter_model.specs.Step.{clock_read}};
-ghost use Rattle.meter_states.specs.{Acts.{StayLawful}, EventOnCore.{MayStep, Takes}, Setting.{IsSettingOf}};
-ghost use Rattle.meter_states.specs.Cache.{IsCacheOf};
+ghost use Rattle.std.specs.Prelude.{[], ◌+◌, ◌↔◌, ◌≡◌, ◌≤◌, ◌⊎◌, IsTrue};
+ghost use Rattle.{meter_model.specs.Step.{clock_read}, meter_states.specs.Core.{ComesToOutcome, Meets, core_of}};
+ghost use Rattle.meter_states.specs.{Acts.{StayLawful}, Cache.{IsCacheOf}, Setting.{IsSettingOf}};
 ghost use Rattle.meter_states.specs.Common.{IsSecond, Meter, Off, Setting, TableParts, powered_step};
-ghost use Rattle.meter_states.specs.{Core.{ComesToOutcome, Meets, core_of}, Lawful.{IsBetweenEvents, IsTimely}};
+ghost use Rattle.meter_states.specs.{EventOnCore.{MayStep, Takes}, Lawful.{IsBetweenEvents, IsTimely}};
 
 use crate::cache::Cache;
 use crate::core_state::Core;

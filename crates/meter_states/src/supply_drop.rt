@@ -1,9 +1,9 @@
 //! What a supply drop leaves.
-ghost use Rattle.{std.specs.Prelude.{[], ◌+◌, ◌<◌, ◌≡◌, ◌≤◌, Some}, totals_record.specs.Ranges.{IsTripInItsRanges}};
-ghost use Rattle.{meter_model.specs.Meter.{held}, meter_states.specs.Lawful.{IsBetweenEvents, IsPowered}};
-ghost use Rattle.meter_states.specs.{Acts.{StayLawful}, Fits.{Fits}};
+ghost use Rattle.std.specs.Prelude.{[], ◌+◌, ◌<◌, ◌≡◌, ◌≤◌, Some};
+ghost use Rattle.{totals_record.specs.Ranges.{IsTripInItsRanges}, meter_model.specs.Meter.{held}};
+ghost use Rattle.meter_states.specs.{Acts.{StayLawful}, Setting.{IsSettingOf}, Stages.{CarriesStage}};
 ghost use Rattle.meter_states.specs.Common.{Meter, Off, Setting, TableParts, last_number, last_tick, roaming_amid};
-ghost use Rattle.meter_states.specs.{Core.{ComesToOutcome, core_of}, Setting.{IsSettingOf}, Stages.{CarriesStage}};
+ghost use Rattle.meter_states.specs.{Core.{ComesToOutcome, core_of}, Fits.{Fits}, Lawful.{IsBetweenEvents, IsPowered}};
 ghost use Rattle.meter_model.specs.Supply as model;
 ghost use Rattle.meter_model.specs.Trip as trips;
 

@@ -1,6 +1,6 @@
 -- What a store of a body at place 0 means for the durable state.
-use Rattle.{std.proofs.Common.{ℕ, ◌≡◌, Some, subst}, slot_store.specs.Stages.{spare_at}}
-use Rattle.totals_record.specs.Reading.{reads}
+use Rattle.std.proofs.Common.{ℕ, ◌≡◌, Some, subst}
+use Rattle.{slot_store.specs.Stages.{spare_at}, totals_record.specs.Reading.{reads}}
 use Rattle.meter_store.specs.Common.{Durable, Ghosts, IsSettled, LeavesThroughout, Pair, Place, ShowsEither, WritesIn}
 use Rattle.meter_store.specs.Stored.{HasEither, HoldsState, LeavesEither, state_number_of, written_at}
 

@@ -1,7 +1,7 @@
 -- What scans found is what a sealing asks for.
-use Rattle.{std.proofs.Common.{ℕ, ◌≡◌, List, Option, subst, sym}, meter_store.specs.Sealing.{totals_found}}
+use Rattle.std.proofs.Common.{ℕ, ◌≡◌, List, Option, subst, sym}
 use Rattle.slot_store.specs.{Scan.{IsAsFound}, declared.found.Found.TheVariants.{Blank, Latest}}
-use Rattle.meter_store.specs.Common.{Durable, Found, Ghosts, Seal}
+use Rattle.meter_store.specs.{Common.{Durable, Found, Ghosts, Seal}, Sealing.{totals_found}}
 use Rattle.meter_store.specs.Sealing.{FoundSeal, FoundTotals, ScannedSeal, ScannedTotals, old_seal, seal_found}
 use Rattle.totals_record.specs.Reading as totals
 use Rattle.meter_store.specs.Stored as stored

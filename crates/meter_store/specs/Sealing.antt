@@ -1,9 +1,9 @@
 -- Rules: what a sealing leaves in the store. The pair of totals begins at place 0, the pair of seals at place 1,024.
-use Rattle.{std.specs.Prelude.{ℕ, ◌+◌, ◌≡◌, ◌⊎◌, List, None, Option, Some}, seal_record.specs.Ranges.{seal_number_of}}
+use Rattle.std.specs.Prelude.{ℕ, ◌+◌, ◌≡◌, ◌⊎◌, List, None, Option, Some}
 use Rattle.slot_store.specs.{Scan.{IsAsFound}, Sizes.{pair_size}, declared.found.Found.TheVariants.{Blank, Latest}}
-use Rattle.{slot_store.specs.Slots.{IsBlank, IsQuiet, Shows, StandsFor}, meter_store.specs.Common.{first_state}}
+use Rattle.{slot_store.specs.Slots.{IsBlank, IsQuiet, Shows, StandsFor}, seal_record.specs.Ranges.{seal_number_of}}
 use Rattle.meter_store.specs.Common.{Durable, Found, Ghosts, IsSettled, LeavesThroughout, Place, Seal, ShowsEither}
-use Rattle.meter_store.specs.Stored.{HasState, HoldsState}
+use Rattle.meter_store.specs.{Common.{first_state}, Stored.{HasState, HoldsState}}
 use Rattle.totals_record.specs.Reading as totals
 use Rattle.meter_store.specs.Stored as stored
 pub use Rattle.seal_record.specs.Decoding.{reads}

@@ -1,6 +1,6 @@
 -- Rules: what a board's store has of durable states. The pair of totals begins at place 0.
-use Rattle.{std.specs.Prelude.{ℕ, ◌-◌, List, Some, true}, slot_store.specs.Slots.{StandsFor, slot_at}}
-use Rattle.slot_store.specs.Sizes.{slot_size}
+use Rattle.std.specs.Prelude.{ℕ, ◌-◌, List, Some, true}
+use Rattle.slot_store.specs.{Sizes.{slot_size}, Slots.{StandsFor, slot_at}}
 use Rattle.meter_store.specs.Common.{Durable, Ghosts, IsSettled, LeavesThroughout, Place, ShowsEither}
 pub use Rattle.totals_record.specs.{Ranges.{state_number_of}, Reading.{reads}}
 

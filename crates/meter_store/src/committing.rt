@@ -1,6 +1,7 @@
 //! The commit: a new state over the one that the store has.
-ghost use Rattle.{std.specs.Prelude.{◌+◌, ◌≡◌, ◌≤◌, IfOk}, outside.specs.Faults.{HasCause}};
-ghost use Rattle.{slot_store.specs.Sizes.{slot_size}, totals_record.specs.{Ranges.{IsDurable}, States.{after}}};
+ghost use Rattle.std.specs.Prelude.{◌+◌, ◌≡◌, ◌≤◌, IfOk};
+ghost use Rattle.{outside.specs.Faults.{HasCause}, slot_store.specs.Sizes.{slot_size}};
+ghost use Rattle.totals_record.specs.{Ranges.{IsDurable}, States.{after}};
 ghost use Rattle.meter_store.specs.{Common.{WritesIn}, Stored.{HoldsState, LeavesEither, place_after, written_at}};
 
 use outside::{Board, Failed, STORE_SIZE};

@@ -1,6 +1,6 @@
 //! What scans say of a store that is to be sealed.
-ghost use Rattle.{std.specs.Prelude.{ℕ, ◌≡◌}, meter_store.specs.Sealing.{totals_found}};
-ghost use Rattle.meter_store.specs.Common.{Durable, Found, Seal};
+ghost use Rattle.std.specs.Prelude.{ℕ, ◌≡◌};
+ghost use Rattle.meter_store.specs.{Common.{Durable, Found, Seal}, Sealing.{totals_found}};
 ghost use Rattle.meter_store.specs.Sealing.{FoundSeal, FoundTotals, ScannedSeal, ScannedTotals, old_seal, seal_found};
 
 use outside::{Board, STORE_SIZE};

@@ -1,8 +1,8 @@
 -- By law: how rules are read from the front of a text, in the stages of the code. The law
 -- texts_say_rules_line_by_line says what the answers mean.
 use Rattle.std.specs.Prelude.{[], ℕ, ℤ, ◌*◌, ◌+◌, ◌==◌, ◌∷◌, Err, List, None, Ok, Option, Result, Some, codes}
-use Rattle.{std.specs.Prelude.{if◌then◌else◌, length, nat_lt, neg_ℤ, pos}, taxi_units.specs.Number.{figure_at}}
-use Rattle.{taxi_units.specs.Reading.{word_at}, interval_clock.specs.Offsets.{greatest_offset}}
+use Rattle.std.specs.Prelude.{if◌then◌else◌, length, nat_lt, neg_ℤ, pos}
+use Rattle.{taxi_units.specs.{Number.{figure_at}, Reading.{word_at}}, interval_clock.specs.Offsets.{greatest_offset}}
 use Rattle.offset_rules.specs.{Common.{◌>>=◌, BadLine, RuleFault, SameMonth, TooLong, day_names}, Rule.{Change, Rule}}
 use Rattle.offset_rules.specs.Names.{month_names, number_names}
 

@@ -1,6 +1,7 @@
 //! The dates and seconds of changes.
-ghost use Rattle.{std.specs.Prelude.{◌≡◌, ◌≤◌, pos}, interval_clock.specs.Calendar.{IsDateOf, weekday_of}};
-ghost use Rattle.offset_rules.specs.{Changes.{IsDateOfChange}, Common.{IsDate, day_number_of}, Rule.{IsChange}};
+ghost use Rattle.std.specs.Prelude.{◌≡◌, ◌≤◌, pos};
+ghost use Rattle.{interval_clock.specs.Calendar.{IsDateOf, weekday_of}, offset_rules.specs.Changes.{IsDateOfChange}};
+ghost use Rattle.offset_rules.specs.{Common.{IsDate, day_number_of}, Rule.{IsChange}};
 ghost use Rattle.offset_rules.specs.Changes as spec;
 ghost use Rattle.offset_rules.specs.Summer as spec_summer;
 

@@ -1,5 +1,6 @@
 //! Offsets, times and changes at the front of a text, and what stands after them.
-ghost use Rattle.{std.specs.Prelude.{◌≤◌, IfSome}, offset_rules.specs.{Common.{Gives, IsOffset}, Rule.{IsChange}}};
+ghost use Rattle.std.specs.Prelude.{◌≤◌, IfSome};
+ghost use Rattle.offset_rules.specs.{Common.{Gives, IsOffset}, Rule.{IsChange}};
 ghost use Rattle.offset_rules.specs.Reading as spec;
 
 use crate::names::{month, number, weekday};

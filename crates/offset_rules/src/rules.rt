@@ -1,7 +1,7 @@
 //! A yearly rule for summer time, and the offset that it gives a second.
-ghost use Rattle.{std.specs.Prelude.{[], ◌≡◌, ◌≤◌}, interval_clock.specs.Offsets.{IsSecond}};
-ghost use Rattle.offset_rules.specs.{Common.{IsOffset}, Reading.{whole}};
-ghost use Rattle.offset_rules.specs.{Pairs.{changes_of_year}, Rule.{IsChange, IsRule}, Summer.{offset_by}};
+ghost use Rattle.std.specs.Prelude.{[], ◌≡◌, ◌≤◌};
+ghost use Rattle.{interval_clock.specs.Offsets.{IsSecond}, offset_rules.specs.Pairs.{changes_of_year}};
+ghost use Rattle.offset_rules.specs.{Common.{IsOffset}, Reading.{whole}, Rule.{IsChange, IsRule}, Summer.{offset_by}};
 ghost use Rattle.offset_rules.specs.Summer as spec;
 
 use crate::changes::{SECONDS_OF_DAY, second_of_change};

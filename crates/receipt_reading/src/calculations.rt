@@ -1,5 +1,6 @@
 //! The line of a calculation, read back.
-ghost use Rattle.{std.specs.Prelude.{◌+◌}, receipt_reading.specs.Common.{Gives}};
+ghost use Rattle.std.specs.Prelude.{◌+◌};
+ghost use Rattle.receipt_reading.specs.Common.{Gives};
 ghost use Rattle.receipt_text.specs.Lines as spec;
 
 use crate::amounts::amount_behind;

@@ -1,6 +1,7 @@
 //! Numbers at the front of a text.
-ghost use Rattle.{std.specs.Prelude.{◌<◌, ◌^◌, ◌≤◌, IfSome}, taxi_units.specs.Reading.{GivesSame}};
-ghost use Rattle.{receipt_text.specs.Figures.{AreDigits}, receipt_reading.specs.Common.{Gives}};
+ghost use Rattle.std.specs.Prelude.{◌<◌, ◌^◌, ◌≤◌, IfSome};
+ghost use Rattle.{taxi_units.specs.Reading.{GivesSame}, receipt_text.specs.Figures.{AreDigits}};
+ghost use Rattle.receipt_reading.specs.Common.{Gives};
 ghost use Rattle.receipt_text.specs.Figures as spec;
 
 use taxi_units::{count_digits, word};

@@ -1,6 +1,7 @@
 //! Receipts that stand at the front of a text.
-ghost use Rattle.{std.specs.Prelude.{ℕ, ◌↔◌, ◌≡◌, ◌≤◌, Some, length, take}, receipt_reading.specs.Front.{IsInFront}};
+ghost use Rattle.std.specs.Prelude.{ℕ, ◌↔◌, ◌≡◌, ◌≤◌, Some, length, take};
 ghost use Rattle.receipt_reading.specs.{Common.{IsPart, IsReceipt, Part, Receipt}, SpelledFront.{IsSpelledInFront}};
+ghost use Rattle.receipt_reading.specs.Front.{IsInFront};
 
 use crate::ranges::{is_part, is_receipt};
 use crate::reading::receipt_at;

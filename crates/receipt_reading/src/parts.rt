@@ -1,6 +1,6 @@
 //! The lines of a part of a seal, read back.
-ghost use Rattle.{std.specs.{List.{prefix_len}, Prelude.{◌+◌, ◌≡◌, ◌≤◌, length}}, receipt_reading.specs.Common.{Gives}};
-ghost use Rattle.taxi_units.specs.Identifier.{is_identifier_character};
+ghost use Rattle.std.specs.{List.{prefix_len}, Prelude.{◌+◌, ◌≡◌, ◌≤◌, length}};
+ghost use Rattle.{taxi_units.specs.Identifier.{is_identifier_character}, receipt_reading.specs.Common.{Gives}};
 ghost use Rattle.receipt_text.specs.Lines as spec;
 
 use crate::digest::digest_at;

@@ -1,6 +1,6 @@
 //! Receipts that are read back.
-ghost use Rattle.{std.specs.Prelude.{◌↔◌, ◌≡◌, IsTrue, Some}, receipt_text.specs.Grammar.{IsReceiptText}};
-ghost use Rattle.receipt_text.specs.{Lines.{receipt_of}, Receipts.{receipt_text}};
+ghost use Rattle.std.specs.Prelude.{◌↔◌, ◌≡◌, IsTrue, Some};
+ghost use Rattle.receipt_text.specs.{Grammar.{IsReceiptText}, Lines.{receipt_of}, Receipts.{receipt_text}};
 ghost use Rattle.receipt_reading.specs.Common.{Gives, IsPart, IsReceipt, IsSpelled, Part, Receipt};
 ghost use Rattle.receipt_text.specs.Lines as spec;
 

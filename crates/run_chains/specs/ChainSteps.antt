@@ -1,5 +1,6 @@
 -- For proofs: one run of a chain by the values that the code has of it. Link says what such a run is.
-use Rattle.{std.specs.Prelude.{[], ℕ, ◌≡◌, ◌⊎◌, List, Option}, run_chains.specs.Chain.{Ran}}
+use Rattle.std.specs.Prelude.{[], ℕ, ◌≡◌, ◌⊎◌, List, Option}
+use Rattle.run_chains.specs.Chain.{Ran}
 use Rattle.run_chains.specs.{Common.{BoardState, Durable, FilesState, Fill, new_board}, Link.{IsLink, Link}}
 
 -- there is a run over an image, by a call of a program on a new board with that image; it has these files before and

@@ -1,6 +1,6 @@
 //! What any chain of runs and cuts of the power means, told apart from how the code works.
-ghost use Rattle.{std.specs.Prelude.{ℕ, ◌++◌, ◌∷◌, List}, totals_record.specs.Sums.{AddsUp}};
-ghost use Rattle.meter_run.specs.Points.{HasEntryOf, IsNumberedWithin};
+ghost use Rattle.std.specs.Prelude.{ℕ, ◌++◌, ◌∷◌, List};
+ghost use Rattle.{totals_record.specs.Sums.{AddsUp}, meter_run.specs.Points.{HasEntryOf, IsNumberedWithin}};
 ghost use Rattle.run_chains.specs.Chain.{HasByteOf, IsChain, last_image, last_state, prefixes_of};
 ghost use Rattle.run_chains.specs.{Common.{Durable, GrowsBy, HasState, entries_of}, Link.{Link, prefix_of}};
 ghost use Rattle.taxi_units.specs.declared.receipt.Receipt as receipts;

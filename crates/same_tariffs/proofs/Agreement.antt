@@ -1,5 +1,6 @@
 -- What two settings agree on, so that their meters do the same.
-use Rattle.{std.proofs.Common.{ℕ, ◌<◌, ◌≡◌, ◌≤◌}, same_tariffs.specs.Alike.{IsSameMoney}}
+use Rattle.std.proofs.Common.{ℕ, ◌<◌, ◌≡◌, ◌≤◌}
+use Rattle.same_tariffs.specs.Alike.{IsSameMoney}
 use Rattle.same_tariffs.specs.Common.{Meter, Setting, charge_at, context_now, context_of, fees_in_force, last_tick}
 use Rattle.same_tariffs.specs.{Common.{supplement_numbered, ticks_so_far, unit_of}, Reached.{AreSet, IsPlaced}}
 

@@ -1,11 +1,11 @@
 -- The laws of the public empty functions.
-use Rattle.{std.proofs.Common.{ℕ, ◌<◌, ◌≡◌, All, List, ap}, same_tariffs.specs.Common.{saved, steps_above, whole_run}}
+use Rattle.std.proofs.Common.{ℕ, ◌<◌, ◌≡◌, All, List, ap}
 use Rattle.same_tariffs.specs.Alike.{AreMeteragesAlike, AreOpeningsAlike, AreOutcomesAlike, AreStoresAlike, IsSameMoney}
 use Rattle.same_tariffs.specs.Common.{Durable, Event, IsMeterContext, IsSound, IsTimely, IsWritable, Meter}
 use Rattle.same_tariffs.specs.Common.{MeterContext, Mode, Opening, Rounding, Setting, Tree, events_of, opened, run}
+use Rattle.same_tariffs.specs.{Common.{saved, steps_above, whole_run}, Reached.{HoldGoesOn, IsWithinReach}}
 use Rattle.same_tariffs.specs.Contexts.{IsChargedIn, IsHiredIn, IsSettingInRange, meter_context_at, without_trip}
-use Rattle.same_tariffs.{specs.{Drives.{IsReached}, Reached.{HoldGoesOn, IsWithinReach}}, proofs.Timely.{drives-timely}}
-use Rattle.same_tariffs.specs.Same.{AreSameSettings}
+use Rattle.same_tariffs.{specs.{Drives.{IsReached}, Same.{AreSameSettings}}, proofs.Timely.{drives-timely}}
 use Rattle.same_tariffs.proofs.{DrivesToContexts.{each-reached}, Runs.{run-within, whole-alike, whole-goes_on}}
 use Rattle.same_tariffs.proofs.{MeterContexts.{agree, agree-self, charged-in, hired-in}, Money.{saved-same, steps-same}}
 

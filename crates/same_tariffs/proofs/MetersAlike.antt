@@ -1,13 +1,13 @@
 -- Two meters that stand alike under settings that agree, the first within reach, and outcomes that come to such meters.
 use Rattle.std.proofs.Common.{[], ℕ, ◌++◌, ◌+◌, ◌∷◌, ◌≡◌, ◌≤◌, Bool, List, None, Option, Some, ap, arith, false}
-use Rattle.{std.proofs.Common.{if◌then◌else◌, refl, subst, true}, taxi_units.specs.declared.receipt.Kind.{Kind}}
-use Rattle.{taxi_units.specs.declared.event.Why.{Why}, interval_clock.specs.declared.local_time.LocalTime.{LocalTime}}
-use Rattle.totals_record.specs.{Entries.{closes}, declared.entry.Entry.{Entry}}
-use Rattle.meter_model.specs.{ClosedTrip.{closed, entry_of_trip, receipt_of, trip_closed}, Interval.{context_on}}
-use Rattle.meter_model.specs.{Meter.{entered, held, printed}, declared.act.Act.{Act, TheVariants.{Receipt}}}
+use Rattle.std.proofs.Common.{if◌then◌else◌, refl, subst, true}
+use Rattle.{taxi_units.specs.declared.{event.Why.{Why}, receipt.Kind.{Kind}}, totals_record.specs.Entries.{closes}}
+use Rattle.{interval_clock.specs.declared.local_time.LocalTime.{LocalTime}, meter_model.specs.Interval.{context_on}}
+use Rattle.{totals_record.specs.declared.entry.Entry.{Entry}, meter_model.specs.declared.act.Act.TheVariants.{Receipt}}
+use Rattle.meter_model.specs.{ClosedTrip.{closed, entry_of_trip, receipt_of, trip_closed}, declared.act.Act.{Act}}
+use Rattle.{meter_model.specs.Meter.{entered, held, printed}, same_tariffs.specs.Reached.{GoesOn, HoldGoesOn, IsPlace}}
 use Rattle.same_tariffs.specs.Alike.{AreActsAlike, AreHeldAlike, AreHoldsAlike, AreTripsOfBothAlike, with_trips}
 use Rattle.same_tariffs.specs.Common.{ForHire, Meter, MeterTrip, Outcome, Setting, Trip, quiet, refused, ticks_so_far}
-use Rattle.same_tariffs.specs.Reached.{GoesOn, HoldGoesOn, IsPlace}
 use Rattle.same_tariffs.proofs.{Agreement.{Agree}, Trips.{entry-alike, pulses-alike, receipt-alike, ticks-alike}}
 use Rattle.taxi_units.specs.declared.receipt.Receipt as receipts
 

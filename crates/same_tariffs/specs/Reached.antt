@@ -1,5 +1,6 @@
 -- Rules: the states that a meter comes to in runs.
-use Rattle.{std.specs.Prelude.{ℕ, ◌≤◌, None, Option, Some}, tariff_check.specs.SoundTariff.{SoundTariff}}
+use Rattle.std.specs.Prelude.{ℕ, ◌≤◌, None, Option, Some}
+use Rattle.tariff_check.specs.SoundTariff.{SoundTariff}
 use Rattle.same_tariffs.specs.Common.{IsFromTo, IsSecond, Meter, Setting, Trip, last_tick, ticks_so_far}
 
 -- a position and a zone are set under a tariff if they are among those that it has

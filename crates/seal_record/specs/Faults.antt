@@ -1,7 +1,8 @@
 -- Rules: what is wrong with a line of a parameter text, in words that share nothing with how it is read.
-use Rattle.{std.specs.Prelude.{ℕ, ℤ, ◌≡◌, ◌≢◌, List, Some, codes}, seal_record.specs.Common.{Unknown}}
+use Rattle.std.specs.Prelude.{ℕ, ℤ, ◌≡◌, ◌≢◌, List, Some, codes}
 use Rattle.seal_record.specs.Common.{BadValue, Constant, Hold, Mode, Name, Offset, ParamFault, Secured, Taxi, Twice}
-use Rattle.seal_record.specs.{ParamLine.{IsSilent, LineAddsParam}, ParamsSoFar.{ParamsSoFar}, TextParts.{IsParted}}
+use Rattle.seal_record.specs.{Common.{Unknown}, ParamLine.{IsSilent, LineAddsParam}, ParamsSoFar.{ParamsSoFar}}
+use Rattle.seal_record.specs.TextParts.{IsParted}
 use Rattle.seal_record.specs.declared.params.Name.TheVariants as name
 
 -- the key of a parameter is its name in small letters

@@ -1,11 +1,11 @@
 -- By law: what one more line of a parameter text says, in the stages of the code. The laws
 -- lines_say_their_parameter and bad_lines_have_their_fault say what it is.
 use Rattle.std.specs.Prelude.{[], ℕ, ℤ, ◌++◌, ◌∷◌, Bool, Err, List, None, Ok, Option, Result, Some, codes, false}
-use Rattle.{std.specs.{Prelude.{if◌then◌else◌, is_some}, Str.{bytes_eq}}, seal_record.specs.Common.{Unknown, number_in}}
+use Rattle.std.specs.{Prelude.{if◌then◌else◌, is_some}, Str.{bytes_eq}}
 use Rattle.seal_record.specs.Common.{◌>>=◌, BadValue, Constant, Hold, Name, Offset, ParamFault, Secured, Taxi, Twice}
-use Rattle.seal_record.specs.{Limits.{greatest_constant, least_constant, longest_hold}, OffsetList.{is_offset_list}}
-use Rattle.seal_record.specs.Lines.{is_passed, key_in, value_in}
-use Rattle.seal_record.specs.{ParamsSoFar.{ParamsSoFar}, Values.{mode_read, pair_read, secured_read, taxi_read}}
+use Rattle.seal_record.specs.{Common.{Unknown, number_in}, Limits.{greatest_constant, least_constant, longest_hold}}
+use Rattle.seal_record.specs.{Lines.{is_passed, key_in, value_in}, ParamsSoFar.{ParamsSoFar}}
+use Rattle.seal_record.specs.{OffsetList.{is_offset_list}, Values.{mode_read, pair_read, secured_read, taxi_read}}
 use Rattle.seal_record.specs.declared.params.Name.TheVariants as name
 
 -- the parameter of a key, if the key is one of the six

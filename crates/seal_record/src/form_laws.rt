@@ -1,7 +1,7 @@
 //! The forms of values, in words that share nothing with how they are read.
-ghost use Rattle.{std.specs.Prelude.{ℕ, ℤ, ◌↔◌, ◌≡◌, Err, List, Ok, Some}, seal_record.specs.ParamLine.{LineAddsParam}};
+ghost use Rattle.std.specs.Prelude.{ℕ, ℤ, ◌↔◌, ◌≡◌, Err, List, Ok, Some};
 ghost use Rattle.seal_record.specs.{Common.{Mode, ParamFault}, Forms.{IsDateText, IsModeText, IsPairText}};
-ghost use Rattle.seal_record.specs.{Faults.{IsBad}, ParamsSoFar.{ParamsSoFar}};
+ghost use Rattle.seal_record.specs.{Faults.{IsBad}, ParamLine.{LineAddsParam}, ParamsSoFar.{ParamsSoFar}};
 ghost use Rattle.seal_record.specs.{ParamLineStages.{line_read}, Values.{mode_read, pair_read, secured_read}};
 
 /// A law: a mode is one of two words; an offset's value is the digits of its second, one blank, and a

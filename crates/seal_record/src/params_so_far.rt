@@ -1,5 +1,6 @@
 //! What the lines of a text have said so far.
-ghost use Rattle.{std.specs.Prelude.{[], ◌++◌, ◌∷◌, ◌≡◌, None, Some, if◌then◌else◌}, seal_record.specs.Common.{Gives}};
+ghost use Rattle.std.specs.Prelude.{[], ◌++◌, ◌∷◌, ◌≡◌, None, Some, if◌then◌else◌};
+ghost use Rattle.seal_record.specs.Common.{Gives};
 ghost use Rattle.seal_record.specs.{OffsetList.{is_offset_list}, ParamsSoFar.{no_params_yet}, Reading.{whole}};
 ghost use Rattle.seal_record.specs.ParamLineStages.{is_twice, keyed_line, line_read, with_pair, with_value};
 ghost use Rattle.seal_record.specs.ParamLineStages as spec;

@@ -1,8 +1,8 @@
 //! The values of the parameters.
-ghost use Rattle.{std.specs.{List.{list_all}, Prelude.{[], ◌≡◌, ◌≤◌}}, seal_record.specs.Common.{Gives, number_in}};
+ghost use Rattle.std.specs.{List.{list_all}, Prelude.{[], ◌≡◌, ◌≤◌}};
 ghost use Rattle.taxi_units.specs.{Identifier.{is_identifier_character}, Reading.{GivesSame}};
+ghost use Rattle.seal_record.specs.{Common.{Gives, number_in}, RangeTests.{taxi_test}};
 ghost use Rattle.seal_record.specs.Limits.{first_year, greatest_constant, last_year, least_constant, longest_hold};
-ghost use Rattle.seal_record.specs.RangeTests.{taxi_test};
 ghost use Rattle.seal_record.specs.Values as spec;
 
 use crate::names::is_text;

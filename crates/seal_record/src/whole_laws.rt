@@ -1,7 +1,8 @@
 //! What a whole text of parameters says.
-ghost use Rattle.{std.specs.Prelude.{ℕ, ◌<◌, ◌↔◌, ◌≡◌, Err, List, Ok, length}, seal_record.specs.Limits.{longest_text}};
+ghost use Rattle.std.specs.Prelude.{ℕ, ◌<◌, ◌↔◌, ◌≡◌, Err, List, Ok, length};
 ghost use Rattle.seal_record.specs.{Common.{Name, Params, TooLong}, declared.params.ParamFault.TheVariants.{Missing}};
-ghost use Rattle.seal_record.specs.{ParamText.{IsTextOfParams, LacksFirst}, Reading.{params_read}};
+ghost use Rattle.seal_record.specs.{Limits.{longest_text}, ParamText.{IsTextOfParams, LacksFirst}};
+ghost use Rattle.seal_record.specs.Reading.{params_read};
 
 /// A law: a text is read as parameters exactly if it has at most 65,536 bytes and its lines, from the first to the
 /// last, say each of these parameters, and nothing else.

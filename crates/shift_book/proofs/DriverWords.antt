@@ -1,8 +1,8 @@
 -- Words that are drivers.
-use Rattle.{std.specs.{List.{prefix_len}, Prelude.{◌==◌, ◌||◌, nat_lt}}, shift_book.specs.Marks.{IsDriver}}
+use Rattle.std.specs.{List.{prefix_len}, Prelude.{◌==◌, ◌||◌, nat_lt}}
 use Rattle.std.proofs.Common.{[], ℕ, ◌++◌, ◌∙◌, ◌∷◌, ◌≡◌, ◌≢◌, Bool, List, None, Option, Some, ap, arith, cond, drop}
 use Rattle.std.proofs.{Common.{false, length, refl, sym, take, true}, lemmas.List.{append-nil, take-append-drop}}
-use Rattle.shift_book.specs.Common.{◌>>=◌, is_identifier_character}
+use Rattle.shift_book.specs.{Common.{◌>>=◌, is_identifier_character}, Marks.{IsDriver}}
 use Rattle.shift_book.{specs.Reading.{alone, counted_driver, driver_at, driver_of}, proofs.Again.{driver_back}}
 
 -- a driver is read as it is

@@ -1,7 +1,7 @@
 -- The mark at the front of a text is the one that is read there.
-use Rattle.{std.proofs.Common.{ℕ, ◌∙◌, ◌≡◌, List, None, Option, Some, ap, arith}, taxi_units.specs.Reading.{word_at}}
-use Rattle.{taxi_units.proofs.Laws.{words_are_read_by_their_text}, shift_book.specs.Common.{Durable, Numbers}}
-use Rattle.shift_book.{specs.Books.{IsNext}, proofs.Again.{mark_back}}
+use Rattle.std.proofs.Common.{ℕ, ◌∙◌, ◌≡◌, List, None, Option, Some, ap, arith}
+use Rattle.taxi_units.{specs.Reading.{word_at}, proofs.Laws.{words_are_read_by_their_text}}
+use Rattle.shift_book.{specs.{Books.{IsNext}, Common.{Durable, Numbers}}, proofs.Again.{mark_back}}
 use Rattle.shift_book.specs.{MarkOrder.{Fit, IsNowhereLess, numbers_in}, Marks.{Signing, mark_text}, Reading.{mark_at}}
 
 -- smaller numbers fit too

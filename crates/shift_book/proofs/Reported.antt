@@ -1,7 +1,7 @@
 -- The drivers' sums that a report has, and the report.
-use Rattle.{std.proofs.Common.{[], ℕ, ◌∷◌, ◌≡◌, List, None, ap, refl}, shift_book.specs.Report.{IsReport, report_text}}
+use Rattle.std.proofs.Common.{[], ℕ, ◌∷◌, ◌≡◌, List, None, ap, refl}
 use Rattle.shift_book.specs.{Common.{Durable, Numbers, Shift}, ShareStages.{sum_so_far, with_shift, with_shifts}}
-use Rattle.shift_book.specs.{MarkOrder.{FollowOn, numbers_in}, Marks.{Signing}}
+use Rattle.shift_book.specs.{MarkOrder.{FollowOn, numbers_in}, Marks.{Signing}, Report.{IsReport, report_text}}
 use Rattle.shift_book.specs.Shares.{AreOrdered, AreSums, Driver, driver_cmp, grown, growth_in, plus, shifts_in}
 use Rattle.shift_book.proofs.{DriverSums.{SoFar, driver_total, none_left, none_yet, one_more}, ReportLines.{report_is}}
 use Rattle.shift_book.proofs.{GrowthSums.{rises}, Inserted.{insert_found, insert_ordered, none_ordered}}

@@ -1,6 +1,6 @@
 //! What the answer to the text of a book means; a text has one answer at most.
-ghost use Rattle.{std.specs.Prelude.{ℕ, ◌<◌, ◌↔◌, ◌≡◌, Err, List, Ok, length}, shift_book.specs.Marks.{Signing}};
-ghost use Rattle.shift_book.specs.BookReading.{book_read};
+ghost use Rattle.std.specs.Prelude.{ℕ, ◌<◌, ◌↔◌, ◌≡◌, Err, List, Ok, length};
+ghost use Rattle.shift_book.specs.{BookReading.{book_read}, Marks.{Signing}};
 ghost use Rattle.shift_book.specs.{Books.{IsBook, IsFirstBad, longest}, Common.{Durable}, MarkOrder.{Fit, numbers_in}};
 ghost use Rattle.shift_book.specs.declared.book.BookFault.TheVariants as BookFault;
 

@@ -1,5 +1,6 @@
 //! Digits at the front of a text.
-ghost use Rattle.{std.specs.Prelude.{◌≡◌, length}, shift_book.specs.Common.{Gives, GivesSame, digits_at_front}};
+ghost use Rattle.std.specs.Prelude.{◌≡◌, length};
+ghost use Rattle.shift_book.specs.Common.{Gives, GivesSame, digits_at_front};
 ghost use Rattle.shift_book.specs.Reading as spec;
 
 use taxi_units::count_digits;

@@ -1,6 +1,6 @@
 //! Which mark may follow in a book.
-ghost use Rattle.{std.specs.Prelude.{ℕ, ◌↔◌, ◌≡◌, IfNone, IfSome, IsTrue, List}, shift_book.specs.Common.{Durable}};
-ghost use Rattle.shift_book.specs.Books.{IsNext};
+ghost use Rattle.std.specs.Prelude.{ℕ, ◌↔◌, ◌≡◌, IfNone, IfSome, IsTrue, List};
+ghost use Rattle.shift_book.specs.{Books.{IsNext}, Common.{Durable}};
 ghost use Rattle.shift_book.specs.{MarkOrder.{Fit, MayFollow, last_of, numbers_in}, Marks.{HasDriver, Signing}};
 
 use crate::mark::{Mark, spelled};

@@ -1,6 +1,6 @@
 //! Shifts, and the growth between the points of a book.
-ghost use Rattle.{std.specs.Prelude.{◌++◌, ◌≡◌, IfOk, OnOk}, shift_book.specs.Shares.{unsigned_in}};
-ghost use Rattle.shift_book.specs.{MarkOrder.{Fit, IsNowhereLess}, ShareStages.{Rise}};
+ghost use Rattle.std.specs.Prelude.{◌++◌, ◌≡◌, IfOk, OnOk};
+ghost use Rattle.shift_book.specs.{MarkOrder.{Fit, IsNowhereLess}, ShareStages.{Rise}, Shares.{unsigned_in}};
 ghost use Rattle.shift_book.specs.Shares.{begun_by, free_behind, grown, growth_in, next_point, plus, shifts_in};
 
 use crate::mark::Mark;

@@ -1,5 +1,6 @@
 //! What a slot holds.
-ghost use Rattle.{std.specs.Prelude.{ℕ, ◌≡◌, List, Option}, slot_bodies.specs.Bodies.{AreBodies}};
+ghost use Rattle.std.specs.Prelude.{ℕ, ◌≡◌, List, Option};
+ghost use Rattle.slot_bodies.specs.Bodies.{AreBodies};
 
 /// How many bytes a body has.
 pub const BODY_SIZE: usize = 511;

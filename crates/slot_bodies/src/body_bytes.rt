@@ -1,6 +1,7 @@
 //! The bytes of a body, one field after another. Numbers have their greatest byte first.
-ghost use Rattle.{std.specs.Prelude.{◌++◌, ◌+◌, ◌≡◌, ◌≤◌, length, replicate}, arrayvec.specs.ArrayVec.{array_vec_len}};
-ghost use Rattle.slot_bodies.specs.{Bodies.{body_size}, BytesAt.{eight_at, four_at, two_at}};
+ghost use Rattle.std.specs.Prelude.{◌++◌, ◌+◌, ◌≡◌, ◌≤◌, length, replicate};
+ghost use Rattle.{arrayvec.specs.ArrayVec.{array_vec_len}, slot_bodies.specs.BytesAt.{eight_at, four_at, two_at}};
+ghost use Rattle.slot_bodies.specs.Bodies.{body_size};
 
 use crate::body::BODY_SIZE;
 use arrayvec::ArrayVec;

@@ -1,7 +1,8 @@
 //! What a pair of slots stands for.
-ghost use Rattle.{std.specs.Prelude.{◌+◌, ◌≡◌, ◌≤◌, IfOk, IsErr, IsErrOf, OnOk}, outside.specs.Faults.{RisesOnlyIf}};
-ghost use Rattle.slot_store.specs.{Common.{HasCause}, Scan.{IsAsFound, IsValidFinding, found_at}, Sizes.{last_pair}};
-ghost use Rattle.slot_store.specs.{Syncs.{ReadsOnly, SyncsFirst}, Verdicts.{AreOfSlots, content_of, verdict_on}};
+ghost use Rattle.std.specs.Prelude.{◌+◌, ◌≡◌, ◌≤◌, IfOk, IsErr, IsErrOf, OnOk};
+ghost use Rattle.{outside.specs.Faults.{RisesOnlyIf}, slot_store.specs.Verdicts.{AreOfSlots, content_of, verdict_on}};
+ghost use Rattle.slot_store.specs.{Common.{HasCause}, Sizes.{last_pair}};
+ghost use Rattle.slot_store.specs.{Scan.{IsAsFound, IsValidFinding, found_at}, Syncs.{ReadsOnly, SyncsFirst}};
 
 use crate::found::SlotContent;
 use crate::pair::{OPEN, SLOT_SIZE};

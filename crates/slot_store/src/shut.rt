@@ -1,6 +1,7 @@
 //! The second stage: the body is written behind the shut gate.
-ghost use Rattle.{std.specs.Prelude.{◌+◌, ◌≡◌, ◌≤◌, IfOk, OnOk, Option}, slot_bodies.specs.Bodies.{body_size}};
-ghost use Rattle.slot_store.specs.{Common.{HasCause, Pair}, Slots.{bytes_behind}, Stages.{spare_at}};
+ghost use Rattle.std.specs.Prelude.{◌+◌, ◌≡◌, ◌≤◌, IfOk, OnOk, Option};
+ghost use Rattle.{slot_bodies.specs.Bodies.{body_size}, slot_store.specs.{Common.{HasCause, Pair}, Stages.{spare_at}}};
+ghost use Rattle.slot_store.specs.Slots.{bytes_behind};
 ghost use Rattle.slot_store.specs.Stages.{IsPair, IsShutOn, LeavesLatest, MayWrite, WritesBody, WritesOfSpare};
 
 use crate::synced_write::write_and_sync;

@@ -1,6 +1,6 @@
 //! The three stages in a row.
-ghost use Rattle.{std.specs.Prelude.{◌+◌, ◌≡◌, ◌≤◌, IfOk, Option, false}, slot_store.specs.Common.{HasCause}};
-ghost use Rattle.slot_store.specs.{Sizes.{slot_size}, Writes.{WritesIn}};
+ghost use Rattle.std.specs.Prelude.{◌+◌, ◌≡◌, ◌≤◌, IfOk, Option, false};
+ghost use Rattle.slot_store.specs.{Common.{HasCause}, Sizes.{slot_size}, Writes.{WritesIn}};
 ghost use Rattle.slot_store.specs.Stages.{IsSettledOn, LeavesLatestOrNew, MayGet, is_spare_open, new_place, spare_at};
 
 use crate::{Place, Ready};

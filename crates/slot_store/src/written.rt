@@ -1,6 +1,6 @@
 //! The third stage: the gate is opened.
-ghost use Rattle.{std.specs.Prelude.{◌+◌, ◌≡◌, ◌≤◌, IfOk, OnOk, Option}, slot_store.specs.Stages.{spare_at}};
-ghost use Rattle.slot_store.specs.Common.{HasCause, Pair};
+ghost use Rattle.std.specs.Prelude.{◌+◌, ◌≡◌, ◌≤◌, IfOk, OnOk, Option};
+ghost use Rattle.slot_store.specs.{Common.{HasCause, Pair}, Stages.{spare_at}};
 ghost use Rattle.slot_store.specs.Stages.{IsPair, IsWrittenOn, LeavesLatestOrNew, OpensAt, WritesOfSpare, new_place};
 
 use crate::pair::OPEN;

@@ -1,7 +1,8 @@
 -- Which faults of parameters, rules and books are those of a read.
-use Rattle.{std.proofs.Common.{◌≡◌, ◌≢◌, refl}, store_commands.specs.declared.params.ParamsFault.{ParamsFault}}
+use Rattle.std.proofs.Common.{◌≡◌, ◌≢◌, refl}
 use Rattle.store_commands.specs.{Common.{BookFault, ReadFault, ReportFault, RulesFault}, Shifts.{ended_for_book}}
 use Rattle.store_commands.specs.StoreEnds.{ended_for_params, ended_for_report, ended_for_rules}
+use Rattle.store_commands.specs.declared.params.ParamsFault.{ParamsFault}
 use Rattle.store_commands.specs.declared.offsets.RulesFault.TheVariants as rules
 use Rattle.store_commands.specs.declared.shifts.ReportFault.TheVariants as reports
 use Rattle.shift_book.specs.declared.book.BookFault.TheVariants as books

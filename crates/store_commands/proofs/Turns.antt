@@ -1,6 +1,7 @@
 -- What is left of the files of two words that are read one behind the other.
-use Rattle.{std.proofs.Common.{ℕ, ◌∙◌, ◌≡◌, inl, inr, subst}, outside.specs.declared.files.Files.{Ghosts as FileGhosts}}
-use Rattle.store_commands.specs.{Common.{LeavesOthers, Rose}, ReadInTurn.{HasFailed, ReadsInTurn}}
+use Rattle.std.proofs.Common.{ℕ, ◌∙◌, ◌≡◌, inl, inr, subst}
+use Rattle.{outside.specs.declared.files.Files.{Ghosts as FileGhosts}, store_commands.specs.Common.{LeavesOthers, Rose}}
+use Rattle.store_commands.specs.ReadInTurn.{HasFailed, ReadsInTurn}
 
 module _ {E : Type 0} (F : FileGhosts E) where
   -- what a call leaves of the counts if no read failed

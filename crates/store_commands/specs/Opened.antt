@@ -1,8 +1,9 @@
 -- For proofs: what an opening of the store leaves. Opening says what an image stands for.
-use Rattle.{std.specs.Prelude.{ℕ, ◌≡◌, ◌⊎◌}, slot_store.specs.Scan.{IsValidFinding}}
-use Rattle.{call_ends.specs.declared.ending.Ended.TheVariants.{NotSealed}, store_commands.specs.Opening.{store_ended}}
+use Rattle.std.specs.Prelude.{ℕ, ◌≡◌, ◌⊎◌}
+use Rattle.{slot_store.specs.Scan.{IsValidFinding}, call_ends.specs.declared.ending.Ended.TheVariants.{NotSealed}}
 use Rattle.store_commands.specs.Common.{Durable, Ended, Ghosts, IsAsFound, IsAsHeld, IsAtRest, IsDurable, IsSeal}
 use Rattle.store_commands.specs.Common.{LeavesFromSync, Opening, Place, ReadsOnly, Rose, StoreFault}
+use Rattle.store_commands.specs.Opening.{store_ended}
 use Rattle.totals_record.specs.Reading as totals
 use Rattle.meter_store.specs.Stored as states
 use Rattle.seal_record.specs.Decoding as seals

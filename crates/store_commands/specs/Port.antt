@@ -1,7 +1,7 @@
 -- Rules: the command `port REQUESTS`.
-use Rattle.{std.specs.Prelude.{[], ℕ, ◌+◌, ◌≡◌, Err, List, Ok, Result, Some}, data_port.specs.Reading.{requests_in}}
+use Rattle.std.specs.Prelude.{[], ℕ, ◌+◌, ◌≡◌, Err, List, Ok, Result, Some}
+use Rattle.data_port.specs.{Reading.{requests_in}, ServedStream.{requests_of, stream_end}}
 use Rattle.data_port.specs.ServedStream.{BadAt, Endless, IsBoundedByRequests, IsGoing, StreamEnd, Whole, replies}
-use Rattle.data_port.specs.ServedStream.{requests_of, stream_end}
 use Rattle.call_ends.specs.{LastLine.{bad_frame_line, endless_requests_line}, Stream.{Requests}}
 use Rattle.store_commands.specs.Common.{Answer, Command, Durable, Ended, Seal, refused_as, shows}
 use Rattle.store_commands.specs.Opening.{IsSealedIn, opening_in, store_of}

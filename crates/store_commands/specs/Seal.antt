@@ -1,7 +1,7 @@
 -- Rules: the command `seal TARIFF PARAMS`.
 use Rattle.std.specs.Prelude.{[], ℕ, ◌++◌, ◌+◌, ◌<◌, ◌==◌, ◌≡◌, ◌≤◌, ◌⊎◌, Err, List, None, Ok, Option, Result, Some}
-use Rattle.{std.specs.Prelude.{if◌then◌else◌, is_some, take}, sha2.specs.Sha256.{sha256}}
-use Rattle.{outside.specs.Disk.{IsWithin, SameBut}, slot_store.specs.Sizes.{pair_size}}
+use Rattle.std.specs.Prelude.{if◌then◌else◌, is_some, take}
+use Rattle.{sha2.specs.Sha256.{sha256}, outside.specs.Disk.{IsWithin, SameBut}, slot_store.specs.Sizes.{pair_size}}
 use Rattle.{seal_record.specs.Reading.{params_read}, meter_store.specs.Sealing.{IsAmid, IsSealed, seals_at}}
 use Rattle.call_ends.specs.{Answer.{shows_line}, declared.ending.Ended.TheVariants.{BadTariff, SealEnded, TripHeld}}
 use Rattle.store_commands.specs.Common.{Answer, BadParams, Base, Blank, Command, Durable, Ended, Found, Ghosts, Latest}

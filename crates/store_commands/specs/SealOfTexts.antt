@@ -1,5 +1,6 @@
 -- Rules: what a seal secures of the two texts with which a store is sealed, and seals that secure the same.
-use Rattle.{std.specs.Prelude.{ℕ, ◌≡◌, List, Ok}, sha2.specs.Sha256.{sha256}, seal_record.specs.Reading.{params_read}}
+use Rattle.std.specs.Prelude.{ℕ, ◌≡◌, List, Ok}
+use Rattle.{sha2.specs.Sha256.{sha256}, seal_record.specs.Reading.{params_read}}
 use Rattle.store_commands.specs.Common.{Seal, Tree, tariff_in}
 
 -- a seal is of a tariff's text and a parameter text if it secures the parameters that are read, the digest of the first

@@ -1,6 +1,7 @@
 //! The commands `mark on DRIVER` and `mark off`.
-ghost use Rattle.{std.specs.Prelude.{ℕ, ◌<◌, ◌≡◌, ◌≤◌, List, length}, store_commands.specs.Mark.{mark_command}};
+ghost use Rattle.std.specs.Prelude.{ℕ, ◌<◌, ◌≡◌, ◌≤◌, List, length};
 ghost use Rattle.store_commands.specs.Common.{Carries, line_size, mark_text, no_files, numbers_in};
+ghost use Rattle.store_commands.specs.Mark.{mark_command};
 ghost use Rattle.store_commands.specs.Mark as spec;
 
 use crate::sealed::open_sealed;

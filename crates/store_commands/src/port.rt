@@ -1,6 +1,6 @@
 //! The command `port`.
-ghost use Rattle.{std.specs.Prelude.{◌≡◌}, store_commands.specs.{Port.{port_command}, StoreEnds.{ended_serving}}};
-ghost use Rattle.store_commands.specs.Common.{Carries};
+ghost use Rattle.std.specs.Prelude.{◌≡◌};
+ghost use Rattle.store_commands.specs.{Common.{Carries}, Port.{port_command}, StoreEnds.{ended_serving}};
 
 use crate::sealed::open_sealed;
 use call_ends::Ended;

@@ -1,8 +1,9 @@
 //! What the text of what a store was sealed with is read as, and what it seals again.
-ghost use Rattle.{std.specs.Prelude.{ℕ, ◌≡◌, List, Ok}, sha2.specs.Sha256.{sha256}};
-ghost use Rattle.{seal_record.specs.Reading.{params_read}, store_commands.specs.SealedText.{sealed_text}};
+ghost use Rattle.std.specs.Prelude.{ℕ, ◌≡◌, List, Ok};
+ghost use Rattle.{sha2.specs.Sha256.{sha256}, seal_record.specs.Reading.{params_read}};
 ghost use Rattle.store_commands.specs.{Common.{Durable, IsSeal, Seal, Sealing, Tree, tariff_in}, Seal.{sealing_of}};
 ghost use Rattle.store_commands.specs.{Opening.{opening_in, store_of}, SealOfTexts.{IsSealOfTexts, SecureTheSame}};
+ghost use Rattle.store_commands.specs.SealedText.{sealed_text};
 
 /// A law: what `sealed` prints of a seal is read as the seal's parameters, for any seal in its ranges.
 pub fn sealed_texts_are_read_back()

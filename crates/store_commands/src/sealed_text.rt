@@ -1,7 +1,7 @@
 //! The text of what a store was sealed with.
-ghost use Rattle.{std.specs.Prelude.{[], ◌++◌, ◌+◌, ◌<◌, ◌∷◌, ◌≡◌, ◌≤◌, codes, map}, seal_record.specs.Ranges.{IsDay}};
+ghost use Rattle.std.specs.Prelude.{[], ◌++◌, ◌+◌, ◌<◌, ◌∷◌, ◌≡◌, ◌≤◌, codes, map};
 ghost use Rattle.arrayvec.specs.ArrayVec.{array_vec_len};
-ghost use Rattle.seal_record.specs.PlainText.{line_of, mode_text, settings_lines};
+ghost use Rattle.seal_record.specs.{PlainText.{line_of, mode_text, settings_lines}, Ranges.{IsDay}};
 ghost use Rattle.store_commands.specs.{Common.{comment_line, ended_text, line_size}, SealedText.{seal_comments}};
 ghost use Rattle.seal_record.specs.PlainText as spec;
 

@@ -1,5 +1,6 @@
 //! The text of totals.
-ghost use Rattle.{std.specs.Prelude.{◌++◌, ◌+◌, ◌<◌, ◌≡◌, ◌≤◌, length}, arrayvec.specs.ArrayVec.{array_vec_len}};
+ghost use Rattle.std.specs.Prelude.{◌++◌, ◌+◌, ◌<◌, ◌≡◌, ◌≤◌, length};
+ghost use Rattle.arrayvec.specs.ArrayVec.{array_vec_len};
 ghost use Rattle.store_commands.specs.{Common.{line_size}, TotalsText.{share_text, summary_text, totals_heading}};
 ghost use Rattle.store_commands.specs.TotalsText.{amount_line, distances_text, held_line, money_lines, position_text};
 

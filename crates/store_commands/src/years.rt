@@ -1,6 +1,7 @@
 //! The years of which offsets are asked.
-ghost use Rattle.{std.specs.Prelude.{◌≡◌, ◌≤◌, IfSome}, taxi_units.specs.Reading.{GivesSame}};
-ghost use Rattle.{offset_rules.specs.Pairs.{AreYears}, store_commands.specs.Years.{year_of, years_of}};
+ghost use Rattle.std.specs.Prelude.{◌≡◌, ◌≤◌, IfSome};
+ghost use Rattle.{taxi_units.specs.Reading.{GivesSame}, offset_rules.specs.Pairs.{AreYears}};
+ghost use Rattle.store_commands.specs.Years.{year_of, years_of};
 
 use std::marker::Model;
 use taxi_units::figure_in;

@@ -1,6 +1,6 @@
 -- Rules: what a sound tariff is made of.
-use Rattle.{std.specs.Prelude.{ℕ, ◌^◌, ◌≡◌, ◌≤◌, All, IsTrue, Some, length, true}, tariff_check.specs.Cells.{cells_of}}
-use Rattle.{tariff_syntax.specs.Writable.{IsWritableCondition}, tariff_check.specs.Lines.{atoms_in}}
+use Rattle.std.specs.Prelude.{ℕ, ◌^◌, ◌≡◌, ◌≤◌, All, IsTrue, Some, length, true}
+use Rattle.{tariff_syntax.specs.Writable.{IsWritableCondition}, tariff_check.specs.{Cells.{cells_of}, Lines.{atoms_in}}}
 use Rattle.tariff_check.specs.Common.{ChoiceKind, Condition, Dimension, IsFromTo, Line, Rounding, Supplement, Tree}
 use Rattle.tariff_check.specs.{Common.{is_date, largest_display_step}, Faults.{has_default}, Measure.{measure_of}}
 use Rattle.tariff_check.specs.{Cuts.{count_of, most_cuts}, Kinds.{IsSoundSaid, initial_part, rate_part, said_by}}

@@ -1,6 +1,7 @@
 //! The cuts of an atom.
-ghost use Rattle.{std.specs.Prelude.{◌≡◌, None}, tariff_check.specs.Cuts.{atom_cuts, day_cut, minute_cut}};
+ghost use Rattle.std.specs.Prelude.{◌≡◌, None};
 ghost use Rattle.tariff_check.specs.{Common.{Distance, Minute, MonthDay, Time, condition_of}, Rules.{cut_list}};
+ghost use Rattle.tariff_check.specs.Cuts.{atom_cuts, day_cut, minute_cut};
 
 use crate::fault::Dimension;
 use tariff_syntax::Cond;

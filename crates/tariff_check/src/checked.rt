@@ -1,9 +1,9 @@
 //! A tariff that was found to be sound.
-ghost use Rattle.{std.specs.Prelude.{◌^◌, ◌≡◌, ◌≤◌, Some, length}, tariff_check.specs.Common.{tree_of}};
+ghost use Rattle.std.specs.Prelude.{◌^◌, ◌≡◌, ◌≤◌, Some, length};
 ghost use Rattle.tariff_check.specs.{Cells.{cells_of}, ChoiceLines.{choice_lines}, Kinds.{EachKind, kept_of, part_of}};
 ghost use Rattle.tariff_check.specs.Common.{Gives, IsFromTo, IsWritable, condition_of, holds_if, largest_display_step};
-ghost use Rattle.tariff_check.specs.{Faults.{IsSound}, Resolved.{HasParts}};
-ghost use Rattle.tariff_check.specs.{Measure.{measure_of}, Parts.{positions_of, step_of, supplement_of, zones_of}};
+ghost use Rattle.tariff_check.specs.{Common.{tree_of}, Parts.{positions_of, step_of, supplement_of, zones_of}};
+ghost use Rattle.tariff_check.specs.{Faults.{IsSound}, Measure.{measure_of}, Resolved.{HasParts}};
 ghost use Rattle.tariff_check.specs.SoundTariff.{AreChoices, choices, own_conditions, place_of, sound_of, when_at};
 
 use crate::choice::{Choice, ChoiceLine, condition};

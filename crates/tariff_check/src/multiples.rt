@@ -1,5 +1,6 @@
 //! The least common multiple of two measures.
-ghost use Rattle.{std.specs.{Int.{IsGcd}, Prelude.{◌<◌, ◌≡◌}}, tariff_check.specs.Measure.{lcm_of}};
+ghost use Rattle.std.specs.{Int.{IsGcd}, Prelude.{◌<◌, ◌≡◌}};
+ghost use Rattle.tariff_check.specs.Measure.{lcm_of};
 
 /// The greatest number that divides both.
 fn greatest_divisor(a: u64, b: u64) -> u64

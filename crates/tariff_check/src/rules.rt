@@ -1,5 +1,6 @@
 //! The rules for lines, and the first line that breaks one.
-ghost use Rattle.{std.specs.Prelude.{◌&&◌, ◌≡◌, map, nat_le}, tariff_check.specs.Common.{entry_of, is_date, line_of}};
+ghost use Rattle.std.specs.Prelude.{◌&&◌, ◌≡◌, map, nat_le};
+ghost use Rattle.tariff_check.specs.Common.{entry_of, is_date, line_of};
 ghost use Rattle.tariff_check.specs.{Lines.{first_line, is_for_nothing, is_no_holiday}, Rules.{breaks_rule}};
 
 use crate::atoms::{AtomRule, item_breaks};

@@ -1,6 +1,6 @@
 -- Rules: the command `check TARIFF`.
-use Rattle.{std.specs.Prelude.{[], ◌+◌, ◌≡◌, ◌≤◌, Err, None, Ok, Result}, tariff_check.specs.SoundTariff.{sound_of}}
-use Rattle.call_ends.specs.{Answer.{shows_line}, LastLine.{sound_line}}
+use Rattle.std.specs.Prelude.{[], ◌+◌, ◌≡◌, ◌≤◌, Err, None, Ok, Result}
+use Rattle.{tariff_check.specs.SoundTariff.{sound_of}, call_ends.specs.{Answer.{shows_line}, LastLine.{sound_line}}}
 use Rattle.tariff_commands.specs.Common.{Answer, Command, Refusal, Tree, bad_tariff, tariff_in}
 
 -- the answer to a sound tariff says how many cells it has and its common measure; to another text, why it has none

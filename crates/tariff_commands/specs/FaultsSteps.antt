@@ -1,9 +1,10 @@
 -- For proofs: what the command `faults` found of a text. Faults says what it answers.
-use Rattle.{std.specs.Prelude.{[], ℕ, ◌≡◌, Err, List, None, Ok, Some, map}, tariff_check.specs.SoundTariff.{sound_of}}
+use Rattle.std.specs.Prelude.{[], ℕ, ◌≡◌, Err, List, None, Ok, Some, map}
+use Rattle.{tariff_check.specs.SoundTariff.{sound_of}, tariff_commands.specs.Common.{tariff_in}}
 use Rattle.call_ends.specs.declared.ending.Ended.TheVariants.{NoMemory, ReadFault}
 use Rattle.tariff_commands.specs.Common.{CheckFault, Ended, Found, Refusal, Tree, Unsound, all_faults, fault_of}
-use Rattle.tariff_commands.specs.{Common.{tariff_in}, declared.faults.Found.TheVariants.{Faults, Sound}}
-use Rattle.tariff_commands.specs.{Faults.{refusal_lines, refusals_in}, declared.faults.FindFault.{FindFault}}
+use Rattle.tariff_commands.specs.Faults.{refusal_lines, refusals_in}
+use Rattle.tariff_commands.specs.declared.faults.{FindFault.{FindFault}, Found.TheVariants.{Faults, Sound}}
 use Rattle.tariff_commands.specs.declared.faults.FindFault.TheVariants as finds
 
 -- numbers are those of a tariff if they are its cells and its common measure

@@ -1,5 +1,6 @@
 -- For proofs: the printed form that was made of a text. Form says which one a text has.
-use Rattle.{std.specs.Prelude.{ℕ, ◌≡◌, List, Ok}, tariff_commands.specs.{Common.{Tree, printed_form}, Form.{tree_in}}}
+use Rattle.std.specs.Prelude.{ℕ, ◌≡◌, List, Ok}
+use Rattle.tariff_commands.specs.{Common.{Tree, printed_form}, Form.{tree_in}}
 
 -- a form is that of a text if the text reads as a tariff, and the form is the tariff's printed form
 pub record IsFormOf (text form : List ℕ) : Type 0 where

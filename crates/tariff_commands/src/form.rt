@@ -1,6 +1,7 @@
 //! The command `form`.
-ghost use Rattle.{std.specs.Prelude.{[], ℕ, ◌≡◌, ◌≢◌, Err, IfOk, OnOk}, tariff_commands.specs.FormSteps.{IsFormOf}};
+ghost use Rattle.std.specs.Prelude.{[], ℕ, ◌≡◌, ◌≢◌, Err, IfOk, OnOk};
 ghost use Rattle.tariff_commands.specs.{Common.{Carries, LeavesOthers, Rose}, Form.{form_command, tree_in}};
+ghost use Rattle.tariff_commands.specs.FormSteps.{IsFormOf};
 
 use call_ends::{Ended, Refusal, TextFault, print_text, refused_by, text_of_word};
 use outside::{Board, Files, STORE_SIZE};

@@ -1,5 +1,6 @@
 //! What the printed form of a tariff is read as.
-ghost use Rattle.{std.specs.Prelude.{ℕ, ◌≡◌, ◌≤◌, List, Ok, length}, tariff_syntax.specs.Renumbered.{renumbered}};
+ghost use Rattle.std.specs.Prelude.{ℕ, ◌≡◌, ◌≤◌, List, Ok, length};
+ghost use Rattle.tariff_syntax.specs.Renumbered.{renumbered};
 ghost use Rattle.tariff_commands.specs.{Common.{Tree, printed_form, shows}, Form.{form_answer, tree_in}};
 
 /// A law: the printed form of a tariff reads as the same tariff, but for the numbers of its lines, if it has at most

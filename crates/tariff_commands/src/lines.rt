@@ -1,6 +1,7 @@
 //! The command `lines`.
-ghost use Rattle.{std.specs.Prelude.{[], ℕ, ◌≡◌, ◌≢◌, Err, IfOk, OnOk}, tariff_commands.specs.LinesSteps.{IsListOf}};
+ghost use Rattle.std.specs.Prelude.{[], ℕ, ◌≡◌, ◌≢◌, Err, IfOk, OnOk};
 ghost use Rattle.tariff_commands.specs.{Common.{Carries, LeavesOthers, Rose, tariff_in}, Lines.{lines_command}};
+ghost use Rattle.tariff_commands.specs.LinesSteps.{IsListOf};
 
 use call_ends::{Ended, Refusal, TextFault, print_text, refused_by, tariff_of_text, text_of_word};
 use drive_modes::Constant;

@@ -1,9 +1,10 @@
 //! The command `tables`.
 #![tactic(auto, using(call_ends::proofs::Laws::board_runs))]
 
-ghost use Rattle.{std.specs.Prelude.{◌++◌, ◌+◌, ◌<◌, ◌≡◌, ◌≤◌, OnOk, length}, taxi_units.specs.Line.{line_size}};
-ghost use Rattle.{outside.specs.{Faults.{HasCause}, Runs.{KeepsStore}}, tariff_commands.specs.Tables.{tables_command}};
+ghost use Rattle.std.specs.Prelude.{◌++◌, ◌+◌, ◌<◌, ◌≡◌, ◌≤◌, OnOk, length};
+ghost use Rattle.{taxi_units.specs.Line.{line_size}, outside.specs.{Faults.{HasCause}, Runs.{KeepsStore}}};
 ghost use Rattle.tariff_commands.specs.Common.{Begins, Carries, row_count, row_text, rows_text};
+ghost use Rattle.tariff_commands.specs.Tables.{tables_command};
 
 use crate::compiled::tables_of_word;
 use call_ends::{Ended, refused_by};

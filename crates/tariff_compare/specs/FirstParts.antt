@@ -1,8 +1,8 @@
 -- Rules: which part differs first between two tariffs: of their frames, and of what is in force in a context.
-use Rattle.{std.specs.Prelude.{ℕ, ⊤, ◌*◌, ◌+◌, ◌<◌, ◌≡◌}, tariff_compare.specs.Common.{supplement_of, zones_of}}
+use Rattle.std.specs.Prelude.{ℕ, ⊤, ◌*◌, ◌+◌, ◌<◌, ◌≡◌}
 use Rattle.tariff_compare.specs.Common.{ChoiceKind, Decimals, Difference, In, Initial, MeterContext, Minimum, Positions}
 use Rattle.tariff_compare.specs.Common.{Rate, Rounded, Step, Supplement, Tree, Zones, display_step, positions_of}
-use Rattle.tariff_compare.specs.Kinds.{InForce}
+use Rattle.tariff_compare.specs.{Common.{supplement_of, zones_of}, Kinds.{InForce}}
 
 -- the parts of a frame in their order: decimals, display step, rounding, positions, zones, and the supplements by
 -- number; what is of a context is no part of it

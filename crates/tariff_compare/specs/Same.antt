@@ -1,7 +1,7 @@
 -- Rules: when two tariffs are the same under a constant.
-use Rattle.{std.specs.Prelude.{ℕ, ◌≡◌, None, Some, is_some, true}, tariff_compare.specs.Common.{zones_of}}
+use Rattle.std.specs.Prelude.{ℕ, ◌≡◌, None, Some, is_some, true}
 use Rattle.tariff_compare.specs.Common.{ChoiceKind, MeterContext, Tree, display_step, positions_of, supplement_of}
-use Rattle.tariff_compare.specs.Contexts.{IsFirst, IsMeterContext}
+use Rattle.tariff_compare.specs.{Common.{zones_of}, Contexts.{IsFirst, IsMeterContext}}
 pub use Rattle.tariff_compare.specs.Kinds.{cost_same, difference_at, rate_in}
 
 -- two tariffs have the same frame if their decimals, display steps, roundings, positions, zones and supplements are

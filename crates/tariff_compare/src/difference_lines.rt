@@ -1,7 +1,7 @@
 //! The line of a tariff that says what differs.
-ghost use Rattle.{std.specs.{List.{list_any}, Prelude.{◌&&◌, ◌==◌, ◌≡◌}}, taxi_units.specs.Reading.{Gives}};
-ghost use Rattle.{tariff_syntax.specs.Tree.{line_of}, tariff_check.specs.Parts.{DateNumbers}};
-ghost use Rattle.tariff_compare.specs.Common.{IsFromTo, tree_of};
+ghost use Rattle.std.specs.{List.{list_any}, Prelude.{◌&&◌, ◌==◌, ◌≡◌}};
+ghost use Rattle.{taxi_units.specs.Reading.{Gives}, tariff_syntax.specs.Tree.{line_of}};
+ghost use Rattle.{tariff_check.specs.Parts.{DateNumbers}, tariff_compare.specs.Common.{IsFromTo, tree_of}};
 ghost use Rattle.tariff_compare.specs.{Contexts.{context_at}, DifferenceTexts.{IsDatedDifference, line_of_difference}};
 
 use crate::day::weekday_of;

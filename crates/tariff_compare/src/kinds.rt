@@ -1,6 +1,6 @@
 //! The kinds of lines of which the first that holds counts: which line counts by the tables, what differs, and words.
-ghost use Rattle.{std.specs.Prelude.{◌++◌, ◌≡◌, OnOk, find}, tariff_compare.specs.Kinds.{place_in}};
-ghost use Rattle.tariff_compare.specs.{Common.{IsInRangeFor}, Sides.{in_force_by}};
+ghost use Rattle.std.specs.Prelude.{◌++◌, ◌≡◌, OnOk, find};
+ghost use Rattle.tariff_compare.specs.{Common.{IsInRangeFor}, Kinds.{place_in}, Sides.{in_force_by}};
 ghost use Rattle.tariff_compare.specs.Kinds.{differing_kind, have_same_fee, have_same_minimum, is_asked, is_asked_amid};
 ghost use Rattle.tariff_compare.specs.Kinds.{is_hiring, is_other, is_same_of, kind_word, part_word, place_before};
 

@@ -1,5 +1,6 @@
 //! One side of a comparison.
-ghost use Rattle.{std.specs.Prelude.{◌≡◌, IfOk, get_or}, tariff_compile.specs.Tables.{IsCompiled}};
+ghost use Rattle.std.specs.Prelude.{◌≡◌, IfOk, get_or};
+ghost use Rattle.tariff_compile.specs.Tables.{IsCompiled};
 ghost use Rattle.tariff_compare.specs.{Common.{IsInRangeFor, fees_in, lines_in, tree_of}, Sides.{side_of}};
 
 use crate::costs::{all_rates, rate_at};

@@ -1,6 +1,6 @@
 //! What contexts have in common.
-ghost use Rattle.{std.specs.Prelude.{◌&&◌, ◌≡◌}, tariff_compile.specs.Alike.{Agree, AllAgree, asks_alike}};
-ghost use Rattle.tariff_compile.specs.Common.{Context, condition_of};
+ghost use Rattle.std.specs.Prelude.{◌&&◌, ◌≡◌};
+ghost use Rattle.tariff_compile.specs.{Alike.{Agree, AllAgree, asks_alike}, Common.{Context, condition_of}};
 
 use tariff_syntax::{Cond, Context};
 

@@ -1,10 +1,10 @@
 -- The laws of tariffs' texts, one for each clause of the public laws.
-use Rattle.{std.proofs.Common.{ℕ, ◌↔◌, ◌≡◌, List, Ok, Option}, tariff_syntax.specs.Meaning.{rate_place}}
+use Rattle.std.proofs.Common.{ℕ, ◌↔◌, ◌≡◌, List, Ok, Option}
 use Rattle.tariff_syntax.specs.Choices.{choices, conditions_of, initial_part, minimum_part, rate_part}
-use Rattle.tariff_syntax.{specs.{Common.{Context}, declared.tariff.Tariff.{Tariff}}, proofs.PlaceLaws.{first_place_is}}
-use Rattle.tariff_syntax.{specs.{Condition.{Condition}, Writable.{IsWritable}}, proofs.Ranges.{numbers_of_text}}
+use Rattle.tariff_syntax.specs.{Common.{Context}, Reads.{IsParsed}, Tree.{Tree, tree_of}}
+use Rattle.tariff_syntax.specs.{Condition.{Condition}, Meaning.{rate_place}, declared.tariff.Tariff.{Tariff}}
 use Rattle.tariff_syntax.specs.Meaning.{IsFirstPlace, at_hiring, holds_if, initial_place, minimum_place, place_of}
-use Rattle.tariff_syntax.specs.{Reads.{IsParsed}, Tree.{Tree, tree_of}}
+use Rattle.tariff_syntax.{specs.Writable.{IsWritable}, proofs.{PlaceLaws.{first_place_is}, Ranges.{numbers_of_text}}}
 pub use Rattle.tariff_syntax.proofs.BadLines.{first_named as bad_lines_have_no_form-first}
 pub use Rattle.tariff_syntax.proofs.BadLines.{formless_are_named as bad_lines_have_no_form-each}
 pub use Rattle.tariff_syntax.proofs.BadLines.{named_are_formless as bad_lines_have_no_form-named}

@@ -1,6 +1,6 @@
 -- Rules: the grammar of conditions.
-use Rattle.{std.specs.Prelude.{[], ℕ, ◌++◌, ◌+◌, ◌∷◌, List, codes}, tariff_syntax.specs.Condition.{Condition}}
-use Rattle.tariff_syntax.specs.Forms.{IsAtom}
+use Rattle.std.specs.Prelude.{[], ℕ, ◌++◌, ◌+◌, ◌∷◌, List, codes}
+use Rattle.tariff_syntax.specs.{Condition.{Condition}, Forms.{IsAtom}}
 use Rattle.tariff_syntax.specs.{PrintedCondition.{Level, factor, term, whole}, Token.{Token, sign, word}}
 use Rattle.tariff_syntax.specs.Condition as tree
 

@@ -1,6 +1,7 @@
 -- Rules: a tariff, without where it lies in memory.
-use Rattle.{std.specs.Prelude.{[], ℕ, ◌∷◌, List, None, Option, codes, map}, tariff_syntax.specs.Part.{Part}}
+use Rattle.std.specs.Prelude.{[], ℕ, ◌∷◌, List, None, Option, codes, map}
 use Rattle.tariff_syntax.specs.{Common.{Rounding}, Condition.{Condition, condition_if}, declared.tariff.Tariff.{Tariff}}
+use Rattle.tariff_syntax.specs.Part.{Part}
 use Rattle.tariff_syntax.specs.declared.tariff.{Item.{Item, TheVariants.{Supplement, Zones}}, TariffLine.{TariffLine}}
 use Rattle.tariff_syntax.specs.declared.tariff.Item.TheVariants.{Holiday, Initial, Minimum, Positions, Rate, Step}
 use Rattle.tariff_syntax.specs.Part as part

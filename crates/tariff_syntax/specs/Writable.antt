@@ -1,6 +1,6 @@
 -- Rules: the tariffs whose numbers a text can have.
-use Rattle.{std.specs.Prelude.{ℕ, ◌^◌, ◌≤◌, All, None, Option, Some}, tariff_syntax.specs.Condition.{Condition}}
-use Rattle.tariff_syntax.specs.{Part.{Part}, Tree.{Entry, Line, Tree, parts_of}}
+use Rattle.std.specs.Prelude.{ℕ, ◌^◌, ◌≤◌, All, None, Option, Some}
+use Rattle.tariff_syntax.specs.{Condition.{Condition}, Part.{Part}, Tree.{Entry, Line, Tree, parts_of}}
 use Rattle.tariff_syntax.specs.Condition as tree
 use Rattle.tariff_syntax.specs.Part as part
 

@@ -1,9 +1,10 @@
 //! Reads conditions.
-ghost use Rattle.{std.specs.Prelude.{◌≡◌, ◌≤◌, if◌then◌else◌, length}, tariff_syntax.specs.Faults.{GivesOrFails}};
+ghost use Rattle.std.specs.Prelude.{◌≡◌, ◌≤◌, if◌then◌else◌, length};
 ghost use Rattle.tariff_syntax.specs.{Built.{Builds, HasParts, HasPartsIf, IsBuilt}, TokenReading.{tokens_of}};
 ghost use Rattle.tariff_syntax.specs.{Condition.{Condition, condition_if, condition_of}, Grammar.{term_by, when_read}};
+ghost use Rattle.tariff_syntax.specs.{Faults.{GivesOrFails}, Joints.{joined_by}, Weight.{token_weight}};
 ghost use Rattle.tariff_syntax.specs.Grammar.{chain_on, closed_after, condition_by, factor_by, factor_first, negated};
-ghost use Rattle.tariff_syntax.specs.{Joints.{joined_by}, Token.{token_of}, Weight.{token_weight}};
+ghost use Rattle.tariff_syntax.specs.Token.{token_of};
 ghost use Rattle.tariff_syntax.specs.Grammar as spec;
 ghost use Rattle.tariff_syntax.specs.Joints as joints;
 ghost use Rattle.tariff_syntax.specs.Weight as weights;

@@ -1,6 +1,6 @@
 //! Reads figures: numbers of one or two digits, amounts, dates and minutes.
-ghost use Rattle.{std.specs.Prelude.{◌≤◌, IfSome}, tariff_syntax.specs.Common.{Gives, GivesSame}};
-ghost use Rattle.tariff_syntax.specs.TokenReading.{tokens_of};
+ghost use Rattle.std.specs.Prelude.{◌≤◌, IfSome};
+ghost use Rattle.tariff_syntax.specs.{Common.{Gives, GivesSame}, TokenReading.{tokens_of}};
 ghost use Rattle.tariff_syntax.specs.Figure as spec;
 
 use crate::words::figure_first;

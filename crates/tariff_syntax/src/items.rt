@@ -1,7 +1,7 @@
 //! Reads what a line says.
-ghost use Rattle.{std.specs.Prelude.{◌≤◌, IfSome}, tariff_syntax.specs.Items.{supplement_read, zones_read}};
-ghost use Rattle.tariff_syntax.specs.{Built.{EntryHasParts}, Common.{Gives, GivesSame}, TokenReading.{tokens_of}};
-ghost use Rattle.tariff_syntax.specs.{Faults.{GivesOrFails}, Tree.{entry_of}};
+ghost use Rattle.std.specs.Prelude.{◌≤◌, IfSome};
+ghost use Rattle.tariff_syntax.specs.{Built.{EntryHasParts}, Faults.{GivesOrFails}, TokenReading.{tokens_of}};
+ghost use Rattle.tariff_syntax.specs.{Common.{Gives, GivesSame}, Items.{supplement_read, zones_read}, Tree.{entry_of}};
 ghost use Rattle.tariff_syntax.specs.Items.{count_read, holiday_read, item_read, positions_read, step_read};
 ghost use Rattle.tariff_syntax.specs.Items as spec;
 

@@ -1,6 +1,6 @@
 //! Writes the parts that lines of a tariff share.
-ghost use Rattle.{std.specs.Prelude.{[], ◌++◌, ◌∷◌, ◌≡◌, ◌≤◌, OnOk, codes}, tariff_syntax.specs.Common.{money_text}};
-ghost use Rattle.tariff_syntax.specs.{Appends.{Appends}, Printed.{parts_text, rounding_word}};
+ghost use Rattle.std.specs.Prelude.{[], ◌++◌, ◌∷◌, ◌≡◌, ◌≤◌, OnOk, codes};
+ghost use Rattle.tariff_syntax.specs.{Appends.{Appends}, Common.{money_text}, Printed.{parts_text, rounding_word}};
 ghost use Rattle.tariff_syntax.specs.Part as part;
 
 use drive_modes::Rounding;

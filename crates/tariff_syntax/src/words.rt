@@ -1,6 +1,6 @@
 //! Words, signs and figures at the front of a line.
-ghost use Rattle.{std.specs.{Prelude.{[], ◌↔◌, ◌≡◌, IsTrue}, Str.{bytes_eq}}, tariff_syntax.specs.Common.{Gives}};
-ghost use Rattle.tariff_syntax.specs.TokenReading.{tokens_of};
+ghost use Rattle.std.specs.{Prelude.{[], ◌↔◌, ◌≡◌, IsTrue}, Str.{bytes_eq}};
+ghost use Rattle.tariff_syntax.specs.{Common.{Gives}, TokenReading.{tokens_of}};
 ghost use Rattle.tariff_syntax.specs.Words as spec;
 
 use crate::tokens::{Token, first_token};

@@ -1,5 +1,6 @@
 //! Reading from the front of a text.
-ghost use Rattle.{std.specs.Prelude.{◌≡◌}, taxi_units.specs.Reading.{Gives, word_at}};
+ghost use Rattle.std.specs.Prelude.{◌≡◌};
+ghost use Rattle.taxi_units.specs.Reading.{Gives, word_at};
 ghost use Rattle.taxi_units.specs.Words as words;
 
 /// What stands after a word at the front of the bytes. `None` exactly if the bytes don't begin with it.

@@ -1,6 +1,6 @@
 //! What a slot's bytes are read as.
-ghost use Rattle.{std.specs.Prelude.{ℕ, ◌↔◌, ◌≡◌, List, Some}, totals_record.specs.Spelling.{spelling}};
-ghost use Rattle.totals_record.specs.{Common.{Durable}, Ranges.{IsDurable}, Reading.{reads}};
+ghost use Rattle.std.specs.Prelude.{ℕ, ◌↔◌, ◌≡◌, List, Some};
+ghost use Rattle.totals_record.specs.{Common.{Durable}, Ranges.{IsDurable}, Reading.{reads}, Spelling.{spelling}};
 
 /// A law: bytes are read as a state exactly if each field of the state is in its range and the bytes are those of the
 /// state, in the layout that it names.

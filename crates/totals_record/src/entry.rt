@@ -1,5 +1,6 @@
 //! What one entry of the totalisers records.
-ghost use Rattle.{std.specs.Prelude.{◌≡◌}, totals_record.specs.Entries.{closes}};
+ghost use Rattle.std.specs.Prelude.{◌≡◌};
+ghost use Rattle.totals_record.specs.Entries.{closes};
 
 use taxi_units::Kind;
 

@@ -1,7 +1,8 @@
 //! The table of a durable state: its bytes, one field behind the other, and the fields at their places in
 //! bytes, each place one less than in the slot.
-ghost use Rattle.{std.specs.Prelude.{◌++◌, ◌+◌, ◌≡◌, ◌≤◌, drop, length, take}, arrayvec.specs.ArrayVec.{array_vec_len}};
-ghost use Rattle.slot_bodies.specs.{BytesAt.{eight_at, sixteen_at}, Codec.{optional, row}};
+ghost use Rattle.std.specs.Prelude.{◌++◌, ◌+◌, ◌≡◌, ◌≤◌, drop, length, take};
+ghost use Rattle.{arrayvec.specs.ArrayVec.{array_vec_len}, slot_bodies.specs.BytesAt.{eight_at, sixteen_at}};
+ghost use Rattle.slot_bodies.specs.Codec.{optional, row};
 ghost use Rattle.totals_record.specs.Common.{body_size, byte_at, largest_amount};
 ghost use Rattle.totals_record.specs.{Ranges.{IsDurable}, Spelling.{shared_bytes, spelling, trip_bytes}};
 ghost use Rattle.totals_record.specs.{Reading.{decoded}, Table.{found_before, meterage_table, share_table, trip_table}};

@@ -1,9 +1,10 @@
 -- Readings pass if each row of the report does.
-use Rattle.{std.specs.{Bool.{Decides}, Prelude.{◌&&◌, codes, slice_get}}, verify_bench.specs.Verdicts.{verdict_of}}
+use Rattle.std.specs.{Bool.{Decides}, Prelude.{◌&&◌, codes, slice_get}}
 use Rattle.std.proofs.Common.{[], ℕ, ◌+◌, ◌↔◌, ◌∙◌, ◌≡◌, ◌≢◌, Bool, List, None, Option, Some, ap, arith, get_or, length}
 use Rattle.std.proofs.{Common.{max, refl, suc, sym, true}, lemmas.Bool.Decides.{Decides-below_and}}
 use Rattle.verify_bench.specs.{Common.{Expected, Reading, Verdict}, PassedReports.{EachRowPasses, do_all_pass}}
 use Rattle.verify_bench.specs.{PassingStages.{do_places_pass, does_place_pass, is_pass}, Report.{finding, verdict_word}}
+use Rattle.verify_bench.specs.Verdicts.{verdict_of}
 use Rattle.verify_bench.specs.declared.judging.Verdict.TheVariants as verdicts
 
 -- a word that begins with another letter isn't the word of a pass

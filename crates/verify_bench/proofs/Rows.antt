@@ -1,7 +1,7 @@
 -- Rows of readings, taken one by one.
-use Rattle.{std.{specs.Result.{result_ok}, proofs.Common.{length, refl}}, taxi_units.specs.Reading.{◌>>=◌}}
+use Rattle.{std.{specs.Result.{result_ok}, proofs.Common.{length, refl}}, verify_bench.specs.RowsTaken.{IsRowFault}}
 use Rattle.std.proofs.Common.{[], ℕ, ◌++◌, ◌+◌, ◌∷◌, ◌≡◌, ◌≤◌, Err, List, None, Ok, Option, Result, Some, ap, arith}
-use Rattle.{taxi_units.specs.declared.decimal.NumberFault.{NumberFault}, verify_bench.specs.RowsTaken.{IsRowFault}}
+use Rattle.taxi_units.specs.{Reading.{◌>>=◌}, declared.decimal.NumberFault.{NumberFault}}
 use Rattle.verify_bench.specs.Common.{BadRow, NoMemory, Reading, ReadingsFault, TooLong, decimal_read}
 use Rattle.verify_bench.specs.{ReadingStages.{reading_of_row}, Readings.{Row, bad, header, readings_limit}}
 use Rattle.verify_bench.specs.Readings.{AreFirstRows, AreGood, AreRowsOfReadings, IsBadBehind, IsReadAs, IsRowOfReading}

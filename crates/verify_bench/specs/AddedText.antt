@@ -1,7 +1,8 @@
 -- For proofs: what the writing of lines adds to a text. Generated says which lines are written.
-use Rattle.{std.specs.Prelude.{ℕ, ◌++◌, ◌+◌, ◌≡◌, ◌≤◌, List, flat_map, length}, arrayvec.specs.ArrayVec.{array_vec_len}}
-use Rattle.{taxi_units.specs.Line.{line_size}, verify_bench.specs.Generated.{Place, Written, lines_text}}
-use Rattle.verify_bench.specs.{Common.{Run, run_events}, declared.writing.Writing.{Writing}}
+use Rattle.std.specs.Prelude.{ℕ, ◌++◌, ◌+◌, ◌≡◌, ◌≤◌, List, flat_map, length}
+use Rattle.{arrayvec.specs.ArrayVec.{array_vec_len}, taxi_units.specs.Line.{line_size}}
+use Rattle.verify_bench.specs.Common.{Run, run_events}
+use Rattle.verify_bench.specs.{Generated.{Place, Written, lines_text}, declared.writing.Writing.{Writing}}
 
 -- lines have as many events as their runs together
 abbrev pub lines_events : List Run → ℕ

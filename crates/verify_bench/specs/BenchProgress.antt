@@ -1,7 +1,8 @@
 -- For proofs: how far the bench has carried out a drive. TripExplanations says what the whole drive comes to.
-use Rattle.{std.specs.Prelude.{◌++◌, ◌≡◌, List, map}, verify_bench.specs.ExpectedReceipts.{hirings_from}}
+use Rattle.std.specs.Prelude.{◌++◌, ◌≡◌, List, map}
 use Rattle.verify_bench.specs.{Bench.{BenchStands}, TripExplanations.{Explanation, explanation_of, explanations_from}}
 use Rattle.verify_bench.specs.Common.{BenchMeter, Context, Event, Expected, Explained, Meter, Setting}
+use Rattle.verify_bench.specs.ExpectedReceipts.{hirings_from}
 
 -- a meter of the bench is amid a drive if what was found, with the explanations behind it to which the events left come
 -- from the state for which the meter stands, is all to which the drive comes

@@ -1,8 +1,9 @@
 -- Rules: the trips of a drive that were closed, each with the tick that hired it, the event that closed it, and the
 -- parts that the events between them added.
-use Rattle.{std.specs.Prelude.{[], ℕ, ◌++◌, ◌∷◌, ◌≡◌, List, Some, sum}, verify_bench.specs.Common.{run, step}}
+use Rattle.std.specs.Prelude.{[], ℕ, ◌++◌, ◌∷◌, ◌≡◌, List, Some, sum}
 use Rattle.verify_bench.specs.Common.{Down, Event, ForHire, Hire, Hired, InHired, InStopped, Meter, MeterTrip}
 use Rattle.verify_bench.specs.Common.{Operating, Part, Rest, Setting, Stopped, Tick, context_of, first_state, opened}
+use Rattle.verify_bench.specs.Common.{run, step}
 
 -- the meter after events is the one that they lead to from a new store
 abbrev pub meter_after : Setting → List Event → Meter

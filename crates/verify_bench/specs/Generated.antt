@@ -1,8 +1,8 @@
 -- Rules: the generated drive, as the lines that it has, with its draws, its time, and its trips.
 use Rattle.std.specs.Prelude.{[], ℕ, ◌%◌, ◌*◌, ◌++◌, ◌+◌, ◌/◌, ◌==◌, ◌^◌, ◌∷◌, List, codes, decimal, flat_map}
-use Rattle.{std.specs.Prelude.{if◌then◌else◌, replicate}, taxi_units.specs.declared.event.Event.TheVariants.{Clock}}
+use Rattle.std.specs.Prelude.{if◌then◌else◌, replicate}
+use Rattle.{taxi_units.specs.declared.event.Event.TheVariants.{Clock}, verify_bench.specs.Common.{event_text}}
 use Rattle.verify_bench.specs.Common.{Clear, Down, Extra, Hire, Key, Many, One, Position, Run, Stop, Up, Zone}
-use Rattle.verify_bench.specs.Common.{event_text}
 use Rattle.taxi_units.specs.declared.event.Event.TheVariants as events
 
 -- the place of the generator is the state of its draws, and the time since its beginning, in tenths of a second

@@ -2,7 +2,8 @@
 -- the law `texts_have_one_reading`.
 use Rattle.std.specs.{Cmp.Lexicographic.{pointwise}, Prelude.{nat_lt}, Result.{result_ok}}
 use Rattle.std.specs.Prelude.{[], ℕ, ◌+◌, ◌∷◌, Err, List, None, Ok, Option, Result, Some, if◌then◌else◌, length, nat_eq}
-use Rattle.{csv.specs.Reading.{default_config, records, strip_bom}, taxi_units.specs.Reading.{◌>>=◌}}
+use Rattle.csv.specs.Reading.{default_config, records, strip_bom}
+use Rattle.taxi_units.specs.Reading.{◌>>=◌}
 use Rattle.verify_bench.specs.Common.{BadRow, Reading, ReadingsFault, TooLong, decimal_read}
 use Rattle.verify_bench.specs.ReadingRows.{Row, header, readings_limit}
 

@@ -1,12 +1,12 @@
 //! The meter of the bench: it charges each interval of a trip as it ends, and adds up by rates and ways.
 #![tactic(auto, using(crate::proofs::Benches::looser))]
 
-ghost use Rattle.{std.specs.Prelude.{◌≡◌, None, OnOk, true}, totals_record.specs.Entries.{is_of_hiring}};
-ghost use Rattle.{meter_model.specs.Interval.{with_roaming}, verify_bench.specs.Common.{with_interval}};
+ghost use Rattle.std.specs.Prelude.{◌≡◌, None, OnOk, true};
+ghost use Rattle.{totals_record.specs.Entries.{is_of_hiring}, meter_model.specs.Interval.{with_roaming}};
 ghost use Rattle.verify_bench.specs.Common.{InHired, InStopped, IsSecond, Meter, Rest, Setting, closed, context_on};
 ghost use Rattle.verify_bench.specs.Common.{interval_counted, interval_left, last_tick, local_at, longest_trip};
 ghost use Rattle.verify_bench.specs.Common.{pulses_so_far, roaming_checked, roaming_entered, ticks_so_far};
-ghost use Rattle.verify_bench.specs.Settings.{setting_under};
+ghost use Rattle.verify_bench.specs.{Common.{with_interval}, Settings.{setting_under}};
 ghost use Rattle.tariff_syntax.specs.declared.context.Context as contexts;
 
 use crate::explained::Explained;

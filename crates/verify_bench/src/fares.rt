@@ -1,8 +1,9 @@
 //! The fare of a hiring.
-ghost use Rattle.{std.specs.Prelude.{ℕ, ◌*◌, ◌+◌, ◌<◌, ◌^◌, ◌≡◌, ◌≤◌}, taxi_units.specs.Money.{largest_display_step}};
-ghost use Rattle.{drive_modes.specs.Fare.{quotient, steps_above}, meter_model.specs.Setting.{modulus_of, rounding_of}};
+ghost use Rattle.std.specs.Prelude.{ℕ, ◌*◌, ◌+◌, ◌<◌, ◌^◌, ◌≡◌, ◌≤◌};
+ghost use Rattle.{taxi_units.specs.Money.{largest_display_step}, drive_modes.specs.Fare.{quotient, steps_above}};
+ghost use Rattle.{meter_model.specs.Setting.{modulus_of, rounding_of}, verify_bench.specs.Settings.{setting_under}};
 ghost use Rattle.verify_bench.specs.Common.{IsFitInitial, longest_trip, shown_fare, unit_of};
-ghost use Rattle.verify_bench.specs.{Limits.{most_charge, most_money}, Settings.{setting_under}};
+ghost use Rattle.verify_bench.specs.Limits.{most_charge, most_money};
 
 use drive_modes::Rounding;
 use seal_record::Params;

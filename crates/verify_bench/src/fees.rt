@@ -1,7 +1,7 @@
 //! The fees of a hiring, over the parts of a tariff.
-ghost use Rattle.{std.specs.Prelude.{◌∷◌, ◌≡◌, get_or}, tariff_check.specs.Amounts.{place_number}};
+ghost use Rattle.std.specs.Prelude.{◌∷◌, ◌≡◌, get_or};
+ghost use Rattle.{tariff_check.specs.Amounts.{place_number}, verify_bench.specs.Fees.{fees_of_hiring, line_at_place}};
 ghost use Rattle.verify_bench.specs.Common.{IsFitInitial, own_lines, own_values, sound_of, tree_of};
-ghost use Rattle.verify_bench.specs.Fees.{fees_of_hiring, line_at_place};
 
 use crate::lookups::value_at;
 use tariff_check::{Checked, Choice, Initial, InitialNumbers};

@@ -1,6 +1,7 @@
 //! Judges readings. The permissible errors are this project's own.
-ghost use Rattle.{std.specs.Prelude.{ℕ, ◌<◌, ◌↔◌, ◌≡◌}, verify_bench.specs.Common.{Expected, Reading, Verdict}};
-ghost use Rattle.verify_bench.specs.{VerdictStages.{within_test}, Verdicts.{IsVerdict, verdict_of}};
+ghost use Rattle.std.specs.Prelude.{ℕ, ◌<◌, ◌↔◌, ◌≡◌};
+ghost use Rattle.verify_bench.specs.{Common.{Expected, Reading, Verdict}, Verdicts.{IsVerdict, verdict_of}};
+ghost use Rattle.verify_bench.specs.VerdictStages.{within_test};
 
 use crate::expected::Expected;
 use crate::reading::Reading;

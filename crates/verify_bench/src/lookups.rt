@@ -1,6 +1,6 @@
 //! What the parts of a tariff say.
-ghost use Rattle.{std.specs.Prelude.{◌≡◌, get_or}, tariff_check.specs.Parts.{rates_of}};
-ghost use Rattle.tariff_calendar.specs.Lists.{is_holiday};
+ghost use Rattle.std.specs.Prelude.{◌≡◌, get_or};
+ghost use Rattle.{tariff_check.specs.Parts.{rates_of}, tariff_calendar.specs.Lists.{is_holiday}};
 ghost use Rattle.verify_bench.specs.Common.{IsSound, IsWritable, own_values, tree_of};
 
 use tariff_check::{Checked, Choice, RateNumbers};

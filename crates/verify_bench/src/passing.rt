@@ -1,6 +1,6 @@
 //! Whether readings pass.
-ghost use Rattle.{std.specs.Prelude.{ℕ, ◌↔◌, ◌≡◌, List, true}, verify_bench.specs.PassedReports.{EachRowPasses}};
-ghost use Rattle.verify_bench.specs.Common.{Expected, Reading};
+ghost use Rattle.std.specs.Prelude.{ℕ, ◌↔◌, ◌≡◌, List, true};
+ghost use Rattle.verify_bench.specs.{Common.{Expected, Reading}, PassedReports.{EachRowPasses}};
 ghost use Rattle.verify_bench.specs.PassingStages as stages;
 
 use crate::expected::Expected;

@@ -1,9 +1,10 @@
 //! What a hiring that is closed comes to: its receipt, and why its fare is what it is.
-ghost use Rattle.{std.specs.Prelude.{ℕ, ◌++◌, ◌≡◌, ◌≤◌, IfOk, List, OnOk, Some}, meter_model.specs.Setting.{stamp_at}};
+ghost use Rattle.std.specs.Prelude.{ℕ, ◌++◌, ◌≡◌, ◌≤◌, IfOk, List, OnOk, Some};
+ghost use Rattle.{meter_model.specs.Setting.{stamp_at}, verify_bench.specs.Groups.{group_if, groups_at, groups_from}};
 ghost use Rattle.verify_bench.specs.Common.{Context, IsSecond, MeterTrip, Part, Setting, amount_in, amounts_of};
 ghost use Rattle.verify_bench.specs.Common.{longest_trip, own_lines, receipt_of, sound_of, supplement_of, tree_of};
-ghost use Rattle.verify_bench.specs.{Gathered.{IsTableOf, all_ways}, Groups.{group_if, groups_at, groups_from}};
-ghost use Rattle.verify_bench.specs.{Hirings.{IsHiringOf, IsWhole}, Settings.{setting_under}};
+ghost use Rattle.verify_bench.specs.{Gathered.{IsTableOf, all_ways}, Hirings.{IsHiringOf, IsWhole}};
+ghost use Rattle.verify_bench.specs.Settings.{setting_under};
 ghost use Rattle.verify_bench.specs.TripExplanations.{explanation, explanation_of, taken_if, taken_of};
 
 use crate::explained::{Explained, Group, Sums, Taken, Way};

@@ -1,8 +1,8 @@
 //! What explanations are of, and what they add up to.
-ghost use Rattle.{std.specs.Prelude.{ℕ, ◌≡◌, All, List, map}, verify_bench.specs.Common.{first_state, sound_of}};
+ghost use Rattle.std.specs.Prelude.{ℕ, ◌≡◌, All, List, map};
 ghost use Rattle.verify_bench.specs.Common.{Event, IsSound, Mode, RateNumbers, Setting, Tree, actions_of, charge_by};
-ghost use Rattle.verify_bench.specs.{Groups.{way_by}, Receipts.{receipts_in}};
-ghost use Rattle.verify_bench.specs.{TripExplanations.{Explanation, explanations_of}, Wholes.{charge_in_way}};
+ghost use Rattle.verify_bench.specs.{Common.{first_state, sound_of}, Receipts.{receipts_in}, Wholes.{charge_in_way}};
+ghost use Rattle.verify_bench.specs.{Groups.{way_by}, TripExplanations.{Explanation, explanations_of}};
 ghost use Rattle.verify_bench.specs.Wholes.{ArePartsTheWhole, HasFees, HasGroups, IsOfTrip, MakesReceipt};
 
 /// A law: the explanations of a drive have the receipts of the meter's actions on a new store, one for each, in order.

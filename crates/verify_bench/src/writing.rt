@@ -1,7 +1,7 @@
 //! Writes the lines of a generated drive.
-ghost use Rattle.{std.specs.Prelude.{[], ◌*◌, ◌<◌, ◌∷◌, ◌≡◌, ◌≤◌}, arrayvec.specs.ArrayVec.{array_vec_len}};
-ghost use Rattle.verify_bench.specs.AddedText.{lines_events};
-ghost use Rattle.verify_bench.specs.{Common.{IsInRange, Many, One, Up}, Generated.{next_state, second_of, value}};
+ghost use Rattle.std.specs.Prelude.{[], ◌*◌, ◌<◌, ◌∷◌, ◌≡◌, ◌≤◌};
+ghost use Rattle.{arrayvec.specs.ArrayVec.{array_vec_len}, verify_bench.specs.Generated.{next_state, second_of, value}};
+ghost use Rattle.verify_bench.specs.{AddedText.{lines_events}, Common.{IsInRange, Many, One, Up}};
 ghost use Rattle.verify_bench.specs.Generated.{beginning, clock_read, intervals, key_pressed, line, line_text};
 
 use drive_text::put_event;

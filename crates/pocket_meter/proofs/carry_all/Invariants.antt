@@ -1,5 +1,5 @@
-use Rattle.{std.proofs.Common.{◌*◌, ◌++◌, ◌+◌, ◌≡◌, ◌≤◌, take}, meter_run.specs.BetweenEvents.{StandsWith}}
-use Rattle.meter_run.specs.Dry.{IsMeterReady}
+use Rattle.std.proofs.Common.{◌*◌, ◌++◌, ◌+◌, ◌≡◌, ◌≤◌, take}
+use Rattle.meter_run.specs.{BetweenEvents.{StandsWith}, Dry.{IsMeterReady}}
 use Rattle.pocket_meter.specs.Common.{IsSettingOf, Setting, first_state, opened, run, shown_texts}
 use Rattle.pocket_meter.proofs.carry_all.Given as goal
 

@@ -1,6 +1,6 @@
 //! The board of the log in memory, from bytes and back to bytes that stand on no stack.
-ghost use Rattle.{std.specs.Prelude.{[], ◌≡◌, ◌≤◌, IfOk, length}, outside.specs.Disk.{SameBut, log_size}};
-ghost use Rattle.memory_devices.specs.Calls.{IsInSome};
+ghost use Rattle.std.specs.Prelude.{[], ◌≡◌, ◌≤◌, IfOk, length};
+ghost use Rattle.{outside.specs.Disk.{SameBut, log_size}, memory_devices.specs.Calls.{IsInSome}};
 ghost use Rattle.memory_devices.specs.MemoryBoard.{IsNew, contents_inside, left_since_of, new_board};
 
 use memory_devices::{Fill, MemoryLog};

@@ -1,5 +1,6 @@
-use Rattle.{std.proofs.Common.{ℕ, ◌++◌, ◌∙◌, ◌≡◌, List, ap}, taxi_units.proofs.Laws.{appended_behind}}
-use Rattle.{drive_modes.specs.Distance.{millimetres_of}, data_port.specs.Common.{eight, four, sixteen}}
+use Rattle.std.proofs.Common.{ℕ, ◌++◌, ◌∙◌, ◌≡◌, List, ap}
+use Rattle.{taxi_units.proofs.Laws.{appended_behind}, drive_modes.specs.Distance.{millimetres_of}}
+use Rattle.data_port.specs.Common.{eight, four, sixteen}
 use Rattle.data_port.proofs.contents.put_trip.Goals as goal
 
 -- seven parts, one after the other

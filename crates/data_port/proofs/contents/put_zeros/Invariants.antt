@@ -1,4 +1,5 @@
-use Rattle.{std.proofs.Common.{◌++◌, ◌+◌, ◌≡◌, replicate}, arrayvec.specs.ArrayVec.{array_vec_len}}
+use Rattle.std.proofs.Common.{◌++◌, ◌+◌, ◌≡◌, replicate}
+use Rattle.arrayvec.specs.ArrayVec.{array_vec_len}
 use Rattle.data_port.proofs.contents.put_zeros.Given as goal
 
 -- as many zeros were appended as the loop went round

@@ -1,4 +1,5 @@
-use Rattle.{std.proofs.Common.{◌≡◌, take}, data_port.specs.Reply.{items_bytes}}
+use Rattle.std.proofs.Common.{◌≡◌, take}
+use Rattle.data_port.specs.Reply.{items_bytes}
 use Rattle.data_port.proofs.reply.put_items.Given as goal
 
 -- the items so far were put

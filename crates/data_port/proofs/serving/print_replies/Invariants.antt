@@ -1,5 +1,5 @@
-use Rattle.{std.proofs.Common.{◌++◌, ◌+◌, ◌≡◌, ◌≤◌, take}, data_port.specs.ServedStream.{replies}}
-use Rattle.data_port.specs.Common.{KeepsStore}
+use Rattle.std.proofs.Common.{◌++◌, ◌+◌, ◌≡◌, ◌≤◌, take}
+use Rattle.data_port.specs.{Common.{KeepsStore}, ServedStream.{replies}}
 use Rattle.data_port.proofs.serving.print_replies.Given as goal
 
 -- the replies to the requests so far were printed

@@ -1,4 +1,5 @@
-use Rattle.{std.proofs.Common.{ℕ, ◌++◌, ◌∙◌, List, ap}, drive_commands.proofs.ExplainedLines.{cut_by}}
+use Rattle.std.proofs.Common.{ℕ, ◌++◌, ◌∙◌, List, ap}
+use Rattle.drive_commands.proofs.ExplainedLines.{cut_by}
 use Rattle.drive_commands.proofs.explained_lines.push_cut.Goals as goal
 
 pub returns-clause-text : goal.returns-clause-text

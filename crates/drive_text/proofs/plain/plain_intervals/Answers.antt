@@ -1,4 +1,5 @@
-use Rattle.{std.proofs.Common.{◌≡◌, get_or}, drive_text.proofs.PlainLines.{one_interval_line}}
+use Rattle.std.proofs.Common.{◌≡◌, get_or}
+use Rattle.drive_text.proofs.PlainLines.{one_interval_line}
 use Rattle.drive_text.proofs.plain.plain_intervals.Goals as goal
 
 pub returns-in-32 : goal.returns-in-32

@@ -1,4 +1,5 @@
-use Rattle.{std.proofs.Common.{◌≡◌, arith, of_z, rules, to_z, unsigned_abs, w8}, jiff.proofs.SpanFacts.{signed_arith}}
+use Rattle.std.proofs.Common.{◌≡◌, arith, of_z, rules, to_z, unsigned_abs, w8}
+use Rattle.jiff.proofs.SpanFacts.{signed_arith}
 use Rattle.interval_clock.proofs.Dates.{epoch_day_is_date, month_bound, pos-unsigned_abs, year_of_day}
 use mir.Syntax.{w16}
 use Rattle.interval_clock.proofs.day_numbers.calendar_date.Goals as goal

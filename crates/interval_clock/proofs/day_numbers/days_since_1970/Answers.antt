@@ -1,5 +1,5 @@
-use Rattle.{std.proofs.Common.{◌≡◌, arith, pos, sym, unsigned_abs}, jiff.specs.Words.{epoch_day}}
-use Rattle.jiff_core.proofs.{DateLemmas.{epoch_day_range}, SignedLemmas.{signed_arith}}
+use Rattle.std.proofs.Common.{◌≡◌, arith, pos, sym, unsigned_abs}
+use Rattle.{jiff.specs.Words.{epoch_day}, jiff_core.proofs.{DateLemmas.{epoch_day_range}, SignedLemmas.{signed_arith}}}
 use Rattle.interval_clock.proofs.{Dates.{epoch_day-start, pos-unsigned_abs}, DayNumbers.{days_of_hours, whole_hours}}
 use Rattle.interval_clock.proofs.day_numbers.days_since_1970.Goals as goal
 

@@ -1,4 +1,5 @@
-use Rattle.{std.proofs.Common.{◌≡◌, arith}, jiff.{specs.Words.{epoch_day}, proofs.SpanFacts.{signed_arith}}}
+use Rattle.std.proofs.Common.{◌≡◌, arith}
+use Rattle.jiff.{specs.Words.{epoch_day}, proofs.SpanFacts.{signed_arith}}
 use Rattle.interval_clock.proofs.{CalendarDays.{date_place-most}, Dates.{weekday_number-weekday_of}}
 use Rattle.interval_clock.proofs.local_time.on_day.Goals as goal
 

@@ -1,4 +1,5 @@
-use Rattle.{std.proofs.Common.{ℕ, ◌<◌}, interval_clock.specs.Offsets.{RisesAt}}
+use Rattle.std.proofs.Common.{ℕ, ◌<◌}
+use Rattle.interval_clock.specs.Offsets.{RisesAt}
 use Rattle.interval_clock.proofs.offsets.first_not_rising.Given as goal
 
 -- each second so far is greater than the one before

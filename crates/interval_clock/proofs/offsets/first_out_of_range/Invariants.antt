@@ -1,4 +1,5 @@
-use Rattle.{std.proofs.Common.{ℕ, ◌<◌}, interval_clock.specs.Offsets.{IsInRangeAt}}
+use Rattle.std.proofs.Common.{ℕ, ◌<◌}
+use Rattle.interval_clock.specs.Offsets.{IsInRangeAt}
 use Rattle.interval_clock.proofs.offsets.first_out_of_range.Given as goal
 
 -- each place so far is in range

@@ -1,5 +1,5 @@
-use Rattle.{std.proofs.Common.{ℕ, ◌<◌, ◌≡◌, None, arith, get_or, subst}, log_commands.proofs.NewestPlace.{newest_is}}
-use Rattle.log_commands.specs.LogRow.{IsAtMost}
+use Rattle.std.proofs.Common.{ℕ, ◌<◌, ◌≡◌, None, arith, get_or, subst}
+use Rattle.log_commands.{specs.LogRow.{IsAtMost}, proofs.NewestPlace.{newest_is}}
 use Rattle.log_commands.proofs.newest.newest_place.Goals as goal
 
 pub returns : goal.returns

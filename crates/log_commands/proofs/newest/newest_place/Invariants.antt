@@ -1,4 +1,5 @@
-use Rattle.{std.proofs.Common.{ℕ, ◌<◌, ◌≡◌, ◌⊎◌, None, get_or}, log_commands.specs.LogRow.{IsAtMost, IsPlaceOf}}
+use Rattle.std.proofs.Common.{ℕ, ◌<◌, ◌≡◌, ◌⊎◌, None, get_or}
+use Rattle.log_commands.specs.LogRow.{IsAtMost, IsPlaceOf}
 use Rattle.log_commands.proofs.newest.newest_place.Given as goal
 
 -- the greatest place of the entries so far

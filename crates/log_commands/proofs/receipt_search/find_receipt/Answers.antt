@@ -1,5 +1,5 @@
-use Rattle.{std.proofs.Common.{[], ℕ, ◌+◌, ◌∙◌, ◌∷◌, ◌≡◌, ap, length, subst, sym}, log_commands.specs.Record.{Record}}
-use Rattle.log_commands.specs.ReceiptSearch.{IsReceiptSearch}
+use Rattle.std.proofs.Common.{[], ℕ, ◌+◌, ◌∙◌, ◌∷◌, ◌≡◌, ap, length, subst, sym}
+use Rattle.log_commands.specs.{ReceiptSearch.{IsReceiptSearch}, Record.{Record}}
 use Rattle.log_commands.proofs.SearchSteps.{rest_of, search_at, search_behind, search_found, search_passed}
 use Rattle.log_commands.proofs.receipt_search.find_receipt.Goals as goal
 

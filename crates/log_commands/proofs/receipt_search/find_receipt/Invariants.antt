@@ -1,4 +1,5 @@
-use Rattle.{std.proofs.Common.{[], ◌-◌, length}, log_commands.specs.ReceiptSearch.{IsReceiptSearch}}
+use Rattle.std.proofs.Common.{[], ◌-◌, length}
+use Rattle.log_commands.specs.ReceiptSearch.{IsReceiptSearch}
 use Rattle.log_commands.proofs.receipt_search.find_receipt.Given as goal
 
 abbrev pub invariant-loop-record : goal.invariant-loop-record

@@ -1,6 +1,6 @@
-use Rattle.{std.proofs.Common.{◌-◌, ◌≡◌, Option, arith, subst, ⊎_elim}, log_commands.proofs.Rows.{row_record}}
+use Rattle.std.proofs.Common.{◌-◌, ◌≡◌, Option, arith, subst, ⊎_elim}
 use Rattle.log_commands.{specs.LogRow.{slot_back}, proofs.row.number_back.Goals.{else-back-last-via-else-back-last}}
-use Rattle.log_commands.specs.LogScan.{IsEntry}
+use Rattle.log_commands.{specs.LogScan.{IsEntry}, proofs.Rows.{row_record}}
 use Rattle.log_commands.{specs.declared.scanning.Entry.{Entry}, proofs.Bounds.{bound_closed, bound_entry}}
 use Rattle.log_commands.proofs.row.number_back.Goals.{else-back-last-via-then-back-last+else-entry-last}
 use Rattle.log_commands.proofs.row.number_back.Goals.{else-back-last-via-then-back-last+then-entry-last+else-entry-newer}

@@ -1,5 +1,5 @@
-use Rattle.{std.proofs.Common.{◌++◌, ◌∙◌, List, Ok, ap, inr, refl, sym}, meter_run.specs.Common.{Event}}
-use Rattle.outside.proofs.Laws.{may_rise_behind, may_rise_more}
+use Rattle.std.proofs.Common.{◌++◌, ◌∙◌, List, Ok, ap, inr, refl, sym}
+use Rattle.{outside.proofs.Laws.{may_rise_behind, may_rise_more}, meter_run.specs.Common.{Event}}
 use Rattle.meter_run.proofs.EventLists.{counts_more, no_more, not_ok, not_this, on_err, true_is, went_wrong}
 use Rattle.meter_run.proofs.WholeDrive.{breaks_told, fewer, none_not_some, takes_told, up_to_more, up_to_none}
 use Rattle.meter_run.proofs.drive.carry_drive.Goals as goal

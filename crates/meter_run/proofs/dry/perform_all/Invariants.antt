@@ -1,5 +1,5 @@
-use Rattle.{std.proofs.Common.{◌++◌, ◌+◌, ◌≡◌, ◌≤◌, drop, take}, meter_run.specs.Commits.{AreFor, after_acts}}
-use Rattle.meter_run.specs.{Common.{KeepsStore}, Texts.{shown_texts}}
+use Rattle.std.proofs.Common.{◌++◌, ◌+◌, ◌≡◌, ◌≤◌, drop, take}
+use Rattle.meter_run.specs.{Commits.{AreFor, after_acts}, Common.{KeepsStore}, Texts.{shown_texts}}
 use Rattle.meter_run.proofs.dry.perform_all.Given as goal
 
 abbrev pub invariant-loop-act : goal.invariant-loop-act

@@ -1,5 +1,6 @@
-use Rattle.{std.proofs.Common.{◌∙◌, subst, sym}, meter_run.specs.Common.{Event, IsTimely, Meets, step}}
-use Rattle.meter_run.proofs.{EventOnStore.{lawful_beside}, SupplyDrop.{came}}
+use Rattle.std.proofs.Common.{◌∙◌, subst, sym}
+use Rattle.meter_run.{specs.Common.{Event, IsTimely, Meets, step}, proofs.EventOnStore.{lawful_beside}}
+use Rattle.meter_run.proofs.SupplyDrop.{came}
 use Rattle.meter_run.proofs.dry.step_or_resume.Goals as goal
 
 pub resume-powered-requires : goal.resume-powered-requires

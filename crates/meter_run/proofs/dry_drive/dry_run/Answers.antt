@@ -1,7 +1,8 @@
-use Rattle.{std.proofs.Common.{◌∙◌, arith, inr, length, refl}, meter_run.proofs.Supplies.{drop_bounded, dry_off}}
+use Rattle.std.proofs.Common.{◌∙◌, arith, inr, length, refl}
 use Rattle.outside.proofs.Laws.{keeps_then, may_rise_more, rises_by, rises_not, rose_behind}
 use Rattle.meter_run.{specs.Common.{events_in}, proofs.SupplyDrop.{end_begun, ready_first, run_begun, whole_printed}}
 use Rattle.meter_run.proofs.{EventLists.{true_is}, RunEnds.{board_only, breaks, ends, no_board_fault, read_failed}}
+use Rattle.meter_run.proofs.Supplies.{drop_bounded, dry_off}
 use Rattle.meter_run.proofs.dry_drive.dry_run.Goals as goal
 
 pub carry_drive-requires : goal.carry_drive-requires

@@ -1,5 +1,5 @@
-use Rattle.{std.proofs.Common.{◌∙◌, All, List, Some, arith, refl, subst, sym}, meter_run.specs.OnStore.{MayDo}}
-use Rattle.meter_run.specs.Common.{Act, IsLawfulAct, Up}
+use Rattle.std.proofs.Common.{◌∙◌, All, List, Some, arith, refl, subst, sym}
+use Rattle.meter_run.specs.{Common.{Act, IsLawfulAct, Up}, OnStore.{MayDo}}
 use Rattle.meter_run.proofs.{EventOnStore.{came_as, event_attempted, ready_opened}, SupplyDrop.{acts_for, few_commits}}
 use Rattle.meter_run.proofs.on_store.resume.Goals as goal
 

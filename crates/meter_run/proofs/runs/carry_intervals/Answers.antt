@@ -1,5 +1,5 @@
-use Rattle.{std.proofs.Common.{ℕ, ◌+◌, ◌≡◌, arith, subst}, meter_run.proofs.EventLists.{went_well, went_wrong}}
-use Rattle.meter_run.specs.{Common.{intervals_events}, Drives.{IsBounded}}
+use Rattle.std.proofs.Common.{ℕ, ◌+◌, ◌≡◌, arith, subst}
+use Rattle.meter_run.{specs.{Common.{intervals_events}, Drives.{IsBounded}}, proofs.EventLists.{went_well, went_wrong}}
 use Rattle.meter_run.proofs.EventLists.{bounded_at_interval, bounded_further, counts_more, intervals_broken}
 use Rattle.meter_run.proofs.EventLists.{intervals_carried, intervals_further, no_more, not_ok, on_err, true_is}
 use Rattle.meter_run.proofs.runs.carry_intervals.Goals as goal

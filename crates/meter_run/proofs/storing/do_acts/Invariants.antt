@@ -1,6 +1,6 @@
-use Rattle.{std.proofs.Common.{◌*◌, ◌++◌, ◌+◌, ◌≡◌, ◌≤◌, drop, take}, meter_run.specs.Deeds.{deeds_of, texts}}
+use Rattle.std.proofs.Common.{◌*◌, ◌++◌, ◌+◌, ◌≡◌, ◌≤◌, drop, take}
 use Rattle.meter_run.specs.{Commits.{AreFor, after_acts, commits_in}, OnStore.{Agrees, MayDo, WritesTotals}}
-use Rattle.meter_run.specs.{Common.{TableParts}, Points.{GoesBy}}
+use Rattle.meter_run.specs.{Common.{TableParts}, Deeds.{deeds_of, texts}, Points.{GoesBy}}
 use Rattle.meter_run.proofs.storing.do_acts.Given as goal
 
 -- so far the first acts were carried out

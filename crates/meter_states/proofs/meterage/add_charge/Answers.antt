@@ -1,5 +1,5 @@
-use Rattle.{std.proofs.Common.{ℕ, ◌+◌, ◌-◌, ◌∙◌, ap, arith}, meter_states.proofs.Meterages.{added-less, sum-added}}
-use Rattle.meter_states.specs.Common.{Meterage, added}
+use Rattle.std.proofs.Common.{ℕ, ◌+◌, ◌-◌, ◌∙◌, ap, arith}
+use Rattle.meter_states.{specs.Common.{Meterage, added}, proofs.Meterages.{added-less, sum-added}}
 use Rattle.meter_states.proofs.meterage.add_charge.Goals as goal
 
 pub returns-then-above-modulus-clause-exact : goal.returns-then-above-modulus-clause-exact

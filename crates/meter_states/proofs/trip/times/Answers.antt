@@ -1,5 +1,5 @@
-use Rattle.{std.proofs.Common.{ℕ, ◌+◌, ◌-◌, ◌∙◌, ◌≡◌, ap, arith, get_or}, meter_states.specs.Common.{CoreTrip, times}}
-use Rattle.meter_states.proofs.Counts.{counts-at}
+use Rattle.std.proofs.Common.{ℕ, ◌+◌, ◌-◌, ◌∙◌, ◌≡◌, ap, arith, get_or}
+use Rattle.meter_states.{specs.Common.{CoreTrip, times}, proofs.Counts.{counts-at}}
 use Rattle.meter_states.proofs.trip.times.Goals as goal
 
 pub returns-clause-times : goal.returns-clause-times

@@ -1,4 +1,5 @@
-use Rattle.{std.proofs.Common.{◌+◌, ◌≡◌, drop, map}, offset_rules.specs.Reading.{numbered_at}}
+use Rattle.std.proofs.Common.{◌+◌, ◌≡◌, drop, map}
+use Rattle.offset_rules.specs.Reading.{numbered_at}
 use Rattle.offset_rules.proofs.names.numbered.Given as goal
 
 abbrev pub invariant-loop-place : goal.invariant-loop-place

@@ -1,4 +1,5 @@
-use Rattle.{std.proofs.Common.{◌≡◌, drop, take}, run_chains.specs.{Chain.{HasChain}, Common.{Durable, HasState}}}
+use Rattle.std.proofs.Common.{◌≡◌, drop, take}
+use Rattle.run_chains.specs.{Chain.{HasChain}, Common.{Durable, HasState}}
 use Rattle.run_chains.proofs.chains.chain.Given as goal
 
 -- the chain of the runs so far; the other files are as they were

@@ -1,5 +1,5 @@
-use Rattle.{std.proofs.Common.{◌∙◌, Ok, ap, arith}, totals_record.specs.Reading.{reads}}
-use Rattle.meter_store.specs.Stored.{state_number_of}
+use Rattle.std.proofs.Common.{◌∙◌, Ok, ap, arith}
+use Rattle.{totals_record.specs.Reading.{reads}, meter_store.specs.Stored.{state_number_of}}
 use Rattle.run_chains.{specs.Common.{found_at}, proofs.ChainScan.{number_at, number_fails, number_not}}
 use Rattle.run_chains.proofs.chains.stored_number.Goals as goal
 

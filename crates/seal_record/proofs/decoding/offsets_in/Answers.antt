@@ -1,4 +1,5 @@
-use Rattle.{std.proofs.Common.{◌∙◌, arith}, slot_bodies.{specs.BytesAt.{byte_at}, proofs.Laws.{length-read_row}}}
+use Rattle.std.proofs.Common.{◌∙◌, arith}
+use Rattle.slot_bodies.{specs.BytesAt.{byte_at}, proofs.Laws.{length-read_row}}
 use Rattle.seal_record.{specs.{Common.{read_row}, Decoding.{pair_table}}, proofs.Ranged.{offsets_by}}
 use Rattle.seal_record.proofs.decoding.offsets_in.Goals as goal
 

@@ -1,4 +1,5 @@
-use Rattle.{std.proofs.Common.{◌++◌, ◌+◌, ◌≡◌, replicate}, arrayvec.specs.ArrayVec.{array_vec_len}}
+use Rattle.std.proofs.Common.{◌++◌, ◌+◌, ◌≡◌, replicate}
+use Rattle.arrayvec.specs.ArrayVec.{array_vec_len}
 use Rattle.slot_bodies.proofs.body_bytes.put_zeros.Given as goal
 
 -- one zero was appended in each turn

@@ -1,6 +1,6 @@
-use Rattle.{std.proofs.Common.{◌∙◌, ◌≡◌, Err, Ok, ap, arith, refl, sym}, slot_store.proofs.Laws.{from_sync_as}}
-use Rattle.{call_ends.proofs.Laws.{no_fault, reads-then, same_fault}, store_commands.specs.Common.{IsAsHeld, found_at}}
-use Rattle.store_commands.specs.Opening.{fault_from}
+use Rattle.std.proofs.Common.{◌∙◌, ◌≡◌, Err, Ok, ap, arith, refl, sym}
+use Rattle.{slot_store.proofs.Laws.{from_sync_as}, call_ends.proofs.Laws.{no_fault, reads-then, same_fault}}
+use Rattle.store_commands.specs.{Common.{IsAsHeld, found_at}, Opening.{fault_from}}
 use Rattle.store_commands.proofs.Openings.{failed_from, opened_bad, opened_by, stays_found, synced-on}
 use Rattle.slot_store.specs.declared.found.SlotFault.TheVariants as slots
 use Rattle.totals_record.specs.Reading as totals

@@ -1,4 +1,5 @@
-use Rattle.{std.proofs.Common.{◌≡◌, ◌≤◌, take}, tariff_calendar.specs.Lists.{count_at_most}}
+use Rattle.std.proofs.Common.{◌≡◌, ◌≤◌, take}
+use Rattle.tariff_calendar.specs.Lists.{count_at_most}
 use Rattle.tariff_calendar.proofs.lookups.count_at_most.Given as goal
 
 abbrev pub invariant-loop-number : goal.invariant-loop-number

@@ -1,4 +1,5 @@
-use Rattle.{std.proofs.Common.{ℕ, ◌+◌, ◌-◌, ◌<◌, ◌^◌, ◌≤◌, get_or, length}, taxi_units.specs.Halving.{EndsWithin}}
+use Rattle.std.proofs.Common.{ℕ, ◌+◌, ◌-◌, ◌<◌, ◌^◌, ◌≤◌, get_or, length}
+use Rattle.taxi_units.specs.Halving.{EndsWithin}
 use Rattle.tariff_calendar.proofs.lookups.count_until.Given as goal
 
 -- the numbers before `count` are at most the value, and the one at `end` is further away

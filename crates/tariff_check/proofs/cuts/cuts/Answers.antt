@@ -1,4 +1,5 @@
-use Rattle.{std.proofs.Common.{◌∙◌, arith}, tariff_check.proofs.CutLaws.{line_step}}
+use Rattle.std.proofs.Common.{◌∙◌, arith}
+use Rattle.tariff_check.proofs.CutLaws.{line_step}
 use Rattle.tariff_check.proofs.cuts.cuts.Goals as goal
 
 pub loop-line-preserved : goal.loop-line-preserved

@@ -1,5 +1,5 @@
-use Rattle.{std.proofs.Common.{◌≡◌, drop, map}, tariff_check.specs.Cuts.{all_cuts, cuts_of, with_each}}
-use Rattle.tariff_check.specs.Common.{line_of}
+use Rattle.std.proofs.Common.{◌≡◌, drop, map}
+use Rattle.tariff_check.specs.{Common.{line_of}, Cuts.{all_cuts, cuts_of, with_each}}
 use Rattle.tariff_check.proofs.cuts.cuts.Given as goal
 
 abbrev pub invariant-loop-line : goal.invariant-loop-line

@@ -1,5 +1,6 @@
-use Rattle.{std.{specs.List.{list_any}, proofs.Common.{◌≡◌, drop, map}}, tariff_check.proofs.FirstParts.{is_default}}
-use Rattle.tariff_check.specs.{Common.{line_of}, Faults.{has_default}, Kinds.{part_of}}
+use Rattle.std.{specs.List.{list_any}, proofs.Common.{◌≡◌, drop, map}}
+use Rattle.tariff_check.{specs.{Common.{line_of}, Faults.{has_default}}, proofs.FirstParts.{is_default}}
+use Rattle.tariff_check.specs.Kinds.{part_of}
 use Rattle.tariff_check.proofs.parts.has_default.Given as goal
 
 abbrev pub invariant-loop-line : goal.invariant-loop-line

@@ -1,4 +1,5 @@
-use Rattle.{std.proofs.Common.{◌≡◌, drop, map}, tariff_check.specs.{Common.{line_of}, Parts.{has_holidays}}}
+use Rattle.std.proofs.Common.{◌≡◌, drop, map}
+use Rattle.tariff_check.specs.{Common.{line_of}, Parts.{has_holidays}}
 use Rattle.tariff_check.proofs.parts.has_holidays.Given as goal
 
 abbrev pub invariant-loop-line : goal.invariant-loop-line

@@ -1,4 +1,5 @@
-use Rattle.{std.proofs.Common.{◌≡◌, drop}, tariff_check.specs.SoundTariff.{supplement_numbered}}
+use Rattle.std.proofs.Common.{◌≡◌, drop}
+use Rattle.tariff_check.specs.SoundTariff.{supplement_numbered}
 use Rattle.tariff_check.proofs.resolving.numbered.Given as goal
 
 abbrev pub invariant-loop-number : goal.invariant-loop-number

@@ -1,7 +1,7 @@
-use Rattle.{std.proofs.Common.{[], ◌∙◌, Err, ap, arith, refl, rules}, call_ends.proofs.Laws.{unless_read}}
+use Rattle.std.proofs.Common.{[], ◌∙◌, Err, ap, arith, refl, rules}
 use Rattle.call_ends.proofs.Laws.{carries-said, course-refused, ends_apart, no_fault, read_fault-text, stops_by}
-use Rattle.tariff_commands.specs.Check.{check_command}
-use Rattle.tariff_commands.{specs.Common.{ended_for, tariff_in}, proofs.TariffAnswers.{refused-check}}
+use Rattle.{call_ends.proofs.Laws.{unless_read}, tariff_commands.proofs.TariffAnswers.{refused-check}}
+use Rattle.tariff_commands.specs.{Check.{check_command}, Common.{ended_for, tariff_in}}
 use Rattle.call_ends.specs.declared.ending.Ended.TheVariants as ended
 use Rattle.call_ends.specs.declared.tariff.TextFault.TheVariants as texts
 use Rattle.tariff_commands.proofs.check.check_tariff.Goals as goal

@@ -1,4 +1,5 @@
-use Rattle.{std.proofs.Common.{◌++◌, ◌≡◌, drop, map}, tariff_commands.specs.{Common.{Unsound}, Faults.{refusal_lines}}}
+use Rattle.std.proofs.Common.{◌++◌, ◌≡◌, drop, map}
+use Rattle.tariff_commands.specs.{Common.{Unsound}, Faults.{refusal_lines}}
 use Rattle.tariff_commands.proofs.faults.fault_lines.Given as goal
 
 abbrev pub invariant-loop-fault : goal.invariant-loop-fault

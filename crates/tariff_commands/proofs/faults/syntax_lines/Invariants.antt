@@ -1,4 +1,5 @@
-use Rattle.{std.proofs.Common.{◌++◌, ◌≡◌, drop, map}, tariff_commands.specs.{Common.{Syntax}, Faults.{refusal_lines}}}
+use Rattle.std.proofs.Common.{◌++◌, ◌≡◌, drop, map}
+use Rattle.tariff_commands.specs.{Common.{Syntax}, Faults.{refusal_lines}}
 use Rattle.tariff_commands.proofs.faults.syntax_lines.Given as goal
 
 abbrev pub invariant-loop-number : goal.invariant-loop-number

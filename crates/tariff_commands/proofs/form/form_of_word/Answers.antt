@@ -1,4 +1,5 @@
-use Rattle.{std.{specs.Prelude.{IfOk}, proofs.Common.{ℕ, ◌∙◌, List, subst}}, tariff_commands.specs.FormSteps.{IsFormOf}}
+use Rattle.std.{specs.Prelude.{IfOk}, proofs.Common.{ℕ, ◌∙◌, List, subst}}
+use Rattle.tariff_commands.specs.FormSteps.{IsFormOf}
 use Rattle.tariff_commands.proofs.form.form_of_word.Goals as goal
 
 pub returns-clause-found : goal.returns-clause-found

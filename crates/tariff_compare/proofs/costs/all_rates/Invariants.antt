@@ -1,4 +1,5 @@
-use Rattle.{std.proofs.Common.{◌≡◌, take}, tariff_check.specs.SoundTariff.{own_values}}
+use Rattle.std.proofs.Common.{◌≡◌, take}
+use Rattle.tariff_check.specs.SoundTariff.{own_values}
 use Rattle.tariff_compare.proofs.costs.all_rates.Given as goal
 
 abbrev pub invariant-loop-rate : goal.invariant-loop-rate

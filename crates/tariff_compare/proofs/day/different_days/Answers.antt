@@ -1,5 +1,5 @@
-use Rattle.{std.proofs.Common.{◌∙◌, List, ap, sym}, tariff_compare.specs.Grids.{day_in, days_until, with_day}}
-use Rattle.tariff_compare.{specs.Common.{Day}, proofs.Days.{days_more}}
+use Rattle.std.proofs.Common.{◌∙◌, List, ap, sym}
+use Rattle.tariff_compare.{specs.{Common.{Day}, Grids.{day_in, days_until, with_day}}, proofs.Days.{days_more}}
 use Rattle.tariff_compare.proofs.day.different_days.Goals as goal
 
 pub loop-place-preserved : goal.loop-place-preserved

@@ -1,4 +1,5 @@
-use Rattle.{std.proofs.Common.{◌≡◌}, tariff_compare.specs.Grids.{days_until}}
+use Rattle.std.proofs.Common.{◌≡◌}
+use Rattle.tariff_compare.specs.Grids.{days_until}
 use Rattle.tariff_compare.proofs.day.different_days.Given as goal
 
 abbrev pub invariant-loop-place : goal.invariant-loop-place

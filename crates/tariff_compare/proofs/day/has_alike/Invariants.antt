@@ -1,4 +1,5 @@
-use Rattle.{std.{specs.List.{list_any}, proofs.Common.{◌≡◌, drop}}, tariff_compare.specs.Grids.{is_alike}}
+use Rattle.std.{specs.List.{list_any}, proofs.Common.{◌≡◌, drop}}
+use Rattle.tariff_compare.specs.Grids.{is_alike}
 use Rattle.tariff_compare.proofs.day.has_alike.Given as goal
 
 abbrev pub invariant-loop-other : goal.invariant-loop-other

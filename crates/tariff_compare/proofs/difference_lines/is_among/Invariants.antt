@@ -1,4 +1,5 @@
-use Rattle.{std.{specs.List.{list_any}, proofs.Common.{◌&&◌, ◌==◌, ◌≡◌, drop}}, tariff_check.specs.Parts.{DateNumbers}}
+use Rattle.std.{specs.List.{list_any}, proofs.Common.{◌&&◌, ◌==◌, ◌≡◌, drop}}
+use Rattle.tariff_check.specs.Parts.{DateNumbers}
 use Rattle.tariff_compare.proofs.difference_lines.is_among.Given as goal
 
 abbrev pub invariant-loop-holiday : goal.invariant-loop-holiday

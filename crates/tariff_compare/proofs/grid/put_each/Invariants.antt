@@ -1,4 +1,5 @@
-use Rattle.{std.proofs.Common.{◌≡◌, drop}, tariff_compare.specs.{Common.{with_each}, Grids.{up_to}}}
+use Rattle.std.proofs.Common.{◌≡◌, drop}
+use Rattle.tariff_compare.specs.{Common.{with_each}, Grids.{up_to}}
 use Rattle.tariff_compare.proofs.grid.put_each.Given as goal
 
 abbrev pub invariant-loop-number : goal.invariant-loop-number

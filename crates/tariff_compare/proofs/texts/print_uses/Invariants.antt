@@ -1,4 +1,5 @@
-use Rattle.{std.proofs.Common.{◌++◌, ◌≡◌, drop}, tariff_compare.specs.Texts.{uses_text}}
+use Rattle.std.proofs.Common.{◌++◌, ◌≡◌, drop}
+use Rattle.tariff_compare.specs.Texts.{uses_text}
 use Rattle.tariff_compare.proofs.texts.print_uses.Given as goal
 
 abbrev pub invariant-loop-one : goal.invariant-loop-one

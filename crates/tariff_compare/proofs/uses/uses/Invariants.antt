@@ -1,4 +1,5 @@
-use Rattle.{std.proofs.Common.{◌≡◌, All, map, take}, tariff_compare.specs.Uses.{IsDatedUse, use_of}}
+use Rattle.std.proofs.Common.{◌≡◌, All, map, take}
+use Rattle.tariff_compare.specs.Uses.{IsDatedUse, use_of}
 use Rattle.tariff_compare.proofs.uses.uses.Given as goal
 
 abbrev pub invariant-loop-choice : goal.invariant-loop-choice

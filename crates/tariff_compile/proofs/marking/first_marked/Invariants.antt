@@ -1,4 +1,5 @@
-use Rattle.{std.{specs.List.{position_from}, proofs.Common.{◌≡◌, drop}}, tariff_compile.specs.Marks.{is_marked}}
+use Rattle.std.{specs.List.{position_from}, proofs.Common.{◌≡◌, drop}}
+use Rattle.tariff_compile.specs.Marks.{is_marked}
 use Rattle.tariff_compile.proofs.marking.first_marked.Given as goal
 
 abbrev pub invariant-loop-i : goal.invariant-loop-i

@@ -1,4 +1,5 @@
-use Rattle.{std.proofs.Common.{◌+◌, ◌≡◌, drop}, taxi_units.specs.Number.{digits_at_front}}
+use Rattle.std.proofs.Common.{◌+◌, ◌≡◌, drop}
+use Rattle.taxi_units.specs.Number.{digits_at_front}
 use Rattle.taxi_units.proofs.decimal.count_digits.Given as goal
 
 abbrev pub invariant-loop-byte : goal.invariant-loop-byte

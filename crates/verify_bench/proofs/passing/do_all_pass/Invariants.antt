@@ -1,4 +1,5 @@
-use Rattle.{std.proofs.Common.{◌≡◌}, verify_bench.specs.PassingStages.{do_places_pass}}
+use Rattle.std.proofs.Common.{◌≡◌}
+use Rattle.verify_bench.specs.PassingStages.{do_places_pass}
 use Rattle.verify_bench.proofs.passing.do_all_pass.Given as goal
 
 abbrev pub invariant-loop-place : goal.invariant-loop-place

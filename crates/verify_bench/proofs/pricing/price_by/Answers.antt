@@ -1,7 +1,8 @@
-use Rattle.{std.proofs.Common.{◌∙◌, sym}, verify_bench.proofs.ChargeRange.{time_fits}}
+use Rattle.std.proofs.Common.{◌∙◌, sym}
 use Rattle.verify_bench.proofs.ChargeRange.{both_bound, both_few, both_fits, distance_bound, distance_few}
 use Rattle.verify_bench.proofs.ChargeRange.{distance_fits, double_charge, double_way, fast_charge, fast_way, pulse_fits}
 use Rattle.verify_bench.proofs.ChargeRange.{rise_fits, share_fits, slow_charge, slow_way, time_bound, time_few}
+use Rattle.verify_bench.proofs.ChargeRange.{time_fits}
 use Rattle.verify_bench.proofs.pricing.price_by.Goals as goal
 
 pub nonzero_div-pulse : goal.nonzero_div-pulse

@@ -1,4 +1,5 @@
-use Rattle.{std.{specs.Vec.{vec_len}, proofs.Common.{ℕ, ◌≡◌}}, verify_bench.specs.Gathered.{rate_at}}
+use Rattle.std.{specs.Vec.{vec_len}, proofs.Common.{ℕ, ◌≡◌}}
+use Rattle.verify_bench.specs.Gathered.{rate_at}
 use Rattle.verify_bench.proofs.table.lengthen.Given as goal
 
 abbrev pub invariant-loop-length : goal.invariant-loop-length

@@ -1,5 +1,5 @@
-use Rattle.{std.proofs.Common.{◌++◌, ◌≡◌, List, drop}, verify_bench.specs.Common.{Part, Setting, own_lines}}
-use Rattle.verify_bench.specs.{Gathered.{IsTableOf}, Groups.{groups_from}}
+use Rattle.std.proofs.Common.{◌++◌, ◌≡◌, List, drop}
+use Rattle.verify_bench.specs.{Common.{Part, Setting, own_lines}, Gathered.{IsTableOf}, Groups.{groups_from}}
 use Rattle.verify_bench.proofs.telling.groups.Given as goal
 
 abbrev pub invariant-loop-place : goal.invariant-loop-place

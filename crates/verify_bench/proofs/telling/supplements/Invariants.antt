@@ -1,4 +1,5 @@
-use Rattle.{std.proofs.Common.{◌*◌, ◌+◌, ◌-◌, ◌≡◌, ◌≤◌}, verify_bench.specs.Amounts.{amounts_among}}
+use Rattle.std.proofs.Common.{◌*◌, ◌+◌, ◌-◌, ◌≡◌, ◌≤◌}
+use Rattle.verify_bench.specs.Amounts.{amounts_among}
 use Rattle.verify_bench.specs.Common.{amount_in, amounts_of, sound_of, supplement_of, tree_of}
 use Rattle.verify_bench.proofs.telling.supplements.Given as goal
 

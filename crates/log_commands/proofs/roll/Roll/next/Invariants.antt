@@ -1,5 +1,5 @@
-use Rattle.{std.proofs.Common.{[], ℕ, ◌+◌, ◌≡◌, ◌≢◌, ◌≤◌, Some, length}, log_commands.proofs.Rolls.{rounds}}
-use Rattle.log_commands.specs.Common.{MayRise, RisesOnlyIf}
+use Rattle.std.proofs.Common.{[], ℕ, ◌+◌, ◌≡◌, ◌≢◌, ◌≤◌, Some, length}
+use Rattle.log_commands.{specs.Common.{MayRise, RisesOnlyIf}, proofs.Rolls.{rounds}}
 use Rattle.log_commands.specs.{Reading.{FailsNow, GoesOn, IsOver}, declared.roll.RollEnd.{RollEnd}}
 use Rattle.log_commands.proofs.roll.Roll.next.Given as goal
 

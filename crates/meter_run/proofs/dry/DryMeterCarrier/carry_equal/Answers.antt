@@ -1,5 +1,6 @@
-use Rattle.{std.proofs.Common.{◌∙◌, List, subst, sym}, meter_run.specs.Dry.{CarriesEvents}}
+use Rattle.std.proofs.Common.{◌∙◌, List, subst, sym}
 use Rattle.meter_run.{specs.Common.{Event, intervals_of}, proofs.Equal.{carries_still, intervals_are, ready_still}}
+use Rattle.meter_run.specs.Dry.{CarriesEvents}
 use Rattle.meter_run.proofs.dry.DryMeterCarrier.carry_equal.Goals as goal
 
 pub equal_intervals-requires : goal.equal_intervals-requires

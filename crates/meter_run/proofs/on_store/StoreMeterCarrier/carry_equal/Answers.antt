@@ -1,5 +1,6 @@
-use Rattle.{std.proofs.Common.{◌∙◌, List, subst, sym}, meter_run.proofs.Equal.{intervals_are, knows_still, out_still}}
-use Rattle.meter_run.{specs.{Common.{Event, intervals_of, run}, OnStore.{CarriesOut}}, proofs.Supplies.{equal_keep_off}}
+use Rattle.std.proofs.Common.{◌∙◌, List, subst, sym}
+use Rattle.meter_run.{specs.Common.{Event, intervals_of, run}, proofs.Equal.{intervals_are, knows_still, out_still}}
+use Rattle.meter_run.{specs.OnStore.{CarriesOut}, proofs.Supplies.{equal_keep_off}}
 use Rattle.meter_run.proofs.on_store.StoreMeterCarrier.carry_equal.Goals as goal
 
 pub equal_intervals-requires : goal.equal_intervals-requires

@@ -1,6 +1,7 @@
-use Rattle.{std.proofs.Common.{ℕ, ◌∙◌, ap, subst, sym}, taxi_units.specs.declared.receipt.Kind.TheVariants.{Closed}}
+use Rattle.std.proofs.Common.{ℕ, ◌∙◌, ap, subst, sym}
+use Rattle.{taxi_units.specs.declared.receipt.Kind.TheVariants.{Closed}, meter_states.proofs.Powered.{amid-closes}}
 use Rattle.meter_states.specs.{Common.{IsSecond, Outcome, closed}, Core.{ComesToOutcome, CoreData}}
-use Rattle.meter_states.proofs.{Powered.{amid-closes}, Pushes.{few-none}}
+use Rattle.meter_states.proofs.Pushes.{few-none}
 use Rattle.meter_states.proofs.meter_state.State.clear.Goals as goal
 
 pub close-requires-clause-lawful : goal.close-requires-clause-lawful

@@ -1,5 +1,6 @@
-use Rattle.{std.proofs.Common.{◌∙◌, ◌≤◌, ap, arith, refl, subst, sym}, tariff_check.specs.SoundLookups.{has_date}}
-use Rattle.meter_states.specs.{Cache.{sealed_time}, Common.{SoundTariff}, Core.{CoreData}}
+use Rattle.std.proofs.Common.{◌∙◌, ◌≤◌, ap, arith, refl, subst, sym}
+use Rattle.{tariff_check.specs.SoundLookups.{has_date}, meter_states.specs.{Cache.{sealed_time}, Common.{SoundTariff}}}
+use Rattle.meter_states.specs.Core.{CoreData}
 use Rattle.meter_states.proofs.meter_state.State.context_on.Goals as goal
 
 pub returns-clause-range : goal.returns-clause-range

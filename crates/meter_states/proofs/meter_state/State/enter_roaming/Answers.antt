@@ -1,6 +1,6 @@
-use Rattle.{std.proofs.Common.{[], ◌++◌, ◌+◌, ◌∙◌, ◌∷◌, ◌≤◌, ap, subst, sym}, meter_states.specs.Core.{CoreData}}
+use Rattle.std.proofs.Common.{[], ◌++◌, ◌+◌, ◌∙◌, ◌∷◌, ◌≤◌, ap, subst, sym}
 use Rattle.{meter_model.specs.ClosedTrip.{roaming_entry}, meter_states.specs.Common.{Enter, roaming_amid}}
-use Rattle.meter_states.specs.Lawful.{IsBetweenEvents}
+use Rattle.meter_states.specs.{Core.{CoreData}, Lawful.{IsBetweenEvents}}
 use Rattle.meter_states.proofs.{Powered.{powered-entered, roaming-beside, roaming-room}, Pushes.{few-more, lawful-more}}
 use Rattle.totals_record.specs.declared.entry.Entry as store
 use Rattle.meter_states.proofs.meter_state.State.enter_roaming.Goals as goal

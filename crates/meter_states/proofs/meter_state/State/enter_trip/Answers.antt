@@ -1,6 +1,6 @@
-use Rattle.{std.proofs.Common.{[], ◌++◌, ◌+◌, ◌∙◌, ◌∷◌, ◌≤◌, ap, arith, subst, sym}, meter_states.specs.Core.{CoreData}}
+use Rattle.std.proofs.Common.{[], ◌++◌, ◌+◌, ◌∙◌, ◌∷◌, ◌≤◌, ap, arith, subst, sym}
 use Rattle.meter_states.specs.Common.{Enter, entry_of_trip, last_number}
-use Rattle.meter_states.proofs.Pushes.{closing-room, few-more, lawful-more}
+use Rattle.meter_states.{specs.Core.{CoreData}, proofs.Pushes.{closing-room, few-more, lawful-more}}
 use Rattle.totals_record.specs.declared.entry.Entry as store
 use Rattle.meter_states.proofs.meter_state.State.enter_trip.Goals as goal
 

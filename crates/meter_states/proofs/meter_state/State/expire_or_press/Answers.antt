@@ -1,6 +1,6 @@
-use Rattle.{std.proofs.Common.{◌∙◌, Bool, ap, if◌then◌else◌, inr, subst, sym}, meter_states.specs.Core.{ComesToOutcome}}
+use Rattle.std.proofs.Common.{◌∙◌, Bool, ap, if◌then◌else◌, inr, subst, sym}
 use Rattle.meter_states.{specs.Common.{Outcome, expired, key_pressed}, proofs.KeyStages.{steps-twelve}}
-use Rattle.meter_states.proofs.{Powered.{between-amid}, Pushes.{few-longer}}
+use Rattle.meter_states.{specs.Core.{ComesToOutcome}, proofs.{Powered.{between-amid}, Pushes.{few-longer}}}
 use Rattle.meter_states.proofs.meter_state.State.expire_or_press.Goals as goal
 
 pub expire-requires-clause-lawful : goal.expire-requires-clause-lawful

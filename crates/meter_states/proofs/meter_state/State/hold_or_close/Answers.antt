@@ -1,5 +1,6 @@
-use Rattle.{std.proofs.Common.{ℕ, ◌<◌, ◌∙◌, ◌≤◌, ap, subst, sym}, meter_states.specs.Core.{ComesToOutcome, CoreData}}
+use Rattle.std.proofs.Common.{ℕ, ◌<◌, ◌∙◌, ◌≤◌, ap, subst, sym}
 use Rattle.meter_states.{specs.Common.{Aborted, IsSecond, Outcome, closed, last_number}, proofs.Pushes.{few-none}}
+use Rattle.meter_states.specs.Core.{ComesToOutcome, CoreData}
 use Rattle.meter_states.proofs.{Outcomes.{quiet-follows, trip-saved}, Powered.{none-hires, powered-longer, some-there}}
 use Rattle.meter_states.proofs.SupplyStages.{aborted-closes, kept-closed, kept-held, kept-quiet, kept-roams}
 use Rattle.meter_states.proofs.meter_state.State.hold_or_close.Goals as goal

@@ -1,5 +1,6 @@
-use Rattle.{std.proofs.Common.{[], ◌++◌, ◌∙◌, ◌∷◌, ◌≤◌, ap, subst, sym}, meter_states.specs.Lawful.{IsTripBeside}}
+use Rattle.std.proofs.Common.{[], ◌++◌, ◌∙◌, ◌∷◌, ◌≤◌, ap, subst, sym}
 use Rattle.meter_states.{specs.{Common.{Receipt, receipt_of}, Core.{CoreData}}, proofs.Pushes.{few-more, lawful-more}}
+use Rattle.meter_states.specs.Lawful.{IsTripBeside}
 use Rattle.taxi_units.specs.declared.receipt.Receipt as receipts
 use Rattle.meter_states.proofs.meter_state.State.print_receipt.Goals as goal
 

@@ -1,5 +1,6 @@
-use Rattle.{std.proofs.Common.{◌∙◌, ap, sym}, meter_states.proofs.Displays.{shown_anew, shown_still}}
-use Rattle.meter_states.{specs.{Common.{Show, is_shown}, Core.{CoreData}}, proofs.Pushes.{lawful-more}}
+use Rattle.std.proofs.Common.{◌∙◌, ap, sym}
+use Rattle.meter_states.{specs.{Common.{Show, is_shown}, Core.{CoreData}}, proofs.Displays.{shown_anew, shown_still}}
+use Rattle.meter_states.proofs.Pushes.{lawful-more}
 use Rattle.meter_states.proofs.meter_state.State.show.Goals as goal
 
 pub returns-then-not-is_shown-clause-ranges : goal.returns-then-not-is_shown-clause-ranges

@@ -1,6 +1,6 @@
-use Rattle.{std.proofs.Common.{◌+◌, ◌<◌, ◌∙◌, ◌≤◌, ap, arith, refl, sym}, meter_states.specs.Core.{CoreData}}
+use Rattle.std.proofs.Common.{◌+◌, ◌<◌, ◌∙◌, ◌≤◌, ap, arith, refl, sym}
 use Rattle.meter_states.{specs.Common.{ForHire, Hired, Stopped, roaming_most}, proofs.EqualIntervals.{full-in}}
-use Rattle.meter_states.specs.Equals.{roams}
+use Rattle.meter_states.specs.{Core.{CoreData}, Equals.{roams}}
 use Rattle.meter_states.proofs.meter_state.State.take_equal.Goals as goal
 
 pub returns-in-Hired-clause-full : goal.returns-in-Hired-clause-full

@@ -1,6 +1,6 @@
-use Rattle.{std.proofs.Common.{◌∙◌, subst, sym}, meter_model.specs.Supply.{resumed}}
-use Rattle.meter_states.specs.Common.{Outcome}
-use Rattle.meter_states.{specs.Core.{ComesToOutcome}, proofs.{Outcomes.{quiet-follows}, Pushes.{few-none}}}
+use Rattle.std.proofs.Common.{◌∙◌, subst, sym}
+use Rattle.{meter_model.specs.Supply.{resumed}, meter_states.proofs.{Outcomes.{quiet-follows}, Pushes.{few-none}}}
+use Rattle.meter_states.specs.{Common.{Outcome}, Core.{ComesToOutcome}}
 use Rattle.meter_states.proofs.{Powered.{none-hires}, SupplyStages.{begun-by, held-second, hold-aborted, hold-resumed}}
 use Rattle.meter_states.proofs.meter_state.State.take_held.Goals as goal
 

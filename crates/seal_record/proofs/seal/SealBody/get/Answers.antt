@@ -1,4 +1,5 @@
-use Rattle.{std.proofs.Common.{◌∙◌, sym}, seal_record.proofs.Ranged.{read_none, read_other, read_own}}
+use Rattle.std.proofs.Common.{◌∙◌, sym}
+use Rattle.seal_record.proofs.Ranged.{read_none, read_other, read_own}
 use Rattle.seal_record.proofs.seal.SealBody.get.Goals as goal
 
 pub returns-in_err-seal : goal.returns-in_err-seal

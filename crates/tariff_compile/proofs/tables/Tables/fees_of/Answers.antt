@@ -1,4 +1,5 @@
-use Rattle.{std.proofs.{Common.{◌∙◌, ap, arith}, lemmas.Grind.{common_steps}}, tariff_compile.specs.Tables.{TableParts}}
+use Rattle.std.proofs.{Common.{◌∙◌, ap, arith}, lemmas.Grind.{common_steps}}
+use Rattle.tariff_compile.specs.Tables.{TableParts}
 use Rattle.tariff_compile.proofs.tables.Tables.fees_of.Goals as goal
 
 pub read-fee-requires : goal.read-fee-requires

@@ -1,5 +1,6 @@
-use Rattle.{std.proofs.Common.{◌-◌, ◌∙◌, List, Option, ap, arith, get_or}, tariff_compile.specs.Tables.{TableParts}}
+use Rattle.std.proofs.Common.{◌-◌, ◌∙◌, List, Option, ap, arith, get_or}
 use Rattle.tariff_compile.{specs.Common.{Supplement}, proofs.Compiled.{supplement-none, supplement-there}}
+use Rattle.tariff_compile.specs.Tables.{TableParts}
 use Rattle.tariff_compile.proofs.tables.Tables.supplement.Goals.{then-number-lt1-via-else-number-lt1+then-number-gt16}
 use Rattle.tariff_compile.proofs.tables.Tables.supplement.Goals.{then-number-lt1-via-then-number-lt1}
 use Rattle.tariff_compile.proofs.tables.Tables.supplement.Goals as goal

@@ -1,4 +1,5 @@
-use Rattle.{std.proofs.Common.{ℕ, ◌<◌, Err, Ok, OnOk, Result, subst}, verify_bench.proofs.Benches.{moves_extra}}
+use Rattle.std.proofs.Common.{ℕ, ◌<◌, Err, Ok, OnOk, Result, subst}
+use Rattle.verify_bench.proofs.Benches.{moves_extra}
 use Rattle.verify_bench.proofs.bench_meter.BenchMeter.add_up_to.Goals as goal
 
 -- what follows from two facts of a call that went well

@@ -1,4 +1,5 @@
-use Rattle.{std.proofs.Common.{◌≡◌}, verify_bench.specs.Common.{ForHire}}
+use Rattle.std.proofs.Common.{◌≡◌}
+use Rattle.verify_bench.specs.Common.{ForHire}
 use Rattle.verify_bench.proofs.{Benches.{roams}, bench_meter.BenchMeter.check_roaming.Goals.{in-ForHire, in_default}}
 use Rattle.verify_bench.proofs.bench_meter.BenchMeter.check_roaming.Goals as goal
 

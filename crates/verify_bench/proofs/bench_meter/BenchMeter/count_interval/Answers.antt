@@ -1,5 +1,6 @@
-use Rattle.{std.proofs.Common.{ℕ, ◌∙◌, ◌≡◌, ap}, verify_bench.specs.Common.{context_of, context_on, local_at}}
-use Rattle.verify_bench.{specs.Settings.{setting_under}, proofs.Benches.{counted_hired}}
+use Rattle.std.proofs.Common.{ℕ, ◌∙◌, ◌≡◌, ap}
+use Rattle.verify_bench.specs.{Common.{context_of, context_on, local_at}, Settings.{setting_under}}
+use Rattle.verify_bench.proofs.Benches.{counted_hired}
 use Rattle.verify_bench.proofs.bench_meter.BenchMeter.count_interval.Goals as goal
 
 pub returns-in_ok-add_hired-in-Hired-clause-stands : goal.returns-in_ok-add_hired-in-Hired-clause-stands

@@ -1,4 +1,5 @@
-use Rattle.{std.proofs.Common.{◌+◌, ◌≡◌, ◌≤◌, drop}, verify_bench.specs.Common.{times}}
+use Rattle.std.proofs.Common.{◌+◌, ◌≡◌, ◌≤◌, drop}
+use Rattle.verify_bench.specs.Common.{times}
 use Rattle.verify_bench.proofs.hiring.Hiring.times.Given as goal
 
 abbrev pub invariant-loop-extra : goal.invariant-loop-extra

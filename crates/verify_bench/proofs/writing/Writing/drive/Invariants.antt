@@ -1,5 +1,5 @@
-use Rattle.{std.{specs.Prelude.{replicate}, proofs.Common.{◌*◌}}, verify_bench.specs.AddedText.{Adds, place_of}}
-use Rattle.verify_bench.specs.Generated.{in_turn, leg}
+use Rattle.std.{specs.Prelude.{replicate}, proofs.Common.{◌*◌}}
+use Rattle.verify_bench.specs.{AddedText.{Adds, place_of}, Generated.{in_turn, leg}}
 use Rattle.verify_bench.proofs.writing.Writing.drive.Given as goal
 
 abbrev pub invariant-loop-leg : goal.invariant-loop-leg
