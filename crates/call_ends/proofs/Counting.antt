@@ -61,6 +61,11 @@ read_fault-text texts.ReadFault e = refl
 read_fault-text (texts.Refused why) e = absurd cc
 read_fault-text texts.NoMemory e = absurd cc
 
+pub not_board-text : (fault : TextFault) → ended_for fault ≢ BoardFault
+not_board-text texts.ReadFault e = absurd cc
+not_board-text (texts.Refused why) e = absurd cc
+not_board-text texts.NoMemory e = absurd cc
+
 pub not_read-memory : texts.NoMemory ≢ texts.ReadFault
 not_read-memory = λ e. absurd cc
 

@@ -8,7 +8,5 @@ mod Finding
 mod FormLaws
 -- the printed form of a text's tariff
 mod Forms
--- the list of a text's lines
-mod Lists
--- the commands that say something of a tariff alone
+-- the commands `check` and `tables`
 mod Tabling

@@ -1,5 +1,5 @@
 -- Rules: the command `faults TARIFF`.
-use Rattle.std.specs.Prelude.{◌≡◌, ℕ, ◌+◌, ◌≤◌, List, [], ◌∷◌, length, map, None, Result, Ok, Err, if◌then◌else◌}
+use Rattle.std.specs.Prelude.{ℕ, List, [], ◌∷◌, length, map, Result, Ok, Err, if◌then◌else◌}
 use Rattle.std.specs.Prelude.{nat_lt}
 use Rattle.std.specs.List.{flat_map}
 use Rattle.tariff_syntax.specs.BadLines.{bad_lines}
@@ -10,8 +10,8 @@ use Rattle.call_ends.specs.Answer.{Answer}
 use Rattle.tariff_commands.specs.Check.{check_answer}
 use Rattle.call_ends.specs.Course.{Command}
 use Rattle.call_ends.specs.LastLine.{bad_tariff_line}
-use Rattle.call_ends.specs.Pieces.{pieces_of}
 use Rattle.call_ends.specs.Tariffs.{tariff_in}
+use Rattle.call_ends.specs.TextCommands.{word_command}
 use Rattle.call_ends.specs.declared.tariff.Refusal.{Refusal}
 use Rattle.call_ends.specs.declared.tariff.Refusal.TheVariants.{TooLong, Syntax, Unsound}
 
@@ -43,18 +43,4 @@ faults_in text = faults_answer (refusals_in text) (tariff_in text)
 -- the command `faults` reads its tariff and prints the lines of its faults in as few pieces as it can be. It takes a
 -- step for each piece, and one for the last line.
 abbrev pub faults_command : Command
-faults_command = record {
-  answer = λ contents image. faults_in (contents 1);
-  drive = None;
-  shown = λ contents image taken. [];
-  reads = λ word. word ≡ 1;
-  turn = λ word. word;
-  reads_all = λ status. status ≡ 0;
-  comes_to = λ contents image word taken. word ≡ 1;
-  may_lack = λ contents image taken. Unit {0};
-  told = λ files_tell image_told. files_tell;
-  opens = ⊥;
-  writes = λ ended. ⊥;
-  steps = λ files_tell image_told contents left image before now.
-      files_tell → now ≤ before + 1 + pieces_of (length (faults_in (contents 1)).shown);
-}
+faults_command = word_command faults_in

@@ -1,12 +1,12 @@
 -- Rules: the command `form TARIFF`.
-use Rattle.std.specs.Prelude.{◌≡◌, ℕ, ◌+◌, ◌≤◌, List, [], length, None, Result, Ok, Err, if◌then◌else◌, nat_lt}
+use Rattle.std.specs.Prelude.{ℕ, List, length, Result, Ok, Err, if◌then◌else◌, nat_lt}
 use Rattle.tariff_syntax.specs.Parsed.{tree_parsed}
 use Rattle.tariff_syntax.specs.Printed.{printed}
 use Rattle.tariff_syntax.specs.Tree.{Tree}
 use Rattle.call_ends.specs.Answer.{Answer, shows}
 use Rattle.call_ends.specs.Course.{Command}
-use Rattle.call_ends.specs.Pieces.{pieces_of}
 use Rattle.call_ends.specs.Tariffs.{bad_tariff}
+use Rattle.call_ends.specs.TextCommands.{word_command}
 use Rattle.call_ends.specs.declared.tariff.Refusal.{Refusal}
 use Rattle.call_ends.specs.declared.tariff.Refusal.TheVariants.{TooLong, Syntax}
 
@@ -26,25 +26,6 @@ abbrev pub form_answer : Result Tree Refusal → Answer
 form_answer (Err why) = bad_tariff why
 form_answer (Ok t) = shows (printed t)
 
--- the number of pieces of a printed form is as small as it can be, and 0 if there is no tariff
-abbrev pub form_pieces : Result Tree Refusal → ℕ
-form_pieces (Err why) = 0
-form_pieces (Ok t) = pieces_of (length (printed t))
-
 -- the command `form` reads its tariff and prints the printed form, in a step for each piece and one for the last line
 abbrev pub form_command : Command
-form_command = record {
-  answer = λ contents image. form_answer (tree_in (contents 1));
-  drive = None;
-  shown = λ contents image taken. [];
-  reads = λ word. word ≡ 1;
-  turn = λ word. word;
-  reads_all = λ status. status ≡ 0;
-  comes_to = λ contents image word taken. word ≡ 1;
-  may_lack = λ contents image taken. Unit {0};
-  told = λ files_tell image_told. files_tell;
-  opens = ⊥;
-  writes = λ ended. ⊥;
-  steps = λ files_tell image_told contents left image before now.
-      files_tell → now ≤ before + 1 + form_pieces (tree_in (contents 1));
-}
+form_command = word_command (λ text. form_answer (tree_in text))

@@ -11,7 +11,7 @@ ghost use Rattle.call_ends.specs.Carried.{Carries};
 ghost use Rattle.tariff_commands.specs.Tables.{tables_command};
 
 use crate::compiled::tables_of_word;
-use call_ends::{Ended, refused_by};
+use call_ends::{Ended, ended_behind, refused_by};
 use drive_modes::Constant;
 use outside::{Board, Failed, Files, STORE_SIZE};
 use std::alloc::Global;
@@ -34,10 +34,7 @@ pub fn print_tables<F: Files, B: Board<STORE_SIZE, L>, L: Ledger>(
         Ok(tables) => tables,
         Err(fault) => return refused_by(fault),
     };
-    match print_rows(&tables, board, steps) {
-        Ok(()) => Ended::Done,
-        Err(_) => Ended::BoardFault,
-    }
+    ended_behind(print_rows(&tables, board, steps), Ended::Done)
 }
 
 /// Prints the rows of tables, one after the other.
