@@ -35,8 +35,8 @@ is_plain status = not (eqb status 3) && (not (eqb status 7) && (not (eqb status 
 -- what was made is an answer, or memory ran out
 abbrev pub IsMade : Answer → Result Made Ended → Type 0
 IsMade answer made =
-    (made ≡ Err NoMemory) ⊎ ((answer ≡ answer_with (text_made made) (end_made made)) × (is_plain (status_of (end_made
-    made)) ≡ true))
+    (made ≡ Err NoMemory)
+    ⊎ ((answer ≡ answer_with (text_made made) (end_made made)) × (is_plain (status_of (end_made made)) ≡ true))
 
 -- a command ended behind a text, or by the board that failed
 abbrev pub end_printed : {T E : Type 0} → Result T E → Ended → Ended

@@ -14,8 +14,8 @@ returns-in-Ok g c = λ image. let f = c.read_tariff.ensures in
     (λ later le. omega (arith, le))
     (makes-read checks (reads-ok f.read_fault f.others f.counts c.in-Ok.ensures.ended c.in-Ok.is) []
     (Sound c.cells.result c.measure.result) refl refl
-    (λ tells. ap check_answer (c.in-Ok.ensures.found tells) ∙ sound_answer (tree_of c.in-Ok.checked) _ _ c.cells.ensures.value
-    c.measure.ensures.value))
+    (λ tells. ap check_answer (c.in-Ok.ensures.found tells)
+    ∙ sound_answer (tree_of c.in-Ok.checked) _ _ c.cells.ensures.value c.measure.ensures.value))
 
 pub returns-in-Err : goal.returns-in-Err
 returns-in-Err g c = λ image. let f = c.read_tariff.ensures in let fault = c.in-Err.fault in
