@@ -10,6 +10,10 @@ import tempfile
 import time
 
 TOP = os.path.dirname(os.path.dirname(os.path.abspath(__file__)))
+sys.path.insert(0, f"{TOP}/tools")
+
+from heglorwy.imports import imports_of  # noqa: E402
+
 PARTS = ("src", "specs", "proofs")
 # What the prover says if it can't read a text: nothing is told of a clause then.
 UNREAD = re.compile(r"is not in scope|has no field|has no `|that can be named|is no name|operand is missing|"
@@ -17,7 +21,7 @@ UNREAD = re.compile(r"is not in scope|has no field|has no `|that can be named|is
 
 
 class Clause:
-    """A clause of a contract, and the part of a loop's invariant from which it follows, if it is said."""
+    """A clause of a contract, and the part of a loop's invariant, or the lemma, from which it follows, if it is said."""
 
     def __init__(self, name, by=""):
         self.name = name.strip()
@@ -25,6 +29,11 @@ class Clause:
 
     def __str__(self):
         return self.name + (f" by {self.loop}" + (f".{self.field}" if self.field else "") if self.loop else "")
+
+    def lemma_in(self, texts):
+        """The lemma of a crate's own proofs from which the clause follows, by module and name, if `by` names one."""
+        is_lemma = self.field and f"proofs/{self.loop.replace('.', '/')}.antt" in texts
+        return (self.loop, self.field) if is_lemma else None
 
     def has(self, goal, field):
         """Whether a goal is of this clause. The field is that of its record, `*` where all fields need what failed."""
@@ -205,8 +214,9 @@ def goals_without_lemma(said, texts, crate, function):
 
 def lemmas_named(text, crate):
     """The lemmas of a crate's own proofs that a text names in its `use` lines, each with its module."""
-    lines = re.findall(rf"(?m)^use Rattle\.{crate}\.proofs\.(\S+)\.\{{([^}}]*)\}}", text)
-    return {name: (module, name) for module, names in lines for name in re.split(r",\s*", names)}
+    own = f"Rattle.{crate}.proofs."
+    brought = [one for one in imports_of(text, "use") if one.name and one.module.startswith(own)]
+    return {one.alias or one.name: (one.module.removeprefix(own), one.name) for one in brought}
 
 
 def lemmas_below(lemma, texts, crate):
@@ -232,6 +242,18 @@ def has_failed(lemma, failed, texts, crate):
     return bool(left)
 
 
+def rests_on(clause, texts, crate, function):
+    """Whether the answers of a clause name the lemma from which it follows, or one that stands on it."""
+    named = lemmas_named(texts.get(f"proofs/{function.replace('::', '/')}/Answers.antt", ""), crate)
+    left = {named[word] for goal, (_, lines) in answers_of(texts, function).items() if Clause(clause.name).has(goal, clause.name)
+            for line in lines for word in re.findall(r"[^\s(){};,]+", line) if word in named}
+    passed = set()
+    while left and (clause.loop, clause.field) not in left:
+        passed |= left
+        left = set().union(*(lemmas_below(below, texts, crate) for below in left)) - passed
+    return bool(left)
+
+
 def fault_of(edit, said, texts, before=None):
     """Why what the prover said doesn't show that the edit is refused, if it doesn't. `before` has the answers that were taken
     out: a clause that had one isn't judged by what no search proves without it."""
@@ -241,6 +263,12 @@ def fault_of(edit, said, texts, before=None):
             return "the copy didn't reach the prover"
         if status[1] == "proved":
             return f"{function} is still proved"
+        if clause.lemma_in(texts):
+            if clause.lemma_in(texts) not in lemmas_that_failed(said):
+                return f"{clause.loop}.{clause.field} has no error"
+            if not rests_on(clause, texts, edit.crate, function):
+                return f"{clause.name} of {function} doesn't rest on {clause.loop}.{clause.field}"
+            continue
         goals = failed_goals(said, texts, function) + goals_without_lemma(said, texts, edit.crate, function)
         if before and any(clause.has(goal, clause.field or clause.name) for goal in answers_of(before, function)):
             goals = []

@@ -1,18 +1,13 @@
 -- A command whose tariff isn't accepted, or that finds no memory.
-use Rattle.std.proofs.Common.{◌≡◌, ◌∙◌, ℕ, List, [], refl, sym, ap, subst, inl}
-use Rattle.call_ends.specs.declared.ending.Ended.TheVariants as ended
-use Rattle.call_ends.specs.declared.tariff.Refusal.{Refusal}
-use Rattle.call_ends.specs.declared.tariff.TextFault.{TextFault}
-use Rattle.call_ends.specs.declared.tariff.TextFault.TheVariants as texts
-use Rattle.call_ends.specs.Answer.{Answer}
-use Rattle.call_ends.specs.Course.{Command, Answered, ReadFailed, NoMemory}
-use Rattle.call_ends.specs.Ending.{EndsUnprinted, ended_for}
-use Rattle.call_ends.specs.Stream.{Takes}
-use Rattle.call_ends.specs.Tariffs.{bad_tariff}
+use Rattle.std.proofs.Common.{[], ℕ, ◌∙◌, ◌≡◌, List, ap, inl, refl, subst, sym}
+use Rattle.call_ends.specs.{Answer.{Answer}, Common.{Refusal, TextFault}, Stream.{TakesBytes}, Tariffs.{bad_tariff}}
+use Rattle.call_ends.specs.{Course.{Answered, Command, NoMemory, ReadFailed}, Ending.{EndsUnprinted, ended_for}}
 use Rattle.call_ends.proofs.Streams.{not_bad}
+use Rattle.call_ends.specs.declared.ending.Ended.TheVariants as ended
+use Rattle.call_ends.specs.declared.tariff.TextFault.TheVariants as texts
 
 module _ (c : Command) (contents left : ℕ → List ℕ) (image : List ℕ) (read_failed : ℕ → Type 0)
-    (untouched : Takes c.drive contents left []) (may : c.may_lack contents image []) where
+    (untouched : TakesBytes c.drive contents left []) (may : c.may_lack contents image []) where
   -- memory ran out before the drive
   pub course-no_memory : EndsUnprinted c contents left image read_failed ended.NoMemory
   course-no_memory = record {

@@ -11,3 +11,4 @@ pub mod Unwritten
 -- For proofs
 pub mod Carried
 pub mod Ending
+pub mod Common

@@ -1,7 +1,6 @@
 //! The last lines of the program.
-ghost use Rattle.std.specs.Prelude.{◌≡◌, ◌+◌, ◌≤◌, ◌++◌, [], codes, length};
-ghost use Rattle.arrayvec.specs.ArrayVec.{array_vec_len};
-ghost use Rattle.taxi_units.specs.Line.{line_size};
+ghost use Rattle.std.specs.Prelude.{[], ◌++◌, ◌+◌, ◌≡◌, ◌≤◌, codes, length};
+ghost use Rattle.{arrayvec.specs.ArrayVec.{array_vec_len}, taxi_units.specs.Line.{line_size}};
 ghost use Rattle.call_ends.specs.LastLine.{bad_params_line, bad_rules_line, bad_tariff_line, dimension_text};
 ghost use Rattle.call_ends.specs.LastLine.{fault_text, line_of, name_text, numbered, other_decimals_line};
 ghost use Rattle.call_ends.specs.LastLine.{param_fault_text, refusal_text, same_number_line, sound_line};
@@ -16,7 +15,7 @@ use seal_record::{Name, ParamFault};
 use tariff_check::{CheckFault, Dimension};
 use taxi_units::{Line, push_bytes, push_number};
 
-/// The last line, which is empty where there is none.
+/// The last line, which is empty if the end has none.
 pub fn last_line(ended: Ended) -> Line
     ensures { result.items ≡ line_of ended }
 {
@@ -56,7 +55,7 @@ pub fn last_line(ended: Ended) -> Line
     line
 }
 
-/// The last line where a tariff isn't accepted, by why it isn't.
+/// The last line for a tariff that isn't accepted.
 pub fn bad_tariff_line(why: Refusal) -> Line
     ensures { result.items ≡ bad_tariff_line why }
 {

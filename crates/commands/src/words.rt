@@ -1,10 +1,7 @@
 //! The words of a command.
-ghost use Rattle.std.specs.Prelude.{◌≡◌, ℕ, ◌≤◌, ◌==◌, length, map, string_bytes};
-ghost use Rattle.std.specs.Option.{option_map};
-ghost use Rattle.std.specs.Str.Parse.{digits_value};
-ghost use Rattle.taxi_units.specs.Number.{digits_at_front};
-ghost use Rattle.taxi_units.specs.Reading.{GivesSame};
-ghost use Rattle.shift_book.specs.Reading.{driver_of};
+ghost use Rattle.{std.specs.Option.{option_map}, taxi_units.specs.Reading.{GivesSame}};
+ghost use Rattle.std.specs.{Prelude.{ℕ, ◌==◌, ◌≡◌, ◌≤◌, length, map, string_bytes}, Str.Parse.{digits_value}};
+ghost use Rattle.{shift_book.specs.Reading.{driver_of}, commands.specs.Common.{digits_at_front}};
 ghost use Rattle.commands.specs.Words.{constant_of, fitting, row_of, seed_of, signs_on, trips_of};
 ghost use Rattle.commands.specs.Words as spec;
 
@@ -104,7 +101,7 @@ fn are_digits(word: &[u8]) -> bool
     true
 }
 
-/// The number that digits make, where 64 bits hold it.
+/// The number that digits make, if 64 bits hold it.
 fn number_of_digits(digits: &[u8]) -> Option<u64>
     requires { digits_at_front digits.now ≡ length digits.now }
     ensures { result ≡ fitting (digits_value 10 digits.now) }
@@ -223,7 +220,7 @@ fn four_words(command: &[u8], third: &[u8], last: &[u8]) -> Option<Row>
     }
 }
 
-/// The command that words are. None where the program knows none such.
+/// The command that words are. None exactly if they are no command.
 pub fn row_in(words: &[String]) -> Option<Row>
     ensures { result ≡ row_of (map string_bytes words.now) }
 {

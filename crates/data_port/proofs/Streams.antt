@@ -1,25 +1,18 @@
 -- What the bytes of a stream say, in words that know no port.
-use Rattle.std.proofs.Common.{◌≡◌, ◌⊎◌, ◌↔◌, inl, inr, ℕ, suc, ◌+◌, ◌<◌, Bool, true, false, cond, ◌==◌, List, [], ◌∷◌}
-use Rattle.std.proofs.Common.{◌++◌, length, take, drop, Option, Some, None, refl, sym, ap, subst, ◌∙◌, append_assoc}
-use Rattle.std.proofs.Common.{arith, length-append}
-use Rattle.std.specs.List.{All}
+use Rattle.std.{specs.List.{All}, proofs.lemmas.{Grind.{flat_map-append}, List.Elements.{All-drop, All-nil, All-push}}}
+use Rattle.std.proofs.Common.{[], ℕ, ◌++◌, ◌+◌, ◌<◌, ◌==◌, ◌↔◌, ◌∙◌, ◌∷◌, ◌≡◌, ◌⊎◌, Bool, List, None, Option, Some, ap}
+use Rattle.std.proofs.Common.{append_assoc, arith, cond, drop, false, inl, inr, length, length-append, refl, subst, suc}
+use Rattle.std.proofs.{Common.{sym, take, true}, lemmas.{Bool.{true_from_ne_false}, List.{take-take}}}
 use Rattle.std.proofs.lemmas.Bool.{both_ways, cases_Bool, cond-false, cond-true, eqb-true, false_from_ne_true}
-use Rattle.std.proofs.lemmas.Bool.{true_from_ne_false}
-use Rattle.std.proofs.lemmas.Bool as bool
-use Rattle.std.proofs.lemmas.Grind.{flat_map-append}
 use Rattle.std.proofs.lemmas.List.{append-nil, append_cancel_left, drop_at, nil_from_length, take-append-drop}
-use Rattle.std.proofs.lemmas.List.{take-take}
-use Rattle.std.proofs.lemmas.List.Elements.{All-drop, All-nil, All-push}
-use Rattle.data_port.specs.declared.request.Request.{Request}
-use Rattle.data_port.specs.Reading.{Standing, bad_at_end, between, first_bad, given_by, requests_after, requests_in}
-use Rattle.data_port.specs.Reading.{standing_after, HasSense}
+use Rattle.data_port.{specs.{Items.{item_count}, Reading.{requests_in, standing_after}}, proofs.Runs.{stuck}}
+use Rattle.data_port.specs.Reading.{HasSense, Standing, bad_at_end, between, first_bad, given_by, requests_after}
 use Rattle.data_port.specs.ReadingStages.{after_bytes, bad_end_of, bad_of, ended_in, follows, has_all}
-use Rattle.data_port.specs.Items.{item_count}
-use Rattle.data_port.specs.Requests.{IsRequest, request_bytes, stream_bytes}
+use Rattle.data_port.specs.{Requests.{IsRequest, request_bytes, stream_bytes}, declared.request.Request.{Request}}
 use Rattle.data_port.specs.Streams.{BeginsStream, EndsWhole, IsFirstBad, IsGood, IsReadAs, bytes_of}
 use Rattle.data_port.proofs.Runs.{FailsIn, Runs, Stands, after-append, ended-append, reads_stream, runs, stream_push}
-use Rattle.data_port.proofs.Runs.{stuck}
 use Rattle.data_port.proofs.Shapes.{Ends, Grows, few_bytes, nothing, step, unfinished}
+use Rattle.std.proofs.lemmas.Bool as bool
 
 -- ---- from the first byte
 
@@ -289,7 +282,7 @@ at_end bytes requests = ((λ h. ends_whole bytes requests h.0 h.1), whole_ends b
 some_same : (a b : ℕ) → Some a ≡ Some b → a ≡ b
 some_same a b e = cc
 
--- where no bad place came, an unfinished request is bad behind the last byte
+-- if no bad place came, an unfinished request is bad behind the last byte
 pub unfinished_end : (bytes : List ℕ) (place : ℕ) → first_bad bytes ≡ None → bad_at_end bytes ≡ Some place
     → place ≡ length bytes
 unfinished_end bytes place good bad = either (cases_Bool (standing_after bytes).failed)
@@ -346,8 +339,12 @@ given_after before (piece ∷ pieces) =
     ∙ ap (λ (s : Standing). ended_in s (bytes_of pieces)) (after-append (between 0) before piece))
     ∙ sym (ended-append (standing_after before) piece (bytes_of pieces))
 
-pub pieces_give : (pieces : List (List ℕ)) → given_by [] pieces ≡ requests_in (bytes_of pieces)
-pieces_give pieces = given_after [] pieces
+pub pieces_give_requests : (pieces : List (List ℕ)) → given_by [] pieces ≡ requests_in (bytes_of pieces)
+pieces_give_requests pieces = given_after [] pieces
+
+pub pieces_give_the_same : (one other : List (List ℕ)) → bytes_of one ≡ bytes_of other
+    → given_by [] one ≡ given_by [] other
+pieces_give_the_same one other e = given_after [] one ∙ (ap requests_in e ∙ sym (given_after [] other))
 
 -- the requests that bytes add are in their ranges
 pub added_good : (b c : List ℕ) → All IsRequest (requests_after b c)

@@ -1,9 +1,9 @@
 -- Rules: what the bytes of a stream say, and what a port makes of a piece of them. The law
 -- streams_are_read_by_their_frames says what requests and bad places are, by the streams that there are; ReadingStages
 -- has how a port finds them.
-use Rattle.std.specs.Prelude.{◌≡◌, ◌⊎◌, ℕ, ◌<◌, ◌≤◌, List, [], ◌∷◌, ◌++◌, length, take, Option, Some, None}
-use Rattle.data_port.specs.declared.request.Request.{Request}
+use Rattle.std.specs.Prelude.{[], ℕ, ◌++◌, ◌<◌, ◌∷◌, ◌≡◌, ◌≤◌, ◌⊎◌, List, None, Option, Some, length, take}
 use Rattle.data_port.specs.ReadingStages.{after_bytes, bad_end_of, bad_of, ended_in}
+use Rattle.data_port.specs.declared.request.Request.{Request}
 pub use Rattle.data_port.specs.Standing.{Standing, between}
 
 -- ---- the bytes of a stream, from the first one on
@@ -49,9 +49,9 @@ HasTaken s bytes = s ≡ standing_after bytes
 abbrev pub HasSense : Standing → Type 0
 HasSense s = (bytes : List ℕ) × HasTaken s bytes
 
--- a port takes a piece, behind the bytes before it, up to a place if none of the bytes up to there is bad, their
--- requests are appended to the list, and that place is the first at which the list has 64 requests, or else the end of
--- the piece
+-- a port takes a piece, behind the bytes before it, up to a place if none of the bytes up to there is bad and their
+-- requests are appended to the list. The place is the first at which the list has 64 requests, or else the end of the
+-- piece
 pub record TakesTo (before piece : List ℕ) (old new : List Request) (place : ℕ) : Type 0 where
   pub within : place ≤ length piece
   pub good : first_bad (before ++ take place piece) ≡ None

@@ -1,12 +1,8 @@
 //! The reply to a request.
-ghost use Rattle.std.specs.Prelude.{◌≡◌, [], ◌++◌, ◌+◌, ◌≤◌};
-ghost use Rattle.arrayvec.specs.ArrayVec.{array_vec_len};
-ghost use Rattle.taxi_units.specs.Line.{line_size};
-ghost use Rattle.seal_record.specs.Ranges.{IsSeal};
-ghost use Rattle.totals_record.specs.Ranges.{IsDurable};
-ghost use Rattle.data_port.specs.Items.{all_items_size, size_of, item_count};
-ghost use Rattle.data_port.specs.Reply.{items_bytes, item_bytes, longest_reply, reply_to};
-ghost use Rattle.data_port.specs.Requests.{IsRequest, Rise};
+ghost use Rattle.std.specs.Prelude.{[], ◌++◌, ◌+◌, ◌≡◌, ◌≤◌};
+ghost use Rattle.{arrayvec.specs.ArrayVec.{array_vec_len}, data_port.specs.Items.{all_items_size, item_count, size_of}};
+ghost use Rattle.data_port.specs.Common.{IsDurable, IsSeal, line_size};
+ghost use Rattle.data_port.specs.{Reply.{item_bytes, items_bytes, longest_reply, reply_to}, Requests.{IsRequest, Rise}};
 
 use crate::contents::put_content;
 use crate::request::Request;
@@ -20,10 +16,10 @@ pub(crate) const START: u8 = 2;
 /// The byte behind a request and a reply.
 pub(crate) const END: u8 = 3;
 
-/// Puts the reply to a request into a line, which is empty: 0x02, two bytes with the length of all that
-/// stands between them and the last byte, for each item in order its code and its content, and 0x03.
-/// Numbers have their greatest byte first. Distances are in millimetres, money in the tariff's smallest
-/// units. `rows` has the table of contents. No reply is longer than that with all items.
+/// Puts the reply to a request into a line, which is empty: 0x02, the length in two bytes of what is between them and
+/// the last byte, for each item in order its code and its content, and 0x03. Numbers have their greatest byte first.
+/// Distances are in millimetres, money in the tariff's smallest units. `rows` has the table of contents. No reply is
+/// longer than that with all items.
 ///
 /// The request, the durable state and the seal are in their ranges. The form is this project's own.
 pub fn put_reply(line: &mut Line, request: &Request, durable: &Durable, seal: &Seal)

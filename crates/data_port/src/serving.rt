@@ -1,17 +1,10 @@
 //! Serves a stream of requests: reads it from a file, and prints the replies.
-ghost use Rattle.std.specs.Prelude.{◌≡◌, ℕ, ◌+◌, ◌<◌, ◌≤◌, ◌^◌, ◌++◌, List, [], All, length, take, drop, false, None, Some, IfOk, IsErr, OnOk, OnErr};
-ghost use Rattle.outside.specs.Reading.{LeavesOthers};
-ghost use Rattle.outside.specs.Faults.{HasCause, MayRise, RisesOnlyIf, Rose};
-ghost use Rattle.outside.specs.Printing.{Begins};
-ghost use Rattle.outside.specs.Runs.{KeepsStore};
-ghost use Rattle.seal_record.specs.Ranges.{IsSeal};
-ghost use Rattle.totals_record.specs.Ranges.{IsDurable};
-ghost use Rattle.data_port.specs.Reading.{HasSense, HasTaken, bad_at_end};
-ghost use Rattle.data_port.specs.ReadingStages.{ended_in};
-ghost use Rattle.data_port.specs.Reply.{reply_to};
-ghost use Rattle.data_port.specs.Requests.{IsRequest};
-ghost use Rattle.data_port.specs.Serving.{IsBoundedByRequests, Serves, replies};
-ghost use Rattle.data_port.specs.ServingStages.{ServesPiece};
+ghost use Rattle.std.specs.Prelude.{[], ℕ, ◌++◌, ◌+◌, ◌<◌, ◌^◌, ◌≡◌, ◌≤◌, All, IfOk, IsErr, List, None, OnErr, OnOk};
+ghost use Rattle.std.specs.Prelude.{Some, drop, false, length, take};
+ghost use Rattle.outside.specs.{Faults.{HasCause, MayRise, RisesOnlyIf, Rose}, Reading.{LeavesOthers}};
+ghost use Rattle.data_port.specs.{Common.{Begins, IsDurable, IsSeal, KeepsStore}, ReadingStages.{ended_in}};
+ghost use Rattle.data_port.specs.{Reading.{HasSense, HasTaken, bad_at_end}, Reply.{reply_to}, Requests.{IsRequest}};
+ghost use Rattle.data_port.specs.{ServedStream.{IsBoundedByRequests, Serves, replies}, ServingStages.{ServesPiece}};
 
 use crate::port::Port;
 use crate::reply::put_reply;
@@ -24,26 +17,27 @@ use taxi_units::{Line, STREAM_LIMIT, Steps};
 use totals_record::Durable;
 
 /// Why a stream of requests wasn't served to its end.
-#[derive(Clone, Copy, PartialEq, Eq)]
+#[derive(Clone, Copy)]
 pub enum PortFault {
     /// A read of the stream failed.
     ReadFault,
     /// The board failed.
     BoardFault,
-    /// The byte at this place, from 0 on, is the first that no stream of requests has there; or the stream
-    /// ends at this place, and a request is unfinished.
+    /// The byte at this place, from 0 on, is the first that no stream of requests has there; or the stream ends at this
+    /// place, and a request is unfinished.
     Frame(u64),
-    /// As many bytes as a stream may have were taken, and its end wasn't told.
+    /// As many bytes as a stream may have were taken, and its end wasn't seen.
     TooLong,
 }
 
-/// Serves the requests in the file of a word: reads it in pieces of at most 512 bytes, and prints the reply
-/// to each request in order, with one call of the board, a step each. It takes no memory.
+/// Serves the requests in the file of a word: reads it in pieces of at most 512 bytes, and prints the reply to each
+/// request in order. Each reply is one call of the board, and one step. It takes no memory, and the store stays as it
+/// was.
 ///
-/// `Frame` where the stream is bad, and `TooLong` where 2^40 bytes were taken, none of their places is bad,
-/// and the end wasn't told; the replies to the requests before were printed. With `ReadFault` the
-/// count of the file rose by one in this call, with `BoardFault` the board's, and with each other answer
-/// neither; with these two a beginning of the replies was printed. The store stays as it was.
+/// `Frame`: the stream is bad. `TooLong`: 2^40 bytes were taken, none of their places is bad, and the end wasn't seen.
+/// Both come after the replies to the requests before. `ReadFault`: a read failed, so the file's count of faults rose
+/// by one in this call. `BoardFault`: a call of the board failed, so its count rose by one. With these two a beginning
+/// of the replies was printed, and with each other answer neither count rose.
 ///
 /// The durable state and the seal are in their ranges. All of it is this project's own.
 pub fn serve<F: Files, B: Board<STORE_SIZE, L>, L: Ledger>(

@@ -1,49 +1,24 @@
 -- A run on a new store prints the receipts that are explained.
-use Rattle.std.proofs.Common.{◌≡◌, ◌∙◌, ℕ, ◌<◌, Bool, true, false, List, length, Option, Some, None, Result, Ok, Err}
-use Rattle.std.proofs.Common.{if◌then◌else◌, refl, ap, sym, subst, nat_lt}
-use Rattle.std.specs.Cmp.Lexicographic.{pointwise}
-use Rattle.std.specs.Prelude.{nat_eq}
-use Rattle.std.specs.Bool.{Decides}
-use Rattle.std.proofs.lemmas.Bool.Decides.{Decides-eqb}
-use Rattle.std.proofs.lemmas.Slice.Eq.{slice_eq-Decides}
-use Rattle.sha2.specs.Sha256.{sha256}
-use Rattle.drive_text.specs.Ending.{BadAt, Endless, StreamEnd, Whole, drive_end, events_of}
-use Rattle.meter_run.specs.Deeds.{deeds_of, texts}
-use Rattle.meter_model.specs.Run.{actions_of}
-use Rattle.meter_model.specs.Setting.{Setting, setting_by}
-use Rattle.meter_store.specs.Sealing.{HasSeal, totals_after}
-use Rattle.meter_store.specs.Stored as states
-use Rattle.seal_record.specs.Decoding as seals
-use Rattle.seal_record.specs.Reading.{params_read}
-use Rattle.seal_record.specs.declared.params.ParamFault.{ParamFault}
-use Rattle.seal_record.specs.declared.params.Params.{Params}
-use Rattle.seal_record.specs.declared.seal.Seal.{Seal}
-use Rattle.slot_store.specs.Scan.{found_at}
-use Rattle.slot_store.specs.declared.found.Found.{Found}
-use Rattle.slot_store.specs.declared.found.Found.TheVariants.{Latest}
-use Rattle.slot_store.specs.declared.found.SlotFault.{SlotFault}
-use Rattle.slot_store.proofs.Laws.{body_found}
-use Rattle.tariff_syntax.specs.Parsed.{tree_parsed}
-use Rattle.tariff_syntax.specs.Tree.{Tree}
-use Rattle.totals_record.specs.Reading as totals
-use Rattle.totals_record.specs.States.{first_state}
-use Rattle.totals_record.specs.declared.durable_state.Durable.{Durable}
+use Rattle.std.{specs.Bool.{Decides}, proofs.Common.{if◌then◌else◌, length, nat_lt, refl, subst, sym, true}}
+use Rattle.{std.specs.Cmp.Lexicographic.{pointwise}, sha2.specs.Sha256.{sha256}, slot_store.proofs.Laws.{body_found}}
+use Rattle.std.{specs.Prelude.{nat_eq}, proofs.lemmas.{Bool.Decides.{Decides-eqb}, Slice.Eq.{slice_eq-Decides}}}
+use Rattle.std.proofs.Common.{ℕ, ◌<◌, ◌∙◌, ◌≡◌, Bool, Err, List, None, Ok, Option, Result, Some, ap, false}
+use Rattle.{slot_store.specs.declared.found.Found.TheVariants.{Latest}, seal_record.specs.Reading.{params_read}}
+use Rattle.{meter_store.specs.Sealing.{HasSeal, sealed_totals}, tariff_syntax.specs.Parsed.{tree_parsed}}
+use Rattle.{meter_model.specs.Run.{actions_of}, meter_run.specs.Deeds.{deeds_of}, call_ends.specs.Tariffs.{checked_in}}
 use Rattle.verify_bench.proofs.Laws.{explanations_have_the_receipts-receipts}
-use Rattle.verify_bench.specs.Explaining.{explanations_of}
-use Rattle.call_ends.specs.Answer.{Answer, shows}
-use Rattle.call_ends.specs.Tariffs.{checked_in, tariff_in}
-use Rattle.call_ends.specs.declared.ending.Ended.{Ended}
-use Rattle.call_ends.specs.declared.ending.Ended.TheVariants as ended
-use Rattle.call_ends.specs.declared.tariff.Refusal.{Refusal}
-use Rattle.call_ends.specs.declared.tariff.Refusal.TheVariants.{TooLong}
-use Rattle.store_commands.proofs.Laws.{seal_of_texts}
-use Rattle.store_commands.specs.Opening.{opened, opening_of}
-use Rattle.store_commands.specs.declared.opening.Opening.{Opening}
-use Rattle.store_commands.specs.declared.opening.StoreFault.{StoreFault}
+use Rattle.store_commands.{specs.Opening.{opening_by}, proofs.Laws.{seal_of_texts}}
+use Rattle.drive_commands.specs.Common.{Answer, BadAt, Durable, Ended, Endless, Found, Opening, ParamFault, Params}
+use Rattle.drive_commands.specs.Common.{Refusal, Seal, Setting, SlotFault, StoreFault, StreamEnd, TooLong, Tree, Whole}
+use Rattle.drive_commands.specs.Common.{drive_end, events_of, explanations_of, first_state, found_at, opening_in}
+use Rattle.drive_commands.specs.{Common.{setting_by, shows, tariff_in, texts}, NewStore.{ExplainsRun, IsNewStore}}
 use Rattle.drive_commands.specs.Explain.{ending_answer, explain_answer, explanation_text, read_setting, setting_with}
 use Rattle.drive_commands.specs.Fare.{drive_answer}
-use Rattle.drive_commands.specs.NewStore.{ExplainsRun, IsNewStore}
 use Rattle.drive_commands.specs.Run.{Start, accepted, deeds_in, run_answer, sealed_tariff, start_of, start_with}
+use Rattle.meter_store.specs.Stored as states
+use Rattle.seal_record.specs.Decoding as seals
+use Rattle.totals_record.specs.Reading as totals
+use Rattle.call_ends.specs.declared.ending.Ended.TheVariants as ended
 
 -- a text with a sound tariff is short
 short_text : (b : Bool) (text : List ℕ) (t : Tree) → (if b then Err TooLong else checked_in (tree_parsed text)) ≡ Ok t
@@ -74,23 +49,23 @@ whole_by text (BadAt line) e = absurd cc
 whole_by text Endless e = absurd cc
 
 pub new_store_explained : (tariff params drive image : List ℕ) → IsNewStore tariff params image
-    → (run_answer (start_of (opening_of image) tariff) drive).status ≡ 0 → ExplainsRun tariff params drive image
+    → (run_answer (start_of (opening_in image) tariff) drive).status ≡ 0 → ExplainsRun tariff params drive image
 new_store_explained tariff params drive image new ends =
     let seal = new.sealing.new in
     let is_of = seal_of_texts new.found tariff params new.sealing new.is in
     let state : states.HasState image first_state =
-    subst (λ (o : Option Durable). states.HasState image (totals_after o)) new.none new.sealed.totals in
+    subst (λ (o : Option Durable). states.HasState image (sealed_totals o)) new.none new.sealed.totals in
     let found = body_found totals.reads states.state_number_of 0 image first_state state in
     let sealed = body_found seals.reads seals.seal_number_of 1024 image seal new.sealed.seal in
-    let opening : opening_of image ≡ Ok (record { totals = Latest found.0 first_state; seal = Latest sealed.0 seal }) =
-    ap (λ (r : Result (Found Durable) SlotFault). opened r (found_at seals.reads seals.seal_number_of 1024 image))
+    let opening : opening_in image ≡ Ok (record { totals = Latest found.0 first_state; seal = Latest sealed.0 seal }) =
+    ap (λ (r : Result (Found Durable) SlotFault). opening_by r (found_at seals.reads seals.seal_number_of 1024 image))
     found.1
-    ∙ ap (opened (Ok (Latest found.0 first_state))) sealed.1 in
+    ∙ ap (opening_by (Ok (Latest found.0 first_state))) sealed.1 in
     let accepted_as : sealed_tariff seal.digest tariff ≡ Ok is_of.tree =
     ap (λ (digest : List ℕ). sealed_tariff digest tariff) is_of.digest
     ∙ accepted_there tariff is_of.tree is_of.sound in
     let start : Start = record { durable = first_state; seal = seal; tree = is_of.tree } in
-    let starts : start_of (opening_of image) tariff ≡ Ok start =
+    let starts : start_of (opening_in image) tariff ≡ Ok start =
     ap (λ (r : Result Opening StoreFault). start_of r tariff) opening
     ∙ ap (start_with first_state seal) accepted_as in
     let setting = setting_by is_of.tree seal.params in

@@ -1,40 +1,30 @@
 -- Rules: a run and an explanation that go by the same tariff and the same parameters, on a new store.
-use Rattle.std.specs.Prelude.{◌≡◌, ℕ, List, None, Ok, map}
-use Rattle.drive_text.specs.Ending.{events_of}
-use Rattle.meter_run.specs.Deeds.{deeds_of, texts}
-use Rattle.meter_model.specs.Run.{actions_of}
-use Rattle.meter_model.specs.Setting.{Setting}
-use Rattle.meter_model.specs.declared.act.Act.{Act}
-use Rattle.meter_store.specs.Sealing.{IsSealed, Sealing}
-use Rattle.verify_bench.specs.Explaining.{Explanation, explanations_of}
-use Rattle.verify_bench.specs.Receipts.{receipts_in}
-use Rattle.call_ends.specs.Answer.{shows}
-use Rattle.store_commands.specs.Opening.{opening_of}
-use Rattle.store_commands.specs.Seal.{sealing_of}
-use Rattle.drive_commands.specs.Explain.{explain_answer, read_setting}
-use Rattle.drive_commands.specs.ExplainedText.{explanations_text}
-use Rattle.drive_commands.specs.Run.{Start, run_answer, setting_in, start_of}
+use Rattle.std.specs.Prelude.{ℕ, ◌≡◌, List, None, Ok, map}
+use Rattle.{meter_store.specs.Sealing.{IsSealed, Sealing}, meter_model.specs.{Run.{actions_of}, declared.act.Act.{Act}}}
+use Rattle.{meter_run.specs.Deeds.{deeds_of}, verify_bench.specs.Receipts.{receipts_in}}
+use Rattle.{store_commands.specs.Seal.{sealing_of}, drive_commands.specs.Run.{Start, run_answer, setting_in, start_of}}
+use Rattle.drive_commands.specs.Common.{Explanation, Setting, events_of, explanations_of, opening_in, shows, texts}
+use Rattle.drive_commands.specs.{Explain.{explain_answer, read_setting}, ExplainedText.{explanations_text}}
 
--- an image is a new store that was sealed with two texts if no totals were found as it was sealed with them, and it has
--- what that sealing says
+-- an image is a new store, sealed with two texts, if no totals were found before, and the image has what that sealing
+-- says
 pub record IsNewStore (tariff params image : List ℕ) : Type 0 where
   pub found : List ℕ
   pub sealing : Sealing
-  pub is : sealing_of (opening_of found) tariff params ≡ Ok sealing
+  pub is : sealing_of (opening_in found) tariff params ≡ Ok sealing
   pub none : sealing.totals ≡ None
   pub sealed : IsSealed sealing image
 
 -- an explanation of a drive is of its run on an image if both answer with the status 0, the run by the texts of the
--- acts of its events, and the explanation by hirings whose receipts are those that these acts print, each once and in
--- order
+-- acts of its events, and the explanation by hirings whose receipts these acts print, each once and in order
 pub record ExplainsRun (tariff params drive image : List ℕ) : Type 0 where
   pub start : Start
   pub setting : Setting
   pub acts : List Act
-  pub starts : start_of (opening_of image) tariff ≡ Ok start
+  pub starts : start_of (opening_in image) tariff ≡ Ok start
   pub acts_are : acts ≡ actions_of (setting_in start) start.durable (events_of drive)
   pub goes_by : read_setting tariff params ≡ Ok setting
-  pub runs : run_answer (start_of (opening_of image) tariff) drive ≡ shows (texts start.seal (deeds_of acts))
+  pub runs : run_answer (start_of (opening_in image) tariff) drive ≡ shows (texts start.seal (deeds_of acts))
   pub explains : explain_answer (read_setting tariff params) drive
       ≡ shows (explanations_text setting (explanations_of setting (events_of drive)))
   pub receipts : map (λ (e : Explanation). e.receipt) (explanations_of setting (events_of drive)) ≡ receipts_in acts

@@ -1,40 +1,29 @@
--- For proofs: how far the command `run` came before its last line is printed. Run says what a run is.
-use Rattle.std.specs.Prelude.{◌≡◌, ◌≢◌, ℕ, List, Ok, Err}
-use Rattle.outside.specs.Printing.{Begins}
-use Rattle.outside.specs.Runs.{IsAtRest, MayHold}
-use Rattle.outside.specs.declared.board.Board.{Ghosts}
-use Rattle.outside.specs.declared.files.Files.{Ghosts as FileGhosts}
-use Rattle.slot_store.specs.Syncs.{LeavesFromSync}
-use Rattle.seal_record.specs.declared.seal.Seal.{Seal}
-use Rattle.tariff_compile.specs.Tables.{IsTablesOf, TableParts, tables_of}
-use Rattle.tariff_syntax.specs.Tree.{Tree}
-use Rattle.meter_run.specs.Runs.{OpensWith}
-use Rattle.call_ends.specs.Ending.{EndsOnDevices, IsRefusal}
-use Rattle.call_ends.specs.LastLine.{line_of, status_of}
-use Rattle.store_commands.specs.Opening.{IsSealedIn, opening_of}
-use Rattle.drive_commands.specs.Run.{IsCutOfCourse, Stands, Start, bytes_in, run_command, sealed_tariff, start_at}
-use Rattle.drive_commands.specs.Run.{start_of, tables_in}
-use Rattle.call_ends.specs.Tariffs.{tariff_in}
-use Rattle.call_ends.specs.Unwritten.{LeavesUnwritten}
-use Rattle.call_ends.specs.declared.ending.Ended.{Ended}
-use Rattle.call_ends.specs.declared.ending.Ended.TheVariants.{BadTariff, BoardFault, NoMemory, ReadFault, WrongTariff}
+-- For proofs: what the command `run` has before its last line is printed. Run says what a run is.
+use Rattle.std.specs.Prelude.{ℕ, ◌≡◌, ◌≢◌, Err, List, Ok}
+use Rattle.outside.specs.{Runs.{IsAtRest, MayHold}, declared.files.Files.{Ghosts as FileGhosts}}
+use Rattle.{call_ends.specs.Unwritten.{LeavesUnwritten}, drive_commands.specs.Run.{start_at, start_of, tables_in}}
+use Rattle.call_ends.specs.declared.ending.Ended.TheVariants.{BadTariff, NoMemory, WrongTariff}
+use Rattle.drive_commands.specs.Common.{Begins, BoardFault, Ended, EndsOnDevices, Ghosts, IsRefusal, IsSealedIn}
+use Rattle.drive_commands.specs.Common.{IsTablesOf, LeavesFromSync, OpensWith, ReadFault, Seal, TableParts, Tree}
+use Rattle.drive_commands.specs.Common.{line_of, opening_in, status_of, tables_of, tariff_in}
+use Rattle.drive_commands.specs.Run.{IsCutOfCourse, StandsAfterRun, Start, bytes_in, run_command, sealed_tariff}
 
 -- ---- the tables of the sealed tariff
 
--- a text has no tariff where it is refused or memory ran out
+-- a text has no tables if it is refused or memory ran out
 abbrev pub IsNoTables : (text : List ℕ) → Ended → Type 0
 IsNoTables text NoMemory = Unit {0}
 IsNoTables text (BadTariff why) = tariff_in text ≡ Err why
 IsNoTables text why = ⊥
 
--- tables are sealed ones where they are those of a text's tariff, and the tariff is the sealed one
+-- tables are sealed ones if they are those of a text's tariff, and the tariff is the sealed one
 pub record AreSealedTables (seal : Seal) (text : List ℕ) (tables : TableParts) : Type 0 where
   pub tree : Tree
   pub accepted : sealed_tariff seal.digest text ≡ Ok tree
   pub compiled : IsTablesOf tree tables
   pub value : tables ≡ tables_of tree seal.params.constant
 
--- no tables were made of a text that should be the sealed one where a read failed, memory ran out, or it is refused
+-- no tables were made of a text that should be the sealed one if a read failed, memory ran out, or it is refused
 abbrev pub AreNoTables : (digest text : List ℕ) → (read_failed : Type 0) → Ended → Type 0
 AreNoTables digest text read_failed ReadFault = read_failed
 AreNoTables digest text read_failed NoMemory = Unit {0}
@@ -45,31 +34,30 @@ AreNoTables digest text read_failed why = ⊥
 -- ---- how a run begins
 
 module _ {D L : Type 0} {N : ℕ} (B : Ghosts D N L) where
-  -- a run has begun over the opening image where it has a start with this seal and these tables, and the board may open
+  -- a run has begun over the opening image if it has a start with this seal and these tables, and the board may open
   -- with its durable state
   pub record HasBegun (image tariff : List ℕ) (board : D) (seal : Seal) (tables : TableParts) : Type 0 where
     pub start : Start
-    pub is : start_of (opening_of image) tariff ≡ Ok start
+    pub is : start_of (opening_in image) tariff ≡ Ok start
     pub seal_is : seal ≡ start.seal
     pub tables_are : tables ≡ tables_in start
     pub compiled : IsTablesOf start.tree tables
     pub opens : OpensWith B tables board start.durable
 
--- a run hasn't begun where a read failed, memory ran out, the board failed, or it is refused
+-- a run hasn't begun if a read failed, memory ran out, the board failed, or it is refused
 abbrev pub HasNotBegun : (image tariff : List ℕ) → (read_failed board_failed : Type 0) → Ended → Type 0
 HasNotBegun image tariff read_failed board_failed ReadFault = read_failed × IsSealedIn image
 HasNotBegun image tariff read_failed board_failed NoMemory = IsSealedIn image
 HasNotBegun image tariff read_failed board_failed BoardFault = board_failed
-HasNotBegun image tariff read_failed board_failed why = (start_of (opening_of image) tariff ≡ Err why) × IsRefusal why
+HasNotBegun image tariff read_failed board_failed why = (start_of (opening_in image) tariff ≡ Err why) × IsRefusal why
 
 -- ---- what it leaves
 
 module _ {E D L : Type 0} {N : ℕ} (F : FileGhosts E) (B : Ghosts D N L) where
-  -- a run came to its last line, or to a fault of the board before it, where all holds of it that `IsRun` says of a run
-  -- in the end
+  -- a run reached its last line, or a fault of the board before it, if all holds of it that `IsRun` says
   pub record RunReachesLine (files files' : E) (old new : D) (ended : Ended) : Type 0 where
     pub comes : EndsOnDevices F B run_command files files' old new ended
-    pub stands : ended ≢ BoardFault → Stands B.tells_text (B.image old) (B.printed old) (start_at F B files old)
+    pub stands : ended ≢ BoardFault → StandsAfterRun B.tells_text (B.image old) (B.printed old) (start_at F B files old)
         (bytes_in comes.course (F.rest files 2)) (B.image new)
     pub leaves : LeavesFromSync B (status_of ended ≡ 8) old new (IsCutOfCourse F B files old comes.course)
     -- a cut while the last line is printed leaves such a place too

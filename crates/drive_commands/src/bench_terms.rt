@@ -1,11 +1,7 @@
 //! What a verification goes by.
-ghost use Rattle.std.specs.Prelude.{◌≡◌, ◌≢◌, ℕ, ◌+◌, ◌≤◌, [], IfErr, IfOk, OnOk, IsErrOf, Ok, Err};
-ghost use Rattle.outside.specs.Reading.{LeavesOthers};
-ghost use Rattle.outside.specs.Faults.{Rose};
-ghost use Rattle.drive_commands.specs.Bench.{terms_of};
-ghost use Rattle.drive_commands.specs.BenchSteps.{HasNoTerms, terms_in};
-ghost use Rattle.store_commands.specs.Opened.{OnlyOpens};
-ghost use Rattle.store_commands.specs.Opening.{IsSealedIn, opening_of};
+ghost use Rattle.std.specs.Prelude.{[], ℕ, ◌+◌, ◌≡◌, ◌≢◌, ◌≤◌, Err, IfErr, IfOk, IsErrOf, Ok, OnOk};
+ghost use Rattle.{store_commands.specs.Opened.{OnlyOpens}, drive_commands.specs.BenchSteps.{HasNoTerms, terms_in}};
+ghost use Rattle.drive_commands.specs.{Bench.{terms_of}, Common.{IsSealedIn, LeavesOthers, Rose, opening_in}};
 
 use crate::sealed_tariff::read_sealed;
 use call_ends::Ended;
@@ -24,8 +20,7 @@ pub struct Terms {
     pub checked: Checked,
 }
 
-/// Scans the store, and reads the tariff of word 1, which has to be the one that was sealed. Nothing is
-/// written or printed.
+/// Scans the store, and reads the sealed tariff from word 1. It writes and prints nothing.
 pub fn open_terms<F: Files, B: Board<STORE_SIZE, L>, L: Ledger>(
     alloc: Global,
     files: &mut F,
@@ -33,7 +28,7 @@ pub fn open_terms<F: Files, B: Board<STORE_SIZE, L>, L: Ledger>(
     steps: &mut Steps<L>,
 ) -> Result<Terms, Ended>
     ensures found { F.tells → B.tells_image → IfOk result (λ terms.
-        terms_of (opening_of (B.image board.old)) (F.rest files.old 1) ≡ Ok (terms_in terms)) }
+        terms_of (opening_in (B.image board.old)) (F.rest files.old 1) ≡ Ok (terms_in terms)) }
     ensures ended { F.tells → OnOk result (F.rest files.new 1 ≡ []) }
     ensures refused { F.tells → B.tells_image → IfErr result (HasNoTerms (B.image board.old) (F.rest files.old 1)
         (Rose (F.faults files.old 1) (F.faults files.new 1)) (Rose (B.faults board.old) (B.faults board.new))) }

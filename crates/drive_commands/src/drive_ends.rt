@@ -1,13 +1,12 @@
 //! How a command ends by its drive.
 ghost use Rattle.std.specs.Prelude.{◌≡◌};
-ghost use Rattle.drive_commands.specs.BenchSteps.{ended_for_drive};
-ghost use Rattle.drive_commands.specs.DriveEnds.{ended_by};
+ghost use Rattle.drive_commands.specs.{BenchSteps.{ended_for_drive}, DriveEnds.{ended_by}};
 
 use crate::whole_drive::DriveFault;
 use call_ends::Ended;
 use meter_run::RunFault;
 
-/// How a command ended whose drive wasn't read.
+/// How a command ended that couldn't read its drive.
 pub fn refused_drive(fault: DriveFault) -> Ended
     ensures { result ≡ ended_for_drive fault }
 {
@@ -19,7 +18,7 @@ pub fn refused_drive(fault: DriveFault) -> Ended
     }
 }
 
-/// How a command ended where the run of its drive ended so.
+/// How a command ended that ran its drive.
 pub fn ended_of(ran: Result<(), RunFault>) -> Ended
     ensures { result ≡ ended_by ran }
 {

@@ -1,16 +1,9 @@
 //! The command `explain`.
-ghost use Rattle.std.specs.Prelude.{◌≡◌, ◌≢◌, ℕ, List, All, flat_map, IfOk, Err};
-ghost use Rattle.drive_text.specs.Ranges.{IsRunInRange};
-ghost use Rattle.drive_text.specs.Runs.{run_events};
-ghost use Rattle.outside.specs.Faults.{Rose};
-ghost use Rattle.verify_bench.specs.Explaining.{explanations_of};
-ghost use Rattle.verify_bench.specs.Settings.{setting_under};
-ghost use Rattle.call_ends.specs.Call.{LeavesUnread, StopsReading};
-ghost use Rattle.call_ends.specs.Carried.{Carries};
-ghost use Rattle.call_ends.specs.Ending.{EndsUnprinted};
+ghost use Rattle.std.specs.Prelude.{ℕ, ◌≡◌, ◌≢◌, All, Err, IfOk, List, flat_map};
+ghost use Rattle.{verify_bench.specs.Settings.{setting_under}, call_ends.specs.Call.{LeavesUnread, StopsReading}};
+ghost use Rattle.drive_commands.specs.Common.{Carries, EndsUnprinted, IsRunInRange, Rose, explanations_of, run_events};
 ghost use Rattle.drive_commands.specs.Explain.{explain_command};
-ghost use Rattle.drive_commands.specs.ExplainSteps.{HasExplained};
-ghost use Rattle.drive_commands.specs.ExplainedText.{explanations_text};
+ghost use Rattle.drive_commands.specs.{ExplainSteps.{HasExplained}, ExplainedText.{explanations_text}};
 
 use crate::drive_ends::refused_drive;
 use crate::explained_text::text_of_explained;
@@ -27,7 +20,7 @@ use taxi_units::{NoMemory, Steps};
 use verify_bench::explain as explain_runs;
 
 /// Reads the tariff of word 1, the parameters of word 3 and the drive of word 2, and prints why the fares of its
-/// hirings are what they are, as on a new store. Nothing is printed before all is known, and no store is opened.
+/// hirings are what they are, as on a new store. It prints nothing before all is known, and opens no store.
 pub fn explain<F: Files, B: Board<STORE_SIZE, L>, L: Ledger>(
     alloc: Global,
     files: &mut F,

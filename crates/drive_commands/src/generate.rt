@@ -1,21 +1,10 @@
 //! The command `gen`.
-ghost use Rattle.std.specs.Prelude.{◌≡◌, ◌+◌, ◌*◌, ◌<◌, ◌≤◌, ◌∷◌, ℕ, List, [], codes, length, pos, replicate, None};
-ghost use Rattle.std.specs.Prelude.{Some};
-ghost use Rattle.drive_modes.specs.declared.charges.Mode.TheVariants.{Single};
-ghost use Rattle.drive_text.specs.Drive.{events_in};
-ghost use Rattle.drive_text.specs.Ending.{Whole, drive_end};
-ghost use Rattle.meter_model.specs.Setting.{Setting};
-ghost use Rattle.meter_states.specs.Setting.{IsSettingOf};
-ghost use Rattle.outside.specs.Faults.{Rose};
-ghost use Rattle.seal_record.specs.Ranges.{IsSeal};
-ghost use Rattle.meter_store.specs.Sealing.{FoundSeal, FoundTotals, totals_found};
-ghost use Rattle.taxi_units.specs.Line.{line_size};
-ghost use Rattle.taxi_units.specs.Time.{first_second};
-ghost use Rattle.meter_store.specs.Stored.{HasState};
-ghost use Rattle.totals_record.specs.declared.durable_state.Durable.{Durable};
-ghost use Rattle.verify_bench.specs.Generated.{generated};
-ghost use Rattle.arrayvec.specs.ArrayVec.{array_vec_len};
-ghost use Rattle.call_ends.specs.Carried.{Carries, no_files};
+ghost use Rattle.std.specs.Prelude.{[], ℕ, ◌*◌, ◌+◌, ◌<◌, ◌∷◌, ◌≡◌, ◌≤◌, List, None, Some, codes, length, pos};
+ghost use Rattle.{std.specs.Prelude.{replicate}, arrayvec.specs.ArrayVec.{array_vec_len}};
+ghost use Rattle.{taxi_units.specs.Line.{line_size}, seal_record.specs.Ranges.{IsSeal}};
+ghost use Rattle.{meter_store.specs.Sealing.{FoundSeal, FoundTotals, totals_found}, call_ends.specs.Carried.{no_files}};
+ghost use Rattle.drive_commands.specs.Common.{Carries, Durable, HasState, IsSettingOf, Rose, Setting, Single, Whole};
+ghost use Rattle.drive_commands.specs.Common.{drive_end, events_in, first_second, generated};
 ghost use Rattle.drive_commands.specs.Generate.{city_text, event_count, gen_command, generated_text, state_after};
 
 use arrayvec::ArrayVec;
@@ -56,7 +45,7 @@ pub fn city_tariff() -> &'static [u8]
 }
 
 /// The offsets of local time an hour ahead of UTC.
-#[tactic(auto, using(crate::proofs::Generating::is_an_hour))]
+#[tactic(auto, using(crate::proofs::GenDrive::is_an_hour))]
 fn an_hour_ahead() -> Offsets
     ensures { result ≡ (first_second, pos 3600) ∷ [] }
 {
@@ -70,9 +59,8 @@ pub fn ten_thousand() -> Constant
     Constant::new(10_000).unwrap()
 }
 
-/// The seal of that meter: in mode S, with a hold of a minute, and local time an hour ahead of UTC. It is
-/// the first of the taxi `GEN`, secured on 2025-12-01, for a tariff of these decimals whose digest is
-/// zeros. This project's own.
+/// The seal of that meter: in mode S, with a hold of a minute, and local time an hour ahead of UTC. It is the first of
+/// the taxi `GEN`, secured on 2025-12-01, for a tariff of these decimals whose digest is zeros. This project's own.
 pub fn gen_seal(decimals: u8) -> Seal
     requires { decimals ≤ 3 }
     ensures sealed { IsSeal result }
@@ -105,7 +93,7 @@ pub fn gen_seal(decimals: u8) -> Seal
     }
 }
 
-/// The state that a scan found, where it found one.
+/// The state that a scan found, if it found one.
 fn latest_in(found: Found<Durable>) -> Option<Durable>
     ensures { result ≡ totals_found found }
 {
@@ -115,7 +103,7 @@ fn latest_in(found: Found<Durable>) -> Option<Durable>
     }
 }
 
-/// The durable state that the store has. None where the board fails, or the store has none.
+/// The durable state of the store. None if the board fails, or the store has none.
 fn state_in<B: Board<STORE_SIZE, L>, L: Ledger>(
     board: &mut B,
     steps: &mut Steps<L>,
@@ -130,8 +118,8 @@ fn state_in<B: Board<STORE_SIZE, L>, L: Ledger>(
     }
 }
 
-/// Seals a new store, carries out the drive of word 0 on it, and gives the durable state that it has then.
-/// None where a read or the board fails, or the drive has a bad line.
+/// Seals a new store, carries out the drive of word 0 on it, and gives the durable state after it. None if a read or
+/// the board fails, or the drive has a bad line.
 fn run_afresh<F: Files, B: Board<STORE_SIZE, L>, L: Ledger>(
     tables: &Tables,
     seal: &Seal,
@@ -200,8 +188,8 @@ fn summary(seed: u64, trips: u32, durable: &Durable, decimals: u8) -> Line
     line
 }
 
-/// Carries out the drive of a seed and of 1 to 1,000 trips on a meter of its own under the city tariff, and
-/// prints the number of its events and the totals of that meter.
+/// Carries out the drive of a seed and of 1 to 1,000 trips on a meter of its own under the city tariff, and prints how
+/// many events it has and the totals of that meter.
 #[tactic(auto, using(call_ends::proofs::Laws::board_runs))]
 pub fn generate<B: Board<STORE_SIZE, L>, L: Ledger>(
     alloc: Global,

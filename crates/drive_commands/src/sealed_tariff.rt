@@ -1,12 +1,7 @@
 //! Reads the tariff that was sealed.
-ghost use Rattle.std.specs.Prelude.{◌≡◌, ◌≢◌, ℕ, ◌≤◌, [], length, nat_eq, IfOk, OnOk, Ok, Err};
-ghost use Rattle.std.specs.Cmp.Lexicographic.{pointwise};
-ghost use Rattle.outside.specs.Reading.{LeavesOthers};
-ghost use Rattle.outside.specs.Faults.{Rose};
-ghost use Rattle.tariff_syntax.specs.Tree.{tree_of};
-ghost use Rattle.drive_commands.specs.Run.{sealed_tariff};
-ghost use Rattle.drive_commands.specs.RunSteps.{AreNoTables, IsNoTables};
-ghost use Rattle.call_ends.specs.Tariffs.{tariff_in};
+ghost use Rattle.{std.specs.Cmp.Lexicographic.{pointwise}, drive_commands.specs.RunSteps.{AreNoTables, IsNoTables}};
+ghost use Rattle.std.specs.Prelude.{[], ℕ, ◌≡◌, ◌≢◌, ◌≤◌, Err, IfOk, Ok, OnOk, length, nat_eq};
+ghost use Rattle.drive_commands.specs.{Common.{LeavesOthers, Rose, tariff_in, tree_of}, Run.{sealed_tariff}};
 
 use call_ends::{Ended, refused_by, tariff_of_text, text_of_word};
 use outside::Files;
@@ -32,7 +27,7 @@ fn tariff_of(alloc: Global, text: &[u8]) -> Result<Checked, Ended>
     }
 }
 
-/// The tariff of a text, where it is the one that was sealed: its digest is asked before its content.
+/// The tariff of a text, if it is the sealed one. It asks for the digest before the content.
 fn sealed_of_text(alloc: Global, text: &[u8], digest: &[u8; 32]) -> Result<Checked, Ended>
     requires { length text.now ≤ 65536 }
     ensures found { IfOk result (λ checked. sealed_tariff digest.now text.now ≡ Ok (tree_of checked)) }
@@ -46,7 +41,7 @@ fn sealed_of_text(alloc: Global, text: &[u8], digest: &[u8; 32]) -> Result<Check
     Err(Ended::WrongTariff(digest, own))
 }
 
-/// Reads the tariff of word 1, where it is the one that was sealed: its length is asked before its digest.
+/// Reads the sealed tariff from word 1. It asks for the length of the text before its digest.
 pub fn read_sealed<F: Files>(
     alloc: Global,
     files: &mut F,

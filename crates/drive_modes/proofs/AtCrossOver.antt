@@ -1,17 +1,10 @@
 -- The cross-over speed reaches the bound of even speeds.
-use Rattle.std.proofs.Common.{◌≡◌, ◌⊎◌, inl, inr, ℕ, ◌+◌, ◌-◌, ◌*◌, ◌/◌, ◌%◌, ◌<◌, ◌++◌, length, replicate, sum}
-use Rattle.std.proofs.Common.{refl, ap, arith, length-append}
-use Rattle.std.specs.List.{All, sum_by}
-use Rattle.std.proofs.lemmas.List.{length-replicate}
-use Rattle.std.proofs.lemmas.List.Elements.{All-append, All-replicate}
-use Rattle.std.proofs.lemmas.List.Folds.{sum_by-replicate}
-use Rattle.std.proofs.lemmas.List.Sums.{sum_by-append}
-use Rattle.std.proofs.lemmas.Nat.{div-add-mod', mod_below}
-use Rattle.drive_modes.specs.declared.charges.Mode.TheVariants.{Single}
-use Rattle.drive_modes.specs.declared.charges.Weights.{Weights}
-use Rattle.drive_modes.specs.Charge.{charge_of}
+use Rattle.std.{specs.List.{All, sum_by}, proofs.lemmas.List.{length-replicate}}
+use Rattle.std.proofs.Common.{ℕ, ◌%◌, ◌*◌, ◌++◌, ◌+◌, ◌-◌, ◌/◌, ◌<◌, ◌≡◌, ◌⊎◌, ap, arith, inl, inr, length}
+use Rattle.std.proofs.{Common.{length-append, refl, replicate, sum}, lemmas.List.Elements.{All-append, All-replicate}}
+use Rattle.std.proofs.lemmas.{List.{Folds.{sum_by-replicate}, Sums.{sum_by-append}}, Nat.{div-add-mod', mod_below}}
+use Rattle.drive_modes.{specs.{Charge.{charge_of}, Common.{Single, Weights}}, proofs.Crossover.{charge-greater}}
 use Rattle.drive_modes.specs.Speeds.{IsEvenSpeed, at_cross_over, charge_as_one, charged, coarseness}
-use Rattle.drive_modes.proofs.Crossover.{charge-greater}
 
 -- the sum of a function over so many intervals with n pulses, and so many with n + 1
 sum_of_both : (f : ℕ → ℕ) (v u n : ℕ) → sum_by f (replicate v n ++ replicate u (n + 1)) ≡ v * f n + u * f (n + 1)
@@ -36,7 +29,7 @@ cross_over_count w some =
     let both = length-append (replicate (w.per_pulse - u) n) (replicate u (n + 1)) in
     omega (arith, below, both, length-replicate (w.per_pulse - u) n, length-replicate u (n + 1))
 
--- w intervals have t pulses there, where a pulse weighs w and an interval t
+-- w intervals have t pulses there, if a pulse weighs w and an interval t
 cross_over_pulses : (w : Weights) → 0 < w.per_pulse → sum (at_cross_over w) ≡ w.per_tick
 cross_over_pulses w some =
     let n = w.per_tick / w.per_pulse in
@@ -52,7 +45,7 @@ cross_over_as_one w some =
     let time = ap (λ (z : ℕ). z * w.per_tick) (cross_over_count w some) in
     omega (arith, distance, time)
 
--- w * t and u * v more, where v intervals are charged t, and u intervals t + v
+-- w * t and u * v more, if v intervals are charged t, and u intervals t + v
 charges_there : (w t u v : ℕ) → u + v ≡ w → v * t + u * (t + v) ≡ w * t + u * v
 charges_there w t u v split = omega (arith, ap (λ (z : ℕ). z * t) split)
 

@@ -1,16 +1,15 @@
-//! From pulses to a fare: the constant of the distance signal generator, the pulses of the measuring
-//! interval that runs, and the distance that pulses make; the charge of each measuring interval, the
-//! fare that the charges add up to, and the speed at which time and distance cost the same.
+//! From pulses to a fare: the constant of the distance signal generator, the pulses of the measuring interval that
+//! runs, and their distance; the charge of each interval, the fare of all charges, and the cross-over speed.
 //!
-//! Charges are counted in a unit so small that no rate of a tariff leaves a fraction: the measure of
-//! a tariff says how many of these units make the smallest unit of money.
+//! Charges are counted in a unit so small that no rate of a tariff leaves a fraction: the measure of a tariff says how
+//! many of these units make the smallest unit of money.
 #![tactic(auto)]
 
 mod charges;
 mod constant;
 mod distance;
-mod even_fares;
-mod even_speeds;
+mod even_fare_laws;
+mod even_speed_laws;
 mod gate;
 mod meterage;
 mod speed;
@@ -20,8 +19,8 @@ pub use charges::{
 };
 pub use constant::{BadConstant, Constant, GREATEST_CONSTANT, LEAST_CONSTANT};
 pub use distance::{distances_are_whole_millimetres, millimetres, reached};
-pub use even_fares::{even_fares_are_shown_nearly, fares_rise_with_their_charge};
-pub use even_speeds::{
+pub use even_fare_laws::{even_fares_are_shown_nearly, fares_rise_with_their_charge};
+pub use even_speed_laws::{
     charges_in_mode_s_lie_between, even_speeds_are_charged_nearly,
     the_cross_over_speed_reaches_the_bound,
 };

@@ -1,12 +1,9 @@
 -- The CR at a line's end, comments, and lines that are too long.
-use Rattle.std.proofs.Common.{◌≡◌, ℕ, suc, ◌+◌, ◌-◌, ◌<◌, ◌≤◌, Bool, true, false, cond, not, ◌&&◌, List, [], ◌∷◌, ◌++◌}
-use Rattle.std.proofs.Common.{length, take, get_or, refl, ap, ◌∙◌, arith, eqb, ltb, length-append, Some, None}
-use Rattle.std.specs.Str.Lines.{strip_carriage_return}
-use Rattle.std.proofs.Math.Seq.{get_or-append_seam, take-append_seam}
-use Rattle.std.proofs.lemmas.Bool.{lt-ltb, ltb-true, eqb-true}
-use Rattle.std.proofs.lemmas.List.{length-take-le}
-use Rattle.drive_text.specs.Lines.{is_comment, is_too_long}
-use Rattle.drive_text.specs.Fields.{text_runs, line_runs}
+use Rattle.std.{specs.Str.Lines.{strip_carriage_return}, proofs.lemmas.List.{length-take-le}}
+use Rattle.std.proofs.Common.{[], ℕ, ◌&&◌, ◌++◌, ◌+◌, ◌-◌, ◌<◌, ◌∙◌, ◌∷◌, ◌≡◌, ◌≤◌, Bool, List, None, Some, ap, arith}
+use Rattle.std.proofs.Common.{cond, eqb, false, get_or, length, length-append, ltb, not, refl, suc, take, true}
+use Rattle.std.proofs.{Math.Seq.{get_or-append_seam, take-append_seam}, lemmas.Bool.{eqb-true, lt-ltb, ltb-true}}
+use Rattle.drive_text.specs.{Fields.{line_runs, text_runs}, Lines.{is_comment, is_too_long}}
 
 -- a CR at the end is no part of the line
 pub strip-snoc : (t : List ℕ) (c : ℕ) → strip_carriage_return (t ++ c ∷ []) ≡ cond (eqb c 13) t (t ++ c ∷ [])
@@ -107,7 +104,7 @@ comment_fits t e = rw e (by (ltb 80 (length (strip_carriage_return t))))
     by true = refl
     by false = refl
 
--- and what has more is too long, where it is no comment
+-- and what has more is too long if it is no comment
 pub long_fails : (t : List ℕ) → 80 < length (strip_carriage_return t) → is_comment t ≡ false → is_too_long t ≡ true
 long_fails t many plain = rw (lt-ltb 80 (length (strip_carriage_return t)) many, plain) refl
 
@@ -130,7 +127,7 @@ long_by_test t long plain = rw (long, plain) refl
 pub short_by_test : (t : List ℕ) → ltb 80 (length (strip_carriage_return t)) ≡ false → is_too_long t ≡ false
 short_by_test t short = rw short refl
 
--- where bytes begin a comment, nothing stood before them
+-- if bytes begin a comment, nothing stood before them
 pub nothing_before : (t p : List ℕ) → is_comment t ≡ false → is_comment (t ++ p) ≡ true → t ≡ []
 nothing_before [] p plain e = refl
 nothing_before (x ∷ xs) p plain e = absurd (cc)

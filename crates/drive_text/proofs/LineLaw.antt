@@ -1,12 +1,19 @@
 -- The lines of a text are what stands between its LFs.
-use Rattle.std.proofs.Common.{◌≡◌, ◌≢◌, ℕ, ◌↔◌, Bool, true, false, cond, List, [], ◌∷◌, ◌++◌, refl, ap, sym, ◌∙◌, subst}
-use Rattle.std.proofs.Common.{eqb, append_assoc, All, flat_map}
-use Rattle.std.specs.List.{slice_split, onto_first, join_with_byte}
-use Rattle.std.proofs.lemmas.Bool.{ne_eqb, eqb-false}
-use Rattle.std.proofs.lemmas.List.Elements.{All-nil, All-cons, All-head, All-tail}
-use Rattle.std.proofs.lemmas.List.Splits.{slice_split_none, slice_split_at, join_with_byte-slice_split}
-use Rattle.drive_text.specs.Lines.{all_but_last, last_of, ended_lines, unfinished_line, text_of, IsOneLine}
-use Rattle.drive_text.proofs.Splits.{front_of, back_of}
+use Rattle.std.{specs.List.{join_with_byte, onto_first, slice_split}, proofs.Common.{flat_map, refl, subst, sym, true}}
+use Rattle.std.proofs.Common.{[], ℕ, ◌++◌, ◌↔◌, ◌∙◌, ◌∷◌, ◌≡◌, ◌≢◌, All, Bool, List, ap, append_assoc, cond, eqb, false}
+use Rattle.std.proofs.lemmas.{Bool.{eqb-false, ne_eqb}, List.Elements.{All-cons, All-head, All-nil, All-tail}}
+use Rattle.std.proofs.lemmas.List.Splits.{join_with_byte-slice_split, slice_split_at, slice_split_none}
+use Rattle.drive_text.specs.Lines.{IsOneLine, all_but_last, ended_lines, last_of, text_of, unfinished_line}
+
+front_of : (ps : List (List ℕ)) (q : List ℕ) → all_but_last (ps ++ q ∷ []) ≡ ps
+front_of [] q = refl
+front_of (p ∷ []) q = refl
+front_of (p ∷ r ∷ ps) q = ap (λ (xs : List (List ℕ)). p ∷ xs) (front_of (r ∷ ps) q)
+
+back_of : (ps : List (List ℕ)) (q : List ℕ) → last_of (ps ++ q ∷ []) ≡ q
+back_of [] q = refl
+back_of (p ∷ []) q = refl
+back_of (p ∷ r ∷ ps) q = back_of (r ∷ ps) q
 
 joined : (ps : List (List ℕ)) → text_of (all_but_last ps) (last_of ps) ≡ join_with_byte 10 ps
 joined [] = refl

@@ -1,12 +1,9 @@
 -- First bad lines and runs of lists of lines, of which more come.
-use Rattle.std.proofs.Common.{◌≡◌, ℕ, ◌+◌, Bool, true, false, cond, List, [], ◌∷◌, ◌++◌, length, refl, ap, sym, ◌∙◌}
-use Rattle.std.proofs.Common.{arith, append_assoc, Option, Some, None, unwrap_or, is_some, is_none}
-use Rattle.std.specs.List.{position_from, flat_map, take_while}
-use Rattle.std.proofs.lemmas.List.{append-nil}
-use Rattle.std.proofs.lemmas.List.Sums.{take_while-cons}
-use Rattle.drive_text.specs.declared.run.Run.{Run}
-use Rattle.drive_text.specs.Fields.{line_runs}
-use Rattle.drive_text.specs.Drive.{first_bad_line, runs_of_lines}
+use Rattle.std.{specs.List.{flat_map, position_from, take_while}, proofs.lemmas.List.Sums.{take_while-cons}}
+use Rattle.std.proofs.Common.{[], ℕ, ◌++◌, ◌+◌, ◌∙◌, ◌∷◌, ◌≡◌, Bool, List, None, Option, Some, ap, append_assoc, arith}
+use Rattle.std.proofs.Common.{cond, false, is_none, is_some, length, refl, sym, true, unwrap_or}
+use Rattle.{std.proofs.lemmas.List.{append-nil}, drive_text.specs.Drive.{first_bad_line, runs_of_lines}}
+use Rattle.drive_text.specs.{Fields.{line_runs}, declared.run.Run.{Run}}
 
 module _ {X : Type 0} (p : X → Bool) where
   position_stays_by : (t : Bool) (x : X) (i n : ℕ) (xs ys : List X) → (position_from p (i + 1) xs ≡ Some n
@@ -29,7 +26,7 @@ module _ {X : Type 0} (p : X → Bool) where
       let e : i + 1 + length xs ≡ i + length (x ∷ xs) = omega arith in
       more h ∙ ap (λ (k : ℕ). position_from p k ys) e
 
-  -- where there is none, the first is among those that come
+  -- if there is none, the first is among those that come
   pub position_next : (i : ℕ) (xs ys : List X) → position_from p i xs ≡ None
       → position_from p i (xs ++ ys) ≡ position_from p (i + length xs) ys
   position_next i [] ys h = let e : i ≡ i + 0 = omega arith in ap (λ (k : ℕ). position_from p k ys) e
@@ -77,7 +74,7 @@ module _ {X : Type 0} (m : X → Option (List Run)) where
   after_good_by (Some es) x i xs ys more h =
       ap (λ (l : List Run). es ++ l) (more h) ∙ sym (append_assoc es (runs_while xs) (runs_while ys))
 
-  -- where none is bad, the runs of those that come follow
+  -- if none is bad, the runs of those that come follow
   pub after_good : (i : ℕ) (xs ys : List X) → position_from (λ y. is_none (m y)) i xs ≡ None
       → runs_while (xs ++ ys) ≡ runs_while xs ++ runs_while ys
   after_good i [] ys h = refl
@@ -89,12 +86,12 @@ pub first_bad_line-append : (lines more : List (List ℕ)) (n : ℕ) → first_b
     → first_bad_line (lines ++ more) ≡ Some n
 first_bad_line-append lines more n h = position_stays (λ line. is_none (line_runs line)) 1 n lines more h
 
--- the runs of lines stay, where there is a bad one
+-- the runs of lines stay if there is a bad one
 pub runs_of_lines-bad : (lines more : List (List ℕ)) (n : ℕ) → first_bad_line lines ≡ Some n
     → runs_of_lines (lines ++ more) ≡ runs_of_lines lines
 runs_of_lines-bad lines more n h = after_bad line_runs 1 n lines more h
 
--- and those of the lines that come follow, where there is none
+-- and those of the lines that come follow if there is none
 pub runs_of_lines-good : (lines more : List (List ℕ)) → first_bad_line lines ≡ None
     → runs_of_lines (lines ++ more) ≡ runs_of_lines lines ++ runs_of_lines more
 runs_of_lines-good lines more h = after_good line_runs 1 lines more h
@@ -103,7 +100,7 @@ one_bad_by : (o : Option (List Run)) (n : ℕ) → o ≡ None → cond (is_none 
 one_bad_by None n e = refl
 one_bad_by (Some es) n e = cc
 
--- a line more is the first bad one, where it is bad
+-- a line more is the first bad one if it is bad
 pub first_bad_line-bad : (lines : List (List ℕ)) (line : List ℕ) → first_bad_line lines ≡ None → line_runs line ≡ None
     → first_bad_line (lines ++ line ∷ []) ≡ Some (length lines + 1)
 first_bad_line-bad lines line h e =
@@ -115,7 +112,7 @@ one_good_by : (o : Option (List Run)) (es : List Run) (n : ℕ) → o ≡ Some e
 one_good_by None es n e = cc
 one_good_by (Some fs) es n e = refl
 
--- and is none, where it isn't
+-- and is none if it isn't
 pub first_bad_line-good : (lines : List (List ℕ)) (line : List ℕ) (es : List Run) → first_bad_line lines ≡ None
     → line_runs line ≡ Some es → first_bad_line (lines ++ line ∷ []) ≡ None
 first_bad_line-good lines line es h e =

@@ -1,18 +1,15 @@
--- For proofs: what becomes of one part of a piece, which is a line with its LF, or what is left of the piece if no
--- LF comes.
-use Rattle.std.specs.Prelude.{◌≡◌, ℕ, ◌+◌, ◌<◌, ◌≤◌, List, ◌++◌, length, take, true, false, All}
-use Rattle.drive_text.specs.declared.run.Run.{Run}
-use Rattle.drive_text.specs.declared.state.State.{State}
-use Rattle.drive_text.specs.Drive.{runs_in}
-use Rattle.drive_text.specs.Ranges.{IsRunInRange}
-use Rattle.drive_text.specs.Reading.{Reading, HasTaken}
+-- For proofs: what becomes of one part of a piece, which is a line with its LF, or what is left of the piece if no LF
+-- comes.
+use Rattle.std.specs.Prelude.{ℕ, ◌++◌, ◌+◌, ◌<◌, ◌≡◌, ◌≤◌, All, List, false, length, take, true}
+use Rattle.drive_text.specs.{Drive.{runs_in}, Ranges.{IsRunInRange}}
+use Rattle.drive_text.specs.{Reading.{HasTaken, Reading}, declared.{run.Run.{Run}, state.State.{State}}}
 
 -- the state of a reader, as contracts see it
 abbrev pub reading_of : State → Reading
 reading_of state =
     record { begun = state.begun; kept = state.kept.items; comment = state.comment; failed = state.failed }
 
--- a reader takes the part of a piece that stands in front of the rest: it appends the part's runs, of which none comes
+-- a reader takes the part of a piece that is in front of the rest: it appends the part's runs, of which none comes
 -- before the part's end
 pub record TakesPart (old new : Reading) (piece rest : List ℕ) (before after : List Run) : Type 0 where
   pub part : List ℕ

@@ -1,14 +1,10 @@
 //! What one line of a drive gives.
-ghost use Rattle.std.specs.Prelude.{◌≡◌, ◌∷◌, [], ◌==◌, nat_lt, length, IfSome};
-ghost use Rattle.std.specs.Str.Lines.{strip_carriage_return};
-ghost use Rattle.std.specs.List.{slice_split};
-ghost use Rattle.std.specs.Option.{option_map_or};
-ghost use Rattle.taxi_units.specs.Reading.{Gives};
-ghost use Rattle.taxi_units.specs.Time.{IsSecond};
+ghost use Rattle.{std.specs.{List.{slice_split}, Option.{option_map_or}}, taxi_units.specs.Reading.{Gives}};
+ghost use Rattle.std.specs.{Prelude.{[], ◌==◌, ◌∷◌, ◌≡◌, IfSome, length, nat_lt}, Str.Lines.{strip_carriage_return}};
+ghost use Rattle.{taxi_units.specs.Time.{IsSecond}, drive_text.specs.Fields.{line_runs, text_runs}};
+ghost use Rattle.drive_text.specs.Content.{runs_of};
 ghost use Rattle.drive_text.specs.Fields as spec;
 ghost use Rattle.drive_text.specs.Lines as lines;
-ghost use Rattle.drive_text.specs.Fields.{text_runs, line_runs};
-ghost use Rattle.drive_text.specs.Content.{runs_of};
 
 use crate::keys::{numbered_key, plain_key};
 use crate::run::Run;
@@ -80,7 +76,7 @@ fn run_of_three_fields(name: &[u8], first: &[u8], second: &[u8]) -> Option<Run>
     }
 }
 
-/// The field at the front, and what stands after its blank, where it has one.
+/// The field at the front, and what is behind its blank, if it has one.
 fn first_field(bytes: &[u8]) -> (&[u8], Option<&[u8]>)
     ensures { slice_split (λ b. b == 32) bytes.now
         ≡ result.0.now ∷ option_map_or (λ rest. slice_split (λ b. b == 32) rest.now) result.1 [] }
@@ -88,7 +84,7 @@ fn first_field(bytes: &[u8]) -> (&[u8], Option<&[u8]>)
     split_at_byte(bytes, b' ')
 }
 
-/// A line's fields, parted by one blank each.
+/// The run of a line's fields, with one blank between each two.
 fn run_of_fields(bytes: &[u8]) -> Option<Run>
     ensures { result ≡ spec.run_of_fields (slice_split (λ b. b == 32) bytes.now) }
 {
@@ -114,7 +110,7 @@ pub(crate) fn is_comment(line: &[u8]) -> bool
     line.starts_with(b"#")
 }
 
-/// Whether a line without its CR is too long, where it is no comment.
+/// Whether a line without its CR, which is no comment, is too long.
 pub(crate) fn is_long(text: &[u8]) -> bool
     ensures { result ≡ nat_lt 80 (length text.now) }
 {
@@ -137,7 +133,7 @@ pub(crate) enum Content {
     One(Run),
 }
 
-/// What a whole line without its LF and its CR has. `None` where it is no line of a drive.
+/// What a whole line without its LF and its CR has. `None` if it is no line of a drive.
 #[tactic(auto, unfolding(crate::specs::Fields::text_runs))]
 fn content_of_text(text: &[u8]) -> Option<Content>
     ensures { Gives runs_of result (text_runs text.now) }
@@ -155,7 +151,7 @@ fn content_of_text(text: &[u8]) -> Option<Content>
     Some(Content::One(run))
 }
 
-/// What a whole line without its LF has. `None` where it is no line of a drive.
+/// What a whole line without its LF has. `None` if it is no line of a drive.
 pub(crate) fn content_of_line(line: &[u8]) -> Option<Content>
     ensures { Gives runs_of result (line_runs line.now) }
 {

@@ -1,11 +1,8 @@
 -- What a beginning of a roll is read as is what the roll is read as, so far.
-use Rattle.std.proofs.Common.{◌≡◌, ◌⊎◌, inl, inr, ℕ, ◌<◌, ◌≤◌, List, [], ◌∷◌, ◌++◌, length, refl, ap, sym, ◌∙◌, subst}
-use Rattle.std.proofs.Common.{arith, append_assoc, length-append}
-use Rattle.log_commands.specs.Record.{Record, IsRecord}
-use Rattle.log_commands.specs.Roll.{AreOnRoll, BeginsWithNone, Reads}
-use Rattle.log_commands.specs.Roll.Reads.{over, found, passed}
-use Rattle.log_commands.proofs.Overlaps.{none_within}
-use Rattle.log_commands.proofs.RollLaws.{more_of, one_in_front, reads_bytes}
+use Rattle.std.proofs.Common.{[], ℕ, ◌++◌, ◌<◌, ◌∙◌, ◌∷◌, ◌≡◌, ◌≤◌, ◌⊎◌, List, ap, append_assoc, arith, inl, inr}
+use Rattle.{std.proofs.Common.{length, length-append, refl, subst, sym}, log_commands.specs.Record.{IsRecord, Record}}
+use Rattle.log_commands.{specs.Roll.{AreOnRoll, BeginsWithNone, Reads}, proofs.Overlaps.{none_within}}
+use Rattle.log_commands.{specs.Roll.Reads.{found, over, passed}, proofs.RollLaws.{more_of, one_in_front, reads_bytes}}
 
 -- ---- where a text has a receipt, and what stands before and behind it
 
@@ -34,7 +31,7 @@ first_found text rest receipts (passed t after last byte those is none reads) so
 or_later : (m n : ℕ) → (m ≤ n) ⊎ (n < m)
 or_later m n = grind arith
 
--- a receipt that begins a longer text ends within the text, where the text has a receipt
+-- a receipt that begins a longer text ends within the text, if the text has a receipt
 begins_within : (text more after : List ℕ) (r : Record) → HasReceipt text → IsRecord r → text ++ more ≡ r.text ++ after
     → (behind : List ℕ) × (text ≡ r.text ++ behind)
 begins_within text more after r has h e = elim (or_later (length r.text) (length text)) [

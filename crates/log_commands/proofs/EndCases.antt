@@ -1,20 +1,12 @@
 -- Which ends and statuses the finding of the log's end and the filing of a roll come to.
-use Rattle.std.proofs.Common.{◌≡◌, ◌≢◌, inl, inr, ℕ, ◌≤◌, List, Option, Some, None, Result, Ok, Err, refl, sym, ◌∙◌}
-use Rattle.std.proofs.Common.{arith}
-use Rattle.outside.specs.declared.board.Board.{Ghosts}
-use Rattle.slot_store.specs.Syncs.{LeavesFromSync}
-use Rattle.slot_store.proofs.Laws.{from_sync_as}
-use Rattle.log_commands.specs.Calls.{AreFew, MayHave, MayHaveReadFault, WritesNothing}
-use Rattle.log_commands.specs.Endings.{filing_end, status_of, unread_end}
-use Rattle.log_commands.specs.Filings.{MayHaveFailed}
-use Rattle.log_commands.specs.declared.ending.Ended.TheVariants.{ReadFault, BoardFault}
-use Rattle.log_commands.specs.declared.file_roll.FileEnd.{FileEnd}
-use Rattle.log_commands.specs.declared.file_roll.FileEnd.TheVariants as ends
-use Rattle.log_commands.specs.declared.finding.FindFault.{FindFault}
-use Rattle.log_commands.specs.declared.finding.FindFault.TheVariants as faults
-use Rattle.log_commands.specs.declared.words.Call.{Call}
-use Rattle.log_commands.specs.declared.words.Call.TheVariants.{File, Show}
+use Rattle.std.proofs.Common.{ℕ, ◌∙◌, ◌≡◌, ◌≢◌, ◌≤◌, Err, List, None, Ok, Option, Result, Some, arith, inl, inr, refl}
+use Rattle.{std.proofs.Common.{sym}, slot_store.proofs.Laws.{from_sync_as}}
+use Rattle.log_commands.specs.{Calls.{AreFew, MayHave, MayHaveReadFault, WritesNothing}, Filings.{MayHaveFailed}}
+use Rattle.log_commands.specs.Common.{BoardFault, Call, File, FileEnd, Ghosts, LeavesFromSync, ReadFault, Show}
+use Rattle.log_commands.specs.{Endings.{filing_end, status_of, unread_end}, declared.finding.FindFault.{FindFault}}
 use Rattle.log_commands.proofs.NewestFound.{same_fault}
+use Rattle.log_commands.specs.declared.file_roll.FileEnd.TheVariants as ends
+use Rattle.log_commands.specs.declared.finding.FindFault.TheVariants as faults
 
 pub unread_no_read : (fault : FindFault) → unread_end fault ≡ ReadFault → ⊥
 unread_no_read (faults.BadSlot slot) e = absurd cc
@@ -38,7 +30,7 @@ filing_no_board (ends.OtherTaxi place) e = absurd cc
 filing_no_board ends.TooLong e = absurd cc
 filing_no_board ends.ReadFault e = absurd cc
 
--- where a read may have failed, the status is one at which it may
+-- if a read may have failed, the status is one at which it may
 pub filing_reads : (end : FileEnd) → MayHaveFailed (Ok end) → MayHaveReadFault (status_of (filing_end end))
 filing_reads (ends.Filed count) failed = absurd failed
 filing_reads (ends.OtherTaxi place) failed = inl refl
@@ -94,7 +86,7 @@ few_are_fewer (Some File) before more now few fewer = tt
 
 module _ {D L T : Type 0} {N : ℕ} (B : Ghosts D N L) (kind : List ℕ → List ℕ → Type 0) (old new : D)
     (r : Result T FindFault) where
-  -- where no end is found, a sync that fails is the fault
+  -- if no end is found, a sync that fails is the fault
   pub unread_sync : (fault : FindFault) → r ≡ Err fault → LeavesFromSync B (r ≡ Err faults.LogFault) old new kind
       → LeavesFromSync B (fault ≡ faults.LogFault) old new kind
   unread_sync fault is synced = from_sync_as B kind kind (r ≡ Err faults.LogFault) (fault ≡ faults.LogFault) old new
@@ -103,7 +95,7 @@ module _ {D L T : Type 0} {N : ℕ} (B : Ghosts D N L) (kind : List ℕ → List
   no_fault : (found : T) → r ≡ Ok found → r ≡ Err faults.LogFault → ⊥
   no_fault found is e = let no : ◌≡◌ {A = Result T FindFault} (Ok found) (Err faults.LogFault) = sym is ∙ e in absurd cc
 
-  -- where one is found, it has succeeded
+  -- if one is found, it has succeeded
   pub found_sync : (found : T) → r ≡ Ok found → LeavesFromSync B (r ≡ Err faults.LogFault) old new kind
       → LeavesFromSync B ⊥ old new kind
   found_sync found is synced = from_sync_as B kind kind (r ≡ Err faults.LogFault) ⊥ old new (no_fault found is)

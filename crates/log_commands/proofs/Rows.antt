@@ -1,12 +1,8 @@
 -- Going through the slots of the log from the newest record back.
-use Rattle.std.proofs.Common.{◌≡◌, inl, inr, ℕ, ◌+◌, ◌-◌, ◌<◌, ◌≤◌, List, [], ◌∷◌, length, refl, sym, ◌∙◌, subst, arith}
-use Rattle.std.proofs.Common.{Some}
-use Rattle.std.proofs.lemmas.Bool.{cases_lt}
-use Rattle.log_commands.specs.Slots.{slot_of, HasRecord, IsClosed}
-use Rattle.log_commands.specs.LogList.{AreInSlots, IsCount, StandsAt}
-use Rattle.log_commands.specs.LogRow.{IsCountBack, IsRow, slot_back}
-use Rattle.log_commands.specs.LogScan.{IsEntry}
-use Rattle.log_commands.specs.declared.scanning.Entry.{Entry}
+use Rattle.std.proofs.Common.{[], ℕ, ◌+◌, ◌-◌, ◌<◌, ◌∙◌, ◌∷◌, ◌≡◌, ◌≤◌, List, Some, arith, inl, inr, length, refl}
+use Rattle.std.proofs.{Common.{subst, sym}, lemmas.Bool.{cases_lt}}
+use Rattle.log_commands.specs.{LogList.{AreInSlots, IsCount, StandsAt}, LogRow.{IsCountBack, IsRow, slot_back}}
+use Rattle.log_commands.specs.{LogScan.{IsEntry}, Slots.{HasRecord, IsClosed, slot_of}, declared.scanning.Entry.{Entry}}
 
 -- no slot
 pub row_none : (image : List ℕ) (last newer : ℕ) → 0 < newer → IsRow image last 0 newer
@@ -19,7 +15,7 @@ row_none image last newer some = record {
   others = λ other below few. absurd (omega (arith, below));
 }
 
--- where the slot of the next place back has its record, there was one in each slot before
+-- if the slot of the next place back has its record, there was one in each slot before
 whole_back : (last back count : ℕ) → back < last → IsCountBack last back count → back < 256 → count ≡ back
 whole_back last back count below (inl whole) small = whole.1
 whole_back last back count below (inr (inl over)) small = absurd (omega (arith, below, over.0))

@@ -1,12 +1,8 @@
 -- What was handed out of a roll, when no more of it is read.
-use Rattle.std.proofs.Common.{◌≡◌, ℕ, List, [], ◌++◌, Option, Some, is_some, ap, sym, ◌∙◌, subst}
-use Rattle.std.proofs.lemmas.List.{append-nil}
-use Rattle.log_commands.specs.Reading.{EndsBy, HasRead, Place}
-use Rattle.log_commands.specs.Record.{Record}
-use Rattle.log_commands.specs.Roll.{AreOnRoll, Reads}
-use Rattle.log_commands.specs.declared.roll.RollEnd.{RollEnd}
-use Rattle.log_commands.specs.declared.roll.RollEnd.TheVariants.{Whole}
-use Rattle.log_commands.proofs.Rolls.{none_follows}
+use Rattle.std.proofs.Common.{[], ℕ, ◌++◌, ◌∙◌, ◌≡◌, List, Option, Some, ap, is_some, subst, sym}
+use Rattle.{std.proofs.lemmas.List.{append-nil}, log_commands.specs.declared.roll.RollEnd.TheVariants.{Whole}}
+use Rattle.log_commands.specs.{Reading.{EndsBy, HasRead, Place}, Record.{Record}, declared.roll.RollEnd.{RollEnd}}
+use Rattle.log_commands.{specs.Roll.{AreOnRoll, Reads}, proofs.Rolls.{none_follows}}
 
 -- what was handed out was read from the bytes taken
 pub receipts_so_far : (roll : List ℕ) (place : Place) (rest : List ℕ) (receipts : List Record)
@@ -16,13 +12,13 @@ receipts_so_far roll place rest receipts h =
     (subst (λ (t : List ℕ). Reads (h.taken ++ []) receipts t) (append-nil place.ahead)
     (h.reads [] (none_follows (is_some place.end))))
 
--- where nothing is ahead, they are the receipts of the bytes taken
+-- if nothing is ahead, they are the receipts of the bytes taken
 pub receipts_taken : (roll : List ℕ) (place : Place) (rest : List ℕ) (receipts : List Record)
     → (h : HasRead roll place rest receipts) → place.ahead ≡ [] → AreOnRoll receipts h.taken
 receipts_taken roll place rest receipts h none =
     subst (λ (t : List ℕ). Reads h.taken receipts t) none (receipts_so_far roll place rest receipts h)
 
--- and of the whole roll, where it was read to its end
+-- and of the whole roll if it was read to its end
 pub receipts_of_all : (roll : List ℕ) (place : Place) (rest : List ℕ) (receipts : List Record)
     → HasRead roll place rest receipts → place.ahead ≡ [] → place.end ≡ Some Whole → AreOnRoll receipts roll
 receipts_of_all roll place rest receipts h none whole =

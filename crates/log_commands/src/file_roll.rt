@@ -1,7 +1,6 @@
 //! Files the receipts of a roll.
-ghost use Rattle.std.specs.Prelude.{◌≡◌, ℕ, Ok, IfOk, OnOk, OnErr};
-ghost use Rattle.outside.specs.Reading.{LeavesOthers};
-ghost use Rattle.outside.specs.Faults.{HasCause, MayRise, Rose};
+ghost use Rattle.std.specs.Prelude.{ℕ, ◌≡◌, IfOk, Ok, OnErr, OnOk};
+ghost use Rattle.{outside.specs.Reading.{LeavesOthers}, log_commands.specs.Common.{HasCause, MayRise, Rose}};
 ghost use Rattle.log_commands.specs.Filings.{FailsInRoll, FilesRoll, IsLast, MayHaveFailed};
 
 use crate::filing::Filing;
@@ -18,13 +17,13 @@ pub(crate) enum FileEnd {
     Filed(u64),
     /// The roll's receipt with this number, from 1 on, is of another taxi.
     OtherTaxi(u64),
-    /// As many bytes as a roll may have were taken, and its end wasn't told.
+    /// As many bytes as a roll may have were taken, and its end wasn't seen.
     TooLong,
     /// A read failed.
     ReadFault,
 }
 
-/// How the filing ends where the roll ends so.
+/// How the filing ends if the roll ends so.
 fn file_end(end: RollEnd, filed: u64) -> FileEnd
     ensures whole { end ≡ RollEnd.Whole → result ≡ FileEnd.Filed filed }
     ensures too_long { end ≡ RollEnd.TooLong → result ≡ FileEnd.TooLong }
@@ -37,8 +36,8 @@ fn file_end(end: RollEnd, filed: u64) -> FileEnd
     }
 }
 
-/// Files the receipts of the roll of a word behind the log's end: those of its taxi that are newer than the
-/// newest record, up to the first of another taxi.
+/// Files the receipts of the roll of a word behind the end of the log: those of its taxi that are newer than the newest
+/// record, up to the first of another taxi.
 pub(crate) fn file_roll<F: Files, G: Board<LOG_SIZE, L>, L: Ledger>(
     tail: &mut Tail,
     files: &mut F,

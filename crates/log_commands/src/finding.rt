@@ -1,17 +1,11 @@
 //! The end of the log, found by a scan.
-ghost use Rattle.std.specs.Prelude.{◌≡◌, ◌≢◌, ◌↔◌, ℕ, ◌+◌, ◌≤◌, List, Some, IfOk, IfSome, Err};
-ghost use Rattle.outside.specs.Faults.{RisesOnlyIf};
-ghost use Rattle.slot_store.specs.Syncs.{IsAsHeld, LeavesFromSync, ReadsOnly};
-ghost use Rattle.log_commands.specs.Appends.{IsStill};
-ghost use Rattle.log_commands.specs.Filings.{IsLast, IsTailOf, newest_of};
-ghost use Rattle.log_commands.specs.LogList.{EndsWith, StandsAt, StandsFor};
-ghost use Rattle.log_commands.specs.LogScan.{IsBroken, IsLowestBad, IsContentInRange};
-ghost use Rattle.log_commands.specs.Record.{Record, IsRecord};
-ghost use Rattle.log_commands.specs.declared.scanning.Content.TheVariants.{Filled};
+ghost use Rattle.std.specs.Prelude.{ℕ, ◌+◌, ◌↔◌, ◌≡◌, ◌≢◌, ◌≤◌, Err, IfOk, IfSome, List, Some};
+ghost use Rattle.log_commands.specs.{Appends.{IsStill}, declared.scanning.Content.TheVariants.{Filled}};
+ghost use Rattle.log_commands.specs.{Common.{IsAsHeld, LeavesFromSync, ReadsOnly, RisesOnlyIf}, LogRow.{AreEntries}};
+ghost use Rattle.log_commands.specs.{Filings.{IsLast, IsTailOf, newest_of}, LogList.{EndsWith, StandsAt, StandsFor}};
+ghost use Rattle.log_commands.specs.{LogScan.{IsBroken, IsContentInRange, IsLowestBad}, Record.{IsRecord, Record}};
+ghost use Rattle.log_commands.specs.declared.finding.FindFault.{FindFault, TheVariants.{Broken, LogFault}};
 ghost use Rattle.log_commands.specs.declared.scanning.ScanFault.TheVariants.{BadSlot, DeviceFailed};
-ghost use Rattle.log_commands.specs.declared.finding.FindFault.{FindFault};
-ghost use Rattle.log_commands.specs.declared.finding.FindFault.TheVariants.{Broken, LogFault};
-ghost use Rattle.log_commands.specs.LogRow.{AreEntries};
 
 use crate::entries::read_entries;
 use crate::log_record::LogRecord;
@@ -23,7 +17,7 @@ use outside::{Board, Failed, LOG_SIZE};
 use std::sync::ledger::Ledger;
 use taxi_units::Steps;
 
-/// The record that a slot holds, where it is at this place in the log.
+/// The record that a slot holds, if it is at this place in the log.
 fn record_at(last: u64, content: Content) -> Option<LogRecord>
     requires { IsContentInRange content }
     ensures record { (it : Record) → content ≡ Filled last it → result ≡ Some it }
@@ -35,7 +29,7 @@ fn record_at(last: u64, content: Content) -> Option<LogRecord>
     }
 }
 
-/// The newest record, which is at this place in the log; none where the place is 0.
+/// The newest record, which is at this place in the log; none if the place is 0.
 fn read_newest<G: Board<LOG_SIZE, L>, L: Ledger>(
     last: u64,
     log: &mut G,
@@ -94,7 +88,7 @@ fn fault_of(fault: ScanFault) -> FindFault
     }
 }
 
-/// The end of a log whose slots are known, and that was synced. Nothing is written.
+/// The end of a log whose slots are known, and which was synced. Nothing is written.
 fn tail_of<G: Board<LOG_SIZE, L>, L: Ledger>(
     entries: &[Option<Entry>; SLOTS],
     log: &mut G,
@@ -127,11 +121,11 @@ fn tail_of<G: Board<LOG_SIZE, L>, L: Ledger>(
     }
 }
 
-/// The end of the log, by one sync and then a scan: the list that it stands for is the one that its image
-/// stands for at the call's start. `BadSlot` names the lowest slot that is open and holds no record at a
-/// place whose slot it is, and else `Broken` comes where the log stands for no list. Nothing is written:
-/// from the sync on a cut leaves what the log held before the call. `LogFault` comes exactly where the
-/// count of faults rose, which it does by one.
+/// Finds the end of the log by one sync and then a scan. The list for which it stands is that of its image at the
+/// call's start. Nothing is written: from the sync on a cut leaves what the log held before the call.
+///
+/// `BadSlot` names the lowest slot that is open and holds no record at a place whose slot it is. Else `Broken` comes if
+/// the log stands for no list. `LogFault` comes exactly if the count of faults rose, which it does by one.
 pub(crate) fn find_tail<G: Board<LOG_SIZE, L>, L: Ledger>(
     log: &mut G,
     steps: &mut Steps<L>,

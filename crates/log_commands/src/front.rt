@@ -1,13 +1,12 @@
 //! A receipt at the front of a part of a roll.
-ghost use Rattle.std.specs.Prelude.{◌≡◌, ◌≢◌, ℕ, ◌<◌, ◌≤◌, ◌++◌, length, drop, slice_index, IfSome, IfNone};
-ghost use Rattle.log_commands.specs.Record.{IsRecord};
-ghost use Rattle.log_commands.specs.Roll.{BeginsWithNone};
+ghost use Rattle.std.specs.Prelude.{ℕ, ◌++◌, ◌<◌, ◌≡◌, ◌≢◌, ◌≤◌, IfNone, IfSome, drop, length, slice_index};
+ghost use Rattle.log_commands.specs.{Record.{IsRecord}, Roll.{BeginsWithNone}};
 
 use crate::log_record::LogRecord;
 use arrayvec::ArrayVec;
 use receipt_reading::receipt_in_front;
 
-/// How many bytes stand before the first with which a receipt can begin: all, where there is none.
+/// How many bytes are in front of the first with which a receipt can begin: all if there is none.
 pub(crate) fn before_letter(text: &[u8]) -> usize
     ensures within { result ≤ length text.now }
     ensures others { (k : ℕ) → k < result → slice_index text.now k ≢ 82 }

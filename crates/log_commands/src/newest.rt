@@ -1,7 +1,6 @@
 //! The place of the newest record of a log.
-ghost use Rattle.std.specs.Prelude.{◌≡◌, ◌⊎◌, ℕ, ◌≤◌, List};
-ghost use Rattle.log_commands.specs.LogList.{StandsAt};
-ghost use Rattle.log_commands.specs.LogRow.{AreEntries, IsAtMost, IsPlaceOf};
+ghost use Rattle.std.specs.Prelude.{ℕ, ◌≡◌, ◌≤◌, ◌⊎◌, List};
+ghost use Rattle.log_commands.specs.{LogList.{StandsAt}, LogRow.{AreEntries, IsAtMost, IsPlaceOf}};
 
 use crate::scanning::{Entry, SLOTS};
 
@@ -17,8 +16,8 @@ fn greater(place: u64, entry: Option<Entry>) -> u64
     }
 }
 
-/// The greatest place of the entries, and 0 where all slots are closed. Where the log stands for a list, it
-/// is the place of its newest record, and 0 of the empty list.
+/// The greatest place of the entries, and 0 if all slots are closed. If the log stands for a list, it is the place of
+/// its newest record, and 0 for the empty list.
 pub(crate) fn newest_place(entries: &[Option<Entry>; SLOTS]) -> u64
     ensures { (image : List ℕ) (last : ℕ) → AreEntries image entries.now → StandsAt image last → last ≡ result }
 {

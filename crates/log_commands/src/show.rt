@@ -1,12 +1,7 @@
 //! Prints the receipts of the log.
-ghost use Rattle.std.specs.Prelude.{◌≡◌, ◌+◌, ◌*◌, ◌^◌, ◌<◌, ◌≤◌, ◌++◌, List, length, OnOk};
-ghost use Rattle.outside.specs.Faults.{HasCause};
-ghost use Rattle.outside.specs.Printing.{Begins};
-ghost use Rattle.outside.specs.Runs.{KeepsStore};
-ghost use Rattle.log_commands.specs.LogList.{AreInSlots};
-ghost use Rattle.log_commands.specs.Record.{Record};
-ghost use Rattle.log_commands.specs.Showing.{texts_of};
-ghost use Rattle.log_commands.specs.Slots.{HasRecord, slot_of};
+ghost use Rattle.std.specs.Prelude.{◌*◌, ◌++◌, ◌+◌, ◌<◌, ◌^◌, ◌≡◌, ◌≤◌, List, OnOk, length};
+ghost use Rattle.log_commands.specs.{Common.{Begins, HasCause, KeepsStore}, Slots.{HasRecord, slot_of}};
+ghost use Rattle.log_commands.specs.{LogList.{AreInSlots}, Record.{Record}, ShownLog.{texts_of}};
 
 use crate::log_record::LogRecord;
 use crate::scanning::{Content, SLOTS, read_slot};
@@ -37,9 +32,8 @@ fn show_one<G: Board<LOG_SIZE, L>, L: Ledger>(
     }
 }
 
-/// Prints the texts of a number of records of the log, which stand one after another from a place on. Nothing
-/// is written, and `Failed` comes exactly where the count of faults rose, by one: a beginning of the texts is
-/// printed then.
+/// Prints the texts of a number of records of the log, which are one after another from a place on. Nothing is written.
+/// `Failed` comes exactly if the count of faults rose, by one: a beginning of the texts is printed then.
 pub(crate) fn show_records<G: Board<LOG_SIZE, L>, L: Ledger>(
     first: u64,
     count: u64,

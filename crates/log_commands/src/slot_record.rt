@@ -1,8 +1,7 @@
 //! A record's bytes in its slot, behind the gate.
-ghost use Rattle.std.specs.Prelude.{◌≡◌, ℕ, ◌+◌, ◌≤◌, ◌↔◌, length, take, drop, Some, IsTrue};
-ghost use Rattle.arrayvec.specs.ArrayVec.{array_vec_len};
-ghost use Rattle.log_commands.specs.Record.{Record, IsRecord};
-ghost use Rattle.log_commands.specs.Slots.{Spells, IsRecordOf, spelling};
+ghost use Rattle.std.specs.Prelude.{ℕ, ◌+◌, ◌↔◌, ◌≡◌, ◌≤◌, IsTrue, Some, drop, length, take};
+ghost use Rattle.{arrayvec.specs.ArrayVec.{array_vec_len}, log_commands.specs.Slots.{IsRecordOf, Spells, spelling}};
+ghost use Rattle.log_commands.specs.Record.{IsRecord, Record};
 
 use crate::log_record::{LONGEST, LogRecord};
 use arrayvec::ArrayVec;
@@ -49,8 +48,7 @@ fn spells(bytes: &[u8], place: u64, it: &LogRecord) -> bool
     spelled(place, it.text.as_slice()).as_slice() == bytes
 }
 
-/// The place in the log and the record that the bytes behind a slot's gate are. `None` exactly where
-/// they are none.
+/// The place in the log and the record that the bytes behind a slot's gate are. `None` exactly if they are none.
 pub(crate) fn record_in(bytes: &[u8]) -> Option<(u64, LogRecord)>
     requires { length bytes.now ≡ 511 }
     ensures { (place : ℕ) (it : Record) → (result ≡ Some (place, it)) ↔ Spells bytes.now place it }

@@ -1,9 +1,7 @@
 //! The end of the log, as it is kept in memory while receipts are filed.
-ghost use Rattle.std.specs.Prelude.{◌≡◌, ◌+◌, ◌^◌, ◌<◌, ◌≤◌, [], ◌∷◌, Ok, OnOk, OnErr};
-ghost use Rattle.outside.specs.Faults.{HasCause};
-ghost use Rattle.log_commands.specs.Filed.{IsNewer, IsOther};
-ghost use Rattle.log_commands.specs.Filings.{FilesTo, IsLast, LeavesSome};
-ghost use Rattle.log_commands.specs.Record.{IsRecord};
+ghost use Rattle.std.specs.Prelude.{[], ◌+◌, ◌<◌, ◌^◌, ◌∷◌, ◌≡◌, ◌≤◌, Ok, OnErr, OnOk};
+ghost use Rattle.log_commands.specs.{Common.{HasCause}, Record.{IsRecord}};
+ghost use Rattle.log_commands.specs.{Filed.{IsNewer, IsOther}, Filings.{FilesTo, IsLast, LeavesSome}};
 
 use crate::appending::append;
 use crate::filing::{Filing, filing_of};
@@ -12,8 +10,8 @@ use outside::{Board, Failed, LOG_SIZE};
 use std::sync::ledger::Ledger;
 use taxi_units::Steps;
 
-/// The end of the log: the place of its newest record, 0 where it has none; whether the slot of the next
-/// place is open; the newest record; and how many records have been filed.
+/// The end of the log: the place of its newest record, or 0 if it has none; whether the slot of the next place is open;
+/// the newest record; and how many records have been filed.
 #[derive(Drop)]
 pub(crate) struct Tail {
     pub(crate) last: u64,

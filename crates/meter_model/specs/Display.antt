@@ -1,13 +1,8 @@
 -- Rules: what the display shows, and when it does.
-use Rattle.std.specs.Prelude.{ℕ, Bool, true, false, ◌&&◌, ◌==◌, [], ◌∷◌, Option, Some, None, if◌then◌else◌}
-use Rattle.taxi_units.specs.declared.event.Operating.{Operating}
-use Rattle.taxi_units.specs.declared.event.Operating.TheVariants.{Off, ForHire, Hired, Stopped}
-use Rattle.taxi_units.specs.declared.receipt.Display.{Display}
-use Rattle.meter_model.specs.Meter.{Meter, Outcome}
+use Rattle.std.specs.Prelude.{[], ℕ, ◌&&◌, ◌==◌, ◌∷◌, Bool, None, Option, Some, false, if◌then◌else◌, true}
+use Rattle.meter_model.specs.{Common.{Display, ForHire, Hired, Off, Operating, Stopped}, Trip.{MeterTrip, fare_of}}
+use Rattle.meter_model.specs.{Meter.{Meter, Outcome}, Supplements.{amounts_of}, declared.act.Act.TheVariants.{Show}}
 use Rattle.meter_model.specs.Setting.{Setting}
-use Rattle.meter_model.specs.Supplements.{amounts_of}
-use Rattle.meter_model.specs.Trip.{MeterTrip, fare_of}
-use Rattle.meter_model.specs.declared.act.Act.TheVariants.{Show}
 
 -- the fare that the display shows is that of the trip, and 0 without one
 abbrev pub fare_shown : Setting → Option MeterTrip → ℕ
@@ -31,7 +26,7 @@ display_of s m = record {
   decimals = s.tariff.decimals;
 }
 
--- the test `same_operating` is true where two operating positions are the same
+-- the test `same_operating` is true if two operating positions are the same
 abbrev pub same_operating : Operating → Operating → Bool
 same_operating Off Off = true
 same_operating ForHire ForHire = true
@@ -39,7 +34,7 @@ same_operating Hired Hired = true
 same_operating Stopped Stopped = true
 same_operating a b = false
 
--- the test `same_display` is true where two displays are the same in each field
+-- the test `same_display` is true if two displays are the same in each field
 abbrev pub same_display : Display → Display → Bool
 same_display a b =
     same_operating a.operating b.operating
@@ -47,12 +42,12 @@ same_display a b =
     && (a.zone == b.zone
     && (a.fare == b.fare && (a.supplements == b.supplements && a.decimals == b.decimals))))
 
--- the test `is_shown` is true where a display is the one that was shown last
+-- the test `is_shown` is true if a display is the one that was shown last
 abbrev pub is_shown : Option Display → Display → Bool
 is_shown None new = false
 is_shown (Some old) new = same_display old new
 
--- the meter shows its display where it differs from the one that was shown last, and remembers it
+-- the meter shows its display if it differs from the one that was shown last, and remembers it
 abbrev pub shown : Setting → Meter → Outcome
 shown s m = record {
   next = record m { shown = Some (display_of s m) };

@@ -1,16 +1,8 @@
 -- Rules: a run, how it opens, its events one after the other, and the supply drop at its end.
-use Rattle.std.specs.Prelude.{List, [], ◌∷◌, None, option_map}
-use Rattle.taxi_units.specs.Time.{first_second}
-use Rattle.taxi_units.specs.declared.event.Event.{Event}
-use Rattle.taxi_units.specs.declared.event.Operating.{Operating}
-use Rattle.taxi_units.specs.declared.event.Operating.TheVariants.{Off}
-use Rattle.totals_record.specs.declared.durable_state.Durable.{Durable}
-use Rattle.meter_model.specs.Meter.{Meter, Outcome, ◌>>=◌, quiet}
-use Rattle.meter_model.specs.Setting.{Setting}
-use Rattle.meter_model.specs.Step.{step}
-use Rattle.meter_model.specs.Supply.{supply_dropped}
-use Rattle.meter_model.specs.Trip.{trip_of}
-use Rattle.meter_model.specs.declared.act.Act.{Act}
+use Rattle.std.specs.Prelude.{[], ◌∷◌, List, None, option_map}
+use Rattle.{taxi_units.specs.Time.{first_second}, meter_model.specs.Common.{Act, Durable, Event, Off, Operating}}
+use Rattle.meter_model.specs.{Meter.{◌>>=◌, Meter, Outcome, quiet}, Setting.{Setting}, Supply.{supply_dropped}}
+use Rattle.meter_model.specs.{Step.{step}, Trip.{trip_of}}
 
 -- a meter is opened before the supply first comes, with what the store has: off, at the first second, with the held
 -- trip
@@ -38,13 +30,13 @@ run s (event ∷ events) m = step s event m >>= run s events
 abbrev pub run_both : Setting → (first second : List Event) → Meter → Outcome
 run_both s first second m = run s first m >>= run s second
 
--- a run ends in an operating position with a supply drop, where the meter is powered, and with nothing where it is off
+-- a run ends in an operating position with a supply drop if the meter is powered, and with nothing if it is off
 abbrev pub ended_in : Setting → Operating → Meter → Outcome
 ended_in s Off m = quiet m
 ended_in s operating m = supply_dropped s m
 
--- a run ends in the meter's operating position: with a supply drop where the meter is powered, and with nothing where
--- it is off
+-- a run ends in the meter's operating position with a supply drop if the meter is powered, and with nothing if it is
+-- off
 abbrev pub ended : Setting → Meter → Outcome
 ended s m = ended_in s m.operating m
 

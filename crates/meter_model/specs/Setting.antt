@@ -1,18 +1,13 @@
 -- Rules: what the meter goes by, its tariff and its secured parameters.
-use Rattle.std.specs.Prelude.{◌≡◌, ℕ, ◌*◌, List, [], ◌∷◌, ℤ}
-use Rattle.drive_modes.specs.declared.charges.Mode.{Mode}
-use Rattle.drive_modes.specs.declared.meterage.Rounding.{Rounding}
-use Rattle.interval_clock.specs.LocalTime.{local_second, local_time_of}
-use Rattle.interval_clock.specs.declared.local_time.LocalTime.{LocalTime}
-use Rattle.seal_record.specs.declared.params.Params.{Params}
-use Rattle.seal_record.specs.declared.seal.Seal.{Seal}
-use Rattle.tariff_check.specs.SoundTariff.{SoundTariff, sound_of}
-use Rattle.tariff_syntax.specs.Tree.{Tree}
-use Rattle.taxi_units.specs.Time.{first_second}
-use Rattle.taxi_units.specs.declared.receipt.Stamp.{Stamp}
+use Rattle.std.specs.Prelude.{[], ℕ, ℤ, ◌*◌, ◌∷◌, ◌≡◌, List}
+use Rattle.{taxi_units.specs.{Time.{first_second}, declared.receipt.Stamp.{Stamp}}, tariff_syntax.specs.Tree.{Tree}}
+use Rattle.drive_modes.specs.declared.{charges.Mode.{Mode}, meterage.Rounding.{Rounding}}
+use Rattle.interval_clock.specs.{LocalTime.{local_second, local_time_of}, declared.local_time.LocalTime.{LocalTime}}
+use Rattle.seal_record.specs.declared.{params.Params.{Params}, seal.Seal.{Seal}}
+use Rattle.{tariff_check.specs.SoundTariff.{sound_of}, meter_model.specs.Common.{SoundTariff}}
 
 -- a setting has the parts of the tariff, the constant of the taximeter, how time and distance share in the fare, how
--- long a trip may be held without supply and go on then, and the offsets from UTC
+-- long a trip may be held without supply, and the offsets from UTC
 pub record Setting : Type 0 where
   pub tariff : SoundTariff
   pub constant : ℕ
@@ -35,7 +30,7 @@ abbrev pub under_offset : Tree → (k : ℕ) → Mode → (hold_time : ℕ) → 
 under_offset t k mode hold offset =
     record { tariff = sound_of t; constant = k; mode = mode; hold_time = hold; offsets = (first_second, offset) ∷ [] }
 
--- a seal is that of a setting where it secures the setting's constant, mode, hold and offsets
+-- a seal is that of a setting if it secures the setting's constant, mode, hold and offsets
 pub record IsSealOf (s : Setting) (seal : Seal) : Type 0 where
   pub constant : seal.params.constant ≡ s.constant
   pub mode : seal.params.mode ≡ s.mode

@@ -1,13 +1,13 @@
 //! What the meter does.
 ghost use Rattle.std.specs.Prelude.{◌<◌};
-ghost use Rattle.meter_model.specs.declared.act.Act.TheVariants.{Refuse};
+ghost use Rattle.meter_model.specs.Common.{Refuse};
 
 use arrayvec::ArrayVec;
 use taxi_units::{Display, Receipt, Why};
 use totals_record::{Entry, Trip};
 
 /// What the meter does at an event.
-#[derive(Clone, Copy, PartialEq, Eq)]
+#[derive(Clone, Copy)]
 pub enum Act {
     /// Shows a display.
     Show(Display),

@@ -1,15 +1,8 @@
 -- Rules: what a run does, deed by deed: the acts of the meter, and lines that the caller prints behind them.
-use Rattle.std.specs.Prelude.{ℕ, List, [], ◌∷◌, ◌++◌}
-use Rattle.receipt_text.specs.Receipts.{receipt_text}
-use Rattle.receipt_text.specs.SealParts.{part_of}
-use Rattle.receipt_text.specs.Texts.{display_text, refusal_text}
-use Rattle.seal_record.specs.declared.seal.Seal.{Seal}
-use Rattle.totals_record.specs.declared.change.Change.{Change}
-use Rattle.totals_record.specs.declared.durable_state.Durable.{Durable}
-use Rattle.meter_states.specs.Pairs.{commits_of}
-use Rattle.meter_model.specs.declared.act.Act.{Act}
-use Rattle.meter_model.specs.declared.act.Act.TheVariants.{Show, Refuse, Enter, Hold, Receipt}
-use Rattle.meter_run.specs.Commits.{after_act}
+use Rattle.std.specs.Prelude.{[], ℕ, ◌++◌, ◌∷◌, List}
+use Rattle.{meter_states.specs.Pairs.{commits_of}, receipt_text.specs.Receipts.{receipt_text}}
+use Rattle.meter_run.specs.{Commits.{after_act}, Common.{part_of_seal, refusal_text}}
+use Rattle.meter_run.specs.Common.{Act, Change, Durable, Enter, Hold, Receipt, Refuse, Seal, Show, display_text}
 
 -- a deed is an act of the meter, or the print of a line
 pub data Deed : Type 0 where
@@ -23,7 +16,7 @@ act_text seal (Show display) = display_text display
 act_text seal (Refuse why) = refusal_text why
 act_text seal (Enter entry) = []
 act_text seal (Hold trip) = []
-act_text seal (Receipt receipt) = receipt_text receipt (part_of seal)
+act_text seal (Receipt receipt) = receipt_text receipt (part_of_seal seal)
 
 -- the text that a deed prints under a seal is that of its act, or its line
 abbrev pub deed_text : Seal → Deed → List ℕ
@@ -45,7 +38,7 @@ abbrev pub after_deeds : Durable → List Deed → Durable
 after_deeds durable [] = durable
 after_deeds durable (deed ∷ deeds) = after_deeds (after_deed durable deed) deeds
 
--- the changes that a deed commits are those of its act, and none where it prints a line
+-- the changes that a deed commits are those of its act; the print of a line commits none
 abbrev pub changes_in : Deed → List Change
 changes_in (Does act) = commits_of (act ∷ [])
 changes_in (Prints line) = []

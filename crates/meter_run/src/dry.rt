@@ -1,24 +1,9 @@
 //! The meter whose durable state is a value.
-ghost use Rattle.std.specs.Prelude.{◌≡◌, ◌+◌, ◌≤◌, [], ◌∷◌, ◌++◌, All, length, OnOk, OnErr};
-ghost use Rattle.outside.specs.Faults.{HasCause};
-ghost use Rattle.outside.specs.Printing.{Begins};
-ghost use Rattle.outside.specs.Runs.{KeepsStore};
-ghost use Rattle.tariff_compile.specs.Tables.{TableParts};
-ghost use Rattle.seal_record.specs.declared.seal.Seal.{Seal};
-ghost use Rattle.meter_states.specs.Acts.{IsLawfulAct};
-ghost use Rattle.meter_states.specs.Core.{Meets};
-ghost use Rattle.meter_states.specs.Lawful.{IsLawful, IsTimely};
-ghost use Rattle.meter_model.specs.Meter.{Meter};
-ghost use Rattle.meter_model.specs.Setting.{Setting};
-ghost use Rattle.meter_states.specs.Setting.{IsSettingOf};
-ghost use Rattle.meter_model.specs.Step.{step};
-ghost use Rattle.taxi_units.specs.declared.event.Operating.TheVariants.{Off};
-ghost use Rattle.totals_record.specs.Ranges.{IsDurable};
-ghost use Rattle.totals_record.specs.States.{first_state};
-ghost use Rattle.meter_run.specs.BetweenEvents.{StandsWith};
-ghost use Rattle.meter_run.specs.Commits.{AreFor, IsFor, after_act, after_acts};
-ghost use Rattle.meter_run.specs.Dry.{BreaksOff, Carries, IsReady};
-ghost use Rattle.meter_run.specs.Texts.{shown_text, shown_texts};
+ghost use Rattle.std.specs.Prelude.{[], ◌++◌, ◌+◌, ◌∷◌, ◌≡◌, ◌≤◌, All, OnErr, OnOk, length};
+ghost use Rattle.meter_run.specs.{BetweenEvents.{StandsWith}, Dry.{BreaksOff, CarriesEvents, IsMeterReady}};
+ghost use Rattle.meter_run.specs.{Commits.{AreFor, IsFor, after_act, after_acts}, Texts.{shown_text, shown_texts}};
+ghost use Rattle.meter_run.specs.Common.{Begins, HasCause, IsDurable, IsLawful, IsLawfulAct, IsSettingOf, IsTimely};
+ghost use Rattle.meter_run.specs.Common.{KeepsStore, Meets, Meter, Off, Seal, Setting, TableParts, first_state, step};
 
 use crate::carrier::{Carrier, SealedTables};
 use crate::printing::{print_display, print_refusal};
@@ -84,7 +69,7 @@ fn perform_all<B: Board<STORE_SIZE, L>, L: Ledger>(
     Ok(())
 }
 
-/// Moves the core by an event, with its acts in a list that is handed in empty. An `Up` while the meter is off goes on
+/// Moves the core by an event, with its acts in a list that is handed in empty. If the meter is off, an `Up` goes on
 /// from the durable state. At most 48 steps.
 #[inline(always)]
 fn step_or_resume<L: Ledger>(
@@ -96,13 +81,13 @@ fn step_or_resume<L: Ledger>(
     acts: &mut Acts,
     steps: &mut Steps<L>,
 )
-    requires ready { IsReady tables.now seal.now core.old durable.now }
+    requires ready { IsMeterReady tables.now seal.now core.old durable.now }
     requires timely { IsTimely event }
     requires empty { acts.old.items ≡ [] }
     ensures lawful { IsLawful tables.now seal.now core.new }
     ensures ranges { All (IsLawfulAct tables.now durable.now.number) acts.new.items }
     ensures meets { (s : Setting) (m : Meter) → IsSettingOf s tables.now seal.now
-        → StandsWith s core.old.plain durable.now m → Meets s core.new.plain acts.new.items (step s event m) }
+        → StandsWith s core.old.state durable.now m → Meets s core.new.state acts.new.items (step s event m) }
     ensures steps { steps.new ≤ steps.old + 48 }
 {
     match supply_at(core, event) {
@@ -125,7 +110,7 @@ pub struct DryMeter {
 impl DryMeter {
     /// A meter before the supply first comes.
     pub fn new() -> DryMeter
-        ensures off { result.core.plain.operating ≡ Off }
+        ensures off { result.core.state.operating ≡ Off }
         ensures lawful { (tables : TableParts) (seal : Seal) → IsLawful tables seal result.core }
         ensures first { result.durable ≡ first_state }
         ensures range { IsDurable result.durable }
@@ -136,12 +121,12 @@ impl DryMeter {
         }
     }
 
-    /// Carries out an event: its display and its refusal are printed, its entry or held trip changes the
-    /// durable state, and its receipt is dropped. At most 64 steps. `acts` is a list to work with: what it had
-    /// is dropped, and what it has afterwards means nothing.
+    /// Carries out an event: prints its display and its refusal, changes the durable state by its entry or held trip,
+    /// and drops its receipt. At most 64 steps. `acts` is a list to work with: what it had is dropped, and what it has
+    /// afterwards means nothing.
     ///
-    /// `Failed` only where the board's count of faults rose; then a beginning of what the event shows was
-    /// printed, and the meter is done with.
+    /// `Failed` only if the board's count of faults rose. Then a beginning of what the event shows was printed, and the
+    /// meter is of no further use.
     #[inline(always)]
     pub fn carry_event<B: Board<STORE_SIZE, L>, L: Ledger>(
         &mut self,
@@ -152,10 +137,10 @@ impl DryMeter {
         board: &mut B,
         steps: &mut Steps<L>,
     ) -> Result<(), Failed>
-        requires ready { IsReady tables.now seal.now self.old.core self.old.durable }
+        requires ready { IsMeterReady tables.now seal.now self.old.core self.old.durable }
         requires timely { IsTimely event }
-        ensures ready { OnOk result (IsReady tables.now seal.now self.new.core self.new.durable) }
-        ensures carried { OnOk result (Carries B.Board tables.now seal.now self.old board.old (event ∷ [])
+        ensures ready { OnOk result (IsMeterReady tables.now seal.now self.new.core self.new.durable) }
+        ensures carried { OnOk result (CarriesEvents B.Board tables.now seal.now self.old board.old (event ∷ [])
             self.new board.new) }
         ensures broke_off { OnErr result (BreaksOff B.Board tables.now seal.now self.old board.old (event ∷ [])
             board.new) }
@@ -170,12 +155,12 @@ impl DryMeter {
 }
 
 impl<B: Board<STORE_SIZE, L>, L: Ledger> Carrier<B, L> for DryMeter {
-    ghost use Rattle.meter_run.specs.Dry.{Carries, BreaksOff, IsReady};
+    ghost use Rattle.meter_run.specs.Dry.{BreaksOff, CarriesEvents, IsMeterReady};
     ghost use Rattle.meter_run.specs.DryLaws.{breaks_later, breaks_sooner, carries_none, carries_then};
 
-    ghost ready = { λ r meter board. IsReady r.tables.now r.seal.now meter.core meter.durable };
+    ghost ready = { λ r meter board. IsMeterReady r.tables.now r.seal.now meter.core meter.durable };
 
-    ghost carried = { λ r x a events y b. Carries B.Board r.tables.now r.seal.now x a events y b };
+    ghost carried = { λ r x a events y b. CarriesEvents B.Board r.tables.now r.seal.now x a events y b };
 
     ghost broke_off = { λ r x a events b. BreaksOff B.Board r.tables.now r.seal.now x a events b };
 

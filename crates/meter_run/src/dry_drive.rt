@@ -1,12 +1,8 @@
 //! A drive that is carried out without a store.
-ghost use Rattle.std.specs.Prelude.{◌≡◌, ◌⊎◌, ℕ, ◌+◌, ◌≤◌, Err, OnOk};
-ghost use Rattle.outside.specs.Reading.{LeavesOthers};
-ghost use Rattle.outside.specs.Runs.{KeepsStore};
-ghost use Rattle.outside.specs.Faults.{HasCause, MayRise, RisesOnlyIf, Rose};
-ghost use Rattle.meter_model.specs.Run.{ended};
-ghost use Rattle.taxi_units.specs.declared.event.Operating.TheVariants.{Off};
-ghost use Rattle.meter_run.specs.Drives.{IsBoundedByDrive, RunsDrive, answer_of};
-ghost use Rattle.meter_run.specs.Dry.{IsReady, Prints, PrintsSome};
+ghost use Rattle.std.specs.Prelude.{ℕ, ◌+◌, ◌≡◌, ◌≤◌, ◌⊎◌, Err, OnOk};
+ghost use Rattle.{outside.specs.Faults.{RisesOnlyIf}, meter_run.specs.Drives.{IsBoundedByDrive, RunsDrive, answer_of}};
+ghost use Rattle.meter_run.specs.Common.{HasCause, KeepsStore, LeavesOthers, MayRise, Off, Rose, ended};
+ghost use Rattle.meter_run.specs.Dry.{IsMeterReady, Prints, PrintsSome};
 
 use crate::carrier::SealedTables;
 use crate::drive::carry_drive;
@@ -21,18 +17,17 @@ use std::sync::ledger::Ledger;
 use tariff_compile::Tables;
 use taxi_units::{Event, Steps};
 
-/// Reads the drive of a word to its end, in pieces of at most 512 bytes, and carries out the events of each piece
-/// before it reads the next one, under tables that were compiled with the seal's constant. The durable state is a
-/// value, which begins with number 1, totals of zero and no held trip; entries and held trips change it, and an `Up`
-/// goes on from it. Displays and refusals are printed, and no receipts; the store is left as it is. At most 64 steps
-/// for each event of the bytes that were taken, and for the supply drop at the end, if the supply is there then. It
+/// Carries out the drive of a word without a store, under tables that were compiled with the seal's constant. It reads
+/// pieces of at most 512 bytes, and carries out the events of each before it reads the next one. Displays and refusals
+/// are printed, and no receipts; the store is left as it is. The durable state is a value: it begins with number 1,
+/// totals of zero and no held trip, entries and held trips change it, and an `Up` goes on from it. At most 64 steps for
+/// each event of the bytes that were taken, and 64 for the supply drop at the end, if the supply is there then. It
 /// takes no memory itself; the devices may.
 ///
-/// `BadDrive` with the first line that is no line of a drive; `TooLong` where 2^40 bytes were taken, none
-/// of their lines is bad, and the end wasn't told; `ReadFault` only where the count of faults of the word
-/// rose; `BoardFault` only where the board's did. At the drive's end and before each of these but
-/// `BoardFault` the supply drops, where the meter is powered; where the board fails in that, the answer is
-/// `BoardFault`. All of this is this project's own.
+/// `BadDrive` with the first line that is no line of a drive. `TooLong` if 2^40 bytes were taken, none of their lines
+/// is bad, and the end wasn't told. `ReadFault` only if the count of faults of the word rose; `BoardFault` only if the
+/// board's did. At the drive's end and before each of these but `BoardFault` the supply drops, if the meter is powered;
+/// if the board fails in that, the answer is `BoardFault`. All of this is this project's own.
 pub fn dry_run<F: Files, B: Board<STORE_SIZE, L>, L: Ledger>(
     tables: &Tables,
     seal: &Seal,
@@ -64,7 +59,7 @@ pub fn dry_run<F: Files, B: Board<STORE_SIZE, L>, L: Ledger>(
     }
 }
 
-/// The supply drops, where the meter is powered. At most 64 steps, and none where it is off.
+/// The supply drops if the meter is powered. At most 64 steps, and none if it is off.
 fn drop_at_end<B: Board<STORE_SIZE, L>, L: Ledger>(
     meter: &mut DryMeter,
     tables: &Tables,
@@ -72,12 +67,12 @@ fn drop_at_end<B: Board<STORE_SIZE, L>, L: Ledger>(
     board: &mut B,
     steps: &mut Steps<L>,
 ) -> Result<(), Failed>
-    requires ready { IsReady tables.now seal.now meter.old.core meter.old.durable }
+    requires ready { IsMeterReady tables.now seal.now meter.old.core meter.old.durable }
     ensures whole { OnOk result (Prints B.Board tables.now seal.now ended meter.old board.old board.new) }
     ensures begun { PrintsSome B.Board tables.now seal.now ended meter.old board.old board.new }
     ensures cause { HasCause (B.faults board.old) (B.faults board.new) result }
     ensures steps { steps.new ≤ steps.old + 64 }
-    ensures idle { meter.old.core.plain.operating ≡ Off → steps.new ≡ steps.old }
+    ensures idle { meter.old.core.state.operating ≡ Off → steps.new ≡ steps.old }
     ensures store { KeepsStore B.Board board.old board.new }
 {
     if is_off(&meter.core) {
@@ -87,7 +82,7 @@ fn drop_at_end<B: Board<STORE_SIZE, L>, L: Ledger>(
     meter.carry_event(tables, seal, Event::Down, &mut acts, board, steps)
 }
 
-/// The answer of a run that stopped so.
+/// The answer of a run that stopped for a reason.
 pub(crate) fn answer(stop: Stop) -> Result<(), RunFault>
     ensures { result ≡ answer_of stop }
 {

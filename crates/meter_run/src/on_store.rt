@@ -1,13 +1,7 @@
 //! The meter on a store carries out events.
-ghost use Rattle.std.specs.Prelude.{◌≡◌, ◌≢◌, ℕ, ◌+◌, ◌≤◌, [], ◌∷◌};
-ghost use Rattle.meter_states.specs.Lawful.{IsTimely};
-ghost use Rattle.meter_model.specs.Step.{step};
-ghost use Rattle.taxi_units.specs.Time.{IsSecond};
-ghost use Rattle.taxi_units.specs.declared.event.Event.TheVariants.{Up};
-ghost use Rattle.taxi_units.specs.declared.event.Operating.TheVariants.{Off};
-ghost use Rattle.totals_record.specs.Ranges.{IsDurable};
-ghost use Rattle.meter_run.specs.OnStore.{Agrees, Attempts, IsReadyOn};
-ghost use Rattle.meter_run.specs.Supply.{StaysOff};
+ghost use Rattle.std.specs.Prelude.{[], ℕ, ◌+◌, ◌∷◌, ◌≡◌, ◌≢◌, ◌≤◌};
+ghost use Rattle.{taxi_units.specs.Time.{IsSecond}, meter_run.specs.Common.{IsDurable, IsTimely, Off, Up, step}};
+ghost use Rattle.meter_run.specs.{OnStore.{Agrees, Attempts, IsMeterReadyOn}, Supply.{StaysOff}};
 
 use crate::carrier::{Carrier, SealedTables};
 use crate::printing::print_refusal;
@@ -23,7 +17,7 @@ use std::sync::ledger::Ledger;
 use tariff_compile::Tables;
 use taxi_units::{Event, Steps, Why};
 
-/// The supply comes, and what the store has was read. At most 21 steps.
+/// Goes on from what was found in the store as the supply comes. At most 21 steps.
 fn resume<B: Board<STORE_SIZE, L>, L: Ledger>(
     meter: &mut StoreMeter,
     found: Known,
@@ -33,8 +27,8 @@ fn resume<B: Board<STORE_SIZE, L>, L: Ledger>(
     board: &mut B,
     steps: &mut Steps<L>,
 ) -> Result<(), Failed>
-    requires ready { IsReadyOn B.Board tables.now seal.now meter.old board.old }
-    requires off { meter.old.core.plain.operating ≡ Off }
+    requires ready { IsMeterReadyOn B.Board tables.now seal.now meter.old board.old }
+    requires off { meter.old.core.state.operating ≡ Off }
     requires range { IsDurable found.durable }
     requires agrees { Agrees B.Board tables.now found board.old }
     requires second { IsSecond second }
@@ -50,8 +44,8 @@ fn resume<B: Board<STORE_SIZE, L>, L: Ledger>(
     done
 }
 
-/// The supply comes while the meter is off: it goes on from what a scan of the store finds. Where it finds
-/// no durable state, or one whose held trip doesn't fit, the meter stays off. At most 40 steps.
+/// The supply comes while the meter is off, which goes on from what a scan of the store finds. If that is no durable
+/// state, or one whose held trip doesn't fit, the meter stays off. At most 40 steps.
 #[inline(never)]
 fn power_up<B: Board<STORE_SIZE, L>, L: Ledger>(
     meter: &mut StoreMeter,
@@ -61,8 +55,8 @@ fn power_up<B: Board<STORE_SIZE, L>, L: Ledger>(
     board: &mut B,
     steps: &mut Steps<L>,
 ) -> Result<(), Failed>
-    requires ready { IsReadyOn B.Board tables.now seal.now meter.old board.old }
-    requires off { meter.old.core.plain.operating ≡ Off }
+    requires ready { IsMeterReadyOn B.Board tables.now seal.now meter.old board.old }
+    requires off { meter.old.core.state.operating ≡ Off }
     requires second { IsSecond second }
     ensures attempts { Attempts B.Board tables.now seal.now (λ s m. step s (Up second) m) meter.old board.old result
         meter.new board.new }
@@ -76,13 +70,12 @@ fn power_up<B: Board<STORE_SIZE, L>, L: Ledger>(
 }
 
 impl StoreMeter {
-    /// Carries out an event on the board: its display, refusal and receipt are printed, its entry or held trip
-    /// is committed, and an `Up` while the meter is off goes on from what a scan of the store finds. At most
-    /// 64 steps. `acts` is a list to work with: what it had is dropped, and what it has afterwards means
-    /// nothing.
+    /// Carries out an event on the board: prints its display, refusal and receipt, and commits its entry or held trip.
+    /// If the meter is off, an `Up` goes on from what a scan of the store finds. At most 64 steps. `acts` is a list to
+    /// work with: what it had is dropped, and what it has afterwards means nothing.
     ///
-    /// `Failed` only where the board's count of faults rose; then the event was carried out up to some point of
-    /// its acts, and the meter is done with.
+    /// `Failed` only if the board's count of faults rose. Then the event was carried out up to some point of its acts,
+    /// and the meter is of no further use.
     #[inline(always)]
     pub fn carry_event<B: Board<STORE_SIZE, L>, L: Ledger>(
         &mut self,
@@ -93,11 +86,11 @@ impl StoreMeter {
         board: &mut B,
         steps: &mut Steps<L>,
     ) -> Result<(), Failed>
-        requires ready { IsReadyOn B.Board tables.now seal.now self.old board.old }
+        requires ready { IsMeterReadyOn B.Board tables.now seal.now self.old board.old }
         requires timely { IsTimely event }
         ensures attempts { Attempts B.Board tables.now seal.now (λ s m. step s event m) self.old board.old result
             self.new board.new }
-        ensures supply { StaysOff self.old.core.plain (event ∷ []) self.new.core.plain }
+        ensures supply { StaysOff self.old.core.state (event ∷ []) self.new.core.state }
         ensures steps { steps.new ≤ steps.old + 64 }
     {
         match supply_at(&self.core, event) {
@@ -115,12 +108,10 @@ impl StoreMeter {
 }
 
 impl<B: Board<STORE_SIZE, L>, L: Ledger> Carrier<B, L> for StoreMeter {
-    ghost use Rattle.meter_model.specs.Run.{run};
-    ghost use Rattle.meter_run.specs.OnStore.{CarriesEvents, IsReadyOn, StopsAmid};
-    ghost use Rattle.meter_run.specs.StoreLaws.{amid_sooner};
-    ghost use Rattle.meter_run.specs.SupplyLaws.{carried_later, carried_none, carried_then};
+    ghost use Rattle.meter_run.specs.{Common.{run}, OnStore.{CarriesEvents, IsMeterReadyOn, StopsAmid}};
+    ghost use Rattle.meter_run.specs.{StoreLaws.{amid_sooner}, SupplyLaws.{carried_later, carried_none, carried_then}};
 
-    ghost ready = { λ r meter board. IsReadyOn B.Board r.tables.now r.seal.now meter board };
+    ghost ready = { λ r meter board. IsMeterReadyOn B.Board r.tables.now r.seal.now meter board };
 
     ghost carried = { λ r x a events y b. CarriesEvents B.Board r.tables.now r.seal.now events x a y b };
 

@@ -1,16 +1,7 @@
 //! Reads what the store has as the supply comes.
-ghost use Rattle.std.specs.Prelude.{◌≡◌, ◌+◌, ◌≤◌, [], Some, IfOk};
-ghost use Rattle.std.specs.Option.{ForSome};
-ghost use Rattle.outside.specs.Faults.{HasCause};
-ghost use Rattle.meter_states.specs.Fits.{Fits};
-ghost use Rattle.seal_record.specs.declared.seal.Seal.{Seal};
-ghost use Rattle.slot_store.specs.declared.pair.Place.{Place};
-ghost use Rattle.totals_record.specs.Ranges.{IsDurable};
-ghost use Rattle.meter_store.specs.Stored.{HoldsState};
-ghost use Rattle.totals_record.specs.declared.durable_state.Durable.{Durable};
-ghost use Rattle.meter_run.specs.OnStore.{Agrees, WritesTotals};
-ghost use Rattle.meter_run.specs.Points.{GoesBy};
-ghost use Rattle.meter_run.specs.declared.stored.Known.{Known};
+ghost use Rattle.std.specs.{Option.{ForSome}, Prelude.{[], ◌+◌, ◌≡◌, ◌≤◌, IfOk, Some}};
+ghost use Rattle.meter_run.specs.Common.{Durable, Fits, HasCause, HoldsState, IsDurable, Known, Place, Seal};
+ghost use Rattle.meter_run.specs.{OnStore.{Agrees, WritesTotals}, Points.{GoesBy}};
 
 use crate::stored::Known;
 use meter_states::fits;
@@ -21,8 +12,8 @@ use tariff_compile::Tables;
 use taxi_units::Steps;
 use totals_record::Durable;
 
-/// Scans the pair of totals. `None` where it stands for no durable state, or for one whose held trip doesn't
-/// fit the tables: on a board that tells its image that comes only where the image says so. At most 19 steps.
+/// Scans the pair of totals. `None` if it stands for no durable state, or for one whose held trip doesn't fit the
+/// tables. On a board that tells its image, that comes only if the image says so. At most 19 steps.
 pub(crate) fn read_store<B: Board<STORE_SIZE, L>, L: Ledger>(
     tables: &Tables,
     board: &mut B,
@@ -56,7 +47,7 @@ pub(crate) fn read_store<B: Board<STORE_SIZE, L>, L: Ledger>(
     }
 }
 
-/// What was found, where its held trip fits. At most 16 steps.
+/// What was found, if its held trip fits. At most 16 steps.
 fn where_it_fits<L: Ledger>(known: Known, tables: &Tables, steps: &mut Steps<L>) -> Option<Known>
     ensures same { ForSome result (λ found. found ≡ known) }
     ensures fits { ForSome result (λ found. ForSome found.durable.hold (Fits tables.now)) }

@@ -1,31 +1,21 @@
 -- Rules: the cache of a core, which is what was looked up and when it still serves.
-use Rattle.std.specs.Prelude.{◌≡◌, ℕ, ◌≤◌, true}
-use Rattle.std.specs.Option.{ForSome}
-use Rattle.interval_clock.specs.LocalTime.{local_second, local_time_of}
-use Rattle.interval_clock.specs.declared.local_time.LocalTime.{LocalTime}
-use Rattle.seal_record.specs.declared.seal.Seal.{Seal}
-use Rattle.tariff_calendar.specs.Lists.{has_days, is_holiday}
-use Rattle.tariff_compile.specs.Near.{IsNear}
-use Rattle.tariff_compile.specs.Tables.{AreFit, IsInRangeFor, IsTablesOf, TableParts, rate_by}
-use Rattle.tariff_syntax.specs.Tree.{Tree}
-use Rattle.tariff_syntax.specs.Writable.{IsFromTo}
-use Rattle.tariff_syntax.specs.declared.context.Context.{Context}
-use Rattle.meter_states.specs.Core.{CoreData}
-use Rattle.meter_states.specs.declared.cache.Cache.{Cache}
-use Rattle.meter_states.specs.declared.cache.CachedTime.{CachedTime}
-use Rattle.meter_states.specs.declared.cache.CachedRate.{CachedRate}
+use Rattle.std.specs.{Option.{ForSome}, Prelude.{ℕ, ◌≡◌, ◌≤◌, true}}
+use Rattle.interval_clock.specs.{LocalTime.{local_second, local_time_of}, declared.local_time.LocalTime.{LocalTime}}
+use Rattle.{tariff_syntax.specs.Writable.{IsFromTo}, tariff_calendar.specs.Lists.{has_days, is_holiday}}
+use Rattle.meter_states.specs.Common.{AreFit, Cache, CachedRate, CachedTime, Context, IsInRangeFor, IsNear, IsTablesOf}
+use Rattle.meter_states.specs.{Common.{Seal, TableParts, Tree, rate_by}, Core.{CoreData}}
 
--- a core beside its cache has its plain data, and what was looked up for it last
+-- a core beside its cache has its own state, and what was looked up for it last
 pub record CachedCore : Type 0 where
-  pub plain : CoreData
+  pub state : CoreData
   pub cache : Cache
 
--- a second has this local time, by the sealed offsets
+-- the local time of a second is that by the sealed offsets
 abbrev pub sealed_time : Seal → (second : ℕ) → LocalTime
 sealed_time seal second = local_time_of (local_second seal.params.offsets second)
 
--- a cached time is that of its second where it has the weekday, the place in the year, the minute and the holiday of
--- the second's local time
+-- a cached time is that of its second if it has the weekday, the place in the year, the minute and the holiday of the
+-- second's local time
 pub record IsCachedTimeOf (tables : TableParts) (seal : Seal) (local : CachedTime) : Type 0 where
   pub weekday : local.weekday ≡ (sealed_time seal local.second).weekday
   pub month_day : local.month_day ≡ (sealed_time seal local.second).month_day
@@ -37,14 +27,14 @@ pub record IsCachedTimeOf (tables : TableParts) (seal : Seal) (local : CachedTim
   pub minutes : local.minute ≤ 1439
   pub holidays : local.holiday ≡ true → has_days tables.cuts ≡ true
 
--- a cached rate lasts where its weights are those of each context that is near its first one, and are fit
+-- a cached rate lasts if its weights are those of each context that is near its first one, and are fit
 pub record IsCachedRateOf (tables : TableParts) (rate : CachedRate) : Type 0 where
   pub near : (t : Tree) (x : Context) → IsTablesOf t tables → IsInRangeFor tables x
       → IsNear rate.lasting.further rate.lasting.longer rate.first x
       → rate.lasting.weights ≡ rate_by t tables.constant x
   pub fit : AreFit tables.measure rate.lasting.weights
 
--- a cache is one of tables and a seal where the time is one of both, if there is one, and the rate one of the tables
+-- a cache is one of tables and a seal if its time, if any, is one of both, and its rate, if any, one of the tables
 pub record IsCacheOf (tables : TableParts) (seal : Seal) (cache : Cache) : Type 0 where
   pub local : ForSome cache.local (IsCachedTimeOf tables seal)
   pub rate : ForSome cache.rate (IsCachedRateOf tables)

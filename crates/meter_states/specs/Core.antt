@@ -1,16 +1,9 @@
--- Rules: the core as plain data, and which state of the meter it stands for.
-use Rattle.std.specs.Prelude.{◌≡◌, ◌≢◌, ◌⊎◌, ℕ, List, ◌++◌, Option, option_map, sum}
-use Rattle.taxi_units.specs.declared.event.Key.{Key}
-use Rattle.taxi_units.specs.declared.event.Operating.{Operating}
-use Rattle.taxi_units.specs.declared.event.Operating.TheVariants.{Off}
-use Rattle.taxi_units.specs.declared.receipt.Display.{Display}
-use Rattle.meter_model.specs.Meter.{Meter, Outcome}
-use Rattle.meter_model.specs.Setting.{Setting}
-use Rattle.meter_model.specs.Trip.{core_trip_of}
-use Rattle.meter_model.specs.declared.act.Act.{Act}
-use Rattle.meter_model.specs.declared.core_trip.CoreTrip.{CoreTrip}
+-- Rules: the core's own state, and which state of the meter it stands for.
+use Rattle.std.specs.Prelude.{ℕ, ◌++◌, ◌≡◌, ◌≢◌, ◌⊎◌, List, Option, option_map, sum}
+use Rattle.meter_states.specs.Common.{Act, CoreTrip, Display, Key, Meter, Off, Operating, Outcome, Setting}
+use Rattle.meter_states.specs.Common.{core_trip_of}
 
--- a core as plain data has counts in place of lists, the sums of the trip in place of its intervals, and the store's
+-- a core's own state has counts in place of lists, the sums of the trip in place of its intervals, and the store's
 -- number in place of what the store has
 pub record CoreData : Type 0 where
   pub operating : Operating
@@ -25,7 +18,7 @@ pub record CoreData : Type 0 where
   pub shown : Option Display
   pub trip : Option CoreTrip
 
--- the core of a state of the meter counts the pulses of its running interval and of its roaming, and has what a core
+-- the core of a state of the meter counts the pulses of its running interval and of its roaming; it has what a core
 -- keeps of its trip, the number of its store, and all else as the state has it
 abbrev pub core_of : Setting → Meter → CoreData
 core_of s m = record {
@@ -42,17 +35,17 @@ core_of s m = record {
   trip = option_map (core_trip_of s) m.trip;
 }
 
--- a core stands for a state where both are off, or neither is and the core is the state's
+-- a core stands for a state if both are off, or neither is and the core is the state's
 abbrev pub Stands : Setting → CoreData → Meter → Type 0
 Stands s core m = (core.operating ≡ Off) × (m.operating ≡ Off) ⊎ (m.operating ≢ Off) × (core ≡ core_of s m)
 
--- a powered core follows an outcome of a part of an event where it is the core of the outcome's state, and the
--- outcome's acts were appended
+-- a powered core follows an outcome of a part of an event if it is the core of the outcome's state, and the outcome's
+-- acts were appended
 pub record ComesToOutcome (s : Setting) (core : CoreData) (before acts : List Act) (o : Outcome) : Type 0 where
   pub state : core ≡ core_of s o.next
   pub done : acts ≡ before ++ o.acts
 
--- a core and acts meet an outcome where the core stands for the outcome's state and the acts are the outcome's
+-- a core and acts meet an outcome if the core stands for the outcome's state and the acts are the outcome's
 pub record Meets (s : Setting) (core : CoreData) (acts : List Act) (o : Outcome) : Type 0 where
   pub state : Stands s core o.next
   pub done : acts ≡ o.acts

@@ -3,11 +3,13 @@ pub mod Cache
 pub mod Core
 pub mod EqualStages
 pub mod Equals
+pub mod EventOnCore
 pub mod Fits
 pub mod Lawful
+pub mod MadeOf
 pub mod Pairs
 pub mod Refusals
 pub mod Setting
 pub mod Stages
-pub mod Stepping
 pub mod Supplements
+pub mod Common

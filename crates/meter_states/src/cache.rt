@@ -1,16 +1,8 @@
 //! The cache of a core: the local time of a second, and what an interval weighs while no cut is passed.
-ghost use Rattle.std.specs.Prelude.{◌≡◌, ◌≢◌, ◌≤◌, ◌+◌, ◌↔◌, IfSome, IsNone, IsTrue, Some};
-ghost use Rattle.std.specs.Option.{ForSome};
-ghost use Rattle.tariff_compile.specs.Near.{IsNear};
-ghost use Rattle.tariff_compile.specs.Tables.{AreFit, IsInRangeFor, IsTablesOf, TableParts, rate_by};
-ghost use Rattle.tariff_syntax.specs.Tree.{Tree};
-ghost use Rattle.tariff_syntax.specs.declared.context.Context.{Context};
-ghost use Rattle.seal_record.specs.declared.seal.Seal.{Seal};
-ghost use Rattle.taxi_units.specs.Time.{IsSecond};
-ghost use Rattle.meter_states.specs.EqualStages.{LastsFrom};
-ghost use Rattle.meter_states.specs.Cache.{IsCachedRateOf, IsCachedTimeOf, IsCacheOf};
-ghost use Rattle.meter_states.specs.declared.cache.CachedTime.{CachedTime};
-ghost use Rattle.meter_states.specs.declared.cache.CachedRate.{CachedRate};
+ghost use Rattle.std.specs.{Option.{ForSome}, Prelude.{◌+◌, ◌↔◌, ◌≡◌, ◌≢◌, ◌≤◌, IfSome, IsNone, IsTrue, Some}};
+ghost use Rattle.meter_states.specs.Cache.{IsCacheOf, IsCachedRateOf, IsCachedTimeOf};
+ghost use Rattle.meter_states.specs.Common.{AreFit, CachedRate, CachedTime, Context, IsInRangeFor, IsNear, IsSecond};
+ghost use Rattle.meter_states.specs.{Common.{IsTablesOf, Seal, TableParts, Tree, rate_by}, EqualStages.{LastsFrom}};
 
 use drive_modes::Weights;
 use interval_clock::civil;
@@ -85,7 +77,7 @@ fn is_near(rate: &CachedRate, x: &Context) -> bool
         && first.zone == x.zone
 }
 
-/// The weights of this rate, and how far they last from a context that they hold for.
+/// The weights of this rate, and how far they last from a context for which they hold.
 fn lasting_from(rate: &CachedRate, x: &Context) -> Lasting
     requires { IsNear rate.now.lasting.further rate.now.lasting.longer rate.now.first x.now }
     ensures weights { result.weights ≡ rate.now.lasting.weights }
@@ -111,7 +103,7 @@ impl Cache {
         }
     }
 
-    /// The local time of a second, where it is kept.
+    /// The local time of a second, if it is kept.
     pub(crate) fn cached_local(&self, second: u64) -> Option<CachedTime>
         ensures second { IfSome result (λ local. local.second ≡ second) }
         ensures kept { IfSome result (λ local. self.now.local ≡ Some local) }
@@ -123,8 +115,7 @@ impl Cache {
         }
     }
 
-    /// The weights of a context, and for how many further pulses and ticks they are the same, where that is
-    /// kept.
+    /// The weights of a context, and for how many more pulses and ticks they are the same, if that is kept.
     pub(crate) fn cached_rate(&self, x: &Context) -> Option<Lasting>
         ensures fit { IfSome result (λ lasting. (tables : TableParts) → ForSome self.now.rate (IsCachedRateOf tables)
             → AreFit tables.measure lasting.weights) }

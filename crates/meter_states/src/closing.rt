@@ -1,20 +1,12 @@
-//! Entries: of a trip that is closed, with its receipt directly behind, and of roaming.
-ghost use Rattle.std.specs.Prelude.{◌≡◌, ◌≢◌, ◌⊎◌, ◌<◌, ◌≤◌, ◌+◌, ℕ, All, None, Some, length};
-ghost use Rattle.seal_record.specs.declared.seal.Seal.{Seal};
-ghost use Rattle.taxi_units.specs.Time.{last_tick, longest_trip};
-ghost use Rattle.taxi_units.specs.declared.event.Operating.TheVariants.{ForHire};
-ghost use Rattle.taxi_units.specs.declared.receipt.Kind.TheVariants.{Roam};
-ghost use Rattle.meter_states.specs.Acts.{IsLawfulAct, StayLawful};
-ghost use Rattle.meter_model.specs.Closing.{closed, entry_of, receipt_of, roaming_checked, roaming_entered};
-ghost use Rattle.meter_model.specs.Closing.{trip_closed};
-ghost use Rattle.meter_states.specs.Core.{ComesToOutcome, core_of};
-ghost use Rattle.meter_states.specs.Lawful.{IsAmidEvent, IsBetweenEvents, IsPowered};
-ghost use Rattle.meter_model.specs.Meter.{Meter, entered, printed};
-ghost use Rattle.meter_model.specs.Setting.{Setting};
-ghost use Rattle.meter_states.specs.Setting.{IsSettingOf, IsTariffOf};
+//! Entries of roaming, and of closed trips with their receipts directly behind.
+ghost use Rattle.std.specs.Prelude.{ℕ, ◌+◌, ◌<◌, ◌≡◌, ◌≢◌, ◌≤◌, ◌⊎◌, All, None, Some, length};
+ghost use Rattle.{meter_model.specs.Meter.{entered, printed}, meter_states.specs.Common.{trip_closed}};
+ghost use Rattle.meter_states.specs.{Acts.{IsLawfulAct, StayLawful}, Lawful.{IsAmidEvent, IsBetweenEvents, IsPowered}};
+ghost use Rattle.meter_states.specs.Common.{ForHire, Meter, Roam, Seal, Setting, closed, entry_of_trip, last_tick};
+ghost use Rattle.meter_states.specs.Common.{longest_trip, receipt_of, roaming_amid, roaming_checked, roaming_entered};
+ghost use Rattle.meter_states.specs.{Core.{ComesToOutcome, core_of}, Setting.{IsSettingOf, IsTariffOf}};
 ghost use Rattle.meter_states.specs.Stages.{CarriesStage, FollowsStage, HasEntered, IsTripClosing, MayEnter};
 ghost use Rattle.meter_model.specs.Trip as model;
-ghost use Rattle.taxi_units.specs.Limits.{roaming_amid};
 
 use crate::meter_state::State;
 use crate::records::{Closing, entry, receipt, roaming_entry};
@@ -25,7 +17,7 @@ use tariff_compile::Tables;
 use taxi_units::{Kind, Operating, ROAMING_MOST, Steps};
 
 impl State {
-    /// The trip is closed, and the meter is for hire. At most 12 steps.
+    /// Closes the trip; the meter is then for hire. At most 12 steps.
     pub(crate) fn close<L: Ledger>(
         &mut self,
         closing: Closing,
@@ -52,7 +44,7 @@ impl State {
         }
     }
 
-    /// A trip is entered, and directly behind it the receipt is printed. At most 12 steps.
+    /// Enters a trip, and prints its receipt directly behind. At most 12 steps.
     pub(crate) fn close_trip<L: Ledger>(
         &mut self,
         closing: Closing,
@@ -78,7 +70,7 @@ impl State {
         self.print_receipt(closing, trip, tables, seal, acts, steps);
     }
 
-    /// A trip is entered.
+    /// Enters a trip.
     fn enter_trip(&mut self, kind: Kind, trip: &CoreTrip, tables: &Tables, acts: &mut Acts)
         requires trip { MayEnter tables.now self.old trip.now }
         requires kind { kind ≢ Roam }
@@ -88,13 +80,13 @@ impl State {
         ensures ranges { StayLawful tables.now self.old.number acts.old.items acts.new.items }
         ensures follows { (s : Setting) (m : Meter) (t : model.MeterTrip) → IsTariffOf s tables.now
             → trip.now ≡ model.core_trip_of s t → self.old ≡ core_of s m
-            → ComesToOutcome s self.new acts.old.items acts.new.items (entered (entry_of s kind m.position t) m) }
+            → ComesToOutcome s self.new acts.old.items acts.new.items (entered (entry_of_trip s kind m.position t) m) }
     {
         acts.push(Act::Enter(entry(kind, self.position, trip, tables)));
         self.number += 1;
     }
 
-    /// The receipt of a trip is printed. At most 12 steps.
+    /// Prints the receipt of a trip. At most 12 steps.
     fn print_receipt<L: Ledger>(
         &self,
         closing: Closing,
@@ -127,7 +119,7 @@ impl State {
         )));
     }
 
-    /// Roaming pulses are entered for hire where they are many.
+    /// Enters the roaming pulses for hire if they are many.
     pub(crate) fn check_roaming(&mut self, tables: &Tables, acts: &mut Acts)
         requires lawful { IsAmidEvent tables.now self.old }
         requires room { (length acts.old.items ≤ 1) ⊎ ((length acts.old.items ≤ 3) × (self.old.roam ≡ 0)) }
@@ -144,7 +136,7 @@ impl State {
         }
     }
 
-    /// Roaming pulses are entered, and are then none.
+    /// Enters the roaming pulses, of which there are none then.
     #[inline(never)]
     pub(crate) fn enter_roaming(&mut self, tables: &Tables, acts: &mut Acts)
         requires lawful { IsPowered tables.now last_tick roaming_amid 1 self.old }

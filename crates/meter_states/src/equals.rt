@@ -1,24 +1,12 @@
 //! Equal measuring intervals that are carried out at once.
-ghost use Rattle.std.specs.Prelude.{◌≡◌, ◌≤◌, ◌⊎◌, ◌↔◌, ◌+◌, [], IfSome, IsNone, IsTrue, Some};
-ghost use Rattle.std.specs.Option.{ForSome};
-ghost use Rattle.tariff_compile.specs.Near.{IsNear};
-ghost use Rattle.seal_record.specs.declared.seal.Seal.{Seal};
-ghost use Rattle.tariff_compile.specs.Tables.{AreFit, IsInRangeFor, TableParts, weights_in_force};
-ghost use Rattle.tariff_syntax.specs.declared.context.Context.{Context};
-ghost use Rattle.taxi_units.specs.declared.event.Operating.TheVariants.{ForHire, Hired, Stopped};
+ghost use Rattle.std.specs.{Option.{ForSome}, Prelude.{[], ◌+◌, ◌↔◌, ◌≡◌, ◌≤◌, ◌⊎◌, IfSome, IsNone, IsTrue, Some}};
+ghost use Rattle.meter_states.specs.{Cache.{IsCacheOf, IsCachedRateOf}, Lawful.{IsBetweenEvents, IsLawful}};
+ghost use Rattle.meter_states.specs.Common.{AreFit, CachedRate, Context, CoreTrip, ForHire, Hired, IsInRangeFor};
+ghost use Rattle.meter_states.specs.Common.{IsNear, Meter, Seal, Setting, Stopped, TableParts, context_of};
+ghost use Rattle.meter_states.specs.Common.{roaming_between, roaming_most, run, weights_in_force};
 ghost use Rattle.meter_states.specs.Core.{Meets, Stands, core_of};
-ghost use Rattle.meter_states.specs.EqualStages.{FollowsIntervals, HasTaken, LastsFrom};
+ghost use Rattle.meter_states.specs.{EqualStages.{FollowsIntervals, HasTaken, LastsFrom}, Setting.{IsSettingOf}};
 ghost use Rattle.meter_states.specs.Equals.{IsStill, MayBeCharged, MayGo, Outlasts, Serves, intervals_of, roams};
-ghost use Rattle.meter_states.specs.Cache.{IsCachedRateOf, IsCacheOf};
-ghost use Rattle.meter_model.specs.Interval.{context_of};
-ghost use Rattle.meter_states.specs.Lawful.{IsBetweenEvents, IsLawful};
-ghost use Rattle.meter_model.specs.Meter.{Meter};
-ghost use Rattle.meter_model.specs.Run.{run};
-ghost use Rattle.meter_model.specs.Setting.{Setting};
-ghost use Rattle.meter_states.specs.Setting.{IsSettingOf};
-ghost use Rattle.meter_states.specs.declared.cache.CachedRate.{CachedRate};
-ghost use Rattle.meter_model.specs.declared.core_trip.CoreTrip.{CoreTrip};
-ghost use Rattle.taxi_units.specs.Limits.{roaming_between, roaming_most};
 
 use crate::cache::Cache;
 use crate::core_state::Core;
@@ -31,25 +19,25 @@ use tariff_compile::{Lasting, Tables};
 use taxi_units::{LONGEST_TRIP, Operating, ROAMING_MOST};
 
 impl Core {
-    /// Carries out equal intervals of `pulses` pulses at once, and answers how many: all `count`, or so many
-    /// that one more may not go at once. They show, refuse and enter nothing. An interval may not go if
-    /// roaming is entered behind it, it is the trip's last, its charge moves the fare on by a display step, or
-    /// what the interval behind it weighs isn't known from the cache. None may if the meter is off, the clock
-    /// was read with another second or a pulse came since the last tick, a key waits, another display was shown
-    /// last, or an interval has more than 2,000 pulses. The tables' constant is the seal's. No steps. That rows of
-    /// intervals are carried out at once is this project's own.
+    /// Carries out equal intervals of `pulses` pulses at once, and answers how many: all `count`, or so many that one
+    /// more may not go at once. They show, refuse and enter nothing. An interval may not go if roaming is entered
+    /// behind it, it is the trip's last, its charge moves the fare on by a display step, or the cache doesn't know what
+    /// the interval behind it weighs. None may go if the meter is off, a key waits, another display was shown last, or
+    /// an interval has more than 2,000 pulses; nor if, since the last tick, the clock was read with another second or a
+    /// pulse came. The tables' constant is the seal's. No steps. That rows of intervals are carried out at once is this
+    /// project's own.
     #[inline(always)]
     pub fn equal_intervals(&mut self, tables: &Tables, seal: &Seal, pulses: u32, count: u32) -> u32
         requires lawful { IsLawful tables.now seal.now self.old }
         requires constant { tables.now.constant ≡ seal.now.params.constant }
         ensures lawful { IsLawful tables.now seal.now self.new }
         ensures most { result ≤ count }
-        ensures full { (result ≡ count) ⊎ ¬ MayGo tables.now seal.now self.old.cache pulses self.new.plain }
-        ensures same { (self.new.plain.operating ≡ self.old.plain.operating)
-            × (self.new.plain.number ≡ self.old.plain.number) }
+        ensures full { (result ≡ count) ⊎ ¬ MayGo tables.now seal.now self.old.cache pulses self.new.state }
+        ensures same { (self.new.state.operating ≡ self.old.state.operating)
+            × (self.new.state.number ≡ self.old.state.number) }
         ensures cache { self.new.cache ≡ self.old.cache }
-        ensures meets { (s : Setting) (m : Meter) → IsSettingOf s tables.now seal.now → Stands s self.old.plain m
-            → Meets s self.new.plain [] (run s (intervals_of pulses result) m) }
+        ensures meets { (s : Setting) (m : Meter) → IsSettingOf s tables.now seal.now → Stands s self.old.state m
+            → Meets s self.new.state [] (run s (intervals_of pulses result) m) }
     {
         if count == 0 || self.state.is_off() {
             return 0;
@@ -60,7 +48,7 @@ impl Core {
 }
 
 impl State {
-    /// Takes equal intervals at once, as many of these as may go, while the meter is powered.
+    /// Takes as many of these equal intervals at once as may go, while the meter is powered.
     #[inline(never)]
     fn take_equal(
         &mut self,
@@ -104,7 +92,7 @@ impl State {
             && is_shown(&self.shown, &display)
     }
 
-    /// As many of `count` equal intervals for hire as enter no roaming.
+    /// Takes as many of `count` equal intervals for hire as enter no roaming.
     fn roam_equal(&mut self, pulses: u32, count: u32) -> u32
         requires hire { self.old.operating ≡ ForHire }
         requires roam { self.old.roam ≤ roaming_between }
@@ -121,7 +109,7 @@ impl State {
         n
     }
 
-    /// As many of `count` equal intervals in Stopped as don't end the trip.
+    /// Takes as many of `count` equal intervals in Stopped as don't end the trip.
     fn pass_equal(&mut self, pulses: u32, count: u32) -> u32
         requires lawful { (tables : TableParts) × IsBetweenEvents tables self.old }
         requires stopped { self.old.operating ≡ Stopped }
@@ -140,7 +128,7 @@ impl State {
         n
     }
 
-    /// As many of `count` equal intervals in Hired as may be charged at once.
+    /// Takes as many of `count` equal intervals in Hired as may be charged at once.
     fn charge_equal(
         &mut self,
         cache: &Cache,
@@ -173,7 +161,7 @@ impl State {
         n
     }
 
-    /// What the running interval weighs, and for how many further pulses and ticks, where that is kept.
+    /// What the running interval weighs, and for how many more pulses and ticks, if that is kept.
     fn cached_rate(&self, cache: &Cache, tables: &Tables) -> Option<Lasting>
         requires lawful { IsBetweenEvents tables.now self.now }
         requires lasting { ForSome cache.now.rate (IsCachedRateOf tables.now) }

@@ -1,7 +1,6 @@
 //! Held trips: how they go on, and how long they may be held.
 ghost use Rattle.std.specs.Prelude.{◌≡◌, ◌≤◌, true};
-ghost use Rattle.taxi_units.specs.Time.{IsSecond};
-ghost use Rattle.meter_model.specs.Setting.{Setting, IsSealOf};
+ghost use Rattle.meter_states.specs.Common.{IsSealOf, IsSecond, Setting};
 ghost use Rattle.meter_model.specs.Supply as model;
 
 use seal_record::Seal;
@@ -19,7 +18,7 @@ pub(crate) fn running(stopped: bool) -> Operating
     }
 }
 
-/// Whether the supply was away for the hold at most.
+/// Whether the supply was away for at most the hold.
 pub(crate) fn is_within_hold(held: &Trip, second: u64, seal: &Seal) -> bool
     requires { IsSecond held.now.saved }
     ensures value { (s : Setting) → IsSealOf s seal.now → result ≡ model.is_within_hold s second held.now }

@@ -1,16 +1,9 @@
 //! The state of the meter, as the core keeps it.
 ghost use Rattle.std.specs.Prelude.{◌≡◌, ◌≤◌, None, Some};
-ghost use Rattle.tariff_compile.specs.Tables.{TableParts};
-ghost use Rattle.taxi_units.specs.Time.{longest_trip};
-ghost use Rattle.taxi_units.specs.declared.event.Operating.TheVariants.{Off};
-ghost use Rattle.meter_states.specs.Core.{core_of};
+ghost use Rattle.meter_states.specs.Common.{CoreTrip, Meter, Off, Setting, TableParts, longest_trip, roaming_amid};
+ghost use Rattle.meter_states.specs.{Core.{core_of}, Lawful.{IsPowered, is_busy}};
 ghost use Rattle.meter_model.specs.Interval as interval;
-ghost use Rattle.meter_states.specs.Lawful.{IsPowered, is_busy};
-ghost use Rattle.meter_model.specs.Meter.{Meter};
-ghost use Rattle.meter_model.specs.Setting.{Setting};
 ghost use Rattle.meter_model.specs.Supply as supply;
-ghost use Rattle.meter_model.specs.declared.core_trip.CoreTrip.{CoreTrip};
-ghost use Rattle.taxi_units.specs.Limits.{roaming_amid};
 
 use drive_modes::Gate;
 use interval_clock::Clock;
@@ -18,8 +11,8 @@ use meter_model::CoreTrip;
 use std::marker::Model;
 use taxi_units::{Display, FIRST_SECOND, Key, Operating};
 
-/// The meter's state: counts in place of pulses, and the sums of the trip in place of its intervals,
-/// which it forgets, so it takes no memory.
+/// The meter's state: counts in place of pulses, and the sums of the trip in place of its intervals. It forgets
+/// intervals, so it takes no memory.
 #[derive(Drop)]
 pub(crate) struct State {
     pub(crate) operating: Operating,
@@ -63,7 +56,7 @@ impl State {
         State::idle(Operating::Off, 0, FIRST_SECOND)
     }
 
-    /// A state without a trip, before anything was shown, where the store has a number.
+    /// A state without a trip, before anything was shown, with a number of the store.
     pub(crate) fn idle(operating: Operating, number: u64, second: u64) -> State
         ensures { result ≡ record {
           operating = operating;

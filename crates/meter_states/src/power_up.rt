@@ -1,19 +1,9 @@
 //! What the coming of the supply finds.
-ghost use Rattle.std.specs.Prelude.{◌≡◌, ◌≤◌, ◌+◌, All, None, Some, option_map, length};
-ghost use Rattle.std.specs.Option.{ForSome};
-ghost use Rattle.tariff_compile.specs.Tables.{TableParts};
-ghost use Rattle.taxi_units.specs.Time.{IsSecond};
-ghost use Rattle.taxi_units.specs.declared.event.Operating.TheVariants.{ForHire};
-ghost use Rattle.totals_record.specs.Ranges.{IsDurable, IsHeld};
-ghost use Rattle.meter_states.specs.Acts.{IsLawfulAct, KeepsRanges};
-ghost use Rattle.meter_model.specs.KeptTrip.{IsSavedIn};
-ghost use Rattle.meter_states.specs.Core.{Meets, core_of};
-ghost use Rattle.meter_states.specs.Fits.{Fits};
-ghost use Rattle.meter_states.specs.Lawful.{IsBetweenEvents, IsLawful};
-ghost use Rattle.meter_model.specs.Meter.{Meter};
-ghost use Rattle.meter_model.specs.Setting.{Setting};
-ghost use Rattle.meter_states.specs.Setting.{IsSettingOf};
-ghost use Rattle.meter_states.specs.Stages.{IsNewlyPowered, MayBeTaken, TakesHold};
+ghost use Rattle.std.specs.{Option.{ForSome}, Prelude.{◌+◌, ◌≡◌, ◌≤◌, All, None, Some, length, option_map}};
+ghost use Rattle.{meter_model.specs.KeptTrip.{IsSavedIn}, meter_states.specs.Lawful.{IsBetweenEvents, IsLawful}};
+ghost use Rattle.meter_states.specs.{Acts.{IsLawfulAct, KeepsRanges}, Stages.{IsNewlyPowered, MayBeTaken, TakesHold}};
+ghost use Rattle.meter_states.specs.Common.{ForHire, IsDurable, IsHeld, IsSecond, Meter, Setting, TableParts};
+ghost use Rattle.meter_states.specs.{Core.{Meets, core_of}, Fits.{Fits}, Setting.{IsSettingOf}};
 ghost use Rattle.meter_model.specs.Supply as model;
 ghost use Rattle.meter_model.specs.Trip as trips;
 
@@ -31,10 +21,10 @@ use taxi_units::{Kind, Operating, Steps};
 use totals_record::{Durable, Trip};
 
 impl Core {
-    /// The supply comes at a second, 946,684,800 to 7,258,118,399, and finds a durable state in its ranges
-    /// whose held trip fits; the tables were compiled with the seal's constant. The rules are this
-    /// project's own: within the hold a held trip goes on in Hired or Stopped, and otherwise it is closed;
-    /// without one the meter is for hire. The display is shown. At most 12 steps.
+    /// Goes on from a durable state as the supply comes at a second, 946,684,800 to 7,258,118,399. The state is in its
+    /// ranges, its held trip fits, and the tables were compiled with the seal's constant. Within the hold a held trip
+    /// goes on in Hired or Stopped, and otherwise it is closed; without one the meter is for hire. The display is
+    /// shown. At most 12 steps. The rules are this project's own.
     pub fn resume<L: Ledger>(
         tables: &Tables,
         seal: &Seal,
@@ -51,7 +41,7 @@ impl Core {
         ensures commits { All (KeepsRanges durable.now) result.1.items }
         ensures meets { (s : Setting) (m : Meter) → IsSettingOf s tables.now seal.now → m.durable ≡ durable.now
             → IsSavedIn s durable.now.hold m.trip
-            → Meets s result.0.plain result.1.items (model.supply_came s second m) }
+            → Meets s result.0.state result.1.items (model.supply_came s second m) }
         ensures steps { steps.new ≤ steps.old + 12 }
     {
         tables.recall();
@@ -89,8 +79,7 @@ impl State {
         }
     }
 
-    /// A held trip goes on where the supply was away for the hold at most, and otherwise it is closed.
-    /// At most 12 steps.
+    /// A held trip goes on if the supply was away for at most the hold, and otherwise it is closed. At most 12 steps.
     fn take_held<L: Ledger>(
         &mut self,
         held: Trip,

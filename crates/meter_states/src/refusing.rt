@@ -1,11 +1,11 @@
 //! A refusal among the acts.
-ghost use Rattle.std.specs.Prelude.{◌≡◌, ◌<◌, ◌∷◌, [], ◌++◌, length};
-ghost use Rattle.meter_model.specs.declared.act.Act.TheVariants.{Refuse};
+ghost use Rattle.std.specs.Prelude.{[], ◌++◌, ◌<◌, ◌∷◌, ◌≡◌, length};
+ghost use Rattle.meter_states.specs.Common.{Refuse};
 
 use meter_model::{Act, Acts};
 use taxi_units::Why;
 
-/// A refusal more.
+/// Appends a refusal.
 pub fn refuse(why: Why, acts: &mut Acts)
     requires { length acts.old.items < 4 }
     ensures { acts.new.items ≡ acts.old.items ++ Refuse why ∷ [] }

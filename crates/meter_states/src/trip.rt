@@ -1,19 +1,12 @@
 //! What the core keeps of a trip: what begins it, what an interval and a supplement add, and how it is saved
 //! and goes on.
-ghost use Rattle.std.specs.Prelude.{◌≡◌, ◌+◌, ◌-◌, ◌^◌, ◌<◌, ◌≤◌, Some, slice_index};
-ghost use Rattle.drive_modes.specs.Fare.{steps_of};
-ghost use Rattle.tariff_compile.specs.Tables.{AreFit, TableParts, weights_in_force};
-ghost use Rattle.tariff_check.specs.Amounts.{IsFitInitial};
-ghost use Rattle.tariff_syntax.specs.declared.context.Context.{Context};
-ghost use Rattle.taxi_units.specs.Money.{largest_amount};
-ghost use Rattle.taxi_units.specs.Time.{IsSecond, last_tick, longest_trip};
+ghost use Rattle.std.specs.Prelude.{◌+◌, ◌-◌, ◌<◌, ◌^◌, ◌≡◌, ◌≤◌, Some, slice_index};
+ghost use Rattle.{taxi_units.specs.Limits.{largest_supplements}, tariff_check.specs.Amounts.{IsFitInitial}};
+ghost use Rattle.meter_states.specs.Common.{AreFit, Context, IsSecond, Setting, TableParts, largest_amount, last_tick};
+ghost use Rattle.meter_states.specs.Common.{longest_trip, roaming_amid, steps_of, times, weights_in_force};
 ghost use Rattle.meter_states.specs.Lawful.{IsLawfulTrip};
-ghost use Rattle.meter_model.specs.Setting.{Setting};
-ghost use Rattle.meter_states.specs.Setting.{IsSettingOf, IsTariffOf};
-ghost use Rattle.meter_states.specs.Supplements.{supplement_in};
-ghost use Rattle.meter_model.specs.Supplements.{times};
+ghost use Rattle.meter_states.specs.{Setting.{IsSettingOf, IsTariffOf}, Supplements.{supplement_in}};
 ghost use Rattle.meter_model.specs.Trip as model;
-ghost use Rattle.taxi_units.specs.Limits.{largest_supplements, roaming_amid};
 
 use crate::lookups::modulus;
 use crate::meterage::add_charge;
@@ -90,7 +83,7 @@ pub(crate) fn begun(tables: &Tables, fee: Initial, second: u64, roam: u32) -> Co
     }
 }
 
-/// The trip has an interval more that ended in Hired.
+/// Adds an interval that ended in Hired to a trip.
 pub(crate) fn add_hired(
     trip: &mut CoreTrip,
     tables: &Tables,
@@ -118,7 +111,7 @@ pub(crate) fn add_hired(
     trip.ticks += 1;
 }
 
-/// The trip has an interval more that ended in Stopped.
+/// Adds an interval that ended in Stopped to a trip.
 pub(crate) fn add_stopped(trip: &mut CoreTrip, pulses: u32)
     requires pulses { pulses ≤ 2000 }
     requires few { trip.old.pulses ≤ 9000000000000000000 }
@@ -134,7 +127,7 @@ pub(crate) fn add_stopped(trip: &mut CoreTrip, pulses: u32)
     trip.ticks += 1;
 }
 
-/// The trip has the pulses of an interval that was left unfinished.
+/// Adds the pulses of an unfinished interval to a trip.
 pub(crate) fn add_rest(trip: &mut CoreTrip, pulses: u32)
     requires pulses { pulses ≤ 2000 }
     requires few { trip.old.pulses ≤ 9000000000000000000 }
@@ -182,7 +175,7 @@ pub(crate) fn times(trip: &CoreTrip, number: u8) -> u8
     trip.extras[number as usize - 1]
 }
 
-/// The trip has a supplement of the tariff more, which it hasn't had as often as it may.
+/// Adds a supplement of the tariff to a trip, which had it less often than it may.
 pub(crate) fn add_extra(trip: &mut CoreTrip, number: u8, supplement: Supplement)
     requires number { (1 ≤ number) × (number ≤ 16) }
     requires few { slice_index trip.old.extras (number - 1) < supplement.max }

@@ -1,21 +1,12 @@
 -- Rules: what a sealing leaves in the store. The pair of totals begins at place 0, the pair of seals at place 1,024.
-use Rattle.std.specs.Prelude.{◌≡◌, ◌⊎◌, ℕ, ◌+◌, List, Option, Some, None}
-use Rattle.outside.specs.declared.board.Board.{Ghosts}
-use Rattle.slot_store.specs.declared.found.Found.{Found}
-use Rattle.slot_store.specs.declared.found.Found.TheVariants.{Blank, Latest}
-use Rattle.slot_store.specs.declared.pair.Place.{Place}
-use Rattle.slot_store.specs.Sizes.{pair_size}
-use Rattle.slot_store.specs.Slots.{IsQuiet, IsBlank, IsSettled, StandsFor, Shows, ShowsEither}
-use Rattle.slot_store.specs.Scan.{IsAsFound}
-use Rattle.slot_store.specs.Writes.{LeavesThroughout}
-use Rattle.totals_record.specs.declared.durable_state.Durable.{Durable}
+use Rattle.std.specs.Prelude.{ℕ, ◌+◌, ◌≡◌, ◌⊎◌, List, None, Option, Some}
+use Rattle.slot_store.specs.{Scan.{IsAsFound}, Sizes.{pair_size}, declared.found.Found.TheVariants.{Blank, Latest}}
+use Rattle.{slot_store.specs.Slots.{IsBlank, IsQuiet, Shows, StandsFor}, seal_record.specs.Ranges.{seal_number_of}}
+use Rattle.meter_store.specs.Common.{Durable, Found, Ghosts, IsSettled, LeavesThroughout, Place, Seal, ShowsEither}
+use Rattle.meter_store.specs.{Common.{first_state}, Stored.{HasState, HoldsState}}
 use Rattle.totals_record.specs.Reading as totals
-use Rattle.totals_record.specs.States.{first_state}
 use Rattle.meter_store.specs.Stored as stored
-use Rattle.meter_store.specs.Stored.{HasState, HoldsState}
-use Rattle.seal_record.specs.declared.seal.Seal.{Seal}
 pub use Rattle.seal_record.specs.Decoding.{reads}
-use Rattle.seal_record.specs.Ranges.{seal_number_of}
 
 -- the pair of seals begins at place 1,024 of the store
 abbrev pub seals_at : ℕ
@@ -46,9 +37,9 @@ next_number None = 1
 next_number (Some number) = number + 1
 
 -- the totals after a sealing are those that were found, or the first ones, of zero and with number 1
-abbrev pub totals_after : (found : Option Durable) → Durable
-totals_after None = first_state
-totals_after (Some durable) = durable
+abbrev pub sealed_totals : (found : Option Durable) → Durable
+sealed_totals None = first_state
+sealed_totals (Some durable) = durable
 
 -- an image keeps totals if it has those that were found, or, if none were found, has none or the first ones
 abbrev pub StillHas : (found : Option Durable) → List ℕ → Type 0
@@ -57,7 +48,7 @@ StillHas (Some durable) image = HasState image durable
 
 -- an image is sealed if it has the totals after the sealing and the new seal
 pub record IsSealed (sealing : Sealing) (image : List ℕ) : Type 0 where
-  pub totals : HasState image (totals_after sealing.totals)
+  pub totals : HasState image (sealed_totals sealing.totals)
   pub seal : HasSeal image sealing.new
 
 -- an image is amid a sealing if the totals are kept, and the seal is the old one, or none as before, or the new one
@@ -126,7 +117,7 @@ module _ {D L : Type 0} {N : ℕ} (B : Ghosts D N L) where
   -- a board keeps what was sealed if both pairs are settled, the totals' with those that were found or the first
   -- ones, and the seals' with the new seal
   pub record HoldsSealing (found : Option Durable) (seal : Seal) (board : D) : Type 0 where
-    pub totals : (place : Place) × HoldsState B place board (totals_after found)
+    pub totals : (place : Place) × HoldsState B place board (sealed_totals found)
     pub seal_is : (place : Place) × HoldsSeal place board seal
 
   -- a run leaves a sealing if a cut at each of its moments leaves an image amid the sealing, and outside the places

@@ -1,11 +1,8 @@
 -- Names are read as their numbers.
-use Rattle.std.proofs.Common.{◌≡◌, ◌∙◌, ℕ, zero, suc, ◌+◌, ◌-◌, ◌<◌, ◌≤◌, List, [], ◌∷◌, ◌++◌, length, get_or, Option}
-use Rattle.std.proofs.Common.{Some, None, refl, ap, subst, arith}
-use Rattle.taxi_units.specs.Reading.{word_at}
-use Rattle.taxi_units.proofs.Laws.{words_are_read_by_their_text}
-use Rattle.offset_rules.specs.Names.{IsName, month_names, name_of, number_names}
-use Rattle.offset_rules.specs.Reading.{found_or, numbered_at}
-use Rattle.taxi_units.specs.Weekdays.{day_names}
+use Rattle.std.proofs.Common.{[], ℕ, ◌++◌, ◌+◌, ◌-◌, ◌<◌, ◌∙◌, ◌∷◌, ◌≡◌, ◌≤◌, List, None, Option, Some, ap, arith}
+use Rattle.{std.proofs.Common.{get_or, length, refl, subst, suc, zero}, taxi_units.specs.Reading.{word_at}}
+use Rattle.{taxi_units.proofs.Laws.{words_are_read_by_their_text}, offset_rules.specs.Common.{day_names}}
+use Rattle.offset_rules.specs.{Names.{IsName, month_names, name_of, number_names}, Reading.{found_or, numbered_at}}
 
 -- a name that stands at the front gives its number
 pub name_here : (number : ℕ) (found : Option (List ℕ)) (rest : List ℕ) (others : Option (ℕ × List ℕ))
@@ -17,7 +14,7 @@ pub name_later : (number : ℕ) (found : Option (List ℕ)) (others x : Option (
     → found_or number found others ≡ x
 name_later number found others x none is = rw none is
 
--- a name stands at the front, where the names are numbered from one on
+-- a name stands at the front, and the names are numbered from one on
 record NamedFrom (names : List (List ℕ)) (first : ℕ) (text : List ℕ) (x : ℕ × List ℕ) : Type 0 where
   place : ℕ
   within : place < length names

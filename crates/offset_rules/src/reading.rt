@@ -1,10 +1,7 @@
 //! Reads the text of rules.
 ghost use Rattle.std.specs.Prelude.{◌≡◌, IfSome};
-ghost use Rattle.interval_clock.specs.Offsets.{IsOffset};
+ghost use Rattle.offset_rules.specs.{Common.{Gives, IsOffset}, Rule.{IsChange}, RulesText.{IsReadAs}};
 ghost use Rattle.offset_rules.specs.Reading.{change_at, lines_read, named_line_at, rules_read, seconds_at};
-ghost use Rattle.offset_rules.specs.Rule.{IsChange};
-ghost use Rattle.offset_rules.specs.RulesText.{IsReadAs};
-ghost use Rattle.taxi_units.specs.Reading.{Gives};
 
 use crate::fault::RuleFault;
 use crate::fields::{change, seconds};
@@ -25,9 +22,8 @@ const MOST: usize = 4096;
 ///
 /// There is one blank between words. The form is this project's own. No memory is taken.
 ///
-/// `TooLong` where the text has more than 4,096 bytes; else `BadLine` with the first of the lines 1 to 4 that
-/// isn't so or is absent, or 5 where bytes follow the four; and else `SameMonth` where both changes are in one
-/// month.
+/// `TooLong`: the text has more than 4,096 bytes. Else `BadLine`: the first of the lines 1 to 4 that breaks its
+/// form or is absent, or 5 if bytes follow the four. Else `SameMonth`: both changes are in one month.
 pub fn read_rules(text: &[u8]) -> Result<Rules, RuleFault>
     ensures answer { result ≡ rules_read text.now }
     ensures meaning { IsReadAs text.now result }
@@ -35,7 +31,7 @@ pub fn read_rules(text: &[u8]) -> Result<Rules, RuleFault>
     read_text(text)
 }
 
-/// Reads rules, as the answer of the code's stages.
+/// The answer, in the stages of the code.
 #[tactic(auto, unfolding(crate::specs::Reading::rules_read))]
 fn read_text(text: &[u8]) -> Result<Rules, RuleFault>
     ensures { result ≡ rules_read text.now }

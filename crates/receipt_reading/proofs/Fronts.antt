@@ -1,12 +1,8 @@
 -- A receipt at the front of a text, whatever stands after it.
-use Rattle.std.proofs.Common.{◌≡◌, ℕ, ◌↔◌, List, ◌++◌, take, drop, refl, ap, sym, ◌∙◌, subst, Option, Some, None}
-use Rattle.std.proofs.lemmas.List.{take-append-drop}
-use Rattle.taxi_units.specs.declared.receipt.Receipt.{Receipt}
-use Rattle.receipt_reading.specs.Front.{IsInFront}
-use Rattle.receipt_text.specs.Lines.{receipt_at}
-use Rattle.receipt_text.specs.Part.{Part}
-use Rattle.receipt_reading.specs.SpelledFront.{IsSpelledInFront}
-use Rattle.receipt_text.proofs.Laws.{receipts_are_their_texts, receipt_again}
+use Rattle.std.proofs.Common.{ℕ, ◌++◌, ◌↔◌, ◌∙◌, ◌≡◌, List, None, Option, Some, ap, drop, refl, subst, sym, take}
+use Rattle.{std.proofs.lemmas.List.{take-append-drop}, receipt_reading.specs.SpelledFront.{IsSpelledInFront}}
+use Rattle.receipt_text.{specs.Lines.{receipt_at}, proofs.Laws.{receipt_again, receipts_are_their_texts}}
+use Rattle.receipt_reading.specs.{Common.{Part, Receipt}, Front.{IsInFront}}
 
 pub spelled_front : (text : List ℕ) (r : Receipt) (p : Part) (n : ℕ) → IsInFront text r p n
     → IsSpelledInFront text r p n
@@ -23,7 +19,7 @@ front_read text r p n h =
     ap receipt_at (sym (take-append-drop n text) ∙ ap (λ (t : List ℕ). t ++ drop n text) h.is.text_is)
     ∙ receipt_again r p (drop n text) h.is.receipt_is h.is.part_is
 
--- where nothing is read, none stands in front
+-- if nothing is read, none stands in front
 pub front_none : (text : List ℕ) → receipt_at text ≡ None → (r : Receipt) (p : Part) (n : ℕ)
     → (◌≡◌ {A = Option (Receipt × Part × ℕ)} None (Some (r, p, n))) ↔ IsInFront text r p n
 front_none text e r p n = (
@@ -39,7 +35,7 @@ same_front text r₀ p₀ e r p n h =
     let read = front_read text r p n (spelled_front text r p n h) in
     cc
 
--- where the text of what was read doesn't stand in front, none does
+-- if the text of what was read doesn't stand in front, none does
 pub front_other : (text : List ℕ) (r₀ : Receipt) (p₀ : Part) → receipt_at text ≡ Some (r₀, p₀)
     → ((n : ℕ) → (◌≡◌ {A = Option ℕ} None (Some n)) ↔ IsSpelledInFront text r₀ p₀ n)
     → (r : Receipt) (p : Part) (n : ℕ) → (◌≡◌ {A = Option (Receipt × Part × ℕ)} None (Some (r, p, n)))
@@ -57,7 +53,7 @@ front_other text r₀ p₀ e not r p n = (
 same_count : (m n : ℕ) → ◌≡◌ {A = Option ℕ} (Some m) (Some n) → m ≡ n
 same_count m n e = cc
 
--- where it does, it is the receipt in front
+-- if it does, it is the receipt in front
 pub front_some : (text : List ℕ) (r₀ : Receipt) (p₀ : Part) (n₀ : ℕ) → receipt_at text ≡ Some (r₀, p₀)
     → ((n : ℕ) → (◌≡◌ {A = Option ℕ} (Some n₀) (Some n)) ↔ IsSpelledInFront text r₀ p₀ n)
     → (r : Receipt) (p : Part) (n : ℕ) → (◌≡◌ {A = Option (Receipt × Part × ℕ)} (Some (r₀, p₀, n₀)) (Some (r, p, n)))

@@ -1,14 +1,8 @@
 //! Receipts that are read back.
-ghost use Rattle.std.specs.Prelude.{◌≡◌, ◌↔◌, Some, IsTrue};
-ghost use Rattle.taxi_units.specs.Reading.{Gives};
-ghost use Rattle.taxi_units.specs.Shown.{IsReceipt};
-ghost use Rattle.taxi_units.specs.declared.receipt.Receipt.{Receipt};
-ghost use Rattle.receipt_text.specs.Grammar.{IsReceiptText};
+ghost use Rattle.std.specs.Prelude.{◌↔◌, ◌≡◌, IsTrue, Some};
+ghost use Rattle.receipt_text.specs.{Grammar.{IsReceiptText}, Lines.{receipt_of}, Receipts.{receipt_text}};
+ghost use Rattle.receipt_reading.specs.Common.{Gives, IsPart, IsReceipt, IsSpelled, Part, Receipt};
 ghost use Rattle.receipt_text.specs.Lines as spec;
-ghost use Rattle.receipt_text.specs.Lines.{receipt_of};
-ghost use Rattle.receipt_text.specs.Part.{IsPart, Part};
-ghost use Rattle.receipt_text.specs.Receipts.{receipt_text};
-ghost use Rattle.receipt_text.specs.Spelling.{IsSpelled};
 
 use crate::calculations::calculation_at;
 use crate::headings::heading_at;
@@ -21,9 +15,9 @@ use receipt_text::{
 };
 use taxi_units::{Line, Receipt};
 
-/// Reads the text of a receipt: what it says of the hiring, and what of the seal of the meter. `None`
-/// exactly where the text isn't that of a receipt, byte for byte, with each number in its range. No
-/// memory is taken. The form is this project's own.
+/// Reads the text of a receipt: what it says of the hiring, and what of the seal of the meter. `None` exactly if the
+/// text isn't that of a receipt, byte for byte, with each number in its range. No memory is taken. The form is this
+/// project's own.
 pub fn read_receipt(text: &[u8]) -> Option<(Receipt, SealPart)>
     ensures { (receipt : Receipt) (part : Part)
         → (result ≡ Some (receipt, part)) ↔ IsReceiptText text.now receipt part }

@@ -1,9 +1,7 @@
 //! The last lines of a receipt, read back.
-ghost use Rattle.std.specs.Prelude.{◌≡◌, ◌+◌, ◌^◌, ◌<◌, ◌≤◌, ◌↔◌, IsTrue};
-ghost use Rattle.taxi_units.specs.Limits.{largest_supplements};
-ghost use Rattle.taxi_units.specs.Money.{largest_amount, largest_display_step};
-ghost use Rattle.taxi_units.specs.Reading.{Gives};
-ghost use Rattle.taxi_units.specs.Shown.{fare_of};
+ghost use Rattle.std.specs.Prelude.{◌+◌, ◌<◌, ◌^◌, ◌↔◌, ◌≡◌, ◌≤◌, IsTrue};
+ghost use Rattle.taxi_units.specs.{Limits.{largest_supplements}, Money.{largest_amount, largest_display_step}};
+ghost use Rattle.{taxi_units.specs.Shown.{fare_of_receipt}, receipt_reading.specs.Common.{Gives}};
 ghost use Rattle.receipt_text.specs.Lines as spec;
 
 use crate::amounts::{amount_behind, amount_below};
@@ -15,7 +13,7 @@ use taxi_units::{LARGEST_AMOUNT, LARGEST_DISPLAY_STEP, LARGEST_SUPPLEMENTS, Rece
 pub fn has_amounts(receipt: &Receipt) -> bool
     ensures { IsTrue result ↔ ((receipt.now.initial ≤ largest_amount) × (receipt.now.minimum ≤ largest_amount)
         × (receipt.now.steps < 10 ^ 18) × (1 ≤ receipt.now.step) × (receipt.now.step ≤ largest_display_step)
-        × (receipt.now.supplements ≤ largest_supplements) × (receipt.now.fare ≡ fare_of receipt.now)) }
+        × (receipt.now.supplements ≤ largest_supplements) × (receipt.now.fare ≡ fare_of_receipt receipt.now)) }
 {
     receipt.initial <= LARGEST_AMOUNT
         && receipt.minimum <= LARGEST_AMOUNT
@@ -23,12 +21,12 @@ pub fn has_amounts(receipt: &Receipt) -> bool
         && 1 <= receipt.step
         && receipt.step <= LARGEST_DISPLAY_STEP
         && receipt.supplements <= LARGEST_SUPPLEMENTS
-        && receipt.fare as u128 == fare_of(receipt)
+        && receipt.fare as u128 == fare_of_receipt(receipt)
 }
 
 /// The fare that a receipt calculates.
-fn fare_of(receipt: &Receipt) -> u128
-    ensures { result ≡ fare_of receipt.now }
+fn fare_of_receipt(receipt: &Receipt) -> u128
+    ensures { result ≡ fare_of_receipt receipt.now }
 {
     let calculated = receipt.initial as u128 + receipt.steps as u128 * receipt.step as u128;
     calculated
@@ -36,7 +34,7 @@ fn fare_of(receipt: &Receipt) -> u128
         .min(LARGEST_AMOUNT as u128)
 }
 
-/// The amounts of the optional lines that stand at the front of a text, and what stands after them.
+/// The amounts of the optional lines at the front of a text, and the text behind them.
 #[tactic(auto, unfolding(receipt_text::specs::Lines::optional_lines_at))]
 pub fn optional_lines_at(text: &[u8]) -> Option<(OptionalAmounts, &[u8])>
     ensures { Gives (λ x. (x.0, x.1.now)) result (spec.optional_lines_at text.now) }
@@ -45,8 +43,8 @@ pub fn optional_lines_at(text: &[u8]) -> Option<(OptionalAmounts, &[u8])>
     Some((OptionalAmounts { minimum }, rest))
 }
 
-/// The amount of the optional line of a word at the front of a text, and what stands after it; 0 where
-/// the text doesn't begin with such a line.
+/// The amount of the optional line of a word at the front of a text, or 0 if the text doesn't begin with such a line,
+/// and the text behind it.
 #[tactic(auto, unfolding(receipt_text::specs::Lines::optional_at))]
 fn optional_at<'a>(text: &'a [u8], before: &[u8]) -> Option<(u64, &'a [u8])>
     ensures { Gives (λ x. (x.0, x.1.now)) result (spec.optional_at before.now text.now) }
@@ -61,7 +59,7 @@ fn optional_at<'a>(text: &'a [u8], before: &[u8]) -> Option<(u64, &'a [u8])>
     }
 }
 
-/// The lines of the fare and the supplements at the front of a text, and what stands after them.
+/// The lines of the fare and the supplements at the front of a text, and the text behind them.
 #[tactic(auto, unfolding(receipt_text::specs::Lines::sums_at))]
 pub fn sums_at(text: &[u8]) -> Option<(Sums, &[u8])>
     ensures { Gives (λ x. (x.0, x.1.now)) result (spec.sums_at text.now) }

@@ -1,16 +1,10 @@
 -- Rules: the texts of receipts, as they are written.
-use Rattle.std.specs.Prelude.{ℕ, ◌+◌, ◌/◌, ◌%◌, ◌==◌, nat_lt, if◌then◌else◌, ℤ, unsigned_abs}
-use Rattle.std.specs.Prelude.{List, [], ◌∷◌, ◌++◌, codes, decimal}
-use Rattle.interval_clock.specs.Calendar.{date_after}
-use Rattle.taxi_units.specs.Number.{money_text, padded_text}
-use Rattle.taxi_units.specs.declared.receipt.Kind.{Kind}
-use Rattle.taxi_units.specs.declared.receipt.Kind.TheVariants.{Closed, Aborted, Expired, Roam}
-use Rattle.taxi_units.specs.declared.receipt.Receipt.{Receipt}
-use Rattle.taxi_units.specs.declared.receipt.Stamp.{Stamp}
-use Rattle.receipt_text.specs.AmountLines.{optional_lines, total_of}
-use Rattle.receipt_text.specs.Part.{Part}
+use Rattle.std.specs.Prelude.{[], ℕ, ℤ, ◌%◌, ◌++◌, ◌+◌, ◌/◌, ◌==◌, ◌∷◌, List, codes, decimal, if◌then◌else◌, nat_lt}
+use Rattle.{std.specs.Prelude.{unsigned_abs}, interval_clock.specs.Calendar.{date_after}}
+use Rattle.receipt_text.specs.{AmountLines.{optional_lines, total_of}, Part.{Part}}
+use Rattle.receipt_text.specs.Common.{Aborted, Closed, Expired, Kind, Receipt, Roam, Stamp, money_text, padded_text}
 
--- the word for how a hiring ended is `CLOSED`, `ABORTED` or `EXPIRED`, and roaming, which has no receipt, has none
+-- the word for how a hiring ended is `CLOSED`, `ABORTED` or `EXPIRED`; roaming has no receipt and no word
 abbrev pub kind_text : Kind → List ℕ
 kind_text Closed = codes "CLOSED"
 kind_text Aborted = codes "ABORTED"
@@ -59,7 +53,7 @@ part_text part =
     ++ (codes "\nSECURED " ++ (day_text part.secured ++ (codes "\nTARIFF " ++ (hex_text part.digest ++ codes "\n")))))))
 
 -- the course of a trip is written as its start, its finish, its tariff position and its distance in metres, each on a
--- line of its own, of which the last isn't ended
+-- line, but without the end of the last line
 unfoldable pub course_text : Receipt → List ℕ
 course_text receipt =
     codes "START " ++ (stamp_text receipt.start ++ (codes "\nFINISH " ++ (stamp_text receipt.finish

@@ -1,7 +1,6 @@
 -- Rules: when two displays show the same.
-use Rattle.std.specs.Prelude.{◌≡◌, ◌≢◌, ◌<◌, ◌^◌}
-use Rattle.taxi_units.specs.declared.event.Operating.TheVariants.{ForHire}
-use Rattle.taxi_units.specs.declared.receipt.Display.{Display}
+use Rattle.std.specs.Prelude.{◌<◌, ◌^◌, ◌≡◌, ◌≢◌}
+use Rattle.receipt_text.specs.Common.{Display, ForHire}
 
 -- a display's position and zone are below 256, and its amounts are below 2^64, as the software keeps them
 pub record HasFields (display : Display) : Type 0 where
@@ -10,8 +9,8 @@ pub record HasFields (display : Display) : Type 0 where
   pub fare : display.fare < 2 ^ 64
   pub supplements : display.supplements < 2 ^ 64
 
--- two displays show the same if their fields are equal, but for the fare and the supplements in For Hire, where they
--- aren't shown
+-- two displays show the same if their fields are equal; in For Hire the fare and the supplements aren't shown, and may
+-- differ
 pub record ShowsSame (a b : Display) : Type 0 where
   pub operating : a.operating ≡ b.operating
   pub position : a.position ≡ b.position

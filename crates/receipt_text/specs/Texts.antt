@@ -1,11 +1,9 @@
 -- Rules: the texts of displays and refusals.
-use Rattle.std.specs.Prelude.{ℕ, List, [], ◌++◌, codes, decimal}
-use Rattle.taxi_units.specs.Number.{money_text}
-use Rattle.taxi_units.specs.declared.event.Operating.{Operating}
-use Rattle.taxi_units.specs.declared.event.Operating.TheVariants.{Off, ForHire, Hired, Stopped}
-use Rattle.taxi_units.specs.declared.event.Why.{Why}
-use Rattle.taxi_units.specs.declared.event.Why.TheVariants.{NotNow, KeyWaiting, NoSuch, AtMost, ClockBack, TooFast, Powered, Expired, Ended}
-use Rattle.taxi_units.specs.declared.receipt.Display.{Display}
+use Rattle.std.specs.Prelude.{[], ℕ, ◌++◌, List, codes, decimal}
+use Rattle.taxi_units.specs.declared.event.{Operating.{Operating, TheVariants.{Hired, Off, Stopped}}, Why.{Why}}
+use Rattle.taxi_units.specs.declared.event.Why.TheVariants.{AtMost, ClockBack, Ended, Expired, KeyWaiting, NoSuch}
+use Rattle.taxi_units.specs.declared.event.Why.TheVariants.{NotNow, Powered, TooFast}
+use Rattle.receipt_text.specs.Common.{Display, ForHire, money_text}
 
 -- the tariff position and the zone of a display are written as `T` and `Z`, each with its number
 abbrev pub place_text : Display → List ℕ
@@ -16,7 +14,7 @@ abbrev pub amounts_text : Display → List ℕ
 amounts_text d = codes " " ++ (money_text d.decimals d.fare ++ (codes " +" ++ money_text d.decimals d.supplements))
 
 -- the line of a display in an operating position is the word of the position, the tariff position and the zone, and in
--- Hired and Stopped the amounts; in Off there is none
+-- Hired and Stopped the amounts; in Off there is no line
 abbrev pub display_line : Operating → Display → List ℕ
 display_line Off d = []
 display_line ForHire d = codes "FOR HIRE" ++ (place_text d ++ codes "\n")

@@ -1,5 +1,5 @@
-//! The texts that passengers and offices read: displays, refusals and receipts, each written exactly, with the
-//! grammar of receipts. `receipt_reading` reads them back. All of these texts are this project's own.
+//! The texts that passengers and offices read: displays, refusals and receipts, each written exactly, with the grammar
+//! of receipts. `receipt_reading` reads them back. The form of all these texts is this project's own.
 #![tactic(auto)]
 
 mod amounts;
@@ -7,7 +7,7 @@ mod calculations;
 mod digest;
 mod displays;
 mod fields;
-mod grammar;
+mod grammar_laws;
 mod headings;
 mod parts;
 mod receipts;
@@ -21,7 +21,7 @@ pub use amounts::Amount;
 pub use calculations::Calculation;
 pub use digest::push_hex;
 pub use displays::put_display;
-pub use grammar::{
+pub use grammar_laws::{
     displays_differ_by_their_fields, receipts_are_short, receipts_are_their_texts,
     receipts_begin_with_their_word, receipts_differ_in_their_tariff_alone, texts_are_one_receipt,
 };

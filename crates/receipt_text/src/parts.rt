@@ -1,11 +1,7 @@
 //! What a receipt says of the meter's seal, and its lines.
-ghost use Rattle.std.specs.Prelude.{◌≡◌, ◌+◌, ◌≤◌, ◌++◌, ◌↔◌, codes, length, IsOk, OnOk};
-ghost use Rattle.arrayvec.specs.ArrayVec.{array_vec_len};
-ghost use Rattle.taxi_units.specs.Line.{line_size};
-ghost use Rattle.receipt_text.specs.Part.{IsDigest, IsPart};
-ghost use Rattle.receipt_text.specs.Receipts.{day_text, part_text};
-ghost use Rattle.receipt_text.specs.SealParts.{part_of};
-ghost use Rattle.seal_record.specs.Ranges.{IsDay, IsSeal};
+ghost use Rattle.std.specs.Prelude.{◌++◌, ◌+◌, ◌↔◌, ◌≡◌, ◌≤◌, IsOk, OnOk, codes, length};
+ghost use Rattle.{arrayvec.specs.ArrayVec.{array_vec_len}, receipt_text.specs.Common.{IsDay, IsSeal, line_size}};
+ghost use Rattle.receipt_text.specs.{Part.{IsDigest, IsPart}, Receipts.{day_text, part_text}, SealParts.{part_of_seal}};
 
 use crate::digest::hex_of;
 use crate::fields::{put_figure, put_text};
@@ -38,9 +34,9 @@ impl Model for SealPart {
 
 /// What a receipt says of a seal.
 #[tactic(auto, using(crate::proofs::Sealed::sealed_part))]
-pub(crate) fn part_of(seal: &Seal) -> SealPart
+pub(crate) fn part_of_seal(seal: &Seal) -> SealPart
     requires { IsSeal seal.now }
-    ensures part { result ≡ part_of seal.now }
+    ensures part { result ≡ part_of_seal seal.now }
     ensures range { IsPart result }
 {
     recall(&seal.digest);
@@ -55,7 +51,7 @@ pub(crate) fn part_of(seal: &Seal) -> SealPart
     }
 }
 
-/// Says of 32 bytes what is known of each: it is below 256. It does nothing.
+/// Tells the prover that each of 32 bytes is below 256. It does nothing at run time.
 fn recall(bytes: &[u8])
     requires { length bytes.now ≡ 32 }
     ensures { IsDigest bytes.now }

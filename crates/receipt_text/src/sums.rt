@@ -1,8 +1,7 @@
 //! The amounts of a receipt: their ranges, and their lines, written and read.
-ghost use Rattle.std.specs.Prelude.{◌≡◌, ◌+◌, ◌^◌, ◌<◌, ◌≤◌, ◌++◌, ◌↔◌, length, IsOk, OnOk};
-ghost use Rattle.arrayvec.specs.ArrayVec.{array_vec_len};
-ghost use Rattle.taxi_units.specs.Line.{line_size};
-ghost use Rattle.receipt_text.specs.AmountLines.{total_of};
+ghost use Rattle.std.specs.Prelude.{◌++◌, ◌+◌, ◌<◌, ◌^◌, ◌↔◌, ◌≡◌, ◌≤◌, IsOk, OnOk, length};
+ghost use Rattle.{arrayvec.specs.ArrayVec.{array_vec_len}, receipt_text.specs.AmountLines.{total_of}};
+ghost use Rattle.receipt_text.specs.Common.{line_size};
 ghost use Rattle.receipt_text.specs.Receipts.{fare_text, last_text, optional_text, supplements_text, total_text};
 
 use crate::fields::put_amount;
@@ -11,7 +10,7 @@ use taxi_units::{
     word,
 };
 
-/// What the optional lines say: 0 of each that isn't there.
+/// What the optional lines say: 0 for each that isn't there.
 #[derive(Clone, Copy)]
 pub struct OptionalAmounts {
     pub minimum: u64,
@@ -47,7 +46,7 @@ pub(crate) fn put_last_lines(line: &mut Line, receipt: &Receipt) -> Result<(), L
     put_total(line, receipt)
 }
 
-/// Appends an optional line: a word and an amount, where it is above 0.
+/// Appends an optional line, a word and an amount, if the amount is above 0.
 #[tactic(auto, unfolding(crate::specs::Receipts::optional_text))]
 fn put_optional(line: &mut Line, word: &[u8], amount: u64, decimals: u8) -> Result<(), LineFull>
     requires room { array_vec_len line.old ≤ line_size }

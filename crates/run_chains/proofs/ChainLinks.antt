@@ -1,39 +1,20 @@
 -- One run of a chain, from what holds of a call with the words of a run.
-use Rattle.std.proofs.Common.{◌≡◌, ◌≢◌, ◌⊎◌, inl, inr, ℕ, ◌+◌, ◌-◌, List, [], ◌∷◌, ◌++◌, length, take, Option, Some}
-use Rattle.std.proofs.Common.{None, Result, Ok, Err, refl, sym, ap, subst, ◌∙◌, arith, length-append}
-use Rattle.std.proofs.lemmas.List.{append-nil}
-use Rattle.std.proofs.Math.Seq.{take-append_seam}
-use Rattle.outside.specs.declared.board.Board.{Ghosts}
-use Rattle.outside.specs.declared.files.Files.{Ghosts as FileGhosts}
-use Rattle.outside.specs.declared.replay.Fill.{Fill}
-use Rattle.outside.specs.Disk.{SameBut}
-use Rattle.outside.specs.Faults.{Rose}
-use Rattle.outside.specs.MemoryBoard.{BoardState, image_of, left_since_of, new_board, text_of}
-use Rattle.outside.specs.MemoryFiles.{FilesState, rest_of}
-use Rattle.outside.specs.Printing.{Begins}
-use Rattle.outside.specs.Runs.{IsAtRest as NothingFlies}
-use Rattle.slot_store.proofs.Laws.{one_body}
-use Rattle.totals_record.specs.Reading.{reads}
-use Rattle.meter_store.specs.Stored.{HasState, state_number_of}
-use Rattle.totals_record.specs.Sums.{GrowsBy}
-use Rattle.totals_record.specs.declared.change.Change.{Change}
-use Rattle.totals_record.specs.declared.durable_state.Durable.{Durable}
-use Rattle.totals_record.proofs.Laws.{changes_add_up}
-use Rattle.meter_run.specs.Deeds.{Deed, Prints, after_deeds, changes_of, texts}
+use Rattle.std.proofs.Common.{[], ℕ, ◌++◌, ◌+◌, ◌-◌, ◌∙◌, ◌∷◌, ◌≡◌, ◌≢◌, ◌⊎◌, Err, List, None, Ok, Option, Result, Some}
+use Rattle.std.proofs.Common.{ap, arith, inl, inr, length, length-append, refl, subst, sym, take}
+use Rattle.{std.proofs.{Math.Seq.{take-append_seam}, lemmas.List.{append-nil}}, outside.specs.PrintedText.{Begins}}
+use Rattle.outside.specs.{Faults.{Rose}, Runs.{IsAtRest as NothingFlies}, declared.files.Files.{Ghosts as FileGhosts}}
+use Rattle.{outside.specs.declared.board.Board.{Ghosts}, slot_store.proofs.Laws.{one_body}}
+use Rattle.{totals_record.{specs.Reading.{reads}, proofs.Laws.{changes_add_up}}, call_ends.specs.Call.{IsEnd, MayTake}}
+use Rattle.{meter_store.specs.Stored.{state_number_of}, run_chains.specs.Common.{text_of, texts}}
 use Rattle.meter_run.proofs.Laws.{changes_joined, deeds_follow, the_number_tells_the_commits-beginning}
-use Rattle.call_ends.specs.Call.{IsEnd, MayTake}
-use Rattle.commands.specs.Command.{command_of}
-use Rattle.call_ends.specs.Course.{Course, Answered, ReadFailed, NoMemory, BoardFailed, line_in, status_in, call_text}
-use Rattle.run_chains.specs.Link.{IsLeftInside, call_of, deeds_from, text_before}
-use Rattle.run_chains.specs.Chain.{Ran}
-use Rattle.run_chains.specs.ChainSteps.{HasLink}
-use Rattle.store_commands.specs.Opening.{opening_of}
-use Rattle.drive_commands.specs.Run.{IsOfTotals, IsRun, IsCutOfRun, Stands, Start, bytes_in, deeds_in, run_command}
-use Rattle.drive_commands.specs.Run.{start_of}
-use Rattle.call_ends.specs.declared.ending.Ended.{Ended}
-use Rattle.commands.specs.declared.words.Row.{Row}
+use Rattle.call_ends.specs.Course.{Answered, BoardFailed, Course, NoMemory, ReadFailed, call_text, line_in, status_in}
+use Rattle.{drive_commands.specs.Run.{StandsAfterRun, bytes_in, run_command}, commands.specs.declared.words.Row.{Row}}
+use Rattle.{drive_commands.proofs.Laws.{found-held, same_outside, start_stands}, commands.specs.Command.{command_of}}
+use Rattle.run_chains.specs.{Chain.{Ran}, ChainSteps.{HasLink}, Link.{IsLeftInside, call_of, deeds_from, text_before}}
+use Rattle.run_chains.specs.Common.{BoardState, Change, Deed, Durable, Ended, FilesState, Fill, GrowsBy, HasState}
+use Rattle.run_chains.specs.Common.{IsCutOfRun, IsOfTotals, IsRun, Prints, SameBut, Start, after_deeds, changes_of}
+use Rattle.run_chains.specs.Common.{deeds_in, image_of, left_since_of, new_board, opening_in, rest_of, start_of}
 use Rattle.commands.specs.declared.words.Row.TheVariants as rows
-use Rattle.drive_commands.proofs.Laws.{found-held, same_outside, start_stands}
 
 -- ---- what deeds commit
 
@@ -58,10 +39,10 @@ pub record KeepsCommits (d : Durable) (commits : List Change) (image : List ℕ)
 
 module _ (image tariff : List ℕ) (d : Durable) (has : HasState image d) where
   -- the state that a run begins with is the image's
-  pub begins_with : (s : Start) → start_of (opening_of image) tariff ≡ Ok s → s.durable ≡ d
+  pub begins_with : (s : Start) → start_of (opening_in image) tariff ≡ Ok s → s.durable ≡ d
   begins_with s e = one_state image s.durable d (start_stands image tariff s e).0 has
 
-  pub keeps : (r : Result Start Ended) → start_of (opening_of image) tariff ≡ r → (bytes line i x : List ℕ)
+  pub keeps : (r : Result Start Ended) → start_of (opening_in image) tariff ≡ r → (bytes line i x : List ℕ)
       → IsCutOfRun (Unit {0}) image [] r bytes line i x
       → KeepsCommits d (changes_of (deeds_from r bytes)) i
   keeps (Err why) e bytes line i x m = record {
@@ -92,9 +73,9 @@ module _ (image tariff : List ℕ) (d : Durable) (has : HasState image d) where
   seal_same (Err why) bytes line i x m = same_outside image i m.0
   seal_same (Ok s) bytes line i x m = m.seal_stays
 
-  -- where the run was carried out the number is that after all its commits
-  pub all_kept : (told : Type 0) (printed : List ℕ) (r : Result Start Ended) → start_of (opening_of image) tariff ≡ r
-      → (bytes now : List ℕ) → Stands told image printed r bytes now
+  -- if the run was carried out the number is that after all its commits
+  pub all_kept : (told : Type 0) (printed : List ℕ) (r : Result Start Ended) → start_of (opening_in image) tariff ≡ r
+      → (bytes now : List ℕ) → StandsAfterRun told image printed r bytes now
       → (e : Durable) → HasState now e → e.number ≡ d.number + length (changes_of (deeds_from r bytes))
   all_kept told printed (Err why) f bytes now stands e found =
       let same : e ≡ d = one_state image e d (subst (λ (l : List ℕ). HasState l e) stands found) has in
@@ -105,7 +86,7 @@ module _ (image tariff : List ℕ) (d : Durable) (has : HasState image d) where
       ap (λ (x : Durable). x.number) same ∙ (deeds_follow s.durable (deeds_in s bytes)).number
       ∙ ap (λ (x : Durable). x.number + length (changes_of (deeds_in s bytes))) (begins_with s f)
 
--- where the text is told, and nothing was printed before
+-- if the text is told, and nothing was printed before
 pub told_pair : (told : Type 0) → told → (image printed : List ℕ) → printed ≡ []
     → (r : Result Start Ended) (bytes line i x : List ℕ)
     → IsCutOfRun told image printed r bytes line i x → IsCutOfRun (Unit {0}) image [] r bytes line i x
@@ -191,7 +172,7 @@ module _ {D L : Type 0} {N : ℕ} (B : Ghosts D N L) (files left : FilesState) (
   image = B.image old
 
   abbrev begun : Result Start Ended
-  begun = start_of (opening_of image) (rest_of files 1)
+  begun = start_of (opening_in image) (rest_of files 1)
 
   abbrev bytes : List ℕ
   bytes = bytes_in run.call.course (rest_of files 2)

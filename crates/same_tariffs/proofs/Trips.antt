@@ -1,29 +1,19 @@
 -- What two meters make of trips that are alike.
-use Rattle.std.proofs.Common.{◌≡◌, ℕ, ℤ, ◌+◌, ◌*◌, ◌<◌, mul-pos, Bool, List, [], ◌∷◌, ◌++◌, map, sum, Option, Some}
-use Rattle.std.proofs.Common.{None, option_map, refl, ap, sym, subst, ◌∙◌, arith}
-use Rattle.std.proofs.lemmas.Grind.{common_steps}
-use Rattle.drive_modes.specs.Fare.{steps_above}
-use Rattle.drive_modes.specs.declared.meterage.Meterage.{Meterage}
-use Rattle.drive_modes.specs.declared.meterage.Rounding.{Rounding}
-use Rattle.taxi_units.specs.declared.receipt.Kind.{Kind}
-use Rattle.totals_record.specs.declared.trip.Trip.{Trip}
-use Rattle.drive_modes.specs.Distance.{millimetres_of}
-use Rattle.tariff_check.specs.SoundTariff.{supplement_numbered}
-use Rattle.tariff_check.specs.declared.values.Initial.{Initial}
-use Rattle.meter_model.specs.Closing.{entry_of, receipt_of}
-use Rattle.meter_model.specs.Display.{display_of, extras_shown, fare_shown}
-use Rattle.meter_model.specs.Interval.{pulses_so_far, ticks_so_far}
-use Rattle.meter_model.specs.Meter.{Meter}
-use Rattle.meter_model.specs.Setting.{Setting, modulus_of, rounding_of, stamp_at, unit_of}
-use Rattle.meter_model.specs.Supplements.{amount_in, amounts_of}
-use Rattle.meter_model.specs.Trip as model
-use Rattle.meter_model.specs.Trip.{Part, MeterTrip, begun, charge_in, charges_of, core_trip_of, fare_by_fees, fare_of}
-use Rattle.meter_model.specs.Trip.{held_trip, pulses_in, pulses_of, saved_at, steps_shown, ticks_in, trip_of, with_part}
-use Rattle.meter_model.specs.declared.core_trip.CoreTrip.{CoreTrip}
+use Rattle.std.proofs.Common.{[], ℕ, ℤ, ◌*◌, ◌++◌, ◌+◌, ◌<◌, ◌∙◌, ◌∷◌, ◌≡◌, Bool, List, None, Option, Some, ap, arith}
+use Rattle.std.proofs.{Common.{map, mul-pos, option_map, refl, subst, sum, sym}, lemmas.Grind.{common_steps}}
+use Rattle.{taxi_units.specs.declared.receipt.Kind.{Kind}, drive_modes.specs.Distance.{millimetres_of}}
+use Rattle.{tariff_check.specs.declared.values.Initial.{Initial}, meter_model.specs.Trip.{trip_of}}
+use Rattle.meter_model.specs.{ClosedTrip.{entry_of_trip, receipt_of}, Setting.{modulus_of, rounding_of, stamp_at}}
+use Rattle.meter_model.specs.{Display.{extras_shown, fare_shown}, Interval.{pulses_so_far}}
+use Rattle.meter_model.specs.{Supplements.{amount_in, amounts_of}, declared.core_trip.CoreTrip.{CoreTrip}}
+use Rattle.meter_model.specs.Trip.{charge_in, charges_of, core_trip_of, fare_by_fees, fare_of, saved_at, steps_shown}
 use Rattle.same_tariffs.specs.Alike.{AreHeldAlike, AreHoldsAlike, AreMeteragesAlike, AreOpeningsAlike, AreTripsAlike}
-use Rattle.same_tariffs.specs.Alike.{AreTripsOfBothAlike, IsSameMoney, with_trips}
-use Rattle.same_tariffs.proofs.Agreeing.{Agree}
+use Rattle.same_tariffs.{specs.Alike.{AreTripsOfBothAlike, IsSameMoney, with_trips}, proofs.Agreement.{Agree}}
+use Rattle.same_tariffs.specs.Common.{Meter, MeterTrip, Meterage, Part, Rounding, Setting, Trip, begun, display_of}
+use Rattle.same_tariffs.specs.Common.{held_trip, pulses_in, pulses_of, steps_above, supplement_numbered, ticks_in}
+use Rattle.same_tariffs.specs.Common.{ticks_so_far, unit_of, with_part}
 use Rattle.same_tariffs.proofs.Money.{none-same, saved-same, steps-same, sum-same, times-money, times-same}
+use Rattle.meter_model.specs.Trip as model
 
 -- ---- parts
 
@@ -161,7 +151,7 @@ amounts-alike s t a b agree same =
 
 -- ---- held trips
 
--- what a core keeps of a trip is the same where its sums are
+-- what a core keeps of a trip is the same if its sums are
 same-sums : (whole : CoreTrip) (p q t u a b : ℕ) → p ≡ q → t ≡ u → a ≡ b
     → record whole { pulses = p; ticks = t; extras_sum = a } ≡ record whole { pulses = q; ticks = u; extras_sum = b }
 same-sums whole p q t u a b pulses ticks amounts = cc
@@ -213,7 +203,7 @@ opened-both s t (Some a) None agree same = absurd same
 -- ---- what is shown and entered of them
 
 pub entry-alike : (s t : Setting) (kind : Kind) (position : ℕ) (a b : MeterTrip) → Agree s t → AreTripsAlike s t a b
-    → entry_of s kind position a ≡ entry_of t kind position b
+    → entry_of_trip s kind position a ≡ entry_of_trip t kind position b
 entry-alike s t kind position a b agree same =
     let constant = agree.constant in
     let roam : millimetres_of s.constant a.roam ≡ millimetres_of t.constant b.roam =

@@ -1,9 +1,7 @@
 -- What has been said with one offset more.
-use Rattle.std.proofs.Common.{◌≡◌, ℕ, ℤ, Bool, true, false, if◌then◌else◌, List, [], ◌∷◌, ◌++◌, Some, None, refl, ap}
-use Rattle.std.proofs.Common.{subst}
-use Rattle.seal_record.specs.OffsetList.{is_list_so_far, is_offset_list}
-use Rattle.seal_record.specs.ParamsSoFar.{ParamsSoFar}
-use Rattle.seal_record.specs.ParamLineStages.{with_pair}
+use Rattle.std.proofs.Common.{[], ℕ, ℤ, ◌++◌, ◌∷◌, ◌≡◌, Bool, List, None, Some, ap, false, if◌then◌else◌, refl, subst}
+use Rattle.{std.proofs.Common.{true}, seal_record.specs.OffsetList.{is_list_so_far, is_offset_list}}
+use Rattle.seal_record.specs.{ParamLineStages.{with_pair}, ParamsSoFar.{ParamsSoFar}}
 
 -- a list that is given as lawful may be the list so far
 pub lawful_so_far : (list found : List (ℕ × ℤ)) → (if is_offset_list list then Some list else None) ≡ Some found
@@ -20,7 +18,7 @@ lawful_so_far list found given = by (is_offset_list list) refl given
         subst (λ (pairs : List (ℕ × ℤ)). is_list_so_far pairs ≡ true) same (so_far list lawful)
     by false lawful is = absurd cc
 
--- where the list with one more is given, that is what has been said then
+-- if the list with one more is given, that is what has been said then
 pub said_with : (said : ParamsSoFar) (pair : ℕ × ℤ) (found : List (ℕ × ℤ))
     → (if is_offset_list (said.offsets ++ pair ∷ []) then Some (said.offsets ++ pair ∷ []) else None) ≡ Some found
     → with_pair said pair ≡ Some (record said { offsets = found })
@@ -33,7 +31,7 @@ said_with said pair found given = by (is_offset_list (said.offsets ++ pair ∷ [
         ap (λ (pairs : List (ℕ × ℤ)). Some (record said { offsets = pairs })) same
     by false is = absurd cc
 
--- where it isn't, nothing is said with the pair
+-- if it isn't, nothing is said with the pair
 pub said_without : (said : ParamsSoFar) (pair : ℕ × ℤ)
     → (if is_offset_list (said.offsets ++ pair ∷ []) then Some (said.offsets ++ pair ∷ []) else None) ≡ None
     → with_pair said pair ≡ None

@@ -1,20 +1,11 @@
--- Parameters and seals that bytes give, where they are in their ranges.
-use Rattle.std.proofs.Common.{◌≡◌, ◌↔◌, ℕ, Bool, true, false, if◌then◌else◌, ℤ, List, Option, Some, None, MatchOption}
-use Rattle.std.proofs.Common.{Decides, refl, sym, ap, subst, ◌∙◌}
-use Rattle.std.specs.Str.{bytes_eq}
-use Rattle.std.proofs.lemmas.Bool.{false_from_ne_true}
-use Rattle.interval_clock.specs.Offsets.{IsOffsetList}
-use Rattle.taxi_units.specs.Reading.{Gives, GivesSame}
-use Rattle.seal_record.specs.declared.params.Params.{Params}
-use Rattle.seal_record.specs.declared.seal.Seal.{Seal}
-use Rattle.seal_record.specs.Decoding.{decoded, reads}
-use Rattle.seal_record.specs.OffsetList.{is_offset_list, offsets_test}
-use Rattle.seal_record.specs.Ranges.{IsSeal, IsTaxi}
-use Rattle.seal_record.specs.RangeTests.{seal_test, taxi_test}
-use Rattle.seal_record.specs.SealLaws.{again}
+-- Parameters and seals that bytes give, if they are in their ranges.
+use Rattle.{std.specs.Str.{bytes_eq}, taxi_units.specs.Reading.{GivesSame}, seal_record.specs.Decoding.{decoded, reads}}
+use Rattle.std.proofs.Common.{ℕ, ℤ, ◌↔◌, ◌∙◌, ◌≡◌, Bool, Decides, List, MatchOption, None, Option, Some, ap, false}
+use Rattle.std.proofs.{Common.{if◌then◌else◌, refl, subst, sym, true}, lemmas.Bool.{false_from_ne_true}}
 use Rattle.slot_bodies.proofs.Laws.{not_in_range, other_bytes, own_bytes, reads_exactly}
-use Rattle.seal_record.specs.Spelling.{spelling}
-use Rattle.seal_record.specs.Values.{taxi_read}
+use Rattle.seal_record.specs.{Common.{Gives, IsOffsetList, Params}, OffsetList.{is_offset_list, offsets_test}}
+use Rattle.seal_record.specs.{RangeTests.{seal_test, taxi_test}, Ranges.{IsSeal, IsTaxi}, declared.seal.Seal.{Seal}}
+use Rattle.seal_record.specs.{SealLaws.{again}, Spelling.{spelling}, Values.{taxi_read}}
 
 -- what is found if a test lets something through
 by_test : {R A : Type 0} (view : R → A) (P : A → Type 0) (found : Option R) (x : A) (b : Bool) → Decides b (P x)
@@ -59,7 +50,7 @@ read_none bytes none = not_in_range seal_test spelling decoded bytes
     (false_from_ne_true (seal_test (decoded bytes)).passes
     (λ passes. none ((seal_test (decoded bytes)).decides.0 passes)))
 
--- what the bytes of a seal in its ranges are read as, where another spelling was found, and where their own
+-- what the bytes of a seal in its ranges are read as, if another spelling was found, and if their own
 pub read_other : (bytes shown : List ℕ) (seal : Seal) (same : Bool) → seal ≡ decoded bytes → shown ≡ spelling seal
     → same ≡ bytes_eq shown bytes → same ≡ false → reads bytes ≡ None
 unfolding reads
@@ -74,7 +65,7 @@ read_own bytes shown seal same is valid spelled test own =
     (ap (λ (xs : List ℕ). bytes_eq xs bytes) (sym (spelled ∙ ap spelling is)) ∙ sym test ∙ own)
     ∙ ap (λ (s : Seal). Some s) (sym is)
 
--- bytes are read as a seal exactly where it is in its ranges and the bytes are its spelling
+-- bytes are read as a seal exactly if it is in its ranges and the bytes are its spelling
 pub seals_are_read_by_their_table : (bytes : List ℕ) (seal : Seal)
     → (reads bytes ≡ Some seal) ↔ (IsSeal seal × (bytes ≡ spelling seal))
 unfolding reads

@@ -1,11 +1,9 @@
 //! What the lines of a text have said so far.
-ghost use Rattle.std.specs.Prelude.{◌≡◌, ◌++◌, ◌∷◌, [], if◌then◌else◌, Some, None};
-ghost use Rattle.taxi_units.specs.Reading.{Gives};
-ghost use Rattle.seal_record.specs.OffsetList.{is_offset_list};
+ghost use Rattle.std.specs.Prelude.{[], ◌++◌, ◌∷◌, ◌≡◌, None, Some, if◌then◌else◌};
+ghost use Rattle.seal_record.specs.Common.{Gives};
+ghost use Rattle.seal_record.specs.{OffsetList.{is_offset_list}, ParamsSoFar.{no_params_yet}, Reading.{whole}};
+ghost use Rattle.seal_record.specs.ParamLineStages.{is_twice, keyed_line, line_read, with_pair, with_value};
 ghost use Rattle.seal_record.specs.ParamLineStages as spec;
-ghost use Rattle.seal_record.specs.ParamsSoFar.{no_params_yet};
-ghost use Rattle.seal_record.specs.ParamLineStages.{with_value, with_pair, is_twice, line_read, keyed_line};
-ghost use Rattle.seal_record.specs.Reading.{whole};
 
 use crate::lines::{is_passed, key_and_value};
 use crate::names::name_of;
@@ -31,10 +29,8 @@ pub(crate) struct ParamsSoFar {
 }
 
 impl Model for ParamsSoFar {
-    ghost use Rattle.std.specs.Prelude.{◌≡◌, true};
-    ghost use Rattle.std.specs.Option.{option_map};
-    ghost use Rattle.seal_record.specs.OffsetList.{is_list_so_far};
-    ghost use Rattle.seal_record.specs.ParamsSoFar.{ParamsSoFar as State};
+    ghost use Rattle.std.specs.{Option.{option_map}, Prelude.{◌≡◌, true}};
+    ghost use Rattle.seal_record.specs.{OffsetList.{is_list_so_far}, ParamsSoFar.{ParamsSoFar as State}};
 
     ghost Value = { State };
 
@@ -79,7 +75,7 @@ impl ParamsSoFar {
         }
     }
 
-    /// What has been said with one offset more, where the list with it is lawful.
+    /// What has been said with one offset more, if the list with it is lawful.
     fn with_pair(self, pair: (u64, i32)) -> Option<ParamsSoFar>
         ensures { result ≡ with_pair self pair }
     {
@@ -87,7 +83,7 @@ impl ParamsSoFar {
         Some(ParamsSoFar { offsets, ..self })
     }
 
-    /// What has been said with a parameter's value, where the value is of its form.
+    /// What has been said with a parameter's value, if the value is of its form.
     fn with_value(mut self, name: Name, value: &[u8]) -> Option<ParamsSoFar>
         ensures { result ≡ with_value self name value.now }
     {
@@ -152,7 +148,7 @@ impl ParamsSoFar {
         self.with_key(number, key, value)
     }
 
-    /// All parameters, where none is missing.
+    /// All parameters, if none is missing.
     pub(crate) fn whole(self) -> Result<Params, ParamFault>
         ensures { result ≡ whole self }
     {
@@ -173,7 +169,7 @@ impl ParamsSoFar {
     }
 }
 
-/// A list of offsets with one more behind it, where that list is lawful.
+/// A list of offsets with one more behind it, if that list is lawful.
 fn with_offset(mut offsets: Pairs, pair: (u64, i32)) -> Option<Pairs>
     ensures { Gives (λ list. list.items) result
         (if is_offset_list (offsets.items ++ pair ∷ []) then Some (offsets.items ++ pair ∷ []) else None) }

@@ -1,10 +1,7 @@
 //! Reads the text of the parameters.
-ghost use Rattle.std.specs.Prelude.{◌≡◌, ◌≤◌, length, IfOk};
-ghost use Rattle.seal_record.specs.Limits.{longest_text};
-ghost use Rattle.seal_record.specs.Ranges.{IsParams};
-ghost use Rattle.seal_record.specs.Lines.{lines_of};
-ghost use Rattle.seal_record.specs.Reading.{lines_read, params_read};
-ghost use Rattle.seal_record.specs.ParamsSoFar.{no_params_yet};
+ghost use Rattle.std.specs.Prelude.{◌≡◌, ◌≤◌, IfOk, length};
+ghost use Rattle.seal_record.specs.{Limits.{longest_text}, Lines.{lines_of}};
+ghost use Rattle.seal_record.specs.{ParamsSoFar.{no_params_yet}, Ranges.{IsParams}, Reading.{lines_read, params_read}};
 
 use crate::lines::first_line;
 use crate::params::{ParamFault, Params};
@@ -30,10 +27,10 @@ const LONGEST_TEXT: usize = 65_536;
 /// 946684800, and each is greater than the one before. Each other key stands once. The form is this
 /// project's own. No memory is taken.
 ///
-/// `TooLong` where the text has more than 65,536 bytes; else the fault of the first bad line, which is
-/// `Unknown` where its key is no parameter's, `Twice` where its key stood before and may stand once,
-/// `BadValue` where its value is not of its form; and else `Missing` with the first parameter of the
-/// table that no line gives. `texts_say_parameters_line_by_line` says what its lines, keys and numbers are.
+/// `TooLong`: the text has more than 65,536 bytes. Else the fault of the first bad line: `Unknown` if its key is no
+/// parameter's, `Twice` if its key stood before and may stand once, `BadValue` if its value is not of its form. Else
+/// `Missing`, with the first parameter of the table that no line gives. The law `texts_say_parameters_line_by_line`
+/// says what lines, keys and numbers are.
 pub fn read_params(text: &[u8]) -> Result<Params, ParamFault>
     ensures answer { result ≡ params_read text.now }
     ensures ranges { IfOk result IsParams }

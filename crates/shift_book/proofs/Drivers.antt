@@ -1,8 +1,6 @@
 -- Characters of drivers at the front of a text.
-use Rattle.std.proofs.Common.{◌≡◌, ℕ, suc, ◌+◌, Bool, true, false, cond, List, [], ◌∷◌, ◌++◌, length, take, refl, arith}
-use Rattle.std.specs.List.{prefix_len}
-use Rattle.shift_book.specs.Marks.{PassAll}
-use Rattle.taxi_units.specs.Identifier.{is_identifier_character}
+use Rattle.{std.specs.List.{prefix_len}, shift_book.specs.{Common.{is_identifier_character}, Marks.{PassAll}}}
+use Rattle.std.proofs.Common.{[], ℕ, ◌++◌, ◌+◌, ◌∷◌, ◌≡◌, Bool, List, arith, cond, false, length, refl, suc, take, true}
 
 passed : (test : ℕ → Bool) (b : Bool) (x : ℕ) (xs : List ℕ) → test x ≡ b → PassAll test (take (prefix_len test xs) xs)
     → PassAll test (take (cond b (1 + prefix_len test xs) 0) (x ∷ xs))
@@ -20,7 +18,7 @@ pub characters_in_front : (xs : List ℕ)
     → PassAll is_identifier_character (take (prefix_len is_identifier_character xs) xs)
 characters_in_front xs = front_passes is_identifier_character xs
 
--- and all of it is taken, where what follows doesn't pass
+-- and all of it is taken if what follows doesn't pass
 pub whole_front : (test : ℕ → Bool) (xs rest : List ℕ) → PassAll test xs → prefix_len test rest ≡ 0
     → prefix_len test (xs ++ rest) ≡ length xs
 whole_front test [] rest all stops = stops

@@ -1,14 +1,8 @@
 -- The mark at the front of a text is the one that is read there.
-use Rattle.std.proofs.Common.{◌≡◌, ℕ, List, Option, Some, None, ap, ◌∙◌, arith}
-use Rattle.totals_record.specs.declared.durable_state.Durable.{Durable}
-use Rattle.taxi_units.specs.Reading.{word_at}
-use Rattle.taxi_units.proofs.Laws.{words_are_read_by_their_text}
-use Rattle.shift_book.specs.declared.numbers.Numbers.{Numbers}
-use Rattle.shift_book.specs.Books.{IsNext}
-use Rattle.shift_book.specs.Following.{Fit, IsNowhereLess, numbers_in}
-use Rattle.shift_book.specs.Marks.{Signing, mark_text}
-use Rattle.shift_book.specs.Reading.{mark_at}
-use Rattle.shift_book.proofs.Again.{mark_back}
+use Rattle.std.proofs.Common.{ℕ, ◌∙◌, ◌≡◌, List, None, Option, Some, ap, arith}
+use Rattle.taxi_units.{specs.Reading.{word_at}, proofs.Laws.{words_are_read_by_their_text}}
+use Rattle.shift_book.{specs.{Books.{IsNext}, Common.{Durable, Numbers}}, proofs.Again.{mark_back}}
+use Rattle.shift_book.specs.{MarkOrder.{Fit, IsNowhereLess, numbers_in}, Marks.{Signing, mark_text}, Reading.{mark_at}}
 
 -- smaller numbers fit too
 smaller_fit : (a b : Numbers) → IsNowhereLess a b → Fit b → Fit a
@@ -32,7 +26,7 @@ next_is now before text mark rest fit next =
 same_mark : (a b : Signing) → Some a ≡ Some b → a ≡ b
 same_mark a b e = cc
 
--- where none is read, no mark is next
+-- if none is read, no mark is next
 pub none_is_next : (now : Durable) (before : Option Signing) (text : List ℕ) → Fit (numbers_in now)
     → mark_at text ≡ None
     → (mark : Signing) (rest : List ℕ) → ¬ (IsNext now before text mark rest)
@@ -40,7 +34,7 @@ none_is_next now before text fit none mark rest next =
     let found = next_is now before text mark rest fit next in
     absurd cc
 
--- where one is read, no other is
+-- if one is read, no other is
 pub other_is_next : (now : Durable) (before : Option Signing) (text : List ℕ) (found : Signing) → Fit (numbers_in now)
     → mark_at text ≡ Some found
     → (mark : Signing) (rest : List ℕ) → IsNext now before text mark rest → mark ≡ found
@@ -48,7 +42,7 @@ other_is_next now before text found fit is mark rest next =
     let read = next_is now before text mark rest fit next in
     same_mark mark found cc
 
--- and it is none either, where its line doesn't stand there
+-- and it is none either if its line doesn't stand there
 pub unspelled_is_next : (now : Durable) (before : Option Signing) (text : List ℕ) (found : Signing)
     → Fit (numbers_in now) → mark_at text ≡ Some found
     → word_at (mark_text found) text ≡ None → (mark : Signing) (rest : List ℕ) → ¬ (IsNext now before text mark rest)

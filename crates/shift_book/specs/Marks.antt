@@ -1,9 +1,7 @@
 -- Rules: what marks say, and their lines.
-use Rattle.std.specs.Prelude.{◌≡◌, ℕ, ◌≤◌, Bool, true, false, List, [], ◌∷◌, ◌++◌, length, codes, decimal}
-use Rattle.std.specs.List.{AllByRecursion, flat_map}
-use Rattle.taxi_units.specs.Written.{IsNumberText}
-use Rattle.shift_book.specs.declared.numbers.Numbers.{Numbers}
-use Rattle.taxi_units.specs.Identifier.{is_identifier_character}
+use Rattle.{std.specs.List.{AllByRecursion, flat_map}, taxi_units.specs.Written.{IsNumberText}}
+use Rattle.std.specs.Prelude.{[], ℕ, ◌++◌, ◌∷◌, ◌≡◌, ◌≤◌, Bool, List, codes, decimal, false, length, true}
+use Rattle.shift_book.specs.Common.{Numbers, is_identifier_character}
 
 -- the numbers of a mark are the number of the store, the distance, the distance when hired, the hirings, the
 -- supplements and the fare
@@ -18,7 +16,7 @@ numbers_of number distance hired hirings supplements fare =
       fare = fare;
     }
 
--- a mark says who signs on, or that whoever was on signs off, and the numbers of the store
+-- a mark has who signs on, or that whoever was on signs off, and the numbers of the store
 pub record Signing : Type 0 where
   pub driver : List ℕ
   pub on : Bool
@@ -62,7 +60,7 @@ mark_text mark = head_text mark.on mark.driver ++ numbers_text mark.numbers
 abbrev pub book_text : List Signing → List ℕ
 book_text marks = flat_map mark_text marks
 
--- six texts stand each behind a blank, and an LF ends the line
+-- six texts are each behind a blank, and an LF ends the line
 abbrev pub six_fields : (one two three four five six : List ℕ) → List ℕ
 six_fields one two three four five six =
     codes " " ++ one ++ codes " " ++ two ++ codes " " ++ three ++ codes " " ++ four ++ codes " " ++ five

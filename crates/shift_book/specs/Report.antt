@@ -1,13 +1,8 @@
 -- Rules: the report of a book, its lines, and what they share out.
-use Rattle.std.specs.Prelude.{◌≡◌, ℕ, ◌+◌, List, [], ◌∷◌, ◌++◌, codes, decimal}
-use Rattle.std.specs.List.{sum_by}
-use Rattle.std.specs.Map.{values_of}
-use Rattle.taxi_units.specs.Number.{money_text}
-use Rattle.shift_book.specs.declared.numbers.Numbers.{Numbers}
-use Rattle.shift_book.specs.declared.shift.Shift.{Shift}
-use Rattle.shift_book.specs.Marks.{Signing, number_text}
-use Rattle.shift_book.specs.ShareStages.{with_shifts}
-use Rattle.shift_book.specs.Shares.{Column, at, Driver, shifts_in, unsigned_in, growth_in, AreSums, AreOrdered}
+use Rattle.std.specs.{List.{sum_by}, Map.{values_of}, Prelude.{[], ℕ, ◌++◌, ◌+◌, ◌∷◌, ◌≡◌, List, codes, decimal}}
+use Rattle.{taxi_units.specs.Number.{money_text}, shift_book.specs.Marks.{Signing, number_text}}
+use Rattle.shift_book.specs.{Common.{Numbers, Shift}, ShareStages.{with_shifts}}
+use Rattle.shift_book.specs.Shares.{AreOrdered, AreSums, Column, Driver, at, growth_in, shifts_in, unsigned_in}
 
 -- an amount in a line is written behind a blank
 abbrev pub amount_text : (decimals units : ℕ) → List ℕ
@@ -41,7 +36,7 @@ driver_lines decimals [] = []
 driver_lines decimals (sum ∷ sums) = driver_line decimals sum ++ driver_lines decimals sums
 
 -- the report of a book is the lines of its shifts, the lines of the drivers' sums in the order of the drivers, the line
--- of the growth while nobody was on, and the line of all growth; `with_shifts` adds up the sums shift by shift, and the
+-- of the growth while nobody was on, and the line of all growth. `with_shifts` adds up the sums shift by shift, and the
 -- law reports_share_the_growth says that the text is the report
 abbrev pub report_text : (decimals : ℕ) (now : Numbers) → List Signing → List ℕ
 report_text decimals now marks =
@@ -49,9 +44,9 @@ report_text decimals now marks =
     ++ ((codes "UNSIGNED" ++ growth_text decimals (unsigned_in now marks))
     ++ (codes "GROWTH" ++ growth_text decimals (growth_in now marks))))
 
--- a text is the report of a book if it has a line for each shift, one for each driver, one for the growth while
--- nobody was on, and one for all growth; the shifts and the growth while nobody was on add up to all growth, and so do
--- the drivers' sums and that growth
+-- a text is the report of a book if it has a line for each shift, one for each driver, one for the growth while nobody
+-- was on, and one for all growth. The shifts and the growth while nobody was on add up to all growth, and so do the
+-- drivers' sums and that growth
 pub record IsReport (decimals : ℕ) (now : Numbers) (marks : List Signing) (report : List ℕ) : Type 0 where
   pub sums : List (Driver × Numbers)
   pub text_is : report ≡ shift_lines decimals 1 (shifts_in now marks) ++ (driver_lines decimals sums

@@ -1,17 +1,9 @@
 -- Rules: what grew between the points of a book, and whose it is.
-use Rattle.std.specs.Prelude.{◌≡◌, ℕ, ◌+◌, ◌-◌, Bool, if◌then◌else◌, List, [], ◌∷◌, ◌++◌, is_some, unwrap_or}
-use Rattle.std.specs.BTreeMap.{is_at}
-use Rattle.std.specs.List.{list_any, sum_by}
-use Rattle.std.specs.List.Sorted.{IsStrictlySortedBy}
-use Rattle.std.specs.Map.{keys_of, values_of, lookup}
-use Rattle.std.specs.Option.{option_map}
-use Rattle.std.specs.Cmp.Lexicographic.{slice_cmp}
-use Rattle.std.specs.Ordering.{is_eq, nat_cmp}
-use Rattle.std.specs.declared.cmp.Ordering.{Ordering}
-use Rattle.arrayvec.specs.ArrayVec.{ArrayVec}
-use Rattle.shift_book.specs.declared.numbers.Numbers.{Numbers}
-use Rattle.shift_book.specs.declared.shift.Shift.{Shift}
-use Rattle.shift_book.specs.Marks.{Signing, numbers_of}
+use Rattle.{std.specs.{BTreeMap.{is_at}, Option.{option_map}}, arrayvec.specs.ArrayVec.{ArrayVec}}
+use Rattle.std.specs.{Cmp.Lexicographic.{slice_cmp}, List.Sorted.{IsStrictlySortedBy}, Map.{keys_of, lookup, values_of}}
+use Rattle.std.specs.{List.{list_any, sum_by}, Ordering.{is_eq, nat_cmp}, declared.cmp.Ordering.{Ordering}}
+use Rattle.std.specs.Prelude.{[], ℕ, ◌++◌, ◌+◌, ◌-◌, ◌∷◌, ◌≡◌, Bool, List, if◌then◌else◌, is_some, unwrap_or}
+use Rattle.shift_book.specs.{Common.{Numbers, Shift}, Marks.{Signing, numbers_of}}
 
 -- a column tells apart the six numbers of a point, or of growth
 pub data Column : Type 0 where
@@ -73,8 +65,8 @@ abbrev pub unsigned_in : (now : Numbers) → List Signing → Numbers
 unsigned_in now [] = nothing
 unsigned_in now (mark ∷ marks) = plus (free_behind mark (next_point now marks)) (unsigned_in now marks)
 
--- the growth of a book is what has grown from its first mark to the store as it is, which is nothing if the book has
--- no marks
+-- the growth of a book is what has grown from its first mark to the store as it is, which is nothing if the book has no
+-- marks
 abbrev pub growth_in : (now : Numbers) → List Signing → Numbers
 growth_in now [] = nothing
 growth_in now (mark ∷ marks) = grown mark.numbers now
@@ -107,6 +99,6 @@ pub record AreSums (sums : List (Driver × Numbers)) (shifts : List Shift) : Typ
   pub all : (column : Column) → sum_by (at column) (values_of sums)
       ≡ sum_by (λ shift. at column shift.growth) shifts
 
--- the drivers stand in the order of their bytes, each once
+-- drivers are ordered if they are in the order of their bytes, each once
 abbrev pub AreOrdered : List (Driver × Numbers) → Type 0
 AreOrdered sums = IsStrictlySortedBy driver_cmp (keys_of sums)

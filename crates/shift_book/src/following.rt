@@ -1,17 +1,15 @@
 //! Which mark may follow in a book.
-ghost use Rattle.std.specs.Prelude.{◌≡◌, ◌↔◌, ℕ, List, IsTrue, IfSome, IfNone};
-ghost use Rattle.shift_book.specs.Books.{IsNext};
-ghost use Rattle.totals_record.specs.declared.durable_state.Durable.{Durable};
-ghost use Rattle.shift_book.specs.Following.{Fit, MayFollow, last_of, numbers_in};
-ghost use Rattle.shift_book.specs.Marks.{HasDriver, Signing};
+ghost use Rattle.std.specs.Prelude.{ℕ, ◌↔◌, ◌≡◌, IfNone, IfSome, IsTrue, List};
+ghost use Rattle.shift_book.specs.{Books.{IsNext}, Common.{Durable}};
+ghost use Rattle.shift_book.specs.{MarkOrder.{Fit, MayFollow, last_of, numbers_in}, Marks.{HasDriver, Signing}};
 
 use crate::mark::{Mark, spelled};
 use crate::numbers::{Numbers, is_nowhere_less};
 use crate::reading::mark_at;
 use taxi_units::word;
 
-/// The mark whose line stands at the front of a text and that may follow these marks beside a store with
-/// these numbers, and what stands after it.
+/// The mark whose line is at the front of a text and that may follow these marks beside a store with these numbers, and
+/// what is behind the line.
 pub(crate) fn next_mark<'a>(
     text: &'a [u8],
     marks: &[Mark],
@@ -33,7 +31,7 @@ pub(crate) fn next_mark<'a>(
     }
 }
 
-/// Whether a mark whose driver is as said may follow these marks beside a store with these numbers.
+/// Whether a mark may follow these marks beside a store with these numbers. Its driver is as said.
 fn may_follow(marks: &[Mark], mark: &Mark, limit: &Numbers) -> bool
     requires { HasDriver mark.now.on mark.now.driver }
     ensures { (now : Durable) → limit.now ≡ numbers_in now

@@ -1,10 +1,7 @@
 //! The six numbers of a mark.
-ghost use Rattle.std.specs.Prelude.{◌≡◌, ◌+◌, ◌≤◌, ◌++◌, ◌↔◌, IsTrue};
-ghost use Rattle.arrayvec.specs.ArrayVec.{array_vec_len};
-ghost use Rattle.taxi_units.specs.Line.{line_size};
-ghost use Rattle.taxi_units.specs.Reading.{Gives, GivesSame};
-ghost use Rattle.shift_book.specs.Marks.{number_text, numbers_of, numbers_text};
-ghost use Rattle.shift_book.specs.Following.{Fit, IsNowhereLess, numbers_in};
+ghost use Rattle.std.specs.Prelude.{◌++◌, ◌+◌, ◌↔◌, ◌≡◌, ◌≤◌, IsTrue};
+ghost use Rattle.{arrayvec.specs.ArrayVec.{array_vec_len}, shift_book.specs.MarkOrder.{Fit, IsNowhereLess, numbers_in}};
+ghost use Rattle.shift_book.specs.{Common.{Gives, GivesSame, line_size}, Marks.{number_text, numbers_of, numbers_text}};
 ghost use Rattle.shift_book.specs.Reading as spec;
 
 use crate::digits::digits_at;
@@ -128,7 +125,7 @@ pub(crate) fn numbers_at(text: &[u8]) -> Option<Numbers>
     })
 }
 
-/// A number below 2^64 behind a blank, and what stands after it.
+/// A number below 2^64 behind a blank, and what is behind it.
 #[tactic(auto, unfolding(crate::specs::Reading::count_at))]
 fn count_at(text: &[u8]) -> Option<(u64, &[u8])>
     ensures { Gives (λ x. (x.0, x.1.now)) result (spec.count_at text.now) }
@@ -141,7 +138,7 @@ fn count_at(text: &[u8]) -> Option<(u64, &[u8])>
     }
 }
 
-/// A number below 2^128 behind a blank, and what stands after it.
+/// A number below 2^128 behind a blank, and what is behind it.
 #[tactic(auto, unfolding(crate::specs::Reading::amount_at))]
 fn amount_at(text: &[u8]) -> Option<(u128, &[u8])>
     ensures { Gives (λ x. (x.0, x.1.now)) result (spec.amount_at text.now) }

@@ -1,10 +1,8 @@
 //! The report of a book.
-ghost use Rattle.std.specs.Prelude.{◌≡◌, ◌+◌, ◌*◌, ◌≤◌, ◌++◌, None, length, vec_len, IfOk, OnOk};
-ghost use Rattle.arrayvec.specs.ArrayVec.{array_vec_len};
-ghost use Rattle.taxi_units.specs.Line.{line_size};
-ghost use Rattle.shift_book.specs.Following.{FollowOn, numbers_in};
-ghost use Rattle.shift_book.specs.Report.{IsReport, amount_text, driver_line, driver_lines, growth_text};
-ghost use Rattle.shift_book.specs.Report.{report_text, shift_line, shift_lines};
+ghost use Rattle.std.specs.Prelude.{◌*◌, ◌++◌, ◌+◌, ◌≡◌, ◌≤◌, IfOk, None, OnOk, length, vec_len};
+ghost use Rattle.{arrayvec.specs.ArrayVec.{array_vec_len}, shift_book.specs.Report.{shift_line, shift_lines}};
+ghost use Rattle.shift_book.specs.{Common.{line_size}, MarkOrder.{FollowOn, numbers_in}};
+ghost use Rattle.shift_book.specs.Report.{IsReport, amount_text, driver_line, driver_lines, growth_text, report_text};
 
 use crate::mark::Mark;
 use crate::numbers::{Numbers, numbers_in, push_field};
@@ -15,13 +13,13 @@ use std::alloc::Global;
 use taxi_units::{Line, NoMemory, push_bytes, push_money, push_number};
 use totals_record::Durable;
 
-/// The report of a book beside the state of the store that it was read for: a line for each shift, one
-/// for each driver in byte order, the growth while nobody was on, and all growth. Each has the hirings,
-/// the distance and the distance when hired in metres with three decimals, the fare and the supplements
-/// with the store's decimals. A shift that is still on runs to the store as it is.
+/// The report of a book beside the state of the store for which it was read: a line for each shift, one for each driver
+/// in byte order, the growth while nobody was on, and all growth. Each has the hirings, the distance and the distance
+/// when hired in metres with three decimals, the fare and the supplements with the store's decimals. A shift that is
+/// still on runs to the store as it is.
 ///
-/// It has at most 1,024 bytes for each mark, and 1,024 more. `NoMemory` where memory runs out. The form is
-/// this project's own.
+/// It has at most 1,024 bytes for each mark, and 1,024 more. `NoMemory` if memory runs out. The form is this project's
+/// own.
 pub fn shifts(
     alloc: Global,
     marks: &[Mark],

@@ -1,9 +1,7 @@
 //! Shifts, and the growth between the points of a book.
-ghost use Rattle.std.specs.Prelude.{◌≡◌, ◌++◌, IfOk, OnOk};
-ghost use Rattle.shift_book.specs.Following.{Fit, IsNowhereLess};
-ghost use Rattle.shift_book.specs.ShareStages.{Rise};
-ghost use Rattle.shift_book.specs.Shares.{begun_by, free_behind, growth_in, grown, next_point};
-ghost use Rattle.shift_book.specs.Shares.{plus, shifts_in, unsigned_in};
+ghost use Rattle.std.specs.Prelude.{◌++◌, ◌≡◌, IfOk, OnOk};
+ghost use Rattle.shift_book.specs.{MarkOrder.{Fit, IsNowhereLess}, ShareStages.{Rise}, Shares.{unsigned_in}};
+ghost use Rattle.shift_book.specs.Shares.{begun_by, free_behind, grown, growth_in, next_point, plus, shifts_in};
 
 use crate::mark::Mark;
 use crate::numbers::Numbers;
@@ -36,7 +34,7 @@ pub(crate) fn shifts_of(
     Ok(shifts)
 }
 
-/// Appends the shift that a mark begins, where it signs on.
+/// Appends the shift that a mark begins, if it signs on.
 fn push_shift(shifts: &mut Vec<Shift>, mark: &Mark, next: &Numbers) -> Result<(), NoMemory>
     requires { IsNowhereLess mark.now.numbers next.now }
     ensures { OnOk result (shifts.new.items ≡ shifts.old.items ++ begun_by mark.now next.now) }
@@ -67,7 +65,7 @@ pub(crate) fn unsigned_of(marks: &[Mark], now: &Numbers) -> Numbers
     unsigned
 }
 
-/// What grew behind a mark, where nobody is on there.
+/// What grew behind a mark, if nobody is on there.
 fn free_behind(mark: &Mark, next: &Numbers) -> Numbers
     requires { IsNowhereLess mark.now.numbers next.now }
     ensures { result ≡ free_behind mark.now next.now }

@@ -1,50 +1,28 @@
 -- The command `seal`: what it leaves of the store.
-use Rattle.std.proofs.Common.{◌≡◌, ◌≢◌, ◌⊎◌, ⊎_elim, inl, inr, ℕ, ◌<◌, ◌≤◌, List, [], Option, None, Some, Result, Ok}
-use Rattle.std.proofs.Common.{Err, refl, sym, ap, subst, ◌∙◌, get_or, arith}
-use Rattle.std.specs.Prelude.{◌==◌, if◌then◌else◌, is_some, Bool, true, false}
-use Rattle.std.proofs.lemmas.Bool.{cases_lt}
-use Rattle.std.proofs.lemmas.List.{ext_get_or}
-use Rattle.outside.specs.declared.board.Board.{Ghosts}
-use Rattle.outside.specs.Disk.{IsWithin, MayLeaveAmid, SameBut}
-use Rattle.outside.specs.Printing.{Begins}
-use Rattle.outside.specs.Runs.{IsAtRest as NothingFlies, KeepsStore, LeavesOnly, MayHold}
-use Rattle.outside.proofs.Laws.{leaves_wider}
-use Rattle.slot_store.specs.declared.found.Found.{Found}
-use Rattle.slot_store.specs.declared.found.Found.TheVariants.{Blank, Latest}
-use Rattle.slot_store.specs.declared.found.SlotFault.{SlotFault}
-use Rattle.slot_store.specs.declared.pair.Place.{Place}
-use Rattle.slot_store.specs.Scan.{IsAnswer, found_at}
-use Rattle.slot_store.specs.Slots.{IsSettled, StandsFor}
-use Rattle.slot_store.specs.Syncs.{IsAsHeld, LeavesFromSync}
-use Rattle.slot_store.specs.Writes.{LeavesBeside, WritesIn}
+use Rattle.std.{specs.Prelude.{◌==◌, Bool, false, if◌then◌else◌, is_some, true}, proofs.lemmas.List.{ext_get_or}}
+use Rattle.std.proofs.Common.{[], ℕ, ◌<◌, ◌∙◌, ◌≡◌, ◌≢◌, ◌≤◌, ◌⊎◌, Err, List, None, Ok, Option, Result, Some, ap, arith}
+use Rattle.std.proofs.{Common.{get_or, inl, inr, refl, subst, sym, ⊎_elim}, lemmas.Bool.{cases_lt}}
+use Rattle.outside.specs.{Disk.{IsWithin, MayLeaveAmid, SameBut}, Runs.{IsAtRest as NothingFlies}}
+use Rattle.{outside.proofs.Laws.{leaves_wider}, slot_store.specs.{Sizes.{pair_size}, Writes.{LeavesBeside, WritesIn}}}
+use Rattle.{slot_store.specs.{Scan.{IsAnswer}, Slots.{IsSettled, StandsFor}}, meter_store.specs.Sealing.{totals_found}}
 use Rattle.slot_store.proofs.Laws.{answer_is, at_stands, from_sync_as, goes_on, same_at, settled_already}
-use Rattle.totals_record.specs.declared.durable_state.Durable.{Durable}
+use Rattle.meter_store.specs.Sealing.{FoundSeal, HoldsSealing, IsAmid, IsSealed, LeavesSealing, ScannedSeal, ShowsSeal}
+use Rattle.meter_store.specs.Sealing.{StillHas, first_written, places_written, seal_found, sealed_totals, seals_at}
+use Rattle.{meter_store.proofs.Laws.{seal_is_found}, call_ends.proofs.Laws.{board_or_not, no_fault}}
+use Rattle.{call_ends.specs.Call.{IsEnd}, store_commands.specs.Common.{next_number, old_seal, sealed_line, status_of}}
+use Rattle.store_commands.specs.Common.{Base, Begins, Blank, Durable, Ended, Found, Ghosts, IsAsHeld, KeepsStore}
+use Rattle.store_commands.specs.Common.{Latest, LeavesFromSync, LeavesOnly, MayHold, Opening, Place, Seal, Sealing}
+use Rattle.store_commands.specs.Common.{SlotFault, StoreFault, found_at, found_number, last_seal_number, line_of}
+use Rattle.store_commands.{specs.Opening.{opening_by, opening_in}, proofs.Sealings.{sealing-made, sealing-over}}
+use Rattle.store_commands.specs.Seal.{HasSealed, MayLeaveSealing, Seals, ShowsByteOf, TotalsStay, over_seal}
+use Rattle.store_commands.specs.Seal.{over_totals, seal_read, sealing_of, sealing_over, sealing_with}
+use Rattle.store_commands.specs.SealSteps.{IsNoSeal, RestsAmid}
+use Rattle.store_commands.proofs.SealLines.{no_memory_other, not_shown, other_line, read_fault_other}
 use Rattle.totals_record.specs.Reading as totals
 use Rattle.meter_store.specs.Stored as states
-use Rattle.seal_record.specs.declared.seal.Seal.{Seal}
 use Rattle.seal_record.specs.Decoding as seals
-use Rattle.seal_record.specs.Limits.{last_seal_number}
-use Rattle.meter_store.specs.Sealing.{FoundSeal, IsAmid, IsSealed, HoldsSealing, StillHas, LeavesSealing, ScannedSeal}
-use Rattle.meter_store.specs.Sealing.{Sealing, ShowsSeal, first_written, found_number, next_number, old_seal}
-use Rattle.meter_store.specs.Sealing.{places_written, seal_found, seals_at, totals_after, totals_found}
-use Rattle.slot_store.specs.Sizes.{pair_size}
-use Rattle.meter_store.proofs.Laws.{seal_is_found}
-use Rattle.call_ends.specs.declared.ending.Ended.{Ended}
 use Rattle.call_ends.specs.declared.ending.Ended.TheVariants as ended
-use Rattle.store_commands.specs.declared.opening.Opening.{Opening}
-use Rattle.store_commands.specs.declared.opening.StoreFault.{StoreFault}
 use Rattle.store_commands.specs.declared.opening.StoreFault.TheVariants as stores
-use Rattle.store_commands.specs.declared.seal.Base.{Base}
-use Rattle.call_ends.specs.Call.{IsEnd}
-use Rattle.call_ends.specs.LastLine.{line_of, sealed_line, status_of}
-use Rattle.store_commands.specs.Opening.{opened, opening_of}
-use Rattle.store_commands.specs.Seal.{HasSealed, MayLeaveSealing, Seals, ShowsByteOf, TotalsStay, over_seal}
-use Rattle.store_commands.specs.Seal.{over_totals, seal_read}
-use Rattle.store_commands.specs.Seal.{sealing_of, sealing_over, sealing_with}
-use Rattle.store_commands.specs.SealSteps.{IsNoSeal, RestsAmid}
-use Rattle.call_ends.proofs.Laws.{no_fault, board_or_not}
-use Rattle.store_commands.proofs.SealLines.{no_memory_other, not_shown, other_line, read_fault_other}
-use Rattle.store_commands.proofs.Sealings.{sealing-made, sealing-over}
 
 -- ---- a cut may leave the opening image
 
@@ -94,7 +72,7 @@ shows_seal image (Latest place seal) is = at_stands seals.reads seals.seal_numbe
 amid_found : (image tariff params : List ℕ) (t : Result (Found Durable) SlotFault)
     (l : Result (Found Seal) SlotFault) (s : Sealing)
     → IsAnswer totals.reads states.state_number_of 0 image t → IsAnswer seals.reads seals.seal_number_of 1024 image l
-    → sealing_of (opened t l) tariff params ≡ Ok s → IsAmid s image
+    → sealing_of (opening_by t l) tariff params ≡ Ok s → IsAmid s image
 amid_found image tariff params (Err fault) l s one two e = absurd cc
 amid_found image tariff params (Ok found) (Err fault) s one two e = absurd cc
 amid_found image tariff params (Ok found) (Ok seal) s one two e =
@@ -108,10 +86,10 @@ amid_found image tariff params (Ok found) (Ok seal) s one two e =
 -- so it may be left, with a text in which no byte of the line stands
 cut_already : (image tariff params printed text : List ℕ)
     → ((number : ℕ) → ¬ (ShowsByteOf (sealed_line number) printed text))
-    → MayLeaveSealing (sealing_of (opening_of image) tariff params) image printed image text
-cut_already image tariff params printed text unseen = by (sealing_of (opening_of image) tariff params) refl
+    → MayLeaveSealing (sealing_of (opening_in image) tariff params) image printed image text
+cut_already image tariff params printed text unseen = by (sealing_of (opening_in image) tariff params) refl
   where
-    by : (r : Result Sealing Ended) → sealing_of (opening_of image) tariff params ≡ r
+    by : (r : Result Sealing Ended) → sealing_of (opening_in image) tariff params ≡ r
         → MayLeaveSealing r image printed image text
     by (Err end) is = refl
     by (Ok s) is = record {
@@ -127,7 +105,7 @@ cut_already image tariff params printed text unseen = by (sealing_of (opening_of
     }
 
 cut_still : (image tariff params printed : List ℕ)
-    → MayLeaveSealing (sealing_of (opening_of image) tariff params) image printed image printed
+    → MayLeaveSealing (sealing_of (opening_in image) tariff params) image printed image printed
 cut_still image tariff params printed =
     cut_already image tariff params printed printed (λ number. not_shown number printed printed refl)
 
@@ -150,7 +128,7 @@ module _ {D L : Type 0} {N : ℕ} (B : Ghosts D N L) where
 
   -- the sealing of the old board's image with a tariff's text and a parameter text
   abbrev Made : D → (tariff params : List ℕ) → Result Sealing Ended
-  Made old tariff params = sealing_of (opening_of (B.image old)) tariff params
+  Made old tariff params = sealing_of (opening_in (B.image old)) tariff params
 
   -- nothing was written
   pub seals-read : (tariff params : List ℕ) (fails : Type 0) (old new : D) (status : ℕ) → status ≢ 0
@@ -167,10 +145,10 @@ module _ {D L : Type 0} {N : ℕ} (B : Ghosts D N L) where
   same_left image left new same settled held =
       ext_get_or 0 left (B.image new) held.bytes.size (λ place lt. held.bytes.rest place (settled place)) ∙ same
 
-  -- a cut while another line is printed, and while one is where nothing is sealed
+  -- a cut while another line is printed, and while one is printed and nothing is sealed
   rests-read : (tariff params image printed line : List ℕ) (new : D) → B.image new ≡ image → B.printed new ≡ printed
       → NothingFlies B new → get_or line 0 0 ≢ 83
-      → RestsAmid B (sealing_of (opening_of image) tariff params) image printed line new
+      → RestsAmid B (sealing_of (opening_in image) tariff params) image printed line new
   rests-read tariff params image printed line new same text settled other left x held begun =
       let is : left ≡ image = same_left image left new same settled held in
       rw is (cut_already image tariff params printed x (λ number. other_line line other number printed x
@@ -186,21 +164,21 @@ module _ {D L : Type 0} {N : ℕ} (B : Ghosts D N L) where
   -- no seal was made of the texts
   pub rests-no_seal : (tariff params image printed : List ℕ) (opening : Opening) (b : Result Base Ended) (base : Base)
       (read_failed : ℕ → Type 0) (new : D)
-      → opening_of image ≡ Ok opening → b ≡ Ok base → b ≡ over_totals opening.totals opening.seal
+      → opening_in image ≡ Ok opening → b ≡ Ok base → b ≡ over_totals opening.totals opening.seal
       → B.image new ≡ image → B.printed new ≡ printed
       → NothingFlies B new → (end : Ended)
       → IsNoSeal (next_number (found_number base.found)) base.decimals tariff params read_failed end
-      → RestsAmid B (sealing_of (opening_of image) tariff params) image printed (line_of end) new
+      → RestsAmid B (sealing_of (opening_in image) tariff params) image printed (line_of end) new
   rests-no_seal tariff params image printed opening b base read_failed new e is answer same text settled = by
     where
       refused : (end : Ended) → seal_read (next_number (found_number base.found)) base.decimals tariff params ≡ Err end
-          → RestsAmid B (sealing_of (opening_of image) tariff params) image printed (line_of end) new
+          → RestsAmid B (sealing_of (opening_in image) tariff params) image printed (line_of end) new
       refused end h =
-          rests-refused (sealing_of (opening_of image) tariff params) end image printed (line_of end) new
-          (sealing-over (opening_of image) opening base tariff params (Err end) e (sym answer ∙ is) h) same settled
+          rests-refused (sealing_of (opening_in image) tariff params) end image printed (line_of end) new
+          (sealing-over (opening_in image) opening base tariff params (Err end) e (sym answer ∙ is) h) same settled
 
       by : (end : Ended) → IsNoSeal (next_number (found_number base.found)) base.decimals tariff params read_failed end
-          → RestsAmid B (sealing_of (opening_of image) tariff params) image printed (line_of end) new
+          → RestsAmid B (sealing_of (opening_in image) tariff params) image printed (line_of end) new
       by ended.ReadFault h =
           rests-read tariff params image printed (line_of ended.ReadFault) new same text settled read_fault_other
       by ended.NoMemory h =
@@ -242,7 +220,7 @@ module _ {D L : Type 0} {N : ℕ} (B : Ghosts D N L) where
   -- the same of what was opened, its base and the seal that was read
   pub seals-over : (tariff params : List ℕ) (r : Result Opening StoreFault) (opening : Opening) (b : Result Base Ended)
       (base : Base) (number : ℕ) (seal : Seal) (old mid new : D) (status : ℕ)
-      → r ≡ Ok opening → (¬ (r ≡ Err stores.BoardFault) → r ≡ opening_of (B.image old)) → b ≡ Ok base
+      → r ≡ Ok opening → (¬ (r ≡ Err stores.BoardFault) → r ≡ opening_in (B.image old)) → b ≡ Ok base
       → b ≡ over_totals opening.totals opening.seal → number ≡ next_number (found_number base.found)
       → seal_read number base.decimals tariff params ≡ Ok seal → base.found ≡ seal_found opening.seal
       → ScannedSeal B mid opening.seal
@@ -265,7 +243,7 @@ module _ {D L : Type 0} {N : ℕ} (B : Ghosts D N L) where
       → SameBut (B.in_flight board) (B.image board) image → IsSealed s image
   sealed_left s board h image same = record {
     totals = stays_settled totals.reads states.state_number_of 0 h.totals.0 (B.image board) image (B.in_flight board)
-        (totals_after s.totals) h.totals.1 same;
+        (sealed_totals s.totals) h.totals.1 same;
     seal = stays_settled seals.reads seals.seal_number_of 1024 h.seal_is.0 (B.image board) image
         (B.in_flight board) s.new h.seal_is.1 same;
   }
@@ -284,7 +262,7 @@ module _ {D L : Type 0} {N : ℕ} (B : Ghosts D N L) where
         rest = λ place apart. writes.rest.rest place (⊎_elim (settled place) apart);
       })
 
-  kept_totals : (found : Option Durable) (image : List ℕ) → states.HasState image (totals_after found)
+  kept_totals : (found : Option Durable) (image : List ℕ) → states.HasState image (sealed_totals found)
       → StillHas found image
   kept_totals None image h = inr h
   kept_totals (Some durable) image h = h
@@ -297,7 +275,7 @@ module _ {D L : Type 0} {N : ℕ} (B : Ghosts D N L) where
       subst (λ (r : Result Sealing Ended). MayLeaveSealing r image printed left x) (sym e)
       (record { amid = record { totals = kept_totals s.totals left is.totals; seal = inr is }; behind = λ shown. is })
 
-  -- nothing flies where both pairs are settled and nothing flew beside what was written
+  -- nothing flies if both pairs are settled and nothing flew beside what was written
   pub settled-sealed : (found : Option Durable) (seal : Seal) (mid new : D) → NothingFlies B mid
       → WritesIn B (first_written found) (places_written found) mid new
       → HoldsSealing B found seal new → NothingFlies B new
@@ -314,7 +292,7 @@ module _ {D L : Type 0} {N : ℕ} (B : Ghosts D N L) where
       by None within = either (omega (arith, within.high))
       by (Some durable) within = either (omega (arith, within.high))
 
-  -- the last line, which is none where the board had failed
+  -- the last line, which is none if the board had failed
   finished : (sealing : Result Sealing Ended) (old mid new : D) (end : Ended) (status : ℕ)
       → (status_of end ≡ 8 → status ≡ 8)
       → LeavesFromSync B (status_of end ≡ 8) old mid (Amid sealing old)
@@ -356,10 +334,10 @@ module _ {D L : Type 0} {N : ℕ} (B : Ghosts D N L) where
       eight (inl whole) z = whole.status_is ∙ z
       eight (inr cut) z = cut.status_is
 
-  -- where nothing was in flight before the call
+  -- if nothing was in flight before the call
   pub seals-settled : (tariff params : List ℕ) (old new : D) (status : ℕ) → NothingFlies B old
-      → Seals B (sealing_of (opening_of (B.image old)) tariff params) old new status
-      → LeavesOnly B old new (Amid (sealing_of (opening_of (B.image old)) tariff params) old)
+      → Seals B (sealing_of (opening_in (B.image old)) tariff params) old new status
+      → LeavesOnly B old new (Amid (sealing_of (opening_in (B.image old)) tariff params) old)
   seals-settled tariff params old new status settled h =
-      settled_already B (Amid (sealing_of (opening_of (B.image old)) tariff params) old) (status ≡ 8) old new settled
+      settled_already B (Amid (sealing_of (opening_in (B.image old)) tariff params) old) (status ≡ 8) old new settled
       (cut_still (B.image old) tariff params (B.printed old)) h.leaves

@@ -1,12 +1,10 @@
 -- What is left of the files of two words that are read one behind the other.
-use Rattle.std.proofs.Common.{◌≡◌, ◌∙◌, ℕ, inl, inr, subst}
-use Rattle.outside.specs.Reading.{LeavesOthers}
-use Rattle.outside.specs.Faults.{Rose}
-use Rattle.outside.specs.declared.files.Files.{Ghosts as FileGhosts}
+use Rattle.std.proofs.Common.{ℕ, ◌∙◌, ◌≡◌, inl, inr, subst}
+use Rattle.{outside.specs.declared.files.Files.{Ghosts as FileGhosts}, store_commands.specs.Common.{LeavesOthers, Rose}}
 use Rattle.store_commands.specs.ReadInTurn.{HasFailed, ReadsInTurn}
 
 module _ {E : Type 0} (F : FileGhosts E) where
-  -- what a call leaves of the counts where no read failed
+  -- what a call leaves of the counts if no read failed
   abbrev pub KeepsCounts : (files files' : E) → Type 0
   KeepsCounts files files' = (other : ℕ) → F.faults files' other ≡ F.faults files other
 

@@ -1,9 +1,6 @@
 //! The commands `mark on DRIVER` and `mark off`.
-ghost use Rattle.std.specs.Prelude.{◌≡◌, ◌<◌, ◌≤◌, ℕ, List, length};
-ghost use Rattle.taxi_units.specs.Line.{line_size};
-ghost use Rattle.shift_book.specs.Following.{numbers_in};
-ghost use Rattle.shift_book.specs.Marks.{mark_text};
-ghost use Rattle.call_ends.specs.Carried.{Carries, no_files};
+ghost use Rattle.std.specs.Prelude.{ℕ, ◌<◌, ◌≡◌, ◌≤◌, List, length};
+ghost use Rattle.store_commands.specs.Common.{Carries, line_size, mark_text, no_files, numbers_in};
 ghost use Rattle.store_commands.specs.Mark.{mark_command};
 ghost use Rattle.store_commands.specs.Mark as spec;
 
@@ -16,8 +13,8 @@ use std::sync::ledger::Ledger;
 use taxi_units::{Line, Steps};
 use totals_record::Durable;
 
-/// Scans the store, and prints the mark of it by which a driver signs on, or with no driver whoever is on
-/// signs off. No memory is taken.
+/// Scans the store, and prints its mark: with a driver, one by which the driver signs on, and else one by which whoever
+/// is on signs off. It takes no memory.
 pub fn print_mark<B: Board<STORE_SIZE, L>, L: Ledger>(
     driver: Option<ArrayVec<u8, 16>>,
     board: &mut B,

@@ -1,17 +1,10 @@
 //! The command `offsets`.
 #![tactic(auto, using(call_ends::proofs::Laws::board_runs))]
 
-ghost use Rattle.std.specs.Prelude.{◌≡◌, ◌≢◌, ℕ, ◌+◌, ◌<◌, ◌≤◌, ◌++◌, [], length, IfOk, OnOk, Err};
-ghost use Rattle.outside.specs.Reading.{LeavesOthers};
-ghost use Rattle.taxi_units.specs.Line.{line_size};
-ghost use Rattle.outside.specs.Faults.{HasCause, Rose};
-ghost use Rattle.outside.specs.Printing.{Begins};
-ghost use Rattle.outside.specs.Runs.{KeepsStore};
-ghost use Rattle.offset_rules.specs.Reading.{rules_read};
-ghost use Rattle.offset_rules.specs.Texts.{offset_line, offset_lines};
-ghost use Rattle.call_ends.specs.Carried.{Carries};
-ghost use Rattle.store_commands.specs.StoreEnds.{ended_for_rules};
-ghost use Rattle.store_commands.specs.Offsets.{offsets_command};
+ghost use Rattle.std.specs.Prelude.{[], ℕ, ◌++◌, ◌+◌, ◌<◌, ◌≡◌, ◌≢◌, ◌≤◌, Err, IfOk, OnOk, length};
+ghost use Rattle.offset_rules.specs.{Reading.{rules_read}, Texts.{offset_line, offset_lines}};
+ghost use Rattle.store_commands.specs.Common.{Begins, Carries, HasCause, KeepsStore, LeavesOthers, Rose, line_size};
+ghost use Rattle.store_commands.specs.{Offsets.{offsets_command}, StoreEnds.{ended_for_rules}};
 
 use crate::years::Years;
 use call_ends::Ended;
@@ -32,7 +25,7 @@ pub enum RulesFault {
 /// The buffer for the text of rules, which has one byte more than such a text may have.
 const ROOM: usize = 4097;
 
-/// Reads the rules of word 1, and prints the list of offsets that they give for some years, a line a pair.
+/// Prints the list of offsets that the rules of word 1 give for some years, a line a pair.
 pub fn print_offsets<F: Files, B: Board<STORE_SIZE, L>, L: Ledger>(
     years: Years,
     files: &mut F,
@@ -54,7 +47,7 @@ pub fn print_offsets<F: Files, B: Board<STORE_SIZE, L>, L: Ledger>(
     }
 }
 
-/// How a command ended whose rules weren't read.
+/// How a command ended that couldn't read its rules.
 fn refused_rules(fault: RulesFault) -> Ended
     ensures { result ≡ ended_for_rules fault }
 {
@@ -64,7 +57,7 @@ fn refused_rules(fault: RulesFault) -> Ended
     }
 }
 
-/// Reads the rules of a word, to the end of its file where they are accepted. No memory is taken.
+/// Reads the rules of a word, to the end of its file if they are accepted. It takes no memory.
 #[tactic(auto, unfolding(offset_rules::specs::Reading::rules_read))]
 fn rules_of_word<F: Files>(files: &mut F, word: usize) -> Result<Rules, RulesFault>
     ensures found { F.tells → IfOk result (λ rules. rules_read (F.rest files.old word) ≡ Ok rules) }

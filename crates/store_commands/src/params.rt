@@ -1,10 +1,7 @@
 //! Reads the parameters of a word.
-ghost use Rattle.std.specs.Prelude.{◌≡◌, ◌≢◌, ℕ, [], IfOk, OnOk, Err};
-ghost use Rattle.outside.specs.Reading.{LeavesOthers};
-ghost use Rattle.outside.specs.Faults.{Rose};
-ghost use Rattle.seal_record.specs.Ranges.{IsParams};
-ghost use Rattle.seal_record.specs.Reading.{params_read};
-ghost use Rattle.store_commands.specs.StoreEnds.{ended_for_params};
+ghost use Rattle.std.specs.Prelude.{[], ℕ, ◌≡◌, ◌≢◌, Err, IfOk, OnOk};
+ghost use Rattle.seal_record.specs.{Ranges.{IsParams}, Reading.{params_read}};
+ghost use Rattle.store_commands.specs.{Common.{LeavesOthers, Rose}, StoreEnds.{ended_for_params}};
 
 use call_ends::Ended;
 use outside::{Files, read_text};
@@ -25,7 +22,7 @@ pub enum ParamsFault {
 /// How many bytes a parameter text has at most.
 const MOST: usize = 65_536;
 
-/// Reads the parameters of a word, to the end of its file where they are accepted.
+/// Reads the parameters of a word, to the end of its file if they are accepted.
 #[tactic(auto, unfolding(seal_record::specs::Reading::params_read))]
 pub fn read_parameters<F: Files>(
     alloc: Global,
@@ -53,7 +50,7 @@ pub fn read_parameters<F: Files>(
     }
 }
 
-/// How a command ended whose parameters weren't read.
+/// How a command ended that couldn't read its parameters.
 pub fn refused_params(fault: ParamsFault) -> Ended
     ensures { result ≡ ended_for_params fault }
 {

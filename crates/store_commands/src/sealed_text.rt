@@ -1,11 +1,9 @@
 //! The text of what a store was sealed with.
-ghost use Rattle.std.specs.Prelude.{◌≡◌, ◌+◌, ◌<◌, ◌≤◌, ◌++◌, ◌∷◌, [], codes, map};
+ghost use Rattle.std.specs.Prelude.{[], ◌++◌, ◌+◌, ◌<◌, ◌∷◌, ◌≡◌, ◌≤◌, codes, map};
 ghost use Rattle.arrayvec.specs.ArrayVec.{array_vec_len};
-ghost use Rattle.taxi_units.specs.Line.{line_size};
+ghost use Rattle.seal_record.specs.{PlainText.{line_of, mode_text, settings_lines}, Ranges.{IsDay}};
+ghost use Rattle.store_commands.specs.{Common.{comment_line, ended_text, line_size}, SealedText.{seal_comments}};
 ghost use Rattle.seal_record.specs.PlainText as spec;
-ghost use Rattle.seal_record.specs.PlainText.{comment_line, ended_text, line_of, mode_text, settings_lines};
-ghost use Rattle.seal_record.specs.Ranges.{IsDay};
-ghost use Rattle.store_commands.specs.SealedText.{seal_comments};
 
 use call_ends::push_number_line;
 use drive_modes::Mode;
@@ -52,7 +50,7 @@ fn push_settings(line: &mut Line, params: &Params)
     push_number_line(line, b"hold ", params.hold_time as u64);
 }
 
-/// All lines of what a store was sealed with that stand before those of the offsets.
+/// The lines of what a store was sealed with, in front of those of the offsets.
 pub fn sealed_heading(seal: &Seal) -> Line
     ensures text { result.items
         ≡ ended_text (map comment_line (seal_comments seal.now)) ++ ended_text (settings_lines seal.now.params) }

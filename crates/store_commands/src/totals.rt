@@ -1,13 +1,9 @@
 //! The command `totals`.
 #![tactic(auto, using(call_ends::proofs::Laws::board_runs))]
 
-ghost use Rattle.std.specs.Prelude.{◌≡◌, ◌+◌, ◌<◌, ◌≤◌, ◌++◌, ℕ, List, OnOk};
-ghost use Rattle.outside.specs.Faults.{HasCause};
-ghost use Rattle.outside.specs.Printing.{Begins};
-ghost use Rattle.outside.specs.Runs.{KeepsStore};
-ghost use Rattle.call_ends.specs.Carried.{Carries, no_files};
-ghost use Rattle.store_commands.specs.Totals.{totals_command};
-ghost use Rattle.store_commands.specs.TotalsText.{position_at, totals_text};
+ghost use Rattle.std.specs.Prelude.{ℕ, ◌++◌, ◌+◌, ◌<◌, ◌≡◌, ◌≤◌, List, OnOk};
+ghost use Rattle.store_commands.specs.Common.{Begins, Carries, HasCause, KeepsStore, no_files};
+ghost use Rattle.store_commands.specs.{Totals.{totals_command}, TotalsText.{position_at, totals_text}};
 
 use crate::sealed::open_sealed;
 use crate::totals_text::{heading, position_line};
@@ -32,7 +28,7 @@ pub fn print_store<B: Board<STORE_SIZE, L>, L: Ledger>(board: &mut B, steps: &mu
     }
 }
 
-/// Prints totals, the lines of the tariff positions at the end.
+/// Prints totals, with the lines of the tariff positions at the end.
 fn print_totals<B: Board<STORE_SIZE, L>, L: Ledger>(
     durable: &Durable,
     decimals: u8,
@@ -56,7 +52,7 @@ fn print_totals<B: Board<STORE_SIZE, L>, L: Ledger>(
     Ok(())
 }
 
-/// Prints the line of the tariff position whose share is at a place, where it has hirings.
+/// Prints the line of the tariff position whose share is at a place, if it has hirings.
 fn print_position<B: Board<STORE_SIZE, L>, L: Ledger>(
     shares: &[Share; 9],
     place: usize,

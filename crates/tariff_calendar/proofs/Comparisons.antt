@@ -1,22 +1,13 @@
 -- Two contexts that compare alike with the cuts of a condition's atoms: the condition holds in both or in neither.
-use Rattle.std.proofs.Common.{◌≡◌, ◌↔◌, ◌∙◌, sym, ℕ, ◌+◌, ◌*◌, ◌/◌, ◌≤◌, not, leb, ltb, List, [], ◌∷◌, ◌++◌, inl, inr}
-use Rattle.std.proofs.Common.{arith, refl, ap, subst}
-use Rattle.std.proofs.lemmas.Bool.{cases_lt, cases_eq, le-leb, lt-leb, lt-ltb, le-ltb, ne_eqb}
-use Rattle.std.proofs.lemmas.List.Concat.{flat_map-append}
-use Rattle.std.proofs.lemmas.List.Elements.{All-head, All-tail, All-cons, All-nil}
-use Rattle.std.specs.List.{All, flat_map}
-use Rattle.taxi_units.specs.Calendar.{date_place}
-use Rattle.taxi_units.specs.DateTest.{date_test}
-use Rattle.tariff_calendar.proofs.Dates.{on_places}
-use Rattle.tariff_calendar.specs.Lists.{pulses_for}
-use Rattle.tariff_check.specs.Cuts.{atom_cuts, day_cut, minute_cut}
-use Rattle.tariff_check.specs.Lines.{atoms_of}
-use Rattle.tariff_check.specs.Sound.{IsGoodAtom}
-use Rattle.tariff_check.specs.declared.fault.Dimension.TheVariants.{MonthDay, Minute, Distance, Time}
+use Rattle.std.{specs.List.{All, flat_map}, proofs.lemmas.List.Concat.{flat_map-append}}
+use Rattle.std.proofs.Common.{[], ℕ, ◌*◌, ◌++◌, ◌+◌, ◌/◌, ◌↔◌, ◌∙◌, ◌∷◌, ◌≡◌, ◌≤◌, List, ap, arith, inl, inr, leb, ltb}
+use Rattle.std.proofs.{Common.{not, refl, subst, sym}, lemmas.List.Elements.{All-cons, All-head, All-nil, All-tail}}
+use Rattle.std.proofs.lemmas.Bool.{cases_eq, cases_lt, le-leb, le-ltb, lt-leb, lt-ltb, ne_eqb}
+use Rattle.{taxi_units.specs.{Calendar.{date_place}, DateTest.{date_test}}, tariff_check.specs.Lines.{atoms_of}}
+use Rattle.{tariff_syntax.specs.Meaning.{is_in_time, is_within}, tariff_check.specs.Cuts.{day_cut, minute_cut}}
+use Rattle.tariff_calendar.specs.Common.{Condition, Context, Distance, IsGoodAtom, Minute, MonthDay, Time, atom_cuts}
+use Rattle.tariff_calendar.{specs.{Common.{holds}, Lists.{pulses_for}}, proofs.Dates.{on_places}}
 use Rattle.tariff_syntax.specs.Condition as tree
-use Rattle.tariff_syntax.specs.Condition.{Condition}
-use Rattle.tariff_syntax.specs.Meaning.{holds, is_within, is_in_time}
-use Rattle.tariff_syntax.specs.declared.context.Context.{Context}
 
 -- a cut compares alike with two values
 abbrev pub IsAlike : (v w cut : ℕ) → Type 0
@@ -71,7 +62,7 @@ CompareAlike-parts k x y left right alike =
       record { month_day = month_day.1; minute = minute.1; distance = distance.1; time = time.1 },
     )
 
--- a number is at most another where it is below the number after that
+-- a number is at most another if it is below the number after that
 leb-next : (a b : ℕ) → leb a b ≡ not (leb (b + 1) a)
 leb-next a b =
     elim (cases_lt b a) [
@@ -113,7 +104,7 @@ day_alike place v w in_year also all =
 fewest_by : (far pulses : ℕ) → (far ≤ 10000 * pulses) ↔ ((far + 9999) / 10000 ≤ pulses)
 fewest_by far pulses = ((λ reached. omega arith), (λ enough. omega arith))
 
--- pulses are as far as a distance exactly where they are as many as the fewest that are
+-- pulses are as far as a distance exactly if they are as many as the fewest that are
 pub fewest_pulses : (k decimetres pulses : ℕ) → (k * decimetres ≤ 10000 * pulses) ↔ (pulses_for k decimetres ≤ pulses)
 fewest_pulses k decimetres pulses = fewest_by (k * decimetres) pulses
 

@@ -1,26 +1,15 @@
 -- Holidays by their day numbers.
-use Rattle.std.proofs.Common.{ltb, length, ◌≡◌, ◌∙◌, ℕ, Bool, true, false, List, [], ◌∷◌, map}
-use Rattle.std.proofs.Common.{ℤ, pos, ◌<ℤ◌, arith, refl, ap, subst}
-use Rattle.std.proofs.lemmas.Bool.{lt-ltb, false_from_ne_true}
-use Rattle.std.proofs.lemmas.Bool.Decides.{Decides-int_eq, same_from_decides}
-use Rattle.std.proofs.lemmas.Int.{ints}
-use Rattle.std.proofs.lemmas.List.Elements.{All-head, All-tail}
-use Rattle.std.specs.List.{All, list_any}
-use Rattle.std.specs.Ordering.{int_eq}
-use Rattle.interval_clock.proofs.Laws.{IsDateOf-only, is_date_of_number}
+use Rattle.{std.specs.{List.{All, list_any}, Ordering.{int_eq}}, taxi_units.specs.DateTest.{date_test}}
+use Rattle.std.proofs.Common.{[], ℕ, ℤ, ◌<ℤ◌, ◌∙◌, ◌∷◌, ◌≡◌, Bool, List, ap, arith, false, length, ltb, map, pos, refl}
+use Rattle.std.proofs.{Common.{subst, true}, lemmas.{Bool.Decides.{Decides-int_eq, same_from_decides}, Int.{ints}}}
+use Rattle.std.proofs.lemmas.{Bool.{false_from_ne_true, lt-ltb}, List.Elements.{All-head, All-tail}}
+use Rattle.taxi_units.specs.Test.{◌&◌, Test, same}
 use Rattle.interval_clock.specs.declared.day_numbers.CalendarDate.{CalendarDate}
-use Rattle.interval_clock.specs.Calendar.{IsDateOf}
+use Rattle.{interval_clock.proofs.Laws.{IsDateOf-only, is_date_of_number}, tariff_check.specs.Parts.{DateNumbers}}
+use Rattle.tariff_check.{specs.Sound.{IsSoundHoliday}, proofs.Laws.{sound_tariffs_have_sound_parts-parts}}
+use Rattle.tariff_calendar.specs.Common.{HasSoundParts, IsDateOf, IsSound, IsWritable, Tree, has_holidays, holidays_of}
+use Rattle.tariff_calendar.specs.{Common.{with_each}, Lists.{day_of, has_day, has_days, is_holiday, lists_of}}
 use Rattle.tariff_calendar.proofs.Insertions.{list_any-with_each, with_each-some}
-use Rattle.tariff_calendar.specs.Lists.{day_of, has_day, has_days, is_holiday, lists_of}
-use Rattle.tariff_check.proofs.Laws.{sound_tariffs_have_sound_parts-parts}
-use Rattle.tariff_check.specs.Cuts.{with_each}
-use Rattle.tariff_check.specs.Faults.{IsSound}
-use Rattle.tariff_check.specs.Parts.{DateNumbers, has_holidays, holidays_of}
-use Rattle.tariff_check.specs.Sound.{HasSoundParts, IsSoundHoliday}
-use Rattle.taxi_units.specs.DateTest.{date_test}
-use Rattle.taxi_units.specs.Test.{Test, same, ◌&◌}
-use Rattle.tariff_syntax.specs.Tree.{Tree}
-use Rattle.tariff_syntax.specs.Writable.{IsWritable}
 
 -- no day before 1970 is one of day numbers
 pub has_day-before : (holidays : List ℕ) (day : ℤ) → day <ℤ pos 0 → has_day holidays day ≡ false
@@ -59,7 +48,7 @@ date_in d = record { year = d.year; month = d.month; date = d.date }
 abbrev date_is : (year month date : ℕ) → CalendarDate
 date_is year month date = record { year = year; month = month; date = date }
 
--- a holiday's day number is that of a date exactly where it is of that date
+-- a holiday's day number is that of a date exactly if it is of that date
 day_decides_date : (day : ℤ) (year month date : ℕ) (d : DateNumbers) → IsDateOf day year month date → IsSoundHoliday d
     → int_eq (pos (day_of d)) day ≡ is_of_date year month date d
 day_decides_date day year month date d is sound =
@@ -78,7 +67,7 @@ day_decides_date day year month date d is sound =
           )),
     )
 
--- so one of them has that day number where one is of that date
+-- so one of them has that day number if one is of that date
 days_decide_dates : (day : ℤ) (year month date : ℕ) (ds : List DateNumbers) → IsDateOf day year month date
     → All IsSoundHoliday ds → has_day (map day_of ds) day ≡ list_any (is_of_date year month date) ds
 days_decide_dates day year month date [] is sound = refl
@@ -100,7 +89,7 @@ pub days_are_dates : (t : Tree) (k : ℕ) (day : ℤ) (year month date : ℕ) �
 days_are_dates t k day year month date writable sound is =
     days_are_dates_in t k day year month date (sound_tariffs_have_sound_parts-parts t writable sound) is
 
--- there is a holiday where there is a holiday line
+-- there is a holiday if there is a holiday line
 some_days_of : (ds : List DateNumbers)
     → ltb 0 (length (with_each [] (map day_of ds))) ≡ list_any (λ (d : DateNumbers). true) ds
 some_days_of [] = refl

@@ -1,13 +1,9 @@
 -- Numbers put into order one by one: which they are, and that they rise.
-use Rattle.std.proofs.Common.{◌≡◌, ◌∙◌, sym, ℕ, zero, suc, ◌+◌, ◌<◌, ◌≤◌, Bool, true, false, ◌||◌, List, [], ◌∷◌}
-use Rattle.std.proofs.Common.{length, inl, inr, arith, refl, ap, subst}
-use Rattle.std.proofs.lemmas.Bool.{cases_order, lt-ltb, le-ltb, eq-eqb, ne_eqb}
-use Rattle.std.proofs.lemmas.List.Elements.{All-cons, All-head, All-tail, All-nil, All-weaker, All-from_get_or}
-use Rattle.std.proofs.lemmas.Map.Views.{All-insert_key}
-use Rattle.std.specs.BTreeSet.{insert_key}
-use Rattle.std.specs.List.{All, list_any}
-use Rattle.std.specs.Ordering.{nat_cmp}
-use Rattle.tariff_check.specs.Cuts.{IsRising, with_each}
+use Rattle.std.{specs.{BTreeSet.{insert_key}, List.{All, list_any}}, proofs.Common.{refl, subst, suc, sym, true, zero}}
+use Rattle.{std.specs.Ordering.{nat_cmp}, tariff_check.specs.Cuts.{IsRising}, tariff_calendar.specs.Common.{with_each}}
+use Rattle.std.proofs.Common.{[], ℕ, ◌+◌, ◌<◌, ◌||◌, ◌∙◌, ◌∷◌, ◌≡◌, ◌≤◌, Bool, List, ap, arith, false, inl, inr, length}
+use Rattle.std.proofs.lemmas.{Bool.{cases_order, eq-eqb, le-ltb, lt-ltb, ne_eqb}, Map.Views.{All-insert_key}}
+use Rattle.std.proofs.lemmas.List.Elements.{All-cons, All-from_get_or, All-head, All-nil, All-tail, All-weaker}
 
 -- a number below the first goes before it
 pub insert_key-before : (x n : ℕ) (xs : List ℕ) → n < x → insert_key nat_cmp (x ∷ xs) n ≡ n ∷ x ∷ xs
@@ -68,7 +64,7 @@ or_moved true true c = refl
 or_moved true false c = refl
 or_moved false b c = refl
 
--- a test is passed by one of the numbers after a number was put in where that number passes it or another does
+-- a test is passed by one of the numbers after a number was put in if that number passes it or another does
 pub list_any-insert_key : (p : ℕ → Bool) (xs : List ℕ) (n : ℕ)
     → list_any p (insert_key nat_cmp xs n) ≡ (p n || list_any p xs)
 list_any-insert_key p [] n = refl
@@ -81,7 +77,7 @@ list_any-insert_key p (x ∷ xs) n =
           ∙ ap (λ b. p x || b) (list_any-insert_key p xs n) ∙ or_turned (p x) (p n) (list_any p xs)
     ]
 
--- and after some were put in where one of those passes it or another does
+-- and after some were put in if one of those passes it or another does
 pub list_any-with_each : (p : ℕ → Bool) (xs ns : List ℕ)
     → list_any p (with_each xs ns) ≡ (list_any p xs || list_any p ns)
 list_any-with_each p xs [] = or_none (list_any p xs)
@@ -89,7 +85,7 @@ list_any-with_each p xs (n ∷ ns) =
     list_any-with_each p (insert_key nat_cmp xs n) ns
     ∙ ap (λ b. b || list_any p ns) (list_any-insert_key p xs n) ∙ or_moved (p n) (list_any p xs) (list_any p ns)
 
--- numbers rise where the first is below the others and those rise
+-- numbers rise if the first is below the others and those rise
 pub IsRising-more : (x : ℕ) (xs : List ℕ) → All (λ y. x < y) xs → IsRising xs → IsRising (x ∷ xs)
 IsRising-more x xs first rising zero zero lt within = absurd (omega arith)
 IsRising-more x xs first rising zero (suc j) lt within = first j 0 (omega arith)
@@ -131,7 +127,7 @@ IsRising-with_each xs (n ∷ ns) rising =
 pub IsRising-none : IsRising []
 IsRising-none = λ i j lt within. absurd (omega arith)
 
--- some are there, as where some were before
+-- some are there, as they are if some were before
 insert_key-some : (xs : List ℕ) (n : ℕ) → 0 < length (insert_key nat_cmp xs n)
 insert_key-some [] n = omega arith
 insert_key-some (x ∷ xs) n =

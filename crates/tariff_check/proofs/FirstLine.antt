@@ -1,12 +1,9 @@
 -- The first line that meets a test.
-use Rattle.std.proofs.Common.{◌≡◌, ◌⊎◌, inl, inr, ◌↔◌, ℕ, suc, ◌<◌, ◌≤◌, Bool, true, false, cond, List, [], ◌∷◌, ◌++◌}
-use Rattle.std.proofs.Common.{Option, Some, None, All, refl, ap, sym, ◌∙◌, subst, append_assoc, length, length-append}
-use Rattle.std.proofs.Common.{get_or, arith}
-use Rattle.std.proofs.lemmas.List.{append-nil}
-use Rattle.std.proofs.lemmas.List.Elements.{All-nil, All-cons}
-use Rattle.tariff_syntax.specs.Reads.{RiseInNumber}
-use Rattle.tariff_syntax.specs.Tree.{Line, Entry}
-use Rattle.tariff_check.specs.Lines.{LineTest, IsFirstLine, IsNowhere, first_line, first_after}
+use Rattle.std.proofs.Common.{[], ℕ, ◌++◌, ◌<◌, ◌↔◌, ◌∙◌, ◌∷◌, ◌≡◌, ◌≤◌, ◌⊎◌, All, Bool, List, None, Option, Some, ap}
+use Rattle.std.proofs.Common.{append_assoc, arith, cond, false, get_or, inl, inr, length, length-append, refl, subst}
+use Rattle.std.proofs.{Common.{suc, sym, true}, lemmas.List.{append-nil, Elements.{All-cons, All-nil}}}
+use Rattle.tariff_check.specs.Common.{Entry, Line, RiseInNumber}
+use Rattle.tariff_check.specs.Lines.{IsFirstLine, IsNowhere, LineTest, first_after, first_line}
 
 -- the test of a line decides how the search goes on
 found : (b : Bool) (line number : ℕ) (rest : Option ℕ) → cond b (Some line) rest ≡ Some number
@@ -18,7 +15,7 @@ pub passed_by : (b : Bool) (line : ℕ) (rest : Option ℕ) → cond b (Some lin
 passed_by true line rest h = absurd cc
 passed_by false line rest h = (refl, h)
 
--- where no line is found, none meets the test, whatever stands before it
+-- if no line is found, none meets the test, whatever stands before it
 pub never : (test : LineTest) (so : Entry → Bool) → ((before : List Line) (x : Entry) → test before x ≡ false → so x
     ≡ false) → (before ls : List Line) → first_after test before ls ≡ None → All (λ (l : Line). so l.entry ≡ false) ls
 never test so tells before [] h = All-nil (λ (l : Line). so l.entry ≡ false)
@@ -103,7 +100,7 @@ first_after_is test front ls number (l ∷ before) line after split named so non
     (sym (append_assoc front (l ∷ []) xs)) (none (l ∷ xs) ys m (ap (λ (ks : List Line). l ∷ ks) e))) in
     rw (split, first) rest
 
--- where none is found, no line meets the test
+-- if none is found, no line meets the test
 nowhere_after : (test : LineTest) (front ls : List Line) → first_after test front ls ≡ None
     → (xs ys : List Line) (m : Line) → ls ≡ xs ++ m ∷ ys → test (front ++ xs) m.entry ≡ false
 nowhere_after test front [] none xs ys m e = no_split xs ys m e
@@ -144,7 +141,7 @@ first_line_is test lines number = (
       first_after_is test [] lines number h.before h.line h.after h.split h.number_is h.is_so h.none_earlier,
 )
 
--- where numbers rise, the first line's is below those of the lines after it
+-- if numbers rise, the first line's is below those of the lines after it
 at_split : (before : List Line) (line : Line) (after : List Line) (d : Line)
     → get_or (before ++ line ∷ after) (length before) d ≡ line
 at_split [] line after d = refl

@@ -1,20 +1,13 @@
 -- What is proved of each kind of line.
-use Rattle.std.proofs.Common.{◌≡◌, ℕ, ◌^◌, true, false, Some, refl, ap, subst, arith}
-use Rattle.std.proofs.lemmas.Bool.{ltb-false}
-use Rattle.std.specs.Option.{is_some}
-use Rattle.taxi_units.specs.Money.{largest_amount}
-use Rattle.tariff_syntax.specs.Choices.{choices}
-use Rattle.tariff_syntax.specs.Part as part
-use Rattle.tariff_syntax.specs.Tree.{Tree, Entry, step, initial, rate, minimum, when_part}
-use Rattle.tariff_syntax.specs.Writable.{IsWritableEntry, IsWritableIf}
+use Rattle.{std.specs.Option.{is_some}, tariff_syntax.specs.Writable.{IsWritableIf}}
+use Rattle.std.proofs.{Common.{ℕ, ◌^◌, ◌≡◌, Some, ap, arith, false, refl, subst, true}, lemmas.Bool.{ltb-false}}
+use Rattle.tariff_check.specs.Common.{ChoiceKind, Entry, Initial, IsWritableEntry, Minimum, Rate, Tree, choices}
+use Rattle.tariff_check.specs.Common.{initial, largest_amount, minimum, rate, step, when_part}
 use Rattle.tariff_check.specs.Kinds.{EachKind, InitialNumbers, IsSoundInitial, IsSoundRate, IsSoundSaid, RateNumbers}
-use Rattle.tariff_check.specs.Kinds.{Said, entry_with, is_great, is_of, part_of}
+use Rattle.tariff_check.{specs.Kinds.{Said, entry_with, is_great, is_of, part_of}, proofs.MeasureLaws.{both_some}}
 use Rattle.tariff_check.specs.Lines.{is_alike, is_for_nothing, most_alike}
-use Rattle.tariff_check.specs.SoundTariff.{IsInOnePart, choices_in, sound_of}
-use Rattle.tariff_check.specs.declared.choice.ChoiceKind.{ChoiceKind}
-use Rattle.tariff_check.specs.declared.choice.ChoiceKind.TheVariants.{Rate, Initial, Minimum}
-use Rattle.tariff_check.proofs.MeasureLaws.{both_some}
-use Rattle.tariff_check.proofs.Staging.{or_false}
+use Rattle.tariff_check.{specs.SoundTariff.{IsInOnePart, choices_in, sound_of}, proofs.FaultStages.{or_false}}
+use Rattle.tariff_syntax.specs.Part as part
 
 -- what holds of each kind holds of one
 pub of_kind : (P : ChoiceKind → Type 0) → EachKind P → (kind : ChoiceKind) → P kind
@@ -31,7 +24,7 @@ pub choices_are : (t : Tree) (kind : ChoiceKind) → choices_in kind (sound_of t
 choices_are t Rate = refl
 choices_are t kind = refl
 
--- an entry is of a kind exactly where it has the kind's part
+-- an entry is of a kind exactly if it has the kind's part
 pub part_is : (kind : ChoiceKind) (x : Entry) → is_some (part_of kind x) ≡ is_of kind x
 part_is Rate (rate a b c e when) = refl
 part_is Rate x = refl
@@ -64,7 +57,7 @@ entry_again Initial x i h = absurd cc
 entry_again Minimum (minimum amount when) n h = let same : n ≡ amount = cc in ap (λ (n : ℕ). minimum n when) same
 entry_again Minimum x n h = absurd cc
 
--- what an entry of a kind says is sound where none of its numbers is too great or 0
+-- what an entry of a kind says is sound if none of its numbers is too great or 0
 pub said_sound : (kind : ChoiceKind) (x : Entry) → IsWritableEntry x → is_great x ≡ false → is_for_nothing x ≡ false
     → (said : Said kind) → part_of kind x ≡ Some said → IsSoundSaid kind said
 said_sound Rate (rate a b c e when) writable moderate measured r h =

@@ -1,9 +1,6 @@
 -- Rules: all faults of a tariff. Faults has each of them.
-use Rattle.std.specs.Prelude.{List, [], ◌∷◌, Option}
-use Rattle.std.specs.List.{filter_map}
-use Rattle.tariff_syntax.specs.Tree.{Line}
-use Rattle.tariff_check.specs.Faults.{faults_before_cuts, faults_from_cuts}
-use Rattle.tariff_check.specs.declared.fault.CheckFault.{CheckFault}
+use Rattle.std.specs.{List.{filter_map}, Prelude.{[], ◌∷◌, List, Option}}
+use Rattle.tariff_check.specs.{Common.{CheckFault, Line}, Faults.{faults_before_cuts, faults_from_cuts}}
 
 -- of values that are each there or not, those that are there, in order
 abbrev pub those_there : {A : Type 0} → List (Option A) → List A
@@ -14,7 +11,6 @@ abbrev pub or_others : List CheckFault → List CheckFault → List CheckFault
 or_others [] others = others
 or_others (fault ∷ faults) others = fault ∷ faults
 
--- all faults of lines are those that are there before those of cuts, or, if none of these is there, those of cuts and
--- of cells that are there
+-- all faults of lines are those before the faults of cuts, or, if there is none of them, those of cuts and cells
 abbrev pub all_faults : List Line → List CheckFault
 all_faults ls = or_others (those_there (faults_before_cuts ls)) (those_there (faults_from_cuts ls))

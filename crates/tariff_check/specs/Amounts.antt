@@ -1,27 +1,21 @@
 -- Rules: what a hiring begins with.
-use Rattle.std.specs.Prelude.{◌≡◌, ℕ, ◌+◌, ◌≤◌, ◌∷◌, get_or, Option, Some, None, MatchOption}
-use Rattle.std.specs.List.{slice_get}
-use Rattle.std.specs.Option.{unwrap_or}
-use Rattle.taxi_units.specs.Money.{largest_amount}
-use Rattle.tariff_syntax.specs.Meaning.{at_hiring, initial_place, minimum_place}
-use Rattle.tariff_syntax.specs.Tree.{Tree}
-use Rattle.tariff_syntax.specs.declared.context.Context.{Context}
-use Rattle.tariff_check.specs.Parts.{InitialNumbers, initials_of, minimums_of}
+use Rattle.{std.specs.List.{slice_get}, tariff_check.specs.Parts.{InitialNumbers, initials_of, minimums_of}}
+use Rattle.std.specs.{Option.{unwrap_or}, Prelude.{ℕ, ◌+◌, ◌∷◌, ◌≡◌, ◌≤◌, MatchOption, None, Option, Some, get_or}}
+use Rattle.tariff_check.specs.Common.{Context, Tree, at_hiring, initial_place, largest_amount, minimum_place}
 use Rattle.tariff_check.specs.SoundLookups.{place_in_force}
-use Rattle.tariff_check.specs.SoundTariff.{SoundTariff, sound_of, values_of}
-use Rattle.tariff_check.specs.declared.values.Initial.{Initial}
+use Rattle.tariff_check.specs.{SoundTariff.{SoundTariff, sound_of, values_of}, declared.values.Initial.{Initial}}
 
 -- the number of a place that may be none is one more than the place, and 0 for none
 abbrev pub place_number : Option ℕ → ℕ
 place_number None = 0
 place_number (Some place) = place + 1
 
--- an initial hire fee and a minimum fare make what a hiring begins with
+-- a hiring begins with an initial hire fee and a minimum fare
 abbrev pub initial_with : InitialNumbers → (minimum : ℕ) → Initial
 initial_with fee minimum = record { amount = fee.amount; covers = fee.covers; minimum = minimum }
 
--- the fees in force at a hiring in a context are the initial hire fee that holds first at it, and the minimum fare that
--- does, or 0 if none does
+-- the fees in force at a hiring in a context are the initial hire fee and the minimum fare that hold first at it; the
+-- minimum fare is 0 if none holds
 abbrev pub fees_in_force : SoundTariff → Context → Initial
 fees_in_force tariff x =
     initial_with
@@ -29,12 +23,12 @@ fees_in_force tariff x =
     (record { amount = 0; covers = 0 }))
     (get_or (0 ∷ values_of tariff.minimums) (place_number (place_in_force tariff.minimums (at_hiring x))) 0)
 
--- a hiring in a context begins, by a tariff's tree, with the fees that are in force at it
+-- by a tariff's tree, a hiring in a context begins with the fees in force at it
 abbrev pub initial_by : Tree → Context → Initial
 initial_by t x = fees_in_force (sound_of t) x
 
--- amounts are those of a context if they are the ones of the initial hire fee that holds first at its hiring, and of
--- the minimum fare that does, or 0 if none holds
+-- amounts are those of a context if they are of the initial hire fee and of the minimum fare that hold first at its
+-- hiring; the minimum fare is 0 if none holds
 pub record HasAmountsOf (t : Tree) (x : Context) (i : Initial) : Type 0 where
   pub place : ℕ
   pub fee : InitialNumbers

@@ -1,17 +1,13 @@
 -- Rules: which choices the lines of a tariff give, over all kinds.
-use Rattle.std.specs.Prelude.{ℕ, ◌++◌, List, [], ◌∷◌, Option, count_by, option_map}
-use Rattle.std.specs.List.{cons_option}
-use Rattle.tariff_syntax.specs.Tree.{Line}
-use Rattle.tariff_check.specs.Kinds.{is_of, kind_of}
-use Rattle.tariff_check.specs.declared.choice.ChoiceKind.{ChoiceKind}
-use Rattle.tariff_check.specs.declared.choice.ChoiceLine.{ChoiceLine}
+use Rattle.std.specs.{List.{cons_option}, Prelude.{[], ℕ, ◌++◌, ◌∷◌, List, Option, count_by, option_map}}
+use Rattle.tariff_check.specs.{Common.{ChoiceKind, ChoiceLine, Line}, Kinds.{is_of, kind_of}}
 
 -- the place of a line among those of a kind is how many of them stand before it
 abbrev pub place_behind : ChoiceKind → (before : List Line) → ℕ
 place_behind kind before = count_by (λ (l : Line). is_of kind l.entry) before
 
--- the choice that a line behind others gives, if it is of such a kind, is told by the kind, its place among the choices
--- of the kind, and the line's number
+-- the choice that a line behind others gives, if it is of such a kind, is the kind, its place among the choices of the
+-- kind, and the line's number
 abbrev pub choice_behind : (before : List Line) → Line → Option ChoiceLine
 choice_behind before l =
     option_map (λ (kind : ChoiceKind). record {

@@ -1,16 +1,10 @@
 -- Rules: what is said of each kind of line.
-use Rattle.std.specs.Prelude.{ℕ, ◌^◌, ◌≤◌, Bool, true, false, ◌||◌, nat_lt, List, [], ◌∷◌, Option, Some, None}
-use Rattle.std.specs.Option.{is_some}
-use Rattle.taxi_units.specs.Money.{largest_amount, largest_display_step}
-pub use Rattle.tariff_syntax.specs.Choices.{InitialNumbers, RateNumbers, initial_part, minimum_part, rate_part}
-use Rattle.tariff_syntax.specs.Choices.{choices, values_of}
-use Rattle.tariff_syntax.specs.Condition.{Condition}
-use Rattle.tariff_syntax.specs.Tree.{Line, Entry, step, supplement, initial, rate, minimum}
-use Rattle.tariff_syntax.specs.Writable.{IsFromTo}
+use Rattle.{std.specs.Option.{is_some}, tariff_check.specs.Common.{supplement, values_of}}
+use Rattle.std.specs.Prelude.{[], ℕ, ◌^◌, ◌||◌, ◌∷◌, ◌≤◌, Bool, List, None, Option, Some, false, nat_lt, true}
+use Rattle.tariff_check.specs.Common.{ChoiceKind, Choices, Condition, Entry, Initial, IsFromTo, Line, Minimum, Rate}
+use Rattle.tariff_check.specs.Common.{choices, initial, largest_amount, largest_display_step, minimum, rate, step}
 use Rattle.tariff_check.specs.declared.choice.Choice as program
-use Rattle.tariff_check.specs.declared.choice.ChoiceKind.{ChoiceKind}
-use Rattle.tariff_check.specs.declared.choice.ChoiceKind.TheVariants.{Rate, Initial, Minimum}
-use Rattle.tariff_check.specs.declared.choice.Choices.{Choices}
+pub use Rattle.tariff_syntax.specs.Choices.{InitialNumbers, RateNumbers, initial_part, minimum_part, rate_part}
 
 -- what a line of a kind says is the amounts and the measures of a rate, the amount and the cover of an initial hire
 -- fee, or the amount of a minimum fare
@@ -19,7 +13,7 @@ Said Rate = RateNumbers
 Said Initial = InitialNumbers
 Said Minimum = ℕ
 
--- the part of an entry that is of a kind is what it says, and none if it is of no such kind
+-- the part of an entry that is of a kind is what it says, and none if it is of another kind
 abbrev pub part_of : (kind : ChoiceKind) → Entry → Option (Said kind)
 part_of Rate = rate_part
 part_of Initial = initial_part
@@ -31,7 +25,7 @@ entry_with Rate r when = rate r.a r.b r.c r.e when
 entry_with Initial i when = initial i.amount i.covers when
 entry_with Minimum amount when = minimum amount when
 
--- the kind of an entry of which the first that holds is the one that counts, if it is of one
+-- the kind of an entry, if it is of one whose first line that holds counts
 abbrev pub kind_of : Entry → Option ChoiceKind
 kind_of (rate a b c e when) = Some Rate
 kind_of (initial amount covers when) = Some Initial
@@ -54,7 +48,7 @@ is_asked_amid kind = false
 abbrev pub EachKind : (ChoiceKind → Type 0) → Type 0
 EachKind P = P Rate × P Initial × P Minimum
 
--- the tests of the kinds tell of an entry, one after another, whether it has the part of each
+-- the tests of an entry, one for each kind, are true if it has the part of that kind
 abbrev pub tests_of_kinds : Entry → List Bool
 tests_of_kinds entry =
     is_some (part_of Rate entry) ∷ is_some (part_of Initial entry) ∷ is_some (part_of Minimum entry) ∷ []

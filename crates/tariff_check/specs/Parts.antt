@@ -1,14 +1,10 @@
 -- Rules: the parts of a tariff, from its lines.
-use Rattle.std.specs.Prelude.{ℕ, Bool, true, ◌==◌, List, find, Option, Some, None}
-use Rattle.std.specs.List.{filter_map, slice_get, list_any}
-use Rattle.std.specs.Option.{option_map, unwrap_or}
-use Rattle.drive_modes.specs.declared.meterage.Rounding.{Rounding}
-use Rattle.tariff_syntax.specs.Tree.{Line, Entry, step, positions, zones, holiday, supplement}
-pub use Rattle.tariff_syntax.specs.Tree.{when_part}
-pub use Rattle.tariff_check.specs.Kinds.{InitialNumbers, RateNumbers, initial_part, initials_of, minimum_part}
-pub use Rattle.tariff_check.specs.Kinds.{minimums_of, rate_part, rates_of}
+use Rattle.std.specs.List.{filter_map, list_any, slice_get}
+use Rattle.std.specs.{Option.{option_map, unwrap_or}, Prelude.{ℕ, ◌==◌, Bool, List, None, Option, Some, find, true}}
+use Rattle.tariff_check.specs.Common.{Entry, Line, Rounding, Supplement, holiday, positions, step, supplement, zones}
 use Rattle.tariff_check.specs.declared.values.DateNumbers as dates
-use Rattle.tariff_check.specs.declared.values.Supplement.{Supplement}
+pub use Rattle.{tariff_syntax.specs.Tree.{when_part}, tariff_check.specs.Kinds.{minimums_of, rate_part, rates_of}}
+pub use Rattle.tariff_check.specs.Kinds.{InitialNumbers, RateNumbers, initial_part, initials_of, minimum_part}
 
 -- a date has a year, a month and a date of the month
 abbrev pub DateNumbers : Type 0
@@ -47,15 +43,15 @@ abbrev pub numbered_supplement : Entry → Option (ℕ × Supplement)
 numbered_supplement (supplement number amount most) = Some (number, record { amount = amount; max = most })
 numbered_supplement _ = None
 
--- the display step of lines, with the rounding to it, is that of the first `step` line, if there is one
+-- the display step of lines, with its rounding, is that of the first `step` line, if there is one
 abbrev pub step_of : List Line → Option (ℕ × Rounding)
 step_of lines = first_part step_part lines
 
--- the tariff positions of lines are as many as a line says, and 1 if none does
+-- lines have as many tariff positions as a line says, and 1 if none does
 abbrev pub positions_of : List Line → ℕ
 positions_of lines = unwrap_or (first_part positions_part lines) 1
 
--- the zones of lines are as many as a line says, and 1 if none does
+-- lines have as many zones as a line says, and 1 if none does
 abbrev pub zones_of : List Line → ℕ
 zones_of lines = unwrap_or (first_part zones_part lines) 1
 

@@ -1,23 +1,12 @@
 -- Rules: what a sound tariff is made of.
-use Rattle.std.specs.Prelude.{◌≡◌, ℕ, ◌^◌, ◌≤◌, true, Some, length, All, IsTrue}
-use Rattle.drive_modes.specs.declared.meterage.Rounding.{Rounding}
-use Rattle.taxi_units.specs.Calendar.{is_date}
-use Rattle.taxi_units.specs.Money.{largest_display_step}
+use Rattle.std.specs.Prelude.{ℕ, ◌^◌, ◌≡◌, ◌≤◌, All, IsTrue, Some, length, true}
+use Rattle.{tariff_syntax.specs.Writable.{IsWritableCondition}, tariff_check.specs.{Cells.{cells_of}, Lines.{atoms_in}}}
+use Rattle.tariff_check.specs.Common.{ChoiceKind, Condition, Dimension, IsFromTo, Line, Rounding, Supplement, Tree}
+use Rattle.tariff_check.specs.{Common.{is_date, largest_display_step}, Faults.{has_default}, Measure.{measure_of}}
+use Rattle.tariff_check.specs.{Cuts.{count_of, most_cuts}, Kinds.{IsSoundSaid, initial_part, rate_part, said_by}}
+use Rattle.tariff_check.specs.Parts.{DateNumbers, holidays_of, positions_of, step_of, supplement_of, zones_of}
 use Rattle.tariff_syntax.specs.Condition as tree
-use Rattle.tariff_syntax.specs.Condition.{Condition}
-use Rattle.tariff_syntax.specs.Tree.{Tree, Line}
-use Rattle.tariff_syntax.specs.Writable.{IsFromTo, IsWritableCondition}
-use Rattle.tariff_check.specs.Cells.{cells_of}
-use Rattle.tariff_check.specs.Cuts.{count_of, most_cuts}
-use Rattle.tariff_check.specs.Faults.{has_default}
 pub use Rattle.tariff_check.specs.Kinds.{IsSoundInitial, IsSoundRate}
-use Rattle.tariff_check.specs.Kinds.{IsSoundSaid, initial_part, rate_part, said_by}
-use Rattle.tariff_check.specs.Lines.{atoms_in}
-use Rattle.tariff_check.specs.Measure.{measure_of}
-use Rattle.tariff_check.specs.Parts.{DateNumbers, step_of, positions_of, zones_of, holidays_of, supplement_of}
-use Rattle.tariff_check.specs.declared.choice.ChoiceKind.{ChoiceKind}
-use Rattle.tariff_check.specs.declared.values.Supplement.{Supplement}
-use Rattle.tariff_check.specs.declared.fault.Dimension.{Dimension}
 
 -- a supplement is sound if its amount is at most 1,000,000 and it may be added 1 to 99 times
 pub record IsSoundSupplement (s : Supplement) : Type 0 where
@@ -29,7 +18,7 @@ pub record IsSoundHoliday (d : DateNumbers) : Type 0 where
   pub year : IsFromTo 2000 2199 d.year
   pub date : IsTrue (is_date d.year d.month d.date)
 
--- an atom is sound if its dates are ones that a leap year has, and its `after` is more than 0
+-- an atom is sound if a leap year has its dates, and its `after` is more than 0
 abbrev pub IsSoundAtom : Condition → Type 0
 IsSoundAtom (tree.date from_month from_date to_month to_date) =
     IsTrue (is_date 2000 from_month from_date) × IsTrue (is_date 2000 to_month to_date)
@@ -41,7 +30,7 @@ IsSoundAtom atom = Unit {0}
 abbrev pub IsGoodAtom : Condition → Type 0
 IsGoodAtom atom = IsWritableCondition atom × IsSoundAtom atom
 
--- a tariff has sound parts if each of them is sound and there are no more of them than there may be
+-- a tariff has sound parts if each part is sound and there are no more of them than there may be
 pub record HasSoundParts (t : Tree) : Type 0 where
   pub decimals : t.decimals ≤ 3
   pub step : (s : ℕ × Rounding) × (step_of t.lines ≡ Some s) × IsFromTo 1 largest_display_step s.0

@@ -1,12 +1,7 @@
 //! The cuts of a tariff.
-ghost use Rattle.std.specs.BTreeSet.{insert_key};
-ghost use Rattle.std.specs.List.{flat_map};
-ghost use Rattle.std.specs.Ordering.{nat_cmp};
-ghost use Rattle.std.specs.Prelude.{◌≡◌, IfOk, OnOk, map};
+ghost use Rattle.std.specs.{BTreeSet.{insert_key}, List.{flat_map}, Ordering.{nat_cmp}, Prelude.{◌≡◌, IfOk, OnOk, map}};
+ghost use Rattle.tariff_check.specs.{Common.{condition_of, entry_of, line_of, tree_of}, Lines.{atoms_in, atoms_of}};
 ghost use Rattle.tariff_check.specs.Cuts.{atom_cuts, count_of, cuts_of, with_each};
-ghost use Rattle.tariff_check.specs.Lines.{atoms_in, atoms_of};
-ghost use Rattle.tariff_syntax.specs.Condition.{condition_of};
-ghost use Rattle.tariff_syntax.specs.Tree.{entry_of, line_of, tree_of};
 
 use crate::atom_cuts::atom_cuts;
 use crate::checked::Checked;
@@ -17,8 +12,8 @@ use std::collections::BTreeSet;
 use tariff_syntax::{Cond, Item, TariffLine};
 use taxi_units::NoMemory;
 
-/// The different numbers with which the conditions of a tariff compare in a dimension, in order: places
-/// in a leap year, minutes of the day, decimetres or tenths of a second. `NoMemory` where memory runs out.
+/// The different numbers with which the conditions of a tariff compare in a dimension, in order: places in a leap year,
+/// minutes of the day, decimetres or tenths of a second. `NoMemory`: memory runs out.
 pub fn cut_values(
     alloc: Global,
     checked: &Checked,
@@ -46,8 +41,8 @@ pub(crate) fn cuts(
     Ok(cuts)
 }
 
-/// How many cuts some lines have in a dimension. `NoMemory` too where they are more than fit 32 bits, which is more
-/// than 32 GiB of them.
+/// How many cuts some lines have in a dimension. `NoMemory` also if 32 bits don't count them, which takes more than 32
+/// GiB.
 pub(crate) fn cut_count(
     alloc: Global,
     lines: &[TariffLine],

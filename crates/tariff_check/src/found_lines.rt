@@ -1,10 +1,8 @@
 //! The line of a tariff that says a part of its frame, or that counts in a context.
 ghost use Rattle.std.specs.Prelude.{◌≡◌, map, option_and_then};
-ghost use Rattle.taxi_units.specs.Reading.{Gives};
-ghost use Rattle.tariff_check.specs.FoundLines.{frame_line, line_in_force, says};
-ghost use Rattle.tariff_check.specs.Resolved.{line_of_own};
+ghost use Rattle.tariff_check.specs.Common.{Gives, entry_of, line_of, tree_of};
+ghost use Rattle.tariff_check.specs.{FoundLines.{frame_line, line_in_force, says}, Resolved.{line_of_own}};
 ghost use Rattle.tariff_check.specs.SoundTariff.{own_conditions, place_of};
-ghost use Rattle.tariff_syntax.specs.Tree.{entry_of, line_of, tree_of};
 
 use crate::checked::Checked;
 use crate::choice::{Choice, ChoiceKind};
@@ -24,15 +22,15 @@ pub enum FramePart {
 }
 
 impl Checked {
-    /// The line that says a part of the frame; `None` exactly where no line does.
+    /// The line that says a part of the frame. `None` exactly if no line does.
     pub fn frame_line(&self, part: FramePart) -> Option<&TariffLine>
         ensures { Gives (λ line. line_of line.now) result (frame_line part (tree_of self.now).lines) }
     {
         first_saying(part, self.tariff.lines.as_slice())
     }
 
-    /// The line of the first choice of a kind that has no condition or whose condition holds in a context; `None`
-    /// exactly where none holds.
+    /// The line of the first choice of a kind that has no condition or whose condition holds in a context. `None`
+    /// exactly if none holds.
     pub fn line_in_force(&self, kind: ChoiceKind, x: &Context) -> Option<&TariffLine>
         ensures { Gives (λ line. line_of line.now) result (line_in_force kind x.now (tree_of self.now).lines) }
     {

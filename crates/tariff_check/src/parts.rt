@@ -1,11 +1,8 @@
 //! The parts of a tariff on which faults depend, from its lines.
-ghost use Rattle.std.specs.Prelude.{◌≡◌, ◌&&◌, Some, None, IfOk, IfErr, OnOk, is_none, map, unwrap_or};
-ghost use Rattle.tariff_check.specs.Faults.{has_default};
-ghost use Rattle.tariff_check.specs.Kinds.{is_of, part_of};
-ghost use Rattle.tariff_check.specs.Parts.{has_holidays, positions_of, positions_part, step_of, step_part, zones_of};
-ghost use Rattle.tariff_check.specs.Parts.{when_part, zones_part};
-ghost use Rattle.tariff_check.specs.Stages.{step_fault};
-ghost use Rattle.tariff_syntax.specs.Tree.{entry_of, line_of};
+ghost use Rattle.std.specs.Prelude.{◌&&◌, ◌≡◌, IfErr, IfOk, None, OnOk, Some, is_none, map, unwrap_or};
+ghost use Rattle.tariff_check.specs.{Common.{entry_of, line_of}, Kinds.{is_of, part_of}, Parts.{zones_of, zones_part}};
+ghost use Rattle.tariff_check.specs.{Faults.{has_default}, Stages.{step_fault}};
+ghost use Rattle.tariff_check.specs.Parts.{has_holidays, positions_of, positions_part, step_of, step_part, when_part};
 
 use crate::choice::{ChoiceKind, condition, is_of};
 use crate::fault::CheckFault;
@@ -13,7 +10,7 @@ use crate::found_lines::{FramePart, first_saying};
 use drive_modes::Rounding;
 use tariff_syntax::{Item, TariffLine};
 
-/// The display step, and how the fare is rounded to it, of the first such line; or what is wrong with it.
+/// The display step and its rounding, of the first such line, or what is wrong with it.
 pub(crate) fn step(lines: &[TariffLine]) -> Result<(u64, Rounding), CheckFault>
     ensures step { IfOk result (λ s. step_of (map line_of lines.now) ≡ Some s) }
     ensures none { OnOk result (step_fault (map line_of lines.now) ≡ None) }
@@ -31,7 +28,7 @@ pub(crate) fn step(lines: &[TariffLine]) -> Result<(u64, Rounding), CheckFault>
     }
 }
 
-/// The display step, and how the fare is rounded to it, of the first such line, if there is one.
+/// The display step and its rounding, of the first such line, if there is one.
 pub(crate) fn step_said(lines: &[TariffLine]) -> Option<(u64, Rounding)>
     ensures { result ≡ step_of (map line_of lines.now) }
 {
@@ -61,7 +58,7 @@ pub(crate) fn positions(lines: &[TariffLine]) -> u8
     }
 }
 
-/// How many tariff positions a line says that there are, or 1.
+/// The number of tariff positions that a line says, or 1.
 fn positions_in(item: &Item) -> u8
     ensures { result ≡ unwrap_or (positions_part (entry_of item.now)) 1 }
 {
@@ -81,7 +78,7 @@ pub(crate) fn zones(lines: &[TariffLine]) -> u8
     }
 }
 
-/// How many zones a line says that there are, or 1.
+/// The number of zones that a line says, or 1.
 fn zones_in(item: &Item) -> u8
     ensures { result ≡ unwrap_or (zones_part (entry_of item.now)) 1 }
 {

@@ -1,19 +1,10 @@
 -- The printed form of a text's tariff.
-use Rattle.std.proofs.Common.{◌≡◌, ℕ, List, length, Ok, Err, refl, sym, ap, ◌∙◌}
-use Rattle.std.proofs.lemmas.Bool.{le-ltb}
-use Rattle.tariff_syntax.specs.Printed.{printed}
-use Rattle.tariff_syntax.specs.Reads.{IsParsed}
-use Rattle.tariff_syntax.specs.Tree.{tree_of}
+use Rattle.std.proofs.{Common.{ℕ, ◌∙◌, ◌≡◌, Err, List, Ok, ap, length, refl, sym}, lemmas.Bool.{le-ltb}}
+use Rattle.tariff_syntax.specs.{Reads.{IsParsed}, declared.tariff.Tariff.{Tariff}}
+use Rattle.tariff_syntax.proofs.Laws.{texts_are_parsed_as_they_read-bad_line, texts_are_parsed_as_they_read-tariff}
+use Rattle.tariff_commands.specs.Common.{Refusal, Syntax, bad_tariff, pieces_of, printed_form, shows, tree_of}
+use Rattle.tariff_commands.specs.{Form.{form_answer, form_pieces, tree_in}, FormSteps.{IsFormOf}}
 use Rattle.tariff_syntax.specs.declared.parsing.ParseFault.TheVariants as faults
-use Rattle.tariff_syntax.specs.declared.tariff.Tariff.{Tariff}
-use Rattle.tariff_syntax.proofs.Laws.{texts_are_parsed_as_they_read-tariff, texts_are_parsed_as_they_read-bad_line}
-use Rattle.call_ends.specs.Answer.{shows}
-use Rattle.tariff_commands.specs.Form.{form_answer, form_pieces, tree_in}
-use Rattle.tariff_commands.specs.FormSteps.{IsFormOf}
-use Rattle.call_ends.specs.Pieces.{pieces_of}
-use Rattle.call_ends.specs.Tariffs.{bad_tariff}
-use Rattle.call_ends.specs.declared.tariff.Refusal.{Refusal}
-use Rattle.call_ends.specs.declared.tariff.Refusal.TheVariants.{Syntax}
 
 -- a text that was parsed reads as its tariff, or has its first bad line
 tree_parsed_in : (text : List ℕ) (t : Tariff) → IsParsed text (Ok t) → tree_in text ≡ Ok (tree_of t)
@@ -26,7 +17,7 @@ form_refused text line h =
     rw (le-ltb 65536 (length text) h.0, (texts_are_parsed_as_they_read-bad_line text line).0 h.1) refl
 
 -- its printed form is the form of the text
-pub form_parsed : (text form : List ℕ) (t : Tariff) → IsParsed text (Ok t) → form ≡ printed (tree_of t)
+pub form_parsed : (text form : List ℕ) (t : Tariff) → IsParsed text (Ok t) → form ≡ printed_form (tree_of t)
     → IsFormOf text form
 form_parsed text form t h is = record { tree = tree_of t; reads = tree_parsed_in text t h; is = is }
 

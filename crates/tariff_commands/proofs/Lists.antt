@@ -1,15 +1,8 @@
 -- The list of a text's lines.
-use Rattle.std.proofs.Common.{◌≡◌, ◌∙◌, ap, sym, ℕ, List, length, Ok, Err}
-use Rattle.tariff_compare.specs.Texts.{uses_text}
-use Rattle.tariff_compare.specs.Uses.{uses_of}
+use Rattle.std.proofs.Common.{ℕ, ◌∙◌, ◌≡◌, Err, List, Ok, ap, length, sym}
 use Rattle.tariff_compare.specs.declared.uses.LineUse.{LineUse}
-use Rattle.tariff_syntax.specs.Tree.{Tree}
-use Rattle.call_ends.specs.Answer.{shows}
-use Rattle.tariff_commands.specs.Lines.{lines_answer, lines_pieces}
-use Rattle.tariff_commands.specs.LinesSteps.{IsListOf}
-use Rattle.call_ends.specs.Pieces.{pieces_of}
-use Rattle.call_ends.specs.Tariffs.{bad_tariff, tariff_in}
-use Rattle.call_ends.specs.declared.tariff.Refusal.{Refusal}
+use Rattle.tariff_commands.specs.Common.{Refusal, Tree, bad_tariff, pieces_of, shows, tariff_in, uses_of, uses_text}
+use Rattle.tariff_commands.specs.{Lines.{lines_answer, lines_pieces}, LinesSteps.{IsListOf}}
 
 -- the text of the uses of a tariff's lines is the list of its text
 pub list_made : (k : ℕ) (text list : List ℕ) (t : Tree) (uses : List LineUse) → tariff_in text ≡ Ok t

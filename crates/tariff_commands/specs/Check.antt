@@ -1,14 +1,9 @@
 -- Rules: the command `check TARIFF`.
-use Rattle.std.specs.Prelude.{◌≡◌, ◌+◌, ◌≤◌, [], None, Result, Ok, Err}
-use Rattle.tariff_syntax.specs.Tree.{Tree}
-use Rattle.tariff_check.specs.SoundTariff.{sound_of}
-use Rattle.call_ends.specs.Answer.{Answer, shows_line}
-use Rattle.call_ends.specs.Course.{Command}
-use Rattle.call_ends.specs.LastLine.{sound_line}
-use Rattle.call_ends.specs.Tariffs.{tariff_in, bad_tariff}
-use Rattle.call_ends.specs.declared.tariff.Refusal.{Refusal}
+use Rattle.std.specs.Prelude.{[], ◌+◌, ◌≡◌, ◌≤◌, Err, None, Ok, Result}
+use Rattle.{tariff_check.specs.SoundTariff.{sound_of}, call_ends.specs.{Answer.{shows_line}, LastLine.{sound_line}}}
+use Rattle.tariff_commands.specs.Common.{Answer, Command, Refusal, Tree, bad_tariff, tariff_in}
 
--- the answer to a sound tariff says how many cells it has and its common measure; to another text, why there is none
+-- the answer to a sound tariff says how many cells it has and its common measure; to another text, why it has none
 abbrev pub check_answer : Result Tree Refusal → Answer
 check_answer (Err why) = bad_tariff why
 check_answer (Ok t) = shows_line (sound_line (sound_of t).cells (sound_of t).measure)

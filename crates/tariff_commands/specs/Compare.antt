@@ -1,21 +1,15 @@
 -- Rules: the command `compare TARIFF OTHER CONSTANT`.
-use Rattle.std.specs.Prelude.{◌≡◌, ◌⊎◌, ℕ, ◌+◌, ◌≤◌, Bool, true, false, [], length, is_some, None, Result, Ok, Err}
-use Rattle.tariff_syntax.specs.Tree.{Tree}
-use Rattle.tariff_compare.specs.DifferenceTexts.{comparison_text}
-use Rattle.tariff_compare.specs.Differences.{difference_of}
-use Rattle.call_ends.specs.Answer.{Answer}
-use Rattle.call_ends.specs.Course.{Command}
-use Rattle.call_ends.specs.Pieces.{pieces_of}
-use Rattle.call_ends.specs.Tariffs.{HasTariff, tariff_in, bad_other, bad_tariff}
-use Rattle.call_ends.specs.declared.tariff.Refusal.{Refusal}
+use Rattle.std.specs.Prelude.{[], ℕ, ◌+◌, ◌≡◌, ◌≤◌, ◌⊎◌, Bool, Err, None, Ok, Result, false, is_some, length, true}
+use Rattle.{call_ends.specs.Tariffs.{bad_other}, tariff_commands.specs.Common.{difference_of, pieces_of, tariff_in}}
+use Rattle.tariff_commands.specs.Common.{Answer, Command, HasTariff, Refusal, Tree, bad_tariff, comparison_text}
 
--- a comparison has the status 11 where the tariffs differ, and else 0
+-- the status of a comparison is 11 if the tariffs differ, and else 0
 abbrev pub comparing_status : (differ : Bool) → ℕ
 comparing_status true = 11
 comparing_status false = 0
 
--- the answer to two sound tariffs shows what differs first between them; to other texts, it says why there is none, of
--- the first one before the other
+-- the answer to two sound tariffs shows what differs first between them. To other texts it says why the first one has
+-- no sound tariff, or else why the other has none.
 abbrev pub compare_answer : (k : ℕ) → (one other : Result Tree Refusal) → Answer
 compare_answer k (Err why) other = bad_tariff why
 compare_answer k (Ok t) (Err why) = bad_other why
@@ -25,8 +19,8 @@ compare_answer k (Ok t) (Ok u) = record {
   line = [];
 }
 
--- the command `compare` reads its tariff, and where that is sound the other, and prints the text in as few pieces as it
--- can be, in a step for each and one for the last line
+-- the command `compare` reads its tariff, then the other if the first is sound, and prints the text in as few pieces as
+-- it can be. It takes a step for each piece, and one for the last line.
 abbrev pub compare_command : (k : ℕ) → Command
 compare_command k = record {
   answer = λ contents image. compare_answer k (tariff_in (contents 1)) (tariff_in (contents 2));

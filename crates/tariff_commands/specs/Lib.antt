@@ -11,3 +11,4 @@ pub mod FaultsSteps
 pub mod FormSteps
 pub mod LinesSteps
 pub mod TableSteps
+pub mod Common

@@ -1,13 +1,9 @@
 //! The command `tables`.
 #![tactic(auto, using(call_ends::proofs::Laws::board_runs))]
 
-ghost use Rattle.std.specs.Prelude.{◌≡◌, ◌+◌, ◌<◌, ◌≤◌, ◌++◌, length, OnOk};
-ghost use Rattle.taxi_units.specs.Line.{line_size};
-ghost use Rattle.outside.specs.Faults.{HasCause};
-ghost use Rattle.outside.specs.Printing.{Begins};
-ghost use Rattle.outside.specs.Runs.{KeepsStore};
-ghost use Rattle.tariff_compile.specs.Rows.{row_count, row_text, rows_text};
-ghost use Rattle.call_ends.specs.Carried.{Carries};
+ghost use Rattle.std.specs.Prelude.{◌++◌, ◌+◌, ◌<◌, ◌≡◌, ◌≤◌, OnOk, length};
+ghost use Rattle.{taxi_units.specs.Line.{line_size}, outside.specs.{Faults.{HasCause}, Runs.{KeepsStore}}};
+ghost use Rattle.tariff_commands.specs.Common.{Begins, Carries, row_count, row_text, rows_text};
 ghost use Rattle.tariff_commands.specs.Tables.{tables_command};
 
 use crate::compiled::tables_of_word;
@@ -19,7 +15,7 @@ use std::sync::ledger::Ledger;
 use tariff_compile::Tables;
 use taxi_units::{Line, Steps};
 
-/// Reads the tariff of word 1, and prints all rows of its tables under a constant.
+/// Prints all rows of the tables of word 1's tariff under a constant.
 pub fn print_tables<F: Files, B: Board<STORE_SIZE, L>, L: Ledger>(
     alloc: Global,
     constant: Constant,

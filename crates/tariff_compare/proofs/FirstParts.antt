@@ -1,35 +1,24 @@
 -- The part that is found is the first one that differs: of frames, and of what is in force in a context.
-use Rattle.std.proofs.Common.{◌≡◌, ◌∙◌, ◌⊎◌, ap, sym, subst, refl, ℕ, zero, suc, ◌+◌, ◌<◌, ◌≤◌, Bool, true, false, not}
-use Rattle.std.proofs.Common.{◌&&◌, ◌||◌, eqb, if◌then◌else◌, List, [], ◌∷◌, find, Option, Some, None, option_map}
-use Rattle.std.proofs.Common.{inl, inr, arith}
-use Rattle.std.proofs.lemmas.Bool.{cases_lt, eq-eqb, eqb-true, false≢true, not-false, not-true}
-use Rattle.std.specs.List.{range_with_len}
-use Rattle.tariff_check.proofs.Laws.{supplements_are_numbered_to_16}
-use Rattle.tariff_check.specs.DisplayStep.{display_step}
-use Rattle.tariff_check.specs.Parts.{positions_of, supplement_of, zones_of}
-use Rattle.tariff_check.specs.declared.choice.ChoiceKind.{ChoiceKind}
-use Rattle.tariff_check.specs.declared.choice.ChoiceKind.TheVariants.{Rate, Initial, Minimum}
-use Rattle.tariff_syntax.specs.Tree.{Tree}
-use Rattle.tariff_syntax.specs.Writable.{IsWritable}
-use Rattle.tariff_compare.specs.Contexts.{context_at}
+use Rattle.{std.specs.List.{range_with_len}, tariff_check.proofs.Laws.{supplements_are_numbered_to_16}}
+use Rattle.std.proofs.Common.{[], ℕ, ◌&&◌, ◌+◌, ◌<◌, ◌||◌, ◌∙◌, ◌∷◌, ◌≡◌, ◌≤◌, ◌⊎◌, Bool, List, None, Option, Some, ap}
+use Rattle.std.proofs.Common.{arith, eqb, false, find, if◌then◌else◌, inl, inr, not, option_map, refl, subst, suc, sym}
+use Rattle.std.proofs.{Common.{true, zero}, lemmas.Bool.{cases_lt, eq-eqb, eqb-true, false≢true, not-false, not-true}}
+use Rattle.tariff_compare.specs.Common.{ChoiceKind, Decimals, Difference, In, Initial, IsWritable, MeterContext}
+use Rattle.tariff_compare.specs.Common.{Minimum, Positions, Rate, Rounded, Step, Supplement, Tree, Zones, display_step}
+use Rattle.tariff_compare.specs.{Common.{positions_of, supplement_of, zones_of}, Differences.{supplement_numbers}}
+use Rattle.tariff_compare.specs.{Contexts.{context_at}, FirstParts.{kind_place}, Kinds.{is_other, is_same_of}}
 use Rattle.tariff_compare.specs.Differences.{frame_difference, is_same_rounding, is_same_supplement, other_supplement}
-use Rattle.tariff_compare.specs.Differences.{supplement_numbers}
 use Rattle.tariff_compare.specs.FirstParts.{IsAskedFor, IsFirstKind, IsFirstOfFrame, IsSameBy, IsSameIn, frame_place}
-use Rattle.tariff_compare.specs.FirstParts.{kind_place}
 use Rattle.tariff_compare.specs.Kinds.{InForce, compared_kinds, difference_at, differing_kind, in_force, is_asked}
-use Rattle.tariff_compare.specs.Kinds.{is_other, is_same_of}
-use Rattle.tariff_compare.specs.declared.difference.Difference.{Difference}
-use Rattle.tariff_compare.specs.declared.difference.Difference.TheVariants.{Decimals, Step, Rounded, Positions, Zones}
-use Rattle.tariff_compare.specs.declared.difference.Difference.TheVariants.{Supplement, In}
-use Rattle.tariff_compare.specs.declared.meter_context.MeterContext.{MeterContext}
 use Rattle.tariff_compare.proofs.Frames.{both_parts, rounding_self, same_roundings, same_supplements, supplement_self}
+use Rattle.tariff_compare.proofs.Numbers.{IsIn}
 
 none_some : {A : Type 0} {a : A} → None ≡ Some a → ⊥
 none_some h = cc
 
 -- ---- the first that passes a test
 
--- where a test fails what stands there is found, and else something behind it
+-- if a test fails, what stands there is found, and else something behind it
 by_test : (d e : Difference) (b : Bool) (rest : Option Difference) → (if not b then Some d else rest) ≡ Some e
     → ((b ≡ false) × (d ≡ e)) ⊎ ((b ≡ true) × (rest ≡ Some e))
 by_test d e true rest h = inr (refl, h)
@@ -41,18 +30,18 @@ mapped None e h = absurd (none_some h)
 mapped (Some n) e h = (n, refl, cc)
 
 -- the number that is found passes the test, and no number before it does
-found_passes : (p : ℕ → Bool) (xs : List ℕ) (n : ℕ) → find p xs ≡ Some n → p n ≡ true
+pub found_passes : (p : ℕ → Bool) (xs : List ℕ) (n : ℕ) → find p xs ≡ Some n → (p n ≡ true) × IsIn n xs
 found_passes p [] n h = absurd (none_some h)
 found_passes p (x ∷ xs) n h = by (p x) refl h (found_passes p xs n)
   where
     by : (b : Bool) → p x ≡ b → (if b then Some x else find p xs) ≡ Some n
-        → (find p xs ≡ Some n → p n ≡ true) → p n ≡ true
+        → (find p xs ≡ Some n → (p n ≡ true) × IsIn n xs) → (p n ≡ true) × IsIn n (x ∷ xs)
     by true is found later =
         let same : x ≡ n = cc in
-        subst (λ (y : ℕ). p y ≡ true) same is
-    by false is found later = later found
+        (subst (λ (y : ℕ). p y ≡ true) same is, inl (sym same))
+    by false is found later = let there = later found in (there.0, inr there.1)
 
-earlier_fail : (p : ℕ → Bool) (a count n m : ℕ) → find p (range_with_len a count) ≡ Some n → a ≤ m → m < n
+pub earlier_fail : (p : ℕ → Bool) (a count n m : ℕ) → find p (range_with_len a count) ≡ Some n → a ≤ m → m < n
     → p m ≡ false
 earlier_fail p a zero n m h from to = absurd (none_some h)
 earlier_fail p a (suc count) n m h from to = by (p a) refl h (earlier_fail p (a + 1) count n m)
@@ -125,7 +114,7 @@ frame_is_first t u d t_is u_is h =
         let found = mapped (other_supplement t u) d h in
         let differs = not-true (is_same_supplement (supplement_of t.lines found.0) (supplement_of u.lines found.0))
         (found_passes (λ number. not (is_same_supplement (supplement_of t.lines number) (supplement_of u.lines number)))
-        supplement_numbers found.0 found.1) in
+        supplement_numbers found.0 found.1).0 in
         subst (IsFirstOfFrame t u) found.2 (record {
           there = λ same. false≢true (sym differs
               ∙ (ap (is_same_supplement (supplement_of t.lines found.0)) (sym same)

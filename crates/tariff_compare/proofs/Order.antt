@@ -1,9 +1,8 @@
 -- The order of contexts.
-use Rattle.std.proofs.Common.{◌≡◌, ℕ, ◌<◌, ◌≤◌, List, [], ◌∷◌, inl, inr, arith}
-use Rattle.std.proofs.lemmas.Bool.{cases_lt}
-use Rattle.tariff_compile.specs.Cells.{IsBefore}
+use Rattle.std.proofs.{Common.{[], ℕ, ◌<◌, ◌∷◌, ◌≡◌, ◌≤◌, List, arith, inl, inr}, lemmas.Bool.{cases_lt}}
+use Rattle.tariff_compare.specs.Common.{IsBefore}
 
--- where two numbers are the same, what follows decides
+-- if two numbers are the same, what follows decides
 pub strip : (a b : ℕ) (xs ys : List ℕ) → a ≡ b → IsBefore (a ∷ xs) (b ∷ ys) → IsBefore xs ys
 strip a b xs ys same (inl lt) = absurd (omega (arith, lt, same))
 strip a b xs ys same (inr both) = both.1

@@ -1,18 +1,11 @@
 -- Rules: the contexts that a meter under a tariff can have, and their order.
-use Rattle.std.specs.Prelude.{◌≡◌, ℕ, ◌+◌, ◌<◌, ◌≤◌, if◌then◌else◌, nat_le, List, [], ◌∷◌, Option, Some, None, ℤ, pos, ◌+ℤ◌}
-use Rattle.interval_clock.specs.Calendar.{date_after, date_place, weekday_of}
-use Rattle.interval_clock.specs.LocalTime.{day_of, minute_of_day}
-use Rattle.interval_clock.specs.Offsets.{IsOffset}
-use Rattle.drive_modes.specs.Constant.{least_constant, greatest_constant}
+use Rattle.std.specs.Prelude.{[], ℕ, ℤ, ◌+ℤ◌, ◌+◌, ◌<◌, ◌∷◌, ◌≡◌, ◌≤◌, List, None, Option, Some, if◌then◌else◌, nat_le}
+use Rattle.{std.specs.Prelude.{pos}, taxi_units.specs.Time.{IsSecond}, interval_clock.specs.Offsets.{IsOffset}}
+use Rattle.{drive_modes.specs.Constant.{greatest_constant, least_constant}, interval_clock.specs.Calendar.{date_after}}
+use Rattle.{interval_clock.specs.LocalTime.{day_of, minute_of_day}, tariff_check.specs.Faults.{IsSound}}
 use Rattle.tariff_calendar.specs.Lists.{is_holiday}
-use Rattle.tariff_check.specs.Faults.{IsSound}
-use Rattle.tariff_check.specs.Parts.{positions_of, zones_of}
-use Rattle.tariff_compile.specs.Cells.{IsBefore}
-use Rattle.tariff_syntax.specs.Tree.{Tree}
-use Rattle.tariff_syntax.specs.Writable.{IsFromTo, IsWritable}
-use Rattle.tariff_syntax.specs.declared.context.Context.{Context}
-use Rattle.taxi_units.specs.Time.{IsSecond, last_tick}
-use Rattle.tariff_compare.specs.declared.meter_context.MeterContext.{MeterContext}
+use Rattle.tariff_compare.specs.Common.{Context, IsBefore, IsFromTo, IsWritable, MeterContext, Tree, date_place}
+use Rattle.tariff_compare.specs.Common.{last_tick, positions_of, weekday_of, zones_of}
 
 -- a tariff has tables under a constant if a text can have its numbers, it is sound, and the constant is 500 to 200,000
 pub record HasTables (t : Tree) (k : ℕ) : Type 0 where
@@ -20,8 +13,8 @@ pub record HasTables (t : Tree) (k : ℕ) : Type 0 where
   pub sound : IsSound t
   pub constant : (least_constant ≤ k) × (k ≤ greatest_constant)
 
--- a day, told by its number, and a minute are ones of a meter if they are the local day and the minute of that day at
--- one second of the meter under one offset of at most 14 hours to either side
+-- a meter has a day, told by its number, and a minute if they are local time at one of its seconds, under one offset of
+-- at most 14 hours to either side
 pub record IsMeterTime (day minute : ℕ) : Type 0 where
   pub second : ℕ
   pub offset : ℤ
@@ -30,8 +23,8 @@ pub record IsMeterTime (day minute : ℕ) : Type 0 where
   pub day_is : day_of (pos second +ℤ offset) ≡ pos day
   pub minute_is : minute_of_day (pos second +ℤ offset) ≡ minute
 
--- the same by their numbers: all minutes of the days 2000-01-01 to 2199-12-31, those of 1999-12-31 (day 10956) from
--- 10:00 (minute 600) on, and those of 2200-01-01 (day 84006) before 14:00 (minute 840)
+-- the times of a meter by their numbers: all minutes of the days 2000-01-01 to 2199-12-31; those of 1999-12-31 (day
+-- 10956) from 10:00 (minute 600) on; and those of 2200-01-01 (day 84006) before 14:00 (minute 840)
 pub record IsTimeOf (day minute : ℕ) : Type 0 where
   pub days : IsFromTo 10956 84006 day
   pub minutes : minute ≤ 1439
@@ -43,8 +36,8 @@ pub record IsTimeOf (day minute : ℕ) : Type 0 where
 abbrev pub most_pulses : ℕ
 most_pulses = 20000000000000
 
--- a context is one of a meter under a tariff if its position and zone are among the tariff's, its day and minute are
--- the meter's, a trip that runs can have its ticks, and its pulses are at most 2 * 10^13
+-- a context is one of a meter under a tariff if the tariff has its position and zone, the meter has its day and minute,
+-- and a trip that runs can have its ticks; its pulses are at most 2 * 10^13
 pub record IsMeterContext (t : Tree) (m : MeterContext) : Type 0 where
   pub position : IsFromTo 1 (positions_of t.lines) m.position
   pub zone : IsFromTo 1 (zones_of t.lines) m.zone
@@ -52,8 +45,8 @@ pub record IsMeterContext (t : Tree) (m : MeterContext) : Type 0 where
   pub ticks : m.ticks ≤ last_tick
   pub pulses : m.pulses ≤ most_pulses
 
--- the conditions of a tariff are asked, in a context of a meter, under the meter's constant, with the weekday and the
--- place in a leap year of the day, and whether the tariff has its date as a holiday
+-- in a context of a meter the conditions of a tariff are asked with the meter's constant, the day's weekday and place
+-- in a leap year, and whether the tariff has its date as a holiday
 abbrev pub context_at : Tree → (k : ℕ) → MeterContext → Context
 context_at t k m =
     let date = date_after m.day in
@@ -69,11 +62,11 @@ context_at t k m =
       ticks = m.ticks;
     }
 
--- the day from which contexts are asked about first is 2026-01-01, told by its number
+-- contexts are asked about from 2026-01-01 on, told by its number
 abbrev pub first_day : ℕ
 first_day = 20454
 
--- the place of a day in the order of days is such that those from 2026-01-01 on come first, and then those before it
+-- in the order of days those from 2026-01-01 on come first, and then those before it
 abbrev pub day_place : (day : ℕ) → ℕ
 day_place day = if nat_le first_day day then day else day + 84006
 

@@ -1,12 +1,8 @@
 -- Rules: when two tariffs are the same under a constant.
-use Rattle.std.specs.Prelude.{◌≡◌, ℕ, true, is_some, Some, None}
-use Rattle.tariff_check.specs.Parts.{positions_of, supplement_of, zones_of}
-use Rattle.tariff_check.specs.DisplayStep.{display_step}
-use Rattle.tariff_syntax.specs.Tree.{Tree}
-use Rattle.tariff_check.specs.declared.choice.ChoiceKind.{ChoiceKind}
-use Rattle.tariff_compare.specs.Contexts.{IsFirst, IsMeterContext}
+use Rattle.std.specs.Prelude.{ℕ, ◌≡◌, None, Some, is_some, true}
+use Rattle.tariff_compare.specs.Common.{ChoiceKind, MeterContext, Tree, display_step, positions_of, supplement_of}
+use Rattle.tariff_compare.specs.{Common.{zones_of}, Contexts.{IsFirst, IsMeterContext}}
 pub use Rattle.tariff_compare.specs.Kinds.{cost_same, difference_at, rate_in}
-use Rattle.tariff_compare.specs.declared.meter_context.MeterContext.{MeterContext}
 
 -- two tariffs have the same frame if their decimals, display steps, roundings, positions, zones and supplements are
 -- the same
@@ -22,8 +18,8 @@ pub record AreSame (t u : Tree) (k : ℕ) : Type 0 where
   pub frame : HasSameFrame t u
   pub contexts : (m : MeterContext) → IsMeterContext t m → difference_at t u k m ≡ None
 
--- what differs first between two tariffs is a part of a context if their frames are the same, it is what differs in the
--- context, and in no earlier context of a meter anything does
+-- a kind differs first between two tariffs, in a context of a meter, if their frames are the same, it is what differs
+-- there, and nothing differs in an earlier context
 pub record DiffersFirst (t u : Tree) (k : ℕ) (kind : ChoiceKind) (m : MeterContext) : Type 0 where
   pub frame : HasSameFrame t u
   pub there : difference_at t u k m ≡ Some kind

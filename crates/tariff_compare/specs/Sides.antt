@@ -1,19 +1,11 @@
--- By law: what is asked of a tariff in a context of a meter, answered by its tables. Counting and Kinds say it of the
--- tariff, and the laws first_contexts_are_first and differences_are_first that both come to the same.
-use Rattle.std.specs.Prelude.{ℕ, Bool, ◌&&◌, ◌==◌, List, get_or, Option, is_some, pos}
-use Rattle.std.specs.List.{list_any}
-use Rattle.interval_clock.specs.Calendar.{date_after, date_place, weekday_of}
-use Rattle.tariff_check.specs.Parts.{RateNumbers, rates_of}
-use Rattle.tariff_compile.specs.Tables.{TableParts, fees_in, lines_in, tables_of}
-use Rattle.tariff_compile.specs.declared.cells.CellLines.{CellLines}
-use Rattle.tariff_syntax.specs.Tree.{Tree}
-use Rattle.tariff_syntax.specs.declared.context.Context.{Context}
-use Rattle.tariff_check.specs.declared.choice.ChoiceKind.{ChoiceKind}
-use Rattle.tariff_compare.specs.Counting.{counts, is_at}
+-- By law: what is asked of a tariff in a context of a meter, answered by its tables. CountedLine and Kinds say it of
+-- the tariff; the laws first_contexts_are_first and differences_are_first say that both are the same.
+use Rattle.std.specs.{List.{list_any}, Prelude.{ℕ, ◌&&◌, ◌==◌, Bool, List, Option, get_or, is_some, pos}}
+use Rattle.{interval_clock.specs.Calendar.{date_after}, tariff_compare.specs.Common.{tables_of, weekday_of}}
+use Rattle.tariff_compare.specs.Common.{CellLines, ChoiceKind, Context, Counts, Differs, MeterContext, Question}
+use Rattle.tariff_compare.specs.Common.{RateNumbers, TableParts, Tree, date_place, fees_in, lines_in, rates_of}
+use Rattle.tariff_compare.specs.CountedLine.{counts, is_at}
 use Rattle.tariff_compare.specs.Kinds.{InForce, difference_at, differing_kind, is_asked, place_in}
-use Rattle.tariff_compare.specs.declared.meter_context.MeterContext.{MeterContext}
-use Rattle.tariff_compare.specs.declared.question.Question.{Question}
-use Rattle.tariff_compare.specs.declared.question.Question.TheVariants.{Counts, Differs}
 
 -- one side of a comparison has the tables of a tariff, and its rates
 pub record SideParts : Type 0 where
@@ -25,8 +17,8 @@ abbrev pub side_of : Tree → (k : ℕ) → SideParts
 side_of t k = record { tables = tables_of t k; rates = rates_of t.lines }
 
 -- a day is among holidays if one of them has its number
-abbrev pub is_among : List ℕ → (day : ℕ) → Bool
-is_among holidays day = list_any (λ holiday. holiday == day) holidays
+abbrev pub is_holiday_among : List ℕ → (day : ℕ) → Bool
+is_holiday_among holidays day = list_any (λ holiday. holiday == day) holidays
 
 -- a context of a meter by tables has their constant, and is a holiday if its day is among theirs
 unfoldable pub context_by : TableParts → MeterContext → Context
@@ -38,7 +30,7 @@ context_by tables m =
       zone = m.zone;
       weekday = weekday_of (pos m.day);
       month_day = date_place date.month date.date;
-      holiday = is_among tables.cuts.holidays m.day;
+      holiday = is_holiday_among tables.cuts.holidays m.day;
       minute = m.minute;
       pulses = m.pulses;
       ticks = m.ticks;
@@ -48,7 +40,7 @@ context_by tables m =
 unfoldable pub lines_by : TableParts → MeterContext → CellLines
 lines_by tables m = lines_in tables (context_by tables m)
 
--- whether a line counts, by the tables
+-- the test `counts_by` is true if a line counts, by the tables
 abbrev pub counts_by : TableParts → ChoiceKind → (place : ℕ) → MeterContext → Bool
 counts_by tables kind place m = is_asked kind m && is_at place (place_in kind (lines_by tables m))
 

@@ -1,9 +1,7 @@
 //! A question, answered in one context by the tables of both sides.
 ghost use Rattle.std.specs.Prelude.{◌≡◌};
-ghost use Rattle.tariff_compile.specs.Tables.{IsInRangeFor};
-ghost use Rattle.tariff_compare.specs.Counting.{is_at};
-ghost use Rattle.tariff_compare.specs.Grids.{CanBeAsked, HasDate, day_in};
-ghost use Rattle.tariff_compare.specs.Sides.{context_by, counts_by, difference_by, is_among, is_met_by};
+ghost use Rattle.tariff_compare.specs.{Common.{IsInRangeFor}, CountedLine.{is_at}, Grids.{CanBeAsked, HasDate, day_in}};
+ghost use Rattle.tariff_compare.specs.Sides.{context_by, counts_by, difference_by, is_holiday_among, is_met_by};
 
 use crate::day::{Day, day_in};
 use crate::kinds::{differing_kind, is_asked, place_in};
@@ -49,11 +47,11 @@ pub(crate) fn part_at(one: &Side, other: &Side, m: &MeterContext) -> Option<Choi
     differing_kind(one, other, m, &x, &y)
 }
 
-/// The context in which conditions are asked, where a day is a holiday or none.
+/// The context in which conditions are asked, on a day that is a holiday or isn't.
 fn context_on(tables: &Tables, day: &Day, holiday: bool, m: &MeterContext) -> Context
     requires date { HasDate day.now m.now.day }
     requires asked { CanBeAsked tables.now m.now }
-    requires holiday { holiday ≡ is_among tables.now.cuts.holidays m.now.day }
+    requires holiday { holiday ≡ is_holiday_among tables.now.cuts.holidays m.now.day }
     ensures value { result ≡ context_by tables.now m.now }
     ensures range { IsInRangeFor tables.now result }
 {

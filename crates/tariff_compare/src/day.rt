@@ -1,11 +1,8 @@
 //! The days of a meter, and what two tariffs ask of each.
-ghost use Rattle.std.specs.Prelude.{◌≡◌, ◌<◌, ◌≤◌, pos, IfOk, OnOk};
-ghost use Rattle.std.specs.List.{list_any};
-ghost use Rattle.interval_clock.specs.Calendar.{weekday_of};
-ghost use Rattle.tariff_calendar.specs.Lists.{count_at_most};
-ghost use Rattle.tariff_syntax.specs.Writable.{IsFromTo};
-ghost use Rattle.tariff_compare.specs.Grids.{day_at, day_count, day_in, days_until, is_alike, is_edge, is_same, with_day};
-ghost use Rattle.tariff_compare.specs.Sides.{is_among};
+ghost use Rattle.std.specs.{List.{list_any}, Prelude.{◌<◌, ◌≡◌, ◌≤◌, IfOk, OnOk, pos}};
+ghost use Rattle.tariff_compare.specs.{Common.{IsFromTo, count_at_most, weekday_of}, Grids.{with_day}};
+ghost use Rattle.tariff_compare.specs.Grids.{day_at, day_count, day_in, days_until, is_alike, is_edge, is_same};
+ghost use Rattle.tariff_compare.specs.Sides.{is_holiday_among};
 
 use interval_clock::date_of_day;
 use std::alloc::Global;
@@ -14,8 +11,8 @@ use tariff_check::Dimension;
 use tariff_compile::Tables;
 use taxi_units::{NoMemory, date_place};
 
-/// A day by its number since 1970-01-01, and what two tariffs ask of it: its weekday, its place in a leap year, and for
-/// each of them whether it is a holiday and how many cuts it has reached.
+/// A day by its number since 1970-01-01, and what two tariffs ask of it: its weekday and its place in a leap year. For
+/// each tariff it says whether the day is a holiday, and how many cuts it has reached.
 #[derive(Clone, Copy)]
 pub(crate) struct Day {
     pub(crate) number: u32,
@@ -30,8 +27,7 @@ pub(crate) struct Day {
 /// How many days a meter has, from 1999-12-31 to 2200-01-01.
 const DAYS: u32 = 73_051;
 
-/// The days of a meter of which two tariffs ask different things, in the order of days: each that is like none before
-/// it.
+/// The days of a meter of which two tariffs ask different things, in the order of days. Each is like none before it.
 #[tactic(auto, using(crate::proofs::Days::days_none))]
 pub(crate) fn different_days(
     alloc: Global,
@@ -83,8 +79,8 @@ pub(crate) fn day_in(one: &Tables, other: &Tables, number: u32) -> Day
         number,
         weekday: weekday_of(number),
         month_day,
-        holiday: is_among(one.cuts().holidays(), number),
-        other_holiday: is_among(other.cuts().holidays(), number),
+        holiday: is_holiday_among(one.cuts().holidays(), number),
+        other_holiday: is_holiday_among(other.cuts().holidays(), number),
         band: band(one.cuts(), month_day),
         other_band: band(other.cuts(), month_day),
     }
@@ -108,8 +104,8 @@ fn band(cuts: &Cuts, month_day: u16) -> usize
 }
 
 /// Whether a day is among holidays.
-fn is_among(holidays: &[u64], number: u32) -> bool
-    ensures { result ≡ is_among holidays.now number }
+fn is_holiday_among(holidays: &[u64], number: u32) -> bool
+    ensures { result ≡ is_holiday_among holidays.now number }
 {
     for holiday in holidays {
         if *holiday == number as u64 {

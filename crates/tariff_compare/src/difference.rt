@@ -1,12 +1,9 @@
 //! What differs first between two tariffs.
 ghost use Rattle.std.specs.Prelude.{◌≡◌, IfOk, find, not};
-ghost use Rattle.tariff_check.specs.Parts.{positions_of, zones_of};
-ghost use Rattle.tariff_compare.specs.DifferenceTexts.{IsDatedOrNone};
-ghost use Rattle.tariff_compare.specs.Differences.{context_difference, difference_of, frame_difference, is_same_rounding, is_same_supplement, other_supplement};
-ghost use Rattle.tariff_compare.specs.Grids.{IsGridOf, grid_of};
-ghost use Rattle.tariff_compare.specs.Sides.{side_of};
-ghost use Rattle.tariff_check.specs.Parts.{supplement_of};
-ghost use Rattle.tariff_syntax.specs.Tree.{tree_of};
+ghost use Rattle.tariff_compare.specs.Common.{positions_of, supplement_of, tree_of, zones_of};
+ghost use Rattle.tariff_compare.specs.{DifferenceTexts.{IsDatedOrNone}, Grids.{IsGridOf, grid_of}, Sides.{side_of}};
+ghost use Rattle.tariff_compare.specs.Differences.{context_difference, difference_of, frame_difference};
+ghost use Rattle.tariff_compare.specs.Differences.{is_same_rounding, is_same_supplement, other_supplement};
 
 use crate::asking::part_at;
 use crate::grid::Grid;
@@ -34,14 +31,14 @@ pub enum Difference {
     Zones,
     /// The amount of the supplement of a number, or how often a hiring may have it.
     Supplement(u8),
-    /// In a context of a meter: what the line of a kind that counts there says. It is a hiring where lines of the kind
-    /// count at one alone.
+    /// What the line of a kind says that counts in a context of a meter. The context is at a hiring if lines of the
+    /// kind count there alone.
     In(ChoiceKind, MeterContext),
 }
 
-/// What differs first between two sound tariffs under a constant; `None` exactly where they are the same. Decimals,
-/// display step, rounding, positions, zones and supplements come before all contexts; in one context the kinds come in
-/// the order of docs/FORMATS.md. When tariffs are the same is this project's own. `NoMemory` where memory runs out.
+/// What differs first between two sound tariffs under a constant; `None` exactly if they are the same. Decimals,
+/// display step, rounding, positions, zones and supplements come before all contexts. In one context the kinds come in
+/// the order of docs/FORMATS.md. When tariffs are the same is this project's own. `NoMemory` if memory runs out.
 pub fn first_difference(
     alloc: Global,
     one: &Checked,

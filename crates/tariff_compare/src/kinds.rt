@@ -1,8 +1,8 @@
 //! The kinds of lines of which the first that holds counts: which line counts by the tables, what differs, and words.
-ghost use Rattle.std.specs.Prelude.{◌≡◌, ◌++◌, OnOk, find};
-ghost use Rattle.tariff_compile.specs.Tables.{IsInRangeFor};
-ghost use Rattle.tariff_compare.specs.Kinds.{differing_kind, have_same_fee, have_same_minimum, is_asked, is_asked_amid, is_hiring, is_other, is_same_of, kind_word, part_word, place_before, place_in};
-ghost use Rattle.tariff_compare.specs.Sides.{in_force_by};
+ghost use Rattle.std.specs.Prelude.{◌++◌, ◌≡◌, OnOk, find};
+ghost use Rattle.tariff_compare.specs.{Common.{IsInRangeFor}, Kinds.{place_in}, Sides.{in_force_by}};
+ghost use Rattle.tariff_compare.specs.Kinds.{differing_kind, have_same_fee, have_same_minimum, is_asked, is_asked_amid};
+ghost use Rattle.tariff_compare.specs.Kinds.{is_hiring, is_other, is_same_of, kind_word, part_word, place_before};
 
 use crate::costs::cost_same;
 use crate::meter_context::MeterContext;
@@ -37,7 +37,7 @@ fn is_hiring(m: &MeterContext) -> bool
     m.ticks == 0 && m.pulses == 0
 }
 
-/// The place of the line of a kind that a cell names, from 0; `None` where it names none.
+/// The place, from 0, of the line of a kind that a cell names; `None` if it names none.
 pub(crate) fn place_in(kind: ChoiceKind, lines: CellLines) -> Option<usize>
     ensures { result ≡ place_in kind lines }
 {
@@ -48,7 +48,7 @@ pub(crate) fn place_in(kind: ChoiceKind, lines: CellLines) -> Option<usize>
     }
 }
 
-/// The place that a number from 1 on tells; `None` where it is 0.
+/// The place of a number from 1 on; `None` for 0.
 fn place_before(number: u8) -> Option<usize>
     ensures { result ≡ place_before number }
 {

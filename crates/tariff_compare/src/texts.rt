@@ -1,10 +1,9 @@
 //! The texts of contexts of a meter, and of the uses of lines.
-ghost use Rattle.std.specs.Prelude.{◌≡◌, ◌++◌, All, IfOk, OnOk, decimal};
-ghost use Rattle.tariff_compare.specs.Texts.{context_text, date_text, first_text, hiring_text, minute_text, moment_text, place_text, trip_text, use_text, uses_text};
+ghost use Rattle.std.specs.Prelude.{◌++◌, ◌≡◌, All, IfOk, OnOk, decimal};
+ghost use Rattle.{taxi_units.specs.{Number.{padded_text}, Weekdays.{day_name}}, tariff_compare.specs.Common.{IsFromTo}};
+ghost use Rattle.tariff_compare.specs.Texts.{context_text, date_text, first_text, hiring_text, minute_text};
+ghost use Rattle.tariff_compare.specs.Texts.{moment_text, place_text, trip_text, use_text, uses_text};
 ghost use Rattle.tariff_compare.specs.Uses.{IsDated, IsDatedUse};
-ghost use Rattle.taxi_units.specs.Weekdays.{day_name};
-ghost use Rattle.tariff_syntax.specs.Writable.{IsFromTo};
-ghost use Rattle.taxi_units.specs.Number.{padded_text};
 
 use crate::day::weekday_of;
 use crate::kinds::{is_asked_amid, push_kind};
@@ -15,9 +14,9 @@ use std::alloc::{AllocError, Global};
 use tariff_check::ChoiceKind;
 use taxi_units::{DAY_NAMES, Line, NoMemory, put_number, put_padded};
 
-/// The text of the uses of lines, a line of text each: the number of the line and the word of its kind, then `holds`
-/// and the first context in which it counts, or `never`. The form is this project's own. `NoMemory` where memory runs
-/// out.
+/// The text of the uses of lines, a line of text each. It has the number of the line and the word of its kind, then
+/// `holds` and the first context in which it counts, or `never`. The form is this project's own. `NoMemory` if memory
+/// runs out.
 pub fn print_uses(alloc: Global, uses: &[LineUse]) -> Result<Vec<u8>, NoMemory>
     requires { All IsDatedUse uses.now }
     ensures { IfOk result (λ text. text.items ≡ uses_text uses.now) }
@@ -43,7 +42,7 @@ fn push_use(text: &mut Vec<u8>, one: &LineUse) -> Result<(), AllocError>
     push_first(text, one.kind, &one.first)
 }
 
-/// Where a line counts first.
+/// The first context in which a line counts, or `never`.
 fn push_first(
     text: &mut Vec<u8>,
     kind: ChoiceKind,

@@ -1,28 +1,19 @@
 -- What is looked up for a context: the lines that its cell has are those that the tree names.
-use Rattle.std.proofs.Common.{◌≡◌, ◌∙◌, sym, ap, ℕ, ◌<◌, ◌≤◌, ◌==◌, Bool, true, false, if◌then◌else◌, min, get_or}
-use Rattle.std.proofs.Common.{Option, refl, arith}
-use Rattle.std.proofs.Math.Nat.{min-eq_right}
-use Rattle.std.proofs.Math.Path.{fun_ext}
-use Rattle.std.proofs.lemmas.List.FromFn.{get_or-map-range_with_len}
-use Rattle.tariff_calendar.specs.Lists.{AreOrdered, CutLists, count_at_most, lists_of}
-use Rattle.tariff_calendar.specs.Range.{IsInRange, IsInRangeOf, IsSameCell}
-use Rattle.taxi_units.specs.Time.{longest_trip}
+use Rattle.std.proofs.Common.{ℕ, ◌<◌, ◌==◌, ◌∙◌, ◌≡◌, ◌≤◌, Bool, Option, ap, arith, false, get_or, if◌then◌else◌, min}
+use Rattle.std.proofs.{Common.{refl, sym, true}, Math.Path.{fun_ext}, lemmas.List.FromFn.{get_or-map-range_with_len}}
+use Rattle.{std.proofs.Math.Nat.{min-eq_right}, taxi_units.specs.Time.{longest_trip}}
+use Rattle.{tariff_syntax.specs.Meaning.{choice_place}, tariff_check.specs.declared.choice.ChoiceKind.{ChoiceKind}}
+use Rattle.tariff_check.specs.{Kinds.{is_asked_amid, part_of}, Parts.{has_holidays}}
+use Rattle.tariff_calendar.specs.{Lists.{AreOrdered}, Range.{IsSameCell}}
 use Rattle.tariff_calendar.proofs.Laws.{counts_are_places-few, cuts_decide_conditions-first, lists_are_ordered-ordered}
-use Rattle.tariff_check.specs.Faults.{IsSound}
-use Rattle.tariff_check.specs.Kinds.{is_asked_amid, part_of}
-use Rattle.tariff_check.specs.Parts.{has_holidays, positions_of, zones_of}
-use Rattle.tariff_check.specs.declared.choice.ChoiceKind.{ChoiceKind}
-use Rattle.tariff_syntax.specs.Meaning.{at_hiring, choice_place}
-use Rattle.tariff_syntax.specs.Tree.{Tree}
-use Rattle.tariff_syntax.specs.Writable.{IsWritable}
-use Rattle.tariff_syntax.specs.declared.context.Context.{Context}
 use Rattle.tariff_compile.specs.Cells.{IsBelow, bands_at, beginning, cell_count, context_in, sizes_of}
-use Rattle.tariff_compile.specs.Tables.{all_cells, cell_of, context_of, lines_at, lines_with, place_at, sizes_in}
-use Rattle.tariff_compile.specs.declared.cells.CellLines.{CellLines}
+use Rattle.tariff_compile.specs.Common.{CellLines, Context, CutLists, IsInRange, IsInRangeOf, IsSound, IsWritable, Tree}
+use Rattle.tariff_compile.specs.Common.{at_hiring, count_at_most, lists_of, positions_of, zones_of}
+use Rattle.tariff_compile.specs.Tables.{all_cells, cell_of, context_of_cell, lines_at, lines_with, place_at, sizes_in}
 use Rattle.tariff_compile.proofs.Beginnings.{beginning-le, count_at_most-beginning}
-use Rattle.tariff_compile.proofs.Numbering.{bands_of-cell_number, cell_number_below}
+use Rattle.tariff_compile.proofs.CellNumbers.{bands_of-cell_number, cell_number_below}
 
--- a holiday is told from another day where there is a holiday
+-- a holiday is told from another day if there is a holiday
 holiday_below : (holidays holiday : Bool) → (holiday ≡ true → holidays ≡ true)
     → (if holiday then 1 else 0) < (if holidays then 2 else 1)
 holiday_below true true h = omega arith
@@ -129,7 +120,7 @@ pub cell_has_lines : (t : Tree) (k : ℕ) (x : Context) (d : CellLines) → IsWr
 cell_has_lines t k x d writable sound x_in =
     let below = bands_of_tree t k x x_in in
     let cell = cell_of t k x in
-    get_or-map-range_with_len (λ cell. lines_at t (context_of t k cell)) 0 (cell_count (sizes_in t k)) cell cell d
+    get_or-map-range_with_len (λ cell. lines_at t (context_of_cell t k cell)) 0 (cell_count (sizes_in t k)) cell cell d
     (cell_number_below (sizes_in t k) (bands_at (lists_of t k) x) below) (omega arith)
     ∙ (ap (λ b. lines_at t (context_in k (lists_of t k) b))
     (bands_of-cell_number (sizes_in t k) (bands_at (lists_of t k) x) below)

@@ -1,40 +1,23 @@
 -- Rules: the tables of a tariff under a constant, and what they are looked up for.
-use Rattle.std.specs.Prelude.{◌≡◌, ℕ, ◌+◌, ◌*◌, ◌/◌, ◌^◌, ◌<◌, ◌≤◌, if◌then◌else◌, List, ◌∷◌, map, get_or, Option}
-use Rattle.std.specs.Prelude.{Some}
-use Rattle.std.specs.List.{range_with_len, slice_get}
-use Rattle.std.specs.Option.{unwrap_or}
-use Rattle.drive_modes.specs.declared.charges.Weights.{Weights}
-use Rattle.drive_modes.specs.declared.meterage.Rounding.{Rounding}
-use Rattle.drive_modes.specs.Constant.{least_constant, greatest_constant}
-use Rattle.taxi_units.specs.Money.{largest_display_step}
-use Rattle.tariff_syntax.specs.Meaning.{at_hiring, choice_place, rate_place, initial_place, minimum_place}
-use Rattle.tariff_syntax.specs.Tree.{Tree}
-use Rattle.tariff_syntax.specs.Writable.{IsFromTo, IsWritable}
-use Rattle.tariff_syntax.specs.declared.context.Context.{Context}
-use Rattle.tariff_check.specs.Amounts.{initial_with, place_number}
-use Rattle.tariff_check.specs.Cells.{day_kinds}
-use Rattle.tariff_check.specs.Faults.{IsSound}
-use Rattle.tariff_check.specs.Kinds.{is_asked_amid, part_of}
-use Rattle.tariff_check.specs.Measure.{measure_of}
-use Rattle.tariff_check.specs.DisplayStep.{display_step}
-use Rattle.tariff_check.specs.SoundLookups.{place_in_force}
-use Rattle.tariff_check.specs.SoundTariff.{SoundTariff, sound_of, values_of}
-use Rattle.tariff_check.specs.Parts.{RateNumbers, InitialNumbers, positions_of, zones_of}
-use Rattle.tariff_check.specs.Parts.{supplement_of, initials_of, minimums_of, rates_of}
-use Rattle.tariff_calendar.specs.Lists.{CutLists, has_days, lists_of}
-use Rattle.tariff_calendar.specs.Range.{IsInRange}
-use Rattle.tariff_compile.specs.Cells.{sizes_of, cell_count, cell_number, bands_of, bands_at, context_in}
-use Rattle.tariff_compile.specs.declared.parts.Bands.{Bands}
-use Rattle.tariff_compile.specs.declared.cells.CellLines.{CellLines}
+use Rattle.{std.specs.{List.{range_with_len, slice_get}, Option.{unwrap_or}}, tariff_check.specs.Amounts.{initial_with}}
+use Rattle.std.specs.Prelude.{ℕ, ◌*◌, ◌+◌, ◌/◌, ◌<◌, ◌^◌, ◌∷◌, ◌≡◌, ◌≤◌, List, Option, Some, get_or, if◌then◌else◌, map}
+use Rattle.{taxi_units.specs.Money.{largest_display_step}, tariff_check.specs.DisplayStep.{display_step}}
+use Rattle.drive_modes.specs.{Constant.{greatest_constant, least_constant}, declared.meterage.Rounding.{Rounding}}
+use Rattle.tariff_syntax.specs.{Meaning.{choice_place, initial_place, minimum_place, rate_place}, Writable.{IsFromTo}}
+use Rattle.tariff_check.specs.{Cells.{day_kinds}, Measure.{measure_of}}
+use Rattle.tariff_check.specs.{Kinds.{is_asked_amid, part_of}, SoundTariff.{SoundTariff, sound_of, values_of}}
+use Rattle.tariff_check.specs.{Parts.{initials_of, minimums_of, rates_of}, SoundLookups.{place_in_force}}
+use Rattle.tariff_check.specs.declared.choice.ChoiceKind.{ChoiceKind, TheVariants.{Initial, Minimum}}
+use Rattle.tariff_compile.specs.Cells.{bands_at, bands_of, cell_count, cell_number, context_in, sizes_of}
+use Rattle.tariff_compile.specs.Common.{Bands, CellLines, Context, CutLists, InitialNumbers, IsInRange, IsSound}
+use Rattle.tariff_compile.specs.Common.{IsWritable, Rate, RateNumbers, Supplement, Tree, Weights, at_hiring, has_days}
+use Rattle.tariff_compile.specs.Common.{lists_of, place_number, positions_of, supplement_of, zones_of}
 use Rattle.tariff_compile.specs.declared.tables.Tables.TheInside.{Inside}
-use Rattle.tariff_check.specs.declared.choice.ChoiceKind.{ChoiceKind}
-use Rattle.tariff_check.specs.declared.choice.ChoiceKind.TheVariants.{Rate, Initial, Minimum}
 use Rattle.tariff_check.specs.declared.values.Initial as fees
-use Rattle.tariff_check.specs.declared.values.Supplement.{Supplement}
 
--- tables have the cuts of their tariff, the weights of its rates, its initial hire fees, its minimum fares, the lines
--- of its cells and its supplements, the constant, M, the display step and its rounding, and the decimals, positions and
--- zones
+-- tables have a tariff's cuts, the weights of its rates, its initial hire fees, minimum fares, lines of cells and
+-- supplements; and the constant, M, the display step, its rounding, the decimals, and how many positions and zones
+-- there are
 pub record TableParts : Type 0 where
   pub cuts : CutLists
   pub weights : List Weights
@@ -50,7 +33,7 @@ pub record TableParts : Type 0 where
   pub positions : ℕ
   pub zones : ℕ
 
--- the tables of the program are told by what each of their lists and numbers has
+-- the parts of the program's tables are what their lists and numbers have
 abbrev pub parts_of : Inside → TableParts
 parts_of t =
     record {
@@ -69,7 +52,7 @@ parts_of t =
       zones = t.zones;
     }
 
--- the weights of a rate, of a pulse and of a tick, are in units of charge, of which k times the common measure make the
+-- the weights of a rate, of a pulse and of a tick, are in units of charge; k times the common measure of these make the
 -- smallest unit of money
 abbrev pub weights_of : (k common : ℕ) → RateNumbers → Weights
 weights_of k common r = record { per_pulse = 10000 * r.a * (common / r.b); per_tick = r.c * k * (common / r.e) }
@@ -78,13 +61,13 @@ weights_of k common r = record { per_pulse = 10000 * r.a * (common / r.b); per_t
 abbrev pub all_weights : Tree → (k : ℕ) → List Weights
 all_weights t k = map (weights_of k (measure_of t.lines)) (rates_of t.lines)
 
--- the line of a kind that holds first in a context, or at its hiring if lines of the kind can't count amid a trip, is
--- told by its place among those of the kind, counted from 0
+-- the line of a kind that holds first in a context is told by its place among those of the kind, from 0; a kind that
+-- can't count amid a trip is asked at the context's hiring
 abbrev pub place_at : ChoiceKind → Tree → Context → Option ℕ
 place_at kind t x = choice_place (part_of kind) t (if is_asked_amid kind then x else at_hiring x)
 
--- lines are made of the place of a line of each kind: a rate and an initial hire fee, of which one always holds, have
--- their places from 0, and a minimum fare has its number from 1, or 0 if there is none
+-- lines are made of the place of a line of each kind; a rate and an initial hire fee always hold, and have their places
+-- from 0; a minimum fare has its number from 1, or 0 if there is none
 abbrev pub lines_with : ((kind : ChoiceKind) → Option ℕ) → CellLines
 lines_with place =
     record {
@@ -106,15 +89,15 @@ abbrev pub sizes_in : Tree → (k : ℕ) → Bands
 sizes_in t k = sizes_of (positions_of t.lines) (zones_of t.lines) (day_kinds t.lines) (lists_of t k)
 
 -- the context of the cell with a number is at the beginning of each of its bands
-abbrev pub context_of : Tree → (k cell : ℕ) → Context
-context_of t k cell = context_in k (lists_of t k) (bands_of (sizes_in t k) cell)
+abbrev pub context_of_cell : Tree → (k cell : ℕ) → Context
+context_of_cell t k cell = context_in k (lists_of t k) (bands_of (sizes_in t k) cell)
 
 -- the number of the cell of a context is made of its numbers in each dimension
 abbrev pub cell_of : Tree → (k : ℕ) → Context → ℕ
 cell_of t k x = cell_number (sizes_in t k) (bands_at (lists_of t k) x)
 
--- the lines of a cell are those of a context if they are the rate that holds first in it, and the initial hire fee
--- and the minimum fare that hold first at its hiring
+-- a cell has the lines of a context if they are the rate that holds first in it, and the initial hire fee and the
+-- minimum fare that hold first at its hiring
 pub record HasLinesOf (t : Tree) (x : Context) (lines : CellLines) : Type 0 where
   pub rate : rate_place t x ≡ Some lines.rate
   pub initial : initial_place t x ≡ Some lines.initial
@@ -122,10 +105,10 @@ pub record HasLinesOf (t : Tree) (x : Context) (lines : CellLines) : Type 0 wher
 
 -- the lines in the tables of a tariff are those of the context of each cell, in the order of the cells
 abbrev pub all_cells : Tree → (k : ℕ) → List CellLines
-all_cells t k = map (λ cell. lines_at t (context_of t k cell)) (range_with_len 0 (cell_count (sizes_in t k)))
+all_cells t k = map (λ cell. lines_at t (context_of_cell t k cell)) (range_with_len 0 (cell_count (sizes_in t k)))
 
--- the tables of a tariff, where k pulses make a kilometre, have its cuts, the weights of its rates, its fees and
--- minimum fares, the lines of each cell and its supplements, and as M the constant k times the common measure
+-- the tables of a tariff, if k pulses make a kilometre, have its cuts, the weights of its rates, its fees, minimum
+-- fares, lines of cells and supplements, and as M k times the common measure
 abbrev pub tables_of : Tree → (k : ℕ) → TableParts
 tables_of t k =
     record {
@@ -148,8 +131,8 @@ tables_of t k =
 abbrev pub sizes_for : TableParts → Bands
 sizes_for tables = sizes_of tables.positions tables.zones (if has_days tables.cuts then 2 else 1) tables.cuts
 
--- a context is one that a trip under the tables may have if its position, its zone and its kind of day are among the
--- tables', and its numbers in their ranges
+-- a trip under the tables may have a context if its position, zone and kind of day are among the tables', and its
+-- numbers in their ranges
 abbrev pub IsInRangeFor : TableParts → Context → Type 0
 IsInRangeFor tables x = IsInRange tables.constant tables.positions tables.zones (has_days tables.cuts) x
 
@@ -181,14 +164,14 @@ lines_in tables x =
     get_or tables.cells (cell_number (sizes_for tables) (bands_at tables.cuts x)) no_lines
 
 -- the fees that lines name in tables are an initial hire fee, and a minimum fare or 0
-abbrev pub fees_of : TableParts → CellLines → fees.Initial
-fees_of tables lines =
+abbrev pub fees_named : TableParts → CellLines → fees.Initial
+fees_named tables lines =
     initial_with (get_or tables.initials lines.initial (record { amount = 0; covers = 0 }))
     (get_or (0 ∷ tables.minimums) lines.minimum 0)
 
 -- the fees that tables have for a context are those that its lines name
 abbrev pub fees_in : TableParts → Context → fees.Initial
-fees_in tables x = fees_of tables (lines_in tables x)
+fees_in tables x = fees_named tables (lines_in tables x)
 
 -- weights are those of a context if they are made of the numbers of the rate that holds first in it
 pub record HasWeightsOf (t : Tree) (k : ℕ) (x : Context) (w : Weights) : Type 0 where

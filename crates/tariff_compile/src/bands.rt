@@ -1,14 +1,13 @@
 //! How cells are numbered over the dimensions.
-ghost use Rattle.std.specs.Prelude.{◌≡◌, ◌+◌, ◌*◌, ◌^◌, ◌<◌, ◌≤◌, if◌then◌else◌};
-ghost use Rattle.tariff_calendar.specs.Lists.{has_days};
-ghost use Rattle.tariff_compile.specs.Cells.{IsBelow, bands_of, cell_count, cell_number, sizes_of};
+ghost use Rattle.std.specs.Prelude.{◌*◌, ◌+◌, ◌<◌, ◌^◌, ◌≡◌, ◌≤◌, if◌then◌else◌};
+ghost use Rattle.tariff_compile.specs.{Cells.{IsBelow, bands_of, cell_count, cell_number, sizes_of}, Common.{has_days}};
 
 use crate::parts::Bands;
 use tariff_calendar::Cuts;
 use tariff_check::Dimension;
 
-/// How many numbers each dimension has, under a tariff's positions, zones and cuts. Days are of two kinds
-/// where there is a holiday.
+/// How many numbers each dimension has, under a tariff's positions, zones and cuts. Days are of two kinds if there is a
+/// holiday.
 pub(crate) fn sizes_of(positions: u8, zones: u8, cuts: &Cuts) -> Bands
     ensures { result ≡ sizes_of positions zones (if has_days cuts.now then 2 else 1) cuts.now }
 {
@@ -24,7 +23,7 @@ pub(crate) fn sizes_of(positions: u8, zones: u8, cuts: &Cuts) -> Bands
     }
 }
 
-/// The number of a cell: cells are numbered from 0 over the dimensions, the last running fastest.
+/// The number of a cell. Cells are numbered from 0 over the dimensions, the last running fastest.
 pub(crate) fn cell_number(sizes: &Bands, bands: &Bands) -> usize
     requires below { IsBelow sizes.now bands.now }
     requires fits { cell_count sizes.now ≤ 2 ^ 32 }

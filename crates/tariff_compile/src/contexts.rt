@@ -1,10 +1,7 @@
 //! A context of each cell.
-ghost use Rattle.std.specs.Prelude.{◌≡◌, ◌+◌, ◌≤◌};
-ghost use Rattle.tariff_calendar.specs.Lists.{count_at_most};
-ghost use Rattle.tariff_compile.specs.Cells.{HasLowCuts, IsNarrow, bands_at, beginning, context_in};
-ghost use Rattle.tariff_compile.specs.Near.{IsNear};
-ghost use Rattle.tariff_syntax.specs.Meaning.{at_hiring};
-ghost use Rattle.tariff_syntax.specs.declared.context.Context.{Context};
+ghost use Rattle.std.specs.Prelude.{◌+◌, ◌≡◌, ◌≤◌};
+ghost use Rattle.tariff_compile.specs.{Cells.{HasLowCuts, IsNarrow, bands_at, beginning, context_in}, Near.{IsNear}};
+ghost use Rattle.tariff_compile.specs.Common.{Context, at_hiring, count_at_most};
 
 use crate::parts::Bands;
 use drive_modes::Constant;
@@ -14,7 +11,7 @@ use tariff_check::Dimension;
 use tariff_syntax::Context;
 use taxi_units::{LONGEST_TRIP, Steps};
 
-/// A context of a cell: it is at the beginning of each band.
+/// The context of a cell at the beginning of each band.
 pub(crate) fn context_in(k: Constant, cuts: &Cuts, bands: &Bands) -> Context
     requires narrow { IsNarrow bands.now }
     requires low { HasLowCuts cuts.now }
@@ -75,8 +72,8 @@ pub(crate) fn bands_at<L: Ledger>(cuts: &Cuts, x: &Context, steps: &mut Steps<L>
     bands
 }
 
-/// The numbers of the cell in which a context is, and for how many further pulses and further ticks it
-/// stays there at least. At most 20 steps.
+/// The numbers of the cell in which a context is, and for how many more pulses and more ticks it at least stays there.
+/// At most 20 steps.
 pub(crate) fn bands_until<L: Ledger>(
     cuts: &Cuts,
     x: &Context,

@@ -1,13 +1,8 @@
 //! In which of up to 64 contexts the conditions of a tariff hold: a condition is asked in all of them at
 //! once.
-ghost use Rattle.std.specs.List.{position_from};
-ghost use Rattle.std.specs.Prelude.{◌≡◌, ◌<◌, ◌≤◌, IfOk, length};
-ghost use Rattle.tariff_check.specs.SoundTariff.{own_conditions, when_at};
-ghost use Rattle.tariff_compile.specs.Alike.{AllAgree};
-ghost use Rattle.tariff_compile.specs.Marks.{MarkEach, MarksThose, is_marked};
-ghost use Rattle.tariff_syntax.specs.Condition.{condition_of};
-ghost use Rattle.tariff_syntax.specs.Meaning.{holds, holds_if};
-ghost use Rattle.tariff_syntax.specs.Tree.{tree_of};
+ghost use Rattle.std.specs.{List.{position_from}, Prelude.{◌<◌, ◌≡◌, ◌≤◌, IfOk, length}};
+ghost use Rattle.tariff_compile.specs.{Alike.{AllAgree}, Marks.{MarkEach, MarksThose, is_marked}};
+ghost use Rattle.tariff_compile.specs.Common.{condition_of, holds, holds_if, own_conditions, tree_of, when_at};
 
 use crate::alike::Alike;
 use crate::marks::Marks;
@@ -51,7 +46,7 @@ pub(crate) fn first_marked(all: &[Marks], place: usize) -> Option<usize>
     None
 }
 
-/// The contexts in which the line at a place of a tariff holds, which may have a condition.
+/// The contexts in which the line at a place of a tariff holds: all, if it has no condition.
 fn marks_at(checked: &Checked, place: usize, alike: Alike, contexts: &[Context]) -> Marks
     requires few { length contexts.now ≤ 64 }
     requires alike { AllAgree alike contexts.now }
@@ -63,7 +58,7 @@ fn marks_at(checked: &Checked, place: usize, alike: Alike, contexts: &[Context])
     }
 }
 
-/// The contexts in which a condition holds. The right part is asked first, as where it is asked alone.
+/// The contexts in which a condition holds. The right part is asked first, as it is in a single context.
 fn marks_of(cond: &Cond, alike: Alike, contexts: &[Context]) -> Marks
     requires few { length contexts.now ≤ 64 }
     requires alike { AllAgree alike contexts.now }
@@ -81,7 +76,7 @@ fn marks_of(cond: &Cond, alike: Alike, contexts: &[Context]) -> Marks
     }
 }
 
-/// The contexts in which an atom holds. It is asked once, where it asks for what the contexts have in common.
+/// The contexts in which an atom holds. It is asked once if it asks for what the contexts have in common.
 fn marks_of_atom(cond: &Cond, alike: Alike, contexts: &[Context]) -> Marks
     requires few { length contexts.now ≤ 64 }
     requires alike { AllAgree alike contexts.now }

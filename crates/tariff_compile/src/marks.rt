@@ -1,5 +1,5 @@
 //! Marks of up to 64 contexts, one bit for each.
-ghost use Rattle.std.specs.Prelude.{◌≡◌, ◌≢◌, ◌<◌, ◌&&◌, ◌||◌, ℕ, false, not};
+ghost use Rattle.std.specs.Prelude.{ℕ, ◌&&◌, ◌<◌, ◌||◌, ◌≡◌, ◌≢◌, false, not};
 ghost use Rattle.tariff_compile.specs.Marks.{is_marked};
 
 /// Which of the places 0 to 63 are marked.
@@ -27,7 +27,7 @@ impl Marks {
         }
     }
 
-    /// A place is marked too, where it is to be; the others stay as they are.
+    /// Marks a place if it is to be marked; the others stay as they are.
     pub(crate) fn and_at(self, place: usize, marked: bool) -> Marks
         requires { place < 64 }
         ensures here { is_marked result place ≡ (is_marked self place || marked) }

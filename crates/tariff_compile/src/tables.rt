@@ -1,17 +1,12 @@
 //! The tables: how they are made, and their look-ups.
-ghost use Rattle.std.specs.Prelude.{◌≡◌, ℕ, ◌∷◌, ◌+◌, ◌*◌, ◌^◌, ◌<◌, ◌≤◌, ◌≤ℤ◌, true, pos, length, min, get_or, IfOk};
-ghost use Rattle.interval_clock.specs.Calendar.{IsDateOf};
-ghost use Rattle.drive_modes.specs.Constant.{least_constant, greatest_constant};
-ghost use Rattle.tariff_calendar.specs.Lists.{has_day, has_days, is_holiday};
-ghost use Rattle.tariff_compile.specs.Cells.{IsBelow, cell_number};
-ghost use Rattle.tariff_compile.specs.Near.{IsNear};
-ghost use Rattle.tariff_compile.specs.Tables.{AreFit, IsCompiled, IsFit, IsInRangeFor, IsTablesOf, fees_in, fees_of, lines_in, rate_by, sizes_for, tables_of};
-ghost use Rattle.tariff_check.specs.Amounts.{IsFitInitial, initial_by};
-ghost use Rattle.tariff_check.specs.Parts.{supplement_of};
-ghost use Rattle.tariff_syntax.specs.Tree.{Tree, tree_of};
-ghost use Rattle.tariff_syntax.specs.declared.context.Context.{Context};
-ghost use Rattle.taxi_units.specs.Counted.{IsElement};
-ghost use Rattle.taxi_units.specs.Money.{largest_display_step};
+ghost use Rattle.std.specs.Prelude.{ℕ, ◌*◌, ◌+◌, ◌<◌, ◌^◌, ◌∷◌, ◌≡◌, ◌≤ℤ◌, ◌≤◌, IfOk, get_or, length, min, pos, true};
+ghost use Rattle.taxi_units.specs.{Counted.{IsElement}, Money.{largest_display_step}};
+ghost use Rattle.{drive_modes.specs.Constant.{greatest_constant, least_constant}, tariff_compile.specs.Near.{IsNear}};
+ghost use Rattle.{interval_clock.specs.Calendar.{IsDateOf}, tariff_check.specs.Amounts.{IsFitInitial}};
+ghost use Rattle.tariff_calendar.specs.Lists.{is_holiday};
+ghost use Rattle.tariff_compile.specs.{Cells.{IsBelow, cell_number}, Tables.{lines_in, rate_by, sizes_for, tables_of}};
+ghost use Rattle.tariff_compile.specs.Common.{Context, Tree, has_day, has_days, initial_by, supplement_of, tree_of};
+ghost use Rattle.tariff_compile.specs.Tables.{AreFit, IsCompiled, IsFit, IsInRangeFor, IsTablesOf, fees_in, fees_named};
 
 use crate::bands::{cell_number, sizes_of};
 use crate::cells::{CellLines, all_cells};
@@ -27,9 +22,9 @@ use tariff_check::{Checked, Initial, InitialNumbers, Supplement};
 use tariff_syntax::Context;
 use taxi_units::{Counted, NoMemory, Steps};
 
-/// The tables of a sound tariff under a constant: its cuts, what each rate weighs, its initial hire fees,
-/// minimum fares and supplements, and for each cell its lines. Of a condition, a line or a text they keep
-/// nothing. Tables of cells are this project's own.
+/// The tables of a sound tariff under a constant: its cuts, what each rate weighs, its initial hire fees, minimum fares
+/// and supplements, and for each cell its lines. They keep no condition, line or text. Tables of cells are this
+/// project's own.
 #[derive(Drop)]
 pub struct Tables {
     pub(crate) cuts: Cuts,
@@ -70,8 +65,8 @@ impl Model for Tables {
     ghost invariant = { λ t. IsCompiled (parts_of t) × IsFit (parts_of t) };
 }
 
-/// The tables of a tariff under a constant of the taximeter. Each cell has the lines that hold first in a
-/// context of it, at the beginning of its bands. `NoMemory` where memory runs out.
+/// Makes the tables of a tariff under a constant of the taximeter. Each cell has the lines that hold first in a context
+/// of it, at the beginning of its bands. `NoMemory` if memory runs out.
 pub fn compile(alloc: Global, checked: &Checked, k: Constant) -> Result<Tables, NoMemory>
     ensures value { IfOk result (λ tables. tables ≡ tables_of (tree_of checked.now) k) }
     ensures tables { IfOk result (IsTablesOf (tree_of checked.now)) }
@@ -128,9 +123,8 @@ impl Tables {
         )
     }
 
-    /// The weights of the rate that holds first in a context, which a trip may have and which has the
-    /// tables' constant. A step is the read of a cut, of a cell or of the weights: they are at least 2 and
-    /// at most 22.
+    /// The weights of the rate that holds first in a context that a trip may have, under the tables' constant. Each
+    /// read of a cut, of a cell or of the weights is a step: 2 to 22.
     pub fn rate_at<L: Ledger>(&self, x: &Context, steps: &mut Steps<L>) -> Weights
         requires range { IsInRangeFor self.now x.now }
         ensures tree { (t : Tree) → IsTablesOf t self.now → result ≡ rate_by t self.now.constant x.now }
@@ -143,9 +137,9 @@ impl Tables {
         Counted::of(self.weights.as_slice()).read(lines.rate as usize, steps)
     }
 
-    /// The weights of the rate that holds first in a context, as `rate_at` gives them, and for how many
-    /// further pulses and further ticks of a trip they are the same at least: until the next cut of
-    /// distance and of time. It takes as many steps.
+    /// The weights of the rate that holds first in a context, as `rate_at` gives them. It also says for how many more
+    /// pulses and more ticks of a trip they at least stay the same: until the next cut of distance and of time. It
+    /// takes as many steps.
     pub fn rate_until<L: Ledger>(&self, x: &Context, steps: &mut Steps<L>) -> Lasting
         requires range { IsInRangeFor self.now x.now }
         ensures tree { (t : Tree) → IsTablesOf t self.now → result.weights ≡ rate_by t self.now.constant x.now }
@@ -165,9 +159,9 @@ impl Tables {
         }
     }
 
-    /// The initial hire fee and the minimum fare that hold first in a context at the hiring, which a trip
-    /// may have and which has the tables' constant. A step is the read of a cut of days or minutes, of a
-    /// cell, of the fee or of the minimum fare: they are at least 2 and at most 15.
+    /// The initial hire fee and the minimum fare that hold first at the hiring of a context that a trip may have, under
+    /// the tables' constant. Each read of a cut of days or minutes, of a cell, of the fee or of the minimum fare is a
+    /// step: 2 to 15.
     pub fn initial_at<L: Ledger>(&self, x: &Context, steps: &mut Steps<L>) -> Initial
         requires range { IsInRangeFor self.now x.now }
         ensures tree { (t : Tree) → IsTablesOf t self.now → result ≡ initial_by t x.now }
@@ -180,10 +174,10 @@ impl Tables {
         self.fees_of(lines, steps)
     }
 
-    /// The fees that lines name. A step is the read of one: they are 1 or 2.
-    fn fees_of<L: Ledger>(&self, lines: CellLines, steps: &mut Steps<L>) -> Initial
+    /// The fees that lines name. Each read of one is a step: 1 or 2.
+    fn fees_named<L: Ledger>(&self, lines: CellLines, steps: &mut Steps<L>) -> Initial
         requires { lines.initial < length self.now.initials }
-        ensures value { result ≡ fees_of self.now lines }
+        ensures value { result ≡ fees_named self.now lines }
         ensures steps { (steps.old + 1 ≤ steps.new) × (steps.new ≤ steps.old + 2) }
     {
         let fee = Counted::of(self.initials.as_slice()).read(lines.initial as usize, steps);
@@ -194,8 +188,8 @@ impl Tables {
         }
     }
 
-    /// The lines that hold first in a context, which a trip may have and which has the tables' constant.
-    /// It takes no steps: it is for what goes over many contexts, and no event asks it.
+    /// The lines that hold first in a context that a trip may have, under the tables' constant. It takes no steps: it
+    /// is for callers that go over many contexts, and no event asks it.
     pub fn lines_at(&self, x: &Context) -> CellLines
         requires range { IsInRangeFor self.now x.now }
         ensures value { result ≡ lines_in self.now x.now }
@@ -206,8 +200,7 @@ impl Tables {
         self.cells.as_slice()[cell]
     }
 
-    /// The initial hire fee and the minimum fare that hold first at the hiring of such a context. It takes
-    /// no steps either.
+    /// The initial hire fee and the minimum fare that hold first at the hiring of such a context. It takes no steps.
     pub fn fees_at(&self, x: &Context) -> Initial
         requires range { IsInRangeFor self.now x.now }
         ensures { result ≡ fees_in self.now x.now }
@@ -239,8 +232,8 @@ impl Tables {
         Counted::of(self.cells.as_slice()).read(cell_number(&sizes, bands), steps)
     }
 
-    /// Says what the type keeps of each of its values: they are the tables of a tariff, and their numbers are
-    /// within their limits. It does nothing.
+    /// Says what the type keeps of each of its values: they are the tables of a tariff, with numbers within their
+    /// limits. It does nothing.
     pub fn recall(&self)
         ensures compiled { IsCompiled self.now }
         ensures fit { IsFit self.now }
@@ -248,8 +241,8 @@ impl Tables {
         let _ = &self.measure;
     }
 
-    /// Whether a day, by its number since 1970-01-01, is a holiday of the tariff. At most 8 steps, and one
-    /// at least for a day from 1970 on where there is a holiday.
+    /// Whether a day, by its number since 1970-01-01, is a holiday of the tariff. At most 8 steps, and at least one if
+    /// there is a holiday and the day is from 1970 on.
     pub fn holiday<L: Ledger>(&self, day: i32, steps: &mut Steps<L>) -> bool
         ensures value { result ≡ has_day self.now.cuts.holidays day }
         ensures tree { (t : Tree) (year month date : ℕ) → IsTablesOf t self.now → IsDateOf day year month date
@@ -261,8 +254,8 @@ impl Tables {
         self.cuts.holiday(day, steps)
     }
 
-    /// The supplement of a number; `None` exactly where the tariff has no such line, as for each number
-    /// outside 1 to 16. One step.
+    /// The supplement of a number. `None` exactly if the tariff has no such line, as for each number outside 1 to 16.
+    /// One step.
     pub fn supplement<L: Ledger>(&self, number: u8, steps: &mut Steps<L>) -> Option<Supplement>
         ensures tree { (t : Tree) → IsTablesOf t self.now → result ≡ supplement_of t.lines number }
         ensures compiled { IsCompiled self.now }
@@ -336,7 +329,7 @@ impl Tables {
     }
 }
 
-/// The amount of a number from 1; 0 where the number has none.
+/// The amount of a number from 1; 0 if there is none.
 fn amount(amounts: &[u64], number: u8) -> u64
     ensures { result ≡ get_or (0 ∷ amounts.now) number 0 }
 {
@@ -346,7 +339,7 @@ fn amount(amounts: &[u64], number: u8) -> u64
     amounts[number as usize - 1]
 }
 
-/// The amount of a number from 1, one step; 0, without a step, where the number has none.
+/// The amount of a number from 1, one step; 0, without a step, if there is none.
 fn counted_amount<L: Ledger>(amounts: &[u64], number: u8, steps: &mut Steps<L>) -> u64
     ensures value { result ≡ get_or (0 ∷ amounts.now) number 0 }
     ensures steps { (steps.old ≤ steps.new) × (steps.new ≤ steps.old + 1) }

@@ -1,14 +1,9 @@
 -- Rules: the printed form of a tariff. Each part is spelled in front of what follows it, its rest.
-use Rattle.std.specs.Prelude.{ℕ, List, [], ◌∷◌, ◌++◌, Option, Some, None, codes}
-use Rattle.std.specs.Fmt.{decimal}
-use Rattle.taxi_units.specs.Number.{money_text, padded_text}
-use Rattle.drive_modes.specs.declared.meterage.Rounding.{Rounding}
-use Rattle.drive_modes.specs.declared.meterage.Rounding.TheVariants.{Behind, Ahead}
-use Rattle.tariff_syntax.specs.Condition.{Condition}
-use Rattle.tariff_syntax.specs.Part as part
+use Rattle.std.specs.{Fmt.{decimal}, Prelude.{[], ℕ, ◌++◌, ◌∷◌, List, None, Option, Some, codes}}
+use Rattle.tariff_syntax.specs.{Common.{Ahead, Behind, Rounding, money_text, padded_text}, Condition.{Condition}}
 use Rattle.tariff_syntax.specs.Part.{Part}
-use Rattle.tariff_syntax.specs.PrintedCondition.{condition_text}
-use Rattle.tariff_syntax.specs.Tree.{Tree, Line, Entry, parts_of, word_of}
+use Rattle.tariff_syntax.specs.{PrintedCondition.{condition_text}, Tree.{Entry, Line, Tree, parts_of, word_of}}
+use Rattle.tariff_syntax.specs.Part as part
 
 -- the word of a rounding to the display step is `behind` or `ahead`
 abbrev pub rounding_word : Rounding → List ℕ
@@ -24,7 +19,8 @@ abbrev pub when_text : Option Condition → List ℕ → List ℕ
 when_text None rest = rest
 when_text (Some when) rest = codes " when " ++ condition_text when rest
 
--- a part of a line is printed with a blank before it, but for a comma, and for a condition that isn't there
+-- a part of a line is printed with a blank before it, except a comma, and as nothing if it is a condition that isn't
+-- there
 abbrev pub part_text : (decimals : ℕ) → Part → List ℕ → List ℕ
 part_text decimals (part.name text) rest = codes " " ++ (text ++ rest)
 part_text decimals part.comma rest = codes "," ++ rest
@@ -53,5 +49,5 @@ lines_text decimals [] = []
 lines_text decimals (l ∷ ls) = entry_line decimals l.entry (lines_text decimals ls)
 
 -- a tariff is printed as the line of its decimals and then its lines in their order
-abbrev pub printed : Tree → List ℕ
-printed t = number_line (codes "decimals ") t.decimals (lines_text t.decimals t.lines)
+abbrev pub printed_form : Tree → List ℕ
+printed_form t = number_line (codes "decimals ") t.decimals (lines_text t.decimals t.lines)

@@ -1,14 +1,10 @@
 -- Rules: a tariff, without where it lies in memory.
-use Rattle.std.specs.Prelude.{ℕ, List, [], ◌∷◌, map, Option, None, codes}
-use Rattle.drive_modes.specs.declared.meterage.Rounding.{Rounding}
-use Rattle.tariff_syntax.specs.Condition.{Condition, condition_if}
-use Rattle.tariff_syntax.specs.Part as part
+use Rattle.std.specs.Prelude.{[], ℕ, ◌∷◌, List, None, Option, codes, map}
+use Rattle.tariff_syntax.specs.{Common.{Rounding}, Condition.{Condition, condition_if}, declared.tariff.Tariff.{Tariff}}
 use Rattle.tariff_syntax.specs.Part.{Part}
-use Rattle.tariff_syntax.specs.declared.tariff.Item.{Item}
-use Rattle.tariff_syntax.specs.declared.tariff.Item.TheVariants.{Step, Positions, Zones, Holiday, Supplement, Initial}
-use Rattle.tariff_syntax.specs.declared.tariff.Item.TheVariants.{Rate, Minimum}
-use Rattle.tariff_syntax.specs.declared.tariff.Tariff.{Tariff}
-use Rattle.tariff_syntax.specs.declared.tariff.TariffLine.{TariffLine}
+use Rattle.tariff_syntax.specs.declared.tariff.{Item.{Item, TheVariants.{Supplement, Zones}}, TariffLine.{TariffLine}}
+use Rattle.tariff_syntax.specs.declared.tariff.Item.TheVariants.{Holiday, Initial, Minimum, Positions, Rate, Step}
+use Rattle.tariff_syntax.specs.Part as part
 
 -- an entry is what a line says: money in units of the last decimal, distances in decimetres, times in tenths of a
 -- second
@@ -47,7 +43,7 @@ parts_of (rate a b c e when) =
     ∷ part.money c ∷ part.name (codes "per") ∷ part.measure e ∷ part.name (codes "s") ∷ part.condition when ∷ []
 parts_of (minimum amount when) = part.money amount ∷ part.condition when ∷ []
 
--- the condition of an entry is the one that it has, if its kind may have one and it has one
+-- the condition of an entry is the one that it has; an entry of some kinds never has one
 abbrev pub when_part : Entry → Option Condition
 when_part (initial amount covers when) = when
 when_part (rate a b c e when) = when

@@ -1,17 +1,13 @@
 //! Reads conditions.
-ghost use Rattle.std.specs.Prelude.{◌≡◌, ◌≤◌, length, if◌then◌else◌};
-ghost use Rattle.tariff_syntax.specs.Built.{Builds, HasParts, HasPartsIf, IsBuilt};
-ghost use Rattle.tariff_syntax.specs.Condition.{Condition, condition_of, condition_if};
-ghost use Rattle.tariff_syntax.specs.Faults.{GivesOrFails};
+ghost use Rattle.std.specs.Prelude.{◌≡◌, ◌≤◌, if◌then◌else◌, length};
+ghost use Rattle.tariff_syntax.specs.{Built.{Builds, HasParts, HasPartsIf, IsBuilt}, TokenReading.{tokens_of}};
+ghost use Rattle.tariff_syntax.specs.{Condition.{Condition, condition_if, condition_of}, Grammar.{term_by, when_read}};
+ghost use Rattle.tariff_syntax.specs.{Faults.{GivesOrFails}, Joints.{joined_by}, Weight.{token_weight}};
+ghost use Rattle.tariff_syntax.specs.Grammar.{chain_on, closed_after, condition_by, factor_by, factor_first, negated};
+ghost use Rattle.tariff_syntax.specs.Token.{token_of};
 ghost use Rattle.tariff_syntax.specs.Grammar as spec;
 ghost use Rattle.tariff_syntax.specs.Joints as joints;
-ghost use Rattle.tariff_syntax.specs.Joints.{joined_by};
 ghost use Rattle.tariff_syntax.specs.Weight as weights;
-ghost use Rattle.tariff_syntax.specs.Grammar.{condition_by, term_by, factor_by, factor_first, chain_on, negated};
-ghost use Rattle.tariff_syntax.specs.Grammar.{closed_after, when_read};
-ghost use Rattle.tariff_syntax.specs.Weight.{token_weight};
-ghost use Rattle.tariff_syntax.specs.Token.{token_of};
-ghost use Rattle.tariff_syntax.specs.TokenReading.{tokens_of};
 
 use crate::atoms::atom_named;
 use crate::building::{Built, and, not, or};
@@ -48,8 +44,8 @@ fn word_of(joint: Joint) -> &'static [u8]
     }
 }
 
-/// A condition, and what stands after it; with fewer `not` and `(` around each atom than a number. A line is
-/// read on where memory runs out: the condition is missing then, and what stands after it is known.
+/// A condition, and the text behind it; fewer `not` and `(` than a number are around each atom. If memory runs out, the
+/// line is still read on: the condition is missing, and the text behind it is known.
 #[cycle(conditions)]
 #[tactic(auto, unfolding(crate::specs::Grammar::condition_by))]
 fn condition(alloc: Global, depth: u8, line: &[u8]) -> Option<(Built, &[u8])>
@@ -60,7 +56,7 @@ fn condition(alloc: Global, depth: u8, line: &[u8]) -> Option<(Built, &[u8])>
     more_parts(alloc, Joint::Or, depth, 64, first, rest)
 }
 
-/// A term, and what stands after it.
+/// A term, and the text behind it.
 #[cycle(conditions)]
 #[tactic(auto, unfolding(crate::specs::Grammar::term_by))]
 fn term(alloc: Global, depth: u8, line: &[u8]) -> Option<(Built, &[u8])>
@@ -94,7 +90,7 @@ fn more_parts(
     more_parts(alloc, joint, depth, most - 1, joined, rest)
 }
 
-/// The part that stands first, joined to what stands to the left, and what stands after it.
+/// The part at the front, joined to what stands to the left, and the text behind it.
 #[cycle(conditions)]
 fn joined_part(
     alloc: Global,
@@ -118,7 +114,7 @@ fn joined_part(
     }
 }
 
-/// A factor, and what stands after it.
+/// A factor, and the text behind it.
 #[cycle(conditions)]
 fn factor(alloc: Global, depth: u8, line: &[u8]) -> Option<(Built, &[u8])>
     ensures { Builds (λ x. (x.0, tokens_of x.1.now)) result
@@ -155,7 +151,7 @@ fn factor_above(alloc: Global, depth: u8, line: &[u8]) -> Option<(Built, &[u8])>
     }
 }
 
-/// The negation of the factor that stands first.
+/// The negation of the factor at the front.
 #[cycle(conditions)]
 fn negation(alloc: Global, depth: u8, line: &[u8]) -> Option<(Built, &[u8])>
     ensures { Builds (λ x. (x.0, tokens_of x.1.now)) result
@@ -191,8 +187,8 @@ pub fn when(alloc: Global, line: &[u8]) -> Result<Option<Cond>, LineFault>
     Ok(Some(cond))
 }
 
-/// A condition with at most 64 atoms, `not` and `(` together. So there are fewer
-/// `not` and `(` than that around an atom, and fewer parts joined.
+/// A condition with at most 64 atoms, `not` and `(` together. So fewer of these are around an atom, and fewer parts are
+/// joined.
 #[tactic(auto, unfolding(crate::specs::Grammar::bounded_condition))]
 fn bounded_condition(alloc: Global, line: &[u8]) -> Result<Cond, LineFault>
     ensures { GivesOrFails condition_of HasParts result (spec.bounded_condition (tokens_of line.now)) }

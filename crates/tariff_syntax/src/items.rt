@@ -1,13 +1,9 @@
 //! Reads what a line says.
 ghost use Rattle.std.specs.Prelude.{◌≤◌, IfSome};
-ghost use Rattle.taxi_units.specs.Reading.{Gives, GivesSame};
-ghost use Rattle.tariff_syntax.specs.Built.{EntryHasParts};
-ghost use Rattle.tariff_syntax.specs.Faults.{GivesOrFails};
+ghost use Rattle.tariff_syntax.specs.{Built.{EntryHasParts}, Faults.{GivesOrFails}, TokenReading.{tokens_of}};
+ghost use Rattle.tariff_syntax.specs.{Common.{Gives, GivesSame}, Items.{supplement_read, zones_read}, Tree.{entry_of}};
+ghost use Rattle.tariff_syntax.specs.Items.{count_read, holiday_read, item_read, positions_read, step_read};
 ghost use Rattle.tariff_syntax.specs.Items as spec;
-ghost use Rattle.tariff_syntax.specs.Items.{step_read, count_read, positions_read, zones_read, holiday_read};
-ghost use Rattle.tariff_syntax.specs.Items.{supplement_read, item_read};
-ghost use Rattle.tariff_syntax.specs.TokenReading.{tokens_of};
-ghost use Rattle.tariff_syntax.specs.Tree.{entry_of};
 
 use crate::conditions::{LineFault, when};
 use crate::figures::{amount_first, number_first, year_date_first};
@@ -49,7 +45,7 @@ fn item_named(alloc: Global, decimals: u8, name: &[u8], line: &[u8]) -> Result<I
     }
 }
 
-/// What a line says that has no condition, after its first word.
+/// What a line without a condition says, after its first word.
 #[tactic(auto, unfolding(crate::specs::Items::plain_named))]
 fn plain_named(decimals: u8, name: &[u8], line: &[u8]) -> Option<Item>
     requires { decimals ≤ 3 }
@@ -193,7 +189,7 @@ fn initial(alloc: Global, decimals: u8, line: &[u8]) -> Result<Item, LineFault>
     }))
 }
 
-/// The covered amount, which may be left out, and what stands after it.
+/// The covered amount, which may be left out, and the text behind it.
 #[tactic(auto, unfolding(crate::specs::Items::covers_first))]
 fn covers_first(decimals: u8, line: &[u8]) -> Option<(u64, &[u8])>
     requires { decimals ≤ 3 }
@@ -224,7 +220,7 @@ fn rate(alloc: Global, decimals: u8, line: &[u8]) -> Result<Item, LineFault>
     Ok(Item::Rate(RateLine { a, b, c, e, cond }))
 }
 
-/// An amount for each measure, and what stands after its unit.
+/// An amount for each measure, and the text behind its unit.
 #[tactic(auto, unfolding(crate::specs::Items::per_first))]
 fn per_first<'a>(decimals: u8, line: &'a [u8], unit: &[u8]) -> Option<((u64, u64), &'a [u8])>
     requires { decimals ≤ 3 }

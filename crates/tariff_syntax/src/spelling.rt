@@ -1,12 +1,8 @@
 //! Writes the printed form of a condition.
-ghost use Rattle.std.specs.Prelude.{◌≡◌, ◌++◌, OnOk, codes, true};
-ghost use Rattle.std.specs.Fmt.{decimal};
-ghost use Rattle.taxi_units.specs.Number.{padded_text, money_text};
-ghost use Rattle.tariff_syntax.specs.Appends.{Appends};
-ghost use Rattle.tariff_syntax.specs.Condition.{condition_of};
-ghost use Rattle.tariff_syntax.specs.PrintedCondition.{condition_at, closed, whole, term, factor, days_text};
-ghost use Rattle.tariff_syntax.specs.PrintedCondition.{minute_text, date_text};
-ghost use Rattle.taxi_units.specs.Weekdays.{day_name};
+ghost use Rattle.std.specs.{Fmt.{decimal}, Prelude.{◌++◌, ◌≡◌, OnOk, codes, true}};
+ghost use Rattle.tariff_syntax.specs.{Appends.{Appends}, Common.{day_name, money_text, padded_text}};
+ghost use Rattle.tariff_syntax.specs.{Condition.{condition_of}, PrintedCondition.{minute_text, term, whole}};
+ghost use Rattle.tariff_syntax.specs.PrintedCondition.{condition_at, date_text, days_text, factor, in_parentheses};
 
 use crate::condition::Cond;
 use crate::printing::push_money;
@@ -70,7 +66,7 @@ fn push_factor(text: &mut Vec<u8>, cond: &Cond) -> Result<(), AllocError>
 #[cycle(spelling)]
 fn push_closed(text: &mut Vec<u8>, cond: &Cond) -> Result<(), AllocError>
     ensures { OnOk result (Appends text.old.items text.new.items
-        (closed true (condition_at whole (condition_of cond.now)))) }
+        (in_parentheses true (condition_at whole (condition_of cond.now)))) }
 {
     text.push(b'(')?;
     push_condition(text, cond)?;

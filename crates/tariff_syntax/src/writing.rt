@@ -1,13 +1,10 @@
 //! Writes the printed form of a tariff.
-ghost use Rattle.std.specs.Prelude.{◌≡◌, ◌≤◌, ◌++◌, [], IfOk, OnOk, codes, map};
-ghost use Rattle.std.specs.Fmt.{decimal};
-ghost use Rattle.taxi_units.specs.Number.{money_text};
+ghost use Rattle.std.specs.{Fmt.{decimal}, Prelude.{[], ◌++◌, ◌≡◌, ◌≤◌, IfOk, OnOk, codes, map}};
 ghost use Rattle.tariff_syntax.specs.Appends.{Appends};
-ghost use Rattle.tariff_syntax.specs.Condition.{condition_of, condition_if};
-ghost use Rattle.tariff_syntax.specs.PrintedCondition.{condition_text};
-ghost use Rattle.tariff_syntax.specs.Printed.{printed, number_line, entry_line, lines_text, when_text};
+ghost use Rattle.tariff_syntax.specs.{Common.{money_text}, Tree.{entry_of, line_of, tree_of, without_when}};
+ghost use Rattle.tariff_syntax.specs.{Condition.{condition_if, condition_of}, PrintedCondition.{condition_text}};
+ghost use Rattle.tariff_syntax.specs.Printed.{entry_line, lines_text, number_line, printed_form, when_text};
 ghost use Rattle.tariff_syntax.specs.Tree as tree;
-ghost use Rattle.tariff_syntax.specs.Tree.{tree_of, entry_of, line_of, without_when};
 
 use crate::condition::Cond;
 use crate::printing::{push_money, push_per, push_rounding};
@@ -17,13 +14,13 @@ use drive_modes::Rounding;
 use std::alloc::{AllocError, Global};
 use taxi_units::NoMemory;
 
-/// The printed form of a tariff: the line of its decimals, then its lines in their order, with one
-/// blank between tokens, but none before a comma, around `..`, after `(` and before `)`. Money has the
-/// tariff's decimals, 0 to 3, and measures one; rounding words and covered amounts always stand, and
-/// parentheses where they are needed. `NoMemory` where memory runs out.
+/// The printed form of a tariff: the line of its decimals, then its lines in their order, with one blank between
+/// tokens, but none before a comma, around `..`, after `(` and before `)`. Money has the tariff's decimals, 0 to 3, and
+/// measures have one. Rounding words and covered amounts are always printed, and parentheses if they are needed.
+/// `NoMemory`: memory runs out.
 pub fn print(alloc: Global, tariff: &Tariff) -> Result<Vec<u8>, NoMemory>
     requires { tariff.now.decimals ≤ 3 }
-    ensures { IfOk result (λ text. text.items ≡ printed (tree_of tariff.now)) }
+    ensures { IfOk result (λ text. text.items ≡ printed_form (tree_of tariff.now)) }
 {
     write_tariff(alloc, tariff).map_err(|_| NoMemory)
 }
@@ -31,7 +28,7 @@ pub fn print(alloc: Global, tariff: &Tariff) -> Result<Vec<u8>, NoMemory>
 /// The printed form of a tariff; out of memory is the only error.
 fn write_tariff(alloc: Global, tariff: &Tariff) -> Result<Vec<u8>, AllocError>
     requires { tariff.now.decimals ≤ 3 }
-    ensures { IfOk result (λ text. text.items ≡ printed (tree_of tariff.now)) }
+    ensures { IfOk result (λ text. text.items ≡ printed_form (tree_of tariff.now)) }
 {
     let mut text = Vec::new(alloc);
     push_number(&mut text, b"decimals ", tariff.decimals)?;
@@ -39,8 +36,8 @@ fn write_tariff(alloc: Global, tariff: &Tariff) -> Result<Vec<u8>, AllocError>
     Ok(text)
 }
 
-/// The printed form of a line up to `when`, with an LF behind it: what the line says where its condition holds. Money
-/// has `decimals` decimals, 0 to 3. `NoMemory` where memory runs out.
+/// The printed form of a line up to `when`, with an LF behind it: what the line says if its condition holds. Money has
+/// `decimals` decimals, 0 to 3. `NoMemory`: memory runs out.
 pub fn print_line(alloc: Global, decimals: u8, item: &Item) -> Result<Vec<u8>, NoMemory>
     requires { decimals ≤ 3 }
     ensures { IfOk result (λ text. text.items ≡ entry_line decimals (without_when (entry_of item.now)) []) }

@@ -1,11 +1,8 @@
 -- Look-ups by halving: how many elements they count, and in how many steps.
-use Rattle.std.proofs.Common.{◌≡◌, ◌∙◌, ℕ, zero, suc, ◌+◌, ◌*◌, ◌/◌, ◌^◌, ◌<◌, ◌≤◌, Bool, true, false, cond, List, []}
-use Rattle.std.proofs.Common.{◌∷◌, length, get_or, count_by, refl, ap, sym, arith}
-use Rattle.std.proofs.Math.Nat.{pow-suc}
-use Rattle.std.proofs.lemmas.List.Sums.{sum_by-cons}
-use Rattle.std.specs.List.Sorted.{IsPartitionedBy}
+use Rattle.{std.{specs.List.Sorted.{IsPartitionedBy}, proofs.Math.Nat.{pow-suc}}, taxi_units.specs.Halving.{EndsWithin}}
+use Rattle.std.proofs.Common.{[], ℕ, ◌*◌, ◌+◌, ◌/◌, ◌<◌, ◌^◌, ◌∙◌, ◌∷◌, ◌≡◌, ◌≤◌, Bool, List, ap, arith, cond, count_by}
+use Rattle.std.proofs.{Common.{false, get_or, length, refl, suc, sym, true, zero}, lemmas.List.Sums.{sum_by-cons}}
 use Rattle.taxi_units.specs.Counted.{IsElement}
-use Rattle.taxi_units.specs.Halving.{EndsWithin}
 
 -- a halving is one step, and leaves at most half
 halved : (spent bound width half rounds : ℕ) → spent + rounds ≤ bound → width < 2 ^ rounds → 0 < width
@@ -20,7 +17,7 @@ pub ends_after : (spent bound width half : ℕ) → EndsWithin spent bound width
 ends_after spent bound width half within some less =
     halved spent bound width half within.rounds within.room within.fits some less
 
--- where the first n elements pass a test and no later one does, n pass it
+-- if the first n elements pass a test and no later one does, n pass it
 pub count_by-at : {T : Type 0} (test : T → Bool) (n : ℕ) (list : List T) → n ≤ length list
     → ((place : ℕ) (other : T) → place < n → test (get_or list place other) ≡ true) → ((place : ℕ) (other : T)
     → n ≤ place → place < length list → test (get_or list place other) ≡ false) → count_by test list ≡ n
@@ -36,7 +33,7 @@ count_by-at test (suc n) (x ∷ xs) few before after =
     (λ place other le lt. after (suc place) other (omega arith) (omega arith)) in
     sum_by-cons (λ y. cond (test y) 1 0) x xs ∙ rw here (omega (arith, rest))
 
--- where the element at a place passes, so do those before it
+-- if the element at a place passes, so do those before it
 pub passes_before : {T : Type 0} (test : T → Bool) (list : List T) (middle : ℕ) (element : T) (passed : Bool)
     → IsPartitionedBy test list → IsElement list middle element → middle < length list → passed ≡ test element
     → passed ≡ true → (place : ℕ) (other : T) → place < middle + 1 → test (get_or list place other) ≡ true
@@ -47,7 +44,7 @@ fails_or : (b : Bool) → (b ≡ true → ⊥) → b ≡ false
 fails_or true h = absurd (h refl)
 fails_or false h = refl
 
--- where it fails, so do those after it
+-- if it fails, so do those after it
 pub fails_after : {T : Type 0} (test : T → Bool) (list : List T) (middle : ℕ) (element : T) (passed : Bool)
     → IsPartitionedBy test list → IsElement list middle element → passed ≡ test element → passed ≡ false → (place : ℕ)
     (other : T) → middle ≤ place → place < length list → test (get_or list place other) ≡ false

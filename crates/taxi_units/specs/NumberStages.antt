@@ -1,11 +1,8 @@
 -- By law: a decimal, read in the stages of the code. The laws decimals_are_read_by_their_form and
 -- numbers_are_read_by_their_digits say what the answers mean.
-use Rattle.std.specs.Prelude.{ℕ, ◌+◌, ◌^◌, List, [], ◌∷◌, length, take, drop, if◌then◌else◌, nat_lt, ◌==◌, ◌||◌, Result, Ok, Err}
-use Rattle.std.specs.Char.{is_ascii_digit}
-use Rattle.std.specs.List.{prefix_len}
-use Rattle.taxi_units.specs.declared.decimal.NumberFault.{NumberFault}
-use Rattle.taxi_units.specs.declared.decimal.NumberFault.TheVariants.{Empty, BadDigit, TooManyDecimals, TooBig}
-use Rattle.taxi_units.specs.Decimal.{units_of}
+use Rattle.std.specs.{Char.{is_ascii_digit}, List.{prefix_len}, Prelude.{nat_lt, take}}
+use Rattle.std.specs.Prelude.{[], ℕ, ◌+◌, ◌==◌, ◌^◌, ◌||◌, ◌∷◌, Err, List, Ok, Result, drop, if◌then◌else◌, length}
+use Rattle.taxi_units.specs.{Common.{BadDigit, Empty, NumberFault, TooBig, TooManyDecimals}, Decimal.{units_of}}
 
 -- the number of digits at the front of a text
 abbrev pub digits_at_front : List ℕ → ℕ
@@ -18,7 +15,7 @@ units_read decimals whole parts =
     then Err (TooManyDecimals (length whole + 1 + decimals))
     else (if nat_lt (10 ^ 12) (units_of decimals whole parts) then Err TooBig else Ok (units_of decimals whole parts))
 
--- the answer to a text of `whole`, a point and `parts`, where `parts` has `count` digits at its front
+-- the answer to a text of `whole`, a point and `parts`, if `parts` has `count` digits at its front
 abbrev pub counted_parts_read : ℕ → List ℕ → List ℕ → ℕ → Result ℕ NumberFault
 counted_parts_read decimals whole parts count =
     if nat_lt count (length parts) || (count == 0)

@@ -1,13 +1,8 @@
 -- Rules: what displays and receipts may say, so that their texts tell all of them.
-use Rattle.std.specs.Prelude.{◌≡◌, ◌≢◌, ℕ, ◌+◌, ◌*◌, ◌^◌, ◌<◌, ◌≤◌, min, max}
-use Rattle.taxi_units.specs.declared.event.Operating.TheVariants.{Off}
-use Rattle.taxi_units.specs.declared.receipt.Kind.TheVariants.{Roam}
-use Rattle.taxi_units.specs.declared.receipt.Display.{Display}
-use Rattle.taxi_units.specs.declared.receipt.Receipt.{Receipt}
-use Rattle.taxi_units.specs.declared.receipt.Stamp.{Stamp}
-use Rattle.taxi_units.specs.Calendar.{IsDate}
-use Rattle.taxi_units.specs.Limits.{largest_supplements, number_most}
-use Rattle.taxi_units.specs.Money.{largest_amount, largest_display_step}
+use Rattle.std.specs.Prelude.{ℕ, ◌*◌, ◌+◌, ◌<◌, ◌^◌, ◌≡◌, ◌≢◌, ◌≤◌, max, min}
+use Rattle.taxi_units.specs.{Calendar.{IsDate}, declared.receipt.{Display.{Display}, Receipt.{Receipt}, Stamp.{Stamp}}}
+use Rattle.taxi_units.specs.{Limits.{largest_supplements, number_most}, declared.receipt.Kind.TheVariants.{Roam}}
+use Rattle.taxi_units.specs.{Money.{largest_amount, largest_display_step}, declared.event.Operating.TheVariants.{Off}}
 
 -- decimals are those of an amount of money if they are 0 to 3
 abbrev pub AreDecimals : ℕ → Type 0
@@ -27,8 +22,8 @@ pub record IsStamp (stamp : Stamp) : Type 0 where
 
 -- the fare of a receipt is its initial hire fee and its step for each display step, or its minimum if that is more,
 -- and at most 99,999,999
-abbrev pub fare_of : Receipt → ℕ
-fare_of receipt = min largest_amount (max receipt.minimum (receipt.initial + receipt.steps * receipt.step))
+abbrev pub fare_of_receipt : Receipt → ℕ
+fare_of_receipt receipt = min largest_amount (max receipt.minimum (receipt.initial + receipt.steps * receipt.step))
 
 -- a receipt is in its ranges if it is for a hiring and not for roaming, has each number in its range, and the fare
 -- that its parts make
@@ -43,6 +38,6 @@ pub record IsReceipt (receipt : Receipt) : Type 0 where
   pub minimum : receipt.minimum ≤ largest_amount
   pub steps : receipt.steps < 10 ^ 18
   pub step : (1 ≤ receipt.step) × (receipt.step ≤ largest_display_step)
-  pub fare : receipt.fare ≡ fare_of receipt
+  pub fare : receipt.fare ≡ fare_of_receipt receipt
   pub supplements : receipt.supplements ≤ largest_supplements
   pub decimals : AreDecimals receipt.decimals

@@ -1,14 +1,10 @@
 -- The trips of a generated drive, one after another.
-use Rattle.std.proofs.Common.{◌≡◌, ℕ, zero, suc, ◌+◌, ◌-◌, ◌<◌, [], refl, length, drop, arith}
-use Rattle.std.proofs.Math.Seq.{drop-length}
-use Rattle.arrayvec.specs.ArrayVec.{array_vec_len}
-use Rattle.drive_text.specs.Written.{event_fields}
-use Rattle.verify_bench.specs.Adding.{place_of, lines_events}
+use Rattle.std.proofs.{Common.{[], ℕ, ◌+◌, ◌-◌, ◌<◌, ◌≡◌, arith, drop, length, refl, suc, zero}, Math.Seq.{drop-length}}
+use Rattle.{arrayvec.specs.ArrayVec.{array_vec_len}, drive_text.specs.Written.{event_fields}}
+use Rattle.verify_bench.specs.{AddedText.{lines_events, place_of}, declared.remaining.Remaining.{Remaining}}
 use Rattle.verify_bench.specs.Generated.{Place, and_then, beginning, generated_lines, in_turn, line_text, lines_text}
-use Rattle.verify_bench.specs.Generated.{trip, trips_from}
+use Rattle.verify_bench.{specs.Generated.{trip, trips_from}, proofs.Adds.{lines_events-append, lines_text-append}}
 use Rattle.verify_bench.specs.Left.{bytes_left}
-use Rattle.verify_bench.specs.declared.remaining.Remaining.{Remaining}
-use Rattle.verify_bench.proofs.Adds.{lines_events-append, lines_text-append}
 
 -- the first of some trips, and the others
 pub trips_split : (count : ℕ) (place : Place) → 0 < count
@@ -36,7 +32,7 @@ left_after_trip old new all some given trips text place =
     let others = (trips_from (old.trips - 1) (trip (place_of old.writing)).next).lines in
     rw (given, trips, text, place, none, split, lines_text-append first others) refl
 
--- nothing is left where all was given and no trip is to come
+-- nothing is left if all was given and no trip is to come
 pub none_left : (r : Remaining) → r.given ≡ array_vec_len r.writing.text → r.trips ≡ 0 → bytes_left r ≡ []
 unfolding in_turn
 none_left r all none = rw (all, drop-length r.writing.text.items, none) refl

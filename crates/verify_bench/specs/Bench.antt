@@ -1,27 +1,11 @@
 -- For proofs: the meter of the bench, and which state of the meter it stands for. Meter, of meter_model, says what a
 -- state is.
-use Rattle.std.specs.Prelude.{◌≡◌, ℕ, ◌+◌, ◌*◌, ◌-◌, ◌^◌, ◌≤◌, ◌++◌, min, sum, map, List, Option, Some, None}
-use Rattle.std.specs.Prelude.{option_map}
-use Rattle.drive_text.specs.Ranges.{IsInRange}
-use Rattle.meter_model.specs.Interval.{context_now}
-use Rattle.meter_model.specs.Keys.{hiring, key_in}
-use Rattle.meter_model.specs.Meter.{Meter, Outcome}
-use Rattle.meter_model.specs.Setting.{Setting}
-use Rattle.meter_model.specs.Step.{expired_or_pressed}
-use Rattle.meter_model.specs.Trip.{MeterTrip}
-use Rattle.tariff_syntax.specs.declared.context.Context.{Context}
-use Rattle.taxi_units.specs.Limits.{last_number}
-use Rattle.taxi_units.specs.Time.{IsSecond, last_tick}
-use Rattle.taxi_units.specs.declared.event.Event.{Event}
-use Rattle.taxi_units.specs.declared.event.Key.{Key}
-use Rattle.taxi_units.specs.declared.event.Operating.TheVariants.{ForHire}
-use Rattle.totals_record.specs.declared.trip.Trip.{Trip}
-use Rattle.verify_bench.specs.Explaining.{explanation_of, explanations_in, hired_at, hired_by, trip_at}
-use Rattle.verify_bench.specs.Hirings.{IsHiringOf, IsWhole}
-use Rattle.verify_bench.specs.declared.explained.Explained.{Explained}
-use Rattle.verify_bench.specs.declared.hiring.Hiring.{Hiring}
-use Rattle.verify_bench.specs.declared.bench_meter.SavedState.{SavedState}
-use Rattle.verify_bench.specs.declared.bench_meter.BenchMeter.{BenchMeter}
+use Rattle.std.specs.Prelude.{ℕ, ◌*◌, ◌++◌, ◌+◌, ◌-◌, ◌^◌, ◌≡◌, ◌≤◌, List, None, Option, Some, map, min, option_map}
+use Rattle.{std.specs.Prelude.{sum}, meter_model.specs.Keys.{hiring}, verify_bench.specs.Hirings.{IsHiringOf, IsWhole}}
+use Rattle.verify_bench.specs.Common.{BenchMeter, Context, Event, Explained, ForHire, Hiring, IsInRange, IsSecond, Key}
+use Rattle.verify_bench.specs.Common.{Meter, MeterTrip, Outcome, SavedState, Setting, Trip, context_now}
+use Rattle.verify_bench.specs.Common.{expired_or_pressed, key_in, last_number, last_tick}
+use Rattle.verify_bench.specs.TripExplanations.{explanation_of, explanations_in, hired_at, hired_by, trip_at}
 
 -- a count of 64 bits stands still at its last value, 2^64 - 1
 abbrev pub limited : ℕ → ℕ
@@ -39,8 +23,8 @@ AreTrips s hired (Some hiring) (Some trip) = IsHiringOf s hired hiring trip
 AreTrips s hired None (Some trip) = ⊥
 AreTrips s hired (Some hiring) None = ⊥
 
--- a meter of the bench stands for a state of the meter whose last trip was hired in a context if it has each part of
--- that state of which receipts depend, with sums for the lists of pulses, and its hiring is the trip
+-- a meter of the bench stands for a state of the meter if it has each part of it on which receipts depend, with sums
+-- for the lists of pulses, and its hiring is the trip; the last trip of the state was hired in the context
 pub record BenchStands (s : Setting) (hired : Context) (meter : BenchMeter) (m : Meter) : Type 0 where
   pub operating : meter.operating ≡ m.operating
   pub clock : meter.clock ≡ m.clock
@@ -88,8 +72,8 @@ HasTicks None ticks = ticks ≡ 0
 HasTicks (Some hiring) ticks = ticks ≡ hiring.whole.ticks
 
 -- a meter of the bench has moved to an outcome if it stands for the next state, whose last trip was hired in the
--- context `next`, and behind what was found before come the explanations of the receipts among the outcome's acts, by
--- the given trip, which was hired in the context `hired`
+-- context `next`; behind what was found before come the explanations of the receipts among the outcome's acts, by the
+-- given trip, which was hired in the context `hired`
 pub record Moves (s : Setting) (hired next : Context) (trip : Option MeterTrip) (before after : List Explained)
     (meter : BenchMeter) (o : Outcome) : Type 0 where
   pub state : BenchStands s next meter o.next
@@ -110,8 +94,8 @@ GoesThroughQuietly s stage old new =
     → Moves s hired next trip found found new (stage s m)
 
 -- a meter of the bench hires if nothing is found in it, and the context of the meter is that of the hiring
-abbrev pub Hires : Setting → (old new : BenchMeter) → Type 0
-Hires s old new =
+abbrev pub GoesThroughHiring : Setting → (old new : BenchMeter) → Type 0
+GoesThroughHiring s old new =
     (trip : Option MeterTrip) (found : List Explained) (m : Meter) (hired : Context) → BenchStands s hired old m
     → Moves s hired (context_now s m) trip found found new (hiring s m)
 

@@ -1,22 +1,12 @@
 -- Rules: the intervals of a trip in groups, by the rate and the way by which they were charged.
-use Rattle.std.specs.Prelude.{ℕ, ◌+◌, ◌*◌, ◌==◌, ◌&&◌, Bool, true, false, List, [], ◌∷◌, ◌++◌, map, sum, filter}
-use Rattle.std.specs.Prelude.{if◌then◌else◌, nat_lt}
-use Rattle.std.specs.Option.{unwrap_or}
-use Rattle.drive_modes.specs.declared.charges.Mode.{Mode}
-use Rattle.drive_modes.specs.declared.charges.Mode.TheVariants.{Single, Double}
-use Rattle.meter_model.specs.Setting.{Setting}
-use Rattle.meter_model.specs.Trip.{Part, InHired, InStopped, Rest, charge_in, pulses_in, ticks_in}
-use Rattle.tariff_check.specs.Parts.{RateNumbers}
-use Rattle.tariff_check.specs.SoundLookups.{place_in_force, rate_in_force}
-use Rattle.tariff_check.specs.SoundTariff.{lines_of}
-use Rattle.tariff_syntax.specs.declared.context.Context.{Context}
-use Rattle.verify_bench.specs.declared.explained.Group.{Group}
-use Rattle.verify_bench.specs.declared.explained.Sums.{Sums}
-use Rattle.verify_bench.specs.declared.explained.Way.{Way}
-use Rattle.verify_bench.specs.declared.explained.Way.TheVariants.{Distance, Time, Both}
+use Rattle.std.specs.{Option.{unwrap_or}, Prelude.{nat_lt, sum, true}}
+use Rattle.std.specs.Prelude.{[], ℕ, ◌&&◌, ◌*◌, ◌++◌, ◌+◌, ◌==◌, ◌∷◌, Bool, List, false, filter, if◌then◌else◌, map}
+use Rattle.verify_bench.specs.Common.{Both, Context, Distance, Double, Group, InHired, InStopped, Mode, Part}
+use Rattle.verify_bench.specs.Common.{RateNumbers, Rest, Setting, Single, Sums, Time, Way, charge_in, lines_of}
+use Rattle.verify_bench.specs.Common.{place_in_force, pulses_in, rate_in_force, ticks_in}
 
--- an interval of p pulses is charged by a rate in mode S in the way of its time where it is below the cross-over speed,
--- and in the way of its distance otherwise, whatever the two cost; in mode D it is charged in the way of both
+-- in mode S an interval of p pulses is charged by a rate in the way of its time below the cross-over speed, and else in
+-- the way of its distance, whatever the two cost; in mode D it is charged in the way of both
 abbrev pub way_by : Mode → (k : ℕ) → RateNumbers → (p : ℕ) → Way
 way_by Single k r p = if nat_lt (10000 * p * r.a * r.e) (r.c * k * r.b) then Time else Distance
 way_by Double k r p = Both
@@ -29,26 +19,26 @@ way_of s x p = way_by s.mode s.constant (rate_in_force s.tariff x) p
 abbrev pub rate_place_of : Setting → Context → ℕ
 rate_place_of s x = unwrap_or (place_in_force s.tariff.rates x) 0
 
--- the test `is_same_way` is true where two ways are the same
+-- the test `is_same_way` is true if two ways are the same
 abbrev pub is_same_way : Way → Way → Bool
 is_same_way Distance Distance = true
 is_same_way Time Time = true
 is_same_way Both Both = true
 is_same_way _ _ = false
 
--- the test `is_charged_by` is true where a part ended in Hired and was charged by the rate line at a place in a way
+-- the test `is_charged_by` is true if a part ended in Hired and was charged by the rate line at a place in a way
 abbrev pub is_charged_by : Setting → (place : ℕ) → Way → Part → Bool
 is_charged_by s place way (InHired p x) = rate_place_of s x == place && is_same_way (way_of s x p) way
 is_charged_by s place way (InStopped p) = false
 is_charged_by s place way (Rest p) = false
 
--- the test `is_in_stopped` is true where a part is an interval that ended in Stopped
+-- the test `is_in_stopped` is true if a part is an interval that ended in Stopped
 abbrev pub is_in_stopped : Part → Bool
 is_in_stopped (InHired p x) = false
 is_in_stopped (InStopped p) = true
 is_in_stopped (Rest p) = false
 
--- the test `is_rest` is true where a part is the pulses of an interval that a supply drop left unfinished
+-- the test `is_rest` is true if a part is the pulses of an interval that a supply drop left unfinished
 abbrev pub is_rest : Part → Bool
 is_rest (InHired p x) = false
 is_rest (InStopped p) = false
@@ -66,7 +56,7 @@ sums_of s parts = record {
 abbrev pub rate_sums : Setting → List Part → (place : ℕ) → Way → Sums
 rate_sums s parts place way = sums_of s (filter (is_charged_by s place way) parts)
 
--- a group is there where it has an interval
+-- a group is there if it has an interval
 abbrev pub group_if : (line : ℕ) → Way → Sums → List Group
 group_if line way sums = if sums.ticks == 0 then [] else record { line = line; way = way; sums = sums } ∷ []
 

@@ -1,11 +1,8 @@
 -- Rules: texts of readings, which are the header and a row for each reading. The law texts_have_one_reading says that
 -- `readings_in`, of ReadingStages, gives what a text is read as.
-use Rattle.std.specs.Prelude.{◌≡◌, ◌≢◌, ℕ, ◌+◌, ◌<◌, ◌≤◌, List, [], ◌∷◌, ◌++◌, length, Result, Ok, Err}
-use Rattle.taxi_units.specs.Number.{decimal_read}
-use Rattle.verify_bench.specs.declared.reading.Reading.{Reading}
-use Rattle.verify_bench.specs.declared.reading.ReadingsFault.{ReadingsFault}
-use Rattle.verify_bench.specs.declared.reading.ReadingsFault.TheVariants.{TooLong, BadRow, NoMemory}
-pub use Rattle.verify_bench.specs.ReadingRows.{Row, AreRows, AreFirstRows, header, readings_limit}
+use Rattle.std.specs.Prelude.{[], ℕ, ◌++◌, ◌+◌, ◌<◌, ◌∷◌, ◌≡◌, ◌≢◌, ◌≤◌, Err, List, Ok, Result, length}
+use Rattle.verify_bench.specs.Common.{BadRow, NoMemory, Reading, ReadingsFault, TooLong, decimal_read}
+pub use Rattle.verify_bench.specs.ReadingRows.{AreFirstRows, AreRows, Row, header, readings_limit}
 pub use Rattle.verify_bench.specs.ReadingStages.{readings_in}
 
 -- a row says a reading if its three fields are read as the reading's fare, with the tariff's decimals, its distance
@@ -48,8 +45,8 @@ pub data IsFirstBad (decimals : ℕ) (text : List ℕ) : (number : ℕ) → Type
       → IsFirstBad decimals text (length before + 1)
   empty : AreRows text [] → IsFirstBad decimals text 1
 
--- a text is read as its readings if it is within the limit and all its rows are good, as too long above the limit,
--- and as bad at its first bad row; want of memory may come with any text within the limit
+-- a text is read as its readings if it is within the limit and all its rows are good, as too long above the limit, and
+-- as bad at its first bad row; memory may run out for any text within the limit
 abbrev pub IsReadAs : (decimals : ℕ) → (text : List ℕ) → Result (List Reading) ReadingsFault → Type 0
 IsReadAs decimals text (Ok readings) =
     (length text ≤ readings_limit) × (rows : List Row) × AreRows text rows × AreGood decimals rows readings

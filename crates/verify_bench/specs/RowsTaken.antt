@@ -1,9 +1,7 @@
 -- For proofs: rows of readings that are taken one by one. Readings says what all rows of a text come to.
-use Rattle.std.specs.Prelude.{◌≡◌, ℕ, ◌+◌, Bool, true, false, List, [], length}
-use Rattle.verify_bench.specs.Readings.{Row, AreGood, IsBadBehind, IsRowOfReading}
-use Rattle.verify_bench.specs.declared.reading.Reading.{Reading}
-use Rattle.verify_bench.specs.declared.reading.ReadingsFault.{ReadingsFault}
-use Rattle.verify_bench.specs.declared.reading.ReadingsFault.TheVariants.{TooLong, BadRow, NoMemory}
+use Rattle.std.specs.Prelude.{[], ℕ, ◌+◌, ◌≡◌, Bool, List, false, length, true}
+use Rattle.verify_bench.specs.Common.{BadRow, NoMemory, Reading, ReadingsFault, TooLong}
+use Rattle.verify_bench.specs.Readings.{AreGood, IsBadBehind, IsRowOfReading, Row}
 
 -- rows that were taken have given readings if none were taken yet, or if they are good and say these readings
 abbrev pub HaveGiven : (decimals : ℕ) → List Row → (headed : Bool) → List Reading → Type 0
@@ -11,8 +9,7 @@ HaveGiven decimals rows false readings = (rows ≡ []) × (readings ≡ [])
 HaveGiven decimals rows true readings = AreGood decimals rows readings
 
 -- a row isn't taken behind other rows if it is bad, which its number tells, or if memory ran out for the reading that
--- it
--- says behind good rows
+-- it says behind good rows
 abbrev pub IsRowFault : (decimals : ℕ) → List Row → Row → ReadingsFault → Type 0
 IsRowFault decimals rows row TooLong = ⊥
 IsRowFault decimals rows row (BadRow number) = (number ≡ length rows + 1) × IsBadBehind decimals rows row

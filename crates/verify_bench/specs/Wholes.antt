@@ -1,36 +1,14 @@
 -- Rules: which trip and which receipt an explanation is of, and what its parts come to together.
-use Rattle.std.specs.Prelude.{◌≡◌, ◌↔◌, ◌⊎◌, ℕ, ◌+◌, ◌*◌, ◌<◌, ◌++◌, ◌∷◌, All, Bool, List, None, Some, filter, map, sum, true}
-use Rattle.std.specs.List.{slice_get}
-use Rattle.drive_modes.specs.Fare.{shown_fare, steps_above}
-use Rattle.meter_model.specs.Charge.{distance_charge, time_charge}
-use Rattle.meter_model.specs.Closing.{receipt_of}
-use Rattle.meter_model.specs.Interval.{context_now}
-use Rattle.meter_model.specs.KeptTrip.{IsSupplementNumber}
-use Rattle.meter_model.specs.Setting.{Setting, rounding_of, unit_of}
-use Rattle.meter_model.specs.Step.{step}
-use Rattle.meter_model.specs.Trip.{InHired, MeterTrip, Part, fees_of, pulses_in, ticks_in}
-use Rattle.meter_model.specs.declared.act.Act.{Act}
-use Rattle.drive_modes.specs.Distance.{millimetres_of}
-use Rattle.tariff_check.specs.Parts.{InitialNumbers, RateNumbers}
-use Rattle.tariff_check.specs.Amounts.{fees_in_force}
-use Rattle.tariff_check.specs.SoundLookups.{place_in_force}
-use Rattle.tariff_check.specs.SoundTariff.{Choice, sound_of}
-use Rattle.tariff_syntax.specs.Meaning.{at_hiring}
-use Rattle.tariff_syntax.specs.Tree.{Tree}
-use Rattle.tariff_syntax.specs.Writable.{IsWritable}
-use Rattle.tariff_syntax.specs.declared.context.Context.{Context}
-use Rattle.taxi_units.specs.declared.event.Event.{Event}
-use Rattle.taxi_units.specs.declared.receipt.Kind.{Kind}
-use Rattle.taxi_units.specs.declared.receipt.Receipt.{Receipt}
-use Rattle.verify_bench.specs.ClosedTrips.{IsClosedTrip, TripOf, closing_meter, hiring_meter}
-use Rattle.verify_bench.specs.Explaining.{Explanation, explanation}
-use Rattle.verify_bench.specs.Groups.{way_by}
-use Rattle.verify_bench.specs.Receipts.{receipts_in}
-use Rattle.verify_bench.specs.declared.explained.Group.{Group}
-use Rattle.verify_bench.specs.declared.explained.Taken.{Taken}
-use Rattle.verify_bench.specs.declared.explained.Way.{Way}
-use Rattle.verify_bench.specs.declared.explained.Way.TheVariants.{Distance, Time, Both}
-use Rattle.verify_bench.specs.declared.fees.HiringFees.{HiringFees}
+use Rattle.{std.specs.{List.{slice_get}, Prelude.{true}}, drive_modes.specs.Distance.{millimetres_of}}
+use Rattle.std.specs.Prelude.{ℕ, ◌*◌, ◌++◌, ◌+◌, ◌<◌, ◌↔◌, ◌∷◌, ◌≡◌, ◌⊎◌, All, Bool, List, None, Some, filter, map, sum}
+use Rattle.{drive_modes.specs.Fare.{steps_above}, tariff_check.specs.Parts.{InitialNumbers}}
+use Rattle.meter_model.specs.{Charge.{distance_charge, time_charge}, Setting.{rounding_of}, Trip.{fees_of}}
+use Rattle.verify_bench.specs.{ClosedTrips.{IsClosedTrip, TripOf, closing_meter, hiring_meter}, Common.{unit_of}}
+use Rattle.verify_bench.specs.Common.{Act, Both, Choice, Context, Distance, Event, Group, HiringFees, InHired}
+use Rattle.verify_bench.specs.Common.{IsSupplementNumber, IsWritable, Kind, MeterTrip, Part, RateNumbers, Receipt}
+use Rattle.verify_bench.specs.Common.{Setting, Taken, Time, Tree, Way, at_hiring, context_now, fees_in_force}
+use Rattle.verify_bench.specs.Common.{place_in_force, pulses_in, receipt_of, shown_fare, sound_of, step, ticks_in}
+use Rattle.verify_bench.specs.{Groups.{way_by}, Receipts.{receipts_in}, TripExplanations.{Explanation, explanation}}
 
 -- an interval of p pulses is charged in a way by a rate what its distance costs, what its time costs, or both
 abbrev pub charge_in_way : (k common : ℕ) → RateNumbers → (p : ℕ) → Way → ℕ
@@ -51,13 +29,13 @@ pub record BeganIn (s : Setting) (hired : Context) (trip : MeterTrip) : Type 0 w
   pub extras : IsOfText s → All IsSupplementNumber trip.extras
 
 -- a receipt is printed among acts if it is one of those that they print
-pub record IsPrinted (acts : List Act) (receipt : Receipt) : Type 0 where
+pub record IsReceiptAmong (acts : List Act) (receipt : Receipt) : Type 0 where
   pub front : List Receipt
   pub back : List Receipt
   pub among : receipts_in acts ≡ front ++ receipt ∷ back
 
 -- an explanation is of a trip of a drive that was closed if it is by the context in which the meter hired the trip, by
--- the trip with the parts that the drive's events added, and by the receipt with which the trip was closed
+-- the parts that the drive's events added, and by the receipt that closed the trip
 pub record IsOfTrip (s : Setting) (events : List Event) (e : Explanation) : Type 0 where
   pub of : TripOf s events
   pub trip : MeterTrip
@@ -67,20 +45,20 @@ pub record IsOfTrip (s : Setting) (events : List Event) (e : Explanation) : Type
   pub number : ℕ
   pub closed : IsClosedTrip s events of trip
   pub began : BeganIn s (context_now s (hiring_meter s events of)) trip
-  pub printed : IsPrinted (step s of.closing (closing_meter s events of)).acts e.receipt
+  pub printed : IsReceiptAmong (step s of.closing (closing_meter s events of)).acts e.receipt
   pub is : e ≡ explanation s (context_now s (hiring_meter s events of)) (Some trip)
       (receipt_of s kind finish position trip number)
 
--- the parts of an explanation are the whole if the charges of its groups are those of the trip, and the pulses and the
--- ticks of its groups, of the intervals in Stopped and of those that were left unfinished are the trip's
+-- the parts of an explanation are the whole if the charges of its groups are those of the trip; the pulses and the
+-- ticks of its groups, of its intervals in Stopped and of its unfinished ones are the trip's
 pub record ArePartsTheWhole (e : Explanation) : Type 0 where
   pub charge : sum (map (λ (g : Group). g.sums.charge) e.groups) ≡ e.whole.charge
   pub pulses : sum (map (λ (g : Group). g.sums.pulses) e.groups) + e.stopped.pulses + e.dropped ≡ e.whole.pulses
   pub ticks : sum (map (λ (g : Group). g.sums.ticks) e.groups) + e.stopped.ticks ≡ e.whole.ticks
 
--- an explanation makes the receipt if the trip's pulses make its distance, the trip's charges its display steps, by
--- what the fee covers, the step and the rounding, these with the initial hire fee and the minimum fare its fare, and
--- the supplements that were taken the sum of its supplements
+-- an explanation makes the receipt if the trip's pulses make its distance, and the supplements that were taken the sum
+-- of its supplements; the trip's charges make its display steps, by what the fee covers, the step and the rounding, and
+-- these make its fare, with the initial hire fee and the minimum fare
 pub record MakesReceipt (s : Setting) (e : Explanation) : Type 0 where
   pub distance : e.receipt.hired_mm ≡ millimetres_of s.constant e.whole.pulses
   pub steps : e.receipt.steps ≡ steps_above (rounding_of s)
@@ -105,7 +83,7 @@ HasMinimum minimums x fees =
     × (fees.amounts.minimum ≡ choice.value))
 
 -- an explanation has the fees of its trip if they are the initial hire fee, the cover and the minimum fare in force at
--- the hiring, with their lines, and the receipt has this fee and this minimum fare
+-- the hiring, with their lines; the receipt has this fee and this minimum fare
 pub record HasFees (s : Setting) (events : List Event) (e : Explanation) : Type 0 where
   pub of : IsOfTrip s events e
   pub fee : Choice InitialNumbers
@@ -117,8 +95,8 @@ pub record HasFees (s : Setting) (events : List Event) (e : Explanation) : Type 
   pub initial : e.receipt.initial ≡ e.fees.amounts.amount
   pub least : e.receipt.minimum ≡ e.fees.amounts.minimum
 
--- a part of a trip was charged by a rate in a way if it is an interval that ended in Hired, the rate is the first whose
--- condition holds in the context of its beginning, and the way is the one in which the rate charges so many pulses
+-- a part of a trip was charged by a rate in a way if it is an interval that ended in Hired, and the rate is the first
+-- whose condition holds in the context of its beginning; the way is the one in which the rate charges so many pulses
 pub record WasCharged (s : Setting) (place : ℕ) (rate : RateNumbers) (way : Way) (part : Part) : Type 0 where
   pub pulses : ℕ
   pub context : Context
@@ -126,8 +104,8 @@ pub record WasCharged (s : Setting) (place : ℕ) (rate : RateNumbers) (way : Wa
   pub first : place_in_force s.tariff.rates context ≡ Some place
   pub in_way : way_by s.mode s.constant rate pulses ≡ way
 
--- a group of parts has the line of a rate if its intervals are the parts that this rate charged in the group's way, of
--- which there is one at least, and its sums are their pulses, their ticks, and what each is charged in this way
+-- a group of parts has the line of a rate if its intervals are the parts that this rate charged in the group's way, at
+-- least one; its sums are their pulses, their ticks, and what each is charged in this way
 pub record IsGroupOf (s : Setting) (parts : List Part) (group : Group) : Type 0 where
   pub place : ℕ
   pub rate : Choice RateNumbers

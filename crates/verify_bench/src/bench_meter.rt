@@ -2,16 +2,12 @@
 #![tactic(auto, using(crate::proofs::Benches::looser))]
 
 ghost use Rattle.std.specs.Prelude.{◌≡◌, None, OnOk, true};
-ghost use Rattle.meter_model.specs.Closing.{closed, roaming_checked, roaming_entered};
-ghost use Rattle.meter_model.specs.Interval.{context_on, interval_counted, interval_left, pulses_so_far, ticks_so_far};
-ghost use Rattle.meter_model.specs.Interval.{with_interval, with_roaming};
-ghost use Rattle.meter_model.specs.Meter.{Meter};
-ghost use Rattle.meter_model.specs.Setting.{Setting, local_at};
-ghost use Rattle.meter_model.specs.Trip.{InHired, InStopped, Rest};
+ghost use Rattle.{totals_record.specs.Entries.{is_of_hiring}, meter_model.specs.Interval.{with_roaming}};
+ghost use Rattle.verify_bench.specs.Common.{InHired, InStopped, IsSecond, Meter, Rest, Setting, closed, context_on};
+ghost use Rattle.verify_bench.specs.Common.{interval_counted, interval_left, last_tick, local_at, longest_trip};
+ghost use Rattle.verify_bench.specs.Common.{pulses_so_far, roaming_checked, roaming_entered, ticks_so_far};
+ghost use Rattle.verify_bench.specs.{Common.{with_interval}, Settings.{setting_under}};
 ghost use Rattle.tariff_syntax.specs.declared.context.Context as contexts;
-ghost use Rattle.taxi_units.specs.Time.{IsSecond, last_tick, longest_trip};
-ghost use Rattle.totals_record.specs.Entries.{is_of_hiring};
-ghost use Rattle.verify_bench.specs.Settings.{setting_under};
 
 use crate::explained::Explained;
 use crate::hiring::Hiring;
@@ -35,7 +31,7 @@ pub(crate) struct SavedState {
     pub(crate) zone: u8,
 }
 
-/// The states of the meter, but for what no receipt depends on. `number` is the store's.
+/// What the bench keeps of the meter's state: all on which a receipt depends. `number` is the store's.
 #[derive(Drop)]
 pub(crate) struct BenchMeter {
     pub(crate) operating: Operating,
@@ -52,7 +48,7 @@ pub(crate) struct BenchMeter {
 }
 
 impl BenchMeter {
-    ghost use Rattle.verify_bench.specs.Bench.{GoesThrough, GoesThroughQuietly, HasTicks, IsMeterInRange, BenchStands};
+    ghost use Rattle.verify_bench.specs.Bench.{BenchStands, GoesThrough, GoesThroughQuietly, HasTicks, IsMeterInRange};
 
     /// How many ticks the trip has, 0 without one.
     pub(crate) fn ticks(&self) -> u32
@@ -109,7 +105,7 @@ impl BenchMeter {
         }
     }
 
-    /// The trip is closed at a second, and taken apart.
+    /// Closes the trip at a second, and takes it apart.
     pub(crate) fn close<L: Ledger>(
         &mut self,
         kind: Kind,
@@ -147,7 +143,7 @@ impl BenchMeter {
         }
     }
 
-    /// Roaming is entered.
+    /// Enters roaming.
     pub(crate) fn enter_roaming(&mut self)
         requires sound { IsMeterInRange last_tick 0 self.old }
         requires none { self.old.hiring ≡ None }
@@ -159,7 +155,7 @@ impl BenchMeter {
         self.number = self.number.saturating_add(1);
     }
 
-    /// Roaming is entered for hire where it is long.
+    /// Enters roaming, if it is long and the meter is for hire.
     pub(crate) fn check_roaming(&mut self)
         requires sound { IsMeterInRange last_tick 0 self.old }
         ensures moves { (s : Setting) → GoesThroughQuietly s roaming_checked self.old self.new }
@@ -170,7 +166,7 @@ impl BenchMeter {
         }
     }
 
-    /// The pulses of the interval are roamed, while the store takes hirings.
+    /// Roams the pulses of the interval, while the store takes hirings.
     fn roam_on(&mut self)
         requires sound { IsMeterInRange last_tick 0 self.old }
         ensures stands { (s : Setting) (m : Meter) (hired : contexts.Context) → BenchStands s hired self.old m
@@ -184,7 +180,7 @@ impl BenchMeter {
         }
     }
 
-    /// The trip has an interval in Hired more, which began in a context.
+    /// Adds an interval in Hired, which began in a context.
     fn add_hired(&mut self, x: &Context, checked: &Checked, params: &Params) -> Result<(), NoMemory>
         requires sound { IsMeterInRange last_tick 0 self.old }
         ensures stands { OnOk result ((m : Meter) (hired : contexts.Context)
@@ -201,7 +197,7 @@ impl BenchMeter {
         }
     }
 
-    /// The trip has an interval in Stopped more.
+    /// Adds an interval in Stopped.
     fn add_stopped(&mut self)
         requires sound { IsMeterInRange last_tick 0 self.old }
         ensures stands { (s : Setting) (m : Meter) (hired : contexts.Context) → BenchStands s hired self.old m
@@ -216,7 +212,7 @@ impl BenchMeter {
         }
     }
 
-    /// The trip has the pulses of an unfinished interval more.
+    /// Adds the pulses of an unfinished interval.
     fn add_rest(&mut self)
         requires sound { IsMeterInRange last_tick 0 self.old }
         ensures stands { (s : Setting) (m : Meter) (hired : contexts.Context) → BenchStands s hired self.old m
@@ -231,7 +227,7 @@ impl BenchMeter {
         }
     }
 
-    /// The interval ends.
+    /// Ends the interval.
     pub(crate) fn count_interval<L: Ledger>(
         &mut self,
         checked: &Checked,
@@ -263,7 +259,7 @@ impl BenchMeter {
         }
     }
 
-    /// A supply drop leaves the interval unfinished.
+    /// Leaves the interval unfinished, as a supply drop does.
     pub(crate) fn leave_interval(&mut self)
         requires sound { IsMeterInRange last_tick 0 self.old }
         ensures stands { (s : Setting) (m : Meter) (hired : contexts.Context) → BenchStands s hired self.old m

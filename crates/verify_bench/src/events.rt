@@ -1,9 +1,6 @@
 //! What the events of a drive do to the meter of the bench.
-ghost use Rattle.std.specs.Prelude.{OnOk};
-ghost use Rattle.meter_model.specs.Interval.{pulses_taken};
-ghost use Rattle.meter_model.specs.Setting.{Setting};
-ghost use Rattle.meter_model.specs.Step.{clock_read, powered_step, step};
-ghost use Rattle.taxi_units.specs.Time.{IsSecond, last_tick};
+ghost use Rattle.{std.specs.Prelude.{OnOk}, meter_model.specs.{Interval.{pulses_taken}, Step.{clock_read}}};
+ghost use Rattle.verify_bench.specs.Common.{IsSecond, Setting, last_tick, powered_step, step};
 ghost use Rattle.verify_bench.specs.Settings.{setting_under};
 
 use crate::bench_meter::BenchMeter;
@@ -14,13 +11,13 @@ use std::sync::ledger::Ledger;
 use tariff_check::Checked;
 use taxi_units::{Event, NoMemory, Operating, Steps};
 
-/// An interval has at most 2,000 pulses.
+/// The most pulses of an interval.
 const INTERVAL_MOST: u32 = 2000;
 
 impl BenchMeter {
     ghost use Rattle.verify_bench.specs.Bench.{GoesThroughEvent, GoesThroughQuietly, IsMeterInRange, MayTake};
 
-    /// An event.
+    /// Carries out an event.
     pub(crate) fn event<L: Ledger>(
         &mut self,
         event: Event,
@@ -46,7 +43,7 @@ impl BenchMeter {
         }
     }
 
-    /// An event while the meter is powered.
+    /// Carries out an event while the meter is powered.
     fn powered_event<L: Ledger>(
         &mut self,
         event: Event,
@@ -80,7 +77,7 @@ impl BenchMeter {
         }
     }
 
-    /// The interval takes the pulses that it has room for.
+    /// Takes the pulses for which the interval has room.
     fn take_pulses(&mut self, pulses: u32)
         requires sound { IsMeterInRange last_tick 0 self.old }
         ensures moves { (s : Setting) → GoesThroughQuietly s (λ s. pulses_taken pulses) self.old self.new }
@@ -89,7 +86,7 @@ impl BenchMeter {
         self.taken += pulses.min(INTERVAL_MOST - self.taken);
     }
 
-    /// The clock is read: in a trip it doesn't go back.
+    /// Reads the clock, which doesn't go back in a trip.
     fn read_clock(&mut self, second: u64)
         requires sound { IsMeterInRange last_tick 0 self.old }
         requires second { IsSecond second }

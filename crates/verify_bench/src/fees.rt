@@ -1,16 +1,14 @@
 //! The fees of a hiring, over the parts of a tariff.
-ghost use Rattle.std.specs.Prelude.{◌≡◌, ◌∷◌, get_or};
-ghost use Rattle.tariff_check.specs.Amounts.{IsFitInitial, place_number};
-ghost use Rattle.tariff_check.specs.SoundTariff.{own_lines, own_values, sound_of};
-ghost use Rattle.tariff_syntax.specs.Tree.{tree_of};
-ghost use Rattle.verify_bench.specs.Fees.{fees_of_hiring, line_in};
+ghost use Rattle.std.specs.Prelude.{◌∷◌, ◌≡◌, get_or};
+ghost use Rattle.{tariff_check.specs.Amounts.{place_number}, verify_bench.specs.Fees.{fees_of_hiring, line_at_place}};
+ghost use Rattle.verify_bench.specs.Common.{IsFitInitial, own_lines, own_values, sound_of, tree_of};
 
 use crate::lookups::value_at;
 use tariff_check::{Checked, Choice, Initial, InitialNumbers};
 use tariff_syntax::Context;
 
-/// The fees of a hiring, with the number of the line of each in the text, counted from 1; the minimum fare has one
-/// where the tariff had a minimum fare at the hiring.
+/// The fees of a hiring, with the number of the line of each in the text, counted from 1. The minimum fare has a line
+/// if the tariff had a minimum fare at the hiring.
 #[derive(Clone, Copy)]
 pub struct HiringFees {
     pub amounts: Initial,
@@ -39,7 +37,7 @@ pub(crate) fn fees_of_hiring(checked: &Checked, x: &Context) -> HiringFees
             minimum: amount_in(minimums, minimum),
         },
         initial_line: line_at(initials, initial),
-        minimum_line: line_in(minimums, minimum),
+        minimum_line: line_at_place(minimums, minimum),
     }
 }
 
@@ -53,7 +51,7 @@ fn amount_in(choices: &[Choice<u64>], place: Option<usize>) -> u64
     }
 }
 
-/// The number of the line of the choice at a place, from 0; 0 where there is none.
+/// The number of the line of the choice at a place, from 0; 0 if there is none.
 fn line_at<V>(choices: &[Choice<V>], place: usize) -> u32
     ensures { result ≡ get_or (own_lines choices.now) place 0 }
 {
@@ -64,8 +62,8 @@ fn line_at<V>(choices: &[Choice<V>], place: usize) -> u32
 }
 
 /// The number of the line of the choice at a place, from 0; none without a place.
-fn line_in<V>(choices: &[Choice<V>], place: Option<usize>) -> Option<u32>
-    ensures { result ≡ line_in (own_lines choices.now) place }
+fn line_at_place<V>(choices: &[Choice<V>], place: Option<usize>) -> Option<u32>
+    ensures { result ≡ line_at_place (own_lines choices.now) place }
 {
     match place {
         None => None,

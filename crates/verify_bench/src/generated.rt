@@ -1,7 +1,6 @@
 //! What a generated drive means.
-ghost use Rattle.std.specs.Prelude.{◌≡◌, ℕ, ◌<◌, ◌≤◌, length, None};
-ghost use Rattle.drive_text.specs.Drive.{bad_at_end, events_in, runs_in};
-ghost use Rattle.drive_text.specs.Ending.{stream_limit};
+ghost use Rattle.std.specs.Prelude.{ℕ, ◌<◌, ◌≡◌, ◌≤◌, None, length};
+ghost use Rattle.{drive_text.specs.Drive.{events_in}, verify_bench.specs.Common.{bad_at_end, runs_in, stream_limit}};
 ghost use Rattle.verify_bench.specs.Generated.{generated, generated_lines};
 
 use crate::writing::Writing;
@@ -20,8 +19,8 @@ pub fn generated_events(seed: u64, trips: u32) -> u64
     writing.events
 }
 
-/// Each line of a generated drive is a line of a drive, and the drive means its lines in turn. It is
-/// shorter than the bytes that are taken of a drive.
+/// A law: each line of a generated drive is a line of a drive, and the drive means its lines in turn. It is shorter
+/// than the bytes that are taken of a drive.
 pub fn generated_drives_mean_their_lines()
     ensures good { (seed trips : ℕ) → trips ≤ 1000 → bad_at_end (generated seed trips) ≡ None }
     ensures lines { (seed trips : ℕ) → trips ≤ 1000 → runs_in (generated seed trips) ≡ generated_lines seed trips }

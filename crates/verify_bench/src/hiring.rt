@@ -1,16 +1,9 @@
 //! A hiring, with the sums of its intervals.
-ghost use Rattle.std.specs.Prelude.{◌≡◌, ◌+◌, ◌^◌, ◌<◌, ◌≤◌, ◌++◌, ◌∷◌, [], OnOk};
-ghost use Rattle.meter_model.specs.KeptTrip.{IsSupplementNumber};
-ghost use Rattle.meter_model.specs.Setting.{Setting};
-ghost use Rattle.meter_model.specs.Supplements.{times};
-ghost use Rattle.meter_model.specs.Trip.{InHired, InStopped, Rest, MeterTrip, with_part};
-ghost use Rattle.tariff_check.specs.Amounts.{IsFitInitial};
-ghost use Rattle.tariff_syntax.specs.declared.context.Context.{Context};
-ghost use Rattle.taxi_units.specs.Time.{IsSecond};
+ghost use Rattle.std.specs.Prelude.{[], ◌++◌, ◌+◌, ◌<◌, ◌^◌, ◌∷◌, ◌≡◌, ◌≤◌, OnOk};
+ghost use Rattle.{meter_model.specs.Trip.{with_part}, verify_bench.specs.Common.{MeterTrip, Rest, Setting, times}};
+ghost use Rattle.verify_bench.specs.Common.{Context, InHired, InStopped, IsFitInitial, IsSecond, IsSupplementNumber};
 ghost use Rattle.verify_bench.specs.Gathered.{no_sums};
-ghost use Rattle.verify_bench.specs.Hirings.{IsHiringOf};
-ghost use Rattle.verify_bench.specs.Limits.{most_charge};
-ghost use Rattle.verify_bench.specs.Pricing.{IsPriceOf};
+ghost use Rattle.verify_bench.specs.{Hirings.{IsHiringOf}, IntervalPrice.{IsPriceOf}, Limits.{most_charge}};
 
 use crate::explained::Sums;
 use crate::fees::HiringFees;
@@ -59,7 +52,7 @@ impl Hiring {
         }
     }
 
-    /// An interval in Hired more, with its price.
+    /// Adds an interval in Hired, with its price.
     pub(crate) fn add_hired(&mut self, pulses: u32, price: Price) -> Result<(), NoMemory>
         requires whole { IsWhole self.old }
         requires price { (pulses ≤ 2000) × (price.charge ≤ most_charge) × (price.place < 64) }
@@ -82,7 +75,7 @@ impl Hiring {
         Ok(())
     }
 
-    /// An interval in Stopped more.
+    /// Adds an interval in Stopped.
     pub(crate) fn add_stopped(&mut self, pulses: u32)
         requires whole { IsWhole self.old }
         requires slow { pulses ≤ 2000 }
@@ -103,7 +96,7 @@ impl Hiring {
         self.whole = self.whole.with(sums);
     }
 
-    /// The pulses of an interval that was left unfinished.
+    /// Adds the pulses of an interval that was left unfinished.
     pub(crate) fn add_rest(&mut self, pulses: u32)
         requires whole { IsWhole self.old }
         requires slow { pulses ≤ 2000 }
@@ -124,7 +117,7 @@ impl Hiring {
         self.whole = self.whole.with(sums);
     }
 
-    /// A supplement more.
+    /// Adds a supplement.
     pub(crate) fn add_extra(&mut self, number: u8) -> Result<(), NoMemory>
         requires whole { IsWhole self.old }
         requires number { IsSupplementNumber number }

@@ -1,9 +1,6 @@
 //! Judges readings. The permissible errors are this project's own.
-ghost use Rattle.std.specs.Prelude.{◌≡◌, ℕ, ◌<◌, ◌↔◌};
-ghost use Rattle.verify_bench.specs.declared.expected.Expected.{Expected};
-ghost use Rattle.verify_bench.specs.declared.judging.Verdict.{Verdict};
-ghost use Rattle.verify_bench.specs.declared.reading.Reading.{Reading};
-ghost use Rattle.verify_bench.specs.Verdicts.{verdict_of, IsVerdict};
+ghost use Rattle.std.specs.Prelude.{ℕ, ◌<◌, ◌↔◌, ◌≡◌};
+ghost use Rattle.verify_bench.specs.{Common.{Expected, Reading, Verdict}, Verdicts.{IsVerdict, verdict_of}};
 ghost use Rattle.verify_bench.specs.VerdictStages.{within_test};
 
 use crate::expected::Expected;
@@ -74,8 +71,8 @@ fn is_permitted(parts: u128, least: u128, expected: u128, read: u128) -> bool
     error <= expected / parts || error <= least
 }
 
-/// A verdict is the first of fare, distance and time that is outside its permissible error, and a pass
-/// where none is.
+/// A law: a verdict is the first of fare, distance and time that is outside its permissible error, and a pass if none
+/// is.
 pub fn verdicts_name_the_first_fault()
     ensures { (expected : Expected) (reading : Reading) (step : ℕ) (verdict : Verdict)
         → (verdict_of expected reading step ≡ verdict) ↔ IsVerdict expected reading step verdict }

@@ -1,14 +1,10 @@
 //! What keys do to the meter of the bench.
 #![tactic(auto, using(crate::proofs::Benches::looser))]
 
-ghost use Rattle.std.specs.Prelude.{◌≡◌, ◌≤◌, Some, OnOk};
-ghost use Rattle.meter_model.specs.KeptTrip.{IsSupplementNumber};
-ghost use Rattle.meter_model.specs.Keys.{extra_added, latched, position_set, zone_set};
-ghost use Rattle.meter_model.specs.Setting.{Setting};
-ghost use Rattle.seal_record.specs.declared.params.Params.{Params};
-ghost use Rattle.tariff_check.specs.SoundTariff.{supplement_numbered};
-ghost use Rattle.taxi_units.specs.Time.{last_tick};
-ghost use Rattle.taxi_units.specs.declared.event.Operating.TheVariants.{ForHire};
+ghost use Rattle.std.specs.Prelude.{◌≡◌, ◌≤◌, OnOk, Some};
+ghost use Rattle.{seal_record.specs.declared.params.Params.{Params}, verify_bench.specs.Common.{supplement_numbered}};
+ghost use Rattle.meter_model.specs.Keys.{latched, position_set, zone_set};
+ghost use Rattle.verify_bench.specs.Common.{ForHire, IsSupplementNumber, Setting, extra_added, last_tick};
 ghost use Rattle.verify_bench.specs.Settings.{setting_under};
 
 use crate::bench_meter::BenchMeter;
@@ -22,9 +18,9 @@ use tariff_check::{Checked, Supplement};
 use taxi_units::{HIRINGS_END, Key, Kind, NoMemory, Operating, Steps};
 
 impl BenchMeter {
-    ghost use Rattle.verify_bench.specs.Bench.{GoesThroughKey, GoesThroughQuietly, Hires, IsMeterInRange};
+    ghost use Rattle.verify_bench.specs.Bench.{GoesThroughHiring, GoesThroughKey, GoesThroughQuietly, IsMeterInRange};
 
-    /// A key waits, where none does.
+    /// Lets a key wait, if none does.
     pub(crate) fn latch_key(&mut self, key: Key)
         requires sound { IsMeterInRange last_tick 0 self.old }
         ensures moves { (s : Setting) → GoesThroughQuietly s (λ s m. latched m.latch key m) self.old self.new }
@@ -36,7 +32,7 @@ impl BenchMeter {
         }
     }
 
-    /// A trip begins.
+    /// Begins a trip.
     pub(crate) fn hire<L: Ledger>(
         &mut self,
         alloc: Global,
@@ -46,7 +42,7 @@ impl BenchMeter {
     )
         requires sound { IsMeterInRange last_tick 0 self.old }
         requires for_hire { self.old.operating ≡ ForHire }
-        ensures moves { Hires (setting_under checked.now params.now) self.old self.new }
+        ensures moves { GoesThroughHiring (setting_under checked.now params.now) self.old self.new }
         ensures sound { IsMeterInRange last_tick 0 self.new }
     {
         if self.number >= HIRINGS_END {
@@ -59,7 +55,7 @@ impl BenchMeter {
         self.roam = 0;
     }
 
-    /// A tariff position is set.
+    /// Sets a tariff position.
     fn set_position(&mut self, number: u8, checked: &Checked)
         requires sound { IsMeterInRange last_tick 0 self.old }
         ensures moves { (params : Params) → GoesThroughQuietly (setting_under checked.now params)
@@ -71,7 +67,7 @@ impl BenchMeter {
         }
     }
 
-    /// A zone is set.
+    /// Sets a zone.
     fn set_zone(&mut self, number: u8, checked: &Checked)
         requires sound { IsMeterInRange last_tick 0 self.old }
         ensures moves { (params : Params) → GoesThroughQuietly (setting_under checked.now params)
@@ -83,7 +79,7 @@ impl BenchMeter {
         }
     }
 
-    /// A supplement is added to the trip, where the tariff has it, up to its most.
+    /// Adds a supplement to the trip, up to its most, if the tariff has it.
     fn add_supplement(&mut self, number: u8, checked: &Checked) -> Result<(), NoMemory>
         requires sound { IsMeterInRange last_tick 0 self.old }
         ensures moves { OnOk result ((params : Params) → GoesThroughQuietly (setting_under checked.now params)
@@ -96,7 +92,7 @@ impl BenchMeter {
         }
     }
 
-    /// It is added up to its most.
+    /// Adds it up to its most.
     fn add_up_to(&mut self, number: u8, supplement: Supplement) -> Result<(), NoMemory>
         requires sound { IsMeterInRange last_tick 0 self.old }
         requires number { IsSupplementNumber number }
@@ -117,7 +113,7 @@ impl BenchMeter {
         }
     }
 
-    /// A key acts.
+    /// Does what a key does as it acts.
     pub(crate) fn act<L: Ledger>(
         &mut self,
         key: Key,

@@ -1,5 +1,5 @@
-//! The verification bench: what the hirings of a drive should come to, by the definition's plain program;
-//! readings that were taken at a meter, read and judged against that; and a generator of large drives.
+//! The verification bench: what the hirings of a drive should come to, by the definition's plain program; readings of a
+//! meter, read and judged against that; and a generator of large drives.
 #![tactic(auto)]
 
 mod bench_meter;
@@ -19,7 +19,7 @@ mod passing;
 mod pricing;
 mod reading;
 mod readings;
-mod receipts;
+mod receipt_laws;
 mod remaining;
 mod reporting;
 mod row;
@@ -30,7 +30,7 @@ mod table;
 mod telling;
 mod ticking;
 mod trip;
-mod wholes;
+mod whole_laws;
 mod writing;
 
 pub use expected::Expected;
@@ -43,7 +43,7 @@ pub use judging::{Verdict, judge, verdicts_name_the_first_fault};
 pub use passing::{do_all_pass, readings_pass_where_each_row_does};
 pub use reading::{Reading, ReadingsFault};
 pub use readings::{read_readings, texts_have_one_reading};
-pub use receipts::expected_hirings_are_the_receipts;
+pub use receipt_laws::expected_hirings_are_the_receipts;
 pub use reporting::report;
 pub use speeds::cross_overs;
-pub use wholes::{explanations_add_up, explanations_have_the_receipts};
+pub use whole_laws::{explanations_add_up, explanations_have_the_receipts};

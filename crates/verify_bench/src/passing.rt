@@ -1,8 +1,6 @@
 //! Whether readings pass.
-ghost use Rattle.std.specs.Prelude.{◌≡◌, ℕ, ◌↔◌, List, true};
-ghost use Rattle.verify_bench.specs.declared.expected.Expected.{Expected};
-ghost use Rattle.verify_bench.specs.declared.reading.Reading.{Reading};
-ghost use Rattle.verify_bench.specs.Passing.{EachRowPasses};
+ghost use Rattle.std.specs.Prelude.{ℕ, ◌↔◌, ◌≡◌, List, true};
+ghost use Rattle.verify_bench.specs.{Common.{Expected, Reading}, PassedReports.{EachRowPasses}};
 ghost use Rattle.verify_bench.specs.PassingStages as stages;
 
 use crate::expected::Expected;
@@ -36,7 +34,7 @@ fn does_place_pass(expected: Option<Expected>, reading: Option<Reading>, step: u
     }
 }
 
-/// Readings pass exactly where the report has the verdict `PASS` in each of its rows.
+/// A law: readings pass exactly if the report has the verdict `PASS` in each of its rows.
 pub fn readings_pass_where_each_row_does()
     ensures { (step : ℕ) (expected : List Expected) (readings : List Reading)
         → (stages.do_all_pass step expected readings ≡ true) ↔ EachRowPasses step expected readings }

@@ -1,9 +1,7 @@
 //! The price of an interval, over the parts of a tariff.
-ghost use Rattle.std.specs.Prelude.{◌≡◌, ◌*◌, ◌^◌, ◌<◌, ◌≤◌, nat_lt};
-ghost use Rattle.tariff_check.specs.Sound.{IsSoundRate};
-ghost use Rattle.verify_bench.specs.Limits.{most_charge};
-ghost use Rattle.verify_bench.specs.Pricing.{IsPriceBy, IsPriceOf};
-ghost use Rattle.verify_bench.specs.Settings.{setting_under};
+ghost use Rattle.std.specs.Prelude.{◌*◌, ◌<◌, ◌^◌, ◌≡◌, ◌≤◌, nat_lt};
+ghost use Rattle.verify_bench.specs.{Common.{IsSoundRate}, Limits.{most_charge}};
+ghost use Rattle.verify_bench.specs.{IntervalPrice.{IsPriceBy, IsPriceOf}, Settings.{setting_under}};
 
 use crate::explained::Way;
 use crate::lookups::rate_at;
@@ -34,7 +32,7 @@ pub(crate) fn price_of(checked: &Checked, params: &Params, x: &Context, pulses: 
     Price { place, ..price }
 }
 
-/// The price by the numbers of a rate, as if it were the first.
+/// The price by the numbers of a rate, which counts as the first.
 fn price_by(mode: Mode, k: Constant, common: u64, rate: RateNumbers, pulses: u32) -> Price
     requires rate { IsSoundRate rate }
     requires common { common ≤ 10 ^ 18 }

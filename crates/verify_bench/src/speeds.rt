@@ -1,21 +1,18 @@
 //! Writes the cross-over speeds of a tariff.
-ghost use Rattle.std.specs.Prelude.{◌≡◌, ◌+◌, ◌≤◌, ◌++◌, All, IfOk};
-ghost use Rattle.arrayvec.specs.ArrayVec.{array_vec_len};
-ghost use Rattle.taxi_units.specs.Line.{line_size};
-ghost use Rattle.tariff_check.specs.Sound.{IsSoundRate};
-ghost use Rattle.tariff_check.specs.SoundTariff.{own_values, sound_of};
-ghost use Rattle.tariff_syntax.specs.Tree.{tree_of};
-ghost use Rattle.verify_bench.specs.CrossOvers.{cross_over_line, cross_over_lines, cross_over_of, cross_overs_text, speed_text};
+ghost use Rattle.std.specs.Prelude.{◌++◌, ◌+◌, ◌≡◌, ◌≤◌, All, IfOk};
+ghost use Rattle.{arrayvec.specs.ArrayVec.{array_vec_len}, taxi_units.specs.Line.{line_size}};
+ghost use Rattle.verify_bench.specs.{Common.{IsSoundRate, own_values, sound_of, tree_of}, CrossOvers.{speed_text}};
+ghost use Rattle.verify_bench.specs.CrossOvers.{cross_over_line, cross_over_lines, cross_over_of, cross_overs_text};
 
 use drive_modes::cross_over;
 use std::alloc::Global;
 use tariff_check::{Checked, Choice, RateNumbers};
 use taxi_units::{Line, NoMemory, push_bytes, push_number};
 
-/// A line `CROSSOVER i v m/h` for each rate line of a tariff, the i-th in their order, whose cross-over
-/// speed is v whole metres an hour, rounded down; `CROSSOVER i none` where its distance costs nothing.
+/// The lines of the cross-over speeds: `CROSSOVER i v m/h` for the i-th rate line of a tariff, whose speed is v whole
+/// metres an hour, rounded down; `CROSSOVER i none` if its distance costs nothing.
 ///
-/// `NoMemory` only where memory ran out. The form is this project's own.
+/// `NoMemory`: only if memory ran out. The form is this project's own.
 pub fn cross_overs(alloc: Global, checked: &Checked) -> Result<Vec<u8>, NoMemory>
     ensures { IfOk result (λ text. text.items ≡ cross_overs_text (sound_of (tree_of checked.now))) }
 {

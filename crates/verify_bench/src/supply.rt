@@ -1,19 +1,10 @@
 //! What the supply does to the meter of the bench.
-ghost use Rattle.std.specs.Prelude.{◌≡◌, ◌+◌, ◌<◌, ◌&&◌, nat_le, None, OnOk};
-ghost use Rattle.meter_model.specs.Meter.{Meter, held};
-ghost use Rattle.meter_model.specs.Trip.{MeterTrip, held_trip};
-ghost use Rattle.meter_model.specs.Run.{ended};
-ghost use Rattle.meter_model.specs.Setting.{Setting};
-ghost use Rattle.meter_model.specs.Supply.{aborted, hold_taken, is_stopped, held_or_closed, powered, resumed};
-ghost use Rattle.meter_model.specs.Supply.{supply_came, supply_dropped};
-ghost use Rattle.tariff_syntax.specs.declared.context.Context.{Context};
-ghost use Rattle.taxi_units.specs.Limits.{last_number};
-ghost use Rattle.taxi_units.specs.Time.{IsSecond, last_tick};
-ghost use Rattle.taxi_units.specs.declared.event.Event.TheVariants.{Down};
-ghost use Rattle.totals_record.specs.declared.trip.Trip.{Trip};
+ghost use Rattle.std.specs.Prelude.{◌&&◌, ◌+◌, ◌<◌, ◌≡◌, None, OnOk, nat_le};
+ghost use Rattle.meter_model.specs.{Meter.{held}, Supply.{aborted, is_stopped, resumed, supply_came}, Trip.{held_trip}};
 ghost use Rattle.verify_bench.specs.Bench.{held_of};
-ghost use Rattle.verify_bench.specs.Settings.{setting_under};
-ghost use Rattle.verify_bench.specs.Supplied.{waking};
+ghost use Rattle.verify_bench.specs.Common.{Context, Down, IsSecond, Meter, MeterTrip, Setting, Trip, ended};
+ghost use Rattle.verify_bench.specs.Common.{held_or_closed, hold_taken, last_number, last_tick, powered};
+ghost use Rattle.verify_bench.specs.{Common.{supply_dropped}, Settings.{setting_under}, Supplied.{waking}};
 
 use crate::bench_meter::{BenchMeter, SavedState};
 use crate::explained::Explained;
@@ -24,9 +15,10 @@ use tariff_check::Checked;
 use taxi_units::{Kind, LAST_NUMBER, NoMemory, Operating, Steps};
 
 impl BenchMeter {
-    ghost use Rattle.verify_bench.specs.Bench.{GoesThrough, GoesThroughEvent, GoesThroughQuietly, IsMeterInRange, Moves, BenchStands};
+    ghost use Rattle.verify_bench.specs.Bench.{BenchStands, GoesThrough, GoesThroughEvent, GoesThroughQuietly};
+    ghost use Rattle.verify_bench.specs.Bench.{IsMeterInRange, Moves};
 
-    /// The supply comes.
+    /// Lets the supply come.
     pub(crate) fn come_up<L: Ledger>(
         &mut self,
         second: u64,
@@ -46,7 +38,7 @@ impl BenchMeter {
         self.take_hold(second, alloc, checked, params, found, steps)
     }
 
-    /// It is powered, and still off.
+    /// Powers the meter, which is still off.
     fn wake(&mut self, second: u64)
         requires sound { IsMeterInRange last_tick 0 self.old }
         requires second { IsSecond second }
@@ -64,7 +56,7 @@ impl BenchMeter {
         self.roam = 0;
     }
 
-    /// What becomes of the held trip.
+    /// Resumes or aborts the held trip.
     fn take_hold<L: Ledger>(
         &mut self,
         second: u64,
@@ -100,7 +92,7 @@ impl BenchMeter {
         }
     }
 
-    /// A held trip goes on.
+    /// Resumes a held trip.
     fn resume(&mut self, held: SavedState)
         requires sound { IsMeterInRange last_tick 0 self.old }
         ensures moves { (s : Setting) (trip : Trip) → held ≡ held_of trip
@@ -116,7 +108,7 @@ impl BenchMeter {
         self.zone = held.zone;
     }
 
-    /// A held trip is closed at its position.
+    /// Closes a held trip at its position.
     fn abort<L: Ledger>(
         &mut self,
         held: SavedState,
@@ -148,7 +140,7 @@ impl BenchMeter {
         Ok(())
     }
 
-    /// The supply drops.
+    /// Lets the supply drop.
     pub(crate) fn go_down<L: Ledger>(
         &mut self,
         alloc: Global,
@@ -169,7 +161,7 @@ impl BenchMeter {
         Ok(())
     }
 
-    /// A trip is held, or closed; without one roaming is entered.
+    /// Holds or closes the trip; without one it enters roaming.
     fn hold_or_close<L: Ledger>(
         &mut self,
         alloc: Global,
@@ -207,7 +199,7 @@ impl BenchMeter {
         }
     }
 
-    /// Without a trip roaming is entered, where there is any.
+    /// Without a trip it enters roaming, if there is any.
     #[tactic(auto, using(crate::proofs::Benches::sound_without))]
     fn enter_roaming_if_any(&mut self)
         requires sound { IsMeterInRange last_tick 1 self.old }
@@ -221,7 +213,7 @@ impl BenchMeter {
         self.enter_roaming();
     }
 
-    /// The trip is held.
+    /// Holds the trip.
     fn hold(&mut self)
         requires sound { IsMeterInRange last_tick 1 self.old }
         requires room { self.old.number < last_number }
@@ -238,7 +230,7 @@ impl BenchMeter {
         self.number = self.number.saturating_add(1);
     }
 
-    /// The drive ends: the supply drops, where the meter is powered.
+    /// Ends the drive: the supply drops, if the meter is powered.
     pub(crate) fn drop_at_end<L: Ledger>(
         &mut self,
         alloc: Global,
@@ -267,7 +259,7 @@ fn is_stopped(operating: Operating) -> bool
     matches!(operating, Operating::Stopped)
 }
 
-/// Whether the supply was away for the hold at most.
+/// Whether the supply was away no longer than the hold.
 fn is_within(held: SavedState, second: u64, hold: u16) -> bool
     ensures { result ≡ nat_le held.saved second && nat_le second (held.saved + hold) }
 {

@@ -1,13 +1,12 @@
 //! The table of what the rates of a tariff charged.
-ghost use Rattle.std.specs.Prelude.{◌≡◌, ◌≢◌, ℕ, ◌<◌, OnOk};
-ghost use Rattle.std.specs.Vec.{vec_len};
+ghost use Rattle.std.specs.{Prelude.{ℕ, ◌<◌, ◌≡◌, ◌≢◌, OnOk}, Vec.{vec_len}};
 ghost use Rattle.verify_bench.specs.Gathered.{HaveRoom, rate_at, rate_sums_with};
 
 use crate::explained::{Sums, Way};
 use crate::sums::RateSums;
 use taxi_units::NoMemory;
 
-/// An interval more that the rate at a place charged in a way.
+/// Adds an interval that the rate at a place charged in a way.
 pub(crate) fn add_to_table(
     table: &mut Vec<RateSums>,
     place: usize,

@@ -1,19 +1,11 @@
 //! What a hiring that is closed comes to: its receipt, and why its fare is what it is.
-ghost use Rattle.std.specs.Prelude.{◌≡◌, ℕ, ◌≤◌, ◌++◌, List, Some, IfOk, OnOk};
-ghost use Rattle.meter_model.specs.Closing.{receipt_of};
-ghost use Rattle.meter_model.specs.Setting.{Setting, stamp_at};
-ghost use Rattle.meter_model.specs.Supplements.{amount_in, amounts_of};
-ghost use Rattle.meter_model.specs.Trip.{Part, MeterTrip};
-ghost use Rattle.tariff_check.specs.SoundTariff.{own_lines, sound_of};
-ghost use Rattle.tariff_check.specs.Parts.{supplement_of};
-ghost use Rattle.tariff_syntax.specs.Tree.{tree_of};
-ghost use Rattle.tariff_syntax.specs.declared.context.Context.{Context};
-ghost use Rattle.taxi_units.specs.Time.{IsSecond, longest_trip};
-ghost use Rattle.verify_bench.specs.Explaining.{explanation, explanation_of, taken_if, taken_of};
-ghost use Rattle.verify_bench.specs.Gathered.{IsTableOf, all_ways};
-ghost use Rattle.verify_bench.specs.Groups.{group_if, groups_at, groups_from};
-ghost use Rattle.verify_bench.specs.Hirings.{IsHiringOf, IsWhole};
+ghost use Rattle.std.specs.Prelude.{ℕ, ◌++◌, ◌≡◌, ◌≤◌, IfOk, List, OnOk, Some};
+ghost use Rattle.{meter_model.specs.Setting.{stamp_at}, verify_bench.specs.Groups.{group_if, groups_at, groups_from}};
+ghost use Rattle.verify_bench.specs.Common.{Context, IsSecond, MeterTrip, Part, Setting, amount_in, amounts_of};
+ghost use Rattle.verify_bench.specs.Common.{longest_trip, own_lines, receipt_of, sound_of, supplement_of, tree_of};
+ghost use Rattle.verify_bench.specs.{Gathered.{IsTableOf, all_ways}, Hirings.{IsHiringOf, IsWhole}};
 ghost use Rattle.verify_bench.specs.Settings.{setting_under};
+ghost use Rattle.verify_bench.specs.TripExplanations.{explanation, explanation_of, taken_if, taken_of};
 
 use crate::explained::{Explained, Group, Sums, Taken, Way};
 use crate::fares::{fare_shown, steps_shown};
@@ -27,8 +19,7 @@ use std::sync::ledger::Ledger;
 use tariff_check::{Checked, Choice, RateNumbers};
 use taxi_units::{Kind, NoMemory, Receipt, Stamp, Steps};
 
-/// How a hiring is closed: its kind, its second, the tariff position, and the store's number behind the
-/// entry.
+/// How a hiring is closed: its kind, its second, the tariff position, and the store's number after the entry.
 #[derive(Clone, Copy)]
 pub(crate) struct Closing {
     pub(crate) kind: Kind,
@@ -124,7 +115,7 @@ fn stamp<L: Ledger>(params: &Params, second: u64, steps: &mut Steps<L>) -> Stamp
     }
 }
 
-/// The groups of the rates, of which a table has the sums.
+/// The groups of the rates, from a table of their sums.
 fn groups(
     alloc: Global,
     rates: &[Choice<RateNumbers>],
@@ -150,7 +141,7 @@ fn sums_at(table: &[RateSums], place: usize) -> RateSums
     }
 }
 
-/// The groups of a rate line.
+/// Adds the groups of a rate line.
 fn put_groups(groups: &mut Vec<Group>, line: u32, sums: RateSums) -> Result<(), NoMemory>
     ensures { OnOk result ((s : Setting) (parts : List Part) (place : ℕ) → sums ≡ all_ways s parts place
         → groups.new.items ≡ groups.old.items ++ groups_at s parts place line) }
@@ -160,7 +151,7 @@ fn put_groups(groups: &mut Vec<Group>, line: u32, sums: RateSums) -> Result<(), 
     put_group(groups, line, Way::Both, sums.both)
 }
 
-/// A group, where it has an interval.
+/// Adds a group, if it has an interval.
 fn put_group(groups: &mut Vec<Group>, line: u32, way: Way, sums: Sums) -> Result<(), NoMemory>
     ensures { OnOk result (groups.new.items ≡ groups.old.items ++ group_if line way sums) }
 {
@@ -182,7 +173,7 @@ fn taken(alloc: Global, hiring: &Hiring, checked: &Checked) -> Result<Vec<Taken>
     Ok(taken)
 }
 
-/// The supplement of a number, where it was added.
+/// Adds the supplement of a number, if it was taken.
 fn put_taken(
     taken: &mut Vec<Taken>,
     number: u8,
@@ -205,7 +196,7 @@ fn put_taken(
     taken.push(taken_now).map_err(|_| NoMemory)
 }
 
-/// What a supplement costs, 0 where the tariff has none of its number.
+/// What a supplement costs, 0 if the tariff has none of its number.
 fn amount_of(number: u8, checked: &Checked) -> u64
     ensures amount { result ≡ amount_in (supplement_of (tree_of checked.now).lines number) }
     ensures most { result ≤ 1000000 }

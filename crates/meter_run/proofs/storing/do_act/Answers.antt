@@ -1,17 +1,9 @@
-use Rattle.std.proofs.Common.{[], ◌∷◌, All, ap, subst, sym, refl}
-use Rattle.std.proofs.lemmas.List.Elements.{All-head}
-use Rattle.receipt_text.specs.Receipts.{receipt_text}
-use Rattle.receipt_text.specs.SealParts.{part_of}
-use Rattle.receipt_text.specs.Texts.{display_text, refusal_text}
-use Rattle.meter_states.specs.Acts.{IsLawfulAct}
-use Rattle.meter_model.specs.declared.act.Act.{Act}
-use Rattle.meter_model.specs.declared.act.Act.TheVariants.{Enter, Hold}
-use Rattle.meter_run.specs.Commits.{after_act, IsFor}
-use Rattle.meter_run.specs.Deeds.{Does, act_text}
-use Rattle.meter_run.proofs.Committing.{fits_after}
-use Rattle.meter_run.proofs.Going.{on_ok}
-use Rattle.meter_run.proofs.Leaves.{agrees_kept, beside_kept, print_point}
-use Rattle.meter_run.proofs.Doing.{commit_steps, leaves_as, print_steps, prints_as, prints_none}
+use Rattle.std.proofs.{Common.{[], ◌∷◌, All, ap, refl, subst, sym}, lemmas.List.Elements.{All-head}}
+use Rattle.{receipt_text.specs.Receipts.{receipt_text}, meter_run.specs.Commits.{IsFor, after_act}}
+use Rattle.meter_run.specs.Common.{Act, Enter, Hold, IsLawfulAct, display_text, part_of_seal, refusal_text}
+use Rattle.meter_run.{specs.Deeds.{Does, act_text}, proofs.EventLists.{on_ok}}
+use Rattle.meter_run.proofs.ActsOnStore.{commit_steps, leaves_as, print_steps, prints_as, prints_none}
+use Rattle.meter_run.proofs.{BoardDeeds.{agrees_kept, beside_kept, print_point}, CommittedStates.{fits_after}}
 use Rattle.meter_run.proofs.storing.do_act.Goals as goal
 
 pub returns-in-Show-clause-agrees : goal.returns-in-Show-clause-agrees
@@ -54,7 +46,7 @@ pub returns-in-Receipt-clause-points : goal.returns-in-Receipt-clause-points
 returns-in-Receipt-clause-points g c = λ told tables may.
     let known = c.args.known.now in
     print_point g.B.Board tables c.args.seal.now c.args.board.now c.print_receipt.new.board known.durable known.place
-    (Does c.args.act.now) (receipt_text c.in-Receipt.receipt (part_of c.args.seal.now))
+    (Does c.args.act.now) (receipt_text c.in-Receipt.receipt (part_of_seal c.args.seal.now))
     (ap (act_text c.args.seal.now) c.in-Receipt.is)
     (may.agrees.settled told) may.agrees.fits c.print_receipt.ensures.printed.store
     c.print_receipt.ensures.printed.leaves c.print_receipt.ensures.printed.begun

@@ -1,12 +1,9 @@
-use Rattle.std.proofs.Common.{◌∙◌, [], Err, refl, ap, arith, rules}
-use Rattle.call_ends.proofs.Laws.{ends_apart, no_fault, read_fault-text, stops_by, unless_read, carries-said}
-use Rattle.call_ends.proofs.Laws.{course-refused}
-use Rattle.call_ends.specs.Ending.{ended_for}
+use Rattle.std.proofs.Common.{[], ◌∙◌, Err, ap, arith, refl, rules}
+use Rattle.call_ends.proofs.Laws.{carries-said, course-refused, ends_apart, no_fault, read_fault-text, stops_by}
+use Rattle.{call_ends.proofs.Laws.{unless_read}, tariff_commands.proofs.TariffAnswers.{refused-check}}
+use Rattle.tariff_commands.specs.{Check.{check_command}, Common.{ended_for, tariff_in}}
 use Rattle.call_ends.specs.declared.ending.Ended.TheVariants as ended
 use Rattle.call_ends.specs.declared.tariff.TextFault.TheVariants as texts
-use Rattle.tariff_commands.specs.Check.{check_command}
-use Rattle.call_ends.specs.Tariffs.{tariff_in}
-use Rattle.tariff_commands.proofs.Tabling.{refused-check}
 use Rattle.tariff_commands.proofs.check.check_tariff.Goals as goal
 
 pub returns-in-Ok : goal.returns-in-Ok

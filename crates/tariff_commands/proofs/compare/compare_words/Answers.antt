@@ -1,15 +1,9 @@
-use Rattle.std.proofs.Common.{◌≡◌, ◌≢◌, ◌∙◌, ℕ, List, Err, refl, sym, ap, subst, arith}
-use Rattle.tariff_syntax.specs.Tree.{tree_of}
-use Rattle.outside.specs.Faults.{Rose}
-use Rattle.outside.proofs.Laws.{rose_behind}
-use Rattle.tariff_commands.specs.CompareSteps.{IsNotCompared, IsNoTariff}
-use Rattle.call_ends.specs.Tariffs.{tariff_in}
-use Rattle.tariff_commands.specs.declared.compare.CompareFault.{CompareFault}
+use Rattle.std.proofs.Common.{ℕ, ◌∙◌, ◌≡◌, ◌≢◌, Err, List, ap, arith, refl, subst, sym}
+use Rattle.{outside.proofs.Laws.{rose_behind}, call_ends.proofs.Laws.{no_fault, same_fault}}
+use Rattle.tariff_commands.specs.Common.{CompareFault, Refusal, Rose, TextFault, tariff_in, tree_of}
+use Rattle.tariff_commands.specs.CompareSteps.{IsNoTariff, IsNotCompared}
 use Rattle.tariff_commands.specs.declared.compare.CompareFault.TheVariants as compares
-use Rattle.call_ends.specs.declared.tariff.Refusal.{Refusal}
-use Rattle.call_ends.specs.declared.tariff.TextFault.{TextFault}
 use Rattle.call_ends.specs.declared.tariff.TextFault.TheVariants as texts
-use Rattle.call_ends.proofs.Laws.{no_fault, same_fault}
 use Rattle.tariff_commands.proofs.compare.compare_words.Goals as goal
 
 two-one : ◌≢◌ {A = ℕ} 2 1
@@ -25,7 +19,7 @@ no_tariff text failed texts.ReadFault read refused = read refl
 no_tariff text failed (texts.Refused why) read refused = refused why refl
 no_tariff text failed texts.NoMemory read refused = tt
 
--- two faults are of one tariff where they are the same, and the faults of the two tariffs are none of one another
+-- two faults are of one tariff if they are the same, and the faults of the two tariffs are none of one another
 first_is : (fault other : TextFault) → compares.Tariff fault ≡ compares.Tariff other → fault ≡ other
 first_is fault other e = cc
 

@@ -1,17 +1,13 @@
-use Rattle.std.proofs.Common.{◌∙◌, ◌+◌, ◌≤◌, ℕ, List, [], Err, refl, sym, ap, subst, inl, inr, arith}
-use Rattle.std.specs.Prelude.{is_err}
-use Rattle.outside.proofs.Laws.{keeps_none}
+use Rattle.{std.specs.Prelude.{is_err}, outside.proofs.Laws.{keeps_none}}
+use Rattle.std.proofs.Common.{[], ℕ, ◌+◌, ◌∙◌, ◌≤◌, Err, List, ap, arith, inl, inr, refl, subst, sym}
+use Rattle.call_ends.{specs.Ending.{EndsOnDevices}, proofs.Laws.{carries-kept, course-unprinted, no_fault, same_fault}}
+use Rattle.tariff_commands.specs.{Common.{Ended, pieces_of}, CompareSteps.{IsCompared, ended_uncompared}}
+use Rattle.tariff_commands.specs.Compare.{compare_command}
+use Rattle.tariff_commands.proofs.ComparedTariffs.{course-compared, course-cut, course-uncompared, not_board-uncompared}
+use Rattle.tariff_commands.proofs.ComparedTariffs.{not_fault-comparing, steps-compared, stops-comparing}
 use Rattle.tariff_commands.specs.declared.compare.CompareFault.TheVariants as faults
-use Rattle.call_ends.specs.declared.ending.Ended.{Ended}
 use Rattle.call_ends.specs.declared.ending.Ended.TheVariants as ended
 use Rattle.call_ends.specs.declared.tariff.TextFault.TheVariants as texts
-use Rattle.tariff_commands.specs.Compare.{compare_command}
-use Rattle.tariff_commands.specs.CompareSteps.{IsCompared, ended_uncompared}
-use Rattle.call_ends.specs.Ending.{EndsOnDevices}
-use Rattle.call_ends.specs.Pieces.{pieces_of}
-use Rattle.call_ends.proofs.Laws.{carries-kept, course-unprinted, no_fault, same_fault}
-use Rattle.tariff_commands.proofs.Comparing.{course-compared, course-cut, course-uncompared, not_board-uncompared}
-use Rattle.tariff_commands.proofs.Comparing.{not_fault-comparing, steps-compared, stops-comparing}
 use Rattle.tariff_commands.proofs.compare.print_comparison.Goals as goal
 
 -- a tariff wasn't read

@@ -1,6 +1,5 @@
-use Rattle.std.proofs.Common.{◌∙◌, ℕ, List, subst}
-use Rattle.tariff_commands.specs.FaultsSteps.{IsFoundIn}
-use Rattle.tariff_commands.proofs.Finding.{file_ended, long_found}
+use Rattle.std.proofs.Common.{ℕ, ◌∙◌, List, subst}
+use Rattle.tariff_commands.{specs.FaultsSteps.{IsFoundIn}, proofs.FoundFaults.{file_ended, long_found}}
 use Rattle.tariff_commands.proofs.faults.found_in_word.Goals as goal
 
 pub returns-in-Ok-found_in_text-clause-found : goal.returns-in-Ok-found_in_text-clause-found

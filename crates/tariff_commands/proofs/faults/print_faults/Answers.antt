@@ -1,20 +1,12 @@
-use Rattle.std.proofs.Common.{◌∙◌, ◌+◌, ◌≤◌, ℕ, List, [], Err, refl, sym, ap, subst, arith}
-use Rattle.std.specs.Prelude.{is_err}
-use Rattle.outside.proofs.Laws.{keeps_none}
+use Rattle.std.{specs.Prelude.{is_err}, proofs.Common.{[], ℕ, ◌+◌, ◌∙◌, ◌≤◌, Err, List, ap, arith, refl, subst, sym}}
+use Rattle.{outside.proofs.Laws.{keeps_none}, call_ends.proofs.Laws.{stops_by, unless_read}}
+use Rattle.call_ends.proofs.Laws.{board_not_read, carries-kept, cause_board, course-unprinted, ends_apart, no_fault}
+use Rattle.tariff_commands.specs.{Common.{Found, pieces_of}, Faults.{faults_command}}
+use Rattle.tariff_commands.specs.FaultsSteps.{EndsFile, IsFoundIn, IsRefusedText, ended_for_find}
+use Rattle.tariff_commands.proofs.FoundFaults.{course-faulty, course-faulty_begun, course-sound, course-unfound}
+use Rattle.tariff_commands.proofs.FoundFaults.{not_board-find, read_fault-find, shown_refused}
 use Rattle.call_ends.specs.declared.ending.Ended.TheVariants as ended
 use Rattle.tariff_commands.specs.declared.faults.FindFault.TheVariants as finds
-use Rattle.tariff_commands.specs.declared.faults.Found.{Found}
-use Rattle.tariff_commands.specs.Faults.{faults_command}
-use Rattle.tariff_commands.specs.FaultsSteps.{EndsFile, IsFoundIn, IsRefusedText, ended_for_find}
-use Rattle.call_ends.specs.Pieces.{pieces_of}
-use Rattle.call_ends.proofs.Laws.{carries-kept}
-use Rattle.call_ends.proofs.Laws.{cause_board, stops_by, unless_read}
-use Rattle.call_ends.proofs.Laws.{course-unprinted}
-use Rattle.call_ends.proofs.Laws.{board_not_read, ends_apart}
-use Rattle.tariff_commands.proofs.Finding.{course-faulty, course-faulty_begun, course-sound, course-unfound}
-use Rattle.tariff_commands.proofs.Finding.{not_board-find}
-use Rattle.tariff_commands.proofs.Finding.{read_fault-find, shown_refused}
-use Rattle.call_ends.proofs.Laws.{no_fault}
 use Rattle.tariff_commands.proofs.faults.print_faults.Goals as goal
 
 -- nothing was found

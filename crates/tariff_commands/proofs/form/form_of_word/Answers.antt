@@ -1,5 +1,4 @@
-use Rattle.std.proofs.Common.{◌∙◌, ℕ, List, subst}
-use Rattle.std.specs.Prelude.{IfOk}
+use Rattle.std.{specs.Prelude.{IfOk}, proofs.Common.{ℕ, ◌∙◌, List, subst}}
 use Rattle.tariff_commands.specs.FormSteps.{IsFormOf}
 use Rattle.tariff_commands.proofs.form.form_of_word.Goals as goal
 

@@ -1,15 +1,11 @@
-use Rattle.std.proofs.Common.{◌∙◌, ℕ, List, [], Err, refl, sym, ap, subst, arith, rules}
-use Rattle.std.specs.Prelude.{is_err}
-use Rattle.outside.proofs.Laws.{keeps_none}
+use Rattle.std.{specs.Prelude.{is_err}, proofs.Common.{[], ℕ, ◌∙◌, Err, List, ap, arith, refl, rules, subst, sym}}
+use Rattle.{outside.proofs.Laws.{keeps_none}, call_ends.proofs.Laws.{unless_read}}
+use Rattle.call_ends.proofs.Laws.{board_not_read, carries-kept, cause_board, cause_done, course-begun, course-refused}
+use Rattle.call_ends.proofs.Laws.{course-shown, course-unprinted, done_not_read, no_fault, read_fault-text, stops_by}
+use Rattle.tariff_commands.specs.{Common.{ended_for}, Form.{form_command}}
+use Rattle.tariff_commands.{specs.FormSteps.{IsFormOf}, proofs.Forms.{form_in_pieces, form_shown, refused-form}}
 use Rattle.call_ends.specs.declared.ending.Ended.TheVariants as ended
 use Rattle.call_ends.specs.declared.tariff.TextFault.TheVariants as texts
-use Rattle.call_ends.specs.Ending.{ended_for}
-use Rattle.tariff_commands.specs.Form.{form_command}
-use Rattle.tariff_commands.specs.FormSteps.{IsFormOf}
-use Rattle.call_ends.proofs.Laws.{board_not_read, done_not_read, carries-kept, cause_board, cause_done, read_fault-text}
-use Rattle.call_ends.proofs.Laws.{stops_by, unless_read, course-unprinted, no_fault, course-refused, course-begun}
-use Rattle.call_ends.proofs.Laws.{course-shown}
-use Rattle.tariff_commands.proofs.Forms.{form_in_pieces, form_shown, refused-form}
 use Rattle.tariff_commands.proofs.form.print_form.Goals as goal
 
 -- the tariff wasn't read

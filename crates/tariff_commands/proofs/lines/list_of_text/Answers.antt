@@ -1,5 +1,4 @@
-use Rattle.std.proofs.Common.{refl}
-use Rattle.call_ends.proofs.Laws.{not_read-memory, no_fault, same_fault}
+use Rattle.{std.proofs.Common.{refl}, call_ends.proofs.Laws.{no_fault, not_read-memory, same_fault}}
 use Rattle.tariff_commands.proofs.lines.list_of_text.Goals as goal
 
 pub returns-in-Err-line_uses-clause-read : goal.returns-in-Err-line_uses-clause-read

@@ -1,14 +1,10 @@
-use Rattle.std.proofs.Common.{◌∙◌, ℕ, List, [], Err, refl, sym, ap, subst, arith, rules}
-use Rattle.std.specs.Prelude.{is_err}
-use Rattle.outside.proofs.Laws.{keeps_none}
+use Rattle.std.{specs.Prelude.{is_err}, proofs.Common.{[], ℕ, ◌∙◌, Err, List, ap, arith, refl, rules, subst, sym}}
+use Rattle.{outside.proofs.Laws.{keeps_none}, call_ends.proofs.Laws.{read_fault-text, stops_by, unless_read}}
+use Rattle.call_ends.proofs.Laws.{carries-kept, course-begun, course-refused, course-shown, course-unprinted, no_fault}
+use Rattle.tariff_commands.specs.{Common.{ended_for}, LinesSteps.{IsListOf}}
+use Rattle.tariff_commands.{specs.Lines.{lines_command}, proofs.Lists.{list_in_pieces, list_shown, refused-list}}
 use Rattle.call_ends.specs.declared.ending.Ended.TheVariants as ended
 use Rattle.call_ends.specs.declared.tariff.TextFault.TheVariants as texts
-use Rattle.call_ends.specs.Ending.{ended_for}
-use Rattle.tariff_commands.specs.Lines.{lines_command}
-use Rattle.tariff_commands.specs.LinesSteps.{IsListOf}
-use Rattle.call_ends.proofs.Laws.{carries-kept, read_fault-text, stops_by, unless_read, course-unprinted, no_fault}
-use Rattle.call_ends.proofs.Laws.{course-refused, course-begun, course-shown}
-use Rattle.tariff_commands.proofs.Lists.{list_in_pieces, list_shown, refused-list}
 use Rattle.tariff_commands.proofs.lines.print_lines.Goals as goal
 
 -- the tariff wasn't read

@@ -1,14 +1,11 @@
-use Rattle.std.proofs.Common.{◌∙◌, [], Err, refl, ap, arith, rules}
-use Rattle.std.specs.Prelude.{is_err}
-use Rattle.outside.proofs.Laws.{keeps_none}
-use Rattle.call_ends.proofs.Laws.{board_not_read, done_not_read, no_fault, cause_board, cause_done, read_fault-text}
-use Rattle.call_ends.proofs.Laws.{stops_by, unless_read, carries-kept, course-unprinted, course-refused}
-use Rattle.call_ends.specs.Ending.{ended_for}
+use Rattle.std.{specs.Prelude.{is_err}, proofs.Common.{[], ◌∙◌, Err, ap, arith, refl, rules}}
+use Rattle.{outside.proofs.Laws.{keeps_none}, tariff_commands.specs.Common.{ended_for, tariff_in}}
+use Rattle.call_ends.proofs.Laws.{board_not_read, carries-kept, cause_board, cause_done, course-refused}
+use Rattle.call_ends.proofs.Laws.{course-unprinted, done_not_read, no_fault, read_fault-text, stops_by, unless_read}
+use Rattle.tariff_commands.specs.Tables.{tables_command}
+use Rattle.tariff_commands.proofs.TariffAnswers.{course-rows, course-rows_begun, refused-tables}
 use Rattle.call_ends.specs.declared.ending.Ended.TheVariants as ended
 use Rattle.call_ends.specs.declared.tariff.TextFault.TheVariants as texts
-use Rattle.tariff_commands.specs.Tables.{tables_command}
-use Rattle.call_ends.specs.Tariffs.{tariff_in}
-use Rattle.tariff_commands.proofs.Tabling.{course-rows, course-rows_begun, refused-tables}
 use Rattle.tariff_commands.proofs.tables.print_tables.Goals as goal
 
 pub returns-in-Err : goal.returns-in-Err
