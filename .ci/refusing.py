@@ -10,6 +10,10 @@ import tempfile
 import time
 
 TOP = os.path.dirname(os.path.dirname(os.path.abspath(__file__)))
+sys.path.insert(0, f"{TOP}/tools")
+
+from heglorwy.imports import imports_of  # noqa: E402
+
 PARTS = ("src", "specs", "proofs")
 # What the prover says if it can't read a text: nothing is told of a clause then.
 UNREAD = re.compile(r"is not in scope|has no field|has no `|that can be named|is no name|operand is missing|"
@@ -17,7 +21,7 @@ UNREAD = re.compile(r"is not in scope|has no field|has no `|that can be named|is
 
 
 class Clause:
-    """A clause of a contract, and the part of a loop's invariant from which it follows, if it is said."""
+    """A clause of a contract, and the part of a loop's invariant, or the lemma, from which it follows, if it is said."""
 
     def __init__(self, name, by=""):
         self.name = name.strip()
@@ -25,6 +29,11 @@ class Clause:
 
     def __str__(self):
         return self.name + (f" by {self.loop}" + (f".{self.field}" if self.field else "") if self.loop else "")
+
+    def lemma_in(self, texts):
+        """The lemma of a crate's own proofs from which the clause follows, by module and name, if `by` names one."""
+        is_lemma = self.field and f"proofs/{self.loop.replace('.', '/')}.antt" in texts
+        return (self.loop, self.field) if is_lemma else None
 
     def has(self, goal, field):
         """Whether a goal is of this clause. The field is that of its record, `*` where all fields need what failed."""
@@ -60,6 +69,13 @@ class Edit:
                     function, _, clause = text.partition(",")
                     told = self.breaks if key == "breaks" else self.may_break
                     told.append((function.strip(), Clause(*clause.split(" by "))))
+
+    def changes_more(self, texts):
+        """Whether it changes a definition, or a constant of more than one use, on which other functions may stand."""
+        used = [name for _, old, _ in self.pairs for name in re.findall(r"\bconst (\w+)", old)]
+        code = "".join(text for file, text in texts.items() if file.startswith("src/") and "tests" not in file)
+        return (any(file.startswith("specs/") for file, _, _ in self.pairs)
+                or any(len(re.findall(rf"\b{name}\b", code)) > 2 for name in used))
 
     def change(self, texts):
         """Puts the change into the texts of files, and says what is wrong with it."""
@@ -165,9 +181,15 @@ def lemmas_that_failed(said):
 
 
 def failed_goals(said, texts, function):
-    """The goals of a function that failed, each with the field of its record: answers, and those that no search proved."""
+    """The goals of a function that failed, each with the field of its record: answers, and those that no search proved. A
+    cycle of functions has its answers together."""
     goals, answers, place = [], answers_of(texts, function), function.replace("::", "/")
+    module, _, name = place.rpartition("/")
     for line in said.split("\n"):
+        of_cycle = re.match(rf"(?:\./)?proofs/{re.escape(module)}/\+\S+/Answers.antt:\d+:\d+: error: "
+                            rf"`{re.escape(name)}-([^`\s]+)`: (.*)", line)
+        if of_cycle and not UNREAD.search(re.sub(r"`[^`]*`", "``", of_cycle[2])):
+            goals.append((of_cycle[1], "?"))
         at = re.match(rf"(?:\./)?proofs/{re.escape(place)}/Answers.antt:(\d+):(\d+): error: `([^`\s]+)`: (.*)", line)
         if at and not UNREAD.search(re.sub(r"`[^`]*`", "``", at[4])):
             first, lines = answers.get(at[3], (0, []))
@@ -192,17 +214,44 @@ def goals_without_lemma(said, texts, crate, function):
 
 def lemmas_named(text, crate):
     """The lemmas of a crate's own proofs that a text names in its `use` lines, each with its module."""
-    lines = re.findall(rf"(?m)^use Rattle\.{crate}\.proofs\.(\S+)\.\{{([^}}]*)\}}", text)
-    return {name: (module, name) for module, names in lines for name in re.split(r",\s*", names)}
+    own = f"Rattle.{crate}.proofs."
+    brought = [one for one in imports_of(text, "use") if one.name and one.module.startswith(own)]
+    return {one.alias or one.name: (one.module.removeprefix(own), one.name) for one in brought}
+
+
+def lemmas_below(lemma, texts, crate):
+    """The lemmas of a crate's own proofs that a lemma's equations name. A name that an equation binds is none."""
+    text, found = texts.get(f"proofs/{lemma[0].replace('.', '/')}.antt", ""), set()
+    known = {name: (lemma[0], name) for name in re.findall(r"(?m)^ *(?:pub |abbrev |#)*(\S+) :", text)}
+    known.update(lemmas_named(text, crate))
+    for equation in re.finditer(rf"(?m)^( *){re.escape(lemma[1])}(?= )(?! :).*\n?(?:\1 +.*\n?)*", text):
+        left, _, right = re.sub(r"--.*", "", equation[0]).partition(" =")
+        binders = re.findall(r"\blet (\S+)|λ ([^.]*)\.", right)
+        bound = set(re.findall(r"[^\s(){};,:]+", " ".join([left, *(part for binder in binders for part in binder)])))
+        words = set(re.findall(r"(?<![^\s(){};,])[^\s(){};,]+(?![^\s(){};,]| =)", right))
+        found |= {known[word] for word in words - bound if word in known}
+    return found - {lemma}
 
 
 def has_failed(lemma, failed, texts, crate):
-    """Whether a lemma has an error of its own. One that is another's name stands for that other."""
-    while lemma and lemma not in failed:
-        text = texts.get(f"proofs/{lemma[0].replace('.', '/')}.antt", "")
-        other = re.search(rf"(?m)^{re.escape(lemma[1])} = (\S+)$", text)
-        lemma = other and (lemmas_named(text, crate).get(other[1]) or (lemma[0], other[1]))
-    return bool(lemma)
+    """Whether a lemma has an error of its own, or one on which it stands in the crate's own proofs, however far below."""
+    passed, left = set(), {lemma} - {None}
+    while left and not left & failed:
+        passed |= left
+        left = set().union(*(lemmas_below(below, texts, crate) for below in left)) - passed
+    return bool(left)
+
+
+def rests_on(clause, texts, crate, function):
+    """Whether the answers of a clause name the lemma from which it follows, or one that stands on it."""
+    named = lemmas_named(texts.get(f"proofs/{function.replace('::', '/')}/Answers.antt", ""), crate)
+    left = {named[word] for goal, (_, lines) in answers_of(texts, function).items() if Clause(clause.name).has(goal, clause.name)
+            for line in lines for word in re.findall(r"[^\s(){};,]+", line) if word in named}
+    passed = set()
+    while left and (clause.loop, clause.field) not in left:
+        passed |= left
+        left = set().union(*(lemmas_below(below, texts, crate) for below in left)) - passed
+    return bool(left)
 
 
 def fault_of(edit, said, texts, before=None):
@@ -214,6 +263,12 @@ def fault_of(edit, said, texts, before=None):
             return "the copy didn't reach the prover"
         if status[1] == "proved":
             return f"{function} is still proved"
+        if clause.lemma_in(texts):
+            if clause.lemma_in(texts) not in lemmas_that_failed(said):
+                return f"{clause.loop}.{clause.field} has no error"
+            if not rests_on(clause, texts, edit.crate, function):
+                return f"{clause.name} of {function} doesn't rest on {clause.loop}.{clause.field}"
+            continue
         goals = failed_goals(said, texts, function) + goals_without_lemma(said, texts, edit.crate, function)
         if before and any(clause.has(goal, clause.field or clause.name) for goal in answers_of(before, function)):
             goals = []
@@ -239,11 +294,13 @@ def without_failed(said, texts, functions):
 
 
 def rounds_of(edits):
-    """The edits of a crate in rounds: those of a round break other functions, and each text that one replaces stands."""
-    rounds = []
+    """The edits of a crate in rounds: those of a round break other functions, and each text that one replaces stands. What
+    is changed in a definition or a constant may break any function, so such an edit has a round of its own."""
+    rounds, more = [], [edit for edit in edits if edit.changes_more(texts_of(edit.crate))]
     for edit in edits:
         for texts, functions, members in rounds:
-            if functions.isdisjoint(function for function, _ in edit.breaks):
+            alone = edit in more or members[0] in more
+            if not alone and functions.isdisjoint(function for function, _ in edit.breaks):
                 tried = dict(texts)
                 if edit.change(tried) is None:
                     texts.update(tried)

@@ -73,7 +73,7 @@ fn unsound(fault: CheckFault) -> TextFault
 }
 
 /// The sound tariff of a text. `NoMemory` comes only if the lines are those of a tariff, sound or not.
-#[tactic(auto, using(crate::proofs::Tariffs::writable_of, crate::proofs::Tariffs::syntax_of))]
+#[tactic(auto, using(tariff_syntax::proofs::Laws::parsed_is_writable, crate::proofs::Tariffs::syntax_of))]
 pub fn tariff_of_text(alloc: Global, text: &[u8]) -> Result<Checked, TextFault>
     ensures found { IfOk result (λ c. tariff_in text.now ≡ Ok (tree_of c)) }
     ensures refused { (why : Refusal) → result ≡ Err (TextFault.Refused why) → tariff_in text.now ≡ Err why }

@@ -23,8 +23,8 @@ abbrev pub called_by : {Z : Type 0} → List (String Z) → Command
 called_by words = called (map string_bytes words)
 
 module _ {E D L : Type 0} (F : FileGhosts E) (B : Ghosts D store_size L) where
-  -- a call comes to its answer if, where no count of faults rose, it has the status of that answer, or memory ran out
-  -- where it may
+  -- a call comes to its answer if it has the status of that answer, or memory ran out and may run out there; nothing is
+  -- asked if a count of faults rose
   abbrev pub ComesToAnswer : Command → (files files' : E) (board board' : D) (ended : ℕ) → Type 0
   ComesToAnswer c files files' board board' ended =
       ¬ HasReadFault F c files files' → ¬ Rose (B.faults board) (B.faults board')

@@ -48,12 +48,12 @@ command_of (Some Explain) = explain_command
 command_of (Some (Compare k)) = compare_command k
 command_of (Some Faults) = faults_command
 
--- words only look at the store where their command opens the store and writes nothing; these commands are the six of
+-- words only look at the store if their command opens the store and writes nothing; these commands are the six of
 -- `IsStoreQuery`, as the law six_commands_only_look says
 abbrev pub IsReadOnlyRow : Option Row → Type 0
 IsReadOnlyRow row = IsReadOnlyCommand (command_of row)
 
--- a row is a look at the store where it is one of `totals`, `bench`, `port`, `mark`, `shifts` and `sealed`
+-- a row is a look at the store if it is one of `totals`, `bench`, `port`, `mark`, `shifts` and `sealed`
 abbrev pub IsStoreQuery : Option Row → Type 0
 IsStoreQuery (Some Totals) = Unit {0}
 IsStoreQuery (Some Bench) = Unit {0}

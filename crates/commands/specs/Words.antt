@@ -13,22 +13,22 @@ use Rattle.commands.specs.declared.words.Row.TheVariants.{Offsets, Mark, Shifts,
 use Rattle.commands.specs.declared.words.Row.TheVariants.{Faults}
 use Rattle.taxi_units.specs.Words.{is_word}
 
--- a word is a constant where it is a number of at most 6 digits and of 500 to 200,000, and else none; `figure_in` gives
+-- a word is a constant if it is a number of at most 6 digits and of 500 to 200,000, and else none; `figure_in` gives
 -- the number of digits in a width and a range, as the law figures_are_read_by_their_digits of taxi_units says
 abbrev pub constant_of : List ℕ → Option ℕ
 constant_of word = figure_in 1 6 least_constant greatest_constant word
 
--- a number fits where it is below 2^64, and else there is none
+-- a number fits if it is below 2^64, and else there is none
 abbrev pub fitting : ℕ → Option ℕ
 fitting number = if nat_lt number (2 ^ 64) then Some number else None
 
--- a word is a seed where it has 1 to 20 digits and their number is below 2^64, and else none
+-- a word is a seed if it has 1 to 20 digits and their number is below 2^64, and else none
 unfoldable pub seed_of : List ℕ → Option ℕ
 seed_of word =
     if (nat_le 1 (length word) && (nat_le (length word) 20 && digits_at_front word == length word))
     then fitting (digits_value 10 word) else None
 
--- a word is a number of trips where it is a number of at most 4 digits and of 1 to 1,000, and else none
+-- a word is a number of trips if it is a number of at most 4 digits and of 1 to 1,000, and else none
 abbrev pub trips_of : List ℕ → Option ℕ
 trips_of word = figure_in 1 4 1 1000 word
 
@@ -57,9 +57,9 @@ two_words command last =
     else (if is_word command (codes "form") then Some Form
     else (if is_word command (codes "faults") then Some Faults else None)))))
 
--- the row of three words is `tables TARIFF CONSTANT`, `seal TARIFF PARAMS`, `run TARIFF DRIVE`, `gen SEED N`,
--- `mark on DRIVER` or `lines TARIFF CONSTANT`; `driver_of` gives a word as a driver where it is 1 to 16 of the
--- characters A to Z, 0 to 9 and -, and nothing for another word
+-- the row of three words is `tables TARIFF CONSTANT`, `seal TARIFF PARAMS`, `run TARIFF DRIVE`, `gen SEED N`, `mark on
+-- DRIVER` or `lines TARIFF CONSTANT`; `driver_of` gives a word as a driver if it is 1 to 16 of the characters A to Z, 0
+-- to 9 and -, and nothing for another word
 abbrev pub three_words : (command middle last : List ℕ) → Option Row
 three_words command middle last =
     if is_word command (codes "tables") then option_map Tables (constant_of last)
@@ -80,7 +80,7 @@ four_words command third last =
     else (if is_word command (codes "offsets") then option_map Offsets (years_of third last)
     else (if is_word command (codes "compare") then option_map Compare (constant_of last) else None))))
 
--- words are the row of the command that they call, and no row where they are no command
+-- words are the row of the command that they call, and no row if they are no command
 abbrev pub row_of : List (List ℕ) → Option Row
 row_of (command ∷ []) = one_word command
 row_of (command ∷ last ∷ []) = two_words command last

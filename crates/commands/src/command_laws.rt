@@ -1,10 +1,10 @@
-//! What is said of commands by their records, and what by their names.
+//! Laws of commands: what is said of them by their records, and by their names.
 ghost use Rattle.std.specs.Prelude.{◌↔◌, Option};
 ghost use Rattle.commands.specs.Command.{IsStoreQuery, IsReadOnlyRow};
 ghost use Rattle.commands.specs.declared.words.Row as rows;
 
-/// The commands that open the store and write nothing, at whatever status, are `totals`, `bench`, `port`, `mark`,
-/// `shifts` and `sealed`, and no others.
+/// A law: the commands that open the store and write nothing, at whatever status, are `totals`, `bench`, `port`,
+/// `mark`, `shifts` and `sealed`, and no others.
 pub fn six_commands_only_look()
     ensures { (row : Option rows.Row) → IsReadOnlyRow row ↔ IsStoreQuery row }
 {}

@@ -72,7 +72,7 @@ fn carry_out<F: Files, B: Board<STORE_SIZE, L>, L: Ledger>(
 /// Carries out the words of a call of the program, and gives its status. Word 0 is the command; word
 /// n's file is that of place n.
 ///
-/// The words, and what is printed where the status is 0 (for `bench` and `compare`, 0 or 11):
+/// The words, and what is printed if the status is 0 (for `bench` and `compare`, 0 or 11):
 ///
 /// - `check TARIFF`: `OK CELLS n MEASURE m`, for a sound tariff
 /// - `tables TARIFF CONSTANT`: the rows of its tables, with CONSTANT pulses to a kilometre
@@ -93,53 +93,52 @@ fn carry_out<F: Files, B: Board<STORE_SIZE, L>, L: Ledger>(
 /// - `sealed`: what the store was sealed with, as a text of parameters
 /// - `form TARIFF`: the printed form of the tariff, sound or not
 /// - `faults TARIFF`: as `check`, for a sound tariff; at 2 it prints a line of that status for each fault
-/// - `lines TARIFF CONSTANT`: for each line of a kind of which the first that holds counts whether it is ever the one
-///   that does, and the first context of a meter in which it is
+/// - `lines TARIFF CONSTANT`: for each line of a kind of which the first that holds counts, the first context of a
+///   meter in which it counts, or that it never does
 /// - `explain TARIFF DRIVE PARAMS`: why the fare of each hiring that the drive closes is what it is, on a new store
 ///   that is sealed with the tariff and the parameters
 /// - `compare TARIFF OTHER CONSTANT`: what differs first between two tariffs, and the line of each, or `SAME`
 ///
 /// The statuses, their last lines, and when they come. A command looks at its words, at the store and at its
-/// files in the order of docs/FORMATS.md, and answers the first thing that is wrong: so 'exactly where' is said
-/// of a call in which nothing is wrong before, and which 7, 8 or 12 doesn't end earlier.
+/// files in the order of docs/FORMATS.md, and answers the first thing that is wrong. So 'exactly if' is said of a
+/// call in which nothing is wrong before, and which 7, 8 or 12 doesn't end earlier.
 ///
 /// - 0, no line: the output is whole, and the drive was read to its end; for `bench`, every row of the report
 ///   passes, and for `compare`, the tariffs are the same
-/// - 1, `BAD WORDS`: exactly where the words are no command
-/// - 2, `BAD TARIFF` with `TooLong`, `Syntax n` or the fault: exactly where the tariff has more than 65,536
+/// - 1, `BAD WORDS`: exactly if the words are no command
+/// - 2, `BAD TARIFF` with `TooLong`, `Syntax n` or the fault: exactly if the tariff has more than 65,536
 ///   bytes, its line n is the first that is no line of a tariff, or, but for `form`, this is its first fault; with
 ///   `faults` such a line for each line that is none of a tariff, or else for each fault;
-///   `BAD OTHER` with the same, for `compare`: exactly where the other tariff isn't accepted for this
-/// - 3, `BAD DRIVE n` or `BAD DRIVE TOO LONG`, for `fare`, `run`, `bench` and `explain`: exactly where line n is the
-///   first that is no line of a drive, or where 2^40 bytes were taken, none of their lines is bad, and the end wasn't
-///   told
-/// - 4, `NOT SEALED`, for `totals`, `run`, `bench`, `port`, `mark`, `shifts` and `sealed`: exactly where the store's
+///   `BAD OTHER` with the same, for `compare`: exactly if the other tariff isn't accepted for this
+/// - 3, `BAD DRIVE n` or `BAD DRIVE TOO LONG`, for `fare`, `run`, `bench` and `explain`: exactly if line n is the
+///   first that is no line of a drive, or if 2^40 bytes were taken, none of their lines is bad, and the end wasn't told
+/// - 4, `NOT SEALED`, for `totals`, `run`, `bench`, `port`, `mark`, `shifts` and `sealed`: exactly if the store's
 ///   pair of totals or of seals is blank
-/// - 5, `BAD STORE s`, `BAD STORE s t` or `BAD STORE TRIP`, for a command that opens the store: exactly where slot
-///   s is open and its body isn't read, where slots s and t are open with bodies of one number, or, for `run`, where
-///   the held trip doesn't fit the tariff
-/// - 6, `WRONG TARIFF x y`, for `run` and `bench`: exactly where the sealed digest x and that of the tariff's text,
+/// - 5, `BAD STORE s`, `BAD STORE s t` or `BAD STORE TRIP`, for a command that opens the store: exactly if slot
+///   s is open and its body isn't read, if slots s and t are open with bodies of one number, or, for `run`, if the
+///   held trip doesn't fit the tariff
+/// - 6, `WRONG TARIFF x y`, for `run` and `bench`: exactly if the sealed digest x and that of the tariff's text,
 ///   y, differ
-/// - 7, `READ FAULT`: only where the count of faults of a file that the command reads rose by one
-/// - 8, no line: exactly where the board's count of faults rose, by one
-/// - 9, `BAD PARAMS` with the fault, for `seal` and `explain`: exactly where the parameters have this first fault
-/// - 10, `BAD READINGS n` or `BAD READINGS TOO LONG`, for `bench`: exactly where row n is the first that is no row
+/// - 7, `READ FAULT`: only if the count of faults of a file that the command reads rose by one
+/// - 8, no line: exactly if the board's count of faults rose, by one
+/// - 9, `BAD PARAMS` with the fault, for `seal` and `explain`: exactly if the parameters have this first fault
+/// - 10, `BAD READINGS n` or `BAD READINGS TOO LONG`, for `bench`: exactly if row n is the first that is no row
 ///   of readings, or the readings have more than 1,048,576 bytes
-/// - 11, no line: exactly where a row of the report of `bench` doesn't pass, or the tariffs of `compare` differ; the
+/// - 11, no line: exactly if a row of the report of `bench` doesn't pass, or the tariffs of `compare` differ; the
 ///   output is whole, and each file was read to its end
 /// - 12, `NO MEMORY`: never for `totals`, `port`, `mark`, `offsets`, `sealed` and refused words; else free, before
 ///   anything is printed or written and, but for `bench` and `explain`, before the first byte of the drive is taken
-/// - 13, `TRIP HELD`, for `seal`: exactly where the totals of the store hold a trip
-/// - 14, `SEAL ENDED`, for `seal`: exactly where the found seal has the last number, 10^15
-/// - 15, `OTHER DECIMALS x y`, for `seal`: exactly where the found seal has x decimals, and the tariff y, which is
+/// - 13, `TRIP HELD`, for `seal`: exactly if the totals of the store hold a trip
+/// - 14, `SEAL ENDED`, for `seal`: exactly if the found seal has the last number, 10^15
+/// - 15, `OTHER DECIMALS x y`, for `seal`: exactly if the found seal has x decimals, and the tariff y, which is
 ///   another number
-/// - 16, `BAD FRAME p` or `BAD FRAME TOO LONG`: exactly where byte p, from 0 on, is the first that no stream of
+/// - 16, `BAD FRAME p` or `BAD FRAME TOO LONG`: exactly if byte p, from 0 on, is the first that no stream of
 ///   requests has there, or the end is and a request is unfinished, or 2^40 bytes were taken, none of their places
 ///   is bad, and the end wasn't told
-/// - 17, `BAD RULES` with `TooLong`, `BadLine n` or `SameMonth`: exactly where the rules have more than 4,096 bytes,
-///   their line n is the first that isn't as it should be or is absent, or 5 where bytes follow the four, or both
-///   changes are in one month
-/// - 18, `BAD BOOK TOO LONG` or `BAD BOOK n`: exactly where the book has more than 1,048,576 bytes, or its line n is
+/// - 17, `BAD RULES` with `TooLong`, `BadLine n` or `SameMonth`: exactly if the rules have more than 4,096 bytes,
+///   their line n is the first that isn't as it should be or is absent, with n 5 if bytes follow the four lines, or
+///   both changes are in one month
+/// - 18, `BAD BOOK TOO LONG` or `BAD BOOK n`: exactly if the book has more than 1,048,576 bytes, or its line n is
 ///   the first that is no mark, may not follow those before it, or has a number greater than the store's
 ///
 /// The words, the statuses and the lines are this project's own.
@@ -150,8 +149,8 @@ pub fn taxi<F: Files, B: Board<STORE_SIZE, L>, L: Ledger>(
     board: &mut B,
     steps: &mut Steps<L>,
 ) -> u8
-    // A call takes a course that its words, their files' contents and the opening image allow, ends as it says, and
-    // leaves each file unread to whose read the command doesn't come, as the drive's where the tariff is refused.
+    // A call takes a course that its words, their files' contents and the opening image allow, and ends as it says. It
+    // leaves each file unread that it doesn't come to read, as the drive if the tariff is refused.
     ensures call { (called_by words.now).told F.tells B.tells_image
         → IsCall F.Files B.Board (called_by words.now) files.old files.new board.old board.new result }
 
@@ -159,25 +158,24 @@ pub fn taxi<F: Files, B: Board<STORE_SIZE, L>, L: Ledger>(
     ensures refused { row_in words.now ≡ None → files.new ≡ files.old }
     ensures others { (word : ℕ) → ¬ (called_by words.now).reads word → F.rest files.new word ≡ F.rest files.old word }
 
-    // Each of the faults of the outside has its cause, whatever is told: at 7 the count of a file that the command
-    // reads rose by one, and no word was read whose turn comes behind it; at 8 the board's rose. At each other status
-    // no count rose, and the board's didn't at 7.
+    // Each fault of the outside has its cause, whatever is told. At 7 the count of a file that the command reads rose
+    // by one, and no word was read whose turn comes later. At 8 the board's count rose. At each other status no count
+    // rose, and at 7 the board's didn't.
     ensures read_fault { result ≡ 7 → StopsReading F.Files (called_by words.now) files.old files.new }
     ensures board_fault { RisesOnlyIf (result ≡ 8) (B.faults board.old) (B.faults board.new) }
     ensures unfailed { result ≢ 7 → result ≢ 8 → (word : ℕ) → F.faults files.new word ≡ F.faults files.old word }
 
-    // Where no count rose, the status is that of the answer, unless memory ran out.
+    // If no count rose, the status is that of the answer, unless memory ran out.
     ensures complete { (called_by words.now).told F.tells B.tells_image
         → ComesToAnswer F.Files B.Board (called_by words.now) files.old files.new board.old board.new result }
 
-    // One step for the last line, one for each row of tables, at most 31 for offsets, 64 for an opening of the store,
-    // 64 for each event of a drive that is run and for the supply drop at its end, one for each 512 bytes that are
-    // printed of a bench, a form, faults, lines or a comparison, one for each reply, and two for each byte of a shift
-    // book.
+    // The steps: one for the last line, one for each row of tables, at most 31 for offsets; 64 for an opening of the
+    // store, and for each event of a drive that is run and the supply drop at its end; one for each 512 bytes that are
+    // printed of a bench, a form, faults, lines or a comparison; one for each reply, two for each byte of a shift book.
     ensures steps { TakesSteps F.Files B.Board (called_by words.now) files.old files.new board.old steps.old steps.new }
 
-    // What the store holds is left alone if it isn't opened, though no clause says that it isn't read. And nothing is
-    // written but where a command may write.
+    // A command that doesn't open the store leaves alone what it holds; no clause says that it doesn't read it. Nothing
+    // is written unless the command may write.
     ensures kept { ¬ (called_by words.now).opens → KeepsStore B.Board board.old board.new }
     ensures unwritten { ¬ (called_by words.now).writes result → WritesNothing B.Board board.old board.new result }
 
@@ -185,23 +183,23 @@ pub fn taxi<F: Files, B: Board<STORE_SIZE, L>, L: Ledger>(
     ensures at_rest { (called_by words.now).told F.tells B.tells_image → B.tells_image
         → (called_by words.now).opens → result ≢ 8 → IsAtRest B.Board board.new }
 
-    // Where a command only looks at the store, a cut of the power from its opening sync on leaves the image as it was.
+    // If a command only looks at the store, a cut of the power from its opening sync on leaves the image as it was.
     ensures looks { IsReadOnlyRow (row_in words.now) → B.tells_image
         → LeavesImage B.Board (result ≡ 8) board.old board.new }
 
     // Sealing leaves what it says at 0. A cut of the power from its opening sync on leaves the store that was found, or
-    // one amid the sealing; a cut before that sync has succeeded leaves what it might have left before the call. So
-    // where nothing was in flight before, a cut at any moment of the call leaves an image amid the sealing. A cut at
-    // which a byte of the line `SEALED n` stands printed leaves the new seal.
+    // one amid the sealing; a cut before that sync has succeeded leaves what it might have left before the call. So if
+    // nothing was in flight before, a cut at any moment of the call leaves an image amid the sealing. If a byte of the
+    // line `SEALED n` was printed before the cut, it leaves the new seal.
     ensures seals { row_in words.now ≡ Some Row.Seal → F.tells → B.tells_image
         → Seals B.Board (sealing_by F.Files B.Board files.old board.old) board.old board.new result }
     ensures settled { row_in words.now ≡ Some Row.Seal → F.tells → B.tells_image → IsAtRest B.Board board.old
         → LeavesOnly B.Board board.old board.new (MayLeaveSealingBy F.Files B.Board files.old board.old) }
 
     // The headline. A run prints the displays, refusals and receipts that the tariff's text means for its drive, and no
-    // others; in the end the store has the state after all its commits. A cut of the power from the run's opening sync
-    // on leaves a place in the list of what the run does: the totals found are the opening ones plus the sums over the
-    // entries before that place, as many commits as the stored number says, and every hiring of whose receipt a byte
+    // others. In the end the store has the state after all its commits. A cut of the power from the run's opening sync
+    // on leaves a place in the list of what the run does. The totals found are the opening ones plus the sums over the
+    // entries before that place, with as many commits as the stored number says. Each hiring of whose receipt a byte
     // was printed has its entry among them. `IsRun` says it clause by clause.
     ensures runs { row_in words.now ≡ Some Row.Run → F.tells → B.tells_image
         → IsRun F.Files B.Board files.old files.new board.old board.new result }

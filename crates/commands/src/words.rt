@@ -104,7 +104,7 @@ fn are_digits(word: &[u8]) -> bool
     true
 }
 
-/// The number that digits make, where 64 bits hold it.
+/// The number that digits make, if 64 bits hold it.
 fn number_of_digits(digits: &[u8]) -> Option<u64>
     requires { digits_at_front digits.now ≡ length digits.now }
     ensures { result ≡ fitting (digits_value 10 digits.now) }
@@ -223,7 +223,7 @@ fn four_words(command: &[u8], third: &[u8], last: &[u8]) -> Option<Row>
     }
 }
 
-/// The command that words are. None where the program knows none such.
+/// The command that words are. None exactly if they are no command.
 pub fn row_in(words: &[String]) -> Option<Row>
     ensures { result ≡ row_of (map string_bytes words.now) }
 {

@@ -69,7 +69,7 @@ amounts-numbers t n [] = refl
 amounts-numbers t n (c ∷ cs) =
     omega (arith, amounts-repeated t c n (numbers_from (n + 1) cs), amounts-numbers t (n + 1) cs)
 
--- what a core keeps of a trip is the same where its sums are
+-- what a core keeps of a trip is the same if its sums are
 pub same_form : (whole : CoreTrip) (p q t u : ℕ) (m n : Meterage) (xs ys : List ℕ) (a b : ℕ)
     → p ≡ q → t ≡ u → m ≡ n → xs ≡ ys → a ≡ b
     → record whole { pulses = p; ticks = t; meterage = m; extras = xs; extras_sum = a }

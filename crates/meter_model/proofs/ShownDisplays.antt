@@ -42,7 +42,7 @@ none_by false act = ((λ none. absurd (some_act act none)), (λ is. absurd cc))
 last_is : (a b : Display) → Some a ≡ Some b → a ≡ b
 last_is a b same = cc
 
--- nothing is shown where the display was shown last
+-- nothing is shown if the display was shown last
 pub shows-none : (old : Option Display) (new : Display)
     → ((if is_shown old new then [] else Show new ∷ []) ≡ []) ↔ (old ≡ Some new)
 shows-none None new = ((λ none. absurd (some_act (Show new) none)), (λ is. absurd cc))

@@ -7,19 +7,19 @@ use Rattle.tariff_check.specs.SoundLookups.{rate_in_force}
 use Rattle.tariff_syntax.specs.declared.context.Context.{Context}
 use Rattle.meter_model.specs.Setting.{Setting}
 
--- the charge of the distance of p pulses, in units of charge, is what p times 10,000 / k decimetres cost at a per b
--- decimetres, where k times the common measure units of charge make the smallest unit of money
+-- the charge of the distance of p pulses is what p times 10,000 / k decimetres cost at a per b decimetres; it is in
+-- units of charge, of which k times the common measure make the smallest unit of money
 abbrev pub distance_charge : (common : ℕ) → RateNumbers → (p : ℕ) → ℕ
 distance_charge common r p = p * (10000 * r.a * (common / r.b))
 
--- the charge of a tenth of a second, in units of charge, is what it costs at c per e tenths of a second, where k times
--- the common measure units of charge make the smallest unit of money
+-- the charge of a tenth of a second is what it costs at c per e tenths of a second; it is in units of charge, of which
+-- k times the common measure make the smallest unit of money
 abbrev pub time_charge : (k common : ℕ) → RateNumbers → ℕ
 time_charge k common r = r.c * k * (common / r.e)
 
--- the charge of an interval of p pulses is, in mode S, that of its time where it is below the cross-over speed, and of
--- its distance otherwise, where that speed is the time tariff value, c per e, divided by the distance tariff value, a
--- per b; in mode D it is the charge of both together
+-- the charge of an interval of p pulses in mode S is that of its time below the cross-over speed, and else that of its
+-- distance; that speed is the time tariff value, c per e, divided by the distance tariff value, a per b; in mode D the
+-- charge is that of both together
 abbrev pub charge_by : Mode → (k common : ℕ) → RateNumbers → (p : ℕ) → ℕ
 charge_by Single k common r p =
     if nat_lt (10000 * p * r.a * r.e) (r.c * k * r.b) then time_charge k common r else distance_charge common r p

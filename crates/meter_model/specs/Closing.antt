@@ -25,7 +25,7 @@ entry_of s kind position t = record {
 }
 
 -- the receipt of a trip that is closed has the store's number after its entry, its kind, its start and its finish in
--- local time, its position, its distance, how its fare is made, its supplements, and the decimals of the tariff
+-- local time, its position, its distance, what makes its fare, its supplements, and the tariff's decimals
 abbrev pub receipt_of : Setting → Kind → (finish position : ℕ) → MeterTrip → (number : ℕ) → Receipt
 receipt_of s kind finish position t number = record {
   number = number;
@@ -69,11 +69,11 @@ roaming_entry s pulses = record {
 abbrev pub roaming_entered : Setting → Meter → Outcome
 roaming_entered s m = entered (roaming_entry s (sum m.roaming)) (record m { roaming = [] })
 
--- in For Hire the roaming pulses are entered where they are 1,000,000 or more, and in no other operating position
+-- in For Hire the roaming pulses are entered if they are 1,000,000 or more, and in no other operating position
 abbrev pub roaming_checked_in : Setting → Operating → Meter → Outcome
 roaming_checked_in s ForHire m = if nat_le roaming_most (sum m.roaming) then roaming_entered s m else quiet m
 roaming_checked_in s operating m = quiet m
 
--- the roaming pulses of a meter are entered where it is for hire and they are 1,000,000 or more
+-- the roaming pulses of a meter are entered if it is for hire and they are 1,000,000 or more
 abbrev pub roaming_checked : Setting → Meter → Outcome
 roaming_checked s m = roaming_checked_in s m.operating m

@@ -31,7 +31,7 @@ display_of s m = record {
   decimals = s.tariff.decimals;
 }
 
--- the test `same_operating` is true where two operating positions are the same
+-- the test `same_operating` is true if two operating positions are the same
 abbrev pub same_operating : Operating → Operating → Bool
 same_operating Off Off = true
 same_operating ForHire ForHire = true
@@ -39,7 +39,7 @@ same_operating Hired Hired = true
 same_operating Stopped Stopped = true
 same_operating a b = false
 
--- the test `same_display` is true where two displays are the same in each field
+-- the test `same_display` is true if two displays are the same in each field
 abbrev pub same_display : Display → Display → Bool
 same_display a b =
     same_operating a.operating b.operating
@@ -47,12 +47,12 @@ same_display a b =
     && (a.zone == b.zone
     && (a.fare == b.fare && (a.supplements == b.supplements && a.decimals == b.decimals))))
 
--- the test `is_shown` is true where a display is the one that was shown last
+-- the test `is_shown` is true if a display is the one that was shown last
 abbrev pub is_shown : Option Display → Display → Bool
 is_shown None new = false
 is_shown (Some old) new = same_display old new
 
--- the meter shows its display where it differs from the one that was shown last, and remembers it
+-- the meter shows its display if it differs from the one that was shown last, and remembers it
 abbrev pub shown : Setting → Meter → Outcome
 shown s m = record {
   next = record m { shown = Some (display_of s m) };

@@ -61,11 +61,11 @@ context_now s m = context_on s (local_at s m.clock) m
 abbrev pub with_interval : Part → Meter → Meter
 with_interval part m = record m { taken = []; trip = option_map (with_part part) m.trip }
 
--- the roaming pulses grow by some pulses more, where the store takes hirings, and are the same otherwise
+-- the roaming pulses grow by some pulses if the store takes hirings, and else are the same
 abbrev pub roaming_with : (pulses : ℕ) → Meter → List ℕ
 roaming_with pulses m = if nat_lt m.durable.number hirings_end then m.roaming ++ pulses ∷ [] else m.roaming
 
--- a meter with roaming pulses more has them where the store takes hirings, and no pulses yet in the next interval
+-- a meter with more roaming pulses has them if the store takes hirings, and no pulses yet in the next interval
 abbrev pub with_roaming : (pulses : ℕ) → Meter → Meter
 with_roaming pulses m = record m { taken = []; roaming = roaming_with pulses m }
 

@@ -1,4 +1,4 @@
--- Rules: in which operating positions a key may act. What it does there says the law accepted_keys_act, key by key.
+-- Rules: in which operating positions a key may act. The law accepted_keys_act says what it does there, key by key.
 use Rattle.std.specs.Prelude.{◌≡◌, ◌⊎◌}
 use Rattle.taxi_units.specs.declared.event.Key.{Key}
 use Rattle.taxi_units.specs.declared.event.Key.TheVariants.{Hire, Stop, Clear, Position, Zone, Extra}
@@ -6,8 +6,7 @@ use Rattle.taxi_units.specs.declared.event.Operating.{Operating}
 use Rattle.taxi_units.specs.declared.event.Operating.TheVariants.{ForHire, Hired, Stopped}
 
 -- a key may act in these operating positions: Hire in For Hire and in Stopped, Stop in Hired, Clear in Stopped, a
--- tariff
--- position and a zone in For Hire and in Hired, and a supplement in Hired and in Stopped
+-- tariff position and a zone in For Hire and in Hired, and a supplement in Hired and in Stopped
 abbrev pub MayAct : Key → Operating → Type 0
 MayAct Hire operating = (operating ≡ ForHire) ⊎ (operating ≡ Stopped)
 MayAct Stop operating = operating ≡ Hired

@@ -19,7 +19,7 @@ use Rattle.meter_model.specs.declared.key_act.KeyAct.{KeyAct}
 use Rattle.meter_model.specs.declared.key_act.KeyAct.TheVariants as key_acts
 use Rattle.taxi_units.specs.Limits.{hirings_end}
 
--- a key that is pressed waits for the end of the interval, and is refused where another one waits
+-- a key that is pressed waits for the end of the interval, and is refused if another one waits
 abbrev pub latched : Option Key → Key → Meter → Outcome
 latched None key m = quiet (record m { latch = Some key })
 latched (Some waiting) key m = refused KeyWaiting m
@@ -33,24 +33,24 @@ hired s m = record m {
   roaming = [];
 }
 
--- the key Hire hires a meter that is for hire, and is refused where the store takes no hiring
+-- the key Hire hires a meter that is for hire, and is refused if the store takes no hiring
 abbrev pub hiring : Setting → Meter → Outcome
 hiring s m = if nat_le hirings_end m.durable.number then refused Ended m else quiet (hired s m)
 
--- the test `is_among` is true where a number is from 1 to the most
+-- the test `is_among` is true if a number is from 1 to the most
 abbrev pub is_among : (most n : ℕ) → Bool
 is_among most n = nat_le 1 n && nat_le n most
 
--- the key of a tariff position sets it, and is refused where the tariff has no such position
+-- the key of a tariff position sets it, and is refused if the tariff has no such position
 abbrev pub position_set : Setting → (n : ℕ) → Meter → Outcome
 position_set s n m =
     if is_among s.tariff.positions n then quiet (record m { position = n }) else refused NoSuch m
 
--- the key of a zone sets it, and is refused where the tariff has no such zone
+-- the key of a zone sets it, and is refused if the tariff has no such zone
 abbrev pub zone_set : Setting → (n : ℕ) → Meter → Outcome
 zone_set s n m = if is_among s.tariff.zones n then quiet (record m { zone = n }) else refused NoSuch m
 
--- a supplement that the tariff has is added to the trip, and is refused where it was added as often as it may be
+-- a supplement that the tariff has is added to the trip, and is refused if it was added as often as it may be
 abbrev pub extra_added_to : (n : ℕ) → Supplement → Option MeterTrip → Meter → Outcome
 extra_added_to n supplement None m = quiet m
 extra_added_to n supplement (Some t) m =
@@ -58,7 +58,7 @@ extra_added_to n supplement (Some t) m =
     then refused AtMost m
     else quiet (record m { trip = Some (with_extra n t) })
 
--- the key of a supplement adds it, and is refused where the tariff has no such supplement
+-- the key of a supplement adds it, and is refused if the tariff has no such supplement
 abbrev pub extra_added : (n : ℕ) → Option Supplement → Meter → Outcome
 extra_added n None m = refused NoSuch m
 extra_added n (Some supplement) m = extra_added_to n supplement m.trip m
@@ -78,7 +78,7 @@ act_of (keys.Extra n) Stopped = key_acts.Extra n
 act_of key operating = key_acts.Refuse
 
 -- what a key does is to hire, to take the trip to another operating position, to close the trip, to set the tariff
--- position or the zone, or to add a supplement, and a key that does nothing is refused
+-- position or the zone, or to add a supplement; a key that does nothing is refused
 abbrev pub act_done : Setting → KeyAct → Meter → Outcome
 act_done s key_acts.Hire m = hiring s m
 act_done s (key_acts.Move to) m = quiet (record m { operating = to })

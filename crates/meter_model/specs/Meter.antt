@@ -49,7 +49,7 @@ infixl 10 ◌>>=◌
 abbrev pub ◌>>=◌ : Outcome → (Meter → Outcome) → Outcome
 o >>= f = record { next = (f o.next).next; acts = o.acts ++ (f o.next).acts }
 
--- a meter is quiet where it does nothing and stays as it is
+-- a meter is quiet if it does nothing and stays as it is
 abbrev pub quiet : Meter → Outcome
 quiet m = record { next = m; acts = [] }
 

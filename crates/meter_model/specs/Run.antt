@@ -38,13 +38,13 @@ run s (event ∷ events) m = step s event m >>= run s events
 abbrev pub run_both : Setting → (first second : List Event) → Meter → Outcome
 run_both s first second m = run s first m >>= run s second
 
--- a run ends in an operating position with a supply drop, where the meter is powered, and with nothing where it is off
+-- a run ends in an operating position with a supply drop if the meter is powered, and with nothing if it is off
 abbrev pub ended_in : Setting → Operating → Meter → Outcome
 ended_in s Off m = quiet m
 ended_in s operating m = supply_dropped s m
 
--- a run ends in the meter's operating position: with a supply drop where the meter is powered, and with nothing where
--- it is off
+-- a run ends in the meter's operating position with a supply drop if the meter is powered, and with nothing if it is
+-- off
 abbrev pub ended : Setting → Meter → Outcome
 ended s m = ended_in s m.operating m
 

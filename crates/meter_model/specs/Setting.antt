@@ -12,7 +12,7 @@ use Rattle.taxi_units.specs.Time.{first_second}
 use Rattle.taxi_units.specs.declared.receipt.Stamp.{Stamp}
 
 -- a setting has the parts of the tariff, the constant of the taximeter, how time and distance share in the fare, how
--- long a trip may be held without supply and go on then, and the offsets from UTC
+-- long a trip may be held without supply, and the offsets from UTC
 pub record Setting : Type 0 where
   pub tariff : SoundTariff
   pub constant : ℕ
@@ -35,7 +35,7 @@ abbrev pub under_offset : Tree → (k : ℕ) → Mode → (hold_time : ℕ) → 
 under_offset t k mode hold offset =
     record { tariff = sound_of t; constant = k; mode = mode; hold_time = hold; offsets = (first_second, offset) ∷ [] }
 
--- a seal is that of a setting where it secures the setting's constant, mode, hold and offsets
+-- a seal is that of a setting if it secures the setting's constant, mode, hold and offsets
 pub record IsSealOf (s : Setting) (seal : Seal) : Type 0 where
   pub constant : seal.params.constant ≡ s.constant
   pub mode : seal.params.mode ≡ s.mode

@@ -42,12 +42,12 @@ ticked s m = do
   m ← shown s m
   interval_begun m
 
--- a reading of the clock in a trip is accepted, and refused where it is before the last one
+-- a reading of the clock in a trip is refused if it is before the last one, and else accepted
 abbrev pub clock_read_in_trip : (second : ℕ) → Meter → Outcome
 clock_read_in_trip second m =
     if nat_lt second m.clock then refused (ClockBack m.clock second) m else quiet (record m { clock = second })
 
--- a reading of the clock is accepted, and in Hired and Stopped refused where it is before the last one
+-- a reading of the clock is accepted, but in Hired and Stopped refused if it is before the last one
 abbrev pub clock_read : Operating → (second : ℕ) → Meter → Outcome
 clock_read Hired second m = clock_read_in_trip second m
 clock_read Stopped second m = clock_read_in_trip second m

@@ -13,14 +13,14 @@ use Rattle.meter_model.specs.Setting.{Setting}
 use Rattle.meter_model.specs.Trip.{MeterTrip, held_trip}
 use Rattle.taxi_units.specs.Limits.{last_number}
 
--- the test `is_stopped` is true where an operating position is Stopped
+-- the test `is_stopped` is true if an operating position is Stopped
 abbrev pub is_stopped : Operating → Bool
 is_stopped Off = false
 is_stopped ForHire = false
 is_stopped Hired = false
 is_stopped Stopped = true
 
--- a trip is held at a supply drop, or closed as aborted where the store takes no held trip
+-- a trip is held at a supply drop, or closed as aborted if the store takes no held trip
 abbrev pub trip_held_or_closed : Setting → MeterTrip → Meter → Outcome
 trip_held_or_closed s t m =
     if nat_lt m.durable.number last_number
@@ -58,12 +58,12 @@ powered second m = record m {
   shown = None;
 }
 
--- a held trip goes on in Stopped where it was stopped, and else in Hired
+-- a held trip goes on in Stopped if it was stopped, and else in Hired
 abbrev pub running : (stopped : Bool) → Operating
 running true = Stopped
 running false = Hired
 
--- the test `is_within_hold` is true where a second is not before the supply drop, and not later than the hold after it
+-- the test `is_within_hold` is true if a second is not before the supply drop, and not later than the hold after it
 abbrev pub is_within_hold : Setting → (second : ℕ) → Trip → Bool
 is_within_hold s second trip = nat_le trip.saved second && nat_le second (trip.saved + s.hold_time)
 

@@ -42,7 +42,7 @@ pulses_in (InHired p x) = p
 pulses_in (InStopped p) = p
 pulses_in (Rest p) = p
 
--- a part counts one tick where its interval ended, and none where it was left unfinished
+-- a part counts one tick if its interval ended, and none if it was left unfinished
 abbrev pub ticks_in : Part → ℕ
 ticks_in (InHired p x) = 1
 ticks_in (InStopped p) = 1
@@ -82,7 +82,7 @@ abbrev pub fees_of : Initial → Fees
 fees_of fee = record { initial = fee.amount; minimum = fee.minimum }
 
 -- the fare by fees after `steps` display steps is the initial hire fee and the display step for each of them, or the
--- minimum fare where that is more, and at most 99,999,999
+-- minimum fare if that is more, and at most 99,999,999
 abbrev pub fare_by_fees : Fees → (step steps : ℕ) → ℕ
 fare_by_fees fees step steps = shown_fare fees.initial fees.minimum step steps
 

@@ -9,9 +9,9 @@ pub struct Fees {
     pub minimum: u64,
 }
 
-/// A trip as the core keeps it: the second of its start, the pulses that were roamed before the hiring, its
-/// pulses and ticks, its fees, what its charges have come to, how often each of the supplements 1 to 16 was
-/// added, and the sum of their amounts in the tariff's smallest units.
+/// A trip as the core keeps it: the second of its start, the pulses that were roamed before the hiring, its pulses and
+/// ticks, its fees, and what its charges have come to. It also has how often each of the supplements 1 to 16 was added,
+/// and the sum of their amounts in the tariff's smallest units.
 #[derive(Clone, Copy)]
 pub struct CoreTrip {
     pub started: u64,

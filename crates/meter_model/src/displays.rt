@@ -12,9 +12,9 @@ ghost use Rattle.meter_model.specs.Run.{opened, run};
 ghost use Rattle.meter_model.specs.Setting.{Setting};
 ghost use Rattle.meter_model.specs.Step.{step};
 
-/// A law: a display is shown where a field differs from the one that was shown last, and nothing is shown exactly where
-/// that one is the display of the meter. For hire a meter that keeps its trip as the store does has no fare and no
-/// supplements, so that none can differ there.
+/// A law: a display is shown if a field differs from the one that was shown last. Nothing is shown exactly if that one
+/// is the display of the meter. For hire a meter that keeps its trip as the store does has no fare and no supplements,
+/// so these don't differ there.
 pub fn displays_are_compared_by_their_fields()
     ensures same { (a b : Display) → (same_display a b ≡ true) ↔ (a ≡ b) }
     ensures shows { (s : Setting) (m : Meter)
@@ -23,8 +23,8 @@ pub fn displays_are_compared_by_their_fields()
         → ((display_of s m).fare ≡ 0) × ((display_of s m).supplements ≡ 0) }
 {}
 
-/// A law: what the meter showed last is the display of a state of the meter that keeps its trip. As a run opens nothing
-/// was shown, and each event leaves it so.
+/// A law: what the meter showed last is the display of a state of the meter that keeps its trip. Before the first event
+/// of a run nothing was shown, and each event keeps this.
 pub fn the_last_display_is_one_of_the_meter()
     ensures opens { (s : Setting) (durable : Durable) → IsOfMeter s (opened s durable).shown }
     ensures step { (s : Setting) (event : Event) (m : Meter) → IsTripKept s m → IsOfMeter s m.shown

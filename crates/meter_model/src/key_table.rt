@@ -18,11 +18,11 @@ ghost use Rattle.meter_model.specs.Setting.{Setting};
 ghost use Rattle.meter_model.specs.Supplements.{times};
 ghost use Rattle.meter_model.specs.Trip.{MeterTrip, begun, with_extra};
 
-/// The law of accepted keys: what a key that waited comes to as it acts. In For Hire the key Hire begins a trip at the
-/// clock's second, with the fees in force there, which takes the roaming pulses; Stop takes the trip from Hired to
-/// Stopped, and Hire back; Clear closes it in Stopped. A position and a zone of the tariff are set in For Hire and in
-/// Hired, and a supplement that the trip may have once more is added in Hired and in Stopped. Nothing else changes, but
-/// that no key waits any more. In each other operating position the key is refused.
+/// The law of accepted keys: what a key that waited does as it acts. In For Hire the key Hire begins a trip at the
+/// clock's second, with the fees in force there, and the trip takes the roaming pulses. Stop takes the trip from Hired
+/// to Stopped, and Hire takes it back. Clear closes it in Stopped. A position and a zone of the tariff are set in For
+/// Hire and in Hired. A supplement that the trip may have once more is added in Hired and in Stopped. Nothing else
+/// changes, but that no key waits any more. In each other operating position the key is refused.
 pub fn accepted_keys_act()
     ensures hire { (s : Setting) (m : Meter) → m.operating ≡ ForHire → m.durable.number < hirings_end
         → latch_pressed s (Some keys.Hire) m ≡ quiet (record m {

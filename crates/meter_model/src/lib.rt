@@ -1,5 +1,5 @@
-//! The meter's definitions, with what they speak of: what it does, what a key does, what a core keeps of a trip. The
-//! definitions name no table.
+//! The meter's definitions and the types that they speak of: what the meter does, what a key does, what a core keeps of
+//! a trip. The definitions name no table.
 #![tactic(auto)]
 
 mod act;

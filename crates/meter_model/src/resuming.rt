@@ -5,9 +5,9 @@ ghost use Rattle.meter_model.specs.KeptTrip.{FitsSetting, IsSupplementNumber, hi
 ghost use Rattle.meter_model.specs.Setting.{Setting};
 ghost use Rattle.meter_model.specs.Trip.{Part, MeterTrip, fare_of, held_trip, core_trip_of, trip_of};
 
-/// A trip that is saved and resumed is charged as if nothing had happened: a held trip that is opened is
-/// saved again as it was held, and after any further intervals and supplements the trip that was opened
-/// from its saved form has the fare and the saved form of the whole trip.
+/// A law: a trip that is saved and resumed is charged as if nothing had happened. A held trip that is opened is saved
+/// again as it was held. After any further intervals and supplements, the trip that was opened from its saved form has
+/// the fare and the saved form of the whole trip.
 pub fn resumed_trips_go_on()
     ensures saved { (s : Setting) (trip : Trip) → FitsSetting s trip
         → held_trip s trip.saved trip.stopped trip.position trip.zone (trip_of s trip) ≡ trip }
@@ -20,8 +20,8 @@ pub fn resumed_trips_go_on()
         ≡ core_trip_of s (with_more parts extras t) }
 {}
 
-/// The fare of a trip depends on the initial hire fee, the cover and the minimum fare of its hiring and
-/// on its intervals in Hired alone, whatever drops and power-ups lay between them.
+/// A law: the fare of a trip depends on the initial hire fee, the cover and the minimum fare of its hiring and on its
+/// intervals in Hired alone, whatever drops and power-ups lay between them.
 pub fn fares_depend_on_the_intervals_in_hired()
     ensures { (s : Setting) (t u : MeterTrip) → t.fees ≡ u.fees
         → t.opening.cover ≡ u.opening.cover → t.opening.above ≡ u.opening.above

@@ -20,7 +20,7 @@ use Rattle.seal_record.specs.Decoding.{reads, seal_number_of}
 use Rattle.meter_store.specs.Sealing.{FoundSeal, FoundTotals, HasEitherSeal, IsAmid, HoldsSeal, HoldsSealing}
 use Rattle.meter_store.specs.Sealing.{StillHas, LeavesSealing, ShowsSeal, found_number, next_number}
 
--- the pair of seals has the found place, or none where it was found blank
+-- the pair of seals has the found place, or none if it was found blank
 abbrev pub pair_for : Option (Place × ℕ) → Pair
 pair_for found = record { at = 1024; latest = option_map (λ latest. latest.0) found }
 
@@ -29,7 +29,7 @@ pub is_pair : (found : Option (Place × ℕ)) → ForSome found (λ latest. late
 is_pair None slot = record { at_in = omega arith; slot_in = omega arith }
 is_pair (Some found) slot = record { at_in = omega arith; slot_in = slot found refl }
 
--- the pair of totals where none were found
+-- the pair of totals if none were found
 abbrev pub first_pair : Pair
 first_pair = record { at = 0; latest = None }
 
@@ -94,7 +94,7 @@ module _ {D L : Type 0} {N : ℕ} (B : Ghosts D N L) where
   quiet_found board (Some found) None is = absurd is
   quiet_found board (Some found) (Some seal) is = is.0.quiet
 
-  -- where it has the same bytes it shows what was found
+  -- if it has the same bytes it shows what was found
   shows_found : (board : D) (found : Option (Place × ℕ)) (old : Option Seal) (left : List ℕ)
       → FoundSeal B board found old → IsSamePair 1024 (B.image board) left → ShowsSeal left old
   shows_found board None None left is same = slots.same_blank 1024 (B.image board) left is.0 same
@@ -226,7 +226,7 @@ module _ {D L : Type 0} {N : ℕ} (B : Ghosts D N L) where
   pub writes_first : (board after : D) → WritesIn B 0 1024 board after → WritesIn B 0 2048 board after
   writes_first board after writes = writes_in_part B 0 2048 0 1024 board after (omega arith) (omega arith) writes
 
-  -- a store into the pair of totals where none were found
+  -- a store into the pair of totals if none were found
   pub first_beside : (pair : Pair) (old new : D) → pair ≡ first_pair → WritesIn B (spare_at pair) 512 old new
       → WritesIn B 0 1024 old new
   first_beside pair old new is writes = writes_in_part B 0 1024 0 512 old new (omega arith) (omega arith)

@@ -21,8 +21,8 @@ use Rattle.seal_record.specs.Ranges.{seal_number_of}
 abbrev pub seals_at : ℕ
 seals_at = 1024
 
--- an image has a seal if its pair of seals stands for it; `reads` says which seal the bytes of a slot are read as,
--- as the law seals_are_read_by_their_table says
+-- an image has a seal if its pair of seals stands for it; `reads` says which seal a slot's bytes are read as, as the
+-- law seals_are_read_by_their_table says
 abbrev pub HasSeal : List ℕ → Seal → Type 0
 HasSeal image seal = StandsFor reads seal_number_of seals_at image seal
 
@@ -76,8 +76,7 @@ abbrev pub places_written : (found : Option Durable) → ℕ
 places_written None = pair_size + pair_size
 places_written (Some durable) = pair_size
 
--- the number of the found seal is that of the pair of its place and its number, and there is none if no seal was
--- found
+-- the number of the found seal stands beside its place, and there is none if no seal was found
 abbrev pub found_number : Option (Place × ℕ) → Option ℕ
 found_number None = None
 found_number (Some found) = Some found.1
@@ -131,7 +130,7 @@ module _ {D L : Type 0} {N : ℕ} (B : Ghosts D N L) where
     pub seal_is : (place : Place) × HoldsSeal place board seal
 
   -- a run leaves a sealing if a cut at each of its moments leaves an image amid the sealing, and outside the places
-  -- that are written what it might have left at the old board
+  -- that are written only what a cut of the old board might leave
   abbrev pub LeavesSealing : Sealing → D → D → Type 0
   LeavesSealing sealing old new =
       LeavesThroughout B (first_written sealing.totals) (places_written sealing.totals) (IsAmid sealing) old new

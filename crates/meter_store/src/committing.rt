@@ -14,7 +14,7 @@ use taxi_units::Steps;
 use totals_record::{Change, Durable};
 
 /// The board failed.
-#[derive(Clone, Copy, PartialEq, Eq)]
+#[derive(Clone, Copy)]
 pub struct DeviceFailed;
 
 impl From<Failed> for DeviceFailed {
@@ -25,14 +25,12 @@ impl From<Failed> for DeviceFailed {
     }
 }
 
-/// Commits a change of the state that the pair of totals has at a place, and answers the new state and
-/// its place, which is in the other slot. At each moment a cut of the power leaves the state before or
-/// the state after, and so does the board's own image, also where the answer is `DeviceFailed`;
-/// outside that other slot a cut leaves what it might have left at the start, so the slot with the
-/// state before stays as it was. Nothing is printed.
+/// Commits a change of the state that the pair of totals has at a place, and gives the new state and its place, which
+/// is in the other slot. At each moment a cut leaves the state before or the state after, and so does the board's own
+/// image, even if the commit failed. Outside the other slot a cut leaves what it might have left at the start, so the
+/// slot with the state before stays as it was. Nothing is printed. The state after has to be in its ranges.
 ///
-/// `DeviceFailed` comes only where the board's count of faults rose; after it only a scan goes on.
-/// The ranges must hold after the commit.
+/// `DeviceFailed`: the board failed, so its count of faults rose. Only a scan may follow.
 pub fn commit<B: Board<STORE_SIZE, L>, L: Ledger>(
     board: &mut B,
     durable: &Durable,

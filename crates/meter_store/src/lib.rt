@@ -1,6 +1,6 @@
-//! The store of a meter: the commit of a new durable state and the sealing, each of which any cut of
-//! the power leaves old or new. The pair of totals begins at place 0 of the board's store, the pair of
-//! seals at place 1,024. All of it is this project's own.
+//! The store of a meter: the commit of a new durable state, and the sealing. A cut of the power leaves each of them old
+//! or new. The pair of totals begins at place 0 of the board's store, the pair of seals at place 1,024. All of it is
+//! this project's own.
 #![tactic(auto)]
 
 mod committing;

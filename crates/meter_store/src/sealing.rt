@@ -1,4 +1,4 @@
-//! Sealing: totals of zero where the store has none, and then the seal.
+//! Sealing: totals of zero if the store has none, and then the seal.
 ghost use Rattle.std.specs.Prelude.{◌≡◌, ◌+◌, ◌≤◌, Option, None, IfOk, OnOk};
 ghost use Rattle.std.specs.Option.{ForSome, option_map};
 ghost use Rattle.outside.specs.Faults.{HasCause};
@@ -19,20 +19,18 @@ use std::sync::ledger::Ledger;
 use taxi_units::Steps;
 use totals_record::Durable;
 
-/// Where the pair of seals begins in the store.
+/// The place at which the pair of seals begins in the store.
 const SEALS_AT: u32 = 1024;
 
-/// Seals the store. Totals that were found stay as they are, byte for byte; where none were found,
-/// totals of zero with number 1 are written first. Then the seal is written, whose number
-/// is the one after the found seal's, or 1. Both pairs of slots were scanned just before, with these
-/// findings: the totals, and the place and the number of the seal.
+/// Seals the store. Totals that were found stay as they are, byte for byte; if there were none, totals of zero with
+/// number 1 are written first. Then the seal is written, with the number after the found seal's, or 1. `totals` and
+/// `found`, the place and the number of the seal, are what scans of both pairs have just found.
 ///
-/// At each moment a cut of the power leaves the totals that were found, or where there were none, none
-/// or those of zero; and the seal that was found, or none as before, or the new one, and the new one
-/// only beside totals. So does the board's own image, also where the answer is `DeviceFailed`. Nothing
-/// is printed, and at most 10 calls of the board are made.
+/// At each moment a cut leaves the totals that were found or, if there were none, none or those of zero. It leaves the
+/// seal that was found, or none as before, or the new one, and the new one only beside totals. So does the board's own
+/// image, even if the sealing failed. Nothing is printed, and at most 10 calls of the board are made.
 ///
-/// `DeviceFailed` comes only where the board's count of faults rose; after it only a scan goes on.
+/// `DeviceFailed`: the board failed, so its count of faults rose. Only a scan may follow.
 pub fn place_seal<B: Board<STORE_SIZE, L>, L: Ledger>(
     board: &mut B,
     totals: Option<Durable>,

@@ -9,8 +9,8 @@ ghost use Rattle.meter_store.specs.Sealing.{totals_found};
 use outside::{Board, STORE_SIZE};
 use std::sync::ledger::Ledger;
 
-/// A law: what scans of both pairs found is what a sealing asks for, and it stays so on a board with
-/// the same image of which no more is in flight, as after another scan.
+/// What scans of both pairs found is what a sealing asks for. It stays so on a board with the same image of which no
+/// more is in flight, as after another scan.
 pub fn scans_find_what_a_sealing_asks_for<B: Board<STORE_SIZE, L>, L: Ledger>()
     ensures totals { (board : B) (found : Found Durable) → ScannedTotals B.Board board found
         → FoundTotals B.Board board (totals_found found) }

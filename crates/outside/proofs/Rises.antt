@@ -1,15 +1,15 @@
--- What a call that failed leaves, and what a count of faults says of a call behind others that left it.
+-- What a call that failed leaves, and what a count of faults says of a call after others that left it.
 use Rattle.std.proofs.Common.{◌≡◌, ℕ, true, false, inl, Result, Ok, Err, IfOk, IsErr, is_err}
 use Rattle.std.proofs.Common.{ap, sym, subst, ◌∙◌}
 use Rattle.std.proofs.lemmas.Bool.{false≢true}
 use Rattle.outside.specs.Faults.{HasCause, MayRise, RisesOnlyIf, Rose}
 
--- of a call that failed nothing is said that holds of its value
+-- nothing is said of the value of a call that failed
 pub on_failed : {A E : Type 0} (r : Result A E) (P : A → Type 0) → IsErr r → IfOk r P
 on_failed (Ok value) P failed = absurd (let bad : false ≡ true = failed in cc)
 on_failed (Err fault) P failed = tt
 
--- a count that rose behind calls that left it rose over all of them
+-- a count that rose after calls that left it rose over all of them
 pub rose_behind : (before between now : ℕ) → between ≡ before → Rose between now → Rose before now
 rose_behind before between now same rose = subst (λ (count : ℕ). Rose count now) same rose
 

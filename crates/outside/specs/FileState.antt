@@ -3,7 +3,7 @@ use Rattle.std.specs.Prelude.{ℕ, Bool, true, false, Result, IsErr, IsTrue}
 use Rattle.outside.specs.declared.file_store.State.{State}
 use Rattle.outside.specs.declared.file_store.State.TheVariants.{Unseen, Absent, Found, Settled, Lost}
 
--- a store is lost where its opening, its making or a sync of it failed
+-- a store is lost if its opening, its making or a sync of it failed
 abbrev pub is_lost : {F : Type 0} → State F → Bool
 is_lost Unseen = false
 is_lost Absent = false
@@ -16,7 +16,7 @@ pub record DeviceState : Type 0 where
   pub failed : ℕ
   pub lost : Bool
 
--- a device that is lost has no good call, and stays lost
+-- a device that was lost stays so, and its call fails
 pub record StaysLost {T E : Type 0} (before now : Bool) (result : Result T E) : Type 0 where
   pub later : IsTrue before → IsErr result
   pub kept : IsTrue before → IsTrue now

@@ -4,8 +4,7 @@ use Rattle.outside.specs.declared.board.Board.{Ghosts}
 use Rattle.taxi_units.specs.Bytes.{AreBytes}
 use Rattle.outside.specs.Disk.{MayLeave, PieceTakes, SameBut}
 
--- a store may hold an image after a cut if it has any bytes at the places in flight and all others as a read gives
--- them
+-- a store may hold an image after a cut if it is what a read gives but for any bytes at the places in flight
 pub record MayHold (image : List ℕ) (in_flight : ℕ → Type 0) (left_image : List ℕ) : Type 0 where
   pub bytes : SameBut in_flight image left_image
   pub small : AreBytes left_image
@@ -15,9 +14,8 @@ module _ {D L : Type 0} {N : ℕ} (B : Ghosts D N L) where
   abbrev pub IsAtRest : D → Type 0
   IsAtRest board = (place : ℕ) → ¬ B.in_flight board place
 
-  -- a run leaves only a kind of image and text if whatever a cut at any moment since its beginning might have left
-  -- is of that kind, and a cut since an earlier moment might have left beside that only what it might have left before
-  -- the run
+  -- a run leaves only a kind of image and text if whatever is left since its beginning is of that kind, and whatever is
+  -- left since an earlier moment is so or was left before the run
   pub record LeavesOnly (old new : D) (kind : List ℕ → List ℕ → Type 0) : Type 0 where
     pub later : B.moment old ≤ B.moment new
     pub each : (left_image left_text : List ℕ) → B.left_since new (B.moment old) left_image left_text
@@ -26,9 +24,8 @@ module _ {D L : Type 0} {N : ℕ} (B : Ghosts D N L) where
         → B.left_since new start left_image left_text → B.left_since old start left_image left_text
         ⊎ kind left_image left_text
 
-  -- a run keeps the store if a read gives what it gave, nothing more is in flight, and a cut since any earlier
-  -- moment might have left only what it might have left before, or an image that it might have left of the board before
-  -- the run
+  -- a run keeps the store if a read gives what it gave, nothing more is in flight, and whatever is left since an
+  -- earlier moment was left before the run, or the store may hold its image after a cut at the beginning
   pub record KeepsStore (old new : D) : Type 0 where
     pub same : B.image new ≡ B.image old
     pub flight : (place : ℕ) → B.in_flight new place → B.in_flight old place
@@ -37,13 +34,12 @@ module _ {D L : Type 0} {N : ℕ} (B : Ghosts D N L) where
         → B.left_since new start left_image left_text → B.left_since old start left_image left_text
         ⊎ MayHold (B.image old) (B.in_flight old) left_image
 
-  -- a print of a piece takes the time between two states if a cut in it might leave only a beginning of the piece
-  -- more
+  -- a print of a piece takes the time between two states if a cut in it might leave only what was printed before, with
+  -- a beginning of the piece
   abbrev pub PrintTakes : D → D → List ℕ → Type 0
   PrintTakes old new piece = PieceTakes B.moment B.left_since B.image B.in_flight B.printed piece old new
 
-  -- a board leaves what it holds now if a cut at its moment might have left only what it may leave of the board as
-  -- it is
+  -- a board leaves what it holds now if a cut since its moment might have left only what a cut may leave now
   abbrev pub LeavesNow : D → Type 0
   LeavesNow board = (left_image left_text : List ℕ) → B.left_since board (B.moment board) left_image left_text
       → MayLeave (B.image board) (B.in_flight board) (B.printed board) left_image left_text

@@ -1,5 +1,5 @@
-//! What is done behind a sync that failed: the same bytes are written again, or a name is made and taken away, and
-//! no sync is asked for behind that. The cases are those of the system of which chosen calls fail.
+//! What is done after a sync that failed: the same bytes are written again, or a name is made and removed, and no sync
+//! follows. The cases are those of the system of which chosen calls fail.
 use crate::faulty_system::{Again, Call, Fault};
 use crate::faulty_tests::Ask::{Print, Read, Sync, Write, WriteLast};
 use crate::faulty_tests::{
@@ -64,7 +64,7 @@ const OPENINGS: &[Case] = &[
     },
 ];
 
-/// A later sync fails. What was written since the last good one is written again, where the sync itself failed.
+/// A later sync fails. What was written since the last good one is written again, if the sync itself failed.
 const LATER: &[Case] = &[
     Case {
         name: "what was synced before isn't written again",

@@ -1,4 +1,4 @@
-//! For tests: the system, of which chosen calls fail, and which sees to the order of what it is asked.
+//! For tests: a system of which chosen calls fail, and which checks the order of its calls.
 use crate::file_tests::{Change, make};
 use crate::held_file::HeldFile;
 use std::alloc::Allocator;
@@ -29,7 +29,7 @@ pub(crate) enum Call {
     Print,
 }
 
-/// What is off with a system.
+/// What goes wrong in a system.
 #[derive(Clone, Copy)]
 pub(crate) enum Fault {
     /// This call fails with the error that is tried.
@@ -41,7 +41,7 @@ pub(crate) enum Fault {
     /// This call fails with the error that is tried, but for the first time that it is made.
     FailsLater(Call),
 
-    /// Who asks for the first name is told of the second.
+    /// Whoever asks for the first name is told of the second.
     Leads(&'static str, &'static str),
 
     /// As this call is made for the first time, another makes this change in the folder.
@@ -51,7 +51,7 @@ pub(crate) enum Fault {
     Masked(u32),
 }
 
-/// What was done behind a sync that failed.
+/// What was done after a sync that failed.
 #[derive(Clone, Copy, PartialEq, Eq)]
 pub(crate) enum Again {
     Nothing,
@@ -95,7 +95,7 @@ pub(crate) struct Trial {
     /// A name was given since a folder's sync was last asked for.
     has_names: Cell<bool>,
 
-    /// A call was made that fails later, or amid which another changes the folder.
+    /// A call was made that fails later, or during which another changes the folder.
     was_made: Cell<bool>,
 
     failed: Cell<FailedSync>,
@@ -118,17 +118,17 @@ impl Trial {
         }
     }
 
-    /// From now on the faults are there.
+    /// From now on calls fail.
     pub(crate) fn begin(&self) {
         self.has_begun.set(true);
     }
 
-    /// What was done behind a sync that failed.
+    /// What was done after a sync that failed.
     pub(crate) fn again(&self) -> Again {
         self.again.get()
     }
 
-    /// Fails where a fault is of this call.
+    /// Fails if a fault says so of this call.
     fn pass(&self, rt: HostRuntime, call: Call) -> io::Result<()> {
         if !self.has_begun.get() {
             return Ok(());
@@ -151,7 +151,7 @@ impl Trial {
         Ok(())
     }
 
-    /// A sync is asked for. What the call answers is told, and what was done behind one that failed.
+    /// Notes a sync with its answer, and whether it came after one that failed.
     fn sync(&self, of: FailedSync, answer: io::Result<()>) -> io::Result<()> {
         if self.failed.get() == FailedSync::OfFile && of == FailedSync::OfFile {
             self.again.set(Again::Synced);
@@ -162,7 +162,7 @@ impl Trial {
         answer
     }
 
-    /// Bytes are written in a file from this place on.
+    /// Notes that bytes are written in a file from this place on.
     fn note_write(&self, at: u64, count: usize) {
         if self.failed.get() != FailedSync::OfFile {
             return;
@@ -175,7 +175,7 @@ impl Trial {
         });
     }
 
-    /// A name is taken away, in one of the two folders.
+    /// Notes that a name is removed, in one of the two folders.
     fn note_removal(&self, path: &str) {
         let folder = if path.ends_with("/kept/taxi.store.new") {
             FailedSync::OfLinkedFolder
@@ -197,7 +197,7 @@ impl Trial {
         None
     }
 
-    /// The name that is told of in place of this one.
+    /// The name that is told in place of this one.
     fn led<'b>(&self, name: &'b str) -> &'b str {
         if !self.has_begun.get() {
             return name;
@@ -231,13 +231,13 @@ pub(crate) struct FaultyFile<'a> {
 }
 
 impl<'a> FaultyFile<'a> {
-    /// Fails where a fault is of this call.
+    /// Fails if a fault says so of this call.
     fn pass(&self, call: Call) -> io::Result<()> {
         self.trial.pass(self.rt, call)
     }
 }
 
-/// The names that a fault may be of.
+/// The names whose calls may fail.
 const NAMES: [&str; 9] = [
     "taxi.store",
     "taxi.store.new",
@@ -250,8 +250,8 @@ const NAMES: [&str; 9] = [
     "/proc/self/fd/2",
 ];
 
-/// The name among those that a fault may be of, and else one that none is of. The folder at the end of a link has
-/// a path that ends in its name.
+/// The name, if its calls may fail, or else one whose calls don't. The folder at the end of a link has a path that ends
+/// in its name.
 fn listed(name: &str) -> &'static str {
     for one in NAMES {
         if one == name {
@@ -265,13 +265,13 @@ fn listed(name: &str) -> &'static str {
     }
 }
 
-/// What is not in the right order.
+/// The error of a call in the wrong order.
 fn disorder() -> io::Error {
     io::Error::from(ErrorKind::Deadlock)
 }
 
 impl<'a> FaultySystem<'a> {
-    /// Fails where a fault is of this call.
+    /// Fails if a fault says so of this call.
     fn pass(&self, call: Call) -> io::Result<()> {
         self.trial.pass(self.rt, call)
     }
@@ -398,7 +398,7 @@ impl<'a> OpenFile for FaultyFile<'a> {
     }
 
     fn sync_all(&self) -> io::Result<()> {
-        // A sync that fails was asked for too, so that one which is passed over isn't taken for disorder.
+        // A sync that fails was asked for too, so one that is passed over isn't taken for disorder.
         self.is_synced.set(true);
         let of = if !self.file.metadata()?.is_dir() {
             self.trial.has_bytes.set(false);

@@ -33,7 +33,7 @@ pub(crate) enum Ask {
 
 use Ask::{Print, Read, Sync, Write};
 
-/// A case, by what it tells.
+/// A case, named for what it shows.
 #[derive(Clone, Copy)]
 pub(crate) struct Case {
     pub name: &'static str,
@@ -47,10 +47,10 @@ pub(crate) struct Case {
     /// What is asked before the faults begin. Each is Ok.
     pub before: &'static [Ask],
 
-    /// What is asked behind that, and whether it is Ok.
+    /// What is asked after that, and whether it is Ok.
     pub calls: &'static [(Ask, bool)],
 
-    /// What is done behind a sync that failed.
+    /// What is done after a sync that failed.
     pub again: Again,
 
     pub left: &'static [Sight],
@@ -68,7 +68,7 @@ pub(crate) const ALL: &[ErrorKind] = &[
     ErrorKind::WouldBlock,
 ];
 
-/// Those that never mean that a thing can't be done by us.
+/// Errors that never mean that we can't do a thing.
 pub(crate) const HARD: &[ErrorKind] = &[
     ErrorKind::Other,
     ErrorKind::StorageFull,
@@ -76,7 +76,7 @@ pub(crate) const HARD: &[ErrorKind] = &[
     ErrorKind::WouldBlock,
 ];
 
-/// One of any kind.
+/// One error of any kind.
 pub(crate) const ONE: &[ErrorKind] = &[ErrorKind::Other];
 
 /// A folder with a store of sevens, and a longer file.
@@ -105,7 +105,7 @@ pub(crate) const NO_CALL: &[(Ask, bool)] = &[
     (Print, false),
 ];
 
-/// Likewise, a print being the first.
+/// The same, with a print as the first call.
 pub(crate) const NO_PRINT: &[(Ask, bool)] = &[
     (Print, false),
     (Read(7), false),
@@ -141,7 +141,7 @@ pub(crate) const A_MAKING: &[(Ask, bool)] = &[
     (Read(1), true),
 ];
 
-/// What holds of most cases, which change it.
+/// What holds for most cases, which change it.
 pub(crate) const FOUND_CASE: Case = Case {
     name: "a found store",
     folder: FOUND,
@@ -154,7 +154,7 @@ pub(crate) const FOUND_CASE: Case = Case {
     left: WRITTEN,
 };
 
-/// Likewise, of a new store.
+/// The same for a new store.
 pub(crate) const NEW_CASE: Case = Case {
     name: "a new store",
     folder: &[],
@@ -601,7 +601,7 @@ fn device_of<'a>(case: &Case, system: FaultySystem<'a>) -> FileBoard<FaultySyste
     }
 }
 
-/// Asks what a case says, each of which must come as it says.
+/// Makes a case's calls, each of which must come out as it says.
 fn must_come<L: Ledger>(
     rt: HostRuntime,
     blank: Blank,
@@ -627,12 +627,12 @@ fn must_come<L: Ledger>(
     must(trial.again() == case.again, case.name, 99)
 }
 
-/// Asks what a case says, under a ledger of its own.
+/// Makes a case's calls, under a ledger of its own.
 fn must_come_counted(rt: HostRuntime, case: &Case, kind: ErrorKind) -> Result<(), Fail> {
     must_come::<Brand>(rt, Blank::new(1), case, kind)
 }
 
-/// Plays a case in the folder of now.
+/// Plays a case in the working folder.
 fn play(rt: HostRuntime, case: &Case, kind: ErrorKind) -> Result<(), Fail> {
     for change in case.folder {
         make(rt, change)?;

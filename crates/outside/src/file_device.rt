@@ -1,4 +1,4 @@
-//! The board of the system: a file of a name and a size, and the standard output.
+//! The board of the system: a file and the standard output.
 ghost use Rattle.std.specs.Prelude.{◌≡◌, ◌+◌, [], false, IsTrue, OnErr};
 ghost use Rattle.outside.specs.Faults.{HasCause};
 ghost use Rattle.outside.specs.FileState.{DeviceState, StaysLost, is_lost};
@@ -29,31 +29,29 @@ const LOG_FILE: StoreNames = StoreNames {
     unfinished: "taxi.log.new",
 };
 
-/// A store in a file of the working folder, of which its first `N` bytes are used, and the standard output.
-/// Nothing is told of what the file holds or of what was printed: that both behave as a board's should is
-/// trusted. The count of faults is the number of calls that failed, which stands still at the last value
-/// of a `u64`. A call fails where the system answered an error, but for those errors that docs/STORE.md names as
-/// passed over, and where the device itself finds something wrong. A call that a signal interrupts is
-/// made again, a bounded number of times. All of it is this project's own.
+/// A store in a file of the working folder, of which the first `N` bytes are used, and the standard output. It tells
+/// neither what the file holds nor what was printed: that both behave as a board's should is trusted. The count of
+/// faults is the number of calls that failed, up to the last value of a `u64`. A call fails if the system answered an
+/// error, but for those that docs/STORE.md names as passed over, or if the device itself finds something wrong. A call
+/// that a signal interrupts is made again, a bounded number of times. All of it is this project's own.
 ///
-/// - At the first call, a print too, the file is looked for, and one under the name of a store in the making.
-///   Where the standard output or the standard error is either, each call fails.
-/// - A file that was found is opened at the first call of the store, and is under the system's lock from then
-///   on, also where it is only read. While another has the lock, the call fails. What isn't a plain file is
-///   refused, and so is a file that is shorter than the store: nothing is ever written to it.
-/// - An opening syncs the file, and its folder, at the end of a symbolic link the file's own. Where a device to
-///   write finds the name of a store in the making on the store's own file, that name goes.
-/// - Where there was no file, the store reads as zeros, and the first write makes it: whole, on the medium,
-///   for its owner alone, and only then under its name. Where it was absent and another made it since, each
-///   call of the store fails.
-/// - A device to read fails at each write. It opens a file that may not be written as well; a device to
-///   write refuses that at its opening. What stands behind the store's bytes is left as it is.
-/// - A sync fails where the name leads to this file no more, and a sync and a write fail where the file is
-///   shorter than the store.
-/// - Where the system could not sync, the same bytes are written again without a sync, so that the next process is
-///   told the truth by its own. At an opening these are all bytes of a store that may be written.
-/// - After an opening, a making or a sync that failed, and where the file was found to be cut short, the device is
-///   lost: each later call fails.
+/// - The first call, even a print, looks for the file, and for one under the name of a store in the making. If the
+///   standard output or the standard error is either, each call fails.
+/// - A file that was found is opened at the first call of the store, and is locked from then on, even if it is only
+///   read. If another has the lock, the call fails. A file that isn't plain, or that is shorter than the store, is
+///   refused: nothing is ever written to it.
+/// - An opening syncs the file and its folder: at the end of a symbolic link, the file's own. A device to write removes
+///   the name of a store in the making if the store's own file has it.
+/// - If there was no file, the store reads as zeros, and the first write makes it: whole, on the medium, for its owner
+///   alone, and only then under its name. If another has made it since, each call of the store fails.
+/// - A device to read fails at each write. It opens even a file that may not be written; a device to write refuses that
+///   at its opening. What stands behind the store's bytes is left as it is.
+/// - A sync fails if the name no longer leads to this file. A sync and a write fail if the file is shorter than the
+///   store.
+/// - If the system could not sync, the same bytes are written again without a sync, so that the next process learns the
+///   truth by its own. At an opening these are all bytes of a store that may be written.
+/// - After an opening, a making or a sync that failed, or if the file was found to be cut short, the device is lost:
+///   each later call fails.
 #[derive(Drop)]
 pub struct FileDevice<R: HostSystem + Print + Drop, const N: usize>
 where
@@ -84,9 +82,8 @@ impl<R: HostSystem + Print + Drop> FileDevice<R, STORE_SIZE>
 where
     R::File: HeldFile,
 {
-    /// The board of this runtime to read the meter's store: each write of it fails. Nothing is asked of the
-    /// system yet. The allocator is used only by an opening, to find the folder of a file at the end of a
-    /// symbolic link.
+    /// The board to read the meter's store: each write fails. It asks nothing of the system yet. Only an opening uses
+    /// the allocator, to find the folder of a file at the end of a symbolic link.
     pub fn to_read(rt: R, alloc: Global) -> FileDevice<R, STORE_SIZE>
         ensures { result ≡ record { failed = 0; lost = false } }
     {
@@ -98,7 +95,7 @@ where
         }
     }
 
-    /// The board to read and write it, whose opening fails where the store may not be written.
+    /// The board to read and write the meter's store. Its opening fails if the store may not be written.
     pub fn to_write(rt: R, alloc: Global) -> FileDevice<R, STORE_SIZE>
         ensures { result ≡ record { failed = 0; lost = false } }
     {
@@ -115,7 +112,7 @@ impl<R: HostSystem + Print + Drop> FileDevice<R, LOG_SIZE>
 where
     R::File: HeldFile,
 {
-    /// The board of this runtime to read the hiring log, as the meter's to read its store.
+    /// The board to read the hiring log, as the meter's to read its store.
     pub fn to_read(rt: R, alloc: Global) -> FileDevice<R, LOG_SIZE>
         ensures { result ≡ record { failed = 0; lost = false } }
     {
@@ -127,7 +124,7 @@ where
         }
     }
 
-    /// The board to read and write it, whose opening fails where the log may not be written.
+    /// The board to read and write the hiring log. Its opening fails if the log may not be written.
     pub fn to_write(rt: R, alloc: Global) -> FileDevice<R, LOG_SIZE>
         ensures { result ≡ record { failed = 0; lost = false } }
     {
@@ -144,7 +141,7 @@ impl<R: HostSystem + Print + Drop, const N: usize> FileDevice<R, N>
 where
     R::File: HeldFile,
 {
-    /// Prints, where no output is the store.
+    /// Prints if no output is the store.
     fn attempt_print(&mut self, bytes: &[u8]) -> io::Result<()>
         ensures stays { StaysLost self.old.lost self.new.lost result }
         ensures same { self.new.failed ≡ self.old.failed }

@@ -1,7 +1,7 @@
 //! The folder of a store's file, and its sync.
 //!
-//! Behind a sync that failed a name is made in the folder and taken away again, for the reason that
-//! written_again.rt gives: what the system could not write then waits for the next sync.
+//! If the sync fails, a name is made in the folder and removed again, for the reason that written_again.rt gives: what
+//! the system could not write then waits for the next sync.
 use crate::failures::unless_one_of;
 use crate::held_file::HeldFile;
 use crate::named_file::{locked, new_file};
@@ -17,7 +17,7 @@ use std::{fs, io};
 /// The working folder.
 const FOLDER: &str = ".";
 
-/// Syncs the working folder, in which a name was given. No error is passed over.
+/// Syncs the working folder after a name was made in it. No error is passed over.
 pub(crate) fn sync_folder<R: HostSystem>(rt: &R, names: StoreNames) -> io::Result<()>
 where
     R::File: HeldFile,
@@ -26,8 +26,8 @@ where
     sync_or_name_again(rt, &folder, &[], names.unfinished)
 }
 
-/// Syncs the folder where the file itself has its name, which isn't the folder of a link to it. Whoever made the
-/// file may have been killed before that was done.
+/// Syncs the folder that has the file itself, not a link to it. Whoever made the file may have been killed before this
+/// was done.
 pub(crate) fn sync_folder_of_found<R: HostSystem>(
     rt: &R,
     alloc: Global,
@@ -49,7 +49,7 @@ where
     }
 }
 
-/// Syncs the working folder, as that of a file that was found.
+/// Syncs the working folder if that is possible.
 pub(crate) fn sync_working_folder<R: HostSystem>(
     rt: &R,
     names: StoreNames,
@@ -68,7 +68,7 @@ struct Linked {
     unfinished: PathBuf,
 }
 
-/// The folder where the file has its name, if the store's name is a link to it.
+/// The folder that has the file itself, if the store's name is a symbolic link.
 fn linked_folder<R: HostSystem>(
     rt: &R,
     alloc: Global,
@@ -84,8 +84,8 @@ fn linked_folder<R: HostSystem>(
     Ok(Some(Linked { folder, unfinished }))
 }
 
-/// Syncs a folder. Passed over is only what means that this can't be done by us: the folder may not be opened, or
-/// its file system syncs no folders, or nothing, being open to be read alone.
+/// Syncs a folder. It passes over only errors by which we can't: we may not open the folder, or its file system syncs
+/// no folders, or it is only to be read and syncs nothing.
 fn sync_where_possible<R: HostSystem>(
     rt: &R,
     folder: &str,
@@ -117,8 +117,8 @@ where
     }
 }
 
-/// Syncs a folder, and passes over an error of one of these kinds. Behind any other this name is made there and
-/// taken away again, and no sync is asked for behind that. The answer is the sync's.
+/// Syncs a folder, passes over errors of these kinds, and gives the answer. After any other error this name is made
+/// there and removed again. No sync follows.
 fn sync_or_name_again<R: HostSystem>(
     rt: &R,
     folder: &R::File,
@@ -135,8 +135,8 @@ where
     answer
 }
 
-/// Makes a file of this name and takes the name away again. Where the name is there nothing is done: a making
-/// takes it away, or it belongs to another. The lock keeps a making from taking the file for what a cut left.
+/// Makes a file of this name and removes the name. If it is there already, nothing is done: a making removes it, or it
+/// is another's. Under its lock no making takes the file for what a cut left.
 fn name_again<R: HostSystem>(rt: &R, name: &str) -> io::Result<()>
 where
     R::File: HeldFile,

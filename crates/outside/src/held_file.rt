@@ -9,20 +9,20 @@ use std::os::fd::AsRawFd;
 /// The last number of a standard stream.
 const LAST_STREAM: i32 = 2;
 
-/// Whether a standard stream has this number, or had it before it was closed.
+/// Whether this is the number of a standard stream, open or closed.
 fn is_of_stream(number: i32) -> bool
     ensures { IsTrue result ↔ number ≤ℤ pos 2 }
 {
     number <= LAST_STREAM
 }
 
-/// An open file of a system, with what the store asks of it beside reading, writing and `OpenFile`.
+/// An open file of a system: what the store asks of it beside reading, writing and `OpenFile`.
 pub trait HeldFile: OpenFile + Read + Write + Seek + Drop {
-    /// Takes the system's lock on the file, which no other opening may have. It doesn't wait for it.
+    /// Takes the system's lock on the file. It fails at once if another opening has it.
     fn lock_alone(&self) -> io::Result<()>;
 
-    /// The file under a number above those of the standard streams: what is meant for a stream that was
-    /// closed at the start must not come into the store.
+    /// The file under a number above those of the standard streams, so that no output for a stream that was closed at
+    /// the start gets into the store.
     fn above_streams(self) -> io::Result<Self>
     where
         Self: Sized;

@@ -23,7 +23,7 @@ const MADE: &[Sight] = &[
     Sight::Holds("taxi.store.new", &[], 5, 700, &[]),
 ];
 
-/// Writes the last byte of a log in the folder of now, and answers whether that was Ok.
+/// Writes the last byte of a log in the working folder, and tells whether that was Ok.
 fn writes_last<L: Ledger>(rt: HostRuntime, blank: Blank) -> bool
     requires name { blank.name ≡ L.name }
     requires parts { blank.parts ≡ L.parts }

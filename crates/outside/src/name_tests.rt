@@ -54,7 +54,7 @@ const ANYBODYS: Case = Case {
     ..NEW_CASE
 };
 
-/// Likewise for root, who can give a file away.
+/// The same for root, who can give a file away.
 const ROOTS: Case = Case {
     name: "a store in the making is another user's, and this process is root's",
     folder: &[
@@ -222,7 +222,7 @@ const NO_MAKING_AT_ALL: &[(Ask, bool)] = &[
     (Print, false),
 ];
 
-/// Prints that fail, each of which is told.
+/// Prints that fail, as each must.
 const PRINTS: &[Case] = &[
     Case {
         name: "a print fails beside a store",
@@ -247,8 +247,8 @@ const PRINTS: &[Case] = &[
     },
 ];
 
-/// A file of the system, and one that has its number of inode on another device. The root of a file system that is
-/// kept in memory often has the number 1.
+/// A file of the system, and one with its inode number on another device. The root of a file system that is kept in
+/// memory often has the number 1.
 const TWINS: &[(&[Fault], &str, &str)] = &[
     (
         &[
@@ -284,7 +284,7 @@ const TWINS: &[(&[Fault], &str, &str)] = &[
     ),
 ];
 
-/// Whether two names lead to files of one number of inode on two devices.
+/// Whether two names lead to files of one inode number on two devices.
 fn are_twins(rt: HostRuntime, one: &str, other: &str) -> bool {
     match (fs::metadata(&rt, one), fs::metadata(&rt, other)) {
         (Ok(one), Ok(other)) => one.ino() == other.ino() && one.dev() != other.dev(),

@@ -6,10 +6,10 @@ use std::os::unix::fs::{MetadataExt, OpenOptionsExt};
 use std::rt::Files as HostSystem;
 use std::{fs, io};
 
-/// What is made here belongs to its owner alone.
+/// The mode of a new file: only its owner may read and write it.
 pub(crate) const OWNER_ALONE: u32 = 0o600;
 
-/// A new file. It fails where anything of the name is there.
+/// A new file. It fails if anything has this name.
 pub(crate) fn new_file<R: HostSystem>(rt: &R, name: &str) -> io::Result<R::File> {
     OpenOptions::new()
         .read(true)
@@ -24,7 +24,7 @@ pub(crate) fn is_same(one: &Metadata, other: &Metadata) -> bool {
     one.dev() == other.dev() && one.ino() == other.ino()
 }
 
-/// The file under the system's lock, where the name leads to it then.
+/// The file, locked. It fails if the name doesn't lead to it then.
 pub(crate) fn locked<R: HostSystem>(rt: &R, name: &str, file: R::File) -> io::Result<R::File>
 where
     R::File: HeldFile,
@@ -35,7 +35,7 @@ where
     Ok(file)
 }
 
-/// Fails where the name leads to another file than this one, or to none.
+/// Fails if the name leads to another file, or to none.
 pub(crate) fn require_named<R: HostSystem>(rt: &R, name: &str, file: &R::File) -> io::Result<()> {
     if is_same(&fs::metadata(rt, name)?, &file.metadata()?) {
         Ok(())
@@ -44,7 +44,7 @@ pub(crate) fn require_named<R: HostSystem>(rt: &R, name: &str, file: &R::File) -
     }
 }
 
-/// Fails where the file has fewer bytes than a store of this size.
+/// Fails if the file has fewer bytes than a store of this size.
 pub(crate) fn require_size<F: OpenFile>(file: &F, size: u64) -> io::Result<()> {
     if file.metadata()?.len() < size {
         Err(io::Error::from(ErrorKind::UnexpectedEof))

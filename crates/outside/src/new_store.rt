@@ -17,22 +17,22 @@ pub struct StoreNames {
     /// The file that is the store.
     pub store: &'static str,
 
-    /// The file that a new store is until it is whole.
+    /// What a new store is called until it is whole.
     pub unfinished: &'static str,
 }
 
 /// The bits of a mode that say who may do what, and under whose name.
 const MODE_BITS: u32 = 0o7777;
 
-/// What the system keeps of this process, which belongs to its user.
+/// A folder of the system that belongs to the user of this process.
 const PROCESS: &str = "/proc/self";
 
 /// How many zeros are written at once.
 const PIECE: usize = 512;
 
-/// Makes a store of this number of zeros, under the system's lock. It fails where the store's name is there.
-/// The file has its zeros on the medium before it has the store's name, and the name is on the medium when
-/// this is done. Where the file system has no second names, it has the store's name from the first.
+/// Makes a store of this number of zeros, and locks it. It fails if the store's name is there. The zeros are on the
+/// medium before the file gets that name, and the name is on the medium at the end. If the file system has no second
+/// names, the file has the store's name from the first.
 pub(crate) fn make<R: HostSystem>(rt: &R, names: StoreNames, size: u64) -> io::Result<R::File>
 where
     R::File: HeldFile,
@@ -49,8 +49,7 @@ where
     Ok(file)
 }
 
-/// Gives a whole file the store's name, and syncs the folder. The answer is false where the file system has
-/// no second names.
+/// Gives a whole file the store's name, and syncs the folder. It is false if the file system has no second names.
 fn name_store<R: HostSystem>(rt: &R, names: StoreNames, file: &R::File) -> io::Result<bool>
 where
     R::File: HeldFile,
@@ -70,7 +69,7 @@ where
     }
 }
 
-/// A new file of this number of zeros, which are on the medium. It fails where anything of the name is there.
+/// A new file of this number of zeros, which are on the medium. It fails if anything has this name.
 fn made<R: HostSystem>(rt: &R, name: &str, size: u64) -> io::Result<R::File>
 where
     R::File: HeldFile,
@@ -83,8 +82,8 @@ where
     Ok(file)
 }
 
-/// Gives a new file the mode of a store, from which the process's mask may have taken its owner's own leave. A
-/// file system that keeps no modes refuses this, which is passed over.
+/// Gives a new file the mode of a store, since the process's mask may have taken away what its owner may do. The error
+/// of a file system that keeps no modes is passed over.
 fn give_to_owner_alone<F: OpenFile>(file: &F) -> io::Result<()> {
     if file.metadata()?.permissions().mode() & MODE_BITS == OWNER_ALONE {
         return Ok(());
@@ -107,8 +106,8 @@ fn write_zeros<F: HeldFile>(file: &mut F, size: u64) -> io::Result<()> {
     Ok(())
 }
 
-/// Removes what a cut has left of a store in the making. It is never read. It fails where the name isn't a
-/// plain file of this user, and where another makes its store in it.
+/// Removes what a cut has left of a store in the making, which is never read. It fails if the name isn't that of a
+/// plain file of this user, or if another makes its store in it.
 fn remove_unfinished<R: HostSystem>(rt: &R, name: &str) -> io::Result<()>
 where
     R::File: HeldFile,
@@ -129,7 +128,7 @@ where
     rt.remove_file(name)
 }
 
-/// The file of this user that a cut has left. Where its mode keeps its owner out, it first gets that of a store.
+/// The file of this user that a cut has left. If its mode keeps its owner out, it first gets that of a store.
 fn open_unfinished<R: HostSystem>(rt: &R, name: &str) -> io::Result<R::File> {
     let mut options = OpenOptions::new();
     options.read(true).write(true);

@@ -1,4 +1,4 @@
-//! The other name of a store's file.
+//! The second name of a store's file.
 use crate::failures::unless_one_of;
 use crate::folder::sync_working_folder;
 use crate::held_file::HeldFile;
@@ -10,9 +10,9 @@ use std::io::ErrorKind;
 use std::rt::Files as HostSystem;
 use std::{fs, io};
 
-/// Takes the name of a store in the making from this open and locked store, where the store's own file has it:
-/// whoever writes under that name writes the store. A making that was cut leaves it so. Another file under the
-/// name is left. A name that may not be taken away by us stays.
+/// Removes the name of a store in the making if it is one of this open and locked store: whoever wrote under it would
+/// write the store. A making that was cut leaves both names. The name of another file stays, and so does one that we
+/// may not remove.
 pub(crate) fn remove_second_name<R: HostSystem>(
     rt: &R,
     names: StoreNames,
@@ -33,7 +33,7 @@ where
     }
 }
 
-/// Whether the name of a store in the making is one of this file. A link to it isn't.
+/// Whether the name of a store in the making is one of this file. A symbolic link to it isn't.
 fn has_second_name<R: HostSystem>(rt: &R, names: StoreNames, file: &R::File) -> io::Result<bool> {
     match fs::symlink_metadata(rt, names.unfinished) {
         Ok(found) => Ok(is_same(&found, &file.metadata()?)),

@@ -1,8 +1,8 @@
-//! The sync of a file, behind which the same bytes are written once more where it fails.
+//! The sync of a file. If it fails, the same bytes are written once more.
 //!
-//! A system that could not write the bytes of a sync tells this once. Many count these bytes as written then,
-//! and give them to whoever reads: the next sync would be Ok, though the medium never had them. Once they are
-//! written again they wait for that sync: it fails while the medium does, and where it is Ok the medium has them.
+//! A system that could not write the bytes of a sync says so once. Many then count these bytes as written, and give
+//! them to whoever reads: the next sync would be Ok, though the medium never had them. Bytes that are written again
+//! wait for the next sync: it fails as long as the medium does, and if it is Ok, the medium has them.
 use crate::held_file::HeldFile;
 use crate::named_file::require_size;
 use crate::retried::{read_whole_piece, write_whole};
@@ -12,8 +12,8 @@ use std::io::SeekFrom;
 /// How many bytes are written again at once.
 const PIECE: usize = 512;
 
-/// Places of a file, from the first up to the end. Of those that were written since the last good sync it has
-/// all, and those between them.
+/// The places of a file from `first` up to `end`: all that were written since the last good sync, and those between
+/// them.
 #[derive(Clone, Copy)]
 pub(crate) struct Unsynced {
     first: u64,
@@ -37,7 +37,7 @@ impl Unsynced {
         }
     }
 
-    /// With the places of one more write.
+    /// These places, and those of one more write.
     pub(crate) fn with(self, at: u32, count: usize) -> Unsynced {
         let first = u64::from(at);
         Unsynced {
@@ -47,8 +47,8 @@ impl Unsynced {
     }
 }
 
-/// Waits until the medium has the file's bytes. Where the system answers an error, these places of a store of
-/// this size are written again, and no sync is asked for behind that. The answer is the system's.
+/// Waits until the medium has the file's bytes, and gives the system's answer. If that is an error, these places are
+/// written again, unless the file is shorter than a store of this size. No sync follows.
 pub(crate) fn sync_or_write_again<F: HeldFile>(
     file: &mut F,
     size: u64,
@@ -61,8 +61,8 @@ pub(crate) fn sync_or_write_again<F: HeldFile>(
     answer
 }
 
-/// Writes what stands in these places once more, piece by piece. A piece that can't be read as a whole isn't
-/// written, so no file gets longer by this; the other pieces are written all the same.
+/// Writes what stands in these places once more, piece by piece. A piece that can't be read whole is left out, so the
+/// file gets no longer; the others are still written.
 fn write_again<F: HeldFile>(file: &mut F, places: Unsynced) {
     let mut buf = [0; PIECE];
     let mut at = places.first;
@@ -73,7 +73,7 @@ fn write_again<F: HeldFile>(file: &mut F, places: Unsynced) {
     }
 }
 
-/// Writes what stands from a place on once more. The buffer is for it.
+/// Writes what stands from a place on once more. The buffer is room for it.
 fn write_piece_again<F: HeldFile>(file: &mut F, at: u64, buf: &mut [u8]) -> io::Result<()> {
     file.seek(SeekFrom::Start(at))?;
     read_whole_piece(file, buf)?;

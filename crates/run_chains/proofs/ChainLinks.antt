@@ -5,11 +5,11 @@ use Rattle.std.proofs.lemmas.List.{append-nil}
 use Rattle.std.proofs.Math.Seq.{take-append_seam}
 use Rattle.outside.specs.declared.board.Board.{Ghosts}
 use Rattle.outside.specs.declared.files.Files.{Ghosts as FileGhosts}
-use Rattle.outside.specs.declared.replay.Fill.{Fill}
+use Rattle.memory_devices.specs.declared.replay.Fill.{Fill}
 use Rattle.outside.specs.Disk.{SameBut}
 use Rattle.outside.specs.Faults.{Rose}
-use Rattle.outside.specs.MemoryBoard.{BoardState, image_of, left_since_of, new_board, text_of}
-use Rattle.outside.specs.MemoryFiles.{FilesState, rest_of}
+use Rattle.memory_devices.specs.MemoryBoard.{BoardState, image_of, left_since_of, new_board, text_of}
+use Rattle.memory_devices.specs.MemoryFiles.{FilesState, rest_of}
 use Rattle.outside.specs.Printing.{Begins}
 use Rattle.outside.specs.Runs.{IsAtRest as NothingFlies}
 use Rattle.slot_store.proofs.Laws.{one_body}
@@ -92,7 +92,7 @@ module _ (image tariff : List ℕ) (d : Durable) (has : HasState image d) where
   seal_same (Err why) bytes line i x m = same_outside image i m.0
   seal_same (Ok s) bytes line i x m = m.seal_stays
 
-  -- where the run was carried out the number is that after all its commits
+  -- if the run was carried out the number is that after all its commits
   pub all_kept : (told : Type 0) (printed : List ℕ) (r : Result Start Ended) → start_of (opening_of image) tariff ≡ r
       → (bytes now : List ℕ) → Stands told image printed r bytes now
       → (e : Durable) → HasState now e → e.number ≡ d.number + length (changes_of (deeds_from r bytes))
@@ -105,7 +105,7 @@ module _ (image tariff : List ℕ) (d : Durable) (has : HasState image d) where
       ap (λ (x : Durable). x.number) same ∙ (deeds_follow s.durable (deeds_in s bytes)).number
       ∙ ap (λ (x : Durable). x.number + length (changes_of (deeds_in s bytes))) (begins_with s f)
 
--- where the text is told, and nothing was printed before
+-- if the text is told, and nothing was printed before
 pub told_pair : (told : Type 0) → told → (image printed : List ℕ) → printed ≡ []
     → (r : Result Start Ended) (bytes line i x : List ℕ)
     → IsCutOfRun told image printed r bytes line i x → IsCutOfRun (Unit {0}) image [] r bytes line i x

@@ -1,4 +1,4 @@
--- Receipts of a chain: where a byte of one stands in a text, its entry is in the prefix.
+-- Receipts of a chain: if a byte of one stands in a text, its entry is in the prefix.
 use Rattle.std.proofs.Common.{◌≡◌, ◌⊎◌, inl, inr, ℕ, ◌+◌, ◌-◌, ◌<◌, ◌≤◌, List, [], ◌∷◌, ◌++◌, length, take, Result, Ok}
 use Rattle.std.proofs.Common.{sym, ap, subst, ◌∙◌, arith, append_assoc, length-append, length-take}
 use Rattle.std.proofs.lemmas.Bool.{cases_lt}

@@ -2,7 +2,7 @@
 mod ChainLinks
 -- a chain with one run more, and the places that a loop has gone through
 mod ChainLoop
--- where a byte of a receipt stands in a text of a chain, the receipt's entry is in the prefix
+-- if a byte of a receipt stands in a text of a chain, the receipt's entry is in the prefix
 mod ChainReceipts
 -- what is found of an image that stands for a durable state and a seal
 mod ChainScan

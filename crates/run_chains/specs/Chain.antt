@@ -1,8 +1,8 @@
 -- Rules: a chain of runs and cuts of the power, in which each run is made over the image that the one before it left.
 use Rattle.std.specs.Prelude.{◌≡◌, ℕ, ◌<◌, List, [], ◌∷◌, ◌++◌, length, map, Option, Ok}
-use Rattle.outside.specs.MemoryBoard.{BoardState, new_board}
-use Rattle.outside.specs.MemoryFiles.{FilesState}
-use Rattle.outside.specs.declared.replay.Fill.{Fill}
+use Rattle.memory_devices.specs.MemoryBoard.{BoardState, new_board}
+use Rattle.memory_devices.specs.MemoryFiles.{FilesState}
+use Rattle.memory_devices.specs.declared.replay.Fill.{Fill}
 use Rattle.meter_store.specs.Sealing.{HasSeal}
 use Rattle.seal_record.specs.declared.seal.Seal.{Seal}
 use Rattle.taxi_units.specs.declared.receipt.Receipt as receipts
@@ -21,18 +21,17 @@ pub record IsSealedStore (image : List ℕ) : Type 0 where
   pub totals : HasState image durable
   pub sealed : HasSeal image seal
 
--- runs are a chain from an image that stands for a durable state where each is a run over the image that is left before
--- it
+-- runs are a chain from an image that stands for a durable state if each is a run over the image that is left before it
 abbrev pub IsChain : Durable → (image : List ℕ) → List Link → Type 0
 IsChain durable image [] = Unit {0}
 IsChain durable image (link ∷ links) = IsLink durable image link × IsChain link.found link.image links
 
--- the last image of a chain is the one that its last run left, or the opening image where there is no run
+-- the last image of a chain is the one that its last run left, or the opening image if there is no run
 abbrev pub last_image : (image : List ℕ) → List Link → List ℕ
 last_image image [] = image
 last_image image (link ∷ links) = last_image link.image links
 
--- the last state of a chain is the one that its last run left, or the opening state where there is no run
+-- the last state of a chain is the one that its last run left, or the opening state if there is no run
 abbrev pub last_state : Durable → List Link → Durable
 last_state durable [] = durable
 last_state durable (link ∷ links) = last_state link.found links
@@ -48,16 +47,16 @@ abbrev pub Ran : Type 1
 Ran = (files : FilesState) → (board : BoardState) → (files_left : FilesState) → (board_left : BoardState)
     → (status : ℕ) → Type 0
 
--- runs are calls of a program where each was made with the files before it and a new board, which has the image that is
--- left before it and of which no call is to fail, and left the files behind it, its board and its status
+-- runs are calls of a program if each was made with the files before it and a new board, and left the files behind it,
+-- its board and its status; the new board has the image that is left before the run, and none of its calls is to fail
 abbrev pub AreCalls : Ran → (image : List ℕ) → List Link → Type 0
 AreCalls ran image [] = Unit {0}
 AreCalls ran image (link ∷ links) =
     ran link.files (new_board image []) link.files_left link.board link.status × AreCalls ran link.image links
 
--- a call has made a chain of runs of a program where they are calls of the program, have the files `files` before them
--- and `files_left` behind them, the cuts `cuts` and the answers `answers`, and the last image is that of the call and
--- stands for the last state
+-- a call has made a chain of runs of a program if they are calls of the program, have the files `files` before them and
+-- `files_left` behind them, the cuts `cuts` and the answers `answers`; the last image is that of the call and stands
+-- for the last state
 pub record HasChain (ran : Ran) (durable : Durable) (image : List ℕ) (files files_left : List FilesState)
     (cuts : List (Option (ℕ × Fill))) (last : List ℕ) (answers : List (ℕ × ℕ)) : Type 0 where
   pub links : List Link
@@ -70,8 +69,8 @@ pub record HasChain (ran : Ran) (durable : Durable) (image : List ℕ) (files fi
   pub last_is : last_image image links ≡ last
   pub stands : HasState last (last_state durable links)
 
--- the text that a run over an image left has a byte of a receipt where the receipt is among the deeds of the run, and
--- the texts of the deeds before it are shorter than the text
+-- the text that a run over an image left has a byte of a receipt if the receipt is among the run's deeds, and the texts
+-- of the deeds before it are shorter than the text
 pub record HasByteOf (image : List ℕ) (link : Link) (receipt : receipts.Receipt) : Type 0 where
   pub start : Start
   pub begins : begun_with image link ≡ Ok start

@@ -1,13 +1,13 @@
 -- For proofs: one run of a chain by the values that the code has of it. Link says what such a run is.
 use Rattle.std.specs.Prelude.{◌≡◌, ◌⊎◌, ℕ, List, [], Option}
-use Rattle.outside.specs.MemoryBoard.{BoardState, new_board}
-use Rattle.outside.specs.MemoryFiles.{FilesState}
-use Rattle.outside.specs.declared.replay.Fill.{Fill}
+use Rattle.memory_devices.specs.MemoryBoard.{BoardState, new_board}
+use Rattle.memory_devices.specs.MemoryFiles.{FilesState}
+use Rattle.memory_devices.specs.declared.replay.Fill.{Fill}
 use Rattle.totals_record.specs.declared.durable_state.Durable.{Durable}
 use Rattle.run_chains.specs.Chain.{Ran}
 use Rattle.run_chains.specs.Link.{IsLink, Link}
 
--- there is a run over an image, by a call of a program on a new board with that image, that has these files before and
+-- there is a run over an image, by a call of a program on a new board with that image; it has these files before and
 -- after it, this cut, this status, and this image and number behind it
 pub record HasLink (ran : Ran) (durable : Durable) (image : List ℕ) (files files_left : FilesState)
     (cut : Option (ℕ × Fill)) (status : ℕ) (next : List ℕ) (number : ℕ) : Type 0 where
@@ -21,8 +21,8 @@ pub record HasLink (ran : Ran) (durable : Durable) (image : List ℕ) (files fil
   pub image_is : link.image ≡ next
   pub number_is : link.number ≡ number
 
--- a run of a chain lacks memory if none was there for its board, so that its files are as they were, or if it is a call
--- of the program on a new board that ended with 8, since that board fails for want of memory alone, or with 12
+-- a run of a chain lacks memory if none was there for its board and its files are as they were, or if it is a call of
+-- the program on a new board that ended with 8 or 12; that board fails only if memory runs out
 abbrev pub LacksMemory : Ran → (image : List ℕ) → (files files_left : FilesState) → Type 0
 LacksMemory ran image files files_left =
     (files_left ≡ files)

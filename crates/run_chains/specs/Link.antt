@@ -1,12 +1,12 @@
 -- Rules: one run of a chain, and the cut of the power in it.
 use Rattle.std.specs.Prelude.{◌≡◌, ◌≢◌, ℕ, ◌+◌, ◌-◌, ◌≤◌, min, List, [], length, take, Option, None, Some, Result, Ok}
 use Rattle.std.specs.Prelude.{Err}
-use Rattle.outside.specs.Calls.{IsInSome}
+use Rattle.memory_devices.specs.Calls.{IsInSome}
 use Rattle.outside.specs.Disk.{SameBut}
 use Rattle.outside.specs.Faults.{Rose}
-use Rattle.outside.specs.MemoryBoard.{BoardState, contents_inside, image_of, left_since_of, text_of}
-use Rattle.outside.specs.MemoryFiles.{FilesState, rest_of}
-use Rattle.outside.specs.declared.replay.Fill.{Fill}
+use Rattle.memory_devices.specs.MemoryBoard.{BoardState, contents_inside, image_of, left_since_of, text_of}
+use Rattle.memory_devices.specs.MemoryFiles.{FilesState, rest_of}
+use Rattle.memory_devices.specs.declared.replay.Fill.{Fill}
 use Rattle.meter_store.specs.Stored.{HasState}
 use Rattle.totals_record.specs.Sums.{GrowsBy}
 use Rattle.totals_record.specs.declared.change.Change.{Change}
@@ -19,8 +19,8 @@ use Rattle.drive_commands.specs.Run.{IsOfTotals, IsCutOfRun, Start, bytes_in, de
 use Rattle.call_ends.specs.declared.ending.Ended.{Ended}
 
 -- A run of a chain is told by what its files held and what is left of them, its board as the run left it, how the power
--- was cut, how far the run came, its status, and what is left behind it, which is the next image, the state for which
--- that image stands, the number of that state, and what had been printed. A cut is one inside the board's call with a
+-- was cut, how far the run came, and its status. What is left behind it is the next image, the state for which that
+-- image stands, the number of that state, and what had been printed. A cut is one inside the board's call with a
 -- number, and what it makes of the bytes in flight.
 pub record Link : Type 0 where
   pub files : FilesState
@@ -34,22 +34,22 @@ pub record Link : Type 0 where
   pub number : ℕ
   pub text : List ℕ
 
--- a cut comes inside the call with its number, or inside the last one where the number is above that
+-- a cut comes inside the call with its number, or inside the last one if the number is above that
 abbrev pub call_of : BoardState → (number : ℕ) → ℕ
 call_of board number = min number (length board.calls)
 
--- what had been printed is all of a board's text where there is no cut, and else the text that the board holds inside
--- the call of the cut
+-- what had been printed is all of a board's text if there is no cut, and else the text that the board holds inside the
+-- call of the cut
 abbrev pub text_before : Option (ℕ × Fill) → BoardState → List ℕ
 text_before None board = text_of board
 text_before (Some (number, fill)) board = (contents_inside board (call_of board number)).text
 
--- an image is left inside a call of a board where it has each byte that the board holds there, but those in flight
+-- an image is left inside a call of a board if it has each byte that the board holds there, but those in flight
 abbrev pub IsLeftInside : BoardState → (call : ℕ) → List ℕ → Type 0
 IsLeftInside board call image =
     SameBut (IsInSome (contents_inside board call).ranges) (contents_inside board call).image image
 
--- a run does the deeds of the bytes of its drive from its start on, and nothing where it is refused before the drive
+-- a run does the deeds of the bytes of its drive from its start on, and nothing if it is refused before the drive
 abbrev pub deeds_from : Result Start Ended → (bytes : List ℕ) → List Deed
 deeds_from (Err why) bytes = []
 deeds_from (Ok start) bytes = deeds_in start bytes
@@ -59,8 +59,8 @@ module _ (image : List ℕ) (link : Link) where
   abbrev pub begun_with : Result Start Ended
   begun_with = start_of (opening_of image) (rest_of link.files 1)
 
-  -- the bytes of its drive that a run carried out are the whole drive where it came to its answer, and else the bytes
-  -- that were taken
+  -- the bytes of its drive that a run carried out are the whole drive if it came to its answer, and else the bytes that
+  -- were taken
   abbrev pub bytes_done : List ℕ
   bytes_done = bytes_in link.course (rest_of link.files 2)
 
@@ -76,7 +76,7 @@ module _ (image : List ℕ) (link : Link) where
   abbrev pub last_line : List ℕ
   last_line = line_in run_command (rest_of link.files) image link.course
 
-  -- a pair of an image and a text is a point of a run where a cut of the power may leave it of the run
+  -- a pair of an image and a text is a point of a run if a cut of the power may leave it of the run
   abbrev pub IsCutOfLink : (left_image left_text : List ℕ) → Type 0
   IsCutOfLink left_image left_text =
       IsCutOfRun (Unit {0}) image [] begun_with bytes_done last_line left_image left_text
@@ -85,9 +85,9 @@ module _ (image : List ℕ) (link : Link) where
 abbrev pub prefix_of : (durable : Durable) (image : List ℕ) → Link → List Change
 prefix_of durable image link = take (link.number - durable.number) (commits_done image link)
 
--- A run of a chain is one over an image that stands for a durable state, where its course, its status, its commits, the
--- next image and what had been printed are as the fields say. That its board is the one that the run was carried out on
--- is said of the runs of a chain, by AreCalls in Chain.
+-- A run of a chain is one over an image that stands for a durable state, if its course, its status, its commits, the
+-- next image and what had been printed are as the fields say. That its board is the one on which the run was carried
+-- out is said of the runs of a chain, by AreCalls in Chain.
 pub record IsLink (durable : Durable) (image : List ℕ) (link : Link) : Type 0 where
   -- the run came to its answer over the whole drive, with the status of the command's definition, or to a read that
   -- failed, with 7; memory didn't run out, and the board didn't fail
@@ -95,7 +95,7 @@ pub record IsLink (durable : Durable) (image : List ℕ) (link : Link) : Type 0 
       (λ word. Rose link.files.failed link.files_left.failed) ⊥ link.course
   pub status : link.status ≡ status_in run_command (rest_of link.files) image link.course
   pub memory : link.status ≢ 12
-  -- the run read no file but those of its words, and of these none to whose read it didn't come
+  -- the run read no file but those of its words, and none of these before it came to read it
   pub others : (word : ℕ) → word ≢ 1 → word ≢ 2 → rest_of link.files_left word ≡ rest_of link.files word
   pub unread : LeavesUnread run_command (rest_of link.files) (rest_of link.files_left) image
   -- the next number is no smaller than the one before, and no greater than with all commits of the run
@@ -105,7 +105,7 @@ pub record IsLink (durable : Durable) (image : List ℕ) (link : Link) : Type 0 
   pub stands : HasState link.image link.found
   pub number : link.number ≡ link.found.number
   pub follows : GrowsBy durable link.found (prefix_of durable image link)
-  -- the commits are all those of the run where the power wasn't cut, and none where it was cut before the first call
+  -- the commits are all those of the run if the power wasn't cut, and none if it was cut before the first call
   pub whole : link.cut ≡ None → link.number ≡ durable.number + length (commits_done image link)
   pub none : (fill : Fill) → link.cut ≡ Some (0, fill) → (link.image ≡ image) × (link.number ≡ durable.number)
   -- the board has printed the text of the run, and at each of its moments a cut leaves a point of the run

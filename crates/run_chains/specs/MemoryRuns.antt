@@ -1,14 +1,14 @@
 -- Rules: what a run of the taximeter leaves of files and a board in memory.
 use Rattle.std.specs.Prelude.{◌≡◌, ℕ}
 use Rattle.outside.specs.Disk.{store_size}
-use Rattle.outside.specs.MemoryBoard.{BoardState, Memory}
-use Rattle.outside.specs.MemoryFiles.{FilesState}
+use Rattle.memory_devices.specs.MemoryBoard.{BoardState, Memory}
+use Rattle.memory_devices.specs.MemoryFiles.{FilesState}
 use Rattle.outside.specs.declared.board.Board.{Ghosts}
 use Rattle.outside.specs.declared.files.Files.{Ghosts as FileGhosts}
 use Rattle.drive_commands.specs.Run.{IsRun}
 
 -- a run of the taximeter made with files and a board in memory left other files, the board in another state, and a
--- status where these are as the headline says of runs
+-- status if these are as the headline says of runs
 pub record IsRunInMemory {L : Type 0} (F : FileGhosts FilesState) (B : Ghosts (Memory store_size) store_size L)
     (files : FilesState) (board : BoardState) (files_left : FilesState) (board_left : BoardState)
     (status : ℕ) : Type 0 where

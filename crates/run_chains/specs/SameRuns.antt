@@ -41,8 +41,8 @@ IsTextAlike a b (Does (Receipt receipt)) =
     DifferInTariff a.digest b.digest (receipt_text receipt (part_of a)) (receipt_text receipt (part_of b))
 IsTextAlike a b deed = deed_text b deed ≡ deed_text a deed
 
--- two runs over a drive do the same if each answers with the texts of the first one's deeds under its own seal, of
--- which a receipt shows the digest, and ends as the drive does, and they make the same entries
+-- two runs over a drive do the same if each answers with the texts of the first one's deeds under its own seal, whose
+-- digest a receipt shows, and ends as the drive does, and they make the same entries
 pub record DoTheSame (one other : Result Start Ended) (a b : Start) (drive : List ℕ) : Type 0 where
   pub first : run_answer one drive ≡ drive_answer (texts a.seal (deeds_in a drive)) (drive_end drive)
   pub second : run_answer other drive ≡ drive_answer (texts b.seal (deeds_in a drive)) (drive_end drive)

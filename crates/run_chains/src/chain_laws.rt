@@ -1,4 +1,4 @@
-//! What any chain of runs and cuts of the power means, in words that share nothing with how the code works.
+//! What any chain of runs and cuts of the power means, told apart from how the code works.
 ghost use Rattle.std.specs.Prelude.{ℕ, ◌∷◌, ◌++◌, List};
 ghost use Rattle.taxi_units.specs.declared.receipt.Receipt as receipts;
 ghost use Rattle.totals_record.specs.States.{entries_of};
@@ -9,10 +9,9 @@ ghost use Rattle.meter_run.specs.Points.{HasEntryOf, IsNumberedWithin};
 ghost use Rattle.run_chains.specs.Chain.{HasByteOf, IsChain, last_image, last_state, prefixes_of};
 ghost use Rattle.run_chains.specs.Link.{Link, prefix_of};
 
-/// Over any chain of runs and cuts the totals found at its end are the opening totals plus the sums over the
-/// entries of each run's prefix, in order, each counted once. The state at the end is the one after all commits
-/// of these prefixes: its number is one higher for each of them, and the trip that it holds is the last one
-/// that no closing entry follows.
+/// A law: after any chain of runs and cuts the totals are the opening totals plus the sums over the entries of each
+/// run's prefix, in order, each counted once. The state at the end is the one after all commits of these prefixes. Its
+/// number is one higher for each of them. The trip that it holds is the last one that no closing entry follows.
 pub fn chains_add_up()
     ensures totals { (durable : Durable) (image : List ℕ) (links : List Link) → IsChain durable image links
         → AddsUp durable.totals (last_state durable links).totals (entries_of (prefixes_of durable image links)) }
@@ -20,9 +19,9 @@ pub fn chains_add_up()
         → GrowsBy durable (last_state durable links) (prefixes_of durable image links) }
 {}
 
-/// Where a byte of a receipt stands in the text that a run of a chain left, the receipt has its entry in the
-/// prefix of that run. Its number is above the one that the run began with, and at most the one that the run
-/// left. So no two runs of a chain give one number to two receipts.
+/// A law: if a byte of a receipt stands in the text that a run of a chain left, the receipt has its entry in the prefix
+/// of that run. Its number is above the one with which the run began, and at most the one that the run left. So no two
+/// runs of a chain give one number to two receipts.
 pub fn receipts_are_in_their_prefix()
     ensures entry { (durable : Durable) (image : List ℕ) (runs : List Link) (link : Link) (others : List Link)
         → HasState image durable → IsChain durable image (runs ++ link ∷ others) → (receipt : receipts.Receipt)

@@ -2,8 +2,8 @@
 ghost use Rattle.std.specs.Prelude.{◌≡◌, ◌≢◌, ◌⊎◌, ℕ, ◌↔◌, [], length, map, string_bytes, IfOk, IsTrue};
 ghost use Rattle.std.specs.Prelude.{None, OnErr, Some};
 ghost use Rattle.outside.specs.Disk.{SameBut};
-ghost use Rattle.outside.specs.MemoryBoard.{image_of, left_since_of};
-ghost use Rattle.outside.specs.declared.replay.Fill.{Fill};
+ghost use Rattle.memory_devices.specs.MemoryBoard.{image_of, left_since_of};
+ghost use Rattle.memory_devices.specs.declared.replay.Fill.{Fill};
 ghost use Rattle.meter_store.specs.Sealing.{HasSeal};
 ghost use Rattle.seal_record.specs.declared.seal.Seal.{Seal};
 ghost use Rattle.meter_store.specs.Stored.{HasState};
@@ -17,7 +17,8 @@ ghost use Rattle.commands.specs.declared.words.Row.TheVariants.{Run};
 
 use crate::program::Program;
 use call_ends::{BOARD_FAULT, NO_MEMORY};
-use outside::{Fill, MemoryBoard, MemoryFiles, QuietBoard, STORE_SIZE};
+use memory_devices::{Fill, MemoryBoard, MemoryFiles};
+use outside::{QuietBoard, STORE_SIZE};
 use slot_store::{Found, scan};
 use std::alloc::Global;
 use std::sync::ledger::Ledger;
@@ -59,9 +60,9 @@ fn stored_number<L: Ledger>(image: &[u8; STORE_SIZE], steps: &mut Steps<L>) -> u
     }
 }
 
-/// The image that is left of a run over an image, with its board: that of a cut inside a call, the last one
-/// where the number is above it, or that of the board where there is no cut. Before the first call nothing
-/// of the run has been done.
+/// The image that is left of a run over an image, with its board. If there is a cut inside a call, it is that of the
+/// cut; a number above that of the last call counts as the last call's. Without a cut it is that of the board. Before
+/// the first call nothing of the run has been done.
 fn left_by(
     image: &[u8; STORE_SIZE],
     board: &MemoryBoard,
@@ -81,8 +82,8 @@ fn left_by(
     }
 }
 
-/// One run of a chain, over an image. Its board in memory fails nowhere by its list, so it fails only for want
-/// of memory. `NoMemory` only where there was none for the board, or the run ended with 8 or 12.
+/// One run of a chain, over an image. Its board in memory fails only if memory runs out. `NoMemory` only if there was
+/// none for the board, or the run ended with 8 or 12.
 fn run_over<P: Program<L>, L: Ledger>(
     alloc: Global,
     words: &[String],
@@ -110,18 +111,18 @@ fn run_over<P: Program<L>, L: Ledger>(
     })
 }
 
-/// Makes runs with the words `run TARIFF DRIVE`, one after the other: the first over the given image, each
-/// other one over the image that was left by the one before it. The i-th run is one call of the program, with
-/// the i-th files and a new board in memory, which fails nowhere by its list.
+/// Makes runs with the words `run TARIFF DRIVE`, one after the other: the first over the given image, each other one
+/// over the image that the one before it left. The i-th run is one call of the program, with the i-th files and a new
+/// board in memory, of which no call is to fail.
 ///
-/// The i-th cut says what the i-th run leaves. For `Some((call, fill))` it is what a cut of the power leaves
-/// inside the board's call with that number, as `MemoryBoard::cut` gives it; a number above that of the last
-/// call is taken as the last call's. For `None` it is the image of the board.
+/// The i-th cut says what the i-th run leaves. `Some((call, fill))` is what a cut of the power leaves inside the
+/// board's call with that number, as `MemoryBoard::cut` gives it; a number above that of the last call counts as the
+/// last call's. `None` is the image of the board.
 ///
-/// The answer is the image at the end, and for each run its status and the number of the totals in the
-/// image that it left. `NoMemory` comes only where there is no memory: a run that ends with 8 or 12 is
-/// answered so. It is proved of any program. Which calls those of `Taximeter` make of their boards, and what a
-/// fill makes of the bytes in flight, is shown by tests alone. All of it is this project's own.
+/// The answer is the image at the end, and for each run its status and the number of the totals in the image that it
+/// left. `NoMemory`: memory ran out, or a run ended with 8 or 12. It is proved of any program. Tests alone show which
+/// calls those of `Taximeter` make of their boards, and what a fill makes of the bytes in flight. All of it is this
+/// project's own.
 pub fn chain<P: Program<L>, L: Ledger>(
     alloc: Global,
     words: &[String],
@@ -134,11 +135,11 @@ pub fn chain<P: Program<L>, L: Ledger>(
     requires cuts { length cuts.now ≡ length files.old }
     requires sealed { IsSealedStore image.now }
 
-    // From the first to the last each run comes to its answer's status or to 7, where a read of its files failed, and
-    // leaves an image that stands for the state after some of its commits, from the first on: as many as the number
-    // says, all where there was no cut, none where the cut's call is 0. That image is what the run's board holds inside
-    // the call of the cut, but for the bytes in flight there. The run's board is the one that the run's call of the
-    // program left of a new board with the image before: of any program, what a call left is told by that call alone.
+    // Each run comes to its answer's status, or to 7 if a read of its files failed. It leaves an image that stands for
+    // the state after some of its commits, from the first on: as many as the number says, all if there was no cut, none
+    // if the cut's call is 0. That image is what the run's board holds inside the call of the cut, but for the bytes in
+    // flight there. The run's board is the one that the run's call of the program left of a new board with the image
+    // before: of any program, what a call left is told by that call alone.
     ensures chain { (durable : Durable) → HasState image.now durable → IfOk result (λ ended.
         HasChain P.ran durable image.now files.old files.new cuts.now ended.0 ended.1.items) }
 

@@ -1,4 +1,4 @@
-//! Runs on two stores that differ in the sealed digest alone, each sealed with its tariff, where the tariffs are the
+//! Runs on two stores that differ in the sealed digest alone, each sealed with its tariff, under tariffs that are the
 //! same.
 ghost use Rattle.std.specs.Prelude.{◌≡◌, ℕ, List, Ok};
 ghost use Rattle.meter_run.specs.Deeds.{Deed};
@@ -6,12 +6,12 @@ ghost use Rattle.store_commands.specs.Opening.{opening_of};
 ghost use Rattle.drive_commands.specs.Run.{Start, start_of};
 ghost use Rattle.run_chains.specs.SameRuns.{AreSameStarts, AreStartsAlike, DoTheSame, IsTextAlike, start_after};
 
-/// A law: where two stores are equal but for the sealed digest, hold no trip, and are each sealed with a tariff, and
-/// the two tariffs are the same under the sealed constant, runs over any drive do the same on both: their answers have
-/// one status and one last line, and show the same displays, refusals and receipts, each under its own seal, so that
-/// receipts differ in their line `TARIFF` alone; and the same entries are made. Behind both runs the stores are alike:
-/// a trip that is held is equal but for its cover left and its rest, which are the same money. So further runs do the
-/// same too.
+/// A law: take two stores that are equal but for the sealed digest, hold no trip, and are each sealed with a tariff,
+/// and let these tariffs be the same under the sealed constant. Then runs over any drive do the same on both. Their
+/// answers have one status and one last line, and show the same displays, refusals and receipts, each under its own
+/// seal, so that receipts differ in their line `TARIFF` alone. The same entries are made. After both runs the stores
+/// are alike: a trip that is held is equal but for its cover left and its rest, which are the same money. So further
+/// runs do the same too.
 pub fn same_tariffs_print_the_same()
     ensures begins { (a b : Start) → AreSameStarts a b → AreStartsAlike a b }
     ensures answers { (image other tariff rewritten drive : List ℕ) (a b : Start)

@@ -161,7 +161,7 @@ amounts-alike s t a b agree same =
 
 -- ---- held trips
 
--- what a core keeps of a trip is the same where its sums are
+-- what a core keeps of a trip is the same if its sums are
 same-sums : (whole : CoreTrip) (p q t u a b : ℕ) → p ≡ q → t ≡ u → a ≡ b
     → record whole { pulses = p; ticks = t; extras_sum = a } ≡ record whole { pulses = q; ticks = u; extras_sum = b }
 same-sums whole p q t u a b pulses ticks amounts = cc

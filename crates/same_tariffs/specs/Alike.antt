@@ -1,4 +1,4 @@
--- Rules: when what two meters have and do is alike, where each counts charges in the units of its own tariff.
+-- Rules: when two meters have and do alike, though each counts charges in the units of its own tariff.
 use Rattle.std.specs.Prelude.{◌≡◌, ℕ, ◌*◌, ◌<◌, List, [], ◌∷◌, Option, Some, None}
 use Rattle.drive_modes.specs.Fare.{Opening}
 use Rattle.drive_modes.specs.declared.meterage.Meterage.{Meterage}
@@ -15,8 +15,8 @@ use Rattle.meter_model.specs.declared.act.Act.TheVariants.{Hold}
 pub record IsSameMoney (u v a b : ℕ) : Type 0 where
   pub scaled : a * v ≡ b * u
 
--- two openings are alike if their covers, their charges above them, and their display steps, which are some, are the
--- same money
+-- two openings are alike if their covers, their charges above them and their display steps are the same money, and the
+-- display steps aren't 0
 pub record AreOpeningsAlike (u v : ℕ) (o p : Opening) : Type 0 where
   pub cover : IsSameMoney u v o.cover p.cover
   pub above : IsSameMoney u v o.above p.above
@@ -47,8 +47,8 @@ pub record AreStoresAlike (s t : Setting) (a b : Durable) : Type 0 where
   pub hold : AreHoldsAlike s t a.hold b.hold
   pub others : record a { hold = b.hold } ≡ b
 
--- two trips are alike if they are equal but for their openings and their parts, and have the same pulses and ticks, and
--- as cover, as charge above it before, and as charges of their parts the same money
+-- two trips are alike if they are equal but for their openings and their parts, have the same pulses and ticks, and the
+-- same money as cover, as charge above it before, and as charges of their parts
 pub record AreTripsAlike (s t : Setting) (a b : MeterTrip) : Type 0 where
   pub others : record a { opening = b.opening; parts = b.parts } ≡ b
   pub pulses : pulses_of a ≡ pulses_of b

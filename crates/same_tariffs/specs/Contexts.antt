@@ -15,7 +15,7 @@ use Rattle.meter_model.specs.Interval.{context_now, context_of, pulses_so_far, t
 use Rattle.meter_model.specs.Meter.{Meter}
 use Rattle.meter_model.specs.Setting.{Setting}
 
--- a setting of a tariff is in range if it has the tariff's parts, the tariff is a sound one that a text can have, the
+-- a setting of a tariff is in range if it has the parts of the tariff, which is a sound one that a text can have, the
 -- constant is 500 to 200,000, and the offsets are a list of offsets
 pub record IsSettingInRange (t : Tree) (s : Setting) : Type 0 where
   pub parts : s.tariff ≡ sound_of t
@@ -24,8 +24,8 @@ pub record IsSettingInRange (t : Tree) (s : Setting) : Type 0 where
   pub constant : IsFromTo least_constant greatest_constant s.constant
   pub offsets : IsOffsetList s.offsets
 
--- the context of a meter at a second has its position and its zone, the local day and the minute of the second, the
--- ticks of its trip, and the pulses of its trip, or 2 * 10^13 where they are more
+-- the context of a meter at a second has its position and its zone, the local day and the minute of the second, and the
+-- ticks and the pulses of its trip, of which it counts at most 2 * 10^13
 abbrev pub meter_context_at : Setting → (second : ℕ) → Meter → MeterContext
 meter_context_at s second m = record {
   position = m.position;
@@ -40,14 +40,14 @@ meter_context_at s second m = record {
 abbrev pub without_trip : MeterContext → MeterContext
 without_trip c = record c { ticks = 0; pulses = 0 }
 
--- the running interval of a meter is charged in the lines of a context of a meter if that context is one of a meter
--- under the tariff, and the same rate holds first in it as at the beginning of the interval
+-- the running interval is charged in the lines of a context if that context is one of a meter under the tariff, and the
+-- same rate holds first in it as at the beginning of the interval
 pub record IsChargedIn (t : Tree) (s : Setting) (m : Meter) (c : MeterContext) : Type 0 where
   pub context : IsMeterContext t c
   pub rate : rate_place t (context_of s m) ≡ rate_place t (context_at t s.constant c)
 
--- a meter that is hired now has the fees of a context of a meter if that context is one of a meter under the tariff,
--- and a hiring begins with the same in it as now
+-- a meter that is hired now has the fees of a context if that context is one of a meter under the tariff, and a hiring
+-- begins with the same in it as now
 pub record IsHiredIn (t : Tree) (s : Setting) (m : Meter) (c : MeterContext) : Type 0 where
   pub context : IsMeterContext t c
   pub fee : initial_by t (context_now s m) ≡ initial_by t (context_at t s.constant c)

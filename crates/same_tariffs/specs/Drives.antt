@@ -63,8 +63,8 @@ abbrev pub meter_after : Setting → List Event → Meter
 meter_after s events = (run s events (opened s first_state)).next
 
 -- a context of a meter is reached under a tariff, a constant, a mode and a hold if under some offset of at most 14
--- hours a drive that ends whole, so within 2^40 bytes, leads to an interval in it, of a trip that was hired in the same
--- context without ticks and pulses; the drive has a line for each of its events
+-- hours a drive leads to an interval in it, of a trip that was hired in the same context without ticks and pulses; the
+-- drive ends whole, so within 2^40 bytes, and has a line for each of its events
 pub record IsReached (t : Tree) (k : ℕ) (mode : Mode) (hold : ℕ) (c : MeterContext) : Type 0 where
   pub offset : ℤ
   pub drive : List ℕ

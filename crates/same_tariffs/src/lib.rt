@@ -1,5 +1,5 @@
-//! What tariffs that are the same do to a meter: every run comes to the same. And what contexts of a meter
-//! are: those in which the intervals and the hirings of runs are charged.
+//! Laws of tariffs that are the same: every run under them comes to the same. And laws of the contexts of a meter, in
+//! which runs charge their intervals and begin their hirings.
 #![tactic(auto)]
 
 mod reached;

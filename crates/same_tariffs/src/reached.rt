@@ -17,14 +17,13 @@ ghost use Rattle.same_tariffs.specs.Contexts.{IsChargedIn, IsHiredIn, IsSettingI
 ghost use Rattle.same_tariffs.specs.Drives.{IsReached};
 ghost use Rattle.same_tariffs.specs.Reached.{HoldGoesOn, IsWithinReach};
 
-/// Each event that a drive can have is at a second of the meter, where it has one.
+/// Each event that a drive can have, and that has a second, has one of the meter's seconds.
 pub fn events_of_drives_are_timely()
     ensures { (drive : List ℕ) → All IsTimely (events_of drive) }
 {}
 
-/// Whatever events of the meter's seconds a run has, the meter is within reach after them. There the running
-/// interval is charged in the lines of the context of a meter at its beginning, and a hiring begins with what one
-/// does in a context without a trip.
+/// After any events of the meter's seconds the meter is within reach. The running interval is charged in the lines of
+/// the context of a meter at its beginning. A hiring begins with what one does in a context without a trip.
 pub fn intervals_are_charged_in_contexts_of_a_meter()
     ensures reached { (t : Tree) (s : Setting) (durable : Durable) (events : List Event) → IsSettingInRange t s
         → All IsTimely events
@@ -35,10 +34,10 @@ pub fn intervals_are_charged_in_contexts_of_a_meter()
         → IsHiredIn t s m (without_trip (meter_context_at s m.clock m)) }
 {}
 
-/// Each context of a meter is reached by some drive, under the constant and each mode and hold: a drive that ends
-/// whole, with fewer than 2^40 bytes, leads from a store without entries to an interval in Hired that begins in it, of
-/// a trip that was hired in the same context without ticks and pulses. Its pulses come by drops of the supply, each of
-/// which leaves an interval unfinished, whose pulses count and whose tick doesn't.
+/// Some drive reaches each context of a meter, under the constant and each mode and hold. The drive ends whole, with
+/// fewer than 2^40 bytes. From a store without entries it leads to an interval in Hired that begins in the context, of
+/// a trip that was hired in the same context without ticks and pulses. Its pulses come by drops of the supply: each
+/// leaves an interval unfinished, whose pulses count and whose tick doesn't.
 pub fn each_context_is_reached()
     ensures { (t : Tree) (k : ℕ) (mode : Mode) (hold : ℕ) (c : MeterContext) → IsWritable t → IsSound t
         → IsMeterContext t c → IsReached t k mode hold c }

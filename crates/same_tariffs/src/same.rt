@@ -13,8 +13,8 @@ ghost use Rattle.same_tariffs.specs.Alike.{IsSameMoney};
 ghost use Rattle.same_tariffs.specs.Reached.{HoldGoesOn};
 ghost use Rattle.same_tariffs.specs.Same.{AreSameSettings};
 
-/// Charges that are the same money in two units, above covers that are, leave meterages that are alike, and
-/// show the same display steps.
+/// Charges that are the same money in two units, above covers that are the same money, leave meterages that are alike
+/// and show the same display steps.
 pub fn same_charges_show_the_same_steps()
     ensures saved { (u v : ℕ) (o p : Opening) (a b : ℕ) → 0 < u → 0 < v → AreOpeningsAlike u v o p
         → IsSameMoney u v a b → AreMeteragesAlike u v (saved o a) (saved p b) }
@@ -22,10 +22,10 @@ pub fn same_charges_show_the_same_steps()
         → IsSameMoney u v a b → steps_above rounding o a ≡ steps_above rounding p b }
 {}
 
-/// Under two settings that are the same but for tariffs that are the same, and over stores that are alike, as
-/// one store is to itself where it holds no trip, every whole run comes to outcomes that are alike: the same
-/// displays, refusals, entries and receipts in the same order, held trips that are alike, and in the end
-/// stores that are alike again, whose trips go on, so that further runs are alike too.
+/// A law: take two settings that are equal but for tariffs that are the same, and stores that are alike, as a store
+/// that holds no trip is to itself. Then each whole run comes to outcomes that are alike: the same displays, refusals,
+/// entries and receipts in the same order, and held trips that are alike. In the end the stores are alike again and
+/// their trips go on, so further runs are alike too.
 pub fn same_tariffs_run_alike()
     ensures outcomes { (a b : Tree) (s t : Setting) (d e : Durable) (events : List Event) → AreSameSettings a b s t
         → All IsTimely events → HoldGoesOn s.tariff d.hold → AreStoresAlike s t d e

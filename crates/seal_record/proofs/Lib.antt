@@ -16,7 +16,7 @@ mod Parting
 mod PlainTexts
 -- the values of a plain text are read as they are
 mod PlainValues
--- parameters and seals that bytes give, where they are in their ranges
+-- parameters and seals that bytes give, if they are in their ranges
 mod Ranged
 -- what has been said with one offset more
 mod OffsetsSoFar

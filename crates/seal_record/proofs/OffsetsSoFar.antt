@@ -20,7 +20,7 @@ lawful_so_far list found given = by (is_offset_list list) refl given
         subst (λ (pairs : List (ℕ × ℤ)). is_list_so_far pairs ≡ true) same (so_far list lawful)
     by false lawful is = absurd cc
 
--- where the list with one more is given, that is what has been said then
+-- if the list with one more is given, that is what has been said then
 pub said_with : (said : ParamsSoFar) (pair : ℕ × ℤ) (found : List (ℕ × ℤ))
     → (if is_offset_list (said.offsets ++ pair ∷ []) then Some (said.offsets ++ pair ∷ []) else None) ≡ Some found
     → with_pair said pair ≡ Some (record said { offsets = found })
@@ -33,7 +33,7 @@ said_with said pair found given = by (is_offset_list (said.offsets ++ pair ∷ [
         ap (λ (pairs : List (ℕ × ℤ)). Some (record said { offsets = pairs })) same
     by false is = absurd cc
 
--- where it isn't, nothing is said with the pair
+-- if it isn't, nothing is said with the pair
 pub said_without : (said : ParamsSoFar) (pair : ℕ × ℤ)
     → (if is_offset_list (said.offsets ++ pair ∷ []) then Some (said.offsets ++ pair ∷ []) else None) ≡ None
     → with_pair said pair ≡ None

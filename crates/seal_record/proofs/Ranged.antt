@@ -1,4 +1,4 @@
--- Parameters and seals that bytes give, where they are in their ranges.
+-- Parameters and seals that bytes give, if they are in their ranges.
 use Rattle.std.proofs.Common.{◌≡◌, ◌↔◌, ℕ, Bool, true, false, if◌then◌else◌, ℤ, List, Option, Some, None, MatchOption}
 use Rattle.std.proofs.Common.{Decides, refl, sym, ap, subst, ◌∙◌}
 use Rattle.std.specs.Str.{bytes_eq}
@@ -59,7 +59,7 @@ read_none bytes none = not_in_range seal_test spelling decoded bytes
     (false_from_ne_true (seal_test (decoded bytes)).passes
     (λ passes. none ((seal_test (decoded bytes)).decides.0 passes)))
 
--- what the bytes of a seal in its ranges are read as, where another spelling was found, and where their own
+-- what the bytes of a seal in its ranges are read as, if another spelling was found, and if their own
 pub read_other : (bytes shown : List ℕ) (seal : Seal) (same : Bool) → seal ≡ decoded bytes → shown ≡ spelling seal
     → same ≡ bytes_eq shown bytes → same ≡ false → reads bytes ≡ None
 unfolding reads
@@ -74,7 +74,7 @@ read_own bytes shown seal same is valid spelled test own =
     (ap (λ (xs : List ℕ). bytes_eq xs bytes) (sym (spelled ∙ ap spelling is)) ∙ sym test ∙ own)
     ∙ ap (λ (s : Seal). Some s) (sym is)
 
--- bytes are read as a seal exactly where it is in its ranges and the bytes are its spelling
+-- bytes are read as a seal exactly if it is in its ranges and the bytes are its spelling
 pub seals_are_read_by_their_table : (bytes : List ℕ) (seal : Seal)
     → (reads bytes ≡ Some seal) ↔ (IsSeal seal × (bytes ≡ spelling seal))
 unfolding reads

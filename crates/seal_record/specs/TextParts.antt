@@ -7,8 +7,8 @@ use Rattle.seal_record.specs.ParamsSoFar.{ParamsSoFar}
 pub use Rattle.seal_record.specs.ParamLineStages.{line_read}
 pub use Rattle.taxi_units.specs.Parting.{HasNone}
 
--- lines are those of a text if an LF ends each but the last, one CR directly before that LF is no part of its line,
--- and what stands behind the last LF is the last line as it is
+-- lines are those of a text if an LF ends each but the last, and what stands behind the last LF is the last line as it
+-- is; one CR directly before an LF is no part of its line
 pub data AreLines : List ℕ → List (List ℕ) → Type 0 where
   last : (line : List ℕ) → HasNone 10 line → AreLines line (line ∷ [])
   ended : (line rest : List ℕ) (lines : List (List ℕ)) → HasNone 10 line → AreLines rest lines

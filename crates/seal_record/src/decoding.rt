@@ -62,7 +62,7 @@ fn pairs_in(count: usize, bytes: &[u8; BODY_SIZE]) -> ArrayVec<(u64, i32), MOST_
     pairs
 }
 
-/// The offsets, where they are lawful.
+/// The offsets, if they are lawful.
 fn offsets_in(bytes: &[u8; BODY_SIZE]) -> Option<Offsets>
     ensures { MatchOption result (¬ IsOffsetList (spec.params_in bytes.now).offsets)
         (λ offsets. (offsets ≡ (spec.params_in bytes.now).offsets) × IsOffsetList offsets) }
@@ -74,7 +74,7 @@ fn offsets_in(bytes: &[u8; BODY_SIZE]) -> Option<Offsets>
     offsets_of(pairs_in(count, bytes).as_slice())
 }
 
-/// The taxi identifier, where it is one.
+/// The taxi identifier, if it is one.
 fn taxi_in(bytes: &[u8; BODY_SIZE]) -> Option<ArrayVec<u8, LONGEST_TAXI>>
     ensures { MatchOption result (¬ IsTaxi (spec.params_in bytes.now).taxi.items)
         (λ taxi. (taxi.items ≡ (spec.params_in bytes.now).taxi.items) × IsTaxi taxi.items) }
@@ -82,7 +82,7 @@ fn taxi_in(bytes: &[u8; BODY_SIZE]) -> Option<ArrayVec<u8, LONGEST_TAXI>>
     values::taxi(before(&bytes[8..24], 0))
 }
 
-/// The parameters, where they are in their ranges.
+/// The parameters, if they are in their ranges.
 fn params_in(bytes: &[u8; BODY_SIZE]) -> Option<Params>
     ensures { MatchOption result (¬ IsParams (spec.params_in bytes.now))
         (λ params. (params ≡ spec.params_in bytes.now) × IsParams params) }
@@ -110,7 +110,7 @@ fn params_in(bytes: &[u8; BODY_SIZE]) -> Option<Params>
     })
 }
 
-/// The seal, where it is in its ranges.
+/// The seal, if it is in its ranges.
 pub(crate) fn seal_in(bytes: &[u8; BODY_SIZE]) -> Option<Seal>
     ensures { MatchOption result (¬ IsSeal (decoded bytes.now))
         (λ seal. (seal ≡ decoded bytes.now) × IsSeal seal) }

@@ -18,15 +18,15 @@ pub fn values_are_read_by_their_forms()
     ensures dates { (text : List ℕ) (day : ℤ) → (secured_read text ≡ Some day) ↔ IsDateText text day }
 {}
 
-/// A law: a line is good exactly where it says nothing, or says a parameter that has not been said
-/// before by a value of its form, or one offset more of a lawful list; and then it says that alone.
+/// A law: a line is good exactly if it says nothing, or says a parameter that has not been said before by a value of
+/// its form, or one offset more of a lawful list. Then it says that alone.
 pub fn lines_say_their_parameter()
     ensures { (said more : ParamsSoFar) (number : ℕ) (line : List ℕ)
         → (line_read said number line ≡ Ok more) ↔ LineAddsParam said line more }
 {}
 
-/// A law: a line is refused exactly where it is bad, and its fault is the first that it has: its key is
-/// no parameter's; or it says a parameter a second time; or its value says nothing.
+/// A law: a line is refused exactly if it is bad. Its fault is the first that it has: its key is no parameter's, or it
+/// says a parameter a second time, or its value says nothing.
 pub fn bad_lines_have_their_fault()
     ensures { (said : ParamsSoFar) (number : ℕ) (line : List ℕ) (fault : ParamFault)
         → (line_read said number line ≡ Err fault) ↔ IsBad said number line fault }

@@ -4,7 +4,7 @@ ghost use Rattle.seal_record.specs.OffsetList.{is_offset_list};
 
 use interval_clock::Offsets;
 
-/// The offsets of a list, where it is lawful.
+/// The offsets of a list, if it is lawful.
 pub(crate) fn offsets_of(pairs: &[(u64, i32)]) -> Option<Offsets>
     ensures { result ≡ (if is_offset_list pairs.now then Some pairs.now else None) }
 {

@@ -79,7 +79,7 @@ impl ParamsSoFar {
         }
     }
 
-    /// What has been said with one offset more, where the list with it is lawful.
+    /// What has been said with one offset more, if the list with it is lawful.
     fn with_pair(self, pair: (u64, i32)) -> Option<ParamsSoFar>
         ensures { result ≡ with_pair self pair }
     {
@@ -87,7 +87,7 @@ impl ParamsSoFar {
         Some(ParamsSoFar { offsets, ..self })
     }
 
-    /// What has been said with a parameter's value, where the value is of its form.
+    /// What has been said with a parameter's value, if the value is of its form.
     fn with_value(mut self, name: Name, value: &[u8]) -> Option<ParamsSoFar>
         ensures { result ≡ with_value self name value.now }
     {
@@ -152,7 +152,7 @@ impl ParamsSoFar {
         self.with_key(number, key, value)
     }
 
-    /// All parameters, where none is missing.
+    /// All parameters, if none is missing.
     pub(crate) fn whole(self) -> Result<Params, ParamFault>
         ensures { result ≡ whole self }
     {
@@ -173,7 +173,7 @@ impl ParamsSoFar {
     }
 }
 
-/// A list of offsets with one more behind it, where that list is lawful.
+/// A list of offsets with one more behind it, if that list is lawful.
 fn with_offset(mut offsets: Pairs, pair: (u64, i32)) -> Option<Pairs>
     ensures { Gives (λ list. list.items) result
         (if is_offset_list (offsets.items ++ pair ∷ []) then Some (offsets.items ++ pair ∷ []) else None) }

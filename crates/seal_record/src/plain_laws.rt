@@ -12,8 +12,8 @@ pub fn plain_texts_are_read_back()
     ensures { (params : Params) → IsParams params → params_read (plain_text params) ≡ Ok params }
 {}
 
-/// A law: a plain text with comments in front is read as the same parameters, where it is no longer than a
-/// text may be. It is at most 1,517 bytes longer than its comments.
+/// A law: a plain text with comments in front is read as the same parameters, if it is no longer than a text may be. It
+/// is at most 1,517 bytes longer than its comments.
 pub fn comments_are_passed_over()
     ensures read { (comments : List (List ℕ)) (params : Params) → IsParams params → All AreShown comments
         → length (commented_text comments params) ≤ longest_text

@@ -30,10 +30,10 @@ const LONGEST_TEXT: usize = 65_536;
 /// 946684800, and each is greater than the one before. Each other key stands once. The form is this
 /// project's own. No memory is taken.
 ///
-/// `TooLong` where the text has more than 65,536 bytes; else the fault of the first bad line, which is
-/// `Unknown` where its key is no parameter's, `Twice` where its key stood before and may stand once,
-/// `BadValue` where its value is not of its form; and else `Missing` with the first parameter of the
-/// table that no line gives. `texts_say_parameters_line_by_line` says what its lines, keys and numbers are.
+/// `TooLong`: the text has more than 65,536 bytes. Else the fault of the first bad line: `Unknown` if its key is no
+/// parameter's, `Twice` if its key stood before and may stand once, `BadValue` if its value is not of its form. Else
+/// `Missing`, with the first parameter of the table that no line gives. The law `texts_say_parameters_line_by_line`
+/// says what lines, keys and numbers are.
 pub fn read_params(text: &[u8]) -> Result<Params, ParamFault>
     ensures answer { result ≡ params_read text.now }
     ensures ranges { IfOk result IsParams }

@@ -13,11 +13,10 @@ ghost use Rattle.seal_record.specs.Values.{taxi_read};
 ghost use Rattle.taxi_units.specs.Digits.{IsNumberIn};
 ghost use Rattle.taxi_units.specs.Number.{number_in};
 
-/// A law: a text has its lines, each with its LF and perhaps a CR before it, and what stands behind the
-/// last LF as its last line; a line is its key, one blank and its value, or its key alone; a number is
-/// written by 1 to 12 digits; a taxi identifier is its text; and a list of offsets may be so far exactly
-/// where it is lawful. The fault of a text is that of the first line that is bad: all lines
-/// before it are good, and it is numbered by its place among all lines.
+/// A law of the parts of a text. Its lines end with an LF, and perhaps a CR before it; what stands behind the last LF
+/// is its last line. A line is its key, one blank and its value, or its key alone. A number is written by 1 to 12
+/// digits. A taxi identifier is its text. A list of offsets may be so far exactly if it is lawful. The fault of a text
+/// is that of the first line that is bad: all lines before it are good, and its number is its place among all lines.
 pub fn texts_say_parameters_line_by_line()
     ensures lines { (text : List ℕ) (lines : List (List ℕ)) → (lines_of text ≡ lines) ↔ AreLines text lines }
     ensures parts { (line key value : List ℕ) → ((key_in line ≡ key) × (value_in line ≡ value))

@@ -7,15 +7,14 @@ ghost use Rattle.seal_record.specs.Limits.{longest_text};
 ghost use Rattle.seal_record.specs.Reading.{params_read};
 ghost use Rattle.seal_record.specs.ParamText.{LacksFirst, IsTextOfParams};
 
-/// A law: a text is read as parameters exactly where it has at most 65,536 bytes and its lines, from the
-/// first to the last, say each of these parameters, and nothing else.
+/// A law: a text is read as parameters exactly if it has at most 65,536 bytes and its lines, from the first to the
+/// last, say each of these parameters, and nothing else.
 pub fn texts_say_their_parameters()
     ensures { (text : List ℕ) (params : Params) → (params_read text ≡ Ok params) ↔ IsTextOfParams text params }
 {}
 
-/// A law: a text is too long exactly above 65,536 bytes; and a parameter is missing exactly where the
-/// text isn't too long, all its lines are good, and that parameter is the first by the table of the
-/// format that no line says.
+/// A law: a text is too long exactly if it has more than 65,536 bytes. A parameter is missing exactly if the text isn't
+/// too long, all its lines are good, and that parameter is the first of the format's table that no line says.
 pub fn texts_are_too_long_or_lack_a_parameter()
     ensures too_long { (text : List ℕ) → (params_read text ≡ Err TooLong) ↔ (longest_text < length text) }
     ensures missing { (text : List ℕ) (which : Name)

@@ -4,5 +4,5 @@ mod Fitting
 pub mod Laws
 -- what bytes are read as, and that values are bodies of slots
 mod ReadBack
--- rows of values, one behind the other
+-- rows of values, one after another
 mod Rows

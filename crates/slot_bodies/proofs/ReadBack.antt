@@ -12,11 +12,11 @@ both_passed : {T : Type 0} (one two : Bool) (x : T) → one ≡ true → two ≡
     → (if one && two then Some x else None) ≡ Some x
 both_passed one two x first second = rw first (rw second refl)
 
--- a value behind two tests isn't given where the first fails
+-- a value behind two tests isn't given if the first fails
 first_failed : {T : Type 0} (one two : Bool) (x : T) → one ≡ false → (if one && two then Some x else None) ≡ None
 first_failed one two x fails = rw fails refl
 
--- a value behind two tests isn't given where the second fails
+-- a value behind two tests isn't given if the second fails
 second_failed : {T : Type 0} (one two : Bool) (x : T) → two ≡ false → (if one && two then Some x else None) ≡ None
 second_failed true two x fails = rw fails refl
 second_failed false two x fails = refl
@@ -41,13 +41,13 @@ module _ {T : Type 0} (ranges : T → Test) (spelling : T → List ℕ) (found :
   other_bytes bytes differs =
       second_failed (ranges (found bytes)).passes (bytes_eq (spelling (found bytes)) bytes) (found bytes) differs
 
-  -- bytes of the value that stands in them are read as it where it passes the test of its ranges
+  -- bytes of the value that stands in them are read as it if it passes the test of its ranges
   pub own_bytes : (bytes : List ℕ) → (ranges (found bytes)).passes ≡ true
       → bytes_eq (spelling (found bytes)) bytes ≡ true → read_back ranges spelling found bytes ≡ Some (found bytes)
   own_bytes bytes pass same =
       both_passed (ranges (found bytes)).passes (bytes_eq (spelling (found bytes)) bytes) (found bytes) pass same
 
-  -- bytes are read as a value exactly where it is in its ranges and they are its own, if what is spelled is found again
+  -- bytes are read as a value exactly if it is in its ranges and they are its own, if what is spelled is found again
   pub reads_exactly : ((x : T) → (ranges x).Fact → found (spelling x) ≡ x) → (bytes : List ℕ) (x : T)
       → (read_back ranges spelling found bytes ≡ Some x) ↔ ((ranges x).Fact × (bytes ≡ spelling x))
   reads_exactly again bytes x = (λ read. there read, λ is. back is.0 is.1)

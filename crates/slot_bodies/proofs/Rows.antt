@@ -1,4 +1,4 @@
--- Rows of values, one behind the other.
+-- Rows of values, one after another.
 use Rattle.std.proofs.Common.{◌≡◌, ℕ, zero, suc, ◌+◌, ◌*◌, List, [], ◌∷◌, ◌++◌, length, refl, ap, ◌∙◌, arith, mul-suc}
 use Rattle.slot_bodies.specs.Codec.{Codec, read_row}
 

@@ -11,8 +11,8 @@ abbrev pub padded : (count : ℕ) → List ℕ → List ℕ
 padded count bytes = bytes ++ replicate (count - length bytes) 0
 
 module _ {T : Type 0} (valid : T → Type 0) (spelling : T → List ℕ) (reads : List ℕ → Option T) where
-  -- values are bodies if each one that may be written fills its place and is read again as it was, and if what is
-  -- read might have been written, and stands in no other bytes than its own
+  -- values are bodies if each one that may be written fills its place and is read again as it was, and if what is read
+  -- might have been written, and is read from no other bytes than its own
   pub record AreBodies : Type 0 where
     pub size : (body : T) → valid body → length (spelling body) ≡ body_size
     pub reads_it : (body : T) → valid body → reads (spelling body) ≡ Some body

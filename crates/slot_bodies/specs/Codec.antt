@@ -13,8 +13,8 @@ use Rattle.std.proofs.lemmas.Nat.{div_below, mod_below, shr_split}
 use Rattle.slot_bodies.specs.Bodies.{padded}
 use Rattle.slot_bodies.specs.BytesAt.{byte_at, two_at, four_at, eight_at}
 
--- a codec of values has how many bytes each takes, its bytes, the value that is read from a place of bytes on, whatever
--- these are, and which values fit; a value that fits takes so many bytes, and is read again wherever they stand
+-- a codec has the size of a value in bytes, the bytes of each value, the value that is read from a place on, and which
+-- values fit; a value that fits has that size, and is read again wherever its bytes stand
 pub record Codec (A : Type 0) : Type 1 where
   pub size : ℕ
   pub spell : A → List ℕ
@@ -135,7 +135,7 @@ always n = record {
 
 -- ---- two values, and values by way of others
 
--- two values that stand one behind the other are read again
+-- two values that stand one after the other are read again
 pub pair_again : {A B : Type 0} (one : Codec A) (two : Codec B) (a : A) (b : B) (before rest : List ℕ) (place : ℕ)
     → one.Fits a → two.Fits b → length before ≡ place
     → (one.read (before ++ ((one.spell a ++ two.spell b) ++ rest)) place ≡ a)
@@ -149,7 +149,7 @@ pair_again one two a b before rest place fits_one fits_two at = (
 )
 
 infixr 20 ◌⊗◌
--- two values stand one behind the other
+-- two values stand one after the other
 abbrev pub ◌⊗◌ : {A B : Type 0} → Codec A → Codec B → Codec (A × B)
 one ⊗ two = record {
   size = one.size + two.size;
@@ -179,7 +179,7 @@ made codec to from = record {
   again = λ value before rest place fits at. ap from (codec.again (to value) before rest place fits.0 at) ∙ fits.1;
 }
 
--- the same bytes, where it is said in other words which values fit
+-- the same bytes, with another name for the values that fit
 abbrev pub fitting : {A : Type 0} → (Fits : A → Type 0) → (codec : Codec A) → ((a : A) → Fits a → codec.Fits a)
     → Codec A
 fitting Fits codec sound = record {
@@ -201,7 +201,7 @@ sixteen_bytes = fitting (λ (n : ℕ). n < 2 ^ 128)
       shr_split n 64,
     ))
 
--- ---- what is there only where a number says so
+-- ---- what is there only if a number says so
 
 -- the bytes of what may be there: 1 and its own, or zeros
 abbrev pub spell_optional : {A : Type 0} → Codec A → Option A → List ℕ
@@ -234,7 +234,7 @@ optional_again codec (Some a) before rest place fits at =
     ∙ codec.again a (before ++ 1 ∷ []) rest (place + 1) fits
     (length-append before (1 ∷ []) ∙ ap (λ (n : ℕ). n + 1) at))
 
--- a value is there where the byte before it is 1, and else zeros stand in its place
+-- a value is there if the byte before it is 1, and else zeros stand in its place
 abbrev pub optional : {A : Type 0} → Codec A → Codec (Option A)
 optional codec = record {
   size = suc codec.size;
@@ -247,7 +247,7 @@ optional codec = record {
 
 -- ---- lists
 
--- the values of a row stand one behind the other
+-- the values of a row stand one after another
 abbrev pub read_row : {A : Type 0} → Codec A → ℕ → List ℕ → ℕ → List A
 read_row codec zero bytes place = []
 read_row codec (suc n) bytes place = codec.read bytes place ∷ read_row codec n bytes (place + codec.size)
@@ -282,7 +282,7 @@ row_again codec (a ∷ others) before rest place fits at =
     (length-append before first ∙ (λ i. at i + codec.long a fits_first i)) in
     λ i. here i ∷ there i
 
--- `n` values stand one behind the other
+-- `n` values stand one after another
 abbrev pub row : {A : Type 0} → ℕ → Codec A → Codec (List A)
 row n codec = record {
   size = row_size n codec.size;
@@ -319,7 +319,7 @@ counted_again codec room values before rest place fits at =
     ∙ row_again codec values (before ++ count ∷ []) (spare ++ rest) (place + 1) fits
     (length-append before (count ∷ []) ∙ ap (λ (n : ℕ). n + 1) at)
 
--- a byte has how many values there are, and they have room for so many bytes, with zeros behind them
+-- a byte tells how many values there are; they have room for so many bytes, with zeros behind them
 abbrev pub counted : {A : Type 0} → (room : ℕ) → Codec A → Codec (List A)
 counted room codec = record {
   size = suc room;

@@ -1,10 +1,9 @@
--- For proofs: bytes that are read as a value where the value is in its ranges and the bytes are its own.
+-- For proofs: bytes that are read as a value if it is in its ranges and they are its own.
 use Rattle.std.specs.Prelude.{ℕ, ◌&&◌, if◌then◌else◌, List, Option, Some, None}
 use Rattle.std.specs.Str.{bytes_eq}
 use Rattle.taxi_units.specs.Test.{Test}
 
--- bytes are read as the value that stands in them, whatever they are, where it passes the test of its ranges and spells
--- the same bytes
+-- bytes are read as the value that stands in them if it passes the test of its ranges and spells the same bytes
 abbrev pub read_back : {T : Type 0} → (ranges : T → Test) → (spelling : T → List ℕ) → (found : List ℕ → T) → List ℕ
     → Option T
 read_back ranges spelling found bytes =

@@ -5,9 +5,8 @@ ghost use Rattle.slot_bodies.specs.Bodies.{AreBodies};
 /// How many bytes a body has.
 pub const BODY_SIZE: usize = 511;
 
-/// A value of 511 bytes that slots hold, with a number by which the later of two is known. Values are
-/// compared as contracts see them: a body with buffers in it by its items, as the kit's models of
-/// these give them, and not by where they lie in memory.
+/// A value of 511 bytes that a slot holds. Its number tells which of two is the later. Contracts compare values by the
+/// kit's models: a body with buffers is compared by their items, not by where they lie in memory.
 pub trait Body: Sized + Drop {
     /// The values that may be written.
     ghost valid: { Self → Type 0 };
@@ -18,7 +17,7 @@ pub trait Body: Sized + Drop {
     /// The bytes of a value.
     ghost spelling: { Self → List ℕ };
 
-    /// The value that bytes spell, where they spell one.
+    /// The value that bytes spell, if they spell one.
     ghost reads: { List ℕ → Option Self };
 
     /// The number.
@@ -30,10 +29,10 @@ pub trait Body: Sized + Drop {
         requires { valid self.now }
         ensures { out.new ≡ spelling self.now };
 
-    /// Reads a value; none where the bytes spell none.
+    /// Reads a value. It is None if the bytes spell none.
     fn get(bytes: &[u8; BODY_SIZE]) -> Option<Self>
         ensures { result ≡ reads bytes.now };
 
-    /// A value fills its place, and its own bytes, and no others, are read as it.
+    /// Each value that may be written has 511 bytes, and it is read from these bytes and from no others.
     ghost bodies: { AreBodies valid spelling reads };
 }

@@ -1,4 +1,4 @@
-//! The bytes of a body, one field behind the other. Numbers have their greatest byte first.
+//! The bytes of a body, one field after another. Numbers have their greatest byte first.
 ghost use Rattle.std.specs.Prelude.{◌≡◌, ◌++◌, ◌+◌, ◌≤◌, length, replicate};
 ghost use Rattle.arrayvec.specs.ArrayVec.{array_vec_len};
 ghost use Rattle.slot_bodies.specs.BytesAt.{two_at, four_at, eight_at};

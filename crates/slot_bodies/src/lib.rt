@@ -1,5 +1,5 @@
-//! What describes the bytes of a slot's body, apart from any device: the values that may be bodies, and
-//! the numbers at places of their bytes. All of it is this project's own.
+//! The bytes of a slot's body, apart from any device: which values may be bodies, and the numbers at places of their
+//! bytes. All of it is this project's own.
 #![tactic(auto)]
 
 mod body;

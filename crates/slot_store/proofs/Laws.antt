@@ -89,7 +89,7 @@ zeros_are_blank n at slot low e = omega (arith, e, zeros n (at + 512 * slot))
 pub same_blank : (at : ℕ) (image left : List ℕ) → IsBlank at image → IsSamePair at image left → IsBlank at left
 same_blank = untouched.same_blank
 
--- an open slot has its body's own spelling, where nothing else is read as that body
+-- an open slot has its body's own spelling, if nothing else is read as that body
 pub open_spelling : {T : Type 0} (reads : List ℕ → Option T) (spelling : T → List ℕ)
     → ((bytes : List ℕ) (body : T) → length bytes ≡ 511 → AreBytes bytes → reads bytes ≡ Some body
     → bytes ≡ spelling body)

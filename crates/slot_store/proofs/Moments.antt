@@ -42,7 +42,7 @@ module _ {D L : Type 0} {N : ℕ} (B : Ghosts D N L) (start count : ℕ) where
   writes_at part size old new place long writes =
       subst (λ (p : ℕ). WritesIn B p count old new) place (subst (λ (n : ℕ). WritesIn B part n old new) long writes)
 
-  -- what a board may leave behind writes, seen from their start
+  -- what a board may leave after writes, seen from their start
   left_beside : (old new : D) → WritesIn B start count old new → (left text : List ℕ)
       → MayLeave (B.image new) (B.in_flight new) (B.printed new) left text
       → MayLeave (B.image old) (OrWithin (B.in_flight old) start count) (B.printed old) left text

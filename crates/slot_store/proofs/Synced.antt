@@ -7,7 +7,7 @@ use Rattle.outside.specs.Runs.{IsAtRest, LeavesNow, LeavesOnly}
 use Rattle.outside.proofs.Laws.{leaves_then, leaves_wider}
 use Rattle.slot_store.specs.Syncs.{IsAsHeld, IsSynced, LeavesFromSync, ReadsOnly, SyncsFirst}
 
--- images that are the same but where nothing is in flight are the same
+-- images that are the same but at the places in flight are the same if there are none
 same_image : (image left : List ℕ) (in_flight : ℕ → Type 0) → ((place : ℕ) → ¬ in_flight place)
     → SameBut in_flight image left → left ≡ image
 same_image image left in_flight none same = ext_get_or 0 left image same.size (λ place lt. same.rest place (none place))
@@ -51,14 +51,14 @@ module _ {D L : Type 0} {N : ℕ} (B : Ghosts D N L) where
   goes_on kind wider fails fails' old between new not is (inr (synced, at, run)) next =
       inr (synced, at, leaves_then B wider synced between new (leaves_wider B kind wider synced between is run) next)
 
-  -- what goes on behind the sync leaves what was held before it
+  -- what follows the sync leaves what was held before it
   pub held_on : (old synced new : D) → IsSynced B old synced → LeavesOnly B synced new
       (MayLeave (B.image synced) (B.in_flight synced) (B.printed synced)) → LeavesOnly B synced new (IsAsHeld B old)
   held_on old synced new is run =
       leaves_wider B (IsAsHeld B synced) (IsAsHeld B old) synced new (λ i x held.
       record { image = held.image ∙ is.same; text = held.text ∙ is.reads.text }) (as_held synced new is.settled run)
 
-  -- what a board may leave behind a call that only reads, seen from before it
+  -- what a board may leave after a call that only reads, seen from before it
   left_before : (old new : D) → SameBut (B.in_flight old) (B.image old) (B.image new)
       → ((place : ℕ) → B.in_flight new place → B.in_flight old place) → B.printed new ≡ B.printed old
       → (i x : List ℕ) → MayLeave (B.image new) (B.in_flight new) (B.printed new) i x
@@ -104,7 +104,7 @@ module _ {D L : Type 0} {N : ℕ} (B : Ghosts D N L) where
         rest = λ place none. ap (λ (bytes : List ℕ). get_or bytes place 0) same;
       }) flight text time
 
-  -- two runs that only read, one behind the other
+  -- two runs that only read, one after the other
   pub reads_then : (old between new : D) → ReadsOnly B old between → ReadsOnly B between new → ReadsOnly B old new
   reads_then old between new first second = record {
     leaves =
@@ -121,7 +121,7 @@ module _ {D L : Type 0} {N : ℕ} (B : Ghosts D N L) where
     text = second.text ∙ first.text;
   }
 
-  -- a call that syncs first, where more may be known of how it fails
+  -- a call that syncs first, if more may be known of how it fails
   pub syncs_as : (fails fails' : Type 0) (old new : D) → (fails → fails')
       → SyncsFirst B fails old new → SyncsFirst B fails' old new
   syncs_as fails fails' old new there syncs = record {

@@ -8,7 +8,7 @@ use Rattle.slot_store.specs.Sizes.{slot_size, last_pair}
 use Rattle.slot_store.specs.Slots.{slot_at, HasBody, IsBlank, IsClosed, IsOpen, IsQuiet, IsSettled, Shows, ShowsEither}
 use Rattle.slot_store.specs.Writes.{LeavesThroughout, WritesIn}
 
--- the kept slot is the one with the latest body, and slot 1 of a blank pair
+-- the kept slot is the one with the latest body, or slot 1 of a blank pair
 abbrev pub kept_slot : Option Place → ℕ
 kept_slot None = 1
 kept_slot (Some place) = place.slot
@@ -41,7 +41,7 @@ pub record IsPair (pair : Pair) : Type 0 where
   pub at_in : pair.at ≤ last_pair
   pub slot_in : kept_slot pair.latest ≤ 1
 
--- the latest body is before a number if its own number is below it; if there is no body, that holds too
+-- the latest body is before a number if its own number is below it, or if there is no body
 abbrev pub IsBefore : {T : Type 0} → (T → ℕ) → Option T → ℕ → Type 0
 IsBefore number_of None number = Unit {0}
 IsBefore number_of (Some body) number = number_of body < number
@@ -61,8 +61,8 @@ module _ {T : Type 0} (reads : List ℕ → Option T) where
     pub kept : HasLatestBody (kept_at pair) image latest
 
 module _ {T : Type 0} (reads : List ℕ → Option T) (number_of : T → ℕ) where
-  -- a pair at `at` is ready with no body if it is blank and nothing of it is in flight, and with the latest body
-  -- if it is settled with it at its place
+  -- a pair at `at` is ready with no body if it is blank with nothing in flight, and with the latest body if it is
+  -- settled with it at its place
   abbrev pub IsReadyAt : ℕ → Option Place → List ℕ → (ℕ → Type 0) → Option T → Type 0
   IsReadyAt at None image in_flight None = IsBlank at image × IsQuiet at in_flight
   IsReadyAt at None image in_flight (Some body) = ⊥
@@ -82,8 +82,7 @@ module _ {T : Type 0} (reads : List ℕ → Option T) (number_of : T → ℕ) wh
     pub newer : IsBefore number_of latest (number_of body)
 
 module _ {D L : Type 0} {N : ℕ} (B : Ghosts D N L) where
-  -- a stage writes `count` places from `start` on, of the slot that is written next, if its writes lie there, and so in
-  -- that slot
+  -- a stage writes `count` places from `start` on if its writes lie there, and in the slot that is written next
   pub record WritesOfSpare (pair : Pair) (start count : ℕ) (old new : D) : Type 0 where
     pub alone : WritesIn B start count old new
     pub in_slot : WritesIn B (spare_at pair) slot_size old new
@@ -138,14 +137,14 @@ module _ {T : Type 0} (meanings : BodyGhosts T) {D L : Type 0} {N : ℕ} (B : Gh
       (latest : Option T) (body : T) → IsWrittenOn pair old latest body → IsSettledOn pair.at place new body
 
   -- a run leaves the latest body if a cut at each of its moments leaves a pair that shows it, and outside the slot that
-  -- is written next what it might have left at the old board
+  -- is written next only what a cut of the old board might leave
   abbrev pub LeavesLatest : Pair → Option T → D → D → Type 0
   LeavesLatest pair latest old new =
       LeavesThroughout B (spare_at pair) slot_size
       (λ image. Shows meanings.reads meanings.number_of pair.at image latest) old new
 
   -- a run leaves the latest body or a new one if a cut at each of its moments leaves a pair that shows either, and
-  -- outside the slot that is written next what it might have left at the old board
+  -- outside the slot that is written next only what a cut of the old board might leave
   abbrev pub LeavesLatestOrNew : Pair → Option T → T → D → D → Type 0
   LeavesLatestOrNew pair latest body old new =
       LeavesThroughout B (spare_at pair) slot_size

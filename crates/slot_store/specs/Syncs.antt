@@ -13,16 +13,15 @@ module _ {D L : Type 0} {N : ℕ} (B : Ghosts D N L) where
     pub flight : (place : ℕ) → B.in_flight new place → B.in_flight old place
     pub text : B.printed new ≡ B.printed old
 
-  -- a board is synced, behind the opening sync of a call, if nothing was written before, the image is as it was, and
-  -- nothing is in flight any more
+  -- a board is synced, after the opening sync of a call, if nothing was written before, the image is as it was, and
+  -- nothing is in flight
   pub record IsSynced (old synced : D) : Type 0 where
     pub reads : ReadsOnly old synced
     pub same : B.image synced ≡ B.image old
     pub settled : IsAtRest B synced
 
-  -- a call leaves a kind of image and text from its opening sync on if a cut behind that sync leaves only what is of
-  -- that kind, and a cut before it leaves what it might have left before the call; if the sync fails, nothing is
-  -- written
+  -- a call leaves a kind of image and text from its opening sync on if a cut after that sync leaves only that kind, and
+  -- one before it only what it might have left before the call; if it `fails`, it may have written nothing instead
   abbrev pub LeavesFromSync : (fails : Type 0) (old new : D) (kind : List ℕ → List ℕ → Type 0) → Type 0
   LeavesFromSync fails old new kind =
       (fails × ReadsOnly old new) ⊎ ((synced : D) × IsSynced old synced × LeavesOnly B synced new kind)
@@ -33,7 +32,7 @@ module _ {D L : Type 0} {N : ℕ} (B : Ghosts D N L) where
     pub text : left_text ≡ B.printed board
 
   -- a call syncs first if a cut from its opening sync on leaves what the board held before the call, and, unless it
-  -- fails, the image is as it was and nothing is in flight any more
+  -- fails, the image is as it was and nothing is in flight
   pub record SyncsFirst (fails : Type 0) (old new : D) : Type 0 where
     pub leaves : B.tells_image → LeavesFromSync fails old new (IsAsHeld old)
     pub same : ¬ fails → B.image new ≡ B.image old

@@ -14,7 +14,7 @@ OrWithin places at count place = places place ⊎ IsWithin at count place
 abbrev pub IsApart : ℕ → ℕ → ℕ → Type 0
 IsApart at start count = (start + count ≤ at) ⊎ (at + pair_size ≤ start)
 
--- a cut leaves the text that was printed and an image of a kind, and outside a part what it might have left at the
+-- a cut leaves the text that was printed, an image of a kind, and outside a part only what it might have left at the
 -- start
 pub record LeavesBeside (image : List ℕ) (in_flight : ℕ → Type 0) (printed : List ℕ) (start count : ℕ)
     (kind : List ℕ → Type 0) (left_image left_text : List ℕ) : Type 0 where
@@ -29,8 +29,8 @@ module _ {D L : Type 0} {N : ℕ} (B : Ghosts D N L) where
     pub flight : (place : ℕ) → B.in_flight new place → OrWithin (B.in_flight old) start count place
     pub text : B.printed new ≡ B.printed old
 
-  -- a run leaves a kind of image throughout if a cut at each of its moments leaves an image of that kind, and
-  -- outside a part what it might have left at the old board, and the new board has an image of that kind
+  -- a run leaves a kind of image throughout if a cut at each of its moments leaves an image of that kind, and outside a
+  -- part only what a cut of the old board might leave; the new board has an image of that kind too
   pub record LeavesThroughout (start count : ℕ) (kind : List ℕ → Type 0) (old new : D) : Type 0 where
     pub leaves : LeavesOnly B old new (LeavesBeside (B.image old) (B.in_flight old) (B.printed old) start count kind)
     pub holds : kind (B.image new)

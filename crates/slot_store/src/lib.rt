@@ -1,6 +1,5 @@
-//! Two gated slots in the board's store, which keep one body through any cut of the power: what the
-//! pair stands for is found by a scan, and a new body is written in three stages, each one write and
-//! its sync. All of it is this project's own.
+//! Two slots in the board's store that keep one body through any cut of the power. A scan finds what the pair stands
+//! for, and a new body is written in three stages, each one write and its sync. All of it is this project's own.
 #![tactic(auto)]
 
 mod durable;

@@ -1,5 +1,4 @@
-//! What the answers of a scan mean, and what stays of a pair, in words that share nothing with how
-//! the code finds it.
+//! What the answers of a scan mean, and what stays of a pair, in words that share nothing with how the code finds it.
 ghost use Rattle.std.specs.Prelude.{◌≡◌, ◌↔◌, ℕ, ◌+◌, ◌≤◌, List, length, Option, Some, Result, Ok};
 ghost use Rattle.taxi_units.specs.Bytes.{AreBytes};
 ghost use Rattle.outside.specs.Disk.{SameBut};
@@ -19,13 +18,13 @@ use outside::Board;
 use slot_bodies::Body;
 use std::sync::ledger::Ledger;
 
-/// The answer to a pair of slots is the one that its image calls for, and there is just one.
+/// The answer to a pair of slots is the one that its image calls for, and no other.
 pub fn a_scan_answers_by_the_image<T: Body>()
     ensures { (at : ℕ) (image : List ℕ) (answer : Result (Found T) SlotFault)
         → (found_at T.reads T.number_of at image ≡ answer) ↔ IsAnswer T.reads T.number_of at image answer }
 {}
 
-/// An image that stands for a body is answered with that body.
+/// A scan of an image that stands for a body finds that body.
 pub fn a_scan_finds_the_body<T: Body>()
     ensures { (at : ℕ) (image : List ℕ) (body : T) → StandsFor T.reads T.number_of at image body
         → (place : Place) × (found_at T.reads T.number_of at image ≡ Ok (Latest place body)) }
@@ -43,9 +42,9 @@ pub fn an_open_slot_has_a_spelling<T: Body>()
         → IsOpen T.reads start image (Some body) → bytes_behind start image ≡ T.spelling body }
 {}
 
-/// A pair whose latest body is at a place stands for that body. It stays so, and a blank pair stays
-/// blank, in each image in which the pair has the same bytes: in each that a cut leaves while nothing
-/// of the pair is in flight, and after writes that lie elsewhere.
+/// A pair whose latest body is at a place stands for that body. It stays so in each image in which the pair has the
+/// same bytes, and a blank pair stays blank there. Such images are those that a cut leaves while nothing of the pair is
+/// in flight, and those after writes elsewhere.
 pub fn a_pair_that_is_not_touched_stays<T: Body>()
     ensures stands { (at : ℕ) (place : Place) (image : List ℕ) (body : T)
         → IsAt T.reads T.number_of at place image body → StandsFor T.reads T.number_of at image body }
@@ -55,8 +54,8 @@ pub fn a_pair_that_is_not_touched_stays<T: Body>()
     ensures blank { (at : ℕ) (image left : List ℕ) → IsBlank at image → IsSamePair at image left → IsBlank at left }
 {}
 
-/// A pair that is settled, or blank with nothing in flight, stays so on a board on which it has the
-/// same bytes and no more of it is in flight. A cut of the power leaves what it stands for.
+/// A pair that is settled, or blank with nothing in flight, stays so on a board on which it has the same bytes and no
+/// more of it is in flight. A cut leaves what it stands for.
 pub fn a_settled_pair_stays<T: Body, B: Board<N, L>, L: Ledger, const N: usize>()
     ensures settled { (at : ℕ) (place : Place) (body : T) (old new : B) → IsSettledOn T.Body B.Board at place old body
         → IsSamePair at (B.image old) (B.image new) → FliesNoMore at (B.in_flight old) (B.in_flight new)
@@ -69,8 +68,8 @@ pub fn a_settled_pair_stays<T: Body, B: Board<N, L>, L: Ledger, const N: usize>(
         → SameBut (B.in_flight board) (B.image board) left_image → Shows T.reads T.number_of pair.at left_image latest }
 {}
 
-/// A pair of which nothing is in flight, and that lies apart from what is written, has the same bytes
-/// then, and nothing of it is in flight; and so it has in what a cut leaves.
+/// If nothing of a pair is in flight, and writes lie apart from it, it keeps its bytes, and nothing of it is in flight
+/// after them. It also keeps its bytes in what a cut leaves.
 pub fn a_pair_apart_is_the_same<B: Board<N, L>, L: Ledger, const N: usize>()
     ensures image { (at start count : ℕ) (old : B) (left_image : List ℕ)
         → IsApart at start count → IsQuiet at (B.in_flight old)
@@ -80,7 +79,7 @@ pub fn a_pair_apart_is_the_same<B: Board<N, L>, L: Ledger, const N: usize>()
         → WritesIn B.Board start count old new → IsQuiet at (B.in_flight new) }
 {}
 
-/// What a stage or a store promises of the slot that is written next holds of the whole pair.
+/// What a stage or a store promises of the slot that is written next holds for the whole pair.
 pub fn a_store_of_the_whole_pair<T: Body, B: Board<N, L>, L: Ledger, const N: usize>()
     ensures leaves { (pair : Pair) (latest : Option T) (body : T) (old new : B) → IsPair pair
         → LeavesThroughout B.Board (spare_at pair) slot_size

@@ -1,4 +1,4 @@
-//! What follows for runs that write a part of the store.
+//! Laws of runs that write a part of the store.
 ghost use Rattle.std.specs.Prelude.{ℕ, ◌+◌, ◌≤◌, List};
 ghost use Rattle.outside.specs.Disk.{SameBut};
 ghost use Rattle.slot_store.specs.Writes.{OrWithin, LeavesThroughout, WritesIn};
@@ -6,13 +6,13 @@ ghost use Rattle.slot_store.specs.Writes.{OrWithin, LeavesThroughout, WritesIn};
 use outside::Board;
 use std::sync::ledger::Ledger;
 
-/// Some kind of images. The laws hold of each.
+/// A kind of images. The laws hold for each kind.
 pub trait Images {
     ghost images: { List ℕ → Type 0 };
 }
 
-/// What a run leaves of a part of the store, and writes there, is left of the whole in which the part
-/// lies, and written there; and it may be of a wider kind.
+/// What a run leaves of a part of the store, and writes there, it leaves of the whole around that part, and writes
+/// there; also as a wider kind.
 pub fn a_part_of_the_store_lies_in_the_whole<
     B: Board<N, L>,
     K: Images,
@@ -29,7 +29,7 @@ pub fn a_part_of_the_store_lies_in_the_whole<
         → WritesIn B.Board part size old new → WritesIn B.Board start count old new }
 {}
 
-/// What two runs leave of the same part, and write there, is left and written by both as one.
+/// What two runs leave of the same part, and write there, both leave and write as one run.
 pub fn a_run_goes_on_in_its_part<B: Board<N, L>, K: Images, L: Ledger, const N: usize>()
     ensures leaves { (start count : ℕ) (old between new : B) → WritesIn B.Board start count old between
         → LeavesThroughout B.Board start count K.images old between

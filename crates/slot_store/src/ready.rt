@@ -15,8 +15,8 @@ use std::marker::Model;
 use std::sync::ledger::Ledger;
 use taxi_units::Steps;
 
-/// A pair of slots that may get a new body. A stage uses up its state, and after a stage that failed
-/// only a scan goes on.
+/// A pair of slots that may get a new body. A stage uses up its state; after a stage that failed only a scan may
+/// follow.
 #[derive(Drop)]
 pub struct Ready {
     pair: Pair,
@@ -31,8 +31,8 @@ impl Model for Ready {
 }
 
 impl Ready {
-    /// The pair that begins at `at`, at most 1,024, with its latest body at a place, whose slot is 0
-    /// or 1. The other slot is written next.
+    /// The pair that begins at `at`, at most 1,024, with its latest body at a place, whose slot is 0 or 1. The other
+    /// slot is written next.
     pub fn new(at: u32, place: Place) -> Ready
         requires at { at ≤ last_pair }
         requires slot { place.slot ≤ 1 }
@@ -46,7 +46,7 @@ impl Ready {
         }
     }
 
-    /// The pair that begins at `at`, at most 1,024, of which no gate is open. Slot 0 is written next.
+    /// The pair that begins at `at`, at most 1,024, without an open gate. Slot 0 is written next.
     pub fn blank(at: u32) -> Ready
         requires { at ≤ last_pair }
         ensures { result ≡ record { at = at; latest = None } }
@@ -56,10 +56,9 @@ impl Ready {
         }
     }
 
-    /// Shuts the slot that is written next: where its gate is open, writes 0x00 there and syncs, and
-    /// else makes no call. At each moment a cut leaves an image that stands for the latest body, or
-    /// is blank as before, and so does the board's own image, also where the stage failed. `Failed`
-    /// comes only where the board's count of faults rose.
+    /// Shuts the slot that is written next: if its gate is open, writes 0x00 there and syncs, and else makes no call.
+    /// At each moment a cut leaves an image that stands for the latest body, or is blank as before, and so does the
+    /// board's own image, even if the stage failed. `Failed`: the board failed, so its count of faults rose.
     pub fn shut<T: Body, B: Board<STORE_SIZE, L>, L: Ledger>(
         self,
         board: &mut B,

@@ -14,15 +14,17 @@ use slot_bodies::{BODY_SIZE, Body};
 use std::sync::ledger::Ledger;
 use taxi_units::Steps;
 
-/// Reads the pair of slots that begins at `at`, at most 1,024, by one sync and two reads. It writes
+/// Finds what the pair of slots that begins at `at`, at most 1,024, stands for, by one sync and two reads. It writes
 /// and prints nothing, and at no moment might a cut have left what it couldn't have left before.
 ///
-/// Where no slot is open, the pair is `Blank`; else the open slot whose body has the greatest number
-/// has the latest body. `BadBody` names the lower open slot whose body isn't read. Where there is
-/// none, `SameNumber` comes where both slots are open with one number. With
-/// `DeviceFailed` the board's count of faults rose by one, and else it is as it was. After each other
-/// answer nothing is in flight, the image is as it was, and the three calls were made; after `Latest` the
-/// pair is settled at the place. From the sync on a cut leaves the image as it was, and nothing else.
+/// If no slot is open, the pair is `Blank`; else the open slot whose body has the greatest number has the latest body.
+///
+/// - `BadBody`: an open slot's body isn't read. It names the lower such slot.
+/// - `SameNumber`: none is bad, and both slots are open with this one number.
+/// - `DeviceFailed`: the board failed, so its count of faults rose by one. Else it is as it was.
+///
+/// After each answer but `DeviceFailed` nothing is in flight, the image is as it was, and three calls were made; after
+/// `Latest` the pair is settled at the place. From the sync on a cut leaves the image as it was, and nothing else.
 pub fn scan<T: Body, B: Board<STORE_SIZE, L>, L: Ledger>(
     board: &mut B,
     at: u32,
@@ -108,7 +110,7 @@ fn judge<T: Body>(first: &[u8; SLOT_SIZE], second: &[u8; SLOT_SIZE]) -> Result<F
     }
 }
 
-/// The answer that this slot has the latest body.
+/// The answer if this slot has the latest body.
 fn latest<T: Body>(slot: u8, other_open: bool, body: T) -> Found<T>
     ensures { result ≡ Found.Latest (record { slot = slot; other_open = other_open }) body }
 {

@@ -38,10 +38,9 @@ impl Shut {
         Shut { pair }
     }
 
-    /// Writes the spelling of a body into the shut slot and syncs. Its number is greater than the
-    /// latest body's. At each moment a cut leaves an image that stands for the latest body, or is
-    /// blank as before, and so does the board's own image, also where the stage failed. `Failed`
-    /// comes only where the board's count of faults rose.
+    /// Writes a body's bytes into the shut slot and syncs. Its number has to be greater than the latest body's. At each
+    /// moment a cut leaves an image that stands for the latest body, or is blank as before, and so does the board's own
+    /// image, even if the stage failed. `Failed`: the board failed, so its count of faults rose.
     pub fn write<T: Body, B: Board<STORE_SIZE, L>, L: Ledger>(
         self,
         board: &mut B,

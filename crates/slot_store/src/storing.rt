@@ -12,11 +12,10 @@ use std::sync::ledger::Ledger;
 use taxi_units::Steps;
 
 impl Ready {
-    /// Stores a body, whose number is greater than the latest body's, by the three stages, and answers
-    /// its place. At each moment a cut leaves an image that stands for the latest body, or is blank as
-    /// before, or stands for the new body, and so does the board's own image, also where a stage
-    /// failed. `Failed` comes only where the board's count of faults rose. Over a closed slot at most 4
-    /// calls of the board are made.
+    /// Stores a body by the three stages, and gives its place. Its number has to be greater than the latest body's. At
+    /// each moment a cut leaves an image that stands for the latest body, or is blank as before, or stands for the new
+    /// body, and so does the board's own image, even if a stage failed. `Failed`: the board failed, so its count of
+    /// faults rose. Over a closed slot it makes at most 4 calls of the board.
     pub fn store<T: Body, B: Board<STORE_SIZE, L>, L: Ledger>(
         self,
         board: &mut B,

@@ -1,4 +1,4 @@
-//! What follows for a call that syncs before anything else.
+//! Laws of a call that syncs before anything else.
 ghost use Rattle.std.specs.Prelude.{List, ℕ};
 ghost use Rattle.outside.specs.Disk.{MayLeave};
 ghost use Rattle.outside.specs.Runs.{IsAtRest, LeavesOnly};
@@ -7,21 +7,20 @@ ghost use Rattle.slot_store.specs.Syncs.{IsAsHeld, IsSynced, LeavesFromSync};
 use outside::{Board, Kind};
 use std::sync::ledger::Ledger;
 
-/// What is known where a call fails. The laws hold of anything.
+/// What is known if a call fails. The laws hold for anything.
 pub trait Failing {
     ghost fails: { Type 0 };
 }
 
-/// What goes on behind the opening sync of a call, and neither writes nor prints, leaves what the board
-/// held before the call.
+/// What follows the opening sync of a call, and neither writes nor prints, leaves what the board held before the call.
 pub fn a_synced_board_is_left_as_held<B: Board<N, L>, L: Ledger, const N: usize>()
     ensures { (old synced new : B) → IsSynced B.Board old synced
         → LeavesOnly B.Board synced new (MayLeave (B.image synced) (B.in_flight synced) (B.printed synced))
         → LeavesOnly B.Board synced new (IsAsHeld B.Board old) }
 {}
 
-/// Where nothing was in flight before a call, a cut at each of its moments leaves only what it may
-/// leave from the opening sync on, if what the board held before is of that kind.
+/// If nothing was in flight before a call, and what the board held is of a kind that the call leaves from its opening
+/// sync on, a cut at any moment of the call leaves only that kind.
 pub fn a_settled_board_is_synced_already<
     B: Board<N, L>,
     K: Kind,
@@ -33,8 +32,8 @@ pub fn a_settled_board_is_synced_already<
         → LeavesFromSync B.Board F.fails old new K.kind → LeavesOnly B.Board old new K.kind }
 {}
 
-/// What a call leaves from its opening sync on is of each wider kind too, and more may be known of how it
-/// fails; and what goes on behind that sync leaves what either leaves.
+/// What a call leaves from its opening sync on is of each wider kind too, and more may be known if it fails. What
+/// follows that sync leaves what either leaves.
 pub fn a_call_goes_on_behind_its_sync<
     B: Board<N, L>,
     K: Kind,

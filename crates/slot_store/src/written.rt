@@ -37,10 +37,9 @@ impl Written {
         Written { pair }
     }
 
-    /// Opens the slot that was written: writes 0xA5 at its gate and syncs, and answers the new place.
-    /// At each moment a cut leaves an image that stands for the latest body, or is blank as before, or
-    /// stands for the new body, and so does the board's own image, also where the stage failed.
-    /// `Failed` comes only where the board's count of faults rose.
+    /// Opens the slot that was written: writes 0xA5 at its gate and syncs, and gives the new place. At each moment a
+    /// cut leaves an image that stands for the latest body, or is blank as before, or stands for the new body, and so
+    /// does the board's own image, even if the stage failed. `Failed`: the board failed, so its count of faults rose.
     pub fn finish<T: Body, B: Board<STORE_SIZE, L>, L: Ledger>(
         self,
         board: &mut B,

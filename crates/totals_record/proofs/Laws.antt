@@ -18,7 +18,7 @@ use Rattle.totals_record.proofs.Adding.{adds_up}
 use Rattle.totals_record.proofs.CommitRanges.{entry_keeps, trip_keeps}
 use Rattle.totals_record.proofs.Changing.{follows, follows_then}
 
--- bytes are read as a state exactly where it is in its ranges and they are its own
+-- bytes are read as a state exactly if it is in its ranges and they are its own
 pub states_are_read_by_their_table : (bytes : List ℕ) (durable : Durable) → (reads bytes ≡ Some durable)
     ↔ (IsDurable durable × (bytes ≡ spelling durable))
 unfolding reads

@@ -93,7 +93,7 @@ grown_at entry shares place closing position within =
     ∙ get_or-set_same shares place (share_in ((get_or shares place no_share).hirings + 1)
     ((get_or shares place no_share).fare + entry.fare)) no_share within
 
--- of all that grow, one fits where all do
+-- of all that grow, one fits if all do
 pub grown_fits : (P : Share → Type 0) (entry : Entry) (shares : List Share) (place : ℕ) → closes entry ≡ true
     → entry.position ≡ 1 + place → place < length shares
     → All P (shares_with entry 1 shares)

@@ -8,18 +8,18 @@ use Rattle.totals_record.specs.declared.entry.Entry.{Entry}
 use Rattle.totals_record.specs.declared.totals.Share.{Share}
 use Rattle.totals_record.specs.declared.totals.Totals.{Totals}
 
--- the test `is_of_hiring` is true where a kind of entry is one of a closed hiring, which all are but roaming
+-- the test `is_of_hiring` is true if a kind of entry is one of a closed hiring, which all are but roaming
 abbrev pub is_of_hiring : Kind → Bool
 is_of_hiring Closed = true
 is_of_hiring Aborted = true
 is_of_hiring Expired = true
 is_of_hiring Roam = false
 
--- the test `closes` is true where an entry closes a hiring
+-- the test `closes` is true if an entry closes a hiring
 abbrev pub closes : Entry → Bool
 closes entry = is_of_hiring entry.kind
 
--- the test `closes_at` is true where an entry closes a hiring at a tariff position
+-- the test `closes_at` is true if an entry closes a hiring at a tariff position
 abbrev pub closes_at : ℕ → Entry → Bool
 closes_at position entry = closes entry && entry.position == position
 
@@ -31,7 +31,7 @@ distance_of entry = entry.roam_mm + entry.hired_mm
 abbrev pub hired_of : Entry → ℕ
 hired_of entry = entry.hired_mm
 
--- an entry counts as one hiring where it closes one, and as none otherwise
+-- an entry counts as one hiring if it closes one, and else as none
 abbrev pub hirings_of : Entry → ℕ
 hirings_of entry = if closes entry then 1 else 0
 
@@ -43,11 +43,11 @@ supplements_of entry = entry.supplements
 abbrev pub fare_of : Entry → ℕ
 fare_of entry = entry.fare
 
--- an entry counts as one hiring at a tariff position where it closes one there, and as none otherwise
+-- an entry counts as one hiring at a tariff position if it closes one there, and else as none
 abbrev pub hirings_at : ℕ → Entry → ℕ
 hirings_at position entry = if closes_at position entry then 1 else 0
 
--- the fare of an entry counts at a tariff position where it closes a hiring there, and is nothing otherwise
+-- the fare of an entry counts at a tariff position if it closes a hiring there, and else is nothing
 abbrev pub fare_at : ℕ → Entry → ℕ
 fare_at position entry = if closes_at position entry then entry.fare else 0
 
@@ -101,13 +101,13 @@ totals_of opening entries = fold totals_with opening entries
 abbrev pub share_of : Totals → ℕ → Share
 share_of totals position = get_or totals.shares (position - 1) no_share
 
--- the share of a tariff position adds up where it grew by the hirings that entries closed there, and by their fares
+-- the share of a tariff position adds up if it grew by the hirings that entries closed there, and by their fares
 pub record ShareAddsUp (position : ℕ) (old new : Share) (entries : List Entry) : Type 0 where
   pub hirings : new.hirings ≡ old.hirings + count_by (closes_at position) entries
   pub fare : new.fare ≡ old.fare + sum_by (fare_at position) entries
 
--- totals add up where each grew by the sum over a list of entries, each of the shares too, and what was counted before
--- shares stayed
+-- totals add up if each of them, and each of the shares, grew by the sum over a list of entries, and what was counted
+-- before shares stayed
 pub record AddsUp (old new : Totals) (entries : List Entry) : Type 0 where
   pub distance : new.distance_mm ≡ old.distance_mm + sum_by distance_of entries
   pub hired : new.hired_mm ≡ old.hired_mm + sum_by hired_of entries

@@ -18,7 +18,7 @@ state_number_of durable = durable.number
 abbrev pub newest_layout : ℕ
 newest_layout = 2
 
--- a trip is in its ranges, beside the number of a state, where each of its fields is in its own
+-- a trip is in its ranges beside the number of a state if each of its fields is in its own
 pub record IsTripInItsRanges (number : ℕ) (trip : Trip) : Type 0 where
   pub started : IsSecond trip.started
   pub saved : (trip.started ≤ trip.saved) × (trip.saved ≤ last_second)
@@ -35,20 +35,20 @@ pub record IsTripInItsRanges (number : ℕ) (trip : Trip) : Type 0 where
   pub extras_sum : trip.extras_sum ≤ largest_supplements
   pub minimum : trip.minimum ≤ largest_amount
 
--- a trip may be held beside a number where the number leaves room for its closing entry, and the trip is in its ranges
+-- a trip may be held beside a number if the number leaves room for its closing entry, and the trip is in its ranges
 pub record IsHeld (number : ℕ) (trip : Trip) : Type 0 where
   pub room : number ≤ last_number
   pub ranges : IsTripInItsRanges number trip
 
--- shares are those of their totals where hirings and fare are the sums of nine shares and of what was counted before
--- there were shares; in layout 1 the shares are all zero
+-- shares are those of their totals if hirings and fare are the sums of nine shares and of what was counted before there
+-- were shares; in layout 1 the shares are all zero
 pub record AreShares (layout : ℕ) (totals : Totals) : Type 0 where
   pub nine : length totals.shares ≡ 9
   pub hirings : sum_by (λ share. share.hirings) totals.shares + totals.before.hirings ≡ totals.hirings
   pub fare : sum_by (λ share. share.fare) totals.shares + totals.before.fare ≡ totals.fare
   pub unshared : layout ≡ 1 → totals.shares ≡ replicate 9 no_share
 
--- a durable state may stand in a slot where each of its fields is in its range
+-- a durable state may stand in a slot if each of its fields is in its range
 pub record IsDurable (durable : Durable) : Type 0 where
   pub number : (1 ≤ durable.number) × (durable.number ≤ last_number + 1)
   pub distance : durable.totals.distance_mm ≤ 10 ^ 22 * durable.number
@@ -60,8 +60,8 @@ pub record IsDurable (durable : Durable) : Type 0 where
   pub shares : AreShares durable.layout durable.totals
   pub layout : (durable.layout ≡ 1) ⊎ (durable.layout ≡ 2)
 
--- an entry is in its ranges where each of its numbers is one that the meter can make; roaming has no fare, since none
--- of the shares would have it
+-- an entry is in its ranges if each of its numbers is one that the meter can make; one of roaming has no fare, since
+-- none of the shares would have it
 pub record IsEntry (entry : Entry) : Type 0 where
   pub distance : distance_of entry ≤ 10 ^ 22
   pub fare : entry.fare ≤ largest_amount
@@ -69,7 +69,7 @@ pub record IsEntry (entry : Entry) : Type 0 where
   pub position : closes entry ≡ true → (1 ≤ entry.position) × (entry.position ≤ 9)
   pub roaming : closes entry ≡ false → entry.fare ≡ 0
 
--- a state has room for an entry where the entry closes a hiring, or no trip is held, or the number leaves room for the
+-- a state has room for an entry if the entry closes a hiring, or no trip is held, or the number leaves room for the
 -- entry that will close the held trip
 abbrev pub HasRoom : Durable → Entry → Type 0
 HasRoom durable entry = closes entry ≡ false → is_some durable.hold ≡ true → durable.number + 1 ≤ last_number

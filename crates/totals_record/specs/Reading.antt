@@ -14,7 +14,7 @@ use Rattle.totals_record.specs.Table.{durable_test, fits, spelled, table}
 abbrev pub decoded : List ℕ → Durable
 decoded bytes = table.read bytes 0
 
--- bytes are read as the state of their fields where each field is in its range and the bytes are the state's own
+-- bytes are read as the state of their fields if each field is in its range and the bytes are the state's own
 unfoldable pub reads : List ℕ → Option Durable
 reads bytes = read_back durable_test spelling decoded bytes
 

@@ -47,7 +47,7 @@ trip_bytes trip =
     ++ eight trip.extras_sum
     ++ four trip.minimum
 
--- bytes 81 to 188 of the slot have 1 and the held trip, or zeros where none is held
+-- bytes 81 to 188 of the slot have 1 and the held trip, or zeros if none is held
 abbrev pub held_bytes : Option Trip → List ℕ
 held_bytes None = 0 ∷ [] ++ replicate 107 0
 held_bytes (Some trip) = 1 ∷ [] ++ trip_bytes trip

@@ -15,13 +15,13 @@ use Rattle.totals_record.specs.Ranges.{newest_layout}
 abbrev pub first_state : Durable
 first_state = record { number = 1; totals = no_totals; hold = None; layout = newest_layout }
 
--- the totals after a commit have its entry more, and stay where a trip is held
+-- the totals after a commit have its entry more, and stay if it holds a trip
 abbrev pub totals_after : Totals → Change → Totals
 totals_after totals (Enter entry) = totals_with totals entry
 totals_after totals (Hold trip) = totals
 
--- the held trip after a commit is the one that the commit holds, or none where an entry closes a hiring, or the one
--- held before where an entry is of roaming
+-- the held trip after a commit is the one that the commit holds, or none if an entry closes a hiring, or the one held
+-- before if an entry is of roaming
 abbrev pub held_after : Option Trip → Change → Option Trip
 held_after held (Enter entry) = if closes entry then None else held
 held_after held (Hold trip) = Some trip
@@ -46,30 +46,30 @@ entries_of [] = []
 entries_of (Enter entry ∷ changes) = entry ∷ entries_of changes
 entries_of (Hold trip ∷ changes) = entries_of changes
 
--- the layout after a list of commits is the newest, and is the opening one where the list is empty
+-- the layout after a list of commits is the opening one if the list is empty, and else the newest
 abbrev pub layout_after : ℕ → List Change → ℕ
 layout_after opening [] = opening
 layout_after opening (change ∷ changes) = newest_layout
 
--- a commit is closing where it is an entry that closes a hiring
+-- a commit is closing if it is an entry that closes a hiring
 abbrev pub IsClosing : Change → Type 0
 IsClosing (Enter entry) = closes entry ≡ true
 IsClosing (Hold trip) = ⊥
 
--- a commit is one of roaming where it is an entry that closes no hiring, which leaves a held trip as it is
+-- a commit is one of roaming if it is an entry that closes no hiring, which leaves a held trip as it is
 abbrev pub IsRoaming : Change → Type 0
 IsRoaming (Enter entry) = closes entry ≡ false
 IsRoaming (Hold trip) = ⊥
 
--- a commit is the last of a list where only entries of roaming stand behind it
+-- a commit is the last of a list if only entries of roaming stand behind it
 pub record IsLast (changes : List Change) (last : Change) : Type 0 where
   pub earlier : List Change
   pub later : List Change
   pub split : changes ≡ earlier ++ last ∷ later
   pub roaming : All IsRoaming later
 
--- a trip, or none, is held after a list of commits, where `opening` was held before, as the last commit that isn't of
--- roaming leaves it, or as it was held before where there is no such commit
+-- a trip, or none, is held after a list of commits, before which `opening` was held; the last commit that isn't of
+-- roaming leaves it, or it was held before if there is no such commit
 abbrev pub IsHeldAfter : Option Trip → List Change → Option Trip → Type 0
 -- a trip: it was held last, and no closing entry follows, or it stood first, and there is neither
 IsHeldAfter opening changes (Some trip) =

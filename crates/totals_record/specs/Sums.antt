@@ -5,7 +5,7 @@ use Rattle.totals_record.specs.declared.durable_state.Durable.{Durable}
 pub use Rattle.totals_record.specs.Entries.{AddsUp, totals_of}
 use Rattle.totals_record.specs.States.{entries_of, layout_after, IsHeldAfter}
 
--- a state follows another by a list of commits where its number grew by how many they are, its totals by their entries,
+-- a state follows another by a list of commits if its number grew by how many they are, its totals by their entries,
 -- and its layout and its held trip are what they leave
 pub record GrowsBy (old new : Durable) (changes : List Change) : Type 0 where
   pub number : new.number ≡ old.number + length changes

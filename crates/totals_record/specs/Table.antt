@@ -272,7 +272,7 @@ pub held_fits : (number : ℕ) (hold : Option Trip) → IfSome hold (IsHeld numb
 held_fits number None held = tt
 held_fits number (Some trip) held = trip_fits number trip held.room held.ranges
 
--- totals fit where each of their numbers fits into its field
+-- totals fit if each of their numbers fits into its field
 pub record Fit (totals : Totals) : Type 0 where
   pub distance : totals.distance_mm < 2 ^ 128
   pub hired : totals.hired_mm < 2 ^ 128

@@ -5,8 +5,8 @@ ghost use Rattle.totals_record.specs.Ranges.{IsDurable};
 ghost use Rattle.totals_record.specs.Reading.{reads};
 ghost use Rattle.totals_record.specs.Spelling.{spelling};
 
-/// Bytes are read as a state exactly where each of its fields is in its range and the bytes are those of
-/// the state, in the layout that it names.
+/// A law: bytes are read as a state exactly if each field of the state is in its range and the bytes are those of the
+/// state, in the layout that it names.
 pub fn states_are_read_by_their_table()
     ensures { (bytes : List ℕ) (durable : Durable)
         → (reads bytes ≡ Some durable) ↔ (IsDurable durable × (bytes ≡ spelling durable)) }

@@ -7,9 +7,9 @@ ghost use Rattle.taxi_units.specs.Limits.{last_number};
 use crate::ranges::NEWEST_LAYOUT;
 use crate::{Change, Entry, Totals, Trip};
 
-/// The number of the state, which each commit raises by 1, the totals, the trip that is held, and the
-/// layout in which a slot has them. In layout 1 the shares are none, and all hirings and fares were
-/// counted before. The ranges of the fields are those of `IsDurable`.
+/// The number of the state, which each commit raises by 1, the totals, the trip that is held, and the layout in which a
+/// slot has them. In layout 1 the shares are none, and all hirings and fares were counted before. `IsDurable` has the
+/// ranges of the fields.
 #[derive(Clone, Copy)]
 pub struct Durable {
     pub number: u64,
@@ -19,7 +19,7 @@ pub struct Durable {
 }
 
 impl Durable {
-    /// What sealing begins with: number 1, totals of zero, no held trip, the newest layout.
+    /// What sealing begins with: number 1, totals of 0, no held trip, the newest layout.
     pub fn zero() -> Durable
         ensures state { result ≡ first_state }
         ensures range { IsDurable result }
@@ -32,9 +32,9 @@ impl Durable {
         }
     }
 
-    /// The state after one commit, in the newest layout. An entry is added to the totals, and where it closes
-    /// a hiring, no trip is held then. A trip that is held from now on leaves the totals. The ranges must
-    /// hold afterwards, so the number is at most 2 * 10^15.
+    /// The state after one commit, in the newest layout. An entry is added to the totals, and if it closes a hiring, no
+    /// trip is held then. A trip that is held from now on leaves the totals as they are. The state after it must be in
+    /// its ranges, so its number is at most 2 * 10^15.
     pub fn after(&self, commit: &Change) -> Durable
         requires { IsDurable (after self.now commit.now) }
         ensures state { result ≡ after self.now commit.now }

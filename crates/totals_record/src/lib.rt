@@ -1,6 +1,6 @@
-//! The totalisers of the meter and the trip that it holds over a loss of supply: what an entry adds
-//! to them, and the body of 511 bytes that keeps them in a slot. The five totals are those of the
-//! measuring instruments directive; all else is this project's own.
+//! The totals of the meter and the trip that it holds over a loss of supply: what an entry adds to them, and the body
+//! of 511 bytes that keeps them in a slot. The five totals are those of the measuring instruments directive; all else
+//! is this project's own.
 #![tactic(auto)]
 
 mod body;

@@ -8,12 +8,11 @@ ghost use Rattle.totals_record.specs.Ranges.{HasRoom, IsDurable, IsEntry, IsTrip
 ghost use Rattle.totals_record.specs.States.{after};
 ghost use Rattle.taxi_units.specs.Limits.{last_number};
 
-/// The condition of a commit holds for what the meter commits. From a state in its ranges with a number
-/// of at most 2 * 10^15 the ranges hold after an entry of at most 10^22 mm in all, a fare of at most
-/// 99,999,999, supplements of at most 1,584,000,000, a position of 1 to 9 where it isn't roaming, and no
-/// fare where it is. Where it is roaming beside a held trip, which it leaves, the number must leave room
-/// for that trip's own entry. The ranges hold after a trip is held that is in its ranges beside the
-/// number after, where that is at most 2 * 10^15.
+/// A law: the commits of the meter keep the ranges of a state with a number of at most 2 * 10^15. An entry keeps them
+/// if it has at most 10^22 mm in all, a fare of at most 99,999,999 and supplements of at most 1,584,000,000. It has a
+/// position of 1 to 9, or no fare if it is of roaming. If it is of roaming beside a held trip, the number must leave
+/// room for that trip's own entry. A trip that is held keeps them if it is in its ranges beside the number after the
+/// commit, which is at most 2 * 10^15.
 pub fn commits_keep_the_ranges()
     ensures closed { (durable : Durable) (entry : Entry) → IsDurable durable → durable.number ≤ last_number
         → IsEntry entry → HasRoom durable entry → IsDurable (after durable (Enter entry)) }

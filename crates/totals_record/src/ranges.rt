@@ -120,14 +120,14 @@ fn are_few(counts: &[u8]) -> bool
     counts.iter().all(|count| *count <= 99)
 }
 
-/// Whether there is such a layout, and the shares have no hiring where they are those of layout 1.
+/// Whether there is such a layout, and the shares have no hiring if they are those of layout 1.
 fn is_layout(layout: u8, shares: &[Share; 9]) -> bool
     ensures { result ≡ (layout_test layout shares.now).passes }
 {
     (layout == 1 || layout == NEWEST_LAYOUT) && is_unshared(layout, shares)
 }
 
-/// Whether the shares have no hiring where they are those of layout 1.
+/// Whether the shares have no hiring if they are those of layout 1.
 fn is_unshared(layout: u8, shares: &[Share]) -> bool
     ensures { result ≡ (if_passes (same layout 1) (each none_test shares.now)).passes }
 {

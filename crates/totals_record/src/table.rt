@@ -196,7 +196,7 @@ fn share_at(bytes: &[u8], at: usize) -> Share
     }
 }
 
-/// The held trip, where there is one.
+/// The held trip, if there is one.
 fn held_in(bytes: &[u8; BODY_SIZE]) -> Option<Trip>
     ensures { result ≡ (optional trip_table).read bytes.now 80 }
 {

@@ -22,10 +22,9 @@ impl Share {
     };
 }
 
-/// The totals, which never fall: all distance and the distance when hired, in millimetres, the number
-/// of hirings, and the money charged as supplements and as fare, in the tariff's smallest units. Then
-/// what hirings and fare are made of: a share for each tariff position, 1 to 9, and what was counted
-/// before there were shares.
+/// The totals, which never fall. All distance and the distance when hired are in millimetres; the money charged as
+/// supplements and as fare is in the tariff's smallest units. Hirings and fare are made of a share for each tariff
+/// position, 1 to 9, and what was counted before there were shares.
 #[derive(Clone, Copy)]
 pub struct Totals {
     pub distance_mm: u128,
@@ -66,7 +65,7 @@ impl Totals {
     }
 }
 
-/// The shares with an entry more: where it closes a hiring, that of its tariff position grows.
+/// The shares with an entry more: if it closes a hiring, that of its tariff position grows.
 fn shares_with(shares: &[Share; 9], entry: &Entry) -> [Share; 9]
     requires hirings { All (λ share. share.hirings < 2 ^ 64) (shares_with entry.now 1 shares.now) }
     requires fare { All (λ share. share.fare < 2 ^ 128) (shares_with entry.now 1 shares.now) }

@@ -105,7 +105,7 @@ adds_within old new b t e b' t' e' written bytes tenths events one = record {
   few_events = omega (arith, one.few_events);
 }
 
--- what is written from a later place on, where nothing was written before
+-- what is written from a later place on, if nothing was written before
 pub adds_moved : (old mid new : Writing) (moved b t e : ℕ) (written : Written) → mid.text ≡ old.text
     → mid.events ≡ old.events → mid.tenths ≤ old.tenths + moved → Adds mid new b t e written
     → Adds old new b (moved + t) e written

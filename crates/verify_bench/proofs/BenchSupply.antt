@@ -37,7 +37,7 @@ pub hold_beside : (hold : Option Trip) (held : SavedState) → Some held ≡ opt
 hold_beside None held are = absurd cc
 hold_beside (Some trip) held are = (trip, refl, cc)
 
--- roaming is entered where there is some
+-- roaming is entered if there is some
 pub keeps_roaming : (s : Setting) (hired : Context) (meter : BenchMeter) (m : Meter) → BenchStands s hired meter m
     → meter.hiring ≡ None → 0 < meter.roam → held_or_closed s m.trip m ≡ roaming_entered s m
 keeps_roaming s hired meter m stands none long =

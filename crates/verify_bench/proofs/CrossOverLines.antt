@@ -10,14 +10,14 @@ use Rattle.tariff_check.specs.declared.choice.Choice.{Choice}
 use Rattle.verify_bench.specs.CrossOvers.{cross_over_line, cross_over_lines}
 use Rattle.verify_bench.proofs.GroupLists.{drop_past}
 
--- the values of choices from a place on, where one is there
+-- the values of choices from a place on, if one is there
 pub values_at : {V : Type 0} (choices : List (Choice V)) (i : ℕ) (d : Choice V) → i < length choices
     → own_values (drop i choices) ≡ (get_or choices i d).value ∷ own_values (drop (i + 1) choices)
 values_at {V} choices i d within =
     let next : suc i ≡ i + 1 = omega arith in
     ap own_values (drop-cons choices i d within ∙ ap (λ (n : ℕ). get_or choices i d ∷ drop n choices) next)
 
--- where all rates are sound, so is the one at a place
+-- if all rates are sound, so is the one at a place
 pub sound_at : (choices : List (Choice RateNumbers)) (i : ℕ) (d : Choice RateNumbers) → i < length choices
     → All IsSoundRate (own_values choices) → IsSoundRate (get_or choices i d).value
 sound_at [] i d within all = absurd (omega arith)

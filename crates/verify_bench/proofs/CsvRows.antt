@@ -16,7 +16,7 @@ use Rattle.csv.specs.declared.parser.Terminator.TheVariants as term
 
 -- ---- a byte that ends a row leaves a state between two rows
 
--- a state and an action: where the action ends a row, the state is between two rows
+-- a state and an action: if the action ends a row, the state is between two rows
 abbrev IsBetween : State × Action → Type 0
 IsBetween next = is_end next.1 ≡ true → ends_at_end next.0 ≡ false
 

@@ -1,4 +1,4 @@
--- Readings pass where each row of the report does.
+-- Readings pass if each row of the report does.
 use Rattle.std.proofs.Common.{◌≡◌, ◌≢◌, ◌↔◌, ◌∙◌, ℕ, suc, ◌+◌, Bool, true, List, [], get_or, length, max, Option, Some}
 use Rattle.std.proofs.Common.{None, refl, sym, ap, arith}
 use Rattle.std.specs.Bool.{Decides}

@@ -142,8 +142,8 @@ shown_by : (s : Setting) (trip : Option MeterTrip) (m : Meter) (b : Bool)
 shown_by s trip m true = tt
 shown_by s trip m false = tt
 
--- what holds without a trip, and of a trip with a supplement more where it holds of the trip, holds behind an event if
--- it holds of the trip with the event's part, and of the trip that a hiring begins
+-- what holds without a trip, and of a trip with a supplement more if it holds of the trip, holds behind an event if it
+-- holds of the trip with the event's part, and of the trip that a hiring begins
 module _ (s : Setting) (F : Context → Option MeterTrip → Type 0) (nothing : (hired : Context) → F hired None)
     (extra : (hired : Context) (n : ℕ) (t : MeterTrip) → (IsOfText s → IsSupplementNumber n) → F hired (Some t)
     → F hired (Some (with_extra n t))) where

@@ -13,7 +13,7 @@ three_are_all (x ∷ y ∷ []) a b c three first second third = absurd (omega ar
 three_are_all (x ∷ y ∷ z ∷ []) a b c three first second third = cc
 three_are_all (x ∷ y ∷ z ∷ u ∷ more) a b c three first second third = absurd (omega arith)
 
--- where no field stands at a place, the row is no longer
+-- if no field stands at a place, the row is no longer
 pub none_beyond : (fields : List (List ℕ)) (place : ℕ) → field_at fields place ≡ None → length fields ≤ place
 unfolding field_at
 none_beyond [] place none = omega arith

@@ -9,7 +9,7 @@ use Rattle.tariff_check.specs.declared.choice.Choice.{Choice}
 use Rattle.verify_bench.specs.Groups.{groups_at, groups_from}
 use Rattle.verify_bench.specs.declared.explained.Group.{Group}
 
--- the numbers of choices from a place on, where one is there
+-- the numbers of choices from a place on, if one is there
 pub numbers_at : {V : Type 0} (choices : List (Choice V)) (i : ℕ) (d : Choice V) → i < length choices
     → own_lines (drop i choices) ≡ (get_or choices i d).line ∷ own_lines (drop (i + 1) choices)
 numbers_at {V} choices i d within =

@@ -16,13 +16,13 @@ mod ChargeRange
 mod CrossOverLines
 -- the rows of a text by the relation of csv are those by its function
 mod CsvRows
--- readings pass exactly where each row of the report does
+-- readings pass exactly if each row of the report does
 mod EachPasses
 -- each explanation is of a trip of its drive
 mod DriveTrips
 -- explanations have the receipts of the run of the meter, and what an event makes of a trip
 mod Explanations
--- the fields of a row of csv, where it has three
+-- the fields of a row of csv, if it has three
 mod Fields
 -- a verdict is the first fault, and one only
 mod FirstFaults

@@ -30,7 +30,7 @@ event_line event = append-nil (event_text event)
 pub intervals_line : (pulses count : ℕ) → lines_text (Many pulses count ∷ []) ≡ line_text (Many pulses count)
 intervals_line pulses count = append-nil (line_text (Many pulses count))
 
--- it has at most 10 bytes where the numbers are small
+-- it has at most 10 bytes if the numbers are small
 pub intervals_are_short : (pulses count : ℕ) → pulses ≤ 16 → count ≤ 1049 → length (line_text (Many pulses count)) ≤ 10
 unfolding line_text
 intervals_are_short pulses count slow few =

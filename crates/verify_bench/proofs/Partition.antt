@@ -72,7 +72,7 @@ here_once false v n m is = absurd cc
 later_once : (v n m : ℕ) → n + (v + m) ≡ v + (n + m)
 later_once v n m = omega arith
 
--- parts that pass a test which only ended intervals pass come to nothing where they have no tick
+-- parts that pass a test which only ended intervals pass come to nothing if they have no tick
 nothing_by : (b : Bool) (tick rest value others : ℕ) → (b ≡ true → tick ≡ 1) → cond b tick 0 + rest ≡ 0
     → (rest ≡ 0 → others ≡ 0) → cond b value 0 + others ≡ 0
 nothing_by true tick rest value others one none more = absurd (omega (arith, one refl, none))
@@ -151,7 +151,7 @@ module _ (s : Setting) (f : Part → ℕ) (of : Sums → ℕ)
       (amount f (is_charged_by s q Distance) parts) (amount f (is_charged_by s q Time) parts)
       (amount f (is_charged_by s q Both) parts)
 
-  -- in some rate lines it is once, where its own is one of them
+  -- in some rate lines it is once, if its own is one of them
   span_before : (q n p : ℕ) (x : Context) (parts : List Part) → rate_place_of s x < q
       → span q n (InHired p x ∷ parts) ≡ span q n parts
   unfolding span

@@ -8,7 +8,7 @@ use Rattle.std.proofs.lemmas.Bool.Decides.{same_from_decides}
 use Rattle.taxi_units.specs.Test.{at_most, stated}
 use Rattle.verify_bench.specs.VerdictStages.{within_test}
 
--- an error is at most a whole divided by a number, rounded down, where the number times the error is at most the whole
+-- an error is at most a whole divided by a number, rounded down, if the number times the error is at most the whole
 pub parts_are_divided : (parts error expected : ℕ) → 0 < parts
     → nat_le error (expected / parts) ≡ nat_le (parts * error) expected
 parts_are_divided parts error expected some =

@@ -58,7 +58,7 @@ pub says_said : (decimals : ℕ) (row : Row) (reading : Reading) → IsRowOfRead
     → reading_of_row decimals row ≡ Some reading
 says_said decimals row reading says = rw (says.fields, says.fare_is, says.distance_is, says.time_is) refl
 
--- where no reading is found, the row says none
+-- if no reading is found, the row says none
 pub says_none : (decimals : ℕ) (row : Row) → reading_of_row decimals row ≡ None → (reading : Reading)
     → ¬ (IsRowOfReading decimals row reading)
 says_none decimals row none reading says = let said = says_said decimals row reading says in absurd cc

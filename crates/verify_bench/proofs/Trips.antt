@@ -36,7 +36,7 @@ left_after_trip old new all some given trips text place =
     let others = (trips_from (old.trips - 1) (trip (place_of old.writing)).next).lines in
     rw (given, trips, text, place, none, split, lines_text-append first others) refl
 
--- nothing is left where all was given and no trip is to come
+-- nothing is left if all was given and no trip is to come
 pub none_left : (r : Remaining) → r.given ≡ array_vec_len r.writing.text → r.trips ≡ 0 → bytes_left r ≡ []
 unfolding in_turn
 none_left r all none = rw (all, drop-length r.writing.text.items, none) refl

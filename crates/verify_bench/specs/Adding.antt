@@ -15,8 +15,8 @@ lines_events lines = length (flat_map run_events lines)
 abbrev pub place_of : Writing → Place
 place_of writing = record { state = writing.state; tenths = writing.tenths }
 
--- a writing adds lines if it then stands behind them, and its text and its events have grown by those of the lines,
--- by no more than the given bytes and events, in no more than the given tenths of a second
+-- a writing adds lines if it then stands behind them, and its text and its events have grown by theirs; by no more than
+-- the given bytes and events, in no more than the given tenths of a second
 pub record Adds (old new : Writing) (bytes tenths events : ℕ) (written : Written) : Type 0 where
   pub place : place_of new ≡ written.next
   pub text : new.text.items ≡ old.text.items ++ lines_text written.lines

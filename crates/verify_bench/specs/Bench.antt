@@ -39,8 +39,8 @@ AreTrips s hired (Some hiring) (Some trip) = IsHiringOf s hired hiring trip
 AreTrips s hired None (Some trip) = ⊥
 AreTrips s hired (Some hiring) None = ⊥
 
--- a meter of the bench stands for a state of the meter whose last trip was hired in a context if it has each part of
--- that state of which receipts depend, with sums for the lists of pulses, and its hiring is the trip
+-- a meter of the bench stands for a state of the meter if it has each part of it on which receipts depend, with sums
+-- for the lists of pulses, and its hiring is the trip; the last trip of the state was hired in the context
 pub record BenchStands (s : Setting) (hired : Context) (meter : BenchMeter) (m : Meter) : Type 0 where
   pub operating : meter.operating ≡ m.operating
   pub clock : meter.clock ≡ m.clock
@@ -88,8 +88,8 @@ HasTicks None ticks = ticks ≡ 0
 HasTicks (Some hiring) ticks = ticks ≡ hiring.whole.ticks
 
 -- a meter of the bench has moved to an outcome if it stands for the next state, whose last trip was hired in the
--- context `next`, and behind what was found before come the explanations of the receipts among the outcome's acts, by
--- the given trip, which was hired in the context `hired`
+-- context `next`; behind what was found before come the explanations of the receipts among the outcome's acts, by the
+-- given trip, which was hired in the context `hired`
 pub record Moves (s : Setting) (hired next : Context) (trip : Option MeterTrip) (before after : List Explained)
     (meter : BenchMeter) (o : Outcome) : Type 0 where
   pub state : BenchStands s next meter o.next

@@ -11,8 +11,8 @@ use Rattle.verify_bench.specs.declared.expected.Expected.{Expected}
 use Rattle.verify_bench.specs.declared.explained.Explained.{Explained}
 use Rattle.verify_bench.specs.declared.bench_meter.BenchMeter.{BenchMeter}
 
--- a meter of the bench is amid a drive if what was found, and behind it the explanations that the events that are left
--- come to from the state that it stands for, is all that the drive comes to
+-- a meter of the bench is amid a drive if what was found, with the explanations behind it to which the events left come
+-- from the state for which the meter stands, is all to which the drive comes
 pub record IsAmidDrive (s : Setting) (all : List Explanation) (left : List Event) (meter : BenchMeter)
     (found : List Explained) : Type 0 where
   pub m : Meter
@@ -27,8 +27,8 @@ Carries s events old new before after =
     (all : List Explanation) (left : List Event)
     → IsAmidDrive s all (events ++ left) old before → IsAmidDrive s all left new after
 
--- a meter of the bench is amid what a drive should come to if the hirings that were found, and behind them those that
--- the events that are left come to from the state that it stands for, are all of them
+-- a meter of the bench is amid what a drive should come to if the hirings that were found, with those behind them to
+-- which the events left come from the state for which the meter stands, are all of them
 pub record IsAmidExpected (s : Setting) (all : List Expected) (left : List Event) (meter : BenchMeter)
     (found : List Expected) : Type 0 where
   pub m : Meter

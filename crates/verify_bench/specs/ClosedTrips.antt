@@ -33,8 +33,8 @@ pub record Hires (m : Meter) : Type 0 where
   pub free : m.operating ≡ ForHire
   pub waits : m.latch ≡ Some Hire
 
--- a drive, with the drop of the supply at its end, has a trip from the tick at which a meter hires to an event behind
--- it, if the meter has a trip before each event between them, and before that event
+-- a drive, with the drop of the supply at its end, has a trip from the tick at which a meter hires to a later event, if
+-- the meter has a trip before that event and before each event between
 pub record TripOf (s : Setting) (events : List Event) : Type 0 where
   pub before : List Event
   pub amid : List Event
@@ -77,8 +77,8 @@ abbrev pub parts_over : Setting → List Event → Meter → List Part
 parts_over s [] m = []
 parts_over s (event ∷ events) m = parts_by s event m ++ parts_over s events (step s event m).next
 
--- a trip is the one that a drive had from one tick to an event if it is the meter's trip in front of that event, with
--- the parts that all events behind the tick added, and it started at the second of the meter that hired it
+-- a trip is the one that a drive had from one tick to an event if it is the meter's trip in front of that event; it has
+-- the parts that all events behind the tick added, and started at the second of the meter that hired it
 pub record IsClosedTrip (s : Setting) (events : List Event) (of : TripOf s events) (trip : MeterTrip) : Type 0 where
   pub last : MeterTrip
   pub has : (closing_meter s events of).trip ≡ Some last

@@ -29,7 +29,7 @@ use Rattle.verify_bench.specs.declared.explained.Taken.{Taken}
 use Rattle.verify_bench.specs.declared.fees.HiringFees.{HiringFees}
 
 -- an explanation of a hiring has its receipt, its fees with their lines, the sums of its whole trip, the groups of its
--- intervals in Hired, the sums of those in Stopped, the pulses of those that were left unfinished, and its supplements
+-- intervals in Hired, the sums of those in Stopped, the pulses of unfinished ones, and its supplements
 pub record Explanation : Type 0 where
   pub receipt : Receipt
   pub fees : HiringFees
@@ -51,7 +51,7 @@ explanation_of e = record {
   taken = e.taken.items;
 }
 
--- a supplement is taken where its number stands in a list, with its count there and its amount
+-- a supplement is taken if its number stands in a list, with its count there and its amount
 abbrev pub taken_if : SoundTariff → (numbers : List ℕ) → (number : ℕ) → List Taken
 taken_if tariff numbers number =
     if times number numbers == 0 then []
@@ -128,7 +128,7 @@ explanations_from s (event ∷ events) m hired =
     explanations_in s hired (trip_at s event m) (step s event m).acts
     ++ explanations_from s events (step s event m).next (hired_at s event m hired)
 
--- a drive comes to the explanations of its events from the meter that is opened on a new store, where no trip is hired
+-- a drive comes to the explanations of its events from the meter that is opened on a new store, which has hired no trip
 -- yet
 abbrev pub explanations_of : Setting → List Event → List Explanation
 explanations_of s events =

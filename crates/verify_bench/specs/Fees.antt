@@ -13,8 +13,8 @@ abbrev pub line_in : (lines : List ℕ) → (place : Option ℕ) → Option ℕ
 line_in lines None = None
 line_in lines (Some place) = Some (get_or lines place 0)
 
--- the fees of a hiring in a context are those in force at it, with the line of the initial hire fee that holds first at
--- it, and with that of the minimum fare that does, if one does
+-- the fees of a hiring in a context are those in force at it, with the line of the initial hire fee that holds first
+-- there, and with that of the minimum fare, if one holds
 abbrev pub fees_of_hiring : SoundTariff → Context → HiringFees
 fees_of_hiring tariff x = record {
   amounts = fees_in_force tariff x;

@@ -15,8 +15,8 @@ use Rattle.verify_bench.specs.declared.explained.Sums.{Sums}
 use Rattle.verify_bench.specs.declared.explained.Way.{Way}
 use Rattle.verify_bench.specs.declared.explained.Way.TheVariants.{Distance, Time, Both}
 
--- an interval of p pulses is charged by a rate in mode S in the way of its time where it is below the cross-over speed,
--- and in the way of its distance otherwise, whatever the two cost; in mode D it is charged in the way of both
+-- in mode S an interval of p pulses is charged by a rate in the way of its time below the cross-over speed, and else in
+-- the way of its distance, whatever the two cost; in mode D it is charged in the way of both
 abbrev pub way_by : Mode → (k : ℕ) → RateNumbers → (p : ℕ) → Way
 way_by Single k r p = if nat_lt (10000 * p * r.a * r.e) (r.c * k * r.b) then Time else Distance
 way_by Double k r p = Both
@@ -29,26 +29,26 @@ way_of s x p = way_by s.mode s.constant (rate_in_force s.tariff x) p
 abbrev pub rate_place_of : Setting → Context → ℕ
 rate_place_of s x = unwrap_or (place_in_force s.tariff.rates x) 0
 
--- the test `is_same_way` is true where two ways are the same
+-- the test `is_same_way` is true if two ways are the same
 abbrev pub is_same_way : Way → Way → Bool
 is_same_way Distance Distance = true
 is_same_way Time Time = true
 is_same_way Both Both = true
 is_same_way _ _ = false
 
--- the test `is_charged_by` is true where a part ended in Hired and was charged by the rate line at a place in a way
+-- the test `is_charged_by` is true if a part ended in Hired and was charged by the rate line at a place in a way
 abbrev pub is_charged_by : Setting → (place : ℕ) → Way → Part → Bool
 is_charged_by s place way (InHired p x) = rate_place_of s x == place && is_same_way (way_of s x p) way
 is_charged_by s place way (InStopped p) = false
 is_charged_by s place way (Rest p) = false
 
--- the test `is_in_stopped` is true where a part is an interval that ended in Stopped
+-- the test `is_in_stopped` is true if a part is an interval that ended in Stopped
 abbrev pub is_in_stopped : Part → Bool
 is_in_stopped (InHired p x) = false
 is_in_stopped (InStopped p) = true
 is_in_stopped (Rest p) = false
 
--- the test `is_rest` is true where a part is the pulses of an interval that a supply drop left unfinished
+-- the test `is_rest` is true if a part is the pulses of an interval that a supply drop left unfinished
 abbrev pub is_rest : Part → Bool
 is_rest (InHired p x) = false
 is_rest (InStopped p) = false
@@ -66,7 +66,7 @@ sums_of s parts = record {
 abbrev pub rate_sums : Setting → List Part → (place : ℕ) → Way → Sums
 rate_sums s parts place way = sums_of s (filter (is_charged_by s place way) parts)
 
--- a group is there where it has an interval
+-- a group is there if it has an interval
 abbrev pub group_if : (line : ℕ) → Way → Sums → List Group
 group_if line way sums = if sums.ticks == 0 then [] else record { line = line; way = way; sums = sums } ∷ []
 

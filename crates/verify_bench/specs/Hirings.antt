@@ -30,8 +30,8 @@ pub record IsHiringOf (s : Setting) (hired : Context) (hiring : Hiring) (trip : 
   pub extras : trip.extras ≡ hiring.extras.items
   pub few : hiring.whole.charge ≤ most_money * unit_of s * hiring.whole.ticks
 
--- a hiring is whole if its start and its fees are in their ranges, its charges are few for its ticks, no sum is greater
--- than that of the whole, and each of its supplements is numbered 1 to 16 and was added 99 times at most
+-- a hiring is whole if its start and its fees are in their ranges, its charges are few for its ticks, and no sum is
+-- greater than that of the whole; each of its supplements is numbered 1 to 16 and was added at most 99 times
 pub record IsWhole (hiring : Hiring) : Type 0 where
   pub started : IsSecond hiring.started
   pub fees : IsFitInitial hiring.fees.amounts

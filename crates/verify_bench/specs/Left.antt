@@ -9,8 +9,8 @@ use Rattle.verify_bench.specs.declared.remaining.Remaining.{Remaining}
 abbrev pub bytes_left : Remaining → List ℕ
 bytes_left r = drop r.given r.writing.text.items ++ lines_text (trips_from r.trips (place_of r.writing)).lines
 
--- what is left is sound if no more was given than was written, at most 1,000 trips are to come, and with 7,500
--- tenths of a second for each of them the time is within that of 1,000 trips
+-- what is left is sound if no more was given than was written, at most 1,000 trips are to come, and 7,500 tenths of a
+-- second for each of them keep the time within that of 1,000 trips
 abbrev pub HasRoomForTrips : Remaining → Type 0
 HasRoomForTrips r =
     (r.given ≤ array_vec_len r.writing.text)

@@ -48,8 +48,8 @@ pub data IsFirstBad (decimals : ℕ) (text : List ℕ) : (number : ℕ) → Type
       → IsFirstBad decimals text (length before + 1)
   empty : AreRows text [] → IsFirstBad decimals text 1
 
--- a text is read as its readings if it is within the limit and all its rows are good, as too long above the limit,
--- and as bad at its first bad row; want of memory may come with any text within the limit
+-- a text is read as its readings if it is within the limit and all its rows are good, as too long above the limit, and
+-- as bad at its first bad row; memory may run out for any text within the limit
 abbrev pub IsReadAs : (decimals : ℕ) → (text : List ℕ) → Result (List Reading) ReadingsFault → Type 0
 IsReadAs decimals text (Ok readings) =
     (length text ≤ readings_limit) × (rows : List Row) × AreRows text rows × AreGood decimals rows readings

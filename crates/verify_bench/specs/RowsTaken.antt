@@ -11,8 +11,7 @@ HaveGiven decimals rows false readings = (rows ≡ []) × (readings ≡ [])
 HaveGiven decimals rows true readings = AreGood decimals rows readings
 
 -- a row isn't taken behind other rows if it is bad, which its number tells, or if memory ran out for the reading that
--- it
--- says behind good rows
+-- it says behind good rows
 abbrev pub IsRowFault : (decimals : ℕ) → List Row → Row → ReadingsFault → Type 0
 IsRowFault decimals rows row TooLong = ⊥
 IsRowFault decimals rows row (BadRow number) = (number ≡ length rows + 1) × IsBadBehind decimals rows row

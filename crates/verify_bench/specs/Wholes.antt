@@ -57,7 +57,7 @@ pub record IsPrinted (acts : List Act) (receipt : Receipt) : Type 0 where
   pub among : receipts_in acts ≡ front ++ receipt ∷ back
 
 -- an explanation is of a trip of a drive that was closed if it is by the context in which the meter hired the trip, by
--- the trip with the parts that the drive's events added, and by the receipt with which the trip was closed
+-- the parts that the drive's events added, and by the receipt that closed the trip
 pub record IsOfTrip (s : Setting) (events : List Event) (e : Explanation) : Type 0 where
   pub of : TripOf s events
   pub trip : MeterTrip
@@ -71,16 +71,16 @@ pub record IsOfTrip (s : Setting) (events : List Event) (e : Explanation) : Type
   pub is : e ≡ explanation s (context_now s (hiring_meter s events of)) (Some trip)
       (receipt_of s kind finish position trip number)
 
--- the parts of an explanation are the whole if the charges of its groups are those of the trip, and the pulses and the
--- ticks of its groups, of the intervals in Stopped and of those that were left unfinished are the trip's
+-- the parts of an explanation are the whole if the charges of its groups are those of the trip; the pulses and the
+-- ticks of its groups, of its intervals in Stopped and of its unfinished ones are the trip's
 pub record ArePartsTheWhole (e : Explanation) : Type 0 where
   pub charge : sum (map (λ (g : Group). g.sums.charge) e.groups) ≡ e.whole.charge
   pub pulses : sum (map (λ (g : Group). g.sums.pulses) e.groups) + e.stopped.pulses + e.dropped ≡ e.whole.pulses
   pub ticks : sum (map (λ (g : Group). g.sums.ticks) e.groups) + e.stopped.ticks ≡ e.whole.ticks
 
--- an explanation makes the receipt if the trip's pulses make its distance, the trip's charges its display steps, by
--- what the fee covers, the step and the rounding, these with the initial hire fee and the minimum fare its fare, and
--- the supplements that were taken the sum of its supplements
+-- an explanation makes the receipt if the trip's pulses make its distance, and the supplements that were taken the sum
+-- of its supplements; the trip's charges make its display steps, by what the fee covers, the step and the rounding, and
+-- these make its fare, with the initial hire fee and the minimum fare
 pub record MakesReceipt (s : Setting) (e : Explanation) : Type 0 where
   pub distance : e.receipt.hired_mm ≡ millimetres_of s.constant e.whole.pulses
   pub steps : e.receipt.steps ≡ steps_above (rounding_of s)
@@ -105,7 +105,7 @@ HasMinimum minimums x fees =
     × (fees.amounts.minimum ≡ choice.value))
 
 -- an explanation has the fees of its trip if they are the initial hire fee, the cover and the minimum fare in force at
--- the hiring, with their lines, and the receipt has this fee and this minimum fare
+-- the hiring, with their lines; the receipt has this fee and this minimum fare
 pub record HasFees (s : Setting) (events : List Event) (e : Explanation) : Type 0 where
   pub of : IsOfTrip s events e
   pub fee : Choice InitialNumbers
@@ -117,8 +117,8 @@ pub record HasFees (s : Setting) (events : List Event) (e : Explanation) : Type 
   pub initial : e.receipt.initial ≡ e.fees.amounts.amount
   pub least : e.receipt.minimum ≡ e.fees.amounts.minimum
 
--- a part of a trip was charged by a rate in a way if it is an interval that ended in Hired, the rate is the first whose
--- condition holds in the context of its beginning, and the way is the one in which the rate charges so many pulses
+-- a part of a trip was charged by a rate in a way if it is an interval that ended in Hired, and the rate is the first
+-- whose condition holds in the context of its beginning; the way is the one in which the rate charges so many pulses
 pub record WasCharged (s : Setting) (place : ℕ) (rate : RateNumbers) (way : Way) (part : Part) : Type 0 where
   pub pulses : ℕ
   pub context : Context
@@ -126,8 +126,8 @@ pub record WasCharged (s : Setting) (place : ℕ) (rate : RateNumbers) (way : Wa
   pub first : place_in_force s.tariff.rates context ≡ Some place
   pub in_way : way_by s.mode s.constant rate pulses ≡ way
 
--- a group of parts has the line of a rate if its intervals are the parts that this rate charged in the group's way, of
--- which there is one at least, and its sums are their pulses, their ticks, and what each is charged in this way
+-- a group of parts has the line of a rate if its intervals are the parts that this rate charged in the group's way, at
+-- least one; its sums are their pulses, their ticks, and what each is charged in this way
 pub record IsGroupOf (s : Setting) (parts : List Part) (group : Group) : Type 0 where
   pub place : ℕ
   pub rate : Choice RateNumbers

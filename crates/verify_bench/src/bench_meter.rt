@@ -35,7 +35,7 @@ pub(crate) struct SavedState {
     pub(crate) zone: u8,
 }
 
-/// The states of the meter, but for what no receipt depends on. `number` is the store's.
+/// What the bench keeps of the meter's state: all on which a receipt depends. `number` is the store's.
 #[derive(Drop)]
 pub(crate) struct BenchMeter {
     pub(crate) operating: Operating,
@@ -109,7 +109,7 @@ impl BenchMeter {
         }
     }
 
-    /// The trip is closed at a second, and taken apart.
+    /// Closes the trip at a second, and takes it apart.
     pub(crate) fn close<L: Ledger>(
         &mut self,
         kind: Kind,
@@ -147,7 +147,7 @@ impl BenchMeter {
         }
     }
 
-    /// Roaming is entered.
+    /// Enters roaming.
     pub(crate) fn enter_roaming(&mut self)
         requires sound { IsMeterInRange last_tick 0 self.old }
         requires none { self.old.hiring ≡ None }
@@ -159,7 +159,7 @@ impl BenchMeter {
         self.number = self.number.saturating_add(1);
     }
 
-    /// Roaming is entered for hire where it is long.
+    /// Enters roaming, if it is long and the meter is for hire.
     pub(crate) fn check_roaming(&mut self)
         requires sound { IsMeterInRange last_tick 0 self.old }
         ensures moves { (s : Setting) → GoesThroughQuietly s roaming_checked self.old self.new }
@@ -170,7 +170,7 @@ impl BenchMeter {
         }
     }
 
-    /// The pulses of the interval are roamed, while the store takes hirings.
+    /// Roams the pulses of the interval, while the store takes hirings.
     fn roam_on(&mut self)
         requires sound { IsMeterInRange last_tick 0 self.old }
         ensures stands { (s : Setting) (m : Meter) (hired : contexts.Context) → BenchStands s hired self.old m
@@ -184,7 +184,7 @@ impl BenchMeter {
         }
     }
 
-    /// The trip has an interval in Hired more, which began in a context.
+    /// Adds an interval in Hired, which began in a context.
     fn add_hired(&mut self, x: &Context, checked: &Checked, params: &Params) -> Result<(), NoMemory>
         requires sound { IsMeterInRange last_tick 0 self.old }
         ensures stands { OnOk result ((m : Meter) (hired : contexts.Context)
@@ -201,7 +201,7 @@ impl BenchMeter {
         }
     }
 
-    /// The trip has an interval in Stopped more.
+    /// Adds an interval in Stopped.
     fn add_stopped(&mut self)
         requires sound { IsMeterInRange last_tick 0 self.old }
         ensures stands { (s : Setting) (m : Meter) (hired : contexts.Context) → BenchStands s hired self.old m
@@ -216,7 +216,7 @@ impl BenchMeter {
         }
     }
 
-    /// The trip has the pulses of an unfinished interval more.
+    /// Adds the pulses of an unfinished interval.
     fn add_rest(&mut self)
         requires sound { IsMeterInRange last_tick 0 self.old }
         ensures stands { (s : Setting) (m : Meter) (hired : contexts.Context) → BenchStands s hired self.old m
@@ -231,7 +231,7 @@ impl BenchMeter {
         }
     }
 
-    /// The interval ends.
+    /// Ends the interval.
     pub(crate) fn count_interval<L: Ledger>(
         &mut self,
         checked: &Checked,
@@ -263,7 +263,7 @@ impl BenchMeter {
         }
     }
 
-    /// A supply drop leaves the interval unfinished.
+    /// Leaves the interval unfinished, as a supply drop does.
     pub(crate) fn leave_interval(&mut self)
         requires sound { IsMeterInRange last_tick 0 self.old }
         ensures stands { (s : Setting) (m : Meter) (hired : contexts.Context) → BenchStands s hired self.old m

@@ -14,13 +14,13 @@ use std::sync::ledger::Ledger;
 use tariff_check::Checked;
 use taxi_units::{Event, NoMemory, Operating, Steps};
 
-/// An interval has at most 2,000 pulses.
+/// The most pulses of an interval.
 const INTERVAL_MOST: u32 = 2000;
 
 impl BenchMeter {
     ghost use Rattle.verify_bench.specs.Bench.{GoesThroughEvent, GoesThroughQuietly, IsMeterInRange, MayTake};
 
-    /// An event.
+    /// Carries out an event.
     pub(crate) fn event<L: Ledger>(
         &mut self,
         event: Event,
@@ -46,7 +46,7 @@ impl BenchMeter {
         }
     }
 
-    /// An event while the meter is powered.
+    /// Carries out an event while the meter is powered.
     fn powered_event<L: Ledger>(
         &mut self,
         event: Event,
@@ -80,7 +80,7 @@ impl BenchMeter {
         }
     }
 
-    /// The interval takes the pulses that it has room for.
+    /// Takes the pulses for which the interval has room.
     fn take_pulses(&mut self, pulses: u32)
         requires sound { IsMeterInRange last_tick 0 self.old }
         ensures moves { (s : Setting) → GoesThroughQuietly s (λ s. pulses_taken pulses) self.old self.new }
@@ -89,7 +89,7 @@ impl BenchMeter {
         self.taken += pulses.min(INTERVAL_MOST - self.taken);
     }
 
-    /// The clock is read: in a trip it doesn't go back.
+    /// Reads the clock, which doesn't go back in a trip.
     fn read_clock(&mut self, second: u64)
         requires sound { IsMeterInRange last_tick 0 self.old }
         requires second { IsSecond second }

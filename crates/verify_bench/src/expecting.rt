@@ -24,12 +24,11 @@ use std::sync::ledger::{Blank, Ledger};
 use tariff_check::Checked;
 use taxi_units::{Event, FIRST_SECOND, NoMemory, Operating, Steps};
 
-/// What a drive should come to: the receipts of its hirings, from an empty store of number 1, with the
-/// supply dropping at its end. It charges every interval of a trip by the tariff's parts, in the context of
-/// its beginning; so it is the plain program of the definition, beside which a meter is judged. A trip that
-/// is held at the end has no receipt.
+/// What a drive should come to: the receipts of its hirings, from an empty store of number 1, with a supply drop at its
+/// end. It charges each interval of a trip by the tariff's parts, in the context of the interval's beginning. A meter
+/// is judged by this plain program of the definition. A trip that is held at the end has no receipt.
 ///
-/// `NoMemory` only where memory ran out. The numbers in the runs are those that a line of a drive may have.
+/// `NoMemory`: only if memory ran out. The numbers in the runs are those that a line of a drive may have.
 pub fn expect(
     alloc: Global,
     checked: &Checked,
@@ -43,12 +42,11 @@ pub fn expect(
     expect_counted::<Brand>(Blank::new(1), alloc, checked, &seal.params, runs)
 }
 
-/// Why the fare of each hiring of a drive is what it is: each hiring that the drive closes, in order, taken
-/// apart by its rates and by the ways in which they charged it, from an empty store of number 1, with the
-/// supply dropping at its end. A trip that is held at the end isn't closed. No interval is kept: what memory
-/// is taken is for what is given.
+/// Why the fare of each hiring that a drive closes is what it is: the hirings in order, each taken apart by its rates
+/// and by the ways in which they charged it. The drive begins on an empty store of number 1, and ends with a supply
+/// drop. A trip that is held at the end isn't closed. No interval is kept: memory is taken for what is given alone.
 ///
-/// `NoMemory` only where memory ran out. The numbers in the runs are those that a line of a drive may have.
+/// `NoMemory`: only if memory ran out. The numbers in the runs are those that a line of a drive may have.
 pub fn explain(
     alloc: Global,
     checked: &Checked,
@@ -136,7 +134,7 @@ fn put_expected(found: &mut Vec<Expected>, explained: &[Explained]) -> Result<()
 impl BenchMeter {
     ghost use Rattle.verify_bench.specs.Bench.{IsMeterInRange, MayTake, BenchStands};
 
-    /// Before the supply first comes, over an empty store.
+    /// The meter before the supply first comes, over an empty store.
     fn new() -> BenchMeter
         ensures stands { (s : Setting) (hired : Context) → BenchStands s hired result (opened s first_state) }
         ensures sound { IsMeterInRange last_tick 0 result }
@@ -156,7 +154,7 @@ impl BenchMeter {
         }
     }
 
-    /// A run of a drive.
+    /// Carries out a run of a drive.
     fn follow<L: Ledger>(
         &mut self,
         run: Run,
@@ -180,7 +178,7 @@ impl BenchMeter {
         }
     }
 
-    /// Intervals, one after another.
+    /// Carries out intervals, one after another.
     fn intervals<L: Ledger>(
         &mut self,
         pulses: u32,
@@ -203,7 +201,7 @@ impl BenchMeter {
         Ok(())
     }
 
-    /// An interval.
+    /// Carries out an interval.
     fn interval<L: Ledger>(
         &mut self,
         pulses: u32,
@@ -226,7 +224,7 @@ impl BenchMeter {
         self.carry(Event::Tick, alloc, checked, params, found, steps)
     }
 
-    /// An event.
+    /// Carries out an event.
     fn carry<L: Ledger>(
         &mut self,
         event: Event,

@@ -9,8 +9,8 @@ use crate::lookups::value_at;
 use tariff_check::{Checked, Choice, Initial, InitialNumbers};
 use tariff_syntax::Context;
 
-/// The fees of a hiring, with the number of the line of each in the text, counted from 1; the minimum fare has one
-/// where the tariff had a minimum fare at the hiring.
+/// The fees of a hiring, with the number of the line of each in the text, counted from 1. The minimum fare has a line
+/// if the tariff had a minimum fare at the hiring.
 #[derive(Clone, Copy)]
 pub struct HiringFees {
     pub amounts: Initial,
@@ -53,7 +53,7 @@ fn amount_in(choices: &[Choice<u64>], place: Option<usize>) -> u64
     }
 }
 
-/// The number of the line of the choice at a place, from 0; 0 where there is none.
+/// The number of the line of the choice at a place, from 0; 0 if there is none.
 fn line_at<V>(choices: &[Choice<V>], place: usize) -> u32
     ensures { result ≡ get_or (own_lines choices.now) place 0 }
 {

@@ -20,8 +20,8 @@ pub fn generated_events(seed: u64, trips: u32) -> u64
     writing.events
 }
 
-/// Each line of a generated drive is a line of a drive, and the drive means its lines in turn. It is
-/// shorter than the bytes that are taken of a drive.
+/// A law: each line of a generated drive is a line of a drive, and the drive means its lines in turn. It is shorter
+/// than the bytes that are taken of a drive.
 pub fn generated_drives_mean_their_lines()
     ensures good { (seed trips : ℕ) → trips ≤ 1000 → bad_at_end (generated seed trips) ≡ None }
     ensures lines { (seed trips : ℕ) → trips ≤ 1000 → runs_in (generated seed trips) ≡ generated_lines seed trips }

@@ -8,15 +8,14 @@ use crate::remaining::Remaining;
 use outside::{Failed, Files};
 use std::marker::Model;
 
-/// Files of which word 0 is a generated drive, and every other word is empty. They never fail. The drive
-/// is written trip by trip as it is read, and takes no memory.
+/// Files whose word 0 is a generated drive; each other word is empty. They never fail. The drive is written trip by
+/// trip as it is read, and takes no memory.
 ///
-/// The drive begins with the supply coming at 2026-03-01T23:00:00Z, and goes on with its trips: a way of
-/// 100 to 999 intervals for hire, one of two tariff positions and one of two zones, one to five legs of
-/// 50 to 1,049 intervals with 0 to 16 pulses each and a reading of the clock behind each leg, in one trip
-/// of four one of three supplements, in one of five a supply drop of 0 to 119 seconds, and the end of the
-/// hiring. Its draws come from a state of 64 bits, which the seed begins, from its bit 33 on. The drive is
-/// this project's own.
+/// The drive begins with the supply coming at 2026-03-01T23:00:00Z, and goes on with its trips. A trip has a way of 100
+/// to 999 intervals for hire, one of two tariff positions and one of two zones. Then it has one to five legs of 50 to
+/// 1,049 intervals with 0 to 16 pulses each, with a reading of the clock behind each leg. One trip of four has one of
+/// three supplements, and one of five a supply drop of 0 to 119 seconds. Each has the end of the hiring. The draws come
+/// from a state of 64 bits, which the seed begins, from its bit 33 on. The drive is this project's own.
 #[derive(Drop)]
 pub struct Generator {
     left: Remaining,

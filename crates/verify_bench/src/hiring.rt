@@ -59,7 +59,7 @@ impl Hiring {
         }
     }
 
-    /// An interval in Hired more, with its price.
+    /// Adds an interval in Hired, with its price.
     pub(crate) fn add_hired(&mut self, pulses: u32, price: Price) -> Result<(), NoMemory>
         requires whole { IsWhole self.old }
         requires price { (pulses ≤ 2000) × (price.charge ≤ most_charge) × (price.place < 64) }
@@ -82,7 +82,7 @@ impl Hiring {
         Ok(())
     }
 
-    /// An interval in Stopped more.
+    /// Adds an interval in Stopped.
     pub(crate) fn add_stopped(&mut self, pulses: u32)
         requires whole { IsWhole self.old }
         requires slow { pulses ≤ 2000 }
@@ -103,7 +103,7 @@ impl Hiring {
         self.whole = self.whole.with(sums);
     }
 
-    /// The pulses of an interval that was left unfinished.
+    /// Adds the pulses of an interval that was left unfinished.
     pub(crate) fn add_rest(&mut self, pulses: u32)
         requires whole { IsWhole self.old }
         requires slow { pulses ≤ 2000 }
@@ -124,7 +124,7 @@ impl Hiring {
         self.whole = self.whole.with(sums);
     }
 
-    /// A supplement more.
+    /// Adds a supplement.
     pub(crate) fn add_extra(&mut self, number: u8) -> Result<(), NoMemory>
         requires whole { IsWhole self.old }
         requires number { IsSupplementNumber number }

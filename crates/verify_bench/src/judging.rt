@@ -74,8 +74,8 @@ fn is_permitted(parts: u128, least: u128, expected: u128, read: u128) -> bool
     error <= expected / parts || error <= least
 }
 
-/// A verdict is the first of fare, distance and time that is outside its permissible error, and a pass
-/// where none is.
+/// A law: a verdict is the first of fare, distance and time that is outside its permissible error, and a pass if none
+/// is.
 pub fn verdicts_name_the_first_fault()
     ensures { (expected : Expected) (reading : Reading) (step : ℕ) (verdict : Verdict)
         → (verdict_of expected reading step ≡ verdict) ↔ IsVerdict expected reading step verdict }

@@ -24,7 +24,7 @@ use taxi_units::{HIRINGS_END, Key, Kind, NoMemory, Operating, Steps};
 impl BenchMeter {
     ghost use Rattle.verify_bench.specs.Bench.{GoesThroughKey, GoesThroughQuietly, Hires, IsMeterInRange};
 
-    /// A key waits, where none does.
+    /// Lets a key wait, if none does.
     pub(crate) fn latch_key(&mut self, key: Key)
         requires sound { IsMeterInRange last_tick 0 self.old }
         ensures moves { (s : Setting) → GoesThroughQuietly s (λ s m. latched m.latch key m) self.old self.new }
@@ -36,7 +36,7 @@ impl BenchMeter {
         }
     }
 
-    /// A trip begins.
+    /// Begins a trip.
     pub(crate) fn hire<L: Ledger>(
         &mut self,
         alloc: Global,
@@ -59,7 +59,7 @@ impl BenchMeter {
         self.roam = 0;
     }
 
-    /// A tariff position is set.
+    /// Sets a tariff position.
     fn set_position(&mut self, number: u8, checked: &Checked)
         requires sound { IsMeterInRange last_tick 0 self.old }
         ensures moves { (params : Params) → GoesThroughQuietly (setting_under checked.now params)
@@ -71,7 +71,7 @@ impl BenchMeter {
         }
     }
 
-    /// A zone is set.
+    /// Sets a zone.
     fn set_zone(&mut self, number: u8, checked: &Checked)
         requires sound { IsMeterInRange last_tick 0 self.old }
         ensures moves { (params : Params) → GoesThroughQuietly (setting_under checked.now params)
@@ -83,7 +83,7 @@ impl BenchMeter {
         }
     }
 
-    /// A supplement is added to the trip, where the tariff has it, up to its most.
+    /// Adds a supplement to the trip, up to its most, if the tariff has it.
     fn add_supplement(&mut self, number: u8, checked: &Checked) -> Result<(), NoMemory>
         requires sound { IsMeterInRange last_tick 0 self.old }
         ensures moves { OnOk result ((params : Params) → GoesThroughQuietly (setting_under checked.now params)
@@ -96,7 +96,7 @@ impl BenchMeter {
         }
     }
 
-    /// It is added up to its most.
+    /// Adds it up to its most.
     fn add_up_to(&mut self, number: u8, supplement: Supplement) -> Result<(), NoMemory>
         requires sound { IsMeterInRange last_tick 0 self.old }
         requires number { IsSupplementNumber number }
@@ -117,7 +117,7 @@ impl BenchMeter {
         }
     }
 
-    /// A key acts.
+    /// Does what a key does as it acts.
     pub(crate) fn act<L: Ledger>(
         &mut self,
         key: Key,

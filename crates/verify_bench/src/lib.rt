@@ -1,5 +1,5 @@
-//! The verification bench: what the hirings of a drive should come to, by the definition's plain program;
-//! readings that were taken at a meter, read and judged against that; and a generator of large drives.
+//! The verification bench: what the hirings of a drive should come to, by the definition's plain program; readings of a
+//! meter, read and judged against that; and a generator of large drives.
 #![tactic(auto)]
 
 mod bench_meter;

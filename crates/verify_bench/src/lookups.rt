@@ -25,7 +25,7 @@ pub(crate) fn rate_at(checked: &Checked, place: usize) -> RateNumbers
     value_at(checked.rates(), place, none)
 }
 
-/// The value of the choice at a place, from 0; another one where there is none.
+/// The value of the choice at a place, from 0; another one if there is none.
 pub(crate) fn value_at<V: Copy>(choices: &[Choice<V>], place: usize, other: V) -> V
     ensures { result ≡ get_or (own_values choices.now) place other }
 {

@@ -36,7 +36,7 @@ fn does_place_pass(expected: Option<Expected>, reading: Option<Reading>, step: u
     }
 }
 
-/// Readings pass exactly where the report has the verdict `PASS` in each of its rows.
+/// A law: readings pass exactly if the report has the verdict `PASS` in each of its rows.
 pub fn readings_pass_where_each_row_does()
     ensures { (step : ℕ) (expected : List Expected) (readings : List Reading)
         → (stages.do_all_pass step expected readings ≡ true) ↔ EachRowPasses step expected readings }

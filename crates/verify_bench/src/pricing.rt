@@ -34,7 +34,7 @@ pub(crate) fn price_of(checked: &Checked, params: &Params, x: &Context, pulses: 
     Price { place, ..price }
 }
 
-/// The price by the numbers of a rate, as if it were the first.
+/// The price by the numbers of a rate, which counts as the first.
 fn price_by(mode: Mode, k: Constant, common: u64, rate: RateNumbers, pulses: u32) -> Price
     requires rate { IsSoundRate rate }
     requires common { common ≤ 10 ^ 18 }

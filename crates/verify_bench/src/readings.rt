@@ -14,13 +14,12 @@ use std::alloc::Global;
 /// A text of readings has at most 1,048,576 bytes.
 const LONGEST: usize = 1_048_576;
 
-/// Reads a text of readings: rows as `csv` reads them, the first of which is the header
-/// `fare,distance,time`, and each other one a reading, with a fare of the tariff's decimals, a distance
-/// in metres of three and a time in seconds of one.
+/// Reads a text of readings, as rows of `csv`. The first is the header `fare,distance,time`, and each other one a
+/// reading: a fare with the tariff's decimals, a distance in metres with three, and a time in seconds with one.
 ///
-/// `TooLong` above 1,048,576 bytes; `BadRow` with the first row, counted from 1 as `csv` gives them,
-/// that is neither the header nor a reading where it has to be, which is 1 for a text without rows;
-/// `NoMemory` where memory ran out, of a text within the limit. The form is this project's own.
+/// `TooLong`: the text has more than 1,048,576 bytes. `BadRow`: with the number of the first row, counted from 1 as
+/// `csv` gives them, that is neither the header nor a reading in its place; 1 for a text without rows. `NoMemory`:
+/// memory ran out, of a text within the limit. The form is this project's own.
 pub fn read_readings(
     alloc: Global,
     text: &[u8],
@@ -52,8 +51,8 @@ pub fn read_readings(
     }
 }
 
-/// Takes a row behind those that gave these readings: the header, where none was taken yet, and else a
-/// reading. `NoMemory` only where the row says one.
+/// Takes a row behind those that gave these readings: the header, if none was taken yet, and else a reading. `NoMemory`
+/// only if the row says one.
 fn take_row(
     row: &ByteRecord,
     decimals: u8,
@@ -77,8 +76,8 @@ fn take_row(
     readings.push(reading).map_err(|_| ReadingsFault::NoMemory)
 }
 
-/// A text of readings has one answer, which is a function of the text and the tariff's decimals: the
-/// relation by which `read_readings` is told is the graph of that function, but for want of memory.
+/// A law: a text of readings has one answer, which is a function of the text and the tariff's decimals. The relation in
+/// the clauses of `read_readings` is the graph of that function, except for `NoMemory`.
 pub fn texts_have_one_reading()
     ensures { (decimals : ℕ) (text : List ℕ) (answer : Result (List Reading) ReadingsFault)
         → answer ≢ Err ReadingsFault.NoMemory

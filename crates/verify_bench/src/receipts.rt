@@ -6,8 +6,8 @@ ghost use Rattle.taxi_units.specs.declared.event.Event.{Event};
 ghost use Rattle.totals_record.specs.States.{first_state};
 ghost use Rattle.verify_bench.specs.Expecting.{expected_of, hirings_in, untimed};
 
-/// The expected list has one hiring for each receipt of the meter's actions, from an empty store, in order,
-/// with the receipt's kind, fare and distance.
+/// A law: the expected list has one hiring for each receipt of the meter's actions on an empty store, in order, with
+/// the receipt's kind, fare and distance.
 pub fn expected_hirings_are_the_receipts()
     ensures { (s : Setting) (events : List Event)
         → map untimed (expected_of s events) ≡ hirings_in 0 (actions_of s first_state events) }

@@ -31,8 +31,8 @@ impl Remaining {
         }
     }
 
-    /// Moves the next bytes into the front of a buffer, and answers how many: some, where some are left
-    /// and the buffer isn't empty.
+    /// Moves the next bytes into the front of a buffer, and answers how many: some, if some are left and the buffer
+    /// isn't empty.
     pub(crate) fn take(&mut self, buf: &mut [u8]) -> usize
         requires sound { HasRoomForTrips self.old }
         requires some { 0 < length buf.old }
@@ -45,7 +45,7 @@ impl Remaining {
         self.give(buf)
     }
 
-    /// Writes the next trip, where there is one and all that was written is given.
+    /// Writes the next trip, if there is one and all that was written is given.
     fn write_on(&mut self)
         requires sound { HasRoomForTrips self.old }
         ensures left { bytes_left self.new ≡ bytes_left self.old }
@@ -61,7 +61,7 @@ impl Remaining {
         self.write_trip();
     }
 
-    /// Writes the next trip, where all that was written is given.
+    /// Writes the next trip, after all that was written is given.
     fn write_trip(&mut self)
         requires sound { HasRoomForTrips self.old }
         requires all { self.old.given ≡ array_vec_len self.old.writing.text }

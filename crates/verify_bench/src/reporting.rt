@@ -27,14 +27,13 @@ const HEADER: [&[u8]; 9] = [
     b"verdict",
 ];
 
-/// Writes the report: a row of `csv` for each place of the two lists, under a header. Fares have the
-/// tariff's decimals, distances in metres three, times in seconds one. Where there is no reading its
-/// three fields are empty and the verdict is `MISSING`; where no receipt is expected its four fields are
-/// empty and the verdict is `EXTRA`. A fare passes where it is off by a display step of `step` smallest
-/// units; the other permissible errors are those of `judge`.
+/// Writes the report: a row of `csv` for each place of the two lists, under a header. Fares have the tariff's decimals,
+/// distances in metres three, times in seconds one. Without a reading the row's three fields of it are empty and the
+/// verdict is `MISSING`; without an expected receipt its four fields are empty and the verdict is `EXTRA`. A fare
+/// passes if it is off by at most a display step of `step` smallest units; the other permissible errors are those of
+/// `judge`.
 ///
-/// `NoMemory` only where memory ran out. The tariff's decimals are 0 to 3. The form is this project's
-/// own.
+/// `NoMemory`: only if memory ran out. The tariff's decimals are 0 to 3. The form is this project's own.
 pub fn report(
     alloc: Global,
     expected: &[Expected],
@@ -56,7 +55,7 @@ pub fn report(
     writer.into_inner().map_err(|_| NoMemory)
 }
 
-/// The element at a place, where there is one.
+/// The element at a place, if there is one.
 pub(crate) fn at<T: Copy>(list: &[T], place: usize) -> Option<T>
     ensures { result ≡ slice_get list.now place }
 {
@@ -78,7 +77,7 @@ fn begin_row(alloc: Global) -> ByteRecord
     ByteRecord::new(alloc)
 }
 
-/// A field more.
+/// Adds a field.
 fn put_field(row: &mut ByteRecord, field: &[u8]) -> Result<(), NoMemory>
     ensures { OnOk result ((fields : List (List ℕ)) → IsRow row.old fields → IsRow row.new (fields ++ field.now ∷ [])) }
 {
@@ -147,7 +146,7 @@ struct Read {
     time: Line,
 }
 
-/// The fields of what is expected, which are empty where nothing is.
+/// The fields of what is expected, which are empty if nothing is.
 fn texts_expected(expected: Option<Expected>, decimals: u8) -> Wanted
     requires { decimals ≤ 3 }
     ensures kind { result.kind.now ≡ kind_or_none expected }
@@ -171,7 +170,7 @@ fn texts_expected(expected: Option<Expected>, decimals: u8) -> Wanted
     }
 }
 
-/// The fields of what was read, which are empty where nothing was.
+/// The fields of what was read, which are empty if nothing was.
 fn texts_read(reading: Option<Reading>, decimals: u8) -> Read
     requires { decimals ≤ 3 }
     ensures fare { result.fare.items ≡ amount_or_none decimals (option_map (λ r. r.fare) reading) }

@@ -12,10 +12,10 @@ use std::alloc::Global;
 use tariff_check::{Checked, Choice, RateNumbers};
 use taxi_units::{Line, NoMemory, push_bytes, push_number};
 
-/// A line `CROSSOVER i v m/h` for each rate line of a tariff, the i-th in their order, whose cross-over
-/// speed is v whole metres an hour, rounded down; `CROSSOVER i none` where its distance costs nothing.
+/// The lines of the cross-over speeds: `CROSSOVER i v m/h` for the i-th rate line of a tariff, whose speed is v whole
+/// metres an hour, rounded down; `CROSSOVER i none` if its distance costs nothing.
 ///
-/// `NoMemory` only where memory ran out. The form is this project's own.
+/// `NoMemory`: only if memory ran out. The form is this project's own.
 pub fn cross_overs(alloc: Global, checked: &Checked) -> Result<Vec<u8>, NoMemory>
     ensures { IfOk result (λ text. text.items ≡ cross_overs_text (sound_of (tree_of checked.now))) }
 {

@@ -5,7 +5,7 @@ ghost use Rattle.verify_bench.specs.Gathered.{no_rate_sums, no_sums, rate_sums_w
 use crate::explained::{Sums, Way};
 
 impl Sums {
-    /// Of no intervals.
+    /// The sums of no intervals.
     pub(crate) fn new() -> Sums
         ensures { result ≡ no_sums }
     {
@@ -16,7 +16,7 @@ impl Sums {
         }
     }
 
-    /// With others.
+    /// The sums with others added.
     pub(crate) fn with(self, more: Sums) -> Sums
         requires pulses { self.pulses + more.pulses < 2 ^ 64 }
         requires ticks { self.ticks + more.ticks < 2 ^ 32 }
@@ -42,7 +42,7 @@ pub(crate) struct RateSums {
 impl RateSums {
     ghost use Rattle.verify_bench.specs.Gathered.{HaveRoom};
 
-    /// Of no intervals.
+    /// The sums of no intervals.
     pub(crate) fn new() -> RateSums
         ensures { result ≡ no_rate_sums }
     {
@@ -53,7 +53,7 @@ impl RateSums {
         }
     }
 
-    /// With others of a way.
+    /// The sums with others of a way added.
     pub(crate) fn with(self, way: Way, more: Sums) -> RateSums
         requires { HaveRoom self more }
         ensures { result ≡ rate_sums_with self way more }

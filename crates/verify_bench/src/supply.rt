@@ -26,7 +26,7 @@ use taxi_units::{Kind, LAST_NUMBER, NoMemory, Operating, Steps};
 impl BenchMeter {
     ghost use Rattle.verify_bench.specs.Bench.{GoesThrough, GoesThroughEvent, GoesThroughQuietly, IsMeterInRange, Moves, BenchStands};
 
-    /// The supply comes.
+    /// Lets the supply come.
     pub(crate) fn come_up<L: Ledger>(
         &mut self,
         second: u64,
@@ -46,7 +46,7 @@ impl BenchMeter {
         self.take_hold(second, alloc, checked, params, found, steps)
     }
 
-    /// It is powered, and still off.
+    /// Powers the meter, which is still off.
     fn wake(&mut self, second: u64)
         requires sound { IsMeterInRange last_tick 0 self.old }
         requires second { IsSecond second }
@@ -64,7 +64,7 @@ impl BenchMeter {
         self.roam = 0;
     }
 
-    /// What becomes of the held trip.
+    /// Resumes or aborts the held trip.
     fn take_hold<L: Ledger>(
         &mut self,
         second: u64,
@@ -100,7 +100,7 @@ impl BenchMeter {
         }
     }
 
-    /// A held trip goes on.
+    /// Resumes a held trip.
     fn resume(&mut self, held: SavedState)
         requires sound { IsMeterInRange last_tick 0 self.old }
         ensures moves { (s : Setting) (trip : Trip) → held ≡ held_of trip
@@ -116,7 +116,7 @@ impl BenchMeter {
         self.zone = held.zone;
     }
 
-    /// A held trip is closed at its position.
+    /// Closes a held trip at its position.
     fn abort<L: Ledger>(
         &mut self,
         held: SavedState,
@@ -148,7 +148,7 @@ impl BenchMeter {
         Ok(())
     }
 
-    /// The supply drops.
+    /// Lets the supply drop.
     pub(crate) fn go_down<L: Ledger>(
         &mut self,
         alloc: Global,
@@ -169,7 +169,7 @@ impl BenchMeter {
         Ok(())
     }
 
-    /// A trip is held, or closed; without one roaming is entered.
+    /// Holds or closes the trip; without one it enters roaming.
     fn hold_or_close<L: Ledger>(
         &mut self,
         alloc: Global,
@@ -207,7 +207,7 @@ impl BenchMeter {
         }
     }
 
-    /// Without a trip roaming is entered, where there is any.
+    /// Without a trip it enters roaming, if there is any.
     #[tactic(auto, using(crate::proofs::Benches::sound_without))]
     fn enter_roaming_if_any(&mut self)
         requires sound { IsMeterInRange last_tick 1 self.old }
@@ -221,7 +221,7 @@ impl BenchMeter {
         self.enter_roaming();
     }
 
-    /// The trip is held.
+    /// Holds the trip.
     fn hold(&mut self)
         requires sound { IsMeterInRange last_tick 1 self.old }
         requires room { self.old.number < last_number }
@@ -238,7 +238,7 @@ impl BenchMeter {
         self.number = self.number.saturating_add(1);
     }
 
-    /// The drive ends: the supply drops, where the meter is powered.
+    /// Ends the drive: the supply drops, if the meter is powered.
     pub(crate) fn drop_at_end<L: Ledger>(
         &mut self,
         alloc: Global,
@@ -267,7 +267,7 @@ fn is_stopped(operating: Operating) -> bool
     matches!(operating, Operating::Stopped)
 }
 
-/// Whether the supply was away for the hold at most.
+/// Whether the supply was away no longer than the hold.
 fn is_within(held: SavedState, second: u64, hold: u16) -> bool
     ensures { result ≡ nat_le held.saved second && nat_le second (held.saved + hold) }
 {

@@ -7,7 +7,7 @@ use crate::explained::{Sums, Way};
 use crate::sums::RateSums;
 use taxi_units::NoMemory;
 
-/// An interval more that the rate at a place charged in a way.
+/// Adds an interval that the rate at a place charged in a way.
 pub(crate) fn add_to_table(
     table: &mut Vec<RateSums>,
     place: usize,

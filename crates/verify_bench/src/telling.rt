@@ -27,8 +27,7 @@ use std::sync::ledger::Ledger;
 use tariff_check::{Checked, Choice, RateNumbers};
 use taxi_units::{Kind, NoMemory, Receipt, Stamp, Steps};
 
-/// How a hiring is closed: its kind, its second, the tariff position, and the store's number behind the
-/// entry.
+/// How a hiring is closed: its kind, its second, the tariff position, and the store's number after the entry.
 #[derive(Clone, Copy)]
 pub(crate) struct Closing {
     pub(crate) kind: Kind,
@@ -124,7 +123,7 @@ fn stamp<L: Ledger>(params: &Params, second: u64, steps: &mut Steps<L>) -> Stamp
     }
 }
 
-/// The groups of the rates, of which a table has the sums.
+/// The groups of the rates, from a table of their sums.
 fn groups(
     alloc: Global,
     rates: &[Choice<RateNumbers>],
@@ -150,7 +149,7 @@ fn sums_at(table: &[RateSums], place: usize) -> RateSums
     }
 }
 
-/// The groups of a rate line.
+/// Adds the groups of a rate line.
 fn put_groups(groups: &mut Vec<Group>, line: u32, sums: RateSums) -> Result<(), NoMemory>
     ensures { OnOk result ((s : Setting) (parts : List Part) (place : ℕ) → sums ≡ all_ways s parts place
         → groups.new.items ≡ groups.old.items ++ groups_at s parts place line) }
@@ -160,7 +159,7 @@ fn put_groups(groups: &mut Vec<Group>, line: u32, sums: RateSums) -> Result<(), 
     put_group(groups, line, Way::Both, sums.both)
 }
 
-/// A group, where it has an interval.
+/// Adds a group, if it has an interval.
 fn put_group(groups: &mut Vec<Group>, line: u32, way: Way, sums: Sums) -> Result<(), NoMemory>
     ensures { OnOk result (groups.new.items ≡ groups.old.items ++ group_if line way sums) }
 {
@@ -182,7 +181,7 @@ fn taken(alloc: Global, hiring: &Hiring, checked: &Checked) -> Result<Vec<Taken>
     Ok(taken)
 }
 
-/// The supplement of a number, where it was added.
+/// Adds the supplement of a number, if it was taken.
 fn put_taken(
     taken: &mut Vec<Taken>,
     number: u8,
@@ -205,7 +204,7 @@ fn put_taken(
     taken.push(taken_now).map_err(|_| NoMemory)
 }
 
-/// What a supplement costs, 0 where the tariff has none of its number.
+/// What a supplement costs, 0 if the tariff has none of its number.
 fn amount_of(number: u8, checked: &Checked) -> u64
     ensures amount { result ≡ amount_in (supplement_of (tree_of checked.now).lines number) }
     ensures most { result ≤ 1000000 }

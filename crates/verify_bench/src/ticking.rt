@@ -16,7 +16,7 @@ use taxi_units::{Kind, LONGEST_TRIP, NoMemory, Steps};
 impl BenchMeter {
     ghost use Rattle.verify_bench.specs.Bench.{GoesThrough, GoesThroughEvent, GoesThroughLatch, IsMeterInRange};
 
-    /// A tick.
+    /// Carries out a tick.
     pub(crate) fn tick<L: Ledger>(
         &mut self,
         alloc: Global,
@@ -37,7 +37,7 @@ impl BenchMeter {
         Ok(())
     }
 
-    /// A trip that has reached its longest time expires; otherwise the key that waits leaves the latch and acts.
+    /// Ends a trip that has reached its longest time; else the key that waits leaves the latch and acts.
     #[tactic(auto, using(crate::proofs::Benches::looser, crate::proofs::Benches::timely))]
     fn expire_or_press<L: Ledger>(
         &mut self,
@@ -65,7 +65,7 @@ impl BenchMeter {
         }
     }
 
-    /// The trip expires.
+    /// Ends the trip, since it has reached its longest time.
     #[tactic(auto, using(crate::proofs::Benches::looser))]
     fn expire<L: Ledger>(
         &mut self,

@@ -15,10 +15,10 @@ ghost use Rattle.verify_bench.specs.Groups.{way_by};
 ghost use Rattle.verify_bench.specs.Receipts.{receipts_in};
 ghost use Rattle.verify_bench.specs.Wholes.{ArePartsTheWhole, HasFees, HasGroups, IsOfTrip, MakesReceipt, charge_in_way};
 
-/// A law: the explanations of a drive have the receipts of the meter's actions from a new store, one for
-/// each, in order; and each is of the trip that was closed with that receipt, by the context in which the meter hired
-/// it, and with each interval in the context of its own beginning. Its initial hire fee, its cover and its minimum fare
-/// are those in force at the hiring, under a sound tariff, each with the number of its line.
+/// A law: the explanations of a drive have the receipts of the meter's actions on a new store, one for each, in order.
+/// Each is of the trip that was closed with that receipt, by the context in which the meter hired it, and with each
+/// interval in the context of its own beginning. Under a sound tariff its initial hire fee, its cover and its minimum
+/// fare are those in force at the hiring, each with the number of its line.
 pub fn explanations_have_the_receipts()
     ensures receipts { (s : Setting) (events : List Event)
         → map (λ (e : Explanation). e.receipt) (explanations_of s events)
@@ -28,9 +28,9 @@ pub fn explanations_have_the_receipts()
         → All (HasFees s events) (explanations_of s events) }
 {}
 
-/// A law: the parts of each explanation are the whole trip, under a sound tariff; the whole trip makes the
-/// receipt, with the supplements that were taken; an interval is charged what its way says; and each group has the
-/// line and the way that charged its intervals, and their sums.
+/// A law: under a sound tariff the parts of each explanation are the whole trip, and each group has the line and the
+/// way that charged its intervals, and their sums. The whole trip makes the receipt, with the supplements that were
+/// taken. An interval is charged what its way says.
 pub fn explanations_add_up()
     ensures whole { (t : Tree) (s : Setting) (events : List Event) → IsSound t → s.tariff ≡ sound_of t
         → All ArePartsTheWhole (explanations_of s events) }

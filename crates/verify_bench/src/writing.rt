@@ -13,8 +13,8 @@ use taxi_units::{Event, Key, Line, push_bytes, push_number};
 /// The drive begins at this second, 2026-03-01T23:00:00Z.
 const BEGINNING: u64 = 1_772_406_000;
 
-/// The state of the draws, the time since the drive began in tenths of a second, lines that were
-/// written, and how many events were.
+/// The state of the draws, the time since the drive began in tenths of a second, the lines that were written, and how
+/// many events were.
 #[derive(Drop)]
 pub(crate) struct Writing {
     pub(crate) state: u64,
@@ -27,7 +27,7 @@ impl Writing {
     ghost use Rattle.verify_bench.specs.Adding.{Adds, HasRoom, place_of};
     ghost use Rattle.drive_text.specs.Ranges.{IsKeyInRange};
 
-    /// At the beginning, with nothing written.
+    /// The writing at the beginning of the drive, with nothing written.
     pub(crate) fn new(seed: u64) -> Writing
         ensures place { place_of result ≡ beginning seed }
         ensures text { result.text.items ≡ [] }
@@ -42,7 +42,7 @@ impl Writing {
         }
     }
 
-    /// Forgets what was written, and stays where it is.
+    /// Forgets what was written, and keeps its place.
     pub(crate) fn clear(&mut self)
         ensures place { place_of self.new ≡ place_of self.old }
         ensures text { self.new.text.items ≡ [] }
@@ -52,7 +52,7 @@ impl Writing {
         self.events = 0;
     }
 
-    /// Forgets the text that was written, and stays where it is.
+    /// Forgets the text that was written, and keeps its place.
     pub(crate) fn clear_text(&mut self)
         ensures place { place_of self.new ≡ place_of self.old }
         ensures text { self.new.text.items ≡ [] }

@@ -2,7 +2,7 @@ use Rattle.std.proofs.Common.{ap, Result, Ok, Err, OnErr}
 use Rattle.outside.specs.FileState.{is_lost}
 use Rattle.outside.proofs.file_store.FileStore.sync.Goals as goal
 
--- what is so is so where a call failed
+-- what is so is so if a call failed
 on_err : {T E P : Type 0} (result : Result T E) → P → OnErr result P
 on_err (Ok x) p = tt
 on_err (Err e) p = p
