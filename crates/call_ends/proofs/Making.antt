@@ -22,7 +22,7 @@ use Rattle.call_ends.specs.Making.{text_made}
 use Rattle.call_ends.specs.Pieces.{pieces_of}
 use Rattle.call_ends.specs.Plan.{Plan, Last}
 use Rattle.call_ends.specs.Reads.{FailsOr, GoesTo, ReadsWord}
-use Rattle.call_ends.specs.Stream.{Stream, Takes, bad_status}
+use Rattle.call_ends.specs.Stream.{Stream, TakesBytes, bad_status}
 use Rattle.call_ends.specs.Tariffs.{bad_tariff}
 use Rattle.call_ends.specs.TextCommands.{text_command, word_command}
 use Rattle.call_ends.specs.declared.ending.Ended.{Ended}
@@ -269,7 +269,7 @@ module _ {E : Type 0} {F : FileGhosts E} {c : Command} {image : List ℕ} (is : 
 
   -- memory ran out
   pub makes-none : (taken : List ℕ) → GoesTo F c image F.tells turn files files'
-      → (F.tells → Takes c.drive (F.rest files) (F.rest files') taken)
+      → (F.tells → TakesBytes c.drive (F.rest files) (F.rest files') taken)
       → (F.tells → c.may_lack (F.rest files) image taken)
       → Makes F c image files files' [] ended.NoMemory
   makes-none taken goes takes lacks = record {
@@ -283,7 +283,7 @@ module _ {E : Type 0} {F : FileGhosts E} {c : Command} {image : List ℕ} (is : 
   pub makes-failing : {T : Type 0} {mid : E} {result : Result T Ended} {why : Ended} (word : ℕ) (taken : List ℕ)
       → GoesTo F c image F.tells turn files mid → ReadsWord F word mid files' result → result ≡ Err why
       → turn ≤ c.turn word → c.reads word → (F.tells → c.comes_to (F.rest files) image word taken)
-      → (F.tells → Takes c.drive (F.rest files) (F.rest files') taken)
+      → (F.tells → TakesBytes c.drive (F.rest files) (F.rest files') taken)
       → (F.tells → c.may_lack (F.rest files) image taken)
       → (F.tells → FailsOr (EndsUnprinted c (F.rest files) (F.rest files') image
       (λ word. Rose (F.faults files word) (F.faults files' word))) why)
@@ -306,7 +306,7 @@ pub record MakesOfWord (c : Command) (answer : List ℕ → Answer) : Type 1 whe
   pub only : (word : ℕ) → c.reads word → word ≡ 1
   pub reads : c.reads 1
   pub comes : (contents : ℕ → List ℕ) (image : List ℕ) → c.comes_to contents image 1 []
-  pub takes : (contents left : ℕ → List ℕ) → Takes c.drive contents left []
+  pub takes : (contents left : ℕ → List ℕ) → TakesBytes c.drive contents left []
   pub lacks : (contents : ℕ → List ℕ) (image : List ℕ) → c.may_lack contents image []
 
 pub word_is : (answer : List ℕ → Answer) → MakesOfWord (word_command answer) answer

@@ -10,7 +10,7 @@ use Rattle.call_ends.specs.Course.{Command, Answered, ReadFailed, NoMemory}
 use Rattle.call_ends.specs.Ending.{EndsUnprinted, ended_for}
 use Rattle.call_ends.specs.LastLine.{refused_as, status_of}
 use Rattle.call_ends.specs.Reads.{FailsOr}
-use Rattle.call_ends.specs.Stream.{Takes, TellsItsEnd, bad_status}
+use Rattle.call_ends.specs.Stream.{TakesBytes, TellsItsEnd, bad_status}
 use Rattle.call_ends.specs.Tariffs.{bad_tariff}
 use Rattle.call_ends.proofs.Counting.{read_fault-text}
 use Rattle.call_ends.proofs.Following.{fails-text}
@@ -36,7 +36,8 @@ module _ (c : Command) (contents left : ℕ → List ℕ) (image : List ℕ) (re
         });
       }
 
-  module _ (taken : List ℕ) (takes : Takes c.drive contents left taken) (may : c.may_lack contents image taken) where
+  module _ (taken : List ℕ) (takes : TakesBytes c.drive contents left taken)
+      (may : c.may_lack contents image taken) where
     -- memory ran out
     pub ends-lacking : EndsUnprinted c contents left image read_failed ended.NoMemory
     ends-lacking = record {
@@ -62,7 +63,7 @@ module _ (c : Command) (contents left : ℕ → List ℕ) (image : List ℕ) (re
         h.how
 
 module _ (c : Command) (contents left : ℕ → List ℕ) (image : List ℕ) (read_failed : ℕ → Type 0)
-    (untouched : Takes c.drive contents left []) (may : c.may_lack contents image []) where
+    (untouched : TakesBytes c.drive contents left []) (may : c.may_lack contents image []) where
   -- memory ran out before the drive
   pub course-no_memory : EndsUnprinted c contents left image read_failed ended.NoMemory
   course-no_memory = ends-lacking c contents left image read_failed [] untouched may

@@ -1,6 +1,6 @@
 //! The command `form`.
 ghost use Rattle.std.specs.Prelude.{◌≡◌, ℕ, ◌≤◌, List};
-ghost use Rattle.tariff_syntax.specs.Printed.{printed};
+ghost use Rattle.tariff_syntax.specs.Printed.{printed_form};
 ghost use Rattle.tariff_syntax.specs.Tree.{tree_of};
 ghost use Rattle.call_ends.specs.Answer.{shows};
 ghost use Rattle.call_ends.specs.Carried.{Carries};
@@ -41,7 +41,7 @@ fn form_of_text(alloc: Global, text: &[u8]) -> Result<Made, Ended>
 /// The printed form of a tariff.
 fn form_of(alloc: Global, tariff: &Tariff) -> Result<Made, Ended>
     requires { tariff.now.decimals ≤ 3 }
-    ensures { IsMade (shows (printed (tree_of tariff.now))) result }
+    ensures { IsMade (shows (printed_form (tree_of tariff.now))) result }
 {
     match print(alloc, tariff) {
         Ok(text) => Ok(Made {
