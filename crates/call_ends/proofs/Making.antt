@@ -4,7 +4,7 @@ use Rattle.std.proofs.Common.{Option, None}
 use Rattle.std.proofs.Common.{Result, Ok, Err, refl, sym, ap, subst, ◌∙◌, inl, inr, ⊎_elim, arith}
 use Rattle.std.specs.Prelude.{OnOk}
 use Rattle.outside.specs.Faults.{HasCause, Rose}
-use Rattle.outside.specs.Printing.{Begins}
+use Rattle.outside.specs.PrintedText.{Begins}
 use Rattle.outside.specs.Runs.{KeepsStore}
 use Rattle.outside.specs.declared.board.Board.{Ghosts}
 use Rattle.outside.specs.declared.files.Files.{Ghosts as FileGhosts}
@@ -31,7 +31,7 @@ use Rattle.call_ends.specs.declared.made.Made.{Made}
 use Rattle.call_ends.specs.declared.tariff.Refusal.{Refusal}
 use Rattle.call_ends.specs.declared.tariff.TextFault.{TextFault}
 use Rattle.call_ends.specs.declared.tariff.TextFault.TheVariants as texts
-use Rattle.call_ends.proofs.Carrying.{carries-kept, carries-said}
+use Rattle.call_ends.proofs.CallsWithoutDevices.{carries-kept, carries-said}
 use Rattle.call_ends.proofs.Endings.{may-then}
 use Rattle.call_ends.proofs.EndsApart.{board_not_read}
 use Rattle.call_ends.proofs.Following.{fails_as, goes-all, goes-none, goes-on, stops-with}

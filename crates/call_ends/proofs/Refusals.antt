@@ -12,7 +12,7 @@ use Rattle.call_ends.specs.LastLine.{refused_as, status_of}
 use Rattle.call_ends.specs.Reads.{FailsOr}
 use Rattle.call_ends.specs.Stream.{TakesBytes, TellsItsEnd, bad_status}
 use Rattle.call_ends.specs.Tariffs.{bad_tariff}
-use Rattle.call_ends.proofs.Counting.{read_fault-text}
+use Rattle.call_ends.proofs.FaultCounts.{read_fault-text}
 use Rattle.call_ends.proofs.Following.{fails-text}
 use Rattle.call_ends.proofs.Streams.{not_bad}
 

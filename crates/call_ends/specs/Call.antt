@@ -1,7 +1,7 @@
 -- Rules: what holds of a call, by the contents of its files, the opening image, and which counts of faults rose.
 use Rattle.std.specs.Prelude.{◌≡◌, ◌⊎◌, ℕ, ◌<◌, List, [], ◌++◌}
 use Rattle.outside.specs.Faults.{Rose}
-use Rattle.outside.specs.Printing.{Begins}
+use Rattle.outside.specs.PrintedText.{Begins}
 use Rattle.outside.specs.declared.board.Board.{Ghosts}
 use Rattle.outside.specs.declared.files.Files.{Ghosts as FileGhosts}
 use Rattle.call_ends.specs.Course.{Command, Course, Answered, ReadFailed, NoMemory, BoardFailed, status_in, call_text}

@@ -1,7 +1,7 @@
 //! Prints a text from memory, in pieces.
 ghost use Rattle.std.specs.Prelude.{◌≡◌, ◌+◌, ◌≤◌, ◌++◌, length, OnOk};
 ghost use Rattle.outside.specs.Faults.{HasCause};
-ghost use Rattle.outside.specs.Printing.{Begins};
+ghost use Rattle.outside.specs.PrintedText.{Begins};
 ghost use Rattle.outside.specs.Runs.{KeepsStore};
 ghost use Rattle.call_ends.specs.Pieces.{pieces_of};
 

@@ -15,7 +15,7 @@ use Rattle.data_port.specs.Items.{Agrees, all_items_size, content, size_of, item
 use Rattle.data_port.specs.Reply.{AgreeOn, answers_in, body_of, items_in, framed, items_bytes, reply_to}
 use Rattle.data_port.specs.Requests.{IsRequest, Rise, codes_of}
 use Rattle.data_port.specs.Reading.{HasTaken, Standing, first_bad}
-pub use Rattle.data_port.proofs.Feeding.{failed_stays}
+pub use Rattle.data_port.proofs.PieceBytes.{failed_stays}
 pub use Rattle.data_port.proofs.Streams.{so_far as stream_so_far, at_end as stream_at_end, bad_end as bad_streams}
 pub use Rattle.data_port.proofs.Streams.{unfinished_end as unfinished_streams, bad_stays, bad_ends_requests}
 pub use Rattle.data_port.proofs.Streams.{requests_added as requests_are_added, pieces_give_requests}

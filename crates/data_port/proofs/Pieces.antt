@@ -8,7 +8,7 @@ use Rattle.std.proofs.lemmas.List.{append-nil, nil_from_length, take-append-drop
 use Rattle.taxi_units.specs.Streams.{IsSplit, KeepsBad}
 use Rattle.taxi_units.proofs.Laws.{bad_stream_reached, endless_stream_reached, unfinished_stream_reached}
 use Rattle.taxi_units.proofs.Laws.{whole_stream_reached}
-use Rattle.outside.specs.Printing.{Begins}
+use Rattle.outside.specs.PrintedText.{Begins}
 use Rattle.outside.proofs.Laws.{begins_after, begins_more}
 use Rattle.seal_record.specs.declared.seal.Seal.{Seal}
 use Rattle.totals_record.specs.declared.durable_state.Durable.{Durable}
@@ -21,9 +21,9 @@ use Rattle.data_port.specs.Reading.{requests_in, standing_after}
 use Rattle.data_port.specs.ReadingStages.{after_bytes, bad_of, ended_in}
 use Rattle.data_port.specs.Reply.{reply_to}
 use Rattle.data_port.specs.Requests.{IsRequest}
-use Rattle.data_port.specs.Serving.{BadAt, Endless, IsBoundedByRequests, ReachesEnd, Serves, ServesTo, StopsAfter}
-use Rattle.data_port.specs.Serving.{StreamEnd, Whole, replies, stream_limit}
-use Rattle.data_port.specs.Serving as serving
+use Rattle.data_port.specs.ServedStream.{BadAt, Endless, IsBoundedByRequests, ReachesEnd, Serves, ServesTo, StopsAfter}
+use Rattle.data_port.specs.ServedStream.{StreamEnd, Whole, replies, stream_limit}
+use Rattle.data_port.specs.ServedStream as serving
 use Rattle.data_port.specs.ServingStages.{ServesPiece}
 use Rattle.data_port.proofs.Streams.{bad_end, bad_ends_requests, bad_stays}
 use Rattle.data_port.proofs.Laws.{going_count, going_port}

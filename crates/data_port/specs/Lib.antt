@@ -3,7 +3,7 @@ pub mod Reading
 pub mod ReadingStages
 pub mod Reply
 pub mod Requests
-pub mod Serving
+pub mod ServedStream
 pub mod ServingStages
 pub mod Standing
 pub mod State

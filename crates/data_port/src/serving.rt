@@ -2,7 +2,7 @@
 ghost use Rattle.std.specs.Prelude.{◌≡◌, ℕ, ◌+◌, ◌<◌, ◌≤◌, ◌^◌, ◌++◌, List, [], All, length, take, drop, false, None, Some, IfOk, IsErr, OnOk, OnErr};
 ghost use Rattle.outside.specs.Reading.{LeavesOthers};
 ghost use Rattle.outside.specs.Faults.{HasCause, MayRise, RisesOnlyIf, Rose};
-ghost use Rattle.outside.specs.Printing.{Begins};
+ghost use Rattle.outside.specs.PrintedText.{Begins};
 ghost use Rattle.outside.specs.Runs.{KeepsStore};
 ghost use Rattle.seal_record.specs.Ranges.{IsSeal};
 ghost use Rattle.totals_record.specs.Ranges.{IsDurable};
@@ -10,7 +10,7 @@ ghost use Rattle.data_port.specs.Reading.{HasSense, HasTaken, bad_at_end};
 ghost use Rattle.data_port.specs.ReadingStages.{ended_in};
 ghost use Rattle.data_port.specs.Reply.{reply_to};
 ghost use Rattle.data_port.specs.Requests.{IsRequest};
-ghost use Rattle.data_port.specs.Serving.{IsBoundedByRequests, Serves, replies};
+ghost use Rattle.data_port.specs.ServedStream.{IsBoundedByRequests, Serves, replies};
 ghost use Rattle.data_port.specs.ServingStages.{ServesPiece};
 
 use crate::port::Port;

@@ -3,7 +3,7 @@ use Rattle.std.proofs.Common.{◌≡◌, ◌∙◌, ℕ, suc, ◌+◌, ◌<◌, 
 use Rattle.std.proofs.Common.{drop-cons, ap, sym, subst, append_assoc, arith}
 use Rattle.std.proofs.Math.Seq.{drop-length}
 use Rattle.std.proofs.lemmas.List.{append-nil}
-use Rattle.verify_bench.specs.Explaining.{Explanation}
+use Rattle.verify_bench.specs.TripExplanations.{Explanation}
 use Rattle.drive_commands.specs.ExplainedText.{hiring_text, hirings_text}
 use Rattle.drive_commands.specs.declared.explained_lines.Scale.{Scale}
 

@@ -29,7 +29,7 @@ use Rattle.totals_record.specs.Reading as totals
 use Rattle.totals_record.specs.States.{first_state}
 use Rattle.totals_record.specs.declared.durable_state.Durable.{Durable}
 use Rattle.verify_bench.proofs.Laws.{explanations_have_the_receipts-receipts}
-use Rattle.verify_bench.specs.Explaining.{explanations_of}
+use Rattle.verify_bench.specs.TripExplanations.{explanations_of}
 use Rattle.call_ends.specs.Answer.{Answer, shows}
 use Rattle.call_ends.specs.Tariffs.{checked_in, tariff_in}
 use Rattle.call_ends.specs.declared.ending.Ended.{Ended}

@@ -7,7 +7,7 @@ use Rattle.outside.specs.declared.board.Board.{Ghosts}
 use Rattle.outside.specs.declared.files.Files.{Ghosts as FileGhosts}
 use Rattle.outside.specs.Disk.{MayLeaveAmid, SameBut}
 use Rattle.outside.specs.Faults.{Rose}
-use Rattle.outside.specs.Printing.{Begins}
+use Rattle.outside.specs.PrintedText.{Begins}
 use Rattle.outside.specs.Runs.{IsAtRest as NothingFlies, KeepsStore, LeavesOnly, MayHold}
 use Rattle.outside.proofs.Laws.{leaves_wider}
 use Rattle.slot_store.specs.Syncs.{IsAsHeld, LeavesFromSync}
@@ -36,11 +36,11 @@ use Rattle.drive_commands.specs.Run.{bytes_in, deeds_in, run_answer, run_command
 use Rattle.drive_commands.specs.Run.{start_of, tables_in}
 use Rattle.drive_commands.specs.RunSteps.{RunReachesLine}
 use Rattle.call_ends.specs.Unwritten.{LeavesUnwritten}
-use Rattle.drive_commands.proofs.Faring.{end_of-status, left-whole, one_of}
+use Rattle.drive_commands.proofs.TariffDrives.{end_of-status, left-whole, one_of}
 use Rattle.call_ends.proofs.Laws.{board_or_not}
 use Rattle.drive_commands.proofs.RunCuts.{cut_begins, last_cut, longer_cut}
-use Rattle.drive_commands.proofs.Starting.{starts_again}
-use Rattle.drive_commands.proofs.Running.{found-held, outside_then, run_entries, same_outside}
+use Rattle.drive_commands.proofs.RunStarts.{starts_again}
+use Rattle.drive_commands.proofs.RunAnswers.{found-held, outside_then, run_entries, same_outside}
 
 module _ {E D L : Type 0} {N : ℕ} (F : FileGhosts E) (B : Ghosts D N L) (files files' : E) (old mid new : D) (s : Start)
     (begins : start_at F B files old ≡ Ok s) where

@@ -6,8 +6,8 @@ use Rattle.seal_record.specs.declared.seal.Seal.{Seal}
 use Rattle.tariff_syntax.specs.Tree.{Tree}
 use Rattle.totals_record.specs.declared.durable_state.Durable.{Durable}
 use Rattle.verify_bench.specs.CrossOvers.{cross_overs_text}
-use Rattle.verify_bench.specs.Expecting.{expected_of}
-use Rattle.verify_bench.specs.Passing.{do_all_pass}
+use Rattle.verify_bench.specs.ExpectedReceipts.{expected_of}
+use Rattle.verify_bench.specs.PassedReports.{do_all_pass}
 use Rattle.verify_bench.specs.Readings.{readings_in}
 use Rattle.verify_bench.specs.Report.{report_text}
 use Rattle.verify_bench.specs.declared.expected.Expected.{Expected}

@@ -13,8 +13,8 @@ use Rattle.drive_commands.specs.declared.bench_terms.Terms as program
 use Rattle.tariff_syntax.specs.Tree.{tree_of}
 use Rattle.taxi_units.specs.declared.event.Event.{Event}
 use Rattle.verify_bench.specs.CrossOvers.{cross_overs_text}
-use Rattle.verify_bench.specs.Expecting.{expected_of}
-use Rattle.verify_bench.specs.Passing.{do_all_pass}
+use Rattle.verify_bench.specs.ExpectedReceipts.{expected_of}
+use Rattle.verify_bench.specs.PassedReports.{do_all_pass}
 use Rattle.verify_bench.specs.Report.{report_text}
 use Rattle.store_commands.specs.Opening.{IsSealedIn, opening_in}
 use Rattle.call_ends.specs.Ending.{IsRefusal}

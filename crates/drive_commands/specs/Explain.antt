@@ -6,7 +6,7 @@ use Rattle.seal_record.specs.Reading.{params_read}
 use Rattle.seal_record.specs.declared.params.ParamFault.{ParamFault}
 use Rattle.seal_record.specs.declared.params.Params.{Params}
 use Rattle.tariff_syntax.specs.Tree.{Tree}
-use Rattle.verify_bench.specs.Explaining.{explanations_of}
+use Rattle.verify_bench.specs.TripExplanations.{explanations_of}
 use Rattle.call_ends.specs.Answer.{Answer, shows}
 use Rattle.call_ends.specs.Course.{Command}
 use Rattle.drive_commands.specs.ExplainedText.{explanations_text}

@@ -8,7 +8,7 @@ use Rattle.receipt_text.specs.Receipts.{total_text}
 use Rattle.taxi_units.specs.Number.{money_text}
 use Rattle.taxi_units.specs.declared.receipt.Kind.{Kind}
 use Rattle.taxi_units.specs.declared.receipt.Receipt.{Receipt}
-use Rattle.verify_bench.specs.Explaining.{Explanation}
+use Rattle.verify_bench.specs.TripExplanations.{Explanation}
 use Rattle.verify_bench.specs.declared.explained.Group.{Group}
 use Rattle.verify_bench.specs.declared.explained.Sums.{Sums}
 use Rattle.verify_bench.specs.declared.explained.Taken.{Taken}

@@ -6,7 +6,7 @@ use Rattle.meter_model.specs.Run.{actions_of}
 use Rattle.meter_model.specs.Setting.{Setting}
 use Rattle.meter_model.specs.declared.act.Act.{Act}
 use Rattle.meter_store.specs.Sealing.{IsSealed, Sealing}
-use Rattle.verify_bench.specs.Explaining.{Explanation, explanations_of}
+use Rattle.verify_bench.specs.TripExplanations.{Explanation, explanations_of}
 use Rattle.verify_bench.specs.Receipts.{receipts_in}
 use Rattle.call_ends.specs.Answer.{shows}
 use Rattle.store_commands.specs.Opening.{opening_in}

@@ -3,7 +3,7 @@ ghost use Rattle.std.specs.Prelude.{◌≡◌, ◌≢◌, ℕ, List, All, flat_m
 ghost use Rattle.drive_text.specs.Ranges.{IsRunInRange};
 ghost use Rattle.drive_text.specs.Runs.{run_events};
 ghost use Rattle.outside.specs.Faults.{Rose};
-ghost use Rattle.verify_bench.specs.Explaining.{explanations_of};
+ghost use Rattle.verify_bench.specs.TripExplanations.{explanations_of};
 ghost use Rattle.verify_bench.specs.Settings.{setting_under};
 ghost use Rattle.call_ends.specs.Call.{LeavesUnread, StopsReading};
 ghost use Rattle.call_ends.specs.Carried.{Carries};

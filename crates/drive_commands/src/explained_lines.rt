@@ -3,7 +3,7 @@ ghost use Rattle.std.specs.Prelude.{◌≡◌, ◌+◌, ◌*◌, ◌/◌, ◌%�
 ghost use Rattle.arrayvec.specs.ArrayVec.{array_vec_len};
 ghost use Rattle.taxi_units.specs.Line.{line_size};
 ghost use Rattle.taxi_units.specs.Number.{money_text, padded_text};
-ghost use Rattle.verify_bench.specs.Explaining.{explanation_of};
+ghost use Rattle.verify_bench.specs.TripExplanations.{explanation_of};
 ghost use Rattle.drive_commands.specs.ExplainedText.{charge_text, charged_text, distance_text, dropped_text};
 ghost use Rattle.drive_commands.specs.ExplainedText.{duration_text, fee_text, fees_text, explained_heading, minimum_text};
 ghost use Rattle.drive_commands.specs.ExplainedText.{rate_text, span_text, stopped_text, sum_text, taken_text};

@@ -44,7 +44,7 @@ pub fn fare_seal(constant: Constant, decimals: u8) -> Seal
 }
 
 /// The offsets of local time that is UTC.
-#[tactic(auto, using(crate::proofs::Faring::is_utc))]
+#[tactic(auto, using(crate::proofs::TariffDrives::is_utc))]
 fn utc() -> Offsets
     ensures { result ≡ (first_second, pos 0) ∷ [] }
 {

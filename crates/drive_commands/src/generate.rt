@@ -56,7 +56,7 @@ pub fn city_tariff() -> &'static [u8]
 }
 
 /// The offsets of local time an hour ahead of UTC.
-#[tactic(auto, using(crate::proofs::Generating::is_an_hour))]
+#[tactic(auto, using(crate::proofs::GenDrive::is_an_hour))]
 fn an_hour_ahead() -> Offsets
     ensures { result ≡ (first_second, pos 3600) ∷ [] }
 {

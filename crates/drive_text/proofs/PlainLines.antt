@@ -23,10 +23,10 @@ use Rattle.drive_text.specs.Reading.{Reading}
 use Rattle.drive_text.specs.Table.{Means}
 use Rattle.taxi_units.specs.Digits.{IsNumberIn}
 use Rattle.drive_text.specs.Table.Means.{pulses, tick, intervals}
-use Rattle.drive_text.proofs.Feeding.{takes_line}
+use Rattle.drive_text.proofs.ReaderPieces.{takes_line}
 use Rattle.drive_text.proofs.Numbers.{no_bytes}
 use Rattle.drive_text.proofs.Ranges.{runs_in_range}
-use Rattle.drive_text.proofs.Standing.{line_number_of, line_is_good, line_gives}
+use Rattle.drive_text.proofs.ReaderPlaces.{line_number_of, line_is_good, line_gives}
 use Rattle.drive_text.proofs.Table.{line_runs-table}
 
 -- ---- plain lines

@@ -18,7 +18,7 @@ use Rattle.drive_text.proofs.LineLaw.{lines_make_the_text}
 use Rattle.drive_text.proofs.Parts.{lines_of, one_line, text_append}
 use Rattle.drive_text.proofs.Positions.{runs_while-cons, and_then, first_bad_line-append, first_bad_line-bad}
 use Rattle.drive_text.proofs.Positions.{runs_of_lines-bad, runs_of_lines-good, runs_of_lines-bad_one}
-use Rattle.drive_text.proofs.Standing.{none_by, none_of}
+use Rattle.drive_text.proofs.ReaderPlaces.{none_by, none_of}
 use Rattle.drive_text.proofs.Table.{line_runs-table}
 
 -- if the first of lines that are counted from a number is bad

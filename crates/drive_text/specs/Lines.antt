@@ -2,7 +2,7 @@
 use Rattle.std.specs.Prelude.{ℕ, ◌∷◌, ◌++◌, [], flat_map, List, Bool, false, not, length, nat_lt, ◌==◌, ◌&&◌}
 use Rattle.std.specs.List.{slice_split}
 use Rattle.std.specs.Str.Lines.{strip_carriage_return}
-pub use Rattle.taxi_units.specs.Parting.{HasNone}
+pub use Rattle.taxi_units.specs.PartedBytes.{HasNone}
 
 -- all but the last of a list of parts are its parts without the last one, and nothing if there is none
 abbrev pub all_but_last : List (List ℕ) → List (List ℕ)

@@ -3,7 +3,7 @@ use Rattle.std.proofs.Common.{◌≡◌, inl, inr, ℕ, ◌+◌, ◌-◌, ◌≤
 use Rattle.std.proofs.Common.{ap, sym, ◌∙◌, subst, arith}
 use Rattle.std.proofs.lemmas.List.{append-nil, take_all}
 use Rattle.outside.specs.Faults.{Rose}
-use Rattle.outside.specs.Printing.{Begins}
+use Rattle.outside.specs.PrintedText.{Begins}
 use Rattle.outside.specs.Runs.{LeavesOnly}
 use Rattle.outside.specs.declared.board.Board.{Ghosts}
 use Rattle.outside.specs.declared.files.Files.{Ghosts as FileGhosts}
@@ -16,7 +16,7 @@ use Rattle.log_commands.specs.Filed.{EndsAt, IsFiledOf}
 use Rattle.log_commands.specs.Filings.{EndsAs, FailsInRoll, FilesRoll, IsTailOf, LeavesSome, StandsForSome, newest_of}
 use Rattle.log_commands.specs.LogList.{StandsFor, last_ones}
 use Rattle.log_commands.specs.Record.{Record}
-use Rattle.log_commands.specs.Showing.{texts_of}
+use Rattle.log_commands.specs.ShownLog.{texts_of}
 use Rattle.log_commands.specs.Unread.{IsBroken, IsLowestBad}
 use Rattle.log_commands.specs.declared.ending.Ended.{Ended}
 use Rattle.log_commands.specs.declared.ending.Ended.TheVariants.{Filed, Shown, BadWords, BadLog, BrokenLog, OtherTaxi}

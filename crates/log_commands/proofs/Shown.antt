@@ -2,14 +2,14 @@
 use Rattle.std.proofs.Common.{◌≡◌, ℕ, zero, suc, ◌+◌, ◌<◌, ◌≤◌, List, [], ◌∷◌, ◌++◌, length, take, drop, refl, ap, sym}
 use Rattle.std.proofs.Common.{◌∙◌, subst, arith, append_assoc}
 use Rattle.std.proofs.lemmas.List.{append-nil, take-append-drop}
-use Rattle.outside.specs.Printing.{Begins}
+use Rattle.outside.specs.PrintedText.{Begins}
 use Rattle.outside.proofs.Laws.{begins_after, begins_more}
 use Rattle.log_commands.specs.LogList.{AreInSlots}
 use Rattle.log_commands.specs.LogScan.{IsContent}
 use Rattle.log_commands.specs.declared.scanning.Content.{Content}
 use Rattle.log_commands.specs.declared.scanning.Content.TheVariants.{Closed, Unread, Filled}
 use Rattle.log_commands.specs.Record.{Record, IsRecord}
-use Rattle.log_commands.specs.Showing.{texts_of}
+use Rattle.log_commands.specs.ShownLog.{texts_of}
 use Rattle.log_commands.specs.Slots.{HasRecord, behind_gate, slot_of}
 use Rattle.log_commands.proofs.RollLaws.{some_bytes}
 use Rattle.log_commands.proofs.Spelled.{one_spelled, short_record}

@@ -2,7 +2,7 @@
 use Rattle.std.specs.Prelude.{◌≡◌, ◌≢◌, ◌⊎◌, ℕ, ◌+◌, ◌*◌, ◌<◌, ◌≤◌, List, [], ◌∷◌, ◌++◌, length, Option, Some, None}
 use Rattle.outside.specs.Disk.{SameBut}
 use Rattle.outside.specs.Faults.{Rose}
-use Rattle.outside.specs.Printing.{Begins}
+use Rattle.outside.specs.PrintedText.{Begins}
 use Rattle.outside.specs.Runs.{IsAtRest, LeavesOnly, MayHold}
 use Rattle.outside.specs.declared.board.Board.{Ghosts}
 use Rattle.outside.specs.declared.files.Files.{Ghosts as FileGhosts}
@@ -13,7 +13,7 @@ use Rattle.log_commands.specs.FilingEnds.{EndsAs, IsTold, StandsForSome, newest_
 use Rattle.log_commands.specs.LogList.{StandsFor, last_ones}
 use Rattle.log_commands.specs.Record.{Record}
 use Rattle.log_commands.specs.Roll.{Reads}
-use Rattle.log_commands.specs.Showing.{texts_of}
+use Rattle.log_commands.specs.ShownLog.{texts_of}
 use Rattle.log_commands.specs.Unread.{IsBroken, IsLowestBad}
 use Rattle.log_commands.specs.declared.ending.Ended.{Ended}
 use Rattle.log_commands.specs.declared.ending.Ended.TheVariants.{Filed, Shown, BadWords, BadLog, BrokenLog, OtherTaxi}

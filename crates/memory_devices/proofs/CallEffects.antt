@@ -12,7 +12,7 @@ use Rattle.outside.specs.Faults.{HasCause}
 use Rattle.memory_devices.specs.MemoryBoard.{BoardState, IsListedCall, done_on, failed_on, refused_on, contents_of, faults_of}
 use Rattle.memory_devices.specs.MemoryBoard.{moment_of, left_since_of}
 use Rattle.memory_devices.specs.Moments.{Leaves, LeavesAmid}
-use Rattle.outside.specs.Printing.{Begins}
+use Rattle.outside.specs.PrintedText.{Begins}
 use Rattle.outside.proofs.Laws.{begins_not, begins_whole}
 use Rattle.memory_devices.proofs.Overwriting.{overwrite_bytes, overwrite_same, overwrite_size, overwrite_written}
 use Rattle.memory_devices.proofs.OneMoreCall.{LeavesIn, after_pushed, elapses_pushed, elapses_not, elapses_weaker}

@@ -5,7 +5,7 @@ use Rattle.memory_devices.specs.Calls.{Read, Write, Sync, Print}
 use Rattle.outside.specs.Disk.{IsWithin, SameBut, MayLeave, MayLeaveAmid}
 use Rattle.outside.specs.Faults.{HasCause}
 use Rattle.memory_devices.specs.MemoryBoard.{BoardState, IsDone, IsUndone, TimePasses, faults_of, image_of, in_flight_of, text_of}
-use Rattle.outside.specs.Printing.{Begins}
+use Rattle.outside.specs.PrintedText.{Begins}
 
 -- a read that is Ok fills the whole of `room` from the place `at` on; each leaves image and text as they were, and
 -- nothing more in flight

@@ -11,7 +11,7 @@ use Rattle.taxi_units.specs.declared.event.Operating.{Operating}
 use Rattle.taxi_units.specs.declared.event.Operating.TheVariants.{Off, ForHire, Hired, Stopped}
 use Rattle.taxi_units.specs.declared.event.Why.TheVariants.{NotNow}
 use Rattle.taxi_units.specs.declared.receipt.Kind.TheVariants.{Closed}
-use Rattle.meter_model.specs.Closing.{closed}
+use Rattle.meter_model.specs.ClosedTrip.{closed}
 use Rattle.meter_model.specs.Interval.{context_now}
 use Rattle.meter_model.specs.KeyTable.{MayAct}
 use Rattle.meter_model.specs.Keys.{act_of, latch_pressed}

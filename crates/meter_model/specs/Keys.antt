@@ -9,7 +9,7 @@ use Rattle.taxi_units.specs.declared.event.Operating.{Operating}
 use Rattle.taxi_units.specs.declared.event.Operating.TheVariants.{ForHire, Hired, Stopped}
 use Rattle.taxi_units.specs.declared.event.Why.TheVariants.{NotNow, KeyWaiting, NoSuch, AtMost, Ended}
 use Rattle.taxi_units.specs.declared.receipt.Kind.TheVariants.{Closed}
-use Rattle.meter_model.specs.Closing.{closed}
+use Rattle.meter_model.specs.ClosedTrip.{closed}
 use Rattle.meter_model.specs.Interval.{context_now}
 use Rattle.meter_model.specs.Meter.{Meter, Outcome, quiet, refused}
 use Rattle.meter_model.specs.Setting.{Setting}

@@ -1,5 +1,5 @@
 pub mod Charge
-pub mod Closing
+pub mod ClosedTrip
 pub mod Display
 pub mod Interval
 pub mod KeptTrip

@@ -9,7 +9,7 @@ use Rattle.taxi_units.specs.declared.event.Operating.TheVariants.{Off, ForHire, 
 use Rattle.taxi_units.specs.declared.event.Why.TheVariants.{NotNow, ClockBack, Powered}
 use Rattle.taxi_units.specs.declared.event.Why.TheVariants as why
 use Rattle.taxi_units.specs.declared.receipt.Kind.TheVariants as kinds
-use Rattle.meter_model.specs.Closing.{closed, roaming_checked}
+use Rattle.meter_model.specs.ClosedTrip.{closed, roaming_checked}
 use Rattle.meter_model.specs.Display.{shown}
 use Rattle.meter_model.specs.Interval.{interval_begun, interval_counted, pulses_taken, ticks_so_far}
 use Rattle.meter_model.specs.Keys.{key_pressed, latched}

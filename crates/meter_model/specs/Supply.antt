@@ -5,7 +5,7 @@ use Rattle.taxi_units.specs.declared.event.Operating.{Operating}
 use Rattle.taxi_units.specs.declared.event.Operating.TheVariants.{Off, ForHire, Hired, Stopped}
 use Rattle.taxi_units.specs.declared.receipt.Kind.TheVariants.{Aborted}
 use Rattle.totals_record.specs.declared.trip.Trip.{Trip}
-use Rattle.meter_model.specs.Closing.{closed, roaming_entered}
+use Rattle.meter_model.specs.ClosedTrip.{closed, roaming_entered}
 use Rattle.meter_model.specs.Display.{shown}
 use Rattle.meter_model.specs.Interval.{interval_left}
 use Rattle.meter_model.specs.Meter.{Meter, Outcome, ◌>>=◌, quiet, held}

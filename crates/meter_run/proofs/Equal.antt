@@ -56,7 +56,7 @@ same_durable s es m none =
     ap (λ (acts : List Act). after_deeds m.durable (deeds_of acts)) none ∙ sym (run_durable s es m)
 
 pub stands_still : (s : Setting) (es : List Event) (core core' : CachedCore) (d : Durable) (m : Meter)
-    → StandsWith s core.plain d m → Meets s core'.plain [] (run s es m) → StandsWith s core'.plain d (run s es m).next
+    → StandsWith s core.state d m → Meets s core'.state [] (run s es m) → StandsWith s core'.state d (run s es m).next
 stands_still s es core core' d m st meets = record {
   core = meets.state;
   durable = st.durable ∙ same_durable s es m meets.done;
@@ -64,8 +64,8 @@ stands_still s es core core' d m st meets = record {
 }
 
 module _ (tables : TableParts) (seal : Seal) (es : List Event) (core core' : CachedCore)
-    (meets : (s : Setting) (m : Meter) → IsSettingOf s tables seal → Stands s core.plain m
-    → Meets s core'.plain [] (run s es m)) (lawful : IsLawful tables seal core') where
+    (meets : (s : Setting) (m : Meter) → IsSettingOf s tables seal → Stands s core.state m
+    → Meets s core'.state [] (run s es m)) (lawful : IsLawful tables seal core') where
   pub ready_still : (d : Durable) → IsMeterReady tables seal core d → IsMeterReady tables seal core' d
   ready_still d ready = let way = ready.way in record {
     lawful = lawful;
@@ -81,14 +81,14 @@ module _ (tables : TableParts) (seal : Seal) (es : List Event) (core core' : Cac
   }
 
   module _ {D L : Type 0} {N : ℕ} (B : Ghosts D N L) where
-    pub knows_still : (known : Option Known) (a : D) → core'.plain.operating ≡ core.plain.operating
+    pub knows_still : (known : Option Known) (a : D) → core'.state.operating ≡ core.state.operating
         → Knows B tables seal core known a → Knows B tables seal core' known a
     knows_still None a same off = same ∙ off
     knows_still (Some known) a same knows = (ready_still known.durable knows.0, knows.1)
 
 module _ {D L : Type 0} {N : ℕ} (B : Ghosts D N L) (tables : TableParts) (seal : Seal) (es : List Event) where
   pub carries_still : (x : DryMeter) (core' : CachedCore) (b : D) → ((s : Setting) (m : Meter)
-      → IsSettingOf s tables seal → Stands s x.core.plain m → Meets s core'.plain [] (run s es m))
+      → IsSettingOf s tables seal → Stands s x.core.state m → Meets s core'.state [] (run s es m))
       → CarriesEvents B tables seal x b es (record x { core = core' }) b
   carries_still x core' b meets = record {
     stands = λ s m is st. stands_still s es x.core core' x.durable m st (meets s m is st.core);
@@ -98,7 +98,7 @@ module _ {D L : Type 0} {N : ℕ} (B : Ghosts D N L) (tables : TableParts) (seal
   }
 
   pub out_still : (x : StoreMeter) (core' : CachedCore) (a : D) → LeavesNow B a → ((s : Setting) (m : Meter)
-      → IsSettingOf s tables seal → Stands s x.core.plain m → Meets s core'.plain [] (run s es m))
+      → IsSettingOf s tables seal → Stands s x.core.state m → Meets s core'.state [] (run s es m))
       → CarriesOut B tables seal (λ s m. run s es m) x a (record x { core = core' }) a
   out_still x core' a now meets = record {
     stands = λ told s m is h.

@@ -3,7 +3,7 @@ use Rattle.std.proofs.Common.{◌≡◌, inl, ℕ, List, [], ◌∷◌, ◌++◌
 use Rattle.std.specs.Option.{ForSome}
 use Rattle.std.proofs.lemmas.List.{append-nil}
 use Rattle.outside.specs.Disk.{MayLeaveAmid, SameBut}
-use Rattle.outside.specs.Printing.{Begins}
+use Rattle.outside.specs.PrintedText.{Begins}
 use Rattle.outside.specs.Runs.{KeepsStore, LeavesOnly}
 use Rattle.outside.specs.declared.board.Board.{Ghosts}
 use Rattle.outside.proofs.Laws.{leaves_then, leaves_wider}
@@ -19,7 +19,7 @@ use Rattle.meter_run.specs.Points.{HasEntries, IsCutOfDeeds}
 use Rattle.meter_run.specs.Runs.{CutsLeave, HasDone, HasStopped}
 use Rattle.meter_run.specs.StoreLaws.{beside_more}
 use Rattle.meter_run.proofs.Cuts.{cut_in_line, cut_longer, deeds_follow}
-use Rattle.meter_run.proofs.Leaves.{settled_kept}
+use Rattle.meter_run.proofs.BoardDeeds.{settled_kept}
 
 module _ {D L : Type 0} {N : ℕ} (B : Ghosts D N L) (tables : TableParts) (seal : Seal) (a b c : D) (d : Durable)
     (deeds : List Deed) (line : List ℕ) (entries : HasEntries d.number deeds)

@@ -2,7 +2,7 @@
 use Rattle.std.proofs.Common.{◌≡◌, ℕ, ◌<◌, ◌≤◌, List, [], ◌∷◌, ◌++◌}
 use Rattle.std.specs.Prelude.{get_or}
 use Rattle.outside.specs.Disk.{MayLeaveAmid}
-use Rattle.outside.specs.Printing.{Begins}
+use Rattle.outside.specs.PrintedText.{Begins}
 use Rattle.outside.specs.Runs.{IsAtRest, KeepsStore, LeavesOnly}
 use Rattle.outside.specs.declared.board.Board.{Ghosts}
 use Rattle.meter_store.specs.Sealing.{HasSeal, HoldsSeal}
@@ -25,10 +25,10 @@ use Rattle.meter_run.specs.Runs.{HasDone, HasStopped, OpensWith, run_deeds}
 use Rattle.meter_run.proofs.Cuts.{acts_have_entries}
 pub use Rattle.meter_run.proofs.Cuts.{begins_in, deeds_follow}
 use Rattle.meter_run.proofs.LastLines.{line_begun, line_whole}
-use Rattle.meter_run.proofs.Leavings.{beside_bytes, kept_begins, next_opens, numbers_rise, receipt_entered}
-use Rattle.meter_run.proofs.Leavings.{receipt_numbered, seal_kept, seal_left}
-pub use Rattle.meter_run.proofs.Leavings.{changes_joined}
-pub use Rattle.meter_run.proofs.Dropping.{begins, ready_first}
+use Rattle.meter_run.proofs.CutImages.{beside_bytes, kept_begins, next_opens, numbers_rise, receipt_entered}
+use Rattle.meter_run.proofs.CutImages.{receipt_numbered, seal_kept, seal_left}
+pub use Rattle.meter_run.proofs.CutImages.{changes_joined}
+pub use Rattle.meter_run.proofs.SupplyDrop.{begins, ready_first}
 
 module _ (tables : TableParts) (seal : Seal) (told : Type 0) (opening : Durable) (printed : List ℕ) (deeds : List Deed)
     (image text : List ℕ) (cut : IsCutOfDeeds tables seal told opening printed deeds image text) where

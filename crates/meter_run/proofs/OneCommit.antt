@@ -5,7 +5,7 @@ use Rattle.taxi_units.specs.declared.event.Event.{Event}
 use Rattle.taxi_units.specs.declared.event.Event.TheVariants as events
 use Rattle.taxi_units.specs.declared.event.Operating.{Operating}
 use Rattle.taxi_units.specs.declared.event.Operating.TheVariants.{Off, ForHire, Hired, Stopped}
-use Rattle.meter_model.specs.Closing.{roaming_checked}
+use Rattle.meter_model.specs.ClosedTrip.{roaming_checked}
 use Rattle.meter_model.specs.Display.{shown}
 use Rattle.meter_model.specs.Interval.{interval_begun, interval_counted}
 use Rattle.meter_model.specs.Meter.{Meter, Outcome, ◌>>=◌}
@@ -14,7 +14,7 @@ use Rattle.meter_model.specs.Step.{expired_or_pressed, powered_step, step, step_
 use Rattle.meter_model.specs.Supply.{supply_came, supply_dropped}
 use Rattle.meter_run.specs.BetweenEvents.{IsTripKept}
 use Rattle.meter_run.specs.Commits.{commits_in}
-use Rattle.meter_run.proofs.Committing.{commits_append}
+use Rattle.meter_run.proofs.CommittedStates.{commits_append}
 
 -- ---- a tick
 

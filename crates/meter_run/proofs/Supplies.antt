@@ -27,8 +27,8 @@ use Rattle.meter_run.specs.Supply.{StaysOff, drop_steps, is_supplied, is_supplie
 use Rattle.meter_run.specs.SupplyLaws.{supplied_joined}
 use Rattle.meter_run.specs.declared.dry.DryMeter.{DryMeter}
 use Rattle.meter_run.specs.declared.stored.StoreMeter.{StoreMeter}
-use Rattle.meter_run.proofs.Dropping.{begins, off_of}
-use Rattle.meter_run.proofs.Happening.{refused_event, unknown_off}
+use Rattle.meter_run.proofs.SupplyDrop.{begins, off_of}
+use Rattle.meter_run.proofs.EventOnStore.{refused_event, unknown_off}
 
 never : true ≡ false → ⊥
 never is = absurd cc
@@ -73,15 +73,15 @@ core_off s core m (inr on) off = absurd (on.0 off)
 -- an event keeps a core off without the supply
 pub event_keeps_off : (tables : TableParts) (seal : Seal) (event : Event) (core core' : CachedCore) (d : Durable)
     (acts : List Act) → IsMeterReady tables seal core d
-    → ((s : Setting) (m : Meter) → IsSettingOf s tables seal → StandsWith s core.plain d m
-    → Meets s core'.plain acts (step s event m))
-    → StaysOff core.plain (event ∷ []) core'.plain
+    → ((s : Setting) (m : Meter) → IsSettingOf s tables seal → StandsWith s core.state d m
+    → Meets s core'.state acts (step s event m))
+    → StaysOff core.state (event ∷ []) core'.state
 event_keeps_off tables seal event core core' d acts ready meets =
     λ before off none.
     let way = ready.way in
     let s = way.setting in
     let m = way.meter in
-    core_off s core'.plain (step s event m).next (meets s m way.is way.stands).state
+    core_off s core'.state (step s event m).next (meets s m way.is way.stands).state
     (off_after s event m before (λ unsupplied. off_of s core m way.stands.core (off unsupplied)) none)
 
 -- behind the coming of the supply it is there
@@ -94,7 +94,7 @@ supply_keeps core core' event second is =
 pub unknown_keeps_off : {D L : Type 0} {N : ℕ} (B : Ghosts D N L) (tables : TableParts) (seal : Seal) (x : StoreMeter)
     (a : D)
     (events : List Event) → x.known ≡ None → IsMeterReadyOn B tables seal x a
-    → StaysOff x.core.plain events x.core.plain
+    → StaysOff x.core.state events x.core.state
 unknown_keeps_off B tables seal x a events unknown ready =
     λ before off none. unknown_off B tables seal x a unknown ready
 
@@ -119,13 +119,13 @@ equal_keep_off old new p n same = λ before off none. same ∙ off (sym (interva
 -- a dry meter that began is off behind events without the supply
 pub dry_off : {D L : Type 0} {N : ℕ} (B : Ghosts D N L) (tables : TableParts) (seal : Seal) (x : DryMeter) (a : D)
     (y : DryMeter)
-    (b : D) (events : List Event) → IsMeterReady tables seal y.core y.durable → x.core.plain.operating ≡ Off
+    (b : D) (events : List Event) → IsMeterReady tables seal y.core y.durable → x.core.state.operating ≡ Off
     → x.durable ≡ first_state → CarriesEvents B tables seal x a events y b → is_supplied false events ≡ false
-    → y.core.plain.operating ≡ Off
+    → y.core.state.operating ≡ Off
 dry_off B tables seal x a y b events ready off first carried none =
     let s = ready.way.setting in
     let m = opened s first_state in
-    core_off s y.core.plain (run s events m).next
+    core_off s y.core.state (run s events m).next
     (carried.stands s m ready.way.is (begins s x.core x.durable off first)).core
     (off_behind s events m false (λ unsupplied. refl) none)
 

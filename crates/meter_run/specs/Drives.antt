@@ -1,6 +1,6 @@
 -- Rules: a drive that is carried out from its first byte to its end.
 use Rattle.std.specs.Prelude.{◌≡◌, ℕ, ◌+◌, ◌*◌, ◌≤◌, List, ◌++◌, length, Result, Ok, Err}
-use Rattle.outside.specs.Printing.{Begins}
+use Rattle.outside.specs.PrintedText.{Begins}
 use Rattle.taxi_units.specs.declared.event.Event.{Event}
 use Rattle.taxi_units.specs.Streams.{StopsAfter}
 use Rattle.drive_text.specs.Drive.{events_in}

@@ -1,7 +1,7 @@
 -- Rules: the meter whose durable state is a value, and what it prints.
 use Rattle.std.specs.Prelude.{◌≡◌, ℕ, List, ◌++◌}
 use Rattle.std.specs.Option.{ForSome}
-use Rattle.outside.specs.Printing.{Begins}
+use Rattle.outside.specs.PrintedText.{Begins}
 use Rattle.outside.specs.Runs.{KeepsStore}
 use Rattle.outside.specs.declared.board.Board.{Ghosts}
 use Rattle.taxi_units.specs.declared.event.Event.{Event}
@@ -27,7 +27,7 @@ pub record IsUnderWay (tables : TableParts) (seal : Seal) (core : CachedCore) (d
   pub setting : Setting
   pub meter : Meter
   pub is : IsSettingOf setting tables seal
-  pub stands : StandsWith setting core.plain durable meter
+  pub stands : StandsWith setting core.state durable meter
 
 -- a meter is ready for the next event if its core is lawful, its durable state is in its ranges, a held trip fits, and
 -- both are under way
@@ -42,21 +42,21 @@ module _ {D L : Type 0} {N : ℕ} (B : Ghosts D N L) (tables : TableParts) (seal
   -- text is told
   abbrev pub Prints : (outcome : Setting → Meter → Outcome) → DryMeter → (board board' : D) → Type 0
   Prints outcome old board board' = B.tells_text → (s : Setting) (m : Meter) → IsSettingOf s tables seal
-      → StandsWith s old.core.plain old.durable m → B.printed board' ≡ B.printed board ++ shown_texts (outcome s m).acts
+      → StandsWith s old.core.state old.durable m → B.printed board' ≡ B.printed board ++ shown_texts (outcome s m).acts
 
   -- an outcome is printed in part if what was printed before is followed by a beginning of the displays and refusals of
   -- the outcome, if the text is told
   abbrev pub PrintsSome : (outcome : Setting → Meter → Outcome) → DryMeter → (board board' : D) → Type 0
   PrintsSome outcome old board board' = B.tells_text → (s : Setting) (m : Meter) → IsSettingOf s tables seal
-      → StandsWith s old.core.plain old.durable m → Begins (B.printed board) (B.printed board')
+      → StandsWith s old.core.state old.durable m → Begins (B.printed board) (B.printed board')
       (shown_texts (outcome s m).acts)
 
   -- a meter and a board carry events if the new meter stands for the state after them, their displays and refusals were
   -- printed, and the store is as it was
   pub record CarriesEvents (old : DryMeter) (board : D) (events : List Event) (new : DryMeter)
       (board' : D) : Type 0 where
-    pub stands : (s : Setting) (m : Meter) → IsSettingOf s tables seal → StandsWith s old.core.plain old.durable m
-        → StandsWith s new.core.plain new.durable (run s events m).next
+    pub stands : (s : Setting) (m : Meter) → IsSettingOf s tables seal → StandsWith s old.core.state old.durable m
+        → StandsWith s new.core.state new.durable (run s events m).next
     pub printed : Prints (λ s m. run s events m) old board board'
     pub store : KeepsStore B board board'
 

@@ -9,7 +9,7 @@ pub mod OnStore
 pub mod Pieces
 pub mod PointLaws
 pub mod Points
-pub mod Printing
+pub mod PrintedText
 pub mod RunLaws
 pub mod Runs
 pub mod Source

@@ -64,7 +64,7 @@ module _ {D L : Type 0} {N : ℕ} (B : Ghosts D N L) where
   -- a meter and a board stand for a state of the meter if the core does, the board has the state's durable state, and
   -- its held trip fits
   pub record StandsOn (tables : TableParts) (s : Setting) (x : StoreMeter) (board : D) (m : Meter) : Type 0 where
-    pub stands : StandsWith s x.core.plain m.durable m
+    pub stands : StandsWith s x.core.state m.durable m
     pub has : Has x.known board m.durable
     pub fits : ForSome m.durable.hold (Fits tables)
 
@@ -86,7 +86,7 @@ module _ {D L : Type 0} {N : ℕ} (B : Ghosts D N L) where
   -- the board agrees; the core of the meter is one beside its cache, which only saves look-ups, as `Core::step_into`
   -- says by its clause `takes`
   abbrev pub Knows : TableParts → Seal → CachedCore → Option Known → D → Type 0
-  Knows tables seal core None board = core.plain.operating ≡ Off
+  Knows tables seal core None board = core.state.operating ≡ Off
   Knows tables seal core (Some known) board = IsMeterReady tables seal core known.durable × Agrees tables known board
 
   -- a meter is ready on a board for the next event if its tables and its seal are secured, its core is lawful, and it
@@ -125,7 +125,7 @@ module _ {D L : Type 0} {N : ℕ} (B : Ghosts D N L) (tables : TableParts) (seal
   -- without the supply
   pub record CarriesEvents (events : List Event) (x : StoreMeter) (old : D) (y : StoreMeter) (new : D) : Type 0 where
     pub out : CarriesOut (λ s m. run s events m) x old y new
-    pub supply : StaysOff x.core.plain events y.core.plain
+    pub supply : StaysOff x.core.state events y.core.state
 
   -- a call attempts an outcome if, when it succeeds, a meter and a board carry the outcome out and are ready for the
   -- next event; the board stops amid the outcome, however the call ends; and the call has a cause

@@ -3,7 +3,7 @@ use Rattle.std.proofs.Common.{◌≡◌, inl, inr, ℕ, List, [], ◌∷◌, ◌
 use Rattle.std.specs.Option.{ForSome}
 use Rattle.std.proofs.lemmas.List.{append-nil}
 use Rattle.outside.specs.Disk.{SameBut}
-use Rattle.outside.specs.Printing.{Begins}
+use Rattle.outside.specs.PrintedText.{Begins}
 use Rattle.outside.specs.Runs.{LeavesNow}
 use Rattle.outside.specs.declared.board.Board.{Ghosts}
 use Rattle.outside.proofs.Laws.{begins_not, leaves_none, leaves_then, leaves_wider}

@@ -1,7 +1,7 @@
 -- Rules: what a cut of the power may leave of a list of deeds, in the store and of the printed text.
 use Rattle.std.specs.Prelude.{◌≡◌, ◌⊎◌, ℕ, ◌+◌, ◌<◌, ◌≤◌, List, [], ◌∷◌, ◌++◌, length, Contains, Ok}
 use Rattle.std.specs.Option.{ForSome}
-use Rattle.outside.specs.Printing.{Begins}
+use Rattle.outside.specs.PrintedText.{Begins}
 use Rattle.seal_record.specs.declared.seal.Seal.{Seal}
 use Rattle.slot_store.specs.Scan.{found_at}
 use Rattle.slot_store.specs.declared.found.Found.TheVariants.{Latest}

@@ -36,7 +36,7 @@ module _ {D L : Type 0} {N : ℕ} (B : Ghosts D N L) (tables : TableParts) (seal
       → Carried es x a y b → Carried fs y b z c → Carried (es ++ fs) x a z c
   carried_then es fs x a y b z c first next = record {
     out = out_then B tables seal es fs x a y b z c first.out next.out;
-    supply = off_then es fs x.core.plain y.core.plain z.core.plain first.supply next.supply;
+    supply = off_then es fs x.core.state y.core.state z.core.state first.supply next.supply;
   }
 
   -- a board that stops amid events behind others that were carried out stops amid both, joined

@@ -1,7 +1,7 @@
 //! What a run on the store and a cut of the power in it mean, in words that share nothing with how the code works.
 ghost use Rattle.std.specs.Prelude.{◌≡◌, ℕ, ◌+◌, ◌<◌, ◌≤◌, List, [], ◌∷◌, ◌++◌, length, get_or};
 ghost use Rattle.outside.specs.Disk.{MayLeaveAmid};
-ghost use Rattle.outside.specs.Printing.{Begins};
+ghost use Rattle.outside.specs.PrintedText.{Begins};
 ghost use Rattle.outside.specs.Runs.{IsAtRest, KeepsStore, LeavesOnly};
 ghost use Rattle.meter_store.specs.Sealing.{HasSeal, HoldsSeal};
 ghost use Rattle.seal_record.specs.declared.seal.Seal.{Seal};

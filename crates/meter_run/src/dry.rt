@@ -1,7 +1,7 @@
 //! The meter whose durable state is a value.
 ghost use Rattle.std.specs.Prelude.{◌≡◌, ◌+◌, ◌≤◌, [], ◌∷◌, ◌++◌, All, length, OnOk, OnErr};
 ghost use Rattle.outside.specs.Faults.{HasCause};
-ghost use Rattle.outside.specs.Printing.{Begins};
+ghost use Rattle.outside.specs.PrintedText.{Begins};
 ghost use Rattle.outside.specs.Runs.{KeepsStore};
 ghost use Rattle.tariff_compile.specs.Tables.{TableParts};
 ghost use Rattle.seal_record.specs.declared.seal.Seal.{Seal};
@@ -102,7 +102,7 @@ fn step_or_resume<L: Ledger>(
     ensures lawful { IsLawful tables.now seal.now core.new }
     ensures ranges { All (IsLawfulAct tables.now durable.now.number) acts.new.items }
     ensures meets { (s : Setting) (m : Meter) → IsSettingOf s tables.now seal.now
-        → StandsWith s core.old.plain durable.now m → Meets s core.new.plain acts.new.items (step s event m) }
+        → StandsWith s core.old.state durable.now m → Meets s core.new.state acts.new.items (step s event m) }
     ensures steps { steps.new ≤ steps.old + 48 }
 {
     match supply_at(core, event) {
@@ -125,7 +125,7 @@ pub struct DryMeter {
 impl DryMeter {
     /// A meter before the supply first comes.
     pub fn new() -> DryMeter
-        ensures off { result.core.plain.operating ≡ Off }
+        ensures off { result.core.state.operating ≡ Off }
         ensures lawful { (tables : TableParts) (seal : Seal) → IsLawful tables seal result.core }
         ensures first { result.durable ≡ first_state }
         ensures range { IsDurable result.durable }

@@ -76,7 +76,7 @@ fn drop_at_end<B: Board<STORE_SIZE, L>, L: Ledger>(
     ensures begun { PrintsSome B.Board tables.now seal.now ended meter.old board.old board.new }
     ensures cause { HasCause (B.faults board.old) (B.faults board.new) result }
     ensures steps { steps.new ≤ steps.old + 64 }
-    ensures idle { meter.old.core.plain.operating ≡ Off → steps.new ≡ steps.old }
+    ensures idle { meter.old.core.state.operating ≡ Off → steps.new ≡ steps.old }
     ensures store { KeepsStore B.Board board.old board.new }
 {
     if is_off(&meter.core) {

@@ -34,7 +34,7 @@ fn resume<B: Board<STORE_SIZE, L>, L: Ledger>(
     steps: &mut Steps<L>,
 ) -> Result<(), Failed>
     requires ready { IsMeterReadyOn B.Board tables.now seal.now meter.old board.old }
-    requires off { meter.old.core.plain.operating ≡ Off }
+    requires off { meter.old.core.state.operating ≡ Off }
     requires range { IsDurable found.durable }
     requires agrees { Agrees B.Board tables.now found board.old }
     requires second { IsSecond second }
@@ -62,7 +62,7 @@ fn power_up<B: Board<STORE_SIZE, L>, L: Ledger>(
     steps: &mut Steps<L>,
 ) -> Result<(), Failed>
     requires ready { IsMeterReadyOn B.Board tables.now seal.now meter.old board.old }
-    requires off { meter.old.core.plain.operating ≡ Off }
+    requires off { meter.old.core.state.operating ≡ Off }
     requires second { IsSecond second }
     ensures attempts { Attempts B.Board tables.now seal.now (λ s m. step s (Up second) m) meter.old board.old result
         meter.new board.new }
@@ -96,7 +96,7 @@ impl StoreMeter {
         requires timely { IsTimely event }
         ensures attempts { Attempts B.Board tables.now seal.now (λ s m. step s event m) self.old board.old result
             self.new board.new }
-        ensures supply { StaysOff self.old.core.plain (event ∷ []) self.new.core.plain }
+        ensures supply { StaysOff self.old.core.state (event ∷ []) self.new.core.state }
         ensures steps { steps.new ≤ steps.old + 64 }
     {
         match supply_at(&self.core, event) {

@@ -6,7 +6,7 @@ ghost use Rattle.receipt_text.specs.SealParts.{part_of_seal};
 ghost use Rattle.receipt_text.specs.Texts.{display_text, refusal_text};
 ghost use Rattle.seal_record.specs.Ranges.{IsSeal};
 ghost use Rattle.taxi_units.specs.Shown.{IsReceipt, IsShown};
-ghost use Rattle.meter_run.specs.Printing.{PrintsText};
+ghost use Rattle.meter_run.specs.PrintedText.{PrintsText};
 
 use outside::{Board, Failed, STORE_SIZE};
 use receipt_text::{put_display, put_receipt, put_refusal};

@@ -26,7 +26,7 @@ pub struct StoreMeter {
 impl StoreMeter {
     /// A meter before the supply first comes.
     pub fn new() -> StoreMeter
-        ensures off { result.core.plain.operating ≡ Off }
+        ensures off { result.core.state.operating ≡ Off }
         ensures lawful { (tables : TableParts) (seal : Seal) → IsLawful tables seal result.core }
         ensures unknown { result.known ≡ None }
     {

@@ -5,7 +5,7 @@ use Rattle.tariff_compile.specs.Tables.{TableParts}
 use Rattle.taxi_units.specs.declared.event.Operating.{Operating}
 use Rattle.taxi_units.specs.declared.event.Operating.TheVariants.{ForHire}
 use Rattle.meter_states.specs.Acts.{StayLawful}
-use Rattle.meter_model.specs.Closing.{roaming_checked, roaming_checked_in, roaming_entered}
+use Rattle.meter_model.specs.ClosedTrip.{roaming_checked, roaming_checked_in, roaming_entered}
 use Rattle.meter_states.specs.Core.{CoreData}
 use Rattle.meter_states.specs.Lawful.{IsAmidEvent, IsPowered}
 use Rattle.meter_model.specs.Meter.{Meter}

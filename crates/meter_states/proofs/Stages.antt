@@ -13,7 +13,7 @@ use Rattle.totals_record.specs.declared.durable_state.Durable.{Durable}
 use Rattle.totals_record.specs.declared.entry.Entry.{Entry}
 use Rattle.totals_record.specs.declared.trip.Trip.{Trip}
 use Rattle.totals_record.proofs.Laws.{changes_add_up}
-use Rattle.meter_model.specs.Closing.{roaming_checked}
+use Rattle.meter_model.specs.ClosedTrip.{roaming_checked}
 use Rattle.meter_model.specs.Display.{shown}
 use Rattle.meter_model.specs.Interval.{interval_begun, interval_counted, interval_left}
 use Rattle.meter_model.specs.Meter.{Meter, Outcome, ◌>>=◌}

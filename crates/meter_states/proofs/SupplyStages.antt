@@ -5,7 +5,7 @@ use Rattle.taxi_units.specs.declared.receipt.Kind.TheVariants.{Aborted, Roam}
 use Rattle.taxi_units.specs.Time.{IsSecond}
 use Rattle.totals_record.specs.Ranges.{IsHeld}
 use Rattle.totals_record.specs.declared.trip.Trip.{Trip}
-use Rattle.meter_model.specs.Closing.{closed, roaming_entered}
+use Rattle.meter_model.specs.ClosedTrip.{closed, roaming_entered}
 use Rattle.meter_model.specs.Meter.{Meter, quiet, held}
 use Rattle.meter_model.specs.Setting.{Setting}
 use Rattle.meter_model.specs.Supply.{aborted, hold_taken, is_stopped, is_within_hold, held_or_closed, resumed}

@@ -15,9 +15,9 @@ use Rattle.meter_states.specs.declared.cache.Cache.{Cache}
 use Rattle.meter_states.specs.declared.cache.CachedTime.{CachedTime}
 use Rattle.meter_states.specs.declared.cache.CachedRate.{CachedRate}
 
--- a core beside its cache has its plain data, and what was looked up for it last
+-- a core beside its cache has its own state, and what was looked up for it last
 pub record CachedCore : Type 0 where
-  pub plain : CoreData
+  pub state : CoreData
   pub cache : Cache
 
 -- the local time of a second is that by the sealed offsets

@@ -110,7 +110,7 @@ IsAmidEvent tables core = IsPowered tables last_tick roaming_amid 0 core
 -- and the seal; the cache only saves look-ups, and takes no part in which state of the meter the core stands for, as
 -- the clause `takes` of `Core::step_into` says
 pub record IsLawful (tables : TableParts) (seal : Seal) (core : CachedCore) : Type 0 where
-  pub powered : (core.plain.operating ≡ Off) ⊎ IsBetweenEvents tables core.plain
+  pub powered : (core.state.operating ≡ Off) ⊎ IsBetweenEvents tables core.state
   pub cache : IsCacheOf tables seal core.cache
 
 -- the test `is_busy` is true if a trip runs in an operating position

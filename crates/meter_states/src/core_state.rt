@@ -22,13 +22,13 @@ impl Model for Core {
 
     ghost Value = { CachedCore };
 
-    ghost view = { λ c. record { plain = c.state; cache = c.cache } };
+    ghost view = { λ c. record { state = c.state; cache = c.cache } };
 }
 
 impl Core {
     /// A core that is off, as the meter begins, with an empty cache.
     pub fn off() -> Core
-        ensures off { result.plain.operating ≡ Off }
+        ensures off { result.state.operating ≡ Off }
         ensures lawful { (tables : TableParts) (seal : Seal) → IsLawful tables seal result }
     {
         Core {
@@ -39,7 +39,7 @@ impl Core {
 
     /// The operating position.
     pub fn operating(&self) -> Operating
-        ensures { result ≡ self.now.plain.operating }
+        ensures { result ≡ self.now.state.operating }
     {
         self.state.operating
     }

@@ -44,12 +44,12 @@ impl Core {
         requires constant { tables.now.constant ≡ seal.now.params.constant }
         ensures lawful { IsLawful tables.now seal.now self.new }
         ensures most { result ≤ count }
-        ensures full { (result ≡ count) ⊎ ¬ MayGo tables.now seal.now self.old.cache pulses self.new.plain }
-        ensures same { (self.new.plain.operating ≡ self.old.plain.operating)
-            × (self.new.plain.number ≡ self.old.plain.number) }
+        ensures full { (result ≡ count) ⊎ ¬ MayGo tables.now seal.now self.old.cache pulses self.new.state }
+        ensures same { (self.new.state.operating ≡ self.old.state.operating)
+            × (self.new.state.number ≡ self.old.state.number) }
         ensures cache { self.new.cache ≡ self.old.cache }
-        ensures meets { (s : Setting) (m : Meter) → IsSettingOf s tables.now seal.now → Stands s self.old.plain m
-            → Meets s self.new.plain [] (run s (intervals_of pulses result) m) }
+        ensures meets { (s : Setting) (m : Meter) → IsSettingOf s tables.now seal.now → Stands s self.old.state m
+            → Meets s self.new.state [] (run s (intervals_of pulses result) m) }
     {
         if count == 0 || self.state.is_off() {
             return 0;

@@ -6,7 +6,7 @@ ghost use Rattle.tariff_check.specs.Amounts.{IsFitInitial, fees_in_force};
 ghost use Rattle.tariff_check.specs.SoundTariff.{supplement_numbered};
 ghost use Rattle.taxi_units.specs.declared.event.Operating.TheVariants.{ForHire};
 ghost use Rattle.taxi_units.specs.declared.receipt.Kind.TheVariants.{Closed};
-ghost use Rattle.meter_model.specs.Closing.{closed};
+ghost use Rattle.meter_model.specs.ClosedTrip.{closed};
 ghost use Rattle.meter_states.specs.Core.{core_of};
 ghost use Rattle.meter_model.specs.Interval.{context_now};
 ghost use Rattle.meter_model.specs.Keys.{extra_added, extra_added_to, hiring, position_set, zone_set};

@@ -51,7 +51,7 @@ impl Core {
         ensures commits { All (KeepsRanges durable.now) result.1.items }
         ensures meets { (s : Setting) (m : Meter) → IsSettingOf s tables.now seal.now → m.durable ≡ durable.now
             → IsSavedIn s durable.now.hold m.trip
-            → Meets s result.0.plain result.1.items (model.supply_came s second m) }
+            → Meets s result.0.state result.1.items (model.supply_came s second m) }
         ensures steps { steps.new ≤ steps.old + 12 }
     {
         tables.recall();

@@ -4,7 +4,7 @@ ghost use Rattle.taxi_units.specs.Shown.{IsReceipt};
 ghost use Rattle.taxi_units.specs.Time.{longest_trip};
 ghost use Rattle.taxi_units.specs.declared.receipt.Kind.TheVariants.{Roam};
 ghost use Rattle.totals_record.specs.Ranges.{IsEntry};
-ghost use Rattle.meter_model.specs.Closing as model;
+ghost use Rattle.meter_model.specs.ClosedTrip as model;
 ghost use Rattle.meter_states.specs.Lawful.{IsTripBeside};
 ghost use Rattle.meter_model.specs.Setting.{Setting};
 ghost use Rattle.meter_states.specs.Setting.{IsSettingOf, IsTariffOf};

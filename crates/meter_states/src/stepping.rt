@@ -11,7 +11,7 @@ ghost use Rattle.meter_model.specs.Meter.{Meter};
 ghost use Rattle.meter_model.specs.Setting.{Setting};
 ghost use Rattle.meter_states.specs.Setting.{IsSettingOf};
 ghost use Rattle.meter_model.specs.Step.{clock_read, powered_step};
-ghost use Rattle.meter_states.specs.Stepping.{MayStep, Takes};
+ghost use Rattle.meter_states.specs.EventOnCore.{MayStep, Takes};
 
 use crate::cache::Cache;
 use crate::core_state::Core;

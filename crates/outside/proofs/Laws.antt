@@ -10,7 +10,7 @@ use Rattle.outside.specs.Disk.{IsWithin, MayLeave, MayLeaveAmid, SameBut}
 pub use Rattle.outside.proofs.Rises.{cause_behind, left_by_ok, may_rise_behind, may_rise_more}
 pub use Rattle.outside.proofs.Rises.{may_rise_not}
 pub use Rattle.outside.proofs.Rises.{on_failed, rises_behind, rises_by, rises_not, rose_behind}
-use Rattle.outside.specs.Printing.{Begins}
+use Rattle.outside.specs.PrintedText.{Begins}
 use Rattle.outside.specs.Runs.{KeepsStore, LeavesNow, LeavesOnly, MayHold, PrintTakes}
 
 -- a text that was printed whole is a beginning of itself

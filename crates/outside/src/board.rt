@@ -2,7 +2,7 @@
 ghost use Rattle.std.specs.Prelude.{◌≡◌, ◌⊎◌, ℕ, ◌+◌, ◌<◌, ◌≤◌, ◌++◌, List, length, take, drop, OnOk};
 ghost use Rattle.outside.specs.Disk.{piece_size, CallTakes, IsImage, IsPiece, IsWithin, MayLeave, PieceTakes, SameBut};
 ghost use Rattle.outside.specs.Faults.{HasCause};
-ghost use Rattle.outside.specs.Printing.{Begins};
+ghost use Rattle.outside.specs.PrintedText.{Begins};
 
 use crate::fault::Failed;
 use std::sync::ledger::Ledger;

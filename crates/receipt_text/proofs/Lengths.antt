@@ -15,7 +15,7 @@ use Rattle.receipt_text.specs.Part.{Part, IsPart}
 use Rattle.receipt_text.specs.Receipts.{body_text, calculation_text, course_text, date_text, day_text, fare_text}
 use Rattle.receipt_text.specs.Receipts.{heading_text, hex_text, last_text, part_text, receipt_text}
 use Rattle.receipt_text.specs.Receipts.{stamp_text, supplements_text, time_text, total_text, trip_text}
-use Rattle.receipt_text.proofs.Appending.{length-joined, lengths}
+use Rattle.receipt_text.proofs.AppendedPieces.{length-joined, lengths}
 use Rattle.receipt_text.proofs.Dates.{month_small, year_below}
 use Rattle.receipt_text.proofs.OptionalLines.{optional_len, optional_short, total_small}
 use Rattle.receipt_text.proofs.Widths.{amount_most, kind_fits, number_most}

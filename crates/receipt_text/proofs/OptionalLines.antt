@@ -14,7 +14,7 @@ use Rattle.receipt_text.specs.AmountLines.{optional_lines, total_of}
 use Rattle.receipt_text.specs.Lines.{optional_at, optional_lines_at}
 use Rattle.receipt_text.specs.Receipts.{in_front, optional_text}
 use Rattle.receipt_text.proofs.Again.{amount_again, word_again}
-use Rattle.receipt_text.proofs.Appending.{lengths}
+use Rattle.receipt_text.proofs.AppendedPieces.{lengths}
 use Rattle.receipt_text.proofs.Widths.{amount_most}
 
 -- a line is short if its word and its amount are

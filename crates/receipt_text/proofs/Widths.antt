@@ -10,7 +10,7 @@ use Rattle.taxi_units.proofs.Laws.{amounts_are_short, numbers_are_short, padded_
 use Rattle.receipt_text.specs.AmountLines.{total_of}
 use Rattle.receipt_text.specs.Receipts.{calculation_text, course_text, date_text, fare_text, kind_text, stamp_text}
 use Rattle.receipt_text.specs.Receipts.{supplements_text, time_text, total_text}
-use Rattle.receipt_text.proofs.Appending.{lengths}
+use Rattle.receipt_text.proofs.AppendedPieces.{lengths}
 
 padded_most : (width places value : ℕ) → 0 < places → places ≤ 64 → width ≤ places → value < 10 ^ places
     → length (padded_text width value) ≤ places

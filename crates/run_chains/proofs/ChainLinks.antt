@@ -10,7 +10,7 @@ use Rattle.outside.specs.Disk.{SameBut}
 use Rattle.outside.specs.Faults.{Rose}
 use Rattle.memory_devices.specs.MemoryBoard.{BoardState, image_of, left_since_of, new_board, text_of}
 use Rattle.memory_devices.specs.MemoryFiles.{FilesState, rest_of}
-use Rattle.outside.specs.Printing.{Begins}
+use Rattle.outside.specs.PrintedText.{Begins}
 use Rattle.outside.specs.Runs.{IsAtRest as NothingFlies}
 use Rattle.slot_store.proofs.Laws.{one_body}
 use Rattle.totals_record.specs.Reading.{reads}

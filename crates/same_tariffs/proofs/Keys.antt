@@ -22,8 +22,8 @@ use Rattle.meter_model.specs.Trip.{MeterTrip, begun, with_extra}
 use Rattle.meter_model.specs.declared.key_act.KeyAct.{KeyAct}
 use Rattle.meter_model.specs.declared.key_act.KeyAct.TheVariants as key_acts
 use Rattle.same_tariffs.specs.Alike.{AreTripsAlike, AreTripsOfBothAlike, with_trips}
-use Rattle.same_tariffs.proofs.Standing.{ComeAlike, IsBeside, closed-alike, context-same, either-alike, having}
-use Rattle.same_tariffs.proofs.Standing.{placed_at, quiet-alike, refused-alike}
+use Rattle.same_tariffs.proofs.MetersAlike.{ComeAlike, IsBeside, closed-alike, context-same, either-alike, having}
+use Rattle.same_tariffs.proofs.MetersAlike.{placed_at, quiet-alike, refused-alike}
 use Rattle.same_tariffs.proofs.Trips.{begun-alike}
 
 -- a number that is among those of the positions or of the zones

@@ -20,9 +20,9 @@ use Rattle.same_tariffs.specs.Contexts.{IsChargedIn, IsHiredIn, IsSettingInRange
 use Rattle.same_tariffs.specs.Drives.{IsReached}
 use Rattle.same_tariffs.specs.Reached.{HoldGoesOn, IsWithinReach}
 use Rattle.same_tariffs.specs.Same.{AreSameSettings}
-use Rattle.same_tariffs.proofs.Meeting.{agree, agree-self, charged-in, hired-in}
+use Rattle.same_tariffs.proofs.MeterContexts.{agree, agree-self, charged-in, hired-in}
 use Rattle.same_tariffs.proofs.Money.{saved-same, steps-same}
-use Rattle.same_tariffs.proofs.Reaching.{each-reached}
+use Rattle.same_tariffs.proofs.DrivesToContexts.{each-reached}
 use Rattle.same_tariffs.proofs.Runs.{run-within, whole-alike, whole-goes_on}
 use Rattle.same_tariffs.proofs.Timely.{drives-timely}
 

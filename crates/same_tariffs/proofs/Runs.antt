@@ -16,9 +16,9 @@ use Rattle.meter_model.specs.Step.{step}
 use Rattle.meter_model.specs.Trip.{MeterTrip, trip_of}
 use Rattle.same_tariffs.specs.Alike.{AreHoldsAlike, AreStoresAlike, with_trips}
 use Rattle.same_tariffs.specs.Reached.{HoldGoesOn, IsWithinReach}
-use Rattle.same_tariffs.proofs.Agreeing.{Agree}
+use Rattle.same_tariffs.proofs.Agreement.{Agree}
 use Rattle.same_tariffs.proofs.Stages.{dropped-alike, step-alike}
-use Rattle.same_tariffs.proofs.Standing.{ComeAlike, IsBeside, StandAlike, by-trips, quiet-alike, stands, then-alike}
+use Rattle.same_tariffs.proofs.MetersAlike.{ComeAlike, IsBeside, StandAlike, by-trips, quiet-alike, stands, then-alike}
 use Rattle.same_tariffs.proofs.Trips.{opened-both}
 
 ticks-held : (s : Setting) (hold : Option Trip) → HoldGoesOn s.tariff hold

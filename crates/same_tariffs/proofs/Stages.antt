@@ -17,7 +17,7 @@ use Rattle.taxi_units.specs.declared.receipt.Kind.TheVariants as kinds
 use Rattle.totals_record.specs.declared.trip.Trip.{Trip}
 use Rattle.tariff_syntax.specs.declared.context.Context.{Context}
 use Rattle.meter_model.specs.Charge.{charge_at}
-use Rattle.meter_model.specs.Closing.{roaming_checked, roaming_checked_in, roaming_entered, roaming_entry}
+use Rattle.meter_model.specs.ClosedTrip.{roaming_checked, roaming_checked_in, roaming_entered, roaming_entry}
 use Rattle.meter_model.specs.Display.{display_of, is_shown, shown}
 use Rattle.meter_model.specs.Interval.{context_of, counted_in, interval_begun, interval_counted, interval_left, left_in}
 use Rattle.meter_model.specs.Interval.{room_of, ticks_so_far}
@@ -36,9 +36,9 @@ use Rattle.same_tariffs.specs.Alike.{AreActsAlike, AreHoldsAlike, AreTripsOfBoth
 use Rattle.same_tariffs.specs.Reached.{GoesOn, HoldGoesOn}
 use Rattle.same_tariffs.proofs.Keys.{press-alike}
 use Rattle.same_tariffs.proofs.Money.{none-same}
-use Rattle.same_tariffs.proofs.Standing.{AreBeside, ComeAlike, IsBeside, StandAlike, by-trips, closed-alike}
-use Rattle.same_tariffs.proofs.Standing.{context-same, either-alike, entered-alike, having, held-by, placed_at, stands}
-use Rattle.same_tariffs.proofs.Standing.{quiet-alike, refused-alike, then-alike}
+use Rattle.same_tariffs.proofs.MetersAlike.{AreBeside, ComeAlike, IsBeside, StandAlike, by-trips, closed-alike}
+use Rattle.same_tariffs.proofs.MetersAlike.{context-same, either-alike, entered-alike, having, held-by, placed_at, stands}
+use Rattle.same_tariffs.proofs.MetersAlike.{quiet-alike, refused-alike, then-alike}
 use Rattle.same_tariffs.proofs.Trips.{display-alike, held-alike, parts-alike, sum-more, ticks-alike}
 
 ticks-more : (part : Part) (trip : Option MeterTrip)

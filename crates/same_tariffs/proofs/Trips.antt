@@ -10,7 +10,7 @@ use Rattle.totals_record.specs.declared.trip.Trip.{Trip}
 use Rattle.drive_modes.specs.Distance.{millimetres_of}
 use Rattle.tariff_check.specs.SoundTariff.{supplement_numbered}
 use Rattle.tariff_check.specs.declared.values.Initial.{Initial}
-use Rattle.meter_model.specs.Closing.{entry_of_trip, receipt_of}
+use Rattle.meter_model.specs.ClosedTrip.{entry_of_trip, receipt_of}
 use Rattle.meter_model.specs.Display.{display_of, extras_shown, fare_shown}
 use Rattle.meter_model.specs.Interval.{pulses_so_far, ticks_so_far}
 use Rattle.meter_model.specs.Meter.{Meter}
@@ -22,7 +22,7 @@ use Rattle.meter_model.specs.Trip.{held_trip, pulses_in, pulses_of, saved_at, st
 use Rattle.meter_model.specs.declared.core_trip.CoreTrip.{CoreTrip}
 use Rattle.same_tariffs.specs.Alike.{AreHeldAlike, AreHoldsAlike, AreMeteragesAlike, AreOpeningsAlike, AreTripsAlike}
 use Rattle.same_tariffs.specs.Alike.{AreTripsOfBothAlike, IsSameMoney, with_trips}
-use Rattle.same_tariffs.proofs.Agreeing.{Agree}
+use Rattle.same_tariffs.proofs.Agreement.{Agree}
 use Rattle.same_tariffs.proofs.Money.{none-same, saved-same, steps-same, sum-same, times-money, times-same}
 
 -- ---- parts

@@ -38,7 +38,7 @@ use Rattle.seal_record.specs.ParamLineStages.{line_read, name_of, named_line}
 use Rattle.seal_record.specs.RangeTests.{taxi_test}
 use Rattle.taxi_units.specs.Test.{at_most, each}
 use Rattle.seal_record.proofs.DayBounds.{date_bound, year_in_range}
-use Rattle.seal_record.proofs.Parting.{ended_line, key_before, last_line, value_after}
+use Rattle.seal_record.proofs.LineParts.{ended_line, key_before, last_line, value_after}
 use Rattle.seal_record.proofs.PlainValues.{date_again, length-padded_text, mode_again, number_again, pair_again}
 use Rattle.taxi_units.specs.Identifier.{IsIdentifierCharacter}
 

@@ -20,7 +20,7 @@ use Rattle.seal_record.specs.TextParts.{HasNone, AreLines, BreaksAt, IsParted}
 use Rattle.seal_record.specs.TextParts.AreLines.{ended, last}
 use Rattle.seal_record.specs.TextParts.IsParted.{alone, parted}
 use Rattle.seal_record.specs.Values.{taxi_read}
-use Rattle.seal_record.proofs.Parting.{ended_line, key_alone, key_before, last_line, no_value, value_after}
+use Rattle.seal_record.proofs.LineParts.{ended_line, key_alone, key_before, last_line, no_value, value_after}
 use Rattle.seal_record.proofs.ParamRanges.{let_through}
 
 none_in_nothing : (byte : ℕ) → HasNone byte []

@@ -23,7 +23,7 @@ use Rattle.slot_bodies.specs.Codec.{Codec, always, byte, bytes, counted, eight_b
 use Rattle.slot_bodies.specs.Codec.{length-padded, two_bytes, zeros, ◌⊗◌, ◌⊙◌}
 use Rattle.slot_bodies.specs.ReadBack.{read_back}
 use Rattle.taxi_units.specs.Identifier.{IsIdentifierCharacter}
-use Rattle.taxi_units.specs.Parting.{HasNone}
+use Rattle.taxi_units.specs.PartedBytes.{HasNone}
 
 -- ---- the parts of the table
 

@@ -5,7 +5,7 @@ use Rattle.seal_record.specs.declared.params.ParamFault.{ParamFault}
 pub use Rattle.seal_record.specs.Reading.{lines_read}
 use Rattle.seal_record.specs.ParamsSoFar.{ParamsSoFar}
 pub use Rattle.seal_record.specs.ParamLineStages.{line_read}
-pub use Rattle.taxi_units.specs.Parting.{HasNone}
+pub use Rattle.taxi_units.specs.PartedBytes.{HasNone}
 
 -- lines are those of a text if an LF ends each but the last, and what stands behind the last LF is the last line as it
 -- is; one CR directly before an LF is no part of its line

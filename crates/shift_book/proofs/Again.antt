@@ -13,7 +13,7 @@ use Rattle.taxi_units.specs.Number.{digits_at_front}
 use Rattle.taxi_units.specs.Reading.{word_at}
 use Rattle.taxi_units.proofs.Laws.{words_are_read_by_their_text}
 use Rattle.shift_book.specs.declared.numbers.Numbers.{Numbers}
-use Rattle.shift_book.specs.Following.{Fit}
+use Rattle.shift_book.specs.MarkOrder.{Fit}
 use Rattle.shift_book.specs.Marks.{Signing, PassAll, IsDriver, HasDriver, head_text, number_text, numbers_text}
 use Rattle.shift_book.specs.Marks.{mark_text}
 use Rattle.shift_book.specs.Reading.{digits_at, amount_at, count_at, numbers_at, driver_at, on_at, off_at, mark_at}

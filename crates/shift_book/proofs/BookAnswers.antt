@@ -15,11 +15,11 @@ use Rattle.shift_book.specs.declared.numbers.Numbers.{Numbers}
 use Rattle.shift_book.specs.BookReading.{is_nowhere_less, is_grown, is_turn, may_follow, following, next_at, or_bad}
 use Rattle.shift_book.specs.BookReading.{lines_read, book_read}
 use Rattle.shift_book.specs.Books.{longest, IsNext, Begins, IsBook, IsFirstBad}
-use Rattle.shift_book.specs.Following.{Fit, IsNowhereLess, MayFollow, is_on, last_of, numbers_in}
+use Rattle.shift_book.specs.MarkOrder.{Fit, IsNowhereLess, MayFollow, is_on, last_of, numbers_in}
 use Rattle.shift_book.specs.Marks.{Signing, HasDriver, IsDriver, PassAll, book_text, head_text, mark_text, numbers_text}
 use Rattle.shift_book.specs.Reading.{counted_driver, driver_at, mark_at, mark_behind, numbers_at, off_at, on_at}
 use Rattle.shift_book.proofs.Drivers.{characters_in_front}
-use Rattle.shift_book.proofs.Growing.{begins_more, rest_shrinks}
+use Rattle.shift_book.proofs.LongerBooks.{begins_more, rest_shrinks}
 use Rattle.shift_book.proofs.Nexts.{next_is}
 use Rattle.shift_book.proofs.Once.{books_have_no_fault, books_have_one_list, faults_have_one_line}
 use Rattle.taxi_units.specs.Identifier.{is_identifier_character}

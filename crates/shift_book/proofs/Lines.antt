@@ -4,7 +4,7 @@ use Rattle.std.proofs.Common.{append_assoc}
 use Rattle.std.specs.Fmt.{decimal}
 use Rattle.taxi_units.proofs.Laws.{numbers_are_short, numbers_are_written_by_their_digits}
 use Rattle.shift_book.specs.declared.numbers.Numbers.{Numbers}
-use Rattle.shift_book.specs.Following.{Fit}
+use Rattle.shift_book.specs.MarkOrder.{Fit}
 use Rattle.shift_book.specs.Marks.{Signing, HasDriver, IsTextOfNumbers, IsMarkLine, head_text, numbers_text, mark_text}
 use Rattle.shift_book.specs.Marks.{six_fields}
 

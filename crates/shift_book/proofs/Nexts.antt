@@ -5,7 +5,7 @@ use Rattle.taxi_units.specs.Reading.{word_at}
 use Rattle.taxi_units.proofs.Laws.{words_are_read_by_their_text}
 use Rattle.shift_book.specs.declared.numbers.Numbers.{Numbers}
 use Rattle.shift_book.specs.Books.{IsNext}
-use Rattle.shift_book.specs.Following.{Fit, IsNowhereLess, numbers_in}
+use Rattle.shift_book.specs.MarkOrder.{Fit, IsNowhereLess, numbers_in}
 use Rattle.shift_book.specs.Marks.{Signing, mark_text}
 use Rattle.shift_book.specs.Reading.{mark_at}
 use Rattle.shift_book.proofs.Again.{mark_back}

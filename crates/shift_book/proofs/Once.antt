@@ -6,9 +6,9 @@ use Rattle.totals_record.specs.declared.durable_state.Durable.{Durable}
 use Rattle.taxi_units.specs.Reading.{word_at}
 use Rattle.taxi_units.proofs.Laws.{words_are_read_by_their_text}
 use Rattle.shift_book.specs.Books.{IsNext, IsBook, IsFirstBad}
-use Rattle.shift_book.specs.Following.{Fit, FollowOn, numbers_in}
+use Rattle.shift_book.specs.MarkOrder.{Fit, FollowOn, numbers_in}
 use Rattle.shift_book.specs.Marks.{Signing, mark_text, book_text}
-use Rattle.shift_book.proofs.Growing.{behind, last_behind, rest_shrinks}
+use Rattle.shift_book.proofs.LongerBooks.{behind, last_behind, rest_shrinks}
 use Rattle.shift_book.proofs.Nexts.{next_is}
 
 -- no mark that may follow stands first

@@ -6,7 +6,7 @@ use Rattle.shift_book.specs.declared.book.BookFault.{BookFault}
 use Rattle.shift_book.specs.declared.book.BookFault.TheVariants.{TooLong, BadLine}
 use Rattle.shift_book.specs.declared.numbers.Numbers.{Numbers}
 use Rattle.shift_book.specs.Books.{longest}
-use Rattle.shift_book.specs.Following.{is_on, last_of, numbers_in}
+use Rattle.shift_book.specs.MarkOrder.{is_on, last_of, numbers_in}
 use Rattle.shift_book.specs.Marks.{Signing, mark_text}
 use Rattle.shift_book.specs.Reading.{mark_at}
 

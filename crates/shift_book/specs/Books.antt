@@ -3,7 +3,7 @@ use Rattle.std.specs.Prelude.{◌≡◌, ◌≢◌, ℕ, ◌+◌, ◌<◌, ◌�
 use Rattle.totals_record.specs.declared.durable_state.Durable.{Durable}
 use Rattle.shift_book.specs.declared.book.BookFault.{BookFault}
 use Rattle.shift_book.specs.declared.book.BookFault.TheVariants.{TooLong, BadLine, NoMemory}
-use Rattle.shift_book.specs.Following.{MayFollow, FollowOn, last_of}
+use Rattle.shift_book.specs.MarkOrder.{MayFollow, FollowOn, last_of}
 use Rattle.shift_book.specs.Marks.{Signing, mark_text, book_text}
 
 -- a book has at most 1,048,576 bytes

@@ -1,6 +1,6 @@
 pub mod BookReading
 pub mod Books
-pub mod Following
+pub mod MarkOrder
 pub mod Marks
 pub mod Reading
 pub mod Report

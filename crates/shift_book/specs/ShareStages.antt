@@ -6,7 +6,7 @@ use Rattle.std.specs.List.{sum_by}
 use Rattle.std.specs.Map.{lookup}
 use Rattle.shift_book.specs.declared.numbers.Numbers.{Numbers}
 use Rattle.shift_book.specs.declared.shift.Shift.{Shift}
-use Rattle.shift_book.specs.Following.{IsNowhereLess}
+use Rattle.shift_book.specs.MarkOrder.{IsNowhereLess}
 use Rattle.shift_book.specs.Marks.{Signing, numbers_of}
 use Rattle.shift_book.specs.Shares.{Number, Distance, HiredDistance, Hirings, Supplements, Fare, at}
 use Rattle.shift_book.specs.Shares.{Driver, driver_cmp, next_point, nothing, plus}

@@ -3,7 +3,7 @@ ghost use Rattle.std.specs.Prelude.{◌≡◌, ◌↔◌, ℕ, ◌<◌, List, le
 ghost use Rattle.shift_book.specs.BookReading.{book_read};
 ghost use Rattle.shift_book.specs.Books.{IsBook, IsFirstBad, longest};
 ghost use Rattle.shift_book.specs.declared.book.BookFault.TheVariants as BookFault;
-ghost use Rattle.shift_book.specs.Following.{Fit, numbers_in};
+ghost use Rattle.shift_book.specs.MarkOrder.{Fit, numbers_in};
 ghost use Rattle.shift_book.specs.Marks.{Signing};
 ghost use Rattle.totals_record.specs.declared.durable_state.Durable.{Durable};
 

@@ -2,7 +2,7 @@
 ghost use Rattle.std.specs.Prelude.{◌≡◌, ◌+◌, ◌<◌, ◌≤◌, ◌++◌, ◌↔◌, length, IsOk, OnOk, OnErr};
 ghost use Rattle.arrayvec.specs.ArrayVec.{array_vec_len};
 ghost use Rattle.taxi_units.specs.Line.{line_size};
-ghost use Rattle.shift_book.specs.Following.{Fit};
+ghost use Rattle.shift_book.specs.MarkOrder.{Fit};
 ghost use Rattle.shift_book.specs.Marks.{HasDriver, IsMarkLine, head_text, mark_text};
 
 use crate::numbers::{Numbers, numbers_of, push_numbers};

@@ -1,6 +1,6 @@
 //! What the lines of marks mean, in words that share nothing with how they are written and read.
 ghost use Rattle.std.specs.Prelude.{◌≡◌, ℕ, ◌↔◌, List, Some};
-ghost use Rattle.shift_book.specs.Following.{Fit};
+ghost use Rattle.shift_book.specs.MarkOrder.{Fit};
 ghost use Rattle.shift_book.specs.Marks.{HasDriver, IsDriver, IsMarkLine, Signing, mark_text};
 ghost use Rattle.shift_book.specs.Reading.{driver_of};
 

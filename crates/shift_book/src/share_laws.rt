@@ -1,6 +1,6 @@
 //! What the growth of a book goes by.
 ghost use Rattle.std.specs.Prelude.{◌≡◌, ℕ, List, ◌∷◌, None};
-ghost use Rattle.shift_book.specs.Following.{FollowOn, numbers_in};
+ghost use Rattle.shift_book.specs.MarkOrder.{FollowOn, numbers_in};
 ghost use Rattle.shift_book.specs.Marks.{Signing};
 ghost use Rattle.shift_book.specs.Report.{IsReport, report_text};
 ghost use Rattle.shift_book.specs.Shares.{growth_in};

@@ -1,6 +1,6 @@
 //! Shifts, and the growth between the points of a book.
 ghost use Rattle.std.specs.Prelude.{◌≡◌, ◌++◌, IfOk, OnOk};
-ghost use Rattle.shift_book.specs.Following.{Fit, IsNowhereLess};
+ghost use Rattle.shift_book.specs.MarkOrder.{Fit, IsNowhereLess};
 ghost use Rattle.shift_book.specs.ShareStages.{Rise};
 ghost use Rattle.shift_book.specs.Shares.{begun_by, free_behind, growth_in, grown, next_point};
 ghost use Rattle.shift_book.specs.Shares.{plus, shifts_in, unsigned_in};

@@ -15,7 +15,7 @@ use Rattle.slot_store.specs.Scan.{found_at, IsAnswer}
 use Rattle.slot_store.specs.Stages.{spare_at, IsPair, IsReady, IsReadyAt}
 use Rattle.slot_store.specs.Writes.{IsApart, OrWithin, LeavesThroughout, WritesIn}
 pub use Rattle.slot_store.proofs.Causes.{fewer_steps, steps_then}
-use Rattle.slot_store.proofs.Findings as findings
+use Rattle.slot_store.proofs.ScanAnswers as findings
 use Rattle.slot_store.proofs.Moments as moments
 pub use Rattle.slot_store.proofs.Moments.{in_part_as, run_on, writes_in_part, writes_on}
 pub use Rattle.slot_store.proofs.Synced.{from_sync_as, goes_on, held_on, settled_already}

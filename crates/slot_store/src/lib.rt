@@ -2,7 +2,7 @@
 //! for, and a new body is written in three stages, each one write and its sync. All of it is this project's own.
 #![tactic(auto)]
 
-mod durable;
+mod synced_write;
 mod found;
 mod pair;
 mod pair_laws;
@@ -14,7 +14,7 @@ mod storing;
 mod sync_laws;
 mod written;
 
-pub use durable::write_and_sync;
+pub use synced_write::write_and_sync;
 pub use found::{Found, SlotFault};
 pub use pair::{Pair, Place};
 pub use pair_laws::{

@@ -6,7 +6,7 @@ ghost use Rattle.slot_store.specs.Sizes.{last_pair};
 ghost use Rattle.slot_store.specs.Stages.{is_spare_open, spare_at, IsPair, IsReadyOn};
 ghost use Rattle.slot_store.specs.Stages.{LeavesLatest, Shuts, WritesOfSpare};
 
-use crate::durable::write_and_sync;
+use crate::synced_write::write_and_sync;
 use crate::pair::CLOSED;
 use crate::{Pair, Place, Shut};
 use outside::{Board, Failed, STORE_SIZE};

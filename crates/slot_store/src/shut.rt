@@ -7,7 +7,7 @@ ghost use Rattle.slot_store.specs.Slots.{bytes_behind};
 ghost use Rattle.slot_store.specs.Stages.{spare_at, IsPair, IsShutOn};
 ghost use Rattle.slot_store.specs.Stages.{LeavesLatest, MayWrite, WritesBody, WritesOfSpare};
 
-use crate::durable::write_and_sync;
+use crate::synced_write::write_and_sync;
 use crate::{Pair, Written};
 use outside::{Board, Failed, STORE_SIZE};
 use slot_bodies::{BODY_SIZE, Body};

@@ -5,7 +5,7 @@ ghost use Rattle.slot_store.specs.declared.pair.Pair.{Pair};
 ghost use Rattle.slot_store.specs.Stages.{spare_at, new_place, IsPair, IsWrittenOn};
 ghost use Rattle.slot_store.specs.Stages.{LeavesLatestOrNew, OpensAt, WritesOfSpare};
 
-use crate::durable::write_and_sync;
+use crate::synced_write::write_and_sync;
 use crate::pair::OPEN;
 use crate::{Pair, Place};
 use outside::{Board, Failed, STORE_SIZE};

@@ -6,7 +6,7 @@ use Rattle.std.proofs.lemmas.Bool.{cases_lt}
 use Rattle.std.proofs.lemmas.List.{ext_get_or}
 use Rattle.outside.specs.declared.board.Board.{Ghosts}
 use Rattle.outside.specs.Disk.{IsWithin, MayLeaveAmid, SameBut}
-use Rattle.outside.specs.Printing.{Begins}
+use Rattle.outside.specs.PrintedText.{Begins}
 use Rattle.outside.specs.Runs.{IsAtRest as NothingFlies, KeepsStore, LeavesOnly, MayHold}
 use Rattle.outside.proofs.Laws.{leaves_wider}
 use Rattle.slot_store.specs.declared.found.Found.{Found}

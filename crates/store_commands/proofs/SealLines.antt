@@ -1,7 +1,7 @@
 -- The line `SEALED n`: in which texts no byte of it stands.
 use Rattle.std.proofs.Common.{◌≡◌, ◌≢◌, ℕ, zero, suc, ◌<◌, List, [], ◌∷◌, take, get_or, refl, sym, ap, ◌∙◌, arith}
 use Rattle.std.proofs.lemmas.List.{append_cancel_left}
-use Rattle.outside.specs.Printing.{Begins}
+use Rattle.outside.specs.PrintedText.{Begins}
 use Rattle.outside.proofs.Laws.{begins_not}
 use Rattle.call_ends.specs.LastLine.{no_memory_line, read_fault_line, sealed_line}
 use Rattle.store_commands.specs.Seal.{ShowsByteOf}

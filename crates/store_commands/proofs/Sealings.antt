@@ -3,7 +3,7 @@ use Rattle.std.proofs.Common.{◌≡◌, ◌≢◌, ◌⊎◌, ⊎_elim, inl, in
 use Rattle.std.proofs.Common.{if◌then◌else◌, Result, Ok, Err, refl, sym, ap, subst, ◌∙◌}
 use Rattle.std.specs.Prelude.{◌==◌}
 use Rattle.sha2.specs.Sha256.{sha256}
-use Rattle.outside.specs.Printing.{Begins}
+use Rattle.outside.specs.PrintedText.{Begins}
 use Rattle.tariff_syntax.specs.Tree.{Tree}
 use Rattle.seal_record.specs.declared.seal.Seal.{Seal}
 use Rattle.seal_record.specs.Reading.{params_read}
@@ -25,7 +25,7 @@ use Rattle.store_commands.specs.Seal.{HasDecimals, are_decimals, IsSealable, bas
 use Rattle.store_commands.specs.Seal.{seal_command, seal_read, sealing_of, sealing_over, sealing_with, where_decimals}
 use Rattle.store_commands.specs.Seal.{with_params, seal_with_tariff}
 use Rattle.store_commands.specs.SealSteps.{IsNoSeal, IsNoTariff}
-use Rattle.store_commands.proofs.Answering.{course-refusal, none}
+use Rattle.store_commands.proofs.EndsByStore.{course-refusal, none}
 use Rattle.call_ends.specs.Tariffs.{tariff_in}
 use Rattle.call_ends.proofs.Laws.{not_status, as_found, same_fault}
 

@@ -2,7 +2,7 @@
 use Rattle.std.proofs.Common.{◌≡◌, ℕ, List, [], ◌++◌, Result, Ok, Err, ap, subst, ◌∙◌, arith}
 use Rattle.outside.specs.declared.board.Board.{Ghosts}
 use Rattle.outside.specs.Faults.{Rose}
-use Rattle.outside.specs.Printing.{Begins}
+use Rattle.outside.specs.PrintedText.{Begins}
 use Rattle.totals_record.specs.declared.durable_state.Durable.{Durable}
 use Rattle.seal_record.specs.declared.seal.Seal.{Seal}
 use Rattle.call_ends.specs.declared.ending.Ended.{Ended}
@@ -14,7 +14,7 @@ use Rattle.call_ends.specs.LastLine.{refused_as}
 use Rattle.store_commands.specs.Opened.{IsBarred, OnlyOpens}
 use Rattle.store_commands.specs.Opening.{opening_in, store_of}
 use Rattle.call_ends.specs.Stream.{TakesBytes}
-use Rattle.store_commands.proofs.Answering.{course-barred}
+use Rattle.store_commands.proofs.EndsByStore.{course-barred}
 use Rattle.call_ends.proofs.Laws.{as_found, as_refused, no_fault, course-begun, course-shown}
 
 -- a command whose answer is one to the store that it opened, over the boards before and behind the opening

@@ -2,7 +2,7 @@
 use Rattle.std.specs.Prelude.{true, false, [], Option, None, Some, Result, Ok, Err}
 use Rattle.totals_record.specs.declared.durable_state.Durable.{Durable}
 use Rattle.seal_record.specs.declared.seal.Seal.{Seal}
-use Rattle.shift_book.specs.Following.{numbers_in}
+use Rattle.shift_book.specs.MarkOrder.{numbers_in}
 use Rattle.shift_book.specs.Marks.{Signing, mark_text}
 use Rattle.shift_book.specs.Shares.{Driver}
 use Rattle.call_ends.specs.Answer.{Answer, shows}

@@ -3,8 +3,8 @@ use Rattle.std.specs.Prelude.{◌≡◌, ℕ, ◌+◌, List, [], Some, Result, O
 use Rattle.totals_record.specs.declared.durable_state.Durable.{Durable}
 use Rattle.seal_record.specs.declared.seal.Seal.{Seal}
 use Rattle.data_port.specs.Reading.{requests_in}
-use Rattle.data_port.specs.Serving.{StreamEnd, Whole, BadAt, Endless, IsBoundedByRequests, IsGoing, replies, requests_of}
-use Rattle.data_port.specs.Serving.{stream_end}
+use Rattle.data_port.specs.ServedStream.{StreamEnd, Whole, BadAt, Endless, IsBoundedByRequests, IsGoing, replies, requests_of}
+use Rattle.data_port.specs.ServedStream.{stream_end}
 use Rattle.call_ends.specs.Answer.{Answer, shows}
 use Rattle.call_ends.specs.Course.{Command}
 use Rattle.call_ends.specs.LastLine.{bad_frame_line, endless_requests_line, refused_as}

@@ -1,6 +1,6 @@
 -- For proofs: what the command `seal` has before its last line is printed. Seal says what a sealing is.
 use Rattle.std.specs.Prelude.{◌≡◌, ◌⊎◌, ℕ, List, Option, Result, Ok, Err, ◌≢◌}
-use Rattle.outside.specs.Printing.{Begins}
+use Rattle.outside.specs.PrintedText.{Begins}
 use Rattle.outside.specs.Runs.{MayHold}
 use Rattle.outside.specs.declared.board.Board.{Ghosts}
 use Rattle.meter_store.specs.Sealing.{Sealing}

@@ -3,7 +3,7 @@ use Rattle.std.specs.Prelude.{◌≡◌, ℕ, ◌+◌, ◌*◌, ◌≤◌, List,
 use Rattle.totals_record.specs.declared.durable_state.Durable.{Durable}
 use Rattle.seal_record.specs.declared.seal.Seal.{Seal}
 use Rattle.shift_book.specs.BookReading.{book_read}
-use Rattle.shift_book.specs.Following.{numbers_in}
+use Rattle.shift_book.specs.MarkOrder.{numbers_in}
 use Rattle.shift_book.specs.Marks.{Signing}
 use Rattle.shift_book.specs.Report.{report_text}
 use Rattle.shift_book.specs.declared.book.BookFault.{BookFault}

@@ -5,7 +5,7 @@ ghost use Rattle.std.specs.Prelude.{◌≡◌, ◌≢◌, ℕ, ◌+◌, ◌<◌,
 ghost use Rattle.outside.specs.Reading.{LeavesOthers};
 ghost use Rattle.taxi_units.specs.Line.{line_size};
 ghost use Rattle.outside.specs.Faults.{HasCause, Rose};
-ghost use Rattle.outside.specs.Printing.{Begins};
+ghost use Rattle.outside.specs.PrintedText.{Begins};
 ghost use Rattle.outside.specs.Runs.{KeepsStore};
 ghost use Rattle.offset_rules.specs.Reading.{rules_read};
 ghost use Rattle.offset_rules.specs.Texts.{offset_line, offset_lines};

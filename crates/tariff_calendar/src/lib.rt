@@ -4,11 +4,11 @@
 mod collecting;
 mod cuts;
 mod lookups;
-mod theorems;
+mod cut_laws;
 
 pub use cuts::Cuts;
 pub use lookups::count_at_most;
-pub use theorems::{
+pub use cut_laws::{
     counts_are_places, cuts_are_the_fewest_pulses, cuts_decide_conditions, holidays_are_dates,
     lists_are_ordered,
 };

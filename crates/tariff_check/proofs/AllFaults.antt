@@ -15,7 +15,7 @@ use Rattle.tariff_check.specs.Faults.{first_some}
 use Rattle.tariff_check.specs.Lines.{is_for_nothing}
 use Rattle.tariff_check.specs.Measure.{common_with, gcd_of, lcm_of, measure_of, measures_of}
 use Rattle.tariff_check.specs.declared.fault.CheckFault.{CheckFault}
-use Rattle.tariff_check.proofs.Staging.{none_if_sound, or_assoc, sound_if_none}
+use Rattle.tariff_check.proofs.FaultStages.{none_if_sound, or_assoc, sound_if_none}
 
 -- ---- the first of them
 

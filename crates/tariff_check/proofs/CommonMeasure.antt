@@ -9,7 +9,7 @@ use Rattle.tariff_syntax.specs.Tree.{Tree, Line}
 use Rattle.tariff_check.specs.Faults.{IsSound, fault_of}
 use Rattle.tariff_check.specs.Measure.{IsLeastCommonMultiple, lcm_of, measures_of, common_with}
 use Rattle.tariff_check.proofs.MeasureLaws.{IsSome, common_grows, lcm_some, measures_some}
-use Rattle.tariff_check.proofs.Staging.{no_early_fault, none_if_sound, or_parts, staged, measured_if}
+use Rattle.tariff_check.proofs.FaultStages.{no_early_fault, none_if_sound, or_parts, staged, measured_if}
 use Rattle.tariff_check.specs.Stages.{early_fault, late_fault}
 use Rattle.tariff_check.specs.declared.fault.CheckFault.TheVariants.{NoCommonMeasure}
 

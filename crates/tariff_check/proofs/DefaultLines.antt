@@ -15,7 +15,7 @@ use Rattle.tariff_syntax.proofs.Laws.{first_lines_hold-conditions}
 use Rattle.tariff_check.specs.Faults.{IsSound, has_default}
 use Rattle.tariff_check.specs.Parts.{initial_part, rate_part}
 use Rattle.tariff_check.specs.declared.fault.CheckFault.TheVariants.{NoDefaultInitial, NoDefaultRate}
-use Rattle.tariff_check.proofs.Staging.{faults_none, not_if}
+use Rattle.tariff_check.proofs.FaultStages.{faults_none, not_if}
 
 -- if one of some lines is without a condition, not all fail to hold
 default_holds : (x : Context) (conditions : List (Option Condition)) → list_any is_none conditions ≡ true

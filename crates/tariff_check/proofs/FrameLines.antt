@@ -15,7 +15,7 @@ use Rattle.tariff_check.specs.SoundTariff.{HasFrame, IsToldOnce, entries_told, s
 use Rattle.tariff_check.specs.declared.fault.CheckFault.TheVariants.{Duplicate, NoStep}
 use Rattle.tariff_check.proofs.FirstLine.{passed_by}
 use Rattle.tariff_check.proofs.ChoiceLaws.{entries_again}
-use Rattle.tariff_check.proofs.Staging.{faults_none, not_if, nowhere, or_false}
+use Rattle.tariff_check.proofs.FaultStages.{faults_none, not_if, nowhere, or_false}
 
 module _ {A : Type 0} (part : Entry → Option A) where
   -- two entries with the part exclude each other

@@ -14,7 +14,7 @@ use Rattle.tariff_check.specs.SoundTariff.{IsInOnePart, choices_in, sound_of}
 use Rattle.tariff_check.specs.declared.choice.ChoiceKind.{ChoiceKind}
 use Rattle.tariff_check.specs.declared.choice.ChoiceKind.TheVariants.{Rate, Initial, Minimum}
 use Rattle.tariff_check.proofs.MeasureLaws.{both_some}
-use Rattle.tariff_check.proofs.Staging.{or_false}
+use Rattle.tariff_check.proofs.FaultStages.{or_false}
 
 -- what holds of each kind holds of one
 pub of_kind : (P : ChoiceKind → Type 0) → EachKind P → (kind : ChoiceKind) → P kind

@@ -34,7 +34,7 @@ use Rattle.tariff_check.proofs.FrameLines.{frame_told}
 use Rattle.tariff_check.proofs.KindLaws.{in_one_part}
 use Rattle.tariff_check.proofs.ChoiceLaws.{all_lines}
 use Rattle.tariff_check.proofs.SoundParts.{sound_parts}
-use Rattle.tariff_check.proofs.Staging.{none_if_sound, sound_if_none}
+use Rattle.tariff_check.proofs.FaultStages.{none_if_sound, sound_if_none}
 use Rattle.tariff_check.proofs.Supplements.{none_of_other_numbers}
 
 pub faults_name_the_first_line-named : (test : LineTest) (lines : List Line) (number : ℕ)

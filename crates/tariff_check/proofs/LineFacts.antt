@@ -20,7 +20,7 @@ use Rattle.tariff_check.specs.Parts.{numbered_supplement, positions_part, step_p
 use Rattle.tariff_check.specs.declared.choice.ChoiceKind.{ChoiceKind}
 use Rattle.tariff_check.specs.Sound.{IsGoodAtom, IsSoundAtom, IsSoundHoliday, IsSoundSupplement}
 use Rattle.tariff_check.proofs.KindLaws.{said_sound, when_writable}
-use Rattle.tariff_check.proofs.Staging.{or_false}
+use Rattle.tariff_check.proofs.FaultStages.{or_false}
 
 -- an entry breaks none of the rules for numbers
 pub record IsGoodEntry (x : Entry) : Type 0 where

@@ -41,7 +41,7 @@ use Rattle.tariff_check.proofs.LineFacts.{IsGoodEntry, choice_fact, good_atoms, 
 use Rattle.tariff_check.proofs.LineFacts.{supplement_fact, zones_fact}
 use Rattle.tariff_check.proofs.MeasureLaws.{common_grows}
 use Rattle.tariff_check.proofs.PartLaws.{Gives, choices_alike, few, first_part_has, holidays_alike, parts_all}
-use Rattle.tariff_check.proofs.Staging.{AreNone, faults_none, not_if, nowhere, or_false}
+use Rattle.tariff_check.proofs.FaultStages.{AreNone, faults_none, not_if, nowhere, or_false}
 use Rattle.tariff_check.proofs.Supplements.{numbered_has}
 
 -- each line is good

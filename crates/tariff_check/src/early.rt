@@ -30,7 +30,7 @@ pub(crate) fn early_fault(lines: &[TariffLine], positions: u8, zones: u8) -> Opt
 }
 
 /// A line that is there too often, or that names what the tariff doesn't have.
-#[tactic(auto, using(crate::proofs::Staging::or_none))]
+#[tactic(auto, using(crate::proofs::FaultStages::or_none))]
 fn line_fault(lines: &[TariffLine], positions: u8, zones: u8) -> Option<CheckFault>
     requires positions { positions ≡ positions_of (map line_of lines.now) }
     requires zones { zones ≡ zones_of (map line_of lines.now) }
@@ -46,7 +46,7 @@ fn line_fault(lines: &[TariffLine], positions: u8, zones: u8) -> Option<CheckFau
 }
 
 /// A default that is missing, or a line after it.
-#[tactic(auto, using(crate::proofs::Staging::or_none))]
+#[tactic(auto, using(crate::proofs::FaultStages::or_none))]
 fn default_fault(lines: &[TariffLine]) -> Option<CheckFault>
     ensures { result ≡ default_fault (map line_of lines.now) }
 {
@@ -60,7 +60,7 @@ fn default_fault(lines: &[TariffLine]) -> Option<CheckFault>
 }
 
 /// A line with a number that it may not have.
-#[tactic(auto, using(crate::proofs::Staging::or_none))]
+#[tactic(auto, using(crate::proofs::FaultStages::or_none))]
 fn number_fault(lines: &[TariffLine]) -> Option<CheckFault>
     ensures { result ≡ number_fault (map line_of lines.now) }
 {

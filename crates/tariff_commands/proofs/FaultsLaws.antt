@@ -25,7 +25,7 @@ use Rattle.call_ends.specs.LastLine.{bad_tariff_line}
 use Rattle.call_ends.specs.Tariffs.{HasTariff, sound_in, tariff_in}
 use Rattle.call_ends.specs.declared.tariff.Refusal.{Refusal}
 use Rattle.call_ends.specs.declared.tariff.Refusal.TheVariants.{TooLong, Syntax, Unsound}
-use Rattle.tariff_commands.proofs.Finding.{refused_bad, refused_long, refused_tree, tariff_long}
+use Rattle.tariff_commands.proofs.FoundFaults.{refused_bad, refused_long, refused_tree, tariff_long}
 
 -- ---- the first refusal is that of `check`
 

@@ -4,7 +4,7 @@
 ghost use Rattle.std.specs.Prelude.{◌≡◌, ◌+◌, ◌<◌, ◌≤◌, ◌++◌, length, OnOk};
 ghost use Rattle.taxi_units.specs.Line.{line_size};
 ghost use Rattle.outside.specs.Faults.{HasCause};
-ghost use Rattle.outside.specs.Printing.{Begins};
+ghost use Rattle.outside.specs.PrintedText.{Begins};
 ghost use Rattle.outside.specs.Runs.{KeepsStore};
 ghost use Rattle.tariff_compile.specs.Rows.{row_count, row_text, rows_text};
 ghost use Rattle.call_ends.specs.Carried.{Carries};

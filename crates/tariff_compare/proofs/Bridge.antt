@@ -19,7 +19,7 @@ use Rattle.tariff_syntax.specs.Tree.{Tree}
 use Rattle.tariff_syntax.specs.declared.context.Context.{Context}
 use Rattle.tariff_check.specs.declared.choice.ChoiceKind.{ChoiceKind}
 use Rattle.tariff_compare.specs.Contexts.{HasTables, IsMeterContext, context_at}
-use Rattle.tariff_compare.specs.Counting.{counts, is_at}
+use Rattle.tariff_compare.specs.CountedLine.{counts, is_at}
 use Rattle.tariff_compare.specs.Grids.{CanBeAsked}
 use Rattle.tariff_compare.specs.Kinds.{InForce, difference_at, differing_kind, in_force, is_asked, place_in}
 use Rattle.tariff_compare.specs.Sides.{context_by, counts_by, difference_by, in_force_by, is_holiday_among, is_met}

@@ -12,7 +12,7 @@ use Rattle.tariff_syntax.specs.Meaning.{at_hiring, choice_place}
 use Rattle.tariff_syntax.specs.Tree.{Tree}
 use Rattle.tariff_syntax.specs.declared.context.Context.{Context}
 use Rattle.tariff_compare.specs.Contexts.{HasTables, IsMeterContext, context_at}
-use Rattle.tariff_compare.specs.Counting.{counts, is_at}
+use Rattle.tariff_compare.specs.CountedLine.{counts, is_at}
 use Rattle.tariff_compare.specs.Kinds.{InForce, difference_at, differing_kind, in_force, is_asked, is_asked_amid}
 use Rattle.tariff_compare.specs.Kinds.{is_hiring, place_at}
 use Rattle.tariff_compare.specs.Sides.{is_met}

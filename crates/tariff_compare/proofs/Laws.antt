@@ -2,7 +2,7 @@
 use Rattle.std.proofs.Common.{◌≡◌, ◌↔◌, ap, ℕ, true, None, Some}
 use Rattle.std.specs.Option.{option_or}
 use Rattle.tariff_compare.specs.Contexts.{HasTables, IsFirstOrNone, IsMeterTime, IsTimeOf}
-use Rattle.tariff_compare.specs.Counting.{counts}
+use Rattle.tariff_compare.specs.CountedLine.{counts}
 use Rattle.tariff_compare.specs.Differences.{context_difference, difference_of, frame_difference}
 use Rattle.tariff_compare.specs.FirstParts.{IsFirstKind, IsFirstOfFrame}
 use Rattle.tariff_compare.specs.Kinds.{InForce, differing_kind}

@@ -1,5 +1,5 @@
 pub mod Contexts
-pub mod Counting
+pub mod CountedLine
 pub mod DifferenceTexts
 pub mod Differences
 pub mod FirstParts

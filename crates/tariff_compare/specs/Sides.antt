@@ -1,5 +1,5 @@
--- By law: what is asked of a tariff in a context of a meter, answered by its tables. Counting and Kinds say it of the
--- tariff; the laws first_contexts_are_first and differences_are_first say that both are the same.
+-- By law: what is asked of a tariff in a context of a meter, answered by its tables. CountedLine and Kinds say it of
+-- the tariff; the laws first_contexts_are_first and differences_are_first say that both are the same.
 use Rattle.std.specs.Prelude.{ℕ, Bool, ◌&&◌, ◌==◌, List, get_or, Option, is_some, pos}
 use Rattle.std.specs.List.{list_any}
 use Rattle.interval_clock.specs.Calendar.{date_after, date_place, weekday_of}
@@ -9,7 +9,7 @@ use Rattle.tariff_compile.specs.declared.cells.CellLines.{CellLines}
 use Rattle.tariff_syntax.specs.Tree.{Tree}
 use Rattle.tariff_syntax.specs.declared.context.Context.{Context}
 use Rattle.tariff_check.specs.declared.choice.ChoiceKind.{ChoiceKind}
-use Rattle.tariff_compare.specs.Counting.{counts, is_at}
+use Rattle.tariff_compare.specs.CountedLine.{counts, is_at}
 use Rattle.tariff_compare.specs.Kinds.{InForce, difference_at, differing_kind, is_asked, place_in}
 use Rattle.tariff_compare.specs.declared.meter_context.MeterContext.{MeterContext}
 use Rattle.tariff_compare.specs.declared.question.Question.{Question}

@@ -15,14 +15,14 @@ mod question;
 mod search;
 mod side;
 mod texts;
-mod theorems;
+mod difference_laws;
 mod uses;
 
 pub use difference::{Difference, first_difference};
 pub use difference_texts::print_difference;
 pub use meter_context::MeterContext;
 pub use texts::print_uses;
-pub use theorems::{
+pub use difference_laws::{
     differences_are_first, first_contexts_are_first, first_parts_differ, meters_have_their_times,
 };
 pub use uses::{LineUse, line_uses};

@@ -41,7 +41,7 @@ use Rattle.tariff_check.proofs.Laws.{lines_that_hold_are_there-initial, lines_th
 use Rattle.tariff_check.proofs.Laws.{sound_tariffs_have_sound_parts-parts}
 use Rattle.tariff_compile.proofs.Fits.{weights_of-fit}
 use Rattle.tariff_compile.proofs.ContextLines.{bands_at-below, cell_has_lines}
-use Rattle.tariff_compile.proofs.Numbering.{bands_of-below, cell_number_below}
+use Rattle.tariff_compile.proofs.CellNumbers.{bands_of-below, cell_number_below}
 use Rattle.tariff_check.proofs.Laws.{supplements_are_numbered_to_16}
 
 -- the parts of the tariff of which these are the tables

@@ -20,7 +20,7 @@ use Rattle.tariff_compile.specs.Cells.{IsBelow, bands_at, beginning, cell_count,
 use Rattle.tariff_compile.specs.Tables.{all_cells, cell_of, context_of_cell, lines_at, lines_with, place_at, sizes_in}
 use Rattle.tariff_compile.specs.declared.cells.CellLines.{CellLines}
 use Rattle.tariff_compile.proofs.Beginnings.{beginning-le, count_at_most-beginning}
-use Rattle.tariff_compile.proofs.Numbering.{bands_of-cell_number, cell_number_below}
+use Rattle.tariff_compile.proofs.CellNumbers.{bands_of-cell_number, cell_number_below}
 
 -- a holiday is told from another day if there is a holiday
 holiday_below : (holidays holiday : Bool) → (holiday ≡ true → holidays ≡ true)

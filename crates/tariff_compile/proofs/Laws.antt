@@ -17,8 +17,8 @@ use Rattle.tariff_compile.specs.declared.cells.CellLines.{CellLines}
 use Rattle.tariff_compile.proofs.Compiled.{cell_count-cells_of, has_weights, length-all_cells}
 use Rattle.tariff_compile.proofs.Compiled.{lines_in_is, tables_fit}
 use Rattle.tariff_compile.proofs.EachKind.{cell_names_lines, fees_in_is}
-use Rattle.tariff_compile.proofs.Numbering.{bands_of-cell_number, bands_of-place, cell_number-bands_of}
-use Rattle.tariff_compile.proofs.Numbering.{cell_number-order, cell_number_below}
+use Rattle.tariff_compile.proofs.CellNumbers.{bands_of-cell_number, bands_of-place, cell_number-bands_of}
+use Rattle.tariff_compile.proofs.CellNumbers.{cell_number-order, cell_number_below}
 use Rattle.tariff_compile.proofs.RowOrder.{length-all_rows, row_text-at}
 use Rattle.tariff_syntax.specs.Tree.{Tree}
 use Rattle.tariff_syntax.specs.Writable.{IsWritable}

@@ -14,7 +14,7 @@ mod parsing;
 mod printing;
 mod spelling;
 mod tariff;
-mod theorems;
+mod language_laws;
 mod tokens;
 mod words;
 mod writing;
@@ -28,7 +28,7 @@ pub use tariff::{
     InitialLine, InitialNumbers, Item, Lines, MinimumLine, RateLine, RateNumbers, Tariff,
     TariffLine,
 };
-pub use theorems::{
+pub use language_laws::{
     bad_lines_have_no_form, first_lines_hold, lines_are_those_of_the_table, lines_rise_in_number,
     parentheses_are_needed, printed_forms_read_back, texts_are_cut_at_their_line_feeds,
     texts_are_parsed_as_they_read, texts_have_their_numbers, texts_read_as_one_tariff,

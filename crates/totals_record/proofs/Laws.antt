@@ -14,9 +14,9 @@ use Rattle.totals_record.specs.Spelling.{spelling}
 use Rattle.totals_record.specs.States.{after, after_all}
 use Rattle.totals_record.specs.Sums.{totals_of, AddsUp, GrowsBy}
 use Rattle.totals_record.specs.Table.{durable_test}
-use Rattle.totals_record.proofs.Adding.{adds_up}
+use Rattle.totals_record.proofs.EntrySums.{adds_up}
 use Rattle.totals_record.proofs.CommitRanges.{entry_keeps, trip_keeps}
-use Rattle.totals_record.proofs.Changing.{follows, follows_then}
+use Rattle.totals_record.proofs.CommittedStates.{follows, follows_then}
 
 -- bytes are read as a state exactly if it is in its ranges and they are its own
 pub states_are_read_by_their_table : (bytes : List ℕ) (durable : Durable) → (reads bytes ≡ Some durable)

@@ -11,7 +11,7 @@ use Rattle.drive_text.specs.Written.{event_text}
 use Rattle.drive_text.specs.declared.run.Run.{Run}
 use Rattle.drive_text.specs.declared.run.Run.TheVariants.{One, Many}
 use Rattle.taxi_units.specs.declared.event.Event.{Event}
-use Rattle.verify_bench.specs.Adding.{Adds, place_of, lines_events}
+use Rattle.verify_bench.specs.AddedText.{Adds, place_of, lines_events}
 use Rattle.verify_bench.specs.Generated.{Place, Written, and_then, drawn, in_turn, intervals, line, line_text}
 use Rattle.verify_bench.specs.Generated.{lines_text, next_state, nothing}
 use Rattle.verify_bench.specs.declared.writing.Writing.{Writing}

@@ -9,7 +9,7 @@ use Rattle.std.proofs.lemmas.Bool.Decides.{eqb_tells}
 use Rattle.meter_model.specs.KeptTrip.{IsSupplementNumber}
 use Rattle.meter_model.specs.Supplements.{times}
 use Rattle.verify_bench.specs.Amounts.{amounts_among}
-use Rattle.verify_bench.proofs.Gathering.{zero_plus}
+use Rattle.verify_bench.proofs.GatheredSums.{zero_plus}
 
 -- a number at the head of a list
 times_head : (number x : ℕ) (xs : List ℕ) → times number (x ∷ xs) ≡ cond (nat_eq x number) 1 0 + times number xs

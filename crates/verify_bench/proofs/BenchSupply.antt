@@ -2,7 +2,7 @@
 use Rattle.std.proofs.Common.{◌≡◌, ◌≢◌, ◌<◌, ℕ, refl, sum, true, false, ◌≤◌, Option, Some, None, arith}
 use Rattle.std.specs.Prelude.{nat_lt, option_map}
 use Rattle.std.proofs.lemmas.Bool.{le-ltb, lt-ltb}
-use Rattle.meter_model.specs.Closing.{roaming_entered}
+use Rattle.meter_model.specs.ClosedTrip.{roaming_entered}
 use Rattle.meter_model.specs.Meter.{Meter}
 use Rattle.meter_model.specs.Run.{ended_in}
 use Rattle.meter_model.specs.Setting.{Setting}
@@ -19,7 +19,7 @@ use Rattle.taxi_units.specs.declared.event.Operating.TheVariants.{Off, ForHire, 
 use Rattle.totals_record.specs.declared.trip.Trip.{Trip}
 use Rattle.taxi_units.specs.Time.{IsSecond}
 use Rattle.verify_bench.specs.Bench.{AreTrips, HasTicks, IsHeldInRange, BenchStands, held_of}
-use Rattle.verify_bench.specs.Explaining.{hired_by}
+use Rattle.verify_bench.specs.TripExplanations.{hired_by}
 use Rattle.verify_bench.specs.declared.hiring.Hiring.{Hiring}
 use Rattle.verify_bench.specs.declared.bench_meter.SavedState.{SavedState}
 use Rattle.verify_bench.specs.declared.bench_meter.BenchMeter.{BenchMeter}

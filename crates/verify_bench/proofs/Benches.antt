@@ -5,7 +5,7 @@ use Rattle.std.specs.Prelude.{min, nat_le, if◌then◌else◌}
 use Rattle.std.proofs.lemmas.Bool.{le-leb, lt-leb}
 use Rattle.std.proofs.lemmas.List.{append-nil, map-append}
 use Rattle.std.proofs.lemmas.List.Elements.{filter_map-append}
-use Rattle.meter_model.specs.Closing.{closed, receipt_of, roaming_checked, roaming_entered}
+use Rattle.meter_model.specs.ClosedTrip.{closed, receipt_of, roaming_checked, roaming_entered}
 use Rattle.meter_model.specs.Display.{shown, display_of, is_shown}
 use Rattle.taxi_units.specs.declared.event.Key.{Key}
 use Rattle.taxi_units.specs.declared.event.Key.TheVariants as keys
@@ -27,13 +27,13 @@ use Rattle.taxi_units.specs.Limits.{hirings_end, last_number}
 use Rattle.taxi_units.specs.declared.event.Operating.{Operating}
 use Rattle.taxi_units.specs.declared.receipt.Display.{Display}
 use Rattle.verify_bench.specs.Bench.{AreTrips, HasTicks, IsMeterInRange, IsHiringInRange, Moves, BenchStands}
-use Rattle.verify_bench.specs.Explaining.{Explanation, explanation, explanation_of, explanations_in, hired_by, taken_of}
-use Rattle.verify_bench.specs.Explaining.{whole_of}
+use Rattle.verify_bench.specs.TripExplanations.{Explanation, explanation, explanation_of, explanations_in, hired_by, taken_of}
+use Rattle.verify_bench.specs.TripExplanations.{whole_of}
 use Rattle.taxi_units.specs.declared.receipt.Receipt as receipts
 use Rattle.verify_bench.specs.Groups.{groups_of, sums_of}
 use Rattle.verify_bench.specs.declared.explained.Group.{Group}
 use Rattle.verify_bench.specs.declared.explained.Taken.{Taken}
-use Rattle.verify_bench.proofs.Gathering.{zero_plus}
+use Rattle.verify_bench.proofs.GatheredSums.{zero_plus}
 use Rattle.totals_record.specs.Entries.{is_of_hiring}
 use Rattle.taxi_units.specs.declared.receipt.Kind.{Kind}
 use Rattle.verify_bench.specs.Hirings.{IsHiringOf}

@@ -15,10 +15,10 @@ use Rattle.taxi_units.specs.declared.event.Event.TheVariants.{Down, Pulses, Tick
 use Rattle.tariff_syntax.specs.declared.context.Context.{Context}
 use Rattle.totals_record.specs.States.{first_state}
 use Rattle.verify_bench.specs.Bench.{GoesThroughEvent, BenchStands}
-use Rattle.verify_bench.specs.Carrying.{Carries, IsAmidDrive, IsAmidExpected}
-use Rattle.verify_bench.specs.Expecting.{expected_of}
-use Rattle.verify_bench.specs.Explaining.{Explanation, explanation_of, explanations_from, explanations_of}
-use Rattle.verify_bench.specs.Explaining.{explanations_in, hired_at, trip_at}
+use Rattle.verify_bench.specs.BenchProgress.{Carries, IsAmidDrive, IsAmidExpected}
+use Rattle.verify_bench.specs.ExpectedReceipts.{expected_of}
+use Rattle.verify_bench.specs.TripExplanations.{Explanation, explanation_of, explanations_from, explanations_of}
+use Rattle.verify_bench.specs.TripExplanations.{explanations_in, hired_at, trip_at}
 use Rattle.verify_bench.specs.declared.explained.Explained.{Explained}
 use Rattle.verify_bench.specs.declared.bench_meter.BenchMeter.{BenchMeter}
 

@@ -27,8 +27,8 @@ use Rattle.verify_bench.proofs.Benches.{same_latch, same_operating}
 use Rattle.verify_bench.proofs.Explanations.{AreOf, Goes, IsReceiptOf, begun_at, none_counted, none_kept, step_goes}
 use Rattle.verify_bench.specs.ClosedTrips.{HasTrip, Hires, IsClosedTrip, Lasts, TripOf, interval_in, meter_after}
 use Rattle.verify_bench.specs.ClosedTrips.{parts_by, parts_over, rest_in}
-use Rattle.verify_bench.specs.Explaining.{Explanation, explanation, explanations_from, explanations_in, explanations_of}
-use Rattle.verify_bench.specs.Explaining.{hired_at, hired_by, trip_at}
+use Rattle.verify_bench.specs.TripExplanations.{Explanation, explanation, explanations_from, explanations_in, explanations_of}
+use Rattle.verify_bench.specs.TripExplanations.{hired_at, hired_by, trip_at}
 use Rattle.verify_bench.specs.Receipts.{receipts_in}
 use Rattle.verify_bench.specs.Wholes.{BeganIn, IsOfText, IsOfTrip, IsReceiptAmong}
 

@@ -4,7 +4,7 @@ use Rattle.std.proofs.Common.{None, refl, sym, ap, arith}
 use Rattle.std.specs.Bool.{Decides}
 use Rattle.std.specs.Prelude.{codes, slice_get, ◌&&◌}
 use Rattle.std.proofs.lemmas.Bool.Decides.{Decides-below_and}
-use Rattle.verify_bench.specs.Passing.{EachRowPasses, do_all_pass}
+use Rattle.verify_bench.specs.PassedReports.{EachRowPasses, do_all_pass}
 use Rattle.verify_bench.specs.PassingStages.{do_places_pass, does_place_pass, is_pass}
 use Rattle.verify_bench.specs.Report.{finding, verdict_word}
 use Rattle.verify_bench.specs.Verdicts.{verdict_of}

@@ -4,8 +4,8 @@ use Rattle.std.proofs.Common.{false, Bool, Option, Some, None, append_assoc}
 use Rattle.std.specs.Prelude.{nat_le, nat_lt, if◌then◌else◌}
 use Rattle.std.proofs.lemmas.List.{map-append}
 use Rattle.meter_model.proofs.Laws as states
-use Rattle.meter_model.specs.Closing.{closed, receipt_of, roaming_checked, roaming_checked_in, roaming_entered}
-use Rattle.meter_model.specs.Closing.{trip_closed}
+use Rattle.meter_model.specs.ClosedTrip.{closed, receipt_of, roaming_checked, roaming_checked_in, roaming_entered}
+use Rattle.meter_model.specs.ClosedTrip.{trip_closed}
 use Rattle.meter_model.specs.Display.{display_of, is_shown, shown}
 use Rattle.meter_model.specs.Interval.{context_now, counted_in, interval_begun, interval_counted, interval_left}
 use Rattle.meter_model.specs.Interval.{left_in, pulses_taken, room_of, ticks_so_far, context_of, with_interval}
@@ -43,8 +43,8 @@ use Rattle.totals_record.specs.States.{first_state}
 use Rattle.totals_record.specs.declared.trip.Trip.{Trip}
 use Rattle.verify_bench.proofs.Benches.{hired_after}
 use Rattle.verify_bench.proofs.TreeParts.{supplement_of_text}
-use Rattle.verify_bench.specs.Explaining.{Explanation, explanation, explanations_from, explanations_in, explanations_of}
-use Rattle.verify_bench.specs.Explaining.{hired_at, hired_by, trip_at}
+use Rattle.verify_bench.specs.TripExplanations.{Explanation, explanation, explanations_from, explanations_in, explanations_of}
+use Rattle.verify_bench.specs.TripExplanations.{hired_at, hired_by, trip_at}
 use Rattle.verify_bench.specs.Receipts.{receipt_in, receipts_in}
 use Rattle.verify_bench.specs.Wholes.{IsOfText}
 

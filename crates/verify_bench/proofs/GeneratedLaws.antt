@@ -7,7 +7,7 @@ use Rattle.drive_text.specs.Ranges.{IsRunInRange}
 use Rattle.drive_text.specs.declared.run.Run.TheVariants.{One}
 use Rattle.taxi_units.specs.declared.event.Event.TheVariants.{Up}
 use Rattle.verify_bench.specs.Generated.{beginning, generated, generated_lines, line_text, lines_text, trips_from}
-use Rattle.verify_bench.specs.Adding.{lines_events}
+use Rattle.verify_bench.specs.AddedText.{lines_events}
 use Rattle.verify_bench.proofs.LinesRead.{lines_read, nothing_reads}
 use Rattle.verify_bench.proofs.Lines.{first_is_short}
 use Rattle.verify_bench.proofs.Ranged.{trips_in_range}

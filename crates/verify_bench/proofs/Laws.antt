@@ -12,11 +12,11 @@ use Rattle.tariff_check.specs.SoundTariff.{sound_of}
 use Rattle.tariff_syntax.specs.Tree.{Tree}
 use Rattle.taxi_units.specs.declared.event.Event.{Event}
 use Rattle.totals_record.specs.States.{first_state}
-use Rattle.verify_bench.specs.Expecting.{expected_of, hirings_in, untimed}
-use Rattle.verify_bench.specs.Explaining.{Explanation, explanations_of}
+use Rattle.verify_bench.specs.ExpectedReceipts.{expected_of, hirings_in, untimed}
+use Rattle.verify_bench.specs.TripExplanations.{Explanation, explanations_of}
 use Rattle.verify_bench.specs.Generated.{generated, generated_lines}
 use Rattle.verify_bench.specs.Groups.{way_by}
-use Rattle.verify_bench.specs.Passing.{EachRowPasses, do_all_pass}
+use Rattle.verify_bench.specs.PassedReports.{EachRowPasses, do_all_pass}
 use Rattle.verify_bench.specs.Readings.{IsReadAs, readings_in}
 use Rattle.verify_bench.specs.Verdicts.{IsVerdict, verdict_of}
 use Rattle.verify_bench.specs.Receipts.{receipts_in}

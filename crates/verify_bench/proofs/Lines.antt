@@ -12,7 +12,7 @@ use Rattle.taxi_units.specs.declared.event.Event.{Event}
 use Rattle.taxi_units.specs.declared.event.Event.TheVariants.{Up}
 use Rattle.taxi_units.proofs.Laws as units
 use Rattle.verify_bench.specs.Generated.{line_text, lines_text}
-use Rattle.verify_bench.specs.Adding.{lines_events}
+use Rattle.verify_bench.specs.AddedText.{lines_events}
 
 -- a number below a power of ten, and one byte behind it
 number_line : (places value : ℕ) (byte : ℕ) → 0 < places → places ≤ 64 → value < 10 ^ places

@@ -20,7 +20,7 @@ use Rattle.tariff_syntax.specs.Meaning.{rate_place}
 use Rattle.tariff_syntax.specs.Tree.{Tree}
 use Rattle.tariff_syntax.specs.declared.context.Context.{Context}
 use Rattle.taxi_units.specs.declared.event.Event.{Event}
-use Rattle.verify_bench.specs.Explaining.{Explanation, explanations_of, taken_if, taken_of}
+use Rattle.verify_bench.specs.TripExplanations.{Explanation, explanations_of, taken_if, taken_of}
 use Rattle.verify_bench.specs.Groups.{group_if, groups_at, groups_from, is_charged_by, is_in_stopped, is_rest}
 use Rattle.verify_bench.specs.Groups.{is_same_way, rate_place_of, rate_sums, sums_of, way_by, way_of}
 use Rattle.verify_bench.specs.Wholes.{ArePartsTheWhole, IsOfTrip, MakesReceipt, charge_in_way}

@@ -10,7 +10,7 @@ use Rattle.meter_model.specs.Step.{step}
 use Rattle.meter_model.specs.declared.act.Act.{Act}
 use Rattle.taxi_units.specs.declared.event.Event.{Event}
 use Rattle.totals_record.specs.States.{first_state}
-use Rattle.verify_bench.specs.Expecting.{expected_of, hiring_of, hirings_from, hirings_in, ticks_at, untimed}
+use Rattle.verify_bench.specs.ExpectedReceipts.{expected_of, hiring_of, hirings_from, hirings_in, ticks_at, untimed}
 use Rattle.verify_bench.specs.declared.expected.Expected.{Expected}
 use Rattle.verify_bench.specs.Receipts.{receipts_in}
 use Rattle.verify_bench.proofs.Benches.{of_receipts-append}

@@ -19,7 +19,7 @@ use Rattle.tariff_syntax.specs.Tree.{Tree}
 use Rattle.tariff_syntax.specs.declared.context.Context.{Context}
 use Rattle.taxi_units.specs.declared.event.Event.{Event}
 use Rattle.verify_bench.specs.ClosedTrips.{hiring_meter}
-use Rattle.verify_bench.specs.Explaining.{Explanation, explanations_of}
+use Rattle.verify_bench.specs.TripExplanations.{Explanation, explanations_of}
 use Rattle.verify_bench.specs.Fees.{fees_of_hiring, line_at_place}
 use Rattle.verify_bench.specs.Wholes.{HasFees, HasMinimum, IsInForce, IsOfTrip}
 use Rattle.verify_bench.proofs.DriveTrips.{explained_are_of_trips}

@@ -16,7 +16,7 @@ use Rattle.tariff_check.specs.SoundTariff.{Choice, SoundTariff, lines_of, sound_
 use Rattle.tariff_syntax.specs.Tree.{Tree}
 use Rattle.tariff_syntax.specs.declared.context.Context.{Context}
 use Rattle.taxi_units.specs.declared.event.Event.{Event}
-use Rattle.verify_bench.specs.Explaining.{Explanation, explanations_of}
+use Rattle.verify_bench.specs.TripExplanations.{Explanation, explanations_of}
 use Rattle.verify_bench.specs.Groups.{group_if, groups_at, groups_from, is_charged_by, is_same_way, rate_place_of}
 use Rattle.verify_bench.specs.Groups.{rate_sums, way_by, way_of}
 use Rattle.verify_bench.specs.Wholes.{HasGroups, IsGroupOf, IsOfTrip, WasCharged, charge_in_way}

@@ -3,7 +3,7 @@ use Rattle.std.proofs.Common.{◌≡◌, ℕ, zero, suc, ◌+◌, ◌-◌, ◌<�
 use Rattle.std.proofs.Math.Seq.{drop-length}
 use Rattle.arrayvec.specs.ArrayVec.{array_vec_len}
 use Rattle.drive_text.specs.Written.{event_fields}
-use Rattle.verify_bench.specs.Adding.{place_of, lines_events}
+use Rattle.verify_bench.specs.AddedText.{place_of, lines_events}
 use Rattle.verify_bench.specs.Generated.{Place, and_then, beginning, generated_lines, in_turn, line_text, lines_text}
 use Rattle.verify_bench.specs.Generated.{trip, trips_from}
 use Rattle.verify_bench.specs.Left.{bytes_left}

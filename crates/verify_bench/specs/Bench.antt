@@ -16,7 +16,7 @@ use Rattle.taxi_units.specs.declared.event.Event.{Event}
 use Rattle.taxi_units.specs.declared.event.Key.{Key}
 use Rattle.taxi_units.specs.declared.event.Operating.TheVariants.{ForHire}
 use Rattle.totals_record.specs.declared.trip.Trip.{Trip}
-use Rattle.verify_bench.specs.Explaining.{explanation_of, explanations_in, hired_at, hired_by, trip_at}
+use Rattle.verify_bench.specs.TripExplanations.{explanation_of, explanations_in, hired_at, hired_by, trip_at}
 use Rattle.verify_bench.specs.Hirings.{IsHiringOf, IsWhole}
 use Rattle.verify_bench.specs.declared.explained.Explained.{Explained}
 use Rattle.verify_bench.specs.declared.hiring.Hiring.{Hiring}

@@ -1,4 +1,4 @@
--- By law: whether every row of a report passes, as a test of place after place. Passing says in which reports it
+-- By law: whether every row of a report passes, as a test of place after place. PassedReports says in which reports it
 -- does, by the law `readings_pass_where_each_row_does`.
 use Rattle.std.specs.Prelude.{ℕ, zero, suc, Bool, true, false, ◌&&◌, List, length, max, Option, Some, None, slice_get}
 use Rattle.verify_bench.specs.VerdictStages.{verdict_of}

@@ -3,7 +3,7 @@ use Rattle.std.specs.Prelude.{◌≡◌, ◌↔◌, ◌⊎◌, ℕ, ◌+◌, ◌
 use Rattle.std.specs.List.{slice_get}
 use Rattle.drive_modes.specs.Fare.{shown_fare, steps_above}
 use Rattle.meter_model.specs.Charge.{distance_charge, time_charge}
-use Rattle.meter_model.specs.Closing.{receipt_of}
+use Rattle.meter_model.specs.ClosedTrip.{receipt_of}
 use Rattle.meter_model.specs.Interval.{context_now}
 use Rattle.meter_model.specs.KeptTrip.{IsSupplementNumber}
 use Rattle.meter_model.specs.Setting.{Setting, rounding_of, unit_of}
@@ -23,7 +23,7 @@ use Rattle.taxi_units.specs.declared.event.Event.{Event}
 use Rattle.taxi_units.specs.declared.receipt.Kind.{Kind}
 use Rattle.taxi_units.specs.declared.receipt.Receipt.{Receipt}
 use Rattle.verify_bench.specs.ClosedTrips.{IsClosedTrip, TripOf, closing_meter, hiring_meter}
-use Rattle.verify_bench.specs.Explaining.{Explanation, explanation}
+use Rattle.verify_bench.specs.TripExplanations.{Explanation, explanation}
 use Rattle.verify_bench.specs.Groups.{way_by}
 use Rattle.verify_bench.specs.Receipts.{receipts_in}
 use Rattle.verify_bench.specs.declared.explained.Group.{Group}

@@ -2,7 +2,7 @@
 #![tactic(auto, using(crate::proofs::Benches::looser))]
 
 ghost use Rattle.std.specs.Prelude.{◌≡◌, None, OnOk, true};
-ghost use Rattle.meter_model.specs.Closing.{closed, roaming_checked, roaming_entered};
+ghost use Rattle.meter_model.specs.ClosedTrip.{closed, roaming_checked, roaming_entered};
 ghost use Rattle.meter_model.specs.Interval.{context_on, interval_counted, interval_left, pulses_so_far, ticks_so_far};
 ghost use Rattle.meter_model.specs.Interval.{with_interval, with_roaming};
 ghost use Rattle.meter_model.specs.Meter.{Meter};

@@ -7,9 +7,9 @@ ghost use Rattle.meter_model.specs.Setting.{Setting};
 ghost use Rattle.tariff_syntax.specs.declared.context.Context.{Context};
 ghost use Rattle.taxi_units.specs.Time.{last_tick};
 ghost use Rattle.totals_record.specs.States.{first_state};
-ghost use Rattle.verify_bench.specs.Carrying.{Carries};
-ghost use Rattle.verify_bench.specs.Expecting.{expected_of};
-ghost use Rattle.verify_bench.specs.Explaining.{explanation_of, explanations_of};
+ghost use Rattle.verify_bench.specs.BenchProgress.{Carries};
+ghost use Rattle.verify_bench.specs.ExpectedReceipts.{expected_of};
+ghost use Rattle.verify_bench.specs.TripExplanations.{explanation_of, explanations_of};
 ghost use Rattle.verify_bench.specs.Settings.{setting_under};
 ghost use Rattle.verify_bench.specs.Shortened.{short_of};
 

@@ -10,7 +10,7 @@ ghost use Rattle.taxi_units.specs.Time.{IsSecond};
 ghost use Rattle.verify_bench.specs.Gathered.{no_sums};
 ghost use Rattle.verify_bench.specs.Hirings.{IsHiringOf};
 ghost use Rattle.verify_bench.specs.Limits.{most_charge};
-ghost use Rattle.verify_bench.specs.Pricing.{IsPriceOf};
+ghost use Rattle.verify_bench.specs.IntervalPrice.{IsPriceOf};
 
 use crate::explained::Sums;
 use crate::fees::HiringFees;

@@ -2,7 +2,7 @@
 ghost use Rattle.std.specs.Prelude.{◌≡◌, ◌*◌, ◌^◌, ◌<◌, ◌≤◌, nat_lt};
 ghost use Rattle.tariff_check.specs.Sound.{IsSoundRate};
 ghost use Rattle.verify_bench.specs.Limits.{most_charge};
-ghost use Rattle.verify_bench.specs.Pricing.{IsPriceBy, IsPriceOf};
+ghost use Rattle.verify_bench.specs.IntervalPrice.{IsPriceBy, IsPriceOf};
 ghost use Rattle.verify_bench.specs.Settings.{setting_under};
 
 use crate::explained::Way;

@@ -5,7 +5,7 @@ ghost use Rattle.taxi_units.specs.Number.{money_text};
 ghost use Rattle.csv.specs.Records.{fields_of};
 ghost use Rattle.csv.specs.Writing.{default_writer, row_text};
 ghost use Rattle.verify_bench.specs.Report.{kind_word, kind_or_none, amount_or_none, finding, report_header, report_text, row_at};
-ghost use Rattle.verify_bench.specs.Writing.{HasRows, IsRow};
+ghost use Rattle.verify_bench.specs.CsvWriter.{HasRows, IsRow};
 
 use crate::expected::Expected;
 use crate::judging::{Verdict, judge};

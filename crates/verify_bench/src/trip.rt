@@ -5,7 +5,7 @@ use crate::writing::Writing;
 use taxi_units::{Event, Key};
 
 impl Writing {
-    ghost use Rattle.verify_bench.specs.Adding.{Adds, HasRoom, place_of};
+    ghost use Rattle.verify_bench.specs.AddedText.{Adds, HasRoom, place_of};
 
     /// Writes a trip.
     pub(crate) fn put_trip(&mut self)

@@ -5,7 +5,7 @@ ghost use Rattle.drive_text.specs.Ranges.{IsInRange};
 ghost use Rattle.drive_text.specs.declared.run.Run.TheVariants.{One, Many};
 ghost use Rattle.taxi_units.specs.declared.event.Event.TheVariants.{Up};
 ghost use Rattle.verify_bench.specs.Generated.{beginning, clock_read, intervals, key_pressed, line, line_text, next_state, second_of, value};
-ghost use Rattle.verify_bench.specs.Adding.{lines_events};
+ghost use Rattle.verify_bench.specs.AddedText.{lines_events};
 
 use drive_text::put_event;
 use taxi_units::{Event, Key, Line, push_bytes, push_number};
@@ -24,7 +24,7 @@ pub(crate) struct Writing {
 }
 
 impl Writing {
-    ghost use Rattle.verify_bench.specs.Adding.{Adds, HasRoom, place_of};
+    ghost use Rattle.verify_bench.specs.AddedText.{Adds, HasRoom, place_of};
     ghost use Rattle.drive_text.specs.Ranges.{IsKeyInRange};
 
     /// The writing at the beginning of the drive, with nothing written.

@@ -5,7 +5,7 @@ use Rattle.meter_model.specs.Run.{opened, run}
 use Rattle.totals_record.specs.States.{first_state}
 use Rattle.meter_run.specs.Texts.{shown_texts}
 use Rattle.meter_run.proofs.Laws.{begins, ready_first}
-use Rattle.pocket_meter.proofs.Carrying.{fails_behind, printed_more, stands_more}
+use Rattle.pocket_meter.proofs.CarriedEvents.{fails_behind, printed_more, stands_more}
 use Rattle.pocket_meter.proofs.carry_all.Goals as goal
 
 pub loop-event-init : goal.loop-event-init

@@ -11,7 +11,7 @@ use Rattle.pocket_meter.proofs.carry_all.Given as goal
 abbrev pub invariant-loop-event : goal.invariant-loop-event
 invariant-loop-event g l = record {
   ready : IsMeterReady l.made.0 l.made.1 l.meter.core l.meter.durable;
-  stands : (s : Setting) → IsSettingOf s l.made.0 l.made.1 → StandsWith s l.meter.core.plain l.meter.durable
+  stands : (s : Setting) → IsSettingOf s l.made.0 l.made.1 → StandsWith s l.meter.core.state l.meter.durable
       (run s (take l.event-index l.events) (opened s first_state)).next;
   printed : (s : Setting) → IsSettingOf s l.made.0 l.made.1 → l.panel.text.items
       ≡ l.fn.panel.text.items ++ shown_texts (run s (take l.event-index l.events) (opened s first_state)).acts;

@@ -4,7 +4,7 @@ use Rattle.outside.proofs.Laws.{begins_whole, keeps_then, on_failed}
 use Rattle.seal_record.specs.declared.seal.Seal.{Seal}
 use Rattle.totals_record.specs.declared.durable_state.Durable.{Durable}
 use Rattle.data_port.specs.declared.request.Request.{Request}
-use Rattle.data_port.specs.Serving.{replies}
+use Rattle.data_port.specs.ServedStream.{replies}
 use Rattle.data_port.proofs.Causes.{steps_within}
 use Rattle.data_port.proofs.Pieces.{begun_one, printed_one}
 use Rattle.data_port.proofs.serving.print_replies.Goals as goal

@@ -6,7 +6,7 @@ use Rattle.drive_commands.specs.Explain.{explain_command}
 use Rattle.drive_commands.specs.ExplainSteps.{HasExplained}
 use Rattle.call_ends.proofs.Laws.{board_not_read, done_not_read, cause_board, cause_done, carries-kept}
 use Rattle.call_ends.proofs.Laws.{course-unprinted, no_fault, same_fault, course-begun, course-shown}
-use Rattle.drive_commands.proofs.Explaining.{explained_pieces, explained_shown}
+use Rattle.drive_commands.proofs.ExplainAnswers.{explained_pieces, explained_shown}
 use Rattle.drive_commands.proofs.explain.explain.Goals as goal
 
 -- there is nothing to explain

@@ -9,7 +9,7 @@ use Rattle.outside.specs.Faults.{Rose}
 use Rattle.seal_record.specs.Reading.{params_read}
 use Rattle.tariff_syntax.specs.Tree.{tree_of}
 use Rattle.taxi_units.specs.declared.event.Event.{Event}
-use Rattle.verify_bench.specs.Explaining.{explanations_of}
+use Rattle.verify_bench.specs.TripExplanations.{explanations_of}
 use Rattle.drive_commands.specs.BenchSteps.{IsNoDrive, IsWholeDrive, ended_for_drive}
 use Rattle.call_ends.specs.Ending.{EndsUnprinted, ended_for}
 use Rattle.store_commands.specs.StoreEnds.{ended_for_params}
@@ -22,11 +22,11 @@ use Rattle.store_commands.specs.declared.params.ParamsFault.TheVariants as param
 use Rattle.call_ends.specs.declared.tariff.TextFault.TheVariants as texts
 use Rattle.drive_commands.specs.declared.whole_drive.DriveFault.TheVariants as drives
 use Rattle.call_ends.proofs.Laws.{ends_apart, read_fault-text, stops_by, no_fault, same_fault}
-use Rattle.drive_commands.proofs.Explaining.{behind_drive, behind_params, course-lacking, course-no_drive}
-use Rattle.drive_commands.proofs.Explaining.{course-no_params, course-no_tariff, each_read, setting_is}
+use Rattle.drive_commands.proofs.ExplainAnswers.{behind_drive, behind_params, course-lacking, course-no_drive}
+use Rattle.drive_commands.proofs.ExplainAnswers.{course-no_params, course-no_tariff, each_read, setting_is}
 use Rattle.store_commands.proofs.Laws.{not_board-params, read_fault-params}
-use Rattle.drive_commands.proofs.Faring.{begins_going}
-use Rattle.drive_commands.proofs.Judging.{not_board-drive, read_fault-drive}
+use Rattle.drive_commands.proofs.TariffDrives.{begins_going}
+use Rattle.drive_commands.proofs.JudgedReadings.{not_board-drive, read_fault-drive}
 use Rattle.drive_commands.proofs.explain.explanation.Goals as goal
 
 two-one : ◌≢◌ {A = ℕ} 2 1

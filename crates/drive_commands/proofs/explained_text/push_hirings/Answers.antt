@@ -1,5 +1,5 @@
 use Rattle.std.proofs.Common.{◌∙◌, ◌+◌, ◌++◌, ap, map, arith}
-use Rattle.verify_bench.specs.Explaining.{explanation_of}
+use Rattle.verify_bench.specs.TripExplanations.{explanation_of}
 use Rattle.verify_bench.specs.declared.explained.Explained.{Explained}
 use Rattle.drive_commands.specs.ExplainedText.{hiring_text, hirings_text}
 use Rattle.drive_commands.proofs.ExplainedHirings.{hiring_more, hirings_all}

@@ -1,5 +1,5 @@
 use Rattle.std.proofs.Common.{◌≡◌, ◌+◌, ◌≤◌, ◌++◌, drop, map}
-use Rattle.verify_bench.specs.Explaining.{explanation_of}
+use Rattle.verify_bench.specs.TripExplanations.{explanation_of}
 use Rattle.drive_commands.specs.ExplainedText.{hirings_text}
 use Rattle.drive_commands.proofs.explained_text.push_hirings.Given as goal
 

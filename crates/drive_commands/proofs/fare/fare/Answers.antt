@@ -11,8 +11,8 @@ use Rattle.call_ends.proofs.Laws.{read_fault-text, stops_by, unless_read, no_fau
 use Rattle.call_ends.proofs.Laws.{course-refused}
 use Rattle.drive_commands.specs.Fare.{fare_command, setting_of}
 use Rattle.call_ends.specs.Tariffs.{tariff_in}
-use Rattle.drive_commands.proofs.Faring.{begins_going, course-ran, shows_nothing, board_fault-ran, refused-fare}
-use Rattle.drive_commands.proofs.Faring.{read_fault-ran}
+use Rattle.drive_commands.proofs.TariffDrives.{begins_going, course-ran, shows_nothing, board_fault-ran, refused-fare}
+use Rattle.drive_commands.proofs.TariffDrives.{read_fault-ran}
 use Rattle.drive_commands.proofs.fare.fare.Goals as goal
 
 two-one : (n : ℕ) → n ≡ 2 → n ≢ 1

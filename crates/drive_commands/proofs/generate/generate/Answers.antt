@@ -1,6 +1,6 @@
 use Rattle.std.proofs.Common.{◌≡◌, ◌∙◌, ◌<◌, ℕ, List, ◌++◌, length, Ok, Err, refl, sym, ap, subst, arith, rules}
 use Rattle.std.specs.Prelude.{is_err}
-use Rattle.outside.specs.Printing.{Begins}
+use Rattle.outside.specs.PrintedText.{Begins}
 use Rattle.tariff_compile.specs.Tables.{tables_of}
 use Rattle.outside.proofs.Laws.{keeps_none, keeps_print}
 use Rattle.call_ends.specs.Carried.{no_files}
@@ -9,7 +9,7 @@ use Rattle.drive_commands.specs.Generate.{gen_command, generated_setting, genera
 use Rattle.call_ends.specs.Tariffs.{tariff_in}
 use Rattle.call_ends.proofs.Laws.{board_not_read, done_not_read, cause_board, cause_done, carries-kept}
 use Rattle.call_ends.proofs.Laws.{course-unprinted}
-use Rattle.drive_commands.proofs.Generating.{course-gen, course-gen_begun, course-gen_refused, setting_is, text_is}
+use Rattle.drive_commands.proofs.GenDrive.{course-gen, course-gen_begun, course-gen_refused, setting_is, text_is}
 use Rattle.drive_commands.proofs.generate.generate.Goals as goal
 
 pub returns-in-Err : goal.returns-in-Err

@@ -8,8 +8,8 @@ use Rattle.totals_record.specs.States.{first_state}
 use Rattle.meter_run.specs.Runs.{OpensWith}
 use Rattle.drive_commands.specs.Generate.{state_after}
 use Rattle.call_ends.proofs.Laws.{not_some, no_fault}
-use Rattle.drive_commands.proofs.Faring.{left-whole}
-use Rattle.drive_commands.proofs.Generating.{not_failed, whole_bound}
+use Rattle.drive_commands.proofs.TariffDrives.{left-whole}
+use Rattle.drive_commands.proofs.GenDrive.{not_failed, whole_bound}
 use Rattle.drive_commands.proofs.generate.run_afresh.Goals as goal
 
 -- ---- the store wasn't sealed

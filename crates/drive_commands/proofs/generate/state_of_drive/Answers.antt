@@ -7,7 +7,7 @@ use Rattle.verify_bench.specs.Generated.{generated}
 use Rattle.drive_commands.specs.Generate.{state_after}
 use Rattle.slot_store.proofs.Laws.{zeros_are_blank}
 use Rattle.verify_bench.proofs.Laws.{generated_drives_mean_their_lines-good, generated_drives_mean_their_lines-short}
-use Rattle.drive_commands.proofs.Generating.{never_rose, same_some, whole_drive}
+use Rattle.drive_commands.proofs.GenDrive.{never_rose, same_some, whole_drive}
 use Rattle.drive_commands.proofs.generate.state_of_drive.Goals as goal
 
 pub run_afresh-requires-clause-blank : goal.run_afresh-requires-clause-blank

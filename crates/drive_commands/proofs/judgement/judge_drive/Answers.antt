@@ -7,8 +7,8 @@ use Rattle.call_ends.specs.declared.ending.Ended.{Ended}
 use Rattle.call_ends.specs.declared.ending.Ended.TheVariants as ended
 use Rattle.drive_commands.specs.declared.whole_drive.DriveFault.TheVariants as drives
 use Rattle.call_ends.proofs.Laws.{ends_apart, same_fault, no_fault}
-use Rattle.drive_commands.proofs.Judging.{no_readings-as, not_board-drive, not_judged-drive, not_judged-memory}
-use Rattle.drive_commands.proofs.Judging.{not_judged-readings, read_fault-drive}
+use Rattle.drive_commands.proofs.JudgedReadings.{no_readings-as, not_board-drive, not_judged-drive, not_judged-memory}
+use Rattle.drive_commands.proofs.JudgedReadings.{not_judged-readings, read_fault-drive}
 use Rattle.store_commands.proofs.Laws.{first_alone, first_then}
 use Rattle.drive_commands.proofs.judgement.judge_drive.Goals as goal
 

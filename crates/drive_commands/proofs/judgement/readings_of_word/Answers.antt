@@ -6,7 +6,7 @@ use Rattle.verify_bench.specs.declared.reading.ReadingsFault.TheVariants.{TooLon
 use Rattle.drive_commands.specs.Bench.{ended_for_readings}
 use Rattle.drive_commands.specs.BenchSteps.{IsNoReadings}
 use Rattle.call_ends.specs.declared.ending.Ended.{Ended}
-use Rattle.drive_commands.proofs.Judging.{no_readings, readings_found}
+use Rattle.drive_commands.proofs.JudgedReadings.{no_readings, readings_found}
 use Rattle.call_ends.proofs.Laws.{same_fault}
 use Rattle.drive_commands.proofs.judgement.readings_of_word.Goals as goal
 

@@ -8,7 +8,7 @@ use Rattle.call_ends.specs.declared.ending.Ended.TheVariants as ended
 use Rattle.drive_commands.specs.Run.{does_hold_fit}
 use Rattle.call_ends.proofs.Laws.{ends_apart, as_found, as_refused, no_fault, same_fault}
 use Rattle.store_commands.proofs.Laws.{opens-barred, opens-behind}
-use Rattle.drive_commands.proofs.Starting.{has_begun, not_begun-barred, not_begun-tables, not_begun-trip}
+use Rattle.drive_commands.proofs.RunStarts.{has_begun, not_begun-barred, not_begun-tables, not_begun-trip}
 use Rattle.drive_commands.proofs.run.begin.Goals as goal
 
 -- ---- there is no sealed store

@@ -10,10 +10,10 @@ use Rattle.call_ends.specs.declared.ending.Ended.TheVariants as ended
 use Rattle.call_ends.specs.LastLine.{status_of}
 use Rattle.drive_commands.specs.Run.{run_command, setting_in, tables_in}
 use Rattle.drive_commands.specs.RunSteps.{RunReachesLine}
-use Rattle.drive_commands.proofs.Faring.{begins_going, board_fault-ran, read_fault-ran}
+use Rattle.drive_commands.proofs.TariffDrives.{begins_going, board_fault-ran, read_fault-ran}
 use Rattle.call_ends.proofs.Laws.{stops_at, no_fault, same_fault, bytes-read}
 use Rattle.drive_commands.proofs.RunEnds.{ran-comes, ran-writes}
-use Rattle.drive_commands.proofs.Running.{course-not_begun}
+use Rattle.drive_commands.proofs.RunAnswers.{course-not_begun}
 use Rattle.drive_commands.proofs.run.run.Goals as goal
 
 two-one : (n : ℕ) → n ≡ 2 → n ≢ 1

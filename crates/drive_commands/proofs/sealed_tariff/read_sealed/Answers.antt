@@ -7,7 +7,7 @@ use Rattle.tariff_syntax.specs.Tree.{tree_of}
 use Rattle.drive_commands.specs.Run.{sealed_tariff}
 use Rattle.drive_commands.specs.RunSteps.{AreNoTables}
 use Rattle.call_ends.proofs.Laws.{same_fault}
-use Rattle.drive_commands.proofs.Starting.{no_tables-as, no_tables-read, text-not_board, text-read_fault}
+use Rattle.drive_commands.proofs.RunStarts.{no_tables-as, no_tables-read, text-not_board, text-read_fault}
 use Rattle.drive_commands.proofs.sealed_tariff.read_sealed.Goals as goal
 
 pub returns-in-Err-clause-refused : goal.returns-in-Err-clause-refused

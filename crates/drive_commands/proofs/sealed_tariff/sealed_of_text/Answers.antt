@@ -9,7 +9,7 @@ use Rattle.drive_commands.specs.Run.{accepted, sealed_tariff}
 use Rattle.drive_commands.specs.RunSteps.{AreNoTables}
 use Rattle.call_ends.specs.Tariffs.{tariff_in}
 use Rattle.call_ends.proofs.Laws.{same_fault}
-use Rattle.drive_commands.proofs.Starting.{no_tables-made, tariff-accepted, tariff-wrong}
+use Rattle.drive_commands.proofs.RunStarts.{no_tables-made, tariff-accepted, tariff-wrong}
 use Rattle.drive_commands.proofs.sealed_tariff.sealed_of_text.Goals as goal
 
 pub returns-then-is_sealed-clause-found : goal.returns-then-is_sealed-clause-found

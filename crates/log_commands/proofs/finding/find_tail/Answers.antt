@@ -7,7 +7,7 @@ use Rattle.log_commands.specs.LogScan.{IsBroken, IsLowestBad}
 use Rattle.log_commands.specs.Record.{Record}
 use Rattle.log_commands.specs.declared.scanning.ScanFault.TheVariants.{BadSlot}
 use Rattle.log_commands.proofs.NewestFound.{fault_known, same_fault}
-use Rattle.log_commands.proofs.Readings.{reads_sync, reads_then, synced_by}
+use Rattle.log_commands.proofs.ReadOnlyCalls.{reads_sync, reads_then, synced_by}
 use Rattle.log_commands.proofs.finding.find_tail.Goals as goal
 
 pub returns-in_err-sync-clause-synced : goal.returns-in_err-sync-clause-synced

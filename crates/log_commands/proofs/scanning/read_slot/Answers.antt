@@ -1,4 +1,4 @@
-use Rattle.log_commands.proofs.Readings.{reads_once}
+use Rattle.log_commands.proofs.ReadOnlyCalls.{reads_once}
 use Rattle.log_commands.proofs.Scans.{content_read}
 use Rattle.log_commands.proofs.scanning.read_slot.Goals as goal
 

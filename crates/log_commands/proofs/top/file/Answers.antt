@@ -12,7 +12,7 @@ use Rattle.log_commands.proofs.CallEnds.{reaches_end, reaches_failed, reaches_un
 use Rattle.log_commands.proofs.EndCases.{fault_has, fault_writes, filing_files, filing_no_board, filing_read}
 use Rattle.log_commands.proofs.EndCases.{filing_reads, filing_writes, found_sync, unread_board, unread_files}
 use Rattle.log_commands.proofs.EndCases.{unread_no_read, unread_sync}
-use Rattle.log_commands.proofs.Finishing.{search_read}
+use Rattle.log_commands.proofs.LastLines.{search_read}
 use Rattle.log_commands.proofs.NewestFound.{same_fault}
 use Rattle.log_commands.proofs.top.file.Given as given
 use Rattle.log_commands.proofs.top.file.Goals as goal

@@ -6,8 +6,8 @@ use Rattle.log_commands.specs.Words.{call_of}
 use Rattle.log_commands.specs.declared.words.Call.{Call}
 use Rattle.log_commands.proofs.Causes.{may_rise_for}
 use Rattle.log_commands.proofs.EndCases.{few_are_fewer}
-use Rattle.log_commands.proofs.Finishing.{call_again, call_told, call_whole, fault_finished, has_finished, search_told}
-use Rattle.log_commands.proofs.Finishing.{reads_finished, writes_before}
+use Rattle.log_commands.proofs.LastLines.{call_again, call_told, call_whole, fault_finished, has_finished, search_told}
+use Rattle.log_commands.proofs.LastLines.{reads_finished, writes_before}
 use Rattle.log_commands.proofs.top.keep_log.Given as given
 use Rattle.log_commands.proofs.top.keep_log.Goals as goal
 

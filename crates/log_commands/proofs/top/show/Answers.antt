@@ -11,7 +11,7 @@ use Rattle.log_commands.proofs.Causes.{rises_for, rises_ok, rose_later}
 use Rattle.log_commands.proofs.CallEnds.{reaches_cut, reaches_shown, reaches_unread}
 use Rattle.log_commands.proofs.Counted.{found_shown}
 use Rattle.log_commands.proofs.EndCases.{found_same, unread_board, unread_no_read, unread_shows, unread_sync}
-use Rattle.log_commands.proofs.Finishing.{search_keeps, search_read}
+use Rattle.log_commands.proofs.LastLines.{search_keeps, search_read}
 use Rattle.log_commands.proofs.NewestFound.{same_fault}
 use Rattle.log_commands.proofs.top.show.Given as given
 use Rattle.log_commands.proofs.top.show.Goals as goal

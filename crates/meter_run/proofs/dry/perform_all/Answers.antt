@@ -4,8 +4,8 @@ use Rattle.outside.proofs.Laws.{keeps_none, keeps_then}
 use Rattle.meter_model.specs.declared.act.Act.{Act}
 use Rattle.meter_run.specs.Commits.{after_acts}
 use Rattle.meter_run.specs.Texts.{shown_texts}
-use Rattle.meter_run.proofs.Going.{not_ok, went_well, went_wrong, true_is}
-use Rattle.meter_run.proofs.Performing.{are_after, are_at, after_more, begins_at, begins_end, printed_more}
+use Rattle.meter_run.proofs.EventLists.{not_ok, went_well, went_wrong, true_is}
+use Rattle.meter_run.proofs.CarriedActs.{are_after, are_at, after_more, begins_at, begins_end, printed_more}
 use Rattle.meter_run.proofs.dry.perform_all.Goals as goal
 
 pub perform-requires : goal.perform-requires

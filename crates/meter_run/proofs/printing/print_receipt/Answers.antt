@@ -1,7 +1,7 @@
 use Rattle.std.proofs.Common.{◌≤◌, ◌<◌, List, ℕ, ap, arith, length, subst, sym}
 use Rattle.receipt_text.specs.Receipts.{receipt_text}
 use Rattle.receipt_text.specs.SealParts.{part_of_seal}
-use Rattle.meter_run.specs.Printing.{PrintsText}
+use Rattle.meter_run.specs.PrintedText.{PrintsText}
 use Rattle.meter_run.proofs.Lines.{has_text, receipt_few, receipt_some}
 use Rattle.meter_run.proofs.printing.print_receipt.Goals as goal
 

@@ -8,9 +8,9 @@ use Rattle.totals_record.specs.Reading.{reads}
 use Rattle.meter_store.specs.Stored.{HoldsState, state_number_of}
 use Rattle.totals_record.specs.declared.durable_state.Durable.{Durable}
 use Rattle.meter_run.specs.declared.stored.Known.{Known}
-use Rattle.meter_run.proofs.Finding.{answers, bad_body, found_is, no_fault, not_blank, same_number}
-use Rattle.meter_run.proofs.Going.{went_well}
-use Rattle.meter_run.proofs.Leaves.{beside_scan, scan_point}
+use Rattle.meter_run.proofs.SettledScans.{answers, bad_body, found_is, no_fault, not_blank, same_number}
+use Rattle.meter_run.proofs.EventLists.{went_well}
+use Rattle.meter_run.proofs.BoardDeeds.{beside_scan, scan_point}
 use Rattle.meter_run.proofs.reading.read_store.Goals as goal
 
 nothing_found : (P : Known → Type 0) → ForSome None P

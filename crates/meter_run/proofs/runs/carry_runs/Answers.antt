@@ -3,8 +3,8 @@ use Rattle.std.proofs.lemmas.List.{take_all}
 use Rattle.drive_text.specs.Runs.{run_events}
 use Rattle.drive_text.specs.declared.run.Run.{Run}
 use Rattle.meter_run.specs.Drives.{IsBounded}
-use Rattle.meter_run.proofs.Going.{runs_carried, runs_broken, bounded_run, bounded_at_run, counts_more, no_more, not_ok}
-use Rattle.meter_run.proofs.Going.{on_err, went_well, went_wrong, true_is}
+use Rattle.meter_run.proofs.EventLists.{runs_carried, runs_broken, bounded_run, bounded_at_run, counts_more, no_more, not_ok}
+use Rattle.meter_run.proofs.EventLists.{on_err, went_well, went_wrong, true_is}
 use Rattle.meter_run.proofs.runs.carry_runs.Goals as goal
 
 pub loop-run-preserved : goal.loop-run-preserved

@@ -8,10 +8,10 @@ use Rattle.meter_model.specs.declared.act.Act.{Act}
 use Rattle.meter_model.specs.declared.act.Act.TheVariants.{Enter, Hold}
 use Rattle.meter_run.specs.Commits.{after_act, IsFor}
 use Rattle.meter_run.specs.Deeds.{Does, act_text}
-use Rattle.meter_run.proofs.Committing.{fits_after}
-use Rattle.meter_run.proofs.Going.{on_ok}
-use Rattle.meter_run.proofs.Leaves.{agrees_kept, beside_kept, print_point}
-use Rattle.meter_run.proofs.Doing.{commit_steps, leaves_as, print_steps, prints_as, prints_none}
+use Rattle.meter_run.proofs.CommittedStates.{fits_after}
+use Rattle.meter_run.proofs.EventLists.{on_ok}
+use Rattle.meter_run.proofs.BoardDeeds.{agrees_kept, beside_kept, print_point}
+use Rattle.meter_run.proofs.ActsOnStore.{commit_steps, leaves_as, print_steps, prints_as, prints_none}
 use Rattle.meter_run.proofs.storing.do_act.Goals as goal
 
 pub returns-in-Show-clause-agrees : goal.returns-in-Show-clause-agrees

@@ -5,9 +5,9 @@ use Rattle.meter_run.specs.Commits.{after_acts}
 use Rattle.meter_run.specs.Deeds.{deeds_of, texts}
 use Rattle.meter_run.specs.StoreLaws.{beside_none, beside_then}
 use Rattle.meter_run.specs.PointLaws.{keeps_still}
-use Rattle.meter_run.proofs.Doing.{may_at, points_more, points_whole, steps_more, steps_whole, text_more}
-use Rattle.meter_run.proofs.Going.{counts_more, not_ok, went_well, went_wrong, true_is}
-use Rattle.meter_run.proofs.Performing.{are_after, are_at, after_more}
+use Rattle.meter_run.proofs.ActsOnStore.{may_at, points_more, points_whole, steps_more, steps_whole, text_more}
+use Rattle.meter_run.proofs.EventLists.{counts_more, not_ok, went_well, went_wrong, true_is}
+use Rattle.meter_run.proofs.CarriedActs.{are_after, are_at, after_more}
 use Rattle.meter_run.proofs.storing.do_acts.Goals as goal
 
 pub do_act-requires-clause-act : goal.do_act-requires-clause-act

@@ -3,7 +3,7 @@ use Rattle.std.specs.Option.{ForSome}
 use Rattle.meter_states.specs.Fits.{Fits}
 use Rattle.totals_record.specs.States.{after}
 use Rattle.totals_record.specs.declared.durable_state.Durable.{Durable}
-use Rattle.meter_run.proofs.Leaves.{beside_commit, commit_point}
+use Rattle.meter_run.proofs.BoardDeeds.{beside_commit, commit_point}
 use Rattle.meter_run.proofs.storing.store.Goals as goal
 
 pub returns-in-Ok-clause-agrees : goal.returns-in-Ok-clause-agrees

@@ -3,7 +3,7 @@ use Rattle.std.specs.Prelude.{codes}
 use Rattle.std.proofs.lemmas.Result.{on_ok_weaker}
 use Rattle.taxi_units.specs.Number.{money_text}
 use Rattle.receipt_text.specs.Receipts.{calculation_text}
-use Rattle.receipt_text.proofs.Appending.{fits_alike, lengths, too_long}
+use Rattle.receipt_text.proofs.AppendedPieces.{fits_alike, lengths, too_long}
 use Rattle.taxi_units.proofs.Laws.{appended_behind}
 use Rattle.receipt_text.proofs.calculations.put_calculation.Goals as goal
 

@@ -10,7 +10,7 @@ use Rattle.store_commands.specs.StoreEnds.{ended_for_rules}
 use Rattle.call_ends.specs.declared.ending.Ended.TheVariants as ended
 use Rattle.store_commands.specs.declared.offsets.RulesFault.TheVariants as rules
 use Rattle.store_commands.specs.Offsets.{offsets_command}
-use Rattle.store_commands.proofs.Listing.{course-lines, course-lines_begun, course-refused}
+use Rattle.store_commands.proofs.OffsetLines.{course-lines, course-lines_begun, course-refused}
 use Rattle.store_commands.proofs.offsets.print_offsets.Goals as goal
 
 -- the pairs that were made for bounds are those for the years that the bounds are

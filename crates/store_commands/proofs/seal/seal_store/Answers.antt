@@ -16,8 +16,8 @@ use Rattle.call_ends.proofs.Laws.{ends_apart, not_status, stops_at, as_found, as
 use Rattle.call_ends.proofs.Laws.{bytes-read}
 use Rattle.store_commands.proofs.Amid.{found-as, is_sealed, rests-no_seal, rests-placed, rests-refused, seals-over}
 use Rattle.store_commands.proofs.Amid.{seals-read, settled-sealed, stays_beside}
-use Rattle.store_commands.proofs.Answering.{course-barred as comes-barred_by_store, course-board}
-use Rattle.store_commands.proofs.Barring.{board_fault-store, not_read-store}
+use Rattle.store_commands.proofs.EndsByStore.{course-barred as comes-barred_by_store, course-board}
+use Rattle.store_commands.proofs.BarredEnds.{board_fault-store, not_read-store}
 use Rattle.store_commands.proofs.Sealings.{barred-fault, course-barred, course-no_seal, course-sealed, not_0-barred}
 use Rattle.store_commands.proofs.Sealings.{not_0-no_seal, not_0-store, sealing-barred, sealing-made, unread-sealing}
 use Rattle.store_commands.proofs.seal.seal_store.Goals as goal

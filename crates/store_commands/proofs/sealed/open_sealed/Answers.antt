@@ -8,7 +8,7 @@ use Rattle.call_ends.specs.declared.ending.Ended.TheVariants as ended
 use Rattle.store_commands.specs.declared.opening.StoreFault.TheVariants as stores
 use Rattle.store_commands.specs.Opening.{store_ended, store_of}
 use Rattle.call_ends.proofs.Laws.{ends_apart, no_fault, same_fault}
-use Rattle.store_commands.proofs.Barring.{board_fault-store, not_read-store}
+use Rattle.store_commands.proofs.BarredEnds.{board_fault-store, not_read-store}
 use Rattle.store_commands.proofs.ReadOnlyCalls.{unwritten-opened}
 use Rattle.store_commands.proofs.Openings.{opens-as, store_opened, sealed_found}
 use Rattle.store_commands.proofs.sealed.open_sealed.Goals as goal

@@ -3,7 +3,7 @@ use Rattle.std.proofs.Common.{w32, arith, rules}
 use Rattle.std.proofs.lemmas.Int.{to_z-of_z}
 use Rattle.std.proofs.lemmas.Result.{on_ok_weaker}
 use Rattle.outside.specs.Faults.{HasCause}
-use Rattle.outside.specs.Printing.{Begins}
+use Rattle.outside.specs.PrintedText.{Begins}
 use Rattle.outside.proofs.Laws.{keeps_print, keeps_then}
 use Rattle.offset_rules.specs.Texts.{offset_lines}
 use Rattle.seal_record.specs.PlainText.{ended_text, secured_line}

@@ -10,7 +10,7 @@ use Rattle.call_ends.specs.declared.ending.Ended.TheVariants as ended
 use Rattle.store_commands.specs.declared.shifts.ReportFault.TheVariants as reports
 use Rattle.store_commands.specs.Shifts.{shifts_answer, shifts_command}
 use Rattle.store_commands.proofs.ReadOnlyCalls.{unwritten-behind, unwritten-opened}
-use Rattle.store_commands.proofs.Shifting.{course-no_report, not_board-report, shown-steps}
+use Rattle.store_commands.proofs.ShiftReports.{course-no_report, not_board-report, shown-steps}
 use Rattle.store_commands.proofs.StoreTexts.{ends-barred, ends-begun, ends-shown}
 use Rattle.store_commands.proofs.shifts.print_shifts.Goals as goal
 

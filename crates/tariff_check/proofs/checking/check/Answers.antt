@@ -1,7 +1,7 @@
 use Rattle.std.proofs.Common.{◌≡◌, List, map, refl, subst}
 use Rattle.std.proofs.lemmas.Result.{err_from_is_err_and}
 use Rattle.tariff_check.proofs.SoundParts.{sound_parts}
-use Rattle.tariff_check.proofs.Staging.{sound_if_none}
+use Rattle.tariff_check.proofs.FaultStages.{sound_if_none}
 use Rattle.tariff_check.specs.Faults.{HasNone, faults_before_cuts}
 use Rattle.tariff_check.specs.declared.fault.CheckFault.TheVariants.{NoMemory}
 use Rattle.tariff_syntax.specs.Tree.{line_of, tree_of}

@@ -10,8 +10,8 @@ use Rattle.tariff_check.specs.Measure.{measure_of}
 use Rattle.tariff_check.specs.Stages.{cut_fault, early_fault, late_fault}
 use Rattle.tariff_check.specs.declared.fault.CheckFault.{CheckFault}
 use Rattle.tariff_check.specs.declared.fault.CheckFault.TheVariants.{TooManyCells}
-use Rattle.tariff_check.proofs.Staging.{cuts_are_first, early_is_first, early_no_memory, measured_if, none_before_cuts}
-use Rattle.tariff_check.proofs.Staging.{staged, step_is_first, step_no_memory}
+use Rattle.tariff_check.proofs.FaultStages.{cuts_are_first, early_is_first, early_no_memory, measured_if, none_before_cuts}
+use Rattle.tariff_check.proofs.FaultStages.{staged, step_is_first, step_no_memory}
 use Rattle.tariff_check.proofs.checking.numbers.Goals as goal
 
 -- if no other fault is there, too many cells are

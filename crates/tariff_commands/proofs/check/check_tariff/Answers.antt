@@ -5,7 +5,7 @@ use Rattle.call_ends.specs.declared.ending.Ended.TheVariants.{Sound}
 use Rattle.call_ends.proofs.Laws.{carries-line, fails-text, makes-read, makes-unread, not_board-text, read_fault-text}
 use Rattle.call_ends.proofs.Laws.{reads-bad, reads-ok, refuses-bad}
 use Rattle.tariff_commands.specs.Check.{check_answer}
-use Rattle.tariff_commands.proofs.Tabling.{checks, sound_answer}
+use Rattle.tariff_commands.proofs.TariffAnswers.{checks, sound_answer}
 use Rattle.tariff_commands.proofs.check.check_tariff.Goals as goal
 
 pub returns-in-Ok : goal.returns-in-Ok

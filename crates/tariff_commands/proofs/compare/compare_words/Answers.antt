@@ -8,8 +8,8 @@ use Rattle.call_ends.proofs.Laws.{ends-plain, fails-text, goes-none, goes-on, ma
 use Rattle.call_ends.proofs.Laws.{no_fault, not_board-text, read_fault-text, reads-bad, reads-ok, refuses-bad}
 use Rattle.tariff_commands.specs.Compare.{compare_answer, compare_command}
 use Rattle.tariff_commands.specs.CompareSteps.{ended_for_other}
-use Rattle.tariff_commands.proofs.Comparing.{board_other, compared_answer, compares, fails_other, plain_comparing}
-use Rattle.tariff_commands.proofs.Comparing.{read_other}
+use Rattle.tariff_commands.proofs.ComparedTariffs.{board_other, compared_answer, compares, fails_other, plain_comparing}
+use Rattle.tariff_commands.proofs.ComparedTariffs.{read_other}
 use Rattle.tariff_commands.proofs.compare.compare_words.Goals as goal
 
 -- the first tariff wasn't read

@@ -5,7 +5,7 @@ use Rattle.call_ends.specs.declared.tariff.TextFault.TheVariants as texts
 use Rattle.call_ends.proofs.Laws.{fails-text, makes-answer, makes-none, makes-of, makes-unread, not_board-text}
 use Rattle.call_ends.proofs.Laws.{read_fault-text, reads-bad, reads-ok, word_is}
 use Rattle.tariff_commands.specs.Faults.{faults_in}
-use Rattle.tariff_commands.proofs.Finding.{answer_refused, found_made, goes_long, long_found, not_final}
+use Rattle.tariff_commands.proofs.FoundFaults.{answer_refused, found_made, goes_long, long_found, not_final}
 use Rattle.tariff_commands.proofs.faults.found_in_word.Goals as goal
 
 -- the text was searched

@@ -7,7 +7,7 @@ use Rattle.call_ends.specs.declared.ending.Ended.TheVariants.{Done}
 use Rattle.call_ends.proofs.Laws.{carries-printed, done_not_board, fails-text, makes-read, makes-unread, not_board-text}
 use Rattle.call_ends.proofs.Laws.{prints-by, prints-none, read_fault-text, reads-bad, reads-ok, refuses-bad}
 use Rattle.tariff_commands.specs.Tables.{tables_answer}
-use Rattle.tariff_commands.proofs.Tabling.{tabulates}
+use Rattle.tariff_commands.proofs.TariffAnswers.{tabulates}
 use Rattle.tariff_commands.proofs.tables.print_tables.Goals as goal
 
 pub returns-in-Err : goal.returns-in-Err

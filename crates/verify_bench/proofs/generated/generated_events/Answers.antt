@@ -1,5 +1,5 @@
 use Rattle.std.proofs.Common.{◌≡◌, ◌∙◌, ◌+◌, ◌-◌, sym, ap, arith}
-use Rattle.verify_bench.specs.Adding.{place_of, lines_events}
+use Rattle.verify_bench.specs.AddedText.{place_of, lines_events}
 use Rattle.verify_bench.specs.Generated.{Place, beginning, generated_lines, trip}
 use Rattle.verify_bench.proofs.GeneratedLaws.{events_of_lines}
 use Rattle.verify_bench.proofs.Trips.{events_before, events_behind, events_of_all}

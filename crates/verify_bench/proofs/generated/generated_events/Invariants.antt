@@ -1,5 +1,5 @@
 use Rattle.std.proofs.Common.{◌≡◌, ◌+◌, ◌-◌, ◌*◌, ◌≤◌}
-use Rattle.verify_bench.specs.Adding.{place_of, lines_events}
+use Rattle.verify_bench.specs.AddedText.{place_of, lines_events}
 use Rattle.verify_bench.specs.Generated.{generated_lines, trips_from}
 use Rattle.verify_bench.proofs.generated.generated_events.Given as goal
 

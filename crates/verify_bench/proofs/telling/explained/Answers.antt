@@ -1,4 +1,4 @@
-use Rattle.meter_model.specs.Closing.{receipt_of}
+use Rattle.meter_model.specs.ClosedTrip.{receipt_of}
 use Rattle.verify_bench.specs.Settings.{setting_under}
 use Rattle.verify_bench.proofs.Benches.{taken_apart}
 use Rattle.verify_bench.proofs.telling.explained.Goals as goal

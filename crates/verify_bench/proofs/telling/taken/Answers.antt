@@ -1,7 +1,7 @@
 use Rattle.std.proofs.Common.{refl, arith}
 use Rattle.tariff_check.specs.SoundTariff.{sound_of}
 use Rattle.tariff_syntax.specs.Tree.{tree_of}
-use Rattle.verify_bench.specs.Explaining.{taken_if}
+use Rattle.verify_bench.specs.TripExplanations.{taken_if}
 use Rattle.verify_bench.proofs.TakenLists.{no_more_taken, one_more_taken}
 use Rattle.verify_bench.proofs.telling.taken.Goals as goal
 

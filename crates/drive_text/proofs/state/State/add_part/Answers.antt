@@ -3,8 +3,8 @@ use Rattle.std.specs.Str.Lines.{strip_carriage_return}
 use Rattle.drive_text.specs.Lines.{is_comment}
 use Rattle.drive_text.specs.Part.{reading_of}
 use Rattle.drive_text.proofs.Endings.{many_fail, long_by_test, short_by_test}
-use Rattle.drive_text.proofs.Feeding.{takes_bytes, fails_bytes, refused_many}
-use Rattle.drive_text.proofs.Standing.{comment_goes_on, comment_begins, line_goes_on, kept_plain, number_small}
+use Rattle.drive_text.proofs.ReaderPieces.{takes_bytes, fails_bytes, refused_many}
+use Rattle.drive_text.proofs.ReaderPlaces.{comment_goes_on, comment_begins, line_goes_on, kept_plain, number_small}
 use Rattle.drive_text.proofs.state.State.add_part.Goals as goal
 
 pub begins_comment-requires : goal.begins_comment-requires

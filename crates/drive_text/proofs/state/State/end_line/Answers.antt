@@ -6,9 +6,9 @@ use Rattle.drive_text.specs.declared.fields.Content.{Content}
 use Rattle.drive_text.specs.Part.{reading_of}
 use Rattle.drive_text.specs.Ranges.{IsRunInRange}
 use Rattle.drive_text.specs.Reading.{Reading}
-use Rattle.drive_text.proofs.Feeding.{takes_line, fails_line}
+use Rattle.drive_text.proofs.ReaderPieces.{takes_line, fails_line}
 use Rattle.drive_text.proofs.Ranges.{runs_in_range}
-use Rattle.drive_text.proofs.Standing.{comment_ends, comment_runs, line_is_good, line_gives, kept_plain, number_small}
+use Rattle.drive_text.proofs.ReaderPlaces.{comment_ends, comment_runs, line_is_good, line_gives, kept_plain, number_small}
 use Rattle.drive_text.proofs.state.State.end_line.Goals as goal
 
 pub content_with-requires : goal.content_with-requires

@@ -1,7 +1,7 @@
 use Rattle.std.proofs.Common.{rules, ◌≡◌, length, ◌++◌, ◌∷◌, [], ◌∙◌, sym, append_assoc}
 use Rattle.std.proofs.lemmas.Result.{err_from_is_err_and}
 use Rattle.drive_text.specs.Part.{reading_of}
-use Rattle.drive_text.proofs.Feeding.{fails_before, split_of}
+use Rattle.drive_text.proofs.ReaderPieces.{fails_before, split_of}
 use Rattle.drive_text.proofs.PlainLines.{takes_plain, takes_before, takes_whole}
 use Rattle.drive_text.proofs.state.State.take.Goals as goal
 

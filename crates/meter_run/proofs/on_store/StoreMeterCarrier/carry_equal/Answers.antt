@@ -33,5 +33,5 @@ returns-clause-carried g c = λ board ready.
           (out_still g.B.Board c.args.by.now.tables.now c.args.by.now.seal.now (intervals_of c.args.pulses n) x
           c.equal_intervals.new.self board (g.met.B.Board.only_now board) c.equal_intervals.ensures.meets);
       supply =
-          equal_keep_off x.core.plain c.equal_intervals.new.self.plain c.args.pulses n c.equal_intervals.ensures.same.0;
+          equal_keep_off x.core.state c.equal_intervals.new.self.state c.args.pulses n c.equal_intervals.ensures.same.0;
     }

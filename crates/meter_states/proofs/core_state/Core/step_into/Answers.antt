@@ -13,7 +13,7 @@ use Rattle.meter_states.proofs.core_state.Core.step_into.Goals as goal
 
 pub returns-then-is_off-clause-takes : goal.returns-then-is_off-clause-takes
 returns-then-is_off-clause-takes g c =
-    let n = c.args.self.now.plain.number in
+    let n = c.args.self.now.state.number in
     let acts = c.refuse.ensures ∙ ap (λ (before : List Act). before ++ Refuse NotNow ∷ []) c.requires.empty in
     record {
       lawful = c.requires.ready.lawful;
@@ -23,8 +23,8 @@ returns-then-is_off-clause-takes g c =
       commits = λ durable range same. subst (All (KeepsRanges durable)) (sym acts)
           (All-cons (KeepsRanges durable) (Refuse NotNow) [] tt (All-nil (KeepsRanges durable)));
       meets = λ s m is stands.
-          let off = sym (ap (λ (w : CachedCore). w.plain.operating) c.self.view_is) ∙ c.if-is_off.ensures.0 refl in
-          off-meets s c.args.self.now.plain c.refuse.new.acts.items c.args.event m off
+          let off = sym (ap (λ (w : CachedCore). w.state.operating) c.self.view_is) ∙ c.if-is_off.ensures.0 refl in
+          off-meets s c.args.self.now.state c.refuse.new.acts.items c.args.event m off
           (λ second. c.requires.ready.supply second off) acts stands;
     }
 
@@ -32,7 +32,7 @@ pub returns-clause-takes : goal.returns-clause-takes
 returns-clause-takes g c =
     let p = c.args.tables.now in
     let n = c.self.inside.state.number in
-    let is : n ≡ c.args.self.now.plain.number = ap (λ (w : CachedCore). w.plain.number) c.self.view_is in
+    let is : n ≡ c.args.self.now.state.number = ap (λ (w : CachedCore). w.state.number) c.self.view_is in
     let none : All (IsLawfulAct p n) c.args.acts.now.items = rw c.requires.empty (λ k d below. absurd (omega arith)) in
     let ranges = c.take_event.ensures.ranges none in
     record {
@@ -40,9 +40,9 @@ returns-clause-takes g c =
       ranges = subst (λ (number : ℕ). All (IsLawfulAct p number) c.take_event.new.acts.items) is ranges;
       commits = λ durable range same. acts-keep p n c.take_event.new.acts.items ranges durable range (same ∙ sym is);
       meets = λ s m is stands.
-          let view = ap (λ (w : CachedCore). w.plain) c.self.view_is in
+          let view = ap (λ (w : CachedCore). w.state) c.self.view_is in
           let on = powered-on c.is_off.result view c.requires.ready.lawful.powered c.is_off.ensures c.if-is_off.false in
-          on-meets s c.args.self.now.plain c.take_event.new.self c.take_event.new.acts.items c.args.event m
+          on-meets s c.args.self.now.state c.take_event.new.self c.take_event.new.acts.items c.args.event m
           (λ off. not_off c.self.inside.state.operating c.self.inside.state.trip on.on
           (ap (λ (q : CoreData). q.operating) view ∙ off))
           (λ same. c.take_event.ensures.meets s m is (view ∙ same)) stands;

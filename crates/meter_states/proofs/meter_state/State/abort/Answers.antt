@@ -3,7 +3,7 @@ use Rattle.taxi_units.specs.declared.event.Operating.{Operating}
 use Rattle.taxi_units.specs.declared.event.Operating.TheVariants.{ForHire}
 use Rattle.taxi_units.specs.declared.receipt.Kind.TheVariants.{Aborted}
 use Rattle.meter_states.specs.Acts.{StayLawful}
-use Rattle.meter_model.specs.Closing.{closed, trip_closed}
+use Rattle.meter_model.specs.ClosedTrip.{closed, trip_closed}
 use Rattle.meter_states.specs.Core.{CoreData, ComesToOutcome, core_of}
 use Rattle.meter_model.specs.Meter.{Meter, quiet}
 use Rattle.meter_model.specs.Trip as model

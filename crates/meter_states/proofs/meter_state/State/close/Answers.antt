@@ -3,7 +3,7 @@ use Rattle.tariff_compile.proofs.Laws.{tables_are_fit}
 use Rattle.taxi_units.specs.declared.event.Operating.TheVariants.{ForHire}
 use Rattle.meter_states.specs.Acts.{StayLawful}
 use Rattle.meter_states.specs.Core.{CoreData, ComesToOutcome}
-use Rattle.meter_model.specs.Closing.{trip_closed}
+use Rattle.meter_model.specs.ClosedTrip.{trip_closed}
 use Rattle.meter_states.specs.Lawful.{IsTripInRange}
 use Rattle.meter_states.specs.Stages.{MayEnter}
 use Rattle.meter_model.specs.Trip.{MeterTrip}

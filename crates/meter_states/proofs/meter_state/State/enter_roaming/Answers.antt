@@ -1,6 +1,6 @@
 use Rattle.std.proofs.Common.{◌+◌, ◌≤◌, [], ◌∷◌, ◌++◌, ap, sym, subst, ◌∙◌}
 use Rattle.totals_record.specs.declared.entry.Entry as store
-use Rattle.meter_model.specs.Closing.{roaming_entry}
+use Rattle.meter_model.specs.ClosedTrip.{roaming_entry}
 use Rattle.meter_states.specs.Core.{CoreData}
 use Rattle.meter_states.specs.Lawful.{IsBetweenEvents}
 use Rattle.meter_model.specs.declared.act.Act.TheVariants.{Enter}

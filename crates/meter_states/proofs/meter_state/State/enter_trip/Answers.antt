@@ -1,6 +1,6 @@
 use Rattle.std.proofs.Common.{◌+◌, ◌≤◌, [], ◌∷◌, ◌++◌, ap, sym, subst, ◌∙◌, arith}
 use Rattle.totals_record.specs.declared.entry.Entry as store
-use Rattle.meter_model.specs.Closing.{entry_of_trip}
+use Rattle.meter_model.specs.ClosedTrip.{entry_of_trip}
 use Rattle.meter_states.specs.Core.{CoreData}
 use Rattle.meter_model.specs.declared.act.Act.TheVariants.{Enter}
 use Rattle.meter_states.proofs.Pushes.{closing-room, few-more, lawful-more}

@@ -1,7 +1,7 @@
 use Rattle.std.proofs.Common.{ℕ, ◌<◌, ◌≤◌, ap, sym, subst, ◌∙◌}
 use Rattle.taxi_units.specs.Time.{IsSecond}
 use Rattle.taxi_units.specs.declared.receipt.Kind.TheVariants.{Aborted}
-use Rattle.meter_model.specs.Closing.{closed}
+use Rattle.meter_model.specs.ClosedTrip.{closed}
 use Rattle.meter_states.specs.Core.{ComesToOutcome, CoreData}
 use Rattle.meter_model.specs.Meter.{Outcome}
 use Rattle.meter_states.proofs.Outcomes.{quiet-follows, trip-saved}

@@ -1,6 +1,6 @@
 use Rattle.std.proofs.Common.{◌≤◌, [], ◌∷◌, ◌++◌, ap, sym, subst, ◌∙◌}
 use Rattle.taxi_units.specs.declared.receipt.Receipt as receipts
-use Rattle.meter_model.specs.Closing.{receipt_of}
+use Rattle.meter_model.specs.ClosedTrip.{receipt_of}
 use Rattle.meter_states.specs.Core.{CoreData}
 use Rattle.meter_states.specs.Lawful.{IsTripBeside}
 use Rattle.meter_model.specs.declared.act.Act.TheVariants.{Receipt}

@@ -2,7 +2,7 @@ use Rattle.std.proofs.Common.{ℕ, ◌+◌, ◌≤◌, All, ap, sym, subst, ◌�
 use Rattle.taxi_units.specs.declared.event.Operating.{Operating}
 use Rattle.taxi_units.specs.declared.event.Operating.TheVariants.{Off, ForHire, Hired, Stopped}
 use Rattle.meter_states.specs.Acts.{IsLawfulAct}
-use Rattle.meter_model.specs.Closing.{roaming_checked}
+use Rattle.meter_model.specs.ClosedTrip.{roaming_checked}
 use Rattle.meter_states.specs.Core.{CoreData, core_of}
 use Rattle.meter_model.specs.Display.{shown}
 use Rattle.meter_model.specs.Interval.{interval_begun, interval_counted}

@@ -2,7 +2,7 @@ use Rattle.std.proofs.Common.{◌≤◌, length, subst}
 use Rattle.tariff_check.proofs.ChoiceLaws.{kept_are}
 use Rattle.tariff_check.proofs.KindLaws.{each_kind}
 use Rattle.tariff_check.proofs.SoundParts.{own_few}
-use Rattle.tariff_check.proofs.Staging.{sound_if_none}
+use Rattle.tariff_check.proofs.FaultStages.{sound_if_none}
 use Rattle.tariff_check.specs.Faults.{IsSound}
 use Rattle.tariff_check.specs.Kinds.{kept_of, part_of}
 use Rattle.tariff_check.specs.Resolved.{HasParts}

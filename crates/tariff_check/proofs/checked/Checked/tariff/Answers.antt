@@ -1,5 +1,5 @@
 use Rattle.std.proofs.Common.{subst}
-use Rattle.tariff_check.proofs.Staging.{sound_if_none}
+use Rattle.tariff_check.proofs.FaultStages.{sound_if_none}
 use Rattle.tariff_check.specs.Faults.{IsSound}
 use Rattle.tariff_syntax.specs.Tree.{tree_of}
 use Rattle.tariff_syntax.specs.declared.tariff.Tariff.{Tariff}

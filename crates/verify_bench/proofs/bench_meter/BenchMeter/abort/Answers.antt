@@ -1,5 +1,5 @@
 use Rattle.std.proofs.Common.{ap, refl}
-use Rattle.meter_model.specs.Closing.{closed}
+use Rattle.meter_model.specs.ClosedTrip.{closed}
 use Rattle.meter_model.specs.Meter.{Meter, quiet}
 use Rattle.taxi_units.specs.declared.receipt.Kind.TheVariants.{Aborted}
 use Rattle.verify_bench.specs.Settings.{setting_under}

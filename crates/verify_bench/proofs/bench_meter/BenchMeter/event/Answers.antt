@@ -6,7 +6,7 @@ use Rattle.taxi_units.specs.declared.event.Event.TheVariants.{Up}
 use Rattle.taxi_units.specs.declared.event.Operating.{Operating}
 use Rattle.taxi_units.specs.declared.event.Operating.TheVariants.{Off}
 use Rattle.verify_bench.specs.Bench.{Moves}
-use Rattle.verify_bench.specs.Explaining.{hired_at, trip_at}
+use Rattle.verify_bench.specs.TripExplanations.{hired_at, trip_at}
 use Rattle.verify_bench.specs.Settings.{setting_under}
 use Rattle.verify_bench.proofs.BenchSupply.{step_on}
 use Rattle.verify_bench.proofs.bench_meter.BenchMeter.event.Goals as goal

@@ -1,5 +1,5 @@
 use Rattle.std.proofs.Common.{None, refl}
-use Rattle.meter_model.specs.Closing.{closed}
+use Rattle.meter_model.specs.ClosedTrip.{closed}
 use Rattle.meter_model.specs.Meter.{Meter}
 use Rattle.meter_model.specs.Step.{latch_refused}
 use Rattle.taxi_units.specs.declared.receipt.Kind.TheVariants.{Expired}

@@ -1,6 +1,6 @@
 use Rattle.drive_text.specs.Runs.{intervals_events}
 use Rattle.verify_bench.specs.Bench.{IsMeterInRange}
-use Rattle.verify_bench.specs.Carrying.{Carries}
+use Rattle.verify_bench.specs.BenchProgress.{Carries}
 use Rattle.verify_bench.specs.Settings.{setting_under}
 use Rattle.verify_bench.proofs.bench_meter.BenchMeter.intervals.Given as goal
 

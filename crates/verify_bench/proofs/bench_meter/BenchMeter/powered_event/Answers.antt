@@ -3,7 +3,7 @@ use Rattle.std.proofs.lemmas.Result.{on_ok_weaker}
 use Rattle.meter_model.specs.Step.{powered_step}
 use Rattle.taxi_units.specs.declared.event.Event.{Event}
 use Rattle.verify_bench.specs.Bench.{Moves}
-use Rattle.verify_bench.specs.Explaining.{hired_at, trip_at}
+use Rattle.verify_bench.specs.TripExplanations.{hired_at, trip_at}
 use Rattle.verify_bench.specs.Settings.{setting_under}
 use Rattle.verify_bench.proofs.bench_meter.BenchMeter.powered_event.Goals as goal
 

@@ -1,12 +1,12 @@
 use Rattle.std.proofs.Common.{subst}
-use Rattle.meter_model.specs.Closing.{roaming_checked}
+use Rattle.meter_model.specs.ClosedTrip.{roaming_checked}
 use Rattle.meter_model.specs.Display.{shown}
 use Rattle.meter_model.specs.Interval.{context_now, interval_begun, interval_counted}
 use Rattle.meter_model.specs.Meter.{Meter, ◌>>=◌}
 use Rattle.meter_model.specs.Step.{expired_or_pressed}
 use Rattle.tariff_syntax.specs.declared.context.Context.{Context}
 use Rattle.verify_bench.specs.Bench.{Moves}
-use Rattle.verify_bench.specs.Explaining.{hired_by}
+use Rattle.verify_bench.specs.TripExplanations.{hired_by}
 use Rattle.verify_bench.specs.Settings.{setting_under}
 use Rattle.verify_bench.proofs.Benches.{hired_after, moves_begun, moves_quietly, moves_shown, moves_then}
 use Rattle.verify_bench.proofs.bench_meter.BenchMeter.tick.Goals as goal

@@ -5,7 +5,7 @@ use Rattle.meter_model.specs.Trip.{InHired}
 use Rattle.verify_bench.specs.Gathered.{sums_with}
 use Rattle.verify_bench.specs.Groups.{is_in_stopped, is_rest}
 use Rattle.verify_bench.specs.declared.explained.Sums.{Sums}
-use Rattle.verify_bench.proofs.Gathering.{few_more, left_out, part_more, table_more}
+use Rattle.verify_bench.proofs.GatheredSums.{few_more, left_out, part_more, table_more}
 use Rattle.verify_bench.proofs.hiring.Hiring.add_hired.Goals as goal
 
 pub returns-clause-trip : goal.returns-clause-trip
