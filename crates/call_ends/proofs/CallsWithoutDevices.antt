@@ -1,19 +1,12 @@
 -- Commands that are given no files, or no board, carry out as ones that are given both.
-use Rattle.std.proofs.Common.{◌≡◌, ◌≢◌, ◌+◌, ◌≤◌, ℕ, List, [], ◌++◌, refl, sym, inl, inr, ⊎_elim, arith}
-use Rattle.std.proofs.lemmas.List.{append-nil}
-use Rattle.outside.specs.Faults.{Rose}
-use Rattle.outside.specs.Runs.{KeepsStore}
-use Rattle.outside.specs.declared.board.Board.{Ghosts}
-use Rattle.outside.specs.declared.files.Files.{Ghosts as FileGhosts}
-use Rattle.outside.proofs.Laws.{keeps_none}
-use Rattle.call_ends.specs.declared.ending.Ended.{Ended}
-use Rattle.call_ends.specs.declared.ending.Ended.TheVariants as ends
-use Rattle.call_ends.specs.Call.{LeavesUnread, MayTake, StopsReading}
-use Rattle.call_ends.specs.Carried.{Carries, no_board, no_files}
-use Rattle.call_ends.specs.Course.{Command, Course, Answered, ReadFailed, NoMemory, BoardFailed}
+use Rattle.std.proofs.Common.{[], ℕ, ◌++◌, ◌+◌, ◌≡◌, ◌≢◌, ◌≤◌, List, arith, inl, inr, refl, sym, ⊎_elim}
+use Rattle.{std.proofs.lemmas.List.{append-nil}, outside.specs.declared.files.Files.{Ghosts as FileGhosts}}
+use Rattle.{outside.proofs.Laws.{keeps_none}, call_ends.specs.Ending.{LeavesStoreUnwritten}}
+use Rattle.call_ends.specs.{Call.{LeavesUnread, MayTake, StopsReading}, Common.{Ended, Ghosts, KeepsStore, Rose}}
+use Rattle.call_ends.{specs.Carried.{Carries, no_board, no_files}, proofs.Unwritten.{bytes-kept}}
+use Rattle.call_ends.specs.Course.{Answered, BoardFailed, Command, Course, NoMemory, ReadFailed}
 use Rattle.call_ends.specs.Ending.{EndsByCourse, EndsOnDevices, EndsUnprinted, HasCauseOn, IsBrokenOff, IsDue}
-use Rattle.call_ends.specs.Ending.{LeavesStoreUnwritten}
-use Rattle.call_ends.proofs.Unwritten.{bytes-kept}
+use Rattle.call_ends.specs.declared.ending.Ended.TheVariants as ends
 
 no-rise : ¬ (Rose 0 0)
 no-rise rose = omega (arith, rose)

@@ -1,23 +1,12 @@
 -- What the counts of faults say of a command, from the calls that it made.
-use Rattle.std.proofs.Common.{◌≡◌, ◌≢◌, ◌⊎◌, ◌↔◌, inl, inr, ℕ, Bool, true, false, Option, Some, None, Result, Err, refl}
-use Rattle.std.proofs.Common.{sym, ap, subst, ◌∙◌, arith}
-use Rattle.outside.specs.Reading.{LeavesOthers}
-use Rattle.outside.proofs.Laws.{rose_behind}
-use Rattle.outside.specs.Faults.{RisesOnlyIf, Rose}
-use Rattle.outside.specs.declared.board.Board.{Ghosts}
-use Rattle.outside.specs.declared.files.Files.{Ghosts as FileGhosts}
-use Rattle.call_ends.specs.Call.{IsEnd, StopsReading}
-use Rattle.call_ends.specs.Carried.{Carries}
+use Rattle.std.proofs.Common.{ℕ, ◌↔◌, ◌∙◌, ◌≡◌, ◌≢◌, ◌⊎◌, Bool, Err, None, Option, Result, Some, ap, arith, false, inl}
+use Rattle.{std.proofs.Common.{inr, refl, subst, sym, true}, outside.specs.declared.files.Files.{Ghosts as FileGhosts}}
+use Rattle.{outside.{specs.Faults.{RisesOnlyIf}, proofs.Laws.{rose_behind}}, call_ends.proofs.OneAnswer.{same_fault}}
+use Rattle.call_ends.specs.{Call.{IsEnd, StopsReading}, Ending.{HasCauseOn, ended_for}, LastLine.{line_of, status_of}}
+use Rattle.call_ends.{specs.Carried.{Carries}, proofs.{EndsApart.{done_not_board}, Rests.{board_or_not}}}
+use Rattle.call_ends.specs.Common.{BoardFault, Done, Ended, Ghosts, LeavesOthers, ReadFault, Rose, TextFault}
 use Rattle.call_ends.specs.Course.{Command}
-use Rattle.call_ends.specs.Ending.{HasCauseOn, ended_for}
-use Rattle.call_ends.specs.LastLine.{line_of, status_of}
-use Rattle.call_ends.specs.declared.ending.Ended.{Ended}
-use Rattle.call_ends.specs.declared.tariff.TextFault.{TextFault}
 use Rattle.call_ends.specs.declared.tariff.TextFault.TheVariants as texts
-use Rattle.call_ends.specs.declared.ending.Ended.TheVariants.{BoardFault, Done, ReadFault}
-use Rattle.call_ends.proofs.EndsApart.{done_not_board}
-use Rattle.call_ends.proofs.OneAnswer.{same_fault}
-use Rattle.call_ends.proofs.Rests.{board_or_not}
 
 -- what is absent isn't there
 pub not_some : {A : Type 0} (o : Option A) (x : A) → o ≡ None → o ≡ Some x → ⊥

@@ -1,20 +1,11 @@
 -- What parts of a command do to the files that they read, one after the other.
-use Rattle.std.proofs.Common.{◌≡◌, ◌≢◌, ◌<◌, ◌≤◌, ℕ, List, [], Result, Ok, Err, refl, sym, ap, subst, ◌∙◌, arith}
-use Rattle.std.proofs.Common.{inl, inr, ⊎_elim}
-use Rattle.std.specs.Prelude.{◌⊎◌}
-use Rattle.outside.specs.Faults.{Rose}
-use Rattle.outside.specs.Reading.{LeavesOthers}
-use Rattle.outside.specs.declared.files.Files.{Ghosts as FileGhosts}
-use Rattle.outside.proofs.Laws.{rose_behind}
-use Rattle.call_ends.specs.Course.{Command}
-use Rattle.call_ends.specs.Reads.{FailsOr, ReadsWord, GoesTo, Follows}
-use Rattle.call_ends.specs.Ending.{ended_for}
-use Rattle.call_ends.specs.declared.ending.Ended.{Ended}
-use Rattle.call_ends.specs.declared.ending.Ended.TheVariants.{BadTariff, BoardFault, NoMemory, ReadFault}
-use Rattle.call_ends.specs.declared.tariff.Refusal.{Refusal}
-use Rattle.call_ends.specs.declared.tariff.TextFault.{TextFault}
+use Rattle.std.{specs.Prelude.{◌⊎◌}, proofs.Common.{sym, ⊎_elim}}
+use Rattle.std.proofs.Common.{[], ℕ, ◌<◌, ◌∙◌, ◌≡◌, ◌≢◌, ◌≤◌, Err, List, Ok, Result, ap, arith, inl, inr, refl, subst}
+use Rattle.outside.{specs.declared.files.Files.{Ghosts as FileGhosts}, proofs.Laws.{rose_behind}}
+use Rattle.call_ends.specs.Common.{BadTariff, BoardFault, Ended, LeavesOthers, NoMemory, ReadFault, Refusal, Rose}
+use Rattle.call_ends.specs.{Common.{TextFault}, Ending.{ended_for}, Reads.{FailsOr, Follows, GoesTo, ReadsWord}}
+use Rattle.call_ends.{specs.Course.{Command}, proofs.OneAnswer.{no_fault, same_fault}}
 use Rattle.call_ends.specs.declared.tariff.TextFault.TheVariants as texts
-use Rattle.call_ends.proofs.OneAnswer.{no_fault, same_fault}
 
 -- what fails, or refuses for one reason, fails or refuses for another
 pub fails_as : {one other : Ended → Type 0} {why : Ended} → (one why → other why) → FailsOr one why → FailsOr other why

@@ -1,43 +1,21 @@
 -- What a command has made, and how it ends once that is printed.
-use Rattle.std.proofs.Common.{◌≡◌, ◌≢◌, ◌⊎◌, ℕ, ◌+◌, ◌≤◌, ◌++◌, List, [], length, Bool, true, false, eqb, not, ◌&&◌}
-use Rattle.std.proofs.Common.{Option, None}
-use Rattle.std.proofs.Common.{Result, Ok, Err, refl, sym, ap, subst, ◌∙◌, inl, inr, ⊎_elim, arith}
-use Rattle.std.specs.Prelude.{OnOk}
-use Rattle.outside.specs.Faults.{HasCause, Rose}
-use Rattle.outside.specs.PrintedText.{Begins}
-use Rattle.outside.specs.Runs.{KeepsStore}
-use Rattle.outside.specs.declared.board.Board.{Ghosts}
-use Rattle.outside.specs.declared.files.Files.{Ghosts as FileGhosts}
-use Rattle.std.proofs.lemmas.List.{append-nil}
-use Rattle.outside.proofs.Laws.{begins_more, begins_not, keeps_none, rose_behind}
-use Rattle.call_ends.specs.Answer.{Answer}
-use Rattle.call_ends.specs.Carried.{Carries, no_board}
-use Rattle.call_ends.specs.Course.{Command, Course, Answered, ReadFailed, NoMemory, BoardFailed, line_in}
-use Rattle.call_ends.specs.Course.{shown_in}
-use Rattle.call_ends.specs.Call.{MayTake}
-use Rattle.call_ends.specs.Ending.{EndsByCourse, EndsUnprinted, IsBrokenOff, IsDue, ended_for}
-use Rattle.call_ends.specs.LastLine.{line_of, refused_as, status_of}
-use Rattle.call_ends.specs.Making.{answer_with, EndsWithText, IsMade, Makes, Prints, end_made, end_printed, is_plain}
-use Rattle.call_ends.specs.Making.{text_made}
-use Rattle.call_ends.specs.Pieces.{pieces_of}
-use Rattle.call_ends.specs.Plan.{Plan, Last}
-use Rattle.call_ends.specs.Reads.{FailsOr, GoesTo, ReadsWord}
-use Rattle.call_ends.specs.Stream.{Stream, TakesBytes, bad_status}
-use Rattle.call_ends.specs.Tariffs.{bad_tariff}
-use Rattle.call_ends.specs.TextCommands.{text_command, word_command}
-use Rattle.call_ends.specs.declared.ending.Ended.{Ended}
+use Rattle.{std.{specs.Prelude.{OnOk}, proofs.lemmas.List.{append-nil}}, call_ends.specs.Making.{text_made}}
+use Rattle.std.proofs.Common.{[], ℕ, ◌&&◌, ◌++◌, ◌+◌, ◌∙◌, ◌≡◌, ◌≢◌, ◌≤◌, ◌⊎◌, Bool, Err, List, None, Ok, Option}
+use Rattle.std.proofs.Common.{Result, ap, arith, eqb, false, inl, inr, length, not, refl, subst, sym, true, ⊎_elim}
+use Rattle.outside.{specs.Faults.{HasCause}, proofs.Laws.{begins_more, begins_not, keeps_none, rose_behind}}
+use Rattle.{outside.specs.declared.files.Files.{Ghosts as FileGhosts}, call_ends.specs.declared.made.Made.{Made}}
+use Rattle.call_ends.{specs.{Answer.{Answer}, Call.{MayTake}, Plan.{Last, Plan}}, proofs.Rests.{board_or_not}}
+use Rattle.call_ends.{specs.Carried.{Carries, no_board}, proofs.Refusals.{ends-failing, ends-lacking, ends-refused}}
+use Rattle.call_ends.specs.{Common.{Begins, Ended, Ghosts, KeepsStore, Refusal, Rose, TextFault}, Tariffs.{bad_tariff}}
+use Rattle.call_ends.specs.Course.{Answered, BoardFailed, Command, Course, NoMemory, ReadFailed, line_in, shown_in}
+use Rattle.call_ends.specs.{Ending.{EndsByCourse, EndsUnprinted, IsBrokenOff, IsDue, ended_for}, Pieces.{pieces_of}}
+use Rattle.call_ends.specs.{LastLine.{line_of, refused_as, status_of}, TextCommands.{text_command, word_command}}
+use Rattle.call_ends.specs.Making.{EndsWithText, IsMade, Makes, Prints, answer_with, end_made, end_printed, is_plain}
+use Rattle.call_ends.{specs.Reads.{FailsOr, GoesTo, ReadsWord}, proofs.CallsWithoutDevices.{carries-kept, carries-said}}
+use Rattle.call_ends.{specs.Stream.{Stream, TakesBytes, bad_status}, proofs.{Endings.{may-then}, OneAnswer.{no_fault}}}
+use Rattle.call_ends.proofs.{EndsApart.{board_not_read}, Following.{fails_as, goes-all, goes-none, goes-on, stops-with}}
 use Rattle.call_ends.specs.declared.ending.Ended.TheVariants as ended
-use Rattle.call_ends.specs.declared.made.Made.{Made}
-use Rattle.call_ends.specs.declared.tariff.Refusal.{Refusal}
-use Rattle.call_ends.specs.declared.tariff.TextFault.{TextFault}
 use Rattle.call_ends.specs.declared.tariff.TextFault.TheVariants as texts
-use Rattle.call_ends.proofs.CallsWithoutDevices.{carries-kept, carries-said}
-use Rattle.call_ends.proofs.Endings.{may-then}
-use Rattle.call_ends.proofs.EndsApart.{board_not_read}
-use Rattle.call_ends.proofs.Following.{fails_as, goes-all, goes-none, goes-on, stops-with}
-use Rattle.call_ends.proofs.OneAnswer.{no_fault}
-use Rattle.call_ends.proofs.Refusals.{ends-failing, ends-lacking, ends-refused}
-use Rattle.call_ends.proofs.Rests.{board_or_not}
 
 -- ---- printing
 

@@ -1,20 +1,11 @@
 -- A command that gives nothing: memory ran out, a read failed, or it refuses.
-use Rattle.std.proofs.Common.{◌≡◌, ◌∙◌, ℕ, List, [], refl, sym, ap, subst, inl, ⊎_elim}
-use Rattle.call_ends.specs.declared.ending.Ended.{Ended}
+use Rattle.std.proofs.Common.{[], ℕ, ◌∙◌, ◌≡◌, List, ap, inl, refl, subst, sym, ⊎_elim}
+use Rattle.call_ends.{specs.{Answer.{Answer}, Reads.{FailsOr}, Tariffs.{bad_tariff}}, proofs.Following.{fails-text}}
+use Rattle.call_ends.specs.{Common.{Ended, Refusal, TextFault}, Course.{Answered, Command, NoMemory, ReadFailed}}
+use Rattle.call_ends.specs.{Ending.{EndsUnprinted, ended_for}, Stream.{TakesBytes, TellsItsEnd, bad_status}}
+use Rattle.call_ends.{specs.LastLine.{refused_as, status_of}, proofs.{FaultCounts.{read_fault-text}, Streams.{not_bad}}}
 use Rattle.call_ends.specs.declared.ending.Ended.TheVariants as ended
-use Rattle.call_ends.specs.declared.tariff.Refusal.{Refusal}
-use Rattle.call_ends.specs.declared.tariff.TextFault.{TextFault}
 use Rattle.call_ends.specs.declared.tariff.TextFault.TheVariants as texts
-use Rattle.call_ends.specs.Answer.{Answer}
-use Rattle.call_ends.specs.Course.{Command, Answered, ReadFailed, NoMemory}
-use Rattle.call_ends.specs.Ending.{EndsUnprinted, ended_for}
-use Rattle.call_ends.specs.LastLine.{refused_as, status_of}
-use Rattle.call_ends.specs.Reads.{FailsOr}
-use Rattle.call_ends.specs.Stream.{TakesBytes, TellsItsEnd, bad_status}
-use Rattle.call_ends.specs.Tariffs.{bad_tariff}
-use Rattle.call_ends.proofs.FaultCounts.{read_fault-text}
-use Rattle.call_ends.proofs.Following.{fails-text}
-use Rattle.call_ends.proofs.Streams.{not_bad}
 
 module _ (c : Command) (contents left : ℕ → List ℕ) (image : List ℕ) (read_failed : ℕ → Type 0) where
   -- it refuses

@@ -1,16 +1,9 @@
 -- Commands that show a text: the whole of it, or a beginning.
-use Rattle.std.proofs.Common.{◌≡◌, ℕ, List, [], ◌++◌, refl, sym, ap, subst, ◌∙◌, inl, inr}
-use Rattle.std.proofs.lemmas.List.{append-nil}
-use Rattle.outside.specs.PrintedText.{Begins}
-use Rattle.call_ends.specs.declared.ending.Ended.{Ended}
+use Rattle.std.proofs.{Common.{[], ℕ, ◌++◌, ◌∙◌, ◌≡◌, List, ap, inl, inr, refl, subst, sym}, lemmas.List.{append-nil}}
+use Rattle.call_ends.specs.{Answer.{Answer, shows}, Common.{Begins, Ended}, Ending.{EndsByCourse}, Stream.{TakesBytes}}
+use Rattle.call_ends.{specs.Call.{MayTake}, proofs.Streams.{not_bad}}
+use Rattle.call_ends.specs.{Course.{Answered, Command, NoMemory, ReadFailed}, LastLine.{line_of, status_of}}
 use Rattle.call_ends.specs.declared.ending.Ended.TheVariants as ended
-use Rattle.call_ends.specs.Answer.{Answer, shows}
-use Rattle.call_ends.specs.Call.{MayTake}
-use Rattle.call_ends.specs.Course.{Command, Answered, NoMemory, ReadFailed}
-use Rattle.call_ends.specs.Ending.{EndsByCourse}
-use Rattle.call_ends.specs.LastLine.{line_of, status_of}
-use Rattle.call_ends.specs.Stream.{TakesBytes}
-use Rattle.call_ends.proofs.Streams.{not_bad}
 
 module _ (c : Command) (contents left : ℕ → List ℕ) (image : List ℕ) (read_failed : ℕ → Type 0) (failed told : Type 0)
     (before now : List ℕ) where

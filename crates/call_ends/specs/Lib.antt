@@ -15,3 +15,4 @@ pub mod Carried
 pub mod Ending
 pub mod Making
 pub mod Reads
+pub mod Common

@@ -1,18 +1,9 @@
 -- For proofs: what a command has made before it prints, and how it ends once it is printed.
-use Rattle.std.specs.Prelude.{◌≡◌, ◌≢◌, ◌⊎◌, ℕ, ◌+◌, ◌≤◌, ◌++◌, List, [], Bool, true, eqb, not, ◌&&◌, Result, Ok, Err}
-use Rattle.outside.specs.Faults.{Rose}
-use Rattle.outside.specs.PrintedText.{Begins}
-use Rattle.outside.specs.Runs.{KeepsStore}
-use Rattle.outside.specs.declared.board.Board.{Ghosts}
-use Rattle.outside.specs.declared.files.Files.{Ghosts as FileGhosts}
-use Rattle.call_ends.specs.Answer.{Answer}
-use Rattle.call_ends.specs.Course.{Command}
-use Rattle.call_ends.specs.Ending.{EndsByCourse, HasCauseOn}
-use Rattle.call_ends.specs.LastLine.{line_of, status_of}
+use Rattle.std.specs.Prelude.{[], ℕ, ◌&&◌, ◌++◌, ◌+◌, ◌≡◌, ◌≢◌, ◌≤◌, ◌⊎◌, Bool, Err, List, Ok, Result, eqb, not, true}
+use Rattle.{outside.specs.declared.files.Files.{Ghosts as FileGhosts}, call_ends.specs.LastLine.{line_of, status_of}}
+use Rattle.call_ends.specs.{Answer.{Answer}, Ending.{EndsByCourse, HasCauseOn}, declared.made.Made.{Made}}
+use Rattle.call_ends.specs.{Common.{Begins, BoardFault, Ended, Ghosts, KeepsStore, NoMemory, Rose}, Course.{Command}}
 use Rattle.call_ends.specs.Reads.{Follows}
-use Rattle.call_ends.specs.declared.ending.Ended.{Ended}
-use Rattle.call_ends.specs.declared.ending.Ended.TheVariants.{BoardFault, NoMemory}
-use Rattle.call_ends.specs.declared.made.Made.{Made}
 
 -- the text of what was made, which is empty if nothing was
 abbrev pub text_made : Result Made Ended → List ℕ

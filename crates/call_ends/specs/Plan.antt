@@ -1,5 +1,5 @@
 -- Rules: which words a command reads, in which order, and when it comes to each.
-use Rattle.std.specs.Prelude.{◌≡◌, ◌⊎◌, ℕ, ◌+◌, ◌==◌, List, if◌then◌else◌}
+use Rattle.std.specs.Prelude.{ℕ, ◌+◌, ◌==◌, ◌≡◌, ◌⊎◌, List, if◌then◌else◌}
 
 -- a plan has the words that a command reads, in order, each with when the command comes to it: by the contents of its
 -- files, the opening image, and the bytes that were `taken` of the drive or the requests

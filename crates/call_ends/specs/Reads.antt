@@ -1,12 +1,8 @@
 -- For proofs: what a part of a command does to the files that it reads. Plan says which words a command reads.
-use Rattle.std.specs.Prelude.{◌≡◌, ◌≢◌, ◌⊎◌, ℕ, ◌<◌, List, [], OnOk, Result, Err}
-use Rattle.outside.specs.Faults.{Rose}
-use Rattle.outside.specs.Reading.{LeavesOthers}
+use Rattle.std.specs.Prelude.{[], ℕ, ◌<◌, ◌≡◌, ◌≢◌, ◌⊎◌, Err, List, OnOk, Result}
 use Rattle.outside.specs.declared.files.Files.{Ghosts as FileGhosts}
 use Rattle.call_ends.specs.Call.{LeavesUnread, StopsReading}
-use Rattle.call_ends.specs.Course.{Command}
-use Rattle.call_ends.specs.declared.ending.Ended.{Ended}
-use Rattle.call_ends.specs.declared.ending.Ended.TheVariants.{BoardFault, NoMemory, ReadFault}
+use Rattle.call_ends.specs.{Common.{BoardFault, Ended, LeavesOthers, NoMemory, ReadFault, Rose}, Course.{Command}}
 
 -- a part of a command gives nothing: a read failed, memory ran out, or it `refuses`
 pub record FailsOr (refuses : Ended → Type 0) (why : Ended) : Type 0 where

@@ -1,10 +1,7 @@
 -- Rules: commands that make a whole text of their files in memory, and then print it.
-use Rattle.std.specs.Prelude.{◌≡◌, ◌⊎◌, ℕ, ◌+◌, ◌≤◌, List, [], length, Option, None}
-use Rattle.call_ends.specs.Answer.{Answer}
-use Rattle.call_ends.specs.Course.{Command}
-use Rattle.call_ends.specs.Pieces.{pieces_of}
-use Rattle.call_ends.specs.Plan.{Plan, Last, HasWord, ComesTo, turn_in}
-use Rattle.call_ends.specs.Stream.{Stream}
+use Rattle.std.specs.Prelude.{[], ℕ, ◌+◌, ◌≡◌, ◌≤◌, ◌⊎◌, List, None, Option, length}
+use Rattle.call_ends.specs.{Answer.{Answer}, Stream.{Stream}}
+use Rattle.call_ends.specs.{Course.{Command}, Pieces.{pieces_of}, Plan.{ComesTo, HasWord, Last, Plan, turn_in}}
 
 -- a command that makes a text reads the words of its plan, and prints in as few pieces as it can, in a step for each
 -- and one for the last line; with the status 0 or 11 it has read all; it opens no store

@@ -1,7 +1,6 @@
 //! Prints what a command has made.
 ghost use Rattle.std.specs.Prelude.{◌≡◌, ◌≢◌, length};
-ghost use Rattle.call_ends.specs.Making.{Prints, end_made, end_printed, text_made};
-ghost use Rattle.call_ends.specs.Pieces.{pieces_of};
+ghost use Rattle.call_ends.specs.{Making.{Prints, end_made, end_printed, text_made}, Pieces.{pieces_of}};
 
 use crate::ending::Ended;
 use crate::pieces::print_text;

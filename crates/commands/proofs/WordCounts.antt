@@ -1,5 +1,5 @@
 -- Words that are two, and four.
-use Rattle.std.proofs.Common.{◌≡◌, ℕ, ◌<◌, ◌≤◌, List, [], ◌∷◌, length, get_or, map, ap, ◌∙◌, arith}
+use Rattle.std.proofs.Common.{[], ℕ, ◌<◌, ◌∙◌, ◌∷◌, ◌≡◌, ◌≤◌, List, ap, arith, get_or, length, map}
 use Rattle.commands.specs.Words.{four_words, row_of, two_words}
 
 -- the command that two words are

@@ -1,17 +1,13 @@
 -- What a piece changes of a port, byte by byte.
-use Rattle.std.proofs.Common.{◌≡◌, ◌⊎◌, inl, inr, ℕ, ◌+◌, ◌<◌, ◌≤◌, Bool, true, false, List, [], ◌∷◌, ◌++◌, length}
-use Rattle.std.proofs.Common.{take, drop, get_or, Some, None, refl, sym, ap, subst, ◌∙◌, append_assoc, arith}
-use Rattle.std.specs.List.{All}
-use Rattle.std.proofs.lemmas.Bool.{both_ways, cases_Bool, cases_lt, cond-false, cond-true}
-use Rattle.std.proofs.lemmas.List.{append-nil, take-append-drop, take_more}
-use Rattle.std.proofs.lemmas.List.Elements.{All-append}
-use Rattle.data_port.specs.declared.request.Request.{Request}
-use Rattle.data_port.specs.Reading.{BreaksIn, HasSense, HasTaken, Standing, TakesTo, between}
+use Rattle.std.{specs.List.{All}, proofs.lemmas.List.{append-nil, take-append-drop, take_more}}
+use Rattle.std.proofs.Common.{[], ℕ, ◌++◌, ◌+◌, ◌<◌, ◌∙◌, ◌∷◌, ◌≡◌, ◌≤◌, ◌⊎◌, Bool, List, None, Some, ap, append_assoc}
+use Rattle.std.proofs.Common.{arith, drop, false, get_or, inl, inr, length, refl, subst, sym, take, true}
+use Rattle.std.proofs.lemmas.{Bool.{both_ways, cases_Bool, cases_lt, cond-false, cond-true}, List.Elements.{All-append}}
+use Rattle.data_port.specs.{Reading.{BreaksIn, HasSense, HasTaken, Standing, TakesTo, between}, ReadingStages.{has_all}}
 use Rattle.data_port.specs.ReadingStages.{after_byte, after_bytes, after_good, bad_of, ended_by, ended_in, follows}
-use Rattle.data_port.specs.ReadingStages.{has_all}
 use Rattle.data_port.specs.Requests.{IsRequest}
+use Rattle.data_port.{specs.declared.request.Request.{Request}, proofs.Streams.{added_good, bad_none}}
 use Rattle.data_port.proofs.Runs.{after-append, bad_byte, bad_ended, ended-append, good_byte, stuck}
-use Rattle.data_port.proofs.Streams.{added_good, bad_none}
 
 -- ---- a byte
 

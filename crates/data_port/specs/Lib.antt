@@ -8,3 +8,4 @@ pub mod ServingStages
 pub mod Standing
 pub mod State
 pub mod Streams
+pub mod Common

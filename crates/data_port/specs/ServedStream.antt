@@ -1,17 +1,10 @@
 -- Rules: a stream of requests that is served, how it ends, and what is printed of it.
-use Rattle.std.specs.Prelude.{◌≡◌, ℕ, ◌+◌, ◌≤◌, List, ◌++◌, length, Result, Ok, Err}
-use Rattle.std.specs.List.{flat_map}
+use Rattle.std.specs.{List.{flat_map}, Prelude.{ℕ, ◌++◌, ◌+◌, ◌≡◌, ◌≤◌, Err, List, Ok, Result, length}}
+use Rattle.{taxi_units.specs.Streams.{StreamKind, end_of, given_of}, data_port.specs.Reply.{reply_to}}
+use Rattle.data_port.specs.Common.{Begins, BoardFault, Durable, Frame, PortFault, ReadFault, Seal, TooLong}
+use Rattle.data_port.specs.{Reading.{bad_at_end, first_bad, requests_in}, declared.request.Request.{Request}}
 use Rattle.taxi_units.specs.Streams as streams
-use Rattle.taxi_units.specs.Streams.{StreamKind, end_of, given_of}
-pub use Rattle.taxi_units.specs.Streams.{StreamEnd, Whole, BadAt, Endless, IsSplit, StopsAfter, stream_limit}
-use Rattle.outside.specs.PrintedText.{Begins}
-use Rattle.seal_record.specs.declared.seal.Seal.{Seal}
-use Rattle.totals_record.specs.declared.durable_state.Durable.{Durable}
-use Rattle.data_port.specs.declared.request.Request.{Request}
-use Rattle.data_port.specs.declared.serving.PortFault.{PortFault}
-use Rattle.data_port.specs.declared.serving.PortFault.TheVariants.{ReadFault, BoardFault, Frame, TooLong}
-use Rattle.data_port.specs.Reading.{bad_at_end, first_bad, requests_in}
-use Rattle.data_port.specs.Reply.{reply_to}
+pub use Rattle.taxi_units.specs.Streams.{BadAt, Endless, IsSplit, StopsAfter, StreamEnd, Whole, stream_limit}
 
 -- requests are the kind of streams that tells of bytes the first place whose byte no requests have there
 abbrev pub requests : StreamKind

@@ -1,30 +1,17 @@
 -- The command `bench`: how it comes to its last line.
-use Rattle.std.proofs.Common.{◌≡◌, ◌≢◌, ℕ, ◌+◌, ◌≤◌, Bool, true, false, List, [], ◌++◌, length, Result, Ok, Err, refl}
-use Rattle.std.proofs.Common.{sym, ap, subst, ◌∙◌, inl, inr, ⊎_elim, arith}
 use Rattle.std.specs.Prelude.{◌⊎◌}
-use Rattle.std.proofs.lemmas.List.{append-nil}
-use Rattle.drive_text.specs.Ending.{StreamEnd, Whole, BadAt, Endless, IsGoing, IsSplit, TellsEnd, drive_end}
-use Rattle.outside.specs.PrintedText.{Begins}
-use Rattle.verify_bench.specs.Readings.{readings_in}
-use Rattle.verify_bench.specs.declared.reading.Reading.{Reading}
-use Rattle.verify_bench.specs.declared.reading.ReadingsFault.{ReadingsFault}
-use Rattle.call_ends.specs.Answer.{Answer}
-use Rattle.drive_commands.specs.Bench.{Terms, bench_answer, bench_command, bench_text, judged_ending, passing_status}
-use Rattle.drive_commands.specs.Bench.{readings_answer, terms_of}
-use Rattle.drive_commands.specs.BenchSteps.{HasNoTerms, IsJudged, IsNotJudged, IsStopped}
-use Rattle.call_ends.specs.Call.{LeavesUnread, MayTake}
-use Rattle.call_ends.specs.Course.{Answered, NoMemory, ReadFailed}
-use Rattle.call_ends.specs.Ending.{EndsByCourse, IsRefusal}
-use Rattle.drive_commands.specs.DriveEnds.{ended_with}
-use Rattle.call_ends.specs.LastLine.{line_of, refused_as, status_of}
-use Rattle.store_commands.specs.Opening.{IsSealedIn, opening_in}
-use Rattle.call_ends.specs.Pieces.{pieces_of}
-use Rattle.call_ends.specs.declared.ending.Ended.{Ended}
-use Rattle.call_ends.specs.declared.ending.Ended.TheVariants as ended
+use Rattle.std.proofs.Common.{[], ℕ, ◌++◌, ◌+◌, ◌∙◌, ◌≡◌, ◌≢◌, ◌≤◌, Bool, Err, List, Ok, Result, ap, arith, false, inl}
+use Rattle.std.proofs.{Common.{inr, length, refl, subst, sym, true, ⊎_elim}, lemmas.List.{append-nil}}
+use Rattle.call_ends.{specs.Call.{LeavesUnread, MayTake}, proofs.Laws.{course-part, course-whole}}
 use Rattle.store_commands.proofs.Laws.{course-board, course-refusal}
-use Rattle.drive_commands.proofs.TariffDrives.{begins_going}
-use Rattle.drive_commands.proofs.JudgedReadings.{judged-over}
-use Rattle.call_ends.proofs.Laws.{course-part, course-whole}
+use Rattle.drive_commands.specs.Bench.{Terms, bench_answer, bench_command, bench_text, judged_ending, passing_status}
+use Rattle.drive_commands.specs.{Bench.{readings_answer, terms_of}, Common.{readings_in, refused_as, status_of}}
+use Rattle.drive_commands.specs.{BenchSteps.{HasNoTerms, IsJudged, IsNotJudged, IsStopped}, DriveEnds.{ended_with}}
+use Rattle.drive_commands.specs.Common.{Answer, Answered, BadAt, Begins, Ended, Endless, EndsByCourse, IsGoing}
+use Rattle.drive_commands.specs.Common.{IsRefusal, IsSealedIn, IsSplit, NoMemory, ReadFailed, Reading, ReadingsFault}
+use Rattle.drive_commands.specs.Common.{StreamEnd, TellsEnd, Whole, drive_end, line_of, opening_in, pieces_of}
+use Rattle.drive_commands.proofs.{JudgedReadings.{judged-over}, TariffDrives.{begins_going}}
+use Rattle.call_ends.specs.declared.ending.Ended.TheVariants as ended
 
 -- the status and the line of an end after the report was printed
 status-passing : (pass : Bool) → status_of (ended_with pass) ≡ passing_status pass

@@ -1,33 +1,18 @@
 -- What the command `explain` answers: why there is nothing to explain, and what it prints of a drive.
-use Rattle.std.proofs.Common.{◌≡◌, ◌≢◌, ℕ, ◌<◌, List, [], length, Result, Ok, Err, refl, sym, ap, ◌∙◌, inl, inr, arith}
 use Rattle.std.specs.Prelude.{◌⊎◌}
-use Rattle.drive_text.specs.Ending.{StreamEnd, Whole, BadAt, Endless, IsSplit, TellsEnd, drive_end}
-use Rattle.meter_model.specs.Setting.{Setting}
-use Rattle.seal_record.specs.Reading.{params_read}
-use Rattle.seal_record.specs.declared.params.ParamFault.{ParamFault}
-use Rattle.seal_record.specs.declared.params.Params.{Params}
-use Rattle.tariff_syntax.specs.Tree.{Tree}
-use Rattle.call_ends.specs.Answer.{Answer, shows}
-use Rattle.drive_commands.specs.BenchSteps.{IsNoDrive, ended_for_drive}
-use Rattle.call_ends.specs.Course.{Answered, NoMemory, ReadFailed}
-use Rattle.call_ends.specs.Ending.{EndsUnprinted, ended_for}
-use Rattle.store_commands.specs.StoreEnds.{ended_for_params}
-use Rattle.drive_commands.specs.Explain.{ending_answer, explain_answer, explain_command, explain_turn, setting_from}
-use Rattle.drive_commands.specs.Explain.{read_setting, setting_with}
-use Rattle.drive_commands.specs.ExplainSteps.{HasExplained}
-use Rattle.call_ends.specs.LastLine.{refused_as, status_of}
-use Rattle.call_ends.specs.Pieces.{pieces_of}
-use Rattle.call_ends.specs.Tariffs.{tariff_in}
-use Rattle.call_ends.specs.declared.ending.Ended.{Ended}
+use Rattle.std.proofs.Common.{[], ℕ, ◌<◌, ◌∙◌, ◌≡◌, ◌≢◌, Err, List, Ok, Result, ap, arith, inl, inr, length, refl, sym}
+use Rattle.{seal_record.specs.Reading.{params_read}, call_ends.proofs.Laws.{course-no_memory, course-refused}}
+use Rattle.store_commands.specs.{StoreEnds.{ended_for_params}, declared.params.ParamsFault.{ParamsFault}}
+use Rattle.drive_commands.specs.{BenchSteps.{IsNoDrive, ended_for_drive}, ExplainSteps.{HasExplained}}
+use Rattle.drive_commands.specs.Common.{Answer, Answered, BadAt, DriveFault, Ended, Endless, EndsUnprinted, IsSplit}
+use Rattle.drive_commands.specs.Common.{NoMemory, ParamFault, Params, ReadFailed, Refusal, Setting, StreamEnd, TellsEnd}
+use Rattle.drive_commands.specs.Common.{TextFault, Tree, Whole, drive_end, ended_for, pieces_of, refused_as, shows}
+use Rattle.drive_commands.specs.{Common.{status_of, tariff_in}, Explain.{setting_from, setting_with}}
+use Rattle.drive_commands.specs.Explain.{ending_answer, explain_answer, explain_command, explain_turn, read_setting}
 use Rattle.call_ends.specs.declared.ending.Ended.TheVariants as ended
-use Rattle.store_commands.specs.declared.params.ParamsFault.{ParamsFault}
 use Rattle.store_commands.specs.declared.params.ParamsFault.TheVariants as params
-use Rattle.call_ends.specs.declared.tariff.Refusal.{Refusal}
-use Rattle.call_ends.specs.declared.tariff.TextFault.{TextFault}
 use Rattle.call_ends.specs.declared.tariff.TextFault.TheVariants as texts
-use Rattle.drive_commands.specs.declared.whole_drive.DriveFault.{DriveFault}
 use Rattle.drive_commands.specs.declared.whole_drive.DriveFault.TheVariants as drives
-use Rattle.call_ends.proofs.Laws.{course-no_memory, course-refused}
 
 -- the setting of a tariff and of parameters that were read
 pub setting_is : (tariff text : List ℕ) (t : Tree) (read : Result Params ParamFault) → tariff_in tariff ≡ Ok t

@@ -1,46 +1,21 @@
 -- The command `gen`.
-use Rattle.std.proofs.Common.{◌≡◌, ◌≢◌, ℕ, ◌+◌, ◌*◌, ◌<◌, ◌≤◌, List, [], ◌∷◌, ◌++◌, length, Option, None, Some, Result}
-use Rattle.std.proofs.Common.{Ok, Err, refl, sym, ap, subst, ◌∙◌, inl, inr, arith}
-use Rattle.std.specs.Prelude.{pos, zero, suc, Bool, is_ok, is_err, true, false, nat_lt}
-use Rattle.std.proofs.lemmas.Bool.{lt-ltb}
-use Rattle.std.proofs.lemmas.List.{append-nil}
-use Rattle.outside.specs.Faults.{Rose}
-use Rattle.drive_text.specs.Drive.{bad_at_end, events_in}
-use Rattle.drive_text.specs.Ending.{Whole, drive_end, stream_limit}
-use Rattle.drive_modes.specs.declared.charges.Mode.TheVariants.{Single}
+use Rattle.std.{specs.Prelude.{Bool, false, is_err, is_ok, nat_lt, pos, suc, true, zero}, proofs.lemmas.Bool.{lt-ltb}}
+use Rattle.std.proofs.Common.{[], ℕ, ◌*◌, ◌++◌, ◌+◌, ◌<◌, ◌∙◌, ◌∷◌, ◌≡◌, ◌≢◌, ◌≤◌, Err, List, None, Ok, Option, Result}
+use Rattle.std.proofs.{Common.{Some, ap, arith, inl, inr, length, refl, subst, sym}, lemmas.List.{append-nil}}
+use Rattle.{slot_store.proofs.Laws.{body_found}, drive_text.specs.{Drive.{bad_at_end}, Ending.{stream_limit}}}
 use Rattle.interval_clock.specs.Offsets.{EachPlace, IsInRangeAt, IsOffsetList, RisesAt}
-use Rattle.meter_run.specs.Drives.{IsBoundedByDrive}
-use Rattle.meter_run.specs.Supply.{drop_steps, is_supplied}
-use Rattle.taxi_units.specs.declared.event.Event.{Event}
-use Rattle.outside.specs.PrintedText.{Begins}
-use Rattle.slot_store.specs.declared.found.Found.{Found}
-use Rattle.slot_store.specs.declared.found.SlotFault.{SlotFault}
-use Rattle.slot_store.specs.Scan.{found_at}
-use Rattle.slot_store.proofs.Laws.{body_found}
-use Rattle.meter_store.specs.Sealing.{totals_found}
-use Rattle.seal_record.specs.declared.seal.Seal.{Seal}
-use Rattle.meter_model.specs.Setting.{IsSealOf}
-use Rattle.meter_states.specs.Setting.{IsSettingOf, IsTariffOf}
-use Rattle.tariff_compile.specs.Tables.{IsTablesOf, TableParts, tables_of}
-use Rattle.verify_bench.specs.Generated.{generated}
-use Rattle.totals_record.specs.declared.durable_state.Durable.{Durable}
+use Rattle.{meter_store.specs.Sealing.{totals_found}, meter_model.specs.Setting.{IsSealOf}}
+use Rattle.{meter_states.specs.Setting.{IsTariffOf}, meter_run.specs.Supply.{drop_steps, is_supplied}}
+use Rattle.{call_ends.proofs.Laws.{course-bad_tariff, course-no_memory}, drive_commands.specs.Generate.{state_after}}
+use Rattle.drive_commands.specs.Common.{Answer, Answered, Begins, Durable, Ended, EndsByCourse, EndsUnprinted, Event}
+use Rattle.drive_commands.specs.Common.{Found, HasState, IsBoundedByDrive, IsSettingOf, IsTablesOf, Refusal, Rose, Seal}
+use Rattle.drive_commands.specs.Common.{Single, SlotFault, TableParts, TextFault, Tree, Whole, bad_tariff, drive_end}
+use Rattle.drive_commands.specs.Common.{ended_for, events_in, first_second, found_at, generated, tables_of, tariff_in}
+use Rattle.drive_commands.specs.Generate.{city_text, gen_answer, gen_command, generated_setting, generated_text}
 use Rattle.totals_record.specs.Reading as totals
 use Rattle.meter_store.specs.Stored as states
-use Rattle.meter_store.specs.Stored.{HasState}
-use Rattle.taxi_units.specs.Time.{first_second}
-use Rattle.tariff_syntax.specs.Tree.{Tree}
-use Rattle.call_ends.specs.declared.ending.Ended.{Ended}
 use Rattle.call_ends.specs.declared.ending.Ended.TheVariants as ended
-use Rattle.call_ends.specs.declared.tariff.Refusal.{Refusal}
-use Rattle.call_ends.specs.declared.tariff.TextFault.{TextFault}
 use Rattle.call_ends.specs.declared.tariff.TextFault.TheVariants as texts
-use Rattle.call_ends.specs.Answer.{Answer}
-use Rattle.call_ends.specs.Course.{Answered}
-use Rattle.call_ends.specs.Ending.{EndsByCourse, EndsUnprinted, ended_for}
-use Rattle.drive_commands.specs.Generate.{city_text, gen_answer, gen_command, generated_setting, generated_text}
-use Rattle.drive_commands.specs.Generate.{state_after}
-use Rattle.call_ends.specs.Tariffs.{bad_tariff, tariff_in}
-use Rattle.call_ends.proofs.Laws.{course-bad_tariff, course-no_memory}
 
 -- local time an hour ahead of UTC
 pub is_an_hour : IsOffsetList ((first_second, pos 3600) ∷ [])

@@ -1,12 +1,7 @@
 -- The test whether a held trip fits the tables decides it.
-use Rattle.std.proofs.Common.{Option, Some, None, IfSome, Decides, refl, subst}
-use Rattle.std.specs.Option.{ForSome}
-use Rattle.std.proofs.lemmas.Bool.Decides.{Decides-like}
-use Rattle.tariff_compile.specs.Tables.{TableParts}
-use Rattle.taxi_units.specs.Test.{if_some}
-use Rattle.totals_record.specs.declared.trip.Trip.{Trip}
-use Rattle.meter_states.specs.Fits.{Fits, fits_test}
-use Rattle.drive_commands.specs.Run.{does_hold_fit}
+use Rattle.{std.specs.Option.{ForSome}, taxi_units.specs.Test.{if_some}, totals_record.specs.declared.trip.Trip.{Trip}}
+use Rattle.std.proofs.{Common.{Decides, IfSome, None, Option, Some, refl, subst}, lemmas.Bool.Decides.{Decides-like}}
+use Rattle.drive_commands.specs.{Common.{Fits, TableParts, fits_test}, Run.{does_hold_fit}}
 
 pub Decides-hold : (tables : TableParts) (hold : Option Trip)
     → Decides (does_hold_fit tables hold) (ForSome hold (Fits tables))

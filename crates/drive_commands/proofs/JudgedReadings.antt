@@ -1,18 +1,12 @@
 -- Judging readings by a drive, and why nothing is judged.
-use Rattle.std.proofs.Common.{◌≡◌, ◌≢◌, ℕ, Bool, List, ◌++◌, Ok, Err, refl, sym, ap, subst, ◌∙◌, inl, inr}
-use Rattle.std.proofs.lemmas.List.{append-nil}
-use Rattle.drive_text.specs.declared.run.Run.{Run}
-use Rattle.verify_bench.specs.Readings.{IsReadAs, readings_in}
-use Rattle.verify_bench.specs.declared.reading.Reading.{Reading}
-use Rattle.verify_bench.specs.declared.reading.ReadingsFault.{ReadingsFault}
-use Rattle.verify_bench.specs.declared.reading.ReadingsFault.TheVariants as readings
-use Rattle.verify_bench.proofs.Laws.{texts_have_one_reading}
+use Rattle.std.proofs.Common.{ℕ, ◌++◌, ◌∙◌, ◌≡◌, ◌≢◌, Bool, Err, List, Ok, ap, inl, inr, refl, subst, sym}
+use Rattle.{std.proofs.lemmas.List.{append-nil}, verify_bench.proofs.Laws.{texts_have_one_reading}}
+use Rattle.{verify_bench.specs.Readings.{IsReadAs}, drive_commands.specs.BenchSteps.{ended_for_drive}}
 use Rattle.drive_commands.specs.Bench.{Terms, ended_for_readings}
 use Rattle.drive_commands.specs.BenchSteps.{IsJudged, IsNoDrive, IsNoReadings, IsNotJudged, IsStopped, IsWholeDrive}
-use Rattle.drive_commands.specs.BenchSteps.{ended_for_drive}
-use Rattle.call_ends.specs.declared.ending.Ended.{Ended}
+use Rattle.drive_commands.specs.Common.{DriveFault, Ended, Reading, ReadingsFault, Run, readings_in}
+use Rattle.verify_bench.specs.declared.reading.ReadingsFault.TheVariants as readings
 use Rattle.call_ends.specs.declared.ending.Ended.TheVariants as ended
-use Rattle.drive_commands.specs.declared.whole_drive.DriveFault.{DriveFault}
 use Rattle.drive_commands.specs.declared.whole_drive.DriveFault.TheVariants as drives
 
 -- ---- the readings

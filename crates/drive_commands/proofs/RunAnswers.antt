@@ -1,36 +1,19 @@
 -- The command `run`: what it answers, and what it leaves of the store.
-use Rattle.std.proofs.Common.{◌≡◌, ◌≢◌, inl, inr, ℕ, List, [], ◌∷◌, ◌++◌, length, get_or, Some, Result, Ok, Err, refl}
-use Rattle.std.proofs.Common.{sym, ap, subst, ◌∙◌}
-use Rattle.std.proofs.lemmas.List.{append-nil, ext_get_or}
-use Rattle.outside.specs.declared.board.Board.{Ghosts}
-use Rattle.outside.specs.declared.files.Files.{Ghosts as FileGhosts}
-use Rattle.outside.specs.Disk.{SameBut}
-use Rattle.outside.specs.Faults.{Rose}
-use Rattle.outside.specs.PrintedText.{Begins}
-use Rattle.outside.specs.Runs.{IsAtRest as NothingFlies}
-use Rattle.outside.proofs.Laws.{begins_not}
-use Rattle.slot_store.specs.Syncs.{IsAsHeld, LeavesFromSync, ReadsOnly}
-use Rattle.slot_store.proofs.Laws.{from_sync_as}
-use Rattle.meter_store.specs.Stored.{HasState}
-use Rattle.totals_record.proofs.Laws.{changes_add_up}
-use Rattle.meter_run.proofs.Laws.{receipts_have_their_entries-run}
-use Rattle.meter_run.specs.Deeds.{Deed, Prints, after_deeds, texts}
-use Rattle.meter_run.specs.Points.{HasEntries, IsCutOfDeeds}
-use Rattle.call_ends.specs.declared.ending.Ended.{Ended}
-use Rattle.call_ends.specs.declared.ending.Ended.TheVariants as ended
-use Rattle.call_ends.specs.Answer.{Answer}
-use Rattle.call_ends.specs.Course.{Answered, NoMemory, ReadFailed, BoardFailed, line_in}
-use Rattle.call_ends.specs.Ending.{EndsOnDevices, IsRefusal}
-use Rattle.call_ends.specs.LastLine.{line_of, refused_as, status_of}
-use Rattle.store_commands.specs.Opening.{opening_in}
-use Rattle.drive_commands.specs.Run.{IsOfTotals, IsCutOfRun, IsCutOfCourse, StandsAfterRun, Start, bytes_in, deeds_in}
+use Rattle.std.proofs.Common.{[], ℕ, ◌++◌, ◌∙◌, ◌∷◌, ◌≡◌, ◌≢◌, Err, List, Ok, Result, Some, ap, get_or, inl, inr}
+use Rattle.std.proofs.{Common.{length, refl, subst, sym}, lemmas.List.{append-nil, ext_get_or}}
+use Rattle.outside.specs.{Runs.{IsAtRest as NothingFlies}, declared.files.Files.{Ghosts as FileGhosts}}
+use Rattle.{outside.proofs.Laws.{begins_not}, slot_store.specs.Syncs.{IsAsHeld, ReadsOnly}}
+use Rattle.{slot_store.proofs.Laws.{from_sync_as}, totals_record.proofs.Laws.{changes_add_up}}
+use Rattle.meter_run.{specs.Points.{HasEntries}, proofs.Laws.{receipts_have_their_entries-run}}
+use Rattle.{call_ends.{specs.Stream.{TakesBytes}, proofs.Laws.{bytes-read}}, store_commands.proofs.Laws.{none}}
+use Rattle.drive_commands.specs.Common.{Answer, Answered, Begins, BoardFailed, Deed, Drive, Ended, EndsOnDevices}
+use Rattle.drive_commands.specs.Common.{Ghosts, HasState, IsCutOfDeeds, IsRefusal, LeavesFromSync, NoMemory, Prints}
+use Rattle.drive_commands.specs.Common.{ReadFailed, Rose, SameBut, after_deeds, line_in, line_of, opening_in}
+use Rattle.drive_commands.specs.{Common.{refused_as, status_of, texts}, RunSteps.{HasNotBegun, RunReachesLine}}
+use Rattle.drive_commands.specs.Run.{IsCutOfCourse, IsCutOfRun, IsOfTotals, StandsAfterRun, Start, bytes_in, deeds_in}
 use Rattle.drive_commands.specs.Run.{run_answer, run_command, setting_in, shown_in_run, start_at, start_of, tables_in}
-use Rattle.call_ends.specs.Stream.{Drive, TakesBytes}
-use Rattle.drive_commands.specs.RunSteps.{HasNotBegun, RunReachesLine}
-use Rattle.store_commands.proofs.Laws.{none}
-use Rattle.drive_commands.proofs.RunCuts.{first_cut, last_cut}
-use Rattle.drive_commands.proofs.RunStarts.{start_stands}
-use Rattle.call_ends.proofs.Laws.{bytes-read}
+use Rattle.drive_commands.proofs.{RunCuts.{first_cut, last_cut}, RunStarts.{start_stands}}
+use Rattle.call_ends.specs.declared.ending.Ended.TheVariants as ended
 
 -- over no bytes a run does nothing
 no_deeds : (s : Start) → deeds_in s [] ≡ []

@@ -1,45 +1,21 @@
 -- The command `run`: how it begins.
-use Rattle.std.proofs.Common.{◌≡◌, ◌≢◌, ℕ, ◌<◌, ◌≤◌, Bool, true, false, if◌then◌else◌, List, length, take, drop, Result}
-use Rattle.std.proofs.Common.{Ok, Err, refl, sym, ap, subst, ◌∙◌, arith}
-use Rattle.std.specs.Option.{ForSome}
-use Rattle.std.specs.Cmp.Lexicographic.{pointwise}
-use Rattle.std.specs.Prelude.{nat_eq}
-use Rattle.std.proofs.lemmas.Bool.{le-ltb, lt-ltb}
-use Rattle.sha2.specs.Sha256.{sha256}
-use Rattle.outside.specs.Disk.{SameBut}
-use Rattle.outside.proofs.Laws.{same_slice}
-use Rattle.slot_store.specs.declared.found.Found.{Found}
-use Rattle.slot_store.specs.declared.found.Found.TheVariants.{Blank, Latest}
-use Rattle.slot_store.specs.declared.found.SlotFault.{SlotFault}
-use Rattle.slot_store.specs.declared.pair.Place.{Place}
-use Rattle.slot_store.specs.Scan.{IsAnswer, found_at, verdict_on}
-use Rattle.slot_store.proofs.Laws.{answer_is, at_stands}
-use Rattle.totals_record.specs.declared.durable_state.Durable.{Durable}
+use Rattle.{std.specs.{Cmp.Lexicographic.{pointwise}, Option.{ForSome}, Prelude.{nat_eq}}, sha2.specs.Sha256.{sha256}}
+use Rattle.std.proofs.Common.{ℕ, ◌<◌, ◌∙◌, ◌≡◌, ◌≢◌, ◌≤◌, Bool, Err, List, Ok, Result, ap, arith, drop, false}
+use Rattle.std.proofs.{Common.{if◌then◌else◌, length, refl, subst, sym, take, true}, lemmas.Bool.{le-ltb, lt-ltb}}
+use Rattle.{outside.proofs.Laws.{same_slice}, slot_store.specs.declared.found.Found.TheVariants.{Blank, Latest}}
+use Rattle.slot_store.{specs.Scan.{IsAnswer, verdict_on}, proofs.Laws.{answer_is, at_stands}}
+use Rattle.{slot_store.specs.declared.pair.Place.{Place}, call_ends.proofs.Laws.{refusal_by}}
+use Rattle.store_commands.{specs.{Opened.{IsBarred}, Opening.{opening_by}}, proofs.Laws.{owed-refused}}
+use Rattle.drive_commands.specs.Common.{Durable, Ended, Fits, Found, IsSealedIn, Opening, Refusal, SameBut, Seal}
+use Rattle.drive_commands.specs.Common.{SlotFault, StoreFault, TextFault, TooLong, Tree, ended_for, found_at}
+use Rattle.drive_commands.specs.{Common.{opening_in, store_of, tables_of, tariff_in}, Run.{start_with, tables_in}}
+use Rattle.drive_commands.specs.Run.{IsOfTotals, Start, accepted, does_hold_fit, sealed_tariff, start_of, start_over}
+use Rattle.drive_commands.{specs.RunSteps.{AreNoTables, HasNotBegun, IsNoTables}, proofs.HeldTripFits.{Decides-hold}}
 use Rattle.totals_record.specs.Reading as totals
 use Rattle.meter_store.specs.Stored as states
-use Rattle.seal_record.specs.declared.seal.Seal.{Seal}
 use Rattle.seal_record.specs.Decoding as seals
-use Rattle.meter_states.specs.Fits.{Fits}
-use Rattle.tariff_compile.specs.Tables.{tables_of}
-use Rattle.tariff_syntax.specs.Tree.{Tree}
-use Rattle.call_ends.specs.declared.ending.Ended.{Ended}
 use Rattle.call_ends.specs.declared.ending.Ended.TheVariants as ended
-use Rattle.store_commands.specs.declared.opening.Opening.{Opening}
-use Rattle.store_commands.specs.declared.opening.StoreFault.{StoreFault}
-use Rattle.call_ends.specs.declared.tariff.Refusal.{Refusal}
-use Rattle.call_ends.specs.declared.tariff.Refusal.TheVariants.{TooLong}
-use Rattle.call_ends.specs.declared.tariff.TextFault.{TextFault}
 use Rattle.call_ends.specs.declared.tariff.TextFault.TheVariants as texts
-use Rattle.call_ends.specs.Ending.{ended_for}
-use Rattle.store_commands.specs.Opening.{IsSealedIn, opening_by, opening_in, store_of}
-use Rattle.store_commands.specs.Opened.{IsBarred}
-use Rattle.drive_commands.specs.Run.{IsOfTotals, Start, accepted, does_hold_fit, sealed_tariff, start_of, start_over}
-use Rattle.drive_commands.specs.Run.{start_with, tables_in}
-use Rattle.drive_commands.specs.RunSteps.{AreNoTables, HasNotBegun, IsNoTables}
-use Rattle.call_ends.specs.Tariffs.{tariff_in}
-use Rattle.call_ends.proofs.Laws.{refusal_by}
-use Rattle.store_commands.proofs.Laws.{owed-refused}
-use Rattle.drive_commands.proofs.HeldTripFits.{Decides-hold}
 
 -- ---- the sealed tariff
 
@@ -176,7 +152,7 @@ starts_again image tariff left s place d e same found fits =
     second ∙ h.seal.1 in
     let opening : opening_in left ≡ Ok (record { totals = Latest place d; seal = Latest h.seal.0 s.seal }) =
     ap (λ (r : Result (Found Durable) SlotFault). opening_by r
-        (found_at seals.reads seals.seal_number_of 1024 left)) found
+    (found_at seals.reads seals.seal_number_of 1024 left)) found
     ∙ ap (opening_by (Ok (Latest place d))) seal in
     ap (λ (r : Result Opening StoreFault). start_of r tariff) opening ∙ ap (start_with d s.seal) h.tariff_is
     ∙ rw ((Decides-hold (tables_in s) d.hold).1 fits) refl

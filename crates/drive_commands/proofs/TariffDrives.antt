@@ -1,29 +1,15 @@
 -- The drive under a tariff.
-use Rattle.std.proofs.Common.{◌≡◌, ℕ, List, [], ◌++◌, Result, Ok, Err, refl, sym, ap, subst, ◌∙◌, inl, inr, arith}
-use Rattle.std.specs.Prelude.{◌⊎◌, ◌∷◌, pos, zero, suc}
+use Rattle.std.{specs.Prelude.{◌∷◌, ◌⊎◌, pos, suc, zero}, proofs.lemmas.List.{append-nil}}
+use Rattle.std.proofs.Common.{[], ℕ, ◌++◌, ◌∙◌, ◌≡◌, Err, List, Ok, Result, ap, arith, inl, inr, refl, subst, sym}
 use Rattle.interval_clock.specs.Offsets.{EachPlace, IsInRangeAt, IsOffsetList, RisesAt}
-use Rattle.taxi_units.specs.Time.{first_second}
-use Rattle.std.proofs.lemmas.List.{append-nil}
-use Rattle.outside.specs.PrintedText.{Begins}
-use Rattle.tariff_syntax.specs.Tree.{Tree}
-use Rattle.tariff_compile.specs.Tables.{TableParts}
-use Rattle.meter_states.specs.Setting.{IsSettingOf}
-use Rattle.meter_run.specs.declared.fault.RunFault.{RunFault}
-use Rattle.meter_run.specs.declared.fault.RunFault.TheVariants as faults
-use Rattle.call_ends.specs.declared.ending.Ended.{Ended}
-use Rattle.call_ends.specs.declared.ending.Ended.TheVariants as ended
-use Rattle.call_ends.specs.declared.tariff.Refusal.{Refusal}
-use Rattle.call_ends.specs.Answer.{Answer}
-use Rattle.call_ends.specs.Course.{Answered, ReadFailed, BoardFailed}
-use Rattle.drive_text.specs.Ending.{StreamEnd, Whole, BadAt, Endless, IsGoing, TellsEnd, ShowsEnd, drive_end}
-use Rattle.meter_run.specs.Drives.{RunsDrive, RunsTo}
-use Rattle.meter_run.specs.Texts.{drive_shown}
-use Rattle.seal_record.specs.declared.seal.Seal.{Seal}
-use Rattle.call_ends.specs.Ending.{EndsByCourse}
-use Rattle.drive_commands.specs.DriveEnds.{ended_by}
+use Rattle.{drive_text.specs.Ending.{ShowsEnd}, meter_run.specs.{Drives.{RunsDrive, RunsTo}, Texts.{drive_shown}}}
+use Rattle.drive_commands.specs.Common.{Answer, Answered, BadAt, Begins, BoardFailed, Ended, Endless, EndsByCourse}
+use Rattle.drive_commands.specs.Common.{IsGoing, IsSettingOf, ReadFailed, Refusal, RunFault, Seal, StreamEnd}
+use Rattle.drive_commands.specs.Common.{TableParts, TellsEnd, Tree, Whole, bad_tariff, drive_end, first_second, line_of}
+use Rattle.drive_commands.specs.{Common.{status_of, tariff_in}, DriveEnds.{ended_by}}
 use Rattle.drive_commands.specs.Fare.{drive_answer, fare_answer, fare_command, setting_of, shown_under}
-use Rattle.call_ends.specs.LastLine.{status_of, line_of}
-use Rattle.call_ends.specs.Tariffs.{bad_tariff, tariff_in}
+use Rattle.meter_run.specs.declared.fault.RunFault.TheVariants as faults
+use Rattle.call_ends.specs.declared.ending.Ended.TheVariants as ended
 
 -- local time that is UTC
 pub is_utc : IsOffsetList ((first_second, pos 0) ∷ [])

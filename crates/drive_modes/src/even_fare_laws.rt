@@ -1,10 +1,6 @@
 //! How fine the fare of mode S is at even speeds, over several rates.
-ghost use Rattle.std.specs.Prelude.{◌≡◌, ℕ, ◌<◌, ◌≤◌, List, map, sum};
-ghost use Rattle.std.specs.List.{fold, sum_by};
-ghost use Rattle.drive_modes.specs.declared.charges.Mode.{Mode};
-ghost use Rattle.drive_modes.specs.declared.charges.Mode.TheVariants.{Single};
-ghost use Rattle.drive_modes.specs.declared.meterage.Meterage.{Meterage};
-ghost use Rattle.drive_modes.specs.declared.meterage.Rounding.{Rounding};
+ghost use Rattle.std.specs.{List.{fold, sum_by}, Prelude.{ℕ, ◌<◌, ◌≡◌, ◌≤◌, List, map, sum}};
+ghost use Rattle.drive_modes.specs.Common.{Meterage, Mode, Rounding, Single};
 ghost use Rattle.drive_modes.specs.Fare.{Opening, added, opening_of, shown_fare, steps_above, steps_of};
 ghost use Rattle.drive_modes.specs.Stretches.{AreEvenSpeeds, AreOfStretches, Interval, Stretch, interval_charge};
 ghost use Rattle.drive_modes.specs.Stretches.{least_charge, most_charge, stretch_charge};

@@ -1,10 +1,8 @@
 //! How fine mode S is at even speeds.
-ghost use Rattle.std.specs.Prelude.{◌≡◌, ℕ, ◌+◌, ◌-◌, ◌*◌, ◌/◌, ◌<◌, ◌≤◌, List, length};
-ghost use Rattle.drive_modes.specs.declared.charges.Mode.TheVariants.{Double, Single};
-ghost use Rattle.drive_modes.specs.declared.charges.Weights.{Weights};
+ghost use Rattle.std.specs.Prelude.{ℕ, ◌*◌, ◌+◌, ◌-◌, ◌/◌, ◌<◌, ◌≡◌, ◌≤◌, List, length};
+ghost use Rattle.drive_modes.specs.{Common.{Double, Single, Weights}, Speeds.{distance_alone, own_weights, time_alone}};
 ghost use Rattle.drive_modes.specs.Speed.{AreWeightsOf, Rate};
 ghost use Rattle.drive_modes.specs.Speeds.{IsEvenSpeed, at_cross_over, charge_as_one, charged, coarseness};
-ghost use Rattle.drive_modes.specs.Speeds.{distance_alone, own_weights, time_alone};
 
 /// A law: under the weights of one rate, whatever the pulses of each interval, mode S charges at least what their
 /// distance alone costs, at least what their time alone costs, and at most both together. Mode D charges both together.

@@ -1,22 +1,14 @@
 -- What a part of a piece, and then a piece, changes of a reader.
-use Rattle.std.proofs.Common.{◌≡◌, ◌≢◌, ◌⊎◌, inl, inr, ℕ, zero, suc, ◌+◌, ◌-◌, ◌<◌, ◌≤◌, true, false, List, [], ◌∷◌}
-use Rattle.std.proofs.Common.{◌++◌, length, take, drop, refl, ap, sym, ◌∙◌, subst, arith, append_assoc, length-append}
-use Rattle.std.proofs.Common.{Option, Some, None, All, Result, Err, IsOk, MatchOption}
-use Rattle.std.proofs.Math.Seq.{take-append_seam, drop-append_seam}
-use Rattle.std.proofs.lemmas.Bool.{cases_lt}
-use Rattle.std.proofs.lemmas.List.{append-nil, take-append-le}
-use Rattle.std.proofs.lemmas.List.Elements.{All-nil, All-append, All-take}
-use Rattle.drive_text.specs.declared.run.Run.{Run}
-use Rattle.drive_text.specs.Fields.{line_runs}
-use Rattle.drive_text.specs.Lines.{is_too_long, IsOneLine}
-use Rattle.drive_text.specs.Drive.{first_bad, runs_in, runs_after}
-use Rattle.drive_text.specs.Part.{TakesPart, FailsIn}
-use Rattle.drive_text.specs.Ranges.{IsRunInRange}
-use Rattle.drive_text.specs.Reading.{Reading, HasFailed, HasTaken, TakesTo, BreaksIn}
-use Rattle.drive_text.proofs.Cuts.{runs_in-append_bad}
-use Rattle.drive_text.proofs.Parts.{no_runs}
-use Rattle.drive_text.proofs.ReaderPlaces.{goes_on, failed_at, failed_stays, line_number_of, number_small, line_is_bad}
-use Rattle.drive_text.proofs.ReaderPlaces.{bad_gives_none, line_too_long}
+use Rattle.std.proofs.Common.{[], ℕ, ◌++◌, ◌+◌, ◌-◌, ◌<◌, ◌∙◌, ◌∷◌, ◌≡◌, ◌≢◌, ◌≤◌, ◌⊎◌, All, Err, IsOk, List}
+use Rattle.std.proofs.Common.{MatchOption, None, Option, Result, Some, ap, append_assoc, arith, drop, false, inl, inr}
+use Rattle.std.proofs.{Common.{length, length-append, refl, subst, suc, sym, take, true, zero}, lemmas.Bool.{cases_lt}}
+use Rattle.{std.proofs.Math.Seq.{drop-append_seam, take-append_seam}, drive_text.specs.Part.{FailsIn, TakesPart}}
+use Rattle.std.proofs.lemmas.List.{append-nil, take-append-le, Elements.{All-append, All-nil, All-take}}
+use Rattle.drive_text.specs.{Drive.{first_bad, runs_after, runs_in}, Ranges.{IsRunInRange}, declared.run.Run.{Run}}
+use Rattle.drive_text.{specs.Fields.{line_runs}, proofs.Parts.{no_runs}}
+use Rattle.drive_text.specs.{Lines.{IsOneLine, is_too_long}, Reading.{BreaksIn, HasFailed, HasTaken, Reading, TakesTo}}
+use Rattle.drive_text.proofs.{Cuts.{runs_in-append_bad}, ReaderPlaces.{line_number_of, line_too_long, number_small}}
+use Rattle.drive_text.proofs.ReaderPlaces.{bad_gives_none, failed_at, failed_stays, goes_on, line_is_bad}
 
 -- ---- a part
 

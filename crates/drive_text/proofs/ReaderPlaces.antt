@@ -1,20 +1,14 @@
 -- Where a reader stands after a part of a piece.
-use Rattle.std.proofs.Common.{◌≡◌, ◌⊎◌, inl, inr, ℕ, suc, ◌+◌, ◌<◌, ◌≤◌, Bool, true, false, cond, List, [], ◌∷◌, ◌++◌}
-use Rattle.std.proofs.Common.{length, refl, ap, sym, ◌∙◌, subst, arith, eqb, length-append, Option, Some, None}
-use Rattle.std.proofs.Common.{MatchOption, is_none}
-use Rattle.std.specs.List.{position_from}
-use Rattle.std.proofs.lemmas.Bool.{ne_eqb}
-use Rattle.std.proofs.lemmas.List.{append-nil}
-use Rattle.drive_text.specs.declared.run.Run.{Run}
-use Rattle.drive_text.specs.Lines.{ended_lines, unfinished_line, is_comment, is_too_long, IsOneLine}
-use Rattle.drive_text.specs.Fields.{line_runs}
-use Rattle.drive_text.specs.Drive.{or_else, first_bad_line, first_bad_of, first_bad, runs_of_lines, runs_in}
-use Rattle.drive_text.specs.Reading.{Reading, StandsIn, HasFailed, HasTakenLines, HasTaken}
-use Rattle.drive_text.proofs.Cuts.{first_bad-append}
-use Rattle.drive_text.proofs.Endings.{line_runs-comment, comment_fits, comment-append, comment_some, nothing_before}
-use Rattle.drive_text.proofs.Parts.{lines_fit, part_goes_on, line_ends}
-use Rattle.drive_text.proofs.Positions.{first_bad_line-bad, first_bad_line-good, runs_of_lines-good}
-use Rattle.drive_text.proofs.Positions.{runs_of_lines-bad_one, runs_of_lines-one}
+use Rattle.std.{specs.List.{position_from}, proofs.{Common.{suc, sym, true}, lemmas.{Bool.{ne_eqb}, List.{append-nil}}}}
+use Rattle.std.proofs.Common.{[], ℕ, ◌++◌, ◌+◌, ◌<◌, ◌∙◌, ◌∷◌, ◌≡◌, ◌≤◌, ◌⊎◌, Bool, List, MatchOption, None, Option}
+use Rattle.std.proofs.Common.{Some, ap, arith, cond, eqb, false, inl, inr, is_none, length, length-append, refl, subst}
+use Rattle.drive_text.specs.Drive.{first_bad, first_bad_line, first_bad_of, or_else, runs_in, runs_of_lines}
+use Rattle.drive_text.{specs.Fields.{line_runs}, proofs.Parts.{line_ends, lines_fit, part_goes_on}}
+use Rattle.drive_text.specs.Lines.{IsOneLine, ended_lines, is_comment, is_too_long, unfinished_line}
+use Rattle.drive_text.specs.{Reading.{HasFailed, HasTaken, HasTakenLines, Reading, StandsIn}, declared.run.Run.{Run}}
+use Rattle.drive_text.proofs.{Cuts.{first_bad-append}, Positions.{runs_of_lines-good, runs_of_lines-one}}
+use Rattle.drive_text.proofs.Endings.{comment-append, comment_fits, comment_some, line_runs-comment, nothing_before}
+use Rattle.drive_text.proofs.Positions.{first_bad_line-bad, first_bad_line-good, runs_of_lines-bad_one}
 
 pub none_by : (o : Option ℕ) (long : Bool) (k : ℕ) → or_else o (cond long (Some k) None) ≡ None
     → (o ≡ None) × (long ≡ false)

@@ -1,20 +1,12 @@
 //! What holds of drives whatever a reader does.
-ghost use Rattle.std.specs.Prelude.{◌≡◌, ℕ, ◌<◌, ◌≤◌, ◌++◌, ◌∷◌, ◌↔◌, [], All, List, Option, length, flat_map, true};
-ghost use Rattle.std.specs.Prelude.{false, None, Some};
-ghost use Rattle.std.specs.Str.Lines.{strip_carriage_return};
-ghost use Rattle.taxi_units.specs.declared.event.Event.{Event};
-ghost use Rattle.drive_text.specs.declared.run.Run.{Run};
-ghost use Rattle.drive_text.specs.declared.run.Run.TheVariants.{One};
-ghost use Rattle.drive_text.specs.Drive.{first_bad, bad_at_end, runs_in, runs_after, events_in};
-ghost use Rattle.drive_text.specs.Ending.{Whole, drive_end, events_of, stream_limit};
-ghost use Rattle.drive_text.specs.Fields.{line_runs};
-ghost use Rattle.drive_text.specs.Lines.{ended_lines, unfinished_line, text_of, IsOneLine};
-ghost use Rattle.drive_text.specs.Ranges.{IsInRange};
-ghost use Rattle.drive_text.specs.Reading.{Reading, HasTaken};
-ghost use Rattle.drive_text.specs.Runs.{run_events};
+ghost use Rattle.std.specs.Prelude.{[], ℕ, ◌++◌, ◌<◌, ◌↔◌, ◌∷◌, ◌≡◌, ◌≤◌, All, List, None, Option, Some, false};
+ghost use Rattle.std.specs.{Prelude.{flat_map, length, true}, Str.Lines.{strip_carriage_return}};
+ghost use Rattle.drive_text.specs.{Common.{Event}, Ranges.{IsInRange}, Reading.{HasTaken, Reading}, Runs.{run_events}};
+ghost use Rattle.drive_text.specs.{Drive.{bad_at_end, events_in, first_bad, runs_after, runs_in}, Fields.{line_runs}};
+ghost use Rattle.drive_text.specs.{Ending.{Whole, drive_end, events_of, stream_limit}, Written.{drive_of, event_text}};
+ghost use Rattle.drive_text.specs.{Lines.{IsOneLine, ended_lines, text_of, unfinished_line}, declared.run.Run.{Run}};
 ghost use Rattle.drive_text.specs.Table.{Means};
-ghost use Rattle.drive_text.specs.Whole.{IsReadAs, EndsWhole, given_by, bytes_of};
-ghost use Rattle.drive_text.specs.Written.{drive_of, event_text};
+ghost use Rattle.drive_text.specs.{Whole.{EndsWhole, IsReadAs, bytes_of, given_by}, declared.run.Run.TheVariants.{One}};
 
 /// A text is its ended lines, each with its LF, and the unfinished one, and no line has an LF. No other lines make that
 /// text.

@@ -1,7 +1,7 @@
 //! How drives end.
-ghost use Rattle.std.specs.Prelude.{◌≡◌, ℕ, ◌<◌, ◌≤◌, ◌++◌, [], List, length, None, Some};
-ghost use Rattle.drive_text.specs.Drive.{first_bad, bad_at_end};
-ghost use Rattle.drive_text.specs.Ending.{stream_limit, Whole, BadAt, Endless, ReachesEnd};
+ghost use Rattle.std.specs.Prelude.{[], ℕ, ◌++◌, ◌<◌, ◌≡◌, ◌≤◌, List, None, Some, length};
+ghost use Rattle.drive_text.specs.Drive.{bad_at_end, first_bad};
+ghost use Rattle.drive_text.specs.Ending.{BadAt, Endless, ReachesEnd, Whole, stream_limit};
 
 /// What the bytes taken of a drive tell of its end. A drive below the limit of 2^40 bytes, of which all was taken, ends
 /// whole, or at its bad line. A bad line among bytes up to the limit ends the drive, whatever is left. If as many bytes

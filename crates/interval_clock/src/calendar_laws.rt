@@ -1,6 +1,7 @@
 //! A law of the calendar.
-ghost use Rattle.std.specs.Prelude.{◌≡◌, ℕ, ◌+◌, ◌%◌, ℤ, pos, ◌+ℤ◌, IsTrue};
-ghost use Rattle.interval_clock.specs.Calendar.{IsDateOf, date_after, date_place, is_leap_year, next_date, place_in_year, weekday_of};
+ghost use Rattle.std.specs.Prelude.{ℕ, ℤ, ◌%◌, ◌+ℤ◌, ◌+◌, ◌≡◌, IsTrue, pos};
+ghost use Rattle.interval_clock.specs.Calendar.{IsDateOf, date_after, date_place, is_leap_year, next_date};
+ghost use Rattle.interval_clock.specs.Calendar.{place_in_year, weekday_of};
 
 use crate::day_numbers::CalendarDate;
 

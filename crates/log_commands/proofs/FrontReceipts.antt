@@ -1,14 +1,8 @@
 -- A receipt at the front of a text.
-use Rattle.std.proofs.Common.{◌≡◌, ℕ, ◌≤◌, List, ◌++◌, length, take, ap, sym, ◌∙◌, subst, arith, length-append, Result}
-use Rattle.std.proofs.Common.{Ok, Err}
-use Rattle.std.specs.Prelude.{IsOk, OnOk}
-use Rattle.std.proofs.Math.Seq.{take-append_seam}
-use Rattle.taxi_units.specs.declared.receipt.Receipt.{Receipt}
-use Rattle.receipt_reading.specs.Front.{IsInFront}
-use Rattle.receipt_text.specs.Grammar.{IsReceiptText}
-use Rattle.receipt_text.specs.Part.{Part}
-use Rattle.receipt_text.proofs.Laws.{short_texts}
-use Rattle.log_commands.specs.Record.{Record, IsRecord}
+use Rattle.std.{specs.Prelude.{IsOk, OnOk}, proofs.{Common.{sym, take}, Math.Seq.{take-append_seam}}}
+use Rattle.std.proofs.Common.{ℕ, ◌++◌, ◌∙◌, ◌≡◌, ◌≤◌, Err, List, Ok, Result, ap, arith, length, length-append, subst}
+use Rattle.{receipt_text.proofs.Laws.{short_texts}, receipt_reading.specs.Front.{IsInFront}}
+use Rattle.log_commands.specs.{Common.{IsReceiptText, Part, Receipt}, Record.{IsRecord, Record}}
 
 -- what holds on success holds of what has succeeded
 pub succeeded : {T E P : Type 0} (r : Result T E) → IsOk r → OnOk r P → P

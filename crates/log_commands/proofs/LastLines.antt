@@ -1,39 +1,20 @@
 -- What a call comes to when its last line is printed.
-use Rattle.std.proofs.Common.{◌≡◌, ◌≢◌, ◌⊎◌, inl, inr, ℕ, ◌+◌, ◌<◌, ◌≤◌, List, [], ◌∷◌, ◌++◌, length, Option, Some}
-use Rattle.std.proofs.Common.{None, refl, ap, sym, ◌∙◌, subst, arith, append_assoc, length-append}
-use Rattle.std.proofs.lemmas.Bool.{cases_eq}
-use Rattle.std.proofs.lemmas.List.{ext_get_or}
-use Rattle.outside.specs.Disk.{MayLeave, SameBut}
-use Rattle.outside.specs.Faults.{RisesOnlyIf, Rose}
-use Rattle.outside.specs.PrintedText.{Begins}
-use Rattle.outside.specs.Runs.{IsAtRest, KeepsStore, LeavesNow, LeavesOnly, MayHold}
-use Rattle.outside.specs.declared.board.Board.{Ghosts}
-use Rattle.outside.specs.declared.files.Files.{Ghosts as FileGhosts}
+use Rattle.std.proofs.Common.{[], ℕ, ◌++◌, ◌+◌, ◌<◌, ◌∙◌, ◌∷◌, ◌≡◌, ◌≢◌, ◌≤◌, ◌⊎◌, List, None, Option, Some, ap}
+use Rattle.std.proofs.Common.{append_assoc, arith, inl, inr, length, length-append, refl, subst, sym}
+use Rattle.{std.proofs.lemmas.{Bool.{cases_eq}, List.{ext_get_or}}, log_commands.specs.Calls.{WritesNothing, shown_of}}
+use Rattle.outside.specs.{Runs.{IsAtRest, LeavesNow, MayHold}, declared.files.Files.{Ghosts as FileGhosts}}
 use Rattle.outside.proofs.Laws.{begins_after, begins_more, leaves_kept, leaves_then, leaves_wider}
-use Rattle.slot_store.specs.Syncs.{LeavesFromSync, ReadsOnly}
-use Rattle.log_commands.specs.Calls.{AppendsNothing, IsCall, IsCutShort, IsFit, IsNewestOf, IsOfTaxi, IsOneTaxi}
-use Rattle.log_commands.specs.Calls.{IsWhole}
-use Rattle.log_commands.specs.Calls.{LeavesLog, MayEnd, MayHave, MayHaveReadFault, LeavesLogUnwritten, WritesNothing}
-use Rattle.log_commands.specs.Calls.{shown_of}
-use Rattle.log_commands.proofs.EndCases.{fault_has}
 use Rattle.log_commands.specs.BeforeLastLine.{CallReachesLine, IsBrokenOff, IsDue, IsTold}
-use Rattle.log_commands.specs.Endings.{line_of, status_of}
-use Rattle.log_commands.specs.Filed.{EndsAt, Files, IsOther}
-use Rattle.log_commands.specs.Filed.Files.{over, passed, appended}
-use Rattle.log_commands.specs.Filings.{StandsForSome, newest_of}
-use Rattle.log_commands.specs.LogList.{StandsFor, last_ones}
-use Rattle.log_commands.specs.Record.{Record}
-use Rattle.taxi_units.specs.Streams.{stream_limit}
-use Rattle.log_commands.specs.declared.ending.Ended.{Ended}
-use Rattle.log_commands.specs.declared.ending.Ended.TheVariants.{Filed, Shown, BadWords, BadLog, BrokenLog, OtherTaxi}
-use Rattle.log_commands.specs.declared.ending.Ended.TheVariants.{TooLong, ReadFault, BoardFault}
+use Rattle.log_commands.specs.Calls.{AppendsNothing, IsCall, IsCutShort, IsFit, IsNewestOf, IsOfTaxi, IsOneTaxi}
+use Rattle.log_commands.specs.Calls.{IsWhole, LeavesLog, LeavesLogUnwritten, MayEnd, MayHave, MayHaveReadFault}
+use Rattle.log_commands.specs.Common.{BadLog, BadWords, Begins, BoardFault, BrokenLog, Call, Ended, File, Filed, Ghosts}
+use Rattle.log_commands.specs.Common.{KeepsStore, LeavesFromSync, LeavesOnly, MayLeave, OtherTaxi, ReadFault, ReadsOnly}
+use Rattle.log_commands.specs.{Common.{RisesOnlyIf, Rose, SameBut, Show, Shown, TooLong, stream_limit}, Record.{Record}}
+use Rattle.log_commands.{specs.Endings.{line_of, status_of}, proofs.{CallEnds.{some_all}, OneList.{none_bad, one_list}}}
+use Rattle.log_commands.specs.{Filed.{EndsAt, Files, IsOther}, LogList.{StandsFor, last_ones}}
+use Rattle.log_commands.specs.{Filed.Files.{appended, over, passed}, Filings.{StandsForSome, newest_of}}
+use Rattle.log_commands.proofs.{AgainFiled.{again_nothing}, Causes.{rises_later}, EndCases.{fault_has}}
 use Rattle.log_commands.specs.declared.file_roll.FileEnd.TheVariants as ends
-use Rattle.log_commands.specs.declared.words.Call.{Call}
-use Rattle.log_commands.specs.declared.words.Call.TheVariants.{File, Show}
-use Rattle.log_commands.proofs.AgainFiled.{again_nothing}
-use Rattle.log_commands.proofs.Causes.{rises_later}
-use Rattle.log_commands.proofs.CallEnds.{some_all}
-use Rattle.log_commands.proofs.OneList.{none_bad, one_list}
 
 -- ---- statuses
 

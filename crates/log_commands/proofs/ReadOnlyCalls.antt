@@ -1,10 +1,8 @@
 -- Calls that read alone.
-use Rattle.std.proofs.Common.{◌≡◌, inl, inr, ⊎_elim, ℕ, List, length, get_or, refl, ap, ◌∙◌, arith}
-use Rattle.outside.specs.declared.board.Board.{Ghosts}
-use Rattle.outside.specs.Disk.{Elapses, MayLeave, SameBut}
-use Rattle.outside.specs.Runs.{KeepsStore, LeavesNow}
-use Rattle.outside.proofs.Laws.{leaves_none, leaves_then, leaves_wider}
-use Rattle.slot_store.specs.Syncs.{IsSynced, ReadsOnly}
+use Rattle.std.proofs.Common.{ℕ, ◌∙◌, ◌≡◌, List, ap, arith, get_or, inl, inr, length, refl, ⊎_elim}
+use Rattle.outside.{specs.{Disk.{Elapses}, Runs.{LeavesNow}}, proofs.Laws.{leaves_none, leaves_then, leaves_wider}}
+use Rattle.slot_store.specs.Syncs.{IsSynced}
+use Rattle.log_commands.specs.Common.{Ghosts, KeepsStore, MayLeave, ReadsOnly, SameBut}
 
 module _ {D L : Type 0} {N : ℕ} (B : Ghosts D N L) where
   -- what a cut may leave of a board whose image is the same but for what was in flight, and with nothing more in flight

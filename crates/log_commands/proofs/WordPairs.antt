@@ -1,5 +1,5 @@
 -- Words that are two.
-use Rattle.std.proofs.Common.{◌≡◌, ℕ, ◌<◌, ◌≤◌, List, [], ◌∷◌, length, get_or, map, ap, ◌∙◌, arith}
+use Rattle.std.proofs.Common.{[], ℕ, ◌<◌, ◌∙◌, ◌∷◌, ◌≡◌, ◌≤◌, List, ap, arith, get_or, length, map}
 use Rattle.log_commands.specs.Words.{call_of, two_words}
 
 -- the command that two words are, by the first of them

@@ -17,3 +17,4 @@ pub mod ShownLog
 pub mod Slots
 pub mod Unread
 pub mod Words
+pub mod Common

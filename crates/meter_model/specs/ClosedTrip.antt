@@ -1,17 +1,10 @@
 -- Rules: the entries of a trip that is closed, with its receipt directly behind, and of roaming.
-use Rattle.std.specs.Prelude.{ℕ, Option, Some, None, sum, [], if◌then◌else◌, nat_le}
-use Rattle.drive_modes.specs.Distance.{millimetres_of}
-use Rattle.taxi_units.specs.declared.event.Operating.{Operating}
-use Rattle.taxi_units.specs.declared.event.Operating.TheVariants.{ForHire}
-use Rattle.taxi_units.specs.declared.receipt.Kind.{Kind}
-use Rattle.taxi_units.specs.declared.receipt.Kind.TheVariants.{Roam}
-use Rattle.taxi_units.specs.declared.receipt.Receipt.{Receipt}
-use Rattle.totals_record.specs.declared.entry.Entry.{Entry}
-use Rattle.meter_model.specs.Meter.{Meter, Outcome, ◌>>=◌, quiet, entered, printed}
-use Rattle.meter_model.specs.Setting.{Setting, stamp_at}
-use Rattle.meter_model.specs.Supplements.{amounts_of}
-use Rattle.meter_model.specs.Trip.{MeterTrip, fare_of, pulses_of, steps_shown}
-use Rattle.taxi_units.specs.Limits.{roaming_most}
+use Rattle.std.specs.Prelude.{[], ℕ, None, Option, Some, if◌then◌else◌, nat_le, sum}
+use Rattle.{taxi_units.specs.Limits.{roaming_most}, drive_modes.specs.Distance.{millimetres_of}}
+use Rattle.taxi_units.specs.declared.receipt.{Kind.{Kind, TheVariants.{Roam}}, Receipt.{Receipt}}
+use Rattle.{totals_record.specs.declared.entry.Entry.{Entry}, meter_model.specs.Supplements.{amounts_of}}
+use Rattle.meter_model.specs.{Common.{ForHire, Operating}, Meter.{◌>>=◌, Meter, Outcome, entered, printed, quiet}}
+use Rattle.meter_model.specs.{Setting.{Setting, stamp_at}, Trip.{MeterTrip, fare_of, pulses_of, steps_shown}}
 
 -- the entry of a trip that is closed at a tariff position has its kind, its distances, its fare and its supplements
 abbrev pub entry_of_trip : Setting → Kind → (position : ℕ) → MeterTrip → Entry

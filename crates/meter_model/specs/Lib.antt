@@ -13,3 +13,4 @@ pub mod Step
 pub mod Supplements
 pub mod Supply
 pub mod Trip
+pub mod Common

@@ -1,16 +1,8 @@
 //! When a display is shown, and which one was shown last.
-ghost use Rattle.std.specs.Prelude.{◌≡◌, ◌↔◌, List, [], Some, true};
-ghost use Rattle.taxi_units.specs.declared.event.Event.{Event};
-ghost use Rattle.taxi_units.specs.declared.event.Operating.TheVariants.{ForHire};
-ghost use Rattle.taxi_units.specs.declared.receipt.Display.{Display};
-ghost use Rattle.totals_record.specs.declared.durable_state.Durable.{Durable};
-ghost use Rattle.meter_model.specs.Display.{display_of, same_display, shown};
-ghost use Rattle.meter_model.specs.KeptTrip.{IsTripKept};
-ghost use Rattle.meter_model.specs.LastShown.{IsOfMeter};
-ghost use Rattle.meter_model.specs.Meter.{Meter};
-ghost use Rattle.meter_model.specs.Run.{opened, run};
-ghost use Rattle.meter_model.specs.Setting.{Setting};
-ghost use Rattle.meter_model.specs.Step.{step};
+ghost use Rattle.std.specs.Prelude.{[], ◌↔◌, ◌≡◌, List, Some, true};
+ghost use Rattle.meter_model.specs.{Common.{Display, Durable, Event, ForHire}, KeptTrip.{IsTripKept}, Meter.{Meter}};
+ghost use Rattle.meter_model.specs.{Display.{display_of, same_display, shown}, LastShown.{IsOfMeter}, Step.{step}};
+ghost use Rattle.meter_model.specs.{Run.{opened, run}, Setting.{Setting}};
 
 /// A law: a display is shown if a field differs from the one that was shown last. Nothing is shown exactly if that one
 /// is the display of the meter. For hire a meter that keeps its trip as the store does has no fare and no supplements,

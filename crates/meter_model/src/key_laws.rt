@@ -1,22 +1,10 @@
 //! What accepted keys do.
-ghost use Rattle.std.specs.Prelude.{◌≡◌, ◌⊎◌, ◌<◌, ◌≤◌, ℕ, [], None, Some, sum};
-ghost use Rattle.tariff_check.specs.Amounts.{fees_in_force};
-ghost use Rattle.tariff_check.specs.SoundTariff.{supplement_numbered};
-ghost use Rattle.tariff_check.specs.declared.values.Supplement.{Supplement};
-ghost use Rattle.taxi_units.specs.Limits.{hirings_end};
-ghost use Rattle.taxi_units.specs.declared.event.Key.{Key};
+ghost use Rattle.std.specs.Prelude.{[], ℕ, ◌<◌, ◌≡◌, ◌≤◌, ◌⊎◌, None, Some, sum};
+ghost use Rattle.meter_model.specs.{ClosedTrip.{closed}, KeyTable.{MayAct}, Setting.{Setting}, Supplements.{times}};
+ghost use Rattle.meter_model.specs.Common.{Closed, ForHire, Hired, Key, NotNow, Stopped, Supplement, fees_in_force};
+ghost use Rattle.meter_model.specs.{Common.{hirings_end, supplement_numbered}, Trip.{MeterTrip, begun, with_extra}};
+ghost use Rattle.meter_model.specs.{Interval.{context_now}, Keys.{latch_pressed}, Meter.{Meter, quiet, refused}};
 ghost use Rattle.taxi_units.specs.declared.event.Key.TheVariants as keys;
-ghost use Rattle.taxi_units.specs.declared.event.Operating.TheVariants.{ForHire, Hired, Stopped};
-ghost use Rattle.taxi_units.specs.declared.event.Why.TheVariants.{NotNow};
-ghost use Rattle.taxi_units.specs.declared.receipt.Kind.TheVariants.{Closed};
-ghost use Rattle.meter_model.specs.ClosedTrip.{closed};
-ghost use Rattle.meter_model.specs.Interval.{context_now};
-ghost use Rattle.meter_model.specs.KeyTable.{MayAct};
-ghost use Rattle.meter_model.specs.Keys.{latch_pressed};
-ghost use Rattle.meter_model.specs.Meter.{Meter, quiet, refused};
-ghost use Rattle.meter_model.specs.Setting.{Setting};
-ghost use Rattle.meter_model.specs.Supplements.{times};
-ghost use Rattle.meter_model.specs.Trip.{MeterTrip, begun, with_extra};
 
 /// The law of accepted keys: what a key that waited does as it acts. In For Hire the key Hire begins a trip at the
 /// clock's second, with the fees in force there, and the trip takes the roaming pulses. Stop takes the trip from Hired

@@ -1,9 +1,8 @@
 //! What a trip that was held and goes on is charged, and on what a fare depends.
-ghost use Rattle.std.specs.Prelude.{◌≡◌, ℕ, All, Bool, List};
-ghost use Rattle.totals_record.specs.declared.trip.Trip.{Trip};
+ghost use Rattle.std.specs.Prelude.{ℕ, ◌≡◌, All, Bool, List};
+ghost use Rattle.meter_model.specs.{Common.{Trip}, Trip.{MeterTrip, Part, core_trip_of, fare_of, held_trip, trip_of}};
 ghost use Rattle.meter_model.specs.KeptTrip.{FitsSetting, IsSupplementNumber, hired_in, with_more, with_parts};
 ghost use Rattle.meter_model.specs.Setting.{Setting};
-ghost use Rattle.meter_model.specs.Trip.{Part, MeterTrip, fare_of, held_trip, core_trip_of, trip_of};
 
 /// A law: a trip that is saved and resumed is charged as if nothing had happened. A held trip that is opened is saved
 /// again as it was held. After any further intervals and supplements, the trip that was opened from its saved form has

@@ -1,21 +1,11 @@
 -- Acts on a store, one after the other.
-use Rattle.std.proofs.Common.{◌≡◌, ℕ, zero, suc, ◌+◌, ◌*◌, ◌≤◌, ◌<◌, List, [], ◌∷◌, ◌++◌, All, length, take, drop}
-use Rattle.std.proofs.Common.{get_or, sym, ap, subst, ◌∙◌, arith, Result, OnOk}
-use Rattle.std.proofs.lemmas.List.{append-nil, take-append-drop, take_more}
+use Rattle.std.proofs.Common.{[], ℕ, ◌*◌, ◌++◌, ◌+◌, ◌<◌, ◌∙◌, ◌∷◌, ◌≡◌, ◌≤◌, All, List, OnOk, Result, ap, arith, drop}
+use Rattle.std.proofs.Common.{get_or, length, subst, suc, sym, take, zero}
+use Rattle.{std.proofs.lemmas.List.{append-nil, take-append-drop, take_more}, meter_run.specs.OnStore.{Agrees, MayDo}}
 use Rattle.std.proofs.lemmas.List.Elements.{All-cons, All-head, All-nil, All-tail}
-use Rattle.outside.specs.declared.board.Board.{Ghosts}
-use Rattle.tariff_compile.specs.Tables.{TableParts}
-use Rattle.seal_record.specs.declared.seal.Seal.{Seal}
-use Rattle.totals_record.specs.declared.durable_state.Durable.{Durable}
-use Rattle.meter_states.specs.Acts.{IsLawfulAct}
-use Rattle.meter_model.specs.declared.act.Act.{Act}
-use Rattle.meter_run.specs.Commits.{after_act, after_acts, commits_in}
-use Rattle.meter_run.specs.Deeds.{Deed, Does, act_text, deeds_of, texts}
-use Rattle.meter_run.specs.OnStore.{Agrees, MayDo}
-use Rattle.meter_run.specs.PointLaws.{deeds_joined, keeps_longer, keeps_next, text_next}
-use Rattle.meter_run.specs.Points.{GoesBy}
-use Rattle.meter_run.specs.RunLaws.{after_deeds_of}
-use Rattle.meter_run.specs.declared.stored.Known.{Known}
+use Rattle.meter_run.specs.{Commits.{after_act, after_acts, commits_in}, Deeds.{Deed, Does, act_text, deeds_of, texts}}
+use Rattle.meter_run.specs.{Common.{Act, Durable, Ghosts, IsLawfulAct, Known, Seal, TableParts}, Points.{GoesBy}}
+use Rattle.meter_run.specs.{PointLaws.{deeds_joined, keeps_longer, keeps_next, text_next}, RunLaws.{after_deeds_of}}
 use Rattle.meter_run.proofs.CommittedStates.{commits_append}
 
 deeds_more : (acts : List Act) (n : ℕ) (x : Act) → n < length acts

@@ -1,28 +1,14 @@
 -- One call of the board as a deed: a print, a commit, a scan.
-use Rattle.std.proofs.Common.{◌≡◌, ◌≤◌, inl, inr, ℕ, List, [], ◌∷◌, Some, refl, sym, ap, subst, arith}
-use Rattle.std.specs.Prelude.{◌⊎◌, get_or, length}
-use Rattle.std.specs.Option.{ForSome}
-use Rattle.outside.specs.Disk.{MayLeave, MayLeaveAmid, SameBut}
-use Rattle.outside.specs.PrintedText.{Begins}
-use Rattle.outside.specs.Runs.{KeepsStore, LeavesNow, LeavesOnly, MayHold}
-use Rattle.outside.specs.declared.board.Board.{Ghosts}
-use Rattle.outside.proofs.Laws.{begins_not, leaves_kept, leaves_wider}
-use Rattle.seal_record.specs.declared.seal.Seal.{Seal}
-use Rattle.slot_store.specs.Stages.{IsPair}
-use Rattle.slot_store.specs.Writes.{LeavesBeside, WritesIn}
-use Rattle.slot_store.specs.declared.pair.Pair.{Pair}
-use Rattle.slot_store.specs.declared.pair.Place.{Place}
-use Rattle.slot_store.proofs.Laws.{settled_stays, whole_leaves, whole_writes}
-use Rattle.tariff_compile.specs.Tables.{TableParts}
-use Rattle.totals_record.specs.Reading.{reads}
-use Rattle.meter_store.specs.Stored.{HasEither, HoldsState, LeavesEither, state_number_of, written_at}
-use Rattle.totals_record.specs.declared.durable_state.Durable.{Durable}
-use Rattle.meter_states.specs.Fits.{Fits}
+use Rattle.std.specs.{Option.{ForSome}, Prelude.{◌⊎◌, get_or, length}}
+use Rattle.std.proofs.Common.{[], ℕ, ◌∷◌, ◌≡◌, ◌≤◌, List, Some, ap, arith, inl, inr, refl, subst, sym}
+use Rattle.outside.{specs.{Disk.{MayLeave}, Runs.{MayHold}}, proofs.Laws.{begins_not, leaves_kept, leaves_wider}}
+use Rattle.{slot_store.specs.{Stages.{IsPair}, declared.pair.Pair.{Pair}}, totals_record.specs.Reading.{reads}}
+use Rattle.slot_store.{specs.Writes.{LeavesBeside, WritesIn}, proofs.Laws.{settled_stays, whole_leaves, whole_writes}}
+use Rattle.{meter_store.specs.Stored.{HasEither, LeavesEither, written_at}, meter_run.specs.PointLaws.{left_has}}
+use Rattle.meter_run.specs.Common.{Begins, Durable, Fits, Ghosts, HoldsState, KeepsStore, Known, LeavesNow, LeavesOnly}
+use Rattle.meter_run.specs.Common.{MayLeaveAmid, Place, SameBut, Seal, TableParts, state_number_of}
 use Rattle.meter_run.specs.Deeds.{Deed, after_deed, deed_text}
-use Rattle.meter_run.specs.OnStore.{Agrees, HasBeside, WritesTotals}
-use Rattle.meter_run.specs.PointLaws.{left_has}
-use Rattle.meter_run.specs.Points.{IsPointOfDeeds, HasFittingState, GoesBy}
-use Rattle.meter_run.specs.declared.stored.Known.{Known}
+use Rattle.meter_run.specs.{OnStore.{Agrees, HasBeside, WritesTotals}, Points.{GoesBy, HasFittingState, IsPointOfDeeds}}
 
 -- the pair of totals, whose latest body is at a place
 abbrev pair_at : Place → Pair

@@ -1,15 +1,10 @@
 -- Acts that are carried out, one after the other.
-use Rattle.std.proofs.Common.{◌≡◌, ℕ, zero, suc, ◌+◌, ◌≤◌, ◌<◌, List, [], ◌∷◌, ◌++◌, length, take, drop, get_or, refl}
-use Rattle.std.proofs.Common.{sym, ap, subst, ◌∙◌, append_assoc, add-one, arith, Result, OnOk}
+use Rattle.std.proofs.Common.{[], ℕ, ◌++◌, ◌+◌, ◌<◌, ◌∙◌, ◌∷◌, ◌≡◌, ◌≤◌, List, OnOk, Result, add-one, ap, append_assoc}
+use Rattle.std.proofs.Common.{arith, drop, get_or, length, refl, subst, suc, sym, take, zero}
 use Rattle.std.proofs.lemmas.List.{append-nil, take-append-drop, take_all, take_more}
-use Rattle.outside.specs.PrintedText.{Begins}
-use Rattle.outside.proofs.Laws.{begins_after, begins_more, begins_whole}
-use Rattle.totals_record.specs.declared.durable_state.Durable.{Durable}
-use Rattle.meter_model.specs.declared.act.Act.{Act}
-use Rattle.meter_run.specs.Commits.{after_act, after_acts, AreFor, IsFor}
-use Rattle.meter_run.specs.RunLaws.{texts_append}
-use Rattle.meter_run.specs.Texts.{shown_text, shown_texts}
-use Rattle.meter_run.proofs.CommittedStates.{after_append}
+use Rattle.{outside.proofs.Laws.{begins_after, begins_more, begins_whole}, meter_run.specs.RunLaws.{texts_append}}
+use Rattle.meter_run.specs.{Commits.{AreFor, IsFor, after_act, after_acts}, Texts.{shown_text, shown_texts}}
+use Rattle.meter_run.{specs.Common.{Act, Begins, Durable}, proofs.CommittedStates.{after_append}}
 
 -- the act at a place and those behind it
 dropped : (acts : List Act) (n : ℕ) (x : Act) → n < length acts → drop n acts ≡ get_or acts n x ∷ drop (n + 1) acts

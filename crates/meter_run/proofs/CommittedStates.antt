@@ -1,22 +1,12 @@
 -- What acts leave of the durable state.
-use Rattle.std.proofs.Common.{◌≡◌, ℕ, ◌+◌, ◌≤◌, Bool, true, false, List, [], ◌∷◌, ◌++◌, All, Option, None, Some, refl}
-use Rattle.std.proofs.Common.{subst, arith}
-use Rattle.std.specs.Option.{ForSome}
-use Rattle.std.specs.Prelude.{if◌then◌else◌}
-use Rattle.std.proofs.lemmas.List.Elements.{All-head, All-tail}
-use Rattle.tariff_compile.specs.Tables.{TableParts}
-use Rattle.totals_record.specs.Entries.{closes}
-use Rattle.totals_record.specs.Ranges.{IsDurable}
-use Rattle.totals_record.specs.States.{after}
-use Rattle.totals_record.specs.declared.durable_state.Durable.{Durable}
+use Rattle.{std.specs.Option.{ForSome}, totals_record.proofs.Laws.{entries_keep_the_ranges, held_trips_keep_the_ranges}}
+use Rattle.std.{specs.Prelude.{if◌then◌else◌}, proofs.{Common.{subst, true}, lemmas.List.Elements.{All-head, All-tail}}}
+use Rattle.std.proofs.Common.{[], ℕ, ◌++◌, ◌+◌, ◌∷◌, ◌≡◌, ◌≤◌, All, Bool, List, None, Option, Some, arith, false, refl}
+use Rattle.totals_record.specs.{Entries.{closes}, declared.trip.Trip.{Trip}}
+use Rattle.{meter_states.specs.Acts.{IsEntryBeside, IsHoldBeside}, meter_run.specs.Common.{TableParts, after}}
+use Rattle.meter_run.specs.Commits.{AreFor, after_act, after_acts, commits_in}
+use Rattle.meter_run.specs.Common.{Act, Durable, Enter, Fits, Hold, IsDurable, IsLawfulAct, Receipt, Refuse, Show}
 use Rattle.totals_record.specs.declared.change.Change.TheVariants as changes
-use Rattle.totals_record.specs.declared.trip.Trip.{Trip}
-use Rattle.totals_record.proofs.Laws.{entries_keep_the_ranges, held_trips_keep_the_ranges}
-use Rattle.meter_states.specs.Acts.{IsLawfulAct, IsEntryBeside, IsHoldBeside}
-use Rattle.meter_states.specs.Fits.{Fits}
-use Rattle.meter_model.specs.declared.act.Act.{Act}
-use Rattle.meter_model.specs.declared.act.Act.TheVariants.{Show, Refuse, Enter, Hold, Receipt}
-use Rattle.meter_run.specs.Commits.{after_act, after_acts, commits_in, AreFor}
 
 pub after_append : (d : Durable) (xs ys : List Act) → after_acts d (xs ++ ys) ≡ after_acts (after_acts d xs) ys
 after_append d [] ys = refl

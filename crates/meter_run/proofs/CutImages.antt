@@ -1,31 +1,15 @@
 -- What an image that a cut left has.
-use Rattle.std.proofs.Common.{◌≡◌, ◌⊎◌, inl, inr, ⊎_elim, ℕ, ◌+◌, ◌<◌, ◌≤◌, List, [], ◌∷◌, ◌++◌, length, refl, sym, ap}
-use Rattle.std.proofs.Common.{subst, ◌∙◌, append_assoc, arith, length-append}
-use Rattle.std.specs.Prelude.{get_or, Contains}
-use Rattle.std.proofs.lemmas.List.Elements.{Contains-append_left, Contains-push}
-use Rattle.outside.specs.Runs.{IsAtRest}
-use Rattle.outside.specs.declared.board.Board.{Ghosts}
-use Rattle.seal_record.specs.Decoding as seals
-use Rattle.meter_store.specs.Sealing.{HasSeal, HoldsSeal}
-use Rattle.seal_record.specs.declared.seal.Seal.{Seal}
-use Rattle.slot_store.specs.Slots.{IsAt}
-use Rattle.slot_store.specs.declared.pair.Place.{Place}
-use Rattle.slot_store.proofs.Laws.{answer_is, apart_same, at_stands, same_at}
-use Rattle.tariff_compile.specs.Tables.{TableParts}
-use Rattle.taxi_units.specs.declared.receipt.Receipt as receipts
-use Rattle.totals_record.specs.Reading.{reads}
-use Rattle.totals_record.specs.States.{entries_of}
-use Rattle.meter_store.specs.Stored.{state_number_of}
-use Rattle.totals_record.specs.declared.change.Change.{Change}
-use Rattle.totals_record.specs.declared.change.Change.TheVariants as changes
-use Rattle.totals_record.specs.declared.durable_state.Durable.{Durable}
-use Rattle.totals_record.specs.declared.entry.Entry.{Entry}
-use Rattle.meter_model.specs.declared.act.Act.TheVariants.{Enter, Receipt}
-use Rattle.meter_run.specs.Deeds.{Deed, Does, changes_in, changes_of}
-use Rattle.meter_run.specs.OnStore.{HasBeside, WritesTotals}
+use Rattle.std.{specs.Prelude.{Contains, get_or}, proofs.lemmas.List.Elements.{Contains-append_left, Contains-push}}
+use Rattle.std.proofs.Common.{[], ℕ, ◌++◌, ◌+◌, ◌<◌, ◌∙◌, ◌∷◌, ◌≡◌, ◌≤◌, ◌⊎◌, List, ap, append_assoc, arith, inl, inr}
+use Rattle.{std.proofs.Common.{length, length-append, refl, subst, sym, ⊎_elim}, slot_store.specs.Slots.{IsAt}}
+use Rattle.{slot_store.proofs.Laws.{answer_is, apart_same, at_stands, same_at}, totals_record.specs.Reading.{reads}}
+use Rattle.meter_run.specs.Common.{Change, Durable, Enter, Entry, Ghosts, HasSeal, HoldsSeal, IsAtRest, Place, Receipt}
+use Rattle.meter_run.specs.{Common.{Seal, TableParts, entries_of, state_number_of}, OnStore.{HasBeside, WritesTotals}}
+use Rattle.meter_run.{specs.{Deeds.{Deed, Does, changes_in, changes_of}, Runs.{OpensWith}}, proofs.Cuts.{begins_in}}
 use Rattle.meter_run.specs.Points.{HasEntries, HasEntryOf, IsCutOfDeeds, IsEntered, IsNumberedWithin}
-use Rattle.meter_run.specs.Runs.{OpensWith}
-use Rattle.meter_run.proofs.Cuts.{begins_in}
+use Rattle.seal_record.specs.Decoding as seals
+use Rattle.taxi_units.specs.declared.receipt.Receipt as receipts
+use Rattle.totals_record.specs.declared.change.Change.TheVariants as changes
 
 -- ---- what deeds commit
 

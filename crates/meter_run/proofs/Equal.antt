@@ -1,39 +1,14 @@
 -- Equal intervals that the core carries out at once.
-use Rattle.std.proofs.Common.{◌≡◌, ℕ, zero, suc, List, [], ◌++◌, refl, sym, ap, subst, ◌∙◌, Option, Some, None}
-use Rattle.std.specs.Option.{ForSome}
-use Rattle.std.proofs.lemmas.Bool.{ne_eqb}
-use Rattle.std.proofs.lemmas.List.{append-nil}
-use Rattle.drive_text.specs.Runs.{interval_events, intervals_events}
-use Rattle.outside.specs.Runs.{LeavesNow}
-use Rattle.outside.specs.declared.board.Board.{Ghosts}
-use Rattle.outside.proofs.Laws.{keeps_none}
-use Rattle.seal_record.specs.declared.seal.Seal.{Seal}
-use Rattle.tariff_compile.specs.Tables.{TableParts}
-use Rattle.taxi_units.specs.declared.event.Event.{Event}
-use Rattle.totals_record.specs.declared.durable_state.Durable.{Durable}
-use Rattle.meter_states.specs.Core.{Meets, Stands}
-use Rattle.meter_states.specs.Equals.{interval_of, intervals_of}
-use Rattle.meter_states.specs.Cache.{CachedCore}
-use Rattle.meter_states.specs.Fits.{Fits}
-use Rattle.meter_states.specs.Lawful.{IsLawful}
-use Rattle.meter_model.specs.Meter.{Meter}
-use Rattle.meter_model.specs.Run.{run}
-use Rattle.meter_model.specs.Setting.{Setting}
-use Rattle.meter_states.specs.Setting.{IsSettingOf}
-use Rattle.meter_model.specs.declared.act.Act.{Act}
-use Rattle.meter_states.proofs.Laws.{the_store_keeps_the_trip-run}
-use Rattle.meter_run.specs.Deeds.{after_deeds, deeds_of, texts}
-use Rattle.meter_run.specs.Dry.{CarriesEvents, IsMeterReady}
-use Rattle.meter_run.specs.BetweenEvents.{StandsWith}
-use Rattle.meter_run.specs.OnStore.{CarriesOut, Has, Knows}
-use Rattle.meter_run.specs.PointLaws.{keeps_still}
-use Rattle.meter_run.specs.Points.{GoesBy}
-use Rattle.meter_run.specs.RunLaws.{run_durable}
-use Rattle.meter_run.specs.StoreLaws.{beside_none, has_settled}
-use Rattle.meter_run.specs.Texts.{shown_texts}
-use Rattle.meter_run.specs.declared.dry.DryMeter.{DryMeter}
-use Rattle.meter_run.specs.declared.stored.Known.{Known}
-use Rattle.meter_run.specs.declared.stored.StoreMeter.{StoreMeter}
+use Rattle.std.{specs.Option.{ForSome}, proofs.lemmas.{Bool.{ne_eqb}, List.{append-nil}}}
+use Rattle.std.proofs.Common.{[], ℕ, ◌++◌, ◌∙◌, ◌≡◌, List, None, Option, Some, ap, refl, subst, suc, sym, zero}
+use Rattle.{outside.proofs.Laws.{keeps_none}, meter_states.proofs.Laws.{the_store_keeps_the_trip-run}}
+use Rattle.{meter_states.specs.Equals.{interval_of}, meter_run.specs.Deeds.{after_deeds, deeds_of, texts}}
+use Rattle.meter_run.specs.{BetweenEvents.{StandsWith}, Common.{interval_events, intervals_events, intervals_of, run}}
+use Rattle.meter_run.specs.Common.{Act, CachedCore, Durable, Event, Fits, Ghosts, IsLawful, IsSettingOf, Known}
+use Rattle.meter_run.specs.Common.{LeavesNow, Meets, Meter, Seal, Setting, Stands, StoreMeter, TableParts}
+use Rattle.meter_run.specs.{Dry.{CarriesEvents, IsMeterReady}, Points.{GoesBy}, StoreLaws.{beside_none, has_settled}}
+use Rattle.meter_run.specs.{OnStore.{CarriesOut, Has, Knows}, PointLaws.{keeps_still}, declared.dry.DryMeter.{DryMeter}}
+use Rattle.meter_run.specs.{RunLaws.{run_durable}, Texts.{shown_texts}}
 
 -- ---- the events of equal intervals
 

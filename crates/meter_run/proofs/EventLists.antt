@@ -1,19 +1,10 @@
 -- Events, intervals and runs that are carried out, one behind the other.
-use Rattle.std.proofs.Common.{◌≡◌, ◌≢◌, ℕ, zero, suc, ◌+◌, ◌≤◌, ◌<◌, List, [], ◌∷◌, ◌++◌, length, take, drop, get_or}
-use Rattle.std.proofs.Common.{refl, sym, ap, subst, ◌∙◌, append_assoc, add-one, arith, length-append, Result, Ok, Err}
-use Rattle.std.proofs.Common.{IsErr, IfOk, OnErr, OnOk, Option, None, Some, true, false}
-use Rattle.std.specs.Prelude.{IsErrAnd}
-use Rattle.std.specs.List.{flat_map}
-use Rattle.std.proofs.lemmas.Bool.{ne_eqb}
-use Rattle.std.proofs.lemmas.List.{append-nil, take-append-drop}
-use Rattle.std.proofs.lemmas.List.Concat.{flat_map-append}
-use Rattle.outside.specs.Faults.{HasCause}
-use Rattle.outside.proofs.Laws.{rose_behind}
-use Rattle.taxi_units.specs.declared.event.Event.{Event}
-use Rattle.taxi_units.specs.declared.event.Event.TheVariants.{Pulses, Tick}
-use Rattle.drive_text.specs.declared.run.Run.{Run}
-use Rattle.drive_text.specs.Runs.{interval_events, intervals_events, run_events}
-use Rattle.meter_run.specs.Drives.{IsBounded}
+use Rattle.{std.specs.List.{flat_map}, outside.proofs.Laws.{rose_behind}, meter_run.specs.Drives.{IsBounded}}
+use Rattle.std.{specs.Prelude.{IsErrAnd}, proofs.Common.{length-append, refl, subst, suc, sym, take, true, zero}}
+use Rattle.std.proofs.Common.{[], ℕ, ◌++◌, ◌+◌, ◌<◌, ◌∙◌, ◌∷◌, ◌≡◌, ◌≢◌, ◌≤◌, Err, IfOk, IsErr, List, None, Ok, OnErr}
+use Rattle.std.proofs.Common.{OnOk, Option, Result, Some, add-one, ap, append_assoc, arith, drop, false, get_or, length}
+use Rattle.std.proofs.lemmas.{Bool.{ne_eqb}, List.{append-nil, take-append-drop, Concat.{flat_map-append}}}
+use Rattle.meter_run.specs.Common.{Event, HasCause, Pulses, Run, Tick, interval_events, intervals_events, run_events}
 
 -- what holds whatever came of a call holds if it failed
 pub on_err : {A E : Type 0} (r : Result A E) (P : Type 0) → P → OnErr r P

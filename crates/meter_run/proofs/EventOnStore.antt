@@ -1,61 +1,22 @@
 -- One event on a store.
-use Rattle.std.proofs.Common.{◌≡◌, ◌≢◌, inl, ℕ, List, [], ◌∷◌, ◌++◌, All, Option, Some, None, IfSome, Result, OnOk}
-use Rattle.std.proofs.Common.{OnErr, refl, sym, ap, subst, ◌∙◌}
-use Rattle.std.specs.Option.{ForSome}
-use Rattle.std.proofs.lemmas.List.{append-nil}
-use Rattle.std.proofs.lemmas.Result.{on_ok_weaker}
-use Rattle.outside.specs.Disk.{MayLeaveAmid}
-use Rattle.outside.specs.Faults.{HasCause}
-use Rattle.outside.proofs.Laws.{cause_behind}
-use Rattle.outside.specs.PrintedText.{Begins}
-use Rattle.outside.specs.Runs.{KeepsStore, LeavesNow, LeavesOnly}
-use Rattle.outside.specs.declared.board.Board.{Ghosts}
-use Rattle.receipt_text.specs.Texts.{refusal_text}
-use Rattle.taxi_units.specs.declared.event.Event.{Event}
-use Rattle.taxi_units.specs.declared.event.Event.TheVariants.{Up, Down, Pulses, Tick, Clock, Key}
-use Rattle.taxi_units.specs.declared.event.Operating.TheVariants.{Off}
-use Rattle.taxi_units.specs.declared.event.Why.TheVariants.{NotNow}
-use Rattle.tariff_compile.specs.Tables.{TableParts}
-use Rattle.seal_record.specs.declared.seal.Seal.{Seal}
-use Rattle.slot_store.specs.declared.pair.Place.{Place}
-use Rattle.totals_record.specs.Ranges.{IsDurable, IsHeld}
-use Rattle.meter_store.specs.Stored.{HoldsState}
-use Rattle.totals_record.specs.declared.durable_state.Durable.{Durable}
-use Rattle.totals_record.specs.declared.trip.Trip.{Trip}
-use Rattle.meter_states.specs.Acts.{IsLawfulAct}
-use Rattle.meter_model.specs.KeptTrip.{IsSavedIn}
-use Rattle.meter_states.specs.Core.{Meets}
-use Rattle.meter_states.specs.Cache.{CachedCore}
-use Rattle.meter_states.specs.Fits.{Fits}
+use Rattle.{std.specs.Option.{ForSome}, taxi_units.specs.declared.event.Why.TheVariants.{NotNow}}
+use Rattle.std.proofs.Common.{[], ℕ, ◌++◌, ◌∙◌, ◌∷◌, ◌≡◌, ◌≢◌, All, IfSome, List, None, OnErr, OnOk, Option, Result}
+use Rattle.std.proofs.{Common.{Some, ap, inl, refl, subst, sym}, lemmas.{List.{append-nil}, Result.{on_ok_weaker}}}
+use Rattle.{outside.proofs.Laws.{cause_behind}, totals_record.specs.{Ranges.{IsHeld}, declared.trip.Trip.{Trip}}}
+use Rattle.meter_model.{specs.{KeptTrip.{IsSavedIn}, Meter.{refused}}, proofs.Laws.{the_store_keeps_the_trip-begins}}
+use Rattle.meter_states.{specs.{EventOnCore.{Takes}, Setting.{IsTariffOf}}, proofs.Laws.{the_store_keeps_the_trip-fits}}
+use Rattle.meter_run.{specs.BetweenEvents.{StandsWith}, proofs.BoardDeeds.{beside_kept, print_point, settled_kept}}
+use Rattle.meter_run.{specs.Commits.{after_acts}, proofs.SupplyDrop.{came, off_of, ready_after, stands_after, stepped}}
+use Rattle.meter_run.specs.Common.{Act, Begins, CachedCore, Clock, Down, Durable, Event, Fits, Ghosts, HasCause}
+use Rattle.meter_run.specs.Common.{HoldsState, IsDurable, IsLawful, IsLawfulAct, IsSettingOf, KeepsStore, Key, Known}
+use Rattle.meter_run.specs.Common.{LeavesNow, LeavesOnly, MayLeaveAmid, Meets, Meter, Off, Outcome, Place, Pulses}
+use Rattle.meter_run.specs.Common.{Refuse, Seal, Setting, StoreMeter, TableParts, Tick, Up, opened, refusal_text, run}
+use Rattle.meter_run.specs.{Common.{step, supply_came}, OnStore.{MayDo, StandsOn, StopsAmid, WritesTotals}}
+use Rattle.meter_run.specs.{Deeds.{Deed, Does, deeds_of, texts}, Supply.{StaysOff}}
+use Rattle.meter_run.{specs.Dry.{IsMeterReady}, proofs.EventLists.{on_err, on_ok, on_ok_both, on_ok_under}}
+use Rattle.meter_run.specs.OnStore.{Agrees, Attempts, CarriesEvents, CarriesOut, Has, IsMeterReadyOn, IsSecured, Knows}
+use Rattle.meter_run.specs.{PointLaws.{keeps_longer, keeps_next}, Points.{GoesBy}, StoreLaws.{beside_then, has_settled}}
 use Rattle.meter_model.specs.KeptTrip as kept
-use Rattle.meter_states.specs.Lawful.{IsLawful}
-use Rattle.meter_model.specs.Meter.{Meter, Outcome, refused}
-use Rattle.meter_model.specs.Run.{opened, run}
-use Rattle.meter_model.specs.Setting.{Setting}
-use Rattle.meter_states.specs.Setting.{IsSettingOf, IsTariffOf}
-use Rattle.meter_model.specs.Step.{step}
-use Rattle.meter_states.specs.EventOnCore.{Takes}
-use Rattle.meter_model.specs.Supply.{supply_came}
-use Rattle.meter_model.specs.declared.act.Act.{Act}
-use Rattle.meter_model.specs.declared.act.Act.TheVariants.{Refuse}
-use Rattle.meter_model.proofs.Laws.{the_store_keeps_the_trip-begins}
-use Rattle.meter_states.proofs.Laws.{the_store_keeps_the_trip-fits}
-use Rattle.meter_run.specs.Commits.{after_acts}
-use Rattle.meter_run.specs.Deeds.{Deed, Does, deeds_of, texts}
-use Rattle.meter_run.specs.Dry.{IsMeterReady}
-use Rattle.meter_run.specs.BetweenEvents.{StandsWith}
-use Rattle.meter_run.specs.OnStore.{Agrees, Attempts, CarriesOut, Has, IsMeterReadyOn, IsSecured, Knows, MayDo}
-use Rattle.meter_run.specs.OnStore.{StandsOn}
-use Rattle.meter_run.specs.OnStore.{CarriesEvents, StopsAmid, WritesTotals}
-use Rattle.meter_run.specs.PointLaws.{keeps_longer, keeps_next}
-use Rattle.meter_run.specs.Points.{GoesBy}
-use Rattle.meter_run.specs.StoreLaws.{beside_then, has_settled}
-use Rattle.meter_run.specs.Supply.{StaysOff}
-use Rattle.meter_run.specs.declared.stored.Known.{Known}
-use Rattle.meter_run.specs.declared.stored.StoreMeter.{StoreMeter}
-use Rattle.meter_run.proofs.SupplyDrop.{came, off_of, ready_after, stands_after, stepped}
-use Rattle.meter_run.proofs.EventLists.{on_err, on_ok, on_ok_both, on_ok_under}
-use Rattle.meter_run.proofs.BoardDeeds.{beside_kept, print_point, settled_kept}
 
 -- ---- a meter that opens with a durable state
 

@@ -1,23 +1,11 @@
 -- How a run ends, by what its drive came to.
-use Rattle.std.proofs.Common.{◌≡◌, ◌⊎◌, inl, inr, ◌∙◌, Bool, true, false, ℕ, ◌≤◌, List, ◌++◌, length, Ok, Err, IsErr}
-use Rattle.std.proofs.Common.{Result, sym, ap, subst}
-use Rattle.std.proofs.lemmas.List.{take_all}
-use Rattle.outside.specs.PrintedText.{Begins}
-use Rattle.taxi_units.specs.declared.event.Event.{Event}
-use Rattle.tariff_compile.specs.Tables.{TableParts}
-use Rattle.seal_record.specs.declared.seal.Seal.{Seal}
-use Rattle.drive_text.specs.Drive.{events_in}
-use Rattle.drive_text.specs.Ending.{StreamEnd, Whole, BadAt, Endless, IsSplit, ReachesEnd, stream_limit, events_of}
-use Rattle.totals_record.specs.States.{first_state}
-use Rattle.meter_model.specs.Run.{actions_of}
-use Rattle.meter_model.specs.Setting.{Setting}
-use Rattle.meter_states.specs.Setting.{IsSettingOf}
-use Rattle.meter_run.specs.Drives.{RunsDrive, RunsTo, answer_of}
+use Rattle.std.proofs.Common.{ℕ, ◌++◌, ◌∙◌, ◌≡◌, ◌≤◌, ◌⊎◌, Bool, Err, IsErr, List, Ok, Result, ap, false, inl, inr}
+use Rattle.{std.proofs.{Common.{length, subst, sym, true}, lemmas.List.{take_all}}, meter_run.specs.Texts.{shown_texts}}
+use Rattle.meter_run.specs.Common.{BadAt, Begins, Endless, Event, IsSettingOf, IsSplit, ReachesEnd, RunFault, Seal}
+use Rattle.meter_run.specs.Common.{Setting, StreamEnd, TableParts, Whole, actions_of, events_in, events_of, first_state}
+use Rattle.meter_run.specs.{Common.{stream_limit}, Drives.{RunsDrive, RunsTo, answer_of}, declared.source.Stop.{Stop}}
 use Rattle.meter_run.specs.Source.{EndsBy}
-use Rattle.meter_run.specs.Texts.{shown_texts}
-use Rattle.meter_run.specs.declared.fault.RunFault.{RunFault}
 use Rattle.meter_run.specs.declared.fault.RunFault.TheVariants as faults
-use Rattle.meter_run.specs.declared.source.Stop.{Stop}
 use Rattle.meter_run.specs.declared.source.Stop.TheVariants as stops
 
 abbrev fails : RunFault → Result (Unit {0}) RunFault

@@ -1,16 +1,9 @@
 -- What a scan of the pair of totals finds on a board that is settled.
-use Rattle.std.proofs.Common.{◌≡◌, ℕ, List, Result, Ok, Err, sym, ap, ◌∙◌}
-use Rattle.slot_store.specs.Scan.{found_at}
-use Rattle.slot_store.specs.Slots.{IsAt}
-use Rattle.slot_store.specs.declared.found.Found.{Found}
-use Rattle.slot_store.specs.declared.found.Found.TheVariants.{Blank, Latest}
-use Rattle.slot_store.specs.declared.found.SlotFault.{SlotFault}
-use Rattle.slot_store.specs.declared.found.SlotFault.TheVariants.{BadBody, DeviceFailed, SameNumber}
-use Rattle.slot_store.specs.declared.pair.Place.{Place}
-use Rattle.slot_store.proofs.Laws.{answer_is}
-use Rattle.totals_record.specs.Reading.{reads}
-use Rattle.meter_store.specs.Stored.{state_number_of}
-use Rattle.totals_record.specs.declared.durable_state.Durable.{Durable}
+use Rattle.std.proofs.Common.{ℕ, ◌∙◌, ◌≡◌, Err, List, Ok, Result, ap, sym}
+use Rattle.{slot_store.specs.{Scan.{found_at}, Slots.{IsAt}}, totals_record.specs.Reading.{reads}}
+use Rattle.slot_store.{specs.declared.found.Found.{Found, TheVariants.{Blank, Latest}}, proofs.Laws.{answer_is}}
+use Rattle.slot_store.specs.declared.found.SlotFault.{SlotFault, TheVariants.{BadBody, DeviceFailed, SameNumber}}
+use Rattle.meter_run.specs.Common.{Durable, Place, state_number_of}
 
 abbrev latest : Place → Durable → Result (Found Durable) SlotFault
 latest place d = Ok (Latest place d)

@@ -1,18 +1,13 @@
 -- How a source goes on and stops.
-use Rattle.std.proofs.Common.{◌≡◌, ◌≢◌, ℕ, ◌+◌, ◌-◌, ◌^◌, ◌≤◌, ◌<◌, List, [], ◌++◌, length, take, drop, Some, None}
-use Rattle.std.proofs.Common.{false, refl, sym, ap, subst, ◌∙◌, append_assoc, arith, length-append, length-take}
-use Rattle.std.proofs.Common.{length-drop}
-use Rattle.std.proofs.lemmas.List.{append-nil, take-append-drop, drop-take, drop-drop, drop_all}
-use Rattle.drive_text.specs.Drive.{bad_at_end, runs_after, runs_in}
-use Rattle.drive_text.specs.Ending.{stream_limit, ReachesEnd, BadAt}
-use Rattle.drive_text.specs.Ending as ends
-use Rattle.drive_text.specs.Reading.{BreaksIn, HasTaken, Reading, TakesTo}
-use Rattle.drive_text.specs.declared.run.Run.{Run}
+use Rattle.std.proofs.Common.{[], ℕ, ◌++◌, ◌+◌, ◌-◌, ◌<◌, ◌^◌, ◌∙◌, ◌≡◌, ◌≢◌, ◌≤◌, List, None, Some, ap, append_assoc}
+use Rattle.std.proofs.Common.{arith, drop, false, length, length-append, length-drop, length-take, refl, subst, sym}
+use Rattle.std.proofs.{Common.{take}, lemmas.List.{append-nil, drop-drop, drop-take, drop_all, take-append-drop}}
+use Rattle.drive_text.{specs.{Drive.{bad_at_end, runs_in}, Reading.{BreaksIn, TakesTo}}, proofs.Laws.{whole_drive_ends}}
 use Rattle.drive_text.proofs.Laws.{bad_drive_ends, endless_drive_ends, few_lines, going_reader, unfinished_drive_ends}
-use Rattle.drive_text.proofs.Laws.{whole_drive_ends}
+use Rattle.meter_run.specs.Common.{BadAt, HasTaken, ReachesEnd, Reading, Run, runs_after, stream_limit}
 use Rattle.meter_run.specs.Source.{EndsBy, Fills, GivesRuns, HasGiven, Progress, StopsBy}
-use Rattle.meter_run.specs.declared.source.Stop.{Stop}
-use Rattle.meter_run.specs.declared.source.Stop.TheVariants.{Whole, BadLine, TooLong, ReadFault}
+use Rattle.meter_run.specs.declared.source.Stop.{Stop, TheVariants.{BadLine, ReadFault, TooLong, Whole}}
+use Rattle.drive_text.specs.Ending as ends
 
 -- ---- lists
 

@@ -1,34 +1,13 @@
 -- The supply behind events: a meter is off without it, and the steps of a drive with the supply drop at its end.
-use Rattle.std.proofs.Common.{◌≡◌, ◌≢◌, inl, inr, ℕ, zero, suc, ◌+◌, ◌*◌, ◌≤◌, List, [], ◌∷◌, Bool, true, false, None}
-use Rattle.std.proofs.Common.{arith, refl, sym, ap, subst, ◌∙◌}
-use Rattle.std.proofs.lemmas.Bool.{ne_eqb}
-use Rattle.drive_text.specs.Runs.{interval_events, intervals_events}
-use Rattle.outside.specs.declared.board.Board.{Ghosts}
-use Rattle.seal_record.specs.declared.seal.Seal.{Seal}
-use Rattle.tariff_compile.specs.Tables.{TableParts}
-use Rattle.taxi_units.specs.declared.event.Event.{Event}
-use Rattle.taxi_units.specs.declared.event.Event.TheVariants.{Up, Down, Pulses, Tick, Clock, Key}
-use Rattle.taxi_units.specs.declared.event.Operating.{Operating}
-use Rattle.taxi_units.specs.declared.event.Operating.TheVariants.{Off, ForHire, Hired, Stopped}
-use Rattle.totals_record.specs.States.{first_state}
-use Rattle.totals_record.specs.declared.durable_state.Durable.{Durable}
-use Rattle.meter_states.specs.Core.{Meets, CoreData, Stands}
-use Rattle.meter_states.specs.Cache.{CachedCore}
-use Rattle.meter_model.specs.Meter.{Meter, Outcome}
-use Rattle.meter_model.specs.Run.{opened, run}
-use Rattle.meter_model.specs.Setting.{Setting}
-use Rattle.meter_states.specs.Setting.{IsSettingOf}
-use Rattle.meter_model.specs.Step.{step, step_in}
-use Rattle.meter_model.specs.declared.act.Act.{Act}
-use Rattle.meter_run.specs.Dry.{CarriesEvents, IsMeterReady}
-use Rattle.meter_run.specs.BetweenEvents.{StandsWith}
-use Rattle.meter_run.specs.OnStore.{IsMeterReadyOn}
-use Rattle.meter_run.specs.Supply.{StaysOff, drop_steps, is_supplied, is_supplied_after}
-use Rattle.meter_run.specs.SupplyLaws.{supplied_joined}
-use Rattle.meter_run.specs.declared.dry.DryMeter.{DryMeter}
-use Rattle.meter_run.specs.declared.stored.StoreMeter.{StoreMeter}
-use Rattle.meter_run.proofs.SupplyDrop.{begins, off_of}
-use Rattle.meter_run.proofs.EventOnStore.{refused_event, unknown_off}
+use Rattle.std.proofs.Common.{[], ℕ, ◌*◌, ◌+◌, ◌∙◌, ◌∷◌, ◌≡◌, ◌≢◌, ◌≤◌, Bool, List, None, ap, arith, false, inl, inr}
+use Rattle.std.proofs.{Common.{refl, subst, suc, sym, true, zero}, lemmas.Bool.{ne_eqb}}
+use Rattle.meter_run.{specs.{BetweenEvents.{StandsWith}, OnStore.{IsMeterReadyOn}}, proofs.SupplyDrop.{begins, off_of}}
+use Rattle.meter_run.specs.Common.{Act, CachedCore, Clock, CoreData, Down, Durable, Event, ForHire, Ghosts, Hired}
+use Rattle.meter_run.specs.Common.{IsSettingOf, Key, Meets, Meter, Off, Operating, Outcome, Pulses, Seal, Setting}
+use Rattle.meter_run.specs.Common.{Stands, Stopped, StoreMeter, TableParts, Tick, Up, first_state, interval_events}
+use Rattle.meter_run.specs.{Common.{intervals_events, opened, run, step, step_in}, Dry.{CarriesEvents, IsMeterReady}}
+use Rattle.meter_run.specs.{Supply.{StaysOff, drop_steps, is_supplied, is_supplied_after}, SupplyLaws.{supplied_joined}}
+use Rattle.meter_run.{specs.declared.dry.DryMeter.{DryMeter}, proofs.EventOnStore.{refused_event, unknown_off}}
 
 never : true ≡ false → ⊥
 never is = absurd cc

@@ -1,48 +1,19 @@
 -- One event, and the supply drop at the end.
-use Rattle.std.proofs.Common.{◌≡◌, ◌≢◌, inl, inr, ℕ, ◌≤◌, List, [], ◌∷◌, ◌++◌, All, refl, sym, ap, subst, ◌∙◌}
-use Rattle.std.proofs.Common.{append_assoc, Result, Ok, Err, OnOk, OnErr}
-use Rattle.std.specs.Option.{ForSome}
-use Rattle.std.proofs.lemmas.List.{append-nil}
-use Rattle.std.proofs.lemmas.List.Elements.{All-cons, All-nil}
-use Rattle.outside.specs.PrintedText.{Begins}
-use Rattle.outside.specs.Runs.{KeepsStore}
-use Rattle.outside.specs.declared.board.Board.{Ghosts}
-use Rattle.outside.proofs.Laws.{begins_after, begins_more, begins_whole}
-use Rattle.taxi_units.specs.declared.event.Event.{Event}
-use Rattle.taxi_units.specs.declared.event.Event.TheVariants.{Up, Down, Pulses, Tick, Clock, Key}
-use Rattle.taxi_units.specs.declared.event.Operating.{Operating}
-use Rattle.taxi_units.specs.declared.event.Operating.TheVariants.{Off, ForHire, Hired, Stopped}
-use Rattle.taxi_units.specs.declared.event.Why.TheVariants.{NotNow}
-use Rattle.tariff_check.specs.SoundTariff.{sound_of}
-use Rattle.tariff_compile.specs.Tables.{IsCompiled, TableParts}
-use Rattle.seal_record.specs.declared.seal.Seal.{Seal}
-use Rattle.totals_record.specs.Ranges.{IsDurable}
-use Rattle.totals_record.specs.States.{first_state}
-use Rattle.totals_record.specs.declared.durable_state.Durable.{Durable}
-use Rattle.meter_states.specs.Acts.{IsLawfulAct}
-use Rattle.meter_model.specs.KeptTrip.{IsSavedIn}
-use Rattle.meter_states.specs.Core.{Meets, CoreData, Stands}
-use Rattle.meter_states.specs.Cache.{CachedCore}
-use Rattle.meter_states.specs.Fits.{Fits}
-use Rattle.meter_states.specs.Lawful.{IsLawful}
-use Rattle.meter_model.specs.Meter.{Meter, Outcome}
-use Rattle.meter_model.specs.Run.{actions_of, ended, ended_in, opened, run}
-use Rattle.meter_model.specs.Setting.{Setting}
-use Rattle.meter_states.specs.Setting.{IsSettingOf}
-use Rattle.meter_model.specs.Step.{step, step_in}
-use Rattle.meter_model.specs.Supply.{supply_came, supply_dropped}
-use Rattle.meter_model.specs.declared.act.Act.{Act}
-use Rattle.meter_model.specs.declared.act.Act.TheVariants.{Refuse}
-use Rattle.meter_states.proofs.Laws.{the_store_has_what_the_acts_commit-event}
-use Rattle.meter_model.proofs.Laws.{the_store_keeps_the_trip-step}
-use Rattle.meter_run.specs.Commits.{after_acts, commits_in, AreFor}
-use Rattle.meter_run.specs.Dry.{BreaksOff, CarriesEvents, IsMeterReady, Prints, PrintsSome}
-use Rattle.meter_run.specs.BetweenEvents.{IsTripKept, IsTripKeptIn, StandsWith}
-use Rattle.meter_run.specs.RunLaws.{after_is, texts_append}
-use Rattle.meter_run.specs.Texts.{shown_texts}
-use Rattle.meter_run.specs.declared.dry.DryMeter.{DryMeter}
-use Rattle.meter_run.proofs.CommittedStates.{are_for, fits_after, range_after}
-use Rattle.meter_run.proofs.OneCommit.{commits_once}
+use Rattle.{std.{specs.Option.{ForSome}, proofs.lemmas.List.{append-nil}}, tariff_check.specs.SoundTariff.{sound_of}}
+use Rattle.std.proofs.Common.{[], ℕ, ◌++◌, ◌∙◌, ◌∷◌, ◌≡◌, ◌≢◌, ◌≤◌, All, Err, List, Ok, OnErr, OnOk, Result, ap}
+use Rattle.std.proofs.{Common.{append_assoc, inl, inr, refl, subst, sym}, lemmas.List.Elements.{All-cons, All-nil}}
+use Rattle.{taxi_units.specs.declared.event.Why.TheVariants.{NotNow}, meter_model.specs.Supply.{supply_dropped}}
+use Rattle.{outside.proofs.Laws.{begins_after, begins_more, begins_whole}, tariff_compile.specs.Tables.{IsCompiled}}
+use Rattle.meter_model.{specs.{KeptTrip.{IsSavedIn}, Run.{ended_in}}, proofs.Laws.{the_store_keeps_the_trip-step}}
+use Rattle.{meter_states.proofs.Laws.{the_store_has_what_the_acts_commit-event}, meter_run.specs.Common.{supply_came}}
+use Rattle.meter_run.specs.{BetweenEvents.{IsTripKept, IsTripKeptIn, StandsWith}, RunLaws.{after_is, texts_append}}
+use Rattle.meter_run.{specs.Commits.{AreFor, after_acts, commits_in}, proofs.OneCommit.{commits_once}}
+use Rattle.meter_run.specs.Common.{Act, Begins, CachedCore, Clock, CoreData, Down, Durable, Event, Fits, ForHire}
+use Rattle.meter_run.specs.Common.{Ghosts, Hired, IsDurable, IsLawful, IsLawfulAct, IsSettingOf, KeepsStore, Key, Meets}
+use Rattle.meter_run.specs.Common.{Meter, Off, Operating, Outcome, Pulses, Refuse, Seal, Setting, Stands, Stopped}
+use Rattle.meter_run.specs.Common.{TableParts, Tick, Up, actions_of, ended, first_state, opened, run, step, step_in}
+use Rattle.meter_run.specs.{Dry.{BreaksOff, CarriesEvents, IsMeterReady, Prints, PrintsSome}, Texts.{shown_texts}}
+use Rattle.meter_run.{specs.declared.dry.DryMeter.{DryMeter}, proofs.CommittedStates.{are_for, fits_after, range_after}}
 
 -- ---- off
 
@@ -248,7 +219,7 @@ module _ {D L : Type 0} {N : ℕ} (B : Ghosts D N L) (tables : TableParts) (seal
 
   pub ends_some : {A E : Type 0} (r : Result A E) (x : DryMeter) (b : D) (y : DryMeter) (c : D) → x.core.state.operating
       ≢ Off → OnOk r (CarriesEvents B tables seal x b (Down ∷ []) y c)
-          → OnErr r (BreaksOff B tables seal x b (Down ∷ []) c)
+      → OnErr r (BreaksOff B tables seal x b (Down ∷ []) c)
       → PrintsSome B tables seal (λ s m. ended s m) x b c
   ends_some (Ok u) x b y c on h k told s m is st =
       begins_whole (B.printed b) (B.printed c) (shown_texts (ended s m).acts) (ends_on x b y c on h told s m is st)

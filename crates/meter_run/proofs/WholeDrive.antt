@@ -1,18 +1,11 @@
 -- A drive, from its first byte to where no more of it is read.
-use Rattle.std.proofs.Common.{◌≡◌, ℕ, ◌+◌, ◌≤◌, ◌<◌, List, [], ◌++◌, length, Option, Some, None, Result, Ok, Err}
-use Rattle.std.proofs.Common.{◌∷◌, IfOk, IfSome, OnErr}
-use Rattle.std.proofs.Common.{refl, sym, ap, subst, ◌∙◌, append_assoc, arith, length-append, flat_map}
-use Rattle.taxi_units.specs.declared.event.Event.{Event}
-use Rattle.drive_text.specs.Drive.{events_in, runs_after}
-use Rattle.drive_text.specs.Ending.{IsSplit, stream_limit}
-use Rattle.drive_text.specs.Runs.{run_events}
-use Rattle.drive_text.specs.declared.run.Run.{Run}
-use Rattle.drive_text.proofs.Laws.{events_are_added}
-use Rattle.std.proofs.lemmas.List.{append-nil}
+use Rattle.std.proofs.Common.{[], ℕ, ◌++◌, ◌+◌, ◌<◌, ◌∙◌, ◌∷◌, ◌≡◌, ◌≤◌, Err, IfOk, IfSome, List, None, Ok, OnErr}
+use Rattle.std.proofs.Common.{Option, Result, Some, ap, append_assoc, arith, flat_map, length, length-append, refl}
+use Rattle.{std.proofs.{Common.{subst, sym}, lemmas.List.{append-nil}}, drive_text.proofs.Laws.{events_are_added}}
+use Rattle.meter_run.specs.Common.{Event, IsSplit, Run, events_in, run_events, runs_after, stream_limit}
 use Rattle.meter_run.specs.Drives.{BreaksDrive, IsBounded, TakesDrive}
 use Rattle.meter_run.specs.Pieces.{AreCarried, CarriesAhead, CarriesPiece, IsThrough}
-use Rattle.meter_run.specs.Source.{EndsBy, Fills, GivesRuns, HasGiven, Progress, StopsBy}
-use Rattle.meter_run.specs.declared.source.Stop.{Stop}
+use Rattle.meter_run.specs.{Source.{EndsBy, Fills, GivesRuns, HasGiven, Progress, StopsBy}, declared.source.Stop.{Stop}}
 use Rattle.meter_run.specs.declared.source.Stop.TheVariants.{BadLine, ReadFault}
 
 -- the runs of these bytes were given, and their events were carried out

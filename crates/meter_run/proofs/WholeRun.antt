@@ -1,57 +1,25 @@
 -- A whole run on a store: its events, and the supply drop at its end.
-use Rattle.std.proofs.Common.{◌≡◌, ◌≢◌, inl, inr, ⊎_elim, ℕ, ◌≤◌, ◌+◌, List, [], ◌∷◌, ◌++◌, length, take, drop, Option}
-use Rattle.std.proofs.Common.{None, Result, Ok, Err, IsOk, OnOk, OnErr, refl, sym, ap, subst, ◌∙◌}
-use Rattle.std.specs.Option.{ForSome}
-use Rattle.outside.specs.Runs.{LeavesNow, LeavesOnly}
-use Rattle.outside.specs.declared.board.Board.{Ghosts}
-use Rattle.outside.proofs.Laws.{leaves_wider}
-use Rattle.taxi_units.specs.declared.event.Event.{Event}
-use Rattle.taxi_units.specs.declared.event.Event.TheVariants.{Down}
-use Rattle.taxi_units.specs.declared.event.Operating.{Operating}
-use Rattle.taxi_units.specs.declared.event.Operating.TheVariants.{Off, ForHire, Hired, Stopped}
-use Rattle.tariff_check.specs.SoundTariff.{sound_of}
-use Rattle.tariff_compile.specs.Tables.{IsCompiled, TableParts}
-use Rattle.seal_record.specs.Ranges.{IsSeal}
-use Rattle.seal_record.specs.declared.seal.Seal.{Seal}
-use Rattle.drive_text.specs.Drive.{events_in}
-use Rattle.drive_text.specs.Ending.{StreamEnd, Whole, BadAt, Endless, IsSplit, ReachesEnd, drive_end, stream_limit}
-use Rattle.slot_store.specs.Slots.{slot_at}
-use Rattle.slot_store.specs.declared.pair.Place.{Place}
-use Rattle.totals_record.specs.Ranges.{IsDurable}
-use Rattle.meter_store.specs.Stored.{HoldsState}
-use Rattle.totals_record.specs.declared.durable_state.Durable.{Durable}
-use Rattle.totals_record.proofs.Laws.{states_are_read_by_their_table}
-use Rattle.meter_states.specs.Fits.{Fits}
-use Rattle.meter_states.specs.Lawful.{IsLawful}
-use Rattle.meter_model.specs.Meter.{Meter, Outcome}
-use Rattle.meter_model.specs.Run.{actions_of, ended, ended_in, opened, run}
-use Rattle.meter_model.specs.Setting.{Setting}
-use Rattle.meter_states.specs.Setting.{IsSettingOf}
-use Rattle.meter_model.specs.Step.{step_in}
-use Rattle.meter_model.specs.declared.act.Act.{Act}
+use Rattle.{std.specs.Option.{ForSome}, outside.proofs.Laws.{leaves_wider}, slot_store.specs.Slots.{slot_at}}
+use Rattle.std.proofs.Common.{[], ℕ, ◌++◌, ◌+◌, ◌∙◌, ◌∷◌, ◌≡◌, ◌≢◌, ◌≤◌, Err, IsOk, List, None, Ok, OnErr, OnOk, Option}
+use Rattle.std.proofs.Common.{Result, ap, drop, inl, inr, length, refl, subst, sym, take, ⊎_elim}
+use Rattle.{totals_record.proofs.Laws.{states_are_read_by_their_table}, tariff_check.specs.SoundTariff.{sound_of}}
+use Rattle.{tariff_compile.specs.Tables.{IsCompiled}, meter_model.specs.Run.{ended_in}, meter_run.specs.Runs.{RunsUpTo}}
 use Rattle.meter_states.proofs.Laws.{receipts_follow_their_entries-run, the_store_has_what_the_acts_commit-run}
-use Rattle.meter_run.specs.Deeds.{Deed, after_deeds, deeds_of, texts}
+use Rattle.meter_run.specs.Common.{Act, BadAt, Down, Durable, Endless, Event, Fits, ForHire, Ghosts, Hired, HoldsState}
+use Rattle.meter_run.specs.Common.{IsDurable, IsLawful, IsSeal, IsSettingOf, IsSplit, Known, LeavesNow, LeavesOnly}
+use Rattle.meter_run.specs.Common.{Meter, Off, Operating, Outcome, Place, ReachesEnd, RunFault, Seal, Setting, Stopped}
+use Rattle.meter_run.specs.Common.{StoreMeter, StreamEnd, TableParts, Whole, actions_of, drive_end, ended, events_in}
+use Rattle.meter_run.specs.{Common.{opened, run, step_in, stream_limit}, OnStore.{StandsOn, StopsAmid, WritesTotals}}
+use Rattle.meter_run.specs.{Deeds.{Deed, after_deeds, deeds_of, texts}, RunLaws.{after_deeds_of, after_is, run_durable}}
+use Rattle.meter_run.specs.{Drives.{BreaksDrive, TakesDrive, answer_of}, StoreLaws.{beside_then, has_settled, out_none}}
 use Rattle.meter_run.specs.OnStore.{CarriesEvents, CarriesOut, Has, HasBeside, IsMeterReadyOn, IsSecured, Knows}
-use Rattle.meter_run.specs.OnStore.{StandsOn}
-use Rattle.meter_run.specs.OnStore.{StopsAmid, WritesTotals}
-use Rattle.meter_run.specs.PointLaws.{deeds_joined, keeps_longer, keeps_next, text_next}
-use Rattle.meter_run.specs.Points.{IsPointOfDeeds, IsCutOfDeeds, GoesBy}
-use Rattle.meter_run.specs.RunLaws.{after_deeds_of, after_is, run_durable}
+use Rattle.meter_run.specs.{PointLaws.{deeds_joined, keeps_longer, keeps_next, text_next}, declared.source.Stop.{Stop}}
+use Rattle.meter_run.{specs.Points.{GoesBy, IsCutOfDeeds, IsPointOfDeeds}, proofs.EventOnStore.{stands_opened}}
 use Rattle.meter_run.specs.Runs.{CutsLeave, EndsRun, FromOpening, HasDone, HasStopped, LeavesPoints, OpensWith}
-use Rattle.meter_run.specs.Runs.{RunsUpTo}
-use Rattle.meter_run.specs.Source.{EndsBy}
-use Rattle.meter_run.specs.StoreLaws.{beside_then, has_settled, out_none}
-use Rattle.meter_run.specs.Drives.{BreaksDrive, TakesDrive, answer_of}
-use Rattle.meter_run.specs.declared.fault.RunFault.{RunFault}
+use Rattle.meter_run.{specs.Source.{EndsBy}, proofs.RunEnds.{events_taken}}
+use Rattle.meter_run.proofs.{Cuts.{acts_have_entries, cut_of, deeds_follow}, SupplyDrop.{ended_on, off_of, on_of}}
 use Rattle.meter_run.specs.declared.fault.RunFault.TheVariants as faults
-use Rattle.meter_run.specs.declared.source.Stop.{Stop}
 use Rattle.meter_run.specs.declared.source.Stop.TheVariants as stops
-use Rattle.meter_run.specs.declared.stored.Known.{Known}
-use Rattle.meter_run.specs.declared.stored.StoreMeter.{StoreMeter}
-use Rattle.meter_run.proofs.Cuts.{acts_have_entries, cut_of, deeds_follow}
-use Rattle.meter_run.proofs.SupplyDrop.{ended_on, off_of, on_of}
-use Rattle.meter_run.proofs.RunEnds.{events_taken}
-use Rattle.meter_run.proofs.EventOnStore.{stands_opened}
 
 -- ---- the supply drop at the end
 

@@ -1,24 +1,8 @@
 -- Rules: the meter whose durable state is a value, and what it prints.
-use Rattle.std.specs.Prelude.{◌≡◌, ℕ, List, ◌++◌}
-use Rattle.std.specs.Option.{ForSome}
-use Rattle.outside.specs.PrintedText.{Begins}
-use Rattle.outside.specs.Runs.{KeepsStore}
-use Rattle.outside.specs.declared.board.Board.{Ghosts}
-use Rattle.taxi_units.specs.declared.event.Event.{Event}
-use Rattle.tariff_compile.specs.Tables.{TableParts}
-use Rattle.seal_record.specs.declared.seal.Seal.{Seal}
-use Rattle.totals_record.specs.Ranges.{IsDurable}
-use Rattle.totals_record.specs.declared.durable_state.Durable.{Durable}
-use Rattle.meter_states.specs.Cache.{CachedCore}
-use Rattle.meter_states.specs.Fits.{Fits}
-use Rattle.meter_states.specs.Lawful.{IsLawful}
-use Rattle.meter_model.specs.Meter.{Meter, Outcome}
-use Rattle.meter_model.specs.Run.{run}
-use Rattle.meter_model.specs.Setting.{Setting}
-use Rattle.meter_states.specs.Setting.{IsSettingOf}
-use Rattle.meter_run.specs.BetweenEvents.{StandsWith}
-use Rattle.meter_run.specs.Texts.{shown_texts}
-use Rattle.meter_run.specs.declared.dry.DryMeter.{DryMeter}
+use Rattle.std.specs.{Option.{ForSome}, Prelude.{ℕ, ◌++◌, ◌≡◌, List}}
+use Rattle.meter_run.specs.{BetweenEvents.{StandsWith}, declared.dry.DryMeter.{DryMeter}}
+use Rattle.meter_run.specs.Common.{Begins, CachedCore, Durable, Event, Fits, Ghosts, IsDurable, IsLawful, IsSettingOf}
+use Rattle.meter_run.specs.{Common.{KeepsStore, Meter, Outcome, Seal, Setting, TableParts, run}, Texts.{shown_texts}}
 
 -- a core and a durable state are under way if they stand for some state of the meter, under some setting of the tables
 -- and the seal; the core is one beside its cache, which only saves look-ups, as `Core::step_into` says by its clause

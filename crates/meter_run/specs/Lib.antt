@@ -17,3 +17,4 @@ pub mod StoreLaws
 pub mod Supply
 pub mod SupplyLaws
 pub mod Texts
+pub mod Common

@@ -1,10 +1,6 @@
 -- Rules: a text that is printed on a board.
-use Rattle.std.specs.Prelude.{◌≡◌, ℕ, List, ◌++◌, OnOk, Result}
-use Rattle.outside.specs.Disk.{MayLeaveAmid}
-use Rattle.outside.specs.Faults.{HasCause}
-use Rattle.outside.specs.PrintedText.{Begins}
-use Rattle.outside.specs.Runs.{KeepsStore, LeavesOnly}
-use Rattle.outside.specs.declared.board.Board.{Ghosts}
+use Rattle.std.specs.Prelude.{ℕ, ◌++◌, ◌≡◌, List, OnOk, Result}
+use Rattle.meter_run.specs.Common.{Begins, Ghosts, HasCause, KeepsStore, LeavesOnly, MayLeaveAmid}
 
 module _ {D L : Type 0} {N : ℕ} (B : Ghosts D N L) where
   -- a call prints a text if it leaves the store as it is; a beginning of the text is printed, and with `Ok` all of it;

@@ -1,7 +1,6 @@
 //! Whether the supply is there, and whether an event is its coming.
-ghost use Rattle.std.specs.Prelude.{◌≡◌, ◌≢◌, ◌↔◌, ℕ, IfSome, IsTrue, None};
-ghost use Rattle.taxi_units.specs.declared.event.Event.TheVariants.{Up};
-ghost use Rattle.taxi_units.specs.declared.event.Operating.TheVariants.{Off};
+ghost use Rattle.std.specs.Prelude.{ℕ, ◌↔◌, ◌≡◌, ◌≢◌, IfSome, IsTrue, None};
+ghost use Rattle.meter_run.specs.Common.{Off, Up};
 
 use meter_states::Core;
 use taxi_units::{Event, Operating};

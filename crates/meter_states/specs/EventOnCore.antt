@@ -1,21 +1,9 @@
 -- Rules: one event on the core, as `Core::step` and `Core::step_into` promise it.
-use Rattle.std.specs.Prelude.{◌≡◌, ◌≢◌, ℕ, List, All}
-use Rattle.seal_record.specs.declared.seal.Seal.{Seal}
-use Rattle.tariff_compile.specs.Tables.{TableParts}
-use Rattle.taxi_units.specs.declared.event.Event.{Event}
-use Rattle.taxi_units.specs.declared.event.Event.TheVariants.{Up}
-use Rattle.taxi_units.specs.declared.event.Operating.TheVariants.{Off}
-use Rattle.totals_record.specs.Ranges.{IsDurable}
-use Rattle.totals_record.specs.declared.durable_state.Durable.{Durable}
-use Rattle.meter_states.specs.Acts.{IsLawfulAct, KeepsRanges}
+use Rattle.std.specs.Prelude.{ℕ, ◌≡◌, ◌≢◌, All, List}
+use Rattle.{taxi_units.specs.declared.event.Event.TheVariants.{Up}, meter_states.specs.Acts.{IsLawfulAct, KeepsRanges}}
 use Rattle.meter_states.specs.Cache.{CachedCore}
-use Rattle.meter_states.specs.Core.{Meets, Stands}
-use Rattle.meter_states.specs.Lawful.{IsLawful, IsTimely}
-use Rattle.meter_model.specs.Meter.{Meter}
-use Rattle.meter_model.specs.Setting.{Setting}
-use Rattle.meter_states.specs.Setting.{IsSettingOf}
-use Rattle.meter_model.specs.Step.{step}
-use Rattle.meter_model.specs.declared.act.Act.{Act}
+use Rattle.meter_states.specs.Common.{Act, Durable, Event, IsDurable, Meter, Off, Seal, Setting, TableParts, step}
+use Rattle.meter_states.specs.{Core.{Meets, Stands}, Lawful.{IsLawful, IsTimely}, Setting.{IsSettingOf}}
 
 -- a core may step under tables and a seal if it is lawful, the tables were compiled with the seal's constant, the event
 -- is timely, and it isn't an `Up` while the core is off, which is for `Core::resume`

@@ -12,3 +12,4 @@ pub mod Refusals
 pub mod Setting
 pub mod Stages
 pub mod Supplements
+pub mod Common

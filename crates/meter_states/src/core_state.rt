@@ -1,9 +1,6 @@
 //! The core: the state of the meter, and the cache beside it.
 ghost use Rattle.std.specs.Prelude.{◌≡◌};
-ghost use Rattle.tariff_compile.specs.Tables.{TableParts};
-ghost use Rattle.seal_record.specs.declared.seal.Seal.{Seal};
-ghost use Rattle.taxi_units.specs.declared.event.Operating.TheVariants.{Off};
-ghost use Rattle.meter_states.specs.Lawful.{IsLawful};
+ghost use Rattle.meter_states.specs.{Common.{Off, Seal, TableParts}, Lawful.{IsLawful}};
 
 use crate::cache::Cache;
 use crate::meter_state::State;

@@ -1,16 +1,8 @@
 //! What the store keeps of a trip, and what its fare depends on.
 ghost use Rattle.std.specs.Prelude.{◌≡◌, List, length};
-ghost use Rattle.tariff_compile.specs.Tables.{TableParts};
-ghost use Rattle.taxi_units.specs.declared.event.Event.{Event};
-ghost use Rattle.totals_record.specs.declared.durable_state.Durable.{Durable};
-ghost use Rattle.totals_record.specs.declared.trip.Trip.{Trip};
-ghost use Rattle.meter_states.specs.Fits.{Fits};
-ghost use Rattle.meter_model.specs.KeptTrip.{FitsSetting, HoldFits, IsTripKept};
-ghost use Rattle.meter_model.specs.Meter.{Meter};
-ghost use Rattle.meter_model.specs.Run.{opened, run, whole_run};
-ghost use Rattle.meter_states.specs.Setting.{IsTariffOf};
-ghost use Rattle.meter_model.specs.Setting.{Setting};
-ghost use Rattle.meter_model.specs.Step.{step};
+ghost use Rattle.{meter_model.specs.{KeptTrip.{HoldFits, IsTripKept}, Run.{opened}}, meter_states.specs.Fits.{Fits}};
+ghost use Rattle.meter_states.specs.Common.{Durable, Event, FitsSetting, Meter, Setting, TableParts, Trip, run, step};
+ghost use Rattle.meter_states.specs.{Common.{whole_run}, Setting.{IsTariffOf}};
 
 /// While the meter is off the store holds the saved form of its trip, and none for hire. A run begins so if the held
 /// trip fits, as one that fits the tables does. Each event, each list of events and each whole run keeps it so.

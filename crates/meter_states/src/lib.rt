@@ -3,7 +3,6 @@
 //! a trip, and an interval is charged by the rate that the tariff's text names.
 #![tactic(auto)]
 
-mod range_laws;
 mod cache;
 mod closing;
 mod contexts;
@@ -13,15 +12,16 @@ mod equal_trip;
 mod equals;
 mod fitting;
 mod held;
-mod interval;
 mod held_trip_laws;
+mod interval;
 mod key_acts;
 mod keys;
 mod lookups;
 mod meter_state;
 mod meterage;
-mod receipt_laws;
 mod power_up;
+mod range_laws;
+mod receipt_laws;
 mod records;
 mod refusal_laws;
 mod refusing;
@@ -31,11 +31,13 @@ mod supply_drop;
 mod tick;
 mod trip;
 
-pub use range_laws::lawful_acts_keep_the_ranges;
 pub use core_state::Core;
 pub use fitting::fits;
 pub use held_trip_laws::the_store_keeps_the_trip;
-pub use receipt_laws::{receipts_follow_their_entries, runs_add_up, the_store_has_what_the_acts_commit};
+pub use range_laws::lawful_acts_keep_the_ranges;
+pub use receipt_laws::{
+    receipts_follow_their_entries, runs_add_up, the_store_has_what_the_acts_commit,
+};
 pub use refusal_laws::{
     keys_act_after_their_interval, keys_are_refused_at_an_expiry,
     pulses_too_fast_fill_the_interval, refused_events_change_nothing,

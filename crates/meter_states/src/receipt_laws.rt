@@ -1,13 +1,7 @@
 //! Receipts stand behind their entries, and the store has what the acts commit.
-ghost use Rattle.std.specs.Prelude.{◌≡◌, ◌++◌, List, None};
-ghost use Rattle.taxi_units.specs.declared.event.Event.{Event};
-ghost use Rattle.totals_record.specs.States.{after_all};
-ghost use Rattle.totals_record.specs.declared.durable_state.Durable.{Durable};
-ghost use Rattle.meter_model.specs.Meter.{Meter};
-ghost use Rattle.meter_states.specs.Pairs.{ArePaired, commits_of};
-ghost use Rattle.meter_model.specs.Run.{actions_of, run, run_both, whole_run};
-ghost use Rattle.meter_model.specs.Setting.{Setting};
-ghost use Rattle.meter_model.specs.Step.{step};
+ghost use Rattle.std.specs.Prelude.{◌++◌, ◌≡◌, List, None};
+ghost use Rattle.{meter_model.specs.Run.{actions_of, run_both}, meter_states.specs.Pairs.{ArePaired, commits_of}};
+ghost use Rattle.meter_states.specs.Common.{Durable, Event, Meter, Setting, after_all, run, step, whole_run};
 
 /// In the acts of an event, and in those of a whole run, each entry of a hiring stands directly before its receipt.
 /// Each receipt stands directly behind its entry, with the number that the store has then.

@@ -1,23 +1,11 @@
 //! What a refusal leaves, and when a key acts.
-ghost use Rattle.std.specs.Prelude.{◌≡◌, ◌≢◌, ◌<◌, ◌+◌, ◌-◌, ℕ, [], ◌∷◌, ◌++◌, None, Option, Some, sum};
-ghost use Rattle.taxi_units.specs.Time.{longest_trip};
-ghost use Rattle.taxi_units.specs.declared.event.Event.{Event};
-ghost use Rattle.taxi_units.specs.declared.event.Event.TheVariants.{Pulses, Tick};
-ghost use Rattle.taxi_units.specs.declared.event.Key.{Key};
-ghost use Rattle.taxi_units.specs.declared.event.Operating.TheVariants.{Hired};
-ghost use Rattle.taxi_units.specs.declared.event.Why.{Why};
-ghost use Rattle.taxi_units.specs.declared.event.Why.TheVariants.{TooFast};
+ghost use Rattle.std.specs.Prelude.{[], ℕ, ◌++◌, ◌+◌, ◌-◌, ◌<◌, ◌∷◌, ◌≡◌, ◌≢◌, None, Option, Some, sum};
+ghost use Rattle.{taxi_units.specs.declared.event.Why.TheVariants.{TooFast}, meter_model.specs.Trip.{ticks_of}};
+ghost use Rattle.meter_states.specs.Common.{Event, Hired, InHired, Key, Meter, MeterTrip, Pulses, Refuse, Setting};
+ghost use Rattle.meter_states.specs.Common.{Tick, Why, closed, context_of, expired, interval_counted, latch_pressed};
+ghost use Rattle.meter_states.specs.{Common.{longest_trip, quiet, step, ticked, with_part}, Refusals.{IsTooFast}};
 ghost use Rattle.taxi_units.specs.declared.event.Why.TheVariants as why;
 ghost use Rattle.taxi_units.specs.declared.receipt.Kind.TheVariants as kinds;
-ghost use Rattle.meter_model.specs.ClosedTrip.{closed};
-ghost use Rattle.meter_model.specs.Interval.{context_of, interval_counted};
-ghost use Rattle.meter_model.specs.Keys.{latch_pressed};
-ghost use Rattle.meter_model.specs.Meter.{Meter, quiet};
-ghost use Rattle.meter_states.specs.Refusals.{IsTooFast};
-ghost use Rattle.meter_model.specs.Setting.{Setting};
-ghost use Rattle.meter_model.specs.Step.{expired, step, ticked};
-ghost use Rattle.meter_model.specs.Trip.{InHired, MeterTrip, ticks_of, with_part};
-ghost use Rattle.meter_model.specs.declared.act.Act.TheVariants.{Refuse};
 
 /// A refused event changes nothing. Of pulses that are too fast, though, the interval takes those for which it has
 /// room; and a key that is refused at a tick leaves the latch, and changes nothing else.

@@ -1,23 +1,11 @@
 -- Events that a meter carries out, one behind the other.
-use Rattle.std.proofs.Common.{◌≡◌, ℕ, ◌+◌, ◌<◌, List, [], ◌∷◌, ◌++◌, length, take, get_or, refl, sym, ap, subst, ◌∙◌}
-use Rattle.std.proofs.Common.{add-one, append_assoc, Result, Ok, Err, IsErr, true, false}
-use Rattle.std.proofs.Math.Seq.{take-suc}
-use Rattle.outside.proofs.Laws.{rose_behind}
-use Rattle.outside.specs.Faults.{HasCause}
-use Rattle.outside.specs.declared.board.Board.{Ghosts}
-use Rattle.taxi_units.specs.declared.event.Event.{Event}
-use Rattle.tariff_compile.specs.Tables.{TableParts}
-use Rattle.seal_record.specs.declared.seal.Seal.{Seal}
-use Rattle.totals_record.specs.States.{first_state}
-use Rattle.meter_model.specs.Meter.{Meter}
-use Rattle.meter_model.specs.Run.{opened, run}
-use Rattle.meter_model.specs.Setting.{Setting}
-use Rattle.meter_states.specs.Setting.{IsSettingOf}
-use Rattle.meter_run.specs.BetweenEvents.{StandsWith}
-use Rattle.meter_run.specs.Dry.{CarriesEvents}
-use Rattle.meter_run.specs.RunLaws.{run_next, run_texts}
-use Rattle.meter_run.specs.Texts.{shown_texts}
-use Rattle.meter_run.specs.declared.dry.DryMeter.{DryMeter}
+use Rattle.std.proofs.Common.{[], ℕ, ◌++◌, ◌+◌, ◌<◌, ◌∙◌, ◌∷◌, ◌≡◌, Err, IsErr, List, Ok, Result, add-one, ap}
+use Rattle.std.proofs.{Common.{append_assoc, false, get_or, length, refl, subst, sym, take, true}, Math.Seq.{take-suc}}
+use Rattle.outside.{specs.{Faults.{HasCause}, declared.board.Board.{Ghosts}}, proofs.Laws.{rose_behind}}
+use Rattle.{seal_record.specs.declared.seal.Seal.{Seal}, tariff_compile.specs.Tables.{TableParts}}
+use Rattle.{meter_model.specs.Meter.{Meter}, meter_run.specs.{Dry.{CarriesEvents}, declared.dry.DryMeter.{DryMeter}}}
+use Rattle.meter_run.specs.{BetweenEvents.{StandsWith}, RunLaws.{run_next, run_texts}}
+use Rattle.pocket_meter.specs.Common.{Event, IsSettingOf, Setting, first_state, opened, run, shown_texts}
 
 -- the first events of a list, and the next one, are one more of them
 one_more : (events : List Event) (i : ℕ) (d : Event) → i < length events

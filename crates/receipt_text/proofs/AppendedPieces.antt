@@ -1,8 +1,7 @@
 -- Texts that are appended in pieces.
-use Rattle.std.proofs.Common.{◌≡◌, ◌↔◌, ℕ, ◌+◌, ◌≤◌, List, ◌++◌, length, false, true, Result, Ok, Err, IsOk, IsErr}
-use Rattle.std.proofs.Common.{subst, arith, length-append}
-use Rattle.std.proofs.lemmas.Bool.{false≢true}
-use Rattle.taxi_units.specs.Line.{line_size}
+use Rattle.std.proofs.Common.{ℕ, ◌++◌, ◌+◌, ◌↔◌, ◌≡◌, ◌≤◌, Err, IsErr, IsOk, List, Ok, Result, arith, false, length}
+use Rattle.std.proofs.{Common.{length-append, subst, true}, lemmas.Bool.{false≢true}}
+use Rattle.receipt_text.specs.Common.{line_size}
 
 -- two pieces together are as long as both
 pub length-joined : (a b : List ℕ) → length (a ++ b) ≡ length a + length b

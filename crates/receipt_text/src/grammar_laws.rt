@@ -1,15 +1,8 @@
 //! What the texts of this crate mean, in words that share nothing with how they are written and read.
-ghost use Rattle.std.specs.Prelude.{◌≡◌, ℕ, ◌≤◌, ◌++◌, ◌↔◌, List, [], codes, length};
-ghost use Rattle.taxi_units.specs.Shown.{IsShown};
-ghost use Rattle.taxi_units.specs.declared.receipt.Display.{Display};
-ghost use Rattle.taxi_units.specs.declared.receipt.Receipt.{Receipt};
-ghost use Rattle.receipt_text.specs.Grammar.{IsReceiptText};
-ghost use Rattle.receipt_text.specs.Part.{Part};
-ghost use Rattle.receipt_text.specs.Receipts.{receipt_text};
-ghost use Rattle.receipt_text.specs.Shows.{HasFields, ShowsSame};
-ghost use Rattle.receipt_text.specs.Spelling.{IsSpelled};
-ghost use Rattle.receipt_text.specs.TariffLine.{DifferInTariff};
-ghost use Rattle.receipt_text.specs.Texts.{display_text};
+ghost use Rattle.std.specs.Prelude.{[], ℕ, ◌++◌, ◌↔◌, ◌≡◌, ◌≤◌, List, codes, length};
+ghost use Rattle.receipt_text.specs.{Common.{Display, IsShown, Receipt}, Part.{Part}, Shows.{HasFields, ShowsSame}};
+ghost use Rattle.receipt_text.specs.{Grammar.{IsReceiptText}, Receipts.{receipt_text}, TariffLine.{DifferInTariff}};
+ghost use Rattle.receipt_text.specs.{Spelling.{IsSpelled}, Texts.{display_text}};
 
 /// A law: the grammar of receipts has exactly the texts that are written of receipts in their ranges.
 pub fn receipts_are_their_texts()

@@ -1,9 +1,7 @@
 //! Runs on two stores that differ in the sealed digest alone, each sealed with its tariff, under tariffs that are the
 //! same.
-ghost use Rattle.std.specs.Prelude.{◌≡◌, ℕ, List, Ok};
-ghost use Rattle.meter_run.specs.Deeds.{Deed};
-ghost use Rattle.store_commands.specs.Opening.{opening_in};
-ghost use Rattle.drive_commands.specs.Run.{Start, start_of};
+ghost use Rattle.std.specs.Prelude.{ℕ, ◌≡◌, List, Ok};
+ghost use Rattle.run_chains.specs.Common.{Deed, Start, opening_in, start_of};
 ghost use Rattle.run_chains.specs.SameRuns.{AreSameStarts, AreStartsAlike, DoTheSame, IsTextAlike, start_after};
 
 /// A law: take two stores that are equal but for the sealed digest, hold no trip, and are each sealed with a tariff,

@@ -1,14 +1,8 @@
 -- What two settings agree on, so that their meters do the same.
-use Rattle.std.proofs.Common.{◌≡◌, ℕ, ◌<◌, ◌≤◌}
-use Rattle.taxi_units.specs.Time.{last_tick}
-use Rattle.tariff_check.specs.Amounts.{fees_in_force}
-use Rattle.tariff_check.specs.SoundTariff.{supplement_numbered}
-use Rattle.meter_model.specs.Charge.{charge_at}
-use Rattle.meter_model.specs.Interval.{context_now, context_of, ticks_so_far}
-use Rattle.meter_model.specs.Meter.{Meter}
-use Rattle.meter_model.specs.Setting.{Setting, unit_of}
+use Rattle.std.proofs.Common.{ℕ, ◌<◌, ◌≡◌, ◌≤◌}
 use Rattle.same_tariffs.specs.Alike.{IsSameMoney}
-use Rattle.same_tariffs.specs.Reached.{AreSet, IsPlaced}
+use Rattle.same_tariffs.specs.Common.{Meter, Setting, charge_at, context_now, context_of, fees_in_force, last_tick}
+use Rattle.same_tariffs.specs.{Common.{supplement_numbered, ticks_so_far, unit_of}, Reached.{AreSet, IsPlaced}}
 
 pub record Agree (s t : Setting) : Type 0 where
   pub hold : s.hold_time ≡ t.hold_time

@@ -1,56 +1,30 @@
 -- A drive that comes to an interval in a context of a meter.
-use Rattle.std.proofs.Common.{◌≡◌, ℕ, zero, suc, ◌+◌, ◌*◌, ◌/◌, ◌%◌, ◌<◌, ◌≤◌, min, Bool, true, false, ◌&&◌, nat_le}
-use Rattle.std.proofs.Common.{nat_lt, ℤ, pos, ◌+ℤ◌, unsigned_abs, List, [], ◌∷◌, ◌++◌, replicate, sum, Option, Some}
-use Rattle.std.proofs.Common.{None, if◌then◌else◌, refl, ap, sym, subst, ◌∙◌, arith}
-use Rattle.std.proofs.Math.Nat.{div-add-mod}
-use Rattle.std.proofs.lemmas.Grind.{common_steps}
-use Rattle.drive_text.proofs.Laws.{written_drive_ends, written_drive_means}
-use Rattle.drive_text.specs.Written.{drive_of}
-use Rattle.drive_modes.specs.declared.charges.Mode.{Mode}
-use Rattle.interval_clock.specs.Calendar.{date_after, date_place, weekday_of}
-use Rattle.interval_clock.specs.LocalTime.{day_of, local_second, minute_of_day}
-use Rattle.taxi_units.specs.Time.{first_second, last_tick, longest_trip}
-use Rattle.taxi_units.specs.declared.event.Event.{Event}
-use Rattle.taxi_units.specs.declared.event.Event.TheVariants.{Up, Down, Pulses, Tick}
-use Rattle.taxi_units.specs.declared.event.Event.TheVariants as events
-use Rattle.taxi_units.specs.declared.event.Key.{Key}
-use Rattle.taxi_units.specs.declared.event.Key.TheVariants.{Hire, Position, Zone}
-use Rattle.taxi_units.specs.declared.event.Operating.{Operating}
-use Rattle.taxi_units.specs.declared.event.Operating.TheVariants.{Off, ForHire, Hired}
-use Rattle.taxi_units.specs.declared.event.Why.TheVariants as why
-use Rattle.taxi_units.specs.declared.receipt.Display.{Display}
-use Rattle.taxi_units.specs.declared.receipt.Kind.TheVariants as kinds
-use Rattle.totals_record.specs.States.{after, first_state}
-use Rattle.totals_record.specs.declared.change.Change.TheVariants as changes
-use Rattle.totals_record.specs.declared.durable_state.Durable.{Durable}
-use Rattle.totals_record.specs.declared.trip.Trip.{Trip}
-use Rattle.tariff_check.specs.Faults.{IsSound}
-use Rattle.tariff_check.specs.SoundLookups.{has_date}
-use Rattle.tariff_check.proofs.Laws.{sound_tariffs_have_sound_parts-parts}
-use Rattle.tariff_compare.specs.Contexts.{IsMeterContext, context_at, most_pulses}
-use Rattle.tariff_compare.specs.declared.meter_context.MeterContext.{MeterContext}
-use Rattle.tariff_check.specs.Amounts.{fees_in_force, initial_by}
-use Rattle.tariff_check.specs.declared.values.Initial.{Initial}
-use Rattle.tariff_syntax.specs.Tree.{Tree}
-use Rattle.tariff_syntax.specs.Writable.{IsFromTo, IsWritable}
-use Rattle.tariff_syntax.specs.declared.context.Context.{Context}
-use Rattle.meter_model.specs.ClosedTrip.{closed, roaming_checked}
-use Rattle.meter_model.specs.Display.{display_of, shown}
-use Rattle.meter_model.specs.Interval.{context_now, context_of, interval_begun}
-use Rattle.meter_model.specs.Keys.{is_among, key_pressed}
-use Rattle.meter_model.specs.Meter.{Meter, Outcome, ◌>>=◌, held, quiet, refused}
-use Rattle.meter_model.specs.Run.{opened, run}
-use Rattle.meter_model.specs.Setting.{Setting, under_offset, unit_of}
-use Rattle.meter_model.specs.Step.{expired, step}
+use Rattle.std.proofs.Common.{[], ℕ, ℤ, ◌%◌, ◌&&◌, ◌*◌, ◌++◌, ◌+ℤ◌, ◌+◌, ◌/◌, ◌<◌, ◌∙◌, ◌∷◌, ◌≡◌, ◌≤◌, Bool, List, None}
+use Rattle.std.proofs.Common.{Option, Some, ap, arith, false, if◌then◌else◌, min, nat_le, nat_lt, pos, refl, replicate}
+use Rattle.std.proofs.{Common.{subst, suc, sum, sym, true, unsigned_abs, zero}, lemmas.Grind.{common_steps}}
+use Rattle.{std.proofs.Math.Nat.{div-add-mod}, taxi_units.specs.declared.receipt.Display.{Display}}
+use Rattle.taxi_units.specs.{Limits.{last_number}, Time.{first_second, longest_trip}}
+use Rattle.{interval_clock.specs.Calendar.{date_after, date_place, weekday_of}, meter_model.specs.Display.{shown}}
+use Rattle.{drive_text.proofs.Laws.{written_drive_ends, written_drive_means}, meter_model.specs.Step.{expired}}
+use Rattle.{totals_record.specs.States.{after, first_state}, tariff_check.specs.SoundLookups.{has_date}}
+use Rattle.tariff_check.{specs.declared.values.Initial.{Initial}, proofs.Laws.{sound_tariffs_have_sound_parts-parts}}
+use Rattle.meter_model.specs.{ClosedTrip.{closed, roaming_checked}, Trip.{InHired, Rest, fees_of, ticks_of}}
+use Rattle.meter_model.specs.{Interval.{interval_begun}, Keys.{is_among, key_pressed}, Setting.{under_offset}}
+use Rattle.meter_model.specs.Meter.{◌>>=◌, held}
 use Rattle.meter_model.specs.Supply.{aborted, hold_taken, is_within_hold, powered, resumed, turned_off}
-use Rattle.meter_model.specs.Trip.{InHired, Part, Rest, MeterTrip, begun, held_trip, pulses_in, pulses_of, ticks_in}
-use Rattle.meter_model.specs.Trip.{fees_of, ticks_of, with_part}
-use Rattle.meter_states.proofs.Laws.{runs_add_up}
-use Rattle.same_tariffs.specs.Contexts.{without_trip}
+use Rattle.{meter_states.proofs.Laws.{runs_add_up}, same_tariffs.specs.{Common.{with_part}, Contexts.{without_trip}}}
+use Rattle.same_tariffs.specs.Common.{Context, Down, Durable, Event, ForHire, Hire, Hired, IsFromTo, IsMeterContext}
+use Rattle.same_tariffs.specs.Common.{IsSound, IsWritable, Key, Meter, MeterContext, MeterTrip, Mode, Off, Operating}
+use Rattle.same_tariffs.specs.Common.{Outcome, Part, Position, Pulses, Setting, Tick, Tree, Trip, Up, Zone, begun}
+use Rattle.same_tariffs.specs.Common.{context_at, context_now, context_of, day_of, display_of, drive_of, fees_in_force}
+use Rattle.same_tariffs.specs.Common.{held_trip, initial_by, last_tick, local_second, minute_of_day, most_pulses}
+use Rattle.same_tariffs.specs.Common.{opened, pulses_in, pulses_of, quiet, refused, run, step, ticks_in, unit_of}
 use Rattle.same_tariffs.specs.Drives.{BeginsIn, IsReached, WasHiredIn, drop, drops, events_to, hire, meter_after}
-use Rattle.same_tariffs.proofs.Trips.{sum-more}
-use Rattle.same_tariffs.proofs.WayTexts.{events-in, way-short}
-use Rattle.taxi_units.specs.Limits.{last_number}
+use Rattle.same_tariffs.proofs.{Trips.{sum-more}, WayTexts.{events-in, way-short}}
+use Rattle.taxi_units.specs.declared.event.Event.TheVariants as events
+use Rattle.taxi_units.specs.declared.event.Why.TheVariants as why
+use Rattle.taxi_units.specs.declared.receipt.Kind.TheVariants as kinds
+use Rattle.totals_record.specs.declared.change.Change.TheVariants as changes
 
 -- a meter with a trip at the beginning of an interval
 abbrev at_second : Operating → (second position zone : ℕ) → Option Display → MeterTrip → Durable → Meter

@@ -1,40 +1,21 @@
 -- The contexts that meters within reach are charged and hired in, and settings that agree because their tariffs are the
 -- same.
-use Rattle.std.proofs.Common.{◌≡◌, ℕ, ◌*◌, ◌<◌, ◌≤◌, true, pos, unsigned_abs, Option, get_or, mul-pos, refl, ap, sym}
-use Rattle.std.proofs.Common.{subst, ◌∙◌, arith}
-use Rattle.std.specs.Option.{unwrap_or}
-use Rattle.drive_modes.specs.declared.charges.Mode.{Mode}
-use Rattle.drive_modes.specs.declared.meterage.Rounding.{Rounding}
-use Rattle.drive_modes.specs.declared.meterage.Rounding.TheVariants.{Behind}
-use Rattle.interval_clock.specs.Calendar.{weekday_of}
-use Rattle.interval_clock.specs.LocalTime.{day_of, local_second, minute_of_day}
-use Rattle.interval_clock.specs.Offsets.{IsOffsetList, offset_at}
-use Rattle.taxi_units.specs.Time.{IsSecond, last_tick}
-use Rattle.tariff_check.specs.Measure.{measure_of}
-use Rattle.tariff_check.specs.Parts.{RateNumbers, positions_of, rates_of, zones_of}
-use Rattle.tariff_check.specs.SoundLookups.{rate_in_force}
-use Rattle.tariff_check.specs.SoundTariff.{SoundTariff, sound_of, supplement_numbered}
-use Rattle.tariff_check.proofs.Laws.{sound_tariffs_have_sound_parts-parts}
-use Rattle.tariff_compare.specs.Contexts.{IsMeterContext, IsMeterTime, context_at}
-use Rattle.tariff_compare.specs.Same.{cost_same, rate_in}
-use Rattle.tariff_compare.specs.declared.meter_context.MeterContext.{MeterContext}
-use Rattle.tariff_compare.proofs.Laws.{no_difference-hiring, no_difference-rate}
-use Rattle.tariff_check.specs.Amounts.{fees_in_force, initial_by}
-use Rattle.tariff_syntax.specs.Meaning.{at_hiring, rate_place}
-use Rattle.tariff_syntax.specs.Tree.{Tree}
-use Rattle.tariff_syntax.specs.Writable.{IsFromTo}
-use Rattle.meter_model.specs.Charge.{charge_at, charge_by}
-use Rattle.meter_model.specs.Interval.{context_now, context_of, context_on, ticks_so_far}
-use Rattle.meter_model.specs.Meter.{Meter}
-use Rattle.meter_model.specs.Setting.{Setting, local_at, unit_of}
-use Rattle.same_tariffs.specs.Alike.{IsSameMoney}
+use Rattle.{std.{specs.Option.{unwrap_or}, proofs.Common.{true, unsigned_abs}}, tariff_syntax.specs.Meaning.{at_hiring}}
+use Rattle.std.proofs.Common.{ℕ, ◌*◌, ◌<◌, ◌∙◌, ◌≡◌, ◌≤◌, Option, ap, arith, get_or, mul-pos, pos, refl, subst, sym}
+use Rattle.{drive_modes.specs.declared.meterage.Rounding.TheVariants.{Behind}, interval_clock.specs.Offsets.{offset_at}}
+use Rattle.{interval_clock.specs.Calendar.{weekday_of}, tariff_check.proofs.Laws.{sound_tariffs_have_sound_parts-parts}}
+use Rattle.tariff_check.specs.{Measure.{measure_of}, SoundTariff.{SoundTariff}}
+use Rattle.tariff_check.specs.{Parts.{RateNumbers, positions_of, rates_of, zones_of}, SoundLookups.{rate_in_force}}
+use Rattle.{tariff_compare.specs.Contexts.{IsMeterTime}, meter_model.specs.{Charge.{charge_by}, Interval.{context_on}}}
+use Rattle.tariff_compare.{specs.Same.{cost_same, rate_in}, proofs.Laws.{no_difference-hiring, no_difference-rate}}
+use Rattle.same_tariffs.{specs.{Alike.{IsSameMoney}, Reached.{AreSet, IsPlaced}}, proofs.Clocks.{day-from, offset-in}}
+use Rattle.same_tariffs.specs.Common.{IsFromTo, IsMeterContext, IsOffsetList, IsSecond, Meter, MeterContext, Mode}
+use Rattle.same_tariffs.specs.Common.{Rounding, Setting, Tree, charge_at, context_at, context_now, context_of, day_of}
+use Rattle.same_tariffs.specs.Common.{fees_in_force, initial_by, last_tick, local_at, local_second, minute_of_day}
+use Rattle.same_tariffs.specs.Common.{rate_place, sound_of, supplement_numbered, ticks_so_far, unit_of}
 use Rattle.same_tariffs.specs.Contexts.{IsChargedIn, IsHiredIn, IsSettingInRange, meter_context_at, without_trip}
-use Rattle.same_tariffs.specs.Reached.{AreSet, IsPlaced}
 use Rattle.same_tariffs.specs.Same.{AreSameSettings}
-use Rattle.same_tariffs.proofs.Agreement.{Agree}
-use Rattle.same_tariffs.proofs.Capped.{capped, rate-capped}
-use Rattle.same_tariffs.proofs.Clocks.{day-from, offset-in}
-use Rattle.same_tariffs.proofs.Rates.{charge-same, rate-fits}
+use Rattle.same_tariffs.proofs.{Agreement.{Agree}, Capped.{capped, rate-capped}, Rates.{charge-same, rate-fits}}
 
 -- ---- contexts of meters
 

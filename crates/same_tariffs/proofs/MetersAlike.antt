@@ -1,25 +1,15 @@
 -- Two meters that stand alike under settings that agree, the first within reach, and outcomes that come to such meters.
-use Rattle.std.proofs.Common.{◌≡◌, ℕ, ◌+◌, ◌≤◌, Bool, true, false, List, [], ◌∷◌, ◌++◌, Option, Some, None}
-use Rattle.std.proofs.Common.{if◌then◌else◌, refl, ap, subst, arith}
-use Rattle.interval_clock.specs.declared.local_time.LocalTime.{LocalTime}
-use Rattle.taxi_units.specs.declared.event.Operating.TheVariants.{ForHire}
-use Rattle.taxi_units.specs.declared.event.Why.{Why}
-use Rattle.taxi_units.specs.declared.receipt.Kind.{Kind}
-use Rattle.taxi_units.specs.declared.receipt.Receipt as receipts
-use Rattle.totals_record.specs.Entries.{closes}
-use Rattle.totals_record.specs.declared.entry.Entry.{Entry}
-use Rattle.totals_record.specs.declared.trip.Trip.{Trip}
-use Rattle.meter_model.specs.ClosedTrip.{closed, entry_of_trip, receipt_of, trip_closed}
-use Rattle.meter_model.specs.Interval.{context_on, ticks_so_far}
-use Rattle.meter_model.specs.Meter.{Meter, Outcome, entered, held, printed, quiet, refused}
-use Rattle.meter_model.specs.Setting.{Setting}
-use Rattle.meter_model.specs.Trip.{MeterTrip}
-use Rattle.meter_model.specs.declared.act.Act.{Act}
-use Rattle.meter_model.specs.declared.act.Act.TheVariants.{Receipt}
+use Rattle.std.proofs.Common.{[], ℕ, ◌++◌, ◌+◌, ◌∷◌, ◌≡◌, ◌≤◌, Bool, List, None, Option, Some, ap, arith, false}
+use Rattle.std.proofs.Common.{if◌then◌else◌, refl, subst, true}
+use Rattle.{taxi_units.specs.declared.{event.Why.{Why}, receipt.Kind.{Kind}}, totals_record.specs.Entries.{closes}}
+use Rattle.{interval_clock.specs.declared.local_time.LocalTime.{LocalTime}, meter_model.specs.Interval.{context_on}}
+use Rattle.{totals_record.specs.declared.entry.Entry.{Entry}, meter_model.specs.declared.act.Act.TheVariants.{Receipt}}
+use Rattle.meter_model.specs.{ClosedTrip.{closed, entry_of_trip, receipt_of, trip_closed}, declared.act.Act.{Act}}
+use Rattle.{meter_model.specs.Meter.{entered, held, printed}, same_tariffs.specs.Reached.{GoesOn, HoldGoesOn, IsPlace}}
 use Rattle.same_tariffs.specs.Alike.{AreActsAlike, AreHeldAlike, AreHoldsAlike, AreTripsOfBothAlike, with_trips}
-use Rattle.same_tariffs.specs.Reached.{GoesOn, HoldGoesOn, IsPlace}
-use Rattle.same_tariffs.proofs.Agreement.{Agree}
-use Rattle.same_tariffs.proofs.Trips.{entry-alike, pulses-alike, receipt-alike, ticks-alike}
+use Rattle.same_tariffs.specs.Common.{ForHire, Meter, MeterTrip, Outcome, Setting, Trip, quiet, refused, ticks_so_far}
+use Rattle.same_tariffs.proofs.{Agreement.{Agree}, Trips.{entry-alike, pulses-alike, receipt-alike, ticks-alike}}
+use Rattle.taxi_units.specs.declared.receipt.Receipt as receipts
 
 -- the trips `a` and `b` of two meters, and what their stores hold, `c` and `d`, stand side by side under settings that
 -- agree if they are alike, and the first meter is within reach with some ticks
@@ -171,7 +161,7 @@ module _ {s t : Setting} where
   closed-by kind finish (Some a) (Some b) m trip hold trips x =
       let entry = entry-alike s t kind m.position a b x.agree trips in
       let first = entered-alike (entry_of_trip s kind m.position a)
-          (entry_of_trip t kind m.position b) entry m trip hold x in
+      (entry_of_trip t kind m.position b) entry m trip hold x in
       let number = m.durable.number + 1 in
       let last = printed-alike (receipt_of s kind finish m.position a number)
       (receipt_of t kind finish m.position b number)

@@ -1,21 +1,9 @@
 //! The contexts in which the intervals and the hirings of runs are charged.
-ghost use Rattle.std.specs.Prelude.{ℕ, All, List};
-ghost use Rattle.drive_modes.specs.declared.charges.Mode.{Mode};
-ghost use Rattle.drive_text.specs.Ending.{events_of};
-ghost use Rattle.meter_states.specs.Lawful.{IsTimely};
-ghost use Rattle.meter_model.specs.Meter.{Meter};
-ghost use Rattle.meter_model.specs.Run.{opened, run};
-ghost use Rattle.meter_model.specs.Setting.{Setting};
-ghost use Rattle.tariff_check.specs.Faults.{IsSound};
-ghost use Rattle.tariff_compare.specs.Contexts.{IsMeterContext};
-ghost use Rattle.tariff_compare.specs.declared.meter_context.MeterContext.{MeterContext};
-ghost use Rattle.tariff_syntax.specs.Tree.{Tree};
-ghost use Rattle.tariff_syntax.specs.Writable.{IsWritable};
-ghost use Rattle.taxi_units.specs.declared.event.Event.{Event};
-ghost use Rattle.totals_record.specs.declared.durable_state.Durable.{Durable};
+ghost use Rattle.{std.specs.Prelude.{ℕ, All, List}, same_tariffs.specs.Reached.{HoldGoesOn, IsWithinReach}};
+ghost use Rattle.same_tariffs.specs.Common.{Durable, Event, IsMeterContext, IsSound, IsTimely, IsWritable, Meter};
+ghost use Rattle.same_tariffs.specs.Common.{MeterContext, Mode, Setting, Tree, events_of, opened, run};
 ghost use Rattle.same_tariffs.specs.Contexts.{IsChargedIn, IsHiredIn, IsSettingInRange, meter_context_at, without_trip};
 ghost use Rattle.same_tariffs.specs.Drives.{IsReached};
-ghost use Rattle.same_tariffs.specs.Reached.{HoldGoesOn, IsWithinReach};
 
 /// Each event that a drive can have, and that has a second, has one of the meter's seconds.
 pub fn events_of_drives_are_timely()

@@ -1,17 +1,9 @@
 //! Runs under tariffs that are the same.
-ghost use Rattle.std.specs.Prelude.{◌≡◌, ℕ, ◌<◌, All, List};
-ghost use Rattle.drive_modes.specs.Fare.{Opening, saved, steps_above};
-ghost use Rattle.drive_modes.specs.declared.meterage.Rounding.{Rounding};
-ghost use Rattle.meter_states.specs.Lawful.{IsTimely};
-ghost use Rattle.meter_model.specs.Run.{whole_run};
-ghost use Rattle.meter_model.specs.Setting.{Setting};
-ghost use Rattle.tariff_syntax.specs.Tree.{Tree};
-ghost use Rattle.taxi_units.specs.declared.event.Event.{Event};
-ghost use Rattle.totals_record.specs.declared.durable_state.Durable.{Durable};
+ghost use Rattle.std.specs.Prelude.{ℕ, ◌<◌, ◌≡◌, All, List};
 ghost use Rattle.same_tariffs.specs.Alike.{AreMeteragesAlike, AreOpeningsAlike, AreOutcomesAlike, AreStoresAlike};
-ghost use Rattle.same_tariffs.specs.Alike.{IsSameMoney};
+ghost use Rattle.same_tariffs.specs.{Alike.{IsSameMoney}, Common.{steps_above, whole_run}, Same.{AreSameSettings}};
+ghost use Rattle.same_tariffs.specs.Common.{Durable, Event, IsTimely, Opening, Rounding, Setting, Tree, saved};
 ghost use Rattle.same_tariffs.specs.Reached.{HoldGoesOn};
-ghost use Rattle.same_tariffs.specs.Same.{AreSameSettings};
 
 /// Charges that are the same money in two units, above covers that are the same money, leave meterages that are alike
 /// and show the same display steps.

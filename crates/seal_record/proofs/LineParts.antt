@@ -1,11 +1,8 @@
 -- A text is parted into lines, and a line into key and value.
-use Rattle.std.proofs.Common.{◌≡◌, ◌≢◌, ℕ, ◌<◌, false, List, [], ◌∷◌, ◌++◌, length, All, eqb, ap, ◌∙◌, refl, arith}
-use Rattle.std.specs.List.{slice_split}
-use Rattle.std.specs.Str.Lines.{strip_carriage_return}
-use Rattle.std.proofs.lemmas.Bool.{ne_eqb, eq-eqb}
-use Rattle.std.proofs.lemmas.List.Elements.{All-head, All-tail}
-use Rattle.std.proofs.lemmas.List.Splits.{slice_split_none, slice_split_at, length-slice_split}
-use Rattle.seal_record.specs.Lines.{without_ends, lines_of, before, key_in, value_in}
+use Rattle.{std.specs.List.{slice_split}, seal_record.specs.Lines.{before, key_in, lines_of, value_in, without_ends}}
+use Rattle.std.{specs.Str.Lines.{strip_carriage_return}, proofs.lemmas.List.Elements.{All-head, All-tail}}
+use Rattle.std.proofs.Common.{[], ℕ, ◌++◌, ◌<◌, ◌∙◌, ◌∷◌, ◌≡◌, ◌≢◌, All, List, ap, arith, eqb, false, length, refl}
+use Rattle.std.proofs.lemmas.{Bool.{eq-eqb, ne_eqb}, List.Splits.{length-slice_split, slice_split_at, slice_split_none}}
 use Rattle.seal_record.specs.TextParts.{HasNone}
 
 -- no test for this byte holds

@@ -1,9 +1,7 @@
 //! The lines of a text, and what a line is parted into.
-ghost use Rattle.std.specs.Prelude.{◌≡◌, ◌<◌, ◌∷◌, [], length, IfSome};
-ghost use Rattle.std.specs.Option.{option_map_or};
-ghost use Rattle.std.specs.Str.Lines.{strip_carriage_return};
+ghost use Rattle.{std.specs.Option.{option_map_or}, seal_record.specs.Lines.{key_in, lines_of, value_in}};
+ghost use Rattle.std.specs.{Prelude.{[], ◌<◌, ◌∷◌, ◌≡◌, IfSome, length}, Str.Lines.{strip_carriage_return}};
 ghost use Rattle.seal_record.specs.Lines as spec;
-ghost use Rattle.seal_record.specs.Lines.{lines_of, key_in, value_in};
 
 use taxi_units::split_at_byte;
 

@@ -1,25 +1,13 @@
 -- The drivers' sums grow by one shift after the other.
-use Rattle.std.proofs.Common.{◌≡◌, ℕ, ◌+◌, ◌≤◌, Bool, true, false, cond, ◌||◌, List, [], ◌∷◌, Option, Some, None, refl}
-use Rattle.std.proofs.Common.{ap, sym, ◌∙◌, subst, arith}
-use Rattle.std.specs.Prelude.{is_some, unwrap_or}
-use Rattle.std.specs.BTreeMap.{insert_entry, is_at}
-use Rattle.std.specs.Cmp.{IsTotalOrder, on_total}
-use Rattle.std.specs.List.{list_any, sum_by}
-use Rattle.std.specs.Map.{values_of, lookup}
-use Rattle.std.specs.Option.{option_map}
-use Rattle.std.specs.Ordering.{is_eq}
-use Rattle.std.proofs.lemmas.Cmp.{nat_list_cmp_total}
-use Rattle.std.proofs.lemmas.List.Sums.{sum_by-cons}
-use Rattle.std.proofs.lemmas.Map.Entries.{sum_by-insert_entry}
-use Rattle.std.proofs.lemmas.Map.Text.{is_eq-slice_cmp}
-use Rattle.std.proofs.lemmas.Slice.Eq.{bytes_eq-Decides}
-use Rattle.shift_book.specs.declared.numbers.Numbers.{Numbers}
-use Rattle.shift_book.specs.declared.shift.Shift.{Shift}
-use Rattle.shift_book.specs.MarkOrder.{Fit}
+use Rattle.std.{specs.{BTreeMap.{insert_entry, is_at}, List.{list_any, sum_by}}, proofs.lemmas.List.Sums.{sum_by-cons}}
+use Rattle.std.specs.{Cmp.{IsTotalOrder, on_total}, Map.{lookup, values_of}, Prelude.{is_some, unwrap_or}}
+use Rattle.{std.specs.{Option.{option_map}, Ordering.{is_eq}}, shift_book.specs.{MarkOrder.{Fit}, Shares.{sum_for}}}
+use Rattle.std.proofs.Common.{[], ℕ, ◌+◌, ◌||◌, ◌∙◌, ◌∷◌, ◌≡◌, ◌≤◌, Bool, List, None, Option, Some, ap, arith, cond}
+use Rattle.std.proofs.{Common.{false, refl, subst, sym, true}, lemmas.Map.Entries.{sum_by-insert_entry}}
+use Rattle.std.proofs.lemmas.{Cmp.{nat_list_cmp_total}, Map.Text.{is_eq-slice_cmp}, Slice.Eq.{bytes_eq-Decides}}
+use Rattle.shift_book.{specs.Common.{Numbers, Shift}, proofs.GrowthSums.{at-nothing, at-plus, at-total, fit_under}}
 use Rattle.shift_book.specs.ShareStages.{sum_so_far, total_of}
-use Rattle.shift_book.specs.Shares.{Column, at, nothing, plus, Driver, driver_cmp, is_of, gives, sum_for, AreSums}
-use Rattle.shift_book.specs.Shares.{AreOrdered}
-use Rattle.shift_book.proofs.GrowthSums.{at-nothing, at-plus, at-total, fit_under}
+use Rattle.shift_book.specs.Shares.{AreOrdered, AreSums, Column, Driver, at, driver_cmp, gives, is_of, nothing, plus}
 
 -- the sums of the shifts that are passed if these are left of all
 pub record SoFar (sums : List (Driver × Numbers)) (left all : List Shift) : Type 0 where

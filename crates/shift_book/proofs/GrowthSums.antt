@@ -1,16 +1,11 @@
 -- Growth between the points of a book, column by column.
-use Rattle.std.proofs.Common.{◌≡◌, ℕ, ◌+◌, ◌-◌, ◌≤◌, Bool, true, false, if◌then◌else◌, List, [], ◌∷◌, length, Option}
-use Rattle.std.proofs.Common.{Some, refl, ap, ◌∙◌, arith}
-use Rattle.std.specs.List.{sum_by}
-use Rattle.std.proofs.lemmas.List.Sums.{sum_by-append}
-use Rattle.totals_record.specs.declared.durable_state.Durable.{Durable}
-use Rattle.shift_book.specs.declared.numbers.Numbers.{Numbers}
-use Rattle.shift_book.specs.declared.shift.Shift.{Shift}
-use Rattle.shift_book.specs.MarkOrder.{Fit, FollowOn, IsNowhereLess, numbers_in}
+use Rattle.{std.specs.List.{sum_by}, shift_book.specs.MarkOrder.{Fit, FollowOn, IsNowhereLess, numbers_in}}
+use Rattle.std.proofs.Common.{[], ℕ, ◌+◌, ◌-◌, ◌∙◌, ◌∷◌, ◌≡◌, ◌≤◌, Bool, List, Option, Some, ap, arith, false}
+use Rattle.std.proofs.{Common.{if◌then◌else◌, length, refl, true}, lemmas.List.Sums.{sum_by-append}}
+use Rattle.shift_book.specs.{Common.{Durable, Numbers, Shift}, ShareStages.{Rise, total_of}}
 use Rattle.shift_book.specs.Marks.{Signing, numbers_of}
-use Rattle.shift_book.specs.ShareStages.{Rise, total_of}
-use Rattle.shift_book.specs.Shares.{Column, Number, Distance, HiredDistance, Hirings, Supplements, Fare, at, nothing}
-use Rattle.shift_book.specs.Shares.{grown, plus, next_point, begun_by, free_behind, shifts_in, unsigned_in, growth_in}
+use Rattle.shift_book.specs.Shares.{Column, Distance, Fare, HiredDistance, Hirings, Number, Supplements, at, begun_by}
+use Rattle.shift_book.specs.Shares.{free_behind, grown, growth_in, next_point, nothing, plus, shifts_in, unsigned_in}
 
 pub at_least : (c : Column) (a b : Numbers) → IsNowhereLess a b → at c a ≤ at c b
 at_least Number a b h = h.number

@@ -1,12 +1,9 @@
 -- A book with one mark more.
-use Rattle.std.proofs.Common.{◌≡◌, ℕ, ◌-◌, ◌<◌, List, [], ◌∷◌, ◌++◌, length, Option, Some, None, refl, ap, sym, ◌∙◌}
-use Rattle.std.proofs.Common.{subst, arith, append_assoc, length-append}
-use Rattle.std.specs.Prelude.{slice_get}
-use Rattle.std.proofs.lemmas.List.{flat_map_more}
-use Rattle.totals_record.specs.declared.durable_state.Durable.{Durable}
-use Rattle.shift_book.specs.Books.{IsNext, Begins}
-use Rattle.shift_book.specs.MarkOrder.{MayFollow, FollowOn, last_of}
-use Rattle.shift_book.specs.Marks.{Signing, head_text, numbers_text, mark_text, book_text}
+use Rattle.{std.specs.Prelude.{slice_get}, shift_book.specs.MarkOrder.{FollowOn, MayFollow, last_of}}
+use Rattle.std.proofs.Common.{[], ℕ, ◌++◌, ◌-◌, ◌<◌, ◌∙◌, ◌∷◌, ◌≡◌, List, None, Option, Some, ap, append_assoc, arith}
+use Rattle.std.proofs.{Common.{length, length-append, refl, subst, sym}, lemmas.List.{flat_map_more}}
+use Rattle.shift_book.specs.{Books.{Begins, IsNext}, Marks.{Signing, book_text, head_text, mark_text, numbers_text}}
+use Rattle.shift_book.specs.Common.{Durable}
 
 -- the last of some marks, or the one before them
 abbrev pub behind : Option Signing → List Signing → Option Signing

@@ -1,12 +1,9 @@
 -- The report from its lines.
-use Rattle.std.proofs.Common.{◌≡◌, ℕ, List, [], ◌++◌, refl, ap, ◌∙◌, arith, append_assoc, codes}
-use Rattle.shift_book.specs.declared.numbers.Numbers.{Numbers}
-use Rattle.shift_book.specs.declared.shift.Shift.{Shift}
-use Rattle.shift_book.specs.Marks.{Signing}
-use Rattle.shift_book.specs.Report.{IsReport, growth_text, shift_lines, driver_lines, report_text}
-use Rattle.shift_book.specs.ShareStages.{Rise, with_shifts}
-use Rattle.shift_book.specs.Shares.{Driver, shifts_in, unsigned_in, growth_in, AreSums, AreOrdered}
-use Rattle.shift_book.proofs.GrowthSums.{shifts_add_up}
+use Rattle.std.proofs.Common.{[], ℕ, ◌++◌, ◌∙◌, ◌≡◌, List, ap, append_assoc, arith, codes, refl}
+use Rattle.shift_book.specs.Common.{Numbers, Shift}
+use Rattle.shift_book.specs.{Marks.{Signing}, Shares.{AreOrdered, AreSums, Driver, growth_in, shifts_in, unsigned_in}}
+use Rattle.shift_book.specs.Report.{IsReport, driver_lines, growth_text, report_text, shift_lines}
+use Rattle.shift_book.{specs.ShareStages.{Rise, with_shifts}, proofs.GrowthSums.{shifts_add_up}}
 
 -- texts behind one another
 assembled : (s d u g r0 r1 r2 r3 r4 : List ℕ) → r0 ≡ [] → r1 ≡ r0 ++ s → r2 ≡ r1 ++ d → r3 ≡ r2 ++ u → r4 ≡ r3 ++ g

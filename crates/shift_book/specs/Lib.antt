@@ -6,3 +6,4 @@ pub mod Reading
 pub mod Report
 pub mod ShareStages
 pub mod Shares
+pub mod Common

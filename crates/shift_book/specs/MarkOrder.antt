@@ -1,8 +1,7 @@
 -- Rules: which marks may follow one another in a book, beside a state of the store.
-use Rattle.std.specs.Prelude.{◌≡◌, ◌-◌, ◌<◌, ◌≤◌, ◌^◌, Bool, false, not, List, [], ◌∷◌, length, slice_get, Option, Some, None, IfSome, ⊤}
-use Rattle.totals_record.specs.declared.durable_state.Durable.{Durable}
-use Rattle.shift_book.specs.declared.numbers.Numbers.{Numbers}
-use Rattle.shift_book.specs.Marks.{Signing, HasDriver, numbers_of}
+use Rattle.std.specs.Prelude.{[], ⊤, ◌-◌, ◌<◌, ◌^◌, ◌∷◌, ◌≡◌, ◌≤◌, Bool, IfSome, List, None, Option, Some, false}
+use Rattle.{std.specs.Prelude.{length, not, slice_get}, shift_book.specs.Marks.{HasDriver, Signing, numbers_of}}
+use Rattle.shift_book.specs.Common.{Durable, Numbers}
 
 -- the numbers of a state of the store are its own number and its totals, in the order of a mark
 abbrev pub numbers_in : Durable → Numbers

@@ -1,13 +1,9 @@
 -- What is in its range fits the bytes that a table has for it, and what fits is read again.
-use Rattle.std.proofs.Common.{◌≡◌, ℕ, zero, suc, ◌+◌, ◌-◌, ◌*◌, ◌^◌, ◌<◌, ◌≤◌, T, ltb, ℤ, pos, neg_ℤ, ◌≤ℤ◌, int_le}
-use Rattle.std.proofs.Common.{FitsSigned, List, [], length, flat_map, All, refl, sym, ap, ◌∙◌, arith, add-le-add}
-use Rattle.std.proofs.Common.{append-nil, le_of_eq, le_of_suc-le-suc, le_refl, le_trans, lit<, lt_of_le_of_lt}
-use Rattle.std.proofs.Common.{mul-le-mul_left, not-suc-le-zero, zero-le}
-use Rattle.std.specs.Int.{w32}
-use Rattle.std.specs.List.{sum_by}
-use Rattle.std.specs.Int.Signed.{le_z_yes}
-use Rattle.std.proofs.lemmas.Int.{ints}
-use Rattle.std.proofs.lemmas.List.Sums.{get_or-le-sum_by}
+use Rattle.std.specs.{Int.{w32, Signed.{le_z_yes}}, List.{sum_by}}
+use Rattle.std.proofs.Common.{[], ℕ, ℤ, ◌*◌, ◌+◌, ◌-◌, ◌<◌, ◌^◌, ◌∙◌, ◌≡◌, ◌≤ℤ◌, ◌≤◌, All, FitsSigned, List, T}
+use Rattle.std.proofs.Common.{add-le-add, ap, append-nil, arith, flat_map, int_le, le_of_eq, le_of_suc-le-suc, le_refl}
+use Rattle.std.proofs.Common.{le_trans, length, lit<, lt_of_le_of_lt, ltb, mul-le-mul_left, neg_ℤ, not-suc-le-zero, pos}
+use Rattle.std.proofs.{Common.{refl, suc, sym, zero, zero-le}, lemmas.{Int.{ints}, List.Sums.{get_or-le-sum_by}}}
 use Rattle.slot_bodies.specs.Codec.{Codec, row_long, row_size}
 
 -- a number of at most another is below a bound that is above the other

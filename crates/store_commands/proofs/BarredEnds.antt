@@ -1,13 +1,9 @@
 -- The ends by which a store bars a command, case by case.
-use Rattle.std.proofs.Common.{◌≡◌, ◌≢◌, ℕ, inl, inr, refl, sym, subst, ◌∙◌}
-use Rattle.call_ends.specs.declared.ending.Ended.{Ended}
+use Rattle.std.proofs.Common.{ℕ, ◌∙◌, ◌≡◌, ◌≢◌, inl, inr, refl, subst, sym}
+use Rattle.{call_ends.{specs.Ending.{IsRefusal}, proofs.Laws.{refusal_by}}, store_commands.specs.Opening.{store_ended}}
+use Rattle.store_commands.specs.{Common.{Ended, StoreFault}, Opened.{IsBarred}}
 use Rattle.call_ends.specs.declared.ending.Ended.TheVariants as ended
-use Rattle.store_commands.specs.declared.opening.StoreFault.{StoreFault}
 use Rattle.store_commands.specs.declared.opening.StoreFault.TheVariants as stores
-use Rattle.store_commands.specs.Opened.{IsBarred}
-use Rattle.store_commands.specs.Opening.{store_ended}
-use Rattle.call_ends.specs.Ending.{IsRefusal}
-use Rattle.call_ends.proofs.Laws.{refusal_by}
 
 -- a fault of the store is no other end
 pub not_read-store : (fault : StoreFault) → store_ended fault ≢ ended.ReadFault

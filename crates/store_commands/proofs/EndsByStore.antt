@@ -1,17 +1,10 @@
 -- Commands that end by the store: with a refusal, or with a fault of the board before their answer.
-use Rattle.std.proofs.Common.{◌≡◌, ◌≢◌, ℕ, List, [], ◌++◌, refl, sym, ap, subst, ◌∙◌, inl, inr}
-use Rattle.std.proofs.lemmas.List.{append-nil}
-use Rattle.outside.specs.PrintedText.{Begins}
-use Rattle.outside.proofs.Laws.{begins_not}
-use Rattle.call_ends.specs.declared.ending.Ended.{Ended}
-use Rattle.call_ends.specs.declared.ending.Ended.TheVariants as ended
-use Rattle.call_ends.specs.Answer.{Answer}
-use Rattle.call_ends.specs.Course.{Command, Answered, BoardFailed}
-use Rattle.call_ends.specs.Ending.{EndsByCourse}
+use Rattle.std.proofs.Common.{[], ℕ, ◌++◌, ◌∙◌, ◌≡◌, ◌≢◌, List, ap, inl, inr, refl, subst, sym}
+use Rattle.{std.proofs.lemmas.List.{append-nil}, outside.proofs.Laws.{begins_not}, call_ends.specs.Course.{BoardFailed}}
+use Rattle.{call_ends.specs.Stream.{TakesBytes, bad_status}, store_commands.proofs.BarredEnds.{owed-barred}}
+use Rattle.store_commands.specs.Common.{Answer, Answered, Begins, Command, Ended, EndsByCourse, refused_as, status_of}
 use Rattle.store_commands.specs.Opened.{IsBarred}
-use Rattle.call_ends.specs.LastLine.{refused_as, status_of}
-use Rattle.call_ends.specs.Stream.{TakesBytes, bad_status}
-use Rattle.store_commands.proofs.BarredEnds.{owed-barred}
+use Rattle.call_ends.specs.declared.ending.Ended.TheVariants as ended
 use Rattle.call_ends.proofs.Laws as streams
 
 module _ (c : Command) (contents left : ℕ → List ℕ) (image : List ℕ) (read_failed : ℕ → Type 0) (failed told : Type 0)

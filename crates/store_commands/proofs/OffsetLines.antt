@@ -1,25 +1,14 @@
 -- The lines of a list of offsets that are printed, one after the other, and the answers of the command.
-use Rattle.std.proofs.Common.{◌≡◌, ◌≢◌, ℕ, ◌+◌, ◌<◌, ◌≤◌, ℤ, List, [], ◌∷◌, ◌++◌, length, take, drop, get_or, Ok, Err}
-use Rattle.std.proofs.Common.{refl, sym, ap, subst, ◌∙◌, append_assoc, inl, inr}
-use Rattle.std.proofs.lemmas.List.{append-nil, take-append-drop, take_all, take_more}
-use Rattle.std.proofs.lemmas.Grind.{flat_map-append}
-use Rattle.outside.specs.PrintedText.{Begins}
-use Rattle.outside.proofs.Laws.{begins_after, begins_more, begins_whole}
-use Rattle.offset_rules.specs.Pairs.{pairs_of}
-use Rattle.offset_rules.specs.Reading.{rules_read}
-use Rattle.offset_rules.specs.Rule.{Rule}
-use Rattle.offset_rules.specs.Texts.{offset_line, offset_lines}
-use Rattle.offset_rules.specs.declared.fault.RuleFault.{RuleFault}
-use Rattle.call_ends.specs.declared.ending.Ended.{Ended}
-use Rattle.call_ends.specs.declared.ending.Ended.TheVariants as ended
-use Rattle.store_commands.specs.declared.offsets.RulesFault.{RulesFault}
-use Rattle.store_commands.specs.declared.offsets.RulesFault.TheVariants as faults
-use Rattle.call_ends.specs.Answer.{Answer}
-use Rattle.call_ends.specs.Call.{MayTake}
-use Rattle.call_ends.specs.Course.{Answered, ReadFailed}
-use Rattle.call_ends.specs.Ending.{EndsByCourse}
+use Rattle.std.proofs.Common.{[], ℕ, ℤ, ◌++◌, ◌+◌, ◌<◌, ◌∙◌, ◌∷◌, ◌≡◌, ◌≢◌, ◌≤◌, Err, List, Ok, ap, append_assoc, drop}
+use Rattle.{std.proofs.Common.{get_or, inl, inr, length, refl, subst, sym, take}, offset_rules.specs.Pairs.{pairs_of}}
+use Rattle.std.proofs.lemmas.{Grind.{flat_map-append}, List.{append-nil, take-append-drop, take_all, take_more}}
+use Rattle.{outside.proofs.Laws.{begins_after, begins_more, begins_whole}, offset_rules.specs.Reading.{rules_read}}
+use Rattle.{offset_rules.specs.Texts.{offset_line, offset_lines}, call_ends.specs.Call.{MayTake}}
+use Rattle.store_commands.specs.Common.{Answer, Answered, Begins, Ended, EndsByCourse, ReadFailed, Rule, RuleFault}
+use Rattle.store_commands.specs.{Common.{RulesFault}, Offsets.{offsets_answer, offsets_command}}
 use Rattle.store_commands.specs.StoreEnds.{ended_for_rules}
-use Rattle.store_commands.specs.Offsets.{offsets_answer, offsets_command}
+use Rattle.call_ends.specs.declared.ending.Ended.TheVariants as ended
+use Rattle.store_commands.specs.declared.offsets.RulesFault.TheVariants as faults
 
 -- the lines of one list behind another
 lines_append : (xs ys : List (ℕ × ℤ)) → offset_lines (xs ++ ys) ≡ offset_lines xs ++ offset_lines ys

@@ -1,23 +1,14 @@
 -- The replies to requests over a sealed store, and what is left of the store.
-use Rattle.std.proofs.Common.{◌≡◌, ℕ, List, [], ◌++◌, Result, Ok, Err, refl, sym, ap, subst, ◌∙◌, inl, inr}
-use Rattle.std.proofs.lemmas.List.{append-nil}
-use Rattle.outside.specs.PrintedText.{Begins}
-use Rattle.totals_record.specs.declared.durable_state.Durable.{Durable}
-use Rattle.seal_record.specs.declared.seal.Seal.{Seal}
-use Rattle.data_port.specs.declared.serving.PortFault.{PortFault}
-use Rattle.data_port.specs.declared.serving.PortFault.TheVariants as faults
-use Rattle.data_port.specs.Reading.{requests_in}
-use Rattle.data_port.specs.ServedStream.{StreamEnd, Whole, BadAt, Endless, ShowsEnd, Serves, ServesTo, replies, requests_of}
-use Rattle.data_port.specs.ServedStream.{stream_end}
-use Rattle.call_ends.specs.declared.ending.Ended.{Ended}
-use Rattle.call_ends.specs.declared.ending.Ended.TheVariants as ended
-use Rattle.call_ends.specs.Answer.{Answer}
-use Rattle.call_ends.specs.Course.{Answered, ReadFailed, BoardFailed}
-use Rattle.call_ends.specs.Ending.{EndsByCourse}
-use Rattle.store_commands.specs.StoreEnds.{ended_serving}
-use Rattle.call_ends.specs.LastLine.{line_of, status_of}
-use Rattle.store_commands.specs.Opening.{opening_in, store_of}
+use Rattle.std.proofs.Common.{[], ℕ, ◌++◌, ◌∙◌, ◌≡◌, Err, List, Ok, Result, ap, inl, inr, refl, subst, sym}
+use Rattle.{std.proofs.lemmas.List.{append-nil}, data_port.specs.ServedStream.{requests_of, stream_end}}
+use Rattle.data_port.specs.{Reading.{requests_in}, declared.serving.PortFault.{PortFault}}
+use Rattle.data_port.specs.ServedStream.{BadAt, Endless, Serves, ServesTo, ShowsEnd, StreamEnd, Whole, replies}
+use Rattle.{call_ends.specs.Course.{BoardFailed}, store_commands.specs.Common.{line_of, status_of}}
+use Rattle.store_commands.specs.Common.{Answer, Answered, Begins, Durable, Ended, EndsByCourse, ReadFailed, Seal}
+use Rattle.store_commands.specs.{Opening.{opening_in, store_of}, StoreEnds.{ended_serving}}
 use Rattle.store_commands.specs.Port.{port_answer, port_command, replies_over, requests_answer}
+use Rattle.data_port.specs.declared.serving.PortFault.TheVariants as faults
+use Rattle.call_ends.specs.declared.ending.Ended.TheVariants as ended
 
 -- the status of requests that end so
 status_end : (shown : List ℕ) (reached : StreamEnd) → (requests_answer shown reached).status ≡ 0 → reached ≡ Whole

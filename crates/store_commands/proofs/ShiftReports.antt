@@ -1,24 +1,14 @@
 -- The report of a book beside a sealed store.
-use Rattle.std.proofs.Common.{◌≡◌, ◌≢◌, ℕ, ◌+◌, ◌≤◌, List, ◌++◌, length, Result, Ok, Err, refl, sym, ap, subst, ◌∙◌}
-use Rattle.std.proofs.Common.{arith}
-use Rattle.totals_record.specs.declared.durable_state.Durable.{Durable}
-use Rattle.seal_record.specs.declared.seal.Seal.{Seal}
-use Rattle.shift_book.specs.BookReading.{book_read}
-use Rattle.shift_book.specs.declared.book.BookFault.{BookFault}
-use Rattle.shift_book.specs.declared.book.BookFault.TheVariants as books
-use Rattle.outside.specs.PrintedText.{Begins}
-use Rattle.call_ends.specs.declared.ending.Ended.{Ended}
-use Rattle.call_ends.specs.declared.ending.Ended.TheVariants as ended
-use Rattle.store_commands.specs.declared.shifts.ReportFault.{ReportFault}
-use Rattle.store_commands.specs.declared.shifts.ReportFault.TheVariants as reports
-use Rattle.call_ends.specs.Answer.{Answer, shows}
-use Rattle.call_ends.specs.Ending.{EndsByCourse}
-use Rattle.store_commands.specs.StoreEnds.{ended_for_report}
-use Rattle.store_commands.specs.Opening.{IsSealedIn, opening_in, store_of}
-use Rattle.call_ends.specs.Pieces.{pieces_of}
+use Rattle.std.proofs.Common.{ℕ, ◌++◌, ◌+◌, ◌∙◌, ◌≡◌, ◌≢◌, ◌≤◌, Err, List, Ok, Result, ap, arith, length, refl, subst}
+use Rattle.{std.proofs.Common.{sym}, call_ends.proofs.Laws.{course-lacking, course-unread, not_status}}
+use Rattle.{call_ends.specs.Pieces.{pieces_of}, store_commands.specs.Common.{book_read, shows}}
+use Rattle.store_commands.specs.Common.{Answer, Begins, BookFault, Durable, Ended, EndsByCourse, ReportFault, Seal}
+use Rattle.store_commands.{specs.Opening.{IsSealedIn, opening_in, store_of}, proofs.EndsByStore.{course-refusal}}
 use Rattle.store_commands.specs.Shifts.{ended_for_book, reported, shifts_answer, shifts_command}
-use Rattle.call_ends.proofs.Laws.{not_status, course-lacking, course-unread}
-use Rattle.store_commands.proofs.EndsByStore.{course-refusal}
+use Rattle.store_commands.specs.StoreEnds.{ended_for_report}
+use Rattle.shift_book.specs.declared.book.BookFault.TheVariants as books
+use Rattle.call_ends.specs.declared.ending.Ended.TheVariants as ended
+use Rattle.store_commands.specs.declared.shifts.ReportFault.TheVariants as reports
 
 pub not_board-report : (fault : ReportFault) → ended_for_report fault ≢ ended.BoardFault
 not_board-report reports.ReadFault = λ e. absurd cc

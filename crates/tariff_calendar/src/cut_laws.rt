@@ -1,18 +1,10 @@
 //! Why cuts are enough: contexts between the same cuts mean the same.
-ghost use Rattle.std.specs.Prelude.{◌≡◌, ℕ, ◌+◌, ◌*◌, ◌<◌, ◌≤◌, ◌↔◌, ℤ, List, Some, Contains, length, slice_index};
-ghost use Rattle.interval_clock.specs.Calendar.{IsDateOf};
-ghost use Rattle.tariff_calendar.specs.Lists.{AreOrdered, IsNotFalling, count_at_most, has_day, has_days, is_holiday, lists_of, pulses_for};
-ghost use Rattle.tariff_calendar.specs.Range.{IsInRangeOf, IsSameCell};
-ghost use Rattle.tariff_check.specs.Cuts.{with_each};
-ghost use Rattle.tariff_check.specs.Faults.{IsSound};
-ghost use Rattle.tariff_check.specs.Kinds.{part_of};
-ghost use Rattle.tariff_check.specs.Parts.{has_holidays};
-ghost use Rattle.tariff_check.specs.declared.choice.ChoiceKind.{ChoiceKind};
-ghost use Rattle.tariff_syntax.specs.Condition.{Condition};
-ghost use Rattle.tariff_syntax.specs.Meaning.{at_hiring, choice_place, holds};
-ghost use Rattle.tariff_syntax.specs.Tree.{Tree, Line, when_part};
-ghost use Rattle.tariff_syntax.specs.Writable.{IsWritable};
-ghost use Rattle.tariff_syntax.specs.declared.context.Context.{Context};
+ghost use Rattle.std.specs.Prelude.{ℕ, ℤ, ◌*◌, ◌+◌, ◌<◌, ◌↔◌, ◌≡◌, ◌≤◌, Contains, List, Some, length, slice_index};
+ghost use Rattle.tariff_check.specs.{Kinds.{part_of}, declared.choice.ChoiceKind.{ChoiceKind}};
+ghost use Rattle.tariff_calendar.specs.Common.{Condition, Context, IsDateOf, IsSound, IsWritable, Line, Tree};
+ghost use Rattle.tariff_calendar.specs.Common.{at_hiring, choice_place, has_holidays, holds, when_part, with_each};
+ghost use Rattle.tariff_calendar.specs.Lists.{AreOrdered, IsNotFalling, count_at_most, has_day, has_days, is_holiday};
+ghost use Rattle.tariff_calendar.specs.{Lists.{lists_of, pulses_for}, Range.{IsInRangeOf, IsSameCell}};
 
 /// The law of cuts: in two contexts of one cell, each condition of a sound tariff holds alike. So the same line of each
 /// kind holds first, there and at the hiring. A condition compares with the cuts of its tariff alone, and how many cuts

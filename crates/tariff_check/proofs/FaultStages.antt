@@ -1,23 +1,13 @@
 -- The first fault, stage by stage.
-use Rattle.std.proofs.Common.{◌≡◌, ℕ, ◌≤◌, ◌^◌, ◌||◌, Bool, true, false, List, [], ◌∷◌, ◌++◌, Option, Some, None, All}
-use Rattle.std.proofs.Common.{refl, ap, sym, subst, ◌∙◌, arith}
-use Rattle.std.proofs.lemmas.List.Elements.{All-nil, All-cons, All-head, All-tail}
-use Rattle.std.specs.Option.{option_or}
-use Rattle.tariff_syntax.specs.Tree.{Tree, Line}
-use Rattle.tariff_check.specs.Faults.{HasNone, faults_before_cuts, faults_from_cuts, faults_of, fault_of, first_some}
-use Rattle.tariff_check.specs.Faults.{fault_if, fault_at, number_faults, IsSound}
-use Rattle.tariff_check.specs.Cells.{cells_of}
-use Rattle.tariff_check.specs.Lines.{first_line, has_measure_zero, is_for_nothing}
-use Rattle.tariff_check.specs.Measure.{measure_of}
-use Rattle.tariff_check.specs.Stages.{step_fault, line_fault, default_fault, number_fault, cut_fault, early_fault}
-use Rattle.tariff_check.specs.Stages.{late_fault}
-use Rattle.tariff_check.specs.declared.fault.CheckFault.TheVariants.{MeasureZero, NoCommonMeasure, NoMemory}
-use Rattle.tariff_check.specs.declared.fault.CheckFault.TheVariants.{TooManyCells}
-use Rattle.tariff_check.proofs.FirstLine.{never}
-use Rattle.tariff_check.proofs.MeasureLaws.{IsMeasured}
-use Rattle.std.proofs.lemmas.Bool.{le-ltb}
-use Rattle.std.specs.Prelude.{nat_lt}
-use Rattle.tariff_check.specs.declared.fault.CheckFault.{CheckFault}
+use Rattle.std.{specs.{Option.{option_or}, Prelude.{nat_lt}}, proofs.Common.{arith, false, refl, subst, sym, true}}
+use Rattle.std.proofs.Common.{[], ℕ, ◌++◌, ◌^◌, ◌||◌, ◌∙◌, ◌∷◌, ◌≡◌, ◌≤◌, All, Bool, List, None, Option, Some, ap}
+use Rattle.std.proofs.lemmas.{Bool.{le-ltb}, List.Elements.{All-cons, All-head, All-nil, All-tail}}
+use Rattle.tariff_check.{specs.{Cells.{cells_of}, Measure.{measure_of}}, proofs.FirstLine.{never}}
+use Rattle.tariff_check.specs.Common.{CheckFault, Line, MeasureZero, NoCommonMeasure, NoMemory, TooManyCells, Tree}
+use Rattle.tariff_check.specs.Faults.{HasNone, IsSound, fault_at, fault_if, fault_of, faults_before_cuts}
+use Rattle.tariff_check.specs.{Faults.{faults_from_cuts, faults_of, first_some, number_faults}, Stages.{step_fault}}
+use Rattle.tariff_check.{specs.Lines.{first_line, has_measure_zero, is_for_nothing}, proofs.MeasureLaws.{IsMeasured}}
+use Rattle.tariff_check.specs.Stages.{cut_fault, default_fault, early_fault, late_fault, line_fault, number_fault}
 
 pub or_assoc : {A : Type 0} (x y z : Option A) → option_or (option_or x y) z ≡ option_or x (option_or y z)
 or_assoc None y z = refl

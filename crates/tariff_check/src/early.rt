@@ -1,11 +1,8 @@
 //! The faults of the lines of a tariff.
 ghost use Rattle.std.specs.Prelude.{◌≡◌, None, map};
-ghost use Rattle.tariff_check.specs.Faults.{fault_at};
-ghost use Rattle.tariff_check.specs.Lines.{first_line};
-ghost use Rattle.tariff_check.specs.Parts.{positions_of, zones_of};
-ghost use Rattle.tariff_check.specs.Rules.{breaks_rule, fault_of_rule};
+ghost use Rattle.tariff_check.specs.{Common.{line_of}, Faults.{fault_at}, Lines.{first_line}};
+ghost use Rattle.tariff_check.specs.{Parts.{positions_of, zones_of}, Rules.{breaks_rule, fault_of_rule}};
 ghost use Rattle.tariff_check.specs.Stages.{default_fault, early_fault, line_fault, number_fault, step_fault};
-ghost use Rattle.tariff_syntax.specs.Tree.{line_of};
 
 use crate::choice::ChoiceKind;
 use crate::fault::CheckFault;

@@ -1,28 +1,15 @@
 //! What the definitions of faults and cuts mean.
-ghost use Rattle.std.specs.Prelude.{◌≡◌, ℕ, ◌<◌, ◌≤◌, ◌↔◌, ◌∷◌, ◌++◌, true, List, [], Some, None, All, length};
-ghost use Rattle.std.specs.List.{Contains, slice_get};
-ghost use Rattle.tariff_check.specs.AllFaults.{all_faults};
-ghost use Rattle.tariff_check.specs.Amounts.{HasAmountsOf, IsFitInitial, initial_by};
-ghost use Rattle.tariff_check.specs.ChoiceLines.{choice_lines};
-ghost use Rattle.tariff_check.specs.Cuts.{IsInOrder, all_cuts, cuts_of, with_each};
+ghost use Rattle.{std.specs.List.{Contains, slice_get}, tariff_check.specs.{Common.{rate_place}, Faults.{faults_of}}};
+ghost use Rattle.std.specs.Prelude.{[], ℕ, ◌++◌, ◌<◌, ◌↔◌, ◌∷◌, ◌≡◌, ◌≤◌, All, List, None, Some, length, true};
+ghost use Rattle.tariff_check.specs.{AllFaults.{all_faults}, Measure.{IsLeastCommonMultiple, measure_of, measures_of}};
+ghost use Rattle.tariff_check.specs.{Amounts.{HasAmountsOf, IsFitInitial, initial_by}, FoundLines.{StandsAtItsLine}};
+ghost use Rattle.tariff_check.specs.{ChoiceLines.{choice_lines}, Lines.{IsFirstLine, IsNowhere, LineTest, first_line}};
+ghost use Rattle.tariff_check.specs.Common.{CheckFault, ChoiceKind, Context, Dimension, Entry, IsFromTo, IsWritable};
+ghost use Rattle.tariff_check.specs.Common.{Line, NoCommonMeasure, RiseInNumber, Tree, choice_place, initial_place};
+ghost use Rattle.tariff_check.specs.{Cuts.{IsInOrder, all_cuts, cuts_of, with_each}, Sound.{HasSoundParts}};
 ghost use Rattle.tariff_check.specs.Faults.{HasNone, IsSound, fault_of, faults_before_cuts, faults_from_cuts};
-ghost use Rattle.tariff_check.specs.Faults.{faults_of};
-ghost use Rattle.tariff_check.specs.FoundLines.{StandsAtItsLine};
-ghost use Rattle.tariff_check.specs.Lines.{LineTest, IsFirstLine, IsNowhere, first_line};
-ghost use Rattle.tariff_check.specs.Measure.{IsLeastCommonMultiple, measures_of, measure_of};
-ghost use Rattle.tariff_check.specs.Kinds.{initials_of, part_of, rates_of, said_by};
-ghost use Rattle.tariff_check.specs.Parts.{supplement_of};
-ghost use Rattle.tariff_check.specs.Sound.{HasSoundParts};
+ghost use Rattle.tariff_check.specs.{Kinds.{initials_of, part_of, rates_of, said_by}, Parts.{supplement_of}};
 ghost use Rattle.tariff_check.specs.SoundTariff.{HasAllLines, HasFrame, IsInOnePart, sound_of, supplement_numbered};
-ghost use Rattle.tariff_check.specs.declared.choice.ChoiceKind.{ChoiceKind};
-ghost use Rattle.tariff_check.specs.declared.fault.CheckFault.{CheckFault};
-ghost use Rattle.tariff_check.specs.declared.fault.CheckFault.TheVariants.{NoCommonMeasure};
-ghost use Rattle.tariff_check.specs.declared.fault.Dimension.{Dimension};
-ghost use Rattle.tariff_syntax.specs.Meaning.{choice_place, initial_place, rate_place};
-ghost use Rattle.tariff_syntax.specs.Reads.{RiseInNumber};
-ghost use Rattle.tariff_syntax.specs.Tree.{Tree, Line, Entry};
-ghost use Rattle.tariff_syntax.specs.Writable.{IsFromTo, IsWritable};
-ghost use Rattle.tariff_syntax.specs.declared.context.Context.{Context};
 
 /// The law of the faults of lines: the number that is named is that of the first line that meets the test, and none is
 /// named exactly if no line meets it. If numbers rise, as those of a text do, no line that meets it has a smaller one.

@@ -1,18 +1,11 @@
 -- Two tariffs, compared, or the one of them that wasn't read.
-use Rattle.std.proofs.Common.{◌≡◌, ◌≢◌, ℕ, Bool, true, false, List, [], None, refl, sym, ap, ap₂, inl, inr}
-use Rattle.call_ends.specs.declared.ending.Ended.{Ended}
-use Rattle.call_ends.specs.declared.ending.Ended.TheVariants.{BadOther, BoardFault, ReadFault}
-use Rattle.call_ends.specs.declared.tariff.Refusal.{Refusal}
-use Rattle.call_ends.specs.declared.tariff.TextFault.{TextFault}
-use Rattle.call_ends.specs.declared.tariff.TextFault.TheVariants as texts
-use Rattle.call_ends.specs.LastLine.{status_of}
-use Rattle.call_ends.specs.Making.{answer_with, is_plain}
-use Rattle.call_ends.specs.Reads.{FailsOr}
-use Rattle.call_ends.proofs.Laws.{MakesText, text_is}
-use Rattle.call_ends.specs.Plan.{Last, Next}
-use Rattle.call_ends.specs.Tariffs.{HasTariff, tariff_in}
+use Rattle.std.proofs.Common.{[], ℕ, ◌≡◌, ◌≢◌, Bool, List, None, ap, ap₂, false, inl, inr, refl, sym, true}
+use Rattle.call_ends.specs.{LastLine.{status_of}, declared.ending.Ended.TheVariants.{BadOther, BoardFault, ReadFault}}
+use Rattle.call_ends.{specs.{Making.{is_plain}, Plan.{Last, Next}, Reads.{FailsOr}}, proofs.Laws.{MakesText, text_is}}
+use Rattle.tariff_commands.specs.Common.{Ended, HasTariff, Refusal, TextFault, answer_with, tariff_in}
 use Rattle.tariff_commands.specs.Compare.{compare_answer, compare_command, comparing_status}
 use Rattle.tariff_commands.specs.CompareSteps.{ended_comparing, ended_for_other}
+use Rattle.call_ends.specs.declared.tariff.TextFault.TheVariants as texts
 
 pub compares : (k : ℕ) → MakesText (compare_command k)
 compares k = text_is

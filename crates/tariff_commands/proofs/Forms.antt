@@ -1,16 +1,10 @@
 -- The printed form of a text's tariff.
-use Rattle.std.proofs.Common.{◌≡◌, ℕ, ◌<◌, List, length, Ok, Err, refl, ap, inl, inr}
-use Rattle.std.proofs.lemmas.Bool.{le-ltb, lt-ltb}
-use Rattle.tariff_syntax.specs.Reads.{IsParsed}
-use Rattle.tariff_syntax.specs.Tree.{tree_of}
-use Rattle.tariff_syntax.specs.declared.parsing.ParseFault.{ParseFault}
-use Rattle.tariff_syntax.specs.declared.parsing.ParseFault.TheVariants as faults
-use Rattle.tariff_syntax.specs.declared.tariff.Tariff.{Tariff}
-use Rattle.tariff_syntax.proofs.Laws.{texts_are_parsed_as_they_read-tariff, texts_are_parsed_as_they_read-bad_line}
-use Rattle.call_ends.specs.Making.{IsMade}
-use Rattle.tariff_commands.specs.Form.{form_answer, tree_in}
+use Rattle.std.proofs.{Common.{ℕ, ◌<◌, ◌≡◌, Err, List, Ok, ap, inl, inr, length, refl}, lemmas.Bool.{le-ltb, lt-ltb}}
+use Rattle.tariff_syntax.specs.{Reads.{IsParsed}, declared.{parsing.ParseFault.{ParseFault}, tariff.Tariff.{Tariff}}}
+use Rattle.tariff_syntax.proofs.Laws.{texts_are_parsed_as_they_read-bad_line, texts_are_parsed_as_they_read-tariff}
+use Rattle.tariff_commands.specs.{Common.{IsMade, Syntax, TooLong, tree_of}, Form.{form_answer, tree_in}}
 use Rattle.tariff_commands.specs.FormSteps.{ended_unparsed}
-use Rattle.call_ends.specs.declared.tariff.Refusal.TheVariants.{TooLong, Syntax}
+use Rattle.tariff_syntax.specs.declared.parsing.ParseFault.TheVariants as faults
 
 -- a text that was parsed reads as its tariff, or is too long, or has a first bad line
 pub tree_parsed_in : (text : List ℕ) (t : Tariff) → IsParsed text (Ok t) → tree_in text ≡ Ok (tree_of t)

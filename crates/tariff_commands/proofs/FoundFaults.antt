@@ -1,43 +1,22 @@
 -- What the command `faults` found of a text is what it answers.
-use Rattle.std.proofs.Common.{◌≡◌, ◌≢◌, ℕ, ◌<◌, ◌≤◌, List, [], ◌∷◌, ◌==◌, false, Some, Result, Ok, Err}
-use Rattle.std.proofs.Common.{length, map, refl, sym, ap, ap₂, ◌∙◌, inr, ⊎_elim, arith}
-use Rattle.std.specs.Prelude.{◌⊎◌, IfOk}
-use Rattle.std.specs.List.{slice_get}
-use Rattle.std.proofs.lemmas.Bool.{le-ltb, lt-ltb}
-use Rattle.std.proofs.lemmas.List.{append-nil}
-use Rattle.tariff_syntax.specs.BadLines.{bad_lines}
-use Rattle.tariff_syntax.specs.Parsed.{tree_parsed}
-use Rattle.tariff_syntax.specs.Reads.{IsParsed}
-use Rattle.tariff_syntax.specs.Tree.{Tree, tree_of}
-use Rattle.tariff_syntax.specs.declared.parsing.ParseFault.TheVariants as faults
-use Rattle.tariff_syntax.specs.declared.tariff.Tariff.{Tariff}
-use Rattle.tariff_syntax.proofs.Laws.{texts_are_parsed_as_they_read-bad_line}
-use Rattle.tariff_syntax.proofs.Laws.{texts_are_parsed_as_they_read-tariff}
-use Rattle.tariff_check.specs.AllFaults.{all_faults}
-use Rattle.tariff_check.specs.Faults.{fault_of}
-use Rattle.tariff_check.specs.declared.fault.CheckFault.{CheckFault}
-use Rattle.tariff_check.proofs.Laws.{all_faults_begin_with_the_first-first}
-use Rattle.call_ends.specs.Answer.{Answer, shows_line}
-use Rattle.tariff_commands.specs.Check.{check_answer}
+use Rattle.std.{specs.{List.{slice_get}, Prelude.{◌⊎◌, IfOk}}, proofs.lemmas.List.{append-nil}}
+use Rattle.std.proofs.Common.{[], ℕ, ◌<◌, ◌==◌, ◌∙◌, ◌∷◌, ◌≡◌, ◌≢◌, ◌≤◌, Err, List, Ok, Result, Some, ap, ap₂, arith}
+use Rattle.std.proofs.{Common.{false, inr, length, map, refl, sym, ⊎_elim}, lemmas.Bool.{le-ltb, lt-ltb}}
+use Rattle.outside.specs.{Reading.{LeavesOthers}, declared.files.Files.{Ghosts as FileGhosts}}
+use Rattle.tariff_syntax.specs.{BadLines.{bad_lines}, Parsed.{tree_parsed}, declared.tariff.Tariff.{Tariff}}
+use Rattle.{tariff_syntax.specs.Reads.{IsParsed}, tariff_check.proofs.Laws.{all_faults_begin_with_the_first-first}}
+use Rattle.tariff_syntax.proofs.Laws.{texts_are_parsed_as_they_read-bad_line, texts_are_parsed_as_they_read-tariff}
+use Rattle.call_ends.specs.{LastLine.{status_of}, Making.{is_plain}, Tariffs.{sound_in}, declared.made.Made.{Made}}
+use Rattle.call_ends.{specs.Reads.{GoesTo, ReadsWord}, proofs.Laws.{ends_apart, goes-none, goes-on, same_fault}}
+use Rattle.tariff_commands.specs.{Check.{check_answer}, declared.faults.Found.{Found, TheVariants.{Faults, Sound}}}
+use Rattle.tariff_commands.specs.Common.{Answer, CheckFault, Ended, IsMade, Refusal, Syntax, TextFault, TooLong, Tree}
+use Rattle.tariff_commands.specs.Common.{Unsound, all_faults, answer_with, bad_tariff_line, fault_of, shows_line}
+use Rattle.tariff_commands.specs.Common.{sound_line, tariff_in, tree_of}
 use Rattle.tariff_commands.specs.Faults.{faults_answer, faults_command, faults_in, refusal_lines, refusals_in}
-use Rattle.tariff_commands.specs.FaultsSteps.{HasLines, IsFoundIn, IsFoundOf, IsRefusedText, found_end}
-use Rattle.tariff_commands.specs.FaultsSteps.{found_text}
-use Rattle.call_ends.specs.LastLine.{bad_tariff_line, sound_line, status_of}
-use Rattle.call_ends.specs.Making.{IsMade, answer_with, is_plain}
-use Rattle.call_ends.specs.Tariffs.{sound_in, tariff_in}
-use Rattle.outside.specs.Reading.{LeavesOthers}
-use Rattle.outside.specs.declared.files.Files.{Ghosts as FileGhosts}
-use Rattle.call_ends.specs.declared.tariff.TextFault.{TextFault}
+use Rattle.tariff_commands.specs.FaultsSteps.{HasLines, IsFoundIn, IsFoundOf, IsRefusedText, found_end, found_text}
+use Rattle.tariff_syntax.specs.declared.parsing.ParseFault.TheVariants as faults
 use Rattle.call_ends.specs.declared.tariff.TextFault.TheVariants as texts
-use Rattle.call_ends.specs.declared.ending.Ended.{Ended}
 use Rattle.call_ends.specs.declared.ending.Ended.TheVariants as ended
-use Rattle.call_ends.specs.Reads.{GoesTo, ReadsWord}
-use Rattle.call_ends.proofs.Laws.{ends_apart, goes-none, goes-on, same_fault}
-use Rattle.call_ends.specs.declared.tariff.Refusal.{Refusal}
-use Rattle.call_ends.specs.declared.made.Made.{Made}
-use Rattle.tariff_commands.specs.declared.faults.Found.{Found}
-use Rattle.tariff_commands.specs.declared.faults.Found.TheVariants.{Faults, Sound}
-use Rattle.call_ends.specs.declared.tariff.Refusal.TheVariants.{TooLong, Syntax, Unsound}
 
 -- ---- what a text is refused for
 

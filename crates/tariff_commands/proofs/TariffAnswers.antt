@@ -1,15 +1,8 @@
 -- The commands `check` and `tables`.
-use Rattle.std.proofs.Common.{◌≡◌, ℕ, [], Ok, refl, sym, ap₂}
-use Rattle.tariff_syntax.specs.Tree.{Tree}
-use Rattle.tariff_check.specs.SoundTariff.{sound_of}
-use Rattle.call_ends.specs.Answer.{shows_line}
-use Rattle.call_ends.specs.LastLine.{sound_line}
-use Rattle.call_ends.specs.Making.{answer_with}
-use Rattle.call_ends.specs.declared.ending.Ended.TheVariants.{Sound}
-use Rattle.call_ends.specs.Tariffs.{tariff_in}
-use Rattle.call_ends.proofs.Laws.{MakesOfWord}
-use Rattle.tariff_commands.specs.Check.{check_answer, check_command}
-use Rattle.tariff_commands.specs.Tables.{tables_answer, tables_command}
+use Rattle.std.proofs.Common.{[], ℕ, ◌≡◌, Ok, ap₂, refl, sym}
+use Rattle.call_ends.{specs.declared.ending.Ended.TheVariants.{Sound}, proofs.Laws.{MakesOfWord}}
+use Rattle.tariff_commands.specs.{Check.{check_answer, check_command}, Tables.{tables_answer, tables_command}}
+use Rattle.tariff_commands.specs.Common.{Tree, answer_with, shows_line, sound_line, sound_of, tariff_in}
 
 pub checks : MakesOfWord check_command (λ text. check_answer (tariff_in text))
 checks = record {

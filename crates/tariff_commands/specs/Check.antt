@@ -1,13 +1,7 @@
 -- Rules: the command `check TARIFF`.
-use Rattle.std.specs.Prelude.{◌+◌, ◌≤◌, Result, Ok, Err}
-use Rattle.tariff_syntax.specs.Tree.{Tree}
-use Rattle.tariff_check.specs.SoundTariff.{sound_of}
-use Rattle.call_ends.specs.Answer.{Answer, shows_line}
-use Rattle.call_ends.specs.Course.{Command}
-use Rattle.call_ends.specs.LastLine.{sound_line}
-use Rattle.call_ends.specs.Tariffs.{tariff_in, bad_tariff}
-use Rattle.call_ends.specs.TextCommands.{word_command}
-use Rattle.call_ends.specs.declared.tariff.Refusal.{Refusal}
+use Rattle.std.specs.Prelude.{◌+◌, ◌≤◌, Err, Ok, Result}
+use Rattle.tariff_commands.specs.Common.{Answer, Command, Refusal, Tree, bad_tariff, shows_line, sound_line, sound_of}
+use Rattle.tariff_commands.specs.Common.{tariff_in, word_command}
 
 -- the answer to a sound tariff says how many cells it has and its common measure; to another text, why it has none
 abbrev pub check_answer : Result Tree Refusal → Answer

@@ -1,14 +1,8 @@
 -- Rules: the command `compare TARIFF OTHER CONSTANT`.
-use Rattle.std.specs.Prelude.{ℕ, Bool, true, false, [], is_some, None, Result, Ok, Err}
-use Rattle.tariff_syntax.specs.Tree.{Tree}
-use Rattle.tariff_compare.specs.DifferenceTexts.{comparison_text}
-use Rattle.tariff_compare.specs.Differences.{difference_of}
-use Rattle.call_ends.specs.Answer.{Answer}
-use Rattle.call_ends.specs.Course.{Command}
-use Rattle.call_ends.specs.Tariffs.{HasTariff, tariff_in, bad_other, bad_tariff}
-use Rattle.call_ends.specs.Plan.{Last, Next}
-use Rattle.call_ends.specs.TextCommands.{text_command}
-use Rattle.call_ends.specs.declared.tariff.Refusal.{Refusal}
+use Rattle.std.specs.Prelude.{[], ℕ, Bool, Err, None, Ok, Result, false, is_some, true}
+use Rattle.tariff_compare.specs.{DifferenceTexts.{comparison_text}, Differences.{difference_of}}
+use Rattle.call_ends.specs.{Plan.{Last, Next}, Tariffs.{bad_other}, TextCommands.{text_command}}
+use Rattle.tariff_commands.specs.Common.{Answer, Command, HasTariff, Refusal, Tree, bad_tariff, tariff_in}
 
 -- the status of a comparison is 11 if the tariffs differ, and else 0
 abbrev pub comparing_status : (differ : Bool) → ℕ

@@ -1,8 +1,6 @@
 -- For proofs: how the command `compare` ends. Compare says what a comparison is.
-use Rattle.std.specs.Prelude.{Bool, true, false}
-use Rattle.call_ends.specs.declared.ending.Ended.{Ended}
-use Rattle.call_ends.specs.declared.ending.Ended.TheVariants.{BadOther, Different, Done, NoMemory, ReadFault}
-use Rattle.call_ends.specs.declared.tariff.TextFault.{TextFault}
+use Rattle.{std.specs.Prelude.{Bool, false, true}, tariff_commands.specs.Common.{Ended, NoMemory, TextFault}}
+use Rattle.call_ends.specs.declared.ending.Ended.TheVariants.{BadOther, Different, Done, ReadFault}
 use Rattle.call_ends.specs.declared.tariff.TextFault.TheVariants as texts
 
 -- how a command ended that couldn't read the other one of two tariffs

@@ -1,19 +1,8 @@
 -- Rules: the command `faults TARIFF`.
-use Rattle.std.specs.Prelude.{ℕ, List, [], ◌∷◌, length, map, Result, Ok, Err, if◌then◌else◌}
-use Rattle.std.specs.Prelude.{nat_lt}
-use Rattle.std.specs.List.{flat_map}
-use Rattle.tariff_syntax.specs.BadLines.{bad_lines}
-use Rattle.tariff_syntax.specs.Parsed.{tree_parsed}
-use Rattle.tariff_syntax.specs.Tree.{Tree}
-use Rattle.tariff_check.specs.AllFaults.{all_faults}
-use Rattle.call_ends.specs.Answer.{Answer}
-use Rattle.tariff_commands.specs.Check.{check_answer}
-use Rattle.call_ends.specs.Course.{Command}
-use Rattle.call_ends.specs.LastLine.{bad_tariff_line}
-use Rattle.call_ends.specs.Tariffs.{tariff_in}
-use Rattle.call_ends.specs.TextCommands.{word_command}
-use Rattle.call_ends.specs.declared.tariff.Refusal.{Refusal}
-use Rattle.call_ends.specs.declared.tariff.Refusal.TheVariants.{TooLong, Syntax, Unsound}
+use Rattle.std.specs.{List.{flat_map}, Prelude.{[], ℕ, ◌∷◌, Err, List, Ok, Result, if◌then◌else◌, length, map, nat_lt}}
+use Rattle.tariff_syntax.specs.{BadLines.{bad_lines}, Parsed.{tree_parsed}}
+use Rattle.tariff_commands.specs.{Check.{check_answer}, Common.{bad_tariff_line, tariff_in, word_command}}
+use Rattle.tariff_commands.specs.Common.{Answer, Command, Refusal, Syntax, TooLong, Tree, Unsound, all_faults}
 
 -- a tariff that was read is refused for each of its faults, and else a text for each of its bad lines
 abbrev pub refusals_of : (bad : List ℕ) → Result Tree ℕ → List Refusal

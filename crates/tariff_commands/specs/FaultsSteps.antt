@@ -1,18 +1,9 @@
 -- For proofs: what the command `faults` found of a text. Faults says what it answers.
-use Rattle.std.specs.Prelude.{◌≡◌, ℕ, List, [], map, None, Some, Ok, Err}
-use Rattle.tariff_syntax.specs.Tree.{Tree}
-use Rattle.tariff_check.specs.AllFaults.{all_faults}
-use Rattle.tariff_check.specs.Faults.{fault_of}
-use Rattle.tariff_check.specs.SoundTariff.{sound_of}
-use Rattle.tariff_check.specs.declared.fault.CheckFault.{CheckFault}
+use Rattle.std.specs.Prelude.{[], ℕ, ◌≡◌, Err, List, None, Ok, Some, map}
+use Rattle.tariff_commands.specs.Common.{CheckFault, Ended, Refusal, Tree, Unsound, all_faults, fault_of, sound_of}
+use Rattle.tariff_commands.specs.{Common.{tariff_in}, declared.faults.Found.{Found, TheVariants.{Faults, Sound}}}
 use Rattle.tariff_commands.specs.Faults.{refusal_lines, refusals_in}
-use Rattle.call_ends.specs.Tariffs.{tariff_in}
-use Rattle.call_ends.specs.declared.ending.Ended.{Ended}
 use Rattle.call_ends.specs.declared.ending.Ended.TheVariants as ended
-use Rattle.tariff_commands.specs.declared.faults.Found.{Found}
-use Rattle.tariff_commands.specs.declared.faults.Found.TheVariants.{Faults, Sound}
-use Rattle.call_ends.specs.declared.tariff.Refusal.{Refusal}
-use Rattle.call_ends.specs.declared.tariff.Refusal.TheVariants.{Unsound}
 
 -- numbers are those of a tariff if they are its cells and its common measure
 pub record AreNumbersOf (t : Tree) (cells measure : ℕ) : Type 0 where

@@ -1,14 +1,7 @@
 -- Rules: the command `form TARIFF`.
-use Rattle.std.specs.Prelude.{ℕ, List, length, Result, Ok, Err, if◌then◌else◌, nat_lt}
-use Rattle.tariff_syntax.specs.Parsed.{tree_parsed}
-use Rattle.tariff_syntax.specs.Printed.{printed_form}
-use Rattle.tariff_syntax.specs.Tree.{Tree}
-use Rattle.call_ends.specs.Answer.{Answer, shows}
-use Rattle.call_ends.specs.Course.{Command}
-use Rattle.call_ends.specs.Tariffs.{bad_tariff}
-use Rattle.call_ends.specs.TextCommands.{word_command}
-use Rattle.call_ends.specs.declared.tariff.Refusal.{Refusal}
-use Rattle.call_ends.specs.declared.tariff.Refusal.TheVariants.{TooLong, Syntax}
+use Rattle.std.specs.Prelude.{ℕ, Err, List, Ok, Result, if◌then◌else◌, length, nat_lt}
+use Rattle.{tariff_syntax.specs.Parsed.{tree_parsed}, tariff_commands.specs.Common.{shows, word_command}}
+use Rattle.tariff_commands.specs.Common.{Answer, Command, Refusal, Syntax, TooLong, Tree, bad_tariff, printed_form}
 
 -- a tariff that was read is taken as it is, and else the text is refused for its first bad line
 abbrev pub or_syntax : Result Tree ℕ → Result Tree Refusal

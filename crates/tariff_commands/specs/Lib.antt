@@ -10,3 +10,4 @@ pub mod CompareSteps
 pub mod FaultsSteps
 pub mod FormSteps
 pub mod TableSteps
+pub mod Common

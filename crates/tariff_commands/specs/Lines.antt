@@ -1,13 +1,6 @@
 -- Rules: the command `lines TARIFF CONSTANT`.
-use Rattle.std.specs.Prelude.{ℕ, Result, Ok, Err}
-use Rattle.tariff_syntax.specs.Tree.{Tree}
-use Rattle.tariff_compare.specs.Texts.{uses_text}
-use Rattle.tariff_compare.specs.Uses.{uses_of}
-use Rattle.call_ends.specs.Answer.{Answer, shows}
-use Rattle.call_ends.specs.Course.{Command}
-use Rattle.call_ends.specs.Tariffs.{tariff_in, bad_tariff}
-use Rattle.call_ends.specs.TextCommands.{word_command}
-use Rattle.call_ends.specs.declared.tariff.Refusal.{Refusal}
+use Rattle.{std.specs.Prelude.{ℕ, Err, Ok, Result}, tariff_compare.specs.{Texts.{uses_text}, Uses.{uses_of}}}
+use Rattle.tariff_commands.specs.Common.{Answer, Command, Refusal, Tree, bad_tariff, shows, tariff_in, word_command}
 
 -- the answer to a sound tariff shows, for each line of a kind of which the first that holds counts, the first context
 -- of a meter in which that line counts, if there is one. To another text it says why it has no sound tariff.

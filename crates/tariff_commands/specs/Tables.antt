@@ -1,13 +1,7 @@
 -- Rules: the command `tables TARIFF CONSTANT`.
-use Rattle.std.specs.Prelude.{ℕ, ◌+◌, ◌≤◌, Result, Ok, Err}
-use Rattle.tariff_syntax.specs.Tree.{Tree}
-use Rattle.tariff_compile.specs.Rows.{row_count, rows_text}
-use Rattle.tariff_compile.specs.Tables.{tables_of}
-use Rattle.call_ends.specs.Answer.{Answer, shows}
-use Rattle.call_ends.specs.Course.{Command}
-use Rattle.call_ends.specs.Tariffs.{tariff_in, bad_tariff}
-use Rattle.call_ends.specs.TextCommands.{word_command}
-use Rattle.call_ends.specs.declared.tariff.Refusal.{Refusal}
+use Rattle.std.specs.Prelude.{ℕ, ◌+◌, ◌≤◌, Err, Ok, Result}
+use Rattle.{tariff_compile.specs.Tables.{tables_of}, tariff_commands.specs.Common.{tariff_in, word_command}}
+use Rattle.tariff_commands.specs.Common.{Answer, Command, Refusal, Tree, bad_tariff, row_count, rows_text, shows}
 
 -- the answer to a sound tariff shows the rows of its tables under a constant; to another text, it says why it has none
 abbrev pub tables_answer : (k : ℕ) → Result Tree Refusal → Answer

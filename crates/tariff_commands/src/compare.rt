@@ -1,12 +1,8 @@
 //! The command `compare`.
-ghost use Rattle.std.specs.Prelude.{◌≡◌, ℕ, List, IfOk, is_some};
-ghost use Rattle.tariff_compare.specs.DifferenceTexts.{comparison_text};
-ghost use Rattle.tariff_compare.specs.Differences.{difference_of};
-ghost use Rattle.tariff_syntax.specs.Tree.{tree_of};
-ghost use Rattle.call_ends.specs.Carried.{Carries};
-ghost use Rattle.call_ends.specs.Making.{Makes, end_made, text_made};
-ghost use Rattle.tariff_commands.specs.Compare.{compare_command};
-ghost use Rattle.tariff_commands.specs.CompareSteps.{ended_comparing, ended_for_other};
+ghost use Rattle.std.specs.Prelude.{ℕ, ◌≡◌, IfOk, List, is_some};
+ghost use Rattle.tariff_compare.specs.{DifferenceTexts.{comparison_text}, Differences.{difference_of}};
+ghost use Rattle.tariff_commands.specs.Common.{Carries, Makes, end_made, text_made, tree_of};
+ghost use Rattle.tariff_commands.specs.{Compare.{compare_command}, CompareSteps.{ended_comparing, ended_for_other}};
 
 use call_ends::{Ended, Made, TextFault, print_made, read_tariff, refused_by};
 use drive_modes::Constant;

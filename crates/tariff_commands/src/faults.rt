@@ -1,18 +1,11 @@
 //! The command `faults`.
-ghost use Rattle.std.specs.List.{Contains, slice_get};
-ghost use Rattle.std.specs.Prelude.{◌≡◌, ◌↔◌, ℕ, ◌<◌, ◌≤◌, ◌++◌, List, [], Some, Err, IfOk, OnOk};
-ghost use Rattle.std.specs.Prelude.{length, map};
+ghost use Rattle.{std.specs.List.{Contains, slice_get}, tariff_syntax.specs.Writable.{IsWritable}};
+ghost use Rattle.std.specs.Prelude.{[], ℕ, ◌++◌, ◌<◌, ◌↔◌, ◌≡◌, ◌≤◌, Err, IfOk, List, OnOk, Some, length, map};
 ghost use Rattle.tariff_syntax.specs.Formless.{HasNoForm};
-ghost use Rattle.tariff_syntax.specs.Tree.{tree_of};
-ghost use Rattle.tariff_syntax.specs.Writable.{IsWritable};
-ghost use Rattle.call_ends.specs.Carried.{Carries};
-ghost use Rattle.tariff_commands.specs.Check.{check_answer};
+ghost use Rattle.tariff_commands.specs.{Check.{check_answer}, Common.{end_made, tariff_in, text_made, tree_of}};
+ghost use Rattle.tariff_commands.specs.Common.{Carries, HasTariff, Makes, Syntax, TooLong, Unsound, bad_tariff_line};
 ghost use Rattle.tariff_commands.specs.Faults.{faults_command, faults_in, refusal_lines, refusals_in};
-ghost use Rattle.call_ends.specs.Making.{Makes, end_made, text_made};
 ghost use Rattle.tariff_commands.specs.FaultsSteps.{IsFoundIn, IsFoundOf, found_end, found_text};
-ghost use Rattle.call_ends.specs.LastLine.{bad_tariff_line};
-ghost use Rattle.call_ends.specs.Tariffs.{HasTariff, tariff_in};
-ghost use Rattle.call_ends.specs.declared.tariff.Refusal.TheVariants.{Syntax, TooLong, Unsound};
 
 use call_ends::{Ended, Made, Refusal, TextFault, bad_tariff_line, print_made, text_of_word};
 use outside::{Board, Files, STORE_SIZE};

@@ -1,11 +1,7 @@
 //! The command `form`.
-ghost use Rattle.std.specs.Prelude.{◌≡◌, ℕ, ◌≤◌, List};
-ghost use Rattle.tariff_syntax.specs.Printed.{printed_form};
-ghost use Rattle.tariff_syntax.specs.Tree.{tree_of};
-ghost use Rattle.call_ends.specs.Answer.{shows};
-ghost use Rattle.call_ends.specs.Carried.{Carries};
-ghost use Rattle.call_ends.specs.Making.{IsMade, Makes, end_made, text_made};
-ghost use Rattle.tariff_commands.specs.Form.{form_answer, form_command, tree_in};
+ghost use Rattle.std.specs.Prelude.{ℕ, ◌≡◌, ◌≤◌, List};
+ghost use Rattle.tariff_commands.specs.Common.{Carries, IsMade, Makes, end_made, printed_form, shows, text_made};
+ghost use Rattle.tariff_commands.specs.{Common.{tree_of}, Form.{form_answer, form_command, tree_in}};
 ghost use Rattle.tariff_commands.specs.FormSteps.{ended_unparsed};
 
 use call_ends::{Ended, Made, Refusal, print_made, refused_by, text_of_word};

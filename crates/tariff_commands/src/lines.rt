@@ -1,9 +1,6 @@
 //! The command `lines`.
-ghost use Rattle.std.specs.Prelude.{ℕ, List};
-ghost use Rattle.call_ends.specs.Carried.{Carries};
-ghost use Rattle.call_ends.specs.Making.{IsMade, Makes, end_made, text_made};
-ghost use Rattle.call_ends.specs.Tariffs.{tariff_in};
-ghost use Rattle.tariff_commands.specs.Lines.{lines_answer, lines_command};
+ghost use Rattle.{std.specs.Prelude.{ℕ, List}, tariff_commands.specs.Lines.{lines_answer, lines_command}};
+ghost use Rattle.tariff_commands.specs.Common.{Carries, IsMade, Makes, end_made, tariff_in, text_made};
 
 use call_ends::{Ended, Made, print_made, refused_by, tariff_of_text, text_of_word};
 use drive_modes::Constant;

@@ -1,14 +1,10 @@
 //! The command `tables`.
 #![tactic(auto, using(call_ends::proofs::Laws::board_runs))]
 
-ghost use Rattle.std.specs.Prelude.{◌≡◌, ◌+◌, ◌<◌, ◌≤◌, ◌++◌, length, OnOk};
-ghost use Rattle.taxi_units.specs.Line.{line_size};
-ghost use Rattle.outside.specs.Faults.{HasCause};
-ghost use Rattle.outside.specs.PrintedText.{Begins};
+ghost use Rattle.std.specs.Prelude.{◌++◌, ◌+◌, ◌<◌, ◌≡◌, ◌≤◌, OnOk, length};
+ghost use Rattle.{taxi_units.specs.Line.{line_size}, outside.specs.{Faults.{HasCause}, PrintedText.{Begins}}};
 ghost use Rattle.outside.specs.Runs.{KeepsStore};
-ghost use Rattle.tariff_compile.specs.Rows.{row_count, row_text, rows_text};
-ghost use Rattle.call_ends.specs.Carried.{Carries};
-ghost use Rattle.tariff_commands.specs.Tables.{tables_command};
+ghost use Rattle.tariff_commands.specs.{Common.{Carries, row_count, row_text, rows_text}, Tables.{tables_command}};
 
 use crate::compiled::tables_of_word;
 use call_ends::{Ended, ended_behind, refused_by};

@@ -1,10 +1,7 @@
 -- Rules: the line of a tariff that counts in a context of a meter.
-use Rattle.std.specs.Prelude.{ℕ, Bool, false, ◌&&◌, ◌==◌, Option, Some, None}
-use Rattle.tariff_syntax.specs.Tree.{Tree}
-use Rattle.tariff_check.specs.declared.choice.ChoiceKind.{ChoiceKind}
+use Rattle.std.specs.Prelude.{ℕ, ◌&&◌, ◌==◌, Bool, None, Option, Some, false}
+use Rattle.tariff_compare.specs.{Common.{ChoiceKind, MeterContext, Tree}, Kinds.{is_asked, place_at}}
 use Rattle.tariff_compare.specs.Contexts.{context_at}
-use Rattle.tariff_compare.specs.Kinds.{is_asked, place_at}
-use Rattle.tariff_compare.specs.declared.meter_context.MeterContext.{MeterContext}
 
 -- the test `is_at` is true if there is a place, and it is the wanted one
 abbrev pub is_at : (wanted : ℕ) → Option ℕ → Bool

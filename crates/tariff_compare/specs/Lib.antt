@@ -10,3 +10,4 @@ pub mod Searches
 pub mod Sides
 pub mod Texts
 pub mod Uses
+pub mod Common

@@ -1,18 +1,11 @@
 //! What first contexts and differences are.
-ghost use Rattle.std.specs.Prelude.{◌≡◌, ◌↔◌, ℕ, true, None, Some};
-ghost use Rattle.tariff_compare.specs.Contexts.{HasTables, IsFirstOrNone, IsMeterTime, IsTimeOf};
-ghost use Rattle.tariff_compare.specs.CountedLine.{counts};
+ghost use Rattle.std.specs.Prelude.{ℕ, ◌↔◌, ◌≡◌, None, Some, true};
+ghost use Rattle.tariff_compare.specs.{Common.{ChoiceKind, Difference, In, MeterContext, Tree}, Uses.{first_counting}};
+ghost use Rattle.tariff_compare.specs.{Contexts.{HasTables, IsFirstOrNone, IsMeterTime, IsTimeOf}, Sides.{side_of}};
+ghost use Rattle.tariff_compare.specs.{CountedLine.{counts}, FirstParts.{IsFirstKind, IsFirstOfFrame, IsSameBy}};
 ghost use Rattle.tariff_compare.specs.Differences.{difference_of, frame_difference};
-ghost use Rattle.tariff_compare.specs.FirstParts.{IsFirstKind, IsFirstOfFrame, IsSameBy};
 ghost use Rattle.tariff_compare.specs.Kinds.{InForce, differing_kind, is_same_of};
 ghost use Rattle.tariff_compare.specs.Same.{AreSame, DiffersFirst, HasSameFrame};
-ghost use Rattle.tariff_compare.specs.Sides.{side_of};
-ghost use Rattle.tariff_compare.specs.Uses.{first_counting};
-ghost use Rattle.tariff_compare.specs.declared.difference.Difference.{Difference};
-ghost use Rattle.tariff_compare.specs.declared.difference.Difference.TheVariants.{In};
-ghost use Rattle.tariff_compare.specs.declared.meter_context.MeterContext.{MeterContext};
-ghost use Rattle.tariff_syntax.specs.Tree.{Tree};
-ghost use Rattle.tariff_check.specs.declared.choice.ChoiceKind.{ChoiceKind};
 
 /// The law of first contexts: the context that is given of a line is the first one of a meter in which that line
 /// counts. None is given exactly if it counts in none.

@@ -1,10 +1,9 @@
 -- The numbers of cells: the bands of a cell give its number back, and a number its bands.
-use Rattle.std.proofs.Common.{◌≡◌, ◌∙◌, ◌⊎◌, inl, inr, ap, refl, ℕ, zero, suc, ◌+◌, ◌*◌, ◌/◌, ◌%◌, ◌<◌, ◌≤◌, arith}
+use Rattle.std.proofs.Common.{ℕ, ◌%◌, ◌*◌, ◌+◌, ◌/◌, ◌<◌, ◌∙◌, ◌≡◌, ◌≤◌, ◌⊎◌, ap, arith, inl, inr, refl, suc, zero}
 use Rattle.std.proofs.Math.Nat.{div-add-mod, le-mul_of_pos_right, mul-le-mul_right, mul-zero, mul_comm, suc-mul}
-use Rattle.std.proofs.Math.Nat.{zero-mul}
-use Rattle.std.proofs.lemmas.Nat.{div-mul-add, mod-mul-add, mul-add-lt, div_below, mod_below}
-use Rattle.tariff_compile.specs.Cells.{IsBefore, IsBelow, cell_count, cell_number, bands_of, places_of}
-use Rattle.tariff_compile.specs.declared.parts.Bands.{Bands}
+use Rattle.std.proofs.{Math.Nat.{zero-mul}, lemmas.Nat.{div-mul-add, div_below, mod-mul-add, mod_below, mul-add-lt}}
+use Rattle.tariff_compile.specs.Cells.{IsBefore, IsBelow, bands_of, cell_count, cell_number, places_of}
+use Rattle.tariff_compile.specs.Common.{Bands}
 
 -- one dimension more
 pub digit_below : (n count size digit : ℕ) → n < count → digit < size → n * size + digit < count * size

@@ -1,18 +1,11 @@
 //! Why a look-up in the tables is enough.
-ghost use Rattle.std.specs.Prelude.{◌≡◌, ℕ, ◌<◌, Some, length};
-ghost use Rattle.std.specs.List.{slice_get};
-ghost use Rattle.tariff_calendar.specs.Range.{IsInRangeOf};
-ghost use Rattle.tariff_check.specs.Cells.{cells_of};
-ghost use Rattle.tariff_check.specs.Faults.{IsSound};
+ghost use Rattle.std.specs.{List.{slice_get}, Prelude.{ℕ, ◌<◌, ◌≡◌, Some, length}};
+ghost use Rattle.{tariff_check.specs.Amounts.{HasAmountsOf}, tariff_compile.specs.Common.{cells_of, initial_by}};
 ghost use Rattle.tariff_compile.specs.Cells.{IsBefore, IsBelow, bands_of, cell_count, cell_number, places_of};
+ghost use Rattle.tariff_compile.specs.Common.{Bands, CellLines, Context, IsInRangeOf, IsSound, IsWritable, Tree};
 ghost use Rattle.tariff_compile.specs.Rows.{all_rows, row_count, row_text};
-ghost use Rattle.tariff_compile.specs.Tables.{HasLinesOf, HasWeightsOf, IsCompiled, IsFit, IsInRangeFor, IsTablesOf, TableParts, cell_of, fees_in, lines_at, lines_in, rate_by, tables_of};
-ghost use Rattle.tariff_check.specs.Amounts.{HasAmountsOf, initial_by};
-ghost use Rattle.tariff_compile.specs.declared.parts.Bands.{Bands};
-ghost use Rattle.tariff_compile.specs.declared.cells.CellLines.{CellLines};
-ghost use Rattle.tariff_syntax.specs.Tree.{Tree};
-ghost use Rattle.tariff_syntax.specs.Writable.{IsWritable};
-ghost use Rattle.tariff_syntax.specs.declared.context.Context.{Context};
+ghost use Rattle.tariff_compile.specs.Tables.{HasLinesOf, HasWeightsOf, IsCompiled, IsFit, IsInRangeFor, IsTablesOf};
+ghost use Rattle.tariff_compile.specs.Tables.{TableParts, cell_of, fees_in, lines_at, lines_in, rate_by, tables_of};
 
 /// The law of tables, for each sound tariff, constant and context that a trip may have: the context's cell is there,
 /// and its lines are those that hold first by the tariff's tree. What is looked up is what those lines say: weights,

@@ -1,26 +1,15 @@
 //! What the tariff language means. The relations of texts share with the parser the tables of bytes (blanks, letters,
 //! the bytes of a figure), and the cutting into lines, which has its law here. With the printed form they share the
 //! words, the parts of entries, and the tables of the names of weekdays and of roundings.
-ghost use Rattle.std.specs.Prelude.{◌≡◌, ◌<◌, ◌↔◌, ◌⊎◌, ℕ, List, [], All, Option, Some, Ok, Err};
-ghost use Rattle.std.specs.List.{AllPairs, Contains, slice_get};
-ghost use Rattle.tariff_syntax.specs.BadLines.{bad_lines};
+ghost use Rattle.{std.specs.List.{AllPairs, Contains, slice_get}, tariff_syntax.specs.Meaning.{place_of, rate_place}};
+ghost use Rattle.std.specs.Prelude.{[], ℕ, ◌<◌, ◌↔◌, ◌≡◌, ◌⊎◌, All, Err, List, Ok, Option, Some};
+ghost use Rattle.tariff_syntax.specs.{BadLines.{bad_lines}, Condition.{Condition}, Formless.{HasNoForm}, Token.{Token}};
 ghost use Rattle.tariff_syntax.specs.Choices.{choices, conditions_of, initial_part, minimum_part, rate_part};
-ghost use Rattle.tariff_syntax.specs.Condition.{Condition};
-ghost use Rattle.tariff_syntax.specs.IsItem.{IsItem};
-ghost use Rattle.tariff_syntax.specs.LineTable.{HasTableRanges, IsTableLine};
-ghost use Rattle.tariff_syntax.specs.Formless.{HasNoForm};
+ghost use Rattle.tariff_syntax.specs.{Common.{Context}, IsItem.{IsItem}, Parsed.{tree_parsed}, Tree.{Entry, Tree}};
+ghost use Rattle.tariff_syntax.specs.{LineTable.{HasTableRanges, IsTableLine}, Writable.{IsWritable, IsWritableEntry}};
 ghost use Rattle.tariff_syntax.specs.Meaning.{IsFirstPlace, at_hiring, holds_if, initial_place, minimum_place};
-ghost use Rattle.tariff_syntax.specs.Meaning.{place_of, rate_place};
-ghost use Rattle.tariff_syntax.specs.Parentheses.{NeedsParentheses};
-ghost use Rattle.tariff_syntax.specs.Parsed.{tree_parsed};
-ghost use Rattle.tariff_syntax.specs.Printed.{printed_form};
-ghost use Rattle.tariff_syntax.specs.Reads.{Reads, IsFirstBadLine, RiseInNumber};
-ghost use Rattle.tariff_syntax.specs.Renumbered.{renumbered};
-ghost use Rattle.tariff_syntax.specs.TextLines.{AreLines, lines_of};
-ghost use Rattle.tariff_syntax.specs.Token.{Token};
-ghost use Rattle.tariff_syntax.specs.Tree.{Entry, Tree};
-ghost use Rattle.tariff_syntax.specs.Writable.{IsWritable, IsWritableEntry};
-ghost use Rattle.tariff_syntax.specs.declared.context.Context.{Context};
+ghost use Rattle.tariff_syntax.specs.{Parentheses.{NeedsParentheses}, Reads.{IsFirstBadLine, Reads, RiseInNumber}};
+ghost use Rattle.tariff_syntax.specs.{Printed.{printed_form}, Renumbered.{renumbered}, TextLines.{AreLines, lines_of}};
 
 /// The law of texts: a text either reads as a tariff, and as no other, or it has a first bad line, and no other.
 pub fn texts_read_as_one_tariff()

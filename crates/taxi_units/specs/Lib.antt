@@ -20,3 +20,4 @@ pub mod Time
 pub mod Weekdays
 pub mod Words
 pub mod Written
+pub mod Common

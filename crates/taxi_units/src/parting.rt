@@ -1,5 +1,5 @@
 //! Bytes that are parted at a byte.
-ghost use Rattle.std.specs.Prelude.{◌≡◌, ◌∷◌, ◌++◌, MatchOption};
+ghost use Rattle.std.specs.Prelude.{◌++◌, ◌∷◌, ◌≡◌, MatchOption};
 ghost use Rattle.taxi_units.specs.PartedBytes.{HasNone};
 
 /// The bytes before the first one that is this byte, and those after it. All bytes and `None` if none is.

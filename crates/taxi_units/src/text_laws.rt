@@ -1,16 +1,12 @@
 //! What the texts of numbers and words mean, in words that share nothing with how they are read and
 //! written: the laws of this crate on texts.
-ghost use Rattle.std.specs.Prelude.{◌≡◌, ℕ, ◌+◌, ◌-◌, ◌*◌, ◌<◌, ◌≤◌, ◌^◌, ◌++◌, ◌↔◌, List, length, take, drop, get_or, max, Result, Ok, Some};
-ghost use Rattle.std.specs.Fmt.{decimal};
-ghost use Rattle.std.specs.Str.Parse.{digits_value_after};
-ghost use Rattle.taxi_units.specs.declared.decimal.NumberFault.{NumberFault};
-ghost use Rattle.taxi_units.specs.Digits.{IsFigure};
-ghost use Rattle.taxi_units.specs.Number.{NoDigitFirst, HasDigitsInFront, IsFigureAt, IsNumberAt, IsNumberOfWidth};
-ghost use Rattle.taxi_units.specs.Number.{padded_text, money_text, decimal_read, digits_at_front};
-ghost use Rattle.taxi_units.specs.Number.{figure_at, figure_in, number_at, number_of_width};
-ghost use Rattle.taxi_units.specs.Decimal.{IsReadAs};
+ghost use Rattle.std.specs.{Fmt.{decimal}, Prelude.{get_or, length, max, take}, Str.Parse.{digits_value_after}};
+ghost use Rattle.std.specs.Prelude.{ℕ, ◌*◌, ◌++◌, ◌+◌, ◌-◌, ◌<◌, ◌^◌, ◌↔◌, ◌≡◌, ◌≤◌, List, Ok, Result, Some, drop};
+ghost use Rattle.taxi_units.specs.{Common.{NumberFault}, Written.{IsAmountText, IsNumberText, IsPaddedText}};
+ghost use Rattle.taxi_units.specs.{Decimal.{IsReadAs}, Digits.{IsFigure}, Number.{number_of_width, padded_text}};
+ghost use Rattle.taxi_units.specs.Number.{HasDigitsInFront, IsFigureAt, IsNumberAt, IsNumberOfWidth, NoDigitFirst};
+ghost use Rattle.taxi_units.specs.Number.{decimal_read, digits_at_front, figure_at, figure_in, money_text, number_at};
 ghost use Rattle.taxi_units.specs.Reading.{word_at};
-ghost use Rattle.taxi_units.specs.Written.{IsNumberText, IsPaddedText, IsAmountText};
 
 /// What is written as an amount is read as that amount, with as many decimals.
 pub fn amounts_read_back()

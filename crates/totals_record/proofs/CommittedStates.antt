@@ -1,20 +1,11 @@
 -- The state after a list of commits, and after one list and then another.
-use Rattle.std.proofs.Common.{◌≡◌, inl, inr, ℕ, ◌+◌, Bool, true, false, if◌then◌else◌, List, [], ◌∷◌, ◌++◌, length}
-use Rattle.std.proofs.Common.{Option, Some, None, refl, sym, ◌∙◌, ap, subst, append_assoc, arith, length-append}
-use Rattle.std.specs.List.{All}
-use Rattle.std.proofs.lemmas.List.Elements.{All-append, All-cons, All-nil}
-use Rattle.totals_record.specs.declared.change.Change.{Change}
-use Rattle.totals_record.specs.declared.change.Change.TheVariants.{Enter, Hold}
-use Rattle.totals_record.specs.declared.durable_state.Durable.{Durable}
-use Rattle.totals_record.specs.declared.entry.Entry.{Entry}
-use Rattle.totals_record.specs.declared.totals.Totals.{Totals}
-use Rattle.totals_record.specs.declared.trip.Trip.{Trip}
-use Rattle.totals_record.specs.Entries.{AddsUp, closes, totals_of}
-use Rattle.totals_record.specs.Ranges.{newest_layout}
-use Rattle.totals_record.specs.States.{after, after_all, entries_of, held_after, layout_after, IsRoaming, IsLast}
-use Rattle.totals_record.specs.States.{IsHeldAfter}
-use Rattle.totals_record.specs.Sums.{GrowsBy}
-use Rattle.totals_record.proofs.EntrySums.{adds_then, adds_up}
+use Rattle.std.{specs.List.{All}, proofs.lemmas.List.Elements.{All-append, All-cons, All-nil}}
+use Rattle.std.proofs.Common.{[], ℕ, ◌++◌, ◌+◌, ◌∙◌, ◌∷◌, ◌≡◌, Bool, List, None, Option, Some, ap, append_assoc, arith}
+use Rattle.std.proofs.Common.{false, if◌then◌else◌, inl, inr, length, length-append, refl, subst, sym, true}
+use Rattle.totals_record.specs.{Common.{Change, Durable, Enter, Entry, Hold, Totals, Trip}, States.{layout_after}}
+use Rattle.totals_record.{specs.Entries.{AddsUp, closes, totals_of}, proofs.EntrySums.{adds_then, adds_up}}
+use Rattle.totals_record.specs.{Ranges.{newest_layout}, Sums.{GrowsBy}}
+use Rattle.totals_record.specs.States.{IsHeldAfter, IsLast, IsRoaming, after, after_all, entries_of, held_after}
 
 number_after : (opening : Durable) (changes : List Change)
     → (after_all opening changes).number ≡ opening.number + length changes

@@ -1,15 +1,9 @@
 -- Totals are sums over lists of entries.
-use Rattle.std.proofs.Common.{◌≡◌, ◌≤◌, ℕ, ◌+◌, ◌-◌, List, [], ◌∷◌, ◌++◌, length, refl, ◌∙◌, ap}
-use Rattle.std.proofs.Common.{arith}
-use Rattle.std.specs.List.{sum_by}
-use Rattle.std.proofs.lemmas.List.Sums.{sum_by-append, sum_by-cons}
-use Rattle.totals_record.specs.declared.entry.Entry.{Entry}
-use Rattle.totals_record.specs.declared.totals.Share.{Share}
-use Rattle.totals_record.specs.declared.totals.Totals.{Totals}
-use Rattle.totals_record.specs.Entries.{AddsUp, ShareAddsUp, distance_of, fare_at, fare_of_entry}
-use Rattle.totals_record.specs.Entries.{hired_of, hirings_at, hirings_of, share_of, share_with, supplements_of}
-use Rattle.totals_record.specs.Entries.{totals_of, totals_with}
-use Rattle.totals_record.proofs.Shares.{length_same, share_at_place}
+use Rattle.std.{specs.List.{sum_by}, proofs.lemmas.List.Sums.{sum_by-append, sum_by-cons}}
+use Rattle.std.proofs.Common.{[], ℕ, ◌++◌, ◌+◌, ◌-◌, ◌∙◌, ◌∷◌, ◌≡◌, ◌≤◌, List, ap, arith, length, refl}
+use Rattle.totals_record.{specs.Common.{Entry, Share, Totals}, proofs.Shares.{length_same, share_at_place}}
+use Rattle.totals_record.specs.Entries.{AddsUp, ShareAddsUp, distance_of, fare_at, fare_of_entry, hired_of, hirings_at}
+use Rattle.totals_record.specs.Entries.{hirings_of, share_of, share_with, supplements_of, totals_of, totals_with}
 
 -- what each entry adds to a number is added by all of them
 sum_of : (field : Totals → ℕ) (part : Entry → ℕ)

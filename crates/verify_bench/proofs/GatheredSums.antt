@@ -1,22 +1,11 @@
 -- The sums of intervals, gathered one by one.
-use Rattle.std.proofs.Common.{◌≡◌, ◌≢◌, ℕ, zero, suc, ◌+◌, ◌*◌, ◌≤◌, ◌∙◌, List, [], ◌∷◌, ◌++◌, refl, ap, sym, map, sum}
-use Rattle.std.proofs.Common.{filter, true, false, Bool, inl, inr, arith}
-use Rattle.std.specs.Prelude.{nat_eq}
-use Rattle.std.proofs.lemmas.Bool.{eq-eqb}
-use Rattle.std.proofs.lemmas.Bool.Decides.{eqb_tells}
-use Rattle.std.proofs.lemmas.List.Elements.{filter-append}
-use Rattle.std.proofs.lemmas.List.Sums.{sum-map, sum_by-append}
-use Rattle.std.proofs.Math.Nat.{mul-add}
-use Rattle.meter_model.specs.Charge.{charge_at}
-use Rattle.meter_model.specs.Setting.{Setting}
-use Rattle.meter_model.specs.Trip.{Part, InHired, charge_in, pulses_in, ticks_in}
-use Rattle.tariff_syntax.specs.declared.context.Context.{Context}
+use Rattle.{std.specs.Prelude.{nat_eq}, verify_bench.specs.Common.{charge_at, charge_in, pulses_in, ticks_in}}
+use Rattle.std.proofs.Common.{[], ℕ, ◌*◌, ◌++◌, ◌+◌, ◌∙◌, ◌∷◌, ◌≡◌, ◌≢◌, ◌≤◌, Bool, List, ap, arith, false, filter, inl}
+use Rattle.std.proofs.{Common.{inr, map, refl, suc, sum, sym, true, zero}, lemmas.List.Sums.{sum-map, sum_by-append}}
+use Rattle.std.proofs.{Math.Nat.{mul-add}, lemmas.{Bool.{eq-eqb, Decides.{eqb_tells}}, List.Elements.{filter-append}}}
+use Rattle.verify_bench.specs.Common.{Both, Context, Distance, InHired, Part, RateSums, Setting, Sums, Time, Way}
 use Rattle.verify_bench.specs.Gathered.{IsTableOf, all_ways, no_rate_sums, no_sums, rate_at, rate_sums_with, sums_with}
 use Rattle.verify_bench.specs.Groups.{is_charged_by, is_same_way, rate_place_of, rate_sums, sums_of, way_of}
-use Rattle.verify_bench.specs.declared.explained.Sums.{Sums}
-use Rattle.verify_bench.specs.declared.explained.Way.{Way}
-use Rattle.verify_bench.specs.declared.explained.Way.TheVariants.{Distance, Time, Both}
-use Rattle.verify_bench.specs.declared.sums.RateSums.{RateSums}
 
 pub sum_more : (f : Part → ℕ) (parts more : List Part)
     → sum (map f (parts ++ more)) ≡ sum (map f parts) + sum (map f more)

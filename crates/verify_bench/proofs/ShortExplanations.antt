@@ -1,31 +1,14 @@
 -- What a drive should come to, by its explanations.
-use Rattle.std.proofs.Common.{◌≡◌, ℕ, ◌+◌, ◌∙◌, List, [], ◌∷◌, ◌++◌, refl, ap, sym, map, sum, Option, Some, None, arith}
-use Rattle.std.proofs.Common.{append_assoc}
-use Rattle.std.proofs.lemmas.List.{map-append}
-use Rattle.std.proofs.lemmas.Simd.{map-map}
-use Rattle.meter_model.specs.Interval.{left_in, ticks_so_far}
-use Rattle.meter_model.specs.Meter.{Meter}
-use Rattle.meter_model.specs.Run.{ended}
-use Rattle.meter_model.specs.Setting.{Setting}
-use Rattle.meter_model.specs.Step.{step}
-use Rattle.meter_model.specs.Trip.{Part, Rest, MeterTrip, ticks_in}
-use Rattle.meter_model.specs.declared.act.Act.{Act}
-use Rattle.tariff_syntax.specs.declared.context.Context.{Context}
-use Rattle.taxi_units.specs.declared.event.Event.{Event}
+use Rattle.std.proofs.Common.{[], ℕ, ◌++◌, ◌+◌, ◌∙◌, ◌∷◌, ◌≡◌, List, None, Option, Some, ap, append_assoc, arith, map}
+use Rattle.std.proofs.{Common.{refl, sum, sym}, lemmas.{List.{map-append}, Simd.{map-map}}}
+use Rattle.verify_bench.specs.{Bench.{GoesThroughEvent}, ExpectedReceipts.{hirings_from, hirings_in, ticks_at}}
+use Rattle.verify_bench.{specs.BenchProgress.{Carries, IsAmidExpected}, proofs.GatheredSums.{sum_more}}
+use Rattle.verify_bench.specs.Common.{Act, BenchMeter, Context, Event, Expected, Explained, ForHire, Hired, Meter}
+use Rattle.verify_bench.specs.Common.{MeterTrip, Off, Operating, Part, Rest, Setting, Stopped, ended, left_in, step}
+use Rattle.verify_bench.specs.{Common.{ticks_in, ticks_so_far}, TripExplanations.{hired_at, trip_at}}
+use Rattle.verify_bench.specs.{Receipts.{receipts_in}, Shortened.{short_of}}
+use Rattle.verify_bench.specs.TripExplanations.{explanation, explanation_of, explanations_from, explanations_in}
 use Rattle.taxi_units.specs.declared.event.Event.TheVariants as events
-use Rattle.taxi_units.specs.declared.event.Operating.{Operating}
-use Rattle.taxi_units.specs.declared.event.Operating.TheVariants.{Off, ForHire, Hired, Stopped}
-use Rattle.verify_bench.specs.Bench.{GoesThroughEvent}
-use Rattle.verify_bench.specs.BenchProgress.{Carries, IsAmidExpected}
-use Rattle.verify_bench.specs.ExpectedReceipts.{hirings_from, hirings_in, ticks_at}
-use Rattle.verify_bench.specs.TripExplanations.{explanation, explanation_of, explanations_from, explanations_in, hired_at}
-use Rattle.verify_bench.specs.TripExplanations.{trip_at}
-use Rattle.verify_bench.specs.Receipts.{receipts_in}
-use Rattle.verify_bench.proofs.GatheredSums.{sum_more}
-use Rattle.verify_bench.specs.Shortened.{short_of}
-use Rattle.verify_bench.specs.declared.expected.Expected.{Expected}
-use Rattle.verify_bench.specs.declared.explained.Explained.{Explained}
-use Rattle.verify_bench.specs.declared.bench_meter.BenchMeter.{BenchMeter}
 
 -- the receipts of acts
 short_in : (s : Setting) (hired : Context) (trip : Option MeterTrip) (acts : List Act)

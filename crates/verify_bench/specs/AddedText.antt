@@ -1,11 +1,8 @@
 -- For proofs: what the writing of lines adds to a text. Generated says which lines are written.
-use Rattle.std.specs.Prelude.{◌≡◌, ℕ, ◌+◌, ◌≤◌, ◌++◌, List, length, flat_map}
-use Rattle.arrayvec.specs.ArrayVec.{array_vec_len}
-use Rattle.drive_text.specs.Runs.{run_events}
-use Rattle.drive_text.specs.declared.run.Run.{Run}
-use Rattle.taxi_units.specs.Line.{line_size}
-use Rattle.verify_bench.specs.Generated.{Place, Written, lines_text}
-use Rattle.verify_bench.specs.declared.writing.Writing.{Writing}
+use Rattle.std.specs.Prelude.{ℕ, ◌++◌, ◌+◌, ◌≡◌, ◌≤◌, List, flat_map, length}
+use Rattle.{arrayvec.specs.ArrayVec.{array_vec_len}, taxi_units.specs.Line.{line_size}}
+use Rattle.verify_bench.specs.Common.{Run, run_events}
+use Rattle.verify_bench.specs.{Generated.{Place, Written, lines_text}, declared.writing.Writing.{Writing}}
 
 -- lines have as many events as their runs together
 abbrev pub lines_events : List Run → ℕ

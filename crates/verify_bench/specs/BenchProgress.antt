@@ -1,15 +1,8 @@
 -- For proofs: how far the bench has carried out a drive. TripExplanations says what the whole drive comes to.
-use Rattle.std.specs.Prelude.{◌≡◌, ◌++◌, List, map}
-use Rattle.meter_model.specs.Meter.{Meter}
-use Rattle.meter_model.specs.Setting.{Setting}
-use Rattle.tariff_syntax.specs.declared.context.Context.{Context}
-use Rattle.taxi_units.specs.declared.event.Event.{Event}
-use Rattle.verify_bench.specs.Bench.{BenchStands}
+use Rattle.std.specs.Prelude.{◌++◌, ◌≡◌, List, map}
+use Rattle.verify_bench.specs.{Bench.{BenchStands}, TripExplanations.{Explanation, explanation_of, explanations_from}}
+use Rattle.verify_bench.specs.Common.{BenchMeter, Context, Event, Expected, Explained, Meter, Setting}
 use Rattle.verify_bench.specs.ExpectedReceipts.{hirings_from}
-use Rattle.verify_bench.specs.TripExplanations.{Explanation, explanation_of, explanations_from}
-use Rattle.verify_bench.specs.declared.expected.Expected.{Expected}
-use Rattle.verify_bench.specs.declared.explained.Explained.{Explained}
-use Rattle.verify_bench.specs.declared.bench_meter.BenchMeter.{BenchMeter}
 
 -- a meter of the bench is amid a drive if what was found, with the explanations behind it to which the events left come
 -- from the state for which the meter stands, is all to which the drive comes

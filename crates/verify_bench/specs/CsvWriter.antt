@@ -1,9 +1,8 @@
 -- For proofs: rows that are written as csv, with the writer between two rows, and a row that is made field by field.
 -- Report says which rows are written.
-use Rattle.std.specs.Prelude.{◌≡◌, ℕ, List, [], Option, Some, false}
-use Rattle.csv.specs.Records.{Row, fields_of, partial_of}
+use Rattle.std.specs.Prelude.{[], ℕ, ◌≡◌, List, Option, Some, false}
+use Rattle.csv.specs.{Records.{Row, fields_of, partial_of}, declared.writer.Writer.{Writer}}
 use Rattle.csv.specs.Writing.{default_writer, fields_written, has_written, text_written, writer_setup}
-use Rattle.csv.specs.declared.writer.Writer.{Writer}
 
 -- a writer has rows of this text if it has written the text, with its default settings, and has begun no row
 pub record HasRows {W : Type 0} (contents : W → Option (List ℕ)) (writer : Writer W) (text : List ℕ) : Type 0 where

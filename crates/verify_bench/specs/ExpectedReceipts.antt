@@ -1,17 +1,8 @@
 -- Rules: what a drive should come to, which is the receipts of the meter's run with the ticks of their trips.
-use Rattle.std.specs.Prelude.{ℕ, List, [], ◌∷◌, ◌++◌, map}
-use Rattle.meter_model.specs.Interval.{interval_counted, ticks_so_far}
-use Rattle.meter_model.specs.Meter.{Meter}
-use Rattle.meter_model.specs.Run.{ended, opened}
-use Rattle.meter_model.specs.Setting.{Setting}
-use Rattle.meter_model.specs.Step.{step}
-use Rattle.meter_model.specs.declared.act.Act.{Act}
-use Rattle.taxi_units.specs.declared.event.Event.{Event}
+use Rattle.std.specs.Prelude.{[], ℕ, ◌++◌, ◌∷◌, List, map}
+use Rattle.verify_bench.specs.Common.{Act, Event, Expected, Meter, Receipt, Setting, ended, first_state}
+use Rattle.verify_bench.specs.{Common.{interval_counted, opened, step, ticks_so_far}, Receipts.{receipts_in}}
 use Rattle.taxi_units.specs.declared.event.Event.TheVariants as events
-use Rattle.taxi_units.specs.declared.receipt.Receipt.{Receipt}
-use Rattle.totals_record.specs.States.{first_state}
-use Rattle.verify_bench.specs.Receipts.{receipts_in}
-use Rattle.verify_bench.specs.declared.expected.Expected.{Expected}
 
 -- a hiring has the kind, the fare and the distance of its receipt, with the ticks of the trip
 abbrev pub hiring_of : (ticks : ℕ) → Receipt → Expected

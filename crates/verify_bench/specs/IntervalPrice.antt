@@ -1,14 +1,9 @@
 -- For proofs: the price of an interval, as the bench finds it. Groups says what its rate and its way are, and Charge,
 -- of meter_model, what its charge is.
-use Rattle.std.specs.Prelude.{◌≡◌, ℕ, ◌*◌, ◌≤◌}
-use Rattle.drive_modes.specs.declared.charges.Mode.{Mode}
-use Rattle.meter_model.specs.Charge.{charge_at, charge_by}
-use Rattle.meter_model.specs.Setting.{Setting, unit_of}
-use Rattle.tariff_check.specs.Parts.{RateNumbers}
-use Rattle.tariff_syntax.specs.declared.context.Context.{Context}
-use Rattle.verify_bench.specs.Groups.{rate_place_of, way_by, way_of}
+use Rattle.std.specs.Prelude.{ℕ, ◌*◌, ◌≡◌, ◌≤◌}
+use Rattle.verify_bench.specs.Common.{Context, Mode, RateNumbers, Setting, charge_at, charge_by, unit_of}
+use Rattle.verify_bench.specs.{Groups.{rate_place_of, way_by, way_of}, declared.pricing.Price.{Price}}
 use Rattle.verify_bench.specs.Limits.{most_money}
-use Rattle.verify_bench.specs.declared.pricing.Price.{Price}
 
 -- a price is that of an interval if it has the place of its rate line, its way and its charge, which is at most
 -- 41 * 10^9 of the smallest units of money

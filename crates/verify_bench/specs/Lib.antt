@@ -29,3 +29,4 @@ pub mod TripExplanations
 pub mod VerdictStages
 pub mod Verdicts
 pub mod Wholes
+pub mod Common

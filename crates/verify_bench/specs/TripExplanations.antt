@@ -1,32 +1,13 @@
 -- Rules: why the fare of each hiring of a drive is what it is, by the whole list of its intervals.
-use Rattle.std.specs.Prelude.{ℕ, ◌==◌, List, [], ◌∷◌, ◌++◌, Option, Some, None, flat_map, filter, map, if◌then◌else◌}
-use Rattle.std.specs.List.{range_with_len}
-use Rattle.meter_model.specs.Interval.{context_now, interval_counted, interval_left, pulses_so_far, ticks_so_far}
-use Rattle.meter_model.specs.Meter.{Meter}
-use Rattle.meter_model.specs.Run.{ended, opened}
-use Rattle.meter_model.specs.Setting.{Setting}
-use Rattle.meter_model.specs.Step.{step}
-use Rattle.meter_model.specs.Supplements.{amount_in, times}
-use Rattle.meter_model.specs.Trip.{Part, MeterTrip, charges_of}
-use Rattle.meter_model.specs.declared.act.Act.{Act}
-use Rattle.tariff_check.specs.SoundTariff.{SoundTariff, supplement_numbered}
-use Rattle.tariff_syntax.specs.declared.context.Context.{Context}
-use Rattle.taxi_units.specs.declared.event.Event.{Event}
-use Rattle.taxi_units.specs.declared.event.Event.TheVariants as events
-use Rattle.taxi_units.specs.declared.event.Key.{Key}
-use Rattle.taxi_units.specs.declared.event.Key.TheVariants.{Hire}
-use Rattle.taxi_units.specs.declared.event.Operating.{Operating}
-use Rattle.taxi_units.specs.declared.event.Operating.TheVariants.{ForHire}
-use Rattle.taxi_units.specs.declared.receipt.Receipt.{Receipt}
-use Rattle.totals_record.specs.States.{first_state}
+use Rattle.{std.specs.List.{range_with_len}, meter_model.specs.Trip.{charges_of}}
+use Rattle.std.specs.Prelude.{[], ℕ, ◌++◌, ◌==◌, ◌∷◌, List, None, Option, Some, filter, flat_map, if◌then◌else◌, map}
+use Rattle.verify_bench.specs.Common.{Act, Context, Event, Explained, ForHire, Group, Hire, HiringFees, Key, Meter}
+use Rattle.verify_bench.specs.Common.{MeterTrip, Operating, Part, Receipt, Setting, SoundTariff, Sums, Taken, amount_in}
+use Rattle.verify_bench.specs.Common.{context_now, ended, first_state, interval_counted, interval_left, opened}
+use Rattle.verify_bench.specs.Common.{pulses_so_far, step, supplement_numbered, ticks_so_far, times}
 use Rattle.verify_bench.specs.Fees.{fees_of_hiring}
-use Rattle.verify_bench.specs.Groups.{groups_of, is_rest, is_in_stopped, sums_of}
-use Rattle.verify_bench.specs.Receipts.{receipts_in}
-use Rattle.verify_bench.specs.declared.explained.Explained.{Explained}
-use Rattle.verify_bench.specs.declared.explained.Group.{Group}
-use Rattle.verify_bench.specs.declared.explained.Sums.{Sums}
-use Rattle.verify_bench.specs.declared.explained.Taken.{Taken}
-use Rattle.verify_bench.specs.declared.fees.HiringFees.{HiringFees}
+use Rattle.verify_bench.specs.{Groups.{groups_of, is_in_stopped, is_rest, sums_of}, Receipts.{receipts_in}}
+use Rattle.taxi_units.specs.declared.event.Event.TheVariants as events
 
 -- an explanation of a hiring has its receipt, its fees with their lines, the sums of its whole trip, the groups of its
 -- intervals in Hired, the sums of those in Stopped, the pulses of unfinished ones, and its supplements

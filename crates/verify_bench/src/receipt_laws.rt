@@ -1,9 +1,6 @@
 //! What the expected list is, by the actions of the meter.
 ghost use Rattle.std.specs.Prelude.{◌≡◌, List, map};
-ghost use Rattle.meter_model.specs.Run.{actions_of};
-ghost use Rattle.meter_model.specs.Setting.{Setting};
-ghost use Rattle.taxi_units.specs.declared.event.Event.{Event};
-ghost use Rattle.totals_record.specs.States.{first_state};
+ghost use Rattle.verify_bench.specs.Common.{Event, Setting, actions_of, first_state};
 ghost use Rattle.verify_bench.specs.ExpectedReceipts.{expected_of, hirings_in, untimed};
 
 /// A law: the expected list has one hiring for each receipt of the meter's actions on an empty store, in order, with

@@ -1,19 +1,9 @@
 //! What explanations are of, and what they add up to.
-ghost use Rattle.std.specs.Prelude.{◌≡◌, ℕ, List, All, map};
-ghost use Rattle.drive_modes.specs.declared.charges.Mode.{Mode};
-ghost use Rattle.meter_model.specs.Charge.{charge_by};
-ghost use Rattle.meter_model.specs.Run.{actions_of};
-ghost use Rattle.meter_model.specs.Setting.{Setting};
-ghost use Rattle.tariff_check.specs.Faults.{IsSound};
-ghost use Rattle.tariff_check.specs.Parts.{RateNumbers};
-ghost use Rattle.tariff_check.specs.SoundTariff.{sound_of};
-ghost use Rattle.tariff_syntax.specs.Tree.{Tree};
-ghost use Rattle.taxi_units.specs.declared.event.Event.{Event};
-ghost use Rattle.totals_record.specs.States.{first_state};
-ghost use Rattle.verify_bench.specs.TripExplanations.{Explanation, explanations_of};
-ghost use Rattle.verify_bench.specs.Groups.{way_by};
-ghost use Rattle.verify_bench.specs.Receipts.{receipts_in};
-ghost use Rattle.verify_bench.specs.Wholes.{ArePartsTheWhole, HasFees, HasGroups, IsOfTrip, MakesReceipt, charge_in_way};
+ghost use Rattle.std.specs.Prelude.{ℕ, ◌≡◌, All, List, map};
+ghost use Rattle.verify_bench.specs.Common.{Event, IsSound, Mode, RateNumbers, Setting, Tree, actions_of, charge_by};
+ghost use Rattle.verify_bench.specs.{Common.{first_state, sound_of}, Receipts.{receipts_in}, Wholes.{charge_in_way}};
+ghost use Rattle.verify_bench.specs.{Groups.{way_by}, TripExplanations.{Explanation, explanations_of}};
+ghost use Rattle.verify_bench.specs.Wholes.{ArePartsTheWhole, HasFees, HasGroups, IsOfTrip, MakesReceipt};
 
 /// A law: the explanations of a drive have the receipts of the meter's actions on a new store, one for each, in order.
 /// Each is of the trip that was closed with that receipt, by the context in which the meter hired it, and with each

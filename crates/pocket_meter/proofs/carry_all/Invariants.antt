@@ -1,11 +1,6 @@
-use Rattle.std.proofs.Common.{◌≡◌, ◌≤◌, ◌+◌, ◌*◌, ◌++◌, take}
-use Rattle.meter_model.specs.Run.{opened, run}
-use Rattle.meter_model.specs.Setting.{Setting}
-use Rattle.meter_states.specs.Setting.{IsSettingOf}
-use Rattle.totals_record.specs.States.{first_state}
-use Rattle.meter_run.specs.BetweenEvents.{StandsWith}
-use Rattle.meter_run.specs.Dry.{IsMeterReady}
-use Rattle.meter_run.specs.Texts.{shown_texts}
+use Rattle.std.proofs.Common.{◌*◌, ◌++◌, ◌+◌, ◌≡◌, ◌≤◌, take}
+use Rattle.meter_run.specs.{BetweenEvents.{StandsWith}, Dry.{IsMeterReady}}
+use Rattle.pocket_meter.specs.Common.{IsSettingOf, Setting, first_state, opened, run, shown_texts}
 use Rattle.pocket_meter.proofs.carry_all.Given as goal
 
 abbrev pub invariant-loop-event : goal.invariant-loop-event

@@ -1,7 +1,5 @@
-use Rattle.std.proofs.Common.{ℕ, List, length, subst}
-use Rattle.call_ends.specs.Making.{Prints, end_printed}
-use Rattle.call_ends.specs.Pieces.{pieces_of}
-use Rattle.call_ends.proofs.Making.{prints-by, prints-none}
+use Rattle.{std.proofs.Common.{ℕ, List, length, subst}, call_ends.proofs.Making.{prints-by, prints-none}}
+use Rattle.call_ends.specs.{Making.{Prints, end_printed}, Pieces.{pieces_of}}
 use Rattle.call_ends.proofs.made.print_made.Goals as goal
 
 pub returns : goal.returns

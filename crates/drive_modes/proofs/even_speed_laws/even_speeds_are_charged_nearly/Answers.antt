@@ -1,6 +1,5 @@
-use Rattle.drive_modes.proofs.Charged.{as_one_least}
+use Rattle.drive_modes.proofs.{Charged.{as_one_least}, EvenSpeeds.{exact_above, exact_below, exact_free, nearly}}
 use Rattle.drive_modes.proofs.Coarseness.{most_even, own_share, quarter, share}
-use Rattle.drive_modes.proofs.EvenSpeeds.{exact_above, exact_below, exact_free, nearly}
 use Rattle.drive_modes.proofs.even_speed_laws.even_speeds_are_charged_nearly.Goals as goal
 
 pub returns : goal.returns

@@ -1,6 +1,5 @@
-use Rattle.std.proofs.Common.{refl}
-use Rattle.interval_clock.proofs.CalendarDays.{IsDateOf-first, IsDateOf-next_date, IsDateOf-only, IsDateOf-date_after}
-use Rattle.interval_clock.proofs.CalendarDays.{places-leap}
+use Rattle.{std.proofs.Common.{refl}, interval_clock.proofs.CalendarDays.{places-leap}}
+use Rattle.interval_clock.proofs.CalendarDays.{IsDateOf-date_after, IsDateOf-first, IsDateOf-next_date, IsDateOf-only}
 use Rattle.interval_clock.proofs.calendar_laws.the_calendar_goes_day_by_day.Goals as goal
 
 pub returns-clause-first : goal.returns-clause-first

@@ -1,5 +1,4 @@
-use Rattle.meter_model.specs.Display.{display_of}
-use Rattle.meter_model.proofs.ShownDisplays.{hire-shows, same-equal, shows-none}
+use Rattle.meter_model.{specs.Display.{display_of}, proofs.ShownDisplays.{hire-shows, same-equal, shows-none}}
 use Rattle.meter_model.proofs.display_laws.displays_are_compared_by_their_fields.Goals as goal
 
 pub returns-clause-same : goal.returns-clause-same

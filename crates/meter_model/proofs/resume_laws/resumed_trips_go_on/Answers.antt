@@ -1,6 +1,4 @@
-use Rattle.meter_model.proofs.Fares.{fare-resumed}
-use Rattle.meter_model.proofs.Resumed.{resumed-saved}
-use Rattle.meter_model.proofs.ResumedForms.{forms-resumed}
+use Rattle.meter_model.proofs.{Fares.{fare-resumed}, Resumed.{resumed-saved}, ResumedForms.{forms-resumed}}
 use Rattle.meter_model.proofs.resume_laws.resumed_trips_go_on.Goals as goal
 
 pub returns-clause-saved : goal.returns-clause-saved

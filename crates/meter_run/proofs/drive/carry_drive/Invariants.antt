@@ -1,4 +1,4 @@
-use Rattle.std.proofs.Common.{◌≡◌, ◌≢◌, ℕ}
+use Rattle.std.proofs.Common.{ℕ, ◌≡◌, ◌≢◌}
 use Rattle.meter_run.proofs.WholeDrive.{IsUpTo}
 use Rattle.meter_run.proofs.drive.carry_drive.Given as goal
 

@@ -1,10 +1,6 @@
-use Rattle.std.proofs.Common.{◌∙◌, sym, subst}
-use Rattle.taxi_units.specs.declared.event.Event.{Event}
-use Rattle.meter_states.specs.Core.{Meets}
-use Rattle.meter_states.specs.Lawful.{IsTimely}
-use Rattle.meter_model.specs.Step.{step}
+use Rattle.std.proofs.Common.{◌∙◌, subst, sym}
+use Rattle.meter_run.{specs.Common.{Event, IsTimely, Meets, step}, proofs.EventOnStore.{lawful_beside}}
 use Rattle.meter_run.proofs.SupplyDrop.{came}
-use Rattle.meter_run.proofs.EventOnStore.{lawful_beside}
 use Rattle.meter_run.proofs.dry.step_or_resume.Goals as goal
 
 pub resume-powered-requires : goal.resume-powered-requires

@@ -1,5 +1,5 @@
+use Rattle.meter_model.proofs.Laws.{begins, kept-run, kept-step, kept-whole}
 use Rattle.meter_states.proofs.HeldFits.{fits-setting}
-use Rattle.meter_model.proofs.Laws.{kept-step, begins, kept-run, kept-whole}
 use Rattle.meter_states.proofs.held_trip_laws.the_store_keeps_the_trip.Goals as goal
 
 pub returns-clause-begins : goal.returns-clause-begins

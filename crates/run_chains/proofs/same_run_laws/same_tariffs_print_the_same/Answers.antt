@@ -1,5 +1,4 @@
-use Rattle.run_chains.proofs.SameStarts.{alike_begin, same_answers, same_goes_on}
-use Rattle.run_chains.proofs.SameTexts.{alike-deed}
+use Rattle.run_chains.proofs.{SameStarts.{alike_begin, same_answers, same_goes_on}, SameTexts.{alike-deed}}
 use Rattle.run_chains.proofs.same_run_laws.same_tariffs_print_the_same.Goals as goal
 
 pub returns-clause-begins : goal.returns-clause-begins

@@ -1,6 +1,6 @@
-use Rattle.same_tariffs.proofs.Laws.{intervals_are_charged_in_contexts_of_a_meter-reached}
-use Rattle.same_tariffs.proofs.Laws.{intervals_are_charged_in_contexts_of_a_meter-interval}
 use Rattle.same_tariffs.proofs.Laws.{intervals_are_charged_in_contexts_of_a_meter-hiring}
+use Rattle.same_tariffs.proofs.Laws.{intervals_are_charged_in_contexts_of_a_meter-interval}
+use Rattle.same_tariffs.proofs.Laws.{intervals_are_charged_in_contexts_of_a_meter-reached}
 use Rattle.same_tariffs.proofs.reached_laws.intervals_are_charged_in_contexts_of_a_meter.Goals as goal
 
 pub returns-clause-reached : goal.returns-clause-reached

@@ -1,5 +1,5 @@
-use Rattle.same_tariffs.proofs.Laws.{same_tariffs_run_alike-outcomes, same_tariffs_run_alike-stores}
-use Rattle.same_tariffs.proofs.Laws.{same_tariffs_run_alike-goes_on}
+use Rattle.same_tariffs.proofs.Laws.{same_tariffs_run_alike-goes_on, same_tariffs_run_alike-outcomes}
+use Rattle.same_tariffs.proofs.Laws.{same_tariffs_run_alike-stores}
 use Rattle.same_tariffs.proofs.same_laws.same_tariffs_run_alike.Goals as goal
 
 pub returns-clause-outcomes : goal.returns-clause-outcomes

@@ -1,5 +1,4 @@
-use Rattle.std.proofs.Common.{length, arith}
-use Rattle.slot_store.proofs.Moments.{write_beside, call_leaves}
+use Rattle.{std.proofs.Common.{arith, length}, slot_store.proofs.Moments.{call_leaves, write_beside}}
 use Rattle.slot_store.proofs.synced_write.write_and_sync.Goals as goal
 
 pub returns-in_err-write_at-clause-any_moment : goal.returns-in_err-write_at-clause-any_moment

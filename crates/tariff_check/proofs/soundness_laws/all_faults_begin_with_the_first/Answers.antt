@@ -1,6 +1,6 @@
-use Rattle.tariff_check.proofs.Laws.{all_faults_begin_with_the_first-first, all_faults_begin_with_the_first-none}
-use Rattle.tariff_check.proofs.Laws.{all_faults_begin_with_the_first-there, all_faults_begin_with_the_first-before_cuts}
+use Rattle.tariff_check.proofs.Laws.{all_faults_begin_with_the_first-before_cuts, all_faults_begin_with_the_first-first}
 use Rattle.tariff_check.proofs.Laws.{all_faults_begin_with_the_first-from_cuts, all_faults_begin_with_the_first-measure}
+use Rattle.tariff_check.proofs.Laws.{all_faults_begin_with_the_first-none, all_faults_begin_with_the_first-there}
 use Rattle.tariff_check.proofs.soundness_laws.all_faults_begin_with_the_first.Goals as goal
 
 pub returns-clause-first : goal.returns-clause-first

@@ -1,5 +1,5 @@
-use Rattle.tariff_check.proofs.Laws.{sound_tariffs_are_their_parts-frame, sound_tariffs_are_their_parts-one_part}
-use Rattle.tariff_check.proofs.Laws.{sound_tariffs_are_their_parts-lines, sound_tariffs_are_their_parts-supplements}
+use Rattle.tariff_check.proofs.Laws.{sound_tariffs_are_their_parts-frame, sound_tariffs_are_their_parts-lines}
+use Rattle.tariff_check.proofs.Laws.{sound_tariffs_are_their_parts-one_part, sound_tariffs_are_their_parts-supplements}
 use Rattle.tariff_check.proofs.soundness_laws.sound_tariffs_are_their_parts.Goals as goal
 
 pub returns-clause-one_part : goal.returns-clause-one_part

@@ -1,4 +1,4 @@
-use Rattle.tariff_check.proofs.Laws.{sound_tariffs_have_sound_parts-parts, sound_tariffs_have_sound_parts-none}
+use Rattle.tariff_check.proofs.Laws.{sound_tariffs_have_sound_parts-none, sound_tariffs_have_sound_parts-parts}
 use Rattle.tariff_check.proofs.soundness_laws.sound_tariffs_have_sound_parts.Goals as goal
 
 pub returns-clause-none : goal.returns-clause-none

@@ -1,11 +1,8 @@
-use Rattle.std.proofs.Common.{◌∙◌, [], Err, ap, refl, arith}
-use Rattle.tariff_syntax.specs.Tree.{tree_of}
-use Rattle.call_ends.specs.Ending.{ended_for}
-use Rattle.call_ends.specs.declared.ending.Ended.TheVariants.{Sound}
+use Rattle.std.proofs.Common.{[], ◌∙◌, Err, ap, arith, refl}
+use Rattle.call_ends.{specs.declared.ending.Ended.TheVariants.{Sound}, proofs.Laws.{reads-bad, reads-ok, refuses-bad}}
 use Rattle.call_ends.proofs.Laws.{carries-line, fails-text, makes-read, makes-unread, not_board-text, read_fault-text}
-use Rattle.call_ends.proofs.Laws.{reads-bad, reads-ok, refuses-bad}
 use Rattle.tariff_commands.specs.Check.{check_answer}
-use Rattle.tariff_commands.proofs.TariffAnswers.{checks, sound_answer}
+use Rattle.tariff_commands.{specs.Common.{ended_for, tree_of}, proofs.TariffAnswers.{checks, sound_answer}}
 use Rattle.tariff_commands.proofs.check.check_tariff.Goals as goal
 
 pub returns-in-Ok : goal.returns-in-Ok

@@ -1,15 +1,10 @@
-use Rattle.std.proofs.Common.{◌≡◌, ◌∙◌, [], Result, Err, ap, ap₂, refl, sym, arith, inl, inr, ⊎_elim}
-use Rattle.tariff_syntax.specs.Tree.{Tree, tree_of}
-use Rattle.call_ends.specs.Ending.{ended_for}
-use Rattle.call_ends.specs.Reads.{GoesTo}
-use Rattle.call_ends.specs.Tariffs.{tariff_in}
-use Rattle.call_ends.specs.declared.tariff.Refusal.{Refusal}
+use Rattle.std.proofs.Common.{[], ◌∙◌, ◌≡◌, Err, Result, ap, ap₂, arith, inl, inr, refl, sym, ⊎_elim}
+use Rattle.{call_ends.specs.Reads.{GoesTo}, tariff_commands.proofs.ComparedTariffs.{read_other}}
 use Rattle.call_ends.proofs.Laws.{ends-plain, fails-text, goes-none, goes-on, makes-answer, makes-failing, makes-none}
 use Rattle.call_ends.proofs.Laws.{no_fault, not_board-text, read_fault-text, reads-bad, reads-ok, refuses-bad}
+use Rattle.tariff_commands.specs.{Common.{Refusal, Tree, ended_for, tariff_in, tree_of}, CompareSteps.{ended_for_other}}
 use Rattle.tariff_commands.specs.Compare.{compare_answer, compare_command}
-use Rattle.tariff_commands.specs.CompareSteps.{ended_for_other}
 use Rattle.tariff_commands.proofs.ComparedTariffs.{board_other, compared_answer, compares, fails_other, plain_comparing}
-use Rattle.tariff_commands.proofs.ComparedTariffs.{read_other}
 use Rattle.tariff_commands.proofs.compare.compare_words.Goals as goal
 
 -- the first tariff wasn't read

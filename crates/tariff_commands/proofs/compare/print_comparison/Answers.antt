@@ -1,5 +1,4 @@
-use Rattle.call_ends.proofs.Laws.{carries-made}
-use Rattle.tariff_commands.proofs.ComparedTariffs.{compares}
+use Rattle.{call_ends.proofs.Laws.{carries-made}, tariff_commands.proofs.ComparedTariffs.{compares}}
 use Rattle.tariff_commands.proofs.compare.print_comparison.Goals as goal
 
 pub returns : goal.returns

@@ -1,11 +1,10 @@
-use Rattle.std.proofs.Common.{◌∙◌, [], Err, ap, refl, inl}
-use Rattle.call_ends.specs.Ending.{ended_for}
-use Rattle.call_ends.specs.declared.ending.Ended.TheVariants.{Faulty, NoMemory}
-use Rattle.call_ends.specs.declared.tariff.TextFault.TheVariants as texts
+use Rattle.std.proofs.Common.{[], ◌∙◌, Err, ap, inl, refl}
+use Rattle.{call_ends.specs.declared.ending.Ended.TheVariants.{Faulty}, tariff_commands.specs.Faults.{faults_in}}
 use Rattle.call_ends.proofs.Laws.{fails-text, makes-answer, makes-none, makes-of, makes-unread, not_board-text}
 use Rattle.call_ends.proofs.Laws.{read_fault-text, reads-bad, reads-ok, word_is}
-use Rattle.tariff_commands.specs.Faults.{faults_in}
+use Rattle.tariff_commands.specs.Common.{NoMemory, ended_for}
 use Rattle.tariff_commands.proofs.FoundFaults.{answer_refused, found_made, goes_long, long_found, not_final}
+use Rattle.call_ends.specs.declared.tariff.TextFault.TheVariants as texts
 use Rattle.tariff_commands.proofs.faults.found_in_word.Goals as goal
 
 -- the text was searched

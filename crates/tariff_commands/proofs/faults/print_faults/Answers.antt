@@ -1,5 +1,4 @@
-use Rattle.tariff_commands.specs.Faults.{faults_in}
-use Rattle.call_ends.proofs.Laws.{carries-made, word_is}
+use Rattle.{call_ends.proofs.Laws.{carries-made, word_is}, tariff_commands.specs.Faults.{faults_in}}
 use Rattle.tariff_commands.proofs.faults.print_faults.Goals as goal
 
 pub returns : goal.returns

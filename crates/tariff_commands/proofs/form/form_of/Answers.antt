@@ -1,5 +1,4 @@
-use Rattle.std.proofs.Common.{ap, inr, refl, sym}
-use Rattle.call_ends.specs.Answer.{shows}
+use Rattle.{std.proofs.Common.{ap, inr, refl, sym}, tariff_commands.specs.Common.{shows}}
 use Rattle.tariff_commands.proofs.form.form_of.Goals as goal
 
 pub returns-in-Ok : goal.returns-in-Ok

@@ -1,8 +1,5 @@
-use Rattle.std.proofs.Common.{ap, sym, subst}
-use Rattle.call_ends.specs.Answer.{Answer}
-use Rattle.call_ends.specs.Making.{IsMade}
-use Rattle.tariff_commands.specs.Form.{form_answer}
-use Rattle.tariff_commands.proofs.Forms.{form_unparsed, tree_parsed_in}
+use Rattle.{std.proofs.Common.{ap, subst, sym}, tariff_commands.proofs.Forms.{form_unparsed, tree_parsed_in}}
+use Rattle.tariff_commands.specs.{Common.{Answer, IsMade}, Form.{form_answer}}
 use Rattle.tariff_commands.proofs.form.form_of_text.Goals as goal
 
 pub returns-in-Ok : goal.returns-in-Ok

@@ -1,10 +1,7 @@
 use Rattle.std.proofs.Common.{◌∙◌, Err, ap, refl, sym}
-use Rattle.call_ends.specs.Ending.{ended_for}
-use Rattle.call_ends.specs.Tariffs.{bad_tariff}
-use Rattle.tariff_commands.specs.Form.{form_answer, tree_in}
 use Rattle.call_ends.proofs.Laws.{fails-text, makes-of, makes-unread, not_board-text, read_fault-text, reads-bad}
-use Rattle.call_ends.proofs.Laws.{reads-ok, refuses-bad, word_is}
-use Rattle.tariff_commands.proofs.Forms.{long_form}
+use Rattle.{call_ends.proofs.Laws.{reads-ok, refuses-bad, word_is}, tariff_commands.specs.Form.{form_answer, tree_in}}
+use Rattle.tariff_commands.{specs.Common.{bad_tariff, ended_for}, proofs.Forms.{long_form}}
 use Rattle.tariff_commands.proofs.form.form_of_word.Goals as goal
 
 pub returns-in-Ok : goal.returns-in-Ok

@@ -1,5 +1,4 @@
-use Rattle.tariff_commands.specs.Form.{form_answer, tree_in}
-use Rattle.call_ends.proofs.Laws.{carries-made, word_is}
+use Rattle.{call_ends.proofs.Laws.{carries-made, word_is}, tariff_commands.specs.Form.{form_answer, tree_in}}
 use Rattle.tariff_commands.proofs.form.print_form.Goals as goal
 
 pub returns : goal.returns

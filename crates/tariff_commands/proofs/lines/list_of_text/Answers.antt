@@ -1,8 +1,6 @@
-use Rattle.std.proofs.Common.{◌∙◌, Err, ap, refl, sym, inl, inr}
-use Rattle.tariff_compare.specs.Texts.{uses_text}
-use Rattle.call_ends.specs.Answer.{shows}
-use Rattle.tariff_commands.specs.Lines.{lines_answer}
-use Rattle.call_ends.proofs.Laws.{made-bad}
+use Rattle.std.proofs.Common.{◌∙◌, Err, ap, inl, inr, refl, sym}
+use Rattle.{tariff_compare.specs.Texts.{uses_text}, call_ends.proofs.Laws.{made-bad}}
+use Rattle.tariff_commands.specs.{Common.{shows}, Lines.{lines_answer}}
 use Rattle.tariff_commands.proofs.lines.list_of_text.Goals as goal
 
 pub returns-in-Err : goal.returns-in-Err

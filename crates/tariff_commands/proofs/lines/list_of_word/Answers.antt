@@ -1,9 +1,7 @@
 use Rattle.std.proofs.Common.{◌∙◌, Err, ap, refl}
-use Rattle.call_ends.specs.Ending.{ended_for}
-use Rattle.call_ends.specs.Tariffs.{tariff_in}
-use Rattle.tariff_commands.specs.Lines.{lines_answer}
 use Rattle.call_ends.proofs.Laws.{fails-text, makes-of, makes-unread, not_board-text, read_fault-text, reads-bad}
-use Rattle.call_ends.proofs.Laws.{reads-ok, refuses-bad, word_is}
+use Rattle.{call_ends.proofs.Laws.{reads-ok, refuses-bad, word_is}, tariff_commands.specs.Common.{ended_for, tariff_in}}
+use Rattle.tariff_commands.specs.Lines.{lines_answer}
 use Rattle.tariff_commands.proofs.lines.list_of_word.Goals as goal
 
 pub returns-in-Ok : goal.returns-in-Ok

@@ -1,6 +1,5 @@
-use Rattle.call_ends.specs.Tariffs.{tariff_in}
-use Rattle.tariff_commands.specs.Lines.{lines_answer}
-use Rattle.call_ends.proofs.Laws.{carries-made, word_is}
+use Rattle.{call_ends.proofs.Laws.{carries-made, word_is}, tariff_commands.specs.Lines.{lines_answer}}
+use Rattle.tariff_commands.specs.Common.{tariff_in}
 use Rattle.tariff_commands.proofs.lines.print_lines.Goals as goal
 
 pub returns : goal.returns

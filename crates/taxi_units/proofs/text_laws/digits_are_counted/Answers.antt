@@ -1,5 +1,4 @@
-use Rattle.taxi_units.proofs.Digits.{digits_in_front}
-use Rattle.taxi_units.proofs.Front.{digits_are_counted}
+use Rattle.taxi_units.proofs.{Digits.{digits_in_front}, Front.{digits_are_counted}}
 use Rattle.taxi_units.proofs.text_laws.digits_are_counted.Goals as goal
 
 pub returns : goal.returns

@@ -1,5 +1,4 @@
-use Rattle.verify_bench.proofs.Partition.{all_add_up, all_make, ways_charge}
-use Rattle.verify_bench.proofs.TripGroups.{all_have_groups}
+use Rattle.verify_bench.proofs.{Partition.{all_add_up, all_make, ways_charge}, TripGroups.{all_have_groups}}
 use Rattle.verify_bench.proofs.whole_laws.explanations_add_up.Goals as goal
 
 pub returns-clause-whole : goal.returns-clause-whole

@@ -1,15 +1,8 @@
-use Rattle.std.proofs.Common.{◌∙◌, List, [], ◌∷◌, All, arith, subst, sym}
-use Rattle.taxi_units.specs.declared.event.Event.{Event}
-use Rattle.meter_states.specs.Acts.{IsLawfulAct}
-use Rattle.meter_states.specs.Lawful.{IsTimely}
-use Rattle.meter_model.specs.Step.{step}
-use Rattle.meter_model.specs.declared.act.Act.{Act}
-use Rattle.meter_run.specs.Commits.{AreFor}
-use Rattle.meter_run.specs.OnStore.{Attempts}
-use Rattle.meter_run.proofs.SupplyDrop.{acts_for, few_commits}
+use Rattle.std.proofs.Common.{[], ◌∙◌, ◌∷◌, All, List, arith, subst, sym}
+use Rattle.meter_run.{specs.Commits.{AreFor}, proofs.SupplyDrop.{acts_for, few_commits}}
+use Rattle.meter_run.{specs.Common.{Act, Event, IsLawfulAct, IsTimely, step}, proofs.EventOnStore.{refusal_attempted}}
+use Rattle.meter_run.{specs.OnStore.{Attempts}, proofs.Supplies.{event_keeps_off, supply_keeps, unknown_keeps_off}}
 use Rattle.meter_run.proofs.EventOnStore.{event_attempted, known_ready, lawful_beside, may_known, meets_as, meets_with}
-use Rattle.meter_run.proofs.EventOnStore.{refusal_attempted}
-use Rattle.meter_run.proofs.Supplies.{event_keeps_off, supply_keeps, unknown_keeps_off}
 use Rattle.meter_run.proofs.stored.StoreMeter.carry_event.Goals as goal
 
 -- ---- the supply comes

@@ -1,12 +1,8 @@
-use Rattle.std.proofs.Common.{◌≡◌, ◌⊎◌, [], refl, inr, ap, sym, subst, ◌∙◌}
-use Rattle.meter_states.specs.Core.{CoreData}
+use Rattle.std.proofs.Common.{[], ◌∙◌, ◌≡◌, ◌⊎◌, ap, inr, refl, subst, sym}
+use Rattle.meter_states.specs.{Cache.{CachedCore, IsCacheOf}, Common.{roaming_between, run}, Core.{CoreData}}
 use Rattle.meter_states.specs.Equals.{MayGo, intervals_of}
-use Rattle.meter_states.specs.Cache.{IsCacheOf, CachedCore}
-use Rattle.meter_model.specs.Run.{run}
-use Rattle.meter_states.proofs.Outcomes.{follows-meets, not_off}
-use Rattle.meter_states.proofs.Powered.{powered-on, stands-on}
+use Rattle.meter_states.proofs.{Outcomes.{follows-meets, not_off}, Powered.{powered-on, stands-on}}
 use Rattle.meter_states.proofs.core_state.Core.equal_intervals.Goals as goal
-use Rattle.taxi_units.specs.Limits.{roaming_between}
 
 pub returns-then-count-eq0-clause-lawful : goal.returns-then-count-eq0-clause-lawful
 returns-then-count-eq0-clause-lawful c = c.requires.lawful

@@ -1,14 +1,8 @@
-use Rattle.std.proofs.Common.{◌≡◌, ℕ, List, [], ◌∷◌, ◌++◌, All, refl, ap, subst, sym, ◌∙◌, arith}
-use Rattle.std.proofs.lemmas.List.Elements.{All-cons, All-nil}
-use Rattle.taxi_units.specs.declared.event.Why.TheVariants.{NotNow}
-use Rattle.meter_states.specs.Acts.{IsLawfulAct, KeepsRanges}
-use Rattle.meter_states.specs.Cache.{CachedCore}
+use Rattle.std.proofs.Common.{[], ℕ, ◌++◌, ◌∙◌, ◌∷◌, ◌≡◌, All, List, ap, arith, refl, subst, sym}
+use Rattle.{std.proofs.lemmas.List.Elements.{All-cons, All-nil}, meter_states.specs.Common.{Act, NotNow, Refuse}}
+use Rattle.meter_states.{specs.Acts.{IsLawfulAct, KeepsRanges}, proofs.Outcomes.{not_off, off-meets, on-meets}}
+use Rattle.meter_states.{specs.Cache.{CachedCore}, proofs.{ActRanges.{acts-keep}, Powered.{powered-on}}}
 use Rattle.meter_states.specs.Core.{CoreData}
-use Rattle.meter_model.specs.declared.act.Act.{Act}
-use Rattle.meter_model.specs.declared.act.Act.TheVariants.{Refuse}
-use Rattle.meter_states.proofs.ActRanges.{acts-keep}
-use Rattle.meter_states.proofs.Outcomes.{not_off, off-meets, on-meets}
-use Rattle.meter_states.proofs.Powered.{powered-on}
 use Rattle.meter_states.proofs.core_state.Core.step_into.Goals as goal
 
 pub returns-then-is_off-clause-takes : goal.returns-then-is_off-clause-takes
