@@ -1,11 +1,11 @@
 -- What the counts of faults say of a command, from the calls that it made.
 use Rattle.std.proofs.Common.{ℕ, ◌↔◌, ◌∙◌, ◌≡◌, ◌≢◌, ◌⊎◌, Bool, Err, None, Option, Result, Some, ap, arith, false, inl}
 use Rattle.{std.proofs.Common.{inr, refl, subst, sym, true}, outside.specs.declared.files.Files.{Ghosts as FileGhosts}}
-use Rattle.outside.{specs.{Faults.{RisesOnlyIf}, Reading.{LeavesOthers}}, proofs.Laws.{rose_behind}}
+use Rattle.{outside.{specs.Faults.{RisesOnlyIf}, proofs.Laws.{rose_behind}}, call_ends.proofs.OneAnswer.{same_fault}}
 use Rattle.call_ends.specs.{Call.{IsEnd, StopsReading}, Ending.{HasCauseOn, ended_for}, LastLine.{line_of, status_of}}
-use Rattle.call_ends.specs.{Carried.{Carries}, Common.{BoardFault, Done, Ended, Ghosts, ReadFault, Rose, TextFault}}
+use Rattle.call_ends.{specs.Carried.{Carries}, proofs.{EndsApart.{done_not_board}, Rests.{board_or_not}}}
+use Rattle.call_ends.specs.Common.{BoardFault, Done, Ended, Ghosts, LeavesOthers, ReadFault, Rose, TextFault}
 use Rattle.call_ends.specs.Course.{Command}
-use Rattle.call_ends.proofs.{EndsApart.{done_not_board}, OneAnswer.{same_fault}, Rests.{board_or_not}}
 use Rattle.call_ends.specs.declared.tariff.TextFault.TheVariants as texts
 
 -- what is absent isn't there
@@ -49,6 +49,11 @@ pub read_fault-text : (fault : TextFault) → ended_for fault ≡ ReadFault → 
 read_fault-text texts.ReadFault e = refl
 read_fault-text (texts.Refused why) e = absurd cc
 read_fault-text texts.NoMemory e = absurd cc
+
+pub not_board-text : (fault : TextFault) → ended_for fault ≢ BoardFault
+not_board-text texts.ReadFault e = absurd cc
+not_board-text (texts.Refused why) e = absurd cc
+not_board-text texts.NoMemory e = absurd cc
 
 pub not_read-memory : texts.NoMemory ≢ texts.ReadFault
 not_read-memory = λ e. absurd cc

@@ -8,11 +8,15 @@ mod Endings
 mod EndsApart
 -- what the counts of faults say of a command, from the calls that it made, and over its last line
 mod FaultCounts
+-- what parts of a command do to the files that they read, one after the other
+mod Following
 -- the lemmas that the crates above cite
 pub mod Laws
+-- what a command has made, and how it ends once that is printed
+mod Making
 -- one answer has one fault, and what it says of another that it is equal to
 mod OneAnswer
--- a command whose tariff isn't accepted, or that finds no memory
+-- a command that gives nothing: memory ran out, a read failed, or it refuses
 mod Refusals
 -- whether a command ended by a fault of the board
 mod Rests

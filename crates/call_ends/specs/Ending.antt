@@ -1,10 +1,10 @@
 -- For proofs: how a command ended before its last line is printed. Call and Course say what a call is.
 use Rattle.std.specs.Prelude.{[], ℕ, ◌++◌, ◌≡◌, ◌≢◌, ◌⊎◌, List}
 use Rattle.outside.specs.{Runs.{IsAtRest}, declared.files.Files.{Ghosts as FileGhosts}}
-use Rattle.call_ends.specs.{Call.{MayTake}, Course.{Command, Course, call_text, line_in, shown_in, status_in}}
-use Rattle.call_ends.specs.Common.{Begins, BoardFault, CheckFault, Ended, Ghosts, ReadFault, Rose, TextFault, Unsound}
-use Rattle.call_ends.specs.{LastLine.{line_of, status_of}, declared.ending.Ended.TheVariants.{BadTariff, NoMemory}}
-use Rattle.call_ends.specs.Unwritten.{LeavesImage, LeavesUnwritten}
+use Rattle.call_ends.specs.{Call.{MayTake}, Common.{TextFault, Unsound}, Unwritten.{LeavesImage, LeavesUnwritten}}
+use Rattle.call_ends.specs.Common.{BadTariff, Begins, BoardFault, CheckFault, Ended, Ghosts, NoMemory, ReadFault, Rose}
+use Rattle.call_ends.specs.Course.{Command, Course, call_text, line_in, shown_in, status_in}
+use Rattle.call_ends.specs.LastLine.{line_of, status_of}
 use Rattle.tariff_check.specs.declared.fault.CheckFault.TheVariants as checks
 use Rattle.call_ends.specs.declared.tariff.TextFault.TheVariants as texts
 

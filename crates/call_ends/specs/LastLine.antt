@@ -2,14 +2,15 @@
 use Rattle.std.specs.Prelude.{[], ℕ, ◌++◌, List, codes, decimal}
 use Rattle.{offset_rules.specs.declared.fault.RuleFault.{RuleFault}, receipt_text.specs.Receipts.{hex_text}}
 use Rattle.seal_record.specs.declared.params.{Name.{Name}, ParamFault.{ParamFault}}
-use Rattle.{tariff_check.specs.declared.fault.Dimension.{Dimension}, call_ends.specs.NumberLine.{number_line}}
-use Rattle.call_ends.specs.{Answer.{Answer, refuses}, declared.ending.Ended.TheVariants.{Sound, TripHeld, WrongTariff}}
-use Rattle.call_ends.specs.Common.{BoardFault, CheckFault, Done, Ended, ReadFault, Refusal, Syntax, TooLong, Unsound}
+use Rattle.{tariff_check.specs.declared.fault.Dimension.{Dimension}, call_ends.specs.Answer.{Answer, refuses}}
+use Rattle.call_ends.specs.Common.{BadTariff, BoardFault, CheckFault, Done, Ended, NoMemory, ReadFault, Refusal, Syntax}
+use Rattle.call_ends.specs.{Common.{TooLong, Unsound}, declared.ending.Ended.TheVariants.{TripHeld, WrongTariff}}
+use Rattle.call_ends.specs.NumberLine.{number_line}
 use Rattle.call_ends.specs.declared.ending.Ended.TheVariants.{BadBook, BadDrive, BadFrame, BadOther, BadParams}
-use Rattle.call_ends.specs.declared.ending.Ended.TheVariants.{BadReadings, BadRules, BadSlot, BadTariff, BadTrip}
-use Rattle.call_ends.specs.declared.ending.Ended.TheVariants.{BadWords, Different, EndlessDrive, EndlessRequests}
-use Rattle.call_ends.specs.declared.ending.Ended.TheVariants.{Faulty, LongBook, LongReadings, NoMemory, NotPassed}
-use Rattle.call_ends.specs.declared.ending.Ended.TheVariants.{NotSealed, OtherDecimals, SameNumber, SealEnded, Sealed}
+use Rattle.call_ends.specs.declared.ending.Ended.TheVariants.{BadReadings, BadRules, BadSlot, BadTrip, BadWords}
+use Rattle.call_ends.specs.declared.ending.Ended.TheVariants.{Different, EndlessDrive, EndlessRequests, Faulty}
+use Rattle.call_ends.specs.declared.ending.Ended.TheVariants.{LongBook, LongReadings, NotPassed, NotSealed}
+use Rattle.call_ends.specs.declared.ending.Ended.TheVariants.{OtherDecimals, SameNumber, SealEnded, Sealed, Sound}
 use Rattle.offset_rules.specs.declared.fault.RuleFault.TheVariants as rules
 use Rattle.seal_record.specs.declared.params.Name.TheVariants as names
 use Rattle.seal_record.specs.declared.params.ParamFault.TheVariants as params

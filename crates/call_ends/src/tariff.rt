@@ -1,7 +1,7 @@
 //! Reads the tariff of a word.
 ghost use Rattle.std.specs.Prelude.{[], ℕ, ◌<◌, ◌≡◌, ◌≢◌, ◌≤◌, Err, IfOk, Ok, OnOk, length, vec_len};
-ghost use Rattle.{outside.specs.Reading.{LeavesOthers}, call_ends.specs.Tariffs.{IsOfLines, tariff_in}};
-ghost use Rattle.call_ends.specs.{Common.{Rose, tree_of}, Ending.{unsound_for}};
+ghost use Rattle.call_ends.specs.{Common.{LeavesOthers, Rose, tree_of}, Tariffs.{IsOfLines, tariff_in}};
+ghost use Rattle.call_ends.specs.Ending.{unsound_for};
 
 use outside::{Files, read_text};
 use std::alloc::Global;

@@ -1,21 +1,22 @@
 -- What the command `faults` found of a text is what it answers.
-use Rattle.{std.specs.{List.{slice_get}, Prelude.{IfOk}}, tariff_syntax.specs.declared.tariff.Tariff.{Tariff}}
-use Rattle.std.proofs.Common.{[], ℕ, ◌++◌, ◌<◌, ◌==◌, ◌∙◌, ◌∷◌, ◌≡◌, ◌≢◌, ◌≤◌, Err, List, None, Ok, Result, Some, ap}
-use Rattle.std.proofs.{Common.{false, inl, length, map, refl, sym}, lemmas.{Bool.{le-ltb, lt-ltb}, List.{append-nil}}}
-use Rattle.tariff_syntax.specs.{BadLines.{bad_lines}, Parsed.{tree_parsed}, Reads.{IsParsed}}
+use Rattle.std.{specs.{List.{slice_get}, Prelude.{◌⊎◌, IfOk}}, proofs.lemmas.List.{append-nil}}
+use Rattle.std.proofs.Common.{[], ℕ, ◌<◌, ◌==◌, ◌∙◌, ◌∷◌, ◌≡◌, ◌≢◌, ◌≤◌, Err, List, Ok, Result, Some, ap, ap₂, arith}
+use Rattle.std.proofs.{Common.{false, inr, length, map, refl, sym, ⊎_elim}, lemmas.Bool.{le-ltb, lt-ltb}}
+use Rattle.outside.specs.{Reading.{LeavesOthers}, declared.files.Files.{Ghosts as FileGhosts}}
+use Rattle.tariff_syntax.specs.{BadLines.{bad_lines}, Parsed.{tree_parsed}, declared.tariff.Tariff.{Tariff}}
+use Rattle.{tariff_syntax.specs.Reads.{IsParsed}, tariff_check.proofs.Laws.{all_faults_begin_with_the_first-first}}
 use Rattle.tariff_syntax.proofs.Laws.{texts_are_parsed_as_they_read-bad_line, texts_are_parsed_as_they_read-tariff}
-use Rattle.{tariff_check.proofs.Laws.{all_faults_begin_with_the_first-first}, call_ends.specs.Course.{ReadFailed}}
-use Rattle.{call_ends.specs.{Call.{MayTake}, Tariffs.{sound_in}}, tariff_commands.specs.FaultsSteps.{ended_for_find}}
-use Rattle.call_ends.{specs.Ending.{EndsUnprinted}, proofs.Laws.{Here, course-no_memory, course-part, course-whole}}
-use Rattle.tariff_commands.specs.{Check.{check_answer}, declared.faults.FindFault.{FindFault}}
-use Rattle.tariff_commands.specs.Common.{Answer, Answered, Begins, CheckFault, Found, Refusal, Syntax, TooLong, Tree}
-use Rattle.tariff_commands.specs.Common.{Unsound, all_faults, bad_tariff_line, fault_of, tariff_in, tree_of}
+use Rattle.call_ends.specs.{LastLine.{status_of}, Making.{is_plain}, Tariffs.{sound_in}, declared.made.Made.{Made}}
+use Rattle.call_ends.{specs.Reads.{GoesTo, ReadsWord}, proofs.Laws.{ends_apart, goes-none, goes-on, same_fault}}
+use Rattle.tariff_commands.specs.{Check.{check_answer}, declared.faults.Found.{Found, TheVariants.{Faults, Sound}}}
+use Rattle.tariff_commands.specs.Common.{Answer, CheckFault, Ended, IsMade, Refusal, Syntax, TextFault, TooLong, Tree}
+use Rattle.tariff_commands.specs.Common.{Unsound, all_faults, answer_with, bad_tariff_line, fault_of, shows_line}
+use Rattle.tariff_commands.specs.Common.{sound_line, tariff_in, tree_of}
 use Rattle.tariff_commands.specs.Faults.{faults_answer, faults_command, faults_in, refusal_lines, refusals_in}
-use Rattle.tariff_commands.specs.{Faults.{refusals_of}, declared.faults.Found.TheVariants.{Faults, Sound}}
-use Rattle.tariff_commands.specs.FaultsSteps.{EndsFile, HasLines, IsFoundIn, IsFoundOf, IsRefusedText, IsSoundText}
+use Rattle.tariff_commands.specs.FaultsSteps.{HasLines, IsFoundIn, IsFoundOf, IsRefusedText, found_end, found_text}
 use Rattle.tariff_syntax.specs.declared.parsing.ParseFault.TheVariants as faults
+use Rattle.call_ends.specs.declared.tariff.TextFault.TheVariants as texts
 use Rattle.call_ends.specs.declared.ending.Ended.TheVariants as ended
-use Rattle.tariff_commands.specs.declared.faults.FindFault.TheVariants as finds
 
 -- ---- what a text is refused for
 
@@ -103,11 +104,6 @@ faults_found t faults lines all some are =
       are = are ∙ ap (λ (fs : List CheckFault). refusal_lines (map Unsound fs)) all;
     }
 
--- a file that was read to its end was, whatever was found
-pub file_ended : (found : Found) (left : List ℕ) → left ≡ [] → EndsFile found left
-file_ended (Sound cells measure) left e = e
-file_ended (Faults lines) left e = tt
-
 -- ---- what the command answers
 
 answer_sound : (text : List ℕ) (t : Tree) → tariff_in text ≡ Ok t → faults_in text ≡ check_answer (Ok t)
@@ -116,74 +112,45 @@ answer_sound text t e = ap (faults_answer (refusals_in text)) e
 abbrev shows_all : List ℕ → Answer
 shows_all lines = record { status = 2; shown = lines; line = [] }
 
-answer_refused : (text lines : List ℕ) → IsRefusedText text lines → faults_in text ≡ shows_all lines
+pub answer_refused : (text lines : List ℕ) → IsRefusedText text lines → faults_in text ≡ shows_all lines
 answer_refused text lines h = ap (faults_answer (refusals_in text)) h.refused ∙ ap shows_all (sym h.are)
 
-pub shown_refused : (text lines : List ℕ) → IsRefusedText text lines → length (faults_in text).shown ≡ length lines
-shown_refused text lines h = ap (λ (a : Answer). length a.shown) (answer_refused text lines h)
+-- what was found of a text is its answer
+pub found_made : (text : List ℕ) (found : Found) (made : Made) → IsFoundIn text found
+    → made.text.items ≡ found_text found → made.ended ≡ found_end found → IsMade (faults_in text) (Ok made)
+found_made text (Sound cells measure) made h text_is end_is = inr (
+  answer_sound text h.tree h.reads
+      ∙ ap₂ (λ (c m : ℕ). shows_line (sound_line c m)) (sym h.numbers.cells_are) (sym h.numbers.measure_is)
+      ∙ ap₂ answer_with (sym text_is) (sym end_is),
+  ap (λ (e : Ended). is_plain (status_of e)) end_is,
+)
+found_made text (Faults lines) made h text_is end_is = inr (
+  answer_refused text lines.items h
+      ∙ ap₂ answer_with (sym text_is) (sym end_is),
+  ap (λ (e : Ended). is_plain (status_of e)) end_is,
+)
 
--- ---- how it ends
+-- ---- a text that is too long
 
-apart : (a b : ℕ) {n : ℕ} → n ≡ a → n ≡ b → a ≢ b → ⊥
-apart a b is_a is_b not = not (sym is_a ∙ is_b)
+refused_not : {why : Refusal} → texts.Refused why ≢ texts.ReadFault
+refused_not e = absurd cc
 
-module _ (contents left : ℕ → List ℕ) (image : List ℕ) (read_failed : ℕ → Type 0) where
-  -- the tariff is sound
-  pub course-sound : (cells measure : ℕ) → IsSoundText (contents 1) cells measure → left 1 ≡ []
-      → EndsUnprinted faults_command contents left image read_failed (ended.Sound cells measure)
-  course-sound cells measure h read =
-      let is = answer_sound (contents 1) h.tree h.reads in
-      record {
-        course = Answered;
-        may = record {
-          whole = λ all word reads. ap left reads ∙ read;
-          bad = λ z. absurd (apart 0 3 (ap (λ (a : Answer). a.status) is) z (λ e. absurd cc));
-        };
-        stands = inl (record {
-          status_is = sym (ap (λ (a : Answer). a.status) is);
-          line_is = rw (h.numbers.cells_are, h.numbers.measure_is) (sym (ap (λ (a : Answer). a.line) is));
-          shown = ap (λ (a : Answer). a.shown) is;
-        });
-      }
+-- the word was read, though it is refused
+pub goes_long : {E T : Type 0} {F : FileGhosts E} {files files' : E} {result : Result T TextFault} {fault : TextFault}
+    {why : Refusal} (image : List ℕ) → LeavesOthers F.rest 1 files files'
+    → (result ≢ Err texts.ReadFault → (other : ℕ) → F.faults files' other ≡ F.faults files other)
+    → result ≡ Err fault → fault ≡ texts.Refused why → GoesTo F faults_command image F.tells 0 files files'
+goes_long {F = F} {files = files} {files' = files'} image others counts is e =
+    let read : ReadsWord F {T = Unit {0}} 1 files files' (Err ended.NoMemory) = record {
+      ended = λ tells. tt;
+      read_fault = λ f. absurd (ends_apart ended.NoMemory ended.ReadFault refl (same_fault _ _ _ refl f));
+      others = others;
+      counts = λ not. counts (λ f. refused_not (sym e ∙ same_fault _ _ _ is f));
+      not_board = λ f. ends_apart ended.NoMemory ended.BoardFault refl (same_fault _ _ _ refl f);
+    } in
+    goes-on 1 [] (goes-none files) read (omega arith) refl (λ tells. (refl, tt))
+    (λ f. ends_apart ended.NoMemory ended.ReadFault refl (same_fault _ _ _ refl f))
 
-  -- nothing was found
-  pub course-unfound : (fault : FindFault) → (fault ≡ finds.ReadFault → read_failed 1)
-      → EndsUnprinted faults_command contents left image read_failed (ended_for_find fault)
-  course-unfound finds.ReadFault failed = record {
-    course = ReadFailed 1 [];
-    may = record { reads = refl; comes = refl; failed = failed refl; takes = refl };
-    stands = inl (record { status_is = refl; line_is = refl; shown = refl });
-  }
-  course-unfound finds.NoMemory failed =
-      course-no_memory faults_command contents left image read_failed refl tt
-
-  -- the faults were printed, or a beginning of them
-  module _ (failed told : Type 0) (before now : List ℕ) (lines : List ℕ) (is : IsRefusedText (contents 1) lines) where
-    answer : faults_command.answer contents image ≡ shows_all lines
-    answer = answer_refused (contents 1) lines is
-
-    may : MayTake faults_command contents left image read_failed failed Answered
-    may = record {
-      whole = λ all. absurd (apart 2 0 (ap (λ (a : Answer). a.status) answer) all (λ e. absurd cc));
-      bad = λ z. absurd (apart 2 3 (ap (λ (a : Answer). a.status) answer) z (λ e. absurd cc));
-    }
-
-    pub course-faulty : (told → now ≡ before ++ lines)
-        → Here faults_command contents left image read_failed failed told before now ended.Faulty
-    course-faulty printed =
-        course-whole faults_command contents left image read_failed failed told before now 2 lines answer may
-        ended.Faulty refl refl printed
-
-    pub course-faulty_begun : (told → Begins before now lines) → failed
-        → Here faults_command contents left image read_failed failed told before now ended.BoardFault
-    course-faulty_begun begun cause =
-        course-part faults_command contents left image read_failed failed told before now 2 lines answer may begun cause
-
--- which fault stopped it
-pub read_fault-find : (fault : FindFault) → ended_for_find fault ≡ ended.ReadFault → fault ≡ finds.ReadFault
-read_fault-find finds.ReadFault e = refl
-read_fault-find finds.NoMemory e = absurd cc
-
-pub not_board-find : (fault : FindFault) → ended_for_find fault ≢ ended.BoardFault
-not_board-find finds.ReadFault e = absurd cc
-not_board-find finds.NoMemory e = absurd cc
+pub not_final : (status : ℕ) → status ≡ 2 → (status ≡ 0) ⊎ (status ≡ 11) → ⊥
+not_final status e final =
+    ⊎_elim (λ (z : status ≡ 0). absurd (omega (arith, e, z))) (λ (z : status ≡ 11). absurd (omega (arith, e, z))) final

@@ -8,7 +8,5 @@ mod FormLaws
 mod Forms
 -- what the command `faults` found of a text is what it answers
 mod FoundFaults
--- the list of a text's lines
-mod Lists
--- the commands that say something of a tariff alone
+-- the commands `check` and `tables`
 mod TariffAnswers

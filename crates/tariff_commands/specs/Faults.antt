@@ -1,8 +1,7 @@
 -- Rules: the command `faults TARIFF`.
-use Rattle.{std.specs.{List.{flat_map}, Prelude.{nat_lt}}, tariff_syntax.specs.BadLines.{bad_lines}}
-use Rattle.std.specs.Prelude.{[], ℕ, ◌+◌, ◌∷◌, ◌≡◌, ◌≤◌, Err, List, None, Ok, Result, if◌then◌else◌, length, map}
-use Rattle.tariff_syntax.specs.Parsed.{tree_parsed}
-use Rattle.tariff_commands.specs.{Check.{check_answer}, Common.{bad_tariff_line, pieces_of, tariff_in}}
+use Rattle.std.specs.{List.{flat_map}, Prelude.{[], ℕ, ◌∷◌, Err, List, Ok, Result, if◌then◌else◌, length, map, nat_lt}}
+use Rattle.tariff_syntax.specs.{BadLines.{bad_lines}, Parsed.{tree_parsed}}
+use Rattle.tariff_commands.specs.{Check.{check_answer}, Common.{bad_tariff_line, tariff_in, word_command}}
 use Rattle.tariff_commands.specs.Common.{Answer, Command, Refusal, Syntax, TooLong, Tree, Unsound, all_faults}
 
 -- a tariff that was read is refused for each of its faults, and else a text for each of its bad lines
@@ -33,18 +32,4 @@ faults_in text = faults_answer (refusals_in text) (tariff_in text)
 -- the command `faults` reads its tariff and prints the lines of its faults in as few pieces as it can be. It takes a
 -- step for each piece, and one for the last line.
 abbrev pub faults_command : Command
-faults_command = record {
-  answer = λ contents image. faults_in (contents 1);
-  drive = None;
-  shown = λ contents image taken. [];
-  reads = λ word. word ≡ 1;
-  turn = λ word. word;
-  reads_all = λ status. status ≡ 0;
-  comes_to = λ contents image word taken. word ≡ 1;
-  may_lack = λ contents image taken. Unit {0};
-  told = λ files_tell image_told. files_tell;
-  opens = ⊥;
-  writes = λ ended. ⊥;
-  steps = λ files_tell image_told contents left image before now.
-      files_tell → now ≤ before + 1 + pieces_of (length (faults_in (contents 1)).shown);
-}
+faults_command = word_command faults_in

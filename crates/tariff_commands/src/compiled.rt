@@ -1,6 +1,7 @@
 //! The tables of the tariff of a word.
 ghost use Rattle.std.specs.Prelude.{[], ℕ, ◌<◌, ◌≡◌, ◌≢◌, Err, IfOk, Ok, OnOk};
-ghost use Rattle.tariff_commands.specs.{Common.{LeavesOthers, Rose, tariff_in}, TableSteps.{AreTablesIn}};
+ghost use Rattle.{outside.specs.{Faults.{Rose}, Reading.{LeavesOthers}}, tariff_commands.specs.Common.{tariff_in}};
+ghost use Rattle.tariff_commands.specs.TableSteps.{AreTablesIn};
 
 use call_ends::{Refusal, TextFault, tariff_of_text, text_of_word};
 use drive_modes::Constant;
