@@ -10,6 +10,10 @@ import tempfile
 import time
 
 TOP = os.path.dirname(os.path.dirname(os.path.abspath(__file__)))
+sys.path.insert(0, f"{TOP}/tools")
+
+from heglorwy.imports import imports_of  # noqa: E402
+
 PARTS = ("src", "specs", "proofs")
 # What the prover says if it can't read a text: nothing is told of a clause then.
 UNREAD = re.compile(r"is not in scope|has no field|has no `|that can be named|is no name|operand is missing|"
@@ -177,9 +181,15 @@ def lemmas_that_failed(said):
 
 
 def failed_goals(said, texts, function):
-    """The goals of a function that failed, each with the field of its record: answers, and those that no search proved."""
+    """The goals of a function that failed, each with the field of its record: answers, and those that no search proved. A
+    cycle of functions has its answers together."""
     goals, answers, place = [], answers_of(texts, function), function.replace("::", "/")
+    module, _, name = place.rpartition("/")
     for line in said.split("\n"):
+        of_cycle = re.match(rf"(?:\./)?proofs/{re.escape(module)}/\+\S+/Answers.antt:\d+:\d+: error: "
+                            rf"`{re.escape(name)}-([^`\s]+)`: (.*)", line)
+        if of_cycle and not UNREAD.search(re.sub(r"`[^`]*`", "``", of_cycle[2])):
+            goals.append((of_cycle[1], "?"))
         at = re.match(rf"(?:\./)?proofs/{re.escape(place)}/Answers.antt:(\d+):(\d+): error: `([^`\s]+)`: (.*)", line)
         if at and not UNREAD.search(re.sub(r"`[^`]*`", "``", at[4])):
             first, lines = answers.get(at[3], (0, []))
@@ -204,8 +214,9 @@ def goals_without_lemma(said, texts, crate, function):
 
 def lemmas_named(text, crate):
     """The lemmas of a crate's own proofs that a text names in its `use` lines, each with its module."""
-    lines = re.findall(rf"(?m)^use Rattle\.{crate}\.proofs\.(\S+)\.\{{([^}}]*)\}}", text)
-    return {name: (module, name) for module, names in lines for name in re.split(r",\s*", names)}
+    own = f"Rattle.{crate}.proofs."
+    brought = [one for one in imports_of(text, "use") if one.name and one.module.startswith(own)]
+    return {one.alias or one.name: (one.module.removeprefix(own), one.name) for one in brought}
 
 
 def lemmas_below(lemma, texts, crate):

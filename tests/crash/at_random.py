@@ -8,16 +8,8 @@ import time
 from each_call import CITY, PARAMS
 from filings import left_by, roll_of
 from heglorwy.roll import receipts_in, units
+from support.built import Amiss, expect
 from support.drives import LATER, drive_of, text_of
-
-
-class Off(Exception):
-    """Something was off behind a kill."""
-
-
-def expect(holds, fault):
-    if not holds:
-        raise Off(fault)
 
 
 class Killed:
@@ -47,8 +39,8 @@ class Killed:
         for turn in range(1, kills + 1):
             try:
                 self.turn()
-            except Off as off:
-                raise Off(f"turn {turn}: {off}") from None
+            except Amiss as off:
+                raise Amiss(f"turn {turn}: {off}") from None
         expect(self.killed > 0 or kills == 0, f"of {kills} none was killed, so nothing was tried")
 
 

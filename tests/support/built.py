@@ -11,6 +11,15 @@ HIRING_LOG = TOP / "crates/hiring_log/out/hiring_log"
 CITY, PARAMS = TOP / "examples/city.tariff", TOP / "examples/taxi.params"
 
 
+class Amiss(Exception):
+    """What isn't as it has to be."""
+
+
+def expect(holds, what):
+    if not holds:
+        raise Amiss(what)
+
+
 def need(test, *programs):
     """Ends a test where a program that it needs isn't built."""
     for program in programs:

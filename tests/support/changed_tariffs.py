@@ -1,9 +1,8 @@
 """Tariffs that were changed at random, and faults that are put into a sound one."""
 
 import re
-import subprocess
 
-from support.built import TAXI, TOP
+from support.built import TOP
 
 PIECES = [
     "and", "or", "not", "(", ")", ",", "..", "22:00", "24:00", "5000.0", "m", "s", "day", "sun", "mon..fri", "holiday",
@@ -67,23 +66,6 @@ PLANTS = {
         )(lines)
     ),
 }
-
-
-class Direct:
-    """The program, without its wrapper."""
-
-    def __init__(self, folder):
-        self.folder = folder
-
-    def call(self, *words, text=None, **texts):
-        if text is not None:
-            texts["given"], words = text, (*words, "given")
-        for name, content in texts.items():
-            (self.folder / name).write_bytes(content)
-        done = subprocess.run(
-            [TAXI, *words], cwd=self.folder, stdin=subprocess.DEVNULL, capture_output=True, check=False
-        )
-        return done.stdout, done.returncode
 
 
 def texts():

@@ -10,6 +10,12 @@ from fractions import Fraction
 from heglorwy.program import TOP, read
 
 
+def tool_parser(tool, said, statuses):
+    """A parser of a tool's words: its help is what the tool says of itself, and its statuses."""
+    form = argparse.RawDescriptionHelpFormatter
+    return argparse.ArgumentParser(prog=tool, description=said, formatter_class=form, epilog=f"Statuses: {statuses}")
+
+
 def ranged(least, most):
     """A whole number of a range."""
 

@@ -1,5 +1,5 @@
 -- What a stop says, by its status.
-use Rattle.std.proofs.Common.{◌≡◌, ℕ, arith, refl, Result, Ok, Err, IfOk}
+use Rattle.std.proofs.Common.{◌≡◌, arith, refl, Result, Ok, Err, IfOk}
 use Rattle.c_meter.specs.Shown.{IsStatus, status_of}
 use Rattle.c_meter.specs.declared.making.Stop.{Stop}
 use Rattle.c_meter.specs.declared.making.Stop.TheVariants.{NoTariff, NoParams, NoDrive, NoRoom, NoMemory}

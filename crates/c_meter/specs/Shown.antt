@@ -1,15 +1,12 @@
 -- Rules: what a call from C shows, and why it shows nothing.
-use Rattle.std.specs.Prelude.{◌≡◌, ◌≢◌, ◌⊎◌, ℕ, ◌<◌, ◌≤◌, List, [], ◌∷◌, Ok, Some, length, Contains}
+use Rattle.std.specs.Prelude.{◌≡◌, ◌≢◌, ◌⊎◌, ℕ, ◌<◌, List, [], ◌∷◌, Ok, Some, length, Contains}
 use Rattle.drive_text.specs.Ending.{Whole, drive_end}
 use Rattle.meter_run.specs.Texts.{drive_shown}
 use Rattle.meter_model.specs.Setting.{setting_by}
-use Rattle.meter_states.specs.Setting.{IsSettingOf}
 use Rattle.seal_record.specs.Reading.{params_read}
 use Rattle.seal_record.specs.declared.params.Params.{Params}
-use Rattle.seal_record.specs.declared.seal.Seal.{Seal}
 use Rattle.tariff_check.specs.Faults.{IsSound, fault_of}
 use Rattle.tariff_check.specs.declared.fault.CheckFault.{CheckFault}
-use Rattle.tariff_compile.specs.Tables.{TableParts}
 use Rattle.tariff_syntax.specs.Reads.{IsFirstBadLine, Reads}
 use Rattle.tariff_syntax.specs.Tree.{Tree}
 use Rattle.c_meter.specs.declared.making.Stop.{Stop}
@@ -27,27 +24,18 @@ status_of NoMemory = 12
 abbrev pub IsStatus : ℕ → Type 0
 IsStatus status = Contains (0 ∷ 2 ∷ 3 ∷ 8 ∷ 9 ∷ 12 ∷ []) status
 
--- a text has no tariff where it is too long, has a first bad line, or reads as a tariff with a fault
+-- a text has no tariff if it is too long, has a first bad line, or reads as a tariff with a fault
 abbrev pub HasNoTariff : (text : List ℕ) → Type 0
 HasNoTariff text =
     (65536 < length text)
     ⊎ (((line : ℕ) × IsFirstBadLine text line)
     ⊎ ((tree : Tree) × (fault : CheckFault) × Reads text tree × (fault_of tree ≡ Some fault)))
 
--- a drive isn't whole where it has another end: a bad line, or too many bytes
+-- a drive isn't whole if it ends with a bad line or too many bytes
 abbrev pub IsNotWhole : (drive : List ℕ) → Type 0
 IsNotWhole drive = drive_end drive ≢ Whole
 
--- tables and a seal are made of two texts where the first reads as a sound tariff and the second as parameters, and
--- they are those of the setting of both
-pub record AreMadeOf (tariff params : List ℕ) (tables : TableParts) (seal : Seal) : Type 0 where
-  pub tree : Tree
-  pub reads : Reads tariff tree
-  pub sound : IsSound tree
-  pub secured : params_read params ≡ Ok seal.params
-  pub setting : IsSettingOf (setting_by tree seal.params) tables seal
-
--- lines are what a meter shows of a drive where the first text reads as a sound tariff, the second as parameters, the
+-- lines are what a meter shows of a drive if the first text reads as a sound tariff, the second as parameters, the
 -- drive is whole, and the lines are the displays and refusals of its events under both
 pub record ShowsDrive (tariff params drive lines : List ℕ) : Type 0 where
   pub tree : Tree
@@ -58,7 +46,7 @@ pub record ShowsDrive (tariff params drive lines : List ℕ) : Type 0 where
   pub whole : drive_end drive ≡ Whole
   pub shown : lines ≡ drive_shown (setting_by tree secured) drive
 
--- there is no room for what a meter shows of a drive where its lines are longer than the room
+-- there is no room for what a meter shows of a drive if its lines are longer than the room
 pub record HasNoRoom (tariff params drive : List ℕ) (room : ℕ) : Type 0 where
   pub lines : List ℕ
   pub shows : ShowsDrive tariff params drive lines

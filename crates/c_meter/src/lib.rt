@@ -1,4 +1,4 @@
-//! The meter for C: a static library with one call, which puts what a meter shows of a drive into memory of its caller.
+//! The meter for C: a static library with one call, which puts what a meter shows of a drive into its caller's memory.
 //! examples/c has its header, and docs/use/EMBEDDING.md says how it is built and linked.
 #![tactic(auto)]
 
@@ -14,13 +14,13 @@ use std::alloc::Global;
 use std::marker::Brand;
 use std::sync::ledger::Blank;
 
-/// Carries out a drive under the texts of a tariff and of parameters, without a store, and puts the lines of its
-/// displays and refusals into `text`, and their length into `used`. Each call is a whole drive: it begins with a meter
-/// that is off and has entered nothing. This project's own.
+/// Carries out a drive under the texts of a tariff and of parameters, without a store. Puts the lines of its displays
+/// and refusals into `text`, and their length into `used`. Each call is a whole drive: it begins with a meter that is
+/// off and has entered nothing. This project's own.
 ///
 /// The answer is a status of the program `taxi`: 0; 2 if the tariff is refused, and 9 if the parameters are; 3 if the
-/// drive has a bad line, or 2^40 bytes or more; 8 if `text` has no room for the lines; 12 if memory runs out. At each
-/// but 0 `used` is 0, and `text` may have changed.
+/// drive has a bad line, or 2^40 bytes or more; 8 if `text` has no room for the lines; 12 if memory runs out. If it
+/// isn't 0, `used` is 0, and `text` may have changed.
 #[unsafe(no_mangle)]
 pub extern "C" fn c_meter_fare(
     alloc: Global,

@@ -1,10 +1,11 @@
-//! A meter is made of two texts.
+//! A meter made of two texts.
 ghost use Rattle.std.specs.Prelude.{◌≡◌, ◌⊎◌, Err, IfErr, IfOk, IsErr};
 ghost use Rattle.seal_record.specs.Reading.{params_read};
 ghost use Rattle.tariff_check.specs.Faults.{IsSound};
 ghost use Rattle.tariff_syntax.specs.Reads.{Reads};
 ghost use Rattle.tariff_syntax.specs.Tree.{tree_of};
-ghost use Rattle.c_meter.specs.Shown.{AreMadeOf, HasNoTariff, status_of};
+ghost use Rattle.meter_states.specs.MadeOf.{AreMadeOf};
+ghost use Rattle.c_meter.specs.Shown.{HasNoTariff, status_of};
 
 use seal_record::{Seal, read_params};
 use std::alloc::Global;
@@ -28,7 +29,7 @@ pub(crate) enum Stop {
 }
 
 impl Stop {
-    /// The status that says so.
+    /// The status of this stop.
     pub(crate) fn status(self) -> u8
         ensures { result ≡ status_of self }
     {
@@ -43,7 +44,7 @@ impl Stop {
 }
 
 /// The sound tariff of a text.
-#[tactic(auto, using(crate::proofs::TariffTexts::writable_of))]
+#[tactic(auto, using(tariff_syntax::proofs::Laws::parsed_is_writable))]
 fn sound_tariff(alloc: Global, text: &[u8]) -> Result<Checked, Stop>
     ensures read { IfOk result (λ c. Reads text.now (tree_of c) × IsSound (tree_of c)) }
     ensures no_tariff { result ≡ Err Stop.NoTariff → HasNoTariff text.now }
@@ -60,8 +61,8 @@ fn sound_tariff(alloc: Global, text: &[u8]) -> Result<Checked, Stop>
     }
 }
 
-/// The tables of a tariff's text, and a seal with the parameters of the other text. The seal has no digest, which
-/// receipts alone print.
+/// The tables of a tariff's text, and a seal with the parameters of the other text. The seal has no digest: only
+/// receipts print one.
 pub(crate) fn made_of(alloc: Global, tariff: &[u8], params: &[u8]) -> Result<(Tables, Seal), Stop>
     ensures made { IfOk result (λ made. AreMadeOf tariff.now params.now made.0 made.1) }
     ensures constant { IfOk result (λ made. made.0.constant ≡ made.1.params.constant) }

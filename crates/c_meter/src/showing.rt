@@ -1,6 +1,6 @@
 //! What a meter shows of a drive.
 ghost use Rattle.std.specs.Prelude.{◌≡◌, ◌⊎◌, ◌<◌, ◌≤◌, Err, IfErr, IfOk, IsErr, OnOk, length, take};
-ghost use Rattle.outside.specs.MemoryBoard.{text_of};
+ghost use Rattle.memory_devices.specs.MemoryBoard.{text_of};
 ghost use Rattle.drive_text.specs.Ending.{Whole, drive_end};
 ghost use Rattle.meter_run.specs.Texts.{drive_shown};
 ghost use Rattle.meter_model.specs.Setting.{Setting};
@@ -9,8 +9,9 @@ ghost use Rattle.seal_record.specs.Reading.{params_read};
 ghost use Rattle.c_meter.specs.Shown.{HasNoRoom, HasNoTariff, IsNotWhole, ShowsDrive};
 
 use crate::making::{Stop, made_of};
+use memory_devices::{MemoryBoard, MemoryFiles};
 use meter_run::{RunFault, dry_run};
-use outside::{MemoryBoard, MemoryFiles, STORE_SIZE};
+use outside::STORE_SIZE;
 use seal_record::Seal;
 use std::alloc::Global;
 use std::sync::ledger::{Blank, Ledger};
@@ -32,7 +33,7 @@ fn put_lines(lines: &[u8], text: &mut [u8]) -> Result<usize, Stop>
     Ok(used)
 }
 
-/// Carries out a drive on a board in memory, where the lines that are shown are printed.
+/// Carries out a drive on a board in memory, which gets the lines that are shown.
 fn board_of<L: Ledger>(
     alloc: Global,
     tables: &Tables,
@@ -60,7 +61,7 @@ fn board_of<L: Ledger>(
         Ok(()) => Ok(board),
         Err(RunFault::BadDrive(_)) => Err(Stop::NoDrive),
         Err(RunFault::TooLong) => Err(Stop::NoDrive),
-        // Neither fails by its number, so memory ran out.
+        // Both fail only if memory ran out.
         Err(RunFault::ReadFault) => Err(Stop::NoMemory),
         Err(RunFault::BoardFault) => Err(Stop::NoMemory),
     }

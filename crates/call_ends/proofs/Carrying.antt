@@ -18,7 +18,7 @@ use Rattle.call_ends.proofs.Unwritten.{bytes-kept}
 no-rise : ¬ (Rose 0 0)
 no-rise rose = omega (arith, rose)
 
--- a command comes to an end where more is known of the faults and of the text
+-- a command comes to an end if more is known of the faults and of the text
 module _ (c : Command) (contents left : ℕ → List ℕ) (image : List ℕ) (read_failed read_failed' : ℕ → Type 0)
     (failed failed' : Type 0)
     (whole whole' begun begun' : List ℕ → Type 0) (read : (word : ℕ) → read_failed word → read_failed' word)

@@ -26,7 +26,7 @@ not_some o x none some = by (sym none ∙ some)
     by : None ≡ Some x → ⊥
     by bad = absurd cc
 
--- what a test tells where it holds doesn't hold where the test fails
+-- a fact that a test tells doesn't hold if the test fails
 pub not_true : {P : Type 0} (test : Bool) → test ≡ false → ((test ≡ true) ↔ P) → P → ⊥
 not_true test fails tells p = by (sym fails ∙ tells.1 p)
   where
@@ -54,7 +54,7 @@ pub cause_board : {D L : Type 0} {N : ℕ} {B : Ghosts D N L} {old new : D} → 
     → HasCauseOn B old new BoardFault
 cause_board rose = record { count = λ good. absurd (good refl); failed = λ e. rose }
 
--- ---- where a call stopped reading
+-- ---- the word at which a call stopped reading
 
 pub read_fault-text : (fault : TextFault) → ended_for fault ≡ ReadFault → fault ≡ texts.ReadFault
 read_fault-text texts.ReadFault e = refl
@@ -64,7 +64,7 @@ read_fault-text texts.NoMemory e = absurd cc
 pub not_read-memory : texts.NoMemory ≢ texts.ReadFault
 not_read-memory = λ e. absurd cc
 
--- a call stopped reading at a word where it read no other
+-- a call stopped reading at a word if it read no other
 pub stops_at : {E : Type 0} {F : FileGhosts E} {c : Command} {files files' : E} (word : ℕ) → c.reads word
     → Rose (F.faults files word) (F.faults files' word)
     → LeavesOthers F.rest word files files' → StopsReading F c files files'

@@ -13,7 +13,7 @@ use Rattle.call_ends.specs.Course.{line_in, call_text}
 use Rattle.call_ends.specs.Ending.{IsDue, IsBrokenOff, EndsByCourse, EndsUnprinted}
 use Rattle.call_ends.specs.LastLine.{status_of, line_of}
 
--- a course stays one where more is known of the faults
+-- a course stays one if more is known of the faults
 pub may-then : (c : Command) (contents left : ℕ → List ℕ) (image : List ℕ) (read_failed : ℕ → Type 0)
     (failed failed' : Type 0) → (failed → failed') → (course : Course)
     → MayTake c contents left image read_failed failed course → MayTake c contents left image read_failed failed' course

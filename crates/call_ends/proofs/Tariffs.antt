@@ -4,11 +4,9 @@ use Rattle.std.specs.Prelude.{◌⊎◌}
 use Rattle.std.proofs.lemmas.Bool.{le-ltb}
 use Rattle.tariff_syntax.specs.Reads.{IsParsed}
 use Rattle.tariff_syntax.specs.Tree.{tree_of}
-use Rattle.tariff_syntax.specs.Writable.{IsWritable}
 use Rattle.tariff_syntax.specs.declared.parsing.ParseFault.TheVariants as faults
 use Rattle.tariff_syntax.specs.declared.tariff.Tariff.{Tariff}
 use Rattle.tariff_syntax.proofs.Laws.{texts_are_parsed_as_they_read-tariff, texts_are_parsed_as_they_read-bad_line}
-use Rattle.tariff_syntax.proofs.Laws.{texts_have_their_numbers}
 use Rattle.tariff_check.specs.Faults.{fault_of}
 use Rattle.tariff_check.specs.declared.fault.CheckFault.{CheckFault}
 use Rattle.tariff_check.specs.declared.fault.CheckFault.TheVariants as checks
@@ -23,10 +21,6 @@ pub sound_of : (text : List ℕ) (t : Tariff) (fault : Option CheckFault) → Is
     → fault_of (tree_of t) ≡ fault → tariff_in text ≡ sound_in (tree_of t) fault
 sound_of text t fault h e =
     rw (le-ltb 65536 (length text) h.0, (texts_are_parsed_as_they_read-tariff text (tree_of t)).0 h.1, e) refl
-
--- and its numbers are such as a text can have
-pub writable_of : (text : List ℕ) (t : Tariff) → IsParsed text (Ok t) → IsWritable (tree_of t)
-writable_of text t h = texts_have_their_numbers text (tree_of t) h.1
 
 pub syntax_of : (text : List ℕ) (line : ℕ) → IsParsed text (Err (faults.Syntax line))
     → tariff_in text ≡ Err (Syntax line)

@@ -14,10 +14,9 @@ use Rattle.call_ends.specs.declared.ending.Ended.{Ended}
 use Rattle.call_ends.specs.declared.ending.Ended.TheVariants.{BoardFault, ReadFault}
 
 module _ {E D L : Type 0} {N : ℕ} (F : FileGhosts E) (B : Ghosts D N L) where
-  -- a command was carried out, from its files, board and count of steps to those behind it, where all holds that its
-  -- record says of a call but for the last line, each fault of the outside has its cause, a command that may write at
-  -- all may have written where the board fails, and one that opens the store leaves nothing in flight unless the board
-  -- failed
+  -- a command was carried out, but for its last line, if all holds that its record says of a call, and each fault of
+  -- the outside has its cause. If the board fails, a command that writes at all may have written. A command that opens
+  -- the store leaves nothing in flight, unless the board failed.
   pub record Carries (c : Command) (files files' : E) (old new : D) (before now : ℕ) (ended : Ended) : Type 0 where
     pub ends : c.told F.tells B.tells_image → EndsOnDevices F B c files files' old new ended
     pub steps : (later : ℕ) → later ≤ now + 1
@@ -35,11 +34,11 @@ module _ {E D L : Type 0} {N : ℕ} (F : FileGhosts E) (B : Ghosts D N L) where
     pub at_rest : c.told F.tells B.tells_image → B.tells_image → c.opens → ended ≢ BoardFault → IsAtRest B new
     pub looks : IsReadOnlyCommand c → B.tells_image → LeavesImageSettled B old new ended
 
--- a command that is given no files may hold any contents, and has no fault of a read
+-- a command without files may hold any contents, and no read of it fails
 abbrev pub no_files : (contents : ℕ → List ℕ) → FileGhosts (Unit {0})
 no_files contents = record { tells = Unit {0}; rest = λ files. contents; faults = λ files word. 0 }
 
--- a command that is given no board may be called over any image, prints nothing, and has no fault of a board
+-- a command without a board may be called over any image, prints nothing, and no board of it fails
 abbrev pub no_board : (image : List ℕ) → Ghosts (Unit {0}) store_size (Unit {0})
 no_board image = record {
   tells_image = Unit {0};

@@ -4,11 +4,11 @@ use Rattle.call_ends.specs.Answer.{Answer}
 use Rattle.call_ends.specs.LastLine.{read_fault_line, no_memory_line}
 use Rattle.call_ends.specs.Stream.{Stream}
 
--- A command is told by functions of the contents of the files of its words and of the opening image of the store.
+-- A command is a record of functions of its files' contents, by their words, and of the opening image of the store.
 pub record Command : Type 1 where
   -- the answer of the command
   pub answer : (contents : ℕ → List ℕ) (image : List ℕ) → Answer
-  -- the drive, or the requests, that the command takes piece by piece, where it has such a file
+  -- the drive or the requests that the command takes piece by piece, if it has such a file
   pub drive : Option Stream
   -- what the command shows when the bytes `taken` of the drive or the requests were taken
   pub shown : (contents : ℕ → List ℕ) (image taken : List ℕ) → List ℕ
@@ -16,7 +16,7 @@ pub record Command : Type 1 where
   pub reads : ℕ → Type 0
   -- the turn of a word: the command reads the file of a word with a smaller turn before that of one with a greater
   pub turn : ℕ → ℕ
-  -- whether the command has read each file of its words to its end where it answers with a status
+  -- whether the command has read each of its files to the end if it answers with a status
   pub reads_all : (status : ℕ) → Type 0
   -- whether the command comes to a read of a word's file when the bytes `taken` of the drive or the requests were taken
   pub comes_to : (contents : ℕ → List ℕ) (image : List ℕ) (word : ℕ) (taken : List ℕ) → Type 0
@@ -26,12 +26,12 @@ pub record Command : Type 1 where
   pub told : (files_tell image_told : Type 0) → Type 0
   -- whether the command opens the store
   pub opens : Type 0
-  -- whether the command may have written the store where it ends with a status
+  -- whether the command may have written the store if it ends with a status
   pub writes : (ended : ℕ) → Type 0
   -- whether the command's count of steps may rise from `before` to `now`, by what is told and what is left of the files
   pub steps : (files_tell image_told : Type 0) (contents left : ℕ → List ℕ) (image : List ℕ) (before now : ℕ) → Type 0
 
--- a command only looks at the store where it opens the store and writes nothing
+-- a command only looks at the store if it opens the store and never writes
 pub record IsReadOnlyCommand (c : Command) : Type 0 where
   pub opens : c.opens
   pub unwritten : (ended : ℕ) → ¬ c.writes ended
@@ -80,7 +80,7 @@ module _ (c : Command) (contents : ℕ → List ℕ) (image : List ℕ) where
   shown_in NoMemory = []
   shown_in (BoardFailed taken) = c.shown contents image taken
 
-  -- the last line of a course is that of the answer or of the fault, and is empty where the board failed
+  -- the last line of a course is that of the answer or of the fault, and is empty if the board failed
   abbrev pub line_in : Course → List ℕ
   line_in Answered = (c.answer contents image).line
   line_in (ReadFailed word taken) = read_fault_line

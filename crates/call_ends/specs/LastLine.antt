@@ -23,7 +23,7 @@ use Rattle.tariff_check.specs.declared.fault.Dimension.TheVariants as dimensions
 use Rattle.tariff_check.specs.declared.fault.CheckFault.{CheckFault}
 use Rattle.tariff_check.specs.declared.fault.CheckFault.TheVariants as faults
 
--- where the words are no command the last line is `BAD WORDS`
+-- the last line of words that are no command
 abbrev pub bad_words_line : List ℕ
 bad_words_line = codes "BAD WORDS\n"
 
@@ -43,8 +43,8 @@ dimension_text dimensions.Minute = codes "Minute"
 dimension_text dimensions.Distance = codes "Distance"
 dimension_text dimensions.Time = codes "Time"
 
--- the text of a fault of a tariff is its name and its numbers; no tariff has the fault `NoMemory`, which is the want of
--- memory
+-- the text of a fault of a tariff is its name and its numbers; no tariff has the fault `NoMemory`, which says that
+-- memory ran out
 abbrev pub fault_text : CheckFault → List ℕ
 fault_text faults.NoStep = codes "NoStep"
 fault_text faults.StepZero = codes "StepZero"
@@ -68,31 +68,31 @@ refusal_text TooLong = codes "TooLong"
 refusal_text (Syntax line) = numbered (codes "Syntax") line
 refusal_text (Unsound fault) = fault_text fault
 
--- the last line where a tariff isn't accepted has the text of the refusal
+-- the last line of a tariff that isn't accepted has the text of the refusal
 abbrev pub bad_tariff_line : Refusal → List ℕ
 bad_tariff_line why = codes "BAD TARIFF " ++ (refusal_text why ++ codes "\n")
 
--- the last line where the other one of two tariffs isn't accepted has the text of the refusal
+-- the last line of the other one of two tariffs, if it isn't accepted, has the text of the refusal
 abbrev pub bad_other_line : Refusal → List ℕ
 bad_other_line why = codes "BAD OTHER " ++ (refusal_text why ++ codes "\n")
 
--- the last line where a drive has a bad line has the number of the first one
+-- the last line of a drive that has a bad line has the number of the first one
 abbrev pub bad_drive_line : ℕ → List ℕ
 bad_drive_line line = number_line (codes "BAD DRIVE ") line
 
--- the last line where the body of an open slot isn't read has the number of the slot
+-- the last line of a store with an open slot whose body isn't read has the number of the slot
 abbrev pub bad_slot_line : ℕ → List ℕ
 bad_slot_line slot = number_line (codes "BAD STORE ") slot
 
--- the last line where two slots have bodies of one number has the numbers of the slots
+-- the last line of a store with two bodies of one number has the numbers of their slots
 abbrev pub same_number_line : ℕ → ℕ → List ℕ
 same_number_line first second = codes "BAD STORE " ++ (decimal first ++ (codes " " ++ (decimal second ++ codes "\n")))
 
--- where decimals differ the last line has the found seal's and the tariff's
+-- the last line of decimals that differ has those of the found seal and those of the tariff
 abbrev pub other_decimals_line : (found own : ℕ) → List ℕ
 other_decimals_line found own = codes "OTHER DECIMALS " ++ (decimal found ++ (codes " " ++ (decimal own ++ codes "\n")))
 
--- the last line where a tariff isn't the sealed one has the sealed digest and that of the text, in hexadecimal digits
+-- the last line of a tariff that isn't the sealed one has the sealed digest and its own, in hexadecimal digits
 abbrev pub wrong_tariff_line : (digest own : List ℕ) → List ℕ
 wrong_tariff_line digest own = codes "WRONG TARIFF " ++ (hex_text digest ++ (codes " " ++ (hex_text own ++ codes "\n")))
 
@@ -105,7 +105,7 @@ name_text names.Hold = codes "Hold"
 name_text names.Offset = codes "Offset"
 name_text names.Secured = codes "Secured"
 
--- the text of a fault of parameters is its name, and its line or the name of the parameter where it has one
+-- the text of a fault of parameters is its name, and its line or the name of the parameter, if it has one
 abbrev pub param_fault_text : ParamFault → List ℕ
 param_fault_text params.TooLong = codes "TooLong"
 param_fault_text (params.Unknown line) = numbered (codes "Unknown") line
@@ -113,58 +113,58 @@ param_fault_text (params.BadValue line) = numbered (codes "BadValue") line
 param_fault_text (params.Twice name) = codes "Twice " ++ name_text name
 param_fault_text (params.Missing name) = codes "Missing " ++ name_text name
 
--- the last line where parameters aren't accepted has the text of their fault
+-- the last line of parameters that aren't accepted has the text of their fault
 abbrev pub bad_params_line : ParamFault → List ℕ
 bad_params_line fault = codes "BAD PARAMS " ++ (param_fault_text fault ++ codes "\n")
 
--- the last line where a store was sealed has the number of the seal that was put in
+-- the last line of a store that was sealed has the number of the new seal
 abbrev pub sealed_line : ℕ → List ℕ
 sealed_line number = number_line (codes "SEALED ") number
 
--- the last line where requests are bad has the place of the first bad byte
+-- the last line of bad requests has the place of the first bad byte
 abbrev pub bad_frame_line : ℕ → List ℕ
 bad_frame_line place = number_line (codes "BAD FRAME ") place
 
--- where requests have no end within the bytes that they may have the last line is `BAD FRAME TOO LONG`
+-- the last line of requests that have no end within the bytes that they may have
 abbrev pub endless_requests_line : List ℕ
 endless_requests_line = codes "BAD FRAME TOO LONG\n"
 
--- the last line where readings are bad has the number of the first row that is no row of readings
+-- the last line of bad readings has the number of the first row that is no row of readings
 abbrev pub bad_readings_line : ℕ → List ℕ
 bad_readings_line row = number_line (codes "BAD READINGS ") row
 
--- where readings have more bytes than they may have the last line is `BAD READINGS TOO LONG`
+-- the last line of readings that have more bytes than they may have
 abbrev pub long_readings_line : List ℕ
 long_readings_line = codes "BAD READINGS TOO LONG\n"
 
--- the last line where rules of offsets aren't accepted has the reason, and the number of the first bad line where there
+-- the last line of rules of offsets that aren't accepted has the reason, and the number of the first bad line, if there
 -- is one
 abbrev pub bad_rules_line : RuleFault → List ℕ
 bad_rules_line rules.TooLong = codes "BAD RULES TooLong\n"
 bad_rules_line (rules.BadLine line) = number_line (codes "BAD RULES BadLine ") line
 bad_rules_line rules.SameMonth = codes "BAD RULES SameMonth\n"
 
--- where a book has more bytes than it may have the last line is `BAD BOOK TOO LONG`
+-- the last line of a book that has more bytes than it may have
 abbrev pub long_book_line : List ℕ
 long_book_line = codes "BAD BOOK TOO LONG\n"
 
--- the last line where a book is bad has the number of the first line that is no mark that may follow
+-- the last line of a bad book has the number of the first line that is no mark that may follow
 abbrev pub bad_book_line : ℕ → List ℕ
 bad_book_line line = number_line (codes "BAD BOOK ") line
 
--- where a drive has no end within the bytes that it may have the last line is `BAD DRIVE TOO LONG`
+-- the last line of a drive that has no end within the bytes that it may have
 abbrev pub endless_drive_line : List ℕ
 endless_drive_line = codes "BAD DRIVE TOO LONG\n"
 
--- where a read failed the last line is `READ FAULT`
+-- the last line of a call in which a read failed
 abbrev pub read_fault_line : List ℕ
 read_fault_line = codes "READ FAULT\n"
 
--- where memory ran out the last line is `NO MEMORY`
+-- the last line of a call for which there was no memory
 abbrev pub no_memory_line : List ℕ
 no_memory_line = codes "NO MEMORY\n"
 
--- a command has a status for each way to end
+-- the status of an end
 abbrev pub status_of : Ended → ℕ
 status_of Done = 0
 status_of (Sound cells measure) = 0
@@ -197,7 +197,7 @@ status_of ReadFault = 7
 status_of BoardFault = 8
 status_of NoMemory = 12
 
--- a command has a last line for each way to end, which is empty where the output was printed before or the board failed
+-- the last line of an end, which is empty if the output was printed before, or the board failed
 abbrev pub line_of : Ended → List ℕ
 line_of Done = []
 line_of (Sound cells measure) = sound_line cells measure

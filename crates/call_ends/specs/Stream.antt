@@ -9,20 +9,20 @@ pub data Stream : Type 0 where
   Drive : (word : ℕ) → Stream
   Requests : (word : ℕ) → Stream
 
--- bytes of a stream were taken where its file is split into them and what is left; and none were where there is no
+-- the bytes that were taken of a stream are those in front of what is left of its file; and there are none without a
 -- stream
 abbrev pub Takes : Option Stream → (contents left : ℕ → List ℕ) (taken : List ℕ) → Type 0
 Takes None contents left taken = taken ≡ []
 Takes (Some (Drive word)) contents left taken = IsSplit (contents word) taken (left word)
 Takes (Some (Requests word)) contents left taken = IsSplit (contents word) taken (left word)
 
--- the status of an answer by which the stream is bad or too long is 16 where it is one of requests, and else 3
+-- the status of an answer that calls a stream bad or too long is 16 for requests, and else 3
 abbrev pub bad_status : Option Stream → ℕ
 bad_status None = 3
 bad_status (Some (Drive word)) = 3
 bad_status (Some (Requests word)) = 16
 
--- the bytes of a stream that were taken tell its end, where there is a stream
+-- the bytes that were taken of a stream tell its end, and there is a stream
 abbrev pub TellsItsEnd : Option Stream → (contents left : ℕ → List ℕ) → Type 0
 TellsItsEnd None contents left = ⊥
 TellsItsEnd (Some (Drive word)) contents left = TellsEnd drives (contents word) (left word)

@@ -6,8 +6,8 @@ use Rattle.outside.specs.Runs.{MayHold}
 use Rattle.slot_store.specs.Syncs.{LeavesFromSync}
 
 module _ {D L : Type 0} {N : ℕ} (B : Ghosts D N L) where
-  -- nothing was written where bytes may have changed only where some were in flight, nothing more is in flight, and a
-  -- cut at a moment since any earlier one might have left what it might have left before, or an image that it might
+  -- nothing was written if bytes may have changed only in places that were in flight, and no other place is in flight
+  -- now. A cut at a moment since any earlier one may leave what it might have left before, or an image that it might
   -- have left at the old board
   pub record LeavesUnwritten (old new : D) : Type 0 where
     pub image : SameBut (B.in_flight old) (B.image old) (B.image new)
@@ -17,11 +17,11 @@ module _ {D L : Type 0} {N : ℕ} (B : Ghosts D N L) where
         → B.left_since new start left_image left_text
         → B.left_since old start left_image left_text ⊎ MayHold (B.image old) (B.in_flight old) left_image
 
-  -- a call leaves the image where a cut from its opening sync on leaves the image as it was
+  -- a call leaves the image if a cut from its opening sync on leaves the image as it was
   abbrev pub LeavesImage : (fails : Type 0) (old new : D) → Type 0
   LeavesImage fails old new = LeavesFromSync B fails old new (λ left_image left_text. left_image ≡ B.image old)
 
-  -- a call writes nothing where nothing was written, and unless it ended with 8 no byte has changed
+  -- a call writes nothing if nothing was written, and no byte has changed, unless it ended with 8
   pub record WritesNothing (old new : D) (ended : ℕ) : Type 0 where
     pub bytes : LeavesUnwritten old new
     pub same : ended ≢ 8 → B.image new ≡ B.image old

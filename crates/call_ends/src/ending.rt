@@ -15,7 +15,7 @@ use seal_record::ParamFault;
 use std::sync::ledger::Ledger;
 use taxi_units::Steps;
 
-/// The status of a call whose board failed.
+/// The status of a call in which the board failed.
 pub const BOARD_FAULT: u8 = 8;
 
 /// The status of a call for which there was no memory.
@@ -42,13 +42,13 @@ pub enum Ended {
     SameNumber(u8, u8),
     /// The trip that the store holds doesn't fit the tariff.
     BadTrip,
-    /// The sealed digest is this, and that of the tariff's text the other.
+    /// The tariff isn't the sealed one: the sealed digest, and that of its text.
     WrongTariff([u8; 32], [u8; 32]),
     /// The store holds a trip.
     TripHeld,
     /// The found seal has the last number.
     SealEnded,
-    /// The found seal has these decimals, and the tariff those.
+    /// The decimals of the found seal, and those of the tariff, which differ.
     OtherDecimals(u8, u8),
     /// The parameters aren't accepted, and why.
     BadParams(ParamFault),
@@ -56,9 +56,9 @@ pub enum Ended {
     Sealed(u64),
     /// The byte at this place, from 0 on, is the first that no stream of requests has there.
     BadFrame(u64),
-    /// As many bytes as requests may have were taken, and their end wasn't reached.
+    /// The requests have no end within the bytes that they may have.
     EndlessRequests,
-    /// The row of this number is the first that is no row of readings.
+    /// This row, from 1 on, is the first that is no row of readings.
     BadReadings(u64),
     /// The readings have more bytes than readings may have.
     LongReadings,
@@ -72,11 +72,11 @@ pub enum Ended {
     BadRules(RuleFault),
     /// The book has more than 1,048,576 bytes.
     LongBook,
-    /// The line of this number is the first of the book that is no mark that may follow.
+    /// This line, from 1 on, is the first of the book that is no mark that may follow.
     BadBook(u64),
     /// The line of this number is no line of a drive.
     BadDrive(u64),
-    /// As many bytes as a drive may have were taken, and its end wasn't reached.
+    /// The drive has no end within the bytes that it may have.
     EndlessDrive,
     /// A read failed.
     ReadFault,
@@ -86,7 +86,7 @@ pub enum Ended {
     NoMemory,
 }
 
-/// How a command ended whose tariff wasn't read.
+/// How a command ended that couldn't read its tariff.
 pub fn refused_by(fault: TextFault) -> Ended
     ensures { result ≡ ended_for fault }
 {
@@ -97,7 +97,7 @@ pub fn refused_by(fault: TextFault) -> Ended
     }
 }
 
-/// The status of an end whose last line was printed.
+/// The status of an end after its last line was printed.
 fn status(ended: Ended) -> u8
     ensures { result ≡ status_of ended }
 {
@@ -135,7 +135,7 @@ fn status(ended: Ended) -> u8
     }
 }
 
-/// Prints the last line of an end, and gives its status, or 8 where the board fails.
+/// Prints the last line of an end, and gives its status: 8 if the board fails.
 #[tactic(auto, using(crate::proofs::BoardRuns::board_runs))]
 pub fn finish<B: Board<STORE_SIZE, L>, L: Ledger>(
     ended: Ended,

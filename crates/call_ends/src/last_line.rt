@@ -16,7 +16,7 @@ use seal_record::{Name, ParamFault};
 use tariff_check::{CheckFault, Dimension};
 use taxi_units::{Line, push_bytes, push_number};
 
-/// The last line, which is empty where there is none.
+/// The last line, which is empty if the end has none.
 pub fn last_line(ended: Ended) -> Line
     ensures { result.items ≡ line_of ended }
 {
@@ -56,7 +56,7 @@ pub fn last_line(ended: Ended) -> Line
     line
 }
 
-/// The last line where a tariff isn't accepted, by why it isn't.
+/// The last line for a tariff that isn't accepted.
 pub fn bad_tariff_line(why: Refusal) -> Line
     ensures { result.items ≡ bad_tariff_line why }
 {

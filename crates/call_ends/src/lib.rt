@@ -1,4 +1,4 @@
-//! What a command is, how a call of one may end, with its status and its last line, and the tariff of a word.
+//! What a command is, how a call of one may end, and the tariff of a word.
 #![tactic(auto)]
 
 mod ending;

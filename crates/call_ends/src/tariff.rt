@@ -16,7 +16,7 @@ use tariff_syntax::{ParseFault, parse};
 pub enum Refusal {
     /// It has more than 65,536 bytes.
     TooLong,
-    /// The line of this number is the first that is no line of a tariff.
+    /// This line, from 1 on, is the first that is no line of a tariff.
     Syntax(u32),
     /// It isn't sound: this is its first fault.
     Unsound(CheckFault),
@@ -36,7 +36,7 @@ pub enum TextFault {
 /// How many bytes a tariff has at most.
 const MOST: usize = 65_536;
 
-/// Reads what is left of a word's file, where it has at most 65,536 bytes. `Refused` where it has more.
+/// Reads what is left of a word's file, to its end. `Refused`: it has more than 65,536 bytes.
 pub fn text_of_word<F: Files>(
     alloc: Global,
     files: &mut F,
@@ -62,7 +62,7 @@ pub fn text_of_word<F: Files>(
     }
 }
 
-/// Why a text whose tariff has this fault wasn't read.
+/// Why a text isn't read whose tariff has this fault.
 fn unsound(fault: CheckFault) -> TextFault
     ensures { result ≡ unsound_for fault }
 {
@@ -72,8 +72,8 @@ fn unsound(fault: CheckFault) -> TextFault
     }
 }
 
-/// The sound tariff of a text. `NoMemory` only of a text whose lines are those of a tariff, sound or not.
-#[tactic(auto, using(crate::proofs::Tariffs::writable_of, crate::proofs::Tariffs::syntax_of))]
+/// The sound tariff of a text. `NoMemory` comes only if the lines are those of a tariff, sound or not.
+#[tactic(auto, using(tariff_syntax::proofs::Laws::parsed_is_writable, crate::proofs::Tariffs::syntax_of))]
 pub fn tariff_of_text(alloc: Global, text: &[u8]) -> Result<Checked, TextFault>
     ensures found { IfOk result (λ c. tariff_in text.now ≡ Ok (tree_of c)) }
     ensures refused { (why : Refusal) → result ≡ Err (TextFault.Refused why) → tariff_in text.now ≡ Err why }
@@ -91,7 +91,7 @@ pub fn tariff_of_text(alloc: Global, text: &[u8]) -> Result<Checked, TextFault>
     }
 }
 
-/// Reads the tariff of a word, to the end of its file where it is accepted.
+/// Reads the sound tariff of a word, to the end of its file if it is accepted.
 pub fn read_tariff<F: Files>(
     alloc: Global,
     files: &mut F,

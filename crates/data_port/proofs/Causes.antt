@@ -1,4 +1,4 @@
--- What a call says of a count of faults where it failed, and where it didn't.
+-- What a call says of a count of faults if it failed, and if it didn't.
 use Rattle.std.proofs.Common.{◌≡◌, ℕ, ◌+◌, ◌<◌, ◌≤◌, true, false, Result, Ok, Err, OnErr, is_err, refl, arith}
 use Rattle.outside.specs.Faults.{HasCause}
 use Rattle.data_port.specs.declared.serving.PortFault.{PortFault}

@@ -1,6 +1,6 @@
 -- The laws that the public empty functions state.
-use Rattle.std.proofs.Common.{◌≡◌, ◌↔◌, ℕ, zero, suc, ◌≤◌, List, [], ◌∷◌, ◌++◌, length, take, map, true, false, Option}
-use Rattle.std.proofs.Common.{Some, None, refl, sym, ap, ◌∙◌, arith}
+use Rattle.std.proofs.Common.{◌≡◌, ℕ, zero, suc, ◌≤◌, List, [], ◌∷◌, ◌++◌, length, take, map, true, false, Some, None}
+use Rattle.std.proofs.Common.{sym, refl, ap, ◌∙◌, arith}
 use Rattle.std.specs.Int.{w16, to_be_bytes, from_be_bytes}
 use Rattle.std.specs.List.{All}
 use Rattle.std.proofs.lemmas.List.{take_at, drop_at}
@@ -14,10 +14,13 @@ use Rattle.data_port.specs.declared.request.Request.{Request}
 use Rattle.data_port.specs.Items.{Agrees, all_items_size, content, size_of, item_count}
 use Rattle.data_port.specs.Reply.{AgreeOn, answers_in, body_of, items_in, framed, items_bytes, reply_to}
 use Rattle.data_port.specs.Requests.{IsRequest, Rise, codes_of}
-use Rattle.data_port.specs.Reading.{HasTaken, Standing, bad_at_end, first_bad, given_by, requests_after, requests_in}
-use Rattle.data_port.specs.Streams.{EndsWhole, IsReadAs, bytes_of}
+use Rattle.data_port.specs.Reading.{HasTaken, Standing, first_bad}
+pub use Rattle.data_port.proofs.Feeding.{failed_stays}
+pub use Rattle.data_port.proofs.Streams.{so_far as stream_so_far, at_end as stream_at_end, bad_end as bad_streams}
+pub use Rattle.data_port.proofs.Streams.{unfinished_end as unfinished_streams, bad_stays, bad_ends_requests}
+pub use Rattle.data_port.proofs.Streams.{requests_added as requests_are_added, pieces_give_requests}
+pub use Rattle.data_port.proofs.Streams.{pieces_give_the_same}
 use Rattle.data_port.proofs.Bodies.{rise_few, whole_items}
-use Rattle.data_port.proofs.Feeding as feeding
 use Rattle.data_port.proofs.Parts.{content_long, same_content}
 use Rattle.data_port.proofs.Streams as streams
 
@@ -68,43 +71,8 @@ replies_are_read_back request durable seal r d s =
     ∙ items_back durable seal d s item_count 0 (codes_of request) r.rise
     (omega (arith, rise_few 0 (codes_of request) r.rise (omega arith)))
 
--- ---- what streams say
+-- ---- a port is known by its bytes
 
--- of streams_are_read_by_their_frames
-pub stream_so_far : (bytes : List ℕ) (bad : Option ℕ) (requests : List Request)
-    → ((first_bad bytes ≡ bad) × (requests_in bytes ≡ requests)) ↔ IsReadAs bytes bad requests
-stream_so_far = streams.so_far
-
-pub stream_at_end : (bytes : List ℕ) (requests : List Request)
-    → ((bad_at_end bytes ≡ None) × (requests_in bytes ≡ requests)) ↔ EndsWhole bytes requests
-stream_at_end = streams.at_end
-
-pub bad_streams : (bytes : List ℕ) (place : ℕ) → first_bad bytes ≡ Some place → bad_at_end bytes ≡ Some place
-bad_streams = streams.bad_end
-
-pub unfinished_streams : (bytes : List ℕ) (place : ℕ) → first_bad bytes ≡ None → bad_at_end bytes ≡ Some place
-    → place ≡ length bytes
-unfinished_streams = streams.unfinished_end
-
--- of more_bytes_add_requests
-pub bad_stays : (b c : List ℕ) (place : ℕ) → first_bad b ≡ Some place → first_bad (b ++ c) ≡ Some place
-bad_stays = streams.bad_stays
-
-pub bad_ends_requests : (b c : List ℕ) (place : ℕ) → first_bad b ≡ Some place → requests_in (b ++ c) ≡ requests_in b
-bad_ends_requests = streams.bad_ends_requests
-
-pub requests_are_added : (b c : List ℕ) → requests_in (b ++ c) ≡ requests_in b ++ requests_after b c
-requests_are_added = streams.requests_added
-
--- of pieces_give_the_requests_of_all_bytes
-pub pieces_give_requests : (pieces : List (List ℕ)) → given_by [] pieces ≡ requests_in (bytes_of pieces)
-pieces_give_requests = streams.pieces_give
-
-pub pieces_give_the_same : (one other : List (List ℕ)) → bytes_of one ≡ bytes_of other
-    → given_by [] one ≡ given_by [] other
-pieces_give_the_same one other e = streams.pieces_give one ∙ (ap requests_in e ∙ sym (streams.pieces_give other))
-
--- of a_port_is_known_by_its_bytes
 pub going_port : (port : Standing) (b : List ℕ) → HasTaken port b → port.failed ≡ false → first_bad b ≡ None
 going_port port b h going = streams.bad_none b (sym (ap (λ (s : Standing). s.failed) h) ∙ going)
 
@@ -115,9 +83,6 @@ going_count port b h going =
 pub failed_port : (port : Standing) (b : List ℕ) → HasTaken port b → port.failed ≡ true → first_bad b ≡ Some port.taken
 failed_port port b h failed =
     streams.bad_some b (sym (ap (λ (s : Standing). s.failed) h) ∙ failed) ∙ ap (λ (s : Standing). Some s.taken) (sym h)
-
-pub failed_stays : (port : Standing) (b c : List ℕ) → HasTaken port b → port.failed ≡ true → HasTaken port (b ++ c)
-failed_stays port b c h failed = feeding.failed_taken port b c failed h
 
 pub same_port : (port other : Standing) (b : List ℕ) → HasTaken port b → HasTaken other b → port ≡ other
 same_port port other b h g = h ∙ sym g

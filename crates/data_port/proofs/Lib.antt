@@ -2,8 +2,6 @@
 mod Bodies
 -- what a call passes on of one that failed behind others
 mod Causes
--- how a stream ends, by the bytes that were taken of it
-mod Endings
 -- what each byte of a piece changes of a port
 mod Feeding
 -- the laws that the crates above may cite

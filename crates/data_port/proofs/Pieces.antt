@@ -5,6 +5,9 @@ use Rattle.std.proofs.Common.{length-take}
 use Rattle.std.specs.Prelude.{All, IfOk, IfErr, OnOk, OnErr, is_err}
 use Rattle.std.proofs.lemmas.Grind.{flat_map-append}
 use Rattle.std.proofs.lemmas.List.{append-nil, nil_from_length, take-append-drop}
+use Rattle.taxi_units.specs.Streams.{IsSplit, KeepsBad}
+use Rattle.taxi_units.proofs.Laws.{bad_stream_reached, endless_stream_reached, unfinished_stream_reached}
+use Rattle.taxi_units.proofs.Laws.{whole_stream_reached}
 use Rattle.outside.specs.Printing.{Begins}
 use Rattle.outside.proofs.Laws.{begins_after, begins_more}
 use Rattle.seal_record.specs.declared.seal.Seal.{Seal}
@@ -19,10 +22,10 @@ use Rattle.data_port.specs.ReadingStages.{after_bytes, bad_of, ended_in}
 use Rattle.data_port.specs.Reply.{reply_to}
 use Rattle.data_port.specs.Requests.{IsRequest}
 use Rattle.data_port.specs.Serving.{BadAt, Endless, IsBoundedByRequests, ReachesEnd, Serves, ServesTo, StopsAfter}
-use Rattle.data_port.specs.Serving.{StreamEnd}
-use Rattle.data_port.specs.Serving.{Whole, replies, stream_limit}
+use Rattle.data_port.specs.Serving.{StreamEnd, Whole, replies, stream_limit}
+use Rattle.data_port.specs.Serving as serving
 use Rattle.data_port.specs.ServingStages.{ServesPiece}
-use Rattle.data_port.proofs.Endings.{bad_ends, endless_ends, unfinished_ends, whole_ends}
+use Rattle.data_port.proofs.Streams.{bad_end, bad_ends_requests, bad_stays}
 use Rattle.data_port.proofs.Laws.{going_count, going_port}
 use Rattle.data_port.proofs.Parts.{flat_more}
 use Rattle.data_port.proofs.Runs.{after-append, ended-append}
@@ -90,31 +93,9 @@ pub ok_of : {T E : Type 0} (r : Result T E) (P : Type 0) → is_err r ≡ false 
 ok_of (Ok x) P e p = p
 ok_of (Err y) P e p = absurd (cc)
 
--- ---- what a port gives of the rest of a piece
+-- ---- a piece so far
 
-fed_requests : (now : Standing) (rest : List ℕ) (items : List Request) (n : ℕ) → HasSense now
-    → ((b : List ℕ) → HasTaken now b → TakesTo b rest [] items n) → items ≡ ended_in now (take n rest)
-fed_requests now rest items n sense takes =
-    (takes sense.0 sense.1).requests ∙ ap (λ (s : Standing). ended_in s (take n rest)) (sym sense.1)
-
-fed_standing : (now new : Standing) (rest : List ℕ) (n : ℕ) → HasSense now
-    → ((b : List ℕ) → HasTaken now b → HasTaken new (b ++ take n rest)) → new ≡ after_bytes now (take n rest)
-fed_standing now new rest n sense taken =
-    taken sense.0 sense.1 ∙ (after-append (between 0) sense.0 (take n rest)
-    ∙ ap (λ (s : Standing). after_bytes s (take n rest)) (sym sense.1))
-
-broke_requests : (now : Standing) (rest : List ℕ) (items : List Request) (place : ℕ) → HasSense now
-    → ((b : List ℕ) → HasTaken now b → BreaksIn b rest [] items place) → items ≡ ended_in now rest
-broke_requests now rest items place sense breaks =
-    (breaks sense.0 sense.1).requests ∙ ap (λ (s : Standing). ended_in s rest) (sym sense.1)
-
-broke_bad : (now : Standing) (rest : List ℕ) (items : List Request) (place : ℕ) → HasSense now
-    → ((b : List ℕ) → HasTaken now b → BreaksIn b rest [] items place) → bad_of (after_bytes now rest) ≡ Some place
-broke_bad now rest items place sense breaks =
-    ap (λ (s : Standing). bad_of (after_bytes s rest)) sense.1
-    ∙ (ap bad_of (sym (after-append (between 0) sense.0 rest)) ∙ (breaks sense.0 sense.1).bad)
-
--- they are the first ones of the rest
+-- requests are the first ones of the rest of a piece
 pub record Starts (now : Standing) (rest : List ℕ) (items : List Request) : Type 0 where
   pub more : List Request
   pub whole : ended_in now rest ≡ items ++ more
@@ -123,51 +104,6 @@ taken_ended : (now : Standing) (rest : List ℕ) (n : ℕ)
     → ended_in now rest ≡ ended_in now (take n rest) ++ ended_in (after_bytes now (take n rest)) (drop n rest)
 taken_ended now rest n =
     ap (ended_in now) (sym (take-append-drop n rest)) ∙ ended-append now (take n rest) (drop n rest)
-
-pub starts_of : (now : Standing) (rest : List ℕ) (items : List Request) (fed : Result ℕ BadFrame) → HasSense now
-    → now.failed ≡ false
-    → IfOk fed (λ n. (b : List ℕ) → HasTaken now b → TakesTo b rest [] items n)
-    → IfErr fed (λ e. now.failed ≡ false → (b : List ℕ) → HasTaken now b → BreaksIn b rest [] items e.place)
-    → Starts now rest items
-starts_of now rest items (Ok n) sense going takes breaks = record {
-  more = ended_in (after_bytes now (take n rest)) (drop n rest);
-  whole = taken_ended now rest n ∙ ap (λ (rs : List Request).
-      rs ++ ended_in (after_bytes now (take n rest)) (drop n rest)) (sym (fed_requests now rest items n sense takes));
-}
-starts_of now rest items (Err e) sense going takes breaks = record {
-  more = [];
-  whole = sym (broke_requests now rest items e.place sense (breaks going)) ∙ sym (append-nil items);
-}
-
--- the same of a list that was empty, whose requests are shown
-pub starts_by : (now : Standing) (rest : List ℕ) (none items shown : List Request) (fed : Result ℕ BadFrame) → none ≡ []
-    → shown ≡ items → HasSense now → now.failed ≡ false
-    → IfOk fed (λ n. (b : List ℕ) → HasTaken now b → TakesTo b rest none items n)
-    → IfErr fed (λ e. now.failed ≡ false → (b : List ℕ) → HasTaken now b → BreaksIn b rest none items e.place)
-    → Starts now rest shown
-starts_by now rest none items shown fed empty same sense going takes breaks =
-    subst (λ (rs : List Request). Starts now rest rs) (sym same)
-    (starts_of now rest items fed sense going
-    (subst
-    (λ (rs : List Request). IfOk fed (λ n. (b : List ℕ) → HasTaken now b → TakesTo b rest rs items n)) empty takes)
-    (subst (λ (rs : List Request). IfErr fed
-    (λ e. now.failed ≡ false → (b : List ℕ) → HasTaken now b → BreaksIn b rest rs items e.place)) empty breaks))
-
-pub takes_by : (now : Standing) (rest : List ℕ) (none items shown : List Request) (n : ℕ) → none ≡ [] → shown ≡ items
-    → ((b : List ℕ) → HasTaken now b → TakesTo b rest none items n) → (b : List ℕ) → HasTaken now b
-    → TakesTo b rest [] shown n
-takes_by now rest none items shown n empty same takes b h =
-    subst (λ (rs : List Request). TakesTo b rest [] rs n) (sym same)
-    (subst (λ (rs : List Request). TakesTo b rest rs items n) empty (takes b h))
-
-pub breaks_by : (now : Standing) (rest : List ℕ) (none items shown : List Request) (place : ℕ) → none ≡ []
-    → shown ≡ items → (now.failed ≡ false → (b : List ℕ) → HasTaken now b → BreaksIn b rest none items place)
-    → now.failed ≡ false → (b : List ℕ) → HasTaken now b → BreaksIn b rest [] shown place
-breaks_by now rest none items shown place empty same breaks going b h =
-    subst (λ (rs : List Request). BreaksIn b rest [] rs place) (sym same)
-    (subst (λ (rs : List Request). BreaksIn b rest rs items place) empty (breaks going b h))
-
--- ---- a piece so far
 
 pub record PieceSoFar (told : Type 0) (durable : Durable) (seal : Seal) (first now : Standing)
     (piece rest before printed : List ℕ) (opening steps : ℕ) : Type 0 where
@@ -213,9 +149,8 @@ end_is_no_fault P same = absurd cc
 pub read_is_no_fault : (P : Type 0) → ◌≡◌ {A = Result (Unit {0}) PortFault} (Err ReadFault) (Err BoardFault) → P
 read_is_no_fault P same = absurd (let bad : ReadFault ≡ BoardFault = cc in cc)
 
-module _ (told : Type 0) (durable : Durable) (seal : Seal) (first now : Standing) (piece rest before printed : List ℕ)
-    (opening steps : ℕ)
-    (f : PieceSoFar told durable seal first now piece rest before printed opening steps) where
+module _ {told : Type 0} {durable : Durable} {seal : Seal} {first now : Standing} {piece rest before printed : List ℕ}
+    {opening steps : ℕ} (f : PieceSoFar told durable seal first now piece rest before printed opening steps) where
   pub piece_sense : HasSense first → HasSense now
   piece_sense sense = (
     sense.0 ++ f.done,
@@ -240,7 +175,7 @@ module _ (told : Type 0) (durable : Durable) (seal : Seal) (first now : Standing
   pub piece_few : first.taken + length piece < 2 ^ 64 → now.taken + length rest < 2 ^ 64
   piece_few few = omega (arith, few, f.counted, ap length f.split, length-append f.done rest)
 
-  -- where nothing is left the piece was served
+  -- if nothing is left the piece was served
   all_done : length rest ≡ 0 → piece ≡ f.done
   all_done none = f.split ∙ (ap (λ (l : List ℕ). f.done ++ l) (nil_from_length rest none) ∙ append-nil f.done)
 
@@ -257,16 +192,45 @@ module _ (told : Type 0) (durable : Durable) (seal : Seal) (first now : Standing
   piece_whole_steps none =
       subst (λ (l : List ℕ). steps ≤ opening + length (ended_in first l)) (sym (all_done none)) f.bounded
 
-  pub piece_begun : (items : List Request) (printed' : List ℕ) → Starts now rest items → (told → Begins printed printed'
+  -- what a port gives of the rest, which it appends to none
+  piece_fed : {none items shown : List Request} → none ≡ [] → shown ≡ items → HasSense first → (n : ℕ)
+      → ((b : List ℕ) → HasTaken now b → TakesTo b rest none items n) → shown ≡ ended_in now (take n rest)
+  piece_fed empty same sense n takes =
+      let here = piece_sense sense in
+      let at = sym here.1 in
+      same ∙ ((takes here.0 here.1).requests ∙ (λ i. empty i ++ ended_in (at i) (take n rest)))
+
+  piece_broke : {none items shown : List Request} → none ≡ [] → shown ≡ items → HasSense first → (place : ℕ)
+      → ((b : List ℕ) → HasTaken now b → BreaksIn b rest none items place) → shown ≡ ended_in now rest
+  piece_broke empty same sense place breaks =
+      let here = piece_sense sense in
+      let at = sym here.1 in
+      same ∙ ((breaks here.0 here.1).requests ∙ (λ i. empty i ++ ended_in (at i) rest))
+
+  pub piece_starts : {none items shown : List Request} → none ≡ [] → shown ≡ items → HasSense first
+      → (fed : Result ℕ BadFrame) → IfOk fed (λ n. (b : List ℕ) → HasTaken now b → TakesTo b rest none items n)
+      → IfErr fed (λ e. now.failed ≡ false → (b : List ℕ) → HasTaken now b → BreaksIn b rest none items e.place)
+      → Starts now rest shown
+  piece_starts empty same sense (Ok n) takes breaks = record {
+    more = ended_in (after_bytes now (take n rest)) (drop n rest);
+    whole = taken_ended now rest n ∙ ap (λ (rs : List Request). rs ++ ended_in (after_bytes now (take n rest))
+        (drop n rest)) (sym (piece_fed empty same sense n takes));
+  }
+  piece_starts {none} {items} {shown} empty same sense (Err e) takes breaks = record {
+    more = [];
+    whole = sym (piece_broke empty same sense e.place (breaks f.going)) ∙ sym (append-nil shown);
+  }
+
+  pub piece_begun : {items : List Request} (printed' : List ℕ) → Starts now rest items → (told → Begins printed printed'
       (replies durable seal items)) → told → Begins before printed' (replies durable seal (ended_in first piece))
-  piece_begun items printed' s begun t =
+  piece_begun {items} printed' s begun t =
       begun_of durable seal before printed' (ended_in first f.done ++ items) s.more (ended_in first piece)
       (begun_more durable seal before printed printed' (ended_in first f.done) items (ended_in first f.done ++ items)
       (f.shown t) (begun t) refl) (all_of items s)
 
-  pub piece_steps : (items : List Request) (steps' : ℕ) → Starts now rest items → steps' ≤ steps + length items
+  pub piece_steps : {items : List Request} (steps' : ℕ) → Starts now rest items → steps' ≤ steps + length items
       → steps' ≤ opening + length (ended_in first piece)
-  piece_steps items steps' s more =
+  piece_steps {items} steps' s more =
       omega (
         arith,
         f.bounded,
@@ -277,49 +241,54 @@ module _ (told : Type 0) (durable : Durable) (seal : Seal) (first now : Standing
       )
 
   -- a bad place came
-  pub piece_bad : (items : List Request) (place : ℕ) → HasSense first → (now.failed ≡ false → (b : List ℕ)
-      → HasTaken now b → BreaksIn b rest [] items place) → bad_of (after_bytes first piece) ≡ Some place
-  piece_bad items place sense breaks =
-      ap bad_of whole_standing ∙ broke_bad now rest items place (piece_sense sense) (breaks f.going)
-
-  pub piece_bad_shown : (items : List Request) (printed' : List ℕ) (place : ℕ) → HasSense first
-      → (now.failed ≡ false → (b : List ℕ) → HasTaken now b → BreaksIn b rest [] items place)
-      → (told → printed' ≡ printed ++ replies durable seal items) → told
-      → printed' ≡ before ++ replies durable seal (ended_in first piece)
-  piece_bad_shown items printed' place sense breaks shown t =
-      printed_more durable seal before printed printed' (ended_in first f.done) items (ended_in first piece)
-      (f.shown t) (shown t)
-      (whole_ended ∙ ap (λ (rs : List Request). ended_in first f.done ++ rs)
-      (sym (broke_requests now rest items place (piece_sense sense) (breaks f.going))))
+  pub piece_bad : {none items shown : List Request} (printed' : List ℕ) → none ≡ [] → shown ≡ items → HasSense first
+      → (place : ℕ) → (now.failed ≡ false → (b : List ℕ) → HasTaken now b → BreaksIn b rest none items place)
+      → (told → printed' ≡ printed ++ replies durable seal shown) → (bad_of (after_bytes first piece) ≡ Some place)
+      × (told → printed' ≡ before ++ replies durable seal (ended_in first piece))
+  piece_bad {none} {items} {shown} printed' empty same sense place breaks here =
+      let at = piece_sense sense in (
+        ap bad_of whole_standing ∙ (ap (λ (s : Standing). bad_of (after_bytes s rest)) at.1
+            ∙ (ap bad_of (sym (after-append (between 0) at.0 rest)) ∙ (breaks f.going at.0 at.1).bad)),
+        λ t. printed_more durable seal before printed printed' (ended_in first f.done) shown (ended_in first piece)
+            (f.shown t) (here t) (whole_ended ∙ ap (λ (rs : List Request). ended_in first f.done ++ rs)
+            (sym (piece_broke empty same sense place (breaks f.going)))),
+      )
 
   -- more of it was taken
-  pub piece_more : (new : Standing) (rest' printed' : List ℕ) (items : List Request) (steps' n : ℕ) → HasSense first
-      → n ≤ length rest → rest' ≡ drop n rest
+  pub piece_more : (new : Standing) (printed' : List ℕ) (steps' n : ℕ) {none items shown : List Request}
+      {rest' : List ℕ} → none ≡ [] → shown ≡ items → HasSense first → n ≤ length rest → rest' ≡ drop n rest
       → ((b : List ℕ) → HasTaken now b → HasTaken new (b ++ take n rest))
-      → ((b : List ℕ) → HasTaken now b → TakesTo b rest [] items n) → new.failed ≡ false → new.taken ≡ now.taken + n
-      → (told → printed' ≡ printed ++ replies durable seal items) → steps' ≤ steps + length items
+      → ((b : List ℕ) → HasTaken now b → TakesTo b rest none items n) → new.failed ≡ false → new.taken ≡ now.taken + n
+      → (told → printed' ≡ printed ++ replies durable seal shown) → steps' ≤ steps + length shown
       → PieceSoFar told durable seal first new piece rest' before printed' opening steps'
-  piece_more new rest' printed' items steps' n sense within rest_is taken takes going count shown more =
-      let here = piece_sense sense in
-      let items_are = fed_requests now rest items n here takes in
-      let ended : ended_in first (f.done ++ take n rest) ≡ ended_in first f.done ++ items =
+  piece_more new printed' steps' n {none} {items} {shown} {rest'} empty same sense within rest_is taken takes going
+      count here more =
+      let at = piece_sense sense in
+      let ended : ended_in first (f.done ++ take n rest) ≡ ended_in first f.done ++ shown =
       ended-append first f.done (take n rest)
       ∙ (ap (λ (s : Standing). ended_in first f.done ++ ended_in s (take n rest)) (sym f.now_is)
-      ∙ ap (λ (rs : List Request). ended_in first f.done ++ rs) (sym items_are)) in
+      ∙ ap (λ (rs : List Request). ended_in first f.done ++ rs) (sym (piece_fed empty same sense n takes))) in
       record {
         done = f.done ++ take n rest;
         split = f.split ∙ (ap (λ (l : List ℕ). f.done ++ l) (sym (take-append-drop n rest)
             ∙ ap (λ (l : List ℕ). take n rest ++ l) (sym rest_is)) ∙ sym (append_assoc f.done (take n rest) rest'));
-        now_is = fed_standing now new rest n here taken ∙ (ap (λ (s : Standing). after_bytes s (take n rest)) f.now_is
-            ∙ sym (after-append first f.done (take n rest)));
+        now_is = taken at.0 at.1 ∙ (after-append (between 0) at.0 (take n rest)
+            ∙ (ap (λ (s : Standing). after_bytes s (take n rest)) (sym at.1 ∙ f.now_is)
+            ∙ sym (after-append first f.done (take n rest))));
         going = going;
         counted = omega (arith, f.counted, count, within, length-append f.done (take n rest), length-take n rest);
-        shown = λ t. printed_more durable seal before printed printed' (ended_in first f.done) items
-            (ended_in first (f.done ++ take n rest)) (f.shown t) (shown t) ended;
-        bounded = omega (arith, f.bounded, more, ap length ended, length-append (ended_in first f.done) items);
+        shown = λ t. printed_more durable seal before printed printed' (ended_in first f.done) shown
+            (ended_in first (f.done ++ take n rest)) (f.shown t) (here t) ended;
+        bounded = omega (arith, f.bounded, more, ap length ended, length-append (ended_in first f.done) shown);
       }
 
 -- ---- a stream so far
+
+keeps : KeepsBad serving.requests
+keeps = record { stays = bad_stays; ends = bad_end }
+
+parts : {stream : List ℕ} (taken left : List ℕ) → stream ≡ taken ++ left → IsSplit stream taken left
+parts taken left bytes = record { bytes = bytes }
 
 -- the replies to the requests of bytes of the stream were printed
 pub record ServedSoFar (known told : Type 0) (durable : Durable) (seal : Seal) (port : Standing)
@@ -333,8 +302,8 @@ pub record ServedSoFar (known told : Type 0) (durable : Durable) (seal : Seal) (
   pub shown : told → printed ≡ before ++ replies durable seal (requests_in taken)
   pub bounded : steps ≤ opening + length (requests_in taken)
 
-module _ (known told : Type 0) (durable : Durable) (seal : Seal) (port : Standing) (stream rest before printed : List ℕ)
-    (left opening steps : ℕ)
+module _ {known told : Type 0} {durable : Durable} {seal : Seal} {port : Standing}
+    {stream rest before printed : List ℕ} {left opening steps : ℕ}
     (f : ServedSoFar known told durable seal port stream rest before printed left opening steps) where
   good : first_bad f.taken ≡ None
   good = going_port port f.taken f.stands f.going
@@ -402,7 +371,8 @@ module _ (known told : Type 0) (durable : Durable) (seal : Seal) (port : Standin
 
   pub served_long : left ≡ 0 → known → ServesTo told durable seal stream rest before printed Endless
   served_long none k = serves f.taken rest printed Endless
-      (endless_ends stream f.taken rest (f.split k) (omega (arith, f.room, none)) good) f.shown
+      (endless_stream_reached serving.requests requests_in (parts f.taken rest (f.split k))
+      (omega (arith, f.room, none)) good) f.shown
 
   at_end : (rest' : List ℕ) → rest ≡ [] → rest' ≡ [] → known → stream ≡ f.taken ++ rest'
   at_end rest' none none' k = f.split k ∙ ap (λ (l : List ℕ). f.taken ++ l) (none ∙ sym none')
@@ -410,15 +380,17 @@ module _ (known told : Type 0) (durable : Durable) (seal : Seal) (port : Standin
   pub served_whole : (rest' : List ℕ) → 0 < left → (known → rest ≡ []) → (known → rest' ≡ []) → ((b : List ℕ)
       → HasTaken port b → bad_at_end b ≡ None) → known → ServesTo told durable seal stream rest' before printed Whole
   served_whole rest' some none none' whole k =
-      serves f.taken rest' printed Whole (whole_ends stream f.taken rest' (at_end rest' (none k) (none' k) k) (none' k)
+      serves f.taken rest' printed Whole (whole_stream_reached serving.requests requests_in
+      (parts f.taken rest' (at_end rest' (none k) (none' k) k)) (none' k)
       (omega (arith, f.room, some)) (whole f.taken f.stands)) f.shown
 
   pub served_unfinished : (rest' : List ℕ) (place : ℕ) → 0 < left → (known → rest ≡ []) → (known → rest' ≡ [])
       → ((b : List ℕ) → HasTaken port b → bad_at_end b ≡ Some place) → known
       → ServesTo told durable seal stream rest' before printed (BadAt place)
   served_unfinished rest' place some none none' bad k =
-      serves f.taken rest' printed (BadAt place) (unfinished_ends stream f.taken rest' place
-      (at_end rest' (none k) (none' k) k) (none' k) (omega (arith, f.room, some)) (bad f.taken f.stands)) f.shown
+      serves f.taken rest' printed (BadAt place) (unfinished_stream_reached serving.requests requests_in
+      (parts f.taken rest' (at_end rest' (none k) (none' k) k)) (none' k)
+      (omega (arith, f.room, some)) (bad f.taken f.stands)) f.shown
 
   same_err : (e other : PortFault) → err_of e ≡ err_of other → e ≡ other
   same_err e other is = cc
@@ -439,9 +411,11 @@ module _ (known told : Type 0) (durable : Durable) (seal : Seal) (port : Standin
       → (told → printed' ≡ printed ++ replies durable seal (ended_in port piece)) → known
       → ServesTo told durable seal stream rest' before printed' (BadAt place)
   served_bad piece rest' printed' place few passes bad shown k =
+      let is = ap bad_of (sym (more_standing piece)) ∙ bad in
       serves (f.taken ++ piece) rest' printed' (BadAt place)
-      (bad_ends stream (f.taken ++ piece) rest' place (longer piece rest' passes k)
-      (omega (arith, f.room, few, length-append f.taken piece)) (ap bad_of (sym (more_standing piece)) ∙ bad))
+      (bad_stream_reached serving.requests requests_in (parts (f.taken ++ piece) rest' (longer piece rest' passes k))
+      keeps (λ more. bad_ends_requests (f.taken ++ piece) more place is)
+      (omega (arith, f.room, few, length-append f.taken piece)) is)
       (λ t. printed_more durable seal before printed printed' (requests_in f.taken) (ended_in port piece)
       (requests_in (f.taken ++ piece)) (f.shown t) (shown t) (more_requests piece))
 

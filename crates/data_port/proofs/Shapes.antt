@@ -12,7 +12,7 @@ use Rattle.data_port.specs.Streams.{IsUnfinished}
 
 -- ---- codes
 
--- the last of codes, or this number where there is none
+-- the last of codes, or this number if there is none
 abbrev pub last_from : ℕ → List ℕ → ℕ
 last_from above [] = above
 last_from above (code ∷ codes) = last_from code codes

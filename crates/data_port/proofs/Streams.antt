@@ -289,7 +289,7 @@ at_end bytes requests = ((λ h. ends_whole bytes requests h.0 h.1), whole_ends b
 some_same : (a b : ℕ) → Some a ≡ Some b → a ≡ b
 some_same a b e = cc
 
--- where no bad place came, an unfinished request is bad behind the last byte
+-- if no bad place came, an unfinished request is bad behind the last byte
 pub unfinished_end : (bytes : List ℕ) (place : ℕ) → first_bad bytes ≡ None → bad_at_end bytes ≡ Some place
     → place ≡ length bytes
 unfinished_end bytes place good bad = either (cases_Bool (standing_after bytes).failed)
@@ -346,8 +346,12 @@ given_after before (piece ∷ pieces) =
     ∙ ap (λ (s : Standing). ended_in s (bytes_of pieces)) (after-append (between 0) before piece))
     ∙ sym (ended-append (standing_after before) piece (bytes_of pieces))
 
-pub pieces_give : (pieces : List (List ℕ)) → given_by [] pieces ≡ requests_in (bytes_of pieces)
-pieces_give pieces = given_after [] pieces
+pub pieces_give_requests : (pieces : List (List ℕ)) → given_by [] pieces ≡ requests_in (bytes_of pieces)
+pieces_give_requests pieces = given_after [] pieces
+
+pub pieces_give_the_same : (one other : List (List ℕ)) → bytes_of one ≡ bytes_of other
+    → given_by [] one ≡ given_by [] other
+pieces_give_the_same one other e = given_after [] one ∙ (ap requests_in e ∙ sym (given_after [] other))
 
 -- the requests that bytes add are in their ranges
 pub added_good : (b c : List ℕ) → All IsRequest (requests_after b c)

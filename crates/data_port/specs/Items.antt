@@ -11,8 +11,8 @@ use Rattle.totals_record.specs.declared.trip.Trip.{Trip}
 use Rattle.totals_record.specs.Bytes.{four, eight, sixteen}
 use Rattle.totals_record.specs.Spelling.{share_bytes}
 
--- a reply tells of a held trip the seconds at which it started and was saved, the distance when hired in millimetres,
--- the ticks, the supplements, the initial hire fee, and the full display steps
+-- the values that a reply has of a held trip are the seconds at which it started and was saved, the distance when hired
+-- in millimetres, the ticks, the supplements, the initial hire fee, and the full display steps
 pub record HeldTrip : Type 0 where
   pub started : ℕ
   pub saved : ℕ
@@ -22,7 +22,7 @@ pub record HeldTrip : Type 0 where
   pub initial : ℕ
   pub steps_full : ℕ
 
--- a reply tells of a held trip its own values, and as its distance that of its pulses by the constant
+-- the values of a held trip are its own, and as its distance that of its pulses by the constant
 abbrev pub held_trip : (constant : ℕ) → Trip → HeldTrip
 held_trip constant trip = record {
   started = trip.started;
@@ -34,7 +34,7 @@ held_trip constant trip = record {
   steps_full = trip.meterage.steps_full;
 }
 
--- a reply tells the values of the held trip, and none if no trip is held
+-- the values of what is held are those of the held trip, and there are none if no trip is held
 abbrev pub held_values : (constant : ℕ) → Option Trip → Option HeldTrip
 held_values constant None = None
 held_values constant (Some trip) = Some (held_trip constant trip)
@@ -95,7 +95,7 @@ size_of code = get_or sizes (code - 1) 0
 abbrev pub all_items_size : ℕ
 all_items_size = 447
 
--- two stores agree on what the item with a code speaks of
+-- two stores agree on the item with a code if what the item speaks of is equal in both
 pub data Agrees (one : Durable) (seal : Seal) (other : Durable) (another : Seal) : (code : ℕ) → Type 0 where
   taxi : seal.params.taxi.items ≡ another.params.taxi.items → Agrees one seal other another 1
   constant : seal.params.constant ≡ another.params.constant → Agrees one seal other another 2

@@ -49,9 +49,9 @@ HasTaken s bytes = s ≡ standing_after bytes
 abbrev pub HasSense : Standing → Type 0
 HasSense s = (bytes : List ℕ) × HasTaken s bytes
 
--- a port takes a piece, behind the bytes before it, up to a place if none of the bytes up to there is bad, their
--- requests are appended to the list, and that place is the first at which the list has 64 requests, or else the end of
--- the piece
+-- a port takes a piece, behind the bytes before it, up to a place if none of the bytes up to there is bad and their
+-- requests are appended to the list. The place is the first at which the list has 64 requests, or else the end of the
+-- piece
 pub record TakesTo (before piece : List ℕ) (old new : List Request) (place : ℕ) : Type 0 where
   pub within : place ≤ length piece
   pub good : first_bad (before ++ take place piece) ≡ None

@@ -12,7 +12,7 @@ use Rattle.data_port.specs.Requests.{codes_of}
 abbrev pub item_bytes : Durable → Seal → (code : ℕ) → List ℕ
 item_bytes durable seal code = code ∷ content durable seal code
 
--- items in bytes stand one behind the other, in the order of their codes
+-- items in bytes are one behind the other, in the order of their codes
 abbrev pub items_bytes : Durable → Seal → (codes : List ℕ) → List ℕ
 items_bytes durable seal codes = flat_map (item_bytes durable seal) codes
 
@@ -24,7 +24,7 @@ framed bytes = 2 ∷ (to_be_bytes w16 (length bytes) ++ (bytes ++ 3 ∷ []))
 abbrev pub reply_to : Durable → Seal → Request → List ℕ
 reply_to durable seal request = framed (items_bytes durable seal (codes_of request))
 
--- the reply that has all items has four bytes more
+-- the longest reply has all items, and four bytes more
 abbrev pub longest_reply : ℕ
 longest_reply = all_items_size + 4
 
@@ -32,14 +32,14 @@ longest_reply = all_items_size + 4
 abbrev pub AgreeOn : Durable → Seal → Durable → Seal → Request → Type 0
 AgreeOn one seal other another request = All (Agrees one seal other another) (codes_of request)
 
--- bytes are read as items, at most `most` of them, if each item is a code and as many bytes of content as the item
--- with that code has
+-- bytes are read as items, at most `most` of them, if each item is a code and as many bytes of content as the item with
+-- that code has
 abbrev pub items_in : (most : ℕ) → List ℕ → List (ℕ × List ℕ)
 items_in zero bytes = []
 items_in (suc most) [] = []
 items_in (suc most) (code ∷ bytes) = (code, take (size_of code) bytes) ∷ items_in most (drop (size_of code) bytes)
 
--- the body of a reply is the bytes of its items, which stand between its length and its last byte
+-- the body of a reply is the bytes of its items, between its length and its last byte
 abbrev pub body_of : (reply : List ℕ) → List ℕ
 body_of reply = take (from_be_bytes w16 (take 2 (drop 1 reply))) (drop 3 reply)
 

@@ -22,6 +22,6 @@ pub record IsRequest (request : Request) : Type 0 where
 abbrev pub request_bytes : Request → List ℕ
 request_bytes request = 2 ∷ (length (codes_of request) ∷ (codes_of request ++ 3 ∷ []))
 
--- requests in bytes stand one behind the other
+-- requests in bytes are one behind the other
 abbrev pub stream_bytes : List Request → List ℕ
 stream_bytes requests = flat_map request_bytes requests

@@ -30,7 +30,8 @@ requests_of stream = given_of requests_in stream
 abbrev pub IsGoing : (taken : List ℕ) → Type 0
 IsGoing taken = streams.IsGoing requests taken
 
--- bytes of a stream of requests that were taken, and those that are left, show how it ends
+-- bytes of a stream of requests that were taken, and those that are left, show an end if they show it of requests as a
+-- kind of streams
 abbrev pub ShowsEnd : StreamEnd → (taken left : List ℕ) → Type 0
 ShowsEnd reached taken left = streams.ShowsEnd requests reached taken left
 
@@ -57,7 +58,7 @@ module _ (told : Type 0) (durable : Durable) (seal : Seal) (stream left before n
   abbrev pub PrintedSome : (taken : List ℕ) → Type 0
   PrintedSome taken = told → Begins before now (replies durable seal (requests_in taken))
 
-  -- a stream was served to an end, and the replies to all of its requests were printed
+  -- a stream was served to an end if it reaches that end and the replies to all of its requests were printed
   pub record ServesTo (reached : StreamEnd) : Type 0 where
     pub taken : List ℕ
     pub ends : ReachesEnd stream taken left reached

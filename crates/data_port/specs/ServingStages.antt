@@ -1,4 +1,4 @@
--- For proofs: a piece of a stream that is served. Serves, in Serving, says what the whole stream comes to.
+-- For proofs: a piece of a stream that is served. Serves, in Serving, says what serving the whole stream gives.
 use Rattle.std.specs.Prelude.{◌≡◌, ℕ, List, ◌++◌, Some, false, Result, Ok, Err}
 use Rattle.outside.specs.Printing.{Begins}
 use Rattle.seal_record.specs.declared.seal.Seal.{Seal}
@@ -10,7 +10,8 @@ use Rattle.data_port.specs.Serving.{replies}
 use Rattle.data_port.specs.Standing.{Standing}
 
 module _ (told : Type 0) (durable : Durable) (seal : Seal) (old new : Standing) (piece before now : List ℕ) where
-  -- a piece was served: all of it, or up to a bad place, or a beginning of its replies was printed and the board failed
+  -- a piece was served if all of it was, or all up to a bad place, or if the board failed after a beginning of its
+  -- replies
   abbrev pub ServesPiece : {T : Type 0} → Result T PortFault → Type 0
   ServesPiece (Ok done) = (new ≡ after_bytes old piece) × (new.failed ≡ false)
       × (told → now ≡ before ++ replies durable seal (ended_in old piece))

@@ -2,6 +2,6 @@
 use Rattle.data_port.specs.declared.state.State.{State}
 use Rattle.data_port.specs.Standing.{Standing}
 
--- the fields of a port are seen as this standing
+-- the standing of a port, as contracts see it, has the values of its fields
 abbrev pub standing_of : State → Standing
 standing_of state = record { taken = state.taken; part = state.part.items; failed = state.failed }

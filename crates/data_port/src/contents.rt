@@ -111,7 +111,7 @@ fn put_share(line: &mut Line, share: &Share)
     put_sixteen(line, share.fare);
 }
 
-/// Appends the nine shares, and what was counted before there were shares.
+/// Appends the shares of the nine tariff positions, and what was counted before there were shares.
 #[tactic(auto, using(crate::proofs::Parts::one_more))]
 fn put_shares(line: &mut Line, totals: &Totals)
     requires nine { length totals.now.shares ≡ 9 }

@@ -1,5 +1,5 @@
-//! The data port: framed requests for stored trip data and general data, and the replies to them, from
-//! the durable state and the seal. Nothing takes memory. All of it is this project's own.
+//! The data port: framed requests for stored trip data and general data, and the replies to them, from the durable
+//! state and the seal. Nothing takes memory. All of it is this project's own.
 #![tactic(auto)]
 
 mod contents;

@@ -9,18 +9,17 @@ use crate::state::State;
 use arrayvec::ArrayVec;
 use std::marker::Model;
 
-/// A place in a stream, from 0 on, that is the first whose byte no stream of requests has there.
-#[derive(Clone, Copy, PartialEq, Eq)]
+/// A place in a stream, from 0 on: the first whose byte no stream of requests has there.
+#[derive(Clone, Copy)]
 pub struct BadFrame {
     pub place: u64,
 }
 
-/// Takes a stream of requests that comes in pieces. It keeps the bytes of one unfinished request, and takes
-/// no memory.
+/// Takes a stream of requests that comes in pieces. It keeps the bytes of one unfinished request, and takes no memory.
 ///
-/// A request is the byte 0x02, a count of one or more, as many codes of items, which rise, and 0x03.
-/// Contracts see a port as a `Standing`, and say by `HasTaken` which bytes it has taken; of each port there
-/// are such bytes. Once a bad place came every call answers it again. The form is this project's own.
+/// A request is the byte 0x02, a count of one or more, as many codes of items, which rise, and 0x03. Contracts see a
+/// port as a `Standing`, and say by `HasTaken` which bytes it has taken; for each port there are such bytes. After a
+/// bad place every call answers that place again. The form is this project's own.
 #[derive(Drop)]
 pub struct Port {
     state: State,
@@ -48,13 +47,12 @@ impl Port {
         }
     }
 
-    /// Takes bytes of a piece, appends the requests that end in them, and answers how many bytes it took:
-    /// all of the piece, or all up to the last byte of the request that filled `out`. With a full `out` it
-    /// takes none.
+    /// Takes bytes of a piece, appends the requests that end in them, and answers how many bytes it took: all of the
+    /// piece, or all up to the last byte of the request that filled `out`. With a full `out` it takes none.
     ///
-    /// `BadFrame` with the first place whose byte no stream of requests has there, where the requests before
-    /// it leave room in `out`. `out` then has these requests, the piece counts as taken, and each later call
-    /// answers the same, whether `out` is full or not, and changes nothing.
+    /// `BadFrame` with the first place whose byte no stream of requests has there, if the requests before it leave room
+    /// in `out`. `out` then has these requests, and the piece counts as taken. Each later call answers the same,
+    /// whether `out` is full or not, and changes nothing.
     ///
     /// The bytes taken and those of the piece are together fewer than 2^64.
     pub fn feed(&mut self, piece: &[u8], out: &mut ArrayVec<Request, 64>) -> Result<usize, BadFrame>
@@ -92,8 +90,8 @@ impl Port {
 
     /// Tells whether the stream may end here.
     ///
-    /// `BadFrame` with the place that `feed` answered before, or with the number of bytes taken, where a
-    /// request is unfinished.
+    /// `BadFrame` with the place that `feed` answered before, or with the number of bytes taken if a request is
+    /// unfinished.
     pub fn finish(&self) -> Result<(), BadFrame>
         ensures ok { OnOk result ((b : List ℕ) → HasTaken self.now b → bad_at_end b ≡ None) }
         ensures bad { IfErr result (λ e. (b : List ℕ) → HasTaken self.now b → bad_at_end b ≡ Some e.place) }

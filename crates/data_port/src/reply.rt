@@ -20,10 +20,10 @@ pub(crate) const START: u8 = 2;
 /// The byte behind a request and a reply.
 pub(crate) const END: u8 = 3;
 
-/// Puts the reply to a request into a line, which is empty: 0x02, two bytes with the length of all that
-/// stands between them and the last byte, for each item in order its code and its content, and 0x03.
-/// Numbers have their greatest byte first. Distances are in millimetres, money in the tariff's smallest
-/// units. `rows` has the table of contents. No reply is longer than that with all items.
+/// Puts the reply to a request into a line, which is empty: 0x02, the length in two bytes of what is between them and
+/// the last byte, for each item in order its code and its content, and 0x03. Numbers have their greatest byte first.
+/// Distances are in millimetres, money in the tariff's smallest units. `rows` has the table of contents. No reply is
+/// longer than that with all items.
 ///
 /// The request, the durable state and the seal are in their ranges. The form is this project's own.
 pub fn put_reply(line: &mut Line, request: &Request, durable: &Durable, seal: &Seal)

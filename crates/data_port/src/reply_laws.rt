@@ -15,7 +15,7 @@ pub fn replies_speak_of_their_items()
         → AgreeOn one seal other another request → reply_to one seal request ≡ reply_to other another request }
 {}
 
-/// From the bytes of a reply the codes of its request and the content of each item can be read back.
+/// The codes of its request and the content of each item can be read back from the bytes of a reply.
 pub fn replies_are_read_back()
     ensures { (request : Request) (durable : Durable) (seal : Seal)
         → IsRequest request → IsDurable durable → IsSeal seal → answers_in (reply_to durable seal request)

@@ -24,26 +24,27 @@ use taxi_units::{Line, STREAM_LIMIT, Steps};
 use totals_record::Durable;
 
 /// Why a stream of requests wasn't served to its end.
-#[derive(Clone, Copy, PartialEq, Eq)]
+#[derive(Clone, Copy)]
 pub enum PortFault {
     /// A read of the stream failed.
     ReadFault,
     /// The board failed.
     BoardFault,
-    /// The byte at this place, from 0 on, is the first that no stream of requests has there; or the stream
-    /// ends at this place, and a request is unfinished.
+    /// The byte at this place, from 0 on, is the first that no stream of requests has there; or the stream ends at this
+    /// place, and a request is unfinished.
     Frame(u64),
-    /// As many bytes as a stream may have were taken, and its end wasn't told.
+    /// As many bytes as a stream may have were taken, and its end wasn't seen.
     TooLong,
 }
 
-/// Serves the requests in the file of a word: reads it in pieces of at most 512 bytes, and prints the reply
-/// to each request in order, with one call of the board, a step each. It takes no memory.
+/// Serves the requests in the file of a word: reads it in pieces of at most 512 bytes, and prints the reply to each
+/// request in order. Each reply is one call of the board, and one step. It takes no memory, and the store stays as it
+/// was.
 ///
-/// `Frame` where the stream is bad, and `TooLong` where 2^40 bytes were taken, none of their places is bad,
-/// and the end wasn't told; the replies to the requests before were printed. With `ReadFault` the
-/// count of the file rose by one in this call, with `BoardFault` the board's, and with each other answer
-/// neither; with these two a beginning of the replies was printed. The store stays as it was.
+/// `Frame`: the stream is bad. `TooLong`: 2^40 bytes were taken, none of their places is bad, and the end wasn't seen.
+/// Both come after the replies to the requests before. `ReadFault`: a read failed, so the file's count of faults rose
+/// by one in this call. `BoardFault`: a call of the board failed, so its count rose by one. With these two a beginning
+/// of the replies was printed, and with each other answer neither count rose.
 ///
 /// The durable state and the seal are in their ranges. All of it is this project's own.
 pub fn serve<F: Files, B: Board<STORE_SIZE, L>, L: Ledger>(

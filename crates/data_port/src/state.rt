@@ -11,11 +11,10 @@ use crate::reply::{END, START};
 use crate::request::Request;
 use arrayvec::ArrayVec;
 
-/// How many bytes stand before the last one of a request, at most: 0x02, the count, and the codes.
+/// How many bytes a request has before the last one, at most: 0x02, the count, and the codes.
 const PART_SIZE: usize = ITEM_COUNT + 2;
 
-/// How many bytes were taken, those of an unfinished request, and whether a bad place came, which is
-/// `taken` then.
+/// How many bytes were taken, those of an unfinished request, and whether a bad place came, which is then `taken`.
 #[derive(Drop)]
 pub(crate) struct State {
     pub(crate) taken: u64,
@@ -38,8 +37,8 @@ impl State {
         }
     }
 
-    /// Takes a byte, and appends the request that it ends, where it ends one. `BadFrame` with its place
-    /// where no stream of requests has it there.
+    /// Takes a byte, and appends the request that it ends, if it ends one. `BadFrame` with its place if no stream of
+    /// requests has it there.
     pub(crate) fn take(&mut self, byte: u8, out: &mut ArrayVec<Request, 64>) -> Result<(), BadFrame>
         requires sense { HasSense (standing_of self.old) }
         requires going { self.old.failed ≡ false }
@@ -98,7 +97,7 @@ fn may_follow_codes(count: u8, codes: &[u8], byte: u8) -> bool
     }
 }
 
-/// The last code, or 0 where there is none.
+/// The last code, or 0 if there is none.
 fn last_of(codes: &[u8]) -> u8
     ensures { result ≡ last_code codes.now }
 {

@@ -26,7 +26,7 @@ use Rattle.drive_commands.proofs.Faring.{begins_going}
 use Rattle.drive_commands.proofs.Judging.{judged-over}
 use Rattle.call_ends.proofs.Laws.{course-part, course-whole}
 
--- the status and the line of how it ended where the report was printed
+-- the status and the line of an end after the report was printed
 status-passing : (pass : Bool) → status_of (ended_with pass) ≡ passing_status pass
 status-passing true = refl
 status-passing false = refl
@@ -51,7 +51,7 @@ pub record HasJudged (contents left : ℕ → List ℕ) (image : List ℕ) (term
   pub tariff_read : left 1 ≡ []
   pub readings_read : left 3 ≡ []
 
--- so it is where the terms were had first, with the tariff's file alone
+-- so it is if the terms were read first, with the tariff's file alone
 pub has_judged : (contents mid left : ℕ → List ℕ) (image : List ℕ) {terms : Terms} {text : List ℕ} {pass : Bool}
     → terms_of (opening_of image) (contents 1) ≡ Ok terms → mid 1 ≡ []
     → ((other : ℕ) → other ≢ 1 → mid other ≡ contents other)
@@ -211,7 +211,7 @@ module _ (contents left : ℕ → List ℕ) (image : List ℕ) (read_failed : �
         course-part bench_command contents left image read_failed failed told before now
         (passing_status pass) text judged may begun cause
 
--- what is left unread where there are terms, by what the reading of the tariff leaves unread, and that of the others
+-- what is left unread if there are terms, by what the reading of the tariff leaves unread, and that of the others
 pub unread-terms : (contents mid left : ℕ → List ℕ) (image : List ℕ) (terms : Terms)
     → terms_of (opening_of image) (contents 1) ≡ Ok terms → mid 2 ≡ contents 2
     → ((other : ℕ) → ¬ ((other ≡ 1) × IsSealedIn image) → mid other ≡ contents other)

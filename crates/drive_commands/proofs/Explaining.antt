@@ -35,7 +35,7 @@ pub setting_is : (tariff text : List ℕ) (t : Tree) (read : Result Params Param
 setting_is tariff text t read sound e =
     ap (λ (r : Result Tree Refusal). setting_with r (params_read text)) sound ∙ ap (setting_from t) e
 
--- ---- where the words are read in turn
+-- ---- reading the words in turn
 
 pub behind_drive : (other : ℕ) → explain_turn 2 < explain_turn other → (other ≢ 1) × ((other ≢ 2) × (other ≢ 3))
 behind_drive other lt = (

@@ -138,7 +138,7 @@ module _ (k : ℕ) (contents left : ℕ → List ℕ) (image : List ℕ) (read_f
 pub begins_going : IsGoing []
 begins_going = record { good = refl; few = omega arith }
 
--- where a run ended so
+-- the same of a run that ended so
 pub read_fault-ran : (ran : Result (Unit {0}) RunFault) → ended_by ran ≡ ended.ReadFault → ran ≡ Err faults.ReadFault
 read_fault-ran (Ok u) e = absurd cc
 read_fault-ran (Err faults.ReadFault) e = refl

@@ -67,7 +67,7 @@ module _ (told : Type 0) (image printed tariff : List ℕ) where
         seal_stays = same_outside image i is;
       }
 
-  -- and while the last line is printed, where nothing was done before
+  -- and while the last line is printed, if nothing was done before
   pub found-line : (r : Result Start Ended) → start_of (opening_of image) tariff ≡ r → (bytes line i x : List ℕ)
       → ((s : Start) → r ≡ Ok s → bytes ≡ []) → i ≡ image
       → (told → Begins printed x line) → IsCutOfRun told image printed r bytes line i x

@@ -117,7 +117,7 @@ has_start d l (Ok t) s e = by (does_hold_fit (tables_of t l.params.constant) d.h
         }
     by false is f = absurd cc
 
--- and what was found where a run begins with it
+-- and what was found if a run begins with it
 pub record HasFound (t : Result (Found Durable) SlotFault) (l : Result (Found Seal) SlotFault) (tariff : List ℕ)
     (s : Start) : Type 0 where
   pub totals : (place : Place) × (t ≡ Ok (Latest place s.durable))

@@ -33,27 +33,25 @@ pub record Terms : Type 0 where
   pub seal : Seal
   pub tree : Tree
 
--- a verification over a seal has terms of that seal and of a tariff, or is refused where the tariff is
+-- the terms of a seal and a tariff, or the refusal of the tariff
 abbrev pub terms_with : Seal → Result Tree Ended → Result Terms Ended
 terms_with seal (Err why) = Err why
 terms_with seal (Ok t) = Ok (record { seal = seal; tree = t })
 
--- a verification over a sealed store has terms of the store's seal and of a tariff's text, or is refused where the
--- store is
+-- the terms of a sealed store and a tariff's text, or the first refusal
 abbrev pub terms_over : Result (Durable × Seal) Ended → (tariff : List ℕ) → Result Terms Ended
 terms_over (Err why) tariff = Err why
 terms_over (Ok store) tariff = terms_with store.1 (sealed_tariff store.1.digest tariff)
 
--- a verification over what was opened has terms, with a tariff's text, or the first refusal, which is one of the store
--- before one of the text
+-- the terms of what was opened and a tariff's text, or the first refusal: of the store, or of the text
 abbrev pub terms_of : Result Opening StoreFault → (tariff : List ℕ) → Result Terms Ended
 terms_of opening tariff = terms_over (store_of opening) tariff
 
--- under the terms the meter goes by the tariff and the sealed parameters
+-- the meter goes by the tariff and the sealed parameters of the terms
 abbrev pub setting_under : Terms → Setting
 setting_under terms = setting_by terms.tree terms.seal.params
 
--- under the terms the hirings of a drive should come to what the plain program calculates of its events
+-- the hirings of a drive should come to what the plain program calculates of its events
 abbrev pub hirings_under : Terms → (drive : List ℕ) → List Expected
 hirings_under terms drive = expected_of (setting_under terms) (events_of drive)
 
@@ -66,22 +64,22 @@ bench_text terms drive found =
     ++ report_text (setting_under terms).tariff.step.0 (setting_under terms).tariff.decimals
     (hirings_under terms drive) found
 
--- the test `does_bench_pass` is true where every row of the report passes
+-- the test `does_bench_pass` is true if every row of the report passes
 abbrev pub does_bench_pass : Terms → (drive : List ℕ) → List Reading → Bool
 does_bench_pass terms drive found = do_all_pass (setting_under terms).tariff.step.0 (hirings_under terms drive) found
 
--- the command ended by the fault for which its readings weren't read
+-- how a command ended that couldn't read its readings
 abbrev pub ended_for_readings : ReadingsFault → Ended
 ended_for_readings readings.TooLong = ended.LongReadings
 ended_for_readings (readings.BadRow row) = ended.BadReadings row
 ended_for_readings readings.NoMemory = ended.NoMemory
 
--- a verification has the status 0 where every row passes, and else 11
+-- the status of a verification is 0 if every row passes, and else 11
 abbrev pub passing_status : (pass : Bool) → ℕ
 passing_status true = 0
 passing_status false = 11
 
--- the answer to readings that were read shows the text of the verification, and else it is the refusal of the readings
+-- the answer to readings that were read shows the text of the verification, and else refuses the readings
 abbrev pub readings_answer : Terms → (drive : List ℕ) → Result (List Reading) ReadingsFault → Answer
 readings_answer terms drive (Ok found) = record {
   status = passing_status (does_bench_pass terms drive found);
@@ -90,13 +88,13 @@ readings_answer terms drive (Ok found) = record {
 }
 readings_answer terms drive (Err fault) = refused_as (ended_for_readings fault)
 
--- the answer to a drive that has an end is that of the readings, and else it is the refusal of the drive
+-- the answer to a drive that has an end is that of the readings, and else refuses the drive
 abbrev pub judged_ending : Terms → (drive text : List ℕ) → StreamEnd → Answer
 judged_ending terms drive text Whole = readings_answer terms drive (readings_in terms.tree.decimals text)
 judged_ending terms drive text (BadAt line) = refused_as (ended.BadDrive line)
 judged_ending terms drive text Endless = refused_as ended.EndlessDrive
 
--- the answer under the terms is that of the drive, and where there are none it is their refusal
+-- the answer under the terms is that of the drive, and else the refusal of the store or of the tariff
 abbrev pub bench_answer : Result Terms Ended → (drive text : List ℕ) → Answer
 bench_answer (Err why) drive text = refused_as why
 bench_answer (Ok terms) drive text = judged_ending terms drive text (drive_end drive)
@@ -108,22 +106,22 @@ pub record HasTerms (image tariff : List ℕ) : Type 0 where
   pub terms : Terms
   pub are : terms_of (opening_of image) tariff ≡ Ok terms
 
--- a drive is being taken where there are terms, and the bytes that were taken don't tell the drive's end
+-- a drive is being taken if there are terms, and the bytes that were taken don't tell the drive's end
 pub record IsTakingDrive (image tariff taken : List ℕ) : Type 0 where
   pub terms : Terms
   pub are : terms_of (opening_of image) tariff ≡ Ok terms
   pub going : IsGoing taken
 
--- a drive has been taken where there are terms, and the bytes that were taken are the whole of a good drive
+-- a drive has been taken if there are terms, and the bytes that were taken are the whole of a good drive
 pub record HasTakenDrive (image tariff drive taken : List ℕ) : Type 0 where
   pub terms : Terms
   pub are : terms_of (opening_of image) tariff ≡ Ok terms
   pub whole : drive_end drive ≡ Whole
   pub all : taken ≡ drive
 
--- the command `bench` opens the store, reads its tariff, its drive and then its readings into memory, and prints at the
--- end alone, in pieces, so that each file was read to its end also where a row doesn't pass; it writes nothing, and
--- takes on the call's own counter at most 64 steps, one for each piece and one for the last line
+-- the command `bench` opens the store, and reads its tariff, its drive and then its readings into memory. It prints at
+-- the end alone, so that each file was read to its end even if a row doesn't pass. It writes nothing. On the call's own
+-- counter it takes at most 64 steps, one for each piece, and one for the last line.
 abbrev pub bench_command : Command
 bench_command = record {
   answer = λ contents image. bench_answer (terms_of (opening_of image) (contents 1)) (contents 2) (contents 3);

@@ -1,4 +1,4 @@
--- For proofs: how a command ends by the run of its drive, or by its report. Course says what a call is.
+-- For proofs: how a command ends by the run of its drive, or by its report.
 use Rattle.std.specs.Prelude.{Bool, true, false, Result, Ok, Err}
 use Rattle.call_ends.specs.declared.ending.Ended.{Ended}
 use Rattle.call_ends.specs.declared.ending.Ended.TheVariants.{Done, BadDrive, NotPassed, EndlessDrive, ReadFault}
@@ -6,7 +6,7 @@ use Rattle.call_ends.specs.declared.ending.Ended.TheVariants.{BoardFault}
 use Rattle.meter_run.specs.declared.fault.RunFault.{RunFault}
 use Rattle.meter_run.specs.declared.fault.RunFault.TheVariants as faults
 
--- a command ended by the answer of the run of its drive
+-- how a command ended that ran its drive
 abbrev pub ended_by : {T : Type 0} → Result T RunFault → Ended
 ended_by (Ok done) = Done
 ended_by (Err faults.ReadFault) = ReadFault
@@ -14,7 +14,7 @@ ended_by (Err faults.BoardFault) = BoardFault
 ended_by (Err (faults.BadDrive line)) = BadDrive line
 ended_by (Err faults.TooLong) = EndlessDrive
 
--- a command that printed a report of readings ended by whether every row of it passes
+-- how a command ended that printed a report of readings
 abbrev pub ended_with : (pass : Bool) → Ended
 ended_with true = Done
 ended_with false = NotPassed

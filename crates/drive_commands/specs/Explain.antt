@@ -20,20 +20,19 @@ use Rattle.call_ends.specs.declared.tariff.Refusal.{Refusal}
 
 -- ---- what an explanation goes by
 
--- an explanation under a tariff goes by the parameters that were read, or is refused where they are
+-- the setting of a tariff and of the parameters that were read, or the refusal of the parameters
 abbrev pub setting_from : Tree → Result Params ParamFault → Result Setting Ended
 setting_from t (Err fault) = Err (ended.BadParams fault)
 setting_from t (Ok params) = Ok (setting_by t params)
 
--- an explanation goes by the tariff and the parameters that were read, or is refused where the tariff is, and else
--- where the parameters are
+-- the setting of the tariff and the parameters that were read, or the first refusal: of the tariff, or of the
+-- parameters
 abbrev pub setting_with : Result Tree Refusal → Result Params ParamFault → Result Setting Ended
 setting_with (Err why) params = Err (ended.BadTariff why)
 setting_with (Ok t) params = setting_from t params
 
--- the setting of two texts is that of their tariff and of their parameters, or the refusal of the first text that isn't
--- accepted; `params_read` gives the parameters of a text or its fault, as the law texts_say_their_parameters of
--- seal_record says
+-- the setting of two texts, or the refusal of the first that isn't accepted. `params_read` gives the parameters of a
+-- text or its fault, as the law texts_say_their_parameters of seal_record says
 abbrev pub read_setting : (tariff params : List ℕ) → Result Setting Ended
 read_setting tariff params = setting_with (tariff_in tariff) (params_read params)
 
@@ -43,14 +42,13 @@ read_setting tariff params = setting_with (tariff_in tariff) (params_read params
 abbrev pub explanation_text : Setting → (drive : List ℕ) → List ℕ
 explanation_text s drive = explanations_text s (explanations_of s (events_of drive))
 
--- the answer to a drive that has an end explains its hirings, and else it is the refusal of the drive
+-- the answer to a drive that has an end explains its hirings, and else refuses the drive
 abbrev pub ending_answer : Setting → (drive : List ℕ) → StreamEnd → Answer
 ending_answer s drive Whole = shows (explanation_text s drive)
 ending_answer s drive (BadAt line) = refused_as (ended.BadDrive line)
 ending_answer s drive Endless = refused_as ended.EndlessDrive
 
--- the answer under a setting is that of the drive, and where there is none it is the refusal of the tariff or of the
--- parameters
+-- the answer under a setting is that of the drive, and else the refusal of the tariff or of the parameters
 abbrev pub explain_answer : Result Setting Ended → (drive : List ℕ) → Answer
 explain_answer (Err why) drive = refused_as why
 explain_answer (Ok s) drive = ending_answer s drive (drive_end drive)
@@ -62,12 +60,12 @@ pub record HasSetting (tariff params : List ℕ) : Type 0 where
   pub setting : Setting
   pub is : read_setting tariff params ≡ Ok setting
 
--- the drive is read behind the parameters, which are the last word
+-- the drive, word 2, is read behind the parameters, word 3
 abbrev pub explain_turn : (word : ℕ) → ℕ
 explain_turn word = if word == 2 then 3 else (if word == 3 then 2 else word)
 
 -- the command `explain` reads its tariff, its parameters and then its drive into memory, and prints at the end alone,
--- in pieces, in a step for each piece and one for the last line
+-- in a step for each piece and one for the last line
 abbrev pub explain_command : Command
 explain_command = record {
   answer = λ contents image. explain_answer (read_setting (contents 1) (contents 3)) (contents 2);

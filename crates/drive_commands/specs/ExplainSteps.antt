@@ -1,18 +1,18 @@
--- For proofs: that the command `explain` has come to what it prints. Explain says what an explanation is.
+-- For proofs: what the command `explain` has before it prints. Explain says what an explanation is.
 use Rattle.std.specs.Prelude.{◌≡◌, ◌⊎◌, ◌<◌, ◌≤◌, ℕ, List, [], Ok}
 use Rattle.drive_text.specs.Ending.{Whole, drive_end}
 use Rattle.meter_model.specs.Setting.{Setting}
 use Rattle.drive_commands.specs.Explain.{explanation_text, read_setting}
 use Rattle.drive_commands.specs.declared.explained_lines.Scale.{Scale}
 
--- what an explanation is written by is in its ranges
+-- the scale of an explanation is in its ranges
 pub record IsScale (scale : Scale) : Type 0 where
   pub decimals : scale.decimals ≤ 3
   pub some : 0 < scale.unit
   pub few : scale.unit ≤ 1000000000000000000000000
 
--- the hirings of a drive were explained by this text where the tariff and the parameters were accepted, the drive is
--- whole, and each file was read to its end
+-- a text explains the hirings of a drive if the tariff and the parameters are accepted, the drive is whole, and each
+-- file was read to its end
 pub record HasExplained (contents left : ℕ → List ℕ) (text : List ℕ) : Type 0 where
   pub setting : Setting
   pub is : read_setting (contents 1) (contents 3) ≡ Ok setting

@@ -13,8 +13,8 @@ use Rattle.call_ends.specs.Stream.{Drive}
 use Rattle.call_ends.specs.Tariffs.{tariff_in, bad_tariff}
 use Rattle.call_ends.specs.declared.tariff.Refusal.{Refusal}
 
--- the answer to a drive shows its text, and has the status 3 and a last line where a line of the drive is bad or it has
--- no end
+-- the answer to a drive shows its text. It has the status 3 and a last line if a line of the drive is bad or it has no
+-- end.
 abbrev pub drive_answer : List ℕ → StreamEnd → Answer
 drive_answer shown Whole = shows shown
 drive_answer shown (BadAt n) = record { status = 3; shown = shown; line = bad_drive_line n }
@@ -24,7 +24,7 @@ drive_answer shown Endless = record { status = 3; shown = shown; line = endless_
 abbrev pub setting_of : (k : ℕ) → Tree → Setting
 setting_of k t = under_offset t k Single 60 (pos 0)
 
--- bytes of a drive show their displays and refusals under a tariff, and nothing where there is none
+-- bytes of a drive show their displays and refusals under a sound tariff, and else nothing
 abbrev pub shown_under : (k : ℕ) → Result Tree Refusal → List ℕ → List ℕ
 shown_under k (Err why) drive = []
 shown_under k (Ok t) drive = drive_shown (setting_of k t) drive
@@ -34,15 +34,14 @@ abbrev pub fare_answer : (k : ℕ) → Result Tree Refusal → List ℕ → Answ
 fare_answer k (Err why) drive = bad_tariff why
 fare_answer k (Ok t) drive = drive_answer (drive_shown (setting_of k t) drive) (drive_end drive)
 
--- a drive is being read under a tariff where the tariff is sound, and the bytes that were taken don't tell the drive's
--- end
+-- a drive is being read under a tariff if the tariff is sound, and the bytes that were taken don't tell the drive's end
 pub record IsDriving (tariff taken : List ℕ) : Type 0 where
   pub tree : Tree
   pub sound : tariff_in tariff ≡ Ok tree
   pub going : IsGoing taken
 
 -- the command `fare` reads its tariff and then its drive, in at most 64 steps for each event, 64 for the supply drop at
--- the drive's end, if the supply is there then, and one for the last line
+-- the end of the drive, if the supply is there then, and one for the last line
 abbrev pub fare_command : (k : ℕ) → Command
 fare_command k = record {
   answer = λ contents image. fare_answer k (tariff_in (contents 1)) (contents 2);

@@ -16,7 +16,7 @@ use Rattle.store_commands.specs.TotalsText.{summary_text}
 use Rattle.call_ends.specs.NumberLine.{number_line}
 use Rattle.call_ends.specs.declared.tariff.Refusal.{Refusal}
 
--- the city tariff is the text of the tariff under which generated drives are run
+-- the city tariff, under which generated drives are run
 unfoldable pub city_text : List ℕ
 city_text =
     codes "decimals 2\nstep 0.20 ahead\npositions 2\nzones 2\nholiday 2026-01-01\n"
@@ -34,7 +34,7 @@ city_text =
 abbrev pub generated_setting : Tree → Setting
 generated_setting t = under_offset t 10000 Single 60 (pos 3600)
 
--- the state after a drive is the durable state of a new store after all deeds of the drive
+-- the state after a drive is that of a new store after all deeds of the drive
 abbrev pub state_after : Setting → (drive : List ℕ) → Durable
 state_after s drive = after_deeds first_state (run_deeds s first_state drive)
 
@@ -54,8 +54,8 @@ gen_answer seed trips (Err why) = bad_tariff why
 gen_answer seed trips (Ok t) =
     shows (generated_text seed trips t.decimals (state_after (generated_setting t) (generated seed trips)))
 
--- the command `gen` reads no file and opens no store, so that its answer is known whatever is told; it takes at most 64
--- steps for each event, 64 for the supply drop at the drive's end, and 64 for all else
+-- the command `gen` reads no file and opens no store, so its answer is known whatever is told. It takes at most 64
+-- steps for each event, 64 for the supply drop at the end of the drive, and 64 for all else.
 abbrev pub gen_command : (seed trips : ℕ) → Command
 gen_command seed trips = record {
   answer = λ contents image. gen_answer seed trips (tariff_in city_text);

@@ -15,8 +15,8 @@ use Rattle.drive_commands.specs.Explain.{explain_answer, read_setting}
 use Rattle.drive_commands.specs.ExplainedText.{explanations_text}
 use Rattle.drive_commands.specs.Run.{Start, run_answer, setting_in, start_of}
 
--- an image is a new store that was sealed with two texts if no totals were found as it was sealed with them, and it has
--- what that sealing says
+-- an image is a new store, sealed with two texts, if no totals were found before, and the image has what that sealing
+-- says
 pub record IsNewStore (tariff params image : List ℕ) : Type 0 where
   pub found : List ℕ
   pub sealing : Sealing
@@ -25,8 +25,7 @@ pub record IsNewStore (tariff params image : List ℕ) : Type 0 where
   pub sealed : IsSealed sealing image
 
 -- an explanation of a drive is of its run on an image if both answer with the status 0, the run by the texts of the
--- acts of its events, and the explanation by hirings whose receipts are those that these acts print, each once and in
--- order
+-- acts of its events, and the explanation by hirings whose receipts these acts print, each once and in order
 pub record ExplainsRun (tariff params drive image : List ℕ) : Type 0 where
   pub start : Start
   pub setting : Setting

@@ -41,20 +41,19 @@ use Rattle.call_ends.specs.declared.tariff.Refusal.TheVariants.{TooLong}
 
 -- ---- how a run begins
 
--- a tariff that was read is accepted where it is sound, and else the run ends with `BadTariff`
+-- a tariff that was read is accepted if it is sound, and else the run ends with `BadTariff`
 abbrev pub accepted : Result Tree Refusal → Result Tree Ended
 accepted (Err why) = Err (ended.BadTariff why)
 accepted (Ok t) = Ok t
 
--- a text is accepted as the sealed tariff or refused, for its length before its digest, and for its digest before its
--- content
+-- a text is accepted as the sealed tariff, or refused for its length, or else for its digest, or else for its content
 abbrev pub sealed_tariff : (digest text : List ℕ) → Result Tree Ended
 sealed_tariff digest text =
     if nat_lt 65536 (length text) then Err (ended.BadTariff TooLong)
     else (if pointwise nat_eq digest (sha256 text) then accepted (tariff_in text)
     else Err (ended.WrongTariff digest (sha256 text)))
 
--- the test `does_hold_fit` is true where a held trip fits the tables, or there is none: its position, zone, rest, cover
+-- the test `does_hold_fit` is true if no trip is held, or the held one fits the tables: its position, zone, rest, cover
 -- and supplements may come from a hiring by them, as the fact of `fits_test` says
 abbrev pub does_hold_fit : TableParts → Option Trip → Bool
 does_hold_fit tables hold = (if_some (fits_test tables) hold).passes
@@ -73,21 +72,21 @@ tables_in start = tables_of start.tree start.seal.params.constant
 abbrev pub setting_in : Start → Setting
 setting_in start = setting_by start.tree start.seal.params
 
--- a run starts with a durable state, a seal and a tariff, or is refused where the tariff is or the held trip doesn't
--- fit the tables
+-- the start of a durable state, a seal and a tariff, or the first refusal: of the tariff, or of a held trip that
+-- doesn't fit the tables
 abbrev pub start_with : Durable → Seal → Result Tree Ended → Result Start Ended
 start_with durable seal (Err why) = Err why
 start_with durable seal (Ok t) =
     if does_hold_fit (tables_of t seal.params.constant) durable.hold
     then Ok (record { durable = durable; seal = seal; tree = t }) else Err ended.BadTrip
 
--- a run starts over a sealed store with a tariff's text, or is refused where the store is
+-- the start over a sealed store with a tariff's text, or the first refusal
 abbrev pub start_over : Result (Durable × Seal) Ended → (tariff : List ℕ) → Result Start Ended
 start_over (Err why) tariff = Err why
 start_over (Ok store) tariff = start_with store.0 store.1 (sealed_tariff store.1.digest tariff)
 
--- a run starts over what was opened with a tariff's text, or has the first refusal, which is one of the store before
--- one of the text
+-- the start over what was opened with a tariff's text, or the first refusal: of the store, of the text, or of the held
+-- trip
 abbrev pub start_of : Result Opening StoreFault → (tariff : List ℕ) → Result Start Ended
 start_of opening tariff = start_over (store_of opening) tariff
 
@@ -97,7 +96,7 @@ start_of opening tariff = start_over (store_of opening) tariff
 abbrev pub deeds_in : Start → (drive : List ℕ) → List Deed
 deeds_in start drive = run_deeds (setting_in start) start.durable drive
 
--- a run shows the texts of its deeds, which are displays, refusals and receipts, and nothing where it is refused
+-- a run shows the texts of its deeds, which are displays, refusals and receipts, and nothing if it is refused
 abbrev pub shown_in_run : Result Start Ended → (drive : List ℕ) → List ℕ
 shown_in_run (Err why) drive = []
 shown_in_run (Ok start) drive = texts start.seal (deeds_in start drive)
@@ -107,15 +106,15 @@ abbrev pub run_answer : Result Start Ended → (drive : List ℕ) → Answer
 run_answer (Err why) drive = refused_as why
 run_answer (Ok start) drive = drive_answer (texts start.seal (deeds_in start drive)) (drive_end drive)
 
--- a run is reading its drive where it has a start, and the bytes that were taken don't tell the drive's end
+-- a run is reading its drive if it has a start, and the bytes that were taken don't tell the drive's end
 pub record IsRunning (image tariff taken : List ℕ) : Type 0 where
   pub start : Start
   pub begins : start_of (opening_of image) tariff ≡ Ok start
   pub going : IsGoing taken
 
 -- the command `run` opens the store, reads its tariff and then its drive, and writes, in at most 64 steps for the
--- opening and the last line together, 64 for each event, and 64 for the supply drop at the drive's end, if the supply
--- is there then
+-- opening and the last line, 64 for each event, and 64 for the supply drop at the end of the drive, if the supply is
+-- there then
 abbrev pub run_command : Command
 run_command = record {
   answer = λ contents image. run_answer (start_of (opening_of image) (contents 1)) (contents 2);
@@ -136,64 +135,64 @@ run_command = record {
 
 -- ---- the headline
 
--- a run has carried out the whole drive where it came to its answer, and else the bytes that were taken
+-- a run has carried out the whole drive if it came to its answer, and else the bytes that were taken
 abbrev pub bytes_in : Course → (drive : List ℕ) → List ℕ
 bytes_in Answered drive = drive
 bytes_in (ReadFailed word taken) drive = taken
 bytes_in NoMemory drive = []
 bytes_in (BoardFailed taken) drive = taken
 
--- a place is one of the pair of totals where it is within the first 1,024 bytes of the store
+-- a place is one of the pair of totals if it is within the first 1,024 bytes of the store
 abbrev pub IsOfTotals : ℕ → Type 0
 IsOfTotals place = IsWithin 0 1024 place
 
 -- A run began with an image and a text that had been `printed`, which may be `told`. It did all deeds of some bytes of
 -- its drive, or a part of them, and then printed its last line, or a part of it.
 module _ (told : Type 0) (image printed : List ℕ) where
-  -- A cut of the power may have left an image and a text where, at some place of the list of the run's deeds, behind
-  -- which the last line stands, the image has the commits before that place, and the text ends there. The number that a
-  -- scan finds less the opening one is the number of those commits, the totals are the opening ones plus the sums over
-  -- their entries, and each receipt of which a byte was printed has its own entry among them. The bytes of the seal are
-  -- the opening ones.
+  -- A cut of the power may have left an image and a text that belong to some place of the list of the run's deeds,
+  -- behind which the last line stands: the image has the commits before that place, and the text ends there. The number
+  -- that a scan finds less the opening one is the number of those commits. The totals are the opening ones plus the
+  -- sums over their entries. Each receipt of which a byte was printed has its own entry among them. The bytes of the
+  -- seal are the opening ones.
   pub record IsCutOfStart (start : Start) (bytes line left_image left_text : List ℕ) : Type 0 where
     pub cut : IsCutOfDeeds (tables_in start) start.seal told start.durable printed
         (deeds_in start bytes ++ Prints line ∷ []) left_image left_text
     pub seal_stays : SameBut IsOfTotals image left_image
 
-  -- a cut of a run that may have been refused leaves what a cut of a run may leave where it has a start, and else the
-  -- opening image and a beginning of the last line
+  -- a cut of a run may leave what a cut of its start may leave, if it has a start, and else the opening image and a
+  -- beginning of the last line
   abbrev pub IsCutOfRun : Result Start Ended → (bytes line left_image left_text : List ℕ) → Type 0
   IsCutOfRun (Err why) bytes line left_image left_text = (left_image ≡ image) × (told → Begins printed left_text line)
   IsCutOfRun (Ok start) bytes line left_image left_text = IsCutOfStart start bytes line left_image left_text
 
-  -- a run is done where the image stands for the durable state after all commits of the run, beside the opening seal
+  -- a run is done if the image stands for the durable state after all commits of the run, beside the opening seal
   pub record IsRunDone (start : Start) (bytes now : List ℕ) : Type 0 where
     pub state : HasState now (after_deeds start.durable (deeds_in start bytes))
     pub seal_stays : SameBut IsOfTotals image now
 
-  -- an image stands where a run ends: it has the state after all commits of the run, beside the opening seal, or is the
-  -- opening one where the run was refused
+  -- an image stands at the end of a run if it has the state after all commits of the run, beside the opening seal. If
+  -- the run was refused, it is the opening image.
   abbrev pub Stands : Result Start Ended → (bytes now : List ℕ) → Type 0
   Stands (Err why) bytes now = now ≡ image
   Stands (Ok start) bytes now = IsRunDone start bytes now
 
 module _ {E D L : Type 0} {N : ℕ} (F : FileGhosts E) (B : Ghosts D N L) where
-  -- the start of a run on a board is the one that the image of the store and the file of word 1, its tariff, give
+  -- the start of a run on a board, by the image of the store and the file of word 1, its tariff
   abbrev pub start_at : (files : E) (board : D) → Result Start Ended
   start_at files board = start_of (opening_of (B.image board)) (F.rest files 1)
 
-  -- a cut of a run that took a course may have left an image and a text that a cut may leave of the deeds over the
-  -- bytes that the course carried out, behind which the course's last line stands
+  -- a cut of a run that took a course may leave what a cut may leave of the deeds over the bytes that the course
+  -- carried out, and of the course's last line behind them
   abbrev pub IsCutOfCourse : (files : E) (old : D) → Course → (left_image left_text : List ℕ) → Type 0
   IsCutOfCourse files old course = IsCutOfRun B.tells_text (B.image old) (B.printed old) (start_at files old)
       (bytes_in course (F.rest files 2)) (line_in run_command (F.rest files) (B.image old) course)
 
-  -- The headline. A run took a course, and printed its text, which is the displays, refusals and receipts of the events
-  -- of the bytes that were taken, and its last line. Unless the board failed, the store has the state after all commits
-  -- of those events in the end. A cut of the power from the opening sync on leaves a place in the list of what the run
-  -- does; one before that sync has succeeded leaves what it might have left before the call; and where nothing was in
-  -- flight then, a cut at any moment of the call leaves such a place. Over what it leaves the next run under the same
-  -- tariff begins. And where the store or the tariff is refused, nothing is written, whatever the answer is.
+  -- The headline. A run took a course, and printed its text: the displays, refusals and receipts of the events of the
+  -- bytes that were taken, and its last line. In the end the store has the state after all commits of those events,
+  -- unless the board failed. A cut of the power from the opening sync on leaves a place in the list of what the run
+  -- does; one before that sync has succeeded leaves what it might have left before the call. If nothing was in flight
+  -- before the call, a cut at any moment of it leaves such a place. The next run under the same tariff begins over what
+  -- such a cut leaves. If the store or the tariff is refused, nothing is written, whatever the answer is.
   pub record IsRun (files files' : E) (old new : D) (ended : ℕ) : Type 0 where
     pub call : IsCall F B run_command files files' old new ended
     pub stands : ended ≢ 8

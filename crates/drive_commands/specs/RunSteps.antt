@@ -1,4 +1,4 @@
--- For proofs: how far the command `run` came before its last line is printed. Run says what a run is.
+-- For proofs: what the command `run` has before its last line is printed. Run says what a run is.
 use Rattle.std.specs.Prelude.{◌≡◌, ◌≢◌, ℕ, List, Ok, Err}
 use Rattle.outside.specs.Printing.{Begins}
 use Rattle.outside.specs.Runs.{IsAtRest, MayHold}
@@ -21,20 +21,20 @@ use Rattle.call_ends.specs.declared.ending.Ended.TheVariants.{BadTariff, BoardFa
 
 -- ---- the tables of the sealed tariff
 
--- a text has no tariff where it is refused or memory ran out
+-- a text has no tables if it is refused or memory ran out
 abbrev pub IsNoTables : (text : List ℕ) → Ended → Type 0
 IsNoTables text NoMemory = Unit {0}
 IsNoTables text (BadTariff why) = tariff_in text ≡ Err why
 IsNoTables text why = ⊥
 
--- tables are sealed ones where they are those of a text's tariff, and the tariff is the sealed one
+-- tables are sealed ones if they are those of a text's tariff, and the tariff is the sealed one
 pub record AreSealedTables (seal : Seal) (text : List ℕ) (tables : TableParts) : Type 0 where
   pub tree : Tree
   pub accepted : sealed_tariff seal.digest text ≡ Ok tree
   pub compiled : IsTablesOf tree tables
   pub value : tables ≡ tables_of tree seal.params.constant
 
--- no tables were made of a text that should be the sealed one where a read failed, memory ran out, or it is refused
+-- no tables were made of a text that should be the sealed one if a read failed, memory ran out, or it is refused
 abbrev pub AreNoTables : (digest text : List ℕ) → (read_failed : Type 0) → Ended → Type 0
 AreNoTables digest text read_failed ReadFault = read_failed
 AreNoTables digest text read_failed NoMemory = Unit {0}
@@ -45,7 +45,7 @@ AreNoTables digest text read_failed why = ⊥
 -- ---- how a run begins
 
 module _ {D L : Type 0} {N : ℕ} (B : Ghosts D N L) where
-  -- a run has begun over the opening image where it has a start with this seal and these tables, and the board may open
+  -- a run has begun over the opening image if it has a start with this seal and these tables, and the board may open
   -- with its durable state
   pub record HasBegun (image tariff : List ℕ) (board : D) (seal : Seal) (tables : TableParts) : Type 0 where
     pub start : Start
@@ -55,7 +55,7 @@ module _ {D L : Type 0} {N : ℕ} (B : Ghosts D N L) where
     pub compiled : IsTablesOf start.tree tables
     pub opens : OpensWith B tables board start.durable
 
--- a run hasn't begun where a read failed, memory ran out, the board failed, or it is refused
+-- a run hasn't begun if a read failed, memory ran out, the board failed, or it is refused
 abbrev pub HasNotBegun : (image tariff : List ℕ) → (read_failed board_failed : Type 0) → Ended → Type 0
 HasNotBegun image tariff read_failed board_failed ReadFault = read_failed × IsSealedIn image
 HasNotBegun image tariff read_failed board_failed NoMemory = IsSealedIn image
@@ -65,8 +65,7 @@ HasNotBegun image tariff read_failed board_failed why = (start_of (opening_of im
 -- ---- what it leaves
 
 module _ {E D L : Type 0} {N : ℕ} (F : FileGhosts E) (B : Ghosts D N L) where
-  -- a run came to its last line, or to a fault of the board before it, where all holds of it that `IsRun` says of a run
-  -- in the end
+  -- a run reached its last line, or a fault of the board before it, if all holds of it that `IsRun` says
   pub record RunReachesLine (files files' : E) (old new : D) (ended : Ended) : Type 0 where
     pub comes : EndsOnDevices F B run_command files files' old new ended
     pub stands : ended ≢ BoardFault → Stands B.tells_text (B.image old) (B.printed old) (start_at F B files old)

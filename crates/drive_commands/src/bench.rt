@@ -12,9 +12,8 @@ use std::alloc::Global;
 use std::sync::ledger::Ledger;
 use taxi_units::Steps;
 
-/// Scans the store, reads the tariff of word 1, which has to be the sealed one, the drive of word 2 and the
-/// readings of word 3, and prints the cross-over speeds and the report. Nothing is printed before all was
-/// read, and nothing is written.
+/// Scans the store, reads the sealed tariff from word 1, the drive from word 2 and the readings from word 3, and prints
+/// the cross-over speeds and the report. It prints nothing before it has read all, and writes nothing.
 pub fn bench<F: Files, B: Board<STORE_SIZE, L>, L: Ledger>(
     alloc: Global,
     files: &mut F,
@@ -38,7 +37,7 @@ pub fn bench<F: Files, B: Board<STORE_SIZE, L>, L: Ledger>(
     }
 }
 
-/// How the command ended where the report was printed.
+/// How the command ended that printed its report.
 fn ended(pass: bool) -> Ended
     ensures { result ≡ ended_with pass }
 {

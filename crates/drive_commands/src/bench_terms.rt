@@ -24,8 +24,7 @@ pub struct Terms {
     pub checked: Checked,
 }
 
-/// Scans the store, and reads the tariff of word 1, which has to be the one that was sealed. Nothing is
-/// written or printed.
+/// Scans the store, and reads the sealed tariff from word 1. It writes and prints nothing.
 pub fn open_terms<F: Files, B: Board<STORE_SIZE, L>, L: Ledger>(
     alloc: Global,
     files: &mut F,

@@ -7,7 +7,7 @@ use crate::whole_drive::DriveFault;
 use call_ends::Ended;
 use meter_run::RunFault;
 
-/// How a command ended whose drive wasn't read.
+/// How a command ended that couldn't read its drive.
 pub fn refused_drive(fault: DriveFault) -> Ended
     ensures { result ≡ ended_for_drive fault }
 {
@@ -19,7 +19,7 @@ pub fn refused_drive(fault: DriveFault) -> Ended
     }
 }
 
-/// How a command ended where the run of its drive ended so.
+/// How a command ended that ran its drive.
 pub fn ended_of(ran: Result<(), RunFault>) -> Ended
     ensures { result ≡ ended_by ran }
 {

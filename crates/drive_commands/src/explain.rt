@@ -27,7 +27,7 @@ use taxi_units::{NoMemory, Steps};
 use verify_bench::explain as explain_runs;
 
 /// Reads the tariff of word 1, the parameters of word 3 and the drive of word 2, and prints why the fares of its
-/// hirings are what they are, as on a new store. Nothing is printed before all is known, and no store is opened.
+/// hirings are what they are, as on a new store. It prints nothing before all is known, and opens no store.
 pub fn explain<F: Files, B: Board<STORE_SIZE, L>, L: Ledger>(
     alloc: Global,
     files: &mut F,

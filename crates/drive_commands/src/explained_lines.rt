@@ -15,7 +15,7 @@ use receipt_text::{push_calculation, push_course, push_fare, push_kind};
 use taxi_units::{Kind, Line, Receipt, push_bytes, push_money, push_number, put_padded};
 use verify_bench::{Explained, Group, HiringFees, Sums, Taken, Way};
 
-/// What an explanation is written by: the decimals of the tariff, 0 to 3, the constant, and the units of charge in the
+/// The scale of an explanation: the decimals of the tariff, 0 to 3, the constant, and the units of charge in the
 /// smallest unit of money, 1 to 10^24, which `tables` prints as M.
 #[derive(Clone, Copy)]
 pub struct Scale {
@@ -187,7 +187,7 @@ fn push_fee(line: &mut Line, decimals: u8, number: u32, amount: u64, covers: u64
     push_bytes(line, b"\n");
 }
 
-/// Appends the line of the minimum fare, where there is one above 0.
+/// Appends the line of the minimum fare, if there is one above 0.
 #[tactic(auto, unfolding(crate::specs::ExplainedText::minimum_text))]
 fn push_minimum(line: &mut Line, decimals: u8, number: Option<u32>, amount: u64)
     requires room { array_vec_len line.old + 90 ≤ line_size }
@@ -258,7 +258,7 @@ pub fn rate_line(scale: &Scale, group: &Group) -> Line
     line
 }
 
-/// Appends the line of the intervals in Stopped, where there are any.
+/// Appends the line of the intervals in Stopped, if there are any.
 #[tactic(auto, unfolding(crate::specs::ExplainedText::stopped_text))]
 fn push_stopped(line: &mut Line, scale: &Scale, sums: &Sums)
     requires { array_vec_len line.old + 94 ≤ line_size }
@@ -272,7 +272,7 @@ fn push_stopped(line: &mut Line, scale: &Scale, sums: &Sums)
     }
 }
 
-/// Appends the line of the pulses that drops of the supply left, where there are any.
+/// Appends the line of the pulses that drops of the supply left, if there are any.
 #[tactic(auto, unfolding(crate::specs::ExplainedText::dropped_text))]
 fn push_dropped(line: &mut Line, scale: &Scale, pulses: u64)
     requires { array_vec_len line.old + 51 ≤ line_size }

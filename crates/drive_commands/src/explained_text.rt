@@ -15,9 +15,8 @@ use tariff_check::Checked;
 use taxi_units::{Line, NoMemory, Receipt};
 use verify_bench::{Explained, Group, Taken};
 
-/// The text by which hirings are explained, one after the other, under a tariff and parameters.
-///
-/// `NoMemory` only where memory ran out.
+/// The text by which hirings are explained, one after the other, under a tariff and parameters. `NoMemory`: memory ran
+/// out.
 pub fn text_of_explained(
     alloc: Global,
     checked: &Checked,
@@ -33,7 +32,7 @@ pub fn text_of_explained(
     Ok(text)
 }
 
-/// What an explanation under a tariff and parameters is written by.
+/// The scale of an explanation under a tariff and parameters.
 fn scale_by(checked: &Checked, params: &Params) -> Scale
     ensures value { result ≡ scale_of (setting_under checked.now params.now) }
     ensures scale { IsScale result }

@@ -1,4 +1,4 @@
-//! What the command `fare` is sealed with.
+//! The seal that stands in for a store's in the command `fare`.
 ghost use Rattle.std.specs.Prelude.{◌≡◌, ◌∷◌, [], codes, pos, replicate};
 ghost use Rattle.drive_modes.specs.declared.charges.Mode.TheVariants.{Single};
 ghost use Rattle.seal_record.specs.Limits.{first_day};

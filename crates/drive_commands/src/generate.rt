@@ -70,9 +70,8 @@ pub fn ten_thousand() -> Constant
     Constant::new(10_000).unwrap()
 }
 
-/// The seal of that meter: in mode S, with a hold of a minute, and local time an hour ahead of UTC. It is
-/// the first of the taxi `GEN`, secured on 2025-12-01, for a tariff of these decimals whose digest is
-/// zeros. This project's own.
+/// The seal of that meter: in mode S, with a hold of a minute, and local time an hour ahead of UTC. It is the first of
+/// the taxi `GEN`, secured on 2025-12-01, for a tariff of these decimals whose digest is zeros. This project's own.
 pub fn gen_seal(decimals: u8) -> Seal
     requires { decimals ≤ 3 }
     ensures sealed { IsSeal result }
@@ -105,7 +104,7 @@ pub fn gen_seal(decimals: u8) -> Seal
     }
 }
 
-/// The state that a scan found, where it found one.
+/// The state that a scan found, if it found one.
 fn latest_in(found: Found<Durable>) -> Option<Durable>
     ensures { result ≡ totals_found found }
 {
@@ -115,7 +114,7 @@ fn latest_in(found: Found<Durable>) -> Option<Durable>
     }
 }
 
-/// The durable state that the store has. None where the board fails, or the store has none.
+/// The durable state of the store. None if the board fails, or the store has none.
 fn state_in<B: Board<STORE_SIZE, L>, L: Ledger>(
     board: &mut B,
     steps: &mut Steps<L>,
@@ -130,8 +129,8 @@ fn state_in<B: Board<STORE_SIZE, L>, L: Ledger>(
     }
 }
 
-/// Seals a new store, carries out the drive of word 0 on it, and gives the durable state that it has then.
-/// None where a read or the board fails, or the drive has a bad line.
+/// Seals a new store, carries out the drive of word 0 on it, and gives the durable state after it. None if a read or
+/// the board fails, or the drive has a bad line.
 fn run_afresh<F: Files, B: Board<STORE_SIZE, L>, L: Ledger>(
     tables: &Tables,
     seal: &Seal,
@@ -200,8 +199,8 @@ fn summary(seed: u64, trips: u32, durable: &Durable, decimals: u8) -> Line
     line
 }
 
-/// Carries out the drive of a seed and of 1 to 1,000 trips on a meter of its own under the city tariff, and
-/// prints the number of its events and the totals of that meter.
+/// Carries out the drive of a seed and of 1 to 1,000 trips on a meter of its own under the city tariff, and prints how
+/// many events it has and the totals of that meter.
 #[tactic(auto, using(call_ends::proofs::Laws::board_runs))]
 pub fn generate<B: Board<STORE_SIZE, L>, L: Ledger>(
     alloc: Global,

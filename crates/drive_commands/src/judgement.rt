@@ -61,7 +61,7 @@ pub fn judge_drive<F: Files>(
     }
 }
 
-/// How the command ended whose readings weren't read.
+/// How the command ended that couldn't read its readings.
 fn refused_readings(fault: ReadingsFault) -> Ended
     ensures { result ≡ ended_for_readings fault }
 {
@@ -72,7 +72,7 @@ fn refused_readings(fault: ReadingsFault) -> Ended
     }
 }
 
-/// Reads the readings of a word, to the end of its file where they are accepted.
+/// Reads the readings of a word, to the end of its file if they are accepted.
 fn readings_of_word<F: Files>(
     alloc: Global,
     files: &mut F,

@@ -4,9 +4,9 @@ ghost use Rattle.store_commands.specs.Opening.{opening_of};
 ghost use Rattle.drive_commands.specs.NewStore.{ExplainsRun, IsNewStore};
 ghost use Rattle.drive_commands.specs.Run.{run_answer, start_of};
 
-/// A law: if `run` comes to the end of a drive on a new store that was sealed with a tariff and parameters, `explain`
-/// of the drive with these texts explains the hirings of the receipts that the run prints, each once and in order, by
-/// receipts that are equal to them. `explain` prints no number of a receipt, which is the store's.
+/// A law: let `run` reach the end of a drive on a new store that was sealed with a tariff and parameters. Then
+/// `explain` of the drive with these texts explains the hirings of the receipts that the run prints, each once and in
+/// order, by receipts that are equal to them. `explain` prints no number of a receipt, which is the store's.
 pub fn explanations_are_of_the_run()
     ensures { (tariff params drive image : List ℕ) → IsNewStore tariff params image
         → (run_answer (start_of (opening_of image) tariff) drive).status ≡ 0

@@ -32,8 +32,7 @@ pub struct Begun {
     pub tables: Tables,
 }
 
-/// Reads the tariff of word 1, and makes its tables, where it is the one that was sealed: its length is
-/// asked before its digest.
+/// Reads the sealed tariff from word 1, and makes its tables. It asks for the length of the text before its digest.
 fn read_tables<F: Files>(alloc: Global, files: &mut F, seal: &Seal) -> Result<Tables, Ended>
     ensures found { F.tells → IfOk result (AreSealedTables seal.now (F.rest files.old 1)) }
     ensures constant { IfOk result (λ tables. tables.constant ≡ seal.now.params.constant) }
@@ -52,7 +51,7 @@ fn read_tables<F: Files>(alloc: Global, files: &mut F, seal: &Seal) -> Result<Ta
     }
 }
 
-/// Whether a held trip fits the tables, where there is one. At most 16 steps.
+/// Whether a held trip fits the tables, or none is held. At most 16 steps.
 fn hold_fits<L: Ledger>(hold: &Option<Trip>, tables: &Tables, steps: &mut Steps<L>) -> bool
     ensures value { result ≡ does_hold_fit tables.now hold.now }
     ensures decides { IsTrue result ↔ ForSome hold.now (Fits tables.now) }
@@ -64,8 +63,7 @@ fn hold_fits<L: Ledger>(hold: &Option<Trip>, tables: &Tables, steps: &mut Steps<
     }
 }
 
-/// Scans the store, reads the tariff of word 1, and asks whether the held trip fits it. Nothing is written
-/// or printed.
+/// Scans the store, reads the tariff of word 1, and asks whether the held trip fits it. It writes and prints nothing.
 fn begin<F: Files, B: Board<STORE_SIZE, L>, L: Ledger>(
     alloc: Global,
     files: &mut F,
@@ -95,8 +93,7 @@ fn begin<F: Files, B: Board<STORE_SIZE, L>, L: Ledger>(
     Ok(Begun { seal, tables })
 }
 
-/// Scans the store, reads the tariff of word 1, which has to be the sealed one, and carries out the drive of
-/// word 2 on the store.
+/// Scans the store, reads the sealed tariff from word 1, and carries out the drive of word 2 on the store.
 pub fn run<F: Files, B: Board<STORE_SIZE, L>, L: Ledger>(
     alloc: Global,
     files: &mut F,

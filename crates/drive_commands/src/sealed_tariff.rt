@@ -32,7 +32,7 @@ fn tariff_of(alloc: Global, text: &[u8]) -> Result<Checked, Ended>
     }
 }
 
-/// The tariff of a text, where it is the one that was sealed: its digest is asked before its content.
+/// The tariff of a text, if it is the sealed one. It asks for the digest before the content.
 fn sealed_of_text(alloc: Global, text: &[u8], digest: &[u8; 32]) -> Result<Checked, Ended>
     requires { length text.now ≤ 65536 }
     ensures found { IfOk result (λ checked. sealed_tariff digest.now text.now ≡ Ok (tree_of checked)) }
@@ -46,7 +46,7 @@ fn sealed_of_text(alloc: Global, text: &[u8], digest: &[u8; 32]) -> Result<Check
     Err(Ended::WrongTariff(digest, own))
 }
 
-/// Reads the tariff of word 1, where it is the one that was sealed: its length is asked before its digest.
+/// Reads the sealed tariff from word 1. It asks for the length of the text before its digest.
 pub fn read_sealed<F: Files>(
     alloc: Global,
     files: &mut F,

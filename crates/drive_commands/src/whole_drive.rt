@@ -11,20 +11,20 @@ use meter_run::{Source, Stop};
 use outside::Files;
 use std::alloc::Global;
 
-/// Why the runs of a drive aren't had.
+/// Why the runs of a drive aren't known.
 #[derive(Clone, Copy)]
 pub enum DriveFault {
     /// A read failed.
     ReadFault,
     /// The line of this number is the first that is no line of a drive.
     BadLine(u64),
-    /// As many bytes as a drive may have were taken, and its end wasn't reached.
+    /// The drive has no end within the bytes that it may have.
     TooLong,
     /// Memory ran out.
     NoMemory,
 }
 
-/// The runs of the drive of a word, which is read to its end.
+/// Reads the drive of a word to its end, and gives its runs.
 pub fn read_drive<F: Files>(
     alloc: Global,
     files: &mut F,
@@ -70,7 +70,7 @@ fn has_failed(stop: Option<Stop>) -> bool
     }
 }
 
-/// Why the runs of a drive aren't had whose reading stopped so, if they aren't.
+/// Why the runs of a drive whose reading stopped so aren't known, if they aren't.
 fn fault_of(stop: Stop) -> Option<DriveFault>
     ensures { result ≡ fault_by stop }
 {

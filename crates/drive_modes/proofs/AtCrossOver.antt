@@ -36,7 +36,7 @@ cross_over_count w some =
     let both = length-append (replicate (w.per_pulse - u) n) (replicate u (n + 1)) in
     omega (arith, below, both, length-replicate (w.per_pulse - u) n, length-replicate u (n + 1))
 
--- w intervals have t pulses there, where a pulse weighs w and an interval t
+-- w intervals have t pulses there, if a pulse weighs w and an interval t
 cross_over_pulses : (w : Weights) → 0 < w.per_pulse → sum (at_cross_over w) ≡ w.per_tick
 cross_over_pulses w some =
     let n = w.per_tick / w.per_pulse in
@@ -52,7 +52,7 @@ cross_over_as_one w some =
     let time = ap (λ (z : ℕ). z * w.per_tick) (cross_over_count w some) in
     omega (arith, distance, time)
 
--- w * t and u * v more, where v intervals are charged t, and u intervals t + v
+-- w * t and u * v more, if v intervals are charged t, and u intervals t + v
 charges_there : (w t u v : ℕ) → u + v ≡ w → v * t + u * (t + v) ≡ w * t + u * v
 charges_there w t u v split = omega (arith, ap (λ (z : ℕ). z * t) split)
 

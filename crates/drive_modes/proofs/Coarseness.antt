@@ -81,7 +81,7 @@ share w n pulses even =
     mul-le (coarseness w) (length pulses * w.per_tick) (coarseness w) as_one (omega arith) (omega arith) in
     omega (arith, bound, time)
 
--- where t to w is as q to p, so are the remainders of t by w and of q by p, which are to w as to p
+-- if t to w is as q to p, so are the remainders of t by w and of q by p, which are to w as to p
 remainders : (w t p q : ℕ) → 0 < w → 0 < p → t * p ≡ q * w → (q % p) * w ≡ (t % w) * p
 remainders w t p q some whole ratio =
     let n = t / w in

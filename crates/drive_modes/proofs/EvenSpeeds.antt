@@ -18,7 +18,7 @@ first_of n p pulses even = All-head (λ (x : ℕ). (x ≡ n) ⊎ (x ≡ n + 1)) 
 others_of : (n p : ℕ) (pulses : List ℕ) → IsEvenSpeed n (p ∷ pulses) → IsEvenSpeed n pulses
 others_of n p pulses even = All-tail (λ (x : ℕ). (x ≡ n) ⊎ (x ≡ n + 1)) p pulses even
 
--- where n pulses cost an interval or more, the distance is charged
+-- if n pulses cost an interval or more, the distance is charged
 above_one : (w : Weights) (n p : ℕ) → (p ≡ n) ⊎ (p ≡ n + 1) → w.per_tick ≤ n * w.per_pulse
     → charge_of Single w p ≡ p * w.per_pulse
 above_one w n p (inl same) above =
@@ -40,7 +40,7 @@ pub exact_above : (w : Weights) (n : ℕ) (pulses : List ℕ) → IsEvenSpeed n 
     → charged Single w pulses ≡ charge_as_one w pulses
 exact_above w n pulses even above = omega (arith, distance_charged w n pulses even above, time_least w pulses)
 
--- where n + 1 pulses cost an interval or less, the time is charged
+-- if n + 1 pulses cost an interval or less, the time is charged
 below_one : (w : Weights) (n p : ℕ) → (p ≡ n) ⊎ (p ≡ n + 1)
     → (n + 1) * w.per_pulse ≤ w.per_tick → charge_of Single w p ≡ w.per_tick
 below_one w n p (inl same) below =
@@ -62,7 +62,7 @@ pub exact_below : (w : Weights) (n : ℕ) (pulses : List ℕ) → IsEvenSpeed n 
     → charged Single w pulses ≡ charge_as_one w pulses
 exact_below w n pulses even below = omega (arith, time_charged w n pulses even below, distance_least w pulses)
 
--- where pulses cost nothing, the time is charged too
+-- if pulses cost nothing, the time is charged too
 pub exact_free : (w : Weights) (pulses : List ℕ) → w.per_pulse ≡ 0
     → charged Single w pulses ≡ charge_as_one w pulses
 exact_free w pulses free =
@@ -160,7 +160,7 @@ nearly_between w n u v pulses is even =
     (time_alone w pulses) parts.distance parts.time in
     in_words _ _ _ _ _ _ _ is.high (sym parts.all) (coarse_between w n u v is) bound
 
--- where nothing is charged too much, each bound holds
+-- if nothing is charged too much, each bound holds
 pub none_above : (w x y n : ℕ) → x ≡ y → w * (x - y) ≤ n
 none_above w x y n same =
     let none : x - y ≡ 0 = omega (arith, same) in

@@ -1,6 +1,6 @@
 -- the cross-over speed reaches the bound of even speeds
 mod AtCrossOver
--- a gate counts the sum of the bursts of pulses that come to it
+-- a gate counts the sum of its bursts of pulses
 mod Bursts
 -- what intervals are charged lies between their distance or their time alone, and both together
 mod Charged
@@ -10,7 +10,7 @@ mod Coarseness
 mod Crossover
 -- fares of even speeds are shown nearly, over several rates
 mod EvenFares
--- mode S charges even speeds nearly what their intervals come to as one
+-- mode S charges even speeds nearly what the intervals cost as one
 mod EvenSpeeds
 -- the largest fare is shown from some number of display steps on
 mod Largest

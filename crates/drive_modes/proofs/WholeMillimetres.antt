@@ -7,7 +7,7 @@ use Rattle.drive_modes.specs.Distance.{HasReached, millimetres_of}
 pub millimetres-most : (k p n : ℕ) → 0 < k → (n ≤ millimetres_of k p) ↔ (n * k ≤ 1000000 * p)
 millimetres-most k p n some = le-div_iff_mul-le some
 
--- dm decimetres are reached where the distance has dm hundreds of millimetres
+-- dm decimetres are reached if the distance has dm hundreds of millimetres
 pub millimetres-reached : (k p dm : ℕ) → 0 < k → HasReached k p dm ↔ (100 * dm ≤ millimetres_of k p)
 millimetres-reached k p dm some =
     let forth = λ (h : k * dm ≤ 10000 * p). (millimetres-most k p (100 * dm) some).1 (omega arith) in

@@ -4,8 +4,8 @@ use Rattle.drive_modes.specs.declared.charges.Mode.{Mode}
 use Rattle.drive_modes.specs.declared.charges.Mode.TheVariants.{Single, Double}
 use Rattle.drive_modes.specs.declared.charges.Weights.{Weights}
 
--- the charge of a measuring interval of p pulses is, in mode S, the charge of its time if its distance costs less,
--- and else the charge of its distance; in mode D it is the charge of both together
+-- in mode S an interval of p pulses is charged for its time if its distance costs less, and otherwise for its distance;
+-- in mode D it is charged for both together
 abbrev pub charge_of : Mode → Weights → ℕ → ℕ
 charge_of Single w p = if nat_lt (p * w.per_pulse) w.per_tick then w.per_tick else p * w.per_pulse
 charge_of Double w p = p * w.per_pulse + w.per_tick

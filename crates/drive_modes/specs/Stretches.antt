@@ -7,12 +7,12 @@ use Rattle.drive_modes.specs.declared.charges.Weights.{Weights}
 use Rattle.drive_modes.specs.Charge.{charge_of}
 use Rattle.drive_modes.specs.Speeds.{IsEvenSpeed, charge_as_one, charged, coarseness}
 
--- an interval of a trip has the weights of the rate that was in force in it, and its pulses
+-- an interval of a trip has its pulses, and the weights of the rate that was in force
 pub record Interval : Type 0 where
   pub weights : Weights
   pub pulses : ℕ
 
--- its charge is the one by its own weights
+-- an interval is charged by its own weights
 abbrev pub interval_charge : Mode → Interval → ℕ
 interval_charge mode i = charge_of mode i.weights i.pulses
 
@@ -27,12 +27,11 @@ pub record Stretch : Type 0 where
 abbrev pub intervals_in : Stretch → List Interval
 intervals_in s = map (λ p. record { weights = s.weights; pulses = p }) s.pulses
 
--- intervals are those of stretches where they are the intervals in all of them, in whatever order they were driven:
--- rates may take turns
+-- intervals are those of stretches if they are the intervals of all of them, in any order: rates may take turns
 abbrev pub AreOfStretches : List Stretch → List Interval → Type 0
 AreOfStretches stretches intervals = IsPermutation (flat_map intervals_in stretches) intervals
 
--- stretches are at even speeds
+-- each of the stretches is at its even speed
 abbrev pub AreEvenSpeeds : List Stretch → Type 0
 AreEvenSpeeds stretches = All (λ s. IsEvenSpeed s.low s.pulses) stretches
 
@@ -40,10 +39,10 @@ AreEvenSpeeds stretches = All (λ s. IsEvenSpeed s.low s.pulses) stretches
 abbrev pub stretch_charge : Mode → Stretch → ℕ
 stretch_charge mode s = charged mode s.weights s.pulses
 
--- the least that it is charged in mode S is what its intervals come to as one
+-- the least that a stretch is charged in mode S is what its intervals cost as one
 abbrev pub least_charge : Stretch → ℕ
 least_charge s = charge_as_one s.weights s.pulses
 
--- and the most at an even speed is that and, an interval, the coarseness of its weights over the weight of a pulse
+-- the most at an even speed is that and, for each interval, the coarseness over the weight of a pulse
 abbrev pub most_charge : Stretch → ℕ
 most_charge s = least_charge s + length s.pulses * coarseness s.weights / s.weights.per_pulse

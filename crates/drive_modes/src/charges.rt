@@ -4,7 +4,7 @@ ghost use Rattle.drive_modes.specs.Charge.{charge_of};
 ghost use Rattle.drive_modes.specs.Speed.{AreWeightsOf, IsBelowCrossOver, Rate};
 
 /// How time and distance share in the fare: the two modes of the measuring instruments directive.
-#[derive(Clone, Copy, PartialEq, Eq)]
+#[derive(Clone, Copy)]
 pub enum Mode {
     /// Mode S: the time tariff applies below the cross-over speed, the distance tariff above it.
     Single,
@@ -12,9 +12,9 @@ pub enum Mode {
     Double,
 }
 
-/// What a pulse of the distance signal generator costs, and what a measuring interval of 0.1 s costs,
-/// in units of charge: at most 10^28 and 2 * 10^29, this project's own limits.
-#[derive(Clone, Copy, PartialEq, Eq)]
+/// What a pulse of the distance signal generator costs, and what a measuring interval of 0.1 s costs, in units of
+/// charge: at most 10^28 and 2 * 10^29. These limits are this project's own.
+#[derive(Clone, Copy)]
 pub struct Weights {
     pub per_pulse: u128,
     pub per_tick: u128,
@@ -31,9 +31,8 @@ impl Weights {
     }
 }
 
-/// The charge of a measuring interval that counted `pulses` pulses, at most 2,000, in units of charge.
-/// That each interval is charged by its own speed, and by the distance at the cross-over speed itself,
-/// is this project's own rule.
+/// The charge of a measuring interval that counted `pulses` pulses, at most 2,000, in units of charge. This project's
+/// own rule: each interval is charged by its own speed, and at the cross-over speed itself by its distance.
 pub fn charge(mode: Mode, weights: Weights, pulses: u32) -> u128
     requires pulses { pulses ≤ 2000 }
     requires per_pulse { weights.per_pulse ≤ 10 ^ 28 }
@@ -54,9 +53,9 @@ pub fn charge(mode: Mode, weights: Weights, pulses: u32) -> u128
     }
 }
 
-/// A law: p pulses an interval are below the cross-over speed where they cost less than the interval.
-/// There mode S charges the time, and from that speed on the distance, so it charges the greater of
-/// the two. Mode D charges both, whatever the speed.
+/// A law: p pulses an interval are below the cross-over speed if they cost less than the interval. There mode S charges
+/// the time, and from that speed on the distance, so it charges the greater of the two. Mode D charges both, whatever
+/// the speed.
 pub fn charge_by_crossover()
     ensures below { (w : Weights) (p : ℕ) → p * w.per_pulse < w.per_tick → charge_of Mode.Single w p ≡ w.per_tick }
     ensures above { (w : Weights) (p : ℕ) → w.per_tick ≤ p * w.per_pulse → charge_of Mode.Single w p ≡ p * w.per_pulse }
@@ -64,9 +63,8 @@ pub fn charge_by_crossover()
     ensures both { (w : Weights) (p : ℕ) → charge_of Mode.Double w p ≡ p * w.per_pulse + w.per_tick }
 {}
 
-/// A law: the cross-over speed is where mode S changes over. Under the weights of a rate, p pulses an
-/// interval are below the cross-over speed exactly where they cost less than the interval; there the
-/// charge is the time's, and from that speed on it is the distance's.
+/// A law: mode S changes over at the cross-over speed. Under the weights of a rate, p pulses an interval are below that
+/// speed exactly if they cost less than the interval. Below it the time is charged, and from it on the distance.
 pub fn mode_s_changes_over_at_the_cross_over()
     ensures exactly { (rate : Rate) (k measure p : ℕ) (w : Weights) → AreWeightsOf rate k measure w → 0 < measure
         → 0 < rate.b * k * rate.e

@@ -11,11 +11,11 @@ pub const LEAST_CONSTANT: u32 = 500;
 pub const GREATEST_CONSTANT: u32 = 200_000;
 
 /// A constant of less than 500 or more than 200,000 pulses a kilometre.
-#[derive(Clone, Copy, PartialEq, Eq)]
+#[derive(Clone, Copy)]
 pub struct BadConstant;
 
-/// The constant of the taximeter: how many pulses of the distance signal generator make a kilometre,
-/// 500 to 200,000. The range is this project's own.
+/// The constant of the taximeter: how many pulses of the distance signal generator make a kilometre, 500 to 200,000.
+/// The range is this project's own.
 #[derive(Clone, Copy, PartialEq, Eq)]
 pub struct Constant {
     per_kilometre: u32,
@@ -32,7 +32,7 @@ impl Model for Constant {
 }
 
 impl Constant {
-    /// The constant of `k` pulses a kilometre. BadConstant exactly where `k` is out of range.
+    /// The constant of `k` pulses a kilometre. `BadConstant` exactly if `k` is out of range.
     pub fn new(k: u32) -> Result<Constant, BadConstant>
         ensures in_range { IsOk result ↔ ((least_constant ≤ k) × (k ≤ greatest_constant)) }
         ensures value { IfOk result (λ constant. constant ≡ k) }

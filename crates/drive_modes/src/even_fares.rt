@@ -17,11 +17,10 @@ pub fn fares_rise_with_their_charge()
         ≤ shown_fare initial minimum step (steps_above rounding opening more) }
 {}
 
-/// A law: the intervals of a trip, in whatever order its rates took turns, are charged the sum over
-/// their stretches, each under one rate. In mode S that is at least what each stretch comes to as one,
-/// and at even speeds at most that with the bound of each stretch. So a meterage that is kept from
-/// charge to charge shows a fare between those of these two sums, by the same display step and
-/// rounding, from every state that was saved in the middle of a trip.
+/// A law: the intervals of a trip, in whatever order its rates took turns, are charged the sum over their stretches,
+/// each under one rate. In mode S that is at least what each stretch costs as one, and at even speeds at most that and
+/// the bound of each stretch. So a meterage that is kept from charge to charge shows a fare between the fares of these
+/// two sums, by the same display step and rounding. This holds from every state that was saved in the middle of a trip.
 pub fn even_fares_are_shown_nearly()
     ensures sum { (mode : Mode) (stretches : List Stretch) (intervals : List Interval)
         → AreOfStretches stretches intervals

@@ -6,9 +6,8 @@ ghost use Rattle.drive_modes.specs.Speed.{AreWeightsOf, Rate};
 ghost use Rattle.drive_modes.specs.Speeds.{IsEvenSpeed, at_cross_over, charge_as_one, charged, coarseness};
 ghost use Rattle.drive_modes.specs.Speeds.{distance_alone, own_weights, time_alone};
 
-/// A law: under the weights of one rate, whatever the pulses of each interval, the charge of the
-/// intervals in mode S is at least what their distance alone comes to, at least what their time alone
-/// comes to, and at most both together. In mode D it is both together.
+/// A law: under the weights of one rate, whatever the pulses of each interval, mode S charges at least what their
+/// distance alone costs, at least what their time alone costs, and at most both together. Mode D charges both together.
 pub fn charges_in_mode_s_lie_between()
     ensures distance { (w : Weights) (pulses : List ℕ) → distance_alone w pulses ≤ charged Single w pulses }
     ensures time { (w : Weights) (pulses : List ℕ) → time_alone w pulses ≤ charged Single w pulses }
@@ -18,13 +17,12 @@ pub fn charges_in_mode_s_lie_between()
         → charged Double w pulses ≡ distance_alone w pulses + time_alone w pulses }
 {}
 
-/// A law: at an even speed, where each interval has n pulses or n + 1, mode S charges nearly what the
-/// intervals come to as one, the greater of their distance and their time. It never charges less. It
-/// charges more by at most the coarseness of the weights over the weight of a pulse, an interval. That
-/// is a quarter of a pulse's weight at most, and of what they come to as one no greater share than the
-/// coarseness is of the product of both weights. By the rate's own weights that share is the same.
-/// Where n pulses cost as much as an interval or more, where n + 1 cost as much or less, and where
-/// pulses cost nothing, the charge is just what they come to as one.
+/// A law: at an even speed, each interval with n pulses or n + 1, mode S charges nearly what the intervals cost as one:
+/// the greater of their distance and their time. It never charges less. It charges more by at most the coarseness of
+/// the weights over the weight of a pulse, for each interval. That is at most a quarter of a pulse's weight. As a share
+/// of what they cost as one, it is at most the coarseness over the product of both weights; by the rate's own weights
+/// that share is the same. The charge is just what they cost as one if n pulses cost as much as an interval or more, if
+/// n + 1 cost as much or less, or if pulses cost nothing.
 pub fn even_speeds_are_charged_nearly()
     ensures least { (w : Weights) (pulses : List ℕ) → charge_as_one w pulses ≤ charged Single w pulses }
     ensures nearly { (w : Weights) (n : ℕ) (pulses : List ℕ) → IsEvenSpeed n pulses
@@ -49,9 +47,9 @@ pub fn even_speeds_are_charged_nearly()
         → charged Single w pulses ≡ charge_as_one w pulses }
 {}
 
-/// A law: under all weights whose pulses cost something, an even speed reaches that bound. It is the
-/// cross-over speed: there as many intervals as a pulse weighs are charged just the coarseness more
-/// than they come to as one, which is the product of both weights.
+/// A law: under all weights by which pulses cost something, an even speed reaches that bound: the cross-over speed.
+/// There as many intervals as a pulse weighs cost the product of both weights as one, and are charged the coarseness
+/// more.
 pub fn the_cross_over_speed_reaches_the_bound()
     ensures even { (w : Weights) → 0 < w.per_pulse → IsEvenSpeed (w.per_tick / w.per_pulse) (at_cross_over w) }
     ensures count { (w : Weights) → 0 < w.per_pulse → length (at_cross_over w) ≡ w.per_pulse }

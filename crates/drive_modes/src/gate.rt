@@ -8,9 +8,8 @@ use std::marker::Model;
 /// The most pulses of a measuring interval.
 const MOST_PULSES: u32 = 2000;
 
-/// The gate that counts the pulses of the measuring interval that runs: at most 2,000, which is this
-/// project's own limit.
-#[derive(Clone, Copy, PartialEq, Eq)]
+/// The gate that counts the pulses of the measuring interval that runs: at most 2,000, this project's own limit.
+#[derive(Clone, Copy)]
 pub struct Gate {
     pulses: u32,
 }
@@ -33,8 +32,7 @@ impl Gate {
         Gate { pulses: 0 }
     }
 
-    /// Counts `n` further pulses as far as the interval can have them, and gives those that were not
-    /// counted.
+    /// Counts `n` further pulses, as many as the interval can have, and gives the number that it didn't count.
     pub fn add(&mut self, n: u32) -> u32
         ensures count { self.new ≡ counted self.old n }
         ensures surplus { result ≡ self.old + n - 2000 }
@@ -57,7 +55,7 @@ impl Gate {
     }
 }
 
-/// A law: after any list of bursts of pulses a pulse gate has counted their sum, up to 2,000.
+/// A law: after any list of bursts of pulses a gate has counted their sum, up to 2,000.
 pub fn a_gate_counts_the_sum()
     ensures { (pulses : ℕ) (bursts : List ℕ) → pulses ≤ 2000
         → fold counted pulses bursts ≡ min 2000 (pulses + sum bursts) }

@@ -1,9 +1,8 @@
-//! From pulses to a fare: the constant of the distance signal generator, the pulses of the measuring
-//! interval that runs, and the distance that pulses make; the charge of each measuring interval, the
-//! fare that the charges add up to, and the speed at which time and distance cost the same.
+//! From pulses to a fare: the constant of the distance signal generator, the pulses of the measuring interval that
+//! runs, and their distance; the charge of each interval, the fare of all charges, and the cross-over speed.
 //!
-//! Charges are counted in a unit so small that no rate of a tariff leaves a fraction: the measure of
-//! a tariff says how many of these units make the smallest unit of money.
+//! Charges are counted in a unit so small that no rate of a tariff leaves a fraction: the measure of a tariff says how
+//! many of these units make the smallest unit of money.
 #![tactic(auto)]
 
 mod charges;

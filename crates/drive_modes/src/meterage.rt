@@ -1,5 +1,5 @@
-//! What a trip has come to: the cover that is left, and the display steps above it. How it is counted
-//! and rounded is this project's own rule.
+//! What a trip costs so far: the cover that is left, and the display steps above it. This project's own rules say how
+//! it is counted and rounded.
 ghost use Rattle.std.specs.Prelude.{◌≡◌, ℕ, ◌+◌, ◌-◌, ◌*◌, ◌/◌, ◌^◌, ◌<◌, ◌≤◌, ◌↔◌, List, sum};
 ghost use Rattle.std.specs.List.{fold};
 ghost use Rattle.drive_modes.specs.Fare.{Opening, added, opening_of, quotient, saved, shown_fare};
@@ -8,8 +8,8 @@ ghost use Rattle.taxi_units.specs.Money.{largest_amount, largest_display_step};
 
 use taxi_units::LARGEST_AMOUNT;
 
-/// Whether the fare is shown behind what was driven or ahead of it.
-#[derive(Clone, Copy, PartialEq, Eq)]
+/// Whether the fare is shown behind the drive or ahead of it.
+#[derive(Clone, Copy)]
 pub enum Rounding {
     /// A display step is shown once it is used up.
     Behind,
@@ -27,10 +27,10 @@ impl Rounding {
     }
 }
 
-/// What the charges of a trip have come to, with no list of them: what the initial hire fee still
-/// covers, the full display steps above that, and what has begun the next one. `cover_left` and `rest`
-/// are in units of charge, and `rest` is less than a display step.
-#[derive(Clone, Copy, PartialEq, Eq)]
+/// The sum of a trip's charges, without a list of them: what the initial hire fee still covers, the full display steps
+/// above that, and the rest, which has begun the next step. `cover_left` and `rest` are in units of charge, and `rest`
+/// is less than a display step.
+#[derive(Clone, Copy)]
 pub struct Meterage {
     pub cover_left: u128,
     pub steps_full: u64,
@@ -42,8 +42,8 @@ pub struct Meterage {
 const MOST_STEPS: u64 = 100_000_000;
 
 impl Meterage {
-    /// The start of a trip whose initial hire fee covers `covers` of the smallest units of money, at most
-    /// 99,999,999, where `measure` units of charge, at most 2 * 10^23, make one of them.
+    /// The start of a trip. Its initial hire fee covers `covers` of the smallest units of money, at most 99,999,999;
+    /// `measure` units of charge, at most 2 * 10^23, make one of them.
     pub fn start(covers: u64, measure: u128) -> Meterage
         requires covers { covers ≤ largest_amount }
         requires measure { measure ≤ 2 * 10 ^ 23 }
@@ -59,9 +59,9 @@ impl Meterage {
         }
     }
 
-    /// Adds the charge of an interval, at most 202 * 10^29, where `modulus` units of charge, 1 to
-    /// 2 * 10^29, make a display step. Nothing is rounded: what doesn't fill a display step is kept as the
-    /// rest. The full display steps are to stay at most 4 * 10^17.
+    /// Adds the charge of an interval, at most 202 * 10^29. `modulus` units of charge, 1 to 2 * 10^29, make a display
+    /// step. Nothing is rounded: what doesn't fill a display step is kept as the rest. The full display steps have to
+    /// stay at most 4 * 10^17.
     #[inline(never)]
     pub fn add(&mut self, charge: u128, modulus: u128)
         requires rest { self.old.rest < modulus }
@@ -84,8 +84,8 @@ impl Meterage {
         self.rest = above % modulus;
     }
 
-    /// The display steps that are shown: at most 4 * 10^17 full ones, and ahead one more where there is
-    /// a rest. A cover that is used up exactly is no display step.
+    /// The display steps that are shown: the full ones, at most 4 * 10^17, and one more if the fare is shown ahead and
+    /// there is a rest. A cover that is just used up is no display step.
     pub fn steps(&self, rounding: Rounding) -> u64
         requires steps { self.now.steps_full ≤ 4 * 10 ^ 17 }
         ensures exact { result ≡ steps_of rounding self.now }
@@ -105,9 +105,9 @@ impl Meterage {
         }
     }
 
-    /// The fare that is shown, in the smallest units of money: the initial hire fee `initial`, at most
-    /// 99,999,999, and `step`, at most 1,000,000, for each display step that is shown, or `minimum`, at
-    /// most 99,999,999, where that is more. A greater fare than 99,999,999 is shown as that.
+    /// The fare that is shown, in the smallest units of money: the initial hire fee `initial`, at most 99,999,999, and
+    /// `step`, at most 1,000,000, for each display step shown; or `minimum`, at most 99,999,999, if that is more. A
+    /// fare above 99,999,999 is shown as 99,999,999.
     #[tactic(auto, using(crate::proofs::Largest::most_steps, crate::proofs::Largest::steps_value))]
     pub fn shown(&self, initial: u64, minimum: u64, step: u64, rounding: Rounding) -> u64
         requires steps { self.now.steps_full ≤ 4 * 10 ^ 17 }
@@ -127,7 +127,7 @@ impl Meterage {
     }
 }
 
-/// A law: a meterage that is kept from charge to charge is what their sum alone makes of it, from the
+/// A law: a meterage that is kept from charge to charge is what the sum of the charges alone makes of it, from the
 /// start of a trip and from every state that was saved in the middle of one.
 pub fn fares_add_up()
     ensures sum { (opening : Opening) (charges : List ℕ) → 0 < opening.modulus
@@ -141,8 +141,7 @@ pub fn fares_add_up()
         × (shown_fare initial minimum step (steps_of rounding later) ≡ shown_fare initial minimum step n) }
 {}
 
-/// A law: behind, the display steps of an amount are the most that it fills; ahead, they are the
-/// fewest that hold it.
+/// A law: behind, the display steps of an amount are the most that it fills; ahead, they are the fewest that hold it.
 pub fn steps_are_whole_steps()
     ensures behind { (n x y : ℕ) → 0 < y → (n ≤ quotient Rounding.Behind x y) ↔ (n * y ≤ x) }
     ensures ahead { (n x y : ℕ) → 0 < y → (quotient Rounding.Ahead x y ≤ n) ↔ (x ≤ n * y) }

@@ -1,5 +1,5 @@
 -- What a drive means doesn't depend on where its bytes were cut.
-use Rattle.std.proofs.Common.{◌≡◌, ◌≢◌, ℕ, ◌+◌, Bool, true, false, cond, List, [], ◌∷◌, ◌++◌, length, refl, ap, sym}
+use Rattle.std.proofs.Common.{◌≡◌, ℕ, ◌+◌, Bool, true, false, cond, List, [], ◌∷◌, ◌++◌, length, refl, ap, sym}
 use Rattle.std.proofs.Common.{◌∙◌, eqb, append_assoc, drop, flat_map, Option, Some, None, ◌⊎◌, inl, inr}
 use Rattle.std.proofs.Math.Seq.{drop-append_seam}
 use Rattle.std.proofs.lemmas.Grind.{flat_map-append}
@@ -11,7 +11,7 @@ use Rattle.drive_text.specs.Whole.{given_by, bytes_of}
 use Rattle.drive_text.specs.Lines.{ended_lines, unfinished_line, is_too_long}
 use Rattle.drive_text.specs.Drive.{or_else, first_bad_line, first_bad_of, first_bad, runs_of_lines, runs_in, runs_after}
 use Rattle.drive_text.specs.Drive.{events_in}
-use Rattle.drive_text.proofs.Splits.{ended-lf, unfinished-lf, ended-other, unfinished-other}
+use Rattle.drive_text.proofs.Parts.{byte_goes_on, lf_ends}
 use Rattle.drive_text.proofs.Positions.{first_bad_line-append, first_bad_line-bad, runs_of_lines-bad}
 use Rattle.drive_text.proofs.Positions.{runs_of_lines-good, runs_of_lines-bad_one}
 use Rattle.drive_text.proofs.Endings.{line_runs-long, too_long-append}
@@ -58,21 +58,19 @@ next_by : (lf : Bool) (b : List ℕ) (c n : ℕ) → eqb c 10 ≡ lf → first_b
     → (first_bad (b ++ c ∷ []) ≡ Some n) × (runs_in (b ++ c ∷ []) ≡ runs_in b)
 next_by true b c n e bad =
     let is_lf : c ≡ 10 = eqb-true c 10 e in
-    let ended : ended_lines (b ++ c ∷ []) ≡ ended_lines b ++ unfinished_line b ∷ [] =
-    ap (λ (k : ℕ). ended_lines (b ++ k ∷ [])) is_lf ∙ ended-lf b in
-    let unfinished : unfinished_line (b ++ c ∷ []) ≡ [] =
-    ap (λ (k : ℕ). unfinished_line (b ++ k ∷ [])) is_lf ∙ unfinished-lf b in
+    let ended = ap (λ (k : ℕ). ended_lines (b ++ k ∷ [])) is_lf ∙ (lf_ends b).0 in
+    let unfinished = ap (λ (k : ℕ). unfinished_line (b ++ k ∷ [])) is_lf ∙ (lf_ends b).1 in
     let h = lf_by (ended_lines b) (unfinished_line b) n (why_bad (ended_lines b) (unfinished_line b) n bad) in (
       ap (λ (x : List (List ℕ)). first_bad_of x (unfinished_line (b ++ c ∷ []))) ended
           ∙ (ap (first_bad_of (ended_lines b ++ unfinished_line b ∷ [])) unfinished ∙ h.0),
       ap runs_of_lines ended ∙ h.1,
     )
 next_by false b c n e bad =
-    let other : c ≢ 10 = eqb-false c 10 e in
+    let on = byte_goes_on b c (eqb-false c 10 e) in
     let h = other_by (ended_lines b) (unfinished_line b) c n (why_bad (ended_lines b) (unfinished_line b) n bad) in (
-      ap (λ (x : List (List ℕ)). first_bad_of x (unfinished_line (b ++ c ∷ []))) (ended-other b c other)
-          ∙ (ap (first_bad_of (ended_lines b)) (unfinished-other b c other) ∙ h),
-      ap runs_of_lines (ended-other b c other),
+      ap (λ (x : List (List ℕ)). first_bad_of x (unfinished_line (b ++ c ∷ []))) on.0
+          ∙ (ap (first_bad_of (ended_lines b)) on.1 ∙ h),
+      ap runs_of_lines on.0,
     )
 
 next : (b : List ℕ) (c n : ℕ) → first_bad b ≡ Some n
@@ -104,8 +102,9 @@ one_prefix_by : (lf : Bool) (b : List ℕ) (c : ℕ) → eqb c 10 ≡ lf
     → (later : List Run) × (runs_in (b ++ c ∷ []) ≡ runs_in b ++ later)
 one_prefix_by true b c e =
     let h = lines_prefix_by (first_bad_line (ended_lines b)) (ended_lines b) (unfinished_line b ∷ []) refl in
-    (h.0, ap (λ (k : ℕ). runs_in (b ++ k ∷ [])) (eqb-true c 10 e) ∙ (ap runs_of_lines (ended-lf b) ∙ h.1))
-one_prefix_by false b c e = ([], ap runs_of_lines (ended-other b c (eqb-false c 10 e)) ∙ sym (append-nil (runs_in b)))
+    (h.0, ap (λ (k : ℕ). runs_in (b ++ k ∷ [])) (eqb-true c 10 e) ∙ (ap runs_of_lines (lf_ends b).0 ∙ h.1))
+one_prefix_by false b c e =
+    ([], ap runs_of_lines (byte_goes_on b c (eqb-false c 10 e)).0 ∙ sym (append-nil (runs_in b)))
 
 -- the runs so far are the first of the runs of more bytes
 pub runs_in-append : (b c : List ℕ) → (later : List Run) × (runs_in (b ++ c) ≡ runs_in b ++ later)
@@ -137,5 +136,13 @@ given b (piece ∷ pieces) =
     ∙ (ap (λ (x : List Run). x ++ given_by (b ++ piece) pieces) (sym (runs_added b piece))
     ∙ (given (b ++ piece) pieces ∙ ap runs_in (append_assoc b piece (bytes_of pieces))))
 
-pub pieces_give : (pieces : List (List ℕ)) → given_by [] pieces ≡ runs_in (bytes_of pieces)
-pieces_give pieces = given [] pieces
+pub pieces_give_runs : (pieces : List (List ℕ)) → given_by [] pieces ≡ runs_in (bytes_of pieces)
+pieces_give_runs pieces = given [] pieces
+
+pub pieces_give_events : (pieces : List (List ℕ))
+    → flat_map run_events (given_by [] pieces) ≡ events_in (bytes_of pieces)
+pieces_give_events pieces = ap (flat_map run_events) (given [] pieces)
+
+pub pieces_give_the_same : (one other : List (List ℕ)) → bytes_of one ≡ bytes_of other
+    → given_by [] one ≡ given_by [] other
+pieces_give_the_same one other e = given [] one ∙ (ap runs_in e ∙ sym (given [] other))

@@ -107,7 +107,7 @@ comment_fits t e = rw e (by (ltb 80 (length (strip_carriage_return t))))
     by true = refl
     by false = refl
 
--- and what has more is too long, where it is no comment
+-- and what has more is too long if it is no comment
 pub long_fails : (t : List ℕ) → 80 < length (strip_carriage_return t) → is_comment t ≡ false → is_too_long t ≡ true
 long_fails t many plain = rw (lt-ltb 80 (length (strip_carriage_return t)) many, plain) refl
 
@@ -130,7 +130,7 @@ long_by_test t long plain = rw (long, plain) refl
 pub short_by_test : (t : List ℕ) → ltb 80 (length (strip_carriage_return t)) ≡ false → is_too_long t ≡ false
 short_by_test t short = rw short refl
 
--- where bytes begin a comment, nothing stood before them
+-- if bytes begin a comment, nothing stood before them
 pub nothing_before : (t p : List ℕ) → is_comment t ≡ false → is_comment (t ++ p) ≡ true → t ≡ []
 nothing_before [] p plain e = refl
 nothing_before (x ∷ xs) p plain e = absurd (cc)

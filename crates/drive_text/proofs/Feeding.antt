@@ -65,7 +65,7 @@ takes_bytes old new p one some going counted reader runs = record {
   quiet = λ b count few. no_runs b (take count p) (All-take (λ c. c ≢ 10) count p one);
 }
 
--- where a line is bad
+-- if a line is bad
 pub fails_line : (old new : Reading) (l : List ℕ) (number line : ℕ) → IsOneLine l → line_runs (old.kept ++ l) ≡ None
     → old.failed ≡ false → old.comment ≡ false → number ≡ line_number_of old → line ≡ number → HasFailed new number
     → FailsIn old new (l ++ 10 ∷ []) line
@@ -118,9 +118,9 @@ fails_before old new part piece rest line is h = record {
     whole b = ap (λ (x : List ℕ). b ++ x) is ∙ sym (append_assoc b part rest)
 
 -- what is left of a piece behind a part is shorter
-pub shorter : (old new : Reading) (piece rest : List ℕ) (before after : List Run)
+pub shorter : {old new : Reading} {piece rest : List ℕ} {before after : List Run}
     → TakesPart old new piece rest before after → length rest < length piece
-shorter old new piece rest before after t = omega (arith, t.some, ap length t.split, length-append t.part rest)
+shorter {old} {new} {piece} {rest} t = omega (arith, t.some, ap length t.split, length-append t.part rest)
 
 -- ---- a piece
 
@@ -165,104 +165,104 @@ take_past (suc n) (x ∷ xs) ys h =
     let less : suc n - length (x ∷ xs) ≡ n - length xs = omega arith in
     ap (λ (zs : List ℕ). x ∷ zs) (take_past n xs ys (omega arith) ∙ ap (λ (k : ℕ). xs ++ take k ys) (sym less))
 
--- with one part more
-pub feeds_more : (first now after : Reading) (piece rest left : List ℕ) (old mid new : List Run) → length mid < 64
-    → Feeds first now piece rest old mid → TakesPart now after rest left mid new → Feeds first after piece left old new
-feeds_more first now after piece rest left old mid new room f t = record {
-  done = f.done ++ t.part;
-  split = f.split ∙ (ap (λ (x : List ℕ). f.done ++ x) t.split ∙ sym (append_assoc f.done t.part left));
-  going = t.going;
-  counted = omega (arith, f.counted, t.counted, t.some, ap length t.split, length-append t.part left);
-  reader = λ b h. subst (HasTaken after) (append_assoc b f.done t.part) (t.reader (b ++ f.done) (f.reader b h));
-  runs = f.runs ++ t.runs;
-  added = t.added ∙ (ap (λ (x : List Run). x ++ t.runs) f.added ∙ append_assoc old f.runs t.runs);
-  in_range = All-append IsRunInRange f.runs t.runs f.in_range t.in_range;
-  read = λ b h. sym (ap runs_in (append_assoc b f.done t.part)) ∙ (t.read (b ++ f.done) (f.reader b h)
-      ∙ (ap (λ (x : List Run). x ++ t.runs) (f.read b h) ∙ append_assoc (runs_in b) f.runs t.runs));
-  none_yet = λ none. absurd (omega (arith, none, t.some, length-append f.done t.part));
-  not_before = λ b sooner h few. either b sooner h few (cases_lt sooner (length f.done));
-}
-  where
-    inside : (b : List ℕ) (sooner : ℕ) → HasTaken first b → length f.done ≤ sooner → sooner < length (f.done ++ t.part)
-        → length (old ++ runs_after b (take sooner (f.done ++ t.part))) < 64
-    inside b sooner h much few =
-        let count = sooner - length f.done in
-        let front : take sooner (f.done ++ t.part) ≡ f.done ++ take count t.part =
-        take_past sooner f.done t.part much in
-        let same : runs_in (b ++ (f.done ++ take count t.part)) ≡ runs_in b ++ f.runs =
-        ap runs_in (sym (append_assoc b f.done (take count t.part)))
-        ∙ (t.quiet (b ++ f.done) count (omega (arith, length-append f.done t.part)) ∙ f.read b h) in
-        let runs : runs_after b (take sooner (f.done ++ t.part)) ≡ f.runs =
-        ap (runs_after b) front ∙ added_runs b (f.done ++ take count t.part) f.runs same in
-        rw (runs, ← f.added) room
+module _ {first now : Reading} {piece rest : List ℕ} {old mid : List Run} (f : Feeds first now piece rest old mid) where
+  -- with one part more
+  pub feeds_more : {after : Reading} {left : List ℕ} {new : List Run} → length mid < 64
+      → TakesPart now after rest left mid new → Feeds first after piece left old new
+  feeds_more {after} {left} {new} room t = record {
+    done = f.done ++ t.part;
+    split = f.split ∙ (ap (λ (x : List ℕ). f.done ++ x) t.split ∙ sym (append_assoc f.done t.part left));
+    going = t.going;
+    counted = omega (arith, f.counted, t.counted, t.some, ap length t.split, length-append t.part left);
+    reader = λ b h. subst (HasTaken after) (append_assoc b f.done t.part) (t.reader (b ++ f.done) (f.reader b h));
+    runs = f.runs ++ t.runs;
+    added = t.added ∙ (ap (λ (x : List Run). x ++ t.runs) f.added ∙ append_assoc old f.runs t.runs);
+    in_range = All-append IsRunInRange f.runs t.runs f.in_range t.in_range;
+    read = λ b h. sym (ap runs_in (append_assoc b f.done t.part)) ∙ (t.read (b ++ f.done) (f.reader b h)
+        ∙ (ap (λ (x : List Run). x ++ t.runs) (f.read b h) ∙ append_assoc (runs_in b) f.runs t.runs));
+    none_yet = λ none. absurd (omega (arith, none, t.some, length-append f.done t.part));
+    not_before = λ b sooner h few. either b sooner h few (cases_lt sooner (length f.done));
+  }
+    where
+      inside : (b : List ℕ) (sooner : ℕ) → HasTaken first b → length f.done ≤ sooner
+          → sooner < length (f.done ++ t.part) → length (old ++ runs_after b (take sooner (f.done ++ t.part))) < 64
+      inside b sooner h much few =
+          let count = sooner - length f.done in
+          let front : take sooner (f.done ++ t.part) ≡ f.done ++ take count t.part =
+          take_past sooner f.done t.part much in
+          let same : runs_in (b ++ (f.done ++ take count t.part)) ≡ runs_in b ++ f.runs =
+          ap runs_in (sym (append_assoc b f.done (take count t.part)))
+          ∙ (t.quiet (b ++ f.done) count (omega (arith, length-append f.done t.part)) ∙ f.read b h) in
+          let runs : runs_after b (take sooner (f.done ++ t.part)) ≡ f.runs =
+          ap (runs_after b) front ∙ added_runs b (f.done ++ take count t.part) f.runs same in
+          rw (runs, ← f.added) room
 
-    either : (b : List ℕ) (sooner : ℕ) → HasTaken first b → sooner < length (f.done ++ t.part) → (sooner
-        < length f.done) ⊎ (length f.done ≤ sooner) → length (old ++ runs_after b (take sooner (f.done ++ t.part))) < 64
-    either b sooner h few (inl less) =
-        rw (take-append-le sooner f.done t.part (omega arith)) (f.not_before b sooner h less)
-    either b sooner h few (inr much) = inside b sooner h much few
+      either : (b : List ℕ) (sooner : ℕ) → HasTaken first b → sooner < length (f.done ++ t.part)
+          → (sooner < length f.done) ⊎ (length f.done ≤ sooner)
+          → length (old ++ runs_after b (take sooner (f.done ++ t.part))) < 64
+      either b sooner h few (inl less) =
+          rw (take-append-le sooner f.done t.part (omega arith)) (f.not_before b sooner h less)
+      either b sooner h few (inr much) = inside b sooner h much few
 
--- up to where it stopped
-pub takes_to : (first now : Reading) (piece rest : List ℕ) (old new : List Run) (place : ℕ)
-    → Feeds first now piece rest old new → place + length rest ≡ length piece → (length rest ≡ 0) ⊎ (length new ≡ 64)
-    → (b : List ℕ) → HasTaken first b → TakesTo b piece old new place
-takes_to first now piece rest old new place f count ends b h =
-    let is : place ≡ length f.done = omega (arith, ap length f.split, length-append f.done rest, count) in
-    let front : take place piece ≡ f.done =
-    ap (take place) f.split ∙ (ap (λ (n : ℕ). take n (f.done ++ rest)) is ∙ take-append_seam f.done rest) in
-    record {
-      within = omega arith;
-      good = ap (λ (x : List ℕ). first_bad (b ++ x)) front ∙ goes_on now (b ++ f.done) (f.reader b h) f.going;
-      runs = f.added
-          ∙ ap (λ (x : List Run). old ++ x) (sym (ap (runs_after b) front ∙ added_runs b f.done f.runs (f.read b h)));
-      ends = last ends;
-      not_before = λ sooner less.
-          let front_of : take sooner piece ≡ take sooner f.done =
-          ap (take sooner) f.split ∙ take-append-le sooner f.done rest (omega arith) in
-          rw front_of (f.not_before b sooner h (omega arith));
-    }
-  where
-    last : (length rest ≡ 0) ⊎ (length new ≡ 64) → (place ≡ length piece) ⊎ (length new ≡ 64)
-    last (inl none) = inl (omega arith)
-    last (inr full) = inr full
+  front_of : (place : ℕ) → place + length rest ≡ length piece → take place piece ≡ f.done
+  front_of place count =
+      let is : place ≡ length f.done = omega (arith, ap length f.split, length-append f.done rest, count) in
+      ap (take place) f.split ∙ (ap (λ (n : ℕ). take n (f.done ++ rest)) is ∙ take-append_seam f.done rest)
 
-pub feeds_reader : (first now : Reading) (piece rest : List ℕ) (old new : List Run) (place : ℕ)
-    → Feeds first now piece rest old new → place + length rest ≡ length piece
-    → (b : List ℕ) → HasTaken first b → HasTaken now (b ++ take place piece)
-feeds_reader first now piece rest old new place f count b h =
-    let is : place ≡ length f.done = omega (arith, ap length f.split, length-append f.done rest, count) in
-    let front : take place piece ≡ f.done =
-    ap (take place) f.split ∙ (ap (λ (n : ℕ). take n (f.done ++ rest)) is ∙ take-append_seam f.done rest) in
-    subst (λ (x : List ℕ). HasTaken now (b ++ x)) (sym front) (f.reader b h)
+  -- up to where it stopped
+  pub takes_to : (place : ℕ) → place + length rest ≡ length piece → (length rest ≡ 0) ⊎ (length mid ≡ 64)
+      → (b : List ℕ) → HasTaken first b → TakesTo b piece old mid place
+  takes_to place count ends b h =
+      let front = front_of place count in
+      record {
+        within = omega arith;
+        good = ap (λ (x : List ℕ). first_bad (b ++ x)) front ∙ goes_on now (b ++ f.done) (f.reader b h) f.going;
+        runs = f.added
+            ∙ ap (λ (x : List Run). old ++ x) (sym (ap (runs_after b) front ∙ added_runs b f.done f.runs (f.read b h)));
+        ends = last ends;
+        not_before = λ sooner less.
+            let few : sooner < length f.done =
+            omega (arith, ap length f.split, length-append f.done rest, count) in
+            let front_is : take sooner piece ≡ take sooner f.done =
+            ap (take sooner) f.split ∙ take-append-le sooner f.done rest (omega arith) in
+            rw front_is (f.not_before b sooner h few);
+      }
+    where
+      last : (length rest ≡ 0) ⊎ (length mid ≡ 64) → (place ≡ length piece) ⊎ (length mid ≡ 64)
+      last (inl none) = inl (omega arith)
+      last (inr full) = inr full
+
+  pub feeds_reader : (place : ℕ) → place + length rest ≡ length piece → (b : List ℕ) → HasTaken first b
+      → HasTaken now (b ++ take place piece)
+  feeds_reader place count b h =
+      subst (λ (x : List ℕ). HasTaken now (b ++ x)) (sym (front_of place count)) (f.reader b h)
+
+  -- runs in their ranges stay so
+  pub feeds_range : All IsRunInRange old → All IsRunInRange mid
+  feeds_range before = subst (All IsRunInRange) (sym f.added) (All-append IsRunInRange old f.runs before f.in_range)
+
+  -- if the list is full and wasn't at first, some of the piece was taken
+  pub some_taken : length mid ≡ 64 → length old < 64 → 0 < length piece - length rest
+  some_taken full room = either (cases_lt 0 (length piece - length rest))
+    where
+      either : (0 < length piece - length rest) ⊎ (length piece - length rest ≤ 0) → 0 < length piece - length rest
+      either (inl some) = some
+      either (inr none) = absurd
+          (omega (arith, ap length (f.none_yet (omega (arith, ap length f.split, length-append f.done rest, none)))))
 
 -- or where it failed
-pub breaks_in : (first now after : Reading) (piece rest : List ℕ) (old new : List Run) (line : ℕ)
-    → Feeds first now piece rest old new → FailsIn now after rest line → length new < 64
-    → (b : List ℕ) → HasTaken first b → BreaksIn b piece old new line
-breaks_in first now after piece rest old new line f t room b h =
-    let whole : b ++ piece ≡ (b ++ f.done) ++ rest =
-    ap (λ (x : List ℕ). b ++ x) f.split ∙ sym (append_assoc b f.done rest) in
-    record {
-      bad = ap first_bad whole ∙ (failed_at after ((b ++ f.done) ++ rest)
-          (t.reader (b ++ f.done) (f.reader b h)) t.failed ∙ ap Some t.number);
-      runs = f.added ∙ ap (λ (x : List Run). old ++ x)
-          (sym (added_runs b piece f.runs (ap runs_in whole ∙ (t.read (b ++ f.done) (f.reader b h) ∙ f.read b h))));
-      room = room;
-    }
+module _ {first now after : Reading} {piece rest : List ℕ} {old new : List Run} {line : ℕ}
+    (f : Feeds first now piece rest old new) (t : FailsIn now after rest line) where
+  whole_piece : (b : List ℕ) → b ++ piece ≡ (b ++ f.done) ++ rest
+  whole_piece b = ap (λ (x : List ℕ). b ++ x) f.split ∙ sym (append_assoc b f.done rest)
 
-pub breaks_reader : (first now after : Reading) (piece rest : List ℕ) (old new : List Run) (line : ℕ) → Feeds first now
-    piece rest old new → FailsIn now after rest line → (b : List ℕ) → HasTaken first b → HasTaken after (b ++ piece)
-breaks_reader first now after piece rest old new line f t b h =
-    let whole : b ++ piece ≡ (b ++ f.done) ++ rest =
-    ap (λ (x : List ℕ). b ++ x) f.split ∙ sym (append_assoc b f.done rest) in
-    subst (HasTaken after) (sym whole) (t.reader (b ++ f.done) (f.reader b h))
+  pub breaks_reader : (b : List ℕ) → HasTaken first b → HasTaken after (b ++ piece)
+  breaks_reader b h = subst (HasTaken after) (sym (whole_piece b)) (t.reader (b ++ f.done) (f.reader b h))
 
--- where the list is full and wasn't at first, some of the piece was taken
-pub some_taken : (first now : Reading) (piece rest : List ℕ) (old new : List Run) → Feeds first now piece rest old new
-    → length new ≡ 64 → length old < 64 → 0 < length piece - length rest
-some_taken first now piece rest old new f full room = either (cases_lt 0 (length piece - length rest))
-  where
-    either : (0 < length piece - length rest) ⊎ (length piece - length rest ≤ 0) → 0 < length piece - length rest
-    either (inl some) = some
-    either (inr none) = absurd
-        (omega (arith, ap length (f.none_yet (omega (arith, ap length f.split, length-append f.done rest, none)))))
+  pub breaks_in : length new < 64 → (b : List ℕ) → HasTaken first b → BreaksIn b piece old new line
+  breaks_in room b h = record {
+    bad = failed_at after (b ++ piece) (breaks_reader b h) t.failed ∙ ap Some t.number;
+    runs = f.added ∙ ap (λ (x : List Run). old ++ x) (sym (added_runs b piece f.runs (ap runs_in (whole_piece b)
+        ∙ (t.read (b ++ f.done) (f.reader b h) ∙ f.read b h))));
+    room = room;
+  }

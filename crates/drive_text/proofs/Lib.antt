@@ -26,8 +26,6 @@ mod Positions
 mod Ranges
 -- the line of an event is read as that event
 mod ReadBack
--- one byte more, by the lines that it leaves
-mod Splits
 -- where a reader stands after a part of a piece
 mod Standing
 -- what a line means is what the table says

@@ -6,7 +6,16 @@ use Rattle.std.proofs.lemmas.Bool.{ne_eqb, eqb-false}
 use Rattle.std.proofs.lemmas.List.Elements.{All-nil, All-cons, All-head, All-tail}
 use Rattle.std.proofs.lemmas.List.Splits.{slice_split_none, slice_split_at, join_with_byte-slice_split}
 use Rattle.drive_text.specs.Lines.{all_but_last, last_of, ended_lines, unfinished_line, text_of, IsOneLine}
-use Rattle.drive_text.proofs.Splits.{front_of, back_of}
+
+front_of : (ps : List (List ℕ)) (q : List ℕ) → all_but_last (ps ++ q ∷ []) ≡ ps
+front_of [] q = refl
+front_of (p ∷ []) q = refl
+front_of (p ∷ r ∷ ps) q = ap (λ (xs : List (List ℕ)). p ∷ xs) (front_of (r ∷ ps) q)
+
+back_of : (ps : List (List ℕ)) (q : List ℕ) → last_of (ps ++ q ∷ []) ≡ q
+back_of [] q = refl
+back_of (p ∷ []) q = refl
+back_of (p ∷ r ∷ ps) q = back_of (r ∷ ps) q
 
 joined : (ps : List (List ℕ)) → text_of (all_but_last ps) (last_of ps) ≡ join_with_byte 10 ps
 joined [] = refl

@@ -29,7 +29,7 @@ module _ {X : Type 0} (p : X → Bool) where
       let e : i + 1 + length xs ≡ i + length (x ∷ xs) = omega arith in
       more h ∙ ap (λ (k : ℕ). position_from p k ys) e
 
-  -- where there is none, the first is among those that come
+  -- if there is none, the first is among those that come
   pub position_next : (i : ℕ) (xs ys : List X) → position_from p i xs ≡ None
       → position_from p i (xs ++ ys) ≡ position_from p (i + length xs) ys
   position_next i [] ys h = let e : i ≡ i + 0 = omega arith in ap (λ (k : ℕ). position_from p k ys) e
@@ -77,7 +77,7 @@ module _ {X : Type 0} (m : X → Option (List Run)) where
   after_good_by (Some es) x i xs ys more h =
       ap (λ (l : List Run). es ++ l) (more h) ∙ sym (append_assoc es (runs_while xs) (runs_while ys))
 
-  -- where none is bad, the runs of those that come follow
+  -- if none is bad, the runs of those that come follow
   pub after_good : (i : ℕ) (xs ys : List X) → position_from (λ y. is_none (m y)) i xs ≡ None
       → runs_while (xs ++ ys) ≡ runs_while xs ++ runs_while ys
   after_good i [] ys h = refl
@@ -89,12 +89,12 @@ pub first_bad_line-append : (lines more : List (List ℕ)) (n : ℕ) → first_b
     → first_bad_line (lines ++ more) ≡ Some n
 first_bad_line-append lines more n h = position_stays (λ line. is_none (line_runs line)) 1 n lines more h
 
--- the runs of lines stay, where there is a bad one
+-- the runs of lines stay if there is a bad one
 pub runs_of_lines-bad : (lines more : List (List ℕ)) (n : ℕ) → first_bad_line lines ≡ Some n
     → runs_of_lines (lines ++ more) ≡ runs_of_lines lines
 runs_of_lines-bad lines more n h = after_bad line_runs 1 n lines more h
 
--- and those of the lines that come follow, where there is none
+-- and those of the lines that come follow if there is none
 pub runs_of_lines-good : (lines more : List (List ℕ)) → first_bad_line lines ≡ None
     → runs_of_lines (lines ++ more) ≡ runs_of_lines lines ++ runs_of_lines more
 runs_of_lines-good lines more h = after_good line_runs 1 lines more h
@@ -103,7 +103,7 @@ one_bad_by : (o : Option (List Run)) (n : ℕ) → o ≡ None → cond (is_none 
 one_bad_by None n e = refl
 one_bad_by (Some es) n e = cc
 
--- a line more is the first bad one, where it is bad
+-- a line more is the first bad one if it is bad
 pub first_bad_line-bad : (lines : List (List ℕ)) (line : List ℕ) → first_bad_line lines ≡ None → line_runs line ≡ None
     → first_bad_line (lines ++ line ∷ []) ≡ Some (length lines + 1)
 first_bad_line-bad lines line h e =
@@ -115,7 +115,7 @@ one_good_by : (o : Option (List Run)) (es : List Run) (n : ℕ) → o ≡ Some e
 one_good_by None es n e = cc
 one_good_by (Some fs) es n e = refl
 
--- and is none, where it isn't
+-- and is none if it isn't
 pub first_bad_line-good : (lines : List (List ℕ)) (line : List ℕ) (es : List Run) → first_bad_line lines ≡ None
     → line_runs line ≡ Some es → first_bad_line (lines ++ line ∷ []) ≡ None
 first_bad_line-good lines line es h e =

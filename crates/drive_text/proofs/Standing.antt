@@ -12,10 +12,9 @@ use Rattle.drive_text.specs.Drive.{or_else, first_bad_line, first_bad_of, first_
 use Rattle.drive_text.specs.Reading.{Reading, StandsIn, HasFailed, HasTakenLines, HasTaken}
 use Rattle.drive_text.proofs.Cuts.{first_bad-append}
 use Rattle.drive_text.proofs.Endings.{line_runs-comment, comment_fits, comment-append, comment_some, nothing_before}
-use Rattle.drive_text.proofs.Parts.{part_goes_on, line_ends}
+use Rattle.drive_text.proofs.Parts.{lines_fit, part_goes_on, line_ends}
 use Rattle.drive_text.proofs.Positions.{first_bad_line-bad, first_bad_line-good, runs_of_lines-good}
 use Rattle.drive_text.proofs.Positions.{runs_of_lines-bad_one, runs_of_lines-one}
-use Rattle.drive_text.proofs.Splits.{lines_fit}
 
 pub none_by : (o : Option ℕ) (long : Bool) (k : ℕ) → or_else o (cond long (Some k) None) ≡ None
     → (o ≡ None) × (long ≡ false)

@@ -1,12 +1,11 @@
 -- The first bad line and the runs of a text are those that its lines say.
 use Rattle.std.proofs.Common.{◌≡◌, ◌⊎◌, inl, inr, ◌↔◌, ℕ, ◌+◌, Bool, true, false, cond, List, [], ◌∷◌, ◌++◌, length}
-use Rattle.std.proofs.Common.{refl, ap, sym, ◌∙◌, subst, arith, eqb, append_assoc, Option, Some, None, All, flat_map}
+use Rattle.std.proofs.Common.{refl, ap, sym, ◌∙◌, subst, arith, eqb, append_assoc, Option, Some, None, All}
 use Rattle.std.proofs.Common.{is_none}
 use Rattle.std.specs.List.{position_from}
 use Rattle.std.proofs.Math.Seq.{take-append_seam, drop-append_seam}
 use Rattle.std.proofs.lemmas.Bool.{eqb-true}
 use Rattle.std.proofs.lemmas.List.{append-nil}
-use Rattle.std.proofs.lemmas.Grind.{flat_map-append}
 use Rattle.std.proofs.lemmas.List.Elements.{All-append, All-cons, All-head, All-nil, All-take, All-drop}
 use Rattle.drive_text.specs.declared.run.Run.{Run}
 use Rattle.drive_text.specs.Drive.{or_else, first_bad_line, first_bad, bad_at_end, runs_of_lines, runs_in}
@@ -16,12 +15,13 @@ use Rattle.drive_text.specs.Whole.{GiveAll, IsBad, IsGood, HasBadLine, BreaksAt,
 use Rattle.drive_text.specs.Whole.GiveAll.{no_line, one_more}
 use Rattle.drive_text.proofs.Cuts.{why_bad, bad_ended, bad_long}
 use Rattle.drive_text.proofs.LineLaw.{lines_make_the_text}
+use Rattle.drive_text.proofs.Parts.{lines_of, one_line, text_append}
 use Rattle.drive_text.proofs.Positions.{runs_while-cons, and_then, first_bad_line-append, first_bad_line-bad}
 use Rattle.drive_text.proofs.Positions.{runs_of_lines-bad, runs_of_lines-good, runs_of_lines-bad_one}
 use Rattle.drive_text.proofs.Standing.{none_by, none_of}
 use Rattle.drive_text.proofs.Table.{line_runs-table}
 
--- where the first of lines that are counted from a number is bad
+-- if the first of lines that are counted from a number is bad
 abbrev found_from : ℕ → List (List ℕ) → Option ℕ
 found_from i lines = position_from (λ line. is_none (line_runs line)) i lines
 
@@ -102,20 +102,7 @@ bad_by (Some rs) line e h = absurd (h rs ((line_runs-table line rs).0 e))
 no_runs_of : (line : List ℕ) → line_runs line ≡ None → IsBad line
 no_runs_of line e = λ rs m. let f : line_runs line ≡ Some rs = (line_runs-table line rs).1 m in absurd (cc)
 
-text_append : (xs ys : List (List ℕ)) (t : List ℕ) → text_of (xs ++ ys) t ≡ text_of xs (text_of ys t)
-text_append xs ys t =
-    ap (λ (l : List ℕ). l ++ t) (flat_map-append (λ (line : List ℕ). line ++ 10 ∷ []) xs ys)
-    ∙ append_assoc (flat_map (λ line. line ++ 10 ∷ []) xs) (flat_map (λ line. line ++ 10 ∷ []) ys) t
-
-one_line : (line t : List ℕ) (lines : List (List ℕ)) → text_of (line ∷ lines) t ≡ line ++ 10 ∷ text_of lines t
-one_line line t lines = append_assoc (line ++ 10 ∷ []) (flat_map (λ l. l ++ 10 ∷ []) lines) t
-    ∙ append_assoc line (10 ∷ []) (text_of lines t)
-
 -- ---- from the code's words to the lines
-
-lines_of : (bytes : List ℕ) → (bytes ≡ text_of (ended_lines bytes) (unfinished_line bytes))
-    × All IsOneLine (ended_lines bytes) × IsOneLine (unfinished_line bytes)
-lines_of bytes = (lines_make_the_text bytes (ended_lines bytes) (unfinished_line bytes)).0 (refl, refl)
 
 is_good : (bytes : List ℕ) (runs : List Run) → first_bad bytes ≡ None → runs_in bytes ≡ runs → IsGood bytes runs
 is_good bytes runs none is =

@@ -10,12 +10,12 @@ use Rattle.taxi_units.specs.declared.event.Event.TheVariants as events
 use Rattle.taxi_units.specs.declared.event.Key.TheVariants.{Position, Zone, Extra}
 use Rattle.taxi_units.proofs.Laws.{numbers_are_short}
 use Rattle.drive_text.specs.Drive.{bad_at_end, events_in, runs_in}
-use Rattle.drive_text.specs.Ending.{ReachesEnd, Whole, stream_limit}
+use Rattle.drive_text.specs.Ending.{ReachesEnd, Whole, drive_end, events_of, stream_limit}
 use Rattle.drive_text.specs.Ranges.{IsInRange}
 use Rattle.drive_text.specs.Runs.{run_events}
 use Rattle.drive_text.specs.Written.{drive_of, event_fields, event_text, key_text}
 use Rattle.drive_text.specs.declared.run.Run.TheVariants.{One}
-use Rattle.drive_text.proofs.Ends.{whole}
+use Rattle.drive_text.proofs.Ends.{whole_drive_ends}
 use Rattle.drive_text.proofs.ReadBack.{bad_at_end-event_text, runs_in-event_text}
 
 -- a number below a power of ten, and one byte behind it
@@ -68,9 +68,15 @@ lines-add (event ∷ events) b range good =
           ∙ append_assoc (events_in b) (event ∷ []) events));
     }
 
-pub drive-whole : (events : List Event) → All IsInRange events → length (drive_of events) < stream_limit
+drive-whole : (events : List Event) → All IsInRange events → length (drive_of events) < stream_limit
     → ReachesEnd (drive_of events) (drive_of events) [] Whole
-drive-whole events range few = whole (drive_of events) few (lines-add events [] range refl).good
+drive-whole events range few = whole_drive_ends (drive_of events) few (lines-add events [] range refl).good
 
-pub drive-gives : (events : List Event) → All IsInRange events → events_in (drive_of events) ≡ events
-drive-gives events range = (lines-add events [] range refl).gives
+pub written_drive_ends : (events : List Event) → All IsInRange events → length (drive_of events) < stream_limit
+    → drive_end (drive_of events) ≡ Whole
+written_drive_ends events range few = (drive-whole events range few).ends.end_is
+
+pub written_drive_means : (events : List Event) → All IsInRange events → length (drive_of events) < stream_limit
+    → events_of (drive_of events) ≡ events
+written_drive_means events range few =
+    (drive-whole events range few).given_is ∙ (lines-add events [] range refl).gives

@@ -33,7 +33,7 @@ first_bad_of lines unfinished =
 abbrev pub first_bad : List ℕ → Option ℕ
 first_bad bytes = first_bad_of (ended_lines bytes) (unfinished_line bytes)
 
--- the first bad line of a whole drive is that of its bytes, or else its last line if bytes stand behind the last LF
+-- the first bad line of a whole drive is that of its bytes, or else its last line if bytes are behind the last LF
 abbrev pub bad_at_end : List ℕ → Option ℕ
 bad_at_end bytes =
     or_else (first_bad bytes)

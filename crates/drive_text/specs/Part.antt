@@ -1,5 +1,5 @@
--- For proofs: what becomes of one part of a piece, which is a line with its LF, or what is left of the piece if no
--- LF comes.
+-- For proofs: what becomes of one part of a piece, which is a line with its LF, or what is left of the piece if no LF
+-- comes.
 use Rattle.std.specs.Prelude.{◌≡◌, ℕ, ◌+◌, ◌<◌, ◌≤◌, List, ◌++◌, length, take, true, false, All}
 use Rattle.drive_text.specs.declared.run.Run.{Run}
 use Rattle.drive_text.specs.declared.state.State.{State}
@@ -12,7 +12,7 @@ abbrev pub reading_of : State → Reading
 reading_of state =
     record { begun = state.begun; kept = state.kept.items; comment = state.comment; failed = state.failed }
 
--- a reader takes the part of a piece that stands in front of the rest: it appends the part's runs, of which none comes
+-- a reader takes the part of a piece that is in front of the rest: it appends the part's runs, of which none comes
 -- before the part's end
 pub record TakesPart (old new : Reading) (piece rest : List ℕ) (before after : List Run) : Type 0 where
   pub part : List ℕ

@@ -15,8 +15,8 @@ IsKeyInRange (Zone number) = number ≤ 99
 IsKeyInRange (Extra number) = number ≤ 99
 IsKeyInRange key = ⊤
 
--- an event is in range if a line of a drive can say it: its second is one of the meter's, its pulses are 1 to
--- 65,535, its key is in range
+-- an event is in range if a line of a drive can say it: its second is one of the meter's, its pulses are 1 to 65,535,
+-- its key is in range
 abbrev pub IsInRange : Event → Type 0
 IsInRange (Up second) = IsSecond second
 IsInRange Down = ⊤

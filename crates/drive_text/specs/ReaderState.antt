@@ -1,5 +1,5 @@
--- By law: what a reader of a drive keeps of the bytes that it has taken. The law a_reader_is_known_by_its_bytes
--- says that nothing else matters.
+-- By law: what a reader of a drive keeps of the bytes that it has taken. The law a_reader_is_known_by_its_bytes says
+-- that nothing else matters.
 use Rattle.std.specs.Prelude.{◌≡◌, ℕ, ◌+◌, List, [], length, Bool, true, false, if◌then◌else◌, ◌==◌, MatchOption}
 use Rattle.drive_text.specs.Lines.{ended_lines, unfinished_line, is_comment}
 use Rattle.drive_text.specs.Drive.{first_bad_of}

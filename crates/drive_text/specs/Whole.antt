@@ -6,8 +6,7 @@ use Rattle.drive_text.specs.Drive.{runs_after}
 use Rattle.drive_text.specs.Lines.{text_of, is_too_long, IsOneLine}
 use Rattle.drive_text.specs.Table.{Means}
 
--- lines give runs if each line gives what the table says of it, after one CR at its end is dropped, one after
--- another
+-- lines give runs if each line gives what the table says of it, after one CR at its end is dropped, one after another
 pub data GiveAll : List (List ℕ) → List Run → Type 0 where
   no_line : GiveAll [] []
   one_more : (line : List ℕ) (lines : List (List ℕ)) (these others : List Run)
@@ -27,8 +26,7 @@ pub record IsGood (bytes : List ℕ) (runs : List Run) : Type 0 where
   pub give : GiveAll lines runs
   pub short : is_too_long unfinished ≡ false
 
--- bytes have a bad line behind some good lines if the line is bad and an LF ends it, or no LF does and it is too
--- long
+-- bytes have a bad line behind some good lines if the line is bad and an LF ends it, or no LF does and it is too long
 abbrev pub HasBadLine : List ℕ → List (List ℕ) → List ℕ → Type 0
 HasBadLine bytes lines line =
     ((behind : List ℕ) × (bytes ≡ text_of lines (line ++ 10 ∷ behind)) × IsBad line)
@@ -44,8 +42,8 @@ pub record BreaksAt (bytes : List ℕ) (number : ℕ) (runs : List Run) : Type 0
   pub number_is : number ≡ length lines + 1
   pub bad : HasBadLine bytes lines line
 
--- bytes are read as good with their runs if no line is bad, and else as the number of their first bad line and the
--- runs before it
+-- bytes are read as good with their runs if no line is bad, and else as the number of their first bad line and the runs
+-- before it
 abbrev pub IsReadAs : List ℕ → Option ℕ → List Run → Type 0
 IsReadAs bytes None runs = IsGood bytes runs
 IsReadAs bytes (Some number) runs = BreaksAt bytes number runs

@@ -80,7 +80,7 @@ fn run_of_three_fields(name: &[u8], first: &[u8], second: &[u8]) -> Option<Run>
     }
 }
 
-/// The field at the front, and what stands after its blank, where it has one.
+/// The field at the front, and what is behind its blank, if it has one.
 fn first_field(bytes: &[u8]) -> (&[u8], Option<&[u8]>)
     ensures { slice_split (λ b. b == 32) bytes.now
         ≡ result.0.now ∷ option_map_or (λ rest. slice_split (λ b. b == 32) rest.now) result.1 [] }
@@ -88,7 +88,7 @@ fn first_field(bytes: &[u8]) -> (&[u8], Option<&[u8]>)
     split_at_byte(bytes, b' ')
 }
 
-/// A line's fields, parted by one blank each.
+/// The run of a line's fields, with one blank between each two.
 fn run_of_fields(bytes: &[u8]) -> Option<Run>
     ensures { result ≡ spec.run_of_fields (slice_split (λ b. b == 32) bytes.now) }
 {
@@ -114,7 +114,7 @@ pub(crate) fn is_comment(line: &[u8]) -> bool
     line.starts_with(b"#")
 }
 
-/// Whether a line without its CR is too long, where it is no comment.
+/// Whether a line without its CR, which is no comment, is too long.
 pub(crate) fn is_long(text: &[u8]) -> bool
     ensures { result ≡ nat_lt 80 (length text.now) }
 {
@@ -137,7 +137,7 @@ pub(crate) enum Content {
     One(Run),
 }
 
-/// What a whole line without its LF and its CR has. `None` where it is no line of a drive.
+/// What a whole line without its LF and its CR has. `None` if it is no line of a drive.
 #[tactic(auto, unfolding(crate::specs::Fields::text_runs))]
 fn content_of_text(text: &[u8]) -> Option<Content>
     ensures { Gives runs_of result (text_runs text.now) }
@@ -155,7 +155,7 @@ fn content_of_text(text: &[u8]) -> Option<Content>
     Some(Content::One(run))
 }
 
-/// What a whole line without its LF has. `None` where it is no line of a drive.
+/// What a whole line without its LF has. `None` if it is no line of a drive.
 pub(crate) fn content_of_line(line: &[u8]) -> Option<Content>
     ensures { Gives runs_of result (line_runs line.now) }
 {

@@ -1,12 +1,12 @@
 //! The lines that a drive has most of, read in one pass over their bytes: ticks, pulses and intervals, with numbers of
-//! at most 5 digits and an LF alone at the end. Where a line isn't read so, nothing is said of it: fields.rt reads it.
+//! at most 5 digits and an LF alone at the end. `None` says nothing of a line: fields.rt reads it then.
 ghost use Rattle.std.specs.Prelude.{◌++◌, IfSome, codes};
 ghost use Rattle.drive_text.specs.Plain.{BeginsWithLine, BeginsWithNumber};
 
 use crate::run::Run;
 use taxi_units::Event;
 
-/// A number of 1 to 5 digits at the front of the bytes, and what stands behind them. More digits may stand there.
+/// A number of 1 to 5 digits at the front of the bytes, and what is behind them. More digits may be behind them.
 fn short_number(bytes: &[u8]) -> Option<(u32, &[u8])>
     ensures { IfSome result (λ x. BeginsWithNumber bytes.now x.0 x.1.now) }
 {
@@ -66,7 +66,7 @@ fn plain_pulses(bytes: &[u8]) -> Option<(Run, &[u8])>
     Some((Run::One(Event::Pulses(pulses)), rest))
 }
 
-/// The run of the line at the front of the bytes, and what stands behind its LF, where it is read in one pass.
+/// The run of the line at the front of the bytes, and what is behind its LF, if one pass reads it.
 #[tactic(auto, using(crate::proofs::PlainLines::tick_line))]
 pub(crate) fn plain_line(bytes: &[u8]) -> Option<(Run, &[u8])>
     ensures { IfSome result (λ x. BeginsWithLine bytes.now x.0 x.1.now) }

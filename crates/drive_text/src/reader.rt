@@ -11,16 +11,15 @@ use arrayvec::ArrayVec;
 use std::marker::Model;
 
 /// A line, counted from 1, that is no line of a drive.
-#[derive(Clone, Copy, PartialEq, Eq)]
+#[derive(Clone, Copy)]
 pub struct BadLine {
     pub line: u64,
 }
 
-/// Reads a drive that comes in pieces. It keeps the bytes of one unfinished line, at most 81, and
-/// takes no memory.
+/// Reads a drive that comes in pieces. It keeps the bytes of one unfinished line, at most 81, and takes no memory.
 ///
-/// Contracts see a reader as a `Reading`, and say by `HasTaken` which bytes it has taken; of each
-/// reader there are such bytes. Once a bad line came every call answers it again.
+/// Contracts see a reader as a `Reading`, and say by `HasTaken` which bytes it has taken; for each reader there are
+/// such bytes. After a bad line every call answers that line again.
 #[derive(Drop)]
 pub struct Reader {
     state: State,
@@ -48,17 +47,16 @@ impl Reader {
         }
     }
 
-    /// Takes bytes of a piece, appends the runs of the lines that end in them, and answers how many
-    /// bytes it took: all of the piece, or all up to the LF whose run filled `out`. With a full `out`
-    /// it takes none.
+    /// Takes bytes of a piece, appends the runs of the lines that end in them, and answers how many bytes it took: all
+    /// of the piece, or all up to the LF whose run filled `out`. With a full `out` it takes none.
     ///
-    /// `BadLine` with the first line that is ended and no line of a drive, or that has more than 80
-    /// bytes and is no comment, where the runs of the lines before it leave room in `out`. `out` then
-    /// has these runs, the piece counts as taken, and each later call answers the same, whether `out`
-    /// is full or not, and changes nothing. The lines and their limits are this project's own.
+    /// `BadLine` with the first bad line, if the runs of the lines before it leave room in `out`. A line is bad if it
+    /// is ended and is no line of a drive, or if it has more than 80 bytes and is no comment. `out` then has the runs
+    /// before it, and the piece counts as taken. Each later call answers the same, whether `out` is full or not, and
+    /// changes nothing. The lines and their limits are this project's own.
     ///
-    /// The bytes taken and those of the piece are together fewer than 2^64. It is enough that the
-    /// lines begun, of which there are no more than bytes taken, and the bytes of the piece are.
+    /// The bytes taken and those of the piece are together fewer than 2^64. It is enough that the lines begun and the
+    /// bytes of the piece are, since no more lines were begun than bytes taken.
     pub fn feed(&mut self, piece: &[u8], out: &mut ArrayVec<Run, 64>) -> Result<usize, BadLine>
         requires few { self.old.begun + length piece.now < 2 ^ 64 }
         ensures within { IfOk result (λ n. n ≤ length piece.now) }
@@ -95,8 +93,8 @@ impl Reader {
 
     /// Tells whether the drive may end here.
     ///
-    /// `BadLine` with the line that `feed` answered before, or with the unfinished line, where bytes
-    /// stand after the last LF.
+    /// `BadLine` with the line that `feed` answered before, or with the unfinished line if bytes are behind the last
+    /// LF.
     pub fn finish(&self) -> Result<(), BadLine>
         ensures ok { OnOk result ((b : List ℕ) → HasTaken self.now b → bad_at_end b ≡ None) }
         ensures bad { IfErr result (λ e. (b : List ℕ) → HasTaken self.now b → bad_at_end b ≡ Some e.line) }

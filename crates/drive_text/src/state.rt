@@ -1,4 +1,4 @@
-//! Where a reader stands, and what one part of a piece changes of it.
+//! What a reader keeps, and what one part of a piece changes of it.
 ghost use Rattle.std.specs.Prelude.{◌≡◌, ◌∷◌, ◌++◌, ◌+◌, ◌<◌, ◌^◌, [], List, length, false, if◌then◌else◌, ◌==◌, IfOk, IfErr, OnErr};
 ghost use Rattle.arrayvec.specs.ArrayVec.{array_vec_len};
 ghost use Rattle.taxi_units.specs.Reading.{Gives};
@@ -16,8 +16,8 @@ use crate::run::Run;
 use arrayvec::ArrayVec;
 use taxi_units::split_at_byte;
 
-/// How many lines were begun, the bytes of an unfinished line that is no comment, whether the
-/// unfinished line is a comment, and whether a bad line came.
+/// How many lines were begun, the bytes of an unfinished line that is no comment, whether the unfinished line is a
+/// comment, and whether a bad line came.
 #[derive(Drop)]
 pub(crate) struct State {
     pub(crate) begun: u64,
@@ -42,8 +42,8 @@ impl State {
         }
     }
 
-    /// Takes the first line of a piece with its LF, or the whole piece where it has no LF. Answers
-    /// what is left of the piece.
+    /// Takes the first line of a piece with its LF, or the whole piece if it has no LF. Answers what is left of the
+    /// piece.
     pub(crate) fn take<'a>(
         &mut self,
         piece: &'a [u8],
@@ -80,7 +80,7 @@ impl State {
         }
     }
 
-    /// Takes the last bytes of a line and its LF, and appends the run of the line, where it has one.
+    /// Takes the last bytes of a line and its LF, and appends the run of the line, if it has one.
     #[inline(never)]
     fn end_line(&mut self, line: &[u8], out: &mut ArrayVec<Run, 64>) -> Result<(), BadLine>
         requires sense { HasSense (reading_of self.old) }
@@ -155,7 +155,7 @@ impl State {
         self.kept.is_empty() && fields::is_comment(part)
     }
 
-    /// The number of the line in which the next byte stands.
+    /// The number of the line that has the next byte.
     fn number(&self) -> u64
         requires { self.now.begun + 1 < 2 ^ 64 }
         ensures { result ≡ (if length self.now.kept.items == 0 then self.now.begun + 1 else self.now.begun) }
@@ -169,7 +169,7 @@ impl State {
 
     /// What the line has that these bytes end. Nothing of the line is kept.
     ///
-    /// `None` where it is no line of a drive.
+    /// `None` if it is no line of a drive.
     fn content_with(&mut self, line: &[u8]) -> Option<Content>
         requires { is_comment self.old.kept.items ≡ false }
         ensures content { Gives runs_of result (line_runs (self.old.kept.items ++ line.now)) }

@@ -8,11 +8,11 @@ ghost use Rattle.drive_text.specs.Written.{event_text, event_fields};
 use crate::keys::put_key;
 use taxi_units::{Event, Line, LineFull, put_bytes, put_number};
 
-/// Appends the line of an event: its fields without leading zeros, parted by one blank each, and an
-/// LF. A reader reads that event from it.
+/// Appends the line of an event: its fields without leading zeros, with one blank between them, and an LF. A reader
+/// reads that event from it.
 ///
-/// `LineFull` where it doesn't fit; the line is then unchanged. The event's numbers are in the ranges
-/// of a drive: seconds are 946,684,800 to 7,258,118,399, pulses 1 to 65,535, keys' numbers 0 to 99.
+/// `LineFull` if it doesn't fit; the line is then unchanged. The event's numbers are in the ranges of a drive: seconds
+/// are 946,684,800 to 7,258,118,399, pulses 1 to 65,535, keys' numbers 0 to 99.
 pub fn put_event(line: &mut Line, event: Event) -> Result<(), LineFull>
     requires { IsInRange event }
     ensures variant { IsOk result ↔ (array_vec_len line.old + length (event_text event) ≤ line_size) }

@@ -25,7 +25,7 @@ rises pairs earlier (suc later) list le within =
           omega arith
     ]
 
--- where no pair has begun, what was in force before stays in force
+-- if no pair has begun, what was in force before stays in force
 pub offset_from-none : (pairs : List (ℕ × ℤ)) (before : ℤ) (second : ℕ)
     → ((place : ℕ) → place < length pairs → second < second_at pairs place) → offset_from before pairs second ≡ before
 offset_from-none [] before second later = refl

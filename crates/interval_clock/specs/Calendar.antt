@@ -21,9 +21,8 @@ days_of_months year months = sum (take months (month_lengths (is_leap_year year)
 abbrev pub place_in_year : (year month date : ℕ) → ℕ
 place_in_year year month date = days_of_months year (month - 1) + (date - 1)
 
--- a day number is that of a date if the calendar has the date, and the day number, counted in days from 1970-01-01,
--- and the days of the years before 1970 add up to the days of the years before the date's year and its place in its
--- year
+-- a day number is that of a date if the calendar has the date, and the day number and the days of the years before
+-- 1970 add up to the days of the years before the date's year and its place in its year
 pub record IsDateOf (day : ℤ) (year month date : ℕ) : Type 0 where
   pub month_in : (1 ≤ month) × (month ≤ 12)
   pub date_in : (1 ≤ date) × (date ≤ days_of_month year month)

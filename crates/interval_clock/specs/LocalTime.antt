@@ -6,7 +6,7 @@ use Rattle.interval_clock.specs.Offsets.{greatest_offset, offset_at}
 use Rattle.taxi_units.specs.Time.{first_second, last_second}
 use Rattle.interval_clock.specs.declared.local_time.LocalTime.{LocalTime}
 
--- the local second is a second of UTC and the offset in force at it, added
+-- the local second is a second of UTC plus the offset in force at it
 abbrev pub local_second : List (ℕ × ℤ) → (second : ℕ) → ℤ
 local_second pairs second = pos second +ℤ offset_at pairs second
 

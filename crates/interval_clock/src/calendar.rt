@@ -1,12 +1,12 @@
-//! What the definitions of the calendar come to.
+//! A law of the calendar.
 ghost use Rattle.std.specs.Prelude.{◌≡◌, ℕ, ◌+◌, ◌%◌, ℤ, pos, ◌+ℤ◌, IsTrue};
 ghost use Rattle.interval_clock.specs.Calendar.{IsDateOf, date_after, date_place, is_leap_year, next_date, place_in_year, weekday_of};
 
 use crate::day_numbers::CalendarDate;
 
 /// A law: the calendar goes day by day from Thursday 1 January 1970, which is day 0. The day after a
-/// date is the next date and the next weekday, a day has one date, the date of day n is found by going
-/// on n times, and a date has one place in all leap years.
+/// date is the next date and the next weekday, and a day has one date. The date of day n is found by
+/// going on n times. A date has the same place in all leap years.
 pub fn the_calendar_goes_day_by_day()
     ensures first { IsDateOf (pos 0) 1970 1 1 × (weekday_of (pos 0) ≡ 4) }
     ensures next_date { (day : ℤ) (d : CalendarDate) → IsDateOf day d.year d.month d.date

@@ -4,15 +4,15 @@ ghost use Rattle.std.specs.Prelude.{◌≡◌, ℕ, ◌<◌, ◌↔◌, IsTrue, 
 use std::marker::Model;
 
 /// A busy clock was given a second that lies before the last one.
-#[derive(Clone, Copy, PartialEq, Eq)]
+#[derive(Clone, Copy)]
 pub struct ClockBack {
     pub last: u64,
     pub given: u64,
 }
 
-/// A clock that holds the last second that it accepted. It does not advance by itself, and how it is
+/// A clock that holds the last second that it accepted. It doesn't advance by itself, and how it is
 /// set is this project's own rule.
-#[derive(Clone, Copy, PartialEq, Eq)]
+#[derive(Clone, Copy)]
 pub struct Clock {
     second: u64,
 }
@@ -40,9 +40,10 @@ impl Clock {
         self.second
     }
 
-    /// Gives the clock a reading. ClockBack exactly where the meter is `busy`, as in a trip, and the
-    /// reading lies before the last second; the clock is then as it was. A clock that is not busy may
-    /// be set back.
+    /// Sets the clock to a second. A clock that isn't busy may be set back.
+    ///
+    /// `ClockBack` exactly if the meter is `busy`, as in a trip, and the second lies before the last one.
+    /// The clock is then as it was.
     pub fn set(&mut self, second: u64, busy: bool) -> Result<(), ClockBack>
         ensures refused { IsErr result ↔ (IsTrue busy × (second < self.old)) }
         ensures fault { IfErr result (λ back. (back.last ≡ self.old) × (back.given ≡ second)) }

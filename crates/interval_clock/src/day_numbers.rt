@@ -7,7 +7,7 @@ use jiff::ToSpan;
 use jiff::civil::{Date, date};
 
 /// A date of the proleptic Gregorian calendar: a year, the month from 1 and the date of the month from 1.
-#[derive(Clone, Copy, PartialEq, Eq)]
+#[derive(Clone, Copy)]
 pub struct CalendarDate {
     pub year: u16,
     pub month: u8,
@@ -15,7 +15,7 @@ pub struct CalendarDate {
 }
 
 /// The day number of a date, which is the number of days since 1970-01-01, for a year of 1970 to 9999.
-/// `None` exactly where the calendar has no such date.
+/// `None` exactly if the calendar has no such date.
 pub fn day_number(year: u16, month: u8, date: u8) -> Option<u32>
     requires from { 1970 ≤ year }
     requires to { year ≤ 9999 }
@@ -60,7 +60,7 @@ fn days_since_1970(day: Date) -> u32
     (day.duration_since(date(1970, 1, 1)).as_hours() / 24) as u32
 }
 
-/// The date of a day number as jiff's. It has the dates to the year 9999, which this is far from.
+/// The date of a day number, as jiff's. jiff's dates go to the year 9999, far beyond these.
 pub(crate) fn date_of(day: i32) -> Date
     requires { IsBetween (pos 0) (pos 100000) day }
     ensures { epoch_day result ≡ day }
@@ -68,7 +68,7 @@ pub(crate) fn date_of(day: i32) -> Date
     date(1970, 1, 1) + (day as i64).days()
 }
 
-/// A date of jiff's from 1999-01-01 to 2200-01-01, whose years aren't negative.
+/// A date of jiff's as this crate's, of 1999-01-01 to 2200-01-01. Its year isn't negative.
 pub(crate) fn calendar_date(day: Date) -> CalendarDate
     requires { IsBetween (pos 10592) (pos 84006) (epoch_day day) }
     ensures date { IsDateOf (epoch_day day) result.year result.month result.date }

@@ -13,7 +13,7 @@ use taxi_units::{Steps, date_place};
 const SECONDS_OF_DAY: u64 = 86_400;
 
 /// A local date and time, in the proleptic Gregorian calendar.
-#[derive(Clone, Copy, PartialEq, Eq)]
+#[derive(Clone, Copy)]
 pub struct LocalTime {
     /// The day number, 0 for 1970-01-01.
     pub day: i32,
@@ -34,7 +34,7 @@ pub struct LocalTime {
 }
 
 /// The local date and time of a second of 946,684,800 to 7,258,118,399, by the offset in force at it.
-/// At most 6 steps. That local time is a second and an offset is this project's own rule.
+/// At most 6 steps. That local time is a second plus an offset is this project's own rule.
 pub fn civil<L: Ledger>(offsets: &Offsets, second: u64, steps: &mut Steps<L>) -> LocalTime
     requires { IsSecond second }
     ensures value { result ≡ local_time_of (local_second offsets.now second) }
@@ -93,7 +93,7 @@ fn on_day(day: i32, second: u32) -> LocalTime
 }
 
 /// A law: the day and the second of the day of a local second add up to it, and the minute of the day
-/// is the whole minutes of that second.
+/// is the number of whole minutes in the second of the day.
 pub fn local_times_add_up()
     ensures sum { (local : ℤ) → day_of local *ℤ pos 86400 +ℤ pos (second_of_day local) ≡ local }
     ensures within { (local : ℤ) → second_of_day local < 86400 }

@@ -11,7 +11,7 @@ use taxi_units::{Counted, FIRST_SECOND, LAST_SECOND, Steps};
 pub const GREATEST_OFFSET: i32 = 50_400;
 
 /// Why a list of offsets was refused. A place counts from 0.
-#[derive(Clone, Copy, PartialEq, Eq)]
+#[derive(Clone, Copy)]
 pub enum OffsetFault {
     /// It has no pair.
     Empty,
@@ -22,7 +22,7 @@ pub enum OffsetFault {
     /// The pair at this place has a second outside 946,684,800 to 7,258,118,399, or an offset of more
     /// than 50,400 seconds.
     OutOfRange(usize),
-    /// The second at this place is not greater than the one before.
+    /// The second at this place isn't greater than the one before.
     NotRising(usize),
 }
 
@@ -46,8 +46,8 @@ impl Model for Offsets {
 }
 
 impl Offsets {
-    /// The list of these pairs. It is refused exactly where it is not lawful, by the first fault in the
-    /// order of OffsetFault, at the first place that has it. No memory is taken.
+    /// The list of these pairs. It is refused exactly if it isn't lawful, with the first fault in the order
+    /// of `OffsetFault`, at the first place that has it. No memory is taken.
     pub fn from_pairs(pairs: &[(u64, i32)]) -> Result<Offsets, OffsetFault>
         ensures lawful { IsOk result ↔ IsOffsetList pairs.now }
         ensures value { IfOk result (λ offsets. offsets ≡ pairs.now) }
@@ -72,7 +72,7 @@ impl Offsets {
     }
 
     /// The offset in force at a second of 946,684,800 to 7,258,118,399, in seconds: that of the last
-    /// pair that begins at or before it. Each pair that is read is one step, and they are at most 6.
+    /// pair that begins at or before it. Each pair that is read is one step, of at most 6.
     #[tactic(auto, using(crate::proofs::OffsetLists::parted, crate::proofs::OffsetLists::last_begun))]
     pub fn at<L: Ledger>(&self, second: u64, steps: &mut Steps<L>) -> i32
         requires { IsSecond second }
@@ -90,8 +90,8 @@ impl Offsets {
     }
 }
 
-/// A law: the offset at a second is that of the last pair that begins at or before it, in every list; and
-/// where none does it is 0.
+/// A law: in every list, the offset at a second is that of the last pair that begins at or before it, and
+/// 0 if none does.
 pub fn the_last_pair_begun_is_in_force()
     ensures in_force { (pairs : List (ℕ × ℤ)) (second place : ℕ) → IsInForce pairs second place
         → offset_at pairs second ≡ offset_of pairs place }
@@ -139,7 +139,7 @@ fn first_out_of_range(pairs: &[(u64, i32)]) -> Option<usize>
     None
 }
 
-/// The first place whose second is not greater than the one before.
+/// The first place whose second isn't greater than the one before.
 fn first_not_rising(pairs: &[(u64, i32)]) -> Option<usize>
     ensures { MatchOption result
         (EachPlace pairs.now (RisesAt pairs.now))

@@ -34,7 +34,7 @@ first_found text rest receipts (passed t after last byte those is none reads) so
 or_later : (m n : ℕ) → (m ≤ n) ⊎ (n < m)
 or_later m n = grind arith
 
--- a receipt that begins a longer text ends within the text, where the text has a receipt
+-- a receipt that begins a longer text ends within the text, if the text has a receipt
 begins_within : (text more after : List ℕ) (r : Record) → HasReceipt text → IsRecord r → text ++ more ≡ r.text ++ after
     → (behind : List ℕ) × (text ≡ r.text ++ behind)
 begins_within text more after r has h e = elim (or_later (length r.text) (length text)) [

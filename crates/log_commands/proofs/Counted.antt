@@ -1,4 +1,4 @@
--- How many records a log has whose end is known, and where the first of them is held.
+-- How many records a log has whose end is known, and at which place the first of them is held.
 use Rattle.std.proofs.Common.{◌≡◌, inl, inr, ℕ, ◌+◌, ◌-◌, ◌≤◌, Bool, true, false, List, length, refl, subst, arith}
 use Rattle.std.proofs.lemmas.Bool.{cases_lt}
 use Rattle.log_commands.specs.Filings.{IsTailOf}
@@ -13,7 +13,7 @@ use Rattle.log_commands.proofs.OneList.{next_open}
 module _ (image : List ℕ) (last : ℕ) (is_open : Bool) (records : List Record) (ends : EndsWith image last records)
     (opened : is_open ≡ true → IsOpen image (slot_of (last + 1)))
     (closed : is_open ≡ false → IsClosed image (slot_of (last + 1))) where
-  -- where that of the next place is closed, one slot is spare
+  -- if that of the next place is closed, one slot is spare
   pub spare_count : 256 ≤ last → is_open ≡ false → length records ≡ 255
   spare_count many shut = elim (cases_lt (length records) 256) [
     | inl fewer ↦ omega (arith, fewer, (bounds last (length records) ends.count).great many)

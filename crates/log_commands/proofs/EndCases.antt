@@ -38,7 +38,7 @@ filing_no_board (ends.OtherTaxi place) e = absurd cc
 filing_no_board ends.TooLong e = absurd cc
 filing_no_board ends.ReadFault e = absurd cc
 
--- where a read may have failed, the status is one at which it may
+-- if a read may have failed, the status is one at which it may
 pub filing_reads : (end : FileEnd) → MayHaveFailed (Ok end) → MayHaveReadFault (status_of (filing_end end))
 filing_reads (ends.Filed count) failed = absurd failed
 filing_reads (ends.OtherTaxi place) failed = inl refl
@@ -94,7 +94,7 @@ few_are_fewer (Some File) before more now few fewer = tt
 
 module _ {D L T : Type 0} {N : ℕ} (B : Ghosts D N L) (kind : List ℕ → List ℕ → Type 0) (old new : D)
     (r : Result T FindFault) where
-  -- where no end is found, a sync that fails is the fault
+  -- if no end is found, a sync that fails is the fault
   pub unread_sync : (fault : FindFault) → r ≡ Err fault → LeavesFromSync B (r ≡ Err faults.LogFault) old new kind
       → LeavesFromSync B (fault ≡ faults.LogFault) old new kind
   unread_sync fault is synced = from_sync_as B kind kind (r ≡ Err faults.LogFault) (fault ≡ faults.LogFault) old new
@@ -103,7 +103,7 @@ module _ {D L T : Type 0} {N : ℕ} (B : Ghosts D N L) (kind : List ℕ → List
   no_fault : (found : T) → r ≡ Ok found → r ≡ Err faults.LogFault → ⊥
   no_fault found is e = let no : ◌≡◌ {A = Result T FindFault} (Ok found) (Err faults.LogFault) = sym is ∙ e in absurd cc
 
-  -- where one is found, it has succeeded
+  -- if one is found, it has succeeded
   pub found_sync : (found : T) → r ≡ Ok found → LeavesFromSync B (r ≡ Err faults.LogFault) old new kind
       → LeavesFromSync B ⊥ old new kind
   found_sync found is synced = from_sync_as B kind kind (r ≡ Err faults.LogFault) ⊥ old new (no_fault found is)

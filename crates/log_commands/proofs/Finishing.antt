@@ -225,7 +225,7 @@ module _ {D L : Type 0} {N : ℕ} (B : Ghosts D N L) where
       fewer not (inl whole) = λ e. not (whole.0 ∙ e)
       fewer not (inr cut) = absurd (not cut.0)
 
-  -- where a read may have failed before the last line, it may have at the status
+  -- if a read may have failed before the last line, it may have at the status
   pub reads_finished : (ended : Ended) (log log' : D) (status : ℕ) → IsTold B ended log log' status
       → MayHaveReadFault (status_of ended) → MayHaveReadFault status
   reads_finished ended log log' status (inl whole) failed = subst MayHaveReadFault (sym whole.0) failed

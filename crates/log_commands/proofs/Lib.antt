@@ -18,7 +18,7 @@ mod FiledLaws
 mod Finishing
 -- a receipt at the front of a text
 mod Fronting
--- what stays of the log where one of its slots is written
+-- what stays of the log when one of its slots is written
 mod OtherSlots
 -- how a search for a receipt goes on
 mod SearchSteps
@@ -50,7 +50,7 @@ mod Shown
 mod Spelled
 -- what each stage of an append leaves, while it goes on and at its end
 mod Staged
--- how the end of the log goes on where receipts are filed
+-- how the end of the log goes on when receipts are filed
 mod Tails
 -- what was handed out of a roll, when no more of it is read
 mod WholeRolls

@@ -33,7 +33,7 @@ module _ (image : List ℕ) (last : ℕ) (records : List Record) (ends : EndsWit
   fits : Bounds last (length records)
   fits = bounds last (length records) ends.count
 
-  -- the slot of the next place is open exactly where that of the oldest of 256 is
+  -- the slot of the next place is open exactly if that of the oldest of 256 is
   pub next_shut : length records ≤ 255 → IsClosed image (slot_of (last + 1))
   next_shut few =
       ends.others (slot_of (last + 1)) (omega arith) (λ place low high e. omega (arith, low, high, few, fits.within, e))

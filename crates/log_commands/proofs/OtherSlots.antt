@@ -1,4 +1,4 @@
--- What stays of the log where one of its slots is written.
+-- What stays of the log when one of its slots is written.
 use Rattle.std.proofs.Common.{◌≡◌, ◌≢◌, inl, inr, ℕ, zero, suc, ◌+◌, ◌-◌, ◌<◌, ◌≤◌, List, [], ◌∷◌, ◌++◌, length, drop}
 use Rattle.std.proofs.Common.{get_or, ap, sym, ◌∙◌, subst, arith, length-append}
 use Rattle.std.proofs.lemmas.Bool.{cases_eq, cases_lt}
@@ -97,7 +97,7 @@ bounds last count (inr (many, inr but_one)) = record {
   great = λ great. omega (arith, but_one);
 }
 
--- the records that stay where the next place's slot is written
+-- the records that stay when the next place's slot is written
 abbrev pub kept_of : List Record → List Record
 kept_of records = last_ones 255 records
 

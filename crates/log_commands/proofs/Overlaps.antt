@@ -138,7 +138,7 @@ calculation_plain receipt text h =
 
 -- ---- the last line alone is END
 
--- where a line END stands behind a line feed, nothing follows it
+-- if a line END stands behind a line feed, nothing follows it
 abbrev EndsOnce : List ℕ → Type 0
 EndsOnce text = (a b : List ℕ) → 10 ∷ text ≡ a ++ 10 ∷ 69 ∷ 78 ∷ 68 ∷ 10 ∷ b → b ≡ []
 

@@ -42,7 +42,7 @@ same_end a b e = cc
 
 -- ---- the counts of faults
 
--- a read may have failed where the board did
+-- a read may have failed if the board did
 pub failed_err : (Q : Failed → Type 0) (r : Result FileEnd Failed) → IsErrAnd r Q → MayHaveFailed r
 failed_err Q (Ok end) never = absurd never
 failed_err Q (Err failed) is = tt
@@ -127,7 +127,7 @@ module _ {D L : Type 0} {N : ℕ} (B : Ghosts D N L) (tl tf : Type 0) where
   Reason end found filed = (end ≡ Whole → found ≡ ends.Filed filed) × (end ≡ TooLong → found ≡ ends.TooLong)
       × (end ≡ ReadFault → found ≡ ends.ReadFault)
 
-  -- a read failed where the filing says it
+  -- a read failed if the filing says it
   read_failed : (end : RollEnd) (found : FileEnd) (filed : ℕ) → Reason end found filed → found ≡ ends.ReadFault
       → end ≡ ReadFault
   read_failed Whole found filed why is = let no = why.0 refl in absurd cc
@@ -140,7 +140,7 @@ module _ {D L : Type 0} {N : ℕ} (B : Ghosts D N L) (tl tf : Type 0) where
   fault_over end place' found filed first now over why rises is =
       rises.rose (over ∙ ap (λ (e : RollEnd). Some e) (read_failed end found filed why is))
 
-  -- and none has failed where it says that there is no more
+  -- and none has failed if it says that there is no more
   failed_over : (end : RollEnd) (found : FileEnd) (filed : ℕ) → Reason end found filed
       → ◌≡◌ {A = Option RollEnd} (Some end) (Some ReadFault) → MayHaveFailed (Ok found)
   failed_over end found filed why is =
@@ -243,7 +243,7 @@ module _ {D L : Type 0} {N : ℕ} (B : Ghosts D N L) (tl tf : Type 0) where
     few = h.few;
   }
 
-  -- where nothing else has changed since
+  -- if nothing else has changed since
   pub filing_other_now : (old new now : D) (first last now_last : Tail) (roll : List ℕ) (place place' : Place)
       (rest rest' : List ℕ) (seen steps steps' now_steps : ℕ) (it : Record)
       → IsFiling B tl tf old new first last roll place rest seen steps steps' → (tf → GoesOn place place' rest rest'

@@ -42,7 +42,7 @@ none_more : (a b : Record) (more : List ℕ) → b.text ≡ a.text ++ more → I
 none_more a b more e h k = no_beginning a.text more h.receipt k.receipt h.part k.part h.is
     (subst (λ (t : List ℕ). IsReceiptText t k.receipt k.part) e k.is)
 
--- where one begins a text, it is the one that begins it, and the same is left
+-- if one begins a text, it is the one that begins it, and the same is left
 one_by : (text : List ℕ) (a b : Record) (after after' : List ℕ) → text ≡ a.text ++ after → text ≡ b.text ++ after'
     → length a.text ≤ length b.text → IsRecord a → IsRecord b → (a ≡ b) × (after ≡ after')
 one_by text a b after after' e f few h k =

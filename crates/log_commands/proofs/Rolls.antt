@@ -107,7 +107,7 @@ drop_none : (n : ℕ) → drop {A = ℕ} n [] ≡ []
 drop_none zero = refl
 drop_none (suc n) = refl
 
--- where nothing is ahead, looking finds none, and the reader stays where it is
+-- if nothing is ahead, looking finds none, and the reader stays as it is
 pub nothing_looked : (ended : Bool) (old new : Place) (count : ℕ) (receipt : Option Record)
     → IsReceiptSearch ended old.ahead count (option_to_list receipt)
     → new.ahead ≡ drop count old.ahead → new.left ≡ old.left → new.end ≡ old.end → old.ahead ≡ []

@@ -19,7 +19,7 @@ row_none image last newer some = record {
   others = λ other below few. absurd (omega (arith, below));
 }
 
--- where the slot of the next place back has its record, there was one in each slot before
+-- if the slot of the next place back has its record, there was one in each slot before
 whole_back : (last back count : ℕ) → back < last → IsCountBack last back count → back < 256 → count ≡ back
 whole_back last back count below (inl whole) small = whole.1
 whole_back last back count below (inr (inl over)) small = absurd (omega (arith, below, over.0))

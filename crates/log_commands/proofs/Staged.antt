@@ -73,7 +73,7 @@ module _ (old new : List ℕ) (in_flight : ℕ → Type 0) (last : ℕ) (records
       shut : IsClosed new (slot_of (last + 1))
       shut = λ opened. absurd (omega (arith, opened, byte_is new at 0 written))
 
-  -- where the slot is closed already nothing is written
+  -- if the slot is closed already nothing is written
   pub shut_already : (after : ℕ → Type 0) → IsReady old in_flight last false records → new ≡ old → IsStill after
       → IsShut new after last (last_ones 255 records)
   shut_already after ready same durable = record {

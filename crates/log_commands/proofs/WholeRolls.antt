@@ -16,13 +16,13 @@ receipts_so_far roll place rest receipts h =
     (subst (λ (t : List ℕ). Reads (h.taken ++ []) receipts t) (append-nil place.ahead)
     (h.reads [] (none_follows (is_some place.end))))
 
--- where nothing is ahead, they are the receipts of the bytes taken
+-- if nothing is ahead, they are the receipts of the bytes taken
 pub receipts_taken : (roll : List ℕ) (place : Place) (rest : List ℕ) (receipts : List Record)
     → (h : HasRead roll place rest receipts) → place.ahead ≡ [] → AreOnRoll receipts h.taken
 receipts_taken roll place rest receipts h none =
     subst (λ (t : List ℕ). Reads h.taken receipts t) none (receipts_so_far roll place rest receipts h)
 
--- and of the whole roll, where it was read to its end
+-- and of the whole roll if it was read to its end
 pub receipts_of_all : (roll : List ℕ) (place : Place) (rest : List ℕ) (receipts : List Record)
     → HasRead roll place rest receipts → place.ahead ≡ [] → place.end ≡ Some Whole → AreOnRoll receipts roll
 receipts_of_all roll place rest receipts h none whole =

@@ -1,16 +1,16 @@
--- Rules: the three stages in which the log gets one more record, on the one slot of its place. IsStep, in Appends,
--- says what a cut leaves meanwhile.
+-- Rules: the three stages in which the log gets one more record, on the one slot of its place. IsStep, in Appends, says
+-- what a cut leaves meanwhile.
 use Rattle.std.specs.Prelude.{◌≡◌, ℕ, ◌+◌, ◌≤◌, Bool, true, false, List, length}
 use Rattle.log_commands.specs.Record.{Record}
 use Rattle.log_commands.specs.Slots.{slot_of, behind_gate, IsClosed, IsOpen, Spells}
 use Rattle.log_commands.specs.LogList.{EndsWith}
 
--- a board is still where nothing is in flight
+-- a board is still if nothing is in flight
 abbrev pub IsStill : (ℕ → Type 0) → Type 0
 IsStill in_flight = (place : ℕ) → ¬ in_flight place
 
--- a log is ready for one more record where nothing is in flight, the newest of its records is at the place `last`, and
--- it is known whether the slot of the next place is open
+-- a log is ready for one more record if nothing is in flight, the newest of its records is at the place `last`, and it
+-- is known whether the slot of the next place is open
 pub record IsReady (image : List ℕ) (in_flight : ℕ → Type 0) (last : ℕ) (is_open : Bool)
     (records : List Record) : Type 0 where
   pub still : IsStill in_flight
@@ -18,14 +18,14 @@ pub record IsReady (image : List ℕ) (in_flight : ℕ → Type 0) (last : ℕ) 
   pub opened : is_open ≡ true → IsOpen image (slot_of (last + 1))
   pub closed : is_open ≡ false → IsClosed image (slot_of (last + 1))
 
--- a log is shut for the second stage where the slot of the next place is closed and none of its records is there
+-- a log is shut for the second stage if the slot of the next place is closed and none of its records is there
 pub record IsShut (image : List ℕ) (in_flight : ℕ → Type 0) (last : ℕ) (records : List Record) : Type 0 where
   pub still : IsStill in_flight
   pub ends : EndsWith image last records
   pub few : length records ≤ 255
   pub closed : IsClosed image (slot_of (last + 1))
 
--- a new record is written, for the third stage, where its bytes stand behind the closed gate of the next place
+-- a new record is written, for the third stage, if its bytes are behind the closed gate of the next place
 pub record IsWritten (image : List ℕ) (in_flight : ℕ → Type 0) (last : ℕ) (records : List Record)
     (it : Record) : Type 0 where
   pub shut : IsShut image in_flight last records

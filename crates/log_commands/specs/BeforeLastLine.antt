@@ -1,4 +1,4 @@
--- For proofs: what a call comes to before its last line is printed. IsCall, in Calls, says what it comes to in the end.
+-- For proofs: what a call gives before its last line is printed. IsCall, in Calls, says what it gives in the end.
 use Rattle.std.specs.Prelude.{◌≡◌, ◌⊎◌, ℕ, ◌+◌, ◌*◌, ◌≤◌, List, ◌++◌, length, Option, Some}
 use Rattle.outside.specs.Faults.{Rose}
 use Rattle.outside.specs.Printing.{Begins}
@@ -14,19 +14,19 @@ use Rattle.log_commands.specs.declared.words.Call.{Call}
 use Rattle.log_commands.specs.declared.words.Call.TheVariants.{File}
 
 module _ {D L : Type 0} {N : ℕ} (B : Ghosts D N L) where
-  -- the last line of a course is due where the call has ended so and what is shown before that line is printed
+  -- the last line of a course is due if the call has ended so and what is shown before that line is printed
   pub record IsDue (course : Ended) (found : List Record) (log log' : D) (ended : Ended) : Type 0 where
     pub ended_is : ended ≡ course
     pub shown : B.tells_text → B.printed log' ≡ B.printed log ++ shown_of course found
 
-  -- a course is broken off where the board failed before its last line
+  -- a course is broken off if the board failed before its last line
   pub record IsBrokenOff (course : Ended) (found : List Record) (log log' : D) (ended : Ended) : Type 0 where
     pub ended_is : ended ≡ BoardFault
     pub failed : Rose (B.faults log) (B.faults log')
     pub begun : B.tells_text → Begins (B.printed log) (B.printed log') (shown_of course found)
 
-  -- an end's last line is printed whole and its status given, or a beginning of the line is printed, the board has
-  -- failed and the status is 8
+  -- an end is told if its last line is printed whole and its status given, or if a beginning of the line is printed,
+  -- the board has failed and the status is 8
   abbrev pub IsTold : Ended → (log log' : D) → (status : ℕ) → Type 0
   IsTold ended log log' status =
       ((status ≡ status_of ended) × (B.tells_text → B.printed log' ≡ B.printed log ++ line_of ended))
@@ -34,7 +34,8 @@ module _ {D L : Type 0} {N : ℕ} (B : Ghosts D N L) where
       × (B.tells_text → Begins (B.printed log) (B.printed log') (line_of ended)))
 
 module _ {E D L : Type 0} {N : ℕ} (F : FileGhosts E) (B : Ghosts D N L) where
-  -- a call comes to an end on a course, for the course's reason, and its last line is due or the course is broken off
+  -- a call reaches its last line if it ends on a course, for the course's reason, and that line is due or the course is
+  -- broken off
   pub record CallReachesLine (call : Option Call) (files files' : E) (log log' : D) (steps steps' : ℕ)
       (ended : Ended) : Type 0 where
     pub course : Ended

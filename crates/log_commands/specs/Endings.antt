@@ -8,7 +8,7 @@ use Rattle.log_commands.specs.declared.file_roll.FileEnd.TheVariants as ends
 use Rattle.log_commands.specs.declared.finding.FindFault.{FindFault}
 use Rattle.log_commands.specs.declared.finding.FindFault.TheVariants as faults
 
--- the status of an end of the program is 0 where receipts were filed or the log was shown, and another number for each
+-- the status of an end of the program is 0 if receipts were filed or the log was shown, and another number for each
 -- other end
 abbrev pub status_of : Ended → ℕ
 status_of (Filed count) = 0
@@ -25,7 +25,7 @@ status_of BoardFault = 8
 abbrev pub numbered : List ℕ → ℕ → List ℕ
 numbered word number = word ++ (decimal number ++ codes "\n")
 
--- the last line of an end of the program says in words and numbers how the call ended, and is empty where the log was
+-- the last line of an end of the program says in words and numbers how the call ended, and is empty if the log was
 -- shown or the board failed
 abbrev pub line_of : Ended → List ℕ
 line_of (Filed count) = numbered (codes "FILED ") count
@@ -38,8 +38,7 @@ line_of TooLong = codes "ROLL TOO LONG\n"
 line_of ReadFault = codes "READ FAULT\n"
 line_of BoardFault = []
 
--- where no end of its log is found, a call ends with the lowest bad slot, with a broken log, or with a fault of the
--- board
+-- if no end of its log is found, a call ends with the lowest bad slot, with a broken log, or with a fault of the board
 abbrev pub unread_end : FindFault → Ended
 unread_end (faults.BadSlot slot) = BadLog slot
 unread_end faults.Broken = BrokenLog

@@ -1,4 +1,4 @@
--- For proofs: where a reader of a roll stands, and what it has read. Reads, in Roll, says what a roll has.
+-- For proofs: what a reader of a roll has read, and what it still has. Reads, in Roll, says which receipts a roll has.
 use Rattle.std.specs.Prelude.{◌≡◌, ◌≢◌, ℕ, ◌+◌, List, [], ◌++◌, length, Option, Some, None, is_some}
 use Rattle.log_commands.specs.ReceiptSearch.{MayFollow}
 use Rattle.log_commands.specs.Record.{Record}
@@ -9,7 +9,7 @@ use Rattle.taxi_units.specs.Streams as streams
 use Rattle.taxi_units.specs.Streams.{IsSplit, ShowsEnd, StreamKind, stream_limit}
 
 -- a reader's place is the bytes taken that it hasn't looked through to the end, how many more it may take, and why it
--- takes no more, where it doesn't
+-- takes no more, if it doesn't
 pub record Place : Type 0 where
   pub ahead : List ℕ
   pub left : ℕ
@@ -27,7 +27,7 @@ EndsBy (Some Whole) taken rest = ShowsEnd rolls streams.Whole taken rest
 EndsBy (Some TooLong) taken rest = ShowsEnd rolls streams.Endless taken rest
 EndsBy (Some ReadFault) taken rest = Unit {0}
 
--- a reader is over for a reason where it takes no more bytes for it, and has looked all through
+-- a reader is over for a reason if it takes no more bytes for it, and has looked all through
 abbrev pub IsOver : Place → RollEnd → Type 0
 IsOver place end = (place.end ≡ Some end) × (place.ahead ≡ [])
 
@@ -35,7 +35,7 @@ IsOver place end = (place.end ≡ Some end) × (place.ahead ≡ [])
 abbrev pub FailsNow : (old new : Place) → Type 0
 FailsNow old new = (new.end ≡ Some ReadFault) × (old.end ≢ Some ReadFault)
 
--- a reader has read receipts of a roll, of which `rest` is left in the file, where reading the bytes taken gives them,
+-- a reader has read receipts of a roll, of which `rest` is left in the file, if reading the bytes taken gives them,
 -- whatever bytes may follow
 pub record HasRead (roll : List ℕ) (place : Place) (rest : List ℕ) (receipts : List Record) : Type 0 where
   pub taken : List ℕ
@@ -45,7 +45,7 @@ pub record HasRead (roll : List ℕ) (place : Place) (rest : List ℕ) (receipts
       → Reads (taken ++ more) receipts (place.ahead ++ more)
   pub ends : EndsBy place.end taken rest
 
--- a reader goes on from one place to another, over bytes of the file, where it then has read more receipts
+-- a reader goes on from one place to another, over bytes of the file, if it then has read more receipts
 abbrev pub GoesOn : (old new : Place) → (rest rest' : List ℕ) → (more : List Record) → Type 0
 GoesOn old new rest rest' more =
     (roll : List ℕ) (receipts : List Record) → HasRead roll old rest receipts

@@ -1,10 +1,10 @@
--- For proofs: what looking for a receipt at the front of a part of a roll comes to. Reads, in Roll, says what a roll
--- has.
+-- For proofs: what looking for a receipt at the front of a part of a roll gives. Reads, in Roll, says which receipts a
+-- roll has.
 use Rattle.std.specs.Prelude.{◌≡◌, ℕ, ◌≤◌, List, [], ◌++◌, length, drop, Bool, true, false}
 use Rattle.log_commands.specs.Record.{Record}
 use Rattle.log_commands.specs.Roll.{Reads}
 
--- bytes may follow a part of a roll: any where the roll hasn't ended, and none where it has
+-- bytes may follow a part of a roll: any if the roll hasn't ended, and none if it has
 abbrev pub MayFollow : (ended : Bool) → List ℕ → Type 0
 MayFollow false more = Unit {0}
 MayFollow true more = more ≡ []

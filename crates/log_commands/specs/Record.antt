@@ -10,7 +10,7 @@ pub record Record : Type 0 where
   pub number : ℕ
   pub taxi : List ℕ
 
--- a record is a receipt's where its text is one by the grammar, and says its number and its taxi
+-- a record is a receipt's if its text is one by the grammar, and says its number and its taxi
 pub record IsRecord (it : Record) : Type 0 where
   pub receipt : Receipt
   pub part : Part

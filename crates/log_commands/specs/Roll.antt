@@ -2,11 +2,11 @@
 use Rattle.std.specs.Prelude.{◌≡◌, ℕ, List, [], ◌∷◌, ◌++◌}
 use Rattle.log_commands.specs.Record.{Record, IsRecord}
 
--- a text begins with none where no beginning of it is a receipt
+-- a text begins with none if no beginning of it is a receipt
 abbrev pub BeginsWithNone : List ℕ → Type 0
 BeginsWithNone text = (receipt : Record) (after : List ℕ) → text ≡ receipt.text ++ after → ¬ (IsRecord receipt)
 
--- a text read from its front gives receipts and leaves a rest: where a beginning of what is left is a receipt, that
+-- a text read from its front gives receipts and leaves a rest: if a beginning of what is left is a receipt, that
 -- receipt and then those after it, and otherwise those after the next byte
 pub data Reads : (text : List ℕ) → (receipts : List Record) → (rest : List ℕ) → Type 0 where
   over : (text : List ℕ) → Reads text [] text
@@ -15,6 +15,6 @@ pub data Reads : (text : List ℕ) → (receipts : List Record) → (rest : List
   passed : (text after rest : List ℕ) (byte : ℕ) (receipts : List Record) → text ≡ byte ∷ after
       → BeginsWithNone text → Reads after receipts rest → Reads text receipts rest
 
--- receipts are on a roll where reading the roll to its end gives them, and no others
+-- receipts are on a roll if reading the roll to its end gives them, and no others
 abbrev pub AreOnRoll : (receipts : List Record) → (roll : List ℕ) → Type 0
 AreOnRoll receipts roll = Reads roll receipts []

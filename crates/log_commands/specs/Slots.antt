@@ -17,23 +17,23 @@ abbrev pub spelling : ℕ → List ℕ → List ℕ
 spelling place text =
     to_be_bytes w64 place ++ (to_be_bytes w16 (length text) ++ (text ++ (replicate (500 - length text) 0 ++ (1 ∷ []))))
 
--- a text is a record's where the record is a receipt's and has that text
+-- a text is a record's if the record is a receipt's and has that text
 pub record IsRecordOf (text : List ℕ) (it : Record) : Type 0 where
   pub is : IsRecord it
   pub text_is : it.text ≡ text
 
--- bytes spell a record at a place in the log where they are its bytes there and the place is at most its number
+-- bytes spell a record at a place in the log if they are its bytes there and the place is at most its number
 pub record Spells (bytes : List ℕ) (place : ℕ) (it : Record) : Type 0 where
   pub is : IsRecord it
   pub first : 1 ≤ place
   pub most : place ≤ it.number
   pub bytes_are : bytes ≡ spelling place it.text
 
--- a slot is closed where its gate, the first byte, is another than 0xA5
+-- a slot is closed if its gate, the first byte, is another than 0xA5
 abbrev pub IsClosed : List ℕ → ℕ → Type 0
 IsClosed image slot = get_or image (slot_at slot) 0 ≢ 165
 
--- a slot is open where its gate is 0xA5
+-- a slot is open if its gate is 0xA5
 abbrev pub IsOpen : List ℕ → ℕ → Type 0
 IsOpen image slot = get_or image (slot_at slot) 0 ≡ 165
 
@@ -41,7 +41,7 @@ IsOpen image slot = get_or image (slot_at slot) 0 ≡ 165
 abbrev pub behind_gate : List ℕ → ℕ → List ℕ
 behind_gate image slot = take 511 (drop (slot_at slot + 1) image)
 
--- a slot holds a record at a place in the log where it is open and the bytes behind its gate spell that
+-- a slot holds a record at a place in the log if it is open and the bytes behind its gate spell that
 pub record HasRecord (image : List ℕ) (slot place : ℕ) (it : Record) : Type 0 where
   pub opened : IsOpen image slot
   pub spells : Spells (behind_gate image slot) place it

@@ -4,11 +4,11 @@ use Rattle.log_commands.specs.declared.words.Call.{Call}
 use Rattle.log_commands.specs.declared.words.Call.TheVariants.{File, Show}
 use Rattle.taxi_units.specs.Words.{is_word}
 
--- one word is a command where it is `show`
+-- one word is a command if it is `show`
 abbrev pub one_word : (command : List ℕ) → Option Call
 one_word command = if is_word command (codes "show") then Some Show else None
 
--- two words are a command where the first is `file`, and the second then names the roll
+-- two words are a command if the first is `file`, and the second then names the roll
 abbrev pub two_words : (command : List ℕ) → Option Call
 two_words command = if is_word command (codes "file") then Some File else None
 

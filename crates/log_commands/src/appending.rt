@@ -1,4 +1,4 @@
-//! One more record for the log, in three stages on the one slot of its place, each one write and its sync.
+//! Appends a record to the log, in three stages on the slot of its place. Each stage is one write and its sync.
 ghost use Rattle.std.specs.Prelude.{◌≡◌, ◌⊎◌, ◌+◌, ◌≤◌, ◌<◌, List, [], ◌∷◌, ◌++◌, nat_lt, OnOk};
 ghost use Rattle.outside.specs.Faults.{HasCause};
 ghost use Rattle.outside.specs.Runs.{LeavesOnly};
@@ -21,7 +21,7 @@ pub(crate) const OPEN: u8 = 0xA5;
 /// The gate of a slot that is shut.
 const SHUT: u8 = 0;
 
-/// Where the slot of the place behind this one begins.
+/// The byte at which the slot of the place behind this one begins.
 fn next_at(last: u64) -> u32
     ensures is { result ≡ slot_at (slot_of (last + 1)) }
     ensures inside { result ≤ 130560 }
@@ -29,8 +29,8 @@ fn next_at(last: u64) -> u32
     512 * (last % SLOTS as u64) as u32
 }
 
-/// The first stage: where the gate of the next place is open, 0x00 is written there and synced. Where it is
-/// closed it is left alone.
+/// The first stage: if the gate of the next place is open, 0x00 is written there and synced. A closed gate is left
+/// alone.
 fn shut_gate<G: Board<LOG_SIZE, L>, L: Ledger>(
     last: u64,
     is_open: bool,
@@ -96,11 +96,10 @@ fn open_gate<G: Board<LOG_SIZE, L>, L: Ledger>(
     write_and_sync(log, next_at(last), &[OPEN], steps)
 }
 
-/// Appends a record behind the newest, which is at this place in the log, and of which it is known whether
-/// the slot of the next place is open. Its number is greater than the newest's. At each moment a cut leaves
-/// a log that stands for the list before, or for it without its oldest where that one's slot is written
-/// again, or for the last 256 of the list with the new record. `Failed` comes exactly where the count
-/// of faults rose, which it does by one.
+/// Appends a record behind the newest, which is at this place in the log. It is known whether the slot of the next
+/// place is open, and the record's number is greater than the newest's. At each moment a cut leaves a log that stands
+/// for the list before, for it without its oldest record, whose slot is written again, or for the last 256 of the list
+/// with the new record. `Failed` comes exactly if the count of faults rose, which it does by one.
 pub(crate) fn append<G: Board<LOG_SIZE, L>, L: Ledger>(
     last: u64,
     is_open: bool,

@@ -19,7 +19,7 @@ pub(crate) enum Ended {
     BrokenLog,
     /// The roll's receipt with this number, from 1 on, is of another taxi.
     OtherTaxi(u64),
-    /// As many bytes as a roll may have were taken, and its end wasn't told.
+    /// As many bytes as a roll may have were taken, and its end wasn't seen.
     TooLong,
     /// A read of the roll failed.
     ReadFault,
@@ -44,7 +44,7 @@ pub(crate) fn status(ended: Ended) -> u8
     }
 }
 
-/// A word, a number and LF.
+/// A line of a word and a number.
 fn numbered(word: &[u8], number: u64) -> Line
     requires { length word.now ≤ 32 }
     ensures { result.items ≡ word.now ++ (decimal number ++ codes "\n") }
@@ -66,7 +66,7 @@ fn alone(text: &[u8]) -> Line
     line
 }
 
-/// The last line, which is empty where there is none.
+/// The last line, which is empty if there is none.
 pub(crate) fn last_line(ended: Ended) -> Line
     ensures { result.items ≡ line_of ended }
 {

@@ -30,8 +30,8 @@ fn read_entry<G: Board<LOG_SIZE, L>, L: Ledger>(
     entry_of(slot, content)
 }
 
-/// What is known of each slot of the log. `BadSlot` names the lowest slot that is open and holds no record
-/// at a place whose slot it is.
+/// What is known of each slot of the log. `BadSlot` names the lowest slot that is open and holds no record at a place
+/// whose slot it is.
 pub(crate) fn read_entries<G: Board<LOG_SIZE, L>, L: Ledger>(
     log: &mut G,
     steps: &mut Steps<L>,

@@ -18,13 +18,13 @@ pub(crate) enum FileEnd {
     Filed(u64),
     /// The roll's receipt with this number, from 1 on, is of another taxi.
     OtherTaxi(u64),
-    /// As many bytes as a roll may have were taken, and its end wasn't told.
+    /// As many bytes as a roll may have were taken, and its end wasn't seen.
     TooLong,
     /// A read failed.
     ReadFault,
 }
 
-/// How the filing ends where the roll ends so.
+/// How the filing ends if the roll ends so.
 fn file_end(end: RollEnd, filed: u64) -> FileEnd
     ensures whole { end ≡ RollEnd.Whole → result ≡ FileEnd.Filed filed }
     ensures too_long { end ≡ RollEnd.TooLong → result ≡ FileEnd.TooLong }
@@ -37,8 +37,8 @@ fn file_end(end: RollEnd, filed: u64) -> FileEnd
     }
 }
 
-/// Files the receipts of the roll of a word behind the log's end: those of its taxi that are newer than the
-/// newest record, up to the first of another taxi.
+/// Files the receipts of the roll of a word behind the end of the log: those of its taxi that are newer than the newest
+/// record, up to the first of another taxi.
 pub(crate) fn file_roll<F: Files, G: Board<LOG_SIZE, L>, L: Ledger>(
     tail: &mut Tail,
     files: &mut F,

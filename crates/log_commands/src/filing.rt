@@ -5,7 +5,7 @@ ghost use Rattle.log_commands.specs.Filed.{IsFiledBy};
 use crate::log_record::LogRecord;
 
 /// What is done with a receipt of a roll, beside a log.
-#[derive(Clone, Copy, PartialEq, Eq)]
+#[derive(Clone, Copy)]
 pub enum Filing {
     /// It ends the filing, since it is of another taxi than the log's newest record.
     OtherTaxi,
@@ -15,8 +15,8 @@ pub enum Filing {
     Appended,
 }
 
-/// What is done with a receipt of a roll, beside a log with this newest record, or with none. The rule is
-/// this project's own.
+/// What is done with a receipt of a roll, beside a log with this newest record, or with none. The rule is this
+/// project's own.
 pub fn filing_of(newest: &Option<LogRecord>, receipt: &LogRecord) -> Filing
     ensures { IsFiledBy result newest.now receipt.now }
 {

@@ -1,4 +1,4 @@
-//! What the words of the hiring log mean: laws.
+//! Laws of what the words of the hiring log mean.
 ghost use Rattle.std.specs.Prelude.{◌≡◌, ◌++◌, ℕ, List, [], Option, Some};
 ghost use Rattle.log_commands.specs.Calls.{AppendsNothing, FilesUpTo};
 ghost use Rattle.log_commands.specs.Filed.{EndsAt, Files};
@@ -28,8 +28,8 @@ pub fn a_roll_is_read_once()
     ensures { (roll : List ℕ) (a b : List Record) → AreOnRoll a roll → AreOnRoll b roll → a ≡ b }
 {}
 
-/// A law: a reader that is done has handed out the receipts of the bytes that it took, and where it came to
-/// the roll's end, those of the whole roll.
+/// A law: a reader that is done has handed out the receipts of the bytes that it took, and those of the whole roll if
+/// it reached the roll's end.
 pub fn a_reader_hands_out_the_receipts()
     ensures taken { (roll : List ℕ) (place : Place) (rest : List ℕ) (receipts : List Record)
         → (read : HasRead roll place rest receipts) → place.ahead ≡ [] → AreOnRoll receipts read.taken }
@@ -45,7 +45,7 @@ pub fn receipts_are_filed_once()
         → Files newest receipts filed last → Files newest receipts filed' last' → last ≡ last' }
 {}
 
-/// A law: where the same receipts are filed again, nothing is appended, also up to one of another taxi.
+/// A law: if the same receipts are filed again, up to one of another taxi too, nothing is appended.
 pub fn filing_again_appends_nothing()
     ensures files { (newest last : Option Record) (receipts filed : List Record)
         → Files newest receipts filed last → Files last receipts [] last }

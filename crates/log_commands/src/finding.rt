@@ -23,7 +23,7 @@ use outside::{Board, Failed, LOG_SIZE};
 use std::sync::ledger::Ledger;
 use taxi_units::Steps;
 
-/// The record that a slot holds, where it is at this place in the log.
+/// The record that a slot holds, if it is at this place in the log.
 fn record_at(last: u64, content: Content) -> Option<LogRecord>
     requires { IsContentInRange content }
     ensures record { (it : Record) → content ≡ Filled last it → result ≡ Some it }
@@ -35,7 +35,7 @@ fn record_at(last: u64, content: Content) -> Option<LogRecord>
     }
 }
 
-/// The newest record, which is at this place in the log; none where the place is 0.
+/// The newest record, which is at this place in the log; none if the place is 0.
 fn read_newest<G: Board<LOG_SIZE, L>, L: Ledger>(
     last: u64,
     log: &mut G,
@@ -94,7 +94,7 @@ fn fault_of(fault: ScanFault) -> FindFault
     }
 }
 
-/// The end of a log whose slots are known, and that was synced. Nothing is written.
+/// The end of a log whose slots are known, and which was synced. Nothing is written.
 fn tail_of<G: Board<LOG_SIZE, L>, L: Ledger>(
     entries: &[Option<Entry>; SLOTS],
     log: &mut G,
@@ -127,11 +127,11 @@ fn tail_of<G: Board<LOG_SIZE, L>, L: Ledger>(
     }
 }
 
-/// The end of the log, by one sync and then a scan: the list that it stands for is the one that its image
-/// stands for at the call's start. `BadSlot` names the lowest slot that is open and holds no record at a
-/// place whose slot it is, and else `Broken` comes where the log stands for no list. Nothing is written:
-/// from the sync on a cut leaves what the log held before the call. `LogFault` comes exactly where the
-/// count of faults rose, which it does by one.
+/// Finds the end of the log by one sync and then a scan. The list for which it stands is that of its image at the
+/// call's start. Nothing is written: from the sync on a cut leaves what the log held before the call.
+///
+/// `BadSlot` names the lowest slot that is open and holds no record at a place whose slot it is. Else `Broken` comes if
+/// the log stands for no list. `LogFault` comes exactly if the count of faults rose, which it does by one.
 pub(crate) fn find_tail<G: Board<LOG_SIZE, L>, L: Ledger>(
     log: &mut G,
     steps: &mut Steps<L>,

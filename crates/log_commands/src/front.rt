@@ -7,7 +7,7 @@ use crate::log_record::LogRecord;
 use arrayvec::ArrayVec;
 use receipt_reading::receipt_in_front;
 
-/// How many bytes stand before the first with which a receipt can begin: all, where there is none.
+/// How many bytes are in front of the first with which a receipt can begin: all if there is none.
 pub(crate) fn before_letter(text: &[u8]) -> usize
     ensures within { result ≤ length text.now }
     ensures others { (k : ℕ) → k < result → slice_index text.now k ≢ 82 }

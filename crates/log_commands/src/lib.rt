@@ -1,4 +1,4 @@
-//! The calls of the hiring log: words in, a status out, over any files and any board of the log. It keeps the last
+//! The calls of the hiring log: words in, a status out, over any files and any board of the log. The log keeps the last
 //! 256 receipts of a taxi, taken from a roll of printed output, over cuts of the power. All of it is this project's
 //! own.
 //!

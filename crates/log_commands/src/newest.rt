@@ -17,8 +17,8 @@ fn greater(place: u64, entry: Option<Entry>) -> u64
     }
 }
 
-/// The greatest place of the entries, and 0 where all slots are closed. Where the log stands for a list, it
-/// is the place of its newest record, and 0 of the empty list.
+/// The greatest place of the entries, and 0 if all slots are closed. If the log stands for a list, it is the place of
+/// its newest record, and 0 for the empty list.
 pub(crate) fn newest_place(entries: &[Option<Entry>; SLOTS]) -> u64
     ensures { (image : List ℕ) (last : ℕ) → AreEntries image entries.now → StandsAt image last → last ≡ result }
 {

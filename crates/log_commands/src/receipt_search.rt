@@ -6,9 +6,9 @@ ghost use Rattle.log_commands.specs.Record.{IsRecord};
 use crate::front::{before_letter, record_in_front};
 use crate::log_record::{LONGEST, LogRecord};
 
-/// Looks for the first receipt of a text that is a part of a roll. Answers how many bytes are passed: with
-/// the receipt, or where none is found, up to where so few are left that bytes that follow may make one
-/// of them. Where the roll has ended nothing follows.
+/// Looks for the first receipt of a text that is a part of a roll. Answers how many bytes are passed, those of the
+/// receipt among them. If none is found, the bytes left are so few that bytes that follow may make a receipt of them;
+/// none follow if the roll has ended.
 pub(crate) fn find_receipt(text: &[u8], ended: bool) -> (usize, Option<LogRecord>)
     ensures looks { IsReceiptSearch ended text.now result.0 (option_to_list result.1) }
     ensures record { IfSome result.1 IsRecord }
@@ -29,7 +29,7 @@ pub(crate) fn find_receipt(text: &[u8], ended: bool) -> (usize, Option<LogRecord
     }
 }
 
-/// Whether nothing is left, or so little that a receipt may be made of it by what follows.
+/// Whether nothing is left, or so little that bytes that follow may make a receipt of it.
 fn is_open(rest: &[u8], ended: bool) -> bool
     ensures open { IsTrue result → (length rest.now < 480) × (ended ≡ true → length rest.now ≡ 0) }
     ensures closed { result ≡ false → (0 < length rest.now) × (ended ≡ false → 480 ≤ length rest.now) }

@@ -19,18 +19,18 @@ use taxi_units::STREAM_LIMIT;
 const WINDOW: usize = 8192;
 
 /// Why no more of a roll is read.
-#[derive(Clone, Copy, PartialEq, Eq)]
+#[derive(Clone, Copy)]
 pub enum RollEnd {
     /// The roll was read to its end.
     Whole,
-    /// As many bytes as a roll may have were taken, and its end wasn't told.
+    /// As many bytes as a roll may have were taken, and its end wasn't seen.
     TooLong,
     /// A read failed.
     ReadFault,
 }
 
-/// A reader of a roll, which is the printed output of runs: it may break off anywhere and go on with the
-/// next run's output. It looks through the file of a word by a window of 8,192 bytes, and takes no memory.
+/// A reader of a roll, which is the printed output of runs: it may break off anywhere and go on with the output of the
+/// next run. It looks through the file of a word by a window of 8,192 bytes, and takes no memory.
 #[derive(Drop)]
 pub struct Roll {
     window: [u8; WINDOW],
@@ -67,14 +67,13 @@ impl Roll {
         }
     }
 
-    /// The next receipt of the roll, wherever it begins: a text that is torn keeps nothing that follows it
-    /// from being found. Where no more of the roll is read it looks through all that was taken, and then
-    /// answers why: each later call answers the same. From then on nothing is read any more, so no read
-    /// stands behind one that failed.
+    /// The next receipt of the roll, wherever it begins: a torn text hides no receipt that follows it. If no more of
+    /// the roll is read, the call looks through all that was taken, and then answers why. Each later call answers the
+    /// same, and nothing is read any more: no read follows one that failed.
     ///
-    /// `Whole` at the end of the file. `TooLong` where 2^40 bytes were taken and the end wasn't told.
-    /// `ReadFault` where a read failed, which raises the word's count of faults; a call before that answer
-    /// may have come to it, and then handed out a receipt. The limit is this project's own.
+    /// `Whole`: the end of the file. `TooLong`: 2^40 bytes were taken and the end wasn't seen. `ReadFault`: a read
+    /// failed, which raises the word's count of faults; a call before this answer may have met it and then handed out a
+    /// receipt. The limit is this project's own.
     pub fn next<F: Files>(&mut self, files: &mut F, word: usize) -> Result<LogRecord, RollEnd>
         ensures record { IfOk result IsRecord }
         ensures found { F.tells

@@ -1,4 +1,4 @@
-//! Whether the records of the log are a list: their places in a row, and their numbers rising.
+//! Whether the records of the log are a list: their places are in a row, and their numbers rise.
 ghost use Rattle.std.specs.Prelude.{◌≡◌, ℕ, ◌+◌, ◌<◌, List, IsTrue, IfSome, MatchOption};
 ghost use Rattle.log_commands.specs.LogList.{EndsWith, StandsAt};
 ghost use Rattle.log_commands.specs.LogRow.{AreEntries, IsBound, IsRow, slot_back};
@@ -16,8 +16,8 @@ fn slot_back(last: u64, back: u64) -> usize
     ((last % SLOTS as u64 + 255 - back) % SLOTS as u64) as usize
 }
 
-/// The number of the record that lies some places before the newest, where the slot has it, and the number of the
-/// one after it where the slot is rightly closed. `None` where the slot breaks the row.
+/// The number of the record that lies some places before the newest, if its slot has it, or the number of the one after
+/// it if the slot is rightly closed. `None` if the slot breaks the row.
 #[tactic(auto, using(crate::proofs::Rows::row_record, crate::proofs::Rows::row_over, crate::proofs::Rows::row_spare))]
 fn number_back(entry: Option<Entry>, last: u64, back: u64, newer: u64) -> Option<u64>
     requires { back < 256 }

@@ -85,7 +85,7 @@ impl From<Failed> for ScanFault {
     }
 }
 
-/// What is known of a slot, 0 to 255, by what it holds: nothing where it is closed.
+/// What is known of a slot, 0 to 255, by what it holds: nothing if it is closed.
 pub(crate) fn entry_of(slot: u32, content: Content) -> Result<Option<Entry>, ScanFault>
     requires { IsContentInRange content }
     ensures { IsEntryOf slot content result }

@@ -37,9 +37,8 @@ fn show_one<G: Board<LOG_SIZE, L>, L: Ledger>(
     }
 }
 
-/// Prints the texts of a number of records of the log, which stand one after another from a place on. Nothing
-/// is written, and `Failed` comes exactly where the count of faults rose, by one: a beginning of the texts is
-/// printed then.
+/// Prints the texts of a number of records of the log, which are one after another from a place on. Nothing is written.
+/// `Failed` comes exactly if the count of faults rose, by one: a beginning of the texts is printed then.
 pub(crate) fn show_records<G: Board<LOG_SIZE, L>, L: Ledger>(
     first: u64,
     count: u64,

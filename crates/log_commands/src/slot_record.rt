@@ -49,8 +49,7 @@ fn spells(bytes: &[u8], place: u64, it: &LogRecord) -> bool
     spelled(place, it.text.as_slice()).as_slice() == bytes
 }
 
-/// The place in the log and the record that the bytes behind a slot's gate are. `None` exactly where
-/// they are none.
+/// The place in the log and the record that the bytes behind a slot's gate are. `None` exactly if they are none.
 pub(crate) fn record_in(bytes: &[u8]) -> Option<(u64, LogRecord)>
     requires { length bytes.now ≡ 511 }
     ensures { (place : ℕ) (it : Record) → (result ≡ Some (place, it)) ↔ Spells bytes.now place it }

@@ -12,8 +12,8 @@ use outside::{Board, Failed, LOG_SIZE};
 use std::sync::ledger::Ledger;
 use taxi_units::Steps;
 
-/// The end of the log: the place of its newest record, 0 where it has none; whether the slot of the next
-/// place is open; the newest record; and how many records have been filed.
+/// The end of the log: the place of its newest record, or 0 if it has none; whether the slot of the next place is open;
+/// the newest record; and how many records have been filed.
 #[derive(Drop)]
 pub(crate) struct Tail {
     pub(crate) last: u64,

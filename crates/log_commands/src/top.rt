@@ -23,7 +23,7 @@ use outside::{Board, Files, LOG_SIZE};
 use std::sync::ledger::Ledger;
 use taxi_units::Steps;
 
-/// How a call ends whose log isn't read.
+/// How a call ends if its log isn't read.
 fn ended_unread(fault: FindFault) -> Ended
     ensures { result ≡ unread_end fault }
 {
@@ -34,7 +34,7 @@ fn ended_unread(fault: FindFault) -> Ended
     }
 }
 
-/// How a call ends whose filing of a roll ends so.
+/// How a call ends if its filing of a roll ends so.
 fn ended_filing(end: FileEnd) -> Ended
     ensures { result ≡ filing_end end }
 {
@@ -74,7 +74,7 @@ fn file<F: Files, G: Board<LOG_SIZE, L>, L: Ledger>(
     }
 }
 
-/// How many records a log has whose end is this.
+/// How many records a log has that ends so.
 fn count_of(tail: &Tail) -> u64
     ensures within { result ≤ tail.now.last }
     ensures most { result ≤ 256 }
@@ -139,7 +139,7 @@ fn carry_out<F: Files, G: Board<LOG_SIZE, L>, L: Ledger>(
     }
 }
 
-/// Prints the last line of an end, and gives its status, or 8 where the board fails.
+/// Prints the last line of an end, and gives its status, or 8 if the board fails.
 fn finish<G: Board<LOG_SIZE, L>, L: Ledger>(ended: Ended, log: &mut G, steps: &mut Steps<L>) -> u8
     ensures told { IsTold G.Board ended log.old log.new result }
     ensures silent { line_of ended ≡ [] → (log.new ≡ log.old) × (result ≡ status_of ended) }
@@ -157,38 +157,37 @@ fn finish<G: Board<LOG_SIZE, L>, L: Ledger>(ended: Ended, log: &mut G, steps: &m
     }
 }
 
-/// Carries out the words of a call of the program, and gives its status. Word 0 is the command, and the
-/// file of word 1 is the roll. It takes no memory itself; the devices may.
+/// Carries out the words of a call of the program, and gives its status. Word 0 is the command, and the file of word 1
+/// is the roll. It takes no memory itself; the devices may.
 ///
 /// | Words | Output |
 /// |---|---|
 /// | `file ROLL` | `FILED n`: n of the roll's receipts were appended to the log |
 /// | `show` | the texts of the log's receipts, the oldest first |
 ///
-/// | Status | Last line | Where |
+/// | Status | Last line | When |
 /// |---|---|---|
 /// | 0 | as above | the roll was read to its end, or the log was shown whole |
 /// | 1 | `BAD WORDS` | exactly: the words are no command |
 /// | 2 | `BAD LOG s` | exactly: slot s is the lowest that is open and holds no record of its own |
 /// | 3 | `BROKEN LOG` | exactly: no slot is bad, and the log stands for no list of receipts |
 /// | 4 | `OTHER TAXI j` | exactly: the roll's receipt j is the first of another taxi; those before it are filed |
-/// | 5 | `ROLL TOO LONG` | exactly: 2^40 bytes of the roll were taken, and its end wasn't told; but 4 comes first |
-/// | 7 | `READ FAULT` | only where the roll's count of faults rose; what was taken is filed |
+/// | 5 | `ROLL TOO LONG` | exactly: 2^40 bytes of the roll were taken, and its end wasn't seen; but 4 comes first |
+/// | 7 | `READ FAULT` | only if the roll's count of faults rose; what was taken is filed |
 /// | 8 | none | exactly: the board's count of faults rose |
 ///
-/// The words are looked at before the log, and the log before the roll. Where a receipt in 2^40 bytes of the roll
-/// is of another taxi, the last in them too, the status is 4, also if the read behind the bytes that were taken
-/// failed. The words, the statuses and the lines are this project's own.
+/// The words are looked at before the log, and the log before the roll. If any receipt in 2^40 bytes of the roll is of
+/// another taxi, the status is 4, even if a read behind the bytes taken failed. The words, the statuses and the lines
+/// are this project's own.
 pub fn keep_log<F: Files, G: Board<LOG_SIZE, L>, L: Ledger>(
     words: &[String],
     files: &mut F,
     log: &mut G,
     steps: &mut Steps<L>,
 ) -> u8
-    // A call comes to an end for its reason and prints that end's text. `file` leaves, at each moment from its
-    // opening sync on, the last 256 or 255 of the found list with some first ones of the filed behind it; a cut
-    // before that sync has succeeded leaves what it might have left before the call. In the end all that is filed
-    // stands behind the list.
+    // A call ends for its reason and prints that end's text. `file` leaves, at each moment from its opening sync on,
+    // the last 256 or 255 of the found list with some first ones of the filed behind it. A cut before that sync has
+    // succeeded leaves what it might have left before the call. In the end all that is filed is behind the list.
     ensures call { known_of (call_of (map string_bytes words.now)) F.tells G.tells_image
         → IsCall F.Files G.Board (call_of (map string_bytes words.now))
         files.old files.new log.old log.new steps.old steps.new result }
@@ -205,7 +204,7 @@ pub fn keep_log<F: Files, G: Board<LOG_SIZE, L>, L: Ledger>(
         → result ≡ 0 }
 
     // Each status is one of the command's, whatever is told. The board's count of faults rose by one at 8, and else
-    // stayed. That of the roll rose by one at 7; no word's rose at a status but 4, 7 and 8, and none by more than one.
+    // stayed. That of the roll rose by one at 7. No word's rose at a status but 4, 7 and 8, and none by more than one.
     ensures has { MayHave (call_of (map string_bytes words.now)) result }
     ensures read_fault { result ≡ 7 → Rose (F.faults files.old 1) (F.faults files.new 1) }
     ensures reads { (word : ℕ)
@@ -218,7 +217,8 @@ pub fn keep_log<F: Files, G: Board<LOG_SIZE, L>, L: Ledger>(
     ensures untaken { WritesNothing (call_of (map string_bytes words.now)) result → files.new ≡ files.old }
     ensures others { (word : ℕ) → word ≢ 1 → F.rest files.new word ≡ F.rest files.old word }
 
-    // `show` takes at most 771 steps, and refused words 1. `file` is bounded by `call`, over files and a log that tell.
+    // `show` takes at most 771 steps, and refused words take 1. `call` bounds the steps of `file`, over files and a log
+    // that tell.
     ensures steps { AreFew (call_of (map string_bytes words.now)) steps.old steps.new }
 {
     let ended = carry_out(call_in(words), files, log, steps);

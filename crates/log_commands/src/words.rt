@@ -36,7 +36,7 @@ fn two_words(command: &[u8]) -> Option<Call>
     }
 }
 
-/// The command that words are. None where the program knows none such.
+/// The command that words are. `None` if the program knows no such command.
 pub fn call_in(words: &[String]) -> Option<Call>
     ensures { result ≡ call_of (map string_bytes words.now) }
 {

@@ -7,7 +7,7 @@ use taxi_units::{Display, Receipt, Why};
 use totals_record::{Entry, Trip};
 
 /// What the meter does at an event.
-#[derive(Clone, Copy, PartialEq, Eq)]
+#[derive(Clone, Copy)]
 pub enum Act {
     /// Shows a display.
     Show(Display),

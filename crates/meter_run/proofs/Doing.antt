@@ -32,7 +32,7 @@ commits_more acts n x lt = ap commits_in (take_more acts n x lt) ∙ commits_app
 commits_part : (acts : List Act) (n : ℕ) → commits_in (take n acts) ≤ commits_in acts
 commits_part acts n = omega (arith, commits_append (take n acts) (drop n acts), ap commits_in (take-append-drop n acts))
 
--- the steps of an act more, and of all acts where it's one of them
+-- the steps of an act more, and of all acts if it's one of them
 pub steps_more : (acts : List Act) (n : ℕ) (x : Act) (a b c : ℕ) → n < length acts
     → b ≤ a + n + 5 * commits_in (take n acts) → c ≤ b + 1 + 5 * commits_in (get_or acts n x ∷ [])
     → c ≤ a + (n + 1) + 5 * commits_in (take (n + 1) acts)
@@ -44,7 +44,7 @@ pub steps_whole : (acts : List Act) (n : ℕ) (x : Act) (a b c : ℕ) → n < le
 steps_whole acts n x a b c lt so_far next =
     omega (arith, lt, steps_more acts n x a b c lt so_far next, commits_part acts (n + 1))
 
--- what an act leaves, prints and takes, where it's known which act it is
+-- what an act leaves, prints and takes, if it's known which act it is
 pub leaves_as : {A E : Type 0} (r : Result A E) (d e : Durable) (act is : Act) → act ≡ is → OnOk r (e ≡ after_act d is)
     → OnOk r (e ≡ after_act d act)
 leaves_as r d e act is same h = subst (λ (x : Act). OnOk r (e ≡ after_act d x)) (sym same) h
@@ -72,7 +72,7 @@ all_at P (act ∷ acts) zero x lt all = All-head P act acts all
 all_at P (act ∷ acts) (suc n) x lt all = all_at P acts n x (omega arith) (All-tail P act acts all)
 
 module _ {D L : Type 0} {N : ℕ} (B : Ghosts D N L) (tables : TableParts) where
-  -- the act at a place may be done where all may be done from the start, and the board agrees now
+  -- the act at a place may be done if all may be done from the start, and the board agrees now
   pub may_at : (k l : Known) (a b : D) (acts : List Act) (n : ℕ) (x : Act) → n < length acts → MayDo B tables k a acts
       → Agrees B tables l b
       → MayDo B tables l b (get_or acts n x ∷ [])

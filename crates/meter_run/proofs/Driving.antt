@@ -24,8 +24,8 @@ pub record IsSoFar (told : Type 0) (place : Progress) (drive rest : List ℕ) (d
   pub carried : done (events_in given)
   pub bounded : IsBounded before now (events_in given)
 
--- what is ahead of a source is on its way where, whatever was carried out before, the events of what was given of it
--- were carried out behind that
+-- what is ahead of a source is on its way if, whatever was carried out before, the events of what was given of it were
+-- carried out behind that
 abbrev pub IsOnWay : {M D : Type 0} → (M → D → List Event → M → D → Type 0) → Progress → M → D → ℕ → Progress → M → D
     → ℕ → Type 0
 IsOnWay {M} {D} carried old m b before place m' b' now =
@@ -236,7 +236,7 @@ filled_is told old mid rest rest' taken filled none t =
     ap (λ (xs : List ℕ). taken ++ xs)
     (sym (filled.passes t) ∙ ap (λ (xs : List ℕ). xs ++ rest) none)
 
--- a source stops where nothing is ahead, and nothing more is carried out
+-- a source stops if nothing is ahead, and nothing more is carried out
 pub stops_before : (told : Type 0) (old : Progress) (rest rest' taken : List ℕ) (carried : List Event → Type 0)
     (x y : ℕ) (stop : Stop) → IsThrough old taken → AreCarried taken carried x y
     → StopsBy told old rest rest' taken [] stop → TakesDrive told (taken ++ rest) rest' stop carried x y

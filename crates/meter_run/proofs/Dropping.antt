@@ -253,7 +253,7 @@ module _ {D L : Type 0} {N : ℕ} (B : Ghosts D N L) (tables : TableParts) (seal
       begins_whole (B.printed b) (B.printed c) (shown_texts (ended s m).acts) (ends_on x b y c on h told s m is st)
   ends_some (Err e) x b y c on h k told s m is st = ends_broken x b c on k told s m is st
 
-  -- the store, where events were carried out or broke off
+  -- the store, if events were carried out or broke off
   pub event_store : {A E : Type 0} (r : Result A E) (x : DryMeter) (b : D) (y : DryMeter) (c : D) (events : List Event)
       → OnOk r (Carries B tables seal x b events y c) → OnErr r (BreaksOff B tables seal x b events c)
       → KeepsStore B b c

@@ -88,6 +88,6 @@ module _ (told : Type 0) (tables : TableParts) (seal : Seal) (drive left before 
     printed = subst ShownSome (sym (events_taken taken few)) shown;
   }
 
--- what a test tells where it holds doesn't hold where the test fails
+-- what a test tells if it holds doesn't hold if the test fails
 pub not_told : (test : Bool) (P : Type 0) → (P → test ≡ true) → test ≡ false → P → ⊥
 not_told test P tells fails p = absurd (let bad : false ≡ true = sym fails ∙ tells p in cc)

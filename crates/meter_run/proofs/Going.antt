@@ -15,7 +15,7 @@ use Rattle.drive_text.specs.declared.run.Run.{Run}
 use Rattle.drive_text.specs.Runs.{interval_events, intervals_events, run_events}
 use Rattle.meter_run.specs.Drives.{IsBounded}
 
--- what holds whatever came of a call holds where it failed
+-- what holds whatever came of a call holds if it failed
 pub on_err : {A E : Type 0} (r : Result A E) (P : Type 0) → P → OnErr r P
 on_err (Ok x) P h = tt
 on_err (Err e) P h = h
@@ -42,7 +42,7 @@ not_ok Q (Err e) P err = tt
 pub went_well : {T E : Type 0} (before now : ℕ) (x : T) → now ≡ before → HasCause {T = T} {E = E} before now (Ok x)
 went_well before now x same = record { kept = λ ok. same; failed = λ err. absurd cc }
 
--- what a test that holds of a result comes to
+-- the value of a test that holds of a result
 pub true_is : true ≡ true
 true_is = refl
 

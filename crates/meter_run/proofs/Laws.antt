@@ -28,6 +28,7 @@ use Rattle.meter_run.proofs.LastLines.{line_begun, line_whole}
 use Rattle.meter_run.proofs.Leavings.{beside_bytes, kept_begins, next_opens, numbers_rise, receipt_entered}
 use Rattle.meter_run.proofs.Leavings.{receipt_numbered, seal_kept, seal_left}
 pub use Rattle.meter_run.proofs.Leavings.{changes_joined}
+pub use Rattle.meter_run.proofs.Dropping.{begins, ready_first}
 
 module _ (tables : TableParts) (seal : Seal) (told : Type 0) (opening : Durable) (printed : List ℕ) (deeds : List Deed)
     (image text : List ℕ) (cut : IsCutOfDeeds tables seal told opening printed deeds image text) where

@@ -58,7 +58,7 @@ pub begins_end : (p q : List ℕ) (acts : List Act) (n : ℕ) → length acts �
 begins_end p q acts n le h =
     begins_whole p q (shown_texts acts) (h ∙ ap (λ (xs : List Act). p ++ shown_texts xs) (take_all n acts le))
 
--- what an act prints, where it's known which act it is
+-- what an act prints, if it's known which act it is
 pub whole_as : {A E : Type 0} (r : Result A E) (p q : List ℕ) (act is : Act) → act ≡ is
     → OnOk r (q ≡ p ++ shown_text is) → OnOk r (q ≡ p ++ shown_text act)
 whole_as r p q act is same h = subst (λ (x : Act). OnOk r (q ≡ p ++ shown_text x)) (sym same) h

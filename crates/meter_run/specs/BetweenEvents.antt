@@ -6,8 +6,8 @@ use Rattle.meter_model.specs.Meter.{Meter}
 use Rattle.meter_model.specs.Setting.{Setting}
 pub use Rattle.meter_model.specs.KeptTrip.{IsTripKept, IsTripKeptIn}
 
--- a core, with the durable state that the store has, stands for a state of the meter where the core does, the durable
--- state is the state's, and the meter's trip is kept
+-- a core and the durable state of the store stand for a state of the meter if the core does, the durable state is the
+-- state's, and the meter's trip is kept
 pub record StandsWith (s : Setting) (plain : CoreData) (has : Durable) (m : Meter) : Type 0 where
   pub core : Stands s plain m
   pub durable : has ≡ m.durable

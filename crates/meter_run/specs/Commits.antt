@@ -8,8 +8,8 @@ use Rattle.totals_record.specs.declared.durable_state.Durable.{Durable}
 use Rattle.meter_model.specs.declared.act.Act.{Act}
 use Rattle.meter_model.specs.declared.act.Act.TheVariants.{Show, Refuse, Enter, Hold, Receipt}
 
--- the durable state after an act is the one after its commit, where it is an entry or a held trip, and is unchanged
--- after any other act
+-- the durable state after an act is the one after its commit, if it is an entry or a held trip, and is unchanged after
+-- any other act
 abbrev pub after_act : Durable → Act → Durable
 after_act durable (Show display) = durable
 after_act durable (Refuse why) = durable
@@ -31,7 +31,7 @@ commits_in (Enter entry ∷ acts) = suc (commits_in acts)
 commits_in (Hold trip ∷ acts) = suc (commits_in acts)
 commits_in (Receipt receipt ∷ acts) = commits_in acts
 
--- an act may be carried out at a durable state where what it shows has a text and the state after it is in its ranges
+-- an act may be carried out at a durable state if what it shows has a text and the state after it is in its ranges
 abbrev pub IsFor : Durable → Act → Type 0
 IsFor durable (Show display) = IsShown display
 IsFor durable (Refuse why) = Unit {0}
@@ -39,7 +39,7 @@ IsFor durable (Enter entry) = IsDurable (after durable (changes.Enter entry))
 IsFor durable (Hold trip) = IsDurable (after durable (changes.Hold trip))
 IsFor durable (Receipt receipt) = Unit {0}
 
--- acts may be carried out at a durable state where each may be at the state that the acts before it leave
+-- acts may be carried out at a durable state if each may be at the state that the acts before it leave
 abbrev pub AreFor : Durable → List Act → Type 0
 AreFor durable [] = Unit {0}
 AreFor durable (act ∷ acts) = IsFor durable act × AreFor (after_act durable act) acts

@@ -45,7 +45,7 @@ abbrev pub after_deeds : Durable → List Deed → Durable
 after_deeds durable [] = durable
 after_deeds durable (deed ∷ deeds) = after_deeds (after_deed durable deed) deeds
 
--- the changes that a deed commits are those of its act, and none where it prints a line
+-- the changes that a deed commits are those of its act; the print of a line commits none
 abbrev pub changes_in : Deed → List Change
 changes_in (Does act) = commits_of (act ∷ [])
 changes_in (Prints line) = []

@@ -18,14 +18,14 @@ use Rattle.meter_run.specs.declared.fault.RunFault.TheVariants.{ReadFault, Board
 use Rattle.meter_run.specs.declared.source.Stop.{Stop}
 use Rattle.meter_run.specs.declared.source.Stop.TheVariants as stops
 
--- the steps of events are bounded where the count of steps rose from `before` to `now` by at most 64 for each event
+-- the steps of events are bounded if the count of steps rose from `before` to `now` by at most 64 for each event
 abbrev pub IsBounded : (before now : ℕ) → List Event → Type 0
 IsBounded before now events = now ≤ before + 64 * length events
 
 -- ---- with whatever carries out events
 
--- a reading takes a drive where no more of it is read, for the reason `stop`, and the events of the bytes that were
--- taken were carried out
+-- a reading takes a drive if it stops for the reason `stop`, and the events of the bytes that were taken were carried
+-- out
 pub record TakesDrive (told : Type 0) (drive left : List ℕ) (stop : Stop) (done : List Event → Type 0)
     (before now : ℕ) : Type 0 where
   pub taken : List ℕ
@@ -35,7 +35,7 @@ pub record TakesDrive (told : Type 0) (drive left : List ℕ) (stop : Stop) (don
   pub carried : done (events_in taken)
   pub bounded : IsBounded before now (events_in taken)
 
--- a reading breaks off amid a drive where the events of the bytes that were taken broke off
+-- a reading breaks off amid a drive if the events of the bytes that were taken broke off
 pub record BreaksDrive (told : Type 0) (drive left : List ℕ) (broken : List Event → Type 0)
     (before now : ℕ) : Type 0 where
   pub taken : List ℕ
@@ -46,8 +46,8 @@ pub record BreaksDrive (told : Type 0) (drive left : List ℕ) (broken : List Ev
 
 -- ---- what a dry run of a drive prints
 
--- the steps of a call are bounded by a drive if the count of steps rose from `before` to `now` by at most `spare`, 64
--- for each event of some bytes, and 64 for the supply drop behind them, if the supply is there then; the bytes are at
+-- the steps of a call are bounded by a drive if their count rose from `before` to `now` by at most `spare`, and 64 for
+-- each event of some bytes; the supply drop behind them takes 64 more, if the supply is there then; the bytes are at
 -- most 2^40, and if the drive is told they are those that were taken of it
 pub record IsBoundedByDrive (spare : ℕ) (told : Type 0) (drive left : List ℕ) (before now : ℕ) : Type 0 where
   pub taken : List ℕ
@@ -56,23 +56,23 @@ pub record IsBoundedByDrive (spare : ℕ) (told : Type 0) (drive left : List ℕ
   pub bound : now ≤ before + spare + 64 * length (events_in taken) + drop_steps (events_in taken)
 
 module _ (told : Type 0) (tables : TableParts) (seal : Seal) (drive left before now : List ℕ) where
-  -- a text is printed where it is what the bytes that were taken show, where the text is told
+  -- a text is printed if it is what the bytes that were taken show, if the text is told
   abbrev pub Printed : (taken : List ℕ) → Type 0
   Printed taken = told → (s : Setting) → IsSettingOf s tables seal → now ≡ before ++ drive_shown s taken
 
-  -- a text is printed in part where it is a beginning of what the bytes that were taken show, where the text is told
+  -- a text is printed in part if it is a beginning of what the bytes that were taken show, if the text is told
   abbrev pub PrintedSome : (taken : List ℕ) → Type 0
   PrintedSome taken = told → (s : Setting) → IsSettingOf s tables seal → Begins before now (drive_shown s taken)
 
-  -- a dry run came to an end of the drive where the drive has that end, the bytes that were taken tell it, and what the
+  -- a dry run came to an end of the drive if the drive has that end, the bytes that were taken tell it, and what the
   -- drive shows was printed
   pub record RunsTo (reached : StreamEnd) : Type 0 where
     pub end_is : drive_end drive ≡ reached
     pub tells : TellsEnd drive left
     pub printed : Printed drive
 
-  -- a dry run ends as its answer says: at the drive's end; or after a read that failed, where what the bytes taken show
-  -- was printed; or after a fault of the board, where a beginning of it was printed
+  -- a dry run ends as its answer says: at the drive's end; after a read that failed, with what the bytes taken show
+  -- printed; or after a fault of the board, with a beginning of it printed
   abbrev pub RunsDrive : {T : Type 0} → Result T RunFault → Type 0
   RunsDrive (Ok done) = RunsTo Whole
   RunsDrive (Err (BadDrive line)) = RunsTo (BadAt line)
@@ -80,7 +80,7 @@ module _ (told : Type 0) (tables : TableParts) (seal : Seal) (drive left before 
   RunsDrive (Err ReadFault) = StopsAfter drive left IsGoing Printed
   RunsDrive (Err BoardFault) = StopsAfter drive left (λ taken. Unit {0}) PrintedSome
 
--- the answer of a run that stopped is none where the drive was whole, and else the fault for which it stopped
+-- the answer of a run that stopped is `Ok` if the drive was whole, and else the fault for which it stopped
 abbrev pub answer_of : Stop → Result (Unit {0}) RunFault
 answer_of stops.Whole = Ok tt
 answer_of (stops.BadLine line) = Err (BadDrive line)

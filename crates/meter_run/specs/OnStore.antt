@@ -32,7 +32,7 @@ use Rattle.meter_run.specs.Supply.{StaysOff}
 use Rattle.meter_run.specs.declared.stored.Known.{Known}
 use Rattle.meter_run.specs.declared.stored.StoreMeter.{StoreMeter}
 
--- tables and a seal are secured where the seal is in its ranges, and both are those of some setting
+-- tables and a seal are secured if the seal is in its ranges, and both are those of some setting
 pub record IsSecured (tables : TableParts) (seal : Seal) : Type 0 where
   pub range : IsSeal seal
   pub setting : Setting
@@ -45,8 +45,8 @@ module _ {D L : Type 0} {N : ℕ} (B : Ghosts D N L) where
   abbrev pub HasBeside : D → List ℕ → Type 0
   HasBeside board image = MayHold (B.image board) (OrWithin (B.in_flight board) 0 1024) image
 
-  -- a board writes totals alone where the store beside the pair of totals is as it was but for what was in flight, and
-  -- a cut at each moment leaves it as it was there too
+  -- a board writes totals alone if the store beside the pair of totals is as it was but for what was in flight; a cut
+  -- at each moment leaves it as it was there too
   pub record WritesTotals (old new : D) : Type 0 where
     pub rest : SameBut (OrWithin (B.in_flight old) 0 1024) (B.image old) (B.image new)
     pub flight : (place : ℕ) → B.in_flight new place → OrWithin (B.in_flight old) 0 1024 place
@@ -55,42 +55,42 @@ module _ {D L : Type 0} {N : ℕ} (B : Ghosts D N L) where
 -- ---- between two events
 
 module _ {D L : Type 0} {N : ℕ} (B : Ghosts D N L) where
-  -- a board has a durable state where the pair of totals is settled with it, at the place and with the state that the
+  -- a board has a durable state if the pair of totals is settled with it, at the place and with the state that the
   -- meter knows, if it knows them
   abbrev pub Has : Option Known → D → Durable → Type 0
   Has None board durable = (place : Place) × HoldsState B place board durable
   Has (Some known) board durable = (durable ≡ known.durable) × HoldsState B known.place board known.durable
 
-  -- a meter and a board stand for a state of the meter where the core does, the board has the state's durable state,
-  -- and its held trip fits
+  -- a meter and a board stand for a state of the meter if the core does, the board has the state's durable state, and
+  -- its held trip fits
   pub record StandsOn (tables : TableParts) (s : Setting) (x : StoreMeter) (board : D) (m : Meter) : Type 0 where
     pub stands : StandsWith s x.core.plain m.durable m
     pub has : Has x.known board m.durable
     pub fits : ForSome m.durable.hold (Fits tables)
 
-  -- a board agrees with what the meter knows where it has the state that the meter knows, if it tells its image, and
-  -- the held trip fits
+  -- a board agrees with what the meter knows if the held trip fits, and the board has the state that the meter knows,
+  -- if it tells its image
   pub record Agrees (tables : TableParts) (known : Known) (board : D) : Type 0 where
     pub slot : known.place.slot ≤ 1
     pub settled : B.tells_image → HoldsState B known.place board known.durable
     pub fits : ForSome known.durable.hold (Fits tables)
 
-  -- acts may be done on a board under tables where it agrees with what the meter knows, and they are lawful acts of a
+  -- acts may be done on a board under tables if it agrees with what the meter knows, and they are lawful acts of a
   -- meter at some number
   pub record MayDo (tables : TableParts) (known : Known) (board : D) (acts : List Act) : Type 0 where
     pub agrees : Agrees tables known board
     pub number : ℕ
     pub lawful : All (IsLawfulAct tables number) acts
 
-  -- a meter knows of the store nothing where it is off, and else a state at which the next event may come, with which
-  -- the board agrees; the core of the meter is one beside its cache, which has what was looked up in the tables and
-  -- only saves look-ups, as `Core::step_into` says by its clause `takes`
+  -- a meter that is off knows nothing of the store; else it knows a state at which the next event may come, with which
+  -- the board agrees; the core of the meter is one beside its cache, which only saves look-ups, as `Core::step_into`
+  -- says by its clause `takes`
   abbrev pub Knows : TableParts → Seal → CachedCore → Option Known → D → Type 0
   Knows tables seal core None board = core.plain.operating ≡ Off
   Knows tables seal core (Some known) board = IsReady tables seal core known.durable × Agrees tables known board
 
-  -- a meter is ready on a board for the next event where its tables and its seal are secured, its core is lawful, and
-  -- it knows what it has to of the store
+  -- a meter is ready on a board for the next event if its tables and its seal are secured, its core is lawful, and it
+  -- knows what it has to of the store
   pub record IsReadyOn (tables : TableParts) (seal : Seal) (x : StoreMeter) (board : D) : Type 0 where
     pub secured : IsSecured tables seal
     pub lawful : IsLawful tables seal x.core
@@ -99,14 +99,15 @@ module _ {D L : Type 0} {N : ℕ} (B : Ghosts D N L) where
 -- ---- what events leave
 
 module _ {D L : Type 0} {N : ℕ} (B : Ghosts D N L) (tables : TableParts) (seal : Seal) where
-  -- a property holds for each state of the meter where a meter and a board stand for that state, and the image is told
+  -- a property holds for each state if it does for each state of the meter for which a meter and a board stand, if the
+  -- image is told
   abbrev pub ForEach : StoreMeter → D → (Setting → Meter → Type 0) → Type 0
   ForEach x board Holding =
       B.tells_image → (s : Setting) (m : Meter) → IsSettingOf s tables seal → StandsOn B tables s x board m
       → Holding s m
 
-  -- a meter and a board carry out an outcome where they stand for its state, its acts were done, and a cut at each
-  -- moment leaves a point of them
+  -- a meter and a board carry out an outcome if they stand for its state, its acts were done, and a cut at each moment
+  -- leaves a point of them
   pub record CarriesOut (outcome : Setting → Meter → Outcome) (x : StoreMeter) (old : D) (y : StoreMeter)
       (new : D) : Type 0 where
     pub stands : ForEach x old (λ s m. StandsOn B tables s y new (outcome s m).next)
@@ -115,7 +116,7 @@ module _ {D L : Type 0} {N : ℕ} (B : Ghosts D N L) (tables : TableParts) (seal
     pub points : ForEach x old (λ s m. GoesBy B tables seal old new m.durable (deeds_of (outcome s m).acts))
     pub beside : B.tells_image → WritesTotals B old new
 
-  -- a board stops amid an outcome where a cut at each moment leaves a point of its acts, and the board is at one
+  -- a board stops amid an outcome if a cut at each moment leaves a point of its acts, and the board is at one
   pub record StopsAmid (outcome : Setting → Meter → Outcome) (x : StoreMeter) (old new : D) : Type 0 where
     pub points : ForEach x old (λ s m. GoesBy B tables seal old new m.durable (deeds_of (outcome s m).acts))
     pub beside : B.tells_image → WritesTotals B old new
@@ -126,8 +127,8 @@ module _ {D L : Type 0} {N : ℕ} (B : Ghosts D N L) (tables : TableParts) (seal
     pub out : CarriesOut (λ s m. run s events m) x old y new
     pub supply : StaysOff x.core.plain events y.core.plain
 
-  -- a call attempts an outcome where, if it succeeds, a meter and a board carry the outcome out and are ready for the
-  -- next event; where the board stops amid the outcome, however the call ends; and where the call has a cause
+  -- a call attempts an outcome if, when it succeeds, a meter and a board carry the outcome out and are ready for the
+  -- next event; the board stops amid the outcome, however the call ends; and the call has a cause
   pub record Attempts {T E : Type 0} (outcome : Setting → Meter → Outcome) (x : StoreMeter) (old : D)
       (result : Result T E) (y : StoreMeter) (new : D) : Type 0 where
     pub ready : OnOk result (IsReadyOn B tables seal y new)

@@ -17,8 +17,8 @@ pub record AreCarried (taken : List ℕ) (carried : List Event → Type 0) (befo
   pub bounded : IsBounded before now (events_in taken)
 
 -- a piece of a drive is carried out behind the bytes that were taken before if it has 1 to 512 bytes, which are the
--- front of what was left, where that is told, the source is through with it, and the events of all bytes that were
--- taken, those of the piece too, are carried out
+-- front of what was left, if that is told; the source is through with it, and the events of all bytes that were taken,
+-- those of the piece too, are carried out
 pub record CarriesPiece (told : Type 0) (new : Progress) (rest rest' before : List ℕ) (carried : List Event → Type 0)
     (start now : ℕ) : Type 0 where
   pub piece : List ℕ
@@ -28,8 +28,8 @@ pub record CarriesPiece (told : Type 0) (new : Progress) (rest rest' before : Li
   pub through : IsThrough new (before ++ piece)
   pub done : AreCarried (before ++ piece) carried start now
 
--- what is ahead of a source is carried out behind the bytes that were given before if the source is through with it,
--- and the events of all bytes that were taken are carried out
+-- what is ahead of a source is carried out behind the bytes given before if the source is through with it, and the
+-- events of all bytes that were taken are carried out
 pub record CarriesAhead (old new : Progress) (before : List ℕ) (carried : List Event → Type 0)
     (start now : ℕ) : Type 0 where
   pub through : IsThrough new (before ++ old.ahead)

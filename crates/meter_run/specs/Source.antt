@@ -1,4 +1,4 @@
--- Rules: where a source of a drive stands, and what it gives.
+-- Rules: how far a source of a drive is, and what it gives.
 use Rattle.std.specs.Prelude.{◌≡◌, ℕ, ◌+◌, ◌<◌, ◌≤◌, List, ◌++◌, length, false}
 use Rattle.drive_text.specs.Drive.{runs_after}
 use Rattle.drive_text.specs.Ending.{IsGoing, IsSplit, ReachesEnd, stream_limit}
@@ -15,14 +15,14 @@ pub record Progress : Type 0 where
   pub ahead : List ℕ
   pub left : ℕ
 
--- a source has given bytes of a drive where their runs were given and none of their lines is bad
+-- a source has given bytes of a drive if their runs were given and none of their lines is bad
 pub record HasGiven (progress : Progress) (given : List ℕ) : Type 0 where
   pub read : HasTaken progress.reading given
   pub going : progress.reading.failed ≡ false
   pub count : length given + (length progress.ahead + progress.left) ≡ stream_limit
 
 -- a source gives the runs of further bytes, of which there is at least one, and which come from the front of what was
--- left, where that is told
+-- left, if that is told
 pub record GivesRuns (told : Type 0) (old new : Progress) (rest rest' given : List ℕ) (runs : List Run) : Type 0 where
   pub fed : List ℕ
   pub some : 0 < length fed
@@ -30,20 +30,20 @@ pub record GivesRuns (told : Type 0) (old new : Progress) (rest rest' given : Li
   pub runs_are : runs ≡ runs_after given fed
   pub passes : told → old.ahead ++ rest ≡ fed ++ (new.ahead ++ rest')
 
--- a reading of a drive ends for a reason where the bytes that were taken tell the drive's end, or a read failed
+-- a reading of a drive ends for a reason if the bytes that were taken tell the drive's end, or a read failed
 abbrev pub EndsBy : (drive taken left : List ℕ) → Stop → Type 0
 EndsBy drive taken left Whole = ReachesEnd drive taken left ends.Whole
 EndsBy drive taken left (BadLine line) = ReachesEnd drive taken left (ends.BadAt line)
 EndsBy drive taken left TooLong = ReachesEnd drive taken left ends.Endless
 EndsBy drive taken left ReadFault = IsGoing taken
 
--- a source is filled where there are bytes ahead, which are the front of what was left, where that is told
+-- a source is filled if there are bytes ahead, which are the front of what was left, if that is told
 pub record Fills (told : Type 0) (old new : Progress) (rest rest' : List ℕ) : Type 0 where
   pub some : 0 < length new.ahead
   pub stands : (given : List ℕ) → HasGiven old given → HasGiven new given
   pub passes : told → old.ahead ++ rest ≡ new.ahead ++ rest'
 
--- a source stops for a reason where the runs of the last good lines were given and no more of the drive is read
+-- a source stops for a reason if the runs of the last good lines were given and no more of the drive is read
 pub record StopsBy (told : Type 0) (old : Progress) (rest rest' given : List ℕ) (runs : List Run)
     (stop : Stop) : Type 0 where
   pub fed : List ℕ

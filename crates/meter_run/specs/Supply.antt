@@ -5,8 +5,8 @@ use Rattle.taxi_units.specs.declared.event.Event.TheVariants.{Up, Down, Pulses, 
 use Rattle.taxi_units.specs.declared.event.Operating.TheVariants.{Off}
 use Rattle.meter_states.specs.Core.{CoreData}
 
--- the test `is_supplied_after` is true if the supply is there after an event: it is after an `Up`, it isn't after a
--- `Down`, and after any other event it is if it was there before, which `before` says
+-- the test `is_supplied_after` is true if the supply is there after an event: an `Up` brings it, a `Down` takes it
+-- away, and any other event leaves it as it was before, which `before` says
 abbrev pub is_supplied_after : (before : Bool) → Event → Bool
 is_supplied_after before (Up second) = true
 is_supplied_after before Down = false

@@ -1,4 +1,4 @@
--- Rules: what is printed where receipts aren't.
+-- Rules: what is printed without receipts.
 use Rattle.std.specs.Prelude.{ℕ, List, [], ◌∷◌, ◌++◌}
 use Rattle.meter_model.specs.Run.{actions_of}
 use Rattle.meter_model.specs.Setting.{Setting}

@@ -11,15 +11,15 @@ use std::sync::ledger::Ledger;
 use tariff_compile::Tables;
 use taxi_units::{Event, Steps};
 
-/// What a run goes by: the tables of its tariff, and the seal under which it is carried out.
+/// What a run goes by: the tables of its tariff, and its seal.
 #[derive(Clone, Copy)]
 pub(crate) struct SealedTables<'a> {
     pub(crate) tables: &'a Tables,
     pub(crate) seal: &'a Seal,
 }
 
-/// A meter that carries out events on a board. What it says of them holds of one event, of none, and of
-/// one list of events behind another; so whoever goes over a drive proves it of a whole drive.
+/// A meter that carries out events on a board. What it says of them holds of one event, of none, and of one list of
+/// events behind another. So whoever goes over a drive proves it of a whole drive.
 pub(crate) trait Carrier<B: Board<STORE_SIZE, L>, L: Ledger> {
     ghost use Rattle.taxi_units.specs.declared.event.Event.{Event};
     ghost use Rattle.meter_run.specs.declared.carrier.SealedTables.{SealedTables};
@@ -33,7 +33,7 @@ pub(crate) trait Carrier<B: Board<STORE_SIZE, L>, L: Ledger> {
     /// The board failed amid these events.
     ghost broke_off: { SealedTables → Self → B → List Event → B → Type 0 };
 
-    /// Carries out an event; its acts come into a list that is handed in, whatever that has. At most 64 steps.
+    /// Carries out an event; `acts` is a list to work with, whatever it has. At most 64 steps.
     fn carry_event(
         &mut self,
         by: &SealedTables<'_>,
@@ -50,8 +50,8 @@ pub(crate) trait Carrier<B: Board<STORE_SIZE, L>, L: Ledger> {
         ensures cause { HasCause (B.faults board.old) (B.faults board.new) result }
         ensures steps { steps.new ≤ steps.old + 64 };
 
-    /// Carries out as many of `count` equal intervals as the core can at once, and answers how many. No board
-    /// is touched, so this holds on each board on which the next event may come, and no step is taken.
+    /// Carries out as many of `count` equal intervals as the core can at once, and answers how many. It touches no
+    /// board and takes no step, so this holds on each board on which the next event may come.
     fn carry_equal(&mut self, by: &SealedTables<'_>, pulses: u32, count: u32) -> u32
         requires { (board : B) × ready by.now self.old board }
         ensures most { result ≤ count }

@@ -21,9 +21,9 @@ ghost use Rattle.meter_run.specs.Runs.{HasDone, HasStopped, OpensWith, run_deeds
 use outside::{Board, STORE_SIZE};
 use std::sync::ledger::Ledger;
 
-/// The deeds that an image has which a cut left are a beginning of the run's. The stored number less the
-/// opening one is the number of commits among them, the totals found are the opening ones plus the sums
-/// over their entries, and the trip that is held is the last one that no closing entry follows.
+/// An image that a cut left has a beginning of the run's deeds. The stored number less the opening one is the number of
+/// commits among them. The totals found are the opening ones plus the sums over their entries, and the held trip is the
+/// last one that no closing entry follows.
 pub fn the_number_tells_the_commits<B: Board<STORE_SIZE, L>, L: Ledger>()
     ensures beginning { (tables : TableParts) (seal : Seal) (opening : Durable) (printed : List ℕ) (deeds : List Deed)
         (image text : List ℕ) → (cut : IsCutOfDeeds tables seal B.tells_text opening printed deeds image text)
@@ -39,9 +39,8 @@ pub fn the_number_tells_the_commits<B: Board<STORE_SIZE, L>, L: Ledger>()
         → IsHeldAfter opening.hold (changes_of cut.kept) cut.found.hold }
 {}
 
-/// In what a run does each receipt stands directly behind its entry, with the number that the store has
-/// then. So of a receipt of which a byte may have been printed when the power was cut, the entry is among
-/// those whose sums the store has.
+/// In what a run does, each receipt stands directly behind its entry, with the number that the store has then. So if a
+/// byte of a receipt may have been printed when the power was cut, its entry is among those whose sums the store has.
 pub fn receipts_have_their_entries<B: Board<STORE_SIZE, L>, L: Ledger>()
     ensures run { (s : Setting) (opening : Durable) (drive : List ℕ)
         → HasEntries opening.number (run_deeds s opening drive) }
@@ -52,9 +51,9 @@ pub fn receipts_have_their_entries<B: Board<STORE_SIZE, L>, L: Ledger>()
         → HasEntryOf receipt (entries_of (changes_of cut.kept)) }
 {}
 
-/// No two receipts have one number: of two receipts of a run the later one has the greater number. And a receipt
-/// of which a byte may have been printed when the power was cut has a number above the opening one, and no greater
-/// than the one found.
+/// No two receipts have one number: of two receipts of a run the later one has the greater number. If a byte of a
+/// receipt may have been printed when the power was cut, its number is above the opening one, and no greater than the
+/// one found.
 pub fn receipts_are_numbered_in_order<B: Board<STORE_SIZE, L>, L: Ledger>()
     ensures rise { (number : ℕ) (earlier between later : List Deed) (first next : receipts.Receipt)
         → HasEntries number (earlier ++ Does (Receipt first) ∷ (between ++ Does (Receipt next) ∷ later))
@@ -66,7 +65,7 @@ pub fn receipts_are_numbered_in_order<B: Board<STORE_SIZE, L>, L: Ledger>()
         → IsNumberedWithin opening.number cut.found.number receipt }
 {}
 
-/// A board whose image a cut left, with nothing in flight, opens the next run: with the state found.
+/// A board with nothing in flight, whose image a cut left, opens the next run with the state found.
 pub fn cuts_open_the_next_run<B: Board<STORE_SIZE, L>, C: Board<STORE_SIZE, L>, L: Ledger>()
     ensures { (tables : TableParts) (seal : Seal) (opening : Durable) (printed : List ℕ) (deeds : List Deed)
         (image text : List ℕ) → (cut : IsCutOfDeeds tables seal B.tells_text opening printed deeds image text)
@@ -74,8 +73,8 @@ pub fn cuts_open_the_next_run<B: Board<STORE_SIZE, L>, C: Board<STORE_SIZE, L>, 
         → OpensWith C.Board tables board cut.found }
 {}
 
-/// A run leaves the seals as they are: each byte from place 1,024 on that isn't in flight, and so the pair
-/// of seals that is settled with a seal, in each image that a cut leaves and at the end.
+/// A run leaves the seals as they are: each byte from place 1,024 on that isn't in flight. So a pair of seals that is
+/// settled with a seal stays so, in each image that a cut leaves and at the end.
 pub fn runs_leave_the_seals<B: Board<STORE_SIZE, L>, L: Ledger>()
     ensures bytes { (board : B) (left_image : List ℕ) (place : ℕ) → HasBeside B.Board board left_image
         → 1024 ≤ place → ¬ B.in_flight board place → get_or left_image place 0 ≡ get_or (B.image board) place 0 }
@@ -85,7 +84,7 @@ pub fn runs_leave_the_seals<B: Board<STORE_SIZE, L>, L: Ledger>()
         → HoldsSeal B.Board place old seal → HoldsSeal B.Board place new seal }
 {}
 
-/// A line that is printed behind a run, whole or in part, is one deed more of it.
+/// A line that is printed behind a run, whole or in part, is one more deed of it.
 pub fn lines_follow_a_run<B: Board<STORE_SIZE, L>, L: Ledger>()
     ensures whole { (tables : TableParts) (seal : Seal) (old mid new : B) (opening : Durable) (deeds : List Deed)
         (line : List ℕ) → HasEntries opening.number deeds → HasDone B.Board tables seal old mid opening deeds

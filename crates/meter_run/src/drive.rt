@@ -1,4 +1,4 @@
-//! Carries out a drive, from its first byte to where no more of it is read.
+//! Carries out a drive, until no more of it is read.
 ghost use Rattle.std.specs.Prelude.{◌≡◌, ◌≢◌, ◌⊎◌, ◌<◌, ◌++◌, ℕ, List, length, IfOk, IfSome, IsErr, OnOk, OnErr, Ok, None, Some};
 ghost use Rattle.outside.specs.Reading.{LeavesOthers};
 ghost use Rattle.outside.specs.Faults.{HasCause, MayRise, Rose};
@@ -60,9 +60,9 @@ pub(crate) fn carry_drive<C: Carrier<B, L>, F: Files, B: Board<STORE_SIZE, L>, L
     }
 }
 
-/// Reads one piece of a drive at most, and carries out the events of all bytes that were taken so far, those of this
-/// piece too. `None` where more may follow; no bytes were taken where it stops for another reason than a bad line, so
-/// no piece is read behind another. `runs` and `acts` are lists to work with.
+/// Reads at most one piece of a drive, and carries out the events of all bytes that were taken so far, with those of
+/// this piece. `None` if more may follow. If it stops for another reason than a bad line, it took no bytes, so no piece
+/// is read behind another. `runs` and `acts` are lists to work with.
 fn carry_piece<C: Carrier<B, L>, F: Files, B: Board<STORE_SIZE, L>, L: Ledger>(
     meter: &mut C,
     by: &SealedTables<'_>,
@@ -104,8 +104,8 @@ fn carry_piece<C: Carrier<B, L>, F: Files, B: Board<STORE_SIZE, L>, L: Ledger>(
     carry_ahead(meter, by, source, runs, acts, board, steps)
 }
 
-/// Carries out the events of the bytes that are ahead of a source, of which there is one at least. `None` where it came
-/// through them, and else the first bad line among them, before which the events were carried out.
+/// Carries out the events of the bytes that are ahead of a source, of which there is at least one. `None` if all lines
+/// are good; else the first bad line among them, behind the events before it.
 fn carry_ahead<C: Carrier<B, L>, B: Board<STORE_SIZE, L>, L: Ledger>(
     meter: &mut C,
     by: &SealedTables<'_>,

@@ -84,7 +84,7 @@ fn perform_all<B: Board<STORE_SIZE, L>, L: Ledger>(
     Ok(())
 }
 
-/// Moves the core by an event, with its acts in a list that is handed in empty. An `Up` while the meter is off goes on
+/// Moves the core by an event, with its acts in a list that is handed in empty. If the meter is off, an `Up` goes on
 /// from the durable state. At most 48 steps.
 #[inline(always)]
 fn step_or_resume<L: Ledger>(
@@ -136,12 +136,12 @@ impl DryMeter {
         }
     }
 
-    /// Carries out an event: its display and its refusal are printed, its entry or held trip changes the
-    /// durable state, and its receipt is dropped. At most 64 steps. `acts` is a list to work with: what it had
-    /// is dropped, and what it has afterwards means nothing.
+    /// Carries out an event: prints its display and its refusal, changes the durable state by its entry or held trip,
+    /// and drops its receipt. At most 64 steps. `acts` is a list to work with: what it had is dropped, and what it has
+    /// afterwards means nothing.
     ///
-    /// `Failed` only where the board's count of faults rose; then a beginning of what the event shows was
-    /// printed, and the meter is done with.
+    /// `Failed` only if the board's count of faults rose. Then a beginning of what the event shows was printed, and the
+    /// meter is of no further use.
     #[inline(always)]
     pub fn carry_event<B: Board<STORE_SIZE, L>, L: Ledger>(
         &mut self,

@@ -21,18 +21,17 @@ use std::sync::ledger::Ledger;
 use tariff_compile::Tables;
 use taxi_units::{Event, Steps};
 
-/// Reads the drive of a word to its end, in pieces of at most 512 bytes, and carries out the events of each piece
-/// before it reads the next one, under tables that were compiled with the seal's constant. The durable state is a
-/// value, which begins with number 1, totals of zero and no held trip; entries and held trips change it, and an `Up`
-/// goes on from it. Displays and refusals are printed, and no receipts; the store is left as it is. At most 64 steps
-/// for each event of the bytes that were taken, and for the supply drop at the end, if the supply is there then. It
+/// Carries out the drive of a word without a store, under tables that were compiled with the seal's constant. It reads
+/// pieces of at most 512 bytes, and carries out the events of each before it reads the next one. Displays and refusals
+/// are printed, and no receipts; the store is left as it is. The durable state is a value: it begins with number 1,
+/// totals of zero and no held trip, entries and held trips change it, and an `Up` goes on from it. At most 64 steps for
+/// each event of the bytes that were taken, and 64 for the supply drop at the end, if the supply is there then. It
 /// takes no memory itself; the devices may.
 ///
-/// `BadDrive` with the first line that is no line of a drive; `TooLong` where 2^40 bytes were taken, none
-/// of their lines is bad, and the end wasn't told; `ReadFault` only where the count of faults of the word
-/// rose; `BoardFault` only where the board's did. At the drive's end and before each of these but
-/// `BoardFault` the supply drops, where the meter is powered; where the board fails in that, the answer is
-/// `BoardFault`. All of this is this project's own.
+/// `BadDrive` with the first line that is no line of a drive. `TooLong` if 2^40 bytes were taken, none of their lines
+/// is bad, and the end wasn't told. `ReadFault` only if the count of faults of the word rose; `BoardFault` only if the
+/// board's did. At the drive's end and before each of these but `BoardFault` the supply drops, if the meter is powered;
+/// if the board fails in that, the answer is `BoardFault`. All of this is this project's own.
 pub fn dry_run<F: Files, B: Board<STORE_SIZE, L>, L: Ledger>(
     tables: &Tables,
     seal: &Seal,
@@ -64,7 +63,7 @@ pub fn dry_run<F: Files, B: Board<STORE_SIZE, L>, L: Ledger>(
     }
 }
 
-/// The supply drops, where the meter is powered. At most 64 steps, and none where it is off.
+/// The supply drops if the meter is powered. At most 64 steps, and none if it is off.
 fn drop_at_end<B: Board<STORE_SIZE, L>, L: Ledger>(
     meter: &mut DryMeter,
     tables: &Tables,
@@ -87,7 +86,7 @@ fn drop_at_end<B: Board<STORE_SIZE, L>, L: Ledger>(
     meter.carry_event(tables, seal, Event::Down, &mut acts, board, steps)
 }
 
-/// The answer of a run that stopped so.
+/// The answer of a run that stopped for a reason.
 pub(crate) fn answer(stop: Stop) -> Result<(), RunFault>
     ensures { result ≡ answer_of stop }
 {

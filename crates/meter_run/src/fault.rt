@@ -2,7 +2,7 @@
 use thiserror::Error;
 
 /// Why a drive wasn't carried out to its end.
-#[derive(Clone, Copy, Debug, PartialEq, Eq, Error)]
+#[derive(Clone, Copy, Debug, Error)]
 pub enum RunFault {
     /// A read of the drive failed.
     #[error("a read of the drive failed")]

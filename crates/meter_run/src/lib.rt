@@ -1,5 +1,5 @@
-//! Recorded drives, carried out on the meter: their bytes are read in pieces, each event moves the core,
-//! and what the meter does is printed. It takes no memory. All of it is this project's own.
+//! Carries out recorded drives on the meter: their bytes are read in pieces, each event moves the core, and what the
+//! meter does is printed. It takes no memory. All of it is this project's own.
 #![tactic(auto)]
 
 mod carrier;

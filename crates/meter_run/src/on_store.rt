@@ -23,7 +23,7 @@ use std::sync::ledger::Ledger;
 use tariff_compile::Tables;
 use taxi_units::{Event, Steps, Why};
 
-/// The supply comes, and what the store has was read. At most 21 steps.
+/// Goes on from what was found in the store as the supply comes. At most 21 steps.
 fn resume<B: Board<STORE_SIZE, L>, L: Ledger>(
     meter: &mut StoreMeter,
     found: Known,
@@ -50,8 +50,8 @@ fn resume<B: Board<STORE_SIZE, L>, L: Ledger>(
     done
 }
 
-/// The supply comes while the meter is off: it goes on from what a scan of the store finds. Where it finds
-/// no durable state, or one whose held trip doesn't fit, the meter stays off. At most 40 steps.
+/// The supply comes while the meter is off, which goes on from what a scan of the store finds. If that is no durable
+/// state, or one whose held trip doesn't fit, the meter stays off. At most 40 steps.
 #[inline(never)]
 fn power_up<B: Board<STORE_SIZE, L>, L: Ledger>(
     meter: &mut StoreMeter,
@@ -76,13 +76,12 @@ fn power_up<B: Board<STORE_SIZE, L>, L: Ledger>(
 }
 
 impl StoreMeter {
-    /// Carries out an event on the board: its display, refusal and receipt are printed, its entry or held trip
-    /// is committed, and an `Up` while the meter is off goes on from what a scan of the store finds. At most
-    /// 64 steps. `acts` is a list to work with: what it had is dropped, and what it has afterwards means
-    /// nothing.
+    /// Carries out an event on the board: prints its display, refusal and receipt, and commits its entry or held trip.
+    /// If the meter is off, an `Up` goes on from what a scan of the store finds. At most 64 steps. `acts` is a list to
+    /// work with: what it had is dropped, and what it has afterwards means nothing.
     ///
-    /// `Failed` only where the board's count of faults rose; then the event was carried out up to some point of
-    /// its acts, and the meter is done with.
+    /// `Failed` only if the board's count of faults rose. Then the event was carried out up to some point of its acts,
+    /// and the meter is of no further use.
     #[inline(always)]
     pub fn carry_event<B: Board<STORE_SIZE, L>, L: Ledger>(
         &mut self,

@@ -21,8 +21,8 @@ use tariff_compile::Tables;
 use taxi_units::Steps;
 use totals_record::Durable;
 
-/// Scans the pair of totals. `None` where it stands for no durable state, or for one whose held trip doesn't
-/// fit the tables: on a board that tells its image that comes only where the image says so. At most 19 steps.
+/// Scans the pair of totals. `None` if it stands for no durable state, or for one whose held trip doesn't fit the
+/// tables. On a board that tells its image, that comes only if the image says so. At most 19 steps.
 pub(crate) fn read_store<B: Board<STORE_SIZE, L>, L: Ledger>(
     tables: &Tables,
     board: &mut B,
@@ -56,7 +56,7 @@ pub(crate) fn read_store<B: Board<STORE_SIZE, L>, L: Ledger>(
     }
 }
 
-/// What was found, where its held trip fits. At most 16 steps.
+/// What was found, if its held trip fits. At most 16 steps.
 fn where_it_fits<L: Ledger>(known: Known, tables: &Tables, steps: &mut Steps<L>) -> Option<Known>
     ensures same { ForSome result (λ found. found ≡ known) }
     ensures fits { ForSome result (λ found. ForSome found.durable.hold (Fits tables.now)) }

@@ -1,4 +1,4 @@
-//! Reads a drive from its file, piece by piece, whatever its events are wanted for.
+//! Reads a drive from its file, piece by piece.
 ghost use Rattle.std.specs.Prelude.{◌≡◌, ◌≢◌, ◌↔◌, IsTrue, ℕ, ◌-◌, ◌<◌, ◌≤◌, [], List, All, length, take, drop, None, Some, IfSome};
 ghost use Rattle.outside.specs.Reading.{LeavesOthers};
 ghost use Rattle.outside.specs.Faults.{MayRise, Rose};
@@ -14,7 +14,7 @@ use std::marker::Model;
 use taxi_units::STREAM_LIMIT;
 
 /// Why no more of a drive is read.
-#[derive(Clone, Copy, PartialEq, Eq)]
+#[derive(Clone, Copy)]
 pub enum Stop {
     /// The drive was read to its end.
     Whole,
@@ -67,9 +67,9 @@ impl Source {
         }
     }
 
-    /// The runs of the next lines, at most 64, in place of what `runs` has. `None` where more may follow,
-    /// of at least one byte. Otherwise no more is read, and the source is done with: the drive has come to
-    /// its end, of a line before which `runs` has the last ones, or the read failed.
+    /// Gives the runs of the next lines, at most 64, in place of what `runs` has. `None` if more may follow; the runs
+    /// are then those of at least one byte. Otherwise no more is read: the drive is too long or has ended, a line is
+    /// bad, or the read failed. `runs` then has the runs of the last good lines.
     ///
     /// A drive has at most 2^40 bytes, and each of its lines ends in LF; both are this project's own.
     pub fn next<F: Files>(
@@ -96,14 +96,14 @@ impl Source {
         self.feed(runs)
     }
 
-    /// Whether nothing that was taken is ahead.
+    /// Whether no byte that was taken is ahead.
     pub(crate) fn is_through(&self) -> bool
         ensures { IsTrue result ↔ (self.now.ahead ≡ []) }
     {
         part(&self.piece, self.from, self.to).is_empty()
     }
 
-    /// Reads the next piece, where nothing is ahead.
+    /// Reads the next piece, if nothing is ahead.
     fn fill<F: Files>(&mut self, files: &mut F, word: usize) -> Option<Stop>
         ensures filled { result ≡ None → Fills F.tells self.old self.new (F.rest files.old word)
             (F.rest files.new word) }
@@ -120,7 +120,7 @@ impl Source {
         self.read_piece(files, word)
     }
 
-    /// Reads the next piece, by one read. Where it stops, no bytes were taken.
+    /// Reads the next piece, by one read. If it stops, it took no bytes.
     pub(crate) fn read_piece<F: Files>(&mut self, files: &mut F, word: usize) -> Option<Stop>
         requires none { self.old.ahead ≡ [] }
         ensures filled { result ≡ None → Fills F.tells self.old self.new (F.rest files.old word)
@@ -150,7 +150,7 @@ impl Source {
         }
     }
 
-    /// How a drive ends that ends here.
+    /// How a drive ends if no byte follows.
     fn end(&self) -> Stop
         ensures whole { result ≡ Stop.Whole → (given : List ℕ) → HasTaken self.now.reading given
             → bad_at_end given ≡ None }

@@ -23,25 +23,23 @@ use std::sync::ledger::Ledger;
 use tariff_compile::Tables;
 use taxi_units::{Event, Steps};
 
-/// Reads the drive of a word to its end, in pieces of at most 512 bytes, and carries out the events of each piece on
-/// the board before it reads the next one, under tables that were compiled with the constant of a seal in its ranges.
-/// Displays, refusals and receipts are printed; entries and held trips are committed to the pair of totals; and an
-/// `Up` while the meter is off scans that pair, and goes on from what it finds. At most 64 steps for each event of the
-/// bytes that were taken, and for the supply drop at the end, if the supply is there then. It takes no memory itself;
-/// the devices may.
+/// Carries out the drive of a word on the store, under tables that were compiled with the constant of a seal in its
+/// ranges. It reads pieces of at most 512 bytes, and carries out the events of each before it reads the next one.
+/// Displays, refusals and receipts are printed; entries and held trips are committed to the pair of totals. If the
+/// meter is off, an `Up` scans that pair, and goes on from what it finds. At most 64 steps for each event of the bytes
+/// that were taken, and 64 for the supply drop at the end, if the supply is there then. It takes no memory itself; the
+/// devices may.
 ///
-/// `BadDrive` with the first line that is no line of a drive; `TooLong` where 2^40 bytes were taken, none
-/// of their lines is bad, and the end wasn't told; `ReadFault` only where the count of faults of the word
-/// rose; `BoardFault` only where the board's did, so a drive without a bad line and without a fault ends in
-/// `Ok`. At the drive's end and before each of these but `BoardFault` the supply drops, where the meter is
-/// powered; where the board fails in that, the answer is `BoardFault`, and after a fault of the board
-/// nothing more is done.
+/// `BadDrive` with the first line that is no line of a drive. `TooLong` if 2^40 bytes were taken, none of their lines
+/// is bad, and the end wasn't told. `ReadFault` only if the count of faults of the word rose; `BoardFault` only if the
+/// board's did. So a drive without a bad line and without a fault ends in `Ok`. At the drive's end and before each of
+/// these but `BoardFault` the supply drops, if the meter is powered; if the board fails in that, the answer is
+/// `BoardFault`. After a fault of the board nothing more is done.
 ///
-/// It asks nothing of the board. Where the board tells its image, and opens with a durable state whose held
-/// trip fits, all that the run does was done at each answer but `BoardFault`, and a part of it there; and a
-/// cut of the power at any moment leaves a point of it. A board that tells nothing may answer a scan by
-/// anything: where that is no durable state, or one whose held trip doesn't fit, the meter stays off. All of
-/// this is this project's own.
+/// It asks nothing of the board. If the board tells its image, and opens with a durable state whose held trip fits, all
+/// that the run does was done at each answer but `BoardFault`, and a part of it there. A cut of the power at any moment
+/// leaves a point of it. A board that tells nothing may answer a scan by anything: if that is no durable state, or one
+/// whose held trip doesn't fit, the meter stays off. All of this is this project's own.
 pub fn run_events<F: Files, B: Board<STORE_SIZE, L>, L: Ledger>(
     tables: &Tables,
     seal: &Seal,
@@ -79,7 +77,7 @@ pub fn run_events<F: Files, B: Board<STORE_SIZE, L>, L: Ledger>(
     }
 }
 
-/// The supply drops, where the meter is powered. At most 64 steps, and none where it is off.
+/// The supply drops if the meter is powered. At most 64 steps, and none if it is off.
 fn drop_at_end<B: Board<STORE_SIZE, L>, L: Ledger>(
     meter: &mut StoreMeter,
     tables: &Tables,

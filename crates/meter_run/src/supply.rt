@@ -13,7 +13,7 @@ pub(crate) fn is_off(core: &Core) -> bool
     matches!(core.operating(), Operating::Off)
 }
 
-/// The second at which the supply comes, if an event is its coming and finds the meter off. This is asked here alone:
+/// The second at which the supply comes, if an event is its coming and finds the meter off. Only this call asks it:
 /// behind it an `Up` is one event of a powered meter among others.
 #[inline(always)]
 pub(crate) fn supply_at(core: &Core, event: Event) -> Option<u64>
@@ -26,7 +26,7 @@ pub(crate) fn supply_at(core: &Core, event: Event) -> Option<u64>
     }
 }
 
-/// A second, where the meter is off.
+/// A second, if the meter is off.
 fn at_off(core: &Core, second: u64) -> Option<u64>
     ensures is { IfSome result (λ at. (at ≡ second) × (core.now.plain.operating ≡ Off)) }
     ensures none { result ≡ None → core.now.plain.operating ≢ Off }

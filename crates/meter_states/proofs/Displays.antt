@@ -18,7 +18,7 @@ shown_already : (old : Option Display) (new : Display) → is_shown old new ≡ 
 shown_already (Some old) new same = ap Some ((displays_are_compared_by_their_fields-same old new).0 same)
 shown_already None new same = absurd (cc)
 
--- a core shows the display of its state where another was shown last
+-- a core shows the display of its state if another was shown last
 pub shown_anew : (s : Setting) (m : Meter) (core : CoreData) (display : Display) (before acts : List Act)
     → core ≡ core_of s m → display ≡ display_of s m → is_shown core.shown display ≡ false
     → acts ≡ before ++ Show display ∷ []
@@ -32,7 +32,7 @@ shown_anew s m core display before acts stands is other pushed =
       done = rw last (pushed ∙ ap (λ (d : Display). before ++ Show d ∷ []) is);
     }
 
--- and stays where the same was
+-- and stays if the same was
 pub shown_still : (s : Setting) (m : Meter) (core : CoreData) (display : Display) (acts : List Act)
     → core ≡ core_of s m → display ≡ display_of s m → is_shown core.shown display ≡ true
     → ComesToOutcome s core acts acts (shown s m)
@@ -45,7 +45,7 @@ shown_still s m core display acts stands is same =
       done = rw last (sym (append-nil acts));
     }
 
--- the display of a core is shown where it is the one that was shown last
+-- the display of a core is shown if it is the one that was shown last
 pub shown_last : (tables : TableParts) (core : CoreData) (display : Display) → display ≡ display_by tables core
     → (is_shown core.shown display ≡ true) ↔ (core.shown ≡ Some (display_by tables core))
 shown_last tables core display is = (

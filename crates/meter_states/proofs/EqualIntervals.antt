@@ -339,7 +339,7 @@ spare-after : (rounding : Rounding) (modulus q n : ℕ) (m : Meterage) → m.res
 spare-after Behind modulus q n m below spare = omega (arith, below, spare)
 spare-after Ahead modulus q n m below spare = grind (arith, common_steps)
 
--- what is true of the intervals so far where one more may be charged at once behind them
+-- what is true of the intervals so far if one more may be charged at once behind them
 record OneMore (tables : TableParts) (p q n : ℕ) (t : CoreTrip) (lasting : Lasting) : Type 0 where
   pub short : t.ticks + n + 1 < longest_trip
   pub further : (n + 1) * p ≤ lasting.further
@@ -418,7 +418,7 @@ pub pulses-few : {p : TableParts} {number : ℕ} {t : CoreTrip} → IsTripBeside
     → number ≤ 2000000000000001 → t.pulses ≤ 5000000000000000000
 pulses-few beside few = omega (arith, beside.pulses, beside.range.ticks, few)
 
--- a core stops at the count, or where no further interval may go in its operating position
+-- a core stops at the count, or if no further interval may go in its operating position
 pub full-in : (tables : TableParts) (seal : Seal) (cache : Cache) (p : ℕ) (core : CoreData) (o : Operating)
     (taken count : ℕ) (Stop : Type 0) → core.operating ≡ o
     → (Stop → MayGoIn tables seal cache p core o → ⊥) → (taken ≡ count) ⊎ Stop → (taken ≡ count)

@@ -27,7 +27,7 @@ use Rattle.meter_states.proofs.Outcomes.{quiet-follows}
 use Rattle.meter_states.proofs.Powered.{between-amid, powered-unlatched}
 use Rattle.meter_states.proofs.Pushes.{few-more, few-none, lawful-more}
 
--- a key comes to what it does
+-- a key does what its act does
 follows-act : (s : Setting) (m : Meter) (old new : CoreData) (before acts : List Act) (key : Key) (act : KeyAct)
     → act ≡ act_of key old.operating → old ≡ core_of s m → ComesToOutcome s new before acts (act_done s act m)
     → ComesToOutcome s new before acts (key_in s key m.operating m)
@@ -65,7 +65,7 @@ closes-act {p} {seal} {inside} {old} {new} {before} {acts} key act view is done 
       follows = λ s m setting e. follows-act s m old new before acts key act here e (done.follows s m setting e);
     }
 
--- a powered meter has a trip where one runs in its operating position
+-- a powered meter has a trip if one runs in its operating position
 pub trip-there : (operating : Operating) (trip : Option CoreTrip) → is_busy operating ≡ true → HasTrip operating trip
     → trip ≢ None
 trip-there Off trip busy has = absurd has

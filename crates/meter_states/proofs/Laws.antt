@@ -16,6 +16,7 @@ use Rattle.meter_model.specs.Step.{step}
 use Rattle.meter_states.proofs.HeldFits.{fits-setting}
 use Rattle.meter_model.proofs.Laws.{kept-run, run-append}
 use Rattle.meter_states.proofs.Stages.{commits-step, commits-whole}
+pub use Rattle.meter_states.proofs.MadeOf.{made_by}
 pub use Rattle.meter_model.proofs.Laws.{the_store_keeps_the_trip-begins, the_store_keeps_the_trip-step}
 
 pub receipts_follow_their_entries-run : (s : Setting) (durable : Durable) (events : List Event)

@@ -99,7 +99,7 @@ pub quiet-follows : (s : Setting) (core : CoreData) (acts : List Act) (m : Meter
     → ComesToOutcome s core acts acts (quiet m)
 quiet-follows s core acts m e = record { state = e; done = sym (append-nil acts) }
 
--- where the roaming pulses are none the number doesn't matter
+-- if the roaming pulses are none, the number doesn't matter
 pub same-or : (L : Type 0) (a b n r : ℕ) → (L × (a ≡ b)) ⊎ (r ≡ 0) → b ≡ n → (a ≡ n) ⊎ (r ≡ 0)
 same-or L a b n r (inl x) e = inl (x.1 ∙ e)
 same-or L a b n r (inr y) e = inr y

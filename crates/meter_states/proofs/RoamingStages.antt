@@ -1,4 +1,4 @@
--- What the check of the roaming pulses does where they are many.
+-- What the check of the roaming pulses does if they are many.
 use Rattle.std.proofs.Common.{◌≡◌, ℕ, ◌+◌, ◌<◌, ◌≤◌, ◌⊎◌, List, sum, inl, inr, ap, subst, ◌∙◌, arith}
 use Rattle.std.proofs.lemmas.Grind.{common_steps}
 use Rattle.tariff_compile.specs.Tables.{TableParts}

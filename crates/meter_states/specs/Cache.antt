@@ -20,12 +20,12 @@ pub record CachedCore : Type 0 where
   pub plain : CoreData
   pub cache : Cache
 
--- a second has this local time, by the sealed offsets
+-- the local time of a second is that by the sealed offsets
 abbrev pub sealed_time : Seal → (second : ℕ) → LocalTime
 sealed_time seal second = local_time_of (local_second seal.params.offsets second)
 
--- a cached time is that of its second where it has the weekday, the place in the year, the minute and the holiday of
--- the second's local time
+-- a cached time is that of its second if it has the weekday, the place in the year, the minute and the holiday of the
+-- second's local time
 pub record IsCachedTimeOf (tables : TableParts) (seal : Seal) (local : CachedTime) : Type 0 where
   pub weekday : local.weekday ≡ (sealed_time seal local.second).weekday
   pub month_day : local.month_day ≡ (sealed_time seal local.second).month_day
@@ -37,14 +37,14 @@ pub record IsCachedTimeOf (tables : TableParts) (seal : Seal) (local : CachedTim
   pub minutes : local.minute ≤ 1439
   pub holidays : local.holiday ≡ true → has_days tables.cuts ≡ true
 
--- a cached rate lasts where its weights are those of each context that is near its first one, and are fit
+-- a cached rate lasts if its weights are those of each context that is near its first one, and are fit
 pub record IsCachedRateOf (tables : TableParts) (rate : CachedRate) : Type 0 where
   pub near : (t : Tree) (x : Context) → IsTablesOf t tables → IsInRangeFor tables x
       → IsNear rate.lasting.further rate.lasting.longer rate.first x
       → rate.lasting.weights ≡ rate_by t tables.constant x
   pub fit : AreFit tables.measure rate.lasting.weights
 
--- a cache is one of tables and a seal where the time is one of both, if there is one, and the rate one of the tables
+-- a cache is one of tables and a seal if its time, if any, is one of both, and its rate, if any, one of the tables
 pub record IsCacheOf (tables : TableParts) (seal : Seal) (cache : Cache) : Type 0 where
   pub local : ForSome cache.local (IsCachedTimeOf tables seal)
   pub rate : ForSome cache.rate (IsCachedRateOf tables)

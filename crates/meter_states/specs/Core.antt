@@ -25,7 +25,7 @@ pub record CoreData : Type 0 where
   pub shown : Option Display
   pub trip : Option CoreTrip
 
--- the core of a state of the meter counts the pulses of its running interval and of its roaming, and has what a core
+-- the core of a state of the meter counts the pulses of its running interval and of its roaming; it has what a core
 -- keeps of its trip, the number of its store, and all else as the state has it
 abbrev pub core_of : Setting → Meter → CoreData
 core_of s m = record {
@@ -42,17 +42,17 @@ core_of s m = record {
   trip = option_map (core_trip_of s) m.trip;
 }
 
--- a core stands for a state where both are off, or neither is and the core is the state's
+-- a core stands for a state if both are off, or neither is and the core is the state's
 abbrev pub Stands : Setting → CoreData → Meter → Type 0
 Stands s core m = (core.operating ≡ Off) × (m.operating ≡ Off) ⊎ (m.operating ≢ Off) × (core ≡ core_of s m)
 
--- a powered core follows an outcome of a part of an event where it is the core of the outcome's state, and the
--- outcome's acts were appended
+-- a powered core follows an outcome of a part of an event if it is the core of the outcome's state, and the outcome's
+-- acts were appended
 pub record ComesToOutcome (s : Setting) (core : CoreData) (before acts : List Act) (o : Outcome) : Type 0 where
   pub state : core ≡ core_of s o.next
   pub done : acts ≡ before ++ o.acts
 
--- a core and acts meet an outcome where the core stands for the outcome's state and the acts are the outcome's
+-- a core and acts meet an outcome if the core stands for the outcome's state and the acts are the outcome's
 pub record Meets (s : Setting) (core : CoreData) (acts : List Act) (o : Outcome) : Type 0 where
   pub state : Stands s core o.next
   pub done : acts ≡ o.acts

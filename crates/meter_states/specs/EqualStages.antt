@@ -13,14 +13,14 @@ use Rattle.meter_states.specs.Stages.{FollowsStage}
 use Rattle.meter_states.specs.declared.cache.CachedRate.{CachedRate}
 use Rattle.meter_model.specs.declared.core_trip.CoreTrip.{CoreTrip}
 
--- a core has taken `taken` of `count` equal intervals where these are at most as many, it is between two events then,
--- and its operating position and the store's number are the same
+-- a core has taken `taken` of `count` equal intervals if these are at most as many, it is between two events then, and
+-- its operating position and the store's number are the same
 pub record HasTaken (tables : TableParts) (count : ℕ) (old new : CoreData) (taken : ℕ) : Type 0 where
   pub lawful : IsBetweenEvents tables new
   pub most : taken ≤ count
   pub same : (new.operating ≡ old.operating) × (new.number ≡ old.number)
 
--- a core follows `count` equal intervals of p pulses under tables and a seal where it follows their events and does
+-- a core follows `count` equal intervals of p pulses under tables and a seal if it follows their events and does
 -- nothing
 abbrev pub FollowsIntervals : TableParts → Seal → (old new : CoreData) → (p count : ℕ) → Type 0
 FollowsIntervals tables seal old new p count =
@@ -32,7 +32,7 @@ pub record LastsFrom (rate : CachedRate) (pulses ticks : ℕ) (lasting : Lasting
   pub further : pulses + lasting.further ≡ rate.first.pulses + rate.lasting.further
   pub longer : ticks + lasting.longer ≡ rate.first.ticks + rate.lasting.longer
 
--- a trip has passed `count` further intervals of p pulses that are free where its pulses and ticks have grown by theirs
+-- a trip has passed `count` further intervals of p pulses that are free if its pulses and ticks have grown by theirs
 abbrev pub passed : (p count : ℕ) → CoreTrip → CoreTrip
 passed p count t = record t { pulses = t.pulses + count * p; ticks = t.ticks + count }
 

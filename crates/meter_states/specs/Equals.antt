@@ -56,15 +56,15 @@ display_by tables c = record {
   decimals = tables.decimals;
 }
 
--- a core is still where its interval began at the clock's second and has no pulses yet, no key waits, and its display
--- was shown last
+-- a core is still if its interval began at the clock's second and has no pulses yet, no key waits, and its display was
+-- shown last
 pub record IsStill (tables : TableParts) (c : CoreData) : Type 0 where
   pub latch : c.latch ≡ None
   pub gate : c.gate ≡ 0
   pub began : c.began ≡ c.clock
   pub shown : c.shown ≡ Some (display_by tables c)
 
--- an interval of p pulses adds this many roaming pulses, where the store has a number: none where it takes no hiring
+-- an interval of p pulses adds this many roaming pulses at a number of the store: none if the store takes no hiring
 abbrev pub roams : (number p : ℕ) → ℕ
 roams number p = if nat_lt number hirings_end then p else 0
 
@@ -88,8 +88,8 @@ context_by tables local c t = record {
   ticks = t.ticks;
 }
 
--- a cache serves for the running interval of a core with a trip where it has a local time and a rate, the local time is
--- that of the second at which the interval began, and the interval's context is near the rate's own
+-- a cache serves for the running interval of a core with a trip if it has the local time of the second at which the
+-- interval began; it has a rate, and the interval's context is near the rate's own
 pub record Serves (tables : TableParts) (cache : Cache) (c : CoreData) (t : CoreTrip) : Type 0 where
   pub local : CachedTime
   pub rate : CachedRate
@@ -98,14 +98,14 @@ pub record Serves (tables : TableParts) (cache : Cache) (c : CoreData) (t : Core
   pub second : local.second ≡ c.began
   pub near : IsNear rate.lasting.further rate.lasting.longer rate.first (context_by tables local c t)
 
--- a trip outlasts an interval more where the interval isn't its last, with which it has the ticks of the longest trip
+-- a trip outlasts an interval more if the interval isn't its last, with which it has the ticks of the longest trip
 pub record Outlasts (c : CoreData) : Type 0 where
   pub trip : CoreTrip
   pub has : c.trip ≡ Some trip
   pub short : trip.ticks + 1 < longest_trip
 
--- an interval of p pulses may be charged at once where the trip outlasts it, the cache serves for it and, by the pulses
--- and ticks of its rate, for the one behind it, and its charge moves the fare on by no display step
+-- an interval of p pulses may be charged at once if the trip outlasts it, its charge moves the fare on by no display
+-- step, and the cache serves for it; by the pulses and ticks of its rate it serves for the next one, too
 pub record MayBeCharged (tables : TableParts) (seal : Seal) (cache : Cache) (p : ℕ) (c : CoreData) : Type 0 where
   pub outlasts : Outlasts c
   pub serve : Serves tables cache c outlasts.trip
@@ -114,16 +114,16 @@ pub record MayBeCharged (tables : TableParts) (seal : Seal) (cache : Cache) (p :
   pub spare : charge_of seal.params.mode serve.rate.lasting.weights p
       ≤ spare_of tables.rounding (tables.step * tables.measure) outlasts.trip.meterage
 
--- an interval of p pulses may go at once in an operating position: in For Hire where no roaming is entered behind it,
--- in Hired where it may be charged at once, and in Stopped where the trip outlasts it
+-- an interval of p pulses may go at once in For Hire if no roaming is entered behind it, in Hired if it may be charged
+-- at once, and in Stopped if the trip outlasts it
 abbrev pub MayGoIn : TableParts → Seal → Cache → (p : ℕ) → CoreData → Operating → Type 0
 MayGoIn tables seal cache p c Off = ⊥
 MayGoIn tables seal cache p c ForHire = c.roam + roams c.number p < roaming_most
 MayGoIn tables seal cache p c Hired = MayBeCharged tables seal cache p c
 MayGoIn tables seal cache p c Stopped = Outlasts c
 
--- an interval of p pulses may go at once at a core that is still, where it has at most 2,000 pulses and may go at once
--- in the core's operating position
+-- an interval of p pulses may go at once at a core that is still, if it has at most 2,000 pulses and may go at once in
+-- the core's operating position
 pub record MayGo (tables : TableParts) (seal : Seal) (cache : Cache) (p : ℕ) (c : CoreData) : Type 0 where
   pub pulses : p ≤ 2000
   pub still : IsStill tables c

@@ -7,8 +7,8 @@ use Rattle.totals_record.specs.declared.trip.Trip.{Trip}
 use Rattle.meter_model.specs.Supplements.{allowed_test, amounts_from}
 use Rattle.meter_states.specs.Supplements.{supplement_in}
 
--- the tests of a saved trip under tables are that its position and zone are among the tariff's, that what was charged
--- fits the display step and the cover, and that its supplements are ones that the tariff allows, with their amounts
+-- the tests of a saved trip under tables: its position and zone are among the tariff's, what was charged fits the
+-- display step and the cover, and its supplements are ones that the tariff allows, with their amounts
 abbrev pub fit_tests : TableParts → Trip → Test
 fit_tests tables trip =
     within 1 trip.position tables.positions
@@ -22,6 +22,6 @@ fit_tests tables trip =
 pub record Fits (tables : TableParts) (trip : Trip) : Type 0 where
   pub all : (fit_tests tables trip).Fact
 
--- whether a saved trip fits the tables
+-- the test whether a saved trip fits the tables
 abbrev pub fits_test : TableParts → Trip → Test
 fits_test tables trip = stated (Fits tables trip) (fit_tests tables trip) (λ all. record { all = all }) (λ is. is.all)

@@ -5,6 +5,7 @@ pub mod EqualStages
 pub mod Equals
 pub mod Fits
 pub mod Lawful
+pub mod MadeOf
 pub mod Pairs
 pub mod Refusals
 pub mod Setting

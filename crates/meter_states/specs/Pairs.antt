@@ -9,7 +9,7 @@ use Rattle.totals_record.specs.declared.entry.Entry.{Entry}
 use Rattle.meter_model.specs.declared.act.Act.{Act}
 use Rattle.meter_model.specs.declared.act.Act.TheVariants.{Enter, Hold, Receipt}
 
--- a receipt is that of an entry where it has the entry's kind, position, distance, fare and supplements
+-- a receipt is that of an entry if it has the entry's kind, position, distance, fare and supplements
 pub record IsReceiptOf (entry : Entry) (receipt : receipts.Receipt) : Type 0 where
   pub kind : receipt.kind ≡ entry.kind
   pub position : receipt.position ≡ entry.position
@@ -17,12 +17,12 @@ pub record IsReceiptOf (entry : Entry) (receipt : receipts.Receipt) : Type 0 whe
   pub fare : receipt.fare ≡ entry.fare
   pub supplements : receipt.supplements ≡ entry.supplements
 
--- an entry of a kind waits for its receipt where it is one of a hiring
+-- an entry of a kind waits for its receipt if it is one of a hiring
 abbrev pub waiting_after : Kind → Entry → Option Entry
 waiting_after Roam entry = None
 waiting_after kind entry = Some entry
 
--- acts are paired where each entry of a hiring stands directly before its receipt, and each receipt directly behind its
+-- acts are paired if each entry of a hiring stands directly before its receipt, and each receipt directly behind its
 -- entry, with the number that the store has then; `number` is the store's before the acts, and `waiting` is the entry
 -- directly before them whose receipt is still to come
 abbrev pub ArePaired : (number : ℕ) → (waiting : Option Entry) → List Act → Type 0

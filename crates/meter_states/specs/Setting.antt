@@ -6,15 +6,15 @@ use Rattle.tariff_compile.specs.Tables.{TableParts, IsTablesOf}
 use Rattle.tariff_syntax.specs.Tree.{Tree}
 use Rattle.meter_model.specs.Setting.{Setting, IsSealOf}
 
--- tables are those of a setting where they are compiled, under its constant, from a tariff with the setting's parts
+-- tables are those of a setting if they are compiled, under its constant, from a tariff with the setting's parts
 pub record IsTariffOf (s : Setting) (tables : TableParts) : Type 0 where
   pub tree : Tree
   pub compiled : IsTablesOf tree tables
   pub parts : s.tariff ≡ sound_of tree
   pub constant : tables.constant ≡ s.constant
 
--- tables and a seal are those of a setting where the tables are compiled from its tariff under its constant, and the
--- seal secures its constant, mode, hold and offsets
+-- tables and a seal are those of a setting if the tables are compiled from its tariff under its constant, and the seal
+-- secures its constant, mode, hold and offsets
 pub record IsSettingOf (s : Setting) (tables : TableParts) (seal : Seal) : Type 0 where
   pub tariff : IsTariffOf s tables
   pub secured : IsSealOf s seal

@@ -28,26 +28,26 @@ use Rattle.meter_model.specs.declared.core_trip.CoreTrip.{CoreTrip}
 abbrev pub Stage : Type 0
 Stage = Setting → Meter → Outcome
 
--- a core follows a stage under tables and a seal where it follows the stage's outcome under each setting of theirs and
+-- a core follows a stage under tables and a seal if it follows the stage's outcome under each setting of theirs and
 -- from each state whose core it was before
 abbrev pub FollowsStage : TableParts → Seal → (old new : CoreData) → (before acts : List Act) → Stage → Type 0
 FollowsStage tables seal old new before acts stage =
     (s : Setting) (m : Meter) → IsSettingOf s tables seal → old ≡ core_of s m
     → ComesToOutcome s new before acts (stage s m)
 
--- a core carries out a stage where the acts stay lawful, and it follows the stage
+-- a core carries out a stage if the acts stay lawful, and it follows the stage
 pub record CarriesStage (tables : TableParts) (seal : Seal) (old new : CoreData) (before acts : List Act)
     (stage : Stage) : Type 0 where
   pub ranges : StayLawful tables old.number before acts
   pub follows : FollowsStage tables seal old new before acts stage
 
--- a core is ready for a key where it is amid an event in which nothing has been done yet
+-- a core is ready for a key if it is amid an event in which nothing has been done yet
 pub record IsReadyForKey (tables : TableParts) (core : CoreData) (acts : List Act) : Type 0 where
   pub lawful : IsAmidEvent tables core
   pub room : acts ≡ []
 
--- a core follows a stage and commits nothing where it is amid the event then, has done at most one act, keeps the
--- store's number, and the acts stay lawful
+-- a core follows a stage and commits nothing if it is amid the event then, has done at most one act, keeps the store's
+-- number, and the acts stay lawful
 pub record CommitsNothing (tables : TableParts) (seal : Seal) (old new : CoreData) (before acts : List Act)
     (stage : Stage) : Type 0 where
   pub lawful : IsAmidEvent tables new
@@ -56,8 +56,8 @@ pub record CommitsNothing (tables : TableParts) (seal : Seal) (old new : CoreDat
   pub ranges : StayLawful tables old.number before acts
   pub follows : FollowsStage tables seal old new before acts stage
 
--- a core follows a stage that may close the trip where it is amid the event then, has done at most `most` acts, either
--- has done at most one act and keeps the store's number or has no roaming pulses left, and the acts stay lawful
+-- a core follows a stage that may close the trip if it is amid the event then, has done at most `most` acts, and the
+-- acts stay lawful; it has done at most one act and keeps the store's number, or has no roaming pulses left
 pub record MayClose (tables : TableParts) (seal : Seal) (most : ℕ) (old new : CoreData) (before acts : List Act)
     (stage : Stage) : Type 0 where
   pub lawful : IsAmidEvent tables new
@@ -66,7 +66,7 @@ pub record MayClose (tables : TableParts) (seal : Seal) (most : ℕ) (old new : 
   pub ranges : StayLawful tables old.number before acts
   pub follows : FollowsStage tables seal old new before acts stage
 
--- a core follows a stage that closes the trip where it is between two events then, has done at most `most` acts, has no
+-- a core follows a stage that closes the trip if it is between two events then, has done at most `most` acts, has no
 -- roaming pulses left, and the acts stay lawful
 pub record ClosesTrip (tables : TableParts) (seal : Seal) (most : ℕ) (old new : CoreData) (before acts : List Act)
     (stage : Stage) : Type 0 where
@@ -86,20 +86,20 @@ IsDoneIn operating act = Unit {0}
 
 -- ---- a trip that is closed
 
--- a closing is one of a trip where its kind is another than roaming, and it is at a second
+-- a closing is one of a trip if its kind is another than roaming, and it is at a second
 pub record IsTripClosing (closing : Closing) : Type 0 where
   pub kind : closing.kind ≢ Roam
   pub finish : IsSecond closing.finish
 
--- a core may enter a trip where it has room for an entry, the trip is in range beside the number after it, and the
+-- a core may enter a trip if it has room for an entry, the trip is in range beside the number after it, and the
 -- position is 1 to 9
 pub record MayEnter (tables : TableParts) (core : CoreData) (trip : CoreTrip) : Type 0 where
   pub range : IsTripBeside tables (core.number + 1) longest_trip trip
   pub number : core.number ≤ last_number
   pub position : (1 ≤ core.position) × (core.position ≤ 9)
 
--- a core has entered a trip where the trip is in range beside its number, which counts the entry, and the position is 1
--- to 9
+-- a core has entered a trip if the trip is in range beside its number, which counts the entry, and the position is 1 to
+-- 9
 pub record HasEntered (tables : TableParts) (core : CoreData) (trip : CoreTrip) : Type 0 where
   pub range : IsTripBeside tables core.number longest_trip trip
   pub number : (1 ≤ core.number) × (core.number ≤ number_most)
@@ -107,20 +107,19 @@ pub record HasEntered (tables : TableParts) (core : CoreData) (trip : CoreTrip) 
 
 -- ---- a held trip
 
--- a core has been powered where it is between two events, has no roaming pulses and no trip, and nothing has been done
--- yet
+-- a core has been powered if it is between two events, has no roaming pulses and no trip, and nothing has been done yet
 pub record IsNewlyPowered (tables : TableParts) (core : CoreData) (acts : List Act) : Type 0 where
   pub lawful : IsBetweenEvents tables core
   pub new : (core.roam ≡ 0) × (core.trip ≡ None)
   pub room : acts ≡ []
 
--- a held trip may be taken at a store's number where it is one of the store, and fits the tables
+-- a held trip may be taken at a store's number if it is one of the store, and fits the tables
 pub record MayBeTaken (tables : TableParts) (number : ℕ) (held : Trip) : Type 0 where
   pub range : IsHeld number held
   pub fits : Fits tables held
 
--- a core takes what the store holds by a stage where the acts stay lawful, and it follows the stage from each state of
--- which it was the core but for the trip, and of whose trip the held one is the saved form
+-- a core takes what the store holds by a stage if the acts stay lawful; it follows the stage from each state whose core
+-- it was but for the trip, and of whose trip the held one is the saved form
 pub record TakesHold (tables : TableParts) (seal : Seal) (old new : CoreData) (before acts : List Act)
     (hold : Option Trip) (stage : Stage) : Type 0 where
   pub ranges : StayLawful tables old.number before acts

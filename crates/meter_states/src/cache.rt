@@ -85,7 +85,7 @@ fn is_near(rate: &CachedRate, x: &Context) -> bool
         && first.zone == x.zone
 }
 
-/// The weights of this rate, and how far they last from a context that they hold for.
+/// The weights of this rate, and how far they last from a context for which they hold.
 fn lasting_from(rate: &CachedRate, x: &Context) -> Lasting
     requires { IsNear rate.now.lasting.further rate.now.lasting.longer rate.now.first x.now }
     ensures weights { result.weights ≡ rate.now.lasting.weights }
@@ -111,7 +111,7 @@ impl Cache {
         }
     }
 
-    /// The local time of a second, where it is kept.
+    /// The local time of a second, if it is kept.
     pub(crate) fn cached_local(&self, second: u64) -> Option<CachedTime>
         ensures second { IfSome result (λ local. local.second ≡ second) }
         ensures kept { IfSome result (λ local. self.now.local ≡ Some local) }
@@ -123,8 +123,7 @@ impl Cache {
         }
     }
 
-    /// The weights of a context, and for how many further pulses and ticks they are the same, where that is
-    /// kept.
+    /// The weights of a context, and for how many more pulses and ticks they are the same, if that is kept.
     pub(crate) fn cached_rate(&self, x: &Context) -> Option<Lasting>
         ensures fit { IfSome result (λ lasting. (tables : TableParts) → ForSome self.now.rate (IsCachedRateOf tables)
             → AreFit tables.measure lasting.weights) }

@@ -1,4 +1,4 @@
-//! Entries: of a trip that is closed, with its receipt directly behind, and of roaming.
+//! Entries of roaming, and of closed trips with their receipts directly behind.
 ghost use Rattle.std.specs.Prelude.{◌≡◌, ◌≢◌, ◌⊎◌, ◌<◌, ◌≤◌, ◌+◌, ℕ, All, None, Some, length};
 ghost use Rattle.seal_record.specs.declared.seal.Seal.{Seal};
 ghost use Rattle.taxi_units.specs.Time.{last_tick, longest_trip};
@@ -25,7 +25,7 @@ use tariff_compile::Tables;
 use taxi_units::{Kind, Operating, ROAMING_MOST, Steps};
 
 impl State {
-    /// The trip is closed, and the meter is for hire. At most 12 steps.
+    /// Closes the trip; the meter is then for hire. At most 12 steps.
     pub(crate) fn close<L: Ledger>(
         &mut self,
         closing: Closing,
@@ -52,7 +52,7 @@ impl State {
         }
     }
 
-    /// A trip is entered, and directly behind it the receipt is printed. At most 12 steps.
+    /// Enters a trip, and prints its receipt directly behind. At most 12 steps.
     pub(crate) fn close_trip<L: Ledger>(
         &mut self,
         closing: Closing,
@@ -78,7 +78,7 @@ impl State {
         self.print_receipt(closing, trip, tables, seal, acts, steps);
     }
 
-    /// A trip is entered.
+    /// Enters a trip.
     fn enter_trip(&mut self, kind: Kind, trip: &CoreTrip, tables: &Tables, acts: &mut Acts)
         requires trip { MayEnter tables.now self.old trip.now }
         requires kind { kind ≢ Roam }
@@ -94,7 +94,7 @@ impl State {
         self.number += 1;
     }
 
-    /// The receipt of a trip is printed. At most 12 steps.
+    /// Prints the receipt of a trip. At most 12 steps.
     fn print_receipt<L: Ledger>(
         &self,
         closing: Closing,
@@ -127,7 +127,7 @@ impl State {
         )));
     }
 
-    /// Roaming pulses are entered for hire where they are many.
+    /// Enters the roaming pulses for hire if they are many.
     pub(crate) fn check_roaming(&mut self, tables: &Tables, acts: &mut Acts)
         requires lawful { IsAmidEvent tables.now self.old }
         requires room { (length acts.old.items ≤ 1) ⊎ ((length acts.old.items ≤ 3) × (self.old.roam ≡ 0)) }
@@ -144,7 +144,7 @@ impl State {
         }
     }
 
-    /// Roaming pulses are entered, and are then none.
+    /// Enters the roaming pulses, of which there are none then.
     #[inline(never)]
     pub(crate) fn enter_roaming(&mut self, tables: &Tables, acts: &mut Acts)
         requires lawful { IsPowered tables.now last_tick roaming_amid 1 self.old }

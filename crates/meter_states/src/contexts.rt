@@ -24,7 +24,7 @@ use tariff_syntax::Context;
 use taxi_units::Steps;
 
 impl State {
-    /// What the running interval weighs, by the cache where it serves. At most 36 steps.
+    /// What the running interval weighs, by the cache if it serves. At most 36 steps.
     pub(crate) fn weights<L: Ledger>(
         &self,
         cache: &mut Cache,

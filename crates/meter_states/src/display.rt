@@ -20,7 +20,7 @@ use tariff_compile::Tables;
 use taxi_units::Display;
 
 impl State {
-    /// The display is shown where it differs from the one that was shown last.
+    /// Shows the display if it differs from the one that was shown last.
     #[inline(always)]
     pub(crate) fn show(&mut self, tables: &Tables, acts: &mut Acts)
         requires lawful { IsBetweenEvents tables.now self.old }

@@ -12,7 +12,7 @@ use meter_model::CoreTrip;
 use tariff_compile::Tables;
 use taxi_units::HIRINGS_END;
 
-/// What an interval of `pulses` pulses adds to the roaming pulses, where the store has a number.
+/// What an interval of `pulses` pulses adds to the roaming pulses at a number of the store.
 pub(crate) fn roams(number: u64, pulses: u32) -> u32
     ensures value { result ≡ model.roams number pulses }
     ensures most { result ≤ pulses }
@@ -20,7 +20,7 @@ pub(crate) fn roams(number: u64, pulses: u32) -> u32
     if number < HIRINGS_END { pulses } else { 0 }
 }
 
-/// As many of `count` as fit in `room`, where each takes `each` of it.
+/// How many of `count` fit in `room`, if each takes `each` of it.
 pub(crate) fn most_times(count: u32, room: u128, each: u128) -> u32
     ensures most { result ≤ count }
     ensures room { result * each ≤ room }
@@ -32,7 +32,7 @@ pub(crate) fn most_times(count: u32, room: u128, each: u128) -> u32
     (room / each).min(count as u128) as u32
 }
 
-/// The charges that show no further display step of a trip.
+/// The charges that a trip takes without a further display step.
 pub(crate) fn spare(trip: &CoreTrip, tables: &Tables) -> u128
     requires range { IsLawfulTrip tables.now last_tick trip.now }
     ensures value { result ≡ model.spare_of tables.now.rounding (tables.now.step * tables.now.measure)
@@ -53,7 +53,7 @@ pub(crate) fn spare(trip: &CoreTrip, tables: &Tables) -> u128
     }
 }
 
-/// The trip has `count` intervals more that ended in Stopped.
+/// Adds `count` intervals that ended in Stopped to a trip.
 pub(crate) fn add_passed(trip: &mut CoreTrip, pulses: u32, count: u32)
     requires pulses { pulses ≤ 2000 }
     requires few { trip.old.pulses ≤ 5000000000000000000 }
@@ -66,7 +66,7 @@ pub(crate) fn add_passed(trip: &mut CoreTrip, pulses: u32, count: u32)
     trip.ticks += count;
 }
 
-/// The trip has `count` intervals more that ended in Hired, whose charges fill no display step.
+/// Adds `count` intervals that ended in Hired to a trip; their charges fill no display step.
 pub(crate) fn add_charged(trip: &mut CoreTrip, pulses: u32, charge: u128, count: u32)
     requires pulses { pulses ≤ 2000 }
     requires few { trip.old.pulses ≤ 5000000000000000000 }

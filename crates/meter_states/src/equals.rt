@@ -31,13 +31,13 @@ use tariff_compile::{Lasting, Tables};
 use taxi_units::{LONGEST_TRIP, Operating, ROAMING_MOST};
 
 impl Core {
-    /// Carries out equal intervals of `pulses` pulses at once, and answers how many: all `count`, or so many
-    /// that one more may not go at once. They show, refuse and enter nothing. An interval may not go if
-    /// roaming is entered behind it, it is the trip's last, its charge moves the fare on by a display step, or
-    /// what the interval behind it weighs isn't known from the cache. None may if the meter is off, the clock
-    /// was read with another second or a pulse came since the last tick, a key waits, another display was shown
-    /// last, or an interval has more than 2,000 pulses. The tables' constant is the seal's. No steps. That rows of
-    /// intervals are carried out at once is this project's own.
+    /// Carries out equal intervals of `pulses` pulses at once, and answers how many: all `count`, or so many that one
+    /// more may not go at once. They show, refuse and enter nothing. An interval may not go if roaming is entered
+    /// behind it, it is the trip's last, its charge moves the fare on by a display step, or the cache doesn't know what
+    /// the interval behind it weighs. None may go if the meter is off, a key waits, another display was shown last, or
+    /// an interval has more than 2,000 pulses; nor if, since the last tick, the clock was read with another second or a
+    /// pulse came. The tables' constant is the seal's. No steps. That rows of intervals are carried out at once is this
+    /// project's own.
     #[inline(always)]
     pub fn equal_intervals(&mut self, tables: &Tables, seal: &Seal, pulses: u32, count: u32) -> u32
         requires lawful { IsLawful tables.now seal.now self.old }
@@ -60,7 +60,7 @@ impl Core {
 }
 
 impl State {
-    /// Takes equal intervals at once, as many of these as may go, while the meter is powered.
+    /// Takes as many of these equal intervals at once as may go, while the meter is powered.
     #[inline(never)]
     fn take_equal(
         &mut self,
@@ -104,7 +104,7 @@ impl State {
             && is_shown(&self.shown, &display)
     }
 
-    /// As many of `count` equal intervals for hire as enter no roaming.
+    /// Takes as many of `count` equal intervals for hire as enter no roaming.
     fn roam_equal(&mut self, pulses: u32, count: u32) -> u32
         requires hire { self.old.operating ≡ ForHire }
         requires roam { self.old.roam ≤ roaming_between }
@@ -121,7 +121,7 @@ impl State {
         n
     }
 
-    /// As many of `count` equal intervals in Stopped as don't end the trip.
+    /// Takes as many of `count` equal intervals in Stopped as don't end the trip.
     fn pass_equal(&mut self, pulses: u32, count: u32) -> u32
         requires lawful { (tables : TableParts) × IsBetweenEvents tables self.old }
         requires stopped { self.old.operating ≡ Stopped }
@@ -140,7 +140,7 @@ impl State {
         n
     }
 
-    /// As many of `count` equal intervals in Hired as may be charged at once.
+    /// Takes as many of `count` equal intervals in Hired as may be charged at once.
     fn charge_equal(
         &mut self,
         cache: &Cache,
@@ -173,7 +173,7 @@ impl State {
         n
     }
 
-    /// What the running interval weighs, and for how many further pulses and ticks, where that is kept.
+    /// What the running interval weighs, and for how many more pulses and ticks, if that is kept.
     fn cached_rate(&self, cache: &Cache, tables: &Tables) -> Option<Lasting>
         requires lawful { IsBetweenEvents tables.now self.now }
         requires lasting { ForSome cache.now.rate (IsCachedRateOf tables.now) }

@@ -10,10 +10,9 @@ use tariff_compile::Tables;
 use taxi_units::{LARGEST_AMOUNT, Steps};
 use totals_record::Trip;
 
-/// Whether a saved trip fits the tables: its position and zone are among the tariff's, its rest is less
-/// than a display step, its cover no more than a tariff's, and each supplement was added at most as
-/// often as the tariff allows, with the amounts of the tariff. What fits is this project's own rule. At
-/// most 16 steps.
+/// Whether a saved trip fits the tables. Its position and zone are among the tariff's, its rest is less than a display
+/// step, and its cover is no more than a tariff's. Each supplement was added at most as often as the tariff allows,
+/// with the amounts of the tariff. What fits is this project's own rule. At most 16 steps.
 pub fn fits<L: Ledger>(trip: &Trip, tables: &Tables, steps: &mut Steps<L>) -> bool
     ensures value { IsTrue result ↔ Fits tables.now trip.now }
     ensures steps { steps.new ≤ steps.old + 16 }
@@ -44,8 +43,8 @@ fn extras_fit<L: Ledger>(trip: &Trip, tables: &Tables, steps: &mut Steps<L>) -> 
     left == 0
 }
 
-/// What is left of an amount after a supplement that was added `count` times. `None` where that is more often
-/// than the tariff allows, or costs more. One step.
+/// What is left of an amount after a supplement that was added `count` times. `None` if that is more often than the
+/// tariff allows, or costs more. One step.
 fn amount_left<L: Ledger>(
     tables: &Tables,
     number: u8,
@@ -69,7 +68,7 @@ fn amount_left<L: Ledger>(
     Some(left - amount)
 }
 
-/// What is left where there is no such supplement.
+/// What is left if there is no such supplement.
 fn nothing_left(count: u8, left: u64) -> Option<u64>
     ensures some { IfSome result (λ rest. (count ≡ 0) × (left ≡ rest)) }
     ensures none { IsNone result → 0 < count }

@@ -19,7 +19,7 @@ pub(crate) fn running(stopped: bool) -> Operating
     }
 }
 
-/// Whether the supply was away for the hold at most.
+/// Whether the supply was away for at most the hold.
 pub(crate) fn is_within_hold(held: &Trip, second: u64, seal: &Seal) -> bool
     requires { IsSecond held.now.saved }
     ensures value { (s : Setting) → IsSealOf s seal.now → result ≡ model.is_within_hold s second held.now }

@@ -24,7 +24,7 @@ use tariff_compile::Tables;
 use taxi_units::{HIRINGS_END, Operating, Steps, Why};
 
 impl State {
-    /// The interval takes the pulses that it has room for, and the others are refused.
+    /// Adds the pulses for which the interval has room; the others are refused.
     #[inline(always)]
     pub(crate) fn take_pulses(&mut self, n: u32, acts: &mut Acts)
         requires gate { self.old.gate ≤ 2000 }
@@ -40,7 +40,7 @@ impl State {
         }
     }
 
-    /// The interval becomes a part of what runs. At most 36 steps in Hired, and none otherwise.
+    /// Adds the interval to what runs. At most 36 steps in Hired, and none otherwise.
     pub(crate) fn count_interval<L: Ledger>(
         &mut self,
         cache: &mut Cache,

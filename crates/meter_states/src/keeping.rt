@@ -12,9 +12,8 @@ ghost use Rattle.meter_states.specs.Setting.{IsTariffOf};
 ghost use Rattle.meter_model.specs.Setting.{Setting};
 ghost use Rattle.meter_model.specs.Step.{step};
 
-/// While the meter is off the store holds the saved form of its trip, and for hire there is none: a run
-/// begins so where the held trip fits, as one that fits the tables does, and each event, each list of
-/// events and each whole run keeps it so.
+/// While the meter is off the store holds the saved form of its trip, and none for hire. A run begins so if the held
+/// trip fits, as one that fits the tables does. Each event, each list of events and each whole run keeps it so.
 pub fn the_store_keeps_the_trip()
     ensures begins { (s : Setting) (durable : Durable) → HoldFits s durable.hold → IsTripKept s (opened s durable) }
     ensures step { (s : Setting) (event : Event) (m : Meter) → IsTripKept s m → IsTripKept s (step s event m).next }

@@ -39,7 +39,7 @@ fn act_of(key: Key, operating: Operating) -> KeyAct
 }
 
 impl State {
-    /// A key waits for the end of the interval, where none does.
+    /// A key waits for the end of the interval, if none does.
     pub(crate) fn take_key(&mut self, key: Key, acts: &mut Acts)
         requires room { acts.old.items ≡ [] }
         ensures lawful { (tables : TableParts) → IsBetweenEvents tables self.old → IsBetweenEvents tables self.new }

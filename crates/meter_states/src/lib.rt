@@ -1,6 +1,6 @@
-//! The core of the meter: what each event does to it, under the tables of a tariff and a seal. Of a trip it
-//! keeps sums and the interval that goes on, and no list of intervals. `specs/` says what a meter is: its
-//! states keep each interval of a trip, and an interval is charged by the rate that the tariff's text names.
+//! The core of the meter: what each event does to it, under the tables of a tariff and a seal. Of a trip it keeps sums
+//! and the running interval, and no list of intervals. `specs/` says what a meter is: its states keep each interval of
+//! a trip, and an interval is charged by the rate that the tariff's text names.
 #![tactic(auto)]
 
 mod act_ranges;

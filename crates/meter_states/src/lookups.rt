@@ -37,7 +37,7 @@ pub(crate) fn distance(tables: &Tables, pulses: u64) -> u128
     millimetres(tables.constant(), pulses)
 }
 
-/// The supplement of a number, where the tariff has one. One step.
+/// The supplement of a number, if the tariff has one. One step.
 pub(crate) fn find_supplement<L: Ledger>(
     tables: &Tables,
     number: u8,

@@ -18,8 +18,8 @@ use meter_model::CoreTrip;
 use std::marker::Model;
 use taxi_units::{Display, FIRST_SECOND, Key, Operating};
 
-/// The meter's state: counts in place of pulses, and the sums of the trip in place of its intervals,
-/// which it forgets, so it takes no memory.
+/// The meter's state: counts in place of pulses, and the sums of the trip in place of its intervals. It forgets
+/// intervals, so it takes no memory.
 #[derive(Drop)]
 pub(crate) struct State {
     pub(crate) operating: Operating,
@@ -63,7 +63,7 @@ impl State {
         State::idle(Operating::Off, 0, FIRST_SECOND)
     }
 
-    /// A state without a trip, before anything was shown, where the store has a number.
+    /// A state without a trip, before anything was shown, with a number of the store.
     pub(crate) fn idle(operating: Operating, number: u64, second: u64) -> State
         ensures { result ≡ record {
           operating = operating;

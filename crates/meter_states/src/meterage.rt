@@ -4,7 +4,7 @@ ghost use Rattle.drive_modes.specs.Fare.{Opening, added, saved};
 
 use drive_modes::Meterage;
 
-/// Adds a charge as `Meterage::add` does, and divides only where a display step is filled.
+/// Adds a charge as `Meterage::add` does, and divides only if a display step is filled.
 pub(crate) fn add_charge(meterage: &mut Meterage, charge: u128, modulus: u128)
     requires rest { meterage.old.rest < modulus }
     requires some { 1 ≤ modulus }

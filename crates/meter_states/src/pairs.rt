@@ -9,16 +9,16 @@ ghost use Rattle.meter_model.specs.Run.{actions_of, run, run_both, whole_run};
 ghost use Rattle.meter_model.specs.Setting.{Setting};
 ghost use Rattle.meter_model.specs.Step.{step};
 
-/// In the acts of an event, and in those of a whole run, each entry of a hiring stands directly before its
-/// receipt, and each receipt directly behind its entry, with the number that the store has then.
+/// In the acts of an event, and in those of a whole run, each entry of a hiring stands directly before its receipt.
+/// Each receipt stands directly behind its entry, with the number that the store has then.
 pub fn receipts_follow_their_entries()
     ensures event { (s : Setting) (event : Event) (m : Meter) → ArePaired m.durable.number None (step s event m).acts }
     ensures run { (s : Setting) (durable : Durable) (events : List Event)
         → ArePaired durable.number None (actions_of s durable events) }
 {}
 
-/// After an event the store has the state before it with the commits of the event's acts, in order, and
-/// after a whole run the opening state with those of the run.
+/// After an event the store has the state before it with the commits of the event's acts, in order. After a whole run
+/// it has the opening state with those of the run.
 pub fn the_store_has_what_the_acts_commit()
     ensures event { (s : Setting) (event : Event) (m : Meter)
         → (step s event m).next.durable ≡ after_all m.durable (commits_of (step s event m).acts) }

@@ -31,10 +31,10 @@ use taxi_units::{Kind, Operating, Steps};
 use totals_record::{Durable, Trip};
 
 impl Core {
-    /// The supply comes at a second, 946,684,800 to 7,258,118,399, and finds a durable state in its ranges
-    /// whose held trip fits; the tables were compiled with the seal's constant. The rules are this
-    /// project's own: within the hold a held trip goes on in Hired or Stopped, and otherwise it is closed;
-    /// without one the meter is for hire. The display is shown. At most 12 steps.
+    /// Goes on from a durable state as the supply comes at a second, 946,684,800 to 7,258,118,399. The state is in its
+    /// ranges, its held trip fits, and the tables were compiled with the seal's constant. Within the hold a held trip
+    /// goes on in Hired or Stopped, and otherwise it is closed; without one the meter is for hire. The display is
+    /// shown. At most 12 steps. The rules are this project's own.
     pub fn resume<L: Ledger>(
         tables: &Tables,
         seal: &Seal,
@@ -89,8 +89,7 @@ impl State {
         }
     }
 
-    /// A held trip goes on where the supply was away for the hold at most, and otherwise it is closed.
-    /// At most 12 steps.
+    /// A held trip goes on if the supply was away for at most the hold, and otherwise it is closed. At most 12 steps.
     fn take_held<L: Ledger>(
         &mut self,
         held: Trip,

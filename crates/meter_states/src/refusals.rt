@@ -19,8 +19,8 @@ ghost use Rattle.meter_model.specs.Step.{expired, step, ticked};
 ghost use Rattle.meter_model.specs.Trip.{InHired, MeterTrip, ticks_of, with_part};
 ghost use Rattle.meter_model.specs.declared.act.Act.TheVariants.{Refuse};
 
-/// A refused event changes nothing, but pulses that are too fast, of which the interval takes those that
-/// it has room for. A key that is refused at a tick leaves the latch, and changes nothing else.
+/// A refused event changes nothing. Of pulses that are too fast, though, the interval takes those for which it has
+/// room; and a key that is refused at a tick leaves the latch, and changes nothing else.
 pub fn refused_events_change_nothing()
     ensures event { (s : Setting) (event : Event) (m : Meter) (why : Why) → event ≢ Tick → ¬ (IsTooFast why)
         → (step s event m).acts ≡ Refuse why ∷ [] → (step s event m).next ≡ m }
@@ -29,7 +29,7 @@ pub fn refused_events_change_nothing()
         → (latch_pressed s (Some key) m).next ≡ record m { latch = None } }
 {}
 
-/// A law: pulses that are too fast fill the interval, and change nothing else: it takes those that it has room for,
+/// A law: pulses that are too fast fill the interval, and change nothing else. It takes those for which it has room,
 /// and as many as the others are refused.
 pub fn pulses_too_fast_fill_the_interval()
     ensures filled { (s : Setting) (event : Event) (m : Meter) (n : ℕ) → event ≢ Tick
@@ -39,7 +39,7 @@ pub fn pulses_too_fast_fill_the_interval()
         → (step s (Pulses pulses) m).acts ≡ Refuse (TooFast n) ∷ [] → pulses ≡ (2000 - sum m.taken) + n }
 {}
 
-/// A law: a key that waits as the trip expires is refused behind the closing of the trip, and waits no more.
+/// A law: if the trip expires, a key that waits is refused behind the closing of the trip, and waits no more.
 pub fn keys_are_refused_at_an_expiry()
     ensures { (s : Setting) (m : Meter) (key : Key) → m.latch ≡ Some key
         → expired s m ≡ record {
@@ -48,9 +48,9 @@ pub fn keys_are_refused_at_an_expiry()
         } }
 {}
 
-/// A key acts after the interval in which it was pressed: the interval comes to the same whatever key
-/// waits. And an interval in Hired is charged in the context of its beginning: at a tick at which no key
-/// waits, the trip has that interval more, and nothing else.
+/// A key acts after the interval in which it was pressed: the interval is the same whatever key waits. An interval in
+/// Hired is charged in the context of its beginning: at a tick at which no key waits, the trip has that interval more,
+/// and nothing else.
 pub fn keys_act_after_their_interval()
     ensures key { (s : Setting) (m : Meter) (latch : Option Key)
         → interval_counted s (record m { latch = latch })

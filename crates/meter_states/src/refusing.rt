@@ -5,7 +5,7 @@ ghost use Rattle.meter_model.specs.declared.act.Act.TheVariants.{Refuse};
 use meter_model::{Act, Acts};
 use taxi_units::Why;
 
-/// A refusal more.
+/// Appends a refusal.
 pub fn refuse(why: Why, acts: &mut Acts)
     requires { length acts.old.items < 4 }
     ensures { acts.new.items ≡ acts.old.items ++ Refuse why ∷ [] }

@@ -24,14 +24,13 @@ use tariff_compile::Tables;
 use taxi_units::{Event, Operating, Steps, Why};
 
 impl Core {
-    /// What an event does, but an `Up` while the meter is off, which is `resume`'s. A reading of the clock
-    /// lies in 946,684,800 to 7,258,118,399, the tables were compiled with the seal's constant, and the
-    /// core is lawful for the tables and the seal, as `off`, `resume` and `step` leave it. An event that is
-    /// refused changes nothing, but for pulses that are too fast: the interval takes those that it has room
-    /// for. At most 48 steps.
+    /// Carries out an event, but an `Up` while the meter is off, which is for `resume`. A reading of the clock is
+    /// 946,684,800 to 7,258,118,399, and the tables were compiled with the seal's constant. The core is lawful for the
+    /// tables and the seal, as `off`, `resume` and `step` leave it. A refused event changes nothing, but of pulses that
+    /// are too fast the interval takes those for which it has room. At most 48 steps.
     ///
-    /// That the fare is calculated in Hired alone, in steps, and by the rules of the modes S and D, is the
-    /// measuring instruments directive's; all else is this project's own.
+    /// The measuring instruments directive rules that the fare is calculated in Hired alone, in steps, and by the rules
+    /// of the modes S and D. All else is this project's own.
     pub fn step<L: Ledger>(
         &mut self,
         tables: &Tables,
@@ -48,8 +47,8 @@ impl Core {
         acts
     }
 
-    /// What an event does, as `step` says it, with the acts in a list that is handed in empty. A list for four acts is
-    /// large, so whoever goes over many events, as the programs do, hands in one list again and again.
+    /// Carries out an event as `step` does, with the acts in a list that is handed in empty. A list for four acts is
+    /// large, so whoever goes over many events hands in one list again and again.
     #[inline(always)]
     pub fn step_into<L: Ledger>(
         &mut self,
@@ -82,7 +81,7 @@ impl State {
         matches!(self.operating, Operating::Off)
     }
 
-    /// What an event does while the meter is powered. At most 48 steps.
+    /// Carries out an event while the meter is powered. At most 48 steps.
     #[inline(always)]
     fn take_event<L: Ledger>(
         &mut self,
@@ -114,7 +113,7 @@ impl State {
         }
     }
 
-    /// The clock is read: in a trip it doesn't go back.
+    /// Reads the clock: in a trip it doesn't go back.
     fn read_clock(&mut self, second: u64, acts: &mut Acts)
         requires second { IsSecond second }
         requires room { acts.old.items ≡ [] }

@@ -49,7 +49,7 @@ impl State {
         *self = State::off();
     }
 
-    /// The trip is held, or closed where the store takes no held trip; without one roaming pulses are entered. At most
+    /// The trip is held, or closed if the store takes no held trip; without a trip roaming pulses are entered. At most
     /// 12 steps.
     fn hold_or_close<L: Ledger>(
         &mut self,

@@ -90,7 +90,7 @@ pub(crate) fn begun(tables: &Tables, fee: Initial, second: u64, roam: u32) -> Co
     }
 }
 
-/// The trip has an interval more that ended in Hired.
+/// Adds an interval that ended in Hired to a trip.
 pub(crate) fn add_hired(
     trip: &mut CoreTrip,
     tables: &Tables,
@@ -118,7 +118,7 @@ pub(crate) fn add_hired(
     trip.ticks += 1;
 }
 
-/// The trip has an interval more that ended in Stopped.
+/// Adds an interval that ended in Stopped to a trip.
 pub(crate) fn add_stopped(trip: &mut CoreTrip, pulses: u32)
     requires pulses { pulses ≤ 2000 }
     requires few { trip.old.pulses ≤ 9000000000000000000 }
@@ -134,7 +134,7 @@ pub(crate) fn add_stopped(trip: &mut CoreTrip, pulses: u32)
     trip.ticks += 1;
 }
 
-/// The trip has the pulses of an interval that was left unfinished.
+/// Adds the pulses of an unfinished interval to a trip.
 pub(crate) fn add_rest(trip: &mut CoreTrip, pulses: u32)
     requires pulses { pulses ≤ 2000 }
     requires few { trip.old.pulses ≤ 9000000000000000000 }
@@ -182,7 +182,7 @@ pub(crate) fn times(trip: &CoreTrip, number: u8) -> u8
     trip.extras[number as usize - 1]
 }
 
-/// The trip has a supplement of the tariff more, which it hasn't had as often as it may.
+/// Adds a supplement of the tariff to a trip, which had it less often than it may.
 pub(crate) fn add_extra(trip: &mut CoreTrip, number: u8, supplement: Supplement)
     requires number { (1 ≤ number) × (number ≤ 16) }
     requires few { slice_index trip.old.extras (number - 1) < supplement.max }

@@ -14,7 +14,7 @@ use taxi_units::Steps;
 use totals_record::{Change, Durable};
 
 /// The board failed.
-#[derive(Clone, Copy, PartialEq, Eq)]
+#[derive(Clone, Copy)]
 pub struct DeviceFailed;
 
 impl From<Failed> for DeviceFailed {

@@ -9,7 +9,7 @@ use Rattle.offset_rules.specs.Forms.{IsSeconds, IsTime}
 use Rattle.offset_rules.specs.Forms.IsSeconds.{ahead, behind}
 use Rattle.offset_rules.specs.Reading.{seconds_at, time_at}
 
--- where reading goes on to a value, something was found first
+-- if reading goes on to a value, something was found first
 pub read_on : {A B : Type 0} (found : Option A) (on : A → Option B) (y : B) → found >>= on ≡ Some y
     → (x : A) × (found ≡ Some x) × (on x ≡ Some y)
 read_on (Some x) on y e = (x, refl, e)

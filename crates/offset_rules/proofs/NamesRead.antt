@@ -17,7 +17,7 @@ pub name_later : (number : ℕ) (found : Option (List ℕ)) (others x : Option (
     → found_or number found others ≡ x
 name_later number found others x none is = rw none is
 
--- a name stands at the front, where the names are numbered from one on
+-- a name stands at the front, and the names are numbered from one on
 record NamedFrom (names : List (List ℕ)) (first : ℕ) (text : List ℕ) (x : ℕ × List ℕ) : Type 0 where
   place : ℕ
   within : place < length names

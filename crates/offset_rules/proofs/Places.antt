@@ -49,7 +49,7 @@ placed test a (suc n) d zero hit at lt = placed_first test a n d hit (omega arit
 placed test a (suc n) d (suc before) hit at lt =
     placed_more test a n d before (test a) refl (placed test (a + 1) n d before hit (omega arith) (omega arith))
 
--- where none passes after a number that does, the count of all is one more than that of those before it
+-- if none passes after a number that does, the count of all is one more than that of those before it
 pub counted_to_last : (test : ℕ → Bool) (a n d before : ℕ) → test d ≡ true → a + before ≡ d → before < n
     → ((k : ℕ) → d < k → k < a + n → test k ≡ false)
     → length (filter test (range_with_len a n)) ≡ suc (length (filter test (range_with_len a before)))

@@ -11,7 +11,7 @@ found_then found f a x is rest = rw is rest
 pub not_found : {A B : Type 0} (found : Option A) (f : A → Option B) → found ≡ None → found >>= f ≡ None
 not_found found f none = rw none refl
 
--- nothing is given where nothing is found
+-- nothing is given if nothing is found
 pub gives_none : {X Y : Type 0} (view : X → Y) (r : Option X) (read : Option Y) → r ≡ None → read ≡ None
     → Gives view r read
 gives_none view (Some x) read none is = absurd (let bad : Some x ≡ None = none in cc)

@@ -8,7 +8,7 @@ use Rattle.offset_rules.specs.Rule.{Change}
 abbrev pub weekday_on : (year month date : ℕ) → ℕ
 weekday_on year month date = weekday_of (pos (day_number_of year month date))
 
--- the times of a weekday in a month before a date are on how many earlier dates of the month it falls
+-- the times of a weekday before a date are the number of earlier dates of the month on which it falls
 unfoldable pub times_before : (year month weekday date : ℕ) → ℕ
 times_before year month weekday date =
     length (filter (λ earlier. weekday_on year month earlier == weekday) (range_with_len 1 (date - 1)))
@@ -18,8 +18,8 @@ abbrev pub IsLastInMonth : (year month weekday date : ℕ) → Type 0
 IsLastInMonth year month weekday date =
     (later : ℕ) → date < later → IsDate year month later → weekday_on year month later ≢ weekday
 
--- a change comes on the date of its month that has its weekday and before which that weekday comes one time less than
--- the change's number says; or, for the number 5, which means the last, after which that weekday comes no more
+-- a date of the change's month is that of the change if it has the change's weekday, which comes one time less before
+-- it than the number says, or no more after it if the number is 5, for the last
 pub record IsDateOfChange (year : ℕ) (change : Change) (date : ℕ) : Type 0 where
   pub there : IsDate year change.month date
   pub weekday : weekday_on year change.month date ≡ change.weekday

@@ -24,8 +24,7 @@ abbrev pub found_or : ℕ → Option (List ℕ) → Option (ℕ × List ℕ) →
 found_or number (Some rest) others = Some (number, rest)
 found_or number None others = others
 
--- the number of the first of some names that a text begins with, where the names are numbered from `number` on, and the
--- rest
+-- the number of the first of some names that a text begins with, and the rest; the names are numbered from `number` on
 abbrev pub numbered_at : (names : List (List ℕ)) → (number : ℕ) → (text : List ℕ) → Option (ℕ × List ℕ)
 numbered_at [] number text = None
 numbered_at (name ∷ names) number text = found_or number (word_at name text) (numbered_at names (number + 1) text)

@@ -7,10 +7,10 @@ ghost use Rattle.offset_rules.specs.Texts.{offset_line, offset_text};
 use taxi_units::{Line, LineFull, push_bytes, push_number, put_bytes};
 
 /// Appends the line of a pair of a list of offsets as a text of parameters has it: the word `offset`, the
-/// second, and the offset in seconds that is in force from it on.
+/// second, and the offset in seconds from then on.
 ///
-/// `LineFull` where the text doesn't fit; the line is then unchanged. It fits where there is room for 90
-/// bytes. The form is this project's own.
+/// `LineFull`: the text doesn't fit. The line is then unchanged. The text fits if there is room for 90 bytes.
+/// The form is this project's own.
 pub fn put_offset(line: &mut Line, pair: (u64, i32)) -> Result<(), LineFull>
     ensures variant { IsOk result ↔ (array_vec_len line.old + length (offset_line pair) ≤ line_size) }
     ensures ok { OnOk result (line.new.items ≡ line.old.items ++ offset_line pair) }

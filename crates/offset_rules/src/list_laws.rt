@@ -1,27 +1,26 @@
-//! What the lists of rules come to.
+//! Laws of the lists that rules give.
 ghost use Rattle.std.specs.Prelude.{◌≡◌, ◌↔◌, ℕ, ◌+◌, ◌<◌, ◌≤◌, length};
 ghost use Rattle.interval_clock.specs.Offsets.{IsOffsetList, offset_at};
 ghost use Rattle.offset_rules.specs.Pairs.{AreYears, IsListOf, pairs_of};
 ghost use Rattle.offset_rules.specs.Rule.{IsRule, Rule};
 ghost use Rattle.offset_rules.specs.Summer.{first_second_of, offset_by, year_of};
 
-/// A law: a second is of the year, from 1970 on, that begins at it or before it and whose next year begins after
-/// it.
+/// A law: a second is of a year from 1970 on exactly if the year begins at or before it, and the next one after it.
 pub fn seconds_have_their_year()
     ensures { (year second : ℕ) → 1970 ≤ year
         → (year_of second ≡ year) ↔ ((first_second_of year ≤ second) × (second < first_second_of (year + 1))) }
 {}
 
-/// A law: the pairs that a rule gives for some years are the first second of all with the offset at the
-/// beginning of the first year, and then exactly the changes of these years, but none at that second, in order
-/// of time.
+/// A law: the first of the pairs that a rule gives for some years is the first second of all with the offset at
+/// the beginning of the first year. Then come exactly the changes of these years, but none at that second, in
+/// order of time.
 pub fn lists_have_each_change()
     ensures { (rule : Rule) (from to : ℕ) → IsRule rule → AreYears from to
         → IsListOf rule from to (pairs_of rule from to) }
 {}
 
-/// A law: the pairs that a rule gives for some years are a list of offsets, at most 31; and at each second of
-/// these years, by the year in UTC, the offset in force is that of the rule.
+/// A law: the pairs that a rule gives for some years are a list of offsets, at most 31. At each second of
+/// these years in UTC, the offset in force is that of the rule.
 pub fn lists_follow_their_rule()
     ensures lawful { (rule : Rule) (from to : ℕ) → IsRule rule → AreYears from to
         → IsOffsetList (pairs_of rule from to) × (length (pairs_of rule from to) ≤ 31) }

@@ -15,7 +15,7 @@ const MONTHS: [&[u8]; 12] = [
     b"jan", b"feb", b"mar", b"apr", b"may", b"jun", b"jul", b"aug", b"sep", b"oct", b"nov", b"dec",
 ];
 
-/// Which of its weekday in the month a change is: 1 to 4, or 5 for the last.
+/// Which date of its weekday in the month a change has: 1 to 4, or 5 for the last.
 pub(crate) fn number(text: &[u8]) -> Option<(u8, &[u8])>
     ensures value { Gives (λ x. (x.0, x.1.now)) result (numbered_at number_names 1 text.now) }
     ensures range { IfSome result (λ x. (1 ≤ x.0) × (x.0 ≤ 5)) }

@@ -23,11 +23,11 @@ fn push_later(pairs: &mut ArrayVec<(u64, i32), 32>, change: (u64, i32))
 }
 
 impl Rules {
-    /// The pairs of a list of offsets for the years `from` to `to`, at most fifteen of 2000 to 2199: the first
-    /// second of all, 946,684,800, with the offset at the first second of `from`, and then the changes of these
-    /// years in order of time, each with the offset that begins there, but none at 946,684,800 itself.
+    /// The pairs of a list of offsets for the years `from` to `to`, at most fifteen of 2000 to 2199. The first is
+    /// the first second of all, 946,684,800, with the offset at the first second of `from`. Then come the changes
+    /// of these years in order of time, each with the offset that begins there, but none at 946,684,800 itself.
     ///
-    /// They are at most 31, `Offsets::from_pairs` accepts them, and from the beginning of `from` to the end of
+    /// They are at most 31, and `Offsets::from_pairs` accepts them. From the beginning of `from` to the end of
     /// `to`, in UTC, the offset in force in that list is that of these rules.
     pub fn pairs(&self, from: u16, to: u16) -> ArrayVec<(u64, i32), 32>
         requires { AreYears from to }

@@ -25,9 +25,8 @@ const MOST: usize = 4096;
 ///
 /// There is one blank between words. The form is this project's own. No memory is taken.
 ///
-/// `TooLong` where the text has more than 4,096 bytes; else `BadLine` with the first of the lines 1 to 4 that
-/// isn't so or is absent, or 5 where bytes follow the four; and else `SameMonth` where both changes are in one
-/// month.
+/// `TooLong`: the text has more than 4,096 bytes. Else `BadLine`: the first of the lines 1 to 4 that breaks its
+/// form or is absent, or 5 if bytes follow the four. Else `SameMonth`: both changes are in one month.
 pub fn read_rules(text: &[u8]) -> Result<Rules, RuleFault>
     ensures answer { result ≡ rules_read text.now }
     ensures meaning { IsReadAs text.now result }
@@ -35,7 +34,7 @@ pub fn read_rules(text: &[u8]) -> Result<Rules, RuleFault>
     read_text(text)
 }
 
-/// Reads rules, as the answer of the code's stages.
+/// The answer, in the stages of the code.
 #[tactic(auto, unfolding(crate::specs::Reading::rules_read))]
 fn read_text(text: &[u8]) -> Result<Rules, RuleFault>
     ensures { result ≡ rules_read text.now }

@@ -14,9 +14,9 @@ use std::marker::Model;
 
 /// A change of the offset, which comes once a year: on a date that is named by its weekday and its month, at
 /// a minute of that day in UTC.
-#[derive(Clone, Copy, PartialEq, Eq)]
+#[derive(Clone, Copy)]
 pub struct Change {
-    /// Which of its weekday in its month: 1 to 4 for the first to the fourth, 5 for the last.
+    /// Which date of its weekday in its month: 1 to 4 for the first to the fourth, 5 for the last.
     pub number: u8,
     /// The day of the week, 1 for Monday to 7 for Sunday.
     pub weekday: u8,
@@ -59,7 +59,7 @@ fn is_summer(begins: u64, ends: u64, second: u64) -> bool
 }
 
 impl Rules {
-    /// The rules of two offsets and two changes. `SameMonth` where the changes are in one month.
+    /// The rules of two offsets and two changes. `SameMonth`: both changes are in one month.
     pub(crate) fn of(
         standard: i32,
         summer: i32,
@@ -83,8 +83,8 @@ impl Rules {
         })
     }
 
-    /// The offset from UTC at a second of 946,684,800 to 7,258,118,399, in seconds: that of summer time where
-    /// summer time is, by the two changes of the second's year in UTC, and else that of standard time.
+    /// The offset from UTC, in seconds, at a second of 946,684,800 to 7,258,118,399. It is that of summer time if
+    /// the two changes of the second's year in UTC make it so, and else that of standard time.
     #[tactic(auto, unfolding(crate::specs::Summer::offset_by))]
     pub fn at(&self, second: u64) -> i32
         requires { IsSecond second }

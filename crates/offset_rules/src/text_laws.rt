@@ -6,9 +6,9 @@ ghost use Rattle.offset_rules.specs.RulesText.{IsReadAs};
 ghost use Rattle.offset_rules.specs.Texts.{plain_text};
 ghost use Rattle.offset_rules.specs.declared.fault.RuleFault.{RuleFault};
 
-/// A law: the answer to a text is the rule that its four lines say, or its first fault: more than 4,096
-/// bytes; the first of the lines 1 to 4 that isn't as it should be or is absent, or 5 where bytes follow
-/// them; both changes in one month. A text has one answer, and its rule has each part in its range.
+/// A law: the answer to a text is the rule that its four lines say, or its first fault. A fault is more than
+/// 4,096 bytes; the first of the lines 1 to 4 that breaks its form or is absent, or 5 if bytes follow them;
+/// both changes in one month. A text has one answer, and its rule has each part in its range.
 pub fn texts_say_rules_line_by_line()
     ensures answers { (text : List ℕ) (answer : Result Rule RuleFault)
         → (rules_read text ≡ answer) ↔ IsReadAs text answer }

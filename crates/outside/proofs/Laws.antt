@@ -7,7 +7,6 @@ use Rattle.std.proofs.Math.Seq.{take-append-add}
 use Rattle.outside.specs.declared.board.Board.{Ghosts}
 use Rattle.taxi_units.specs.Bytes.{AreBytes}
 use Rattle.outside.specs.Disk.{IsWithin, MayLeave, MayLeaveAmid, SameBut}
-pub use Rattle.outside.specs.MomentLaws.{counts_now}
 pub use Rattle.outside.proofs.Rises.{cause_behind, left_by_ok, may_rise_behind, may_rise_more}
 pub use Rattle.outside.proofs.Rises.{may_rise_not}
 pub use Rattle.outside.proofs.Rises.{on_failed, rises_behind, rises_by, rises_not, rose_behind}

@@ -1,9 +1,8 @@
-//! The boards, call by call.
+//! Calls of boards, and the quiet board.
 ghost use Rattle.std.specs.Prelude.{◌≡◌, ◌<◌};
 
 use crate::tests::must;
-use crate::{Board, Failed, Fill, MemoryBoard, QuietBoard, STORE_SIZE};
-use std::alloc::Global;
+use crate::{Board, Failed, QuietBoard, STORE_SIZE};
 use std::marker::Brand;
 use std::sync::ledger::{Blank, Ledger};
 use std::test::Fail;
@@ -17,108 +16,6 @@ pub(crate) enum Asked<'a> {
     Sync,
     Print(&'a [u8]),
 }
-
-/// Calls of a board in memory whose store is zeros, and what they leave.
-#[derive(Clone, Copy)]
-struct Story {
-    name: &'static str,
-
-    /// The numbers of the calls that fail.
-    fail: &'static [u64],
-
-    /// Each call, its answer, and what is printed after it.
-    calls: &'static [(Asked<'static>, Result<[u8; 4], Failed>, &'static [u8])],
-
-    /// The bytes in front that a cut inside a call leaves, by the fill.
-    cuts: &'static [(u64, Fill, &'static [u8])],
-
-    /// The bytes in front that a read gives after the calls.
-    image: &'static [u8],
-}
-
-const STORIES: &[Story] = &[
-    Story {
-        name: "one write",
-        fail: &[],
-        calls: &[(Asked::Write(0, &[1, 2]), Ok([0; 4]), b"")],
-        cuts: &[
-            (1, Fill::Old, &[0, 0, 0]),
-            (1, Fill::New, &[1, 2, 0]),
-            (1, Fill::Half, &[1, 0, 0]),
-            (1, Fill::Byte(7), &[7, 7, 0]),
-        ],
-        image: &[1, 2, 0],
-    },
-    Story {
-        name: "a write, its sync, a write over it, one that overlaps that, a read, a sync, a print",
-        fail: &[],
-        calls: &[
-            (Asked::Write(0, &[1, 2, 3, 4]), Ok([0; 4]), b""),
-            (Asked::Sync, Ok([0; 4]), b""),
-            (Asked::Write(0, &[5, 6, 7, 8]), Ok([0; 4]), b""),
-            (Asked::Write(2, &[9, 10, 11]), Ok([0; 4]), b""),
-            (Asked::Read(0), Ok([5, 6, 9, 10]), b""),
-            (Asked::Sync, Ok([0; 4]), b""),
-            (Asked::Print(b"FOR HIRE\n"), Ok([0; 4]), b"FOR HIRE\n"),
-        ],
-        cuts: &[
-            (0, Fill::Byte(165), &[0, 0, 0, 0, 0, 0]),
-            (1, Fill::Old, &[0, 0, 0, 0, 0, 0]),
-            (1, Fill::New, &[1, 2, 3, 4, 0, 0]),
-            (1, Fill::Half, &[1, 2, 0, 0, 0, 0]),
-            (1, Fill::Byte(165), &[165, 165, 165, 165, 0, 0]),
-            (2, Fill::Old, &[0, 0, 0, 0, 0, 0]),
-            (2, Fill::New, &[1, 2, 3, 4, 0, 0]),
-            (3, Fill::Old, &[1, 2, 3, 4, 0, 0]),
-            (3, Fill::New, &[5, 6, 7, 8, 0, 0]),
-            (3, Fill::Half, &[5, 6, 3, 4, 0, 0]),
-            (4, Fill::Old, &[1, 2, 3, 4, 0, 0]),
-            (4, Fill::New, &[5, 6, 9, 10, 11, 0]),
-            (4, Fill::Half, &[5, 6, 9, 4, 0, 0]),
-            (4, Fill::Byte(165), &[165, 165, 165, 165, 165, 0]),
-            (5, Fill::Half, &[5, 6, 9, 4, 0, 0]),
-            (6, Fill::Byte(165), &[165, 165, 165, 165, 165, 0]),
-            (7, Fill::Old, &[5, 6, 9, 10, 11, 0]),
-            (7, Fill::New, &[5, 6, 9, 10, 11, 0]),
-            (7, Fill::Half, &[5, 6, 9, 10, 11, 0]),
-            (7, Fill::Byte(165), &[5, 6, 9, 10, 11, 0]),
-        ],
-        image: &[5, 6, 9, 10, 11, 0],
-    },
-    Story {
-        name: "the same, where the second overlapping write and the sync behind it fail",
-        fail: &[4, 6],
-        calls: &[
-            (Asked::Write(0, &[1, 2, 3, 4]), Ok([0; 4]), b""),
-            (Asked::Sync, Ok([0; 4]), b""),
-            (Asked::Write(0, &[5, 6, 7, 8]), Ok([0; 4]), b""),
-            (Asked::Write(2, &[9, 10, 11]), Err(Failed), b""),
-            (Asked::Read(0), Ok([5, 6, 7, 8]), b""),
-            (Asked::Sync, Err(Failed), b""),
-            (Asked::Print(b"FOR HIRE\n"), Ok([0; 4]), b"FOR HIRE\n"),
-        ],
-        cuts: &[
-            (3, Fill::New, &[5, 6, 7, 8, 0, 0]),
-            (4, Fill::New, &[5, 6, 9, 10, 11, 0]),
-            (7, Fill::Old, &[1, 2, 3, 4, 0, 0]),
-            (7, Fill::New, &[5, 6, 9, 10, 11, 0]),
-            (7, Fill::Half, &[5, 6, 9, 4, 0, 0]),
-            (7, Fill::Byte(165), &[165, 165, 165, 165, 165, 0]),
-        ],
-        image: &[5, 6, 7, 8, 0, 0],
-    },
-    Story {
-        name: "three prints, of which the second fails",
-        fail: &[2],
-        calls: &[
-            (Asked::Print(b"FOR "), Ok([0; 4]), b"FOR "),
-            (Asked::Print(b"RENT"), Err(Failed), b"FOR "),
-            (Asked::Print(b"HIRE\n"), Ok([0; 4]), b"FOR HIRE\n"),
-        ],
-        cuts: &[],
-        image: &[0],
-    },
-];
 
 /// Calls of a quiet board whose store is threes, and the four bytes that each answers.
 const QUIET: &[(Asked<'static>, [u8; 4])] = &[
@@ -164,77 +61,6 @@ pub(crate) fn call<B: Board<STORE_SIZE, L>, L: Ledger>(
     };
     answer?;
     Ok(buf)
-}
-
-/// Whether the board has printed this.
-fn has_printed(board: &MemoryBoard, text: &[u8]) -> bool {
-    board.printed() == text
-}
-
-/// Makes a story's calls, each of which must answer and print what the story says.
-fn must_answer<L: Ledger>(
-    board: &mut MemoryBoard,
-    story: &Story,
-    steps: &mut Steps<L>,
-) -> Result<(), Fail> {
-    for (asked, answer, printed) in story.calls {
-        let answered = call(board, asked, steps) == *answer;
-        must(
-            answered && has_printed(board, printed),
-            story.name,
-            board.calls(),
-        )?;
-    }
-    Ok(())
-}
-
-/// The board after a story's calls.
-fn called<L: Ledger>(alloc: Global, blank: Blank, story: &Story) -> Result<MemoryBoard, Fail>
-    requires name { blank.name ≡ L.name }
-    requires parts { blank.parts ≡ L.parts }
-    requires one { 0 < blank.parts }
-{
-    let mut steps: Steps<L> = Steps::open(blank);
-    let mut board = MemoryBoard::new(alloc, &[0; 2048], story.fail)?;
-    must_answer(&mut board, story, &mut steps)?;
-    Ok(board)
-}
-
-/// Whether the call was kept, and a cut inside it leaves these bytes in front.
-fn leaves(board: &MemoryBoard, call: u64, fill: Fill, front: &[u8]) -> bool {
-    call <= board.calls() && board.cut(call, fill).starts_with(front)
-}
-
-/// Fails unless each cut leaves what the story says.
-fn must_leave(board: &MemoryBoard, story: &Story) -> Result<(), Fail> {
-    for (call, fill, front) in story.cuts {
-        if !leaves(board, *call, *fill, front) {
-            return Err(Fail::new(format_args!("{}: cut in {call}, {fill:?}", story.name)));
-        }
-    }
-    Ok(())
-}
-
-/// Fails unless the board has the story's image, and kept each call.
-fn must_have(board: &MemoryBoard, story: &Story) -> Result<(), Fail> {
-    let kept = board.calls() == story.calls.len() as u64 && board.refused() == 0;
-    let held = board.image().starts_with(story.image);
-    must(kept && held, story.name, 0)
-}
-
-/// Fails unless a story's calls and cuts are as it says.
-fn must_be_told(alloc: Global, story: &Story) -> Result<(), Fail> {
-    let board = called::<Brand>(alloc, Blank::new(1), story)?;
-    must_have(&board, story)?;
-    must_leave(&board, story)
-}
-
-#[test]
-fn calls_of_a_memory_board_and_cuts_in_them(rt: HostRuntime) -> Result<(), Fail> {
-    for story in STORIES {
-        must_be_told(rt.alloc(), story)?;
-    }
-    Ok(())
 }
 
 /// Fails unless the calls of a quiet board answer what they should.

@@ -1,5 +1,5 @@
 //! The outside of the taximeter: the files that a program's words name, and the board, which has a store and prints.
-//! Each is a trait, with devices in memory and one of the system. All of it is this project's own.
+//! Each is a trait, with a device of the system. `QuietBoard` is a board in memory. All of it is this project's own.
 #![tactic(auto)]
 
 mod board;
@@ -12,17 +12,11 @@ mod folder;
 mod held_file;
 mod host_files;
 mod image;
-mod kept_call;
 mod list_laws;
-mod memory_device;
-mod memory_file;
-mod memory_files;
-mod memory_state;
 mod named_file;
 mod new_store;
 mod program;
 mod quiet_board;
-mod replay;
 mod retried;
 mod run_laws;
 mod second_name;
@@ -36,12 +30,9 @@ pub use file_device::{FileBoard, FileDevice, FileLog};
 pub use files::Files;
 pub use host_files::HostFiles;
 pub use list_laws::{Places, a_slice_of_bytes, a_slice_that_is_not_touched, what_begins_a_text};
-pub use memory_device::{MemoryBoard, MemoryDevice, MemoryLog};
-pub use memory_files::MemoryFiles;
 pub use new_store::StoreNames;
 pub use program::program_words;
 pub use quiet_board::QuietBoard;
-pub use replay::Fill;
 pub use run_laws::{
     Kind, a_kept_store_is_left, a_print_is_a_run, a_run_after_another, a_run_that_calls_nothing,
     a_wider_kind,

@@ -1,61 +1,23 @@
--- A meter that begins, and events that it carries out, one behind the other.
+-- Events that a meter carries out, one behind the other.
 use Rattle.std.proofs.Common.{◌≡◌, ℕ, ◌+◌, ◌<◌, List, [], ◌∷◌, ◌++◌, length, take, get_or, refl, sym, ap, subst, ◌∙◌}
-use Rattle.std.proofs.Common.{add-one, append_assoc, inl, Result, Ok, Err, IsErr, true, false}
+use Rattle.std.proofs.Common.{add-one, append_assoc, Result, Ok, Err, IsErr, true, false}
 use Rattle.std.proofs.Math.Seq.{take-suc}
 use Rattle.outside.proofs.Laws.{rose_behind}
 use Rattle.outside.specs.Faults.{HasCause}
 use Rattle.outside.specs.declared.board.Board.{Ghosts}
 use Rattle.taxi_units.specs.declared.event.Event.{Event}
-use Rattle.taxi_units.specs.declared.event.Operating.TheVariants.{Off}
-use Rattle.tariff_check.specs.SoundTariff.{sound_of}
-use Rattle.tariff_compile.specs.Tables.{IsCompiled, TableParts}
+use Rattle.tariff_compile.specs.Tables.{TableParts}
 use Rattle.seal_record.specs.declared.seal.Seal.{Seal}
-use Rattle.totals_record.specs.Ranges.{IsDurable}
 use Rattle.totals_record.specs.States.{first_state}
-use Rattle.totals_record.specs.declared.durable_state.Durable.{Durable}
-use Rattle.meter_states.specs.Cache.{CachedCore}
-use Rattle.meter_states.specs.Lawful.{IsLawful}
 use Rattle.meter_model.specs.Meter.{Meter}
 use Rattle.meter_model.specs.Run.{opened, run}
 use Rattle.meter_model.specs.Setting.{Setting}
 use Rattle.meter_states.specs.Setting.{IsSettingOf}
 use Rattle.meter_run.specs.BetweenEvents.{StandsWith}
-use Rattle.meter_run.specs.Dry.{Carries, IsReady}
+use Rattle.meter_run.specs.Dry.{Carries}
 use Rattle.meter_run.specs.RunLaws.{run_next, run_texts}
 use Rattle.meter_run.specs.Texts.{shown_texts}
 use Rattle.meter_run.specs.declared.dry.DryMeter.{DryMeter}
-
--- a meter that begins, off, has entered nothing
-pub begins : (s : Setting) (core : CachedCore) (d : Durable) → core.plain.operating ≡ Off → d ≡ first_state
-    → StandsWith s core.plain d (opened s first_state)
-begins s core d off is = record { core = inl (off, refl); durable = is; kept = refl }
-
--- and it is ready for its first event
-pub ready_first : (tables : TableParts) (seal : Seal) (core : CachedCore) (d : Durable) → IsCompiled tables
-    → tables.constant ≡ seal.params.constant → IsLawful tables seal core → core.plain.operating ≡ Off → IsDurable d
-    → d ≡ first_state → IsReady tables seal core d
-ready_first tables seal core d compiled constant lawful off range is =
-    let s : Setting = record {
-      tariff = sound_of compiled.0;
-      constant = tables.constant;
-      mode = seal.params.mode;
-      hold_time = seal.params.hold_time;
-      offsets = seal.params.offsets;
-    } in
-    record {
-      lawful = lawful;
-      range = range;
-      fits = λ trip holds. absurd (let bad = sym (ap (λ (x : Durable). x.hold) is) ∙ holds in cc);
-      way = record {
-        setting = s;
-        meter = opened s first_state;
-        is = record {
-          tariff = record { tree = compiled.0; compiled = compiled.1; parts = refl; constant = refl };
-          secured = record { constant = sym constant; mode = refl; hold_time = refl; offsets = refl };
-        };
-        stands = begins s core d off is;
-      };
-    }
 
 -- the first events of a list, and the next one, are one more of them
 one_more : (events : List Event) (i : ℕ) (d : Event) → i < length events

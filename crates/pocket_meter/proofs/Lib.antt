@@ -1,4 +1,4 @@
--- a meter that begins, and events that it carries out, one behind the other
+-- events that a meter carries out, one behind the other
 mod Carrying
--- tables and a seal that are made of two texts
-mod Making
+-- the value of an answer that went well
+mod OkValues

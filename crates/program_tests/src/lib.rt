@@ -1,5 +1,5 @@
-//! Tests of both programs over files and devices in memory, and of what no command prints. They stand in a crate of
-//! their own, so that what all crates below promise is stated for tests once.
+//! Tests of both programs over files and devices in memory, and of what no command prints. They have a crate of their
+//! own, so that what all crates below promise is stated for tests once.
 #![tactic(auto)]
 
 #[cfg(test)]

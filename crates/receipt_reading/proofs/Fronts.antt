@@ -23,7 +23,7 @@ front_read text r p n h =
     ap receipt_at (sym (take-append-drop n text) ∙ ap (λ (t : List ℕ). t ++ drop n text) h.is.text_is)
     ∙ receipt_again r p (drop n text) h.is.receipt_is h.is.part_is
 
--- where nothing is read, none stands in front
+-- if nothing is read, none stands in front
 pub front_none : (text : List ℕ) → receipt_at text ≡ None → (r : Receipt) (p : Part) (n : ℕ)
     → (◌≡◌ {A = Option (Receipt × Part × ℕ)} None (Some (r, p, n))) ↔ IsInFront text r p n
 front_none text e r p n = (
@@ -39,7 +39,7 @@ same_front text r₀ p₀ e r p n h =
     let read = front_read text r p n (spelled_front text r p n h) in
     cc
 
--- where the text of what was read doesn't stand in front, none does
+-- if the text of what was read doesn't stand in front, none does
 pub front_other : (text : List ℕ) (r₀ : Receipt) (p₀ : Part) → receipt_at text ≡ Some (r₀, p₀)
     → ((n : ℕ) → (◌≡◌ {A = Option ℕ} None (Some n)) ↔ IsSpelledInFront text r₀ p₀ n)
     → (r : Receipt) (p : Part) (n : ℕ) → (◌≡◌ {A = Option (Receipt × Part × ℕ)} None (Some (r, p, n)))
@@ -57,7 +57,7 @@ front_other text r₀ p₀ e not r p n = (
 same_count : (m n : ℕ) → ◌≡◌ {A = Option ℕ} (Some m) (Some n) → m ≡ n
 same_count m n e = cc
 
--- where it does, it is the receipt in front
+-- if it does, it is the receipt in front
 pub front_some : (text : List ℕ) (r₀ : Receipt) (p₀ : Part) (n₀ : ℕ) → receipt_at text ≡ Some (r₀, p₀)
     → ((n : ℕ) → (◌≡◌ {A = Option ℕ} (Some n₀) (Some n)) ↔ IsSpelledInFront text r₀ p₀ n)
     → (r : Receipt) (p : Part) (n : ℕ) → (◌≡◌ {A = Option (Receipt × Part × ℕ)} (Some (r₀, p₀, n₀)) (Some (r, p, n)))

@@ -1,2 +1,2 @@
--- a receipt stands at the front of a text where it is read there and is written so
+-- a receipt stands at the front of a text if it is read there and is written so
 mod Fronts

@@ -4,8 +4,7 @@ use Rattle.taxi_units.specs.declared.receipt.Receipt.{Receipt}
 use Rattle.receipt_text.specs.Grammar.{IsReceiptText}
 use Rattle.receipt_text.specs.Part.{Part}
 
--- a receipt stands in front of a text if the first `count` bytes of the text are the receipt, whatever stands behind
--- them
+-- a receipt stands in front of a text if the text's first `count` bytes are the receipt, whatever follows them
 pub record IsInFront (text : List ℕ) (receipt : Receipt) (part : Part) (count : ℕ) : Type 0 where
   pub within : count ≤ length text
   pub is : IsReceiptText (take count text) receipt part

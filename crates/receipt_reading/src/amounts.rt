@@ -7,8 +7,8 @@ use crate::figures::{number_below, value_below};
 use receipt_text::Amount;
 use taxi_units::{count_digits, word};
 
-/// An amount at the front of a text, and what stands after it: digits, and perhaps a point and one to
-/// three digits. `None` where no such amount stands there, or its units aren't below the limit.
+/// An amount at the front of a text, and the text behind it: digits, and perhaps a point and one to three digits.
+/// `None` if there is no such amount, or its units aren't below the limit.
 #[tactic(auto, unfolding(receipt_text::specs::Figures::amount_below))]
 pub fn amount_below(text: &[u8], limit: u128) -> Option<(Amount, &[u8])>
     requires some { 0 < limit }
@@ -29,7 +29,7 @@ pub fn amount_below(text: &[u8], limit: u128) -> Option<(Amount, &[u8])>
     }
 }
 
-/// The amount behind a word at the front of a text, and what stands after it.
+/// The amount behind a word at the front of a text, and the text behind it.
 pub fn amount_behind<'a>(text: &'a [u8], before: &[u8], limit: u128) -> Option<(Amount, &'a [u8])>
     requires some { 0 < limit }
     requires most { limit ≤ 10 ^ 24 }
@@ -47,7 +47,7 @@ fn whole_amount(units: u128) -> Amount
     Amount { units, decimals: 0 }
 }
 
-/// The amount of what stands before a point and the digits at the front of what stands after it.
+/// The amount of the text before a point and the digits at the front of the text behind the point.
 #[tactic(auto, using(taxi_units::proofs::Laws::digits_in_front))]
 fn with_parts(whole: u128, text: &[u8], limit: u128) -> Option<(Amount, &[u8])>
     requires whole { whole < limit }

@@ -8,7 +8,7 @@ use crate::figures::{READ_BELOW, number_behind};
 use receipt_text::Calculation;
 use taxi_units::word;
 
-/// The line of the calculation at the front of a text, and what stands after it.
+/// The line of the calculation at the front of a text, and the text behind it.
 #[tactic(auto, unfolding(receipt_text::specs::Lines::calculation_at))]
 pub fn calculation_at(text: &[u8]) -> Option<(Calculation, &[u8])>
     ensures { Gives (λ x. (x.0, x.1.now)) result (spec.calculation_at text.now) }

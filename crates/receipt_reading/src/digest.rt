@@ -3,7 +3,7 @@ ghost use Rattle.std.specs.Prelude.{◌≡◌, ◌+◌, ◌*◌, ◌<◌, length
 ghost use Rattle.taxi_units.specs.Reading.{Gives};
 ghost use Rattle.receipt_text.specs.Digests as spec;
 
-/// The number of a lower-case hexadecimal digit.
+/// The value of a lower-case hexadecimal digit.
 fn hex_value(digit: u8) -> Option<u8>
     ensures value { result ≡ spec.hex_value digit }
     ensures below { IfSome result (λ value. value < 16) }
@@ -17,7 +17,7 @@ fn hex_value(digit: u8) -> Option<u8>
     }
 }
 
-/// The byte of two digits at the front of a text, and what stands after them.
+/// The byte of two digits at the front of a text, and the text behind them.
 fn byte_at(text: &[u8]) -> Option<(u8, &[u8])>
     ensures { Gives (λ x. (x.0, x.1.now)) result (spec.byte_at text.now) }
 {
@@ -28,7 +28,7 @@ fn byte_at(text: &[u8]) -> Option<(u8, &[u8])>
     Some((high * 16 + low, text))
 }
 
-/// A digest at the front of a text, and what stands after it.
+/// A digest at the front of a text, and the text behind it.
 #[tactic(auto, unfolding(receipt_text::specs::Digests::digest_at))]
 pub fn digest_at(text: &[u8]) -> Option<([u8; 32], &[u8])>
     ensures { Gives (λ x. (x.0, x.1.now)) result (spec.digest_at text.now) }
@@ -38,7 +38,7 @@ pub fn digest_at(text: &[u8]) -> Option<([u8; 32], &[u8])>
     Some((digest, rest))
 }
 
-/// Reads as many bytes as there are places, and gives what stands after them.
+/// Reads as many bytes as there are places, and gives the text behind them.
 #[tactic(auto, unfolding(receipt_text::specs::Digests::bytes_at))]
 fn fill<'a>(places: &mut [u8], text: &'a [u8]) -> Option<&'a [u8]>
     ensures { Gives (λ rest. (places.new, rest.now)) result (spec.bytes_at (length places.old) text.now) }

@@ -6,11 +6,11 @@ ghost use Rattle.receipt_text.specs.Figures.{AreDigits};
 
 use taxi_units::{count_digits, word};
 
-/// Numbers and amounts of a receipt are read where they are below this, but those of its trip and its dates.
+/// Numbers and amounts of a receipt are read if they are below this, except those of its trip and its dates.
 pub(crate) const READ_BELOW: u128 = 1_000_000_000_000_000_000;
 
-/// A number at the front of a text, of all the digits that stand there, and what stands after it. `None`
-/// where no digit stands there, or the number isn't below the limit.
+/// A number at the front of a text, of all the digits there, and the text behind it. `None` if there is no digit, or
+/// the number isn't below the limit.
 #[tactic(auto, unfolding(receipt_text::specs::Figures::number_below), using(taxi_units::proofs::Laws::digits_in_front))]
 pub(crate) fn number_below(text: &[u8], limit: u128) -> Option<(u128, &[u8])>
     requires some { 0 < limit }
@@ -26,7 +26,7 @@ pub(crate) fn number_below(text: &[u8], limit: u128) -> Option<(u128, &[u8])>
     Some((value, rest))
 }
 
-/// The number behind a word at the front of a text, and what stands after it.
+/// The number behind a word at the front of a text, and the text behind it.
 pub(crate) fn number_behind<'a>(
     text: &'a [u8],
     before: &[u8],
@@ -40,7 +40,7 @@ pub(crate) fn number_behind<'a>(
     number_below(word(text, before)?, limit)
 }
 
-/// The number that digits make after those of a number, where it is below the limit.
+/// The number that digits make after those of another number, if it is below the limit.
 pub(crate) fn value_below(start: u128, digits: &[u8], limit: u128) -> Option<u128>
     requires start { start < limit }
     requires most { limit ≤ 10 ^ 24 }

@@ -11,10 +11,9 @@ use crate::reading::receipt_at;
 use receipt_text::{SealPart, put_part_receipt};
 use taxi_units::{Line, Receipt};
 
-/// Reads the receipt that stands at the front of a text, whatever stands after it: what it says of the
-/// hiring, what of the seal of the meter, and how many bytes it has, at most 480. `None` exactly where no
-/// beginning of the text is a receipt, byte for byte, with each number in its range. At most one beginning
-/// is. No memory is taken. The form is this project's own.
+/// Reads the receipt at the front of a text, whatever follows it: what it says of the hiring, what of the seal of the
+/// meter, and how many bytes it has, at most 480. `None` exactly if no beginning of the text is a receipt, byte for
+/// byte, with each number in its range. At most one beginning is. No memory is taken. The form is this project's own.
 pub fn receipt_in_front(text: &[u8]) -> Option<(Receipt, SealPart, usize)>
     ensures { (receipt : Receipt) (part : Part) (count : ℕ)
         → (result ≡ Some (receipt, part, count)) ↔ IsInFront text.now receipt part count }
@@ -24,8 +23,7 @@ pub fn receipt_in_front(text: &[u8]) -> Option<(Receipt, SealPart, usize)>
     Some((receipt, part, count))
 }
 
-/// How many bytes the text of this receipt and this part has, where both are in their ranges and it stands
-/// at the front.
+/// How many bytes the text of this receipt and this part has, if both are in their ranges and it is at the front.
 fn spelled_in_front(text: &[u8], receipt: &Receipt, part: &SealPart) -> Option<usize>
     ensures { (count : ℕ) → (result ≡ Some count) ↔ IsSpelledInFront text.now receipt.now part.now count }
 {
@@ -36,7 +34,7 @@ fn spelled_in_front(text: &[u8], receipt: &Receipt, part: &SealPart) -> Option<u
     }
 }
 
-/// How many bytes the text of this receipt and this part has, where it stands at the front.
+/// How many bytes the text of this receipt and this part has, if it is at the front.
 #[tactic(auto, using(receipt_text::proofs::Laws::receipts_fit))]
 fn length_in_front(text: &[u8], receipt: &Receipt, part: &SealPart) -> Option<usize>
     requires receipt { IsReceipt receipt.now }
@@ -50,7 +48,7 @@ fn length_in_front(text: &[u8], receipt: &Receipt, part: &SealPart) -> Option<us
     }
 }
 
-/// The length of a part of a text, where that stands at its front.
+/// The length of a part of a text, if the text begins with it.
 fn length_of_front(text: &[u8], part: &[u8]) -> Option<usize>
     ensures { (count : ℕ) → (result ≡ Some count) ↔ ((count ≤ length text.now) × (take count text.now ≡ part.now)) }
 {

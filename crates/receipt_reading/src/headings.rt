@@ -6,7 +6,7 @@ use crate::figures::{READ_BELOW, number_behind};
 use receipt_text::Heading;
 use taxi_units::{Kind, word};
 
-/// The lines of the number and the kind at the front of a text, and what stands after them.
+/// The lines of the number and the kind at the front of a text, and the text behind them.
 #[tactic(auto, unfolding(receipt_text::specs::Lines::heading_at))]
 pub fn heading_at(text: &[u8]) -> Option<(Heading, &[u8])>
     ensures { Gives (λ x. (x.0, x.1.now)) result (spec.heading_at text.now) }
@@ -22,7 +22,7 @@ pub fn heading_at(text: &[u8]) -> Option<(Heading, &[u8])>
     Some((heading, rest))
 }
 
-/// A kind at the front of a text, and what stands after it.
+/// A kind at the front of a text, and the text behind it.
 fn kind_at(text: &[u8]) -> Option<(Kind, &[u8])>
     ensures { Gives (λ x. (x.0, x.1.now)) result (spec.kind_at text.now) }
 {

@@ -27,7 +27,7 @@ fn count_characters(text: &[u8]) -> usize
     count
 }
 
-/// A taxi identifier at the front of a text, and what stands after it.
+/// A taxi identifier at the front of a text, and the text behind it.
 #[tactic(auto, unfolding(receipt_text::specs::Lines::taxi_at))]
 fn taxi_at(text: &[u8]) -> Option<(ArrayVec<u8, 16>, &[u8])>
     ensures { Gives (λ x. (x.0.items, x.1.now)) result (spec.taxi_at text.now) }
@@ -44,7 +44,7 @@ fn taxi_at(text: &[u8]) -> Option<(ArrayVec<u8, 16>, &[u8])>
     }
 }
 
-/// The lines of the seal at the front of a text, and what stands after them.
+/// The lines of the seal at the front of a text, and the text behind them.
 #[tactic(auto, unfolding(receipt_text::specs::Lines::part_at))]
 pub fn part_at(text: &[u8]) -> Option<(SealPart, &[u8])>
     ensures { Gives (λ x. (x.0, x.1.now)) result (spec.part_at text.now) }

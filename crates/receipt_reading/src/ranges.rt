@@ -15,7 +15,7 @@ use receipt_text::SealPart;
 use seal_record::{FIRST_DAY, LAST_DAY};
 use taxi_units::{Kind, Receipt, Stamp, is_date, is_identifier_character};
 
-/// Whether a receipt is one for a hiring, with each number in its range and the fare that it calculates.
+/// Whether a receipt is one for a hiring, with each number in its range and the fare that its lines give.
 pub(crate) fn is_receipt(receipt: &Receipt) -> bool
     ensures { IsTrue result ↔ IsReceipt receipt.now }
 {

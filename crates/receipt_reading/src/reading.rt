@@ -21,9 +21,9 @@ use receipt_text::{
 };
 use taxi_units::{Line, Receipt};
 
-/// Reads the text of a receipt: what it says of the hiring, and what of the seal of the meter. `None`
-/// exactly where the text isn't that of a receipt, byte for byte, with each number in its range. No
-/// memory is taken. The form is this project's own.
+/// Reads the text of a receipt: what it says of the hiring, and what of the seal of the meter. `None` exactly if the
+/// text isn't that of a receipt, byte for byte, with each number in its range. No memory is taken. The form is this
+/// project's own.
 pub fn read_receipt(text: &[u8]) -> Option<(Receipt, SealPart)>
     ensures { (receipt : Receipt) (part : Part)
         → (result ≡ Some (receipt, part)) ↔ IsReceiptText text.now receipt part }

@@ -8,7 +8,7 @@ use interval_clock::{CalendarDate, day_number};
 use seal_record::{FIRST_DAY, LAST_DAY};
 use taxi_units::{Stamp, word};
 
-/// A date at the front of a text, and what stands after it.
+/// A date at the front of a text, and the text behind it.
 #[tactic(auto, unfolding(receipt_text::specs::Dates::date_at))]
 fn date_at(text: &[u8]) -> Option<(CalendarDate, &[u8])>
     ensures value { Gives (λ x. (x.0, x.1.now)) result (spec.date_at text.now) }
@@ -25,7 +25,7 @@ fn date_at(text: &[u8]) -> Option<(CalendarDate, &[u8])>
     Some((date, text))
 }
 
-/// The day number of a date at the front of a text, of the years 2000 to 2199, and what stands after it.
+/// The day number of a date at the front of a text, of the years 2000 to 2199, and the text behind it.
 #[tactic(auto, unfolding(receipt_text::specs::Dates::day_at))]
 pub fn day_at(text: &[u8]) -> Option<(i32, &[u8])>
     ensures { Gives (λ x. (x.0, x.1.now)) result (spec.day_at text.now) }
@@ -51,7 +51,7 @@ fn day_of(date: CalendarDate) -> Option<i32>
     }
 }
 
-/// A time of the day at the front of a text, as its second, and what stands after it.
+/// A time of the day at the front of a text, as its second, and the text behind it.
 #[tactic(auto, unfolding(receipt_text::specs::Dates::time_at))]
 fn time_at(text: &[u8]) -> Option<(u32, &[u8])>
     ensures { Gives (λ x. (x.0, x.1.now)) result (spec.time_at text.now) }
@@ -62,7 +62,7 @@ fn time_at(text: &[u8]) -> Option<(u32, &[u8])>
     Some(((hours * 3600 + minutes * 60 + seconds) as u32, text))
 }
 
-/// A local date and time at the front of a text, and what stands after it.
+/// A local date and time at the front of a text, and the text behind it.
 #[tactic(auto, unfolding(receipt_text::specs::Dates::stamp_at))]
 fn stamp_at(text: &[u8]) -> Option<(Stamp, &[u8])>
     ensures { Gives (λ x. (x.0, x.1.now)) result (spec.stamp_at text.now) }
@@ -79,7 +79,7 @@ fn stamp_at(text: &[u8]) -> Option<(Stamp, &[u8])>
     Some((stamp, text))
 }
 
-/// The local date and time behind a word at the front of a text, and what stands after it.
+/// The local date and time behind a word at the front of a text, and the text behind them.
 pub fn stamp_behind<'a>(text: &'a [u8], before: &[u8]) -> Option<(Stamp, &'a [u8])>
     ensures { Gives (λ x. (x.0, x.1.now)) result (spec.stamp_behind before.now text.now) }
 {

@@ -36,7 +36,7 @@ fn fare_of(receipt: &Receipt) -> u128
         .min(LARGEST_AMOUNT as u128)
 }
 
-/// The amounts of the optional lines that stand at the front of a text, and what stands after them.
+/// The amounts of the optional lines at the front of a text, and the text behind them.
 #[tactic(auto, unfolding(receipt_text::specs::Lines::optional_lines_at))]
 pub fn optional_lines_at(text: &[u8]) -> Option<(OptionalAmounts, &[u8])>
     ensures { Gives (λ x. (x.0, x.1.now)) result (spec.optional_lines_at text.now) }
@@ -45,8 +45,8 @@ pub fn optional_lines_at(text: &[u8]) -> Option<(OptionalAmounts, &[u8])>
     Some((OptionalAmounts { minimum }, rest))
 }
 
-/// The amount of the optional line of a word at the front of a text, and what stands after it; 0 where
-/// the text doesn't begin with such a line.
+/// The amount of the optional line of a word at the front of a text, or 0 if the text doesn't begin with such a line,
+/// and the text behind it.
 #[tactic(auto, unfolding(receipt_text::specs::Lines::optional_at))]
 fn optional_at<'a>(text: &'a [u8], before: &[u8]) -> Option<(u64, &'a [u8])>
     ensures { Gives (λ x. (x.0, x.1.now)) result (spec.optional_at before.now text.now) }
@@ -61,7 +61,7 @@ fn optional_at<'a>(text: &'a [u8], before: &[u8]) -> Option<(u64, &'a [u8])>
     }
 }
 
-/// The lines of the fare and the supplements at the front of a text, and what stands after them.
+/// The lines of the fare and the supplements at the front of a text, and the text behind them.
 #[tactic(auto, unfolding(receipt_text::specs::Lines::sums_at))]
 pub fn sums_at(text: &[u8]) -> Option<(Sums, &[u8])>
     ensures { Gives (λ x. (x.0, x.1.now)) result (spec.sums_at text.now) }

@@ -8,7 +8,7 @@ use crate::stamps::stamp_behind;
 use receipt_text::TripLines;
 use taxi_units::word;
 
-/// The lines of the trip at the front of a text, and what stands after them.
+/// The lines of the trip at the front of a text, and the text behind them.
 #[tactic(auto, unfolding(receipt_text::specs::Lines::trip_at))]
 pub fn trip_at(text: &[u8]) -> Option<(TripLines, &[u8])>
     ensures { Gives (λ x. (x.0, x.1.now)) result (spec.trip_at text.now) }

@@ -1,4 +1,4 @@
--- A text is a receipt exactly where it is the one that is written.
+-- A text is a receipt exactly if it is the one that is written.
 use Rattle.std.proofs.Common.{◌≡◌, ◌≢◌, ◌∙◌, ◌↔◌, ℕ, ◌+◌, ◌/◌, ◌%◌, ◌^◌, ◌<◌, ◌≤◌, inl, inr, List, [], ◌∷◌, ◌++◌, refl}
 use Rattle.std.proofs.Common.{ap, sym, subst, arith, eqb, false, append_assoc, ℤ, pos, ◌≤ℤ◌, unsigned_abs}
 use Rattle.std.specs.Prelude.{codes}
@@ -223,7 +223,7 @@ calculation_only r is text =
       },
     )
 
--- a line has one text, where its value and what stands after it have one
+-- a line has one text if its value and the text behind it have one
 line_only : (word spelled after : List ℕ) (Value Rest : List ℕ → Type 0) → Only Value spelled → Only Rest after
     → Only (Line word Value Rest) (word ++ (spelled ++ 10 ∷ after))
 line_only word spelled after Value Rest value rest text = (
@@ -255,7 +255,7 @@ amounts_only r is =
     line_only (codes "FARE ") (money_text r.decimals r.fare) _ (IsMoney r r.fare) _
     (amount_only r.decimals r.fare (omega (arith, is.fare))) second
 
--- optional lines have one text, where what stands behind them has one
+-- optional lines have one text if the text behind them has one
 optional_only : (r : Receipt) (lines : List (List ℕ × ℕ)) (after : List ℕ) (Rest : List ℕ → Type 0)
     → AllByRecursion IsShort lines → Only Rest after → Only (HasOptional r lines Rest) (in_front r.decimals lines after)
 unfolding optional_text

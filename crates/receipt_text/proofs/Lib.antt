@@ -2,13 +2,13 @@
 mod Again
 -- texts that are appended in pieces
 mod Appending
--- all elements of a list are bytes where each is
+-- all elements of a list are bytes if each is
 mod Bytes
 -- what is written of a date, a day or a local time is read again
 mod Dates
 -- the numbers that digits make, and a limit
 mod Digits
--- a text is a receipt of the grammar exactly where it is the one that is written
+-- a text is a receipt of the grammar exactly if it is the one that is written
 mod GrammarTexts
 -- what is written of a group of lines is read again
 mod Groups

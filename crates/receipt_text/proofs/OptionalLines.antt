@@ -17,7 +17,7 @@ use Rattle.receipt_text.proofs.Again.{amount_again, word_again}
 use Rattle.receipt_text.proofs.Appending.{lengths}
 use Rattle.receipt_text.proofs.Widths.{amount_most}
 
--- a line is short where its word and its amount are
+-- a line is short if its word and its amount are
 pub record IsShort (line : List ℕ × ℕ) : Type 0 where
   pub word : length line.0 ≤ 10
   pub amount : line.1 ≤ largest_amount

@@ -44,7 +44,7 @@ pub spelled_again : (text : List ℕ) (r : Receipt) (p : Part) → IsSpelled tex
 spelled_again text r p h =
     ap receipt_at (h.text_is ∙ sym (append-nil (receipt_text r p))) ∙ receipt_again r p [] h.receipt_is h.part_is
 
--- where nothing is read, no receipt is spelled
+-- if nothing is read, no receipt is spelled
 pub none_read : (text : List ℕ) → receipt_at text ≡ None → (r : Receipt) (p : Part) → IsSpelled text r p → ⊥
 none_read text e r p h = let found = spelled_again text r p h in absurd cc
 

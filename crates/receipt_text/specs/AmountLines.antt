@@ -2,10 +2,10 @@
 use Rattle.std.specs.Prelude.{ℕ, ◌+◌, List, [], ◌∷◌, codes}
 use Rattle.taxi_units.specs.declared.receipt.Receipt.{Receipt}
 
--- the optional lines of a receipt are that of the minimum fare, each by the word with which it begins and its amount
+-- a receipt has one optional line, that of the minimum fare: its word and its amount
 abbrev pub optional_lines : Receipt → List (List ℕ × ℕ)
 optional_lines receipt = (codes "MINIMUM ", receipt.minimum) ∷ []
 
--- the total of a receipt is its fare and its supplements, which are no part of the fare, together
+-- the total of a receipt is its fare and its supplements together; the supplements are no part of the fare
 unfoldable pub total_of : Receipt → ℕ
 total_of receipt = receipt.fare + receipt.supplements

@@ -3,7 +3,7 @@
 use Rattle.std.specs.Prelude.{ℕ, zero, suc, ◌+◌, ◌-◌, ◌*◌, ◌&&◌, nat_le, if◌then◌else◌, List, [], ◌∷◌, Option, Some, None}
 use Rattle.taxi_units.specs.Reading.{◌>>=◌}
 
--- a lower-case hexadecimal digit counts this many, and another byte is no digit
+-- a lower-case hexadecimal digit has this value, and another byte has none
 abbrev pub hex_value : ℕ → Option ℕ
 hex_value c =
     if nat_le 48 c && nat_le c 57 then Some (c - 48)

@@ -1,4 +1,4 @@
--- Rules: the grammar of receipts, which texts are receipts, line by line.
+-- Rules: the grammar of receipts: which texts are receipts, line by line.
 use Rattle.std.specs.Prelude.{◌≡◌, ◌⊎◌, ℕ, ◌+◌, ◌*◌, ◌-◌, ◌<◌, ◌≤◌, ℤ, List, [], ◌∷◌, ◌++◌, codes}
 use Rattle.interval_clock.specs.Calendar.{IsDateOf}
 use Rattle.taxi_units.specs.Shown.{IsReceipt}
@@ -54,7 +54,7 @@ pub record IsStampText (stamp : Stamp) (text : List ℕ) : Type 0 where
   pub date_is : IsDateText stamp.year stamp.month stamp.date date
   pub time_is : IsTimeText stamp.second time
 
--- a text is that of a day number if it is the date that the day number has in the calendar
+-- a text is that of a day number if it is the number's date in the calendar
 pub record IsDayText (day : ℤ) (text : List ℕ) : Type 0 where
   pub year : ℕ
   pub month : ℕ
@@ -73,7 +73,7 @@ IsHexText (byte ∷ bytes) text =
     (high : ℕ) × (low : ℕ) × (c : ℕ) × (d : ℕ) × (rest : List ℕ)
     × (text ≡ c ∷ d ∷ rest) × (byte ≡ high * 16 + low) × IsHexDigit high c × IsHexDigit low d × IsHexText bytes rest
 
--- a text is a distance in metres, with three decimals for its millimetres and the sign m behind a blank
+-- a text is a distance if it has metres, three decimals for the millimetres, a blank and `m`
 pub record IsDistance (millimetres : ℕ) (text : List ℕ) : Type 0 where
   pub metres : List ℕ
   pub text_is : text ≡ metres ++ codes " m"
@@ -108,8 +108,8 @@ AreAmounts receipt =
     (Line (codes "SUPPLEMENTS ") (IsMoney receipt receipt.supplements)
     (Line (codes "TOTAL ") (IsMoney receipt (total_of receipt)) (IsExactly (codes "END\n"))))
 
--- a text begins with optional lines, of which each is there exactly if its amount is above 0, and what follows them has
--- another form
+-- a text begins with optional lines, each there exactly if its amount is above 0, and the text behind them has another
+-- form
 abbrev pub HasOptional : Receipt → List (List ℕ × ℕ) → (Rest : List ℕ → Type 0) → List ℕ → Type 0
 HasOptional receipt [] Rest = Rest
 HasOptional receipt ((word, amount) ∷ more) Rest = λ text.

@@ -10,7 +10,7 @@ use Rattle.taxi_units.specs.declared.receipt.Stamp.{Stamp}
 use Rattle.receipt_text.specs.AmountLines.{optional_lines, total_of}
 use Rattle.receipt_text.specs.Part.{Part}
 
--- the word for how a hiring ended is `CLOSED`, `ABORTED` or `EXPIRED`, and roaming, which has no receipt, has none
+-- the word for how a hiring ended is `CLOSED`, `ABORTED` or `EXPIRED`; roaming has no receipt and no word
 abbrev pub kind_text : Kind → List ℕ
 kind_text Closed = codes "CLOSED"
 kind_text Aborted = codes "ABORTED"
@@ -59,7 +59,7 @@ part_text part =
     ++ (codes "\nSECURED " ++ (day_text part.secured ++ (codes "\nTARIFF " ++ (hex_text part.digest ++ codes "\n")))))))
 
 -- the course of a trip is written as its start, its finish, its tariff position and its distance in metres, each on a
--- line of its own, of which the last isn't ended
+-- line, but without the end of the last line
 unfoldable pub course_text : Receipt → List ℕ
 course_text receipt =
     codes "START " ++ (stamp_text receipt.start ++ (codes "\nFINISH " ++ (stamp_text receipt.finish

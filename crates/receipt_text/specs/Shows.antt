@@ -10,8 +10,8 @@ pub record HasFields (display : Display) : Type 0 where
   pub fare : display.fare < 2 ^ 64
   pub supplements : display.supplements < 2 ^ 64
 
--- two displays show the same if their fields are equal, but for the fare and the supplements in For Hire, where they
--- aren't shown
+-- two displays show the same if their fields are equal; in For Hire the fare and the supplements aren't shown, and may
+-- differ
 pub record ShowsSame (a b : Display) : Type 0 where
   pub operating : a.operating ≡ b.operating
   pub position : a.position ≡ b.position

@@ -16,7 +16,7 @@ abbrev pub amounts_text : Display → List ℕ
 amounts_text d = codes " " ++ (money_text d.decimals d.fare ++ (codes " +" ++ money_text d.decimals d.supplements))
 
 -- the line of a display in an operating position is the word of the position, the tariff position and the zone, and in
--- Hired and Stopped the amounts; in Off there is none
+-- Hired and Stopped the amounts; in Off there is no line
 abbrev pub display_line : Operating → Display → List ℕ
 display_line Off d = []
 display_line ForHire d = codes "FOR HIRE" ++ (place_text d ++ codes "\n")

@@ -9,14 +9,12 @@ use taxi_units::{
     Display, Line, LineFull, Operating, push_bytes, push_money, push_number, put_bytes,
 };
 
-/// Appends the line of a display: the operating position, the tariff position and the zone, and but in
-/// For Hire the fare and the supplements, which the fare doesn't contain. Money is counted in units of
-/// the last of the tariff's decimals.
+/// Appends the line of a display: the operating position, the tariff position and the zone, and, except in For Hire,
+/// the fare and the supplements, which are no part of the fare. Money is in units of the last of the tariff's decimals.
 ///
-/// `LineFull` where the text doesn't fit; the line is then unchanged. It fits where there is room for 200
-/// bytes. That the three operating
-/// positions, the tariff and the supplements are shown, and the supplements apart from the fare, is
-/// what MI-007 asks; the form of the text is this project's own.
+/// `LineFull`: the text doesn't fit, and the line is unchanged. It fits if there is room for 200 bytes. MI-007 asks
+/// that the three operating positions, the tariff and the supplements are shown, the supplements apart from the fare;
+/// the form of the text is this project's own.
 pub fn put_display(line: &mut Line, display: &Display) -> Result<(), LineFull>
     requires { IsShown display.now }
     ensures variant { IsOk result ↔ (array_vec_len line.old + length (display_text display.now) ≤ line_size) }

@@ -1,4 +1,4 @@
-//! A word and what stands after it, put into a line.
+//! A word and the text behind it, put into a line.
 ghost use Rattle.std.specs.Prelude.{◌≡◌, ◌+◌, ◌≤◌, ◌++◌, ◌↔◌, length, decimal, IsOk, OnOk};
 ghost use Rattle.arrayvec.specs.ArrayVec.{array_vec_len};
 ghost use Rattle.taxi_units.specs.Line.{line_size};

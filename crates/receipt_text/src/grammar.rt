@@ -33,21 +33,21 @@ pub fn receipts_are_short()
         → IsReceiptText text receipt part → length text ≤ 480 }
 {}
 
-/// A law: a receipt begins with its first word, so one can begin only where this word stands.
+/// A law: a receipt begins with its first word, so one can begin only where this word is.
 pub fn receipts_begin_with_their_word()
     ensures { (text : List ℕ) (receipt : Receipt) (part : Part)
         → IsReceiptText text receipt part → (rest : List ℕ) × (text ≡ codes "RECEIPT " ++ rest) }
 {}
 
-/// A law: under one tariff's decimals two displays have the same text exactly where their fields are
-/// equal, but for the fare and the supplements in For Hire, where they aren't shown.
+/// A law: under one tariff's decimals two displays have the same text exactly if their fields are equal; in For Hire
+/// the fare and the supplements aren't shown, and may differ.
 pub fn displays_differ_by_their_fields()
     ensures { (a b : Display) → IsShown a → IsShown b → HasFields a → HasFields b → a.decimals ≡ b.decimals
         → (display_text a ≡ display_text b) ↔ ShowsSame a b }
 {}
 
-/// A law: under two seals that say the same but for the digest, the texts of a receipt differ in their line `TARIFF`
-/// alone: both have one front and one back, and between them this line with the seal's digest.
+/// A law: under two seals that say the same but for the digest, the texts of a receipt differ only in their line
+/// `TARIFF`: both have the same front and back, and between them this line with the seal's digest.
 pub fn receipts_differ_in_their_tariff_alone()
     ensures { (receipt : Receipt) (a b : Part) → record a { digest = b.digest } ≡ b
         → DifferInTariff a.digest b.digest (receipt_text receipt a) (receipt_text receipt b) }

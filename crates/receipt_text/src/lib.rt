@@ -1,5 +1,5 @@
-//! The texts that passengers and offices read: displays, refusals and receipts, each written exactly, with the
-//! grammar of receipts. `receipt_reading` reads them back. All of these texts are this project's own.
+//! The texts that passengers and offices read: displays, refusals and receipts, each written exactly, with the grammar
+//! of receipts. `receipt_reading` reads them back. The form of all these texts is this project's own.
 #![tactic(auto)]
 
 mod amounts;

@@ -55,7 +55,7 @@ pub(crate) fn part_of(seal: &Seal) -> SealPart
     }
 }
 
-/// Says of 32 bytes what is known of each: it is below 256. It does nothing.
+/// Tells the prover that each of 32 bytes is below 256. It does nothing at run time.
 fn recall(bytes: &[u8])
     requires { length bytes.now ≡ 32 }
     ensures { IsDigest bytes.now }

@@ -16,11 +16,11 @@ use crate::trips::put_trip;
 use seal_record::Seal;
 use taxi_units::{Line, LineFull, Receipt, put_bytes};
 
-/// Appends the text of a receipt: its number and kind, what it says of the meter's seal, the trip, the
-/// calculation of the fare, and the amounts. What is appended is a receipt by the grammar.
+/// Appends the text of a receipt: its number and kind, what it says of the meter's seal, the trip, the calculation of
+/// the fare, and the amounts. What is appended is a receipt by the grammar.
 ///
-/// `LineFull` where the text doesn't fit; the line is then unchanged. An empty line takes it, since it
-/// has at most 480 bytes. MI-007 asks for the data of the trip; the form is this project's own.
+/// `LineFull`: the text doesn't fit, and the line is unchanged. An empty line takes it, since it has at most 480 bytes.
+/// MI-007 asks for the data of the trip; the form is this project's own.
 pub fn put_receipt(line: &mut Line, receipt: &Receipt, seal: &Seal) -> Result<(), LineFull>
     requires receipt { IsReceipt receipt.now }
     requires seal { IsSeal seal.now }
@@ -34,7 +34,7 @@ pub fn put_receipt(line: &mut Line, receipt: &Receipt, seal: &Seal) -> Result<()
     put_part_receipt(line, receipt, &part)
 }
 
-/// Appends the text of a receipt, which only asks that its amounts and its date can be written.
+/// Appends the text of a receipt, and asks only that its amounts and its date can be written.
 pub fn put_part_receipt(line: &mut Line, receipt: &Receipt, part: &SealPart) -> Result<(), LineFull>
     requires decimals { receipt.now.decimals ≤ 3 }
     requires secured { IsDay part.now.secured }

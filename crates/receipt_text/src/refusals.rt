@@ -6,11 +6,11 @@ ghost use Rattle.taxi_units.specs.Line.{line_size};
 
 use taxi_units::{Line, LineFull, Why, push_bytes, push_number, put_bytes};
 
-/// Appends the line of a refusal: why the meter refused what was asked of it, with the two readings of a
-/// clock that was set back, in seconds from 1970-01-01T00:00Z, or with the number of pulses too many.
+/// Appends the line of a refusal: why the meter refused what was asked of it, with the two readings of a clock that was
+/// set back, in seconds from 1970-01-01T00:00Z, or with the number of pulses too many.
 ///
-/// `LineFull` where the text doesn't fit; the line is then unchanged. It fits where there is room for 100
-/// bytes. Refusals are this project's own.
+/// `LineFull`: the text doesn't fit, and the line is unchanged. It fits if there is room for 100 bytes. Refusals are
+/// this project's own.
 pub fn put_refusal(line: &mut Line, why: Why) -> Result<(), LineFull>
     ensures variant { IsOk result ↔ (array_vec_len line.old + length (refusal_text why) ≤ line_size) }
     ensures ok { OnOk result (line.new.items ≡ line.old.items ++ refusal_text why) }

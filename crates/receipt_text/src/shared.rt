@@ -1,4 +1,4 @@
-//! Lines of a receipt that other texts have too, put into a line that is known to have room for them. Their amounts
+//! Lines of a receipt that other texts have too. The line that they are put into has to have room for them. Amounts
 //! have 0 to 3 decimals. Their form is this project's own.
 ghost use Rattle.std.specs.Prelude.{◌≡◌, ◌+◌, ◌≤◌, ◌++◌, length};
 ghost use Rattle.arrayvec.specs.ArrayVec.{array_vec_len};
@@ -22,8 +22,8 @@ pub fn push_kind(line: &mut Line, kind: Kind)
     put_kind(line, kind).unwrap();
 }
 
-/// Appends the start, the finish, the tariff position and the distance of a trip, as on its receipt, but for the end of
-/// the last line.
+/// Appends the start, the finish, the tariff position and the distance of a trip, as on its receipt, but without the
+/// end of the last line.
 pub fn push_course(line: &mut Line, receipt: Receipt)
     requires { array_vec_len line.old + 140 ≤ line_size }
     ensures text { line.new.items ≡ line.old.items ++ course_text receipt }

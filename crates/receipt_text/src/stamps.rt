@@ -43,7 +43,7 @@ pub(crate) fn put_stamp(line: &mut Line, stamp: &Stamp) -> Result<(), LineFull>
     put_time(line, stamp.second)
 }
 
-/// Appends the date of a day number of the years 2000 to 2199, as YYYY-MM-DD, which has 10 bytes. `LineFull` where it
+/// Appends the date of a day number of the years 2000 to 2199, as YYYY-MM-DD, which has 10 bytes. `LineFull`: it
 /// doesn't fit. The form is this project's own.
 #[tactic(auto, unfolding(crate::specs::Receipts::day_text))]
 pub fn put_day(line: &mut Line, day: i32) -> Result<(), LineFull>

@@ -11,7 +11,7 @@ use taxi_units::{
     word,
 };
 
-/// What the optional lines say: 0 of each that isn't there.
+/// What the optional lines say: 0 for each that isn't there.
 #[derive(Clone, Copy)]
 pub struct OptionalAmounts {
     pub minimum: u64,
@@ -47,7 +47,7 @@ pub(crate) fn put_last_lines(line: &mut Line, receipt: &Receipt) -> Result<(), L
     put_total(line, receipt)
 }
 
-/// Appends an optional line: a word and an amount, where it is above 0.
+/// Appends an optional line, a word and an amount, if the amount is above 0.
 #[tactic(auto, unfolding(crate::specs::Receipts::optional_text))]
 fn put_optional(line: &mut Line, word: &[u8], amount: u64, decimals: u8) -> Result<(), LineFull>
     requires room { array_vec_len line.old ≤ line_size }

@@ -5,11 +5,11 @@ use Rattle.std.proofs.lemmas.List.{append-nil}
 use Rattle.std.proofs.Math.Seq.{take-append_seam}
 use Rattle.outside.specs.declared.board.Board.{Ghosts}
 use Rattle.outside.specs.declared.files.Files.{Ghosts as FileGhosts}
-use Rattle.outside.specs.declared.replay.Fill.{Fill}
+use Rattle.memory_devices.specs.declared.replay.Fill.{Fill}
 use Rattle.outside.specs.Disk.{SameBut}
 use Rattle.outside.specs.Faults.{Rose}
-use Rattle.outside.specs.MemoryBoard.{BoardState, image_of, left_since_of, new_board, text_of}
-use Rattle.outside.specs.MemoryFiles.{FilesState, rest_of}
+use Rattle.memory_devices.specs.MemoryBoard.{BoardState, image_of, left_since_of, new_board, text_of}
+use Rattle.memory_devices.specs.MemoryFiles.{FilesState, rest_of}
 use Rattle.outside.specs.Printing.{Begins}
 use Rattle.outside.specs.Runs.{IsAtRest as NothingFlies}
 use Rattle.slot_store.proofs.Laws.{one_body}

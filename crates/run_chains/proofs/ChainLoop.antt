@@ -2,9 +2,9 @@
 use Rattle.std.proofs.Common.{◌≡◌, ℕ, ◌+◌, ◌<◌, ◌≤◌, List, [], ◌∷◌, ◌++◌, map, length, take, drop, set, get_or, Option}
 use Rattle.std.proofs.Common.{refl, sym, ap, subst, ◌∙◌, arith}
 use Rattle.std.proofs.lemmas.List.{drop-drop, drop-set-lt, get_or-drop, take_all, take_more, take_more_set}
-use Rattle.outside.specs.MemoryBoard.{new_board}
-use Rattle.outside.specs.MemoryFiles.{FilesState}
-use Rattle.outside.specs.declared.replay.Fill.{Fill}
+use Rattle.memory_devices.specs.MemoryBoard.{new_board}
+use Rattle.memory_devices.specs.MemoryFiles.{FilesState}
+use Rattle.memory_devices.specs.declared.replay.Fill.{Fill}
 use Rattle.meter_store.specs.Stored.{HasState}
 use Rattle.totals_record.specs.declared.durable_state.Durable.{Durable}
 use Rattle.run_chains.specs.Chain.{AreCalls, HasChain, IsChain, Ran, last_image, last_state}

@@ -1,8 +1,8 @@
 -- Sums over the prefixes of a chain.
 use Rattle.std.proofs.Common.{◌≡◌, ℕ, List, [], ◌∷◌, take, drop, Option, refl, ap, subst, ◌∙◌, arith}
 use Rattle.outside.specs.Disk.{SameBut}
-use Rattle.outside.specs.MemoryFiles.{FilesState}
-use Rattle.outside.specs.declared.replay.Fill.{Fill}
+use Rattle.memory_devices.specs.MemoryFiles.{FilesState}
+use Rattle.memory_devices.specs.declared.replay.Fill.{Fill}
 use Rattle.outside.proofs.Laws.{same_slice}
 use Rattle.slot_store.specs.Scan.{verdict_on}
 use Rattle.slot_store.proofs.Laws.{body_found}

@@ -1,8 +1,8 @@
 -- For proofs: one run of a chain by the values that the code has of it. Link says what such a run is.
 use Rattle.std.specs.Prelude.{◌≡◌, ◌⊎◌, ℕ, List, [], Option}
-use Rattle.outside.specs.MemoryBoard.{BoardState, new_board}
-use Rattle.outside.specs.MemoryFiles.{FilesState}
-use Rattle.outside.specs.declared.replay.Fill.{Fill}
+use Rattle.memory_devices.specs.MemoryBoard.{BoardState, new_board}
+use Rattle.memory_devices.specs.MemoryFiles.{FilesState}
+use Rattle.memory_devices.specs.declared.replay.Fill.{Fill}
 use Rattle.totals_record.specs.declared.durable_state.Durable.{Durable}
 use Rattle.run_chains.specs.Chain.{Ran}
 use Rattle.run_chains.specs.Link.{IsLink, Link}

@@ -1,12 +1,12 @@
 -- Rules: one run of a chain, and the cut of the power in it.
 use Rattle.std.specs.Prelude.{◌≡◌, ◌≢◌, ℕ, ◌+◌, ◌-◌, ◌≤◌, min, List, [], length, take, Option, None, Some, Result, Ok}
 use Rattle.std.specs.Prelude.{Err}
-use Rattle.outside.specs.Calls.{IsInSome}
+use Rattle.memory_devices.specs.Calls.{IsInSome}
 use Rattle.outside.specs.Disk.{SameBut}
 use Rattle.outside.specs.Faults.{Rose}
-use Rattle.outside.specs.MemoryBoard.{BoardState, contents_inside, image_of, left_since_of, text_of}
-use Rattle.outside.specs.MemoryFiles.{FilesState, rest_of}
-use Rattle.outside.specs.declared.replay.Fill.{Fill}
+use Rattle.memory_devices.specs.MemoryBoard.{BoardState, contents_inside, image_of, left_since_of, text_of}
+use Rattle.memory_devices.specs.MemoryFiles.{FilesState, rest_of}
+use Rattle.memory_devices.specs.declared.replay.Fill.{Fill}
 use Rattle.meter_store.specs.Stored.{HasState}
 use Rattle.totals_record.specs.Sums.{GrowsBy}
 use Rattle.totals_record.specs.declared.change.Change.{Change}

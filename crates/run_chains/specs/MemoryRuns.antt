@@ -1,8 +1,8 @@
 -- Rules: what a run of the taximeter leaves of files and a board in memory.
 use Rattle.std.specs.Prelude.{◌≡◌, ℕ}
 use Rattle.outside.specs.Disk.{store_size}
-use Rattle.outside.specs.MemoryBoard.{BoardState, Memory}
-use Rattle.outside.specs.MemoryFiles.{FilesState}
+use Rattle.memory_devices.specs.MemoryBoard.{BoardState, Memory}
+use Rattle.memory_devices.specs.MemoryFiles.{FilesState}
 use Rattle.outside.specs.declared.board.Board.{Ghosts}
 use Rattle.outside.specs.declared.files.Files.{Ghosts as FileGhosts}
 use Rattle.drive_commands.specs.Run.{IsRun}

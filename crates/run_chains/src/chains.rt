@@ -2,8 +2,8 @@
 ghost use Rattle.std.specs.Prelude.{◌≡◌, ◌≢◌, ◌⊎◌, ℕ, ◌↔◌, [], length, map, string_bytes, IfOk, IsTrue};
 ghost use Rattle.std.specs.Prelude.{None, OnErr, Some};
 ghost use Rattle.outside.specs.Disk.{SameBut};
-ghost use Rattle.outside.specs.MemoryBoard.{image_of, left_since_of};
-ghost use Rattle.outside.specs.declared.replay.Fill.{Fill};
+ghost use Rattle.memory_devices.specs.MemoryBoard.{image_of, left_since_of};
+ghost use Rattle.memory_devices.specs.declared.replay.Fill.{Fill};
 ghost use Rattle.meter_store.specs.Sealing.{HasSeal};
 ghost use Rattle.seal_record.specs.declared.seal.Seal.{Seal};
 ghost use Rattle.meter_store.specs.Stored.{HasState};
@@ -17,7 +17,8 @@ ghost use Rattle.commands.specs.declared.words.Row.TheVariants.{Run};
 
 use crate::program::Program;
 use call_ends::{BOARD_FAULT, NO_MEMORY};
-use outside::{Fill, MemoryBoard, MemoryFiles, QuietBoard, STORE_SIZE};
+use memory_devices::{Fill, MemoryBoard, MemoryFiles};
+use outside::{QuietBoard, STORE_SIZE};
 use slot_store::{Found, scan};
 use std::alloc::Global;
 use std::sync::ledger::Ledger;

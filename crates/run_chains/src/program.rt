@@ -1,13 +1,14 @@
 //! A program whose calls carry out runs, and the taximeter as one.
 ghost use Rattle.std.specs.Prelude.{◌≡◌, ◌≢◌, ℕ, Some, map, string_bytes};
-ghost use Rattle.outside.specs.MemoryFiles.{rest_of};
+ghost use Rattle.memory_devices.specs.MemoryFiles.{rest_of};
 ghost use Rattle.run_chains.specs.MemoryRuns.{IsRunInMemory};
 ghost use Rattle.drive_commands.specs.Run.{IsRun};
 ghost use Rattle.commands.specs.Words.{row_of};
 ghost use Rattle.commands.specs.declared.words.Row.TheVariants.{Run};
 
 use commands::taxi;
-use outside::{Board, Files, MemoryBoard, MemoryFiles, STORE_SIZE};
+use memory_devices::{MemoryBoard, MemoryFiles};
+use outside::{Board, Files, STORE_SIZE};
 use std::alloc::Global;
 use std::sync::ledger::Ledger;
 use taxi_units::Steps;
@@ -16,8 +17,8 @@ use taxi_units::Steps;
 /// leave. So code that is given any program knows that a call has left a board only if it made that call, with these
 /// files and this board. It can't make the board up, and can't make other calls of it than those of the program.
 pub trait Program<L: Ledger> {
-    ghost use Rattle.outside.specs.MemoryBoard.{BoardState};
-    ghost use Rattle.outside.specs.MemoryFiles.{FilesState};
+    ghost use Rattle.memory_devices.specs.MemoryBoard.{BoardState};
+    ghost use Rattle.memory_devices.specs.MemoryFiles.{FilesState};
 
     /// Whether a call with the words of a run, made with files and a board, may leave these other files and this
     /// other board, with this status.

@@ -114,11 +114,7 @@ lacks (Some taxi) None mode hold_time offsets secured which e = subst
   where
     earlier : Earlier (said_as (Some taxi) None mode hold_time offsets secured) Constant
     earlier Taxi lt = some_said taxi
-    earlier Constant lt = absurd (omega (arith, lt))
-    earlier name.Mode lt = absurd (omega (arith, lt))
-    earlier Hold lt = absurd (omega (arith, lt))
-    earlier Offset lt = absurd (omega (arith, lt))
-    earlier Secured lt = absurd (omega (arith, lt))
+    earlier other lt = absurd (omega (arith, lt))
 lacks (Some taxi) (Some constant) None hold_time offsets secured which e =
     subst (Lacks (said_as (Some taxi) (Some constant) None hold_time offsets secured)) (missing_is name.Mode which e)
     (refl, earlier)
@@ -126,10 +122,7 @@ lacks (Some taxi) (Some constant) None hold_time offsets secured which e =
     earlier : Earlier (said_as (Some taxi) (Some constant) None hold_time offsets secured) name.Mode
     earlier Taxi lt = some_said taxi
     earlier Constant lt = some_said constant
-    earlier name.Mode lt = absurd (omega (arith, lt))
-    earlier Hold lt = absurd (omega (arith, lt))
-    earlier Offset lt = absurd (omega (arith, lt))
-    earlier Secured lt = absurd (omega (arith, lt))
+    earlier other lt = absurd (omega (arith, lt))
 lacks (Some taxi) (Some constant) (Some mode) None offsets secured which e =
     subst (Lacks (said_as (Some taxi) (Some constant) (Some mode) None offsets secured)) (missing_is Hold which e)
     (refl, earlier)
@@ -138,9 +131,7 @@ lacks (Some taxi) (Some constant) (Some mode) None offsets secured which e =
     earlier Taxi lt = some_said taxi
     earlier Constant lt = some_said constant
     earlier name.Mode lt = some_said mode
-    earlier Hold lt = absurd (omega (arith, lt))
-    earlier Offset lt = absurd (omega (arith, lt))
-    earlier Secured lt = absurd (omega (arith, lt))
+    earlier other lt = absurd (omega (arith, lt))
 lacks (Some taxi) (Some constant) (Some mode) (Some hold_time) [] secured which e =
     subst (Lacks (said_as (Some taxi) (Some constant) (Some mode) (Some hold_time) [] secured))
     (missing_is Offset which e) (refl, earlier)
@@ -150,8 +141,7 @@ lacks (Some taxi) (Some constant) (Some mode) (Some hold_time) [] secured which 
     earlier Constant lt = some_said constant
     earlier name.Mode lt = some_said mode
     earlier Hold lt = some_said hold_time
-    earlier Offset lt = absurd (omega (arith, lt))
-    earlier Secured lt = absurd (omega (arith, lt))
+    earlier other lt = absurd (omega (arith, lt))
 lacks (Some taxi) (Some constant) (Some mode) (Some hold_time) (pair ∷ pairs) None which e =
     subst (Lacks (said_as (Some taxi) (Some constant) (Some mode) (Some hold_time) (pair ∷ pairs) None))
     (missing_is Secured which e) (refl, earlier)
@@ -171,44 +161,21 @@ lacking : (taxi : Option (List ℕ)) (constant : Option ℕ) (mode : Option Mode
     → Lacks (said_as taxi constant mode hold_time offsets secured) which
     → whole_of taxi constant mode hold_time offsets secured ≡ Err (faults.Missing which)
 lacking None constant mode hold_time offsets secured Taxi h = refl
-lacking None constant mode hold_time offsets secured Constant h = absurd (h.1 Taxi (omega arith) refl)
-lacking None constant mode hold_time offsets secured name.Mode h = absurd (h.1 Taxi (omega arith) refl)
-lacking None constant mode hold_time offsets secured Hold h = absurd (h.1 Taxi (omega arith) refl)
-lacking None constant mode hold_time offsets secured Offset h = absurd (h.1 Taxi (omega arith) refl)
-lacking None constant mode hold_time offsets secured Secured h = absurd (h.1 Taxi (omega arith) refl)
-lacking (Some taxi) None mode hold_time offsets secured Taxi h = absurd (some_said taxi h.0)
+lacking None constant mode hold_time offsets secured which h = absurd (h.1 Taxi (omega arith) refl)
+lacking (Some taxi) constant mode hold_time offsets secured Taxi h = absurd (some_said taxi h.0)
 lacking (Some taxi) None mode hold_time offsets secured Constant h = refl
-lacking (Some taxi) None mode hold_time offsets secured name.Mode h = absurd (h.1 Constant (omega arith) refl)
-lacking (Some taxi) None mode hold_time offsets secured Hold h = absurd (h.1 Constant (omega arith) refl)
-lacking (Some taxi) None mode hold_time offsets secured Offset h = absurd (h.1 Constant (omega arith) refl)
-lacking (Some taxi) None mode hold_time offsets secured Secured h = absurd (h.1 Constant (omega arith) refl)
-lacking (Some taxi) (Some constant) None hold_time offsets secured Taxi h = absurd (some_said taxi h.0)
-lacking (Some taxi) (Some constant) None hold_time offsets secured Constant h = absurd (some_said constant h.0)
+lacking (Some taxi) None mode hold_time offsets secured which h = absurd (h.1 Constant (omega arith) refl)
+lacking (Some taxi) (Some constant) mode hold_time offsets secured Constant h = absurd (some_said constant h.0)
 lacking (Some taxi) (Some constant) None hold_time offsets secured name.Mode h = refl
-lacking (Some taxi) (Some constant) None hold_time offsets secured Hold h = absurd (h.1 name.Mode (omega arith) refl)
-lacking (Some taxi) (Some constant) None hold_time offsets secured Offset h = absurd (h.1 name.Mode (omega arith) refl)
-lacking (Some taxi) (Some constant) None hold_time offsets secured Secured h = absurd (h.1 name.Mode (omega arith) refl)
-lacking (Some taxi) (Some constant) (Some mode) None offsets secured Taxi h = absurd (some_said taxi h.0)
-lacking (Some taxi) (Some constant) (Some mode) None offsets secured Constant h = absurd (some_said constant h.0)
-lacking (Some taxi) (Some constant) (Some mode) None offsets secured name.Mode h = absurd (some_said mode h.0)
+lacking (Some taxi) (Some constant) None hold_time offsets secured which h = absurd (h.1 name.Mode (omega arith) refl)
+lacking (Some taxi) (Some constant) (Some mode) hold_time offsets secured name.Mode h = absurd (some_said mode h.0)
 lacking (Some taxi) (Some constant) (Some mode) None offsets secured Hold h = refl
-lacking (Some taxi) (Some constant) (Some mode) None offsets secured Offset h = absurd (h.1 Hold (omega arith) refl)
-lacking (Some taxi) (Some constant) (Some mode) None offsets secured Secured h = absurd (h.1 Hold (omega arith) refl)
-lacking (Some taxi) (Some constant) (Some mode) (Some hold_time) [] secured Taxi h = absurd (some_said taxi h.0)
-lacking (Some taxi) (Some constant) (Some mode) (Some hold_time) [] secured Constant h = absurd (some_said constant h.0)
-lacking (Some taxi) (Some constant) (Some mode) (Some hold_time) [] secured name.Mode h = absurd (some_said mode h.0)
-lacking (Some taxi) (Some constant) (Some mode) (Some hold_time) [] secured Hold h = absurd (some_said hold_time h.0)
-lacking (Some taxi) (Some constant) (Some mode) (Some hold_time) [] secured Offset h = refl
-lacking (Some taxi) (Some constant) (Some mode) (Some hold_time) [] secured Secured h =
-    absurd (h.1 Offset (omega arith) refl)
-lacking (Some taxi) (Some constant) (Some mode) (Some hold_time) (pair ∷ pairs) secured Taxi h =
-    absurd (some_said taxi h.0)
-lacking (Some taxi) (Some constant) (Some mode) (Some hold_time) (pair ∷ pairs) secured Constant h =
-    absurd (some_said constant h.0)
-lacking (Some taxi) (Some constant) (Some mode) (Some hold_time) (pair ∷ pairs) secured name.Mode h =
-    absurd (some_said mode h.0)
-lacking (Some taxi) (Some constant) (Some mode) (Some hold_time) (pair ∷ pairs) secured Hold h =
+lacking (Some taxi) (Some constant) (Some mode) None offsets secured which h = absurd (h.1 Hold (omega arith) refl)
+lacking (Some taxi) (Some constant) (Some mode) (Some hold_time) offsets secured Hold h =
     absurd (some_said hold_time h.0)
+lacking (Some taxi) (Some constant) (Some mode) (Some hold_time) [] secured Offset h = refl
+lacking (Some taxi) (Some constant) (Some mode) (Some hold_time) [] secured which h =
+    absurd (h.1 Offset (omega arith) refl)
 lacking (Some taxi) (Some constant) (Some mode) (Some hold_time) (pair ∷ pairs) secured Offset h = let none =
     h.0 in absurd cc
 lacking (Some taxi) (Some constant) (Some mode) (Some hold_time) (pair ∷ pairs) None Secured h = refl

@@ -37,7 +37,7 @@ pub struct Params {
 }
 
 /// A parameter, by its key.
-#[derive(Clone, Copy, Debug, PartialEq, Eq)]
+#[derive(Clone, Copy, Debug)]
 pub enum Name {
     Taxi,
     Constant,
@@ -48,7 +48,7 @@ pub enum Name {
 }
 
 /// Why a text gives no parameters. A line counts from 1, and empty lines and comments count too.
-#[derive(Clone, Copy, Debug, PartialEq, Eq, Error)]
+#[derive(Clone, Copy, Debug, Error)]
 pub enum ParamFault {
     /// The text has more than 65,536 bytes.
     #[error("the text has more than 65536 bytes")]

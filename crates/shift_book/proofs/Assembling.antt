@@ -36,7 +36,7 @@ text_is decimals now marks listed sums unsigned growth r0 r1 r2 r3 r4 l t u g e0
     (e3 ∙ ap (λ (n : Numbers). r2 ++ (codes "UNSIGNED" ++ growth_text decimals n)) u)
     (e4 ∙ ap (λ (n : Numbers). r3 ++ (codes "GROWTH" ++ growth_text decimals n)) g)
 
--- what the report says, where the drivers' sums are in order and share the shifts
+-- what the report says if the drivers' sums are in order and share the shifts
 pub report_is : (decimals : ℕ) (now : Numbers) (marks : List Signing)
     → AreOrdered (with_shifts [] (shifts_in now marks))
     → AreSums (with_shifts [] (shifts_in now marks)) (shifts_in now marks) → Rise now marks

@@ -293,7 +293,7 @@ bad_line_is_read now text line fit bad = by (book_read now text) (book_means now
 pub long_is_read : (now : Durable) (text : List ℕ) → longest < length text → book_read now text ≡ Err TooLong
 long_is_read now text long = rw (lt-ltb longest (length text) long) refl
 
--- the same where reading has come to a text's end, or to a bad line
+-- the same if reading has come to a text's end, or to a bad line
 pub end_is_read : (now : Durable) (text : List ℕ) (marks : List Signing) (rest : List ℕ) → Fit (numbers_in now)
     → length text ≤ longest → length rest ≡ 0
     → Begins now text marks rest → book_read now text ≡ Ok marks

@@ -16,7 +16,7 @@ unfolding driver_of
 driver_word word valid = ap (λ (o : Option (List ℕ × List ℕ)). o >>= (λ found. alone found))
     (ap driver_at (sym (append-nil word)) ∙ driver_back word [] valid refl)
 
--- where none is read, the word is none
+-- if none is read, the word is none
 no_driver : (word : List ℕ) → driver_of word ≡ None → ¬ (IsDriver word)
 no_driver word none valid = let some = driver_word word valid in absurd cc
 

@@ -20,7 +20,7 @@ pub characters_in_front : (xs : List ℕ)
     → PassAll is_identifier_character (take (prefix_len is_identifier_character xs) xs)
 characters_in_front xs = front_passes is_identifier_character xs
 
--- and all of it is taken, where what follows doesn't pass
+-- and all of it is taken if what follows doesn't pass
 pub whole_front : (test : ℕ → Bool) (xs rest : List ℕ) → PassAll test xs → prefix_len test rest ≡ 0
     → prefix_len test (xs ++ rest) ≡ length xs
 whole_front test [] rest all stops = stops

@@ -32,7 +32,7 @@ next_is now before text mark rest fit next =
 same_mark : (a b : Signing) → Some a ≡ Some b → a ≡ b
 same_mark a b e = cc
 
--- where none is read, no mark is next
+-- if none is read, no mark is next
 pub none_is_next : (now : Durable) (before : Option Signing) (text : List ℕ) → Fit (numbers_in now)
     → mark_at text ≡ None
     → (mark : Signing) (rest : List ℕ) → ¬ (IsNext now before text mark rest)
@@ -40,7 +40,7 @@ none_is_next now before text fit none mark rest next =
     let found = next_is now before text mark rest fit next in
     absurd cc
 
--- where one is read, no other is
+-- if one is read, no other is
 pub other_is_next : (now : Durable) (before : Option Signing) (text : List ℕ) (found : Signing) → Fit (numbers_in now)
     → mark_at text ≡ Some found
     → (mark : Signing) (rest : List ℕ) → IsNext now before text mark rest → mark ≡ found
@@ -48,7 +48,7 @@ other_is_next now before text found fit is mark rest next =
     let read = next_is now before text mark rest fit next in
     same_mark mark found cc
 
--- and it is none either, where its line doesn't stand there
+-- and it is none either if its line doesn't stand there
 pub unspelled_is_next : (now : Durable) (before : Option Signing) (text : List ℕ) (found : Signing)
     → Fit (numbers_in now) → mark_at text ≡ Some found
     → word_at (mark_text found) text ≡ None → (mark : Signing) (rest : List ℕ) → ¬ (IsNext now before text mark rest)

@@ -142,7 +142,7 @@ unsigned_fits now all left m rest unsigned free e f h fit =
       h c,
     )) fit
 
--- and it is all of it, where no mark is left
+-- and it is all of it if no mark is left
 pub unsigned_done : (now : Numbers) (all left : List Signing) (unsigned : Numbers) → length left ≡ 0
     → ((c : Column) → at c unsigned + at c (unsigned_in now left) ≡ at c (unsigned_in now all))
     → unsigned ≡ unsigned_in now all

@@ -21,7 +21,7 @@ use Rattle.shift_book.specs.Shares.{Column, at, nothing, plus, Driver, driver_cm
 use Rattle.shift_book.specs.Shares.{AreOrdered}
 use Rattle.shift_book.proofs.Rising.{at-nothing, at-plus, at-total, fit_under}
 
--- the sums of the shifts that are passed, where these are left of all
+-- the sums of the shifts that are passed if these are left of all
 pub record SoFar (sums : List (Driver × Numbers)) (left all : List Shift) : Type 0 where
   pub drivers : (d : Driver)
       → (is_some (lookup (is_at (driver_cmp d)) sums) || list_any (is_of d) left) ≡ list_any (is_of d) all

@@ -11,13 +11,13 @@ abbrev pub longest : ℕ
 longest = 1048576
 
 -- a mark is next in a text if the text begins with the line of the mark, which may follow the one before it, and
--- `rest` stands behind the line
+-- `rest` is behind the line
 pub record IsNext (now : Durable) (before : Option Signing) (text : List ℕ) (mark : Signing)
     (rest : List ℕ) : Type 0 where
   pub line : text ≡ mark_text mark ++ rest
   pub follows : MayFollow now before mark
 
--- marks begin a text if the text begins with their lines, each mark may follow the one before it, and `rest` stands
+-- marks begin a text if the text begins with their lines, each mark may follow the one before it, and `rest` is
 -- behind the lines
 pub record Begins (now : Durable) (text : List ℕ) (marks : List Signing) (rest : List ℕ) : Type 0 where
   pub lines : text ≡ book_text marks ++ rest
@@ -34,8 +34,8 @@ pub record IsBook (now : Durable) (text : List ℕ) (marks : List Signing) : Typ
   pub few : length text ≤ longest
   pub begins : Begins now text marks []
 
--- a line of a text, counted from 1, is the first bad one if the lines before it are those of marks that may follow
--- one another, and it is no line of a mark that may follow them
+-- a line of a text, counted from 1, is the first bad one if the lines before it are those of marks that may follow one
+-- another, and it is no line of a mark that may follow them
 pub record IsFirstBad (now : Durable) (text : List ℕ) (line : ℕ) : Type 0 where
   pub few : length text ≤ longest
   pub marks : List Signing
@@ -44,7 +44,7 @@ pub record IsFirstBad (now : Durable) (text : List ℕ) (line : ℕ) : Type 0 wh
   pub breaks : Breaks now marks rest
   pub place : line ≡ length marks + 1
 
--- a text has the fault for which it gives no marks: it is too long, or has a first bad line, or memory ran out over it
+-- a text has a fault, for which it gives no marks, if it is too long, has a first bad line, or memory ran out over it
 abbrev pub IsFault : Durable → (text : List ℕ) → BookFault → Type 0
 IsFault now text TooLong = longest < length text
 IsFault now text (BadLine line) = IsFirstBad now text line

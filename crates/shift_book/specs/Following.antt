@@ -33,9 +33,8 @@ abbrev pub is_on : Option Signing → Bool
 is_on None = false
 is_on (Some mark) = mark.on
 
--- a mark may follow the mark before it, or begin a book: it has a driver if it signs on and none if it signs off,
--- it signs on if nobody is on and off if somebody is, and none of its numbers is smaller than in the mark before,
--- or greater than in the store
+-- a mark may follow the mark before it, or begin a book, if it has a driver exactly when it signs on, and signs on
+-- exactly when nobody is on. None of its numbers is smaller than in the mark before, or greater than in the store
 pub record MayFollow (now : Durable) (before : Option Signing) (mark : Signing) : Type 0 where
   pub driver : HasDriver mark.on mark.driver
   pub turn : mark.on ≡ not (is_on before)

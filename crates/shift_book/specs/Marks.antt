@@ -18,7 +18,7 @@ numbers_of number distance hired hirings supplements fare =
       fare = fare;
     }
 
--- a mark says who signs on, or that whoever was on signs off, and the numbers of the store
+-- a mark has who signs on, or that whoever was on signs off, and the numbers of the store
 pub record Signing : Type 0 where
   pub driver : List ℕ
   pub on : Bool
@@ -62,7 +62,7 @@ mark_text mark = head_text mark.on mark.driver ++ numbers_text mark.numbers
 abbrev pub book_text : List Signing → List ℕ
 book_text marks = flat_map mark_text marks
 
--- six texts stand each behind a blank, and an LF ends the line
+-- six texts are each behind a blank, and an LF ends the line
 abbrev pub six_fields : (one two three four five six : List ℕ) → List ℕ
 six_fields one two three four five six =
     codes " " ++ one ++ codes " " ++ two ++ codes " " ++ three ++ codes " " ++ four ++ codes " " ++ five

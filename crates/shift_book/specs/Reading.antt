@@ -9,55 +9,56 @@ use Rattle.shift_book.specs.declared.numbers.Numbers.{Numbers}
 use Rattle.shift_book.specs.Marks.{Signing, numbers_of}
 use Rattle.taxi_units.specs.Identifier.{is_identifier_character}
 
--- digits make this number, if it is below 2^128
+-- the value of digits is the number that they make, if it is below 2^128
 abbrev pub value_below : List ℕ → Option ℕ
 value_below digits = if nat_lt (digits_value 10 digits) (2 ^ 128) then Some (digits_value 10 digits) else None
 
--- the digits at the front make this number below 2^128, and this text stands behind them; no digits make 0
+-- the digits at the front of a text give the number below 2^128 that they make, and the text behind them; no digits
+-- make 0
 unfoldable pub digits_at : List ℕ → Option (ℕ × List ℕ)
 digits_at text =
     value_below (take (digits_at_front text) text) >>= (λ value. Some (value, drop (digits_at_front text) text))
 
--- a blank and the digits of this number stand at the front, and this text behind them
+-- an amount at the front is a blank and the digits of a number, with the text behind them
 unfoldable pub amount_at : List ℕ → Option (ℕ × List ℕ)
 amount_at text = word_at (codes " ") text >>= digits_at
 
--- a blank and the digits of this number below 2^64 stand at the front, and this text behind them
+-- a count at the front is a blank and the digits of a number below 2^64, with the text behind them
 unfoldable pub count_at : List ℕ → Option (ℕ × List ℕ)
 count_at text = amount_at text >>= (λ found. if nat_le found.0 (2 ^ 64 - 1) then Some found else None)
 
--- six numbers stand at the front, each behind a blank
+-- the numbers at the front are six, each behind a blank
 unfoldable pub numbers_at : List ℕ → Option Numbers
 numbers_at text =
     count_at text >>= (λ one. amount_at one.1 >>= (λ two. amount_at two.1 >>= (λ three. count_at three.1
     >>= (λ four. amount_at four.1 >>= (λ five. amount_at five.1
     >>= (λ six. Some (numbers_of one.0 two.0 three.0 four.0 five.0 six.0)))))))
 
--- the first `count` characters are a driver if they are 1 to 16, and this text stands behind them
+-- the first `count` characters are a driver, with the text behind them, if they are 1 to 16
 abbrev pub counted_driver : ℕ → List ℕ → Option (List ℕ × List ℕ)
 counted_driver count text =
     if (count == 0) || nat_lt 16 count then None else Some (take count text, drop count text)
 
--- the characters of drivers at the front make this driver, and this text stands behind them
+-- the driver at the front is all characters of drivers there, with the text behind them
 unfoldable pub driver_at : List ℕ → Option (List ℕ × List ℕ)
 driver_at text = counted_driver (prefix_len is_identifier_character text) text
 
--- a driver that was read is the whole word if nothing stands behind it
+-- a driver that was read is the whole word if nothing is behind it
 abbrev pub alone : List ℕ × List ℕ → Option (List ℕ)
 alone (driver, []) = Some driver
 alone (driver, c ∷ cs) = None
 
--- a word is this driver
+-- the driver of a word is the word, if it is one
 unfoldable pub driver_of : List ℕ → Option (List ℕ)
 driver_of word = driver_at word >>= alone
 
--- a text behind the word ON is a driver and six numbers, which make this mark
+-- a text behind the word ON has the mark of its driver and six numbers
 unfoldable pub on_at : List ℕ → Option Signing
 on_at text =
     driver_at text >>= (λ driver. numbers_at driver.1
     >>= (λ numbers. Some (record { driver = driver.0; on = true; numbers = numbers })))
 
--- a text is the word OFF and six numbers, which make this mark
+-- a text of the word OFF and six numbers has the mark that signs off with them
 unfoldable pub off_at : List ℕ → Option Signing
 off_at text =
     word_at (codes "OFF") text >>= (λ rest. numbers_at rest
@@ -68,6 +69,6 @@ abbrev pub mark_behind : Option (List ℕ) → List ℕ → Option Signing
 mark_behind (Some rest) text = on_at rest
 mark_behind None text = off_at text
 
--- a text has this mark at its front, if it has the line of any
+-- the mark at the front of a text is the only one whose line may be there
 unfoldable pub mark_at : List ℕ → Option Signing
 mark_at text = mark_behind (word_at (codes "ON ") text) text

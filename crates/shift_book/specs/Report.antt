@@ -41,7 +41,7 @@ driver_lines decimals [] = []
 driver_lines decimals (sum ∷ sums) = driver_line decimals sum ++ driver_lines decimals sums
 
 -- the report of a book is the lines of its shifts, the lines of the drivers' sums in the order of the drivers, the line
--- of the growth while nobody was on, and the line of all growth; `with_shifts` adds up the sums shift by shift, and the
+-- of the growth while nobody was on, and the line of all growth. `with_shifts` adds up the sums shift by shift, and the
 -- law reports_share_the_growth says that the text is the report
 abbrev pub report_text : (decimals : ℕ) (now : Numbers) → List Signing → List ℕ
 report_text decimals now marks =
@@ -49,9 +49,9 @@ report_text decimals now marks =
     ++ ((codes "UNSIGNED" ++ growth_text decimals (unsigned_in now marks))
     ++ (codes "GROWTH" ++ growth_text decimals (growth_in now marks))))
 
--- a text is the report of a book if it has a line for each shift, one for each driver, one for the growth while
--- nobody was on, and one for all growth; the shifts and the growth while nobody was on add up to all growth, and so do
--- the drivers' sums and that growth
+-- a text is the report of a book if it has a line for each shift, one for each driver, one for the growth while nobody
+-- was on, and one for all growth. The shifts and the growth while nobody was on add up to all growth, and so do the
+-- drivers' sums and that growth
 pub record IsReport (decimals : ℕ) (now : Numbers) (marks : List Signing) (report : List ℕ) : Type 0 where
   pub sums : List (Driver × Numbers)
   pub text_is : report ≡ shift_lines decimals 1 (shifts_in now marks) ++ (driver_lines decimals sums

@@ -73,8 +73,8 @@ abbrev pub unsigned_in : (now : Numbers) → List Signing → Numbers
 unsigned_in now [] = nothing
 unsigned_in now (mark ∷ marks) = plus (free_behind mark (next_point now marks)) (unsigned_in now marks)
 
--- the growth of a book is what has grown from its first mark to the store as it is, which is nothing if the book has
--- no marks
+-- the growth of a book is what has grown from its first mark to the store as it is, which is nothing if the book has no
+-- marks
 abbrev pub growth_in : (now : Numbers) → List Signing → Numbers
 growth_in now [] = nothing
 growth_in now (mark ∷ marks) = grown mark.numbers now
@@ -107,6 +107,6 @@ pub record AreSums (sums : List (Driver × Numbers)) (shifts : List Shift) : Typ
   pub all : (column : Column) → sum_by (at column) (values_of sums)
       ≡ sum_by (λ shift. at column shift.growth) shifts
 
--- the drivers stand in the order of their bytes, each once
+-- drivers are ordered if they are in the order of their bytes, each once
 abbrev pub AreOrdered : List (Driver × Numbers) → Type 0
 AreOrdered sums = IsStrictlySortedBy driver_cmp (keys_of sums)

@@ -14,8 +14,8 @@ use totals_record::Durable;
 pub enum BookFault {
     /// The text has more than 1,048,576 bytes.
     TooLong,
-    /// This line, counted from 1, is the first that is no line of a mark, or of none that may follow
-    /// those before it, or isn't ended by LF.
+    /// This line, counted from 1, is the first bad one: it is no line of a mark, its mark may not follow those before
+    /// it, or no LF ends it.
     BadLine(u64),
     /// Memory ran out.
     NoMemory,
@@ -24,13 +24,13 @@ pub enum BookFault {
 /// The greatest length of a book, in bytes.
 const LONGEST: usize = 1_048_576;
 
-/// Reads a book: the marks of its lines, in order, beside a state of the store. A mark signs on where
-/// nobody is on, and off where somebody is; no number of it is smaller than in the mark before it, or
-/// greater than in the store. Each line ends in LF.
+/// Reads a book: the marks of its lines, in order, beside a state of the store. A mark signs on if nobody is on, and
+/// off if somebody is. No number of it is smaller than in the mark before it, or greater than in the store. Each line
+/// ends in LF.
 ///
-/// `TooLong` exactly above 1,048,576 bytes, before any line counts. Else `BadLine` with the first line
-/// that is none of a mark that may follow, where there is one. `NoMemory` where memory runs out before
-/// that is known. The form and the limit are this project's own.
+/// `TooLong` exactly above 1,048,576 bytes, whatever its lines are. Else `BadLine` with the first line that is not of a
+/// mark that may follow, if there is one. `NoMemory` if memory runs out before that is known. The form and the limit
+/// are this project's own.
 pub fn read_book(alloc: Global, text: &[u8], now: &Durable) -> Result<Vec<Mark>, BookFault>
     ensures meaning { MatchResult result (λ marks. IsBook now.now text.now marks.items)
         (IsFault now.now text.now) }

@@ -1,4 +1,4 @@
-//! What the answer to the text of a book means: a text has one answer at most.
+//! What the answer to the text of a book means; a text has one answer at most.
 ghost use Rattle.std.specs.Prelude.{◌≡◌, ◌↔◌, ℕ, ◌<◌, List, length, Ok, Err};
 ghost use Rattle.shift_book.specs.BookReading.{book_read};
 ghost use Rattle.shift_book.specs.Books.{IsBook, IsFirstBad, longest};
@@ -7,8 +7,8 @@ ghost use Rattle.shift_book.specs.Following.{Fit, numbers_in};
 ghost use Rattle.shift_book.specs.Marks.{Signing};
 ghost use Rattle.totals_record.specs.declared.durable_state.Durable.{Durable};
 
-/// A law: beside one state of the store a text is a book of one list of marks at most, has one first
-/// bad line at most, and never both.
+/// A law: beside one state of the store a text is a book of one list of marks at most, has one first bad line at most,
+/// and never both.
 pub fn books_are_read_one_way()
     ensures marks { (now : Durable) (text : List ℕ) (a b : List Signing) → Fit (numbers_in now)
         → IsBook now text a → IsBook now text b → a ≡ b }
@@ -18,8 +18,8 @@ pub fn books_are_read_one_way()
         → IsBook now text marks → ¬ (IsFirstBad now text line) }
 {}
 
-/// A law: the answer to a text is its marks exactly where it is a book of them, its first bad line
-/// exactly where it has one, and that it is too long exactly above 1,048,576 bytes.
+/// A law: the answer to a text is its marks exactly if it is a book of them, its first bad line exactly if it has one,
+/// and that it is too long exactly above 1,048,576 bytes.
 pub fn texts_are_read_as_they_say()
     ensures marks { (now : Durable) (text : List ℕ) (marks : List Signing) → Fit (numbers_in now)
         → (book_read now text ≡ Ok marks) ↔ IsBook now text marks }

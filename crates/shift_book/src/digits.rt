@@ -6,8 +6,8 @@ ghost use Rattle.shift_book.specs.Reading as spec;
 
 use taxi_units::count_digits;
 
-/// The number below 2^128 that the digits at the front make, and what stands after them. No digits make
-/// 0: a reader compares with the number's own text.
+/// The number below 2^128 that the digits at the front make, and what is behind them. No digits make 0: a reader
+/// compares with the number's own text.
 #[tactic(auto, unfolding(crate::specs::Reading::digits_at), using(taxi_units::proofs::Laws::digits_in_front))]
 pub(crate) fn digits_at(text: &[u8]) -> Option<(u128, &[u8])>
     ensures { Gives (λ x. (x.0, x.1.now)) result (spec.digits_at text.now) }
@@ -17,7 +17,7 @@ pub(crate) fn digits_at(text: &[u8]) -> Option<(u128, &[u8])>
     Some((value, rest))
 }
 
-/// The number that digits make, where it is below 2^128.
+/// The number that digits make, if it is below 2^128.
 fn value_of(digits: &[u8]) -> Option<u128>
     requires { digits_at_front digits.now ≡ length digits.now }
     ensures { GivesSame result (spec.value_below digits.now) }

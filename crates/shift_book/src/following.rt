@@ -10,8 +10,8 @@ use crate::numbers::{Numbers, is_nowhere_less};
 use crate::reading::mark_at;
 use taxi_units::word;
 
-/// The mark whose line stands at the front of a text and that may follow these marks beside a store with
-/// these numbers, and what stands after it.
+/// The mark whose line is at the front of a text and that may follow these marks beside a store with these numbers, and
+/// what is behind the line.
 pub(crate) fn next_mark<'a>(
     text: &'a [u8],
     marks: &[Mark],
@@ -33,7 +33,7 @@ pub(crate) fn next_mark<'a>(
     }
 }
 
-/// Whether a mark whose driver is as said may follow these marks beside a store with these numbers.
+/// Whether a mark may follow these marks beside a store with these numbers. Its driver is as said.
 fn may_follow(marks: &[Mark], mark: &Mark, limit: &Numbers) -> bool
     requires { HasDriver mark.now.on mark.now.driver }
     ensures { (now : Durable) → limit.now ≡ numbers_in now

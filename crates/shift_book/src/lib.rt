@@ -1,6 +1,5 @@
-//! The shift book: drivers sign on and off by marks of the totalisers, and a report shares the growth
-//! of the totalisers among shifts, drivers and the time when nobody is signed on. The texts are this
-//! project's own.
+//! The shift book: drivers sign on and off by marks of the totalisers. A report shares the growth of the totalisers
+//! among shifts, drivers and the time while nobody is signed on. The texts are this project's own.
 #![tactic(auto)]
 
 mod book;

@@ -10,11 +10,11 @@ use arrayvec::ArrayVec;
 use std::marker::Model;
 use taxi_units::{Line, LineFull, push_bytes, put_bytes};
 
-/// A mark of the store: who signs on, or that whoever was on signs off, and the number and totals of the
-/// store at that moment. Distances are in millimetres, money in the tariff's smallest units.
+/// A mark of the store: who signs on, or that whoever was on signs off, and the number and totals of the store at that
+/// moment. Distances are in millimetres, money in the tariff's smallest units.
 #[derive(Drop)]
 pub struct Mark {
-    /// The driver: 1 to 16 characters of A to Z, 0 to 9 and `-`; none where the mark signs off.
+    /// The driver: 1 to 16 characters of A to Z, 0 to 9 and `-`; none if the mark signs off.
     pub driver: ArrayVec<u8, 16>,
     /// Whether it signs on.
     pub on: bool,
@@ -71,11 +71,11 @@ impl Mark {
     }
 }
 
-/// Appends the line of a mark: `ON`, the driver and the six numbers, or `OFF` and the six numbers, with
-/// one blank between them and LF at the end. The driver of a mark that signs off isn't written.
+/// Appends the line of a mark: `ON`, the driver and the six numbers, or `OFF` and the six numbers, with one blank
+/// between them and LF at the end. The driver of a mark that signs off isn't written.
 ///
-/// `LineFull` where it doesn't fit; the line is then unchanged. It has at most 222 bytes, so it fits an
-/// empty line. The form is this project's own.
+/// `LineFull` if it doesn't fit; the line is then unchanged. It has at most 222 bytes, so it fits an empty line. The
+/// form is this project's own.
 #[tactic(auto, using(crate::proofs::Lines::said))]
 pub fn put_mark(line: &mut Line, mark: &Mark) -> Result<(), LineFull>
     ensures variant { IsOk result ↔ (array_vec_len line.old + length (mark_text mark.now) ≤ line_size) }

@@ -128,7 +128,7 @@ pub(crate) fn numbers_at(text: &[u8]) -> Option<Numbers>
     })
 }
 
-/// A number below 2^64 behind a blank, and what stands after it.
+/// A number below 2^64 behind a blank, and what is behind it.
 #[tactic(auto, unfolding(crate::specs::Reading::count_at))]
 fn count_at(text: &[u8]) -> Option<(u64, &[u8])>
     ensures { Gives (λ x. (x.0, x.1.now)) result (spec.count_at text.now) }
@@ -141,7 +141,7 @@ fn count_at(text: &[u8]) -> Option<(u64, &[u8])>
     }
 }
 
-/// A number below 2^128 behind a blank, and what stands after it.
+/// A number below 2^128 behind a blank, and what is behind it.
 #[tactic(auto, unfolding(crate::specs::Reading::amount_at))]
 fn amount_at(text: &[u8]) -> Option<(u128, &[u8])>
     ensures { Gives (λ x. (x.0, x.1.now)) result (spec.amount_at text.now) }

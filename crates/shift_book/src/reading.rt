@@ -12,7 +12,7 @@ use crate::numbers::numbers_at;
 use arrayvec::ArrayVec;
 use taxi_units::{is_identifier_character, word};
 
-/// The only mark whose line may stand at the front of a text. Whether it does, its own line says.
+/// The only mark whose line may be at the front of a text. Whether it is there, its own line says.
 #[tactic(auto, unfolding(crate::specs::Reading::mark_at))]
 pub(crate) fn mark_at(text: &[u8]) -> Option<Mark>
     ensures mark { GivesSame result (spec.mark_at text.now) }
@@ -46,8 +46,8 @@ fn off_at(text: &[u8]) -> Option<Mark>
     Some(Mark::with(ArrayVec::new(), false, &numbers))
 }
 
-/// The driver that a word is: 1 to 16 characters of A to Z, 0 to 9 and `-`. None where it is none. The
-/// form is this project's own.
+/// The driver that a word is: 1 to 16 characters of A to Z, 0 to 9 and `-`. `None` if it is none. The form is this
+/// project's own.
 #[tactic(auto, unfolding(crate::specs::Reading::driver_of))]
 pub fn read_driver(word: &[u8]) -> Option<ArrayVec<u8, 16>>
     ensures answer { Gives (λ driver. driver.items) result (driver_of word.now) }
@@ -58,7 +58,7 @@ pub fn read_driver(word: &[u8]) -> Option<ArrayVec<u8, 16>>
     if rest.is_empty() { Some(driver) } else { None }
 }
 
-/// A driver at the front of a text, and what stands after.
+/// A driver at the front of a text, and what is behind it.
 #[tactic(auto, unfolding(crate::specs::Reading::driver_at), using(crate::proofs::Drivers::characters_in_front))]
 fn driver_at(text: &[u8]) -> Option<(ArrayVec<u8, 16>, &[u8])>
     ensures text { Gives (λ x. (x.0.items, x.1.now)) result (spec.driver_at text.now) }
@@ -76,7 +76,7 @@ fn driver_at(text: &[u8]) -> Option<(ArrayVec<u8, 16>, &[u8])>
     }
 }
 
-/// How many characters of drivers stand at the front.
+/// How many characters of drivers are at the front.
 fn count_characters(text: &[u8]) -> usize
     ensures count { result ≡ prefix_len is_identifier_character text.now }
     ensures within { result ≤ length text.now }

@@ -15,13 +15,13 @@ use std::alloc::Global;
 use taxi_units::{Line, NoMemory, push_bytes, push_money, push_number};
 use totals_record::Durable;
 
-/// The report of a book beside the state of the store that it was read for: a line for each shift, one
-/// for each driver in byte order, the growth while nobody was on, and all growth. Each has the hirings,
-/// the distance and the distance when hired in metres with three decimals, the fare and the supplements
-/// with the store's decimals. A shift that is still on runs to the store as it is.
+/// The report of a book beside the state of the store for which it was read: a line for each shift, one for each driver
+/// in byte order, the growth while nobody was on, and all growth. Each has the hirings, the distance and the distance
+/// when hired in metres with three decimals, the fare and the supplements with the store's decimals. A shift that is
+/// still on runs to the store as it is.
 ///
-/// It has at most 1,024 bytes for each mark, and 1,024 more. `NoMemory` where memory runs out. The form is
-/// this project's own.
+/// It has at most 1,024 bytes for each mark, and 1,024 more. `NoMemory` if memory runs out. The form is this project's
+/// own.
 pub fn shifts(
     alloc: Global,
     marks: &[Mark],

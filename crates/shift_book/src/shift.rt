@@ -36,7 +36,7 @@ pub(crate) fn shifts_of(
     Ok(shifts)
 }
 
-/// Appends the shift that a mark begins, where it signs on.
+/// Appends the shift that a mark begins, if it signs on.
 fn push_shift(shifts: &mut Vec<Shift>, mark: &Mark, next: &Numbers) -> Result<(), NoMemory>
     requires { IsNowhereLess mark.now.numbers next.now }
     ensures { OnOk result (shifts.new.items ≡ shifts.old.items ++ begun_by mark.now next.now) }
@@ -67,7 +67,7 @@ pub(crate) fn unsigned_of(marks: &[Mark], now: &Numbers) -> Numbers
     unsigned
 }
 
-/// What grew behind a mark, where nobody is on there.
+/// What grew behind a mark, if nobody is on there.
 fn free_behind(mark: &Mark, next: &Numbers) -> Numbers
     requires { IsNowhereLess mark.now.numbers next.now }
     ensures { result ≡ free_behind mark.now next.now }

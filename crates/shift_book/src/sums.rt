@@ -58,7 +58,7 @@ fn copied(driver: &ArrayVec<u8, 16>) -> ArrayVec<u8, 16>
     copy
 }
 
-/// The sum that a driver has; nothing where there is none yet.
+/// The sum that a driver has, or nothing if there is none yet.
 fn sum_so_far(sums: &Sums, driver: &ArrayVec<u8, 16>) -> Numbers
     ensures { result ≡ sum_so_far driver.now sums.now.entries }
 {

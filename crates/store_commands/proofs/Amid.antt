@@ -167,7 +167,7 @@ module _ {D L : Type 0} {N : ℕ} (B : Ghosts D N L) where
   same_left image left new same settled held =
       ext_get_or 0 left (B.image new) held.bytes.size (λ place lt. held.bytes.rest place (settled place)) ∙ same
 
-  -- a cut while another line is printed, and while one is where nothing is sealed
+  -- a cut while another line is printed, and while one is printed and nothing is sealed
   rests-read : (tariff params image printed line : List ℕ) (new : D) → B.image new ≡ image → B.printed new ≡ printed
       → NothingFlies B new → get_or line 0 0 ≢ 83
       → RestsAmid B (sealing_of (opening_of image) tariff params) image printed line new
@@ -297,7 +297,7 @@ module _ {D L : Type 0} {N : ℕ} (B : Ghosts D N L) where
       subst (λ (r : Result Sealing Ended). MayLeaveSealing r image printed left x) (sym e)
       (record { amid = record { totals = kept_totals s.totals left is.totals; seal = inr is }; behind = λ shown. is })
 
-  -- nothing flies where both pairs are settled and nothing flew beside what was written
+  -- nothing flies if both pairs are settled and nothing flew beside what was written
   pub settled-sealed : (found : Option Durable) (seal : Seal) (mid new : D) → NothingFlies B mid
       → WritesIn B (first_written found) (places_written found) mid new
       → HoldsSealing B found seal new → NothingFlies B new
@@ -314,7 +314,7 @@ module _ {D L : Type 0} {N : ℕ} (B : Ghosts D N L) where
       by None within = either (omega (arith, within.high))
       by (Some durable) within = either (omega (arith, within.high))
 
-  -- the last line, which is none where the board had failed
+  -- the last line, which is none if the board had failed
   finished : (sealing : Result Sealing Ended) (old mid new : D) (end : Ended) (status : ℕ)
       → (status_of end ≡ 8 → status ≡ 8)
       → LeavesFromSync B (status_of end ≡ 8) old mid (Amid sealing old)
@@ -356,7 +356,7 @@ module _ {D L : Type 0} {N : ℕ} (B : Ghosts D N L) where
       eight (inl whole) z = whole.status_is ∙ z
       eight (inr cut) z = cut.status_is
 
-  -- where nothing was in flight before the call
+  -- if nothing was in flight before the call
   pub seals-settled : (tariff params : List ℕ) (old new : D) (status : ℕ) → NothingFlies B old
       → Seals B (sealing_of (opening_of (B.image old)) tariff params) old new status
       → LeavesOnly B old new (Amid (sealing_of (opening_of (B.image old)) tariff params) old)

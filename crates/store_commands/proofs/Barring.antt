@@ -20,8 +20,7 @@ board_fault-store (stores.BadSlot slot) e = absurd cc
 board_fault-store (stores.SameNumber first second) e = absurd cc
 board_fault-store stores.BoardFault e = refl
 
--- what is `Owed` of each of these ends holds of the one that came, where the store `Refuses` by it or the board
--- `failed`
+-- what is `Owed` of each of these ends holds of the one that came, if the store `Refuses` by it or the board
 module _ (Refuses Owed : Ended → Type 0) (failed : Type 0) (not_sealed : Refuses ended.NotSealed → Owed ended.NotSealed)
     (bad_slot : (slot : ℕ) → Refuses (ended.BadSlot slot) → Owed (ended.BadSlot slot))
     (same_number : (first second : ℕ) → Refuses (ended.SameNumber first second) → Owed (ended.SameNumber first second))
@@ -41,8 +40,7 @@ module _ (Refuses Owed : Ended → Type 0) (failed : Type 0) (not_sealed : Refus
       (by_fault fault (λ good. subst (λ (w : Ended). Refuses w) e (refused (λ f. good (sym e ∙ f))))
       (λ is. cause (e ∙ is)))
 
--- the same, where what is owed of each refusal is that it `Refuses` and is none of the ends that a command comes to by
--- itself
+-- the same, if what is owed of each refusal is that it `Refuses` and is none of the ends that a command comes to by
 module _ (Refuses Owed : Ended → Type 0) (failed : Type 0)
     (not_sealed : Refuses ended.NotSealed × IsRefusal ended.NotSealed → Owed ended.NotSealed)
     (bad_slot : (slot : ℕ) → Refuses (ended.BadSlot slot) × IsRefusal (ended.BadSlot slot) → Owed (ended.BadSlot slot))

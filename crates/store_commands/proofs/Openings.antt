@@ -62,7 +62,7 @@ pub store_opened : (image : List ℕ) (opening : Opening) (found : Option (Durab
     → found ≡ sealed_store opening.totals opening.seal → store_of (opening_of image) ≡ sealed_or found
 store_opened image opening found e f = ap store_of (sym e) ∙ ap sealed_or (sym f)
 
--- an opening, where what fails is known by another name
+-- an opening, if what fails is known by another name
 pub opens-as : {D L : Type 0} {N : ℕ} (B : Ghosts D N L) (fails fails' : Type 0) (old new : D) → (fails → fails')
     → (fails' → fails) → OnlyOpens B fails old new → OnlyOpens B fails' old new
 opens-as B fails fails' old new more fewer h =

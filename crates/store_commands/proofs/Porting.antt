@@ -106,7 +106,7 @@ module _ (contents left : ℕ → List ℕ) (image : List ℕ) (read_failed : �
     });
   }
 
--- where serving ended so
+-- the same of serving that ended so
 pub read_fault-served : (served : Result (Unit {0}) PortFault) → ended_serving served ≡ ended.ReadFault
     → served ≡ Err faults.ReadFault
 read_fault-served (Ok u) e = absurd cc

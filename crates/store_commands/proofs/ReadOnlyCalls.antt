@@ -36,7 +36,7 @@ module _ {D L : Type 0} {N : ℕ} (B : Ghosts D N L) where
     settled = λ good. settled (λ f. good (board f));
   }
 
-  -- where nothing is in flight, calls that keep the store leave the image
+  -- if nothing is in flight, calls that keep the store leave the image
   kept_image : (old mid new : D) → LeavesNow B mid → IsAtRest B mid → B.image mid ≡ B.image old → KeepsStore B mid new
       → LeavesOnly B mid new (Same old)
   kept_image old mid new now settled same kept =

@@ -126,7 +126,7 @@ not_0-store (stores.BadSlot slot) = λ z. absurd cc
 not_0-store (stores.SameNumber first second) = λ z. absurd cc
 not_0-store stores.BoardFault = λ z. absurd cc
 
--- what is left unread where the store may be sealed
+-- what is left unread if the store may be sealed
 pub unread-sealing : (contents left : ℕ → List ℕ) (image : List ℕ) (opening : Opening) (b : Result Base Ended)
     (base : Base) → opening_of image ≡ Ok opening → b ≡ Ok base → b ≡ over_totals opening.totals opening.seal
     → ((other : ℕ) → other ≢ 1 → ¬ ((other ≡ 2) × HasDecimals base.decimals (contents 1)) → left other ≡ contents other)

@@ -6,7 +6,7 @@ use Rattle.outside.specs.declared.files.Files.{Ghosts as FileGhosts}
 use Rattle.store_commands.specs.ReadInTurn.{HasFailed, ReadsInTurn}
 
 module _ {E : Type 0} (F : FileGhosts E) where
-  -- what a call leaves of the counts where no read failed
+  -- what a call leaves of the counts if no read failed
   abbrev pub KeepsCounts : (files files' : E) → Type 0
   KeepsCounts files files' = (other : ℕ) → F.faults files' other ≡ F.faults files other
 

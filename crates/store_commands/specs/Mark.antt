@@ -11,12 +11,12 @@ use Rattle.call_ends.specs.LastLine.{refused_as}
 use Rattle.store_commands.specs.Opening.{opening_of, store_of}
 use Rattle.call_ends.specs.declared.ending.Ended.{Ended}
 
--- the mark of a state of the store is one by which a driver signs on, or where none is given whoever is on signs off
+-- the mark of a state of the store signs a driver on, or, without a driver, signs whoever is on off
 abbrev pub mark_of : Option Driver → Durable → Signing
 mark_of (Some driver) now = record { driver = driver.items; on = true; numbers = numbers_in now }
 mark_of None now = record { driver = []; on = false; numbers = numbers_in now }
 
--- the answer to a driver shows the line of the mark of a sealed store, and else it is the refusal of the store
+-- the answer to a driver shows the line of the mark of a sealed store, and else refuses the store
 abbrev pub mark_answer : (driver : Option Driver) → Result (Durable × Seal) Ended → Answer
 mark_answer driver (Err why) = refused_as why
 mark_answer driver (Ok store) = shows (mark_text (mark_of driver store.0))

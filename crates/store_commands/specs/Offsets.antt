@@ -9,15 +9,15 @@ use Rattle.call_ends.specs.Answer.{Answer, refuses, shows}
 use Rattle.call_ends.specs.Course.{Command}
 use Rattle.call_ends.specs.LastLine.{bad_rules_line}
 
--- the answer to some years, the first and the last, shows the list of offsets that the rules give for them, or says why
--- the rules aren't accepted
+-- the answer to a first and a last year shows the list of offsets that the rules give for these years, or says why the
+-- rules aren't accepted
 abbrev pub offsets_answer : (years : ℕ × ℕ) → Result Rule RuleFault → Answer
 offsets_answer years (Err fault) = refuses 17 (bad_rules_line fault)
 offsets_answer years (Ok rule) = shows (offset_lines (pairs_of rule years.0 years.1))
 
 -- the command `offsets` reads its rules, prints each line by itself and takes no memory, in at most 31 steps and one
--- for the last line; `rules_read` gives the rule that a text says or its fault, as the law texts_say_rules_line_by_line
--- of offset_rules says
+-- for the last line. `rules_read` gives the rule of a text or its fault, as the law texts_say_rules_line_by_line of
+-- offset_rules says
 abbrev pub offsets_command : (years : ℕ × ℕ) → Command
 offsets_command years = record {
   answer = λ contents image. offsets_answer years (rules_read (contents 1));

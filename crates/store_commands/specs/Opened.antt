@@ -18,28 +18,28 @@ use Rattle.call_ends.specs.declared.ending.Ended.TheVariants.{NotSealed}
 use Rattle.store_commands.specs.declared.opening.Opening.{Opening}
 use Rattle.store_commands.specs.declared.opening.StoreFault.{StoreFault}
 
--- an opening is sound where the durable state and the seal that it has are in their ranges
+-- an opening is sound if its durable state and its seal are in their ranges, if it has them
 pub record IsOpeningInRange (opening : Opening) : Type 0 where
   pub totals : IsValidFinding IsDurable opening.totals
   pub seal : IsValidFinding IsSeal opening.seal
 
--- a command is barred by the store where it ended by a fault of the store, or because the store isn't sealed
+-- a command is barred by the store if it ended by a fault of the store, or because the store isn't sealed
 abbrev pub IsBarred : Ended → Type 0
 IsBarred ended = (ended ≡ NotSealed) ⊎ ((fault : StoreFault) × (ended ≡ store_ended fault))
 
 module _ {D L : Type 0} {N : ℕ} (B : Ghosts D N L) where
-  -- a board is opened where nothing of either pair is in flight, and both pairs are as they were found
+  -- a board is opened if nothing of either pair is in flight, and both pairs are as they were found
   pub record IsOpened (board : D) (opening : Opening) : Type 0 where
     pub totals : IsAsFound totals.reads states.state_number_of 0 (B.image board) (B.in_flight board) opening.totals
     pub seal : IsAsFound seals.reads seals.seal_number_of 1024 (B.image board) (B.in_flight board) opening.seal
 
-  -- a board is opened with a durable state where its pair of totals is settled with the state
+  -- a board is opened with a durable state if its pair of totals is settled with the state
   abbrev pub IsOpenedWith : (board : D) → Durable → Type 0
   IsOpenedWith board durable = (place : Place) × states.HoldsState B place board durable
 
-  -- a call only opens the store where it only reads, a cut from its opening sync on leaves the store as it was, unless
-  -- the call `fails` nothing is in flight and no byte has changed, and the board's count of faults rose if it fails and
-  -- is as it was if it doesn't
+  -- a call only opens the store if it only reads, and a cut from its opening sync on leaves the store as it was. If it
+  -- `fails`, the board's count of faults rose. If it doesn't, that count is as it was, nothing is in flight, and no
+  -- byte has changed.
   pub record OnlyOpens (fails : Type 0) (old new : D) : Type 0 where
     pub reads : ReadsOnly B old new
     pub synced : B.tells_image → LeavesFromSync B fails old new (IsAsHeld B old)

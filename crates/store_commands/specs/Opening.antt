@@ -16,36 +16,36 @@ use Rattle.store_commands.specs.declared.opening.Opening.{Opening}
 use Rattle.store_commands.specs.declared.opening.StoreFault.{StoreFault}
 use Rattle.store_commands.specs.declared.opening.StoreFault.TheVariants.{BadSlot, SameNumber, BoardFault}
 
--- a fault of a pair is one of the store, in which the pair's first slot has a number
+-- the fault of a pair whose first slot has a number in the store
 abbrev pub fault_from : (first : ℕ) → SlotFault → StoreFault
 fault_from first (slots.BadBody slot) = BadSlot (if slot == 0 then first else first + 1)
 fault_from first (slots.SameNumber number) = SameNumber first (first + 1)
 fault_from first slots.DeviceFailed = BoardFault
 
--- what two pairs stand for is an opening where neither has a fault, and else the fault of the first one that has
+-- what two pairs stand for is an opening if neither has a fault, and else the fault of the first one that has
 abbrev pub opened : Result (Found Durable) SlotFault → Result (Found Seal) SlotFault → Result Opening StoreFault
 opened (Err fault) seal = Err (fault_from 0 fault)
 opened (Ok durable) (Err fault) = Err (fault_from 2 fault)
 opened (Ok durable) (Ok seal) = Ok (record { totals = durable; seal = seal })
 
--- an image stands for what its pair of totals at 0 and its pair of seals at 1,024 stand for, or has a fault
+-- an image stands for what its pairs stand for, that of totals at 0 and that of seals at 1,024, or has a fault
 abbrev pub opening_of : (image : List ℕ) → Result Opening StoreFault
 opening_of image =
     opened (found_at totals.reads states.state_number_of 0 image) (found_at seals.reads seals.seal_number_of 1024 image)
 
--- a store is sealed where both pairs stand for something, a durable state and a seal
+-- a store is sealed if both pairs stand for something, a durable state and a seal
 abbrev pub sealed_store : Found Durable → Found Seal → Option (Durable × Seal)
 sealed_store Blank seal = None
 sealed_store (Latest place durable) Blank = None
 sealed_store (Latest place durable) (Latest other seal) = Some (durable, seal)
 
--- a command ends by the fault of a store of which it can't be told what it stands for
+-- how a command ends by a fault of the store
 abbrev pub store_ended : StoreFault → Ended
 store_ended (BadSlot slot) = ended.BadSlot slot
 store_ended (SameNumber first second) = ended.SameNumber first second
 store_ended BoardFault = ended.BoardFault
 
--- a command that needs a sealed store has the durable state and the seal, and else ends with `NotSealed`
+-- a command that needs a sealed store has the durable state and the seal, or ends with `NotSealed`
 abbrev pub sealed_or : Option (Durable × Seal) → Result (Durable × Seal) Ended
 sealed_or None = Err ended.NotSealed
 sealed_or (Some store) = Ok store
@@ -55,7 +55,7 @@ abbrev pub store_of : Result Opening StoreFault → Result (Durable × Seal) End
 store_of (Err fault) = Err (store_ended fault)
 store_of (Ok opening) = sealed_or (sealed_store opening.totals opening.seal)
 
--- the store of an image is sealed where the image opens with a durable state and a seal
+-- the store of an image is sealed if the image opens with a durable state and a seal
 pub record IsSealedIn (image : List ℕ) : Type 0 where
   pub store : Durable × Seal
   pub is : store_of (opening_of image) ≡ Ok store

@@ -12,30 +12,30 @@ use Rattle.store_commands.specs.Opening.{IsSealedIn, opening_of, store_of}
 use Rattle.call_ends.specs.Stream.{Requests}
 use Rattle.call_ends.specs.declared.ending.Ended.{Ended}
 
--- the answer to requests shows their replies, and has the status 16 and a last line where a byte of the requests is bad
--- or they have no end
+-- the answer to requests shows their replies. It has the status 16 and a last line if a byte of the requests is bad or
+-- they have no end.
 abbrev pub requests_answer : List ℕ → StreamEnd → Answer
 requests_answer shown Whole = shows shown
 requests_answer shown (BadAt place) = record { status = 16; shown = shown; line = bad_frame_line place }
 requests_answer shown Endless = record { status = 16; shown = shown; line = endless_requests_line }
 
--- the answer to a stream is that of its replies over a sealed store, or the refusal of the store
+-- the answer to a stream is that of its replies over a sealed store, and else refuses the store
 abbrev pub port_answer : Result (Durable × Seal) Ended → (stream : List ℕ) → Answer
 port_answer (Err why) stream = refused_as why
 port_answer (Ok store) stream = requests_answer (replies store.0 store.1 (requests_of stream)) (stream_end stream)
 
--- bytes that were taken show the replies to the requests in them over a sealed store, and nothing over another
+-- bytes that were taken show the replies to the requests in them if the store is sealed, and else nothing
 abbrev pub replies_over : Result (Durable × Seal) Ended → (taken : List ℕ) → List ℕ
 replies_over (Err why) taken = []
 replies_over (Ok store) taken = replies store.0 store.1 (requests_in taken)
 
--- requests are being served where the store is sealed, and the bytes that were taken don't tell the requests' end
+-- requests are being served if the store is sealed, and the bytes that were taken don't tell the requests' end
 pub record IsServing (image taken : List ℕ) : Type 0 where
   pub sealed : IsSealedIn image
   pub going : IsGoing taken
 
 -- the command `port` opens the store, and then reads its requests and serves them, in at most 64 steps for the opening
--- and the last line together and one for each request in the bytes that were taken; it takes no memory
+-- and the last line, and one for each request in the bytes that were taken. It takes no memory.
 abbrev pub port_command : Command
 port_command = record {
   answer = λ contents image. port_answer (store_of (opening_of image)) (contents 1);

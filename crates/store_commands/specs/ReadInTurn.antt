@@ -1,4 +1,4 @@
--- For proofs: what is left of its files by a part of a command that reads the files of two words, one behind the other.
+-- For proofs: what is left of files by a part of a command that reads those of two words, the first before the second.
 use Rattle.std.specs.Prelude.{◌≡◌, ◌≢◌, ◌⊎◌, ℕ}
 use Rattle.outside.specs.Reading.{LeavesOthers}
 use Rattle.outside.specs.Faults.{Rose}
@@ -8,9 +8,9 @@ use Rattle.outside.specs.declared.files.Files.{Ghosts as FileGhosts}
 abbrev pub HasFailed : {E : Type 0} → FileGhosts E → (files files' : E) → (word : ℕ) → Type 0
 HasFailed F files files' word = Rose (F.faults files word) (F.faults files' word)
 
--- the files of two words were read in turn if, where a read `failed`, the count of the first word's file rose and no
--- other word was read, or that of the second word's rose; no third word was read; the second wasn't where the call
--- didn't come to it; and no count rose where no read failed
+-- the files of two words were read in turn if no third word was read, and the second only if the call `comes` to it. If
+-- a read `failed`, the first word's count of faults rose and no other word was read, or the second word's rose; else no
+-- count rose.
 pub record ReadsInTurn {E : Type 0} (F : FileGhosts E) (first second : ℕ) (comes failed : Type 0)
     (files files' : E) : Type 0 where
   pub read_fault : failed → (HasFailed F files files' first

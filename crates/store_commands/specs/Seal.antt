@@ -30,59 +30,59 @@ use Rattle.call_ends.specs.declared.tariff.Refusal.{Refusal}
 
 -- ---- what is sealed over
 
--- the base of a sealing has the place, the number and the decimals of the found seal; a seal with the last number is
--- the end `SealEnded`
+-- the base of a sealing has the place, the number and the decimals of the found seal, if one was found. The seal with
+-- the last number gives the end `SealEnded`.
 abbrev pub over_seal : Option Durable → Found Seal → Result Base Ended
 over_seal totals Blank = Ok (record { totals = totals; found = None; decimals = None })
 over_seal totals (Latest place seal) =
     if seal.seal_number == last_seal_number then Err SealEnded
     else Ok (record { totals = totals; found = Some (place, seal.seal_number); decimals = Some seal.decimals })
 
--- the base of a sealing has the found totals, where they hold no trip; a held trip is the end `TripHeld`
+-- the base of a sealing has the totals that were found. Totals that hold a trip give the end `TripHeld`.
 abbrev pub over_totals : Found Durable → Found Seal → Result Base Ended
 over_totals Blank seal = over_seal None seal
 over_totals (Latest place durable) seal = if is_some durable.hold then Err TripHeld else over_seal (Some durable) seal
 
--- the base of a sealing over what was opened is made of the totals and the seal that were found, or is the end by which
--- the store is refused
+-- the base of a sealing over what was opened has the totals and the seal that were found, or is the end by which the
+-- store is refused
 abbrev pub base_in : Result Opening StoreFault → Result Base Ended
 base_in (Err fault) = Err (store_ended fault)
 base_in (Ok opening) = over_totals opening.totals opening.seal
 
 -- ---- the new seal
 
--- decimals may be sealed where they are the decimals of the found seal, or no seal was found
+-- decimals may be sealed if they are those of the found seal, or no seal was found
 abbrev pub are_decimals : Option ℕ → ℕ → Result (Unit {0}) Ended
 are_decimals None own = Ok tt
 are_decimals (Some found) own = if found == own then Ok tt else Err (OtherDecimals found own)
 
--- a seal is made of a number, a digest, decimals and parameters, and is refused where the parameters are
+-- the seal of a number, a digest, decimals and parameters, or the refusal of the parameters
 abbrev pub with_params : (number : ℕ) → (digest : List ℕ) → (decimals : ℕ) → Result Params ParamFault
     → Result Seal Ended
 with_params number digest decimals (Err fault) = Err (BadParams fault)
 with_params number digest decimals (Ok params) =
     Ok (record { seal_number = number; params = params; digest = digest; decimals = decimals })
 
--- a seal is refused where its decimals are, and is otherwise made or refused for another reason
+-- a seal is refused if its decimals are, and is otherwise made or refused for another reason
 abbrev pub where_decimals : Result (Unit {0}) Ended → Result Seal Ended → Result Seal Ended
 where_decimals (Err ended) seal = Err ended
 where_decimals (Ok same) seal = seal
 
--- a seal is made of a number, a digest, a tariff and parameters, and is refused where the tariff is, before its
--- decimals and its parameters are asked
+-- the seal of a number, a digest, a tariff and parameters, or the first refusal: of the tariff, of its decimals, or of
+-- the parameters
 abbrev pub with_tariff : (number : ℕ) → Option ℕ → (digest : List ℕ) → Result Tree Refusal → Result Params ParamFault
     → Result Seal Ended
 with_tariff number found digest (Err why) params = Err (BadTariff why)
 with_tariff number found digest (Ok t) params =
     where_decimals (are_decimals found t.decimals) (with_params number digest t.decimals params)
 
--- a tariff's text and a parameter text give the seal of a number, beside decimals that were found, or the first
--- refusal; `params_read` gives the parameters or their first fault, as the laws texts_say_their_parameters,
+-- a tariff's text and a parameter text give the seal of a number, beside the found decimals, or the first refusal.
+-- `params_read` gives the parameters or their first fault, as the laws texts_say_their_parameters,
 -- texts_are_too_long_or_lack_a_parameter and texts_say_parameters_line_by_line of seal_record say
 abbrev pub seal_read : (number : ℕ) → Option ℕ → (tariff params : List ℕ) → Result Seal Ended
 seal_read number found tariff params = with_tariff number found (sha256 tariff) (tariff_in tariff) (params_read params)
 
--- a text fits decimals that were found where its tariff is sound and has them
+-- a text fits the found decimals if its tariff is sound, and has them if any were found
 pub record HasDecimals (found : Option ℕ) (tariff : List ℕ) : Type 0 where
   pub tree : Tree
   pub sound : tariff_in tariff ≡ Ok tree
@@ -101,8 +101,8 @@ sealing_over old (Err ended) tariff params = Err ended
 sealing_over old (Ok base) tariff params =
     sealing_with old base (seal_read (next_number (found_number base.found)) base.decimals tariff params)
 
--- the sealing of what was opened is made with a tariff's text and a parameter text, or is the first refusal, which is
--- one of the store before one of the tariff, and of the tariff before one of the parameters
+-- the sealing of what was opened with a tariff's text and a parameter text, or the first refusal: of the store, of the
+-- tariff, or of the parameters
 abbrev pub sealing_of : Result Opening StoreFault → (tariff params : List ℕ) → Result Sealing Ended
 sealing_of (Err fault) tariff params = Err (store_ended fault)
 sealing_of (Ok opening) tariff params =
@@ -113,12 +113,12 @@ abbrev pub seal_answer : Result Sealing Ended → Answer
 seal_answer (Err ended) = refused_as ended
 seal_answer (Ok sealing) = shows_line (sealed_line sealing.new.seal_number)
 
--- the store of an image may be sealed where it has a base of a sealing
+-- the store of an image may be sealed if it has a base of a sealing
 pub record IsSealable (image : List ℕ) : Type 0 where
   pub base : Base
   pub is : base_in (opening_of image) ≡ Ok base
 
--- the store of an image may be sealed with a tariff where it has a base, and the tariff fits the base's decimals
+-- the store of an image may be sealed with a tariff if it has a base, and the tariff fits the base's decimals
 pub record IsFitting (tariff image : List ℕ) : Type 0 where
   pub base : Base
   pub is : base_in (opening_of image) ≡ Ok base
@@ -145,13 +145,13 @@ seal_command = record {
 
 -- ---- the store
 
--- the bytes of totals that were found stay if the image before and the one now differ within the pair of seals alone
+-- the bytes of the found totals stay if the image before and the one now differ within the pair of seals alone
 abbrev pub TotalsStay : (found : Option Durable) → (image now : List ℕ) → Type 0
 TotalsStay None image now = Unit {0}
 TotalsStay (Some durable) image now = SameBut (IsWithin seals_at pair_size) image now
 
--- an image has been sealed if the one now stands for the totals and the new seal of the sealing, and totals that were
--- found have their bytes
+-- an image has been sealed if the one now stands for the totals and the new seal of the sealing, and the found totals
+-- have their bytes
 abbrev pub HasSealed : Result Sealing Ended → (image now : List ℕ) → Type 0
 HasSealed (Err ended) image now = ⊥
 HasSealed (Ok sealing) image now = IsSealed sealing now × TotalsStay sealing.totals image now
@@ -169,16 +169,16 @@ pub record IsSealCut (sealing : Sealing) (printed left_image left_text : List �
   pub amid : IsAmid sealing left_image
   pub behind : ShowsByteOf (sealed_line sealing.new.seal_number) printed left_text → IsSealed sealing left_image
 
--- from the opening sync on a cut may leave what a cut of the sealing may leave, or the opening image where nothing is
+-- from the opening sync on a cut may leave what a cut of the sealing may leave, or the opening image if nothing is
 -- sealed
 abbrev pub MayLeaveSealing : Result Sealing Ended → (image printed left_image left_text : List ℕ) → Type 0
 MayLeaveSealing (Err ended) image printed left_image left_text = left_image ≡ image
 MayLeaveSealing (Ok sealing) image printed left_image left_text = IsSealCut sealing printed left_image left_text
 
 module _ {D L : Type 0} {N : ℕ} (B : Ghosts D N L) where
-  -- a call seals the store where at 0 the store stands for what the sealing says, and a cut from the opening sync on
-  -- leaves what a cut of the sealing may leave, and one before that sync has succeeded what it might have left before
-  -- the call
+  -- a call seals the store if at 0 the store stands for what the sealing says. A cut from the opening sync on leaves
+  -- what a cut of the sealing may leave; one before that sync has succeeded leaves what it might have left before the
+  -- call.
   pub record Seals (sealing : Result Sealing Ended) (old new : D) (ended : ℕ) : Type 0 where
     pub sealed : ended ≡ 0 → HasSealed sealing (B.image old) (B.image new)
     pub leaves : LeavesFromSync B (ended ≡ 8) old new (MayLeaveSealing sealing (B.image old) (B.printed old))

@@ -1,4 +1,4 @@
--- For proofs: how far the command `seal` came before its last line is printed. Seal says what a sealing is.
+-- For proofs: what the command `seal` has before its last line is printed. Seal says what a sealing is.
 use Rattle.std.specs.Prelude.{◌≡◌, ◌⊎◌, ℕ, List, Option, Result, Ok, Err, ◌≢◌}
 use Rattle.outside.specs.Printing.{Begins}
 use Rattle.outside.specs.Runs.{MayHold}
@@ -14,12 +14,12 @@ use Rattle.outside.specs.declared.files.Files.{Ghosts as FileGhosts}
 use Rattle.call_ends.specs.LastLine.{line_of, status_of}
 use Rattle.store_commands.specs.Opening.{opening_of}
 
--- a text has a tariff with decimals where its tariff is sound and has them, and they are those that were found, if any
+-- a text has a tariff with decimals if its tariff is sound and has them, and they are those that were found, if any
 pub record IsTariffWith (found : Option ℕ) (decimals : ℕ) (tariff : List ℕ) : Type 0 where
   pub has : HasDecimals found tariff
   pub decimals_are : has.tree.decimals ≡ decimals
 
--- a text has no tariff that may be sealed where it isn't sound, has other decimals than were found, or memory ran out
+-- a text has no tariff that may be sealed if it isn't sound, has other decimals than were found, or memory ran out
 abbrev pub IsNoTariff : (found : Option ℕ) (tariff : List ℕ) → Ended → Type 0
 IsNoTariff found tariff NoMemory = Unit {0}
 IsNoTariff found tariff (BadTariff why) = tariff_in tariff ≡ Err why
@@ -27,7 +27,7 @@ IsNoTariff found tariff (OtherDecimals one own) =
     (t : Tree) × (tariff_in tariff ≡ Ok t) × (are_decimals found t.decimals ≡ Err (OtherDecimals one own))
 IsNoTariff found tariff ended = ⊥
 
--- no seal was made where a read failed of a text that was come to, memory ran out, or the texts are refused
+-- no seal was made if a read failed of a text that was come to, memory ran out, or the texts are refused
 abbrev pub IsNoSeal : (number : ℕ) → Option ℕ → (tariff params : List ℕ) → (read_failed : ℕ → Type 0) → Ended
     → Type 0
 IsNoSeal number found tariff params read_failed ReadFault = read_failed 1 ⊎ (HasDecimals found tariff × read_failed 2)
@@ -41,7 +41,7 @@ IsNoSeal number found tariff params read_failed (BadParams fault) =
 IsNoSeal number found tariff params read_failed ended = ⊥
 
 module _ {D L : Type 0} {N : ℕ} (B : Ghosts D N L) where
-  -- a board rests amid a sealing that began with an image and a printed text where a cut while a last line is printed
+  -- a board rests amid a sealing that began with an image and a printed text if a cut while a last line is printed
   -- leaves only what a cut of the sealing may leave
   abbrev pub RestsAmid : Result Sealing Ended → (image printed line : List ℕ) → D → Type 0
   RestsAmid sealing image printed line board =
@@ -49,8 +49,8 @@ module _ {D L : Type 0} {N : ℕ} (B : Ghosts D N L) where
       → Begins (B.printed board) left_text line → MayLeaveSealing sealing image printed left_image left_text
 
 module _ {E D L : Type 0} {N : ℕ} (F : FileGhosts E) (B : Ghosts D N L) where
-  -- a sealing comes to its last line where all holds of it that `Seals` says, and a cut while that line is printed
-  -- leaves what a cut of the sealing may leave
+  -- a sealing reaches its last line if all holds that `Seals` says, and a cut while that line is printed leaves what a
+  -- cut of the sealing may leave
   pub record SealReachesLine (files : E) (old new : D) (ended : Ended) : Type 0 where
     pub seals : Seals B (sealing_of (opening_of (B.image old)) (F.rest files 1) (F.rest files 2)) old new
         (status_of ended)

@@ -9,7 +9,7 @@ use Rattle.store_commands.specs.Opening.{opening_of, store_of}
 use Rattle.store_commands.specs.SealedText.{sealed_text}
 use Rattle.call_ends.specs.declared.ending.Ended.{Ended}
 
--- the answer to a sealed store shows what it was sealed with, and else it is the refusal of the store
+-- the answer to a sealed store shows what it was sealed with, and else refuses the store
 abbrev pub sealed_answer : Result (Durable × Seal) Ended → Answer
 sealed_answer (Err why) = refused_as why
 sealed_answer (Ok store) = shows (sealed_text store.1)

@@ -5,14 +5,13 @@ use Rattle.seal_record.specs.declared.seal.Seal.{Seal}
 use Rattle.seal_record.specs.PlainText.{commented_text}
 use Rattle.call_ends.specs.LastLine.{numbered}
 
--- the comments of a seal say its number, the decimals of its tariff's money, and the digest of its tariff's text in
--- hexadecimal digits
+-- the comments of a seal say its number, the decimals of its tariff's money, and its digest in hexadecimal digits
 abbrev pub seal_comments : Seal → List (List ℕ)
 seal_comments seal =
     numbered (codes " SEAL") seal.seal_number
     ∷ numbered (codes " DECIMALS") seal.decimals
     ∷ (codes " TARIFF " ++ hex_text seal.digest) ∷ []
 
--- what a store was sealed with is written as a text of its parameters, behind the comments of the seal
+-- what a store was sealed with is written as the comments of the seal and the text of its parameters
 abbrev pub sealed_text : Seal → List ℕ
 sealed_text seal = commented_text (seal_comments seal) seal.params

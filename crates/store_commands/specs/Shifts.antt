@@ -16,25 +16,25 @@ use Rattle.call_ends.specs.Pieces.{pieces_of}
 use Rattle.call_ends.specs.declared.ending.Ended.{Ended}
 use Rattle.call_ends.specs.declared.ending.Ended.TheVariants as ended
 
--- the command ended by the fault of its book; no text has the fault `NoMemory`, which is the want of memory
+-- how a command ended by the fault of its book; no text has the fault `NoMemory`, which says that memory ran out
 abbrev pub ended_for_book : BookFault → Ended
 ended_for_book books.TooLong = ended.LongBook
 ended_for_book (books.BadLine line) = ended.BadBook line
 ended_for_book books.NoMemory = ended.NoMemory
 
--- the answer to a book that was read beside a state of the store is the report, and else the refusal of the book
+-- the answer to a book that was read beside a state of the store is the report, and else refuses the book
 abbrev pub reported : (decimals : ℕ) (now : Durable) → Result (List Signing) BookFault → Answer
 reported decimals now (Err fault) = refused_as (ended_for_book fault)
 reported decimals now (Ok marks) = shows (report_text decimals (numbers_in now) marks)
 
--- the answer to a text over a sealed store is that of the book, and else it is the refusal of the store; `book_read`
--- gives the marks of the book or its fault, as the law texts_are_read_as_they_say of shift_book says
+-- the answer to a text over a sealed store is that of the book, and else refuses the store. `book_read` gives the marks
+-- of the book or its fault, as the law texts_are_read_as_they_say of shift_book says
 abbrev pub shifts_answer : Result (Durable × Seal) Ended → (text : List ℕ) → Answer
 shifts_answer (Err why) text = refused_as why
 shifts_answer (Ok store) text = reported store.1.decimals store.0 (book_read store.0 text)
 
--- steps are bounded by a report where at most 7 are taken for the opening and the last line together, and one for each
--- piece that is printed; whatever the store tells, 65 and two for each byte of the book are enough
+-- steps are bounded by a report if the opening and the last line take at most 7, and each piece of the report takes
+-- one. Whatever the store tells, they are at most 65 and two for each byte of the book.
 pub record IsBoundedByReport (files_tell image_told : Type 0) (image text : List ℕ) (before now : ℕ) : Type 0 where
   pub by_report : files_tell → image_told
       → now ≤ before + 7 + pieces_of (length (shifts_answer (store_of (opening_of image)) text).shown)

@@ -1,5 +1,4 @@
--- For proofs: how a command ends by parameters, rules, books or requests that were not read. Course says what a
--- call is.
+-- For proofs: how a command ends by requests, parameters, rules or books that it couldn't read.
 use Rattle.std.specs.Prelude.{Result, Ok, Err}
 use Rattle.store_commands.specs.Shifts.{ended_for_book}
 use Rattle.call_ends.specs.declared.ending.Ended.{Ended}
@@ -14,7 +13,7 @@ use Rattle.store_commands.specs.declared.shifts.ReportFault.TheVariants as repor
 use Rattle.data_port.specs.declared.serving.PortFault.{PortFault}
 use Rattle.data_port.specs.declared.serving.PortFault.TheVariants as ports
 
--- a command ended by the answer of the serving of its requests
+-- how a command ended that served its requests
 abbrev pub ended_serving : {T : Type 0} → Result T PortFault → Ended
 ended_serving (Ok done) = Done
 ended_serving (Err ports.ReadFault) = ReadFault
@@ -22,18 +21,18 @@ ended_serving (Err ports.BoardFault) = BoardFault
 ended_serving (Err (ports.Frame place)) = BadFrame place
 ended_serving (Err ports.TooLong) = EndlessRequests
 
--- a command ended by the fault for which its parameters weren't read
+-- how a command ended that couldn't read its parameters
 abbrev pub ended_for_params : ParamsFault → Ended
 ended_for_params params.ReadFault = ReadFault
 ended_for_params (params.Refused why) = BadParams why
 ended_for_params params.NoMemory = NoMemory
 
--- a command ended by the fault for which its rules of offsets weren't read
+-- how a command ended that couldn't read its rules of offsets
 abbrev pub ended_for_rules : RulesFault → Ended
 ended_for_rules rules.ReadFault = ReadFault
 ended_for_rules (rules.Refused why) = BadRules why
 
--- a command ended by the fault for which there is no report of shifts
+-- how a command ended that has no report of shifts
 abbrev pub ended_for_report : ReportFault → Ended
 ended_for_report reports.ReadFault = ReadFault
 ended_for_report (reports.Refused fault) = ended_for_book fault

@@ -9,7 +9,7 @@ use Rattle.store_commands.specs.Opening.{opening_of, store_of}
 use Rattle.store_commands.specs.TotalsText.{totals_text}
 use Rattle.call_ends.specs.declared.ending.Ended.{Ended}
 
--- the answer to a sealed store shows its totals, with the decimals of the seal, and else it is the refusal of the store
+-- the answer to a sealed store shows its totals, with the decimals of the seal, and else refuses the store
 abbrev pub totals_answer : Result (Durable × Seal) Ended → Answer
 totals_answer (Err why) = refused_as why
 totals_answer (Ok store) = shows (totals_text store.1.decimals store.0)

@@ -9,7 +9,7 @@ use Rattle.totals_record.specs.declared.trip.Trip.{Trip}
 use Rattle.totals_record.specs.Entries.{no_share}
 use Rattle.call_ends.specs.NumberLine.{number_line}
 
--- a line of an amount is its name, the amount, counted in units of the last of its decimals, and the end
+-- a line of an amount is its name, the amount, in units of its last decimal, and the end
 abbrev pub amount_line : (name : List ℕ) → (decimals amount : ℕ) → (end : List ℕ) → List ℕ
 amount_line name decimals amount end = name ++ (money_text decimals amount ++ end)
 
@@ -31,7 +31,7 @@ summary_text decimals d =
     number_line (codes "NUMBER ") d.number
     ++ (distances_text d.totals ++ (number_line (codes "HIRINGS ") d.totals.hirings ++ money_lines decimals d.totals))
 
--- the line `HELD` says yes where a trip is held, and else no
+-- the line `HELD` says yes if a trip is held, and else no
 abbrev pub held_line : Option Trip → List ℕ
 held_line None = codes "HELD no\n"
 held_line (Some trip) = codes "HELD yes\n"
@@ -40,15 +40,15 @@ held_line (Some trip) = codes "HELD yes\n"
 abbrev pub share_text : (decimals : ℕ) → Share → List ℕ
 share_text decimals share = decimal share.hirings ++ (codes " " ++ (money_text decimals share.fare ++ codes "\n"))
 
--- the text of totals has at its head the number, the five totals, whether a trip is held, the layout, and what was
--- counted before there were shares
+-- the heading of totals has the number, the five totals, whether a trip is held, the layout, and what was counted
+-- before there were shares
 abbrev pub totals_heading : (decimals : ℕ) → Durable → List ℕ
 totals_heading decimals d =
     summary_text decimals d
     ++ (held_line d.hold ++ (number_line (codes "LAYOUT ") d.layout
     ++ (codes "BEFORE " ++ share_text decimals d.totals.before)))
 
--- a tariff position is written as a line of its share, and as nothing where it has no hirings
+-- a tariff position is written as a line of its share, and as nothing if it has no hirings
 abbrev pub position_text : (decimals position : ℕ) → Share → List ℕ
 position_text decimals position share =
     if nat_lt 0 share.hirings

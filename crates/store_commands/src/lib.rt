@@ -1,4 +1,4 @@
-//! The commands that look at the store or seal it, and how a store is opened; the offsets of some years.
+//! The commands that look at the store or seal it, the opening of the store, and the offsets of some years.
 #![tactic(auto)]
 
 pub mod mark;

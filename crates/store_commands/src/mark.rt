@@ -16,8 +16,8 @@ use std::sync::ledger::Ledger;
 use taxi_units::{Line, Steps};
 use totals_record::Durable;
 
-/// Scans the store, and prints the mark of it by which a driver signs on, or with no driver whoever is on
-/// signs off. No memory is taken.
+/// Scans the store, and prints its mark: with a driver, one by which the driver signs on, and else one by which whoever
+/// is on signs off. It takes no memory.
 pub fn print_mark<B: Board<STORE_SIZE, L>, L: Ledger>(
     driver: Option<ArrayVec<u8, 16>>,
     board: &mut B,

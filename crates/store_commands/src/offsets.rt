@@ -32,7 +32,7 @@ pub enum RulesFault {
 /// The buffer for the text of rules, which has one byte more than such a text may have.
 const ROOM: usize = 4097;
 
-/// Reads the rules of word 1, and prints the list of offsets that they give for some years, a line a pair.
+/// Prints the list of offsets that the rules of word 1 give for some years, a line a pair.
 pub fn print_offsets<F: Files, B: Board<STORE_SIZE, L>, L: Ledger>(
     years: Years,
     files: &mut F,
@@ -54,7 +54,7 @@ pub fn print_offsets<F: Files, B: Board<STORE_SIZE, L>, L: Ledger>(
     }
 }
 
-/// How a command ended whose rules weren't read.
+/// How a command ended that couldn't read its rules.
 fn refused_rules(fault: RulesFault) -> Ended
     ensures { result ≡ ended_for_rules fault }
 {
@@ -64,7 +64,7 @@ fn refused_rules(fault: RulesFault) -> Ended
     }
 }
 
-/// Reads the rules of a word, to the end of its file where they are accepted. No memory is taken.
+/// Reads the rules of a word, to the end of its file if they are accepted. It takes no memory.
 #[tactic(auto, unfolding(offset_rules::specs::Reading::rules_read))]
 fn rules_of_word<F: Files>(files: &mut F, word: usize) -> Result<Rules, RulesFault>
     ensures found { F.tells → IfOk result (λ rules. rules_read (F.rest files.old word) ≡ Ok rules) }

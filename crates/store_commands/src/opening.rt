@@ -17,14 +17,14 @@ use std::sync::ledger::Ledger;
 use taxi_units::Steps;
 use totals_record::Durable;
 
-/// What the store stands for: its totals and its seal, either of which may be none yet.
+/// What the store stands for: its totals and its seal, if it has them.
 #[derive(Drop)]
 pub struct Opening {
     pub totals: Found<Durable>,
     pub seal: Found<Seal>,
 }
 
-/// Why it can't be told what the store stands for. Slots 0 and 1 are the totals', 2 and 3 the seal's.
+/// Why it isn't known what the store stands for. Slots 0 and 1 are the totals', 2 and 3 the seal's.
 #[derive(Clone, Copy)]
 pub enum StoreFault {
     /// This slot is open, and its body isn't read.
@@ -35,11 +35,11 @@ pub enum StoreFault {
     BoardFault,
 }
 
-/// Scans the pair of totals, and then that of seals. Nothing is written or printed.
+/// Scans the pair of totals, and then that of seals. It writes and prints nothing.
 ///
-/// `BadSlot` and `SameNumber` come exactly by the image, for the totals' pair before the seal's.
-/// `BoardFault` comes only where the board's count of faults rose. From the first sync on a cut leaves
-/// the image as it was, and after each other answer nothing is in flight.
+/// `BadSlot` and `SameNumber`: the image has this fault, the totals' pair before the seal's. `BoardFault`: the board's
+/// count of faults rose. From the first sync on a cut leaves the image as it was, and nothing is in flight after
+/// another answer than `BoardFault`.
 pub fn open_store<B: Board<STORE_SIZE, L>, L: Ledger>(
     board: &mut B,
     steps: &mut Steps<L>,
@@ -80,7 +80,7 @@ fn fault_of_pair(first: u8, fault: SlotFault) -> StoreFault
     }
 }
 
-/// The totals and the seal of a store that is sealed.
+/// The totals and the seal of a store. None exactly if the store isn't sealed.
 pub fn sealed_store(opening: Opening) -> Option<(Durable, Seal)>
     requires { IsOpeningInRange opening }
     ensures answer { result ≡ spec.sealed_store opening.totals opening.seal }
@@ -96,7 +96,7 @@ pub fn sealed_store(opening: Opening) -> Option<(Durable, Seal)>
     }
 }
 
-/// How a command ended that can't tell what the store stands for.
+/// How a command ended by a fault of the store.
 pub fn refused_store(fault: StoreFault) -> Ended
     ensures { result ≡ store_ended fault }
 {

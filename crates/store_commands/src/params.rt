@@ -25,7 +25,7 @@ pub enum ParamsFault {
 /// How many bytes a parameter text has at most.
 const MOST: usize = 65_536;
 
-/// Reads the parameters of a word, to the end of its file where they are accepted.
+/// Reads the parameters of a word, to the end of its file if they are accepted.
 #[tactic(auto, unfolding(seal_record::specs::Reading::params_read))]
 pub fn read_parameters<F: Files>(
     alloc: Global,
@@ -53,7 +53,7 @@ pub fn read_parameters<F: Files>(
     }
 }
 
-/// How a command ended whose parameters weren't read.
+/// How a command ended that couldn't read its parameters.
 pub fn refused_params(fault: ParamsFault) -> Ended
     ensures { result ≡ ended_for_params fault }
 {

@@ -11,7 +11,7 @@ use outside::{Board, Files, STORE_SIZE};
 use std::sync::ledger::Ledger;
 use taxi_units::Steps;
 
-/// Scans the store, and serves the requests of word 1 from what it found.
+/// Scans the store, and serves the requests of word 1 from what it has found.
 pub fn serve_requests<F: Files, B: Board<STORE_SIZE, L>, L: Ledger>(
     files: &mut F,
     board: &mut B,
@@ -28,7 +28,7 @@ pub fn serve_requests<F: Files, B: Board<STORE_SIZE, L>, L: Ledger>(
     ended_of_serving(served)
 }
 
-/// How a command ended where the serving of its requests ended so.
+/// How a command ended that served its requests.
 pub fn ended_of_serving(served: Result<(), PortFault>) -> Ended
     ensures { result ≡ ended_serving served }
 {

@@ -25,7 +25,7 @@ use std::sync::ledger::Ledger;
 use taxi_units::Steps;
 use totals_record::Durable;
 
-/// What a sealing goes over: the totals and the seal that were found, and the decimals of that seal.
+/// What a sealing starts from: the totals and the seal that were found, and the decimals of that seal.
 #[derive(Drop)]
 pub struct Base {
     pub totals: Option<Durable>,
@@ -33,7 +33,7 @@ pub struct Base {
     pub decimals: Option<u8>,
 }
 
-/// What a sealing goes over, where no trip is held and there is a number for the seal.
+/// What a sealing starts from. `TripHeld`: the totals hold a trip. `SealEnded`: the found seal has the last number.
 fn base_of(opening: Opening) -> Result<Base, Ended>
     requires { IsOpeningInRange opening }
     ensures answer { result ≡ spec.over_totals opening.totals opening.seal }
@@ -54,7 +54,7 @@ fn base_of(opening: Opening) -> Result<Base, Ended>
     }
 }
 
-/// What a sealing starts from, where the totals hold no trip.
+/// What a sealing starts from, if the totals hold no trip.
 fn over_seal(totals: Option<Durable>, seal: Found<Seal>) -> Result<Base, Ended>
     requires { IsValidFinding IsSeal seal }
     ensures answer { result ≡ spec.over_seal totals seal }
@@ -83,7 +83,7 @@ fn over_seal(totals: Option<Durable>, seal: Found<Seal>) -> Result<Base, Ended>
     }
 }
 
-/// Whether a tariff has the decimals of the found seal, where there is one.
+/// Whether a tariff has the decimals of the found seal, if there is one.
 fn are_decimals(found: Option<u8>, own: u8) -> Result<(), Ended>
     ensures { result ≡ spec.are_decimals found own }
 {
@@ -99,7 +99,7 @@ fn are_decimals(found: Option<u8>, own: u8) -> Result<(), Ended>
     }
 }
 
-/// The decimals of the tariff of a text, where they are those that were found.
+/// The decimals of a text's tariff, if they are those of the found seal, or none was found.
 fn decimals_of(alloc: Global, text: &[u8], found: Option<u8>) -> Result<u8, Ended>
     ensures range { IfOk result (λ decimals. decimals ≤ 3) }
     ensures sound { IfOk result (λ decimals. IsTariffWith found decimals text.now) }
@@ -150,7 +150,7 @@ fn read_seal<F: Files>(
     })
 }
 
-/// The number of the seal that is put in.
+/// The number of the new seal.
 fn number_after(found: Option<(Place, u64)>) -> u64
     requires { ForSome found (λ latest. latest.1 < last_seal_number) }
     ensures value { result ≡ next_number (found_number found) }
@@ -162,8 +162,8 @@ fn number_after(found: Option<(Place, u64)>) -> u64
     }
 }
 
-/// Scans the store, reads the tariff of word 1 and the parameters of word 2, and seals the store with
-/// them, beside the totals that were found or totals of zero.
+/// Scans the store, reads the tariff of word 1 and the parameters of word 2, and seals the store with them. Totals that
+/// were found stay, and else they begin at zero.
 pub fn seal_store<F: Files, B: Board<STORE_SIZE, L>, L: Ledger>(
     alloc: Global,
     files: &mut F,

@@ -1,4 +1,4 @@
-//! The store of a command that needs a sealed one.
+//! Opens the store of a command that needs a sealed one.
 ghost use Rattle.std.specs.Prelude.{◌≡◌, ◌≢◌, ◌+◌, ◌≤◌, IfErr, IfOk, IsErrOf};
 ghost use Rattle.seal_record.specs.Ranges.{IsSeal};
 ghost use Rattle.totals_record.specs.Ranges.{IsDurable};
@@ -14,7 +14,7 @@ use std::sync::ledger::Ledger;
 use taxi_units::Steps;
 use totals_record::Durable;
 
-/// Scans the store, and gives its totals and its seal, where it is sealed. Nothing is written or printed.
+/// Scans the store, and gives its totals and its seal, or the end by which it is refused. It writes and prints nothing.
 pub fn open_sealed<B: Board<STORE_SIZE, L>, L: Ledger>(
     board: &mut B,
     steps: &mut Steps<L>,

@@ -13,14 +13,13 @@ ghost use Rattle.seal_record.specs.Ranges.{IsSeal};
 ghost use Rattle.seal_record.specs.Reading.{params_read};
 ghost use Rattle.store_commands.specs.SealedText.{sealed_text};
 
-/// A law: the whole text of what a store was sealed with is read as the parameters of its seal, whatever seal in its
-/// ranges that is.
+/// A law: what `sealed` prints of a seal is read as the seal's parameters, for any seal in its ranges.
 pub fn sealed_texts_are_read_back()
     ensures { (seal : Seal) → IsSeal seal → params_read (sealed_text seal) ≡ Ok seal.params }
 {}
 
-/// A law: a sealing puts in the seal that its two texts say. And if a store may be sealed with what `sealed` prints of
-/// it and with the text of the sealed digest, the new seal is equal but for its number. So it is on any other store, if
+/// A law: a sealing puts in the seal that its two texts say. If a store may be sealed with what `sealed` prints of it
+/// and with the text of the sealed digest, the new seal is equal but for its number. So it is on any other store, if
 /// the text's tariff has the sealed decimals.
 pub fn sealed_texts_seal_the_same()
     ensures texts { (image tariff params : List ℕ) (sealing : Sealing)

@@ -19,7 +19,7 @@ use seal_record::Seal;
 use std::sync::ledger::Ledger;
 use taxi_units::Steps;
 
-/// Scans the store, and prints what it was sealed with. No memory is taken.
+/// Scans the store, and prints what it was sealed with. It takes no memory.
 pub fn print_sealed<B: Board<STORE_SIZE, L>, L: Ledger>(
     board: &mut B,
     steps: &mut Steps<L>,

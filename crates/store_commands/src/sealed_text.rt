@@ -52,7 +52,7 @@ fn push_settings(line: &mut Line, params: &Params)
     push_number_line(line, b"hold ", params.hold_time as u64);
 }
 
-/// All lines of what a store was sealed with that stand before those of the offsets.
+/// The lines of what a store was sealed with, in front of those of the offsets.
 pub fn sealed_heading(seal: &Seal) -> Line
     ensures text { result.items
         ≡ ended_text (map comment_line (seal_comments seal.now)) ++ ended_text (settings_lines seal.now.params) }

@@ -31,8 +31,7 @@ pub enum ReportFault {
 /// How many bytes a book has at most.
 const MOST: usize = 1_048_576;
 
-/// Scans the store, reads the book of word 1, and prints its report, which is made in memory before its
-/// first byte is printed.
+/// Scans the store, reads the book of word 1, and prints its report. It makes the whole report in memory first.
 pub fn print_shifts<F: Files, B: Board<STORE_SIZE, L>, L: Ledger>(
     alloc: Global,
     files: &mut F,
@@ -56,7 +55,7 @@ pub fn print_shifts<F: Files, B: Board<STORE_SIZE, L>, L: Ledger>(
     }
 }
 
-/// How the command ended where there is no report.
+/// How the command ended that has no report.
 fn refused_report(fault: ReportFault) -> Ended
     ensures { result ≡ ended_for_report fault }
 {
@@ -67,7 +66,7 @@ fn refused_report(fault: ReportFault) -> Ended
     }
 }
 
-/// How the command ended where its text is no book.
+/// How the command ended by the fault of its book.
 fn refused_book(fault: BookFault) -> Ended
     ensures { result ≡ ended_for_book fault }
 {
@@ -78,8 +77,8 @@ fn refused_book(fault: BookFault) -> Ended
     }
 }
 
-/// Reads the book of a word beside a state of the store, to the end of its file where it is one, and makes
-/// its report.
+/// Reads the book of a word beside a state of the store, and makes its report. It reads the file to its end if it is a
+/// book.
 fn report_of_word<F: Files>(
     alloc: Global,
     files: &mut F,

@@ -32,7 +32,7 @@ pub fn print_store<B: Board<STORE_SIZE, L>, L: Ledger>(board: &mut B, steps: &mu
     }
 }
 
-/// Prints totals, the lines of the tariff positions at the end.
+/// Prints totals, with the lines of the tariff positions at the end.
 fn print_totals<B: Board<STORE_SIZE, L>, L: Ledger>(
     durable: &Durable,
     decimals: u8,
@@ -56,7 +56,7 @@ fn print_totals<B: Board<STORE_SIZE, L>, L: Ledger>(
     Ok(())
 }
 
-/// Prints the line of the tariff position whose share is at a place, where it has hirings.
+/// Prints the line of the tariff position whose share is at a place, if it has hirings.
 fn print_position<B: Board<STORE_SIZE, L>, L: Ledger>(
     shares: &[Share; 9],
     place: usize,

@@ -1,4 +1,4 @@
-//! The years for which offsets are asked.
+//! The years of which offsets are asked.
 ghost use Rattle.std.specs.Prelude.{◌≡◌, ◌≤◌, IfSome};
 ghost use Rattle.offset_rules.specs.Pairs.{AreYears};
 ghost use Rattle.taxi_units.specs.Reading.{GivesSame};
@@ -7,7 +7,7 @@ ghost use Rattle.store_commands.specs.Years.{year_of, years_of};
 use std::marker::Model;
 use taxi_units::figure_in;
 
-/// The first and the last of some years: at most fifteen, of 2000 to 2199.
+/// The first and the last of at most fifteen years, of 2000 to 2199.
 #[derive(Clone, Copy)]
 pub struct Years {
     first: u16,
@@ -37,7 +37,7 @@ fn year(word: &[u8]) -> Option<u16>
 }
 
 impl Years {
-    /// The years of two words, the first and the last one.
+    /// The years of two words, the first and the last one. None exactly if they aren't such years.
     pub fn of(first: &[u8], last: &[u8]) -> Option<Years>
         ensures { result ≡ years_of first.now last.now }
     {

@@ -71,7 +71,7 @@ CompareAlike-parts k x y left right alike =
       record { month_day = month_day.1; minute = minute.1; distance = distance.1; time = time.1 },
     )
 
--- a number is at most another where it is below the number after that
+-- a number is at most another if it is below the number after that
 leb-next : (a b : ℕ) → leb a b ≡ not (leb (b + 1) a)
 leb-next a b =
     elim (cases_lt b a) [
@@ -113,7 +113,7 @@ day_alike place v w in_year also all =
 fewest_by : (far pulses : ℕ) → (far ≤ 10000 * pulses) ↔ ((far + 9999) / 10000 ≤ pulses)
 fewest_by far pulses = ((λ reached. omega arith), (λ enough. omega arith))
 
--- pulses are as far as a distance exactly where they are as many as the fewest that are
+-- pulses are as far as a distance exactly if they are as many as the fewest that are
 pub fewest_pulses : (k decimetres pulses : ℕ) → (k * decimetres ≤ 10000 * pulses) ↔ (pulses_for k decimetres ≤ pulses)
 fewest_pulses k decimetres pulses = fewest_by (k * decimetres) pulses
 

@@ -17,7 +17,7 @@ count_at_most-counted v x xs le = sum_by-cons (λ cut. cond (leb cut v) 1 0) x x
 pub count_at_most-passed : (v x : ℕ) (xs : List ℕ) → v < x → count_at_most v (x ∷ xs) ≡ count_at_most v xs
 count_at_most-passed v x xs lt = sum_by-cons (λ cut. cond (leb cut v) 1 0) x xs ∙ (rw (lt-leb x v lt) (omega arith))
 
--- where the first n numbers are at most the value and no later one is, they are n
+-- if the first n numbers are at most the value and no later one is, they are n
 pub count_at_most-at : (v n : ℕ) (xs : List ℕ) → n ≤ length xs → ((i : ℕ) → i < n → get_or xs i 0 ≤ v)
     → ((i : ℕ) → n ≤ i → i < length xs → v < get_or xs i 0) → count_at_most v xs ≡ n
 count_at_most-at v n [] few below above = omega arith
@@ -64,7 +64,7 @@ IsNotFalling-rest x xs ordered = λ i j lt within. ordered (suc i) (suc j) (omeg
 pub IsNotFalling-first : (x : ℕ) (xs : List ℕ) (i : ℕ) → IsNotFalling (x ∷ xs) → i < length xs → x ≤ get_or xs i 0
 IsNotFalling-first x xs i ordered within = ordered 0 (suc i) (omega arith) (omega arith)
 
--- where the first number of a list that doesn't fall is greater, none counts
+-- if the first number of a list that doesn't fall is greater, none counts
 count_at_most-none : (v x : ℕ) (xs : List ℕ) → IsNotFalling (x ∷ xs) → v < x → count_at_most v (x ∷ xs) ≡ 0
 count_at_most-none v x xs ordered lt =
     let rest = count_at_most-at v 0 xs (omega arith) (λ i less. absurd (omega arith))
@@ -104,12 +104,12 @@ count_at_most-above v (x ∷ xs) (suc i) ordered le within =
           (omega (arith, count_at_most-counted v x xs counted)) (omega arith)
     ]
 
--- where no number is 0, none is at most 0
+-- if no number is 0, none is at most 0
 pub count_at_most-zero : (xs : List ℕ) → ((i : ℕ) → i < length xs → 0 < get_or xs i 0) → count_at_most 0 xs ≡ 0
 count_at_most-zero xs above =
     count_at_most-at 0 0 xs (omega arith) (λ i lt. absurd (omega arith)) (λ i le within. above i within)
 
--- where as many numbers are at most one value as at another, so it is without the first
+-- if as many numbers are at most one value as at another, so it is without the first
 same_rest : (v w x : ℕ) (xs : List ℕ) → v ≤ w → count_at_most v (x ∷ xs) ≡ count_at_most w (x ∷ xs)
     → count_at_most v xs ≡ count_at_most w xs
 same_rest v w x xs le same =

@@ -35,7 +35,7 @@ by_places a b c d first second =
           ∙ sym (le-leb (date_place a b) (date_place c d) by)
     ]
 
--- a range of dates holds where one of their places does
+-- a range of dates holds if one of its places does
 in_dates : (from_month from_date to_month to_date month date : ℕ) → IsLeapYearDate from_month from_date
     → IsLeapYearDate to_month to_date → IsLeapYearDate month date
     → is_in_dates (from_month, from_date) (to_month, to_date) (month, date)

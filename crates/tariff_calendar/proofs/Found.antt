@@ -12,14 +12,14 @@ use Rattle.tariff_check.specs.Cuts.{most_cuts}
 use Rattle.tariff_check.specs.declared.fault.Dimension.{Dimension}
 use Rattle.tariff_check.specs.declared.fault.Dimension.TheVariants.{MonthDay}
 
--- where none is at most the value, it isn't among them
+-- if none is at most the value, it isn't among them
 pub none_found : (v : ℕ) (xs : List ℕ) → IsNotFalling xs → count_at_most v xs ≡ 0 → list_any (λ x. eqb x v) xs ≡ false
 none_found v xs ordered none =
     list_any_none (λ x. eqb x v) xs (All-from_get_or (λ x. eqb x v ≡ false) xs 0
     (λ i within. ne_eqb (get_or xs i 0) v
     (λ same. let after = count_at_most-above v xs i ordered (omega arith) within in omega arith)))
 
--- and where some are, it is among them where the last of them is it
+-- and if some are, it is among them exactly if the last of them is it
 pub last_found : (v last : ℕ) (xs : List ℕ) → IsNotFalling xs → 0 < count_at_most v xs
     → last ≡ get_or xs (count_at_most v xs - 1) 0 → eqb last v ≡ list_any (λ x. eqb x v) xs
 last_found v last xs ordered some is =
@@ -45,7 +45,7 @@ pub enough_reads : (dimension : Dimension) (width : ℕ) → width ≤ most_cuts
 enough_reads MonthDay width few = omega arith
 enough_reads dimension width few = omega arith
 
--- a look-up that reads a list at all reads once at least where there is something to read
+-- a look-up that reads a list at all reads once at least if there is something to read
 pub at_least : (n old new : ℕ) → old ≤ new → (0 < n → old + 1 ≤ new) → old + min 1 n ≤ new
 at_least zero old new kept least = omega arith
 at_least (suc n) old new kept least = let read = least (omega arith) in omega arith

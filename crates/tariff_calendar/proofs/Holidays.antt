@@ -59,7 +59,7 @@ date_in d = record { year = d.year; month = d.month; date = d.date }
 abbrev date_is : (year month date : ℕ) → CalendarDate
 date_is year month date = record { year = year; month = month; date = date }
 
--- a holiday's day number is that of a date exactly where it is of that date
+-- a holiday's day number is that of a date exactly if it is of that date
 day_decides_date : (day : ℤ) (year month date : ℕ) (d : DateNumbers) → IsDateOf day year month date → IsSoundHoliday d
     → int_eq (pos (day_of d)) day ≡ is_of_date year month date d
 day_decides_date day year month date d is sound =
@@ -78,7 +78,7 @@ day_decides_date day year month date d is sound =
           )),
     )
 
--- so one of them has that day number where one is of that date
+-- so one of them has that day number if one is of that date
 days_decide_dates : (day : ℤ) (year month date : ℕ) (ds : List DateNumbers) → IsDateOf day year month date
     → All IsSoundHoliday ds → has_day (map day_of ds) day ≡ list_any (is_of_date year month date) ds
 days_decide_dates day year month date [] is sound = refl
@@ -100,7 +100,7 @@ pub days_are_dates : (t : Tree) (k : ℕ) (day : ℤ) (year month date : ℕ) �
 days_are_dates t k day year month date writable sound is =
     days_are_dates_in t k day year month date (sound_tariffs_have_sound_parts-parts t writable sound) is
 
--- there is a holiday where there is a holiday line
+-- there is a holiday if there is a holiday line
 some_days_of : (ds : List DateNumbers)
     → ltb 0 (length (with_each [] (map day_of ds))) ≡ list_any (λ (d : DateNumbers). true) ds
 some_days_of [] = refl

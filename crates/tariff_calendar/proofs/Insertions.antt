@@ -68,7 +68,7 @@ or_moved true true c = refl
 or_moved true false c = refl
 or_moved false b c = refl
 
--- a test is passed by one of the numbers after a number was put in where that number passes it or another does
+-- a test is passed by one of the numbers after a number was put in if that number passes it or another does
 pub list_any-insert_key : (p : ℕ → Bool) (xs : List ℕ) (n : ℕ)
     → list_any p (insert_key nat_cmp xs n) ≡ (p n || list_any p xs)
 list_any-insert_key p [] n = refl
@@ -81,7 +81,7 @@ list_any-insert_key p (x ∷ xs) n =
           ∙ ap (λ b. p x || b) (list_any-insert_key p xs n) ∙ or_turned (p x) (p n) (list_any p xs)
     ]
 
--- and after some were put in where one of those passes it or another does
+-- and after some were put in if one of those passes it or another does
 pub list_any-with_each : (p : ℕ → Bool) (xs ns : List ℕ)
     → list_any p (with_each xs ns) ≡ (list_any p xs || list_any p ns)
 list_any-with_each p xs [] = or_none (list_any p xs)
@@ -89,7 +89,7 @@ list_any-with_each p xs (n ∷ ns) =
     list_any-with_each p (insert_key nat_cmp xs n) ns
     ∙ ap (λ b. b || list_any p ns) (list_any-insert_key p xs n) ∙ or_moved (p n) (list_any p xs) (list_any p ns)
 
--- numbers rise where the first is below the others and those rise
+-- numbers rise if the first is below the others and those rise
 pub IsRising-more : (x : ℕ) (xs : List ℕ) → All (λ y. x < y) xs → IsRising xs → IsRising (x ∷ xs)
 IsRising-more x xs first rising zero zero lt within = absurd (omega arith)
 IsRising-more x xs first rising zero (suc j) lt within = first j 0 (omega arith)
@@ -131,7 +131,7 @@ IsRising-with_each xs (n ∷ ns) rising =
 pub IsRising-none : IsRising []
 IsRising-none = λ i j lt within. absurd (omega arith)
 
--- some are there, as where some were before
+-- some are there, as they are if some were before
 insert_key-some : (xs : List ℕ) (n : ℕ) → 0 < length (insert_key nat_cmp xs n)
 insert_key-some [] n = omega arith
 insert_key-some (x ∷ xs) n =

@@ -1,5 +1,5 @@
 -- The laws of the public empty functions.
-use Rattle.std.proofs.Common.{◌≡◌, ℕ, ◌*◌, ◌<◌, ◌≤◌, ◌↔◌, ℤ, List, Some, length, get_or}
+use Rattle.std.proofs.Common.{◌≡◌, ℕ, ◌+◌, ◌*◌, ◌<◌, ◌≤◌, ◌↔◌, ℤ, List, Some, length, get_or}
 use Rattle.std.specs.List.{Contains}
 use Rattle.interval_clock.specs.Calendar.{IsDateOf}
 use Rattle.tariff_calendar.specs.Lists.{AreOrdered, IsNotFalling, count_at_most, has_day, has_days, is_holiday}
@@ -8,9 +8,11 @@ use Rattle.tariff_calendar.specs.Range.{IsInRangeOf, IsSameCell}
 use Rattle.tariff_calendar.proofs.Comparisons.{fewest_pulses}
 use Rattle.tariff_calendar.proofs.Counts as Counts
 use Rattle.tariff_calendar.proofs.Holidays.{days_are_dates, some_days}
+use Rattle.tariff_calendar.proofs.Insertions.{length-with_each}
 use Rattle.tariff_calendar.proofs.Lists.{lists_ordered, no_distance_at_hiring, no_time_at_hiring}
 use Rattle.tariff_calendar.proofs.SameCell.{same_cell_first, same_cell_holds}
 use Rattle.tariff_check.proofs.Laws.{sound_tariffs_have_sound_parts-parts}
+use Rattle.tariff_check.specs.Cuts.{with_each}
 use Rattle.tariff_check.specs.Faults.{IsSound}
 use Rattle.tariff_check.specs.Kinds.{part_of}
 use Rattle.tariff_check.specs.Parts.{has_holidays}
@@ -49,6 +51,9 @@ counts_are_places-after = Counts.count_at_most-above
 
 pub lists_are_ordered-ordered : (t : Tree) (k : ℕ) → IsWritable t → IsSound t → AreOrdered (lists_of t k)
 lists_are_ordered-ordered = lists_ordered
+
+pub lists_are_ordered-few : (xs ns : List ℕ) → length (with_each xs ns) ≤ length xs + length ns
+lists_are_ordered-few = length-with_each
 
 pub lists_are_ordered-hiring : (t : Tree) (k : ℕ) → IsWritable t → IsSound t → 0 < k
     → (count_at_most 0 (lists_of t k).distances ≡ 0) × (count_at_most 0 (lists_of t k).times ≡ 0)

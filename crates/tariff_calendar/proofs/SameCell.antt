@@ -37,7 +37,7 @@ All-from_map P f [] all = All-nil (λ x. P (f x))
 All-from_map P f (x ∷ xs) all = All-cons (λ x. P (f x)) x xs (All-head P (f x) (map f xs) all)
     (All-from_map P f xs (All-tail P (f x) (map f xs) all))
 
--- where as many numbers are at most one value as at another, all of them compare alike
+-- if as many numbers are at most one value as at another, all of them compare alike
 all_alike : (v w : ℕ) (xs : List ℕ) → count_at_most v xs ≡ count_at_most w xs → All (IsAlike v w) xs
 all_alike v w xs same = All-from_get_or (IsAlike v w) xs 0 (λ i within. decides_at v w xs i same within)
 
@@ -112,7 +112,7 @@ All-conditions {V} P part (l ∷ ls) all =
     one_more None here rest = rest
     one_more (Some v) here rest = All-cons P (when_part l.entry) (conditions_of (choices part ls)) here rest
 
--- where conditions hold in both or in neither, the first that holds is the same
+-- if conditions hold in both or in neither, the first that holds is the same
 first_alike : (x y : Context) (place : ℕ) (conditions : List (Option Condition)) → All (IsWhenAlike x y) conditions
     → position_from (holds_if x) place conditions ≡ position_from (holds_if y) place conditions
 first_alike x y place [] all = refl

@@ -10,9 +10,8 @@ use Rattle.tariff_check.specs.SoundLookups.{has_date}
 use Rattle.tariff_check.specs.declared.fault.Dimension.{Dimension}
 use Rattle.tariff_check.specs.declared.fault.Dimension.TheVariants.{MonthDay, Minute, Distance, Time}
 
--- the lists of a tariff are numbers in order: the cuts of each dimension, which are places in a leap year, minutes,
--- pulses and ticks, and the day numbers of the holidays; different distances may be the same number of pulses, and that
--- number then comes twice among the pulses
+-- the lists of a tariff are numbers in order: the cuts of each dimension (places in a leap year, minutes, pulses,
+-- ticks), and the day numbers of the holidays; if two distances are the same number of pulses, that number stands twice
 pub record CutLists : Type 0 where
   pub month_days : List ℕ
   pub minutes : List ℕ
@@ -20,7 +19,7 @@ pub record CutLists : Type 0 where
   pub times : List ℕ
   pub holidays : List ℕ
 
--- the pulses for a distance in decimetres are the fewest with which it has passed, where k pulses make a kilometre
+-- the pulses for a distance in decimetres are the fewest that are as far, if k pulses make a kilometre
 abbrev pub pulses_for : (k decimetres : ℕ) → ℕ
 pulses_for k decimetres = (k * decimetres + 9999) / 10000
 
@@ -40,7 +39,7 @@ lists_of t k =
       holidays = with_each [] (map day_of (holidays_of t.lines));
     }
 
--- the list of a dimension among the lists is that of its cuts
+-- the list of a dimension is that of its cuts
 abbrev pub list_in : CutLists → Dimension → List ℕ
 list_in lists MonthDay = lists.month_days
 list_in lists Minute = lists.minutes
@@ -83,6 +82,6 @@ has_day holidays day = list_any (λ holiday. int_eq (pos holiday) day) holidays
 abbrev pub has_days : CutLists → Bool
 has_days lists = nat_lt 0 (length lists.holidays)
 
--- the test `is_holiday` is true if a date stands in a holiday line
+-- the test `is_holiday` is true if a holiday line has the date
 abbrev pub is_holiday : List Line → (year month date : ℕ) → Bool
 is_holiday lines year month date = has_date (holidays_of lines) year month date

@@ -7,8 +7,8 @@ use Rattle.tariff_syntax.specs.declared.context.Context.{Context}
 use Rattle.tariff_check.specs.Parts.{positions_of, zones_of, has_holidays}
 use Rattle.tariff_calendar.specs.Lists.{CutLists, count_at_most}
 
--- a context is one that a trip may have if its constant is k, its position and its zone are among those that there
--- are, it is a holiday only if there are holidays, and its other numbers are in their ranges
+-- a trip may have a context if its constant is k, its position and zone are there, and its other numbers are in their
+-- ranges; it is a holiday only if there are holidays
 pub record IsInRange (k positions zones : ℕ) (holidays : Bool) (x : Context) : Type 0 where
   pub constant : x.constant ≡ k
   pub position : IsFromTo 1 positions x.position
@@ -20,8 +20,8 @@ pub record IsInRange (k positions zones : ℕ) (holidays : Bool) (x : Context) :
   pub pulses : x.pulses ≤ 5 * 10 ^ 18
   pub ticks : x.ticks ≤ longest_trip
 
--- a context is one that a trip under a tariff may have if its position, its zone and its kind of day are among the
--- tariff's, and its numbers in their ranges
+-- a trip under a tariff may have a context if its position, zone and kind of day are among the tariff's, and its
+-- numbers in their ranges
 abbrev pub IsInRangeOf : Tree → (k : ℕ) → Context → Type 0
 IsInRangeOf t k x = IsInRange k (positions_of t.lines) (zones_of t.lines) (has_holidays t.lines) x
 

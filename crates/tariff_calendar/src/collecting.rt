@@ -57,7 +57,7 @@ fn different_days(alloc: Global, holidays: &[DateNumbers]) -> Result<BTreeSet<u6
     Ok(days)
 }
 
-/// Puts the day of a holiday among others.
+/// Adds the day of a holiday to a set of days.
 fn add(days: &mut BTreeSet<u64>, holiday: DateNumbers) -> Result<(), NoMemory>
     requires { IsSoundHoliday holiday }
     ensures { OnOk result (days.new.keys ≡ insert_key nat_cmp days.old.keys (day_of holiday)) }

@@ -13,9 +13,9 @@ use std::sync::ledger::Ledger;
 use tariff_check::{Checked, Dimension, cut_values};
 use taxi_units::{NoMemory, Steps};
 
-/// The numbers with which the conditions of a tariff compare, in each dimension in order, and the day
-/// numbers of its holidays in order. Of a condition, a line or a text it keeps nothing. That contexts are
-/// told apart by cuts is this project's own.
+/// The cuts of a tariff: the numbers with which its conditions compare, in each dimension in order. It also has the day
+/// numbers of the tariff's holidays, in order, and keeps no condition, line or text. That contexts are told apart by
+/// cuts is this project's own.
 #[derive(Drop)]
 pub struct Cuts {
     month_days: Vec<u64>,
@@ -48,9 +48,9 @@ impl Model for Cuts {
 }
 
 impl Cuts {
-    /// The lists of a tariff under a constant of the taximeter: places in a leap year, minutes of the day,
-    /// pulses and ticks, and days since 1970-01-01. A distance is cut at the fewest pulses that are as
-    /// far. `NoMemory` where memory runs out.
+    /// Collects the lists of a tariff under a constant of the taximeter: places in a leap year, minutes of the day,
+    /// pulses and ticks, and days since 1970-01-01. A distance is cut at the fewest pulses that are as far. `NoMemory`
+    /// if memory runs out.
     pub fn collect(alloc: Global, checked: &Checked, k: Constant) -> Result<Cuts, NoMemory>
         ensures { IfOk result (λ c. c ≡ lists_of (tree_of checked.now) k) }
     {
@@ -68,8 +68,8 @@ impl Cuts {
         })
     }
 
-    /// How many cuts of a dimension are at most a value. Each cut that is read is one step: at most 6 for
-    /// days and minutes, 4 for distances and times, and one at least where there is a cut.
+    /// How many cuts of a dimension are at most a value. Each cut that is read is one step: at most 6 for days and
+    /// minutes, 4 for distances and times, and at least one if there is a cut.
     pub fn find<L: Ledger>(&self, dimension: Dimension, value: u64, steps: &mut Steps<L>) -> usize
         ensures value { result ≡ count_at_most value (list_in self.now dimension) }
         ensures most { steps.new ≤ steps.old + most_reads dimension }
@@ -78,8 +78,8 @@ impl Cuts {
         count(self.ordered(dimension), value, steps)
     }
 
-    /// How many cuts of a dimension are at most a value, as `find` counts them, and by how much the value may
-    /// grow at least while they are as many. It takes as many steps at most.
+    /// How many cuts of a dimension are at most a value, and how far the value may at least grow while they are as
+    /// many. It takes at most as many steps as `find`.
     pub fn find_until<L: Ledger>(
         &self,
         dimension: Dimension,
@@ -95,8 +95,8 @@ impl Cuts {
         count_until(self.ordered(dimension), value, steps)
     }
 
-    /// Whether a day, by its number since 1970-01-01, is a holiday. Each day that is read is one step: they
-    /// are at most 8, and for a day from 1970 on one at least where there is a holiday.
+    /// Whether a day, by its number since 1970-01-01, is a holiday. Each day that is read is one step: at most 8, and
+    /// at least one if there is a holiday and the day is from 1970 on.
     pub fn holiday<L: Ledger>(&self, day: i32, steps: &mut Steps<L>) -> bool
         ensures value { result ≡ has_day self.now.holidays day }
         ensures most { steps.new ≤ steps.old + 8 }

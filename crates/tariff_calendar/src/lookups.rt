@@ -16,7 +16,7 @@ pub fn count<L: Ledger>(list: &[u64], value: u64, steps: &mut Steps<L>) -> usize
     Counted::of(list).at_most(value, steps).count
 }
 
-/// How many numbers are at most a value, by going over all of them. No steps: it is for what no event asks.
+/// How many numbers are at most a value, by going over all of them. It takes no steps: no event asks it.
 pub fn count_at_most(value: u64, list: &[u64]) -> usize
     ensures { result ≡ count_at_most value list.now }
 {
@@ -29,7 +29,7 @@ pub fn count_at_most(value: u64, list: &[u64]) -> usize
     count
 }
 
-/// Whether a number is among the numbers, with as many steps: whether the last that is at most it is it.
+/// Whether a number is among the numbers. Each number that is read is one step.
 pub fn has<L: Ledger>(list: &[u64], number: u64, steps: &mut Steps<L>) -> bool
     requires { IsNotFalling list.now }
     ensures value { result ≡ list_any (λ other. other == number) list.now }
@@ -41,8 +41,8 @@ pub fn has<L: Ledger>(list: &[u64], number: u64, steps: &mut Steps<L>) -> bool
     }
 }
 
-/// How many numbers are at most a value, and by how much it may grow at least while they are as many: to
-/// just before the next number. Each number that is read is one step.
+/// How many numbers are at most a value, and how far the value may at least grow while they are as many: to just below
+/// the next number. Each number that is read is one step.
 pub fn count_until<L: Ledger>(list: &[u64], value: u64, steps: &mut Steps<L>) -> (usize, u64)
     requires { IsNotFalling list.now }
     ensures value { result.0 ≡ count_at_most value list.now }

@@ -47,7 +47,7 @@ none_first : (faults : List CheckFault) → slice_get faults 0 ≡ None → faul
 none_first [] e = refl
 none_first (fault ∷ faults) e = absurd cc
 
--- none is named exactly where the tariff is sound
+-- none is named exactly if the tariff is sound
 pub none_named : (t : Tree) → (all_faults t.lines ≡ []) ↔ IsSound t
 none_named t = (
   λ e. sound_if_none t (sym (first_named t) ∙ ap (λ (faults : List CheckFault). slice_get faults 0) e),
@@ -136,7 +136,7 @@ each_of_cuts_is_named ls fault none h =
     subst (λ (faults : List CheckFault). Contains (or_others faults (those_there (faults_from_cuts ls))) fault)
     (sym (none_there (faults_before_cuts ls) none)) (found_there (faults_from_cuts ls) fault h)
 
--- ---- the common measure is 0 where a measure is
+-- ---- the common measure is 0 if a measure is
 
 zero_first : (n : ℕ) → lcm_of 0 n ≡ 0
 zero_first n = rw (zero-div (gcd_of 0 n)) (zero-mul n)
@@ -156,7 +156,7 @@ zero_at first (n ∷ ns) (suc k) within e = zero_at (lcm_of first n) ns k (omega
 pub zero_measure : (ls : List Line) → Contains (measures_of ls) 0 → measure_of ls ≡ 0
 zero_measure ls h = zero_at 1 (measures_of ls) h.0 h.1 h.2
 
--- so it is where a rate has a measure of 0
+-- so it is if a rate has a measure of 0
 two_behind : (b e : ℕ) (ns : List ℕ) (n : ℕ) → Contains ns n → Contains (b ∷ e ∷ ns) n
 two_behind b e ns n h = contains_behind b (e ∷ ns) n (contains_behind e ns n h)
 
@@ -190,7 +190,7 @@ pub not_great : (ls : List Line) (any : Bool) → any ≡ list_any (λ (l : Line
     → any ≡ true → not any ≡ nat_lt (10 ^ 18) (measure_of ls)
 not_great ls any e h = rw (h, nothing_measured ls (sym e ∙ h)) refl
 
--- and no rate has a measure of 0 where none does
+-- and no rate has a measure of 0 if none does
 measured_by : (l : Line) (ls : List Line) (here : Bool) → is_for_nothing l.entry ≡ here
     → (here || list_any (λ (m : Line). is_for_nothing m.entry) ls) ≡ false
     → (list_any (λ (m : Line). is_for_nothing m.entry) ls ≡ false

@@ -107,7 +107,7 @@ module _ {V : Type 0} (part : Entry → Option V) where
       more None h = h
       more (Some v) h = ap (λ (vs : List V). v ∷ vs) h
 
-  -- where an entry is made again of what it says, so are the lines of a kind
+  -- if an entry is made again of what it says, so are the lines of a kind
   pub lines_again : (entry : V → Option Condition → Entry)
       → ((x : Entry) (v : V) → part x ≡ Some v → entry v (when_part x) ≡ x) → (ls : List Line)
       → map (line_with entry) (choices part ls) ≡ filter (is_told part) ls

@@ -17,7 +17,7 @@ use Rattle.tariff_check.specs.Parts.{initial_part, rate_part}
 use Rattle.tariff_check.specs.declared.fault.CheckFault.TheVariants.{NoDefaultInitial, NoDefaultRate}
 use Rattle.tariff_check.proofs.Staging.{faults_none, not_if}
 
--- where one of some lines is without a condition, not all fail to hold
+-- if one of some lines is without a condition, not all fail to hold
 default_holds : (x : Context) (conditions : List (Option Condition)) → list_any is_none conditions ≡ true
     → All (λ (when : Option Condition). holds_if x when ≡ false) conditions → ⊥
 default_holds x [] h all = cc
@@ -41,7 +41,7 @@ module _ {V : Type 0} (part : Entry → Option V) (t : Tree) (x : Context) where
         length-map all (λ (c : Choice V). c.value),
       )
 
-  -- where one has no condition, one holds
+  -- if one has no condition, one holds
   pub choice_always : has_default part t.lines ≡ true
       → (place : ℕ) × (choice_place part t x ≡ Some place) × (place < length (values_of (choices part t.lines)))
   choice_always default = by_place (choice_place part t x) refl

@@ -18,7 +18,7 @@ pub passed_by : (b : Bool) (line : ℕ) (rest : Option ℕ) → cond b (Some lin
 passed_by true line rest h = absurd cc
 passed_by false line rest h = (refl, h)
 
--- where no line is found, none meets the test, whatever stands before it
+-- if no line is found, none meets the test, whatever stands before it
 pub never : (test : LineTest) (so : Entry → Bool) → ((before : List Line) (x : Entry) → test before x ≡ false → so x
     ≡ false) → (before ls : List Line) → first_after test before ls ≡ None → All (λ (l : Line). so l.entry ≡ false) ls
 never test so tells before [] h = All-nil (λ (l : Line). so l.entry ≡ false)
@@ -103,7 +103,7 @@ first_after_is test front ls number (l ∷ before) line after split named so non
     (sym (append_assoc front (l ∷ []) xs)) (none (l ∷ xs) ys m (ap (λ (ks : List Line). l ∷ ks) e))) in
     rw (split, first) rest
 
--- where none is found, no line meets the test
+-- if none is found, no line meets the test
 nowhere_after : (test : LineTest) (front ls : List Line) → first_after test front ls ≡ None
     → (xs ys : List Line) (m : Line) → ls ≡ xs ++ m ∷ ys → test (front ++ xs) m.entry ≡ false
 nowhere_after test front [] none xs ys m e = no_split xs ys m e
@@ -144,7 +144,7 @@ first_line_is test lines number = (
       first_after_is test [] lines number h.before h.line h.after h.split h.number_is h.is_so h.none_earlier,
 )
 
--- where numbers rise, the first line's is below those of the lines after it
+-- if numbers rise, the first line's is below those of the lines after it
 at_split : (before : List Line) (line : Line) (after : List Line) (d : Line)
     → get_or (before ++ line ∷ after) (length before) d ≡ line
 at_split [] line after d = refl

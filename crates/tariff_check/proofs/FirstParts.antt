@@ -15,7 +15,7 @@ use Rattle.tariff_check.specs.declared.found_lines.FramePart.{FramePart}
 use Rattle.tariff_check.specs.declared.found_lines.FramePart.TheVariants.{Positions, Step, Zones}
 use Rattle.tariff_check.proofs.KindLaws.{part_is}
 
--- where a part of the frame is what such entries say, the first part is that of the first line that says it
+-- if a part of the frame is what such entries say, the first part is that of the first line that says it
 said_first : {A : Type 0} (part : Entry → Option A) (p : FramePart) → ((x : Entry) → is_some (part x) ≡ says p x)
     → (ls : List Line) → first_part part ls ≡ option_and_then (λ (l : Line). part l.entry) (frame_line p ls)
 said_first part p same [] = refl
@@ -65,7 +65,7 @@ zones_said ls found e =
 abbrev pub is_default : ChoiceKind → Line → Bool
 is_default kind l = is_of kind l.entry && is_none (when_part l.entry)
 
--- a kind has a default exactly where a line is one
+-- a kind has a default exactly if a line is one
 pub default_is : (kind : ChoiceKind) (ls : List Line) → list_any (is_default kind) ls ≡ has_default (part_of kind) ls
 default_is kind [] = refl
 default_is kind (l ∷ ls) =

@@ -31,7 +31,7 @@ pub choices_are : (t : Tree) (kind : ChoiceKind) → choices_in kind (sound_of t
 choices_are t Rate = refl
 choices_are t kind = refl
 
--- an entry is of a kind exactly where it has the kind's part
+-- an entry is of a kind exactly if it has the kind's part
 pub part_is : (kind : ChoiceKind) (x : Entry) → is_some (part_of kind x) ≡ is_of kind x
 part_is Rate (rate a b c e when) = refl
 part_is Rate x = refl
@@ -64,7 +64,7 @@ entry_again Initial x i h = absurd cc
 entry_again Minimum (minimum amount when) n h = let same : n ≡ amount = cc in ap (λ (n : ℕ). minimum n when) same
 entry_again Minimum x n h = absurd cc
 
--- what an entry of a kind says is sound where none of its numbers is too great or 0
+-- what an entry of a kind says is sound if none of its numbers is too great or 0
 pub said_sound : (kind : ChoiceKind) (x : Entry) → IsWritableEntry x → is_great x ≡ false → is_for_nothing x ≡ false
     → (said : Said kind) → part_of kind x ≡ Some said → IsSoundSaid kind said
 said_sound Rate (rate a b c e when) writable moderate measured r h =

@@ -67,7 +67,7 @@ rate_some lines i l r all within at is =
     let named = ap (λ item. is_for_nothing (entry_of item)) is in
     both_some r.b r.e (sym named ∙ measured)
 
--- where the common measure of a rate and those before it is too great, so is that of all
+-- if the common measure of a rate and those before it is too great, so is that of all
 pub no_smaller : (lines : List TariffLine) (i : ℕ) (l : TariffLine) (r : RateLine) (common total : ℕ)
     → All IsMeasured (map line_of lines) → i < length lines → l ≡ get_or lines i l → l.item ≡ Rate r → 0 < common
     → common_with common (measures_of (map line_of (drop i lines))) ≡ total → lcm_of (lcm_of common r.b) r.e ≤ total

@@ -40,7 +40,7 @@ pub first_part_has : {A : Type 0} (part : Entry → Option A) (P : A → Type 0)
     → All (Gives part P) ls → first_part part ls ≡ Some y → P y
 first_part_has part P ls y all h = first_by P (parts part ls) y h (parts_all part P ls all)
 
--- where lines are like one exactly where they have such a part, as many are
+-- if lines are like one exactly if they have such a part, as many are
 count_like : {A : Type 0} (part : Entry → Option A) (like : Entry → Bool) → ((y : Entry) → like y ≡ is_some (part y))
     → (ls : List Line) → count_by (λ (l : Line). like l.entry) ls ≡ length (parts part ls)
 count_like part like same [] = refl

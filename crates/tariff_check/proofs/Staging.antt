@@ -36,7 +36,7 @@ or_parts (Some a) y h = absurd cc
 pub staged : (ls : List Line) → first_some (faults_of ls) ≡ option_or (early_fault ls) (late_fault ls)
 staged ls = simp (or_assoc, or_none)
 
--- nothing is there first where nothing is there
+-- nothing is there first if nothing is there
 pub none_each : {A : Type 0} (xs : List (Option A)) → first_some xs ≡ None → All (λ (x : Option A). x ≡ None) xs
 none_each {A} [] h = All-nil (λ (x : Option A). x ≡ None)
 none_each {A} (x ∷ xs) h =
@@ -134,7 +134,7 @@ early_is_early ls fault is = grind arith
 late_false : (fault late : CheckFault) → is_late fault ≡ false → is_late late ≡ true → fault ≡ late → ⊥
 late_false fault late early is same = absurd (cc (subst (λ f. is_late f ≡ false) same early))
 
--- want of memory is no fault of lines
+-- that memory ran out is no fault of lines
 pub step_no_memory : (ls : List Line) (fault : CheckFault) → step_fault ls ≡ Some fault → fault ≡ NoMemory → ⊥
 step_no_memory ls fault is same = late_false fault NoMemory (step_is_early ls fault is) refl same
 
@@ -145,7 +145,7 @@ no_fault_first : (x y : Option CheckFault) → IsEarly x → option_or x y ≡ S
 no_fault_first None y early h = refl
 no_fault_first (Some f) y early h = absurd (late_false f NoCommonMeasure (early f refl) refl cc)
 
--- and where the common measure is refused, no fault of lines is there
+-- and if the common measure is refused, no fault of lines is there
 pub no_early_fault : (t : Tree) → fault_of t ≡ Some NoCommonMeasure → early_fault t.lines ≡ None
 no_early_fault t h =
     no_fault_first (early_fault t.lines) (late_fault t.lines) (early_is_early t.lines) (sym (staged t.lines) ∙ h)
@@ -165,6 +165,6 @@ first_left (x ∷ xs) ys h =
     let parts = or_parts x (first_some (xs ++ ys)) h in
     rw parts.0 (first_left xs ys parts.1)
 
--- where no fault is there, none is there before those of cuts
+-- if no fault is there, none is there before those of cuts
 pub none_before : (ls : List Line) → first_some (faults_of ls) ≡ None → HasNone (faults_before_cuts ls)
 none_before ls h = none_each (faults_before_cuts ls) (first_left (faults_before_cuts ls) (faults_from_cuts ls) h)

@@ -14,7 +14,6 @@ abbrev pub or_others : List CheckFault → List CheckFault → List CheckFault
 or_others [] others = others
 or_others (fault ∷ faults) others = fault ∷ faults
 
--- all faults of lines are those that are there before those of cuts, or, if none of these is there, those of cuts and
--- of cells that are there
+-- all faults of lines are those before the faults of cuts, or, if there is none of them, those of cuts and cells
 abbrev pub all_faults : List Line → List CheckFault
 all_faults ls = or_others (those_there (faults_before_cuts ls)) (those_there (faults_from_cuts ls))

@@ -16,12 +16,12 @@ abbrev pub place_number : Option ℕ → ℕ
 place_number None = 0
 place_number (Some place) = place + 1
 
--- an initial hire fee and a minimum fare make what a hiring begins with
+-- a hiring begins with an initial hire fee and a minimum fare
 abbrev pub initial_with : InitialNumbers → (minimum : ℕ) → Initial
 initial_with fee minimum = record { amount = fee.amount; covers = fee.covers; minimum = minimum }
 
--- the fees in force at a hiring in a context are the initial hire fee that holds first at it, and the minimum fare that
--- does, or 0 if none does
+-- the fees in force at a hiring in a context are the initial hire fee and the minimum fare that hold first at it; the
+-- minimum fare is 0 if none holds
 abbrev pub fees_in_force : SoundTariff → Context → Initial
 fees_in_force tariff x =
     initial_with
@@ -29,12 +29,12 @@ fees_in_force tariff x =
     (record { amount = 0; covers = 0 }))
     (get_or (0 ∷ values_of tariff.minimums) (place_number (place_in_force tariff.minimums (at_hiring x))) 0)
 
--- a hiring in a context begins, by a tariff's tree, with the fees that are in force at it
+-- by a tariff's tree, a hiring in a context begins with the fees in force at it
 abbrev pub initial_by : Tree → Context → Initial
 initial_by t x = fees_in_force (sound_of t) x
 
--- amounts are those of a context if they are the ones of the initial hire fee that holds first at its hiring, and of
--- the minimum fare that does, or 0 if none holds
+-- amounts are those of a context if they are of the initial hire fee and of the minimum fare that hold first at its
+-- hiring; the minimum fare is 0 if none holds
 pub record HasAmountsOf (t : Tree) (x : Context) (i : Initial) : Type 0 where
   pub place : ℕ
   pub fee : InitialNumbers

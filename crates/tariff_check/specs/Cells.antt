@@ -5,18 +5,17 @@ use Rattle.tariff_check.specs.Cuts.{count_of}
 use Rattle.tariff_check.specs.Parts.{positions_of, zones_of, has_holidays}
 use Rattle.tariff_check.specs.declared.fault.Dimension.TheVariants.{MonthDay, Minute, Distance, Time}
 
--- the kinds of days of a tariff are two if it has a holiday, holidays and others, and one if it has none
+-- a tariff has two kinds of days if it has a holiday, holidays and others, and one kind if it has none
 abbrev pub day_kinds : List Line → ℕ
 day_kinds lines = if has_holidays lines then 2 else 1
 
--- the bands of a tariff between its cuts, in all four dimensions together, are the product of how many there are in
--- each: one more than it has cuts
+-- the bands between the cuts, in all four dimensions together, are the product of the bands in each: one more than it
+-- has cuts
 abbrev pub bands_between : List Line → ℕ
 bands_between lines =
     (count_of MonthDay lines + 1) * (count_of Minute lines + 1)
     * (count_of Distance lines + 1) * (count_of Time lines + 1)
 
--- the number of cells of a tariff is that of its positions, times its zones, weekdays, kinds of days and bands between
--- cuts
+-- the cells of a tariff are its positions, times its zones, weekdays, kinds of days and bands between cuts
 abbrev pub cells_of : List Line → ℕ
 cells_of lines = positions_of lines * zones_of lines * 7 * day_kinds lines * bands_between lines

@@ -10,8 +10,8 @@ use Rattle.tariff_check.specs.declared.choice.ChoiceLine.{ChoiceLine}
 abbrev pub place_behind : ChoiceKind → (before : List Line) → ℕ
 place_behind kind before = count_by (λ (l : Line). is_of kind l.entry) before
 
--- the choice that a line behind others gives, if it is of such a kind, is told by the kind, its place among the choices
--- of the kind, and the line's number
+-- the choice that a line behind others gives, if it is of such a kind, is the kind, its place among the choices of the
+-- kind, and the line's number
 abbrev pub choice_behind : (before : List Line) → Line → Option ChoiceLine
 choice_behind before l =
     option_map (λ (kind : ChoiceKind). record {

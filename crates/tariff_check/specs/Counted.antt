@@ -10,7 +10,7 @@ use Rattle.tariff_check.specs.declared.cells.Counts.{Counts}
 use Rattle.tariff_check.specs.declared.numbers.Numbers.{Numbers}
 use Rattle.tariff_check.specs.declared.fault.Dimension.TheVariants.{MonthDay, Minute, Distance, Time}
 
--- counts are those of the cuts of lines, in each dimension, and none is above the most that there may be
+-- counts are those of the cuts of lines, in each dimension, and none is above its limit
 pub record HasCounts (lines : List Line) (counts : Counts) : Type 0 where
   pub month_day : (counts.month_day ≡ count_of MonthDay lines) × (counts.month_day ≤ 63)
   pub minute : (counts.minute ≡ count_of Minute lines) × (counts.minute ≤ 63)

@@ -12,7 +12,7 @@ use Rattle.tariff_check.specs.Lines.{atoms_in}
 use Rattle.tariff_check.specs.declared.fault.Dimension.{Dimension}
 use Rattle.tariff_check.specs.declared.fault.Dimension.TheVariants.{MonthDay, Minute, Distance, Time}
 
--- a range of days that begins at a place of the year, or ends before it, cuts there, except at the year's begin and end
+-- a range of days cuts where it begins in the year, and behind its end, but not at the year's begin and end
 abbrev pub day_cut : ℕ → List ℕ
 day_cut place = if (place == 0) || (place == 366) then [] else place ∷ []
 
@@ -20,8 +20,8 @@ day_cut place = if (place == 0) || (place == 366) then [] else place ∷ []
 abbrev pub minute_cut : ℕ → List ℕ
 minute_cut minute = if minute == 0 then [] else minute ∷ []
 
--- the cuts of an atom in a dimension are, of a range of dates, before its first day and after its last, of a range of
--- minutes, its two ends, of a distance, its decimetres, and of a time, its tenths of a second
+-- an atom cuts, if it is a range of dates, before its first day and after its last; if it is a range of minutes, at its
+-- two ends; if it is a distance, at its decimetres; if it is a time, at its tenths of a second
 abbrev pub atom_cuts : Dimension → Condition → List ℕ
 atom_cuts MonthDay (tree.date from_month from_date to_month to_date) =
     day_cut (date_place from_month from_date) ++ day_cut (date_place to_month to_date + 1)
@@ -34,7 +34,7 @@ atom_cuts dimension atom = []
 abbrev pub all_cuts : Dimension → List Line → List ℕ
 all_cuts dimension lines = flat_map (λ (l : Line). flat_map (atom_cuts dimension) (atoms_in l.entry)) lines
 
--- more numbers are put among numbers in order, each at its place, and once only
+-- each of more numbers is put among numbers in order, at its place, and only once
 abbrev pub with_each : (numbers more : List ℕ) → List ℕ
 with_each numbers [] = numbers
 with_each numbers (n ∷ ns) = with_each (insert_key nat_cmp numbers n) ns
@@ -47,7 +47,7 @@ cuts_of dimension lines = with_each [] (all_cuts dimension lines)
 abbrev pub count_of : Dimension → List Line → ℕ
 count_of dimension lines = length (cuts_of dimension lines)
 
--- a dimension may have at most 63 different cuts for days and for minutes, and at most 15 for distances and for times
+-- a dimension has at most 63 different cuts for days and for minutes, and at most 15 for distances and for times
 abbrev pub most_cuts : Dimension → ℕ
 most_cuts MonthDay = 63
 most_cuts Minute = 63

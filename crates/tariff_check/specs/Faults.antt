@@ -53,7 +53,7 @@ step_faults ls =
     ∷ fault_if (is_step_zero (step_of ls)) StepZero
     ∷ []
 
--- the faults of a line that is there too often, or that names what isn't there
+-- the faults of a line that is there too often, or that names what the tariff doesn't have
 abbrev pub line_faults : List Line → List (Option CheckFault)
 line_faults ls =
     fault_at Duplicate (first_line is_duplicate ls)
@@ -61,7 +61,7 @@ line_faults ls =
     ∷ fault_at UnknownNumber (first_line (names_unknown (positions_of ls) (zones_of ls)) ls)
     ∷ []
 
--- the faults of a default that isn't there, or of a line after it
+-- the faults of a default that is missing, and of a line after it
 abbrev pub default_faults : List Line → List (Option CheckFault)
 default_faults ls =
     fault_if (not (has_default rate_part ls)) NoDefaultRate

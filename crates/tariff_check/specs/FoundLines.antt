@@ -28,13 +28,13 @@ frame_line part lines = find (λ (l : Line). says part l.entry) lines
 abbrev pub lines_of_kind : ChoiceKind → List Line → List Line
 lines_of_kind kind lines = filter (is_told (part_of kind)) lines
 
--- the line of a kind in force in a context is the one of the first choice of the kind that holds there, if one does: it
--- stands at the same place among the lines of the kind
+-- the line of a kind in force in a context is that of the first choice of the kind that holds there, if one does: both
+-- have the same place among those of the kind
 abbrev pub line_in_force : ChoiceKind → Context → List Line → Option Line
 line_in_force kind x lines =
     option_and_then (slice_get (lines_of_kind kind lines)) (place_in_force (choices (part_of kind) lines) x)
 
--- a choice stands at its line if the line that stands at the choice's place among those of its kind has its number
+-- a choice stands at its line if its number is that of the line at the choice's place among those of its kind
 abbrev pub StandsAtItsLine : List Line → ChoiceLine → Type 0
 StandsAtItsLine lines c =
     option_map (λ (l : Line). l.line) (slice_get (lines_of_kind c.kind lines) c.place_in_kind) ≡ Some c.line

@@ -19,7 +19,7 @@ Said Rate = RateNumbers
 Said Initial = InitialNumbers
 Said Minimum = ℕ
 
--- the part of an entry that is of a kind is what it says, and none if it is of no such kind
+-- the part of an entry that is of a kind is what it says, and none if it is of another kind
 abbrev pub part_of : (kind : ChoiceKind) → Entry → Option (Said kind)
 part_of Rate = rate_part
 part_of Initial = initial_part
@@ -31,7 +31,7 @@ entry_with Rate r when = rate r.a r.b r.c r.e when
 entry_with Initial i when = initial i.amount i.covers when
 entry_with Minimum amount when = minimum amount when
 
--- the kind of an entry of which the first that holds is the one that counts, if it is of one
+-- the kind of an entry, if it is of one whose first line that holds counts
 abbrev pub kind_of : Entry → Option ChoiceKind
 kind_of (rate a b c e when) = Some Rate
 kind_of (initial amount covers when) = Some Initial
@@ -54,7 +54,7 @@ is_asked_amid kind = false
 abbrev pub EachKind : (ChoiceKind → Type 0) → Type 0
 EachKind P = P Rate × P Initial × P Minimum
 
--- the tests of the kinds tell of an entry, one after another, whether it has the part of each
+-- the tests of an entry, one for each kind, are true if it has the part of that kind
 abbrev pub tests_of_kinds : Entry → List Bool
 tests_of_kinds entry =
     is_some (part_of Rate entry) ∷ is_some (part_of Initial entry) ∷ is_some (part_of Minimum entry) ∷ []

@@ -1,4 +1,4 @@
--- Rules: what may be wrong with a line, where the lines before it are known.
+-- Rules: what may be wrong with a line, by the lines before it.
 use Rattle.std.specs.Prelude.{◌≡◌, ℕ, Bool, true, false, not, ◌&&◌, ◌||◌, ◌==◌, if◌then◌else◌, nat_le, nat_lt}
 use Rattle.std.specs.Prelude.{List, [], ◌∷◌, ◌++◌, Option, Some, None, is_none}
 use Rattle.std.specs.List.{list_any, count_by}
@@ -85,7 +85,7 @@ abbrev pub is_for_nothing : Entry → Bool
 is_for_nothing (rate a b c e when) = (b == 0) || (e == 0)
 is_for_nothing entry = false
 
--- a test of a line goes by what the line says and by the lines before it
+-- a test of a line sees what the line says and the lines before it
 abbrev pub LineTest : Type 0
 LineTest = List Line → Entry → Bool
 
@@ -93,7 +93,7 @@ LineTest = List Line → Entry → Bool
 abbrev pub is_duplicate : LineTest
 is_duplicate before entry = list_any (λ (l : Line). excludes entry l.entry) before
 
--- a line is one too many if as many lines of its kind as there may be stand before it
+-- a line is one too many if the lines before it have as many of its kind as there may be
 abbrev pub is_one_too_many : LineTest
 is_one_too_many before entry = nat_le (most_alike entry) (count_by (λ (l : Line). is_alike entry l.entry) before)
 

@@ -8,7 +8,7 @@ use Rattle.tariff_check.specs.Parts.{RateNumbers, rates_of}
 abbrev pub measures_of : List Line → List ℕ
 measures_of lines = flat_map (λ (r : RateNumbers). r.b ∷ r.e ∷ []) (rates_of lines)
 
--- the greatest number that divides two is found by Euclid's remainders, of which at most `fuel` are taken
+-- the greatest number that divides two is found by Euclid's remainders, at most `fuel` of them
 unfoldable pub gcd_in : (fuel a b : ℕ) → ℕ
 gcd_in zero a b = a
 gcd_in (suc fuel) a zero = a
@@ -35,8 +35,7 @@ measure_of lines = common_with 1 (measures_of lines)
 abbrev pub IsMultipleOfAll : List ℕ → ℕ → Type 0
 IsMultipleOfAll ns m = All (λ n. m / n * n ≡ m) ns
 
--- a number is the least common multiple of some if it is above 0 and a multiple of all, and no smaller such number
--- is
+-- a number is the least common multiple of some if it is above 0 and a multiple of all, and no smaller number is
 pub record IsLeastCommonMultiple (ns : List ℕ) (m : ℕ) : Type 0 where
   pub positive : 0 < m
   pub multiple : IsMultipleOfAll ns m

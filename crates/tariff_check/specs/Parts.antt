@@ -47,15 +47,15 @@ abbrev pub numbered_supplement : Entry → Option (ℕ × Supplement)
 numbered_supplement (supplement number amount most) = Some (number, record { amount = amount; max = most })
 numbered_supplement _ = None
 
--- the display step of lines, with the rounding to it, is that of the first `step` line, if there is one
+-- the display step of lines, with its rounding, is that of the first `step` line, if there is one
 abbrev pub step_of : List Line → Option (ℕ × Rounding)
 step_of lines = first_part step_part lines
 
--- the tariff positions of lines are as many as a line says, and 1 if none does
+-- lines have as many tariff positions as a line says, and 1 if none does
 abbrev pub positions_of : List Line → ℕ
 positions_of lines = unwrap_or (first_part positions_part lines) 1
 
--- the zones of lines are as many as a line says, and 1 if none does
+-- lines have as many zones as a line says, and 1 if none does
 abbrev pub zones_of : List Line → ℕ
 zones_of lines = unwrap_or (first_part zones_part lines) 1
 

@@ -23,11 +23,11 @@ abbrev pub placed_from : {V : Type 0} → (Entry → Option V) → (place : ℕ)
 placed_from part place [] = []
 placed_from part place (l ∷ ls) = cons_option (placed part place l) (placed_from part (place + 1) ls)
 
--- the line of the choice of the program at a place among some, if there is one, is the line at the place that it keeps
+-- the line of the program's choice at a place, if there is one, is the line at the place that the choice keeps
 abbrev pub line_of_own : {V : Type 0} → List Line → List (Choice V) → (place : ℕ) → Option Line
 line_of_own {V} lines own place = option_and_then (λ (c : Choice V). slice_get lines c.place) (slice_get own place)
 
--- the choice that a line gives, of any kind, where it is told of each kind how many stand before
+-- the choice that a line gives, of any kind, by how many of each kind stand before it
 abbrev pub counted_choice : (ChoiceKind → ℕ) → Line → Option ChoiceLine
 counted_choice count l =
     option_map (λ (kind : ChoiceKind). record { kind = kind; place_in_kind = count kind; line = l.line })

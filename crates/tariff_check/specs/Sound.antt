@@ -29,7 +29,7 @@ pub record IsSoundHoliday (d : DateNumbers) : Type 0 where
   pub year : IsFromTo 2000 2199 d.year
   pub date : IsTrue (is_date d.year d.month d.date)
 
--- an atom is sound if its dates are ones that a leap year has, and its `after` is more than 0
+-- an atom is sound if a leap year has its dates, and its `after` is more than 0
 abbrev pub IsSoundAtom : Condition → Type 0
 IsSoundAtom (tree.date from_month from_date to_month to_date) =
     IsTrue (is_date 2000 from_month from_date) × IsTrue (is_date 2000 to_month to_date)
@@ -41,7 +41,7 @@ IsSoundAtom atom = Unit {0}
 abbrev pub IsGoodAtom : Condition → Type 0
 IsGoodAtom atom = IsWritableCondition atom × IsSoundAtom atom
 
--- a tariff has sound parts if each of them is sound and there are no more of them than there may be
+-- a tariff has sound parts if each part is sound and there are no more of them than there may be
 pub record HasSoundParts (t : Tree) : Type 0 where
   pub decimals : t.decimals ≤ 3
   pub step : (s : ℕ × Rounding) × (step_of t.lines ≡ Some s) × IsFromTo 1 largest_display_step s.0

@@ -1,4 +1,4 @@
--- Rules: what is looked up in a sound tariff as its parts.
+-- Rules: what is looked up in a sound tariff.
 use Rattle.std.specs.Prelude.{ℕ, Bool, ◌&&◌, ◌==◌, List, get_or, Option}
 use Rattle.std.specs.List.{list_any}
 use Rattle.std.specs.Option.{unwrap_or}

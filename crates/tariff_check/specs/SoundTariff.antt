@@ -24,9 +24,9 @@ use Rattle.tariff_check.specs.declared.choice.ChoiceKind.TheVariants.{Rate, Init
 abbrev pub lines_of : {V : Type 0} → List (Choice V) → List ℕ
 lines_of {V} all = map (λ (c : Choice V). c.line) all
 
--- a sound tariff has the decimals of its money, its display step and the rounding to it, how many positions and zones
--- there are, its holidays and its supplements, by their numbers, the choices among its rates, its initial hire fees and
--- its minimum fares, its common measure, and how many cells it has
+-- a sound tariff has the decimals of its money, its display step with the rounding, its positions and zones, its
+-- holidays, its supplements by their numbers, the choices among its rates, initial hire fees and minimum fares, its
+-- common measure and its cells
 pub record SoundTariff : Type 0 where
   pub decimals : ℕ
   pub step : ℕ × Rounding
@@ -84,8 +84,8 @@ own_conditions {V} lines own = map (λ (c : program.Choice V). when_at lines c.p
 abbrev pub own_lines : {V : Type 0} → List (program.Choice V) → List ℕ
 own_lines {V} own = map (λ (c : program.Choice V). c.line) own
 
--- choices of the program are those among some lines if they have the same values and the same line numbers, in order,
--- and the lines at their places have the same conditions
+-- choices of the program are those among some lines if they have the same values and line numbers, in order, and the
+-- lines at their places have the same conditions
 pub record AreChoices {V : Type 0} (lines : List Line) (own : List (program.Choice V))
     (all : List (Choice V)) : Type 0 where
   pub values : own_values own ≡ values_of all
@@ -107,26 +107,26 @@ line_with entry c = record { line = c.line; entry = entry c.value c.when }
 abbrev pub is_told : {A : Type 0} → (Entry → Option A) → Line → Bool
 is_told part l = is_some (part l.entry)
 
--- the entries of a kind among lines are those of the lines that are of the kind, in order
+-- the entries of a kind among lines are those of the lines of the kind, in order
 abbrev pub entries_told : {A : Type 0} → (Entry → Option A) → List Line → List Entry
 entries_told part lines = map (λ (l : Line). l.entry) (filter (is_told part) lines)
 
--- a tariff as its parts has all of its lines of each kind that may have a condition, with their numbers, and all its
--- holidays and supplements
+-- a tariff as its parts has all lines that may have a condition, kind by kind, with their numbers, and all holidays and
+-- supplements
 pub record HasAllLines (t : Tree) (s : SoundTariff) : Type 0 where
   pub choices : (kind : ChoiceKind)
       → map (line_with (entry_with kind)) (choices_in kind s) ≡ filter (is_told (part_of kind)) t.lines
   pub supplements : map supplement_entry s.supplements ≡ entries_told numbered_supplement t.lines
   pub holidays : map holiday_entry s.holidays ≡ entries_told holiday_part t.lines
 
--- the tests of an entry tell, one after another, whether it is the display step, says the positions or the zones, is a
--- holiday or a supplement, or is of each kind that may have a condition
+-- the tests of an entry are whether it is the display step, says the positions or the zones, is a holiday or a
+-- supplement, or is of each kind that may have a condition
 abbrev pub tests_of : Entry → List Bool
 tests_of entry =
     is_some (step_part entry) ∷ is_some (positions_part entry) ∷ is_some (zones_part entry)
     ∷ is_some (holiday_part entry) ∷ is_some (numbered_supplement entry) ∷ tests_of_kinds entry
 
--- an entry is told by one part if exactly one of its tests is true
+-- an entry is in one part if exactly one of its tests is true
 abbrev pub IsInOnePart : Entry → Type 0
 IsInOnePart entry = filter (λ (b : Bool). b) (tests_of entry) ≡ true ∷ []
 
@@ -135,7 +135,7 @@ abbrev pub IsToldOnce : (ℕ → Entry) → ℕ → List Entry → Type 0
 IsToldOnce entry n entries = (entries ≡ entry n ∷ []) ⊎ ((entries ≡ []) × (n ≡ 1))
 
 -- the frame of a sound tariff is told once: its display step by one line, and its positions and its zones by one line
--- each or, where they are 1, by none
+-- each, or by none if there is one of them
 pub record HasFrame (t : Tree) (s : SoundTariff) : Type 0 where
   pub step : entries_told step_part t.lines ≡ step s.step.0 s.step.1 ∷ []
   pub positions : IsToldOnce positions s.positions (entries_told positions_part t.lines)

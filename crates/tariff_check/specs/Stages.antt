@@ -1,5 +1,5 @@
--- For proofs: the faults of a tariff in the stages of the code, which are those of its lines, and those of their
--- numbers together. Faults has them all in their order.
+-- For proofs: the faults of a tariff in the stages of the code: those of its lines, and those of their numbers
+-- together. Faults has them all in their order.
 use Rattle.std.specs.Prelude.{◌^◌, nat_lt, List, Option}
 use Rattle.std.specs.Option.{option_or}
 use Rattle.tariff_syntax.specs.Tree.{Line}
@@ -15,11 +15,11 @@ use Rattle.tariff_check.specs.declared.fault.CheckFault.TheVariants.{NoCommonMea
 abbrev pub step_fault : List Line → Option CheckFault
 step_fault ls = first_some (step_faults ls)
 
--- the fault of a line that is there too often, or that names what isn't there
+-- the fault of a line that is there too often, or that names what the tariff doesn't have
 abbrev pub line_fault : List Line → Option CheckFault
 line_fault ls = first_some (line_faults ls)
 
--- the fault of a default that isn't there, or of a line after it
+-- the fault of a default that is missing, or of a line after it
 abbrev pub default_fault : List Line → Option CheckFault
 default_fault ls = first_some (default_faults ls)
 

@@ -20,11 +20,10 @@ use std::alloc::Global;
 use tariff_syntax::{Tariff, TariffLine};
 use taxi_units::NoMemory;
 
-/// All faults of a tariff, in the order of `CheckFault`: each kind of fault once, which names the first line that has
-/// it. Those of cuts and of cells are looked for only if no other is there, and then those of each dimension. The first
-/// is the one that `check` answers, and there is none exactly if the tariff is sound. `NoMemory` if memory runs out, or
-/// if there are more cuts or cells than 32 or 64 bits count, which no text comes to. That these are the faults is this
-/// project's own.
+/// All faults of a tariff, in the order of `CheckFault`: each kind of fault once, with the first line that has it. The
+/// faults of cuts, one for each dimension, and of cells are looked for only if there is no other. The first is the one
+/// that `check` answers; there is none exactly if the tariff is sound. `NoMemory`: memory runs out, or there are more
+/// cuts or cells than 32 or 64 bits count, which no text has. The faults are this project's own.
 pub fn faults(alloc: Global, tariff: &Tariff) -> Result<Vec<CheckFault>, NoMemory>
     ensures { IfOk result (λ faults. faults.items ≡ all_faults (tree_of tariff.now).lines) }
 {
@@ -94,8 +93,8 @@ fn is_step_zero(lines: &[TariffLine]) -> bool
     }
 }
 
-/// The faults of cuts and of cells, each there or not, in their order. `NoMemory` too where there are more cells than
-/// 64 bits count.
+/// The faults of cuts and of cells, each there or not, in their order. `NoMemory` also if there are more cells than 64
+/// bits count.
 fn faults_from_cuts(
     alloc: Global,
     lines: &[TariffLine],

@@ -66,7 +66,7 @@ fn time(cond: &Cond) -> (Option<u64>, Option<u64>)
     }
 }
 
-/// A place in a leap year, but not where the year begins or ends.
+/// A place in a leap year, but not the year's begin or end.
 fn day_cut(place: u64) -> Option<u64>
     ensures { cut_list (result, None) ≡ day_cut place }
 {

@@ -26,7 +26,7 @@ pub(crate) fn cells(positions: u8, zones: u8, holidays: bool, counts: &Counts) -
     days(positions, zones, kinds) * bands(counts)
 }
 
-/// The same product for any counts; `None` where 64 bits don't hold it.
+/// The same product for any counts; `None` if 64 bits don't hold it.
 pub(crate) fn any_cells(positions: u8, zones: u8, holidays: bool, counts: &Counts) -> Option<u64>
     ensures { IfSome result (λ cells. cells ≡ positions * zones * 7 * (if holidays then 2 else 1)
         * ((counts.now.month_day + 1) * (counts.now.minute + 1) * (counts.now.distance + 1) * (counts.now.time + 1))) }
@@ -36,7 +36,7 @@ pub(crate) fn any_cells(positions: u8, zones: u8, holidays: bool, counts: &Count
     days(positions, zones, kinds).checked_mul(bands)
 }
 
-/// How many bands there are between any cuts; `None` where 64 bits don't hold it.
+/// How many bands there are between any cuts; `None` if 64 bits don't hold it.
 fn any_bands(counts: &Counts) -> Option<u64>
     ensures { IfSome result (λ bands. bands ≡ (counts.now.month_day + 1) * (counts.now.minute + 1)
         * (counts.now.distance + 1) * (counts.now.time + 1)) }
@@ -50,7 +50,7 @@ fn any_bands(counts: &Counts) -> Option<u64>
         .checked_mul(times)
 }
 
-/// How many there are of positions, zones and weekdays that are holidays or not: at most 910,350.
+/// How many positions, zones and weekdays there are, holidays or not: at most 910,350.
 fn days(positions: u8, zones: u8, kinds: u64) -> u64
     requires { kinds ≤ 2 }
     ensures value { result ≡ positions * zones * 7 * kinds }

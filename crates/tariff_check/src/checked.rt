@@ -93,8 +93,8 @@ impl Checked {
         self.numbers.zones
     }
 
-    /// How many cells it has: the product of its positions, its zones, the seven weekdays, 2 where it has
-    /// a holiday, and the bands between its cuts in each dimension. At most 64,512.
+    /// How many cells it has: the product of its positions, its zones, the seven weekdays, 2 if it has a holiday, and
+    /// the bands between its cuts in each dimension. At most 64,512.
     pub fn cells(&self) -> u64
         ensures value { result ≡ cells_of (tree_of self.now).lines }
         ensures range { IsFromTo 1 64512 result }
@@ -102,8 +102,7 @@ impl Checked {
         self.numbers.cells
     }
 
-    /// The least common multiple of the measures of its rates, in decimetres and tenths of a second. At
-    /// most 10^18.
+    /// The least common multiple of the measures of its rates, in decimetres and tenths of a second. At most 10^18.
     pub fn measure(&self) -> u64
         ensures value { result ≡ measure_of (tree_of self.now).lines }
         ensures range { IsFromTo 1 (10 ^ 18) result }
@@ -111,7 +110,7 @@ impl Checked {
         self.numbers.measure
     }
 
-    /// The parts, of a tariff that is known to be sound.
+    /// The parts of a sound tariff.
     pub(crate) fn parts(&self) -> &Parts
         ensures parts { HasParts (tree_of self.now).lines result.now }
         ensures choices { EachKind (λ kind. AreChoices (tree_of self.now).lines (kept_of kind result.now.choices)
@@ -132,7 +131,7 @@ impl Checked {
         self.parts().holidays.as_slice()
     }
 
-    /// The supplement of a number; `None` exactly where it has none.
+    /// The supplement of a number. `None` exactly if it has none.
     pub fn supplement(&self, number: u8) -> Option<Supplement>
         ensures value { result ≡ supplement_of (tree_of self.now).lines number }
         ensures sound { IsSound (tree_of self.now) }
@@ -148,7 +147,7 @@ impl Checked {
         self.parts().choice_lines.as_slice()
     }
 
-    /// The condition of the line at a place, from 0; `None` where that line has none, or there is no line.
+    /// The condition of the line at a place, from 0. `None` if that line has none, or there is no line.
     pub fn condition_at(&self, place: usize) -> Option<&Cond>
         ensures { Gives (λ cond. condition_of cond.now) result (when_at (tree_of self.now).lines place) }
     {
@@ -168,9 +167,8 @@ impl Checked {
         }
     }
 
-    /// The first of some choices of this tariff that has no condition or whose condition holds in a context, by
-    /// its place among them, from 0. `None` exactly where none holds. Which condition a choice has is told by the
-    /// place of its line.
+    /// The first of some choices of this tariff that has no condition or whose condition holds in a context, by its
+    /// place among them, from 0. `None` exactly if none holds. A choice has the condition of its line.
     pub fn place_of<V>(&self, choices: &[Choice<V>], x: &Context) -> Option<usize>
         ensures { result ≡ place_of x.now (own_conditions (tree_of self.now).lines choices.now) }
     {

@@ -19,11 +19,10 @@ use crate::resolving::{Parts, resolved};
 use std::alloc::Global;
 use tariff_syntax::{Tariff, TariffLine};
 
-/// Whether a tariff, whose numbers are ones that a text can have, is sound: it is where it has none of
-/// the faults. Otherwise its first fault in the order of `CheckFault`. The tariff is given up on a
-/// refusal. `NoMemory` where memory runs out, and where a dimension has more cuts than 32 bits count,
-/// which no text has; but only once none of the faults before those of cuts is there. That these are the
-/// faults is this project's own.
+/// Whether a tariff is sound, that is, has none of the faults. Its numbers have to be ones that a text can have. If it
+/// isn't sound, the answer is its first fault in the order of `CheckFault`, and the tariff is dropped. `NoMemory`:
+/// there is no fault in front of those of cuts, and memory runs out or a dimension has more cuts than 32 bits count,
+/// which no text has. The faults are this project's own.
 pub fn check(alloc: Global, tariff: Tariff) -> Result<Checked, CheckFault>
     requires { IsWritable (tree_of tariff) }
     ensures sound { IfOk result (λ c. (c ≡ tariff) × IsSound (tree_of tariff)) }
@@ -49,7 +48,7 @@ fn parts_of(alloc: Global, lines: &[TariffLine]) -> Result<Parts, CheckFault>
     resolved(alloc, lines).map_err(|_| CheckFault::NoMemory)
 }
 
-/// The numbers of lines, or their first fault. Nothing is counted on lines that have an earlier fault.
+/// The numbers of lines, or their first fault. Nothing is counted if the lines have an earlier fault.
 fn numbers(alloc: Global, lines: &[TariffLine]) -> Result<Numbers, CheckFault>
     ensures numbers { IfOk result (HasNumbers (map line_of lines.now)) }
     ensures fault { IfErr result (λ f. (f ≡ NoMemory) ⊎ (first_some (faults_of (map line_of lines.now)) ≡ Some f)) }

@@ -1,4 +1,4 @@
-//! The choices of a tariff: what is said of each kind of line of which the first that holds counts, and which holds.
+//! The choices of a tariff: what its lines say of each kind of which the first line that holds counts.
 ghost use Rattle.std.specs.Option.{option_to_list};
 ghost use Rattle.std.specs.Prelude.{◌≡◌, ◌≤◌, ◌++◌, ◌∷◌, [], OnOk, length};
 ghost use Rattle.taxi_units.specs.Reading.{Gives};
@@ -17,8 +17,7 @@ use std::alloc::Global;
 use tariff_syntax::{Cond, Context, InitialNumbers, Item, RateLine, RateNumbers, TariffLine};
 use taxi_units::{LARGEST_AMOUNT, LARGEST_DISPLAY_STEP, NoMemory};
 
-/// The kinds of lines of which the first that holds in a context is the one that counts: rates, initial hire fees and
-/// minimum fares.
+/// The kinds of lines of which the first that holds in a context counts: rates, initial hire fees and minimum fares.
 #[derive(Clone, Copy)]
 pub enum ChoiceKind {
     Rate,
@@ -35,9 +34,8 @@ pub struct ChoiceLine {
     pub line: u32,
 }
 
-/// One of the lines of a kind of which the first that holds in a context is the one that counts: what it says, the
-/// number of its line in the text, and the place of that line among the lines of the tariff, from 0. Its condition
-/// stays where it is, in the line.
+/// One of the lines of a kind of which the first that holds counts: what it says, the number of its line in the text,
+/// and the place of that line among the lines of the tariff, from 0. Its condition stays in the line.
 #[derive(Clone, Copy)]
 pub struct Choice<V> {
     pub value: V,
@@ -145,16 +143,16 @@ impl Checked {
         self.place_of(self.rates(), x)
     }
 
-    /// The initial hire fee of a context: the first one that has no condition or whose condition holds with no
-    /// pulse and no tick of the trip, by its place among the initial hire fees, from 0.
+    /// The initial hire fee of a context: the first one that has no condition or whose condition holds with no pulse
+    /// and no tick of the trip, by its place among the initial hire fees, from 0.
     pub fn initial_of(&self, x: &Context) -> Option<usize>
         ensures { result ≡ initial_place (tree_of self.now) x.now }
     {
         self.place_of(self.initials(), &hiring(x))
     }
 
-    /// The minimum fare of a context: the first one that has no condition or whose condition holds with no pulse
-    /// and no tick of the trip, by its place among the minimum fares, from 0. `None` exactly where none holds.
+    /// The minimum fare of a context: the first one that has no condition or whose condition holds with no pulse and no
+    /// tick of the trip, by its place among the minimum fares, from 0. `None` exactly if none holds.
     pub fn minimum_of(&self, x: &Context) -> Option<usize>
         ensures { result ≡ minimum_place (tree_of self.now) x.now }
     {
@@ -223,7 +221,7 @@ pub(crate) fn is_of(kind: ChoiceKind, item: &Item) -> bool
     }
 }
 
-/// The condition of a line, where it has one.
+/// The condition of a line, if it has one.
 pub(crate) fn condition(item: &Item) -> Option<&Cond>
     ensures { Gives (λ cond. condition_of cond.now) result (when_part (entry_of item.now)) }
 {

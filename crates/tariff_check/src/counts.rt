@@ -44,7 +44,7 @@ fn count(alloc: Global, lines: &[TariffLine], dimension: Dimension) -> Result<u3
     }
 }
 
-/// That a dimension has this many cuts, where that is too many.
+/// The fault that a dimension has this many cuts, if that is too many.
 pub(crate) fn cuts_fault(dimension: Dimension, count: u32) -> Option<CheckFault>
     ensures { result ≡ fault_if (nat_lt (most_cuts dimension) count) (TooManyCuts dimension count) }
 {

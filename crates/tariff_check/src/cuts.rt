@@ -17,8 +17,8 @@ use std::collections::BTreeSet;
 use tariff_syntax::{Cond, Item, TariffLine};
 use taxi_units::NoMemory;
 
-/// The different numbers with which the conditions of a tariff compare in a dimension, in order: places
-/// in a leap year, minutes of the day, decimetres or tenths of a second. `NoMemory` where memory runs out.
+/// The different numbers with which the conditions of a tariff compare in a dimension, in order: places in a leap year,
+/// minutes of the day, decimetres or tenths of a second. `NoMemory`: memory runs out.
 pub fn cut_values(
     alloc: Global,
     checked: &Checked,
@@ -46,8 +46,8 @@ pub(crate) fn cuts(
     Ok(cuts)
 }
 
-/// How many cuts some lines have in a dimension. `NoMemory` too where they are more than fit 32 bits, which is more
-/// than 32 GiB of them.
+/// How many cuts some lines have in a dimension. `NoMemory` also if 32 bits don't count them, which takes more than 32
+/// GiB.
 pub(crate) fn cut_count(
     alloc: Global,
     lines: &[TariffLine],

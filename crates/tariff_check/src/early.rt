@@ -29,7 +29,7 @@ pub(crate) fn early_fault(lines: &[TariffLine], positions: u8, zones: u8) -> Opt
     number_fault(lines)
 }
 
-/// A line that is there too often, or that names what isn't there.
+/// A line that is there too often, or that names what the tariff doesn't have.
 #[tactic(auto, using(crate::proofs::Staging::or_none))]
 fn line_fault(lines: &[TariffLine], positions: u8, zones: u8) -> Option<CheckFault>
     requires positions { positions ≡ positions_of (map line_of lines.now) }
@@ -45,7 +45,7 @@ fn line_fault(lines: &[TariffLine], positions: u8, zones: u8) -> Option<CheckFau
     fault_at(LineRule::Known(positions, zones), lines)
 }
 
-/// A default that isn't there, or a line after it.
+/// A default that is missing, or a line after it.
 #[tactic(auto, using(crate::proofs::Staging::or_none))]
 fn default_fault(lines: &[TariffLine]) -> Option<CheckFault>
     ensures { result ≡ default_fault (map line_of lines.now) }

@@ -1,4 +1,4 @@
-//! What may be wrong with a tariff that its language lets through. All of it is this project's own.
+//! What may be wrong with a tariff that has a text. All of it is this project's own.
 
 /// What a condition may compare with a cut: the place of the day in a leap year, the minute of the day,
 /// the distance of the trip or its time.
@@ -10,8 +10,8 @@ pub enum Dimension {
     Time,
 }
 
-/// The faults of a tariff, in the order in which they are looked for. Where a line is named, it is the
-/// first that has the fault, by its number in the text.
+/// The faults of a tariff, in the order in which they are looked for. A fault that names a line names the first that
+/// has it, by its number in the text.
 #[derive(Clone, Copy)]
 pub enum CheckFault {
     /// There is no `step` line.
@@ -33,14 +33,14 @@ pub enum CheckFault {
     LineAfterDefault(u32),
     /// A holiday that is no date of the years 2000 to 2199, or a month and date that no leap year has.
     BadDate(u32),
-    /// An amount above the greatest of its kind of line, which is 1,000,000 units or 99,999,999.
+    /// An amount above the limit of its kind of line, 1,000,000 units or 99,999,999.
     AmountTooBig(u32),
     /// A measure of a rate or of an `after` is 0.
     MeasureZero(u32),
     /// The least common multiple of the measures of all rates is above 10^18.
     NoCommonMeasure,
-    /// The first dimension that has too many cuts, and how many: above 63 for days and minutes, above 15
-    /// for distances and times.
+    /// The first dimension that has too many cuts, and how many: above 63 for days and minutes, above 15 for distances
+    /// and times.
     TooManyCuts(Dimension, u32),
     /// There are more than 64,512 cells, and how many.
     TooManyCells(u64),

@@ -24,15 +24,15 @@ pub enum FramePart {
 }
 
 impl Checked {
-    /// The line that says a part of the frame; `None` exactly where no line does.
+    /// The line that says a part of the frame. `None` exactly if no line does.
     pub fn frame_line(&self, part: FramePart) -> Option<&TariffLine>
         ensures { Gives (λ line. line_of line.now) result (frame_line part (tree_of self.now).lines) }
     {
         first_saying(part, self.tariff.lines.as_slice())
     }
 
-    /// The line of the first choice of a kind that has no condition or whose condition holds in a context; `None`
-    /// exactly where none holds.
+    /// The line of the first choice of a kind that has no condition or whose condition holds in a context. `None`
+    /// exactly if none holds.
     pub fn line_in_force(&self, kind: ChoiceKind, x: &Context) -> Option<&TariffLine>
         ensures { Gives (λ line. line_of line.now) result (line_in_force kind x.now (tree_of self.now).lines) }
     {

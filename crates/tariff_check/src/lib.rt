@@ -1,4 +1,4 @@
-//! Which tariffs are well-formed: each fault of a tariff by its rule, and what a sound tariff is made of.
+//! Which tariffs are sound: each fault of a tariff by its rule, and what a sound tariff is made of.
 #![tactic(auto)]
 
 mod all_faults;

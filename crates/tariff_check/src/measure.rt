@@ -12,7 +12,7 @@ use tariff_syntax::{Item, RateLine, TariffLine};
 /// The greatest common measure that a tariff may have.
 const MOST: u128 = 1_000_000_000_000_000_000;
 
-/// The least common multiple of the measures of all rates, which are above 0, where it is at most 10^18.
+/// The least common multiple of the measures of all rates, which are above 0, if it is at most 10^18.
 pub(crate) fn measure(lines: &[TariffLine]) -> Option<u64>
     requires { All (λ (l : Line). is_for_nothing l.entry ≡ false) (map line_of lines.now) }
     ensures { MatchOption result (10 ^ 18 < measure_of (map line_of lines.now))
@@ -27,7 +27,7 @@ pub(crate) fn measure(lines: &[TariffLine]) -> Option<u64>
     Some(common)
 }
 
-/// Whether the common measure of all rates is above 10^18; it is 0 where one of their measures is.
+/// Whether the common measure of all rates is above 10^18. It is 0 if one of their measures is.
 pub(crate) fn has_great_measure(lines: &[TariffLine]) -> bool
     ensures { result ≡ nat_lt (10 ^ 18) (measure_of (map line_of lines.now)) }
 {
@@ -46,7 +46,7 @@ fn some_is_for_nothing(lines: &[TariffLine]) -> bool
     false
 }
 
-/// The least common multiple of a measure and the two of a rate, where it is at most 10^18.
+/// The least common multiple of a measure and the two of a rate, if it is at most 10^18.
 fn with_both(common: u64, rate: &RateLine) -> Option<u64>
     requires common { 0 < common }
     requires distance { 0 < rate.now.b }
@@ -57,7 +57,7 @@ fn with_both(common: u64, rate: &RateLine) -> Option<u64>
     with_one(with_one(common, rate.b)?, rate.e)
 }
 
-/// The least common multiple of two measures, where it is at most 10^18.
+/// The least common multiple of two measures, if it is at most 10^18.
 fn with_one(common: u64, measure: u64) -> Option<u64>
     requires common { 0 < common }
     requires measure { 0 < measure }

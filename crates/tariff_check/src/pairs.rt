@@ -1,4 +1,4 @@
-//! What a line has to do with the lines before it.
+//! What a line has in common with the lines before it.
 ghost use Rattle.std.specs.List.{list_any, count_by};
 ghost use Rattle.std.specs.Prelude.{◌≡◌, map};
 ghost use Rattle.tariff_check.specs.Lines.{excludes, is_alike, is_default_for, is_of_same, most_alike};

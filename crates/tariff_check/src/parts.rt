@@ -13,7 +13,7 @@ use crate::found_lines::{FramePart, first_saying};
 use drive_modes::Rounding;
 use tariff_syntax::{Item, TariffLine};
 
-/// The display step, and how the fare is rounded to it, of the first such line; or what is wrong with it.
+/// The display step and its rounding, of the first such line, or what is wrong with it.
 pub(crate) fn step(lines: &[TariffLine]) -> Result<(u64, Rounding), CheckFault>
     ensures step { IfOk result (λ s. step_of (map line_of lines.now) ≡ Some s) }
     ensures none { OnOk result (step_fault (map line_of lines.now) ≡ None) }
@@ -31,7 +31,7 @@ pub(crate) fn step(lines: &[TariffLine]) -> Result<(u64, Rounding), CheckFault>
     }
 }
 
-/// The display step, and how the fare is rounded to it, of the first such line, if there is one.
+/// The display step and its rounding, of the first such line, if there is one.
 pub(crate) fn step_said(lines: &[TariffLine]) -> Option<(u64, Rounding)>
     ensures { result ≡ step_of (map line_of lines.now) }
 {
@@ -61,7 +61,7 @@ pub(crate) fn positions(lines: &[TariffLine]) -> u8
     }
 }
 
-/// How many tariff positions a line says that there are, or 1.
+/// The number of tariff positions that a line says, or 1.
 fn positions_in(item: &Item) -> u8
     ensures { result ≡ unwrap_or (positions_part (entry_of item.now)) 1 }
 {
@@ -81,7 +81,7 @@ pub(crate) fn zones(lines: &[TariffLine]) -> u8
     }
 }
 
-/// How many zones a line says that there are, or 1.
+/// The number of zones that a line says, or 1.
 fn zones_in(item: &Item) -> u8
     ensures { result ≡ unwrap_or (zones_part (entry_of item.now)) 1 }
 {

@@ -42,7 +42,7 @@ pub(crate) fn first_line(rule: LineRule, lines: &[TariffLine]) -> Option<u32>
     None
 }
 
-/// Whether a line breaks a rule, where the lines before it are known.
+/// Whether a line breaks a rule, by the lines before it.
 fn breaks(rule: LineRule, before: &[TariffLine], item: &Item) -> bool
     ensures { result ≡ breaks_rule rule (map line_of before.now) (entry_of item.now) }
 {

@@ -1,4 +1,4 @@
-//! What the definitions of faults and cuts come to.
+//! What the definitions of faults and cuts mean.
 ghost use Rattle.std.specs.Prelude.{◌≡◌, ℕ, ◌<◌, ◌≤◌, ◌↔◌, ◌∷◌, ◌++◌, true, List, [], Some, None, All, length};
 ghost use Rattle.std.specs.List.{Contains, slice_get};
 ghost use Rattle.tariff_check.specs.AllFaults.{all_faults};
@@ -24,9 +24,8 @@ ghost use Rattle.tariff_syntax.specs.Tree.{Tree, Line, Entry};
 ghost use Rattle.tariff_syntax.specs.Writable.{IsFromTo, IsWritable};
 ghost use Rattle.tariff_syntax.specs.declared.context.Context.{Context};
 
-/// The law of the faults of lines: the number that is named is that of the first line that meets the test, and
-/// none is named exactly where no line meets it. Where numbers rise, as those of a text do, no line that meets
-/// it has a smaller one.
+/// The law of the faults of lines: the number that is named is that of the first line that meets the test, and none is
+/// named exactly if no line meets it. If numbers rise, as those of a text do, no line that meets it has a smaller one.
 pub fn faults_name_the_first_line()
     ensures named { (test : LineTest) (lines : List Line) (number : ℕ)
         → (first_line test lines ≡ Some number) ↔ IsFirstLine test lines number }
@@ -37,8 +36,8 @@ pub fn faults_name_the_first_line()
     ensures none { (test : LineTest) (lines : List Line) → (first_line test lines ≡ None) ↔ IsNowhere test lines }
 {}
 
-/// The law of cuts: they are the numbers with which conditions compare, in order and each once, as any
-/// numbers are that are put among none.
+/// The law of cuts: they are the numbers with which conditions compare, in order and each once. This holds of any
+/// numbers that are put among none.
 pub fn cuts_are_in_order()
     ensures cuts { (dimension : Dimension) (lines : List Line)
         → IsInOrder (all_cuts dimension lines) (cuts_of dimension lines) }
@@ -46,8 +45,9 @@ pub fn cuts_are_in_order()
 {}
 
 /// The law of all faults: the first of them is the one that `check` answers, and there is none exactly if the tariff is
-/// sound. Each that is named is there. Each before those of cuts that is there is named, and each of cuts and of cells,
-/// too, if none of those before is there. If a measure of a rate is 0, the common measure is 0, and so isn't too great.
+/// sound. Each that is named is there. Each fault before those of cuts that is there is named. If there is none of
+/// them, each fault of cuts and of cells that is there is named, too. If a measure of a rate is 0, the common measure
+/// is 0, and so isn't too great.
 pub fn all_faults_begin_with_the_first()
     ensures first { (t : Tree) → slice_get (all_faults t.lines) 0 ≡ fault_of t }
     ensures none { (t : Tree) → (all_faults t.lines ≡ []) ↔ IsSound t }
@@ -67,8 +67,8 @@ pub fn sound_tariffs_have_sound_parts()
     ensures parts { (t : Tree) → IsWritable t → IsSound t → HasSoundParts t }
 {}
 
-/// The law of the common measure: wherever the measures of the rates are above 0 it is their least common
-/// multiple. They are in a sound tariff, and where the common measure is refused.
+/// The law of the common measure: it is the least common multiple of the measures of the rates if these are above 0.
+/// They are in a sound tariff, and if the common measure is refused.
 pub fn measures_are_least()
     ensures least { (lines : List Line) → All (λ n. 0 < n) (measures_of lines)
         → IsLeastCommonMultiple (measures_of lines) (measure_of lines) }
@@ -76,8 +76,7 @@ pub fn measures_are_least()
     ensures refused { (t : Tree) → fault_of t ≡ Some NoCommonMeasure → All (λ n. 0 < n) (measures_of t.lines) }
 {}
 
-/// The law of supplements: a tariff whose numbers a text can have has no supplement of another number than 1
-/// to 16.
+/// The law of supplements: a tariff whose numbers a text can have has supplements only of the numbers 1 to 16.
 pub fn supplements_are_numbered_to_16()
     ensures { (t : Tree) (number : ℕ) → IsWritable t → ¬ (IsFromTo 1 16 number) → supplement_of t.lines number ≡ None }
 {}
@@ -94,16 +93,16 @@ pub fn lines_that_hold_are_there()
 {}
 
 /// The law of hirings: each amount with which a hiring begins is that of the line of its kind that holds first at it,
-/// or 0 where none does; and each is within its limits.
+/// or 0 if none does; and each is within its limits.
 pub fn hirings_begin_with_first_lines()
     ensures amounts { (t : Tree) (x : Context) → IsSound t → HasAmountsOf t x (initial_by t x) }
     ensures fit { (t : Tree) (x : Context) → IsWritable t → IsSound t → IsFitInitial (initial_by t x) }
 {}
 
-/// The law of parts: a tariff as its parts has what its lines say. Each line that may have a condition stands
-/// in it once, with its number, and the lines of a kind stand in their order; so do holidays and
-/// supplements. The display step, the positions and the zones of a sound tariff are told by one line each
-/// at most. Each line is told by exactly one of these parts, so none is left out.
+/// The law of parts: a tariff as its parts has what its lines say. Each line that may have a condition is in it once,
+/// with its number, in the order of the lines of its kind; so are holidays and supplements. The display step, the
+/// positions and the zones of a sound tariff are told by at most one line each. Each line is told by exactly one of
+/// these parts, so none is left out.
 pub fn sound_tariffs_are_their_parts()
     ensures one_part { (entry : Entry) → IsInOnePart entry }
     ensures lines { (t : Tree) → HasAllLines t (sound_of t) }

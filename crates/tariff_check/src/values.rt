@@ -1,8 +1,8 @@
 //! What a hiring begins with, and what supplements and holidays say, as plain numbers: money in units of the
 //! tariff's last decimal.
 
-/// What a hiring begins with, in units of the last decimal: the initial hire fee, the amount of charges that it
-/// covers, and the minimum fare, which is 0 where no minimum line holds. Each is at most 99,999,999 in a sound tariff.
+/// What a hiring begins with, in units of the last decimal: the initial hire fee, the amount of charges that it covers,
+/// and the minimum fare, or 0 if no minimum line holds. Each is at most 99,999,999 in a sound tariff.
 #[derive(Clone, Copy)]
 pub struct Initial {
     pub amount: u64,
@@ -12,7 +12,7 @@ pub struct Initial {
 
 /// A supplement, in units of the last decimal, and how often a hiring may have it: at most 1,000,000, and 1 to 99,
 /// in a sound tariff.
-#[derive(Clone, Copy, PartialEq, Eq)]
+#[derive(Clone, Copy)]
 pub struct Supplement {
     pub amount: u64,
     pub max: u8,

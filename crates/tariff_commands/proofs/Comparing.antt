@@ -76,7 +76,7 @@ module _ (k : ℕ) (contents left : ℕ → List ℕ) (image : List ℕ) (read_f
       course-no_memory (compare_command k) contents left image read_failed refl tt
   course-uncompared faults.NoMemory h = course-no_memory (compare_command k) contents left image read_failed refl tt
 
--- where the reading of two tariffs stopped
+-- the word at which the reading of two tariffs stopped
 pub stops-comparing : {E : Type 0} {F : FileGhosts E} (k : ℕ) (files files' : E) (fault : CompareFault)
     → (fault ≡ faults.Tariff texts.ReadFault → Rose (F.faults files 1) (F.faults files' 1))
     → (fault ≡ faults.Other texts.ReadFault → Rose (F.faults files 2) (F.faults files' 2))

@@ -8,7 +8,7 @@ use Rattle.call_ends.specs.LastLine.{sound_line}
 use Rattle.call_ends.specs.Tariffs.{tariff_in, bad_tariff}
 use Rattle.call_ends.specs.declared.tariff.Refusal.{Refusal}
 
--- the answer to a sound tariff says how many cells it has and its common measure; to another text, why there is none
+-- the answer to a sound tariff says how many cells it has and its common measure; to another text, why it has none
 abbrev pub check_answer : Result Tree Refusal → Answer
 check_answer (Err why) = bad_tariff why
 check_answer (Ok t) = shows_line (sound_line (sound_of t).cells (sound_of t).measure)

@@ -9,13 +9,13 @@ use Rattle.call_ends.specs.Pieces.{pieces_of}
 use Rattle.call_ends.specs.Tariffs.{HasTariff, tariff_in, bad_other, bad_tariff}
 use Rattle.call_ends.specs.declared.tariff.Refusal.{Refusal}
 
--- a comparison has the status 11 where the tariffs differ, and else 0
+-- the status of a comparison is 11 if the tariffs differ, and else 0
 abbrev pub comparing_status : (differ : Bool) → ℕ
 comparing_status true = 11
 comparing_status false = 0
 
--- the answer to two sound tariffs shows what differs first between them; to other texts, it says why there is none, of
--- the first one before the other
+-- the answer to two sound tariffs shows what differs first between them. To other texts it says why the first one has
+-- no sound tariff, or else why the other has none.
 abbrev pub compare_answer : (k : ℕ) → (one other : Result Tree Refusal) → Answer
 compare_answer k (Err why) other = bad_tariff why
 compare_answer k (Ok t) (Err why) = bad_other why
@@ -25,8 +25,8 @@ compare_answer k (Ok t) (Ok u) = record {
   line = [];
 }
 
--- the command `compare` reads its tariff, and where that is sound the other, and prints the text in as few pieces as it
--- can be, in a step for each and one for the last line
+-- the command `compare` reads its tariff, then the other if the first is sound, and prints the text in as few pieces as
+-- it can be. It takes a step for each piece, and one for the last line.
 abbrev pub compare_command : (k : ℕ) → Command
 compare_command k = record {
   answer = λ contents image. compare_answer k (tariff_in (contents 1)) (tariff_in (contents 2));

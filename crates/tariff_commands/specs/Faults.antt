@@ -15,19 +15,19 @@ use Rattle.call_ends.specs.Tariffs.{tariff_in}
 use Rattle.call_ends.specs.declared.tariff.Refusal.{Refusal}
 use Rattle.call_ends.specs.declared.tariff.Refusal.TheVariants.{TooLong, Syntax, Unsound}
 
--- a tariff that was read is refused for each of its faults, and a text that wasn't read for each of its bad lines
+-- a tariff that was read is refused for each of its faults, and else a text for each of its bad lines
 abbrev pub refusals_of : (bad : List ℕ) → Result Tree ℕ → List Refusal
 refusals_of bad (Ok t) = map Unsound (all_faults t.lines)
 refusals_of bad (Err line) = map Syntax bad
 
 -- a text is refused because it has more than 65,536 bytes, or else for each line that has no form, or else for each
--- fault of its tariff; `bad_lines` gives the numbers of the lines that have no form, as the law bad_lines_have_no_form
+-- fault of its tariff. `bad_lines` gives the numbers of the lines that have no form, as the law bad_lines_have_no_form
 -- of tariff_syntax says
 abbrev pub refusals_in : List ℕ → List Refusal
 refusals_in text =
     if nat_lt 65536 (length text) then TooLong ∷ [] else refusals_of (bad_lines text) (tree_parsed text)
 
--- refusals are shown by a line for each
+-- the lines of refusals are one for each
 abbrev pub refusal_lines : List Refusal → List ℕ
 refusal_lines whys = flat_map bad_tariff_line whys
 
@@ -36,12 +36,12 @@ abbrev pub faults_answer : List Refusal → Result Tree Refusal → Answer
 faults_answer whys (Ok t) = check_answer (Ok t)
 faults_answer whys (Err why) = record { status = 2; shown = refusal_lines whys; line = [] }
 
--- the answer to a text is the one to its refusals and to its tariff
+-- the answer to a text is that to its refusals and its tariff
 abbrev pub faults_in : List ℕ → Answer
 faults_in text = faults_answer (refusals_in text) (tariff_in text)
 
--- the command `faults` reads its tariff and prints the lines of its faults in as few pieces as it can be, in a step for
--- each, and one for the last line
+-- the command `faults` reads its tariff and prints the lines of its faults in as few pieces as it can be. It takes a
+-- step for each piece, and one for the last line.
 abbrev pub faults_command : Command
 faults_command = record {
   answer = λ contents image. faults_in (contents 1);

@@ -16,7 +16,7 @@ use Rattle.tariff_commands.specs.declared.faults.Found.TheVariants.{Faults, Soun
 use Rattle.call_ends.specs.declared.tariff.Refusal.{Refusal}
 use Rattle.call_ends.specs.declared.tariff.Refusal.TheVariants.{Unsound}
 
--- numbers are those of a tariff where they are its cells and its common measure
+-- numbers are those of a tariff if they are its cells and its common measure
 pub record AreNumbersOf (t : Tree) (cells measure : ℕ) : Type 0 where
   pub cells_are : cells ≡ (sound_of t).cells
   pub measure_is : measure ≡ (sound_of t).measure
@@ -26,13 +26,13 @@ pub record IsSoundTree (t : Tree) (cells measure : ℕ) : Type 0 where
   pub sound : fault_of t ≡ None
   pub numbers : AreNumbersOf t cells measure
 
--- a tariff was found to have faults, whose lines these are
+-- a tariff was found to have faults, and these are their lines
 pub record HasLines (t : Tree) (lines : List ℕ) : Type 0 where
   pub first : CheckFault
   pub unsound : fault_of t ≡ Some first
   pub are : lines ≡ refusal_lines (map Unsound (all_faults t.lines))
 
--- what was found is that of a tariff
+-- what was found is true of a tariff
 abbrev pub IsFoundOf : Tree → Found → Type 0
 IsFoundOf t (Sound cells measure) = IsSoundTree t cells measure
 IsFoundOf t (Faults lines) = HasLines t lines.items
@@ -49,17 +49,17 @@ pub record IsRefusedText (text lines : List ℕ) : Type 0 where
   pub refused : tariff_in text ≡ Err why
   pub are : lines ≡ refusal_lines (refusals_in text)
 
--- what was found is that of a text
+-- what was found is true of a text
 abbrev pub IsFoundIn : (text : List ℕ) → Found → Type 0
 IsFoundIn text (Sound cells measure) = IsSoundText text cells measure
 IsFoundIn text (Faults lines) = IsRefusedText text lines.items
 
--- a file was read to its end where its tariff was found sound
+-- a file was read to its end if its tariff was found sound
 abbrev pub EndsFile : Found → (left : List ℕ) → Type 0
 EndsFile (Sound cells measure) left = left ≡ []
 EndsFile (Faults lines) left = Unit {0}
 
--- a command ended by the fault for which nothing was found
+-- how a command ended that found nothing
 abbrev pub ended_for_find : FindFault → Ended
 ended_for_find finds.ReadFault = ReadFault
 ended_for_find finds.NoMemory = NoMemory

@@ -10,23 +10,23 @@ use Rattle.call_ends.specs.Tariffs.{bad_tariff}
 use Rattle.call_ends.specs.declared.tariff.Refusal.{Refusal}
 use Rattle.call_ends.specs.declared.tariff.Refusal.TheVariants.{TooLong, Syntax}
 
--- a tariff that was read is taken as it is, and a text that wasn't read is refused for its first bad line
+-- a tariff that was read is taken as it is, and else the text is refused for its first bad line
 abbrev pub or_syntax : Result Tree ℕ → Result Tree Refusal
 or_syntax (Ok t) = Ok t
 or_syntax (Err line) = Err (Syntax line)
 
--- the tariff that a text reads as, sound or not, or the text is refused because it has more than 65,536 bytes or a bad
--- line; `tree_parsed` gives the tariff or the first bad line, as the law texts_are_parsed_as_they_read of tariff_syntax
+-- a text has the tariff that it reads as, sound or not, or is refused because it has more than 65,536 bytes or a bad
+-- line. `tree_parsed` gives the tariff or the first bad line, as the law texts_are_parsed_as_they_read of tariff_syntax
 -- says
 abbrev pub tree_in : List ℕ → Result Tree Refusal
 tree_in text = if nat_lt 65536 (length text) then Err TooLong else or_syntax (tree_parsed text)
 
--- the answer to a tariff shows its printed form; to another text, it says why there is none
+-- the answer to a tariff shows its printed form; to another text, it says why it has none
 abbrev pub form_answer : Result Tree Refusal → Answer
 form_answer (Err why) = bad_tariff why
 form_answer (Ok t) = shows (printed t)
 
--- the printed form of a tariff is shown in as few pieces as it can be, and if there is no tariff there is no piece
+-- the number of pieces of a printed form is as small as it can be, and 0 if there is no tariff
 abbrev pub form_pieces : Result Tree Refusal → ℕ
 form_pieces (Err why) = 0
 form_pieces (Ok t) = pieces_of (length (printed t))

@@ -9,13 +9,13 @@ use Rattle.call_ends.specs.Pieces.{pieces_of}
 use Rattle.call_ends.specs.Tariffs.{tariff_in, bad_tariff}
 use Rattle.call_ends.specs.declared.tariff.Refusal.{Refusal}
 
--- the answer to a sound tariff shows for each line of a kind of which the first that holds counts the first context of
--- a meter in which it is the one that does, if there is one; to another text, it says why there is none
+-- the answer to a sound tariff shows, for each line of a kind of which the first that holds counts, the first context
+-- of a meter in which that line counts, if there is one. To another text it says why it has no sound tariff.
 abbrev pub lines_answer : (k : ℕ) → Result Tree Refusal → Answer
 lines_answer k (Err why) = bad_tariff why
 lines_answer k (Ok t) = shows (uses_text (uses_of t k))
 
--- the text is shown in as few pieces as it can be, and if there is no tariff there is no piece
+-- the number of pieces of the text is as small as it can be, and 0 if there is no tariff
 abbrev pub lines_pieces : (k : ℕ) → Result Tree Refusal → ℕ
 lines_pieces k (Err why) = 0
 lines_pieces k (Ok t) = pieces_of (length (uses_text (uses_of t k)))

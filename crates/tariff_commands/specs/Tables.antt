@@ -8,13 +8,12 @@ use Rattle.call_ends.specs.Course.{Command}
 use Rattle.call_ends.specs.Tariffs.{tariff_in, bad_tariff}
 use Rattle.call_ends.specs.declared.tariff.Refusal.{Refusal}
 
--- the answer to a sound tariff shows the rows of its tables under a constant; to another text, it says why there is
--- none
+-- the answer to a sound tariff shows the rows of its tables under a constant; to another text, it says why it has none
 abbrev pub tables_answer : (k : ℕ) → Result Tree Refusal → Answer
 tables_answer k (Err why) = bad_tariff why
 tables_answer k (Ok t) = shows (rows_text (tables_of t k))
 
--- the number of rows that are shown under a constant is that of the tables of a sound tariff, and 0 for another text
+-- the number of rows under a constant is that of a sound tariff's tables, and 0 for another text
 abbrev pub rows_under : (k : ℕ) → Result Tree Refusal → ℕ
 rows_under k (Err why) = 0
 rows_under k (Ok t) = row_count (tables_of t k)

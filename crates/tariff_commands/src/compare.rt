@@ -29,7 +29,7 @@ pub struct Comparison {
 /// Why two tariffs weren't compared.
 #[derive(Clone, Copy)]
 pub enum CompareFault {
-    /// The tariff wasn't read.
+    /// The first tariff wasn't read.
     Tariff(TextFault),
     /// The other one wasn't read.
     Other(TextFault),
@@ -37,8 +37,8 @@ pub enum CompareFault {
     NoMemory,
 }
 
-/// Reads the tariff of word 1, and then the other of word 2, and prints what differs first between them under a
-/// constant. Nothing is printed before both were read.
+/// Prints what differs first under a constant between the tariffs of words 1 and 2. It prints nothing before it has
+/// read both, word 1 first.
 pub fn print_comparison<F: Files, B: Board<STORE_SIZE, L>, L: Ledger>(
     alloc: Global,
     constant: Constant,
@@ -59,7 +59,7 @@ pub fn print_comparison<F: Files, B: Board<STORE_SIZE, L>, L: Ledger>(
     }
 }
 
-/// How the command ended where the comparison was printed.
+/// How the command ended that printed a comparison.
 fn compared(differ: bool) -> Ended
     ensures { result ≡ ended_comparing differ }
 {
@@ -70,7 +70,7 @@ fn compared(differ: bool) -> Ended
     }
 }
 
-/// How the command ended where nothing was compared.
+/// How the command ended that compared nothing.
 fn uncompared(fault: CompareFault) -> Ended
     ensures { result ≡ ended_uncompared fault }
 {
@@ -81,7 +81,7 @@ fn uncompared(fault: CompareFault) -> Ended
     }
 }
 
-/// How the command ended whose other tariff wasn't read.
+/// How the command ended that couldn't read its other tariff.
 fn refused_other(fault: TextFault) -> Ended
     ensures { result ≡ ended_for_other fault }
 {
@@ -92,7 +92,7 @@ fn refused_other(fault: TextFault) -> Ended
     }
 }
 
-/// Reads the tariffs of words 1 and 2, and compares them under a constant.
+/// Compares the tariffs of words 1 and 2 under a constant. It reads word 1 first, and word 2 only if that is sound.
 fn compare_words<F: Files>(
     alloc: Global,
     files: &mut F,

@@ -11,7 +11,7 @@ use outside::Files;
 use std::alloc::Global;
 use tariff_compile::{Tables, compile};
 
-/// The tables of a text's tariff under a constant. Nothing is left of the tree of which they were made.
+/// The tables of a text's tariff under a constant. `Refused`: the text has no sound tariff, and why. `NoMemory`.
 pub fn tables_of_text(alloc: Global, text: &[u8], constant: Constant) -> Result<Tables, TextFault>
     ensures found { IfOk result (AreTablesIn constant text.now) }
     ensures constant { IfOk result (λ tables. tables.constant ≡ constant) }
@@ -25,8 +25,8 @@ pub fn tables_of_text(alloc: Global, text: &[u8], constant: Constant) -> Result<
     }
 }
 
-/// Reads the tariff of a word, to the end of its file where it is accepted, and makes its tables under a constant.
-/// Nothing is left of the text, nor of the tree.
+/// Reads the tariff of a word, and gives its tables under a constant. It reads the file to its end if the tariff is
+/// accepted. `ReadFault`: a read failed. `Refused`: there is no sound tariff, and why. `NoMemory`.
 pub fn tables_of_word<F: Files>(
     alloc: Global,
     files: &mut F,

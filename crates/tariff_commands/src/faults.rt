@@ -32,7 +32,7 @@ pub enum Found {
     Faults(Vec<u8>),
 }
 
-/// Why nothing is found of a tariff.
+/// Why nothing was found of a tariff.
 #[derive(Clone, Copy)]
 pub enum FindFault {
     /// A read failed.
@@ -41,8 +41,8 @@ pub enum FindFault {
     NoMemory,
 }
 
-/// Reads the tariff of word 1, and prints a line for each of its faults, or that it is sound. No memory is taken once a
-/// line is printed.
+/// Prints a line for each fault of the tariff of word 1, or that it is sound. It takes no memory after a line is
+/// printed.
 pub fn print_faults<F: Files, B: Board<STORE_SIZE, L>, L: Ledger>(
     alloc: Global,
     files: &mut F,
@@ -65,7 +65,7 @@ pub fn print_faults<F: Files, B: Board<STORE_SIZE, L>, L: Ledger>(
     }
 }
 
-/// How the command ended where nothing was found.
+/// How the command ended that found nothing.
 fn not_found(fault: FindFault) -> Ended
     ensures { result ≡ ended_for_find fault }
 {
@@ -75,8 +75,7 @@ fn not_found(fault: FindFault) -> Ended
     }
 }
 
-/// Reads the tariff of a word, to the end of its file where it is sound, and gives what is found of it. Nothing is left
-/// of the text, nor of the tree.
+/// Reads the tariff of a word, and gives what is found of it. It reads the file to its end if the tariff is sound.
 fn found_in_word<F: Files>(alloc: Global, files: &mut F, word: usize) -> Result<Found, FindFault>
     ensures found { F.tells → IfOk result (λ found. IsFoundIn (F.rest files.old word) found) }
     ensures ended { F.tells → IfOk result (λ found. EndsFile found (F.rest files.new word)) }
@@ -129,7 +128,7 @@ fn found_in_tariff(alloc: Global, tariff: Tariff) -> Result<Found, NoMemory>
     if faults.is_empty() {
         return match check(alloc, tariff) {
             Ok(checked) => Ok(Found::Sound(checked.cells(), checked.measure())),
-            // It has no fault, so memory ran out.
+            // No tariff has the fault `NoMemory`: memory ran out.
             Err(_) => Err(NoMemory),
         };
     }
@@ -148,7 +147,7 @@ fn long_line(alloc: Global) -> Result<Vec<u8>, AllocError>
     Ok(line)
 }
 
-/// The lines that name lines which have no form.
+/// The lines that name a text's bad lines.
 fn syntax_lines(alloc: Global, numbers: &[u32]) -> Result<Vec<u8>, AllocError>
     ensures { IfOk result (λ lines. lines.items ≡ refusal_lines (map Syntax numbers.now)) }
 {
@@ -170,7 +169,7 @@ fn fault_lines(alloc: Global, faults: &[CheckFault]) -> Result<Vec<u8>, AllocErr
     Ok(lines)
 }
 
-/// Puts the line of a refusal behind other lines.
+/// Appends the line of a refusal.
 fn push_line(lines: &mut Vec<u8>, why: Refusal) -> Result<(), AllocError>
     ensures { OnOk result (lines.new.items ≡ lines.old.items ++ bad_tariff_line why) }
 {
@@ -178,9 +177,9 @@ fn push_line(lines: &mut Vec<u8>, why: Refusal) -> Result<(), AllocError>
     lines.extend_from_slice(line.as_slice())
 }
 
-/// The law of faults: what `faults` prints of a text begins with the line that `check` prints, and has the same status;
-/// of a sound tariff it is that line alone. A text is refused for something exactly where it has no sound tariff, first
-/// for what `check` names; and for a line as `Syntax` exactly where the line has no form.
+/// A law: what `faults` prints of a text begins with the line of `check`, and has the same status; for a sound tariff
+/// it is that line alone. A text has refusals exactly if it has no sound tariff, and the first is the one that `check`
+/// names. A line is among them as `Syntax` exactly if it has no form.
 pub fn faults_begin_with_the_line_of_check()
     ensures status { (text : List ℕ) → (faults_in text).status ≡ (check_answer (tariff_in text)).status }
     ensures begins { (text : List ℕ) → (rest : List ℕ)

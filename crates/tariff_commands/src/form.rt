@@ -13,7 +13,7 @@ use std::sync::ledger::Ledger;
 use tariff_syntax::{ParseFault, parse, print};
 use taxi_units::Steps;
 
-/// Reads the tariff of word 1, sound or not, and prints its printed form.
+/// Prints the printed form of the tariff of word 1, sound or not.
 pub fn print_form<F: Files, B: Board<STORE_SIZE, L>, L: Ledger>(
     alloc: Global,
     files: &mut F,
@@ -51,8 +51,7 @@ fn form_of_text(alloc: Global, text: &[u8]) -> Result<Vec<u8>, TextFault>
     }
 }
 
-/// Reads the tariff of a word, to the end of its file where it is one, and gives its printed form. Nothing is left of
-/// the text, nor of the tree.
+/// Reads the tariff of a word, and gives its printed form. It reads the file to its end if it is a tariff.
 fn form_of_word<F: Files>(alloc: Global, files: &mut F, word: usize) -> Result<Vec<u8>, TextFault>
     ensures found { F.tells → IfOk result (λ form. IsFormOf (F.rest files.old word) form.items) }
     ensures ended { F.tells → OnOk result (F.rest files.new word ≡ []) }

@@ -6,8 +6,8 @@ ghost use Rattle.tariff_syntax.specs.Tree.{Tree};
 ghost use Rattle.call_ends.specs.Answer.{shows};
 ghost use Rattle.tariff_commands.specs.Form.{form_answer, tree_in};
 
-/// A law: a form that is no longer than a text may be reads as the same tariff, but for the numbers of its lines, and
-/// its own form is the same to the byte.
+/// A law: the printed form of a tariff reads as the same tariff, but for the numbers of its lines, if it has at most
+/// 65,536 bytes. Its own printed form is then the same to the byte.
 pub fn forms_are_their_own_form()
     ensures tariff { (text : List ℕ) (t : Tree) → tree_in text ≡ Ok t → length (printed t) ≤ 65536
         → tree_in (printed t) ≡ Ok (renumbered t) }

@@ -1,4 +1,4 @@
-//! The commands that say something of a tariff alone, and the tables of a word.
+//! The commands that answer about a tariff alone, and the tables of a word.
 #![tactic(auto)]
 
 pub mod check;

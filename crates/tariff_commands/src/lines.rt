@@ -15,8 +15,7 @@ use std::sync::ledger::Ledger;
 use tariff_compare::{line_uses, print_uses};
 use taxi_units::Steps;
 
-/// Reads the tariff of word 1, and prints for each of its lines whether it is ever the one that counts under a
-/// constant.
+/// Prints for each line of the tariff of word 1 whether it ever counts under a constant.
 pub fn print_lines<F: Files, B: Board<STORE_SIZE, L>, L: Ledger>(
     alloc: Global,
     constant: Constant,
@@ -58,8 +57,7 @@ fn list_of_text(alloc: Global, text: &[u8], constant: Constant) -> Result<Vec<u8
     }
 }
 
-/// Reads the tariff of a word, to the end of its file where it is one, and gives the text of its lines. Nothing is left
-/// of the text, nor of the tree.
+/// Reads the tariff of a word, and gives the text of its lines. It reads the file to its end if the tariff is accepted.
 fn list_of_word<F: Files>(
     alloc: Global,
     files: &mut F,

@@ -19,7 +19,7 @@ use std::sync::ledger::Ledger;
 use tariff_compile::Tables;
 use taxi_units::{Line, Steps};
 
-/// Reads the tariff of word 1, and prints all rows of its tables under a constant.
+/// Prints all rows of the tables of word 1's tariff under a constant.
 pub fn print_tables<F: Files, B: Board<STORE_SIZE, L>, L: Ledger>(
     alloc: Global,
     constant: Constant,

@@ -23,7 +23,7 @@ use Rattle.tariff_compare.proofs.Bridge.{in_range_of}
 use Rattle.tariff_compare.proofs.EachKind.{HasSameLines, difference_carried, in_force_same}
 use Rattle.tariff_compare.proofs.Frames.{both_parts}
 
--- two contexts in one cell of a tariff, the second at the hiring where the first is
+-- two contexts in one cell of a tariff, the second at the hiring if the first is
 pub record StandsFor (t : Tree) (k : ℕ) (n c : MeterContext) : Type 0 where
   pub has : HasTables t k
   pub first : IsMeterContext t n

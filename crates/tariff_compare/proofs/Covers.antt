@@ -1,6 +1,6 @@
 -- For each context of a meter the grid has one in the same cell of both tariffs, which isn't later.
 use Rattle.std.proofs.Common.{◌≡◌, ◌≢◌, ◌∙◌, ◌⊎◌, ap, sym, subst, refl, ℕ, ◌≤◌, Bool, true, false, not, ◌||◌, eqb, List}
-use Rattle.std.proofs.Common.{[], ◌∷◌, inl, inr, pos, arith}
+use Rattle.std.proofs.Common.{[], ◌∷◌, map, inl, inr, pos, arith}
 use Rattle.std.proofs.lemmas.Bool.{eq-eqb, eqb-true, false≢true, not-true}
 use Rattle.interval_clock.specs.Calendar.{date_after, date_place, weekday_of}
 use Rattle.tariff_calendar.specs.Lists.{count_at_most, lists_of}
@@ -16,13 +16,12 @@ use Rattle.tariff_compare.specs.Sides.{is_among}
 use Rattle.tariff_compare.specs.declared.day.Day.{Day}
 use Rattle.tariff_compare.specs.declared.meter_context.MeterContext.{MeterContext}
 use Rattle.tariff_compare.proofs.Bridge.{among}
-use Rattle.tariff_compare.proofs.Found.{IsOfGrid, IsOn}
+use Rattle.tariff_compare.proofs.Found.{IsOfGrid}
 use Rattle.tariff_compare.proofs.Frames.{both_parts}
 use Rattle.tariff_compare.proofs.GridDays.{IsOneOfDays, IsLike, day_at_place, kept_like, kept_place, place_of_day}
-use Rattle.tariff_compare.proofs.Levels.{IsAtOne}
 use Rattle.tariff_compare.proofs.MeterTimes.{days_within, minutes_within, tested_first, tested_last, time_test}
 use Rattle.tariff_compare.proofs.MeterTimes.{time_tested, time_there}
-use Rattle.tariff_compare.proofs.Numbers.{at_one, count_same, in_listed, range_within, reached}
+use Rattle.tariff_compare.proofs.Numbers.{IsIn, count_same, in_listed, range_within, reached}
 use Rattle.tariff_compare.proofs.Order.{AllLe}
 
 -- ---- days that are like another
@@ -85,10 +84,10 @@ no_edge n edge (inr e) none = λ same. absurd (false≢true (sym none ∙ by (eq
 
 -- ---- a context of the grid in the same cell
 
-at_day : (d : Day) (m : MeterContext) (ds : List Day) → m.day ≡ d.number → IsOneOfDays d ds → IsAtOne IsOn ds m
-at_day d m [] on h = absurd h
-at_day d m (x ∷ ds) on (inl e) = inl (on ∙ ap (λ (y : Day). y.number) e)
-at_day d m (x ∷ ds) on (inr h) = inr (at_day d m ds on h)
+at_day : (d : Day) (ds : List Day) → IsOneOfDays d ds → IsIn d.number (map (λ (x : Day). x.number) ds)
+at_day d [] h = absurd h
+at_day d (x ∷ ds) (inl e) = inl (ap (λ (y : Day). y.number) e)
+at_day d (x ∷ ds) (inr h) = inr (at_day d ds h)
 
 -- it is a time of the meter
 tested : (one other : TableParts) (n : MeterContext) (d : Day) (w : ℕ) → is_meter_time n.day n.minute ≡ true
@@ -175,27 +174,15 @@ cover t u k n t_has u_has is =
     } in (
       c,
       record {
-        grid = (
-          at_one (λ m. m.position) c (grid_of one other).positions
-              (range_within 1 one.positions n.position is.position.0 (omega (arith, is.position.1))),
-          (
-            at_one (λ m. m.zone) c (grid_of one other).zones
-                (range_within 1 one.zones n.zone is.zone.0 (omega (arith, is.zone.1))),
-            (
-              at_day d c (days_until one other 73051) refl kept.1,
-              (
-                at_one (λ m. m.minute) c minute_list at_minute.1.there,
-                (
-                  time,
-                  (
-                    at_one (λ m. m.ticks) c tick_list at_tick.1.there,
-                    at_one (λ m. m.pulses) c pulse_list at_pulse.1.there,
-                  ),
-                ),
-              ),
-            ),
-          ),
-        );
+        grid = record {
+          position = range_within 1 one.positions n.position is.position.0 (omega (arith, is.position.1));
+          zone = range_within 1 one.zones n.zone is.zone.0 (omega (arith, is.zone.1));
+          day = at_day d (days_until one other 73051) kept.1;
+          time = time;
+          minute = at_minute.1.there;
+          ticks = at_tick.1.there;
+          pulses = at_pulse.1.there;
+        };
         context = record {
           position = is.position;
           zone = is.zone;

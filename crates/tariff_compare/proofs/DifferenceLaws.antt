@@ -37,7 +37,7 @@ compared : (t u : Tree) (k : ℕ) → HasTables t k → HasTables u k → frame_
 compared t u k t_has u_has none =
     record { first = t_has; second = u_has; positions = frame_positions t u none; zones = frame_zones t u none }
 
--- where nothing was found, nothing differs
+-- if nothing was found, nothing differs
 no_part : (t u : Tree) (k : ℕ) (r : Option MeterContext) → AreCompared t u k
     → IsFirstOrNone t (λ m. is_met t u k Differs m ≡ true) r → part_in (side_of t k) (side_of u k) r ≡ None
     → (m : MeterContext) → IsMeterContext t m → difference_at t u k m ≡ None

@@ -1,5 +1,5 @@
 -- What is so of each kind of line: the tables name the line that holds first, contexts of one cell have the same lines,
--- what differs in one differs in the other, and where nothing differs all is the same.
+-- what differs in one differs in the other, and if nothing differs all is the same.
 use Rattle.std.proofs.Common.{◌≡◌, ◌∙◌, ap, refl, ℕ, ◌+◌, ◌-◌, Bool, true, false, not, ◌&&◌, eqb, if◌then◌else◌, List}
 use Rattle.std.proofs.Common.{[], ◌∷◌, find, is_some, get_or, Option, Some, None, inl, inr, arith}
 use Rattle.std.proofs.lemmas.Bool.{eqb-true, false≢true, ne_eqb}
@@ -61,7 +61,7 @@ in_force_is t k x lines fees_are =
     ap (λ (l : CellLines). both (get_or (rates_of t.lines) l.rate none) (fees_in (tables_of t k) x)) lines
     ∙ ap (both (rate_in t x)) fees_are
 
--- where one of some kinds passes a test, one passes each test that is wider
+-- if one of some kinds passes a test, one passes each test that is wider
 some_found : (p q : ChoiceKind → Bool) → ((kind : ChoiceKind) → p kind ≡ true → q kind ≡ true)
     → (kinds : List ChoiceKind) → is_some (find p kinds) ≡ true → is_some (find q kinds) ≡ true
 some_found p q wider [] h = h
@@ -89,7 +89,7 @@ difference_carried n c one other asked h =
     (λ kind. and_carried (is_asked kind n) (is_asked kind c) (not (is_same_of kind one other)) (asked kind))
     compared_kinds h
 
--- ---- where nothing differs
+-- ---- if nothing differs
 
 compared : (kind : ChoiceKind) → IsIn kind compared_kinds
 compared Initial = inl refl

@@ -23,13 +23,14 @@ use Rattle.tariff_compare.specs.declared.difference.Difference.TheVariants.{Deci
 use Rattle.tariff_compare.specs.declared.difference.Difference.TheVariants.{Supplement, In}
 use Rattle.tariff_compare.specs.declared.meter_context.MeterContext.{MeterContext}
 use Rattle.tariff_compare.proofs.Frames.{both_parts, rounding_self, same_roundings, same_supplements, supplement_self}
+use Rattle.tariff_compare.proofs.Numbers.{IsIn}
 
 none_some : {A : Type 0} {a : A} → None ≡ Some a → ⊥
 none_some h = cc
 
 -- ---- the first that passes a test
 
--- where a test fails what stands there is found, and else something behind it
+-- if a test fails, what stands there is found, and else something behind it
 by_test : (d e : Difference) (b : Bool) (rest : Option Difference) → (if not b then Some d else rest) ≡ Some e
     → ((b ≡ false) × (d ≡ e)) ⊎ ((b ≡ true) × (rest ≡ Some e))
 by_test d e true rest h = inr (refl, h)
@@ -41,18 +42,18 @@ mapped None e h = absurd (none_some h)
 mapped (Some n) e h = (n, refl, cc)
 
 -- the number that is found passes the test, and no number before it does
-found_passes : (p : ℕ → Bool) (xs : List ℕ) (n : ℕ) → find p xs ≡ Some n → p n ≡ true
+pub found_passes : (p : ℕ → Bool) (xs : List ℕ) (n : ℕ) → find p xs ≡ Some n → (p n ≡ true) × IsIn n xs
 found_passes p [] n h = absurd (none_some h)
 found_passes p (x ∷ xs) n h = by (p x) refl h (found_passes p xs n)
   where
     by : (b : Bool) → p x ≡ b → (if b then Some x else find p xs) ≡ Some n
-        → (find p xs ≡ Some n → p n ≡ true) → p n ≡ true
+        → (find p xs ≡ Some n → (p n ≡ true) × IsIn n xs) → (p n ≡ true) × IsIn n (x ∷ xs)
     by true is found later =
         let same : x ≡ n = cc in
-        subst (λ (y : ℕ). p y ≡ true) same is
-    by false is found later = later found
+        (subst (λ (y : ℕ). p y ≡ true) same is, inl (sym same))
+    by false is found later = let there = later found in (there.0, inr there.1)
 
-earlier_fail : (p : ℕ → Bool) (a count n m : ℕ) → find p (range_with_len a count) ≡ Some n → a ≤ m → m < n
+pub earlier_fail : (p : ℕ → Bool) (a count n m : ℕ) → find p (range_with_len a count) ≡ Some n → a ≤ m → m < n
     → p m ≡ false
 earlier_fail p a zero n m h from to = absurd (none_some h)
 earlier_fail p a (suc count) n m h from to = by (p a) refl h (earlier_fail p (a + 1) count n m)
@@ -125,7 +126,7 @@ frame_is_first t u d t_is u_is h =
         let found = mapped (other_supplement t u) d h in
         let differs = not-true (is_same_supplement (supplement_of t.lines found.0) (supplement_of u.lines found.0))
         (found_passes (λ number. not (is_same_supplement (supplement_of t.lines number) (supplement_of u.lines number)))
-        supplement_numbers found.0 found.1) in
+        supplement_numbers found.0 found.1).0 in
         subst (IsFirstOfFrame t u) found.2 (record {
           there = λ same. false≢true (sym differs
               ∙ (ap (is_same_supplement (supplement_of t.lines found.0)) (sym same)

@@ -13,9 +13,8 @@ use Rattle.tariff_compare.specs.declared.question.Question.{Question}
 use Rattle.tariff_compare.proofs.Bridge.{met_is}
 use Rattle.tariff_compare.proofs.Carried.{StandsFor, met_carried}
 use Rattle.tariff_compare.proofs.Covers.{IsCover, cover}
-use Rattle.tariff_compare.proofs.Found.{IsOfGrid, grid_first}
+use Rattle.tariff_compare.proofs.Found.{IsFirstOf, IsOfGrid, grid_first}
 use Rattle.tariff_compare.proofs.GridIs.{is_ordered, of_grid}
-use Rattle.tariff_compare.proofs.Levels.{IsFirstOf}
 use Rattle.tariff_compare.proofs.Order.{le_before}
 
 -- two tariffs that are compared
@@ -36,7 +35,7 @@ other_context t u k m are is = record {
   pulses = is.pulses;
 }
 
--- where the answer is yes, it is yes in the context of the grid that stands for it
+-- if the answer is yes, it is yes in the context of the grid that stands for it
 met_there : (t u : Tree) (k : ℕ) (question : Question) (n c : MeterContext) → AreCompared t u k → IsMeterContext t n
     → IsCover t u k n c → is_met t u k question n ≡ true → is_met_by (side_of t k) (side_of u k) question c ≡ true
 met_there t u k question n c are is cover h =

@@ -1,16 +1,25 @@
 -- What is found in a grid is the first of its contexts that meets the test.
-use Rattle.std.proofs.Common.{◌≡◌, ◌∙◌, ap, sym, refl, ℕ, ◌<◌, Bool, true, false, if◌then◌else◌, ◌∷◌, [], Some, None}
-use Rattle.std.proofs.Common.{arith}
-use Rattle.std.proofs.lemmas.Bool.{false≢true}
-use Rattle.tariff_compile.specs.Cells.{IsBefore}
+use Rattle.std.proofs.Common.{◌≡◌, ◌∙◌, ◌⊎◌, ap, sym, subst, refl, ℕ, suc, ◌+◌, ◌-◌, ◌*◌, ◌/◌, ◌%◌, ◌<◌, ◌≤◌}
+use Rattle.std.proofs.Common.{Bool, true, false, ◌&&◌, if◌then◌else◌, find, get_or, length, Option, Some, None}
+use Rattle.std.proofs.Common.{option_map, div-one, mul-one, inl, inr, arith}
+use Rattle.std.proofs.lemmas.List.{length-map}
+use Rattle.std.proofs.lemmas.Bool.{cases_lt, false≢true}
+use Rattle.std.specs.List.{range_with_len}
+use Rattle.tariff_check.specs.Cuts.{IsRising}
+use Rattle.tariff_compile.proofs.Laws.{cells_are_numbered_in_order-number, cells_are_numbered_in_order-order}
+use Rattle.tariff_compile.proofs.Laws.{cells_are_numbered_in_order-place}
+use Rattle.tariff_compile.specs.Cells.{IsBefore, IsBelow, bands_of, cell_count, cell_number, places_of}
+use Rattle.tariff_compile.specs.declared.parts.Bands.{Bands}
 use Rattle.tariff_compare.specs.Contexts.{IsEarlier, day_place}
 use Rattle.tariff_compare.specs.Grids.{GridLists, is_meter_time}
-use Rattle.tariff_compare.specs.Searches.{at_minutes, at_pulses, at_ticks, first_of_all, if_met, if_time, in_grid}
-use Rattle.tariff_compare.specs.Searches.{in_zones, on_days}
+use Rattle.tariff_compare.specs.Searches.{IsNumbered, context_count, context_of, context_with, day_numbers, day_part}
+use Rattle.tariff_compare.specs.Searches.{in_grid, is_found}
 use Rattle.tariff_compare.specs.declared.day.Day.{Day}
 use Rattle.tariff_compare.specs.declared.meter_context.MeterContext.{MeterContext}
-use Rattle.tariff_compare.proofs.Levels.{IsAtOne, IsFirstOf, Rises, level, same_kind}
-use Rattle.tariff_compare.proofs.Order.{refused, strip}
+use Rattle.tariff_compare.proofs.FirstParts.{earlier_fail, found_passes}
+use Rattle.tariff_compare.proofs.Frames.{both_parts, none_found}
+use Rattle.tariff_compare.proofs.GridDays.{AreRisingDays}
+use Rattle.tariff_compare.proofs.Numbers.{IsIn, at_place, place_in, range_in, range_within}
 
 -- ---- contexts by their parts
 
@@ -22,269 +31,268 @@ same_parts : (a b c d e f a₂ b₂ c₂ d₂ e₂ f₂ : ℕ) → a ≡ a₂ �
     → context_is a b c d e f ≡ context_is a₂ b₂ c₂ d₂ e₂ f₂
 same_parts a b c d e f a₂ b₂ c₂ d₂ e₂ f₂ h₁ h₂ h₃ h₄ h₅ h₆ = cc
 
--- contexts with the same parts are the same
-pub same_context : (m n : MeterContext) → m.position ≡ n.position → m.zone ≡ n.zone → m.day ≡ n.day
-    → m.minute ≡ n.minute → m.ticks ≡ n.ticks → m.pulses ≡ n.pulses → m ≡ n
-same_context m n position zone day minute ticks pulses =
-    same_parts _ _ _ _ _ _ _ _ _ _ _ _ position zone day minute ticks pulses
-
--- a context that has the first parts of another
-abbrev Fix1 : (from n : MeterContext) → Type 0
-Fix1 from n = n.position ≡ from.position
-
-abbrev Fix2 : (from n : MeterContext) → Type 0
-Fix2 from n = Fix1 from n × (n.zone ≡ from.zone)
-
-abbrev Fix3 : (from n : MeterContext) → Type 0
-Fix3 from n = Fix2 from n × (n.day ≡ from.day)
-
-abbrev Fix4 : (from n : MeterContext) → Type 0
-Fix4 from n = Fix3 from n × (n.minute ≡ from.minute)
-
-abbrev Fix5 : (from n : MeterContext) → Type 0
-Fix5 from n = Fix4 from n × (n.ticks ≡ from.ticks)
-
--- of two such, the parts that follow decide which is earlier
-after1 : (from m n : MeterContext) → Fix1 from m → Fix1 from n → IsEarlier n m → IsBefore (n.zone ∷ day_place n.day
-    ∷ n.minute ∷ n.ticks ∷ n.pulses ∷ []) (m.zone ∷ day_place m.day ∷ m.minute ∷ m.ticks ∷ m.pulses ∷ [])
-after1 from m n fm fn earlier =
-    strip n.position m.position (n.zone ∷ day_place n.day ∷ n.minute ∷ n.ticks ∷ n.pulses ∷ [])
-    (m.zone ∷ day_place m.day ∷ m.minute ∷ m.ticks ∷ m.pulses ∷ []) (fn ∙ sym fm) earlier
-
-after2 : (from m n : MeterContext) → Fix2 from m → Fix2 from n → IsEarlier n m → IsBefore
-    (day_place n.day ∷ n.minute ∷ n.ticks ∷ n.pulses ∷ []) (day_place m.day ∷ m.minute ∷ m.ticks ∷ m.pulses ∷ [])
-after2 from m n fm fn earlier =
-    strip n.zone m.zone (day_place n.day ∷ n.minute ∷ n.ticks ∷ n.pulses ∷ [])
-    (day_place m.day ∷ m.minute ∷ m.ticks ∷ m.pulses ∷ []) (fn.1 ∙ sym fm.1) (after1 from m n fm.0 fn.0 earlier)
-
-after3 : (from m n : MeterContext) → Fix3 from m → Fix3 from n → IsEarlier n m
-    → IsBefore (n.minute ∷ n.ticks ∷ n.pulses ∷ []) (m.minute ∷ m.ticks ∷ m.pulses ∷ [])
-after3 from m n fm fn earlier =
-    strip (day_place n.day) (day_place m.day) (n.minute ∷ n.ticks ∷ n.pulses ∷ []) (m.minute ∷ m.ticks ∷ m.pulses ∷ [])
-    (ap day_place (fn.1 ∙ sym fm.1)) (after2 from m n fm.0 fn.0 earlier)
-
-after4 : (from m n : MeterContext) → Fix4 from m → Fix4 from n → IsEarlier n m
-    → IsBefore (n.ticks ∷ n.pulses ∷ []) (m.ticks ∷ m.pulses ∷ [])
-after4 from m n fm fn earlier =
-    strip n.minute m.minute (n.ticks ∷ n.pulses ∷ []) (m.ticks ∷ m.pulses ∷ []) (fn.1 ∙ sym fm.1)
-    (after3 from m n fm.0 fn.0 earlier)
-
-after5 : (from m n : MeterContext) → Fix5 from m → Fix5 from n → IsEarlier n m
-    → IsBefore (n.pulses ∷ []) (m.pulses ∷ [])
-after5 from m n fm fn earlier =
-    strip n.ticks m.ticks (n.pulses ∷ []) (m.pulses ∷ []) (fn.1 ∙ sym fm.1) (after4 from m n fm.0 fn.0 earlier)
-
--- ---- contexts of a grid
-
-abbrev pub HasPosition : (n : ℕ) → MeterContext → Type 0
-HasPosition n m = m.position ≡ n
-
-abbrev pub HasZone : (n : ℕ) → MeterContext → Type 0
-HasZone n m = m.zone ≡ n
-
-abbrev pub IsOn : Day → MeterContext → Type 0
-IsOn d m = m.day ≡ d.number
-
-abbrev pub HasMinute : (n : ℕ) → MeterContext → Type 0
-HasMinute n m = m.minute ≡ n
-
-abbrev pub HasTicks : (n : ℕ) → MeterContext → Type 0
-HasTicks n m = m.ticks ≡ n
-
-abbrev pub HasPulses : (n : ℕ) → MeterContext → Type 0
-HasPulses n m = m.pulses ≡ n
-
--- its last parts are among those of the grid
-abbrev pub Free5 : GridLists → MeterContext → Type 0
-Free5 grid n = IsAtOne HasPulses grid.pulses n
-
-abbrev pub Free4 : GridLists → MeterContext → Type 0
-Free4 grid n = IsAtOne HasTicks grid.ticks n × Free5 grid n
-
-abbrev pub FreeTime : GridLists → MeterContext → Type 0
-FreeTime grid n = (is_meter_time n.day n.minute ≡ true) × Free4 grid n
-
-abbrev pub Free3 : GridLists → MeterContext → Type 0
-Free3 grid n = IsAtOne HasMinute grid.minutes n × FreeTime grid n
-
-abbrev pub Free2 : GridLists → MeterContext → Type 0
-Free2 grid n = IsAtOne IsOn grid.days n × Free3 grid n
-
-abbrev pub Free1 : GridLists → MeterContext → Type 0
-Free1 grid n = IsAtOne HasZone grid.zones n × Free2 grid n
-
--- a context is one of a grid
-abbrev pub IsOfGrid : GridLists → MeterContext → Type 0
-IsOfGrid grid n = IsAtOne HasPosition grid.positions n × Free1 grid n
-
--- a number, or a day by its place, is below another
-abbrev pub Below : ℕ → ℕ → Type 0
-Below x y = x < y
-
-abbrev pub BelowDay : Day → Day → Type 0
-BelowDay d e = day_place d.number < day_place e.number
+-- a context is one of a grid if each list has its part, and it is a time of the meter
+pub record IsOfGrid (grid : GridLists) (n : MeterContext) : Type 0 where
+  pub position : IsIn n.position grid.positions
+  pub zone : IsIn n.zone grid.zones
+  pub day : IsIn n.day (day_numbers grid)
+  pub time : is_meter_time n.day n.minute ≡ true
+  pub minute : IsIn n.minute grid.minutes
+  pub ticks : IsIn n.ticks grid.ticks
+  pub pulses : IsIn n.pulses grid.pulses
 
 -- a grid is in order if each of its lists is
 pub record IsOrderedGrid (grid : GridLists) : Type 0 where
-  pub positions : Rises Below grid.positions
-  pub zones : Rises Below grid.zones
-  pub days : Rises BelowDay grid.days
-  pub minutes : Rises Below grid.minutes
-  pub ticks : Rises Below grid.ticks
-  pub pulses : Rises Below grid.pulses
+  pub positions : IsRising grid.positions
+  pub zones : IsRising grid.zones
+  pub days : AreRisingDays (day_numbers grid)
+  pub minutes : IsRising grid.minutes
+  pub ticks : IsRising grid.ticks
+  pub pulses : IsRising grid.pulses
 
--- ---- level by level
+-- ---- contexts are numbered as cells are, of which the days stand for the weekdays, and the ticks and the pulses for
+-- the last two dimensions
 
-met_by : (met : MeterContext → Bool) (q : MeterContext) (b : Bool) → met q ≡ b
-    → IsFirstOf met (λ n. n ≡ q) (if b then Some q else None)
-met_by met q true is = (refl, is, λ n same earlier. absurd (irreflexive n same earlier))
-  where
-    irreflexive : (n : MeterContext) → n ≡ q → IsEarlier n q → ⊥
-    irreflexive n same earlier =
-        let fn : Fix5 q n = (
-          (
-            (
-              (ap (λ (c : MeterContext). c.position) same, ap (λ (c : MeterContext). c.zone) same),
-              ap (λ (c : MeterContext). c.day) same,
-            ),
-            ap (λ (c : MeterContext). c.minute) same,
-          ),
-          ap (λ (c : MeterContext). c.ticks) same,
-        ) in
-        strip n.pulses q.pulses [] [] (ap (λ (c : MeterContext). c.pulses) same)
-        (after5 q q n ((((refl, refl), refl), refl), refl) fn earlier)
-met_by met q false is = λ n same. ap met same ∙ is
+abbrev sizes_in : GridLists → Bands
+sizes_in grid = record {
+  position = length grid.positions;
+  zone = length grid.zones;
+  weekday = length grid.days;
+  holiday = 1;
+  month_day = 1;
+  minute = length grid.minutes;
+  distance = length grid.ticks;
+  time = length grid.pulses;
+}
 
-pulses_first : (met : MeterContext → Bool) (grid : GridLists) (from : MeterContext) → IsOrderedGrid grid
-    → IsFirstOf met (λ n. Fix5 from n × Free5 grid n) (at_pulses met grid from)
-pulses_first met grid from ordered =
-    level met Below HasPulses (Fix5 from) (λ n. if_met met (record from { pulses = n })) grid.pulses
-    (λ x y m n fm fn am an below earlier. refused n.pulses m.pulses [] [] (omega (arith, am, an, below))
-    (after5 from m n fm fn earlier))
-    (λ x. same_kind met (λ n. n ≡ record from { pulses = x }) (λ n. Fix5 from n × HasPulses x n)
-    (if_met met (record from { pulses = x }))
-    (λ n same. (
-      (
-        (
-          (
-            (ap (λ (c : MeterContext). c.position) same, ap (λ (c : MeterContext). c.zone) same),
-            ap (λ (c : MeterContext). c.day) same,
-          ),
-          ap (λ (c : MeterContext). c.minute) same,
-        ),
-        ap (λ (c : MeterContext). c.ticks) same,
+-- the context whose parts stand at these places
+abbrev context_in : GridLists → Bands → MeterContext
+context_in grid b = record {
+  position = get_or grid.positions b.position 0;
+  zone = get_or grid.zones b.zone 0;
+  day = get_or (day_numbers grid) b.weekday 0;
+  minute = get_or grid.minutes b.minute 0;
+  ticks = get_or grid.ticks b.distance 0;
+  pulses = get_or grid.pulses b.time 0;
+}
+
+by_one : (n : ℕ) → n / 1 / 1 ≡ n
+by_one n = div-one (n / 1) ∙ div-one n
+
+times_one : (n : ℕ) → n * 1 * 1 ≡ n
+times_one n = mul-one (n * 1) ∙ mul-one n
+
+count_is : (grid : GridLists) → cell_count (sizes_in grid) ≡ context_count grid
+count_is grid =
+    ap (λ (n : ℕ). n * length grid.minutes * length grid.ticks * length grid.pulses)
+    (times_one (length grid.positions * length grid.zones * length grid.days))
+
+context_at : (grid : GridLists) (n : ℕ) → context_in grid (bands_of (sizes_in grid) n) ≡ context_of grid n
+context_at grid n = ap (context_with grid n) (by_one (day_part grid n))
+
+place_of : (grid : GridLists) (n : ℕ) → n < context_count grid
+    → IsBelow (sizes_in grid) (bands_of (sizes_in grid) n)
+    × (cell_number (sizes_in grid) (bands_of (sizes_in grid) n) ≡ n)
+place_of grid n within =
+    cells_are_numbered_in_order-place (sizes_in grid) n (subst (λ (count : ℕ). n < count) (sym (count_is grid)) within)
+
+-- each number below the count is that of a context
+pub numbered : (grid : GridLists) (n : ℕ) → n < context_count grid → IsNumbered grid n
+numbered grid n within =
+    let below = (place_of grid n within).0 in
+    let days = by_one (day_part grid n) in
+    record {
+      position =
+          subst (λ (x : ℕ). x / length grid.days / length grid.zones < length grid.positions) days below.position;
+      zone = subst (λ (x : ℕ). x / length grid.days % length grid.zones < length grid.zones) days below.zone;
+      day = subst (λ (x : ℕ). x % length grid.days < length grid.days) days below.weekday;
+      minute = below.minute;
+      ticks = below.distance;
+      pulses = below.time;
+    }
+
+-- the context of a number is one of the grid if it is a time of the meter
+of_number : (grid : GridLists) (n : ℕ) → IsNumbered grid n
+    → is_meter_time (context_of grid n).day (context_of grid n).minute ≡ true → IsOfGrid grid (context_of grid n)
+of_number grid n is time = record {
+  position = at_place grid.positions _ is.position;
+  zone = at_place grid.zones _ is.zone;
+  day = at_place (day_numbers grid) (day_part grid n % length grid.days)
+      (omega (arith, is.day, length-map grid.days (λ (d : Day). d.number)));
+  time = time;
+  minute = at_place grid.minutes _ is.minute;
+  ticks = at_place grid.ticks _ is.ticks;
+  pulses = at_place grid.pulses _ is.pulses;
+}
+
+-- each context of the grid has a number
+number_of : (grid : GridLists) (n : MeterContext) → IsOfGrid grid n
+    → (k : ℕ) × (k < context_count grid) × (context_of grid k ≡ n)
+number_of grid n is =
+    let position = place_in n.position grid.positions is.position in
+    let zone = place_in n.zone grid.zones is.zone in
+    let day = place_in n.day (day_numbers grid) is.day in
+    let minute = place_in n.minute grid.minutes is.minute in
+    let ticks = place_in n.ticks grid.ticks is.ticks in
+    let pulses = place_in n.pulses grid.pulses is.pulses in
+    let b : Bands = record {
+      position = position.0;
+      zone = zone.0;
+      weekday = day.0;
+      holiday = 0;
+      month_day = 0;
+      minute = minute.0;
+      distance = ticks.0;
+      time = pulses.0;
+    } in
+    let below : IsBelow (sizes_in grid) b = record {
+      position = position.1;
+      zone = zone.1;
+      weekday = omega (arith, day.1, length-map grid.days (λ (d : Day). d.number));
+      holiday = omega arith;
+      month_day = omega arith;
+      minute = minute.1;
+      distance = ticks.1;
+      time = pulses.1;
+    } in
+    let k = cell_number (sizes_in grid) b in
+    let number = cells_are_numbered_in_order-number (sizes_in grid) b below in (
+      k,
+      subst (λ (count : ℕ). k < count) (count_is grid) number.0,
+      sym (context_at grid k) ∙ ap (context_in grid) number.1
+          ∙ same_parts _ _ _ _ _ _ _ _ _ _ _ _ position.2 zone.2 day.2 minute.2 ticks.2 pulses.2,
+    )
+
+-- ---- the order of contexts is that of their numbers
+
+lower : (value : ℕ → ℕ) (count i j : ℕ) (Rest More : Type 0)
+    → ((i j : ℕ) → i < j → j < count → value i < value j) → i < count → j < count → (Rest → More)
+    → (value i < value j) ⊎ ((value i ≡ value j) × Rest) → (i < j) ⊎ ((i ≡ j) × More)
+lower value count i j Rest More rises here there more (inl lt) =
+    elim (cases_lt i j) [
+      | inl before ↦ inl before
+      | inr from ↦ elim (cases_lt j i) [
+        | inl after ↦ absurd (omega (arith, lt, rises j i after here))
+        | inr to ↦ let same : i ≡ j = omega (arith, from, to) in absurd (omega (arith, lt, ap value same))
+      ]
+    ]
+lower value count i j Rest More rises here there more (inr both) =
+    let level : value i ≡ value j = both.0 in
+    elim (cases_lt i j) [
+      | inl before ↦ absurd (omega (arith, level, rises i j before there))
+      | inr from ↦ elim (cases_lt j i) [
+        | inl after ↦ absurd (omega (arith, level, rises j i after here))
+        | inr to ↦ inr (omega (arith, from, to), more both.1)
+      ]
+    ]
+
+places_before : (grid : GridLists) (b c : Bands) → IsOrderedGrid grid → IsBelow (sizes_in grid) b
+    → IsBelow (sizes_in grid) c → IsEarlier (context_in grid b) (context_in grid c)
+    → IsBefore (places_of b) (places_of c)
+places_before grid b c ordered one other earlier =
+    let more = length-map grid.days (λ (d : Day). d.number) in
+    lower (λ i. get_or grid.positions i 0) (length grid.positions) b.position c.position _ _ ordered.positions
+    one.position other.position
+    (lower (λ i. get_or grid.zones i 0) (length grid.zones) b.zone c.zone _ _ ordered.zones one.zone other.zone
+    (lower (λ i. day_place (get_or (day_numbers grid) i 0)) (length (day_numbers grid)) b.weekday c.weekday _ _
+    ordered.days (omega (arith, one.weekday, more)) (omega (arith, other.weekday, more))
+    (λ rest. inr (
+      omega (arith, one.holiday, other.holiday),
+      inr (
+        omega (arith, one.month_day, other.month_day),
+        lower (λ i. get_or grid.minutes i 0) (length grid.minutes) b.minute c.minute _ _ ordered.minutes one.minute
+            other.minute
+            (lower (λ i. get_or grid.ticks i 0) (length grid.ticks) b.distance c.distance _ _ ordered.ticks one.distance
+            other.distance
+            (lower (λ i. get_or grid.pulses i 0) (length grid.pulses) b.time c.time _ _ ordered.pulses one.time
+            other.time
+            (λ none. none))) rest,
       ),
-      ap (λ (c : MeterContext). c.pulses) same,
-    ))
-    (λ n kind. same_context n
-    (record from { pulses = x }) kind.0.0.0.0.0 kind.0.0.0.0.1 kind.0.0.0.1 kind.0.0.1 kind.0.1 kind.1)
-    (met_by met (record from { pulses = x }) (met (record from { pulses = x })) refl))
-    ordered.pulses
+    )))) earlier
 
-ticks_first : (met : MeterContext → Bool) (grid : GridLists) (from : MeterContext) → IsOrderedGrid grid
-    → IsFirstOf met (λ n. Fix4 from n × Free4 grid n) (at_ticks met grid from)
-ticks_first met grid from ordered =
-    same_kind met (λ n. (Fix4 from n × Free5 grid n) × IsAtOne HasTicks grid.ticks n) (λ n. Fix4 from n × Free4 grid n)
-    (at_ticks met grid from)
-    (λ n kind. (kind.0.0, (kind.1, kind.0.1)))
-    (λ n kind. ((kind.0, kind.1.1), kind.1.0))
-    (level met Below HasTicks (λ n. Fix4 from n × Free5 grid n)
-    (λ n. at_pulses met grid (record from { ticks = n })) grid.ticks
-    (λ x y m n fm fn am an below earlier. refused n.ticks m.ticks (n.pulses ∷ []) (m.pulses ∷ [])
-    (omega (arith, am, an, below)) (after4 from m n fm.0 fn.0 earlier))
-    (λ x. same_kind met (λ n. Fix5 (record from { ticks = x }) n × Free5 grid n)
-    (λ n. (Fix4 from n × Free5 grid n) × HasTicks x n) (at_pulses met grid (record from { ticks = x }))
-    (λ n kind. ((kind.0.0, kind.1), kind.0.1))
-    (λ n kind. ((kind.0.0, kind.1), kind.0.1))
-    (pulses_first met grid (record from { ticks = x }) ordered))
-    ordered.ticks)
+-- an earlier context has a lower number
+number_order : (grid : GridLists) (n m : ℕ) → IsOrderedGrid grid → n < context_count grid → m < context_count grid
+    → IsEarlier (context_of grid n) (context_of grid m) → n < m
+number_order grid n m ordered here there earlier =
+    let sizes = sizes_in grid in
+    let b = bands_of sizes n in
+    let c = bands_of sizes m in
+    let one = place_of grid n here in
+    let other = place_of grid m there in
+    let before : IsEarlier (context_in grid b) (context_in grid c) =
+    subst (λ (x : MeterContext). IsEarlier x (context_in grid c)) (sym (context_at grid n))
+    (subst (IsEarlier (context_of grid n)) (sym (context_at grid m)) earlier) in
+    let lt = cells_are_numbered_in_order-order sizes b c one.0 other.0
+    (places_before grid b c ordered one.0 other.0 before) in
+    omega (arith, lt, one.1, other.1)
 
-time_by : (met : MeterContext → Bool) (grid : GridLists) (from : MeterContext) (b : Bool)
-    → is_meter_time from.day from.minute ≡ b → IsOrderedGrid grid
-    → IsFirstOf met (λ n. Fix4 from n × FreeTime grid n) (if b then at_ticks met grid from else None)
-time_by met grid from true is ordered =
-    same_kind met (λ n. Fix4 from n × Free4 grid n) (λ n. Fix4 from n × FreeTime grid n) (at_ticks met grid from)
-    (λ n kind. (kind.0, (rw (kind.0.0.1, kind.0.1) is, kind.1)))
-    (λ n kind. (kind.0, kind.1.1))
-    (ticks_first met grid from ordered)
-time_by met grid from false is ordered = λ n kind.
-    let there = rw (kind.0.0.1, kind.0.1) at kind.1.0 in
-    absurd (false≢true (sym is ∙ there))
+-- ---- the search
 
-time_first : (met : MeterContext → Bool) (grid : GridLists) (from : MeterContext) → IsOrderedGrid grid
-    → IsFirstOf met (λ n. Fix4 from n × FreeTime grid n) (if_time met grid from)
-time_first met grid from ordered = time_by met grid from (is_meter_time from.day from.minute) refl ordered
+-- an answer is the first context of a kind that meets a test, or none if none does
+abbrev pub IsFirstOf : (MeterContext → Bool) → (MeterContext → Type 0) → Option MeterContext → Type 0
+IsFirstOf met Kind None = (n : MeterContext) → Kind n → met n ≡ false
+IsFirstOf met Kind (Some m) =
+    Kind m × (met m ≡ true) × ((n : MeterContext) → Kind n → IsEarlier n m → met n ≡ false)
 
-minutes_first : (met : MeterContext → Bool) (grid : GridLists) (from : MeterContext) → IsOrderedGrid grid
-    → IsFirstOf met (λ n. Fix3 from n × Free3 grid n) (at_minutes met grid from)
-minutes_first met grid from ordered =
-    same_kind met (λ n. (Fix3 from n × FreeTime grid n) × IsAtOne HasMinute grid.minutes n)
-    (λ n. Fix3 from n × Free3 grid n) (at_minutes met grid from)
-    (λ n kind. (kind.0.0, (kind.1, kind.0.1)))
-    (λ n kind. ((kind.0, kind.1.1), kind.1.0))
-    (level met Below HasMinute (λ n. Fix3 from n × FreeTime grid n)
-    (λ n. if_time met grid (record from { minute = n })) grid.minutes
-    (λ x y m n fm fn am an below earlier. refused n.minute m.minute (n.ticks ∷ n.pulses ∷ []) (m.ticks ∷ m.pulses ∷ [])
-    (omega (arith, am, an, below)) (after3 from m n fm.0 fn.0 earlier))
-    (λ x. same_kind met (λ n. Fix4 (record from { minute = x }) n × FreeTime grid n)
-    (λ n. (Fix3 from n × FreeTime grid n) × HasMinute x n) (if_time met grid (record from { minute = x }))
-    (λ n kind. ((kind.0.0, kind.1), kind.0.1))
-    (λ n kind. ((kind.0.0, kind.1), kind.0.1))
-    (time_first met grid (record from { minute = x }) ordered))
-    ordered.minutes)
+other_fails : (a b : Bool) → a ≡ true → (a && b) ≡ false → b ≡ false
+other_fails true b is h = h
+other_fails false b is h = absurd (false≢true is)
 
-days_first : (met : MeterContext → Bool) (grid : GridLists) (from : MeterContext) → IsOrderedGrid grid
-    → IsFirstOf met (λ n. Fix2 from n × Free2 grid n) (on_days met grid from)
-days_first met grid from ordered =
-    same_kind met (λ n. (Fix2 from n × Free3 grid n) × IsAtOne IsOn grid.days n) (λ n. Fix2 from n × Free2 grid n)
-    (on_days met grid from)
-    (λ n kind. (kind.0.0, (kind.1, kind.0.1)))
-    (λ n kind. ((kind.0, kind.1.1), kind.1.0))
-    (level met BelowDay IsOn (λ n. Fix2 from n × Free3 grid n)
-    (λ (d : Day). at_minutes met grid (record from { day = d.number })) grid.days
-    (λ x y m n fm fn am an below earlier. refused (day_place n.day) (day_place m.day) (n.minute ∷ n.ticks ∷ n.pulses
-    ∷ []) (m.minute ∷ m.ticks ∷ m.pulses ∷ []) (rw (am, an) below) (after2 from m n fm.0 fn.0 earlier))
-    (λ x. same_kind met (λ n. Fix3 (record from { day = x.number }) n × Free3 grid n)
-    (λ n. (Fix2 from n × Free3 grid n) × IsOn x n) (at_minutes met grid (record from { day = x.number }))
-    (λ n kind. ((kind.0.0, kind.1), kind.0.1))
-    (λ n kind. ((kind.0.0, kind.1), kind.0.1))
-    (minutes_first met grid (record from { day = x.number }) ordered))
-    ordered.days)
+-- a context of the grid whose number doesn't pass doesn't meet the test
+unmet : (met : MeterContext → Bool) (grid : GridLists) (k : ℕ) (n : MeterContext) → IsOfGrid grid n
+    → context_of grid k ≡ n → is_found met (context_of grid k) ≡ false → met n ≡ false
+unmet met grid k n is same fails =
+    other_fails (is_meter_time n.day n.minute) (met n) is.time (ap (is_found met) (sym same) ∙ fails)
 
-zones_first : (met : MeterContext → Bool) (grid : GridLists) (from : MeterContext) → IsOrderedGrid grid
-    → IsFirstOf met (λ n. Fix1 from n × Free1 grid n) (in_zones met grid from)
-zones_first met grid from ordered =
-    same_kind met (λ n. (Fix1 from n × Free2 grid n) × IsAtOne HasZone grid.zones n) (λ n. Fix1 from n × Free1 grid n)
-    (in_zones met grid from)
-    (λ n kind. (kind.0.0, (kind.1, kind.0.1)))
-    (λ n kind. ((kind.0, kind.1.1), kind.1.0))
-    (level met Below HasZone (λ n. Fix1 from n × Free2 grid n)
-    (λ n. on_days met grid (record from { zone = n })) grid.zones
-    (λ x y m n fm fn am an below earlier. refused n.zone m.zone (day_place n.day ∷ n.minute ∷ n.ticks ∷ n.pulses ∷ [])
-    (day_place m.day ∷ m.minute ∷ m.ticks ∷ m.pulses ∷ []) (omega (arith, am, an, below))
-    (after1 from m n fm.0 fn.0 earlier))
-    (λ x. same_kind met (λ n. Fix2 (record from { zone = x }) n × Free2 grid n)
-    (λ n. (Fix1 from n × Free2 grid n) × HasZone x n) (on_days met grid (record from { zone = x }))
-    (λ n kind. ((kind.0.0, kind.1), kind.0.1))
-    (λ n kind. ((kind.0.0, kind.1), kind.0.1))
-    (days_first met grid (record from { zone = x }) ordered))
-    ordered.zones)
+first_by : (met : MeterContext → Bool) (grid : GridLists) (r : Option ℕ) → IsOrderedGrid grid
+    → find (λ number. is_found met (context_of grid number)) (range_with_len 0 (context_count grid)) ≡ r
+    → IsFirstOf met (IsOfGrid grid) (option_map (context_of grid) r)
+first_by met grid None ordered found = λ n is.
+    let k = number_of grid n is in
+    let numbers = range_with_len 0 (context_count grid) in
+    unmet met grid k.0 n is k.2 (none_found (λ number. is_found met (context_of grid number)) numbers found k.0
+    (range_within 0 (context_count grid) k.0 (omega arith) (omega (arith, k.1))))
+first_by met grid (Some i) ordered found =
+    let p : ℕ → Bool = λ number. is_found met (context_of grid number) in
+    let numbers = range_with_len 0 (context_count grid) in
+    let is = found_passes p numbers i found in
+    let there = range_in 0 (context_count grid) i is.1 in
+    let both = both_parts (is_meter_time (context_of grid i).day (context_of grid i).minute) (met (context_of grid i))
+    is.0 in (
+      of_number grid i (numbered grid i (omega (arith, there.1))) both.0,
+      both.1,
+      λ n kind earlier.
+          let k = number_of grid n kind in
+          let lt = number_order grid k.0 i ordered k.1 (omega (arith, there.1))
+          (subst (λ (x : MeterContext). IsEarlier x (context_of grid i)) (sym k.2) earlier) in
+          unmet met grid k.0 n kind k.2 (earlier_fail p 0 (context_count grid) i k.0 found (omega arith) lt),
+    )
 
 -- the search through a grid in order finds the first of its contexts that meets the test
 pub grid_first : (met : MeterContext → Bool) (grid : GridLists) → IsOrderedGrid grid
     → IsFirstOf met (IsOfGrid grid) (in_grid met grid)
-grid_first met grid ordered =
-    same_kind met (λ n. Free1 grid n × IsAtOne HasPosition grid.positions n) (IsOfGrid grid) (in_grid met grid)
-    (λ n kind. (kind.1, kind.0))
-    (λ n kind. (kind.1, kind.0))
-    (level met Below HasPosition (Free1 grid)
-    (λ n. in_zones met grid (record first_of_all { position = n })) grid.positions
-    (λ x y m n fm fn am an below earlier. refused n.position m.position
-    (n.zone ∷ day_place n.day ∷ n.minute ∷ n.ticks ∷ n.pulses ∷ [])
-    (m.zone ∷ day_place m.day ∷ m.minute ∷ m.ticks ∷ m.pulses ∷ []) (omega (arith, am, an, below)) earlier)
-    (λ x. same_kind met (λ n. Fix1 (record first_of_all { position = x }) n × Free1 grid n)
-    (λ n. Free1 grid n × HasPosition x n) (in_zones met grid (record first_of_all { position = x }))
-    (λ n kind. (kind.1, kind.0))
-    (λ n kind. (kind.1, kind.0))
-    (zones_first met grid (record first_of_all { position = x }) ordered))
-    ordered.positions)
+grid_first met grid ordered = first_by met grid
+    (find (λ number. is_found met (context_of grid number)) (range_with_len 0 (context_count grid))) ordered refl
+
+-- ---- number by number
+
+find_next : (p : ℕ → Bool) (n count : ℕ) → n < count → find p (range_with_len n (count - n))
+    ≡ (if p n then Some n else find p (range_with_len (n + 1) (count - (n + 1))))
+find_next p n count lt =
+    let more : count - n ≡ suc (count - (n + 1)) = omega (arith, lt) in
+    ap (λ (k : ℕ). find p (range_with_len n k)) more
+
+pub found_here : (p : ℕ → Bool) (n count : ℕ) → n < count → p n ≡ true
+    → find p (range_with_len n (count - n)) ≡ Some n
+found_here p n count lt is = find_next p n count lt
+    ∙ ap (λ (b : Bool). if b then Some n else find p (range_with_len (n + 1) (count - (n + 1)))) is
+
+pub found_later : (p : ℕ → Bool) (n count : ℕ) → n < count → p n ≡ false
+    → find p (range_with_len n (count - n)) ≡ find p (range_with_len (n + 1) (count - (n + 1)))
+found_later p n count lt is = find_next p n count lt
+    ∙ ap (λ (b : Bool). if b then Some n else find p (range_with_len (n + 1) (count - (n + 1)))) is
+
+pub found_none : (p : ℕ → Bool) (n count : ℕ) → count ≤ n → find p (range_with_len n (count - n)) ≡ None
+found_none p n count le =
+    let none : count - n ≡ 0 = omega (arith, le) in
+    ap (λ (k : ℕ). find p (range_with_len n k)) none

@@ -1,4 +1,4 @@
--- The frame of two tariffs: nothing differs exactly where it is the same.
+-- The frame of two tariffs: nothing differs exactly if it is the same.
 use Rattle.std.proofs.Common.{◌≡◌, ◌∙◌, ◌⊎◌, ap, sym, refl, ℕ, Bool, true, false, not, ◌&&◌, eqb, if◌then◌else◌, List}
 use Rattle.std.proofs.Common.{[], ◌∷◌, find, Option, Some, None, option_map, inl, inr, arith}
 use Rattle.std.proofs.lemmas.Bool.{cases_lt, eq-eqb, eqb-true, false≢true, not-false}
@@ -120,7 +120,7 @@ frame_parts t u h =
       supplements = none_mapped (other_supplement t u) p₅.1;
     }
 
--- where nothing differs, positions and zones are the same
+-- if nothing differs, positions and zones are the same
 pub frame_positions : (t u : Tree) → frame_difference t u ≡ None → positions_of t.lines ≡ positions_of u.lines
 frame_positions t u h = (frame_parts t u h).positions
 

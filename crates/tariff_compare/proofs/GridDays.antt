@@ -1,6 +1,8 @@
 -- The days of the grid: they are in order, and for each day there is one that is like it and no later.
 use Rattle.std.proofs.Common.{◌≡◌, ◌⊎◌, ap, sym, subst, refl, ℕ, zero, suc, ◌+◌, ◌-◌, ◌<◌, ◌≤◌, Bool, true, false, ◌||◌}
-use Rattle.std.proofs.Common.{if◌then◌else◌, List, [], ◌∷◌, ◌++◌, inl, inr, arith}
+use Rattle.std.proofs.Common.{if◌then◌else◌, List, [], ◌∷◌, ◌++◌, length, length-append, map, get_or, inl}
+use Rattle.std.proofs.Common.{inr, arith}
+use Rattle.std.proofs.lemmas.List.{length-map}
 use Rattle.std.proofs.lemmas.Bool.{cases_lt, false≢true}
 use Rattle.std.proofs.lemmas.Bool.Decides.{nat_tests}
 use Rattle.std.specs.List.{list_any}
@@ -10,8 +12,6 @@ use Rattle.tariff_compare.specs.Contexts.{day_place}
 use Rattle.tariff_compare.specs.Grids.{day_at, day_in, days_until, is_alike}
 use Rattle.tariff_compare.specs.declared.day.Day.{Day}
 use Rattle.tariff_compare.proofs.Days.{days_none, next_day}
-use Rattle.tariff_compare.proofs.Found.{BelowDay}
-use Rattle.tariff_compare.proofs.Levels.{IsBelowAll, Rises}
 
 -- ---- places of days
 
@@ -57,7 +57,7 @@ kept_either d e [] (inr h) = absurd h
 kept_either d e (x ∷ ds) (inl h) = inl (inl h)
 kept_either d e (x ∷ ds) (inr h) = elim (kept_either d e ds h) [ inl l ↦ inl (inr l) | inr r ↦ inr r ]
 
--- where one more day is put behind, those there stay, and no other comes
+-- if one more day is put behind, those there stay, and no other comes
 with_kept : (d e : Day) (ds : List Day) (b : Bool) → IsOneOfDays d ds → IsOneOfDays d (if b then ds else ds ++ e ∷ [])
 with_kept d e ds true h = h
 with_kept d e ds false h = kept_left d ds (e ∷ []) h
@@ -142,29 +142,76 @@ kept_like one other (suc count) place lt few =
 
 -- ---- in order
 
-below_end : (d e : Day) (ds : List Day) → IsBelowAll BelowDay d ds → BelowDay d e → IsBelowAll BelowDay d (ds ++ e ∷ [])
+-- days are in the order of days if each comes after those before it
+abbrev pub AreRisingDays : List ℕ → Type 0
+AreRisingDays days = (i j : ℕ) → i < j → j < length days → day_place (get_or days i 0) < day_place (get_or days j 0)
+
+-- a day is below each of some
+abbrev IsBelowAll : Day → List Day → Type 0
+IsBelowAll d [] = Unit {0}
+IsBelowAll d (e ∷ es) = (day_place d.number < day_place e.number) × IsBelowAll d es
+
+-- each day is below those after it
+abbrev Rises : List Day → Type 0
+Rises [] = Unit {0}
+Rises (d ∷ ds) = IsBelowAll d ds × Rises ds
+
+below_end : (d e : Day) (ds : List Day) → IsBelowAll d ds → day_place d.number < day_place e.number
+    → IsBelowAll d (ds ++ e ∷ [])
 below_end d e [] all lt = (lt, tt)
 below_end d e (x ∷ ds) all lt = (all.0, below_end d e ds all.1 lt)
 
-rises_end : (e : Day) (ds : List Day) → Rises BelowDay ds → ((d : Day) → IsOneOfDays d ds → BelowDay d e)
-    → Rises BelowDay (ds ++ e ∷ [])
+rises_end : (e : Day) (ds : List Day) → Rises ds
+    → ((d : Day) → IsOneOfDays d ds → day_place d.number < day_place e.number) → Rises (ds ++ e ∷ [])
 rises_end e [] rises all = (tt, tt)
 rises_end e (x ∷ ds) rises all =
     (below_end x e ds rises.0 (all x (inl refl)), rises_end e ds rises.1 (λ d there. all d (inr there)))
 
-rises_with : (e : Day) (ds : List Day) (b : Bool) → Rises BelowDay ds → ((d : Day) → IsOneOfDays d ds → BelowDay d e)
-    → Rises BelowDay (if b then ds else ds ++ e ∷ [])
+rises_with : (e : Day) (ds : List Day) (b : Bool) → Rises ds
+    → ((d : Day) → IsOneOfDays d ds → day_place d.number < day_place e.number) → Rises (if b then ds else ds ++ e ∷ [])
 rises_with e ds true rises all = rises
 rises_with e ds false rises all = rises_end e ds rises all
 
-pub days_rise : (one other : TableParts) (count : ℕ) → count ≤ 73051 → Rises BelowDay (days_until one other count)
-days_rise one other zero few = subst (Rises BelowDay) (sym (days_none one other)) tt
+days_rise : (one other : TableParts) (count : ℕ) → count ≤ 73051 → Rises (days_until one other count)
+days_rise one other zero few = subst Rises (sym (days_none one other)) tt
 days_rise one other (suc count) few =
     let e = day_in one other (day_at count) in
     let ds = days_until one other count in
-    subst (Rises BelowDay) (sym (next_day one other count))
+    subst Rises (sym (next_day one other count))
     (rises_with e ds (list_any (λ x. is_alike x e) ds) (days_rise one other count (omega arith))
     (λ d there.
     let place = kept_place one other count d there in
     let number : d.number ≡ day_at place.0 = ap (λ (d : Day). d.number) place.2 in
     rw number (places_rise place.0 count place.1 (omega arith))))
+
+above_at : (d : Day) (ds : List Day) (i : ℕ) → IsBelowAll d ds → i < length ds
+    → day_place d.number < day_place (get_or (map (λ (x : Day). x.number) ds) i 0)
+above_at d [] i below within = absurd (omega arith)
+above_at d (e ∷ ds) zero below within = below.0
+above_at d (e ∷ ds) (suc i) below within = above_at d ds i below.1 (omega arith)
+
+rising_at : (ds : List Day) → Rises ds → AreRisingDays (map (λ (x : Day). x.number) ds)
+rising_at [] rises i j lt within = absurd (omega arith)
+rising_at (d ∷ ds) rises i zero lt within = absurd (omega arith)
+rising_at (d ∷ ds) rises zero (suc j) lt within =
+    above_at d ds j rises.0 (omega (arith, within, length-map ds (λ (x : Day). x.number)))
+rising_at (d ∷ ds) rises (suc i) (suc j) lt within = rising_at ds rises.1 i j (omega arith) (omega arith)
+
+-- the days of the grid are in the order of days
+pub days_rising : (one other : TableParts) → AreRisingDays (map (λ (x : Day). x.number) (days_until one other 73051))
+days_rising one other = rising_at (days_until one other 73051) (days_rise one other 73051 (omega arith))
+
+-- they are no more than there are places
+pub days_few : (one other : TableParts) (count : ℕ) → length (days_until one other count) ≤ count
+days_few one other zero = rw (days_none one other) (omega arith)
+days_few one other (suc count) =
+    let e = day_in one other (day_at count) in
+    let ds = days_until one other count in
+    rw (next_day one other count) (by (list_any (λ x. is_alike x e) ds) (days_few one other count))
+  where
+    by : (b : Bool) → length (days_until one other count) ≤ count → length
+        (if b then days_until one other count else days_until one other count ++ day_in one other (day_at count) ∷ [])
+        ≤ suc count
+    by true few = omega (arith, few)
+    by false few =
+        omega (arith, few, length-append (days_until one other count) (day_in one other (day_at count) ∷ []))

@@ -26,8 +26,6 @@ pub mod GridDays
 pub mod EachKind
 -- the laws that the crates above may cite
 pub mod Laws
--- the first answer of one search after another
-pub mod Levels
 -- the days and minutes that a meter has
 pub mod MeterTimes
 -- numbers of the grid

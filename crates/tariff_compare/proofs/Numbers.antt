@@ -3,16 +3,16 @@ use Rattle.std.proofs.Common.{◌≡◌, ◌∙◌, ◌⊎◌, ap, sym, subst, r
 use Rattle.std.proofs.Common.{leb, List, [], ◌∷◌, ◌++◌, length, get_or, inl, inr, arith}
 use Rattle.std.proofs.lemmas.Bool.{cases_lt, le-leb, leb-true, lt-leb}
 use Rattle.std.proofs.lemmas.List.Elements.{All-from_get_or, All-get_or}
+use Rattle.std.proofs.lemmas.List.FromFn.{get_or-range_with_len, length-range_with_len}
 use Rattle.std.proofs.lemmas.List.Sums.{sum_by-cons}
 use Rattle.std.specs.List.{All, Contains, range_with_len}
 use Rattle.std.specs.BTreeSet.{insert_key}
 use Rattle.std.specs.Ordering.{nat_cmp}
 use Rattle.tariff_calendar.specs.Lists.{count_at_most}
+use Rattle.tariff_calendar.proofs.Laws.{lists_are_ordered-few}
 use Rattle.tariff_check.proofs.Laws.{cuts_are_in_order-numbers}
 use Rattle.tariff_check.specs.Cuts.{IsRising, with_each}
 use Rattle.tariff_compare.specs.Grids.{listed, up_to}
-use Rattle.tariff_compare.specs.declared.meter_context.MeterContext.{MeterContext}
-use Rattle.tariff_compare.proofs.Levels.{IsAtOne, IsBelowAll, Rises}
 
 -- ---- being among numbers
 
@@ -29,6 +29,17 @@ in_at : (n k : ℕ) (xs : List ℕ) → k < length xs → get_or xs k n ≡ n �
 in_at n k [] h e = absurd (omega arith)
 in_at n zero (x ∷ xs) h e = inl (sym e)
 in_at n (suc k) (x ∷ xs) h e = inr (in_at n k xs (omega arith) e)
+
+-- a number in a list has a place there, and at each place there is one
+pub place_in : (n : ℕ) (xs : List ℕ) → IsIn n xs → (i : ℕ) × (i < length xs) × (get_or xs i 0 ≡ n)
+place_in n [] h = absurd h
+place_in n (x ∷ xs) (inl e) = (0, omega arith, sym e)
+place_in n (x ∷ xs) (inr h) = let there = place_in n xs h in (suc there.0, omega (arith, there.1), there.2)
+
+pub at_place : (xs : List ℕ) (i : ℕ) → i < length xs → IsIn (get_or xs i 0) xs
+at_place [] i h = absurd (omega arith)
+at_place (x ∷ xs) zero h = inl refl
+at_place (x ∷ xs) (suc i) h = inr (at_place xs i (omega arith))
 
 in_left : (n : ℕ) (xs ys : List ℕ) → IsIn n xs → IsIn n (xs ++ ys)
 in_left n [] ys h = absurd h
@@ -124,29 +135,44 @@ listed_most most beginnings one other =
     same (x ∷ xs) (suc i) h = same xs i (omega arith)
 
 -- they rise
-below_all : (x : ℕ) (xs : List ℕ) → ((i : ℕ) → i < length xs → x < get_or xs i 0) → IsBelowAll (λ a b. a < b) x xs
-below_all x [] h = tt
-below_all x (y ∷ ys) h = (h 0 (omega arith), below_all x ys (λ i within. h (suc i) (omega arith)))
-
-pub rises_of : (xs : List ℕ) → IsRising xs → Rises (λ a b. a < b) xs
-rises_of [] h = tt
-rises_of (x ∷ xs) h = (
-  below_all x xs (λ i within. h 0 (suc i) (omega arith) (omega arith)),
-  rises_of xs (λ i j lt within. h (suc i) (suc j) (omega arith) (omega arith)),
-)
-
-pub listed_rises : (most : ℕ) (beginnings one other : List ℕ) → Rises (λ a b. a < b) (listed most beginnings one other)
+pub listed_rises : (most : ℕ) (beginnings one other : List ℕ) → IsRising (listed most beginnings one other)
 listed_rises most beginnings one other =
-    subst (Rises (λ a b. a < b)) (sym (listed_is most beginnings one other)) (rises_of (with_each []
-    (all_of most beginnings one other)) ((cuts_are_in_order-numbers (all_of most beginnings one other)).rising))
+    let numbers = all_of most beginnings one other in
+    subst IsRising (sym (listed_is most beginnings one other)) (cuts_are_in_order-numbers numbers).rising
 
-range_below : (x a n : ℕ) → x < a → IsBelowAll (λ a b. a < b) x (range_with_len a n)
-range_below x a zero lt = tt
-range_below x a (suc n) lt = (lt, range_below x (a + 1) n (omega arith))
+pub range_rises : (a n : ℕ) → IsRising (range_with_len a n)
+range_rises a n = λ i j lt within.
+    let last = length-range_with_len a n in
+    omega (
+      arith,
+      get_or-range_with_len a n i 0 (omega (arith, lt, within, last)),
+      get_or-range_with_len a n j 0 (omega (arith, within, last)),
+    )
 
-pub range_rises : (a n : ℕ) → Rises (λ a b. a < b) (range_with_len a n)
-range_rises a zero = tt
-range_rises a (suc n) = (range_below a (a + 1) n (omega arith), range_rises (a + 1) n)
+-- they are no more than were put in
+up_to_few : (most : ℕ) (xs : List ℕ) → length (up_to most xs) ≤ length xs
+up_to_few most [] = omega arith
+up_to_few most (x ∷ xs) = by (leb x most) (up_to_few most xs)
+  where
+    by : (b : Bool) → length (up_to most xs) ≤ length xs
+        → length (cond b (x ∷ up_to most xs) (up_to most xs)) ≤ length (x ∷ xs)
+    by true few = omega (arith, few)
+    by false few = omega (arith, few)
+
+pub listed_few : (most : ℕ) (beginnings one other : List ℕ)
+    → length (listed most beginnings one other) ≤ length beginnings + length one + length other
+listed_few most beginnings one other =
+    let first = with_each [] (up_to most beginnings) in
+    let second = with_each first (up_to most one) in
+    omega (
+      arith,
+      lists_are_ordered-few [] (up_to most beginnings),
+      lists_are_ordered-few first (up_to most one),
+      lists_are_ordered-few second (up_to most other),
+      up_to_few most beginnings,
+      up_to_few most one,
+      up_to_few most other,
+    )
 
 pub range_within : (a n m : ℕ) → a ≤ m → m < a + n → IsIn m (range_with_len a n)
 range_within a zero m from to = absurd (omega arith)
@@ -216,7 +242,7 @@ none_or_reached v (x ∷ xs) =
       | inr some ↦ inr (reached_more v x xs some.0 some.1)
     ]
 
--- there is one where some number is at most the value
+-- there is one if some number is at most the value
 pub reached : (v first : ℕ) (xs : List ℕ) → IsIn first xs → first ≤ v → (w : ℕ) × IsReached v xs w
 reached v first xs there le =
     elim (none_or_reached v xs) [ inl none ↦ absurd (omega (arith, none first there)) | inr some ↦ some ]
@@ -238,32 +264,14 @@ count_same v w (x ∷ xs) le upper =
       | inr within ↦ counted v x xs within ∙ (ap suc rest ∙ sym (counted w x xs (upper x (inl refl) within)))
     ]
 
--- a context whose number is among those of a list is at one of them
-pub at_one : (key : MeterContext → ℕ) (m : MeterContext) (xs : List ℕ) → IsIn (key m) xs
-    → IsAtOne (λ n (c : MeterContext). key c ≡ n) xs m
-at_one key m [] h = absurd h
-at_one key m (x ∷ xs) (inl e) = inl e
-at_one key m (x ∷ xs) (inr h) = inr (at_one key m xs h)
-
--- and what holds of all of the list holds of its number
-pub one_of : (P : ℕ → Type 0) (key : MeterContext → ℕ) (m : MeterContext) (xs : List ℕ)
-    → IsAtOne (λ n (c : MeterContext). key c ≡ n) xs m → ((x : ℕ) → IsIn x xs → P x) → P (key m)
-one_of P key m [] h all = absurd h
-one_of P key m (x ∷ xs) (inl e) all = subst P (sym e) (all x (inl refl))
-one_of P key m (x ∷ xs) (inr h) all = one_of P key m xs h (λ y there. all y (inr there))
-
+-- what holds of all of a list holds of a number that is in it
 pub all_in : (P : ℕ → Type 0) (xs : List ℕ) → All P xs → (x : ℕ) → IsIn x xs → P x
 all_in P xs all x there =
     let c = contained x xs there in
     subst P c.2 (All-get_or P xs c.0 x c.1 all)
 
 pub in_all : (P : ℕ → Type 0) (xs : List ℕ) → ((x : ℕ) → IsIn x xs → P x) → All P xs
-in_all P xs each = All-from_get_or P xs 0 (λ i within. each (get_or xs i 0) (here xs i within))
-  where
-    here : (xs : List ℕ) (i : ℕ) → i < length xs → IsIn (get_or xs i 0) xs
-    here [] i h = absurd (omega arith)
-    here (x ∷ xs) zero h = inl refl
-    here (x ∷ xs) (suc i) h = inr (here xs i (omega arith))
+in_all P xs each = All-from_get_or P xs 0 (λ i within. each (get_or xs i 0) (at_place xs i within))
 
 pub range_in : (a n m : ℕ) → IsIn m (range_with_len a n) → (a ≤ m) × (m < a + n)
 range_in a zero m h = absurd h

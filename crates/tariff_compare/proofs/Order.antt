@@ -3,7 +3,7 @@ use Rattle.std.proofs.Common.{◌≡◌, ℕ, ◌<◌, ◌≤◌, List, [], ◌�
 use Rattle.std.proofs.lemmas.Bool.{cases_lt}
 use Rattle.tariff_compile.specs.Cells.{IsBefore}
 
--- where two numbers are the same, what follows decides
+-- if two numbers are the same, what follows decides
 pub strip : (a b : ℕ) (xs ys : List ℕ) → a ≡ b → IsBefore (a ∷ xs) (b ∷ ys) → IsBefore xs ys
 strip a b xs ys same (inl lt) = absurd (omega (arith, lt, same))
 strip a b xs ys same (inr both) = both.1

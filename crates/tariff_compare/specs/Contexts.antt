@@ -20,8 +20,8 @@ pub record HasTables (t : Tree) (k : ℕ) : Type 0 where
   pub sound : IsSound t
   pub constant : (least_constant ≤ k) × (k ≤ greatest_constant)
 
--- a day, told by its number, and a minute are ones of a meter if they are the local day and the minute of that day at
--- one second of the meter under one offset of at most 14 hours to either side
+-- a meter has a day, told by its number, and a minute if they are local time at one of its seconds, under one offset of
+-- at most 14 hours to either side
 pub record IsMeterTime (day minute : ℕ) : Type 0 where
   pub second : ℕ
   pub offset : ℤ
@@ -30,8 +30,8 @@ pub record IsMeterTime (day minute : ℕ) : Type 0 where
   pub day_is : day_of (pos second +ℤ offset) ≡ pos day
   pub minute_is : minute_of_day (pos second +ℤ offset) ≡ minute
 
--- the same by their numbers: all minutes of the days 2000-01-01 to 2199-12-31, those of 1999-12-31 (day 10956) from
--- 10:00 (minute 600) on, and those of 2200-01-01 (day 84006) before 14:00 (minute 840)
+-- the times of a meter by their numbers: all minutes of the days 2000-01-01 to 2199-12-31; those of 1999-12-31 (day
+-- 10956) from 10:00 (minute 600) on; and those of 2200-01-01 (day 84006) before 14:00 (minute 840)
 pub record IsTimeOf (day minute : ℕ) : Type 0 where
   pub days : IsFromTo 10956 84006 day
   pub minutes : minute ≤ 1439
@@ -43,8 +43,8 @@ pub record IsTimeOf (day minute : ℕ) : Type 0 where
 abbrev pub most_pulses : ℕ
 most_pulses = 20000000000000
 
--- a context is one of a meter under a tariff if its position and zone are among the tariff's, its day and minute are
--- the meter's, a trip that runs can have its ticks, and its pulses are at most 2 * 10^13
+-- a context is one of a meter under a tariff if the tariff has its position and zone, the meter has its day and minute,
+-- and a trip that runs can have its ticks; its pulses are at most 2 * 10^13
 pub record IsMeterContext (t : Tree) (m : MeterContext) : Type 0 where
   pub position : IsFromTo 1 (positions_of t.lines) m.position
   pub zone : IsFromTo 1 (zones_of t.lines) m.zone
@@ -52,8 +52,8 @@ pub record IsMeterContext (t : Tree) (m : MeterContext) : Type 0 where
   pub ticks : m.ticks ≤ last_tick
   pub pulses : m.pulses ≤ most_pulses
 
--- the conditions of a tariff are asked, in a context of a meter, under the meter's constant, with the weekday and the
--- place in a leap year of the day, and whether the tariff has its date as a holiday
+-- in a context of a meter the conditions of a tariff are asked with the meter's constant, the day's weekday and place
+-- in a leap year, and whether the tariff has its date as a holiday
 abbrev pub context_at : Tree → (k : ℕ) → MeterContext → Context
 context_at t k m =
     let date = date_after m.day in
@@ -69,11 +69,11 @@ context_at t k m =
       ticks = m.ticks;
     }
 
--- the day from which contexts are asked about first is 2026-01-01, told by its number
+-- contexts are asked about from 2026-01-01 on, told by its number
 abbrev pub first_day : ℕ
 first_day = 20454
 
--- the place of a day in the order of days is such that those from 2026-01-01 on come first, and then those before it
+-- in the order of days those from 2026-01-01 on come first, and then those before it
 abbrev pub day_place : (day : ℕ) → ℕ
 day_place day = if nat_le first_day day then day else day + 84006
 

@@ -11,7 +11,7 @@ abbrev pub is_at : (wanted : ℕ) → Option ℕ → Bool
 is_at wanted None = false
 is_at wanted (Some place) = place == wanted
 
--- the test `counts` is true if, of the lines of a kind, the one at a place, counted from 0, is the one that counts in a
--- context of a meter: the first that holds there, where a line of the kind can count there
+-- the test `counts` is true if the line of a kind at a place, from 0, counts in a context of a meter: it is the first
+-- of the kind that holds there, and lines of the kind can count there
 abbrev pub counts : Tree → (k : ℕ) → ChoiceKind → (place : ℕ) → MeterContext → Bool
 counts t k kind place m = is_asked kind m && is_at place (place_at kind t (context_at t k m))

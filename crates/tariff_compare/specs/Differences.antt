@@ -39,7 +39,7 @@ other_supplement t u =
     supplement_numbers
 
 -- what differs first in the frame of two tariffs is the decimals, the display step, its rounding, the positions, the
--- zones, or the supplement of the lowest number, or nothing
+-- zones, the supplement of the lowest number, or nothing
 abbrev pub frame_difference : (t u : Tree) → Option Difference
 frame_difference t u =
     if not (t.decimals == u.decimals) then Some Decimals
@@ -49,7 +49,7 @@ frame_difference t u =
     else (if not (zones_of t.lines == zones_of u.lines) then Some Zones
     else option_map Supplement (other_supplement t u)))))
 
--- what differs in a context that was found, by the tables
+-- what differs in a context that was found is told by the tables
 abbrev pub part_in : (one other : SideParts) → Option MeterContext → Option Difference
 part_in one other None = None
 part_in one other (Some m) = option_map (λ (kind : ChoiceKind). In kind m) (difference_by one other m)

@@ -21,7 +21,7 @@ frame_place Zones = 4
 frame_place (Supplement number) = 5 + number
 frame_place (In kind m) = 0
 
--- two tariffs are the same in a part of their frames
+-- when two tariffs are the same in each part of their frames
 abbrev pub IsSameIn : (t u : Tree) → Difference → Type 0
 IsSameIn t u Decimals = t.decimals ≡ u.decimals
 IsSameIn t u Step = (display_step t).0 ≡ (display_step u).0
@@ -42,15 +42,15 @@ kind_place Initial = 0
 kind_place Minimum = 1
 kind_place Rate = 2
 
--- a rate is asked for in each context, an initial hire fee and a minimum fare at a hiring alone: before the first tick
+-- a rate is asked for in each context; an initial hire fee and a minimum fare only at a hiring, before the first tick
 -- and pulse of the trip
 abbrev pub IsAskedFor : ChoiceKind → MeterContext → Type 0
 IsAskedFor Rate m = ⊤
 IsAskedFor Initial m = (m.ticks ≡ 0) × (m.pulses ≡ 0)
 IsAskedFor Minimum m = (m.ticks ≡ 0) × (m.pulses ≡ 0)
 
--- what is in force here and there is the same in a kind: distance and time cost the same by both rates, a per b as much
--- as a' per b'; or both fees have one amount and one cover; or both minimum fares have one amount
+-- what is in force here and there is the same in a kind if both rates cost the same, a per b as much as a' per b' for
+-- distance and for time; or both fees have one amount and one cover; or both minimum fares have one amount
 abbrev pub IsSameBy : ChoiceKind → (one other : InForce) → Type 0
 IsSameBy Rate one other =
     (one.rate.a * other.rate.b ≡ other.rate.a * one.rate.b) × (one.rate.c * other.rate.e ≡ other.rate.c * one.rate.e)

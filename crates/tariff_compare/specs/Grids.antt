@@ -1,5 +1,5 @@
 -- For proofs: the contexts that are looked at, at least one of each common cell of two tariffs.
-use Rattle.std.specs.Prelude.{◌≡◌, ℕ, zero, suc, ◌+◌, ◌-◌, ◌<◌, ◌≤◌, Bool, true, false, not, ◌&&◌, ◌||◌, ◌==◌, if◌then◌else◌, nat_le, nat_lt, List, [], ◌∷◌, ◌++◌, All, filter, pos}
+use Rattle.std.specs.Prelude.{◌≡◌, ℕ, zero, suc, ◌+◌, ◌-◌, ◌<◌, ◌≤◌, Bool, true, false, not, ◌&&◌, ◌||◌, ◌==◌, if◌then◌else◌, nat_le, nat_lt, List, [], ◌∷◌, ◌++◌, length, All, filter, pos}
 use Rattle.std.specs.List.{list_any, range_with_len}
 use Rattle.interval_clock.specs.Calendar.{date_after, date_place, weekday_of}
 use Rattle.tariff_calendar.specs.Lists.{count_at_most}
@@ -14,8 +14,8 @@ use Rattle.tariff_compare.specs.declared.meter_context.MeterContext.{MeterContex
 
 -- ---- days
 
--- what two tariffs ask of a day, by their tables: its weekday, its place in a leap year, and for each of the tables
--- whether it is a holiday and between which cuts it lies
+-- what two tariffs ask of a day, by their tables: its weekday, its place in a leap year, and for each of them whether
+-- it is a holiday and between which cuts it lies
 abbrev pub day_in : (one other : TableParts) → (number : ℕ) → Day
 day_in one other number =
     let date = date_after number in
@@ -34,7 +34,7 @@ day_in one other number =
 abbrev pub is_edge : (number : ℕ) → Bool
 is_edge number = (number == 10956) || (number == 84006)
 
--- two truth values are the same
+-- two truth values are the same if both are true, or neither is
 abbrev pub is_same : (one other : Bool) → Bool
 is_same true other = other
 is_same false other = not other
@@ -80,13 +80,14 @@ is_meter_time day minute =
 abbrev pub up_to : (most : ℕ) → List ℕ → List ℕ
 up_to most numbers = filter (λ n. nat_le n most) numbers
 
--- a list of the grid has some beginnings and the cuts of both tariffs, each once and in order, as far as a meter comes
+-- a list of the grid has some beginnings and the cuts of both tariffs, each once and in order, up to the most that a
+-- meter has
 abbrev pub listed : (most : ℕ) → (beginnings one other : List ℕ) → List ℕ
 listed most beginnings one other =
     with_each (with_each (with_each [] (up_to most beginnings)) (up_to most one)) (up_to most other)
 
--- a grid has positions, zones, days, minutes, ticks and pulses, of which each combination is looked at that is a time
--- of the meter
+-- a grid has positions, zones, days, minutes, ticks and pulses; each combination is looked at that is a time of the
+-- meter
 pub record GridLists : Type 0 where
   pub positions : List ℕ
   pub zones : List ℕ
@@ -117,10 +118,18 @@ pub record HasDate (day : Day) (number : ℕ) : Type 0 where
   pub weekday : day.weekday ≡ weekday_of (pos number)
   pub month_day : day.month_day ≡ date_place (date_after number).month (date_after number).date
 
--- a grid is one of two tariffs' tables if each of its numbers is one that a meter under both can have, and there are
--- positions and zones
+-- the lists of a grid are so short that its contexts can be counted
+pub record AreShort (grid : GridLists) : Type 0 where
+  pub positions : length grid.positions ≤ 9
+  pub zones : length grid.zones ≤ 9
+  pub days : length grid.days ≤ day_count
+  pub minutes : length grid.minutes ≤ 128
+  pub ticks : length grid.ticks ≤ 31
+  pub pulses : length grid.pulses ≤ 31
+
+-- a grid is one of two tariffs' tables if each of its numbers is one that a meter under both can have, and it is short
 pub record IsGridOf (one other : TableParts) (grid : GridLists) : Type 0 where
-  pub zone : IsFromTo 1 one.zones 1 × IsFromTo 1 other.zones 1
+  pub short : AreShort grid
   pub positions : All (λ n. IsFromTo 1 one.positions n × IsFromTo 1 other.positions n) grid.positions
   pub zones : All (λ n. IsFromTo 1 one.zones n × IsFromTo 1 other.zones n) grid.zones
   pub days : All (IsDayIn one other) grid.days
@@ -137,11 +146,7 @@ pub record CanBeAsked (tables : TableParts) (m : MeterContext) : Type 0 where
   pub ticks : m.ticks ≤ last_tick
   pub pulses : m.pulses ≤ most_pulses
 
--- and in both tables
+-- a context of a grid can be looked up in both tables
 pub record CanAskBoth (tables others : TableParts) (m : MeterContext) : Type 0 where
   pub one : CanBeAsked tables m
   pub other : CanBeAsked others m
-
--- a day of a grid is the one with a number
-pub record IsDayOf (one other : TableParts) (day : Day) (number : ℕ) : Type 0 where
-  pub is : day ≡ day_in one other number

@@ -1,5 +1,5 @@
--- Rules: the kinds of lines of which the first that holds counts: which choice of a kind counts in a context, and which
--- one the lines of a cell name; what two tariffs differ in there; and the words of a kind.
+-- Rules: the kinds of lines of which the first that holds counts: which one counts in a context, which one a cell
+-- names, what two tariffs differ in there, and the words of a kind.
 use Rattle.std.specs.Prelude.{ℕ, ◌-◌, ◌*◌, Bool, not, ◌&&◌, ◌||◌, ◌==◌, if◌then◌else◌, List, [], ◌∷◌, find}
 use Rattle.std.specs.Prelude.{get_or, Option, Some, None, codes}
 use Rattle.std.specs.Option.{unwrap_or}
@@ -21,16 +21,16 @@ use Rattle.tariff_compare.specs.declared.meter_context.MeterContext.{MeterContex
 abbrev pub is_hiring : MeterContext → Bool
 is_hiring m = (m.ticks == 0) && (m.pulses == 0)
 
--- the test `is_asked` is true if a line of a kind can count in a context of a meter: amid a trip, or as the context is
--- one at a hiring
+-- the test `is_asked` is true if a line of a kind can count in a context of a meter: the kind counts amid a trip, or
+-- the context is one at a hiring
 abbrev pub is_asked : ChoiceKind → MeterContext → Bool
 is_asked kind m = is_asked_amid kind || is_hiring m
 
--- the place that a number from 1 on tells, and none where it is 0
+-- the place of a number from 1 on, and none for 0
 abbrev pub place_before : (number : ℕ) → Option ℕ
 place_before number = if number == 0 then None else Some (number - 1)
 
--- the line of a kind that the lines of a cell name, if they name one, is told by its place, too
+-- the line of a kind that the lines of a cell name, if they name one, is told by its place
 abbrev pub place_in : ChoiceKind → CellLines → Option ℕ
 place_in Rate lines = Some lines.rate
 place_in Initial lines = Some lines.initial
@@ -42,14 +42,14 @@ kind_word Rate = codes "rate"
 kind_word Initial = codes "initial"
 kind_word Minimum = codes "minimum"
 
--- a kind of lines has its word in capitals where lines of it differ
+-- a kind of lines has its word in capitals if lines of it differ
 abbrev pub part_word : ChoiceKind → List ℕ
 part_word Rate = codes "RATE "
 part_word Initial = codes "INITIAL "
 part_word Minimum = codes "MINIMUM "
 
--- two rates cost the same if distance costs the same in both, and time does, whatever the measures: a per b is as much
--- as a' per b' where a times b' is a' times b
+-- two rates cost the same if distance does, and time does, whatever the measures: a per b is as much as a' per b' if a
+-- times b' is a' times b
 abbrev pub cost_same : RateNumbers → RateNumbers → Bool
 cost_same r s = (r.a * s.b == s.a * r.b) && (r.c * s.e == s.c * r.e)
 
@@ -61,7 +61,7 @@ rate_in t x = get_or (rates_of t.lines) (unwrap_or (rate_place t x) 0) (record {
 abbrev pub have_same_fee : (one other : fees.Initial) → Bool
 have_same_fee one other = (one.amount == other.amount) && (one.covers == other.covers)
 
--- two hirings have the same minimum fare if its amount is the same, where none is one of 0
+-- two hirings have the same minimum fare if its amount is the same; none is one of 0
 abbrev pub have_same_minimum : (one other : fees.Initial) → Bool
 have_same_minimum one other = one.minimum == other.minimum
 
@@ -74,8 +74,8 @@ pub record InForce : Type 0 where
 abbrev pub in_force : Tree → Context → InForce
 in_force t x = record { rate = rate_in t x; hiring = initial_by t x }
 
--- the test `is_same_of` is true if lines of a kind make no difference between what is in force here and there: rates
--- that cost the same, or hirings with the same fee, or with the same minimum fare
+-- the test `is_same_of` is true if what is in force here and there is the same in a kind: rates that cost the same, or
+-- hirings with the same fee or the same minimum fare
 abbrev pub is_same_of : ChoiceKind → (one other : InForce) → Bool
 is_same_of Rate one other = cost_same one.rate other.rate
 is_same_of Initial one other = have_same_fee one.hiring other.hiring
@@ -85,8 +85,8 @@ is_same_of Minimum one other = have_same_minimum one.hiring other.hiring
 abbrev pub compared_kinds : List ChoiceKind
 compared_kinds = Initial ∷ Minimum ∷ Rate ∷ []
 
--- the test `is_other` is true if a line of a kind can count in a context of a meter, and makes a difference between
--- what is in force in it here and there
+-- the test `is_other` is true if a line of a kind can count in a context of a meter, and what is in force here and
+-- there isn't the same in the kind
 abbrev pub is_other : MeterContext → (one other : InForce) → ChoiceKind → Bool
 is_other m one other kind = is_asked kind m && not (is_same_of kind one other)
 

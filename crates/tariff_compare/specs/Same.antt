@@ -22,8 +22,8 @@ pub record AreSame (t u : Tree) (k : ℕ) : Type 0 where
   pub frame : HasSameFrame t u
   pub contexts : (m : MeterContext) → IsMeterContext t m → difference_at t u k m ≡ None
 
--- what differs first between two tariffs is a part of a context if their frames are the same, it is what differs in the
--- context, and in no earlier context of a meter anything does
+-- a kind differs first between two tariffs, in a context of a meter, if their frames are the same, it is what differs
+-- there, and nothing differs in an earlier context
 pub record DiffersFirst (t u : Tree) (k : ℕ) (kind : ChoiceKind) (m : MeterContext) : Type 0 where
   pub frame : HasSameFrame t u
   pub there : difference_at t u k m ≡ Some kind

@@ -1,7 +1,7 @@
--- By law: the first context of a grid that meets a test, in the order of its lists. The laws
+-- By law: the first context of a grid that meets a test, in the order of their numbers. The laws
 -- first_contexts_are_first and differences_are_first say what the answers mean.
-use Rattle.std.specs.Prelude.{ℕ, Bool, if◌then◌else◌, List, [], ◌∷◌, Option, Some, None}
-use Rattle.std.specs.Option.{option_or}
+use Rattle.std.specs.Prelude.{ℕ, ◌*◌, ◌/◌, ◌%◌, ◌<◌, Bool, ◌&&◌, List, map, length, get_or, find, Option, option_map}
+use Rattle.std.specs.List.{range_with_len}
 use Rattle.tariff_syntax.specs.Tree.{Tree}
 use Rattle.tariff_compare.specs.Grids.{GridLists, grid_of, is_meter_time}
 use Rattle.tariff_compare.specs.Sides.{SideParts, is_met_by, side_of}
@@ -9,46 +9,56 @@ use Rattle.tariff_compare.specs.declared.day.Day.{Day}
 use Rattle.tariff_compare.specs.declared.meter_context.MeterContext.{MeterContext}
 use Rattle.tariff_compare.specs.declared.question.Question.{Question}
 
--- the first answer that is there, of those to the elements of a list
-abbrev pub first_by : {X : Type 0} → (X → Option MeterContext) → List X → Option MeterContext
-first_by find [] = None
-first_by find (x ∷ xs) = option_or (find x) (first_by find xs)
+-- the days of a grid by their numbers
+abbrev pub day_numbers : GridLists → List ℕ
+day_numbers grid = map (λ (d : Day). d.number) grid.days
 
--- a context, if it meets the test
-abbrev pub if_met : (MeterContext → Bool) → MeterContext → Option MeterContext
-if_met met m = if met m then Some m else None
+-- a grid has as many contexts as the product of the lengths of its lists, also those that are no time of the meter
+abbrev pub context_count : GridLists → ℕ
+context_count grid =
+    length grid.positions * length grid.zones * length grid.days * length grid.minutes * length grid.ticks
+    * length grid.pulses
 
--- at the pulses of a grid, with all else as it is
-abbrev pub at_pulses : (MeterContext → Bool) → GridLists → MeterContext → Option MeterContext
-at_pulses met grid m = first_by (λ n. if_met met (record m { pulses = n })) grid.pulses
+-- contexts are numbered from 0, the pulses running fastest; without pulses, ticks and minutes, a number is that of the
+-- position, the zone and the day
+abbrev pub day_part : GridLists → (number : ℕ) → ℕ
+day_part grid number = number / length grid.pulses / length grid.ticks / length grid.minutes
 
--- at its ticks and pulses
-abbrev pub at_ticks : (MeterContext → Bool) → GridLists → MeterContext → Option MeterContext
-at_ticks met grid m = first_by (λ n. at_pulses met grid (record m { ticks = n })) grid.ticks
+-- the context with a number has of each list the element at the number's remainder, and of the positions the one that
+-- is left; `days` is the number without pulses, ticks and minutes
+abbrev pub context_with : GridLists → (number days : ℕ) → MeterContext
+context_with grid number days =
+    record {
+      position = get_or grid.positions (days / length grid.days / length grid.zones) 0;
+      zone = get_or grid.zones (days / length grid.days % length grid.zones) 0;
+      day = get_or (day_numbers grid) (days % length grid.days) 0;
+      minute = get_or grid.minutes (number / length grid.pulses / length grid.ticks % length grid.minutes) 0;
+      ticks = get_or grid.ticks (number / length grid.pulses % length grid.ticks) 0;
+      pulses = get_or grid.pulses (number % length grid.pulses) 0;
+    }
 
--- at a minute, if the meter has it on the day
-abbrev pub if_time : (MeterContext → Bool) → GridLists → MeterContext → Option MeterContext
-if_time met grid m = if is_meter_time m.day m.minute then at_ticks met grid m else None
+-- the context of a grid with a number, from 0
+abbrev pub context_of : GridLists → (number : ℕ) → MeterContext
+context_of grid number = context_with grid number (day_part grid number)
 
--- at its minutes, ticks and pulses
-abbrev pub at_minutes : (MeterContext → Bool) → GridLists → MeterContext → Option MeterContext
-at_minutes met grid m = first_by (λ n. if_time met grid (record m { minute = n })) grid.minutes
+-- a number is that of a context of a grid if each of its lists has an element there
+pub record IsNumbered (grid : GridLists) (number : ℕ) : Type 0 where
+  pub position : day_part grid number / length grid.days / length grid.zones < length grid.positions
+  pub zone : day_part grid number / length grid.days % length grid.zones < length grid.zones
+  pub day : day_part grid number % length grid.days < length grid.days
+  pub minute : number / length grid.pulses / length grid.ticks % length grid.minutes < length grid.minutes
+  pub ticks : number / length grid.pulses % length grid.ticks < length grid.ticks
+  pub pulses : number % length grid.pulses < length grid.pulses
 
--- on its days
-abbrev pub on_days : (MeterContext → Bool) → GridLists → MeterContext → Option MeterContext
-on_days met grid m = first_by (λ (d : Day). at_minutes met grid (record m { day = d.number })) grid.days
+-- the test `is_found` is true if a context is a time of the meter and meets the test
+abbrev pub is_found : (MeterContext → Bool) → MeterContext → Bool
+is_found met m = is_meter_time m.day m.minute && met m
 
--- in its zones
-abbrev pub in_zones : (MeterContext → Bool) → GridLists → MeterContext → Option MeterContext
-in_zones met grid m = first_by (λ n. on_days met grid (record m { zone = n })) grid.zones
-
--- the search begins at the context that comes before all others
-abbrev pub first_of_all : MeterContext
-first_of_all = record { position = 1; zone = 1; day = 20454; minute = 0; ticks = 0; pulses = 0 }
-
--- at its positions, and so everywhere
+-- the first context of a grid, by its number, that is a time of the meter and meets the test
 abbrev pub in_grid : (MeterContext → Bool) → GridLists → Option MeterContext
-in_grid met grid = first_by (λ n. in_zones met grid (record first_of_all { position = n })) grid.positions
+in_grid met grid =
+    option_map (context_of grid)
+    (find (λ number. is_found met (context_of grid number)) (range_with_len 0 (context_count grid)))
 
 -- the first context that meets a question of two sides
 abbrev pub first_met_by : (one other : SideParts) → Question → Option MeterContext

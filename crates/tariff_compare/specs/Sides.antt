@@ -1,5 +1,5 @@
 -- By law: what is asked of a tariff in a context of a meter, answered by its tables. Counting and Kinds say it of the
--- tariff, and the laws first_contexts_are_first and differences_are_first that both come to the same.
+-- tariff; the laws first_contexts_are_first and differences_are_first say that both are the same.
 use Rattle.std.specs.Prelude.{ℕ, Bool, ◌&&◌, ◌==◌, List, get_or, Option, is_some, pos}
 use Rattle.std.specs.List.{list_any}
 use Rattle.interval_clock.specs.Calendar.{date_after, date_place, weekday_of}
@@ -48,7 +48,7 @@ context_by tables m =
 unfoldable pub lines_by : TableParts → MeterContext → CellLines
 lines_by tables m = lines_in tables (context_by tables m)
 
--- whether a line counts, by the tables
+-- the test `counts_by` is true if a line counts, by the tables
 abbrev pub counts_by : TableParts → ChoiceKind → (place : ℕ) → MeterContext → Bool
 counts_by tables kind place m = is_asked kind m && is_at place (place_in kind (lines_by tables m))
 

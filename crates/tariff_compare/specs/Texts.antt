@@ -35,7 +35,7 @@ hiring_text m = place_text m.position m.zone ++ (codes " " ++ moment_text m.day 
 unfoldable pub trip_text : MeterContext → List ℕ
 trip_text m = hiring_text m ++ (codes " " ++ (decimal m.ticks ++ (codes " t " ++ (decimal m.pulses ++ codes " p"))))
 
--- a context in which a kind is asked amid a trip is written as one, and one in which another kind is asked as a hiring
+-- a context is written as one amid a trip if its kind is asked there, and else as one at a hiring
 abbrev pub context_text : ChoiceKind → MeterContext → List ℕ
 context_text kind m = if is_asked_amid kind then trip_text m else hiring_text m
 

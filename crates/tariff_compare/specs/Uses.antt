@@ -11,8 +11,8 @@ use Rattle.tariff_compare.specs.declared.meter_context.MeterContext.{MeterContex
 use Rattle.tariff_compare.specs.declared.question.Question.TheVariants.{Counts}
 use Rattle.tariff_compare.specs.declared.uses.LineUse.{LineUse}
 
--- the first context of a meter in which the line of a kind at a place counts, or none if it counts in none, by the
--- tables of the tariff; the law `first_contexts_are_first` says that it is the first one of the meter
+-- the first context of a meter in which the line of a kind at a place counts, by the tables of the tariff, or none; the
+-- law `first_contexts_are_first` says that it is the first one of the meter
 abbrev pub first_counting : SideParts → ChoiceKind → (place : ℕ) → Option MeterContext
 first_counting side kind place = first_met_by side side (Counts kind place)
 

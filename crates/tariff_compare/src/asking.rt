@@ -49,7 +49,7 @@ pub(crate) fn part_at(one: &Side, other: &Side, m: &MeterContext) -> Option<Choi
     differing_kind(one, other, m, &x, &y)
 }
 
-/// The context in which conditions are asked, where a day is a holiday or none.
+/// The context in which conditions are asked, on a day that is a holiday or isn't.
 fn context_on(tables: &Tables, day: &Day, holiday: bool, m: &MeterContext) -> Context
     requires date { HasDate day.now m.now.day }
     requires asked { CanBeAsked tables.now m.now }

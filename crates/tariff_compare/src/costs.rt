@@ -23,7 +23,7 @@ pub(crate) fn all_rates(
     Ok(all)
 }
 
-/// The rate at a place; 0 for all its numbers where there is none.
+/// The rate at a place; all its numbers are 0 if there is none.
 pub(crate) fn rate_at(rates: &[RateNumbers], place: usize) -> RateNumbers
     ensures { result ≡ get_or rates.now place (record { a = 0; b = 0; c = 0; e = 0 }) }
 {
@@ -39,7 +39,7 @@ pub(crate) fn rate_at(rates: &[RateNumbers], place: usize) -> RateNumbers
     }
 }
 
-/// Whether distance costs the same in two rates, and time does, whatever the measures.
+/// Whether distance and time cost the same by two rates, whatever their measures.
 pub(crate) fn cost_same(one: RateNumbers, other: RateNumbers) -> bool
     ensures { result ≡ cost_same one other }
 {

@@ -14,8 +14,8 @@ use tariff_check::Dimension;
 use tariff_compile::Tables;
 use taxi_units::{NoMemory, date_place};
 
-/// A day by its number since 1970-01-01, and what two tariffs ask of it: its weekday, its place in a leap year, and for
-/// each of them whether it is a holiday and how many cuts it has reached.
+/// A day by its number since 1970-01-01, and what two tariffs ask of it: its weekday and its place in a leap year. For
+/// each tariff it says whether the day is a holiday, and how many cuts it has reached.
 #[derive(Clone, Copy)]
 pub(crate) struct Day {
     pub(crate) number: u32,
@@ -30,8 +30,7 @@ pub(crate) struct Day {
 /// How many days a meter has, from 1999-12-31 to 2200-01-01.
 const DAYS: u32 = 73_051;
 
-/// The days of a meter of which two tariffs ask different things, in the order of days: each that is like none before
-/// it.
+/// The days of a meter of which two tariffs ask different things, in the order of days. Each is like none before it.
 #[tactic(auto, using(crate::proofs::Days::days_none))]
 pub(crate) fn different_days(
     alloc: Global,

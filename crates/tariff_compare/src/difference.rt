@@ -34,14 +34,14 @@ pub enum Difference {
     Zones,
     /// The amount of the supplement of a number, or how often a hiring may have it.
     Supplement(u8),
-    /// In a context of a meter: what the line of a kind that counts there says. It is a hiring where lines of the kind
-    /// count at one alone.
+    /// What the line of a kind says that counts in a context of a meter. The context is at a hiring if lines of the
+    /// kind count there alone.
     In(ChoiceKind, MeterContext),
 }
 
-/// What differs first between two sound tariffs under a constant; `None` exactly where they are the same. Decimals,
-/// display step, rounding, positions, zones and supplements come before all contexts; in one context the kinds come in
-/// the order of docs/FORMATS.md. When tariffs are the same is this project's own. `NoMemory` where memory runs out.
+/// What differs first between two sound tariffs under a constant; `None` exactly if they are the same. Decimals,
+/// display step, rounding, positions, zones and supplements come before all contexts. In one context the kinds come in
+/// the order of docs/FORMATS.md. When tariffs are the same is this project's own. `NoMemory` if memory runs out.
 pub fn first_difference(
     alloc: Global,
     one: &Checked,

@@ -13,9 +13,9 @@ use tariff_check::Checked;
 use tariff_syntax::{TariffLine, print_line};
 use taxi_units::NoMemory;
 
-/// The text of what differs between two tariffs under a constant: `SAME`, or `DIFFERENT` with what differs, and the
-/// line of each tariff that says it, with its number and up to `when`; with the number 0 stands what holds where no
-/// line says it. The form is this project's own. `NoMemory` where memory runs out.
+/// The text of what differs between two tariffs under a constant. It is `SAME`, or `DIFFERENT` with what differs and
+/// the line of each tariff that says it: its number, and its text up to `when`. If no line says it, the number is 0,
+/// and behind it stands what holds then. The form is this project's own. `NoMemory` if memory runs out.
 pub fn print_difference(
     alloc: Global,
     one: &Checked,
@@ -130,7 +130,7 @@ fn push_line(
     }
 }
 
-/// What holds where no line says what differs.
+/// What holds if no line says what differs.
 fn push_default(text: &mut Vec<u8>, difference: &Difference) -> Result<(), AllocError>
     ensures { OnOk result (text.new.items ≡ text.old.items ++ default_text difference.now) }
 {

@@ -1,10 +1,14 @@
 //! The contexts that are looked at: at least one of each common cell of two tariffs.
-ghost use Rattle.std.specs.Prelude.{◌≡◌, ◌≤◌, IfOk, OnOk};
+ghost use Rattle.std.specs.Prelude.{◌≡◌, ◌≤◌, ◌*◌, ◌%◌, All, length, IfOk, OnOk};
 ghost use Rattle.std.specs.List.{range_with_len};
 ghost use Rattle.tariff_check.specs.Cuts.{with_each};
-ghost use Rattle.tariff_compare.specs.Grids.{IsGridOf, grid_of, listed, up_to};
+ghost use Rattle.tariff_compare.specs.Grids.{AreShort, IsGridOf, day_count, grid_of, listed, up_to};
+ghost use Rattle.tariff_compare.specs.Searches.{IsNumbered, context_count, context_of, day_part};
+ghost use Rattle.taxi_units.specs.Counted.{IsElement};
+ghost use Rattle.taxi_units.specs.Time.{last_tick};
 
 use crate::day::{Day, different_days};
+use crate::meter_context::MeterContext;
 use std::alloc::Global;
 use std::collections::BTreeSet;
 use std::marker::Model;
@@ -38,27 +42,28 @@ impl Model for Grid {
     } };
 }
 
-/// The pulses beyond which none are looked at: no distance that a tariff can name is more pulses.
+/// The most pulses that are looked at: no distance that a tariff can name is more pulses.
 const MOST_PULSES: u64 = 20_000_000_000_000;
 
 impl Grid {
-    /// The grid of two tariffs with as many positions and zones.
+    /// The grid of two tariffs that have the same numbers of positions and zones.
     pub(crate) fn of(alloc: Global, one: &Tables, other: &Tables) -> Result<Grid, NoMemory>
         requires positions { one.now.positions ≡ other.now.positions }
         requires zones { one.now.zones ≡ other.now.zones }
         ensures value { IfOk result (λ grid. grid ≡ grid_of one.now other.now) }
         ensures both { IfOk result (IsGridOf one.now other.now) }
     {
+        one.recall();
+        other.recall();
         match Grid::make(alloc, one, other) {
             Ok(grid) => Ok(grid),
             Err(fault) => Err(fault),
         }
     }
 
-    /// The same. On 1999-12-31 a meter begins at 10:00, so a band begins there too.
+    /// Makes the grid. On 1999-12-31 a meter begins at 10:00, so a band begins there too.
     fn make(alloc: Global, one: &Tables, other: &Tables) -> Result<Grid, NoMemory>
-        ensures value { IfOk result (λ grid. grid ≡ grid_of one.now other.now) }
-        ensures some { IfOk result (λ grid. 1 ≤ one.now.zones) }
+        ensures { IfOk result (λ grid. grid ≡ grid_of one.now other.now) }
     {
         let (cuts, others) = (one.cuts(), other.cuts());
         let minutes = Dimension::Minute;
@@ -87,47 +92,65 @@ impl Grid {
         })
     }
 
-    /// The positions.
-    pub(crate) fn positions(&self) -> &[u8]
-        ensures { result.now ≡ self.now.positions }
+    /// How many contexts the grid has, also those that are no time of the meter.
+    pub(crate) fn count(&self) -> usize
+        requires { AreShort self.now }
+        ensures { result ≡ context_count self.now }
     {
-        self.positions.as_slice()
+        product(
+            self.positions.as_slice().len(),
+            self.zones.as_slice().len(),
+            self.days.as_slice().len(),
+            self.minutes.as_slice().len(),
+            self.ticks.as_slice().len(),
+            self.pulses.as_slice().len(),
+        )
     }
 
-    /// The zones.
-    pub(crate) fn zones(&self) -> &[u8]
-        ensures { result.now ≡ self.now.zones }
+    /// The context with a number, from 0, and its day. The pulses run fastest, and the positions slowest.
+    pub(crate) fn context(&self, number: usize) -> (Day, MeterContext)
+        requires number { IsNumbered self.now number }
+        requires minutes { All (λ n. n ≤ 1439) self.now.minutes }
+        requires ticks { All (λ n. n ≤ last_tick) self.now.ticks }
+        ensures value { result.1 ≡ context_of self.now number }
+        ensures day { IsElement self.now.days (day_part self.now number % length self.now.days) result.0 }
     {
-        self.zones.as_slice()
+        let ticks = number / self.pulses.as_slice().len();
+        let minutes = ticks / self.ticks.as_slice().len();
+        let days = minutes / self.minutes.as_slice().len();
+        let zones = days / self.days.as_slice().len();
+        let positions = zones / self.zones.as_slice().len();
+        let day = self.days.as_slice()[days % self.days.as_slice().len()];
+        let m = MeterContext {
+            position: self.positions.as_slice()[positions],
+            zone: self.zones.as_slice()[zones % self.zones.as_slice().len()],
+            day: day.number,
+            minute: self.minutes.as_slice()[minutes % self.minutes.as_slice().len()] as u16,
+            ticks: self.ticks.as_slice()[ticks % self.ticks.as_slice().len()] as u32,
+            pulses: self.pulses.as_slice()[number % self.pulses.as_slice().len()],
+        };
+        (day, m)
     }
+}
 
-    /// The days.
-    pub(crate) fn days(&self) -> &[Day]
-        ensures { result.now ≡ self.now.days }
-    {
-        self.days.as_slice()
-    }
-
-    /// The minutes.
-    pub(crate) fn minutes(&self) -> &[u64]
-        ensures { result.now ≡ self.now.minutes }
-    {
-        self.minutes.as_slice()
-    }
-
-    /// The ticks.
-    pub(crate) fn ticks(&self) -> &[u64]
-        ensures { result.now ≡ self.now.ticks }
-    {
-        self.ticks.as_slice()
-    }
-
-    /// The pulses.
-    pub(crate) fn pulses(&self) -> &[u64]
-        ensures { result.now ≡ self.now.pulses }
-    {
-        self.pulses.as_slice()
-    }
+/// The product of the lengths of a grid's lists.
+fn product(
+    positions: usize,
+    zones: usize,
+    days: usize,
+    minutes: usize,
+    ticks: usize,
+    pulses: usize,
+) -> usize
+    requires positions { positions ≤ 9 }
+    requires zones { zones ≤ 9 }
+    requires days { days ≤ day_count }
+    requires minutes { minutes ≤ 128 }
+    requires ticks { ticks ≤ 31 }
+    requires pulses { pulses ≤ 31 }
+    ensures { result ≡ positions * zones * days * minutes * ticks * pulses }
+{
+    positions * zones * days * minutes * ticks * pulses
 }
 
 /// The numbers from 1 to another.
@@ -175,7 +198,7 @@ fn together(
     Ok(numbers)
 }
 
-/// Puts those of some numbers that are at most another among others.
+/// Adds those of some numbers that are at most another.
 fn put_each(numbers: &mut BTreeSet<u64>, most: u64, more: &[u64]) -> Result<(), NoMemory>
     ensures { OnOk result (numbers.new.keys ≡ with_each numbers.old.keys (up_to most more.now)) }
 {

@@ -37,7 +37,7 @@ fn is_hiring(m: &MeterContext) -> bool
     m.ticks == 0 && m.pulses == 0
 }
 
-/// The place of the line of a kind that a cell names, from 0; `None` where it names none.
+/// The place, from 0, of the line of a kind that a cell names; `None` if it names none.
 pub(crate) fn place_in(kind: ChoiceKind, lines: CellLines) -> Option<usize>
     ensures { result ≡ place_in kind lines }
 {
@@ -48,7 +48,7 @@ pub(crate) fn place_in(kind: ChoiceKind, lines: CellLines) -> Option<usize>
     }
 }
 
-/// The place that a number from 1 on tells; `None` where it is 0.
+/// The place of a number from 1 on; `None` for 0.
 fn place_before(number: u8) -> Option<usize>
     ensures { result ≡ place_before number }
 {

@@ -1,5 +1,5 @@
-//! What a sound tariff comes to over all contexts that a meter can have: the first one in which a line counts, and the
-//! first one in which two tariffs differ.
+//! A sound tariff over all contexts that a meter can have: the first one in which a line counts, and the first one in
+//! which two tariffs differ.
 #![tactic(auto)]
 
 mod asking;

@@ -15,9 +15,9 @@ use std::alloc::{AllocError, Global};
 use tariff_check::ChoiceKind;
 use taxi_units::{DAY_NAMES, Line, NoMemory, put_number, put_padded};
 
-/// The text of the uses of lines, a line of text each: the number of the line and the word of its kind, then `holds`
-/// and the first context in which it counts, or `never`. The form is this project's own. `NoMemory` where memory runs
-/// out.
+/// The text of the uses of lines, a line of text each. It has the number of the line and the word of its kind, then
+/// `holds` and the first context in which it counts, or `never`. The form is this project's own. `NoMemory` if memory
+/// runs out.
 pub fn print_uses(alloc: Global, uses: &[LineUse]) -> Result<Vec<u8>, NoMemory>
     requires { All IsDatedUse uses.now }
     ensures { IfOk result (λ text. text.items ≡ uses_text uses.now) }
@@ -43,7 +43,7 @@ fn push_use(text: &mut Vec<u8>, one: &LineUse) -> Result<(), AllocError>
     push_first(text, one.kind, &one.first)
 }
 
-/// Where a line counts first.
+/// The first context in which a line counts, or `never`.
 fn push_first(
     text: &mut Vec<u8>,
     kind: ChoiceKind,

@@ -14,14 +14,14 @@ ghost use Rattle.tariff_compare.specs.declared.meter_context.MeterContext.{Meter
 ghost use Rattle.tariff_syntax.specs.Tree.{Tree};
 ghost use Rattle.tariff_check.specs.declared.choice.ChoiceKind.{ChoiceKind};
 
-/// The law of first contexts: the context that is given of a line is the first one of a meter in which it is the line
-/// that counts, and none is given exactly where it counts in none.
+/// The law of first contexts: the context that is given of a line is the first one of a meter in which that line
+/// counts. None is given exactly if it counts in none.
 pub fn first_contexts_are_first()
     ensures { (t : Tree) (k : ℕ) (kind : ChoiceKind) (place : ℕ) → HasTables t k
         → IsFirstOrNone t (λ m. counts t k kind place m ≡ true) (first_counting (side_of t k) kind place) }
 {}
 
-/// The law of differences: none is given exactly where two tariffs are the same. One of the frame comes before all
+/// The law of differences: none is given exactly if two tariffs are the same. One of the frame comes before all
 /// contexts, and one of a context is in the first context of a meter in which anything differs.
 pub fn differences_are_first()
     ensures none { (t u : Tree) (k : ℕ) → HasTables t k → HasTables u k
@@ -34,10 +34,10 @@ pub fn differences_are_first()
         → HasSameFrame t u → difference_of t u k ≡ Some (In kind m) → DiffersFirst t u k kind m }
 {}
 
-/// The law of first parts: what is found of two frames is the first part in which they differ, of decimals, display
-/// step, rounding, positions, zones and the supplements by number; what is found in a context is the first kind of line
-/// that is asked for there and differs, of initial hire fee, minimum fare and rate; and two are the same in a kind
-/// exactly if their numbers say so.
+/// The law of first parts. What is found of two frames is the first part in which they differ, of decimals, display
+/// step, rounding, positions, zones and the supplements by number. What is found in a context is the first kind of line
+/// that is asked for there and differs, of initial hire fee, minimum fare and rate. Two are the same in a kind exactly
+/// if their numbers say so.
 pub fn first_parts_differ()
     ensures frame { (t u : Tree) (k : ℕ) (d : Difference) → HasTables t k → HasTables u k
         → frame_difference t u ≡ Some d → IsFirstOfFrame t u d }

@@ -14,8 +14,8 @@ use std::alloc::Global;
 use tariff_check::{Checked, ChoiceKind, ChoiceLine};
 use taxi_units::NoMemory;
 
-/// A line by its number in the text and its kind, and the first context of a meter in which it is the one that counts;
-/// `None` exactly where it counts in none.
+/// A line by its number in the text and its kind, and the first context of a meter in which it counts; `None` exactly
+/// if it counts in none.
 #[derive(Clone, Copy)]
 pub struct LineUse {
     pub line: u32,
@@ -23,8 +23,8 @@ pub struct LineUse {
     pub first: Option<MeterContext>,
 }
 
-/// The use of each line of a sound tariff that is of a kind, under a constant, in the order of the text. That a line
-/// is asked in all contexts of a meter is this project's own. `NoMemory` where memory runs out.
+/// The use of each line of a sound tariff that is of a kind, under a constant, in the order of the text. That a line is
+/// asked in all contexts of a meter is this project's own. `NoMemory` if memory runs out.
 pub fn line_uses(alloc: Global, checked: &Checked, k: Constant) -> Result<Vec<LineUse>, NoMemory>
     ensures value { IfOk result (λ uses. uses.items ≡ uses_of (tree_of checked.now) k) }
     ensures dated { IfOk result (λ uses. All IsDatedUse uses.items) }

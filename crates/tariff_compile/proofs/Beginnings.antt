@@ -5,7 +5,7 @@ use Rattle.tariff_calendar.proofs.Laws.{counts_are_places-after, counts_are_plac
 use Rattle.tariff_calendar.specs.Lists.{IsNotFalling, count_at_most}
 use Rattle.tariff_compile.specs.Cells.{beginning}
 
--- where the first n cuts are at most a value and no later one is, they are n
+-- if the first n cuts are at most a value and no later one is, they are n
 count_at_most-at : (v n : ℕ) (xs : List ℕ) → IsNotFalling xs → n ≤ length xs → ((i : ℕ) → i < n → get_or xs i 0 ≤ v)
     → ((i : ℕ) → n ≤ i → i < length xs → v < get_or xs i 0) → count_at_most v xs ≡ n
 count_at_most-at v n xs ordered few below above =

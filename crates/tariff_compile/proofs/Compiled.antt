@@ -252,7 +252,7 @@ pub supplement-none : (t : Tree) (tables : TableParts) (number : ℕ) → IsTabl
 supplement-none t tables number is out =
     sym (supplements_are_numbered_to_16 t number is.writable out)
 
--- a day is a holiday where its date is in a holiday line
+-- a day is a holiday exactly if its date is in a holiday line
 pub holiday-dates : (t : Tree) (tables : TableParts) (day : ℤ) (year month date : ℕ) → IsTablesOf t tables
     → IsDateOf day year month date → has_day tables.cuts.holidays day ≡ is_holiday t.lines year month date
 holiday-dates t tables day year month date is of =
@@ -263,7 +263,7 @@ some_day : (days : List ℕ) (day : ℤ) → has_day days day ≡ true → ltb 0
 some_day [] day is = cc
 some_day (d ∷ ds) day is = lt-ltb 0 (length (d ∷ ds)) (omega arith)
 
--- a day is a holiday only where there is one
+-- a day is a holiday only if there is one
 pub holiday-some : (tables : TableParts) (day : ℤ) → has_day tables.cuts.holidays day ≡ true
     → has_days tables.cuts ≡ true
 holiday-some tables day holiday = some_day tables.cuts.holidays day holiday

@@ -22,7 +22,7 @@ use Rattle.tariff_compile.specs.declared.cells.CellLines.{CellLines}
 use Rattle.tariff_compile.proofs.Beginnings.{beginning-le, count_at_most-beginning}
 use Rattle.tariff_compile.proofs.Numbering.{bands_of-cell_number, cell_number_below}
 
--- a holiday is told from another day where there is a holiday
+-- a holiday is told from another day if there is a holiday
 holiday_below : (holidays holiday : Bool) → (holiday ≡ true → holidays ≡ true)
     → (if holiday then 1 else 0) < (if holidays then 2 else 1)
 holiday_below true true h = omega arith

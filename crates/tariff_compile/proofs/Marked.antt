@@ -29,7 +29,7 @@ first_by_answers f g n (x ∷ xs) (y ∷ ys) same =
     let tail : map f xs ≡ map g ys = cc in
     rw (head, first_by_answers f g (n + 1) xs ys tail)
 
--- so where these are the marks of each of some conditions, the first marks that a place has are those of the first
+-- so if these are the marks of each of some conditions, the first marks that a place has are those of the first
 -- condition that holds
 pub first_holds : (conditions : List (Option Condition)) (xs : List Context) (all read : List Marks) (place : ℕ)
     (x : Context) (found : Option ℕ) → MarkEach conditions xs all → read ≡ all → slice_get xs place ≡ Some x

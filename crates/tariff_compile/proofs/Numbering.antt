@@ -151,7 +151,7 @@ pub record FitsOnTheWay (s b : Bands) (bound : ℕ) : Type 0 where
 step_up : (n size digit bound : ℕ) → digit < size → n * size + digit < bound → n < bound
 step_up n size digit bound below h = let up : n ≤ n * size = le-mul_of_pos_right n (omega arith) in omega arith
 
--- where the number of cells is at most the bound
+-- if the number of cells is at most the bound
 pub fits_on_the_way : (s b : Bands) (bound : ℕ) → IsBelow s b → cell_count s ≤ bound → FitsOnTheWay s b bound
 fits_on_the_way s b bound h most =
     let last : cell_number s b < bound = omega (arith, cell_number_below s b h) in

@@ -62,7 +62,7 @@ blank_money decimals n rest most few h k =
       k,
     )
 
--- a section has short rows where each of its rows is short
+-- a section has short rows if each of its rows is short
 abbrev pub HasShortRows : Section → Type 0
 HasShortRows section = (place : ℕ) → place < section.count → place < 2 ^ 64 → IsShort (section.row place)
 

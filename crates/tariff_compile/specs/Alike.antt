@@ -6,7 +6,7 @@ use Rattle.tariff_syntax.specs.Condition.{Condition}
 use Rattle.tariff_syntax.specs.declared.context.Context.{Context}
 use Rattle.tariff_compile.specs.declared.alike.Alike.{Alike}
 
--- two contexts agree in the parts that are named alike
+-- two contexts agree if each part that is named alike is the same in both
 pub record Agree (alike : Alike) (x y : Context) : Type 0 where
   pub position : alike.position ≡ true → x.position ≡ y.position
   pub zone : alike.zone ≡ true → x.zone ≡ y.zone
@@ -17,13 +17,13 @@ pub record Agree (alike : Alike) (x y : Context) : Type 0 where
   pub distance : alike.distance ≡ true → (x.constant ≡ y.constant) × (x.pulses ≡ y.pulses)
   pub time : alike.time ≡ true → x.ticks ≡ y.ticks
 
--- contexts all agree in the parts that are named alike with the first of them
+-- contexts all agree if each agrees with the first of them
 abbrev pub AllAgree : Alike → List Context → Type 0
 AllAgree alike xs =
     (first : Context) → slice_get xs 0 ≡ Some first → (place : ℕ) (x : Context) → slice_get xs place ≡ Some x
     → Agree alike first x
 
--- a test whether a condition is an atom that asks for a part named alike
+-- the test `asks_alike` is true if a condition is an atom that asks for a part named alike
 abbrev pub asks_alike : Alike → Condition → Bool
 asks_alike alike (tree.and left right) = false
 asks_alike alike (tree.or left right) = false

@@ -5,8 +5,8 @@ use Rattle.tariff_calendar.specs.Lists.{CutLists, count_at_most}
 use Rattle.taxi_units.specs.Time.{longest_trip}
 use Rattle.tariff_compile.specs.declared.parts.Bands.{Bands}
 
--- the size of a dimension is how many numbers it has: as many as there are positions, zones, weekdays and kinds of
--- days, and one more than there are cuts in the others
+-- the size of a dimension is how many numbers it has: one for each position, zone, weekday or kind of day, and in the
+-- others one more than there are cuts
 abbrev pub sizes_of : (positions zones day_kinds : ℕ) → CutLists → Bands
 sizes_of positions zones day_kinds lists =
     record {
@@ -20,7 +20,7 @@ sizes_of positions zones day_kinds lists =
       time = length lists.times + 1;
     }
 
--- the numbers of a cell are below the sizes of its dimensions
+-- numbers are those of a cell if each is below the size of its dimension
 pub record IsBelow (sizes b : Bands) : Type 0 where
   pub position : b.position < sizes.position
   pub zone : b.zone < sizes.zone
@@ -31,12 +31,12 @@ pub record IsBelow (sizes b : Bands) : Type 0 where
   pub distance : b.distance < sizes.distance
   pub time : b.time < sizes.time
 
--- the numbers of a cell in its dimensions stand one after another, from the position to the time
+-- the numbers of a cell stand one after another, from the position to the time
 abbrev pub places_of : Bands → List ℕ
 places_of b =
     b.position ∷ b.zone ∷ b.weekday ∷ b.holiday ∷ b.month_day ∷ b.minute ∷ b.distance ∷ b.time ∷ []
 
--- numbers come before others if, at the first place at which they differ, the former have the lower one
+-- numbers come before others if they have the lower number at the first place at which they differ
 abbrev pub IsBefore : List ℕ → List ℕ → Type 0
 IsBefore (x ∷ xs) (y ∷ ys) = (x < y) ⊎ ((x ≡ y) × IsBefore xs ys)
 IsBefore xs ys = ⊥
@@ -51,7 +51,7 @@ cell_number s b =
     ((((((b.position * s.zone + b.zone) * s.weekday + b.weekday) * s.holiday + b.holiday) * s.month_day + b.month_day)
     * s.minute + b.minute) * s.distance + b.distance) * s.time + b.time
 
--- the numbers of a cell in its dimensions are told by its number, as the remainders by the sizes of the dimensions
+-- the numbers of a cell are told by its number: they are the remainders by the sizes of the dimensions
 abbrev pub bands_of : (sizes : Bands) (cell : ℕ) → Bands
 bands_of s n =
     let distances = n / s.time in
@@ -71,8 +71,8 @@ bands_of s n =
       time = n % s.time;
     }
 
--- the numbers of the cell of a context are its position, zone and weekday from 0, 1 for a holiday, and in each other
--- dimension the number of cuts at or below it
+-- the numbers of a context's cell are its position, zone and weekday, from 0, 1 for a holiday, and in each other
+-- dimension how many cuts are at or below it
 abbrev pub bands_at : CutLists → Context → Bands
 bands_at lists x =
     record {

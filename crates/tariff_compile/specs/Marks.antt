@@ -7,7 +7,7 @@ use Rattle.tariff_syntax.specs.Meaning.{holds_if}
 use Rattle.tariff_syntax.specs.declared.context.Context.{Context}
 use Rattle.tariff_compile.specs.declared.marks.Marks.{Marks}
 
--- a test whether a place is marked
+-- the test `is_marked` is true if a place is marked
 abbrev pub is_marked : Marks → (place : ℕ) → Bool
 is_marked marks place = bit_at marks.bits place == 1
 

@@ -81,7 +81,7 @@ abbrev pub count_of : List Section → ℕ
 count_of [] = 0
 count_of (section ∷ more) = section.count + count_of more
 
--- the row of sections at a place is the one at its place in the section that has it, where each begins behind the last
+-- the row of sections at a place is found in the section that has the place; each section begins behind the one before
 abbrev pub row_in : List Section → (place : ℕ) → List ℕ
 row_in [] place = []
 row_in (section ∷ more) place =

@@ -32,9 +32,9 @@ use Rattle.tariff_check.specs.declared.choice.ChoiceKind.TheVariants.{Rate, Init
 use Rattle.tariff_check.specs.declared.values.Initial as fees
 use Rattle.tariff_check.specs.declared.values.Supplement.{Supplement}
 
--- tables have the cuts of their tariff, the weights of its rates, its initial hire fees, its minimum fares, the lines
--- of its cells and its supplements, the constant, M, the display step and its rounding, and the decimals, positions and
--- zones
+-- tables have a tariff's cuts, the weights of its rates, its initial hire fees, minimum fares, lines of cells and
+-- supplements; and the constant, M, the display step, its rounding, the decimals, and how many positions and zones
+-- there are
 pub record TableParts : Type 0 where
   pub cuts : CutLists
   pub weights : List Weights
@@ -50,7 +50,7 @@ pub record TableParts : Type 0 where
   pub positions : ℕ
   pub zones : ℕ
 
--- the tables of the program are told by what each of their lists and numbers has
+-- the parts of the program's tables are what their lists and numbers have
 abbrev pub parts_of : Inside → TableParts
 parts_of t =
     record {
@@ -69,7 +69,7 @@ parts_of t =
       zones = t.zones;
     }
 
--- the weights of a rate, of a pulse and of a tick, are in units of charge, of which k times the common measure make the
+-- the weights of a rate, of a pulse and of a tick, are in units of charge; k times the common measure of these make the
 -- smallest unit of money
 abbrev pub weights_of : (k common : ℕ) → RateNumbers → Weights
 weights_of k common r = record { per_pulse = 10000 * r.a * (common / r.b); per_tick = r.c * k * (common / r.e) }
@@ -78,13 +78,13 @@ weights_of k common r = record { per_pulse = 10000 * r.a * (common / r.b); per_t
 abbrev pub all_weights : Tree → (k : ℕ) → List Weights
 all_weights t k = map (weights_of k (measure_of t.lines)) (rates_of t.lines)
 
--- the line of a kind that holds first in a context, or at its hiring if lines of the kind can't count amid a trip, is
--- told by its place among those of the kind, counted from 0
+-- the line of a kind that holds first in a context is told by its place among those of the kind, from 0; a kind that
+-- can't count amid a trip is asked at the context's hiring
 abbrev pub place_at : ChoiceKind → Tree → Context → Option ℕ
 place_at kind t x = choice_place (part_of kind) t (if is_asked_amid kind then x else at_hiring x)
 
--- lines are made of the place of a line of each kind: a rate and an initial hire fee, of which one always holds, have
--- their places from 0, and a minimum fare has its number from 1, or 0 if there is none
+-- lines are made of the place of a line of each kind; a rate and an initial hire fee always hold, and have their places
+-- from 0; a minimum fare has its number from 1, or 0 if there is none
 abbrev pub lines_with : ((kind : ChoiceKind) → Option ℕ) → CellLines
 lines_with place =
     record {
@@ -113,8 +113,8 @@ context_of t k cell = context_in k (lists_of t k) (bands_of (sizes_in t k) cell)
 abbrev pub cell_of : Tree → (k : ℕ) → Context → ℕ
 cell_of t k x = cell_number (sizes_in t k) (bands_at (lists_of t k) x)
 
--- the lines of a cell are those of a context if they are the rate that holds first in it, and the initial hire fee
--- and the minimum fare that hold first at its hiring
+-- a cell has the lines of a context if they are the rate that holds first in it, and the initial hire fee and the
+-- minimum fare that hold first at its hiring
 pub record HasLinesOf (t : Tree) (x : Context) (lines : CellLines) : Type 0 where
   pub rate : rate_place t x ≡ Some lines.rate
   pub initial : initial_place t x ≡ Some lines.initial
@@ -124,8 +124,8 @@ pub record HasLinesOf (t : Tree) (x : Context) (lines : CellLines) : Type 0 wher
 abbrev pub all_cells : Tree → (k : ℕ) → List CellLines
 all_cells t k = map (λ cell. lines_at t (context_of t k cell)) (range_with_len 0 (cell_count (sizes_in t k)))
 
--- the tables of a tariff, where k pulses make a kilometre, have its cuts, the weights of its rates, its fees and
--- minimum fares, the lines of each cell and its supplements, and as M the constant k times the common measure
+-- the tables of a tariff, if k pulses make a kilometre, have its cuts, the weights of its rates, its fees, minimum
+-- fares, lines of cells and supplements, and as M k times the common measure
 abbrev pub tables_of : Tree → (k : ℕ) → TableParts
 tables_of t k =
     record {
@@ -148,8 +148,8 @@ tables_of t k =
 abbrev pub sizes_for : TableParts → Bands
 sizes_for tables = sizes_of tables.positions tables.zones (if has_days tables.cuts then 2 else 1) tables.cuts
 
--- a context is one that a trip under the tables may have if its position, its zone and its kind of day are among the
--- tables', and its numbers in their ranges
+-- a trip under the tables may have a context if its position, zone and kind of day are among the tables', and its
+-- numbers in their ranges
 abbrev pub IsInRangeFor : TableParts → Context → Type 0
 IsInRangeFor tables x = IsInRange tables.constant tables.positions tables.zones (has_days tables.cuts) x
 

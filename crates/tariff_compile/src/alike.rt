@@ -6,7 +6,7 @@ ghost use Rattle.tariff_syntax.specs.declared.context.Context.{Context};
 
 use tariff_syntax::{Cond, Context};
 
-/// Which parts are the same in all of some contexts, so that what asks for them alone has one answer.
+/// Which parts are the same in all of some contexts. A condition that asks for one of them alone has one answer.
 #[derive(Clone, Copy)]
 pub(crate) struct Alike {
     position: bool,
@@ -40,7 +40,7 @@ impl Alike {
         alike
     }
 
-    /// The parts that are alike here and are the same in two contexts too.
+    /// The parts that are alike here, and the same in two contexts too.
     fn and_in(self, first: &Context, x: &Context) -> Alike
         ensures added { Agree result first.now x.now }
         ensures kept { (y : Context) → Agree self first.now y → Agree result first.now y }

@@ -7,8 +7,8 @@ use crate::parts::Bands;
 use tariff_calendar::Cuts;
 use tariff_check::Dimension;
 
-/// How many numbers each dimension has, under a tariff's positions, zones and cuts. Days are of two kinds
-/// where there is a holiday.
+/// How many numbers each dimension has, under a tariff's positions, zones and cuts. Days are of two kinds if there is a
+/// holiday.
 pub(crate) fn sizes_of(positions: u8, zones: u8, cuts: &Cuts) -> Bands
     ensures { result ≡ sizes_of positions zones (if has_days cuts.now then 2 else 1) cuts.now }
 {
@@ -24,7 +24,7 @@ pub(crate) fn sizes_of(positions: u8, zones: u8, cuts: &Cuts) -> Bands
     }
 }
 
-/// The number of a cell: cells are numbered from 0 over the dimensions, the last running fastest.
+/// The number of a cell. Cells are numbered from 0 over the dimensions, the last running fastest.
 pub(crate) fn cell_number(sizes: &Bands, bands: &Bands) -> usize
     requires below { IsBelow sizes.now bands.now }
     requires fits { cell_count sizes.now ≤ 2 ^ 32 }

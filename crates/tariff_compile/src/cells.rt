@@ -22,8 +22,8 @@ use tariff_check::{Checked, Choice};
 use tariff_syntax::Context;
 use taxi_units::NoMemory;
 
-/// The lines of a cell: by their places from 0 the rate and the initial hire fee, and by its number from
-/// 1 the minimum fare, 0 where it has none.
+/// The lines of a cell: the places of its rate and its initial hire fee, from 0, and the number of its minimum fare,
+/// from 1, or 0 if it has none.
 #[derive(Clone, Copy)]
 pub struct CellLines {
     pub rate: u8,
@@ -43,7 +43,7 @@ impl CellLines {
     }
 }
 
-/// The lines of each cell. `NoMemory` where memory runs out.
+/// The lines of each cell. `NoMemory` if memory runs out.
 pub(crate) fn all_cells(
     alloc: Global,
     checked: &Checked,
@@ -93,7 +93,7 @@ fn contexts_of(
     Ok(contexts)
 }
 
-/// The lines that hold first in each of up to 64 contexts, behind the others.
+/// Appends the lines that hold first in each of up to 64 contexts.
 fn push_lines(
     alloc: Global,
     checked: &Checked,
@@ -120,7 +120,7 @@ fn push_lines(
     Ok(())
 }
 
-/// The first of some choices that holds in each of up to 64 contexts, by its number among them from 1; 0 where none
+/// The first of some choices that holds in each of up to 64 contexts: its number among them, from 1, or 0 if none
 /// holds.
 fn first_numbers<V>(
     alloc: Global,
@@ -162,7 +162,7 @@ fn hirings(alloc: Global, contexts: &[Context]) -> Result<Vec<Context>, NoMemory
     Ok(hirings)
 }
 
-/// The number of a place, from 1; 0 where there is none.
+/// The number of a place, from 1; 0 if there is none.
 fn place_number(place: Option<usize>) -> u8
     requires { ForSome place (λ p. p < 255) }
     ensures { result ≡ place_number place }

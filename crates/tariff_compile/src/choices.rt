@@ -12,7 +12,7 @@ use std::alloc::Global;
 use tariff_check::{Checked, Choice, RateNumbers, Supplement};
 use taxi_units::NoMemory;
 
-/// The supplements of the numbers 1 to 16, where the tariff has them.
+/// The supplement of each number from 1 to 16, if the tariff has it.
 pub(crate) fn all_supplements(
     alloc: Global,
     checked: &Checked,

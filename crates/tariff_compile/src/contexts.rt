@@ -14,7 +14,7 @@ use tariff_check::Dimension;
 use tariff_syntax::Context;
 use taxi_units::{LONGEST_TRIP, Steps};
 
-/// A context of a cell: it is at the beginning of each band.
+/// The context of a cell at the beginning of each band.
 pub(crate) fn context_in(k: Constant, cuts: &Cuts, bands: &Bands) -> Context
     requires narrow { IsNarrow bands.now }
     requires low { HasLowCuts cuts.now }
@@ -75,8 +75,8 @@ pub(crate) fn bands_at<L: Ledger>(cuts: &Cuts, x: &Context, steps: &mut Steps<L>
     bands
 }
 
-/// The numbers of the cell in which a context is, and for how many further pulses and further ticks it
-/// stays there at least. At most 20 steps.
+/// The numbers of the cell in which a context is, and for how many more pulses and more ticks it at least stays there.
+/// At most 20 steps.
 pub(crate) fn bands_until<L: Ledger>(
     cuts: &Cuts,
     x: &Context,

@@ -14,7 +14,7 @@ mod tables;
 mod theorems;
 
 pub use cells::CellLines;
-pub use parts::Lasting;
+pub use parts::{Bands, Lasting};
 pub use tables::{Tables, compile};
 pub use theorems::{
     cells_are_numbered_in_order, rows_are_in_order, tables_are_fit, tables_equal_the_tree,

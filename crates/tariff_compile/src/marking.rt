@@ -51,7 +51,7 @@ pub(crate) fn first_marked(all: &[Marks], place: usize) -> Option<usize>
     None
 }
 
-/// The contexts in which the line at a place of a tariff holds, which may have a condition.
+/// The contexts in which the line at a place of a tariff holds: all, if it has no condition.
 fn marks_at(checked: &Checked, place: usize, alike: Alike, contexts: &[Context]) -> Marks
     requires few { length contexts.now ≤ 64 }
     requires alike { AllAgree alike contexts.now }
@@ -63,7 +63,7 @@ fn marks_at(checked: &Checked, place: usize, alike: Alike, contexts: &[Context])
     }
 }
 
-/// The contexts in which a condition holds. The right part is asked first, as where it is asked alone.
+/// The contexts in which a condition holds. The right part is asked first, as it is in a single context.
 fn marks_of(cond: &Cond, alike: Alike, contexts: &[Context]) -> Marks
     requires few { length contexts.now ≤ 64 }
     requires alike { AllAgree alike contexts.now }
@@ -81,7 +81,7 @@ fn marks_of(cond: &Cond, alike: Alike, contexts: &[Context]) -> Marks
     }
 }
 
-/// The contexts in which an atom holds. It is asked once, where it asks for what the contexts have in common.
+/// The contexts in which an atom holds. It is asked once if it asks for what the contexts have in common.
 fn marks_of_atom(cond: &Cond, alike: Alike, contexts: &[Context]) -> Marks
     requires few { length contexts.now ≤ 64 }
     requires alike { AllAgree alike contexts.now }

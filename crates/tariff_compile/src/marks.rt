@@ -27,7 +27,7 @@ impl Marks {
         }
     }
 
-    /// A place is marked too, where it is to be; the others stay as they are.
+    /// Marks a place if it is to be marked; the others stay as they are.
     pub(crate) fn and_at(self, place: usize, marked: bool) -> Marks
         requires { place < 64 }
         ensures here { is_marked result place ≡ (is_marked self place || marked) }

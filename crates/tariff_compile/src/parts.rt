@@ -2,7 +2,7 @@
 
 use drive_modes::Weights;
 
-/// What a rate weighs, and for how many further pulses and further ticks of a trip it holds at least.
+/// What a rate weighs, and for how many more pulses and more ticks of a trip it at least holds.
 #[derive(Clone, Copy)]
 pub struct Lasting {
     pub weights: Weights,
@@ -12,13 +12,13 @@ pub struct Lasting {
 
 /// The number of a cell in each dimension, from 0; or how many numbers each dimension has.
 #[derive(Clone, Copy)]
-pub(crate) struct Bands {
-    pub(crate) position: usize,
-    pub(crate) zone: usize,
-    pub(crate) weekday: usize,
-    pub(crate) holiday: usize,
-    pub(crate) month_day: usize,
-    pub(crate) minute: usize,
-    pub(crate) distance: usize,
-    pub(crate) time: usize,
+pub struct Bands {
+    pub position: usize,
+    pub zone: usize,
+    pub weekday: usize,
+    pub holiday: usize,
+    pub month_day: usize,
+    pub minute: usize,
+    pub distance: usize,
+    pub time: usize,
 }

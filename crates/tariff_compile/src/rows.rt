@@ -25,13 +25,13 @@ impl Tables {
         1 + rates + initials + minimums + cells
     }
 
-    /// Appends a row, ended by a line feed: row 0 is `MEASURE M`; then comes `RATE i per_pulse per_tick`
-    /// for each rate, `INITIAL i amount covers` for each initial hire fee and `MINIMUM i amount` for each
-    /// minimum fare, all numbered from 1, and `CELL c r i` for each cell, numbered from 0, with the numbers
-    /// of its rate and its initial hire fee. Where there are minimum fares a cell is `CELL c r i m`, with
-    /// the number of its minimum fare or 0. The form is this project's own.
+    /// Appends a row, ended by a line feed. Row 0 is `MEASURE M`. Then come `RATE i per_pulse per_tick` for each rate,
+    /// `INITIAL i amount covers` for each initial hire fee, and `MINIMUM i amount` for each minimum fare, all numbered
+    /// from 1. The last are the cells, numbered from 0: `CELL c r i`, with the numbers of the rate and the initial hire
+    /// fee. If there are minimum fares, a cell is `CELL c r i m`, with the number of its minimum fare or 0. The form is
+    /// this project's own.
     ///
-    /// `LineFull` where it doesn't fit; the line is then unchanged.
+    /// `LineFull` if the row doesn't fit; the line is then unchanged.
     pub fn put_row(&self, i: u64, line: &mut Line) -> Result<(), LineFull>
         requires { i < row_count self.now }
         ensures variant { IsOk result ↔ (array_vec_len line.old + length (row_text self.now i) ≤ line_size) }
@@ -133,8 +133,7 @@ fn minimum_row(row: &mut Line, decimals: u8, number: u64, amount: u64) -> Result
     put_bytes(row, b"\n")
 }
 
-/// The row of a cell, with the numbers of its lines from 1; that of its minimum fare where the tariff has
-/// minimum fares.
+/// The row of a cell, with the numbers of its lines from 1. Its minimum fare is there if the tariff has minimum fares.
 fn cell_row(row: &mut Line, minimums: bool, cell: u64, lines: CellLines) -> Result<(), LineFull>
     requires { row.old.items ≡ [] }
     ensures variant { IsOk result ↔ (length (cell_row minimums cell lines) ≤ line_size) }
@@ -146,7 +145,7 @@ fn cell_row(row: &mut Line, minimums: bool, cell: u64, lines: CellLines) -> Resu
     put_minimum(row, minimums, lines.minimum)
 }
 
-/// Ends the row of a cell, where there are minimum fares with the number of the cell's.
+/// Ends the row of a cell, with the number of its minimum fare if there are minimum fares.
 fn put_minimum(row: &mut Line, minimums: bool, number: u8) -> Result<(), LineFull>
     ensures variant { IsOk result ↔ (array_vec_len row.old + length (minimum_field minimums number) ≤ line_size) }
     ensures ok { OnOk result (row.new.items ≡ row.old.items ++ minimum_field minimums number) }

@@ -27,9 +27,9 @@ use tariff_check::{Checked, Initial, InitialNumbers, Supplement};
 use tariff_syntax::Context;
 use taxi_units::{Counted, NoMemory, Steps};
 
-/// The tables of a sound tariff under a constant: its cuts, what each rate weighs, its initial hire fees,
-/// minimum fares and supplements, and for each cell its lines. Of a condition, a line or a text they keep
-/// nothing. Tables of cells are this project's own.
+/// The tables of a sound tariff under a constant: its cuts, what each rate weighs, its initial hire fees, minimum fares
+/// and supplements, and for each cell its lines. They keep no condition, line or text. Tables of cells are this
+/// project's own.
 #[derive(Drop)]
 pub struct Tables {
     pub(crate) cuts: Cuts,
@@ -70,8 +70,8 @@ impl Model for Tables {
     ghost invariant = { λ t. IsCompiled (parts_of t) × IsFit (parts_of t) };
 }
 
-/// The tables of a tariff under a constant of the taximeter. Each cell has the lines that hold first in a
-/// context of it, at the beginning of its bands. `NoMemory` where memory runs out.
+/// Makes the tables of a tariff under a constant of the taximeter. Each cell has the lines that hold first in a context
+/// of it, at the beginning of its bands. `NoMemory` if memory runs out.
 pub fn compile(alloc: Global, checked: &Checked, k: Constant) -> Result<Tables, NoMemory>
     ensures value { IfOk result (λ tables. tables ≡ tables_of (tree_of checked.now) k) }
     ensures tables { IfOk result (IsTablesOf (tree_of checked.now)) }
@@ -128,9 +128,8 @@ impl Tables {
         )
     }
 
-    /// The weights of the rate that holds first in a context, which a trip may have and which has the
-    /// tables' constant. A step is the read of a cut, of a cell or of the weights: they are at least 2 and
-    /// at most 22.
+    /// The weights of the rate that holds first in a context that a trip may have, under the tables' constant. Each
+    /// read of a cut, of a cell or of the weights is a step: 2 to 22.
     pub fn rate_at<L: Ledger>(&self, x: &Context, steps: &mut Steps<L>) -> Weights
         requires range { IsInRangeFor self.now x.now }
         ensures tree { (t : Tree) → IsTablesOf t self.now → result ≡ rate_by t self.now.constant x.now }
@@ -143,9 +142,9 @@ impl Tables {
         Counted::of(self.weights.as_slice()).read(lines.rate as usize, steps)
     }
 
-    /// The weights of the rate that holds first in a context, as `rate_at` gives them, and for how many
-    /// further pulses and further ticks of a trip they are the same at least: until the next cut of
-    /// distance and of time. It takes as many steps.
+    /// The weights of the rate that holds first in a context, as `rate_at` gives them. It also says for how many more
+    /// pulses and more ticks of a trip they at least stay the same: until the next cut of distance and of time. It
+    /// takes as many steps.
     pub fn rate_until<L: Ledger>(&self, x: &Context, steps: &mut Steps<L>) -> Lasting
         requires range { IsInRangeFor self.now x.now }
         ensures tree { (t : Tree) → IsTablesOf t self.now → result.weights ≡ rate_by t self.now.constant x.now }
@@ -165,9 +164,9 @@ impl Tables {
         }
     }
 
-    /// The initial hire fee and the minimum fare that hold first in a context at the hiring, which a trip
-    /// may have and which has the tables' constant. A step is the read of a cut of days or minutes, of a
-    /// cell, of the fee or of the minimum fare: they are at least 2 and at most 15.
+    /// The initial hire fee and the minimum fare that hold first at the hiring of a context that a trip may have, under
+    /// the tables' constant. Each read of a cut of days or minutes, of a cell, of the fee or of the minimum fare is a
+    /// step: 2 to 15.
     pub fn initial_at<L: Ledger>(&self, x: &Context, steps: &mut Steps<L>) -> Initial
         requires range { IsInRangeFor self.now x.now }
         ensures tree { (t : Tree) → IsTablesOf t self.now → result ≡ initial_by t x.now }
@@ -180,7 +179,7 @@ impl Tables {
         self.fees_of(lines, steps)
     }
 
-    /// The fees that lines name. A step is the read of one: they are 1 or 2.
+    /// The fees that lines name. Each read of one is a step: 1 or 2.
     fn fees_of<L: Ledger>(&self, lines: CellLines, steps: &mut Steps<L>) -> Initial
         requires { lines.initial < length self.now.initials }
         ensures value { result ≡ fees_of self.now lines }
@@ -194,8 +193,8 @@ impl Tables {
         }
     }
 
-    /// The lines that hold first in a context, which a trip may have and which has the tables' constant.
-    /// It takes no steps: it is for what goes over many contexts, and no event asks it.
+    /// The lines that hold first in a context that a trip may have, under the tables' constant. It takes no steps: it
+    /// is for callers that go over many contexts, and no event asks it.
     pub fn lines_at(&self, x: &Context) -> CellLines
         requires range { IsInRangeFor self.now x.now }
         ensures value { result ≡ lines_in self.now x.now }
@@ -206,8 +205,7 @@ impl Tables {
         self.cells.as_slice()[cell]
     }
 
-    /// The initial hire fee and the minimum fare that hold first at the hiring of such a context. It takes
-    /// no steps either.
+    /// The initial hire fee and the minimum fare that hold first at the hiring of such a context. It takes no steps.
     pub fn fees_at(&self, x: &Context) -> Initial
         requires range { IsInRangeFor self.now x.now }
         ensures { result ≡ fees_in self.now x.now }
@@ -239,8 +237,8 @@ impl Tables {
         Counted::of(self.cells.as_slice()).read(cell_number(&sizes, bands), steps)
     }
 
-    /// Says what the type keeps of each of its values: they are the tables of a tariff, and their numbers are
-    /// within their limits. It does nothing.
+    /// Says what the type keeps of each of its values: they are the tables of a tariff, with numbers within their
+    /// limits. It does nothing.
     pub fn recall(&self)
         ensures compiled { IsCompiled self.now }
         ensures fit { IsFit self.now }
@@ -248,8 +246,8 @@ impl Tables {
         let _ = &self.measure;
     }
 
-    /// Whether a day, by its number since 1970-01-01, is a holiday of the tariff. At most 8 steps, and one
-    /// at least for a day from 1970 on where there is a holiday.
+    /// Whether a day, by its number since 1970-01-01, is a holiday of the tariff. At most 8 steps, and at least one if
+    /// there is a holiday and the day is from 1970 on.
     pub fn holiday<L: Ledger>(&self, day: i32, steps: &mut Steps<L>) -> bool
         ensures value { result ≡ has_day self.now.cuts.holidays day }
         ensures tree { (t : Tree) (year month date : ℕ) → IsTablesOf t self.now → IsDateOf day year month date
@@ -261,8 +259,8 @@ impl Tables {
         self.cuts.holiday(day, steps)
     }
 
-    /// The supplement of a number; `None` exactly where the tariff has no such line, as for each number
-    /// outside 1 to 16. One step.
+    /// The supplement of a number. `None` exactly if the tariff has no such line, as for each number outside 1 to 16.
+    /// One step.
     pub fn supplement<L: Ledger>(&self, number: u8, steps: &mut Steps<L>) -> Option<Supplement>
         ensures tree { (t : Tree) → IsTablesOf t self.now → result ≡ supplement_of t.lines number }
         ensures compiled { IsCompiled self.now }
@@ -336,7 +334,7 @@ impl Tables {
     }
 }
 
-/// The amount of a number from 1; 0 where the number has none.
+/// The amount of a number from 1; 0 if there is none.
 fn amount(amounts: &[u64], number: u8) -> u64
     ensures { result ≡ get_or (0 ∷ amounts.now) number 0 }
 {
@@ -346,7 +344,7 @@ fn amount(amounts: &[u64], number: u8) -> u64
     amounts[number as usize - 1]
 }
 
-/// The amount of a number from 1, one step; 0, without a step, where the number has none.
+/// The amount of a number from 1, one step; 0, without a step, if there is none.
 fn counted_amount<L: Ledger>(amounts: &[u64], number: u8, steps: &mut Steps<L>) -> u64
     ensures value { result ≡ get_or (0 ∷ amounts.now) number 0 }
     ensures steps { (steps.old ≤ steps.new) × (steps.new ≤ steps.old + 1) }

@@ -14,9 +14,9 @@ ghost use Rattle.tariff_syntax.specs.Tree.{Tree};
 ghost use Rattle.tariff_syntax.specs.Writable.{IsWritable};
 ghost use Rattle.tariff_syntax.specs.declared.context.Context.{Context};
 
-/// The law of tables: for each sound tariff, constant and context that a trip may have, the cell of the
-/// context is there, and its lines are those that hold first in the tariff's tree. What is looked up is
-/// what those lines say: weights, amounts, and 0 where no line of a kind holds.
+/// The law of tables, for each sound tariff, constant and context that a trip may have: the context's cell is there,
+/// and its lines are those that hold first by the tariff's tree. What is looked up is what those lines say: weights,
+/// amounts, and 0 if no line of a kind holds.
 pub fn tables_equal_the_tree()
     ensures cell { (t : Tree) (k : ℕ) (x : Context) → IsWritable t → IsSound t → IsInRangeOf t k x
         → (lines : CellLines) × (slice_get (tables_of t k).cells (cell_of t k x) ≡ Some lines) × HasLinesOf t x lines }
@@ -40,7 +40,7 @@ pub fn cells_are_numbered_in_order()
         → IsBefore (places_of bands) (places_of later) → cell_number sizes bands < cell_number sizes later }
 {}
 
-/// The law of numbers: tables of a tariff have them within their limits.
+/// The law of numbers: those in the tables of a tariff are within their limits.
 pub fn tables_are_fit()
     ensures { (tables : TableParts) → IsCompiled tables → IsFit tables }
 {}

@@ -241,7 +241,7 @@ no_seconds : (rest : List Token) → after_word (codes "m") (word (codes "s") �
 unfolding after_word
 no_seconds rest = refl
 
--- what has the form of an atom is read, where no `..` follows it
+-- what has the form of an atom is read, if no `..` follows it
 pub atom_again : (factors conditions : Reader) (ts : List Token) (c : Condition) (rest : List Token)
     → after_sign (codes "..") rest ≡ None → IsAtom ts c → factor_by factors conditions (ts ++ rest) ≡ Some (c, rest)
 unfolding atom_named numbered_first time_first dates_first after_first

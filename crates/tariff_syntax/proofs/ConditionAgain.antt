@@ -179,7 +179,7 @@ claimed whole ts c (disjunction left right p q h g) depth few deep =
           (term_ends depth right q rest (omega (arith, counts)) second free),
     )
 
--- a condition with few atoms, `not` and `(` is read, where nothing follows that it goes on with
+-- a condition with few atoms, `not` and `(` is read, if nothing follows that it goes on with
 pub condition_again : (ts : List Token) (c : Condition) (rest : List Token) → IsCondition whole ts c → weight ts ≤ 64
     → Free whole rest → condition_by (factor_first 64) (ts ++ rest) ≡ Some (c, rest)
 condition_again ts c rest h few free = whole_ends 64 ts c rest few (claimed whole ts c h 64 few (omega arith)) free

@@ -34,7 +34,7 @@ mod ReadsLaws
 mod ShownConditions
 -- the figures that are printed, and what they say
 mod ShownFigures
--- the printed form of a condition shows it, with no more atoms, `not` and `(` than where it stood
+-- the printed form of a condition shows it, with no more atoms, `not` and `(` than its line
 mod ShownGrammar
 -- the printed form of a tariff reads as that tariff
 mod ShownLines

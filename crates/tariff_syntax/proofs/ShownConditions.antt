@@ -55,7 +55,7 @@ as_whole : (c : Condition) (w : ℕ) → Fits term c w → Fits whole c w
 as_whole (tree.or p q) w h = (h.0, h.1, h.2, h.3, omega (arith, h.4))
 as_whole c w h = h
 
--- a condition has no more of them printed than where it stands
+-- a condition has no more of them printed than in its line
 pub fits : (place : Level) (ts : List Token) (c : Condition) → IsCondition place ts c → Fits place c (weight ts)
 fits factor ts c (atom ts' c' h) = atom_fits ts' c' h (omega (arith, atom_weighs ts' c' h))
 fits factor ts c (negation ts' c' h) = (weight ts', fits factor ts' c' h, omega arith)

@@ -1,4 +1,4 @@
--- The printed form of a condition shows it, with no more atoms, `not` and `(` than where it stood.
+-- The printed form of a condition shows it, with no more atoms, `not` and `(` than its line.
 use Rattle.std.proofs.Common.{ℕ, ◌+◌, ◌≤◌, List, [], ◌∷◌, ◌++◌, refl, sym, subst, arith, codes, append_assoc}
 use Rattle.tariff_syntax.specs.Condition as tree
 use Rattle.tariff_syntax.specs.Condition.{Condition, position, zone, time, day, date, holiday, after_distance}

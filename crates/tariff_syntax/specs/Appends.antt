@@ -1,4 +1,4 @@
--- For proofs: what a writer does to a text, where each part is spelled in front of its rest.
+-- For proofs: what a writer does to a text; each part is spelled in front of its rest.
 use Rattle.std.specs.Prelude.{◌≡◌, ℕ, List, ◌++◌}
 
 -- a text went from `old` to `new` by appending what `spelled` puts in front of whatever follows

@@ -1,4 +1,4 @@
--- For proofs: what is built of a condition that is read, where memory may run out.
+-- For proofs: what is built of a condition that is read, even if memory runs out.
 use Rattle.std.specs.Prelude.{◌≡◌, List, Option, Some, None, Result, Ok, Err, ⊤}
 use Rattle.tariff_syntax.specs.Condition.{Condition, condition_of, and, or, not}
 use Rattle.tariff_syntax.specs.Token.{Token}
@@ -22,7 +22,7 @@ HasPartsIf (Some c) = HasParts c
 abbrev pub EntryHasParts : Entry → Type 0
 EntryHasParts entry = HasPartsIf (when_part entry)
 
--- a condition, or the want of memory for its parts
+-- a condition, or NoMemory for its parts
 abbrev pub Built : Type 0
 Built = Result Cond NoMemory
 

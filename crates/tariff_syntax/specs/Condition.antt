@@ -3,9 +3,9 @@ use Rattle.std.specs.Prelude.{ℕ, Option, Some, None}
 use Rattle.tariff_syntax.specs.declared.condition.Cond.{Cond, And', Or', Not', Position, Zone, Time, Day, Date, Holiday}
 use Rattle.tariff_syntax.specs.declared.condition.Cond.{AfterDistance, AfterTime}
 
--- a condition joins others by `and`, `or` and `not`, or is an atom: a position or zone, a range of minutes of the day,
--- of weekdays from 1 for Monday or of months and dates, a holiday, or a distance in decimetres or a time in tenths of a
--- second that has passed
+-- a condition joins others by `and`, `or` and `not`, or is an atom: a position or a zone, a range of minutes of the
+-- day, of weekdays from 1 for Monday or of dates of a year, a holiday, or a distance in decimetres or a time in tenths
+-- of a second that has passed
 pub data Condition : Type 0 where
   and : (left right : Condition) → Condition
   or : (left right : Condition) → Condition

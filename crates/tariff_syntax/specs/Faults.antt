@@ -1,4 +1,4 @@
--- For proofs: what a reader gives that may run out of memory.
+-- For proofs: the answer of a reader that may run out of memory.
 use Rattle.std.specs.Prelude.{◌≡◌, Option, Some, None, Result, Ok, Err}
 use Rattle.tariff_syntax.specs.declared.conditions.LineFault.{LineFault}
 use Rattle.tariff_syntax.specs.declared.conditions.LineFault.TheVariants.{Bad, NoMemory}

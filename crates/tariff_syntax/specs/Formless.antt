@@ -9,14 +9,14 @@ pub record IsFormless (decimals : ℕ) (text : List ℕ) : Type 0 where
   pub filled : ¬ IsEmpty text
   pub says_none : (entry : Entry) → ¬ IsLineOfEntry decimals text entry
 
--- of texts that are numbered from `number` on the one numbered `line` has no form
+-- the text numbered `line`, of texts that are numbered from `number` on, has no form
 abbrev pub HasFormless : (decimals number : ℕ) → List (List ℕ) → (line : ℕ) → Type 0
 HasFormless decimals number [] line = ⊥
 HasFormless decimals number (text ∷ texts) line =
     ((line ≡ number) × IsFormless decimals text) ⊎ HasFormless decimals (number + 1) texts line
 
--- of texts that are numbered from `number` on the one numbered `line` has no form, under the decimals that the first
--- text that isn't empty says, and is then not this one, or under 2 if it says none
+-- the text numbered `line`, of texts that are numbered from `number` on, has no form under the decimals of the first
+-- text that isn't empty, which is then another one, or under 2 if it says none
 abbrev pub HasFormlessBelow : (number : ℕ) → List (List ℕ) → (line : ℕ) → Type 0
 HasFormlessBelow number [] line = ⊥
 HasFormlessBelow number (text ∷ texts) line =

@@ -10,7 +10,7 @@ use Rattle.tariff_syntax.specs.Token.{Token, word, figure, sign}
 use Rattle.tariff_syntax.specs.Words.{after_word, after_sign, ended}
 use Rattle.tariff_syntax.specs.Weight.{weight}
 
--- a reader gives the condition that stands first in tokens, and the tokens after it
+-- a reader gives the condition at the front of tokens, and the tokens after it
 abbrev pub Reader : Type 0
 Reader = List Token → Option (Condition × List Token)
 

@@ -1,5 +1,5 @@
--- Rules: the lines of the language, kind by kind: what stands in a line, in which order, and in which range each number
--- lies. The law lines_are_those_of_the_table says that the parts of an entry come to this table.
+-- Rules: the lines of the language, kind by kind: the parts of a line, their order, and the range of each number. The
+-- law lines_are_those_of_the_table says that the parts of an entry agree with this table.
 use Rattle.std.specs.Prelude.{◌≡◌, ℕ, ◌≤◌, List, [], ◌∷◌, ◌++◌, codes}
 use Rattle.tariff_syntax.specs.Forms.{IsNumber, IsYearDate, IsAmount}
 use Rattle.tariff_syntax.specs.IsItem.{IsCovers, IsRounding, IsWhen}
@@ -7,8 +7,8 @@ use Rattle.tariff_syntax.specs.Token.{Token, word, figure, sign}
 use Rattle.tariff_syntax.specs.Tree.{Entry, step, positions, zones, holiday, supplement, initial, rate, minimum}
 use Rattle.tariff_syntax.specs.Writable.{IsFromTo, IsWritableIf, greatest}
 
--- tokens are a line of the table if they are its word and what stands behind it, where the `rest` of a step, a fee, a
--- rate and a minimum may be left out
+-- tokens are a line of the table if they are its word and its parts; the `rest` of a step, a fee, a rate or a minimum
+-- may be left out
 abbrev pub IsTableLine : (decimals : ℕ) → List Token → Entry → Type 0
 IsTableLine decimals ts (step amount rounding) =
     (f : List ℕ) × (rest : List Token) × (ts ≡ word (codes "step") ∷ figure f ∷ rest) × IsAmount decimals f amount

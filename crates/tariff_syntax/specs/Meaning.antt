@@ -9,13 +9,13 @@ use Rattle.tariff_syntax.specs.Choices.{choices, conditions_of, initial_part, mi
 use Rattle.tariff_syntax.specs.Tree.{Tree, Entry}
 use Rattle.tariff_syntax.specs.declared.context.Context.{Context}
 
--- a number is within a range if it is from the first end to the second, both included, or, if the first is the
--- greater one, from the first end on or up to the second
+-- a number is within a range if it is from the first end to the second, both included; if the first is the greater one,
+-- if it is from the first end on or up to the second
 abbrev pub is_within : (from to n : ℕ) → Bool
 is_within from to n = if nat_le from to then nat_le from n && nat_le n to else nat_le from n || nat_le n to
 
--- a minute is in a range of times if it is from the first on and before the second, or, if the first is the later
--- one, from the first on or before the second, over midnight
+-- a minute is in a range of times if it is from the first on and before the second; if the first is the later one, over
+-- midnight: from the first on or before the second
 abbrev pub is_in_time : (from to minute : ℕ) → Bool
 is_in_time from to minute =
     if nat_le from to then nat_le from minute && nat_lt minute to else nat_le from minute || nat_lt minute to
@@ -24,8 +24,8 @@ is_in_time from to minute =
 abbrev pub is_by : (first second : ℕ × ℕ) → Bool
 is_by first second = nat_lt first.0 second.0 || (first.0 == second.0 && nat_le first.1 second.1)
 
--- a month and date is in a range of dates if it is from the first to the second, both included, or, if the first
--- is the later one, from the first on or up to the second, over the year's end
+-- a month and date is in a range of dates if it is from the first to the second, both included; if the first is the
+-- later one, over the year's end: from the first on or up to the second
 abbrev pub is_in_dates : (from to date : ℕ × ℕ) → Bool
 is_in_dates from to date = if is_by from to then is_by from date && is_by date to else is_by from date || is_by date to
 
@@ -34,8 +34,8 @@ abbrev pub is_on : (from to : ℕ × ℕ) → Option (ℕ × ℕ) → Bool
 is_on from to None = false
 is_on from to (Some date) = is_in_dates from to date
 
--- a condition holds in a context by its parts; a distance of X decimetres has passed if the constant times X is at
--- most 10,000 times the pulses, and a time if the ticks are at least its tenths of a second
+-- a condition holds in a context by its parts; X decimetres have passed if the constant times X is at most 10,000 times
+-- the pulses, and a time has passed if the ticks are at least its tenths of a second
 abbrev pub holds : Condition → Context → Bool
 holds (tree.and left right) x = holds left x && holds right x
 holds (tree.or left right) x = holds left x || holds right x
@@ -55,15 +55,15 @@ abbrev pub holds_if : Context → Option Condition → Bool
 holds_if x None = true
 holds_if x (Some when) = holds when x
 
--- a place, counted from 0, is that of the first that passes a test if the one there passes and none before it does;
--- none is the answer if none passes
+-- a place, from 0, is that of the first that passes a test if the one there passes and none before it does; there is no
+-- place if none passes
 abbrev pub IsFirstPlace : {A : Type 0} → (A → Bool) → List A → Option ℕ → Type 0
 IsFirstPlace {A} passes xs None = All (λ (x : A). passes x ≡ false) xs
 IsFirstPlace {A} passes xs (Some place) =
     (x : A) × (slice_get xs place ≡ Some x) × (passes x ≡ true)
     × All (λ (before : A). passes before ≡ false) (take place xs)
 
--- the place of the first of some conditions, each there or none, that holds in a context is counted from 0
+-- the place, from 0, of the first of some conditions, each there or none, that holds in a context
 abbrev pub place_of : Context → List (Option Condition) → Option ℕ
 place_of x conditions = position_from (holds_if x) 0 conditions
 

@@ -48,8 +48,8 @@ abbrev pub IsFilled : Result Tree ℕ → Type 0
 IsFilled (Ok t) = HasLines (Ok t.lines)
 IsFilled (Err bad) = ⊥
 
--- a text is refused as too long above 65,536 bytes, as bad with its first bad line, or for want of memory if it has
--- a tariff of at least one line
+-- a text is refused as too long above 65,536 bytes, as bad with its first bad line, or because memory ran out for a
+-- tariff of at least one line
 abbrev pub IsRefusal : List ℕ → ParseFault → Type 0
 IsRefusal text TooLong = 65536 < length text
 IsRefusal text (Syntax line) = (length text ≤ 65536) × (tree_parsed text ≡ Err line)

@@ -3,8 +3,8 @@ use Rattle.std.specs.Prelude.{ℕ, List, Option}
 use Rattle.drive_modes.specs.declared.meterage.Rounding.{Rounding}
 use Rattle.tariff_syntax.specs.Condition.{Condition}
 
--- a part of a line is a word, a comma, an amount of money, a distance or a time, a number of a range, or a date of a
--- year, which always stand, or a rounding, a covered amount or a condition, which may be left out
+-- these parts of a line always stand: a word, a comma, an amount of money, a distance or a time, a number of a range, a
+-- date of a year; these may be left out: a rounding, a covered amount, a condition
 pub data Part : Type 0 where
   name : (text : List ℕ) → Part
   comma : Part

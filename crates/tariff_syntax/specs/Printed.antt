@@ -24,7 +24,8 @@ abbrev pub when_text : Option Condition → List ℕ → List ℕ
 when_text None rest = rest
 when_text (Some when) rest = codes " when " ++ condition_text when rest
 
--- a part of a line is printed with a blank before it, but for a comma, and for a condition that isn't there
+-- a part of a line is printed with a blank before it, except a comma, and as nothing if it is a condition that isn't
+-- there
 abbrev pub part_text : (decimals : ℕ) → Part → List ℕ → List ℕ
 part_text decimals (part.name text) rest = codes " " ++ (text ++ rest)
 part_text decimals part.comma rest = codes "," ++ rest

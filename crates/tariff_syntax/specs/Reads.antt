@@ -1,5 +1,5 @@
--- Rules: what a text says. It is parted into lines; the first line that has tokens may say the decimals; each further
--- one says an entry.
+-- Rules: what a text says. It is cut into lines; the first line that has tokens may say the decimals; each further one
+-- says an entry.
 use Rattle.std.specs.Prelude.{◌≡◌, ℕ, ◌+◌, ◌<◌, ◌≤◌, ◌⊎◌, List, [], ◌∷◌, length, Result, Ok, Err}
 use Rattle.std.specs.List.{AllPairs}
 use Rattle.tariff_syntax.specs.IsItem.{IsItem, IsDecimals}
@@ -23,8 +23,8 @@ IsLineOfDecimals text n = (ts : List Token) × IsSpelled text ts × IsDecimals t
 abbrev pub IsLineOfEntry : (decimals : ℕ) → List ℕ → Entry → Type 0
 IsLineOfEntry decimals text entry = (ts : List Token) × IsSpelled text ts × IsItem decimals ts entry
 
--- texts that are numbered from `number` on say lines if each says the next line's entry, and is numbered as that
--- line is, or is empty and passed over
+-- texts that are numbered from `number` on say lines if each says the entry of the next line, and has its number, or is
+-- empty and passed over
 abbrev pub AreTextsOfLines : (decimals number : ℕ) → List (List ℕ) → List Line → Type 0
 AreTextsOfLines decimals number [] lines = lines ≡ []
 AreTextsOfLines decimals number (text ∷ texts) lines =
@@ -32,8 +32,8 @@ AreTextsOfLines decimals number (text ∷ texts) lines =
     ⊎ ((entry : Entry) × (more : List Line) × (lines ≡ record { line = number; entry = entry } ∷ more)
     × IsLineOfEntry decimals text entry × AreTextsOfLines decimals (number + 1) texts more)
 
--- texts that are numbered from `number` on say a tariff if the first that isn't empty says its decimals and the
--- others say its lines, or if all of them say its lines and its decimals are 2
+-- texts that are numbered from `number` on say a tariff if the first that isn't empty says its decimals and the others
+-- say its lines, or if all of them say its lines and its decimals are 2
 abbrev pub AreTextsOfTariff : (number : ℕ) → List (List ℕ) → Tree → Type 0
 AreTextsOfTariff number [] t = (t.decimals ≡ 2) × (t.lines ≡ [])
 AreTextsOfTariff number (text ∷ texts) t =
@@ -45,7 +45,7 @@ AreTextsOfTariff number (text ∷ texts) t =
 abbrev pub Reads : List ℕ → Tree → Type 0
 Reads text t = AreTextsOfTariff 1 (lines_of text) t
 
--- of texts that are numbered from `number` on the first bad one has the number `bad`: it isn't empty and says no entry,
+-- of texts that are numbered from `number` on the first bad one is numbered `bad`: it isn't empty and says no entry,
 -- and each text before it is empty or says an entry
 abbrev pub FirstBad : (decimals number : ℕ) → List (List ℕ) → (bad : ℕ) → Type 0
 FirstBad decimals number [] bad = ⊥
@@ -54,7 +54,7 @@ FirstBad decimals number (text ∷ texts) bad =
     ⊎ ((IsEmpty text ⊎ ((entry : Entry) × IsLineOfEntry decimals text entry))
     × FirstBad decimals (number + 1) texts bad)
 
--- the first bad one of texts that are numbered from `number` on has the number `bad`, under the decimals that the first
+-- the first bad one of texts that are numbered from `number` on is numbered `bad`, under the decimals that the first
 -- text that isn't empty says, or under 2 if it says none
 abbrev pub FirstBadBelow : (number : ℕ) → List (List ℕ) → (bad : ℕ) → Type 0
 FirstBadBelow number [] bad = ⊥
@@ -71,8 +71,8 @@ IsFirstBadLine text bad = FirstBadBelow 1 (lines_of text) bad
 abbrev pub RiseInNumber : List Line → Type 0
 RiseInNumber lines = AllPairs (λ (above below : Line). above.line < below.line) lines
 
--- a text is refused as too long above 65,536 bytes, as bad with its first bad line, or for want of memory if it
--- reads as a tariff of at least one line
+-- a text is refused as too long above 65,536 bytes, as bad with its first bad line, or because memory ran out for a
+-- tariff of at least one line
 abbrev pub IsRefused : List ℕ → ParseFault → Type 0
 IsRefused text TooLong = 65536 < length text
 IsRefused text (Syntax line) = (length text ≤ 65536) × IsFirstBadLine text line

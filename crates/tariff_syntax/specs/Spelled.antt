@@ -3,8 +3,8 @@ use Rattle.std.specs.Prelude.{◌≡◌, ℕ, ◌<◌, List, [], ◌∷◌, ◌+
 use Rattle.std.specs.Char.{is_ascii_digit}
 use Rattle.tariff_syntax.specs.Token.{Token, word, figure, sign, is_blank, is_letter, begins_with_digit, goes_on}
 
--- a text before a rest is a run of a test if each of its bytes passes the test, which also sees what stands after
--- the byte, and the first byte of the rest doesn't pass
+-- a text before a rest is a run of a test if each of its bytes passes the test, which also sees what follows the byte,
+-- and the first byte of the rest doesn't pass
 abbrev pub IsRun : (ℕ → List ℕ → Bool) → (text rest : List ℕ) → Type 0
 IsRun test [] [] = ⊤
 IsRun test [] (c ∷ rest) = test c rest ≡ false

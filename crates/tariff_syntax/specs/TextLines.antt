@@ -6,7 +6,7 @@ abbrev pub in_front : ℕ → List (List ℕ) → List (List ℕ)
 in_front c [] = (c ∷ []) ∷ []
 in_front c (text ∷ texts) = (c ∷ text) ∷ texts
 
--- the lines of a text are ended by a line feed each, and the last may be ended by the text's end
+-- each line of a text ends with a line feed; the last one may end with the text
 abbrev pub lines_of : List ℕ → List (List ℕ)
 lines_of [] = []
 lines_of (c ∷ cs) = if c == 10 then [] ∷ lines_of cs else in_front c (lines_of cs)

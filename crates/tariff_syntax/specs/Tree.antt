@@ -47,7 +47,7 @@ parts_of (rate a b c e when) =
     ∷ part.money c ∷ part.name (codes "per") ∷ part.measure e ∷ part.name (codes "s") ∷ part.condition when ∷ []
 parts_of (minimum amount when) = part.money amount ∷ part.condition when ∷ []
 
--- the condition of an entry is the one that it has, if its kind may have one and it has one
+-- the condition of an entry is the one that it has; an entry of some kinds never has one
 abbrev pub when_part : Entry → Option Condition
 when_part (initial amount covers when) = when
 when_part (rate a b c e when) = when

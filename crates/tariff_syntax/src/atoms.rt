@@ -12,7 +12,7 @@ use crate::figures::{amount_first, date_first, minute_first, number_first};
 use crate::words::{after_sign, after_word, is_text, word_first};
 use taxi_units::DAY_NAMES;
 
-/// An atom, after its first word, and what stands after it.
+/// An atom, after its first word, and the text behind it.
 #[tactic(auto, unfolding(crate::specs::Atom::atom_named))]
 pub fn atom_named<'a>(name: &[u8], line: &'a [u8]) -> Option<(Cond, &'a [u8])>
     ensures { Gives (λ x. (condition_of x.0, tokens_of x.1.now)) result
@@ -112,7 +112,7 @@ fn after(line: &[u8]) -> Option<(Cond, &[u8])>
     }
 }
 
-/// A weekday, and what stands after it.
+/// A weekday, and the text behind it.
 #[tactic(auto, unfolding(crate::specs::Atom::weekday_first))]
 fn weekday_first(line: &[u8]) -> Option<(u8, &[u8])>
     ensures { Gives (λ x. (x.0, tokens_of x.1.now)) result (spec.weekday_first (tokens_of line.now)) }

@@ -1,4 +1,4 @@
-//! Builds a condition of its parts, of which any may be missing for want of memory.
+//! Builds a condition of its parts, any of which may be missing if memory ran out.
 ghost use Rattle.tariff_syntax.specs.Built.{IsBuilt};
 ghost use Rattle.tariff_syntax.specs.Condition as tree;
 ghost use Rattle.tariff_syntax.specs.Condition.{Condition};
@@ -7,10 +7,10 @@ use crate::condition::Cond;
 use std::alloc::Global;
 use taxi_units::NoMemory;
 
-/// A condition, or `NoMemory` where memory ran out for it or for one of its parts.
+/// A condition, or `NoMemory` if memory ran out for it or for one of its parts.
 pub type Built = Result<Cond, NoMemory>;
 
-/// That both hold. `NoMemory` where one is missing, or memory runs out.
+/// That both hold. `NoMemory` if one is missing, or memory runs out.
 pub fn and(alloc: Global, left: Built, right: Built) -> Built
     ensures { (a b : Condition) → IsBuilt left a → IsBuilt right b → IsBuilt result (tree.and a b) }
 {
@@ -19,7 +19,7 @@ pub fn and(alloc: Global, left: Built, right: Built) -> Built
     Ok(Cond::And(left, right))
 }
 
-/// That one of them holds. `NoMemory` where one is missing, or memory runs out.
+/// That one of them holds. `NoMemory` if one is missing, or memory runs out.
 pub fn or(alloc: Global, left: Built, right: Built) -> Built
     ensures { (a b : Condition) → IsBuilt left a → IsBuilt right b → IsBuilt result (tree.or a b) }
 {
@@ -28,7 +28,7 @@ pub fn or(alloc: Global, left: Built, right: Built) -> Built
     Ok(Cond::Or(left, right))
 }
 
-/// That it doesn't hold. `NoMemory` where it is missing, or memory runs out.
+/// That it doesn't hold. `NoMemory` if it is missing, or memory runs out.
 pub fn not(alloc: Global, inner: Built) -> Built
     ensures { (a : Condition) → IsBuilt inner a → IsBuilt result (tree.not a) }
 {

@@ -48,8 +48,8 @@ fn word_of(joint: Joint) -> &'static [u8]
     }
 }
 
-/// A condition, and what stands after it; with fewer `not` and `(` around each atom than a number. A line is
-/// read on where memory runs out: the condition is missing then, and what stands after it is known.
+/// A condition, and the text behind it; fewer `not` and `(` than a number are around each atom. If memory runs out, the
+/// line is still read on: the condition is missing, and the text behind it is known.
 #[cycle(conditions)]
 #[tactic(auto, unfolding(crate::specs::Grammar::condition_by))]
 fn condition(alloc: Global, depth: u8, line: &[u8]) -> Option<(Built, &[u8])>
@@ -60,7 +60,7 @@ fn condition(alloc: Global, depth: u8, line: &[u8]) -> Option<(Built, &[u8])>
     more_parts(alloc, Joint::Or, depth, 64, first, rest)
 }
 
-/// A term, and what stands after it.
+/// A term, and the text behind it.
 #[cycle(conditions)]
 #[tactic(auto, unfolding(crate::specs::Grammar::term_by))]
 fn term(alloc: Global, depth: u8, line: &[u8]) -> Option<(Built, &[u8])>
@@ -94,7 +94,7 @@ fn more_parts(
     more_parts(alloc, joint, depth, most - 1, joined, rest)
 }
 
-/// The part that stands first, joined to what stands to the left, and what stands after it.
+/// The part at the front, joined to what stands to the left, and the text behind it.
 #[cycle(conditions)]
 fn joined_part(
     alloc: Global,
@@ -118,7 +118,7 @@ fn joined_part(
     }
 }
 
-/// A factor, and what stands after it.
+/// A factor, and the text behind it.
 #[cycle(conditions)]
 fn factor(alloc: Global, depth: u8, line: &[u8]) -> Option<(Built, &[u8])>
     ensures { Builds (λ x. (x.0, tokens_of x.1.now)) result
@@ -155,7 +155,7 @@ fn factor_above(alloc: Global, depth: u8, line: &[u8]) -> Option<(Built, &[u8])>
     }
 }
 
-/// The negation of the factor that stands first.
+/// The negation of the factor at the front.
 #[cycle(conditions)]
 fn negation(alloc: Global, depth: u8, line: &[u8]) -> Option<(Built, &[u8])>
     ensures { Builds (λ x. (x.0, tokens_of x.1.now)) result
@@ -191,8 +191,8 @@ pub fn when(alloc: Global, line: &[u8]) -> Result<Option<Cond>, LineFault>
     Ok(Some(cond))
 }
 
-/// A condition with at most 64 atoms, `not` and `(` together. So there are fewer
-/// `not` and `(` than that around an atom, and fewer parts joined.
+/// A condition with at most 64 atoms, `not` and `(` together. So fewer of these are around an atom, and fewer parts are
+/// joined.
 #[tactic(auto, unfolding(crate::specs::Grammar::bounded_condition))]
 fn bounded_condition(alloc: Global, line: &[u8]) -> Result<Cond, LineFault>
     ensures { GivesOrFails condition_of HasParts result (spec.bounded_condition (tokens_of line.now)) }

@@ -1,4 +1,4 @@
-//! What figures say: numbers of one or two digits, amounts, dates and minutes.
+//! Reads figures: numbers of one or two digits, amounts, dates and minutes.
 ghost use Rattle.std.specs.Prelude.{◌≤◌, IfSome};
 ghost use Rattle.taxi_units.specs.Reading.{Gives, GivesSame};
 ghost use Rattle.tariff_syntax.specs.Figure as spec;
@@ -7,7 +7,7 @@ ghost use Rattle.tariff_syntax.specs.TokenReading.{tokens_of};
 use crate::words::figure_first;
 use taxi_units::{figure_in, number_of_width, read_decimal, word};
 
-/// A number of one or two digits from `least` to `most`, and what stands after it.
+/// A number of one or two digits from `least` to `most`, and the text behind it.
 #[tactic(auto, unfolding(crate::specs::Figure::number_first))]
 pub fn number_first(line: &[u8], least: u8, most: u8) -> Option<(u8, &[u8])>
     ensures value { Gives (λ x. (x.0, tokens_of x.1.now)) result (spec.number_first least most (tokens_of line.now)) }
@@ -18,7 +18,7 @@ pub fn number_first(line: &[u8], least: u8, most: u8) -> Option<(u8, &[u8])>
     Some((number as u8, rest))
 }
 
-/// An amount of `decimals` decimals, and what stands after it.
+/// An amount of `decimals` decimals, and the text behind it.
 #[tactic(auto, unfolding(crate::specs::Figure::amount_first))]
 pub fn amount_first(line: &[u8], decimals: u8) -> Option<(u64, &[u8])>
     requires { decimals ≤ 3 }
@@ -29,7 +29,7 @@ pub fn amount_first(line: &[u8], decimals: u8) -> Option<(u64, &[u8])>
     Some((amount, rest))
 }
 
-/// A minute of the day, and what stands after it.
+/// A minute of the day, and the text behind it.
 #[tactic(auto, unfolding(crate::specs::Figure::minute_first))]
 pub fn minute_first(line: &[u8]) -> Option<(u16, &[u8])>
     ensures { Gives (λ x. (x.0, tokens_of x.1.now)) result (spec.minute_first (tokens_of line.now)) }
@@ -39,7 +39,7 @@ pub fn minute_first(line: &[u8]) -> Option<(u16, &[u8])>
     Some((minute, rest))
 }
 
-/// A date of any year, as month and date, and what stands after it.
+/// A date of any year, as month and date, and the text behind it.
 #[tactic(auto, unfolding(crate::specs::Figure::date_first))]
 pub fn date_first(line: &[u8]) -> Option<((u8, u8), &[u8])>
     ensures { Gives (λ x. (x.0, tokens_of x.1.now)) result (spec.date_first (tokens_of line.now)) }
@@ -49,7 +49,7 @@ pub fn date_first(line: &[u8]) -> Option<((u8, u8), &[u8])>
     Some((date, rest))
 }
 
-/// A date, as year, month and date, and what stands after it.
+/// A date, as year, month and date, and the text behind it.
 #[tactic(auto, unfolding(crate::specs::Figure::year_date_first))]
 pub fn year_date_first(line: &[u8]) -> Option<((u16, u8, u8), &[u8])>
     ensures { Gives (λ x. (x.0, tokens_of x.1.now)) result (spec.year_date_first (tokens_of line.now)) }

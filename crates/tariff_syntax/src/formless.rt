@@ -8,9 +8,9 @@ use std::alloc::Global;
 use taxi_units::NoMemory;
 
 /// The numbers, from 1 on, of all lines of a text that have none of the forms which `parse` reads, in order. A line of
-/// decimals that is the first filled one is none of them, and no empty line is. `parse` names the first of them in its
-/// `Syntax`, and gives a tariff where there is none. The text has at most 65,536 bytes, as `parse` asks, too.
-/// `NoMemory` where memory runs out. This language is this project's own.
+/// decimals that is the first filled one has a form, and so has each empty line. `parse` names the first of them in its
+/// `Syntax`, and gives a tariff if there is none. The text has at most 65,536 bytes, as `parse` asks, too. `NoMemory`:
+/// memory runs out. This language is this project's own.
 #[tactic(auto, unfolding(crate::specs::BadLines::bad_lines))]
 pub fn bad_lines(alloc: Global, text: &[u8]) -> Result<Vec<u32>, NoMemory>
     requires { length text.now ≤ 65536 }

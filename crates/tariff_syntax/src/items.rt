@@ -49,7 +49,7 @@ fn item_named(alloc: Global, decimals: u8, name: &[u8], line: &[u8]) -> Result<I
     }
 }
 
-/// What a line says that has no condition, after its first word.
+/// What a line without a condition says, after its first word.
 #[tactic(auto, unfolding(crate::specs::Items::plain_named))]
 fn plain_named(decimals: u8, name: &[u8], line: &[u8]) -> Option<Item>
     requires { decimals ≤ 3 }
@@ -193,7 +193,7 @@ fn initial(alloc: Global, decimals: u8, line: &[u8]) -> Result<Item, LineFault>
     }))
 }
 
-/// The covered amount, which may be left out, and what stands after it.
+/// The covered amount, which may be left out, and the text behind it.
 #[tactic(auto, unfolding(crate::specs::Items::covers_first))]
 fn covers_first(decimals: u8, line: &[u8]) -> Option<(u64, &[u8])>
     requires { decimals ≤ 3 }
@@ -224,7 +224,7 @@ fn rate(alloc: Global, decimals: u8, line: &[u8]) -> Result<Item, LineFault>
     Ok(Item::Rate(RateLine { a, b, c, e, cond }))
 }
 
-/// An amount for each measure, and what stands after its unit.
+/// An amount for each measure, and the text behind its unit.
 #[tactic(auto, unfolding(crate::specs::Items::per_first))]
 fn per_first<'a>(decimals: u8, line: &'a [u8], unit: &[u8]) -> Option<((u64, u64), &'a [u8])>
     requires { decimals ≤ 3 }

@@ -11,9 +11,9 @@ use crate::tariff::{Item, Tariff};
 use drive_modes::reached;
 use taxi_units::date_of_place;
 
-/// Whether a condition holds in a context. Dates are compared by month and date, also ones that no year
-/// has; a context whose place is above 365 has no date, and no range of dates holds in it. The right part
-/// is asked first: conditions join from the left, so a long one is no deep recursion.
+/// Whether a condition holds in a context. Dates are compared by month and date, even if no year has them. A context
+/// whose place is above 365 has no date, and no range of dates holds in it. The right part is asked first: conditions
+/// join from the left, so a long one is no deep recursion.
 pub fn sat(cond: &Cond, x: &Context) -> bool
     ensures { result ≡ holds (condition_of cond.now) x.now }
 {
@@ -32,8 +32,8 @@ pub fn sat(cond: &Cond, x: &Context) -> bool
     }
 }
 
-/// The rate of a context: the first rate line that has no condition or whose condition holds, by its
-/// place among the rate lines, from 0. `None` exactly where there is none.
+/// The rate of a context: the first rate line that has no condition or whose condition holds, by its place among the
+/// rate lines, from 0. `None` exactly if there is none.
 pub fn rate_of(tariff: &Tariff, x: &Context) -> Option<usize>
     ensures { result ≡ rate_place (tree_of tariff.now) x.now }
 {
@@ -49,9 +49,8 @@ pub fn rate_of(tariff: &Tariff, x: &Context) -> Option<usize>
     None
 }
 
-/// The initial hire fee of a context: the first initial line that has no condition or whose condition
-/// holds with no pulse and no tick of the trip, by its place among the initial lines, from 0. `None`
-/// exactly where there is none.
+/// The initial hire fee of a context: the first initial line that has no condition or whose condition holds with no
+/// pulse and no tick of the trip, by its place among the initial lines, from 0. `None` exactly if there is none.
 pub fn initial_of(tariff: &Tariff, x: &Context) -> Option<usize>
     ensures { result ≡ initial_place (tree_of tariff.now) x.now }
 {
@@ -68,9 +67,8 @@ pub fn initial_of(tariff: &Tariff, x: &Context) -> Option<usize>
     None
 }
 
-/// The minimum fare of a context: the first minimum line that has no condition or whose condition holds
-/// with no pulse and no tick of the trip, by its place among the minimum lines, from 0. `None` exactly
-/// where there is none.
+/// The minimum fare of a context: the first minimum line that has no condition or whose condition holds with no pulse
+/// and no tick of the trip, by its place among the minimum lines, from 0. `None` exactly if there is none.
 pub fn minimum_of(tariff: &Tariff, x: &Context) -> Option<usize>
     ensures { result ≡ minimum_place (tree_of tariff.now) x.now }
 {
@@ -108,7 +106,7 @@ fn sat_if(cond: &Option<Cond>, x: &Context) -> bool
     }
 }
 
-/// Whether a minute is from one to before the other, over midnight where the first is the later one.
+/// Whether a minute is from one to before the other, over midnight if the first is the later one.
 fn is_in_time(from: u16, to: u16, minute: u16) -> bool
     ensures { result ≡ is_in_time from to minute }
 {
@@ -119,7 +117,7 @@ fn is_in_time(from: u16, to: u16, minute: u16) -> bool
     }
 }
 
-/// Whether a number is from one to the other, over the highest where the first is the later one.
+/// Whether a number is from one to the other, over the highest if the first is the greater one.
 fn is_within(from: u16, to: u16, n: u16) -> bool
     ensures { result ≡ is_within from to n }
 {
@@ -130,8 +128,8 @@ fn is_within(from: u16, to: u16, n: u16) -> bool
     }
 }
 
-/// Whether a date is from one to the other, both of them too, over the year's end where the first is the
-/// later one. Without a date it isn't.
+/// Whether a date is from one to the other, both included, over the year's end if the first is the later one. Without a
+/// date it isn't.
 fn is_on(from: (u8, u8), to: (u8, u8), date: Option<(u8, u8)>) -> bool
     ensures { result ≡ is_on from to date }
 {
@@ -141,8 +139,7 @@ fn is_on(from: (u8, u8), to: (u8, u8), date: Option<(u8, u8)>) -> bool
     }
 }
 
-/// Whether a month and date is from one to the other, over the year's end where the first is the later
-/// one.
+/// Whether a month and date is from one to the other, over the year's end if the first is the later one.
 fn is_in_dates(from: (u8, u8), to: (u8, u8), date: (u8, u8)) -> bool
     ensures { result ≡ is_in_dates from to date }
 {

@@ -20,7 +20,7 @@ use std::alloc::Global;
 use thiserror::Error;
 
 /// Why a text gives no tariff.
-#[derive(Clone, Copy, Debug, PartialEq, Eq, Drop, Error)]
+#[derive(Clone, Copy, Debug, Drop, Error)]
 pub enum ParseFault {
     /// It has more than 65,536 bytes.
     #[error("the tariff is too long")]
@@ -33,20 +33,19 @@ pub enum ParseFault {
     NoMemory,
 }
 
-/// Reads a tariff, from a text of lines; each line ends with a line feed, the last one may end with the
-/// text. A `#` and all that stands behind it in a line is a comment. A line is `decimals N`, or has one of
-/// the forms that `Item` tells, with blanks, tabs and carriage returns anywhere between its parts; an empty
-/// one is passed over.
+/// Reads a tariff from a text of lines. Each line ends with a line feed; the last one may end with the text. In a line,
+/// a `#` and all that follows it is a comment. A line is `decimals N`, or has one of the forms that `Item` tells, with
+/// blanks, tabs and carriage returns anywhere between its parts. An empty line is passed over.
 ///
-/// `decimals` stands in the first filled line alone, with a number from 0 to 3, and is 2 without that line.
-/// MONEY has at most these decimals, TENTHS at most one, and both at most 10^12 units of the last. A
-/// CONDITION is made of `position N`, `zone N`, `time HH:MM..HH:MM`, `day mon` or `day mon..sun`,
-/// `date MM-DD..MM-DD`, `holiday`, `after TENTHS m` and `after TENTHS s`, by `not`, `and`, `or` and
-/// parentheses; `not` binds closer than `and`, and `and` closer than `or`, and both join from the left. It
-/// has at most 64 of these atoms, `not` and `(` together. This language is this project's own.
+/// Only the first filled line may be `decimals`, with a number from 0 to 3; without it, that number is 2. MONEY has at
+/// most these decimals, TENTHS at most one, and both at most 10^12 units of the last. A CONDITION is made of
+/// `position N`, `zone N`, `time HH:MM..HH:MM`, `day mon` or `day mon..sun`, `date MM-DD..MM-DD`, `holiday`,
+/// `after TENTHS m` and `after TENTHS s`, by `not`, `and`, `or` and parentheses. `not` binds closer than `and`, and
+/// `and` closer than `or`; both join from the left. It has at most 64 of these atoms, `not` and `(` together. This
+/// language is this project's own.
 ///
-/// `TooLong` for a text of more than 65,536 bytes. `Syntax` names the first filled line that has none of
-/// these forms, whatever memory there is. `NoMemory` where memory runs out for a tariff that has lines.
+/// `TooLong`: the text has more than 65,536 bytes. `Syntax` names the first filled line that has none of these forms,
+/// whatever memory there is. `NoMemory`: memory runs out for a tariff that has lines.
 pub fn parse(alloc: Global, text: &[u8]) -> Result<Tariff, ParseFault>
     ensures answer { IsParsed text.now result }
     ensures decimals { IfOk result (λ t. t.decimals ≤ 3) }
@@ -68,8 +67,8 @@ fn parse_text(alloc: Global, text: &[u8]) -> Result<Tariff, ParseFault>
     Ok(Tariff { decimals, lines })
 }
 
-/// The decimals of a text, the number of the line from which its other lines are read, and the text
-/// from there on: behind a line of decimals, where it is the first that has tokens.
+/// The decimals of a text, the number of the line from which its other lines are read, and the text from there on:
+/// behind a line of decimals, if it is the first that has tokens.
 #[tactic(auto, unfolding(crate::specs::Parsed::heading_read))]
 pub(crate) fn heading(text: &[u8]) -> (u8, u32, &[u8])
     requires { length text.now ≤ 65536 }
@@ -92,8 +91,8 @@ pub(crate) fn heading(text: &[u8]) -> (u8, u32, &[u8])
     (2, number, rest)
 }
 
-/// The lines of a tariff, from the lines of a text, which are numbered on from a number. Where memory runs out,
-/// the lines below are still looked at: a bad one is named, whatever memory there is.
+/// The lines of a tariff, from the lines of a text, which are numbered on from a number. If memory runs out, the lines
+/// below are still looked at: a bad one is named, whatever memory there is.
 fn lines(alloc: Global, decimals: u8, first: u32, text: &[u8]) -> Result<Lines, ParseFault>
     requires decimals { decimals ≤ 3 }
     requires room { first + length text.now < 2 ^ 32 }
@@ -114,7 +113,7 @@ fn lines(alloc: Global, decimals: u8, first: u32, text: &[u8]) -> Result<Lines, 
     Ok(lines)
 }
 
-/// Puts what a line says behind the lines above it, where it has tokens.
+/// Puts what a line says behind the lines above it, if it has tokens.
 fn put_line(
     alloc: Global,
     decimals: u8,
@@ -141,7 +140,7 @@ fn put_line(
     }
 }
 
-/// Why there is no tariff, where memory ran out above the lines of a text, which are numbered on from a number.
+/// Why there is no tariff, if memory ran out above the lines of a text, which are numbered on from a number.
 fn fault_below(alloc: Global, decimals: u8, first: u32, text: &[u8]) -> ParseFault
     requires decimals { decimals ≤ 3 }
     requires room { first + length text.now < 2 ^ 32 }
@@ -189,7 +188,7 @@ fn has_no_form(alloc: Global, decimals: u8, line: &[u8]) -> bool
     matches!(item(alloc, decimals, line), Err(LineFault::Bad))
 }
 
-/// The first line of a text, without its line feed, and what stands after it. `None` at the end.
+/// The first line of a text, without its line feed, and the text behind it. `None` at the end.
 pub(crate) fn first_line(text: &[u8]) -> Option<(&[u8], &[u8])>
     ensures { MatchOption result (lines_of text.now ≡ [])
         (λ x. (lines_of text.now ≡ x.0.now ∷ lines_of x.1.now) × (length x.1.now < length text.now)) }

@@ -8,8 +8,8 @@ use std::alloc::Global;
 use std::marker::Model;
 use taxi_units::NoMemory;
 
-/// A rate: the amount `a` for each `b` decimetres, and the amount `c` for each `e` tenths of a second.
-/// Without a condition it holds always.
+/// A rate: the amount `a` for each `b` decimetres, and the amount `c` for each `e` tenths of a second. Without a
+/// condition it holds always.
 #[derive(Drop)]
 pub struct RateLine {
     pub a: u64,
@@ -52,15 +52,14 @@ impl InitialNumbers {
     }
 }
 
-/// A minimum fare: what a trip costs at the least, without its supplements. Without a condition it holds
-/// always.
+/// A minimum fare: what a trip costs at the least, without its supplements. Without a condition it holds always.
 #[derive(Drop)]
 pub struct MinimumLine {
     pub amount: u64,
     pub cond: Option<Cond>,
 }
 
-/// What a line of a tariff says, and the form of the line, in which what stands in brackets may be left out.
+/// What a line of a tariff says, and the form of the line; parts in brackets may be left out.
 #[derive(Drop)]
 pub enum Item {
     /// `step MONEY [behind | ahead]`: the display step, and how the fare is rounded to it.
@@ -71,8 +70,8 @@ pub enum Item {
     Zones(u8),
     /// `holiday YYYY-MM-DD`: a date that is a holiday.
     Holiday { year: u16, month: u8, date: u8 },
-    /// `supplement N MONEY max N`: a supplement, by its number from 1 to 16, and how often a hiring may have
-    /// it, 1 to 99.
+    /// `supplement N MONEY max N`: a supplement, by its number from 1 to 16, and how often a hiring may have it, 1 to
+    /// 99.
     Supplement { number: u8, amount: u64, max: u8 },
     /// `initial MONEY [covers MONEY] [when CONDITION]`: an initial hire fee.
     Initial(InitialLine),

@@ -14,8 +14,7 @@ pub enum Token<'a> {
     Sign(&'a [u8]),
 }
 
-/// The first token of a line, and what stands after it. `None` where the line has no more: at its end,
-/// and before a comment.
+/// The first token of a line, and the text behind it. `None` if the line has no more: at its end, and before a comment.
 pub fn first_token(line: &[u8]) -> Option<(Token<'_>, &[u8])>
     ensures { MatchOption result (tokens_of line.now ≡ [])
         (λ x. (tokens_of line.now ≡ token_of x.0 ∷ tokens_of x.1.now) × (length x.1.now < length line.now)) }
@@ -52,7 +51,7 @@ fn token_here(line: &[u8]) -> Option<(Token<'_>, &[u8])>
     Some((Token::Sign(text), rest))
 }
 
-/// How many blanks stand at the front.
+/// How many blanks are at the front.
 fn count_blanks(line: &[u8]) -> usize
     ensures count { result ≡ run_end is_blank line.now }
     ensures within { result ≤ length line.now }
@@ -69,7 +68,7 @@ fn count_blanks(line: &[u8]) -> usize
     count
 }
 
-/// How many letters stand at the front.
+/// How many letters are at the front.
 fn count_letters(line: &[u8]) -> usize
     ensures count { result ≡ run_end is_letter line.now }
     ensures within { result ≤ length line.now }
@@ -86,7 +85,7 @@ fn count_letters(line: &[u8]) -> usize
     count
 }
 
-/// How many bytes of a figure stand at the front.
+/// How many bytes of a figure are at the front.
 fn count_figure(line: &[u8]) -> usize
     ensures count { result ≡ run_end spec.goes_on line.now }
     ensures within { result ≤ length line.now }
@@ -103,7 +102,7 @@ fn count_figure(line: &[u8]) -> usize
     count
 }
 
-/// Whether a figure goes on over a byte, before what stands after it.
+/// Whether a figure goes on over a byte, before the text behind it.
 fn goes_on(byte: u8, rest: &[u8]) -> bool
     ensures { result ≡ spec.goes_on byte rest.now }
 {

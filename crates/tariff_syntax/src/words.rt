@@ -7,7 +7,7 @@ ghost use Rattle.std.specs.Prelude.{◌≡◌, ◌↔◌, [], IsTrue};
 
 use crate::tokens::{Token, first_token};
 
-/// What stands after a word.
+/// The text behind a word.
 #[tactic(auto, unfolding(crate::specs::Words::after_word))]
 pub fn after_word<'a>(line: &'a [u8], text: &[u8]) -> Option<&'a [u8]>
     ensures { Gives (λ rest. tokens_of rest.now) result (spec.after_word text.now (tokens_of line.now)) }
@@ -20,7 +20,7 @@ pub fn after_word<'a>(line: &'a [u8], text: &[u8]) -> Option<&'a [u8]>
     }
 }
 
-/// What stands after a sign.
+/// The text behind a sign.
 #[tactic(auto, unfolding(crate::specs::Words::after_sign))]
 pub fn after_sign<'a>(line: &'a [u8], text: &[u8]) -> Option<&'a [u8]>
     ensures { Gives (λ rest. tokens_of rest.now) result (spec.after_sign text.now (tokens_of line.now)) }
@@ -33,7 +33,7 @@ pub fn after_sign<'a>(line: &'a [u8], text: &[u8]) -> Option<&'a [u8]>
     }
 }
 
-/// A word, and what stands after it.
+/// A word, and the text behind it.
 #[tactic(auto, unfolding(crate::specs::Words::word_first))]
 pub fn word_first(line: &[u8]) -> Option<(&[u8], &[u8])>
     ensures { Gives (λ x. (x.0.now, tokens_of x.1.now)) result (spec.word_first (tokens_of line.now)) }
@@ -46,7 +46,7 @@ pub fn word_first(line: &[u8]) -> Option<(&[u8], &[u8])>
     }
 }
 
-/// A figure, and what stands after it.
+/// A figure, and the text behind it.
 #[tactic(auto, unfolding(crate::specs::Words::figure_first))]
 pub fn figure_first(line: &[u8]) -> Option<(&[u8], &[u8])>
     ensures { Gives (λ x. (x.0.now, tokens_of x.1.now)) result (spec.figure_first (tokens_of line.now)) }

@@ -17,10 +17,10 @@ use drive_modes::Rounding;
 use std::alloc::{AllocError, Global};
 use taxi_units::NoMemory;
 
-/// The printed form of a tariff: the line of its decimals, then its lines in their order, with one
-/// blank between tokens, but none before a comma, around `..`, after `(` and before `)`. Money has the
-/// tariff's decimals, 0 to 3, and measures one; rounding words and covered amounts always stand, and
-/// parentheses where they are needed. `NoMemory` where memory runs out.
+/// The printed form of a tariff: the line of its decimals, then its lines in their order, with one blank between
+/// tokens, but none before a comma, around `..`, after `(` and before `)`. Money has the tariff's decimals, 0 to 3, and
+/// measures have one. Rounding words and covered amounts are always printed, and parentheses if they are needed.
+/// `NoMemory`: memory runs out.
 pub fn print(alloc: Global, tariff: &Tariff) -> Result<Vec<u8>, NoMemory>
     requires { tariff.now.decimals ≤ 3 }
     ensures { IfOk result (λ text. text.items ≡ printed (tree_of tariff.now)) }
@@ -39,8 +39,8 @@ fn write_tariff(alloc: Global, tariff: &Tariff) -> Result<Vec<u8>, AllocError>
     Ok(text)
 }
 
-/// The printed form of a line up to `when`, with an LF behind it: what the line says where its condition holds. Money
-/// has `decimals` decimals, 0 to 3. `NoMemory` where memory runs out.
+/// The printed form of a line up to `when`, with an LF behind it: what the line says if its condition holds. Money has
+/// `decimals` decimals, 0 to 3. `NoMemory`: memory runs out.
 pub fn print_line(alloc: Global, decimals: u8, item: &Item) -> Result<Vec<u8>, NoMemory>
     requires { decimals ≤ 3 }
     ensures { IfOk result (λ text. text.items ≡ entry_line decimals (without_when (entry_of item.now)) []) }

@@ -14,7 +14,7 @@ use Rattle.taxi_units.proofs.Lengths.{numbers_are_short, padded_numbers_fill_the
 use Rattle.taxi_units.proofs.Numbers.{numbers_are_read_by_their_digits}
 use Rattle.taxi_units.proofs.Written.{digits_of_padded}
 
--- where reading goes on to a value, something was found first
+-- if reading goes on to a value, something was found first
 read_on : {A B : Type 0} (found : Option A) (on : A → Option B) (y : B) → found >>= on ≡ Some y
     → (x : A) × (found ≡ Some x) × (on x ≡ Some y)
 read_on (Some x) on y e = (x, refl, e)

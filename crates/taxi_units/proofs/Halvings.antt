@@ -20,7 +20,7 @@ pub ends_after : (spent bound width half : ℕ) → EndsWithin spent bound width
 ends_after spent bound width half within some less =
     halved spent bound width half within.rounds within.room within.fits some less
 
--- where the first n elements pass a test and no later one does, n pass it
+-- if the first n elements pass a test and no later one does, n pass it
 pub count_by-at : {T : Type 0} (test : T → Bool) (n : ℕ) (list : List T) → n ≤ length list
     → ((place : ℕ) (other : T) → place < n → test (get_or list place other) ≡ true) → ((place : ℕ) (other : T)
     → n ≤ place → place < length list → test (get_or list place other) ≡ false) → count_by test list ≡ n
@@ -36,7 +36,7 @@ count_by-at test (suc n) (x ∷ xs) few before after =
     (λ place other le lt. after (suc place) other (omega arith) (omega arith)) in
     sum_by-cons (λ y. cond (test y) 1 0) x xs ∙ rw here (omega (arith, rest))
 
--- where the element at a place passes, so do those before it
+-- if the element at a place passes, so do those before it
 pub passes_before : {T : Type 0} (test : T → Bool) (list : List T) (middle : ℕ) (element : T) (passed : Bool)
     → IsPartitionedBy test list → IsElement list middle element → middle < length list → passed ≡ test element
     → passed ≡ true → (place : ℕ) (other : T) → place < middle + 1 → test (get_or list place other) ≡ true
@@ -47,7 +47,7 @@ fails_or : (b : Bool) → (b ≡ true → ⊥) → b ≡ false
 fails_or true h = absurd (h refl)
 fails_or false h = refl
 
--- where it fails, so do those after it
+-- if it fails, so do those after it
 pub fails_after : {T : Type 0} (test : T → Bool) (list : List T) (middle : ℕ) (element : T) (passed : Bool)
     → IsPartitionedBy test list → IsElement list middle element → passed ≡ test element → passed ≡ false → (place : ℕ)
     (other : T) → middle ≤ place → place < length list → test (get_or list place other) ≡ false

@@ -15,5 +15,7 @@ pub use Rattle.taxi_units.proofs.Spelled.{amounts_are_written_by_their_digits, n
 pub use Rattle.taxi_units.proofs.Spelled.{padded_numbers_are_written_by_their_digits}
 pub use Rattle.taxi_units.proofs.StreamEnds.{bad_stream_ends, endless_stream_ends, unfinished_stream_ends}
 pub use Rattle.taxi_units.proofs.StreamEnds.{whole_stream_ends}
+pub use Rattle.taxi_units.proofs.StreamEnds.{bad_stream_reached, endless_stream_reached, unfinished_stream_reached}
+pub use Rattle.taxi_units.proofs.StreamEnds.{whole_stream_reached}
 pub use Rattle.taxi_units.proofs.StreamEnds.{limits_fall_behind_what_was_taken, limits_have_all_that_was_taken}
 pub use Rattle.taxi_units.proofs.Words.{words_are_read_by_their_text}

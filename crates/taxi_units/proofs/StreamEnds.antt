@@ -4,8 +4,8 @@ use Rattle.std.proofs.Common.{◌∙◌, arith, Some, None, Option, nat_lt, leng
 use Rattle.std.proofs.lemmas.Bool.{cases_lt, cond-false, cond-true, le-ltb, lt-ltb}
 use Rattle.std.proofs.lemmas.List.{append-nil, take_all}
 use Rattle.std.proofs.Math.Seq.{take-append-add}
-use Rattle.taxi_units.specs.Streams.{BadAt, Endless, IsSplit, IsTakenTo, KeepsBad, ShowsEnd, StreamEnd, StreamKind}
-use Rattle.taxi_units.specs.Streams.{Whole, end_by, end_of, stream_limit}
+use Rattle.taxi_units.specs.Streams.{BadAt, Endless, IsSplit, IsTakenTo, KeepsBad, ReachesEnd, ShowsEnd, StreamEnd}
+use Rattle.taxi_units.specs.Streams.{StreamKind, Whole, end_by, end_of, stream_limit}
 
 -- ---- the bytes up to the limit
 
@@ -95,3 +95,37 @@ module _ (kind : StreamKind) where
       (limits_have_all_that_was_taken stream taken left split (omega (arith, full)) (inr full)) ∙ good in
       taken_to stream taken left Endless split
       (long_end stream long ∙ ap (λ (o : Option ℕ). end_by o Endless) there) full
+
+-- ---- and what the stream gives, which the bytes that were taken give
+
+module _ {A : Type 0} (kind : StreamKind) (gives : List ℕ → A) {stream taken left : List ℕ}
+    (split : IsSplit stream taken left) where
+  pub whole_stream_reached : left ≡ [] → length taken < stream_limit → kind.bad_at_end taken ≡ None
+      → ReachesEnd kind gives stream taken left Whole
+  whole_stream_reached none few good = record {
+    ends = whole_stream_ends kind stream taken left split none few good;
+    given_is = ap gives (limits_have_all_that_was_taken stream taken left split (omega (arith, few)) (inl none));
+  }
+
+  pub unfinished_stream_reached : {place : ℕ} → left ≡ [] → length taken < stream_limit
+      → kind.bad_at_end taken ≡ Some place → ReachesEnd kind gives stream taken left (BadAt place)
+  unfinished_stream_reached {place} none few bad = record {
+    ends = unfinished_stream_ends kind stream taken left place split none few bad;
+    given_is = ap gives (limits_have_all_that_was_taken stream taken left split (omega (arith, few)) (inl none));
+  }
+
+  pub bad_stream_reached : {place : ℕ} → KeepsBad kind → ((more : List ℕ) → gives (taken ++ more) ≡ gives taken)
+      → length taken ≤ stream_limit → kind.first_bad taken ≡ Some place
+      → ReachesEnd kind gives stream taken left (BadAt place)
+  bad_stream_reached {place} keeps ends few bad = record {
+    ends = bad_stream_ends kind stream taken left place keeps split few bad;
+    given_is = ap gives (limits_fall_behind_what_was_taken stream taken left split few)
+        ∙ ends (take (stream_limit - length taken) left);
+  }
+
+  pub endless_stream_reached : length taken ≡ stream_limit → kind.first_bad taken ≡ None
+      → ReachesEnd kind gives stream taken left Endless
+  endless_stream_reached full good = record {
+    ends = endless_stream_ends kind stream taken left split full good;
+    given_is = ap gives (limits_have_all_that_was_taken stream taken left split (omega (arith, full)) (inr full));
+  }

@@ -37,15 +37,14 @@ IsLeapYearDate month date = IsDate 2000 month date
 abbrev pub date_place : (month date : ℕ) → ℕ
 date_place month date = sum (take (month - 1) (month_lengths true)) + (date - 1)
 
--- the date that comes a number of days after the first of a month is told by its month and its day, where the lengths
--- of the months from that one on are listed, and there is none if the listed months have no more days than that
--- number
+-- the date a number of days after the first of a month is told by its month and its day; the list has the lengths of
+-- the months from that one on, and there is no date if they have no more days than that number
 abbrev pub date_from : (month : ℕ) → List ℕ → (days : ℕ) → Option (ℕ × ℕ)
 date_from month [] days = None
 date_from month (length ∷ lengths) days =
     if nat_lt days length then Some (month, days + 1) else date_from (month + 1) lengths (days - length)
 
--- the date of a place in a leap year is told by its month and its day, where place 0 is 1 January, and there is none
--- for a place above 365
+-- the date of a place in a leap year is told by its month and its day: place 0 is 1 January, and there is none for a
+-- place above 365
 abbrev pub date_of_place : (place : ℕ) → Option (ℕ × ℕ)
 date_of_place place = date_from 1 (month_lengths true) place

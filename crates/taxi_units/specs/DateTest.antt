@@ -3,7 +3,7 @@ use Rattle.std.specs.Prelude.{ℕ}
 use Rattle.taxi_units.specs.Calendar.{IsDate, days_of_month}
 use Rattle.taxi_units.specs.Test.{Test, at_most, stated, within, ◌&◌}
 
--- the calendar has a date
+-- the test passes if the calendar has a date
 abbrev pub date_test : (year month date : ℕ) → Test
 date_test year month date = stated (IsDate year month date)
     (at_most 1 month & (at_most month 12 & within 1 date (days_of_month year month)))

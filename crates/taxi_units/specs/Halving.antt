@@ -2,7 +2,8 @@
 -- it goes on.
 use Rattle.std.specs.Prelude.{ℕ, ◌+◌, ◌<◌, ◌≤◌, ◌^◌}
 
--- with `spent` steps taken, a stretch of that width is halved down to nothing by `bound` steps
+-- a look-up with `spent` steps taken ends by `bound` steps if those left are enough to halve a stretch of that width
+-- down to nothing
 pub record EndsWithin (spent bound width : ℕ) : Type 0 where
   pub rounds : ℕ
   pub room : spent + rounds ≤ bound

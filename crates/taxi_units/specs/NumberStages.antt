@@ -18,7 +18,7 @@ units_read decimals whole parts =
     then Err (TooManyDecimals (length whole + 1 + decimals))
     else (if nat_lt (10 ^ 12) (units_of decimals whole parts) then Err TooBig else Ok (units_of decimals whole parts))
 
--- the answer to a text of `whole`, a point and `parts`, where `parts` has `count` digits at its front
+-- the answer to a text of `whole`, a point and `parts`, if `parts` has `count` digits at its front
 abbrev pub counted_parts_read : ℕ → List ℕ → List ℕ → ℕ → Result ℕ NumberFault
 counted_parts_read decimals whole parts count =
     if nat_lt count (length parts) || (count == 0)

@@ -11,7 +11,7 @@ pub data StreamEnd : Type 0 where
   BadAt : (place : ℕ) → StreamEnd
   Endless : StreamEnd
 
--- a kind of stream tells of bytes which place is the first bad one among them, and which it is where none follow them
+-- a kind of stream tells of bytes which place is the first bad one among them, and which it is if none follow them
 pub record StreamKind : Type 0 where
   pub first_bad : List ℕ → Option ℕ
   pub bad_at_end : List ℕ → Option ℕ
@@ -26,8 +26,8 @@ pub record KeepsBad (kind : StreamKind) : Type 0 where
 pub record IsSplit (stream taken left : List ℕ) : Type 0 where
   pub bytes : stream ≡ taken ++ left
 
--- a call stopped after some bytes of a stream had been taken, in a state and with a printed text that `state` and
--- `shown` ask of the bytes taken
+-- a call stopped after it had taken some bytes of a stream if `state`, of what stands then, and `shown`, of what is
+-- printed, hold of these bytes
 pub record StopsAfter (stream left : List ℕ) (state shown : List ℕ → Type 0) : Type 0 where
   pub taken : List ℕ
   pub split : IsSplit stream taken left

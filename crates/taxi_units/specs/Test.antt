@@ -1,5 +1,5 @@
 -- Rules: tests, each with the fact that it decides, and how longer tests are made of shorter ones. So a list of
--- comparisons passes exactly where each of them holds.
+-- comparisons passes exactly if each of them holds.
 use Rattle.std.specs.Prelude.{◌≡◌, ◌⊎◌, ℕ, zero, suc, ◌≤◌, ◌<◌, Bool, true, false, ◌&&◌, ◌||◌, ◌==◌, nat_le, nat_lt, T}
 use Rattle.std.specs.Prelude.{⊤, ℤ, ◌≤ℤ◌, int_le, if◌then◌else◌, List, Option, Some, None, IfSome, Decides}
 use Rattle.std.specs.Int.Signed.{le_z_yes}
@@ -9,25 +9,25 @@ use Rattle.std.proofs.lemmas.Bool.{leb-true, le-leb, false≢true}
 use Rattle.std.proofs.lemmas.Bool.Decides.{Decides-and, Decides-below_and, Decides-by_and, Decides-eqb, Decides-like}
 use Rattle.std.proofs.lemmas.Bool.Decides.{Decides-ltb, Decides-or}
 
--- a test passes, or doesn't, and it passes exactly where its fact holds
+-- a test passes exactly if its fact holds
 pub record Test : Type 1 where
   pub passes : Bool
   pub Fact : Type 0
   pub decides : Decides passes Fact
 
--- a test that is always passed
+-- this test always passes
 abbrev pub no_test : Test
 no_test = record { passes = true; Fact = ⊤; decides = (λ _. tt, λ _. refl) }
 
--- a number is at most another
+-- the test passes if a number is at most another
 abbrev pub at_most : ℕ → ℕ → Test
 at_most a b = record { passes = nat_le a b; Fact = a ≤ b; decides = (leb-true a b, le-leb a b) }
 
--- a number is less than another
+-- the test passes if a number is less than another
 abbrev pub less : ℕ → ℕ → Test
 less a b = record { passes = nat_lt a b; Fact = a < b; decides = Decides-ltb a b }
 
--- a number is another
+-- the test passes if two numbers are the same
 abbrev pub same : ℕ → ℕ → Test
 same a b = record { passes = a == b; Fact = a ≡ b; decides = Decides-eqb a b }
 
@@ -36,7 +36,7 @@ pub is_true : (b : Bool) → T b → b ≡ true
 is_true true holds = refl
 is_true false holds = absurd holds
 
--- a signed number is at most another
+-- the test passes if a signed number is at most another
 abbrev pub at_most_signed : ℤ → ℤ → Test
 at_most_signed a b = record {
   passes = int_le a b;
@@ -45,7 +45,7 @@ at_most_signed a b = record {
 }
 
 infixl 20 ◌&◌
--- both of two tests pass, the second being asked where the first passes
+-- the test passes if both of two tests pass; the second is asked only if the first passes
 abbrev pub ◌&◌ : Test → Test → Test
 one & two = record {
   passes = one.passes && two.passes;
@@ -58,7 +58,7 @@ infixl 20 ◌⊕◌
 abbrev pub ◌⊕◌ : {P Q : Type 0} → P → Q → P × Q
 one ⊕ two = (one, two)
 
--- one of two tests passes
+-- the test passes if one of two tests passes, or both do
 abbrev pub either : Test → Test → Test
 either one two = record {
   passes = one.passes || two.passes;
@@ -66,17 +66,17 @@ either one two = record {
   decides = Decides-or one.passes two.passes one.decides two.decides;
 }
 
--- a number is from a first one to a last one
+-- the test passes if a number is from a first one to a last one
 abbrev pub within : ℕ → ℕ → ℕ → Test
 within first n last = at_most first n & at_most n last
 
--- if one test passes, the next has to
+-- a second test that is asked only if a first one passes decides that the second's fact follows from the first's
 pub decides_if_passes : {P Q : Type 0} (one two : Bool) → Decides one P → Decides two Q
     → Decides (if one then two else true) (P → Q)
 decides_if_passes true two p q = (λ passes holds. q.0 passes, λ fact. q.1 (fact (p.0 refl)))
 decides_if_passes false two p q = (λ passes holds. absurd (false≢true (p.1 holds)), λ fact. refl)
 
--- if one test passes, the next has to
+-- the test passes if a second test passes, or if a first one doesn't
 abbrev pub if_passes : Test → Test → Test
 if_passes one two = record {
   passes = if one.passes then two.passes else true;
@@ -84,7 +84,7 @@ if_passes one two = record {
   decides = decides_if_passes one.passes two.passes one.decides two.decides;
 }
 
--- a test passes of each element of a list
+-- the test passes if a test passes of each element of a list
 abbrev pub each : {A : Type 0} → (A → Test) → List A → Test
 each test xs = record {
   passes = list_all (λ x. (test x).passes) xs;
@@ -93,12 +93,12 @@ each test xs = record {
       (λ x. (test x).decides) refl (λ _ _. refl) xs;
 }
 
--- a test passes of each number below another
+-- the answer is true if a test passes of each number below another
 abbrev pub passes_below : (ℕ → Bool) → ℕ → Bool
 passes_below passes zero = true
 passes_below passes (suc n) = passes n && passes_below passes n
 
--- a test passes of each number below another
+-- the test passes if a test passes of each number below another
 abbrev pub below : (ℕ → Test) → ℕ → Test
 below test n = record {
   passes = passes_below (λ k. (test k).passes) n;
@@ -107,7 +107,7 @@ below test n = record {
       (λ k. (test k).decides) refl (λ _. refl) n;
 }
 
--- a test passes of what may be there, which it does where nothing is
+-- the answer is true if a test passes of what is there, or if nothing is there
 abbrev pub passes_if_some : {A : Type 0} → (A → Test) → Option A → Bool
 passes_if_some test None = true
 passes_if_some test (Some x) = (test x).passes
@@ -118,7 +118,7 @@ pub decides_if_some : {A : Type 0} (test : A → Test) (found : Option A)
 decides_if_some test None = (λ passes. tt, λ fact. refl)
 decides_if_some test (Some x) = (test x).decides
 
--- what may be there passes a test where it is there
+-- the test passes if a test passes of what is there, or if nothing is there
 abbrev pub if_some : {A : Type 0} → (A → Test) → Option A → Test
 if_some test found = record {
   passes = passes_if_some test found;
@@ -126,7 +126,7 @@ if_some test found = record {
   decides = decides_if_some test found;
 }
 
--- a test whose fact is said in other words
+-- the same test, with its fact in other words
 abbrev pub stated : (P : Type 0) → (test : Test) → (test.Fact → P) → (P → test.Fact) → Test
 stated P test there back = record {
   passes = test.passes;

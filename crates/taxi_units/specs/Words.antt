@@ -2,6 +2,6 @@
 use Rattle.std.specs.Prelude.{ℕ, Bool, List, nat_eq}
 use Rattle.std.specs.Cmp.Lexicographic.{pointwise}
 
--- the test `is_word` is true where a word has the same bytes as a name
+-- the test `is_word` is true if a word has the same bytes as a name
 abbrev pub is_word : List ℕ → List ℕ → Bool
 is_word word name = pointwise nat_eq word name

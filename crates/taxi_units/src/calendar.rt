@@ -25,8 +25,8 @@ pub fn is_date(year: u16, month: u8, date: u8) -> bool
     1 <= month && month <= 12 && 1 <= date && date <= days_of_month(year, month)
 }
 
-/// The place of a month and date in a leap year, from 0 for 1 January to 365 for 31 December. The places
-/// of what no leap year has mean nothing.
+/// The place of a month and date in a leap year, from 0 for 1 January to 365 for 31 December. If no
+/// leap year has the date, the place means nothing.
 pub fn date_place(month: u8, date: u8) -> u16
     ensures { result ≡ date_place month date }
 {
@@ -35,7 +35,7 @@ pub fn date_place(month: u8, date: u8) -> u16
     days_in(&lengths[..months]) + date.saturating_sub(1) as u16
 }
 
-/// The month and date at a place in a leap year: `None` where the place is above 365.
+/// The month and date at a place in a leap year. `None` exactly if the place is above 365.
 pub fn date_of_place(place: u16) -> Option<(u8, u8)>
     ensures { result ≡ date_of_place place }
 {
@@ -51,8 +51,8 @@ pub fn date_of_place(place: u16) -> Option<(u8, u8)>
     None
 }
 
-/// The 366 dates of a leap year and the places 0 to 365 go back and forth, and a date is before
-/// another where its place is.
+/// Each of the 366 dates of a leap year has its own place of 0 to 365. A date is before another exactly if its
+/// place is.
 pub fn dates_go_by_their_places()
     ensures places { (month date place : ℕ) → (date_of_place place ≡ Some (month, date))
         ↔ (IsLeapYearDate month date × (date_place month date ≡ place)) }

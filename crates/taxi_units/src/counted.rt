@@ -10,7 +10,7 @@ use std::sync::ledger::Ledger;
 
 /// An element that is looked up by a key.
 pub trait Keyed: Copy {
-    /// What it is looked up by.
+    /// The type of the key.
     type Key: Copy;
 
     /// Whether the element's key is at most a key.
@@ -60,15 +60,14 @@ impl Keyed for (u64, i32) {
     }
 }
 
-/// How many elements of a list are at most a key, and the last of them.
-#[derive(Clone, Copy, PartialEq, Eq)]
+/// How many elements of a list have keys up to a given one, and the last of them.
+#[derive(Clone, Copy)]
 pub struct AtMost<T> {
     pub count: usize,
     pub last: Option<T>,
 }
 
-/// A view of a list of which a look-up reads one element at a time, each read being one step. Its
-/// length costs none.
+/// A view of a list that counts its reads: each read of one element is one step. The length costs none.
 #[derive(Drop)]
 pub struct Counted<'a, T> {
     items: &'a [T],
@@ -104,7 +103,7 @@ impl<'a, T: Copy> Counted<'a, T> {
         self.items.is_empty()
     }
 
-    /// Reads the element at a place, from 0, which is one step.
+    /// Reads the element at a place, counted from 0. One step.
     pub fn read<L: Ledger>(&self, place: usize, steps: &mut Steps<L>) -> T
         requires { place < length self.now }
         ensures value { IsElement self.now place result }
@@ -117,8 +116,8 @@ impl<'a, T: Copy> Counted<'a, T> {
 }
 
 impl<'a, T: Keyed> Counted<'a, T> {
-    /// How many elements are at most a key, and the last of them, in a list in which none of these comes
-    /// after one that isn't. It is found by halving, in no more steps than the length has binary digits.
+    /// How many elements have keys up to this one, and the last of them. In the list they come before all others.
+    /// They are found by halving, in no more steps than the length has binary digits.
     pub fn at_most<L: Ledger>(&self, key: T::Key, steps: &mut Steps<L>) -> AtMost<T>
         requires { IsPartitionedBy (λ element. T.at_most element key) self.now }
         ensures count { result.count ≡ count_by (λ element. T.at_most element key) self.now }
@@ -144,8 +143,8 @@ impl<'a, T: Keyed> Counted<'a, T> {
     }
 }
 
-/// A law: where a step leaves at most half of what was to be looked through, the steps that are left are
-/// enough for that half.
+/// A law: if a step leaves at most half of what was to be looked through, the steps that are left are enough
+/// for that half.
 pub fn each_step_halves()
     ensures { (spent bound width half : ℕ) → EndsWithin spent bound width → 0 < width → half ≤ width / 2
         → EndsWithin (spent + 1) bound half }

@@ -6,15 +6,15 @@ ghost use Rattle.taxi_units.specs.NumberStages.{digits_at_front, decimal_read, w
 ghost use Rattle.taxi_units.specs.Reading.{Gives, GivesSame};
 
 /// Why a text is no amount. A place is a byte's, from 0.
-#[derive(Clone, Copy, PartialEq, Eq)]
+#[derive(Clone, Copy)]
 pub enum NumberFault {
     /// The text is empty.
     Empty,
-    /// The first place that breaks the form; the text's length, where a digit is missing at its end.
+    /// The first place that breaks the form, or the text's length if a digit is missing at its end.
     BadDigit(usize),
-    /// The form is good, and at this place stands the first decimal too many.
+    /// The form is good, and the first decimal too many stands at this place.
     TooManyDecimals(usize),
-    /// The amount passes 10^12 units.
+    /// The amount is above 10^12 units.
     TooBig,
 }
 
@@ -24,9 +24,9 @@ const LARGEST: u64 = 1_000_000_000_000;
 /// Reads one or more digits, and perhaps a point and one or more digits, as an amount in units of
 /// the last of `decimals` decimals: with two decimals, `0.2` is 20.
 ///
-/// `Empty` where the text is empty, `BadDigit` where it breaks this form, `TooManyDecimals` where the
-/// form is good and it has more decimals than that, `TooBig` where neither holds and the amount passes
-/// 10^12 units. A place is a byte's, from 0. The form and the limit are this project's own;
+/// `Empty`: the text is empty. `BadDigit`: it breaks this form. `TooManyDecimals`: the form is good,
+/// and it has more than `decimals` decimals. `TooBig`: none of these, and the amount is above 10^12
+/// units. A place is a byte's, from 0. The form and the limit are this project's own.
 /// `decimals_are_read_by_their_form` says what each answer means.
 #[tactic(auto, using(crate::proofs::Digits::digits_in_front))]
 pub fn read_decimal(text: &[u8], decimals: u8) -> Result<u64, NumberFault>
@@ -46,7 +46,7 @@ pub fn read_decimal(text: &[u8], decimals: u8) -> Result<u64, NumberFault>
 /// A number of 1 to 12 digits at the front of the bytes, and what stands after it. All digits at the
 /// front belong to it, leading zeros too.
 ///
-/// `None` where no digit, or more than 12, stand at the front. The limit is this project's own;
+/// `None` if no digit stands at the front, or more than 12 do. The limit is this project's own.
 /// `numbers_are_read_by_their_digits` says what each answer means.
 #[tactic(auto, unfolding(crate::specs::Number::number_at), using(crate::proofs::Digits::few_digits_in_front))]
 pub fn number_at(bytes: &[u8]) -> Option<(u64, &[u8])>
@@ -63,7 +63,7 @@ pub fn number_at(bytes: &[u8]) -> Option<(u64, &[u8])>
 /// A number of exactly `width` digits at the front of the bytes, and what stands after it. All digits at
 /// the front belong to it, leading zeros too, so the number is below 10^width.
 ///
-/// `None` where fewer or more than `width` digits stand at the front, and where `width` is 0.
+/// `None` if fewer or more than `width` digits stand at the front, or if `width` is 0.
 /// `numbers_are_read_by_their_digits` says what each answer means.
 #[tactic(auto, unfolding(crate::specs::Number::number_of_width))]
 pub fn number_of_width(bytes: &[u8], width: usize) -> Option<(u64, &[u8])>
@@ -81,7 +81,7 @@ pub fn number_of_width(bytes: &[u8], width: usize) -> Option<(u64, &[u8])>
 /// A number of `fewest` to `most` digits and of `low` to `high` at the front of the bytes, and what stands after it.
 /// All digits at the front belong to it, leading zeros too.
 ///
-/// `None` where the bytes begin with no such number. `figures_are_read_by_their_digits` says what each answer means.
+/// `None` if the bytes begin with no such number. `figures_are_read_by_their_digits` says what each answer means.
 #[tactic(auto, unfolding(crate::specs::Number::figure_at))]
 pub fn figure_at(
     bytes: &[u8],
@@ -109,7 +109,7 @@ pub fn figure_at(
 
 /// The number of `fewest` to `most` digits and of `low` to `high` that a whole text is. Leading zeros are digits too.
 ///
-/// `None` where the text is no such number. `figures_are_read_by_their_digits` says what each answer means.
+/// `None` if the text is no such number. `figures_are_read_by_their_digits` says what each answer means.
 #[tactic(auto, unfolding(crate::specs::Number::figure_in))]
 pub fn figure_in(text: &[u8], fewest: usize, most: usize, low: u64, high: u64) -> Option<u64>
     requires fewest { fewest ≤ 12 }
@@ -150,7 +150,7 @@ pub fn count_digits(bytes: &[u8]) -> usize
     count
 }
 
-/// What stands after the whole digits: nothing, or a point and decimals.
+/// Reads on after the whole digits: nothing, or a point and decimals.
 fn read_rest(whole: &[u8], rest: &[u8], decimals: u8) -> Result<u64, NumberFault>
     requires whole { digits_at_front whole.now ≡ length whole.now }
     requires places { length whole.now + length rest.now < 2 ^ 63 }
@@ -168,7 +168,7 @@ fn read_rest(whole: &[u8], rest: &[u8], decimals: u8) -> Result<u64, NumberFault
     }
 }
 
-/// What stands after the point.
+/// Reads on after the point.
 fn read_parts(whole: &[u8], parts: &[u8], decimals: u8) -> Result<u64, NumberFault>
     requires whole { digits_at_front whole.now ≡ length whole.now }
     requires places { length whole.now + length parts.now < 2 ^ 63 }
@@ -204,7 +204,7 @@ fn read_units(whole: &[u8], parts: &[u8], decimals: u8) -> Result<u64, NumberFau
     }
 }
 
-/// A number with `zeros` zeros behind it, where it doesn't pass the largest.
+/// A number with `zeros` zeros behind it. `None` if that is above the largest.
 #[tactic(auto, using(crate::proofs::Digits::one_zero_more, crate::proofs::Digits::large_with_zeros))]
 fn scaled(number: u64, zeros: usize) -> Option<u64>
     requires { number ≤ 10 ^ 12 }
@@ -220,7 +220,7 @@ fn scaled(number: u64, zeros: usize) -> Option<u64>
     Some(units)
 }
 
-/// The number that these digits make after those of a number, where it doesn't pass the largest.
+/// The number that these digits make after those of a number. `None` if it is above the largest.
 fn number_from(start: u64, digits: &[u8]) -> Option<u64>
     requires start { start ≤ 10 ^ 12 }
     requires digits { digits_at_front digits.now ≡ length digits.now }

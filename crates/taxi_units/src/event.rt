@@ -1,7 +1,7 @@
 //! What happens to a meter, and what it may answer.
 
 /// A key of the meter, pressed by the driver.
-#[derive(Clone, Copy, PartialEq, Eq)]
+#[derive(Clone, Copy)]
 pub enum Key {
     /// Begins a hiring, or goes on with one that was stopped.
     Hire,
@@ -17,9 +17,9 @@ pub enum Key {
     Extra(u8),
 }
 
-/// An event: the atomic step of the meter. Seconds are counted from 1970-01-01T00:00Z, and lie in
-/// 946,684,800 to 7,258,118,399.
-#[derive(Clone, Copy, PartialEq, Eq)]
+/// An event, which takes the meter from one state to the next. Seconds are counted from
+/// 1970-01-01T00:00Z, and are 946,684,800 to 7,258,118,399.
+#[derive(Clone, Copy)]
 pub enum Event {
     /// The supply comes, at a second.
     Up(u64),
@@ -45,9 +45,9 @@ pub enum Operating {
 }
 
 /// Why an event or a key was refused.
-#[derive(Clone, Copy, PartialEq, Eq)]
+#[derive(Clone, Copy)]
 pub enum Why {
-    /// Not in this operating position.
+    /// It isn't allowed in this operating position.
     NotNow,
     /// Another key waits for the end of the interval.
     KeyWaiting,
@@ -57,7 +57,7 @@ pub enum Why {
     AtMost,
     /// In a trip the clock was given a second before the last one.
     ClockBack { last: u64, given: u64 },
-    /// More pulses came than an interval can have, by this number.
+    /// This many pulses came beyond the most that an interval can have.
     TooFast(u32),
     /// The meter is powered already.
     Powered,

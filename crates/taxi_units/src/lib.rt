@@ -50,5 +50,5 @@ pub use time::{FIRST_SECOND, LAST_SECOND, LONGEST_TRIP};
 pub use weekdays::DAY_NAMES;
 
 /// Memory ran out.
-#[derive(Clone, Copy, Debug, PartialEq, Eq)]
+#[derive(Clone, Copy, Debug)]
 pub struct NoMemory;

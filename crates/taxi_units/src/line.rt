@@ -16,15 +16,15 @@ pub const LINE_SIZE: usize = 512;
 pub type Line = ArrayVec<u8, LINE_SIZE>;
 
 /// The text doesn't fit into what is left of the line.
-#[derive(Clone, Copy, PartialEq, Eq)]
+#[derive(Clone, Copy)]
 pub struct LineFull;
 
-/// A text that is made before it is appended: the longest is 255 bytes.
+/// A text before it is appended. The longest has 255 bytes.
 type Draft = ArrayVec<u8, 256>;
 
 /// Appends bytes.
 ///
-/// `LineFull` where they don't fit; the line is then unchanged.
+/// `LineFull`: they don't fit. The line is then unchanged.
 pub fn put_bytes(line: &mut Line, bytes: &[u8]) -> Result<(), LineFull>
     ensures variant { IsOk result ↔ (array_vec_len line.old + length bytes.now ≤ line_size) }
     ensures ok { OnOk result (line.new.items ≡ line.old.items ++ bytes.now) }
@@ -35,7 +35,7 @@ pub fn put_bytes(line: &mut Line, bytes: &[u8]) -> Result<(), LineFull>
 
 /// Appends a number in decimal, without leading zeros.
 ///
-/// `LineFull` where it doesn't fit; the line is then unchanged.
+/// `LineFull`: it doesn't fit. The line is then unchanged.
 #[tactic(auto, using(crate::proofs::Written::decimal_short))]
 pub fn put_number(line: &mut Line, value: u128) -> Result<(), LineFull>
     ensures variant { IsOk result ↔ (array_vec_len line.old + length (decimal value) ≤ line_size) }
@@ -50,7 +50,7 @@ pub fn put_number(line: &mut Line, value: u128) -> Result<(), LineFull>
 /// Appends a number in decimal, with zeros in front up to the width. A longer number is written
 /// whole.
 ///
-/// `LineFull` where it doesn't fit; the line is then unchanged.
+/// `LineFull`: it doesn't fit. The line is then unchanged.
 #[tactic(auto, using(crate::proofs::Written::padded_short))]
 pub fn put_padded(line: &mut Line, value: u64, width: u8) -> Result<(), LineFull>
     ensures variant { IsOk result ↔ (array_vec_len line.old + length (padded_text width value) ≤ line_size) }
@@ -63,9 +63,9 @@ pub fn put_padded(line: &mut Line, value: u64, width: u8) -> Result<(), LineFull
 }
 
 /// Appends an amount of money, counted in units of the last of its 0 to 3 decimals: one or more
-/// digits, and where it has decimals a point and that number of digits. The form is this project's own.
+/// digits, and if it has decimals a point and that many digits. The form is this project's own.
 ///
-/// `LineFull` where it doesn't fit; the line is then unchanged.
+/// `LineFull`: it doesn't fit. The line is then unchanged.
 #[tactic(auto, using(crate::proofs::Written::amounts_are_short))]
 pub fn put_money(line: &mut Line, units: u128, decimals: u8) -> Result<(), LineFull>
     requires { decimals ≤ 3 }

@@ -2,7 +2,7 @@
 ghost use Rattle.std.specs.Prelude.{◌≡◌, ◌∷◌, ◌++◌, MatchOption};
 ghost use Rattle.taxi_units.specs.Parting.{HasNone};
 
-/// The bytes before the first one that is this byte, and those after it, where there is one.
+/// The bytes before the first one that is this byte, and those after it. All bytes and `None` if none is.
 pub fn split_at_byte(bytes: &[u8], byte: u8) -> (&[u8], Option<&[u8]>)
     ensures before { HasNone byte result.0.now }
     ensures after { MatchOption result.1 (bytes.now ≡ result.0.now)

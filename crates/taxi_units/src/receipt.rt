@@ -17,7 +17,7 @@ pub enum Kind {
 
 /// A local date and time: the year 1999 to 2200, the month 1 to 12, the date 1 to 31, and the second
 /// of the day 0 to 86,399.
-#[derive(Clone, Copy, PartialEq, Eq)]
+#[derive(Clone, Copy)]
 pub struct Stamp {
     pub year: u16,
     pub month: u8,
@@ -36,10 +36,10 @@ pub struct Display {
     pub decimals: u8,
 }
 
-/// What a receipt says. `number` is the store's number after the entry, `hired_mm` the distance of
-/// the trip in millimetres, `steps` the number of display steps of `step` each, above `initial`, and
-/// `minimum` what the fare is at least.
-#[derive(Clone, Copy, PartialEq, Eq)]
+/// What a receipt says. `number` is the store's number after the entry, and `hired_mm` the distance of
+/// the trip in millimetres. `steps` display steps of `step` each are added to `initial`, and the fare is
+/// at least `minimum`.
+#[derive(Clone, Copy)]
 pub struct Receipt {
     pub number: u64,
     pub kind: Kind,

@@ -7,8 +7,8 @@ use std::sync::ledger::{Blank, Book, Ledger, Share};
 /// How many steps were taken. A step is one call of the board, or one read of a cell, of a line's
 /// weights, of a supplement, or of an element of a list of cuts, offsets or holidays.
 ///
-/// It is a number that only contracts see: it takes no bytes, `spend` alone changes it, and a ledger
-/// is opened once, so there is one counter for each `L`.
+/// Only contracts see this number, and it takes no bytes. `spend` alone changes it. A ledger is opened
+/// once, so there is one counter for each `L`.
 #[derive(Drop)]
 pub struct Steps<L: Ledger> {
     book: Book<L>,

@@ -17,15 +17,14 @@ pub fn amounts_read_back()
     ensures { (decimals units : ℕ) → units ≤ 10 ^ 12 → decimal_read decimals (money_text decimals units) ≡ Ok units }
 {}
 
-/// The answer to a text is the one that its form has: the amount where it is good, and else its
-/// fault.
+/// The answer to a text is the one that its form has: the amount if it is good, and else its fault.
 pub fn decimals_are_read_by_their_form()
     ensures { (decimals : ℕ) (text : List ℕ) (answer : Result ℕ NumberFault)
         → (decimal_read decimals text ≡ answer) ↔ IsReadAs decimals text answer }
 {}
 
-/// A number at the front of a text is all of its first digits, where they are 1 to 12, or where they
-/// are exactly as many as a width.
+/// A number at the front of a text is all of its first digits, if they are 1 to 12; a number of a width,
+/// if they are exactly that many.
 pub fn numbers_are_read_by_their_digits()
     ensures plain { (text rest : List ℕ) (value : ℕ)
         → (number_at text ≡ Some (value, rest)) ↔ IsNumberAt text value rest }
@@ -33,8 +32,8 @@ pub fn numbers_are_read_by_their_digits()
         → (number_of_width width text ≡ Some (value, rest)) ↔ IsNumberOfWidth width text value rest }
 {}
 
-/// A number of a width and a range is all digits at the front of a text, or all of the text, where they are as many as
-/// the width has it, and their number is in the range.
+/// A figure is all digits at the front of a text, or the whole text, if they are `fewest` to `most` digits and their
+/// number is of `low` to `high`.
 pub fn figures_are_read_by_their_digits()
     ensures front { (fewest most low high : ℕ) (text rest : List ℕ) (value : ℕ) → most ≤ 12
         → (figure_at fewest most low high text ≡ Some (value, rest))
@@ -60,8 +59,8 @@ pub fn digits_are_counted()
         → digits_at_front (take (digits_at_front text) text) ≡ length (take (digits_at_front text) text) }
 {}
 
-/// A number that has reached a limit with one more of its digits doesn't fall below it with the digits
-/// that follow.
+/// If a number reaches a limit with one of its digits, it doesn't fall below it with the digits that
+/// follow.
 pub fn numbers_grow_by_their_digits()
     ensures { (limit start : ℕ) (digits : List ℕ) (place : ℕ) → place < length digits
         → digits_at_front (drop place digits) ≡ length (drop place digits)
@@ -69,7 +68,7 @@ pub fn numbers_grow_by_their_digits()
 {}
 
 /// What is written as a number below 10^12, with zeros in front up to 12 digits or without, is read
-/// as that number, where no digit follows it.
+/// as that number, if no digit follows it.
 pub fn numbers_read_back()
     ensures plain { (value : ℕ) (rest : List ℕ) → value < 10 ^ 12 → NoDigitFirst rest
         → number_at (decimal value ++ rest) ≡ Some (value, rest) }
@@ -77,7 +76,7 @@ pub fn numbers_read_back()
         → number_at (padded_text width value ++ rest) ≡ Some (value, rest) }
 {}
 
-/// A word is read where it stands at the front of a text, and the rest is what stands after it.
+/// A word is read exactly if it stands at the front of a text, and the rest is what stands after it.
 pub fn words_are_read_by_their_text()
     ensures { (word text rest : List ℕ) → (word_at word text ≡ Some rest) ↔ (text ≡ word ++ rest) }
 {}
@@ -97,8 +96,8 @@ pub fn amounts_are_written_by_their_digits()
         → (money_text decimals units ≡ text) ↔ IsAmountText decimals units text }
 {}
 
-/// How long the texts of numbers are: no longer than a power of ten that is greater has zeros. With
-/// zeros in front a text has the greater of the width and the number of digits, and an amount has at
+/// How long the texts of numbers are: a number below 10 to the power `places` has at most `places` digits.
+/// With zeros in front, a text is as long as the width or the digits, whichever is more. An amount has at
 /// most a point more.
 pub fn texts_of_numbers_are_short()
     ensures plain { (places value : ℕ) → 0 < places → places ≤ 64 → value < 10 ^ places

@@ -6,7 +6,7 @@ use taxi_units::Kind;
 
 /// An entry: a closed hiring, or distance driven for hire. Distances are in millimetres, money in the
 /// tariff's smallest units. `position` is the tariff position at closing, 1 to 9.
-#[derive(Clone, Copy, PartialEq, Eq)]
+#[derive(Clone, Copy)]
 pub struct Entry {
     pub kind: Kind,
     pub roam_mm: u128,

@@ -5,7 +5,7 @@ use drive_modes::Meterage;
 /// Stopped, and the tariff position and zone, 1 to 9. It has the pulses that were roamed before the hiring, the trip's
 /// pulses and ticks, the initial hire fee, the minimum fare, and what its charges have come to. It has how often each
 /// of the supplements 1 to 16 was taken, and the sum of their amounts. Money is in the tariff's smallest units.
-#[derive(Clone, Copy, PartialEq, Eq)]
+#[derive(Clone, Copy)]
 pub struct Trip {
     pub started: u64,
     pub saved: u64,

@@ -4,12 +4,13 @@ import collections
 import pathlib
 import re
 
+from heglorwy.imports import COMMON, Common, imports_of
+
 TOP = pathlib.Path(__file__).resolve().parent.parent.parent.parent
 
 ITEM = re.compile(r"^(?P<indent> *)(?P<public>pub |pub\(crate\) )?(?:unsafe )?(?:const (?=fn)|extern \"C\" )*"
                   r"(?P<kind>fn|struct|enum|trait|type|const|static|impl)\b(?P<rest>.*)")
 CLAUSE = re.compile(r"^\s+(?:requires|ensures|ghost)\*?(?: \w+)?:? ?\{|^\s+(?:requires|ensures)\b")
-IMPORT = re.compile(r"^\s*ghost use Rattle\.([\w.]+?)\.(?:\{(.*)\};|([^{};]+);)")
 USES = re.compile(r"^pub use ([\w:]+)::(?:\{(.*?)\}|(\w+));", re.MULTILINE | re.DOTALL)
 
 # A public type or call: its kind, its name with that of its owner, where it stands, what is said of it, its signature,
@@ -108,19 +109,13 @@ class Lines:
         return "\n".join(said).strip(), derives
 
 
-def imports_of(lines):
+def definitions_of(text, common):
     """The definitions that a file brings in, each with the crate and the module that has it."""
     brought = {}
-    for line in lines:
-        found = IMPORT.match(line)
-        if found:
-            path, words, module = found.groups()
-            for word in words.split(",") if words else []:
-                brought[word.split(" as ")[-1].strip()] = path
-            if module:
-                # A whole module, perhaps under another name, as `Supply as model`: its words stand behind that name.
-                name, _, other = module.partition(" as ")
-                brought[other.strip() or name.strip()] = f"{path}.{name.strip()}"
+    for one in map(common.origin, imports_of(text, "ghost")):
+        # Of a whole module, perhaps under another name, as `Supply as model`, the words stand behind that name.
+        word = one.alias or one.name or one.module.split(".")[-1]
+        brought[word] = one.module.removeprefix("Rattle.")
     return brought
 
 
@@ -158,8 +153,8 @@ def shown_type(file, at, end, derives):
 class Reader:
     """Reads the sources of a crate: the things of which `names` has the name are public."""
 
-    def __init__(self, top, names):
-        self.top, self.names, self.things, self.found = top, names, [], set()
+    def __init__(self, top, names, common):
+        self.top, self.names, self.common, self.things, self.found = top, names, common, [], set()
 
     def put(self, file, at, kind, name, said, signature, clauses=(), is_law=False, imports=(), owner=None):
         place = f"{file.path.relative_to(self.top)}:{at + 1}"
@@ -167,7 +162,7 @@ class Reader:
 
     def read(self, path):
         file = Lines(path)
-        imports = imports_of(file.lines)
+        imports = definitions_of("\n".join(file.lines), self.common)
         at = 0
         while at < len(file.lines):
             found = ITEM.match(file.lines[at])
@@ -283,7 +278,8 @@ def read_crate(top, name, stands_on):
     text = root.read_text()
     said = "\n".join(line[3:].removeprefix(" ") for line in text.split("\n") if line.startswith("//!"))
     names, handed_on = public_names(text)
-    reader = Reader(top, names)
+    common = folder.parent / COMMON
+    reader = Reader(top, names, Common(name, common.read_text() if common.is_file() else ""))
     for path in sorted(folder.rglob("*.rt")):
         if not re.search(r"(?:^|_)tests$", path.stem) and "tests" not in path.parts:
             reader.read(path)

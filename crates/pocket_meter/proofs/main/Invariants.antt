@@ -1,4 +1,4 @@
 use Rattle.pocket_meter.proofs.main.Given as goal
 
-abbrev pub ghosts-status : goal.ghosts-status
-ghosts-status a = record { name = a.blank.name; parts = a.blank.parts }
+abbrev pub ghosts-carry : goal.ghosts-carry
+ghosts-carry a = record { name = a.blank.name; parts = a.blank.parts }

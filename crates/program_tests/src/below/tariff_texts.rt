@@ -1,4 +1,4 @@
-//! What a text of a tariff comes to.
+//! What a tariff's text gives.
 use drive_modes::Constant;
 use std::alloc::Global;
 use std::test::Fail;

@@ -1,12 +1,12 @@
 //! Cuts of the power inside the calls of a filing, over logs in memory.
 use crate::log::keep_log_tests::{FILE, called, filing, must_at, receipts, shows};
 use crate::log::memory_log::cut_of;
-use outside::{Fill, MemoryLog};
+use memory_devices::{Fill, MemoryLog};
 use std::alloc::Global;
 use std::test::Fail;
 
-/// What a cut makes of the bytes in flight; whether it leaves a gate open that 0x00 is written to, and one that 0xA5 is
-/// written to. The first half of a single byte has none, so it leaves what was settled.
+/// What a cut makes of the bytes in flight; whether it leaves a gate open to which 0x00 is written, and one to which
+/// 0xA5 is written. The first half of a single byte is empty, so it leaves what was settled.
 const FILLS: &[(Fill, bool, bool)] = &[
     (Fill::Old, true, false),
     (Fill::New, false, true),
@@ -16,8 +16,8 @@ const FILLS: &[(Fill, bool, bool)] = &[
     (Fill::Byte(0xFF), false, false),
 ];
 
-/// The numbers of the first receipt in a log behind a cut, where it leaves a gate open that 0x00 is written to, and
-/// where not; and of the last one, where it leaves a gate open that 0xA5 is written to, and where not.
+/// The numbers of the first receipt in a log behind a cut, if it leaves a gate open to which 0x00 is written, and if
+/// not; and of the last one, if it leaves a gate open to which 0xA5 is written, and if not.
 pub(crate) type Left = ([u32; 2], [u32; 2]);
 
 /// What a cut leaves in the calls of the append of receipt 258 to a log of the receipts 2 to 257: while a gate is shut,
@@ -38,14 +38,13 @@ pub(crate) fn cut(alloc: Global, log: &MemoryLog, call: u64, fill: Fill) -> Resu
     Ok(cut_of(alloc, log, call, fill)?)
 }
 
-/// Whether a roll that is filed in the log of an image leaves another image, with status 0.
+/// Whether filing a roll in the log of an image leaves another image, with status 0.
 fn becomes(alloc: Global, image: &[u8], roll: &[u8], whole: &[u8]) -> Result<bool, Fail> {
     let ended = called(alloc, image, FILE, roll)?;
     Ok(ended.1 == 0 && ended.0.image().as_slice() == whole)
 }
 
-/// Whether the log of an image is shown with receipts of these numbers, and a roll that is filed in it leaves another
-/// image.
+/// Whether the log of an image is shown with receipts of these numbers, and filing a roll in it leaves another image.
 pub(crate) fn goes_on(
     alloc: Global,
     image: &[u8],
@@ -144,9 +143,9 @@ fn cuts_in_the_257th_append(rt: HostRuntime) -> Result<(), Fail> {
     must_outlast(rt.alloc(), 258, 1288, LAST_CALLS)
 }
 
-/// Calls of the filing of the receipts 2 to 4 in a log of zeros, and what a cut in them leaves, where the last is 1 for
-/// none: before the first call, in the opening of one sync and 256 reads, in the two writes of each append and their
-/// syncs, and in the print.
+/// Calls of the filing of the receipts 2 to 4 in a log of zeros, and what a cut in them leaves, 1 for no last one:
+/// before the first call, in the opening of one sync and 256 reads, in the two writes of each append and their syncs,
+/// and in the print.
 const FIRST_APPENDS: &[(u64, Left)] = &[
     (0, ([2, 2], [1, 1])),
     (1, ([2, 2], [1, 1])),

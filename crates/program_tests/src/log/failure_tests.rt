@@ -4,7 +4,7 @@ use crate::log::keep_log_tests::{
     FILE, SHOW, called, failing, filed, filed_to, filing, image_of, is_end, must, must_at, receipts,
 };
 use crate::log::receipt_tests::put_receipt;
-use outside::MemoryLog;
+use memory_devices::MemoryLog;
 use std::alloc::Global;
 use std::test::Fail;
 
@@ -135,8 +135,8 @@ fn with_another_taxi(alloc: Global) -> Result<Vec<u8>, Fail> {
     Ok(roll)
 }
 
-/// The read behind the receipt of another taxi fails, and that receipt is found after it, since the torn one might have
-/// gone on: the status is 4, and not 7.
+/// The read behind the receipt of another taxi fails. That receipt is found after the read, since the torn one might
+/// have gone on: the status is 4, and not 7.
 #[test]
 fn another_taxi_before_a_read_that_fails(rt: HostRuntime) -> Result<(), Fail> {
     let roll = with_another_taxi(rt.alloc())?;
@@ -172,7 +172,7 @@ fn partly_filed(alloc: Global, roll: &[u8], read: u64) -> Result<Vec<u8>, Fail> 
     image_of(alloc, &ended.0)
 }
 
-/// The number of the last receipt that is filed where a read fails. Fails unless it is above this one, and the roll is
+/// The number of the last receipt that is filed if a read fails. Fails unless it is above this one, and the roll is
 /// filed again over that.
 fn last_above(
     alloc: Global,
@@ -188,7 +188,7 @@ fn last_above(
     Ok(last)
 }
 
-/// The number of the last receipt that is filed where the fifth read fails. Fails unless each read files more.
+/// The number of the last receipt that is filed if the fifth read fails. Fails unless each read files more.
 fn last_of_five(alloc: Global, roll: &[u8], whole: &[u8]) -> Result<u32, Fail> {
     let mut last = 0;
     for read in 1..=5 {
@@ -203,8 +203,8 @@ fn must_read_no_more(alloc: Global, roll: &[u8]) -> Result<(), Fail> {
     must_at(is_end(&ended, "FILED 99\n", 0), "another end at read", 6)
 }
 
-/// Each of the reads of a roll fails, the fifth too, which tells its end. What was taken before it is filed, and the
-/// roll is filed again over that.
+/// Each of the reads of a roll fails, and the fifth, which tells its end, too. What was taken before it is filed, and
+/// the roll is filed again over that.
 #[test]
 fn each_read_of_a_roll_fails(rt: HostRuntime) -> Result<(), Fail> {
     let roll = receipts(rt.alloc(), 2, 100)?;

@@ -9,7 +9,7 @@ fn shows_a_beginning(alloc: Global, image: &[u8], roll: &[u8]) -> Result<bool, F
     Ok(status == 0 && roll.starts_with(shown.printed()))
 }
 
-/// How a filing of a roll ended: whole, or with 8, where the log had no memory and shows its first receipts.
+/// How a filing of a roll ended: whole, or with 8, if the log had no memory and shows its first receipts.
 fn told(alloc: Global, ended: &Ended, roll: &[u8]) -> Result<(), Fail> {
     let refused = ended.0.refused();
     if refused == 0 && is_end(ended, "FILED 2\n", 0) {

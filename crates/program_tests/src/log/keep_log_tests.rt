@@ -5,7 +5,7 @@ ghost use Rattle.std.specs.Prelude.{◌≡◌, ◌<◌};
 use crate::log::memory_log::memory_log;
 use crate::log::receipt_tests::put_receipt;
 use log_commands::keep_log;
-use outside::{MemoryFiles, MemoryLog};
+use memory_devices::{MemoryFiles, MemoryLog};
 use std::alloc::Global;
 use std::marker::Brand;
 use std::sync::ledger::{Blank, Ledger};
@@ -56,7 +56,7 @@ fn files_of(alloc: Global, roll: &[u8], reads: &[u64]) -> Result<MemoryFiles, Fa
     Ok(files)
 }
 
-/// A log that begins with an image, and of which these calls fail.
+/// A log with these bytes; these calls of it fail.
 pub(crate) fn log_of(alloc: Global, image: &[u8], calls: &[u64]) -> Result<MemoryLog, Fail> {
     if image.len() != 131_072 {
         return Err(Fail::new("no image of a log"));

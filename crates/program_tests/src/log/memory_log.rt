@@ -1,15 +1,16 @@
 //! The board of the log in memory, from bytes and back to bytes that stand on no stack.
 ghost use Rattle.std.specs.Prelude.{◌≡◌, ◌≤◌, [], length, IfOk};
-ghost use Rattle.outside.specs.Calls.{IsInSome};
+ghost use Rattle.memory_devices.specs.Calls.{IsInSome};
 ghost use Rattle.outside.specs.Disk.{SameBut, log_size};
-ghost use Rattle.outside.specs.MemoryBoard.{IsNew, new_board, contents_inside, left_since_of};
+ghost use Rattle.memory_devices.specs.MemoryBoard.{IsNew, new_board, contents_inside, left_since_of};
 
-use outside::{Fill, LOG_SIZE, MemoryLog};
+use memory_devices::{Fill, MemoryLog};
+use outside::LOG_SIZE;
 use std::alloc::Global;
 use taxi_units::NoMemory;
 
-/// A board at moment 0 with these bytes in its store. The calls with the numbers in `fail` will fail.
-/// `NoMemory` comes only where there is no memory.
+/// A board at moment 0 with these bytes in its store. The calls with the numbers in `fail` will fail. `NoMemory` only
+/// if there is no memory.
 pub fn memory_log(alloc: Global, image: &[u8], fail: &[u64]) -> Result<MemoryLog, NoMemory>
     requires { length image.now ≡ log_size }
     ensures state { IfOk result (λ b. b.state ≡ new_board image.now fail.now) }
@@ -18,7 +19,7 @@ pub fn memory_log(alloc: Global, image: &[u8], fail: &[u64]) -> Result<MemoryLog
     MemoryLog::new(alloc, whole(image), fail)
 }
 
-/// The image that the board's `cut` gives. `NoMemory` comes only where there is no memory.
+/// The image that the board's `cut` gives. `NoMemory` only if there is no memory.
 pub fn cut_of(alloc: Global, log: &MemoryLog, call: u64, fill: Fill) -> Result<Vec<u8>, NoMemory>
     requires { call ≤ length log.now.state.calls }
     ensures size { IfOk result (λ cut. length cut.items ≡ log_size) }

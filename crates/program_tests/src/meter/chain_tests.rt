@@ -5,7 +5,7 @@ use crate::meter::run_tests::{HELD, HIRING, RUN, sealed};
 use crate::meter::store_tests::filled_or;
 use crate::meter::tests::{A, P, files_of, must, must_behind, strings};
 use commands::{Row, row_in};
-use outside::{Fill, MemoryFiles};
+use memory_devices::{Fill, MemoryFiles};
 use run_chains::{Taximeter, chain, may_begin};
 use std::alloc::Global;
 use std::marker::Brand;
@@ -19,10 +19,10 @@ pub(crate) type Cut = Option<(u64, Fill)>;
 /// The image at the end of a chain, and for each run its status and number.
 pub(crate) type Ended = ([u8; 2048], Vec<(u8, u64)>);
 
-/// A trip that is held at the drive's end: the last call of its run is the sync of the commit.
+/// A trip that is held at the end of the drive: the last call of its run is the sync of the commit.
 const HOLDING: &str = "U 1767225600\nK H\nI 0 1\n";
 
-/// A chain under a new counter, where it may begin.
+/// A chain under a new counter, if it may begin.
 fn counted<L: Ledger>(
     alloc: Global,
     blank: Blank,

@@ -4,7 +4,7 @@ use crate::meter::run_tests::{HELD, HIRING, RUN, has_totals, sealed};
 use crate::meter::tests::{
     A, Ended, FILLS, P, broken_off, called, cut_in, is_made_of, must, must_at, must_behind, whole,
 };
-use outside::{Fill, MemoryBoard};
+use memory_devices::{Fill, MemoryBoard};
 use std::alloc::Global;
 use std::test::Fail;
 
@@ -31,7 +31,7 @@ fn must_go_on(alloc: Global, board: &MemoryBoard, number: u64, fills: &[Fill]) -
     Ok(())
 }
 
-/// Fails unless the run breaks off where this call of the board fails, and another run goes on over what it leaves.
+/// Fails unless the run breaks off at this failing call of the board, and another run goes on over what it leaves.
 fn must_outlast(
     alloc: Global,
     image: &[u8; 2048],

@@ -3,7 +3,7 @@ use crate::meter::failure_tests::SHOWN;
 use crate::meter::run_tests::{HIRING, RUN};
 use crate::meter::store_tests::{SECOND_LAYOUT, image_of};
 use crate::meter::tests::{A, call};
-use outside::MemoryBoard;
+use memory_devices::MemoryBoard;
 use std::test::Fail;
 
 /// A store as sealing leaves it, made without memory: number 1, totals of zero, no held trip.

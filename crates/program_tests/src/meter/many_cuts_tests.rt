@@ -3,7 +3,8 @@ ghost use Rattle.std.specs.Prelude.{◌≡◌, ◌<◌};
 
 use crate::meter::run_tests::{CITY, RUN, sealed};
 use crate::meter::tests::{Ended, FILLS, P, called, cut_in, must};
-use outside::{Fill, MemoryBoard, QuietBoard};
+use memory_devices::{Fill, MemoryBoard};
+use outside::QuietBoard;
 use receipt_reading::read_receipt;
 use slot_store::{Found, scan};
 use std::alloc::Global;
@@ -170,7 +171,7 @@ fn sums_of(durable: &Durable) -> Sums {
     }
 }
 
-/// Whether a run ended as it should where a call of the board fails or not: with a beginning of what the whole one
+/// Whether a run ended as it should, if a call of the board fails or not: with a beginning of what the whole one
 /// prints.
 fn is_begun(run: &Ended, whole: &[u8], fails: bool) -> bool {
     (run.1 == 8) == fails && whole.starts_with(run.0.printed())
@@ -264,8 +265,8 @@ fn broken_off(
     must_add_up(alloc, drive, whole.printed(), &found, sums)
 }
 
-/// Each receipt that was printed has its entry among those that are found after a cut, and the totals are those of
-/// the receipts of the runs so far, added up plainly, as far as the number says.
+/// Each receipt that was printed has its entry among those that are found after a cut. The totals are those of the
+/// receipts of the runs so far, as many as the number says, added up plainly.
 #[test]
 fn a_hundred_cuts(rt: HostRuntime) -> Result<(), Fail> {
     let mut image = sealed(rt.alloc(), CITY, P)?;

@@ -4,12 +4,12 @@ use crate::meter::store_tests::{
     CONSTANT_AND_HIRINGS, NUMBER, OF_CONSTANT_AND_HIRINGS, OF_NUMBER, SECOND_LAYOUT, image_of,
 };
 use crate::meter::tests::{A, broken_off, must_answer, must_at, must_break_off, repeated, whole};
-use outside::MemoryBoard;
+use memory_devices::MemoryBoard;
 use std::alloc::Global;
 use std::test::Fail;
 
-/// Words over a text, a piece of it and how often it stands there, how many calls of the board are made before the
-/// first print, and how many in all.
+/// Words over a text, a piece of it and how often it is in it, how many calls of the board are made before the first
+/// print, and how many in all.
 const PRINTED: &[(&[&str], &str, usize, u64, u64)] = &[
     (&["form", "t"], "holiday 2026-01-01\n", 60, 0, 3),
     (&["faults", "t"], "holiday\n", 60, 0, 3),
@@ -123,7 +123,7 @@ fn must_serve(alloc: Global, read: u64, replies: usize) -> Result<(), Fail> {
     must_answer(alloc, &image, &["port", "r"], &texts, (0, read), &output, 7)
 }
 
-/// The second read fails, or the third, which comes to the end.
+/// The second read fails, or the third, which finds the end.
 #[test]
 fn requests_across_pieces(rt: HostRuntime) -> Result<(), Fail> {
     must_serve(rt.alloc(), 2, 126)?;

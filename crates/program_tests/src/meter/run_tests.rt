@@ -2,7 +2,7 @@
 use crate::meter::many_cuts_tests::stored;
 use crate::meter::store_tests::{FIRST_LAYOUT, image_of};
 use crate::meter::tests::{A, Ended, P, ZEROS, cut_in, cuts_of, must, must_behind, whole};
-use outside::{Fill, MemoryBoard};
+use memory_devices::{Fill, MemoryBoard};
 use std::alloc::Global;
 use std::test::Fail;
 
@@ -17,7 +17,7 @@ pub(crate) const CITY: &str =
 
 pub(crate) const RUN: &[&str] = &["run", "t", "d"];
 
-/// A hiring of 234.8 m, which the cover takes exactly.
+/// A hiring of 234.8 m, which is just what the cover takes.
 pub(crate) const HIRING: &str = "U 1767225600\nK H\nI 0 1\nI 20 117\nK S\nI 8 1\nK C\nI 0 1\n";
 
 /// A hiring of 234.8 m over a loss of supply for a minute.

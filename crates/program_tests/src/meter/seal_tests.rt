@@ -3,7 +3,7 @@ use crate::meter::store_tests::{SECOND_LAYOUT, image_of};
 use crate::meter::tests::{
     A, Ended, P, ZEROS, broken_off, cut_in, cuts_of, must, must_behind, whole,
 };
-use outside::{Fill, MemoryBoard};
+use memory_devices::{Fill, MemoryBoard};
 use std::alloc::Global;
 use std::test::Fail;
 
@@ -106,7 +106,7 @@ fn cuts_through_a_second_sealing(rt: HostRuntime) -> Result<(), Fail> {
 }
 
 /// Fails unless a first sealing of which this call fails ends there without a print, and the next call finds what it
-/// may where all that was written is there.
+/// may if all that was written is there.
 fn must_break_off(alloc: Global, number: u64) -> Result<(), Fail> {
     let board = broken_off(alloc, ZEROS, WORDS, &[A, P], b"SEALED 1\n", number)?;
     must_be_cut(alloc, &board, number, Fill::New)

@@ -3,7 +3,7 @@ use crate::meter::run_tests::{HIRING, has_totals, ran, sealed};
 use crate::meter::tests::{
     A, CALM, Ended, P, cut_in, cuts_of, must, must_answer, must_behind, prints,
 };
-use outside::{Fill, MemoryBoard};
+use memory_devices::{Fill, MemoryBoard};
 use std::alloc::Global;
 use std::test::Fail;
 

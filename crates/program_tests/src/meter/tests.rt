@@ -2,7 +2,7 @@
 ghost use Rattle.std.specs.Prelude.{◌≡◌, ◌<◌};
 
 use commands::taxi;
-use outside::{Fill, MemoryBoard, MemoryFiles};
+use memory_devices::{Fill, MemoryBoard, MemoryFiles};
 use std::alloc::Global;
 use std::marker::Brand;
 use std::sync::ledger::{Blank, Ledger};
@@ -85,7 +85,7 @@ pub(crate) fn files_of(alloc: Global, texts: &[&str], fail: &[u64]) -> Result<Me
 /// The board behind a call, and the call's status.
 pub(crate) type Ended = (MemoryBoard, u8);
 
-/// The status of a call of these words on a board, where the files have these texts and these reads fail.
+/// The status of a call of these words on a board; the files have these texts, and these reads fail.
 pub(crate) fn call(
     alloc: Global,
     words: &[&str],
@@ -98,7 +98,7 @@ pub(crate) fn call(
     Ok(status_of(alloc, words.as_slice(), &mut files, board))
 }
 
-/// A call over an image, where these calls of the board and these reads fail.
+/// A call over an image; these calls of the board and these reads fail.
 pub(crate) fn called(
     alloc: Global,
     words: &[&str],
@@ -177,8 +177,8 @@ fn difference(
     None
 }
 
-/// Fails unless a call prints these pieces, ends with this status and leaves the image, where this call of the board
-/// and this read fail.
+/// Fails unless a call prints these pieces, ends with this status and leaves the image, if this call of the board and
+/// this read fail.
 pub(crate) fn must_answer(
     alloc: Global,
     image: &[u8; 2048],
@@ -284,8 +284,8 @@ pub(crate) type Call = (
     u8,
 );
 
-/// Fails unless a call over an image has its answer, and ends as it should where a read or a call of the board fails.
-/// It leaves the image.
+/// Fails unless a call over an image has its answer, ends as it should if a read or a call of the board fails, and
+/// leaves the image.
 fn must_carry_out(alloc: Global, image: &[u8; 2048], call: &Call) -> Result<(), Fail> {
     let (words, texts, reads, output, status) = *call;
     must_answer(alloc, image, words, texts, CALM, output, status)?;
@@ -323,7 +323,7 @@ pub(crate) fn cuts_of(alloc: Global, calls: u64) -> Result<Vec<(u64, Fill)>, Fai
     Ok(cuts)
 }
 
-/// What a cut in a call of a board leaves, or in its last one where it has no such call.
+/// What a cut in a call of a board leaves, or in its last one if it has no such call.
 pub(crate) fn cut_in(board: &MemoryBoard, call: u64, fill: Fill) -> [u8; 2048] {
     board.cut(call.min(board.calls()), fill)
 }
@@ -364,7 +364,7 @@ const DIFFERENT: &str =
     "DIFFERENT RATE T1 Z1 thu 2026-01-01 00:00 0 t 0 p\n4 rate 0.20 per 117.4 m, 0.20 per 25.2 s\n\
      4 rate 0.20 per 117.4 m, 0.20 per 25.3 s\n";
 
-/// Summer time of the European Union, where the clock is an hour ahead of UTC in winter, and its offsets of a year.
+/// Summer time of the European Union, with a clock an hour ahead of UTC in winter, and its offsets of a year.
 const NORTH: &str =
     "standard 3600\nsummer 7200\nbegin last sun mar 01:00\nend last sun oct 01:00\n";
 

@@ -4,7 +4,8 @@ use super::packed::Packed;
 use crate::log::keep_log_tests;
 use crate::log::memory_log::memory_log;
 use crate::meter::tests::status_of;
-use outside::{LOG_SIZE, MemoryBoard, STORE_SIZE};
+use memory_devices::MemoryBoard;
+use outside::{LOG_SIZE, STORE_SIZE};
 use std::alloc::Global;
 use std::test::Fail;
 
@@ -17,7 +18,7 @@ pub(crate) struct Stores {
 }
 
 impl Stores {
-    /// Stores of zeros, as where there are none.
+    /// Stores of zeros, for a folder that has none.
     pub(crate) fn new(alloc: Global) -> Stores {
         Stores {
             alloc,

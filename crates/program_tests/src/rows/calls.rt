@@ -1,6 +1,6 @@
 //! A call of a row: its words with their files, and what it has to print.
 use super::packed::Packed;
-use outside::MemoryFiles;
+use memory_devices::MemoryFiles;
 use std::alloc::Global;
 use std::str;
 use std::test::Fail;
@@ -48,7 +48,7 @@ fn is_lines(text: &[u8]) -> bool {
     }
 }
 
-/// What stands behind the first place at which a piece begins a line.
+/// The text behind the first place at which a piece begins a line.
 fn behind<'a>(text: &'a [u8], piece: &[u8]) -> Option<&'a [u8]> {
     for place in 0..text.len() {
         let (before, rest) = text.split_at(place);
@@ -61,7 +61,7 @@ fn behind<'a>(text: &'a [u8], piece: &[u8]) -> Option<&'a [u8]> {
     None
 }
 
-/// Nothing, where a text is whole lines and this piece.
+/// Nothing, if a text is whole lines and this piece.
 fn behind_last<'a>(text: &'a [u8], piece: &[u8]) -> Option<&'a [u8]> {
     match text.strip_suffix(piece) {
         Some(before) if is_lines(before) => Some(b""),

@@ -50,7 +50,7 @@ fn tally(rt: HostRuntime, packed: &[u8]) -> Result<Tally, Fail> {
     Ok((passed, failed))
 }
 
-/// The whole file `rows`, or nothing where there is none.
+/// The whole file `rows`, or nothing if there is none.
 fn file_of_rows(rt: HostRuntime, alloc: Global) -> Result<Vec<u8>, Fail> {
     let mut names = Vec::new(alloc);
     names.push(String::from_str(alloc, "rows")?)?;
@@ -66,7 +66,7 @@ fn file_of_rows(rt: HostRuntime, alloc: Global) -> Result<Vec<u8>, Fail> {
     Ok(whole)
 }
 
-/// Each row of the file passes. Where there is no file of rows nothing is tried, and nothing is said.
+/// Each row of the file passes. If there is no file of rows, nothing is tried, and nothing is said.
 #[test]
 fn rows_in_memory(rt: HostRuntime) -> Result<(), Fail> {
     let packed = file_of_rows(rt, rt.alloc())?;

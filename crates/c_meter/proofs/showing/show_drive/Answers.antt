@@ -1,4 +1,4 @@
-use Rattle.std.proofs.Common.{◌≡◌, ◌∙◌, ℕ, List, Result, Err, IsErr, ap, refl, subst, sym}
+use Rattle.std.proofs.Common.{◌∙◌, ℕ, List, Result, Err, IsErr, ap, refl, subst, sym}
 use Rattle.c_meter.specs.Shown.{ShowsDrive}
 use Rattle.c_meter.specs.declared.making.Stop.{Stop}
 use Rattle.c_meter.specs.declared.making.Stop.TheVariants.{NoMemory}

@@ -6,7 +6,7 @@ use Rattle.outside.proofs.Laws.{begins_not, keeps_none, keeps_print, leaves_none
 use Rattle.call_ends.specs.LastLine.{line_of}
 use Rattle.call_ends.proofs.ending.finish.Goals as goal
 
--- a cut leaves a beginning of a line where it leaves one of the text that is the line
+-- a cut leaves a beginning of a line if it leaves one of the text that is the line
 leaves_line : {D L : Type 0} {N : ℕ} (B : Ghosts D N L) (old new : D) (text line : List ℕ) → text ≡ line
     → LeavesOnly B old new (MayLeaveAmid (B.image old) (B.in_flight old) (B.printed old) text)
     → LeavesOnly B old new (MayLeaveAmid (B.image old) (B.in_flight old) (B.printed old) line)

@@ -24,14 +24,10 @@ pub returns-then-count-eq0-clause-serves : goal.returns-then-count-eq0-clause-se
 returns-then-count-eq0-clause-serves g c =
     let over : g.F.Files.tells → g.F.Files.rest c.loop-left.files c.args.word ≡ [] =
     λ told. c.read_piece.ensures.over told (c.in-Ok.is ∙ ap Ok c.if-count-eq0.true) in
-    served_end g.F.Files.tells g.B.Board.tells_text c.args.durable.now c.args.seal.now c.loop-left.port
-    (g.F.Files.rest c.args.files.now c.args.word) (g.F.Files.rest c.loop-left.files c.args.word)
-    (g.B.Board.printed c.args.board.now) (g.B.Board.printed c.loop-left.board) c.loop-left.left c.args.steps.now
-    c.loop-left.steps c.loop-left.invariant.so_far
-    c.end.result (g.F.Files.rest c.read_piece.new.files c.args.word) (omega (arith, c.loop-left-test.true)) over
-    (λ told. nothing_left c.in-Ok.count c.read_piece.new.piece (g.F.Files.rest c.loop-left.files c.args.word)
-    (g.F.Files.rest c.read_piece.new.files c.args.word) c.if-count-eq0.true (c.in-Ok.ensures.taken told) (over told))
-    c.end.ensures.whole c.end.ensures.bad
+    served_end c.loop-left.invariant.so_far c.end.result (g.F.Files.rest c.read_piece.new.files c.args.word)
+    (omega (arith, c.loop-left-test.true)) over (λ told. nothing_left c.in-Ok.count c.read_piece.new.piece
+    (g.F.Files.rest c.loop-left.files c.args.word) (g.F.Files.rest c.read_piece.new.files c.args.word)
+    c.if-count-eq0.true (c.in-Ok.ensures.taken told) (over told)) c.end.ensures.whole c.end.ensures.bad
 
 pub returns-in_err-serve_piece-clause-serves : goal.returns-in_err-serve_piece-clause-serves
 returns-in_err-serve_piece-clause-serves g c =
@@ -39,23 +35,15 @@ returns-in_err-serve_piece-clause-serves g c =
     let size : length c.front-bytes.result.now ≡ c.in-Ok.count =
     size_of_front c.front-bytes.result.now c.read_piece.new.piece c.in-Ok.count c.min-most.result c.loop-left.left
     c.front-bytes.ensures c.in-Ok.ensures.within c.min-most.ensures c.read_piece.array_long in
-    rw (p.1, p.2) (served_err g.F.Files.tells g.B.Board.tells_text c.args.durable.now c.args.seal.now c.loop-left.port
-    (g.F.Files.rest c.args.files.now c.args.word) (g.F.Files.rest c.loop-left.files c.args.word)
-    (g.B.Board.printed c.args.board.now) (g.B.Board.printed c.loop-left.board) c.loop-left.left c.args.steps.now
-    c.loop-left.steps c.loop-left.invariant.so_far
-    c.in_err-serve_piece.field-0.0 c.serve_piece.new.port c.front-bytes.result.now
-    (g.F.Files.rest c.read_piece.new.files c.args.word) (g.B.Board.printed c.serve_piece.new.board)
-    (omega (arith, size, c.in-Ok.ensures.within, c.min-most.ensures))
+    rw (p.1, p.2) (served_err c.loop-left.invariant.so_far c.in_err-serve_piece.field-0.0 c.serve_piece.new.port
+    c.front-bytes.result.now (g.F.Files.rest c.read_piece.new.files c.args.word) (g.B.Board.printed
+    c.serve_piece.new.board) (omega (arith, size, c.in-Ok.ensures.within, c.min-most.ensures))
     (λ k. rw c.front-bytes.ensures (c.in-Ok.ensures.taken k)) c.in_err-serve_piece.ensures.serves)
 
 pub returns-in_err-serve_piece-clause-steps : goal.returns-in_err-serve_piece-clause-steps
 returns-in_err-serve_piece-clause-steps g c =
-    more_steps g.F.Files.tells g.B.Board.tells_text c.args.durable.now c.args.seal.now c.loop-left.port
-    (g.F.Files.rest c.args.files.now c.args.word) (g.F.Files.rest c.loop-left.files c.args.word)
-    (g.B.Board.printed c.args.board.now) (g.B.Board.printed c.loop-left.board) c.loop-left.left c.args.steps.now
-    c.loop-left.steps c.loop-left.invariant.so_far
-    c.front-bytes.result.now (g.F.Files.rest c.read_piece.new.files c.args.word) c.serve_piece.new.steps
-    (λ k. rw c.front-bytes.ensures (c.in-Ok.ensures.taken k)) c.serve_piece.ensures.steps
+    more_steps c.loop-left.invariant.so_far c.front-bytes.result.now (g.F.Files.rest c.read_piece.new.files c.args.word)
+    c.serve_piece.new.steps (λ k. rw c.front-bytes.ensures (c.in-Ok.ensures.taken k)) c.serve_piece.ensures.steps
 
 pub loop-left-init : goal.loop-left-init
 loop-left-init g c = record {
@@ -84,14 +72,10 @@ loop-left-preserved g c =
     omega (arith, size, c.in-Ok.ensures.within, c.min-most.ensures) in
     let serves = c.in_ok-serve_piece.ensures.serves in
     record {
-      so_far = served_more g.F.Files.tells g.B.Board.tells_text c.args.durable.now c.args.seal.now c.loop-left.port
-          (g.F.Files.rest c.args.files.now c.args.word) (g.F.Files.rest c.loop-left.files c.args.word)
-          (g.B.Board.printed c.args.board.now) (g.B.Board.printed c.loop-left.board) c.loop-left.left c.args.steps.now
-          c.loop-left.steps c.loop-left.invariant.so_far
-          c.serve_piece.new.port c.front-bytes.result.now (g.F.Files.rest c.read_piece.new.files c.args.word)
-          (g.B.Board.printed c.serve_piece.new.board) (c.loop-left.left - c.in-Ok.count) c.serve_piece.new.steps
-          (λ k. rw c.front-bytes.ensures (c.in-Ok.ensures.taken k))
-          serves.0 serves.1 fewer serves.2 c.serve_piece.ensures.steps;
+      so_far = served_more c.loop-left.invariant.so_far c.serve_piece.new.port c.front-bytes.result.now (g.F.Files.rest
+          c.read_piece.new.files c.args.word) (g.B.Board.printed c.serve_piece.new.board) (c.loop-left.left
+          - c.in-Ok.count) c.serve_piece.new.steps (λ k. rw c.front-bytes.ensures (c.in-Ok.ensures.taken k)) serves.0
+          serves.1 fewer serves.2 c.serve_piece.ensures.steps;
       others = λ other ne. c.read_piece.ensures.others other ne ∙ c.loop-left.invariant.others other ne;
       counts = λ other. left_by_ok c.read_piece.result _ c.in-Ok.is (c.read_piece.ensures.counts other)
           ∙ c.loop-left.invariant.counts other;
@@ -101,10 +85,7 @@ loop-left-preserved g c =
     }
 
 pub returns-clause-serves : goal.returns-clause-serves
-returns-clause-serves g c = served_long g.F.Files.tells g.B.Board.tells_text c.args.durable.now c.args.seal.now
-    c.loop-left.port (g.F.Files.rest c.args.files.now c.args.word) (g.F.Files.rest c.loop-left.files c.args.word)
-    (g.B.Board.printed c.args.board.now) (g.B.Board.printed c.loop-left.board) c.loop-left.left c.args.steps.now
-    c.loop-left.steps c.loop-left.invariant.so_far (omega (arith, c.loop-left-test.false))
+returns-clause-serves g c = served_long c.loop-left.invariant.so_far (omega (arith, c.loop-left-test.false))
 
 pub returns-then-count-eq0-clause-others : goal.returns-then-count-eq0-clause-others
 returns-then-count-eq0-clause-others g c other ne =

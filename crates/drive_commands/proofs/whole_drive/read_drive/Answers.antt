@@ -62,7 +62,7 @@ returns-in-Some-fault_of-clause-refused g c = λ told.
     c.in-Some.stop c.in-Some-fault_of.fault (sym c.fault_of.ensures ∙ c.in-Some-fault_of.is)
     (c.in-Some.ensures.stops s.given s.stands) told
 
--- a drive isn't had for a fault of a read only where its reading stopped by one
+-- a read is the fault of a drive only if the reading stopped by a failed read
 stopped_by : (stop : Stop) → fault_by stop ≡ Some drives.ReadFault → stop ≡ stops.ReadFault
 stopped_by stops.Whole e = absurd cc
 stopped_by (stops.BadLine line) e = absurd cc

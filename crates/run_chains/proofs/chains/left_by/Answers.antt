@@ -1,8 +1,8 @@
 use Rattle.std.proofs.Common.{◌≡◌, ◌⊎◌, inl, refl, sym, subst, List, [], ℕ, Option, arith}
-use Rattle.outside.specs.Calls.{opened}
-use Rattle.outside.specs.MemoryBoard.{image_of, left_since_of, text_of}
-use Rattle.outside.specs.declared.replay.Fill.{Fill}
-use Rattle.outside.proofs.Laws.{counts_now}
+use Rattle.memory_devices.specs.Calls.{opened}
+use Rattle.memory_devices.specs.MemoryBoard.{image_of, left_since_of, text_of}
+use Rattle.memory_devices.specs.declared.replay.Fill.{Fill}
+use Rattle.memory_devices.proofs.Laws.{counts_now}
 use Rattle.run_chains.specs.Link.{text_before}
 use Rattle.run_chains.proofs.chains.left_by.Goals as goal
 

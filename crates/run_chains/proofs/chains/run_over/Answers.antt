@@ -1,5 +1,5 @@
 use Rattle.std.proofs.Common.{◌∙◌, refl, sym, subst, inl, inr, ⊎_elim, List, [], ℕ}
-use Rattle.outside.specs.MemoryBoard.{BoardState, image_of, left_since_of, moment_of, new_board}
+use Rattle.memory_devices.specs.MemoryBoard.{BoardState, image_of, left_since_of, moment_of, new_board}
 use Rattle.meter_store.specs.Stored.{HasState}
 use Rattle.run_chains.specs.ChainSteps.{HasLink}
 use Rattle.run_chains.specs.Link.{text_before}

@@ -7,7 +7,7 @@ use Rattle.taxi_units.specs.Calendar.{is_date}
 use Rattle.tariff_calendar.specs.Lists.{day_of}
 use Rattle.tariff_calendar.proofs.collecting.add.Goals as goal
 
--- what holds on success holds where there is no error
+-- what holds on success holds if there is no error
 on_success : {T E P : Type 0} (r : Result T E) → is_err r ≡ false → OnOk r P → P
 on_success (Ok x) none p = p
 on_success (Err e) none p = absurd cc

@@ -14,7 +14,7 @@ use Rattle.tariff_check.proofs.Staging.{cuts_are_first, early_is_first, early_no
 use Rattle.tariff_check.proofs.Staging.{staged, step_is_first, step_no_memory}
 use Rattle.tariff_check.proofs.checking.numbers.Goals as goal
 
--- where no other fault is there, too many cells are
+-- if no other fault is there, too many cells are
 cells_are_last : (ls : List Line) (cells : ℕ) → None ≡ early_fault ls → measure_of ls ≤ 10 ^ 18 → cut_fault ls ≡ None
     → cells ≡ cells_of ls → 64512 < cells → first_some (faults_of ls) ≡ Some (TooManyCells cells)
 cells_are_last ls cells early common cuts is many =

@@ -25,7 +25,7 @@ no_tariff text failed texts.ReadFault read refused = read refl
 no_tariff text failed (texts.Refused why) read refused = refused why refl
 no_tariff text failed texts.NoMemory read refused = tt
 
--- two faults are of one tariff where they are the same, and the faults of the two tariffs are none of one another
+-- two faults are of one tariff if they are the same, and the faults of the two tariffs are none of one another
 first_is : (fault other : TextFault) → compares.Tariff fault ≡ compares.Tariff other → fault ≡ other
 first_is fault other e = cc
 

@@ -1,10 +1,12 @@
-use Rattle.std.proofs.Common.{◌≡◌, drop}
-use Rattle.tariff_compare.specs.Searches.{first_by, first_of_all, in_zones}
+use Rattle.std.proofs.Common.{◌≡◌, ◌-◌, find}
+use Rattle.std.specs.List.{range_with_len}
+use Rattle.tariff_compare.specs.Searches.{context_count, context_of, is_found}
 use Rattle.tariff_compare.specs.Sides.{is_met_by}
 use Rattle.tariff_compare.proofs.search.in_grid.Given as goal
 
-abbrev pub invariant-loop-position : goal.invariant-loop-position
-invariant-loop-position l =
-    first_by (λ n. in_zones (is_met_by l.one l.other l.question) l.grid (record first_of_all { position = n }))
-    (drop l.position-index l.positions) ≡ first_by (λ n. in_zones (is_met_by l.one l.other l.question) l.grid
-    (record first_of_all { position = n })) l.positions
+abbrev pub invariant-loop-number : goal.invariant-loop-number
+invariant-loop-number l =
+    find (λ number. is_found (is_met_by l.one l.other l.question) (context_of l.grid number))
+    (range_with_len l.number (context_count l.grid - l.number))
+    ≡ find (λ number. is_found (is_met_by l.one l.other l.question) (context_of l.grid number))
+    (range_with_len 0 (context_count l.grid))

@@ -7,7 +7,7 @@ use Rattle.tariff_check.specs.SoundTariff.{own_values}
 use Rattle.tariff_check.specs.declared.choice.Choice.{Choice}
 use Rattle.tariff_compile.proofs.choices.all_weights.Goals as goal
 
--- where all rates are sound, so is the one at a place
+-- if all rates are sound, so is the one at a place
 sound_at : (choices : List (Choice RateNumbers)) (i : ℕ) (d : Choice RateNumbers) → i < length choices
     → All IsSoundRate (own_values choices) → IsSoundRate (get_or choices i d).value
 sound_at [] i d within all = absurd (omega arith)

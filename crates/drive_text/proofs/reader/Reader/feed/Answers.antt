@@ -1,20 +1,12 @@
 use Rattle.std.proofs.Common.{rules, ◌≡◌, inl, inr, ◌+◌, ◌-◌, ◌<◌, ◌++◌, List, ℕ, length, ap, sym, ◌∙◌, subst, arith}
-use Rattle.std.proofs.Common.{length-append, false, eqb, ◌≤◌, All}
+use Rattle.std.proofs.Common.{length-append, false, eqb, ◌≤◌}
 use Rattle.std.proofs.lemmas.Bool.{eqb-false}
-use Rattle.std.proofs.lemmas.List.Elements.{All-append}
 use Rattle.std.proofs.lemmas.Result.{err_from_is_err_and}
-use Rattle.drive_text.specs.declared.run.Run.{Run}
-use Rattle.drive_text.specs.Ranges.{IsRunInRange}
 use Rattle.drive_text.specs.Reading.{Reading, HasTaken}
-use Rattle.drive_text.proofs.Feeding.{Feeds, feeds_none, feeds_more, takes_to, feeds_reader}
+use Rattle.drive_text.proofs.Feeding.{Feeds, feeds_none, feeds_more, feeds_range, takes_to, feeds_reader}
 use Rattle.drive_text.proofs.Feeding.{breaks_in, breaks_reader, some_taken, shorter}
 use Rattle.drive_text.proofs.Standing.{failed_stays}
 use Rattle.drive_text.proofs.reader.Reader.feed.Goals as goal
-
-the_range : (old runs new : List Run) → new ≡ old ++ runs → All IsRunInRange runs → All IsRunInRange old
-    → All IsRunInRange new
-the_range old runs new is range before =
-    subst (All IsRunInRange) (sym is) (All-append IsRunInRange old runs before range)
 
 not_full : (n : ℕ) → eqb n 64 ≡ false → n ≤ 64 → n < 64
 not_full n other few = let e = eqb-false n 64 other in omega (arith, e, few)
@@ -34,27 +26,23 @@ loop-rest-init c =
     c.args.out.now.items) (sym c.self.view_is) (feeds_none c.args.self.now c.args.piece.now c.args.out.now.items going)
 
 pub returns-then-is_full-clause-taken : goal.returns-then-is_full-clause-taken
-returns-then-is_full-clause-taken c = λ b h.
+returns-then-is_full-clause-taken c =
     let f = c.loop-rest.invariant in
-    feeds_reader c.args.self.now _ c.args.piece.now c.loop-rest.rest.now c.args.out.now.items c.loop-rest.out.items _ f
-    (left c.args.piece.now f.done c.loop-rest.rest.now f.split) b h
+    feeds_reader f _ (left c.args.piece.now f.done c.loop-rest.rest.now f.split)
 
 pub returns-then-is_full-clause-runs : goal.returns-then-is_full-clause-runs
-returns-then-is_full-clause-runs c = λ b h.
+returns-then-is_full-clause-runs c =
     let f = c.loop-rest.invariant in
     let full : length c.loop-rest.out.items ≡ 64 = search rules in
-    takes_to c.args.self.now _ c.args.piece.now c.loop-rest.rest.now c.args.out.now.items c.loop-rest.out.items _ f
-    (left c.args.piece.now f.done c.loop-rest.rest.now f.split) (inr full) b h
+    takes_to f _ (left c.args.piece.now f.done c.loop-rest.rest.now f.split) (inr full)
 
 pub returns-then-is_full-clause-some : goal.returns-then-is_full-clause-some
 returns-then-is_full-clause-some c = λ room piece.
     let full : length c.loop-rest.out.items ≡ 64 = search rules in
-    some_taken c.args.self.now _ c.args.piece.now c.loop-rest.rest.now c.args.out.now.items c.loop-rest.out.items
-    c.loop-rest.invariant full room
+    some_taken c.loop-rest.invariant full room
 
 pub returns-then-is_full-clause-range : goal.returns-then-is_full-clause-range
-returns-then-is_full-clause-range c = the_range c.args.out.now.items c.loop-rest.invariant.runs c.loop-rest.out.items
-    c.loop-rest.invariant.added c.loop-rest.invariant.in_range
+returns-then-is_full-clause-range c = feeds_range c.loop-rest.invariant
 
 -- some bytes that were taken
 sense : (c : goal.After-from_residual) → (b : List ℕ) × HasTaken c.args.self.now b
@@ -63,17 +51,12 @@ sense c = (c.self.invariant.0, subst (λ (r : Reading). HasTaken r c.self.invari
 pub invariant_of-self-in_err-rest : goal.invariant_of-self-in_err-rest
 invariant_of-self-in_err-rest c =
     let b = sense c in
-    let f = c.loop-rest.invariant in (
-      b.0 ++ c.args.piece.now,
-      breaks_reader c.args.self.now _ _ c.args.piece.now c.loop-rest.rest.now c.args.out.now.items c.loop-rest.out.items
-          _ f c.in_err-rest.ensures.err b.0 b.1,
-    )
+    (b.0 ++ c.args.piece.now, breaks_reader c.loop-rest.invariant c.in_err-rest.ensures.err b.0 b.1)
 
 pub returns-in_err-rest-clause-failed : goal.returns-in_err-rest-clause-failed
 returns-in_err-rest-clause-failed c =
     let p = err_from_is_err_and c.from_residual.result c.from_residual.ensures.1 in
-    rw (p.1) (λ b h. breaks_reader c.args.self.now _ _ c.args.piece.now c.loop-rest.rest.now c.args.out.now.items
-    c.loop-rest.out.items _ c.loop-rest.invariant c.in_err-rest.ensures.err b h)
+    rw (p.1) (breaks_reader c.loop-rest.invariant c.in_err-rest.ensures.err)
 
 pub returns-in_err-rest-clause-bad : goal.returns-in_err-rest-clause-bad
 returns-in_err-rest-clause-bad c =
@@ -81,36 +64,31 @@ returns-in_err-rest-clause-bad c =
     let same = c.in_err-rest.ensures.out in
     let room : length c.loop-rest.out.items < 64 =
     not_full (length c.loop-rest.out.items) (sym c.is_full.ensures.value ∙ c.if-is_full.false) c.is_full.ensures.fits in
-    rw (p.1, p.2, same) (λ going b h. breaks_in c.args.self.now _ _ c.args.piece.now c.loop-rest.rest.now
-    c.args.out.now.items c.loop-rest.out.items _ c.loop-rest.invariant c.in_err-rest.ensures.err room b h)
+    rw (p.1, p.2, same) (λ going b h. breaks_in c.loop-rest.invariant c.in_err-rest.ensures.err room b h)
 
 pub returns-in_err-rest-clause-range : goal.returns-in_err-rest-clause-range
 returns-in_err-rest-clause-range c =
     let same = c.in_err-rest.ensures.out in
-    rw same (the_range c.args.out.now.items c.loop-rest.invariant.runs c.loop-rest.out.items c.loop-rest.invariant.added
-    c.loop-rest.invariant.in_range)
+    rw same (feeds_range c.loop-rest.invariant)
 
 pub loop-rest-preserved : goal.loop-rest-preserved
 loop-rest-preserved c =
     let room : length c.loop-rest.out.items < 64 =
     not_full (length c.loop-rest.out.items) (sym c.is_full.ensures.value ∙ c.if-is_full.false) c.is_full.ensures.fits in
-    feeds_more c.args.self.now _ _ c.args.piece.now c.loop-rest.rest.now c.in_ok-rest.rest.now c.args.out.now.items
-    c.loop-rest.out.items c.take.new.out.items room c.loop-rest.invariant (search rules)
+    feeds_more c.loop-rest.invariant room (search rules)
 
 none_left : (rest : List ℕ) → length rest ≡ 0 → (n : ℕ) → n + length rest ≡ n
 none_left rest none n = omega arith
 
 pub returns-clause-taken : goal.returns-clause-taken
-returns-clause-taken c = λ b h.
+returns-clause-taken c =
     let none : length c.loop-rest.rest.now ≡ 0 = search rules in
-    feeds_reader c.args.self.now _ c.args.piece.now c.loop-rest.rest.now c.args.out.now.items c.loop-rest.out.items _
-    c.loop-rest.invariant (none_left c.loop-rest.rest.now none (length c.args.piece.now)) b h
+    feeds_reader c.loop-rest.invariant _ (none_left c.loop-rest.rest.now none (length c.args.piece.now))
 
 pub returns-clause-runs : goal.returns-clause-runs
-returns-clause-runs c = λ b h.
+returns-clause-runs c =
     let none : length c.loop-rest.rest.now ≡ 0 = search rules in
-    takes_to c.args.self.now _ c.args.piece.now c.loop-rest.rest.now c.args.out.now.items c.loop-rest.out.items _
-    c.loop-rest.invariant (none_left c.loop-rest.rest.now none (length c.args.piece.now)) (inl none) b h
+    takes_to c.loop-rest.invariant _ (none_left c.loop-rest.rest.now none (length c.args.piece.now)) (inl none)
 
 pub overflow_sub-result : goal.overflow_sub-result
 overflow_sub-result c =
@@ -118,9 +96,7 @@ overflow_sub-result c =
     omega (arith, ap length f.split, length-append f.done c.loop-rest.rest.now)
 
 pub loop-rest-smaller : goal.loop-rest-smaller
-loop-rest-smaller c = shorter _ _ _ _ _ _ c.in_ok-rest.ensures.ok
+loop-rest-smaller c = shorter c.in_ok-rest.ensures.ok
 
 pub returns-clause-range : goal.returns-clause-range
-returns-clause-range c =
-    let f = c.loop-rest.invariant in
-    the_range c.args.out.now.items f.runs c.loop-rest.out.items f.added f.in_range
+returns-clause-range c = feeds_range c.loop-rest.invariant

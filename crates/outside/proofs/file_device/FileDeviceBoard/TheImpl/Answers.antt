@@ -1,8 +1,12 @@
 -- A board that tells nothing has nothing in flight, prints nothing and leaves nothing, by its meanings.
-use Rattle.std.proofs.Common.{ℕ, List, refl, arith}
+use Rattle.std.proofs.Common.{ℕ, List, Result, Ok, Err, OnOk, refl, arith}
 use Rattle.outside.specs.Disk.{Elapses}
-use Rattle.outside.proofs.CallEffects.{on_ok}
 use Rattle.outside.proofs.file_device.FileDeviceBoard.TheImpl.Goals as goal
+
+-- what is so is so where a call succeeded
+on_ok : {T E P : Type 0} (result : Result T E) → P → OnOk result P
+on_ok (Ok value) p = p
+on_ok (Err fault) p = tt
 
 untold_time : (outcome : List ℕ → List ℕ → Type 0) → Elapses 0 0 (λ start i x. ⊥) (λ start i x. ⊥) outcome
 untold_time outcome = record {

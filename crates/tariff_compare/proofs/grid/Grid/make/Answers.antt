@@ -1,8 +1,8 @@
 use Rattle.std.proofs.Common.{refl}
 use Rattle.tariff_compare.proofs.grid.Grid.make.Goals as goal
 
-pub returns-clause-value : goal.returns-clause-value
-returns-clause-value c = rw (
+pub returns : goal.returns
+returns c = rw (
   c.in_ok-numbers_to.ensures,
   c.positions.ensures.value,
   c.in_ok-numbers_to-2.ensures,

@@ -7,5 +7,5 @@ pub returns-in-Ok-clause-both : goal.returns-in-Ok-clause-both
 returns-in-Ok-clause-both c =
     let one = c.args.one.now in
     let other = c.args.other.now in
-    subst (IsGridOf one other) (sym c.in-Ok.ensures.value)
-    (is_grid one other c.requires.positions c.requires.zones c.in-Ok.ensures.some)
+    subst (IsGridOf one other) (sym c.in-Ok.ensures)
+    (is_grid one other c.requires.positions c.requires.zones c.recall.ensures.compiled c.recall-2.ensures.compiled)

@@ -1,0 +1,19 @@
+-- Rules: of which texts tables and a seal are made.
+use Rattle.std.specs.Prelude.{◌≡◌, ℕ, List, Ok}
+use Rattle.meter_model.specs.Setting.{setting_by}
+use Rattle.seal_record.specs.Reading.{params_read}
+use Rattle.seal_record.specs.declared.seal.Seal.{Seal}
+use Rattle.tariff_check.specs.Faults.{IsSound}
+use Rattle.tariff_compile.specs.Tables.{TableParts}
+use Rattle.tariff_syntax.specs.Reads.{Reads}
+use Rattle.tariff_syntax.specs.Tree.{Tree}
+use Rattle.meter_states.specs.Setting.{IsSettingOf}
+
+-- tables and a seal are made of two texts if the first reads as a sound tariff and the second as parameters, and they
+-- are those of the setting of both
+pub record AreMadeOf (tariff params : List ℕ) (tables : TableParts) (seal : Seal) : Type 0 where
+  pub tree : Tree
+  pub reads : Reads tariff tree
+  pub sound : IsSound tree
+  pub secured : params_read params ≡ Ok seal.params
+  pub setting : IsSettingOf (setting_by tree seal.params) tables seal

@@ -1,0 +1,6 @@
+use Rattle.std.proofs.Common.{All}
+use Rattle.meter_states.specs.Lawful.{IsTimely}
+use Rattle.pocket_meter.proofs.read_events.Given as goal
+
+abbrev pub invariant-loop-line : goal.invariant-loop-line
+invariant-loop-line l = record { timely : All IsTimely l.events.items }
