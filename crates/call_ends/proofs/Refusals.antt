@@ -7,12 +7,12 @@ use Rattle.call_ends.specs.declared.tariff.TextFault.TheVariants as texts
 use Rattle.call_ends.specs.Answer.{Answer}
 use Rattle.call_ends.specs.Course.{Command, Answered, ReadFailed, NoMemory}
 use Rattle.call_ends.specs.Ending.{EndsUnprinted, ended_for}
-use Rattle.call_ends.specs.Stream.{Takes}
+use Rattle.call_ends.specs.Stream.{TakesBytes}
 use Rattle.call_ends.specs.Tariffs.{bad_tariff}
 use Rattle.call_ends.proofs.Streams.{not_bad}
 
 module _ (c : Command) (contents left : ℕ → List ℕ) (image : List ℕ) (read_failed : ℕ → Type 0)
-    (untouched : Takes c.drive contents left []) (may : c.may_lack contents image []) where
+    (untouched : TakesBytes c.drive contents left []) (may : c.may_lack contents image []) where
   -- memory ran out before the drive
   pub course-no_memory : EndsUnprinted c contents left image read_failed ended.NoMemory
   course-no_memory = record {

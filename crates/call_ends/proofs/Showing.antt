@@ -9,7 +9,7 @@ use Rattle.call_ends.specs.Call.{MayTake}
 use Rattle.call_ends.specs.Course.{Command, Answered, NoMemory, ReadFailed}
 use Rattle.call_ends.specs.Ending.{EndsByCourse}
 use Rattle.call_ends.specs.LastLine.{line_of, status_of}
-use Rattle.call_ends.specs.Stream.{Takes}
+use Rattle.call_ends.specs.Stream.{TakesBytes}
 use Rattle.call_ends.proofs.Streams.{not_bad}
 
 module _ (c : Command) (contents left : ℕ → List ℕ) (image : List ℕ) (read_failed : ℕ → Type 0) (failed told : Type 0)
@@ -70,7 +70,7 @@ module _ (c : Command) (contents left : ℕ → List ℕ) (image : List ℕ) (re
         course-part c contents left image read_failed failed told before now 0 text answer may begun cause
 
   -- a read failed, or memory ran out, before anything was shown
-  module _ (untouched : Takes c.drive contents left [])
+  module _ (untouched : TakesBytes c.drive contents left [])
       (still : now ≡ before) (quiet : c.shown contents image [] ≡ []) where
     nothing : (text : List ℕ) → text ≡ [] → now ≡ before ++ text
     nothing text e = still ∙ sym (ap (λ (x : List ℕ). before ++ x) e ∙ append-nil before)

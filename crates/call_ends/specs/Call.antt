@@ -5,7 +5,7 @@ use Rattle.outside.specs.Printing.{Begins}
 use Rattle.outside.specs.declared.board.Board.{Ghosts}
 use Rattle.outside.specs.declared.files.Files.{Ghosts as FileGhosts}
 use Rattle.call_ends.specs.Course.{Command, Course, Answered, ReadFailed, NoMemory, BoardFailed, status_in, call_text}
-use Rattle.call_ends.specs.Stream.{Takes, TellsItsEnd, bad_status}
+use Rattle.call_ends.specs.Stream.{TakesBytes, TellsItsEnd, bad_status}
 
 -- a call leaves a word's file as it was if its command comes to no read of it, whatever bytes of the drive or the
 -- requests were taken
@@ -29,18 +29,18 @@ module _ (c : Command) (contents left : ℕ → List ℕ) (image : List ℕ) (re
     pub reads : c.reads word
     pub comes : c.comes_to contents image word taken
     pub failed : read_failed word
-    pub takes : Takes c.drive contents left taken
+    pub takes : TakesBytes c.drive contents left taken
 
   -- memory ran out if it may run out when some bytes of the drive or the requests were taken
   pub record LacksMemory : Type 0 where
     pub taken : List ℕ
     pub may : c.may_lack contents image taken
-    pub takes : Takes c.drive contents left taken
+    pub takes : TakesBytes c.drive contents left taken
 
   -- the board failed when the bytes `taken` of the drive or the requests were taken
   pub record FailsAtBoard (taken : List ℕ) : Type 0 where
     pub failed : board_failed
-    pub takes : Takes c.drive contents left taken
+    pub takes : TakesBytes c.drive contents left taken
 
   -- a call may take a course if what the course says has happened
   abbrev pub MayTake : Course → Type 0

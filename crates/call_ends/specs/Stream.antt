@@ -11,10 +11,10 @@ pub data Stream : Type 0 where
 
 -- the bytes that were taken of a stream are those in front of what is left of its file; and there are none without a
 -- stream
-abbrev pub Takes : Option Stream → (contents left : ℕ → List ℕ) (taken : List ℕ) → Type 0
-Takes None contents left taken = taken ≡ []
-Takes (Some (Drive word)) contents left taken = IsSplit (contents word) taken (left word)
-Takes (Some (Requests word)) contents left taken = IsSplit (contents word) taken (left word)
+abbrev pub TakesBytes : Option Stream → (contents left : ℕ → List ℕ) (taken : List ℕ) → Type 0
+TakesBytes None contents left taken = taken ≡ []
+TakesBytes (Some (Drive word)) contents left taken = IsSplit (contents word) taken (left word)
+TakesBytes (Some (Requests word)) contents left taken = IsSplit (contents word) taken (left word)
 
 -- the status of an answer that calls a stream bad or too long is 16 for requests, and else 3
 abbrev pub bad_status : Option Stream → ℕ

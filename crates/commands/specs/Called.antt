@@ -8,7 +8,7 @@ use Rattle.meter_store.specs.Sealing.{Sealing}
 use Rattle.call_ends.specs.Call.{HasReadFault, MayLack}
 use Rattle.commands.specs.Command.{called}
 use Rattle.call_ends.specs.Course.{Command}
-use Rattle.store_commands.specs.Opening.{opening_of}
+use Rattle.store_commands.specs.Opening.{opening_in}
 use Rattle.store_commands.specs.Seal.{MayLeaveSealing, sealing_of}
 use Rattle.commands.specs.Words.{row_of}
 use Rattle.call_ends.specs.declared.ending.Ended.{Ended}
@@ -39,7 +39,7 @@ module _ {E D L : Type 0} (F : FileGhosts E) (B : Ghosts D store_size L) where
 
   -- the sealing of a call is that of the opening image, of the tariff of word 1 and of the parameters of word 2
   abbrev pub sealing_by : E → D → Result Sealing Ended
-  sealing_by files board = sealing_of (opening_of (B.image board)) (F.rest files 1) (F.rest files 2)
+  sealing_by files board = sealing_of (opening_in (B.image board)) (F.rest files 1) (F.rest files 2)
 
   -- a cut of a call that seals may leave what one of its sealing may, over the opening image and the text before it
   abbrev pub MayLeaveSealingBy : (files : E) (board : D) (left_image left_text : List ℕ) → Type 0

@@ -8,7 +8,7 @@ use Rattle.call_ends.specs.declared.ending.Ended.TheVariants as ended
 use Rattle.drive_commands.specs.Bench.{terms_of, terms_over, terms_with}
 use Rattle.drive_commands.specs.BenchSteps.{HasNoTerms}
 use Rattle.store_commands.specs.Opened.{IsBarred}
-use Rattle.store_commands.specs.Opening.{IsSealedIn, opening_of, store_of}
+use Rattle.store_commands.specs.Opening.{IsSealedIn, opening_in, store_of}
 use Rattle.drive_commands.specs.Run.{sealed_tariff}
 use Rattle.drive_commands.specs.RunSteps.{AreNoTables}
 use Rattle.call_ends.proofs.Laws.{refusal_by}
@@ -18,20 +18,20 @@ module _ (image tariff : List ℕ) where
   module _ (read_failed board_failed : Type 0) where
     -- the store bars the verification
     pub no_terms-barred : (why : Ended) → IsBarred why
-        → (why ≢ ended.BoardFault → store_of (opening_of image) ≡ Err why) → (why ≡ ended.BoardFault → board_failed)
+        → (why ≢ ended.BoardFault → store_of (opening_in image) ≡ Err why) → (why ≡ ended.BoardFault → board_failed)
         → HasNoTerms image tariff read_failed board_failed why
     no_terms-barred why barred store cause =
-        owed-refused (λ (w : Ended). terms_of (opening_of image) tariff ≡ Err w)
+        owed-refused (λ (w : Ended). terms_of (opening_in image) tariff ≡ Err w)
         (λ (w : Ended). HasNoTerms image tariff read_failed board_failed w) board_failed
         (λ h. h) (λ slot h. h) (λ first second h. h) (λ f. f) why barred
         (λ good. ap (λ (r : Result (Durable × Seal) Ended). terms_over r tariff) (store good)) cause
 
-  module _ (store : Durable × Seal) (e : store_of (opening_of image) ≡ Ok store) where
+  module _ (store : Durable × Seal) (e : store_of (opening_in image) ≡ Ok store) where
     sealed_in : IsSealedIn image
     sealed_in = record { store = store; is = e }
 
     pub terms_from : (r : Result Tree Ended) → sealed_tariff store.1.digest tariff ≡ r
-        → terms_of (opening_of image) tariff ≡ terms_with store.1 r
+        → terms_of (opening_in image) tariff ≡ terms_with store.1 r
     terms_from r f = ap (λ (r : Result (Durable × Seal) Ended). terms_over r tariff) e ∙ ap (terms_with store.1) f
 
     pub no_terms-tariff : (read_failed board_failed : Type 0) (why : Ended)

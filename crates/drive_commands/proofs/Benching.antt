@@ -17,7 +17,7 @@ use Rattle.call_ends.specs.Course.{Answered, NoMemory, ReadFailed}
 use Rattle.call_ends.specs.Ending.{EndsByCourse, IsRefusal}
 use Rattle.drive_commands.specs.DriveEnds.{ended_with}
 use Rattle.call_ends.specs.LastLine.{line_of, refused_as, status_of}
-use Rattle.store_commands.specs.Opening.{IsSealedIn, opening_of}
+use Rattle.store_commands.specs.Opening.{IsSealedIn, opening_in}
 use Rattle.call_ends.specs.Pieces.{pieces_of}
 use Rattle.call_ends.specs.declared.ending.Ended.{Ended}
 use Rattle.call_ends.specs.declared.ending.Ended.TheVariants as ended
@@ -46,14 +46,14 @@ not_fault-passing false = (λ e. absurd cc, λ e. absurd cc)
 -- the drive and the readings were judged under terms, and each file was read to its end
 pub record HasJudged (contents left : ℕ → List ℕ) (image : List ℕ) (terms : Terms) (text : List ℕ)
     (pass : Bool) : Type 0 where
-  pub are : terms_of (opening_of image) (contents 1) ≡ Ok terms
+  pub are : terms_of (opening_in image) (contents 1) ≡ Ok terms
   pub is : IsJudged terms (contents 2) (left 2) (contents 3) text pass
   pub tariff_read : left 1 ≡ []
   pub readings_read : left 3 ≡ []
 
 -- so it is if the terms were read first, with the tariff's file alone
 pub has_judged : (contents mid left : ℕ → List ℕ) (image : List ℕ) {terms : Terms} {text : List ℕ} {pass : Bool}
-    → terms_of (opening_of image) (contents 1) ≡ Ok terms → mid 1 ≡ []
+    → terms_of (opening_in image) (contents 1) ≡ Ok terms → mid 1 ≡ []
     → ((other : ℕ) → other ≢ 1 → mid other ≡ contents other)
     → ((other : ℕ) → other ≢ 2 → other ≢ 3 → left other ≡ mid other)
     → IsJudged terms (mid 2) (left 2) (mid 3) text pass → left 3 ≡ [] → HasJudged contents left image terms text pass
@@ -72,7 +72,7 @@ module _ (contents left : ℕ → List ℕ) (image : List ℕ) (read_failed : �
       (λ text. told → Begins before now text) end
 
   abbrev answer : Answer
-  answer = bench_answer (terms_of (opening_of image) (contents 1)) (contents 2) (contents 3)
+  answer = bench_answer (terms_of (opening_in image) (contents 1)) (contents 2) (contents 3)
 
   -- nothing was printed
   nothing : now ≡ before → told → now ≡ before ++ []
@@ -80,7 +80,7 @@ module _ (contents left : ℕ → List ℕ) (image : List ℕ) (read_failed : �
 
   -- there are no terms
   module _ (untouched : IsSplit (contents 2) [] (left 2)) (still : now ≡ before) where
-    refused : (why : Ended) → (terms_of (opening_of image) (contents 1) ≡ Err why) × IsRefusal why → Here why
+    refused : (why : Ended) → (terms_of (opening_in image) (contents 1) ≡ Err why) × IsRefusal why → Here why
     refused why h =
         course-refusal bench_command contents left image read_failed failed told before now untouched still why
         (ap (λ (r : Result Terms Ended). bench_answer r (contents 2) (contents 3)) h.0)
@@ -102,7 +102,7 @@ module _ (contents left : ℕ → List ℕ) (image : List ℕ) (read_failed : �
     course-no_terms why h = refused why h
 
   -- there are terms
-  module _ (terms : Terms) (are : terms_of (opening_of image) (contents 1) ≡ Ok terms) where
+  module _ (terms : Terms) (are : terms_of (opening_in image) (contents 1) ≡ Ok terms) where
     by_terms : answer ≡ judged_ending terms (contents 2) (contents 3) (drive_end (contents 2))
     by_terms = ap (λ (r : Result Terms Ended). bench_answer r (contents 2) (contents 3)) are
 
@@ -213,7 +213,7 @@ module _ (contents left : ℕ → List ℕ) (image : List ℕ) (read_failed : �
 
 -- what is left unread if there are terms, by what the reading of the tariff leaves unread, and that of the others
 pub unread-terms : (contents mid left : ℕ → List ℕ) (image : List ℕ) (terms : Terms)
-    → terms_of (opening_of image) (contents 1) ≡ Ok terms → mid 2 ≡ contents 2
+    → terms_of (opening_in image) (contents 1) ≡ Ok terms → mid 2 ≡ contents 2
     → ((other : ℕ) → ¬ ((other ≡ 1) × IsSealedIn image) → mid other ≡ contents other)
     → ((other : ℕ) → other ≢ 2 → ¬ ((other ≡ 3) × (drive_end (mid 2) ≡ Whole)) → left other ≡ mid other)
     → LeavesUnread bench_command contents left image
@@ -236,10 +236,10 @@ pub steps-judged : (contents left : ℕ → List ℕ) (image : List ℕ) {terms 
     (j : HasJudged contents left image terms text pass) (printed : List ℕ) (before mid last : ℕ)
     → mid ≤ before + 6 → printed ≡ text → last ≤ mid + pieces_of (length printed)
     → last ≤ before + 64
-    + pieces_of (length (bench_answer (terms_of (opening_of image) (contents 1)) (contents 2) (contents 3)).shown)
+    + pieces_of (length (bench_answer (terms_of (opening_in image) (contents 1)) (contents 2) (contents 3)).shown)
 steps-judged contents left image j printed before mid last first is bound =
     let behind : last ≤ mid
-    + pieces_of (length (bench_answer (terms_of (opening_of image) (contents 1)) (contents 2) (contents 3)).shown) =
+    + pieces_of (length (bench_answer (terms_of (opening_in image) (contents 1)) (contents 2) (contents 3)).shown) =
     subst (λ (x : List ℕ). last ≤ mid + pieces_of (length x))
     (is ∙ sym (ap (λ (a : Answer). a.shown) (judged contents left image (λ word. ⊥) ⊥ ⊥ [] [] j))) bound in
     omega (arith, first, behind)

@@ -11,7 +11,7 @@ use Rattle.drive_text.specs.Ending.{BadAt, Endless, StreamEnd, Whole, drive_end,
 use Rattle.meter_run.specs.Deeds.{deeds_of, texts}
 use Rattle.meter_model.specs.Run.{actions_of}
 use Rattle.meter_model.specs.Setting.{Setting, setting_by}
-use Rattle.meter_store.specs.Sealing.{HasSeal, totals_after}
+use Rattle.meter_store.specs.Sealing.{HasSeal, sealed_totals}
 use Rattle.meter_store.specs.Stored as states
 use Rattle.seal_record.specs.Decoding as seals
 use Rattle.seal_record.specs.Reading.{params_read}
@@ -37,7 +37,7 @@ use Rattle.call_ends.specs.declared.ending.Ended.TheVariants as ended
 use Rattle.call_ends.specs.declared.tariff.Refusal.{Refusal}
 use Rattle.call_ends.specs.declared.tariff.Refusal.TheVariants.{TooLong}
 use Rattle.store_commands.proofs.Laws.{seal_of_texts}
-use Rattle.store_commands.specs.Opening.{opened, opening_of}
+use Rattle.store_commands.specs.Opening.{opening_by, opening_in}
 use Rattle.store_commands.specs.declared.opening.Opening.{Opening}
 use Rattle.store_commands.specs.declared.opening.StoreFault.{StoreFault}
 use Rattle.drive_commands.specs.Explain.{ending_answer, explain_answer, explanation_text, read_setting, setting_with}
@@ -74,23 +74,23 @@ whole_by text (BadAt line) e = absurd cc
 whole_by text Endless e = absurd cc
 
 pub new_store_explained : (tariff params drive image : List ℕ) → IsNewStore tariff params image
-    → (run_answer (start_of (opening_of image) tariff) drive).status ≡ 0 → ExplainsRun tariff params drive image
+    → (run_answer (start_of (opening_in image) tariff) drive).status ≡ 0 → ExplainsRun tariff params drive image
 new_store_explained tariff params drive image new ends =
     let seal = new.sealing.new in
     let is_of = seal_of_texts new.found tariff params new.sealing new.is in
     let state : states.HasState image first_state =
-    subst (λ (o : Option Durable). states.HasState image (totals_after o)) new.none new.sealed.totals in
+    subst (λ (o : Option Durable). states.HasState image (sealed_totals o)) new.none new.sealed.totals in
     let found = body_found totals.reads states.state_number_of 0 image first_state state in
     let sealed = body_found seals.reads seals.seal_number_of 1024 image seal new.sealed.seal in
-    let opening : opening_of image ≡ Ok (record { totals = Latest found.0 first_state; seal = Latest sealed.0 seal }) =
-    ap (λ (r : Result (Found Durable) SlotFault). opened r (found_at seals.reads seals.seal_number_of 1024 image))
+    let opening : opening_in image ≡ Ok (record { totals = Latest found.0 first_state; seal = Latest sealed.0 seal }) =
+    ap (λ (r : Result (Found Durable) SlotFault). opening_by r (found_at seals.reads seals.seal_number_of 1024 image))
     found.1
-    ∙ ap (opened (Ok (Latest found.0 first_state))) sealed.1 in
+    ∙ ap (opening_by (Ok (Latest found.0 first_state))) sealed.1 in
     let accepted_as : sealed_tariff seal.digest tariff ≡ Ok is_of.tree =
     ap (λ (digest : List ℕ). sealed_tariff digest tariff) is_of.digest
     ∙ accepted_there tariff is_of.tree is_of.sound in
     let start : Start = record { durable = first_state; seal = seal; tree = is_of.tree } in
-    let starts : start_of (opening_of image) tariff ≡ Ok start =
+    let starts : start_of (opening_in image) tariff ≡ Ok start =
     ap (λ (r : Result Opening StoreFault). start_of r tariff) opening
     ∙ ap (start_with first_state seal) accepted_as in
     let setting = setting_by is_of.tree seal.params in

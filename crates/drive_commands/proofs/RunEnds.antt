@@ -30,8 +30,8 @@ use Rattle.call_ends.specs.Course.{Answered, ReadFailed, BoardFailed, line_in}
 use Rattle.drive_commands.specs.DriveEnds.{ended_by}
 use Rattle.drive_commands.specs.Fare.{drive_answer}
 use Rattle.call_ends.specs.LastLine.{line_of, status_of}
-use Rattle.store_commands.specs.Opening.{opening_of}
-use Rattle.drive_commands.specs.Run.{IsOfTotals, IsRun, IsCutOfStart, IsCutOfRun, IsCutOfCourse, Stands, Start}
+use Rattle.store_commands.specs.Opening.{opening_in}
+use Rattle.drive_commands.specs.Run.{IsOfTotals, IsRun, IsCutOfStart, IsCutOfRun, IsCutOfCourse, StandsAfterRun, Start}
 use Rattle.drive_commands.specs.Run.{bytes_in, deeds_in, run_answer, run_command, setting_in, shown_in_run, start_at}
 use Rattle.drive_commands.specs.Run.{start_of, tables_in}
 use Rattle.drive_commands.specs.RunSteps.{RunReachesLine}
@@ -108,8 +108,8 @@ module _ {E D L : Type 0} {N : ℕ} (F : FileGhosts E) (B : Ghosts D N L) (files
       shown : B.tells_text → B.printed new ≡ printed ++ texts s.seal (deeds_in s bytes)
       shown t = done.printed t ∙ ap (λ (p : List ℕ). p ++ texts s.seal (deeds_in s bytes)) text
 
-      stands-done : Stands B.tells_text image printed (start_at F B files old) bytes (B.image new)
-      stands-done = subst (λ (r : Result Start Ended). Stands B.tells_text image printed r bytes (B.image new))
+      stands-done : StandsAfterRun B.tells_text image printed (start_at F B files old) bytes (B.image new)
+      stands-done = subst (λ (r : Result Start Ended). StandsAfterRun B.tells_text image printed r bytes (B.image new))
           (sym begins) (record {
             state = settled_has done.opens.place (after_deeds s.durable (deeds_in s bytes)) (B.image new)
                 (B.in_flight new) done.opens.settled;
@@ -300,7 +300,7 @@ module _ {E D L : Type 0} {N : ℕ} (F : FileGhosts E) (B : Ghosts D N L) (files
   -- the next run begins over what a cut leaves
   next_start : (s : Start) (i x bytes line : List ℕ) → start_at F B files old ≡ Ok s
       → IsCutOfRun B.tells_text (B.image old) (B.printed old) (start_at F B files old) bytes line i x
-      → (d : Durable) × (start_of (opening_of i) (F.rest files 1) ≡ Ok (record s { durable = d }))
+      → (d : Durable) × (start_of (opening_in i) (F.rest files 1) ≡ Ok (record s { durable = d }))
   next_start s i x bytes line e m =
       let cut : IsCutOfStart B.tells_text (B.image old) (B.printed old) s bytes line i x =
       subst
@@ -321,7 +321,7 @@ module _ {E D L : Type 0} {N : ℕ} (F : FileGhosts E) (B : Ghosts D N L) (files
       record {
         call = call;
         stands = λ not_8. rw course
-            (subst (λ (i : List ℕ). Stands B.tells_text (B.image old) (B.printed old) (start_at F B files old)
+            (subst (λ (i : List ℕ). StandsAfterRun B.tells_text (B.image old) (B.printed old) (start_at F B files old)
             (bytes_in h.comes.course (F.rest files 2)) i) (sym kept.same)
             (h.stands (not_board not_8 ends)));
         leaves = leaves;

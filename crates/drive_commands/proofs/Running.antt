@@ -22,10 +22,10 @@ use Rattle.call_ends.specs.Answer.{Answer}
 use Rattle.call_ends.specs.Course.{Answered, NoMemory, ReadFailed, BoardFailed, line_in}
 use Rattle.call_ends.specs.Ending.{EndsOnDevices, IsRefusal}
 use Rattle.call_ends.specs.LastLine.{line_of, refused_as, status_of}
-use Rattle.store_commands.specs.Opening.{opening_of}
-use Rattle.drive_commands.specs.Run.{IsOfTotals, IsCutOfRun, IsCutOfCourse, Stands, Start, bytes_in, deeds_in}
+use Rattle.store_commands.specs.Opening.{opening_in}
+use Rattle.drive_commands.specs.Run.{IsOfTotals, IsCutOfRun, IsCutOfCourse, StandsAfterRun, Start, bytes_in, deeds_in}
 use Rattle.drive_commands.specs.Run.{run_answer, run_command, setting_in, shown_in_run, start_at, start_of, tables_in}
-use Rattle.call_ends.specs.Stream.{Drive, Takes}
+use Rattle.call_ends.specs.Stream.{Drive, TakesBytes}
 use Rattle.drive_commands.specs.RunSteps.{HasNotBegun, RunReachesLine}
 use Rattle.store_commands.proofs.Laws.{none}
 use Rattle.drive_commands.proofs.RunCuts.{first_cut, last_cut}
@@ -56,7 +56,7 @@ outside_then old mid new first next = record {
 
 module _ (told : Type 0) (image printed tariff : List ℕ) where
   -- a cut while nothing was done yet
-  pub found-held : (r : Result Start Ended) → start_of (opening_of image) tariff ≡ r → (bytes line i x : List ℕ)
+  pub found-held : (r : Result Start Ended) → start_of (opening_in image) tariff ≡ r → (bytes line i x : List ℕ)
       → i ≡ image → x ≡ printed → IsCutOfRun told image printed r bytes line i x
   found-held (Err why) e bytes line i x is text = (is, λ t. begins_not printed x line text)
   found-held (Ok s) e bytes line i x is text =
@@ -68,7 +68,7 @@ module _ (told : Type 0) (image printed tariff : List ℕ) where
       }
 
   -- and while the last line is printed, if nothing was done before
-  pub found-line : (r : Result Start Ended) → start_of (opening_of image) tariff ≡ r → (bytes line i x : List ℕ)
+  pub found-line : (r : Result Start Ended) → start_of (opening_in image) tariff ≡ r → (bytes line i x : List ℕ)
       → ((s : Start) → r ≡ Ok s → bytes ≡ []) → i ≡ image
       → (told → Begins printed x line) → IsCutOfRun told image printed r bytes line i x
   found-line (Err why) e bytes line i x no_bytes is text = (is, text)
@@ -86,8 +86,8 @@ module _ (told : Type 0) (image printed tariff : List ℕ) where
         seal_stays = same_outside image i is;
       }
 
-  pub stands-still : (r : Result Start Ended) → start_of (opening_of image) tariff ≡ r → (bytes now : List ℕ)
-      → ((s : Start) → r ≡ Ok s → bytes ≡ []) → now ≡ image → Stands told image printed r bytes now
+  pub stands-still : (r : Result Start Ended) → start_of (opening_in image) tariff ≡ r → (bytes now : List ℕ)
+      → ((s : Start) → r ≡ Ok s → bytes ≡ []) → now ≡ image → StandsAfterRun told image printed r bytes now
   stands-still (Err why) e bytes now no_bytes is = is
   stands-still (Ok s) e bytes now no_bytes is =
       let stands = start_stands image tariff s e in
@@ -137,7 +137,7 @@ module _ {E D L : Type 0} {N : ℕ} (F : FileGhosts E) (B : Ghosts D N L) (files
 
   module _ (untouched : F.rest files' 2 ≡ F.rest files 2) (fails : Type 0) (reads : ReadsOnly B old new)
       (synced : LeavesFromSync B fails old new (IsAsHeld B old)) where
-    taken : Takes (Some (Drive 2)) (F.rest files) (F.rest files') []
+    taken : TakesBytes (Some (Drive 2)) (F.rest files) (F.rest files') []
     taken = record { bytes = sym untouched }
 
     refused : (why : Ended) → (start_at F B files old ≡ Err why) → IsRefusal why → why ≢ ended.BoardFault

@@ -31,7 +31,7 @@ use Rattle.call_ends.specs.declared.tariff.Refusal.TheVariants.{TooLong}
 use Rattle.call_ends.specs.declared.tariff.TextFault.{TextFault}
 use Rattle.call_ends.specs.declared.tariff.TextFault.TheVariants as texts
 use Rattle.call_ends.specs.Ending.{ended_for}
-use Rattle.store_commands.specs.Opening.{IsSealedIn, opened, opening_of, store_of}
+use Rattle.store_commands.specs.Opening.{IsSealedIn, opening_by, opening_in, store_of}
 use Rattle.store_commands.specs.Opened.{IsBarred}
 use Rattle.drive_commands.specs.Run.{IsOfTotals, Start, accepted, does_hold_fit, sealed_tariff, start_of, start_over}
 use Rattle.drive_commands.specs.Run.{start_with, tables_in}
@@ -126,7 +126,7 @@ pub record HasFound (t : Result (Found Durable) SlotFault) (l : Result (Found Se
   pub fits : does_hold_fit (tables_in s) s.durable.hold ≡ true
 
 has_found : (t : Result (Found Durable) SlotFault) (l : Result (Found Seal) SlotFault) (tariff : List ℕ) (s : Start)
-    → start_of (opened t l) tariff ≡ Ok s → HasFound t l tariff s
+    → start_of (opening_by t l) tariff ≡ Ok s → HasFound t l tariff s
 has_found (Err fault) l tariff s e = absurd cc
 has_found (Ok found) (Err fault) tariff s e = absurd cc
 has_found (Ok Blank) (Ok seal) tariff s e = absurd cc
@@ -140,14 +140,14 @@ has_found (Ok (Latest place durable)) (Ok (Latest other l)) tariff s e =
       fits = h.fits;
     }
 
-pub found_in : (image tariff : List ℕ) (s : Start) → start_of (opening_of image) tariff ≡ Ok s
+pub found_in : (image tariff : List ℕ) (s : Start) → start_of (opening_in image) tariff ≡ Ok s
     → HasFound (found_at totals.reads states.state_number_of 0 image)
     (found_at seals.reads seals.seal_number_of 1024 image) tariff s
 found_in image tariff s e = has_found (found_at totals.reads states.state_number_of 0 image)
     (found_at seals.reads seals.seal_number_of 1024 image) tariff s e
 
 -- the opening image has the state that the run begins with, whose held trip fits
-pub start_stands : (image tariff : List ℕ) (s : Start) → start_of (opening_of image) tariff ≡ Ok s
+pub start_stands : (image tariff : List ℕ) (s : Start) → start_of (opening_in image) tariff ≡ Ok s
     → states.HasState image s.durable × ForSome s.durable.hold (Fits (tables_in s))
 start_stands image tariff s e =
     let h = found_in image tariff s e in
@@ -161,9 +161,9 @@ start_stands image tariff s e =
 
 -- an image with other totals, whose held trip fits, beside the same seal: a run begins with it too
 pub starts_again : (image tariff left : List ℕ) (s : Start) (place : Place) (d : Durable)
-    → start_of (opening_of image) tariff ≡ Ok s → SameBut IsOfTotals image left
+    → start_of (opening_in image) tariff ≡ Ok s → SameBut IsOfTotals image left
     → found_at totals.reads states.state_number_of 0 left ≡ Ok (Latest place d) → ForSome d.hold (Fits (tables_in s))
-    → start_of (opening_of left) tariff ≡ Ok (record s { durable = d })
+    → start_of (opening_in left) tariff ≡ Ok (record s { durable = d })
 starts_again image tariff left s place d e same found fits =
     let h = found_in image tariff s e in
     let first : take 512 (drop 1024 left) ≡ take 512 (drop 1024 image) =
@@ -174,9 +174,10 @@ starts_again image tariff left s place d e same found fits =
     ap (λ (x : List ℕ). verdict_on seals.reads seals.seal_number_of x (take 512 (drop 1536 left))) first
     ∙ ap (λ (x : List ℕ). verdict_on seals.reads seals.seal_number_of (take 512 (drop 1024 image)) x)
     second ∙ h.seal.1 in
-    let opening : opening_of left ≡ Ok (record { totals = Latest place d; seal = Latest h.seal.0 s.seal }) =
-    ap (λ (r : Result (Found Durable) SlotFault). opened r (found_at seals.reads seals.seal_number_of 1024 left)) found
-    ∙ ap (opened (Ok (Latest place d))) seal in
+    let opening : opening_in left ≡ Ok (record { totals = Latest place d; seal = Latest h.seal.0 s.seal }) =
+    ap (λ (r : Result (Found Durable) SlotFault). opening_by r
+        (found_at seals.reads seals.seal_number_of 1024 left)) found
+    ∙ ap (opening_by (Ok (Latest place d))) seal in
     ap (λ (r : Result Opening StoreFault). start_of r tariff) opening ∙ ap (start_with d s.seal) h.tariff_is
     ∙ rw ((Decides-hold (tables_in s) d.hold).1 fits) refl
 
@@ -184,21 +185,21 @@ starts_again image tariff left s place d e same found fits =
 
 module _ (image tariff : List ℕ) (read_failed board_failed : Type 0) where
   -- the store bars the run
-  pub not_begun-barred : (why : Ended) → IsBarred why → (why ≢ ended.BoardFault → store_of (opening_of image) ≡ Err why)
+  pub not_begun-barred : (why : Ended) → IsBarred why → (why ≢ ended.BoardFault → store_of (opening_in image) ≡ Err why)
       → (why ≡ ended.BoardFault → board_failed)
       → HasNotBegun image tariff read_failed board_failed why
   not_begun-barred why barred store cause =
-      owed-refused (λ (w : Ended). start_of (opening_of image) tariff ≡ Err w)
+      owed-refused (λ (w : Ended). start_of (opening_in image) tariff ≡ Err w)
       (λ (w : Ended). HasNotBegun image tariff read_failed board_failed w) board_failed
       (λ h. h) (λ slot h. h) (λ first second h. h) (λ f. f) why barred
       (λ good. ap (λ (r : Result (Durable × Seal) Ended). start_over r tariff) (store good)) cause
 
-  module _ (store : Durable × Seal) (e : store_of (opening_of image) ≡ Ok store) where
+  module _ (store : Durable × Seal) (e : store_of (opening_in image) ≡ Ok store) where
     sealed_in : IsSealedIn image
     sealed_in = record { store = store; is = e }
 
     pub start_from : (r : Result Tree Ended) → sealed_tariff store.1.digest tariff ≡ r
-        → start_of (opening_of image) tariff ≡ start_with store.0 store.1 r
+        → start_of (opening_in image) tariff ≡ start_with store.0 store.1 r
     start_from r f =
         ap (λ (r : Result (Durable × Seal) Ended). start_over r tariff) e ∙ ap (start_with store.0 store.1) f
 
@@ -232,5 +233,5 @@ module _ (image tariff : List ℕ) (read_failed board_failed : Type 0) where
 
     pub has_begun : (t : Tree) → sealed_tariff store.1.digest tariff ≡ Ok t
         → does_hold_fit (tables_of t store.1.params.constant) store.0.hold ≡ true
-        → start_of (opening_of image) tariff ≡ Ok (record { durable = store.0; seal = store.1; tree = t })
+        → start_of (opening_in image) tariff ≡ Ok (record { durable = store.0; seal = store.1; tree = t })
     has_begun t f fits = start_from (Ok t) f ∙ fitted t true fits

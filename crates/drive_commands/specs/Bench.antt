@@ -17,7 +17,7 @@ use Rattle.verify_bench.specs.declared.reading.ReadingsFault.TheVariants as read
 use Rattle.call_ends.specs.Answer.{Answer}
 use Rattle.call_ends.specs.Course.{Command}
 use Rattle.call_ends.specs.LastLine.{refused_as}
-use Rattle.store_commands.specs.Opening.{IsSealedIn, opening_of, store_of}
+use Rattle.store_commands.specs.Opening.{IsSealedIn, opening_in, store_of}
 use Rattle.call_ends.specs.Pieces.{pieces_of}
 use Rattle.drive_commands.specs.Run.{sealed_tariff}
 use Rattle.call_ends.specs.Stream.{Drive}
@@ -48,25 +48,25 @@ abbrev pub terms_of : Result Opening StoreFault → (tariff : List ℕ) → Resu
 terms_of opening tariff = terms_over (store_of opening) tariff
 
 -- the meter goes by the tariff and the sealed parameters of the terms
-abbrev pub setting_under : Terms → Setting
-setting_under terms = setting_by terms.tree terms.seal.params
+abbrev pub setting_of_terms : Terms → Setting
+setting_of_terms terms = setting_by terms.tree terms.seal.params
 
 -- the hirings of a drive should come to what the plain program calculates of its events
 abbrev pub hirings_under : Terms → (drive : List ℕ) → List Expected
-hirings_under terms drive = expected_of (setting_under terms) (events_of drive)
+hirings_under terms drive = expected_of (setting_of_terms terms) (events_of drive)
 
 -- ---- the answer
 
 -- the text of a verification is the cross-over speeds of the tariff and then the report
 abbrev pub bench_text : Terms → (drive : List ℕ) → List Reading → List ℕ
 bench_text terms drive found =
-    cross_overs_text (setting_under terms).tariff
-    ++ report_text (setting_under terms).tariff.step.0 (setting_under terms).tariff.decimals
+    cross_overs_text (setting_of_terms terms).tariff
+    ++ report_text (setting_of_terms terms).tariff.step.0 (setting_of_terms terms).tariff.decimals
     (hirings_under terms drive) found
 
 -- the test `does_bench_pass` is true if every row of the report passes
 abbrev pub does_bench_pass : Terms → (drive : List ℕ) → List Reading → Bool
-does_bench_pass terms drive found = do_all_pass (setting_under terms).tariff.step.0 (hirings_under terms drive) found
+does_bench_pass terms drive found = do_all_pass (setting_of_terms terms).tariff.step.0 (hirings_under terms drive) found
 
 -- how a command ended that couldn't read its readings
 abbrev pub ended_for_readings : ReadingsFault → Ended
@@ -104,18 +104,18 @@ bench_answer (Ok terms) drive text = judged_ending terms drive text (drive_end d
 -- the store of an image and a tariff's text have terms
 pub record HasTerms (image tariff : List ℕ) : Type 0 where
   pub terms : Terms
-  pub are : terms_of (opening_of image) tariff ≡ Ok terms
+  pub are : terms_of (opening_in image) tariff ≡ Ok terms
 
 -- a drive is being taken if there are terms, and the bytes that were taken don't tell the drive's end
 pub record IsTakingDrive (image tariff taken : List ℕ) : Type 0 where
   pub terms : Terms
-  pub are : terms_of (opening_of image) tariff ≡ Ok terms
+  pub are : terms_of (opening_in image) tariff ≡ Ok terms
   pub going : IsGoing taken
 
 -- a drive has been taken if there are terms, and the bytes that were taken are the whole of a good drive
 pub record HasTakenDrive (image tariff drive taken : List ℕ) : Type 0 where
   pub terms : Terms
-  pub are : terms_of (opening_of image) tariff ≡ Ok terms
+  pub are : terms_of (opening_in image) tariff ≡ Ok terms
   pub whole : drive_end drive ≡ Whole
   pub all : taken ≡ drive
 
@@ -124,7 +124,7 @@ pub record HasTakenDrive (image tariff drive taken : List ℕ) : Type 0 where
 -- counter it takes at most 64 steps, one for each piece, and one for the last line.
 abbrev pub bench_command : Command
 bench_command = record {
-  answer = λ contents image. bench_answer (terms_of (opening_of image) (contents 1)) (contents 2) (contents 3);
+  answer = λ contents image. bench_answer (terms_of (opening_in image) (contents 1)) (contents 2) (contents 3);
   drive = Some (Drive 2);
   shown = λ contents image taken. [];
   reads = λ word. (word ≡ 1) ⊎ ((word ≡ 2) ⊎ (word ≡ 3));
@@ -140,5 +140,5 @@ bench_command = record {
   writes = λ ended. ⊥;
   steps = λ files_tell image_told contents left image before now. files_tell → image_told
       → now ≤ before + 64 + 1 + pieces_of (length
-      (bench_answer (terms_of (opening_of image) (contents 1)) (contents 2) (contents 3)).shown);
+      (bench_answer (terms_of (opening_in image) (contents 1)) (contents 2) (contents 3)).shown);
 }

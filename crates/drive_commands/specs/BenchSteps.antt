@@ -8,7 +8,7 @@ use Rattle.meter_run.specs.declared.source.Stop.TheVariants as stops
 use Rattle.verify_bench.specs.Readings.{readings_in}
 use Rattle.verify_bench.specs.declared.reading.Reading.{Reading}
 use Rattle.verify_bench.specs.declared.reading.ReadingsFault.TheVariants as readings
-use Rattle.drive_commands.specs.Bench.{Terms, bench_text, does_bench_pass, setting_under, terms_of}
+use Rattle.drive_commands.specs.Bench.{Terms, bench_text, does_bench_pass, setting_of_terms, terms_of}
 use Rattle.drive_commands.specs.declared.bench_terms.Terms as program
 use Rattle.tariff_syntax.specs.Tree.{tree_of}
 use Rattle.taxi_units.specs.declared.event.Event.{Event}
@@ -16,7 +16,7 @@ use Rattle.verify_bench.specs.CrossOvers.{cross_overs_text}
 use Rattle.verify_bench.specs.Expecting.{expected_of}
 use Rattle.verify_bench.specs.Passing.{do_all_pass}
 use Rattle.verify_bench.specs.Report.{report_text}
-use Rattle.store_commands.specs.Opening.{IsSealedIn, opening_of}
+use Rattle.store_commands.specs.Opening.{IsSealedIn, opening_in}
 use Rattle.call_ends.specs.Ending.{IsRefusal}
 use Rattle.call_ends.specs.declared.ending.Ended.{Ended}
 use Rattle.call_ends.specs.declared.ending.Ended.TheVariants.{BadDrive, BadReadings, BoardFault, EndlessDrive}
@@ -35,7 +35,7 @@ abbrev pub HasNoTerms : (image tariff : List ℕ) → (read_failed board_failed 
 HasNoTerms image tariff read_failed board_failed ReadFault = read_failed × IsSealedIn image
 HasNoTerms image tariff read_failed board_failed NoMemory = IsSealedIn image
 HasNoTerms image tariff read_failed board_failed BoardFault = board_failed
-HasNoTerms image tariff read_failed board_failed why = (terms_of (opening_of image) tariff ≡ Err why) × IsRefusal why
+HasNoTerms image tariff read_failed board_failed why = (terms_of (opening_in image) tariff ≡ Err why) × IsRefusal why
 
 -- ---- the drive
 
@@ -87,14 +87,14 @@ IsNoReadings decimals text read_failed why = ⊥
 -- what is printed of readings by the events of a drive
 abbrev pub judged_text : Terms → List Event → List Reading → List ℕ
 judged_text terms events found =
-    cross_overs_text (setting_under terms).tariff
-    ++ report_text (setting_under terms).tariff.step.0 (setting_under terms).tariff.decimals
-    (expected_of (setting_under terms) events) found
+    cross_overs_text (setting_of_terms terms).tariff
+    ++ report_text (setting_of_terms terms).tariff.step.0 (setting_of_terms terms).tariff.decimals
+    (expected_of (setting_of_terms terms) events) found
 
 -- the test `judged_pass` is true if all rows of readings pass by the events of a drive
 abbrev pub judged_pass : Terms → List Event → List Reading → Bool
 judged_pass terms events found =
-    do_all_pass (setting_under terms).tariff.step.0 (expected_of (setting_under terms) events) found
+    do_all_pass (setting_of_terms terms).tariff.step.0 (expected_of (setting_of_terms terms) events) found
 
 -- readings are judged if the drive and the readings were read, and what is printed and whether all rows pass are those
 -- of the verification

@@ -9,7 +9,7 @@ use Rattle.meter_store.specs.Sealing.{IsSealed, Sealing}
 use Rattle.verify_bench.specs.Explaining.{Explanation, explanations_of}
 use Rattle.verify_bench.specs.Receipts.{receipts_in}
 use Rattle.call_ends.specs.Answer.{shows}
-use Rattle.store_commands.specs.Opening.{opening_of}
+use Rattle.store_commands.specs.Opening.{opening_in}
 use Rattle.store_commands.specs.Seal.{sealing_of}
 use Rattle.drive_commands.specs.Explain.{explain_answer, read_setting}
 use Rattle.drive_commands.specs.ExplainedText.{explanations_text}
@@ -20,7 +20,7 @@ use Rattle.drive_commands.specs.Run.{Start, run_answer, setting_in, start_of}
 pub record IsNewStore (tariff params image : List ℕ) : Type 0 where
   pub found : List ℕ
   pub sealing : Sealing
-  pub is : sealing_of (opening_of found) tariff params ≡ Ok sealing
+  pub is : sealing_of (opening_in found) tariff params ≡ Ok sealing
   pub none : sealing.totals ≡ None
   pub sealed : IsSealed sealing image
 
@@ -30,10 +30,10 @@ pub record ExplainsRun (tariff params drive image : List ℕ) : Type 0 where
   pub start : Start
   pub setting : Setting
   pub acts : List Act
-  pub starts : start_of (opening_of image) tariff ≡ Ok start
+  pub starts : start_of (opening_in image) tariff ≡ Ok start
   pub acts_are : acts ≡ actions_of (setting_in start) start.durable (events_of drive)
   pub goes_by : read_setting tariff params ≡ Ok setting
-  pub runs : run_answer (start_of (opening_of image) tariff) drive ≡ shows (texts start.seal (deeds_of acts))
+  pub runs : run_answer (start_of (opening_in image) tariff) drive ≡ shows (texts start.seal (deeds_of acts))
   pub explains : explain_answer (read_setting tariff params) drive
       ≡ shows (explanations_text setting (explanations_of setting (events_of drive)))
   pub receipts : map (λ (e : Explanation). e.receipt) (explanations_of setting (events_of drive)) ≡ receipts_in acts

@@ -28,7 +28,7 @@ use Rattle.call_ends.specs.Call.{IsCall}
 use Rattle.call_ends.specs.Course.{Command, Course, Answered, ReadFailed, NoMemory, BoardFailed, line_in}
 use Rattle.call_ends.specs.LastLine.{refused_as}
 use Rattle.drive_commands.specs.Fare.{drive_answer}
-use Rattle.store_commands.specs.Opening.{IsSealedIn, opening_of, store_of}
+use Rattle.store_commands.specs.Opening.{IsSealedIn, opening_in, store_of}
 use Rattle.call_ends.specs.Stream.{Drive}
 use Rattle.call_ends.specs.Tariffs.{tariff_in}
 use Rattle.call_ends.specs.Unwritten.{WritesNothing}
@@ -109,7 +109,7 @@ run_answer (Ok start) drive = drive_answer (texts start.seal (deeds_in start dri
 -- a run is reading its drive if it has a start, and the bytes that were taken don't tell the drive's end
 pub record IsRunning (image tariff taken : List ℕ) : Type 0 where
   pub start : Start
-  pub begins : start_of (opening_of image) tariff ≡ Ok start
+  pub begins : start_of (opening_in image) tariff ≡ Ok start
   pub going : IsGoing taken
 
 -- the command `run` opens the store, reads its tariff and then its drive, and writes, in at most 64 steps for the
@@ -117,9 +117,9 @@ pub record IsRunning (image tariff taken : List ℕ) : Type 0 where
 -- there then
 abbrev pub run_command : Command
 run_command = record {
-  answer = λ contents image. run_answer (start_of (opening_of image) (contents 1)) (contents 2);
+  answer = λ contents image. run_answer (start_of (opening_in image) (contents 1)) (contents 2);
   drive = Some (Drive 2);
-  shown = λ contents image taken. shown_in_run (start_of (opening_of image) (contents 1)) taken;
+  shown = λ contents image taken. shown_in_run (start_of (opening_in image) (contents 1)) taken;
   reads = λ word. (word ≡ 1) ⊎ (word ≡ 2);
   turn = λ word. word;
   reads_all = λ status. status ≡ 0;
@@ -172,14 +172,14 @@ module _ (told : Type 0) (image printed : List ℕ) where
 
   -- an image stands at the end of a run if it has the state after all commits of the run, beside the opening seal. If
   -- the run was refused, it is the opening image.
-  abbrev pub Stands : Result Start Ended → (bytes now : List ℕ) → Type 0
-  Stands (Err why) bytes now = now ≡ image
-  Stands (Ok start) bytes now = IsRunDone start bytes now
+  abbrev pub StandsAfterRun : Result Start Ended → (bytes now : List ℕ) → Type 0
+  StandsAfterRun (Err why) bytes now = now ≡ image
+  StandsAfterRun (Ok start) bytes now = IsRunDone start bytes now
 
 module _ {E D L : Type 0} {N : ℕ} (F : FileGhosts E) (B : Ghosts D N L) where
   -- the start of a run on a board, by the image of the store and the file of word 1, its tariff
   abbrev pub start_at : (files : E) (board : D) → Result Start Ended
-  start_at files board = start_of (opening_of (B.image board)) (F.rest files 1)
+  start_at files board = start_of (opening_in (B.image board)) (F.rest files 1)
 
   -- a cut of a run that took a course may leave what a cut may leave of the deeds over the bytes that the course
   -- carried out, and of the course's last line behind them
@@ -196,12 +196,12 @@ module _ {E D L : Type 0} {N : ℕ} (F : FileGhosts E) (B : Ghosts D N L) where
   pub record IsRun (files files' : E) (old new : D) (ended : ℕ) : Type 0 where
     pub call : IsCall F B run_command files files' old new ended
     pub stands : ended ≢ 8
-        → Stands B.tells_text (B.image old) (B.printed old) (start_at files old)
+        → StandsAfterRun B.tells_text (B.image old) (B.printed old) (start_at files old)
         (bytes_in call.course (F.rest files 2)) (B.image new)
     pub leaves : LeavesFromSync B (ended ≡ 8) old new (IsCutOfCourse files old call.course)
     pub settled : IsAtRest B old → LeavesOnly B old new (IsCutOfCourse files old call.course)
     pub again : (start : Start) (left_image left_text : List ℕ) → start_at files old ≡ Ok start
         → IsCutOfCourse files old call.course left_image left_text
         → (durable : Durable)
-        × (start_of (opening_of left_image) (F.rest files 1) ≡ Ok (record start { durable = durable }))
+        × (start_of (opening_in left_image) (F.rest files 1) ≡ Ok (record start { durable = durable }))
     pub unwritten : (why : Ended) → start_at files old ≡ Err why → WritesNothing B old new ended

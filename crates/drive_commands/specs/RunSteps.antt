@@ -11,8 +11,9 @@ use Rattle.tariff_syntax.specs.Tree.{Tree}
 use Rattle.meter_run.specs.Runs.{OpensWith}
 use Rattle.call_ends.specs.Ending.{EndsOnDevices, IsRefusal}
 use Rattle.call_ends.specs.LastLine.{line_of, status_of}
-use Rattle.store_commands.specs.Opening.{IsSealedIn, opening_of}
-use Rattle.drive_commands.specs.Run.{IsCutOfCourse, Stands, Start, bytes_in, run_command, sealed_tariff, start_at}
+use Rattle.store_commands.specs.Opening.{IsSealedIn, opening_in}
+use Rattle.drive_commands.specs.Run.{IsCutOfCourse, StandsAfterRun, Start, bytes_in, run_command, sealed_tariff}
+use Rattle.drive_commands.specs.Run.{start_at}
 use Rattle.drive_commands.specs.Run.{start_of, tables_in}
 use Rattle.call_ends.specs.Tariffs.{tariff_in}
 use Rattle.call_ends.specs.Unwritten.{LeavesUnwritten}
@@ -49,7 +50,7 @@ module _ {D L : Type 0} {N : ℕ} (B : Ghosts D N L) where
   -- with its durable state
   pub record HasBegun (image tariff : List ℕ) (board : D) (seal : Seal) (tables : TableParts) : Type 0 where
     pub start : Start
-    pub is : start_of (opening_of image) tariff ≡ Ok start
+    pub is : start_of (opening_in image) tariff ≡ Ok start
     pub seal_is : seal ≡ start.seal
     pub tables_are : tables ≡ tables_in start
     pub compiled : IsTablesOf start.tree tables
@@ -60,7 +61,7 @@ abbrev pub HasNotBegun : (image tariff : List ℕ) → (read_failed board_failed
 HasNotBegun image tariff read_failed board_failed ReadFault = read_failed × IsSealedIn image
 HasNotBegun image tariff read_failed board_failed NoMemory = IsSealedIn image
 HasNotBegun image tariff read_failed board_failed BoardFault = board_failed
-HasNotBegun image tariff read_failed board_failed why = (start_of (opening_of image) tariff ≡ Err why) × IsRefusal why
+HasNotBegun image tariff read_failed board_failed why = (start_of (opening_in image) tariff ≡ Err why) × IsRefusal why
 
 -- ---- what it leaves
 
@@ -68,7 +69,7 @@ module _ {E D L : Type 0} {N : ℕ} (F : FileGhosts E) (B : Ghosts D N L) where
   -- a run reached its last line, or a fault of the board before it, if all holds of it that `IsRun` says
   pub record RunReachesLine (files files' : E) (old new : D) (ended : Ended) : Type 0 where
     pub comes : EndsOnDevices F B run_command files files' old new ended
-    pub stands : ended ≢ BoardFault → Stands B.tells_text (B.image old) (B.printed old) (start_at F B files old)
+    pub stands : ended ≢ BoardFault → StandsAfterRun B.tells_text (B.image old) (B.printed old) (start_at F B files old)
         (bytes_in comes.course (F.rest files 2)) (B.image new)
     pub leaves : LeavesFromSync B (status_of ended ≡ 8) old new (IsCutOfCourse F B files old comes.course)
     -- a cut while the last line is printed leaves such a place too

@@ -5,7 +5,7 @@ ghost use Rattle.outside.specs.Faults.{Rose};
 ghost use Rattle.drive_commands.specs.Bench.{terms_of};
 ghost use Rattle.drive_commands.specs.BenchSteps.{HasNoTerms, terms_in};
 ghost use Rattle.store_commands.specs.Opened.{OnlyOpens};
-ghost use Rattle.store_commands.specs.Opening.{IsSealedIn, opening_of};
+ghost use Rattle.store_commands.specs.Opening.{IsSealedIn, opening_in};
 
 use crate::sealed_tariff::read_sealed;
 use call_ends::Ended;
@@ -32,7 +32,7 @@ pub fn open_terms<F: Files, B: Board<STORE_SIZE, L>, L: Ledger>(
     steps: &mut Steps<L>,
 ) -> Result<Terms, Ended>
     ensures found { F.tells → B.tells_image → IfOk result (λ terms.
-        terms_of (opening_of (B.image board.old)) (F.rest files.old 1) ≡ Ok (terms_in terms)) }
+        terms_of (opening_in (B.image board.old)) (F.rest files.old 1) ≡ Ok (terms_in terms)) }
     ensures ended { F.tells → OnOk result (F.rest files.new 1 ≡ []) }
     ensures refused { F.tells → B.tells_image → IfErr result (HasNoTerms (B.image board.old) (F.rest files.old 1)
         (Rose (F.faults files.old 1) (F.faults files.new 1)) (Rose (B.faults board.old) (B.faults board.new))) }

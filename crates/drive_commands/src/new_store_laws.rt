@@ -1,6 +1,6 @@
 //! A run and an explanation of one drive, on a new store.
 ghost use Rattle.std.specs.Prelude.{◌≡◌, ℕ, List};
-ghost use Rattle.store_commands.specs.Opening.{opening_of};
+ghost use Rattle.store_commands.specs.Opening.{opening_in};
 ghost use Rattle.drive_commands.specs.NewStore.{ExplainsRun, IsNewStore};
 ghost use Rattle.drive_commands.specs.Run.{run_answer, start_of};
 
@@ -9,6 +9,6 @@ ghost use Rattle.drive_commands.specs.Run.{run_answer, start_of};
 /// order, by receipts that are equal to them. `explain` prints no number of a receipt, which is the store's.
 pub fn explanations_are_of_the_run()
     ensures { (tariff params drive image : List ℕ) → IsNewStore tariff params image
-        → (run_answer (start_of (opening_of image) tariff) drive).status ≡ 0
+        → (run_answer (start_of (opening_in image) tariff) drive).status ≡ 0
         → ExplainsRun tariff params drive image }
 {}

@@ -14,8 +14,8 @@ use Rattle.meter_model.specs.Trip.{MeterTrip, fare_of, pulses_of, steps_shown}
 use Rattle.taxi_units.specs.Limits.{roaming_most}
 
 -- the entry of a trip that is closed at a tariff position has its kind, its distances, its fare and its supplements
-abbrev pub entry_of : Setting → Kind → (position : ℕ) → MeterTrip → Entry
-entry_of s kind position t = record {
+abbrev pub entry_of_trip : Setting → Kind → (position : ℕ) → MeterTrip → Entry
+entry_of_trip s kind position t = record {
   kind = kind;
   roam_mm = millimetres_of s.constant t.roam;
   hired_mm = millimetres_of s.constant (pulses_of t);
@@ -47,7 +47,7 @@ receipt_of s kind finish position t number = record {
 abbrev pub trip_closed : Setting → Kind → (finish : ℕ) → Option MeterTrip → Meter → Outcome
 trip_closed s kind finish None m = quiet m
 trip_closed s kind finish (Some t) m = do
-  m ← entered (entry_of s kind m.position t) m
+  m ← entered (entry_of_trip s kind m.position t) m
   printed (receipt_of s kind finish m.position t m.durable.number) m
 
 -- a meter that closes its trip enters it, prints its receipt, has no trip then, and is for hire

@@ -36,7 +36,7 @@ use Rattle.meter_model.specs.declared.act.Act.TheVariants.{Refuse}
 use Rattle.meter_states.proofs.Laws.{the_store_has_what_the_acts_commit-event}
 use Rattle.meter_model.proofs.Laws.{the_store_keeps_the_trip-step}
 use Rattle.meter_run.specs.Commits.{after_acts, commits_in, AreFor}
-use Rattle.meter_run.specs.Dry.{BreaksOff, Carries, IsReady, Prints, PrintsSome}
+use Rattle.meter_run.specs.Dry.{BreaksOff, CarriesEvents, IsMeterReady, Prints, PrintsSome}
 use Rattle.meter_run.specs.BetweenEvents.{IsTripKept, IsTripKeptIn, StandsWith}
 use Rattle.meter_run.specs.RunLaws.{after_is, texts_append}
 use Rattle.meter_run.specs.Texts.{shown_texts}
@@ -108,7 +108,7 @@ stands_after s event core core' d d' acts m st meets is = record {
 
 -- they commit once at most
 pub few_commits : (tables : TableParts) (seal : Seal) (event : Event) (core core' : CachedCore) (d : Durable)
-    (acts : List Act) → IsReady tables seal core d
+    (acts : List Act) → IsMeterReady tables seal core d
     → ((s : Setting) (m : Meter) → IsSettingOf s tables seal → StandsWith s core.plain d m
     → Meets s core'.plain acts (step s event m)) → commits_in acts ≤ 1
 few_commits tables seal event core core' d acts ready meets =
@@ -118,17 +118,17 @@ few_commits tables seal event core core' d acts ready meets =
 
 -- the acts may be carried out
 pub acts_for : (tables : TableParts) (seal : Seal) (event : Event) (core core' : CachedCore) (d : Durable)
-    (acts : List Act) → IsReady tables seal core d
+    (acts : List Act) → IsMeterReady tables seal core d
     → ((s : Setting) (m : Meter) → IsSettingOf s tables seal → StandsWith s core.plain d m
     → Meets s core'.plain acts (step s event m)) → All (IsLawfulAct tables d.number) acts → AreFor d acts
 acts_for tables seal event core core' d acts ready meets lawful =
     are_for tables d acts ready.range (few_commits tables seal event core core' d acts ready meets) lawful
 
 pub ready_after : (tables : TableParts) (seal : Seal) (event : Event) (core core' : CachedCore) (d d' : Durable)
-    (acts : List Act) → IsReady tables seal core d
+    (acts : List Act) → IsMeterReady tables seal core d
     → ((s : Setting) (m : Meter) → IsSettingOf s tables seal → StandsWith s core.plain d m
     → Meets s core'.plain acts (step s event m)) → All (IsLawfulAct tables d.number) acts
-    → IsLawful tables seal core' → d' ≡ after_acts d acts → IsReady tables seal core' d'
+    → IsLawful tables seal core' → d' ≡ after_acts d acts → IsMeterReady tables seal core' d'
 ready_after tables seal event core core' d d' acts ready meets lawful on is =
     let way = ready.way in
     record {
@@ -154,7 +154,7 @@ begins s core d off is = record { core = inl (off, refl); durable = is; kept = r
 pub ready_first : (tables : TableParts) (seal : Seal) (core : CachedCore) (d : Durable) → IsCompiled tables
     → tables.constant ≡ seal.params.constant → IsLawful tables seal core → core.plain.operating ≡ Off → IsDurable d
     → d ≡ first_state
-    → IsReady tables seal core d
+    → IsMeterReady tables seal core d
 ready_first tables seal core d compiled constant lawful off range is =
     let s : Setting = record {
       tariff = sound_of compiled.0;
@@ -208,7 +208,7 @@ module _ {D L : Type 0} {N : ℕ} (B : Ghosts D N L) (tables : TableParts) (seal
       → ((s : Setting) (m : Meter) → IsSettingOf s tables seal → StandsWith s x.core.plain x.durable m
       → Meets s y.core.plain acts (step s event m))
       → y.durable ≡ after_acts x.durable acts → (B.tells_text → B.printed c ≡ B.printed b ++ shown_texts acts)
-      → KeepsStore B b c → Carries B tables seal x b (event ∷ []) y c
+      → KeepsStore B b c → CarriesEvents B tables seal x b (event ∷ []) y c
   carries_event x b y c event acts meets durable printed store = record {
     stands = λ s m is st. stands_after s event x.core y.core x.durable y.durable acts m st (meets s m is st) durable;
     printed = λ told s m is st. printed told
@@ -232,7 +232,7 @@ module _ {D L : Type 0} {N : ℕ} (B : Ghosts D N L) (tables : TableParts) (seal
       ∙ ap (λ (acts : List Act). B.printed b ++ shown_texts acts) (sym (ended_off s m (off_of s x.core m st.core off)))
 
   pub ends_on : (x : DryMeter) (b : D) (y : DryMeter) (c : D) → x.core.plain.operating ≢ Off
-      → Carries B tables seal x b (Down ∷ []) y c → Prints B tables seal (λ s m. ended s m) x b c
+      → CarriesEvents B tables seal x b (Down ∷ []) y c → Prints B tables seal (λ s m. ended s m) x b c
   ends_on x b y c on h told s m is st = h.printed told s m is st
       ∙ ap (λ (acts : List Act). B.printed b ++ shown_texts acts) (sym (ended_on s m (on_of s x.core m st.core on)))
 
@@ -247,7 +247,8 @@ module _ {D L : Type 0} {N : ℕ} (B : Ghosts D N L) (tables : TableParts) (seal
       begins_whole (B.printed b) (B.printed b) (shown_texts (ended s m).acts) (ends_off x b off told s m is st)
 
   pub ends_some : {A E : Type 0} (r : Result A E) (x : DryMeter) (b : D) (y : DryMeter) (c : D) → x.core.plain.operating
-      ≢ Off → OnOk r (Carries B tables seal x b (Down ∷ []) y c) → OnErr r (BreaksOff B tables seal x b (Down ∷ []) c)
+      ≢ Off → OnOk r (CarriesEvents B tables seal x b (Down ∷ []) y c)
+          → OnErr r (BreaksOff B tables seal x b (Down ∷ []) c)
       → PrintsSome B tables seal (λ s m. ended s m) x b c
   ends_some (Ok u) x b y c on h k told s m is st =
       begins_whole (B.printed b) (B.printed c) (shown_texts (ended s m).acts) (ends_on x b y c on h told s m is st)
@@ -255,7 +256,7 @@ module _ {D L : Type 0} {N : ℕ} (B : Ghosts D N L) (tables : TableParts) (seal
 
   -- the store, if events were carried out or broke off
   pub event_store : {A E : Type 0} (r : Result A E) (x : DryMeter) (b : D) (y : DryMeter) (c : D) (events : List Event)
-      → OnOk r (Carries B tables seal x b events y c) → OnErr r (BreaksOff B tables seal x b events c)
+      → OnOk r (CarriesEvents B tables seal x b events y c) → OnErr r (BreaksOff B tables seal x b events c)
       → KeepsStore B b c
   event_store (Ok u) x b y c events h k = h.store
   event_store (Err e) x b y c events h k = k.store
@@ -268,7 +269,7 @@ module _ {D L : Type 0} {N : ℕ} (B : Ghosts D N L) (tables : TableParts) (seal
 
   module _ (x : DryMeter) (a : D) (off : x.core.plain.operating ≡ Off) (first : x.durable ≡ first_state)
       (events : List Event) where
-    pub whole_printed : (y : DryMeter) (b c : D) → Carries B tables seal x a events y b
+    pub whole_printed : (y : DryMeter) (b c : D) → CarriesEvents B tables seal x a events y b
         → Prints B tables seal (λ s m. ended s m) y b c
         → B.tells_text → (s : Setting) → IsSettingOf s tables seal
         → B.printed c ≡ B.printed a ++ shown_texts (actions_of s first_state events)
@@ -281,7 +282,7 @@ module _ {D L : Type 0} {N : ℕ} (B : Ghosts D N L) (tables : TableParts) (seal
         ∙ append_assoc (B.printed a) (shown_texts (run s events m).acts) (shown_texts (ended s n).acts)
         ∙ ap (λ (p : List ℕ). B.printed a ++ p) (sym (texts_whole s events))
 
-    pub end_begun : (y : DryMeter) (b c : D) → Carries B tables seal x a events y b
+    pub end_begun : (y : DryMeter) (b c : D) → CarriesEvents B tables seal x a events y b
         → PrintsSome B tables seal (λ s m. ended s m) y b c
         → B.tells_text → (s : Setting) → IsSettingOf s tables seal
         → Begins (B.printed a) (B.printed c) (shown_texts (actions_of s first_state events))

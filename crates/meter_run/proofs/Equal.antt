@@ -23,7 +23,7 @@ use Rattle.meter_states.specs.Setting.{IsSettingOf}
 use Rattle.meter_model.specs.declared.act.Act.{Act}
 use Rattle.meter_states.proofs.Laws.{the_store_keeps_the_trip-run}
 use Rattle.meter_run.specs.Deeds.{after_deeds, deeds_of, texts}
-use Rattle.meter_run.specs.Dry.{Carries, IsReady}
+use Rattle.meter_run.specs.Dry.{CarriesEvents, IsMeterReady}
 use Rattle.meter_run.specs.BetweenEvents.{StandsWith}
 use Rattle.meter_run.specs.OnStore.{CarriesOut, Has, Knows}
 use Rattle.meter_run.specs.PointLaws.{keeps_still}
@@ -66,7 +66,7 @@ stands_still s es core core' d m st meets = record {
 module _ (tables : TableParts) (seal : Seal) (es : List Event) (core core' : CachedCore)
     (meets : (s : Setting) (m : Meter) → IsSettingOf s tables seal → Stands s core.plain m
     → Meets s core'.plain [] (run s es m)) (lawful : IsLawful tables seal core') where
-  pub ready_still : (d : Durable) → IsReady tables seal core d → IsReady tables seal core' d
+  pub ready_still : (d : Durable) → IsMeterReady tables seal core d → IsMeterReady tables seal core' d
   ready_still d ready = let way = ready.way in record {
     lawful = lawful;
     range = ready.range;
@@ -89,7 +89,7 @@ module _ (tables : TableParts) (seal : Seal) (es : List Event) (core core' : Cac
 module _ {D L : Type 0} {N : ℕ} (B : Ghosts D N L) (tables : TableParts) (seal : Seal) (es : List Event) where
   pub carries_still : (x : DryMeter) (core' : CachedCore) (b : D) → ((s : Setting) (m : Meter)
       → IsSettingOf s tables seal → Stands s x.core.plain m → Meets s core'.plain [] (run s es m))
-      → Carries B tables seal x b es (record x { core = core' }) b
+      → CarriesEvents B tables seal x b es (record x { core = core' }) b
   carries_still x core' b meets = record {
     stands = λ s m is st. stands_still s es x.core core' x.durable m st (meets s m is st.core);
     printed = λ told s m is st. sym (append-nil (B.printed b))

@@ -42,9 +42,10 @@ use Rattle.meter_model.proofs.Laws.{the_store_keeps_the_trip-begins}
 use Rattle.meter_states.proofs.Laws.{the_store_keeps_the_trip-fits}
 use Rattle.meter_run.specs.Commits.{after_acts}
 use Rattle.meter_run.specs.Deeds.{Deed, Does, deeds_of, texts}
-use Rattle.meter_run.specs.Dry.{IsReady}
+use Rattle.meter_run.specs.Dry.{IsMeterReady}
 use Rattle.meter_run.specs.BetweenEvents.{StandsWith}
-use Rattle.meter_run.specs.OnStore.{Agrees, Attempts, CarriesOut, Has, IsReadyOn, IsSecured, Knows, MayDo, StandsOn}
+use Rattle.meter_run.specs.OnStore.{Agrees, Attempts, CarriesOut, Has, IsMeterReadyOn, IsSecured, Knows, MayDo}
+use Rattle.meter_run.specs.OnStore.{StandsOn}
 use Rattle.meter_run.specs.OnStore.{CarriesEvents, StopsAmid, WritesTotals}
 use Rattle.meter_run.specs.PointLaws.{keeps_longer, keeps_next}
 use Rattle.meter_run.specs.Points.{GoesBy}
@@ -74,7 +75,7 @@ stands_opened s tables core d is off range fits = record {
 
 pub ready_opened : (tables : TableParts) (seal : Seal) (core : CachedCore) (d : Durable) → IsSecured tables seal
     → core.plain.operating ≡ Off → IsLawful tables seal core → IsDurable d → ForSome d.hold (Fits tables)
-    → IsReady tables seal core d
+    → IsMeterReady tables seal core d
 ready_opened tables seal core d secured off lawful range fits = record {
   lawful = lawful;
   range = range;
@@ -106,7 +107,7 @@ pub meets_with : (tables : TableParts) (seal : Seal) (event : Event) (core core'
 meets_with tables seal event core core' d acts takes s m is st = takes.meets s m is st.core
 
 pub lawful_beside : (tables : TableParts) (seal : Seal) (event : Event) (core core' : CachedCore) (d : Durable)
-    (acts : List Act) → IsReady tables seal core d
+    (acts : List Act) → IsMeterReady tables seal core d
     → ((second : ℕ) → core.plain.operating ≡ Off → event ≢ Up second) → Takes tables seal event core acts core'
     → All (IsLawfulAct tables d.number) acts
 lawful_beside tables seal event core core' d acts ready other takes =
@@ -150,12 +151,12 @@ never_found o a one none = by (sym one ∙ none)
 
 module _ {D L : Type 0} {N : ℕ} (B : Ghosts D N L) (tables : TableParts) (seal : Seal) where
   -- a meter that knows a state is ready at it, and one that knows none is off
-  pub known_ready : (x : StoreMeter) (k : Known) (a : D) → x.known ≡ Some k → IsReadyOn B tables seal x a
-      → IsReady tables seal x.core k.durable
+  pub known_ready : (x : StoreMeter) (k : Known) (a : D) → x.known ≡ Some k → IsMeterReadyOn B tables seal x a
+      → IsMeterReady tables seal x.core k.durable
   known_ready x k a is ready = (subst (λ (o : Option Known). Knows B tables seal x.core o a) is ready.knows).0
 
   pub may_known : (x : StoreMeter) (k : Known) (a : D) (acts : List Act) → x.known ≡ Some k
-      → IsReadyOn B tables seal x a → All (IsLawfulAct tables k.durable.number) acts
+      → IsMeterReadyOn B tables seal x a → All (IsLawfulAct tables k.durable.number) acts
       → MayDo B tables k a acts
   may_known x k a acts is ready lawful = record {
     agrees = (subst (λ (o : Option Known). Knows B tables seal x.core o a) is ready.knows).1;
@@ -163,7 +164,7 @@ module _ {D L : Type 0} {N : ℕ} (B : Ghosts D N L) (tables : TableParts) (seal
     lawful = lawful;
   }
 
-  pub unknown_off : (x : StoreMeter) (a : D) → x.known ≡ None → IsReadyOn B tables seal x a
+  pub unknown_off : (x : StoreMeter) (a : D) → x.known ≡ None → IsMeterReadyOn B tables seal x a
       → x.core.plain.operating ≡ Off
   unknown_off x a is ready = subst (λ (o : Option Known). Knows B tables seal x.core o a) is ready.knows
 
@@ -213,7 +214,7 @@ module _ {D L : Type 0} {N : ℕ} (B : Ghosts D N L) (tables : TableParts) (seal
       beside = beside;
     }
 
-    pub event_attempted : {T E : Type 0} (r : Result T E) (l : Known) → IsSecured tables seal → IsReady tables seal
+    pub event_attempted : {T E : Type 0} (r : Result T E) (l : Known) → IsSecured tables seal → IsMeterReady tables seal
         x.core k.durable → All (IsLawfulAct tables k.durable.number) acts → IsLawful tables seal core
         → OnOk r (l.durable ≡ after_acts k.durable acts) → OnOk r (Agrees B tables l b) → (B.tells_text
         → OnOk r (B.printed b ≡ B.printed a ++ texts seal (deeds_of acts))) → HasCause (B.faults a) (B.faults b) r
@@ -234,7 +235,8 @@ module _ {D L : Type 0} {N : ℕ} (B : Ghosts D N L) (tables : TableParts) (seal
     }
 
   -- a refusal while the meter is off
-  module _ (x : StoreMeter) (a b : D) (event : Event) (ready : IsReadyOn B tables seal x a) (unknown : x.known ≡ None)
+  module _ (x : StoreMeter) (a b : D) (event : Event) (ready : IsMeterReadyOn B tables seal x a) (unknown : x.known
+      ≡ None)
       (other : (second : ℕ) → x.core.plain.operating ≡ Off → event ≢ Up second)
       (now : LeavesNow B a) (kept : KeepsStore B a b)
       (leaves : LeavesOnly B a b (MayLeaveAmid (B.image a) (B.in_flight a) (B.printed a) (refusal_text NotNow)))
@@ -300,7 +302,8 @@ module _ {D L : Type 0} {N : ℕ} (B : Ghosts D N L) (tables : TableParts) (seal
     }
 
     -- nothing was found, which isn't so on a board that tells its image
-    pub blank_attempted : {T E : Type 0} (r : Result T E) → IsReadyOn B tables seal x a → x.core.plain.operating ≡ Off
+    pub blank_attempted : {T E : Type 0} (r : Result T E) → IsMeterReadyOn B tables seal x a
+        → x.core.plain.operating ≡ Off
         → ((s : Setting) (m : Meter) → B.tells_image → StandsOn B tables s x a m → ⊥)
         → HasCause (B.faults a) (B.faults b) r
         → Attempts B tables seal (λ s m. step s (Up second) m) x a r (record { core = x.core; known = None }) b

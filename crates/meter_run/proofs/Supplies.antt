@@ -20,9 +20,9 @@ use Rattle.meter_model.specs.Setting.{Setting}
 use Rattle.meter_states.specs.Setting.{IsSettingOf}
 use Rattle.meter_model.specs.Step.{step, step_in}
 use Rattle.meter_model.specs.declared.act.Act.{Act}
-use Rattle.meter_run.specs.Dry.{Carries, IsReady}
+use Rattle.meter_run.specs.Dry.{CarriesEvents, IsMeterReady}
 use Rattle.meter_run.specs.BetweenEvents.{StandsWith}
-use Rattle.meter_run.specs.OnStore.{IsReadyOn}
+use Rattle.meter_run.specs.OnStore.{IsMeterReadyOn}
 use Rattle.meter_run.specs.Supply.{StaysOff, drop_steps, is_supplied, is_supplied_after}
 use Rattle.meter_run.specs.SupplyLaws.{supplied_joined}
 use Rattle.meter_run.specs.declared.dry.DryMeter.{DryMeter}
@@ -72,7 +72,7 @@ core_off s core m (inr on) off = absurd (on.0 off)
 
 -- an event keeps a core off without the supply
 pub event_keeps_off : (tables : TableParts) (seal : Seal) (event : Event) (core core' : CachedCore) (d : Durable)
-    (acts : List Act) → IsReady tables seal core d
+    (acts : List Act) → IsMeterReady tables seal core d
     → ((s : Setting) (m : Meter) → IsSettingOf s tables seal → StandsWith s core.plain d m
     → Meets s core'.plain acts (step s event m))
     → StaysOff core.plain (event ∷ []) core'.plain
@@ -93,7 +93,8 @@ supply_keeps core core' event second is =
 -- a core that is off, and left as it was, is off
 pub unknown_keeps_off : {D L : Type 0} {N : ℕ} (B : Ghosts D N L) (tables : TableParts) (seal : Seal) (x : StoreMeter)
     (a : D)
-    (events : List Event) → x.known ≡ None → IsReadyOn B tables seal x a → StaysOff x.core.plain events x.core.plain
+    (events : List Event) → x.known ≡ None → IsMeterReadyOn B tables seal x a
+    → StaysOff x.core.plain events x.core.plain
 unknown_keeps_off B tables seal x a events unknown ready =
     λ before off none. unknown_off B tables seal x a unknown ready
 
@@ -118,8 +119,8 @@ equal_keep_off old new p n same = λ before off none. same ∙ off (sym (interva
 -- a dry meter that began is off behind events without the supply
 pub dry_off : {D L : Type 0} {N : ℕ} (B : Ghosts D N L) (tables : TableParts) (seal : Seal) (x : DryMeter) (a : D)
     (y : DryMeter)
-    (b : D) (events : List Event) → IsReady tables seal y.core y.durable → x.core.plain.operating ≡ Off
-    → x.durable ≡ first_state → Carries B tables seal x a events y b → is_supplied false events ≡ false
+    (b : D) (events : List Event) → IsMeterReady tables seal y.core y.durable → x.core.plain.operating ≡ Off
+    → x.durable ≡ first_state → CarriesEvents B tables seal x a events y b → is_supplied false events ≡ false
     → y.core.plain.operating ≡ Off
 dry_off B tables seal x a y b events ready off first carried none =
     let s = ready.way.setting in

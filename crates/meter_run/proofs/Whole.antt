@@ -31,7 +31,8 @@ use Rattle.meter_model.specs.Step.{step_in}
 use Rattle.meter_model.specs.declared.act.Act.{Act}
 use Rattle.meter_states.proofs.Laws.{receipts_follow_their_entries-run, the_store_has_what_the_acts_commit-run}
 use Rattle.meter_run.specs.Deeds.{Deed, after_deeds, deeds_of, texts}
-use Rattle.meter_run.specs.OnStore.{CarriesEvents, CarriesOut, Has, HasBeside, IsReadyOn, IsSecured, Knows, StandsOn}
+use Rattle.meter_run.specs.OnStore.{CarriesEvents, CarriesOut, Has, HasBeside, IsMeterReadyOn, IsSecured, Knows}
+use Rattle.meter_run.specs.OnStore.{StandsOn}
 use Rattle.meter_run.specs.OnStore.{StopsAmid, WritesTotals}
 use Rattle.meter_run.specs.PointLaws.{deeds_joined, keeps_longer, keeps_next, text_next}
 use Rattle.meter_run.specs.Points.{IsPointOfDeeds, IsCutOfDeeds, GoesBy}
@@ -105,7 +106,7 @@ secured_of tables seal compiled constant range = record {
 -- a meter before the supply first comes
 pub ready_new : {D L : Type 0} {N : ℕ} (B : Ghosts D N L) (tables : TableParts) (seal : Seal) (x : StoreMeter) (a : D)
     → IsSecured tables seal → IsLawful tables seal x.core → x.core.plain.operating ≡ Off → x.known ≡ None
-    → IsReadyOn B tables seal x a
+    → IsMeterReadyOn B tables seal x a
 ready_new B tables seal x a secured lawful off unknown = record {
   secured = secured;
   lawful = lawful;

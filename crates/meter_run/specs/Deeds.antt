@@ -1,7 +1,7 @@
 -- Rules: what a run does, deed by deed: the acts of the meter, and lines that the caller prints behind them.
 use Rattle.std.specs.Prelude.{ℕ, List, [], ◌∷◌, ◌++◌}
 use Rattle.receipt_text.specs.Receipts.{receipt_text}
-use Rattle.receipt_text.specs.SealParts.{part_of}
+use Rattle.receipt_text.specs.SealParts.{part_of_seal}
 use Rattle.receipt_text.specs.Texts.{display_text, refusal_text}
 use Rattle.seal_record.specs.declared.seal.Seal.{Seal}
 use Rattle.totals_record.specs.declared.change.Change.{Change}
@@ -23,7 +23,7 @@ act_text seal (Show display) = display_text display
 act_text seal (Refuse why) = refusal_text why
 act_text seal (Enter entry) = []
 act_text seal (Hold trip) = []
-act_text seal (Receipt receipt) = receipt_text receipt (part_of seal)
+act_text seal (Receipt receipt) = receipt_text receipt (part_of_seal seal)
 
 -- the text that a deed prints under a seal is that of its act, or its line
 abbrev pub deed_text : Seal → Deed → List ℕ

@@ -31,7 +31,7 @@ pub record IsUnderWay (tables : TableParts) (seal : Seal) (core : CachedCore) (d
 
 -- a meter is ready for the next event if its core is lawful, its durable state is in its ranges, a held trip fits, and
 -- both are under way
-pub record IsReady (tables : TableParts) (seal : Seal) (core : CachedCore) (durable : Durable) : Type 0 where
+pub record IsMeterReady (tables : TableParts) (seal : Seal) (core : CachedCore) (durable : Durable) : Type 0 where
   pub lawful : IsLawful tables seal core
   pub range : IsDurable durable
   pub fits : ForSome durable.hold (Fits tables)
@@ -53,7 +53,8 @@ module _ {D L : Type 0} {N : ℕ} (B : Ghosts D N L) (tables : TableParts) (seal
 
   -- a meter and a board carry events if the new meter stands for the state after them, their displays and refusals were
   -- printed, and the store is as it was
-  pub record Carries (old : DryMeter) (board : D) (events : List Event) (new : DryMeter) (board' : D) : Type 0 where
+  pub record CarriesEvents (old : DryMeter) (board : D) (events : List Event) (new : DryMeter)
+      (board' : D) : Type 0 where
     pub stands : (s : Setting) (m : Meter) → IsSettingOf s tables seal → StandsWith s old.core.plain old.durable m
         → StandsWith s new.core.plain new.durable (run s events m).next
     pub printed : Prints (λ s m. run s events m) old board board'

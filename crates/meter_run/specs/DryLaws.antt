@@ -9,14 +9,14 @@ use Rattle.tariff_compile.specs.Tables.{TableParts}
 use Rattle.seal_record.specs.declared.seal.Seal.{Seal}
 use Rattle.meter_model.specs.Meter.{Meter}
 use Rattle.meter_model.specs.Run.{run}
-use Rattle.meter_run.specs.Dry.{Carries, BreaksOff}
+use Rattle.meter_run.specs.Dry.{CarriesEvents, BreaksOff}
 use Rattle.meter_run.specs.BetweenEvents.{StandsWith}
 use Rattle.meter_run.specs.RunLaws.{run_next, run_texts}
 use Rattle.meter_run.specs.Texts.{shown_texts}
 use Rattle.meter_run.specs.declared.dry.DryMeter.{DryMeter}
 
 module _ {D L : Type 0} {N : ℕ} (B : Ghosts D N L) (tables : TableParts) (seal : Seal) where
-  pub carries_none : (a : DryMeter) (b : D) → Carries B tables seal a b [] a b
+  pub carries_none : (a : DryMeter) (b : D) → CarriesEvents B tables seal a b [] a b
   carries_none a b =
       record {
         stands = λ s m is h. h;
@@ -25,7 +25,8 @@ module _ {D L : Type 0} {N : ℕ} (B : Ghosts D N L) (tables : TableParts) (seal
       }
 
   pub carries_then : (es fs : List Event) (x : DryMeter) (a : D) (y : DryMeter) (b : D) (z : DryMeter) (c : D)
-      → Carries B tables seal x a es y b → Carries B tables seal y b fs z c → Carries B tables seal x a (es ++ fs) z c
+      → CarriesEvents B tables seal x a es y b → CarriesEvents B tables seal y b fs z c
+      → CarriesEvents B tables seal x a (es ++ fs) z c
   carries_then es fs x a y b z c first next = record {
     stands = λ s m is h. subst (λ (n : Meter). StandsWith s z.core.plain z.durable n) (sym (run_next s m es fs))
         (next.stands s (run s es m).next is (first.stands s m is h));
@@ -38,7 +39,8 @@ module _ {D L : Type 0} {N : ℕ} (B : Ghosts D N L) (tables : TableParts) (seal
   }
 
   pub breaks_later : (es fs : List Event) (x : DryMeter) (a : D) (y : DryMeter) (b c : D)
-      → Carries B tables seal x a es y b → BreaksOff B tables seal y b fs c → BreaksOff B tables seal x a (es ++ fs) c
+      → CarriesEvents B tables seal x a es y b → BreaksOff B tables seal y b fs c
+      → BreaksOff B tables seal x a (es ++ fs) c
   breaks_later es fs x a y b c first next = record {
     begun = λ told s m is h. subst (λ (p : List ℕ). Begins (B.printed a) (B.printed c) p) (sym (run_texts s m es fs))
         (begins_after (B.printed a) (B.printed b) (B.printed c) (shown_texts (run s es m).acts)

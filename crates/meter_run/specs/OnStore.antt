@@ -25,7 +25,7 @@ use Rattle.meter_model.specs.Setting.{Setting}
 use Rattle.meter_states.specs.Setting.{IsSettingOf}
 use Rattle.meter_model.specs.declared.act.Act.{Act}
 use Rattle.meter_run.specs.Deeds.{deeds_of, texts}
-use Rattle.meter_run.specs.Dry.{IsReady}
+use Rattle.meter_run.specs.Dry.{IsMeterReady}
 use Rattle.meter_run.specs.BetweenEvents.{StandsWith}
 use Rattle.meter_run.specs.Points.{GoesBy}
 use Rattle.meter_run.specs.Supply.{StaysOff}
@@ -87,11 +87,11 @@ module _ {D L : Type 0} {N : ℕ} (B : Ghosts D N L) where
   -- says by its clause `takes`
   abbrev pub Knows : TableParts → Seal → CachedCore → Option Known → D → Type 0
   Knows tables seal core None board = core.plain.operating ≡ Off
-  Knows tables seal core (Some known) board = IsReady tables seal core known.durable × Agrees tables known board
+  Knows tables seal core (Some known) board = IsMeterReady tables seal core known.durable × Agrees tables known board
 
   -- a meter is ready on a board for the next event if its tables and its seal are secured, its core is lawful, and it
   -- knows what it has to of the store
-  pub record IsReadyOn (tables : TableParts) (seal : Seal) (x : StoreMeter) (board : D) : Type 0 where
+  pub record IsMeterReadyOn (tables : TableParts) (seal : Seal) (x : StoreMeter) (board : D) : Type 0 where
     pub secured : IsSecured tables seal
     pub lawful : IsLawful tables seal x.core
     pub knows : Knows tables seal x.core x.known board
@@ -131,7 +131,7 @@ module _ {D L : Type 0} {N : ℕ} (B : Ghosts D N L) (tables : TableParts) (seal
   -- next event; the board stops amid the outcome, however the call ends; and the call has a cause
   pub record Attempts {T E : Type 0} (outcome : Setting → Meter → Outcome) (x : StoreMeter) (old : D)
       (result : Result T E) (y : StoreMeter) (new : D) : Type 0 where
-    pub ready : OnOk result (IsReadyOn B tables seal y new)
+    pub ready : OnOk result (IsMeterReadyOn B tables seal y new)
     pub carried : OnOk result (CarriesOut outcome x old y new)
     pub stopped : StopsAmid outcome x old new
     pub cause : HasCause (B.faults old) (B.faults new) result

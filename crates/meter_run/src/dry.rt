@@ -17,7 +17,7 @@ ghost use Rattle.totals_record.specs.Ranges.{IsDurable};
 ghost use Rattle.totals_record.specs.States.{first_state};
 ghost use Rattle.meter_run.specs.BetweenEvents.{StandsWith};
 ghost use Rattle.meter_run.specs.Commits.{AreFor, IsFor, after_act, after_acts};
-ghost use Rattle.meter_run.specs.Dry.{BreaksOff, Carries, IsReady};
+ghost use Rattle.meter_run.specs.Dry.{BreaksOff, CarriesEvents, IsMeterReady};
 ghost use Rattle.meter_run.specs.Texts.{shown_text, shown_texts};
 
 use crate::carrier::{Carrier, SealedTables};
@@ -96,7 +96,7 @@ fn step_or_resume<L: Ledger>(
     acts: &mut Acts,
     steps: &mut Steps<L>,
 )
-    requires ready { IsReady tables.now seal.now core.old durable.now }
+    requires ready { IsMeterReady tables.now seal.now core.old durable.now }
     requires timely { IsTimely event }
     requires empty { acts.old.items ≡ [] }
     ensures lawful { IsLawful tables.now seal.now core.new }
@@ -152,10 +152,10 @@ impl DryMeter {
         board: &mut B,
         steps: &mut Steps<L>,
     ) -> Result<(), Failed>
-        requires ready { IsReady tables.now seal.now self.old.core self.old.durable }
+        requires ready { IsMeterReady tables.now seal.now self.old.core self.old.durable }
         requires timely { IsTimely event }
-        ensures ready { OnOk result (IsReady tables.now seal.now self.new.core self.new.durable) }
-        ensures carried { OnOk result (Carries B.Board tables.now seal.now self.old board.old (event ∷ [])
+        ensures ready { OnOk result (IsMeterReady tables.now seal.now self.new.core self.new.durable) }
+        ensures carried { OnOk result (CarriesEvents B.Board tables.now seal.now self.old board.old (event ∷ [])
             self.new board.new) }
         ensures broke_off { OnErr result (BreaksOff B.Board tables.now seal.now self.old board.old (event ∷ [])
             board.new) }
@@ -170,12 +170,12 @@ impl DryMeter {
 }
 
 impl<B: Board<STORE_SIZE, L>, L: Ledger> Carrier<B, L> for DryMeter {
-    ghost use Rattle.meter_run.specs.Dry.{Carries, BreaksOff, IsReady};
+    ghost use Rattle.meter_run.specs.Dry.{CarriesEvents, BreaksOff, IsMeterReady};
     ghost use Rattle.meter_run.specs.DryLaws.{breaks_later, breaks_sooner, carries_none, carries_then};
 
-    ghost ready = { λ r meter board. IsReady r.tables.now r.seal.now meter.core meter.durable };
+    ghost ready = { λ r meter board. IsMeterReady r.tables.now r.seal.now meter.core meter.durable };
 
-    ghost carried = { λ r x a events y b. Carries B.Board r.tables.now r.seal.now x a events y b };
+    ghost carried = { λ r x a events y b. CarriesEvents B.Board r.tables.now r.seal.now x a events y b };
 
     ghost broke_off = { λ r x a events b. BreaksOff B.Board r.tables.now r.seal.now x a events b };
 

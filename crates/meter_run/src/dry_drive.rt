@@ -6,7 +6,7 @@ ghost use Rattle.outside.specs.Faults.{HasCause, MayRise, RisesOnlyIf, Rose};
 ghost use Rattle.meter_model.specs.Run.{ended};
 ghost use Rattle.taxi_units.specs.declared.event.Operating.TheVariants.{Off};
 ghost use Rattle.meter_run.specs.Drives.{IsBoundedByDrive, RunsDrive, answer_of};
-ghost use Rattle.meter_run.specs.Dry.{IsReady, Prints, PrintsSome};
+ghost use Rattle.meter_run.specs.Dry.{IsMeterReady, Prints, PrintsSome};
 
 use crate::carrier::SealedTables;
 use crate::drive::carry_drive;
@@ -71,7 +71,7 @@ fn drop_at_end<B: Board<STORE_SIZE, L>, L: Ledger>(
     board: &mut B,
     steps: &mut Steps<L>,
 ) -> Result<(), Failed>
-    requires ready { IsReady tables.now seal.now meter.old.core meter.old.durable }
+    requires ready { IsMeterReady tables.now seal.now meter.old.core meter.old.durable }
     ensures whole { OnOk result (Prints B.Board tables.now seal.now ended meter.old board.old board.new) }
     ensures begun { PrintsSome B.Board tables.now seal.now ended meter.old board.old board.new }
     ensures cause { HasCause (B.faults board.old) (B.faults board.new) result }

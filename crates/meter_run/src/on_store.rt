@@ -6,7 +6,7 @@ ghost use Rattle.taxi_units.specs.Time.{IsSecond};
 ghost use Rattle.taxi_units.specs.declared.event.Event.TheVariants.{Up};
 ghost use Rattle.taxi_units.specs.declared.event.Operating.TheVariants.{Off};
 ghost use Rattle.totals_record.specs.Ranges.{IsDurable};
-ghost use Rattle.meter_run.specs.OnStore.{Agrees, Attempts, IsReadyOn};
+ghost use Rattle.meter_run.specs.OnStore.{Agrees, Attempts, IsMeterReadyOn};
 ghost use Rattle.meter_run.specs.Supply.{StaysOff};
 
 use crate::carrier::{Carrier, SealedTables};
@@ -33,7 +33,7 @@ fn resume<B: Board<STORE_SIZE, L>, L: Ledger>(
     board: &mut B,
     steps: &mut Steps<L>,
 ) -> Result<(), Failed>
-    requires ready { IsReadyOn B.Board tables.now seal.now meter.old board.old }
+    requires ready { IsMeterReadyOn B.Board tables.now seal.now meter.old board.old }
     requires off { meter.old.core.plain.operating ≡ Off }
     requires range { IsDurable found.durable }
     requires agrees { Agrees B.Board tables.now found board.old }
@@ -61,7 +61,7 @@ fn power_up<B: Board<STORE_SIZE, L>, L: Ledger>(
     board: &mut B,
     steps: &mut Steps<L>,
 ) -> Result<(), Failed>
-    requires ready { IsReadyOn B.Board tables.now seal.now meter.old board.old }
+    requires ready { IsMeterReadyOn B.Board tables.now seal.now meter.old board.old }
     requires off { meter.old.core.plain.operating ≡ Off }
     requires second { IsSecond second }
     ensures attempts { Attempts B.Board tables.now seal.now (λ s m. step s (Up second) m) meter.old board.old result
@@ -92,7 +92,7 @@ impl StoreMeter {
         board: &mut B,
         steps: &mut Steps<L>,
     ) -> Result<(), Failed>
-        requires ready { IsReadyOn B.Board tables.now seal.now self.old board.old }
+        requires ready { IsMeterReadyOn B.Board tables.now seal.now self.old board.old }
         requires timely { IsTimely event }
         ensures attempts { Attempts B.Board tables.now seal.now (λ s m. step s event m) self.old board.old result
             self.new board.new }
@@ -115,11 +115,11 @@ impl StoreMeter {
 
 impl<B: Board<STORE_SIZE, L>, L: Ledger> Carrier<B, L> for StoreMeter {
     ghost use Rattle.meter_model.specs.Run.{run};
-    ghost use Rattle.meter_run.specs.OnStore.{CarriesEvents, IsReadyOn, StopsAmid};
+    ghost use Rattle.meter_run.specs.OnStore.{CarriesEvents, IsMeterReadyOn, StopsAmid};
     ghost use Rattle.meter_run.specs.StoreLaws.{amid_sooner};
     ghost use Rattle.meter_run.specs.SupplyLaws.{carried_later, carried_none, carried_then};
 
-    ghost ready = { λ r meter board. IsReadyOn B.Board r.tables.now r.seal.now meter board };
+    ghost ready = { λ r meter board. IsMeterReadyOn B.Board r.tables.now r.seal.now meter board };
 
     ghost carried = { λ r x a events y b. CarriesEvents B.Board r.tables.now r.seal.now events x a y b };
 

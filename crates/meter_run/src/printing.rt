@@ -2,7 +2,7 @@
 ghost use Rattle.std.specs.Prelude.{◌+◌, ◌<◌, ◌≤◌, length};
 ghost use Rattle.outside.specs.Disk.{piece_size};
 ghost use Rattle.receipt_text.specs.Receipts.{receipt_text};
-ghost use Rattle.receipt_text.specs.SealParts.{part_of};
+ghost use Rattle.receipt_text.specs.SealParts.{part_of_seal};
 ghost use Rattle.receipt_text.specs.Texts.{display_text, refusal_text};
 ghost use Rattle.seal_record.specs.Ranges.{IsSeal};
 ghost use Rattle.taxi_units.specs.Shown.{IsReceipt, IsShown};
@@ -66,7 +66,7 @@ pub(crate) fn print_receipt<B: Board<STORE_SIZE, L>, L: Ledger>(
 ) -> Result<(), Failed>
     requires receipt { IsReceipt receipt.now }
     requires seal { IsSeal seal.now }
-    ensures printed { PrintsText B.Board board.old (receipt_text receipt.now (part_of seal.now)) board.new result }
+    ensures printed { PrintsText B.Board board.old (receipt_text receipt.now (part_of_seal seal.now)) board.new result }
     ensures steps { steps.new ≤ steps.old + 1 }
 {
     let mut line = Line::new();

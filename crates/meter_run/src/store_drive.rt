@@ -7,7 +7,7 @@ ghost use Rattle.meter_model.specs.Run.{ended};
 ghost use Rattle.seal_record.specs.Ranges.{IsSeal};
 ghost use Rattle.taxi_units.specs.declared.event.Operating.TheVariants.{Off};
 ghost use Rattle.meter_run.specs.Drives.{IsBoundedByDrive};
-ghost use Rattle.meter_run.specs.OnStore.{CarriesOut, IsReadyOn, StopsAmid, WritesTotals};
+ghost use Rattle.meter_run.specs.OnStore.{CarriesOut, IsMeterReadyOn, StopsAmid, WritesTotals};
 ghost use Rattle.meter_run.specs.Runs.{EndsRun, LeavesPoints};
 
 use crate::carrier::SealedTables;
@@ -85,7 +85,7 @@ fn drop_at_end<B: Board<STORE_SIZE, L>, L: Ledger>(
     board: &mut B,
     steps: &mut Steps<L>,
 ) -> Result<(), Failed>
-    requires ready { IsReadyOn B.Board tables.now seal.now meter.old board.old }
+    requires ready { IsMeterReadyOn B.Board tables.now seal.now meter.old board.old }
     ensures carried { OnOk result (CarriesOut B.Board tables.now seal.now ended
         meter.old board.old meter.new board.new) }
     ensures stopped { StopsAmid B.Board tables.now seal.now ended meter.old board.old board.new }

@@ -5,7 +5,7 @@ ghost use Rattle.taxi_units.specs.Time.{last_tick, longest_trip};
 ghost use Rattle.taxi_units.specs.declared.event.Operating.TheVariants.{ForHire};
 ghost use Rattle.taxi_units.specs.declared.receipt.Kind.TheVariants.{Roam};
 ghost use Rattle.meter_states.specs.Acts.{IsLawfulAct, StayLawful};
-ghost use Rattle.meter_model.specs.Closing.{closed, entry_of, receipt_of, roaming_checked, roaming_entered};
+ghost use Rattle.meter_model.specs.Closing.{closed, entry_of_trip, receipt_of, roaming_checked, roaming_entered};
 ghost use Rattle.meter_model.specs.Closing.{trip_closed};
 ghost use Rattle.meter_states.specs.Core.{ComesToOutcome, core_of};
 ghost use Rattle.meter_states.specs.Lawful.{IsAmidEvent, IsBetweenEvents, IsPowered};
@@ -88,7 +88,7 @@ impl State {
         ensures ranges { StayLawful tables.now self.old.number acts.old.items acts.new.items }
         ensures follows { (s : Setting) (m : Meter) (t : model.MeterTrip) → IsTariffOf s tables.now
             → trip.now ≡ model.core_trip_of s t → self.old ≡ core_of s m
-            → ComesToOutcome s self.new acts.old.items acts.new.items (entered (entry_of s kind m.position t) m) }
+            → ComesToOutcome s self.new acts.old.items acts.new.items (entered (entry_of_trip s kind m.position t) m) }
     {
         acts.push(Act::Enter(entry(kind, self.position, trip, tables)));
         self.number += 1;

@@ -34,7 +34,7 @@ pub(crate) fn entry(kind: Kind, position: u8, trip: &CoreTrip, tables: &Tables) 
     requires position { (1 ≤ position) × (position ≤ 9) }
     requires kind { kind ≢ Roam }
     ensures value { (s : Setting) (t : trips.MeterTrip) → IsTariffOf s tables.now → trip.now ≡ trips.core_trip_of s t
-        → result ≡ model.entry_of s kind position t }
+        → result ≡ model.entry_of_trip s kind position t }
     ensures range { IsEntry result }
     ensures kind { result.kind ≡ kind }
 {

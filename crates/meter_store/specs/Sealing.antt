@@ -46,9 +46,9 @@ next_number None = 1
 next_number (Some number) = number + 1
 
 -- the totals after a sealing are those that were found, or the first ones, of zero and with number 1
-abbrev pub totals_after : (found : Option Durable) → Durable
-totals_after None = first_state
-totals_after (Some durable) = durable
+abbrev pub sealed_totals : (found : Option Durable) → Durable
+sealed_totals None = first_state
+sealed_totals (Some durable) = durable
 
 -- an image keeps totals if it has those that were found, or, if none were found, has none or the first ones
 abbrev pub StillHas : (found : Option Durable) → List ℕ → Type 0
@@ -57,7 +57,7 @@ StillHas (Some durable) image = HasState image durable
 
 -- an image is sealed if it has the totals after the sealing and the new seal
 pub record IsSealed (sealing : Sealing) (image : List ℕ) : Type 0 where
-  pub totals : HasState image (totals_after sealing.totals)
+  pub totals : HasState image (sealed_totals sealing.totals)
   pub seal : HasSeal image sealing.new
 
 -- an image is amid a sealing if the totals are kept, and the seal is the old one, or none as before, or the new one
@@ -126,7 +126,7 @@ module _ {D L : Type 0} {N : ℕ} (B : Ghosts D N L) where
   -- a board keeps what was sealed if both pairs are settled, the totals' with those that were found or the first
   -- ones, and the seals' with the new seal
   pub record HoldsSealing (found : Option Durable) (seal : Seal) (board : D) : Type 0 where
-    pub totals : (place : Place) × HoldsState B place board (totals_after found)
+    pub totals : (place : Place) × HoldsState B place board (sealed_totals found)
     pub seal_is : (place : Place) × HoldsSeal place board seal
 
   -- a run leaves a sealing if a cut at each of its moments leaves an image amid the sealing, and outside the places

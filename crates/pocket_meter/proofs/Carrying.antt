@@ -14,7 +14,7 @@ use Rattle.meter_model.specs.Run.{opened, run}
 use Rattle.meter_model.specs.Setting.{Setting}
 use Rattle.meter_states.specs.Setting.{IsSettingOf}
 use Rattle.meter_run.specs.BetweenEvents.{StandsWith}
-use Rattle.meter_run.specs.Dry.{Carries}
+use Rattle.meter_run.specs.Dry.{CarriesEvents}
 use Rattle.meter_run.specs.RunLaws.{run_next, run_texts}
 use Rattle.meter_run.specs.Texts.{shown_texts}
 use Rattle.meter_run.specs.declared.dry.DryMeter.{DryMeter}
@@ -36,7 +36,7 @@ fails_behind before mid now e (Err fault) wrong first cause =
 
 module _ {D L : Type 0} {N : ℕ} (B : Ghosts D N L) (tables : TableParts) (seal : Seal) where
   module _ (events : List Event) (i : ℕ) (d : Event) (h : i < length events) (y : DryMeter) (b : D) (z : DryMeter)
-      (c : D) (next : Carries B tables seal y b (get_or events i d ∷ []) z c) (s : Setting)
+      (c : D) (next : CarriesEvents B tables seal y b (get_or events i d ∷ []) z c) (s : Setting)
       (is : IsSettingOf s tables seal) (stands : StandsWith s y.core.plain y.durable
       (run s (take i events) (opened s first_state)).next) where
     -- a meter that stands for the state after some events stands for the one after the next event, too

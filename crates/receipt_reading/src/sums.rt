@@ -3,7 +3,7 @@ ghost use Rattle.std.specs.Prelude.{◌≡◌, ◌+◌, ◌^◌, ◌<◌, ◌≤
 ghost use Rattle.taxi_units.specs.Limits.{largest_supplements};
 ghost use Rattle.taxi_units.specs.Money.{largest_amount, largest_display_step};
 ghost use Rattle.taxi_units.specs.Reading.{Gives};
-ghost use Rattle.taxi_units.specs.Shown.{fare_of};
+ghost use Rattle.taxi_units.specs.Shown.{fare_of_receipt};
 ghost use Rattle.receipt_text.specs.Lines as spec;
 
 use crate::amounts::{amount_behind, amount_below};
@@ -15,7 +15,7 @@ use taxi_units::{LARGEST_AMOUNT, LARGEST_DISPLAY_STEP, LARGEST_SUPPLEMENTS, Rece
 pub fn has_amounts(receipt: &Receipt) -> bool
     ensures { IsTrue result ↔ ((receipt.now.initial ≤ largest_amount) × (receipt.now.minimum ≤ largest_amount)
         × (receipt.now.steps < 10 ^ 18) × (1 ≤ receipt.now.step) × (receipt.now.step ≤ largest_display_step)
-        × (receipt.now.supplements ≤ largest_supplements) × (receipt.now.fare ≡ fare_of receipt.now)) }
+        × (receipt.now.supplements ≤ largest_supplements) × (receipt.now.fare ≡ fare_of_receipt receipt.now)) }
 {
     receipt.initial <= LARGEST_AMOUNT
         && receipt.minimum <= LARGEST_AMOUNT
@@ -23,12 +23,12 @@ pub fn has_amounts(receipt: &Receipt) -> bool
         && 1 <= receipt.step
         && receipt.step <= LARGEST_DISPLAY_STEP
         && receipt.supplements <= LARGEST_SUPPLEMENTS
-        && receipt.fare as u128 == fare_of(receipt)
+        && receipt.fare as u128 == fare_of_receipt(receipt)
 }
 
 /// The fare that a receipt calculates.
-fn fare_of(receipt: &Receipt) -> u128
-    ensures { result ≡ fare_of receipt.now }
+fn fare_of_receipt(receipt: &Receipt) -> u128
+    ensures { result ≡ fare_of_receipt receipt.now }
 {
     let calculated = receipt.initial as u128 + receipt.steps as u128 * receipt.step as u128;
     calculated

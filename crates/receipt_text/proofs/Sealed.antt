@@ -2,9 +2,9 @@
 use Rattle.seal_record.specs.declared.seal.Seal.{Seal}
 use Rattle.seal_record.specs.Ranges.{IsSeal}
 use Rattle.receipt_text.specs.Part.{IsDigest, IsPart}
-use Rattle.receipt_text.specs.SealParts.{part_of}
+use Rattle.receipt_text.specs.SealParts.{part_of_seal}
 
-pub sealed_part : (seal : Seal) → IsSeal seal → IsDigest seal.digest → IsPart (part_of seal)
+pub sealed_part : (seal : Seal) → IsSeal seal → IsDigest seal.digest → IsPart (part_of_seal seal)
 sealed_part seal sealed digest = record {
   taxi = sealed.params.taxi;
   constant = sealed.params.constant;

@@ -4,7 +4,7 @@ ghost use Rattle.arrayvec.specs.ArrayVec.{array_vec_len};
 ghost use Rattle.taxi_units.specs.Line.{line_size};
 ghost use Rattle.receipt_text.specs.Part.{IsDigest, IsPart};
 ghost use Rattle.receipt_text.specs.Receipts.{day_text, part_text};
-ghost use Rattle.receipt_text.specs.SealParts.{part_of};
+ghost use Rattle.receipt_text.specs.SealParts.{part_of_seal};
 ghost use Rattle.seal_record.specs.Ranges.{IsDay, IsSeal};
 
 use crate::digest::hex_of;
@@ -38,9 +38,9 @@ impl Model for SealPart {
 
 /// What a receipt says of a seal.
 #[tactic(auto, using(crate::proofs::Sealed::sealed_part))]
-pub(crate) fn part_of(seal: &Seal) -> SealPart
+pub(crate) fn part_of_seal(seal: &Seal) -> SealPart
     requires { IsSeal seal.now }
-    ensures part { result ≡ part_of seal.now }
+    ensures part { result ≡ part_of_seal seal.now }
     ensures range { IsPart result }
 {
     recall(&seal.digest);

@@ -5,12 +5,12 @@ ghost use Rattle.taxi_units.specs.Line.{line_size};
 ghost use Rattle.taxi_units.specs.Shown.{IsReceipt};
 ghost use Rattle.seal_record.specs.Ranges.{IsDay, IsSeal};
 ghost use Rattle.receipt_text.specs.Receipts.{body_text, receipt_text};
-ghost use Rattle.receipt_text.specs.SealParts.{part_of};
+ghost use Rattle.receipt_text.specs.SealParts.{part_of_seal};
 ghost use Rattle.receipt_text.specs.Spelling.{IsSpelled};
 
 use crate::calculations::put_calculation;
 use crate::headings::put_heading;
-use crate::parts::{SealPart, part_of, put_part};
+use crate::parts::{SealPart, part_of_seal, put_part};
 use crate::sums::put_last_lines;
 use crate::trips::put_trip;
 use seal_record::Seal;
@@ -25,12 +25,12 @@ pub fn put_receipt(line: &mut Line, receipt: &Receipt, seal: &Seal) -> Result<()
     requires receipt { IsReceipt receipt.now }
     requires seal { IsSeal seal.now }
     ensures variant { IsOk result
-        ↔ (array_vec_len line.old + length (receipt_text receipt.now (part_of seal.now)) ≤ line_size) }
-    ensures ok { OnOk result (line.new.items ≡ line.old.items ++ receipt_text receipt.now (part_of seal.now)) }
+        ↔ (array_vec_len line.old + length (receipt_text receipt.now (part_of_seal seal.now)) ≤ line_size) }
+    ensures ok { OnOk result (line.new.items ≡ line.old.items ++ receipt_text receipt.now (part_of_seal seal.now)) }
     ensures err { OnErr result (line.new ≡ line.old) }
-    ensures grammar { IsSpelled (receipt_text receipt.now (part_of seal.now)) receipt.now (part_of seal.now) }
+    ensures grammar { IsSpelled (receipt_text receipt.now (part_of_seal seal.now)) receipt.now (part_of_seal seal.now) }
 {
-    let part = part_of(seal);
+    let part = part_of_seal(seal);
     put_part_receipt(line, receipt, &part)
 }
 

@@ -27,8 +27,9 @@ use Rattle.call_ends.specs.Course.{Course, Answered, ReadFailed, NoMemory, Board
 use Rattle.run_chains.specs.Link.{IsLeftInside, call_of, deeds_from, text_before}
 use Rattle.run_chains.specs.Chain.{Ran}
 use Rattle.run_chains.specs.ChainSteps.{HasLink}
-use Rattle.store_commands.specs.Opening.{opening_of}
-use Rattle.drive_commands.specs.Run.{IsOfTotals, IsRun, IsCutOfRun, Stands, Start, bytes_in, deeds_in, run_command}
+use Rattle.store_commands.specs.Opening.{opening_in}
+use Rattle.drive_commands.specs.Run.{IsOfTotals, IsRun, IsCutOfRun, StandsAfterRun, Start, bytes_in, deeds_in}
+use Rattle.drive_commands.specs.Run.{run_command}
 use Rattle.drive_commands.specs.Run.{start_of}
 use Rattle.call_ends.specs.declared.ending.Ended.{Ended}
 use Rattle.commands.specs.declared.words.Row.{Row}
@@ -58,10 +59,10 @@ pub record KeepsCommits (d : Durable) (commits : List Change) (image : List ℕ)
 
 module _ (image tariff : List ℕ) (d : Durable) (has : HasState image d) where
   -- the state that a run begins with is the image's
-  pub begins_with : (s : Start) → start_of (opening_of image) tariff ≡ Ok s → s.durable ≡ d
+  pub begins_with : (s : Start) → start_of (opening_in image) tariff ≡ Ok s → s.durable ≡ d
   begins_with s e = one_state image s.durable d (start_stands image tariff s e).0 has
 
-  pub keeps : (r : Result Start Ended) → start_of (opening_of image) tariff ≡ r → (bytes line i x : List ℕ)
+  pub keeps : (r : Result Start Ended) → start_of (opening_in image) tariff ≡ r → (bytes line i x : List ℕ)
       → IsCutOfRun (Unit {0}) image [] r bytes line i x
       → KeepsCommits d (changes_of (deeds_from r bytes)) i
   keeps (Err why) e bytes line i x m = record {
@@ -93,8 +94,8 @@ module _ (image tariff : List ℕ) (d : Durable) (has : HasState image d) where
   seal_same (Ok s) bytes line i x m = m.seal_stays
 
   -- if the run was carried out the number is that after all its commits
-  pub all_kept : (told : Type 0) (printed : List ℕ) (r : Result Start Ended) → start_of (opening_of image) tariff ≡ r
-      → (bytes now : List ℕ) → Stands told image printed r bytes now
+  pub all_kept : (told : Type 0) (printed : List ℕ) (r : Result Start Ended) → start_of (opening_in image) tariff ≡ r
+      → (bytes now : List ℕ) → StandsAfterRun told image printed r bytes now
       → (e : Durable) → HasState now e → e.number ≡ d.number + length (changes_of (deeds_from r bytes))
   all_kept told printed (Err why) f bytes now stands e found =
       let same : e ≡ d = one_state image e d (subst (λ (l : List ℕ). HasState l e) stands found) has in
@@ -191,7 +192,7 @@ module _ {D L : Type 0} {N : ℕ} (B : Ghosts D N L) (files left : FilesState) (
   image = B.image old
 
   abbrev begun : Result Start Ended
-  begun = start_of (opening_of image) (rest_of files 1)
+  begun = start_of (opening_in image) (rest_of files 1)
 
   abbrev bytes : List ℕ
   bytes = bytes_in run.call.course (rest_of files 2)

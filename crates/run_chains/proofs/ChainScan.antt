@@ -16,7 +16,7 @@ use Rattle.seal_record.specs.declared.seal.Seal.{Seal}
 use Rattle.seal_record.specs.Decoding as seals
 use Rattle.meter_store.specs.Sealing.{HasSeal}
 use Rattle.run_chains.specs.Chain.{IsSealedStore}
-use Rattle.store_commands.specs.Opening.{opened, opening_of, sealed_store}
+use Rattle.store_commands.specs.Opening.{opening_by, opening_in, sealed_store}
 use Rattle.store_commands.specs.declared.opening.Opening.{Opening}
 use Rattle.store_commands.specs.declared.opening.StoreFault.{StoreFault}
 
@@ -40,7 +40,7 @@ module _ (image : List ℕ) (d : Durable) (r : Result (Found Durable) SlotFault)
 -- ---- the opening of a store
 
 opened_parts : (t : Result (Found Durable) SlotFault) (l : Result (Found Seal) SlotFault) (opening : Opening)
-    → opened t l ≡ Ok opening → (t ≡ Ok opening.totals) × (l ≡ Ok opening.seal)
+    → opening_by t l ≡ Ok opening → (t ≡ Ok opening.totals) × (l ≡ Ok opening.seal)
 opened_parts (Err fault) l opening e = absurd cc
 opened_parts (Ok a) (Err fault) opening e = absurd cc
 opened_parts (Ok a) (Ok b) opening e =
@@ -70,7 +70,7 @@ by_parts image (Latest place d) Blank e f some = absurd (false≢true some)
 by_parts image (Latest place d) (Latest other seal) e f some =
     record { durable = d; seal = seal; totals = state_at image place d e; sealed = seal_at image other seal f }
 
-pub sealed_if : (image : List ℕ) (opening : Opening) → opening_of image ≡ Ok opening
+pub sealed_if : (image : List ℕ) (opening : Opening) → opening_in image ≡ Ok opening
     → is_some (sealed_store opening.totals opening.seal) ≡ true → IsSealedStore image
 sealed_if image opening e some =
     let parts = opened_parts (found_at totals.reads states.state_number_of 0 image)
@@ -79,17 +79,18 @@ sealed_if image opening e some =
 
 -- what is found of a store that is sealed
 pub opening_found : (image : List ℕ) (h : IsSealedStore image) → (place other : Place)
-    × (opening_of image ≡ Ok (record { totals = Latest place h.durable; seal = Latest other h.seal }))
+    × (opening_in image ≡ Ok (record { totals = Latest place h.durable; seal = Latest other h.seal }))
 opening_found image h =
     let t = body_found totals.reads states.state_number_of 0 image h.durable h.totals in
     let l = body_found seals.reads seals.seal_number_of 1024 image h.seal h.sealed in (
       t.0,
       l.0,
-      ap (λ (r : Result (Found Durable) SlotFault). opened r (found_at seals.reads seals.seal_number_of 1024 image)) t.1
-          ∙ ap (opened (Ok (Latest t.0 h.durable))) l.1,
+      ap (λ (r : Result (Found Durable) SlotFault). opening_by r
+          (found_at seals.reads seals.seal_number_of 1024 image)) t.1
+          ∙ ap (opening_by (Ok (Latest t.0 h.durable))) l.1,
     )
 
-pub sealed_then : (image : List ℕ) (opening : Opening) → opening_of image ≡ Ok opening → IsSealedStore image
+pub sealed_then : (image : List ℕ) (opening : Opening) → opening_in image ≡ Ok opening → IsSealedStore image
     → is_some (sealed_store opening.totals opening.seal) ≡ true
 sealed_then image opening e h =
     let found = opening_found image h in
@@ -97,5 +98,5 @@ sealed_then image opening e h =
     let same : record { totals = Latest found.0 h.durable; seal = Latest found.1 h.seal } ≡ opening = cc in
     ap (λ (x : Opening). is_some (sealed_store x.totals x.seal)) (sym same)
 
-pub sealed_not : (image : List ℕ) (fault : StoreFault) → opening_of image ≡ Err fault → IsSealedStore image → ⊥
+pub sealed_not : (image : List ℕ) (fault : StoreFault) → opening_in image ≡ Err fault → IsSealedStore image → ⊥
 sealed_not image fault e h = let found = (opening_found image h).2 in cc

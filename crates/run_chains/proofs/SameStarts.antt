@@ -38,7 +38,7 @@ use Rattle.same_tariffs.proofs.Laws.{events_of_drives_are_timely, same_tariffs_r
 use Rattle.same_tariffs.proofs.Laws.{same_tariffs_run_alike-outcomes, same_tariffs_run_alike-stores}
 use Rattle.meter_states.proofs.Laws.{the_store_has_what_the_acts_commit-run}
 use Rattle.drive_commands.specs.Fare.{drive_answer}
-use Rattle.store_commands.specs.Opening.{opening_of}
+use Rattle.store_commands.specs.Opening.{opening_in}
 use Rattle.drive_commands.specs.Run.{Start, accepted, deeds_in, run_answer, setting_in, start_of}
 use Rattle.run_chains.specs.SameRuns.{AreSameStarts, AreStartsAlike, DoTheSame, GoBySame, start_after}
 use Rattle.call_ends.specs.Tariffs.{checked_in, sound_in, tariff_in}
@@ -94,7 +94,7 @@ sealed-is false digest text t e = digest-is (pointwise nat_eq digest (sha256 tex
 
 -- ---- the setting of a run is in range
 
-setting-range : (image tariff : List ℕ) (a : Start) → start_of (opening_of image) tariff ≡ Ok a
+setting-range : (image tariff : List ℕ) (a : Start) → start_of (opening_in image) tariff ≡ Ok a
     → IsSettingInRange a.tree (setting_in a)
 setting-range image tariff a e =
     let h = found_in image tariff a e in
@@ -119,8 +119,8 @@ setting-range image tariff a e =
 others-same : (a b : Start) → GoBySame a b → record (setting_in a) { tariff = sound_of b.tree } ≡ setting_in b
 others-same a b same = ap (λ (x : Seal). setting_in (record b { seal = x })) same.seal
 
-settings-same : (image other tariff rewritten : List ℕ) (a b : Start) → start_of (opening_of image) tariff ≡ Ok a
-    → start_of (opening_of other) rewritten ≡ Ok b → GoBySame a b
+settings-same : (image other tariff rewritten : List ℕ) (a b : Start) → start_of (opening_in image) tariff ≡ Ok a
+    → start_of (opening_in other) rewritten ≡ Ok b → GoBySame a b
     → AreSameSettings a.tree b.tree (setting_in a) (setting_in b)
 settings-same image other tariff rewritten a b one second same = record {
   one = setting-range image tariff a one;
@@ -158,8 +158,8 @@ left a drive =
     the_store_has_what_the_acts_commit-run (setting_in a) a.durable (events_of drive)
     ∙ sym (after_is a.durable (acts_of a drive)) ∙ sym (after_deeds_of a.durable (acts_of a drive))
 
-module _ (image other tariff rewritten drive : List ℕ) (a b : Start) (one : start_of (opening_of image) tariff ≡ Ok a)
-    (second : start_of (opening_of other) rewritten ≡ Ok b) (alike : AreStartsAlike a b) where
+module _ (image other tariff rewritten drive : List ℕ) (a b : Start) (one : start_of (opening_in image) tariff ≡ Ok a)
+    (second : start_of (opening_in other) rewritten ≡ Ok b) (alike : AreStartsAlike a b) where
   settings : AreSameSettings a.tree b.tree (setting_in a) (setting_in b)
   settings = settings-same image other tariff rewritten a b one second alike.same
 
@@ -168,7 +168,7 @@ module _ (image other tariff rewritten drive : List ℕ) (a b : Start) (one : st
   outcomes = same_tariffs_run_alike-outcomes a.tree b.tree (setting_in a) (setting_in b) a.durable b.durable
       (events_of drive) settings (events_of_drives_are_timely drive) alike.goes_on alike.durable
 
-  pub same_answers : DoTheSame (start_of (opening_of image) tariff) (start_of (opening_of other) rewritten) a b drive
+  pub same_answers : DoTheSame (start_of (opening_in image) tariff) (start_of (opening_in other) rewritten) a b drive
   same_answers = record {
     first = ap (λ (r : Result Start Ended). run_answer r drive) one;
     second = ap (λ (r : Result Start Ended). run_answer r drive) second

@@ -8,7 +8,7 @@ use Rattle.meter_model.specs.declared.act.Act.{Act}
 use Rattle.meter_model.specs.declared.act.Act.TheVariants.{Show, Refuse, Enter, Hold, Receipt}
 use Rattle.meter_run.specs.Deeds.{Deed, Does, Prints, act_text, changes_of, deeds_of, texts}
 use Rattle.receipt_text.proofs.Laws.{differ_in_tariff}
-use Rattle.receipt_text.specs.SealParts.{part_of}
+use Rattle.receipt_text.specs.SealParts.{part_of_seal}
 use Rattle.run_chains.specs.SameRuns.{IsTextAlike}
 use Rattle.same_tariffs.specs.Alike.{AreActsAlike, IsActAlike}
 
@@ -55,7 +55,8 @@ alike-entries s t (x ∷ xs) [] same = absurd same
 
 -- a receipt differs in the line of the tariff alone, and any other deed has one text
 pub alike-deed : (a b : Seal) (deed : Deed) → record a { digest = b.digest } ≡ b → IsTextAlike a b deed
-alike-deed a b (Does (Receipt receipt)) same = differ_in_tariff receipt (part_of a) (part_of b) (ap part_of same)
+alike-deed a b (Does (Receipt receipt)) same = differ_in_tariff receipt (part_of_seal a) (part_of_seal b)
+    (ap part_of_seal same)
 alike-deed a b (Does (Show display)) same = refl
 alike-deed a b (Does (Refuse why)) same = refl
 alike-deed a b (Does (Enter entry)) same = refl

@@ -14,7 +14,7 @@ use Rattle.totals_record.specs.declared.durable_state.Durable.{Durable}
 use Rattle.meter_run.specs.Deeds.{Deed, changes_of}
 use Rattle.call_ends.specs.Call.{LeavesUnread, MayTake}
 use Rattle.call_ends.specs.Course.{Course, line_in, status_in, call_text}
-use Rattle.store_commands.specs.Opening.{opening_of}
+use Rattle.store_commands.specs.Opening.{opening_in}
 use Rattle.drive_commands.specs.Run.{IsOfTotals, IsCutOfRun, Start, bytes_in, deeds_in, run_command, start_of}
 use Rattle.call_ends.specs.declared.ending.Ended.{Ended}
 
@@ -57,7 +57,7 @@ deeds_from (Ok start) bytes = deeds_in start bytes
 module _ (image : List ℕ) (link : Link) where
   -- a run over an image begins with the start that the image and its tariff give, or is refused
   abbrev pub begun_with : Result Start Ended
-  begun_with = start_of (opening_of image) (rest_of link.files 1)
+  begun_with = start_of (opening_in image) (rest_of link.files 1)
 
   -- the bytes of its drive that a run carried out are the whole drive if it came to its answer, and else the bytes that
   -- were taken

@@ -8,7 +8,7 @@ use Rattle.totals_record.specs.States.{entries_of}
 use Rattle.meter_run.specs.Deeds.{Deed, Does, after_deeds, changes_of, deed_text, texts}
 use Rattle.meter_model.specs.declared.act.Act.TheVariants.{Receipt}
 use Rattle.receipt_text.specs.Receipts.{receipt_text}
-use Rattle.receipt_text.specs.SealParts.{part_of}
+use Rattle.receipt_text.specs.SealParts.{part_of_seal}
 use Rattle.receipt_text.specs.TariffLine.{DifferInTariff}
 use Rattle.seal_record.specs.declared.seal.Seal.{Seal}
 use Rattle.drive_commands.specs.Fare.{drive_answer}
@@ -38,7 +38,7 @@ pub record AreStartsAlike (a b : Start) : Type 0 where
 -- tariff alone, in which each seal's digest stands
 abbrev pub IsTextAlike : (a b : Seal) → Deed → Type 0
 IsTextAlike a b (Does (Receipt receipt)) =
-    DifferInTariff a.digest b.digest (receipt_text receipt (part_of a)) (receipt_text receipt (part_of b))
+    DifferInTariff a.digest b.digest (receipt_text receipt (part_of_seal a)) (receipt_text receipt (part_of_seal b))
 IsTextAlike a b deed = deed_text b deed ≡ deed_text a deed
 
 -- two runs over a drive do the same if each answers with the texts of the first one's deeds under its own seal, whose

@@ -2,7 +2,7 @@
 //! same.
 ghost use Rattle.std.specs.Prelude.{◌≡◌, ℕ, List, Ok};
 ghost use Rattle.meter_run.specs.Deeds.{Deed};
-ghost use Rattle.store_commands.specs.Opening.{opening_of};
+ghost use Rattle.store_commands.specs.Opening.{opening_in};
 ghost use Rattle.drive_commands.specs.Run.{Start, start_of};
 ghost use Rattle.run_chains.specs.SameRuns.{AreSameStarts, AreStartsAlike, DoTheSame, IsTextAlike, start_after};
 
@@ -15,10 +15,10 @@ ghost use Rattle.run_chains.specs.SameRuns.{AreSameStarts, AreStartsAlike, DoThe
 pub fn same_tariffs_print_the_same()
     ensures begins { (a b : Start) → AreSameStarts a b → AreStartsAlike a b }
     ensures answers { (image other tariff rewritten drive : List ℕ) (a b : Start)
-        → start_of (opening_of image) tariff ≡ Ok a → start_of (opening_of other) rewritten ≡ Ok b → AreStartsAlike a b
-        → DoTheSame (start_of (opening_of image) tariff) (start_of (opening_of other) rewritten) a b drive }
+        → start_of (opening_in image) tariff ≡ Ok a → start_of (opening_in other) rewritten ≡ Ok b → AreStartsAlike a b
+        → DoTheSame (start_of (opening_in image) tariff) (start_of (opening_in other) rewritten) a b drive }
     ensures texts { (a b : Start) (deed : Deed) → AreStartsAlike a b → IsTextAlike a.seal b.seal deed }
     ensures goes_on { (image other tariff rewritten drive : List ℕ) (a b : Start)
-        → start_of (opening_of image) tariff ≡ Ok a → start_of (opening_of other) rewritten ≡ Ok b → AreStartsAlike a b
+        → start_of (opening_in image) tariff ≡ Ok a → start_of (opening_in other) rewritten ≡ Ok b → AreStartsAlike a b
         → AreStartsAlike (start_after a drive) (start_after b drive) }
 {}

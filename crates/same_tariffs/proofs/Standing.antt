@@ -9,7 +9,7 @@ use Rattle.taxi_units.specs.declared.receipt.Receipt as receipts
 use Rattle.totals_record.specs.Entries.{closes}
 use Rattle.totals_record.specs.declared.entry.Entry.{Entry}
 use Rattle.totals_record.specs.declared.trip.Trip.{Trip}
-use Rattle.meter_model.specs.Closing.{closed, entry_of, receipt_of, trip_closed}
+use Rattle.meter_model.specs.Closing.{closed, entry_of_trip, receipt_of, trip_closed}
 use Rattle.meter_model.specs.Interval.{context_on, ticks_so_far}
 use Rattle.meter_model.specs.Meter.{Meter, Outcome, entered, held, printed, quiet, refused}
 use Rattle.meter_model.specs.Setting.{Setting}
@@ -170,7 +170,8 @@ module _ {s t : Setting} where
   closed-by kind finish (Some a) None m trip hold trips x = absurd trips
   closed-by kind finish (Some a) (Some b) m trip hold trips x =
       let entry = entry-alike s t kind m.position a b x.agree trips in
-      let first = entered-alike (entry_of s kind m.position a) (entry_of t kind m.position b) entry m trip hold x in
+      let first = entered-alike (entry_of_trip s kind m.position a)
+          (entry_of_trip t kind m.position b) entry m trip hold x in
       let number = m.durable.number + 1 in
       let last = printed-alike (receipt_of s kind finish m.position a number)
       (receipt_of t kind finish m.position b number)

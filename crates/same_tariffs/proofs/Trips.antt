@@ -10,7 +10,7 @@ use Rattle.totals_record.specs.declared.trip.Trip.{Trip}
 use Rattle.drive_modes.specs.Distance.{millimetres_of}
 use Rattle.tariff_check.specs.SoundTariff.{supplement_numbered}
 use Rattle.tariff_check.specs.declared.values.Initial.{Initial}
-use Rattle.meter_model.specs.Closing.{entry_of, receipt_of}
+use Rattle.meter_model.specs.Closing.{entry_of_trip, receipt_of}
 use Rattle.meter_model.specs.Display.{display_of, extras_shown, fare_shown}
 use Rattle.meter_model.specs.Interval.{pulses_so_far, ticks_so_far}
 use Rattle.meter_model.specs.Meter.{Meter}
@@ -213,7 +213,7 @@ opened-both s t (Some a) None agree same = absurd same
 -- ---- what is shown and entered of them
 
 pub entry-alike : (s t : Setting) (kind : Kind) (position : ℕ) (a b : MeterTrip) → Agree s t → AreTripsAlike s t a b
-    → entry_of s kind position a ≡ entry_of t kind position b
+    → entry_of_trip s kind position a ≡ entry_of_trip t kind position b
 entry-alike s t kind position a b agree same =
     let constant = agree.constant in
     let roam : millimetres_of s.constant a.roam ≡ millimetres_of t.constant b.roam =

@@ -26,7 +26,7 @@ use Rattle.seal_record.specs.Decoding as seals
 use Rattle.seal_record.specs.Limits.{last_seal_number}
 use Rattle.meter_store.specs.Sealing.{FoundSeal, IsAmid, IsSealed, HoldsSealing, StillHas, LeavesSealing, ScannedSeal}
 use Rattle.meter_store.specs.Sealing.{Sealing, ShowsSeal, first_written, found_number, next_number, old_seal}
-use Rattle.meter_store.specs.Sealing.{places_written, seal_found, seals_at, totals_after, totals_found}
+use Rattle.meter_store.specs.Sealing.{places_written, seal_found, seals_at, sealed_totals, totals_found}
 use Rattle.slot_store.specs.Sizes.{pair_size}
 use Rattle.meter_store.proofs.Laws.{seal_is_found}
 use Rattle.call_ends.specs.declared.ending.Ended.{Ended}
@@ -37,7 +37,7 @@ use Rattle.store_commands.specs.declared.opening.StoreFault.TheVariants as store
 use Rattle.store_commands.specs.declared.seal.Base.{Base}
 use Rattle.call_ends.specs.Call.{IsEnd}
 use Rattle.call_ends.specs.LastLine.{line_of, sealed_line, status_of}
-use Rattle.store_commands.specs.Opening.{opened, opening_of}
+use Rattle.store_commands.specs.Opening.{opening_by, opening_in}
 use Rattle.store_commands.specs.Seal.{HasSealed, MayLeaveSealing, Seals, ShowsByteOf, TotalsStay, over_seal}
 use Rattle.store_commands.specs.Seal.{over_totals, seal_read}
 use Rattle.store_commands.specs.Seal.{sealing_of, sealing_over, sealing_with}
@@ -94,7 +94,7 @@ shows_seal image (Latest place seal) is = at_stands seals.reads seals.seal_numbe
 amid_found : (image tariff params : List ℕ) (t : Result (Found Durable) SlotFault)
     (l : Result (Found Seal) SlotFault) (s : Sealing)
     → IsAnswer totals.reads states.state_number_of 0 image t → IsAnswer seals.reads seals.seal_number_of 1024 image l
-    → sealing_of (opened t l) tariff params ≡ Ok s → IsAmid s image
+    → sealing_of (opening_by t l) tariff params ≡ Ok s → IsAmid s image
 amid_found image tariff params (Err fault) l s one two e = absurd cc
 amid_found image tariff params (Ok found) (Err fault) s one two e = absurd cc
 amid_found image tariff params (Ok found) (Ok seal) s one two e =
@@ -108,10 +108,10 @@ amid_found image tariff params (Ok found) (Ok seal) s one two e =
 -- so it may be left, with a text in which no byte of the line stands
 cut_already : (image tariff params printed text : List ℕ)
     → ((number : ℕ) → ¬ (ShowsByteOf (sealed_line number) printed text))
-    → MayLeaveSealing (sealing_of (opening_of image) tariff params) image printed image text
-cut_already image tariff params printed text unseen = by (sealing_of (opening_of image) tariff params) refl
+    → MayLeaveSealing (sealing_of (opening_in image) tariff params) image printed image text
+cut_already image tariff params printed text unseen = by (sealing_of (opening_in image) tariff params) refl
   where
-    by : (r : Result Sealing Ended) → sealing_of (opening_of image) tariff params ≡ r
+    by : (r : Result Sealing Ended) → sealing_of (opening_in image) tariff params ≡ r
         → MayLeaveSealing r image printed image text
     by (Err end) is = refl
     by (Ok s) is = record {
@@ -127,7 +127,7 @@ cut_already image tariff params printed text unseen = by (sealing_of (opening_of
     }
 
 cut_still : (image tariff params printed : List ℕ)
-    → MayLeaveSealing (sealing_of (opening_of image) tariff params) image printed image printed
+    → MayLeaveSealing (sealing_of (opening_in image) tariff params) image printed image printed
 cut_still image tariff params printed =
     cut_already image tariff params printed printed (λ number. not_shown number printed printed refl)
 
@@ -150,7 +150,7 @@ module _ {D L : Type 0} {N : ℕ} (B : Ghosts D N L) where
 
   -- the sealing of the old board's image with a tariff's text and a parameter text
   abbrev Made : D → (tariff params : List ℕ) → Result Sealing Ended
-  Made old tariff params = sealing_of (opening_of (B.image old)) tariff params
+  Made old tariff params = sealing_of (opening_in (B.image old)) tariff params
 
   -- nothing was written
   pub seals-read : (tariff params : List ℕ) (fails : Type 0) (old new : D) (status : ℕ) → status ≢ 0
@@ -170,7 +170,7 @@ module _ {D L : Type 0} {N : ℕ} (B : Ghosts D N L) where
   -- a cut while another line is printed, and while one is printed and nothing is sealed
   rests-read : (tariff params image printed line : List ℕ) (new : D) → B.image new ≡ image → B.printed new ≡ printed
       → NothingFlies B new → get_or line 0 0 ≢ 83
-      → RestsAmid B (sealing_of (opening_of image) tariff params) image printed line new
+      → RestsAmid B (sealing_of (opening_in image) tariff params) image printed line new
   rests-read tariff params image printed line new same text settled other left x held begun =
       let is : left ≡ image = same_left image left new same settled held in
       rw is (cut_already image tariff params printed x (λ number. other_line line other number printed x
@@ -186,21 +186,21 @@ module _ {D L : Type 0} {N : ℕ} (B : Ghosts D N L) where
   -- no seal was made of the texts
   pub rests-no_seal : (tariff params image printed : List ℕ) (opening : Opening) (b : Result Base Ended) (base : Base)
       (read_failed : ℕ → Type 0) (new : D)
-      → opening_of image ≡ Ok opening → b ≡ Ok base → b ≡ over_totals opening.totals opening.seal
+      → opening_in image ≡ Ok opening → b ≡ Ok base → b ≡ over_totals opening.totals opening.seal
       → B.image new ≡ image → B.printed new ≡ printed
       → NothingFlies B new → (end : Ended)
       → IsNoSeal (next_number (found_number base.found)) base.decimals tariff params read_failed end
-      → RestsAmid B (sealing_of (opening_of image) tariff params) image printed (line_of end) new
+      → RestsAmid B (sealing_of (opening_in image) tariff params) image printed (line_of end) new
   rests-no_seal tariff params image printed opening b base read_failed new e is answer same text settled = by
     where
       refused : (end : Ended) → seal_read (next_number (found_number base.found)) base.decimals tariff params ≡ Err end
-          → RestsAmid B (sealing_of (opening_of image) tariff params) image printed (line_of end) new
+          → RestsAmid B (sealing_of (opening_in image) tariff params) image printed (line_of end) new
       refused end h =
-          rests-refused (sealing_of (opening_of image) tariff params) end image printed (line_of end) new
-          (sealing-over (opening_of image) opening base tariff params (Err end) e (sym answer ∙ is) h) same settled
+          rests-refused (sealing_of (opening_in image) tariff params) end image printed (line_of end) new
+          (sealing-over (opening_in image) opening base tariff params (Err end) e (sym answer ∙ is) h) same settled
 
       by : (end : Ended) → IsNoSeal (next_number (found_number base.found)) base.decimals tariff params read_failed end
-          → RestsAmid B (sealing_of (opening_of image) tariff params) image printed (line_of end) new
+          → RestsAmid B (sealing_of (opening_in image) tariff params) image printed (line_of end) new
       by ended.ReadFault h =
           rests-read tariff params image printed (line_of ended.ReadFault) new same text settled read_fault_other
       by ended.NoMemory h =
@@ -242,7 +242,7 @@ module _ {D L : Type 0} {N : ℕ} (B : Ghosts D N L) where
   -- the same of what was opened, its base and the seal that was read
   pub seals-over : (tariff params : List ℕ) (r : Result Opening StoreFault) (opening : Opening) (b : Result Base Ended)
       (base : Base) (number : ℕ) (seal : Seal) (old mid new : D) (status : ℕ)
-      → r ≡ Ok opening → (¬ (r ≡ Err stores.BoardFault) → r ≡ opening_of (B.image old)) → b ≡ Ok base
+      → r ≡ Ok opening → (¬ (r ≡ Err stores.BoardFault) → r ≡ opening_in (B.image old)) → b ≡ Ok base
       → b ≡ over_totals opening.totals opening.seal → number ≡ next_number (found_number base.found)
       → seal_read number base.decimals tariff params ≡ Ok seal → base.found ≡ seal_found opening.seal
       → ScannedSeal B mid opening.seal
@@ -265,7 +265,7 @@ module _ {D L : Type 0} {N : ℕ} (B : Ghosts D N L) where
       → SameBut (B.in_flight board) (B.image board) image → IsSealed s image
   sealed_left s board h image same = record {
     totals = stays_settled totals.reads states.state_number_of 0 h.totals.0 (B.image board) image (B.in_flight board)
-        (totals_after s.totals) h.totals.1 same;
+        (sealed_totals s.totals) h.totals.1 same;
     seal = stays_settled seals.reads seals.seal_number_of 1024 h.seal_is.0 (B.image board) image
         (B.in_flight board) s.new h.seal_is.1 same;
   }
@@ -284,7 +284,7 @@ module _ {D L : Type 0} {N : ℕ} (B : Ghosts D N L) where
         rest = λ place apart. writes.rest.rest place (⊎_elim (settled place) apart);
       })
 
-  kept_totals : (found : Option Durable) (image : List ℕ) → states.HasState image (totals_after found)
+  kept_totals : (found : Option Durable) (image : List ℕ) → states.HasState image (sealed_totals found)
       → StillHas found image
   kept_totals None image h = inr h
   kept_totals (Some durable) image h = h
@@ -358,8 +358,8 @@ module _ {D L : Type 0} {N : ℕ} (B : Ghosts D N L) where
 
   -- if nothing was in flight before the call
   pub seals-settled : (tariff params : List ℕ) (old new : D) (status : ℕ) → NothingFlies B old
-      → Seals B (sealing_of (opening_of (B.image old)) tariff params) old new status
-      → LeavesOnly B old new (Amid (sealing_of (opening_of (B.image old)) tariff params) old)
+      → Seals B (sealing_of (opening_in (B.image old)) tariff params) old new status
+      → LeavesOnly B old new (Amid (sealing_of (opening_in (B.image old)) tariff params) old)
   seals-settled tariff params old new status settled h =
-      settled_already B (Amid (sealing_of (opening_of (B.image old)) tariff params) old) (status ≡ 8) old new settled
+      settled_already B (Amid (sealing_of (opening_in (B.image old)) tariff params) old) (status ≡ 8) old new settled
       (cut_still (B.image old) tariff params (B.printed old)) h.leaves

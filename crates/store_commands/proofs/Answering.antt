@@ -10,13 +10,13 @@ use Rattle.call_ends.specs.Course.{Command, Answered, BoardFailed}
 use Rattle.call_ends.specs.Ending.{EndsByCourse}
 use Rattle.store_commands.specs.Opened.{IsBarred}
 use Rattle.call_ends.specs.LastLine.{refused_as, status_of}
-use Rattle.call_ends.specs.Stream.{Takes, bad_status}
+use Rattle.call_ends.specs.Stream.{TakesBytes, bad_status}
 use Rattle.store_commands.proofs.Barring.{owed-barred}
 use Rattle.call_ends.proofs.Laws as streams
 
 module _ (c : Command) (contents left : ℕ → List ℕ) (image : List ℕ) (read_failed : ℕ → Type 0) (failed told : Type 0)
     (before now : List ℕ)
-    (untouched : Takes c.drive contents left []) (still : now ≡ before) where
+    (untouched : TakesBytes c.drive contents left []) (still : now ≡ before) where
   abbrev pub Stopped : Ended → Type 0
   Stopped end = EndsByCourse c contents left image read_failed failed (λ text. told → now ≡ before ++ text)
       (λ text. told → Begins before now text) end

@@ -21,7 +21,7 @@ use Rattle.call_ends.specs.declared.ending.Ended.TheVariants as ended
 use Rattle.store_commands.specs.declared.opening.Opening.{Opening}
 use Rattle.store_commands.specs.declared.opening.StoreFault.TheVariants.{BoardFault}
 use Rattle.store_commands.specs.Opened.{OnlyOpens}
-use Rattle.store_commands.specs.Opening.{fault_from, opened, opening_of, sealed_or, sealed_store, store_of}
+use Rattle.store_commands.specs.Opening.{fault_from, opening_by, opening_in, sealed_or, sealed_store, store_of}
 use Rattle.call_ends.proofs.Laws.{same_fault, no_fault}
 use Rattle.slot_store.specs.declared.pair.Place.{Place}
 
@@ -33,16 +33,16 @@ failed_from first slots.DeviceFailed e = refl
 
 -- the opening of an image, by what the scans of its pairs answer
 pub opened_bad : (image : List ℕ) (fault : SlotFault) → found_at totals.reads states.state_number_of 0 image ≡ Err fault
-    → opening_of image ≡ Err (fault_from 0 fault)
+    → opening_in image ≡ Err (fault_from 0 fault)
 opened_bad image fault e =
-    ap (λ (x : Result (Found Durable) SlotFault). opened x (found_at seals.reads seals.seal_number_of 1024 image)) e
+    ap (λ (x : Result (Found Durable) SlotFault). opening_by x (found_at seals.reads seals.seal_number_of 1024 image)) e
 
 pub opened_by : (image : List ℕ) (durable : Found Durable) (seal : Result (Found Seal) SlotFault)
     → found_at totals.reads states.state_number_of 0 image ≡ Ok durable
-    → found_at seals.reads seals.seal_number_of 1024 image ≡ seal → opening_of image ≡ opened (Ok durable) seal
+    → found_at seals.reads seals.seal_number_of 1024 image ≡ seal → opening_in image ≡ opening_by (Ok durable) seal
 opened_by image durable seal e f =
-    ap (λ (x : Result (Found Durable) SlotFault). opened x (found_at seals.reads seals.seal_number_of 1024 image)) e
-    ∙ ap (opened (Ok durable)) f
+    ap (λ (x : Result (Found Durable) SlotFault). opening_by x (found_at seals.reads seals.seal_number_of 1024 image)) e
+    ∙ ap (opening_by (Ok durable)) f
 
 -- what was found stays while the image does, and no more is in flight
 pub stays_found : {T : Type 0} (reads : List ℕ → Option T) (number_of : T → ℕ) (at : ℕ) (old new : List ℕ)
@@ -58,8 +58,8 @@ stays_found reads number_of at old new flown flying (Latest place body) e fewer 
 
 -- the store of an image, by what was opened
 pub store_opened : (image : List ℕ) (opening : Opening) (found : Option (Durable × Seal))
-    → Ok opening ≡ opening_of image
-    → found ≡ sealed_store opening.totals opening.seal → store_of (opening_of image) ≡ sealed_or found
+    → Ok opening ≡ opening_in image
+    → found ≡ sealed_store opening.totals opening.seal → store_of (opening_in image) ≡ sealed_or found
 store_opened image opening found e f = ap store_of (sym e) ∙ ap sealed_or (sym f)
 
 -- an opening, if what fails is known by another name

@@ -16,7 +16,7 @@ use Rattle.call_ends.specs.Course.{Answered, ReadFailed, BoardFailed}
 use Rattle.call_ends.specs.Ending.{EndsByCourse}
 use Rattle.store_commands.specs.StoreEnds.{ended_serving}
 use Rattle.call_ends.specs.LastLine.{line_of, status_of}
-use Rattle.store_commands.specs.Opening.{opening_of, store_of}
+use Rattle.store_commands.specs.Opening.{opening_in, store_of}
 use Rattle.store_commands.specs.Port.{port_answer, port_command, replies_over, requests_answer}
 
 -- the status of requests that end so
@@ -32,7 +32,7 @@ left_whole stream taken left shows e = subst (λ (reached : StreamEnd). ShowsEnd
 
 module _ (contents left : ℕ → List ℕ) (image : List ℕ) (read_failed : ℕ → Type 0) (failed told : Type 0)
     (before now : List ℕ)
-    (durable : Durable) (seal : Seal) (store : store_of (opening_of image) ≡ Ok (durable, seal)) where
+    (durable : Durable) (seal : Seal) (store : store_of (opening_in image) ≡ Ok (durable, seal)) where
   abbrev Here : Ended → Type 0
   Here end = EndsByCourse port_command contents left image read_failed failed (λ text. told → now ≡ before ++ text)
       (λ text. told → Begins before now text) end
@@ -40,11 +40,11 @@ module _ (contents left : ℕ → List ℕ) (image : List ℕ) (read_failed : �
   abbrev Shown : List ℕ
   Shown = replies durable seal (requests_of (contents 1))
 
-  answer_is : port_answer (store_of (opening_of image)) (contents 1) ≡ requests_answer Shown (stream_end (contents 1))
+  answer_is : port_answer (store_of (opening_in image)) (contents 1) ≡ requests_answer Shown (stream_end (contents 1))
   answer_is = ap (λ (r : Result (Durable × Seal) Ended). port_answer r (contents 1)) store
 
   shown_is : (taken : List ℕ)
-      → replies_over (store_of (opening_of image)) taken ≡ replies durable seal (requests_in taken)
+      → replies_over (store_of (opening_in image)) taken ≡ replies durable seal (requests_in taken)
   shown_is taken = ap (λ (r : Result (Durable × Seal) Ended). replies_over r taken) store
 
   -- the requests were served to their end
@@ -53,7 +53,7 @@ module _ (contents left : ℕ → List ℕ) (image : List ℕ) (read_failed : �
       → (requests_answer Shown reached).shown ≡ Shown → Here end
   to_end end reached h status line shown =
       let e = answer_is ∙ ap (requests_answer Shown) h.ends.ends.end_is in
-      let status_at : (port_answer (store_of (opening_of image)) (contents 1)).status
+      let status_at : (port_answer (store_of (opening_in image)) (contents 1)).status
       ≡ (requests_answer Shown reached).status =
       ap (λ (a : Answer). a.status) e in
       record {

@@ -20,10 +20,10 @@ use Rattle.call_ends.specs.Call.{LeavesUnread}
 use Rattle.call_ends.specs.Course.{Answered, NoMemory, ReadFailed}
 use Rattle.call_ends.specs.Ending.{EndsByCourse}
 use Rattle.call_ends.specs.LastLine.{sealed_line, status_of}
-use Rattle.store_commands.specs.Opening.{opening_of, store_ended}
+use Rattle.store_commands.specs.Opening.{opening_in, store_ended}
 use Rattle.store_commands.specs.Seal.{HasDecimals, are_decimals, IsSealable, base_in, over_totals, seal_answer}
 use Rattle.store_commands.specs.Seal.{seal_command, seal_read, sealing_of, sealing_over, sealing_with, where_decimals}
-use Rattle.store_commands.specs.Seal.{with_params, with_tariff}
+use Rattle.store_commands.specs.Seal.{with_params, seal_with_tariff}
 use Rattle.store_commands.specs.SealSteps.{IsNoSeal, IsNoTariff}
 use Rattle.store_commands.proofs.Answering.{course-refusal, none}
 use Rattle.call_ends.specs.Tariffs.{tariff_in}
@@ -37,9 +37,9 @@ pub no_seal-tariff : (number : ℕ) (found : Option ℕ) (tariff params : List �
     → IsNoSeal number found tariff params read_failed end
 no_seal-tariff number found tariff params read_failed ended.NoMemory h = tt
 no_seal-tariff number found tariff params read_failed (ended.BadTariff why) h =
-    ap (λ (r : Result Tree Refusal). with_tariff number found (sha256 tariff) r (params_read params)) h
+    ap (λ (r : Result Tree Refusal). seal_with_tariff number found (sha256 tariff) r (params_read params)) h
 no_seal-tariff number found tariff params read_failed (ended.OtherDecimals one own) h =
-    ap (λ (r : Result Tree Refusal). with_tariff number found (sha256 tariff) r (params_read params)) h.1
+    ap (λ (r : Result Tree Refusal). seal_with_tariff number found (sha256 tariff) r (params_read params)) h.1
     ∙ ap (λ (r : Result (Unit {0}) Ended). where_decimals r
     (with_params number (sha256 tariff) h.0.decimals (params_read params))) h.2
 no_seal-tariff number found tariff params read_failed end h = absurd h
@@ -93,13 +93,13 @@ sealing-over r opening base tariff text s e f g =
 -- what was opened, its base and the seal that was read make a sealing
 pub sealing-made : (image tariff text : List ℕ) (r : Result Opening StoreFault) (opening : Opening)
     (b : Result Base Ended) (base : Base) (number : ℕ) (seal : Seal) → r ≡ Ok opening
-    → (¬ (r ≡ Err stores.BoardFault) → r ≡ opening_of image) → b ≡ Ok base → b ≡ over_totals opening.totals opening.seal
+    → (¬ (r ≡ Err stores.BoardFault) → r ≡ opening_in image) → b ≡ Ok base → b ≡ over_totals opening.totals opening.seal
     → number ≡ next_number (found_number base.found)
-    → seal_read number base.decimals tariff text ≡ Ok seal → sealing_of (opening_of image) tariff text
+    → seal_read number base.decimals tariff text ≡ Ok seal → sealing_of (opening_in image) tariff text
     ≡ Ok (record { totals = base.totals; old = old_seal opening.seal; new = seal })
 sealing-made image tariff text r opening b base number seal is exact based answer counted read =
-    sealing-over (opening_of image) opening base tariff text (Ok seal)
-    (as_found r (opening_of image) opening stores.BoardFault is exact) (sym answer ∙ based)
+    sealing-over (opening_in image) opening base tariff text (Ok seal)
+    (as_found r (opening_in image) opening stores.BoardFault is exact) (sym answer ∙ based)
     (subst (λ (n : ℕ). seal_read n base.decimals tariff text ≡ Ok seal) counted read)
 
 -- the statuses of refusals
@@ -128,11 +128,11 @@ not_0-store stores.BoardFault = λ z. absurd cc
 
 -- what is left unread if the store may be sealed
 pub unread-sealing : (contents left : ℕ → List ℕ) (image : List ℕ) (opening : Opening) (b : Result Base Ended)
-    (base : Base) → opening_of image ≡ Ok opening → b ≡ Ok base → b ≡ over_totals opening.totals opening.seal
+    (base : Base) → opening_in image ≡ Ok opening → b ≡ Ok base → b ≡ over_totals opening.totals opening.seal
     → ((other : ℕ) → other ≢ 1 → ¬ ((other ≡ 2) × HasDecimals base.decimals (contents 1)) → left other ≡ contents other)
     → LeavesUnread seal_command contents left image
 unread-sealing contents left image opening b base e is answer read word never =
-    let based : base_in (opening_of image) ≡ Ok base = ap base_in e ∙ sym answer ∙ is in
+    let based : base_in (opening_in image) ≡ Ok base = ap base_in e ∙ sym answer ∙ is in
     read word (λ is. never [] (inl (is, record { base = base; is = based })))
     (λ h. never [] (inr (h.0, record { base = base; is = based; fits = h.1 })))
 
@@ -142,14 +142,14 @@ module _ (contents left : ℕ → List ℕ) (image : List ℕ) (read_failed : �
   Ends end = EndsByCourse seal_command contents left image read_failed failed (λ text. told → now ≡ before ++ text)
       (λ text. told → Begins before now text) end
 
-  refuses-with : (end : Ended) → sealing_of (opening_of image) (contents 1) (contents 2) ≡ Err end → status_of end ≢ 0
+  refuses-with : (end : Ended) → sealing_of (opening_in image) (contents 1) (contents 2) ≡ Err end → status_of end ≢ 0
       → status_of end ≢ 3 → Ends end
   refuses-with end e not_0 not_3 =
       course-refusal seal_command contents left image read_failed failed told before now refl still end
       (ap seal_answer e) not_0 not_3
 
   -- the store speaks against it
-  pub course-barred : (end : Ended) → sealing_of (opening_of image) (contents 1) (contents 2) ≡ Err end
+  pub course-barred : (end : Ended) → sealing_of (opening_in image) (contents 1) (contents 2) ≡ Err end
       → (end ≡ ended.TripHeld) ⊎ (end ≡ ended.SealEnded) → Ends end
   course-barred end e (inl is) =
       rw is (refuses-with ended.TripHeld (e ∙ ap Err is) (not_status ended.TripHeld 0 refl)
@@ -160,7 +160,7 @@ module _ (contents left : ℕ → List ℕ) (image : List ℕ) (read_failed : �
 
   -- no seal was made of the texts
   pub course-no_seal : (opening : Opening) (b : Result Base Ended) (base : Base) (end : Ended)
-      → opening_of image ≡ Ok opening → b ≡ Ok base → b ≡ over_totals opening.totals opening.seal
+      → opening_in image ≡ Ok opening → b ≡ Ok base → b ≡ over_totals opening.totals opening.seal
       → IsNoSeal (next_number (found_number base.found)) base.decimals (contents 1)
       (contents 2) read_failed end → Ends end
   course-no_seal opening b base end e is answer = by end
@@ -168,7 +168,7 @@ module _ (contents left : ℕ → List ℕ) (image : List ℕ) (read_failed : �
       over : over_totals opening.totals opening.seal ≡ Ok base
       over = sym answer ∙ is
 
-      based : base_in (opening_of image) ≡ Ok base
+      based : base_in (opening_in image) ≡ Ok base
       based = ap base_in e ∙ over
 
       may : IsSealable image
@@ -176,8 +176,8 @@ module _ (contents left : ℕ → List ℕ) (image : List ℕ) (read_failed : �
 
       refusal : (end : Ended)
           → seal_read (next_number (found_number base.found)) base.decimals (contents 1) (contents 2) ≡ Err end
-          → sealing_of (opening_of image) (contents 1) (contents 2) ≡ Err end
-      refusal end g = sealing-over (opening_of image) opening base (contents 1) (contents 2) (Err end) e over g
+          → sealing_of (opening_in image) (contents 1) (contents 2) ≡ Err end
+      refusal end g = sealing-over (opening_in image) opening base (contents 1) (contents 2) (Err end) e over g
 
       by : (end : Ended) → IsNoSeal (next_number (found_number base.found)) base.decimals (contents 1)
           (contents 2) read_failed end → Ends end
@@ -223,7 +223,7 @@ module _ (contents left : ℕ → List ℕ) (image : List ℕ) (read_failed : �
       by end h = absurd h
 
   -- the store was sealed
-  pub course-sealed : (s : Sealing) (number : ℕ) → sealing_of (opening_of image) (contents 1) (contents 2) ≡ Ok s
+  pub course-sealed : (s : Sealing) (number : ℕ) → sealing_of (opening_in image) (contents 1) (contents 2) ≡ Ok s
       → s.new.seal_number ≡ number
       → left 1 ≡ [] → left 2 ≡ [] → Ends (ended.Sealed number)
   course-sealed s number e is one two =

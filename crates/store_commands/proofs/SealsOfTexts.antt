@@ -29,9 +29,9 @@ use Rattle.call_ends.specs.Tariffs.{tariff_in}
 use Rattle.call_ends.specs.declared.ending.Ended.{Ended}
 use Rattle.call_ends.specs.declared.ending.Ended.TheVariants.{OtherDecimals, SealEnded, TripHeld}
 use Rattle.call_ends.specs.declared.tariff.Refusal.{Refusal}
-use Rattle.store_commands.specs.Opening.{opened, opening_of, store_of}
+use Rattle.store_commands.specs.Opening.{opening_by, opening_in, store_of}
 use Rattle.store_commands.specs.Seal.{are_decimals, over_seal, over_totals, seal_read, sealing_of, sealing_over}
-use Rattle.store_commands.specs.Seal.{sealing_with, where_decimals, with_params, with_tariff}
+use Rattle.store_commands.specs.Seal.{sealing_with, where_decimals, with_params, seal_with_tariff}
 use Rattle.store_commands.specs.SealOfTexts.{IsSealOfTexts, SecureTheSame}
 use Rattle.store_commands.specs.SealedText.{sealed_text}
 use Rattle.store_commands.specs.declared.opening.Opening.{Opening}
@@ -67,7 +67,7 @@ made_by number found tariff params seal t (Ok p) (Ok same) sound read fit e =
     }
 
 read_by : (number : ℕ) (found : Option ℕ) (tariff params : List ℕ) (seal : Seal) (r : Result Tree Refusal)
-    → tariff_in tariff ≡ r → with_tariff number found (sha256 tariff) r (params_read params) ≡ Ok seal
+    → tariff_in tariff ≡ r → seal_with_tariff number found (sha256 tariff) r (params_read params) ≡ Ok seal
     → Reads found tariff params seal
 read_by number found tariff params seal (Err why) sound e = absurd cc
 read_by number found tariff params seal (Ok t) sound e =
@@ -113,8 +113,8 @@ of_opening (Ok opening) tariff params sealing e =
     (based (old_seal opening.seal) (over_totals opening.totals opening.seal) tariff params sealing e).over.reads.is_of
 
 pub seal_of_texts : (image tariff params : List ℕ) (sealing : Sealing)
-    → sealing_of (opening_of image) tariff params ≡ Ok sealing → IsSealOfTexts tariff params sealing.new
-seal_of_texts image tariff params sealing = of_opening (opening_of image) tariff params sealing
+    → sealing_of (opening_in image) tariff params ≡ Ok sealing → IsSealOfTexts tariff params sealing.new
+seal_of_texts image tariff params sealing = of_opening (opening_in image) tariff params sealing
 
 -- ---- what was sealed is sealed again
 
@@ -127,7 +127,7 @@ record Finds (t : Result (Found Durable) SlotFault) (l : Result (Found Seal) Slo
   pub seal_is : l ≡ Ok (Latest other store.1)
 
 finds_by : (t : Result (Found Durable) SlotFault) (l : Result (Found Seal) SlotFault) (store : Durable × Seal)
-    → store_of (opened t l) ≡ Ok store → Finds t l store
+    → store_of (opening_by t l) ≡ Ok store → Finds t l store
 finds_by (Err fault) l store e = absurd cc
 finds_by (Ok found) (Err fault) store e = absurd cc
 finds_by (Ok Blank) (Ok seal) store e = absurd cc
@@ -163,8 +163,8 @@ record SecuresOn (seal new : Seal) : Type 0 where
   pub digest : new.digest ≡ seal.digest
 
 on_any : (image other tariff : List ℕ) (store : Durable × Seal) (sealing : Sealing)
-    → store_of (opening_of image) ≡ Ok store → sha256 tariff ≡ store.1.digest
-    → sealing_of (opening_of other) tariff (sealed_text store.1) ≡ Ok sealing → SecuresOn store.1 sealing.new
+    → store_of (opening_in image) ≡ Ok store → sha256 tariff ≡ store.1.digest
+    → sealing_of (opening_in other) tariff (sealed_text store.1) ≡ Ok sealing → SecuresOn store.1 sealing.new
 on_any image other tariff store sealing there digest e =
     let found = finds_by (totals_in image) (seal_in image) store there in
     let is_of = seal_of_texts other tariff (sealed_text store.1) sealing e in
@@ -173,8 +173,8 @@ on_any image other tariff store sealing there digest e =
     record { params = cc; digest = is_of.digest ∙ digest }
 
 pub sealed_on_any : (image other tariff : List ℕ) (store : Durable × Seal) (t : Tree) (sealing : Sealing)
-    → store_of (opening_of image) ≡ Ok store → sha256 tariff ≡ store.1.digest → tariff_in tariff ≡ Ok t
-    → t.decimals ≡ store.1.decimals → sealing_of (opening_of other) tariff (sealed_text store.1) ≡ Ok sealing
+    → store_of (opening_in image) ≡ Ok store → sha256 tariff ≡ store.1.digest → tariff_in tariff ≡ Ok t
+    → t.decimals ≡ store.1.decimals → sealing_of (opening_in other) tariff (sealed_text store.1) ≡ Ok sealing
     → SecureTheSame store.1 sealing.new
 sealed_on_any image other tariff store t sealing there digest sound decimals e =
     let both = on_any image other tariff store sealing there digest e in
@@ -203,16 +203,16 @@ same_by found own true is e = eqb-true found own is
 same_by found own false is e = absurd cc
 
 pub sealed_on_itself : (image tariff : List ℕ) (store : Durable × Seal) (sealing : Sealing)
-    → store_of (opening_of image) ≡ Ok store → sha256 tariff ≡ store.1.digest
-    → sealing_of (opening_of image) tariff (sealed_text store.1) ≡ Ok sealing → SecureTheSame store.1 sealing.new
+    → store_of (opening_in image) ≡ Ok store → sha256 tariff ≡ store.1.digest
+    → sealing_of (opening_in image) tariff (sealed_text store.1) ≡ Ok sealing → SecureTheSame store.1 sealing.new
 sealed_on_itself image tariff store sealing there digest e =
     let both = on_any image image tariff store sealing there digest e in
     let found = finds_by (totals_in image) (seal_in image) store there in
     let seal = store.1 in
-    let opening : opening_of image
+    let opening : opening_in image
     ≡ Ok (record { totals = Latest found.place store.0; seal = Latest found.other seal }) =
-    ap (λ (r : Result (Found Durable) SlotFault). opened r (seal_in image)) found.totals
-    ∙ ap (opened (Ok (Latest found.place store.0))) found.seal_is in
+    ap (λ (r : Result (Found Durable) SlotFault). opening_by r (seal_in image)) found.totals
+    ∙ ap (opening_by (Ok (Latest found.place store.0))) found.seal_is in
     let over = over_totals (Latest found.place store.0) (Latest found.other seal) in
     let from : sealing_over (Some seal) over tariff (sealed_text seal) ≡ Ok sealing =
     sym (ap (λ (r : Result Opening StoreFault). sealing_of r tariff (sealed_text seal)) opening) ∙ e in

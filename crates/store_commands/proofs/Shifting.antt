@@ -14,7 +14,7 @@ use Rattle.store_commands.specs.declared.shifts.ReportFault.TheVariants as repor
 use Rattle.call_ends.specs.Answer.{Answer, shows}
 use Rattle.call_ends.specs.Ending.{EndsByCourse}
 use Rattle.store_commands.specs.StoreEnds.{ended_for_report}
-use Rattle.store_commands.specs.Opening.{IsSealedIn, opening_of, store_of}
+use Rattle.store_commands.specs.Opening.{IsSealedIn, opening_in, store_of}
 use Rattle.call_ends.specs.Pieces.{pieces_of}
 use Rattle.store_commands.specs.Shifts.{ended_for_book, reported, shifts_answer, shifts_command}
 use Rattle.call_ends.proofs.Laws.{not_status, course-lacking, course-unread}
@@ -29,7 +29,7 @@ not_board-report reports.NoMemory = λ e. absurd cc
 
 module _ (contents left : ℕ → List ℕ) (image : List ℕ) (read_failed : ℕ → Type 0) (failed told : Type 0)
     (before now : List ℕ) (still : now ≡ before)
-    (store : Durable × Seal) (sealed : store_of (opening_of image) ≡ Ok store) where
+    (store : Durable × Seal) (sealed : store_of (opening_in image) ≡ Ok store) where
   abbrev Here : Ended → Type 0
   Here end = EndsByCourse shifts_command contents left image read_failed failed (λ text. told → now ≡ before ++ text)
       (λ text. told → Begins before now text) end
@@ -42,7 +42,7 @@ module _ (contents left : ℕ → List ℕ) (image : List ℕ) (read_failed : �
   course-no_book fault bad =
       by fault (ap (λ o. shifts_answer o (contents 1)) sealed ∙ ap (reported store.1.decimals store.0) bad)
     where
-      by : (fault : BookFault) → shifts_answer (store_of (opening_of image)) (contents 1)
+      by : (fault : BookFault) → shifts_answer (store_of (opening_in image)) (contents 1)
           ≡ reported store.1.decimals store.0 (Err fault) → Here (ended_for_book fault)
       by books.TooLong e = course-refusal shifts_command contents left image read_failed failed told before now refl
           still ended.LongBook e (not_status ended.LongBook 0 refl) (not_status ended.LongBook 3 refl)

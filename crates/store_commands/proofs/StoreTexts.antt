@@ -12,8 +12,8 @@ use Rattle.call_ends.specs.Course.{Command}
 use Rattle.call_ends.specs.Ending.{EndsOnBoard}
 use Rattle.call_ends.specs.LastLine.{refused_as}
 use Rattle.store_commands.specs.Opened.{IsBarred, OnlyOpens}
-use Rattle.store_commands.specs.Opening.{opening_of, store_of}
-use Rattle.call_ends.specs.Stream.{Takes}
+use Rattle.store_commands.specs.Opening.{opening_in, store_of}
+use Rattle.call_ends.specs.Stream.{TakesBytes}
 use Rattle.store_commands.proofs.Answering.{course-barred}
 use Rattle.call_ends.proofs.Laws.{as_found, as_refused, no_fault, course-begun, course-shown}
 
@@ -21,9 +21,9 @@ use Rattle.call_ends.proofs.Laws.{as_found, as_refused, no_fault, course-begun, 
 module _ {D L : Type 0} {N : ℕ} (B : Ghosts D N L) (c : Command) (contents left : ℕ → List ℕ)
     (read_failed : ℕ → Type 0) (old mid : D)
     (answer : Result (Durable × Seal) Ended → Answer)
-    (is : c.answer contents (B.image old) ≡ answer (store_of (opening_of (B.image old))))
-    (untouched : Takes c.drive contents left []) (r : Result (Durable × Seal) Ended)
-    (exact : ¬ (r ≡ Err ended.BoardFault) → r ≡ store_of (opening_of (B.image old)))
+    (is : c.answer contents (B.image old) ≡ answer (store_of (opening_in (B.image old))))
+    (untouched : TakesBytes c.drive contents left []) (r : Result (Durable × Seal) Ended)
+    (exact : ¬ (r ≡ Err ended.BoardFault) → r ≡ store_of (opening_in (B.image old)))
     (opens : OnlyOpens B (r ≡ Err ended.BoardFault) old mid) where
   pub ends-barred : ¬ c.reads_all 4 → ¬ c.reads_all 5 → (why : Ended) → r ≡ Err why → IsBarred why
       → (answer (Err why) ≡ refused_as why)
@@ -31,7 +31,7 @@ module _ {D L : Type 0} {N : ℕ} (B : Ghosts D N L) (c : Command) (contents lef
   ends-barred not_4 not_5 why e barred refuses =
       course-barred c contents left (B.image old) read_failed (Rose (B.faults old) (B.faults mid)) B.tells_text
       (B.printed old) (B.printed mid) untouched opens.reads.text
-      not_4 not_5 why barred (λ good. is ∙ ap answer (as_refused r (store_of (opening_of (B.image old))) why
+      not_4 not_5 why barred (λ good. is ∙ ap answer (as_refused r (store_of (opening_in (B.image old))) why
       ended.BoardFault e good exact) ∙ refuses) (λ f. opens.cause (e ∙ ap Err f))
 
   -- the text that the answer to a sealed store shows was printed behind the opening, or a beginning of it
@@ -39,7 +39,7 @@ module _ {D L : Type 0} {N : ℕ} (B : Ghosts D N L) (c : Command) (contents lef
       (same : printed ≡ text)
       (read : (word : ℕ) → c.reads word → left word ≡ []) (new : D) where
     answered : c.answer contents (B.image old) ≡ shows text
-    answered = is ∙ ap answer (as_found r (store_of (opening_of (B.image old))) store ended.BoardFault e exact) ∙ shown
+    answered = is ∙ ap answer (as_found r (store_of (opening_in (B.image old))) store ended.BoardFault e exact) ∙ shown
 
     pub ends-shown : (B.tells_text → B.printed new ≡ B.printed mid ++ printed)
         → EndsOnBoard B c contents left read_failed old new ended.Done

@@ -8,7 +8,7 @@ use Rattle.shift_book.specs.Shares.{Driver}
 use Rattle.call_ends.specs.Answer.{Answer, shows}
 use Rattle.call_ends.specs.Course.{Command, store_command}
 use Rattle.call_ends.specs.LastLine.{refused_as}
-use Rattle.store_commands.specs.Opening.{opening_of, store_of}
+use Rattle.store_commands.specs.Opening.{opening_in, store_of}
 use Rattle.call_ends.specs.declared.ending.Ended.{Ended}
 
 -- the mark of a state of the store signs a driver on, or, without a driver, signs whoever is on off
@@ -23,4 +23,4 @@ mark_answer driver (Ok store) = shows (mark_text (mark_of driver store.0))
 
 -- the command `mark` shows the mark of the store
 abbrev pub mark_command : (driver : Option Driver) → Command
-mark_command driver = store_command (λ image. mark_answer driver (store_of (opening_of image)))
+mark_command driver = store_command (λ image. mark_answer driver (store_of (opening_in image)))

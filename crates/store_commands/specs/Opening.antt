@@ -23,15 +23,16 @@ fault_from first (slots.SameNumber number) = SameNumber first (first + 1)
 fault_from first slots.DeviceFailed = BoardFault
 
 -- what two pairs stand for is an opening if neither has a fault, and else the fault of the first one that has
-abbrev pub opened : Result (Found Durable) SlotFault → Result (Found Seal) SlotFault → Result Opening StoreFault
-opened (Err fault) seal = Err (fault_from 0 fault)
-opened (Ok durable) (Err fault) = Err (fault_from 2 fault)
-opened (Ok durable) (Ok seal) = Ok (record { totals = durable; seal = seal })
+abbrev pub opening_by : Result (Found Durable) SlotFault → Result (Found Seal) SlotFault → Result Opening StoreFault
+opening_by (Err fault) seal = Err (fault_from 0 fault)
+opening_by (Ok durable) (Err fault) = Err (fault_from 2 fault)
+opening_by (Ok durable) (Ok seal) = Ok (record { totals = durable; seal = seal })
 
 -- an image stands for what its pairs stand for, that of totals at 0 and that of seals at 1,024, or has a fault
-abbrev pub opening_of : (image : List ℕ) → Result Opening StoreFault
-opening_of image =
-    opened (found_at totals.reads states.state_number_of 0 image) (found_at seals.reads seals.seal_number_of 1024 image)
+abbrev pub opening_in : (image : List ℕ) → Result Opening StoreFault
+opening_in image =
+    opening_by (found_at totals.reads states.state_number_of 0 image)
+        (found_at seals.reads seals.seal_number_of 1024 image)
 
 -- a store is sealed if both pairs stand for something, a durable state and a seal
 abbrev pub sealed_store : Found Durable → Found Seal → Option (Durable × Seal)
@@ -58,4 +59,4 @@ store_of (Ok opening) = sealed_or (sealed_store opening.totals opening.seal)
 -- the store of an image is sealed if the image opens with a durable state and a seal
 pub record IsSealedIn (image : List ℕ) : Type 0 where
   pub store : Durable × Seal
-  pub is : store_of (opening_of image) ≡ Ok store
+  pub is : store_of (opening_in image) ≡ Ok store

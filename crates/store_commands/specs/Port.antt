@@ -8,7 +8,7 @@ use Rattle.data_port.specs.Serving.{stream_end}
 use Rattle.call_ends.specs.Answer.{Answer, shows}
 use Rattle.call_ends.specs.Course.{Command}
 use Rattle.call_ends.specs.LastLine.{bad_frame_line, endless_requests_line, refused_as}
-use Rattle.store_commands.specs.Opening.{IsSealedIn, opening_of, store_of}
+use Rattle.store_commands.specs.Opening.{IsSealedIn, opening_in, store_of}
 use Rattle.call_ends.specs.Stream.{Requests}
 use Rattle.call_ends.specs.declared.ending.Ended.{Ended}
 
@@ -38,9 +38,9 @@ pub record IsServing (image taken : List ℕ) : Type 0 where
 -- and the last line, and one for each request in the bytes that were taken. It takes no memory.
 abbrev pub port_command : Command
 port_command = record {
-  answer = λ contents image. port_answer (store_of (opening_of image)) (contents 1);
+  answer = λ contents image. port_answer (store_of (opening_in image)) (contents 1);
   drive = Some (Requests 1);
-  shown = λ contents image taken. replies_over (store_of (opening_of image)) taken;
+  shown = λ contents image taken. replies_over (store_of (opening_in image)) taken;
   reads = λ word. word ≡ 1;
   turn = λ word. word;
   reads_all = λ status. status ≡ 0;

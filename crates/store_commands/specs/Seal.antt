@@ -19,7 +19,7 @@ use Rattle.slot_store.specs.Syncs.{LeavesFromSync}
 use Rattle.call_ends.specs.Answer.{Answer, shows_line}
 use Rattle.call_ends.specs.Course.{Command}
 use Rattle.call_ends.specs.LastLine.{refused_as, sealed_line}
-use Rattle.store_commands.specs.Opening.{opening_of, store_ended}
+use Rattle.store_commands.specs.Opening.{opening_in, store_ended}
 use Rattle.call_ends.specs.Tariffs.{tariff_in}
 use Rattle.call_ends.specs.declared.ending.Ended.{Ended}
 use Rattle.call_ends.specs.declared.ending.Ended.TheVariants.{BadParams, BadTariff, OtherDecimals, SealEnded, TripHeld}
@@ -70,17 +70,19 @@ where_decimals (Ok same) seal = seal
 
 -- the seal of a number, a digest, a tariff and parameters, or the first refusal: of the tariff, of its decimals, or of
 -- the parameters
-abbrev pub with_tariff : (number : ℕ) → Option ℕ → (digest : List ℕ) → Result Tree Refusal → Result Params ParamFault
+abbrev pub seal_with_tariff : (number : ℕ) → Option ℕ → (digest : List ℕ) → Result Tree Refusal
+    → Result Params ParamFault
     → Result Seal Ended
-with_tariff number found digest (Err why) params = Err (BadTariff why)
-with_tariff number found digest (Ok t) params =
+seal_with_tariff number found digest (Err why) params = Err (BadTariff why)
+seal_with_tariff number found digest (Ok t) params =
     where_decimals (are_decimals found t.decimals) (with_params number digest t.decimals params)
 
 -- a tariff's text and a parameter text give the seal of a number, beside the found decimals, or the first refusal.
 -- `params_read` gives the parameters or their first fault, as the laws texts_say_their_parameters,
 -- texts_are_too_long_or_lack_a_parameter and texts_say_parameters_line_by_line of seal_record say
 abbrev pub seal_read : (number : ℕ) → Option ℕ → (tariff params : List ℕ) → Result Seal Ended
-seal_read number found tariff params = with_tariff number found (sha256 tariff) (tariff_in tariff) (params_read params)
+seal_read number found tariff params = seal_with_tariff number found (sha256 tariff) (tariff_in tariff)
+    (params_read params)
 
 -- a text fits the found decimals if its tariff is sound, and has them if any were found
 pub record HasDecimals (found : Option ℕ) (tariff : List ℕ) : Type 0 where
@@ -116,19 +118,19 @@ seal_answer (Ok sealing) = shows_line (sealed_line sealing.new.seal_number)
 -- the store of an image may be sealed if it has a base of a sealing
 pub record IsSealable (image : List ℕ) : Type 0 where
   pub base : Base
-  pub is : base_in (opening_of image) ≡ Ok base
+  pub is : base_in (opening_in image) ≡ Ok base
 
 -- the store of an image may be sealed with a tariff if it has a base, and the tariff fits the base's decimals
 pub record IsFitting (tariff image : List ℕ) : Type 0 where
   pub base : Base
-  pub is : base_in (opening_of image) ≡ Ok base
+  pub is : base_in (opening_in image) ≡ Ok base
   pub fits : HasDecimals base.decimals tariff
 
 -- the command `seal` opens the store, reads its tariff and then its parameters, and writes, in at most 64 steps and one
 -- for the last line
 abbrev pub seal_command : Command
 seal_command = record {
-  answer = λ contents image. seal_answer (sealing_of (opening_of image) (contents 1) (contents 2));
+  answer = λ contents image. seal_answer (sealing_of (opening_in image) (contents 1) (contents 2));
   drive = None;
   shown = λ contents image taken. [];
   reads = λ word. (word ≡ 1) ⊎ (word ≡ 2);

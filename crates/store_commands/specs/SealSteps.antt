@@ -12,7 +12,7 @@ use Rattle.call_ends.specs.declared.ending.Ended.TheVariants.{BadParams, BadTari
 use Rattle.call_ends.specs.declared.ending.Ended.TheVariants.{BoardFault}
 use Rattle.outside.specs.declared.files.Files.{Ghosts as FileGhosts}
 use Rattle.call_ends.specs.LastLine.{line_of, status_of}
-use Rattle.store_commands.specs.Opening.{opening_of}
+use Rattle.store_commands.specs.Opening.{opening_in}
 
 -- a text has a tariff with decimals if its tariff is sound and has them, and they are those that were found, if any
 pub record IsTariffWith (found : Option ℕ) (decimals : ℕ) (tariff : List ℕ) : Type 0 where
@@ -52,8 +52,8 @@ module _ {E D L : Type 0} {N : ℕ} (F : FileGhosts E) (B : Ghosts D N L) where
   -- a sealing reaches its last line if all holds that `Seals` says, and a cut while that line is printed leaves what a
   -- cut of the sealing may leave
   pub record SealReachesLine (files : E) (old new : D) (ended : Ended) : Type 0 where
-    pub seals : Seals B (sealing_of (opening_of (B.image old)) (F.rest files 1) (F.rest files 2)) old new
+    pub seals : Seals B (sealing_of (opening_in (B.image old)) (F.rest files 1) (F.rest files 2)) old new
         (status_of ended)
     pub rests : ended ≢ BoardFault → RestsAmid B
-        (sealing_of (opening_of (B.image old)) (F.rest files 1) (F.rest files 2)) (B.image old) (B.printed old)
+        (sealing_of (opening_in (B.image old)) (F.rest files 1) (F.rest files 2)) (B.image old) (B.printed old)
         (line_of ended) new

@@ -5,7 +5,7 @@ use Rattle.seal_record.specs.declared.seal.Seal.{Seal}
 use Rattle.call_ends.specs.Answer.{Answer, shows}
 use Rattle.call_ends.specs.Course.{Command, store_command}
 use Rattle.call_ends.specs.LastLine.{refused_as}
-use Rattle.store_commands.specs.Opening.{opening_of, store_of}
+use Rattle.store_commands.specs.Opening.{opening_in, store_of}
 use Rattle.store_commands.specs.SealedText.{sealed_text}
 use Rattle.call_ends.specs.declared.ending.Ended.{Ended}
 
@@ -16,4 +16,4 @@ sealed_answer (Ok store) = shows (sealed_text store.1)
 
 -- the command `sealed` shows what the store was sealed with
 abbrev pub sealed_command : Command
-sealed_command = store_command (λ image. sealed_answer (store_of (opening_of image)))
+sealed_command = store_command (λ image. sealed_answer (store_of (opening_in image)))

@@ -11,7 +11,7 @@ use Rattle.shift_book.specs.declared.book.BookFault.TheVariants as books
 use Rattle.call_ends.specs.Answer.{Answer, shows}
 use Rattle.call_ends.specs.Course.{Command}
 use Rattle.call_ends.specs.LastLine.{refused_as}
-use Rattle.store_commands.specs.Opening.{IsSealedIn, opening_of, store_of}
+use Rattle.store_commands.specs.Opening.{IsSealedIn, opening_in, store_of}
 use Rattle.call_ends.specs.Pieces.{pieces_of}
 use Rattle.call_ends.specs.declared.ending.Ended.{Ended}
 use Rattle.call_ends.specs.declared.ending.Ended.TheVariants as ended
@@ -37,13 +37,13 @@ shifts_answer (Ok store) text = reported store.1.decimals store.0 (book_read sto
 -- one. Whatever the store tells, they are at most 65 and two for each byte of the book.
 pub record IsBoundedByReport (files_tell image_told : Type 0) (image text : List ℕ) (before now : ℕ) : Type 0 where
   pub by_report : files_tell → image_told
-      → now ≤ before + 7 + pieces_of (length (shifts_answer (store_of (opening_of image)) text).shown)
+      → now ≤ before + 7 + pieces_of (length (shifts_answer (store_of (opening_in image)) text).shown)
   pub by_book : files_tell → now ≤ before + 65 + 2 * length text
 
 -- the command `shifts` opens the store, reads its book, makes the whole report in memory and prints it
 abbrev pub shifts_command : Command
 shifts_command = record {
-  answer = λ contents image. shifts_answer (store_of (opening_of image)) (contents 1);
+  answer = λ contents image. shifts_answer (store_of (opening_in image)) (contents 1);
   drive = None;
   shown = λ contents image taken. [];
   reads = λ word. word ≡ 1;

@@ -5,7 +5,7 @@ use Rattle.seal_record.specs.declared.seal.Seal.{Seal}
 use Rattle.call_ends.specs.Answer.{Answer, shows}
 use Rattle.call_ends.specs.Course.{Command, store_command}
 use Rattle.call_ends.specs.LastLine.{refused_as}
-use Rattle.store_commands.specs.Opening.{opening_of, store_of}
+use Rattle.store_commands.specs.Opening.{opening_in, store_of}
 use Rattle.store_commands.specs.TotalsText.{totals_text}
 use Rattle.call_ends.specs.declared.ending.Ended.{Ended}
 
@@ -16,4 +16,4 @@ totals_answer (Ok store) = shows (totals_text store.1.decimals store.0)
 
 -- the command `totals` shows the totals of the store
 abbrev pub totals_command : Command
-totals_command = store_command (λ image. totals_answer (store_of (opening_of image)))
+totals_command = store_command (λ image. totals_answer (store_of (opening_in image)))

@@ -6,7 +6,7 @@ ghost use Rattle.slot_store.specs.Syncs.{IsAsHeld, LeavesFromSync, ReadsOnly};
 ghost use Rattle.seal_record.specs.Ranges.{IsSeal};
 ghost use Rattle.totals_record.specs.Ranges.{IsDurable};
 ghost use Rattle.store_commands.specs.Opening as spec;
-ghost use Rattle.store_commands.specs.Opening.{fault_from, opening_of, store_ended};
+ghost use Rattle.store_commands.specs.Opening.{fault_from, opening_in, store_ended};
 ghost use Rattle.store_commands.specs.Opened.{IsOpened, IsOpeningInRange};
 
 use call_ends::Ended;
@@ -44,7 +44,7 @@ pub fn open_store<B: Board<STORE_SIZE, L>, L: Ledger>(
     board: &mut B,
     steps: &mut Steps<L>,
 ) -> Result<Opening, StoreFault>
-    ensures exact { B.tells_image → ¬ IsErrOf result StoreFault.BoardFault → result ≡ opening_of (B.image board.old) }
+    ensures exact { B.tells_image → ¬ IsErrOf result StoreFault.BoardFault → result ≡ opening_in (B.image board.old) }
     ensures opened { B.tells_image → IfOk result (IsOpened B.Board board.new) }
     ensures sound { IfOk result IsOpeningInRange }
     ensures reads { ReadsOnly B.Board board.old board.new }

@@ -4,7 +4,7 @@ ghost use Rattle.seal_record.specs.Ranges.{IsSeal};
 ghost use Rattle.totals_record.specs.Ranges.{IsDurable};
 ghost use Rattle.call_ends.specs.Ending.{HasCauseOn, LeavesStoreUnwritten};
 ghost use Rattle.store_commands.specs.Opened.{IsBarred, IsOpenedWith, OnlyOpens};
-ghost use Rattle.store_commands.specs.Opening.{opening_of, store_of};
+ghost use Rattle.store_commands.specs.Opening.{opening_in, store_of};
 
 use crate::opening::{open_store, refused_store, sealed_store};
 use call_ends::Ended;
@@ -20,7 +20,7 @@ pub fn open_sealed<B: Board<STORE_SIZE, L>, L: Ledger>(
     steps: &mut Steps<L>,
 ) -> Result<(Durable, Seal), Ended>
     ensures exact { B.tells_image → ¬ IsErrOf result Ended.BoardFault
-        → result ≡ store_of (opening_of (B.image board.old)) }
+        → result ≡ store_of (opening_in (B.image board.old)) }
     ensures found { B.tells_image → IfOk result (λ store. IsOpenedWith B.Board board.new store.0) }
     ensures durable { IfOk result (λ store. IsDurable store.0) }
     ensures seal { IfOk result (λ store. IsSeal store.1) }

@@ -5,7 +5,7 @@ ghost use Rattle.tariff_syntax.specs.Tree.{Tree};
 ghost use Rattle.totals_record.specs.declared.durable_state.Durable.{Durable};
 ghost use Rattle.meter_store.specs.Sealing.{Sealing};
 ghost use Rattle.call_ends.specs.Tariffs.{tariff_in};
-ghost use Rattle.store_commands.specs.Opening.{opening_of, store_of};
+ghost use Rattle.store_commands.specs.Opening.{opening_in, store_of};
 ghost use Rattle.store_commands.specs.Seal.{sealing_of};
 ghost use Rattle.store_commands.specs.SealOfTexts.{IsSealOfTexts, SecureTheSame};
 ghost use Rattle.seal_record.specs.declared.seal.Seal.{Seal};
@@ -23,12 +23,12 @@ pub fn sealed_texts_are_read_back()
 /// the text's tariff has the sealed decimals.
 pub fn sealed_texts_seal_the_same()
     ensures texts { (image tariff params : List ℕ) (sealing : Sealing)
-        → sealing_of (opening_of image) tariff params ≡ Ok sealing → IsSealOfTexts tariff params sealing.new }
+        → sealing_of (opening_in image) tariff params ≡ Ok sealing → IsSealOfTexts tariff params sealing.new }
     ensures itself { (image tariff : List ℕ) (store : Durable × Seal) (sealing : Sealing)
-        → store_of (opening_of image) ≡ Ok store → sha256 tariff ≡ store.1.digest
-        → sealing_of (opening_of image) tariff (sealed_text store.1) ≡ Ok sealing → SecureTheSame store.1 sealing.new }
+        → store_of (opening_in image) ≡ Ok store → sha256 tariff ≡ store.1.digest
+        → sealing_of (opening_in image) tariff (sealed_text store.1) ≡ Ok sealing → SecureTheSame store.1 sealing.new }
     ensures other { (image other tariff : List ℕ) (store : Durable × Seal) (t : Tree) (sealing : Sealing)
-        → store_of (opening_of image) ≡ Ok store → sha256 tariff ≡ store.1.digest → tariff_in tariff ≡ Ok t
-        → t.decimals ≡ store.1.decimals → sealing_of (opening_of other) tariff (sealed_text store.1) ≡ Ok sealing
+        → store_of (opening_in image) ≡ Ok store → sha256 tariff ≡ store.1.digest → tariff_in tariff ≡ Ok t
+        → t.decimals ≡ store.1.decimals → sealing_of (opening_in other) tariff (sealed_text store.1) ≡ Ok sealing
         → SecureTheSame store.1 sealing.new }
 {}

@@ -3,7 +3,7 @@ use Rattle.std.proofs.Common.{◌≡◌, ℕ, ◌+◌, ◌≤◌, List, [], ◌�
 use Rattle.std.proofs.lemmas.Bool.{le-ltb}
 use Rattle.std.specs.Prelude.{Bool, true, false, codes, if◌then◌else◌, nat_lt}
 use Rattle.tariff_syntax.specs.Parsed.{tree_parsed}
-use Rattle.tariff_syntax.specs.Printed.{entry_line, lines_text, number_line, printed}
+use Rattle.tariff_syntax.specs.Printed.{entry_line, lines_text, number_line, printed_form}
 use Rattle.tariff_syntax.specs.Renumbered.{renumbered, renumbered_from}
 use Rattle.tariff_syntax.specs.Tree.{Line, Tree}
 use Rattle.tariff_syntax.proofs.Laws.{printed_forms_read_back, texts_are_parsed_as_they_read-tariff}
@@ -18,7 +18,7 @@ lines_anew : (decimals number : ℕ) (lines : List Line)
 lines_anew decimals number [] = refl
 lines_anew decimals number (l ∷ lines) = ap (entry_line decimals l.entry) (lines_anew decimals (number + 1) lines)
 
-printed_anew : (t : Tree) → printed (renumbered t) ≡ printed t
+printed_anew : (t : Tree) → printed_form (renumbered t) ≡ printed_form t
 printed_anew t = ap (number_line (codes "decimals ") t.decimals) (lines_anew t.decimals 2 t.lines)
 
 -- the tariff of a text was parsed
@@ -34,13 +34,13 @@ tree_of_text text t e = by (nat_lt 65536 (length text)) e
     by false e = parsed_of (tree_parsed text) t e
 
 -- the form of a tariff reads as the tariff, but for the numbers of its lines
-pub form_reads : (text : List ℕ) (t : Tree) → tree_in text ≡ Ok t → length (printed t) ≤ 65536
-    → tree_in (printed t) ≡ Ok (renumbered t)
+pub form_reads : (text : List ℕ) (t : Tree) → tree_in text ≡ Ok t → length (printed_form t) ≤ 65536
+    → tree_in (printed_form t) ≡ Ok (renumbered t)
 form_reads text t e few =
     let reads = (texts_are_parsed_as_they_read-tariff text t).1 (tree_of_text text t e) in
     rw (
-      le-ltb 65536 (length (printed t)) few,
-      (texts_are_parsed_as_they_read-tariff (printed t) (renumbered t)).0 (printed_forms_read_back text t reads),
+      le-ltb 65536 (length (printed_form t)) few,
+      (texts_are_parsed_as_they_read-tariff (printed_form t) (renumbered t)).0 (printed_forms_read_back text t reads),
     ) refl
 
 -- a form that is shown is that of a tariff
@@ -48,7 +48,7 @@ other_status : (n : ℕ) → n ≡ 2 → n ≡ 0 → ⊥
 other_status n e f = absurd cc
 
 shown_of : (r : Result Tree Refusal) (form : List ℕ) → form_answer r ≡ shows form
-    → (t : Tree) × (r ≡ Ok t) × (printed t ≡ form)
+    → (t : Tree) × (r ≡ Ok t) × (printed_form t ≡ form)
 shown_of (Ok t) form e = (t, refl, ap (λ (a : Answer). a.shown) e)
 shown_of (Err why) form e =
     absurd (other_status (form_answer (Err why)).status refl (ap (λ (a : Answer). a.status) e))

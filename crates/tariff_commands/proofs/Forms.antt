@@ -1,7 +1,7 @@
 -- The printed form of a text's tariff.
 use Rattle.std.proofs.Common.{◌≡◌, ℕ, List, length, Ok, Err, refl, sym, ap, ◌∙◌}
 use Rattle.std.proofs.lemmas.Bool.{le-ltb}
-use Rattle.tariff_syntax.specs.Printed.{printed}
+use Rattle.tariff_syntax.specs.Printed.{printed_form}
 use Rattle.tariff_syntax.specs.Reads.{IsParsed}
 use Rattle.tariff_syntax.specs.Tree.{tree_of}
 use Rattle.tariff_syntax.specs.declared.parsing.ParseFault.TheVariants as faults
@@ -26,7 +26,7 @@ form_refused text line h =
     rw (le-ltb 65536 (length text) h.0, (texts_are_parsed_as_they_read-bad_line text line).0 h.1) refl
 
 -- its printed form is the form of the text
-pub form_parsed : (text form : List ℕ) (t : Tariff) → IsParsed text (Ok t) → form ≡ printed (tree_of t)
+pub form_parsed : (text form : List ℕ) (t : Tariff) → IsParsed text (Ok t) → form ≡ printed_form (tree_of t)
     → IsFormOf text form
 form_parsed text form t h is = record { tree = tree_of t; reads = tree_parsed_in text t h; is = is }
 

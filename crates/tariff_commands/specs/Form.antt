@@ -1,7 +1,7 @@
 -- Rules: the command `form TARIFF`.
 use Rattle.std.specs.Prelude.{◌≡◌, ℕ, ◌+◌, ◌≤◌, List, [], length, None, Result, Ok, Err, if◌then◌else◌, nat_lt}
 use Rattle.tariff_syntax.specs.Parsed.{tree_parsed}
-use Rattle.tariff_syntax.specs.Printed.{printed}
+use Rattle.tariff_syntax.specs.Printed.{printed_form}
 use Rattle.tariff_syntax.specs.Tree.{Tree}
 use Rattle.call_ends.specs.Answer.{Answer, shows}
 use Rattle.call_ends.specs.Course.{Command}
@@ -24,12 +24,12 @@ tree_in text = if nat_lt 65536 (length text) then Err TooLong else or_syntax (tr
 -- the answer to a tariff shows its printed form; to another text, it says why it has none
 abbrev pub form_answer : Result Tree Refusal → Answer
 form_answer (Err why) = bad_tariff why
-form_answer (Ok t) = shows (printed t)
+form_answer (Ok t) = shows (printed_form t)
 
 -- the number of pieces of a printed form is as small as it can be, and 0 if there is no tariff
 abbrev pub form_pieces : Result Tree Refusal → ℕ
 form_pieces (Err why) = 0
-form_pieces (Ok t) = pieces_of (length (printed t))
+form_pieces (Ok t) = pieces_of (length (printed_form t))
 
 -- the command `form` reads its tariff and prints the printed form, in a step for each piece and one for the last line
 abbrev pub form_command : Command

@@ -6,7 +6,7 @@ use Rattle.interval_clock.specs.Calendar.{date_after, date_place, weekday_of}
 use Rattle.tariff_compile.specs.Tables.{IsInRangeFor, TableParts, lines_in}
 use Rattle.tariff_syntax.specs.declared.context.Context.{Context}
 use Rattle.tariff_compare.specs.Grids.{CanBeAsked}
-use Rattle.tariff_compare.specs.Sides.{context_by, is_among, lines_by}
+use Rattle.tariff_compare.specs.Sides.{context_by, is_holiday_among, lines_by}
 use Rattle.tariff_compare.specs.declared.meter_context.MeterContext.{MeterContext}
 use Rattle.tariff_compare.proofs.Times.{date_place_most, weekday_is}
 
@@ -36,12 +36,13 @@ asked_as tables m constant weekday month_day holiday = record {
 -- a context with the parts that are asked is the one that is asked
 pub same_asked : (tables : TableParts) (m : MeterContext) (constant weekday month_day : ℕ) (holiday : Bool)
     → constant ≡ tables.constant → weekday ≡ weekday_of (pos m.day) → month_day
-    ≡ date_place (date_after m.day).month (date_after m.day).date → holiday ≡ is_among tables.cuts.holidays m.day
+    ≡ date_place (date_after m.day).month (date_after m.day).date
+    → holiday ≡ is_holiday_among tables.cuts.holidays m.day
     → asked_as tables m constant weekday month_day holiday ≡ context_by tables m
 unfolding context_by
 same_asked tables m constant weekday month_day holiday h₁ h₂ h₃ h₄ = rw (h₁, h₂, h₃, h₄) refl
 
-some_among : (xs : List ℕ) (day : ℕ) → is_among xs day ≡ true → ltb 0 (length xs) ≡ true
+some_among : (xs : List ℕ) (day : ℕ) → is_holiday_among xs day ≡ true → ltb 0 (length xs) ≡ true
 some_among [] day h = absurd (false≢true h)
 some_among (x ∷ xs) day h = lt-ltb 0 (length (x ∷ xs)) (omega arith)
 

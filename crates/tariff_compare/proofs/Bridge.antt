@@ -22,7 +22,8 @@ use Rattle.tariff_compare.specs.Contexts.{HasTables, IsMeterContext, context_at}
 use Rattle.tariff_compare.specs.Counting.{counts, is_at}
 use Rattle.tariff_compare.specs.Grids.{CanBeAsked}
 use Rattle.tariff_compare.specs.Kinds.{InForce, difference_at, differing_kind, in_force, is_asked, place_in}
-use Rattle.tariff_compare.specs.Sides.{context_by, counts_by, difference_by, in_force_by, is_among, is_met, is_met_by}
+use Rattle.tariff_compare.specs.Sides.{context_by, counts_by, difference_by, in_force_by, is_holiday_among, is_met}
+use Rattle.tariff_compare.specs.Sides.{is_met_by}
 use Rattle.tariff_compare.specs.Sides.{lines_by, side_of}
 use Rattle.tariff_compare.specs.declared.meter_context.MeterContext.{MeterContext}
 use Rattle.tariff_compare.specs.declared.question.Question.{Question}
@@ -42,7 +43,7 @@ equal_days holiday day =
           ∙ sym (ne_eqb holiday day n)
     ]
 
-among_is : (holidays : List ℕ) (day : ℕ) → has_day holidays (pos day) ≡ is_among holidays day
+among_is : (holidays : List ℕ) (day : ℕ) → has_day holidays (pos day) ≡ is_holiday_among holidays day
 among_is [] day = refl
 among_is (h ∷ hs) day = rw (equal_days h day, among_is hs day) refl
 
@@ -50,7 +51,7 @@ tables_are : (t : Tree) (k : ℕ) → HasTables t k → IsTablesOf t (tables_of 
 tables_are t k has = record { writable = has.writable; sound = has.sound; constant = has.constant; parts = refl }
 
 -- a holiday by the tables is one of the tariff
-pub among : (t : Tree) (k day : ℕ) → HasTables t k → is_among (lists_of t k).holidays day
+pub among : (t : Tree) (k day : ℕ) → HasTables t k → is_holiday_among (lists_of t k).holidays day
     ≡ is_holiday t.lines (date_after day).year (date_after day).month (date_after day).date
 among t k day has =
     let d = date_after day in

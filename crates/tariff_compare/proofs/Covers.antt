@@ -12,7 +12,7 @@ use Rattle.taxi_units.specs.Time.{last_tick}
 use Rattle.tariff_compare.specs.Contexts.{HasTables, IsMeterContext, context_at, day_place, most_pulses, order_of}
 use Rattle.tariff_compare.specs.Grids.{day_at, day_in, days_until, grid_of, is_alike, is_edge, is_meter_time, is_same}
 use Rattle.tariff_compare.specs.Grids.{listed}
-use Rattle.tariff_compare.specs.Sides.{is_among}
+use Rattle.tariff_compare.specs.Sides.{is_holiday_among}
 use Rattle.tariff_compare.specs.declared.day.Day.{Day}
 use Rattle.tariff_compare.specs.declared.meter_context.MeterContext.{MeterContext}
 use Rattle.tariff_compare.proofs.Bridge.{among}
@@ -106,7 +106,7 @@ record SameParts (t : Tree) (k : ℕ) (n c : MeterContext) : Type 0 where
   pub position : n.position ≡ c.position
   pub zone : n.zone ≡ c.zone
   pub weekday : weekday_of (pos n.day) ≡ weekday_of (pos c.day)
-  pub holiday : is_among (lists_of t k).holidays n.day ≡ is_among (lists_of t k).holidays c.day
+  pub holiday : is_holiday_among (lists_of t k).holidays n.day ≡ is_holiday_among (lists_of t k).holidays c.day
   pub month_day : count_at_most (date_place (date_after n.day).month (date_after n.day).date) (lists_of t k).month_days
       ≡ count_at_most (date_place (date_after c.day).month (date_after c.day).date) (lists_of t k).month_days
   pub minute : count_at_most n.minute (lists_of t k).minutes ≡ count_at_most c.minute (lists_of t k).minutes

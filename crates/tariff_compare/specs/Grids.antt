@@ -8,7 +8,7 @@ use Rattle.tariff_compile.specs.Tables.{TableParts}
 use Rattle.tariff_syntax.specs.Writable.{IsFromTo}
 use Rattle.taxi_units.specs.Time.{last_tick}
 use Rattle.tariff_compare.specs.Contexts.{most_pulses}
-use Rattle.tariff_compare.specs.Sides.{is_among}
+use Rattle.tariff_compare.specs.Sides.{is_holiday_among}
 use Rattle.tariff_compare.specs.declared.day.Day.{Day}
 use Rattle.tariff_compare.specs.declared.meter_context.MeterContext.{MeterContext}
 
@@ -24,8 +24,8 @@ day_in one other number =
       number = number;
       weekday = weekday_of (pos number);
       month_day = place;
-      holiday = is_among one.cuts.holidays number;
-      other_holiday = is_among other.cuts.holidays number;
+      holiday = is_holiday_among one.cuts.holidays number;
+      other_holiday = is_holiday_among other.cuts.holidays number;
       band = count_at_most place one.cuts.month_days;
       other_band = count_at_most place other.cuts.month_days;
     }

@@ -25,8 +25,8 @@ abbrev pub side_of : Tree → (k : ℕ) → SideParts
 side_of t k = record { tables = tables_of t k; rates = rates_of t.lines }
 
 -- a day is among holidays if one of them has its number
-abbrev pub is_among : List ℕ → (day : ℕ) → Bool
-is_among holidays day = list_any (λ holiday. holiday == day) holidays
+abbrev pub is_holiday_among : List ℕ → (day : ℕ) → Bool
+is_holiday_among holidays day = list_any (λ holiday. holiday == day) holidays
 
 -- a context of a meter by tables has their constant, and is a holiday if its day is among theirs
 unfoldable pub context_by : TableParts → MeterContext → Context
@@ -38,7 +38,7 @@ context_by tables m =
       zone = m.zone;
       weekday = weekday_of (pos m.day);
       month_day = date_place date.month date.date;
-      holiday = is_among tables.cuts.holidays m.day;
+      holiday = is_holiday_among tables.cuts.holidays m.day;
       minute = m.minute;
       pulses = m.pulses;
       ticks = m.ticks;

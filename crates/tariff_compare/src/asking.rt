@@ -3,7 +3,7 @@ ghost use Rattle.std.specs.Prelude.{◌≡◌};
 ghost use Rattle.tariff_compile.specs.Tables.{IsInRangeFor};
 ghost use Rattle.tariff_compare.specs.Counting.{is_at};
 ghost use Rattle.tariff_compare.specs.Grids.{CanBeAsked, HasDate, day_in};
-ghost use Rattle.tariff_compare.specs.Sides.{context_by, counts_by, difference_by, is_among, is_met_by};
+ghost use Rattle.tariff_compare.specs.Sides.{context_by, counts_by, difference_by, is_holiday_among, is_met_by};
 
 use crate::day::{Day, day_in};
 use crate::kinds::{differing_kind, is_asked, place_in};
@@ -53,7 +53,7 @@ pub(crate) fn part_at(one: &Side, other: &Side, m: &MeterContext) -> Option<Choi
 fn context_on(tables: &Tables, day: &Day, holiday: bool, m: &MeterContext) -> Context
     requires date { HasDate day.now m.now.day }
     requires asked { CanBeAsked tables.now m.now }
-    requires holiday { holiday ≡ is_among tables.now.cuts.holidays m.now.day }
+    requires holiday { holiday ≡ is_holiday_among tables.now.cuts.holidays m.now.day }
     ensures value { result ≡ context_by tables.now m.now }
     ensures range { IsInRangeFor tables.now result }
 {

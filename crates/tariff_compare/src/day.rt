@@ -5,7 +5,7 @@ ghost use Rattle.interval_clock.specs.Calendar.{weekday_of};
 ghost use Rattle.tariff_calendar.specs.Lists.{count_at_most};
 ghost use Rattle.tariff_syntax.specs.Writable.{IsFromTo};
 ghost use Rattle.tariff_compare.specs.Grids.{day_at, day_count, day_in, days_until, is_alike, is_edge, is_same, with_day};
-ghost use Rattle.tariff_compare.specs.Sides.{is_among};
+ghost use Rattle.tariff_compare.specs.Sides.{is_holiday_among};
 
 use interval_clock::date_of_day;
 use std::alloc::Global;
@@ -82,8 +82,8 @@ pub(crate) fn day_in(one: &Tables, other: &Tables, number: u32) -> Day
         number,
         weekday: weekday_of(number),
         month_day,
-        holiday: is_among(one.cuts().holidays(), number),
-        other_holiday: is_among(other.cuts().holidays(), number),
+        holiday: is_holiday_among(one.cuts().holidays(), number),
+        other_holiday: is_holiday_among(other.cuts().holidays(), number),
         band: band(one.cuts(), month_day),
         other_band: band(other.cuts(), month_day),
     }
@@ -107,8 +107,8 @@ fn band(cuts: &Cuts, month_day: u16) -> usize
 }
 
 /// Whether a day is among holidays.
-fn is_among(holidays: &[u64], number: u32) -> bool
-    ensures { result ≡ is_among holidays.now number }
+fn is_holiday_among(holidays: &[u64], number: u32) -> bool
+    ensures { result ≡ is_holiday_among holidays.now number }
 {
     for holiday in holidays {
         if *holiday == number as u64 {

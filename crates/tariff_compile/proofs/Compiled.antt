@@ -30,7 +30,7 @@ use Rattle.tariff_syntax.specs.declared.context.Context.{Context}
 use Rattle.taxi_units.specs.Counted.{IsElement}
 use Rattle.tariff_compile.specs.Cells.{IsBelow, IsNarrow, bands_at, bands_of, cell_count, cell_number, sizes_of}
 use Rattle.tariff_compile.specs.Tables.{AreFit, HasWeightsOf, IsCompiled, IsFit, IsInRangeFor, IsTablesOf}
-use Rattle.tariff_compile.specs.Tables.{TableParts, all_cells, all_weights, context_of}
+use Rattle.tariff_compile.specs.Tables.{TableParts, all_cells, all_weights, context_of_cell}
 use Rattle.tariff_compile.specs.Tables.{lines_at, lines_in, no_lines, rate_by, sizes_for}
 use Rattle.tariff_compile.specs.Tables.{sizes_in, tables_of, weights_of}
 use Rattle.tariff_check.specs.Parts.{supplement_of}
@@ -90,7 +90,7 @@ cell_count-most t k writable sound =
 
 pub length-all_cells : (t : Tree) (k : ℕ) → length (all_cells t k) ≡ cell_count (sizes_in t k)
 length-all_cells t k =
-    length-map-range_with_len (λ (cell : ℕ). lines_at t (context_of t k cell)) 0 (cell_count (sizes_in t k))
+    length-map-range_with_len (λ (cell : ℕ). lines_at t (context_of_cell t k cell)) 0 (cell_count (sizes_in t k))
 
 -- a cell's bands are ones that the dimensions have
 pub bands_in-below : (t : Tree) (k cell : ℕ) → HasSoundParts t → cell < cells_of t.lines

@@ -17,7 +17,7 @@ use Rattle.tariff_syntax.specs.Tree.{Tree}
 use Rattle.tariff_syntax.specs.Writable.{IsWritable}
 use Rattle.tariff_syntax.specs.declared.context.Context.{Context}
 use Rattle.tariff_compile.specs.Cells.{IsBelow, bands_at, beginning, cell_count, context_in, sizes_of}
-use Rattle.tariff_compile.specs.Tables.{all_cells, cell_of, context_of, lines_at, lines_with, place_at, sizes_in}
+use Rattle.tariff_compile.specs.Tables.{all_cells, cell_of, context_of_cell, lines_at, lines_with, place_at, sizes_in}
 use Rattle.tariff_compile.specs.declared.cells.CellLines.{CellLines}
 use Rattle.tariff_compile.proofs.Beginnings.{beginning-le, count_at_most-beginning}
 use Rattle.tariff_compile.proofs.Numbering.{bands_of-cell_number, cell_number_below}
@@ -129,7 +129,7 @@ pub cell_has_lines : (t : Tree) (k : ℕ) (x : Context) (d : CellLines) → IsWr
 cell_has_lines t k x d writable sound x_in =
     let below = bands_of_tree t k x x_in in
     let cell = cell_of t k x in
-    get_or-map-range_with_len (λ cell. lines_at t (context_of t k cell)) 0 (cell_count (sizes_in t k)) cell cell d
+    get_or-map-range_with_len (λ cell. lines_at t (context_of_cell t k cell)) 0 (cell_count (sizes_in t k)) cell cell d
     (cell_number_below (sizes_in t k) (bands_at (lists_of t k) x) below) (omega arith)
     ∙ (ap (λ b. lines_at t (context_in k (lists_of t k) b))
     (bands_of-cell_number (sizes_in t k) (bands_at (lists_of t k) x) below)

@@ -19,7 +19,7 @@ use Rattle.tariff_compile.specs.Cells.{cell_count}
 use Rattle.tariff_compile.specs.Rows.{cell_row, has_minimums, initial_row, measure_row, minimum_field, minimum_row}
 use Rattle.tariff_compile.specs.Rows.{cell_section, rate_row, row_count, row_text, sections}
 use Rattle.tariff_compile.specs.Tables.{AreFit, HasLinesOf, IsCompiled, IsInRangeFor, IsTablesOf, TableParts, all_cells}
-use Rattle.tariff_compile.specs.Tables.{cell_of, context_of, fees_in, fees_of, lines_at, no_lines, sizes_in}
+use Rattle.tariff_compile.specs.Tables.{cell_of, context_of_cell, fees_in, fees_named, lines_at, no_lines, sizes_in}
 use Rattle.tariff_compile.specs.declared.cells.CellLines.{CellLines}
 use Rattle.tariff_syntax.specs.Meaning.{at_hiring, minimum_place}
 use Rattle.tariff_syntax.specs.Tree.{Tree}
@@ -46,7 +46,8 @@ pub cell_names_lines : (t : Tree) (k : ℕ) (x : Context) → IsWritable t → I
 cell_names_lines t k x writable sound x_in = (
   lines_at t x,
   slice_get-get_or (all_cells t k) (cell_of t k x) (lines_at t x)
-      (rw (length-map-range_with_len (λ (cell : ℕ). lines_at t (context_of t k cell)) 0 (cell_count (sizes_in t k)))
+      (rw (length-map-range_with_len (λ (cell : ℕ). lines_at t (context_of_cell t k cell)) 0 (cell_count
+      (sizes_in t k)))
       (cell_of-below t k x x_in))
       ∙ ap Some (cell_has_lines t k x (lines_at t x) writable sound x_in),
   has_lines t x sound,
@@ -77,13 +78,13 @@ number_few minimums (Some place) there = omega (arith, there place refl)
 
 -- the fees that the lines of a context name are those that are in force at its hiring
 pub fees_of_lines : (t : Tree) (tables : TableParts) (x : Context) → IsTablesOf t tables
-    → fees_of tables (lines_at t x) ≡ initial_by t x
-fees_of_lines t tables x is = ap (λ (p : TableParts). fees_of p (lines_at t x)) is.parts
+    → fees_named tables (lines_at t x) ≡ initial_by t x
+fees_of_lines t tables x is = ap (λ (p : TableParts). fees_named p (lines_at t x)) is.parts
 
 -- the fees that tables have for a context are those of the tree
 pub fees_in_is : (t : Tree) (tables : TableParts) (x : Context) → IsTablesOf t tables → IsInRangeFor tables x
     → fees_in tables x ≡ initial_by t x
-fees_in_is t tables x is x_in = ap (fees_of tables) (lines_in_is t tables x is x_in) ∙ fees_of_lines t tables x is
+fees_in_is t tables x is x_in = ap (fees_named tables) (lines_in_is t tables x is x_in) ∙ fees_of_lines t tables x is
 
 pub all_fit : (amounts : List ℕ) (n : ℕ) → All (λ amount. amount ≤ largest_amount) amounts
     → get_or amounts n 0 ≤ largest_amount
@@ -151,14 +152,14 @@ cell_few t tables cell d is h =
     let within : cell < cell_count (sizes_in t k) =
     omega (arith, h, ap (λ (p : TableParts). length p.cells) is.parts, length-all_cells t k) in
     let found = ap (λ (cells : List CellLines). get_or cells cell d) same ∙ get_or-map-range_with_len
-    (λ (c : ℕ). lines_at t (context_of t k c)) 0 (cell_count (sizes_in t k)) cell cell d within (omega arith) in (
+    (λ (c : ℕ). lines_at t (context_of_cell t k c)) 0 (cell_count (sizes_in t k)) cell cell d within (omega arith) in (
       omega (arith, within, cell_count-most t k is.writable is.sound),
-      rw found (omega (arith, rate_place-below t (context_of t k cell) is.sound, parts.choice_count Rate)),
-      rw found (omega (arith, initial_place-below t (context_of t k cell) is.sound, parts.choice_count Initial)),
+      rw found (omega (arith, rate_place-below t (context_of_cell t k cell) is.sound, parts.choice_count Rate)),
+      rw found (omega (arith, initial_place-below t (context_of_cell t k cell) is.sound, parts.choice_count Initial)),
       rw found (omega (
         arith,
-        number_few (minimums_of t.lines) (minimum_place t (context_of t k cell))
-            (lines_that_hold_are_there-there Minimum t (at_hiring (context_of t k cell))),
+        number_few (minimums_of t.lines) (minimum_place t (context_of_cell t k cell))
+            (lines_that_hold_are_there-there Minimum t (at_hiring (context_of_cell t k cell))),
         parts.choice_count Minimum,
       )),
     )

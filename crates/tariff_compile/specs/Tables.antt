@@ -106,8 +106,8 @@ abbrev pub sizes_in : Tree → (k : ℕ) → Bands
 sizes_in t k = sizes_of (positions_of t.lines) (zones_of t.lines) (day_kinds t.lines) (lists_of t k)
 
 -- the context of the cell with a number is at the beginning of each of its bands
-abbrev pub context_of : Tree → (k cell : ℕ) → Context
-context_of t k cell = context_in k (lists_of t k) (bands_of (sizes_in t k) cell)
+abbrev pub context_of_cell : Tree → (k cell : ℕ) → Context
+context_of_cell t k cell = context_in k (lists_of t k) (bands_of (sizes_in t k) cell)
 
 -- the number of the cell of a context is made of its numbers in each dimension
 abbrev pub cell_of : Tree → (k : ℕ) → Context → ℕ
@@ -122,7 +122,7 @@ pub record HasLinesOf (t : Tree) (x : Context) (lines : CellLines) : Type 0 wher
 
 -- the lines in the tables of a tariff are those of the context of each cell, in the order of the cells
 abbrev pub all_cells : Tree → (k : ℕ) → List CellLines
-all_cells t k = map (λ cell. lines_at t (context_of t k cell)) (range_with_len 0 (cell_count (sizes_in t k)))
+all_cells t k = map (λ cell. lines_at t (context_of_cell t k cell)) (range_with_len 0 (cell_count (sizes_in t k)))
 
 -- the tables of a tariff, if k pulses make a kilometre, have its cuts, the weights of its rates, its fees, minimum
 -- fares, lines of cells and supplements, and as M k times the common measure
@@ -181,14 +181,14 @@ lines_in tables x =
     get_or tables.cells (cell_number (sizes_for tables) (bands_at tables.cuts x)) no_lines
 
 -- the fees that lines name in tables are an initial hire fee, and a minimum fare or 0
-abbrev pub fees_of : TableParts → CellLines → fees.Initial
-fees_of tables lines =
+abbrev pub fees_named : TableParts → CellLines → fees.Initial
+fees_named tables lines =
     initial_with (get_or tables.initials lines.initial (record { amount = 0; covers = 0 }))
     (get_or (0 ∷ tables.minimums) lines.minimum 0)
 
 -- the fees that tables have for a context are those that its lines name
 abbrev pub fees_in : TableParts → Context → fees.Initial
-fees_in tables x = fees_of tables (lines_in tables x)
+fees_in tables x = fees_named tables (lines_in tables x)
 
 -- weights are those of a context if they are made of the numbers of the rate that holds first in it
 pub record HasWeightsOf (t : Tree) (k : ℕ) (x : Context) (w : Weights) : Type 0 where

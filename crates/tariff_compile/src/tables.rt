@@ -5,7 +5,8 @@ ghost use Rattle.drive_modes.specs.Constant.{least_constant, greatest_constant};
 ghost use Rattle.tariff_calendar.specs.Lists.{has_day, has_days, is_holiday};
 ghost use Rattle.tariff_compile.specs.Cells.{IsBelow, cell_number};
 ghost use Rattle.tariff_compile.specs.Near.{IsNear};
-ghost use Rattle.tariff_compile.specs.Tables.{AreFit, IsCompiled, IsFit, IsInRangeFor, IsTablesOf, fees_in, fees_of, lines_in, rate_by, sizes_for, tables_of};
+ghost use Rattle.tariff_compile.specs.Tables.{AreFit, IsCompiled, IsFit, IsInRangeFor, IsTablesOf, fees_in};
+ghost use Rattle.tariff_compile.specs.Tables.{fees_named, lines_in, rate_by, sizes_for, tables_of};
 ghost use Rattle.tariff_check.specs.Amounts.{IsFitInitial, initial_by};
 ghost use Rattle.tariff_check.specs.Parts.{supplement_of};
 ghost use Rattle.tariff_syntax.specs.Tree.{Tree, tree_of};
@@ -180,9 +181,9 @@ impl Tables {
     }
 
     /// The fees that lines name. Each read of one is a step: 1 or 2.
-    fn fees_of<L: Ledger>(&self, lines: CellLines, steps: &mut Steps<L>) -> Initial
+    fn fees_named<L: Ledger>(&self, lines: CellLines, steps: &mut Steps<L>) -> Initial
         requires { lines.initial < length self.now.initials }
-        ensures value { result ≡ fees_of self.now lines }
+        ensures value { result ≡ fees_named self.now lines }
         ensures steps { (steps.old + 1 ≤ steps.new) × (steps.new ≤ steps.old + 2) }
     {
         let fee = Counted::of(self.initials.as_slice()).read(lines.initial as usize, steps);

@@ -13,7 +13,7 @@ use Rattle.tariff_syntax.specs.Part as part
 use Rattle.tariff_syntax.specs.Part.{Part}
 use Rattle.tariff_syntax.specs.TextLines.{lines_of}
 use Rattle.tariff_syntax.specs.Printed.{rounding_word, number_line, part_text, parts_text, entry_line}
-use Rattle.tariff_syntax.specs.Printed.{lines_text, printed}
+use Rattle.tariff_syntax.specs.Printed.{lines_text, printed_form}
 use Rattle.tariff_syntax.specs.PrintedCondition.{whole, condition_at, condition_text}
 use Rattle.tariff_syntax.specs.Reads.{AreTextsOfLines, AreTextsOfTariff, Reads}
 use Rattle.tariff_syntax.specs.Renumbered.{renumbered_from, renumbered}
@@ -219,7 +219,7 @@ decimals_say : (d : ℕ) → d ≤ 3 → IsDecimals (word (codes "decimals") ∷
 decimals_say d few = (decimal d, refl, number_says 0 3 d (omega arith) (omega arith) few)
 
 -- the law of printed forms
-pub printed_reads_back : (text : List ℕ) (t : Tree) → Reads text t → Reads (printed t) (renumbered t)
+pub printed_reads_back : (text : List ℕ) (t : Tree) → Reads text t → Reads (printed_form t) (renumbered t)
 printed_reads_back text t h =
     let said = said_tariff 1 (lines_of text) t h in
     let rest = lines_text t.decimals t.lines in

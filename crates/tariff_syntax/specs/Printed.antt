@@ -54,5 +54,5 @@ lines_text decimals [] = []
 lines_text decimals (l ∷ ls) = entry_line decimals l.entry (lines_text decimals ls)
 
 -- a tariff is printed as the line of its decimals and then its lines in their order
-abbrev pub printed : Tree → List ℕ
-printed t = number_line (codes "decimals ") t.decimals (lines_text t.decimals t.lines)
+abbrev pub printed_form : Tree → List ℕ
+printed_form t = number_line (codes "decimals ") t.decimals (lines_text t.decimals t.lines)

@@ -39,16 +39,18 @@ and_is_closed term = false
 and_is_closed factor = true
 
 -- a text is in parentheses if it is to have them, and else stands as it is
-abbrev pub closed : Bool → (List ℕ → List ℕ) → List ℕ → List ℕ
-closed false text rest = text rest
-closed true text rest = codes "(" ++ text (codes ")" ++ rest)
+abbrev pub in_parentheses : Bool → (List ℕ → List ℕ) → List ℕ → List ℕ
+in_parentheses false text rest = text rest
+in_parentheses true text rest = codes "(" ++ text (codes ")" ++ rest)
 
 -- a condition is printed by its parts, each at its level, in parentheses if the level asks for them
 abbrev pub condition_at : Level → Condition → List ℕ → List ℕ
 condition_at level (or left right) rest =
-    closed (or_is_closed level) (λ end. condition_at whole left (codes " or " ++ condition_at term right end)) rest
+    in_parentheses (or_is_closed level) (λ end. condition_at whole left
+        (codes " or " ++ condition_at term right end)) rest
 condition_at level (and left right) rest =
-    closed (and_is_closed level) (λ end. condition_at term left (codes " and " ++ condition_at factor right end)) rest
+    in_parentheses (and_is_closed level) (λ end. condition_at term left
+        (codes " and " ++ condition_at factor right end)) rest
 condition_at level (not inner) rest = codes "not " ++ condition_at factor inner rest
 condition_at level (position n) rest = codes "position " ++ (decimal n ++ rest)
 condition_at level (zone n) rest = codes "zone " ++ (decimal n ++ rest)

@@ -4,7 +4,7 @@ ghost use Rattle.std.specs.Fmt.{decimal};
 ghost use Rattle.taxi_units.specs.Number.{padded_text, money_text};
 ghost use Rattle.tariff_syntax.specs.Appends.{Appends};
 ghost use Rattle.tariff_syntax.specs.Condition.{condition_of};
-ghost use Rattle.tariff_syntax.specs.PrintedCondition.{condition_at, closed, whole, term, factor, days_text};
+ghost use Rattle.tariff_syntax.specs.PrintedCondition.{condition_at, in_parentheses, whole, term, factor, days_text};
 ghost use Rattle.tariff_syntax.specs.PrintedCondition.{minute_text, date_text};
 ghost use Rattle.taxi_units.specs.Weekdays.{day_name};
 
@@ -70,7 +70,7 @@ fn push_factor(text: &mut Vec<u8>, cond: &Cond) -> Result<(), AllocError>
 #[cycle(spelling)]
 fn push_closed(text: &mut Vec<u8>, cond: &Cond) -> Result<(), AllocError>
     ensures { OnOk result (Appends text.old.items text.new.items
-        (closed true (condition_at whole (condition_of cond.now)))) }
+        (in_parentheses true (condition_at whole (condition_of cond.now)))) }
 {
     text.push(b'(')?;
     push_condition(text, cond)?;

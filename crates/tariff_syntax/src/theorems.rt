@@ -13,7 +13,7 @@ ghost use Rattle.tariff_syntax.specs.Meaning.{IsFirstPlace, at_hiring, holds_if,
 ghost use Rattle.tariff_syntax.specs.Meaning.{place_of, rate_place};
 ghost use Rattle.tariff_syntax.specs.Parentheses.{NeedsParentheses};
 ghost use Rattle.tariff_syntax.specs.Parsed.{tree_parsed};
-ghost use Rattle.tariff_syntax.specs.Printed.{printed};
+ghost use Rattle.tariff_syntax.specs.Printed.{printed_form};
 ghost use Rattle.tariff_syntax.specs.Reads.{Reads, IsFirstBadLine, RiseInNumber};
 ghost use Rattle.tariff_syntax.specs.Renumbered.{renumbered};
 ghost use Rattle.tariff_syntax.specs.TextLines.{AreLines, lines_of};
@@ -52,7 +52,7 @@ pub fn bad_lines_have_no_form()
 /// The law of printed forms: the printed form of a tariff that a text reads as reads as that tariff, but for the
 /// numbers of its lines.
 pub fn printed_forms_read_back()
-    ensures { (text : List ℕ) (t : Tree) → Reads text t → Reads (printed t) (renumbered t) }
+    ensures { (text : List ℕ) (t : Tree) → Reads text t → Reads (printed_form t) (renumbered t) }
 {}
 
 /// The law of numbers: each number of a tariff that a text reads as is in the range of its place in a text.

@@ -5,7 +5,7 @@ ghost use Rattle.taxi_units.specs.Number.{money_text};
 ghost use Rattle.tariff_syntax.specs.Appends.{Appends};
 ghost use Rattle.tariff_syntax.specs.Condition.{condition_of, condition_if};
 ghost use Rattle.tariff_syntax.specs.PrintedCondition.{condition_text};
-ghost use Rattle.tariff_syntax.specs.Printed.{printed, number_line, entry_line, lines_text, when_text};
+ghost use Rattle.tariff_syntax.specs.Printed.{printed_form, number_line, entry_line, lines_text, when_text};
 ghost use Rattle.tariff_syntax.specs.Tree as tree;
 ghost use Rattle.tariff_syntax.specs.Tree.{tree_of, entry_of, line_of, without_when};
 
@@ -23,7 +23,7 @@ use taxi_units::NoMemory;
 /// `NoMemory`: memory runs out.
 pub fn print(alloc: Global, tariff: &Tariff) -> Result<Vec<u8>, NoMemory>
     requires { tariff.now.decimals ≤ 3 }
-    ensures { IfOk result (λ text. text.items ≡ printed (tree_of tariff.now)) }
+    ensures { IfOk result (λ text. text.items ≡ printed_form (tree_of tariff.now)) }
 {
     write_tariff(alloc, tariff).map_err(|_| NoMemory)
 }
@@ -31,7 +31,7 @@ pub fn print(alloc: Global, tariff: &Tariff) -> Result<Vec<u8>, NoMemory>
 /// The printed form of a tariff; out of memory is the only error.
 fn write_tariff(alloc: Global, tariff: &Tariff) -> Result<Vec<u8>, AllocError>
     requires { tariff.now.decimals ≤ 3 }
-    ensures { IfOk result (λ text. text.items ≡ printed (tree_of tariff.now)) }
+    ensures { IfOk result (λ text. text.items ≡ printed_form (tree_of tariff.now)) }
 {
     let mut text = Vec::new(alloc);
     push_number(&mut text, b"decimals ", tariff.decimals)?;

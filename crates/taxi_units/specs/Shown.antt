@@ -27,8 +27,8 @@ pub record IsStamp (stamp : Stamp) : Type 0 where
 
 -- the fare of a receipt is its initial hire fee and its step for each display step, or its minimum if that is more,
 -- and at most 99,999,999
-abbrev pub fare_of : Receipt → ℕ
-fare_of receipt = min largest_amount (max receipt.minimum (receipt.initial + receipt.steps * receipt.step))
+abbrev pub fare_of_receipt : Receipt → ℕ
+fare_of_receipt receipt = min largest_amount (max receipt.minimum (receipt.initial + receipt.steps * receipt.step))
 
 -- a receipt is in its ranges if it is for a hiring and not for roaming, has each number in its range, and the fare
 -- that its parts make
@@ -43,6 +43,6 @@ pub record IsReceipt (receipt : Receipt) : Type 0 where
   pub minimum : receipt.minimum ≤ largest_amount
   pub steps : receipt.steps < 10 ^ 18
   pub step : (1 ≤ receipt.step) × (receipt.step ≤ largest_display_step)
-  pub fare : receipt.fare ≡ fare_of receipt
+  pub fare : receipt.fare ≡ fare_of_receipt receipt
   pub supplements : receipt.supplements ≤ largest_supplements
   pub decimals : AreDecimals receipt.decimals

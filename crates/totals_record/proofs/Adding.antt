@@ -6,7 +6,7 @@ use Rattle.std.proofs.lemmas.List.Sums.{sum_by-append, sum_by-cons}
 use Rattle.totals_record.specs.declared.entry.Entry.{Entry}
 use Rattle.totals_record.specs.declared.totals.Share.{Share}
 use Rattle.totals_record.specs.declared.totals.Totals.{Totals}
-use Rattle.totals_record.specs.Entries.{AddsUp, ShareAddsUp, distance_of, fare_at, fare_of}
+use Rattle.totals_record.specs.Entries.{AddsUp, ShareAddsUp, distance_of, fare_at, fare_of_entry}
 use Rattle.totals_record.specs.Entries.{hired_of, hirings_at, hirings_of, share_of, share_with, supplements_of}
 use Rattle.totals_record.specs.Entries.{totals_of, totals_with}
 use Rattle.totals_record.proofs.Shares.{length_same, share_at_place}
@@ -64,7 +64,7 @@ adds_up totals entries = record {
   hired = sum_of (λ t. t.hired_mm) hired_of (λ t e. refl) totals entries;
   hirings = sum_of (λ t. t.hirings) hirings_of (λ t e. refl) totals entries;
   supplements = sum_of (λ t. t.supplements) supplements_of (λ t e. refl) totals entries;
-  fare = sum_of (λ t. t.fare) fare_of (λ t e. refl) totals entries;
+  fare = sum_of (λ t. t.fare) fare_of_entry (λ t e. refl) totals entries;
   nine = as_many totals entries;
   shares = λ position low high. share_adds position totals entries low high;
   before = before_stays totals entries;
@@ -82,7 +82,7 @@ adds_then a b c xs ys first next = record {
   hired = both hired_of xs ys _ _ _ first.hired next.hired;
   hirings = both hirings_of xs ys _ _ _ first.hirings next.hirings;
   supplements = both supplements_of xs ys _ _ _ first.supplements next.supplements;
-  fare = both fare_of xs ys _ _ _ first.fare next.fare;
+  fare = both fare_of_entry xs ys _ _ _ first.fare next.fare;
   nine = next.nine ∙ first.nine;
   shares = λ position low high.
       let one = first.shares position low high in

@@ -40,8 +40,8 @@ abbrev pub supplements_of : Entry → ℕ
 supplements_of entry = entry.supplements
 
 -- the fare of an entry is what was charged as fare
-abbrev pub fare_of : Entry → ℕ
-fare_of entry = entry.fare
+abbrev pub fare_of_entry : Entry → ℕ
+fare_of_entry entry = entry.fare
 
 -- an entry counts as one hiring at a tariff position if it closes one there, and else as none
 abbrev pub hirings_at : ℕ → Entry → ℕ
@@ -86,7 +86,7 @@ totals_with totals entry = record {
   hired_mm = totals.hired_mm + hired_of entry;
   hirings = totals.hirings + hirings_of entry;
   supplements = totals.supplements + supplements_of entry;
-  fare = totals.fare + fare_of entry;
+  fare = totals.fare + fare_of_entry entry;
   shares = shares_with entry 1 totals.shares;
   before = totals.before;
 }
@@ -113,7 +113,7 @@ pub record AddsUp (old new : Totals) (entries : List Entry) : Type 0 where
   pub hired : new.hired_mm ≡ old.hired_mm + sum_by hired_of entries
   pub hirings : new.hirings ≡ old.hirings + count_by closes entries
   pub supplements : new.supplements ≡ old.supplements + sum_by supplements_of entries
-  pub fare : new.fare ≡ old.fare + sum_by fare_of entries
+  pub fare : new.fare ≡ old.fare + sum_by fare_of_entry entries
   pub nine : length new.shares ≡ length old.shares
   pub shares : (position : ℕ) → 1 ≤ position → position ≤ length old.shares
       → ShareAddsUp position (share_of old position) (share_of new position) entries

@@ -30,7 +30,7 @@ use Rattle.verify_bench.specs.ClosedTrips.{parts_by, parts_over, rest_in}
 use Rattle.verify_bench.specs.Explaining.{Explanation, explanation, explanations_from, explanations_in, explanations_of}
 use Rattle.verify_bench.specs.Explaining.{hired_at, hired_by, trip_at}
 use Rattle.verify_bench.specs.Receipts.{receipts_in}
-use Rattle.verify_bench.specs.Wholes.{BeganIn, IsOfText, IsOfTrip, IsPrinted}
+use Rattle.verify_bench.specs.Wholes.{BeganIn, IsOfText, IsOfTrip, IsReceiptAmong}
 
 -- ---- a trip that may be none began in a context
 
@@ -291,7 +291,7 @@ since_next s past event m hired (Some t) (Some u) has there kept since stays =
 module _ (s : Setting) (drive past : List Event) (event : Event) (after : List Event) (m : Meter) (hired : Context)
     (split : drive ++ events.Down ∷ [] ≡ past ++ event ∷ after) (fresh : Fresh s hired m.trip) where
   told_of : (t : MeterTrip) → m.trip ≡ Some t → Since s past m hired t → (receipt : Receipt)
-      → IsReceiptOf s (trip_at s event m) receipt → IsPrinted (step s event m).acts receipt
+      → IsReceiptOf s (trip_at s event m) receipt → IsReceiptAmong (step s event m).acts receipt
       → IsOfTrip s drive (explanation s hired (trip_at s event m) receipt)
   told_of t has since receipt is_of printed =
       let x = context_now s (meter_after s since.before) in
@@ -326,14 +326,14 @@ module _ (s : Setting) (drive past : List Event) (event : Event) (after : List E
           started = ap (λ (v : MeterTrip). v.started) is_t ∙ since.started;
         };
         began = subst (λ (y : Context). BeganIn s y is_of.t) since.hired_is there;
-        printed = subst (λ (o : Meter). IsPrinted (step s event o).acts receipt) (sym since.comes) printed;
+        printed = subst (λ (o : Meter). IsReceiptAmong (step s event o).acts receipt) (sym since.comes) printed;
         is = ap (λ (y : Context). explanation s y (trip_at s event m) receipt) since.hired_is
             ∙ (ap (λ (o : Option MeterTrip). explanation s x o receipt) is_of.there
             ∙ ap (λ (r : Receipt). explanation s x (Some is_of.t) r) is_of.is);
       }
 
   told_by : (was : Option MeterTrip) → m.trip ≡ was → IsSince s past m hired was → (receipt : Receipt)
-      → IsReceiptOf s (trip_at s event m) receipt → IsPrinted (step s event m).acts receipt
+      → IsReceiptOf s (trip_at s event m) receipt → IsReceiptAmong (step s event m).acts receipt
       → IsOfTrip s drive (explanation s hired (trip_at s event m) receipt)
   told_by None has since receipt is_of printed =
       let e : Some is_of.t ≡ None = sym is_of.there ∙ (trip_grows s event m

@@ -20,7 +20,7 @@ use Rattle.tariff_syntax.specs.declared.context.Context.{Context}
 use Rattle.taxi_units.specs.declared.event.Event.{Event}
 use Rattle.verify_bench.specs.ClosedTrips.{hiring_meter}
 use Rattle.verify_bench.specs.Explaining.{Explanation, explanations_of}
-use Rattle.verify_bench.specs.Fees.{fees_of_hiring, line_in}
+use Rattle.verify_bench.specs.Fees.{fees_of_hiring, line_at_place}
 use Rattle.verify_bench.specs.Wholes.{HasFees, HasMinimum, IsInForce, IsOfTrip}
 use Rattle.verify_bench.proofs.DriveTrips.{explained_are_of_trips}
 
@@ -52,7 +52,7 @@ minimum_by : (t : Tree) (x : Context) (o : Option ℕ) → place_in_force (sound
     → HasMinimum (sound_of t).minimums (at_hiring x) (fees_of_hiring (sound_of t) x)
 minimum_by t x None is = inl (
   is,
-  ap (λ (o : Option ℕ). line_in (lines_of (sound_of t).minimums) o) is,
+  ap (λ (o : Option ℕ). line_at_place (lines_of (sound_of t).minimums) o) is,
   ap (λ (o : Option ℕ). get_or (0 ∷ values_of (sound_of t).minimums) (place_number o) 0) is,
 )
 minimum_by t x (Some place) is =
@@ -64,7 +64,7 @@ minimum_by t x (Some place) is =
     inr (
       found.0,
       record { place = place; first = is; there = found.1 },
-      ap (λ (o : Option ℕ). line_in (lines_of all) o) is
+      ap (λ (o : Option ℕ). line_at_place (lines_of all) o) is
           ∙ ap (λ (n : ℕ). Some n) (mapped_there (λ (c : Choice ℕ). c.line) all place found.0 0 found.1),
       ap (λ (o : Option ℕ). get_or (0 ∷ values_of all) (place_number o) 0) is
           ∙ (ap (λ (n : ℕ). get_or (0 ∷ values_of all) n 0) next

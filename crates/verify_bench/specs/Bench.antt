@@ -110,8 +110,8 @@ GoesThroughQuietly s stage old new =
     → Moves s hired next trip found found new (stage s m)
 
 -- a meter of the bench hires if nothing is found in it, and the context of the meter is that of the hiring
-abbrev pub Hires : Setting → (old new : BenchMeter) → Type 0
-Hires s old new =
+abbrev pub GoesThroughHiring : Setting → (old new : BenchMeter) → Type 0
+GoesThroughHiring s old new =
     (trip : Option MeterTrip) (found : List Explained) (m : Meter) (hired : Context) → BenchStands s hired old m
     → Moves s hired (context_now s m) trip found found new (hiring s m)
 

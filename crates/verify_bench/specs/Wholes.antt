@@ -51,7 +51,7 @@ pub record BeganIn (s : Setting) (hired : Context) (trip : MeterTrip) : Type 0 w
   pub extras : IsOfText s → All IsSupplementNumber trip.extras
 
 -- a receipt is printed among acts if it is one of those that they print
-pub record IsPrinted (acts : List Act) (receipt : Receipt) : Type 0 where
+pub record IsReceiptAmong (acts : List Act) (receipt : Receipt) : Type 0 where
   pub front : List Receipt
   pub back : List Receipt
   pub among : receipts_in acts ≡ front ++ receipt ∷ back
@@ -67,7 +67,7 @@ pub record IsOfTrip (s : Setting) (events : List Event) (e : Explanation) : Type
   pub number : ℕ
   pub closed : IsClosedTrip s events of trip
   pub began : BeganIn s (context_now s (hiring_meter s events of)) trip
-  pub printed : IsPrinted (step s of.closing (closing_meter s events of)).acts e.receipt
+  pub printed : IsReceiptAmong (step s of.closing (closing_meter s events of)).acts e.receipt
   pub is : e ≡ explanation s (context_now s (hiring_meter s events of)) (Some trip)
       (receipt_of s kind finish position trip number)
 

@@ -3,7 +3,7 @@ ghost use Rattle.std.specs.Prelude.{◌≡◌, ◌∷◌, get_or};
 ghost use Rattle.tariff_check.specs.Amounts.{IsFitInitial, place_number};
 ghost use Rattle.tariff_check.specs.SoundTariff.{own_lines, own_values, sound_of};
 ghost use Rattle.tariff_syntax.specs.Tree.{tree_of};
-ghost use Rattle.verify_bench.specs.Fees.{fees_of_hiring, line_in};
+ghost use Rattle.verify_bench.specs.Fees.{fees_of_hiring, line_at_place};
 
 use crate::lookups::value_at;
 use tariff_check::{Checked, Choice, Initial, InitialNumbers};
@@ -39,7 +39,7 @@ pub(crate) fn fees_of_hiring(checked: &Checked, x: &Context) -> HiringFees
             minimum: amount_in(minimums, minimum),
         },
         initial_line: line_at(initials, initial),
-        minimum_line: line_in(minimums, minimum),
+        minimum_line: line_at_place(minimums, minimum),
     }
 }
 
@@ -64,8 +64,8 @@ fn line_at<V>(choices: &[Choice<V>], place: usize) -> u32
 }
 
 /// The number of the line of the choice at a place, from 0; none without a place.
-fn line_in<V>(choices: &[Choice<V>], place: Option<usize>) -> Option<u32>
-    ensures { result ≡ line_in (own_lines choices.now) place }
+fn line_at_place<V>(choices: &[Choice<V>], place: Option<usize>) -> Option<u32>
+    ensures { result ≡ line_at_place (own_lines choices.now) place }
 {
     match place {
         None => None,

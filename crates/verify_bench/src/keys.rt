@@ -22,7 +22,7 @@ use tariff_check::{Checked, Supplement};
 use taxi_units::{HIRINGS_END, Key, Kind, NoMemory, Operating, Steps};
 
 impl BenchMeter {
-    ghost use Rattle.verify_bench.specs.Bench.{GoesThroughKey, GoesThroughQuietly, Hires, IsMeterInRange};
+    ghost use Rattle.verify_bench.specs.Bench.{GoesThroughKey, GoesThroughQuietly, GoesThroughHiring, IsMeterInRange};
 
     /// Lets a key wait, if none does.
     pub(crate) fn latch_key(&mut self, key: Key)
@@ -46,7 +46,7 @@ impl BenchMeter {
     )
         requires sound { IsMeterInRange last_tick 0 self.old }
         requires for_hire { self.old.operating ≡ ForHire }
-        ensures moves { Hires (setting_under checked.now params.now) self.old self.new }
+        ensures moves { GoesThroughHiring (setting_under checked.now params.now) self.old self.new }
         ensures sound { IsMeterInRange last_tick 0 self.new }
     {
         if self.number >= HIRINGS_END {

@@ -1,7 +1,7 @@
 use Rattle.std.proofs.Common.{[], ◌∷◌, All, ap, subst, sym, refl}
 use Rattle.std.proofs.lemmas.List.Elements.{All-head}
 use Rattle.receipt_text.specs.Receipts.{receipt_text}
-use Rattle.receipt_text.specs.SealParts.{part_of}
+use Rattle.receipt_text.specs.SealParts.{part_of_seal}
 use Rattle.receipt_text.specs.Texts.{display_text, refusal_text}
 use Rattle.meter_states.specs.Acts.{IsLawfulAct}
 use Rattle.meter_model.specs.declared.act.Act.{Act}
@@ -54,7 +54,7 @@ pub returns-in-Receipt-clause-points : goal.returns-in-Receipt-clause-points
 returns-in-Receipt-clause-points g c = λ told tables may.
     let known = c.args.known.now in
     print_point g.B.Board tables c.args.seal.now c.args.board.now c.print_receipt.new.board known.durable known.place
-    (Does c.args.act.now) (receipt_text c.in-Receipt.receipt (part_of c.args.seal.now))
+    (Does c.args.act.now) (receipt_text c.in-Receipt.receipt (part_of_seal c.args.seal.now))
     (ap (act_text c.args.seal.now) c.in-Receipt.is)
     (may.agrees.settled told) may.agrees.fits c.print_receipt.ensures.printed.store
     c.print_receipt.ensures.printed.leaves c.print_receipt.ensures.printed.begun

@@ -7,7 +7,7 @@ use Rattle.sha2.specs.Sha256.{sha256}
 use Rattle.tariff_syntax.specs.Tree.{Tree}
 use Rattle.call_ends.specs.Ending.{ended_for}
 use Rattle.store_commands.specs.StoreEnds.{ended_for_params}
-use Rattle.store_commands.specs.Seal.{HasDecimals, seal_read, where_decimals, with_params, with_tariff}
+use Rattle.store_commands.specs.Seal.{HasDecimals, seal_read, where_decimals, with_params, seal_with_tariff}
 use Rattle.store_commands.specs.SealSteps.{IsNoSeal}
 use Rattle.call_ends.specs.declared.ending.Ended.{Ended}
 use Rattle.call_ends.specs.declared.tariff.Refusal.{Refusal}
@@ -26,7 +26,7 @@ seal_made : (number : ℕ) (found : Option ℕ) (tariff text : List ℕ) (params
     → seal_read number found tariff text
     ≡ Ok (record { seal_number = number; params = params; digest = digest; decimals = decimals })
 seal_made number found tariff text params digest decimals has decimals_are read digested =
-    ap (λ (r : Result Tree Refusal). with_tariff number found (sha256 tariff) r (params_read text)) has.sound
+    ap (λ (r : Result Tree Refusal). seal_with_tariff number found (sha256 tariff) r (params_read text)) has.sound
     ∙ ap (λ (r : Result (Unit {0}) Ended). where_decimals r
     (with_params number (sha256 tariff) has.tree.decimals (params_read text))) has.decimals
     ∙ rw (sym digested, decimals_are, read) refl

@@ -9,7 +9,7 @@ use Rattle.call_ends.specs.declared.ending.Ended.TheVariants as ended
 use Rattle.store_commands.specs.declared.opening.StoreFault.TheVariants as stores
 use Rattle.call_ends.specs.Ending.{EndsOnDevices}
 use Rattle.call_ends.specs.LastLine.{line_of, status_of}
-use Rattle.store_commands.specs.Opening.{opening_of, store_ended}
+use Rattle.store_commands.specs.Opening.{opening_in, store_ended}
 use Rattle.store_commands.specs.Seal.{seal_answer, seal_command, sealing_of}
 use Rattle.store_commands.specs.SealSteps.{IsNoSeal}
 use Rattle.call_ends.proofs.Laws.{ends_apart, not_status, stops_at, as_found, as_refused, no_fault, same_fault}
@@ -37,7 +37,7 @@ returns-in-Err-clause-carries g c = record {
       (printed c.open_store.new.board) refl c.open_store.ensures.reads.text
       (λ e. absurd cc) (λ e. absurd cc) (store_ended fault) (inr (fault, refl))
       (λ good. ap (λ r. seal_answer (sealing_of r (rest 1) (rest 2)))
-      (as_refused c.open_store.result (opening_of image) fault stores.BoardFault c.in-Err.is
+      (as_refused c.open_store.result (opening_in image) fault stores.BoardFault c.in-Err.is
       (λ e. good (ap store_ended e)) (c.open_store.ensures.exact tells)))
       (λ e. c.open_store.ensures.cause (c.in-Err.is ∙ ap Err (board_fault-store fault e))));
   steps = λ later le. search (rules, le);
@@ -76,7 +76,7 @@ returns-in-Err-clause-comes g c = λ read tells. record {
       rests-refused g.B.Board _ (store_ended c.in-Err.fault) (g.B.Board.image c.args.board.now)
       (g.B.Board.printed c.args.board.now) (line_of c.refused_store.result) c.open_store.new.board
       (ap (λ r. sealing_of r (rest 1) (rest 2)) (as_refused c.open_store.result
-      (opening_of (g.B.Board.image c.args.board.now)) c.in-Err.fault stores.BoardFault c.in-Err.is
+      (opening_in (g.B.Board.image c.args.board.now)) c.in-Err.fault stores.BoardFault c.in-Err.is
       (λ e. good (c.refused_store.ensures ∙ ap store_ended e)) (c.open_store.ensures.exact tells)))
       (c.open_store.ensures.same went) (c.open_store.ensures.settled tells went);
 }
@@ -88,11 +88,11 @@ returns-in-Err-base_of-clause-carries g c = record {
   ends = λ known. let read = known.0 in let tells = known.1 in
       let rest = g.F.Files.rest c.args.files.now in
       let image = g.B.Board.image c.args.board.now in
-      let opened = as_found c.open_store.result (opening_of image) c.in-Ok.opening stores.BoardFault c.in-Ok.is
+      let opened = as_found c.open_store.result (opening_in image) c.in-Ok.opening stores.BoardFault c.in-Ok.is
       (c.open_store.ensures.exact tells) in
       course-barred rest rest image _ _ g.B.Board.tells_text (g.B.Board.printed c.args.board.now)
       (g.B.Board.printed c.open_store.new.board) c.open_store.ensures.reads.text c.in-Err-base_of.ended
-      (sealing-barred (opening_of image) c.in-Ok.opening c.base_of.result c.in-Err-base_of.ended (rest 1) (rest 2)
+      (sealing-barred (opening_in image) c.in-Ok.opening c.base_of.result c.in-Err-base_of.ended (rest 1) (rest 2)
       opened c.in-Err-base_of.is c.base_of.ensures.answer)
       (c.base_of.ensures.refused c.in-Err-base_of.ended c.in-Err-base_of.is);
   steps = λ later le. search (rules, le);
@@ -131,8 +131,8 @@ returns-in-Err-base_of-clause-comes g c = λ read tells. record {
       let image = g.B.Board.image c.args.board.now in
       rests-refused g.B.Board _ c.in-Err-base_of.ended image (g.B.Board.printed c.args.board.now)
       (line_of c.in-Err-base_of.ended) c.open_store.new.board
-      (sealing-barred (opening_of image) c.in-Ok.opening c.base_of.result c.in-Err-base_of.ended (rest 1) (rest 2)
-      (as_found c.open_store.result (opening_of image) c.in-Ok.opening stores.BoardFault c.in-Ok.is
+      (sealing-barred (opening_in image) c.in-Ok.opening c.base_of.result c.in-Err-base_of.ended (rest 1) (rest 2)
+      (as_found c.open_store.result (opening_in image) c.in-Ok.opening stores.BoardFault c.in-Ok.is
       (c.open_store.ensures.exact tells))
       c.in-Err-base_of.is c.base_of.ensures.answer)
       (c.open_store.ensures.same went) (c.open_store.ensures.settled tells went);
@@ -152,7 +152,7 @@ returns-in-Err-read_seal-clause-carries g c = record {
       (λ word. Rose (faults c.args.files.now word) (faults c.read_seal.new.files word)) _
       g.B.Board.tells_text (g.B.Board.printed c.args.board.now)
       (g.B.Board.printed c.open_store.new.board) c.open_store.ensures.reads.text c.in-Ok.opening c.base_of.result base
-      end (as_found c.open_store.result (opening_of image) c.in-Ok.opening stores.BoardFault c.in-Ok.is
+      end (as_found c.open_store.result (opening_in image) c.in-Ok.opening stores.BoardFault c.in-Ok.is
       (c.open_store.ensures.exact tells)) c.in-Ok-base_of.is c.base_of.ensures.answer
       (subst (λ (n : ℕ). IsNoSeal n base.decimals (rest c.args.files.now 1) (rest c.args.files.now 2)
       (λ word. Rose (faults c.args.files.now word) (faults c.read_seal.new.files word)) end)
@@ -173,7 +173,7 @@ returns-in-Err-read_seal-clause-carries g c = record {
   unread =
       λ known. unread-sealing (g.F.Files.rest c.args.files.now) (g.F.Files.rest c.read_seal.new.files)
       (g.B.Board.image c.args.board.now) c.in-Ok.opening c.base_of.result c.in-Ok-base_of.base
-      (as_found c.open_store.result (opening_of (g.B.Board.image c.args.board.now)) c.in-Ok.opening stores.BoardFault
+      (as_found c.open_store.result (opening_in (g.B.Board.image c.args.board.now)) c.in-Ok.opening stores.BoardFault
       c.in-Ok.is (c.open_store.ensures.exact known.1))
       c.in-Ok-base_of.is c.base_of.ensures.answer (c.read_seal.ensures.reads.unread known.0);
   count = λ good. c.open_store.ensures.count (no_fault c.open_store.result c.in-Ok.opening stores.BoardFault
@@ -212,7 +212,7 @@ returns-in-Err-read_seal-clause-comes g c = λ read tells. record {
       rests-no_seal g.B.Board (rest 1) (rest 2) image (g.B.Board.printed c.args.board.now) c.in-Ok.opening
       c.base_of.result base
       (λ word. Rose (faults c.args.files.now word) (faults c.read_seal.new.files word)) c.open_store.new.board
-      (as_found c.open_store.result (opening_of image) c.in-Ok.opening stores.BoardFault c.in-Ok.is
+      (as_found c.open_store.result (opening_in image) c.in-Ok.opening stores.BoardFault c.in-Ok.is
       (c.open_store.ensures.exact tells)) c.in-Ok-base_of.is c.base_of.ensures.answer
       (c.open_store.ensures.same went) c.open_store.ensures.reads.text (c.open_store.ensures.settled tells went) end
       (subst (λ (n : ℕ). IsNoSeal n base.decimals (rest 1) (rest 2)
@@ -254,7 +254,7 @@ returns-in-Ok-place_seal-clause-carries g c = record {
   unread =
       λ known. unread-sealing (g.F.Files.rest c.args.files.now) (g.F.Files.rest c.read_seal.new.files)
       (g.B.Board.image c.args.board.now) c.in-Ok.opening c.base_of.result c.in-Ok-base_of.base
-      (as_found c.open_store.result (opening_of (g.B.Board.image c.args.board.now)) c.in-Ok.opening stores.BoardFault
+      (as_found c.open_store.result (opening_in (g.B.Board.image c.args.board.now)) c.in-Ok.opening stores.BoardFault
       c.in-Ok.is (c.open_store.ensures.exact known.1))
       c.in-Ok-base_of.is c.base_of.ensures.answer (c.read_seal.ensures.reads.unread known.0);
   count = λ good. c.in-Ok-place_seal.ensures.cause.kept refl ∙ c.open_store.ensures.count
@@ -325,7 +325,7 @@ returns-in-Err-place_seal-clause-carries g c = record {
   unread =
       λ known. unread-sealing (g.F.Files.rest c.args.files.now) (g.F.Files.rest c.read_seal.new.files)
       (g.B.Board.image c.args.board.now) c.in-Ok.opening c.base_of.result c.in-Ok-base_of.base
-      (as_found c.open_store.result (opening_of (g.B.Board.image c.args.board.now)) c.in-Ok.opening stores.BoardFault
+      (as_found c.open_store.result (opening_in (g.B.Board.image c.args.board.now)) c.in-Ok.opening stores.BoardFault
       c.in-Ok.is (c.open_store.ensures.exact known.1))
       c.in-Ok-base_of.is c.base_of.ensures.answer (c.read_seal.ensures.reads.unread known.0);
   count = λ good. absurd (good refl);

@@ -4,7 +4,7 @@ use Rattle.tariff_syntax.specs.Tree.{tree_of}
 use Rattle.std.specs.List.{range_with_len}
 use Rattle.tariff_syntax.specs.declared.context.Context.{Context}
 use Rattle.tariff_compile.specs.Cells.{IsBelow, IsNarrow, bands_of, cell_count, context_in}
-use Rattle.tariff_compile.specs.Tables.{context_of, lines_at, sizes_in}
+use Rattle.tariff_compile.specs.Tables.{context_of_cell, lines_at, sizes_in}
 use Rattle.tariff_compile.specs.declared.parts.Bands.{Bands}
 use Rattle.tariff_compile.proofs.Blocks.{block_more}
 use Rattle.tariff_compile.proofs.Compiled.{bands_in-below, bands_in-narrow, cell_count-cells_of, sizes_checked}
@@ -42,19 +42,19 @@ loop-first-preserved c =
     let k = c.args.k in
     let first = c.loop-first.first in
     let some = c.min-end.result - first in
-    let all = λ (n : ℕ). map (λ (cell : ℕ). lines_at t (context_of t k cell)) (range_with_len 0 n) in
+    let all = λ (n : ℕ). map (λ (cell : ℕ). lines_at t (context_of_cell t k cell)) (range_with_len 0 n) in
     let end : first + some ≡ c.min-end.result = omega (arith, c.min-end.ensures, c.loop-first-test.true) in
     let sizes : c.sizes_of-sizes.result ≡ sizes_in t k = c.sizes_of-sizes.ensures
     ∙ sizes_checked t k c.positions.result c.zones.result c.args.cuts.now c.positions.ensures.value
     c.zones.ensures.value c.requires.cuts in
-    let block : c.as_slice.result.now ≡ map (context_of t k) (range_with_len first some) =
+    let block : c.as_slice.result.now ≡ map (context_of_cell t k) (range_with_len first some) =
     c.as_slice.ensures.value ∙ (c.in_ok-contexts.ensures ∙ rw (c.requires.cuts, sizes) refl) in
     record {
       within = omega (arith, c.min-end.ensures);
       so_far = c.in_ok-push_lines.ensures
           ∙ (ap (λ xs. xs ++ map (lines_at t) c.as_slice.result.now) c.loop-first.invariant.so_far
           ∙ (ap (λ (xs : List Context). all first ++ map (lines_at t) xs) block
-          ∙ (block_more (context_of t k) (lines_at t) first some ∙ ap all end)));
+          ∙ (block_more (context_of_cell t k) (lines_at t) first some ∙ ap all end)));
     }
 
 pub returns : goal.returns
@@ -69,4 +69,4 @@ returns c =
       cell_count-cells_of t k,
     ) in
     c.loop-first.invariant.so_far
-    ∙ ap (λ (n : ℕ). map (λ (cell : ℕ). lines_at t (context_of t k cell)) (range_with_len 0 n)) whole
+    ∙ ap (λ (n : ℕ). map (λ (cell : ℕ). lines_at t (context_of_cell t k cell)) (range_with_len 0 n)) whole

@@ -1,7 +1,7 @@
 use Rattle.std.proofs.Common.{List, subst, sym, ◌∙◌}
 use Rattle.taxi_units.specs.declared.event.Event.{Event}
 use Rattle.meter_states.specs.Equals.{intervals_of}
-use Rattle.meter_run.specs.Dry.{Carries}
+use Rattle.meter_run.specs.Dry.{CarriesEvents}
 use Rattle.meter_run.proofs.Equal.{carries_still, intervals_are, ready_still}
 use Rattle.meter_run.proofs.dry.DryMeterCarrier.carry_equal.Goals as goal
 
@@ -21,7 +21,7 @@ pub returns-clause-carried : goal.returns-clause-carried
 returns-clause-carried g c = λ board ready.
     let n = c.equal_intervals.result in
     let x = c.args.self.now in
-    subst (λ (es : List Event). Carries g.B.Board c.args.by.now.tables.now c.args.by.now.seal.now x board es
+    subst (λ (es : List Event). CarriesEvents g.B.Board c.args.by.now.tables.now c.args.by.now.seal.now x board es
     (record x { core = c.equal_intervals.new.self }) board) (intervals_are c.args.pulses n)
     (carries_still g.B.Board c.args.by.now.tables.now c.args.by.now.seal.now
     (intervals_of c.args.pulses n) x c.equal_intervals.new.self board c.equal_intervals.ensures.meets)

@@ -1,4 +1,4 @@
-use Rattle.meter_model.specs.Closing.{entry_of, receipt_of}
+use Rattle.meter_model.specs.Closing.{entry_of_trip, receipt_of}
 use Rattle.meter_model.specs.Meter.{Meter, entered, printed}
 use Rattle.meter_states.proofs.Outcomes.{follows-then}
 use Rattle.meter_states.proofs.meter_state.State.close_trip.Goals as goal
@@ -10,7 +10,7 @@ returns-clause-ranges g c =
 pub returns-clause-follows : goal.returns-clause-follows
 returns-clause-follows g c = λ s m t is e st.
     let first = c.enter_trip.ensures.follows s m t is.tariff e st in
-    let entry = entered (entry_of s c.args.closing.kind m.position t) m in
+    let entry = entered (entry_of_trip s c.args.closing.kind m.position t) m in
     let second = c.print_receipt.ensures.follows s entry.next t is e first.state in
     follows-then s c.enter_trip.new.self c.enter_trip.new.self c.args.acts.now.items c.enter_trip.new.acts.items
     c.print_receipt.new.acts.items entry

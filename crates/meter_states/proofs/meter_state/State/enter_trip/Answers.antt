@@ -1,6 +1,6 @@
 use Rattle.std.proofs.Common.{◌+◌, ◌≤◌, [], ◌∷◌, ◌++◌, ap, sym, subst, ◌∙◌, arith}
 use Rattle.totals_record.specs.declared.entry.Entry as store
-use Rattle.meter_model.specs.Closing.{entry_of}
+use Rattle.meter_model.specs.Closing.{entry_of_trip}
 use Rattle.meter_states.specs.Core.{CoreData}
 use Rattle.meter_model.specs.declared.act.Act.TheVariants.{Enter}
 use Rattle.meter_states.proofs.Pushes.{closing-room, few-more, lawful-more}
@@ -43,6 +43,7 @@ returns-clause-follows c = λ s m t is saved e. record {
   state = ap (λ (p : CoreData). record p { number = p.number + 1 }) (c.self.view_is ∙ e);
   done = c.push.ensures.items
       ∙ ap (λ (x : store.Entry). c.args.acts.now.items ++ Enter x ∷ [])
-      (c.entry.ensures.value s t is saved ∙ ap (λ (p : CoreData). entry_of s c.args.kind p.position t) (c.self.view_is
+      (c.entry.ensures.value s t is saved ∙ ap (λ (p : CoreData). entry_of_trip s c.args.kind p.position t)
+      (c.self.view_is
       ∙ e));
 }

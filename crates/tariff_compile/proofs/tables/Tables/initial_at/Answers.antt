@@ -1,7 +1,7 @@
 use Rattle.std.proofs.Common.{◌∙◌, ap, sym, subst}
 use Rattle.tariff_check.proofs.Laws.{hirings_begin_with_first_lines-fit}
 use Rattle.tariff_compile.specs.Cells.{bands_at}
-use Rattle.tariff_compile.specs.Tables.{TableParts, fees_of, parts_of}
+use Rattle.tariff_compile.specs.Tables.{TableParts, fees_named, parts_of}
 use Rattle.tariff_check.specs.Amounts.{IsFitInitial}
 use Rattle.tariff_compile.proofs.Compiled.{bands-below, in_range-hiring, lines-found_at, nothing_at_hiring}
 use Rattle.tariff_compile.proofs.EachKind.{fees_of_lines, initial-below}
@@ -40,7 +40,7 @@ returns-clause-tree g c = λ t is.
     let bands = c.bands_at_hiring-bands.ensures.value ∙ ap (λ (p : TableParts). bands_at p.cuts x) c.self.view_is in
     let lines = lines-found_at t tables x c.bands_at_hiring-bands.result c.lines_of-lines.result is
     (in_range-hiring tables c.args.x.now c.requires.range) bands c.lines_of-lines.ensures.value in
-    c.fees_of.ensures.value ∙ (ap (fees_of tables) lines ∙ fees_of_lines t tables x is)
+    c.fees_of.ensures.value ∙ (ap (fees_named tables) lines ∙ fees_of_lines t tables x is)
 
 pub returns-clause-fit : goal.returns-clause-fit
 returns-clause-fit g c =
