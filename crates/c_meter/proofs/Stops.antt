@@ -1,8 +1,7 @@
 -- What a stop says, by its status.
-use Rattle.std.proofs.Common.{◌≡◌, arith, refl, Result, Ok, Err, IfOk}
-use Rattle.c_meter.specs.Shown.{IsStatus, status_of}
-use Rattle.c_meter.specs.declared.making.Stop.{Stop}
-use Rattle.c_meter.specs.declared.making.Stop.TheVariants.{NoTariff, NoParams, NoDrive, NoRoom, NoMemory}
+use Rattle.std.proofs.Common.{◌≡◌, Err, IfOk, Ok, Result, arith, refl}
+use Rattle.c_meter.specs.{Common.{NoMemory, Stop}, Shown.{IsStatus, status_of}}
+use Rattle.c_meter.specs.declared.making.Stop.TheVariants.{NoDrive, NoParams, NoRoom, NoTariff}
 
 -- the stop of an answer that has one, and else another
 abbrev pub stop_or : {T : Type 0} → Stop → Result T Stop → Stop

@@ -1,12 +1,8 @@
 -- Tables and a seal that are made of two texts.
-use Rattle.std.proofs.Common.{◌≡◌, ℕ, List}
-use Rattle.drive_text.specs.Ending.{Whole, drive_end}
-use Rattle.meter_run.specs.Texts.{drive_shown}
-use Rattle.meter_model.specs.Setting.{Setting, setting_by}
-use Rattle.meter_states.specs.Setting.{IsSettingOf}
-use Rattle.seal_record.specs.declared.seal.Seal.{Seal}
-use Rattle.tariff_compile.specs.Tables.{TableParts}
-use Rattle.c_meter.specs.Shown.{AreMadeOf, ShowsDrive}
+use Rattle.std.proofs.Common.{ℕ, ◌≡◌, List}
+use Rattle.{seal_record.specs.declared.seal.Seal.{Seal}, tariff_compile.specs.Tables.{TableParts}}
+use Rattle.{meter_model.specs.Setting.{Setting, setting_by}, meter_states.specs.Setting.{IsSettingOf}}
+use Rattle.c_meter.specs.{Common.{Whole, drive_end, drive_shown}, Shown.{AreMadeOf, ShowsDrive}}
 
 -- lines that are shown of a whole drive under each setting of such tables and such a seal are what the texts show of it
 pub shows_by : (tariff params drive lines : List ℕ) (tables : TableParts) (seal : Seal)

@@ -1,16 +1,10 @@
 -- Rules: what a call from C shows, and why it shows nothing.
-use Rattle.std.specs.Prelude.{◌≡◌, ◌≢◌, ◌⊎◌, ℕ, ◌<◌, List, [], ◌∷◌, Ok, Some, length, Contains}
-use Rattle.drive_text.specs.Ending.{Whole, drive_end}
-use Rattle.meter_run.specs.Texts.{drive_shown}
-use Rattle.meter_model.specs.Setting.{setting_by}
-use Rattle.seal_record.specs.Reading.{params_read}
-use Rattle.seal_record.specs.declared.params.Params.{Params}
-use Rattle.tariff_check.specs.Faults.{IsSound, fault_of}
-use Rattle.tariff_check.specs.declared.fault.CheckFault.{CheckFault}
-use Rattle.tariff_syntax.specs.Reads.{IsFirstBadLine, Reads}
-use Rattle.tariff_syntax.specs.Tree.{Tree}
-use Rattle.c_meter.specs.declared.making.Stop.{Stop}
-use Rattle.c_meter.specs.declared.making.Stop.TheVariants.{NoTariff, NoParams, NoDrive, NoRoom, NoMemory}
+use Rattle.std.specs.Prelude.{[], ℕ, ◌<◌, ◌∷◌, ◌≡◌, ◌≢◌, ◌⊎◌, Contains, List, Ok, Some, length}
+use Rattle.{seal_record.specs.{Reading.{params_read}, declared.params.Params.{Params}}, tariff_syntax.specs.Tree.{Tree}}
+use Rattle.{tariff_syntax.specs.Reads.{IsFirstBadLine}, tariff_check.specs.declared.fault.CheckFault.{CheckFault}}
+use Rattle.{tariff_check.specs.Faults.{fault_of}, meter_model.specs.Setting.{setting_by}}
+use Rattle.c_meter.specs.Common.{IsSound, NoMemory, Reads, Stop, Whole, drive_end, drive_shown}
+use Rattle.c_meter.specs.declared.making.Stop.TheVariants.{NoDrive, NoParams, NoRoom, NoTariff}
 
 -- the status of a stop is that of the program `taxi`
 abbrev pub status_of : Stop → ℕ

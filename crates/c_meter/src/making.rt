@@ -1,11 +1,7 @@
 //! A meter made of two texts.
 ghost use Rattle.std.specs.Prelude.{◌≡◌, ◌⊎◌, Err, IfErr, IfOk, IsErr};
-ghost use Rattle.seal_record.specs.Reading.{params_read};
-ghost use Rattle.tariff_check.specs.Faults.{IsSound};
-ghost use Rattle.tariff_syntax.specs.Reads.{Reads};
-ghost use Rattle.tariff_syntax.specs.Tree.{tree_of};
-ghost use Rattle.meter_states.specs.MadeOf.{AreMadeOf};
-ghost use Rattle.c_meter.specs.Shown.{HasNoTariff, status_of};
+ghost use Rattle.{seal_record.specs.Reading.{params_read}, meter_states.specs.MadeOf.{AreMadeOf}};
+ghost use Rattle.c_meter.specs.{Common.{IsSound, Reads, tree_of}, Shown.{HasNoTariff, status_of}};
 
 use seal_record::{Seal, read_params};
 use std::alloc::Global;

@@ -1,11 +1,8 @@
 //! What a meter shows of a drive.
-ghost use Rattle.std.specs.Prelude.{◌≡◌, ◌⊎◌, ◌<◌, ◌≤◌, Err, IfErr, IfOk, IsErr, OnOk, length, take};
-ghost use Rattle.memory_devices.specs.MemoryBoard.{text_of};
-ghost use Rattle.drive_text.specs.Ending.{Whole, drive_end};
-ghost use Rattle.meter_run.specs.Texts.{drive_shown};
-ghost use Rattle.meter_model.specs.Setting.{Setting};
-ghost use Rattle.meter_states.specs.Setting.{IsSettingOf};
-ghost use Rattle.seal_record.specs.Reading.{params_read};
+ghost use Rattle.std.specs.Prelude.{◌<◌, ◌≡◌, ◌≤◌, ◌⊎◌, Err, IfErr, IfOk, IsErr, OnOk, length, take};
+ghost use Rattle.{memory_devices.specs.MemoryBoard.{text_of}, seal_record.specs.Reading.{params_read}};
+ghost use Rattle.{meter_model.specs.Setting.{Setting}, meter_states.specs.Setting.{IsSettingOf}};
+ghost use Rattle.c_meter.specs.Common.{Whole, drive_end, drive_shown};
 ghost use Rattle.c_meter.specs.Shown.{HasNoRoom, HasNoTariff, IsNotWhole, ShowsDrive};
 
 use crate::making::{Stop, made_of};

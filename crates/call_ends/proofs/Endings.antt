@@ -1,17 +1,10 @@
 -- How the parts of a call end together.
-use Rattle.std.proofs.Common.{◌≡◌, ℕ, zero, suc, List, [], ◌++◌, take, refl, sym, ap, subst, ◌∙◌, append_assoc, inl}
-use Rattle.std.proofs.Common.{inr, ⊎_elim}
-use Rattle.std.specs.Prelude.{◌⊎◌}
-use Rattle.std.proofs.lemmas.List.{append-nil}
-use Rattle.outside.specs.Printing.{Begins}
-use Rattle.outside.proofs.Laws.{begins_after}
-use Rattle.call_ends.specs.declared.ending.Ended.{Ended}
-use Rattle.call_ends.specs.declared.ending.Ended.TheVariants.{BoardFault}
-use Rattle.call_ends.specs.Call.{MayTake, IsWhole, IsCutShort}
-use Rattle.call_ends.specs.Course.{Command, Course, Answered, ReadFailed, NoMemory, BoardFailed, status_in, shown_in}
-use Rattle.call_ends.specs.Course.{line_in, call_text}
-use Rattle.call_ends.specs.Ending.{IsDue, IsBrokenOff, EndsByCourse, EndsUnprinted}
-use Rattle.call_ends.specs.LastLine.{status_of, line_of}
+use Rattle.std.{specs.Prelude.{◌⊎◌}, proofs.{Common.{zero, ⊎_elim}, lemmas.List.{append-nil}}}
+use Rattle.std.proofs.Common.{[], ℕ, ◌++◌, ◌∙◌, ◌≡◌, List, ap, append_assoc, inl, inr, refl, subst, suc, sym, take}
+use Rattle.{outside.proofs.Laws.{begins_after}, call_ends.specs.Course.{shown_in, status_in}}
+use Rattle.call_ends.specs.{Call.{IsCutShort, IsWhole, MayTake}, Common.{Begins, BoardFault, Ended}}
+use Rattle.call_ends.specs.Course.{Answered, BoardFailed, Command, Course, NoMemory, ReadFailed, call_text, line_in}
+use Rattle.call_ends.specs.{Ending.{EndsByCourse, EndsUnprinted, IsBrokenOff, IsDue}, LastLine.{line_of, status_of}}
 
 -- a course stays one if more is known of the faults
 pub may-then : (c : Command) (contents left : ℕ → List ℕ) (image : List ℕ) (read_failed : ℕ → Type 0)

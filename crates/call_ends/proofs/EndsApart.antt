@@ -1,10 +1,6 @@
 -- Ends of a command that are not one another, by their statuses.
-use Rattle.std.proofs.Common.{◌≡◌, ◌≢◌, ℕ, eqb, false, refl, ap}
-use Rattle.std.proofs.lemmas.Bool.{eqb-false}
-use Rattle.call_ends.specs.declared.ending.Ended.{Ended}
-use Rattle.call_ends.specs.declared.ending.Ended.TheVariants.{BoardFault, Done, ReadFault}
-use Rattle.call_ends.specs.LastLine.{status_of}
-use Rattle.call_ends.specs.Ending.{IsRefusal}
+use Rattle.std.proofs.{Common.{ℕ, ◌≡◌, ◌≢◌, ap, eqb, false, refl}, lemmas.Bool.{eqb-false}}
+use Rattle.call_ends.specs.{Common.{BoardFault, Done, Ended, ReadFault}, Ending.{IsRefusal}, LastLine.{status_of}}
 
 pub not_status : (end : Ended) (status : ℕ) → eqb (status_of end) status ≡ false → status_of end ≢ status
 not_status end status apart = eqb-false (status_of end) status apart

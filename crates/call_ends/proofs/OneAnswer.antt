@@ -1,5 +1,5 @@
 -- What one answer says of itself, and of another that it is equal to.
-use Rattle.std.proofs.Common.{◌≡◌, ◌≢◌, Result, Ok, Err, sym, ◌∙◌}
+use Rattle.std.proofs.Common.{◌∙◌, ◌≡◌, ◌≢◌, Err, Ok, Result, sym}
 
 -- one answer has one fault, and a good one none
 pub same_fault : {T E : Type 0} (r : Result T E) (a b : E) → r ≡ Err a → r ≡ Err b → a ≡ b

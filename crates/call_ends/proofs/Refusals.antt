@@ -1,43 +1,69 @@
--- A command whose tariff isn't accepted, or that finds no memory.
-use Rattle.std.proofs.Common.{◌≡◌, ◌∙◌, ℕ, List, [], refl, sym, ap, subst, inl}
+-- A command that gives nothing: memory ran out, a read failed, or it refuses.
+use Rattle.std.proofs.Common.{[], ℕ, ◌∙◌, ◌≡◌, List, ap, inl, refl, subst, sym, ⊎_elim}
+use Rattle.call_ends.{specs.{Answer.{Answer}, Reads.{FailsOr}, Tariffs.{bad_tariff}}, proofs.Following.{fails-text}}
+use Rattle.call_ends.specs.{Common.{Ended, Refusal, TextFault}, Course.{Answered, Command, NoMemory, ReadFailed}}
+use Rattle.call_ends.specs.{Ending.{EndsUnprinted, ended_for}, Stream.{TakesBytes, TellsItsEnd, bad_status}}
+use Rattle.call_ends.{specs.LastLine.{refused_as, status_of}, proofs.{FaultCounts.{read_fault-text}, Streams.{not_bad}}}
 use Rattle.call_ends.specs.declared.ending.Ended.TheVariants as ended
-use Rattle.call_ends.specs.declared.tariff.Refusal.{Refusal}
-use Rattle.call_ends.specs.declared.tariff.TextFault.{TextFault}
 use Rattle.call_ends.specs.declared.tariff.TextFault.TheVariants as texts
-use Rattle.call_ends.specs.Answer.{Answer}
-use Rattle.call_ends.specs.Course.{Command, Answered, ReadFailed, NoMemory}
-use Rattle.call_ends.specs.Ending.{EndsUnprinted, ended_for}
-use Rattle.call_ends.specs.Stream.{TakesBytes}
-use Rattle.call_ends.specs.Tariffs.{bad_tariff}
-use Rattle.call_ends.proofs.Streams.{not_bad}
+
+module _ (c : Command) (contents left : ℕ → List ℕ) (image : List ℕ) (read_failed : ℕ → Type 0) where
+  -- it refuses
+  pub ends-refused : (why : Ended) → c.answer contents image ≡ refused_as why → ¬ c.reads_all (status_of why)
+      → (status_of why ≡ bad_status c.drive → TellsItsEnd c.drive contents left)
+      → EndsUnprinted c contents left image read_failed why
+  ends-refused why e not_all bad =
+      let is : (c.answer contents image).status ≡ status_of why = ap (λ (a : Answer). a.status) e in
+      record {
+        course = Answered;
+        may = record {
+          whole = λ all. absurd (not_all (subst c.reads_all is all));
+          bad = λ at. bad (sym is ∙ at);
+        };
+        stands = inl (record {
+          status_is = sym is;
+          line_is = sym (ap (λ (a : Answer). a.line) e);
+          shown = ap (λ (a : Answer). a.shown) e;
+        });
+      }
+
+  module _ (taken : List ℕ) (takes : TakesBytes c.drive contents left taken)
+      (may : c.may_lack contents image taken) where
+    -- memory ran out
+    pub ends-lacking : EndsUnprinted c contents left image read_failed ended.NoMemory
+    ends-lacking = record {
+      course = NoMemory;
+      may = record { taken = taken; may = may; takes = takes };
+      stands = inl (record { status_is = refl; line_is = refl; shown = refl });
+    }
+
+    -- a word gives nothing
+    pub ends-failing : (word : ℕ) (why : Ended) → c.shown contents image taken ≡ [] → c.reads word
+        → c.comes_to contents image word taken → (why ≡ ended.ReadFault → read_failed word)
+        → FailsOr (EndsUnprinted c contents left image read_failed) why
+        → EndsUnprinted c contents left image read_failed why
+    ends-failing word why quiet reads comes failed h = ⊎_elim
+        (λ (e : why ≡ ended.ReadFault). subst (EndsUnprinted c contents left image read_failed) (sym e) (record {
+          course = ReadFailed word taken;
+          may = record { reads = reads; comes = comes; failed = failed e; takes = takes };
+          stands = inl (record { status_is = refl; line_is = refl; shown = quiet });
+        }))
+        (⊎_elim (λ (e : why ≡ ended.NoMemory). subst (EndsUnprinted c contents left image read_failed) (sym e)
+        ends-lacking)
+        (λ (refused : EndsUnprinted c contents left image read_failed why). refused))
+        h.how
 
 module _ (c : Command) (contents left : ℕ → List ℕ) (image : List ℕ) (read_failed : ℕ → Type 0)
     (untouched : TakesBytes c.drive contents left []) (may : c.may_lack contents image []) where
   -- memory ran out before the drive
   pub course-no_memory : EndsUnprinted c contents left image read_failed ended.NoMemory
-  course-no_memory = record {
-    course = NoMemory;
-    may = record { taken = []; may = may; takes = untouched };
-    stands = inl (record { status_is = refl; line_is = refl; shown = refl });
-  }
+  course-no_memory = ends-lacking c contents left image read_failed [] untouched may
 
   -- a tariff was refused
   pub course-bad_tariff : ¬ c.reads_all 2 → (why : Refusal) → c.answer contents image ≡ bad_tariff why
       → EndsUnprinted c contents left image read_failed (ended.BadTariff why)
-  course-bad_tariff not_2 why e =
-      let two : (c.answer contents image).status ≡ 2 = ap (λ (a : Answer). a.status) e in
-      record {
-        course = Answered;
-        may = record {
-          whole = λ all. absurd (not_2 (subst (λ (n : ℕ). c.reads_all n) two all));
-          bad = λ is. absurd (not_bad 2 c.drive (λ e. absurd cc) (λ e. absurd cc) (sym two ∙ is));
-        };
-        stands = inl (record {
-          status_is = sym two;
-          line_is = sym (ap (λ (a : Answer). a.line) e);
-          shown = ap (λ (a : Answer). a.shown) e;
-        });
-      }
+  course-bad_tariff not_2 why e = ends-refused c contents left image read_failed (ended.BadTariff why) e not_2
+      (λ is. absurd (not_bad 2 c.drive (λ e. absurd cc) (λ e. absurd cc) is))
 
   -- the tariff of word 1 wasn't read
   pub course-refused : ¬ c.reads_all 2 → (fault : TextFault) → c.reads 1 → c.comes_to contents image 1 []
@@ -45,11 +71,7 @@ module _ (c : Command) (contents left : ℕ → List ℕ) (image : List ℕ) (re
       → (fault ≡ texts.ReadFault → read_failed 1)
       → ((why : Refusal) → fault ≡ texts.Refused why → c.answer contents image ≡ bad_tariff why)
       → EndsUnprinted c contents left image read_failed (ended_for fault)
-  course-refused not_2 texts.ReadFault reads comes nothing failed refused = record {
-    course = ReadFailed 1 [];
-    may = record { reads = reads; comes = comes; failed = failed refl; takes = untouched };
-    stands = inl (record { status_is = refl; line_is = refl; shown = nothing });
-  }
-  course-refused not_2 (texts.Refused why) reads comes nothing failed refused =
-      course-bad_tariff not_2 why (refused why refl)
-  course-refused not_2 texts.NoMemory reads comes nothing failed refused = course-no_memory
+  course-refused not_2 fault reads comes nothing failed refused =
+      ends-failing c contents left image read_failed [] untouched may 1 (ended_for fault) nothing reads comes
+      (λ e. failed (read_fault-text fault e))
+      (fails-text fault (λ why e. course-bad_tariff not_2 why (refused why e)))

@@ -1,8 +1,7 @@
 -- Whether a command ended by a fault of the board.
 use Rattle.std.proofs.Common.{◌≡◌, ◌≢◌, ◌⊎◌, inl, inr, refl}
-use Rattle.call_ends.specs.declared.ending.Ended.{Ended}
+use Rattle.call_ends.specs.{Common.{Ended}, LastLine.{status_of}}
 use Rattle.call_ends.specs.declared.ending.Ended.TheVariants as ended
-use Rattle.call_ends.specs.LastLine.{status_of}
 
 -- a fault of the board is the one end with status 8
 pub board_or_not : (end : Ended) → (end ≡ ended.BoardFault) ⊎ ((end ≢ ended.BoardFault) × (status_of end ≢ 8))

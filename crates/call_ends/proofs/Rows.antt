@@ -1,11 +1,8 @@
 -- The rows of tables that are printed, one after the other.
-use Rattle.std.proofs.Common.{◌≡◌, ℕ, zero, suc, ◌+◌, ◌-◌, ◌<◌, List, [], ◌∷◌, ◌++◌, sym, ap, subst, ◌∙◌, append_assoc}
-use Rattle.std.proofs.Common.{arith}
-use Rattle.std.specs.List.{flat_map, range_with_len}
-use Rattle.std.proofs.lemmas.List.{append-nil}
-use Rattle.std.proofs.lemmas.List.Concat.{flat_map-append}
-use Rattle.outside.specs.Printing.{Begins}
-use Rattle.outside.proofs.Laws.{begins_after, begins_more}
+use Rattle.std.{specs.List.{flat_map, range_with_len}, proofs.{Common.{zero}, lemmas.List.Concat.{flat_map-append}}}
+use Rattle.std.proofs.Common.{[], ℕ, ◌++◌, ◌+◌, ◌-◌, ◌<◌, ◌∙◌, ◌∷◌, ◌≡◌, List, ap, append_assoc, arith, subst, suc, sym}
+use Rattle.{std.proofs.lemmas.List.{append-nil}, outside.proofs.Laws.{begins_after, begins_more}}
+use Rattle.call_ends.specs.Common.{Begins}
 
 range-more : (a n last : ℕ) → a + n ≡ last → range_with_len a (suc n) ≡ range_with_len a n ++ last ∷ []
 range-more a zero last e = ap (λ (m : ℕ). m ∷ []) (omega (arith, e))

@@ -1,20 +1,13 @@
 -- The sound tariff of a text that was read.
-use Rattle.std.proofs.Common.{◌≡◌, ◌≢◌, ℕ, List, length, Option, Some, Ok, Err, refl, sym, ap, ◌∙◌, inl, inr}
-use Rattle.std.specs.Prelude.{◌⊎◌}
-use Rattle.std.proofs.lemmas.Bool.{le-ltb}
-use Rattle.tariff_syntax.specs.Reads.{IsParsed}
-use Rattle.tariff_syntax.specs.Tree.{tree_of}
+use Rattle.std.{specs.Prelude.{◌⊎◌}, proofs.lemmas.Bool.{le-ltb}}
+use Rattle.std.proofs.Common.{ℕ, ◌∙◌, ◌≡◌, ◌≢◌, Err, List, Ok, Option, Some, ap, inl, inr, length, refl, sym}
+use Rattle.tariff_syntax.specs.{Reads.{IsParsed}, declared.tariff.Tariff.{Tariff}}
+use Rattle.tariff_syntax.proofs.Laws.{texts_are_parsed_as_they_read-bad_line, texts_are_parsed_as_they_read-tariff}
+use Rattle.{tariff_check.specs.Faults.{fault_of}, call_ends.specs.Tariffs.{IsOfLines, sound_in, tariff_in}}
+use Rattle.call_ends.specs.{Common.{CheckFault, Refusal, Syntax, Unsound, tree_of}, Ending.{unsound_for}}
 use Rattle.tariff_syntax.specs.declared.parsing.ParseFault.TheVariants as faults
-use Rattle.tariff_syntax.specs.declared.tariff.Tariff.{Tariff}
-use Rattle.tariff_syntax.proofs.Laws.{texts_are_parsed_as_they_read-tariff, texts_are_parsed_as_they_read-bad_line}
-use Rattle.tariff_check.specs.Faults.{fault_of}
-use Rattle.tariff_check.specs.declared.fault.CheckFault.{CheckFault}
 use Rattle.tariff_check.specs.declared.fault.CheckFault.TheVariants as checks
-use Rattle.call_ends.specs.declared.tariff.Refusal.{Refusal}
-use Rattle.call_ends.specs.declared.tariff.Refusal.TheVariants.{Syntax, Unsound}
 use Rattle.call_ends.specs.declared.tariff.TextFault.TheVariants as texts
-use Rattle.call_ends.specs.Tariffs.{IsOfLines, sound_in, tariff_in}
-use Rattle.call_ends.specs.Ending.{unsound_for}
 
 -- a text that reads as a tariff is answered by the tariff's first fault
 pub sound_of : (text : List ℕ) (t : Tariff) (fault : Option CheckFault) → IsParsed text (Ok t)

@@ -1,10 +1,7 @@
 -- Calls that write nothing, one after another.
-use Rattle.std.proofs.Common.{◌≡◌, ⊎_elim, inl, inr, ℕ, List, get_or, length, ap, ◌∙◌, arith}
-use Rattle.outside.specs.declared.board.Board.{Ghosts}
-use Rattle.outside.specs.Disk.{MayLeave, SameBut}
-use Rattle.outside.specs.Runs.{KeepsStore, MayHold}
-use Rattle.outside.proofs.Laws.{leaves_then, leaves_wider}
-use Rattle.slot_store.specs.Syncs.{ReadsOnly}
+use Rattle.std.proofs.Common.{ℕ, ◌∙◌, ◌≡◌, List, ap, arith, get_or, inl, inr, length, ⊎_elim}
+use Rattle.outside.{specs.{Disk.{MayLeave, SameBut}, Runs.{MayHold}}, proofs.Laws.{leaves_then, leaves_wider}}
+use Rattle.{slot_store.specs.Syncs.{ReadsOnly}, call_ends.specs.Common.{Ghosts, KeepsStore}}
 use Rattle.call_ends.specs.Unwritten.{LeavesUnwritten}
 
 -- the same bytes are the same but anywhere

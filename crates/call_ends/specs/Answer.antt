@@ -1,5 +1,5 @@
 -- Rules: what the program answers.
-use Rattle.std.specs.Prelude.{ℕ, List, []}
+use Rattle.std.specs.Prelude.{[], ℕ, List}
 
 -- an answer is a status, a text that is shown, and a last line, which may be empty
 pub record Answer : Type 0 where

@@ -1,11 +1,8 @@
 -- Rules: what holds of a call, by the contents of its files, the opening image, and which counts of faults rose.
-use Rattle.std.specs.Prelude.{◌≡◌, ◌⊎◌, ℕ, ◌<◌, List, [], ◌++◌}
-use Rattle.outside.specs.Faults.{Rose}
-use Rattle.outside.specs.Printing.{Begins}
-use Rattle.outside.specs.declared.board.Board.{Ghosts}
+use Rattle.std.specs.Prelude.{[], ℕ, ◌++◌, ◌<◌, ◌≡◌, ◌⊎◌, List}
 use Rattle.outside.specs.declared.files.Files.{Ghosts as FileGhosts}
-use Rattle.call_ends.specs.Course.{Command, Course, Answered, ReadFailed, NoMemory, BoardFailed, status_in, call_text}
-use Rattle.call_ends.specs.Stream.{TakesBytes, TellsItsEnd, bad_status}
+use Rattle.call_ends.specs.{Common.{Begins, Ghosts, Rose}, Stream.{TakesBytes, TellsItsEnd, bad_status}}
+use Rattle.call_ends.specs.Course.{Answered, BoardFailed, Command, Course, NoMemory, ReadFailed, call_text, status_in}
 
 -- a call leaves a word's file as it was if its command comes to no read of it, whatever bytes of the drive or the
 -- requests were taken

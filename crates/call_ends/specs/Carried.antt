@@ -1,17 +1,9 @@
 -- For proofs: how a command was carried out, but for its last line. Call and Course say what a call is.
-use Rattle.std.specs.Prelude.{◌≡◌, ◌≢◌, ℕ, ◌+◌, ◌≤◌, List, []}
-use Rattle.outside.specs.Disk.{store_size}
-use Rattle.outside.specs.Faults.{Rose}
-use Rattle.outside.specs.Runs.{IsAtRest, KeepsStore}
-use Rattle.outside.specs.declared.board.Board.{Ghosts}
-use Rattle.outside.specs.declared.files.Files.{Ghosts as FileGhosts}
-use Rattle.call_ends.specs.Call.{LeavesUnread, StopsReading}
-use Rattle.call_ends.specs.Course.{Command, IsReadOnlyCommand}
-use Rattle.call_ends.specs.Ending.{EndsOnDevices, LeavesImageSettled}
-use Rattle.call_ends.specs.LastLine.{status_of}
-use Rattle.call_ends.specs.Unwritten.{LeavesUnwritten}
-use Rattle.call_ends.specs.declared.ending.Ended.{Ended}
-use Rattle.call_ends.specs.declared.ending.Ended.TheVariants.{BoardFault, ReadFault}
+use Rattle.std.specs.Prelude.{[], ℕ, ◌+◌, ◌≡◌, ◌≢◌, ◌≤◌, List}
+use Rattle.outside.specs.{Disk.{store_size}, Runs.{IsAtRest}, declared.files.Files.{Ghosts as FileGhosts}}
+use Rattle.call_ends.specs.{Call.{LeavesUnread, StopsReading}, LastLine.{status_of}, Unwritten.{LeavesUnwritten}}
+use Rattle.call_ends.specs.Common.{BoardFault, Ended, Ghosts, KeepsStore, ReadFault, Rose}
+use Rattle.call_ends.specs.{Course.{Command, IsReadOnlyCommand}, Ending.{EndsOnDevices, LeavesImageSettled}}
 
 module _ {E D L : Type 0} {N : ℕ} (F : FileGhosts E) (B : Ghosts D N L) where
   -- a command was carried out, but for its last line, if all holds that its record says of a call, and each fault of

@@ -1,8 +1,6 @@
 -- Rules: what a command is, and the course that a call of it takes.
-use Rattle.std.specs.Prelude.{◌≡◌, ℕ, ◌+◌, ◌≤◌, List, [], ◌++◌, Option, None}
-use Rattle.call_ends.specs.Answer.{Answer}
-use Rattle.call_ends.specs.LastLine.{read_fault_line, no_memory_line}
-use Rattle.call_ends.specs.Stream.{Stream}
+use Rattle.std.specs.Prelude.{[], ℕ, ◌++◌, ◌+◌, ◌≡◌, ◌≤◌, List, None, Option}
+use Rattle.call_ends.specs.{Answer.{Answer}, LastLine.{no_memory_line, read_fault_line}, Stream.{Stream}}
 
 -- A command is a record of functions of its files' contents, by their words, and of the opening image of the store.
 pub record Command : Type 1 where

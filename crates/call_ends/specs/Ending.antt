@@ -1,20 +1,11 @@
 -- For proofs: how a command ended before its last line is printed. Call and Course say what a call is.
-use Rattle.std.specs.Prelude.{◌≡◌, ◌≢◌, ◌⊎◌, ℕ, List, [], ◌++◌}
-use Rattle.outside.specs.Faults.{Rose}
-use Rattle.outside.specs.Printing.{Begins}
-use Rattle.outside.specs.Runs.{IsAtRest}
-use Rattle.outside.specs.declared.board.Board.{Ghosts}
-use Rattle.outside.specs.declared.files.Files.{Ghosts as FileGhosts}
-use Rattle.call_ends.specs.Call.{MayTake}
-use Rattle.call_ends.specs.Course.{Command, Course, status_in, shown_in, line_in, call_text}
-use Rattle.call_ends.specs.LastLine.{status_of, line_of}
-use Rattle.call_ends.specs.Unwritten.{LeavesUnwritten, LeavesImage}
-use Rattle.call_ends.specs.declared.ending.Ended.{Ended}
-use Rattle.call_ends.specs.declared.ending.Ended.TheVariants.{BadTariff, ReadFault, BoardFault, NoMemory}
-use Rattle.tariff_check.specs.declared.fault.CheckFault.{CheckFault}
+use Rattle.std.specs.Prelude.{[], ℕ, ◌++◌, ◌≡◌, ◌≢◌, ◌⊎◌, List}
+use Rattle.outside.specs.{Runs.{IsAtRest}, declared.files.Files.{Ghosts as FileGhosts}}
+use Rattle.call_ends.specs.{Call.{MayTake}, Common.{TextFault, Unsound}, Unwritten.{LeavesImage, LeavesUnwritten}}
+use Rattle.call_ends.specs.Common.{BadTariff, Begins, BoardFault, CheckFault, Ended, Ghosts, NoMemory, ReadFault, Rose}
+use Rattle.call_ends.specs.Course.{Command, Course, call_text, line_in, shown_in, status_in}
+use Rattle.call_ends.specs.LastLine.{line_of, status_of}
 use Rattle.tariff_check.specs.declared.fault.CheckFault.TheVariants as checks
-use Rattle.call_ends.specs.declared.tariff.Refusal.TheVariants.{Unsound}
-use Rattle.call_ends.specs.declared.tariff.TextFault.{TextFault}
 use Rattle.call_ends.specs.declared.tariff.TextFault.TheVariants as texts
 
 -- a command ended by the fault for which its tariff wasn't read

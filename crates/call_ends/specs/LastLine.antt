@@ -1,26 +1,20 @@
 -- Rules: the statuses of the program, and their last lines.
-use Rattle.std.specs.Prelude.{ℕ, List, [], ◌++◌, codes, decimal}
-use Rattle.call_ends.specs.Answer.{Answer, refuses}
+use Rattle.std.specs.Prelude.{[], ℕ, ◌++◌, List, codes, decimal}
+use Rattle.{offset_rules.specs.declared.fault.RuleFault.{RuleFault}, receipt_text.specs.Receipts.{hex_text}}
+use Rattle.seal_record.specs.declared.params.{Name.{Name}, ParamFault.{ParamFault}}
+use Rattle.{tariff_check.specs.declared.fault.Dimension.{Dimension}, call_ends.specs.Answer.{Answer, refuses}}
+use Rattle.call_ends.specs.Common.{BadTariff, BoardFault, CheckFault, Done, Ended, NoMemory, ReadFault, Refusal, Syntax}
+use Rattle.call_ends.specs.{Common.{TooLong, Unsound}, declared.ending.Ended.TheVariants.{TripHeld, WrongTariff}}
 use Rattle.call_ends.specs.NumberLine.{number_line}
-use Rattle.call_ends.specs.declared.ending.Ended.{Ended}
-use Rattle.call_ends.specs.declared.ending.Ended.TheVariants.{Done, Sound, BadWords, BadTariff, NotSealed, BadSlot}
-use Rattle.call_ends.specs.declared.ending.Ended.TheVariants.{SameNumber, BadDrive, EndlessDrive, ReadFault, BoardFault}
-use Rattle.call_ends.specs.declared.ending.Ended.TheVariants.{NoMemory, TripHeld, SealEnded, OtherDecimals, BadParams}
-use Rattle.call_ends.specs.declared.ending.Ended.TheVariants.{Sealed, BadTrip, WrongTariff, BadRules, BadReadings}
-use Rattle.call_ends.specs.declared.ending.Ended.TheVariants.{LongReadings, NotPassed, BadFrame, EndlessRequests}
-use Rattle.call_ends.specs.declared.ending.Ended.TheVariants.{LongBook, BadBook, BadOther, Different, Faulty}
-use Rattle.offset_rules.specs.declared.fault.RuleFault.{RuleFault}
+use Rattle.call_ends.specs.declared.ending.Ended.TheVariants.{BadBook, BadDrive, BadFrame, BadOther, BadParams}
+use Rattle.call_ends.specs.declared.ending.Ended.TheVariants.{BadReadings, BadRules, BadSlot, BadTrip, BadWords}
+use Rattle.call_ends.specs.declared.ending.Ended.TheVariants.{Different, EndlessDrive, EndlessRequests, Faulty}
+use Rattle.call_ends.specs.declared.ending.Ended.TheVariants.{LongBook, LongReadings, NotPassed, NotSealed}
+use Rattle.call_ends.specs.declared.ending.Ended.TheVariants.{OtherDecimals, SameNumber, SealEnded, Sealed, Sound}
 use Rattle.offset_rules.specs.declared.fault.RuleFault.TheVariants as rules
-use Rattle.receipt_text.specs.Receipts.{hex_text}
-use Rattle.seal_record.specs.declared.params.Name.{Name}
 use Rattle.seal_record.specs.declared.params.Name.TheVariants as names
-use Rattle.seal_record.specs.declared.params.ParamFault.{ParamFault}
 use Rattle.seal_record.specs.declared.params.ParamFault.TheVariants as params
-use Rattle.call_ends.specs.declared.tariff.Refusal.{Refusal}
-use Rattle.call_ends.specs.declared.tariff.Refusal.TheVariants.{TooLong, Syntax, Unsound}
-use Rattle.tariff_check.specs.declared.fault.Dimension.{Dimension}
 use Rattle.tariff_check.specs.declared.fault.Dimension.TheVariants as dimensions
-use Rattle.tariff_check.specs.declared.fault.CheckFault.{CheckFault}
 use Rattle.tariff_check.specs.declared.fault.CheckFault.TheVariants as faults
 
 -- the last line of words that are no command

@@ -1,5 +1,5 @@
 -- Rules: lines of a name and a number.
-use Rattle.std.specs.Prelude.{ℕ, List, ◌++◌, codes, decimal}
+use Rattle.std.specs.Prelude.{ℕ, ◌++◌, List, codes, decimal}
 
 -- a line of a name and a number is the name, the number in decimal digits, and an LF
 abbrev pub number_line : (name : List ℕ) → ℕ → List ℕ

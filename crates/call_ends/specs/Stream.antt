@@ -1,8 +1,7 @@
 -- Rules: what a command takes in pieces of at most 512 bytes, and no further than it has to.
-use Rattle.std.specs.Prelude.{◌≡◌, ℕ, List, [], Option, Some, None}
-use Rattle.taxi_units.specs.Streams.{IsSplit, TellsEnd}
-use Rattle.data_port.specs.Serving.{requests}
-use Rattle.drive_text.specs.Ending.{drives}
+use Rattle.std.specs.Prelude.{[], ℕ, ◌≡◌, List, None, Option, Some}
+use Rattle.{taxi_units.specs.Streams.{IsSplit, TellsEnd}, drive_text.specs.Ending.{drives}}
+use Rattle.data_port.specs.ServedStream.{requests}
 
 -- a stream is a drive, or the requests of a data port, in the file of a word
 pub data Stream : Type 0 where

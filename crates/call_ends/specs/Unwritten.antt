@@ -1,9 +1,7 @@
 -- Rules: calls that write nothing.
-use Rattle.std.specs.Prelude.{◌≡◌, ◌≢◌, ◌⊎◌, ℕ, ◌≤◌, List}
-use Rattle.outside.specs.declared.board.Board.{Ghosts}
-use Rattle.outside.specs.Disk.{SameBut}
-use Rattle.outside.specs.Runs.{MayHold}
-use Rattle.slot_store.specs.Syncs.{LeavesFromSync}
+use Rattle.std.specs.Prelude.{ℕ, ◌≡◌, ◌≢◌, ◌≤◌, ◌⊎◌, List}
+use Rattle.{outside.specs.{Disk.{SameBut}, Runs.{MayHold}}, slot_store.specs.Syncs.{LeavesFromSync}}
+use Rattle.call_ends.specs.Common.{Ghosts}
 
 module _ {D L : Type 0} {N : ℕ} (B : Ghosts D N L) where
   -- nothing was written if bytes may have changed only in places that were in flight, and no other place is in flight

@@ -1,11 +1,8 @@
 //! How a command ends: its last line, and its status.
-ghost use Rattle.std.specs.Prelude.{◌≡◌, ◌≢◌, ◌+◌, ◌≤◌, []};
-ghost use Rattle.outside.specs.Faults.{RisesOnlyIf, Rose};
-ghost use Rattle.outside.specs.Disk.{MayLeaveAmid};
-ghost use Rattle.outside.specs.Runs.{KeepsStore, LeavesOnly};
+ghost use Rattle.std.specs.Prelude.{[], ◌+◌, ◌≡◌, ◌≢◌, ◌≤◌};
+ghost use Rattle.outside.specs.{Disk.{MayLeaveAmid}, Faults.{RisesOnlyIf}, Runs.{LeavesOnly}};
 ghost use Rattle.call_ends.specs.Call.{IsEnd};
-ghost use Rattle.call_ends.specs.Ending.{ended_for};
-ghost use Rattle.call_ends.specs.LastLine.{line_of, status_of};
+ghost use Rattle.call_ends.specs.{Common.{KeepsStore, Rose}, Ending.{ended_for}, LastLine.{line_of, status_of}};
 
 use crate::last_line::last_line;
 use crate::tariff::{Refusal, TextFault};

@@ -1,7 +1,6 @@
 //! The last lines of the program.
-ghost use Rattle.std.specs.Prelude.{◌≡◌, ◌+◌, ◌≤◌, ◌++◌, [], codes, length};
-ghost use Rattle.arrayvec.specs.ArrayVec.{array_vec_len};
-ghost use Rattle.taxi_units.specs.Line.{line_size};
+ghost use Rattle.std.specs.Prelude.{[], ◌++◌, ◌+◌, ◌≡◌, ◌≤◌, codes, length};
+ghost use Rattle.{arrayvec.specs.ArrayVec.{array_vec_len}, taxi_units.specs.Line.{line_size}};
 ghost use Rattle.call_ends.specs.LastLine.{bad_params_line, bad_rules_line, bad_tariff_line, dimension_text};
 ghost use Rattle.call_ends.specs.LastLine.{fault_text, line_of, name_text, numbered, other_decimals_line};
 ghost use Rattle.call_ends.specs.LastLine.{param_fault_text, refusal_text, same_number_line, sound_line};

@@ -1,9 +1,6 @@
 //! Prints a text from memory, in pieces.
-ghost use Rattle.std.specs.Prelude.{◌≡◌, ◌+◌, ◌≤◌, ◌++◌, length, OnOk};
-ghost use Rattle.outside.specs.Faults.{HasCause};
-ghost use Rattle.outside.specs.Printing.{Begins};
-ghost use Rattle.outside.specs.Runs.{KeepsStore};
-ghost use Rattle.call_ends.specs.Pieces.{pieces_of};
+ghost use Rattle.std.specs.Prelude.{◌++◌, ◌+◌, ◌≡◌, ◌≤◌, OnOk, length};
+ghost use Rattle.{outside.specs.Faults.{HasCause}, call_ends.specs.{Common.{Begins, KeepsStore}, Pieces.{pieces_of}}};
 
 use outside::{Board, Failed, STORE_SIZE};
 use std::sync::ledger::Ledger;

@@ -1,10 +1,7 @@
 //! Reads the tariff of a word.
-ghost use Rattle.std.specs.Prelude.{◌≡◌, ◌≢◌, ℕ, ◌<◌, ◌≤◌, [], length, IfOk, OnOk, Ok, Err, vec_len};
-ghost use Rattle.outside.specs.Reading.{LeavesOthers};
-ghost use Rattle.outside.specs.Faults.{Rose};
-ghost use Rattle.tariff_syntax.specs.Tree.{tree_of};
+ghost use Rattle.std.specs.Prelude.{[], ℕ, ◌<◌, ◌≡◌, ◌≢◌, ◌≤◌, Err, IfOk, Ok, OnOk, length, vec_len};
+ghost use Rattle.call_ends.specs.{Common.{LeavesOthers, Rose, tree_of}, Tariffs.{IsOfLines, tariff_in}};
 ghost use Rattle.call_ends.specs.Ending.{unsound_for};
-ghost use Rattle.call_ends.specs.Tariffs.{IsOfLines, tariff_in};
 
 use outside::{Files, read_text};
 use std::alloc::Global;

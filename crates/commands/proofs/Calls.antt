@@ -1,18 +1,12 @@
 -- A call, from how its command came to its last line, and that line.
-use Rattle.std.proofs.Common.{◌≡◌, ◌≢◌, ◌⊎◌, inl, inr, ℕ, List, refl, sym, ap, subst, ◌∙◌}
-use Rattle.outside.specs.declared.board.Board.{Ghosts}
-use Rattle.outside.specs.declared.files.Files.{Ghosts as FileGhosts}
-use Rattle.outside.specs.Faults.{RisesOnlyIf, Rose}
-use Rattle.outside.specs.Runs.{IsAtRest, KeepsStore}
-use Rattle.call_ends.specs.declared.ending.Ended.{Ended}
+use Rattle.std.proofs.Common.{ℕ, ◌∙◌, ◌≡◌, ◌≢◌, ◌⊎◌, List, ap, inl, inr, refl, subst, sym}
+use Rattle.outside.specs.{Faults.{RisesOnlyIf, Rose}, declared.files.Files.{Ghosts as FileGhosts}}
+use Rattle.call_ends.specs.{Call.{HasReadFault, IsEnd, LeavesUnread, MayLack, MayTake}, LastLine.{line_of, status_of}}
+use Rattle.call_ends.specs.{Carried.{Carries}, Ending.{EndsOnDevices, HasCauseOn}}
+use Rattle.call_ends.specs.Course.{Answered, BoardFailed, Course, NoMemory, ReadFailed, call_text, status_in}
+use Rattle.call_ends.proofs.Laws.{bytes-kept, bytes-then, ends-with, finishes-later, may-then, rose_after, rose_before}
+use Rattle.commands.specs.Common.{Command, Ended, Ghosts, IsAtRest, IsCall, KeepsStore, WritesNothing}
 use Rattle.call_ends.specs.declared.ending.Ended.TheVariants as ended
-use Rattle.call_ends.specs.Call.{HasReadFault, IsCall, IsEnd, LeavesUnread, MayLack, MayTake}
-use Rattle.call_ends.specs.Carried.{Carries}
-use Rattle.call_ends.specs.Course.{Command, Course, Answered, ReadFailed, NoMemory, BoardFailed, status_in, call_text}
-use Rattle.call_ends.specs.Ending.{EndsOnDevices, HasCauseOn}
-use Rattle.call_ends.specs.LastLine.{line_of, status_of}
-use Rattle.call_ends.specs.Unwritten.{WritesNothing}
-use Rattle.call_ends.proofs.Laws.{rose_after, rose_before, ends-with, finishes-later, may-then, bytes-kept, bytes-then}
 
 module _ {E D L : Type 0} {N : ℕ} (F : FileGhosts E) (B : Ghosts D N L) (files files' : E) (old mid new : D)
     (end : Ended) (status : ℕ)

@@ -1,4 +1,4 @@
 -- a call, from the end of its command to its last line
 mod Calls
 -- commands of two words, and of four
-mod Wording
+mod WordCounts

@@ -1,18 +1,9 @@
 -- Rules: what the clauses of the top call speak of, by the words of a call, its files and its board.
-use Rattle.std.specs.Prelude.{◌≡◌, ◌⊎◌, ℕ, List, map, Option, Result, String, string_bytes}
-use Rattle.outside.specs.Disk.{store_size}
-use Rattle.outside.specs.Faults.{Rose}
-use Rattle.outside.specs.declared.board.Board.{Ghosts}
-use Rattle.outside.specs.declared.files.Files.{Ghosts as FileGhosts}
-use Rattle.meter_store.specs.Sealing.{Sealing}
-use Rattle.call_ends.specs.Call.{HasReadFault, MayLack}
-use Rattle.commands.specs.Command.{called}
-use Rattle.call_ends.specs.Course.{Command}
-use Rattle.store_commands.specs.Opening.{opening_in}
-use Rattle.store_commands.specs.Seal.{MayLeaveSealing, sealing_of}
-use Rattle.commands.specs.Words.{row_of}
-use Rattle.call_ends.specs.declared.ending.Ended.{Ended}
-use Rattle.commands.specs.declared.words.Row.{Row}
+use Rattle.std.specs.Prelude.{ℕ, ◌≡◌, ◌⊎◌, List, Option, Result, String, map, string_bytes}
+use Rattle.outside.specs.{Disk.{store_size}, Faults.{Rose}, declared.files.Files.{Ghosts as FileGhosts}}
+use Rattle.{meter_store.specs.Sealing.{Sealing}, call_ends.specs.Call.{HasReadFault, MayLack}}
+use Rattle.store_commands.specs.{Opening.{opening_in}, Seal.{MayLeaveSealing, sealing_of}}
+use Rattle.commands.specs.{Command.{called}, Common.{Command, Ended, Ghosts}, Words.{row_of}, declared.words.Row.{Row}}
 
 -- the row of a call's words is the one that their bytes are, and there is none if they are no row
 abbrev pub row_in : {Z : Type 0} → List (String Z) → Option Row

@@ -1,14 +1,8 @@
 -- For proofs: how the command of a row was carried out, but for its last line. Call and Course say what a call is.
-use Rattle.std.specs.Prelude.{ℕ, Some}
-use Rattle.outside.specs.declared.board.Board.{Ghosts}
-use Rattle.outside.specs.declared.files.Files.{Ghosts as FileGhosts}
-use Rattle.commands.specs.Command.{command_of}
-use Rattle.drive_commands.specs.RunSteps.{RunReachesLine}
-use Rattle.call_ends.specs.declared.ending.Ended.{Ended}
-use Rattle.commands.specs.declared.words.Row.{Row}
-use Rattle.commands.specs.declared.words.Row.TheVariants.{Run, Seal}
-use Rattle.call_ends.specs.Carried.{Carries}
-use Rattle.store_commands.specs.SealSteps.{SealReachesLine}
+use Rattle.{std.specs.Prelude.{ℕ, Some}, outside.specs.declared.files.Files.{Ghosts as FileGhosts}}
+use Rattle.{call_ends.specs.Carried.{Carries}, store_commands.specs.SealSteps.{SealReachesLine}}
+use Rattle.{drive_commands.specs.RunSteps.{RunReachesLine}, commands.specs.declared.words.Row.TheVariants.{Run, Seal}}
+use Rattle.commands.specs.{Command.{command_of}, Common.{Ended, Ghosts}, declared.words.Row.{Row}}
 
 module _ {E D L : Type 0} {N : ℕ} (F : FileGhosts E) (B : Ghosts D N L) where
   -- what else is said of the command of a row

@@ -1,30 +1,15 @@
 -- Rules: the commands of the program. What each of them is stands in a file of its own.
-use Rattle.std.specs.Prelude.{ℕ, List, Option, Some, None}
-use Rattle.drive_commands.specs.Bench.{bench_command}
-use Rattle.tariff_commands.specs.Check.{check_command}
-use Rattle.tariff_commands.specs.Compare.{compare_command}
-use Rattle.call_ends.specs.Course.{Command, IsReadOnlyCommand}
-use Rattle.drive_commands.specs.Explain.{explain_command}
-use Rattle.drive_commands.specs.Fare.{fare_command}
-use Rattle.tariff_commands.specs.Faults.{faults_command}
-use Rattle.tariff_commands.specs.Form.{form_command}
-use Rattle.drive_commands.specs.Generate.{gen_command}
-use Rattle.tariff_commands.specs.Lines.{lines_command}
-use Rattle.store_commands.specs.Mark.{mark_command}
-use Rattle.commands.specs.NoCommand.{no_command}
-use Rattle.store_commands.specs.Offsets.{offsets_command}
-use Rattle.store_commands.specs.Port.{port_command}
-use Rattle.drive_commands.specs.Run.{run_command}
-use Rattle.store_commands.specs.Seal.{seal_command}
-use Rattle.store_commands.specs.Sealed.{sealed_command}
-use Rattle.store_commands.specs.Shifts.{shifts_command}
-use Rattle.tariff_commands.specs.Tables.{tables_command}
-use Rattle.store_commands.specs.Totals.{totals_command}
+use Rattle.{std.specs.Prelude.{ℕ, List, None, Option, Some}, call_ends.specs.Course.{IsReadOnlyCommand}}
+use Rattle.tariff_commands.specs.{Check.{check_command}, Form.{form_command}, Lines.{lines_command}}
+use Rattle.tariff_commands.specs.{Compare.{compare_command}, Faults.{faults_command}, Tables.{tables_command}}
+use Rattle.store_commands.specs.{Mark.{mark_command}, Port.{port_command}, Seal.{seal_command}, Totals.{totals_command}}
+use Rattle.store_commands.specs.{Offsets.{offsets_command}, Sealed.{sealed_command}, Shifts.{shifts_command}}
+use Rattle.drive_commands.specs.{Bench.{bench_command}, Explain.{explain_command}, Generate.{gen_command}}
+use Rattle.{drive_commands.specs.{Fare.{fare_command}, Run.{run_command}}, commands.specs.declared.words.Row.{Row}}
+use Rattle.commands.specs.{Common.{Command}, NoCommand.{no_command}, declared.words.Row.TheVariants.{Totals}}
 use Rattle.commands.specs.Words.{row_of}
-use Rattle.commands.specs.declared.words.Row.{Row}
-use Rattle.commands.specs.declared.words.Row.TheVariants.{Check, Tables, Fare, Totals, Seal, Run, Bench, Gen, Port}
-use Rattle.commands.specs.declared.words.Row.TheVariants.{Offsets, Mark, Shifts, Sealed, Form, Lines, Explain, Compare}
-use Rattle.commands.specs.declared.words.Row.TheVariants.{Faults}
+use Rattle.commands.specs.declared.words.Row.TheVariants.{Bench, Check, Compare, Explain, Fare, Faults, Form, Gen}
+use Rattle.commands.specs.declared.words.Row.TheVariants.{Lines, Mark, Offsets, Port, Run, Seal, Sealed, Shifts, Tables}
 
 -- each row of words is a command, and words that are no row are refused
 abbrev pub command_of : Option Row → Command

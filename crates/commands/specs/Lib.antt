@@ -5,3 +5,4 @@ pub mod NoCommand
 pub mod Words
 -- For proofs
 pub mod Carried
+pub mod Common

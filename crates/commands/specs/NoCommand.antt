@@ -1,8 +1,6 @@
 -- Rules: words that are no command.
-use Rattle.std.specs.Prelude.{◌≡◌, ◌+◌, ◌≤◌, [], None}
-use Rattle.call_ends.specs.Answer.{Answer, refuses}
-use Rattle.call_ends.specs.Course.{Command}
-use Rattle.call_ends.specs.LastLine.{bad_words_line}
+use Rattle.std.specs.Prelude.{[], ◌+◌, ◌≡◌, ◌≤◌, None}
+use Rattle.{call_ends.specs.{Answer.{Answer, refuses}, LastLine.{bad_words_line}}, commands.specs.Common.{Command}}
 
 -- the answer to words that are no command is the status 1 and the last line `BAD WORDS`
 abbrev pub bad_words : Answer

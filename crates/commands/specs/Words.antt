@@ -1,17 +1,11 @@
 -- Rules: the words of a command.
-use Rattle.std.specs.Prelude.{ℕ, ◌^◌, List, [], ◌∷◌, length, Option, Some, None, if◌then◌else◌, nat_le, nat_lt, ◌&&◌}
-use Rattle.std.specs.Prelude.{◌==◌, codes}
-use Rattle.std.specs.Option.{option_map}
-use Rattle.std.specs.Str.Parse.{digits_value}
-use Rattle.taxi_units.specs.Number.{digits_at_front, figure_in}
-use Rattle.drive_modes.specs.Constant.{least_constant, greatest_constant}
-use Rattle.shift_book.specs.Reading.{driver_of}
-use Rattle.store_commands.specs.Years.{years_of}
-use Rattle.commands.specs.declared.words.Row.{Row}
-use Rattle.commands.specs.declared.words.Row.TheVariants.{Check, Tables, Fare, Totals, Seal, Run, Bench, Gen, Port}
-use Rattle.commands.specs.declared.words.Row.TheVariants.{Offsets, Mark, Shifts, Sealed, Form, Lines, Explain, Compare}
-use Rattle.commands.specs.declared.words.Row.TheVariants.{Faults}
-use Rattle.taxi_units.specs.Words.{is_word}
+use Rattle.std.specs.{Option.{option_map}, Prelude.{nat_le, nat_lt}, Str.Parse.{digits_value}}
+use Rattle.std.specs.Prelude.{[], ℕ, ◌&&◌, ◌==◌, ◌^◌, ◌∷◌, List, None, Option, Some, codes, if◌then◌else◌, length}
+use Rattle.{taxi_units.specs.{Number.{figure_in}, Words.{is_word}}, store_commands.specs.Years.{years_of}}
+use Rattle.{drive_modes.specs.Constant.{greatest_constant, least_constant}, shift_book.specs.Reading.{driver_of}}
+use Rattle.commands.specs.{Common.{digits_at_front}, declared.words.Row.{Row, TheVariants.{Totals}}}
+use Rattle.commands.specs.declared.words.Row.TheVariants.{Bench, Check, Compare, Explain, Fare, Faults, Form, Gen}
+use Rattle.commands.specs.declared.words.Row.TheVariants.{Lines, Mark, Offsets, Port, Run, Seal, Sealed, Shifts, Tables}
 
 -- a word is a constant if it is a number of at most 6 digits and of 500 to 200,000, and else none; `figure_in` gives
 -- the number of digits in a width and a range, as the law figures_are_read_by_their_digits of taxi_units says

@@ -1,6 +1,6 @@
 //! Laws of commands: what is said of them by their records, and by their names.
 ghost use Rattle.std.specs.Prelude.{◌↔◌, Option};
-ghost use Rattle.commands.specs.Command.{IsStoreQuery, IsReadOnlyRow};
+ghost use Rattle.commands.specs.Command.{IsReadOnlyRow, IsStoreQuery};
 ghost use Rattle.commands.specs.declared.words.Row as rows;
 
 /// A law: the commands that open the store and write nothing, at whatever status, are `totals`, `bench`, `port`,

@@ -1,16 +1,12 @@
 //! The top call: words in, a status out.
 #![tactic(auto, using(call_ends::proofs::Laws::board_runs))]
 
-ghost use Rattle.std.specs.Prelude.{◌≡◌, ◌≢◌, ℕ, None, Some};
-ghost use Rattle.outside.specs.Faults.{RisesOnlyIf};
-ghost use Rattle.outside.specs.Runs.{IsAtRest, KeepsStore, LeavesOnly};
-ghost use Rattle.call_ends.specs.Call.{IsCall, StopsReading};
-ghost use Rattle.commands.specs.Called.{called_by, row_in, ComesToAnswer, MayLeaveSealingBy, TakesSteps, sealing_by};
-ghost use Rattle.commands.specs.Carried.{CarriesRow};
-ghost use Rattle.commands.specs.Command.{IsReadOnlyRow};
-ghost use Rattle.drive_commands.specs.Run.{IsRun};
-ghost use Rattle.store_commands.specs.Seal.{Seals};
-ghost use Rattle.call_ends.specs.Unwritten.{LeavesImage, WritesNothing};
+ghost use Rattle.std.specs.Prelude.{ℕ, ◌≡◌, ◌≢◌, None, Some};
+ghost use Rattle.{outside.specs.{Faults.{RisesOnlyIf}, Runs.{LeavesOnly}}, call_ends.specs.Unwritten.{LeavesImage}};
+ghost use Rattle.{call_ends.specs.Call.{StopsReading}, store_commands.specs.Seal.{Seals}};
+ghost use Rattle.{drive_commands.specs.Run.{IsRun}, commands.specs.Carried.{CarriesRow}};
+ghost use Rattle.commands.specs.Called.{ComesToAnswer, MayLeaveSealingBy, TakesSteps, called_by, row_in, sealing_by};
+ghost use Rattle.commands.specs.{Command.{IsReadOnlyRow}, Common.{IsAtRest, IsCall, KeepsStore, WritesNothing}};
 
 use crate::words::{Row, row_in};
 use call_ends::{Ended, finish};

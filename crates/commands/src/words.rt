@@ -1,10 +1,7 @@
 //! The words of a command.
-ghost use Rattle.std.specs.Prelude.{◌≡◌, ℕ, ◌≤◌, ◌==◌, length, map, string_bytes};
-ghost use Rattle.std.specs.Option.{option_map};
-ghost use Rattle.std.specs.Str.Parse.{digits_value};
-ghost use Rattle.taxi_units.specs.Number.{digits_at_front};
-ghost use Rattle.taxi_units.specs.Reading.{GivesSame};
-ghost use Rattle.shift_book.specs.Reading.{driver_of};
+ghost use Rattle.{std.specs.Option.{option_map}, taxi_units.specs.Reading.{GivesSame}};
+ghost use Rattle.std.specs.{Prelude.{ℕ, ◌==◌, ◌≡◌, ◌≤◌, length, map, string_bytes}, Str.Parse.{digits_value}};
+ghost use Rattle.{shift_book.specs.Reading.{driver_of}, commands.specs.Common.{digits_at_front}};
 ghost use Rattle.commands.specs.Words.{constant_of, fitting, row_of, seed_of, signs_on, trips_of};
 ghost use Rattle.commands.specs.Words as spec;
 

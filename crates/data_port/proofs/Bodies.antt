@@ -1,16 +1,9 @@
 -- How many bytes the items of a request have together.
-use Rattle.std.proofs.Common.{◌≡◌, ℕ, zero, suc, ◌+◌, ◌-◌, ◌<◌, ◌≤◌, List, [], ◌∷◌, length, take, get_or, map, refl, ap}
-use Rattle.std.proofs.Common.{◌∙◌, arith, length-append}
-use Rattle.std.proofs.lemmas.List.{get_or-map, take_all}
-use Rattle.taxi_units.specs.Line.{line_size}
-use Rattle.seal_record.specs.declared.seal.Seal.{Seal}
-use Rattle.seal_record.specs.Ranges.{IsSeal}
-use Rattle.totals_record.specs.declared.durable_state.Durable.{Durable}
-use Rattle.totals_record.specs.Ranges.{IsDurable}
-use Rattle.data_port.specs.Items.{all_items_size, size_of, sizes, item_count}
-use Rattle.data_port.specs.Reply.{item_bytes, items_bytes}
+use Rattle.std.proofs.Common.{[], ℕ, ◌+◌, ◌-◌, ◌<◌, ◌∙◌, ◌∷◌, ◌≡◌, ◌≤◌, List, ap, arith, get_or, length, length-append}
+use Rattle.std.proofs.{Common.{map, refl, suc, take, zero}, lemmas.List.{get_or-map, take_all}}
+use Rattle.data_port.specs.{Common.{Durable, IsDurable, IsSeal, Seal, line_size}, Reply.{item_bytes, items_bytes}}
+use Rattle.data_port.{specs.Items.{all_items_size, item_count, size_of, sizes}, proofs.Parts.{item_long}}
 use Rattle.data_port.specs.Requests.{Rise}
-use Rattle.data_port.proofs.Parts.{item_long}
 
 abbrev total : List ℕ → ℕ
 total [] = 0

@@ -1,8 +1,6 @@
 -- What a call says of a count of faults if it failed, and if it didn't.
-use Rattle.std.proofs.Common.{◌≡◌, ℕ, ◌+◌, ◌<◌, ◌≤◌, true, false, Result, Ok, Err, OnErr, is_err, refl, arith}
-use Rattle.outside.specs.Faults.{HasCause}
-use Rattle.data_port.specs.declared.serving.PortFault.{PortFault}
-use Rattle.data_port.specs.declared.serving.PortFault.TheVariants.{BoardFault, Frame}
+use Rattle.std.proofs.Common.{ℕ, ◌+◌, ◌<◌, ◌≡◌, ◌≤◌, Err, Ok, OnErr, Result, arith, false, is_err, refl, true}
+use Rattle.{outside.specs.Faults.{HasCause}, data_port.specs.Common.{BoardFault, Frame, PortFault}}
 
 -- a call that didn't fail left the count
 pub left_if_not : {A E : Type 0} {before now : ℕ} (r : Result A E) → is_err r ≡ false → HasCause before now r

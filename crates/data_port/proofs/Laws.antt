@@ -1,28 +1,18 @@
 -- The laws that the public empty functions state.
-use Rattle.std.proofs.Common.{◌≡◌, ℕ, zero, suc, ◌≤◌, List, [], ◌∷◌, ◌++◌, length, take, map, true, false, Some, None}
-use Rattle.std.proofs.Common.{sym, refl, ap, ◌∙◌, arith}
-use Rattle.std.specs.Int.{w16, to_be_bytes, from_be_bytes}
-use Rattle.std.specs.List.{All}
-use Rattle.std.proofs.lemmas.List.{take_at, drop_at}
-use Rattle.std.proofs.lemmas.List.Elements.{All-head, All-tail}
-use Rattle.std.proofs.lemmas.Nat.{from_be_bytes-to_be_bytes_2}
-use Rattle.seal_record.specs.declared.seal.Seal.{Seal}
-use Rattle.seal_record.specs.Ranges.{IsSeal}
-use Rattle.totals_record.specs.declared.durable_state.Durable.{Durable}
-use Rattle.totals_record.specs.Ranges.{IsDurable}
-use Rattle.data_port.specs.declared.request.Request.{Request}
-use Rattle.data_port.specs.Items.{Agrees, all_items_size, content, size_of, item_count}
-use Rattle.data_port.specs.Reply.{AgreeOn, answers_in, body_of, items_in, framed, items_bytes, reply_to}
-use Rattle.data_port.specs.Requests.{IsRequest, Rise, codes_of}
-use Rattle.data_port.specs.Reading.{HasTaken, Standing, first_bad}
-pub use Rattle.data_port.proofs.Feeding.{failed_stays}
-pub use Rattle.data_port.proofs.Streams.{so_far as stream_so_far, at_end as stream_at_end, bad_end as bad_streams}
-pub use Rattle.data_port.proofs.Streams.{unfinished_end as unfinished_streams, bad_stays, bad_ends_requests}
-pub use Rattle.data_port.proofs.Streams.{requests_added as requests_are_added, pieces_give_requests}
-pub use Rattle.data_port.proofs.Streams.{pieces_give_the_same}
-use Rattle.data_port.proofs.Bodies.{rise_few, whole_items}
-use Rattle.data_port.proofs.Parts.{content_long, same_content}
+use Rattle.std.{specs.Int.{from_be_bytes, to_be_bytes, w16}, proofs.lemmas.Nat.{from_be_bytes-to_be_bytes_2}}
+use Rattle.std.{specs.List.{All}, proofs.lemmas.List.{drop_at, take_at}}
+use Rattle.std.proofs.Common.{[], ℕ, ◌++◌, ◌∙◌, ◌∷◌, ◌≡◌, ◌≤◌, List, None, Some, ap, arith, false, length, map, refl}
+use Rattle.std.proofs.{Common.{suc, sym, take, true, zero}, lemmas.List.Elements.{All-head, All-tail}}
+use Rattle.data_port.specs.{Common.{Durable, IsDurable, IsSeal, Seal}, Reading.{HasTaken, Standing, first_bad}}
+use Rattle.data_port.specs.Items.{Agrees, all_items_size, content, item_count, size_of}
+use Rattle.data_port.specs.Reply.{AgreeOn, answers_in, body_of, framed, items_bytes, items_in, reply_to}
+use Rattle.data_port.{specs.Requests.{IsRequest, Rise, codes_of}, proofs.Parts.{content_long, same_content}}
+use Rattle.data_port.{specs.declared.request.Request.{Request}, proofs.Bodies.{rise_few, whole_items}}
 use Rattle.data_port.proofs.Streams as streams
+pub use Rattle.data_port.proofs.{PieceBytes.{failed_stays}, Streams.{pieces_give_requests, pieces_give_the_same}}
+pub use Rattle.data_port.proofs.Streams.{at_end as stream_at_end, bad_end as bad_streams, bad_ends_requests, bad_stays}
+pub use Rattle.data_port.proofs.Streams.{requests_added as requests_are_added, so_far as stream_so_far}
+pub use Rattle.data_port.proofs.Streams.{unfinished_end as unfinished_streams}
 
 -- ---- what replies speak of
 

@@ -2,12 +2,12 @@
 mod Bodies
 -- what a call passes on of one that failed behind others
 mod Causes
--- what each byte of a piece changes of a port
-mod Feeding
 -- the laws that the crates above may cite
 pub mod Laws
 -- how many bytes the content of each item has
 mod Parts
+-- what each byte of a piece changes of a port
+mod PieceBytes
 -- a piece that is served, and a stream that is served piece by piece
 mod Pieces
 -- what bytes make of a port, one behind the other

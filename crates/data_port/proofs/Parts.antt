@@ -1,24 +1,14 @@
 -- The parts of a reply: how many bytes the content of each item has, and what it speaks of.
-use Rattle.std.proofs.Common.{◌≡◌, ℕ, ◌+◌, ◌-◌, ◌*◌, ◌<◌, ◌≤◌, List, [], ◌∷◌, ◌++◌, length, take, get_or, map}
-use Rattle.std.proofs.Common.{replicate, Option, Some, None, refl, sym, ap, ◌∙◌, arith, length-append}
-use Rattle.std.specs.List.{flat_map}
-use Rattle.std.proofs.lemmas.Grind.{flat_map-append}
-use Rattle.std.proofs.lemmas.List.{append-nil, take_all, take_more, get_or-map, length-replicate}
-use Rattle.drive_modes.specs.declared.charges.Mode.{Mode}
-use Rattle.seal_record.specs.declared.seal.Seal.{Seal}
-use Rattle.seal_record.specs.Ranges.{IsSeal}
-use Rattle.seal_record.specs.Spelling.{mode_byte, padded, signed_bytes}
-use Rattle.totals_record.specs.declared.durable_state.Durable.{Durable}
-use Rattle.totals_record.specs.declared.totals.Share.{Share}
-use Rattle.totals_record.specs.declared.totals.Totals.{Totals}
-use Rattle.totals_record.specs.Bytes.{four, eight, sixteen}
-use Rattle.totals_record.specs.Ranges.{IsDurable}
-use Rattle.totals_record.specs.Spelling.{share_bytes}
+use Rattle.std.{specs.List.{flat_map}, proofs.Common.{get_or, length, length-append, map, refl, replicate, sym, take}}
+use Rattle.std.proofs.Common.{[], ℕ, ◌*◌, ◌++◌, ◌+◌, ◌-◌, ◌<◌, ◌∙◌, ◌∷◌, ◌≡◌, ◌≤◌, List, None, Option, Some, ap, arith}
+use Rattle.{std.proofs.lemmas.Grind.{flat_map-append}, taxi_units.proofs.Laws.{appended_behind}}
+use Rattle.std.proofs.lemmas.List.{append-nil, get_or-map, length-replicate, take_all, take_more}
+use Rattle.{drive_modes.specs.declared.charges.Mode.{Mode}, totals_record.specs.declared.totals.Totals.{Totals}}
+use Rattle.{totals_record.specs.declared.totals.Share.{Share}, seal_record.specs.Spelling.{mode_byte, signed_bytes}}
+use Rattle.data_port.specs.Common.{Durable, IsDurable, IsSeal, Seal, eight, four, padded, share_bytes, sixteen}
+use Rattle.data_port.specs.Items.{Agrees, HeldTrip, content, held_content, held_values, item_count, rows}
+use Rattle.data_port.specs.{Items.{shares_content, size_of, sizes}, Reply.{item_bytes}}
 use Rattle.data_port.specs.Items as items
-use Rattle.data_port.specs.Items.{Agrees, HeldTrip, content, held_content, held_values}
-use Rattle.data_port.specs.Items.{rows, shares_content, size_of, sizes, item_count}
-use Rattle.data_port.specs.Reply.{item_bytes}
-use Rattle.taxi_units.proofs.Laws.{appended_behind}
 
 -- one element more
 pub flat_more : {X A : Type 0} (f : X → List A) (xs : List X) (i : ℕ) (d : X) → i < length xs

@@ -1,34 +1,20 @@
 -- A piece, and then a stream, that is served.
-use Rattle.std.proofs.Common.{◌≡◌, ℕ, ◌+◌, ◌<◌, ◌≤◌, ◌^◌, false, List, [], ◌++◌, length, take, drop, get_or, Some, None}
-use Rattle.std.proofs.Common.{Result, Ok, Err, refl, sym, ap, subst, ◌∙◌, append_assoc, arith, length-append}
-use Rattle.std.proofs.Common.{length-take}
-use Rattle.std.specs.Prelude.{All, IfOk, IfErr, OnOk, OnErr, is_err}
-use Rattle.std.proofs.lemmas.Grind.{flat_map-append}
-use Rattle.std.proofs.lemmas.List.{append-nil, nil_from_length, take-append-drop}
-use Rattle.taxi_units.specs.Streams.{IsSplit, KeepsBad}
+use Rattle.std.{specs.Prelude.{All, IfErr, IfOk, OnErr, OnOk, is_err}, proofs.lemmas.Grind.{flat_map-append}}
+use Rattle.std.proofs.Common.{[], ℕ, ◌++◌, ◌+◌, ◌<◌, ◌^◌, ◌∙◌, ◌≡◌, ◌≤◌, Err, List, None, Ok, Result, Some, ap}
+use Rattle.std.proofs.Common.{append_assoc, arith, drop, false, get_or, length, length-append, length-take, refl, subst}
+use Rattle.std.proofs.{Common.{sym, take}, lemmas.List.{append-nil, nil_from_length, take-append-drop}}
+use Rattle.taxi_units.{specs.Streams.{IsSplit, KeepsBad}, proofs.Laws.{whole_stream_reached}}
 use Rattle.taxi_units.proofs.Laws.{bad_stream_reached, endless_stream_reached, unfinished_stream_reached}
-use Rattle.taxi_units.proofs.Laws.{whole_stream_reached}
-use Rattle.outside.specs.Printing.{Begins}
-use Rattle.outside.proofs.Laws.{begins_after, begins_more}
-use Rattle.seal_record.specs.declared.seal.Seal.{Seal}
-use Rattle.totals_record.specs.declared.durable_state.Durable.{Durable}
-use Rattle.data_port.specs.declared.port.BadFrame.{BadFrame}
-use Rattle.data_port.specs.declared.request.Request.{Request}
-use Rattle.data_port.specs.declared.serving.PortFault.{PortFault}
-use Rattle.data_port.specs.declared.serving.PortFault.TheVariants.{ReadFault, BoardFault, Frame, TooLong}
+use Rattle.{outside.proofs.Laws.{begins_after, begins_more}, data_port.specs.Reading.{requests_in, standing_after}}
+use Rattle.data_port.specs.Common.{Begins, BoardFault, Durable, Frame, PortFault, ReadFault, Seal, TooLong}
 use Rattle.data_port.specs.Reading.{BreaksIn, HasSense, HasTaken, Standing, TakesTo, bad_at_end, between, first_bad}
-use Rattle.data_port.specs.Reading.{requests_in, standing_after}
-use Rattle.data_port.specs.ReadingStages.{after_bytes, bad_of, ended_in}
-use Rattle.data_port.specs.Reply.{reply_to}
-use Rattle.data_port.specs.Requests.{IsRequest}
-use Rattle.data_port.specs.Serving.{BadAt, Endless, IsBoundedByRequests, ReachesEnd, Serves, ServesTo, StopsAfter}
-use Rattle.data_port.specs.Serving.{StreamEnd, Whole, replies, stream_limit}
-use Rattle.data_port.specs.Serving as serving
-use Rattle.data_port.specs.ServingStages.{ServesPiece}
-use Rattle.data_port.proofs.Streams.{bad_end, bad_ends_requests, bad_stays}
-use Rattle.data_port.proofs.Laws.{going_count, going_port}
-use Rattle.data_port.proofs.Parts.{flat_more}
-use Rattle.data_port.proofs.Runs.{after-append, ended-append}
+use Rattle.data_port.specs.{ReadingStages.{after_bytes, bad_of, ended_in}, declared.port.BadFrame.{BadFrame}}
+use Rattle.data_port.{specs.Reply.{reply_to}, proofs.Parts.{flat_more}}
+use Rattle.data_port.{specs.{Requests.{IsRequest}, ServingStages.{ServesPiece}}, proofs.Laws.{going_count, going_port}}
+use Rattle.data_port.specs.ServedStream.{BadAt, Endless, IsBoundedByRequests, ReachesEnd, Serves, ServesTo, StopsAfter}
+use Rattle.data_port.specs.{ServedStream.{StreamEnd, Whole, replies, stream_limit}, declared.request.Request.{Request}}
+use Rattle.data_port.proofs.{Runs.{after-append, ended-append}, Streams.{bad_end, bad_ends_requests, bad_stays}}
+use Rattle.data_port.specs.ServedStream as serving
 
 replies-append : (durable : Durable) (seal : Seal) (one other : List Request)
     → replies durable seal (one ++ other) ≡ replies durable seal one ++ replies durable seal other

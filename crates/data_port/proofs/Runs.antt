@@ -1,20 +1,13 @@
 -- What bytes make of a standing, one after the other.
-use Rattle.std.proofs.Common.{◌≡◌, ◌⊎◌, inl, inr, ℕ, suc, ◌+◌, ◌<◌, ◌≤◌, Bool, true, false, cond, ◌==◌, ◌&&◌, nat_le}
-use Rattle.std.proofs.Common.{nat_lt, List, [], ◌∷◌, ◌++◌, length, take, refl, sym, ap, subst, ◌∙◌, append_assoc, arith}
-use Rattle.std.proofs.Common.{length-append}
-use Rattle.std.specs.List.{All}
-use Rattle.std.proofs.lemmas.Bool.{cond-false, cond-true, eq-eqb, ne_eqb}
-use Rattle.std.proofs.lemmas.Grind.{flat_map-append}
-use Rattle.std.proofs.lemmas.List.{append-nil}
-use Rattle.std.proofs.lemmas.List.Elements.{All-head, All-push, All-tail}
-use Rattle.taxi_units.specs.Test.{at_most, less, within, ◌&◌}
-use Rattle.data_port.specs.declared.request.Request.{Request}
-use Rattle.data_port.specs.Reading.{Standing, between}
+use Rattle.{std.specs.List.{All}, data_port.specs.{Items.{item_count}, ReadingStages.{has_all, last_code, request_in}}}
+use Rattle.std.proofs.Common.{[], ℕ, ◌&&◌, ◌++◌, ◌+◌, ◌<◌, ◌==◌, ◌∙◌, ◌∷◌, ◌≡◌, ◌≤◌, ◌⊎◌, Bool, List, ap, append_assoc}
+use Rattle.std.proofs.Common.{arith, cond, false, inl, inr, length, length-append, nat_le, nat_lt, refl, subst, suc}
+use Rattle.std.proofs.{Common.{sym, take, true}, lemmas.Bool.{cond-false, cond-true, eq-eqb, ne_eqb}}
+use Rattle.std.proofs.lemmas.{Grind.{flat_map-append}, List.{append-nil, Elements.{All-head, All-push, All-tail}}}
+use Rattle.taxi_units.specs.Test.{◌&◌, at_most, less, within}
+use Rattle.data_port.specs.{Reading.{Standing, between}, declared.request.Request.{Request}}
 use Rattle.data_port.specs.ReadingStages.{after_byte, after_bytes, after_good, ended_by, ended_in, failed_at, follows}
-use Rattle.data_port.specs.ReadingStages.{has_all, last_code, request_in}
-use Rattle.data_port.specs.Items.{item_count}
-use Rattle.data_port.specs.Requests.{IsRequest, Rise, codes_of, request_bytes, stream_bytes}
-use Rattle.data_port.proofs.Bodies.{rise_few}
+use Rattle.data_port.{specs.Requests.{IsRequest, Rise, codes_of, request_bytes, stream_bytes}, proofs.Bodies.{rise_few}}
 use Rattle.data_port.proofs.Shapes.{Ends, Grows, Shaped, last_from, last_is, last_push, nothing, step}
 
 -- ---- one byte

@@ -1,13 +1,10 @@
 -- What an unfinished request is like, and what a byte that may follow makes of it.
-use Rattle.std.proofs.Common.{◌≡◌, ◌⊎◌, inl, inr, ℕ, zero, suc, ◌+◌, ◌-◌, ◌<◌, ◌≤◌, Bool, true, false, ◌==◌, ◌&&◌}
-use Rattle.std.proofs.Common.{nat_le, nat_lt, List, [], ◌∷◌, ◌++◌, length, get_or, refl, sym, ap, subst, ◌∙◌}
-use Rattle.std.proofs.Common.{append_assoc, arith, length-append}
-use Rattle.std.proofs.lemmas.Bool.{cond-false, cond-true, eqb-false, eqb-true}
-use Rattle.taxi_units.specs.Test.{at_most, less, within, ◌&◌}
-use Rattle.data_port.specs.declared.request.Request.{Request}
-use Rattle.data_port.specs.ReadingStages.{follows, follows_codes, has_all, last_code, request_in}
-use Rattle.data_port.specs.Items.{item_count}
-use Rattle.data_port.specs.Requests.{IsRequest, Rise, request_bytes}
+use Rattle.std.proofs.Common.{[], ℕ, ◌&&◌, ◌++◌, ◌+◌, ◌-◌, ◌<◌, ◌==◌, ◌∙◌, ◌∷◌, ◌≡◌, ◌≤◌, ◌⊎◌, Bool, List, ap}
+use Rattle.std.proofs.Common.{append_assoc, arith, false, get_or, inl, inr, length, length-append, nat_le, nat_lt, refl}
+use Rattle.std.proofs.{Common.{subst, suc, sym, true, zero}, lemmas.Bool.{cond-false, cond-true, eqb-false, eqb-true}}
+use Rattle.taxi_units.specs.Test.{◌&◌, at_most, less, within}
+use Rattle.data_port.specs.{Items.{item_count}, ReadingStages.{follows, follows_codes, has_all, last_code, request_in}}
+use Rattle.data_port.specs.{Requests.{IsRequest, Rise, request_bytes}, declared.request.Request.{Request}}
 use Rattle.data_port.specs.Streams.{IsUnfinished}
 
 -- ---- codes

@@ -1,25 +1,18 @@
 -- What the bytes of a stream say, in words that know no port.
-use Rattle.std.proofs.Common.{◌≡◌, ◌⊎◌, ◌↔◌, inl, inr, ℕ, suc, ◌+◌, ◌<◌, Bool, true, false, cond, ◌==◌, List, [], ◌∷◌}
-use Rattle.std.proofs.Common.{◌++◌, length, take, drop, Option, Some, None, refl, sym, ap, subst, ◌∙◌, append_assoc}
-use Rattle.std.proofs.Common.{arith, length-append}
-use Rattle.std.specs.List.{All}
+use Rattle.std.{specs.List.{All}, proofs.lemmas.{Grind.{flat_map-append}, List.Elements.{All-drop, All-nil, All-push}}}
+use Rattle.std.proofs.Common.{[], ℕ, ◌++◌, ◌+◌, ◌<◌, ◌==◌, ◌↔◌, ◌∙◌, ◌∷◌, ◌≡◌, ◌⊎◌, Bool, List, None, Option, Some, ap}
+use Rattle.std.proofs.Common.{append_assoc, arith, cond, drop, false, inl, inr, length, length-append, refl, subst, suc}
+use Rattle.std.proofs.{Common.{sym, take, true}, lemmas.{Bool.{true_from_ne_false}, List.{take-take}}}
 use Rattle.std.proofs.lemmas.Bool.{both_ways, cases_Bool, cond-false, cond-true, eqb-true, false_from_ne_true}
-use Rattle.std.proofs.lemmas.Bool.{true_from_ne_false}
-use Rattle.std.proofs.lemmas.Bool as bool
-use Rattle.std.proofs.lemmas.Grind.{flat_map-append}
 use Rattle.std.proofs.lemmas.List.{append-nil, append_cancel_left, drop_at, nil_from_length, take-append-drop}
-use Rattle.std.proofs.lemmas.List.{take-take}
-use Rattle.std.proofs.lemmas.List.Elements.{All-drop, All-nil, All-push}
-use Rattle.data_port.specs.declared.request.Request.{Request}
-use Rattle.data_port.specs.Reading.{Standing, bad_at_end, between, first_bad, given_by, requests_after, requests_in}
-use Rattle.data_port.specs.Reading.{standing_after, HasSense}
+use Rattle.data_port.{specs.{Items.{item_count}, Reading.{requests_in, standing_after}}, proofs.Runs.{stuck}}
+use Rattle.data_port.specs.Reading.{HasSense, Standing, bad_at_end, between, first_bad, given_by, requests_after}
 use Rattle.data_port.specs.ReadingStages.{after_bytes, bad_end_of, bad_of, ended_in, follows, has_all}
-use Rattle.data_port.specs.Items.{item_count}
-use Rattle.data_port.specs.Requests.{IsRequest, request_bytes, stream_bytes}
+use Rattle.data_port.specs.{Requests.{IsRequest, request_bytes, stream_bytes}, declared.request.Request.{Request}}
 use Rattle.data_port.specs.Streams.{BeginsStream, EndsWhole, IsFirstBad, IsGood, IsReadAs, bytes_of}
 use Rattle.data_port.proofs.Runs.{FailsIn, Runs, Stands, after-append, ended-append, reads_stream, runs, stream_push}
-use Rattle.data_port.proofs.Runs.{stuck}
 use Rattle.data_port.proofs.Shapes.{Ends, Grows, few_bytes, nothing, step, unfinished}
+use Rattle.std.proofs.lemmas.Bool as bool
 
 -- ---- from the first byte
 

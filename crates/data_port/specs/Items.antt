@@ -1,15 +1,10 @@
 -- Rules: the items of the data port: the content of each, from the durable state and the seal, its size, and what it
 -- speaks of. Numbers have their greatest byte first.
-use Rattle.std.specs.Prelude.{◌≡◌, ℕ, ◌-◌, List, [], ◌∷◌, ◌++◌, get_or, replicate, Option, Some, None}
-use Rattle.std.specs.List.{flat_map}
-use Rattle.drive_modes.specs.Distance.{millimetres_of}
-use Rattle.seal_record.specs.declared.seal.Seal.{Seal}
-use Rattle.seal_record.specs.Spelling.{mode_byte, padded, signed_bytes}
-use Rattle.totals_record.specs.declared.durable_state.Durable.{Durable}
-use Rattle.totals_record.specs.declared.totals.Totals.{Totals}
-use Rattle.totals_record.specs.declared.trip.Trip.{Trip}
-use Rattle.totals_record.specs.Bytes.{four, eight, sixteen}
-use Rattle.totals_record.specs.Spelling.{share_bytes}
+use Rattle.{std.specs.List.{flat_map}, drive_modes.specs.Distance.{millimetres_of}}
+use Rattle.std.specs.Prelude.{[], ℕ, ◌++◌, ◌-◌, ◌∷◌, ◌≡◌, List, None, Option, Some, get_or, replicate}
+use Rattle.totals_record.specs.declared.{totals.Totals.{Totals}, trip.Trip.{Trip}}
+use Rattle.seal_record.specs.Spelling.{mode_byte, signed_bytes}
+use Rattle.data_port.specs.Common.{Durable, Seal, eight, four, padded, share_bytes, sixteen}
 
 -- the values that a reply has of a held trip are the seconds at which it started and was saved, the distance when hired
 -- in millimetres, the ticks, the supplements, the initial hire fee, and the full display steps

@@ -3,8 +3,9 @@ pub mod Reading
 pub mod ReadingStages
 pub mod Reply
 pub mod Requests
-pub mod Serving
+pub mod ServedStream
 pub mod ServingStages
 pub mod Standing
 pub mod State
 pub mod Streams
+pub mod Common

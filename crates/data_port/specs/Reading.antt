@@ -1,9 +1,9 @@
 -- Rules: what the bytes of a stream say, and what a port makes of a piece of them. The law
 -- streams_are_read_by_their_frames says what requests and bad places are, by the streams that there are; ReadingStages
 -- has how a port finds them.
-use Rattle.std.specs.Prelude.{◌≡◌, ◌⊎◌, ℕ, ◌<◌, ◌≤◌, List, [], ◌∷◌, ◌++◌, length, take, Option, Some, None}
-use Rattle.data_port.specs.declared.request.Request.{Request}
+use Rattle.std.specs.Prelude.{[], ℕ, ◌++◌, ◌<◌, ◌∷◌, ◌≡◌, ◌≤◌, ◌⊎◌, List, None, Option, Some, length, take}
 use Rattle.data_port.specs.ReadingStages.{after_bytes, bad_end_of, bad_of, ended_in}
+use Rattle.data_port.specs.declared.request.Request.{Request}
 pub use Rattle.data_port.specs.Standing.{Standing, between}
 
 -- ---- the bytes of a stream, from the first one on

@@ -1,10 +1,8 @@
 -- By law: a stream of requests, byte by byte, as a port reads it. The law `streams_are_read_by_their_frames` says what
 -- the requests and the first bad place of a stream are.
-use Rattle.std.specs.Prelude.{ℕ, ◌+◌, ◌-◌, List, [], ◌∷◌, ◌++◌, length, drop, get_or, Bool, true, false}
-use Rattle.std.specs.Prelude.{if◌then◌else◌, ◌==◌, ◌&&◌, nat_le, nat_lt, Option, Some, None}
-use Rattle.data_port.specs.declared.request.Request.{Request}
-use Rattle.data_port.specs.Items.{item_count}
-use Rattle.data_port.specs.Standing.{Standing, between}
+use Rattle.std.specs.Prelude.{[], ℕ, ◌&&◌, ◌++◌, ◌+◌, ◌-◌, ◌==◌, ◌∷◌, Bool, List, None, Option, Some, drop, false}
+use Rattle.std.specs.Prelude.{get_or, if◌then◌else◌, length, nat_le, nat_lt, true}
+use Rattle.data_port.specs.{Items.{item_count}, Standing.{Standing, between}, declared.request.Request.{Request}}
 
 -- the standing of a port that has come to a bad place has the place, and no bytes of a request
 abbrev pub failed_at : (place : ℕ) → Standing

@@ -1,11 +1,7 @@
 -- Rules: the reply to a request, what it speaks of, and how it is read back. Items has the content of each item.
-use Rattle.std.specs.Prelude.{ℕ, zero, suc, ◌+◌, List, [], ◌∷◌, ◌++◌, length, take, drop}
-use Rattle.std.specs.Int.{w16, from_be_bytes, to_be_bytes}
-use Rattle.std.specs.List.{All, flat_map}
-use Rattle.seal_record.specs.declared.seal.Seal.{Seal}
-use Rattle.totals_record.specs.declared.durable_state.Durable.{Durable}
-use Rattle.data_port.specs.declared.request.Request.{Request}
-use Rattle.data_port.specs.Items.{Agrees, all_items_size, content, item_count, size_of}
+use Rattle.{std.specs.Int.{from_be_bytes, to_be_bytes, w16}, data_port.specs.declared.request.Request.{Request}}
+use Rattle.std.specs.{List.{All, flat_map}, Prelude.{[], ℕ, ◌++◌, ◌+◌, ◌∷◌, List, drop, length, suc, take, zero}}
+use Rattle.data_port.specs.{Common.{Durable, Seal}, Items.{Agrees, all_items_size, content, item_count, size_of}}
 use Rattle.data_port.specs.Requests.{codes_of}
 
 -- an item in bytes is its code and its content

@@ -1,8 +1,6 @@
 -- Rules: what requests are, in codes and in bytes.
-use Rattle.std.specs.Prelude.{ℕ, ◌<◌, ◌≤◌, List, [], ◌∷◌, ◌++◌, length}
-use Rattle.std.specs.List.{flat_map}
-use Rattle.data_port.specs.declared.request.Request.{Request}
-use Rattle.data_port.specs.Items.{item_count}
+use Rattle.std.specs.{List.{flat_map}, Prelude.{[], ℕ, ◌++◌, ◌<◌, ◌∷◌, ◌≤◌, List, length}}
+use Rattle.data_port.specs.{Items.{item_count}, declared.request.Request.{Request}}
 
 -- codes rise if each is above the one before it; the first is above `above`, and none is above that of the last item
 abbrev pub Rise : (above : ℕ) → List ℕ → Type 0

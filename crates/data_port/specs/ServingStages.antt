@@ -1,13 +1,7 @@
--- For proofs: a piece of a stream that is served. Serves, in Serving, says what serving the whole stream gives.
-use Rattle.std.specs.Prelude.{◌≡◌, ℕ, List, ◌++◌, Some, false, Result, Ok, Err}
-use Rattle.outside.specs.Printing.{Begins}
-use Rattle.seal_record.specs.declared.seal.Seal.{Seal}
-use Rattle.totals_record.specs.declared.durable_state.Durable.{Durable}
-use Rattle.data_port.specs.declared.serving.PortFault.{PortFault}
-use Rattle.data_port.specs.declared.serving.PortFault.TheVariants.{ReadFault, BoardFault, Frame, TooLong}
-use Rattle.data_port.specs.ReadingStages.{after_bytes, bad_of, ended_in}
-use Rattle.data_port.specs.Serving.{replies}
-use Rattle.data_port.specs.Standing.{Standing}
+-- For proofs: a piece of a stream that is served. Serves, in ServedStream, says what serving the whole stream gives.
+use Rattle.std.specs.Prelude.{ℕ, ◌++◌, ◌≡◌, Err, List, Ok, Result, Some, false}
+use Rattle.data_port.specs.Common.{Begins, BoardFault, Durable, Frame, PortFault, ReadFault, Seal, TooLong}
+use Rattle.data_port.specs.{ReadingStages.{after_bytes, bad_of, ended_in}, ServedStream.{replies}, Standing.{Standing}}
 
 module _ (told : Type 0) (durable : Durable) (seal : Seal) (old new : Standing) (piece before now : List ℕ) where
   -- a piece was served if all of it was, or all up to a bad place, or if the board failed after a beginning of its

@@ -1,5 +1,5 @@
 -- Rules: what contracts see of a port.
-use Rattle.std.specs.Prelude.{ℕ, List, [], Bool, false}
+use Rattle.std.specs.Prelude.{[], ℕ, Bool, List, false}
 
 -- a port keeps how many bytes it has taken, those of an unfinished request, and whether a bad place has come; once one
 -- has come, `taken` is that place

@@ -1,8 +1,6 @@
 -- Rules: which streams of requests there are, and what the bytes of one say.
-use Rattle.std.specs.Prelude.{◌≡◌, ℕ, ◌+◌, ◌<◌, List, ◌++◌, length, take, Option, Some, None}
-use Rattle.std.specs.List.{All, flat_map}
-use Rattle.data_port.specs.declared.request.Request.{Request}
-use Rattle.data_port.specs.Requests.{IsRequest, request_bytes, stream_bytes}
+use Rattle.std.specs.{List.{All, flat_map}, Prelude.{ℕ, ◌++◌, ◌+◌, ◌<◌, ◌≡◌, List, None, Option, Some, length, take}}
+use Rattle.data_port.specs.{Requests.{IsRequest, request_bytes, stream_bytes}, declared.request.Request.{Request}}
 
 -- bytes begin a stream if they are the front of some stream of requests
 pub record BeginsStream (bytes : List ℕ) : Type 0 where

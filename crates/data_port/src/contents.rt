@@ -1,15 +1,9 @@
 //! The contents of the items.
-ghost use Rattle.std.specs.Prelude.{◌≡◌, ◌++◌, ◌+◌, ◌≤◌, length, replicate};
-ghost use Rattle.arrayvec.specs.ArrayVec.{array_vec_len};
-ghost use Rattle.taxi_units.specs.Line.{line_size};
-ghost use Rattle.taxi_units.specs.Money.{largest_amount};
-ghost use Rattle.seal_record.specs.Ranges.{IsSeal};
-ghost use Rattle.seal_record.specs.Spelling.{padded};
-ghost use Rattle.totals_record.specs.Bytes.{four, eight, sixteen};
-ghost use Rattle.totals_record.specs.Ranges.{IsDurable};
-ghost use Rattle.totals_record.specs.Spelling.{share_bytes};
-ghost use Rattle.data_port.specs.Items.{content, held_content, held_trip, held_values};
-ghost use Rattle.data_port.specs.Items.{shares_content, size_of, trip_content, item_count};
+ghost use Rattle.std.specs.Prelude.{◌++◌, ◌+◌, ◌≡◌, ◌≤◌, length, replicate};
+ghost use Rattle.{arrayvec.specs.ArrayVec.{array_vec_len}, taxi_units.specs.Money.{largest_amount}};
+ghost use Rattle.data_port.specs.Common.{IsDurable, IsSeal, eight, four, line_size, padded, share_bytes, sixteen};
+ghost use Rattle.data_port.specs.Items.{content, held_content, held_trip, held_values, item_count, shares_content};
+ghost use Rattle.data_port.specs.Items.{size_of, trip_content};
 
 use drive_modes::{Constant, millimetres};
 use seal_record::{Seal, mode_byte};

@@ -1,8 +1,7 @@
 //! Takes a stream of requests in any pieces.
-ghost use Rattle.std.specs.Prelude.{◌≡◌, ℕ, ◌+◌, ◌<◌, ◌≤◌, ◌^◌, ◌++◌, [], List, All, length, take, true, false, None, Some, IfOk, IfErr, OnOk, OnErr};
-ghost use Rattle.arrayvec.specs.ArrayVec.{array_vec_len};
-ghost use Rattle.data_port.specs.Reading.{BreaksIn, HasTaken, TakesTo, bad_at_end, between};
-ghost use Rattle.data_port.specs.Requests.{IsRequest};
+ghost use Rattle.std.specs.Prelude.{[], ℕ, ◌++◌, ◌+◌, ◌<◌, ◌^◌, ◌≡◌, ◌≤◌, All, IfErr, IfOk, List, None, OnErr, OnOk};
+ghost use Rattle.{std.specs.Prelude.{Some, false, length, take, true}, arrayvec.specs.ArrayVec.{array_vec_len}};
+ghost use Rattle.data_port.specs.{Reading.{BreaksIn, HasTaken, TakesTo, bad_at_end, between}, Requests.{IsRequest}};
 
 use crate::request::Request;
 use crate::state::State;
@@ -26,8 +25,7 @@ pub struct Port {
 }
 
 impl Model for Port {
-    ghost use Rattle.data_port.specs.Reading.{HasSense, Standing};
-    ghost use Rattle.data_port.specs.State.{standing_of};
+    ghost use Rattle.data_port.specs.{Reading.{HasSense, Standing}, State.{standing_of}};
 
     ghost Value = { Standing };
 

@@ -1,12 +1,8 @@
 //! The reply to a request.
-ghost use Rattle.std.specs.Prelude.{◌≡◌, [], ◌++◌, ◌+◌, ◌≤◌};
-ghost use Rattle.arrayvec.specs.ArrayVec.{array_vec_len};
-ghost use Rattle.taxi_units.specs.Line.{line_size};
-ghost use Rattle.seal_record.specs.Ranges.{IsSeal};
-ghost use Rattle.totals_record.specs.Ranges.{IsDurable};
-ghost use Rattle.data_port.specs.Items.{all_items_size, size_of, item_count};
-ghost use Rattle.data_port.specs.Reply.{items_bytes, item_bytes, longest_reply, reply_to};
-ghost use Rattle.data_port.specs.Requests.{IsRequest, Rise};
+ghost use Rattle.std.specs.Prelude.{[], ◌++◌, ◌+◌, ◌≡◌, ◌≤◌};
+ghost use Rattle.{arrayvec.specs.ArrayVec.{array_vec_len}, data_port.specs.Items.{all_items_size, item_count, size_of}};
+ghost use Rattle.data_port.specs.Common.{IsDurable, IsSeal, line_size};
+ghost use Rattle.data_port.specs.{Reply.{item_bytes, items_bytes, longest_reply, reply_to}, Requests.{IsRequest, Rise}};
 
 use crate::contents::put_content;
 use crate::request::Request;

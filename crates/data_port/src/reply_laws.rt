@@ -1,13 +1,7 @@
 //! What holds of replies.
-ghost use Rattle.std.specs.Prelude.{◌≡◌, map, ℕ};
-ghost use Rattle.seal_record.specs.declared.seal.Seal.{Seal};
-ghost use Rattle.seal_record.specs.Ranges.{IsSeal};
-ghost use Rattle.totals_record.specs.declared.durable_state.Durable.{Durable};
-ghost use Rattle.totals_record.specs.Ranges.{IsDurable};
-ghost use Rattle.data_port.specs.declared.request.Request.{Request};
-ghost use Rattle.data_port.specs.Items.{content};
-ghost use Rattle.data_port.specs.Reply.{reply_to, AgreeOn, answers_in};
-ghost use Rattle.data_port.specs.Requests.{IsRequest, codes_of};
+ghost use Rattle.std.specs.Prelude.{ℕ, ◌≡◌, map};
+ghost use Rattle.data_port.specs.{Common.{Durable, IsDurable, IsSeal, Seal}, Reply.{AgreeOn, answers_in, reply_to}};
+ghost use Rattle.data_port.specs.{Items.{content}, Requests.{IsRequest, codes_of}, declared.request.Request.{Request}};
 
 /// Two stores that agree on what the items of a request speak of give the same reply.
 pub fn replies_speak_of_their_items()

@@ -9,7 +9,7 @@ pub struct Request {
 }
 
 impl Default for Request {
-    ghost use Rattle.std.specs.Prelude.{◌≡◌, []};
+    ghost use Rattle.std.specs.Prelude.{[], ◌≡◌};
 
     ghost is_default = { λ request. request.items.items ≡ [] };
 

@@ -1,9 +1,8 @@
 //! What a port keeps of a stream, and what one byte changes of it.
-ghost use Rattle.std.specs.Prelude.{◌≡◌, ◌++◌, ◌+◌, ◌<◌, ◌≤◌, ◌^◌, [], length, true, false, IfErr, OnOk};
-ghost use Rattle.arrayvec.specs.ArrayVec.{array_vec_len};
-ghost use Rattle.data_port.specs.Reading.{HasSense, HasTaken, between};
-ghost use Rattle.data_port.specs.Items.{item_count};
-ghost use Rattle.data_port.specs.ReadingStages.{after_byte, ended_by, follows, follows_codes, follows_start, has_all, has_codes, last_code, request_in};
+ghost use Rattle.std.specs.Prelude.{[], ◌++◌, ◌+◌, ◌<◌, ◌^◌, ◌≡◌, ◌≤◌, IfErr, OnOk, false, length, true};
+ghost use Rattle.{arrayvec.specs.ArrayVec.{array_vec_len}, data_port.specs.Reading.{HasSense, HasTaken, between}};
+ghost use Rattle.data_port.specs.{Items.{item_count}, ReadingStages.{has_codes, last_code, request_in}};
+ghost use Rattle.data_port.specs.ReadingStages.{after_byte, ended_by, follows, follows_codes, follows_start, has_all};
 
 use crate::contents::ITEM_COUNT;
 use crate::port::BadFrame;

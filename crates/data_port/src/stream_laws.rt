@@ -1,8 +1,8 @@
 //! What holds of streams of requests, whatever a port does.
-ghost use Rattle.std.specs.Prelude.{◌≡◌, ◌↔◌, ℕ, ◌++◌, [], List, Option, length, true, false, None, Some};
+ghost use Rattle.std.specs.Prelude.{[], ℕ, ◌++◌, ◌↔◌, ◌≡◌, List, None, Option, Some, false, length, true};
+ghost use Rattle.data_port.specs.Reading.{HasTaken, Standing, bad_at_end, first_bad, given_by, requests_after};
+ghost use Rattle.data_port.specs.{Reading.{requests_in}, Streams.{EndsWhole, IsReadAs, bytes_of}};
 ghost use Rattle.data_port.specs.declared.request.Request.{Request};
-ghost use Rattle.data_port.specs.Reading.{HasTaken, Standing, bad_at_end, first_bad, given_by, requests_after, requests_in};
-ghost use Rattle.data_port.specs.Streams.{EndsWhole, IsReadAs, bytes_of};
 
 /// The streams of requests say what the first bad place of bytes and their requests are: the place is the first whose
 /// byte no stream of requests has there, and the requests are those that are whole before it. Nothing else is said. At

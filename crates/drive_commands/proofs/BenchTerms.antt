@@ -1,18 +1,10 @@
 -- What a verification goes by, and why there is nothing.
-use Rattle.std.proofs.Common.{◌≡◌, ◌≢◌, ℕ, List, Result, Ok, Err, refl, ap, ◌∙◌}
-use Rattle.totals_record.specs.declared.durable_state.Durable.{Durable}
-use Rattle.seal_record.specs.declared.seal.Seal.{Seal}
-use Rattle.tariff_syntax.specs.Tree.{Tree}
-use Rattle.call_ends.specs.declared.ending.Ended.{Ended}
-use Rattle.call_ends.specs.declared.ending.Ended.TheVariants as ended
-use Rattle.drive_commands.specs.Bench.{terms_of, terms_over, terms_with}
-use Rattle.drive_commands.specs.BenchSteps.{HasNoTerms}
-use Rattle.store_commands.specs.Opened.{IsBarred}
-use Rattle.store_commands.specs.Opening.{IsSealedIn, opening_in, store_of}
-use Rattle.drive_commands.specs.Run.{sealed_tariff}
+use Rattle.std.proofs.Common.{ℕ, ◌∙◌, ◌≡◌, ◌≢◌, Err, List, Ok, Result, ap, refl}
+use Rattle.{call_ends.proofs.Laws.{refusal_by}, store_commands.{specs.Opened.{IsBarred}, proofs.Laws.{owed-refused}}}
+use Rattle.drive_commands.specs.{Bench.{terms_of, terms_over, terms_with}, BenchSteps.{HasNoTerms}, Run.{sealed_tariff}}
+use Rattle.drive_commands.specs.Common.{Durable, Ended, IsSealedIn, Seal, Tree, opening_in, store_of}
 use Rattle.drive_commands.specs.RunSteps.{AreNoTables}
-use Rattle.call_ends.proofs.Laws.{refusal_by}
-use Rattle.store_commands.proofs.Laws.{owed-refused}
+use Rattle.call_ends.specs.declared.ending.Ended.TheVariants as ended
 
 module _ (image tariff : List ℕ) where
   module _ (read_failed board_failed : Type 0) where

@@ -1,11 +1,8 @@
 -- The text of hirings, line by line and hiring by hiring.
-use Rattle.std.proofs.Common.{◌≡◌, ◌∙◌, ℕ, suc, ◌+◌, ◌<◌, List, [], ◌∷◌, ◌++◌, length, map, drop, get_or, flat_map}
-use Rattle.std.proofs.Common.{drop-cons, ap, sym, subst, append_assoc, arith}
-use Rattle.std.proofs.Math.Seq.{drop-length}
-use Rattle.std.proofs.lemmas.List.{append-nil}
-use Rattle.verify_bench.specs.Explaining.{Explanation}
-use Rattle.drive_commands.specs.ExplainedText.{hiring_text, hirings_text}
-use Rattle.drive_commands.specs.declared.explained_lines.Scale.{Scale}
+use Rattle.std.proofs.Common.{[], ℕ, ◌++◌, ◌+◌, ◌<◌, ◌∙◌, ◌∷◌, ◌≡◌, List, ap, append_assoc, arith, drop, drop-cons}
+use Rattle.std.proofs.{Common.{flat_map, get_or, length, map, subst, suc, sym}, lemmas.List.{append-nil}}
+use Rattle.{std.proofs.Math.Seq.{drop-length}, drive_commands.specs.ExplainedText.{hiring_text, hirings_text}}
+use Rattle.drive_commands.specs.Common.{Explanation, Scale}
 
 -- an element, and those behind it
 here : {A : Type 0} (xs : List A) (i : ℕ) (d : A) → i < length xs → drop i xs ≡ get_or xs i d ∷ drop (i + 1) xs

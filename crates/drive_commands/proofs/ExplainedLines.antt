@@ -1,11 +1,8 @@
 -- The amounts of an explanation: a charge that is cut off, in its parts.
-use Rattle.std.proofs.Common.{◌≡◌, ℕ, zero, suc, ◌+◌, ◌*◌, ◌/◌, ◌%◌, ◌^◌, ◌<◌, ◌≤◌, ◌∷◌, ◌++◌, length, refl, ap, sym}
-use Rattle.std.proofs.Common.{◌∙◌, arith}
-use Rattle.std.specs.Fmt.{decimal}
-use Rattle.std.proofs.Math.Nat.{mod-lt, mul_assoc}
-use Rattle.std.proofs.lemmas.Nat.{div-add-mod', div-mul-add, div_below, mod-mul-add}
-use Rattle.taxi_units.specs.Number.{money_text, padded_text}
-use Rattle.taxi_units.proofs.Laws.{numbers_are_short, padded_numbers_fill_the_width}
+use Rattle.{std.{specs.Fmt.{decimal}, proofs.Math.Nat.{mod-lt, mul_assoc}}, drive_commands.specs.Common.{money_text}}
+use Rattle.std.proofs.Common.{ℕ, ◌%◌, ◌*◌, ◌++◌, ◌+◌, ◌/◌, ◌<◌, ◌^◌, ◌∙◌, ◌∷◌, ◌≡◌, ◌≤◌, ap, arith, length, refl, suc}
+use Rattle.std.proofs.{Common.{sym, zero}, lemmas.Nat.{div-add-mod', div-mul-add, div_below, mod-mul-add}}
+use Rattle.taxi_units.{specs.Number.{padded_text}, proofs.Laws.{numbers_are_short, padded_numbers_fill_the_width}}
 
 -- a charge has fewer than ten thousand ten-thousandths beside whole units of money
 pub few_parts : (charge unit : ℕ) → 0 < unit → (charge % unit < unit) × (charge % unit * 10000 / unit < 10000)

@@ -1,32 +1,32 @@
+-- how the command `bench` comes to its last line
+mod BenchEnds
 -- what a verification goes by, and why there is nothing
 mod BenchTerms
--- how the command `bench` comes to its last line
-mod Benching
+-- what the command `explain` answers
+mod ExplainAnswers
 -- the text of hirings that are explained, line by line and hiring by hiring
 mod ExplainedHirings
 -- a charge that is cut off, in its parts
 mod ExplainedLines
--- what the command `explain` answers
-mod Explaining
--- the drive of the command `fare`, under its tariff
-mod Faring
--- the test whether a held trip fits the tables decides it
-mod Fitting
 -- the drive of the command `gen`, over a new store
-mod Generating
+mod GenDrive
+-- the test whether a held trip fits the tables decides it
+mod HeldTripFits
 -- readings that are judged by a drive, and why nothing is judged
-mod Judging
+mod JudgedReadings
 -- the lemmas that the crates above cite
 pub mod Laws
+-- a run on a new store prints the receipts that are explained
+mod NewStores
+-- what the command `run` answers, and what it leaves of the store
+mod RunAnswers
 -- places in the list of what a run does, with the last line behind it
 mod RunCuts
 -- what the command `run` answers and leaves once its drive was carried out, and after its last line
 mod RunEnds
--- what the command `run` answers, and what it leaves of the store
-mod Running
 -- how the command `run` begins
-mod Starting
+mod RunStarts
+-- the drive of the command `fare`, under its tariff
+mod TariffDrives
 -- a drive that is read whole into memory, part by part
 mod WholeDrives
--- a run on a new store prints the receipts that are explained
-mod NewStores

@@ -1,49 +1,24 @@
 -- A run on a new store prints the receipts that are explained.
-use Rattle.std.proofs.Common.{◌≡◌, ◌∙◌, ℕ, ◌<◌, Bool, true, false, List, length, Option, Some, None, Result, Ok, Err}
-use Rattle.std.proofs.Common.{if◌then◌else◌, refl, ap, sym, subst, nat_lt}
-use Rattle.std.specs.Cmp.Lexicographic.{pointwise}
-use Rattle.std.specs.Prelude.{nat_eq}
-use Rattle.std.specs.Bool.{Decides}
-use Rattle.std.proofs.lemmas.Bool.Decides.{Decides-eqb}
-use Rattle.std.proofs.lemmas.Slice.Eq.{slice_eq-Decides}
-use Rattle.sha2.specs.Sha256.{sha256}
-use Rattle.drive_text.specs.Ending.{BadAt, Endless, StreamEnd, Whole, drive_end, events_of}
-use Rattle.meter_run.specs.Deeds.{deeds_of, texts}
-use Rattle.meter_model.specs.Run.{actions_of}
-use Rattle.meter_model.specs.Setting.{Setting, setting_by}
-use Rattle.meter_store.specs.Sealing.{HasSeal, sealed_totals}
-use Rattle.meter_store.specs.Stored as states
-use Rattle.seal_record.specs.Decoding as seals
-use Rattle.seal_record.specs.Reading.{params_read}
-use Rattle.seal_record.specs.declared.params.ParamFault.{ParamFault}
-use Rattle.seal_record.specs.declared.params.Params.{Params}
-use Rattle.seal_record.specs.declared.seal.Seal.{Seal}
-use Rattle.slot_store.specs.Scan.{found_at}
-use Rattle.slot_store.specs.declared.found.Found.{Found}
-use Rattle.slot_store.specs.declared.found.Found.TheVariants.{Latest}
-use Rattle.slot_store.specs.declared.found.SlotFault.{SlotFault}
-use Rattle.slot_store.proofs.Laws.{body_found}
-use Rattle.tariff_syntax.specs.Parsed.{tree_parsed}
-use Rattle.tariff_syntax.specs.Tree.{Tree}
-use Rattle.totals_record.specs.Reading as totals
-use Rattle.totals_record.specs.States.{first_state}
-use Rattle.totals_record.specs.declared.durable_state.Durable.{Durable}
+use Rattle.std.{specs.Bool.{Decides}, proofs.Common.{if◌then◌else◌, length, nat_lt, refl, subst, sym, true}}
+use Rattle.{std.specs.Cmp.Lexicographic.{pointwise}, sha2.specs.Sha256.{sha256}, slot_store.proofs.Laws.{body_found}}
+use Rattle.std.{specs.Prelude.{nat_eq}, proofs.lemmas.{Bool.Decides.{Decides-eqb}, Slice.Eq.{slice_eq-Decides}}}
+use Rattle.std.proofs.Common.{ℕ, ◌<◌, ◌∙◌, ◌≡◌, Bool, Err, List, None, Ok, Option, Result, Some, ap, false}
+use Rattle.{slot_store.specs.declared.found.Found.TheVariants.{Latest}, seal_record.specs.Reading.{params_read}}
+use Rattle.{meter_store.specs.Sealing.{HasSeal, sealed_totals}, tariff_syntax.specs.Parsed.{tree_parsed}}
+use Rattle.{meter_model.specs.Run.{actions_of}, meter_run.specs.Deeds.{deeds_of}, call_ends.specs.Tariffs.{checked_in}}
 use Rattle.verify_bench.proofs.Laws.{explanations_have_the_receipts-receipts}
-use Rattle.verify_bench.specs.Explaining.{explanations_of}
-use Rattle.call_ends.specs.Answer.{Answer, shows}
-use Rattle.call_ends.specs.Tariffs.{checked_in, tariff_in}
-use Rattle.call_ends.specs.declared.ending.Ended.{Ended}
-use Rattle.call_ends.specs.declared.ending.Ended.TheVariants as ended
-use Rattle.call_ends.specs.declared.tariff.Refusal.{Refusal}
-use Rattle.call_ends.specs.declared.tariff.Refusal.TheVariants.{TooLong}
-use Rattle.store_commands.proofs.Laws.{seal_of_texts}
-use Rattle.store_commands.specs.Opening.{opening_by, opening_in}
-use Rattle.store_commands.specs.declared.opening.Opening.{Opening}
-use Rattle.store_commands.specs.declared.opening.StoreFault.{StoreFault}
+use Rattle.store_commands.{specs.Opening.{opening_by}, proofs.Laws.{seal_of_texts}}
+use Rattle.drive_commands.specs.Common.{Answer, BadAt, Durable, Ended, Endless, Found, Opening, ParamFault, Params}
+use Rattle.drive_commands.specs.Common.{Refusal, Seal, Setting, SlotFault, StoreFault, StreamEnd, TooLong, Tree, Whole}
+use Rattle.drive_commands.specs.Common.{drive_end, events_of, explanations_of, first_state, found_at, opening_in}
+use Rattle.drive_commands.specs.{Common.{setting_by, shows, tariff_in, texts}, NewStore.{ExplainsRun, IsNewStore}}
 use Rattle.drive_commands.specs.Explain.{ending_answer, explain_answer, explanation_text, read_setting, setting_with}
 use Rattle.drive_commands.specs.Fare.{drive_answer}
-use Rattle.drive_commands.specs.NewStore.{ExplainsRun, IsNewStore}
 use Rattle.drive_commands.specs.Run.{Start, accepted, deeds_in, run_answer, sealed_tariff, start_of, start_with}
+use Rattle.meter_store.specs.Stored as states
+use Rattle.seal_record.specs.Decoding as seals
+use Rattle.totals_record.specs.Reading as totals
+use Rattle.call_ends.specs.declared.ending.Ended.TheVariants as ended
 
 -- a text with a sound tariff is short
 short_text : (b : Bool) (text : List ℕ) (t : Tree) → (if b then Err TooLong else checked_in (tree_parsed text)) ≡ Ok t

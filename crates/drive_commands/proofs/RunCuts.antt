@@ -1,23 +1,13 @@
 -- Places in the list of what a run does, with the last line behind it.
-use Rattle.std.proofs.Common.{◌≡◌, inl, ℕ, List, [], ◌∷◌, ◌++◌, refl, sym, ap, subst, ◌∙◌, append_assoc, arith}
-use Rattle.std.specs.Option.{ForSome}
-use Rattle.std.proofs.lemmas.List.{append-nil}
-use Rattle.outside.specs.Printing.{Begins}
-use Rattle.outside.proofs.Laws.{begins_after, begins_more, begins_not}
-use Rattle.slot_store.proofs.Laws.{body_found}
+use Rattle.{std.{specs.Option.{ForSome}, proofs.lemmas.List.{append-nil}}, slot_store.proofs.Laws.{body_found}}
+use Rattle.std.proofs.Common.{[], ℕ, ◌++◌, ◌∙◌, ◌∷◌, ◌≡◌, List, ap, append_assoc, arith, inl, refl, subst, sym}
+use Rattle.{outside.proofs.Laws.{begins_after, begins_more, begins_not}, totals_record.proofs.Laws.{changes_add_up}}
+use Rattle.{totals_record.specs.{Reading.{reads}, Sums.{GrowsBy}}, meter_store.specs.Stored.{state_number_of}}
+use Rattle.{meter_model.specs.declared.act.Act.TheVariants.{Receipt}, meter_run.specs.Deeds.{Does, changes_of}}
+use Rattle.meter_run.{specs.Points.{HasEntries}, proofs.Laws.{texts_joined}}
+use Rattle.drive_commands.specs.Common.{Begins, Deed, Durable, Fits, HasState, IsCutOfDeeds, Prints, Seal, TableParts}
+use Rattle.drive_commands.specs.Common.{after_deeds, texts}
 use Rattle.taxi_units.specs.declared.receipt.Receipt as receipts
-use Rattle.totals_record.specs.Reading.{reads}
-use Rattle.meter_store.specs.Stored.{HasState, state_number_of}
-use Rattle.totals_record.specs.Sums.{GrowsBy}
-use Rattle.totals_record.specs.declared.durable_state.Durable.{Durable}
-use Rattle.totals_record.proofs.Laws.{changes_add_up}
-use Rattle.seal_record.specs.declared.seal.Seal.{Seal}
-use Rattle.tariff_compile.specs.Tables.{TableParts}
-use Rattle.meter_states.specs.Fits.{Fits}
-use Rattle.meter_model.specs.declared.act.Act.TheVariants.{Receipt}
-use Rattle.meter_run.specs.Deeds.{Deed, Does, Prints, after_deeds, changes_of, texts}
-use Rattle.meter_run.proofs.Laws.{texts_joined}
-use Rattle.meter_run.specs.Points.{HasEntries, IsCutOfDeeds}
 
 -- ---- lists
 

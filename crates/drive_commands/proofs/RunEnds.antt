@@ -1,46 +1,24 @@
 -- The command `run`: what it answers and leaves once its drive was carried out, and after its last line.
-use Rattle.std.proofs.Common.{◌≡◌, ◌≢◌, ◌⊎◌, ⊎_elim, inl, inr, ℕ, List, [], ◌∷◌, ◌++◌, Result, Ok, Err, refl, sym, ap}
-use Rattle.std.proofs.Common.{subst, ◌∙◌}
-use Rattle.std.proofs.lemmas.List.{append-nil}
-use Rattle.drive_text.specs.Ending.{StreamEnd, Whole, BadAt, Endless, drive_end}
-use Rattle.outside.specs.declared.board.Board.{Ghosts}
-use Rattle.outside.specs.declared.files.Files.{Ghosts as FileGhosts}
-use Rattle.outside.specs.Disk.{MayLeaveAmid, SameBut}
-use Rattle.outside.specs.Faults.{Rose}
-use Rattle.outside.specs.Printing.{Begins}
-use Rattle.outside.specs.Runs.{IsAtRest as NothingFlies, KeepsStore, LeavesOnly, MayHold}
-use Rattle.outside.proofs.Laws.{leaves_wider}
-use Rattle.slot_store.specs.Syncs.{IsAsHeld, LeavesFromSync}
-use Rattle.slot_store.specs.Writes.{OrWithin}
-use Rattle.slot_store.proofs.Laws.{from_sync_as, goes_on, settled_already}
-use Rattle.totals_record.specs.declared.durable_state.Durable.{Durable}
-use Rattle.meter_states.specs.Setting.{IsSettingOf}
-use Rattle.meter_run.specs.Deeds.{Prints, after_deeds, texts}
-use Rattle.meter_run.specs.OnStore.{HasBeside, WritesTotals}
-use Rattle.meter_run.proofs.Laws.{left_has, settled_has}
-use Rattle.meter_run.specs.Points.{IsCutOfDeeds}
-use Rattle.meter_run.specs.Runs.{EndsRun, HasDone, HasStopped, OpensWith, RunsUpTo}
-use Rattle.meter_run.specs.declared.fault.RunFault.{RunFault}
-use Rattle.meter_run.specs.declared.fault.RunFault.TheVariants as faults
-use Rattle.call_ends.specs.declared.ending.Ended.{Ended}
-use Rattle.call_ends.specs.declared.ending.Ended.TheVariants as ended
-use Rattle.call_ends.specs.Answer.{Answer}
-use Rattle.call_ends.specs.Call.{IsCall, IsEnd}
-use Rattle.call_ends.specs.Course.{Answered, ReadFailed, BoardFailed, line_in}
-use Rattle.drive_commands.specs.DriveEnds.{ended_by}
+use Rattle.std.proofs.Common.{[], ℕ, ◌++◌, ◌∙◌, ◌∷◌, ◌≡◌, ◌≢◌, ◌⊎◌, Err, List, Ok, Result, ap, inl, inr, refl, subst}
+use Rattle.{std.proofs.{Common.{sym, ⊎_elim}, lemmas.List.{append-nil}}, outside.specs.Disk.{MayLeaveAmid}}
+use Rattle.outside.{specs.Runs.{IsAtRest as NothingFlies, KeepsStore, LeavesOnly, MayHold}, proofs.Laws.{leaves_wider}}
+use Rattle.{outside.specs.declared.files.Files.{Ghosts as FileGhosts}, slot_store.specs.Syncs.{IsAsHeld}}
+use Rattle.slot_store.{specs.Writes.{OrWithin}, proofs.Laws.{from_sync_as, goes_on, settled_already}}
+use Rattle.meter_run.specs.{OnStore.{HasBeside, WritesTotals}, Runs.{EndsRun, HasDone, HasStopped, RunsUpTo}}
+use Rattle.{meter_run.proofs.Laws.{left_has, settled_has}, call_ends.specs.Unwritten.{LeavesUnwritten}}
+use Rattle.call_ends.{specs.Call.{IsCall, IsEnd}, proofs.Laws.{board_or_not}}
+use Rattle.drive_commands.specs.Common.{Answer, Answered, BadAt, Begins, BoardFailed, Durable, Ended, Endless, Ghosts}
+use Rattle.drive_commands.specs.Common.{IsCutOfDeeds, IsSettingOf, LeavesFromSync, OpensWith, Prints, ReadFailed, Rose}
+use Rattle.drive_commands.specs.Common.{RunFault, SameBut, StreamEnd, Whole, after_deeds, drive_end, line_in, line_of}
+use Rattle.drive_commands.specs.{Common.{opening_in, status_of, texts}, DriveEnds.{ended_by}, Run.{start_of, tables_in}}
 use Rattle.drive_commands.specs.Fare.{drive_answer}
-use Rattle.call_ends.specs.LastLine.{line_of, status_of}
-use Rattle.store_commands.specs.Opening.{opening_in}
-use Rattle.drive_commands.specs.Run.{IsOfTotals, IsRun, IsCutOfStart, IsCutOfRun, IsCutOfCourse, StandsAfterRun, Start}
+use Rattle.drive_commands.specs.Run.{IsCutOfCourse, IsCutOfRun, IsCutOfStart, IsOfTotals, IsRun, StandsAfterRun, Start}
 use Rattle.drive_commands.specs.Run.{bytes_in, deeds_in, run_answer, run_command, setting_in, shown_in_run, start_at}
-use Rattle.drive_commands.specs.Run.{start_of, tables_in}
-use Rattle.drive_commands.specs.RunSteps.{RunReachesLine}
-use Rattle.call_ends.specs.Unwritten.{LeavesUnwritten}
-use Rattle.drive_commands.proofs.Faring.{end_of-status, left-whole, one_of}
-use Rattle.call_ends.proofs.Laws.{board_or_not}
-use Rattle.drive_commands.proofs.RunCuts.{cut_begins, last_cut, longer_cut}
-use Rattle.drive_commands.proofs.Starting.{starts_again}
-use Rattle.drive_commands.proofs.Running.{found-held, outside_then, run_entries, same_outside}
+use Rattle.drive_commands.{specs.RunSteps.{RunReachesLine}, proofs.TariffDrives.{end_of-status, left-whole, one_of}}
+use Rattle.drive_commands.proofs.RunAnswers.{found-held, outside_then, run_entries, same_outside}
+use Rattle.drive_commands.proofs.{RunCuts.{cut_begins, last_cut, longer_cut}, RunStarts.{starts_again}}
+use Rattle.meter_run.specs.declared.fault.RunFault.TheVariants as faults
+use Rattle.call_ends.specs.declared.ending.Ended.TheVariants as ended
 
 module _ {E D L : Type 0} {N : ℕ} (F : FileGhosts E) (B : Ghosts D N L) (files files' : E) (old mid new : D) (s : Start)
     (begins : start_at F B files old ≡ Ok s) where

@@ -1,16 +1,11 @@
 -- A drive that is read whole into memory, part by part.
-use Rattle.std.proofs.Common.{◌≡◌, ℕ, ◌+◌, ◌<◌, List, [], ◌++◌, length, Option, Some, None, IfSome, refl, sym, ap}
-use Rattle.std.proofs.Common.{subst, ◌∙◌, append_assoc, arith, length-append, flat_map}
-use Rattle.drive_text.specs.Drive.{runs_after, runs_in}
-use Rattle.drive_text.specs.Ending.{Whole, BadAt, Endless, ReachesEnd, ShowsEnd, TellsEnd, StreamEnd, drive_end}
-use Rattle.drive_text.specs.Runs.{run_events}
-use Rattle.drive_text.specs.declared.run.Run.{Run}
-use Rattle.drive_text.proofs.Laws.{runs_are_added}
+use Rattle.std.proofs.Common.{[], ℕ, ◌++◌, ◌+◌, ◌<◌, ◌∙◌, ◌≡◌, IfSome, List, None, Option, Some, ap, append_assoc}
+use Rattle.std.proofs.Common.{arith, flat_map, length, length-append, refl, subst, sym}
+use Rattle.drive_text.{specs.{Drive.{runs_after, runs_in}, Ending.{ReachesEnd, ShowsEnd}}, proofs.Laws.{runs_are_added}}
 use Rattle.meter_run.specs.Source.{EndsBy, GivesRuns, HasGiven, Progress, StopsBy}
-use Rattle.meter_run.specs.declared.source.Stop.{Stop}
+use Rattle.drive_commands.specs.{BenchSteps.{IsNoDrive, IsStopped, IsWholeDrive, fault_by}, Common.{run_events}}
+use Rattle.drive_commands.specs.Common.{BadAt, DriveFault, Endless, Run, Stop, StreamEnd, TellsEnd, Whole, drive_end}
 use Rattle.meter_run.specs.declared.source.Stop.TheVariants as stops
-use Rattle.drive_commands.specs.BenchSteps.{IsNoDrive, IsStopped, IsWholeDrive, fault_by}
-use Rattle.drive_commands.specs.declared.whole_drive.DriveFault.{DriveFault}
 use Rattle.drive_commands.specs.declared.whole_drive.DriveFault.TheVariants as drives
 
 -- these bytes of the drive were given to the reader of lines, and these are their runs

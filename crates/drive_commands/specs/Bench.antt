@@ -1,30 +1,13 @@
 -- Rules: the command `bench TARIFF DRIVE READINGS`.
-use Rattle.std.specs.Prelude.{◌≡◌, ◌⊎◌, ℕ, ◌+◌, ◌≤◌, Bool, true, false, List, [], ◌++◌, length, Some, Result, Ok, Err}
-use Rattle.drive_text.specs.Ending.{StreamEnd, Whole, BadAt, Endless, IsGoing, drive_end, events_of}
-use Rattle.meter_model.specs.Setting.{Setting, setting_by}
-use Rattle.seal_record.specs.declared.seal.Seal.{Seal}
-use Rattle.tariff_syntax.specs.Tree.{Tree}
-use Rattle.totals_record.specs.declared.durable_state.Durable.{Durable}
-use Rattle.verify_bench.specs.CrossOvers.{cross_overs_text}
-use Rattle.verify_bench.specs.Expecting.{expected_of}
-use Rattle.verify_bench.specs.Passing.{do_all_pass}
-use Rattle.verify_bench.specs.Readings.{readings_in}
-use Rattle.verify_bench.specs.Report.{report_text}
-use Rattle.verify_bench.specs.declared.expected.Expected.{Expected}
-use Rattle.verify_bench.specs.declared.reading.Reading.{Reading}
-use Rattle.verify_bench.specs.declared.reading.ReadingsFault.{ReadingsFault}
+use Rattle.std.specs.Prelude.{[], ℕ, ◌++◌, ◌+◌, ◌≡◌, ◌≤◌, ◌⊎◌, Bool, Err, List, Ok, Result, Some, false, length, true}
+use Rattle.verify_bench.specs.{CrossOvers.{cross_overs_text}, PassedReports.{do_all_pass}, Report.{report_text}}
+use Rattle.verify_bench.specs.{ExpectedReceipts.{expected_of}, declared.expected.Expected.{Expected}}
+use Rattle.drive_commands.specs.Common.{Answer, BadAt, Command, Drive, Durable, Ended, Endless, IsGoing, IsSealedIn}
+use Rattle.drive_commands.specs.Common.{Opening, Reading, ReadingsFault, Seal, Setting, StoreFault, StreamEnd, Tree}
+use Rattle.drive_commands.specs.Common.{Whole, drive_end, events_of, opening_in, pieces_of, readings_in, refused_as}
+use Rattle.drive_commands.specs.{Common.{setting_by, store_of}, Run.{sealed_tariff}}
 use Rattle.verify_bench.specs.declared.reading.ReadingsFault.TheVariants as readings
-use Rattle.call_ends.specs.Answer.{Answer}
-use Rattle.call_ends.specs.Course.{Command}
-use Rattle.call_ends.specs.LastLine.{refused_as}
-use Rattle.store_commands.specs.Opening.{IsSealedIn, opening_in, store_of}
-use Rattle.call_ends.specs.Pieces.{pieces_of}
-use Rattle.drive_commands.specs.Run.{sealed_tariff}
-use Rattle.call_ends.specs.Stream.{Drive}
-use Rattle.call_ends.specs.declared.ending.Ended.{Ended}
 use Rattle.call_ends.specs.declared.ending.Ended.TheVariants as ended
-use Rattle.store_commands.specs.declared.opening.Opening.{Opening}
-use Rattle.store_commands.specs.declared.opening.StoreFault.{StoreFault}
 
 -- ---- what a verification goes by
 

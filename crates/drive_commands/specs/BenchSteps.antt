@@ -1,27 +1,16 @@
 -- For proofs: what the command `bench` has before it prints. Bench says what a verification is.
-use Rattle.std.specs.Prelude.{◌≡◌, ◌⊎◌, ℕ, List, [], ◌++◌, Bool, Option, None, Some, flat_map, Ok, Err}
-use Rattle.drive_text.specs.Ending.{Whole, BadAt, Endless, IsGoing, IsSplit, TellsEnd, drive_end, events_of}
-use Rattle.drive_text.specs.Runs.{run_events}
-use Rattle.drive_text.specs.declared.run.Run.{Run}
-use Rattle.meter_run.specs.declared.source.Stop.{Stop}
-use Rattle.meter_run.specs.declared.source.Stop.TheVariants as stops
-use Rattle.verify_bench.specs.Readings.{readings_in}
-use Rattle.verify_bench.specs.declared.reading.Reading.{Reading}
-use Rattle.verify_bench.specs.declared.reading.ReadingsFault.TheVariants as readings
+use Rattle.std.specs.Prelude.{[], ℕ, ◌++◌, ◌≡◌, ◌⊎◌, Bool, Err, List, None, Ok, Option, Some, flat_map}
+use Rattle.verify_bench.specs.{CrossOvers.{cross_overs_text}, ExpectedReceipts.{expected_of}, Report.{report_text}}
+use Rattle.verify_bench.specs.PassedReports.{do_all_pass}
+use Rattle.call_ends.specs.declared.ending.Ended.TheVariants.{BadDrive, BadReadings, EndlessDrive, LongReadings}
+use Rattle.call_ends.specs.declared.ending.Ended.TheVariants.{NoMemory}
 use Rattle.drive_commands.specs.Bench.{Terms, bench_text, does_bench_pass, setting_of_terms, terms_of}
+use Rattle.drive_commands.specs.Common.{BadAt, BoardFault, DriveFault, Ended, Endless, Event, IsGoing, IsRefusal}
+use Rattle.drive_commands.specs.Common.{IsSealedIn, IsSplit, ReadFault, Reading, Run, Stop, TellsEnd, Whole, drive_end}
+use Rattle.drive_commands.specs.Common.{events_of, opening_in, readings_in, run_events, tree_of}
+use Rattle.meter_run.specs.declared.source.Stop.TheVariants as stops
+use Rattle.verify_bench.specs.declared.reading.ReadingsFault.TheVariants as readings
 use Rattle.drive_commands.specs.declared.bench_terms.Terms as program
-use Rattle.tariff_syntax.specs.Tree.{tree_of}
-use Rattle.taxi_units.specs.declared.event.Event.{Event}
-use Rattle.verify_bench.specs.CrossOvers.{cross_overs_text}
-use Rattle.verify_bench.specs.Expecting.{expected_of}
-use Rattle.verify_bench.specs.Passing.{do_all_pass}
-use Rattle.verify_bench.specs.Report.{report_text}
-use Rattle.store_commands.specs.Opening.{IsSealedIn, opening_in}
-use Rattle.call_ends.specs.Ending.{IsRefusal}
-use Rattle.call_ends.specs.declared.ending.Ended.{Ended}
-use Rattle.call_ends.specs.declared.ending.Ended.TheVariants.{BadDrive, BadReadings, BoardFault, EndlessDrive}
-use Rattle.call_ends.specs.declared.ending.Ended.TheVariants.{LongReadings, NoMemory, ReadFault}
-use Rattle.drive_commands.specs.declared.whole_drive.DriveFault.{DriveFault}
 use Rattle.drive_commands.specs.declared.whole_drive.DriveFault.TheVariants as drives
 
 -- ---- the terms

@@ -1,9 +1,7 @@
 -- For proofs: how a command ends by the run of its drive, or by its report.
-use Rattle.std.specs.Prelude.{Bool, true, false, Result, Ok, Err}
-use Rattle.call_ends.specs.declared.ending.Ended.{Ended}
-use Rattle.call_ends.specs.declared.ending.Ended.TheVariants.{Done, BadDrive, NotPassed, EndlessDrive, ReadFault}
-use Rattle.call_ends.specs.declared.ending.Ended.TheVariants.{BoardFault}
-use Rattle.meter_run.specs.declared.fault.RunFault.{RunFault}
+use Rattle.std.specs.Prelude.{Bool, Err, Ok, Result, false, true}
+use Rattle.call_ends.specs.declared.ending.Ended.TheVariants.{BadDrive, Done, EndlessDrive, NotPassed}
+use Rattle.drive_commands.specs.Common.{BoardFault, Ended, ReadFault, RunFault}
 use Rattle.meter_run.specs.declared.fault.RunFault.TheVariants as faults
 
 -- how a command ended that ran its drive

@@ -1,22 +1,11 @@
 -- Rules: the command `explain TARIFF DRIVE PARAMS`.
-use Rattle.std.specs.Prelude.{◌≡◌, ◌⊎◌, ℕ, ◌+◌, ◌≤◌, ◌==◌, if◌then◌else◌, List, [], length, Some, Result, Ok, Err}
-use Rattle.drive_text.specs.Ending.{StreamEnd, Whole, BadAt, Endless, IsGoing, drive_end, events_of}
-use Rattle.meter_model.specs.Setting.{Setting, setting_by}
-use Rattle.seal_record.specs.Reading.{params_read}
-use Rattle.seal_record.specs.declared.params.ParamFault.{ParamFault}
-use Rattle.seal_record.specs.declared.params.Params.{Params}
-use Rattle.tariff_syntax.specs.Tree.{Tree}
-use Rattle.verify_bench.specs.Explaining.{explanations_of}
-use Rattle.call_ends.specs.Answer.{Answer, shows}
-use Rattle.call_ends.specs.Course.{Command}
+use Rattle.std.specs.Prelude.{[], ℕ, ◌+◌, ◌==◌, ◌≡◌, ◌≤◌, ◌⊎◌, Err, List, Ok, Result, Some, if◌then◌else◌, length}
+use Rattle.{seal_record.specs.Reading.{params_read}, call_ends.specs.Tariffs.{HasTariff}}
+use Rattle.drive_commands.specs.Common.{Answer, BadAt, Command, Drive, Ended, Endless, IsGoing, ParamFault, Params}
+use Rattle.drive_commands.specs.Common.{Refusal, Setting, StreamEnd, Tree, Whole, drive_end, events_of, explanations_of}
+use Rattle.drive_commands.specs.Common.{pieces_of, refused_as, setting_by, shows, tariff_in}
 use Rattle.drive_commands.specs.ExplainedText.{explanations_text}
-use Rattle.call_ends.specs.LastLine.{refused_as}
-use Rattle.call_ends.specs.Pieces.{pieces_of}
-use Rattle.call_ends.specs.Stream.{Drive}
-use Rattle.call_ends.specs.Tariffs.{HasTariff, tariff_in}
-use Rattle.call_ends.specs.declared.ending.Ended.{Ended}
 use Rattle.call_ends.specs.declared.ending.Ended.TheVariants as ended
-use Rattle.call_ends.specs.declared.tariff.Refusal.{Refusal}
 
 -- ---- what an explanation goes by
 

@@ -1,9 +1,6 @@
 -- For proofs: what the command `explain` has before it prints. Explain says what an explanation is.
-use Rattle.std.specs.Prelude.{◌≡◌, ◌⊎◌, ◌<◌, ◌≤◌, ℕ, List, [], Ok}
-use Rattle.drive_text.specs.Ending.{Whole, drive_end}
-use Rattle.meter_model.specs.Setting.{Setting}
-use Rattle.drive_commands.specs.Explain.{explanation_text, read_setting}
-use Rattle.drive_commands.specs.declared.explained_lines.Scale.{Scale}
+use Rattle.std.specs.Prelude.{[], ℕ, ◌<◌, ◌≡◌, ◌≤◌, ◌⊎◌, List, Ok}
+use Rattle.drive_commands.specs.{Common.{Scale, Setting, Whole, drive_end}, Explain.{explanation_text, read_setting}}
 
 -- the scale of an explanation is in its ranges
 pub record IsScale (scale : Scale) : Type 0 where

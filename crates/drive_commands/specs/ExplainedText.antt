@@ -1,21 +1,12 @@
 -- Rules: the text by which hirings are explained.
-use Rattle.std.specs.Prelude.{ℕ, ◌+◌, ◌*◌, ◌/◌, ◌==◌, if◌then◌else◌, List, [], ◌∷◌, ◌++◌, codes, decimal, flat_map}
-use Rattle.std.specs.Prelude.{Option, Some, None}
-use Rattle.meter_model.specs.Setting.{Setting, unit_of}
-use Rattle.drive_modes.specs.Distance.{millimetres_of}
+use Rattle.std.specs.Prelude.{[], ℕ, ◌*◌, ◌++◌, ◌+◌, ◌/◌, ◌==◌, ◌∷◌, List, None, Option, Some, codes, decimal, flat_map}
+use Rattle.std.specs.Prelude.{if◌then◌else◌}
+use Rattle.{taxi_units.specs.declared.receipt.{Kind.{Kind}, Receipt.{Receipt}}, meter_model.specs.Setting.{unit_of}}
+use Rattle.{drive_modes.specs.Distance.{millimetres_of}, receipt_text.specs.Receipts.{total_text}}
 use Rattle.receipt_text.specs.Receipts.{calculation_text, course_text, fare_text, kind_text, supplements_text}
-use Rattle.receipt_text.specs.Receipts.{total_text}
-use Rattle.taxi_units.specs.Number.{money_text}
-use Rattle.taxi_units.specs.declared.receipt.Kind.{Kind}
-use Rattle.taxi_units.specs.declared.receipt.Receipt.{Receipt}
-use Rattle.verify_bench.specs.Explaining.{Explanation}
-use Rattle.verify_bench.specs.declared.explained.Group.{Group}
-use Rattle.verify_bench.specs.declared.explained.Sums.{Sums}
-use Rattle.verify_bench.specs.declared.explained.Taken.{Taken}
-use Rattle.verify_bench.specs.declared.explained.Way.{Way}
-use Rattle.verify_bench.specs.declared.explained.Way.TheVariants.{Distance, Time, Both}
-use Rattle.verify_bench.specs.declared.fees.HiringFees.{HiringFees}
-use Rattle.drive_commands.specs.declared.explained_lines.Scale.{Scale}
+use Rattle.verify_bench.specs.declared.explained.{Group.{Group}, Sums.{Sums}, Taken.{Taken}, Way.{Way}}
+use Rattle.verify_bench.specs.declared.{explained.Way.TheVariants.{Both, Distance, Time}, fees.HiringFees.{HiringFees}}
+use Rattle.drive_commands.specs.Common.{Explanation, Scale, Setting, money_text}
 
 -- a setting is written by the decimals of its tariff, by its constant, and by the units of charge in the smallest unit
 -- of money

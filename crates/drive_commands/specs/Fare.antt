@@ -1,17 +1,9 @@
 -- Rules: the command `fare TARIFF DRIVE CONSTANT`.
-use Rattle.std.specs.Prelude.{◌≡◌, ◌⊎◌, ℕ, pos, List, [], Some, Result, Ok, Err}
-use Rattle.drive_modes.specs.declared.charges.Mode.TheVariants.{Single}
-use Rattle.drive_text.specs.Ending.{StreamEnd, Whole, BadAt, Endless, IsGoing, drive_end}
-use Rattle.tariff_syntax.specs.Tree.{Tree}
-use Rattle.meter_run.specs.Drives.{IsBoundedByDrive}
-use Rattle.meter_run.specs.Texts.{drive_shown}
-use Rattle.meter_model.specs.Setting.{Setting, under_offset}
-use Rattle.call_ends.specs.Answer.{Answer, shows}
-use Rattle.call_ends.specs.Course.{Command}
-use Rattle.call_ends.specs.LastLine.{bad_drive_line, endless_drive_line}
-use Rattle.call_ends.specs.Stream.{Drive}
-use Rattle.call_ends.specs.Tariffs.{tariff_in, bad_tariff}
-use Rattle.call_ends.specs.declared.tariff.Refusal.{Refusal}
+use Rattle.std.specs.Prelude.{[], ℕ, ◌≡◌, ◌⊎◌, Err, List, Ok, Result, Some, pos}
+use Rattle.{meter_model.specs.Setting.{under_offset}, meter_run.specs.Texts.{drive_shown}}
+use Rattle.{call_ends.specs.LastLine.{bad_drive_line, endless_drive_line}, drive_commands.specs.Common.{tariff_in}}
+use Rattle.drive_commands.specs.Common.{Answer, BadAt, Command, Drive, Endless, IsBoundedByDrive, IsGoing, Refusal}
+use Rattle.drive_commands.specs.Common.{Setting, Single, StreamEnd, Tree, Whole, bad_tariff, drive_end, shows}
 
 -- the answer to a drive shows its text. It has the status 3 and a last line if a line of the drive is bad or it has no
 -- end.

@@ -1,20 +1,9 @@
 -- Rules: the command `gen SEED N`.
-use Rattle.std.specs.Prelude.{◌≡◌, ℕ, ◌+◌, ◌*◌, ◌≤◌, pos, List, [], ◌++◌, length, None, Result, Ok, Err, codes, decimal}
-use Rattle.drive_modes.specs.declared.charges.Mode.TheVariants.{Single}
-use Rattle.drive_text.specs.Drive.{events_in}
-use Rattle.meter_run.specs.Deeds.{after_deeds}
-use Rattle.meter_run.specs.Runs.{run_deeds}
-use Rattle.meter_model.specs.Setting.{Setting, under_offset}
-use Rattle.tariff_syntax.specs.Tree.{Tree}
-use Rattle.totals_record.specs.States.{first_state}
-use Rattle.totals_record.specs.declared.durable_state.Durable.{Durable}
-use Rattle.verify_bench.specs.Generated.{generated}
-use Rattle.call_ends.specs.Answer.{Answer, shows}
-use Rattle.call_ends.specs.Course.{Command}
-use Rattle.call_ends.specs.Tariffs.{tariff_in, bad_tariff}
-use Rattle.store_commands.specs.TotalsText.{summary_text}
-use Rattle.call_ends.specs.NumberLine.{number_line}
-use Rattle.call_ends.specs.declared.tariff.Refusal.{Refusal}
+use Rattle.std.specs.Prelude.{[], ℕ, ◌*◌, ◌++◌, ◌+◌, ◌≡◌, ◌≤◌, Err, List, None, Ok, Result, codes, decimal, length, pos}
+use Rattle.{meter_model.specs.Setting.{under_offset}, meter_run.specs.Runs.{run_deeds}}
+use Rattle.{call_ends.specs.NumberLine.{number_line}, store_commands.specs.TotalsText.{summary_text}}
+use Rattle.drive_commands.specs.Common.{Answer, Command, Durable, Refusal, Setting, Single, Tree, after_deeds}
+use Rattle.drive_commands.specs.Common.{bad_tariff, events_in, first_state, generated, shows, tariff_in}
 
 -- the city tariff, under which generated drives are run
 unfoldable pub city_text : List ℕ

@@ -11,3 +11,4 @@ pub mod BenchSteps
 pub mod DriveEnds
 pub mod ExplainSteps
 pub mod RunSteps
+pub mod Common

@@ -1,19 +1,10 @@
 -- Rules: a run and an explanation that go by the same tariff and the same parameters, on a new store.
-use Rattle.std.specs.Prelude.{◌≡◌, ℕ, List, None, Ok, map}
-use Rattle.drive_text.specs.Ending.{events_of}
-use Rattle.meter_run.specs.Deeds.{deeds_of, texts}
-use Rattle.meter_model.specs.Run.{actions_of}
-use Rattle.meter_model.specs.Setting.{Setting}
-use Rattle.meter_model.specs.declared.act.Act.{Act}
-use Rattle.meter_store.specs.Sealing.{IsSealed, Sealing}
-use Rattle.verify_bench.specs.Explaining.{Explanation, explanations_of}
-use Rattle.verify_bench.specs.Receipts.{receipts_in}
-use Rattle.call_ends.specs.Answer.{shows}
-use Rattle.store_commands.specs.Opening.{opening_in}
-use Rattle.store_commands.specs.Seal.{sealing_of}
-use Rattle.drive_commands.specs.Explain.{explain_answer, read_setting}
-use Rattle.drive_commands.specs.ExplainedText.{explanations_text}
-use Rattle.drive_commands.specs.Run.{Start, run_answer, setting_in, start_of}
+use Rattle.std.specs.Prelude.{ℕ, ◌≡◌, List, None, Ok, map}
+use Rattle.{meter_store.specs.Sealing.{IsSealed, Sealing}, meter_model.specs.{Run.{actions_of}, declared.act.Act.{Act}}}
+use Rattle.{meter_run.specs.Deeds.{deeds_of}, verify_bench.specs.Receipts.{receipts_in}}
+use Rattle.{store_commands.specs.Seal.{sealing_of}, drive_commands.specs.Run.{Start, run_answer, setting_in, start_of}}
+use Rattle.drive_commands.specs.Common.{Explanation, Setting, events_of, explanations_of, opening_in, shows, texts}
+use Rattle.drive_commands.specs.{Explain.{explain_answer, read_setting}, ExplainedText.{explanations_text}}
 
 -- an image is a new store, sealed with two texts, if no totals were found before, and the image has what that sealing
 -- says

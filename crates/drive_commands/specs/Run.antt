@@ -1,43 +1,16 @@
 -- Rules: the command `run TARIFF DRIVE`.
-use Rattle.std.specs.Cmp.Lexicographic.{pointwise}
-use Rattle.std.specs.Prelude.{◌≡◌, ◌≢◌, ◌⊎◌, ℕ, nat_eq, nat_lt, if◌then◌else◌, Bool, List, [], ◌∷◌, ◌++◌, length}
-use Rattle.std.specs.Prelude.{Option, Some, Result, Ok, Err}
-use Rattle.sha2.specs.Sha256.{sha256}
-use Rattle.drive_text.specs.Ending.{IsGoing, drive_end}
-use Rattle.outside.specs.Disk.{IsWithin, SameBut}
-use Rattle.outside.specs.Printing.{Begins}
-use Rattle.outside.specs.Runs.{IsAtRest, LeavesOnly}
-use Rattle.outside.specs.declared.board.Board.{Ghosts}
-use Rattle.outside.specs.declared.files.Files.{Ghosts as FileGhosts}
-use Rattle.slot_store.specs.Syncs.{LeavesFromSync}
-use Rattle.totals_record.specs.declared.durable_state.Durable.{Durable}
-use Rattle.totals_record.specs.declared.trip.Trip.{Trip}
-use Rattle.meter_store.specs.Stored.{HasState}
-use Rattle.seal_record.specs.declared.seal.Seal.{Seal}
-use Rattle.tariff_syntax.specs.Tree.{Tree}
-use Rattle.taxi_units.specs.Test.{if_some}
-use Rattle.tariff_compile.specs.Tables.{TableParts, tables_of}
-use Rattle.meter_states.specs.Fits.{fits_test}
-use Rattle.meter_model.specs.Setting.{Setting, setting_by}
-use Rattle.meter_run.specs.Deeds.{Deed, Prints, after_deeds, texts}
-use Rattle.meter_run.specs.Drives.{IsBoundedByDrive}
-use Rattle.meter_run.specs.Points.{IsCutOfDeeds}
-use Rattle.meter_run.specs.Runs.{run_deeds}
-use Rattle.call_ends.specs.Answer.{Answer}
-use Rattle.call_ends.specs.Call.{IsCall}
-use Rattle.call_ends.specs.Course.{Command, Course, Answered, ReadFailed, NoMemory, BoardFailed, line_in}
-use Rattle.call_ends.specs.LastLine.{refused_as}
-use Rattle.drive_commands.specs.Fare.{drive_answer}
-use Rattle.store_commands.specs.Opening.{IsSealedIn, opening_in, store_of}
-use Rattle.call_ends.specs.Stream.{Drive}
-use Rattle.call_ends.specs.Tariffs.{tariff_in}
-use Rattle.call_ends.specs.Unwritten.{WritesNothing}
-use Rattle.call_ends.specs.declared.ending.Ended.{Ended}
+use Rattle.{std.specs.{Cmp.Lexicographic.{pointwise}, Prelude.{length, nat_eq, nat_lt}}, sha2.specs.Sha256.{sha256}}
+use Rattle.std.specs.Prelude.{[], ℕ, ◌++◌, ◌∷◌, ◌≡◌, ◌≢◌, ◌⊎◌, Bool, Err, List, Ok, Option, Result, Some, if◌then◌else◌}
+use Rattle.{taxi_units.specs.Test.{if_some}, outside.specs.declared.files.Files.{Ghosts as FileGhosts}}
+use Rattle.{outside.specs.{Disk.{IsWithin}, Runs.{IsAtRest, LeavesOnly}}, totals_record.specs.declared.trip.Trip.{Trip}}
+use Rattle.{meter_run.specs.Runs.{run_deeds}, call_ends.specs.{Course.{Course}, Unwritten.{WritesNothing}}}
+use Rattle.{call_ends.specs.Call.{IsCall}, drive_commands.specs.{Common.{tariff_in, texts}, Fare.{drive_answer}}}
+use Rattle.drive_commands.specs.Common.{Answer, Answered, Begins, BoardFailed, Command, Deed, Drive, Durable, Ended}
+use Rattle.drive_commands.specs.Common.{Ghosts, HasState, IsBoundedByDrive, IsCutOfDeeds, IsGoing, IsSealedIn}
+use Rattle.drive_commands.specs.Common.{LeavesFromSync, NoMemory, Opening, Prints, ReadFailed, Refusal, SameBut, Seal}
+use Rattle.drive_commands.specs.Common.{Setting, StoreFault, TableParts, TooLong, Tree, after_deeds, drive_end}
+use Rattle.drive_commands.specs.Common.{fits_test, line_in, opening_in, refused_as, setting_by, store_of, tables_of}
 use Rattle.call_ends.specs.declared.ending.Ended.TheVariants as ended
-use Rattle.store_commands.specs.declared.opening.Opening.{Opening}
-use Rattle.store_commands.specs.declared.opening.StoreFault.{StoreFault}
-use Rattle.call_ends.specs.declared.tariff.Refusal.{Refusal}
-use Rattle.call_ends.specs.declared.tariff.Refusal.TheVariants.{TooLong}
 
 -- ---- how a run begins
 

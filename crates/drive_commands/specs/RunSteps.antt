@@ -1,24 +1,12 @@
 -- For proofs: what the command `run` has before its last line is printed. Run says what a run is.
-use Rattle.std.specs.Prelude.{◌≡◌, ◌≢◌, ℕ, List, Ok, Err}
-use Rattle.outside.specs.Printing.{Begins}
-use Rattle.outside.specs.Runs.{IsAtRest, MayHold}
-use Rattle.outside.specs.declared.board.Board.{Ghosts}
-use Rattle.outside.specs.declared.files.Files.{Ghosts as FileGhosts}
-use Rattle.slot_store.specs.Syncs.{LeavesFromSync}
-use Rattle.seal_record.specs.declared.seal.Seal.{Seal}
-use Rattle.tariff_compile.specs.Tables.{IsTablesOf, TableParts, tables_of}
-use Rattle.tariff_syntax.specs.Tree.{Tree}
-use Rattle.meter_run.specs.Runs.{OpensWith}
-use Rattle.call_ends.specs.Ending.{EndsOnDevices, IsRefusal}
-use Rattle.call_ends.specs.LastLine.{line_of, status_of}
-use Rattle.store_commands.specs.Opening.{IsSealedIn, opening_in}
+use Rattle.std.specs.Prelude.{ℕ, ◌≡◌, ◌≢◌, Err, List, Ok}
+use Rattle.outside.specs.{Runs.{IsAtRest, MayHold}, declared.files.Files.{Ghosts as FileGhosts}}
+use Rattle.{call_ends.specs.Unwritten.{LeavesUnwritten}, drive_commands.specs.Run.{start_at, start_of, tables_in}}
+use Rattle.call_ends.specs.declared.ending.Ended.TheVariants.{BadTariff, NoMemory, WrongTariff}
+use Rattle.drive_commands.specs.Common.{Begins, BoardFault, Ended, EndsOnDevices, Ghosts, IsRefusal, IsSealedIn}
+use Rattle.drive_commands.specs.Common.{IsTablesOf, LeavesFromSync, OpensWith, ReadFault, Seal, TableParts, Tree}
+use Rattle.drive_commands.specs.Common.{line_of, opening_in, status_of, tables_of, tariff_in}
 use Rattle.drive_commands.specs.Run.{IsCutOfCourse, StandsAfterRun, Start, bytes_in, run_command, sealed_tariff}
-use Rattle.drive_commands.specs.Run.{start_at}
-use Rattle.drive_commands.specs.Run.{start_of, tables_in}
-use Rattle.call_ends.specs.Tariffs.{tariff_in}
-use Rattle.call_ends.specs.Unwritten.{LeavesUnwritten}
-use Rattle.call_ends.specs.declared.ending.Ended.{Ended}
-use Rattle.call_ends.specs.declared.ending.Ended.TheVariants.{BadTariff, BoardFault, NoMemory, ReadFault, WrongTariff}
 
 -- ---- the tables of the sealed tariff
 

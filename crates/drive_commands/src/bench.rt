@@ -1,8 +1,6 @@
 //! The command `bench`.
 ghost use Rattle.std.specs.Prelude.{◌≡◌};
-ghost use Rattle.call_ends.specs.Carried.{Carries};
-ghost use Rattle.drive_commands.specs.Bench.{bench_command};
-ghost use Rattle.drive_commands.specs.DriveEnds.{ended_with};
+ghost use Rattle.drive_commands.specs.{Bench.{bench_command}, Common.{Carries}, DriveEnds.{ended_with}};
 
 use crate::bench_terms::open_terms;
 use crate::judgement::judge_drive;

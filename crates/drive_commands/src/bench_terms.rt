@@ -1,11 +1,7 @@
 //! What a verification goes by.
-ghost use Rattle.std.specs.Prelude.{◌≡◌, ◌≢◌, ℕ, ◌+◌, ◌≤◌, [], IfErr, IfOk, OnOk, IsErrOf, Ok, Err};
-ghost use Rattle.outside.specs.Reading.{LeavesOthers};
-ghost use Rattle.outside.specs.Faults.{Rose};
-ghost use Rattle.drive_commands.specs.Bench.{terms_of};
-ghost use Rattle.drive_commands.specs.BenchSteps.{HasNoTerms, terms_in};
-ghost use Rattle.store_commands.specs.Opened.{OnlyOpens};
-ghost use Rattle.store_commands.specs.Opening.{IsSealedIn, opening_in};
+ghost use Rattle.std.specs.Prelude.{[], ℕ, ◌+◌, ◌≡◌, ◌≢◌, ◌≤◌, Err, IfErr, IfOk, IsErrOf, Ok, OnOk};
+ghost use Rattle.{store_commands.specs.Opened.{OnlyOpens}, drive_commands.specs.BenchSteps.{HasNoTerms, terms_in}};
+ghost use Rattle.drive_commands.specs.{Bench.{terms_of}, Common.{IsSealedIn, LeavesOthers, Rose, opening_in}};
 
 use crate::sealed_tariff::read_sealed;
 use call_ends::Ended;

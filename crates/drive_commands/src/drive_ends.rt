@@ -1,7 +1,6 @@
 //! How a command ends by its drive.
 ghost use Rattle.std.specs.Prelude.{◌≡◌};
-ghost use Rattle.drive_commands.specs.BenchSteps.{ended_for_drive};
-ghost use Rattle.drive_commands.specs.DriveEnds.{ended_by};
+ghost use Rattle.drive_commands.specs.{BenchSteps.{ended_for_drive}, DriveEnds.{ended_by}};
 
 use crate::whole_drive::DriveFault;
 use call_ends::Ended;

@@ -1,16 +1,9 @@
 //! The command `explain`.
-ghost use Rattle.std.specs.Prelude.{◌≡◌, ◌≢◌, ℕ, List, All, flat_map, IfOk, Err};
-ghost use Rattle.drive_text.specs.Ranges.{IsRunInRange};
-ghost use Rattle.drive_text.specs.Runs.{run_events};
-ghost use Rattle.outside.specs.Faults.{Rose};
-ghost use Rattle.verify_bench.specs.Explaining.{explanations_of};
-ghost use Rattle.verify_bench.specs.Settings.{setting_under};
-ghost use Rattle.call_ends.specs.Call.{LeavesUnread, StopsReading};
-ghost use Rattle.call_ends.specs.Carried.{Carries};
-ghost use Rattle.call_ends.specs.Ending.{EndsUnprinted};
+ghost use Rattle.std.specs.Prelude.{ℕ, ◌≡◌, ◌≢◌, All, Err, IfOk, List, flat_map};
+ghost use Rattle.{verify_bench.specs.Settings.{setting_under}, call_ends.specs.Call.{LeavesUnread, StopsReading}};
+ghost use Rattle.drive_commands.specs.Common.{Carries, EndsUnprinted, IsRunInRange, Rose, explanations_of, run_events};
 ghost use Rattle.drive_commands.specs.Explain.{explain_command};
-ghost use Rattle.drive_commands.specs.ExplainSteps.{HasExplained};
-ghost use Rattle.drive_commands.specs.ExplainedText.{explanations_text};
+ghost use Rattle.drive_commands.specs.{ExplainSteps.{HasExplained}, ExplainedText.{explanations_text}};
 
 use crate::drive_ends::refused_drive;
 use crate::explained_text::text_of_explained;

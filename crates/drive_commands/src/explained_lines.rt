@@ -1,14 +1,11 @@
 //! The lines by which a hiring is explained.
-ghost use Rattle.std.specs.Prelude.{◌≡◌, ◌+◌, ◌*◌, ◌/◌, ◌%◌, ◌<◌, ◌≤◌, ◌++◌, ◌^◌, codes, decimal, length};
-ghost use Rattle.arrayvec.specs.ArrayVec.{array_vec_len};
-ghost use Rattle.taxi_units.specs.Line.{line_size};
-ghost use Rattle.taxi_units.specs.Number.{money_text, padded_text};
-ghost use Rattle.verify_bench.specs.Explaining.{explanation_of};
+ghost use Rattle.std.specs.Prelude.{◌%◌, ◌*◌, ◌++◌, ◌+◌, ◌/◌, ◌<◌, ◌^◌, ◌≡◌, ◌≤◌, codes, decimal, length};
+ghost use Rattle.{arrayvec.specs.ArrayVec.{array_vec_len}, taxi_units.specs.{Line.{line_size}, Number.{padded_text}}};
+ghost use Rattle.drive_commands.specs.Common.{explanation_of, money_text};
+ghost use Rattle.drive_commands.specs.{ExplainSteps.{IsScale}, ExplainedText.{taken_text, title_text, way_text}};
 ghost use Rattle.drive_commands.specs.ExplainedText.{charge_text, charged_text, distance_text, dropped_text};
-ghost use Rattle.drive_commands.specs.ExplainedText.{duration_text, fee_text, fees_text, explained_heading, minimum_text};
-ghost use Rattle.drive_commands.specs.ExplainedText.{rate_text, span_text, stopped_text, sum_text, taken_text};
-ghost use Rattle.drive_commands.specs.ExplainedText.{title_text, way_text};
-ghost use Rattle.drive_commands.specs.ExplainSteps.{IsScale};
+ghost use Rattle.drive_commands.specs.ExplainedText.{duration_text, explained_heading, fee_text, fees_text};
+ghost use Rattle.drive_commands.specs.ExplainedText.{minimum_text, rate_text, span_text, stopped_text, sum_text};
 
 use drive_modes::{Constant, millimetres};
 use receipt_text::{push_calculation, push_course, push_fare, push_kind};

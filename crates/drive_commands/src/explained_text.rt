@@ -1,11 +1,9 @@
 //! The text by which hirings are explained.
-ghost use Rattle.std.specs.Prelude.{◌≡◌, ◌++◌, ◌≤◌, IfOk, OnOk, flat_map, map};
+ghost use Rattle.std.specs.Prelude.{◌++◌, ◌≡◌, ◌≤◌, IfOk, OnOk, flat_map, map};
 ghost use Rattle.receipt_text.specs.Receipts.{supplements_text, total_text};
-ghost use Rattle.verify_bench.specs.Explaining.{explanation_of};
-ghost use Rattle.verify_bench.specs.Settings.{setting_under};
-ghost use Rattle.drive_commands.specs.ExplainSteps.{IsScale};
+ghost use Rattle.{verify_bench.specs.Settings.{setting_under}, drive_commands.specs.ExplainedText.{taken_text}};
+ghost use Rattle.drive_commands.specs.{Common.{explanation_of}, ExplainSteps.{IsScale}};
 ghost use Rattle.drive_commands.specs.ExplainedText.{explanations_text, hiring_text, hirings_text, rate_text, scale_of};
-ghost use Rattle.drive_commands.specs.ExplainedText.{taken_text};
 
 use crate::explained_lines::{Scale, fee_lines, heading_lines, rate_line, sum_lines, taken_line};
 use receipt_text::{push_supplements, push_total};

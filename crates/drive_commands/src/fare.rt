@@ -1,6 +1,5 @@
 //! The command `fare`.
-ghost use Rattle.call_ends.specs.Carried.{Carries};
-ghost use Rattle.drive_commands.specs.Fare.{fare_command};
+ghost use Rattle.drive_commands.specs.{Common.{Carries}, Fare.{fare_command}};
 
 use crate::drive_ends::ended_of;
 use crate::fare_seal::fare_seal;

@@ -1,8 +1,6 @@
 //! The seal that stands in for a store's in the command `fare`.
-ghost use Rattle.std.specs.Prelude.{◌≡◌, ◌∷◌, [], codes, pos, replicate};
-ghost use Rattle.drive_modes.specs.declared.charges.Mode.TheVariants.{Single};
-ghost use Rattle.seal_record.specs.Limits.{first_day};
-ghost use Rattle.taxi_units.specs.Time.{first_second};
+ghost use Rattle.std.specs.Prelude.{[], ◌∷◌, ◌≡◌, codes, pos, replicate};
+ghost use Rattle.{seal_record.specs.Limits.{first_day}, drive_commands.specs.Common.{Single, first_second}};
 
 use arrayvec::ArrayVec;
 use drive_modes::{Constant, Mode};
@@ -44,7 +42,7 @@ pub fn fare_seal(constant: Constant, decimals: u8) -> Seal
 }
 
 /// The offsets of local time that is UTC.
-#[tactic(auto, using(crate::proofs::Faring::is_utc))]
+#[tactic(auto, using(crate::proofs::TariffDrives::is_utc))]
 fn utc() -> Offsets
     ensures { result ≡ (first_second, pos 0) ∷ [] }
 {

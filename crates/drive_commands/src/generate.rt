@@ -1,21 +1,10 @@
 //! The command `gen`.
-ghost use Rattle.std.specs.Prelude.{◌≡◌, ◌+◌, ◌*◌, ◌<◌, ◌≤◌, ◌∷◌, ℕ, List, [], codes, length, pos, replicate, None};
-ghost use Rattle.std.specs.Prelude.{Some};
-ghost use Rattle.drive_modes.specs.declared.charges.Mode.TheVariants.{Single};
-ghost use Rattle.drive_text.specs.Drive.{events_in};
-ghost use Rattle.drive_text.specs.Ending.{Whole, drive_end};
-ghost use Rattle.meter_model.specs.Setting.{Setting};
-ghost use Rattle.meter_states.specs.Setting.{IsSettingOf};
-ghost use Rattle.outside.specs.Faults.{Rose};
-ghost use Rattle.seal_record.specs.Ranges.{IsSeal};
-ghost use Rattle.meter_store.specs.Sealing.{FoundSeal, FoundTotals, totals_found};
-ghost use Rattle.taxi_units.specs.Line.{line_size};
-ghost use Rattle.taxi_units.specs.Time.{first_second};
-ghost use Rattle.meter_store.specs.Stored.{HasState};
-ghost use Rattle.totals_record.specs.declared.durable_state.Durable.{Durable};
-ghost use Rattle.verify_bench.specs.Generated.{generated};
-ghost use Rattle.arrayvec.specs.ArrayVec.{array_vec_len};
-ghost use Rattle.call_ends.specs.Carried.{Carries, no_files};
+ghost use Rattle.std.specs.Prelude.{[], ℕ, ◌*◌, ◌+◌, ◌<◌, ◌∷◌, ◌≡◌, ◌≤◌, List, None, Some, codes, length, pos};
+ghost use Rattle.{std.specs.Prelude.{replicate}, arrayvec.specs.ArrayVec.{array_vec_len}};
+ghost use Rattle.{taxi_units.specs.Line.{line_size}, seal_record.specs.Ranges.{IsSeal}};
+ghost use Rattle.{meter_store.specs.Sealing.{FoundSeal, FoundTotals, totals_found}, call_ends.specs.Carried.{no_files}};
+ghost use Rattle.drive_commands.specs.Common.{Carries, Durable, HasState, IsSettingOf, Rose, Setting, Single, Whole};
+ghost use Rattle.drive_commands.specs.Common.{drive_end, events_in, first_second, generated};
 ghost use Rattle.drive_commands.specs.Generate.{city_text, event_count, gen_command, generated_text, state_after};
 
 use arrayvec::ArrayVec;
@@ -56,7 +45,7 @@ pub fn city_tariff() -> &'static [u8]
 }
 
 /// The offsets of local time an hour ahead of UTC.
-#[tactic(auto, using(crate::proofs::Generating::is_an_hour))]
+#[tactic(auto, using(crate::proofs::GenDrive::is_an_hour))]
 fn an_hour_ahead() -> Offsets
     ensures { result ≡ (first_second, pos 3600) ∷ [] }
 {

@@ -1,15 +1,9 @@
 //! Judges readings by a drive.
-ghost use Rattle.std.specs.Prelude.{◌≡◌, ◌≢◌, ℕ, [], All, flat_map, IfOk, OnOk, Ok, Err};
-ghost use Rattle.outside.specs.Reading.{LeavesOthers};
-ghost use Rattle.drive_text.specs.Ending.{Whole, drive_end};
-ghost use Rattle.drive_text.specs.Ranges.{IsRunInRange};
-ghost use Rattle.drive_text.specs.Runs.{run_events};
-ghost use Rattle.outside.specs.Faults.{Rose};
-ghost use Rattle.verify_bench.specs.Readings.{readings_in};
-ghost use Rattle.drive_commands.specs.BenchSteps.{IsJudged, IsNoReadings, IsNotJudged, terms_in, judged_pass};
-ghost use Rattle.drive_commands.specs.BenchSteps.{judged_text};
-ghost use Rattle.drive_commands.specs.Bench.{ended_for_readings};
-ghost use Rattle.store_commands.specs.ReadInTurn.{ReadsInTurn};
+ghost use Rattle.std.specs.Prelude.{[], ℕ, ◌≡◌, ◌≢◌, All, Err, IfOk, Ok, OnOk, flat_map};
+ghost use Rattle.{store_commands.specs.ReadInTurn.{ReadsInTurn}, drive_commands.specs.BenchSteps.{terms_in}};
+ghost use Rattle.drive_commands.specs.{Bench.{ended_for_readings}, Common.{run_events}};
+ghost use Rattle.drive_commands.specs.BenchSteps.{IsJudged, IsNoReadings, IsNotJudged, judged_pass, judged_text};
+ghost use Rattle.drive_commands.specs.Common.{IsRunInRange, LeavesOthers, Rose, Whole, drive_end, readings_in};
 
 use crate::bench_terms::Terms;
 use crate::drive_ends::refused_drive;

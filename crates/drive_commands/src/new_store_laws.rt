@@ -1,8 +1,7 @@
 //! A run and an explanation of one drive, on a new store.
-ghost use Rattle.std.specs.Prelude.{◌≡◌, ℕ, List};
-ghost use Rattle.store_commands.specs.Opening.{opening_in};
-ghost use Rattle.drive_commands.specs.NewStore.{ExplainsRun, IsNewStore};
-ghost use Rattle.drive_commands.specs.Run.{run_answer, start_of};
+ghost use Rattle.std.specs.Prelude.{ℕ, ◌≡◌, List};
+ghost use Rattle.drive_commands.specs.Common.{opening_in};
+ghost use Rattle.drive_commands.specs.{NewStore.{ExplainsRun, IsNewStore}, Run.{run_answer, start_of}};
 
 /// A law: let `run` reach the end of a drive on a new store that was sealed with a tariff and parameters. Then
 /// `explain` of the drive with these texts explains the hirings of the receipts that the run prints, each once and in

@@ -1,14 +1,8 @@
 //! The command `run`.
-ghost use Rattle.std.specs.Prelude.{◌≡◌, ◌≢◌, ◌↔◌, ℕ, ◌+◌, ◌≤◌, [], IfErr, IfOk, OnOk, IsErrOf, IsTrue, Err};
-ghost use Rattle.std.specs.Option.{ForSome};
-ghost use Rattle.outside.specs.Reading.{LeavesOthers};
-ghost use Rattle.outside.specs.Faults.{Rose};
-ghost use Rattle.meter_states.specs.Fits.{Fits};
-ghost use Rattle.seal_record.specs.Ranges.{IsSeal};
-ghost use Rattle.call_ends.specs.Carried.{Carries};
-ghost use Rattle.store_commands.specs.Opened.{OnlyOpens};
-ghost use Rattle.store_commands.specs.Opening.{IsSealedIn};
-ghost use Rattle.drive_commands.specs.Run.{does_hold_fit, run_command};
+ghost use Rattle.{std.specs.Option.{ForSome}, seal_record.specs.Ranges.{IsSeal}};
+ghost use Rattle.std.specs.Prelude.{[], ℕ, ◌+◌, ◌↔◌, ◌≡◌, ◌≢◌, ◌≤◌, Err, IfErr, IfOk, IsErrOf, IsTrue, OnOk};
+ghost use Rattle.{store_commands.specs.Opened.{OnlyOpens}, drive_commands.specs.Run.{does_hold_fit, run_command}};
+ghost use Rattle.drive_commands.specs.Common.{Carries, Fits, IsSealedIn, LeavesOthers, Rose};
 ghost use Rattle.drive_commands.specs.RunSteps.{AreNoTables, AreSealedTables, HasBegun, HasNotBegun, RunReachesLine};
 
 use crate::drive_ends::ended_of;

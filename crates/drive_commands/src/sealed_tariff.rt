@@ -1,12 +1,7 @@
 //! Reads the tariff that was sealed.
-ghost use Rattle.std.specs.Prelude.{◌≡◌, ◌≢◌, ℕ, ◌≤◌, [], length, nat_eq, IfOk, OnOk, Ok, Err};
-ghost use Rattle.std.specs.Cmp.Lexicographic.{pointwise};
-ghost use Rattle.outside.specs.Reading.{LeavesOthers};
-ghost use Rattle.outside.specs.Faults.{Rose};
-ghost use Rattle.tariff_syntax.specs.Tree.{tree_of};
-ghost use Rattle.drive_commands.specs.Run.{sealed_tariff};
-ghost use Rattle.drive_commands.specs.RunSteps.{AreNoTables, IsNoTables};
-ghost use Rattle.call_ends.specs.Tariffs.{tariff_in};
+ghost use Rattle.{std.specs.Cmp.Lexicographic.{pointwise}, drive_commands.specs.RunSteps.{AreNoTables, IsNoTables}};
+ghost use Rattle.std.specs.Prelude.{[], ℕ, ◌≡◌, ◌≢◌, ◌≤◌, Err, IfOk, Ok, OnOk, length, nat_eq};
+ghost use Rattle.drive_commands.specs.{Common.{LeavesOthers, Rose, tariff_in, tree_of}, Run.{sealed_tariff}};
 
 use call_ends::{Ended, refused_by, tariff_of_text, text_of_word};
 use outside::Files;

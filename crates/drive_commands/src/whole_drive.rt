@@ -1,9 +1,7 @@
 //! Reads a drive whole into memory.
-ghost use Rattle.std.specs.Prelude.{◌≡◌, ◌≢◌, ◌↔◌, ℕ, All, IfOk, IfErr, IsTrue, Err, Some};
-ghost use Rattle.outside.specs.Reading.{LeavesOthers};
-ghost use Rattle.drive_text.specs.Ranges.{IsRunInRange};
-ghost use Rattle.outside.specs.Faults.{Rose};
+ghost use Rattle.std.specs.Prelude.{ℕ, ◌↔◌, ◌≡◌, ◌≢◌, All, Err, IfErr, IfOk, IsTrue, Some};
 ghost use Rattle.drive_commands.specs.BenchSteps.{IsNoDrive, IsWholeDrive, fault_by};
+ghost use Rattle.drive_commands.specs.Common.{IsRunInRange, LeavesOthers, Rose};
 
 use arrayvec::ArrayVec;
 use drive_text::Run;

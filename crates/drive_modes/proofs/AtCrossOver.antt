@@ -1,17 +1,10 @@
 -- The cross-over speed reaches the bound of even speeds.
-use Rattle.std.proofs.Common.{◌≡◌, ◌⊎◌, inl, inr, ℕ, ◌+◌, ◌-◌, ◌*◌, ◌/◌, ◌%◌, ◌<◌, ◌++◌, length, replicate, sum}
-use Rattle.std.proofs.Common.{refl, ap, arith, length-append}
-use Rattle.std.specs.List.{All, sum_by}
-use Rattle.std.proofs.lemmas.List.{length-replicate}
-use Rattle.std.proofs.lemmas.List.Elements.{All-append, All-replicate}
-use Rattle.std.proofs.lemmas.List.Folds.{sum_by-replicate}
-use Rattle.std.proofs.lemmas.List.Sums.{sum_by-append}
-use Rattle.std.proofs.lemmas.Nat.{div-add-mod', mod_below}
-use Rattle.drive_modes.specs.declared.charges.Mode.TheVariants.{Single}
-use Rattle.drive_modes.specs.declared.charges.Weights.{Weights}
-use Rattle.drive_modes.specs.Charge.{charge_of}
+use Rattle.std.{specs.List.{All, sum_by}, proofs.lemmas.List.{length-replicate}}
+use Rattle.std.proofs.Common.{ℕ, ◌%◌, ◌*◌, ◌++◌, ◌+◌, ◌-◌, ◌/◌, ◌<◌, ◌≡◌, ◌⊎◌, ap, arith, inl, inr, length}
+use Rattle.std.proofs.{Common.{length-append, refl, replicate, sum}, lemmas.List.Elements.{All-append, All-replicate}}
+use Rattle.std.proofs.lemmas.{List.{Folds.{sum_by-replicate}, Sums.{sum_by-append}}, Nat.{div-add-mod', mod_below}}
+use Rattle.drive_modes.{specs.{Charge.{charge_of}, Common.{Single, Weights}}, proofs.Crossover.{charge-greater}}
 use Rattle.drive_modes.specs.Speeds.{IsEvenSpeed, at_cross_over, charge_as_one, charged, coarseness}
-use Rattle.drive_modes.proofs.Crossover.{charge-greater}
 
 -- the sum of a function over so many intervals with n pulses, and so many with n + 1
 sum_of_both : (f : ℕ → ℕ) (v u n : ℕ) → sum_by f (replicate v n ++ replicate u (n + 1)) ≡ v * f n + u * f (n + 1)

@@ -1,8 +1,6 @@
 -- A gate counts the sum of the bursts.
-use Rattle.std.proofs.Common.{◌≡◌, ◌∙◌, ℕ, ◌+◌, ◌≤◌, List, [], ◌∷◌, min, sum, arith}
-use Rattle.std.specs.List.{fold}
-use Rattle.std.proofs.lemmas.List.Sums.{sum_by-cons}
-use Rattle.drive_modes.specs.Gate.{counted}
+use Rattle.{std.specs.List.{fold}, drive_modes.specs.Gate.{counted}}
+use Rattle.std.proofs.{Common.{[], ℕ, ◌+◌, ◌∙◌, ◌∷◌, ◌≡◌, ◌≤◌, List, arith, min, sum}, lemmas.List.Sums.{sum_by-cons}}
 
 pub gate_counts_the_sum : (pulses : ℕ) (bursts : List ℕ) → pulses ≤ 2000
     → fold counted pulses bursts ≡ min 2000 (pulses + sum bursts)

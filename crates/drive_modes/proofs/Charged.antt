@@ -1,12 +1,7 @@
 -- What intervals are charged lies between what their distance and their time alone come to, and both together.
-use Rattle.std.proofs.Common.{◌≡◌, ℕ, ◌+◌, ◌*◌, ◌≤◌, List, [], ◌∷◌, ap, arith}
-use Rattle.std.proofs.lemmas.List.Sums.{sum_by-cons}
-use Rattle.drive_modes.specs.declared.charges.Mode.{Mode}
-use Rattle.drive_modes.specs.declared.charges.Mode.TheVariants.{Double, Single}
-use Rattle.drive_modes.specs.declared.charges.Weights.{Weights}
-use Rattle.drive_modes.specs.Charge.{charge_of}
-use Rattle.drive_modes.specs.Speeds.{charge_as_one, charged, distance_alone, time_alone}
-use Rattle.drive_modes.proofs.Crossover.{charge-greater}
+use Rattle.std.proofs.{Common.{[], ℕ, ◌*◌, ◌+◌, ◌∷◌, ◌≡◌, ◌≤◌, List, ap, arith}, lemmas.List.Sums.{sum_by-cons}}
+use Rattle.drive_modes.specs.{Charge.{charge_of}, Speeds.{charge_as_one, charged, distance_alone, time_alone}}
+use Rattle.drive_modes.{specs.Common.{Double, Mode, Single, Weights}, proofs.Crossover.{charge-greater}}
 
 -- an interval more adds its charge
 pub charged_cons : (mode : Mode) (w : Weights) (p : ℕ) (pulses : List ℕ)

@@ -1,15 +1,11 @@
 -- How much an even speed is charged above what its intervals come to as one, in whole units of charge and as a share.
-use Rattle.std.proofs.Common.{◌≡◌, ◌⊎◌, inl, inr, ℕ, ◌+◌, ◌-◌, ◌*◌, ◌/◌, ◌%◌, ◌<◌, ◌≤◌, List, length, subst}
-use Rattle.std.proofs.Common.{sym, ap, ◌∙◌, arith}
-use Rattle.std.proofs.lemmas.Bool.{cases_lt}
+use Rattle.std.proofs.Common.{ℕ, ◌%◌, ◌*◌, ◌+◌, ◌-◌, ◌/◌, ◌<◌, ◌∙◌, ◌≡◌, ◌≤◌, ◌⊎◌, List, ap, arith, inl, inr, length}
+use Rattle.std.proofs.{Common.{subst, sym}, Math.Nat.{mul-lt-mul_of_pos_left}}
 use Rattle.std.proofs.Math.Nat.{eq_of_mul-eq-mul_left, le_of_mul-le-mul_left, lt_of_mul-lt-mul_left}
-use Rattle.std.proofs.Math.Nat.{mul-lt-mul_of_pos_left}
-use Rattle.std.proofs.lemmas.Nat.{div-add-mod', le-div, mod-mul-add, mod_below, mul-le}
-use Rattle.drive_modes.specs.declared.charges.Mode.TheVariants.{Single}
-use Rattle.drive_modes.specs.declared.charges.Weights.{Weights}
+use Rattle.std.proofs.lemmas.{Bool.{cases_lt}, Nat.{div-add-mod', le-div, mod-mul-add, mod_below, mul-le}}
+use Rattle.drive_modes.{specs.Common.{Single, Weights}, proofs.EvenSpeeds.{exact_above, exact_free, nearly, none_above}}
 use Rattle.drive_modes.specs.Speed.{AreWeightsOf, Rate}
 use Rattle.drive_modes.specs.Speeds.{IsEvenSpeed, charge_as_one, charged, coarseness, own_weights}
-use Rattle.drive_modes.proofs.EvenSpeeds.{exact_above, exact_free, nearly, none_above}
 
 -- the bound in whole units of charge
 pub most_even : (w : Weights) (n : ℕ) (pulses : List ℕ) → IsEvenSpeed n pulses

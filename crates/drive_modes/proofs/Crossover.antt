@@ -1,13 +1,9 @@
 -- Mode S charges by the cross-over speed.
-use Rattle.std.proofs.Common.{◌∙◌, ◌↔◌, ap, sym, subst, inl, inr, ◌≡◌, ℕ, ◌*◌, ◌<◌, ◌≤◌, max, arith}
-use Rattle.std.proofs.lemmas.Grind.{common_steps}
-use Rattle.drive_modes.specs.declared.charges.Mode.TheVariants.{Single}
-use Rattle.drive_modes.specs.declared.charges.Weights.{Weights}
-use Rattle.std.proofs.Math.Nat.{mul-lt-mul_of_pos_left, mul-lt-mul_of_pos_right, lt_of_mul-lt-mul_left}
-use Rattle.std.proofs.Math.Nat.{lt_of_mul-lt-mul_right}
-use Rattle.std.proofs.lemmas.Bool.{cases_lt}
+use Rattle.std.proofs.Common.{ℕ, ◌*◌, ◌<◌, ◌↔◌, ◌∙◌, ◌≡◌, ◌≤◌, ap, arith, inl, inr, max, subst, sym}
+use Rattle.std.proofs.Math.Nat.{lt_of_mul-lt-mul_left, lt_of_mul-lt-mul_right, mul-lt-mul_of_pos_left}
+use Rattle.std.proofs.{Math.Nat.{mul-lt-mul_of_pos_right}, lemmas.{Bool.{cases_lt}, Grind.{common_steps}}}
 use Rattle.drive_modes.specs.Charge.{charge_of}
-use Rattle.drive_modes.specs.Speed.{AreWeightsOf, IsBelowCrossOver, Rate}
+use Rattle.drive_modes.specs.{Common.{Single, Weights}, Speed.{AreWeightsOf, IsBelowCrossOver, Rate}}
 
 -- below the cross-over speed the time is charged
 pub charge-below : (w : Weights) (p : ℕ) → p * w.per_pulse < w.per_tick → charge_of Single w p ≡ w.per_tick

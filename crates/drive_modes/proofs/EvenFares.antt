@@ -1,25 +1,13 @@
 -- Fares of even speeds are shown nearly, over several rates.
-use Rattle.std.proofs.Common.{◌≡◌, ℕ, ◌+◌, ◌-◌, ◌*◌, ◌/◌, ◌<◌, ◌≤◌, List, [], ◌∷◌, map, sum, subst, sym, ◌∙◌, arith}
-use Rattle.std.specs.List.{flat_map, fold, sum_by}
-use Rattle.std.proofs.lemmas.List.Elements.{All-head, All-tail}
-use Rattle.std.proofs.lemmas.List.Sorted.{sum_by-IsPermutation}
-use Rattle.std.proofs.lemmas.List.Sums.{sum-map, sum_by-append, sum_by-cons}
-use Rattle.std.proofs.lemmas.Nat.{le-div, mul-le}
-use Rattle.std.proofs.Math.Nat.{div-mul-le_self}
-use Rattle.drive_modes.specs.declared.charges.Mode.{Mode}
-use Rattle.drive_modes.specs.declared.charges.Mode.TheVariants.{Single}
-use Rattle.drive_modes.specs.declared.charges.Weights.{Weights}
-use Rattle.drive_modes.specs.declared.meterage.Meterage.{Meterage}
-use Rattle.drive_modes.specs.declared.meterage.Rounding.{Rounding}
-use Rattle.drive_modes.specs.declared.meterage.Rounding.TheVariants.{Behind, Ahead}
-use Rattle.drive_modes.specs.Charge.{charge_of}
+use Rattle.std.{specs.List.{flat_map, fold, sum_by}, proofs.lemmas.List.Sorted.{sum_by-IsPermutation}}
+use Rattle.std.proofs.Common.{[], ℕ, ◌*◌, ◌+◌, ◌-◌, ◌/◌, ◌<◌, ◌∙◌, ◌∷◌, ◌≡◌, ◌≤◌, List, arith, map, subst, sum, sym}
+use Rattle.std.proofs.{Math.Nat.{div-mul-le_self}, lemmas.Nat.{le-div, mul-le}}
+use Rattle.std.proofs.lemmas.List.{Elements.{All-head, All-tail}, Sums.{sum-map, sum_by-append, sum_by-cons}}
+use Rattle.drive_modes.specs.{Charge.{charge_of}, Common.{Ahead, Behind, Meterage, Mode, Rounding, Single, Weights}}
 use Rattle.drive_modes.specs.Fare.{Opening, above_cover, added, opening_of, quotient, shown_fare, steps_above, steps_of}
-use Rattle.drive_modes.specs.Speeds.{IsEvenSpeed, charged}
+use Rattle.drive_modes.specs.{Speeds.{IsEvenSpeed, charged}, Stretches.{least_charge, most_charge, stretch_charge}}
 use Rattle.drive_modes.specs.Stretches.{AreEvenSpeeds, AreOfStretches, Interval, Stretch, interval_charge, intervals_in}
-use Rattle.drive_modes.specs.Stretches.{least_charge, most_charge, stretch_charge}
-use Rattle.drive_modes.proofs.Charged.{as_one_least, charged_cons}
-use Rattle.drive_modes.proofs.Coarseness.{most_even}
-use Rattle.drive_modes.proofs.Sums.{shown-sum}
+use Rattle.drive_modes.proofs.{Charged.{as_one_least, charged_cons}, Coarseness.{most_even}, Sums.{shown-sum}}
 
 -- the interval of a stretch with some pulses
 abbrev interval_of : Weights → ℕ → Interval

@@ -1,15 +1,10 @@
 -- Mode S charges even speeds nearly what their intervals come to as one.
-use Rattle.std.proofs.Common.{◌≡◌, ◌⊎◌, inl, inr, ℕ, ◌+◌, ◌-◌, ◌*◌, ◌%◌, ◌<◌, ◌≤◌, List, [], ◌∷◌, length, max, sum, ap}
-use Rattle.std.proofs.Common.{sym, ◌∙◌, arith}
-use Rattle.std.proofs.lemmas.Bool.{cases_lt}
-use Rattle.std.proofs.lemmas.List.Elements.{All-head, All-tail}
-use Rattle.std.proofs.lemmas.Nat.{mod-mul-add, mul-le}
-use Rattle.drive_modes.specs.declared.charges.Mode.TheVariants.{Single}
-use Rattle.drive_modes.specs.declared.charges.Weights.{Weights}
-use Rattle.drive_modes.specs.Charge.{charge_of}
+use Rattle.std.proofs.Common.{[], ℕ, ◌%◌, ◌*◌, ◌+◌, ◌-◌, ◌<◌, ◌∙◌, ◌∷◌, ◌≡◌, ◌≤◌, ◌⊎◌, List, ap, arith, inl, inr}
+use Rattle.std.proofs.{Common.{length, max, sum, sym}, lemmas.{Bool.{cases_lt}, List.Elements.{All-head, All-tail}}}
+use Rattle.{std.proofs.lemmas.Nat.{mod-mul-add, mul-le}, drive_modes.proofs.Crossover.{charge-greater}}
+use Rattle.drive_modes.specs.{Charge.{charge_of}, Common.{Single, Weights}}
 use Rattle.drive_modes.specs.Speeds.{IsEvenSpeed, charge_as_one, charged, coarseness, distance_alone, time_alone}
 use Rattle.drive_modes.proofs.Charged.{both_most, charged_cons, distance_cons, distance_least, time_cons, time_least}
-use Rattle.drive_modes.proofs.Crossover.{charge-greater}
 
 -- the first interval of an even speed, and the others
 first_of : (n p : ℕ) (pulses : List ℕ) → IsEvenSpeed n (p ∷ pulses) → (p ≡ n) ⊎ (p ≡ n + 1)

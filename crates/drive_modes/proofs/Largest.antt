@@ -1,8 +1,6 @@
 -- The largest fare is shown from some number of display steps on.
-use Rattle.std.proofs.Common.{◌≡◌, ◌⊎◌, inl, inr, ℕ, zero, suc, ◌*◌, ◌<◌, ◌≤◌, min, refl, arith}
-use Rattle.std.proofs.lemmas.Bool.{cases_lt}
-use Rattle.std.proofs.lemmas.Nat.{mul-le}
-use Rattle.taxi_units.specs.Money.{largest_display_step}
+use Rattle.std.proofs.{Common.{ℕ, ◌*◌, ◌<◌, ◌≡◌, ◌≤◌, ◌⊎◌, arith, inl, inr, min, refl, suc, zero}, lemmas.Nat.{mul-le}}
+use Rattle.{std.proofs.lemmas.Bool.{cases_lt}, taxi_units.specs.Money.{largest_display_step}}
 use Rattle.drive_modes.specs.Fare.{shown_fare}
 
 -- the value of at most so many display steps

@@ -1,10 +1,7 @@
 -- Display steps are whole steps.
-use Rattle.std.proofs.Common.{◌≡◌, ℕ, ◌+◌, ◌-◌, ◌*◌, ◌/◌, ◌%◌, ◌<◌, ◌≤◌, ◌==◌, ◌↔◌, zero, suc, if◌then◌else◌, refl, ap}
-use Rattle.std.proofs.Common.{sym, ◌∙◌, arith}
-use Rattle.std.proofs.lemmas.Nat.{div-add-mod', div-mul-add, mod_below}
-use Rattle.std.proofs.lemmas.Grind.{common_steps}
-use Rattle.drive_modes.specs.declared.meterage.Rounding.{Rounding}
-use Rattle.drive_modes.specs.declared.meterage.Rounding.TheVariants.{Behind, Ahead}
+use Rattle.std.proofs.Common.{ℕ, ◌%◌, ◌*◌, ◌+◌, ◌-◌, ◌/◌, ◌<◌, ◌==◌, ◌↔◌, ◌∙◌, ◌≡◌, ◌≤◌, ap, arith, if◌then◌else◌, refl}
+use Rattle.std.proofs.{Common.{suc, sym, zero}, lemmas.Nat.{div-add-mod', div-mul-add, mod_below}}
+use Rattle.{std.proofs.lemmas.Grind.{common_steps}, drive_modes.specs.Common.{Ahead, Behind, Rounding}}
 use Rattle.drive_modes.specs.Fare.{Opening, above_cover, quotient, saved, steps_above, steps_of}
 
 -- behind, the most that an amount fills

@@ -1,10 +1,7 @@
 -- A meterage that is kept from charge to charge is what their sum alone makes of it.
-use Rattle.std.proofs.Common.{◌≡◌, ℕ, ◌+◌, ◌-◌, ◌*◌, ◌/◌, ◌%◌, ◌<◌, List, [], ◌∷◌, sum, ap, sym, ◌∙◌, refl, arith}
-use Rattle.std.specs.List.{fold}
-use Rattle.std.proofs.Math.Nat.{div-add-mod, mul-add-div, mul-add-mod_self_left}
-use Rattle.std.proofs.lemmas.Nat.{div-mul-add, mod-mul-add}
-use Rattle.drive_modes.specs.declared.meterage.Meterage.{Meterage}
-use Rattle.drive_modes.specs.declared.meterage.Rounding.{Rounding}
+use Rattle.std.{specs.List.{fold}, proofs.Math.Nat.{div-add-mod, mul-add-div, mul-add-mod_self_left}}
+use Rattle.std.proofs.Common.{[], ℕ, ◌%◌, ◌*◌, ◌+◌, ◌-◌, ◌/◌, ◌<◌, ◌∙◌, ◌∷◌, ◌≡◌, List, ap, arith, refl, sum, sym}
+use Rattle.{std.proofs.lemmas.Nat.{div-mul-add, mod-mul-add}, drive_modes.specs.Common.{Meterage, Rounding}}
 use Rattle.drive_modes.specs.Fare.{Opening, above_cover, added, opening_of, saved, shown_fare, steps_above, steps_of}
 use Rattle.drive_modes.proofs.Steps.{steps-quotient}
 

@@ -1,6 +1,5 @@
 -- Distances are whole millimetres.
-use Rattle.std.proofs.Common.{ℕ, ◌*◌, ◌<◌, ◌≤◌, ◌↔◌, arith}
-use Rattle.std.proofs.Math.Nat.{le-div_iff_mul-le}
+use Rattle.std.proofs.{Common.{ℕ, ◌*◌, ◌<◌, ◌↔◌, ◌≤◌, arith}, Math.Nat.{le-div_iff_mul-le}}
 use Rattle.drive_modes.specs.Distance.{HasReached, millimetres_of}
 
 -- the distance of p pulses is the most whole millimetres for which they are enough

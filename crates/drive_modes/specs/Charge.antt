@@ -1,8 +1,6 @@
 -- Rules: the charge of a measuring interval.
-use Rattle.std.specs.Prelude.{ℕ, ◌+◌, ◌*◌, if◌then◌else◌, nat_lt}
-use Rattle.drive_modes.specs.declared.charges.Mode.{Mode}
-use Rattle.drive_modes.specs.declared.charges.Mode.TheVariants.{Single, Double}
-use Rattle.drive_modes.specs.declared.charges.Weights.{Weights}
+use Rattle.std.specs.Prelude.{ℕ, ◌*◌, ◌+◌, if◌then◌else◌, nat_lt}
+use Rattle.drive_modes.specs.Common.{Double, Mode, Single, Weights}
 
 -- in mode S an interval of p pulses is charged for its time if its distance costs less, and otherwise for its distance;
 -- in mode D it is charged for both together

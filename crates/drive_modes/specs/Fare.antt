@@ -1,9 +1,6 @@
 -- Rules: the fare that charges add up to.
-use Rattle.std.specs.Prelude.{ℕ, ◌+◌, ◌-◌, ◌*◌, ◌/◌, ◌%◌, ◌==◌, if◌then◌else◌, max, min}
-use Rattle.taxi_units.specs.Money.{largest_amount}
-use Rattle.drive_modes.specs.declared.meterage.Meterage.{Meterage}
-use Rattle.drive_modes.specs.declared.meterage.Rounding.{Rounding}
-use Rattle.drive_modes.specs.declared.meterage.Rounding.TheVariants.{Behind, Ahead}
+use Rattle.std.specs.Prelude.{ℕ, ◌%◌, ◌*◌, ◌+◌, ◌-◌, ◌/◌, ◌==◌, if◌then◌else◌, max, min}
+use Rattle.{taxi_units.specs.Money.{largest_amount}, drive_modes.specs.Common.{Ahead, Behind, Meterage, Rounding}}
 
 -- the quotient x / y is rounded down if the fare is shown behind the drive, and up if it is shown ahead of it
 abbrev pub quotient : Rounding → ℕ → ℕ → ℕ

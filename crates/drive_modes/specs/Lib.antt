@@ -6,3 +6,4 @@ pub mod Gate
 pub mod Speed
 pub mod Speeds
 pub mod Stretches
+pub mod Common

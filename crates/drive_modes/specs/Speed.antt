@@ -1,6 +1,6 @@
 -- Rules: the cross-over speed, and the weights of a rate.
-use Rattle.std.specs.Prelude.{◌≡◌, ℕ, ◌*◌, ◌<◌}
-use Rattle.drive_modes.specs.declared.charges.Weights.{Weights}
+use Rattle.std.specs.Prelude.{ℕ, ◌*◌, ◌<◌, ◌≡◌}
+use Rattle.drive_modes.specs.Common.{Weights}
 
 -- a rate is `a` of the smallest units of money for `b` decimetres, and `c` of them for `e` tenths of a second
 pub record Rate : Type 0 where

@@ -1,10 +1,6 @@
 -- Rules: what measuring intervals cost under one rate, and even speeds.
-use Rattle.std.specs.Prelude.{◌≡◌, ◌⊎◌, ℕ, ◌+◌, ◌-◌, ◌*◌, ◌/◌, ◌%◌, List, ◌++◌, length, max, replicate, sum}
-use Rattle.std.specs.List.{All, sum_by}
-use Rattle.drive_modes.specs.declared.charges.Mode.{Mode}
-use Rattle.drive_modes.specs.declared.charges.Weights.{Weights}
-use Rattle.drive_modes.specs.Charge.{charge_of}
-use Rattle.drive_modes.specs.Speed.{Rate}
+use Rattle.{std.specs.List.{All, sum_by}, drive_modes.specs.{Charge.{charge_of}, Common.{Mode, Weights}, Speed.{Rate}}}
+use Rattle.std.specs.Prelude.{ℕ, ◌%◌, ◌*◌, ◌++◌, ◌+◌, ◌-◌, ◌/◌, ◌≡◌, ◌⊎◌, List, length, max, replicate, sum}
 
 -- intervals are given by their pulses, in order; their charge is the sum of the charge of each
 abbrev pub charged : Mode → Weights → List ℕ → ℕ

@@ -1,11 +1,7 @@
 -- Rules: trips as stretches, each under one rate and at one even speed.
-use Rattle.std.specs.Prelude.{ℕ, ◌+◌, ◌*◌, ◌/◌, List, length, map}
-use Rattle.std.specs.List.{All, flat_map}
-use Rattle.std.specs.List.Sorted.{IsPermutation}
-use Rattle.drive_modes.specs.declared.charges.Mode.{Mode}
-use Rattle.drive_modes.specs.declared.charges.Weights.{Weights}
+use Rattle.std.specs.{List.{All, flat_map, Sorted.{IsPermutation}}, Prelude.{ℕ, ◌*◌, ◌+◌, ◌/◌, List, length, map}}
 use Rattle.drive_modes.specs.Charge.{charge_of}
-use Rattle.drive_modes.specs.Speeds.{IsEvenSpeed, charge_as_one, charged, coarseness}
+use Rattle.drive_modes.specs.{Common.{Mode, Weights}, Speeds.{IsEvenSpeed, charge_as_one, charged, coarseness}}
 
 -- an interval of a trip has its pulses, and the weights of the rate that was in force
 pub record Interval : Type 0 where

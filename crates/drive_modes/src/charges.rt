@@ -1,7 +1,6 @@
 //! The charge of a measuring interval.
-ghost use Rattle.std.specs.Prelude.{◌≡◌, ℕ, ◌+◌, ◌*◌, ◌^◌, ◌<◌, ◌≤◌, ◌↔◌, max};
-ghost use Rattle.drive_modes.specs.Charge.{charge_of};
-ghost use Rattle.drive_modes.specs.Speed.{AreWeightsOf, IsBelowCrossOver, Rate};
+ghost use Rattle.std.specs.Prelude.{ℕ, ◌*◌, ◌+◌, ◌<◌, ◌^◌, ◌↔◌, ◌≡◌, ◌≤◌, max};
+ghost use Rattle.drive_modes.specs.{Charge.{charge_of}, Speed.{AreWeightsOf, IsBelowCrossOver, Rate}};
 
 /// How time and distance share in the fare: the two modes of the measuring instruments directive.
 #[derive(Clone, Copy)]

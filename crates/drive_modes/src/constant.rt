@@ -1,6 +1,6 @@
 //! The constant of the taximeter.
-ghost use Rattle.std.specs.Prelude.{◌≡◌, ℕ, ◌≤◌, ◌↔◌, IsOk, IfOk};
-ghost use Rattle.drive_modes.specs.Constant.{least_constant, greatest_constant};
+ghost use Rattle.std.specs.Prelude.{ℕ, ◌↔◌, ◌≡◌, ◌≤◌, IfOk, IsOk};
+ghost use Rattle.drive_modes.specs.Constant.{greatest_constant, least_constant};
 
 use std::marker::Model;
 

@@ -1,5 +1,5 @@
 //! The distance that pulses make.
-ghost use Rattle.std.specs.Prelude.{◌≡◌, ℕ, ◌*◌, ◌<◌, ◌≤◌, ◌↔◌, IsTrue};
+ghost use Rattle.std.specs.Prelude.{ℕ, ◌*◌, ◌<◌, ◌↔◌, ◌≡◌, ◌≤◌, IsTrue};
 ghost use Rattle.drive_modes.specs.Distance.{HasReached, millimetres_of};
 
 use crate::constant::Constant;

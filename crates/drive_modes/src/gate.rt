@@ -1,6 +1,5 @@
 //! The pulses of the measuring interval that runs.
-ghost use Rattle.std.specs.Prelude.{◌≡◌, ℕ, ◌+◌, ◌-◌, ◌≤◌, List, min, sum};
-ghost use Rattle.std.specs.List.{fold};
+ghost use Rattle.std.specs.{List.{fold}, Prelude.{ℕ, ◌+◌, ◌-◌, ◌≡◌, ◌≤◌, List, min, sum}};
 ghost use Rattle.drive_modes.specs.Gate.{counted};
 
 use std::marker::Model;

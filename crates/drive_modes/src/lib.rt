@@ -8,8 +8,8 @@
 mod charges;
 mod constant;
 mod distance;
-mod even_fares;
-mod even_speeds;
+mod even_fare_laws;
+mod even_speed_laws;
 mod gate;
 mod meterage;
 mod speed;
@@ -19,8 +19,8 @@ pub use charges::{
 };
 pub use constant::{BadConstant, Constant, GREATEST_CONSTANT, LEAST_CONSTANT};
 pub use distance::{distances_are_whole_millimetres, millimetres, reached};
-pub use even_fares::{even_fares_are_shown_nearly, fares_rise_with_their_charge};
-pub use even_speeds::{
+pub use even_fare_laws::{even_fares_are_shown_nearly, fares_rise_with_their_charge};
+pub use even_speed_laws::{
     charges_in_mode_s_lie_between, even_speeds_are_charged_nearly,
     the_cross_over_speed_reaches_the_bound,
 };

@@ -1,10 +1,8 @@
 //! What a trip costs so far: the cover that is left, and the display steps above it. This project's own rules say how
 //! it is counted and rounded.
-ghost use Rattle.std.specs.Prelude.{◌≡◌, ℕ, ◌+◌, ◌-◌, ◌*◌, ◌/◌, ◌^◌, ◌<◌, ◌≤◌, ◌↔◌, List, sum};
-ghost use Rattle.std.specs.List.{fold};
-ghost use Rattle.drive_modes.specs.Fare.{Opening, added, opening_of, quotient, saved, shown_fare};
-ghost use Rattle.drive_modes.specs.Fare.{steps_above, steps_of};
-ghost use Rattle.taxi_units.specs.Money.{largest_amount, largest_display_step};
+ghost use Rattle.std.specs.{List.{fold}, Prelude.{ℕ, ◌*◌, ◌+◌, ◌-◌, ◌/◌, ◌<◌, ◌^◌, ◌↔◌, ◌≡◌, ◌≤◌, List, sum}};
+ghost use Rattle.{taxi_units.specs.Money.{largest_amount, largest_display_step}, drive_modes.specs.Fare.{steps_of}};
+ghost use Rattle.drive_modes.specs.Fare.{Opening, added, opening_of, quotient, saved, shown_fare, steps_above};
 
 use taxi_units::LARGEST_AMOUNT;
 

@@ -1,5 +1,5 @@
 //! The cross-over speed.
-ghost use Rattle.std.specs.Prelude.{◌≡◌, ℕ, ◌*◌, ◌/◌, ◌^◌, ◌≤◌, ◌≢◌, ◌↔◌, IfSome, IsNone};
+ghost use Rattle.std.specs.Prelude.{ℕ, ◌*◌, ◌/◌, ◌^◌, ◌↔◌, ◌≡◌, ◌≢◌, ◌≤◌, IfSome, IsNone};
 
 /// The cross-over speed of a rate, in whole metres an hour, rounded down. The measuring instruments directive defines
 /// it as the time tariff value divided by the distance tariff value: here `c` for `e` tenths of a second, divided by

@@ -1,12 +1,8 @@
 -- Bytes that are parted at a byte, and the fields of a line.
-use Rattle.std.proofs.Common.{◌≡◌, ℕ, ◌<◌, false, List, ◌∷◌, [], ◌++◌, length, All, eqb, ap, ◌∙◌, Option, Some, None}
-use Rattle.std.proofs.Common.{MatchOption, refl, arith}
-use Rattle.std.specs.List.{slice_split}
-use Rattle.std.specs.Option.{option_map_or}
-use Rattle.std.proofs.lemmas.Bool.{ne_eqb}
-use Rattle.std.proofs.lemmas.List.Splits.{slice_split_none, slice_split_at, length-slice_split}
-use Rattle.drive_text.specs.Lines.{HasNone}
-use Rattle.drive_text.specs.Fields.{run_of_fields}
+use Rattle.std.{specs.{List.{slice_split}, Option.{option_map_or}}, proofs.Common.{eqb, false, length, refl}}
+use Rattle.std.proofs.Common.{[], ℕ, ◌++◌, ◌<◌, ◌∙◌, ◌∷◌, ◌≡◌, All, List, MatchOption, None, Option, Some, ap, arith}
+use Rattle.std.proofs.lemmas.{Bool.{ne_eqb}, List.Splits.{length-slice_split, slice_split_at, slice_split_none}}
+use Rattle.drive_text.specs.{Fields.{run_of_fields}, Lines.{HasNone}}
 
 -- no test for this byte holds
 pub none_tests : (byte : ℕ) (bytes : List ℕ) → HasNone byte bytes → All (λ b. eqb b byte ≡ false) bytes

@@ -1,20 +1,13 @@
 -- What a drive means doesn't depend on where its bytes were cut.
-use Rattle.std.proofs.Common.{◌≡◌, ℕ, ◌+◌, Bool, true, false, cond, List, [], ◌∷◌, ◌++◌, length, refl, ap, sym}
-use Rattle.std.proofs.Common.{◌∙◌, eqb, append_assoc, drop, flat_map, Option, Some, None, ◌⊎◌, inl, inr}
-use Rattle.std.proofs.Math.Seq.{drop-append_seam}
-use Rattle.std.proofs.lemmas.Grind.{flat_map-append}
-use Rattle.std.proofs.lemmas.List.{append-nil}
-use Rattle.std.proofs.lemmas.Bool.{eqb-true, eqb-false}
-use Rattle.drive_text.specs.declared.run.Run.{Run}
-use Rattle.drive_text.specs.Runs.{run_events}
-use Rattle.drive_text.specs.Whole.{given_by, bytes_of}
-use Rattle.drive_text.specs.Lines.{ended_lines, unfinished_line, is_too_long}
-use Rattle.drive_text.specs.Drive.{or_else, first_bad_line, first_bad_of, first_bad, runs_of_lines, runs_in, runs_after}
-use Rattle.drive_text.specs.Drive.{events_in}
-use Rattle.drive_text.proofs.Parts.{byte_goes_on, lf_ends}
+use Rattle.std.proofs.Common.{[], ℕ, ◌++◌, ◌+◌, ◌∙◌, ◌∷◌, ◌≡◌, ◌⊎◌, Bool, List, None, Option, Some, ap, append_assoc}
+use Rattle.std.proofs.Common.{cond, drop, eqb, false, flat_map, inl, inr, length, refl, sym, true}
+use Rattle.std.proofs.{Math.Seq.{drop-append_seam}, lemmas.{Bool.{eqb-false, eqb-true}, Grind.{flat_map-append}}}
+use Rattle.{std.proofs.lemmas.List.{append-nil}, drive_text.specs.Lines.{ended_lines, is_too_long, unfinished_line}}
+use Rattle.drive_text.specs.Drive.{events_in, first_bad, first_bad_line, first_bad_of, or_else, runs_after, runs_in}
+use Rattle.drive_text.{specs.Drive.{runs_of_lines}, proofs.Positions.{runs_of_lines-bad_one, runs_of_lines-good}}
+use Rattle.drive_text.specs.{Runs.{run_events}, Whole.{bytes_of, given_by}, declared.run.Run.{Run}}
+use Rattle.drive_text.proofs.{Endings.{line_runs-long, too_long-append}, Parts.{byte_goes_on, lf_ends}}
 use Rattle.drive_text.proofs.Positions.{first_bad_line-append, first_bad_line-bad, runs_of_lines-bad}
-use Rattle.drive_text.proofs.Positions.{runs_of_lines-good, runs_of_lines-bad_one}
-use Rattle.drive_text.proofs.Endings.{line_runs-long, too_long-append}
 
 -- why a line is the first bad one: it is ended, or it is too long
 bad_by : (o : Option ℕ) (long : Bool) (k n : ℕ) → or_else o (cond long (Some k) None) ≡ Some n

@@ -1,6 +1,5 @@
 -- Numbers that are written in decimal.
-use Rattle.std.proofs.Common.{ℕ, ◌^◌, ◌<◌, ◌≤◌, length, arith, Result, Ok, Err, OnOk, IsOk}
-use Rattle.std.specs.Fmt.{decimal}
+use Rattle.std.{specs.Fmt.{decimal}, proofs.Common.{ℕ, ◌<◌, ◌^◌, ◌≤◌, Err, IsOk, Ok, OnOk, Result, arith, length}}
 use Rattle.std.proofs.lemmas.Fmt.{length-decimal-le_wide}
 
 -- a number below 10^12 has at most 12 digits

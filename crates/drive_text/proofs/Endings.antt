@@ -1,12 +1,9 @@
 -- The CR at a line's end, comments, and lines that are too long.
-use Rattle.std.proofs.Common.{◌≡◌, ℕ, suc, ◌+◌, ◌-◌, ◌<◌, ◌≤◌, Bool, true, false, cond, not, ◌&&◌, List, [], ◌∷◌, ◌++◌}
-use Rattle.std.proofs.Common.{length, take, get_or, refl, ap, ◌∙◌, arith, eqb, ltb, length-append, Some, None}
-use Rattle.std.specs.Str.Lines.{strip_carriage_return}
-use Rattle.std.proofs.Math.Seq.{get_or-append_seam, take-append_seam}
-use Rattle.std.proofs.lemmas.Bool.{lt-ltb, ltb-true, eqb-true}
-use Rattle.std.proofs.lemmas.List.{length-take-le}
-use Rattle.drive_text.specs.Lines.{is_comment, is_too_long}
-use Rattle.drive_text.specs.Fields.{text_runs, line_runs}
+use Rattle.std.{specs.Str.Lines.{strip_carriage_return}, proofs.lemmas.List.{length-take-le}}
+use Rattle.std.proofs.Common.{[], ℕ, ◌&&◌, ◌++◌, ◌+◌, ◌-◌, ◌<◌, ◌∙◌, ◌∷◌, ◌≡◌, ◌≤◌, Bool, List, None, Some, ap, arith}
+use Rattle.std.proofs.Common.{cond, eqb, false, get_or, length, length-append, ltb, not, refl, suc, take, true}
+use Rattle.std.proofs.{Math.Seq.{get_or-append_seam, take-append_seam}, lemmas.Bool.{eqb-true, lt-ltb, ltb-true}}
+use Rattle.drive_text.specs.{Fields.{line_runs, text_runs}, Lines.{is_comment, is_too_long}}
 
 -- a CR at the end is no part of the line
 pub strip-snoc : (t : List ℕ) (c : ℕ) → strip_carriage_return (t ++ c ∷ []) ≡ cond (eqb c 13) t (t ++ c ∷ [])

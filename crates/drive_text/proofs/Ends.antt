@@ -1,12 +1,10 @@
 -- How drives end, from the bytes that were taken.
-use Rattle.std.proofs.Common.{◌≡◌, ℕ, ◌≤◌, ◌<◌, List, [], ◌++◌, length, refl, sym, ap, Some, None, flat_map}
-use Rattle.std.proofs.lemmas.List.{append-nil}
+use Rattle.std.proofs.Common.{[], ℕ, ◌++◌, ◌<◌, ◌≡◌, ◌≤◌, List, None, Some, ap, flat_map, length, refl, sym}
+use Rattle.{std.proofs.lemmas.List.{append-nil}, taxi_units.proofs.Laws.{whole_stream_reached}}
 use Rattle.taxi_units.specs.Streams.{IsSplit, KeepsBad, stream_limit}
 use Rattle.taxi_units.proofs.Laws.{bad_stream_reached, endless_stream_reached, unfinished_stream_reached}
-use Rattle.taxi_units.proofs.Laws.{whole_stream_reached}
-use Rattle.drive_text.specs.Drive.{events_in, first_bad, bad_at_end}
-use Rattle.drive_text.specs.Ending.{Whole, BadAt, Endless, ReachesEnd, drives}
-use Rattle.drive_text.specs.Runs.{run_events}
+use Rattle.drive_text.specs.Drive.{bad_at_end, events_in, first_bad}
+use Rattle.drive_text.specs.{Ending.{BadAt, Endless, ReachesEnd, Whole, drives}, Runs.{run_events}}
 use Rattle.drive_text.proofs.Cuts.{first_bad-append, runs_in-append_bad}
 
 keeps : KeepsBad drives

@@ -8,8 +8,6 @@ mod Decimals
 mod Endings
 -- how a drive ends, from the bytes that were taken
 mod Ends
--- what a part of a piece, and then a piece, changes of a reader
-mod Feeding
 -- the laws that the crates above may cite
 pub mod Laws
 -- the lines of a text are what stands between its LFs
@@ -26,8 +24,10 @@ mod Positions
 mod Ranges
 -- the line of an event is read as that event
 mod ReadBack
+-- what a part of a piece, and then a piece, changes of a reader
+mod ReaderPieces
 -- where a reader stands after a part of a piece
-mod Standing
+mod ReaderPlaces
 -- what a line means is what the table says
 mod Table
 -- the first bad line and the runs of a text are those that its lines say

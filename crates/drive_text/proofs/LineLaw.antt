@@ -1,11 +1,9 @@
 -- The lines of a text are what stands between its LFs.
-use Rattle.std.proofs.Common.{◌≡◌, ◌≢◌, ℕ, ◌↔◌, Bool, true, false, cond, List, [], ◌∷◌, ◌++◌, refl, ap, sym, ◌∙◌, subst}
-use Rattle.std.proofs.Common.{eqb, append_assoc, All, flat_map}
-use Rattle.std.specs.List.{slice_split, onto_first, join_with_byte}
-use Rattle.std.proofs.lemmas.Bool.{ne_eqb, eqb-false}
-use Rattle.std.proofs.lemmas.List.Elements.{All-nil, All-cons, All-head, All-tail}
-use Rattle.std.proofs.lemmas.List.Splits.{slice_split_none, slice_split_at, join_with_byte-slice_split}
-use Rattle.drive_text.specs.Lines.{all_but_last, last_of, ended_lines, unfinished_line, text_of, IsOneLine}
+use Rattle.std.{specs.List.{join_with_byte, onto_first, slice_split}, proofs.Common.{flat_map, refl, subst, sym, true}}
+use Rattle.std.proofs.Common.{[], ℕ, ◌++◌, ◌↔◌, ◌∙◌, ◌∷◌, ◌≡◌, ◌≢◌, All, Bool, List, ap, append_assoc, cond, eqb, false}
+use Rattle.std.proofs.lemmas.{Bool.{eqb-false, ne_eqb}, List.Elements.{All-cons, All-head, All-nil, All-tail}}
+use Rattle.std.proofs.lemmas.List.Splits.{join_with_byte-slice_split, slice_split_at, slice_split_none}
+use Rattle.drive_text.specs.Lines.{IsOneLine, all_but_last, ended_lines, last_of, text_of, unfinished_line}
 
 front_of : (ps : List (List ℕ)) (q : List ℕ) → all_but_last (ps ++ q ∷ []) ≡ ps
 front_of [] q = refl

@@ -1,11 +1,7 @@
 -- Fields that are numbers.
-use Rattle.std.proofs.Common.{◌≡◌, ◌≢◌, ℕ, List, [], ◌∷◌, length, refl, arith, Some}
-use Rattle.std.specs.Str.Parse.{AllDigits}
-use Rattle.std.proofs.lemmas.List.Elements.{All-nil, All-cons}
-use Rattle.std.proofs.lemmas.Str.Parse.{digit_from_value}
-use Rattle.taxi_units.specs.Digits.{IsNumberIn}
-use Rattle.taxi_units.specs.Number.{number_in}
-use Rattle.taxi_units.proofs.Laws.{figures_are_read_by_their_digits}
+use Rattle.std.{specs.Str.Parse.{AllDigits}, proofs.Common.{[], ℕ, ◌∷◌, ◌≡◌, ◌≢◌, List, Some, arith, length, refl}}
+use Rattle.std.proofs.lemmas.{List.Elements.{All-cons, All-nil}, Str.Parse.{digit_from_value}}
+use Rattle.{taxi_units.proofs.Laws.{figures_are_read_by_their_digits}, drive_text.specs.Common.{IsNumberIn, number_in}}
 use Rattle.drive_text.specs.Lines.{HasNone}
 
 -- digits are no blanks

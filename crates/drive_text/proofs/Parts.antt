@@ -1,11 +1,8 @@
 -- A part of a text without an LF, and a line with its LF, behind other bytes.
-use Rattle.std.proofs.Common.{◌≡◌, ◌≢◌, ℕ, ◌+◌, ◌≤◌, List, [], ◌∷◌, ◌++◌, length, refl, ap, sym, ◌∙◌, arith}
-use Rattle.std.proofs.Common.{append_assoc, length-append, All, flat_map}
-use Rattle.std.proofs.lemmas.Grind.{flat_map-append}
-use Rattle.std.proofs.lemmas.List.{append-nil}
-use Rattle.std.proofs.lemmas.List.Elements.{All-append, All-cons, All-nil, All-push}
-use Rattle.drive_text.specs.Lines.{ended_lines, unfinished_line, text_of, IsOneLine}
-use Rattle.drive_text.specs.Drive.{runs_of_lines, runs_in}
+use Rattle.std.proofs.Common.{[], ℕ, ◌++◌, ◌+◌, ◌∙◌, ◌∷◌, ◌≡◌, ◌≢◌, ◌≤◌, All, List, ap, append_assoc, arith, flat_map}
+use Rattle.std.proofs.{Common.{length, length-append, refl, sym}, lemmas.List.{append-nil}}
+use Rattle.std.proofs.lemmas.{Grind.{flat_map-append}, List.Elements.{All-append, All-cons, All-nil, All-push}}
+use Rattle.drive_text.specs.{Drive.{runs_in, runs_of_lines}, Lines.{IsOneLine, ended_lines, text_of, unfinished_line}}
 use Rattle.drive_text.proofs.LineLaw.{lines_make_the_text}
 
 pub text_append : (xs ys : List (List ℕ)) (t : List ℕ) → text_of (xs ++ ys) t ≡ text_of xs (text_of ys t)

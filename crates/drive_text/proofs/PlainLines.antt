@@ -1,33 +1,16 @@
 -- Lines without a byte below the blank, and those of them that are read in one pass.
-use Rattle.std.proofs.Common.{◌≡◌, ◌≢◌, ℕ, ◌+◌, ◌*◌, ◌-◌, ◌^◌, ◌<◌, ◌≤◌, true, false, List, [], ◌∷◌, ◌++◌, length}
-use Rattle.std.proofs.Common.{length-take, length-drop, take_all, take-append-drop, get_or, take, drop, refl, ap, sym}
-use Rattle.std.proofs.Common.{◌∙◌, subst, arith, eqb, append_assoc, Some, codes, All}
-use Rattle.std.specs.Char.{is_ascii_digit, digit_value}
-use Rattle.std.specs.Str.Lines.{strip_carriage_return}
-use Rattle.std.specs.Str.Parse.{AllDigits, digits_value}
-use Rattle.std.proofs.lemmas.Bool.{ne_eqb}
-use Rattle.std.proofs.lemmas.Bool.Decides.{nat_tests}
-use Rattle.std.proofs.lemmas.Int.Digits.{digits_more, digits_value_more, digits_value-lt}
-use Rattle.std.proofs.lemmas.List.{append-nil}
-use Rattle.std.proofs.lemmas.List.Elements.{All-nil, All-cons, All-append}
-use Rattle.std.proofs.lemmas.Str.Parse.{digit_from_value}
-use Rattle.std.proofs.Math.Nat.{pow-le-pow_right}
-use Rattle.taxi_units.specs.declared.event.Event.TheVariants.{Pulses, Tick}
-use Rattle.drive_text.specs.declared.run.Run.{Run}
-use Rattle.drive_text.specs.declared.run.Run.TheVariants.{One, Many}
-use Rattle.drive_text.specs.Fields.{line_runs}
-use Rattle.drive_text.specs.Lines.{IsOneLine}
-use Rattle.drive_text.specs.Part.{TakesPart}
-use Rattle.drive_text.specs.Plain.{BeginsWithLine, BeginsWithNumber}
-use Rattle.drive_text.specs.Reading.{Reading}
-use Rattle.drive_text.specs.Table.{Means}
-use Rattle.taxi_units.specs.Digits.{IsNumberIn}
-use Rattle.drive_text.specs.Table.Means.{pulses, tick, intervals}
-use Rattle.drive_text.proofs.Feeding.{takes_line}
-use Rattle.drive_text.proofs.Numbers.{no_bytes}
-use Rattle.drive_text.proofs.Ranges.{runs_in_range}
-use Rattle.drive_text.proofs.Standing.{line_number_of, line_is_good, line_gives}
-use Rattle.drive_text.proofs.Table.{line_runs-table}
+use Rattle.std.specs.{Char.{digit_value, is_ascii_digit}, Str.Parse.{AllDigits, digits_value}}
+use Rattle.std.{specs.Str.Lines.{strip_carriage_return}, proofs.lemmas.Bool.{ne_eqb}}
+use Rattle.std.proofs.Common.{[], ℕ, ◌*◌, ◌++◌, ◌+◌, ◌-◌, ◌<◌, ◌^◌, ◌∙◌, ◌∷◌, ◌≡◌, ◌≢◌, ◌≤◌, All, List, Some, ap}
+use Rattle.std.proofs.Common.{append_assoc, arith, codes, drop, eqb, false, get_or, length, length-drop, length-take}
+use Rattle.std.proofs.{Common.{refl, subst, sym, take, take-append-drop, take_all, true}, Math.Nat.{pow-le-pow_right}}
+use Rattle.std.proofs.lemmas.{Bool.Decides.{nat_tests}, Int.Digits.{digits_more, digits_value-lt, digits_value_more}}
+use Rattle.std.proofs.lemmas.{List.{append-nil, Elements.{All-append, All-cons, All-nil}}, Str.Parse.{digit_from_value}}
+use Rattle.drive_text.specs.{Common.{IsNumberIn, Pulses, Tick}, Part.{TakesPart}, Table.Means.{intervals, pulses, tick}}
+use Rattle.drive_text.specs.{Fields.{line_runs}, Lines.{IsOneLine}, Reading.{Reading}, Table.{Means}}
+use Rattle.drive_text.specs.{Plain.{BeginsWithLine, BeginsWithNumber}, declared.run.Run.{Run, TheVariants.{Many, One}}}
+use Rattle.drive_text.proofs.{Numbers.{no_bytes}, Ranges.{runs_in_range}, Table.{line_runs-table}}
+use Rattle.drive_text.proofs.{ReaderPieces.{takes_line}, ReaderPlaces.{line_gives, line_is_good, line_number_of}}
 
 -- ---- plain lines
 

@@ -1,12 +1,9 @@
 -- First bad lines and runs of lists of lines, of which more come.
-use Rattle.std.proofs.Common.{◌≡◌, ℕ, ◌+◌, Bool, true, false, cond, List, [], ◌∷◌, ◌++◌, length, refl, ap, sym, ◌∙◌}
-use Rattle.std.proofs.Common.{arith, append_assoc, Option, Some, None, unwrap_or, is_some, is_none}
-use Rattle.std.specs.List.{position_from, flat_map, take_while}
-use Rattle.std.proofs.lemmas.List.{append-nil}
-use Rattle.std.proofs.lemmas.List.Sums.{take_while-cons}
-use Rattle.drive_text.specs.declared.run.Run.{Run}
-use Rattle.drive_text.specs.Fields.{line_runs}
-use Rattle.drive_text.specs.Drive.{first_bad_line, runs_of_lines}
+use Rattle.std.{specs.List.{flat_map, position_from, take_while}, proofs.lemmas.List.Sums.{take_while-cons}}
+use Rattle.std.proofs.Common.{[], ℕ, ◌++◌, ◌+◌, ◌∙◌, ◌∷◌, ◌≡◌, Bool, List, None, Option, Some, ap, append_assoc, arith}
+use Rattle.std.proofs.Common.{cond, false, is_none, is_some, length, refl, sym, true, unwrap_or}
+use Rattle.{std.proofs.lemmas.List.{append-nil}, drive_text.specs.Drive.{first_bad_line, runs_of_lines}}
+use Rattle.drive_text.specs.{Fields.{line_runs}, declared.run.Run.{Run}}
 
 module _ {X : Type 0} (p : X → Bool) where
   position_stays_by : (t : Bool) (x : X) (i n : ℕ) (xs ys : List X) → (position_from p (i + 1) xs ≡ Some n

@@ -1,13 +1,8 @@
 -- The runs of a line are in the ranges of a drive.
-use Rattle.std.proofs.Common.{◌≡◌, ℕ, List, [], ◌∷◌, Some, All}
-use Rattle.std.specs.Str.Lines.{strip_carriage_return}
-use Rattle.std.proofs.lemmas.List.Elements.{All-nil, All-cons}
-use Rattle.drive_text.specs.declared.run.Run.{Run}
-use Rattle.drive_text.specs.Fields.{line_runs}
-use Rattle.drive_text.specs.Ranges.{IsRunInRange}
-use Rattle.drive_text.specs.Table.{Means}
-use Rattle.drive_text.specs.Table.Means.{empty, comment, up, clock, pulses, intervals, plain, position, zone, extra}
-use Rattle.drive_text.proofs.Table.{line_runs-table, plain_keys_are_read}
+use Rattle.{std.specs.Str.Lines.{strip_carriage_return}, drive_text.proofs.Table.{line_runs-table, plain_keys_are_read}}
+use Rattle.std.proofs.{Common.{[], ℕ, ◌∷◌, ◌≡◌, All, List, Some}, lemmas.List.Elements.{All-cons, All-nil}}
+use Rattle.drive_text.specs.{Fields.{line_runs}, Ranges.{IsRunInRange}, Table.{Means}, declared.run.Run.{Run}}
+use Rattle.drive_text.specs.Table.Means.{clock, comment, empty, extra, intervals, plain, position, pulses, up, zone}
 
 one : (run : Run) → IsRunInRange run → All IsRunInRange (run ∷ [])
 one run h = All-cons IsRunInRange run [] h (All-nil IsRunInRange)

@@ -1,29 +1,17 @@
 -- The line of an event is read as that event.
-use Rattle.std.proofs.Common.{◌≡◌, ℕ, ◌+◌, ◌^◌, ◌<◌, ◌≤◌, Bool, true, false, cond, List, [], ◌∷◌, ◌++◌, length, refl}
-use Rattle.std.proofs.Common.{ap, ◌∙◌, arith, eqb, Option, Some, None, codes, decimal}
-use Rattle.std.proofs.lemmas.Bool.{eqb-true}
-use Rattle.std.proofs.lemmas.Fmt.{decimal_is_IsNumeral_wide}
-use Rattle.taxi_units.specs.Digits.{IsNumberIn}
-use Rattle.taxi_units.specs.Time.{first_second, last_second}
-use Rattle.taxi_units.specs.declared.event.Event.{Event}
-use Rattle.taxi_units.specs.declared.event.Event.TheVariants.{Up, Down, Pulses, Tick, Clock}
-use Rattle.taxi_units.specs.declared.event.Event.TheVariants as events
-use Rattle.taxi_units.specs.declared.event.Key.{Key}
-use Rattle.taxi_units.specs.declared.event.Key.TheVariants.{Position, Zone, Extra}
-use Rattle.taxi_units.proofs.Laws.{numbers_are_written_as_figures}
-use Rattle.drive_text.specs.declared.run.Run.{Run}
-use Rattle.drive_text.specs.declared.run.Run.TheVariants.{One}
-use Rattle.drive_text.specs.Ranges.{IsInRange, IsKeyInRange}
-use Rattle.drive_text.specs.Lines.{ended_lines, unfinished_line, is_too_long}
+use Rattle.std.proofs.Common.{[], ℕ, ◌++◌, ◌+◌, ◌<◌, ◌^◌, ◌∙◌, ◌∷◌, ◌≡◌, ◌≤◌, Bool, List, None, Option, Some, ap, arith}
+use Rattle.std.proofs.{Common.{codes, cond, decimal, eqb, false, length, refl, true}, lemmas.Bool.{eqb-true}}
+use Rattle.{std.proofs.lemmas.Fmt.{decimal_is_IsNumeral_wide}, taxi_units.proofs.Laws.{numbers_are_written_as_figures}}
+use Rattle.drive_text.specs.Common.{Clock, Down, Event, Extra, IsNumberIn, Key, Position, Pulses, Tick, Up, Zone}
+use Rattle.drive_text.specs.{Common.{first_second, last_second}, Lines.{ended_lines, is_too_long, unfinished_line}}
+use Rattle.drive_text.{specs.Drive.{bad_at_end, first_bad_line, or_else, runs_in, runs_of_lines}, proofs.Table.{sound}}
 use Rattle.drive_text.specs.Fields.{line_runs, plain_key, run_of_two_fields, text_runs}
-use Rattle.drive_text.specs.Table.{Means}
-use Rattle.drive_text.specs.Table.Means.{up, down, clock, pulses, tick, position, zone, extra}
-use Rattle.drive_text.specs.Drive.{or_else, first_bad_line, bad_at_end, runs_of_lines, runs_in}
-use Rattle.drive_text.specs.Written.{key_text, event_fields, event_text}
-use Rattle.drive_text.proofs.Parts.{line_ends}
-use Rattle.drive_text.proofs.PlainLines.{IsPlain, plain_digits, more_plain, one_plain, no_lf, plain_run}
-use Rattle.drive_text.proofs.Table.{sound}
-use Rattle.drive_text.proofs.Positions.{first_bad_line-good, runs_of_lines-good, runs_of_lines-one}
+use Rattle.drive_text.specs.Ranges.{IsInRange, IsKeyInRange}
+use Rattle.drive_text.specs.Table.{Means, Means.{clock, down, extra, position, pulses, tick, up, zone}}
+use Rattle.drive_text.specs.{Written.{event_fields, event_text, key_text}, declared.run.Run.{Run, TheVariants.{One}}}
+use Rattle.drive_text.proofs.{Parts.{line_ends}, Positions.{first_bad_line-good, runs_of_lines-good, runs_of_lines-one}}
+use Rattle.drive_text.proofs.PlainLines.{IsPlain, more_plain, no_lf, one_plain, plain_digits, plain_run}
+use Rattle.taxi_units.specs.declared.event.Event.TheVariants as events
 
 -- a number that is written is one
 written : (low high n : ℕ) → low ≤ n → n ≤ high → n < 10 ^ 12 → IsNumberIn low high (decimal n) n

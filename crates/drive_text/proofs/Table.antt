@@ -1,35 +1,19 @@
 -- What a line means is what the table says.
-use Rattle.std.proofs.Common.{◌≡◌, ℕ, suc, ◌≤◌, Bool, true, false, cond, List, [], ◌∷◌, ◌++◌, length, refl, ap, sym}
-use Rattle.std.proofs.Common.{◌∙◌, subst, arith, eqb, ltb, ◌↔◌, length-append, Option, Some, None, codes}
-use Rattle.std.specs.Prelude.{Contains}
-use Rattle.std.specs.List.{AllByRecursion, find, slice_split, join_with_byte}
-use Rattle.std.specs.Option.{option_map}
-use Rattle.std.specs.Cmp.Lexicographic.{same_text}
-use Rattle.std.specs.Str.Lines.{strip_carriage_return}
-use Rattle.std.specs.Str.Parse.{AllDigits}
-use Rattle.std.proofs.lemmas.Bool.{eqb-true, le-ltb}
-use Rattle.std.proofs.lemmas.List.Elements.{All-contains, All-from_recursion}
-use Rattle.std.proofs.lemmas.List.Splits.{slice_split_none, slice_split_at, join_with_byte-slice_split}
-use Rattle.taxi_units.specs.Digits.{IsNumberIn}
-use Rattle.taxi_units.specs.Number.{number_in}
-use Rattle.taxi_units.specs.Time.{first_second, last_second}
-use Rattle.taxi_units.specs.Words.{is_word}
-use Rattle.taxi_units.specs.declared.event.Event.{Event}
-use Rattle.taxi_units.specs.declared.event.Event.TheVariants.{Up, Down, Pulses, Tick, Clock}
+use Rattle.std.specs.{Cmp.Lexicographic.{same_text}, Option.{option_map}, Prelude.{Contains}, Str.Parse.{AllDigits}}
+use Rattle.std.specs.{List.{AllByRecursion, find, join_with_byte, slice_split}, Str.Lines.{strip_carriage_return}}
+use Rattle.std.proofs.Common.{[], ℕ, ◌++◌, ◌↔◌, ◌∙◌, ◌∷◌, ◌≡◌, ◌≤◌, Bool, List, None, Option, Some, ap, arith, codes}
+use Rattle.std.proofs.Common.{cond, eqb, false, length, length-append, ltb, refl, subst, suc, sym, true}
+use Rattle.std.proofs.lemmas.{Bool.{eqb-true, le-ltb}, List.Elements.{All-contains, All-from_recursion}}
+use Rattle.std.proofs.lemmas.List.Splits.{join_with_byte-slice_split, slice_split_at, slice_split_none}
+use Rattle.{taxi_units.specs.Words.{is_word}, drive_text.specs.Common.{first_second, last_second, number_in}}
+use Rattle.drive_text.specs.Common.{Clock, Down, Event, Extra, IsNumberIn, Key, Position, Pulses, Tick, Up, Zone}
+use Rattle.drive_text.specs.Fields.{intervals_of, line_runs, numbered_key, one, plain_key, run_of_fields}
+use Rattle.drive_text.specs.Fields.{run_of_one_field, run_of_three_fields, run_of_two_fields, second_in, text_runs}
+use Rattle.drive_text.{specs.{Ranges.{IsKeyInRange}, Table.{Means}}, proofs.Blanks.{none_tests}}
+use Rattle.drive_text.specs.Table.Means.{clock, comment, down, empty, extra, intervals, plain, position, pulses, tick}
+use Rattle.drive_text.{specs.Table.Means.{up, zone}, proofs.Numbers.{digits_blankless, number_complete, number_sound}}
+use Rattle.drive_text.specs.{Written.{key_text, plain_keys}, declared.run.Run.{Run, TheVariants.{Many, One}}}
 use Rattle.taxi_units.specs.declared.event.Event.TheVariants as events
-use Rattle.taxi_units.specs.declared.event.Key.{Key}
-use Rattle.taxi_units.specs.declared.event.Key.TheVariants.{Position, Zone, Extra}
-use Rattle.drive_text.specs.declared.run.Run.{Run}
-use Rattle.drive_text.specs.declared.run.Run.TheVariants.{One, Many}
-use Rattle.drive_text.specs.Fields.{second_in, plain_key, numbered_key, one, intervals_of, run_of_one_field}
-use Rattle.drive_text.specs.Fields.{run_of_two_fields, run_of_three_fields, run_of_fields, text_runs, line_runs}
-use Rattle.drive_text.specs.Table.{Means}
-use Rattle.drive_text.specs.Table.Means.{empty, comment, up, down, clock, pulses, tick, intervals, plain, position}
-use Rattle.drive_text.specs.Table.Means.{zone, extra}
-use Rattle.drive_text.specs.Ranges.{IsKeyInRange}
-use Rattle.drive_text.specs.Written.{key_text, plain_keys}
-use Rattle.drive_text.proofs.Blanks.{none_tests}
-use Rattle.drive_text.proofs.Numbers.{number_sound, number_complete, digits_blankless}
 
 -- ---- what the table has is what the line means
 

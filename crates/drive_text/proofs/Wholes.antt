@@ -1,25 +1,17 @@
 -- The first bad line and the runs of a text are those that its lines say.
-use Rattle.std.proofs.Common.{◌≡◌, ◌⊎◌, inl, inr, ◌↔◌, ℕ, ◌+◌, Bool, true, false, cond, List, [], ◌∷◌, ◌++◌, length}
-use Rattle.std.proofs.Common.{refl, ap, sym, ◌∙◌, subst, arith, eqb, append_assoc, Option, Some, None, All}
-use Rattle.std.proofs.Common.{is_none}
-use Rattle.std.specs.List.{position_from}
-use Rattle.std.proofs.Math.Seq.{take-append_seam, drop-append_seam}
-use Rattle.std.proofs.lemmas.Bool.{eqb-true}
-use Rattle.std.proofs.lemmas.List.{append-nil}
-use Rattle.std.proofs.lemmas.List.Elements.{All-append, All-cons, All-head, All-nil, All-take, All-drop}
+use Rattle.{std.specs.List.{position_from}, drive_text.proofs.Parts.{lines_of, one_line, text_append}}
+use Rattle.std.proofs.Common.{[], ℕ, ◌++◌, ◌+◌, ◌↔◌, ◌∙◌, ◌∷◌, ◌≡◌, ◌⊎◌, All, Bool, List, None, Option, Some, ap}
+use Rattle.std.proofs.Common.{append_assoc, arith, cond, eqb, false, inl, inr, is_none, length, refl, subst, sym, true}
+use Rattle.std.proofs.{Math.Seq.{drop-append_seam, take-append_seam}, lemmas.Bool.{eqb-true}}
+use Rattle.std.proofs.lemmas.List.{append-nil, Elements.{All-append, All-cons, All-drop, All-head, All-nil, All-take}}
+use Rattle.drive_text.specs.Drive.{bad_at_end, first_bad, first_bad_line, or_else, runs_in, runs_of_lines}
+use Rattle.drive_text.specs.{Fields.{line_runs}, Lines.{IsOneLine, ended_lines, is_too_long, text_of, unfinished_line}}
+use Rattle.drive_text.specs.Whole.{BreaksAt, EndsWhole, GiveAll, HasBadLine, IsBad, IsGood, IsReadAs}
+use Rattle.drive_text.{specs.Whole.GiveAll.{no_line, one_more}, proofs.Cuts.{bad_ended, bad_long, why_bad}}
 use Rattle.drive_text.specs.declared.run.Run.{Run}
-use Rattle.drive_text.specs.Drive.{or_else, first_bad_line, first_bad, bad_at_end, runs_of_lines, runs_in}
-use Rattle.drive_text.specs.Fields.{line_runs}
-use Rattle.drive_text.specs.Lines.{ended_lines, unfinished_line, text_of, is_too_long, IsOneLine}
-use Rattle.drive_text.specs.Whole.{GiveAll, IsBad, IsGood, HasBadLine, BreaksAt, IsReadAs, EndsWhole}
-use Rattle.drive_text.specs.Whole.GiveAll.{no_line, one_more}
-use Rattle.drive_text.proofs.Cuts.{why_bad, bad_ended, bad_long}
-use Rattle.drive_text.proofs.LineLaw.{lines_make_the_text}
-use Rattle.drive_text.proofs.Parts.{lines_of, one_line, text_append}
-use Rattle.drive_text.proofs.Positions.{runs_while-cons, and_then, first_bad_line-append, first_bad_line-bad}
-use Rattle.drive_text.proofs.Positions.{runs_of_lines-bad, runs_of_lines-good, runs_of_lines-bad_one}
-use Rattle.drive_text.proofs.Standing.{none_by, none_of}
-use Rattle.drive_text.proofs.Table.{line_runs-table}
+use Rattle.drive_text.proofs.{LineLaw.{lines_make_the_text}, ReaderPlaces.{none_by, none_of}, Table.{line_runs-table}}
+use Rattle.drive_text.proofs.Positions.{and_then, first_bad_line-append, first_bad_line-bad, runs_of_lines-bad}
+use Rattle.drive_text.proofs.Positions.{runs_of_lines-bad_one, runs_of_lines-good, runs_while-cons}
 
 -- if the first of lines that are counted from a number is bad
 abbrev found_from : ℕ → List (List ℕ) → Option ℕ

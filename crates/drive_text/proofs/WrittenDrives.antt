@@ -1,22 +1,13 @@
 -- The lines of events, and the drive of all of them.
-use Rattle.std.proofs.Common.{◌≡◌, ◌∙◌, ℕ, ◌+◌, ◌^◌, ◌<◌, ◌≤◌, List, [], ◌∷◌, ◌++◌, All, None, ap, sym, refl}
-use Rattle.std.proofs.Common.{append_assoc, arith, decimal, flat_map, length, length-append}
-use Rattle.std.proofs.lemmas.Grind.{flat_map-append}
-use Rattle.std.proofs.lemmas.List.{append-nil}
-use Rattle.std.proofs.lemmas.List.Elements.{All-head, All-tail}
-use Rattle.taxi_units.specs.declared.event.Event.{Event}
-use Rattle.taxi_units.specs.declared.event.Event.TheVariants.{Up, Pulses, Clock}
+use Rattle.std.proofs.Common.{[], ℕ, ◌++◌, ◌+◌, ◌<◌, ◌^◌, ◌∙◌, ◌∷◌, ◌≡◌, ◌≤◌, All, List, None, ap, append_assoc, arith}
+use Rattle.std.proofs.{Common.{decimal, flat_map, length, length-append, refl, sym}, lemmas.Grind.{flat_map-append}}
+use Rattle.std.proofs.lemmas.List.{append-nil, Elements.{All-head, All-tail}}
+use Rattle.{taxi_units.proofs.Laws.{numbers_are_short}, drive_text.specs.Drive.{bad_at_end, events_in, runs_in}}
+use Rattle.drive_text.{specs.Common.{Clock, Event, Extra, Position, Pulses, Up, Zone}, proofs.Ends.{whole_drive_ends}}
+use Rattle.drive_text.specs.{Ending.{ReachesEnd, Whole, drive_end, events_of, stream_limit}, Ranges.{IsInRange}}
+use Rattle.drive_text.{specs.Runs.{run_events}, proofs.ReadBack.{bad_at_end-event_text, runs_in-event_text}}
+use Rattle.drive_text.specs.{Written.{drive_of, event_fields, event_text, key_text}, declared.run.Run.TheVariants.{One}}
 use Rattle.taxi_units.specs.declared.event.Event.TheVariants as events
-use Rattle.taxi_units.specs.declared.event.Key.TheVariants.{Position, Zone, Extra}
-use Rattle.taxi_units.proofs.Laws.{numbers_are_short}
-use Rattle.drive_text.specs.Drive.{bad_at_end, events_in, runs_in}
-use Rattle.drive_text.specs.Ending.{ReachesEnd, Whole, drive_end, events_of, stream_limit}
-use Rattle.drive_text.specs.Ranges.{IsInRange}
-use Rattle.drive_text.specs.Runs.{run_events}
-use Rattle.drive_text.specs.Written.{drive_of, event_fields, event_text, key_text}
-use Rattle.drive_text.specs.declared.run.Run.TheVariants.{One}
-use Rattle.drive_text.proofs.Ends.{whole_drive_ends}
-use Rattle.drive_text.proofs.ReadBack.{bad_at_end-event_text, runs_in-event_text}
 
 -- a number below a power of ten, and one byte behind it
 number_line : (places value byte : ℕ) → 0 < places → places ≤ 64 → value < 10 ^ places

@@ -1,11 +1,8 @@
 -- Rules: what the bytes of a drive mean, by their lines.
-use Rattle.std.specs.Prelude.{ℕ, ◌+◌, List, [], ◌++◌, length, drop, if◌then◌else◌, ◌==◌, Option, Some, None, is_some, is_none, unwrap_or, flat_map, take_while}
-use Rattle.std.specs.List.{position_from}
-use Rattle.taxi_units.specs.declared.event.Event.{Event}
-use Rattle.drive_text.specs.declared.run.Run.{Run}
-use Rattle.drive_text.specs.Runs.{run_events}
-use Rattle.drive_text.specs.Lines.{ended_lines, unfinished_line, is_too_long}
-use Rattle.drive_text.specs.Fields.{line_runs}
+use Rattle.std.specs.{List.{position_from}, Prelude.{is_some, length, take_while, unwrap_or}}
+use Rattle.std.specs.Prelude.{[], ℕ, ◌++◌, ◌+◌, ◌==◌, List, None, Option, Some, drop, flat_map, if◌then◌else◌, is_none}
+use Rattle.drive_text.specs.{Common.{Event}, Lines.{ended_lines, is_too_long, unfinished_line}, declared.run.Run.{Run}}
+use Rattle.drive_text.specs.{Fields.{line_runs}, Runs.{run_events}}
 
 -- one answer or else another is the first if there is one, and else the second
 abbrev pub or_else : Option ℕ → Option ℕ → Option ℕ

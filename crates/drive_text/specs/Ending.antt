@@ -1,11 +1,9 @@
 -- Rules: how a drive ends, and what the bytes of it that were taken tell of that. It is a stream, whose bad places are
 -- the numbers of its lines.
-use Rattle.std.specs.Prelude.{List, ℕ}
+use Rattle.{std.specs.Prelude.{ℕ, List}, taxi_units.specs.Streams.{StreamKind, end_of, given_of}}
+use Rattle.drive_text.specs.{Common.{Event}, Drive.{bad_at_end, events_in, first_bad}}
 use Rattle.taxi_units.specs.Streams as streams
-use Rattle.taxi_units.specs.Streams.{StreamKind, end_of, given_of}
-pub use Rattle.taxi_units.specs.Streams.{StreamEnd, Whole, BadAt, Endless, IsSplit, stream_limit}
-use Rattle.taxi_units.specs.declared.event.Event.{Event}
-use Rattle.drive_text.specs.Drive.{events_in, first_bad, bad_at_end}
+pub use Rattle.taxi_units.specs.Streams.{BadAt, Endless, IsSplit, StreamEnd, Whole, stream_limit}
 
 -- drives are the kind of streams that tells of bytes their first bad line
 abbrev pub drives : StreamKind

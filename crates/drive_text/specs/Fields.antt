@@ -1,21 +1,12 @@
 -- By law: what a line of a drive gives, read field by field as the code reads it. The law
 -- lines_give_what_the_table_says says what a line means, by the table in Table.
-use Rattle.std.specs.Prelude.{ℕ, List, [], ◌∷◌, length, nat_lt, ◌==◌, if◌then◌else◌, Option, Some, None, codes}
-use Rattle.std.specs.Option.{option_map}
-use Rattle.std.specs.List.{find, slice_split}
-use Rattle.std.specs.Str.Lines.{strip_carriage_return}
-use Rattle.taxi_units.specs.Number.{number_in}
-use Rattle.taxi_units.specs.Reading.{◌>>=◌}
-use Rattle.taxi_units.specs.Time.{first_second, last_second}
-use Rattle.taxi_units.specs.Words.{is_word}
-use Rattle.taxi_units.specs.declared.event.Event.{Event}
-use Rattle.taxi_units.specs.declared.event.Event.TheVariants.{Up, Down, Pulses, Tick, Clock}
-use Rattle.taxi_units.specs.declared.event.Event.TheVariants as events
-use Rattle.taxi_units.specs.declared.event.Key.{Key}
-use Rattle.taxi_units.specs.declared.event.Key.TheVariants.{Position, Zone, Extra}
-use Rattle.drive_text.specs.declared.run.Run.{Run}
-use Rattle.drive_text.specs.declared.run.Run.TheVariants.{One, Many}
+use Rattle.std.specs.{List.{find, slice_split}, Option.{option_map}, Str.Lines.{strip_carriage_return}}
+use Rattle.std.specs.Prelude.{[], ℕ, ◌==◌, ◌∷◌, List, None, Option, Some, codes, if◌then◌else◌, length, nat_lt}
+use Rattle.taxi_units.specs.{Reading.{◌>>=◌}, Words.{is_word}}
+use Rattle.drive_text.specs.Common.{Clock, Down, Event, Extra, Key, Position, Pulses, Tick, Up, Zone, first_second}
+use Rattle.drive_text.specs.{Common.{last_second, number_in}, declared.run.Run.{Run, TheVariants.{Many, One}}}
 use Rattle.drive_text.specs.Written.{key_text, plain_keys}
+use Rattle.taxi_units.specs.declared.event.Event.TheVariants as events
 
 -- the second of a field, if the field is a number of the meter's seconds
 abbrev pub second_in : List ℕ → Option ℕ

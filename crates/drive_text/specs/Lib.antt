@@ -12,3 +12,4 @@ pub mod Runs
 pub mod Table
 pub mod Whole
 pub mod Written
+pub mod Common

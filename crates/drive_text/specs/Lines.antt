@@ -1,8 +1,7 @@
 -- Rules: the lines of a text, each of which an LF ends, and one CR directly before it is no part of it.
-use Rattle.std.specs.Prelude.{ℕ, ◌∷◌, ◌++◌, [], flat_map, List, Bool, false, not, length, nat_lt, ◌==◌, ◌&&◌}
-use Rattle.std.specs.List.{slice_split}
-use Rattle.std.specs.Str.Lines.{strip_carriage_return}
-pub use Rattle.taxi_units.specs.Parting.{HasNone}
+use Rattle.std.specs.{List.{slice_split}, Str.Lines.{strip_carriage_return}}
+use Rattle.std.specs.Prelude.{[], ℕ, ◌&&◌, ◌++◌, ◌==◌, ◌∷◌, Bool, List, false, flat_map, length, nat_lt, not}
+pub use Rattle.taxi_units.specs.PartedBytes.{HasNone}
 
 -- all but the last of a list of parts are its parts without the last one, and nothing if there is none
 abbrev pub all_but_last : List (List ℕ) → List (List ℕ)

@@ -1,11 +1,8 @@
 -- For proofs: what becomes of one part of a piece, which is a line with its LF, or what is left of the piece if no LF
 -- comes.
-use Rattle.std.specs.Prelude.{◌≡◌, ℕ, ◌+◌, ◌<◌, ◌≤◌, List, ◌++◌, length, take, true, false, All}
-use Rattle.drive_text.specs.declared.run.Run.{Run}
-use Rattle.drive_text.specs.declared.state.State.{State}
-use Rattle.drive_text.specs.Drive.{runs_in}
-use Rattle.drive_text.specs.Ranges.{IsRunInRange}
-use Rattle.drive_text.specs.Reading.{Reading, HasTaken}
+use Rattle.std.specs.Prelude.{ℕ, ◌++◌, ◌+◌, ◌<◌, ◌≡◌, ◌≤◌, All, List, false, length, take, true}
+use Rattle.drive_text.specs.{Drive.{runs_in}, Ranges.{IsRunInRange}}
+use Rattle.drive_text.specs.{Reading.{HasTaken, Reading}, declared.{run.Run.{Run}, state.State.{State}}}
 
 -- the state of a reader, as contracts see it
 abbrev pub reading_of : State → Reading

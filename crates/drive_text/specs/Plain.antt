@@ -1,9 +1,7 @@
 -- For proofs: a line that is read in one pass from the front of bytes. What a line gives is told by the law
 -- lines_give_what_the_table_says.
-use Rattle.std.specs.Prelude.{◌≡◌, ℕ, List, [], ◌∷◌, ◌++◌, Some}
-use Rattle.taxi_units.specs.Digits.{AreDigitsOf}
-use Rattle.drive_text.specs.declared.run.Run.{Run}
-use Rattle.drive_text.specs.Fields.{line_runs}
+use Rattle.std.specs.Prelude.{[], ℕ, ◌++◌, ◌∷◌, ◌≡◌, List, Some}
+use Rattle.{taxi_units.specs.Digits.{AreDigitsOf}, drive_text.specs.{Fields.{line_runs}, declared.run.Run.{Run}}}
 use Rattle.drive_text.specs.Lines.{IsOneLine}
 
 -- bytes begin with a short number if 1 to 5 digits of it are in front of the rest

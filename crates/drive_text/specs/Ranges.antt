@@ -1,12 +1,9 @@
 -- Rules: the numbers that a drive may have.
-use Rattle.std.specs.Prelude.{◌≤◌, ⊤}
-use Rattle.taxi_units.specs.Time.{IsSecond}
-use Rattle.taxi_units.specs.declared.event.Event.{Event}
-use Rattle.taxi_units.specs.declared.event.Event.TheVariants.{Up, Down, Pulses, Tick, Clock, Key}
+use Rattle.std.specs.Prelude.{⊤, ◌≤◌}
+use Rattle.taxi_units.specs.{Time.{IsSecond}, declared.event.Event.TheVariants.{Key}}
+use Rattle.drive_text.specs.Common.{Clock, Down, Event, Extra, Position, Pulses, Tick, Up, Zone}
+use Rattle.drive_text.specs.declared.run.Run.{Run, TheVariants.{Many, One}}
 use Rattle.taxi_units.specs.declared.event.Key as keys
-use Rattle.taxi_units.specs.declared.event.Key.TheVariants.{Position, Zone, Extra}
-use Rattle.drive_text.specs.declared.run.Run.{Run}
-use Rattle.drive_text.specs.declared.run.Run.TheVariants.{One, Many}
 
 -- a key is in range if its number, if it has one, is at most 99
 abbrev pub IsKeyInRange : keys.Key → Type 0

@@ -1,8 +1,7 @@
 -- By law: what a reader of a drive keeps of the bytes that it has taken. The law a_reader_is_known_by_its_bytes says
 -- that nothing else matters.
-use Rattle.std.specs.Prelude.{◌≡◌, ℕ, ◌+◌, List, [], length, Bool, true, false, if◌then◌else◌, ◌==◌, MatchOption}
-use Rattle.drive_text.specs.Lines.{ended_lines, unfinished_line, is_comment}
-use Rattle.drive_text.specs.Drive.{first_bad_of}
+use Rattle.std.specs.Prelude.{[], ℕ, ◌+◌, ◌==◌, ◌≡◌, Bool, List, MatchOption, false, if◌then◌else◌, length, true}
+use Rattle.drive_text.specs.{Drive.{first_bad_of}, Lines.{ended_lines, is_comment, unfinished_line}}
 
 -- a reader keeps how many lines were begun, the bytes of an unfinished line that isn't a comment, whether the
 -- unfinished line is a comment, and whether a bad line came

@@ -1,9 +1,8 @@
 -- Rules: what a reader of a drive does with the next piece of its bytes. What a reader keeps of the bytes before is
 -- told by the law a_reader_is_known_by_its_bytes.
-use Rattle.std.specs.Prelude.{◌≡◌, ◌⊎◌, ℕ, ◌<◌, ◌≤◌, List, ◌++◌, length, take, None, Some}
-use Rattle.drive_text.specs.declared.run.Run.{Run}
-use Rattle.drive_text.specs.Drive.{first_bad, runs_after}
-pub use Rattle.drive_text.specs.ReaderState.{Reading, StandsIn, HasFailed, HasTakenLines, HasTaken, HasSense}
+use Rattle.std.specs.Prelude.{ℕ, ◌++◌, ◌<◌, ◌≡◌, ◌≤◌, ◌⊎◌, List, None, Some, length, take}
+use Rattle.drive_text.specs.{Drive.{first_bad, runs_after}, declared.run.Run.{Run}}
+pub use Rattle.drive_text.specs.ReaderState.{HasFailed, HasSense, HasTaken, HasTakenLines, Reading, StandsIn}
 
 -- a reader that has taken `before` takes a piece up to a place if no line is bad up to there and the runs of the bytes
 -- taken are appended to the list. The place is the first at which the list has 64 runs, or else the piece's end

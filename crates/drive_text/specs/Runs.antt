@@ -1,9 +1,6 @@
 -- Rules: the events of a run.
-use Rattle.std.specs.Prelude.{ℕ, zero, suc, List, [], ◌∷◌, ◌++◌, if◌then◌else◌, ◌==◌}
-use Rattle.taxi_units.specs.declared.event.Event.{Event}
-use Rattle.taxi_units.specs.declared.event.Event.TheVariants.{Pulses, Tick}
-use Rattle.drive_text.specs.declared.run.Run.{Run}
-use Rattle.drive_text.specs.declared.run.Run.TheVariants.{One, Many}
+use Rattle.std.specs.Prelude.{[], ℕ, ◌++◌, ◌==◌, ◌∷◌, List, if◌then◌else◌, suc, zero}
+use Rattle.drive_text.specs.{Common.{Event, Pulses, Tick}, declared.run.Run.{Run, TheVariants.{Many, One}}}
 
 -- a measuring interval has the event of its pulses, if it has any, and then the tick at its end
 abbrev pub interval_events : ℕ → List Event

@@ -1,14 +1,9 @@
 -- Rules: the lines of a drive, as a table.
-use Rattle.std.specs.Prelude.{ℕ, List, [], ◌∷◌, ◌++◌, Contains, codes}
-use Rattle.taxi_units.specs.Time.{first_second, last_second}
-use Rattle.taxi_units.specs.declared.event.Event.TheVariants.{Up, Down, Pulses, Tick, Clock}
-use Rattle.taxi_units.specs.declared.event.Event.TheVariants as events
-use Rattle.taxi_units.specs.declared.event.Key.{Key}
-use Rattle.taxi_units.specs.declared.event.Key.TheVariants.{Position, Zone, Extra}
-use Rattle.drive_text.specs.declared.run.Run.{Run}
-use Rattle.drive_text.specs.declared.run.Run.TheVariants.{One, Many}
+use Rattle.std.specs.Prelude.{[], ℕ, ◌++◌, ◌∷◌, Contains, List, codes}
+use Rattle.drive_text.specs.Common.{Clock, Down, Extra, IsNumberIn, Key, Position, Pulses, Tick, Up, Zone, first_second}
+use Rattle.drive_text.specs.{Common.{last_second}, declared.run.Run.{Run, TheVariants.{Many, One}}}
 use Rattle.drive_text.specs.Written.{key_text, plain_keys}
-use Rattle.taxi_units.specs.Digits.{IsNumberIn}
+use Rattle.taxi_units.specs.declared.event.Event.TheVariants as events
 
 -- a line without its line end means no run if it is empty or a comment, and else the one run that its word and its
 -- numbers say

@@ -1,10 +1,7 @@
 -- Rules: what the whole text of a drive says, line by line, and what pieces of it give.
-use Rattle.std.specs.Prelude.{◌≡◌, ◌⊎◌, ℕ, ◌+◌, List, [], ◌∷◌, ◌++◌, length, Option, Some, None, All, true, false, flat_map}
-use Rattle.std.specs.Str.Lines.{strip_carriage_return}
-use Rattle.drive_text.specs.declared.run.Run.{Run}
-use Rattle.drive_text.specs.Drive.{runs_after}
-use Rattle.drive_text.specs.Lines.{text_of, is_too_long, IsOneLine}
-use Rattle.drive_text.specs.Table.{Means}
+use Rattle.std.specs.Prelude.{[], ℕ, ◌++◌, ◌+◌, ◌∷◌, ◌≡◌, ◌⊎◌, All, List, None, Option, Some, false, flat_map, length}
+use Rattle.{std.specs.{Prelude.{true}, Str.Lines.{strip_carriage_return}}, drive_text.specs.declared.run.Run.{Run}}
+use Rattle.drive_text.specs.{Drive.{runs_after}, Lines.{IsOneLine, is_too_long, text_of}, Table.{Means}}
 
 -- lines give runs if each line gives what the table says of it, after one CR at its end is dropped, one after another
 pub data GiveAll : List (List ℕ) → List Run → Type 0 where

@@ -1,10 +1,8 @@
 -- Rules: the line that is written for an event, and the keys that are written without a number.
-use Rattle.std.specs.Prelude.{ℕ, List, [], ◌∷◌, ◌++◌, codes, decimal, flat_map}
-use Rattle.taxi_units.specs.declared.event.Event.{Event}
-use Rattle.taxi_units.specs.declared.event.Event.TheVariants.{Up, Down, Pulses, Tick, Clock}
+use Rattle.std.specs.Prelude.{[], ℕ, ◌++◌, ◌∷◌, List, codes, decimal, flat_map}
+use Rattle.taxi_units.specs.declared.event.Key.TheVariants.{Clear, Hire, Stop}
+use Rattle.drive_text.specs.Common.{Clock, Down, Event, Extra, Key, Position, Pulses, Tick, Up, Zone}
 use Rattle.taxi_units.specs.declared.event.Event.TheVariants as events
-use Rattle.taxi_units.specs.declared.event.Key.{Key}
-use Rattle.taxi_units.specs.declared.event.Key.TheVariants.{Hire, Stop, Clear, Position, Zone, Extra}
 
 -- a key is written by its letter, and by its number in decimal if it has one
 unfoldable pub key_text : Key → List ℕ

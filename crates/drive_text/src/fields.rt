@@ -1,14 +1,10 @@
 //! What one line of a drive gives.
-ghost use Rattle.std.specs.Prelude.{◌≡◌, ◌∷◌, [], ◌==◌, nat_lt, length, IfSome};
-ghost use Rattle.std.specs.Str.Lines.{strip_carriage_return};
-ghost use Rattle.std.specs.List.{slice_split};
-ghost use Rattle.std.specs.Option.{option_map_or};
-ghost use Rattle.taxi_units.specs.Reading.{Gives};
-ghost use Rattle.taxi_units.specs.Time.{IsSecond};
+ghost use Rattle.{std.specs.{List.{slice_split}, Option.{option_map_or}}, taxi_units.specs.Reading.{Gives}};
+ghost use Rattle.std.specs.{Prelude.{[], ◌==◌, ◌∷◌, ◌≡◌, IfSome, length, nat_lt}, Str.Lines.{strip_carriage_return}};
+ghost use Rattle.{taxi_units.specs.Time.{IsSecond}, drive_text.specs.Fields.{line_runs, text_runs}};
+ghost use Rattle.drive_text.specs.Content.{runs_of};
 ghost use Rattle.drive_text.specs.Fields as spec;
 ghost use Rattle.drive_text.specs.Lines as lines;
-ghost use Rattle.drive_text.specs.Fields.{text_runs, line_runs};
-ghost use Rattle.drive_text.specs.Content.{runs_of};
 
 use crate::keys::{numbered_key, plain_key};
 use crate::run::Run;

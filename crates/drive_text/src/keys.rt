@@ -1,9 +1,8 @@
 //! The keys of a drive, read and written.
-ghost use Rattle.std.specs.Prelude.{◌≡◌, ◌+◌, ◌≤◌, ◌++◌, IsOk};
-ghost use Rattle.arrayvec.specs.ArrayVec.{array_vec_len};
-ghost use Rattle.drive_text.specs.Fields as spec;
-ghost use Rattle.drive_text.specs.Ranges.{IsKeyInRange};
+ghost use Rattle.std.specs.Prelude.{◌++◌, ◌+◌, ◌≡◌, ◌≤◌, IsOk};
+ghost use Rattle.{arrayvec.specs.ArrayVec.{array_vec_len}, drive_text.specs.Ranges.{IsKeyInRange}};
 ghost use Rattle.drive_text.specs.Written.{key_text};
+ghost use Rattle.drive_text.specs.Fields as spec;
 
 use crate::written::put_numbered;
 use taxi_units::{Key, Line, LineFull, is_word, number_in, put_bytes};

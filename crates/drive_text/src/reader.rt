@@ -1,9 +1,7 @@
 //! Reads a drive in any pieces.
-ghost use Rattle.std.specs.Prelude.{◌≡◌, ℕ, ◌+◌, ◌<◌, ◌≤◌, ◌^◌, ◌++◌, [], List, All, length, take, true, false, None, Some, IfOk, IfErr, OnOk, OnErr};
-ghost use Rattle.arrayvec.specs.ArrayVec.{array_vec_len};
-ghost use Rattle.drive_text.specs.Drive.{bad_at_end};
-ghost use Rattle.drive_text.specs.Ranges.{IsRunInRange};
-ghost use Rattle.drive_text.specs.Reading.{HasTaken, TakesTo, BreaksIn};
+ghost use Rattle.std.specs.Prelude.{[], ℕ, ◌++◌, ◌+◌, ◌<◌, ◌^◌, ◌≡◌, ◌≤◌, All, IfErr, IfOk, List, None, OnErr, OnOk};
+ghost use Rattle.{std.specs.Prelude.{Some, false, length, take, true}, arrayvec.specs.ArrayVec.{array_vec_len}};
+ghost use Rattle.drive_text.specs.{Drive.{bad_at_end}, Ranges.{IsRunInRange}, Reading.{BreaksIn, HasTaken, TakesTo}};
 
 use crate::run::Run;
 use crate::state::State;
@@ -26,8 +24,7 @@ pub struct Reader {
 }
 
 impl Model for Reader {
-    ghost use Rattle.drive_text.specs.Reading.{Reading, HasSense};
-    ghost use Rattle.drive_text.specs.Part.{reading_of};
+    ghost use Rattle.drive_text.specs.{Part.{reading_of}, Reading.{HasSense, Reading}};
 
     ghost Value = { Reading };
 

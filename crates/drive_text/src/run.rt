@@ -14,8 +14,7 @@ pub enum Run {
 
 impl Default for Run {
     ghost use Rattle.std.specs.Prelude.{◌≡◌};
-    ghost use Rattle.taxi_units.specs.declared.event.Event.TheVariants.{Tick};
-    ghost use Rattle.drive_text.specs.declared.run.Run.TheVariants.{One};
+    ghost use Rattle.drive_text.specs.{Common.{Tick}, declared.run.Run.TheVariants.{One}};
 
     ghost is_default = { λ run. run ≡ One Tick };
 

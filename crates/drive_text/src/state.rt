@@ -1,12 +1,9 @@
 //! What a reader keeps, and what one part of a piece changes of it.
-ghost use Rattle.std.specs.Prelude.{◌≡◌, ◌∷◌, ◌++◌, ◌+◌, ◌<◌, ◌^◌, [], List, length, false, if◌then◌else◌, ◌==◌, IfOk, IfErr, OnErr};
-ghost use Rattle.arrayvec.specs.ArrayVec.{array_vec_len};
-ghost use Rattle.taxi_units.specs.Reading.{Gives};
-ghost use Rattle.drive_text.specs.declared.run.Run.{Run};
-ghost use Rattle.drive_text.specs.Fields.{line_runs};
-ghost use Rattle.drive_text.specs.Lines.{is_comment, IsOneLine};
-ghost use Rattle.drive_text.specs.Content.{runs_of};
-ghost use Rattle.drive_text.specs.Reading.{HasTaken, HasFailed, HasSense};
+ghost use Rattle.std.specs.Prelude.{[], ◌++◌, ◌+◌, ◌<◌, ◌==◌, ◌^◌, ◌∷◌, ◌≡◌, IfErr, IfOk, List, OnErr, false};
+ghost use Rattle.std.specs.Prelude.{if◌then◌else◌, length};
+ghost use Rattle.{arrayvec.specs.ArrayVec.{array_vec_len}, taxi_units.specs.Reading.{Gives}};
+ghost use Rattle.drive_text.specs.{Content.{runs_of}, Fields.{line_runs}, declared.run.Run.{Run}};
+ghost use Rattle.drive_text.specs.{Lines.{IsOneLine, is_comment}, Reading.{HasFailed, HasSense, HasTaken}};
 
 use crate::fields;
 use crate::fields::{Content, content_of_line, is_long, without_carriage_return};
@@ -27,7 +24,7 @@ pub(crate) struct State {
 }
 
 impl State {
-    ghost use Rattle.drive_text.specs.Part.{reading_of, TakesPart, FailsIn};
+    ghost use Rattle.drive_text.specs.Part.{FailsIn, TakesPart, reading_of};
 
     /// Before the first byte.
     pub(crate) fn new() -> State

@@ -1,9 +1,7 @@
 //! Writes the line of one event.
-ghost use Rattle.std.specs.Prelude.{◌≡◌, ◌+◌, ◌^◌, ◌<◌, ◌≤◌, ◌++◌, ◌↔◌, length, decimal, IsOk, OnOk, OnErr};
-ghost use Rattle.arrayvec.specs.ArrayVec.{array_vec_len};
-ghost use Rattle.taxi_units.specs.Line.{line_size};
-ghost use Rattle.drive_text.specs.Ranges.{IsInRange};
-ghost use Rattle.drive_text.specs.Written.{event_text, event_fields};
+ghost use Rattle.std.specs.Prelude.{◌++◌, ◌+◌, ◌<◌, ◌^◌, ◌↔◌, ◌≡◌, ◌≤◌, IsOk, OnErr, OnOk, decimal, length};
+ghost use Rattle.{arrayvec.specs.ArrayVec.{array_vec_len}, taxi_units.specs.Line.{line_size}};
+ghost use Rattle.drive_text.specs.{Ranges.{IsInRange}, Written.{event_fields, event_text}};
 
 use crate::keys::put_key;
 use taxi_units::{Event, Line, LineFull, put_bytes, put_number};

@@ -1,7 +1,7 @@
 //! The hiring log: the program.
 #![tactic(auto)]
 
-ghost use Rattle.std.specs.Prelude.{◌≡◌, ◌<◌};
+ghost use Rattle.std.specs.Prelude.{◌<◌, ◌≡◌};
 
 use log_commands::{Call, call_in, keep_log};
 use outside::{FileLog, HostFiles, program_words};

@@ -1,12 +1,10 @@
 -- How the days of the calendar follow one another.
-use Rattle.std.proofs.Common.{◌≡◌, ◌∙◌, Bool, false, slice_index, if◌then◌else◌, sum, take, ap, rules, ℕ, zero, suc}
-use Rattle.std.proofs.Common.{◌+◌, ◌-◌, ◌<◌, ◌≤◌, ℤ, pos, ◌+ℤ◌, refl, subst, sym, inl, inr, true, arith}
-use Rattle.std.proofs.lemmas.Bool.{cases_lt, le-ltb, lt-ltb}
-use Rattle.jiff.proofs.SpanFacts.{signed_arith}
-use Rattle.std.proofs.lemmas.List.Sums.{sum_by_more}
-use Rattle.interval_clock.specs.declared.day_numbers.CalendarDate.{CalendarDate}
-use Rattle.interval_clock.specs.Calendar.{date_place, month_lengths, days_of_years, days_of_months, days_of_month}
-use Rattle.interval_clock.specs.Calendar.{days_of_year, place_in_year, IsDateOf, is_leap_year, next_date, date_after}
+use Rattle.std.proofs.Common.{ℕ, ℤ, ◌+ℤ◌, ◌+◌, ◌-◌, ◌<◌, ◌∙◌, ◌≡◌, ◌≤◌, Bool, ap, arith, false, if◌then◌else◌, inl, inr}
+use Rattle.std.proofs.Common.{pos, refl, rules, slice_index, subst, suc, sum, sym, take, true, zero}
+use Rattle.std.proofs.lemmas.{Bool.{cases_lt, le-ltb, lt-ltb}, List.Sums.{sum_by_more}}
+use Rattle.{jiff.proofs.SpanFacts.{signed_arith}, interval_clock.specs.declared.day_numbers.CalendarDate.{CalendarDate}}
+use Rattle.interval_clock.specs.Calendar.{IsDateOf, date_after, date_place, days_of_month, days_of_months, days_of_year}
+use Rattle.interval_clock.specs.Calendar.{days_of_years, is_leap_year, month_lengths, next_date, place_in_year}
 
 -- a year ends where the next one begins
 pub days_of_years-next : (year : ℕ) → days_of_years (year + 1) ≡ days_of_years year + days_of_year year

@@ -1,17 +1,14 @@
 -- The dates that jiff gives are those of the calendar.
-use Rattle.std.proofs.Common.{◌≡◌, ℕ, zero, suc, ◌+◌, ◌-◌, ◌≤◌, Bool, ◌==◌, ◌||◌, if◌then◌else◌, slice_index, ℤ, pos}
-use Rattle.std.proofs.Common.{negsuc, unsigned_abs, ◌+ℤ◌, ◌-ℤ◌, ◌≤ℤ◌, refl, sym, arith, rules}
-use Rattle.std.proofs.lemmas.Int.{by_lt_z}
-use Rattle.jiff_core.specs.declared.civil.date.Date.{Date}
-use Rattle.jiff_core.specs.Calendar as jiff
-use Rattle.jiff_core.specs.Date.{epoch_day, IsYmd}
-use Rattle.jiff_core.proofs.SignedLemmas.{signed_arith}
-use Rattle.jiff_core.proofs.CalendarLemmas.{days_in_month_bounds, days_from_civil-day_count, day_count-epoch}
-use Rattle.jiff_core.proofs.CalendarLemmas.{day_count-lt_year}
-use Rattle.jiff_core.proofs.MarchLemmas.{day_count-early}
-use Rattle.interval_clock.specs.Calendar.{days_of_years, days_of_months, days_of_month, is_leap_year, month_lengths}
-use Rattle.interval_clock.specs.Calendar.{place_in_year, IsDateOf, weekday_of}
+use Rattle.std.proofs.Common.{ℕ, ℤ, ◌+ℤ◌, ◌+◌, ◌-ℤ◌, ◌-◌, ◌==◌, ◌||◌, ◌≡◌, ◌≤ℤ◌, ◌≤◌, Bool, arith, if◌then◌else◌}
+use Rattle.std.proofs.Common.{negsuc, pos, refl, rules, slice_index, suc, sym, unsigned_abs, zero}
+use Rattle.{std.proofs.lemmas.Int.{by_lt_z}, jiff_core.proofs.CalendarLemmas.{days_in_month_bounds}}
+use Rattle.jiff_core.{specs.Date.{IsYmd, epoch_day}, proofs.SignedLemmas.{signed_arith}}
+use Rattle.jiff_core.{specs.declared.civil.date.Date.{Date}, proofs.MarchLemmas.{day_count-early}}
+use Rattle.jiff_core.proofs.CalendarLemmas.{day_count-epoch, day_count-lt_year, days_from_civil-day_count}
+use Rattle.interval_clock.specs.Calendar.{IsDateOf, days_of_month, days_of_months, days_of_years, is_leap_year}
+use Rattle.interval_clock.specs.Calendar.{month_lengths, place_in_year, weekday_of}
 use Rattle.interval_clock.proofs.CalendarDays.{days_of_months-none, days_of_months-suc, each_month}
+use Rattle.jiff_core.specs.Calendar as jiff
 
 leap_or_not : (leap : Bool) (month : ℕ) → 1 ≤ month → month ≤ 12 → (if month == 2 then (if leap then 29 else 28)
     else (if (month == 4) || (month == 6) || (month == 9) || (month == 11) then 30 else 31))

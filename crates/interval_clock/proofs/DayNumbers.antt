@@ -1,13 +1,9 @@
 -- The day numbers of dates.
-use Rattle.std.proofs.Common.{◌≡◌, ℕ, ◌*◌, ◌/◌, ◌≤◌, true, ℤ, pos, ◌-ℤ◌, ◌*ℤ◌, int_div, inl, inr, arith, ap}
-use Rattle.std.proofs.lemmas.Bool.{cases_lt}
-use Rattle.jiff_core.specs.declared.civil.date.Date.{Date}
-use Rattle.jiff_core.specs.Date.{epoch_day}
-use Rattle.jiff_core.proofs.SignedLemmas.{signed_arith}
-use Rattle.interval_clock.specs.Calendar.{days_of_years, days_of_month, day_number_of, is_date, IsDate, IsDateOf}
-use Rattle.taxi_units.specs.DateTest.{date_test}
-use Rattle.interval_clock.proofs.CalendarDays.{days_of_years-later}
-use Rattle.interval_clock.proofs.Dates.{epoch_day_is_date}
+use Rattle.std.proofs.Common.{ℕ, ℤ, ◌*ℤ◌, ◌*◌, ◌-ℤ◌, ◌/◌, ◌≡◌, ◌≤◌, ap, arith, inl, inr, int_div, pos, true}
+use Rattle.{std.proofs.lemmas.Bool.{cases_lt}, jiff_core.specs.{Date.{epoch_day}, declared.civil.date.Date.{Date}}}
+use Rattle.{jiff_core.proofs.SignedLemmas.{signed_arith}, taxi_units.specs.DateTest.{date_test}}
+use Rattle.interval_clock.specs.Calendar.{IsDate, IsDateOf, day_number_of, days_of_month, days_of_years, is_date}
+use Rattle.interval_clock.proofs.{CalendarDays.{days_of_years-later}, Dates.{epoch_day_is_date}}
 
 -- the years up to one are at least those up to an earlier one
 days_of_years-rise : (year later : ℕ) → year ≤ later → days_of_years year ≤ days_of_years later

@@ -1,12 +1,10 @@
 -- The local time at a local second is one.
-use Rattle.std.proofs.Common.{◌≡◌, ℕ, ◌+◌, ◌*◌, ◌%◌, ◌<◌, ℤ, pos, unsigned_abs, ◌+ℤ◌, ◌*ℤ◌, ◌≤ℤ◌, ap, arith}
+use Rattle.std.proofs.Common.{ℕ, ℤ, ◌%◌, ◌*ℤ◌, ◌*◌, ◌+ℤ◌, ◌+◌, ◌<◌, ◌≡◌, ◌≤ℤ◌, ap, arith, pos, unsigned_abs}
 use Rattle.jiff_core.proofs.SignedLemmas.{signed_arith}
 use Rattle.interval_clock.specs.Calendar.{IsDateOf, date_after, date_place, weekday_of}
-use Rattle.interval_clock.specs.declared.day_numbers.CalendarDate.{CalendarDate}
 use Rattle.interval_clock.specs.LocalTime.{day_of, local_time_of, minute_of_day, second_of_day}
-use Rattle.interval_clock.specs.declared.local_time.LocalTime.{LocalTime}
-use Rattle.interval_clock.proofs.CalendarDays.{IsDateOf-only, IsDateOf-date_after}
-use Rattle.interval_clock.proofs.Dates.{pos-unsigned_abs}
+use Rattle.interval_clock.specs.declared.{day_numbers.CalendarDate.{CalendarDate}, local_time.LocalTime.{LocalTime}}
+use Rattle.interval_clock.proofs.{CalendarDays.{IsDateOf-date_after, IsDateOf-only}, Dates.{pos-unsigned_abs}}
 
 abbrev date_in : LocalTime → CalendarDate
 date_in time = record { year = time.year; month = time.month; date = time.date }

@@ -1,13 +1,10 @@
 -- Lists of offsets: the pair in force.
-use Rattle.std.proofs.Common.{Option, Some, MatchOption, ap, subst, leb, pos, true, false, count_by, ◌≡◌, ℕ, zero, suc}
-use Rattle.std.proofs.Common.{◌-◌, ◌<◌, ◌≤◌, ℤ, List, [], ◌∷◌, length, inl, inr, arith, refl}
-use Rattle.std.proofs.lemmas.Bool.{cases_lt, leb-true, leb-false}
-use Rattle.std.proofs.lemmas.List.Sums.{count_by-le-length}
-use Rattle.std.proofs.lemmas.List.Sorted.{IsNonDecreasingBy-from_default, IsPartitionedBy-leb}
-use Rattle.std.specs.List.Sorted.{IsPartitionedBy, IsPartitionPoint}
-use Rattle.std.proofs.lemmas.Grind.{common_steps}
-use Rattle.taxi_units.specs.Counted.{IsLastOf}
-use Rattle.interval_clock.specs.Offsets.{IsSecond, IsOffsetList, IsInForce, offset_from, offset_of, second_at}
+use Rattle.std.{specs.List.Sorted.{IsPartitionPoint, IsPartitionedBy}, proofs.lemmas.List.Sums.{count_by-le-length}}
+use Rattle.std.proofs.Common.{[], ℕ, ℤ, ◌-◌, ◌<◌, ◌∷◌, ◌≡◌, ◌≤◌, List, MatchOption, Option, Some, ap, arith, count_by}
+use Rattle.std.proofs.Common.{false, inl, inr, leb, length, pos, refl, subst, suc, true, zero}
+use Rattle.{std.proofs.lemmas.Bool.{cases_lt, leb-false, leb-true}, taxi_units.specs.Counted.{IsLastOf}}
+use Rattle.std.proofs.lemmas.{Grind.{common_steps}, List.Sorted.{IsNonDecreasingBy-from_default, IsPartitionedBy-leb}}
+use Rattle.interval_clock.specs.Offsets.{IsInForce, IsOffsetList, IsSecond, offset_from, offset_of, second_at}
 
 -- later pairs of a lawful list begin no earlier
 pub rises : (pairs : List (ℕ × ℤ)) (earlier later : ℕ) → IsOffsetList pairs → earlier ≤ later → later < length pairs

@@ -1,8 +1,8 @@
 -- Rules: day numbers and weekdays of the proleptic Gregorian calendar, from the year 0 on.
-use Rattle.std.specs.Prelude.{◌≡◌, ℕ, zero, suc, ◌+◌, ◌-◌, ◌≤◌, if◌then◌else◌, nat_lt, sum, take, ℤ, pos, ◌+ℤ◌, unsigned_abs}
-use Rattle.std.specs.Int.{int_rem_euclid}
-pub use Rattle.interval_clock.specs.declared.day_numbers.CalendarDate.{CalendarDate}
+use Rattle.std.specs.{Int.{int_rem_euclid}, Prelude.{zero}}
+use Rattle.std.specs.Prelude.{ℕ, ℤ, ◌+ℤ◌, ◌+◌, ◌-◌, ◌≡◌, ◌≤◌, if◌then◌else◌, nat_lt, pos, suc, sum, take, unsigned_abs}
 pub use Rattle.taxi_units.specs.Calendar.{IsDate, date_place, days_of_month, is_date, is_leap_year, month_lengths}
+pub use Rattle.interval_clock.specs.declared.day_numbers.CalendarDate.{CalendarDate}
 
 -- a year has 366 days if it is a leap year, and else 365
 abbrev pub days_of_year : ℕ → ℕ

@@ -1,9 +1,7 @@
 -- Rules: local time, which is the day and the time of the day of a local second.
-use Rattle.std.specs.Prelude.{ℕ, ◌+◌, ◌/◌, ◌≤◌, ℤ, pos, ◌+ℤ◌, ◌≤ℤ◌, unsigned_abs, List}
-use Rattle.std.specs.Int.{int_div_euclid, int_rem_euclid}
-use Rattle.interval_clock.specs.Calendar.{date_after, date_place, weekday_of}
-use Rattle.interval_clock.specs.Offsets.{greatest_offset, offset_at}
-use Rattle.taxi_units.specs.Time.{first_second, last_second}
+use Rattle.{std.specs.Int.{int_div_euclid, int_rem_euclid}, taxi_units.specs.Time.{first_second, last_second}}
+use Rattle.std.specs.Prelude.{ℕ, ℤ, ◌+ℤ◌, ◌+◌, ◌/◌, ◌≤ℤ◌, ◌≤◌, List, pos, unsigned_abs}
+use Rattle.interval_clock.specs.{Calendar.{date_after, date_place, weekday_of}, Offsets.{greatest_offset, offset_at}}
 use Rattle.interval_clock.specs.declared.local_time.LocalTime.{LocalTime}
 
 -- the local second is a second of UTC plus the offset in force at it

@@ -1,8 +1,8 @@
 -- Rules: lists of pairs of a second and the offset from UTC that is in force from that second on.
-use Rattle.std.specs.Prelude.{◌≡◌, ◌≢◌, ℕ, ◌-◌, ◌<◌, ◌≤◌, nat_le, if◌then◌else◌, ℤ, pos, neg_ℤ, ◌≤ℤ◌, List, [], ◌∷◌, length, slice_index_or}
-use Rattle.interval_clock.specs.declared.offsets.OffsetFault.{OffsetFault}
-use Rattle.interval_clock.specs.declared.offsets.OffsetFault.TheVariants.{Empty, TooMany, FirstNotStart, OutOfRange, NotRising}
-use Rattle.taxi_units.specs.Time.{first_second}
+use Rattle.std.specs.Prelude.{[], ℕ, ℤ, ◌-◌, ◌<◌, ◌∷◌, ◌≡◌, ◌≢◌, ◌≤ℤ◌, ◌≤◌, List, if◌then◌else◌, length, nat_le, neg_ℤ}
+use Rattle.{std.specs.Prelude.{pos, slice_index_or}, taxi_units.specs.Time.{first_second}}
+use Rattle.interval_clock.specs.declared.offsets.OffsetFault.{OffsetFault, TheVariants.{TooMany}}
+use Rattle.interval_clock.specs.declared.offsets.OffsetFault.TheVariants.{Empty, FirstNotStart, NotRising, OutOfRange}
 pub use Rattle.taxi_units.specs.Time.{IsSecond}
 
 -- an offset is at most 50,400 seconds, which are 14 hours, to either side

@@ -1,5 +1,5 @@
 //! A clock: the reading that it accepted last.
-ghost use Rattle.std.specs.Prelude.{◌≡◌, ℕ, ◌<◌, ◌↔◌, IsTrue, IsErr, IfErr, OnErr, OnOk};
+ghost use Rattle.std.specs.Prelude.{ℕ, ◌<◌, ◌↔◌, ◌≡◌, IfErr, IsErr, IsTrue, OnErr, OnOk};
 
 use std::marker::Model;
 

@@ -1,7 +1,7 @@
 //! Dates and their day numbers, which count the days from 1970-01-01 on.
-ghost use Rattle.std.specs.Prelude.{◌≡◌, ℕ, ◌≤◌, Some, None, if◌then◌else◌, ℤ, pos, ◌≤ℤ◌, IfSome};
+ghost use Rattle.std.specs.Prelude.{ℕ, ℤ, ◌≡◌, ◌≤ℤ◌, ◌≤◌, IfSome, None, Some, if◌then◌else◌, pos};
+ghost use Rattle.jiff.specs.Words.{IsBetween, epoch_day};
 ghost use Rattle.interval_clock.specs.Calendar.{IsDate, IsDateOf, date_after, day_number_of, is_date};
-ghost use Rattle.jiff.specs.Words.{epoch_day, IsBetween};
 
 use jiff::ToSpan;
 use jiff::civil::{Date, date};

@@ -3,13 +3,13 @@
 //! day. Seconds are counted from 1970-01-01T00:00Z.
 #![tactic(auto)]
 
-mod calendar;
+mod calendar_laws;
 mod clock;
 mod day_numbers;
 mod local_time;
 mod offsets;
 
-pub use calendar::the_calendar_goes_day_by_day;
+pub use calendar_laws::the_calendar_goes_day_by_day;
 pub use clock::{Clock, ClockBack};
 pub use day_numbers::{CalendarDate, date_of_day, dates_have_day_numbers, day_number};
 pub use local_time::{LocalTime, civil, local_times_add_up};

@@ -1,8 +1,8 @@
 //! The local date and time of a second.
-ghost use Rattle.std.specs.Prelude.{◌≡◌, ◌+◌, ◌*◌, ◌%◌, ◌/◌, ◌<◌, ◌≤◌, pos, ℤ, ◌≤ℤ◌, ◌+ℤ◌, ◌*ℤ◌};
+ghost use Rattle.std.specs.Prelude.{ℤ, ◌%◌, ◌*ℤ◌, ◌*◌, ◌+ℤ◌, ◌+◌, ◌/◌, ◌<◌, ◌≡◌, ◌≤ℤ◌, ◌≤◌, pos};
 ghost use Rattle.interval_clock.specs.Calendar.{IsDateOf, date_place, weekday_of};
-ghost use Rattle.interval_clock.specs.LocalTime.{HasPartsInRange, IsLocalDay, IsLocalSecond, day_of, local_second, local_time_of, minute_of_day, second_of_day};
-ghost use Rattle.interval_clock.specs.Offsets.{IsSecond};
+ghost use Rattle.interval_clock.specs.LocalTime.{HasPartsInRange, IsLocalDay, IsLocalSecond, day_of, local_second};
+ghost use Rattle.interval_clock.specs.{LocalTime.{local_time_of, minute_of_day, second_of_day}, Offsets.{IsSecond}};
 
 use crate::day_numbers::{calendar_date, date_of};
 use crate::offsets::Offsets;

@@ -1,6 +1,7 @@
 //! The list of offsets from UTC that gives local time.
-ghost use Rattle.std.specs.Prelude.{◌≡◌, ℕ, ◌+◌, ◌<◌, ◌≤◌, ◌↔◌, List, ℤ, pos, IsOk, IfOk, Err, MatchOption};
-ghost use Rattle.interval_clock.specs.Offsets.{IsSecond, IsOffset, IsInRangeAt, RisesAt, EachPlace, FirstPlace, IsFaultOf, IsOffsetList, IsInForce, offset_at, offset_of, second_at};
+ghost use Rattle.std.specs.Prelude.{ℕ, ℤ, ◌+◌, ◌<◌, ◌↔◌, ◌≡◌, ◌≤◌, Err, IfOk, IsOk, List, MatchOption, pos};
+ghost use Rattle.interval_clock.specs.Offsets.{EachPlace, FirstPlace, IsFaultOf, IsInForce, IsInRangeAt, IsOffset};
+ghost use Rattle.interval_clock.specs.Offsets.{IsOffsetList, IsSecond, RisesAt, offset_at, offset_of, second_at};
 
 use arrayvec::ArrayVec;
 use std::marker::Model;
@@ -35,8 +36,7 @@ pub struct Offsets {
 }
 
 impl Model for Offsets {
-    ghost use Rattle.std.specs.Prelude.{ℕ, ℤ, List};
-    ghost use Rattle.interval_clock.specs.Offsets.{IsOffsetList};
+    ghost use Rattle.{std.specs.Prelude.{ℕ, ℤ, List}, interval_clock.specs.Offsets.{IsOffsetList}};
 
     ghost Value = { List (ℕ × ℤ) };
 

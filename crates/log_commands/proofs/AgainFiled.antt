@@ -1,21 +1,12 @@
 -- Filing a roll again appends nothing, whatever of it is read the second time.
-use Rattle.std.proofs.Common.{◌≡◌, ◌⊎◌, inl, inr, ℕ, List, [], ◌∷◌, ◌++◌, length, Option, Some, None, refl, ap, sym}
-use Rattle.std.proofs.Common.{◌∙◌, subst, arith, append_assoc, length-append}
-use Rattle.std.proofs.lemmas.List.{append-nil}
-use Rattle.log_commands.specs.Calls.{AppendsNothing}
-use Rattle.log_commands.specs.Filed.{EndsAt, Files, IsFiledOf, IsNewer, IsOlder, IsOther}
-use Rattle.log_commands.specs.Filed.Files.{over, passed, appended}
-use Rattle.log_commands.specs.Filings.{EndsAs, newest_after, newest_of}
-use Rattle.log_commands.specs.LogList.{StandsFor, last_ones}
-use Rattle.log_commands.specs.Record.{Record}
-use Rattle.log_commands.specs.Roll.{AreOnRoll, Reads}
-use Rattle.log_commands.specs.declared.file_roll.FileEnd.{FileEnd}
+use Rattle.std.proofs.Common.{[], ℕ, ◌++◌, ◌∙◌, ◌∷◌, ◌≡◌, ◌⊎◌, List, None, Option, Some, ap, append_assoc, arith, inl}
+use Rattle.std.proofs.{Common.{inr, length, length-append, refl, subst, sym}, lemmas.List.{append-nil}}
+use Rattle.log_commands.{specs.{Calls.{AppendsNothing}, LogList.{StandsFor, last_ones}}, proofs.FiledLaws.{files_again}}
+use Rattle.log_commands.{specs.{Common.{FileEnd}, Record.{Record}}, proofs.{OneList.{one_list}, RollLaws.{more_of}}}
+use Rattle.log_commands.specs.{Filed.{EndsAt, Files, IsFiledOf, IsNewer, IsOlder, IsOther}, Roll.{AreOnRoll, Reads}}
+use Rattle.log_commands.specs.{Filed.Files.{appended, over, passed}, Filings.{EndsAs, newest_after, newest_of}}
+use Rattle.log_commands.proofs.{Beginnings.{IsFirst, beginning_first, reads_agree, reads_longer}, Tails.{newest_last}}
 use Rattle.log_commands.specs.declared.file_roll.FileEnd.TheVariants as ends
-use Rattle.log_commands.proofs.Beginnings.{IsFirst, beginning_first, reads_agree, reads_longer}
-use Rattle.log_commands.proofs.FiledLaws.{files_again}
-use Rattle.log_commands.proofs.OneList.{one_list}
-use Rattle.log_commands.proofs.RollLaws.{more_of}
-use Rattle.log_commands.proofs.Tails.{newest_last}
 
 -- ---- the newest record behind the filed
 

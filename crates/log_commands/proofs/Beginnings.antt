@@ -1,11 +1,8 @@
 -- What a beginning of a roll is read as is what the roll is read as, so far.
-use Rattle.std.proofs.Common.{◌≡◌, ◌⊎◌, inl, inr, ℕ, ◌<◌, ◌≤◌, List, [], ◌∷◌, ◌++◌, length, refl, ap, sym, ◌∙◌, subst}
-use Rattle.std.proofs.Common.{arith, append_assoc, length-append}
-use Rattle.log_commands.specs.Record.{Record, IsRecord}
-use Rattle.log_commands.specs.Roll.{AreOnRoll, BeginsWithNone, Reads}
-use Rattle.log_commands.specs.Roll.Reads.{over, found, passed}
-use Rattle.log_commands.proofs.Overlaps.{none_within}
-use Rattle.log_commands.proofs.RollLaws.{more_of, one_in_front, reads_bytes}
+use Rattle.std.proofs.Common.{[], ℕ, ◌++◌, ◌<◌, ◌∙◌, ◌∷◌, ◌≡◌, ◌≤◌, ◌⊎◌, List, ap, append_assoc, arith, inl, inr}
+use Rattle.{std.proofs.Common.{length, length-append, refl, subst, sym}, log_commands.specs.Record.{IsRecord, Record}}
+use Rattle.log_commands.{specs.Roll.{AreOnRoll, BeginsWithNone, Reads}, proofs.Overlaps.{none_within}}
+use Rattle.log_commands.{specs.Roll.Reads.{found, over, passed}, proofs.RollLaws.{more_of, one_in_front, reads_bytes}}
 
 -- ---- where a text has a receipt, and what stands before and behind it
 

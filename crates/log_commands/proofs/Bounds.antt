@@ -1,17 +1,10 @@
 -- A log that stands for a list passes each slot from the newest record back.
-use Rattle.std.proofs.Common.{◌≡◌, ◌⊎◌, inl, inr, ℕ, zero, suc, ◌+◌, ◌-◌, ◌<◌, ◌≤◌, ◌^◌, List, [], ◌∷◌, length, get_or}
-use Rattle.std.proofs.Common.{refl, ap, sym, ◌∙◌, subst, arith, Some}
-use Rattle.std.proofs.lemmas.Bool.{cases_lt}
-use Rattle.log_commands.specs.Record.{Record, IsRecord}
-use Rattle.log_commands.specs.Slots.{slot_of, behind_gate, HasRecord, IsClosed}
-use Rattle.log_commands.specs.LogList.{AreInSlots, EndsWith, RiseFrom}
-use Rattle.log_commands.specs.LogRow.{IsBound, slot_back}
-use Rattle.log_commands.specs.LogScan.{IsEntry}
-use Rattle.log_commands.specs.declared.scanning.Entry.{Entry}
-use Rattle.log_commands.proofs.OtherSlots.{Bounds, bounds}
-use Rattle.log_commands.proofs.Rows.{slots_agree}
-use Rattle.log_commands.proofs.Scans.{one_place}
-use Rattle.log_commands.proofs.Spelled.{one_spelled}
+use Rattle.std.proofs.Common.{[], ℕ, ◌+◌, ◌-◌, ◌<◌, ◌^◌, ◌∙◌, ◌∷◌, ◌≡◌, ◌≤◌, ◌⊎◌, List, Some, ap, arith, get_or, inl}
+use Rattle.std.proofs.{Common.{inr, length, refl, subst, suc, sym, zero}, lemmas.Bool.{cases_lt}}
+use Rattle.log_commands.{specs.LogList.{AreInSlots, EndsWith, RiseFrom}, proofs.OtherSlots.{Bounds, bounds}}
+use Rattle.log_commands.{specs.{LogRow.{IsBound, slot_back}, Record.{IsRecord, Record}}, proofs.Spelled.{one_spelled}}
+use Rattle.log_commands.{specs.LogScan.{IsEntry}, proofs.{Rows.{slots_agree}, Scans.{one_place}}}
+use Rattle.log_commands.specs.{Slots.{HasRecord, IsClosed, behind_gate, slot_of}, declared.scanning.Entry.{Entry}}
 
 -- each record of the list is in its slot
 pub held_at : (image : List ℕ) (place : ℕ) (records : List Record) (k : ℕ) (other : Record) → k < length records

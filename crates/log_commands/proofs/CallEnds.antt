@@ -1,36 +1,18 @@
 -- What a call comes to before its last line, by what finding the log's end, filing a roll and showing records come to.
-use Rattle.std.proofs.Common.{◌≡◌, inl, inr, ℕ, ◌+◌, ◌-◌, ◌≤◌, List, [], ◌++◌, length, drop, Option, Some, None, refl}
-use Rattle.std.proofs.Common.{ap, sym, ◌∙◌, subst, arith}
-use Rattle.std.proofs.lemmas.List.{append-nil, take_all}
-use Rattle.outside.specs.Faults.{Rose}
-use Rattle.outside.specs.Printing.{Begins}
-use Rattle.outside.specs.Runs.{LeavesOnly}
-use Rattle.outside.specs.declared.board.Board.{Ghosts}
-use Rattle.outside.specs.declared.files.Files.{Ghosts as FileGhosts}
-use Rattle.slot_store.specs.Syncs.{IsAsHeld, LeavesFromSync}
-use Rattle.slot_store.proofs.Laws.{from_sync_as, goes_on}
-use Rattle.log_commands.specs.Calls.{FilesUpTo, IsCommand, LeavesLog, MayEnd, shown_of}
-use Rattle.log_commands.specs.BeforeLastLine.{CallReachesLine}
-use Rattle.log_commands.specs.Endings.{filing_end, status_of, unread_end}
-use Rattle.log_commands.specs.Filed.{EndsAt, IsFiledOf}
+use Rattle.std.proofs.Common.{[], ℕ, ◌++◌, ◌+◌, ◌-◌, ◌∙◌, ◌≡◌, ◌≤◌, List, None, Option, Some, ap, arith, drop, inl, inr}
+use Rattle.std.proofs.{Common.{length, refl, subst, sym}, lemmas.List.{append-nil, take_all}}
+use Rattle.{outside.specs.declared.files.Files.{Ghosts as FileGhosts}, slot_store.proofs.Laws.{from_sync_as, goes_on}}
+use Rattle.log_commands.specs.{BeforeLastLine.{CallReachesLine}, LogList.{StandsFor, last_ones}, ShownLog.{texts_of}}
+use Rattle.log_commands.specs.{Calls.{FilesUpTo, IsCommand, LeavesLog, MayEnd, shown_of}, Common.{Show, Shown, TooLong}}
+use Rattle.log_commands.specs.Common.{BadLog, BadWords, Begins, BoardFault, BrokenLog, Call, Ended, File, FileEnd}
+use Rattle.log_commands.specs.Common.{Filed, Ghosts, IsAsHeld, LeavesFromSync, LeavesOnly, OtherTaxi, ReadFault, Rose}
+use Rattle.log_commands.specs.{Endings.{filing_end, status_of, unread_end}, declared.finding.FindFault.{FindFault}}
+use Rattle.log_commands.{specs.{Filed.{EndsAt, IsFiledOf}, declared.tail.Tail.{Tail}}, proofs.AgainFiled.{ends_in_roll}}
 use Rattle.log_commands.specs.Filings.{EndsAs, FailsInRoll, FilesRoll, IsTailOf, LeavesSome, StandsForSome, newest_of}
-use Rattle.log_commands.specs.LogList.{StandsFor, last_ones}
-use Rattle.log_commands.specs.Record.{Record}
-use Rattle.log_commands.specs.Showing.{texts_of}
-use Rattle.log_commands.specs.Unread.{IsBroken, IsLowestBad}
-use Rattle.log_commands.specs.declared.ending.Ended.{Ended}
-use Rattle.log_commands.specs.declared.ending.Ended.TheVariants.{Filed, Shown, BadWords, BadLog, BrokenLog, OtherTaxi}
-use Rattle.log_commands.specs.declared.ending.Ended.TheVariants.{TooLong, ReadFault, BoardFault}
-use Rattle.log_commands.specs.declared.file_roll.FileEnd.{FileEnd}
-use Rattle.log_commands.specs.declared.file_roll.FileEnd.TheVariants as ends
-use Rattle.log_commands.specs.declared.finding.FindFault.{FindFault}
-use Rattle.log_commands.specs.declared.finding.FindFault.TheVariants as faults
-use Rattle.log_commands.specs.declared.tail.Tail.{Tail}
-use Rattle.log_commands.specs.declared.words.Call.{Call}
-use Rattle.log_commands.specs.declared.words.Call.TheVariants.{File, Show}
-use Rattle.log_commands.proofs.AgainFiled.{ends_in_roll}
+use Rattle.log_commands.{specs.{Record.{Record}, Unread.{IsBroken, IsLowestBad}}, proofs.OneList.{none_bad, one_list}}
 use Rattle.log_commands.proofs.OtherSlots.{bounds}
-use Rattle.log_commands.proofs.OneList.{none_bad, one_list}
+use Rattle.log_commands.specs.declared.file_roll.FileEnd.TheVariants as ends
+use Rattle.log_commands.specs.declared.finding.FindFault.TheVariants as faults
 
 -- ---- a list that the log stands for
 

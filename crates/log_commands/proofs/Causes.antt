@@ -1,9 +1,7 @@
 -- A count of faults over calls one after another.
-use Rattle.std.proofs.Common.{◌≡◌, inl, ℕ, Result, refl, ◌∙◌, subst}
-use Rattle.std.proofs.lemmas.Bool.{false≢true}
-use Rattle.std.specs.Prelude.{IsErrAnd}
-use Rattle.std.specs.declared.result.Result.TheVariants.{Ok, Err}
-use Rattle.outside.specs.Faults.{HasCause, MayRise, RisesOnlyIf, Rose}
+use Rattle.std.specs.{Prelude.{IsErrAnd}, declared.result.Result.TheVariants.{Err, Ok}}
+use Rattle.std.proofs.{Common.{ℕ, ◌∙◌, ◌≡◌, Result, inl, refl, subst}, lemmas.Bool.{false≢true}}
+use Rattle.log_commands.specs.Common.{HasCause, MayRise, RisesOnlyIf, Rose}
 
 -- ---- behind calls that left the count
 

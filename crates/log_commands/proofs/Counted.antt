@@ -1,14 +1,9 @@
 -- How many records a log has whose end is known, and at which place the first of them is held.
-use Rattle.std.proofs.Common.{◌≡◌, inl, inr, ℕ, ◌+◌, ◌-◌, ◌≤◌, Bool, true, false, List, length, refl, subst, arith}
-use Rattle.std.proofs.lemmas.Bool.{cases_lt}
-use Rattle.log_commands.specs.Filings.{IsTailOf}
-use Rattle.log_commands.specs.LogList.{AreInSlots, EndsWith, StandsFor}
-use Rattle.log_commands.specs.Record.{Record}
-use Rattle.log_commands.specs.Slots.{slot_of, IsClosed, IsOpen}
-use Rattle.log_commands.specs.declared.tail.Tail.{Tail}
-use Rattle.log_commands.proofs.CallEnds.{few_records, last_all}
-use Rattle.log_commands.proofs.OtherSlots.{bounds}
-use Rattle.log_commands.proofs.OneList.{next_open}
+use Rattle.std.proofs.Common.{ℕ, ◌+◌, ◌-◌, ◌≡◌, ◌≤◌, Bool, List, arith, false, inl, inr, length, refl, subst, true}
+use Rattle.{std.proofs.lemmas.Bool.{cases_lt}, log_commands.specs.LogList.{AreInSlots, EndsWith, StandsFor}}
+use Rattle.log_commands.specs.{Filings.{IsTailOf}, Record.{Record}}
+use Rattle.log_commands.{specs.Slots.{IsClosed, IsOpen, slot_of}, proofs.CallEnds.{few_records, last_all}}
+use Rattle.log_commands.{specs.declared.tail.Tail.{Tail}, proofs.{OneList.{next_open}, OtherSlots.{bounds}}}
 
 module _ (image : List ℕ) (last : ℕ) (is_open : Bool) (records : List Record) (ends : EndsWith image last records)
     (opened : is_open ≡ true → IsOpen image (slot_of (last + 1)))

@@ -1,20 +1,12 @@
 -- Which ends and statuses the finding of the log's end and the filing of a roll come to.
-use Rattle.std.proofs.Common.{◌≡◌, ◌≢◌, inl, inr, ℕ, ◌≤◌, List, Option, Some, None, Result, Ok, Err, refl, sym, ◌∙◌}
-use Rattle.std.proofs.Common.{arith}
-use Rattle.outside.specs.declared.board.Board.{Ghosts}
-use Rattle.slot_store.specs.Syncs.{LeavesFromSync}
-use Rattle.slot_store.proofs.Laws.{from_sync_as}
-use Rattle.log_commands.specs.Calls.{AreFew, MayHave, MayHaveReadFault, WritesNothing}
-use Rattle.log_commands.specs.Endings.{filing_end, status_of, unread_end}
-use Rattle.log_commands.specs.Filings.{MayHaveFailed}
-use Rattle.log_commands.specs.declared.ending.Ended.TheVariants.{ReadFault, BoardFault}
-use Rattle.log_commands.specs.declared.file_roll.FileEnd.{FileEnd}
-use Rattle.log_commands.specs.declared.file_roll.FileEnd.TheVariants as ends
-use Rattle.log_commands.specs.declared.finding.FindFault.{FindFault}
-use Rattle.log_commands.specs.declared.finding.FindFault.TheVariants as faults
-use Rattle.log_commands.specs.declared.words.Call.{Call}
-use Rattle.log_commands.specs.declared.words.Call.TheVariants.{File, Show}
+use Rattle.std.proofs.Common.{ℕ, ◌∙◌, ◌≡◌, ◌≢◌, ◌≤◌, Err, List, None, Ok, Option, Result, Some, arith, inl, inr, refl}
+use Rattle.{std.proofs.Common.{sym}, slot_store.proofs.Laws.{from_sync_as}}
+use Rattle.log_commands.specs.{Calls.{AreFew, MayHave, MayHaveReadFault, WritesNothing}, Filings.{MayHaveFailed}}
+use Rattle.log_commands.specs.Common.{BoardFault, Call, File, FileEnd, Ghosts, LeavesFromSync, ReadFault, Show}
+use Rattle.log_commands.specs.{Endings.{filing_end, status_of, unread_end}, declared.finding.FindFault.{FindFault}}
 use Rattle.log_commands.proofs.NewestFound.{same_fault}
+use Rattle.log_commands.specs.declared.file_roll.FileEnd.TheVariants as ends
+use Rattle.log_commands.specs.declared.finding.FindFault.TheVariants as faults
 
 pub unread_no_read : (fault : FindFault) → unread_end fault ≡ ReadFault → ⊥
 unread_no_read (faults.BadSlot slot) e = absurd cc

@@ -1,8 +1,6 @@
 -- What filing the receipts of a roll comes to.
-use Rattle.std.proofs.Common.{◌≡◌, ℕ, List, [], ◌∷◌, ◌++◌, Option, Some, None, refl, ap, sym, ◌∙◌, subst, arith}
-use Rattle.log_commands.specs.Filed.{EndsAt, Files, IsNewer, IsOlder}
-use Rattle.log_commands.specs.Filed.Files.{over, passed, appended}
-use Rattle.log_commands.specs.Record.{Record}
+use Rattle.std.proofs.Common.{[], ℕ, ◌++◌, ◌∙◌, ◌∷◌, ◌≡◌, List, None, Option, Some, ap, arith, refl, subst, sym}
+use Rattle.log_commands.specs.{Filed.{EndsAt, Files, IsNewer, IsOlder, Files.{appended, over, passed}}, Record.{Record}}
 
 -- ---- one after another
 

@@ -4,34 +4,32 @@ mod AgainFiled
 mod Beginnings
 -- a log that stands for a list passes each slot from the newest record back
 mod Bounds
--- a count of faults over calls one after another
-mod Causes
 -- what a call comes to before its last line, by what finding the log's end, filing a roll and showing records come to
 mod CallEnds
+-- a count of faults over calls one after another
+mod Causes
 -- how many records a log has whose end is known, and where the first of them is held
 mod Counted
 -- which ends and statuses the finding of the log's end and the filing of a roll come to
 mod EndCases
 -- what filing the receipts of a roll comes to
 mod FiledLaws
--- what a call comes to when its last line is printed
-mod Finishing
 -- a receipt at the front of a text
-mod Fronting
--- what stays of the log when one of its slots is written
-mod OtherSlots
--- how a search for a receipt goes on
-mod SearchSteps
+mod FrontReceipts
+-- what a call comes to when its last line is printed
+mod LastLines
 -- the newest record of a log that stands for a list
 mod NewestFound
 -- the greatest place of the entries is that of the newest record
 mod NewestPlace
 -- an image stands for one list at most, and then no slot of it is bad
 mod OneList
+-- what stays of the log when one of its slots is written
+mod OtherSlots
 -- no receipt lies in another's text with more behind it: only the last line of a receipt is that of its end
 mod Overlaps
 -- calls that read alone
-mod Readings
+mod ReadOnlyCalls
 -- what follows of an answer that is Ok
 mod Results
 -- how the filing of a roll goes on and ends
@@ -44,6 +42,8 @@ mod Rolls
 mod Rows
 -- what a slot's content tells of it
 mod Scans
+-- how a search for a receipt goes on
+mod SearchSteps
 -- how records are shown one after another
 mod Shown
 -- what a record's bytes are read as
@@ -55,4 +55,4 @@ mod Tails
 -- what was handed out of a roll, when no more of it is read
 mod WholeRolls
 -- words that are two
-mod Wording
+mod WordPairs

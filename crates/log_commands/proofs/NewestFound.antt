@@ -1,23 +1,13 @@
 -- The newest record of a log that stands for a list.
-use Rattle.std.proofs.Common.{◌≡◌, inl, inr, ℕ, suc, ◌+◌, ◌-◌, ◌≤◌, true, false, is_some, drop, List, [], ◌∷◌, length}
-use Rattle.std.proofs.Common.{get_or, refl, ap, sym, ◌∙◌, subst, arith, Option, Some, None, Result}
-use Rattle.std.proofs.lemmas.Bool.{cases_lt, false≢true}
-use Rattle.log_commands.specs.Record.{Record}
-use Rattle.log_commands.specs.Slots.{slot_of, behind_gate, HasRecord, IsClosed, IsOpen}
-use Rattle.log_commands.specs.Filings.{IsTailOf, newest_after, newest_of}
-use Rattle.log_commands.specs.LogList.{EndsWith, last_ones}
-use Rattle.log_commands.specs.LogScan.{IsContent, IsEntry}
-use Rattle.log_commands.specs.Appends.{IsStill}
-use Rattle.std.specs.declared.result.Result.TheVariants.{Err}
-use Rattle.log_commands.specs.declared.finding.FindFault.{FindFault}
-use Rattle.log_commands.specs.declared.scanning.Content.{Content}
-use Rattle.log_commands.specs.declared.scanning.Content.TheVariants.{Closed, Unread, Filled}
-use Rattle.log_commands.specs.declared.scanning.Entry.{Entry}
-use Rattle.log_commands.specs.declared.scanning.ScanFault.{ScanFault}
-use Rattle.log_commands.proofs.Bounds.{held_at}
-use Rattle.log_commands.proofs.OtherSlots.{Bounds, bounds}
-use Rattle.log_commands.proofs.Scans.{one_place}
-use Rattle.log_commands.proofs.Spelled.{one_spelled}
+use Rattle.std.{specs.declared.result.Result.TheVariants.{Err}, proofs.lemmas.Bool.{cases_lt, false≢true}}
+use Rattle.std.proofs.Common.{[], ℕ, ◌+◌, ◌-◌, ◌∙◌, ◌∷◌, ◌≡◌, ◌≤◌, List, None, Option, Result, Some, ap, arith, drop}
+use Rattle.std.proofs.Common.{false, get_or, inl, inr, is_some, length, refl, subst, suc, sym, true}
+use Rattle.log_commands.specs.{Appends.{IsStill}, Record.{Record}}
+use Rattle.log_commands.specs.{Filings.{IsTailOf, newest_after, newest_of}, declared.finding.FindFault.{FindFault}}
+use Rattle.log_commands.specs.{LogList.{EndsWith, last_ones}, Slots.{HasRecord, IsClosed, IsOpen, behind_gate, slot_of}}
+use Rattle.log_commands.specs.{LogScan.{IsContent, IsEntry}, declared.scanning.{Content.{Content}, Entry.{Entry}}}
+use Rattle.log_commands.specs.declared.scanning.{Content.TheVariants.{Closed, Filled, Unread}, ScanFault.{ScanFault}}
+use Rattle.log_commands.proofs.{Bounds.{held_at}, OtherSlots.{Bounds, bounds}, Scans.{one_place}, Spelled.{one_spelled}}
 
 newest_last : (newest : Option Record) (records : List Record) (other : Record) → 1 ≤ length records
     → newest_after newest records ≡ Some (get_or records (length records - 1) other)

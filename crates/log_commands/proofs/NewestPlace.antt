@@ -1,13 +1,9 @@
 -- The greatest place of the entries is that of the newest record.
-use Rattle.std.proofs.Common.{◌≡◌, ◌⊎◌, inl, inr, ⊎_elim, ℕ, ◌-◌, ◌<◌, ◌≤◌, ◌^◌, List, get_or, sym, subst, arith}
-use Rattle.std.proofs.Common.{Option, Some, None}
-use Rattle.log_commands.specs.Record.{Record}
-use Rattle.log_commands.specs.LogList.{EndsWith}
-use Rattle.log_commands.specs.LogRow.{AreEntries, IsAtMost, IsBound, IsPlaceOf, slot_back}
+use Rattle.std.proofs.Common.{ℕ, ◌-◌, ◌<◌, ◌^◌, ◌≡◌, ◌≤◌, ◌⊎◌, List, None, Option, Some, arith, get_or, inl, inr, subst}
+use Rattle.{std.proofs.Common.{sym, ⊎_elim}, log_commands.proofs.Bounds.{bound_closed, bound_entry, bound_first}}
+use Rattle.log_commands.specs.{LogList.{EndsWith}, LogRow.{AreEntries, IsAtMost, IsBound, IsPlaceOf, slot_back}}
 use Rattle.log_commands.specs.LogScan.{IsEntry}
-use Rattle.log_commands.specs.declared.scanning.Entry.{Entry}
-use Rattle.log_commands.proofs.Bounds.{bound_closed, bound_entry, bound_first}
-use Rattle.log_commands.proofs.Rows.{slot_found, slot_small}
+use Rattle.log_commands.{specs.{Record.{Record}, declared.scanning.Entry.{Entry}}, proofs.Rows.{slot_found, slot_small}}
 
 module _ (image : List ℕ) (entries : List (Option Entry)) (last place : ℕ) (records : List Record)
     (are : AreEntries image entries) (ends : EndsWith image last records) where

@@ -1,17 +1,10 @@
 -- An image stands for one list at most, and then no slot of it is bad.
-use Rattle.std.proofs.Common.{◌≡◌, inl, inr, ℕ, ◌+◌, ◌-◌, ◌^◌, ◌<◌, ◌≤◌, List, [], ◌∷◌, Some, get_or, length, refl, ap}
-use Rattle.std.proofs.Common.{sym, ◌∙◌, subst, arith}
-use Rattle.std.proofs.lemmas.Bool.{cases_lt}
-use Rattle.log_commands.specs.LogList.{AreInSlots, EndsWith, StandsFor}
-use Rattle.log_commands.specs.LogRow.{IsBound, slot_back}
-use Rattle.log_commands.specs.LogScan.{IsEntry}
-use Rattle.log_commands.specs.Record.{Record}
-use Rattle.log_commands.specs.Slots.{slot_of, behind_gate, HasRecord, IsClosed, IsOpen}
-use Rattle.log_commands.specs.Unread.{IsBad}
-use Rattle.log_commands.proofs.Bounds.{bound_entry, bound_first, held_at}
-use Rattle.log_commands.proofs.OtherSlots.{Bounds, bounds}
-use Rattle.log_commands.proofs.Rows.{slot_found, slot_small, slots_agree}
-use Rattle.log_commands.proofs.Spelled.{one_spelled}
+use Rattle.std.proofs.Common.{[], ℕ, ◌+◌, ◌-◌, ◌<◌, ◌^◌, ◌∙◌, ◌∷◌, ◌≡◌, ◌≤◌, List, Some, ap, arith, get_or, inl, inr}
+use Rattle.{std.proofs.{Common.{length, refl, subst, sym}, lemmas.Bool.{cases_lt}}, log_commands.specs.Record.{Record}}
+use Rattle.log_commands.{specs.LogList.{AreInSlots, EndsWith, StandsFor}, proofs.OtherSlots.{Bounds, bounds}}
+use Rattle.log_commands.specs.{LogRow.{IsBound, slot_back}, Slots.{HasRecord, IsClosed, IsOpen, behind_gate, slot_of}}
+use Rattle.log_commands.{specs.{LogScan.{IsEntry}, Unread.{IsBad}}, proofs.Spelled.{one_spelled}}
+use Rattle.log_commands.proofs.{Bounds.{bound_entry, bound_first, held_at}, Rows.{slot_found, slot_small, slots_agree}}
 
 -- the records at the places of a row are those that are held
 same_held : (image : List ℕ) (place : ℕ) (a b : List Record) → AreInSlots image place a → AreInSlots image place b

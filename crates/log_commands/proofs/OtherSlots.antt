@@ -1,13 +1,10 @@
 -- What stays of the log when one of its slots is written.
-use Rattle.std.proofs.Common.{◌≡◌, ◌≢◌, inl, inr, ℕ, zero, suc, ◌+◌, ◌-◌, ◌<◌, ◌≤◌, List, [], ◌∷◌, ◌++◌, length, drop}
-use Rattle.std.proofs.Common.{get_or, ap, sym, ◌∙◌, subst, arith, length-append}
-use Rattle.std.proofs.lemmas.Bool.{cases_eq, cases_lt}
-use Rattle.std.proofs.lemmas.List.{drop-append-le, length-drop}
-use Rattle.outside.specs.Disk.{IsWithin, SameBut}
-use Rattle.outside.proofs.Laws.{same_slice}
+use Rattle.std.proofs.Common.{[], ℕ, ◌++◌, ◌+◌, ◌-◌, ◌<◌, ◌∙◌, ◌∷◌, ◌≡◌, ◌≢◌, ◌≤◌, List, ap, arith, drop, get_or, inl}
+use Rattle.std.proofs.{Common.{inr, length, length-append, subst, suc, sym, zero}, lemmas.Bool.{cases_eq, cases_lt}}
+use Rattle.{std.proofs.lemmas.List.{drop-append-le, length-drop}, outside.proofs.Laws.{same_slice}}
+use Rattle.{outside.specs.Disk.{IsWithin}, log_commands.specs.Slots.{HasRecord, IsClosed, Spells, slot_at, slot_of}}
+use Rattle.log_commands.specs.{Common.{SameBut}, LogList.{AreInSlots, EndsWith, IsCount, RiseFrom, last_ones}}
 use Rattle.log_commands.specs.Record.{Record}
-use Rattle.log_commands.specs.Slots.{slot_at, slot_of, HasRecord, IsClosed, Spells}
-use Rattle.log_commands.specs.LogList.{AreInSlots, EndsWith, IsCount, RiseFrom, last_ones}
 
 module _ (old new : List ℕ) (slot : ℕ) (same : SameBut (IsWithin (slot_at slot) 512) old new) where
   gate_same : (other : ℕ) → other ≢ slot → get_or new (slot_at other) 0 ≡ get_or old (slot_at other) 0

@@ -1,26 +1,15 @@
 -- No receipt lies in another's text with more behind it: only the last line of a receipt is that of its end.
-use Rattle.std.proofs.Common.{◌≡◌, ◌≢◌, inl, inr, ℕ, ℤ, ◌+◌, ◌<◌, List, [], ◌∷◌, ◌++◌, length, refl, ap, sym, ◌∙◌}
-use Rattle.std.proofs.Common.{subst, arith, append_assoc, length-append, Bool, true, false, not, ◌&&◌, ◌==◌}
-use Rattle.std.specs.Prelude.{codes}
-use Rattle.std.specs.Char.{digit_value}
-use Rattle.std.specs.List.{AllByRecursion}
-use Rattle.std.specs.Str.Parse.{AllDigits}
-use Rattle.std.proofs.lemmas.Bool.{and_parts, eq-eqb}
-use Rattle.std.proofs.lemmas.List.Elements.{recursion_from_All}
-use Rattle.seal_record.specs.Ranges.{IsTaxi}
-use Rattle.taxi_units.specs.Decimal.{IsDecimal}
-use Rattle.taxi_units.specs.Written.{IsAmountText, IsNumberText, IsPaddedText}
-use Rattle.taxi_units.specs.declared.receipt.Kind.{Kind}
-use Rattle.taxi_units.specs.declared.receipt.Kind.TheVariants.{Closed, Aborted, Expired, Roam}
-use Rattle.taxi_units.specs.declared.receipt.Receipt.{Receipt}
-use Rattle.taxi_units.specs.declared.receipt.Stamp.{Stamp}
-use Rattle.receipt_text.specs.Grammar.{IsKind, IsDateText, IsTimeText, IsStampText, IsDayText, IsHexDigit, IsHexText}
-use Rattle.receipt_text.specs.Grammar.{IsDistance, IsCalculation, Line, AreAmounts, AreTripLines, AreReceiptLines}
-use Rattle.receipt_text.specs.Grammar.{HasOptional}
-use Rattle.receipt_text.specs.AmountLines.{optional_lines, total_of}
-use Rattle.receipt_text.specs.Part.{Part}
-use Rattle.log_commands.specs.Record.{Record, IsRecord}
-use Rattle.taxi_units.specs.Identifier.{IsIdentifierCharacter}
+use Rattle.std.{specs.Char.{digit_value}, proofs.lemmas.{Bool.{and_parts, eq-eqb}, List.Elements.{recursion_from_All}}}
+use Rattle.std.specs.{List.{AllByRecursion}, Prelude.{codes}, Str.Parse.{AllDigits}}
+use Rattle.std.proofs.Common.{[], ℕ, ℤ, ◌&&◌, ◌++◌, ◌+◌, ◌<◌, ◌==◌, ◌∙◌, ◌∷◌, ◌≡◌, ◌≢◌, Bool, List, ap, append_assoc}
+use Rattle.std.proofs.Common.{arith, false, inl, inr, length, length-append, not, refl, subst, sym, true}
+use Rattle.{taxi_units.specs.Decimal.{IsDecimal}, seal_record.specs.Ranges.{IsTaxi}}
+use Rattle.taxi_units.specs.{Identifier.{IsIdentifierCharacter}, Written.{IsAmountText, IsNumberText, IsPaddedText}}
+use Rattle.taxi_units.specs.declared.receipt.{Kind.{Kind, TheVariants.{Aborted, Closed, Expired, Roam}}, Stamp.{Stamp}}
+use Rattle.receipt_text.specs.{AmountLines.{optional_lines, total_of}, Grammar.{IsTimeText, Line}}
+use Rattle.receipt_text.specs.Grammar.{AreAmounts, AreReceiptLines, AreTripLines, HasOptional, IsCalculation}
+use Rattle.receipt_text.specs.Grammar.{IsDateText, IsDayText, IsDistance, IsHexDigit, IsHexText, IsKind, IsStampText}
+use Rattle.log_commands.specs.{Common.{Part, Receipt}, Record.{IsRecord, Record}}
 
 -- ---- values have no line feed
 

@@ -1,7 +1,5 @@
 -- What follows of an answer that is Ok.
-use Rattle.std.proofs.Common.{Result}
-use Rattle.std.specs.Prelude.{OnOk}
-use Rattle.std.specs.declared.result.Result.TheVariants.{Ok, Err}
+use Rattle.std.{specs.{Prelude.{OnOk}, declared.result.Result.TheVariants.{Err, Ok}}, proofs.Common.{Result}}
 
 pub both : {T E : Type 0} (A B : Type 0) (r : Result T E) → OnOk r A → OnOk r B → OnOk r (A × B)
 both A B (Ok _) a b = (a, b)

@@ -1,29 +1,17 @@
 -- How the filing of a roll goes on and ends.
-use Rattle.std.proofs.Common.{◌≡◌, ◌≢◌, ◌⊎◌, inl, inr, ℕ, ◌+◌, ◌*◌, ◌≤◌, List, [], ◌∷◌, ◌++◌, length, Option, Some}
-use Rattle.std.proofs.Common.{None, Result, Ok, Err, refl, ap, sym, ◌∙◌, subst, arith, length-append}
-use Rattle.std.proofs.lemmas.List.{append-nil}
-use Rattle.std.specs.Prelude.{IsErrAnd, OnErr}
-use Rattle.outside.specs.Faults.{MayRise, RisesOnlyIf, Rose}
-use Rattle.outside.specs.declared.board.Board.{Ghosts}
-use Rattle.outside.specs.declared.fault.Failed.{Failed}
-use Rattle.log_commands.specs.Filed.{Files, IsFiledOf, IsNewer, IsOther}
+use Rattle.std.{specs.Prelude.{IsErrAnd, OnErr}, proofs.lemmas.List.{append-nil}}
+use Rattle.std.proofs.Common.{[], ℕ, ◌*◌, ◌++◌, ◌+◌, ◌∙◌, ◌∷◌, ◌≡◌, ◌≢◌, ◌≤◌, ◌⊎◌, Err, List, None, Ok, Option, Result}
+use Rattle.std.proofs.Common.{Some, ap, arith, inl, inr, length, length-append, refl, subst, sym}
+use Rattle.{outside.specs.declared.fault.Failed.{Failed}, log_commands.specs.{Filings.{MayHaveFailed}, Record.{Record}}}
+use Rattle.log_commands.specs.Common.{FileEnd, Ghosts, MayRise, RisesOnlyIf, Rose, stream_limit}
+use Rattle.log_commands.{specs.Filed.{Files, IsFiledOf, IsNewer, IsOther}, proofs.Causes.{may_rise_for, rose_later}}
 use Rattle.log_commands.specs.Filings.{EndsAs, FailsInRoll, FilesRoll, FilesTo, IsFiling, IsTold, LeavesSome}
-use Rattle.log_commands.specs.Filings.{MayHaveFailed}
-use Rattle.log_commands.specs.Reading.{EndsBy, FailsNow, GoesOn, HasRead, Place}
-use Rattle.log_commands.specs.Record.{Record}
-use Rattle.log_commands.specs.declared.file_roll.FileEnd.{FileEnd}
+use Rattle.log_commands.{specs.Reading.{EndsBy, FailsNow, GoesOn, HasRead, Place}, proofs.FiledLaws.{files_one_more}}
+use Rattle.log_commands.specs.declared.filing.Filing.{Filing, TheVariants.{Appended, OtherTaxi, Passed}}
+use Rattle.log_commands.specs.declared.roll.RollEnd.{RollEnd, TheVariants.{ReadFault, TooLong, Whole}}
+use Rattle.log_commands.{specs.declared.tail.Tail.{Tail}, proofs.Tails.{files_then, moments_then}}
+use Rattle.log_commands.proofs.{RollLaws.{read_first}, WholeRolls.{receipts_of_all, receipts_so_far, receipts_taken}}
 use Rattle.log_commands.specs.declared.file_roll.FileEnd.TheVariants as ends
-use Rattle.log_commands.specs.declared.filing.Filing.{Filing}
-use Rattle.log_commands.specs.declared.filing.Filing.TheVariants.{OtherTaxi, Passed, Appended}
-use Rattle.log_commands.specs.declared.roll.RollEnd.{RollEnd}
-use Rattle.taxi_units.specs.Streams.{stream_limit}
-use Rattle.log_commands.specs.declared.roll.RollEnd.TheVariants.{Whole, TooLong, ReadFault}
-use Rattle.log_commands.specs.declared.tail.Tail.{Tail}
-use Rattle.log_commands.proofs.Causes.{may_rise_for, rose_later}
-use Rattle.log_commands.proofs.FiledLaws.{files_one_more}
-use Rattle.log_commands.proofs.RollLaws.{read_first}
-use Rattle.log_commands.proofs.Tails.{files_then, moments_then}
-use Rattle.log_commands.proofs.WholeRolls.{receipts_of_all, receipts_so_far, receipts_taken}
 
 -- what holds is said of a failure
 pub err_says : {T E P : Type 0} (r : Result T E) → P → OnErr r P

@@ -1,15 +1,9 @@
 -- What a roll is read as.
-use Rattle.std.proofs.Common.{◌≡◌, ◌≢◌, ◌⊎◌, inl, inr, ℕ, suc, ◌+◌, ◌<◌, ◌≤◌, get_or, List, [], ◌∷◌, ◌++◌, length, refl}
-use Rattle.std.proofs.Common.{ap, sym, ◌∙◌, subst, arith, length-append}
-use Rattle.std.specs.Prelude.{codes}
-use Rattle.std.proofs.lemmas.List.{append-nil}
-use Rattle.taxi_units.specs.declared.receipt.Receipt.{Receipt}
-use Rattle.receipt_text.specs.Grammar.{IsReceiptText}
-use Rattle.receipt_text.specs.Part.{Part}
-use Rattle.receipt_text.proofs.Laws.{first_word, no_beginning, one_part, one_receipt}
-use Rattle.log_commands.specs.Record.{Record, IsRecord}
-use Rattle.log_commands.specs.Roll.{AreOnRoll, BeginsWithNone, Reads}
-use Rattle.log_commands.specs.Roll.Reads.{over, found, passed}
+use Rattle.{std.specs.Prelude.{codes}, receipt_text.proofs.Laws.{first_word, no_beginning, one_part, one_receipt}}
+use Rattle.std.proofs.Common.{[], ℕ, ◌++◌, ◌+◌, ◌<◌, ◌∙◌, ◌∷◌, ◌≡◌, ◌≢◌, ◌≤◌, ◌⊎◌, List, ap, arith, get_or, inl, inr}
+use Rattle.std.proofs.{Common.{length, length-append, refl, subst, suc, sym}, lemmas.List.{append-nil}}
+use Rattle.log_commands.specs.{Common.{IsReceiptText, Part, Receipt}, Roll.{AreOnRoll, BeginsWithNone, Reads}}
+use Rattle.log_commands.specs.{Record.{IsRecord, Record}, Roll.Reads.{found, over, passed}}
 
 -- ---- one receipt at a place
 

@@ -1,16 +1,10 @@
 -- How the reader of a roll goes on.
-use Rattle.std.proofs.Common.{◌≡◌, ℕ, ◌+◌, ◌-◌, ◌<◌, ◌≤◌, Bool, true, false, zero, suc, List, [], ◌∷◌, ◌++◌, length}
-use Rattle.std.proofs.Common.{take, drop, Option, Some, None, is_some, IfSome, option_to_list, refl, ap, sym, ◌∙◌}
-use Rattle.std.proofs.Common.{subst, arith, append_assoc, length-append}
-use Rattle.std.proofs.lemmas.List.{append-nil, drop-drop, drop-take}
-use Rattle.log_commands.specs.ReceiptSearch.{IsReceiptSearch, MayFollow}
-use Rattle.log_commands.specs.Reading.{EndsBy, GoesOn, HasRead, Place}
-use Rattle.taxi_units.specs.Streams.{stream_limit}
-use Rattle.log_commands.specs.Record.{Record}
-use Rattle.log_commands.specs.Roll.{Reads}
-use Rattle.log_commands.specs.Roll.Reads.{over}
-use Rattle.log_commands.specs.declared.roll.RollEnd.{RollEnd}
-use Rattle.log_commands.proofs.RollLaws.{read_on, reads_bytes}
+use Rattle.std.proofs.Common.{[], ℕ, ◌++◌, ◌+◌, ◌-◌, ◌<◌, ◌∙◌, ◌∷◌, ◌≡◌, ◌≤◌, Bool, IfSome, List, None, Option, Some}
+use Rattle.std.proofs.Common.{ap, append_assoc, arith, drop, false, is_some, length, length-append, option_to_list}
+use Rattle.std.proofs.{Common.{refl, subst, suc, sym, take, true, zero}, lemmas.List.{append-nil, drop-drop, drop-take}}
+use Rattle.log_commands.specs.{Common.{stream_limit}, Record.{Record}, Roll.Reads.{over}}
+use Rattle.log_commands.specs.{Reading.{EndsBy, GoesOn, HasRead, Place}, ReceiptSearch.{IsReceiptSearch, MayFollow}}
+use Rattle.log_commands.{specs.{Roll.{Reads}, declared.roll.RollEnd.{RollEnd}}, proofs.RollLaws.{read_on, reads_bytes}}
 
 -- ---- lists
 

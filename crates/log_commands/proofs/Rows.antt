@@ -1,12 +1,8 @@
 -- Going through the slots of the log from the newest record back.
-use Rattle.std.proofs.Common.{◌≡◌, inl, inr, ℕ, ◌+◌, ◌-◌, ◌<◌, ◌≤◌, List, [], ◌∷◌, length, refl, sym, ◌∙◌, subst, arith}
-use Rattle.std.proofs.Common.{Some}
-use Rattle.std.proofs.lemmas.Bool.{cases_lt}
-use Rattle.log_commands.specs.Slots.{slot_of, HasRecord, IsClosed}
-use Rattle.log_commands.specs.LogList.{AreInSlots, IsCount, StandsAt}
-use Rattle.log_commands.specs.LogRow.{IsCountBack, IsRow, slot_back}
-use Rattle.log_commands.specs.LogScan.{IsEntry}
-use Rattle.log_commands.specs.declared.scanning.Entry.{Entry}
+use Rattle.std.proofs.Common.{[], ℕ, ◌+◌, ◌-◌, ◌<◌, ◌∙◌, ◌∷◌, ◌≡◌, ◌≤◌, List, Some, arith, inl, inr, length, refl}
+use Rattle.std.proofs.{Common.{subst, sym}, lemmas.Bool.{cases_lt}}
+use Rattle.log_commands.specs.{LogList.{AreInSlots, IsCount, StandsAt}, LogRow.{IsCountBack, IsRow, slot_back}}
+use Rattle.log_commands.specs.{LogScan.{IsEntry}, Slots.{HasRecord, IsClosed, slot_of}, declared.scanning.Entry.{Entry}}
 
 -- no slot
 pub row_none : (image : List ℕ) (last newer : ℕ) → 0 < newer → IsRow image last 0 newer

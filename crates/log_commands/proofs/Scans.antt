@@ -1,19 +1,12 @@
 -- What a slot's content tells of it.
-use Rattle.std.proofs.Common.{◌≡◌, inl, inr, ℕ, zero, suc, ◌+◌, ◌<◌, List, [], ◌∷◌, take, drop, length, get_or, refl}
-use Rattle.std.proofs.Common.{ap, sym, ◌∙◌, subst, arith, Option, Some, None, Result, IfOk}
-use Rattle.std.specs.declared.result.Result.TheVariants.{Ok, Err}
-use Rattle.std.specs.Int.{w64, from_be_bytes}
-use Rattle.std.proofs.lemmas.List.{drop-take, get_or-drop, get_or-take, get_or-set_other, get_or-set_same}
-use Rattle.std.proofs.lemmas.Bool.{cases_eq}
-use Rattle.std.specs.Prelude.{set}
-use Rattle.log_commands.specs.Record.{Record}
-use Rattle.log_commands.specs.Slots.{slot_at, slot_of, behind_gate, Spells}
-use Rattle.log_commands.specs.LogScan.{IsBad, IsLowestBad, IsContent, IsContentOf, IsEntry, IsEntryOf}
-use Rattle.log_commands.specs.declared.scanning.Content.{Content}
-use Rattle.log_commands.specs.declared.scanning.Content.TheVariants.{Closed, Unread, Filled}
-use Rattle.log_commands.specs.declared.scanning.Entry.{Entry}
-use Rattle.log_commands.specs.declared.scanning.ScanFault.{ScanFault}
-use Rattle.log_commands.specs.declared.scanning.ScanFault.TheVariants.{BadSlot, DeviceFailed}
+use Rattle.std.specs.{Int.{from_be_bytes, w64}, Prelude.{set}, declared.result.Result.TheVariants.{Err, Ok}}
+use Rattle.std.proofs.Common.{[], ℕ, ◌+◌, ◌<◌, ◌∙◌, ◌∷◌, ◌≡◌, IfOk, List, None, Option, Result, Some, ap, arith, drop}
+use Rattle.std.proofs.{Common.{get_or, inl, inr, length, refl, subst, suc, sym, take, zero}, lemmas.Bool.{cases_eq}}
+use Rattle.std.proofs.lemmas.List.{drop-take, get_or-drop, get_or-set_other, get_or-set_same, get_or-take}
+use Rattle.log_commands.specs.LogScan.{IsBad, IsContent, IsContentOf, IsEntry, IsEntryOf, IsLowestBad}
+use Rattle.log_commands.specs.{Record.{Record}, Slots.{Spells, behind_gate, slot_at, slot_of}}
+use Rattle.log_commands.specs.declared.scanning.{Content.{Content, TheVariants.{Closed, Filled, Unread}}, Entry.{Entry}}
+use Rattle.log_commands.specs.declared.scanning.ScanFault.{ScanFault, TheVariants.{BadSlot, DeviceFailed}}
 use Rattle.log_commands.proofs.Spelled.{place_of_spelling, small_number}
 
 -- one byte more is left out

@@ -1,15 +1,11 @@
 -- How a search for a receipt goes on.
-use Rattle.std.proofs.Common.{◌≡◌, ◌≢◌, ℕ, ◌+◌, ◌-◌, ◌<◌, ◌≤◌, get_or, Bool, true, false, List, [], ◌∷◌, ◌++◌, length}
-use Rattle.std.proofs.Common.{take, drop, refl, ap, sym, ◌∙◌, subst, arith, append_assoc, length-append, length-take}
-use Rattle.std.proofs.Common.{length-drop}
-use Rattle.std.proofs.lemmas.List.{append-nil, drop-drop, get_or-take, take-append-drop}
-use Rattle.std.proofs.Math.Seq.{take-length}
-use Rattle.receipt_text.proofs.Laws.{short_texts}
-use Rattle.log_commands.specs.ReceiptSearch.{IsReceiptSearch, MayFollow}
-use Rattle.log_commands.specs.Record.{Record, IsRecord}
-use Rattle.log_commands.specs.Roll.{BeginsWithNone, Reads}
-use Rattle.log_commands.specs.Roll.Reads.{over, found, passed}
-use Rattle.log_commands.proofs.RollLaws.{more_of, pass_bytes, read_on}
+use Rattle.std.proofs.Common.{[], ℕ, ◌++◌, ◌+◌, ◌-◌, ◌<◌, ◌∙◌, ◌∷◌, ◌≡◌, ◌≢◌, ◌≤◌, Bool, List, ap, append_assoc, arith}
+use Rattle.std.proofs.Common.{drop, false, get_or, length, length-append, length-drop, length-take, refl, subst, sym}
+use Rattle.std.proofs.{Common.{take, true}, lemmas.List.{append-nil, drop-drop, get_or-take, take-append-drop}}
+use Rattle.{std.proofs.Math.Seq.{take-length}, receipt_text.proofs.Laws.{short_texts}}
+use Rattle.log_commands.specs.{ReceiptSearch.{IsReceiptSearch, MayFollow}, Roll.Reads.{found, over, passed}}
+use Rattle.log_commands.specs.Record.{IsRecord, Record}
+use Rattle.log_commands.{specs.Roll.{BeginsWithNone, Reads}, proofs.RollLaws.{more_of, pass_bytes, read_on}}
 
 -- the rest of a text, as a slice
 pub rest_of : (at : ℕ) (text : List ℕ) → take (length text - at) (drop at text) ≡ drop at text

@@ -1,18 +1,11 @@
 -- How records are shown one after another.
-use Rattle.std.proofs.Common.{◌≡◌, ℕ, zero, suc, ◌+◌, ◌<◌, ◌≤◌, List, [], ◌∷◌, ◌++◌, length, take, drop, refl, ap, sym}
-use Rattle.std.proofs.Common.{◌∙◌, subst, arith, append_assoc}
-use Rattle.std.proofs.lemmas.List.{append-nil, take-append-drop}
-use Rattle.outside.specs.Printing.{Begins}
-use Rattle.outside.proofs.Laws.{begins_after, begins_more}
-use Rattle.log_commands.specs.LogList.{AreInSlots}
-use Rattle.log_commands.specs.LogScan.{IsContent}
-use Rattle.log_commands.specs.declared.scanning.Content.{Content}
-use Rattle.log_commands.specs.declared.scanning.Content.TheVariants.{Closed, Unread, Filled}
-use Rattle.log_commands.specs.Record.{Record, IsRecord}
-use Rattle.log_commands.specs.Showing.{texts_of}
-use Rattle.log_commands.specs.Slots.{HasRecord, behind_gate, slot_of}
-use Rattle.log_commands.proofs.RollLaws.{some_bytes}
-use Rattle.log_commands.proofs.Spelled.{one_spelled, short_record}
+use Rattle.std.proofs.Common.{[], ℕ, ◌++◌, ◌+◌, ◌<◌, ◌∙◌, ◌∷◌, ◌≡◌, ◌≤◌, List, ap, append_assoc, arith, drop, length}
+use Rattle.std.proofs.{Common.{refl, subst, suc, sym, take, zero}, lemmas.List.{append-nil, take-append-drop}}
+use Rattle.{outside.proofs.Laws.{begins_after, begins_more}, log_commands.specs.Slots.{HasRecord, behind_gate, slot_of}}
+use Rattle.log_commands.{specs.{Common.{Begins}, Record.{IsRecord, Record}}, proofs.Spelled.{one_spelled, short_record}}
+use Rattle.log_commands.{specs.{LogList.{AreInSlots}, LogScan.{IsContent}}, proofs.RollLaws.{some_bytes}}
+use Rattle.log_commands.specs.ShownLog.{texts_of}
+use Rattle.log_commands.specs.declared.scanning.Content.{Content, TheVariants.{Closed, Filled, Unread}}
 
 -- what is held is what is read
 told_content : (image : List ℕ) (place : ℕ) (it : Record) (content : Content) → HasRecord image (slot_of place) place it

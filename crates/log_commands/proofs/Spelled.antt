@@ -1,15 +1,10 @@
 -- What a record's bytes are read as.
-use Rattle.std.proofs.Common.{◌≡◌, ◌↔◌, ℕ, ◌-◌, Bool, ◌<◌, ◌≤◌, ◌^◌, List, [], ◌∷◌, ◌++◌, length, take, drop, replicate}
-use Rattle.std.proofs.Common.{refl, ap, sym, ◌∙◌, subst, arith, ◌⊎◌, ⊎_elim, false, Option, Some, None, IsTrue}
-use Rattle.std.specs.Int.{w16, w64, from_be_bytes}
+use Rattle.std.{specs.Int.{from_be_bytes, w16, w64}, proofs.Math.Seq.{take-append_seam}}
+use Rattle.std.proofs.Common.{[], ℕ, ◌++◌, ◌-◌, ◌<◌, ◌^◌, ◌↔◌, ◌∙◌, ◌∷◌, ◌≡◌, ◌≤◌, ◌⊎◌, Bool, IsTrue, List, None}
+use Rattle.std.proofs.Common.{Option, Some, ap, arith, drop, false, length, refl, replicate, subst, sym, take, ⊎_elim}
 use Rattle.std.proofs.lemmas.Nat.{from_be_bytes-to_be_bytes_2, from_be_bytes-to_be_bytes_8}
-use Rattle.std.proofs.Math.Seq.{take-append_seam}
-use Rattle.taxi_units.specs.declared.receipt.Receipt.{Receipt}
-use Rattle.receipt_text.specs.Grammar.{IsReceiptText}
-use Rattle.receipt_text.specs.Part.{Part}
-use Rattle.receipt_text.proofs.Laws.{one_part, one_receipt, short_texts}
-use Rattle.log_commands.specs.Record.{Record, IsRecord}
-use Rattle.log_commands.specs.Slots.{IsRecordOf, Spells, spelling}
+use Rattle.{receipt_text.proofs.Laws.{one_part, one_receipt, short_texts}, log_commands.specs.Record.{IsRecord, Record}}
+use Rattle.log_commands.specs.{Common.{IsReceiptText, Part, Receipt}, Slots.{IsRecordOf, Spells, spelling}}
 
 same_parts : (t u : List ℕ) (m n : ℕ) (x y : List ℕ) → t ≡ u → m ≡ n → x ≡ y
     → ◌≡◌ {A = Record} (record { text = t; number = m; taxi = x }) (record { text = u; number = n; taxi = y })

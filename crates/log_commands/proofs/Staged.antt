@@ -1,17 +1,12 @@
 -- What each stage of an append leaves, while it goes on and at its end.
-use Rattle.std.proofs.Common.{◌≡◌, ◌⊎◌, inl, inr, ⊎_elim, ℕ, ◌+◌, ◌-◌, ◌<◌, ◌≤◌, Bool, true, false, List, [], ◌∷◌, ◌++◌}
-use Rattle.std.proofs.Common.{length, take, drop, get_or, refl, ap, sym, ◌∙◌, subst, arith, length-append}
-use Rattle.std.specs.Prelude.{nat_lt}
-use Rattle.std.proofs.lemmas.Bool.{cases_eq, cases_lt, false≢true}
-use Rattle.std.proofs.lemmas.Bool.Decides.{Decides-ltb}
-use Rattle.std.proofs.lemmas.List.{drop-append-le, ext_get_or, get_or-take, get_or-drop}
-use Rattle.outside.specs.Disk.{IsWithin, SameBut}
-use Rattle.outside.proofs.Laws.{same_slice}
-use Rattle.slot_store.specs.Writes.{OrWithin}
-use Rattle.log_commands.specs.Record.{Record, IsRecord}
-use Rattle.log_commands.specs.Slots.{slot_at, slot_of, behind_gate, spelling, IsClosed, IsOpen, Spells}
+use Rattle.std.{specs.Prelude.{nat_lt}, proofs.lemmas.Bool.{cases_eq, cases_lt, false≢true}}
+use Rattle.std.proofs.Common.{[], ℕ, ◌++◌, ◌+◌, ◌-◌, ◌<◌, ◌∙◌, ◌∷◌, ◌≡◌, ◌≤◌, ◌⊎◌, Bool, List, ap, arith, drop, false}
+use Rattle.std.proofs.Common.{get_or, inl, inr, length, length-append, refl, subst, sym, take, true, ⊎_elim}
+use Rattle.std.proofs.lemmas.{Bool.Decides.{Decides-ltb}, List.{drop-append-le, ext_get_or, get_or-drop, get_or-take}}
+use Rattle.{outside.{specs.Disk.{IsWithin}, proofs.Laws.{same_slice}}, log_commands.specs.Record.{IsRecord, Record}}
+use Rattle.log_commands.specs.{Appends.{IsListKept, IsReady, IsShut, IsStill, IsWritten}, Common.{OrWithin, SameBut}}
 use Rattle.log_commands.specs.LogList.{AreInSlots, EndsWith, RiseFrom, StandsFor, last_ones}
-use Rattle.log_commands.specs.Appends.{IsListKept, IsReady, IsShut, IsStill, IsWritten}
+use Rattle.log_commands.specs.Slots.{IsClosed, IsOpen, Spells, behind_gate, slot_at, slot_of, spelling}
 use Rattle.log_commands.proofs.OtherSlots.{bounds, ends_closed, ends_opened, kept_few, kept_of, rise_drop}
 
 -- what was written lies in the slot

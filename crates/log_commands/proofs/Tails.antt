@@ -1,24 +1,14 @@
 -- How the end of the log goes on when receipts are filed.
-use Rattle.std.proofs.Common.{◌≡◌, inl, inr, ⊎_elim, ℕ, zero, suc, ◌+◌, ◌-◌, ◌<◌, ◌≤◌, Bool, List, [], ◌∷◌, ◌++◌}
-use Rattle.std.proofs.Common.{length, take, drop, Option, Some, None, refl, ap, sym, ◌∙◌, subst, arith, append_assoc}
-use Rattle.std.proofs.Common.{length-append, length-drop}
-use Rattle.std.specs.Prelude.{nat_lt}
-use Rattle.std.proofs.lemmas.List.{append-nil, drop-drop, take-append-le}
-use Rattle.std.proofs.Math.Seq.{take-append-add}
-use Rattle.outside.specs.Disk.{SameBut}
-use Rattle.outside.specs.declared.board.Board.{Ghosts}
-use Rattle.outside.specs.Runs.{LeavesOnly}
-use Rattle.outside.proofs.Laws.{leaves_none, leaves_then, leaves_wider}
-use Rattle.log_commands.specs.Appends.{IsListKept, IsReady, IsStep}
-use Rattle.log_commands.specs.Filed.{Files, IsNewer, IsOlder}
-use Rattle.log_commands.specs.Filed.Files.{over, passed, appended}
+use Rattle.{std.{specs.Prelude.{nat_lt}, proofs.Math.Seq.{take-append-add}}, log_commands.proofs.Staged.{still_leaves}}
+use Rattle.std.proofs.Common.{[], ℕ, ◌++◌, ◌+◌, ◌-◌, ◌<◌, ◌∙◌, ◌∷◌, ◌≡◌, ◌≤◌, Bool, List, None, Option, Some, ap}
+use Rattle.std.proofs.Common.{append_assoc, arith, drop, inl, inr, length, length-append, length-drop, refl, subst, suc}
+use Rattle.std.proofs.{Common.{sym, take, zero, ⊎_elim}, lemmas.List.{append-nil, drop-drop, take-append-le}}
+use Rattle.{outside.proofs.Laws.{leaves_none, leaves_then, leaves_wider}, log_commands.proofs.OtherSlots.{kept_and_new}}
+use Rattle.log_commands.specs.{Appends.{IsListKept, IsReady, IsStep}, Common.{Ghosts, LeavesOnly, SameBut}}
+use Rattle.log_commands.specs.{Filed.{Files, IsNewer, IsOlder}, LogList.{RiseFrom, StandsFor, StandsForLast, last_ones}}
+use Rattle.log_commands.specs.{Filed.Files.{appended, over, passed}, Record.{IsRecord, Record}}
 use Rattle.log_commands.specs.Filings.{FilesTo, IsLast, IsTailOf, LeavesSome, StandsForSome, newest_after, newest_of}
-use Rattle.log_commands.specs.LogList.{RiseFrom, StandsFor, StandsForLast, last_ones}
-use Rattle.log_commands.specs.Record.{Record, IsRecord}
-use Rattle.log_commands.specs.declared.tail.Tail.{Tail}
-use Rattle.log_commands.proofs.FiledLaws.{files_on}
-use Rattle.log_commands.proofs.OtherSlots.{kept_and_new}
-use Rattle.log_commands.proofs.Staged.{still_leaves}
+use Rattle.log_commands.{specs.declared.tail.Tail.{Tail}, proofs.FiledLaws.{files_on}}
 
 -- ---- the newest of a list
 

@@ -1,12 +1,8 @@
 -- What was handed out of a roll, when no more of it is read.
-use Rattle.std.proofs.Common.{◌≡◌, ℕ, List, [], ◌++◌, Option, Some, is_some, ap, sym, ◌∙◌, subst}
-use Rattle.std.proofs.lemmas.List.{append-nil}
-use Rattle.log_commands.specs.Reading.{EndsBy, HasRead, Place}
-use Rattle.log_commands.specs.Record.{Record}
-use Rattle.log_commands.specs.Roll.{AreOnRoll, Reads}
-use Rattle.log_commands.specs.declared.roll.RollEnd.{RollEnd}
-use Rattle.log_commands.specs.declared.roll.RollEnd.TheVariants.{Whole}
-use Rattle.log_commands.proofs.Rolls.{none_follows}
+use Rattle.std.proofs.Common.{[], ℕ, ◌++◌, ◌∙◌, ◌≡◌, List, Option, Some, ap, is_some, subst, sym}
+use Rattle.{std.proofs.lemmas.List.{append-nil}, log_commands.specs.declared.roll.RollEnd.TheVariants.{Whole}}
+use Rattle.log_commands.specs.{Reading.{EndsBy, HasRead, Place}, Record.{Record}, declared.roll.RollEnd.{RollEnd}}
+use Rattle.log_commands.{specs.Roll.{AreOnRoll, Reads}, proofs.Rolls.{none_follows}}
 
 -- what was handed out was read from the bytes taken
 pub receipts_so_far : (roll : List ℕ) (place : Place) (rest : List ℕ) (receipts : List Record)

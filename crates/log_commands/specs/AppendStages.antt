@@ -1,9 +1,8 @@
 -- Rules: the three stages in which the log gets one more record, on the one slot of its place. IsStep, in Appends, says
 -- what a cut leaves meanwhile.
-use Rattle.std.specs.Prelude.{◌≡◌, ℕ, ◌+◌, ◌≤◌, Bool, true, false, List, length}
+use Rattle.std.specs.Prelude.{ℕ, ◌+◌, ◌≡◌, ◌≤◌, Bool, List, false, length, true}
+use Rattle.log_commands.specs.{LogList.{EndsWith}, Slots.{IsClosed, IsOpen, Spells, behind_gate, slot_of}}
 use Rattle.log_commands.specs.Record.{Record}
-use Rattle.log_commands.specs.Slots.{slot_of, behind_gate, IsClosed, IsOpen, Spells}
-use Rattle.log_commands.specs.LogList.{EndsWith}
 
 -- a board is still if nothing is in flight
 abbrev pub IsStill : (ℕ → Type 0) → Type 0

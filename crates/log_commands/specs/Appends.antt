@@ -1,8 +1,7 @@
 -- Rules: what a cut leaves while the log gets one more record.
-use Rattle.std.specs.Prelude.{◌⊎◌, List, [], ◌∷◌, ◌++◌, ℕ}
-use Rattle.log_commands.specs.Record.{Record}
-use Rattle.log_commands.specs.LogList.{StandsFor, last_ones}
-pub use Rattle.log_commands.specs.AppendStages.{IsStill, IsReady, IsShut, IsWritten}
+use Rattle.std.specs.Prelude.{[], ℕ, ◌++◌, ◌∷◌, ◌⊎◌, List}
+use Rattle.log_commands.specs.{LogList.{StandsFor, last_ones}, Record.{Record}}
+pub use Rattle.log_commands.specs.AppendStages.{IsReady, IsShut, IsStill, IsWritten}
 
 -- a list is kept in an image that stands for the list, or for its last 255
 abbrev pub IsListKept : List Record → List ℕ → Type 0

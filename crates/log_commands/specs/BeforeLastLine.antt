@@ -1,17 +1,8 @@
 -- For proofs: what a call gives before its last line is printed. IsCall, in Calls, says what it gives in the end.
-use Rattle.std.specs.Prelude.{◌≡◌, ◌⊎◌, ℕ, ◌+◌, ◌*◌, ◌≤◌, List, ◌++◌, length, Option, Some}
-use Rattle.outside.specs.Faults.{Rose}
-use Rattle.outside.specs.Printing.{Begins}
-use Rattle.outside.specs.declared.board.Board.{Ghosts}
-use Rattle.outside.specs.declared.files.Files.{Ghosts as FileGhosts}
-use Rattle.log_commands.specs.Calls.{LeavesLog, MayEnd, shown_of}
-use Rattle.log_commands.specs.Endings.{line_of, status_of}
-use Rattle.log_commands.specs.LogList.{StandsFor}
-use Rattle.log_commands.specs.Record.{Record}
-use Rattle.log_commands.specs.declared.ending.Ended.{Ended}
-use Rattle.log_commands.specs.declared.ending.Ended.TheVariants.{BoardFault}
-use Rattle.log_commands.specs.declared.words.Call.{Call}
-use Rattle.log_commands.specs.declared.words.Call.TheVariants.{File}
+use Rattle.std.specs.Prelude.{ℕ, ◌*◌, ◌++◌, ◌+◌, ◌≡◌, ◌≤◌, ◌⊎◌, List, Option, Some, length}
+use Rattle.{outside.specs.declared.files.Files.{Ghosts as FileGhosts}, log_commands.specs.Endings.{line_of, status_of}}
+use Rattle.log_commands.specs.{Calls.{LeavesLog, MayEnd, shown_of}, Record.{Record}}
+use Rattle.log_commands.specs.{Common.{Begins, BoardFault, Call, Ended, File, Ghosts, Rose}, LogList.{StandsFor}}
 
 module _ {D L : Type 0} {N : ℕ} (B : Ghosts D N L) where
   -- the last line of a course is due if the call has ended so and what is shown before that line is printed

@@ -1,28 +1,13 @@
 -- Rules: how a call of the program ends, what it prints, and what it leaves of the log.
-use Rattle.std.specs.Prelude.{◌≡◌, ◌≢◌, ◌⊎◌, ℕ, ◌+◌, ◌*◌, ◌<◌, ◌≤◌, List, [], ◌∷◌, ◌++◌, length, Option, Some, None}
-use Rattle.outside.specs.Disk.{SameBut}
-use Rattle.outside.specs.Faults.{Rose}
-use Rattle.outside.specs.Printing.{Begins}
-use Rattle.outside.specs.Runs.{IsAtRest, LeavesOnly, MayHold}
-use Rattle.outside.specs.declared.board.Board.{Ghosts}
-use Rattle.outside.specs.declared.files.Files.{Ghosts as FileGhosts}
-use Rattle.slot_store.specs.Syncs.{LeavesFromSync}
-use Rattle.log_commands.specs.Endings.{line_of, status_of}
-use Rattle.log_commands.specs.Filed.{EndsAt, IsFiledOf}
-use Rattle.log_commands.specs.FilingEnds.{EndsAs, IsTold, StandsForSome, newest_of}
-use Rattle.log_commands.specs.LogList.{StandsFor, last_ones}
-use Rattle.log_commands.specs.Record.{Record}
-use Rattle.log_commands.specs.Roll.{Reads}
-use Rattle.log_commands.specs.Showing.{texts_of}
-use Rattle.log_commands.specs.Unread.{IsBroken, IsLowestBad}
-use Rattle.log_commands.specs.declared.ending.Ended.{Ended}
-use Rattle.log_commands.specs.declared.ending.Ended.TheVariants.{Filed, Shown, BadWords, BadLog, BrokenLog, OtherTaxi}
-use Rattle.log_commands.specs.declared.ending.Ended.TheVariants.{TooLong, ReadFault, BoardFault}
-use Rattle.log_commands.specs.declared.file_roll.FileEnd.{FileEnd}
+use Rattle.std.specs.Prelude.{[], ℕ, ◌*◌, ◌++◌, ◌+◌, ◌<◌, ◌∷◌, ◌≡◌, ◌≢◌, ◌≤◌, ◌⊎◌, List, None, Option, Some, length}
+use Rattle.outside.specs.{Runs.{IsAtRest, MayHold}, declared.files.Files.{Ghosts as FileGhosts}}
+use Rattle.log_commands.specs.Common.{BadLog, BadWords, Begins, BoardFault, BrokenLog, Call, Ended, File, FileEnd}
+use Rattle.log_commands.specs.Common.{Filed, Ghosts, LeavesFromSync, LeavesOnly, OtherTaxi, ReadFault, Rose, SameBut}
+use Rattle.log_commands.specs.{Common.{Show, Shown, TooLong, stream_limit}, Unread.{IsBroken, IsLowestBad}}
+use Rattle.log_commands.specs.{Endings.{line_of, status_of}, Filed.{EndsAt, IsFiledOf}, ShownLog.{texts_of}}
+use Rattle.log_commands.specs.{FilingEnds.{EndsAs, IsTold, StandsForSome, newest_of}, LogList.{StandsFor, last_ones}}
+use Rattle.log_commands.specs.{Record.{Record}, Roll.{Reads}}
 use Rattle.log_commands.specs.declared.file_roll.FileEnd.TheVariants as ends
-use Rattle.log_commands.specs.declared.words.Call.{Call}
-use Rattle.log_commands.specs.declared.words.Call.TheVariants.{File, Show}
-use Rattle.taxi_units.specs.Streams.{stream_limit}
 
 -- filing a roll again into the log of an image appends nothing if no receipts are filed of any beginning of the roll
 abbrev pub AppendsNothing : (image roll : List ℕ) → Type 0

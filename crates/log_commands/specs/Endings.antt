@@ -1,11 +1,8 @@
 -- Rules: what status and what last line belong to each end of the program.
-use Rattle.std.specs.Prelude.{ℕ, List, [], ◌++◌, codes, decimal}
-use Rattle.log_commands.specs.declared.ending.Ended.{Ended}
-use Rattle.log_commands.specs.declared.ending.Ended.TheVariants.{Filed, Shown, BadWords, BadLog, BrokenLog, OtherTaxi}
-use Rattle.log_commands.specs.declared.ending.Ended.TheVariants.{TooLong, ReadFault, BoardFault}
-use Rattle.log_commands.specs.declared.file_roll.FileEnd.{FileEnd}
+use Rattle.std.specs.Prelude.{[], ℕ, ◌++◌, List, codes, decimal}
+use Rattle.log_commands.specs.Common.{BadLog, BadWords, BoardFault, BrokenLog, Ended, FileEnd, Filed, OtherTaxi}
+use Rattle.log_commands.specs.{Common.{ReadFault, Shown, TooLong}, declared.finding.FindFault.{FindFault}}
 use Rattle.log_commands.specs.declared.file_roll.FileEnd.TheVariants as ends
-use Rattle.log_commands.specs.declared.finding.FindFault.{FindFault}
 use Rattle.log_commands.specs.declared.finding.FindFault.TheVariants as faults
 
 -- the status of an end of the program is 0 if receipts were filed or the log was shown, and another number for each

@@ -1,10 +1,7 @@
 -- Rules: which receipts of a roll are filed.
-use Rattle.std.specs.Prelude.{◌≡◌, ◌≢◌, ℕ, ◌+◌, ◌<◌, ◌≤◌, List, [], ◌∷◌, ◌++◌, length, Option, Some, None}
-use Rattle.log_commands.specs.Record.{Record}
-use Rattle.log_commands.specs.Roll.{Reads}
-use Rattle.log_commands.specs.declared.filing.Filing.{Filing}
-use Rattle.log_commands.specs.declared.filing.Filing.TheVariants.{OtherTaxi, Passed, Appended}
-use Rattle.taxi_units.specs.Streams.{stream_limit}
+use Rattle.std.specs.Prelude.{[], ℕ, ◌++◌, ◌+◌, ◌<◌, ◌∷◌, ◌≡◌, ◌≢◌, ◌≤◌, List, None, Option, Some, length}
+use Rattle.log_commands.specs.{Common.{stream_limit}, Record.{Record}}
+use Rattle.log_commands.specs.{Roll.{Reads}, declared.filing.Filing.{Filing, TheVariants.{Appended, OtherTaxi, Passed}}}
 
 -- a receipt is another taxi's if its taxi isn't the newest record's; beside an empty log no receipt is
 abbrev pub IsOther : (newest : Option Record) → Record → Type 0

@@ -1,12 +1,8 @@
 -- Rules: how the filing of a roll ends, and which list of receipts it leaves.
-use Rattle.std.specs.Prelude.{◌≡◌, ℕ, ◌≤◌, List, [], ◌∷◌, ◌++◌, length, take, Option, Some, None}
-use Rattle.log_commands.specs.Filed.{EndsAt, Files}
-use Rattle.log_commands.specs.LogList.{StandsForLast}
-use Rattle.log_commands.specs.Record.{Record}
-use Rattle.log_commands.specs.Roll.{AreOnRoll}
-use Rattle.log_commands.specs.declared.file_roll.FileEnd.{FileEnd}
-use Rattle.log_commands.specs.declared.file_roll.FileEnd.TheVariants.{Filed, OtherTaxi, TooLong, ReadFault}
-use Rattle.taxi_units.specs.Streams.{stream_limit}
+use Rattle.std.specs.Prelude.{[], ℕ, ◌++◌, ◌∷◌, ◌≡◌, ◌≤◌, List, None, Option, Some, length, take}
+use Rattle.log_commands.specs.{Common.{FileEnd, stream_limit}, Filed.{EndsAt, Files}, LogList.{StandsForLast}}
+use Rattle.log_commands.specs.{Record.{Record}, Roll.{AreOnRoll}}
+use Rattle.log_commands.specs.declared.file_roll.FileEnd.TheVariants.{Filed, OtherTaxi, ReadFault, TooLong}
 
 -- the newest record behind some records is the last of them, or the one that was the newest before if they are none
 abbrev pub newest_after : Option Record → List Record → Option Record

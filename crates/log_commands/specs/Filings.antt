@@ -1,16 +1,9 @@
 -- For proofs: what filing receipts leaves of the log and of its end in memory. Calls and FilingEnds say what it gives.
-use Rattle.std.specs.Prelude.{◌≡◌, ℕ, ◌+◌, ◌*◌, ◌≤◌, List, ◌++◌, length, Option, Some, None, Result, Ok, Err}
-use Rattle.outside.specs.declared.board.Board.{Ghosts}
-use Rattle.outside.specs.declared.fault.Failed.{Failed}
-use Rattle.outside.specs.Runs.{LeavesOnly}
-use Rattle.log_commands.specs.Appends.{IsReady}
-use Rattle.log_commands.specs.Filed.{Files, IsFiledOf}
-use Rattle.log_commands.specs.FilingEnds.{EndsAs, IsTold, StandsForSome, newest_of}
-use Rattle.log_commands.specs.LogList.{last_ones}
-use Rattle.log_commands.specs.Reading.{HasRead, Place}
-use Rattle.log_commands.specs.Record.{Record, IsRecord}
-use Rattle.log_commands.specs.declared.tail.Tail.{Tail}
-use Rattle.log_commands.specs.declared.file_roll.FileEnd.{FileEnd}
+use Rattle.std.specs.Prelude.{ℕ, ◌*◌, ◌++◌, ◌+◌, ◌≡◌, ◌≤◌, Err, List, None, Ok, Option, Result, Some, length}
+use Rattle.{outside.specs.declared.fault.Failed.{Failed}, log_commands.specs.Common.{FileEnd, Ghosts, LeavesOnly}}
+use Rattle.log_commands.specs.{Appends.{IsReady}, LogList.{last_ones}}
+use Rattle.log_commands.specs.{Filed.{Files, IsFiledOf}, Reading.{HasRead, Place}, declared.tail.Tail.{Tail}}
+use Rattle.log_commands.specs.{FilingEnds.{EndsAs, IsTold, StandsForSome, newest_of}, Record.{IsRecord, Record}}
 use Rattle.log_commands.specs.declared.file_roll.FileEnd.TheVariants as ends
 pub use Rattle.log_commands.specs.FilingEnds.{EndsAs, IsTold, StandsForSome, newest_after, newest_of}
 

@@ -13,7 +13,8 @@ pub mod Reading
 pub mod ReceiptSearch
 pub mod Record
 pub mod Roll
-pub mod Showing
+pub mod ShownLog
 pub mod Slots
 pub mod Unread
 pub mod Words
+pub mod Common

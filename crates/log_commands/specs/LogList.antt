@@ -1,7 +1,6 @@
 -- Rules: the list of receipts for which an image of the log stands.
-use Rattle.std.specs.Prelude.{◌≡◌, ◌≢◌, ◌⊎◌, ℕ, ◌+◌, ◌-◌, ◌<◌, ◌≤◌, List, [], ◌∷◌, length, drop}
-use Rattle.log_commands.specs.Record.{Record}
-use Rattle.log_commands.specs.Slots.{slot_of, HasRecord, IsClosed}
+use Rattle.std.specs.Prelude.{[], ℕ, ◌+◌, ◌-◌, ◌<◌, ◌∷◌, ◌≡◌, ◌≢◌, ◌≤◌, ◌⊎◌, List, drop, length}
+use Rattle.log_commands.specs.{Record.{Record}, Slots.{HasRecord, IsClosed, slot_of}}
 
 -- records are held from a place in the log on if they are one after another in the slots of its places
 abbrev pub AreInSlots : List ℕ → ℕ → List Record → Type 0

@@ -1,11 +1,8 @@
 -- For proofs: how the slots of the log are gone through from the newest record back. StandsFor, in LogList, says which
 -- list they are.
-use Rattle.std.specs.Prelude.{◌≡◌, ◌⊎◌, ℕ, ◌+◌, ◌-◌, ◌%◌, ◌<◌, ◌≤◌, List, length, get_or, Option, None, Some}
-use Rattle.log_commands.specs.Record.{Record}
-use Rattle.log_commands.specs.Slots.{IsClosed}
-use Rattle.log_commands.specs.LogList.{AreInSlots, RiseFrom}
-use Rattle.log_commands.specs.LogScan.{IsEntry}
-use Rattle.log_commands.specs.declared.scanning.Entry.{Entry}
+use Rattle.std.specs.Prelude.{ℕ, ◌%◌, ◌+◌, ◌-◌, ◌<◌, ◌≡◌, ◌≤◌, ◌⊎◌, List, None, Option, Some, get_or, length}
+use Rattle.log_commands.specs.{LogList.{AreInSlots, RiseFrom}, LogScan.{IsEntry}, declared.scanning.Entry.{Entry}}
+use Rattle.log_commands.specs.{Record.{Record}, Slots.{IsClosed}}
 
 -- entries are those of an image if each tells what is known of its slot
 abbrev pub AreEntries : List ℕ → List (Option Entry) → Type 0

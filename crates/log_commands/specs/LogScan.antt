@@ -1,12 +1,9 @@
 -- For proofs: what a scan of the log tells of its slots. Unread says which slots are bad.
-use Rattle.std.specs.Prelude.{◌≡◌, ◌≢◌, ℕ, ◌≤◌, List, get_or, drop, Option, Some, None, Result, Ok, Err, ◌⊎◌}
-use Rattle.log_commands.specs.Record.{Record, IsRecord}
-use Rattle.log_commands.specs.Slots.{slot_of, behind_gate, HasRecord, IsClosed, IsOpen, Spells}
-use Rattle.log_commands.specs.declared.scanning.Content.{Content}
-use Rattle.log_commands.specs.declared.scanning.Content.TheVariants.{Closed, Unread, Filled}
-use Rattle.log_commands.specs.declared.scanning.Entry.{Entry}
-use Rattle.log_commands.specs.declared.scanning.ScanFault.{ScanFault}
-use Rattle.log_commands.specs.declared.scanning.ScanFault.TheVariants.{BadSlot}
+use Rattle.std.specs.Prelude.{ℕ, ◌≡◌, ◌≢◌, ◌≤◌, ◌⊎◌, Err, List, None, Ok, Option, Result, Some, drop, get_or}
+use Rattle.log_commands.specs.Record.{IsRecord, Record}
+use Rattle.log_commands.specs.Slots.{HasRecord, IsClosed, IsOpen, Spells, behind_gate, slot_of}
+use Rattle.log_commands.specs.declared.scanning.{Content.{Content}, Entry.{Entry}, ScanFault.TheVariants.{BadSlot}}
+use Rattle.log_commands.specs.declared.scanning.{Content.TheVariants.{Closed, Filled, Unread}, ScanFault.{ScanFault}}
 pub use Rattle.log_commands.specs.Unread.{IsBad, IsBroken, IsLowestBad}
 
 -- a slot of an image has a content if it is closed, if it is open and its bytes are no record's, or if it holds a

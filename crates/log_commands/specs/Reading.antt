@@ -1,12 +1,9 @@
 -- For proofs: what a reader of a roll has read, and what it still has. Reads, in Roll, says which receipts a roll has.
-use Rattle.std.specs.Prelude.{◌≡◌, ◌≢◌, ℕ, ◌+◌, List, [], ◌++◌, length, Option, Some, None, is_some}
-use Rattle.log_commands.specs.ReceiptSearch.{MayFollow}
-use Rattle.log_commands.specs.Record.{Record}
-use Rattle.log_commands.specs.Roll.{Reads}
-use Rattle.log_commands.specs.declared.roll.RollEnd.{RollEnd}
-use Rattle.log_commands.specs.declared.roll.RollEnd.TheVariants.{Whole, TooLong, ReadFault}
+use Rattle.std.specs.Prelude.{[], ℕ, ◌++◌, ◌+◌, ◌≡◌, ◌≢◌, List, None, Option, Some, is_some, length}
+use Rattle.{taxi_units.specs.Streams.{IsSplit, ShowsEnd, StreamKind}, log_commands.specs.ReceiptSearch.{MayFollow}}
+use Rattle.log_commands.specs.{Common.{stream_limit}, Record.{Record}}
+use Rattle.log_commands.specs.{Roll.{Reads}, declared.roll.RollEnd.{RollEnd, TheVariants.{ReadFault, TooLong, Whole}}}
 use Rattle.taxi_units.specs.Streams as streams
-use Rattle.taxi_units.specs.Streams.{IsSplit, ShowsEnd, StreamKind, stream_limit}
 
 -- a reader's place is the bytes taken that it hasn't looked through to the end, how many more it may take, and why it
 -- takes no more, if it doesn't

@@ -1,8 +1,7 @@
 -- For proofs: what looking for a receipt at the front of a part of a roll gives. Reads, in Roll, says which receipts a
 -- roll has.
-use Rattle.std.specs.Prelude.{◌≡◌, ℕ, ◌≤◌, List, [], ◌++◌, length, drop, Bool, true, false}
-use Rattle.log_commands.specs.Record.{Record}
-use Rattle.log_commands.specs.Roll.{Reads}
+use Rattle.std.specs.Prelude.{[], ℕ, ◌++◌, ◌≡◌, ◌≤◌, Bool, List, drop, false, length, true}
+use Rattle.log_commands.specs.{Record.{Record}, Roll.{Reads}}
 
 -- bytes may follow a part of a roll: any if the roll hasn't ended, and none if it has
 abbrev pub MayFollow : (ended : Bool) → List ℕ → Type 0

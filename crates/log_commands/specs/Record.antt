@@ -1,8 +1,6 @@
 -- Rules: what the log keeps of a receipt.
-use Rattle.std.specs.Prelude.{◌≡◌, ℕ, List}
-use Rattle.taxi_units.specs.declared.receipt.Receipt.{Receipt}
-use Rattle.receipt_text.specs.Grammar.{IsReceiptText}
-use Rattle.receipt_text.specs.Part.{Part}
+use Rattle.std.specs.Prelude.{ℕ, ◌≡◌, List}
+use Rattle.log_commands.specs.Common.{IsReceiptText, Part, Receipt}
 
 -- a record of the log is the text of a receipt, its number, and the identifier of its taxi
 pub record Record : Type 0 where

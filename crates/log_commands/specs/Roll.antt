@@ -1,6 +1,6 @@
 -- Rules: which receipts a roll has.
-use Rattle.std.specs.Prelude.{◌≡◌, ℕ, List, [], ◌∷◌, ◌++◌}
-use Rattle.log_commands.specs.Record.{Record, IsRecord}
+use Rattle.std.specs.Prelude.{[], ℕ, ◌++◌, ◌∷◌, ◌≡◌, List}
+use Rattle.log_commands.specs.Record.{IsRecord, Record}
 
 -- a text begins with none if no beginning of it is a receipt
 abbrev pub BeginsWithNone : List ℕ → Type 0

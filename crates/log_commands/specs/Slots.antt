@@ -1,7 +1,7 @@
 -- Rules: what the slots of the log hold.
-use Rattle.std.specs.Prelude.{◌≡◌, ◌≢◌, ℕ, ◌+◌, ◌-◌, ◌*◌, ◌%◌, ◌≤◌, List, [], ◌∷◌, ◌++◌, length, take, drop, get_or, replicate}
-use Rattle.std.specs.Int.{w16, w64, to_be_bytes}
-use Rattle.log_commands.specs.Record.{Record, IsRecord}
+use Rattle.std.specs.{Int.{to_be_bytes, w16, w64}, Prelude.{replicate, take}}
+use Rattle.std.specs.Prelude.{[], ℕ, ◌%◌, ◌*◌, ◌++◌, ◌+◌, ◌-◌, ◌∷◌, ◌≡◌, ◌≢◌, ◌≤◌, List, drop, get_or, length}
+use Rattle.log_commands.specs.Record.{IsRecord, Record}
 
 -- the slots of the log, numbered from 0 to 255, begin 512 bytes from one another, the first at byte 0
 abbrev pub slot_at : ℕ → ℕ

@@ -1,8 +1,6 @@
 -- Rules: a log that isn't read: one with a bad slot, or whose records are no list.
-use Rattle.std.specs.Prelude.{◌≢◌, ℕ, ◌<◌, List}
-use Rattle.log_commands.specs.LogList.{StandsFor}
-use Rattle.log_commands.specs.Record.{Record}
-use Rattle.log_commands.specs.Slots.{slot_of, HasRecord, IsOpen}
+use Rattle.std.specs.Prelude.{ℕ, ◌<◌, ◌≢◌, List}
+use Rattle.log_commands.specs.{LogList.{StandsFor}, Record.{Record}, Slots.{HasRecord, IsOpen, slot_of}}
 
 -- a slot is bad if it is open and holds no record at a place whose slot it is
 pub record IsBad (image : List ℕ) (slot : ℕ) : Type 0 where

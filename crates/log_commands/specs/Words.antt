@@ -1,8 +1,6 @@
 -- Rules: which words are a command.
-use Rattle.std.specs.Prelude.{ℕ, List, [], ◌∷◌, Option, Some, None, if◌then◌else◌, codes}
-use Rattle.log_commands.specs.declared.words.Call.{Call}
-use Rattle.log_commands.specs.declared.words.Call.TheVariants.{File, Show}
-use Rattle.taxi_units.specs.Words.{is_word}
+use Rattle.std.specs.Prelude.{[], ℕ, ◌∷◌, List, None, Option, Some, codes, if◌then◌else◌}
+use Rattle.{taxi_units.specs.Words.{is_word}, log_commands.specs.Common.{Call, File, Show}}
 
 -- one word is a command if it is `show`
 abbrev pub one_word : (command : List ℕ) → Option Call

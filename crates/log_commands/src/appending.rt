@@ -1,11 +1,8 @@
 //! Appends a record to the log, in three stages on the slot of its place. Each stage is one write and its sync.
-ghost use Rattle.std.specs.Prelude.{◌≡◌, ◌⊎◌, ◌+◌, ◌≤◌, ◌<◌, List, [], ◌∷◌, ◌++◌, nat_lt, OnOk};
-ghost use Rattle.outside.specs.Faults.{HasCause};
-ghost use Rattle.outside.specs.Runs.{LeavesOnly};
+ghost use Rattle.std.specs.Prelude.{[], ◌++◌, ◌+◌, ◌<◌, ◌∷◌, ◌≡◌, ◌≤◌, ◌⊎◌, List, OnOk, nat_lt};
 ghost use Rattle.log_commands.specs.Appends.{IsListKept, IsReady, IsShut, IsStep, IsWritten};
-ghost use Rattle.log_commands.specs.LogList.{RiseFrom, StandsFor, last_ones};
-ghost use Rattle.log_commands.specs.Record.{Record, IsRecord};
-ghost use Rattle.log_commands.specs.Slots.{slot_at, slot_of};
+ghost use Rattle.log_commands.specs.{Common.{HasCause, LeavesOnly}, LogList.{RiseFrom, StandsFor, last_ones}};
+ghost use Rattle.log_commands.specs.{Record.{IsRecord, Record}, Slots.{slot_at, slot_of}};
 
 use crate::log_record::LogRecord;
 use crate::scanning::SLOTS;

@@ -1,5 +1,5 @@
 //! How the program ends: its status and its last line.
-ghost use Rattle.std.specs.Prelude.{◌≡◌, ◌≤◌, ◌++◌, length, codes, decimal};
+ghost use Rattle.std.specs.Prelude.{◌++◌, ◌≡◌, ◌≤◌, codes, decimal, length};
 ghost use Rattle.log_commands.specs.Endings.{line_of, status_of};
 
 use taxi_units::{Line, push_bytes, push_number};

@@ -1,9 +1,7 @@
 //! What is known of each slot of the log.
-ghost use Rattle.std.specs.Prelude.{◌≡◌, ℕ, ◌+◌, ◌≤◌, ◌<◌, IfOk, Err};
-ghost use Rattle.outside.specs.Faults.{RisesOnlyIf};
-ghost use Rattle.slot_store.specs.Syncs.{ReadsOnly};
+ghost use Rattle.std.specs.Prelude.{ℕ, ◌+◌, ◌<◌, ◌≡◌, ◌≤◌, Err, IfOk};
+ghost use Rattle.log_commands.specs.{Common.{ReadsOnly, RisesOnlyIf}, LogScan.{IsBad, IsEntry, IsLowestBad}};
 ghost use Rattle.log_commands.specs.LogRow.{AreEntries};
-ghost use Rattle.log_commands.specs.LogScan.{IsBad, IsEntry, IsLowestBad};
 ghost use Rattle.log_commands.specs.declared.scanning.ScanFault.TheVariants.{BadSlot, DeviceFailed};
 
 use crate::scanning::{Entry, SLOTS, ScanFault, entry_of, read_slot};

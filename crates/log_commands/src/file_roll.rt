@@ -1,7 +1,6 @@
 //! Files the receipts of a roll.
-ghost use Rattle.std.specs.Prelude.{◌≡◌, ℕ, Ok, IfOk, OnOk, OnErr};
-ghost use Rattle.outside.specs.Reading.{LeavesOthers};
-ghost use Rattle.outside.specs.Faults.{HasCause, MayRise, Rose};
+ghost use Rattle.std.specs.Prelude.{ℕ, ◌≡◌, IfOk, Ok, OnErr, OnOk};
+ghost use Rattle.{outside.specs.Reading.{LeavesOthers}, log_commands.specs.Common.{HasCause, MayRise, Rose}};
 ghost use Rattle.log_commands.specs.Filings.{FailsInRoll, FilesRoll, IsLast, MayHaveFailed};
 
 use crate::filing::Filing;

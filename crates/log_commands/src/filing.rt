@@ -1,5 +1,5 @@
 //! What is done with a receipt of a roll.
-ghost use Rattle.std.specs.Prelude.{◌≡◌, ◌↔◌, IsTrue, Some};
+ghost use Rattle.std.specs.Prelude.{◌↔◌, ◌≡◌, IsTrue, Some};
 ghost use Rattle.log_commands.specs.Filed.{IsFiledBy};
 
 use crate::log_record::LogRecord;

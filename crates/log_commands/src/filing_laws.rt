@@ -1,13 +1,8 @@
 //! Laws of what the words of the hiring log mean.
-ghost use Rattle.std.specs.Prelude.{◌≡◌, ◌++◌, ℕ, List, [], Option, Some};
-ghost use Rattle.log_commands.specs.Calls.{AppendsNothing, FilesUpTo};
-ghost use Rattle.log_commands.specs.Filed.{EndsAt, Files};
-ghost use Rattle.log_commands.specs.Reading.{HasRead, Place};
-ghost use Rattle.log_commands.specs.Record.{Record, IsRecord};
-ghost use Rattle.log_commands.specs.Roll.{AreOnRoll, Reads};
-ghost use Rattle.log_commands.specs.declared.file_roll.FileEnd.{FileEnd};
-ghost use Rattle.log_commands.specs.declared.roll.RollEnd.TheVariants.{Whole};
-ghost use Rattle.log_commands.specs.declared.words.Call.TheVariants.{File};
+ghost use Rattle.std.specs.Prelude.{[], ℕ, ◌++◌, ◌≡◌, List, Option, Some};
+ghost use Rattle.log_commands.specs.{Calls.{AppendsNothing, FilesUpTo}, declared.roll.RollEnd.TheVariants.{Whole}};
+ghost use Rattle.log_commands.specs.{Common.{File, FileEnd}, Filed.{EndsAt, Files}};
+ghost use Rattle.log_commands.specs.{Reading.{HasRead, Place}, Record.{IsRecord, Record}, Roll.{AreOnRoll, Reads}};
 
 /// A law: no receipt's text is the beginning of another's, and none lies in another's with more behind it.
 pub fn receipts_stand_apart()

@@ -1,17 +1,11 @@
 //! The end of the log, found by a scan.
-ghost use Rattle.std.specs.Prelude.{◌≡◌, ◌≢◌, ◌↔◌, ℕ, ◌+◌, ◌≤◌, List, Some, IfOk, IfSome, Err};
-ghost use Rattle.outside.specs.Faults.{RisesOnlyIf};
-ghost use Rattle.slot_store.specs.Syncs.{IsAsHeld, LeavesFromSync, ReadsOnly};
-ghost use Rattle.log_commands.specs.Appends.{IsStill};
-ghost use Rattle.log_commands.specs.Filings.{IsLast, IsTailOf, newest_of};
-ghost use Rattle.log_commands.specs.LogList.{EndsWith, StandsAt, StandsFor};
-ghost use Rattle.log_commands.specs.LogScan.{IsBroken, IsLowestBad, IsContentInRange};
-ghost use Rattle.log_commands.specs.Record.{Record, IsRecord};
-ghost use Rattle.log_commands.specs.declared.scanning.Content.TheVariants.{Filled};
+ghost use Rattle.std.specs.Prelude.{ℕ, ◌+◌, ◌↔◌, ◌≡◌, ◌≢◌, ◌≤◌, Err, IfOk, IfSome, List, Some};
+ghost use Rattle.log_commands.specs.{Appends.{IsStill}, declared.scanning.Content.TheVariants.{Filled}};
+ghost use Rattle.log_commands.specs.{Common.{IsAsHeld, LeavesFromSync, ReadsOnly, RisesOnlyIf}, LogRow.{AreEntries}};
+ghost use Rattle.log_commands.specs.{Filings.{IsLast, IsTailOf, newest_of}, LogList.{EndsWith, StandsAt, StandsFor}};
+ghost use Rattle.log_commands.specs.{LogScan.{IsBroken, IsContentInRange, IsLowestBad}, Record.{IsRecord, Record}};
+ghost use Rattle.log_commands.specs.declared.finding.FindFault.{FindFault, TheVariants.{Broken, LogFault}};
 ghost use Rattle.log_commands.specs.declared.scanning.ScanFault.TheVariants.{BadSlot, DeviceFailed};
-ghost use Rattle.log_commands.specs.declared.finding.FindFault.{FindFault};
-ghost use Rattle.log_commands.specs.declared.finding.FindFault.TheVariants.{Broken, LogFault};
-ghost use Rattle.log_commands.specs.LogRow.{AreEntries};
 
 use crate::entries::read_entries;
 use crate::log_record::LogRecord;

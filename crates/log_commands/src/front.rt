@@ -1,7 +1,6 @@
 //! A receipt at the front of a part of a roll.
-ghost use Rattle.std.specs.Prelude.{◌≡◌, ◌≢◌, ℕ, ◌<◌, ◌≤◌, ◌++◌, length, drop, slice_index, IfSome, IfNone};
-ghost use Rattle.log_commands.specs.Record.{IsRecord};
-ghost use Rattle.log_commands.specs.Roll.{BeginsWithNone};
+ghost use Rattle.std.specs.Prelude.{ℕ, ◌++◌, ◌<◌, ◌≡◌, ◌≢◌, ◌≤◌, IfNone, IfSome, drop, length, slice_index};
+ghost use Rattle.log_commands.specs.{Record.{IsRecord}, Roll.{BeginsWithNone}};
 
 use crate::log_record::LogRecord;
 use arrayvec::ArrayVec;

@@ -1,8 +1,6 @@
 //! Laws of what the words of the log's image mean.
-ghost use Rattle.std.specs.Prelude.{◌≡◌, ℕ, ◌<◌, List};
-ghost use Rattle.log_commands.specs.LogList.{StandsFor};
-ghost use Rattle.log_commands.specs.Record.{Record};
-ghost use Rattle.log_commands.specs.Unread.{IsBad};
+ghost use Rattle.std.specs.Prelude.{ℕ, ◌<◌, ◌≡◌, List};
+ghost use Rattle.log_commands.specs.{LogList.{StandsFor}, Record.{Record}, Unread.{IsBad}};
 
 /// A law: an image stands for one list of receipts at most, and one that stands for a list has no bad slot. So a log
 /// has a bad slot, is broken, or stands for the one list.

@@ -1,7 +1,6 @@
 //! The place of the newest record of a log.
-ghost use Rattle.std.specs.Prelude.{◌≡◌, ◌⊎◌, ℕ, ◌≤◌, List};
-ghost use Rattle.log_commands.specs.LogList.{StandsAt};
-ghost use Rattle.log_commands.specs.LogRow.{AreEntries, IsAtMost, IsPlaceOf};
+ghost use Rattle.std.specs.Prelude.{ℕ, ◌≡◌, ◌≤◌, ◌⊎◌, List};
+ghost use Rattle.log_commands.specs.{LogList.{StandsAt}, LogRow.{AreEntries, IsAtMost, IsPlaceOf}};
 
 use crate::scanning::{Entry, SLOTS};
 

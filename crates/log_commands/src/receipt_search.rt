@@ -1,7 +1,6 @@
 //! Looks for a receipt in a part of a roll.
-ghost use Rattle.std.specs.Prelude.{◌≡◌, ◌+◌, ◌<◌, ◌≤◌, length, true, false, IsTrue, IfSome, IfNone, option_to_list};
-ghost use Rattle.log_commands.specs.ReceiptSearch.{IsReceiptSearch};
-ghost use Rattle.log_commands.specs.Record.{IsRecord};
+ghost use Rattle.std.specs.Prelude.{◌+◌, ◌<◌, ◌≡◌, ◌≤◌, IfNone, IfSome, IsTrue, false, length, option_to_list, true};
+ghost use Rattle.log_commands.specs.{ReceiptSearch.{IsReceiptSearch}, Record.{IsRecord}};
 
 use crate::front::{before_letter, record_in_front};
 use crate::log_record::{LONGEST, LogRecord};

@@ -1,13 +1,9 @@
 //! Reads the receipts of a roll from its file, piece by piece.
-ghost use Rattle.std.specs.Prelude.{◌≡◌, ℕ, ◌+◌, ◌-◌, ◌<◌, ◌≤◌, ◌++◌, [], ◌∷◌, List, length, take, drop, true};
-ghost use Rattle.std.specs.Prelude.{is_some, None, Some, Ok, Err, IsErr, IfOk, IfErr, OnErr, OnOk, IfSome, IfNone};
-ghost use Rattle.std.specs.Prelude.{option_to_list};
-ghost use Rattle.outside.specs.Reading.{LeavesOthers};
-ghost use Rattle.outside.specs.Faults.{HasCause, MayRise, RisesOnlyIf};
-ghost use Rattle.log_commands.specs.declared.roll.RollEnd.{RollEnd};
-ghost use Rattle.log_commands.specs.Reading.{FailsNow, GoesOn, HasRead, IsOver};
-ghost use Rattle.log_commands.specs.Record.{IsRecord};
-ghost use Rattle.taxi_units.specs.Streams.{stream_limit};
+ghost use Rattle.std.specs.Prelude.{[], ℕ, ◌++◌, ◌+◌, ◌-◌, ◌<◌, ◌∷◌, ◌≡◌, ◌≤◌, Err, IfErr, IfNone, IfOk, IfSome, IsErr};
+ghost use Rattle.std.specs.Prelude.{List, None, Ok, OnErr, OnOk, Some, drop, is_some, length, option_to_list, take};
+ghost use Rattle.{std.specs.Prelude.{true}, outside.specs.Reading.{LeavesOthers}};
+ghost use Rattle.log_commands.specs.{Common.{HasCause, MayRise, RisesOnlyIf, stream_limit}, Record.{IsRecord}};
+ghost use Rattle.log_commands.specs.{Reading.{FailsNow, GoesOn, HasRead, IsOver}, declared.roll.RollEnd.{RollEnd}};
 
 use crate::log_record::LogRecord;
 use crate::receipt_search::find_receipt;

@@ -1,9 +1,7 @@
 //! Whether the records of the log are a list: their places are in a row, and their numbers rise.
-ghost use Rattle.std.specs.Prelude.{◌≡◌, ℕ, ◌+◌, ◌<◌, List, IsTrue, IfSome, MatchOption};
-ghost use Rattle.log_commands.specs.LogList.{EndsWith, StandsAt};
-ghost use Rattle.log_commands.specs.LogRow.{AreEntries, IsBound, IsRow, slot_back};
-ghost use Rattle.log_commands.specs.LogScan.{IsEntry};
-ghost use Rattle.log_commands.specs.Record.{Record};
+ghost use Rattle.std.specs.Prelude.{ℕ, ◌+◌, ◌<◌, ◌≡◌, IfSome, IsTrue, List, MatchOption};
+ghost use Rattle.log_commands.specs.{LogList.{EndsWith, StandsAt}, LogRow.{AreEntries, IsBound, IsRow, slot_back}};
+ghost use Rattle.log_commands.specs.{LogScan.{IsEntry}, Record.{Record}};
 
 use crate::scanning::{Entry, SLOTS};
 

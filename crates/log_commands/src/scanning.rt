@@ -1,9 +1,8 @@
 //! The slots of the log, read one after another.
-ghost use Rattle.std.specs.Prelude.{◌≡◌, ◌+◌, ◌<◌, IfOk};
-ghost use Rattle.outside.specs.Faults.{HasCause};
-ghost use Rattle.slot_store.specs.Syncs.{ReadsOnly};
+ghost use Rattle.std.specs.Prelude.{◌+◌, ◌<◌, ◌≡◌, IfOk};
+ghost use Rattle.log_commands.specs.Common.{HasCause, ReadsOnly};
+ghost use Rattle.log_commands.specs.LogScan.{IsContent, IsContentInRange, IsContentOf, IsEntryOf};
 ghost use Rattle.log_commands.specs.declared.scanning.ScanFault.TheVariants.{DeviceFailed};
-ghost use Rattle.log_commands.specs.LogScan.{IsContent, IsContentOf, IsEntryOf, IsContentInRange};
 
 use crate::appending::OPEN;
 use crate::log_record::LogRecord;

@@ -1,12 +1,7 @@
 //! Prints the receipts of the log.
-ghost use Rattle.std.specs.Prelude.{◌≡◌, ◌+◌, ◌*◌, ◌^◌, ◌<◌, ◌≤◌, ◌++◌, List, length, OnOk};
-ghost use Rattle.outside.specs.Faults.{HasCause};
-ghost use Rattle.outside.specs.Printing.{Begins};
-ghost use Rattle.outside.specs.Runs.{KeepsStore};
-ghost use Rattle.log_commands.specs.LogList.{AreInSlots};
-ghost use Rattle.log_commands.specs.Record.{Record};
-ghost use Rattle.log_commands.specs.Showing.{texts_of};
-ghost use Rattle.log_commands.specs.Slots.{HasRecord, slot_of};
+ghost use Rattle.std.specs.Prelude.{◌*◌, ◌++◌, ◌+◌, ◌<◌, ◌^◌, ◌≡◌, ◌≤◌, List, OnOk, length};
+ghost use Rattle.log_commands.specs.{Common.{Begins, HasCause, KeepsStore}, Slots.{HasRecord, slot_of}};
+ghost use Rattle.log_commands.specs.{LogList.{AreInSlots}, Record.{Record}, ShownLog.{texts_of}};
 
 use crate::log_record::LogRecord;
 use crate::scanning::{Content, SLOTS, read_slot};

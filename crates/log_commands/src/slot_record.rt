@@ -1,8 +1,7 @@
 //! A record's bytes in its slot, behind the gate.
-ghost use Rattle.std.specs.Prelude.{◌≡◌, ℕ, ◌+◌, ◌≤◌, ◌↔◌, length, take, drop, Some, IsTrue};
-ghost use Rattle.arrayvec.specs.ArrayVec.{array_vec_len};
-ghost use Rattle.log_commands.specs.Record.{Record, IsRecord};
-ghost use Rattle.log_commands.specs.Slots.{Spells, IsRecordOf, spelling};
+ghost use Rattle.std.specs.Prelude.{ℕ, ◌+◌, ◌↔◌, ◌≡◌, ◌≤◌, IsTrue, Some, drop, length, take};
+ghost use Rattle.{arrayvec.specs.ArrayVec.{array_vec_len}, log_commands.specs.Slots.{IsRecordOf, Spells, spelling}};
+ghost use Rattle.log_commands.specs.Record.{IsRecord, Record};
 
 use crate::log_record::{LONGEST, LogRecord};
 use arrayvec::ArrayVec;

@@ -1,9 +1,7 @@
 //! The end of the log, as it is kept in memory while receipts are filed.
-ghost use Rattle.std.specs.Prelude.{◌≡◌, ◌+◌, ◌^◌, ◌<◌, ◌≤◌, [], ◌∷◌, Ok, OnOk, OnErr};
-ghost use Rattle.outside.specs.Faults.{HasCause};
-ghost use Rattle.log_commands.specs.Filed.{IsNewer, IsOther};
-ghost use Rattle.log_commands.specs.Filings.{FilesTo, IsLast, LeavesSome};
-ghost use Rattle.log_commands.specs.Record.{IsRecord};
+ghost use Rattle.std.specs.Prelude.{[], ◌+◌, ◌<◌, ◌^◌, ◌∷◌, ◌≡◌, ◌≤◌, Ok, OnErr, OnOk};
+ghost use Rattle.log_commands.specs.{Common.{HasCause}, Record.{IsRecord}};
+ghost use Rattle.log_commands.specs.{Filed.{IsNewer, IsOther}, Filings.{FilesTo, IsLast, LeavesSome}};
 
 use crate::appending::append;
 use crate::filing::{Filing, filing_of};

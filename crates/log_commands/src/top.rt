@@ -1,16 +1,10 @@
 //! The top call: words in, a status out.
-ghost use Rattle.std.specs.Prelude.{◌≡◌, ◌≢◌, ◌⊎◌, ℕ, ◌+◌, ◌≤◌, List, [], length, true, false, Some, map, string_bytes};
-ghost use Rattle.outside.specs.Faults.{MayRise, RisesOnlyIf, Rose};
-ghost use Rattle.outside.specs.Runs.{KeepsStore};
-ghost use Rattle.log_commands.specs.Calls.{AppendsNothing, AreFew, IsCall, IsFit, MayHave, MayHaveReadFault, LeavesLogUnwritten};
-ghost use Rattle.log_commands.specs.Calls.{WritesNothing, known_of};
-ghost use Rattle.log_commands.specs.BeforeLastLine.{CallReachesLine, IsTold};
-ghost use Rattle.log_commands.specs.Endings.{filing_end, line_of, status_of, unread_end};
-ghost use Rattle.log_commands.specs.FilingEnds.{newest_of};
-ghost use Rattle.log_commands.specs.LogList.{EndsWith, StandsFor};
-ghost use Rattle.log_commands.specs.Record.{Record};
-ghost use Rattle.log_commands.specs.Slots.{slot_of, IsClosed, IsOpen};
-ghost use Rattle.log_commands.specs.Words.{call_of};
+ghost use Rattle.std.specs.Prelude.{[], ℕ, ◌+◌, ◌≡◌, ◌≢◌, ◌≤◌, ◌⊎◌, List, Some, false, length, map, string_bytes, true};
+ghost use Rattle.log_commands.specs.{BeforeLastLine.{CallReachesLine, IsTold}, Slots.{IsClosed, IsOpen, slot_of}};
+ghost use Rattle.log_commands.specs.Calls.{AppendsNothing, AreFew, IsCall, IsFit, LeavesLogUnwritten, MayHave};
+ghost use Rattle.log_commands.specs.{Calls.{MayHaveReadFault, WritesNothing, known_of}, LogList.{EndsWith, StandsFor}};
+ghost use Rattle.log_commands.specs.{Common.{KeepsStore, MayRise, RisesOnlyIf, Rose}, Record.{Record}, Words.{call_of}};
+ghost use Rattle.log_commands.specs.{Endings.{filing_end, line_of, status_of, unread_end}, FilingEnds.{newest_of}};
 
 use crate::ending::{Ended, last_line, status};
 use crate::file_roll::{FileEnd, file_roll};

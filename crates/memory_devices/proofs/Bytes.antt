@@ -1,7 +1,6 @@
 -- The bytes of an array or a slice are below 256.
-use Rattle.std.proofs.Common.{◌≡◌, ℕ, List, length, get_or, Fits, w8}
-use Rattle.taxi_units.specs.Bytes.{AreBytes}
-use Rattle.outside.specs.Disk.{IsImage}
+use Rattle.std.proofs.Common.{ℕ, ◌≡◌, Fits, List, get_or, length, w8}
+use Rattle.memory_devices.specs.Common.{AreBytes, IsImage}
 
 pub are_bytes : (image : List ℕ) → ((place : ℕ) → Fits w8 (get_or image place 0)) → AreBytes image
 are_bytes image each = λ place. (each place).fits

@@ -1,21 +1,15 @@
 -- What a call leaves of the meanings of a board in memory: it is kept and done, kept and failed, or refused.
-use Rattle.std.proofs.Common.{◌≡◌, ◌⊎◌, inl, inr, ⊎_elim, ℕ, ◌≤◌, ◌+◌, ◌∙◌, ap, List, [], ◌∷◌, ◌++◌, length, take, drop}
-use Rattle.std.proofs.Common.{sym, subst, arith, true, false}
-use Rattle.std.specs.Prelude.{Result, OnOk, OnErr, count_by, cond, get_or}
-use Rattle.std.specs.declared.result.Result.TheVariants.{Ok, Err}
-use Rattle.std.proofs.lemmas.Bool.{false≢true}
-use Rattle.std.proofs.lemmas.List.Sums.{sum_by-append}
-use Rattle.memory_devices.specs.Calls.{Call, Contents, CallOutcome, IsInSome, Read, Write, Sync, Print, begun, done, opened}
-use Rattle.taxi_units.specs.Bytes.{AreBytes}
-use Rattle.outside.specs.Disk.{Elapses, IsImage, IsWithin, MayLeaveAmid, SameBut}
-use Rattle.outside.specs.Faults.{HasCause}
-use Rattle.memory_devices.specs.MemoryBoard.{BoardState, IsListedCall, done_on, failed_on, refused_on, contents_of, faults_of}
-use Rattle.memory_devices.specs.MemoryBoard.{moment_of, left_since_of}
-use Rattle.memory_devices.specs.Moments.{Leaves, LeavesAmid}
-use Rattle.outside.specs.Printing.{Begins}
-use Rattle.outside.proofs.Laws.{begins_not, begins_whole}
+use Rattle.std.{specs.Prelude.{OnErr, OnOk, Result, cond, count_by, get_or}, proofs.lemmas.List.Sums.{sum_by-append}}
+use Rattle.std.{specs.declared.result.Result.TheVariants.{Err, Ok}, proofs.Common.{subst, sym, take, true, ⊎_elim}}
+use Rattle.std.proofs.Common.{[], ℕ, ◌++◌, ◌+◌, ◌∙◌, ◌∷◌, ◌≡◌, ◌≤◌, ◌⊎◌, List, ap, arith, drop, false, inl, inr, length}
+use Rattle.{std.proofs.lemmas.Bool.{false≢true}, outside.proofs.Laws.{begins_not, begins_whole}}
+use Rattle.{outside.specs.PrintedText.{Begins}, memory_devices.specs.MemoryBoard.{left_since_of, moment_of, refused_on}}
+use Rattle.memory_devices.specs.Calls.{Call, CallOutcome, Contents, IsInSome, Print, Read, Sync, Write, begun, done}
+use Rattle.memory_devices.specs.{Calls.{opened}, Moments.{Leaves, LeavesAmid}}
+use Rattle.memory_devices.specs.Common.{AreBytes, Elapses, HasCause, IsImage, IsWithin, MayLeaveAmid, SameBut}
+use Rattle.memory_devices.specs.MemoryBoard.{BoardState, IsListedCall, contents_of, done_on, failed_on, faults_of}
+use Rattle.memory_devices.proofs.OneMoreCall.{LeavesIn, after_pushed, elapses_not, elapses_pushed, elapses_weaker}
 use Rattle.memory_devices.proofs.Overwriting.{overwrite_bytes, overwrite_same, overwrite_size, overwrite_written}
-use Rattle.memory_devices.proofs.OneMoreCall.{LeavesIn, after_pushed, elapses_pushed, elapses_not, elapses_weaker}
 
 -- the contents are those of a call that was done, or that failed, or as they were
 abbrev pub Became : Contents → Contents → Call → Type 0

@@ -1,16 +1,10 @@
 -- What a cut inside a call leaves.
-use Rattle.std.proofs.Common.{◌≡◌, inl, inr, ℕ, zero, suc, ◌≤◌, ◌<◌, ◌∙◌, ap, Bool, true, false, List, [], ◌∷◌, length}
-use Rattle.std.proofs.Common.{take, get_or, refl, sym, subst, arith}
-use Rattle.std.specs.List.{All}
-use Rattle.std.proofs.lemmas.List.{ext_get_or}
-use Rattle.memory_devices.specs.Calls.{Call, Read, Write, Sync, Print, Contents, CallOutcome, IsInSome, after, after_all}
-use Rattle.memory_devices.specs.Calls.{begun, done, overwrite}
-use Rattle.taxi_units.specs.Bytes.{AreBytes}
-use Rattle.outside.specs.Disk.{IsWithin, SameBut}
-use Rattle.memory_devices.specs.MemoryBoard.{inside}
-use Rattle.memory_devices.specs.Moments.{Leaves, LeftBy}
-use Rattle.memory_devices.specs.Replays.{IsInStore, call_end}
-use Rattle.memory_devices.proofs.Overwriting.{overwrite_same, overwrite_size}
+use Rattle.std.{specs.List.{All}, proofs.{Common.{refl, subst, suc, sym, take, true, zero}, lemmas.List.{ext_get_or}}}
+use Rattle.std.proofs.Common.{[], ℕ, ◌<◌, ◌∙◌, ◌∷◌, ◌≡◌, ◌≤◌, Bool, List, ap, arith, false, get_or, inl, inr, length}
+use Rattle.memory_devices.specs.Calls.{Call, CallOutcome, Contents, IsInSome, Print, Read, Sync, Write, after}
+use Rattle.memory_devices.specs.{Calls.{after_all, begun, done, overwrite}, Common.{AreBytes, IsWithin, SameBut}}
+use Rattle.memory_devices.specs.{MemoryBoard.{inside}, Moments.{Leaves, LeftBy}}
+use Rattle.memory_devices.{specs.Replays.{IsInStore, call_end}, proofs.Overwriting.{overwrite_same, overwrite_size}}
 
 abbrev kept_of : Call → Bool → CallOutcome
 kept_of call failed = record { call = call; failed = failed }

@@ -1,9 +1,7 @@
 -- One more call joins those that a board in memory keeps.
-use Rattle.std.proofs.Common.{◌≡◌, ◌⊎◌, inl, inr, ⊎_elim, ℕ, zero, suc, ◌≤◌, List, [], ◌∷◌, ◌++◌, length, refl, arith}
-use Rattle.std.proofs.Common.{length-append}
-use Rattle.memory_devices.specs.Calls.{Call, Contents, CallOutcome, after, after_all}
-use Rattle.outside.specs.Disk.{Elapses}
-use Rattle.memory_devices.specs.Moments.{Leaves, LeavesAmid, LeftBy, LeftSince}
+use Rattle.std.proofs.Common.{[], ℕ, ◌++◌, ◌∷◌, ◌≡◌, ◌≤◌, ◌⊎◌, List, arith, inl, inr, length, length-append, refl, suc}
+use Rattle.{std.proofs.Common.{zero, ⊎_elim}, memory_devices.specs.Moments.{Leaves, LeavesAmid, LeftBy, LeftSince}}
+use Rattle.memory_devices.specs.{Calls.{Call, CallOutcome, Contents, after, after_all}, Common.{Elapses}}
 
 pub after_pushed : (held : Contents) (calls : List CallOutcome) (kept : CallOutcome)
     → after_all held (calls ++ kept ∷ []) ≡ after (after_all held calls) kept

@@ -1,13 +1,9 @@
 -- What bytes that are put from a place on leave of an image.
-use Rattle.std.proofs.Common.{◌≡◌, ◌⊎◌, inl, inr, ⊎_elim, ℕ, zero, suc, ◌≤◌, ◌<◌, ◌+◌, ◌-◌, ◌∙◌, ap, subst, sym, List}
-use Rattle.std.proofs.Common.{[], ◌∷◌, ◌++◌, length, take, drop, get_or, arith, length-append, length-take, length-drop}
-use Rattle.std.proofs.lemmas.Grind.{common_steps}
-use Rattle.std.proofs.lemmas.Bool.{cases_lt}
-use Rattle.std.proofs.lemmas.List.{get_or_append_left, get_or-append_right, get_or-take, get_or-drop}
-use Rattle.memory_devices.specs.Calls.{overwrite}
-use Rattle.taxi_units.specs.Bytes.{AreBytes}
-use Rattle.outside.specs.Disk.{IsWithin, SameBut}
-use Rattle.outside.proofs.Laws.{slice_bytes}
+use Rattle.std.proofs.Common.{[], ℕ, ◌++◌, ◌+◌, ◌-◌, ◌<◌, ◌∙◌, ◌∷◌, ◌≡◌, ◌≤◌, ◌⊎◌, List, ap, arith, drop, get_or, inl}
+use Rattle.std.proofs.Common.{inr, length, length-append, length-drop, length-take, subst, suc, sym, take, zero, ⊎_elim}
+use Rattle.std.proofs.lemmas.{Bool.{cases_lt}, List.{get_or-append_right, get_or-drop, get_or-take, get_or_append_left}}
+use Rattle.{std.proofs.lemmas.Grind.{common_steps}, outside.proofs.Laws.{slice_bytes}}
+use Rattle.memory_devices.specs.{Calls.{overwrite}, Common.{AreBytes, IsWithin, SameBut}}
 
 module _ (at : ℕ) (bytes image : List ℕ) (fits : at + length bytes ≤ length image) where
   front_size : length (take at image ++ bytes) ≡ at + length bytes

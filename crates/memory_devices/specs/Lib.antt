@@ -6,3 +6,4 @@ pub mod MomentLaws
 pub mod Moments
 pub mod Replays
 pub mod Requests
+pub mod Common

@@ -1,9 +1,8 @@
 -- Rules: what a board in memory is.
-use Rattle.std.specs.Prelude.{◌≡◌, ◌⊎◌, ℕ, zero, suc, ◌+◌, ◌-◌, ◌^◌, List, [], ◌∷◌, ◌++◌, length, count_by, min, true, false, Contains}
-use Rattle.memory_devices.specs.Calls.{Call, CallOutcome, Contents, IsInSome, opened, begun, after, after_all}
-use Rattle.outside.specs.Disk.{Elapses, IsImage}
-use Rattle.outside.specs.Faults.{one_more}
-use Rattle.memory_devices.specs.Moments.{LeftSince}
+use Rattle.std.specs.Prelude.{[], ℕ, ◌++◌, ◌+◌, ◌-◌, ◌^◌, ◌∷◌, ◌≡◌, ◌⊎◌, Contains, List, count_by, false, length, min}
+use Rattle.{std.specs.Prelude.{suc, true, zero}, outside.specs.Faults.{one_more}}
+use Rattle.memory_devices.specs.Calls.{Call, CallOutcome, Contents, IsInSome, after, after_all, begun, opened}
+use Rattle.memory_devices.specs.{Common.{Elapses, IsImage}, Moments.{LeftSince}}
 
 -- a board in memory is the image that it opened with, the numbers of the calls that fail, the calls that were kept, and
 -- how many calls found no memory

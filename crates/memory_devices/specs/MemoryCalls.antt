@@ -1,11 +1,10 @@
 -- Rules: what each call of a board in memory gives and leaves. A call that is kept fails exactly by its number, and one
 -- that isn't kept found no memory.
-use Rattle.std.specs.Prelude.{◌≡◌, ◌⊎◌, ℕ, ◌++◌, List, length, take, drop, Result, OnOk, OnErr}
-use Rattle.memory_devices.specs.Calls.{Read, Write, Sync, Print}
-use Rattle.outside.specs.Disk.{IsWithin, SameBut, MayLeave, MayLeaveAmid}
-use Rattle.outside.specs.Faults.{HasCause}
-use Rattle.memory_devices.specs.MemoryBoard.{BoardState, IsDone, IsUndone, TimePasses, faults_of, image_of, in_flight_of, text_of}
-use Rattle.outside.specs.Printing.{Begins}
+use Rattle.std.specs.Prelude.{ℕ, ◌++◌, ◌≡◌, ◌⊎◌, List, OnErr, OnOk, Result, drop, length, take}
+use Rattle.outside.specs.{Disk.{MayLeave}, PrintedText.{Begins}}
+use Rattle.memory_devices.specs.{Calls.{Print, Read, Sync, Write}, Common.{HasCause, IsWithin, MayLeaveAmid, SameBut}}
+use Rattle.memory_devices.specs.MemoryBoard.{BoardState, IsDone, IsUndone, TimePasses, faults_of, image_of}
+use Rattle.memory_devices.specs.MemoryBoard.{in_flight_of, text_of}
 
 -- a read that is Ok fills the whole of `room` from the place `at` on; each leaves image and text as they were, and
 -- nothing more in flight

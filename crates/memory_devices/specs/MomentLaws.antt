@@ -1,8 +1,6 @@
 -- For proofs: the laws of the moments of a board in memory, which its impl of the trait Board cites.
-use Rattle.std.specs.Prelude.{ℕ, zero, suc, ◌≤◌, List, [], ◌∷◌, length}
-use Rattle.std.proofs.Common.{inr, le_of_suc-le-suc}
-use Rattle.memory_devices.specs.Calls.{Contents, CallOutcome, after, after_all}
-use Rattle.memory_devices.specs.Moments.{Leaves, LeftBy, LeftSince}
+use Rattle.std.{specs.Prelude.{[], ℕ, ◌∷◌, ◌≤◌, List, length, suc, zero}, proofs.Common.{inr, le_of_suc-le-suc}}
+use Rattle.memory_devices.specs.{Calls.{CallOutcome, Contents, after, after_all}, Moments.{Leaves, LeftBy, LeftSince}}
 
 -- what a cut leaves of a board now is among what a cut at some moment might have left
 left_behind : (held : Contents) (calls : List CallOutcome) (left_image left_text : List ℕ)

@@ -1,7 +1,7 @@
 -- Rules: what a cut might have left at the moments of a board in memory.
-use Rattle.std.specs.Prelude.{ℕ, zero, suc, List, [], ◌∷◌, ◌⊎◌}
-use Rattle.memory_devices.specs.Calls.{Call, Read, Write, Sync, Print, Contents, IsInSome, CallOutcome, after}
-use Rattle.outside.specs.Disk.{MayLeave, MayLeaveAmid}
+use Rattle.std.specs.Prelude.{[], ℕ, ◌∷◌, ◌⊎◌, List, suc, zero}
+use Rattle.{outside.specs.Disk.{MayLeave}, memory_devices.specs.Common.{MayLeaveAmid}}
+use Rattle.memory_devices.specs.Calls.{Call, CallOutcome, Contents, IsInSome, Print, Read, Sync, Write, after}
 
 -- a cut leaves of a board any bytes at the places in flight, all others as a read gives them, and what was printed
 abbrev pub Leaves : Contents → List ℕ → List ℕ → Type 0

@@ -1,7 +1,7 @@
 -- For proofs: what the code of a board in memory keeps, and what going through its calls again gives.
-use Rattle.std.specs.Prelude.{◌≡◌, ℕ, ◌+◌, ◌≤◌, List, length}
-use Rattle.memory_devices.specs.Calls.{Call, Read, Write, Sync, Print, Contents, IsInSome, CallOutcome}
-use Rattle.outside.specs.Disk.{SameBut}
+use Rattle.std.specs.Prelude.{ℕ, ◌+◌, ◌≡◌, ◌≤◌, List, length}
+use Rattle.memory_devices.specs.Calls.{Call, CallOutcome, Contents, IsInSome, Print, Read, Sync, Write}
+use Rattle.memory_devices.specs.Common.{SameBut}
 
 -- the end of a call is the place behind the last byte that it writes, or 0 if it writes none
 abbrev pub call_end : Call → ℕ

@@ -1,7 +1,6 @@
 -- For proofs: the calls that the requests of the code are.
-use Rattle.memory_devices.specs.declared.kept_call.Request.{Request}
+use Rattle.memory_devices.specs.{Calls.{Call, Print, Read, Sync, Write}, declared.kept_call.Request.{Request}}
 use Rattle.memory_devices.specs.declared.kept_call.Request.TheVariants as request
-use Rattle.memory_devices.specs.Calls.{Call, Read, Write, Sync, Print}
 
 -- the call of a request is the request with its bytes as a list
 abbrev pub call_of : Request → Call

@@ -1,11 +1,10 @@
 //! The board in memory, of which chosen calls fail.
-ghost use Rattle.std.specs.Prelude.{◌≡◌, ◌+◌, ◌^◌, ◌<◌, ◌≤◌, [], length, IfOk};
-ghost use Rattle.memory_devices.specs.Calls.{IsInSome, opened};
-ghost use Rattle.outside.specs.Disk.{piece_size, IsImage, IsPiece, SameBut};
-ghost use Rattle.memory_devices.specs.MemoryBoard.{Memory, IsNew, new_board, faults_of, contents_inside, image_of, in_flight_of};
-ghost use Rattle.memory_devices.specs.MemoryBoard.{left_since_of, moment_of, text_of};
+ghost use Rattle.std.specs.Prelude.{[], ◌+◌, ◌<◌, ◌^◌, ◌≡◌, ◌≤◌, IfOk, length};
+ghost use Rattle.{outside.specs.Disk.{IsPiece, piece_size}, memory_devices.specs.MomentLaws.{counts_now, only_now}};
+ghost use Rattle.memory_devices.specs.{Calls.{IsInSome, opened}, Common.{IsImage, SameBut}};
+ghost use Rattle.memory_devices.specs.MemoryBoard.{IsNew, Memory, contents_inside, faults_of, image_of, in_flight_of};
+ghost use Rattle.memory_devices.specs.MemoryBoard.{left_since_of, moment_of, new_board, text_of};
 ghost use Rattle.memory_devices.specs.MemoryCalls.{PrintsPiece, ReadsPiece, SyncsStore, WritesPiece};
-ghost use Rattle.memory_devices.specs.MomentLaws.{counts_now, only_now};
 
 use crate::memory_state::MemoryState;
 use crate::replay::Fill;

@@ -1,7 +1,6 @@
 //! Files in memory, of which chosen reads fail.
-ghost use Rattle.std.specs.Prelude.{◌≡◌, ◌↔◌, ℕ, ◌<◌, ◌≤◌, ◌++◌, [], ◌∷◌, length, take, min, IsErr, IfOk, OnOk, OnErr};
-ghost use Rattle.outside.specs.Reading.{LeavesOthers};
-ghost use Rattle.outside.specs.Faults.{HasCause, MayRise};
+ghost use Rattle.std.specs.Prelude.{[], ℕ, ◌++◌, ◌<◌, ◌↔◌, ◌∷◌, ◌≡◌, ◌≤◌, IfOk, IsErr, OnErr, OnOk, length, min, take};
+ghost use Rattle.{outside.specs.{Faults.{MayRise}, Reading.{LeavesOthers}}, memory_devices.specs.Common.{HasCause}};
 ghost use Rattle.memory_devices.specs.MemoryFiles.{FilesState, IsListedRead, failed_in, read_from, rest_of};
 
 use crate::memory_file::MemoryFile;

@@ -1,10 +1,9 @@
 //! What a board in memory keeps.
-ghost use Rattle.std.specs.Prelude.{◌≡◌, ◌↔◌, ◌+◌, ◌^◌, ◌≤◌, ◌++◌, [], ◌∷◌, length, take, drop, true, Contains, IfOk, OnOk, OnErr};
-ghost use Rattle.std.specs.List.{All};
-ghost use Rattle.memory_devices.specs.Calls.{Contents, Read, Write, Sync, Print, IsInSome, after, after_all};
-ghost use Rattle.outside.specs.Disk.{IsImage, SameBut};
-ghost use Rattle.memory_devices.specs.MemoryBoard.{IsDone, IsUndone, contents_inside, new_board, image_of, left_since_of, refused_on, text_of};
-ghost use Rattle.memory_devices.specs.Replays.{IsInStore, call_end};
+ghost use Rattle.{std.specs.{List.{All}, Prelude.{take, true}}, memory_devices.specs.Common.{IsImage, SameBut}};
+ghost use Rattle.std.specs.Prelude.{[], ◌++◌, ◌+◌, ◌^◌, ◌↔◌, ◌∷◌, ◌≡◌, ◌≤◌, Contains, IfOk, OnErr, OnOk, drop, length};
+ghost use Rattle.memory_devices.specs.Calls.{Contents, IsInSome, Print, Read, Sync, Write, after, after_all};
+ghost use Rattle.memory_devices.specs.MemoryBoard.{IsDone, IsUndone, contents_inside, image_of, left_since_of};
+ghost use Rattle.memory_devices.specs.{MemoryBoard.{new_board, refused_on, text_of}, Replays.{IsInStore, call_end}};
 ghost use Rattle.memory_devices.specs.Requests.{call_of};
 
 use crate::kept_call::{KeptCall, Request};
@@ -27,11 +26,9 @@ pub(crate) struct MemoryState<const N: usize> {
 }
 
 impl<const N: usize> Model for MemoryState<N> {
-    ghost use Rattle.std.specs.Prelude.{◌≡◌, ◌^◌, ◌≤◌, length};
-    ghost use Rattle.std.specs.List.{All};
-    ghost use Rattle.memory_devices.specs.Calls.{after_all, opened};
+    ghost use Rattle.std.specs.{List.{All}, Prelude.{◌^◌, ◌≡◌, ◌≤◌, length}};
+    ghost use Rattle.memory_devices.specs.{Calls.{after_all, opened}, Replays.{IsInStore, Mirrors}};
     ghost use Rattle.memory_devices.specs.MemoryBoard.{BoardState};
-    ghost use Rattle.memory_devices.specs.Replays.{IsInStore, Mirrors};
 
     ghost Value = { BoardState };
 

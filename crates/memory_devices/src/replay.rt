@@ -1,8 +1,7 @@
 //! Goes through the kept calls of a board again, up to a cut.
-ghost use Rattle.std.specs.Prelude.{◌≡◌, ℕ, ◌+◌, ◌≤◌, List, length};
-ghost use Rattle.memory_devices.specs.Calls.{Contents, after, begun, overwrite};
-ghost use Rattle.outside.specs.Disk.{IsWithin, SameBut};
-ghost use Rattle.memory_devices.specs.Replays.{AreLeftOf, call_end};
+ghost use Rattle.std.specs.Prelude.{ℕ, ◌+◌, ◌≡◌, ◌≤◌, List, length};
+ghost use Rattle.memory_devices.specs.{Calls.{Contents, after, begun, overwrite}, Replays.{AreLeftOf, call_end}};
+ghost use Rattle.memory_devices.specs.Common.{IsWithin, SameBut};
 
 use crate::kept_call::{KeptCall, Request};
 

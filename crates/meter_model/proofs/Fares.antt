@@ -1,16 +1,12 @@
 -- What the fare of a trip depends on.
-use Rattle.std.proofs.Common.{◌≡◌, ℕ, ◌+◌, ◌*◌, ◌/◌, ◌%◌, Bool, List, [], ◌∷◌, ◌++◌, map, sum, refl, ap, sym, ◌∙◌}
-use Rattle.std.proofs.Common.{arith}
-use Rattle.std.proofs.lemmas.Grind.{common_steps}
+use Rattle.std.proofs.Common.{[], ℕ, ◌%◌, ◌*◌, ◌++◌, ◌+◌, ◌/◌, ◌∙◌, ◌∷◌, ◌≡◌, Bool, List, ap, arith, map, refl, sum}
+use Rattle.std.proofs.{Common.{sym}, Math.Nat.{div-add-mod, mul_comm}, lemmas.Grind.{common_steps}}
+use Rattle.{drive_modes.specs.Fare.{above_cover, opening_of, quotient}, meter_model.specs.Common.{saved}}
+use Rattle.meter_model.specs.{KeptTrip.{hired_in, with_parts}, Trip.{fare_of, held_trip, steps_shown, trip_of}}
+use Rattle.meter_model.specs.{Setting.{Setting, modulus_of, rounding_of}, declared.core_trip.Fees.{Fees}}
+use Rattle.meter_model.specs.Trip.{InHired, InStopped, MeterTrip, Part, Rest, charge_in, charges_of, fare_by_fees}
 use Rattle.drive_modes.specs.Fare as fares
-use Rattle.drive_modes.specs.Fare.{above_cover, opening_of, quotient, saved}
-use Rattle.std.proofs.Math.Nat.{div-add-mod, mul_comm}
-use Rattle.meter_model.specs.KeptTrip.{hired_in, with_parts}
-use Rattle.meter_model.specs.Setting.{Setting, modulus_of, rounding_of}
 use Rattle.meter_model.specs.Trip as model
-use Rattle.meter_model.specs.Trip.{Part, MeterTrip, InHired, InStopped, Rest, charge_in, charges_of, fare_by_fees}
-use Rattle.meter_model.specs.Trip.{fare_of, held_trip, steps_shown, trip_of}
-use Rattle.meter_model.specs.declared.core_trip.Fees.{Fees}
 
 -- intervals outside Hired cost nothing
 hired-charges : (s : Setting) (parts : List Part)

@@ -1,16 +1,9 @@
 -- Each stage of an event keeps the trip of the store.
-use Rattle.std.proofs.Common.{◌≡◌, ◌≢◌, ℕ, refl, arith}
-use Rattle.std.proofs.lemmas.Grind.{common_steps}
-use Rattle.taxi_units.specs.declared.event.Event.{Event}
+use Rattle.std.proofs.{Common.{ℕ, ◌≡◌, ◌≢◌, arith, refl}, lemmas.Grind.{common_steps}}
+use Rattle.meter_model.specs.{Common.{Event, ForHire, Hired, Off, Operating, Stopped}, KeptTrip.{IsTripKept}}
+use Rattle.meter_model.specs.{Meter.{Meter}, Setting.{Setting}, Supply.{supply_came, supply_dropped}}
+use Rattle.meter_model.specs.{Run.{ended, ended_in}, Step.{off_step, powered_step, step, step_in, ticked}}
 use Rattle.taxi_units.specs.declared.event.Event.TheVariants as events
-use Rattle.taxi_units.specs.declared.event.Operating.{Operating}
-use Rattle.taxi_units.specs.declared.event.Operating.TheVariants.{Off, ForHire, Hired, Stopped}
-use Rattle.meter_model.specs.KeptTrip.{IsTripKept}
-use Rattle.meter_model.specs.Meter.{Meter}
-use Rattle.meter_model.specs.Run.{ended, ended_in}
-use Rattle.meter_model.specs.Setting.{Setting}
-use Rattle.meter_model.specs.Step.{off_step, powered_step, step, step_in, ticked}
-use Rattle.meter_model.specs.Supply.{supply_came, supply_dropped}
 
 kept-ticked : (s : Setting) (m : Meter) → m.operating ≢ Off → IsTripKept s m → IsTripKept s (ticked s m).next
 kept-ticked s m on kept = grind (arith, common_steps)

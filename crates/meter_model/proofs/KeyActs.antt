@@ -1,24 +1,11 @@
 -- What accepted keys do, key by key.
-use Rattle.std.proofs.Common.{◌≡◌, ◌⊎◌, inl, inr, ◌<◌, ◌≤◌, ℕ, [], Some, None, sum, refl, arith}
-use Rattle.std.proofs.lemmas.Grind.{common_steps}
-use Rattle.tariff_check.specs.Amounts.{fees_in_force}
-use Rattle.tariff_check.specs.SoundTariff.{supplement_numbered}
-use Rattle.tariff_check.specs.declared.values.Supplement.{Supplement}
-use Rattle.taxi_units.specs.Limits.{hirings_end}
-use Rattle.taxi_units.specs.declared.event.Key.{Key}
+use Rattle.std.proofs.Common.{[], ℕ, ◌<◌, ◌≡◌, ◌≤◌, ◌⊎◌, None, Some, arith, inl, inr, refl, sum}
+use Rattle.{std.proofs.lemmas.Grind.{common_steps}, meter_model.specs.Trip.{MeterTrip, begun, with_extra}}
+use Rattle.meter_model.specs.{ClosedTrip.{closed}, Interval.{context_now}, Keys.{act_of, latch_pressed}}
+use Rattle.meter_model.specs.Common.{Closed, ForHire, Hired, Key, NotNow, Off, Operating, Stopped, Supplement}
+use Rattle.meter_model.specs.{Common.{fees_in_force, hirings_end, supplement_numbered}, Meter.{Meter, quiet, refused}}
+use Rattle.meter_model.specs.{KeyTable.{MayAct}, Setting.{Setting}, Supplements.{times}}
 use Rattle.taxi_units.specs.declared.event.Key.TheVariants as keys
-use Rattle.taxi_units.specs.declared.event.Operating.{Operating}
-use Rattle.taxi_units.specs.declared.event.Operating.TheVariants.{Off, ForHire, Hired, Stopped}
-use Rattle.taxi_units.specs.declared.event.Why.TheVariants.{NotNow}
-use Rattle.taxi_units.specs.declared.receipt.Kind.TheVariants.{Closed}
-use Rattle.meter_model.specs.Closing.{closed}
-use Rattle.meter_model.specs.Interval.{context_now}
-use Rattle.meter_model.specs.KeyTable.{MayAct}
-use Rattle.meter_model.specs.Keys.{act_of, latch_pressed}
-use Rattle.meter_model.specs.Meter.{Meter, quiet, refused}
-use Rattle.meter_model.specs.Setting.{Setting}
-use Rattle.meter_model.specs.Supplements.{times}
-use Rattle.meter_model.specs.Trip.{MeterTrip, begun, with_extra}
 use Rattle.meter_model.specs.declared.key_act.KeyAct.TheVariants as key_acts
 
 pub hires : (s : Setting) (m : Meter) → m.operating ≡ ForHire → m.durable.number < hirings_end

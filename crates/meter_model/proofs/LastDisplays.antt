@@ -1,20 +1,10 @@
 -- What was shown last is the display of a state that keeps its trip.
-use Rattle.std.proofs.Common.{◌≡◌, ◌≢◌, List, [], ◌∷◌, Option, Some, ℕ, refl, subst, sym, arith}
-use Rattle.std.proofs.lemmas.Grind.{common_steps}
-use Rattle.taxi_units.specs.declared.event.Event.{Event}
+use Rattle.std.proofs.Common.{[], ℕ, ◌∷◌, ◌≡◌, ◌≢◌, List, Option, Some, arith, refl, subst, sym}
+use Rattle.{std.proofs.lemmas.Grind.{common_steps}, meter_model.specs.Supply.{supply_came, supply_dropped}}
+use Rattle.meter_model.specs.{Common.{Display, Event, ForHire, Hired, Off, Operating, Stopped}, KeptTrip.{IsTripKept}}
+use Rattle.meter_model.specs.{Display.{display_of}, LastShown.{IsOfMeter}, Meter.{Meter}, Run.{run}, Setting.{Setting}}
+use Rattle.meter_model.{specs.Step.{off_step, powered_step, step, step_in, ticked}, proofs.KeptTrips.{kept-step}}
 use Rattle.taxi_units.specs.declared.event.Event.TheVariants as events
-use Rattle.taxi_units.specs.declared.event.Operating.{Operating}
-use Rattle.taxi_units.specs.declared.event.Operating.TheVariants.{Off, ForHire, Hired, Stopped}
-use Rattle.taxi_units.specs.declared.receipt.Display.{Display}
-use Rattle.meter_model.specs.Display.{display_of}
-use Rattle.meter_model.specs.KeptTrip.{IsTripKept}
-use Rattle.meter_model.specs.LastShown.{IsOfMeter}
-use Rattle.meter_model.specs.Meter.{Meter}
-use Rattle.meter_model.specs.Run.{run}
-use Rattle.meter_model.specs.Setting.{Setting}
-use Rattle.meter_model.specs.Step.{off_step, powered_step, step, step_in, ticked}
-use Rattle.meter_model.specs.Supply.{supply_came, supply_dropped}
-use Rattle.meter_model.proofs.KeptTrips.{kept-step}
 
 -- a display that the state behind an event shows
 of-next : (s : Setting) (m : Meter) → IsTripKept s m → m.shown ≡ Some (display_of s m) → IsOfMeter s m.shown

@@ -1,20 +1,10 @@
 -- The lemmas that the crates above cite.
-use Rattle.std.proofs.Common.{◌≡◌, ◌↔◌, true, [], Some}
-use Rattle.taxi_units.specs.declared.event.Event.{Event}
-use Rattle.taxi_units.specs.declared.event.Operating.TheVariants.{ForHire}
-use Rattle.taxi_units.specs.declared.receipt.Display.{Display}
-use Rattle.totals_record.specs.declared.durable_state.Durable.{Durable}
-use Rattle.meter_model.specs.Display.{display_of, same_display, shown}
-use Rattle.meter_model.specs.KeptTrip.{HoldFits, IsTripKept}
-use Rattle.meter_model.specs.Meter.{Meter}
-use Rattle.meter_model.specs.Run.{opened}
-use Rattle.meter_model.specs.Setting.{Setting}
-use Rattle.meter_model.specs.Step.{step}
-use Rattle.meter_model.proofs.ShownDisplays.{hire-shows, same-equal, shows-none}
-pub use Rattle.meter_model.proofs.Fares.{above-more}
-pub use Rattle.meter_model.proofs.KeptTrips.{kept-step}
+use Rattle.std.proofs.Common.{[], ◌↔◌, ◌≡◌, Some, true}
+use Rattle.meter_model.specs.{Common.{Display, Durable, Event, ForHire}, Display.{display_of, same_display, shown}}
+use Rattle.meter_model.specs.{KeptTrip.{HoldFits, IsTripKept}, Meter.{Meter}, Run.{opened}, Step.{step}}
+use Rattle.meter_model.{specs.Setting.{Setting}, proofs.ShownDisplays.{hire-shows, same-equal, shows-none}}
+pub use Rattle.meter_model.proofs.{Fares.{above-more}, KeptTrips.{kept-step}, Runs.{kept-run, kept-whole, run-append}}
 pub use Rattle.meter_model.proofs.Resumed.{begins}
-pub use Rattle.meter_model.proofs.Runs.{kept-run, kept-whole, run-append}
 
 pub the_store_keeps_the_trip-begins : (s : Setting) (durable : Durable) → HoldFits s durable.hold
     → IsTripKept s (opened s durable)

@@ -1,16 +1,11 @@
 -- A held trip that is opened is saved again as it was held.
-use Rattle.std.proofs.Common.{◌≡◌, ℕ, zero, suc, ◌+◌, ◌*◌, ◌<◌, List, [], ◌∷◌, ◌++◌, length, replicate, Option, Some}
-use Rattle.std.proofs.Common.{None, option_map, refl, ap, sym, subst, ◌∙◌, arith}
-use Rattle.std.proofs.lemmas.Grind.{common_steps}
-use Rattle.drive_modes.specs.declared.meterage.Meterage.{Meterage}
-use Rattle.drive_modes.proofs.Laws.{saved-any}
-use Rattle.tariff_check.specs.SoundTariff.{SoundTariff, supplement_numbered}
-use Rattle.totals_record.specs.declared.trip.Trip.{Trip}
-use Rattle.meter_model.specs.KeptTrip.{IsSavedIn, FitsSetting, HoldFits}
-use Rattle.meter_model.specs.Setting.{Setting, modulus_of}
+use Rattle.std.proofs.Common.{[], ℕ, ◌*◌, ◌++◌, ◌+◌, ◌<◌, ◌∙◌, ◌∷◌, ◌≡◌, List, None, Option, Some, ap, arith, length}
+use Rattle.std.proofs.{Common.{option_map, refl, replicate, subst, suc, sym, zero}, lemmas.Grind.{common_steps}}
+use Rattle.drive_modes.{specs.declared.meterage.Meterage.{Meterage}, proofs.Laws.{saved-any}}
+use Rattle.meter_model.specs.{Common.{SoundTariff, Trip, supplement_numbered}, declared.core_trip.CoreTrip.{CoreTrip}}
+use Rattle.meter_model.specs.{KeptTrip.{FitsSetting, HoldFits, IsSavedIn}, Setting.{Setting, modulus_of}}
 use Rattle.meter_model.specs.Supplements.{amount_in, amounts_from, amounts_of, counts_from, counts_of, times}
 use Rattle.meter_model.specs.Trip.{core_trip_in, held_trip, numbers_from, saved_at, trip_of}
-use Rattle.meter_model.specs.declared.core_trip.CoreTrip.{CoreTrip}
 
 pub times-cons-same : (n : ℕ) (xs : List ℕ) → times n (n ∷ xs) ≡ times n xs + 1
 times-cons-same n xs = grind (arith, common_steps)

@@ -1,22 +1,16 @@
 -- A trip that is opened from its saved form has the saved form of the whole trip.
-use Rattle.std.proofs.Common.{◌≡◌, ℕ, zero, suc, ◌+◌, ◌-◌, ◌*◌, ◌/◌, ◌%◌, ◌<◌, ◌≤◌, All, Bool, List, [], ◌∷◌, ◌++◌}
-use Rattle.std.proofs.Common.{length, map, sum, Option, refl, ap, sym, subst, ◌∙◌, arith}
-use Rattle.std.proofs.lemmas.Grind.{common_steps}
-use Rattle.std.proofs.lemmas.List.Elements.{All-head, All-tail}
-use Rattle.drive_modes.specs.Fare as fares
-use Rattle.drive_modes.specs.Fare.{above_cover, saved}
-use Rattle.drive_modes.specs.declared.meterage.Meterage.{Meterage}
-use Rattle.tariff_check.specs.SoundTariff.{SoundTariff, supplement_numbered}
-use Rattle.tariff_check.specs.declared.values.Supplement.{Supplement}
-use Rattle.meter_model.specs.KeptTrip.{IsSupplementNumber, with_more}
-use Rattle.meter_model.specs.Setting.{Setting, modulus_of}
+use Rattle.std.proofs.Common.{[], ℕ, ◌%◌, ◌*◌, ◌++◌, ◌+◌, ◌-◌, ◌/◌, ◌<◌, ◌∙◌, ◌∷◌, ◌≡◌, ◌≤◌, All, Bool, List, Option}
+use Rattle.std.proofs.{Common.{ap, arith, length, map, refl, subst, suc, sum, sym, zero}, lemmas.Grind.{common_steps}}
+use Rattle.{std.proofs.lemmas.List.Elements.{All-head, All-tail}, meter_model.specs.Trip.{pulses_in, ticks_in, trip_of}}
+use Rattle.drive_modes.specs.{Fare.{above_cover}, declared.meterage.Meterage.{Meterage}}
+use Rattle.meter_model.specs.Common.{SoundTariff, Supplement, saved, supplement_numbered}
+use Rattle.meter_model.{specs.KeptTrip.{IsSupplementNumber, with_more}, proofs.Resumed.{times-cons-same}}
+use Rattle.meter_model.{specs.Setting.{Setting, modulus_of}, proofs.Fares.{above-more, sum-lists}}
 use Rattle.meter_model.specs.Supplements.{amount_in, amounts_from, amounts_of, counts_from, counts_of, times}
-use Rattle.meter_model.specs.Trip as model
-use Rattle.meter_model.specs.Trip.{Part, MeterTrip, charge_in, charges_of, held_trip, pulses_in, core_trip_of}
-use Rattle.meter_model.specs.Trip.{numbers_from, ticks_in, trip_of}
-use Rattle.meter_model.proofs.Fares.{above-more, sum-lists}
+use Rattle.meter_model.specs.Trip.{MeterTrip, Part, charge_in, charges_of, core_trip_of, held_trip, numbers_from}
 use Rattle.meter_model.proofs.Resumed.{amounts-numbers, counts-earlier, counts-numbers, same_form, times-cons-other}
-use Rattle.meter_model.proofs.Resumed.{times-cons-same}
+use Rattle.drive_modes.specs.Fare as fares
+use Rattle.meter_model.specs.Trip as model
 
 -- ---- counts of supplements
 

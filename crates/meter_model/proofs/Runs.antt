@@ -1,15 +1,8 @@
 -- Runs over lists of events.
-use Rattle.std.proofs.Common.{◌≡◌, List, [], ◌∷◌, ◌++◌, refl, ap, sym, ◌∙◌, append_assoc}
-use Rattle.taxi_units.specs.declared.event.Event.{Event}
-use Rattle.totals_record.specs.declared.durable_state.Durable.{Durable}
-use Rattle.meter_model.specs.KeptTrip.{HoldFits, IsTripKept}
-use Rattle.meter_model.specs.Meter.{Meter, Outcome, ◌>>=◌}
-use Rattle.meter_model.specs.Run.{opened, run, run_both, whole_run}
-use Rattle.meter_model.specs.Setting.{Setting}
-use Rattle.meter_model.specs.Step.{step}
-use Rattle.meter_model.specs.declared.act.Act.{Act}
-use Rattle.meter_model.proofs.KeptTrips.{kept-ended, kept-step}
-use Rattle.meter_model.proofs.Resumed.{begins}
+use Rattle.std.proofs.Common.{[], ◌++◌, ◌∙◌, ◌∷◌, ◌≡◌, List, ap, append_assoc, refl, sym}
+use Rattle.meter_model.{specs.{Common.{Act, Durable, Event}, Step.{step}}, proofs.Resumed.{begins}}
+use Rattle.meter_model.specs.{KeptTrip.{HoldFits, IsTripKept}, Meter.{◌>>=◌, Meter, Outcome}, Setting.{Setting}}
+use Rattle.meter_model.{specs.Run.{opened, run, run_both, whole_run}, proofs.KeptTrips.{kept-ended, kept-step}}
 
 -- one thing after the other, and then a third
 joined : (o : Outcome) (f g : Meter → Outcome) → o >>= (λ (m : Meter). f m >>= g) ≡ (o >>= f) >>= g

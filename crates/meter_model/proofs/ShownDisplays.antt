@@ -1,17 +1,9 @@
 -- When two displays are the same, when one is shown, and what a display for hire has.
-use Rattle.std.proofs.Common.{◌≡◌, ◌↔◌, Bool, true, false, None, Some, Option, List, [], ◌∷◌, ap}
-use Rattle.std.proofs.Common.{◌∙◌, refl, subst, arith, if◌then◌else◌}
-use Rattle.std.proofs.lemmas.Grind.{common_steps}
-use Rattle.taxi_units.specs.declared.event.Operating.{Operating}
-use Rattle.taxi_units.specs.declared.event.Operating.TheVariants.{ForHire}
-use Rattle.taxi_units.specs.declared.receipt.Display.{Display}
-use Rattle.meter_model.specs.Display.{display_of, extras_shown, fare_shown, is_shown, same_display}
-use Rattle.meter_model.specs.KeptTrip.{IsTripKept, IsTripKeptIn}
-use Rattle.meter_model.specs.Meter.{Meter}
-use Rattle.meter_model.specs.Setting.{Setting}
-use Rattle.meter_model.specs.Trip.{MeterTrip}
-use Rattle.meter_model.specs.declared.act.Act.{Act}
-use Rattle.meter_model.specs.declared.act.Act.TheVariants.{Show}
+use Rattle.std.proofs.Common.{[], ◌↔◌, ◌∙◌, ◌∷◌, ◌≡◌, Bool, List, None, Option, Some, ap, arith, false, if◌then◌else◌}
+use Rattle.{std.proofs.{Common.{refl, subst, true}, lemmas.Grind.{common_steps}}, meter_model.specs.Trip.{MeterTrip}}
+use Rattle.meter_model.specs.{Common.{Act, Display, ForHire, Operating}, KeptTrip.{IsTripKept, IsTripKeptIn}}
+use Rattle.meter_model.specs.{Display.{display_of, extras_shown, fare_shown, is_shown, same_display}, Setting.{Setting}}
+use Rattle.meter_model.specs.{Meter.{Meter}, declared.act.Act.TheVariants.{Show}}
 
 same-self : (d : Display) → same_display d d ≡ true
 same-self d = grind (arith, common_steps)

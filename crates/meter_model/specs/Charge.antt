@@ -1,11 +1,8 @@
 -- Rules: the charge of a measuring interval, by the numbers of the rate that is in force.
-use Rattle.std.specs.Prelude.{ℕ, ◌+◌, ◌*◌, ◌/◌, if◌then◌else◌, nat_lt}
-use Rattle.drive_modes.specs.declared.charges.Mode.{Mode}
-use Rattle.drive_modes.specs.declared.charges.Mode.TheVariants.{Single, Double}
-use Rattle.tariff_check.specs.Parts.{RateNumbers}
-use Rattle.tariff_check.specs.SoundLookups.{rate_in_force}
-use Rattle.tariff_syntax.specs.declared.context.Context.{Context}
-use Rattle.meter_model.specs.Setting.{Setting}
+use Rattle.std.specs.Prelude.{ℕ, ◌*◌, ◌+◌, ◌/◌, if◌then◌else◌, nat_lt}
+use Rattle.drive_modes.specs.declared.charges.Mode.{Mode, TheVariants.{Double, Single}}
+use Rattle.{tariff_check.specs.{Parts.{RateNumbers}, SoundLookups.{rate_in_force}}, meter_model.specs.Setting.{Setting}}
+use Rattle.meter_model.specs.Common.{Context}
 
 -- the charge of the distance of p pulses is what p times 10,000 / k decimetres cost at a per b decimetres; it is in
 -- units of charge, of which k times the common measure make the smallest unit of money

@@ -1,13 +1,8 @@
 -- Rules: what the display shows, and when it does.
-use Rattle.std.specs.Prelude.{ℕ, Bool, true, false, ◌&&◌, ◌==◌, [], ◌∷◌, Option, Some, None, if◌then◌else◌}
-use Rattle.taxi_units.specs.declared.event.Operating.{Operating}
-use Rattle.taxi_units.specs.declared.event.Operating.TheVariants.{Off, ForHire, Hired, Stopped}
-use Rattle.taxi_units.specs.declared.receipt.Display.{Display}
-use Rattle.meter_model.specs.Meter.{Meter, Outcome}
+use Rattle.std.specs.Prelude.{[], ℕ, ◌&&◌, ◌==◌, ◌∷◌, Bool, None, Option, Some, false, if◌then◌else◌, true}
+use Rattle.meter_model.specs.{Common.{Display, ForHire, Hired, Off, Operating, Stopped}, Trip.{MeterTrip, fare_of}}
+use Rattle.meter_model.specs.{Meter.{Meter, Outcome}, Supplements.{amounts_of}, declared.act.Act.TheVariants.{Show}}
 use Rattle.meter_model.specs.Setting.{Setting}
-use Rattle.meter_model.specs.Supplements.{amounts_of}
-use Rattle.meter_model.specs.Trip.{MeterTrip, fare_of}
-use Rattle.meter_model.specs.declared.act.Act.TheVariants.{Show}
 
 -- the fare that the display shows is that of the trip, and 0 without one
 abbrev pub fare_shown : Setting → Option MeterTrip → ℕ

@@ -1,17 +1,10 @@
 -- Rules: the measuring interval, its pulses, the context of its beginning, and what it becomes at its end.
-use Rattle.std.specs.Prelude.{ℕ, ◌-◌, List, [], ◌∷◌, ◌++◌, Option, Some, None, option_map, sum, min, if◌then◌else◌}
-use Rattle.std.specs.Prelude.{nat_lt}
-use Rattle.interval_clock.specs.declared.local_time.LocalTime.{LocalTime}
-use Rattle.tariff_check.specs.SoundLookups.{has_date}
-use Rattle.tariff_syntax.specs.declared.context.Context.{Context}
-use Rattle.taxi_units.specs.declared.event.Operating.{Operating}
-use Rattle.taxi_units.specs.declared.event.Operating.TheVariants.{Off, ForHire, Hired, Stopped}
-use Rattle.taxi_units.specs.declared.event.Why.TheVariants.{TooFast}
-use Rattle.meter_model.specs.Meter.{Meter, Outcome, quiet}
-use Rattle.meter_model.specs.Setting.{Setting, local_at}
-use Rattle.meter_model.specs.Trip.{MeterTrip, Part, InHired, InStopped, Rest, with_part, pulses_of, ticks_of}
-use Rattle.meter_model.specs.declared.act.Act.TheVariants.{Refuse}
-use Rattle.taxi_units.specs.Limits.{hirings_end}
+use Rattle.std.specs.Prelude.{[], ℕ, ◌++◌, ◌-◌, ◌∷◌, List, None, Option, Some, if◌then◌else◌, min, nat_lt, option_map}
+use Rattle.{std.specs.Prelude.{sum}, taxi_units.specs.declared.event.Why.TheVariants.{TooFast}}
+use Rattle.{interval_clock.specs.declared.local_time.LocalTime.{LocalTime}, tariff_check.specs.SoundLookups.{has_date}}
+use Rattle.meter_model.specs.Common.{Context, ForHire, Hired, Off, Operating, Refuse, Stopped, hirings_end}
+use Rattle.meter_model.specs.{Meter.{Meter, Outcome, quiet}, Setting.{Setting, local_at}}
+use Rattle.meter_model.specs.Trip.{InHired, InStopped, MeterTrip, Part, Rest, pulses_of, ticks_of, with_part}
 
 -- the running interval has room for as many pulses as are left of 2,000 behind those that it has taken
 abbrev pub room_of : Meter → ℕ

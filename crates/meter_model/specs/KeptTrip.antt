@@ -1,13 +1,8 @@
 -- Rules: what the store keeps of the trip.
-use Rattle.std.specs.Prelude.{◌≡◌, ◌≢◌, ℕ, ◌<◌, ◌≤◌, List, [], ◌∷◌, ◌++◌, Option, Some, None, length, option_map}
-use Rattle.taxi_units.specs.declared.event.Operating.{Operating}
-use Rattle.taxi_units.specs.declared.event.Operating.TheVariants.{Off, ForHire, Hired, Stopped}
-use Rattle.tariff_check.specs.SoundTariff.{supplement_numbered}
-use Rattle.totals_record.specs.declared.trip.Trip.{Trip}
-use Rattle.meter_model.specs.Meter.{Meter}
-use Rattle.meter_model.specs.Setting.{Setting, modulus_of}
-use Rattle.meter_model.specs.Supplements.{amounts_from}
-use Rattle.meter_model.specs.Trip.{MeterTrip, Part, InHired, InStopped, Rest, core_trip_in, core_trip_of}
+use Rattle.std.specs.Prelude.{[], ℕ, ◌++◌, ◌<◌, ◌∷◌, ◌≡◌, ◌≢◌, ◌≤◌, List, None, Option, Some, length, option_map}
+use Rattle.meter_model.specs.Common.{ForHire, Hired, Off, Operating, Stopped, Trip, supplement_numbered}
+use Rattle.meter_model.specs.{Meter.{Meter}, Setting.{Setting, modulus_of}, Supplements.{amounts_from}}
+use Rattle.meter_model.specs.Trip.{InHired, InStopped, MeterTrip, Part, Rest, core_trip_in, core_trip_of}
 
 -- a held trip is the saved form of a trip if both are none, or if a core keeps the same of both
 abbrev pub IsSavedIn : Setting → (hold : Option Trip) → Option MeterTrip → Type 0

@@ -1,9 +1,7 @@
 -- Rules: in which operating positions a key may act. The law accepted_keys_act says what it does there, key by key.
 use Rattle.std.specs.Prelude.{◌≡◌, ◌⊎◌}
-use Rattle.taxi_units.specs.declared.event.Key.{Key}
-use Rattle.taxi_units.specs.declared.event.Key.TheVariants.{Hire, Stop, Clear, Position, Zone, Extra}
-use Rattle.taxi_units.specs.declared.event.Operating.{Operating}
-use Rattle.taxi_units.specs.declared.event.Operating.TheVariants.{ForHire, Hired, Stopped}
+use Rattle.taxi_units.specs.declared.event.Key.TheVariants.{Clear, Extra, Hire, Position, Stop, Zone}
+use Rattle.meter_model.specs.Common.{ForHire, Hired, Key, Operating, Stopped}
 
 -- a key may act in these operating positions: Hire in For Hire and in Stopped, Stop in Hired, Clear in Stopped, a
 -- tariff position and a zone in For Hire and in Hired, and a supplement in Hired and in Stopped

@@ -1,23 +1,12 @@
 -- Rules: keys, one of which may wait for the end of the interval, and acts then.
-use Rattle.std.specs.Prelude.{ℕ, Bool, ◌&&◌, [], Option, Some, None, sum, if◌then◌else◌, nat_le}
-use Rattle.tariff_check.specs.Amounts.{fees_in_force}
-use Rattle.tariff_check.specs.SoundTariff.{supplement_numbered}
-use Rattle.tariff_check.specs.declared.values.Supplement.{Supplement}
-use Rattle.taxi_units.specs.declared.event.Key.{Key}
+use Rattle.std.specs.Prelude.{[], ℕ, ◌&&◌, Bool, None, Option, Some, if◌then◌else◌, nat_le, sum}
+use Rattle.taxi_units.specs.declared.event.Why.TheVariants.{AtMost, Ended, KeyWaiting, NoSuch}
+use Rattle.meter_model.specs.{ClosedTrip.{closed}, Interval.{context_now}, Supplements.{times}}
+use Rattle.meter_model.specs.Common.{Closed, ForHire, Hired, Key, NotNow, Operating, Stopped, Supplement, fees_in_force}
+use Rattle.meter_model.specs.{Common.{hirings_end, supplement_numbered}, Meter.{Meter, Outcome, quiet, refused}}
+use Rattle.meter_model.specs.{Setting.{Setting}, Trip.{MeterTrip, begun, with_extra}, declared.key_act.KeyAct.{KeyAct}}
 use Rattle.taxi_units.specs.declared.event.Key.TheVariants as keys
-use Rattle.taxi_units.specs.declared.event.Operating.{Operating}
-use Rattle.taxi_units.specs.declared.event.Operating.TheVariants.{ForHire, Hired, Stopped}
-use Rattle.taxi_units.specs.declared.event.Why.TheVariants.{NotNow, KeyWaiting, NoSuch, AtMost, Ended}
-use Rattle.taxi_units.specs.declared.receipt.Kind.TheVariants.{Closed}
-use Rattle.meter_model.specs.Closing.{closed}
-use Rattle.meter_model.specs.Interval.{context_now}
-use Rattle.meter_model.specs.Meter.{Meter, Outcome, quiet, refused}
-use Rattle.meter_model.specs.Setting.{Setting}
-use Rattle.meter_model.specs.Supplements.{times}
-use Rattle.meter_model.specs.Trip.{MeterTrip, begun, with_extra}
-use Rattle.meter_model.specs.declared.key_act.KeyAct.{KeyAct}
 use Rattle.meter_model.specs.declared.key_act.KeyAct.TheVariants as key_acts
-use Rattle.taxi_units.specs.Limits.{hirings_end}
 
 -- a key that is pressed waits for the end of the interval, and is refused if another one waits
 abbrev pub latched : Option Key → Key → Meter → Outcome

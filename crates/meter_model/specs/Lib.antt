@@ -1,5 +1,5 @@
 pub mod Charge
-pub mod Closing
+pub mod ClosedTrip
 pub mod Display
 pub mod Interval
 pub mod KeptTrip
@@ -13,3 +13,4 @@ pub mod Step
 pub mod Supplements
 pub mod Supply
 pub mod Trip
+pub mod Common

@@ -1,19 +1,11 @@
 -- Rules: the states of the meter, and what a part of an event comes to, which is the next state and what the meter
 -- does.
-use Rattle.std.specs.Prelude.{ℕ, List, [], ◌∷◌, ◌++◌, Option}
-use Rattle.taxi_units.specs.declared.event.Key.{Key}
-use Rattle.taxi_units.specs.declared.event.Operating.{Operating}
-use Rattle.taxi_units.specs.declared.event.Why.{Why}
-use Rattle.taxi_units.specs.declared.receipt.Display.{Display}
+use Rattle.std.specs.Prelude.{[], ℕ, ◌++◌, ◌∷◌, List, Option}
+use Rattle.{taxi_units.specs.declared.event.Why.{Why}, totals_record.specs.declared.entry.Entry.{Entry}}
+use Rattle.{totals_record.specs.States.{after}, meter_model.specs.declared.act.Act.TheVariants.{Enter, Hold}}
+use Rattle.meter_model.specs.{Common.{Act, Display, Durable, Key, Operating, Refuse, Trip}, Trip.{MeterTrip}}
 use Rattle.taxi_units.specs.declared.receipt.Receipt as receipts
-use Rattle.totals_record.specs.States.{after}
 use Rattle.totals_record.specs.declared.change.Change.TheVariants as changes
-use Rattle.totals_record.specs.declared.durable_state.Durable.{Durable}
-use Rattle.totals_record.specs.declared.entry.Entry.{Entry}
-use Rattle.totals_record.specs.declared.trip.Trip.{Trip}
-use Rattle.meter_model.specs.Trip.{MeterTrip}
-use Rattle.meter_model.specs.declared.act.Act.{Act}
-use Rattle.meter_model.specs.declared.act.Act.TheVariants.{Refuse, Enter, Hold}
 use Rattle.meter_model.specs.declared.act.Act.TheVariants as acts
 
 -- a state of the meter has its operating position, its clock, its running interval, the key that waits, the position

@@ -1,16 +1,8 @@
 -- Rules: a run, how it opens, its events one after the other, and the supply drop at its end.
-use Rattle.std.specs.Prelude.{List, [], ◌∷◌, None, option_map}
-use Rattle.taxi_units.specs.Time.{first_second}
-use Rattle.taxi_units.specs.declared.event.Event.{Event}
-use Rattle.taxi_units.specs.declared.event.Operating.{Operating}
-use Rattle.taxi_units.specs.declared.event.Operating.TheVariants.{Off}
-use Rattle.totals_record.specs.declared.durable_state.Durable.{Durable}
-use Rattle.meter_model.specs.Meter.{Meter, Outcome, ◌>>=◌, quiet}
-use Rattle.meter_model.specs.Setting.{Setting}
-use Rattle.meter_model.specs.Step.{step}
-use Rattle.meter_model.specs.Supply.{supply_dropped}
-use Rattle.meter_model.specs.Trip.{trip_of}
-use Rattle.meter_model.specs.declared.act.Act.{Act}
+use Rattle.std.specs.Prelude.{[], ◌∷◌, List, None, option_map}
+use Rattle.{taxi_units.specs.Time.{first_second}, meter_model.specs.Common.{Act, Durable, Event, Off, Operating}}
+use Rattle.meter_model.specs.{Meter.{◌>>=◌, Meter, Outcome, quiet}, Setting.{Setting}, Supply.{supply_dropped}}
+use Rattle.meter_model.specs.{Step.{step}, Trip.{trip_of}}
 
 -- a meter is opened before the supply first comes, with what the store has: off, at the first second, with the held
 -- trip

@@ -1,15 +1,10 @@
 -- Rules: what the meter goes by, its tariff and its secured parameters.
-use Rattle.std.specs.Prelude.{◌≡◌, ℕ, ◌*◌, List, [], ◌∷◌, ℤ}
-use Rattle.drive_modes.specs.declared.charges.Mode.{Mode}
-use Rattle.drive_modes.specs.declared.meterage.Rounding.{Rounding}
-use Rattle.interval_clock.specs.LocalTime.{local_second, local_time_of}
-use Rattle.interval_clock.specs.declared.local_time.LocalTime.{LocalTime}
-use Rattle.seal_record.specs.declared.params.Params.{Params}
-use Rattle.seal_record.specs.declared.seal.Seal.{Seal}
-use Rattle.tariff_check.specs.SoundTariff.{SoundTariff, sound_of}
-use Rattle.tariff_syntax.specs.Tree.{Tree}
-use Rattle.taxi_units.specs.Time.{first_second}
-use Rattle.taxi_units.specs.declared.receipt.Stamp.{Stamp}
+use Rattle.std.specs.Prelude.{[], ℕ, ℤ, ◌*◌, ◌∷◌, ◌≡◌, List}
+use Rattle.{taxi_units.specs.{Time.{first_second}, declared.receipt.Stamp.{Stamp}}, tariff_syntax.specs.Tree.{Tree}}
+use Rattle.drive_modes.specs.declared.{charges.Mode.{Mode}, meterage.Rounding.{Rounding}}
+use Rattle.interval_clock.specs.{LocalTime.{local_second, local_time_of}, declared.local_time.LocalTime.{LocalTime}}
+use Rattle.seal_record.specs.declared.{params.Params.{Params}, seal.Seal.{Seal}}
+use Rattle.{tariff_check.specs.SoundTariff.{sound_of}, meter_model.specs.Common.{SoundTariff}}
 
 -- a setting has the parts of the tariff, the constant of the taximeter, how time and distance share in the fare, how
 -- long a trip may be held without supply, and the offsets from UTC

@@ -1,21 +1,13 @@
 -- Rules: what each event does to the meter.
-use Rattle.std.specs.Prelude.{ℕ, Option, Some, None, if◌then◌else◌, nat_le, nat_lt}
-use Rattle.taxi_units.specs.Time.{longest_trip}
-use Rattle.taxi_units.specs.declared.event.Event.{Event}
+use Rattle.std.specs.Prelude.{ℕ, None, Option, Some, if◌then◌else◌, nat_le, nat_lt}
+use Rattle.taxi_units.specs.{Time.{longest_trip}, declared.event.Why.TheVariants.{ClockBack, Powered}}
+use Rattle.meter_model.specs.{ClosedTrip.{closed, roaming_checked}, Meter.{◌>>=◌, Meter, Outcome, quiet, refused}}
+use Rattle.meter_model.specs.{Common.{Event, ForHire, Hired, Key, NotNow, Off, Operating, Stopped}, Setting.{Setting}}
+use Rattle.meter_model.specs.{Display.{shown}, Interval.{interval_begun, interval_counted, pulses_taken, ticks_so_far}}
+use Rattle.meter_model.specs.{Keys.{key_pressed, latched}, Supply.{supply_came, supply_dropped}}
 use Rattle.taxi_units.specs.declared.event.Event.TheVariants as events
-use Rattle.taxi_units.specs.declared.event.Key.{Key}
-use Rattle.taxi_units.specs.declared.event.Operating.{Operating}
-use Rattle.taxi_units.specs.declared.event.Operating.TheVariants.{Off, ForHire, Hired, Stopped}
-use Rattle.taxi_units.specs.declared.event.Why.TheVariants.{NotNow, ClockBack, Powered}
 use Rattle.taxi_units.specs.declared.event.Why.TheVariants as why
 use Rattle.taxi_units.specs.declared.receipt.Kind.TheVariants as kinds
-use Rattle.meter_model.specs.Closing.{closed, roaming_checked}
-use Rattle.meter_model.specs.Display.{shown}
-use Rattle.meter_model.specs.Interval.{interval_begun, interval_counted, pulses_taken, ticks_so_far}
-use Rattle.meter_model.specs.Keys.{key_pressed, latched}
-use Rattle.meter_model.specs.Meter.{Meter, Outcome, ◌>>=◌, quiet, refused}
-use Rattle.meter_model.specs.Setting.{Setting}
-use Rattle.meter_model.specs.Supply.{supply_came, supply_dropped}
 
 -- the key that waits, if one does, is refused, since the trip has expired, and waits no more
 abbrev pub latch_refused : Option Key → Meter → Outcome

@@ -1,8 +1,7 @@
 -- Rules: the supplements of a trip, and how often each was added.
-use Rattle.std.specs.Prelude.{ℕ, zero, suc, ◌+◌, ◌*◌, ◌==◌, List, [], ◌∷◌, Option, Some, None, sum, map, count_by}
-use Rattle.tariff_check.specs.SoundTariff.{SoundTariff, supplement_numbered}
-use Rattle.tariff_check.specs.declared.values.Supplement.{Supplement}
-use Rattle.taxi_units.specs.Test.{Test, at_most, no_test, ◌&◌}
+use Rattle.std.specs.Prelude.{[], ℕ, ◌*◌, ◌+◌, ◌==◌, ◌∷◌, List, None, Option, Some, count_by, map, suc, sum, zero}
+use Rattle.taxi_units.specs.Test.{◌&◌, Test, at_most, no_test}
+use Rattle.meter_model.specs.Common.{SoundTariff, Supplement, supplement_numbered}
 
 -- the amount of a supplement that may be none is its own, and 0 for none
 abbrev pub amount_in : Option Supplement → ℕ

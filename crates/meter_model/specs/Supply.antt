@@ -1,17 +1,10 @@
 -- Rules: the supply, what a drop of it leaves, and what its coming finds.
-use Rattle.std.specs.Prelude.{ℕ, ◌+◌, Bool, true, false, ◌&&◌, [], Option, Some, None, sum, if◌then◌else◌, nat_le}
-use Rattle.std.specs.Prelude.{nat_lt}
-use Rattle.taxi_units.specs.declared.event.Operating.{Operating}
-use Rattle.taxi_units.specs.declared.event.Operating.TheVariants.{Off, ForHire, Hired, Stopped}
-use Rattle.taxi_units.specs.declared.receipt.Kind.TheVariants.{Aborted}
-use Rattle.totals_record.specs.declared.trip.Trip.{Trip}
-use Rattle.meter_model.specs.Closing.{closed, roaming_entered}
+use Rattle.std.specs.Prelude.{[], ℕ, ◌&&◌, ◌+◌, Bool, None, Option, Some, false, if◌then◌else◌, nat_le, nat_lt, sum}
+use Rattle.{std.specs.Prelude.{true}, taxi_units.specs.declared.receipt.Kind.TheVariants.{Aborted}}
+use Rattle.{taxi_units.specs.Limits.{last_number}, meter_model.specs.{Interval.{interval_left}, Setting.{Setting}}}
+use Rattle.meter_model.specs.{ClosedTrip.{closed, roaming_entered}, Meter.{◌>>=◌, Meter, Outcome, held, quiet}}
+use Rattle.meter_model.specs.{Common.{ForHire, Hired, Off, Operating, Stopped, Trip}, Trip.{MeterTrip, held_trip}}
 use Rattle.meter_model.specs.Display.{shown}
-use Rattle.meter_model.specs.Interval.{interval_left}
-use Rattle.meter_model.specs.Meter.{Meter, Outcome, ◌>>=◌, quiet, held}
-use Rattle.meter_model.specs.Setting.{Setting}
-use Rattle.meter_model.specs.Trip.{MeterTrip, held_trip}
-use Rattle.taxi_units.specs.Limits.{last_number}
 
 -- the test `is_stopped` is true if an operating position is Stopped
 abbrev pub is_stopped : Operating → Bool

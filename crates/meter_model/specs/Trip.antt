@@ -1,15 +1,10 @@
 -- Rules: a trip, as the whole list of its intervals, and its fare.
-use Rattle.std.specs.Prelude.{ℕ, ◌+◌, ◌*◌, Bool, List, [], ◌∷◌, ◌++◌, map, replicate, sum}
-use Rattle.drive_modes.specs.Fare as fares
-use Rattle.drive_modes.specs.Fare.{saved, shown_fare, steps_above}
-use Rattle.tariff_check.specs.declared.values.Initial.{Initial}
-use Rattle.tariff_syntax.specs.declared.context.Context.{Context}
-use Rattle.totals_record.specs.declared.trip.Trip.{Trip}
+use Rattle.std.specs.Prelude.{[], ℕ, ◌*◌, ◌++◌, ◌+◌, ◌∷◌, Bool, List, map, replicate, sum}
+use Rattle.{drive_modes.specs.Fare.{shown_fare, steps_above}, tariff_check.specs.declared.values.Initial.{Initial}}
 use Rattle.meter_model.specs.Charge.{charge_at}
-use Rattle.meter_model.specs.Setting.{Setting, modulus_of, rounding_of, unit_of}
-use Rattle.meter_model.specs.Supplements.{amounts_of, counts_of}
-use Rattle.meter_model.specs.declared.core_trip.CoreTrip.{CoreTrip}
-use Rattle.meter_model.specs.declared.core_trip.Fees.{Fees}
+use Rattle.meter_model.specs.{Common.{Context, Trip, saved}, declared.core_trip.{CoreTrip.{CoreTrip}, Fees.{Fees}}}
+use Rattle.meter_model.specs.{Setting.{Setting, modulus_of, rounding_of, unit_of}, Supplements.{amounts_of, counts_of}}
+use Rattle.drive_modes.specs.Fare as fares
 
 -- a part of a trip is an interval that ended in Hired, with the context at its beginning, one that ended in Stopped, or
 -- the pulses of one that a supply drop left unfinished

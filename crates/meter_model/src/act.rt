@@ -1,6 +1,6 @@
 //! What the meter does.
 ghost use Rattle.std.specs.Prelude.{◌<◌};
-ghost use Rattle.meter_model.specs.declared.act.Act.TheVariants.{Refuse};
+ghost use Rattle.meter_model.specs.Common.{Refuse};
 
 use arrayvec::ArrayVec;
 use taxi_units::{Display, Receipt, Why};

@@ -1,30 +1,17 @@
 -- What a point of a list of deeds says of an image that a cut leaves.
-use Rattle.std.proofs.Common.{◌≡◌, inl, inr, ⊎_elim, ℕ, ◌+◌, ◌≤◌, List, [], ◌∷◌, ◌++◌, length, Option, Some, None, refl}
-use Rattle.std.proofs.Common.{sym, ap, subst, ◌∙◌, append_assoc, arith, length-append}
 use Rattle.std.specs.Prelude.{◌⊎◌}
-use Rattle.std.proofs.lemmas.List.{append-nil}
-use Rattle.outside.specs.Printing.{Begins}
-use Rattle.outside.proofs.Laws.{begins_whole}
-use Rattle.seal_record.specs.declared.seal.Seal.{Seal}
-use Rattle.slot_store.proofs.Laws.{body_found}
-use Rattle.tariff_compile.specs.Tables.{TableParts}
-use Rattle.taxi_units.specs.declared.receipt.Kind.{Kind}
-use Rattle.taxi_units.specs.declared.receipt.Kind.TheVariants.{Closed, Aborted, Expired, Roam}
-use Rattle.taxi_units.specs.declared.receipt.Receipt as receipts
-use Rattle.totals_record.specs.Reading.{reads}
-use Rattle.totals_record.specs.States.{after, after_all}
-use Rattle.meter_store.specs.Stored.{state_number_of}
-use Rattle.totals_record.specs.Sums.{GrowsBy}
-use Rattle.totals_record.specs.declared.change.Change.{Change}
-use Rattle.totals_record.specs.declared.change.Change.TheVariants as changes
-use Rattle.totals_record.specs.declared.durable_state.Durable.{Durable}
-use Rattle.totals_record.specs.declared.entry.Entry.{Entry}
-use Rattle.totals_record.proofs.Laws.{changes_add_up}
+use Rattle.std.proofs.Common.{[], ℕ, ◌++◌, ◌+◌, ◌∙◌, ◌∷◌, ◌≡◌, ◌≤◌, List, None, Option, Some, ap, append_assoc, arith}
+use Rattle.std.proofs.{Common.{inl, inr, length, length-append, refl, subst, sym, ⊎_elim}, lemmas.List.{append-nil}}
+use Rattle.taxi_units.specs.declared.receipt.Kind.{Kind, TheVariants.{Aborted, Closed, Expired, Roam}}
+use Rattle.{outside.proofs.Laws.{begins_whole}, slot_store.proofs.Laws.{body_found}}
+use Rattle.totals_record.{specs.{Reading.{reads}, States.{after_all}}, proofs.Laws.{changes_add_up}}
 use Rattle.meter_states.specs.Pairs.{ArePaired, IsReceiptOf, waiting_after}
-use Rattle.meter_model.specs.declared.act.Act.{Act}
-use Rattle.meter_model.specs.declared.act.Act.TheVariants.{Show, Refuse, Enter, Hold, Receipt}
-use Rattle.meter_run.specs.Deeds.{Deed, Does, Prints, after_deed, after_deeds, changes_of, deeds_of, deed_text, texts}
-use Rattle.meter_run.specs.Points.{IsPointOfDeeds, EndsInEntryOf, HasEntries, HasFittingState, IsCutOfDeeds, IsEntered}
+use Rattle.meter_run.specs.Common.{Act, Begins, Change, Durable, Enter, Entry, GrowsBy, Hold, Receipt, Refuse, Seal}
+use Rattle.meter_run.specs.Common.{Show, TableParts, after, state_number_of}
+use Rattle.meter_run.specs.Deeds.{Deed, Does, Prints, after_deed, after_deeds, changes_of, deed_text, deeds_of, texts}
+use Rattle.meter_run.specs.Points.{EndsInEntryOf, HasEntries, HasFittingState, IsCutOfDeeds, IsEntered, IsPointOfDeeds}
+use Rattle.taxi_units.specs.declared.receipt.Receipt as receipts
+use Rattle.totals_record.specs.declared.change.Change.TheVariants as changes
 
 -- ---- what deeds commit
 

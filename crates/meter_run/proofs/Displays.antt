@@ -1,17 +1,9 @@
 -- Displays of a meter, by their texts.
-use Rattle.std.proofs.Common.{◌≡◌, ◌≢◌, ◌↔◌, ◌∙◌, ℕ, true, [], Some, refl, ap, subst, sym}
-use Rattle.taxi_units.specs.Shown.{IsShown}
-use Rattle.taxi_units.specs.declared.event.Operating.{Operating}
-use Rattle.taxi_units.specs.declared.event.Operating.TheVariants.{Off, ForHire, Hired, Stopped}
-use Rattle.taxi_units.specs.declared.receipt.Display.{Display}
-use Rattle.receipt_text.specs.Shows.{HasFields, ShowsSame}
-use Rattle.receipt_text.specs.Texts.{display_text}
-use Rattle.receipt_text.proofs.Laws.{displays_differ_by_their_fields}
-use Rattle.meter_model.specs.Display.{display_of, same_display, shown}
-use Rattle.meter_model.specs.KeptTrip.{IsTripKept}
-use Rattle.meter_model.specs.LastShown.{IsOfMeter}
-use Rattle.meter_model.specs.Meter.{Meter}
-use Rattle.meter_model.specs.Setting.{Setting}
+use Rattle.std.proofs.Common.{[], ℕ, ◌↔◌, ◌∙◌, ◌≡◌, ◌≢◌, Some, ap, refl, subst, sym, true}
+use Rattle.meter_model.specs.{Display.{display_of, same_display}, KeptTrip.{IsTripKept}, LastShown.{IsOfMeter}}
+use Rattle.receipt_text.{specs.Shows.{HasFields, ShowsSame}, proofs.Laws.{displays_differ_by_their_fields}}
+use Rattle.meter_run.specs.Common.{Display, ForHire, Hired, IsShown, Meter, Off, Operating, Setting, Stopped}
+use Rattle.meter_run.specs.Common.{display_text, shown}
 use Rattle.meter_model.proofs.Laws as laws
 
 -- a display with these fields

@@ -1,39 +1,14 @@
 -- Equal intervals that the core carries out at once.
-use Rattle.std.proofs.Common.{◌≡◌, ℕ, zero, suc, List, [], ◌++◌, refl, sym, ap, subst, ◌∙◌, Option, Some, None}
-use Rattle.std.specs.Option.{ForSome}
-use Rattle.std.proofs.lemmas.Bool.{ne_eqb}
-use Rattle.std.proofs.lemmas.List.{append-nil}
-use Rattle.drive_text.specs.Runs.{interval_events, intervals_events}
-use Rattle.outside.specs.Runs.{LeavesNow}
-use Rattle.outside.specs.declared.board.Board.{Ghosts}
-use Rattle.outside.proofs.Laws.{keeps_none}
-use Rattle.seal_record.specs.declared.seal.Seal.{Seal}
-use Rattle.tariff_compile.specs.Tables.{TableParts}
-use Rattle.taxi_units.specs.declared.event.Event.{Event}
-use Rattle.totals_record.specs.declared.durable_state.Durable.{Durable}
-use Rattle.meter_states.specs.Core.{Meets, Stands}
-use Rattle.meter_states.specs.Equals.{interval_of, intervals_of}
-use Rattle.meter_states.specs.Cache.{CachedCore}
-use Rattle.meter_states.specs.Fits.{Fits}
-use Rattle.meter_states.specs.Lawful.{IsLawful}
-use Rattle.meter_model.specs.Meter.{Meter}
-use Rattle.meter_model.specs.Run.{run}
-use Rattle.meter_model.specs.Setting.{Setting}
-use Rattle.meter_states.specs.Setting.{IsSettingOf}
-use Rattle.meter_model.specs.declared.act.Act.{Act}
-use Rattle.meter_states.proofs.Laws.{the_store_keeps_the_trip-run}
-use Rattle.meter_run.specs.Deeds.{after_deeds, deeds_of, texts}
-use Rattle.meter_run.specs.Dry.{CarriesEvents, IsMeterReady}
-use Rattle.meter_run.specs.BetweenEvents.{StandsWith}
-use Rattle.meter_run.specs.OnStore.{CarriesOut, Has, Knows}
-use Rattle.meter_run.specs.PointLaws.{keeps_still}
-use Rattle.meter_run.specs.Points.{GoesBy}
-use Rattle.meter_run.specs.RunLaws.{run_durable}
-use Rattle.meter_run.specs.StoreLaws.{beside_none, has_settled}
-use Rattle.meter_run.specs.Texts.{shown_texts}
-use Rattle.meter_run.specs.declared.dry.DryMeter.{DryMeter}
-use Rattle.meter_run.specs.declared.stored.Known.{Known}
-use Rattle.meter_run.specs.declared.stored.StoreMeter.{StoreMeter}
+use Rattle.std.{specs.Option.{ForSome}, proofs.lemmas.{Bool.{ne_eqb}, List.{append-nil}}}
+use Rattle.std.proofs.Common.{[], ℕ, ◌++◌, ◌∙◌, ◌≡◌, List, None, Option, Some, ap, refl, subst, suc, sym, zero}
+use Rattle.{outside.proofs.Laws.{keeps_none}, meter_states.proofs.Laws.{the_store_keeps_the_trip-run}}
+use Rattle.{meter_states.specs.Equals.{interval_of}, meter_run.specs.Deeds.{after_deeds, deeds_of, texts}}
+use Rattle.meter_run.specs.{BetweenEvents.{StandsWith}, Common.{interval_events, intervals_events, intervals_of, run}}
+use Rattle.meter_run.specs.Common.{Act, CachedCore, Durable, Event, Fits, Ghosts, IsLawful, IsSettingOf, Known}
+use Rattle.meter_run.specs.Common.{LeavesNow, Meets, Meter, Seal, Setting, Stands, StoreMeter, TableParts}
+use Rattle.meter_run.specs.{Dry.{CarriesEvents, IsMeterReady}, Points.{GoesBy}, StoreLaws.{beside_none, has_settled}}
+use Rattle.meter_run.specs.{OnStore.{CarriesOut, Has, Knows}, PointLaws.{keeps_still}, declared.dry.DryMeter.{DryMeter}}
+use Rattle.meter_run.specs.{RunLaws.{run_durable}, Texts.{shown_texts}}
 
 -- ---- the events of equal intervals
 
@@ -56,7 +31,7 @@ same_durable s es m none =
     ap (λ (acts : List Act). after_deeds m.durable (deeds_of acts)) none ∙ sym (run_durable s es m)
 
 pub stands_still : (s : Setting) (es : List Event) (core core' : CachedCore) (d : Durable) (m : Meter)
-    → StandsWith s core.plain d m → Meets s core'.plain [] (run s es m) → StandsWith s core'.plain d (run s es m).next
+    → StandsWith s core.state d m → Meets s core'.state [] (run s es m) → StandsWith s core'.state d (run s es m).next
 stands_still s es core core' d m st meets = record {
   core = meets.state;
   durable = st.durable ∙ same_durable s es m meets.done;
@@ -64,8 +39,8 @@ stands_still s es core core' d m st meets = record {
 }
 
 module _ (tables : TableParts) (seal : Seal) (es : List Event) (core core' : CachedCore)
-    (meets : (s : Setting) (m : Meter) → IsSettingOf s tables seal → Stands s core.plain m
-    → Meets s core'.plain [] (run s es m)) (lawful : IsLawful tables seal core') where
+    (meets : (s : Setting) (m : Meter) → IsSettingOf s tables seal → Stands s core.state m
+    → Meets s core'.state [] (run s es m)) (lawful : IsLawful tables seal core') where
   pub ready_still : (d : Durable) → IsMeterReady tables seal core d → IsMeterReady tables seal core' d
   ready_still d ready = let way = ready.way in record {
     lawful = lawful;
@@ -81,14 +56,14 @@ module _ (tables : TableParts) (seal : Seal) (es : List Event) (core core' : Cac
   }
 
   module _ {D L : Type 0} {N : ℕ} (B : Ghosts D N L) where
-    pub knows_still : (known : Option Known) (a : D) → core'.plain.operating ≡ core.plain.operating
+    pub knows_still : (known : Option Known) (a : D) → core'.state.operating ≡ core.state.operating
         → Knows B tables seal core known a → Knows B tables seal core' known a
     knows_still None a same off = same ∙ off
     knows_still (Some known) a same knows = (ready_still known.durable knows.0, knows.1)
 
 module _ {D L : Type 0} {N : ℕ} (B : Ghosts D N L) (tables : TableParts) (seal : Seal) (es : List Event) where
   pub carries_still : (x : DryMeter) (core' : CachedCore) (b : D) → ((s : Setting) (m : Meter)
-      → IsSettingOf s tables seal → Stands s x.core.plain m → Meets s core'.plain [] (run s es m))
+      → IsSettingOf s tables seal → Stands s x.core.state m → Meets s core'.state [] (run s es m))
       → CarriesEvents B tables seal x b es (record x { core = core' }) b
   carries_still x core' b meets = record {
     stands = λ s m is st. stands_still s es x.core core' x.durable m st (meets s m is st.core);
@@ -98,7 +73,7 @@ module _ {D L : Type 0} {N : ℕ} (B : Ghosts D N L) (tables : TableParts) (seal
   }
 
   pub out_still : (x : StoreMeter) (core' : CachedCore) (a : D) → LeavesNow B a → ((s : Setting) (m : Meter)
-      → IsSettingOf s tables seal → Stands s x.core.plain m → Meets s core'.plain [] (run s es m))
+      → IsSettingOf s tables seal → Stands s x.core.state m → Meets s core'.state [] (run s es m))
       → CarriesOut B tables seal (λ s m. run s es m) x a (record x { core = core' }) a
   out_still x core' a now meets = record {
     stands = λ told s m is h.

@@ -1,25 +1,12 @@
 -- A line that is printed behind a run.
-use Rattle.std.proofs.Common.{◌≡◌, inl, ℕ, List, [], ◌∷◌, ◌++◌, refl, sym, ap, subst, ◌∙◌}
-use Rattle.std.specs.Option.{ForSome}
-use Rattle.std.proofs.lemmas.List.{append-nil}
-use Rattle.outside.specs.Disk.{MayLeaveAmid, SameBut}
-use Rattle.outside.specs.Printing.{Begins}
-use Rattle.outside.specs.Runs.{KeepsStore, LeavesOnly}
-use Rattle.outside.specs.declared.board.Board.{Ghosts}
-use Rattle.outside.proofs.Laws.{leaves_then, leaves_wider}
-use Rattle.seal_record.specs.declared.seal.Seal.{Seal}
-use Rattle.tariff_compile.specs.Tables.{TableParts}
-use Rattle.meter_store.specs.Stored.{HoldsState}
-use Rattle.totals_record.specs.declared.durable_state.Durable.{Durable}
-use Rattle.meter_states.specs.Fits.{Fits}
-use Rattle.meter_run.specs.Deeds.{Deed, Prints, after_deeds}
-use Rattle.meter_run.specs.OnStore.{HasBeside, WritesTotals}
-use Rattle.meter_run.specs.PointLaws.{after_joined, left_has, text_next}
-use Rattle.meter_run.specs.Points.{HasEntries, IsCutOfDeeds}
-use Rattle.meter_run.specs.Runs.{CutsLeave, HasDone, HasStopped}
+use Rattle.{std.specs.Option.{ForSome}, outside.proofs.Laws.{leaves_then, leaves_wider}}
+use Rattle.std.proofs.{Common.{[], ℕ, ◌++◌, ◌∙◌, ◌∷◌, ◌≡◌, List, ap, inl, refl, subst, sym}, lemmas.List.{append-nil}}
+use Rattle.meter_run.specs.Common.{Begins, Durable, Fits, Ghosts, HoldsState, KeepsStore, LeavesOnly, MayLeaveAmid}
+use Rattle.meter_run.specs.{Common.{SameBut, Seal, TableParts}, PointLaws.{after_joined, left_has, text_next}}
+use Rattle.meter_run.specs.{Deeds.{Deed, Prints, after_deeds}, OnStore.{HasBeside, WritesTotals}}
+use Rattle.meter_run.{specs.Points.{HasEntries, IsCutOfDeeds}, proofs.BoardDeeds.{settled_kept}}
+use Rattle.meter_run.{specs.Runs.{CutsLeave, HasDone, HasStopped}, proofs.Cuts.{cut_in_line, cut_longer, deeds_follow}}
 use Rattle.meter_run.specs.StoreLaws.{beside_more}
-use Rattle.meter_run.proofs.Cuts.{cut_in_line, cut_longer, deeds_follow}
-use Rattle.meter_run.proofs.Leaves.{settled_kept}
 
 module _ {D L : Type 0} {N : ℕ} (B : Ghosts D N L) (tables : TableParts) (seal : Seal) (a b c : D) (d : Durable)
     (deeds : List Deed) (line : List ℕ) (entries : HasEntries d.number deeds)

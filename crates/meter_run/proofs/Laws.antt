@@ -1,34 +1,16 @@
 -- The laws of the public empty functions.
-use Rattle.std.proofs.Common.{◌≡◌, ℕ, ◌<◌, ◌≤◌, List, [], ◌∷◌, ◌++◌}
-use Rattle.std.specs.Prelude.{get_or}
-use Rattle.outside.specs.Disk.{MayLeaveAmid}
-use Rattle.outside.specs.Printing.{Begins}
-use Rattle.outside.specs.Runs.{IsAtRest, KeepsStore, LeavesOnly}
-use Rattle.outside.specs.declared.board.Board.{Ghosts}
-use Rattle.meter_store.specs.Sealing.{HasSeal, HoldsSeal}
-use Rattle.seal_record.specs.declared.seal.Seal.{Seal}
-use Rattle.slot_store.specs.declared.pair.Place.{Place}
-use Rattle.tariff_compile.specs.Tables.{TableParts}
-use Rattle.taxi_units.specs.declared.receipt.Receipt as receipts
-use Rattle.totals_record.specs.States.{entries_of}
-use Rattle.totals_record.specs.declared.durable_state.Durable.{Durable}
-use Rattle.meter_model.specs.Run.{actions_of}
-use Rattle.meter_model.specs.Setting.{Setting}
-use Rattle.meter_model.specs.declared.act.Act.TheVariants.{Receipt}
-use Rattle.meter_states.proofs.Laws.{receipts_follow_their_entries-run}
-use Rattle.drive_text.specs.Ending.{events_of}
-use Rattle.meter_run.specs.Deeds.{Deed, Does, Prints, changes_of}
-use Rattle.meter_run.specs.OnStore.{HasBeside, WritesTotals}
-pub use Rattle.meter_run.specs.PointLaws.{left_has, settled_has, texts_joined}
+use Rattle.std.{specs.Prelude.{get_or}, proofs.Common.{[], ℕ, ◌++◌, ◌<◌, ◌∷◌, ◌≡◌, ◌≤◌, List}}
+use Rattle.{meter_states.proofs.Laws.{receipts_follow_their_entries-run}, meter_run.specs.Common.{events_of}}
+use Rattle.meter_run.specs.Common.{Begins, Durable, Ghosts, HasSeal, HoldsSeal, IsAtRest, KeepsStore, LeavesOnly}
+use Rattle.meter_run.specs.Common.{MayLeaveAmid, Place, Receipt, Seal, Setting, TableParts, actions_of, entries_of}
+use Rattle.meter_run.specs.{Deeds.{Deed, Does, Prints, changes_of}, Runs.{HasDone, HasStopped, OpensWith, run_deeds}}
+use Rattle.meter_run.{specs.OnStore.{HasBeside, WritesTotals}, proofs.Cuts.{acts_have_entries}}
 use Rattle.meter_run.specs.Points.{HasEntries, HasEntryOf, IsCutOfDeeds, IsNumberedWithin}
-use Rattle.meter_run.specs.Runs.{HasDone, HasStopped, OpensWith, run_deeds}
-use Rattle.meter_run.proofs.Cuts.{acts_have_entries}
-pub use Rattle.meter_run.proofs.Cuts.{begins_in, deeds_follow}
-use Rattle.meter_run.proofs.LastLines.{line_begun, line_whole}
-use Rattle.meter_run.proofs.Leavings.{beside_bytes, kept_begins, next_opens, numbers_rise, receipt_entered}
-use Rattle.meter_run.proofs.Leavings.{receipt_numbered, seal_kept, seal_left}
-pub use Rattle.meter_run.proofs.Leavings.{changes_joined}
-pub use Rattle.meter_run.proofs.Dropping.{begins, ready_first}
+use Rattle.meter_run.proofs.CutImages.{beside_bytes, kept_begins, next_opens, numbers_rise, receipt_entered}
+use Rattle.meter_run.proofs.{CutImages.{receipt_numbered, seal_kept, seal_left}, LastLines.{line_begun, line_whole}}
+use Rattle.taxi_units.specs.declared.receipt.Receipt as receipts
+pub use Rattle.meter_run.{specs.PointLaws.{left_has, settled_has, texts_joined}, proofs.Cuts.{begins_in, deeds_follow}}
+pub use Rattle.meter_run.proofs.{CutImages.{changes_joined}, SupplyDrop.{begins, ready_first}}
 
 module _ (tables : TableParts) (seal : Seal) (told : Type 0) (opening : Durable) (printed : List ℕ) (deeds : List Deed)
     (image text : List ℕ) (cut : IsCutOfDeeds tables seal told opening printed deeds image text) where

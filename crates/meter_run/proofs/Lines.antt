@@ -1,17 +1,10 @@
 -- Lines that are printed: which text they have, and that it isn't empty.
-use Rattle.std.proofs.Common.{◌≡◌, ◌≢◌, ◌<◌, ◌≤◌, ◌++◌, ◌∙◌, List, [], ℕ, ap, length, arith, refl, length-append}
-use Rattle.std.specs.Prelude.{codes}
-use Rattle.std.specs.Fmt.{decimal}
-use Rattle.taxi_units.specs.declared.event.Operating.{Operating}
-use Rattle.taxi_units.specs.declared.event.Operating.TheVariants.{Off, ForHire, Hired, Stopped}
-use Rattle.taxi_units.specs.declared.event.Why.{Why}
-use Rattle.taxi_units.specs.declared.receipt.Display.{Display}
-use Rattle.taxi_units.specs.declared.receipt.Receipt.{Receipt}
-use Rattle.receipt_text.specs.Part.{Part}
-use Rattle.receipt_text.specs.Receipts.{body_text, heading_text, kind_text, part_text, receipt_text}
-use Rattle.receipt_text.specs.Spelling.{IsSpelled}
-use Rattle.receipt_text.proofs.Laws.{receipts_are_their_texts, short_texts}
-use Rattle.receipt_text.specs.Texts.{display_line, display_text, refusal_text, place_text, amounts_text, why_text}
+use Rattle.{std.specs.{Fmt.{decimal}, Prelude.{codes}}, taxi_units.specs.declared.receipt.Receipt.{Receipt}}
+use Rattle.std.proofs.Common.{[], ℕ, ◌++◌, ◌<◌, ◌∙◌, ◌≡◌, ◌≢◌, ◌≤◌, List, ap, arith, length, length-append, refl}
+use Rattle.{taxi_units.specs.declared.event.Why.{Why}, receipt_text.proofs.Laws.{receipts_are_their_texts, short_texts}}
+use Rattle.receipt_text.specs.{Part.{Part}, Receipts.{body_text, heading_text, kind_text, part_text, receipt_text}}
+use Rattle.receipt_text.specs.{Spelling.{IsSpelled}, Texts.{amounts_text, display_line, place_text, why_text}}
+use Rattle.meter_run.specs.Common.{Display, ForHire, Hired, Off, Operating, Stopped, display_text, refusal_text}
 
 -- a line has the text that was put into it when it was empty
 pub has_text : (old new line text : List ℕ) → line ≡ new → new ≡ old ++ text → old ≡ [] → line ≡ text

@@ -1,20 +1,11 @@
 -- An event commits at most once.
-use Rattle.std.proofs.Common.{◌≡◌, ◌≢◌, ℕ, zero, suc, ◌+◌, ◌<◌, ◌≤◌, [], refl, sym, ◌∙◌, arith}
-use Rattle.std.proofs.lemmas.Grind.{common_steps}
-use Rattle.taxi_units.specs.declared.event.Event.{Event}
+use Rattle.std.proofs.Common.{[], ℕ, ◌+◌, ◌<◌, ◌∙◌, ◌≡◌, ◌≢◌, ◌≤◌, arith, refl, suc, sym, zero}
+use Rattle.{std.proofs.lemmas.Grind.{common_steps}, meter_model.specs.Step.{expired_or_pressed, powered_step, ticked}}
+use Rattle.meter_model.specs.{ClosedTrip.{roaming_checked}, Interval.{interval_begun, interval_counted}, Meter.{◌>>=◌}}
+use Rattle.{meter_model.specs.Supply.{supply_dropped}, meter_run.specs.Common.{step_in, supply_came}}
+use Rattle.meter_run.{specs.{BetweenEvents.{IsTripKept}, Commits.{commits_in}}, proofs.CommittedStates.{commits_append}}
+use Rattle.meter_run.specs.Common.{Event, ForHire, Hired, Meter, Off, Operating, Outcome, Setting, Stopped, shown, step}
 use Rattle.taxi_units.specs.declared.event.Event.TheVariants as events
-use Rattle.taxi_units.specs.declared.event.Operating.{Operating}
-use Rattle.taxi_units.specs.declared.event.Operating.TheVariants.{Off, ForHire, Hired, Stopped}
-use Rattle.meter_model.specs.Closing.{roaming_checked}
-use Rattle.meter_model.specs.Display.{shown}
-use Rattle.meter_model.specs.Interval.{interval_begun, interval_counted}
-use Rattle.meter_model.specs.Meter.{Meter, Outcome, ◌>>=◌}
-use Rattle.meter_model.specs.Setting.{Setting}
-use Rattle.meter_model.specs.Step.{expired_or_pressed, powered_step, step, step_in, ticked}
-use Rattle.meter_model.specs.Supply.{supply_came, supply_dropped}
-use Rattle.meter_run.specs.BetweenEvents.{IsTripKept}
-use Rattle.meter_run.specs.Commits.{commits_in}
-use Rattle.meter_run.proofs.Committing.{commits_append}
 
 -- ---- a tick
 

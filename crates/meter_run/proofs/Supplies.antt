@@ -1,34 +1,13 @@
 -- The supply behind events: a meter is off without it, and the steps of a drive with the supply drop at its end.
-use Rattle.std.proofs.Common.{◌≡◌, ◌≢◌, inl, inr, ℕ, zero, suc, ◌+◌, ◌*◌, ◌≤◌, List, [], ◌∷◌, Bool, true, false, None}
-use Rattle.std.proofs.Common.{arith, refl, sym, ap, subst, ◌∙◌}
-use Rattle.std.proofs.lemmas.Bool.{ne_eqb}
-use Rattle.drive_text.specs.Runs.{interval_events, intervals_events}
-use Rattle.outside.specs.declared.board.Board.{Ghosts}
-use Rattle.seal_record.specs.declared.seal.Seal.{Seal}
-use Rattle.tariff_compile.specs.Tables.{TableParts}
-use Rattle.taxi_units.specs.declared.event.Event.{Event}
-use Rattle.taxi_units.specs.declared.event.Event.TheVariants.{Up, Down, Pulses, Tick, Clock, Key}
-use Rattle.taxi_units.specs.declared.event.Operating.{Operating}
-use Rattle.taxi_units.specs.declared.event.Operating.TheVariants.{Off, ForHire, Hired, Stopped}
-use Rattle.totals_record.specs.States.{first_state}
-use Rattle.totals_record.specs.declared.durable_state.Durable.{Durable}
-use Rattle.meter_states.specs.Core.{Meets, CoreData, Stands}
-use Rattle.meter_states.specs.Cache.{CachedCore}
-use Rattle.meter_model.specs.Meter.{Meter, Outcome}
-use Rattle.meter_model.specs.Run.{opened, run}
-use Rattle.meter_model.specs.Setting.{Setting}
-use Rattle.meter_states.specs.Setting.{IsSettingOf}
-use Rattle.meter_model.specs.Step.{step, step_in}
-use Rattle.meter_model.specs.declared.act.Act.{Act}
-use Rattle.meter_run.specs.Dry.{CarriesEvents, IsMeterReady}
-use Rattle.meter_run.specs.BetweenEvents.{StandsWith}
-use Rattle.meter_run.specs.OnStore.{IsMeterReadyOn}
-use Rattle.meter_run.specs.Supply.{StaysOff, drop_steps, is_supplied, is_supplied_after}
-use Rattle.meter_run.specs.SupplyLaws.{supplied_joined}
-use Rattle.meter_run.specs.declared.dry.DryMeter.{DryMeter}
-use Rattle.meter_run.specs.declared.stored.StoreMeter.{StoreMeter}
-use Rattle.meter_run.proofs.Dropping.{begins, off_of}
-use Rattle.meter_run.proofs.Happening.{refused_event, unknown_off}
+use Rattle.std.proofs.Common.{[], ℕ, ◌*◌, ◌+◌, ◌∙◌, ◌∷◌, ◌≡◌, ◌≢◌, ◌≤◌, Bool, List, None, ap, arith, false, inl, inr}
+use Rattle.std.proofs.{Common.{refl, subst, suc, sym, true, zero}, lemmas.Bool.{ne_eqb}}
+use Rattle.meter_run.{specs.{BetweenEvents.{StandsWith}, OnStore.{IsMeterReadyOn}}, proofs.SupplyDrop.{begins, off_of}}
+use Rattle.meter_run.specs.Common.{Act, CachedCore, Clock, CoreData, Down, Durable, Event, ForHire, Ghosts, Hired}
+use Rattle.meter_run.specs.Common.{IsSettingOf, Key, Meets, Meter, Off, Operating, Outcome, Pulses, Seal, Setting}
+use Rattle.meter_run.specs.Common.{Stands, Stopped, StoreMeter, TableParts, Tick, Up, first_state, interval_events}
+use Rattle.meter_run.specs.{Common.{intervals_events, opened, run, step, step_in}, Dry.{CarriesEvents, IsMeterReady}}
+use Rattle.meter_run.specs.{Supply.{StaysOff, drop_steps, is_supplied, is_supplied_after}, SupplyLaws.{supplied_joined}}
+use Rattle.meter_run.{specs.declared.dry.DryMeter.{DryMeter}, proofs.EventOnStore.{refused_event, unknown_off}}
 
 never : true ≡ false → ⊥
 never is = absurd cc
@@ -73,15 +52,15 @@ core_off s core m (inr on) off = absurd (on.0 off)
 -- an event keeps a core off without the supply
 pub event_keeps_off : (tables : TableParts) (seal : Seal) (event : Event) (core core' : CachedCore) (d : Durable)
     (acts : List Act) → IsMeterReady tables seal core d
-    → ((s : Setting) (m : Meter) → IsSettingOf s tables seal → StandsWith s core.plain d m
-    → Meets s core'.plain acts (step s event m))
-    → StaysOff core.plain (event ∷ []) core'.plain
+    → ((s : Setting) (m : Meter) → IsSettingOf s tables seal → StandsWith s core.state d m
+    → Meets s core'.state acts (step s event m))
+    → StaysOff core.state (event ∷ []) core'.state
 event_keeps_off tables seal event core core' d acts ready meets =
     λ before off none.
     let way = ready.way in
     let s = way.setting in
     let m = way.meter in
-    core_off s core'.plain (step s event m).next (meets s m way.is way.stands).state
+    core_off s core'.state (step s event m).next (meets s m way.is way.stands).state
     (off_after s event m before (λ unsupplied. off_of s core m way.stands.core (off unsupplied)) none)
 
 -- behind the coming of the supply it is there
@@ -94,7 +73,7 @@ supply_keeps core core' event second is =
 pub unknown_keeps_off : {D L : Type 0} {N : ℕ} (B : Ghosts D N L) (tables : TableParts) (seal : Seal) (x : StoreMeter)
     (a : D)
     (events : List Event) → x.known ≡ None → IsMeterReadyOn B tables seal x a
-    → StaysOff x.core.plain events x.core.plain
+    → StaysOff x.core.state events x.core.state
 unknown_keeps_off B tables seal x a events unknown ready =
     λ before off none. unknown_off B tables seal x a unknown ready
 
@@ -119,13 +98,13 @@ equal_keep_off old new p n same = λ before off none. same ∙ off (sym (interva
 -- a dry meter that began is off behind events without the supply
 pub dry_off : {D L : Type 0} {N : ℕ} (B : Ghosts D N L) (tables : TableParts) (seal : Seal) (x : DryMeter) (a : D)
     (y : DryMeter)
-    (b : D) (events : List Event) → IsMeterReady tables seal y.core y.durable → x.core.plain.operating ≡ Off
+    (b : D) (events : List Event) → IsMeterReady tables seal y.core y.durable → x.core.state.operating ≡ Off
     → x.durable ≡ first_state → CarriesEvents B tables seal x a events y b → is_supplied false events ≡ false
-    → y.core.plain.operating ≡ Off
+    → y.core.state.operating ≡ Off
 dry_off B tables seal x a y b events ready off first carried none =
     let s = ready.way.setting in
     let m = opened s first_state in
-    core_off s y.core.plain (run s events m).next
+    core_off s y.core.state (run s events m).next
     (carried.stands s m ready.way.is (begins s x.core x.durable off first)).core
     (off_behind s events m false (λ unsupplied. refl) none)
 

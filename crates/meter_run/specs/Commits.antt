@@ -1,12 +1,7 @@
 -- Rules: what acts commit.
-use Rattle.std.specs.Prelude.{ℕ, zero, suc, List, [], ◌∷◌}
-use Rattle.taxi_units.specs.Shown.{IsShown}
-use Rattle.totals_record.specs.Ranges.{IsDurable}
-use Rattle.totals_record.specs.States.{after}
+use Rattle.std.specs.Prelude.{[], ℕ, ◌∷◌, List, suc, zero}
+use Rattle.meter_run.specs.Common.{Act, Durable, Enter, Hold, IsDurable, IsShown, Receipt, Refuse, Show, after}
 use Rattle.totals_record.specs.declared.change.Change.TheVariants as changes
-use Rattle.totals_record.specs.declared.durable_state.Durable.{Durable}
-use Rattle.meter_model.specs.declared.act.Act.{Act}
-use Rattle.meter_model.specs.declared.act.Act.TheVariants.{Show, Refuse, Enter, Hold, Receipt}
 
 -- the durable state after an act is the one after its commit, if it is an entry or a held trip, and is unchanged after
 -- any other act

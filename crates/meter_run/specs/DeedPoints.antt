@@ -1,14 +1,6 @@
 -- Rules: points of a list of deeds, by recursion over the list. IsCutOfDeeds, in Points, says which deeds a cut has.
-use Rattle.std.specs.Prelude.{◌≡◌, ◌⊎◌, ℕ, List, [], ◌∷◌, ◌++◌}
-use Rattle.std.specs.Option.{ForSome}
-use Rattle.outside.specs.Printing.{Begins}
-use Rattle.outside.specs.Runs.{LeavesOnly}
-use Rattle.outside.specs.declared.board.Board.{Ghosts}
-use Rattle.seal_record.specs.declared.seal.Seal.{Seal}
-use Rattle.tariff_compile.specs.Tables.{TableParts}
-use Rattle.meter_store.specs.Stored.{HasState}
-use Rattle.totals_record.specs.declared.durable_state.Durable.{Durable}
-use Rattle.meter_states.specs.Fits.{Fits}
+use Rattle.std.specs.{Option.{ForSome}, Prelude.{[], ℕ, ◌++◌, ◌∷◌, ◌≡◌, ◌⊎◌, List}}
+use Rattle.meter_run.specs.Common.{Begins, Durable, Fits, Ghosts, HasState, LeavesOnly, Seal, TableParts}
 use Rattle.meter_run.specs.Deeds.{Deed, after_deed, deed_text}
 
 -- an image holds a durable state if it stands for it and the state's held trip fits the tables

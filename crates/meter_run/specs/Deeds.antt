@@ -1,15 +1,8 @@
 -- Rules: what a run does, deed by deed: the acts of the meter, and lines that the caller prints behind them.
-use Rattle.std.specs.Prelude.{ℕ, List, [], ◌∷◌, ◌++◌}
-use Rattle.receipt_text.specs.Receipts.{receipt_text}
-use Rattle.receipt_text.specs.SealParts.{part_of_seal}
-use Rattle.receipt_text.specs.Texts.{display_text, refusal_text}
-use Rattle.seal_record.specs.declared.seal.Seal.{Seal}
-use Rattle.totals_record.specs.declared.change.Change.{Change}
-use Rattle.totals_record.specs.declared.durable_state.Durable.{Durable}
-use Rattle.meter_states.specs.Pairs.{commits_of}
-use Rattle.meter_model.specs.declared.act.Act.{Act}
-use Rattle.meter_model.specs.declared.act.Act.TheVariants.{Show, Refuse, Enter, Hold, Receipt}
-use Rattle.meter_run.specs.Commits.{after_act}
+use Rattle.std.specs.Prelude.{[], ℕ, ◌++◌, ◌∷◌, List}
+use Rattle.{meter_states.specs.Pairs.{commits_of}, receipt_text.specs.Receipts.{receipt_text}}
+use Rattle.meter_run.specs.{Commits.{after_act}, Common.{part_of_seal, refusal_text}}
+use Rattle.meter_run.specs.Common.{Act, Change, Durable, Enter, Hold, Receipt, Refuse, Seal, Show, display_text}
 
 -- a deed is an act of the meter, or the print of a line
 pub data Deed : Type 0 where

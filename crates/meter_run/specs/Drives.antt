@@ -1,21 +1,10 @@
 -- Rules: a drive that is carried out from its first byte to its end.
-use Rattle.std.specs.Prelude.{◌≡◌, ℕ, ◌+◌, ◌*◌, ◌≤◌, List, ◌++◌, length, Result, Ok, Err}
-use Rattle.outside.specs.Printing.{Begins}
-use Rattle.taxi_units.specs.declared.event.Event.{Event}
-use Rattle.taxi_units.specs.Streams.{StopsAfter}
-use Rattle.drive_text.specs.Drive.{events_in}
-use Rattle.drive_text.specs.Ending.{StreamEnd, Whole, BadAt, Endless, IsGoing, IsSplit, TellsEnd, drive_end}
-use Rattle.drive_text.specs.Ending.{stream_limit}
-use Rattle.tariff_compile.specs.Tables.{TableParts}
-use Rattle.seal_record.specs.declared.seal.Seal.{Seal}
-use Rattle.meter_model.specs.Setting.{Setting}
-use Rattle.meter_states.specs.Setting.{IsSettingOf}
-use Rattle.meter_run.specs.Source.{EndsBy}
-use Rattle.meter_run.specs.Supply.{drop_steps}
-use Rattle.meter_run.specs.Texts.{drive_shown}
-use Rattle.meter_run.specs.declared.fault.RunFault.{RunFault}
-use Rattle.meter_run.specs.declared.fault.RunFault.TheVariants.{ReadFault, BoardFault, BadDrive, TooLong}
-use Rattle.meter_run.specs.declared.source.Stop.{Stop}
+use Rattle.std.specs.Prelude.{ℕ, ◌*◌, ◌++◌, ◌+◌, ◌≡◌, ◌≤◌, Err, List, Ok, Result, length}
+use Rattle.{taxi_units.specs.Streams.{StopsAfter}, drive_text.specs.Ending.{TellsEnd}}
+use Rattle.meter_run.specs.Common.{BadAt, Begins, Endless, Event, IsGoing, IsSettingOf, IsSplit, RunFault, Seal}
+use Rattle.meter_run.specs.Common.{Setting, StreamEnd, TableParts, Whole, drive_end, events_in, stream_limit}
+use Rattle.meter_run.specs.{Source.{EndsBy}, Supply.{drop_steps}, Texts.{drive_shown}, declared.source.Stop.{Stop}}
+use Rattle.meter_run.specs.declared.fault.RunFault.TheVariants.{BadDrive, BoardFault, ReadFault, TooLong}
 use Rattle.meter_run.specs.declared.source.Stop.TheVariants as stops
 
 -- the steps of events are bounded if the count of steps rose from `before` to `now` by at most 64 for each event

@@ -1,24 +1,8 @@
 -- Rules: the meter whose durable state is a value, and what it prints.
-use Rattle.std.specs.Prelude.{◌≡◌, ℕ, List, ◌++◌}
-use Rattle.std.specs.Option.{ForSome}
-use Rattle.outside.specs.Printing.{Begins}
-use Rattle.outside.specs.Runs.{KeepsStore}
-use Rattle.outside.specs.declared.board.Board.{Ghosts}
-use Rattle.taxi_units.specs.declared.event.Event.{Event}
-use Rattle.tariff_compile.specs.Tables.{TableParts}
-use Rattle.seal_record.specs.declared.seal.Seal.{Seal}
-use Rattle.totals_record.specs.Ranges.{IsDurable}
-use Rattle.totals_record.specs.declared.durable_state.Durable.{Durable}
-use Rattle.meter_states.specs.Cache.{CachedCore}
-use Rattle.meter_states.specs.Fits.{Fits}
-use Rattle.meter_states.specs.Lawful.{IsLawful}
-use Rattle.meter_model.specs.Meter.{Meter, Outcome}
-use Rattle.meter_model.specs.Run.{run}
-use Rattle.meter_model.specs.Setting.{Setting}
-use Rattle.meter_states.specs.Setting.{IsSettingOf}
-use Rattle.meter_run.specs.BetweenEvents.{StandsWith}
-use Rattle.meter_run.specs.Texts.{shown_texts}
-use Rattle.meter_run.specs.declared.dry.DryMeter.{DryMeter}
+use Rattle.std.specs.{Option.{ForSome}, Prelude.{ℕ, ◌++◌, ◌≡◌, List}}
+use Rattle.meter_run.specs.{BetweenEvents.{StandsWith}, declared.dry.DryMeter.{DryMeter}}
+use Rattle.meter_run.specs.Common.{Begins, CachedCore, Durable, Event, Fits, Ghosts, IsDurable, IsLawful, IsSettingOf}
+use Rattle.meter_run.specs.{Common.{KeepsStore, Meter, Outcome, Seal, Setting, TableParts, run}, Texts.{shown_texts}}
 
 -- a core and a durable state are under way if they stand for some state of the meter, under some setting of the tables
 -- and the seal; the core is one beside its cache, which only saves look-ups, as `Core::step_into` says by its clause
@@ -27,7 +11,7 @@ pub record IsUnderWay (tables : TableParts) (seal : Seal) (core : CachedCore) (d
   pub setting : Setting
   pub meter : Meter
   pub is : IsSettingOf setting tables seal
-  pub stands : StandsWith setting core.plain durable meter
+  pub stands : StandsWith setting core.state durable meter
 
 -- a meter is ready for the next event if its core is lawful, its durable state is in its ranges, a held trip fits, and
 -- both are under way
@@ -42,21 +26,21 @@ module _ {D L : Type 0} {N : ℕ} (B : Ghosts D N L) (tables : TableParts) (seal
   -- text is told
   abbrev pub Prints : (outcome : Setting → Meter → Outcome) → DryMeter → (board board' : D) → Type 0
   Prints outcome old board board' = B.tells_text → (s : Setting) (m : Meter) → IsSettingOf s tables seal
-      → StandsWith s old.core.plain old.durable m → B.printed board' ≡ B.printed board ++ shown_texts (outcome s m).acts
+      → StandsWith s old.core.state old.durable m → B.printed board' ≡ B.printed board ++ shown_texts (outcome s m).acts
 
   -- an outcome is printed in part if what was printed before is followed by a beginning of the displays and refusals of
   -- the outcome, if the text is told
   abbrev pub PrintsSome : (outcome : Setting → Meter → Outcome) → DryMeter → (board board' : D) → Type 0
   PrintsSome outcome old board board' = B.tells_text → (s : Setting) (m : Meter) → IsSettingOf s tables seal
-      → StandsWith s old.core.plain old.durable m → Begins (B.printed board) (B.printed board')
+      → StandsWith s old.core.state old.durable m → Begins (B.printed board) (B.printed board')
       (shown_texts (outcome s m).acts)
 
   -- a meter and a board carry events if the new meter stands for the state after them, their displays and refusals were
   -- printed, and the store is as it was
   pub record CarriesEvents (old : DryMeter) (board : D) (events : List Event) (new : DryMeter)
       (board' : D) : Type 0 where
-    pub stands : (s : Setting) (m : Meter) → IsSettingOf s tables seal → StandsWith s old.core.plain old.durable m
-        → StandsWith s new.core.plain new.durable (run s events m).next
+    pub stands : (s : Setting) (m : Meter) → IsSettingOf s tables seal → StandsWith s old.core.state old.durable m
+        → StandsWith s new.core.state new.durable (run s events m).next
     pub printed : Prints (λ s m. run s events m) old board board'
     pub store : KeepsStore B board board'
 

@@ -1,19 +1,9 @@
 -- For proofs: events that a dry meter carries out, one behind the other.
-use Rattle.std.proofs.Common.{ℕ, List, [], ◌++◌, sym, ap, subst, ◌∙◌, append_assoc}
-use Rattle.std.proofs.lemmas.List.{append-nil}
-use Rattle.outside.specs.Printing.{Begins}
-use Rattle.outside.specs.declared.board.Board.{Ghosts}
+use Rattle.std.proofs.{Common.{[], ℕ, ◌++◌, ◌∙◌, List, ap, append_assoc, subst, sym}, lemmas.List.{append-nil}}
 use Rattle.outside.proofs.Laws.{begins_after, begins_more, keeps_none, keeps_then}
-use Rattle.taxi_units.specs.declared.event.Event.{Event}
-use Rattle.tariff_compile.specs.Tables.{TableParts}
-use Rattle.seal_record.specs.declared.seal.Seal.{Seal}
-use Rattle.meter_model.specs.Meter.{Meter}
-use Rattle.meter_model.specs.Run.{run}
-use Rattle.meter_run.specs.Dry.{CarriesEvents, BreaksOff}
 use Rattle.meter_run.specs.BetweenEvents.{StandsWith}
-use Rattle.meter_run.specs.RunLaws.{run_next, run_texts}
-use Rattle.meter_run.specs.Texts.{shown_texts}
-use Rattle.meter_run.specs.declared.dry.DryMeter.{DryMeter}
+use Rattle.meter_run.specs.{Common.{Begins, Event, Ghosts, Meter, Seal, TableParts, run}, RunLaws.{run_next, run_texts}}
+use Rattle.meter_run.specs.{Dry.{BreaksOff, CarriesEvents}, Texts.{shown_texts}, declared.dry.DryMeter.{DryMeter}}
 
 module _ {D L : Type 0} {N : ℕ} (B : Ghosts D N L) (tables : TableParts) (seal : Seal) where
   pub carries_none : (a : DryMeter) (b : D) → CarriesEvents B tables seal a b [] a b
@@ -28,7 +18,7 @@ module _ {D L : Type 0} {N : ℕ} (B : Ghosts D N L) (tables : TableParts) (seal
       → CarriesEvents B tables seal x a es y b → CarriesEvents B tables seal y b fs z c
       → CarriesEvents B tables seal x a (es ++ fs) z c
   carries_then es fs x a y b z c first next = record {
-    stands = λ s m is h. subst (λ (n : Meter). StandsWith s z.core.plain z.durable n) (sym (run_next s m es fs))
+    stands = λ s m is h. subst (λ (n : Meter). StandsWith s z.core.state z.durable n) (sym (run_next s m es fs))
         (next.stands s (run s es m).next is (first.stands s m is h));
     printed = λ told s m is h.
         next.printed told s (run s es m).next is (first.stands s m is h)

@@ -9,7 +9,7 @@ pub mod OnStore
 pub mod Pieces
 pub mod PointLaws
 pub mod Points
-pub mod Printing
+pub mod PrintedText
 pub mod RunLaws
 pub mod Runs
 pub mod Source
@@ -17,3 +17,4 @@ pub mod StoreLaws
 pub mod Supply
 pub mod SupplyLaws
 pub mod Texts
+pub mod Common

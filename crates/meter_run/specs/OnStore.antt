@@ -1,36 +1,11 @@
 -- Rules: the meter on a store, what it knows of the store, which state of the meter it stands for, and what events
 -- leave.
-use Rattle.std.specs.Prelude.{◌≡◌, ℕ, ◌≤◌, List, ◌++◌, Option, Some, None, Result, All, OnOk}
-use Rattle.std.specs.Option.{ForSome}
-use Rattle.outside.specs.Disk.{SameBut}
-use Rattle.outside.specs.Faults.{HasCause}
-use Rattle.outside.specs.Runs.{LeavesOnly, MayHold}
-use Rattle.outside.specs.declared.board.Board.{Ghosts}
-use Rattle.seal_record.specs.Ranges.{IsSeal}
-use Rattle.seal_record.specs.declared.seal.Seal.{Seal}
-use Rattle.slot_store.specs.Writes.{OrWithin}
-use Rattle.slot_store.specs.declared.pair.Place.{Place}
-use Rattle.tariff_compile.specs.Tables.{TableParts}
-use Rattle.taxi_units.specs.declared.event.Event.{Event}
-use Rattle.taxi_units.specs.declared.event.Operating.TheVariants.{Off}
-use Rattle.meter_store.specs.Stored.{HoldsState}
-use Rattle.totals_record.specs.declared.durable_state.Durable.{Durable}
-use Rattle.meter_states.specs.Acts.{IsLawfulAct}
-use Rattle.meter_states.specs.Cache.{CachedCore}
-use Rattle.meter_states.specs.Fits.{Fits}
-use Rattle.meter_states.specs.Lawful.{IsLawful}
-use Rattle.meter_model.specs.Meter.{Meter, Outcome}
-use Rattle.meter_model.specs.Run.{run}
-use Rattle.meter_model.specs.Setting.{Setting}
-use Rattle.meter_states.specs.Setting.{IsSettingOf}
-use Rattle.meter_model.specs.declared.act.Act.{Act}
-use Rattle.meter_run.specs.Deeds.{deeds_of, texts}
-use Rattle.meter_run.specs.Dry.{IsMeterReady}
-use Rattle.meter_run.specs.BetweenEvents.{StandsWith}
-use Rattle.meter_run.specs.Points.{GoesBy}
-use Rattle.meter_run.specs.Supply.{StaysOff}
-use Rattle.meter_run.specs.declared.stored.Known.{Known}
-use Rattle.meter_run.specs.declared.stored.StoreMeter.{StoreMeter}
+use Rattle.std.specs.{Option.{ForSome}, Prelude.{ℕ, ◌++◌, ◌≡◌, ◌≤◌, All, List, None, OnOk, Option, Result, Some}}
+use Rattle.{outside.specs.Runs.{MayHold}, slot_store.specs.Writes.{OrWithin}, meter_run.specs.Deeds.{deeds_of, texts}}
+use Rattle.meter_run.specs.{BetweenEvents.{StandsWith}, Common.{SameBut, Seal, Setting, StoreMeter, TableParts, run}}
+use Rattle.meter_run.specs.Common.{Act, CachedCore, Durable, Event, Fits, Ghosts, HasCause, HoldsState, IsLawful}
+use Rattle.meter_run.specs.Common.{IsLawfulAct, IsSeal, IsSettingOf, Known, LeavesOnly, Meter, Off, Outcome, Place}
+use Rattle.meter_run.specs.{Dry.{IsMeterReady}, Points.{GoesBy}, Supply.{StaysOff}}
 
 -- tables and a seal are secured if the seal is in its ranges, and both are those of some setting
 pub record IsSecured (tables : TableParts) (seal : Seal) : Type 0 where
@@ -64,7 +39,7 @@ module _ {D L : Type 0} {N : ℕ} (B : Ghosts D N L) where
   -- a meter and a board stand for a state of the meter if the core does, the board has the state's durable state, and
   -- its held trip fits
   pub record StandsOn (tables : TableParts) (s : Setting) (x : StoreMeter) (board : D) (m : Meter) : Type 0 where
-    pub stands : StandsWith s x.core.plain m.durable m
+    pub stands : StandsWith s x.core.state m.durable m
     pub has : Has x.known board m.durable
     pub fits : ForSome m.durable.hold (Fits tables)
 
@@ -86,7 +61,7 @@ module _ {D L : Type 0} {N : ℕ} (B : Ghosts D N L) where
   -- the board agrees; the core of the meter is one beside its cache, which only saves look-ups, as `Core::step_into`
   -- says by its clause `takes`
   abbrev pub Knows : TableParts → Seal → CachedCore → Option Known → D → Type 0
-  Knows tables seal core None board = core.plain.operating ≡ Off
+  Knows tables seal core None board = core.state.operating ≡ Off
   Knows tables seal core (Some known) board = IsMeterReady tables seal core known.durable × Agrees tables known board
 
   -- a meter is ready on a board for the next event if its tables and its seal are secured, its core is lawful, and it
@@ -125,7 +100,7 @@ module _ {D L : Type 0} {N : ℕ} (B : Ghosts D N L) (tables : TableParts) (seal
   -- without the supply
   pub record CarriesEvents (events : List Event) (x : StoreMeter) (old : D) (y : StoreMeter) (new : D) : Type 0 where
     pub out : CarriesOut (λ s m. run s events m) x old y new
-    pub supply : StaysOff x.core.plain events y.core.plain
+    pub supply : StaysOff x.core.state events y.core.state
 
   -- a call attempts an outcome if, when it succeeds, a meter and a board carry the outcome out and are ready for the
   -- next event; the board stops amid the outcome, however the call ends; and the call has a cause

@@ -1,24 +1,11 @@
 -- For proofs: points of lists of deeds that are joined, and calls that carry deeds out, one behind the other.
-use Rattle.std.proofs.Common.{◌≡◌, inl, inr, ℕ, List, [], ◌∷◌, ◌++◌, Some, refl, sym, ap, subst, ◌∙◌, append_assoc}
-use Rattle.std.specs.Option.{ForSome}
-use Rattle.std.proofs.lemmas.List.{append-nil}
-use Rattle.outside.specs.Disk.{SameBut}
-use Rattle.outside.specs.Printing.{Begins}
-use Rattle.outside.specs.Runs.{LeavesNow}
-use Rattle.outside.specs.declared.board.Board.{Ghosts}
+use Rattle.{std.{specs.Option.{ForSome}, proofs.lemmas.List.{append-nil}}, slot_store.proofs.Laws.{ready_left}}
+use Rattle.std.proofs.Common.{[], ℕ, ◌++◌, ◌∙◌, ◌∷◌, ◌≡◌, List, Some, ap, append_assoc, inl, inr, refl, subst, sym}
 use Rattle.outside.proofs.Laws.{begins_not, leaves_none, leaves_then, leaves_wider}
-use Rattle.seal_record.specs.declared.seal.Seal.{Seal}
-use Rattle.slot_store.specs.declared.pair.Place.{Place}
-use Rattle.slot_store.specs.Slots.{IsSettled}
-use Rattle.slot_store.proofs.Laws.{ready_left}
-use Rattle.tariff_compile.specs.Tables.{TableParts}
-use Rattle.totals_record.specs.Reading.{reads}
-use Rattle.meter_store.specs.Stored.{HasState, HoldsState, state_number_of}
-use Rattle.totals_record.specs.declared.durable_state.Durable.{Durable}
-use Rattle.meter_states.specs.Fits.{Fits}
-use Rattle.meter_model.specs.declared.act.Act.{Act}
-use Rattle.meter_run.specs.Deeds.{Deed, Does, after_deed, after_deeds, deeds_of, deed_text, texts}
-use Rattle.meter_run.specs.Points.{IsPointOfDeeds, GoesBy}
+use Rattle.{slot_store.specs.Slots.{IsSettled}, totals_record.specs.Reading.{reads}}
+use Rattle.meter_run.specs.Common.{Act, Begins, Durable, Fits, Ghosts, HasState, HoldsState, LeavesNow, Place, SameBut}
+use Rattle.meter_run.specs.{Common.{Seal, TableParts, state_number_of}, Points.{GoesBy, IsPointOfDeeds}}
+use Rattle.meter_run.specs.Deeds.{Deed, Does, after_deed, after_deeds, deed_text, deeds_of, texts}
 
 -- ---- lists of deeds
 

@@ -1,23 +1,11 @@
 -- Rules: what a cut of the power may leave of a list of deeds, in the store and of the printed text.
-use Rattle.std.specs.Prelude.{◌≡◌, ◌⊎◌, ℕ, ◌+◌, ◌<◌, ◌≤◌, List, [], ◌∷◌, ◌++◌, length, Contains, Ok}
-use Rattle.std.specs.Option.{ForSome}
-use Rattle.outside.specs.Printing.{Begins}
-use Rattle.seal_record.specs.declared.seal.Seal.{Seal}
-use Rattle.slot_store.specs.Scan.{found_at}
-use Rattle.slot_store.specs.declared.found.Found.TheVariants.{Latest}
-use Rattle.slot_store.specs.declared.pair.Place.{Place}
-use Rattle.tariff_compile.specs.Tables.{TableParts}
+use Rattle.std.specs.{Option.{ForSome}, Prelude.{[], ℕ, ◌++◌, ◌+◌, ◌<◌, ◌∷◌, ◌≡◌, ◌≤◌, ◌⊎◌, Contains, List, Ok, length}}
+use Rattle.slot_store.specs.{Scan.{found_at}, declared.found.Found.TheVariants.{Latest}}
+use Rattle.{totals_record.specs.Reading.{reads}, meter_states.specs.Pairs.{IsReceiptOf}}
+use Rattle.meter_run.specs.Common.{Begins, Durable, Enter, Entry, Fits, GrowsBy, HasState, Place, Receipt, Seal}
+use Rattle.meter_run.specs.{Common.{TableParts, state_number_of}, Deeds.{Deed, Does, changes_of, texts}}
 use Rattle.taxi_units.specs.declared.receipt.Receipt as receipts
-use Rattle.totals_record.specs.Reading.{reads}
-use Rattle.meter_store.specs.Stored.{HasState, state_number_of}
-use Rattle.totals_record.specs.Sums.{GrowsBy}
-use Rattle.totals_record.specs.declared.durable_state.Durable.{Durable}
-use Rattle.totals_record.specs.declared.entry.Entry.{Entry}
-use Rattle.meter_states.specs.Fits.{Fits}
-use Rattle.meter_states.specs.Pairs.{IsReceiptOf}
-use Rattle.meter_model.specs.declared.act.Act.TheVariants.{Enter, Receipt}
-use Rattle.meter_run.specs.Deeds.{Deed, Does, changes_of, texts}
-pub use Rattle.meter_run.specs.DeedPoints.{HasFittingState, IsPointOfDeeds, GoesBy}
+pub use Rattle.meter_run.specs.DeedPoints.{GoesBy, HasFittingState, IsPointOfDeeds}
 
 -- a scan answers a durable state of an image if it finds that state as the latest body, at some place; which state the
 -- bytes of a slot are read as, `reads`, says the law states_are_read_by_their_table of totals_record

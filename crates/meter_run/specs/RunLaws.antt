@@ -1,21 +1,11 @@
 -- For proofs: a run over one list of events behind another.
-use Rattle.std.proofs.Common.{◌≡◌, ℕ, List, [], ◌∷◌, ◌++◌, refl, sym, ap, ◌∙◌, append_assoc}
-use Rattle.taxi_units.specs.declared.event.Event.{Event}
-use Rattle.meter_model.specs.Meter.{Meter, Outcome}
-use Rattle.meter_model.specs.Run.{run}
-use Rattle.meter_model.specs.Setting.{Setting}
-use Rattle.meter_states.proofs.Laws.{runs_add_up, the_store_has_what_the_acts_commit-event}
-use Rattle.meter_states.specs.Pairs.{commits_of}
-use Rattle.meter_model.specs.Step.{step}
-use Rattle.meter_model.specs.declared.act.Act.{Act}
-use Rattle.meter_model.specs.declared.act.Act.TheVariants.{Show, Refuse, Enter, Hold, Receipt}
-use Rattle.totals_record.specs.States.{after, after_all}
+use Rattle.std.proofs.Common.{[], ℕ, ◌++◌, ◌∙◌, ◌∷◌, ◌≡◌, List, ap, append_assoc, refl, sym}
+use Rattle.{totals_record.specs.States.{after_all}, meter_run.specs.Common.{after, run, step}}
+use Rattle.meter_states.{specs.Pairs.{commits_of}, proofs.Laws.{runs_add_up, the_store_has_what_the_acts_commit-event}}
+use Rattle.meter_run.specs.{Commits.{after_act, after_acts}, PointLaws.{after_joined, deeds_joined}}
+use Rattle.meter_run.specs.Common.{Act, Durable, Enter, Event, Hold, Meter, Outcome, Receipt, Refuse, Setting, Show}
+use Rattle.meter_run.specs.{Deeds.{after_deeds, deeds_of}, Texts.{shown_text, shown_texts}}
 use Rattle.totals_record.specs.declared.change.Change.TheVariants as changes
-use Rattle.totals_record.specs.declared.durable_state.Durable.{Durable}
-use Rattle.meter_run.specs.Commits.{after_act, after_acts}
-use Rattle.meter_run.specs.Deeds.{after_deeds, deeds_of}
-use Rattle.meter_run.specs.PointLaws.{after_joined, deeds_joined}
-use Rattle.meter_run.specs.Texts.{shown_text, shown_texts}
 
 pub run_next : (s : Setting) (m : Meter) (xs ys : List Event)
     → (run s (xs ++ ys) m).next ≡ (run s ys (run s xs m).next).next

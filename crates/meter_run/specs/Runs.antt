@@ -1,25 +1,11 @@
 -- Rules: a run on the store, what it does, how it ends, and what a cut of the power leaves of it.
-use Rattle.std.specs.Prelude.{◌≡◌, ℕ, List, ◌++◌, Result, Ok, Err}
-use Rattle.std.specs.Option.{ForSome}
-use Rattle.taxi_units.specs.Streams.{StopsAfter}
-use Rattle.drive_text.specs.Ending.{StreamEnd, Whole, BadAt, Endless, IsGoing, IsSplit, TellsEnd, drive_end, events_of}
-use Rattle.outside.specs.Runs.{LeavesOnly}
-use Rattle.outside.specs.declared.board.Board.{Ghosts}
-use Rattle.seal_record.specs.declared.seal.Seal.{Seal}
-use Rattle.slot_store.specs.declared.pair.Place.{Place}
-use Rattle.tariff_compile.specs.Tables.{TableParts}
-use Rattle.meter_store.specs.Stored.{HoldsState}
-use Rattle.totals_record.specs.Sums.{GrowsBy}
-use Rattle.totals_record.specs.declared.durable_state.Durable.{Durable}
-use Rattle.meter_states.specs.Fits.{Fits}
-use Rattle.meter_model.specs.Run.{actions_of}
-use Rattle.meter_model.specs.Setting.{Setting}
-use Rattle.meter_states.specs.Setting.{IsSettingOf}
-use Rattle.meter_run.specs.Deeds.{Deed, after_deeds, changes_of, deeds_of, texts}
-use Rattle.meter_run.specs.OnStore.{HasBeside}
-use Rattle.meter_run.specs.Points.{IsCutOfDeeds}
-use Rattle.meter_run.specs.declared.fault.RunFault.{RunFault}
-use Rattle.meter_run.specs.declared.fault.RunFault.TheVariants.{ReadFault, BoardFault, BadDrive, TooLong}
+use Rattle.std.specs.{Option.{ForSome}, Prelude.{ℕ, ◌++◌, ◌≡◌, Err, List, Ok, Result}}
+use Rattle.{taxi_units.specs.Streams.{StopsAfter}, drive_text.specs.Ending.{TellsEnd}}
+use Rattle.meter_run.specs.Common.{BadAt, Durable, Endless, Fits, Ghosts, GrowsBy, HoldsState, IsGoing, IsSettingOf}
+use Rattle.meter_run.specs.Common.{IsSplit, LeavesOnly, Place, RunFault, Seal, Setting, StreamEnd, TableParts, Whole}
+use Rattle.meter_run.specs.{Common.{actions_of, drive_end, events_of}, OnStore.{HasBeside}}
+use Rattle.meter_run.specs.{Deeds.{Deed, after_deeds, changes_of, deeds_of, texts}, Points.{IsCutOfDeeds}}
+use Rattle.meter_run.specs.declared.fault.RunFault.TheVariants.{BadDrive, BoardFault, ReadFault, TooLong}
 
 -- the deeds of a run over bytes of a drive, if the store opens with a durable state, are the acts of the events, and
 -- the acts of the supply drop at their end

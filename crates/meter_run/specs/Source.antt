@@ -1,12 +1,8 @@
 -- Rules: how far a source of a drive is, and what it gives.
-use Rattle.std.specs.Prelude.{◌≡◌, ℕ, ◌+◌, ◌<◌, ◌≤◌, List, ◌++◌, length, false}
-use Rattle.drive_text.specs.Drive.{runs_after}
-use Rattle.drive_text.specs.Ending.{IsGoing, IsSplit, ReachesEnd, stream_limit}
+use Rattle.std.specs.Prelude.{ℕ, ◌++◌, ◌+◌, ◌<◌, ◌≡◌, ◌≤◌, List, false, length}
+use Rattle.meter_run.specs.Common.{HasTaken, IsGoing, IsSplit, ReachesEnd, Reading, Run, runs_after, stream_limit}
+use Rattle.meter_run.specs.declared.source.Stop.{Stop, TheVariants.{BadLine, ReadFault, TooLong, Whole}}
 use Rattle.drive_text.specs.Ending as ends
-use Rattle.drive_text.specs.Reading.{Reading, HasTaken}
-use Rattle.drive_text.specs.declared.run.Run.{Run}
-use Rattle.meter_run.specs.declared.source.Stop.{Stop}
-use Rattle.meter_run.specs.declared.source.Stop.TheVariants.{Whole, BadLine, TooLong, ReadFault}
 
 -- the progress of a source is its reader of lines, the bytes that were taken from the file and not yet given to the
 -- reader, and how many more may be taken

@@ -1,27 +1,11 @@
 -- For proofs: events that a meter carries out on a store, one behind the other.
-use Rattle.std.proofs.Common.{◌≡◌, inl, inr, ⊎_elim, ℕ, List, [], ◌++◌, Option, Some, None, refl, sym, ap, subst, ◌∙◌}
-use Rattle.std.proofs.lemmas.List.{append-nil}
-use Rattle.outside.specs.Disk.{SameBut}
-use Rattle.outside.specs.Runs.{LeavesNow}
-use Rattle.outside.specs.declared.board.Board.{Ghosts}
-use Rattle.outside.proofs.Laws.{leaves_none, leaves_then, leaves_wider}
-use Rattle.seal_record.specs.declared.seal.Seal.{Seal}
-use Rattle.slot_store.specs.Writes.{OrWithin}
-use Rattle.slot_store.specs.declared.pair.Place.{Place}
-use Rattle.tariff_compile.specs.Tables.{TableParts}
-use Rattle.taxi_units.specs.declared.event.Event.{Event}
-use Rattle.meter_store.specs.Stored.{HoldsState}
-use Rattle.totals_record.specs.declared.durable_state.Durable.{Durable}
-use Rattle.meter_model.specs.Meter.{Meter}
-use Rattle.meter_model.specs.Run.{run}
-use Rattle.meter_model.specs.Setting.{Setting}
-use Rattle.meter_run.specs.Deeds.{Deed, deeds_of, texts}
+use Rattle.std.proofs.Common.{[], ℕ, ◌++◌, ◌∙◌, ◌≡◌, List, None, Option, Some, ap, inl, inr, refl, subst, sym, ⊎_elim}
+use Rattle.{std.proofs.lemmas.List.{append-nil}, outside.proofs.Laws.{leaves_none, leaves_then, leaves_wider}}
+use Rattle.{slot_store.specs.Writes.{OrWithin}, meter_run.specs.Common.{Setting, StoreMeter, TableParts, run}}
+use Rattle.meter_run.specs.Common.{Durable, Event, Ghosts, HoldsState, Known, LeavesNow, Meter, Place, SameBut, Seal}
+use Rattle.meter_run.specs.{Deeds.{Deed, deeds_of, texts}, RunLaws.{run_acts, run_durable, run_next}}
 use Rattle.meter_run.specs.OnStore.{CarriesOut, Has, HasBeside, StandsOn, StopsAmid, WritesTotals}
-use Rattle.meter_run.specs.PointLaws.{deeds_joined, keeps_longer, keeps_next, keeps_still, text_next}
-use Rattle.meter_run.specs.Points.{GoesBy}
-use Rattle.meter_run.specs.RunLaws.{run_acts, run_durable, run_next}
-use Rattle.meter_run.specs.declared.stored.Known.{Known}
-use Rattle.meter_run.specs.declared.stored.StoreMeter.{StoreMeter}
+use Rattle.meter_run.specs.{PointLaws.{deeds_joined, keeps_longer, keeps_next, keeps_still, text_next}, Points.{GoesBy}}
 
 -- the deeds of a run over two lists of events that are joined are those over the first, and then those over the second
 run_deeds : (s : Setting) (m : Meter) (es fs : List Event)

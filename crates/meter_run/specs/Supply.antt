@@ -1,9 +1,6 @@
 -- Rules: whether the supply is there behind events, and what the supply drop at the end of a drive may take.
-use Rattle.std.specs.Prelude.{◌≡◌, ℕ, List, [], ◌∷◌, Bool, true, false, if◌then◌else◌}
-use Rattle.taxi_units.specs.declared.event.Event.{Event}
-use Rattle.taxi_units.specs.declared.event.Event.TheVariants.{Up, Down, Pulses, Tick, Clock, Key}
-use Rattle.taxi_units.specs.declared.event.Operating.TheVariants.{Off}
-use Rattle.meter_states.specs.Core.{CoreData}
+use Rattle.std.specs.Prelude.{[], ℕ, ◌∷◌, ◌≡◌, Bool, List, false, if◌then◌else◌, true}
+use Rattle.meter_run.specs.Common.{Clock, CoreData, Down, Event, Key, Off, Pulses, Tick, Up}
 
 -- the test `is_supplied_after` is true if the supply is there after an event: an `Up` brings it, a `Down` takes it
 -- away, and any other event leaves it as it was before, which `before` says

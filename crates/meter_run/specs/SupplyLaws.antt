@@ -1,16 +1,8 @@
 -- For proofs: the supply behind events that a meter carries out on a store, one list behind another.
-use Rattle.std.proofs.Common.{◌≡◌, ℕ, List, [], ◌∷◌, ◌++◌, Bool, refl, sym, ◌∙◌}
-use Rattle.outside.specs.Runs.{LeavesNow}
-use Rattle.outside.specs.declared.board.Board.{Ghosts}
-use Rattle.seal_record.specs.declared.seal.Seal.{Seal}
-use Rattle.tariff_compile.specs.Tables.{TableParts}
-use Rattle.taxi_units.specs.declared.event.Event.{Event}
-use Rattle.meter_states.specs.Core.{CoreData}
-use Rattle.meter_model.specs.Run.{run}
-use Rattle.meter_run.specs.OnStore.{CarriesEvents, StopsAmid}
+use Rattle.std.proofs.Common.{[], ℕ, ◌++◌, ◌∙◌, ◌∷◌, ◌≡◌, Bool, List, refl, sym}
+use Rattle.meter_run.specs.Common.{CoreData, Event, Ghosts, LeavesNow, Seal, StoreMeter, TableParts, run}
+use Rattle.meter_run.specs.{OnStore.{CarriesEvents, StopsAmid}, Supply.{StaysOff, is_supplied, is_supplied_after}}
 use Rattle.meter_run.specs.StoreLaws.{amid_later, out_none, out_then}
-use Rattle.meter_run.specs.Supply.{StaysOff, is_supplied, is_supplied_after}
-use Rattle.meter_run.specs.declared.stored.StoreMeter.{StoreMeter}
 
 -- the supply behind two lists of events is that behind the second, from that behind the first on
 pub supplied_joined : (before : Bool) (es fs : List Event)
@@ -36,7 +28,7 @@ module _ {D L : Type 0} {N : ℕ} (B : Ghosts D N L) (tables : TableParts) (seal
       → Carried es x a y b → Carried fs y b z c → Carried (es ++ fs) x a z c
   carried_then es fs x a y b z c first next = record {
     out = out_then B tables seal es fs x a y b z c first.out next.out;
-    supply = off_then es fs x.core.plain y.core.plain z.core.plain first.supply next.supply;
+    supply = off_then es fs x.core.state y.core.state z.core.state first.supply next.supply;
   }
 
   -- a board that stops amid events behind others that were carried out stops amid both, joined

@@ -1,12 +1,7 @@
 -- Rules: what is printed without receipts.
-use Rattle.std.specs.Prelude.{ℕ, List, [], ◌∷◌, ◌++◌}
-use Rattle.meter_model.specs.Run.{actions_of}
-use Rattle.meter_model.specs.Setting.{Setting}
-use Rattle.meter_model.specs.declared.act.Act.{Act}
-use Rattle.meter_model.specs.declared.act.Act.TheVariants.{Show, Refuse, Enter, Hold, Receipt}
-use Rattle.receipt_text.specs.Texts.{display_text, refusal_text}
-use Rattle.drive_text.specs.Ending.{events_of}
-use Rattle.totals_record.specs.States.{first_state}
+use Rattle.std.specs.Prelude.{[], ℕ, ◌++◌, ◌∷◌, List}
+use Rattle.meter_run.specs.Common.{Act, Enter, Hold, Receipt, Refuse, Setting, Show, actions_of, display_text}
+use Rattle.meter_run.specs.Common.{events_of, first_state, refusal_text}
 
 -- the line that is shown of an act is that of its display or its refusal, and is empty for any other act
 abbrev pub shown_text : Act → List ℕ

@@ -1,8 +1,6 @@
 //! What carries out events on a board.
-ghost use Rattle.std.specs.Prelude.{◌+◌, ◌≤◌, ◌++◌, List, [], ◌∷◌, OnOk, OnErr};
-ghost use Rattle.outside.specs.Faults.{HasCause};
-ghost use Rattle.drive_text.specs.Runs.{intervals_events};
-ghost use Rattle.meter_states.specs.Lawful.{IsTimely};
+ghost use Rattle.std.specs.Prelude.{[], ◌++◌, ◌+◌, ◌∷◌, ◌≤◌, List, OnErr, OnOk};
+ghost use Rattle.meter_run.specs.Common.{HasCause, IsTimely, intervals_events};
 
 use meter_model::Acts;
 use outside::{Board, Failed, STORE_SIZE};
@@ -21,8 +19,7 @@ pub(crate) struct SealedTables<'a> {
 /// A meter that carries out events on a board. What it says of them holds of one event, of none, and of one list of
 /// events behind another. So whoever goes over a drive proves it of a whole drive.
 pub(crate) trait Carrier<B: Board<STORE_SIZE, L>, L: Ledger> {
-    ghost use Rattle.taxi_units.specs.declared.event.Event.{Event};
-    ghost use Rattle.meter_run.specs.declared.carrier.SealedTables.{SealedTables};
+    ghost use Rattle.meter_run.specs.{Common.{Event}, declared.carrier.SealedTables.{SealedTables}};
 
     /// The next event may come.
     ghost ready: { SealedTables → Self → B → Type 0 };

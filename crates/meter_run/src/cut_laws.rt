@@ -1,22 +1,12 @@
 //! What a run on the store and a cut of the power in it mean, in words that share nothing with how the code works.
-ghost use Rattle.std.specs.Prelude.{◌≡◌, ℕ, ◌+◌, ◌<◌, ◌≤◌, List, [], ◌∷◌, ◌++◌, length, get_or};
-ghost use Rattle.outside.specs.Disk.{MayLeaveAmid};
-ghost use Rattle.outside.specs.Printing.{Begins};
-ghost use Rattle.outside.specs.Runs.{IsAtRest, KeepsStore, LeavesOnly};
-ghost use Rattle.meter_store.specs.Sealing.{HasSeal, HoldsSeal};
-ghost use Rattle.seal_record.specs.declared.seal.Seal.{Seal};
-ghost use Rattle.slot_store.specs.declared.pair.Place.{Place};
-ghost use Rattle.tariff_compile.specs.Tables.{TableParts};
-ghost use Rattle.taxi_units.specs.declared.receipt.Receipt as receipts;
-ghost use Rattle.totals_record.specs.States.{IsHeldAfter, entries_of};
-ghost use Rattle.totals_record.specs.Sums.{AddsUp};
-ghost use Rattle.totals_record.specs.declared.durable_state.Durable.{Durable};
-ghost use Rattle.meter_model.specs.Setting.{Setting};
-ghost use Rattle.meter_model.specs.declared.act.Act.TheVariants.{Receipt};
+ghost use Rattle.std.specs.Prelude.{[], ℕ, ◌++◌, ◌+◌, ◌<◌, ◌∷◌, ◌≡◌, ◌≤◌, List, get_or, length};
+ghost use Rattle.totals_record.specs.{States.{IsHeldAfter}, Sums.{AddsUp}};
+ghost use Rattle.meter_run.specs.Common.{Begins, Durable, HasSeal, HoldsSeal, IsAtRest, KeepsStore, LeavesOnly};
+ghost use Rattle.meter_run.specs.Common.{MayLeaveAmid, Place, Receipt, Seal, Setting, TableParts, entries_of};
 ghost use Rattle.meter_run.specs.Deeds.{Deed, Does, Prints, changes_of};
-ghost use Rattle.meter_run.specs.OnStore.{HasBeside, WritesTotals};
+ghost use Rattle.meter_run.specs.{OnStore.{HasBeside, WritesTotals}, Runs.{HasDone, HasStopped, OpensWith, run_deeds}};
 ghost use Rattle.meter_run.specs.Points.{HasEntries, HasEntryOf, IsCutOfDeeds, IsNumberedWithin};
-ghost use Rattle.meter_run.specs.Runs.{HasDone, HasStopped, OpensWith, run_deeds};
+ghost use Rattle.taxi_units.specs.declared.receipt.Receipt as receipts;
 
 use outside::{Board, STORE_SIZE};
 use std::sync::ledger::Ledger;

@@ -1,14 +1,8 @@
 //! Displays, by their texts.
-ghost use Rattle.std.specs.Prelude.{◌≡◌, ◌↔◌, [], Some};
-ghost use Rattle.taxi_units.specs.Shown.{IsShown};
-ghost use Rattle.taxi_units.specs.declared.receipt.Display.{Display};
+ghost use Rattle.std.specs.Prelude.{[], ◌↔◌, ◌≡◌, Some};
+ghost use Rattle.meter_model.specs.{Display.{display_of}, KeptTrip.{IsTripKept}, LastShown.{IsOfMeter}};
 ghost use Rattle.receipt_text.specs.Shows.{HasFields};
-ghost use Rattle.receipt_text.specs.Texts.{display_text};
-ghost use Rattle.meter_model.specs.Display.{display_of, shown};
-ghost use Rattle.meter_model.specs.KeptTrip.{IsTripKept};
-ghost use Rattle.meter_model.specs.LastShown.{IsOfMeter};
-ghost use Rattle.meter_model.specs.Meter.{Meter};
-ghost use Rattle.meter_model.specs.Setting.{Setting};
+ghost use Rattle.meter_run.specs.Common.{Display, IsShown, Meter, Setting, display_text, shown};
 
 /// A law: a meter that keeps its trip as the store does shows nothing exactly if its display has the text of the one
 /// that it showed last. That one is its own (`the_last_display_is_one_of_the_meter` of `meter_model`). The meter

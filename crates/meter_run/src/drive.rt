@@ -1,11 +1,8 @@
 //! Carries out a drive, until no more of it is read.
-ghost use Rattle.std.specs.Prelude.{◌≡◌, ◌≢◌, ◌⊎◌, ◌<◌, ◌++◌, ℕ, List, length, IfOk, IfSome, IsErr, OnOk, OnErr, Ok, None, Some};
-ghost use Rattle.outside.specs.Reading.{LeavesOthers};
-ghost use Rattle.outside.specs.Faults.{HasCause, MayRise, Rose};
-ghost use Rattle.drive_text.specs.Drive.{events_in};
-ghost use Rattle.meter_run.specs.Drives.{BreaksDrive, TakesDrive};
-ghost use Rattle.meter_run.specs.Pieces.{AreCarried, CarriesAhead, CarriesPiece, IsThrough};
-ghost use Rattle.meter_run.specs.Source.{HasGiven};
+ghost use Rattle.std.specs.Prelude.{ℕ, ◌++◌, ◌<◌, ◌≡◌, ◌≢◌, ◌⊎◌, IfOk, IfSome, IsErr, List, None, Ok, OnErr, OnOk};
+ghost use Rattle.{std.specs.Prelude.{Some, length}, meter_run.specs.Drives.{BreaksDrive, TakesDrive}};
+ghost use Rattle.meter_run.specs.Common.{HasCause, LeavesOthers, MayRise, Rose, events_in};
+ghost use Rattle.meter_run.specs.{Pieces.{AreCarried, CarriesAhead, CarriesPiece, IsThrough}, Source.{HasGiven}};
 
 use crate::carrier::{Carrier, SealedTables};
 use crate::runs::carry_runs;

@@ -1,24 +1,9 @@
 //! The meter whose durable state is a value.
-ghost use Rattle.std.specs.Prelude.{◌≡◌, ◌+◌, ◌≤◌, [], ◌∷◌, ◌++◌, All, length, OnOk, OnErr};
-ghost use Rattle.outside.specs.Faults.{HasCause};
-ghost use Rattle.outside.specs.Printing.{Begins};
-ghost use Rattle.outside.specs.Runs.{KeepsStore};
-ghost use Rattle.tariff_compile.specs.Tables.{TableParts};
-ghost use Rattle.seal_record.specs.declared.seal.Seal.{Seal};
-ghost use Rattle.meter_states.specs.Acts.{IsLawfulAct};
-ghost use Rattle.meter_states.specs.Core.{Meets};
-ghost use Rattle.meter_states.specs.Lawful.{IsLawful, IsTimely};
-ghost use Rattle.meter_model.specs.Meter.{Meter};
-ghost use Rattle.meter_model.specs.Setting.{Setting};
-ghost use Rattle.meter_states.specs.Setting.{IsSettingOf};
-ghost use Rattle.meter_model.specs.Step.{step};
-ghost use Rattle.taxi_units.specs.declared.event.Operating.TheVariants.{Off};
-ghost use Rattle.totals_record.specs.Ranges.{IsDurable};
-ghost use Rattle.totals_record.specs.States.{first_state};
-ghost use Rattle.meter_run.specs.BetweenEvents.{StandsWith};
-ghost use Rattle.meter_run.specs.Commits.{AreFor, IsFor, after_act, after_acts};
-ghost use Rattle.meter_run.specs.Dry.{BreaksOff, CarriesEvents, IsMeterReady};
-ghost use Rattle.meter_run.specs.Texts.{shown_text, shown_texts};
+ghost use Rattle.std.specs.Prelude.{[], ◌++◌, ◌+◌, ◌∷◌, ◌≡◌, ◌≤◌, All, OnErr, OnOk, length};
+ghost use Rattle.meter_run.specs.{BetweenEvents.{StandsWith}, Dry.{BreaksOff, CarriesEvents, IsMeterReady}};
+ghost use Rattle.meter_run.specs.{Commits.{AreFor, IsFor, after_act, after_acts}, Texts.{shown_text, shown_texts}};
+ghost use Rattle.meter_run.specs.Common.{Begins, HasCause, IsDurable, IsLawful, IsLawfulAct, IsSettingOf, IsTimely};
+ghost use Rattle.meter_run.specs.Common.{KeepsStore, Meets, Meter, Off, Seal, Setting, TableParts, first_state, step};
 
 use crate::carrier::{Carrier, SealedTables};
 use crate::printing::{print_display, print_refusal};
@@ -102,7 +87,7 @@ fn step_or_resume<L: Ledger>(
     ensures lawful { IsLawful tables.now seal.now core.new }
     ensures ranges { All (IsLawfulAct tables.now durable.now.number) acts.new.items }
     ensures meets { (s : Setting) (m : Meter) → IsSettingOf s tables.now seal.now
-        → StandsWith s core.old.plain durable.now m → Meets s core.new.plain acts.new.items (step s event m) }
+        → StandsWith s core.old.state durable.now m → Meets s core.new.state acts.new.items (step s event m) }
     ensures steps { steps.new ≤ steps.old + 48 }
 {
     match supply_at(core, event) {
@@ -125,7 +110,7 @@ pub struct DryMeter {
 impl DryMeter {
     /// A meter before the supply first comes.
     pub fn new() -> DryMeter
-        ensures off { result.core.plain.operating ≡ Off }
+        ensures off { result.core.state.operating ≡ Off }
         ensures lawful { (tables : TableParts) (seal : Seal) → IsLawful tables seal result.core }
         ensures first { result.durable ≡ first_state }
         ensures range { IsDurable result.durable }
@@ -170,7 +155,7 @@ impl DryMeter {
 }
 
 impl<B: Board<STORE_SIZE, L>, L: Ledger> Carrier<B, L> for DryMeter {
-    ghost use Rattle.meter_run.specs.Dry.{CarriesEvents, BreaksOff, IsMeterReady};
+    ghost use Rattle.meter_run.specs.Dry.{BreaksOff, CarriesEvents, IsMeterReady};
     ghost use Rattle.meter_run.specs.DryLaws.{breaks_later, breaks_sooner, carries_none, carries_then};
 
     ghost ready = { λ r meter board. IsMeterReady r.tables.now r.seal.now meter.core meter.durable };

@@ -1,11 +1,7 @@
 //! A drive that is carried out without a store.
-ghost use Rattle.std.specs.Prelude.{◌≡◌, ◌⊎◌, ℕ, ◌+◌, ◌≤◌, Err, OnOk};
-ghost use Rattle.outside.specs.Reading.{LeavesOthers};
-ghost use Rattle.outside.specs.Runs.{KeepsStore};
-ghost use Rattle.outside.specs.Faults.{HasCause, MayRise, RisesOnlyIf, Rose};
-ghost use Rattle.meter_model.specs.Run.{ended};
-ghost use Rattle.taxi_units.specs.declared.event.Operating.TheVariants.{Off};
-ghost use Rattle.meter_run.specs.Drives.{IsBoundedByDrive, RunsDrive, answer_of};
+ghost use Rattle.std.specs.Prelude.{ℕ, ◌+◌, ◌≡◌, ◌≤◌, ◌⊎◌, Err, OnOk};
+ghost use Rattle.{outside.specs.Faults.{RisesOnlyIf}, meter_run.specs.Drives.{IsBoundedByDrive, RunsDrive, answer_of}};
+ghost use Rattle.meter_run.specs.Common.{HasCause, KeepsStore, LeavesOthers, MayRise, Off, Rose, ended};
 ghost use Rattle.meter_run.specs.Dry.{IsMeterReady, Prints, PrintsSome};
 
 use crate::carrier::SealedTables;
@@ -76,7 +72,7 @@ fn drop_at_end<B: Board<STORE_SIZE, L>, L: Ledger>(
     ensures begun { PrintsSome B.Board tables.now seal.now ended meter.old board.old board.new }
     ensures cause { HasCause (B.faults board.old) (B.faults board.new) result }
     ensures steps { steps.new ≤ steps.old + 64 }
-    ensures idle { meter.old.core.plain.operating ≡ Off → steps.new ≡ steps.old }
+    ensures idle { meter.old.core.state.operating ≡ Off → steps.new ≡ steps.old }
     ensures store { KeepsStore B.Board board.old board.new }
 {
     if is_off(&meter.core) {

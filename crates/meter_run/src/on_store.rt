@@ -1,13 +1,7 @@
 //! The meter on a store carries out events.
-ghost use Rattle.std.specs.Prelude.{◌≡◌, ◌≢◌, ℕ, ◌+◌, ◌≤◌, [], ◌∷◌};
-ghost use Rattle.meter_states.specs.Lawful.{IsTimely};
-ghost use Rattle.meter_model.specs.Step.{step};
-ghost use Rattle.taxi_units.specs.Time.{IsSecond};
-ghost use Rattle.taxi_units.specs.declared.event.Event.TheVariants.{Up};
-ghost use Rattle.taxi_units.specs.declared.event.Operating.TheVariants.{Off};
-ghost use Rattle.totals_record.specs.Ranges.{IsDurable};
-ghost use Rattle.meter_run.specs.OnStore.{Agrees, Attempts, IsMeterReadyOn};
-ghost use Rattle.meter_run.specs.Supply.{StaysOff};
+ghost use Rattle.std.specs.Prelude.{[], ℕ, ◌+◌, ◌∷◌, ◌≡◌, ◌≢◌, ◌≤◌};
+ghost use Rattle.{taxi_units.specs.Time.{IsSecond}, meter_run.specs.Common.{IsDurable, IsTimely, Off, Up, step}};
+ghost use Rattle.meter_run.specs.{OnStore.{Agrees, Attempts, IsMeterReadyOn}, Supply.{StaysOff}};
 
 use crate::carrier::{Carrier, SealedTables};
 use crate::printing::print_refusal;
@@ -34,7 +28,7 @@ fn resume<B: Board<STORE_SIZE, L>, L: Ledger>(
     steps: &mut Steps<L>,
 ) -> Result<(), Failed>
     requires ready { IsMeterReadyOn B.Board tables.now seal.now meter.old board.old }
-    requires off { meter.old.core.plain.operating ≡ Off }
+    requires off { meter.old.core.state.operating ≡ Off }
     requires range { IsDurable found.durable }
     requires agrees { Agrees B.Board tables.now found board.old }
     requires second { IsSecond second }
@@ -62,7 +56,7 @@ fn power_up<B: Board<STORE_SIZE, L>, L: Ledger>(
     steps: &mut Steps<L>,
 ) -> Result<(), Failed>
     requires ready { IsMeterReadyOn B.Board tables.now seal.now meter.old board.old }
-    requires off { meter.old.core.plain.operating ≡ Off }
+    requires off { meter.old.core.state.operating ≡ Off }
     requires second { IsSecond second }
     ensures attempts { Attempts B.Board tables.now seal.now (λ s m. step s (Up second) m) meter.old board.old result
         meter.new board.new }
@@ -96,7 +90,7 @@ impl StoreMeter {
         requires timely { IsTimely event }
         ensures attempts { Attempts B.Board tables.now seal.now (λ s m. step s event m) self.old board.old result
             self.new board.new }
-        ensures supply { StaysOff self.old.core.plain (event ∷ []) self.new.core.plain }
+        ensures supply { StaysOff self.old.core.state (event ∷ []) self.new.core.state }
         ensures steps { steps.new ≤ steps.old + 64 }
     {
         match supply_at(&self.core, event) {
@@ -114,10 +108,8 @@ impl StoreMeter {
 }
 
 impl<B: Board<STORE_SIZE, L>, L: Ledger> Carrier<B, L> for StoreMeter {
-    ghost use Rattle.meter_model.specs.Run.{run};
-    ghost use Rattle.meter_run.specs.OnStore.{CarriesEvents, IsMeterReadyOn, StopsAmid};
-    ghost use Rattle.meter_run.specs.StoreLaws.{amid_sooner};
-    ghost use Rattle.meter_run.specs.SupplyLaws.{carried_later, carried_none, carried_then};
+    ghost use Rattle.meter_run.specs.{Common.{run}, OnStore.{CarriesEvents, IsMeterReadyOn, StopsAmid}};
+    ghost use Rattle.meter_run.specs.{StoreLaws.{amid_sooner}, SupplyLaws.{carried_later, carried_none, carried_then}};
 
     ghost ready = { λ r meter board. IsMeterReadyOn B.Board r.tables.now r.seal.now meter board };
 

@@ -1,12 +1,8 @@
 //! Prints displays, refusals and receipts.
 ghost use Rattle.std.specs.Prelude.{◌+◌, ◌<◌, ◌≤◌, length};
-ghost use Rattle.outside.specs.Disk.{piece_size};
-ghost use Rattle.receipt_text.specs.Receipts.{receipt_text};
-ghost use Rattle.receipt_text.specs.SealParts.{part_of_seal};
-ghost use Rattle.receipt_text.specs.Texts.{display_text, refusal_text};
-ghost use Rattle.seal_record.specs.Ranges.{IsSeal};
-ghost use Rattle.taxi_units.specs.Shown.{IsReceipt, IsShown};
-ghost use Rattle.meter_run.specs.Printing.{PrintsText};
+ghost use Rattle.{taxi_units.specs.Shown.{IsReceipt}, outside.specs.Disk.{piece_size}};
+ghost use Rattle.{receipt_text.specs.Receipts.{receipt_text}, meter_run.specs.PrintedText.{PrintsText}};
+ghost use Rattle.meter_run.specs.Common.{IsSeal, IsShown, display_text, part_of_seal, refusal_text};
 
 use outside::{Board, Failed, STORE_SIZE};
 use receipt_text::{put_display, put_receipt, put_refusal};

@@ -1,16 +1,7 @@
 //! Reads what the store has as the supply comes.
-ghost use Rattle.std.specs.Prelude.{◌≡◌, ◌+◌, ◌≤◌, [], Some, IfOk};
-ghost use Rattle.std.specs.Option.{ForSome};
-ghost use Rattle.outside.specs.Faults.{HasCause};
-ghost use Rattle.meter_states.specs.Fits.{Fits};
-ghost use Rattle.seal_record.specs.declared.seal.Seal.{Seal};
-ghost use Rattle.slot_store.specs.declared.pair.Place.{Place};
-ghost use Rattle.totals_record.specs.Ranges.{IsDurable};
-ghost use Rattle.meter_store.specs.Stored.{HoldsState};
-ghost use Rattle.totals_record.specs.declared.durable_state.Durable.{Durable};
-ghost use Rattle.meter_run.specs.OnStore.{Agrees, WritesTotals};
-ghost use Rattle.meter_run.specs.Points.{GoesBy};
-ghost use Rattle.meter_run.specs.declared.stored.Known.{Known};
+ghost use Rattle.std.specs.{Option.{ForSome}, Prelude.{[], ◌+◌, ◌≡◌, ◌≤◌, IfOk, Some}};
+ghost use Rattle.meter_run.specs.Common.{Durable, Fits, HasCause, HoldsState, IsDurable, Known, Place, Seal};
+ghost use Rattle.meter_run.specs.{OnStore.{Agrees, WritesTotals}, Points.{GoesBy}};
 
 use crate::stored::Known;
 use meter_states::fits;

@@ -1,10 +1,6 @@
 //! Carries out the runs of a drive.
-ghost use Rattle.std.specs.Prelude.{All, OnOk, OnErr};
-ghost use Rattle.std.specs.List.{flat_map};
-ghost use Rattle.outside.specs.Faults.{HasCause};
-ghost use Rattle.drive_text.specs.Ranges.{IsRunInRange};
-ghost use Rattle.drive_text.specs.Runs.{interval_events, intervals_events, run_events};
-ghost use Rattle.meter_run.specs.Drives.{IsBounded};
+ghost use Rattle.{std.specs.{List.{flat_map}, Prelude.{All, OnErr, OnOk}}, meter_run.specs.Drives.{IsBounded}};
+ghost use Rattle.meter_run.specs.Common.{HasCause, IsRunInRange, interval_events, intervals_events, run_events};
 
 use crate::carrier::{Carrier, SealedTables};
 use drive_text::Run;

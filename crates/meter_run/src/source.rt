@@ -1,10 +1,7 @@
 //! Reads a drive from its file, piece by piece.
-ghost use Rattle.std.specs.Prelude.{◌≡◌, ◌≢◌, ◌↔◌, IsTrue, ℕ, ◌-◌, ◌<◌, ◌≤◌, [], List, All, length, take, drop, None, Some, IfSome};
-ghost use Rattle.outside.specs.Reading.{LeavesOthers};
-ghost use Rattle.outside.specs.Faults.{MayRise, Rose};
-ghost use Rattle.drive_text.specs.Drive.{bad_at_end};
-ghost use Rattle.drive_text.specs.Ranges.{IsRunInRange};
-ghost use Rattle.drive_text.specs.Reading.{HasTaken};
+ghost use Rattle.std.specs.Prelude.{[], ℕ, ◌-◌, ◌<◌, ◌↔◌, ◌≡◌, ◌≢◌, ◌≤◌, All, IfSome, IsTrue, List, None, Some, drop};
+ghost use Rattle.{std.specs.Prelude.{length, take}, drive_text.specs.Drive.{bad_at_end}};
+ghost use Rattle.meter_run.specs.Common.{HasTaken, IsRunInRange, LeavesOthers, MayRise, Rose};
 ghost use Rattle.meter_run.specs.Source.{Fills, GivesRuns, HasGiven, StopsBy};
 
 use arrayvec::ArrayVec;

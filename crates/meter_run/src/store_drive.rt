@@ -1,14 +1,9 @@
 //! A drive that is carried out on a store.
-ghost use Rattle.std.specs.Prelude.{◌≡◌, ◌⊎◌, ℕ, ◌+◌, ◌≤◌, Err, IsOk, OnOk};
-ghost use Rattle.outside.specs.Reading.{LeavesOthers};
-ghost use Rattle.drive_text.specs.Ending.{Whole, drive_end};
-ghost use Rattle.outside.specs.Faults.{HasCause, MayRise, RisesOnlyIf, Rose};
-ghost use Rattle.meter_model.specs.Run.{ended};
-ghost use Rattle.seal_record.specs.Ranges.{IsSeal};
-ghost use Rattle.taxi_units.specs.declared.event.Operating.TheVariants.{Off};
+ghost use Rattle.std.specs.Prelude.{ℕ, ◌+◌, ◌≡◌, ◌≤◌, ◌⊎◌, Err, IsOk, OnOk};
+ghost use Rattle.{outside.specs.Faults.{RisesOnlyIf}, meter_run.specs.Runs.{EndsRun, LeavesPoints}};
+ghost use Rattle.meter_run.specs.Common.{HasCause, IsSeal, LeavesOthers, MayRise, Off, Rose, Whole, drive_end, ended};
 ghost use Rattle.meter_run.specs.Drives.{IsBoundedByDrive};
 ghost use Rattle.meter_run.specs.OnStore.{CarriesOut, IsMeterReadyOn, StopsAmid, WritesTotals};
-ghost use Rattle.meter_run.specs.Runs.{EndsRun, LeavesPoints};
 
 use crate::carrier::SealedTables;
 use crate::drive::carry_drive;
@@ -91,7 +86,7 @@ fn drop_at_end<B: Board<STORE_SIZE, L>, L: Ledger>(
     ensures stopped { StopsAmid B.Board tables.now seal.now ended meter.old board.old board.new }
     ensures cause { HasCause (B.faults board.old) (B.faults board.new) result }
     ensures steps { steps.new ≤ steps.old + 64 }
-    ensures idle { meter.old.core.plain.operating ≡ Off → steps.new ≡ steps.old }
+    ensures idle { meter.old.core.state.operating ≡ Off → steps.new ≡ steps.old }
 {
     if is_off(&meter.core) {
         return Ok(());

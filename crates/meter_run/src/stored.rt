@@ -1,9 +1,6 @@
 //! The meter on a store, and what it knows of it.
 ghost use Rattle.std.specs.Prelude.{◌≡◌, None};
-ghost use Rattle.tariff_compile.specs.Tables.{TableParts};
-ghost use Rattle.seal_record.specs.declared.seal.Seal.{Seal};
-ghost use Rattle.meter_states.specs.Lawful.{IsLawful};
-ghost use Rattle.taxi_units.specs.declared.event.Operating.TheVariants.{Off};
+ghost use Rattle.meter_run.specs.Common.{IsLawful, Off, Seal, TableParts};
 
 use meter_states::Core;
 use slot_store::Place;
@@ -26,7 +23,7 @@ pub struct StoreMeter {
 impl StoreMeter {
     /// A meter before the supply first comes.
     pub fn new() -> StoreMeter
-        ensures off { result.core.plain.operating ≡ Off }
+        ensures off { result.core.state.operating ≡ Off }
         ensures lawful { (tables : TableParts) (seal : Seal) → IsLawful tables seal result.core }
         ensures unknown { result.known ≡ None }
     {

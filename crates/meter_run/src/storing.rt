@@ -1,17 +1,9 @@
 //! Carries out acts on a store.
-ghost use Rattle.std.specs.Prelude.{◌≡◌, ◌+◌, ◌*◌, ◌≤◌, ◌++◌, [], ◌∷◌, length, OnOk};
-ghost use Rattle.std.specs.Option.{ForSome};
-ghost use Rattle.outside.specs.Faults.{HasCause};
-ghost use Rattle.meter_states.specs.Fits.{Fits};
-ghost use Rattle.seal_record.specs.Ranges.{IsSeal};
-ghost use Rattle.tariff_compile.specs.Tables.{TableParts};
-ghost use Rattle.totals_record.specs.Ranges.{IsDurable};
-ghost use Rattle.totals_record.specs.States.{after};
-ghost use Rattle.meter_store.specs.Stored.{HoldsState};
-ghost use Rattle.meter_run.specs.Commits.{AreFor, IsFor, after_act, after_acts, commits_in};
+ghost use Rattle.std.specs.{Option.{ForSome}, Prelude.{[], ◌*◌, ◌++◌, ◌+◌, ◌∷◌, ◌≡◌, ◌≤◌, OnOk, length}};
+ghost use Rattle.meter_run.specs.{Commits.{AreFor, IsFor, after_act, after_acts, commits_in}, Points.{GoesBy}};
+ghost use Rattle.meter_run.specs.Common.{Fits, HasCause, HoldsState, IsDurable, IsSeal, TableParts, after};
 ghost use Rattle.meter_run.specs.Deeds.{Deed, Does, act_text, after_deed, deeds_of, texts};
 ghost use Rattle.meter_run.specs.OnStore.{Agrees, MayDo, WritesTotals};
-ghost use Rattle.meter_run.specs.Points.{GoesBy};
 
 use crate::printing::{print_display, print_receipt, print_refusal};
 use crate::stored::Known;

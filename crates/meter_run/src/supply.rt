@@ -1,14 +1,13 @@
 //! Whether the supply is there, and whether an event is its coming.
-ghost use Rattle.std.specs.Prelude.{◌≡◌, ◌≢◌, ◌↔◌, ℕ, IfSome, IsTrue, None};
-ghost use Rattle.taxi_units.specs.declared.event.Event.TheVariants.{Up};
-ghost use Rattle.taxi_units.specs.declared.event.Operating.TheVariants.{Off};
+ghost use Rattle.std.specs.Prelude.{ℕ, ◌↔◌, ◌≡◌, ◌≢◌, IfSome, IsTrue, None};
+ghost use Rattle.meter_run.specs.Common.{Off, Up};
 
 use meter_states::Core;
 use taxi_units::{Event, Operating};
 
 /// Whether the meter is off.
 pub(crate) fn is_off(core: &Core) -> bool
-    ensures { IsTrue result ↔ (core.now.plain.operating ≡ Off) }
+    ensures { IsTrue result ↔ (core.now.state.operating ≡ Off) }
 {
     matches!(core.operating(), Operating::Off)
 }
@@ -17,8 +16,8 @@ pub(crate) fn is_off(core: &Core) -> bool
 /// behind it an `Up` is one event of a powered meter among others.
 #[inline(always)]
 pub(crate) fn supply_at(core: &Core, event: Event) -> Option<u64>
-    ensures comes { IfSome result (λ second. (event ≡ Up second) × (core.now.plain.operating ≡ Off)) }
-    ensures other { result ≡ None → (second : ℕ) → core.now.plain.operating ≡ Off → event ≢ Up second }
+    ensures comes { IfSome result (λ second. (event ≡ Up second) × (core.now.state.operating ≡ Off)) }
+    ensures other { result ≡ None → (second : ℕ) → core.now.state.operating ≡ Off → event ≢ Up second }
 {
     match event {
         Event::Up(second) => at_off(core, second),
@@ -28,8 +27,8 @@ pub(crate) fn supply_at(core: &Core, event: Event) -> Option<u64>
 
 /// A second, if the meter is off.
 fn at_off(core: &Core, second: u64) -> Option<u64>
-    ensures is { IfSome result (λ at. (at ≡ second) × (core.now.plain.operating ≡ Off)) }
-    ensures none { result ≡ None → core.now.plain.operating ≢ Off }
+    ensures is { IfSome result (λ at. (at ≡ second) × (core.now.state.operating ≡ Off)) }
+    ensures none { result ≡ None → core.now.state.operating ≢ Off }
 {
     if is_off(core) {
         return Some(second);

@@ -1,12 +1,8 @@
 -- Lawful acts keep the ranges of the store.
-use Rattle.std.proofs.Common.{◌≡◌, ℕ, List, All, get_or, sym, subst}
-use Rattle.totals_record.specs.declared.durable_state.Durable.{Durable}
-use Rattle.totals_record.specs.Ranges.{IsDurable}
+use Rattle.std.proofs.Common.{ℕ, ◌≡◌, All, List, get_or, subst, sym}
 use Rattle.totals_record.proofs.Laws.{entries_keep_the_ranges, held_trips_keep_the_ranges}
-use Rattle.tariff_compile.specs.Tables.{TableParts}
 use Rattle.meter_states.specs.Acts.{IsLawfulAct, KeepsRanges}
-use Rattle.meter_model.specs.declared.act.Act.{Act}
-use Rattle.meter_model.specs.declared.act.Act.TheVariants.{Show, Refuse, Enter, Hold, Receipt}
+use Rattle.meter_states.specs.Common.{Act, Durable, Enter, Hold, IsDurable, Receipt, Refuse, Show, TableParts}
 
 pub act-keeps : (tables : TableParts) (durable : Durable) (act : Act) → IsDurable durable
     → IsLawfulAct tables durable.number act → KeepsRanges durable act

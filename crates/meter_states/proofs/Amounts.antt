@@ -1,11 +1,8 @@
 -- Counts that a tariff allows, and the sum of their amounts.
-use Rattle.std.proofs.Common.{◌≡◌, ℕ, zero, suc, ◌+◌, ◌*◌, ◌<◌, ◌≤◌, List, [], ◌∷◌, Option, All, length, get_or, set}
-use Rattle.std.proofs.Common.{ap, subst, arith}
-use Rattle.std.proofs.Math.Nat.{mul-le-mul_right}
-use Rattle.std.proofs.lemmas.List.Elements.{All-from_recursion}
-use Rattle.std.specs.List.{AllByRecursion}
-use Rattle.tariff_check.specs.declared.values.Supplement.{Supplement}
-use Rattle.meter_model.specs.Supplements.{AreAllowed, amount_in, amounts_from, most_in}
+use Rattle.std.{specs.List.{AllByRecursion}, proofs.Math.Nat.{mul-le-mul_right}}
+use Rattle.std.proofs.Common.{[], ℕ, ◌*◌, ◌+◌, ◌<◌, ◌∷◌, ◌≡◌, ◌≤◌, All, List, Option, ap, arith, get_or, length, set}
+use Rattle.std.proofs.{Common.{subst, suc, zero}, lemmas.List.Elements.{All-from_recursion}}
+use Rattle.meter_states.specs.Common.{AreAllowed, Supplement, amount_in, amounts_from, most_in}
 
 -- what every supplement of a tariff keeps to
 pub record AreBounded (supplement : ℕ → Option Supplement) : Type 0 where

@@ -1,34 +1,18 @@
 -- The weights of the tables give the charges that the rate's own numbers give.
-use Rattle.std.proofs.Common.{◌≡◌, ℕ, zero, suc, ◌+◌, ◌-◌, ◌*◌, ◌/◌, ◌<◌, ◌≤◌, Bool, true, false, cond, List, [], ◌∷◌}
-use Rattle.std.proofs.Common.{Option, length, get_or, refl, ap, sym, subst, ◌∙◌, ltb, arith}
-use Rattle.std.specs.List.{flat_map}
-use Rattle.std.specs.Option.{unwrap_or}
-use Rattle.std.proofs.lemmas.Bool.{ltb-true, ltb-false, lt-ltb, le-ltb}
-use Rattle.std.proofs.lemmas.Grind.{common_steps}
-use Rattle.std.proofs.lemmas.List.{get_or-map}
-use Rattle.std.proofs.lemmas.List.Elements.{All-get_or, All-head, All-tail}
-use Rattle.std.proofs.Math.Nat.{mul_assoc, mul_comm, mul_left_comm, mul-pos, mul-le-mul_right, le_of_mul-le-mul_right}
-use Rattle.std.proofs.Math.Nat.{lt_of_mul-lt-mul_right, mul-lt-mul_of_pos_right}
-use Rattle.drive_modes.specs.declared.charges.Mode.{Mode}
-use Rattle.drive_modes.specs.declared.charges.Mode.TheVariants.{Single, Double}
-use Rattle.drive_modes.specs.declared.charges.Weights.{Weights}
-use Rattle.drive_modes.specs.Charge.{charge_of}
-use Rattle.tariff_syntax.specs.Tree.{Tree}
-use Rattle.tariff_syntax.specs.Writable.{IsWritable}
-use Rattle.tariff_syntax.specs.declared.context.Context.{Context}
-use Rattle.tariff_check.specs.Faults.{IsSound}
-use Rattle.tariff_check.specs.Measure.{IsMultipleOfAll, measure_of}
-use Rattle.tariff_check.specs.Parts.{RateNumbers, rates_of}
-use Rattle.tariff_check.specs.Sound.{IsSoundRate}
-use Rattle.tariff_check.specs.SoundLookups.{rate_in_force}
-use Rattle.tariff_check.specs.SoundTariff.{SoundTariff, sound_of}
-use Rattle.tariff_check.specs.declared.choice.ChoiceKind.TheVariants.{Rate}
-use Rattle.tariff_check.proofs.Laws.{sound_tariffs_have_sound_parts-parts, measures_are_least-least}
-use Rattle.tariff_check.proofs.Laws.{measures_are_least-sound, lines_that_hold_are_there-rate}
-use Rattle.tariff_compile.specs.Tables.{TableParts, all_weights, rate_by, weights_in_force, weights_of}
-use Rattle.meter_model.specs.Charge.{charge_at, charge_by}
-use Rattle.meter_model.specs.Setting.{Setting}
-use Rattle.meter_states.specs.Setting.{IsTariffOf}
+use Rattle.std.{specs.List.{flat_map}, proofs.lemmas.Bool.{le-ltb, lt-ltb, ltb-false, ltb-true}}
+use Rattle.std.{specs.Option.{unwrap_or}, proofs.Common.{false, get_or, length, ltb, refl, subst, suc, sym, true, zero}}
+use Rattle.std.proofs.Common.{[], ℕ, ◌*◌, ◌+◌, ◌-◌, ◌/◌, ◌<◌, ◌∙◌, ◌∷◌, ◌≡◌, ◌≤◌, Bool, List, Option, ap, arith, cond}
+use Rattle.std.proofs.Math.Nat.{le_of_mul-le-mul_right, lt_of_mul-lt-mul_right, mul-le-mul_right}
+use Rattle.std.proofs.Math.Nat.{mul-lt-mul_of_pos_right, mul-pos, mul_assoc, mul_comm, mul_left_comm}
+use Rattle.std.proofs.lemmas.{Grind.{common_steps}, List.{get_or-map, Elements.{All-get_or, All-head, All-tail}}}
+use Rattle.{drive_modes.specs.declared.charges.Mode.TheVariants.{Double, Single}, meter_model.specs.Charge.{charge_by}}
+use Rattle.{tariff_syntax.specs.Writable.{IsWritable}, tariff_check.proofs.Laws.{sound_tariffs_have_sound_parts-parts}}
+use Rattle.tariff_check.specs.{Measure.{IsMultipleOfAll, measure_of}, declared.choice.ChoiceKind.TheVariants.{Rate}}
+use Rattle.tariff_check.specs.{Parts.{RateNumbers, rates_of}, SoundLookups.{rate_in_force}, SoundTariff.{sound_of}}
+use Rattle.{tariff_check.specs.Sound.{IsSoundRate}, tariff_compile.specs.Tables.{all_weights, weights_of}}
+use Rattle.tariff_check.proofs.Laws.{lines_that_hold_are_there-rate, measures_are_least-least, measures_are_least-sound}
+use Rattle.meter_states.specs.Common.{Context, IsSound, Mode, Setting, SoundTariff, TableParts, Tree, Weights}
+use Rattle.meter_states.specs.{Common.{charge_at, charge_of, rate_by, weights_in_force}, Setting.{IsTariffOf}}
 
 -- numbers that are scaled alike compare alike
 same-below : (d t a c v w : ℕ) → 0 < v → 0 < w → d * v ≡ a * w → t * v ≡ c * w → (b : Bool) → ltb d t ≡ b → ltb a c ≡ b

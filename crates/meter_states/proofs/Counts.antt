@@ -1,7 +1,7 @@
 -- How often each number stands in a list.
-use Rattle.std.proofs.Common.{◌≡◌, ℕ, zero, suc, ◌+◌, ◌<◌, List, [], ◌∷◌, ◌++◌, get_or, set, refl, ap, sym, ◌∙◌, arith}
-use Rattle.std.proofs.lemmas.Grind.{common_steps}
-use Rattle.meter_model.specs.Supplements.{counts_from, counts_of, times}
+use Rattle.std.proofs.Common.{[], ℕ, ◌++◌, ◌+◌, ◌<◌, ◌∙◌, ◌∷◌, ◌≡◌, List, ap, arith, get_or, refl, set, suc, sym, zero}
+use Rattle.{std.proofs.lemmas.Grind.{common_steps}, meter_model.specs.Supplements.{counts_from, counts_of}}
+use Rattle.meter_states.specs.Common.{times}
 
 times-same : (n : ℕ) (xs : List ℕ) → times n (xs ++ n ∷ []) ≡ times n xs + 1
 times-same n xs = grind (arith, common_steps)

@@ -1,16 +1,8 @@
 -- When a core shows a display.
-use Rattle.std.proofs.Common.{◌≡◌, ◌↔◌, true, false, None, Some, Option, List, [], ◌∷◌, ◌++◌, append-nil, ap, sym}
-use Rattle.std.proofs.Common.{◌∙◌}
-use Rattle.tariff_compile.specs.Tables.{TableParts}
-use Rattle.taxi_units.specs.declared.receipt.Display.{Display}
-use Rattle.meter_model.specs.Display.{display_of, is_shown, same_display, shown}
-use Rattle.meter_model.specs.Meter.{Meter}
-use Rattle.meter_model.specs.Setting.{Setting}
-use Rattle.meter_model.specs.declared.act.Act.{Act}
-use Rattle.meter_model.specs.declared.act.Act.TheVariants.{Show}
-use Rattle.meter_model.proofs.Laws.{displays_are_compared_by_their_fields-same}
-use Rattle.meter_states.specs.Core.{CoreData, ComesToOutcome, core_of}
-use Rattle.meter_states.specs.Equals.{display_by}
+use Rattle.std.proofs.Common.{[], ◌++◌, ◌↔◌, ◌∙◌, ◌∷◌, ◌≡◌, List, None, Option, Some, ap, append-nil, false, sym, true}
+use Rattle.meter_model.{specs.Display.{same_display}, proofs.Laws.{displays_are_compared_by_their_fields-same}}
+use Rattle.meter_states.specs.Common.{Act, Display, Meter, Setting, Show, TableParts, display_of, is_shown, shown}
+use Rattle.meter_states.specs.{Core.{ComesToOutcome, CoreData, core_of}, Equals.{display_by}}
 use Rattle.meter_states.proofs.Quiet.{same-self}
 
 -- a display that is shown is the one that was shown last

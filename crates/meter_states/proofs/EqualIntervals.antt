@@ -1,45 +1,20 @@
 -- Equal intervals in each operating position.
-use Rattle.std.proofs.Common.{◌≡◌, ◌≢◌, ◌⊎◌, inl, inr, ℕ, suc, ◌+◌, ◌-◌, ◌*◌, ◌^◌, ◌<◌, ◌≤◌, [], Option, Some, None}
-use Rattle.std.proofs.Common.{option_map, sum, refl, ap, sym, subst, ◌∙◌, arith, rules}
-use Rattle.std.proofs.Math.Nat.{mul-le-mul_right}
-use Rattle.std.proofs.lemmas.Grind.{common_steps}
-use Rattle.drive_modes.specs.Fare.{added, saved, steps_of}
-use Rattle.drive_modes.specs.declared.meterage.Meterage.{Meterage}
-use Rattle.drive_modes.specs.declared.meterage.Rounding.{Rounding}
-use Rattle.drive_modes.specs.declared.meterage.Rounding.TheVariants.{Behind, Ahead}
-use Rattle.drive_modes.specs.Charge.{charge_of}
-use Rattle.drive_modes.specs.declared.charges.Mode.{Mode}
-use Rattle.drive_modes.specs.declared.charges.Weights.{Weights}
-use Rattle.seal_record.specs.declared.seal.Seal.{Seal}
-use Rattle.tariff_compile.specs.Near.{IsNear}
-use Rattle.tariff_compile.specs.Tables.{IsInRangeFor, TableParts, weights_in_force}
-use Rattle.tariff_compile.specs.declared.parts.Lasting.{Lasting}
-use Rattle.tariff_syntax.specs.declared.context.Context.{Context}
-use Rattle.taxi_units.specs.declared.event.Operating.{Operating}
-use Rattle.taxi_units.specs.declared.event.Operating.TheVariants.{Off, ForHire, Hired, Stopped}
-use Rattle.taxi_units.specs.declared.receipt.Display.{Display}
-use Rattle.meter_model.specs.declared.core_trip.CoreTrip.{CoreTrip}
-use Rattle.meter_model.specs.Charge.{charge_at}
-use Rattle.meter_states.specs.Core.{CoreData, ComesToOutcome, core_of}
-use Rattle.meter_states.specs.EqualStages.{HasTaken, LastsFrom, charged, passed, unfilled}
+use Rattle.std.proofs.Common.{[], ℕ, ◌*◌, ◌+◌, ◌-◌, ◌<◌, ◌^◌, ◌∙◌, ◌≡◌, ◌≢◌, ◌≤◌, ◌⊎◌, None, Option, Some, ap, arith}
+use Rattle.std.proofs.{Common.{inl, inr, option_map, refl, rules, subst, suc, sum, sym}, Math.Nat.{mul-le-mul_right}}
+use Rattle.{std.proofs.lemmas.Grind.{common_steps}, tariff_compile.specs.declared.parts.Lasting.{Lasting}}
+use Rattle.drive_modes.specs.declared.meterage.Rounding.TheVariants.{Ahead, Behind}
+use Rattle.meter_model.specs.{Interval.{pulses_so_far, roaming_with, with_interval}, Trip.{InStopped, Part}}
+use Rattle.meter_states.specs.Common.{Cache, CachedRate, Context, CoreTrip, Display, ForHire, Hired, InHired}
+use Rattle.meter_states.specs.Common.{IsInRangeFor, IsNear, Meter, MeterTrip, Meterage, Mode, Off, Operating, Rounding}
+use Rattle.meter_states.specs.Common.{Seal, Setting, Stopped, TableParts, Weights, added, charge_at, charge_of}
+use Rattle.meter_states.specs.Common.{charges_of, context_of, context_on, core_trip_of, counted_in, fare_by_fees}
+use Rattle.meter_states.specs.Common.{local_at, longest_trip, modulus_of, opening_of, roaming_between, run, saved}
+use Rattle.meter_states.{specs.Common.{steps_of, ticks_so_far, weights_in_force, with_part}, proofs.Charges.{charge-at}}
+use Rattle.meter_states.specs.{Core.{ComesToOutcome, CoreData, core_of}, Lawful.{IsBetweenEvents, IsTripBeside}}
+use Rattle.meter_states.{specs.EqualStages.{HasTaken, LastsFrom, charged, passed, unfilled}, proofs.Trips.{hired-saved}}
 use Rattle.meter_states.specs.Equals.{IsStill, MayBeCharged, MayGo, MayGoIn, display_by, intervals_of, roams, spare_of}
-use Rattle.meter_model.specs.Interval.{context_of, context_on, counted_in, pulses_so_far, roaming_with, ticks_so_far}
-use Rattle.meter_model.specs.Interval.{with_interval}
-use Rattle.meter_states.specs.Lawful.{IsBetweenEvents, IsTripBeside}
-use Rattle.meter_model.specs.Meter.{Meter}
-use Rattle.meter_model.specs.Run.{run}
-use Rattle.meter_model.specs.Setting.{Setting, local_at, modulus_of}
 use Rattle.meter_states.specs.Setting.{IsSettingOf, IsTariffOf}
-use Rattle.meter_states.specs.declared.cache.Cache.{Cache}
-use Rattle.meter_states.specs.declared.cache.CachedRate.{CachedRate}
-use Rattle.meter_model.specs.Trip.{MeterTrip, InHired, InStopped, charges_of, core_trip_of, fare_by_fees, opening_of}
-use Rattle.meter_model.specs.Trip.{Part, with_part}
-use Rattle.taxi_units.specs.Time.{longest_trip}
-use Rattle.meter_states.proofs.Charges.{charge-at}
-use Rattle.meter_states.proofs.Meterages.{added-less, sum-added}
-use Rattle.meter_states.proofs.Quiet.{interval-follows, intervals-follow, ticks_by}
-use Rattle.meter_states.proofs.Trips.{hired-saved}
-use Rattle.taxi_units.specs.Limits.{roaming_between}
+use Rattle.meter_states.proofs.{Meterages.{added-less, sum-added}, Quiet.{interval-follows, intervals-follow, ticks_by}}
 
 on_in : (operating other : Operating) → operating ≡ other → other ≢ Off → operating ≢ Off
 on_in operating other is on off = on (sym is ∙ off)

@@ -1,17 +1,9 @@
 -- A trip that fits the tables fits their setting.
-use Rattle.std.proofs.Common.{◌≡◌, ◌<◌, ℕ, ◌+◌, ◌*◌, List, [], ◌∷◌, Option, length, refl, ap, ◌∙◌, subst, arith, rules}
-use Rattle.tariff_compile.specs.Tables.{TableParts}
-use Rattle.tariff_check.specs.SoundTariff.{supplement_numbered}
-use Rattle.tariff_check.specs.declared.values.Supplement.{Supplement}
-use Rattle.totals_record.specs.declared.trip.Trip.{Trip}
+use Rattle.std.proofs.Common.{[], ℕ, ◌*◌, ◌+◌, ◌<◌, ◌∙◌, ◌∷◌, ◌≡◌, List, Option, ap, arith, length, refl, rules, subst}
+use Rattle.meter_states.specs.Common.{FitsSetting, Setting, Supplement, TableParts, Trip, amount_in, amounts_from}
+use Rattle.meter_states.{specs.Common.{supplement_numbered}, proofs.TableSupplements.{supplement-of-setting}}
 use Rattle.meter_states.specs.Fits.{Fits}
-use Rattle.meter_model.specs.KeptTrip.{FitsSetting}
-use Rattle.meter_model.specs.Setting.{Setting}
-use Rattle.meter_states.specs.Setting.{IsTariffOf}
-use Rattle.meter_model.specs.Supplements.{amount_in, amounts_from}
-use Rattle.meter_states.specs.Supplements.{supplement_in}
-use Rattle.meter_states.proofs.Settings.{step-is, unit-is}
-use Rattle.meter_states.proofs.TableSupplements.{supplement-of-setting}
+use Rattle.meter_states.{specs.{Setting.{IsTariffOf}, Supplements.{supplement_in}}, proofs.Settings.{step-is, unit-is}}
 
 amounts-same : (f g : ℕ → Option Supplement) (first : ℕ) (counts : List ℕ) → ((n : ℕ) → f n ≡ g n)
     → amounts_from f first counts ≡ amounts_from g first counts

@@ -1,31 +1,14 @@
 -- What a key does, as a stage of an event.
-use Rattle.std.proofs.Common.{◌≡◌, ◌≢◌, ℕ, ◌+◌, ◌<◌, ◌≤◌, true, List, [], ◌∷◌, ◌++◌, length, ◌⊎◌, Option, Some, None}
-use Rattle.std.proofs.Common.{refl, ap, sym, subst, ◌∙◌, inl, inr, arith, rules}
-use Rattle.std.proofs.lemmas.Grind.{common_steps}
-use Rattle.seal_record.specs.declared.seal.Seal.{Seal}
-use Rattle.tariff_compile.specs.Tables.{TableParts}
-use Rattle.tariff_check.specs.declared.values.Supplement.{Supplement}
-use Rattle.taxi_units.specs.declared.event.Key.{Key}
-use Rattle.taxi_units.specs.declared.event.Operating.{Operating}
-use Rattle.taxi_units.specs.declared.event.Operating.TheVariants.{Off, ForHire, Hired, Stopped}
-use Rattle.taxi_units.specs.declared.event.Why.{Why}
-use Rattle.meter_states.specs.Acts.{StayLawful}
-use Rattle.meter_states.specs.Core.{CoreData, ComesToOutcome, core_of}
-use Rattle.meter_model.specs.Keys.{act_done, act_of, extra_added_to, key_in, key_pressed, latch_pressed}
-use Rattle.meter_states.specs.Lawful.{HasTrip, IsAmidEvent, is_busy, pressing_steps}
-use Rattle.meter_model.specs.Meter.{Meter, Outcome, quiet, refused}
-use Rattle.meter_model.specs.Setting.{Setting}
-use Rattle.meter_states.specs.Setting.{IsSettingOf}
-use Rattle.meter_states.specs.Stages.{ClosesTrip, CommitsNothing, IsReadyForKey, MayClose, Stage}
-use Rattle.meter_model.specs.Supplements.{times}
-use Rattle.meter_model.specs.Trip.{MeterTrip, with_extra}
-use Rattle.meter_model.specs.declared.act.Act.{Act}
-use Rattle.meter_model.specs.declared.act.Act.TheVariants.{Refuse}
-use Rattle.meter_model.specs.declared.key_act.KeyAct.{KeyAct}
-use Rattle.meter_model.specs.declared.core_trip.CoreTrip.{CoreTrip}
-use Rattle.meter_states.proofs.Outcomes.{quiet-follows}
-use Rattle.meter_states.proofs.Powered.{between-amid, powered-unlatched}
-use Rattle.meter_states.proofs.Pushes.{few-more, few-none, lawful-more}
+use Rattle.std.proofs.Common.{[], ℕ, ◌++◌, ◌+◌, ◌<◌, ◌∙◌, ◌∷◌, ◌≡◌, ◌≢◌, ◌≤◌, ◌⊎◌, List, None, Option, Some, ap, arith}
+use Rattle.std.proofs.{Common.{inl, inr, length, refl, rules, subst, sym, true}, lemmas.Grind.{common_steps}}
+use Rattle.meter_model.specs.{Keys.{act_done, act_of, key_in}, Meter.{refused}, declared.key_act.KeyAct.{KeyAct}}
+use Rattle.meter_states.specs.{Acts.{StayLawful}, Stages.{ClosesTrip, CommitsNothing, IsReadyForKey, MayClose, Stage}}
+use Rattle.meter_states.specs.Common.{Act, CoreTrip, ForHire, Hired, Key, Meter, MeterTrip, Off, Operating, Outcome}
+use Rattle.meter_states.specs.Common.{Refuse, Seal, Setting, Stopped, Supplement, TableParts, Why, extra_added_to}
+use Rattle.meter_states.specs.{Common.{key_pressed, latch_pressed, quiet, times, with_extra}, Setting.{IsSettingOf}}
+use Rattle.meter_states.specs.Core.{ComesToOutcome, CoreData, core_of}
+use Rattle.meter_states.{specs.Lawful.{HasTrip, IsAmidEvent, is_busy, pressing_steps}, proofs.Outcomes.{quiet-follows}}
+use Rattle.meter_states.proofs.{Powered.{between-amid, powered-unlatched}, Pushes.{few-more, few-none, lawful-more}}
 
 -- a key does what its act does
 follows-act : (s : Setting) (m : Meter) (old new : CoreData) (before acts : List Act) (key : Key) (act : KeyAct)

@@ -1,23 +1,11 @@
 -- The laws of the public empty functions.
-use Rattle.std.proofs.Common.{◌≡◌, List, ◌++◌, length, None}
-use Rattle.tariff_compile.specs.Tables.{TableParts}
-use Rattle.taxi_units.specs.declared.event.Event.{Event}
-use Rattle.totals_record.specs.States.{after_all}
-use Rattle.totals_record.specs.declared.durable_state.Durable.{Durable}
-use Rattle.totals_record.specs.declared.trip.Trip.{Trip}
-use Rattle.meter_states.specs.Fits.{Fits}
-use Rattle.meter_model.specs.KeptTrip.{FitsSetting, IsTripKept}
-use Rattle.meter_model.specs.Meter.{Meter}
-use Rattle.meter_states.specs.Pairs.{ArePaired, commits_of}
-use Rattle.meter_model.specs.Run.{actions_of, run, run_both, whole_run}
-use Rattle.meter_model.specs.Setting.{Setting}
-use Rattle.meter_states.specs.Setting.{IsTariffOf}
-use Rattle.meter_model.specs.Step.{step}
-use Rattle.meter_states.proofs.HeldFits.{fits-setting}
-use Rattle.meter_model.proofs.Laws.{kept-run, run-append}
-use Rattle.meter_states.proofs.Stages.{commits-step, commits-whole}
-pub use Rattle.meter_states.proofs.MadeOf.{made_by}
+use Rattle.std.proofs.Common.{◌++◌, ◌≡◌, List, None, length}
+use Rattle.meter_model.{specs.{KeptTrip.{IsTripKept}, Run.{actions_of, run_both}}, proofs.Laws.{kept-run, run-append}}
+use Rattle.meter_states.specs.Common.{Durable, Event, FitsSetting, Meter, Setting, TableParts, Trip, after_all, run}
+use Rattle.meter_states.{specs.{Common.{step, whole_run}, Fits.{Fits}}, proofs.Stages.{commits-step, commits-whole}}
+use Rattle.meter_states.{specs.{Pairs.{ArePaired, commits_of}, Setting.{IsTariffOf}}, proofs.HeldFits.{fits-setting}}
 pub use Rattle.meter_model.proofs.Laws.{the_store_keeps_the_trip-begins, the_store_keeps_the_trip-step}
+pub use Rattle.meter_states.proofs.MadeOf.{made_by}
 
 pub receipts_follow_their_entries-run : (s : Setting) (durable : Durable) (events : List Event)
     → ArePaired durable.number None (actions_of s durable events)

@@ -1,13 +1,8 @@
 -- Tables and a seal that are made of two texts.
-use Rattle.std.proofs.Common.{◌≡◌, ℕ, List, Ok, refl, ap}
-use Rattle.meter_model.specs.Setting.{setting_by}
-use Rattle.meter_states.specs.Setting.{IsSettingOf}
-use Rattle.seal_record.specs.Reading.{params_read}
-use Rattle.seal_record.specs.declared.seal.Seal.{Seal}
-use Rattle.tariff_check.specs.Faults.{IsSound}
-use Rattle.tariff_compile.specs.Tables.{IsTablesOf, TableParts, tables_of}
-use Rattle.tariff_syntax.specs.Reads.{Reads}
-use Rattle.tariff_syntax.specs.Tree.{Tree}
+use Rattle.std.proofs.Common.{ℕ, ◌≡◌, List, Ok, ap, refl}
+use Rattle.{seal_record.specs.Reading.{params_read}, tariff_syntax.specs.Reads.{Reads}}
+use Rattle.{tariff_compile.specs.Tables.{tables_of}, meter_model.specs.Setting.{setting_by}}
+use Rattle.meter_states.specs.{Common.{IsSound, IsTablesOf, Seal, TableParts, Tree}, Setting.{IsSettingOf}}
 use Rattle.meter_states.specs.MadeOf.{AreMadeOf}
 
 -- tables that are compiled of a tree under the constant of a seal are those of the setting of both

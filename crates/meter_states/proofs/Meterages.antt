@@ -1,11 +1,8 @@
 -- A charge more.
-use Rattle.std.proofs.Common.{◌≡◌, ℕ, ◌+◌, ◌-◌, ◌*◌, ◌^◌, ◌/◌, ◌%◌, ◌<◌, ◌≤◌, [], ◌∷◌, sum, ap, sym, ◌∙◌, arith}
-use Rattle.std.proofs.lemmas.Grind.{common_steps}
+use Rattle.std.proofs.Common.{[], ℕ, ◌%◌, ◌*◌, ◌+◌, ◌-◌, ◌/◌, ◌<◌, ◌^◌, ◌∙◌, ◌∷◌, ◌≡◌, ◌≤◌, ap, arith, sum, sym}
+use Rattle.{std.proofs.lemmas.Grind.{common_steps}, drive_modes.proofs.Laws.{saved-sum}}
+use Rattle.meter_states.specs.Common.{Meterage, Rounding, added, saved, steps_of}
 use Rattle.drive_modes.specs.Fare as fares
-use Rattle.drive_modes.specs.Fare.{added, saved, steps_of}
-use Rattle.drive_modes.specs.declared.meterage.Meterage.{Meterage}
-use Rattle.drive_modes.specs.declared.meterage.Rounding.{Rounding}
-use Rattle.drive_modes.proofs.Laws.{saved-sum}
 
 small-div : (x y : ℕ) → x < y → x / y ≡ 0
 small-div x y below = grind (arith, common_steps)

@@ -1,26 +1,13 @@
 -- How stages that follow one another join, and which cores meet the outcome of an event.
-use Rattle.std.proofs.Common.{◌≡◌, ◌≢◌, ℕ, List, [], ◌∷◌, refl, ap, sym, append-nil, ◌∙◌, ◌⊎◌, inl, inr, subst, Option}
-use Rattle.std.proofs.Common.{Some, None, option_map, append_assoc}
-use Rattle.tariff_compile.specs.Tables.{TableParts}
-use Rattle.taxi_units.specs.declared.event.Event.{Event}
-use Rattle.taxi_units.specs.declared.event.Event.TheVariants.{Up, Down, Pulses, Tick, Clock, Key}
-use Rattle.taxi_units.specs.declared.event.Operating.{Operating}
-use Rattle.taxi_units.specs.declared.event.Operating.TheVariants.{Off, ForHire, Hired, Stopped}
-use Rattle.taxi_units.specs.declared.event.Why.TheVariants.{NotNow}
-use Rattle.meter_model.specs.declared.core_trip.CoreTrip.{CoreTrip}
-use Rattle.meter_states.specs.Core.{CoreData, ComesToOutcome, Meets, Stands, core_of}
-use Rattle.meter_model.specs.Display.{fare_shown}
-use Rattle.meter_states.specs.Lawful.{IsBetweenEvents, IsPowered, HasTrip}
-use Rattle.meter_model.specs.Meter.{Meter, Outcome, ◌>>=◌, quiet}
-use Rattle.meter_model.specs.Setting.{Setting}
-use Rattle.meter_model.specs.Step.{off_step, powered_step, step, step_in}
-use Rattle.meter_model.specs.Supply.{supply_dropped}
+use Rattle.std.proofs.Common.{[], ℕ, ◌∙◌, ◌∷◌, ◌≡◌, ◌≢◌, ◌⊎◌, List, None, Option, Some, ap, append-nil, append_assoc}
+use Rattle.{std.proofs.Common.{inl, inr, option_map, refl, subst, sym}, meter_model.specs.Supply.{supply_dropped}}
+use Rattle.{taxi_units.specs.declared.event.Event.TheVariants.{Clock, Down, Key, Up}, meter_model.specs.Step.{off_step}}
+use Rattle.meter_states.specs.Common.{◌>>=◌, Act, CoreTrip, Event, ForHire, Hired, Meter, NotNow, Off, Operating}
+use Rattle.meter_states.specs.Common.{Outcome, Pulses, Refuse, Setting, Stopped, TableParts, Tick, core_trip_of}
+use Rattle.meter_states.specs.Common.{fare_shown, powered_step, quiet, roaming_between, step, step_in}
+use Rattle.meter_states.{specs.Core.{ComesToOutcome, CoreData, Meets, Stands, core_of}, proofs.Powered.{stands-on}}
+use Rattle.meter_states.specs.Lawful.{HasTrip, IsBetweenEvents, IsPowered}
 use Rattle.meter_model.specs.Trip as model
-use Rattle.meter_model.specs.Trip.{core_trip_of}
-use Rattle.meter_model.specs.declared.act.Act.{Act}
-use Rattle.meter_model.specs.declared.act.Act.TheVariants.{Refuse}
-use Rattle.meter_states.proofs.Powered.{stands-on}
-use Rattle.taxi_units.specs.Limits.{roaming_between}
 
 pub not_off : (operating : Operating) (trip : Option CoreTrip) → HasTrip operating trip → operating ≢ Off
 not_off operating trip has = λ is. subst (λ (o : Operating). HasTrip o trip) is has

@@ -1,17 +1,10 @@
 -- What a powered core has in its operating position, and cores in wider ranges.
-use Rattle.std.proofs.Common.{◌≡◌, ◌≢◌, ◌⊎◌, ◌↔◌, ℕ, ◌+◌, ◌<◌, ◌≤◌, Bool, true, false, Option, Some, None, inl, inr}
-use Rattle.std.proofs.Common.{refl, ap, sym, subst, ◌∙◌, arith, rules}
-use Rattle.tariff_compile.specs.Tables.{TableParts}
-use Rattle.taxi_units.specs.declared.event.Key.{Key}
-use Rattle.taxi_units.specs.declared.event.Operating.{Operating}
-use Rattle.taxi_units.specs.declared.event.Operating.TheVariants.{Off, ForHire, Hired, Stopped}
-use Rattle.meter_model.specs.declared.core_trip.CoreTrip.{CoreTrip}
+use Rattle.std.proofs.Common.{ℕ, ◌+◌, ◌<◌, ◌↔◌, ◌∙◌, ◌≡◌, ◌≢◌, ◌≤◌, ◌⊎◌, Bool, None, Option, Some, ap, arith, false}
+use Rattle.std.proofs.Common.{inl, inr, refl, rules, subst, sym, true}
+use Rattle.meter_states.specs.Common.{CoreTrip, ForHire, Hired, Key, Meter, Off, Operating, Setting, Stopped}
+use Rattle.meter_states.specs.{Common.{TableParts, last_number, roaming_amid, roaming_between}, Lawful.{IsTripInRange}}
 use Rattle.meter_states.specs.Core.{CoreData, Stands, core_of}
 use Rattle.meter_states.specs.Lawful.{HasBegunBy, HasTrip, IsAmidEvent, IsBetweenEvents, IsPowered, IsTripBeside}
-use Rattle.meter_states.specs.Lawful.{IsTripInRange}
-use Rattle.meter_model.specs.Meter.{Meter}
-use Rattle.meter_model.specs.Setting.{Setting}
-use Rattle.taxi_units.specs.Limits.{last_number, roaming_amid, roaming_between}
 
 -- a meter without a trip is for hire
 pub none-hires : (operating : Operating) (trip : Option CoreTrip) → HasTrip operating trip → trip ≡ None

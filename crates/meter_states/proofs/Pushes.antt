@@ -1,14 +1,8 @@
 -- Acts with one act more: how many they are, and that they stay lawful.
-use Rattle.std.proofs.Common.{◌≡◌, ℕ, ◌+◌, ◌<◌, ◌≤◌, false, List, [], ◌∷◌, ◌++◌, length, length-append, arith}
-use Rattle.std.proofs.lemmas.List.Elements.{All-push}
-use Rattle.tariff_compile.specs.Tables.{TableParts}
-use Rattle.taxi_units.specs.declared.receipt.Kind.{Kind}
-use Rattle.taxi_units.specs.declared.receipt.Kind.TheVariants.{Roam}
-use Rattle.totals_record.specs.Entries.{closes}
-use Rattle.totals_record.specs.declared.entry.Entry.{Entry}
-use Rattle.std.proofs.lemmas.Grind.{common_steps}
+use Rattle.std.proofs.Common.{[], ℕ, ◌++◌, ◌+◌, ◌<◌, ◌∷◌, ◌≡◌, ◌≤◌, List, arith, false, length, length-append}
+use Rattle.{std.proofs.lemmas.{Grind.{common_steps}, List.Elements.{All-push}}, totals_record.specs.Entries.{closes}}
+use Rattle.{taxi_units.specs.declared.receipt.Kind.{Kind}, meter_states.specs.Common.{Act, Entry, Roam, TableParts}}
 use Rattle.meter_states.specs.Acts.{IsLawfulAct, StayLawful}
-use Rattle.meter_model.specs.declared.act.Act.{Act}
 
 pub few-more : (before acts : List Act) (act : Act) → acts ≡ before ++ act ∷ [] → length acts ≤ length before + 1
 few-more before acts act e = rw e (rw length-append (omega arith))

@@ -1,38 +1,21 @@
 -- Intervals at which nothing is done.
-use Rattle.std.proofs.Common.{◌≡◌, ◌≢◌, ℕ, zero, suc, ◌+◌, ◌<◌, ◌≤◌, nat_le, if◌then◌else◌, Bool, true, false, List, []}
-use Rattle.std.proofs.Common.{◌∷◌, ◌++◌, Option, Some, None, option_map, sum, refl, ap, sym, subst, ◌∙◌, arith}
-use Rattle.std.proofs.lemmas.Grind.{common_steps}
-use Rattle.drive_modes.specs.Fare.{above_cover, quotient, saved, steps_above, steps_of}
-use Rattle.drive_modes.specs.Fare as fares
-use Rattle.drive_modes.specs.declared.meterage.Rounding.{Rounding}
-use Rattle.drive_modes.proofs.Laws.{shown-sum}
-use Rattle.tariff_compile.specs.Tables.{TableParts}
-use Rattle.taxi_units.specs.Time.{longest_trip}
-use Rattle.taxi_units.specs.declared.event.Event.{Event}
-use Rattle.taxi_units.specs.declared.event.Event.TheVariants as events
-use Rattle.taxi_units.specs.declared.event.Key.{Key}
-use Rattle.taxi_units.specs.declared.event.Operating.{Operating}
-use Rattle.taxi_units.specs.declared.event.Operating.TheVariants.{Off, ForHire, Hired, Stopped}
-use Rattle.taxi_units.specs.declared.receipt.Display.{Display}
-use Rattle.meter_model.specs.declared.core_trip.CoreTrip.{CoreTrip}
-use Rattle.meter_model.specs.Closing.{roaming_checked, roaming_checked_in, roaming_entered}
-use Rattle.meter_states.specs.Core.{CoreData, ComesToOutcome, core_of}
-use Rattle.meter_model.specs.Display.{display_of, extras_shown, fare_shown, is_shown, same_display, shown}
+use Rattle.std.proofs.Common.{[], ℕ, ◌++◌, ◌+◌, ◌<◌, ◌∙◌, ◌∷◌, ◌≡◌, ◌≢◌, ◌≤◌, Bool, List, None, Option, Some, ap, arith}
+use Rattle.std.proofs.Common.{false, if◌then◌else◌, nat_le, option_map, refl, subst, suc, sum, sym, true, zero}
+use Rattle.{std.proofs.lemmas.Grind.{common_steps}, drive_modes.specs.Fare.{above_cover, quotient}}
+use Rattle.{drive_modes.proofs.Laws.{shown-sum}, meter_model.specs.Display.{extras_shown, same_display}}
+use Rattle.meter_model.{specs.ClosedTrip.{roaming_checked_in}, proofs.Laws.{above-more, run-append}}
+use Rattle.{meter_model.specs.{Interval.{pulses_taken}, Setting.{rounding_of}}, meter_states.specs.Setting.{IsTariffOf}}
+use Rattle.meter_states.specs.Common.{◌>>=◌, Act, CoreTrip, Display, Event, ForHire, Hired, Key, Meter, MeterTrip, Off}
+use Rattle.meter_states.specs.Common.{Operating, Outcome, Rounding, Setting, Show, Stopped, TableParts, charges_of}
+use Rattle.meter_states.specs.Common.{core_trip_of, counted_in, display_of, expired, expired_or_pressed, fare_by_fees}
+use Rattle.meter_states.specs.Common.{fare_shown, interval_begun, is_shown, key_pressed, latch_pressed, longest_trip}
+use Rattle.meter_states.specs.Common.{modulus_of, opening_of, powered_step, quiet, roaming_between, roaming_checked}
+use Rattle.meter_states.specs.Common.{roaming_entered, roaming_most, run, saved, shown, step_in, steps_above, steps_of}
+use Rattle.meter_states.{specs.Common.{ticked, ticks_so_far}, proofs.Settings.{decimals-is, rounding-is, step-is}}
+use Rattle.meter_states.{specs.Core.{ComesToOutcome, CoreData, core_of}, proofs.Outcomes.{follows-then}}
 use Rattle.meter_states.specs.Equals.{IsStill, display_by, extras_by, fare_by, interval_of, intervals_of}
-use Rattle.meter_model.specs.Interval.{counted_in, interval_begun, pulses_taken, ticks_so_far}
-use Rattle.meter_model.specs.Keys.{key_pressed, latch_pressed}
-use Rattle.meter_model.specs.Meter.{Meter, Outcome, ◌>>=◌, quiet}
-use Rattle.meter_model.specs.Run.{run}
-use Rattle.meter_model.specs.Setting.{Setting, modulus_of, rounding_of}
-use Rattle.meter_states.specs.Setting.{IsTariffOf}
-use Rattle.meter_model.specs.Step.{expired, expired_or_pressed, powered_step, step_in, ticked}
-use Rattle.meter_model.specs.Trip.{MeterTrip, charges_of, fare_by_fees, opening_of, core_trip_of}
-use Rattle.meter_model.specs.declared.act.Act.{Act}
-use Rattle.meter_model.specs.declared.act.Act.TheVariants.{Show}
-use Rattle.meter_model.proofs.Laws.{above-more, run-append}
-use Rattle.meter_states.proofs.Outcomes.{follows-then}
-use Rattle.meter_states.proofs.Settings.{decimals-is, rounding-is, step-is}
-use Rattle.taxi_units.specs.Limits.{roaming_between, roaming_most}
+use Rattle.drive_modes.specs.Fare as fares
+use Rattle.taxi_units.specs.declared.event.Event.TheVariants as events
 
 -- as many intervals as the cores that they lead through
 pub intervals-follow : (s : Setting) (p k : ℕ) (f : ℕ → CoreData) (m : Meter)

@@ -1,18 +1,9 @@
 -- What the check of the roaming pulses does if they are many.
-use Rattle.std.proofs.Common.{◌≡◌, ℕ, ◌+◌, ◌<◌, ◌≤◌, ◌⊎◌, List, sum, inl, inr, ap, subst, ◌∙◌, arith}
-use Rattle.std.proofs.lemmas.Grind.{common_steps}
-use Rattle.tariff_compile.specs.Tables.{TableParts}
-use Rattle.taxi_units.specs.declared.event.Operating.{Operating}
-use Rattle.taxi_units.specs.declared.event.Operating.TheVariants.{ForHire}
-use Rattle.meter_states.specs.Acts.{StayLawful}
-use Rattle.meter_model.specs.Closing.{roaming_checked, roaming_checked_in, roaming_entered}
-use Rattle.meter_states.specs.Core.{CoreData}
-use Rattle.meter_states.specs.Lawful.{IsAmidEvent, IsPowered}
-use Rattle.meter_model.specs.Meter.{Meter}
-use Rattle.meter_model.specs.Setting.{Setting}
-use Rattle.meter_model.specs.declared.act.Act.{Act}
-use Rattle.meter_states.proofs.Powered.{powered-within, trip-spare}
-use Rattle.taxi_units.specs.Limits.{roaming_amid}
+use Rattle.std.proofs.Common.{ℕ, ◌+◌, ◌<◌, ◌∙◌, ◌≡◌, ◌≤◌, ◌⊎◌, List, ap, arith, inl, inr, subst, sum}
+use Rattle.{std.proofs.lemmas.Grind.{common_steps}, meter_model.specs.ClosedTrip.{roaming_checked_in}}
+use Rattle.meter_states.specs.{Acts.{StayLawful}, Core.{CoreData}, Lawful.{IsAmidEvent, IsPowered}}
+use Rattle.meter_states.specs.Common.{Act, ForHire, Meter, Operating, Setting, TableParts, roaming_amid}
+use Rattle.meter_states.{specs.Common.{roaming_checked, roaming_entered}, proofs.Powered.{powered-within, trip-spare}}
 
 many-in : (s : Setting) (m : Meter) → 1000000 ≤ sum m.roaming → roaming_checked_in s ForHire m ≡ roaming_entered s m
 many-in s m many = grind (arith, common_steps)

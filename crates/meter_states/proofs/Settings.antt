@@ -1,11 +1,8 @@
 -- What tables have of their setting.
-use Rattle.std.proofs.Common.{◌≡◌, ℕ, ◌*◌, ◌<◌, ◌≤◌, ap, sym, ◌∙◌, arith}
-use Rattle.std.proofs.Math.Nat.{mul-pos}
-use Rattle.tariff_check.specs.Measure.{measure_of}
-use Rattle.tariff_check.specs.SoundTariff.{SoundTariff}
-use Rattle.tariff_compile.specs.Tables.{IsFit, TableParts}
-use Rattle.meter_model.specs.Setting.{Setting, rounding_of, unit_of, modulus_of}
-use Rattle.meter_states.specs.Setting.{IsTariffOf}
+use Rattle.std.proofs.{Common.{ℕ, ◌*◌, ◌<◌, ◌∙◌, ◌≡◌, ◌≤◌, ap, arith, sym}, Math.Nat.{mul-pos}}
+use Rattle.{tariff_check.specs.Measure.{measure_of}, tariff_compile.specs.Tables.{IsFit}}
+use Rattle.meter_model.specs.Setting.{rounding_of, unit_of}
+use Rattle.meter_states.specs.{Common.{Setting, SoundTariff, TableParts, modulus_of}, Setting.{IsTariffOf}}
 
 pub unit-is : (s : Setting) (p : TableParts) → IsTariffOf s p → p.measure ≡ unit_of s
 unit-is s p is =

@@ -1,30 +1,16 @@
 -- Each stage of an event commits what its acts say, and puts a receipt directly behind its entry.
-use Rattle.std.proofs.Common.{◌≡◌, ℕ, ◌+◌, List, [], ◌∷◌, ◌++◌, length, Option, Some, None, refl, ap, subst, sym, ◌∙◌}
-use Rattle.std.proofs.Common.{arith}
-use Rattle.std.proofs.lemmas.Grind.{common_steps}
-use Rattle.taxi_units.specs.declared.event.Event.{Event}
-use Rattle.taxi_units.specs.declared.event.Event.TheVariants as events
-use Rattle.taxi_units.specs.declared.event.Operating.{Operating}
-use Rattle.taxi_units.specs.declared.event.Operating.TheVariants.{Off, ForHire, Hired, Stopped}
-use Rattle.totals_record.specs.States.{after, after_all}
-use Rattle.totals_record.specs.declared.change.Change.{Change}
-use Rattle.totals_record.specs.declared.change.Change.TheVariants as changes
-use Rattle.totals_record.specs.declared.durable_state.Durable.{Durable}
-use Rattle.totals_record.specs.declared.entry.Entry.{Entry}
-use Rattle.totals_record.specs.declared.trip.Trip.{Trip}
-use Rattle.totals_record.proofs.Laws.{changes_add_up}
-use Rattle.meter_model.specs.Closing.{roaming_checked}
-use Rattle.meter_model.specs.Display.{shown}
-use Rattle.meter_model.specs.Interval.{interval_begun, interval_counted, interval_left}
-use Rattle.meter_model.specs.Meter.{Meter, Outcome, ◌>>=◌}
+use Rattle.std.proofs.Common.{[], ℕ, ◌++◌, ◌+◌, ◌∙◌, ◌∷◌, ◌≡◌, List, None, Option, Some, ap, arith, length, refl, subst}
+use Rattle.{std.proofs.{Common.{sym}, lemmas.Grind.{common_steps}}, totals_record.specs.declared.change.Change.{Change}}
+use Rattle.totals_record.{specs.States.{after}, proofs.Laws.{changes_add_up}}
+use Rattle.meter_model.specs.{Interval.{interval_left}, Run.{ended, ended_in, opened}, Step.{off_step}}
+use Rattle.meter_model.specs.Supply.{held_or_closed, powered, supply_came, supply_dropped, turned_off}
+use Rattle.meter_states.specs.Common.{◌>>=◌, Act, Durable, Enter, Entry, Event, ForHire, Hired, Hold, Meter, MeterTrip}
+use Rattle.meter_states.specs.Common.{Off, Operating, Outcome, Receipt, Refuse, Setting, Show, Stopped, Trip, after_all}
+use Rattle.meter_states.specs.Common.{expired_or_pressed, hold_taken, interval_begun, interval_counted, powered_step}
+use Rattle.meter_states.specs.Common.{roaming_checked, run, shown, step, step_in, ticked, whole_run}
 use Rattle.meter_states.specs.Pairs.{ArePaired, commits_of, waiting_after}
-use Rattle.meter_model.specs.Run.{ended, ended_in, opened, run, whole_run}
-use Rattle.meter_model.specs.Setting.{Setting}
-use Rattle.meter_model.specs.Step.{expired_or_pressed, off_step, powered_step, step, step_in, ticked}
-use Rattle.meter_model.specs.Supply.{hold_taken, held_or_closed, powered, supply_came, supply_dropped, turned_off}
-use Rattle.meter_model.specs.Trip.{MeterTrip}
-use Rattle.meter_model.specs.declared.act.Act.{Act}
-use Rattle.meter_model.specs.declared.act.Act.TheVariants.{Show, Refuse, Enter, Hold, Receipt}
+use Rattle.taxi_units.specs.declared.event.Event.TheVariants as events
+use Rattle.totals_record.specs.declared.change.Change.TheVariants as changes
 
 -- the store has what the acts commit, and receipts follow their entries
 pub record Commits (m : Meter) (o : Outcome) : Type 0 where

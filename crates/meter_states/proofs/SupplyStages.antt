@@ -1,17 +1,9 @@
 -- What a drop of the supply and its coming do in each case.
-use Rattle.std.proofs.Common.{◌≡◌, ℕ, ◌<◌, ◌≤◌, true, false, Option, Some, None, option_map, sum, refl, ap, ◌∙◌, arith}
-use Rattle.std.proofs.lemmas.Grind.{common_steps}
-use Rattle.taxi_units.specs.declared.receipt.Kind.TheVariants.{Aborted, Roam}
-use Rattle.taxi_units.specs.Time.{IsSecond}
-use Rattle.totals_record.specs.Ranges.{IsHeld}
-use Rattle.totals_record.specs.declared.trip.Trip.{Trip}
-use Rattle.meter_model.specs.Closing.{closed, roaming_entered}
-use Rattle.meter_model.specs.Meter.{Meter, quiet, held}
-use Rattle.meter_model.specs.Setting.{Setting}
-use Rattle.meter_model.specs.Supply.{aborted, hold_taken, is_stopped, is_within_hold, held_or_closed, resumed}
-use Rattle.meter_model.specs.Supply.{trip_held_or_closed}
-use Rattle.meter_model.specs.Trip.{MeterTrip, held_trip, core_trip_of}
-use Rattle.taxi_units.specs.Limits.{last_number}
+use Rattle.std.proofs.Common.{ℕ, ◌<◌, ◌∙◌, ◌≡◌, ◌≤◌, None, Option, Some, ap, arith, false, option_map, refl, sum, true}
+use Rattle.{std.proofs.lemmas.Grind.{common_steps}, meter_model.specs.{Meter.{held}, Trip.{held_trip}}}
+use Rattle.meter_model.specs.Supply.{aborted, held_or_closed, is_stopped, is_within_hold, resumed, trip_held_or_closed}
+use Rattle.meter_states.specs.Common.{Aborted, IsHeld, IsSecond, Meter, MeterTrip, Roam, Setting, Trip, closed}
+use Rattle.meter_states.specs.Common.{core_trip_of, hold_taken, last_number, quiet, roaming_entered}
 
 pub aborted-closes : Aborted ≡ Roam → ⊥
 aborted-closes is = cc

@@ -1,25 +1,14 @@
 -- The supplements of tables are those of the tariff.
-use Rattle.std.proofs.Common.{◌≡◌, ◌≢◌, ℕ, zero, suc, ltb, Bool, true, ◌+◌, ◌<◌, ◌≤◌, All, List, [], ◌∷◌, Option, Some}
-use Rattle.std.proofs.Common.{None, false, get_or, length, refl, ap, sym, ◌∙◌, arith}
-use Rattle.std.proofs.lemmas.Bool.{ltb-false, ltb-true}
-use Rattle.std.proofs.lemmas.List.FromFn.{get_or-map-range_with_len, length-map-range_with_len}
-use Rattle.std.proofs.lemmas.List.{get_or_past}
+use Rattle.std.proofs.Common.{[], ℕ, ◌+◌, ◌<◌, ◌∙◌, ◌∷◌, ◌≡◌, ◌≢◌, ◌≤◌, All, Bool, List, None, Option, Some, ap, arith}
+use Rattle.std.proofs.Common.{false, get_or, length, ltb, refl, suc, sym, true, zero}
+use Rattle.{std.proofs.lemmas.Bool.{ltb-false, ltb-true}, taxi_units.specs.Limits.{largest_supplements}}
+use Rattle.std.proofs.lemmas.List.{get_or_past, FromFn.{get_or-map-range_with_len, length-map-range_with_len}}
+use Rattle.{tariff_syntax.specs.Writable.{IsFromTo, IsWritable}, tariff_check.specs.Parts.{supplement_of}}
 use Rattle.tariff_check.proofs.Laws.{sound_tariffs_have_sound_parts-parts, supplements_are_numbered_to_16}
-use Rattle.tariff_check.specs.Faults.{IsSound}
-use Rattle.tariff_check.specs.Parts.{supplement_of}
-use Rattle.tariff_check.specs.SoundTariff.{SoundTariff, supplement_numbered}
-use Rattle.tariff_compile.specs.Tables.{IsCompiled, IsTablesOf, TableParts}
-use Rattle.tariff_check.specs.declared.values.Supplement.{Supplement}
-use Rattle.tariff_syntax.specs.Tree.{Tree}
-use Rattle.tariff_syntax.specs.Writable.{IsFromTo, IsWritable}
-use Rattle.meter_model.specs.Setting.{Setting}
-use Rattle.meter_states.specs.Setting.{IsTariffOf}
-use Rattle.meter_model.specs.Supplements.{AreAllowed, amount_in, amounts_from, most_in}
-use Rattle.meter_states.specs.Supplements.{supplement_in}
-use Rattle.meter_model.specs.declared.core_trip.CoreTrip.{CoreTrip}
-use Rattle.meter_states.specs.Lawful.{IsLawfulTrip}
-use Rattle.meter_states.proofs.Amounts.{AreBounded, allowed-few, amounts-most}
-use Rattle.taxi_units.specs.Limits.{largest_supplements}
+use Rattle.{tariff_compile.specs.Tables.{IsCompiled}, meter_states.specs.{Lawful.{IsLawfulTrip}, Setting.{IsTariffOf}}}
+use Rattle.meter_states.specs.Common.{AreAllowed, CoreTrip, IsSound, IsTablesOf, Setting, SoundTariff, Supplement}
+use Rattle.meter_states.specs.Common.{TableParts, Tree, amount_in, amounts_from, most_in, supplement_numbered}
+use Rattle.meter_states.{specs.Supplements.{supplement_in}, proofs.Amounts.{AreBounded, allowed-few, amounts-most}}
 
 -- a tariff has no supplement of another number than 1 to 16
 pub supplement-none : (t : Tree) (n : ℕ) → IsWritable t → (IsFromTo 1 16 n → ⊥) → supplement_of t.lines n ≡ None

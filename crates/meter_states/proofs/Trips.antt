@@ -1,25 +1,12 @@
 -- What the core keeps of a trip is its saved form.
-use Rattle.std.proofs.Common.{◌≡◌, ℕ, ◌+◌, ◌-◌, ◌*◌, ◌≤◌, List, [], ◌∷◌, ◌++◌, get_or, set, sum, ap, sym, ◌∙◌, arith}
-use Rattle.std.proofs.Common.{Option, Some, None, option_map}
-use Rattle.std.proofs.lemmas.Grind.{common_steps}
-use Rattle.std.proofs.lemmas.Option.{same_Some}
-use Rattle.drive_modes.specs.declared.meterage.Meterage.{Meterage}
-use Rattle.drive_modes.specs.Fare.{saved}
-use Rattle.tariff_compile.specs.Tables.{TableParts}
-use Rattle.tariff_check.specs.SoundTariff.{supplement_numbered}
-use Rattle.tariff_check.specs.declared.values.Initial.{Initial}
-use Rattle.tariff_syntax.specs.declared.context.Context.{Context}
-use Rattle.meter_model.specs.declared.core_trip.CoreTrip.{CoreTrip}
-use Rattle.meter_model.specs.Charge.{charge_at}
-use Rattle.meter_states.specs.Core.{CoreData, core_of}
-use Rattle.meter_model.specs.Interval.{with_interval}
-use Rattle.meter_model.specs.Meter.{Meter}
-use Rattle.meter_model.specs.Setting.{Setting, modulus_of, unit_of}
-use Rattle.meter_states.specs.Setting.{IsTariffOf}
-use Rattle.meter_model.specs.Supplements.{amount_in, amounts_of, counts_of, times}
-use Rattle.meter_model.specs.Trip.{MeterTrip, InHired, Part, begun, charges_of, opening_of, core_trip_of, with_extra}
-use Rattle.meter_model.specs.Trip.{with_part}
-use Rattle.meter_states.proofs.Counts.{counts-at, counts-more, counts-none}
+use Rattle.std.proofs.Common.{[], ℕ, ◌*◌, ◌++◌, ◌+◌, ◌-◌, ◌∙◌, ◌∷◌, ◌≡◌, ◌≤◌, List, None, Option, Some, ap, arith}
+use Rattle.std.proofs.{Common.{get_or, option_map, set, sum, sym}, lemmas.{Grind.{common_steps}, Option.{same_Some}}}
+use Rattle.{tariff_check.specs.declared.values.Initial.{Initial}, meter_model.specs.Supplements.{amounts_of, counts_of}}
+use Rattle.meter_model.specs.{Interval.{with_interval}, Setting.{unit_of}, Trip.{Part, begun}}
+use Rattle.meter_states.specs.Common.{Context, CoreTrip, InHired, Meter, MeterTrip, Meterage, Setting, TableParts}
+use Rattle.meter_states.specs.Common.{amount_in, charge_at, charges_of, core_trip_of, modulus_of, opening_of, saved}
+use Rattle.meter_states.specs.{Common.{supplement_numbered, times, with_extra, with_part}, Core.{CoreData, core_of}}
+use Rattle.meter_states.{specs.Setting.{IsTariffOf}, proofs.Counts.{counts-at, counts-more, counts-none}}
 use Rattle.meter_states.proofs.Settings.{unit-is}
 
 -- a trip that begins

@@ -1,18 +1,11 @@
 -- Rules: the ranges of what the meter does.
-use Rattle.std.specs.Prelude.{◌≡◌, ℕ, ◌+◌, ◌≤◌, false, List, All}
-use Rattle.tariff_compile.specs.Tables.{TableParts}
-use Rattle.taxi_units.specs.Shown.{IsShown, IsReceipt}
-use Rattle.totals_record.specs.Entries.{closes}
-use Rattle.totals_record.specs.Ranges.{IsDurable, IsEntry, IsTripInItsRanges}
-use Rattle.totals_record.specs.States.{after}
-use Rattle.totals_record.specs.declared.change.Change.TheVariants as changes
-use Rattle.totals_record.specs.declared.durable_state.Durable.{Durable}
-use Rattle.totals_record.specs.declared.entry.Entry as store
-use Rattle.totals_record.specs.declared.trip.Trip.{Trip}
+use Rattle.std.specs.Prelude.{ℕ, ◌+◌, ◌≡◌, ◌≤◌, All, List, false}
+use Rattle.{taxi_units.specs.Shown.{IsReceipt, IsShown}, totals_record.specs.Ranges.{IsEntry, IsTripInItsRanges}}
+use Rattle.{totals_record.specs.{Entries.{closes}, States.{after}}, meter_states.specs.Common.{last_number}}
+use Rattle.meter_states.specs.Common.{Act, Durable, Enter, Hold, IsDurable, Receipt, Refuse, Show, TableParts, Trip}
 use Rattle.meter_states.specs.Fits.{Fits}
-use Rattle.meter_model.specs.declared.act.Act.{Act}
-use Rattle.meter_model.specs.declared.act.Act.TheVariants.{Show, Refuse, Enter, Hold, Receipt}
-use Rattle.taxi_units.specs.Limits.{last_number}
+use Rattle.totals_record.specs.declared.change.Change.TheVariants as changes
+use Rattle.totals_record.specs.declared.entry.Entry as store
 
 -- an entry may be made beside a store's number of at most 2 * 10^15 if it is in its ranges; an entry of roaming leaves
 -- room for the entry of a trip

@@ -1,23 +1,13 @@
 -- Rules: the cache of a core, which is what was looked up and when it still serves.
-use Rattle.std.specs.Prelude.{◌≡◌, ℕ, ◌≤◌, true}
-use Rattle.std.specs.Option.{ForSome}
-use Rattle.interval_clock.specs.LocalTime.{local_second, local_time_of}
-use Rattle.interval_clock.specs.declared.local_time.LocalTime.{LocalTime}
-use Rattle.seal_record.specs.declared.seal.Seal.{Seal}
-use Rattle.tariff_calendar.specs.Lists.{has_days, is_holiday}
-use Rattle.tariff_compile.specs.Near.{IsNear}
-use Rattle.tariff_compile.specs.Tables.{AreFit, IsInRangeFor, IsTablesOf, TableParts, rate_by}
-use Rattle.tariff_syntax.specs.Tree.{Tree}
-use Rattle.tariff_syntax.specs.Writable.{IsFromTo}
-use Rattle.tariff_syntax.specs.declared.context.Context.{Context}
-use Rattle.meter_states.specs.Core.{CoreData}
-use Rattle.meter_states.specs.declared.cache.Cache.{Cache}
-use Rattle.meter_states.specs.declared.cache.CachedTime.{CachedTime}
-use Rattle.meter_states.specs.declared.cache.CachedRate.{CachedRate}
+use Rattle.std.specs.{Option.{ForSome}, Prelude.{ℕ, ◌≡◌, ◌≤◌, true}}
+use Rattle.interval_clock.specs.{LocalTime.{local_second, local_time_of}, declared.local_time.LocalTime.{LocalTime}}
+use Rattle.{tariff_syntax.specs.Writable.{IsFromTo}, tariff_calendar.specs.Lists.{has_days, is_holiday}}
+use Rattle.meter_states.specs.Common.{AreFit, Cache, CachedRate, CachedTime, Context, IsInRangeFor, IsNear, IsTablesOf}
+use Rattle.meter_states.specs.{Common.{Seal, TableParts, Tree, rate_by}, Core.{CoreData}}
 
--- a core beside its cache has its plain data, and what was looked up for it last
+-- a core beside its cache has its own state, and what was looked up for it last
 pub record CachedCore : Type 0 where
-  pub plain : CoreData
+  pub state : CoreData
   pub cache : Cache
 
 -- the local time of a second is that by the sealed offsets

@@ -1,16 +1,9 @@
--- Rules: the core as plain data, and which state of the meter it stands for.
-use Rattle.std.specs.Prelude.{◌≡◌, ◌≢◌, ◌⊎◌, ℕ, List, ◌++◌, Option, option_map, sum}
-use Rattle.taxi_units.specs.declared.event.Key.{Key}
-use Rattle.taxi_units.specs.declared.event.Operating.{Operating}
-use Rattle.taxi_units.specs.declared.event.Operating.TheVariants.{Off}
-use Rattle.taxi_units.specs.declared.receipt.Display.{Display}
-use Rattle.meter_model.specs.Meter.{Meter, Outcome}
-use Rattle.meter_model.specs.Setting.{Setting}
-use Rattle.meter_model.specs.Trip.{core_trip_of}
-use Rattle.meter_model.specs.declared.act.Act.{Act}
-use Rattle.meter_model.specs.declared.core_trip.CoreTrip.{CoreTrip}
+-- Rules: the core's own state, and which state of the meter it stands for.
+use Rattle.std.specs.Prelude.{ℕ, ◌++◌, ◌≡◌, ◌≢◌, ◌⊎◌, List, Option, option_map, sum}
+use Rattle.meter_states.specs.Common.{Act, CoreTrip, Display, Key, Meter, Off, Operating, Outcome, Setting}
+use Rattle.meter_states.specs.Common.{core_trip_of}
 
--- a core as plain data has counts in place of lists, the sums of the trip in place of its intervals, and the store's
+-- a core's own state has counts in place of lists, the sums of the trip in place of its intervals, and the store's
 -- number in place of what the store has
 pub record CoreData : Type 0 where
   pub operating : Operating

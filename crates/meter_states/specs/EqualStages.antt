@@ -1,17 +1,9 @@
 -- For proofs: a core that carries out equal measuring intervals at once. `Equals` says what they are, and when one more
 -- of them may go.
-use Rattle.std.specs.Prelude.{◌≡◌, ℕ, ◌+◌, ◌-◌, ◌*◌, ◌≤◌, []}
-use Rattle.drive_modes.specs.declared.meterage.Meterage.{Meterage}
-use Rattle.seal_record.specs.declared.seal.Seal.{Seal}
-use Rattle.tariff_compile.specs.Tables.{TableParts}
-use Rattle.tariff_compile.specs.declared.parts.Lasting.{Lasting}
-use Rattle.meter_states.specs.Core.{CoreData}
-use Rattle.meter_states.specs.Equals.{intervals_of}
-use Rattle.meter_states.specs.Lawful.{IsBetweenEvents}
-use Rattle.meter_model.specs.Run.{run}
-use Rattle.meter_states.specs.Stages.{FollowsStage}
-use Rattle.meter_states.specs.declared.cache.CachedRate.{CachedRate}
-use Rattle.meter_model.specs.declared.core_trip.CoreTrip.{CoreTrip}
+use Rattle.std.specs.Prelude.{[], ℕ, ◌*◌, ◌+◌, ◌-◌, ◌≡◌, ◌≤◌}
+use Rattle.{tariff_compile.specs.declared.parts.Lasting.{Lasting}, meter_states.specs.Equals.{intervals_of}}
+use Rattle.meter_states.specs.{Common.{CachedRate, CoreTrip, Meterage, Seal, TableParts, run}, Lawful.{IsBetweenEvents}}
+use Rattle.meter_states.specs.{Core.{CoreData}, Stages.{FollowsStage}}
 
 -- a core has taken `taken` of `count` equal intervals if these are at most as many, it is between two events then, and
 -- its operating position and the store's number are the same

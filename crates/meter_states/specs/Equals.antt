@@ -1,28 +1,11 @@
 -- Rules: equal measuring intervals, one after the other, and when one more of them may go at once with those before.
-use Rattle.std.specs.Prelude.{◌≡◌, ℕ, zero, suc, ◌+◌, ◌-◌, ◌*◌, ◌<◌, ◌≤◌, ◌==◌, if◌then◌else◌, nat_lt, Option, Some}
-use Rattle.std.specs.Prelude.{None, List, [], ◌∷◌, ◌++◌}
-use Rattle.drive_modes.specs.Charge.{charge_of}
-use Rattle.drive_modes.specs.Fare.{steps_of}
-use Rattle.drive_modes.specs.declared.meterage.Meterage.{Meterage}
-use Rattle.drive_modes.specs.declared.meterage.Rounding.{Rounding}
-use Rattle.drive_modes.specs.declared.meterage.Rounding.TheVariants.{Behind, Ahead}
-use Rattle.seal_record.specs.declared.seal.Seal.{Seal}
-use Rattle.tariff_compile.specs.Near.{IsNear}
-use Rattle.tariff_compile.specs.Tables.{TableParts}
-use Rattle.tariff_syntax.specs.declared.context.Context.{Context}
-use Rattle.taxi_units.specs.Time.{longest_trip}
-use Rattle.taxi_units.specs.declared.event.Event.{Event}
-use Rattle.taxi_units.specs.declared.event.Event.TheVariants.{Pulses, Tick}
-use Rattle.taxi_units.specs.declared.event.Operating.{Operating}
-use Rattle.taxi_units.specs.declared.event.Operating.TheVariants.{Off, ForHire, Hired, Stopped}
-use Rattle.taxi_units.specs.declared.receipt.Display.{Display}
-use Rattle.meter_states.specs.Core.{CoreData}
-use Rattle.meter_model.specs.Trip.{fare_by_fees}
-use Rattle.meter_states.specs.declared.cache.Cache.{Cache}
-use Rattle.meter_states.specs.declared.cache.CachedTime.{CachedTime}
-use Rattle.meter_states.specs.declared.cache.CachedRate.{CachedRate}
-use Rattle.meter_model.specs.declared.core_trip.CoreTrip.{CoreTrip}
-use Rattle.taxi_units.specs.Limits.{hirings_end, roaming_most}
+use Rattle.std.specs.Prelude.{[], ℕ, ◌*◌, ◌++◌, ◌+◌, ◌-◌, ◌<◌, ◌==◌, ◌∷◌, ◌≡◌, ◌≤◌, List, None, Option, Some}
+use Rattle.std.specs.Prelude.{if◌then◌else◌, nat_lt, suc, zero}
+use Rattle.{taxi_units.specs.Limits.{hirings_end}, meter_states.specs.Core.{CoreData}}
+use Rattle.drive_modes.specs.declared.meterage.Rounding.TheVariants.{Ahead, Behind}
+use Rattle.meter_states.specs.Common.{Cache, CachedRate, CachedTime, Context, CoreTrip, Display, Event, ForHire, Hired}
+use Rattle.meter_states.specs.Common.{IsNear, Meterage, Off, Operating, Pulses, Rounding, Seal, Stopped, TableParts}
+use Rattle.meter_states.specs.Common.{Tick, charge_of, fare_by_fees, longest_trip, roaming_most, steps_of}
 
 -- a measuring interval has the event of its pulses, if it has any, and then the tick at its end
 abbrev pub interval_of : (pulses : ℕ) → List Event

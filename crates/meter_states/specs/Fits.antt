@@ -1,11 +1,8 @@
 -- Rules: which saved trips fit the tables.
 use Rattle.std.specs.Prelude.{◌*◌}
-use Rattle.tariff_compile.specs.Tables.{TableParts}
-use Rattle.taxi_units.specs.Money.{largest_amount}
-use Rattle.taxi_units.specs.Test.{Test, at_most, less, same, stated, within, ◌&◌}
-use Rattle.totals_record.specs.declared.trip.Trip.{Trip}
-use Rattle.meter_model.specs.Supplements.{allowed_test, amounts_from}
-use Rattle.meter_states.specs.Supplements.{supplement_in}
+use Rattle.taxi_units.specs.Test.{◌&◌, Test, at_most, less, same, stated, within}
+use Rattle.meter_model.specs.Supplements.{allowed_test}
+use Rattle.meter_states.specs.{Common.{TableParts, Trip, amounts_from, largest_amount}, Supplements.{supplement_in}}
 
 -- the tests of a saved trip under tables: its position and zone are among the tariff's, what was charged fits the
 -- display step and the cover, and its supplements are ones that the tariff allows, with their amounts

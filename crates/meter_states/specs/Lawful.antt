@@ -1,21 +1,12 @@
 -- Rules: which cores are lawful.
-use Rattle.std.specs.Prelude.{◌≡◌, ◌≢◌, ◌⊎◌, Bool, true, false, ℕ, ◌+◌, ◌*◌, ◌<◌, ◌≤◌, List, Option, Some, None, length}
-use Rattle.drive_modes.specs.declared.meterage.Meterage.{Meterage}
-use Rattle.tariff_compile.specs.Tables.{IsCompiled, TableParts}
-use Rattle.taxi_units.specs.Money.{largest_amount}
-use Rattle.taxi_units.specs.Time.{IsSecond, last_tick}
-use Rattle.taxi_units.specs.declared.event.Event.{Event}
-use Rattle.taxi_units.specs.declared.event.Event.TheVariants as events
-use Rattle.taxi_units.specs.declared.event.Operating.{Operating}
-use Rattle.taxi_units.specs.declared.event.Operating.TheVariants.{Off, ForHire, Hired, Stopped}
-use Rattle.seal_record.specs.declared.seal.Seal.{Seal}
+use Rattle.std.specs.Prelude.{ℕ, ◌*◌, ◌+◌, ◌<◌, ◌≡◌, ◌≢◌, ◌≤◌, ◌⊎◌, Bool, List, None, Option, Some, false, length, true}
+use Rattle.{taxi_units.specs.Limits.{hirings_end}, tariff_compile.specs.Tables.{IsCompiled}}
+use Rattle.{meter_model.specs.declared.core_trip.Fees.{Fees}, meter_states.specs.Supplements.{supplement_in}}
+use Rattle.meter_states.specs.{Cache.{CachedCore, IsCacheOf}, Common.{number_most, roaming_amid, roaming_between}}
+use Rattle.meter_states.specs.Common.{AreAllowed, CoreTrip, Event, ForHire, Hired, IsSecond, Meterage, Off, Operating}
+use Rattle.meter_states.specs.Common.{Seal, Stopped, TableParts, amounts_from, largest_amount, last_number, last_tick}
 use Rattle.meter_states.specs.Core.{CoreData}
-use Rattle.meter_states.specs.Cache.{IsCacheOf, CachedCore}
-use Rattle.meter_model.specs.Supplements.{AreAllowed, amounts_from}
-use Rattle.meter_states.specs.Supplements.{supplement_in}
-use Rattle.meter_model.specs.declared.core_trip.CoreTrip.{CoreTrip}
-use Rattle.meter_model.specs.declared.core_trip.Fees.{Fees}
-use Rattle.taxi_units.specs.Limits.{hirings_end, last_number, number_most, roaming_amid, roaming_between}
+use Rattle.taxi_units.specs.declared.event.Event.TheVariants as events
 
 -- an event is timely if its second, if any, is of the years 2000 to 2199
 abbrev pub IsTimely : Event → Type 0
@@ -110,7 +101,7 @@ IsAmidEvent tables core = IsPowered tables last_tick roaming_amid 0 core
 -- and the seal; the cache only saves look-ups, and takes no part in which state of the meter the core stands for, as
 -- the clause `takes` of `Core::step_into` says
 pub record IsLawful (tables : TableParts) (seal : Seal) (core : CachedCore) : Type 0 where
-  pub powered : (core.plain.operating ≡ Off) ⊎ IsBetweenEvents tables core.plain
+  pub powered : (core.state.operating ≡ Off) ⊎ IsBetweenEvents tables core.state
   pub cache : IsCacheOf tables seal core.cache
 
 -- the test `is_busy` is true if a trip runs in an operating position

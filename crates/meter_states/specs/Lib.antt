@@ -3,6 +3,7 @@ pub mod Cache
 pub mod Core
 pub mod EqualStages
 pub mod Equals
+pub mod EventOnCore
 pub mod Fits
 pub mod Lawful
 pub mod MadeOf
@@ -10,5 +11,5 @@ pub mod Pairs
 pub mod Refusals
 pub mod Setting
 pub mod Stages
-pub mod Stepping
 pub mod Supplements
+pub mod Common

@@ -1,12 +1,7 @@
 -- Rules: of which texts tables and a seal are made.
-use Rattle.std.specs.Prelude.{◌≡◌, ℕ, List, Ok}
-use Rattle.meter_model.specs.Setting.{setting_by}
-use Rattle.seal_record.specs.Reading.{params_read}
-use Rattle.seal_record.specs.declared.seal.Seal.{Seal}
-use Rattle.tariff_check.specs.Faults.{IsSound}
-use Rattle.tariff_compile.specs.Tables.{TableParts}
-use Rattle.tariff_syntax.specs.Reads.{Reads}
-use Rattle.tariff_syntax.specs.Tree.{Tree}
+use Rattle.std.specs.Prelude.{ℕ, ◌≡◌, List, Ok}
+use Rattle.{seal_record.specs.Reading.{params_read}, tariff_syntax.specs.Reads.{Reads}}
+use Rattle.{meter_model.specs.Setting.{setting_by}, meter_states.specs.Common.{IsSound, Seal, TableParts, Tree}}
 use Rattle.meter_states.specs.Setting.{IsSettingOf}
 
 -- tables and a seal are made of two texts if the first reads as a sound tariff and the second as parameters, and they

@@ -1,13 +1,9 @@
 -- Rules: receipts and their entries, and what of a list of acts is committed.
-use Rattle.std.specs.Prelude.{◌≡◌, ℕ, ◌+◌, List, [], ◌∷◌, Option, Some, None}
-use Rattle.taxi_units.specs.declared.receipt.Kind.{Kind}
-use Rattle.taxi_units.specs.declared.receipt.Kind.TheVariants.{Roam}
+use Rattle.std.specs.Prelude.{[], ℕ, ◌+◌, ◌∷◌, ◌≡◌, List, None, Option, Some}
+use Rattle.{taxi_units.specs.declared.receipt.Kind.{Kind}, totals_record.specs.declared.change.Change.{Change}}
+use Rattle.meter_states.specs.Common.{Act, Enter, Entry, Hold, Receipt, Roam}
 use Rattle.taxi_units.specs.declared.receipt.Receipt as receipts
-use Rattle.totals_record.specs.declared.change.Change.{Change}
 use Rattle.totals_record.specs.declared.change.Change.TheVariants as changes
-use Rattle.totals_record.specs.declared.entry.Entry.{Entry}
-use Rattle.meter_model.specs.declared.act.Act.{Act}
-use Rattle.meter_model.specs.declared.act.Act.TheVariants.{Enter, Hold, Receipt}
 
 -- a receipt is that of an entry if it has the entry's kind, position, distance, fare and supplements
 pub record IsReceiptOf (entry : Entry) (receipt : receipts.Receipt) : Type 0 where

@@ -1,6 +1,5 @@
 -- Rules: the one refusal that leaves something behind.
-use Rattle.taxi_units.specs.declared.event.Why.{Why}
-use Rattle.taxi_units.specs.declared.event.Why.TheVariants.{TooFast}
+use Rattle.{taxi_units.specs.declared.event.Why.TheVariants.{TooFast}, meter_states.specs.Common.{Why}}
 
 -- a reason is TooFast, with any number of pulses
 abbrev pub IsTooFast : Why → Type 0

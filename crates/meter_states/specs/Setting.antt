@@ -1,10 +1,7 @@
 -- Rules: which tables are those of what the meter goes by.
 use Rattle.std.specs.Prelude.{◌≡◌}
-use Rattle.seal_record.specs.declared.seal.Seal.{Seal}
 use Rattle.tariff_check.specs.SoundTariff.{sound_of}
-use Rattle.tariff_compile.specs.Tables.{TableParts, IsTablesOf}
-use Rattle.tariff_syntax.specs.Tree.{Tree}
-use Rattle.meter_model.specs.Setting.{Setting, IsSealOf}
+use Rattle.meter_states.specs.Common.{IsSealOf, IsTablesOf, Seal, Setting, TableParts, Tree}
 
 -- tables are those of a setting if they are compiled, under its constant, from a tariff with the setting's parts
 pub record IsTariffOf (s : Setting) (tables : TableParts) : Type 0 where

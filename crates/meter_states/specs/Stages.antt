@@ -1,28 +1,13 @@
 -- For proofs: what a core keeps as it carries out a stage of an event, and how it follows the meter. `Core::step` says
 -- what the stages of an event come to.
-use Rattle.std.specs.Prelude.{◌≡◌, ◌≢◌, ◌⊎◌, ◌≤◌, ◌+◌, true, ℕ, List, [], Option, None, length}
-use Rattle.seal_record.specs.declared.seal.Seal.{Seal}
-use Rattle.tariff_compile.specs.Tables.{TableParts}
-use Rattle.taxi_units.specs.Limits.{last_number, number_most}
-use Rattle.taxi_units.specs.Time.{IsSecond, longest_trip}
-use Rattle.taxi_units.specs.declared.event.Operating.{Operating}
-use Rattle.taxi_units.specs.declared.event.Operating.TheVariants.{ForHire}
-use Rattle.taxi_units.specs.declared.receipt.Kind.TheVariants.{Roam}
-use Rattle.totals_record.specs.Ranges.{IsHeld}
-use Rattle.totals_record.specs.declared.trip.Trip.{Trip}
+use Rattle.std.specs.Prelude.{[], ℕ, ◌+◌, ◌≡◌, ◌≢◌, ◌≤◌, ◌⊎◌, List, None, Option, length, true}
+use Rattle.meter_model.specs.{KeptTrip.{IsSavedIn}, declared.key_act.KeyAct.{KeyAct}}
 use Rattle.meter_states.specs.Acts.{StayLawful}
-use Rattle.meter_states.specs.Core.{ComesToOutcome, CoreData, core_of}
-use Rattle.meter_model.specs.KeptTrip.{IsSavedIn}
-use Rattle.meter_states.specs.Fits.{Fits}
-use Rattle.meter_states.specs.Lawful.{IsAmidEvent, IsBetweenEvents, IsTripBeside, is_busy}
-use Rattle.meter_model.specs.Meter.{Meter, Outcome}
-use Rattle.meter_model.specs.Setting.{Setting}
-use Rattle.meter_states.specs.Setting.{IsSettingOf}
-use Rattle.meter_model.specs.declared.act.Act.{Act}
-use Rattle.meter_model.specs.declared.key_act.KeyAct.{KeyAct}
+use Rattle.meter_states.specs.Common.{Act, CoreTrip, ForHire, IsHeld, IsSecond, Meter, Operating, Outcome, Roam, Seal}
+use Rattle.meter_states.specs.{Common.{Setting, TableParts, Trip, last_number, longest_trip, number_most}, Fits.{Fits}}
+use Rattle.meter_states.specs.{Core.{ComesToOutcome, CoreData, core_of}, declared.records.Closing.{Closing}}
+use Rattle.meter_states.specs.{Lawful.{IsAmidEvent, IsBetweenEvents, IsTripBeside, is_busy}, Setting.{IsSettingOf}}
 use Rattle.meter_model.specs.declared.key_act.KeyAct.TheVariants as key_acts
-use Rattle.meter_states.specs.declared.records.Closing.{Closing}
-use Rattle.meter_model.specs.declared.core_trip.CoreTrip.{CoreTrip}
 
 -- a stage of an event comes to an outcome from each state of the meter, under a setting
 abbrev pub Stage : Type 0

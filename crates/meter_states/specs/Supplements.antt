@@ -1,7 +1,6 @@
 -- Rules: the supplements of tables.
-use Rattle.std.specs.Prelude.{ℕ, ◌∷◌, Option, None, get_or}
-use Rattle.tariff_compile.specs.Tables.{TableParts}
-use Rattle.tariff_check.specs.declared.values.Supplement.{Supplement}
+use Rattle.std.specs.Prelude.{ℕ, ◌∷◌, None, Option, get_or}
+use Rattle.meter_states.specs.Common.{Supplement, TableParts}
 
 -- the supplement of a number in tables is the one at that place of their list, counted from 1, if there is one, and
 -- none for the number 0

@@ -1,16 +1,8 @@
 //! The cache of a core: the local time of a second, and what an interval weighs while no cut is passed.
-ghost use Rattle.std.specs.Prelude.{◌≡◌, ◌≢◌, ◌≤◌, ◌+◌, ◌↔◌, IfSome, IsNone, IsTrue, Some};
-ghost use Rattle.std.specs.Option.{ForSome};
-ghost use Rattle.tariff_compile.specs.Near.{IsNear};
-ghost use Rattle.tariff_compile.specs.Tables.{AreFit, IsInRangeFor, IsTablesOf, TableParts, rate_by};
-ghost use Rattle.tariff_syntax.specs.Tree.{Tree};
-ghost use Rattle.tariff_syntax.specs.declared.context.Context.{Context};
-ghost use Rattle.seal_record.specs.declared.seal.Seal.{Seal};
-ghost use Rattle.taxi_units.specs.Time.{IsSecond};
-ghost use Rattle.meter_states.specs.EqualStages.{LastsFrom};
-ghost use Rattle.meter_states.specs.Cache.{IsCachedRateOf, IsCachedTimeOf, IsCacheOf};
-ghost use Rattle.meter_states.specs.declared.cache.CachedTime.{CachedTime};
-ghost use Rattle.meter_states.specs.declared.cache.CachedRate.{CachedRate};
+ghost use Rattle.std.specs.{Option.{ForSome}, Prelude.{◌+◌, ◌↔◌, ◌≡◌, ◌≢◌, ◌≤◌, IfSome, IsNone, IsTrue, Some}};
+ghost use Rattle.meter_states.specs.Cache.{IsCacheOf, IsCachedRateOf, IsCachedTimeOf};
+ghost use Rattle.meter_states.specs.Common.{AreFit, CachedRate, CachedTime, Context, IsInRangeFor, IsNear, IsSecond};
+ghost use Rattle.meter_states.specs.{Common.{IsTablesOf, Seal, TableParts, Tree, rate_by}, EqualStages.{LastsFrom}};
 
 use drive_modes::Weights;
 use interval_clock::civil;

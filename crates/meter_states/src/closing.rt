@@ -1,20 +1,12 @@
 //! Entries of roaming, and of closed trips with their receipts directly behind.
-ghost use Rattle.std.specs.Prelude.{◌≡◌, ◌≢◌, ◌⊎◌, ◌<◌, ◌≤◌, ◌+◌, ℕ, All, None, Some, length};
-ghost use Rattle.seal_record.specs.declared.seal.Seal.{Seal};
-ghost use Rattle.taxi_units.specs.Time.{last_tick, longest_trip};
-ghost use Rattle.taxi_units.specs.declared.event.Operating.TheVariants.{ForHire};
-ghost use Rattle.taxi_units.specs.declared.receipt.Kind.TheVariants.{Roam};
-ghost use Rattle.meter_states.specs.Acts.{IsLawfulAct, StayLawful};
-ghost use Rattle.meter_model.specs.Closing.{closed, entry_of_trip, receipt_of, roaming_checked, roaming_entered};
-ghost use Rattle.meter_model.specs.Closing.{trip_closed};
-ghost use Rattle.meter_states.specs.Core.{ComesToOutcome, core_of};
-ghost use Rattle.meter_states.specs.Lawful.{IsAmidEvent, IsBetweenEvents, IsPowered};
-ghost use Rattle.meter_model.specs.Meter.{Meter, entered, printed};
-ghost use Rattle.meter_model.specs.Setting.{Setting};
-ghost use Rattle.meter_states.specs.Setting.{IsSettingOf, IsTariffOf};
+ghost use Rattle.std.specs.Prelude.{ℕ, ◌+◌, ◌<◌, ◌≡◌, ◌≢◌, ◌≤◌, ◌⊎◌, All, None, Some, length};
+ghost use Rattle.{meter_model.specs.Meter.{entered, printed}, meter_states.specs.Common.{trip_closed}};
+ghost use Rattle.meter_states.specs.{Acts.{IsLawfulAct, StayLawful}, Lawful.{IsAmidEvent, IsBetweenEvents, IsPowered}};
+ghost use Rattle.meter_states.specs.Common.{ForHire, Meter, Roam, Seal, Setting, closed, entry_of_trip, last_tick};
+ghost use Rattle.meter_states.specs.Common.{longest_trip, receipt_of, roaming_amid, roaming_checked, roaming_entered};
+ghost use Rattle.meter_states.specs.{Core.{ComesToOutcome, core_of}, Setting.{IsSettingOf, IsTariffOf}};
 ghost use Rattle.meter_states.specs.Stages.{CarriesStage, FollowsStage, HasEntered, IsTripClosing, MayEnter};
 ghost use Rattle.meter_model.specs.Trip as model;
-ghost use Rattle.taxi_units.specs.Limits.{roaming_amid};
 
 use crate::meter_state::State;
 use crate::records::{Closing, entry, receipt, roaming_entry};

@@ -1,18 +1,9 @@
 //! The context of an interval, and what the interval weighs in it.
-ghost use Rattle.std.specs.Prelude.{◌≡◌, ◌≤◌, ◌+◌, Some};
-ghost use Rattle.seal_record.specs.declared.seal.Seal.{Seal};
-ghost use Rattle.tariff_compile.specs.Tables.{AreFit, IsInRangeFor, weights_in_force};
-ghost use Rattle.taxi_units.specs.Time.{IsSecond, longest_trip};
-ghost use Rattle.meter_states.specs.Core.{core_of};
-ghost use Rattle.meter_states.specs.Equals.{context_by};
-ghost use Rattle.meter_states.specs.Cache.{IsCachedTimeOf, IsCacheOf};
-ghost use Rattle.meter_model.specs.Interval.{context_of, context_on};
-ghost use Rattle.meter_states.specs.Lawful.{IsPowered};
-ghost use Rattle.meter_model.specs.Meter.{Meter};
-ghost use Rattle.meter_model.specs.Setting.{Setting, local_at};
-ghost use Rattle.meter_states.specs.Setting.{IsSettingOf};
-ghost use Rattle.meter_model.specs.declared.core_trip.CoreTrip.{CoreTrip};
-ghost use Rattle.taxi_units.specs.Limits.{roaming_amid};
+ghost use Rattle.std.specs.Prelude.{◌+◌, ◌≡◌, ◌≤◌, Some};
+ghost use Rattle.meter_states.specs.{Cache.{IsCacheOf, IsCachedTimeOf}, Equals.{context_by}, Setting.{IsSettingOf}};
+ghost use Rattle.meter_states.specs.Common.{AreFit, CoreTrip, IsInRangeFor, IsSecond, Meter, Seal, Setting, context_of};
+ghost use Rattle.meter_states.specs.Common.{context_on, local_at, longest_trip, roaming_amid, weights_in_force};
+ghost use Rattle.meter_states.specs.{Core.{core_of}, Lawful.{IsPowered}};
 
 use crate::cache::{Cache, CachedTime, cached_time};
 use crate::meter_state::State;

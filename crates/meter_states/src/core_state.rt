@@ -1,9 +1,6 @@
 //! The core: the state of the meter, and the cache beside it.
 ghost use Rattle.std.specs.Prelude.{◌≡◌};
-ghost use Rattle.tariff_compile.specs.Tables.{TableParts};
-ghost use Rattle.seal_record.specs.declared.seal.Seal.{Seal};
-ghost use Rattle.taxi_units.specs.declared.event.Operating.TheVariants.{Off};
-ghost use Rattle.meter_states.specs.Lawful.{IsLawful};
+ghost use Rattle.meter_states.specs.{Common.{Off, Seal, TableParts}, Lawful.{IsLawful}};
 
 use crate::cache::Cache;
 use crate::meter_state::State;
@@ -22,13 +19,13 @@ impl Model for Core {
 
     ghost Value = { CachedCore };
 
-    ghost view = { λ c. record { plain = c.state; cache = c.cache } };
+    ghost view = { λ c. record { state = c.state; cache = c.cache } };
 }
 
 impl Core {
     /// A core that is off, as the meter begins, with an empty cache.
     pub fn off() -> Core
-        ensures off { result.plain.operating ≡ Off }
+        ensures off { result.state.operating ≡ Off }
         ensures lawful { (tables : TableParts) (seal : Seal) → IsLawful tables seal result }
     {
         Core {
@@ -39,7 +36,7 @@ impl Core {
 
     /// The operating position.
     pub fn operating(&self) -> Operating
-        ensures { result ≡ self.now.plain.operating }
+        ensures { result ≡ self.now.state.operating }
     {
         self.state.operating
     }

@@ -1,16 +1,9 @@
 //! The display.
-ghost use Rattle.std.specs.Prelude.{◌≡◌, ◌≤◌, ℕ, All, length};
-ghost use Rattle.seal_record.specs.declared.seal.Seal.{Seal};
-ghost use Rattle.taxi_units.specs.Shown.{IsShown};
-ghost use Rattle.meter_states.specs.Acts.{IsLawfulAct};
-ghost use Rattle.meter_states.specs.Core.{core_of};
-ghost use Rattle.meter_model.specs.Display.{display_of, extras_shown, fare_shown, shown};
-ghost use Rattle.meter_states.specs.Equals.{display_by, extras_by, fare_by};
-ghost use Rattle.meter_states.specs.Lawful.{IsBetweenEvents};
-ghost use Rattle.meter_model.specs.Meter.{Meter};
-ghost use Rattle.meter_model.specs.Setting.{Setting};
-ghost use Rattle.meter_states.specs.Setting.{IsTariffOf};
-ghost use Rattle.meter_states.specs.Stages.{FollowsStage};
+ghost use Rattle.std.specs.Prelude.{ℕ, ◌≡◌, ◌≤◌, All, length};
+ghost use Rattle.{taxi_units.specs.Shown.{IsShown}, meter_model.specs.Display.{extras_shown}};
+ghost use Rattle.meter_states.specs.{Acts.{IsLawfulAct}, Common.{Meter, Seal, Setting, display_of, fare_shown, shown}};
+ghost use Rattle.meter_states.specs.{Core.{core_of}, Equals.{display_by, extras_by, fare_by}, Lawful.{IsBetweenEvents}};
+ghost use Rattle.meter_states.specs.{Setting.{IsTariffOf}, Stages.{FollowsStage}};
 
 use crate::meter_state::State;
 use crate::shown::is_shown;

@@ -1,10 +1,8 @@
 //! Trips after equal intervals, and how many there may be.
-ghost use Rattle.std.specs.Prelude.{◌≡◌, ◌≤◌, ◌<◌, ◌⊎◌, ◌+◌, ◌*◌, ◌^◌};
-ghost use Rattle.tariff_compile.specs.Tables.{TableParts};
-ghost use Rattle.taxi_units.specs.Time.{last_tick};
+ghost use Rattle.std.specs.Prelude.{◌*◌, ◌+◌, ◌<◌, ◌^◌, ◌≡◌, ◌≤◌, ◌⊎◌};
+ghost use Rattle.meter_states.specs.{Common.{TableParts, last_tick}, Lawful.{IsLawfulTrip}};
 ghost use Rattle.meter_states.specs.EqualStages as stages;
 ghost use Rattle.meter_states.specs.Equals as model;
-ghost use Rattle.meter_states.specs.Lawful.{IsLawfulTrip};
 
 use crate::lookups::modulus;
 use drive_modes::Rounding;

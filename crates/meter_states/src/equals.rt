@@ -1,24 +1,12 @@
 //! Equal measuring intervals that are carried out at once.
-ghost use Rattle.std.specs.Prelude.{◌≡◌, ◌≤◌, ◌⊎◌, ◌↔◌, ◌+◌, [], IfSome, IsNone, IsTrue, Some};
-ghost use Rattle.std.specs.Option.{ForSome};
-ghost use Rattle.tariff_compile.specs.Near.{IsNear};
-ghost use Rattle.seal_record.specs.declared.seal.Seal.{Seal};
-ghost use Rattle.tariff_compile.specs.Tables.{AreFit, IsInRangeFor, TableParts, weights_in_force};
-ghost use Rattle.tariff_syntax.specs.declared.context.Context.{Context};
-ghost use Rattle.taxi_units.specs.declared.event.Operating.TheVariants.{ForHire, Hired, Stopped};
+ghost use Rattle.std.specs.{Option.{ForSome}, Prelude.{[], ◌+◌, ◌↔◌, ◌≡◌, ◌≤◌, ◌⊎◌, IfSome, IsNone, IsTrue, Some}};
+ghost use Rattle.meter_states.specs.{Cache.{IsCacheOf, IsCachedRateOf}, Lawful.{IsBetweenEvents, IsLawful}};
+ghost use Rattle.meter_states.specs.Common.{AreFit, CachedRate, Context, CoreTrip, ForHire, Hired, IsInRangeFor};
+ghost use Rattle.meter_states.specs.Common.{IsNear, Meter, Seal, Setting, Stopped, TableParts, context_of};
+ghost use Rattle.meter_states.specs.Common.{roaming_between, roaming_most, run, weights_in_force};
 ghost use Rattle.meter_states.specs.Core.{Meets, Stands, core_of};
-ghost use Rattle.meter_states.specs.EqualStages.{FollowsIntervals, HasTaken, LastsFrom};
+ghost use Rattle.meter_states.specs.{EqualStages.{FollowsIntervals, HasTaken, LastsFrom}, Setting.{IsSettingOf}};
 ghost use Rattle.meter_states.specs.Equals.{IsStill, MayBeCharged, MayGo, Outlasts, Serves, intervals_of, roams};
-ghost use Rattle.meter_states.specs.Cache.{IsCachedRateOf, IsCacheOf};
-ghost use Rattle.meter_model.specs.Interval.{context_of};
-ghost use Rattle.meter_states.specs.Lawful.{IsBetweenEvents, IsLawful};
-ghost use Rattle.meter_model.specs.Meter.{Meter};
-ghost use Rattle.meter_model.specs.Run.{run};
-ghost use Rattle.meter_model.specs.Setting.{Setting};
-ghost use Rattle.meter_states.specs.Setting.{IsSettingOf};
-ghost use Rattle.meter_states.specs.declared.cache.CachedRate.{CachedRate};
-ghost use Rattle.meter_model.specs.declared.core_trip.CoreTrip.{CoreTrip};
-ghost use Rattle.taxi_units.specs.Limits.{roaming_between, roaming_most};
 
 use crate::cache::Cache;
 use crate::core_state::Core;
@@ -44,12 +32,12 @@ impl Core {
         requires constant { tables.now.constant ≡ seal.now.params.constant }
         ensures lawful { IsLawful tables.now seal.now self.new }
         ensures most { result ≤ count }
-        ensures full { (result ≡ count) ⊎ ¬ MayGo tables.now seal.now self.old.cache pulses self.new.plain }
-        ensures same { (self.new.plain.operating ≡ self.old.plain.operating)
-            × (self.new.plain.number ≡ self.old.plain.number) }
+        ensures full { (result ≡ count) ⊎ ¬ MayGo tables.now seal.now self.old.cache pulses self.new.state }
+        ensures same { (self.new.state.operating ≡ self.old.state.operating)
+            × (self.new.state.number ≡ self.old.state.number) }
         ensures cache { self.new.cache ≡ self.old.cache }
-        ensures meets { (s : Setting) (m : Meter) → IsSettingOf s tables.now seal.now → Stands s self.old.plain m
-            → Meets s self.new.plain [] (run s (intervals_of pulses result) m) }
+        ensures meets { (s : Setting) (m : Meter) → IsSettingOf s tables.now seal.now → Stands s self.old.state m
+            → Meets s self.new.state [] (run s (intervals_of pulses result) m) }
     {
         if count == 0 || self.state.is_off() {
             return 0;

@@ -1,7 +1,6 @@
 //! Whether a saved trip fits the tables.
-ghost use Rattle.std.specs.Prelude.{◌≡◌, ◌+◌, ◌*◌, ◌<◌, ◌≤◌, ◌↔◌, IfSome, IsNone, IsTrue};
-ghost use Rattle.meter_states.specs.Fits.{Fits};
-ghost use Rattle.meter_model.specs.Supplements.{AreAllowed, amount_in, amounts_from, most_in};
+ghost use Rattle.std.specs.Prelude.{◌*◌, ◌+◌, ◌<◌, ◌↔◌, ◌≡◌, ◌≤◌, IfSome, IsNone, IsTrue};
+ghost use Rattle.meter_states.specs.{Common.{AreAllowed, amount_in, amounts_from, most_in}, Fits.{Fits}};
 ghost use Rattle.meter_states.specs.Supplements.{supplement_in};
 
 use crate::lookups::{find_supplement, modulus};

@@ -1,7 +1,6 @@
 //! Held trips: how they go on, and how long they may be held.
 ghost use Rattle.std.specs.Prelude.{◌≡◌, ◌≤◌, true};
-ghost use Rattle.taxi_units.specs.Time.{IsSecond};
-ghost use Rattle.meter_model.specs.Setting.{Setting, IsSealOf};
+ghost use Rattle.meter_states.specs.Common.{IsSealOf, IsSecond, Setting};
 ghost use Rattle.meter_model.specs.Supply as model;
 
 use seal_record::Seal;

@@ -1,17 +1,11 @@
 //! The measuring interval: its pulses, the context of its beginning, and what it becomes at its end.
-ghost use Rattle.std.specs.Prelude.{◌≡◌, ◌≤◌, ◌+◌, ◌≢◌, [], None, sum};
-ghost use Rattle.tariff_compile.specs.Tables.{TableParts};
-ghost use Rattle.taxi_units.specs.Time.{last_tick, longest_trip};
-ghost use Rattle.taxi_units.specs.declared.event.Operating.TheVariants.{ForHire, Hired, Stopped};
-ghost use Rattle.meter_states.specs.Acts.{StayLawful};
-ghost use Rattle.meter_states.specs.Core.{ComesToOutcome, core_of};
+ghost use Rattle.std.specs.Prelude.{[], ◌+◌, ◌≡◌, ◌≢◌, ◌≤◌, None, sum};
+ghost use Rattle.meter_model.specs.Interval.{interval_left, left_in, pulses_taken};
+ghost use Rattle.meter_states.specs.{Acts.{StayLawful}, Core.{ComesToOutcome, core_of}, Setting.{IsSettingOf}};
 ghost use Rattle.meter_states.specs.Cache.{IsCacheOf};
-ghost use Rattle.meter_model.specs.Interval.{counted_in, interval_counted, interval_left, left_in, pulses_taken};
+ghost use Rattle.meter_states.specs.Common.{ForHire, Hired, Meter, Setting, Stopped, TableParts, counted_in};
+ghost use Rattle.meter_states.specs.Common.{interval_counted, last_tick, longest_trip, roaming_amid, roaming_between};
 ghost use Rattle.meter_states.specs.Lawful.{IsAmidEvent, IsBetweenEvents, IsPowered, counting_steps};
-ghost use Rattle.meter_model.specs.Meter.{Meter};
-ghost use Rattle.meter_model.specs.Setting.{Setting};
-ghost use Rattle.meter_states.specs.Setting.{IsSettingOf};
-ghost use Rattle.taxi_units.specs.Limits.{roaming_amid, roaming_between};
 
 use crate::cache::Cache;
 use crate::meter_state::State;

@@ -1,21 +1,11 @@
 //! What keys do.
-ghost use Rattle.std.specs.Prelude.{◌≡◌, ◌≢◌, ◌≤◌, ◌+◌, None, Some};
-ghost use Rattle.seal_record.specs.declared.seal.Seal.{Seal};
-ghost use Rattle.tariff_compile.specs.Tables.{TableParts};
-ghost use Rattle.tariff_check.specs.Amounts.{IsFitInitial, fees_in_force};
-ghost use Rattle.tariff_check.specs.SoundTariff.{supplement_numbered};
-ghost use Rattle.taxi_units.specs.declared.event.Operating.TheVariants.{ForHire};
+ghost use Rattle.std.specs.Prelude.{◌+◌, ◌≡◌, ◌≢◌, ◌≤◌, None, Some};
 ghost use Rattle.taxi_units.specs.declared.receipt.Kind.TheVariants.{Closed};
-ghost use Rattle.meter_model.specs.Closing.{closed};
-ghost use Rattle.meter_states.specs.Core.{core_of};
-ghost use Rattle.meter_model.specs.Interval.{context_now};
-ghost use Rattle.meter_model.specs.Keys.{extra_added, extra_added_to, hiring, position_set, zone_set};
-ghost use Rattle.meter_states.specs.Lawful.{IsAmidEvent, pressing_steps};
-ghost use Rattle.meter_model.specs.Meter.{Meter};
-ghost use Rattle.meter_model.specs.Setting.{Setting};
-ghost use Rattle.meter_states.specs.Setting.{IsSettingOf};
-ghost use Rattle.meter_states.specs.Stages.{ClosesTrip, CommitsNothing, IsReadyForKey};
-ghost use Rattle.meter_states.specs.Supplements.{supplement_in};
+ghost use Rattle.{tariff_check.specs.Amounts.{IsFitInitial, fees_in_force}, meter_states.specs.Setting.{IsSettingOf}};
+ghost use Rattle.meter_model.specs.{Interval.{context_now}, Keys.{extra_added, hiring, position_set, zone_set}};
+ghost use Rattle.meter_states.specs.Common.{ForHire, Meter, Seal, Setting, TableParts, closed, extra_added_to};
+ghost use Rattle.meter_states.specs.{Common.{supplement_numbered}, Stages.{ClosesTrip, CommitsNothing, IsReadyForKey}};
+ghost use Rattle.meter_states.specs.{Core.{core_of}, Lawful.{IsAmidEvent, pressing_steps}, Supplements.{supplement_in}};
 
 use crate::lookups::find_supplement;
 use crate::meter_state::State;

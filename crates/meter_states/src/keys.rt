@@ -1,14 +1,10 @@
 //! Keys: one may wait for the end of the interval, and acts then.
-ghost use Rattle.std.specs.Prelude.{◌≡◌, ◌≤◌, ◌+◌, []};
-ghost use Rattle.tariff_compile.specs.Tables.{TableParts};
-ghost use Rattle.meter_states.specs.Acts.{StayLawful};
-ghost use Rattle.meter_states.specs.Core.{ComesToOutcome, core_of};
-ghost use Rattle.meter_model.specs.Keys as model;
-ghost use Rattle.meter_model.specs.Keys.{key_in, key_pressed, latched};
+ghost use Rattle.std.specs.Prelude.{[], ◌+◌, ◌≡◌, ◌≤◌};
+ghost use Rattle.meter_model.specs.Keys.{key_in, latched};
+ghost use Rattle.meter_states.specs.{Acts.{StayLawful}, Stages.{IsDoneIn, IsReadyForKey, MayClose}};
+ghost use Rattle.meter_states.specs.{Common.{Meter, Setting, TableParts, key_pressed}, Core.{ComesToOutcome, core_of}};
 ghost use Rattle.meter_states.specs.Lawful.{IsBetweenEvents, pressing_steps};
-ghost use Rattle.meter_model.specs.Meter.{Meter};
-ghost use Rattle.meter_model.specs.Setting.{Setting};
-ghost use Rattle.meter_states.specs.Stages.{IsDoneIn, IsReadyForKey, MayClose};
+ghost use Rattle.meter_model.specs.Keys as model;
 
 use crate::meter_state::State;
 use crate::refusing::refuse;

@@ -3,7 +3,6 @@
 //! a trip, and an interval is charged by the rate that the tariff's text names.
 #![tactic(auto)]
 
-mod act_ranges;
 mod cache;
 mod closing;
 mod contexts;
@@ -13,17 +12,18 @@ mod equal_trip;
 mod equals;
 mod fitting;
 mod held;
+mod held_trip_laws;
 mod interval;
-mod keeping;
 mod key_acts;
 mod keys;
 mod lookups;
 mod meter_state;
 mod meterage;
-mod pairs;
 mod power_up;
+mod range_laws;
+mod receipt_laws;
 mod records;
-mod refusals;
+mod refusal_laws;
 mod refusing;
 mod shown;
 mod stepping;
@@ -31,12 +31,14 @@ mod supply_drop;
 mod tick;
 mod trip;
 
-pub use act_ranges::lawful_acts_keep_the_ranges;
 pub use core_state::Core;
 pub use fitting::fits;
-pub use keeping::the_store_keeps_the_trip;
-pub use pairs::{receipts_follow_their_entries, runs_add_up, the_store_has_what_the_acts_commit};
-pub use refusals::{
+pub use held_trip_laws::the_store_keeps_the_trip;
+pub use range_laws::lawful_acts_keep_the_ranges;
+pub use receipt_laws::{
+    receipts_follow_their_entries, runs_add_up, the_store_has_what_the_acts_commit,
+};
+pub use refusal_laws::{
     keys_act_after_their_interval, keys_are_refused_at_an_expiry,
     pulses_too_fast_fill_the_interval, refused_events_change_nothing,
 };

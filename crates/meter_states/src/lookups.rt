@@ -1,14 +1,9 @@
 //! What the core looks up: in the tables, and in the seal's offsets.
-ghost use Rattle.std.specs.Prelude.{◌≡◌, ◌+◌, ◌*◌, ◌^◌, ◌≤◌, ◌≢◌, None};
-ghost use Rattle.drive_modes.specs.Distance.{millimetres_of};
-ghost use Rattle.tariff_compile.specs.Tables.{IsFit};
-ghost use Rattle.tariff_check.specs.SoundTariff.{supplement_numbered};
-ghost use Rattle.taxi_units.specs.Shown.{IsStamp};
-ghost use Rattle.taxi_units.specs.Time.{IsSecond};
-ghost use Rattle.meter_model.specs.Setting.{Setting, IsSealOf, modulus_of, stamp_at};
-ghost use Rattle.meter_states.specs.Setting.{IsTariffOf};
-ghost use Rattle.meter_model.specs.Supplements.{amount_in, most_in};
-ghost use Rattle.meter_states.specs.Supplements.{supplement_in};
+ghost use Rattle.std.specs.Prelude.{◌*◌, ◌+◌, ◌^◌, ◌≡◌, ◌≢◌, ◌≤◌, None};
+ghost use Rattle.{taxi_units.specs.Shown.{IsStamp}, drive_modes.specs.Distance.{millimetres_of}};
+ghost use Rattle.{tariff_compile.specs.Tables.{IsFit}, meter_model.specs.Setting.{stamp_at}};
+ghost use Rattle.meter_states.specs.Common.{IsSealOf, IsSecond, Setting, amount_in, modulus_of, most_in};
+ghost use Rattle.meter_states.specs.{Common.{supplement_numbered}, Setting.{IsTariffOf}, Supplements.{supplement_in}};
 
 use drive_modes::millimetres;
 use interval_clock::civil;

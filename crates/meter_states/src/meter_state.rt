@@ -1,16 +1,9 @@
 //! The state of the meter, as the core keeps it.
 ghost use Rattle.std.specs.Prelude.{◌≡◌, ◌≤◌, None, Some};
-ghost use Rattle.tariff_compile.specs.Tables.{TableParts};
-ghost use Rattle.taxi_units.specs.Time.{longest_trip};
-ghost use Rattle.taxi_units.specs.declared.event.Operating.TheVariants.{Off};
-ghost use Rattle.meter_states.specs.Core.{core_of};
+ghost use Rattle.meter_states.specs.Common.{CoreTrip, Meter, Off, Setting, TableParts, longest_trip, roaming_amid};
+ghost use Rattle.meter_states.specs.{Core.{core_of}, Lawful.{IsPowered, is_busy}};
 ghost use Rattle.meter_model.specs.Interval as interval;
-ghost use Rattle.meter_states.specs.Lawful.{IsPowered, is_busy};
-ghost use Rattle.meter_model.specs.Meter.{Meter};
-ghost use Rattle.meter_model.specs.Setting.{Setting};
 ghost use Rattle.meter_model.specs.Supply as supply;
-ghost use Rattle.meter_model.specs.declared.core_trip.CoreTrip.{CoreTrip};
-ghost use Rattle.taxi_units.specs.Limits.{roaming_amid};
 
 use drive_modes::Gate;
 use interval_clock::Clock;

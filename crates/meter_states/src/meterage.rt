@@ -1,6 +1,6 @@
 //! Charges that are added to a meterage.
-ghost use Rattle.std.specs.Prelude.{◌≡◌, ℕ, ◌+◌, ◌-◌, ◌*◌, ◌/◌, ◌^◌, ◌<◌, ◌≤◌};
-ghost use Rattle.drive_modes.specs.Fare.{Opening, added, saved};
+ghost use Rattle.std.specs.Prelude.{ℕ, ◌*◌, ◌+◌, ◌-◌, ◌/◌, ◌<◌, ◌^◌, ◌≡◌, ◌≤◌};
+ghost use Rattle.{drive_modes.specs.Fare.{Opening}, meter_states.specs.Common.{added, saved}};
 
 use drive_modes::Meterage;
 

@@ -1,19 +1,9 @@
 //! What the coming of the supply finds.
-ghost use Rattle.std.specs.Prelude.{◌≡◌, ◌≤◌, ◌+◌, All, None, Some, option_map, length};
-ghost use Rattle.std.specs.Option.{ForSome};
-ghost use Rattle.tariff_compile.specs.Tables.{TableParts};
-ghost use Rattle.taxi_units.specs.Time.{IsSecond};
-ghost use Rattle.taxi_units.specs.declared.event.Operating.TheVariants.{ForHire};
-ghost use Rattle.totals_record.specs.Ranges.{IsDurable, IsHeld};
-ghost use Rattle.meter_states.specs.Acts.{IsLawfulAct, KeepsRanges};
-ghost use Rattle.meter_model.specs.KeptTrip.{IsSavedIn};
-ghost use Rattle.meter_states.specs.Core.{Meets, core_of};
-ghost use Rattle.meter_states.specs.Fits.{Fits};
-ghost use Rattle.meter_states.specs.Lawful.{IsBetweenEvents, IsLawful};
-ghost use Rattle.meter_model.specs.Meter.{Meter};
-ghost use Rattle.meter_model.specs.Setting.{Setting};
-ghost use Rattle.meter_states.specs.Setting.{IsSettingOf};
-ghost use Rattle.meter_states.specs.Stages.{IsNewlyPowered, MayBeTaken, TakesHold};
+ghost use Rattle.std.specs.{Option.{ForSome}, Prelude.{◌+◌, ◌≡◌, ◌≤◌, All, None, Some, length, option_map}};
+ghost use Rattle.{meter_model.specs.KeptTrip.{IsSavedIn}, meter_states.specs.Lawful.{IsBetweenEvents, IsLawful}};
+ghost use Rattle.meter_states.specs.{Acts.{IsLawfulAct, KeepsRanges}, Stages.{IsNewlyPowered, MayBeTaken, TakesHold}};
+ghost use Rattle.meter_states.specs.Common.{ForHire, IsDurable, IsHeld, IsSecond, Meter, Setting, TableParts};
+ghost use Rattle.meter_states.specs.{Core.{Meets, core_of}, Fits.{Fits}, Setting.{IsSettingOf}};
 ghost use Rattle.meter_model.specs.Supply as model;
 ghost use Rattle.meter_model.specs.Trip as trips;
 
@@ -51,7 +41,7 @@ impl Core {
         ensures commits { All (KeepsRanges durable.now) result.1.items }
         ensures meets { (s : Setting) (m : Meter) → IsSettingOf s tables.now seal.now → m.durable ≡ durable.now
             → IsSavedIn s durable.now.hold m.trip
-            → Meets s result.0.plain result.1.items (model.supply_came s second m) }
+            → Meets s result.0.state result.1.items (model.supply_came s second m) }
         ensures steps { steps.new ≤ steps.old + 12 }
     {
         tables.recall();

@@ -1,16 +1,10 @@
 //! Entries and receipts.
-ghost use Rattle.std.specs.Prelude.{◌≡◌, ◌≢◌, ◌+◌, ◌≤◌};
-ghost use Rattle.taxi_units.specs.Shown.{IsReceipt};
-ghost use Rattle.taxi_units.specs.Time.{longest_trip};
-ghost use Rattle.taxi_units.specs.declared.receipt.Kind.TheVariants.{Roam};
-ghost use Rattle.totals_record.specs.Ranges.{IsEntry};
-ghost use Rattle.meter_model.specs.Closing as model;
-ghost use Rattle.meter_states.specs.Lawful.{IsTripBeside};
-ghost use Rattle.meter_model.specs.Setting.{Setting};
-ghost use Rattle.meter_states.specs.Setting.{IsSettingOf, IsTariffOf};
-ghost use Rattle.meter_states.specs.Stages.{IsTripClosing};
+ghost use Rattle.std.specs.Prelude.{◌+◌, ◌≡◌, ◌≢◌, ◌≤◌};
+ghost use Rattle.{taxi_units.specs.Shown.{IsReceipt}, totals_record.specs.Ranges.{IsEntry}};
+ghost use Rattle.meter_states.specs.Common.{Roam, Setting, longest_trip, number_most, roaming_amid};
+ghost use Rattle.meter_states.specs.{Lawful.{IsTripBeside}, Setting.{IsSettingOf, IsTariffOf}, Stages.{IsTripClosing}};
+ghost use Rattle.meter_model.specs.ClosedTrip as model;
 ghost use Rattle.meter_model.specs.Trip as trips;
-ghost use Rattle.taxi_units.specs.Limits.{number_most, roaming_amid};
 
 use crate::lookups::{distance, stamp};
 use crate::trip::{display_steps, fare};

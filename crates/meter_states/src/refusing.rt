@@ -1,6 +1,6 @@
 //! A refusal among the acts.
-ghost use Rattle.std.specs.Prelude.{◌≡◌, ◌<◌, ◌∷◌, [], ◌++◌, length};
-ghost use Rattle.meter_model.specs.declared.act.Act.TheVariants.{Refuse};
+ghost use Rattle.std.specs.Prelude.{[], ◌++◌, ◌<◌, ◌∷◌, ◌≡◌, length};
+ghost use Rattle.meter_states.specs.Common.{Refuse};
 
 use meter_model::{Act, Acts};
 use taxi_units::Why;

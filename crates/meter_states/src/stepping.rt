@@ -1,17 +1,9 @@
 //! What each event does.
-ghost use Rattle.std.specs.Prelude.{◌≡◌, ◌≤◌, ◌+◌, ◌⊎◌, ◌↔◌, [], IsTrue};
-ghost use Rattle.tariff_compile.specs.Tables.{TableParts};
-ghost use Rattle.taxi_units.specs.Time.{IsSecond};
-ghost use Rattle.taxi_units.specs.declared.event.Operating.TheVariants.{Off};
-ghost use Rattle.meter_states.specs.Acts.{StayLawful};
-ghost use Rattle.meter_states.specs.Core.{ComesToOutcome, Meets, core_of};
-ghost use Rattle.meter_states.specs.Cache.{IsCacheOf};
-ghost use Rattle.meter_states.specs.Lawful.{IsBetweenEvents, IsTimely};
-ghost use Rattle.meter_model.specs.Meter.{Meter};
-ghost use Rattle.meter_model.specs.Setting.{Setting};
-ghost use Rattle.meter_states.specs.Setting.{IsSettingOf};
-ghost use Rattle.meter_model.specs.Step.{clock_read, powered_step};
-ghost use Rattle.meter_states.specs.Stepping.{MayStep, Takes};
+ghost use Rattle.std.specs.Prelude.{[], ◌+◌, ◌↔◌, ◌≡◌, ◌≤◌, ◌⊎◌, IsTrue};
+ghost use Rattle.{meter_model.specs.Step.{clock_read}, meter_states.specs.Core.{ComesToOutcome, Meets, core_of}};
+ghost use Rattle.meter_states.specs.{Acts.{StayLawful}, Cache.{IsCacheOf}, Setting.{IsSettingOf}};
+ghost use Rattle.meter_states.specs.Common.{IsSecond, Meter, Off, Setting, TableParts, powered_step};
+ghost use Rattle.meter_states.specs.{EventOnCore.{MayStep, Takes}, Lawful.{IsBetweenEvents, IsTimely}};
 
 use crate::cache::Cache;
 use crate::core_state::Core;

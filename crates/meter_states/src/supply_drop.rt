@@ -1,20 +1,11 @@
 //! What a supply drop leaves.
-ghost use Rattle.std.specs.Prelude.{◌≡◌, ◌<◌, ◌≤◌, ◌+◌, [], Some};
-ghost use Rattle.tariff_compile.specs.Tables.{TableParts};
-ghost use Rattle.taxi_units.specs.Time.{last_tick};
-ghost use Rattle.taxi_units.specs.declared.event.Operating.TheVariants.{Off};
-ghost use Rattle.totals_record.specs.Ranges.{IsTripInItsRanges};
-ghost use Rattle.meter_states.specs.Acts.{StayLawful};
-ghost use Rattle.meter_states.specs.Core.{ComesToOutcome, core_of};
-ghost use Rattle.meter_states.specs.Fits.{Fits};
-ghost use Rattle.meter_states.specs.Lawful.{IsBetweenEvents, IsPowered};
-ghost use Rattle.meter_model.specs.Meter.{Meter, held};
-ghost use Rattle.meter_model.specs.Setting.{Setting};
-ghost use Rattle.meter_states.specs.Setting.{IsSettingOf};
-ghost use Rattle.meter_states.specs.Stages.{CarriesStage};
+ghost use Rattle.std.specs.Prelude.{[], ◌+◌, ◌<◌, ◌≡◌, ◌≤◌, Some};
+ghost use Rattle.{totals_record.specs.Ranges.{IsTripInItsRanges}, meter_model.specs.Meter.{held}};
+ghost use Rattle.meter_states.specs.{Acts.{StayLawful}, Setting.{IsSettingOf}, Stages.{CarriesStage}};
+ghost use Rattle.meter_states.specs.Common.{Meter, Off, Setting, TableParts, last_number, last_tick, roaming_amid};
+ghost use Rattle.meter_states.specs.{Core.{ComesToOutcome, core_of}, Fits.{Fits}, Lawful.{IsBetweenEvents, IsPowered}};
 ghost use Rattle.meter_model.specs.Supply as model;
 ghost use Rattle.meter_model.specs.Trip as trips;
-ghost use Rattle.taxi_units.specs.Limits.{last_number, roaming_amid};
 
 use crate::meter_state::State;
 use crate::records::Closing;

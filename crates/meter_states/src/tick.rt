@@ -1,16 +1,9 @@
 //! The tick, which ends a measuring interval.
-ghost use Rattle.std.specs.Prelude.{◌≡◌, ◌≢◌, ◌≤◌, ◌+◌, [], None, IsTrue, false, nat_le};
-ghost use Rattle.tariff_compile.specs.Tables.{TableParts};
-ghost use Rattle.taxi_units.specs.Time.{longest_trip};
-ghost use Rattle.meter_states.specs.Core.{core_of};
-ghost use Rattle.meter_states.specs.Cache.{IsCacheOf};
-ghost use Rattle.meter_model.specs.Interval.{ticks_so_far};
+ghost use Rattle.std.specs.Prelude.{[], ◌+◌, ◌≡◌, ◌≢◌, ◌≤◌, IsTrue, None, false, nat_le};
+ghost use Rattle.meter_states.specs.{Cache.{IsCacheOf}, Common.{roaming_amid, ticked, ticks_so_far}, Core.{core_of}};
+ghost use Rattle.meter_states.specs.Common.{Meter, Setting, TableParts, expired, expired_or_pressed, longest_trip};
 ghost use Rattle.meter_states.specs.Lawful.{IsAmidEvent, IsBetweenEvents, IsPowered, pressing_steps};
-ghost use Rattle.meter_model.specs.Meter.{Meter};
-ghost use Rattle.meter_model.specs.Setting.{Setting};
 ghost use Rattle.meter_states.specs.Stages.{CarriesStage, ClosesTrip, MayClose};
-ghost use Rattle.meter_model.specs.Step.{expired, expired_or_pressed, ticked};
-ghost use Rattle.taxi_units.specs.Limits.{roaming_amid};
 
 use crate::cache::Cache;
 use crate::meter_state::State;

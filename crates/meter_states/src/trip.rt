@@ -1,19 +1,12 @@
 //! What the core keeps of a trip: what begins it, what an interval and a supplement add, and how it is saved
 //! and goes on.
-ghost use Rattle.std.specs.Prelude.{◌≡◌, ◌+◌, ◌-◌, ◌^◌, ◌<◌, ◌≤◌, Some, slice_index};
-ghost use Rattle.drive_modes.specs.Fare.{steps_of};
-ghost use Rattle.tariff_compile.specs.Tables.{AreFit, TableParts, weights_in_force};
-ghost use Rattle.tariff_check.specs.Amounts.{IsFitInitial};
-ghost use Rattle.tariff_syntax.specs.declared.context.Context.{Context};
-ghost use Rattle.taxi_units.specs.Money.{largest_amount};
-ghost use Rattle.taxi_units.specs.Time.{IsSecond, last_tick, longest_trip};
+ghost use Rattle.std.specs.Prelude.{◌+◌, ◌-◌, ◌<◌, ◌^◌, ◌≡◌, ◌≤◌, Some, slice_index};
+ghost use Rattle.{taxi_units.specs.Limits.{largest_supplements}, tariff_check.specs.Amounts.{IsFitInitial}};
+ghost use Rattle.meter_states.specs.Common.{AreFit, Context, IsSecond, Setting, TableParts, largest_amount, last_tick};
+ghost use Rattle.meter_states.specs.Common.{longest_trip, roaming_amid, steps_of, times, weights_in_force};
 ghost use Rattle.meter_states.specs.Lawful.{IsLawfulTrip};
-ghost use Rattle.meter_model.specs.Setting.{Setting};
-ghost use Rattle.meter_states.specs.Setting.{IsSettingOf, IsTariffOf};
-ghost use Rattle.meter_states.specs.Supplements.{supplement_in};
-ghost use Rattle.meter_model.specs.Supplements.{times};
+ghost use Rattle.meter_states.specs.{Setting.{IsSettingOf, IsTariffOf}, Supplements.{supplement_in}};
 ghost use Rattle.meter_model.specs.Trip as model;
-ghost use Rattle.taxi_units.specs.Limits.{largest_supplements, roaming_amid};
 
 use crate::lookups::modulus;
 use crate::meterage::add_charge;

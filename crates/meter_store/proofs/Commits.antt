@@ -1,14 +1,8 @@
 -- What a store of a body at place 0 means for the durable state.
-use Rattle.std.proofs.Common.{◌≡◌, ℕ, Some, subst}
-use Rattle.outside.specs.declared.board.Board.{Ghosts}
-use Rattle.slot_store.specs.declared.pair.Pair.{Pair}
-use Rattle.slot_store.specs.declared.pair.Place.{Place}
-use Rattle.slot_store.specs.Slots.{IsSettled, ShowsEither}
-use Rattle.slot_store.specs.Stages.{spare_at}
-use Rattle.slot_store.specs.Writes.{LeavesThroughout, WritesIn}
-use Rattle.totals_record.specs.declared.durable_state.Durable.{Durable}
-use Rattle.totals_record.specs.Reading.{reads}
-use Rattle.meter_store.specs.Stored.{state_number_of, written_at, HasEither, HoldsState, LeavesEither}
+use Rattle.std.proofs.Common.{ℕ, ◌≡◌, Some, subst}
+use Rattle.{slot_store.specs.Stages.{spare_at}, totals_record.specs.Reading.{reads}}
+use Rattle.meter_store.specs.Common.{Durable, Ghosts, IsSettled, LeavesThroughout, Pair, Place, ShowsEither, WritesIn}
+use Rattle.meter_store.specs.Stored.{HasEither, HoldsState, LeavesEither, state_number_of, written_at}
 
 abbrev pair_at : Place → Pair
 pair_at place = record { at = 0; latest = Some place }

@@ -1,15 +1,10 @@
 -- What scans found is what a sealing asks for.
-use Rattle.std.proofs.Common.{◌≡◌, ℕ, List, Option, subst, sym}
-use Rattle.outside.specs.declared.board.Board.{Ghosts}
-use Rattle.slot_store.specs.declared.found.Found.{Found}
-use Rattle.slot_store.specs.declared.found.Found.TheVariants.{Blank, Latest}
-use Rattle.slot_store.specs.Scan.{IsAsFound}
-use Rattle.totals_record.specs.declared.durable_state.Durable.{Durable}
+use Rattle.std.proofs.Common.{ℕ, ◌≡◌, List, Option, subst, sym}
+use Rattle.slot_store.specs.{Scan.{IsAsFound}, declared.found.Found.TheVariants.{Blank, Latest}}
+use Rattle.meter_store.specs.{Common.{Durable, Found, Ghosts, Seal}, Sealing.{totals_found}}
+use Rattle.meter_store.specs.Sealing.{FoundSeal, FoundTotals, ScannedSeal, ScannedTotals, old_seal, seal_found}
 use Rattle.totals_record.specs.Reading as totals
 use Rattle.meter_store.specs.Stored as stored
-use Rattle.seal_record.specs.declared.seal.Seal.{Seal}
-use Rattle.meter_store.specs.Sealing.{FoundSeal, FoundTotals, ScannedSeal, ScannedTotals, old_seal, seal_found}
-use Rattle.meter_store.specs.Sealing.{totals_found}
 
 -- as it was found, with fewer places in flight
 fewer : {T : Type 0} (reads : List ℕ → Option T) (number_of : T → ℕ) (at : ℕ) (image : List ℕ)

@@ -1,24 +1,16 @@
 -- What a sealing leaves at each moment.
-use Rattle.std.proofs.Common.{◌≡◌, inl, inr, ⊎_elim, ℕ, ◌≤◌, List, Option, Some, None, refl, sym, subst, arith}
-use Rattle.std.specs.Option.{ForSome, option_map}
-use Rattle.outside.specs.declared.board.Board.{Ghosts}
-use Rattle.outside.specs.Disk.{IsWithin, SameBut}
-use Rattle.slot_store.specs.declared.pair.Pair.{Pair}
-use Rattle.slot_store.specs.declared.pair.Place.{Place}
-use Rattle.slot_store.specs.Slots.{FliesNoMore, IsQuiet, IsSamePair, ShowsEither}
-use Rattle.slot_store.specs.Stages.{IsBefore, IsPair, IsReady, spare_at}
-use Rattle.slot_store.specs.Writes.{IsApart, OrWithin, LeavesThroughout, WritesIn}
-use Rattle.slot_store.proofs.Laws as slots
-use Rattle.slot_store.proofs.Laws.{in_part_as, run_on, writes_in_part, writes_on}
-use Rattle.totals_record.specs.declared.durable_state.Durable.{Durable}
-use Rattle.totals_record.specs.Reading as totals
-use Rattle.totals_record.specs.States.{first_state}
-use Rattle.meter_store.specs.Stored as stored
+use Rattle.{std.specs.Option.{ForSome, option_map}, outside.specs.Disk.{IsWithin, SameBut}}
+use Rattle.std.proofs.Common.{ℕ, ◌≡◌, ◌≤◌, List, None, Option, Some, arith, inl, inr, refl, subst, sym, ⊎_elim}
+use Rattle.slot_store.specs.{Slots.{FliesNoMore, IsQuiet, IsSamePair}, Stages.{IsBefore, IsPair, spare_at}}
+use Rattle.slot_store.{specs.Writes.{IsApart, OrWithin}, proofs.Laws.{in_part_as, run_on, writes_in_part, writes_on}}
+use Rattle.{seal_record.specs.Decoding.{reads, seal_number_of}, meter_store.specs.Common.{WritesIn, first_state}}
+use Rattle.meter_store.specs.Common.{Durable, Ghosts, IsReady, LeavesThroughout, Pair, Place, Seal, ShowsEither}
+use Rattle.meter_store.specs.Sealing.{FoundSeal, FoundTotals, HasEitherSeal, HoldsSeal, HoldsSealing, IsAmid}
+use Rattle.meter_store.specs.Sealing.{LeavesSealing, ShowsSeal, StillHas, found_number, next_number}
 use Rattle.meter_store.specs.Stored.{HasState, HoldsState}
-use Rattle.seal_record.specs.declared.seal.Seal.{Seal}
-use Rattle.seal_record.specs.Decoding.{reads, seal_number_of}
-use Rattle.meter_store.specs.Sealing.{FoundSeal, FoundTotals, HasEitherSeal, IsAmid, HoldsSeal, HoldsSealing}
-use Rattle.meter_store.specs.Sealing.{StillHas, LeavesSealing, ShowsSeal, found_number, next_number}
+use Rattle.slot_store.proofs.Laws as slots
+use Rattle.totals_record.specs.Reading as totals
+use Rattle.meter_store.specs.Stored as stored
 
 -- the pair of seals has the found place, or none if it was found blank
 abbrev pub pair_for : Option (Place × ℕ) → Pair

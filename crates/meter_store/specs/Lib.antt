@@ -1,2 +1,3 @@
 pub mod Sealing
 pub mod Stored
+pub mod Common

@@ -1,21 +1,12 @@
 -- Rules: what a sealing leaves in the store. The pair of totals begins at place 0, the pair of seals at place 1,024.
-use Rattle.std.specs.Prelude.{◌≡◌, ◌⊎◌, ℕ, ◌+◌, List, Option, Some, None}
-use Rattle.outside.specs.declared.board.Board.{Ghosts}
-use Rattle.slot_store.specs.declared.found.Found.{Found}
-use Rattle.slot_store.specs.declared.found.Found.TheVariants.{Blank, Latest}
-use Rattle.slot_store.specs.declared.pair.Place.{Place}
-use Rattle.slot_store.specs.Sizes.{pair_size}
-use Rattle.slot_store.specs.Slots.{IsQuiet, IsBlank, IsSettled, StandsFor, Shows, ShowsEither}
-use Rattle.slot_store.specs.Scan.{IsAsFound}
-use Rattle.slot_store.specs.Writes.{LeavesThroughout}
-use Rattle.totals_record.specs.declared.durable_state.Durable.{Durable}
+use Rattle.std.specs.Prelude.{ℕ, ◌+◌, ◌≡◌, ◌⊎◌, List, None, Option, Some}
+use Rattle.slot_store.specs.{Scan.{IsAsFound}, Sizes.{pair_size}, declared.found.Found.TheVariants.{Blank, Latest}}
+use Rattle.{slot_store.specs.Slots.{IsBlank, IsQuiet, Shows, StandsFor}, seal_record.specs.Ranges.{seal_number_of}}
+use Rattle.meter_store.specs.Common.{Durable, Found, Ghosts, IsSettled, LeavesThroughout, Place, Seal, ShowsEither}
+use Rattle.meter_store.specs.{Common.{first_state}, Stored.{HasState, HoldsState}}
 use Rattle.totals_record.specs.Reading as totals
-use Rattle.totals_record.specs.States.{first_state}
 use Rattle.meter_store.specs.Stored as stored
-use Rattle.meter_store.specs.Stored.{HasState, HoldsState}
-use Rattle.seal_record.specs.declared.seal.Seal.{Seal}
 pub use Rattle.seal_record.specs.Decoding.{reads}
-use Rattle.seal_record.specs.Ranges.{seal_number_of}
 
 -- the pair of seals begins at place 1,024 of the store
 abbrev pub seals_at : ℕ

@@ -1,13 +1,8 @@
 -- Rules: what a board's store has of durable states. The pair of totals begins at place 0.
-use Rattle.std.specs.Prelude.{ℕ, ◌-◌, true, List, Some}
-use Rattle.outside.specs.declared.board.Board.{Ghosts}
-use Rattle.slot_store.specs.declared.pair.Place.{Place}
-use Rattle.slot_store.specs.Sizes.{slot_size}
-use Rattle.slot_store.specs.Slots.{slot_at, IsSettled, StandsFor, ShowsEither}
-use Rattle.slot_store.specs.Writes.{LeavesThroughout}
-use Rattle.totals_record.specs.declared.durable_state.Durable.{Durable}
-pub use Rattle.totals_record.specs.Ranges.{state_number_of}
-pub use Rattle.totals_record.specs.Reading.{reads}
+use Rattle.std.specs.Prelude.{ℕ, ◌-◌, List, Some, true}
+use Rattle.slot_store.specs.{Sizes.{slot_size}, Slots.{StandsFor, slot_at}}
+use Rattle.meter_store.specs.Common.{Durable, Ghosts, IsSettled, LeavesThroughout, Place, ShowsEither}
+pub use Rattle.totals_record.specs.{Ranges.{state_number_of}, Reading.{reads}}
 
 -- an image has a state if its pair of totals stands for it; `reads` says which state a slot's bytes are read as, as the
 -- law states_are_read_by_their_table says

@@ -1,11 +1,8 @@
 //! The commit: a new state over the one that the store has.
-ghost use Rattle.std.specs.Prelude.{◌≡◌, ◌+◌, ◌≤◌, IfOk};
-ghost use Rattle.outside.specs.Faults.{HasCause};
-ghost use Rattle.slot_store.specs.Sizes.{slot_size};
-ghost use Rattle.slot_store.specs.Writes.{WritesIn};
-ghost use Rattle.totals_record.specs.Ranges.{IsDurable};
-ghost use Rattle.totals_record.specs.States.{after};
-ghost use Rattle.meter_store.specs.Stored.{place_after, written_at, HoldsState, LeavesEither};
+ghost use Rattle.std.specs.Prelude.{◌+◌, ◌≡◌, ◌≤◌, IfOk};
+ghost use Rattle.{outside.specs.Faults.{HasCause}, slot_store.specs.Sizes.{slot_size}};
+ghost use Rattle.totals_record.specs.{Ranges.{IsDurable}, States.{after}};
+ghost use Rattle.meter_store.specs.{Common.{WritesIn}, Stored.{HoldsState, LeavesEither, place_after, written_at}};
 
 use outside::{Board, Failed, STORE_SIZE};
 use slot_store::{Place, Ready};

@@ -1,15 +1,10 @@
 //! Sealing: totals of zero if the store has none, and then the seal.
-ghost use Rattle.std.specs.Prelude.{◌≡◌, ◌+◌, ◌≤◌, Option, None, IfOk, OnOk};
-ghost use Rattle.std.specs.Option.{ForSome, option_map};
-ghost use Rattle.outside.specs.Faults.{HasCause};
-ghost use Rattle.slot_store.specs.Sizes.{pair_size};
-ghost use Rattle.slot_store.specs.Writes.{LeavesThroughout, WritesIn};
-ghost use Rattle.totals_record.specs.States.{first_state};
-ghost use Rattle.meter_store.specs.Stored.{HoldsState};
-ghost use Rattle.seal_record.specs.declared.seal.Seal.{Seal};
-ghost use Rattle.seal_record.specs.Ranges.{IsSeal};
-ghost use Rattle.meter_store.specs.Sealing.{FoundSeal, FoundTotals, HasEitherSeal, HoldsSeal, HoldsSealing, StillHas};
-ghost use Rattle.meter_store.specs.Sealing.{LeavesSealing, first_written, found_number, next_number, places_written, seals_at};
+ghost use Rattle.std.specs.{Option.{ForSome, option_map}, Prelude.{◌+◌, ◌≡◌, ◌≤◌, IfOk, None, OnOk, Option}};
+ghost use Rattle.{outside.specs.Faults.{HasCause}, slot_store.specs.Sizes.{pair_size}};
+ghost use Rattle.{seal_record.specs.Ranges.{IsSeal}, meter_store.specs.Sealing.{places_written, seals_at}};
+ghost use Rattle.meter_store.specs.{Common.{LeavesThroughout, Seal, WritesIn, first_state}, Stored.{HoldsState}};
+ghost use Rattle.meter_store.specs.Sealing.{FoundSeal, FoundTotals, HasEitherSeal, HoldsSeal, HoldsSealing};
+ghost use Rattle.meter_store.specs.Sealing.{LeavesSealing, StillHas, first_written, found_number, next_number};
 
 use crate::DeviceFailed;
 use outside::{Board, STORE_SIZE};

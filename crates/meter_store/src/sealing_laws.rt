@@ -1,10 +1,7 @@
 //! What scans say of a store that is to be sealed.
-ghost use Rattle.std.specs.Prelude.{◌≡◌, ℕ};
-ghost use Rattle.slot_store.specs.declared.found.Found.{Found};
-ghost use Rattle.totals_record.specs.declared.durable_state.Durable.{Durable};
-ghost use Rattle.seal_record.specs.declared.seal.Seal.{Seal};
+ghost use Rattle.std.specs.Prelude.{ℕ, ◌≡◌};
+ghost use Rattle.meter_store.specs.{Common.{Durable, Found, Seal}, Sealing.{totals_found}};
 ghost use Rattle.meter_store.specs.Sealing.{FoundSeal, FoundTotals, ScannedSeal, ScannedTotals, old_seal, seal_found};
-ghost use Rattle.meter_store.specs.Sealing.{totals_found};
 
 use outside::{Board, STORE_SIZE};
 use std::sync::ledger::Ledger;

@@ -1,11 +1,8 @@
 -- The first seconds of years.
-use Rattle.std.proofs.Common.{◌≡◌, ◌↔◌, Bool, true, false, cond, ltb, ℕ, zero, suc, ◌+◌, ◌/◌, ◌<◌, ◌≤◌, refl, subst}
-use Rattle.std.proofs.Common.{inl, inr, arith}
-use Rattle.std.proofs.lemmas.Bool.{cases_lt}
-use Rattle.interval_clock.specs.declared.day_numbers.CalendarDate.{CalendarDate}
-use Rattle.interval_clock.specs.Calendar.{date_after, day_number_of, days_of_month, days_of_months, days_of_years}
-use Rattle.interval_clock.specs.Calendar.{next_date}
-use Rattle.taxi_units.specs.Time.{first_second, last_second}
+use Rattle.std.proofs.Common.{ℕ, ◌+◌, ◌/◌, ◌<◌, ◌↔◌, ◌≡◌, ◌≤◌, Bool, arith, cond, false, inl, inr, ltb, refl, subst}
+use Rattle.{std.proofs.{Common.{suc, true, zero}, lemmas.Bool.{cases_lt}}, taxi_units.specs.Time.{last_second}}
+use Rattle.interval_clock.specs.Calendar.{date_after, days_of_months, days_of_years, next_date}
+use Rattle.offset_rules.specs.Common.{CalendarDate, day_number_of, days_of_month, first_second}
 use Rattle.offset_rules.specs.Summer.{first_second_of, year_of}
 use Rattle.offset_rules.proofs.YearDays.{day_in_year, first_is_date, in_its_year}
 

@@ -1,21 +1,14 @@
 -- The list of a rule has the offsets of the rule.
-use Rattle.std.proofs.Common.{◌≡◌, ◌⊎◌, ◌∙◌, ℕ, zero, suc, ◌+◌, ◌-◌, ◌*◌, ◌/◌, ◌<◌, ◌≤◌, true, false, eqb, ℤ, pos, List}
-use Rattle.std.proofs.Common.{◌∷◌, ◌++◌, refl, sym, ap, subst, inl, inr, arith}
-use Rattle.std.specs.Prelude.{filter, flat_map}
-use Rattle.std.specs.List.{range_with_len}
-use Rattle.std.proofs.lemmas.Bool.{cases_lt, eq-eqb, ne_eqb, lt-leb, le-leb}
-use Rattle.interval_clock.specs.declared.day_numbers.CalendarDate.{CalendarDate}
-use Rattle.interval_clock.specs.Calendar.{date_after, day_number_of}
-use Rattle.interval_clock.specs.Offsets.{offset_at, offset_from}
+use Rattle.std.{specs.List.{range_with_len}, proofs.lemmas.Bool.{cases_lt, eq-eqb, le-leb, lt-leb, ne_eqb}}
+use Rattle.std.{specs.Prelude.{filter, flat_map}, proofs.Common.{inl, inr, pos, refl, subst, suc, sym, true, zero}}
+use Rattle.std.proofs.Common.{ℕ, ℤ, ◌*◌, ◌++◌, ◌+◌, ◌-◌, ◌/◌, ◌<◌, ◌∙◌, ◌∷◌, ◌≡◌, ◌≤◌, ◌⊎◌, List, ap, arith, eqb, false}
+use Rattle.interval_clock.specs.{Calendar.{date_after}, Offsets.{offset_from}}
 use Rattle.interval_clock.proofs.Laws.{IsDateOf-date_after, IsDateOf-only, is_date_of_number}
-use Rattle.taxi_units.specs.Time.{first_second}
+use Rattle.offset_rules.specs.{Common.{CalendarDate, day_number_of, first_second, offset_at}, Rule.{IsRule, Rule}}
 use Rattle.offset_rules.specs.Pairs.{AreYears, changes_of_year, is_later, pairs_of}
-use Rattle.offset_rules.specs.Rule.{Rule, IsRule}
 use Rattle.offset_rules.specs.Summer.{first_second_of, offset_by, offset_in_year, year_of}
-use Rattle.offset_rules.proofs.Bounds.{from_the_first, second_in_year, years_in_order}
-use Rattle.offset_rules.proofs.Listed.{all_years, so_far}
-use Rattle.offset_rules.proofs.TwoChanges.{earlier_change, later_one, same_later, two}
-use Rattle.offset_rules.proofs.YearDays.{first_is_date}
+use Rattle.offset_rules.proofs.{Bounds.{from_the_first, second_in_year, years_in_order}, Listed.{all_years, so_far}}
+use Rattle.offset_rules.proofs.{TwoChanges.{earlier_change, later_one, same_later, two}, YearDays.{first_is_date}}
 
 -- the changes of `count` years from `year` on
 abbrev pub years : Rule → (year count : ℕ) → List (ℕ × ℤ)

@@ -1,13 +1,9 @@
 -- Parts of lines are read by their forms.
-use Rattle.std.proofs.Common.{◌≡◌, ◌∙◌, ℕ, ◌+◌, ◌*◌, ◌≤◌, ℤ, pos, neg_ℤ, List, [], ◌∷◌, ◌++◌, Option, Some, None, refl}
-use Rattle.std.proofs.Common.{sym, ap, subst, arith, append_assoc}
-use Rattle.taxi_units.specs.Digits.{IsFigure}
-use Rattle.taxi_units.specs.Number.{NoDigitFirst, figure_at, number_at}
-use Rattle.taxi_units.specs.Reading.{◌>>=◌, word_at}
+use Rattle.std.proofs.Common.{[], ℕ, ℤ, ◌*◌, ◌++◌, ◌+◌, ◌∙◌, ◌∷◌, ◌≡◌, ◌≤◌, List, None, Option, Some, ap, append_assoc}
+use Rattle.{std.proofs.Common.{arith, neg_ℤ, pos, refl, subst, sym}, offset_rules.specs.Forms.IsSeconds.{ahead, behind}}
+use Rattle.taxi_units.specs.{Number.{NoDigitFirst, figure_at, number_at}, Reading.{word_at}}
 use Rattle.taxi_units.proofs.Laws.{figures_in_front_are_read_by_their_digits, words_are_read_by_their_text}
-use Rattle.offset_rules.specs.Forms.{IsSeconds, IsTime}
-use Rattle.offset_rules.specs.Forms.IsSeconds.{ahead, behind}
-use Rattle.offset_rules.specs.Reading.{seconds_at, time_at}
+use Rattle.offset_rules.specs.{Common.{◌>>=◌, IsFigure}, Forms.{IsSeconds, IsTime}, Reading.{seconds_at, time_at}}
 
 -- if reading goes on to a value, something was found first
 pub read_on : {A B : Type 0} (found : Option A) (on : A → Option B) (y : B) → found >>= on ≡ Some y

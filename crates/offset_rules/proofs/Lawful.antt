@@ -1,17 +1,12 @@
 -- The list of a rule is a list of offsets.
-use Rattle.std.proofs.Common.{◌≡◌, Bool, true, false, cond, ℕ, zero, suc, ◌+◌, ◌-◌, ◌*◌, ◌<◌, ◌≤◌, ℤ, List, [], ◌∷◌}
-use Rattle.std.proofs.Common.{length, refl, sym, ap, subst, inl, inr, arith}
-use Rattle.std.specs.Prelude.{⊤, filter}
-use Rattle.interval_clock.specs.Offsets.{EachPlace, IsInRangeAt, IsOffset, IsOffsetList, RisesAt, second_at}
-use Rattle.taxi_units.specs.Time.{first_second, last_second}
-use Rattle.offset_rules.specs.Pairs.{AreYears, is_later, pairs_of}
-use Rattle.offset_rules.specs.Rule.{Rule, IsRule}
-use Rattle.offset_rules.specs.Summer.{first_second_of, is_summer, offset_by, year_of}
-use Rattle.offset_rules.specs.Changes.{second_of_change}
-use Rattle.offset_rules.proofs.Bounds.{to_the_last}
-use Rattle.offset_rules.proofs.Follows.{AreLaterChanges, first_year, kept_is, years}
-use Rattle.offset_rules.proofs.Listed.{all_years, so_far}
-use Rattle.offset_rules.proofs.TwoChanges.{earlier_change, later_one, two}
+use Rattle.std.{specs.Prelude.{⊤, filter}, proofs.Common.{length, refl, subst, suc, sym, true, zero}}
+use Rattle.std.proofs.Common.{[], ℕ, ℤ, ◌*◌, ◌+◌, ◌-◌, ◌<◌, ◌∷◌, ◌≡◌, ◌≤◌, Bool, List, ap, arith, cond, false, inl, inr}
+use Rattle.{taxi_units.specs.Time.{last_second}, offset_rules.specs.Common.{IsOffset, IsOffsetList, first_second}}
+use Rattle.interval_clock.specs.Offsets.{EachPlace, IsInRangeAt, RisesAt, second_at}
+use Rattle.offset_rules.specs.{Changes.{second_of_change}, Summer.{first_second_of, is_summer, offset_by, year_of}}
+use Rattle.offset_rules.{specs.Pairs.{AreYears, is_later, pairs_of}, proofs.TwoChanges.{earlier_change, later_one, two}}
+use Rattle.offset_rules.{specs.Rule.{IsRule, Rule}, proofs.Bounds.{to_the_last}}
+use Rattle.offset_rules.proofs.{Follows.{AreLaterChanges, first_year, kept_is, years}, Listed.{all_years, so_far}}
 
 -- pairs rise from a second on, in range
 abbrev Rise : ℕ → List (ℕ × ℤ) → Type 0

@@ -1,16 +1,10 @@
 -- Lines are read by their forms.
-use Rattle.std.proofs.Common.{◌≡◌, ◌∙◌, ℕ, List, [], ◌∷◌, ◌++◌, Option, Some, refl, sym, ap, subst, arith}
-use Rattle.std.proofs.Common.{append_assoc}
-use Rattle.taxi_units.specs.Number.{NoDigitFirst}
-use Rattle.taxi_units.specs.Reading.{word_at}
-use Rattle.taxi_units.proofs.Laws.{words_are_read_by_their_text}
-use Rattle.offset_rules.specs.Forms.{IsChangeText, IsNamedLine, IsSeconds}
-use Rattle.offset_rules.specs.Names.{month_names, number_names}
-use Rattle.offset_rules.specs.Reading.{change_at, named_line_at, numbered_at, seconds_at, time_at}
-use Rattle.offset_rules.specs.Rule.{Change}
-use Rattle.offset_rules.proofs.Forms.{read_on, seconds_from, seconds_is, time_from, time_is}
+use Rattle.std.proofs.Common.{[], ℕ, ◌++◌, ◌∙◌, ◌∷◌, ◌≡◌, List, Option, Some, ap, append_assoc, arith, refl, subst, sym}
+use Rattle.taxi_units.{specs.{Number.{NoDigitFirst}, Reading.{word_at}}, proofs.Laws.{words_are_read_by_their_text}}
+use Rattle.offset_rules.specs.{Common.{day_names}, Reading.{change_at, named_line_at, numbered_at, seconds_at, time_at}}
+use Rattle.offset_rules.specs.{Forms.{IsChangeText, IsNamedLine, IsSeconds}, Names.{month_names, number_names}}
+use Rattle.offset_rules.{specs.Rule.{Change}, proofs.Forms.{read_on, seconds_from, seconds_is, time_from, time_is}}
 use Rattle.offset_rules.proofs.NamesRead.{day_from, month_from, name_is, number_from}
-use Rattle.taxi_units.specs.Weekdays.{day_names}
 
 -- a word stands at the front
 word_is : (word text rest : List ℕ) → word_at word text ≡ Some rest → text ≡ word ++ rest

@@ -1,16 +1,10 @@
 -- The list of offsets as it grows, year by year.
-use Rattle.std.proofs.Common.{◌≡◌, ◌∙◌, Bool, true, false, cond, nat_lt, get_or, pos, ℕ, zero, suc, ◌+◌, ◌-◌, ℤ, List}
-use Rattle.std.proofs.Common.{[], ◌∷◌, ◌++◌, refl, sym, ap, subst, arith, append_assoc}
-use Rattle.std.specs.Prelude.{filter, flat_map}
-use Rattle.std.specs.List.{range_with_len}
-use Rattle.std.proofs.lemmas.Grind.{flat_map-append}
-use Rattle.std.proofs.lemmas.List.{append-nil}
-use Rattle.std.proofs.lemmas.List.Elements.{filter-append}
-use Rattle.taxi_units.specs.Time.{first_second}
-use Rattle.offset_rules.specs.Changes.{second_of_change}
-use Rattle.offset_rules.specs.Pairs.{changes_of_year, is_later, pairs_of}
+use Rattle.{std.specs.List.{range_with_len}, offset_rules.specs.Pairs.{changes_of_year, is_later, pairs_of}}
+use Rattle.std.{specs.Prelude.{filter, flat_map}, proofs.lemmas.List.{append-nil, Elements.{filter-append}}}
+use Rattle.std.proofs.Common.{[], ℕ, ℤ, ◌++◌, ◌+◌, ◌-◌, ◌∙◌, ◌∷◌, ◌≡◌, Bool, List, ap, append_assoc, arith, cond, false}
+use Rattle.std.proofs.{Common.{get_or, nat_lt, pos, refl, subst, suc, sym, true, zero}, lemmas.Grind.{flat_map-append}}
+use Rattle.offset_rules.specs.{Changes.{second_of_change}, Common.{first_second}, Summer.{first_second_of, offset_by}}
 use Rattle.offset_rules.specs.Rule.{Rule}
-use Rattle.offset_rules.specs.Summer.{first_second_of, offset_by}
 
 -- the list with the changes of `count` years from `from` on
 abbrev pub so_far : Rule → (from count : ℕ) → List (ℕ × ℤ)

@@ -1,18 +1,12 @@
 -- The list of a rule has exactly the changes of its years.
-use Rattle.std.proofs.Common.{◌≡◌, ◌≢◌, ◌⊎◌, ◌∙◌, ℕ, zero, suc, ◌+◌, ◌-◌, ◌<◌, ◌≤◌, Bool, true, false, cond, not, eqb}
-use Rattle.std.proofs.Common.{ltb, ℤ, List, [], ◌∷◌, refl, sym, ap, subst, inl, inr, arith}
-use Rattle.std.specs.Prelude.{Contains, filter}
-use Rattle.std.proofs.lemmas.Bool.{cases_lt, eq-eqb}
-use Rattle.std.proofs.lemmas.Bool.Decides.{Decides-eqb}
+use Rattle.std.{specs.Prelude.{Contains, filter}, proofs.lemmas.Bool.{cases_lt, eq-eqb, Decides.{Decides-eqb}}}
+use Rattle.std.proofs.Common.{[], ℕ, ℤ, ◌+◌, ◌-◌, ◌<◌, ◌∙◌, ◌∷◌, ◌≡◌, ◌≢◌, ◌≤◌, ◌⊎◌, Bool, List, ap, arith, cond, eqb}
+use Rattle.std.proofs.Common.{false, inl, inr, ltb, not, refl, subst, suc, sym, true, zero}
 use Rattle.std.proofs.lemmas.List.Elements.{Contains-append_cases, Contains-append_left, Contains-append_right}
-use Rattle.taxi_units.specs.Time.{first_second}
-use Rattle.offset_rules.specs.Changes.{second_of_change}
+use Rattle.offset_rules.specs.{Changes.{second_of_change}, Pairs.{pairs_of, IsChangeIn.{begins, ends}}}
+use Rattle.offset_rules.{specs.{Common.{first_second}, Rule.{IsRule, Rule}}, proofs.Lawful.{lists_are_lawful}}
 use Rattle.offset_rules.specs.Pairs.{AreYears, IsChangeIn, IsListOf, changes_of_year, changes_of_years, is_later}
-use Rattle.offset_rules.specs.Pairs.{pairs_of}
-use Rattle.offset_rules.specs.Pairs.IsChangeIn.{begins, ends}
-use Rattle.offset_rules.specs.Rule.{Rule, IsRule}
 use Rattle.offset_rules.proofs.Follows.{years}
-use Rattle.offset_rules.proofs.Lawful.{lists_are_lawful}
 
 abbrev Pair : Type 0
 Pair = ℕ × ℤ

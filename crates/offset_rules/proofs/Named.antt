@@ -1,15 +1,10 @@
 -- The dates of changes.
-use Rattle.std.proofs.Common.{◌≡◌, ◌≢◌, ◌↔◌, ◌⊎◌, ℕ, zero, suc, ◌+◌, ◌-◌, ◌*◌, ◌/◌, ◌%◌, ◌≤◌, Bool, true, false}
-use Rattle.std.proofs.Common.{Decides, length, refl, sym, subst, inl, inr, arith}
-use Rattle.std.specs.Prelude.{◌==◌, filter}
-use Rattle.std.specs.List.{range_with_len}
-use Rattle.std.proofs.lemmas.Bool.{cases_lt, eq-eqb, ne_eqb}
-use Rattle.std.proofs.lemmas.Bool.Decides.{Decides-eqb}
-use Rattle.interval_clock.specs.Calendar.{day_number_of, days_of_month}
+use Rattle.std.{specs.{List.{range_with_len}, Prelude.{◌==◌, filter}}, proofs.lemmas.Bool.Decides.{Decides-eqb}}
+use Rattle.std.proofs.Common.{ℕ, ◌%◌, ◌*◌, ◌+◌, ◌-◌, ◌/◌, ◌↔◌, ◌≡◌, ◌≢◌, ◌≤◌, ◌⊎◌, Bool, Decides, arith, false, inl}
+use Rattle.std.proofs.{Common.{inr, length, refl, subst, suc, sym, true, zero}, lemmas.Bool.{cases_lt, eq-eqb, ne_eqb}}
 use Rattle.offset_rules.specs.Changes.{IsDateOfChange, IsLastInMonth, date_of_change, times_before, weekday_on}
-use Rattle.offset_rules.specs.Rule.{Change, IsChange}
-use Rattle.offset_rules.proofs.Places.{count_step, placed, placed_last}
-use Rattle.offset_rules.proofs.YearDays.{day_by_day, long_month}
+use Rattle.offset_rules.{specs.Common.{day_number_of, days_of_month}, proofs.Places.{count_step, placed, placed_last}}
+use Rattle.offset_rules.{specs.Rule.{Change, IsChange}, proofs.YearDays.{day_by_day, long_month}}
 
 -- the weekdays of a month go round by sevens from that of its first date on
 pub weekdays_go_round : (year month date : ℕ) → 1970 ≤ year → 1 ≤ month → month ≤ 12 → 1 ≤ date

@@ -1,11 +1,8 @@
 -- Names are read as their numbers.
-use Rattle.std.proofs.Common.{◌≡◌, ◌∙◌, ℕ, zero, suc, ◌+◌, ◌-◌, ◌<◌, ◌≤◌, List, [], ◌∷◌, ◌++◌, length, get_or, Option}
-use Rattle.std.proofs.Common.{Some, None, refl, ap, subst, arith}
-use Rattle.taxi_units.specs.Reading.{word_at}
-use Rattle.taxi_units.proofs.Laws.{words_are_read_by_their_text}
-use Rattle.offset_rules.specs.Names.{IsName, month_names, name_of, number_names}
-use Rattle.offset_rules.specs.Reading.{found_or, numbered_at}
-use Rattle.taxi_units.specs.Weekdays.{day_names}
+use Rattle.std.proofs.Common.{[], ℕ, ◌++◌, ◌+◌, ◌-◌, ◌<◌, ◌∙◌, ◌∷◌, ◌≡◌, ◌≤◌, List, None, Option, Some, ap, arith}
+use Rattle.{std.proofs.Common.{get_or, length, refl, subst, suc, zero}, taxi_units.specs.Reading.{word_at}}
+use Rattle.{taxi_units.proofs.Laws.{words_are_read_by_their_text}, offset_rules.specs.Common.{day_names}}
+use Rattle.offset_rules.specs.{Names.{IsName, month_names, name_of, number_names}, Reading.{found_or, numbered_at}}
 
 -- a name that stands at the front gives its number
 pub name_here : (number : ℕ) (found : Option (List ℕ)) (rest : List ℕ) (others : Option (ℕ × List ℕ))

@@ -1,8 +1,6 @@
 -- Where a number stands among those of a range that pass a test.
-use Rattle.std.proofs.Common.{◌≡◌, ℕ, zero, suc, ◌+◌, ◌-◌, ◌<◌, ◌≤◌, Bool, true, false, cond, List, ◌∷◌, length, get_or}
-use Rattle.std.proofs.Common.{refl, ap, ◌∙◌, arith}
-use Rattle.std.specs.Prelude.{filter}
-use Rattle.std.specs.List.{range_with_len}
+use Rattle.std.{specs.{List.{range_with_len}, Prelude.{filter}}, proofs.Common.{refl, suc, true, zero}}
+use Rattle.std.proofs.Common.{ℕ, ◌+◌, ◌-◌, ◌<◌, ◌∙◌, ◌∷◌, ◌≡◌, ◌≤◌, Bool, List, ap, arith, cond, false, get_or, length}
 
 -- one number more in front
 filter_step : (test : ℕ → Bool) (a n : ℕ) (b : Bool) → test a ≡ b → filter test (range_with_len a (suc n))

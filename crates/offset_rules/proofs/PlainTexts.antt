@@ -1,28 +1,14 @@
 -- A plain text is read as its rule, and what is read is in its ranges.
-use Rattle.std.proofs.Common.{◌≡◌, ◌∙◌, ℕ, suc, ◌-◌, ◌/◌, ◌%◌, ◌≤◌, ℤ, pos, negsuc, true, leb, get_or, List, []}
-use Rattle.std.proofs.Common.{◌∷◌, ◌++◌, length, Result, Ok, refl, sym, arith, inl, inr, length-append}
-use Rattle.std.specs.Prelude.{codes}
-use Rattle.std.specs.Fmt.{decimal}
-use Rattle.std.specs.List.{list_all}
-use Rattle.std.proofs.lemmas.Bool.{cases_lt}
-use Rattle.std.proofs.lemmas.Int.{ints}
-use Rattle.std.proofs.lemmas.List.{get_or_past}
-use Rattle.interval_clock.specs.Offsets.{IsOffset}
-use Rattle.taxi_units.specs.Digits.{IsFigure}
-use Rattle.taxi_units.specs.Number.{padded_text}
-use Rattle.taxi_units.specs.Test.{at_most, each}
-use Rattle.taxi_units.proofs.Laws.{numbers_are_short, numbers_are_written_as_figures}
-use Rattle.taxi_units.proofs.Laws.{padded_numbers_are_written_as_figures}
-use Rattle.offset_rules.specs.Forms.{IsChangeText, IsNamedLine, IsSeconds, IsTime}
-use Rattle.offset_rules.specs.Forms.IsSeconds.{ahead, behind}
-use Rattle.offset_rules.specs.Names.{month_names, name_of, number_names}
-use Rattle.offset_rules.specs.Reading.{rules_read}
-use Rattle.offset_rules.specs.Rule.{Change, IsChange, IsRule, Rule}
-use Rattle.offset_rules.specs.RulesText.{AreLinesOf, IsReadAs}
-use Rattle.offset_rules.specs.Texts.{change_text, offset_text, plain_text, time_text}
-use Rattle.offset_rules.specs.declared.fault.RuleFault.{RuleFault}
-use Rattle.offset_rules.proofs.TextsRead.{texts_say_rules}
-use Rattle.taxi_units.specs.Weekdays.{day_names}
+use Rattle.{std.specs.Fmt.{decimal}, taxi_units.proofs.Laws.{padded_numbers_are_written_as_figures}}
+use Rattle.std.{specs.{List.{list_all}, Prelude.{codes}}, proofs.lemmas.{Bool.{cases_lt}, List.{get_or_past}}}
+use Rattle.std.proofs.Common.{[], ℕ, ℤ, ◌%◌, ◌++◌, ◌-◌, ◌/◌, ◌∙◌, ◌∷◌, ◌≡◌, ◌≤◌, List, Ok, Result, arith, get_or, inl}
+use Rattle.std.proofs.{Common.{inr, leb, length, length-append, negsuc, pos, refl, suc, sym, true}, lemmas.Int.{ints}}
+use Rattle.taxi_units.{specs.Number.{padded_text}, proofs.Laws.{numbers_are_short, numbers_are_written_as_figures}}
+use Rattle.{taxi_units.specs.Test.{at_most, each}, offset_rules.specs.Common.{IsFigure, IsOffset, RuleFault, day_names}}
+use Rattle.offset_rules.specs.{Forms.{IsChangeText, IsNamedLine, IsSeconds, IsTime}, RulesText.{AreLinesOf, IsReadAs}}
+use Rattle.offset_rules.specs.{Forms.IsSeconds.{ahead, behind}, Texts.{change_text, offset_text, plain_text, time_text}}
+use Rattle.offset_rules.specs.{Names.{month_names, name_of, number_names}, Rule.{Change, IsChange, IsRule, Rule}}
+use Rattle.offset_rules.{specs.Reading.{rules_read}, proofs.TextsRead.{texts_say_rules}}
 
 -- ---- a plain text
 

@@ -1,7 +1,6 @@
 -- What is read one part behind the other.
-use Rattle.std.proofs.Common.{◌≡◌, Option, Some, None, refl}
-use Rattle.std.specs.Prelude.{IfSome}
-use Rattle.taxi_units.specs.Reading.{◌>>=◌, Gives}
+use Rattle.std.{specs.Prelude.{IfSome}, proofs.Common.{◌≡◌, None, Option, Some, refl}}
+use Rattle.offset_rules.specs.Common.{◌>>=◌, Gives}
 
 -- a part that was found, and one that wasn't
 pub found_then : {A B : Type 0} (found : Option A) (f : A → Option B) (a : A) (x : Option B) → found ≡ Some a → f a ≡ x

@@ -1,16 +1,12 @@
 -- Texts of rules are read by their lines.
-use Rattle.std.proofs.Common.{◌≡◌, ◌≢◌, ◌∙◌, ◌↔◌, ℕ, ◌≤◌, Bool, true, false, if◌then◌else◌, eqb, ltb, ℤ, List, [], ◌∷◌}
-use Rattle.std.proofs.Common.{◌++◌, length, Option, Some, None, Result, Ok, Err, refl, ap, subst}
-use Rattle.std.specs.Prelude.{codes}
-use Rattle.std.proofs.lemmas.Bool.{lt-ltb, le-ltb, ltb-true, ltb-false, eq-eqb, ne_eqb}
-use Rattle.std.proofs.lemmas.Bool.Decides.{Decides-eqb}
+use Rattle.{std.specs.Prelude.{codes}, offset_rules.specs.Common.{BadLine, RuleFault, SameMonth, TooLong}}
+use Rattle.std.proofs.Common.{[], ℕ, ℤ, ◌++◌, ◌↔◌, ◌∙◌, ◌∷◌, ◌≡◌, ◌≢◌, ◌≤◌, Bool, Err, List, None, Ok, Option, Result}
+use Rattle.std.proofs.Common.{Some, ap, eqb, false, if◌then◌else◌, length, ltb, refl, subst, true}
+use Rattle.std.proofs.lemmas.Bool.{eq-eqb, le-ltb, lt-ltb, ltb-false, ltb-true, ne_eqb, Decides.{Decides-eqb}}
 use Rattle.offset_rules.specs.Forms.{IsChangeText, IsNamedLine, IsSeconds}
 use Rattle.offset_rules.specs.Reading.{change_at, lines_read, named_line_at, or_bad, rules_read, seconds_at, whole}
-use Rattle.offset_rules.specs.Rule.{Change, Rule}
-use Rattle.offset_rules.specs.RulesText.{AreLinesOf, BreaksAt, IsReadAs, Lacks, StandsFirst}
-use Rattle.offset_rules.specs.RulesText.BreaksAt.{at_first, at_second, at_third, at_fourth, after_them}
-use Rattle.offset_rules.specs.declared.fault.RuleFault.{RuleFault}
-use Rattle.offset_rules.specs.declared.fault.RuleFault.TheVariants.{TooLong, BadLine, SameMonth}
+use Rattle.offset_rules.specs.{Rule.{Change, Rule}, RulesText.{AreLinesOf, BreaksAt, IsReadAs, Lacks, StandsFirst}}
+use Rattle.offset_rules.specs.RulesText.BreaksAt.{after_them, at_first, at_fourth, at_second, at_third}
 use Rattle.offset_rules.proofs.LinesRead.{IsReadBy, LineFirst, changes, line_from, line_is, offsets}
 
 -- ---- lines that stand there and lines that are lacking

@@ -1,14 +1,9 @@
 -- The two changes of a year, the earlier one and the later one.
-use Rattle.std.proofs.Common.{◌≡◌, ◌≢◌, ℕ, ◌+◌, ◌<◌, ◌≤◌, Bool, true, false, cond, leb, ltb, ℤ, [], ◌∷◌, refl, sym}
-use Rattle.std.proofs.Common.{subst, inl, inr, arith}
-use Rattle.std.proofs.lemmas.Bool.{cases_lt, lt-ltb, le-ltb, lt-leb, le-leb}
-use Rattle.interval_clock.specs.Offsets.{IsOffset}
-use Rattle.offset_rules.specs.Changes.{date_of_change, second_of_change}
-use Rattle.offset_rules.specs.Pairs.{changes_of_year}
-use Rattle.offset_rules.specs.Rule.{Change, IsChange, Rule, IsRule}
-use Rattle.offset_rules.specs.Summer.{first_second_of, offset_in_year}
-use Rattle.offset_rules.proofs.Named.{one_each_year}
-use Rattle.offset_rules.proofs.YearDays.{day_in_year, later_day}
+use Rattle.std.proofs.Common.{[], ℕ, ℤ, ◌+◌, ◌<◌, ◌∷◌, ◌≡◌, ◌≢◌, ◌≤◌, Bool, arith, cond, false, inl, inr, leb, ltb}
+use Rattle.std.proofs.{Common.{refl, subst, sym, true}, lemmas.Bool.{cases_lt, le-leb, le-ltb, lt-leb, lt-ltb}}
+use Rattle.offset_rules.specs.{Changes.{date_of_change, second_of_change}, Summer.{first_second_of, offset_in_year}}
+use Rattle.offset_rules.{specs.{Common.{IsOffset}, Pairs.{changes_of_year}}, proofs.Named.{one_each_year}}
+use Rattle.offset_rules.{specs.Rule.{Change, IsChange, IsRule, Rule}, proofs.YearDays.{day_in_year, later_day}}
 
 -- a change lies in its year
 change_in_year : (year : ℕ) (change : Change) → 1970 ≤ year → IsChange change → (first_second_of year

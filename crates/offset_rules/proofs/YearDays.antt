@@ -1,14 +1,11 @@
 -- The days of a year by their months.
-use Rattle.std.proofs.Common.{◌≡◌, ℕ, zero, suc, ◌+◌, ◌-◌, ◌<◌, ◌≤◌, Bool, true, false, List, slice_index, sum, take}
-use Rattle.std.proofs.Common.{length, leb, if◌then◌else◌, refl, sym, subst, inl, inr, arith}
-use Rattle.std.specs.List.{list_all}
-use Rattle.std.proofs.lemmas.Bool.{cases_lt, leb-true}
-use Rattle.std.proofs.lemmas.List.Folds.{list_all_at}
-use Rattle.std.proofs.lemmas.Int.{ints}
-use Rattle.std.proofs.lemmas.List.Sums.{sum_by_more}
-use Rattle.interval_clock.specs.Calendar.{IsDate, date_after, day_number_of, days_of_month, days_of_months}
-use Rattle.interval_clock.specs.Calendar.{days_of_year, days_of_years, is_leap_year, month_lengths, place_in_year}
+use Rattle.{std.specs.List.{list_all}, interval_clock.specs.Calendar.{month_lengths, place_in_year}}
+use Rattle.std.proofs.Common.{ℕ, ◌+◌, ◌-◌, ◌<◌, ◌≡◌, ◌≤◌, Bool, List, arith, false, if◌then◌else◌, inl, inr, leb}
+use Rattle.std.proofs.Common.{length, refl, slice_index, subst, suc, sum, sym, take, true, zero}
+use Rattle.std.proofs.lemmas.{Bool.{cases_lt, leb-true}, Int.{ints}, List.{Folds.{list_all_at}, Sums.{sum_by_more}}}
+use Rattle.interval_clock.specs.Calendar.{date_after, days_of_months, days_of_year, days_of_years, is_leap_year}
 use Rattle.interval_clock.proofs.Laws.{IsDateOf-date_after, is_date_of_number}
+use Rattle.offset_rules.specs.Common.{IsDate, day_number_of, days_of_month}
 
 -- each number of a list is at least so great
 each_at_least : (low : ℕ) (xs : List ℕ) → list_all (λ x. leb low x) xs ≡ true → (place : ℕ) → place < length xs

@@ -1,8 +1,7 @@
 -- Rules: the dates of changes, in the words of the calendar.
-use Rattle.std.specs.Prelude.{◌≡◌, ◌≢◌, ◌⊎◌, ℕ, ◌+◌, ◌-◌, ◌*◌, ◌<◌, ◌≤◌, ◌==◌, if◌then◌else◌, pos, List, length, filter, slice_index}
-use Rattle.std.specs.List.{range_with_len}
-use Rattle.interval_clock.specs.Calendar.{IsDate, day_number_of, days_of_month, weekday_of}
-use Rattle.offset_rules.specs.Rule.{Change}
+use Rattle.{std.specs.{List.{range_with_len}, Prelude.{slice_index}}, interval_clock.specs.Calendar.{weekday_of}}
+use Rattle.std.specs.Prelude.{ℕ, ◌*◌, ◌+◌, ◌-◌, ◌<◌, ◌==◌, ◌≡◌, ◌≢◌, ◌≤◌, ◌⊎◌, List, filter, if◌then◌else◌, length, pos}
+use Rattle.offset_rules.specs.{Common.{IsDate, day_number_of, days_of_month}, Rule.{Change}}
 
 -- the weekday of a date of 1970 or later is that of its day number
 abbrev pub weekday_on : (year month date : ℕ) → ℕ

@@ -1,10 +1,7 @@
 -- Rules: the forms of the four lines of a text of rules.
-use Rattle.std.specs.Prelude.{◌≡◌, ℕ, ◌+◌, ◌*◌, ℤ, pos, neg_ℤ, List, ◌∷◌, ◌++◌, codes}
+use Rattle.std.specs.Prelude.{ℕ, ℤ, ◌*◌, ◌++◌, ◌+◌, ◌∷◌, ◌≡◌, List, codes, neg_ℤ, pos}
 use Rattle.interval_clock.specs.Offsets.{greatest_offset}
-use Rattle.offset_rules.specs.Names.{IsName, month_names, number_names}
-use Rattle.offset_rules.specs.Rule.{Change}
-use Rattle.taxi_units.specs.Digits.{IsFigure}
-use Rattle.taxi_units.specs.Weekdays.{day_names}
+use Rattle.offset_rules.specs.{Common.{IsFigure, day_names}, Names.{IsName, month_names, number_names}, Rule.{Change}}
 
 -- a text says an offset in seconds if it is 1 to 5 digits of a number up to 50400, or a minus and then such digits
 pub data IsSeconds : List ℕ → ℤ → Type 0 where

@@ -7,3 +7,4 @@ pub mod Rule
 pub mod RulesText
 pub mod Summer
 pub mod Texts
+pub mod Common

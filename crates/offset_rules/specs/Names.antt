@@ -1,5 +1,5 @@
 -- Rules: the words of changes.
-use Rattle.std.specs.Prelude.{◌≡◌, ℕ, ◌-◌, ◌≤◌, List, [], ◌∷◌, length, slice_index_or, codes}
+use Rattle.std.specs.Prelude.{[], ℕ, ◌-◌, ◌∷◌, ◌≡◌, ◌≤◌, List, codes, length, slice_index_or}
 
 -- the names of the numbers 1 to 5 of a change are `first`, `second`, `third`, `fourth` and `last`, which say which of
 -- its weekdays in the month is meant

@@ -1,11 +1,8 @@
 -- Rules: the list of offsets that a rule gives for some years.
-use Rattle.std.specs.Prelude.{◌≡◌, ◌≢◌, ◌↔◌, ℕ, ◌+◌, ◌-◌, ◌≤◌, Bool, not, ◌==◌, nat_lt, if◌then◌else◌, ℤ, List, [], ◌∷◌, Contains, filter, flat_map}
-use Rattle.std.specs.List.{range_with_len}
-use Rattle.interval_clock.specs.Offsets.{EachPlace, RisesAt}
-use Rattle.taxi_units.specs.Time.{first_second}
-use Rattle.offset_rules.specs.Changes.{second_of_change}
-use Rattle.offset_rules.specs.Rule.{Rule}
-use Rattle.offset_rules.specs.Summer.{first_second_of, offset_by}
+use Rattle.std.specs.{List.{range_with_len}, Prelude.{if◌then◌else◌, nat_lt, not}}
+use Rattle.std.specs.Prelude.{[], ℕ, ℤ, ◌+◌, ◌-◌, ◌==◌, ◌↔◌, ◌∷◌, ◌≡◌, ◌≢◌, ◌≤◌, Bool, Contains, List, filter, flat_map}
+use Rattle.{interval_clock.specs.Offsets.{EachPlace, RisesAt}, offset_rules.specs.Summer.{first_second_of, offset_by}}
+use Rattle.offset_rules.specs.{Changes.{second_of_change}, Common.{first_second}, Rule.{Rule}}
 
 -- a list may be asked for one to fifteen years, one after another, of 2000 to 2199
 pub record AreYears (from to : ℕ) : Type 0 where

@@ -1,15 +1,10 @@
 -- By law: how rules are read from the front of a text, in the stages of the code. The law
 -- texts_say_rules_line_by_line says what the answers mean.
-use Rattle.std.specs.Prelude.{ℕ, ◌+◌, ◌*◌, ◌==◌, nat_lt, if◌then◌else◌, ℤ, pos, neg_ℤ, List, [], ◌∷◌, length, Option}
-use Rattle.std.specs.Prelude.{Some, None, Result, Ok, Err, codes}
-use Rattle.interval_clock.specs.Offsets.{greatest_offset}
-use Rattle.taxi_units.specs.Number.{figure_at}
-use Rattle.taxi_units.specs.Reading.{◌>>=◌, word_at}
+use Rattle.std.specs.Prelude.{[], ℕ, ℤ, ◌*◌, ◌+◌, ◌==◌, ◌∷◌, Err, List, None, Ok, Option, Result, Some, codes}
+use Rattle.std.specs.Prelude.{if◌then◌else◌, length, nat_lt, neg_ℤ, pos}
+use Rattle.{taxi_units.specs.{Number.{figure_at}, Reading.{word_at}}, interval_clock.specs.Offsets.{greatest_offset}}
+use Rattle.offset_rules.specs.{Common.{◌>>=◌, BadLine, RuleFault, SameMonth, TooLong, day_names}, Rule.{Change, Rule}}
 use Rattle.offset_rules.specs.Names.{month_names, number_names}
-use Rattle.offset_rules.specs.Rule.{Change, Rule}
-use Rattle.offset_rules.specs.declared.fault.RuleFault.{RuleFault}
-use Rattle.offset_rules.specs.declared.fault.RuleFault.TheVariants.{TooLong, BadLine, SameMonth}
-use Rattle.taxi_units.specs.Weekdays.{day_names}
 
 -- the offset in seconds at the front of a text, and the rest
 unfoldable pub seconds_at : List ℕ → Option (ℤ × List ℕ)

@@ -1,7 +1,6 @@
 -- Rules: yearly rules of summer time.
-use Rattle.std.specs.Prelude.{◌≢◌, ◌≤◌, ℤ}
-use Rattle.interval_clock.specs.Offsets.{IsOffset}
-use Rattle.taxi_units.specs.Calendar.{IsMonth}
+use Rattle.std.specs.Prelude.{ℤ, ◌≢◌, ◌≤◌}
+use Rattle.{taxi_units.specs.Calendar.{IsMonth}, offset_rules.specs.Common.{IsOffset}}
 pub use Rattle.offset_rules.specs.declared.rules.Change.{Change}
 
 -- a change has its parts in range: a number of 1 to 5, a weekday of 1 to 7, a month, and a minute of the day

@@ -1,9 +1,7 @@
 -- Rules: what a text of rules says.
-use Rattle.std.specs.Prelude.{◌≡◌, ◌≢◌, ℕ, ◌<◌, ◌≤◌, ℤ, List, [], ◌∷◌, ◌++◌, length, Result, Ok, Err, codes}
+use Rattle.std.specs.Prelude.{[], ℕ, ℤ, ◌++◌, ◌<◌, ◌∷◌, ◌≡◌, ◌≢◌, ◌≤◌, Err, List, Ok, Result, codes, length}
+use Rattle.offset_rules.specs.{Common.{BadLine, RuleFault, SameMonth, TooLong}, Rule.{Change, Rule}}
 use Rattle.offset_rules.specs.Forms.{IsChangeText, IsNamedLine, IsSeconds}
-use Rattle.offset_rules.specs.Rule.{Change, Rule}
-use Rattle.offset_rules.specs.declared.fault.RuleFault.{RuleFault}
-use Rattle.offset_rules.specs.declared.fault.RuleFault.TheVariants.{TooLong, BadLine, SameMonth}
 
 -- a text says a rule if it is four lines, each ended by an LF, that say the rule's parts in their order
 pub record AreLinesOf (text : List ℕ) (rule : Rule) : Type 0 where

@@ -1,8 +1,7 @@
 -- Rules: the offset of a rule at a second.
-use Rattle.std.specs.Prelude.{ℕ, ◌*◌, ◌/◌, Bool, nat_le, nat_lt, ◌&&◌, ◌||◌, if◌then◌else◌, ℤ}
-use Rattle.interval_clock.specs.Calendar.{date_after, day_number_of}
-use Rattle.offset_rules.specs.Changes.{second_of_change}
-use Rattle.offset_rules.specs.Rule.{Rule}
+use Rattle.std.specs.Prelude.{ℕ, ℤ, ◌&&◌, ◌*◌, ◌/◌, ◌||◌, Bool, if◌then◌else◌, nat_le, nat_lt}
+use Rattle.{interval_clock.specs.Calendar.{date_after}, offset_rules.specs.{Changes.{second_of_change}, Rule.{Rule}}}
+use Rattle.offset_rules.specs.Common.{day_number_of}
 
 -- within a year, summer time is from the second at which it begins up to the one at which it ends; if it ends
 -- earlier in the year than it begins, it is before its end and from its beginning on

@@ -1,10 +1,7 @@
 -- Rules: the texts that are written, which are the lines of a list of offsets and a plain text of rules.
-use Rattle.std.specs.Prelude.{ℕ, suc, ◌/◌, ◌%◌, ℤ, pos, negsuc, List, ◌∷◌, ◌++◌, flat_map, codes}
-use Rattle.std.specs.Fmt.{decimal}
-use Rattle.taxi_units.specs.Number.{padded_text}
-use Rattle.offset_rules.specs.Names.{month_names, name_of, number_names}
-use Rattle.offset_rules.specs.Rule.{Change, Rule}
-use Rattle.taxi_units.specs.Weekdays.{day_names}
+use Rattle.std.specs.{Fmt.{decimal}, Prelude.{ℕ, ℤ, ◌%◌, ◌++◌, ◌/◌, ◌∷◌, List, codes, flat_map, negsuc, pos, suc}}
+use Rattle.{taxi_units.specs.Number.{padded_text}, offset_rules.specs.Names.{month_names, name_of, number_names}}
+use Rattle.offset_rules.specs.{Common.{day_names}, Rule.{Change, Rule}}
 
 -- an offset is written in decimal seconds, with a minus before them if it is below zero
 abbrev pub offset_text : ℤ → List ℕ

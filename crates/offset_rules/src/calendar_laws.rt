@@ -1,7 +1,6 @@
 //! A law of the dates of changes.
-ghost use Rattle.std.specs.Prelude.{◌≡◌, ◌↔◌, ℕ, ◌≤◌};
-ghost use Rattle.offset_rules.specs.Changes.{IsDateOfChange, date_of_change};
-ghost use Rattle.offset_rules.specs.Rule.{IsChange};
+ghost use Rattle.std.specs.Prelude.{ℕ, ◌↔◌, ◌≡◌, ◌≤◌};
+ghost use Rattle.offset_rules.specs.{Changes.{IsDateOfChange, date_of_change}, Rule.{IsChange}};
 
 use crate::rules::Change;
 

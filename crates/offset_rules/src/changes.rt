@@ -1,9 +1,8 @@
 //! The dates and seconds of changes.
 ghost use Rattle.std.specs.Prelude.{◌≡◌, ◌≤◌, pos};
-ghost use Rattle.interval_clock.specs.Calendar.{IsDate, IsDateOf, day_number_of, weekday_of};
+ghost use Rattle.{interval_clock.specs.Calendar.{IsDateOf, weekday_of}, offset_rules.specs.Changes.{IsDateOfChange}};
+ghost use Rattle.offset_rules.specs.{Common.{IsDate, day_number_of}, Rule.{IsChange}};
 ghost use Rattle.offset_rules.specs.Changes as spec;
-ghost use Rattle.offset_rules.specs.Changes.{IsDateOfChange};
-ghost use Rattle.offset_rules.specs.Rule.{IsChange};
 ghost use Rattle.offset_rules.specs.Summer as spec_summer;
 
 use crate::rules::Change;

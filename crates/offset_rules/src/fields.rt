@@ -1,9 +1,7 @@
 //! Offsets, times and changes at the front of a text, and what stands after them.
 ghost use Rattle.std.specs.Prelude.{◌≤◌, IfSome};
-ghost use Rattle.interval_clock.specs.Offsets.{IsOffset};
+ghost use Rattle.offset_rules.specs.{Common.{Gives, IsOffset}, Rule.{IsChange}};
 ghost use Rattle.offset_rules.specs.Reading as spec;
-ghost use Rattle.offset_rules.specs.Rule.{IsChange};
-ghost use Rattle.taxi_units.specs.Reading.{Gives};
 
 use crate::names::{month, number, weekday};
 use crate::rules::Change;

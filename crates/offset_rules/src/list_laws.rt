@@ -1,9 +1,7 @@
 //! Laws of the lists that rules give.
-ghost use Rattle.std.specs.Prelude.{◌≡◌, ◌↔◌, ℕ, ◌+◌, ◌<◌, ◌≤◌, length};
-ghost use Rattle.interval_clock.specs.Offsets.{IsOffsetList, offset_at};
-ghost use Rattle.offset_rules.specs.Pairs.{AreYears, IsListOf, pairs_of};
-ghost use Rattle.offset_rules.specs.Rule.{IsRule, Rule};
-ghost use Rattle.offset_rules.specs.Summer.{first_second_of, offset_by, year_of};
+ghost use Rattle.std.specs.Prelude.{ℕ, ◌+◌, ◌<◌, ◌↔◌, ◌≡◌, ◌≤◌, length};
+ghost use Rattle.offset_rules.specs.{Common.{IsOffsetList, offset_at}, Summer.{first_second_of, offset_by, year_of}};
+ghost use Rattle.offset_rules.specs.{Pairs.{AreYears, IsListOf, pairs_of}, Rule.{IsRule, Rule}};
 
 /// A law: a second is of a year from 1970 on exactly if the year begins at or before it, and the next one after it.
 pub fn seconds_have_their_year()

@@ -1,9 +1,7 @@
 //! The words of changes at the front of a text, and what stands after them.
 ghost use Rattle.std.specs.Prelude.{◌≤◌, IfSome, length, map};
-ghost use Rattle.offset_rules.specs.Names.{month_names, number_names};
+ghost use Rattle.offset_rules.specs.{Common.{Gives, day_names}, Names.{month_names, number_names}};
 ghost use Rattle.offset_rules.specs.Reading.{numbered_at};
-ghost use Rattle.taxi_units.specs.Reading.{Gives};
-ghost use Rattle.taxi_units.specs.Weekdays.{day_names};
 
 use taxi_units::{DAY_NAMES, word};
 

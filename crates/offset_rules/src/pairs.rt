@@ -1,10 +1,8 @@
 //! The list of offsets that a rule gives for some years.
-ghost use Rattle.std.specs.Prelude.{◌≡◌, ℕ, ◌+◌, ◌<◌, ◌≤◌, ◌++◌, [], ◌∷◌, filter};
-ghost use Rattle.arrayvec.specs.ArrayVec.{array_vec_len};
-ghost use Rattle.interval_clock.specs.Offsets.{IsOffsetList, offset_at};
-ghost use Rattle.offset_rules.specs.Pairs.{AreYears, IsListOf, is_later, pairs_of};
+ghost use Rattle.std.specs.Prelude.{[], ℕ, ◌++◌, ◌+◌, ◌<◌, ◌∷◌, ◌≡◌, ◌≤◌, filter};
+ghost use Rattle.{arrayvec.specs.ArrayVec.{array_vec_len}, offset_rules.specs.Summer.{offset_by, year_of}};
+ghost use Rattle.offset_rules.specs.{Common.{IsOffsetList, offset_at}, Pairs.{AreYears, IsListOf, is_later, pairs_of}};
 ghost use Rattle.offset_rules.specs.Rule.{IsRule};
-ghost use Rattle.offset_rules.specs.Summer.{offset_by, year_of};
 
 use crate::changes::first_second_of;
 use crate::rules::Rules;

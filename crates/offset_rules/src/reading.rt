@@ -1,10 +1,7 @@
 //! Reads the text of rules.
 ghost use Rattle.std.specs.Prelude.{◌≡◌, IfSome};
-ghost use Rattle.interval_clock.specs.Offsets.{IsOffset};
+ghost use Rattle.offset_rules.specs.{Common.{Gives, IsOffset}, Rule.{IsChange}, RulesText.{IsReadAs}};
 ghost use Rattle.offset_rules.specs.Reading.{change_at, lines_read, named_line_at, rules_read, seconds_at};
-ghost use Rattle.offset_rules.specs.Rule.{IsChange};
-ghost use Rattle.offset_rules.specs.RulesText.{IsReadAs};
-ghost use Rattle.taxi_units.specs.Reading.{Gives};
 
 use crate::fault::RuleFault;
 use crate::fields::{change, seconds};

@@ -1,11 +1,8 @@
 //! A yearly rule for summer time, and the offset that it gives a second.
-ghost use Rattle.std.specs.Prelude.{◌≡◌, ◌≤◌, []};
-ghost use Rattle.interval_clock.specs.Offsets.{IsOffset, IsSecond};
-ghost use Rattle.offset_rules.specs.Pairs.{changes_of_year};
-ghost use Rattle.offset_rules.specs.Reading.{whole};
-ghost use Rattle.offset_rules.specs.Rule.{IsChange, IsRule};
+ghost use Rattle.std.specs.Prelude.{[], ◌≡◌, ◌≤◌};
+ghost use Rattle.{interval_clock.specs.Offsets.{IsSecond}, offset_rules.specs.Pairs.{changes_of_year}};
+ghost use Rattle.offset_rules.specs.{Common.{IsOffset}, Reading.{whole}, Rule.{IsChange, IsRule}, Summer.{offset_by}};
 ghost use Rattle.offset_rules.specs.Summer as spec;
-ghost use Rattle.offset_rules.specs.Summer.{offset_by};
 
 use crate::changes::{SECONDS_OF_DAY, second_of_change};
 use crate::fault::RuleFault;
@@ -37,7 +34,7 @@ pub struct Rules {
 }
 
 impl Model for Rules {
-    ghost use Rattle.offset_rules.specs.Rule.{Rule, IsRule};
+    ghost use Rattle.offset_rules.specs.Rule.{IsRule, Rule};
 
     ghost Value = { Rule };
 

@@ -1,10 +1,7 @@
 //! What texts of rules mean, in words that share nothing with how they are read.
-ghost use Rattle.std.specs.Prelude.{◌≡◌, ◌↔◌, ℕ, List, Result, Ok};
-ghost use Rattle.offset_rules.specs.Reading.{rules_read};
-ghost use Rattle.offset_rules.specs.Rule.{IsRule, Rule};
-ghost use Rattle.offset_rules.specs.RulesText.{IsReadAs};
-ghost use Rattle.offset_rules.specs.Texts.{plain_text};
-ghost use Rattle.offset_rules.specs.declared.fault.RuleFault.{RuleFault};
+ghost use Rattle.std.specs.Prelude.{ℕ, ◌↔◌, ◌≡◌, List, Ok, Result};
+ghost use Rattle.offset_rules.specs.{Common.{RuleFault}, Texts.{plain_text}};
+ghost use Rattle.offset_rules.specs.{Reading.{rules_read}, Rule.{IsRule, Rule}, RulesText.{IsReadAs}};
 
 /// A law: the answer to a text is the rule that its four lines say, or its first fault. A fault is more than
 /// 4,096 bytes; the first of the lines 1 to 4 that breaks its form or is absent, or 5 if bytes follow them;

@@ -1,17 +1,12 @@
 -- The laws that the public empty functions state.
-use Rattle.std.proofs.Common.{◌≡◌, inl, inr, ⊎_elim, ℕ, zero, suc, ◌+◌, ◌<◌, List, [], ◌∷◌, ◌++◌, length, take, drop}
-use Rattle.std.proofs.Common.{get_or, refl, sym, ap, subst, ◌∙◌, append_assoc, arith, length-append, length-take}
-use Rattle.std.proofs.Common.{length-drop}
-use Rattle.std.proofs.lemmas.List.{append-nil, ext_get_or, get_or-take, get_or-drop, take-append-le, take_all}
-use Rattle.std.proofs.Math.Seq.{take-append-add}
-use Rattle.outside.specs.declared.board.Board.{Ghosts}
-use Rattle.taxi_units.specs.Bytes.{AreBytes}
-use Rattle.outside.specs.Disk.{IsWithin, MayLeave, MayLeaveAmid, SameBut}
-pub use Rattle.outside.proofs.Rises.{cause_behind, left_by_ok, may_rise_behind, may_rise_more}
-pub use Rattle.outside.proofs.Rises.{may_rise_not}
-pub use Rattle.outside.proofs.Rises.{on_failed, rises_behind, rises_by, rises_not, rose_behind}
-use Rattle.outside.specs.Printing.{Begins}
-use Rattle.outside.specs.Runs.{KeepsStore, LeavesNow, LeavesOnly, MayHold, PrintTakes}
+use Rattle.std.proofs.Common.{[], ℕ, ◌++◌, ◌+◌, ◌<◌, ◌∙◌, ◌∷◌, ◌≡◌, List, ap, append_assoc, arith, drop, get_or, inl}
+use Rattle.std.proofs.Common.{inr, length, length-append, length-drop, length-take, refl, subst, suc, sym, take, zero}
+use Rattle.std.proofs.{Common.{⊎_elim}, Math.Seq.{take-append-add}}
+use Rattle.std.proofs.lemmas.List.{append-nil, ext_get_or, get_or-drop, get_or-take, take-append-le, take_all}
+use Rattle.outside.specs.{Common.{AreBytes}, Disk.{IsWithin, MayLeave, MayLeaveAmid, SameBut}, PrintedText.{Begins}}
+use Rattle.outside.specs.{Runs.{KeepsStore, LeavesNow, LeavesOnly, MayHold, PrintTakes}, declared.board.Board.{Ghosts}}
+pub use Rattle.outside.proofs.Rises.{cause_behind, left_by_ok, may_rise_behind, may_rise_more, may_rise_not, on_failed}
+pub use Rattle.outside.proofs.Rises.{rises_behind, rises_by, rises_not, rose_behind}
 
 -- a text that was printed whole is a beginning of itself
 pub begins_whole : (old new text : List ℕ) → new ≡ old ++ text → Begins old new text

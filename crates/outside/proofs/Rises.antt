@@ -1,8 +1,6 @@
 -- What a call that failed leaves, and what a count of faults says of a call after others that left it.
-use Rattle.std.proofs.Common.{◌≡◌, ℕ, true, false, inl, Result, Ok, Err, IfOk, IsErr, is_err}
-use Rattle.std.proofs.Common.{ap, sym, subst, ◌∙◌}
-use Rattle.std.proofs.lemmas.Bool.{false≢true}
-use Rattle.outside.specs.Faults.{HasCause, MayRise, RisesOnlyIf, Rose}
+use Rattle.std.proofs.Common.{ℕ, ◌∙◌, ◌≡◌, Err, IfOk, IsErr, Ok, Result, ap, false, inl, is_err, subst, sym, true}
+use Rattle.{std.proofs.lemmas.Bool.{false≢true}, outside.specs.Faults.{HasCause, MayRise, RisesOnlyIf, Rose}}
 
 -- nothing is said of the value of a call that failed
 pub on_failed : {A E : Type 0} (r : Result A E) (P : A → Type 0) → IsErr r → IfOk r P

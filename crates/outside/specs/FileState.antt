@@ -1,7 +1,6 @@
 -- Rules: what is told of the store of the system, and of the device over it.
-use Rattle.std.specs.Prelude.{ℕ, Bool, true, false, Result, IsErr, IsTrue}
-use Rattle.outside.specs.declared.file_store.State.{State}
-use Rattle.outside.specs.declared.file_store.State.TheVariants.{Unseen, Absent, Found, Settled, Lost}
+use Rattle.std.specs.Prelude.{ℕ, Bool, IsErr, IsTrue, Result, false, true}
+use Rattle.outside.specs.declared.file_store.State.{State, TheVariants.{Absent, Found, Lost, Settled, Unseen}}
 
 -- a store is lost if its opening, its making or a sync of it failed
 abbrev pub is_lost : {F : Type 0} → State F → Bool

@@ -1,8 +1,7 @@
 //! The board: a store and a printer.
-ghost use Rattle.std.specs.Prelude.{◌≡◌, ◌⊎◌, ℕ, ◌+◌, ◌<◌, ◌≤◌, ◌++◌, List, length, take, drop, OnOk};
-ghost use Rattle.outside.specs.Disk.{piece_size, CallTakes, IsImage, IsPiece, IsWithin, MayLeave, PieceTakes, SameBut};
-ghost use Rattle.outside.specs.Faults.{HasCause};
-ghost use Rattle.outside.specs.Printing.{Begins};
+ghost use Rattle.std.specs.Prelude.{ℕ, ◌++◌, ◌+◌, ◌<◌, ◌≡◌, ◌≤◌, ◌⊎◌, List, OnOk, drop, length, take};
+ghost use Rattle.outside.specs.Disk.{CallTakes, IsImage, IsPiece, IsWithin, MayLeave, PieceTakes, SameBut, piece_size};
+ghost use Rattle.outside.specs.{Faults.{HasCause}, PrintedText.{Begins}};
 
 use crate::fault::Failed;
 use std::sync::ledger::Ledger;

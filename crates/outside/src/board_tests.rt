@@ -1,5 +1,5 @@
 //! Calls of boards, and the quiet board.
-ghost use Rattle.std.specs.Prelude.{◌≡◌, ◌<◌};
+ghost use Rattle.std.specs.Prelude.{◌<◌, ◌≡◌};
 
 use crate::tests::must;
 use crate::{Board, Failed, QuietBoard, STORE_SIZE};

@@ -1,6 +1,6 @@
 //! The real device over a system of which chosen calls fail. Each case is played in a new folder of its own, once
 //! for each error that is tried.
-ghost use Rattle.std.specs.Prelude.{◌≡◌, ◌<◌};
+ghost use Rattle.std.specs.Prelude.{◌<◌, ◌≡◌};
 
 use crate::FileBoard;
 use crate::board_tests::{Asked, call};

@@ -1,7 +1,6 @@
 //! The board of the system: a file and the standard output.
-ghost use Rattle.std.specs.Prelude.{◌≡◌, ◌+◌, [], false, IsTrue, OnErr};
-ghost use Rattle.outside.specs.Faults.{HasCause};
-ghost use Rattle.outside.specs.FileState.{DeviceState, StaysLost, is_lost};
+ghost use Rattle.std.specs.Prelude.{[], ◌+◌, ◌≡◌, IsTrue, OnErr, false};
+ghost use Rattle.outside.specs.{Faults.{HasCause}, FileState.{DeviceState, StaysLost, is_lost}};
 
 use crate::board::{Board, LOG_SIZE, STORE_SIZE};
 use crate::failures::counted;

@@ -1,5 +1,5 @@
 //! The real device at the size and under the names of the hiring log.
-ghost use Rattle.std.specs.Prelude.{◌≡◌, ◌<◌};
+ghost use Rattle.std.specs.Prelude.{◌<◌, ◌≡◌};
 
 use crate::file_tests::{Change, STORE, Sight, enter, is_seen, leave, make};
 use crate::tests::must;

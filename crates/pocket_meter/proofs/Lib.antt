@@ -1,4 +1,4 @@
 -- events that a meter carries out, one behind the other
-mod Carrying
+mod CarriedEvents
 -- the value of an answer that went well
 mod OkValues

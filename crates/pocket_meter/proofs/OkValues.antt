@@ -1,6 +1,5 @@
 -- The value of an answer that went well.
-use Rattle.std.proofs.Common.{◌≡◌, Result, Ok, Err, Some}
-use Rattle.std.specs.Result.{result_ok}
+use Rattle.std.{specs.Result.{result_ok}, proofs.Common.{◌≡◌, Err, Ok, Result, Some}}
 
 -- an answer of which a value is left was that value
 pub was_ok : {T E : Type 0} (r : Result T E) (v : T) → Some v ≡ result_ok r → r ≡ Ok v

@@ -1,13 +1,9 @@
 -- Rules: which event a line of standard input says.
-use Rattle.std.specs.Prelude.{ℕ, List, Option, Some, None, option_map, codes, if◌then◌else◌}
-use Rattle.taxi_units.specs.Number.{number_in}
-use Rattle.taxi_units.specs.Reading.{word_at}
-use Rattle.taxi_units.specs.Time.{first_second, last_second}
-use Rattle.taxi_units.specs.Words.{is_word}
-use Rattle.taxi_units.specs.declared.event.Event.{Event}
-use Rattle.taxi_units.specs.declared.event.Event.TheVariants.{Up, Down, Pulses, Tick}
+use Rattle.std.specs.Prelude.{ℕ, List, None, Option, Some, codes, if◌then◌else◌, option_map}
+use Rattle.taxi_units.specs.{Number.{number_in}, declared.event.Event.TheVariants.{Down, Pulses, Tick, Up}}
+use Rattle.{taxi_units.specs.{Reading.{word_at}, Words.{is_word}}, pocket_meter.specs.Common.{Event}}
+use Rattle.taxi_units.specs.{Time.{first_second, last_second}, declared.event.Key.TheVariants.{Clear, Hire, Stop}}
 use Rattle.taxi_units.specs.declared.event.Event.TheVariants as events
-use Rattle.taxi_units.specs.declared.event.Key.TheVariants.{Hire, Stop, Clear}
 
 -- the second of what stands behind `up `, if anything does, is a number of the meter's seconds
 abbrev pub up_said : Option (List ℕ) → Option Event

@@ -2,10 +2,9 @@
 //! an event of each line of standard input, and prints what the display shows. docs/use/EMBEDDING.md leads through it.
 #![tactic(auto)]
 
-ghost use Rattle.std.specs.{Prelude.{◌≡◌, ◌+◌, ◌*◌, ◌<◌, ◌≤◌, ◌++◌, [], All, IfSome, OnOk, length}, Option.{ForSome}};
-ghost use Rattle.{meter_run.specs.Texts.{shown_texts}, meter_model.specs.{Run.{opened, run}, Setting.{Setting}}};
-ghost use Rattle.meter_states.specs.{Lawful.{IsTimely}, MadeOf.{AreMadeOf}, Setting.{IsSettingOf}};
-ghost use Rattle.{outside.specs.Faults.{HasCause}, totals_record.specs.States.{first_state}};
+ghost use Rattle.std.specs.{Option.{ForSome}, Prelude.{[], ◌*◌, ◌++◌, ◌+◌, ◌<◌, ◌≡◌, ◌≤◌, All, IfSome, OnOk, length}};
+ghost use Rattle.{outside.specs.Faults.{HasCause}, meter_states.specs.MadeOf.{AreMadeOf}};
+ghost use Rattle.pocket_meter.specs.Common.{IsSettingOf, IsTimely, Setting, first_state, opened, run, shown_texts};
 ghost use Rattle.pocket_meter.specs.Lines as spec;
 
 use arrayvec::ArrayVec;

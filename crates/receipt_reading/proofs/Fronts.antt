@@ -1,12 +1,8 @@
 -- A receipt at the front of a text, whatever stands after it.
-use Rattle.std.proofs.Common.{◌≡◌, ℕ, ◌↔◌, List, ◌++◌, take, drop, refl, ap, sym, ◌∙◌, subst, Option, Some, None}
-use Rattle.std.proofs.lemmas.List.{take-append-drop}
-use Rattle.taxi_units.specs.declared.receipt.Receipt.{Receipt}
-use Rattle.receipt_reading.specs.Front.{IsInFront}
-use Rattle.receipt_text.specs.Lines.{receipt_at}
-use Rattle.receipt_text.specs.Part.{Part}
-use Rattle.receipt_reading.specs.SpelledFront.{IsSpelledInFront}
-use Rattle.receipt_text.proofs.Laws.{receipts_are_their_texts, receipt_again}
+use Rattle.std.proofs.Common.{ℕ, ◌++◌, ◌↔◌, ◌∙◌, ◌≡◌, List, None, Option, Some, ap, drop, refl, subst, sym, take}
+use Rattle.{std.proofs.lemmas.List.{take-append-drop}, receipt_reading.specs.SpelledFront.{IsSpelledInFront}}
+use Rattle.receipt_text.{specs.Lines.{receipt_at}, proofs.Laws.{receipt_again, receipts_are_their_texts}}
+use Rattle.receipt_reading.specs.{Common.{Part, Receipt}, Front.{IsInFront}}
 
 pub spelled_front : (text : List ℕ) (r : Receipt) (p : Part) (n : ℕ) → IsInFront text r p n
     → IsSpelledInFront text r p n

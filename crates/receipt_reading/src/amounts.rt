@@ -1,6 +1,6 @@
 //! Amounts at the front of a text.
-ghost use Rattle.std.specs.Prelude.{◌≡◌, ◌^◌, ◌<◌, ◌≤◌, IfSome};
-ghost use Rattle.taxi_units.specs.Reading.{Gives};
+ghost use Rattle.std.specs.Prelude.{◌<◌, ◌^◌, ◌≡◌, ◌≤◌, IfSome};
+ghost use Rattle.receipt_reading.specs.Common.{Gives};
 ghost use Rattle.receipt_text.specs.Figures as spec;
 
 use crate::figures::{number_below, value_below};

@@ -1,6 +1,6 @@
 //! The line of a calculation, read back.
 ghost use Rattle.std.specs.Prelude.{◌+◌};
-ghost use Rattle.taxi_units.specs.Reading.{Gives};
+ghost use Rattle.receipt_reading.specs.Common.{Gives};
 ghost use Rattle.receipt_text.specs.Lines as spec;
 
 use crate::amounts::amount_behind;

@@ -1,6 +1,6 @@
 //! Digests, read back.
-ghost use Rattle.std.specs.Prelude.{◌≡◌, ◌+◌, ◌*◌, ◌<◌, length, IfSome};
-ghost use Rattle.taxi_units.specs.Reading.{Gives};
+ghost use Rattle.std.specs.Prelude.{◌*◌, ◌+◌, ◌<◌, ◌≡◌, IfSome, length};
+ghost use Rattle.receipt_reading.specs.Common.{Gives};
 ghost use Rattle.receipt_text.specs.Digests as spec;
 
 /// The value of a lower-case hexadecimal digit.

@@ -1,8 +1,8 @@
 //! Numbers at the front of a text.
-ghost use Rattle.std.specs.Prelude.{◌^◌, ◌<◌, ◌≤◌, IfSome};
-ghost use Rattle.taxi_units.specs.Reading.{Gives, GivesSame};
+ghost use Rattle.std.specs.Prelude.{◌<◌, ◌^◌, ◌≤◌, IfSome};
+ghost use Rattle.{taxi_units.specs.Reading.{GivesSame}, receipt_text.specs.Figures.{AreDigits}};
+ghost use Rattle.receipt_reading.specs.Common.{Gives};
 ghost use Rattle.receipt_text.specs.Figures as spec;
-ghost use Rattle.receipt_text.specs.Figures.{AreDigits};
 
 use taxi_units::{count_digits, word};
 

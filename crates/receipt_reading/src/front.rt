@@ -1,10 +1,7 @@
 //! Receipts that stand at the front of a text.
-ghost use Rattle.std.specs.Prelude.{◌≡◌, ℕ, ◌≤◌, ◌↔◌, length, take, Some};
-ghost use Rattle.taxi_units.specs.Shown.{IsReceipt};
-ghost use Rattle.taxi_units.specs.declared.receipt.Receipt.{Receipt};
+ghost use Rattle.std.specs.Prelude.{ℕ, ◌↔◌, ◌≡◌, ◌≤◌, Some, length, take};
+ghost use Rattle.receipt_reading.specs.{Common.{IsPart, IsReceipt, Part, Receipt}, SpelledFront.{IsSpelledInFront}};
 ghost use Rattle.receipt_reading.specs.Front.{IsInFront};
-ghost use Rattle.receipt_text.specs.Part.{IsPart, Part};
-ghost use Rattle.receipt_reading.specs.SpelledFront.{IsSpelledInFront};
 
 use crate::ranges::{is_part, is_receipt};
 use crate::reading::receipt_at;

@@ -1,5 +1,5 @@
 //! The first lines of a receipt, read back.
-ghost use Rattle.taxi_units.specs.Reading.{Gives};
+ghost use Rattle.receipt_reading.specs.Common.{Gives};
 ghost use Rattle.receipt_text.specs.Lines as spec;
 
 use crate::figures::{READ_BELOW, number_behind};

@@ -1,9 +1,7 @@
 //! The lines of a part of a seal, read back.
-ghost use Rattle.std.specs.Prelude.{◌≡◌, ◌+◌, ◌≤◌, length};
-ghost use Rattle.std.specs.List.{prefix_len};
-ghost use Rattle.taxi_units.specs.Reading.{Gives};
+ghost use Rattle.std.specs.{List.{prefix_len}, Prelude.{◌+◌, ◌≡◌, ◌≤◌, length}};
+ghost use Rattle.{taxi_units.specs.Identifier.{is_identifier_character}, receipt_reading.specs.Common.{Gives}};
 ghost use Rattle.receipt_text.specs.Lines as spec;
-ghost use Rattle.taxi_units.specs.Identifier.{is_identifier_character};
 
 use crate::digest::digest_at;
 use crate::figures::number_behind;

@@ -1,14 +1,8 @@
 //! Receipts that are read back.
-ghost use Rattle.std.specs.Prelude.{◌≡◌, ◌↔◌, Some, IsTrue};
-ghost use Rattle.taxi_units.specs.Reading.{Gives};
-ghost use Rattle.taxi_units.specs.Shown.{IsReceipt};
-ghost use Rattle.taxi_units.specs.declared.receipt.Receipt.{Receipt};
-ghost use Rattle.receipt_text.specs.Grammar.{IsReceiptText};
+ghost use Rattle.std.specs.Prelude.{◌↔◌, ◌≡◌, IsTrue, Some};
+ghost use Rattle.receipt_text.specs.{Grammar.{IsReceiptText}, Lines.{receipt_of}, Receipts.{receipt_text}};
+ghost use Rattle.receipt_reading.specs.Common.{Gives, IsPart, IsReceipt, IsSpelled, Part, Receipt};
 ghost use Rattle.receipt_text.specs.Lines as spec;
-ghost use Rattle.receipt_text.specs.Lines.{receipt_of};
-ghost use Rattle.receipt_text.specs.Part.{IsPart, Part};
-ghost use Rattle.receipt_text.specs.Receipts.{receipt_text};
-ghost use Rattle.receipt_text.specs.Spelling.{IsSpelled};
 
 use crate::calculations::calculation_at;
 use crate::headings::heading_at;

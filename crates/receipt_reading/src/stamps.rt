@@ -1,6 +1,6 @@
 //! Dates and times, read back.
 ghost use Rattle.std.specs.Prelude.{◌+◌, ◌<◌, IfSome};
-ghost use Rattle.taxi_units.specs.Reading.{Gives, GivesSame};
+ghost use Rattle.{taxi_units.specs.Reading.{GivesSame}, receipt_reading.specs.Common.{Gives}};
 ghost use Rattle.receipt_text.specs.Dates as spec;
 
 use crate::figures::{number_behind, number_below};

@@ -1,9 +1,7 @@
 //! The last lines of a receipt, read back.
-ghost use Rattle.std.specs.Prelude.{◌≡◌, ◌+◌, ◌^◌, ◌<◌, ◌≤◌, ◌↔◌, IsTrue};
-ghost use Rattle.taxi_units.specs.Limits.{largest_supplements};
-ghost use Rattle.taxi_units.specs.Money.{largest_amount, largest_display_step};
-ghost use Rattle.taxi_units.specs.Reading.{Gives};
-ghost use Rattle.taxi_units.specs.Shown.{fare_of_receipt};
+ghost use Rattle.std.specs.Prelude.{◌+◌, ◌<◌, ◌^◌, ◌↔◌, ◌≡◌, ◌≤◌, IsTrue};
+ghost use Rattle.taxi_units.specs.{Limits.{largest_supplements}, Money.{largest_amount, largest_display_step}};
+ghost use Rattle.{taxi_units.specs.Shown.{fare_of_receipt}, receipt_reading.specs.Common.{Gives}};
 ghost use Rattle.receipt_text.specs.Lines as spec;
 
 use crate::amounts::{amount_behind, amount_below};

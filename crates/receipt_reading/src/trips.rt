@@ -1,5 +1,5 @@
 //! The lines of a trip, read back.
-ghost use Rattle.taxi_units.specs.Reading.{Gives};
+ghost use Rattle.receipt_reading.specs.Common.{Gives};
 ghost use Rattle.receipt_text.specs.Lines as spec;
 
 use crate::amounts::amount_behind;

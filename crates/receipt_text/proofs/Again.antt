@@ -1,19 +1,14 @@
 -- What is written of a number, an amount or a word is read again.
-use Rattle.std.proofs.Common.{◌≡◌, ◌≢◌, ℕ, zero, suc, ◌+◌, ◌-◌, ◌*◌, ◌^◌, ◌<◌, ◌≤◌, false, List, [], ◌∷◌, ◌++◌, length}
-use Rattle.std.proofs.Common.{refl, ap, sym, ◌∙◌, subst, arith, Option, Some, eqb, append_assoc, length-append}
-use Rattle.std.specs.Fmt.{decimal}
-use Rattle.std.specs.Char.{digit_value}
-use Rattle.std.specs.Str.Parse.{AllDigits, IsNumeral, digits_value, digits_value_after}
-use Rattle.std.proofs.Math.Seq.{take-append_seam, drop-append_seam}
-use Rattle.std.proofs.lemmas.Bool.{le-ltb, lt-ltb, ne_eqb}
-use Rattle.taxi_units.specs.Decimal.{IsDecimal}
-use Rattle.taxi_units.specs.Number.{NoDigitFirst, digits_at_front, money_text, padded_text, units_of}
-use Rattle.taxi_units.specs.Reading.{◌>>=◌, word_at}
-use Rattle.taxi_units.proofs.Laws.{amounts_are_written_by_their_digits, digits_are_counted}
+use Rattle.std.specs.{Char.{digit_value}, Str.Parse.{AllDigits, IsNumeral, digits_value, digits_value_after}}
+use Rattle.{std.specs.Fmt.{decimal}, taxi_units.{specs.Decimal.{IsDecimal}, proofs.Laws.{words_are_read_by_their_text}}}
+use Rattle.std.proofs.Common.{[], ℕ, ◌*◌, ◌++◌, ◌+◌, ◌-◌, ◌<◌, ◌^◌, ◌∙◌, ◌∷◌, ◌≡◌, ◌≢◌, ◌≤◌, List, Option, Some, ap}
+use Rattle.std.proofs.Common.{append_assoc, arith, eqb, false, length, length-append, refl, subst, suc, sym, zero}
+use Rattle.std.proofs.{Math.Seq.{drop-append_seam, take-append_seam}, lemmas.Bool.{le-ltb, lt-ltb, ne_eqb}}
+use Rattle.{taxi_units.specs.Number.{NoDigitFirst, digits_at_front, units_of}, receipt_text.proofs.Digits.{value_grows}}
+use Rattle.taxi_units.{specs.Reading.{word_at}, proofs.Laws.{amounts_are_written_by_their_digits, digits_are_counted}}
 use Rattle.taxi_units.proofs.Laws.{numbers_are_written_by_their_digits, padded_numbers_are_written_by_their_digits}
-use Rattle.taxi_units.proofs.Laws.{words_are_read_by_their_text}
+use Rattle.receipt_text.specs.Common.{◌>>=◌, money_text, padded_text}
 use Rattle.receipt_text.specs.Figures.{amount_after, amount_below, amount_with_parts, number_below, value_below}
-use Rattle.receipt_text.proofs.Digits.{value_grows}
 
 -- reading on from what was found
 pub on : {A B : Type 0} {m : Option A} {x : A} {y : Option B} (f : A → Option B) → m ≡ Some x → f x ≡ y → (m >>= f) ≡ y

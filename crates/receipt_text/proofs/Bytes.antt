@@ -1,7 +1,6 @@
 -- The bytes of a list, one by one.
-use Rattle.std.proofs.Common.{ℕ, suc, ◌<◌, List, [], ◌∷◌, get_or, Fits, w8}
 use Rattle.std.specs.List.{AllByRecursion}
-use Rattle.std.proofs.Math.Facts.{Fits-lt-pow}
+use Rattle.std.proofs.{Common.{[], ℕ, ◌<◌, ◌∷◌, Fits, List, get_or, suc, w8}, Math.Facts.{Fits-lt-pow}}
 
 below : (xs : List ℕ) → ((i : ℕ) → get_or xs i 0 < 256) → AllByRecursion (λ x. x < 256) xs
 below [] each = tt

@@ -1,20 +1,13 @@
 -- What is written of a date, a day or a local time is read again.
-use Rattle.std.proofs.Common.{◌≡◌, ℕ, zero, suc, ◌+◌, ◌-◌, ◌*◌, ◌/◌, ◌%◌, ◌<◌, ◌≤◌, Bool, true, false, if◌then◌else◌, ℤ}
-use Rattle.std.proofs.Common.{pos, ◌≤ℤ◌, unsigned_abs, List, [], ◌∷◌, ◌++◌, get_or, refl, ap, ◌∙◌, subst, arith, Some}
-use Rattle.std.proofs.Common.{inl, inr, append_assoc, length, sym, All}
-use Rattle.std.specs.Char.{digit_value}
-use Rattle.std.proofs.lemmas.Bool.{le-leb, le-ltb, lt-ltb, cases_lt}
-use Rattle.std.proofs.lemmas.Int.{ints}
-use Rattle.std.proofs.lemmas.List.{get_or_past}
+use Rattle.std.{specs.Char.{digit_value}, proofs.lemmas.Bool.{cases_lt, le-leb, le-ltb, lt-ltb}}
+use Rattle.std.proofs.Common.{[], ℕ, ℤ, ◌%◌, ◌*◌, ◌++◌, ◌+◌, ◌-◌, ◌/◌, ◌<◌, ◌∙◌, ◌∷◌, ◌≡◌, ◌≤ℤ◌, ◌≤◌, All, Bool, List}
+use Rattle.std.proofs.Common.{Some, ap, append_assoc, arith, false, get_or, if◌then◌else◌, inl, inr, length, pos, refl}
+use Rattle.std.proofs.{Common.{subst, suc, sym, true, unsigned_abs, zero}, lemmas.{Int.{ints}, List.{get_or_past}}}
+use Rattle.taxi_units.specs.{DateTest.{date_test}, Test.{at_most, each}}
 use Rattle.interval_clock.specs.Calendar.{date_after, day_number_of, days_of_month, days_of_year, days_of_years}
 use Rattle.interval_clock.specs.Calendar.{is_leap_year, month_lengths, next_date}
-use Rattle.interval_clock.specs.declared.day_numbers.CalendarDate.{CalendarDate}
 use Rattle.interval_clock.proofs.Laws.{IsDateOf-date_after, one_day_number}
-use Rattle.taxi_units.specs.DateTest.{date_test}
-use Rattle.taxi_units.specs.Number.{padded_text}
-use Rattle.taxi_units.specs.Shown.{IsStamp}
-use Rattle.taxi_units.specs.Test.{at_most, each}
-use Rattle.taxi_units.specs.declared.receipt.Stamp.{Stamp}
+use Rattle.receipt_text.specs.Common.{CalendarDate, IsStamp, Stamp, padded_text}
 use Rattle.receipt_text.specs.Dates.{date_at, day_at, day_of, stamp_at, time_at}
 use Rattle.receipt_text.specs.Receipts.{date_text, day_text, stamp_text, time_text}
 use Rattle.receipt_text.proofs.Again.{padded_again, word_again}

@@ -1,9 +1,6 @@
 -- The numbers that digits make, and a limit.
-use Rattle.std.proofs.Common.{◌≡◌, ℕ, ◌+◌, ◌*◌, ◌≤◌, List, [], ◌∷◌, refl, arith, None}
-use Rattle.std.specs.Char.{digit_value}
-use Rattle.std.specs.Str.Parse.{digits_value_after}
-use Rattle.std.proofs.lemmas.Bool.{le-ltb}
-use Rattle.receipt_text.specs.Figures.{value_below}
+use Rattle.{std.specs.{Char.{digit_value}, Str.Parse.{digits_value_after}}, receipt_text.specs.Figures.{value_below}}
+use Rattle.std.proofs.{Common.{[], ℕ, ◌*◌, ◌+◌, ◌∷◌, ◌≡◌, ◌≤◌, List, None, arith, refl}, lemmas.Bool.{le-ltb}}
 
 -- a value doesn't fall
 pub value_grows : (n : ℕ) (xs : List ℕ) → n ≤ digits_value_after 10 n xs

@@ -1,35 +1,22 @@
 -- A text is a receipt exactly if it is the one that is written.
-use Rattle.std.proofs.Common.{◌≡◌, ◌≢◌, ◌∙◌, ◌↔◌, ℕ, ◌+◌, ◌/◌, ◌%◌, ◌^◌, ◌<◌, ◌≤◌, inl, inr, List, [], ◌∷◌, ◌++◌, refl}
-use Rattle.std.proofs.Common.{ap, sym, subst, arith, eqb, false, append_assoc, ℤ, pos, ◌≤ℤ◌, unsigned_abs}
-use Rattle.std.specs.Prelude.{codes}
-use Rattle.std.specs.Fmt.{decimal}
-use Rattle.std.specs.List.{AllByRecursion}
-use Rattle.std.proofs.lemmas.Bool.{ne_eqb, cases_lt, lt-ltb, le-ltb}
-use Rattle.std.proofs.lemmas.Int.{ints}
-use Rattle.interval_clock.specs.Calendar.{date_after}
-use Rattle.interval_clock.specs.declared.day_numbers.CalendarDate.{CalendarDate}
-use Rattle.interval_clock.proofs.Laws.{IsDateOf-date_after, IsDateOf-only}
-use Rattle.taxi_units.specs.Number.{money_text, padded_text}
-use Rattle.taxi_units.specs.Shown.{IsReceipt, IsStamp}
+use Rattle.{std.specs.{Fmt.{decimal}, Prelude.{codes}}, interval_clock.proofs.Laws.{IsDateOf-date_after, IsDateOf-only}}
+use Rattle.std.{specs.List.{AllByRecursion}, proofs.lemmas.{Bool.{cases_lt, le-ltb, lt-ltb, ne_eqb}, Int.{ints}}}
+use Rattle.std.proofs.Common.{[], ℕ, ℤ, ◌%◌, ◌++◌, ◌+◌, ◌/◌, ◌<◌, ◌^◌, ◌↔◌, ◌∙◌, ◌∷◌, ◌≡◌, ◌≢◌, ◌≤ℤ◌, ◌≤◌, List, ap}
+use Rattle.std.proofs.Common.{append_assoc, arith, eqb, false, inl, inr, pos, refl, subst, sym, unsigned_abs}
 use Rattle.taxi_units.specs.Written.{IsAmountText, IsNumberText, IsPaddedText}
-use Rattle.taxi_units.specs.declared.receipt.Kind.{Kind}
-use Rattle.taxi_units.specs.declared.receipt.Kind.TheVariants.{Closed, Aborted, Expired, Roam}
-use Rattle.taxi_units.specs.declared.receipt.Receipt.{Receipt}
-use Rattle.taxi_units.specs.declared.receipt.Stamp.{Stamp}
 use Rattle.taxi_units.proofs.Laws.{amounts_are_written_by_their_digits, numbers_are_written_by_their_digits}
-use Rattle.taxi_units.proofs.Laws.{padded_numbers_are_written_by_their_digits}
+use Rattle.{taxi_units.proofs.Laws.{padded_numbers_are_written_by_their_digits}, receipt_text.specs.Part.{IsPart, Part}}
+use Rattle.{interval_clock.specs.Calendar.{date_after}, receipt_text.specs.Receipts.{total_text, trip_text}}
+use Rattle.receipt_text.specs.{AmountLines.{optional_lines, total_of}, Common.{Stamp, money_text, padded_text}}
+use Rattle.receipt_text.specs.Common.{Aborted, CalendarDate, Closed, Expired, IsReceipt, IsStamp, Kind, Receipt, Roam}
 use Rattle.receipt_text.specs.Grammar.{AreAmounts, AreLastLines, AreReceiptLines, AreTripLines, HasOptional}
 use Rattle.receipt_text.specs.Grammar.{IsCalculation, IsDateText, IsDayText, IsDistance, IsExactly, IsHexDigit}
 use Rattle.receipt_text.specs.Grammar.{IsHexText, IsKind, IsMoney, IsReceiptText, IsStampText, IsTimeText, Line}
-use Rattle.receipt_text.specs.AmountLines.{optional_lines, total_of}
-use Rattle.receipt_text.specs.Part.{Part, IsPart}
 use Rattle.receipt_text.specs.Receipts.{body_text, calculation_text, course_text, date_text, day_text, fare_text}
 use Rattle.receipt_text.specs.Receipts.{heading_text, hex_digit, hex_text, in_front, kind_text, last_text}
 use Rattle.receipt_text.specs.Receipts.{optional_text, part_text, receipt_text, stamp_text, supplements_text, time_text}
-use Rattle.receipt_text.specs.Receipts.{total_text, trip_text}
 use Rattle.receipt_text.specs.Spelling.{IsSpelled}
-use Rattle.receipt_text.proofs.Dates.{month_small, year_below}
-use Rattle.receipt_text.proofs.OptionalLines.{IsShort, optional_short, total_small}
+use Rattle.receipt_text.proofs.{Dates.{month_small, year_below}, OptionalLines.{IsShort, optional_short, total_small}}
 
 -- a form has one text
 abbrev Only : (List ℕ → Type 0) → List ℕ → Type 0

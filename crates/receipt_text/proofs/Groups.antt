@@ -1,30 +1,16 @@
 -- What is written of the lines of a receipt is read again.
-use Rattle.std.proofs.Common.{◌≡◌, ◌≢◌, ℕ, ◌+◌, ◌-◌, ◌*◌, ◌/◌, ◌%◌, ◌^◌, ◌<◌, true, List, [], ◌∷◌, ◌++◌}
-use Rattle.std.proofs.Common.{length, refl, ap, sym, ◌∙◌, arith, Some, None, inl, inr, append_assoc}
-use Rattle.std.specs.Prelude.{codes}
-use Rattle.std.specs.Fmt.{decimal}
-use Rattle.std.specs.List.{AllByRecursion, prefix_len}
-use Rattle.std.proofs.Math.Seq.{take-append_seam, drop-append_seam}
-use Rattle.std.proofs.lemmas.Bool.{le-leb, le-ltb, lt-ltb, lt-leb, cases_lt}
-use Rattle.std.proofs.lemmas.Bool.Decides.{nat_tests}
-use Rattle.std.proofs.lemmas.List.Elements.{recursion_from_All}
-use Rattle.taxi_units.specs.Number.{money_text}
-use Rattle.taxi_units.specs.Reading.{word_at}
-use Rattle.taxi_units.specs.Shown.{IsReceipt}
-use Rattle.taxi_units.specs.declared.receipt.Kind.{Kind}
-use Rattle.taxi_units.specs.declared.receipt.Kind.TheVariants.{Closed, Aborted, Expired, Roam}
-use Rattle.taxi_units.specs.declared.receipt.Receipt.{Receipt}
-use Rattle.receipt_text.specs.Digests.{byte_at, bytes_at, digest_at, hex_value}
-use Rattle.receipt_text.specs.Lines.{calculation_at, heading_at, kind_at, part_at, sums_at, taxi_at}
-use Rattle.receipt_text.specs.Lines.{trip_at}
-use Rattle.receipt_text.specs.Part.{Part, IsDigest, IsPart}
-use Rattle.seal_record.specs.Ranges.{IsTaxi}
+use Rattle.{std.specs.{Fmt.{decimal}, Prelude.{codes}}, seal_record.specs.Ranges.{IsTaxi}}
+use Rattle.std.{specs.List.{AllByRecursion, prefix_len}, proofs.Math.Seq.{drop-append_seam, take-append_seam}}
+use Rattle.std.proofs.Common.{[], ℕ, ◌%◌, ◌*◌, ◌++◌, ◌+◌, ◌-◌, ◌/◌, ◌<◌, ◌^◌, ◌∙◌, ◌∷◌, ◌≡◌, ◌≢◌, List, None, Some, ap}
+use Rattle.std.proofs.{Common.{append_assoc, arith, inl, inr, length, refl, sym, true}, lemmas.Bool.Decides.{nat_tests}}
+use Rattle.std.proofs.lemmas.{Bool.{cases_lt, le-leb, le-ltb, lt-leb, lt-ltb}, List.Elements.{recursion_from_All}}
+use Rattle.taxi_units.specs.{Identifier.{IsIdentifierCharacter, is_identifier_character}, Reading.{word_at}}
+use Rattle.receipt_text.specs.Common.{Aborted, Closed, Expired, IsReceipt, Kind, Receipt, Roam, money_text}
+use Rattle.receipt_text.{specs.Digests.{byte_at, bytes_at, digest_at, hex_value}, proofs.Dates.{day_again, stamp_again}}
+use Rattle.receipt_text.specs.Lines.{calculation_at, heading_at, kind_at, part_at, sums_at, taxi_at, trip_at}
+use Rattle.receipt_text.{specs.Part.{IsDigest, IsPart, Part}, proofs.Again.{amount_again, number_again, word_again}}
 use Rattle.receipt_text.specs.Receipts.{calculation_text, course_text, day_text, fare_text, heading_text, hex_digit}
-use Rattle.receipt_text.specs.Receipts.{hex_text, kind_text, part_text, stamp_text}
-use Rattle.receipt_text.specs.Receipts.{supplements_text, trip_text}
-use Rattle.receipt_text.proofs.Again.{amount_again, number_again, word_again}
-use Rattle.receipt_text.proofs.Dates.{day_again, stamp_again}
-use Rattle.taxi_units.specs.Identifier.{IsIdentifierCharacter, is_identifier_character}
+use Rattle.receipt_text.specs.Receipts.{hex_text, kind_text, part_text, stamp_text, supplements_text, trip_text}
 
 not_closed : (rest : List ℕ) → word_at (codes "CLOSED") (codes "ABORTED" ++ rest) ≡ None
 unfolding word_at

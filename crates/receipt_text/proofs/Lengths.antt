@@ -1,24 +1,15 @@
 -- How long receipts are.
-use Rattle.std.proofs.Common.{◌≡◌, ℕ, ◌+◌, ◌*◌, ◌/◌, ◌%◌, ◌^◌, ◌<◌, ◌≤◌, List, [], ◌∷◌, ◌++◌, length, refl}
-use Rattle.std.proofs.Common.{arith, ℤ, pos, ◌≤ℤ◌, unsigned_abs}
-use Rattle.std.proofs.lemmas.Int.{ints}
-use Rattle.interval_clock.specs.Calendar.{date_after}
-use Rattle.interval_clock.proofs.Laws.{IsDateOf-date_after}
-use Rattle.taxi_units.specs.Number.{padded_text}
-use Rattle.taxi_units.specs.Shown.{IsReceipt, IsStamp}
-use Rattle.taxi_units.specs.declared.receipt.Kind.{Kind}
-use Rattle.taxi_units.specs.declared.receipt.Receipt.{Receipt}
-use Rattle.taxi_units.specs.declared.receipt.Stamp.{Stamp}
-use Rattle.taxi_units.proofs.Laws.{padded_numbers_fill_the_width}
-use Rattle.receipt_text.specs.AmountLines.{optional_lines, total_of}
-use Rattle.receipt_text.specs.Part.{Part, IsPart}
+use Rattle.std.proofs.Common.{[], ℕ, ℤ, ◌%◌, ◌*◌, ◌++◌, ◌+◌, ◌/◌, ◌<◌, ◌^◌, ◌∷◌, ◌≡◌, ◌≤ℤ◌, ◌≤◌, List, arith, length}
+use Rattle.std.proofs.{Common.{pos, refl, unsigned_abs}, lemmas.Int.{ints}}
+use Rattle.{taxi_units.proofs.Laws.{padded_numbers_fill_the_width}, interval_clock.proofs.Laws.{IsDateOf-date_after}}
+use Rattle.{interval_clock.specs.Calendar.{date_after}, receipt_text.specs.AmountLines.{optional_lines, total_of}}
+use Rattle.receipt_text.specs.{Common.{IsReceipt, IsStamp, Kind, Receipt, Stamp, padded_text}, Part.{IsPart, Part}}
 use Rattle.receipt_text.specs.Receipts.{body_text, calculation_text, course_text, date_text, day_text, fare_text}
-use Rattle.receipt_text.specs.Receipts.{heading_text, hex_text, last_text, part_text, receipt_text}
-use Rattle.receipt_text.specs.Receipts.{stamp_text, supplements_text, time_text, total_text, trip_text}
-use Rattle.receipt_text.proofs.Appending.{length-joined, lengths}
+use Rattle.receipt_text.specs.Receipts.{heading_text, hex_text, last_text, part_text, receipt_text, stamp_text}
+use Rattle.receipt_text.specs.Receipts.{supplements_text, time_text, total_text, trip_text}
+use Rattle.receipt_text.proofs.{AppendedPieces.{length-joined, lengths}, Widths.{amount_most, kind_fits, number_most}}
 use Rattle.receipt_text.proofs.Dates.{month_small, year_below}
 use Rattle.receipt_text.proofs.OptionalLines.{optional_len, optional_short, total_small}
-use Rattle.receipt_text.proofs.Widths.{amount_most, kind_fits, number_most}
 
 padded_len : (width value : ℕ) → 0 < width → width ≤ 64 → value < 10 ^ width → length (padded_text width value) ≡ width
 padded_len width value some few small =

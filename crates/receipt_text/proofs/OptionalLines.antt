@@ -1,21 +1,12 @@
 -- The optional lines of a receipt and its total: their amounts and words are short, and what is written of the lines is
 -- read again.
-use Rattle.std.proofs.Common.{◌≡◌, ℕ, ◌+◌, ◌*◌, ◌^◌, ◌<◌, ◌≤◌, List, [], ◌∷◌, ◌++◌, length, append_assoc}
-use Rattle.std.proofs.Common.{refl, ap, arith, inl, inr, eqb, false, Some, None}
-use Rattle.std.specs.Prelude.{codes}
-use Rattle.std.specs.List.{AllByRecursion}
-use Rattle.std.proofs.lemmas.Bool.{ne_eqb, cases_lt}
-use Rattle.taxi_units.specs.Money.{largest_amount}
-use Rattle.taxi_units.specs.Number.{money_text}
-use Rattle.taxi_units.specs.Reading.{word_at}
-use Rattle.taxi_units.specs.Shown.{IsReceipt}
-use Rattle.taxi_units.specs.declared.receipt.Receipt.{Receipt}
-use Rattle.receipt_text.specs.AmountLines.{optional_lines, total_of}
-use Rattle.receipt_text.specs.Lines.{optional_at, optional_lines_at}
-use Rattle.receipt_text.specs.Receipts.{in_front, optional_text}
-use Rattle.receipt_text.proofs.Again.{amount_again, word_again}
-use Rattle.receipt_text.proofs.Appending.{lengths}
-use Rattle.receipt_text.proofs.Widths.{amount_most}
+use Rattle.{std.specs.{List.{AllByRecursion}, Prelude.{codes}}, taxi_units.specs.Money.{largest_amount}}
+use Rattle.std.proofs.Common.{[], ℕ, ◌*◌, ◌++◌, ◌+◌, ◌<◌, ◌^◌, ◌∷◌, ◌≡◌, ◌≤◌, List, None, Some, ap, append_assoc, arith}
+use Rattle.std.proofs.{Common.{eqb, false, inl, inr, length, refl}, lemmas.Bool.{cases_lt, ne_eqb}}
+use Rattle.{taxi_units.specs.Reading.{word_at}, receipt_text.specs.Common.{IsReceipt, Receipt, money_text}}
+use Rattle.receipt_text.specs.{AmountLines.{optional_lines, total_of}, Lines.{optional_at, optional_lines_at}}
+use Rattle.receipt_text.{specs.Receipts.{in_front, optional_text}, proofs.Again.{amount_again, word_again}}
+use Rattle.receipt_text.proofs.{AppendedPieces.{lengths}, Widths.{amount_most}}
 
 -- a line is short if its word and its amount are
 pub record IsShort (line : List ℕ × ℕ) : Type 0 where

@@ -1,17 +1,11 @@
 -- A receipt that was written is read again, and an answer says exactly which.
-use Rattle.std.proofs.Common.{◌≡◌, ℕ, ◌↔◌, List, [], ◌∷◌, ◌++◌, drop, refl, ap, sym, ◌∙◌, subst, arith}
-use Rattle.std.proofs.Common.{Option, Some, None, append_assoc}
-use Rattle.std.proofs.lemmas.List.{append-nil}
-use Rattle.taxi_units.specs.Shown.{IsReceipt}
-use Rattle.taxi_units.specs.declared.receipt.Receipt.{Receipt}
-use Rattle.receipt_text.specs.AmountLines.{optional_lines}
-use Rattle.receipt_text.specs.Lines.{receipt_at}
-use Rattle.receipt_text.specs.Part.{Part, IsPart}
+use Rattle.std.proofs.Common.{[], ℕ, ◌++◌, ◌↔◌, ◌∙◌, ◌∷◌, ◌≡◌, List, None, Option, Some, ap, append_assoc, arith, drop}
+use Rattle.{std.proofs.{Common.{refl, subst, sym}, lemmas.List.{append-nil}}, receipt_text.specs.Spelling.{IsSpelled}}
+use Rattle.receipt_text.{specs.AmountLines.{optional_lines}, proofs.OptionalLines.{optional_lines_again}}
+use Rattle.receipt_text.specs.{Common.{IsReceipt, Receipt}, Lines.{receipt_at}, Part.{IsPart, Part}}
 use Rattle.receipt_text.specs.Receipts.{body_text, calculation_text, fare_text, heading_text, in_front, last_text}
 use Rattle.receipt_text.specs.Receipts.{part_text, receipt_text, supplements_text, total_text, trip_text}
-use Rattle.receipt_text.specs.Spelling.{IsSpelled}
 use Rattle.receipt_text.proofs.Groups.{calculation_again, heading_again, part_again, sums_again, trip_again}
-use Rattle.receipt_text.proofs.OptionalLines.{optional_lines_again}
 
 -- the lines of the amounts begin with an F
 first_byte : (r : Receipt) (rest : List ℕ) → (tail : List ℕ) × (fare_text r ++ rest ≡ 70 ∷ tail)

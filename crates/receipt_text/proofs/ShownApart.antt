@@ -1,19 +1,11 @@
 -- Displays are told apart by their texts.
-use Rattle.std.proofs.Common.{◌≡◌, ◌≢◌, ◌↔◌, ◌∙◌, ℕ, ◌^◌, ◌<◌, ◌≤◌, List, [], ◌∷◌, ◌++◌, drop, get_or, refl, ap, sym}
-use Rattle.std.proofs.Common.{subst, arith, Option, Some, append_assoc}
-use Rattle.std.specs.Prelude.{codes}
-use Rattle.std.specs.Fmt.{decimal}
-use Rattle.std.specs.Char.{digit_value}
-use Rattle.taxi_units.specs.Number.{money_text}
-use Rattle.taxi_units.specs.Shown.{IsShown}
-use Rattle.taxi_units.specs.declared.event.Operating.{Operating}
-use Rattle.taxi_units.specs.declared.event.Operating.TheVariants.{Off, ForHire, Hired, Stopped}
-use Rattle.taxi_units.specs.declared.receipt.Display.{Display}
-use Rattle.receipt_text.specs.Figures.{amount_below, number_below}
-use Rattle.receipt_text.specs.declared.amounts.Amount.{Amount}
-use Rattle.receipt_text.specs.Shows.{HasFields, ShowsSame}
+use Rattle.std.{specs.{Char.{digit_value}, Prelude.{codes}}, proofs.Common.{arith, drop, get_or, refl, subst, sym}}
+use Rattle.{std.specs.Fmt.{decimal}, taxi_units.specs.declared.event.Operating.TheVariants.{Hired, Off, Stopped}}
+use Rattle.std.proofs.Common.{[], ℕ, ◌++◌, ◌<◌, ◌^◌, ◌↔◌, ◌∙◌, ◌∷◌, ◌≡◌, ◌≢◌, ◌≤◌, List, Option, Some, ap, append_assoc}
+use Rattle.{taxi_units.specs.declared.event.Operating.{Operating}, receipt_text.specs.Shows.{HasFields, ShowsSame}}
+use Rattle.receipt_text.specs.{Common.{Display, ForHire, IsShown, money_text}, Figures.{amount_below, number_below}}
 use Rattle.receipt_text.specs.Texts.{amounts_text, display_line, display_text, place_text}
-use Rattle.receipt_text.proofs.Again.{amount_again, number_again}
+use Rattle.receipt_text.{specs.declared.amounts.Amount.{Amount}, proofs.Again.{amount_again, number_again}}
 
 same_found : (v w : ℕ) (xs ys : List ℕ) → ◌≡◌ {A = Option (ℕ × List ℕ)} (Some (v, xs)) (Some (w, ys))
     → (v ≡ w) × (xs ≡ ys)

@@ -1,9 +1,7 @@
 -- Receipts under seals that say the same but for the digest.
-use Rattle.std.proofs.Common.{◌≡◌, ◌∙◌, ℕ, List, ◌++◌, ap, append_assoc, codes, decimal}
-use Rattle.taxi_units.specs.declared.receipt.Receipt.{Receipt}
-use Rattle.receipt_text.specs.Part.{Part}
+use Rattle.std.proofs.Common.{ℕ, ◌++◌, ◌∙◌, ◌≡◌, List, ap, append_assoc, codes, decimal}
+use Rattle.receipt_text.specs.{Common.{Receipt}, Part.{Part}, TariffLine.{DifferInTariff, with_tariff}}
 use Rattle.receipt_text.specs.Receipts.{body_text, day_text, heading_text, hex_text, part_text, receipt_text}
-use Rattle.receipt_text.specs.TariffLine.{DifferInTariff, with_tariff}
 
 -- what is in front of the line of the tariff doesn't say the digest
 front_of : Receipt → Part → List ℕ

@@ -1,16 +1,9 @@
 -- A text is one receipt.
-use Rattle.std.proofs.Common.{◌≡◌, ℕ, ◌≤◌, List, [], ◌∷◌, ◌++◌, length, refl, ap, sym, ◌∙◌, subst, arith, Option, Some}
-use Rattle.std.proofs.Common.{length-append}
-use Rattle.std.proofs.lemmas.List.{append-nil}
-use Rattle.std.specs.Prelude.{codes}
-use Rattle.taxi_units.specs.declared.receipt.Receipt.{Receipt}
-use Rattle.receipt_text.specs.Grammar.{IsReceiptText}
-use Rattle.receipt_text.specs.Lines.{receipt_at}
-use Rattle.receipt_text.specs.Part.{Part}
-use Rattle.receipt_text.specs.Receipts.{receipt_text}
-use Rattle.receipt_text.proofs.GrammarTexts.{receipts_are_their_texts}
-use Rattle.receipt_text.proofs.Lengths.{receipts_are_short}
-use Rattle.receipt_text.proofs.ReadAgain.{receipt_again, spelled_again}
+use Rattle.std.{specs.Prelude.{codes}, proofs.{Common.{refl, subst, sym}, lemmas.List.{append-nil}}}
+use Rattle.std.proofs.Common.{[], ℕ, ◌++◌, ◌∙◌, ◌∷◌, ◌≡◌, ◌≤◌, List, Option, Some, ap, arith, length, length-append}
+use Rattle.receipt_text.specs.{Common.{Receipt}, Lines.{receipt_at}, Part.{Part}}
+use Rattle.receipt_text.{specs.{Grammar.{IsReceiptText}, Receipts.{receipt_text}}, proofs.Lengths.{receipts_are_short}}
+use Rattle.receipt_text.proofs.{GrammarTexts.{receipts_are_their_texts}, ReadAgain.{receipt_again, spelled_again}}
 
 same_pair : (a b : Receipt) (c d : Part) → ◌≡◌ {A = Option (Receipt × Part)} (Some (a, c)) (Some (b, d))
     → (a ≡ b) × (c ≡ d)

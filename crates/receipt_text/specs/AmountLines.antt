@@ -1,6 +1,6 @@
 -- Rules: the amounts of a receipt's lines: those that are there only if they are above 0, and the total.
-use Rattle.std.specs.Prelude.{ℕ, ◌+◌, List, [], ◌∷◌, codes}
-use Rattle.taxi_units.specs.declared.receipt.Receipt.{Receipt}
+use Rattle.std.specs.Prelude.{[], ℕ, ◌+◌, ◌∷◌, List, codes}
+use Rattle.receipt_text.specs.Common.{Receipt}
 
 -- a receipt has one optional line, that of the minimum fare: its word and its amount
 abbrev pub optional_lines : Receipt → List (List ℕ × ℕ)

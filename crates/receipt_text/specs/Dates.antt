@@ -1,12 +1,9 @@
 -- For proofs: dates, days and local times at the front of a text, read in the stages of the code. Grammar says by
 -- IsDateText, IsDayText and IsStampText which texts they are.
-use Rattle.std.specs.Prelude.{ℕ, ◌+◌, ◌*◌, ◌&&◌, nat_le, if◌then◌else◌, ℤ, pos, List, Option, Some, None, codes}
-use Rattle.interval_clock.specs.Calendar.{day_number_of, is_date}
-use Rattle.interval_clock.specs.declared.day_numbers.CalendarDate.{CalendarDate}
-use Rattle.seal_record.specs.Limits.{first_day, last_day}
-use Rattle.taxi_units.specs.Reading.{◌>>=◌, word_at}
-use Rattle.taxi_units.specs.declared.receipt.Stamp.{Stamp}
-use Rattle.receipt_text.specs.Figures.{number_behind, number_below}
+use Rattle.std.specs.Prelude.{ℕ, ℤ, ◌&&◌, ◌*◌, ◌+◌, List, None, Option, Some, codes, if◌then◌else◌, nat_le, pos}
+use Rattle.{taxi_units.specs.Reading.{word_at}, interval_clock.specs.Calendar.{day_number_of, is_date}}
+use Rattle.{seal_record.specs.Limits.{first_day, last_day}, receipt_text.specs.Figures.{number_behind, number_below}}
+use Rattle.receipt_text.specs.Common.{◌>>=◌, CalendarDate, Stamp}
 
 -- a year, a month and a date in it stand at the front, with hyphens between them, and this text behind them
 unfoldable pub date_at : List ℕ → Option (CalendarDate × List ℕ)

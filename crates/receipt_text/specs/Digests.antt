@@ -1,7 +1,8 @@
 -- For proofs: digests at the front of a text, read byte by byte as the code reads them. Grammar says by IsHexText which
 -- texts they are.
-use Rattle.std.specs.Prelude.{ℕ, zero, suc, ◌+◌, ◌-◌, ◌*◌, ◌&&◌, nat_le, if◌then◌else◌, List, [], ◌∷◌, Option, Some, None}
-use Rattle.taxi_units.specs.Reading.{◌>>=◌}
+use Rattle.std.specs.Prelude.{[], ℕ, ◌&&◌, ◌*◌, ◌+◌, ◌-◌, ◌∷◌, List, None, Option, Some, if◌then◌else◌, nat_le, suc}
+use Rattle.std.specs.Prelude.{zero}
+use Rattle.receipt_text.specs.Common.{◌>>=◌}
 
 -- a lower-case hexadecimal digit has this value, and another byte has none
 abbrev pub hex_value : ℕ → Option ℕ

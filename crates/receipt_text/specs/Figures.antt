@@ -1,10 +1,9 @@
 -- For proofs: numbers and amounts at the front of a text, read in the stages of the code. IsNumberText and
 -- IsAmountText, in Written of taxi_units, say which texts they are.
-use Rattle.std.specs.Prelude.{◌≡◌, ℕ, ◌==◌, ◌||◌, nat_lt, if◌then◌else◌, List, [], ◌∷◌, length, take, drop, Option, Some, None}
-use Rattle.std.specs.Str.Parse.{digits_value_after}
-use Rattle.taxi_units.specs.Number.{digits_at_front}
-use Rattle.taxi_units.specs.Reading.{◌>>=◌, word_at}
-use Rattle.receipt_text.specs.declared.amounts.Amount.{Amount}
+use Rattle.std.specs.Prelude.{[], ℕ, ◌==◌, ◌||◌, ◌∷◌, ◌≡◌, List, None, Option, Some, drop, if◌then◌else◌, length}
+use Rattle.{std.specs.{Prelude.{nat_lt, take}, Str.Parse.{digits_value_after}}, taxi_units.specs.Reading.{word_at}}
+use Rattle.{taxi_units.specs.Number.{digits_at_front}, receipt_text.specs.declared.amounts.Amount.{Amount}}
+use Rattle.receipt_text.specs.Common.{◌>>=◌}
 
 -- all bytes are digits if as many digits stand at the front as there are bytes
 abbrev pub AreDigits : List ℕ → Type 0

@@ -1,14 +1,8 @@
 -- Rules: the grammar of receipts: which texts are receipts, line by line.
-use Rattle.std.specs.Prelude.{◌≡◌, ◌⊎◌, ℕ, ◌+◌, ◌*◌, ◌-◌, ◌<◌, ◌≤◌, ℤ, List, [], ◌∷◌, ◌++◌, codes}
-use Rattle.interval_clock.specs.Calendar.{IsDateOf}
-use Rattle.taxi_units.specs.Shown.{IsReceipt}
-use Rattle.taxi_units.specs.Written.{IsAmountText, IsNumberText, IsPaddedText}
-use Rattle.taxi_units.specs.declared.receipt.Kind.{Kind}
-use Rattle.taxi_units.specs.declared.receipt.Kind.TheVariants.{Closed, Aborted, Expired, Roam}
-use Rattle.taxi_units.specs.declared.receipt.Receipt.{Receipt}
-use Rattle.taxi_units.specs.declared.receipt.Stamp.{Stamp}
-use Rattle.receipt_text.specs.AmountLines.{optional_lines, total_of}
-use Rattle.receipt_text.specs.Part.{Part, IsPart}
+use Rattle.std.specs.Prelude.{[], ℕ, ℤ, ◌*◌, ◌++◌, ◌+◌, ◌-◌, ◌<◌, ◌∷◌, ◌≡◌, ◌≤◌, ◌⊎◌, List, codes}
+use Rattle.{taxi_units.specs.Written.{IsAmountText, IsNumberText, IsPaddedText}, receipt_text.specs.Part.{IsPart, Part}}
+use Rattle.{interval_clock.specs.Calendar.{IsDateOf}, receipt_text.specs.AmountLines.{optional_lines, total_of}}
+use Rattle.receipt_text.specs.Common.{Aborted, Closed, Expired, IsReceipt, Kind, Receipt, Roam, Stamp}
 
 -- a text is exactly the wanted one if it has the same bytes
 abbrev pub IsExactly : List ℕ → List ℕ → Type 0

@@ -11,3 +11,4 @@ pub mod Shows
 pub mod Spelling
 pub mod TariffLine
 pub mod Texts
+pub mod Common

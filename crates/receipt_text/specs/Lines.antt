@@ -1,21 +1,11 @@
 -- For proofs: the lines of a receipt at the front of a text, read in the stages of the code. Grammar says by
 -- IsReceiptText which texts are receipts.
-use Rattle.std.specs.Prelude.{ℕ, ◌^◌, ◌&&◌, nat_le, if◌then◌else◌, List, take, drop, Option, Some, None, codes}
-use Rattle.std.specs.List.{prefix_len}
-use Rattle.taxi_units.specs.Reading.{◌>>=◌, word_at}
-use Rattle.taxi_units.specs.declared.receipt.Kind.{Kind}
-use Rattle.taxi_units.specs.declared.receipt.Kind.TheVariants.{Closed, Aborted, Expired}
-use Rattle.taxi_units.specs.declared.receipt.Receipt.{Receipt}
-use Rattle.receipt_text.specs.declared.headings.Heading.{Heading}
-use Rattle.receipt_text.specs.declared.trips.TripLines.{TripLines}
-use Rattle.receipt_text.specs.declared.calculations.Calculation.{Calculation}
-use Rattle.receipt_text.specs.declared.sums.OptionalAmounts.{OptionalAmounts}
-use Rattle.receipt_text.specs.declared.sums.Sums.{Sums}
-use Rattle.receipt_text.specs.Dates.{day_at, stamp_behind}
-use Rattle.receipt_text.specs.Digests.{digest_at}
-use Rattle.receipt_text.specs.Figures.{amount_behind, amount_below, number_behind}
-use Rattle.receipt_text.specs.Part.{Part}
-use Rattle.taxi_units.specs.Identifier.{is_identifier_character}
+use Rattle.{std.specs.List.{prefix_len}, taxi_units.specs.{Identifier.{is_identifier_character}, Reading.{word_at}}}
+use Rattle.std.specs.Prelude.{ℕ, ◌&&◌, ◌^◌, List, None, Option, Some, codes, drop, if◌then◌else◌, nat_le, take}
+use Rattle.receipt_text.specs.{Common.{◌>>=◌, Aborted, Closed, Expired, Kind, Receipt}, Dates.{day_at, stamp_behind}}
+use Rattle.receipt_text.specs.{Digests.{digest_at}, Figures.{amount_behind, amount_below, number_behind}, Part.{Part}}
+use Rattle.receipt_text.specs.declared.{calculations.Calculation.{Calculation}, sums.OptionalAmounts.{OptionalAmounts}}
+use Rattle.receipt_text.specs.declared.{headings.Heading.{Heading}, sums.Sums.{Sums}, trips.TripLines.{TripLines}}
 
 -- a kind of hiring is read if its word was found, and what `others` gives if it wasn't
 abbrev pub kind_or : Kind → Option (List ℕ) → Option (Kind × List ℕ) → Option (Kind × List ℕ)

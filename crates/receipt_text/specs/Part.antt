@@ -1,8 +1,7 @@
 -- Rules: what a receipt says of the meter's seal.
-use Rattle.std.specs.Prelude.{◌≡◌, ℕ, ◌<◌, ◌≤◌, ℤ, List, length}
-use Rattle.std.specs.List.{AllByRecursion}
-use Rattle.drive_modes.specs.Constant.{least_constant, greatest_constant}
-use Rattle.seal_record.specs.Ranges.{IsDay, IsTaxi}
+use Rattle.std.specs.{List.{AllByRecursion}, Prelude.{ℕ, ℤ, ◌<◌, ◌≡◌, ◌≤◌, List, length}}
+use Rattle.{drive_modes.specs.Constant.{greatest_constant, least_constant}, seal_record.specs.Ranges.{IsTaxi}}
+use Rattle.receipt_text.specs.Common.{IsDay}
 
 -- a part of a seal is the taxi identifier, the constant in pulses per kilometre, the day number of the date of
 -- securing, and the digest of the tariff's text

@@ -1,14 +1,8 @@
 -- Rules: the texts of receipts, as they are written.
-use Rattle.std.specs.Prelude.{ℕ, ◌+◌, ◌/◌, ◌%◌, ◌==◌, nat_lt, if◌then◌else◌, ℤ, unsigned_abs}
-use Rattle.std.specs.Prelude.{List, [], ◌∷◌, ◌++◌, codes, decimal}
-use Rattle.interval_clock.specs.Calendar.{date_after}
-use Rattle.taxi_units.specs.Number.{money_text, padded_text}
-use Rattle.taxi_units.specs.declared.receipt.Kind.{Kind}
-use Rattle.taxi_units.specs.declared.receipt.Kind.TheVariants.{Closed, Aborted, Expired, Roam}
-use Rattle.taxi_units.specs.declared.receipt.Receipt.{Receipt}
-use Rattle.taxi_units.specs.declared.receipt.Stamp.{Stamp}
-use Rattle.receipt_text.specs.AmountLines.{optional_lines, total_of}
-use Rattle.receipt_text.specs.Part.{Part}
+use Rattle.std.specs.Prelude.{[], ℕ, ℤ, ◌%◌, ◌++◌, ◌+◌, ◌/◌, ◌==◌, ◌∷◌, List, codes, decimal, if◌then◌else◌, nat_lt}
+use Rattle.{std.specs.Prelude.{unsigned_abs}, interval_clock.specs.Calendar.{date_after}}
+use Rattle.receipt_text.specs.{AmountLines.{optional_lines, total_of}, Part.{Part}}
+use Rattle.receipt_text.specs.Common.{Aborted, Closed, Expired, Kind, Receipt, Roam, Stamp, money_text, padded_text}
 
 -- the word for how a hiring ended is `CLOSED`, `ABORTED` or `EXPIRED`; roaming has no receipt and no word
 abbrev pub kind_text : Kind → List ℕ

@@ -1,7 +1,6 @@
 -- Rules: when two displays show the same.
-use Rattle.std.specs.Prelude.{◌≡◌, ◌≢◌, ◌<◌, ◌^◌}
-use Rattle.taxi_units.specs.declared.event.Operating.TheVariants.{ForHire}
-use Rattle.taxi_units.specs.declared.receipt.Display.{Display}
+use Rattle.std.specs.Prelude.{◌<◌, ◌^◌, ◌≡◌, ◌≢◌}
+use Rattle.receipt_text.specs.Common.{Display, ForHire}
 
 -- a display's position and zone are below 256, and its amounts are below 2^64, as the software keeps them
 pub record HasFields (display : Display) : Type 0 where

@@ -1,9 +1,6 @@
 -- Rules: which text is written of a receipt.
-use Rattle.std.specs.Prelude.{◌≡◌, ℕ, List}
-use Rattle.taxi_units.specs.Shown.{IsReceipt}
-use Rattle.taxi_units.specs.declared.receipt.Receipt.{Receipt}
-use Rattle.receipt_text.specs.Part.{Part, IsPart}
-use Rattle.receipt_text.specs.Receipts.{receipt_text}
+use Rattle.std.specs.Prelude.{ℕ, ◌≡◌, List}
+use Rattle.receipt_text.specs.{Common.{IsReceipt, Receipt}, Part.{IsPart, Part}, Receipts.{receipt_text}}
 
 -- a text is the one that is written of a receipt and of a part of a seal, both in their ranges
 pub record IsSpelled (text : List ℕ) (receipt : Receipt) (part : Part) : Type 0 where

@@ -1,5 +1,5 @@
 -- Rules: texts of receipts that differ only in the line of the tariff.
-use Rattle.std.specs.Prelude.{◌≡◌, ℕ, List, ◌++◌, codes}
+use Rattle.std.specs.Prelude.{ℕ, ◌++◌, ◌≡◌, List, codes}
 use Rattle.receipt_text.specs.Receipts.{hex_text}
 
 -- a text has a line `TARIFF` with a digest, with a front before it and a back behind it

@@ -1,11 +1,9 @@
 -- Rules: the texts of displays and refusals.
-use Rattle.std.specs.Prelude.{ℕ, List, [], ◌++◌, codes, decimal}
-use Rattle.taxi_units.specs.Number.{money_text}
-use Rattle.taxi_units.specs.declared.event.Operating.{Operating}
-use Rattle.taxi_units.specs.declared.event.Operating.TheVariants.{Off, ForHire, Hired, Stopped}
-use Rattle.taxi_units.specs.declared.event.Why.{Why}
-use Rattle.taxi_units.specs.declared.event.Why.TheVariants.{NotNow, KeyWaiting, NoSuch, AtMost, ClockBack, TooFast, Powered, Expired, Ended}
-use Rattle.taxi_units.specs.declared.receipt.Display.{Display}
+use Rattle.std.specs.Prelude.{[], ℕ, ◌++◌, List, codes, decimal}
+use Rattle.taxi_units.specs.declared.event.{Operating.{Operating, TheVariants.{Hired, Off, Stopped}}, Why.{Why}}
+use Rattle.taxi_units.specs.declared.event.Why.TheVariants.{AtMost, ClockBack, Ended, Expired, KeyWaiting, NoSuch}
+use Rattle.taxi_units.specs.declared.event.Why.TheVariants.{NotNow, Powered, TooFast}
+use Rattle.receipt_text.specs.Common.{Display, ForHire, money_text}
 
 -- the tariff position and the zone of a display are written as `T` and `Z`, each with its number
 abbrev pub place_text : Display → List ℕ

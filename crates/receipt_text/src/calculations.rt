@@ -1,8 +1,7 @@
 //! The line of a receipt's calculation.
-ghost use Rattle.std.specs.Prelude.{◌≡◌, ◌+◌, ◌≤◌, ◌++◌, ◌↔◌, length, IsOk, OnOk};
-ghost use Rattle.arrayvec.specs.ArrayVec.{array_vec_len};
-ghost use Rattle.taxi_units.specs.Line.{line_size};
-ghost use Rattle.receipt_text.specs.Receipts.{calculation_text};
+ghost use Rattle.std.specs.Prelude.{◌++◌, ◌+◌, ◌↔◌, ◌≡◌, ◌≤◌, IsOk, OnOk, length};
+ghost use Rattle.{arrayvec.specs.ArrayVec.{array_vec_len}, receipt_text.specs.Receipts.{calculation_text}};
+ghost use Rattle.receipt_text.specs.Common.{line_size};
 
 use crate::fields::{put_amount, put_figure};
 use taxi_units::{Line, LineFull, Receipt, put_bytes};

@@ -1,8 +1,6 @@
 //! Displays.
-ghost use Rattle.std.specs.Prelude.{◌≡◌, ◌+◌, ◌≤◌, ◌++◌, ◌↔◌, length, IsOk, OnOk, OnErr};
-ghost use Rattle.arrayvec.specs.ArrayVec.{array_vec_len};
-ghost use Rattle.taxi_units.specs.Line.{line_size};
-ghost use Rattle.taxi_units.specs.Shown.{IsShown};
+ghost use Rattle.std.specs.Prelude.{◌++◌, ◌+◌, ◌↔◌, ◌≡◌, ◌≤◌, IsOk, OnErr, OnOk, length};
+ghost use Rattle.{arrayvec.specs.ArrayVec.{array_vec_len}, receipt_text.specs.Common.{IsShown, line_size}};
 ghost use Rattle.receipt_text.specs.Texts.{amounts_text, display_line, display_text, place_text};
 
 use taxi_units::{

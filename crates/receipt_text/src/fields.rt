@@ -1,8 +1,6 @@
 //! A word and the text behind it, put into a line.
-ghost use Rattle.std.specs.Prelude.{◌≡◌, ◌+◌, ◌≤◌, ◌++◌, ◌↔◌, length, decimal, IsOk, OnOk};
-ghost use Rattle.arrayvec.specs.ArrayVec.{array_vec_len};
-ghost use Rattle.taxi_units.specs.Line.{line_size};
-ghost use Rattle.taxi_units.specs.Number.{money_text};
+ghost use Rattle.std.specs.Prelude.{◌++◌, ◌+◌, ◌↔◌, ◌≡◌, ◌≤◌, IsOk, OnOk, decimal, length};
+ghost use Rattle.{arrayvec.specs.ArrayVec.{array_vec_len}, receipt_text.specs.Common.{line_size, money_text}};
 
 use taxi_units::{Line, LineFull, put_bytes, put_money, put_number};
 

@@ -7,7 +7,7 @@ mod calculations;
 mod digest;
 mod displays;
 mod fields;
-mod grammar;
+mod grammar_laws;
 mod headings;
 mod parts;
 mod receipts;
@@ -21,7 +21,7 @@ pub use amounts::Amount;
 pub use calculations::Calculation;
 pub use digest::push_hex;
 pub use displays::put_display;
-pub use grammar::{
+pub use grammar_laws::{
     displays_differ_by_their_fields, receipts_are_short, receipts_are_their_texts,
     receipts_begin_with_their_word, receipts_differ_in_their_tariff_alone, texts_are_one_receipt,
 };

@@ -1,11 +1,7 @@
 //! What a receipt says of the meter's seal, and its lines.
-ghost use Rattle.std.specs.Prelude.{◌≡◌, ◌+◌, ◌≤◌, ◌++◌, ◌↔◌, codes, length, IsOk, OnOk};
-ghost use Rattle.arrayvec.specs.ArrayVec.{array_vec_len};
-ghost use Rattle.taxi_units.specs.Line.{line_size};
-ghost use Rattle.receipt_text.specs.Part.{IsDigest, IsPart};
-ghost use Rattle.receipt_text.specs.Receipts.{day_text, part_text};
-ghost use Rattle.receipt_text.specs.SealParts.{part_of_seal};
-ghost use Rattle.seal_record.specs.Ranges.{IsDay, IsSeal};
+ghost use Rattle.std.specs.Prelude.{◌++◌, ◌+◌, ◌↔◌, ◌≡◌, ◌≤◌, IsOk, OnOk, codes, length};
+ghost use Rattle.{arrayvec.specs.ArrayVec.{array_vec_len}, receipt_text.specs.Common.{IsDay, IsSeal, line_size}};
+ghost use Rattle.receipt_text.specs.{Part.{IsDigest, IsPart}, Receipts.{day_text, part_text}, SealParts.{part_of_seal}};
 
 use crate::digest::hex_of;
 use crate::fields::{put_figure, put_text};

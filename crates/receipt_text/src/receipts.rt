@@ -1,11 +1,7 @@
 //! Receipts.
-ghost use Rattle.std.specs.Prelude.{◌≡◌, ◌+◌, ◌≤◌, ◌++◌, ◌↔◌, length, IsOk, OnOk, OnErr};
-ghost use Rattle.arrayvec.specs.ArrayVec.{array_vec_len};
-ghost use Rattle.taxi_units.specs.Line.{line_size};
-ghost use Rattle.taxi_units.specs.Shown.{IsReceipt};
-ghost use Rattle.seal_record.specs.Ranges.{IsDay, IsSeal};
-ghost use Rattle.receipt_text.specs.Receipts.{body_text, receipt_text};
-ghost use Rattle.receipt_text.specs.SealParts.{part_of_seal};
+ghost use Rattle.std.specs.Prelude.{◌++◌, ◌+◌, ◌↔◌, ◌≡◌, ◌≤◌, IsOk, OnErr, OnOk, length};
+ghost use Rattle.{arrayvec.specs.ArrayVec.{array_vec_len}, receipt_text.specs.SealParts.{part_of_seal}};
+ghost use Rattle.receipt_text.specs.{Common.{IsDay, IsReceipt, IsSeal, line_size}, Receipts.{body_text, receipt_text}};
 ghost use Rattle.receipt_text.specs.Spelling.{IsSpelled};
 
 use crate::calculations::put_calculation;

@@ -1,8 +1,7 @@
 //! Refusals.
-ghost use Rattle.std.specs.Prelude.{◌≡◌, ◌+◌, ◌≤◌, ◌++◌, ◌↔◌, length, IsOk, OnOk, OnErr};
-ghost use Rattle.arrayvec.specs.ArrayVec.{array_vec_len};
-ghost use Rattle.receipt_text.specs.Texts.{refusal_text, why_text};
-ghost use Rattle.taxi_units.specs.Line.{line_size};
+ghost use Rattle.std.specs.Prelude.{◌++◌, ◌+◌, ◌↔◌, ◌≡◌, ◌≤◌, IsOk, OnErr, OnOk, length};
+ghost use Rattle.{arrayvec.specs.ArrayVec.{array_vec_len}, receipt_text.specs.Texts.{refusal_text, why_text}};
+ghost use Rattle.receipt_text.specs.Common.{line_size};
 
 use taxi_units::{Line, LineFull, Why, push_bytes, push_number, put_bytes};
 

@@ -1,9 +1,9 @@
 //! Lines of a receipt that other texts have too. The line that they are put into has to have room for them. Amounts
 //! have 0 to 3 decimals. Their form is this project's own.
-ghost use Rattle.std.specs.Prelude.{◌≡◌, ◌+◌, ◌≤◌, ◌++◌, length};
-ghost use Rattle.arrayvec.specs.ArrayVec.{array_vec_len};
-ghost use Rattle.taxi_units.specs.Line.{line_size};
-ghost use Rattle.receipt_text.specs.Receipts.{calculation_text, course_text, fare_text, kind_text, supplements_text, total_text};
+ghost use Rattle.std.specs.Prelude.{◌++◌, ◌+◌, ◌≡◌, ◌≤◌, length};
+ghost use Rattle.{arrayvec.specs.ArrayVec.{array_vec_len}, receipt_text.specs.Receipts.{total_text}};
+ghost use Rattle.receipt_text.specs.Common.{line_size};
+ghost use Rattle.receipt_text.specs.Receipts.{calculation_text, course_text, fare_text, kind_text, supplements_text};
 
 use crate::calculations::put_calculation;
 use crate::headings::put_kind;

@@ -1,9 +1,7 @@
 //! Dates, days and local times.
-ghost use Rattle.std.specs.Prelude.{◌≡◌, ◌+◌, ◌<◌, ◌≤◌, ◌++◌, ◌↔◌, length, IsOk, OnOk};
+ghost use Rattle.std.specs.Prelude.{◌++◌, ◌+◌, ◌<◌, ◌↔◌, ◌≡◌, ◌≤◌, IsOk, OnOk, length};
 ghost use Rattle.arrayvec.specs.ArrayVec.{array_vec_len};
-ghost use Rattle.taxi_units.specs.Line.{line_size};
-ghost use Rattle.seal_record.specs.Ranges.{IsDay};
-ghost use Rattle.receipt_text.specs.Receipts.{date_text, day_text, stamp_text, time_text};
+ghost use Rattle.receipt_text.specs.{Common.{IsDay, line_size}, Receipts.{date_text, day_text, stamp_text, time_text}};
 
 use interval_clock::date_of_day;
 use taxi_units::{Line, LineFull, Stamp, put_bytes, put_padded};

@@ -1,8 +1,7 @@
 //! The amounts of a receipt: their ranges, and their lines, written and read.
-ghost use Rattle.std.specs.Prelude.{◌≡◌, ◌+◌, ◌^◌, ◌<◌, ◌≤◌, ◌++◌, ◌↔◌, length, IsOk, OnOk};
-ghost use Rattle.arrayvec.specs.ArrayVec.{array_vec_len};
-ghost use Rattle.taxi_units.specs.Line.{line_size};
-ghost use Rattle.receipt_text.specs.AmountLines.{total_of};
+ghost use Rattle.std.specs.Prelude.{◌++◌, ◌+◌, ◌<◌, ◌^◌, ◌↔◌, ◌≡◌, ◌≤◌, IsOk, OnOk, length};
+ghost use Rattle.{arrayvec.specs.ArrayVec.{array_vec_len}, receipt_text.specs.AmountLines.{total_of}};
+ghost use Rattle.receipt_text.specs.Common.{line_size};
 ghost use Rattle.receipt_text.specs.Receipts.{fare_text, last_text, optional_text, supplements_text, total_text};
 
 use crate::fields::put_amount;

@@ -1,8 +1,7 @@
 //! The lines of a receipt's trip.
-ghost use Rattle.std.specs.Prelude.{◌≡◌, ◌+◌, ◌≤◌, ◌++◌, ◌↔◌, length, IsOk, OnOk};
+ghost use Rattle.std.specs.Prelude.{◌++◌, ◌+◌, ◌↔◌, ◌≡◌, ◌≤◌, IsOk, OnOk, length};
 ghost use Rattle.arrayvec.specs.ArrayVec.{array_vec_len};
-ghost use Rattle.taxi_units.specs.Line.{line_size};
-ghost use Rattle.receipt_text.specs.Receipts.{course_text, stamp_text, trip_text};
+ghost use Rattle.receipt_text.specs.{Common.{line_size}, Receipts.{course_text, stamp_text, trip_text}};
 
 use crate::fields::{put_amount, put_figure};
 use crate::stamps::put_stamp;

@@ -1,40 +1,20 @@
 -- One run of a chain, from what holds of a call with the words of a run.
-use Rattle.std.proofs.Common.{◌≡◌, ◌≢◌, ◌⊎◌, inl, inr, ℕ, ◌+◌, ◌-◌, List, [], ◌∷◌, ◌++◌, length, take, Option, Some}
-use Rattle.std.proofs.Common.{None, Result, Ok, Err, refl, sym, ap, subst, ◌∙◌, arith, length-append}
-use Rattle.std.proofs.lemmas.List.{append-nil}
-use Rattle.std.proofs.Math.Seq.{take-append_seam}
-use Rattle.outside.specs.declared.board.Board.{Ghosts}
-use Rattle.outside.specs.declared.files.Files.{Ghosts as FileGhosts}
-use Rattle.memory_devices.specs.declared.replay.Fill.{Fill}
-use Rattle.outside.specs.Disk.{SameBut}
-use Rattle.outside.specs.Faults.{Rose}
-use Rattle.memory_devices.specs.MemoryBoard.{BoardState, image_of, left_since_of, new_board, text_of}
-use Rattle.memory_devices.specs.MemoryFiles.{FilesState, rest_of}
-use Rattle.outside.specs.Printing.{Begins}
-use Rattle.outside.specs.Runs.{IsAtRest as NothingFlies}
-use Rattle.slot_store.proofs.Laws.{one_body}
-use Rattle.totals_record.specs.Reading.{reads}
-use Rattle.meter_store.specs.Stored.{HasState, state_number_of}
-use Rattle.totals_record.specs.Sums.{GrowsBy}
-use Rattle.totals_record.specs.declared.change.Change.{Change}
-use Rattle.totals_record.specs.declared.durable_state.Durable.{Durable}
-use Rattle.totals_record.proofs.Laws.{changes_add_up}
-use Rattle.meter_run.specs.Deeds.{Deed, Prints, after_deeds, changes_of, texts}
+use Rattle.std.proofs.Common.{[], ℕ, ◌++◌, ◌+◌, ◌-◌, ◌∙◌, ◌∷◌, ◌≡◌, ◌≢◌, ◌⊎◌, Err, List, None, Ok, Option, Result, Some}
+use Rattle.std.proofs.Common.{ap, arith, inl, inr, length, length-append, refl, subst, sym, take}
+use Rattle.{std.proofs.{Math.Seq.{take-append_seam}, lemmas.List.{append-nil}}, outside.specs.PrintedText.{Begins}}
+use Rattle.outside.specs.{Faults.{Rose}, Runs.{IsAtRest as NothingFlies}, declared.files.Files.{Ghosts as FileGhosts}}
+use Rattle.{outside.specs.declared.board.Board.{Ghosts}, slot_store.proofs.Laws.{one_body}}
+use Rattle.{totals_record.{specs.Reading.{reads}, proofs.Laws.{changes_add_up}}, call_ends.specs.Call.{IsEnd, MayTake}}
+use Rattle.{meter_store.specs.Stored.{state_number_of}, run_chains.specs.Common.{text_of, texts}}
 use Rattle.meter_run.proofs.Laws.{changes_joined, deeds_follow, the_number_tells_the_commits-beginning}
-use Rattle.call_ends.specs.Call.{IsEnd, MayTake}
-use Rattle.commands.specs.Command.{command_of}
-use Rattle.call_ends.specs.Course.{Course, Answered, ReadFailed, NoMemory, BoardFailed, line_in, status_in, call_text}
-use Rattle.run_chains.specs.Link.{IsLeftInside, call_of, deeds_from, text_before}
-use Rattle.run_chains.specs.Chain.{Ran}
-use Rattle.run_chains.specs.ChainSteps.{HasLink}
-use Rattle.store_commands.specs.Opening.{opening_in}
-use Rattle.drive_commands.specs.Run.{IsOfTotals, IsRun, IsCutOfRun, StandsAfterRun, Start, bytes_in, deeds_in}
-use Rattle.drive_commands.specs.Run.{run_command}
-use Rattle.drive_commands.specs.Run.{start_of}
-use Rattle.call_ends.specs.declared.ending.Ended.{Ended}
-use Rattle.commands.specs.declared.words.Row.{Row}
+use Rattle.call_ends.specs.Course.{Answered, BoardFailed, Course, NoMemory, ReadFailed, call_text, line_in, status_in}
+use Rattle.{drive_commands.specs.Run.{StandsAfterRun, bytes_in, run_command}, commands.specs.declared.words.Row.{Row}}
+use Rattle.{drive_commands.proofs.Laws.{found-held, same_outside, start_stands}, commands.specs.Command.{command_of}}
+use Rattle.run_chains.specs.{Chain.{Ran}, ChainSteps.{HasLink}, Link.{IsLeftInside, call_of, deeds_from, text_before}}
+use Rattle.run_chains.specs.Common.{BoardState, Change, Deed, Durable, Ended, FilesState, Fill, GrowsBy, HasState}
+use Rattle.run_chains.specs.Common.{IsCutOfRun, IsOfTotals, IsRun, Prints, SameBut, Start, after_deeds, changes_of}
+use Rattle.run_chains.specs.Common.{deeds_in, image_of, left_since_of, new_board, opening_in, rest_of, start_of}
 use Rattle.commands.specs.declared.words.Row.TheVariants as rows
-use Rattle.drive_commands.proofs.Laws.{found-held, same_outside, start_stands}
 
 -- ---- what deeds commit
 

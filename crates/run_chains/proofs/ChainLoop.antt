@@ -1,15 +1,9 @@
 -- A chain with one run more, and the places that a loop has gone through.
-use Rattle.std.proofs.Common.{◌≡◌, ℕ, ◌+◌, ◌<◌, ◌≤◌, List, [], ◌∷◌, ◌++◌, map, length, take, drop, set, get_or, Option}
-use Rattle.std.proofs.Common.{refl, sym, ap, subst, ◌∙◌, arith}
+use Rattle.std.proofs.Common.{[], ℕ, ◌++◌, ◌+◌, ◌<◌, ◌∙◌, ◌∷◌, ◌≡◌, ◌≤◌, List, Option, ap, arith, drop, get_or, length}
+use Rattle.std.proofs.Common.{map, refl, set, subst, sym, take}
 use Rattle.std.proofs.lemmas.List.{drop-drop, drop-set-lt, get_or-drop, take_all, take_more, take_more_set}
-use Rattle.memory_devices.specs.MemoryBoard.{new_board}
-use Rattle.memory_devices.specs.MemoryFiles.{FilesState}
-use Rattle.memory_devices.specs.declared.replay.Fill.{Fill}
-use Rattle.meter_store.specs.Stored.{HasState}
-use Rattle.totals_record.specs.declared.durable_state.Durable.{Durable}
-use Rattle.run_chains.specs.Chain.{AreCalls, HasChain, IsChain, Ran, last_image, last_state}
-use Rattle.run_chains.specs.Link.{IsLink, Link}
-use Rattle.run_chains.specs.ChainSteps.{HasLink}
+use Rattle.run_chains.specs.{Chain.{AreCalls, HasChain, IsChain, Ran, last_image, last_state}, ChainSteps.{HasLink}}
+use Rattle.run_chains.specs.{Common.{Durable, FilesState, Fill, HasState, new_board}, Link.{IsLink, Link}}
 
 -- ---- one run more
 

@@ -1,25 +1,16 @@
 -- Receipts of a chain: if a byte of one stands in a text, its entry is in the prefix.
-use Rattle.std.proofs.Common.{◌≡◌, ◌⊎◌, inl, inr, ℕ, ◌+◌, ◌-◌, ◌<◌, ◌≤◌, List, [], ◌∷◌, ◌++◌, length, take, Result, Ok}
-use Rattle.std.proofs.Common.{sym, ap, subst, ◌∙◌, arith, append_assoc, length-append, length-take}
-use Rattle.std.proofs.lemmas.Bool.{cases_lt}
-use Rattle.std.proofs.Math.Seq.{take-append_seam}
-use Rattle.outside.specs.Printing.{Begins}
-use Rattle.seal_record.specs.declared.seal.Seal.{Seal}
-use Rattle.taxi_units.specs.declared.receipt.Receipt as receipts
-use Rattle.totals_record.specs.States.{entries_of}
-use Rattle.meter_store.specs.Stored.{HasState}
-use Rattle.totals_record.specs.declared.change.Change.{Change}
-use Rattle.totals_record.specs.declared.durable_state.Durable.{Durable}
-use Rattle.meter_model.specs.declared.act.Act.TheVariants.{Receipt}
-use Rattle.meter_run.specs.Deeds.{Deed, Does, Prints, changes_of, texts}
-use Rattle.meter_run.specs.Points.{HasEntryOf, IsNumberedWithin}
+use Rattle.std.proofs.Common.{[], ℕ, ◌++◌, ◌+◌, ◌-◌, ◌<◌, ◌∙◌, ◌∷◌, ◌≡◌, ◌≤◌, ◌⊎◌, List, Ok, Result, ap, append_assoc}
+use Rattle.std.proofs.Common.{arith, inl, inr, length, length-append, length-take, subst, sym, take}
+use Rattle.{std.proofs.{Math.Seq.{take-append_seam}, lemmas.Bool.{cases_lt}}, outside.specs.PrintedText.{Begins}}
+use Rattle.{meter_run.specs.Points.{HasEntryOf, IsNumberedWithin}, drive_commands.specs.Run.{IsCutOfStart, tables_in}}
 use Rattle.meter_run.proofs.Laws.{begins_in, changes_joined, receipts_are_numbered_in_order-cut}
 use Rattle.meter_run.proofs.Laws.{receipts_have_their_entries-cut, texts_joined, the_number_tells_the_commits-beginning}
 use Rattle.run_chains.specs.Chain.{HasByteOf, IsChain, last_image, last_state}
+use Rattle.run_chains.specs.Common.{Change, Deed, Does, Durable, Ended, HasState, IsCutOfRun, Prints, Receipt, Seal}
+use Rattle.run_chains.specs.Common.{Start, changes_of, deeds_in, entries_of, texts}
 use Rattle.run_chains.specs.Link.{IsLink, Link, begun_with, bytes_done, commits_done, deeds_from, last_line, prefix_of}
-use Rattle.drive_commands.specs.Run.{IsCutOfStart, IsCutOfRun, Start, deeds_in, tables_in}
-use Rattle.call_ends.specs.declared.ending.Ended.{Ended}
 use Rattle.run_chains.proofs.ChainLinks.{begins_with, line_commits, one_state}
+use Rattle.taxi_units.specs.declared.receipt.Receipt as receipts
 
 -- ---- texts
 

@@ -1,24 +1,14 @@
 -- What is found of an image that stands for a durable state and a seal.
-use Rattle.std.proofs.Common.{◌≡◌, ℕ, List, Result, Ok, Err, true, refl, sym, ap, subst, ◌∙◌}
-use Rattle.std.specs.Prelude.{is_some}
-use Rattle.std.proofs.lemmas.Bool.{false≢true}
-use Rattle.slot_store.specs.declared.found.Found.{Found}
-use Rattle.slot_store.specs.declared.found.Found.TheVariants.{Blank, Latest}
-use Rattle.slot_store.specs.declared.found.SlotFault.{SlotFault}
-use Rattle.slot_store.specs.declared.found.SlotFault.TheVariants.{DeviceFailed}
-use Rattle.slot_store.specs.declared.pair.Place.{Place}
-use Rattle.slot_store.specs.Scan.{IsAnswer, found_at}
-use Rattle.slot_store.proofs.Laws.{answer_is, at_stands, body_found}
-use Rattle.totals_record.specs.declared.durable_state.Durable.{Durable}
+use Rattle.std.{specs.Prelude.{is_some}, proofs.Common.{ℕ, ◌∙◌, ◌≡◌, Err, List, Ok, Result, ap, refl, subst, sym, true}}
+use Rattle.{std.proofs.lemmas.Bool.{false≢true}, slot_store.specs.declared.found.SlotFault.TheVariants.{DeviceFailed}}
+use Rattle.{slot_store.specs.Scan.{IsAnswer}, store_commands.specs.declared.opening.StoreFault.{StoreFault}}
+use Rattle.slot_store.specs.declared.found.{Found.{Found, TheVariants.{Blank, Latest}}, SlotFault.{SlotFault}}
+use Rattle.slot_store.{specs.declared.pair.Place.{Place}, proofs.Laws.{answer_is, at_stands, body_found}}
+use Rattle.store_commands.specs.{Opening.{opening_by, sealed_store}, declared.opening.Opening.{Opening}}
+use Rattle.run_chains.specs.{Chain.{IsSealedStore}, Common.{Durable, HasSeal, Seal, found_at, opening_in}}
 use Rattle.totals_record.specs.Reading as totals
 use Rattle.meter_store.specs.Stored as states
-use Rattle.seal_record.specs.declared.seal.Seal.{Seal}
 use Rattle.seal_record.specs.Decoding as seals
-use Rattle.meter_store.specs.Sealing.{HasSeal}
-use Rattle.run_chains.specs.Chain.{IsSealedStore}
-use Rattle.store_commands.specs.Opening.{opening_by, opening_in, sealed_store}
-use Rattle.store_commands.specs.declared.opening.Opening.{Opening}
-use Rattle.store_commands.specs.declared.opening.StoreFault.{StoreFault}
 
 -- ---- a scan of the totals
 

@@ -1,22 +1,11 @@
 -- Sums over the prefixes of a chain.
-use Rattle.std.proofs.Common.{◌≡◌, ℕ, List, [], ◌∷◌, take, drop, Option, refl, ap, subst, ◌∙◌, arith}
-use Rattle.outside.specs.Disk.{SameBut}
-use Rattle.memory_devices.specs.MemoryFiles.{FilesState}
-use Rattle.memory_devices.specs.declared.replay.Fill.{Fill}
-use Rattle.outside.proofs.Laws.{same_slice}
-use Rattle.slot_store.specs.Scan.{verdict_on}
-use Rattle.slot_store.proofs.Laws.{body_found}
-use Rattle.seal_record.specs.Decoding.{seal_number_of, reads}
-use Rattle.meter_store.specs.Sealing.{HasSeal}
-use Rattle.seal_record.specs.declared.seal.Seal.{Seal}
-use Rattle.totals_record.specs.Sums.{GrowsBy}
-use Rattle.totals_record.specs.declared.durable_state.Durable.{Durable}
-use Rattle.totals_record.proofs.Laws.{changes_add_up, states_follow_in_turn}
+use Rattle.std.proofs.Common.{[], ℕ, ◌∙◌, ◌∷◌, ◌≡◌, List, Option, ap, arith, drop, refl, subst, take}
+use Rattle.{outside.proofs.Laws.{same_slice}, slot_store.{specs.Scan.{verdict_on}, proofs.Laws.{body_found}}}
+use Rattle.{totals_record.proofs.Laws.{changes_add_up, states_follow_in_turn}, run_chains.specs.Link.{Link, prefix_of}}
+use Rattle.{seal_record.specs.Decoding.{reads, seal_number_of}, drive_commands.proofs.Laws.{outside_then, same_outside}}
 use Rattle.run_chains.specs.Chain.{HasChain, IsChain, Ran, last_image, last_state, prefixes_of}
-use Rattle.run_chains.specs.Link.{Link, prefix_of}
-use Rattle.drive_commands.specs.Run.{IsOfTotals}
+use Rattle.run_chains.specs.Common.{Durable, FilesState, Fill, GrowsBy, HasSeal, IsOfTotals, SameBut, Seal}
 use Rattle.run_chains.proofs.ChainScan.{seal_at}
-use Rattle.drive_commands.proofs.Laws.{outside_then, same_outside}
 
 pub chain-state : (d : Durable) (image : List ℕ) (links : List Link) → IsChain d image links
     → GrowsBy d (last_state d links) (prefixes_of d image links)

@@ -1,53 +1,28 @@
 -- Runs from starts that are alike.
-use Rattle.std.proofs.Common.{◌≡◌, ℕ, ◌+◌, Bool, true, false, nat_lt, length, take, drop, List, Option, Some, None}
-use Rattle.std.proofs.Common.{Result, Ok, Err, if◌then◌else◌, refl, ap, sym, subst, ◌∙◌}
-use Rattle.std.specs.Cmp.Lexicographic.{pointwise}
-use Rattle.std.specs.Prelude.{is_ok, nat_eq}
-use Rattle.std.proofs.lemmas.Bool.{false≢true}
-use Rattle.sha2.specs.Sha256.{sha256}
-use Rattle.drive_text.specs.Ending.{drive_end, events_of}
-use Rattle.slot_store.specs.Scan.{IsAnswer, found_at}
-use Rattle.slot_bodies.specs.Bodies.{body_size}
-use Rattle.slot_store.specs.Slots.{slot_at}
-use Rattle.slot_store.specs.declared.found.Found.{Found}
-use Rattle.slot_store.specs.declared.found.SlotFault.{SlotFault}
-use Rattle.slot_store.proofs.Laws.{answer_is}
-use Rattle.totals_record.specs.declared.durable_state.Durable.{Durable}
-use Rattle.totals_record.specs.declared.trip.Trip.{Trip}
-use Rattle.seal_record.specs.Decoding as seals
-use Rattle.seal_record.specs.Ranges.{IsSeal}
-use Rattle.seal_record.proofs.Laws.{seals_are_read_by_their_table}
-use Rattle.seal_record.specs.declared.seal.Seal.{Seal}
-use Rattle.tariff_check.specs.Faults.{fault_of}
-use Rattle.tariff_check.specs.SoundTariff.{sound_of}
-use Rattle.tariff_check.specs.declared.fault.CheckFault.{CheckFault}
-use Rattle.tariff_check.proofs.Laws.{sound_tariffs_have_sound_parts-none}
-use Rattle.tariff_syntax.specs.Parsed.{tree_parsed}
-use Rattle.tariff_syntax.specs.Tree.{Tree}
+use Rattle.{std.specs.{Cmp.Lexicographic.{pointwise}, Prelude.{is_ok, nat_eq}}, sha2.specs.Sha256.{sha256}}
+use Rattle.std.proofs.Common.{ℕ, ◌+◌, ◌∙◌, ◌≡◌, Bool, Err, List, None, Ok, Option, Result, Some, ap, drop, false}
+use Rattle.std.proofs.{Common.{if◌then◌else◌, length, nat_lt, refl, subst, sym, take, true}, lemmas.Bool.{false≢true}}
+use Rattle.{slot_bodies.specs.Bodies.{body_size}, slot_store.specs.declared.found.SlotFault.{SlotFault}}
+use Rattle.slot_store.{specs.{Scan.{IsAnswer}, Slots.{slot_at}, declared.found.Found.{Found}}, proofs.Laws.{answer_is}}
+use Rattle.{drive_text.specs.Ending.{drive_end, events_of}, totals_record.specs.declared.trip.Trip.{Trip}}
+use Rattle.seal_record.{specs.Ranges.{IsSeal}, proofs.Laws.{seals_are_read_by_their_table}}
+use Rattle.{tariff_syntax.specs.{Parsed.{tree_parsed}, Tree.{Tree}}, meter_model.specs.declared.act.Act.{Act}}
 use Rattle.tariff_syntax.proofs.Laws.{texts_are_parsed_as_they_read-tariff, texts_have_their_numbers}
-use Rattle.meter_model.specs.Run.{whole_run}
-use Rattle.meter_model.specs.Setting.{Setting}
-use Rattle.meter_model.specs.declared.act.Act.{Act}
-use Rattle.meter_run.specs.Deeds.{after_deeds}
-use Rattle.meter_run.specs.RunLaws.{after_deeds_of, after_is}
-use Rattle.same_tariffs.specs.Alike.{AreHoldsAlike, AreOutcomesAlike, AreStoresAlike}
-use Rattle.same_tariffs.specs.Contexts.{IsSettingInRange}
-use Rattle.same_tariffs.specs.Reached.{HoldGoesOn}
-use Rattle.same_tariffs.specs.Same.{AreSameSettings}
+use Rattle.tariff_check.specs.{Faults.{fault_of}, declared.fault.CheckFault.{CheckFault}}
+use Rattle.tariff_check.{specs.SoundTariff.{sound_of}, proofs.Laws.{sound_tariffs_have_sound_parts-none}}
+use Rattle.{meter_model.specs.{Run.{whole_run}, Setting.{Setting}}, same_tariffs.specs.Same.{AreSameSettings}}
+use Rattle.{meter_states.proofs.Laws.{the_store_has_what_the_acts_commit-run}, same_tariffs.specs.Reached.{HoldGoesOn}}
+use Rattle.same_tariffs.specs.{Alike.{AreHoldsAlike, AreOutcomesAlike, AreStoresAlike}, Contexts.{IsSettingInRange}}
 use Rattle.same_tariffs.proofs.Laws.{events_of_drives_are_timely, same_tariffs_run_alike-goes_on}
 use Rattle.same_tariffs.proofs.Laws.{same_tariffs_run_alike-outcomes, same_tariffs_run_alike-stores}
-use Rattle.meter_states.proofs.Laws.{the_store_has_what_the_acts_commit-run}
-use Rattle.drive_commands.specs.Fare.{drive_answer}
-use Rattle.store_commands.specs.Opening.{opening_in}
-use Rattle.drive_commands.specs.Run.{Start, accepted, deeds_in, run_answer, setting_in, start_of}
+use Rattle.{meter_run.specs.RunLaws.{after_deeds_of, after_is}, call_ends.specs.declared.tariff.Refusal.{Refusal}}
+use Rattle.call_ends.specs.{Tariffs.{checked_in, sound_in, tariff_in}, declared.tariff.Refusal.TheVariants.{TooLong}}
+use Rattle.drive_commands.{specs.{Fare.{drive_answer}, Run.{accepted, run_answer, setting_in}}, proofs.Laws.{found_in}}
+use Rattle.run_chains.specs.Common.{Durable, Ended, Seal, Start, after_deeds, deeds_in, found_at, opening_in, start_of}
 use Rattle.run_chains.specs.SameRuns.{AreSameStarts, AreStartsAlike, DoTheSame, GoBySame, start_after}
-use Rattle.call_ends.specs.Tariffs.{checked_in, sound_in, tariff_in}
-use Rattle.call_ends.specs.declared.ending.Ended.{Ended}
-use Rattle.call_ends.specs.declared.ending.Ended.TheVariants as ended
-use Rattle.call_ends.specs.declared.tariff.Refusal.{Refusal}
-use Rattle.call_ends.specs.declared.tariff.Refusal.TheVariants.{TooLong}
 use Rattle.run_chains.proofs.SameTexts.{alike-entries, alike-texts}
-use Rattle.drive_commands.proofs.Laws.{found_in}
+use Rattle.seal_record.specs.Decoding as seals
+use Rattle.call_ends.specs.declared.ending.Ended.TheVariants as ended
 
 -- ---- a tariff that a run begins with is sound, and one of a text
 

@@ -1,16 +1,10 @@
 -- What acts that are alike print, enter and leave.
-use Rattle.std.proofs.Common.{◌≡◌, ℕ, List, [], ◌∷◌, ◌++◌, refl, ap, sym, ◌∙◌}
-use Rattle.seal_record.specs.declared.seal.Seal.{Seal}
-use Rattle.totals_record.specs.States.{entries_of}
-use Rattle.totals_record.specs.declared.entry.Entry.{Entry}
-use Rattle.meter_model.specs.Setting.{Setting}
-use Rattle.meter_model.specs.declared.act.Act.{Act}
-use Rattle.meter_model.specs.declared.act.Act.TheVariants.{Show, Refuse, Enter, Hold, Receipt}
-use Rattle.meter_run.specs.Deeds.{Deed, Does, Prints, act_text, changes_of, deeds_of, texts}
-use Rattle.receipt_text.proofs.Laws.{differ_in_tariff}
-use Rattle.receipt_text.specs.SealParts.{part_of_seal}
-use Rattle.run_chains.specs.SameRuns.{IsTextAlike}
-use Rattle.same_tariffs.specs.Alike.{AreActsAlike, IsActAlike}
+use Rattle.std.proofs.Common.{[], ℕ, ◌++◌, ◌∙◌, ◌∷◌, ◌≡◌, List, ap, refl, sym}
+use Rattle.{totals_record.specs.declared.entry.Entry.{Entry}, same_tariffs.specs.Alike.{AreActsAlike, IsActAlike}}
+use Rattle.meter_model.specs.{Setting.{Setting}, declared.act.Act.{Act, TheVariants.{Enter, Hold, Refuse, Show}}}
+use Rattle.receipt_text.{specs.SealParts.{part_of_seal}, proofs.Laws.{differ_in_tariff}}
+use Rattle.{meter_run.specs.Deeds.{act_text, deeds_of}, run_chains.specs.SameRuns.{IsTextAlike}}
+use Rattle.run_chains.specs.Common.{Deed, Does, Prints, Receipt, Seal, changes_of, entries_of, texts}
 
 -- an act prints what one that is alike does
 alike-text : (s t : Setting) (seal : Seal) (x y : Act) → IsActAlike s t x y → act_text seal y ≡ act_text seal x

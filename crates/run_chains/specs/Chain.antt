@@ -1,18 +1,9 @@
 -- Rules: a chain of runs and cuts of the power, in which each run is made over the image that the one before it left.
-use Rattle.std.specs.Prelude.{◌≡◌, ℕ, ◌<◌, List, [], ◌∷◌, ◌++◌, length, map, Option, Ok}
-use Rattle.memory_devices.specs.MemoryBoard.{BoardState, new_board}
-use Rattle.memory_devices.specs.MemoryFiles.{FilesState}
-use Rattle.memory_devices.specs.declared.replay.Fill.{Fill}
-use Rattle.meter_store.specs.Sealing.{HasSeal}
-use Rattle.seal_record.specs.declared.seal.Seal.{Seal}
-use Rattle.taxi_units.specs.declared.receipt.Receipt as receipts
-use Rattle.meter_store.specs.Stored.{HasState}
-use Rattle.totals_record.specs.declared.change.Change.{Change}
-use Rattle.totals_record.specs.declared.durable_state.Durable.{Durable}
-use Rattle.meter_model.specs.declared.act.Act.TheVariants.{Receipt}
-use Rattle.meter_run.specs.Deeds.{Deed, Does, texts}
+use Rattle.std.specs.Prelude.{[], ℕ, ◌++◌, ◌<◌, ◌∷◌, ◌≡◌, List, Ok, Option, length, map}
+use Rattle.run_chains.specs.Common.{BoardState, Change, Deed, Does, Durable, FilesState, Fill, HasSeal, HasState}
+use Rattle.run_chains.specs.Common.{Receipt, Seal, Start, new_board, texts}
 use Rattle.run_chains.specs.Link.{IsLink, Link, begun_with, deeds_done, prefix_of}
-use Rattle.drive_commands.specs.Run.{Start}
+use Rattle.taxi_units.specs.declared.receipt.Receipt as receipts
 
 -- a chain may begin with an image that stands for a durable state and a seal
 pub record IsSealedStore (image : List ℕ) : Type 0 where

@@ -1,11 +1,7 @@
 -- For proofs: one run of a chain by the values that the code has of it. Link says what such a run is.
-use Rattle.std.specs.Prelude.{◌≡◌, ◌⊎◌, ℕ, List, [], Option}
-use Rattle.memory_devices.specs.MemoryBoard.{BoardState, new_board}
-use Rattle.memory_devices.specs.MemoryFiles.{FilesState}
-use Rattle.memory_devices.specs.declared.replay.Fill.{Fill}
-use Rattle.totals_record.specs.declared.durable_state.Durable.{Durable}
+use Rattle.std.specs.Prelude.{[], ℕ, ◌≡◌, ◌⊎◌, List, Option}
 use Rattle.run_chains.specs.Chain.{Ran}
-use Rattle.run_chains.specs.Link.{IsLink, Link}
+use Rattle.run_chains.specs.{Common.{BoardState, Durable, FilesState, Fill, new_board}, Link.{IsLink, Link}}
 
 -- there is a run over an image, by a call of a program on a new board with that image; it has these files before and
 -- after it, this cut, this status, and this image and number behind it

@@ -5,3 +5,4 @@ pub mod MemoryRuns
 pub mod SameRuns
 -- For proofs
 pub mod ChainSteps
+pub mod Common

@@ -1,22 +1,11 @@
 -- Rules: one run of a chain, and the cut of the power in it.
-use Rattle.std.specs.Prelude.{◌≡◌, ◌≢◌, ℕ, ◌+◌, ◌-◌, ◌≤◌, min, List, [], length, take, Option, None, Some, Result, Ok}
-use Rattle.std.specs.Prelude.{Err}
-use Rattle.memory_devices.specs.Calls.{IsInSome}
-use Rattle.outside.specs.Disk.{SameBut}
-use Rattle.outside.specs.Faults.{Rose}
-use Rattle.memory_devices.specs.MemoryBoard.{BoardState, contents_inside, image_of, left_since_of, text_of}
-use Rattle.memory_devices.specs.MemoryFiles.{FilesState, rest_of}
-use Rattle.memory_devices.specs.declared.replay.Fill.{Fill}
-use Rattle.meter_store.specs.Stored.{HasState}
-use Rattle.totals_record.specs.Sums.{GrowsBy}
-use Rattle.totals_record.specs.declared.change.Change.{Change}
-use Rattle.totals_record.specs.declared.durable_state.Durable.{Durable}
-use Rattle.meter_run.specs.Deeds.{Deed, changes_of}
-use Rattle.call_ends.specs.Call.{LeavesUnread, MayTake}
-use Rattle.call_ends.specs.Course.{Course, line_in, status_in, call_text}
-use Rattle.store_commands.specs.Opening.{opening_in}
-use Rattle.drive_commands.specs.Run.{IsOfTotals, IsCutOfRun, Start, bytes_in, deeds_in, run_command, start_of}
-use Rattle.call_ends.specs.declared.ending.Ended.{Ended}
+use Rattle.std.specs.Prelude.{[], ℕ, ◌+◌, ◌-◌, ◌≡◌, ◌≢◌, ◌≤◌, Err, List, None, Ok, Option, Result, Some, length, min}
+use Rattle.{std.specs.Prelude.{take}, outside.specs.Faults.{Rose}, memory_devices.specs.MemoryBoard.{contents_inside}}
+use Rattle.{memory_devices.specs.Calls.{IsInSome}, call_ends.specs.Course.{Course, call_text, line_in, status_in}}
+use Rattle.{call_ends.specs.Call.{LeavesUnread, MayTake}, drive_commands.specs.Run.{bytes_in, run_command}}
+use Rattle.run_chains.specs.Common.{BoardState, Change, Deed, Durable, Ended, FilesState, Fill, GrowsBy, HasState}
+use Rattle.run_chains.specs.Common.{IsCutOfRun, IsOfTotals, SameBut, Start, changes_of, deeds_in, image_of}
+use Rattle.run_chains.specs.Common.{left_since_of, opening_in, rest_of, start_of, text_of}
 
 -- A run of a chain is told by what its files held and what is left of them, its board as the run left it, how the power
 -- was cut, how far the run came, and its status. What is left behind it is the next image, the state for which that

@@ -1,11 +1,7 @@
 -- Rules: what a run of the taximeter leaves of files and a board in memory.
-use Rattle.std.specs.Prelude.{◌≡◌, ℕ}
-use Rattle.outside.specs.Disk.{store_size}
-use Rattle.memory_devices.specs.MemoryBoard.{BoardState, Memory}
-use Rattle.memory_devices.specs.MemoryFiles.{FilesState}
-use Rattle.outside.specs.declared.board.Board.{Ghosts}
-use Rattle.outside.specs.declared.files.Files.{Ghosts as FileGhosts}
-use Rattle.drive_commands.specs.Run.{IsRun}
+use Rattle.std.specs.Prelude.{ℕ, ◌≡◌}
+use Rattle.outside.specs.{Disk.{store_size}, declared.{board.Board.{Ghosts}, files.Files.{Ghosts as FileGhosts}}}
+use Rattle.{memory_devices.specs.MemoryBoard.{Memory}, run_chains.specs.Common.{BoardState, FilesState, IsRun}}
 
 -- a run of the taximeter made with files and a board in memory left other files, the board in another state, and a
 -- status if these are as the headline says of runs

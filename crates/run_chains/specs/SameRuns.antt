@@ -1,19 +1,10 @@
 -- Rules: the starts of two runs that are the same but for the digest of the seal and the tariff.
-use Rattle.std.specs.Prelude.{◌≡◌, ℕ, List, None, Result}
-use Rattle.drive_text.specs.Ending.{drive_end}
-use Rattle.tariff_compare.specs.Same.{AreSame}
-use Rattle.same_tariffs.specs.Alike.{AreStoresAlike}
-use Rattle.same_tariffs.specs.Reached.{HoldGoesOn}
-use Rattle.totals_record.specs.States.{entries_of}
-use Rattle.meter_run.specs.Deeds.{Deed, Does, after_deeds, changes_of, deed_text, texts}
-use Rattle.meter_model.specs.declared.act.Act.TheVariants.{Receipt}
-use Rattle.receipt_text.specs.Receipts.{receipt_text}
-use Rattle.receipt_text.specs.SealParts.{part_of_seal}
-use Rattle.receipt_text.specs.TariffLine.{DifferInTariff}
-use Rattle.seal_record.specs.declared.seal.Seal.{Seal}
-use Rattle.drive_commands.specs.Fare.{drive_answer}
-use Rattle.drive_commands.specs.Run.{Start, deeds_in, run_answer, setting_in}
-use Rattle.call_ends.specs.declared.ending.Ended.{Ended}
+use Rattle.std.specs.Prelude.{ℕ, ◌≡◌, List, None, Result}
+use Rattle.{drive_text.specs.Ending.{drive_end}, tariff_compare.specs.Same.{AreSame}, meter_run.specs.Deeds.{deed_text}}
+use Rattle.{same_tariffs.specs.{Alike.{AreStoresAlike}, Reached.{HoldGoesOn}}, drive_commands.specs.Fare.{drive_answer}}
+use Rattle.receipt_text.specs.{Receipts.{receipt_text}, SealParts.{part_of_seal}, TariffLine.{DifferInTariff}}
+use Rattle.{drive_commands.specs.Run.{run_answer, setting_in}, run_chains.specs.Common.{entries_of, texts}}
+use Rattle.run_chains.specs.Common.{Deed, Does, Ended, Receipt, Seal, Start, after_deeds, changes_of, deeds_in}
 
 -- two starts go by the same if their seals are equal but for the digest, and their tariffs are the same under the
 -- sealed constant

@@ -1,13 +1,9 @@
 //! What any chain of runs and cuts of the power means, told apart from how the code works.
-ghost use Rattle.std.specs.Prelude.{ℕ, ◌∷◌, ◌++◌, List};
-ghost use Rattle.taxi_units.specs.declared.receipt.Receipt as receipts;
-ghost use Rattle.totals_record.specs.States.{entries_of};
-ghost use Rattle.meter_store.specs.Stored.{HasState};
-ghost use Rattle.totals_record.specs.Sums.{AddsUp, GrowsBy};
-ghost use Rattle.totals_record.specs.declared.durable_state.Durable.{Durable};
-ghost use Rattle.meter_run.specs.Points.{HasEntryOf, IsNumberedWithin};
+ghost use Rattle.std.specs.Prelude.{ℕ, ◌++◌, ◌∷◌, List};
+ghost use Rattle.{totals_record.specs.Sums.{AddsUp}, meter_run.specs.Points.{HasEntryOf, IsNumberedWithin}};
 ghost use Rattle.run_chains.specs.Chain.{HasByteOf, IsChain, last_image, last_state, prefixes_of};
-ghost use Rattle.run_chains.specs.Link.{Link, prefix_of};
+ghost use Rattle.run_chains.specs.{Common.{Durable, GrowsBy, HasState, entries_of}, Link.{Link, prefix_of}};
+ghost use Rattle.taxi_units.specs.declared.receipt.Receipt as receipts;
 
 /// A law: after any chain of runs and cuts the totals are the opening totals plus the sums over the entries of each
 /// run's prefix, in order, each counted once. The state at the end is the one after all commits of these prefixes. Its

@@ -1,19 +1,9 @@
 //! Any chain of runs and cuts of the power, over boards in memory.
-ghost use Rattle.std.specs.Prelude.{◌≡◌, ◌≢◌, ◌⊎◌, ℕ, ◌↔◌, [], length, map, string_bytes, IfOk, IsTrue};
-ghost use Rattle.std.specs.Prelude.{None, OnErr, Some};
-ghost use Rattle.outside.specs.Disk.{SameBut};
-ghost use Rattle.memory_devices.specs.MemoryBoard.{image_of, left_since_of};
-ghost use Rattle.memory_devices.specs.declared.replay.Fill.{Fill};
-ghost use Rattle.meter_store.specs.Sealing.{HasSeal};
-ghost use Rattle.seal_record.specs.declared.seal.Seal.{Seal};
-ghost use Rattle.meter_store.specs.Stored.{HasState};
-ghost use Rattle.totals_record.specs.declared.durable_state.Durable.{Durable};
-ghost use Rattle.run_chains.specs.Chain.{HasChain, IsSealedStore};
-ghost use Rattle.run_chains.specs.ChainSteps.{HasLink, LacksMemory};
-ghost use Rattle.run_chains.specs.Link.{IsLeftInside, call_of, text_before};
-ghost use Rattle.drive_commands.specs.Run.{IsOfTotals};
-ghost use Rattle.commands.specs.Words.{row_of};
-ghost use Rattle.commands.specs.declared.words.Row.TheVariants.{Run};
+ghost use Rattle.std.specs.Prelude.{[], ℕ, ◌↔◌, ◌≡◌, ◌≢◌, ◌⊎◌, IfOk, IsTrue, None, OnErr, Some, length, map};
+ghost use Rattle.{std.specs.Prelude.{string_bytes}, commands.specs.declared.words.Row.TheVariants.{Run}};
+ghost use Rattle.run_chains.specs.{Chain.{HasChain, IsSealedStore}, ChainSteps.{HasLink, LacksMemory}};
+ghost use Rattle.run_chains.specs.Common.{Durable, Fill, HasSeal, HasState, IsOfTotals, SameBut, Seal, image_of};
+ghost use Rattle.run_chains.specs.{Common.{left_since_of, row_of}, Link.{IsLeftInside, call_of, text_before}};
 
 use crate::program::Program;
 use call_ends::{BOARD_FAULT, NO_MEMORY};

@@ -5,9 +5,9 @@
 mod chain_laws;
 mod chains;
 mod program;
-mod same_runs;
+mod same_run_laws;
 
 pub use chain_laws::{chains_add_up, receipts_are_in_their_prefix};
 pub use chains::{chain, may_begin};
 pub use program::{Program, Taximeter};
-pub use same_runs::same_tariffs_print_the_same;
+pub use same_run_laws::same_tariffs_print_the_same;

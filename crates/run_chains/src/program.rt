@@ -1,10 +1,7 @@
 //! A program whose calls carry out runs, and the taximeter as one.
-ghost use Rattle.std.specs.Prelude.{◌≡◌, ◌≢◌, ℕ, Some, map, string_bytes};
-ghost use Rattle.memory_devices.specs.MemoryFiles.{rest_of};
-ghost use Rattle.run_chains.specs.MemoryRuns.{IsRunInMemory};
-ghost use Rattle.drive_commands.specs.Run.{IsRun};
-ghost use Rattle.commands.specs.Words.{row_of};
-ghost use Rattle.commands.specs.declared.words.Row.TheVariants.{Run};
+ghost use Rattle.std.specs.Prelude.{ℕ, ◌≡◌, ◌≢◌, Some, map, string_bytes};
+ghost use Rattle.{commands.specs.declared.words.Row.TheVariants.{Run}, run_chains.specs.MemoryRuns.{IsRunInMemory}};
+ghost use Rattle.run_chains.specs.Common.{IsRun, rest_of, row_of};
 
 use commands::taxi;
 use memory_devices::{MemoryBoard, MemoryFiles};
@@ -17,8 +14,7 @@ use taxi_units::Steps;
 /// leave. So code that is given any program knows that a call has left a board only if it made that call, with these
 /// files and this board. It can't make the board up, and can't make other calls of it than those of the program.
 pub trait Program<L: Ledger> {
-    ghost use Rattle.memory_devices.specs.MemoryBoard.{BoardState};
-    ghost use Rattle.memory_devices.specs.MemoryFiles.{FilesState};
+    ghost use Rattle.run_chains.specs.Common.{BoardState, FilesState};
 
     /// Whether a call with the words of a run, made with files and a board, may leave these other files and this
     /// other board, with this status.

@@ -1,20 +1,15 @@
 -- More pulses than any tariff can name change no line that holds.
-use Rattle.std.proofs.Common.{◌≡◌, ℕ, ◌+◌, ◌*◌, ◌<◌, ◌≤◌, min, Bool, true, false, not, ◌&&◌, ◌||◌, nat_le, All, List}
-use Rattle.std.proofs.Common.{[], ◌∷◌, Option, Some, None, if◌then◌else◌, refl, ap, sym, ◌∙◌, arith}
-use Rattle.std.specs.List.{cons_option, position_from}
-use Rattle.std.proofs.lemmas.Grind.{common_steps}
-use Rattle.std.proofs.lemmas.List.Elements.{All-cons, All-head, All-nil, All-tail}
-use Rattle.std.proofs.lemmas.Nat.{mul-le}
-use Rattle.tariff_compare.specs.Contexts.{most_pulses}
+use Rattle.{std.specs.List.{cons_option, position_from}, tariff_syntax.specs.Meaning.{holds, holds_if}}
+use Rattle.std.proofs.Common.{[], ℕ, ◌&&◌, ◌*◌, ◌+◌, ◌<◌, ◌||◌, ◌∙◌, ◌∷◌, ◌≡◌, ◌≤◌, All, Bool, List, None, Option, Some}
+use Rattle.std.proofs.Common.{ap, arith, false, if◌then◌else◌, min, nat_le, not, refl, sym, true}
+use Rattle.std.proofs.lemmas.{Grind.{common_steps}, List.Elements.{All-cons, All-head, All-nil, All-tail}, Nat.{mul-le}}
 use Rattle.tariff_syntax.specs.Choices.{Choice, RateNumbers, choice_in, choices, conditions_of, rate_part}
+use Rattle.tariff_syntax.specs.{Condition.{Condition}, Tree.{Entry, Line}}
+use Rattle.tariff_syntax.specs.Writable.{IsWritableCondition, IsWritableEntry, IsWritableIf, greatest}
+use Rattle.same_tariffs.specs.Common.{Context, IsWritable, Tree, most_pulses, rate_place}
 use Rattle.tariff_syntax.specs.Condition as tree
-use Rattle.tariff_syntax.specs.Condition.{Condition}
-use Rattle.tariff_syntax.specs.Meaning.{holds, holds_if, rate_place}
 use Rattle.tariff_syntax.specs.Part as part
-use Rattle.tariff_syntax.specs.Tree.{Entry, Line, Tree}
 use Rattle.tariff_syntax.specs.Tree as entries
-use Rattle.tariff_syntax.specs.Writable.{IsWritable, IsWritableCondition, IsWritableEntry, IsWritableIf, greatest}
-use Rattle.tariff_syntax.specs.declared.context.Context.{Context}
 
 -- a context with no more pulses than a distance can be
 abbrev pub capped : Context → Context

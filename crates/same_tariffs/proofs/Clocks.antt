@@ -1,11 +1,9 @@
 -- The local day and minute of a second of a meter.
-use Rattle.std.proofs.Common.{◌≡◌, ℕ, suc, ◌+◌, ◌-◌, ◌≤◌, Bool, true, false, nat_le, ℤ, pos, negsuc, ◌+ℤ◌, neg_ℤ, ◌≤ℤ◌}
-use Rattle.std.proofs.Common.{unsigned_abs, All, List, [], ◌∷◌, if◌then◌else◌, refl, sym, subst, arith}
-use Rattle.std.proofs.lemmas.Int.{ints}
-use Rattle.std.proofs.lemmas.List.Elements.{All-from_get_or, All-head, All-tail}
-use Rattle.interval_clock.specs.LocalTime.{day_of, local_second}
-use Rattle.interval_clock.specs.Offsets.{IsOffset, IsOffsetList, offset_at, offset_from}
-use Rattle.taxi_units.specs.Time.{IsSecond, first_second}
+use Rattle.std.proofs.Common.{[], ℕ, ℤ, ◌+ℤ◌, ◌+◌, ◌-◌, ◌∷◌, ◌≡◌, ◌≤ℤ◌, ◌≤◌, All, Bool, List, arith, false}
+use Rattle.std.proofs.Common.{if◌then◌else◌, nat_le, neg_ℤ, negsuc, pos, refl, subst, suc, sym, true, unsigned_abs}
+use Rattle.std.proofs.lemmas.{Int.{ints}, List.Elements.{All-from_get_or, All-head, All-tail}}
+use Rattle.{taxi_units.specs.Time.{first_second}, interval_clock.specs.Offsets.{IsOffset, offset_at, offset_from}}
+use Rattle.same_tariffs.specs.Common.{IsOffsetList, IsSecond, day_of, local_second}
 
 chosen : (b : Bool) (one other : ℤ) → IsOffset one → IsOffset other → IsOffset (if b then one else other)
 chosen true one other is also = is

@@ -1,30 +1,18 @@
 -- What each act of a key comes to at two meters that stand alike.
-use Rattle.std.proofs.Common.{◌≡◌, ℕ, ◌≤◌, Bool, true, nat_le, List, sum, Option, Some, None, if◌then◌else◌, ap, subst}
-use Rattle.std.proofs.Common.{◌∙◌, arith}
-use Rattle.std.proofs.lemmas.Grind.{common_steps}
-use Rattle.taxi_units.specs.Limits.{hirings_end}
-use Rattle.taxi_units.specs.Time.{last_tick}
-use Rattle.taxi_units.specs.declared.event.Key.{Key}
+use Rattle.std.proofs.Common.{ℕ, ◌∙◌, ◌≡◌, ◌≤◌, Bool, List, None, Option, Some, ap, arith, if◌then◌else◌, nat_le, subst}
+use Rattle.{std.proofs.{Common.{sum, true}, lemmas.Grind.{common_steps}}, taxi_units.specs.Limits.{hirings_end}}
+use Rattle.{tariff_check.specs.declared.values.Supplement.{Supplement}, meter_model.specs.Supplements.{times}}
+use Rattle.meter_model.specs.Keys.{act_done, act_of, extra_added, extra_added_to, hired, hiring, is_among}
+use Rattle.meter_model.specs.{Keys.{latch_pressed, position_set, zone_set}, declared.key_act.KeyAct.{KeyAct}}
+use Rattle.meter_model.specs.Trip.{with_extra}
+use Rattle.same_tariffs.{specs.Alike.{AreTripsAlike, AreTripsOfBothAlike, with_trips}, proofs.Trips.{begun-alike}}
+use Rattle.same_tariffs.specs.Common.{IsFromTo, Key, Meter, MeterTrip, Setting, Trip, begun, context_now, fees_in_force}
+use Rattle.same_tariffs.specs.Common.{last_tick, local_at, quiet, refused, supplement_numbered, ticks_so_far}
+use Rattle.same_tariffs.proofs.MetersAlike.{ComeAlike, IsBeside, closed-alike, context-same, either-alike, having}
+use Rattle.same_tariffs.proofs.MetersAlike.{placed_at, quiet-alike, refused-alike}
 use Rattle.taxi_units.specs.declared.event.Why.TheVariants as why
 use Rattle.taxi_units.specs.declared.receipt.Kind.TheVariants as kinds
-use Rattle.totals_record.specs.declared.trip.Trip.{Trip}
-use Rattle.tariff_check.specs.Amounts.{fees_in_force}
-use Rattle.tariff_check.specs.SoundTariff.{supplement_numbered}
-use Rattle.tariff_check.specs.declared.values.Supplement.{Supplement}
-use Rattle.tariff_syntax.specs.Writable.{IsFromTo}
-use Rattle.meter_model.specs.Interval.{context_now, ticks_so_far}
-use Rattle.meter_model.specs.Keys.{act_done, act_of, extra_added, extra_added_to, hired, hiring, is_among}
-use Rattle.meter_model.specs.Keys.{latch_pressed, position_set, zone_set}
-use Rattle.meter_model.specs.Meter.{Meter, quiet, refused}
-use Rattle.meter_model.specs.Setting.{Setting, local_at}
-use Rattle.meter_model.specs.Supplements.{times}
-use Rattle.meter_model.specs.Trip.{MeterTrip, begun, with_extra}
-use Rattle.meter_model.specs.declared.key_act.KeyAct.{KeyAct}
 use Rattle.meter_model.specs.declared.key_act.KeyAct.TheVariants as key_acts
-use Rattle.same_tariffs.specs.Alike.{AreTripsAlike, AreTripsOfBothAlike, with_trips}
-use Rattle.same_tariffs.proofs.Standing.{ComeAlike, IsBeside, closed-alike, context-same, either-alike, having}
-use Rattle.same_tariffs.proofs.Standing.{placed_at, quiet-alike, refused-alike}
-use Rattle.same_tariffs.proofs.Trips.{begun-alike}
 
 -- a number that is among those of the positions or of the zones
 among : (most n : ℕ) → is_among most n ≡ true → IsFromTo 1 most n

@@ -1,30 +1,13 @@
 -- The laws of the public empty functions.
-use Rattle.std.proofs.Common.{◌≡◌, ℕ, ◌<◌, All, List, ap}
-use Rattle.drive_modes.specs.Fare.{Opening, saved, steps_above}
-use Rattle.drive_modes.specs.declared.meterage.Rounding.{Rounding}
-use Rattle.drive_modes.specs.declared.charges.Mode.{Mode}
-use Rattle.drive_text.specs.Ending.{events_of}
-use Rattle.meter_states.specs.Lawful.{IsTimely}
-use Rattle.meter_model.specs.Meter.{Meter}
-use Rattle.meter_model.specs.Run.{opened, run, whole_run}
-use Rattle.meter_model.specs.Setting.{Setting}
-use Rattle.tariff_check.specs.Faults.{IsSound}
-use Rattle.tariff_compare.specs.Contexts.{IsMeterContext}
-use Rattle.tariff_compare.specs.declared.meter_context.MeterContext.{MeterContext}
-use Rattle.tariff_syntax.specs.Tree.{Tree}
-use Rattle.tariff_syntax.specs.Writable.{IsWritable}
-use Rattle.taxi_units.specs.declared.event.Event.{Event}
-use Rattle.totals_record.specs.declared.durable_state.Durable.{Durable}
+use Rattle.std.proofs.Common.{ℕ, ◌<◌, ◌≡◌, All, List, ap}
 use Rattle.same_tariffs.specs.Alike.{AreMeteragesAlike, AreOpeningsAlike, AreOutcomesAlike, AreStoresAlike, IsSameMoney}
+use Rattle.same_tariffs.specs.Common.{Durable, Event, IsMeterContext, IsSound, IsTimely, IsWritable, Meter}
+use Rattle.same_tariffs.specs.Common.{MeterContext, Mode, Opening, Rounding, Setting, Tree, events_of, opened, run}
+use Rattle.same_tariffs.specs.{Common.{saved, steps_above, whole_run}, Reached.{HoldGoesOn, IsWithinReach}}
 use Rattle.same_tariffs.specs.Contexts.{IsChargedIn, IsHiredIn, IsSettingInRange, meter_context_at, without_trip}
-use Rattle.same_tariffs.specs.Drives.{IsReached}
-use Rattle.same_tariffs.specs.Reached.{HoldGoesOn, IsWithinReach}
-use Rattle.same_tariffs.specs.Same.{AreSameSettings}
-use Rattle.same_tariffs.proofs.Meeting.{agree, agree-self, charged-in, hired-in}
-use Rattle.same_tariffs.proofs.Money.{saved-same, steps-same}
-use Rattle.same_tariffs.proofs.Reaching.{each-reached}
-use Rattle.same_tariffs.proofs.Runs.{run-within, whole-alike, whole-goes_on}
-use Rattle.same_tariffs.proofs.Timely.{drives-timely}
+use Rattle.same_tariffs.{specs.{Drives.{IsReached}, Same.{AreSameSettings}}, proofs.Timely.{drives-timely}}
+use Rattle.same_tariffs.proofs.{DrivesToContexts.{each-reached}, Runs.{run-within, whole-alike, whole-goes_on}}
+use Rattle.same_tariffs.proofs.{MeterContexts.{agree, agree-self, charged-in, hired-in}, Money.{saved-same, steps-same}}
 
 pub same_charges_show_the_same_steps-saved : (u v : ℕ) (o p : Opening) (a b : ℕ) → 0 < u → 0 < v
     → AreOpeningsAlike u v o p → IsSameMoney u v a b → AreMeteragesAlike u v (saved o a) (saved p b)

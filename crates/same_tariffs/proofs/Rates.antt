@@ -1,27 +1,14 @@
 -- Rates that cost the same make charges of the same money.
-use Rattle.std.proofs.Common.{◌≡◌, ℕ, ◌*◌, ◌/◌, ◌<◌, Bool, true, false, nat_lt, if◌then◌else◌, All, List, [], ◌∷◌}
-use Rattle.std.proofs.Common.{get_or, Option, Some, mul-pos, mul_comm, ap, sym, subst, ◌∙◌, arith}
-use Rattle.std.specs.List.{flat_map}
-use Rattle.std.specs.Option.{unwrap_or}
-use Rattle.std.proofs.lemmas.Grind.{common_steps}
-use Rattle.std.proofs.lemmas.List.Elements.{All-cons, All-get_or, All-head, All-nil, All-tail}
-use Rattle.drive_modes.specs.declared.charges.Mode.{Mode}
-use Rattle.drive_modes.specs.declared.charges.Mode.TheVariants.{Single, Double}
-use Rattle.tariff_check.specs.Faults.{IsSound}
-use Rattle.tariff_check.specs.Measure.{measure_of}
-use Rattle.tariff_check.specs.Parts.{RateNumbers, rates_of}
-use Rattle.tariff_check.specs.Sound.{IsSoundRate}
-use Rattle.tariff_check.specs.SoundLookups.{rate_in_force}
-use Rattle.tariff_check.specs.SoundTariff.{sound_of}
-use Rattle.tariff_check.specs.declared.choice.ChoiceKind.TheVariants.{Rate}
+use Rattle.{std.specs.{List.{flat_map}, Option.{unwrap_or}}, tariff_check.specs.Measure.{measure_of}}
+use Rattle.std.proofs.Common.{[], ℕ, ◌*◌, ◌/◌, ◌<◌, ◌∙◌, ◌∷◌, ◌≡◌, All, Bool, List, Option, Some, ap, arith, false}
+use Rattle.std.proofs.Common.{get_or, if◌then◌else◌, mul-pos, mul_comm, nat_lt, subst, sym, true}
+use Rattle.std.proofs.lemmas.{Grind.{common_steps}, List.Elements.{All-cons, All-get_or, All-head, All-nil, All-tail}}
+use Rattle.{drive_modes.specs.declared.charges.Mode.TheVariants.{Double, Single}, tariff_compare.specs.Same.{cost_same}}
+use Rattle.tariff_check.specs.{Parts.{RateNumbers, rates_of}, declared.choice.ChoiceKind.TheVariants.{Rate}}
+use Rattle.{tariff_check.specs.Sound.{IsSoundRate}, meter_model.specs.Charge.{charge_by, distance_charge, time_charge}}
+use Rattle.tariff_check.{specs.SoundLookups.{rate_in_force}, proofs.Laws.{sound_tariffs_have_sound_parts-parts}}
 use Rattle.tariff_check.proofs.Laws.{lines_that_hold_are_there-rate, measures_are_least-least, measures_are_least-sound}
-use Rattle.tariff_check.proofs.Laws.{sound_tariffs_have_sound_parts-parts}
-use Rattle.tariff_compare.specs.Same.{cost_same}
-use Rattle.tariff_syntax.specs.Tree.{Tree}
-use Rattle.tariff_syntax.specs.Writable.{IsWritable}
-use Rattle.tariff_syntax.specs.declared.context.Context.{Context}
-use Rattle.meter_model.specs.Charge.{charge_by, distance_charge, time_charge}
-use Rattle.same_tariffs.specs.Alike.{IsSameMoney}
+use Rattle.same_tariffs.specs.{Alike.{IsSameMoney}, Common.{Context, IsSound, IsWritable, Mode, Tree, sound_of}}
 use Rattle.same_tariffs.proofs.Money.{sum-same, test-same}
 
 -- ---- a rate of a sound tariff

@@ -1,24 +1,11 @@
 -- Runs of two meters that stand alike, and of one meter, which stands alike to itself.
-use Rattle.std.proofs.Common.{◌≤◌, All, List, [], ◌∷◌, Option, Some, None, option_map, refl, subst, arith}
-use Rattle.std.proofs.lemmas.List.Elements.{All-head, All-tail}
-use Rattle.taxi_units.specs.Time.{last_tick}
-use Rattle.taxi_units.specs.declared.event.Event.{Event}
-use Rattle.taxi_units.specs.declared.event.Operating.{Operating}
-use Rattle.taxi_units.specs.declared.event.Operating.TheVariants.{Off}
-use Rattle.totals_record.specs.declared.durable_state.Durable.{Durable}
-use Rattle.totals_record.specs.declared.trip.Trip.{Trip}
-use Rattle.meter_model.specs.Interval.{ticks_so_far}
-use Rattle.meter_states.specs.Lawful.{IsTimely}
-use Rattle.meter_model.specs.Meter.{Meter}
-use Rattle.meter_model.specs.Run.{ended, ended_in, opened, run, whole_run}
-use Rattle.meter_model.specs.Setting.{Setting}
-use Rattle.meter_model.specs.Step.{step}
-use Rattle.meter_model.specs.Trip.{MeterTrip, trip_of}
-use Rattle.same_tariffs.specs.Alike.{AreHoldsAlike, AreStoresAlike, with_trips}
-use Rattle.same_tariffs.specs.Reached.{HoldGoesOn, IsWithinReach}
-use Rattle.same_tariffs.proofs.Agreeing.{Agree}
-use Rattle.same_tariffs.proofs.Stages.{dropped-alike, step-alike}
-use Rattle.same_tariffs.proofs.Standing.{ComeAlike, IsBeside, StandAlike, by-trips, quiet-alike, stands, then-alike}
+use Rattle.std.proofs.Common.{[], ◌∷◌, ◌≤◌, All, List, None, Option, Some, arith, option_map, refl, subst}
+use Rattle.{std.proofs.lemmas.List.Elements.{All-head, All-tail}, meter_model.specs.Run.{ended, ended_in}}
+use Rattle.{meter_model.specs.Trip.{trip_of}, same_tariffs.specs.Alike.{AreHoldsAlike, AreStoresAlike, with_trips}}
+use Rattle.same_tariffs.specs.Common.{Durable, Event, IsTimely, Meter, MeterTrip, Off, Operating, Setting, Trip}
+use Rattle.same_tariffs.{specs.Common.{last_tick, opened, run, step, ticks_so_far, whole_run}, proofs.Agreement.{Agree}}
+use Rattle.same_tariffs.{specs.Reached.{HoldGoesOn, IsWithinReach}, proofs.Stages.{dropped-alike, step-alike}}
+use Rattle.same_tariffs.proofs.MetersAlike.{ComeAlike, IsBeside, StandAlike, by-trips, quiet-alike, stands, then-alike}
 use Rattle.same_tariffs.proofs.Trips.{opened-both}
 
 ticks-held : (s : Setting) (hold : Option Trip) → HoldGoesOn s.tariff hold

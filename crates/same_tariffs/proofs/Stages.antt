@@ -1,45 +1,28 @@
 -- Each stage of an event, and each event, leaves two meters alike that stand alike.
-use Rattle.std.proofs.Common.{◌≡◌, ℕ, ◌+◌, ◌-◌, ◌≤◌, Bool, true, false, nat_le, nat_lt, [], ◌∷◌, sum, Option, Some}
-use Rattle.std.proofs.Common.{None, option_map, if◌then◌else◌, refl, ap, subst, arith}
-use Rattle.std.proofs.lemmas.Grind.{common_steps}
-use Rattle.drive_modes.specs.declared.meterage.Meterage.{Meterage}
-use Rattle.taxi_units.specs.Limits.{last_number, roaming_most}
-use Rattle.taxi_units.specs.Time.{IsSecond, last_tick, longest_trip}
-use Rattle.taxi_units.specs.declared.event.Event.{Event}
-use Rattle.taxi_units.specs.declared.event.Event.TheVariants as events
-use Rattle.taxi_units.specs.declared.event.Key.{Key}
-use Rattle.taxi_units.specs.declared.event.Operating.{Operating}
-use Rattle.taxi_units.specs.declared.event.Operating.TheVariants.{Off, ForHire, Hired, Stopped}
-use Rattle.taxi_units.specs.declared.event.Why.{Why}
-use Rattle.taxi_units.specs.declared.event.Why.TheVariants as why
-use Rattle.taxi_units.specs.declared.receipt.Display.{Display}
-use Rattle.taxi_units.specs.declared.receipt.Kind.TheVariants as kinds
-use Rattle.totals_record.specs.declared.trip.Trip.{Trip}
-use Rattle.tariff_syntax.specs.declared.context.Context.{Context}
-use Rattle.meter_model.specs.Charge.{charge_at}
-use Rattle.meter_model.specs.Closing.{roaming_checked, roaming_checked_in, roaming_entered, roaming_entry}
-use Rattle.meter_model.specs.Display.{display_of, is_shown, shown}
-use Rattle.meter_model.specs.Interval.{context_of, counted_in, interval_begun, interval_counted, interval_left, left_in}
-use Rattle.meter_model.specs.Interval.{room_of, ticks_so_far}
-use Rattle.meter_model.specs.Keys.{key_pressed, latched}
-use Rattle.meter_states.specs.Lawful.{IsTimely}
-use Rattle.meter_model.specs.Meter.{Meter, Outcome, quiet}
-use Rattle.meter_model.specs.Setting.{Setting, local_at, unit_of}
+use Rattle.std.proofs.Common.{[], ℕ, ◌+◌, ◌-◌, ◌∷◌, ◌≡◌, ◌≤◌, Bool, None, Option, Some, ap, arith, false, if◌then◌else◌}
+use Rattle.std.proofs.{Common.{nat_le, nat_lt, option_map, refl, subst, sum, true}, lemmas.Grind.{common_steps}}
+use Rattle.taxi_units.specs.{Limits.{last_number, roaming_most}, declared.event.Operating.TheVariants.{Stopped}}
+use Rattle.taxi_units.specs.{Time.{longest_trip}, declared.{event.Why.{Why}, receipt.Display.{Display}}}
+use Rattle.meter_model.specs.ClosedTrip.{roaming_checked, roaming_checked_in, roaming_entered, roaming_entry}
+use Rattle.meter_model.specs.{Display.{is_shown, shown}, Trip.{InHired, InStopped, Rest, charge_in}}
+use Rattle.meter_model.specs.Interval.{counted_in, interval_begun, interval_counted, interval_left, left_in, room_of}
+use Rattle.meter_model.specs.{Keys.{key_pressed, latched}, Supply.{running, supply_came, supply_dropped, turned_off}}
 use Rattle.meter_model.specs.Step.{clock_read, clock_read_in_trip, expired, expired_or_pressed, latch_refused, off_step}
-use Rattle.meter_model.specs.Step.{powered_step, step, step_in, ticked}
-use Rattle.meter_model.specs.Supply.{aborted, hold_taken, is_stopped, is_within_hold, held_or_closed, powered, resumed}
-use Rattle.meter_model.specs.Supply.{running, supply_came, supply_dropped, turned_off}
-use Rattle.meter_model.specs.Trip.{InHired, InStopped, Part, Rest, MeterTrip, charge_in, held_trip, pulses_in, ticks_in}
-use Rattle.meter_model.specs.Trip.{with_part}
-use Rattle.meter_model.specs.declared.act.Act.TheVariants.{Show, Refuse}
+use Rattle.meter_model.specs.{Step.{powered_step, step_in, ticked}, declared.act.Act.TheVariants.{Refuse, Show}}
+use Rattle.meter_model.specs.Supply.{aborted, held_or_closed, hold_taken, is_stopped, is_within_hold, powered, resumed}
 use Rattle.same_tariffs.specs.Alike.{AreActsAlike, AreHoldsAlike, AreTripsOfBothAlike, IsSameMoney, with_trips}
-use Rattle.same_tariffs.specs.Reached.{GoesOn, HoldGoesOn}
-use Rattle.same_tariffs.proofs.Keys.{press-alike}
+use Rattle.same_tariffs.specs.Common.{Context, Event, ForHire, Hired, IsSecond, IsTimely, Key, Meter, MeterTrip}
+use Rattle.same_tariffs.specs.Common.{Meterage, Off, Operating, Outcome, Part, Setting, Trip, charge_at, context_of}
+use Rattle.same_tariffs.specs.Common.{display_of, held_trip, last_tick, local_at, pulses_in, quiet, step, ticks_in}
+use Rattle.same_tariffs.specs.{Common.{ticks_so_far, unit_of, with_part}, Reached.{GoesOn, HoldGoesOn}}
+use Rattle.same_tariffs.proofs.{Keys.{press-alike}, MetersAlike.{quiet-alike, refused-alike, stands, then-alike}}
+use Rattle.same_tariffs.proofs.MetersAlike.{AreBeside, ComeAlike, IsBeside, StandAlike, by-trips, closed-alike}
+use Rattle.same_tariffs.proofs.MetersAlike.{context-same, either-alike, entered-alike, having, held-by, placed_at}
 use Rattle.same_tariffs.proofs.Money.{none-same}
-use Rattle.same_tariffs.proofs.Standing.{AreBeside, ComeAlike, IsBeside, StandAlike, by-trips, closed-alike}
-use Rattle.same_tariffs.proofs.Standing.{context-same, either-alike, entered-alike, having, held-by, placed_at, stands}
-use Rattle.same_tariffs.proofs.Standing.{quiet-alike, refused-alike, then-alike}
 use Rattle.same_tariffs.proofs.Trips.{display-alike, held-alike, parts-alike, sum-more, ticks-alike}
+use Rattle.taxi_units.specs.declared.event.Event.TheVariants as events
+use Rattle.taxi_units.specs.declared.event.Why.TheVariants as why
+use Rattle.taxi_units.specs.declared.receipt.Kind.TheVariants as kinds
 
 ticks-more : (part : Part) (trip : Option MeterTrip)
     → ticks_so_far (option_map (with_part part) trip) ≤ ticks_so_far trip + ticks_in part

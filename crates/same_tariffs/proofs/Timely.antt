@@ -1,21 +1,13 @@
 -- The events of each drive are timely.
-use Rattle.std.proofs.Common.{◌≡◌, ℕ, zero, suc, ◌==◌, Bool, true, false, All, List, [], ◌∷◌, flat_map, take}
-use Rattle.std.proofs.Common.{take_while, is_some, Option, Some, None, if◌then◌else◌, refl, sym, subst}
-use Rattle.std.specs.Option.{unwrap_or}
-use Rattle.std.specs.Str.Lines.{strip_carriage_return}
-use Rattle.std.proofs.lemmas.List.Elements.{All-append, All-cons, All-nil}
-use Rattle.std.proofs.lemmas.Grind.{flat_map-append}
-use Rattle.taxi_units.specs.declared.event.Event.{Event}
-use Rattle.taxi_units.specs.declared.event.Event.TheVariants.{Up, Pulses, Tick, Clock}
-use Rattle.drive_text.specs.declared.run.Run.{Run}
-use Rattle.drive_text.specs.Ending.{stream_limit, events_of}
-use Rattle.drive_text.specs.Fields.{line_runs}
-use Rattle.drive_text.specs.Lines.{ended_lines}
-use Rattle.drive_text.specs.Runs.{interval_events, intervals_events, run_events}
-use Rattle.drive_text.specs.Table.{Means}
-use Rattle.drive_text.specs.Table.Means.{empty, comment, up, clock, intervals}
+use Rattle.{std.{specs.Option.{unwrap_or}, proofs.lemmas.Grind.{flat_map-append}}, drive_text.specs.Lines.{ended_lines}}
+use Rattle.std.{specs.Str.Lines.{strip_carriage_return}, proofs.lemmas.List.Elements.{All-append, All-cons, All-nil}}
+use Rattle.std.proofs.Common.{[], ℕ, ◌==◌, ◌∷◌, ◌≡◌, All, Bool, List, None, Option, Some, false, flat_map}
+use Rattle.std.proofs.Common.{if◌then◌else◌, is_some, refl, subst, suc, sym, take, take_while, true, zero}
+use Rattle.{taxi_units.specs.declared.event.Event.TheVariants.{Clock}, drive_text.specs.Fields.{line_runs}}
+use Rattle.drive_text.specs.{Ending.{stream_limit}, Table.{Means, Means.{clock, comment, empty, intervals, up}}}
+use Rattle.drive_text.specs.{Runs.{interval_events, intervals_events, run_events}, declared.run.Run.{Run}}
 use Rattle.drive_text.proofs.Laws.{lines_give_what_the_table_says}
-use Rattle.meter_states.specs.Lawful.{IsTimely}
+use Rattle.same_tariffs.specs.Common.{Event, IsTimely, Pulses, Tick, Up, events_of}
 
 one : (event : Event) → IsTimely event → All IsTimely (event ∷ [])
 one event is = All-cons IsTimely event [] is (All-nil IsTimely)

@@ -1,29 +1,19 @@
 -- What two meters make of trips that are alike.
-use Rattle.std.proofs.Common.{◌≡◌, ℕ, ℤ, ◌+◌, ◌*◌, ◌<◌, mul-pos, Bool, List, [], ◌∷◌, ◌++◌, map, sum, Option, Some}
-use Rattle.std.proofs.Common.{None, option_map, refl, ap, sym, subst, ◌∙◌, arith}
-use Rattle.std.proofs.lemmas.Grind.{common_steps}
-use Rattle.drive_modes.specs.Fare.{steps_above}
-use Rattle.drive_modes.specs.declared.meterage.Meterage.{Meterage}
-use Rattle.drive_modes.specs.declared.meterage.Rounding.{Rounding}
-use Rattle.taxi_units.specs.declared.receipt.Kind.{Kind}
-use Rattle.totals_record.specs.declared.trip.Trip.{Trip}
-use Rattle.drive_modes.specs.Distance.{millimetres_of}
-use Rattle.tariff_check.specs.SoundTariff.{supplement_numbered}
-use Rattle.tariff_check.specs.declared.values.Initial.{Initial}
-use Rattle.meter_model.specs.Closing.{entry_of_trip, receipt_of}
-use Rattle.meter_model.specs.Display.{display_of, extras_shown, fare_shown}
-use Rattle.meter_model.specs.Interval.{pulses_so_far, ticks_so_far}
-use Rattle.meter_model.specs.Meter.{Meter}
-use Rattle.meter_model.specs.Setting.{Setting, modulus_of, rounding_of, stamp_at, unit_of}
-use Rattle.meter_model.specs.Supplements.{amount_in, amounts_of}
-use Rattle.meter_model.specs.Trip as model
-use Rattle.meter_model.specs.Trip.{Part, MeterTrip, begun, charge_in, charges_of, core_trip_of, fare_by_fees, fare_of}
-use Rattle.meter_model.specs.Trip.{held_trip, pulses_in, pulses_of, saved_at, steps_shown, ticks_in, trip_of, with_part}
-use Rattle.meter_model.specs.declared.core_trip.CoreTrip.{CoreTrip}
+use Rattle.std.proofs.Common.{[], ℕ, ℤ, ◌*◌, ◌++◌, ◌+◌, ◌<◌, ◌∙◌, ◌∷◌, ◌≡◌, Bool, List, None, Option, Some, ap, arith}
+use Rattle.std.proofs.{Common.{map, mul-pos, option_map, refl, subst, sum, sym}, lemmas.Grind.{common_steps}}
+use Rattle.{taxi_units.specs.declared.receipt.Kind.{Kind}, drive_modes.specs.Distance.{millimetres_of}}
+use Rattle.{tariff_check.specs.declared.values.Initial.{Initial}, meter_model.specs.Trip.{trip_of}}
+use Rattle.meter_model.specs.{ClosedTrip.{entry_of_trip, receipt_of}, Setting.{modulus_of, rounding_of, stamp_at}}
+use Rattle.meter_model.specs.{Display.{extras_shown, fare_shown}, Interval.{pulses_so_far}}
+use Rattle.meter_model.specs.{Supplements.{amount_in, amounts_of}, declared.core_trip.CoreTrip.{CoreTrip}}
+use Rattle.meter_model.specs.Trip.{charge_in, charges_of, core_trip_of, fare_by_fees, fare_of, saved_at, steps_shown}
 use Rattle.same_tariffs.specs.Alike.{AreHeldAlike, AreHoldsAlike, AreMeteragesAlike, AreOpeningsAlike, AreTripsAlike}
-use Rattle.same_tariffs.specs.Alike.{AreTripsOfBothAlike, IsSameMoney, with_trips}
-use Rattle.same_tariffs.proofs.Agreeing.{Agree}
+use Rattle.same_tariffs.{specs.Alike.{AreTripsOfBothAlike, IsSameMoney, with_trips}, proofs.Agreement.{Agree}}
+use Rattle.same_tariffs.specs.Common.{Meter, MeterTrip, Meterage, Part, Rounding, Setting, Trip, begun, display_of}
+use Rattle.same_tariffs.specs.Common.{held_trip, pulses_in, pulses_of, steps_above, supplement_numbered, ticks_in}
+use Rattle.same_tariffs.specs.Common.{ticks_so_far, unit_of, with_part}
 use Rattle.same_tariffs.proofs.Money.{none-same, saved-same, steps-same, sum-same, times-money, times-same}
+use Rattle.meter_model.specs.Trip as model
 
 -- ---- parts
 

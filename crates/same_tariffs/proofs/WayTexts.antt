@@ -1,21 +1,12 @@
 -- The events that lead to a context are ones that a drive can have, and their lines are within the limit.
-use Rattle.std.proofs.Common.{◌≡◌, ℕ, zero, suc, ◌+◌, ◌*◌, ◌/◌, ◌%◌, ◌<◌, ◌≤◌, All, List, [], ◌∷◌, ◌++◌, replicate}
-use Rattle.std.proofs.Common.{arith, length, length-append}
-use Rattle.std.proofs.Math.Nat.{div-add-mod}
-use Rattle.std.proofs.lemmas.List.{length-replicate}
-use Rattle.std.proofs.lemmas.List.Elements.{All-append, All-cons, All-head, All-nil, All-tail}
-use Rattle.drive_text.proofs.Laws.{written_line_is_short}
-use Rattle.drive_text.specs.Ending.{stream_limit}
-use Rattle.drive_text.specs.Ranges.{IsInRange}
-use Rattle.drive_text.specs.Written.{drive_of, event_text}
-use Rattle.taxi_units.specs.Time.{IsSecond, last_tick}
-use Rattle.taxi_units.specs.declared.event.Event.{Event}
-use Rattle.taxi_units.specs.declared.event.Event.TheVariants.{Up, Down, Pulses, Tick}
-use Rattle.taxi_units.specs.declared.event.Event.TheVariants as events
-use Rattle.taxi_units.specs.declared.event.Key.TheVariants.{Hire, Position, Zone}
-use Rattle.tariff_compare.specs.Contexts.{most_pulses}
-use Rattle.tariff_compare.specs.declared.meter_context.MeterContext.{MeterContext}
+use Rattle.std.proofs.Common.{[], ℕ, ◌%◌, ◌*◌, ◌++◌, ◌+◌, ◌/◌, ◌<◌, ◌∷◌, ◌≡◌, ◌≤◌, All, List, arith, length}
+use Rattle.std.proofs.{Common.{length-append, replicate, suc, zero}, Math.Nat.{div-add-mod}}
+use Rattle.std.proofs.lemmas.List.{length-replicate, Elements.{All-append, All-cons, All-head, All-nil, All-tail}}
+use Rattle.drive_text.{specs.{Ending.{stream_limit}, Written.{event_text}}, proofs.Laws.{written_line_is_short}}
+use Rattle.{drive_text.specs.Ranges.{IsInRange}, same_tariffs.specs.Common.{drive_of, last_tick, most_pulses}}
+use Rattle.same_tariffs.specs.Common.{Down, Event, Hire, IsSecond, MeterContext, Position, Pulses, Tick, Up, Zone}
 use Rattle.same_tariffs.specs.Drives.{drop, drops, events_to, hire}
+use Rattle.taxi_units.specs.declared.event.Event.TheVariants as events
 
 all-append : (xs ys : List Event) → All IsInRange xs → All IsInRange ys → All IsInRange (xs ++ ys)
 all-append xs ys one other = All-append IsInRange xs ys one other

@@ -1,14 +1,8 @@
 -- Rules: when two meters have and do alike, though each counts charges in the units of its own tariff.
-use Rattle.std.specs.Prelude.{◌≡◌, ℕ, ◌*◌, ◌<◌, List, [], ◌∷◌, Option, Some, None}
-use Rattle.drive_modes.specs.Fare.{Opening}
-use Rattle.drive_modes.specs.declared.meterage.Meterage.{Meterage}
-use Rattle.totals_record.specs.declared.durable_state.Durable.{Durable}
-use Rattle.totals_record.specs.declared.trip.Trip.{Trip}
-use Rattle.meter_model.specs.Meter.{Meter, Outcome}
-use Rattle.meter_model.specs.Setting.{Setting, unit_of}
-use Rattle.meter_model.specs.Trip.{MeterTrip, charges_of, pulses_of, ticks_of}
-use Rattle.meter_model.specs.declared.act.Act.{Act}
-use Rattle.meter_model.specs.declared.act.Act.TheVariants.{Hold}
+use Rattle.std.specs.Prelude.{[], ℕ, ◌*◌, ◌<◌, ◌∷◌, ◌≡◌, List, None, Option, Some}
+use Rattle.meter_model.specs.{Trip.{charges_of, ticks_of}, declared.act.Act.{Act, TheVariants.{Hold}}}
+use Rattle.same_tariffs.specs.Common.{Durable, Meter, MeterTrip, Meterage, Opening, Outcome, Setting, Trip, pulses_of}
+use Rattle.same_tariffs.specs.Common.{unit_of}
 
 -- `a` units of charge, of which `u` make the smallest unit of money, are the same money as `b`, of which `v` make it,
 -- if `a` and `b` stand to each other as `u` and `v`

@@ -1,19 +1,9 @@
 -- Rules: the contexts in which the intervals and the hirings of runs are charged.
-use Rattle.std.specs.Prelude.{◌≡◌, ℕ, min, unsigned_abs}
-use Rattle.interval_clock.specs.LocalTime.{day_of, local_second, minute_of_day}
-use Rattle.interval_clock.specs.Offsets.{IsOffsetList}
-use Rattle.drive_modes.specs.Constant.{least_constant, greatest_constant}
-use Rattle.tariff_check.specs.Faults.{IsSound}
-use Rattle.tariff_compare.specs.Contexts.{IsMeterContext, context_at, most_pulses}
-use Rattle.tariff_compare.specs.declared.meter_context.MeterContext.{MeterContext}
-use Rattle.tariff_check.specs.Amounts.{initial_by}
-use Rattle.tariff_check.specs.SoundTariff.{sound_of}
-use Rattle.tariff_syntax.specs.Meaning.{rate_place}
-use Rattle.tariff_syntax.specs.Tree.{Tree}
-use Rattle.tariff_syntax.specs.Writable.{IsFromTo, IsWritable}
-use Rattle.meter_model.specs.Interval.{context_now, context_of, pulses_so_far, ticks_so_far}
-use Rattle.meter_model.specs.Meter.{Meter}
-use Rattle.meter_model.specs.Setting.{Setting}
+use Rattle.std.specs.Prelude.{ℕ, ◌≡◌, min, unsigned_abs}
+use Rattle.{drive_modes.specs.Constant.{greatest_constant, least_constant}, meter_model.specs.Interval.{pulses_so_far}}
+use Rattle.same_tariffs.specs.Common.{IsFromTo, IsMeterContext, IsOffsetList, IsSound, IsWritable, Meter, MeterContext}
+use Rattle.same_tariffs.specs.Common.{Setting, Tree, context_at, context_now, context_of, day_of, initial_by}
+use Rattle.same_tariffs.specs.Common.{local_second, minute_of_day, most_pulses, rate_place, sound_of, ticks_so_far}
 
 -- a setting of a tariff is in range if it has the parts of the tariff, which is a sound one that a text can have, the
 -- constant is 500 to 200,000, and the offsets are a list of offsets

@@ -1,25 +1,11 @@
 -- Rules: a drive that leads to a context of a meter.
-use Rattle.std.specs.Prelude.{◌≡◌, ℕ, zero, suc, ◌*◌, ◌/◌, ◌%◌, List, [], ◌∷◌, ◌++◌, replicate, Some, ℤ}
-use Rattle.drive_text.specs.Ending.{Whole, drive_end, events_of}
-use Rattle.drive_text.specs.Written.{drive_of}
-use Rattle.interval_clock.specs.Offsets.{IsOffset}
-use Rattle.drive_modes.specs.declared.charges.Mode.{Mode}
-use Rattle.taxi_units.specs.declared.event.Event.{Event}
-use Rattle.taxi_units.specs.declared.event.Event.TheVariants.{Up, Down, Pulses, Tick}
+use Rattle.std.specs.Prelude.{[], ℕ, ℤ, ◌%◌, ◌*◌, ◌++◌, ◌/◌, ◌∷◌, ◌≡◌, List, Some, replicate, suc, zero}
+use Rattle.{interval_clock.specs.Offsets.{IsOffset}, drive_text.specs.Ending.{Whole, drive_end}}
+use Rattle.{totals_record.specs.States.{first_state}, meter_model.specs.{Setting.{under_offset}, Trip.{fees_of}}}
+use Rattle.same_tariffs.specs.Common.{Down, Event, Hire, Hired, Meter, MeterContext, MeterTrip, Mode, Position, Pulses}
+use Rattle.same_tariffs.specs.Common.{Setting, Tick, Tree, Up, Zone, context_at, context_of, drive_of, events_of}
+use Rattle.same_tariffs.specs.{Common.{initial_by, opened, run, unit_of}, Contexts.{without_trip}}
 use Rattle.taxi_units.specs.declared.event.Event.TheVariants as events
-use Rattle.taxi_units.specs.declared.event.Key.TheVariants.{Hire, Position, Zone}
-use Rattle.taxi_units.specs.declared.event.Operating.TheVariants.{Hired}
-use Rattle.tariff_compare.specs.Contexts.{context_at}
-use Rattle.tariff_compare.specs.declared.meter_context.MeterContext.{MeterContext}
-use Rattle.tariff_check.specs.Amounts.{initial_by}
-use Rattle.tariff_syntax.specs.Tree.{Tree}
-use Rattle.meter_model.specs.Interval.{context_of}
-use Rattle.meter_model.specs.Meter.{Meter}
-use Rattle.meter_model.specs.Run.{opened, run}
-use Rattle.meter_model.specs.Setting.{Setting, under_offset, unit_of}
-use Rattle.meter_model.specs.Trip.{MeterTrip, fees_of}
-use Rattle.same_tariffs.specs.Contexts.{without_trip}
-use Rattle.totals_record.specs.States.{first_state}
 
 -- pulses come without ticks as the supply drops before the end of their interval and comes again at the same second
 abbrev pub drop : (second pulses : ℕ) → List Event

@@ -3,3 +3,4 @@ pub mod Contexts
 pub mod Drives
 pub mod Reached
 pub mod Same
+pub mod Common

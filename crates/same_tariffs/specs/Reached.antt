@@ -1,12 +1,7 @@
 -- Rules: the states that a meter comes to in runs.
-use Rattle.std.specs.Prelude.{ℕ, ◌≤◌, Option, Some, None}
-use Rattle.taxi_units.specs.Time.{IsSecond, last_tick}
-use Rattle.totals_record.specs.declared.trip.Trip.{Trip}
+use Rattle.std.specs.Prelude.{ℕ, ◌≤◌, None, Option, Some}
 use Rattle.tariff_check.specs.SoundTariff.{SoundTariff}
-use Rattle.tariff_syntax.specs.Writable.{IsFromTo}
-use Rattle.meter_model.specs.Interval.{ticks_so_far}
-use Rattle.meter_model.specs.Meter.{Meter}
-use Rattle.meter_model.specs.Setting.{Setting}
+use Rattle.same_tariffs.specs.Common.{IsFromTo, IsSecond, Meter, Setting, Trip, last_tick, ticks_so_far}
 
 -- a position and a zone are set under a tariff if they are among those that it has
 pub record AreSet (tariff : SoundTariff) (position zone : ℕ) : Type 0 where

@@ -1,9 +1,7 @@
 -- Rules: when two settings are the same but for tariffs that are the same.
 use Rattle.std.specs.Prelude.{◌≡◌}
-use Rattle.tariff_compare.specs.Same.{AreSame}
-use Rattle.tariff_syntax.specs.Tree.{Tree}
-use Rattle.meter_model.specs.Setting.{Setting}
-use Rattle.same_tariffs.specs.Contexts.{IsSettingInRange}
+use Rattle.{tariff_compare.specs.Same.{AreSame}, same_tariffs.specs.Contexts.{IsSettingInRange}}
+use Rattle.same_tariffs.specs.Common.{Setting, Tree}
 
 -- two settings of two tariffs are the same if both are in range, the tariffs are the same under the constant, and all
 -- else is equal

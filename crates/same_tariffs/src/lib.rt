@@ -2,11 +2,11 @@
 //! which runs charge their intervals and begin their hirings.
 #![tactic(auto)]
 
-mod reached;
-mod same;
+mod reached_laws;
+mod same_laws;
 
-pub use reached::{
+pub use reached_laws::{
     each_context_is_reached, events_of_drives_are_timely,
     intervals_are_charged_in_contexts_of_a_meter,
 };
-pub use same::{same_charges_show_the_same_steps, same_tariffs_run_alike};
+pub use same_laws::{same_charges_show_the_same_steps, same_tariffs_run_alike};

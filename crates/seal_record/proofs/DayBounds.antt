@@ -1,12 +1,9 @@
 -- The day numbers of the years 2000 to 2199.
-use Rattle.std.proofs.Common.{◌≡◌, ℕ, zero, suc, ◌+◌, ◌-◌, ◌<◌, ◌≤◌, pos, Bool, true, false, sum, take, slice_index}
-use Rattle.std.proofs.Common.{if◌then◌else◌, inl, inr, refl, arith}
-use Rattle.std.proofs.lemmas.Bool.{cases_lt}
-use Rattle.std.proofs.lemmas.Int.{ints}
-use Rattle.interval_clock.specs.Calendar.{IsDate, IsDateOf, is_date, is_leap_year, month_lengths, days_of_months}
-use Rattle.interval_clock.specs.Calendar.{days_of_year, days_of_years, place_in_year, day_number_of}
-use Rattle.taxi_units.specs.DateTest.{date_test}
-use Rattle.taxi_units.specs.Test.{at_most, each}
+use Rattle.std.proofs.Common.{ℕ, ◌+◌, ◌-◌, ◌<◌, ◌≡◌, ◌≤◌, Bool, arith, false, if◌then◌else◌, inl, inr, pos, refl}
+use Rattle.std.proofs.{Common.{slice_index, suc, sum, take, true, zero}, lemmas.{Bool.{cases_lt}, Int.{ints}}}
+use Rattle.interval_clock.specs.Calendar.{IsDate, days_of_months, days_of_year, days_of_years, is_date, is_leap_year}
+use Rattle.interval_clock.specs.Calendar.{month_lengths, place_in_year}
+use Rattle.seal_record.specs.Common.{IsDateOf, at_most, date_test, day_number_of, each}
 
 -- later years begin later
 pub years_rise : (year later : ℕ) → year ≤ later → days_of_years year ≤ days_of_years later

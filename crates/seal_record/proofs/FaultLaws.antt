@@ -1,23 +1,15 @@
 -- A line that is bad has the fault that its form says.
-use Rattle.std.proofs.Common.{◌≡◌, ◌≢◌, ℕ, ◌↔◌, Bool, true, false, if◌then◌else◌, List, Option, Some, None, is_some}
-use Rattle.std.proofs.Common.{Result, Ok, Err, refl, sym, ap, subst, ◌∙◌}
-use Rattle.seal_record.specs.declared.params.Name.{Name}
-use Rattle.seal_record.specs.declared.params.Name.TheVariants.{Taxi, Constant, Hold, Offset, Secured}
-use Rattle.seal_record.specs.declared.params.Name.TheVariants as name
-use Rattle.seal_record.specs.declared.params.ParamFault.{ParamFault}
-use Rattle.seal_record.specs.declared.params.ParamFault.TheVariants.{BadValue, Twice, Unknown}
-use Rattle.seal_record.specs.Faults.{IsBad, HasParamAlready, key_of}
-use Rattle.seal_record.specs.Faults.IsBad.{bad_value, said_twice, unknown_key}
+use Rattle.std.proofs.Common.{ℕ, ◌↔◌, ◌∙◌, ◌≡◌, ◌≢◌, Bool, Err, List, None, Ok, Option, Result, Some, ap, false}
+use Rattle.std.proofs.Common.{if◌then◌else◌, is_some, refl, subst, sym, true}
+use Rattle.seal_record.specs.Common.{BadValue, Constant, Hold, Name, Offset, ParamFault, Secured, Taxi, Twice, Unknown}
+use Rattle.seal_record.specs.{Faults.{HasParamAlready, IsBad, key_of}, Lines.{is_passed, key_in, value_in}}
 use Rattle.seal_record.specs.Faults.HasParamAlready.{constant_was, hold_was, mode_was, secured_was, taxi_was}
-use Rattle.seal_record.specs.Lines.{is_passed, key_in, value_in}
-use Rattle.seal_record.specs.ParamLine.{IsSilent, LineAddsParam}
-use Rattle.seal_record.specs.ParamLine.IsSilent.{comment, empty}
-use Rattle.seal_record.specs.ParamsSoFar.{ParamsSoFar}
+use Rattle.seal_record.{specs.Faults.IsBad.{bad_value, said_twice, unknown_key}, proofs.LineLaws.{not_passed}}
+use Rattle.seal_record.specs.{ParamLine.{IsSilent, LineAddsParam, IsSilent.{comment, empty}}, ParamsSoFar.{ParamsSoFar}}
 use Rattle.seal_record.specs.ParamLineStages.{is_twice, keyed_line, line_read, name_of, or_bad, with_value}
-use Rattle.seal_record.specs.TextParts.{IsParted}
+use Rattle.seal_record.{specs.TextParts.{IsParted}, proofs.TextLaws.{a_line_is_parted}}
 use Rattle.seal_record.proofs.LineLaws.{has_key, is_silent, key_is, line_from, lines_say_their_parameter, name_from}
-use Rattle.seal_record.proofs.LineLaws.{not_passed}
-use Rattle.seal_record.proofs.TextLaws.{a_line_is_parted}
+use Rattle.seal_record.specs.declared.params.Name.TheVariants as name
 
 pub true_false : true ≡ false → ⊥
 true_false e = cc

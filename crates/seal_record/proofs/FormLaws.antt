@@ -1,28 +1,16 @@
 -- Values are read by their forms.
-use Rattle.std.proofs.Common.{◌≡◌, ℕ, ◌≤◌, ◌↔◌, Bool, true, false, if◌then◌else◌, ℤ, pos, neg_ℤ, List, [], ◌∷◌, ◌++◌}
-use Rattle.std.proofs.Common.{length, Option, Some, None, Decides, refl, sym, ap, subst, ◌∙◌, arith}
-use Rattle.std.specs.Prelude.{codes}
-use Rattle.std.specs.Str.{bytes_eq}
-use Rattle.std.proofs.lemmas.List.{append-nil}
-use Rattle.std.proofs.lemmas.Slice.Eq.{bytes_eq-Decides}
-use Rattle.drive_modes.specs.declared.charges.Mode.{Mode}
-use Rattle.drive_modes.specs.declared.charges.Mode.TheVariants.{Single, Double}
-use Rattle.interval_clock.specs.Calendar.{IsDateOf, day_number_of}
-use Rattle.interval_clock.proofs.Laws.{is_date_of_number, one_day_number}
-use Rattle.taxi_units.specs.Digits.{AreDigitsOf, IsNumberIn}
-use Rattle.taxi_units.specs.Number.{NoDigitFirst, number_at, number_in, number_of_width}
-use Rattle.taxi_units.specs.Reading.{word_at}
+use Rattle.std.{specs.{Prelude.{codes}, Str.{bytes_eq}}, proofs.lemmas.{List.{append-nil}, Slice.Eq.{bytes_eq-Decides}}}
+use Rattle.std.proofs.Common.{[], ℕ, ℤ, ◌++◌, ◌↔◌, ◌∙◌, ◌∷◌, ◌≡◌, ◌≤◌, Bool, Decides, List, None, Option, Some, ap}
+use Rattle.std.proofs.Common.{arith, false, if◌then◌else◌, length, neg_ℤ, pos, refl, subst, sym, true}
+use Rattle.taxi_units.specs.{Digits.{AreDigitsOf}, Number.{NoDigitFirst, number_at, number_of_width}, Reading.{word_at}}
 use Rattle.taxi_units.proofs.Laws.{numbers_are_read_by_their_digits, wide_numbers_are_read_by_their_digits}
 use Rattle.taxi_units.proofs.Laws.{words_are_read_by_their_text}
-use Rattle.seal_record.specs.Forms.{IsDateText, IsModeText, IsOffsetText, IsPairText}
-use Rattle.seal_record.specs.Forms.IsModeText.{double_said, single_said}
-use Rattle.seal_record.specs.Forms.IsOffsetText.{ahead, behind}
-use Rattle.taxi_units.specs.DateTest.{date_test}
-use Rattle.taxi_units.specs.Test.{at_most}
+use Rattle.{interval_clock.proofs.Laws.{is_date_of_number, one_day_number}, seal_record.specs.Common.{number_in}}
+use Rattle.seal_record.specs.Common.{Double, IsDateOf, IsNumberIn, Mode, Single, at_most, date_test, day_number_of}
+use Rattle.seal_record.specs.Forms.{IsDateText, IsModeText, IsOffsetText, IsPairText, IsOffsetText.{ahead, behind}}
+use Rattle.seal_record.{specs.Forms.IsModeText.{double_said, single_said}, proofs.PlainValues.{minus_again, no_minus}}
 use Rattle.seal_record.specs.Values.{mode_read, offset_read, pair_read, secured_read, secured_test, where_date}
-use Rattle.seal_record.proofs.PlainValues.{minus_again, no_minus}
-use Rattle.seal_record.proofs.ParamRanges.{let_through, read_on}
-use Rattle.seal_record.proofs.TextLaws.{empty_of, numbers_in_ranges}
+use Rattle.seal_record.proofs.{ParamRanges.{let_through, read_on}, TextLaws.{empty_of, numbers_in_ranges}}
 
 -- ---- modes
 

@@ -1,30 +1,17 @@
 -- A line that is read says what its form says.
-use Rattle.std.proofs.Common.{◌≡◌, ℕ, ◌↔◌, Bool, true, false, if◌then◌else◌, List, [], ◌∷◌, ◌++◌, Option, Some, None}
-use Rattle.std.proofs.Common.{is_some, Ok, Err, Decides, refl, sym, ap, subst, ◌∙◌}
-use Rattle.std.specs.Prelude.{codes}
-use Rattle.std.specs.Str.{bytes_eq}
-use Rattle.std.proofs.lemmas.Bool.Decides.{Decides-eqb}
-use Rattle.std.proofs.lemmas.Slice.Eq.{bytes_eq-Decides}
-use Rattle.seal_record.specs.declared.params.Name.{Name}
-use Rattle.seal_record.specs.declared.params.Name.TheVariants.{Taxi, Constant, Hold, Offset, Secured}
-use Rattle.seal_record.specs.declared.params.Name.TheVariants as name
-use Rattle.seal_record.specs.declared.params.ParamFault.TheVariants.{Twice}
-use Rattle.seal_record.specs.Faults.{key_of}
-use Rattle.seal_record.specs.Lines.{is_passed, key_in, value_in}
-use Rattle.seal_record.specs.ParamLine.{IsSilent, LineAddsParam}
-use Rattle.seal_record.specs.ParamLine.IsSilent.{comment, empty}
+use Rattle.std.{specs.Prelude.{codes}, proofs.lemmas.{Bool.Decides.{Decides-eqb}, Slice.Eq.{bytes_eq-Decides}}}
+use Rattle.std.{specs.Str.{bytes_eq}, proofs.Common.{false, if◌then◌else◌, is_some, refl, subst, sym, true}}
+use Rattle.std.proofs.Common.{[], ℕ, ◌++◌, ◌↔◌, ◌∙◌, ◌∷◌, ◌≡◌, Bool, Decides, Err, List, None, Ok, Option, Some, ap}
+use Rattle.seal_record.specs.{Common.{Constant, Hold, Name, Offset, Secured, Taxi, Twice, number_in}, Faults.{key_of}}
+use Rattle.seal_record.specs.{Lines.{is_passed, key_in, value_in}, ParamLine.LineAddsParam.{silent, taxi_said}}
+use Rattle.seal_record.specs.{OffsetList.{offsets_test}, ParamLine.{IsSilent, LineAddsParam, IsSilent.{comment, empty}}}
 use Rattle.seal_record.specs.ParamLine.LineAddsParam.{constant_said, hold_said, mode_said, offset_said, secured_said}
-use Rattle.seal_record.specs.ParamLine.LineAddsParam.{silent, taxi_said}
-use Rattle.seal_record.specs.OffsetList.{offsets_test}
-use Rattle.seal_record.specs.ParamsSoFar.{ParamsSoFar}
 use Rattle.seal_record.specs.ParamLineStages.{is_twice, keyed_line, line_read, name_of, or_bad, with_pair, with_value}
-use Rattle.seal_record.specs.TextParts.{IsParted}
-use Rattle.seal_record.specs.TextParts.IsParted.{alone, parted}
-use Rattle.taxi_units.specs.Number.{number_in}
-use Rattle.seal_record.specs.Values.{mode_read, pair_read, secured_read, taxi_read}
+use Rattle.seal_record.specs.{ParamsSoFar.{ParamsSoFar}, Values.{mode_read, pair_read, secured_read, taxi_read}}
+use Rattle.seal_record.{specs.TextParts.{IsParted, IsParted.{alone, parted}}, proofs.ParamRanges.{let_through, read_on}}
 use Rattle.seal_record.proofs.FormLaws.{dates_by_their_form, modes_by_their_words, pairs_by_their_form}
-use Rattle.seal_record.proofs.ParamRanges.{let_through, read_on}
 use Rattle.seal_record.proofs.TextLaws.{a_line_is_parted, numbers_in_ranges, taxis_are_texts}
+use Rattle.seal_record.specs.declared.params.Name.TheVariants as name
 
 -- ---- the key of a parameter
 

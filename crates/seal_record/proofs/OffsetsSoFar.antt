@@ -1,9 +1,7 @@
 -- What has been said with one offset more.
-use Rattle.std.proofs.Common.{◌≡◌, ℕ, ℤ, Bool, true, false, if◌then◌else◌, List, [], ◌∷◌, ◌++◌, Some, None, refl, ap}
-use Rattle.std.proofs.Common.{subst}
-use Rattle.seal_record.specs.OffsetList.{is_list_so_far, is_offset_list}
-use Rattle.seal_record.specs.ParamsSoFar.{ParamsSoFar}
-use Rattle.seal_record.specs.ParamLineStages.{with_pair}
+use Rattle.std.proofs.Common.{[], ℕ, ℤ, ◌++◌, ◌∷◌, ◌≡◌, Bool, List, None, Some, ap, false, if◌then◌else◌, refl, subst}
+use Rattle.{std.proofs.Common.{true}, seal_record.specs.OffsetList.{is_list_so_far, is_offset_list}}
+use Rattle.seal_record.specs.{ParamLineStages.{with_pair}, ParamsSoFar.{ParamsSoFar}}
 
 -- a list that is given as lawful may be the list so far
 pub lawful_so_far : (list found : List (ℕ × ℤ)) → (if is_offset_list list then Some list else None) ≡ Some found

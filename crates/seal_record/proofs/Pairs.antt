@@ -1,7 +1,6 @@
 -- The pairs of a list of offsets, one after another.
-use Rattle.std.proofs.Common.{◌≡◌, ℕ, ◌+◌, ◌<◌, ℤ, List, [], ◌∷◌, ◌++◌, length, take, get_or, flat_map, ap, ◌∙◌}
-use Rattle.std.proofs.lemmas.List.{append-nil, take_more}
-use Rattle.std.proofs.lemmas.Grind.{flat_map-append}
+use Rattle.std.proofs.Common.{[], ℕ, ℤ, ◌++◌, ◌+◌, ◌<◌, ◌∙◌, ◌∷◌, ◌≡◌, List, ap, flat_map, get_or, length, take}
+use Rattle.std.proofs.lemmas.{Grind.{flat_map-append}, List.{append-nil, take_more}}
 use Rattle.seal_record.specs.Spelling.{pair_bytes}
 
 pub one_more_pair : (pairs : List (ℕ × ℤ)) (i : ℕ) (d : ℕ × ℤ) → i < length pairs

@@ -1,33 +1,17 @@
 -- Parameters that a text says are in their ranges.
-use Rattle.std.proofs.Common.{◌≡◌, ℕ, ◌+◌, ◌<◌, ◌≤◌, Bool, true, false, if◌then◌else◌, ℤ, pos, List, [], ◌∷◌, ◌++◌}
-use Rattle.std.proofs.Common.{length, Option, Some, None, Result, Ok, Err, IfOk, IfSome, ltb, refl, sym, ap}
-use Rattle.std.proofs.Common.{subst, ◌∙◌, arith}
-use Rattle.std.proofs.lemmas.Int.{ints}
-use Rattle.std.proofs.lemmas.Option.{cond_some}
-use Rattle.drive_modes.specs.declared.charges.Mode.{Mode}
-use Rattle.interval_clock.specs.Calendar.{day_number_of}
-use Rattle.interval_clock.specs.Offsets.{IsOffsetList}
-use Rattle.taxi_units.specs.Number.{number_in}
-use Rattle.taxi_units.proofs.Laws.{figures_are_read_by_their_digits}
-use Rattle.taxi_units.specs.Reading.{◌>>=◌, word_at}
-use Rattle.seal_record.specs.declared.params.Name.{Name}
-use Rattle.seal_record.specs.declared.params.Name.TheVariants.{Taxi, Constant, Hold, Offset, Secured}
-use Rattle.seal_record.specs.declared.params.Name.TheVariants as name
-use Rattle.seal_record.specs.declared.params.Params.{Params}
-use Rattle.seal_record.specs.declared.params.ParamFault.{ParamFault}
-use Rattle.seal_record.specs.declared.params.ParamFault.TheVariants.{TooLong, Twice}
-use Rattle.seal_record.specs.Lines.{is_passed, key_in, value_in, lines_of}
-use Rattle.seal_record.specs.OffsetList.{offsets_test}
-use Rattle.seal_record.specs.Ranges.{IsDay, IsParams, IsTaxi}
-use Rattle.seal_record.specs.Reading.{and_then, lines_read, params_read, whole, whole_of}
-use Rattle.seal_record.specs.ParamsSoFar.{ParamsSoFar, no_params_yet}
+use Rattle.std.proofs.Common.{[], ℕ, ℤ, ◌++◌, ◌+◌, ◌<◌, ◌∙◌, ◌∷◌, ◌≡◌, ◌≤◌, Bool, Err, IfOk, IfSome, List, None, Ok}
+use Rattle.std.proofs.Common.{Option, Result, Some, ap, arith, false, if◌then◌else◌, length, ltb, pos, refl, subst, sym}
+use Rattle.{std.proofs.{Common.{true}, lemmas.{Int.{ints}, Option.{cond_some}}}, taxi_units.specs.Reading.{word_at}}
+use Rattle.taxi_units.{specs.Number.{number_of_width}, proofs.Laws.{figures_are_read_by_their_digits}}
+use Rattle.seal_record.specs.Common.{◌>>=◌, Constant, Hold, IsOffsetList, Mode, Name, Offset, ParamFault, Params}
+use Rattle.seal_record.specs.Common.{Secured, Taxi, Test, TooLong, Twice, date_test, day_number_of, number_in}
+use Rattle.seal_record.specs.{Lines.{is_passed, key_in, lines_of, value_in}, ParamsSoFar.{ParamsSoFar, no_params_yet}}
+use Rattle.seal_record.specs.{OffsetList.{offsets_test}, Reading.{and_then, lines_read, params_read, whole, whole_of}}
 use Rattle.seal_record.specs.ParamLineStages.{is_twice, keyed_line, line_read, name_of, or_bad, with_pair, with_value}
 use Rattle.seal_record.specs.RangeTests.{taxi_test}
-use Rattle.taxi_units.specs.DateTest.{date_test}
-use Rattle.taxi_units.specs.Test.{Test}
-use Rattle.taxi_units.specs.Number.{number_of_width}
+use Rattle.seal_record.{specs.Ranges.{IsDay, IsParams, IsTaxi}, proofs.DayBounds.{days_in_range}}
 use Rattle.seal_record.specs.Values.{mode_read, pair_read, secured_read, secured_test, taxi_read, where_date}
-use Rattle.seal_record.proofs.DayBounds.{days_in_range}
+use Rattle.seal_record.specs.declared.params.Name.TheVariants as name
 
 -- what has been said is in its ranges
 pub record IsSaid (said : ParamsSoFar) : Type 0 where

@@ -1,46 +1,24 @@
 -- A plain text of parameters is read as them.
-use Rattle.std.proofs.Common.{◌≡◌, ◌≢◌, inl, inr, ℕ, suc, ◌+◌, ◌-◌, ◌*◌, ◌^◌, ◌<◌, ◌≤◌, true, false, ℤ, pos, negsuc}
-use Rattle.std.proofs.Common.{◌≤ℤ◌, List, [], ◌∷◌, ◌++◌, length, map, replicate, get_or, All, Some, None, Ok, leb}
-use Rattle.std.proofs.Common.{unsigned_abs, refl, sym, ap, subst, ◌∙◌, arith, append_assoc, length-append}
-use Rattle.std.proofs.lemmas.Bool.{le-ltb, ne_eqb}
-use Rattle.std.proofs.lemmas.Fmt.{decimal_is_IsNumeral_wide}
-use Rattle.std.proofs.lemmas.Grind.{flat_map-append}
-use Rattle.std.proofs.lemmas.Int.{ints}
-use Rattle.std.proofs.lemmas.List.{append-nil, get_or_append_left, length-map}
+use Rattle.{std.specs.{Fmt.{decimal}, List.{list_all}, Prelude.{codes}}, taxi_units.proofs.Laws.{numbers_are_short}}
+use Rattle.std.{specs.Str.{Lines.{strip_carriage_return}, Parse.{AllDigits}}, proofs.lemmas.Bool.{le-ltb, ne_eqb}}
+use Rattle.std.proofs.Common.{[], ℕ, ℤ, ◌*◌, ◌++◌, ◌+◌, ◌-◌, ◌<◌, ◌^◌, ◌∙◌, ◌∷◌, ◌≡◌, ◌≢◌, ◌≤ℤ◌, ◌≤◌, All, List, None}
+use Rattle.std.proofs.Common.{Ok, Some, ap, append_assoc, arith, false, get_or, inl, inr, leb, length, length-append}
+use Rattle.std.proofs.Common.{map, negsuc, pos, refl, replicate, subst, suc, sym, true, unsigned_abs}
+use Rattle.std.proofs.lemmas.{Fmt.{decimal_is_IsNumeral_wide}, Grind.{flat_map-append}, Str.Parse.{digit_from_value}}
+use Rattle.std.proofs.lemmas.{Int.{ints}, List.{append-nil, get_or_append_left, length-map, Elements.{All-weaker}}}
 use Rattle.std.proofs.lemmas.List.Elements.{All-append, All-cons, All-head, All-nil, All-replicate, All-tail}
-use Rattle.std.proofs.lemmas.List.Elements.{All-weaker}
-use Rattle.std.proofs.lemmas.Str.Parse.{digit_from_value}
-use Rattle.std.specs.Fmt.{decimal}
-use Rattle.std.specs.List.{list_all}
-use Rattle.std.specs.Prelude.{codes}
-use Rattle.std.specs.Str.Lines.{strip_carriage_return}
-use Rattle.std.specs.Str.Parse.{AllDigits}
-use Rattle.drive_modes.specs.declared.charges.Mode.{Mode}
-use Rattle.drive_modes.specs.declared.charges.Mode.TheVariants.{Single, Double}
-use Rattle.interval_clock.specs.Calendar.{date_after}
-use Rattle.interval_clock.specs.Offsets.{IsInRangeAt, IsOffset, IsOffsetList, IsSecond, second_at}
-use Rattle.interval_clock.proofs.Laws.{IsDateOf-date_after}
-use Rattle.taxi_units.specs.Number.{padded_text}
-use Rattle.taxi_units.proofs.Laws.{numbers_are_short}
-use Rattle.seal_record.specs.declared.params.Name.{Name}
-use Rattle.seal_record.specs.declared.params.Name.TheVariants.{Taxi, Constant, Hold, Offset, Secured}
-use Rattle.seal_record.specs.declared.params.Name.TheVariants as name
-use Rattle.seal_record.specs.declared.params.Params.{Params}
-use Rattle.seal_record.specs.Lines.{is_passed, lines_of}
-use Rattle.seal_record.specs.TextParts.{HasNone}
-use Rattle.seal_record.specs.OffsetList.{offsets_test}
+use Rattle.{interval_clock.specs.Calendar.{date_after}, seal_record.specs.Reading.{lines_read, params_read, whole_of}}
+use Rattle.interval_clock.{specs.Offsets.{IsInRangeAt, IsSecond, second_at}, proofs.Laws.{IsDateOf-date_after}}
+use Rattle.seal_record.specs.Common.{Constant, Double, Hold, IsIdentifierCharacter, IsOffset, IsOffsetList, Mode, Name}
+use Rattle.seal_record.specs.Common.{Offset, Params, Secured, Single, Taxi, at_most, each, padded_text}
+use Rattle.seal_record.specs.{Lines.{is_passed, lines_of}, ParamLineStages.{line_read, name_of, named_line}}
+use Rattle.seal_record.specs.{OffsetList.{offsets_test}, Ranges.{IsParams}, TextParts.{HasNone}}
+use Rattle.seal_record.{specs.ParamsSoFar.{ParamsSoFar, no_params_yet}, proofs.DayBounds.{date_bound, year_in_range}}
 use Rattle.seal_record.specs.PlainText.{AreShown, comment_line, commented_text, date_text, ended_text, line_of}
 use Rattle.seal_record.specs.PlainText.{mode_text, offset_line, offset_text, plain_lines, plain_text}
-use Rattle.seal_record.specs.Ranges.{IsParams}
-use Rattle.seal_record.specs.Reading.{lines_read, params_read, whole_of}
-use Rattle.seal_record.specs.ParamsSoFar.{ParamsSoFar, no_params_yet}
-use Rattle.seal_record.specs.ParamLineStages.{line_read, name_of, named_line}
-use Rattle.seal_record.specs.RangeTests.{taxi_test}
-use Rattle.taxi_units.specs.Test.{at_most, each}
-use Rattle.seal_record.proofs.DayBounds.{date_bound, year_in_range}
-use Rattle.seal_record.proofs.Parting.{ended_line, key_before, last_line, value_after}
+use Rattle.seal_record.{specs.RangeTests.{taxi_test}, proofs.LineParts.{ended_line, key_before, last_line, value_after}}
 use Rattle.seal_record.proofs.PlainValues.{date_again, length-padded_text, mode_again, number_again, pair_again}
-use Rattle.taxi_units.specs.Identifier.{IsIdentifierCharacter}
+use Rattle.seal_record.specs.declared.params.Name.TheVariants as name
 
 -- ---- the lines are short, and each of their bytes is a blank or a visible character
 

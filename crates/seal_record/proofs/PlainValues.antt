@@ -1,22 +1,13 @@
 -- The values of a plain text of parameters are read as they are.
-use Rattle.std.proofs.Common.{◌≡◌, ℕ, suc, ◌^◌, ◌<◌, ◌≤◌, true, ℤ, pos, negsuc, List, [], ◌∷◌, ◌++◌, length, Option}
-use Rattle.std.proofs.Common.{Some, None, refl, sym, ap, ◌∙◌, arith}
-use Rattle.std.proofs.lemmas.Int.{ints}
-use Rattle.std.proofs.lemmas.List.{append-nil}
-use Rattle.std.specs.Fmt.{decimal}
-use Rattle.drive_modes.specs.declared.charges.Mode.{Mode}
-use Rattle.drive_modes.specs.declared.charges.Mode.TheVariants.{Single, Double}
-use Rattle.interval_clock.specs.Calendar.{IsDate, date_after}
-use Rattle.interval_clock.specs.Offsets.{IsOffset, IsSecond}
-use Rattle.interval_clock.proofs.Laws.{IsDateOf-date_after, one_day_number}
-use Rattle.taxi_units.specs.Number.{NoDigitFirst, number_at, number_in, number_of_width, padded_text}
-use Rattle.taxi_units.specs.Reading.{word_at}
+use Rattle.{std.specs.Fmt.{decimal}, taxi_units.proofs.Laws.{words_are_read_by_their_text}}
+use Rattle.std.proofs.Common.{[], ℕ, ℤ, ◌++◌, ◌<◌, ◌^◌, ◌∙◌, ◌∷◌, ◌≡◌, ◌≤◌, List, None, Option, Some, ap, arith, length}
+use Rattle.std.proofs.{Common.{negsuc, pos, refl, suc, sym, true}, lemmas.{Int.{ints}, List.{append-nil}}}
+use Rattle.{taxi_units.specs.Number.{NoDigitFirst, number_at, number_of_width}, interval_clock.specs.Offsets.{IsSecond}}
+use Rattle.taxi_units.{specs.Reading.{word_at}, proofs.Laws.{numbers_read_back, padded_numbers_are_written_as_figures}}
 use Rattle.taxi_units.proofs.Laws.{figures_are_read_by_their_digits, numbers_are_short, numbers_are_written_as_figures}
-use Rattle.taxi_units.proofs.Laws.{numbers_read_back, padded_numbers_are_written_as_figures}
-use Rattle.taxi_units.proofs.Laws.{padded_numbers_fill_the_width}
-use Rattle.taxi_units.proofs.Laws.{wide_numbers_are_read_by_their_digits, words_are_read_by_their_text}
-use Rattle.taxi_units.specs.DateTest.{date_test}
-use Rattle.taxi_units.specs.Test.{at_most}
+use Rattle.taxi_units.proofs.Laws.{padded_numbers_fill_the_width, wide_numbers_are_read_by_their_digits}
+use Rattle.interval_clock.{specs.Calendar.{IsDate, date_after}, proofs.Laws.{IsDateOf-date_after, one_day_number}}
+use Rattle.seal_record.specs.Common.{Double, IsOffset, Mode, Single, at_most, date_test, number_in, padded_text}
 use Rattle.seal_record.specs.PlainText.{date_text, mode_text, offset_text}
 use Rattle.seal_record.specs.Values.{mode_read, offset_read, pair_read, secured_read}
 use Rattle.seal_record.proofs.DayBounds.{date_bound, year_in_range}

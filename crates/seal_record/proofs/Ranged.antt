@@ -1,20 +1,11 @@
 -- Parameters and seals that bytes give, if they are in their ranges.
-use Rattle.std.proofs.Common.{◌≡◌, ◌↔◌, ℕ, Bool, true, false, if◌then◌else◌, ℤ, List, Option, Some, None, MatchOption}
-use Rattle.std.proofs.Common.{Decides, refl, sym, ap, subst, ◌∙◌}
-use Rattle.std.specs.Str.{bytes_eq}
-use Rattle.std.proofs.lemmas.Bool.{false_from_ne_true}
-use Rattle.interval_clock.specs.Offsets.{IsOffsetList}
-use Rattle.taxi_units.specs.Reading.{Gives, GivesSame}
-use Rattle.seal_record.specs.declared.params.Params.{Params}
-use Rattle.seal_record.specs.declared.seal.Seal.{Seal}
-use Rattle.seal_record.specs.Decoding.{decoded, reads}
-use Rattle.seal_record.specs.OffsetList.{is_offset_list, offsets_test}
-use Rattle.seal_record.specs.Ranges.{IsSeal, IsTaxi}
-use Rattle.seal_record.specs.RangeTests.{seal_test, taxi_test}
-use Rattle.seal_record.specs.SealLaws.{again}
+use Rattle.{std.specs.Str.{bytes_eq}, taxi_units.specs.Reading.{GivesSame}, seal_record.specs.Decoding.{decoded, reads}}
+use Rattle.std.proofs.Common.{ℕ, ℤ, ◌↔◌, ◌∙◌, ◌≡◌, Bool, Decides, List, MatchOption, None, Option, Some, ap, false}
+use Rattle.std.proofs.{Common.{if◌then◌else◌, refl, subst, sym, true}, lemmas.Bool.{false_from_ne_true}}
 use Rattle.slot_bodies.proofs.Laws.{not_in_range, other_bytes, own_bytes, reads_exactly}
-use Rattle.seal_record.specs.Spelling.{spelling}
-use Rattle.seal_record.specs.Values.{taxi_read}
+use Rattle.seal_record.specs.{Common.{Gives, IsOffsetList, Params}, OffsetList.{is_offset_list, offsets_test}}
+use Rattle.seal_record.specs.{RangeTests.{seal_test, taxi_test}, Ranges.{IsSeal, IsTaxi}, declared.seal.Seal.{Seal}}
+use Rattle.seal_record.specs.{SealLaws.{again}, Spelling.{spelling}, Values.{taxi_read}}
 
 -- what is found if a test lets something through
 by_test : {R A : Type 0} (view : R → A) (P : A → Type 0) (found : Option R) (x : A) (b : Bool) → Decides b (P x)

@@ -1,27 +1,15 @@
 -- Texts are read by their lines, and lines by their parts.
-use Rattle.std.proofs.Common.{◌≡◌, ℤ, ◌≢◌, ◌⊎◌, inl, inr, ◌↔◌, ℕ, ◌+◌, Bool, true, false, Decides, List, [], ◌∷◌, ◌++◌}
-use Rattle.std.proofs.Common.{length, Some, Result, Ok, Err, eqb, refl, sym, ap, subst, ◌∙◌, arith}
-use Rattle.std.proofs.lemmas.Bool.Decides.{Decides-eqb}
-use Rattle.std.proofs.lemmas.List.Elements.{All-cons}
-use Rattle.std.specs.Str.Lines.{strip_carriage_return}
-use Rattle.taxi_units.specs.Digits.{IsNumberIn}
-use Rattle.taxi_units.specs.Number.{number_in}
-use Rattle.taxi_units.proofs.Laws.{figures_are_read_by_their_digits}
-use Rattle.seal_record.specs.declared.params.ParamFault.{ParamFault}
-use Rattle.seal_record.specs.Lines.{key_in, lines_of, value_in}
-use Rattle.interval_clock.specs.Offsets.{IsOffsetList}
-use Rattle.seal_record.specs.OffsetList.{is_offset_list, offsets_test}
+use Rattle.std.{specs.Str.Lines.{strip_carriage_return}, proofs.lemmas.Bool.Decides.{Decides-eqb}}
+use Rattle.std.proofs.Common.{[], ℕ, ℤ, ◌++◌, ◌+◌, ◌↔◌, ◌∙◌, ◌∷◌, ◌≡◌, ◌≢◌, ◌⊎◌, Bool, Decides, Err, List, Ok, Result}
+use Rattle.std.proofs.Common.{Some, ap, arith, eqb, false, inl, inr, length, refl, subst, sym, true}
+use Rattle.{std.proofs.lemmas.List.Elements.{All-cons}, taxi_units.proofs.Laws.{figures_are_read_by_their_digits}}
+use Rattle.seal_record.specs.{Common.{IsNumberIn, IsOffsetList, ParamFault, number_in}, Reading.{and_then, lines_read}}
+use Rattle.seal_record.specs.{Lines.{key_in, lines_of, value_in}, TextParts.{AreLines, BreaksAt, HasNone, IsParted}}
+use Rattle.seal_record.specs.{OffsetList.{is_offset_list, offsets_test}, TextParts.IsParted.{alone, parted}}
+use Rattle.seal_record.specs.{ParamLineStages.{line_read}, ParamsSoFar.{ParamsSoFar}, TextParts.AreLines.{ended, last}}
+use Rattle.seal_record.{specs.{RangeTests.{taxi_test}, Values.{taxi_read}}, proofs.ParamRanges.{let_through}}
 use Rattle.seal_record.specs.Ranges.{IsTaxi}
-use Rattle.seal_record.specs.RangeTests.{taxi_test}
-use Rattle.seal_record.specs.Reading.{and_then, lines_read}
-use Rattle.seal_record.specs.ParamsSoFar.{ParamsSoFar}
-use Rattle.seal_record.specs.ParamLineStages.{line_read}
-use Rattle.seal_record.specs.TextParts.{HasNone, AreLines, BreaksAt, IsParted}
-use Rattle.seal_record.specs.TextParts.AreLines.{ended, last}
-use Rattle.seal_record.specs.TextParts.IsParted.{alone, parted}
-use Rattle.seal_record.specs.Values.{taxi_read}
-use Rattle.seal_record.proofs.Parting.{ended_line, key_alone, key_before, last_line, no_value, value_after}
-use Rattle.seal_record.proofs.ParamRanges.{let_through}
+use Rattle.seal_record.proofs.LineParts.{ended_line, key_alone, key_before, last_line, no_value, value_after}
 
 none_in_nothing : (byte : ℕ) → HasNone byte []
 none_in_nothing byte = λ k d lt. absurd (omega arith)

@@ -1,23 +1,15 @@
 -- A text is too long, or lacks a parameter.
-use Rattle.std.proofs.Common.{◌≡◌, ℕ, ◌+◌, ◌<◌, ◌↔◌, inl, inr, Bool, true, false, if◌then◌else◌, ℤ, List, [], ◌∷◌}
-use Rattle.std.proofs.Common.{length, Option, Some, None, Result, Ok, Err, ltb, refl, sym, subst, ◌∙◌, arith}
+use Rattle.std.proofs.Common.{[], ℕ, ℤ, ◌+◌, ◌<◌, ◌↔◌, ◌∙◌, ◌∷◌, ◌≡◌, Bool, Err, List, None, Ok, Option, Result, Some}
+use Rattle.std.proofs.Common.{arith, false, if◌then◌else◌, inl, inr, length, ltb, refl, subst, sym, true}
 use Rattle.std.proofs.lemmas.Bool.{cases_lt, le-ltb, lt-ltb}
-use Rattle.drive_modes.specs.declared.charges.Mode.{Mode}
-use Rattle.seal_record.specs.declared.params.Name.{Name}
-use Rattle.seal_record.specs.declared.params.Name.TheVariants.{Taxi, Constant, Hold, Offset, Secured}
-use Rattle.seal_record.specs.declared.params.Name.TheVariants as name
-use Rattle.seal_record.specs.declared.params.Params.{Params}
-use Rattle.seal_record.specs.declared.params.ParamFault.{ParamFault}
-use Rattle.seal_record.specs.declared.params.ParamFault.TheVariants as faults
-use Rattle.seal_record.specs.Faults.{IsBad}
+use Rattle.seal_record.specs.Common.{Constant, Hold, Mode, Name, Offset, ParamFault, Params, Secured, Taxi}
+use Rattle.seal_record.{specs.Faults.{IsBad}, proofs.TextLaws.{lines_make_the_text, the_first_bad_line}}
 use Rattle.seal_record.specs.Faults.IsBad.{bad_value, said_twice, unknown_key}
-use Rattle.seal_record.specs.Lines.{lines_of}
-use Rattle.seal_record.specs.Reading.{and_then, lines_read, params_read, whole, whole_of}
-use Rattle.seal_record.specs.ParamsSoFar.{ParamsSoFar, no_params_yet}
-use Rattle.seal_record.specs.ParamText.{IsParamMissing, LacksFirst, row_of}
-use Rattle.seal_record.proofs.FaultLaws.{bad_lines_have_their_fault, true_false}
-use Rattle.seal_record.proofs.TextLaws.{lines_make_the_text, the_first_bad_line}
-use Rattle.seal_record.proofs.WholeLaws.{say_from, say_on}
+use Rattle.seal_record.specs.{Lines.{lines_of}, Reading.{and_then, lines_read, params_read, whole, whole_of}}
+use Rattle.seal_record.specs.{ParamText.{IsParamMissing, LacksFirst, row_of}, ParamsSoFar.{ParamsSoFar, no_params_yet}}
+use Rattle.seal_record.proofs.{FaultLaws.{bad_lines_have_their_fault, true_false}, WholeLaws.{say_from, say_on}}
+use Rattle.seal_record.specs.declared.params.Name.TheVariants as name
+use Rattle.seal_record.specs.declared.params.ParamFault.TheVariants as faults
 
 -- a fault of a line is none of a whole text
 abbrev IsOfLine : ParamFault → Type 0

@@ -1,21 +1,12 @@
 -- A text that is read says its parameters.
-use Rattle.std.proofs.Common.{◌≡◌, ℕ, ◌+◌, ◌↔◌, inl, inr, Bool, true, false, if◌then◌else◌, ℤ, List, [], ◌∷◌, length}
-use Rattle.std.proofs.Common.{Option, Some, None, Ok, Err, ltb, refl, sym, subst, ◌∙◌, arith}
-use Rattle.std.proofs.lemmas.Bool.{cases_lt, le-ltb, lt-ltb}
-use Rattle.drive_modes.specs.declared.charges.Mode.{Mode}
-use Rattle.seal_record.specs.declared.params.Params.{Params}
-use Rattle.seal_record.specs.declared.params.ParamFault.TheVariants.{TooLong}
-use Rattle.seal_record.specs.Lines.{lines_of}
-use Rattle.seal_record.specs.Reading.{and_then, lines_read, params_read, whole, whole_of}
-use Rattle.seal_record.specs.ParamsSoFar.{ParamsSoFar, no_params_yet}
-use Rattle.seal_record.specs.ParamLineStages.{line_read}
-use Rattle.seal_record.specs.ParamText.{AreAllParams, LinesAddParams, IsTextOfParams}
-use Rattle.seal_record.specs.ParamText.LinesAddParams.{no_line, one_line}
-use Rattle.seal_record.proofs.FaultLaws.{true_false}
-use Rattle.seal_record.proofs.LineLaws.{lines_say_their_parameter}
-use Rattle.seal_record.proofs.PlainTexts.{whole_again}
-use Rattle.seal_record.proofs.ParamRanges.{went_on}
-use Rattle.seal_record.proofs.TextLaws.{lines_make_the_text}
+use Rattle.std.proofs.Common.{[], ℕ, ℤ, ◌+◌, ◌↔◌, ◌∙◌, ◌∷◌, ◌≡◌, Bool, Err, List, None, Ok, Option, Some, arith, false}
+use Rattle.std.proofs.Common.{if◌then◌else◌, inl, inr, length, ltb, refl, subst, sym, true}
+use Rattle.{std.proofs.lemmas.Bool.{cases_lt, le-ltb, lt-ltb}, seal_record.proofs.LineLaws.{lines_say_their_parameter}}
+use Rattle.seal_record.specs.{Common.{Mode, Params, TooLong}, ParamText.{AreAllParams, IsTextOfParams, LinesAddParams}}
+use Rattle.seal_record.{specs.Lines.{lines_of}, proofs.ParamRanges.{went_on}}
+use Rattle.seal_record.specs.{ParamLineStages.{line_read}, Reading.{and_then, lines_read, params_read, whole, whole_of}}
+use Rattle.seal_record.specs.{ParamText.LinesAddParams.{no_line, one_line}, ParamsSoFar.{ParamsSoFar, no_params_yet}}
+use Rattle.seal_record.proofs.{FaultLaws.{true_false}, PlainTexts.{whole_again}, TextLaws.{lines_make_the_text}}
 
 pub say_on : (said after : ParamsSoFar) (number : ℕ) (lines : List (List ℕ)) → lines_read said number lines ≡ Ok after
     → LinesAddParams said lines after

@@ -1,29 +1,16 @@
 -- By law: the bytes of a seal as a table that is made of parts, and the seal that bytes are read as. The law
 -- seals_are_read_by_their_table says which it is. A place is one less here than in the slot.
-use Rattle.std.specs.Prelude.{◌≡◌, ◌≢◌, ℕ, zero, suc, ◌-◌, ◌==◌, if◌then◌else◌, ⊤, ℤ, FitsSigned}
-use Rattle.std.specs.Prelude.{List, [], ◌∷◌, ◌++◌, length, replicate, Option}
-use Rattle.std.specs.Int.{w32, cast_signed, cast_unsigned}
-use Rattle.std.proofs.Common.{Bool, refl, ap, subst, ◌∙◌}
-use Rattle.std.proofs.Math.Facts.{Fits-of_z}
-use Rattle.std.proofs.lemmas.Bool.{false≢true, ne_eqb}
-use Rattle.std.proofs.lemmas.Int.{to_z-of_z}
-use Rattle.std.proofs.lemmas.List.Elements.{All-head, All-tail}
-use Rattle.drive_modes.specs.declared.charges.Mode.{Mode}
-use Rattle.drive_modes.specs.declared.charges.Mode.TheVariants.{Single, Double}
-use Rattle.seal_record.specs.declared.params.Params.{Params}
-use Rattle.seal_record.specs.declared.seal.Seal.{Seal}
-use Rattle.seal_record.specs.Limits.{longest_taxi, digest_size}
-use Rattle.seal_record.specs.Lines.{before}
-use Rattle.seal_record.specs.RangeTests.{character_test, seal_test}
-use Rattle.seal_record.specs.Ranges.{IsTaxi}
+use Rattle.std.{specs.Int.{cast_signed, cast_unsigned, w32}, proofs.Common.{◌∙◌, Bool, ap, refl, subst}}
+use Rattle.std.specs.Prelude.{[], ℕ, ℤ, ⊤, ◌++◌, ◌-◌, ◌==◌, ◌∷◌, ◌≡◌, ◌≢◌, FitsSigned, List, Option, if◌then◌else◌}
+use Rattle.std.{specs.Prelude.{length, replicate, suc, zero}, proofs.lemmas.List.Elements.{All-head, All-tail}}
+use Rattle.std.proofs.{Math.Facts.{Fits-of_z}, lemmas.{Bool.{false≢true, ne_eqb}, Int.{to_z-of_z}}}
+use Rattle.{taxi_units.specs.PartedBytes.{HasNone}, slot_bodies.specs.Codec.{length-padded, made, two_bytes, zeros}}
+use Rattle.{slot_bodies.specs.{BytesAt.{four_at}, ReadBack.{read_back}}, seal_record.specs.Lines.{before}}
+use Rattle.slot_bodies.specs.Codec.{◌⊗◌, ◌⊙◌, Codec, always, byte, bytes, counted, eight_bytes, fitting, four_bytes}
+use Rattle.seal_record.specs.{Common.{Double, IsIdentifierCharacter, Mode, Params, Single}, declared.seal.Seal.{Seal}}
+use Rattle.seal_record.specs.{Limits.{digest_size, longest_taxi}, RangeTests.{character_test, seal_test}}
+use Rattle.seal_record.specs.{Ranges.{IsTaxi}, Spelling.{mode_byte, offsets_size, padded, spare_size, spelling}}
 pub use Rattle.seal_record.specs.Ranges.{seal_number_of}
-use Rattle.seal_record.specs.Spelling.{spelling, mode_byte, offsets_size, padded, spare_size}
-use Rattle.slot_bodies.specs.BytesAt.{four_at}
-use Rattle.slot_bodies.specs.Codec.{Codec, always, byte, bytes, counted, eight_bytes, fitting, four_bytes, made}
-use Rattle.slot_bodies.specs.Codec.{length-padded, two_bytes, zeros, ◌⊗◌, ◌⊙◌}
-use Rattle.slot_bodies.specs.ReadBack.{read_back}
-use Rattle.taxi_units.specs.Identifier.{IsIdentifierCharacter}
-use Rattle.taxi_units.specs.Parting.{HasNone}
 
 -- ---- the parts of the table
 

@@ -1,14 +1,9 @@
 -- Rules: what is wrong with a line of a parameter text, in words that share nothing with how it is read.
-use Rattle.std.specs.Prelude.{◌≡◌, ◌≢◌, ℕ, ℤ, List, Some, codes}
-use Rattle.drive_modes.specs.declared.charges.Mode.{Mode}
-use Rattle.seal_record.specs.declared.params.Name.{Name}
-use Rattle.seal_record.specs.declared.params.Name.TheVariants.{Taxi, Constant, Hold, Offset, Secured}
-use Rattle.seal_record.specs.declared.params.Name.TheVariants as name
-use Rattle.seal_record.specs.declared.params.ParamFault.{ParamFault}
-use Rattle.seal_record.specs.declared.params.ParamFault.TheVariants.{BadValue, Twice, Unknown}
-use Rattle.seal_record.specs.ParamLine.{IsSilent, LineAddsParam}
-use Rattle.seal_record.specs.ParamsSoFar.{ParamsSoFar}
+use Rattle.std.specs.Prelude.{ℕ, ℤ, ◌≡◌, ◌≢◌, List, Some, codes}
+use Rattle.seal_record.specs.Common.{BadValue, Constant, Hold, Mode, Name, Offset, ParamFault, Secured, Taxi, Twice}
+use Rattle.seal_record.specs.{Common.{Unknown}, ParamLine.{IsSilent, LineAddsParam}, ParamsSoFar.{ParamsSoFar}}
 use Rattle.seal_record.specs.TextParts.{IsParted}
+use Rattle.seal_record.specs.declared.params.Name.TheVariants as name
 
 -- the key of a parameter is its name in small letters
 abbrev pub key_of : Name → List ℕ

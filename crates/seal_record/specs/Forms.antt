@@ -1,10 +1,8 @@
 -- Rules: the forms of the values that are no plain numbers, in words that share nothing with how they are read.
-use Rattle.std.specs.Prelude.{◌≡◌, ℕ, ℤ, pos, neg_ℤ, List, ◌∷◌, ◌++◌, codes}
-use Rattle.drive_modes.specs.declared.charges.Mode.{Mode}
-use Rattle.drive_modes.specs.declared.charges.Mode.TheVariants.{Single, Double}
-use Rattle.interval_clock.specs.Calendar.{IsDateOf}
-use Rattle.seal_record.specs.Limits.{greatest_offset, first_year, last_year}
-use Rattle.taxi_units.specs.Digits.{AreDigitsOf, IsFigure, IsNumberIn}
+use Rattle.std.specs.Prelude.{ℕ, ℤ, ◌++◌, ◌∷◌, ◌≡◌, List, codes, neg_ℤ, pos}
+use Rattle.taxi_units.specs.Digits.{AreDigitsOf, IsFigure}
+use Rattle.seal_record.specs.Common.{Double, IsDateOf, IsNumberIn, Mode, Single}
+use Rattle.seal_record.specs.Limits.{first_year, greatest_offset, last_year}
 
 -- a text is that of a mode if it is `single` for mode S, or `double` for mode D
 pub data IsModeText : List ℕ → Mode → Type 0 where

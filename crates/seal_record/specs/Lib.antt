@@ -16,3 +16,4 @@ pub mod SealLaws
 pub mod Spelling
 pub mod TextParts
 pub mod Values
+pub mod Common

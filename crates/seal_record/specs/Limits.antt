@@ -1,7 +1,7 @@
 -- Rules: the limits of parameters and seals.
 use Rattle.std.specs.Prelude.{ℕ, ◌^◌}
+pub use Rattle.drive_modes.specs.Constant.{greatest_constant, least_constant}
 pub use Rattle.interval_clock.specs.Offsets.{greatest_offset}
-pub use Rattle.drive_modes.specs.Constant.{least_constant, greatest_constant}
 
 -- a text of parameters has at most 65,536 bytes
 abbrev pub longest_text : ℕ

@@ -1,8 +1,7 @@
 -- For proofs: the lines of a parameter text, and what a line is parted into. The law texts_say_parameters_line_by_line
 -- says which they are.
-use Rattle.std.specs.Prelude.{ℕ, List, [], ◌∷◌, Bool, true, ◌==◌, if◌then◌else◌}
 use Rattle.std.specs.List.{slice_split}
-use Rattle.std.specs.Str.Lines.{strip_carriage_return}
+use Rattle.std.specs.{Prelude.{[], ℕ, ◌==◌, ◌∷◌, Bool, List, if◌then◌else◌, true}, Str.Lines.{strip_carriage_return}}
 
 -- the lines of the parts between LFs are those parts, without one CR at the end of each but the last
 abbrev pub without_ends : List (List ℕ) → List (List ℕ)

@@ -1,10 +1,9 @@
 -- For proofs: the test whether a list of offsets is lawful, with what it decides, as the law
 -- texts_say_parameters_line_by_line says.
-use Rattle.std.specs.Prelude.{ℕ, ◌-◌, Bool, true, ℤ, pos, neg_ℤ, List, [], ◌∷◌, length}
-use Rattle.interval_clock.specs.Offsets.{IsOffsetList, offset_of, second_at}
-use Rattle.taxi_units.specs.Test.{Test, at_most_signed, below, if_passes, less, same, stated, within, ◌&◌, ◌⊕◌}
-use Rattle.taxi_units.specs.Time.{first_second, last_second}
-use Rattle.seal_record.specs.Limits.{greatest_offset, most_offsets}
+use Rattle.std.specs.Prelude.{[], ℕ, ℤ, ◌-◌, ◌∷◌, Bool, List, length, neg_ℤ, pos, true}
+use Rattle.taxi_units.specs.Test.{◌⊕◌, at_most_signed, below, if_passes, less, stated, within}
+use Rattle.{taxi_units.specs.Time.{first_second, last_second}, interval_clock.specs.Offsets.{offset_of, second_at}}
+use Rattle.seal_record.specs.{Common.{◌&◌, IsOffsetList, Test, same}, Limits.{greatest_offset, most_offsets}}
 
 -- the pair at a place has a second of the meter's and an offset of at most 14 hours
 abbrev pub in_range_test : List (ℕ × ℤ) → (place : ℕ) → Test

@@ -1,13 +1,8 @@
 -- Rules: what one line of a parameter text says, in words that share nothing with how it is read.
-use Rattle.std.specs.Prelude.{◌≡◌, ℕ, ℤ, List, [], ◌∷◌, ◌++◌, Some, None, codes}
-use Rattle.drive_modes.specs.declared.charges.Mode.{Mode}
-use Rattle.interval_clock.specs.Offsets.{IsOffsetList}
-use Rattle.seal_record.specs.Forms.{IsDateText, IsModeText, IsPairText}
-use Rattle.seal_record.specs.Limits.{least_constant, greatest_constant, longest_hold}
-use Rattle.seal_record.specs.Ranges.{IsTaxi}
-use Rattle.seal_record.specs.ParamsSoFar.{ParamsSoFar}
-use Rattle.seal_record.specs.TextParts.{IsParted}
-use Rattle.taxi_units.specs.Digits.{IsNumberIn}
+use Rattle.std.specs.Prelude.{[], ℕ, ℤ, ◌++◌, ◌∷◌, ◌≡◌, List, None, Some, codes}
+use Rattle.seal_record.specs.{Common.{IsNumberIn, IsOffsetList, Mode}, Forms.{IsDateText, IsModeText, IsPairText}}
+use Rattle.seal_record.specs.{Limits.{greatest_constant, least_constant, longest_hold}, ParamsSoFar.{ParamsSoFar}}
+use Rattle.seal_record.specs.{Ranges.{IsTaxi}, TextParts.{IsParted}}
 
 -- a line is silent if it is empty, or a comment, which begins with #
 pub data IsSilent : List ℕ → Type 0 where

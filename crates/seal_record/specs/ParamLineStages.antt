@@ -1,19 +1,12 @@
 -- By law: what one more line of a parameter text says, in the stages of the code. The laws
 -- lines_say_their_parameter and bad_lines_have_their_fault say what it is.
-use Rattle.std.specs.Prelude.{ℕ, Bool, false, if◌then◌else◌, ℤ, List, [], ◌∷◌, ◌++◌, Option, Some, None, is_some, Result, Ok, Err, codes}
-use Rattle.std.specs.Str.{bytes_eq}
-use Rattle.taxi_units.specs.Reading.{◌>>=◌}
-use Rattle.seal_record.specs.declared.params.Name.{Name}
-use Rattle.seal_record.specs.declared.params.Name.TheVariants.{Taxi, Constant, Hold, Offset, Secured}
+use Rattle.std.specs.Prelude.{[], ℕ, ℤ, ◌++◌, ◌∷◌, Bool, Err, List, None, Ok, Option, Result, Some, codes, false}
+use Rattle.std.specs.{Prelude.{if◌then◌else◌, is_some}, Str.{bytes_eq}}
+use Rattle.seal_record.specs.Common.{◌>>=◌, BadValue, Constant, Hold, Name, Offset, ParamFault, Secured, Taxi, Twice}
+use Rattle.seal_record.specs.{Common.{Unknown, number_in}, Limits.{greatest_constant, least_constant, longest_hold}}
+use Rattle.seal_record.specs.{Lines.{is_passed, key_in, value_in}, ParamsSoFar.{ParamsSoFar}}
+use Rattle.seal_record.specs.{OffsetList.{is_offset_list}, Values.{mode_read, pair_read, secured_read, taxi_read}}
 use Rattle.seal_record.specs.declared.params.Name.TheVariants as name
-use Rattle.seal_record.specs.declared.params.ParamFault.{ParamFault}
-use Rattle.seal_record.specs.declared.params.ParamFault.TheVariants.{Unknown, BadValue, Twice}
-use Rattle.seal_record.specs.Limits.{least_constant, greatest_constant, longest_hold}
-use Rattle.seal_record.specs.Lines.{is_passed, key_in, value_in}
-use Rattle.seal_record.specs.OffsetList.{is_offset_list}
-use Rattle.seal_record.specs.ParamsSoFar.{ParamsSoFar}
-use Rattle.taxi_units.specs.Number.{number_in}
-use Rattle.seal_record.specs.Values.{taxi_read, mode_read, pair_read, secured_read}
 
 -- the parameter of a key, if the key is one of the six
 unfoldable pub name_of : (key : List ℕ) → Option Name

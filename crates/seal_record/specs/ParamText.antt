@@ -1,13 +1,8 @@
 -- Rules: what a whole text of parameters says, in words that share nothing with how it is read.
-use Rattle.std.specs.Prelude.{◌≡◌, ℕ, ◌<◌, ◌≤◌, List, [], ◌∷◌, length, Some, None}
-use Rattle.seal_record.specs.declared.params.Name.{Name}
-use Rattle.seal_record.specs.declared.params.Name.TheVariants.{Taxi, Constant, Hold, Offset, Secured}
+use Rattle.std.specs.Prelude.{[], ℕ, ◌<◌, ◌∷◌, ◌≡◌, ◌≤◌, List, None, Some, length}
+use Rattle.seal_record.specs.{Common.{Constant, Hold, Name, Offset, Params, Secured, Taxi}, ParamLine.{LineAddsParam}}
+use Rattle.seal_record.specs.{Limits.{longest_text}, ParamsSoFar.{ParamsSoFar, no_params_yet}, TextParts.{AreLines}}
 use Rattle.seal_record.specs.declared.params.Name.TheVariants as name
-use Rattle.seal_record.specs.declared.params.Params.{Params}
-use Rattle.seal_record.specs.Limits.{longest_text}
-use Rattle.seal_record.specs.ParamLine.{LineAddsParam}
-use Rattle.seal_record.specs.ParamsSoFar.{ParamsSoFar, no_params_yet}
-use Rattle.seal_record.specs.TextParts.{AreLines}
 
 -- lines say on, from what was said to what is said then, if each of them says more in its turn
 pub data LinesAddParams : ParamsSoFar → (lines : List (List ℕ)) → ParamsSoFar → Type 0 where

@@ -1,6 +1,5 @@
 -- Rules: what the lines of a parameter text have said so far.
-use Rattle.std.specs.Prelude.{ℕ, ℤ, List, [], Option, None}
-use Rattle.drive_modes.specs.declared.charges.Mode.{Mode}
+use Rattle.{std.specs.Prelude.{[], ℕ, ℤ, List, None, Option}, seal_record.specs.Common.{Mode}}
 
 -- what lines have said so far is some of the parameters, and the offsets of the list up to the last line
 pub record ParamsSoFar : Type 0 where

@@ -1,13 +1,9 @@
 -- Rules: a plain text of parameters, a line for each in the order of their table, and of the offsets a line for each
 -- pair.
-use Rattle.std.specs.Prelude.{ℕ, suc, ◌≤◌, ℤ, pos, negsuc, unsigned_abs, List, [], ◌∷◌, ◌++◌, map, flat_map, All, codes}
-use Rattle.std.specs.Fmt.{decimal}
-use Rattle.drive_modes.specs.declared.charges.Mode.{Mode}
-use Rattle.drive_modes.specs.declared.charges.Mode.TheVariants.{Single, Double}
+use Rattle.{std.specs.Fmt.{decimal}, interval_clock.specs.declared.day_numbers.CalendarDate.{CalendarDate}}
+use Rattle.std.specs.Prelude.{[], ℕ, ℤ, ◌++◌, ◌∷◌, ◌≤◌, All, List, codes, flat_map, map, negsuc, pos, suc, unsigned_abs}
 use Rattle.interval_clock.specs.Calendar.{date_after}
-use Rattle.interval_clock.specs.declared.day_numbers.CalendarDate.{CalendarDate}
-use Rattle.taxi_units.specs.Number.{padded_text}
-use Rattle.seal_record.specs.declared.params.Params.{Params}
+use Rattle.seal_record.specs.Common.{Double, Mode, Params, Single, padded_text}
 
 -- the word of a mode is `single` for mode S and `double` for mode D
 abbrev pub mode_text : Mode → List ℕ

@@ -1,12 +1,9 @@
 -- For proofs: the tests of the ranges of parameters and seals, each with what it decides.
-use Rattle.std.specs.Prelude.{ℕ, pos, List, length}
-use Rattle.seal_record.specs.declared.params.Params.{Params}
-use Rattle.seal_record.specs.declared.seal.Seal.{Seal}
-use Rattle.seal_record.specs.Limits.{longest_taxi, least_constant, greatest_constant, longest_hold, first_day, last_day}
-use Rattle.seal_record.specs.Limits.{last_seal_number, digest_size, most_decimals}
-use Rattle.seal_record.specs.OffsetList.{offsets_test}
-use Rattle.seal_record.specs.Ranges.{IsParams, IsSeal, IsTaxi}
-use Rattle.taxi_units.specs.Test.{Test, at_most, at_most_signed, each, either, same, stated, within, ◌&◌}
+use Rattle.{std.specs.Prelude.{ℕ, List, length, pos}, taxi_units.specs.Test.{at_most_signed, either, stated, within}}
+use Rattle.seal_record.specs.{Common.{◌&◌, Params, Test, at_most, each, same}, Ranges.{IsParams, IsSeal, IsTaxi}}
+use Rattle.seal_record.specs.Limits.{digest_size, first_day, greatest_constant, last_day, last_seal_number}
+use Rattle.seal_record.specs.Limits.{least_constant, longest_hold, longest_taxi, most_decimals}
+use Rattle.seal_record.specs.{OffsetList.{offsets_test}, declared.seal.Seal.{Seal}}
 
 -- a character of taxi identifiers
 abbrev pub character_test : ℕ → Test

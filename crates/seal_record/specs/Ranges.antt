@@ -1,11 +1,8 @@
 -- Rules: the ranges of parameters and seals, and the number of a seal.
-use Rattle.std.specs.Prelude.{◌≡◌, ℕ, ◌≤◌, ℤ, pos, ◌≤ℤ◌, List, length, All}
-use Rattle.interval_clock.specs.Offsets.{IsOffsetList}
-use Rattle.seal_record.specs.declared.params.Params.{Params}
-use Rattle.seal_record.specs.declared.seal.Seal.{Seal}
-use Rattle.seal_record.specs.Limits.{longest_taxi, least_constant, greatest_constant, longest_hold, first_day, last_day}
-use Rattle.seal_record.specs.Limits.{last_seal_number, digest_size, most_decimals}
-use Rattle.taxi_units.specs.Identifier.{IsIdentifierCharacter}
+use Rattle.std.specs.Prelude.{ℕ, ℤ, ◌≡◌, ◌≤ℤ◌, ◌≤◌, All, List, length, pos}
+use Rattle.seal_record.specs.{Common.{IsIdentifierCharacter, IsOffsetList, Params}, declared.seal.Seal.{Seal}}
+use Rattle.seal_record.specs.Limits.{digest_size, first_day, greatest_constant, last_day, last_seal_number}
+use Rattle.seal_record.specs.Limits.{least_constant, longest_hold, longest_taxi, most_decimals}
 
 -- a text is a taxi identifier if it has 1 to 16 of the characters of taxi identifiers, and no other
 pub record IsTaxi (text : List ℕ) : Type 0 where

@@ -1,16 +1,11 @@
 -- By law: the parameters that a text is read as, or its first fault. The laws texts_say_their_parameters,
 -- texts_are_too_long_or_lack_a_parameter and texts_say_parameters_line_by_line say which they are.
-use Rattle.std.specs.Prelude.{ℕ, ◌+◌, nat_lt, if◌then◌else◌, ℤ, List, [], ◌∷◌, length, Option, Some, None, Result, Ok, Err}
-use Rattle.drive_modes.specs.declared.charges.Mode.{Mode}
-use Rattle.seal_record.specs.declared.params.Name.TheVariants.{Taxi, Constant, Hold, Offset, Secured}
-use Rattle.seal_record.specs.declared.params.Name.TheVariants as name
-use Rattle.seal_record.specs.declared.params.Params.{Params}
-use Rattle.seal_record.specs.declared.params.ParamFault.{ParamFault}
-use Rattle.seal_record.specs.declared.params.ParamFault.TheVariants.{TooLong, Missing}
+use Rattle.std.specs.Prelude.{[], ℕ, ℤ, ◌+◌, ◌∷◌, Err, List, None, Ok, Option, Result, Some, if◌then◌else◌, length}
+use Rattle.{std.specs.Prelude.{nat_lt}, seal_record.specs.declared.params.ParamFault.TheVariants.{Missing}}
+use Rattle.seal_record.specs.Common.{Constant, Hold, Mode, Offset, ParamFault, Params, Secured, Taxi, TooLong}
 use Rattle.seal_record.specs.Limits.{longest_text}
-use Rattle.seal_record.specs.Lines.{lines_of}
-use Rattle.seal_record.specs.ParamsSoFar.{ParamsSoFar, no_params_yet}
-use Rattle.seal_record.specs.ParamLineStages.{line_read}
+use Rattle.seal_record.specs.{Lines.{lines_of}, ParamLineStages.{line_read}, ParamsSoFar.{ParamsSoFar, no_params_yet}}
+use Rattle.seal_record.specs.declared.params.Name.TheVariants as name
 
 -- reading goes on if nothing was wrong, and else ends with the fault
 abbrev pub and_then : {A B : Type 0} → Result A ParamFault → (A → Result B ParamFault) → Result B ParamFault

@@ -1,15 +1,9 @@
 -- For proofs: seals in their ranges are bodies of slots.
-use Rattle.std.proofs.Common.{◌≡◌, ℕ, ◌<◌, ℤ, pos, List, length, All, refl}
-use Rattle.std.proofs.lemmas.List.Elements.{All-from_get_or}
-use Rattle.interval_clock.specs.Offsets.{IsInRangeAt}
-use Rattle.slot_bodies.specs.Bodies.{AreBodies, body_size}
-use Rattle.slot_bodies.specs.Codec.{◌⊙◌}
-use Rattle.slot_bodies.proofs.Laws.{alone_again, below_of_most, bodies_of, fits_of_range, row_fits}
-use Rattle.seal_record.specs.declared.seal.Seal.{Seal}
-use Rattle.seal_record.specs.Decoding.{decoded, pair_table, reads, seal_table}
-use Rattle.seal_record.specs.RangeTests.{seal_test}
-use Rattle.seal_record.specs.Ranges.{IsSeal}
-use Rattle.seal_record.specs.Spelling.{spelling}
+use Rattle.std.proofs.{Common.{ℕ, ℤ, ◌<◌, ◌≡◌, All, List, length, pos, refl}, lemmas.List.Elements.{All-from_get_or}}
+use Rattle.{slot_bodies.specs.Bodies.{AreBodies, body_size}, interval_clock.specs.Offsets.{IsInRangeAt}}
+use Rattle.slot_bodies.{specs.Codec.{◌⊙◌}, proofs.Laws.{alone_again, below_of_most, bodies_of, fits_of_range, row_fits}}
+use Rattle.seal_record.specs.{Decoding.{decoded, pair_table, reads, seal_table}, declared.seal.Seal.{Seal}}
+use Rattle.seal_record.specs.{RangeTests.{seal_test}, Ranges.{IsSeal}, Spelling.{spelling}}
 
 -- pairs in range fit
 pairs_fit : (pairs : List (ℕ × ℤ)) → ((place : ℕ) → place < length pairs → IsInRangeAt pairs place)

@@ -1,12 +1,8 @@
 -- Rules: the bytes of a seal behind its slot's gate, in the order of its table. Numbers have their greatest byte first.
-use Rattle.std.specs.Prelude.{ℕ, List, [], ◌∷◌, ◌++◌, length, replicate, ℤ, flat_map}
-use Rattle.std.specs.Int.{w16, w32, w64, to_be_bytes, cast_unsigned}
+use Rattle.{std.specs.Int.{cast_unsigned, to_be_bytes, w16, w32, w64}, seal_record.specs.declared.seal.Seal.{Seal}}
+use Rattle.std.specs.Prelude.{[], ℕ, ℤ, ◌++◌, ◌∷◌, List, flat_map, length, replicate}
+use Rattle.seal_record.specs.{Common.{Double, Mode, Params, Single}, Limits.{longest_taxi}}
 pub use Rattle.slot_bodies.specs.Bodies.{padded}
-use Rattle.drive_modes.specs.declared.charges.Mode.{Mode}
-use Rattle.drive_modes.specs.declared.charges.Mode.TheVariants.{Single, Double}
-use Rattle.seal_record.specs.declared.params.Params.{Params}
-use Rattle.seal_record.specs.declared.seal.Seal.{Seal}
-use Rattle.seal_record.specs.Limits.{longest_taxi}
 
 -- an offset has twelve bytes: its second, and the offset itself
 abbrev pub offset_size : ℕ

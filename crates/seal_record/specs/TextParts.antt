@@ -1,11 +1,8 @@
 -- Rules: the lines, keys and numbers of a text of parameters, in words that share nothing with how it is read.
-use Rattle.std.specs.Prelude.{◌≡◌, ℕ, ◌+◌, List, [], ◌∷◌, ◌++◌, length, Ok, Err}
-use Rattle.std.specs.Str.Lines.{strip_carriage_return}
-use Rattle.seal_record.specs.declared.params.ParamFault.{ParamFault}
+use Rattle.std.specs.{Prelude.{[], ℕ, ◌++◌, ◌+◌, ◌∷◌, ◌≡◌, Err, List, Ok, length}, Str.Lines.{strip_carriage_return}}
+use Rattle.seal_record.specs.{Common.{ParamFault}, ParamsSoFar.{ParamsSoFar}}
+pub use Rattle.{taxi_units.specs.PartedBytes.{HasNone}, seal_record.specs.ParamLineStages.{line_read}}
 pub use Rattle.seal_record.specs.Reading.{lines_read}
-use Rattle.seal_record.specs.ParamsSoFar.{ParamsSoFar}
-pub use Rattle.seal_record.specs.ParamLineStages.{line_read}
-pub use Rattle.taxi_units.specs.Parting.{HasNone}
 
 -- lines are those of a text if an LF ends each but the last, and what stands behind the last LF is the last line as it
 -- is; one CR directly before an LF is no part of its line

@@ -1,15 +1,9 @@
 -- For proofs: the values of the parameters, as they are read. The laws texts_say_parameters_line_by_line and
 -- values_are_read_by_their_forms say what they are.
-use Rattle.std.specs.Prelude.{ℕ, if◌then◌else◌, ℤ, pos, neg_ℤ, List, length, Option, Some, None, codes}
-use Rattle.std.specs.Str.{bytes_eq}
-use Rattle.drive_modes.specs.declared.charges.Mode.{Mode}
-use Rattle.drive_modes.specs.declared.charges.Mode.TheVariants.{Single, Double}
-use Rattle.interval_clock.specs.Calendar.{day_number_of}
-use Rattle.taxi_units.specs.DateTest.{date_test}
-use Rattle.taxi_units.specs.Number.{number_at, number_in, number_of_width}
-use Rattle.taxi_units.specs.Reading.{◌>>=◌, word_at}
-use Rattle.taxi_units.specs.Test.{Test, at_most, same, ◌&◌}
-use Rattle.seal_record.specs.Limits.{greatest_offset, first_year, last_year}
+use Rattle.std.specs.Prelude.{ℕ, ℤ, List, None, Option, Some, codes, if◌then◌else◌, length, neg_ℤ, pos}
+use Rattle.{std.specs.Str.{bytes_eq}, taxi_units.specs.{Number.{number_at, number_of_width}, Reading.{word_at}}}
+use Rattle.seal_record.specs.Common.{◌&◌, ◌>>=◌, Double, Mode, Single, Test, at_most, date_test, day_number_of}
+use Rattle.seal_record.specs.{Common.{number_in, same}, Limits.{first_year, greatest_offset, last_year}}
 use Rattle.seal_record.specs.RangeTests.{taxi_test}
 
 -- a text is read as a taxi identifier if it is one

@@ -1,12 +1,8 @@
 //! The fields of a seal at their places in bytes.
-ghost use Rattle.std.specs.Prelude.{◌≡◌, ◌+◌, ◌≤◌, FitsSigned, length, MatchOption};
-ghost use Rattle.std.specs.Int.{w32};
+ghost use Rattle.std.specs.{Int.{w32}, Prelude.{◌+◌, ◌≡◌, ◌≤◌, FitsSigned, MatchOption, length}};
+ghost use Rattle.seal_record.specs.{Common.{IsOffsetList, read_row}, Limits.{most_offsets}};
+ghost use Rattle.seal_record.specs.{Decoding.{decoded, pair_table, signed_at}, Ranges.{IsParams, IsSeal, IsTaxi}};
 ghost use Rattle.seal_record.specs.Decoding as spec;
-ghost use Rattle.slot_bodies.specs.Codec.{read_row};
-ghost use Rattle.seal_record.specs.Decoding.{decoded, pair_table, signed_at};
-ghost use Rattle.seal_record.specs.Limits.{most_offsets};
-ghost use Rattle.seal_record.specs.Ranges.{IsParams, IsSeal, IsTaxi};
-ghost use Rattle.interval_clock.specs.Offsets.{IsOffsetList};
 
 use crate::lines::before;
 use crate::offset_list::offsets_of;

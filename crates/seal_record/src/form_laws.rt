@@ -1,13 +1,8 @@
 //! The forms of values, in words that share nothing with how they are read.
-ghost use Rattle.std.specs.Prelude.{◌≡◌, ◌↔◌, ℕ, ℤ, List, Some, Ok, Err};
-ghost use Rattle.drive_modes.specs.declared.charges.Mode.{Mode};
-ghost use Rattle.seal_record.specs.declared.params.ParamFault.{ParamFault};
-ghost use Rattle.seal_record.specs.Faults.{IsBad};
-ghost use Rattle.seal_record.specs.Forms.{IsDateText, IsModeText, IsPairText};
-ghost use Rattle.seal_record.specs.ParamLine.{LineAddsParam};
-ghost use Rattle.seal_record.specs.ParamsSoFar.{ParamsSoFar};
-ghost use Rattle.seal_record.specs.ParamLineStages.{line_read};
-ghost use Rattle.seal_record.specs.Values.{mode_read, pair_read, secured_read};
+ghost use Rattle.std.specs.Prelude.{ℕ, ℤ, ◌↔◌, ◌≡◌, Err, List, Ok, Some};
+ghost use Rattle.seal_record.specs.{Common.{Mode, ParamFault}, Forms.{IsDateText, IsModeText, IsPairText}};
+ghost use Rattle.seal_record.specs.{Faults.{IsBad}, ParamLine.{LineAddsParam}, ParamsSoFar.{ParamsSoFar}};
+ghost use Rattle.seal_record.specs.{ParamLineStages.{line_read}, Values.{mode_read, pair_read, secured_read}};
 
 /// A law: a mode is one of two words; an offset's value is the digits of its second, one blank, and a
 /// number with a minus before it or not; and the date of securing is YYYY-MM-DD of the years 2000 to

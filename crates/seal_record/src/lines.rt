@@ -1,14 +1,12 @@
 //! The lines of a text, and what a line is parted into.
-ghost use Rattle.std.specs.Prelude.{◌≡◌, ◌<◌, ◌∷◌, [], length, IfSome};
-ghost use Rattle.std.specs.Option.{option_map_or};
-ghost use Rattle.std.specs.Str.Lines.{strip_carriage_return};
+ghost use Rattle.{std.specs.Option.{option_map_or}, seal_record.specs.Lines.{key_in, lines_of, value_in}};
+ghost use Rattle.std.specs.{Prelude.{[], ◌<◌, ◌∷◌, ◌≡◌, IfSome, length}, Str.Lines.{strip_carriage_return}};
 ghost use Rattle.seal_record.specs.Lines as spec;
-ghost use Rattle.seal_record.specs.Lines.{lines_of, key_in, value_in};
 
 use taxi_units::split_at_byte;
 
 /// The bytes before the first one that is this byte, or all if there is none.
-#[tactic(auto, using(crate::proofs::Parting::before_byte, crate::proofs::Parting::before_none))]
+#[tactic(auto, using(crate::proofs::LineParts::before_byte, crate::proofs::LineParts::before_none))]
 pub(crate) fn before(bytes: &[u8], byte: u8) -> &[u8]
     ensures { result.now ≡ spec.before byte bytes.now }
 {
@@ -17,7 +15,7 @@ pub(crate) fn before(bytes: &[u8], byte: u8) -> &[u8]
 }
 
 /// The first line of a text without its end, and what stands after it if an LF ends it.
-#[tactic(auto, using(crate::proofs::Parting::ended_line, crate::proofs::Parting::last_line))]
+#[tactic(auto, using(crate::proofs::LineParts::ended_line, crate::proofs::LineParts::last_line))]
 pub(crate) fn first_line(text: &[u8]) -> (&[u8], Option<&[u8]>)
     ensures lines { lines_of text.now ≡ result.0.now ∷ option_map_or (λ rest. lines_of rest.now) result.1 [] }
     ensures shorter { IfSome result.1 (λ rest. length rest.now < length text.now) }
@@ -50,7 +48,7 @@ pub(crate) fn is_passed(line: &[u8]) -> bool
 }
 
 /// The key of a line, and its value, which is empty if the line has no blank.
-#[tactic(auto, using(crate::proofs::Parting::key_and_value_of_line))]
+#[tactic(auto, using(crate::proofs::LineParts::key_and_value_of_line))]
 pub(crate) fn key_and_value(line: &[u8]) -> (&[u8], &[u8])
     ensures key { result.0.now ≡ key_in line.now }
     ensures value { result.1.now ≡ value_in line.now }

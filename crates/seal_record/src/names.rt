@@ -1,6 +1,5 @@
 //! The keys of the parameters.
-ghost use Rattle.std.specs.Prelude.{◌≡◌};
-ghost use Rattle.std.specs.Str.{bytes_eq};
+ghost use Rattle.std.specs.{Prelude.{◌≡◌}, Str.{bytes_eq}};
 ghost use Rattle.seal_record.specs.ParamLineStages as spec;
 
 use crate::params::Name;

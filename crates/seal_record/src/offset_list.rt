@@ -1,5 +1,5 @@
 //! Lawful lists of offsets.
-ghost use Rattle.std.specs.Prelude.{◌≡◌, Some, None, if◌then◌else◌};
+ghost use Rattle.std.specs.Prelude.{◌≡◌, None, Some, if◌then◌else◌};
 ghost use Rattle.seal_record.specs.OffsetList.{is_offset_list};
 
 use interval_clock::Offsets;

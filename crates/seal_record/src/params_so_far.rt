@@ -1,11 +1,9 @@
 //! What the lines of a text have said so far.
-ghost use Rattle.std.specs.Prelude.{◌≡◌, ◌++◌, ◌∷◌, [], if◌then◌else◌, Some, None};
-ghost use Rattle.taxi_units.specs.Reading.{Gives};
-ghost use Rattle.seal_record.specs.OffsetList.{is_offset_list};
+ghost use Rattle.std.specs.Prelude.{[], ◌++◌, ◌∷◌, ◌≡◌, None, Some, if◌then◌else◌};
+ghost use Rattle.seal_record.specs.Common.{Gives};
+ghost use Rattle.seal_record.specs.{OffsetList.{is_offset_list}, ParamsSoFar.{no_params_yet}, Reading.{whole}};
+ghost use Rattle.seal_record.specs.ParamLineStages.{is_twice, keyed_line, line_read, with_pair, with_value};
 ghost use Rattle.seal_record.specs.ParamLineStages as spec;
-ghost use Rattle.seal_record.specs.ParamsSoFar.{no_params_yet};
-ghost use Rattle.seal_record.specs.ParamLineStages.{with_value, with_pair, is_twice, line_read, keyed_line};
-ghost use Rattle.seal_record.specs.Reading.{whole};
 
 use crate::lines::{is_passed, key_and_value};
 use crate::names::name_of;
@@ -31,10 +29,8 @@ pub(crate) struct ParamsSoFar {
 }
 
 impl Model for ParamsSoFar {
-    ghost use Rattle.std.specs.Prelude.{◌≡◌, true};
-    ghost use Rattle.std.specs.Option.{option_map};
-    ghost use Rattle.seal_record.specs.OffsetList.{is_list_so_far};
-    ghost use Rattle.seal_record.specs.ParamsSoFar.{ParamsSoFar as State};
+    ghost use Rattle.std.specs.{Option.{option_map}, Prelude.{◌≡◌, true}};
+    ghost use Rattle.seal_record.specs.{OffsetList.{is_list_so_far}, ParamsSoFar.{ParamsSoFar as State}};
 
     ghost Value = { State };
 

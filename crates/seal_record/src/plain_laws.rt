@@ -1,10 +1,7 @@
 //! A plain text of parameters, and what it is read as.
-ghost use Rattle.std.specs.Prelude.{◌≡◌, ℕ, ◌+◌, ◌≤◌, List, length, map, All, Ok};
-ghost use Rattle.seal_record.specs.declared.params.Params.{Params};
-ghost use Rattle.seal_record.specs.Limits.{longest_text};
+ghost use Rattle.std.specs.Prelude.{ℕ, ◌+◌, ◌≡◌, ◌≤◌, All, List, Ok, length, map};
+ghost use Rattle.seal_record.specs.{Common.{Params}, Limits.{longest_text}, Ranges.{IsParams}, Reading.{params_read}};
 ghost use Rattle.seal_record.specs.PlainText.{AreShown, comment_line, commented_text, ended_text, plain_text};
-ghost use Rattle.seal_record.specs.Ranges.{IsParams};
-ghost use Rattle.seal_record.specs.Reading.{params_read};
 
 /// A law: parameters in their ranges are written by a plain text, a line for each and for each pair of
 /// the offsets, and that text is read as them.

@@ -1,10 +1,7 @@
 //! Reads the text of the parameters.
-ghost use Rattle.std.specs.Prelude.{◌≡◌, ◌≤◌, length, IfOk};
-ghost use Rattle.seal_record.specs.Limits.{longest_text};
-ghost use Rattle.seal_record.specs.Ranges.{IsParams};
-ghost use Rattle.seal_record.specs.Lines.{lines_of};
-ghost use Rattle.seal_record.specs.Reading.{lines_read, params_read};
-ghost use Rattle.seal_record.specs.ParamsSoFar.{no_params_yet};
+ghost use Rattle.std.specs.Prelude.{◌≡◌, ◌≤◌, IfOk, length};
+ghost use Rattle.seal_record.specs.{Limits.{longest_text}, Lines.{lines_of}};
+ghost use Rattle.seal_record.specs.{ParamsSoFar.{no_params_yet}, Ranges.{IsParams}, Reading.{lines_read, params_read}};
 
 use crate::lines::first_line;
 use crate::params::{ParamFault, Params};

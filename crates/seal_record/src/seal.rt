@@ -25,10 +25,8 @@ pub struct Seal {
 /// A seal is the body of a slot of the pair at place 1,024 of the store. docs/STORE.md has the table of
 /// its bytes, and `IsSeal` its ranges.
 impl Body for Seal {
-    ghost use Rattle.seal_record.specs.Ranges.{IsSeal, seal_number_of};
+    ghost use Rattle.seal_record.specs.{Decoding.{reads}, Ranges.{IsSeal, seal_number_of}, SealLaws.{seals_are_bodies}};
     ghost use Rattle.seal_record.specs.Spelling.{spelling};
-    ghost use Rattle.seal_record.specs.Decoding.{reads};
-    ghost use Rattle.seal_record.specs.SealLaws.{seals_are_bodies};
 
     ghost valid = { IsSeal };
 

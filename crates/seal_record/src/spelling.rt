@@ -1,11 +1,9 @@
 //! The bytes of a seal.
-ghost use Rattle.std.specs.Prelude.{◌≡◌, ◌+◌, ◌≤◌, ◌++◌, [], flat_map, length, ◌*◌};
-ghost use Rattle.arrayvec.specs.ArrayVec.{array_vec_len};
-ghost use Rattle.interval_clock.specs.Offsets.{IsOffset, IsOffsetList};
-ghost use Rattle.slot_bodies.specs.Bodies.{body_size};
-ghost use Rattle.seal_record.specs.Limits.{longest_taxi};
-ghost use Rattle.seal_record.specs.Ranges.{IsSeal};
-ghost use Rattle.seal_record.specs.Spelling.{spelling, offset_size, offsets_size, settings_bytes, offset_bytes, pair_bytes, padded, mode_byte};
+ghost use Rattle.std.specs.Prelude.{[], ◌*◌, ◌++◌, ◌+◌, ◌≡◌, ◌≤◌, flat_map, length};
+ghost use Rattle.{arrayvec.specs.ArrayVec.{array_vec_len}, slot_bodies.specs.Bodies.{body_size}};
+ghost use Rattle.seal_record.specs.{Common.{IsOffset, IsOffsetList}, Spelling.{settings_bytes, spelling}};
+ghost use Rattle.seal_record.specs.{Limits.{longest_taxi}, Ranges.{IsSeal}};
+ghost use Rattle.seal_record.specs.Spelling.{mode_byte, offset_bytes, offset_size, offsets_size, padded, pair_bytes};
 
 use crate::params::LONGEST_TAXI;
 use crate::{Params, Seal};

@@ -1,17 +1,9 @@
 //! What texts of parameters mean, in words that share nothing with how they are read.
-ghost use Rattle.std.specs.Prelude.{◌≡◌, ◌↔◌, ℕ, ℤ, true, List, Some, Ok, Err};
-ghost use Rattle.seal_record.specs.declared.params.ParamFault.{ParamFault};
-ghost use Rattle.seal_record.specs.declared.params.Params.{Params};
-ghost use Rattle.seal_record.specs.Lines.{key_in, lines_of, value_in};
-ghost use Rattle.interval_clock.specs.Offsets.{IsOffsetList};
-ghost use Rattle.seal_record.specs.OffsetList.{is_offset_list};
-ghost use Rattle.seal_record.specs.Ranges.{IsParams, IsTaxi};
-ghost use Rattle.seal_record.specs.Reading.{lines_read, params_read};
-ghost use Rattle.seal_record.specs.ParamsSoFar.{ParamsSoFar};
-ghost use Rattle.seal_record.specs.TextParts.{AreLines, BreaksAt, IsParted};
-ghost use Rattle.seal_record.specs.Values.{taxi_read};
-ghost use Rattle.taxi_units.specs.Digits.{IsNumberIn};
-ghost use Rattle.taxi_units.specs.Number.{number_in};
+ghost use Rattle.std.specs.Prelude.{ℕ, ℤ, ◌↔◌, ◌≡◌, Err, List, Ok, Some, true};
+ghost use Rattle.seal_record.specs.Common.{IsNumberIn, IsOffsetList, ParamFault, Params, number_in};
+ghost use Rattle.seal_record.specs.{Lines.{key_in, lines_of, value_in}, TextParts.{AreLines, BreaksAt, IsParted}};
+ghost use Rattle.seal_record.specs.{OffsetList.{is_offset_list}, Reading.{lines_read, params_read}, Values.{taxi_read}};
+ghost use Rattle.seal_record.specs.{ParamsSoFar.{ParamsSoFar}, Ranges.{IsParams, IsTaxi}};
 
 /// A law of the parts of a text. Its lines end with an LF, and perhaps a CR before it; what stands behind the last LF
 /// is its last line. A line is its key, one blank and its value, or its key alone. A number is written by 1 to 12

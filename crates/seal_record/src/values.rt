@@ -1,12 +1,9 @@
 //! The values of the parameters.
-ghost use Rattle.std.specs.Prelude.{◌≡◌, ◌≤◌, []};
-ghost use Rattle.std.specs.List.{list_all};
-ghost use Rattle.taxi_units.specs.Reading.{Gives, GivesSame};
-ghost use Rattle.seal_record.specs.Limits.{least_constant, greatest_constant, longest_hold, first_year, last_year};
-ghost use Rattle.seal_record.specs.RangeTests.{taxi_test};
+ghost use Rattle.std.specs.{List.{list_all}, Prelude.{[], ◌≡◌, ◌≤◌}};
+ghost use Rattle.taxi_units.specs.{Identifier.{is_identifier_character}, Reading.{GivesSame}};
+ghost use Rattle.seal_record.specs.{Common.{Gives, number_in}, RangeTests.{taxi_test}};
+ghost use Rattle.seal_record.specs.Limits.{first_year, greatest_constant, last_year, least_constant, longest_hold};
 ghost use Rattle.seal_record.specs.Values as spec;
-ghost use Rattle.taxi_units.specs.Identifier.{is_identifier_character};
-ghost use Rattle.taxi_units.specs.Number.{number_in};
 
 use crate::names::is_text;
 use crate::params::{LONGEST_HOLD, LONGEST_TAXI};

@@ -1,11 +1,8 @@
 //! What a whole text of parameters says.
-ghost use Rattle.std.specs.Prelude.{◌≡◌, ◌↔◌, ℕ, ◌<◌, List, length, Ok, Err};
-ghost use Rattle.seal_record.specs.declared.params.Name.{Name};
-ghost use Rattle.seal_record.specs.declared.params.ParamFault.TheVariants.{Missing, TooLong};
-ghost use Rattle.seal_record.specs.declared.params.Params.{Params};
-ghost use Rattle.seal_record.specs.Limits.{longest_text};
+ghost use Rattle.std.specs.Prelude.{ℕ, ◌<◌, ◌↔◌, ◌≡◌, Err, List, Ok, length};
+ghost use Rattle.seal_record.specs.{Common.{Name, Params, TooLong}, declared.params.ParamFault.TheVariants.{Missing}};
+ghost use Rattle.seal_record.specs.{Limits.{longest_text}, ParamText.{IsTextOfParams, LacksFirst}};
 ghost use Rattle.seal_record.specs.Reading.{params_read};
-ghost use Rattle.seal_record.specs.ParamText.{LacksFirst, IsTextOfParams};
 
 /// A law: a text is read as parameters exactly if it has at most 65,536 bytes and its lines, from the first to the
 /// last, say each of these parameters, and nothing else.

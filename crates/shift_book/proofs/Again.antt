@@ -1,24 +1,13 @@
 -- The line of a mark is read as that mark.
-use Rattle.std.proofs.Common.{◌≡◌, ℕ, ◌<◌, ◌-◌, ◌^◌, Bool, true, false, List, [], ◌∷◌, ◌++◌, length, refl, ap, ◌∙◌}
-use Rattle.std.proofs.Common.{arith, append_assoc, Some, None, codes, eqb}
-use Rattle.std.specs.Fmt.{decimal}
-use Rattle.std.specs.Char.{is_ascii_digit, digit_value}
-use Rattle.std.specs.List.{prefix_len}
-use Rattle.std.specs.Str.Parse.{AllDigits}
-use Rattle.std.proofs.Math.Seq.{take-append_seam, drop-append_seam}
-use Rattle.std.proofs.lemmas.Bool.{le-ltb, lt-ltb, ne_eqb, le-leb}
-use Rattle.std.proofs.lemmas.Bool.Decides.{nat_tests}
-use Rattle.std.proofs.lemmas.Fmt.{decimal_is_IsNumeral_wide}
-use Rattle.taxi_units.specs.Number.{digits_at_front}
-use Rattle.taxi_units.specs.Reading.{word_at}
-use Rattle.taxi_units.proofs.Laws.{words_are_read_by_their_text}
-use Rattle.shift_book.specs.declared.numbers.Numbers.{Numbers}
-use Rattle.shift_book.specs.Following.{Fit}
-use Rattle.shift_book.specs.Marks.{Signing, PassAll, IsDriver, HasDriver, head_text, number_text, numbers_text}
-use Rattle.shift_book.specs.Marks.{mark_text}
-use Rattle.shift_book.specs.Reading.{digits_at, amount_at, count_at, numbers_at, driver_at, on_at, off_at, mark_at}
-use Rattle.shift_book.proofs.Drivers.{whole_front}
-use Rattle.taxi_units.specs.Identifier.{is_identifier_character}
+use Rattle.std.{specs.{Char.{digit_value, is_ascii_digit}, List.{prefix_len}}, proofs.lemmas.Bool.Decides.{nat_tests}}
+use Rattle.{std.specs.{Fmt.{decimal}, Str.Parse.{AllDigits}}, taxi_units.proofs.Laws.{words_are_read_by_their_text}}
+use Rattle.std.proofs.Common.{[], ℕ, ◌++◌, ◌-◌, ◌<◌, ◌^◌, ◌∙◌, ◌∷◌, ◌≡◌, Bool, List, None, Some, ap, append_assoc}
+use Rattle.std.proofs.{Common.{arith, codes, eqb, false, length, refl, true}, lemmas.Fmt.{decimal_is_IsNumeral_wide}}
+use Rattle.std.proofs.{Math.Seq.{drop-append_seam, take-append_seam}, lemmas.Bool.{le-leb, le-ltb, lt-ltb, ne_eqb}}
+use Rattle.{taxi_units.specs.Reading.{word_at}, shift_book.{specs.Marks.{numbers_text}, proofs.Drivers.{whole_front}}}
+use Rattle.shift_book.specs.{Common.{Numbers, digits_at_front, is_identifier_character}, MarkOrder.{Fit}}
+use Rattle.shift_book.specs.Marks.{HasDriver, IsDriver, PassAll, Signing, head_text, mark_text, number_text}
+use Rattle.shift_book.specs.Reading.{amount_at, count_at, digits_at, driver_at, mark_at, numbers_at, off_at, on_at}
 
 is_digit : (c : ℕ) → digit_value c < 10 → is_ascii_digit c ≡ true
 is_digit c h = grind (arith, nat_tests)

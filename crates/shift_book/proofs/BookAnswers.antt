@@ -1,28 +1,19 @@
 -- What is read of a text is what the text says.
-use Rattle.std.proofs.Common.{◌≡◌, ◌≢◌, ◌↔◌, ℕ, zero, suc, ◌+◌, ◌<◌, ◌≤◌, Bool, true, false, cond, List, [], ◌∷◌, ◌++◌}
-use Rattle.std.proofs.Common.{length, take, drop, Option, Some, None, Result, Ok, Err, refl, sym, ap, subst, ◌∙◌, arith}
-use Rattle.std.proofs.Common.{length-append, length-take, codes}
-use Rattle.std.specs.Prelude.{not, nat_le, nat_lt, ◌&&◌, ◌||◌, ◌==◌, IfSome}
-use Rattle.std.specs.List.{prefix_len}
-use Rattle.std.proofs.lemmas.List.Concat.{flat_map-cons}
-use Rattle.std.proofs.lemmas.Bool.{le-leb, leb-true, lt-ltb, ltb-true, ltb-false}
-use Rattle.totals_record.specs.declared.durable_state.Durable.{Durable}
-use Rattle.taxi_units.specs.Reading.{◌>>=◌, word_at}
+use Rattle.std.specs.{List.{prefix_len}, Prelude.{◌&&◌, ◌==◌, ◌||◌, IfSome, nat_le, nat_lt, not}}
+use Rattle.std.proofs.Common.{[], ℕ, ◌++◌, ◌+◌, ◌<◌, ◌↔◌, ◌∙◌, ◌∷◌, ◌≡◌, ◌≢◌, ◌≤◌, Bool, Err, List, None, Ok, Option}
+use Rattle.std.proofs.Common.{Result, Some, ap, arith, codes, cond, drop, false, length, length-append, length-take}
+use Rattle.{std.proofs.Common.{refl, subst, suc, sym, take, true, zero}, taxi_units.specs.Reading.{word_at}}
+use Rattle.std.proofs.lemmas.{Bool.{le-leb, leb-true, lt-ltb, ltb-false, ltb-true}, List.Concat.{flat_map-cons}}
 use Rattle.taxi_units.proofs.Laws.{words_are_read_by_their_text}
-use Rattle.shift_book.specs.declared.book.BookFault.{BookFault}
-use Rattle.shift_book.specs.declared.book.BookFault.TheVariants.{TooLong, BadLine, NoMemory}
-use Rattle.shift_book.specs.declared.numbers.Numbers.{Numbers}
-use Rattle.shift_book.specs.BookReading.{is_nowhere_less, is_grown, is_turn, may_follow, following, next_at, or_bad}
-use Rattle.shift_book.specs.BookReading.{lines_read, book_read}
-use Rattle.shift_book.specs.Books.{longest, IsNext, Begins, IsBook, IsFirstBad}
-use Rattle.shift_book.specs.Following.{Fit, IsNowhereLess, MayFollow, is_on, last_of, numbers_in}
-use Rattle.shift_book.specs.Marks.{Signing, HasDriver, IsDriver, PassAll, book_text, head_text, mark_text, numbers_text}
+use Rattle.shift_book.specs.BookReading.{book_read, following, is_grown, is_nowhere_less, is_turn, lines_read}
+use Rattle.shift_book.specs.{BookReading.{may_follow, next_at, or_bad}, declared.book.BookFault.TheVariants.{NoMemory}}
+use Rattle.shift_book.{specs.Books.{Begins, IsBook, IsFirstBad, IsNext, longest}, proofs.Drivers.{characters_in_front}}
+use Rattle.shift_book.specs.Common.{◌>>=◌, BadLine, BookFault, Durable, Numbers, TooLong, is_identifier_character}
+use Rattle.shift_book.specs.MarkOrder.{Fit, IsNowhereLess, MayFollow, is_on, last_of, numbers_in}
+use Rattle.shift_book.specs.Marks.{HasDriver, IsDriver, PassAll, Signing, book_text, head_text, mark_text, numbers_text}
 use Rattle.shift_book.specs.Reading.{counted_driver, driver_at, mark_at, mark_behind, numbers_at, off_at, on_at}
-use Rattle.shift_book.proofs.Drivers.{characters_in_front}
-use Rattle.shift_book.proofs.Growing.{begins_more, rest_shrinks}
-use Rattle.shift_book.proofs.Nexts.{next_is}
-use Rattle.shift_book.proofs.Once.{books_have_no_fault, books_have_one_list, faults_have_one_line}
-use Rattle.taxi_units.specs.Identifier.{is_identifier_character}
+use Rattle.shift_book.proofs.LongerBooks.{begins_more, rest_shrinks}
+use Rattle.shift_book.proofs.{Nexts.{next_is}, Once.{books_have_no_fault, books_have_one_list, faults_have_one_line}}
 
 -- ---- the driver of a mark that is read is as said
 

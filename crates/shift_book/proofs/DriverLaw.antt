@@ -1,10 +1,8 @@
 -- Which words are drivers.
-use Rattle.std.proofs.Common.{◌≡◌, ◌↔◌, ◌∙◌, ℕ, List, [], ◌∷◌, Option, Some, None, refl, subst, sym}
-use Rattle.taxi_units.specs.Reading.{◌>>=◌}
-use Rattle.shift_book.specs.Marks.{IsDriver}
-use Rattle.shift_book.specs.Reading.{alone, driver_at, driver_of}
+use Rattle.std.proofs.Common.{[], ℕ, ◌↔◌, ◌∙◌, ◌∷◌, ◌≡◌, List, None, Option, Some, refl, subst, sym}
+use Rattle.shift_book.specs.{Common.{◌>>=◌}, Marks.{IsDriver}}
+use Rattle.shift_book.{specs.Reading.{alone, driver_at, driver_of}, proofs.DriverWords.{driver_is, driver_word}}
 use Rattle.shift_book.proofs.BookAnswers as answers
-use Rattle.shift_book.proofs.DriverWords.{driver_is, driver_word}
 
 -- what stands in an answer is what it is compared with
 none_is : (driver : List ℕ) → None ≡ Some driver → ⊥

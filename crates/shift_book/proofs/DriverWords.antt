@@ -1,14 +1,9 @@
 -- Words that are drivers.
-use Rattle.std.proofs.Common.{◌≡◌, ◌≢◌, ℕ, Bool, true, false, cond, List, [], ◌∷◌, ◌++◌, length, take, drop, Option}
-use Rattle.std.proofs.Common.{Some, None, refl, sym, ap, ◌∙◌, arith}
-use Rattle.std.specs.Prelude.{nat_lt, ◌||◌, ◌==◌}
-use Rattle.std.specs.List.{prefix_len}
-use Rattle.std.proofs.lemmas.List.{append-nil, take-append-drop}
-use Rattle.taxi_units.specs.Reading.{◌>>=◌}
-use Rattle.shift_book.specs.Marks.{IsDriver}
-use Rattle.shift_book.specs.Reading.{alone, counted_driver, driver_at, driver_of}
-use Rattle.shift_book.proofs.Again.{driver_back}
-use Rattle.taxi_units.specs.Identifier.{is_identifier_character}
+use Rattle.std.specs.{List.{prefix_len}, Prelude.{◌==◌, ◌||◌, nat_lt}}
+use Rattle.std.proofs.Common.{[], ℕ, ◌++◌, ◌∙◌, ◌∷◌, ◌≡◌, ◌≢◌, Bool, List, None, Option, Some, ap, arith, cond, drop}
+use Rattle.std.proofs.{Common.{false, length, refl, sym, take, true}, lemmas.List.{append-nil, take-append-drop}}
+use Rattle.shift_book.specs.{Common.{◌>>=◌, is_identifier_character}, Marks.{IsDriver}}
+use Rattle.shift_book.{specs.Reading.{alone, counted_driver, driver_at, driver_of}, proofs.Again.{driver_back}}
 
 -- a driver is read as it is
 pub driver_word : (word : List ℕ) → IsDriver word → driver_of word ≡ Some word

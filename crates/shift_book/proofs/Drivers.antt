@@ -1,8 +1,6 @@
 -- Characters of drivers at the front of a text.
-use Rattle.std.proofs.Common.{◌≡◌, ℕ, suc, ◌+◌, Bool, true, false, cond, List, [], ◌∷◌, ◌++◌, length, take, refl, arith}
-use Rattle.std.specs.List.{prefix_len}
-use Rattle.shift_book.specs.Marks.{PassAll}
-use Rattle.taxi_units.specs.Identifier.{is_identifier_character}
+use Rattle.{std.specs.List.{prefix_len}, shift_book.specs.{Common.{is_identifier_character}, Marks.{PassAll}}}
+use Rattle.std.proofs.Common.{[], ℕ, ◌++◌, ◌+◌, ◌∷◌, ◌≡◌, Bool, List, arith, cond, false, length, refl, suc, take, true}
 
 passed : (test : ℕ → Bool) (b : Bool) (x : ℕ) (xs : List ℕ) → test x ≡ b → PassAll test (take (prefix_len test xs) xs)
     → PassAll test (take (cond b (1 + prefix_len test xs) 0) (x ∷ xs))

@@ -1,15 +1,9 @@
 -- A report has no more shifts than marks, and no more drivers than shifts.
-use Rattle.std.proofs.Common.{◌≡◌, ℕ, ◌+◌, ◌*◌, ◌≤◌, Bool, true, false, cond, List, [], ◌∷◌, length, ap, arith}
-use Rattle.std.proofs.Common.{length-append}
-use Rattle.std.specs.BTreeMap.{insert_entry}
-use Rattle.std.specs.Ordering.{match_ordering}
-use Rattle.std.specs.declared.cmp.Ordering.{Ordering}
-use Rattle.std.specs.declared.cmp.Ordering.TheVariants.{Less, Equal, Greater}
-use Rattle.shift_book.specs.declared.numbers.Numbers.{Numbers}
-use Rattle.shift_book.specs.declared.shift.Shift.{Shift}
-use Rattle.shift_book.specs.Marks.{Signing}
-use Rattle.shift_book.specs.ShareStages.{sum_so_far, with_shift, with_shifts}
-use Rattle.shift_book.specs.Shares.{Driver, begun_by, driver_cmp, grown, next_point, plus, shifts_in}
+use Rattle.std.specs.{BTreeMap.{insert_entry}, Ordering.{match_ordering}}
+use Rattle.std.{specs.declared.cmp.Ordering.{Ordering, TheVariants.{Equal, Greater, Less}}, proofs.Common.{true}}
+use Rattle.std.proofs.Common.{[], ℕ, ◌*◌, ◌+◌, ◌∷◌, ◌≡◌, ◌≤◌, Bool, List, ap, arith, cond, false, length, length-append}
+use Rattle.shift_book.specs.{Common.{Numbers, Shift}, ShareStages.{sum_so_far, with_shift, with_shifts}}
+use Rattle.shift_book.specs.{Marks.{Signing}, Shares.{Driver, begun_by, driver_cmp, grown, next_point, plus, shifts_in}}
 
 one_more : {K X : Type 0} (R : K → K → Ordering) (k : K) (v : X) (es : List (K × X))
     → length (insert_entry R es k v) ≤ length es + 1

@@ -1,13 +1,8 @@
 -- Entries in the order of their keys, with one more.
-use Rattle.std.proofs.Common.{◌≡◌, Bool, true, false, cond, List, [], ◌∷◌, Option, Some, None, refl, sym, ap, ◌∙◌}
-use Rattle.std.specs.BTreeMap.{insert_entry, is_at}
-use Rattle.std.specs.Cmp.{IsTotalOrder}
-use Rattle.std.specs.List.{AllByRecursion}
-use Rattle.std.specs.List.Sorted.{IsStrictlySortedBy}
-use Rattle.std.specs.Map.{keys_of, lookup}
-use Rattle.std.specs.Ordering.{is_eq, match_ordering, ordering_reverse}
-use Rattle.std.specs.declared.cmp.Ordering.{Ordering}
-use Rattle.std.specs.declared.cmp.Ordering.TheVariants.{Less, Equal, Greater}
+use Rattle.std.specs.{BTreeMap.{insert_entry, is_at}, Cmp.{IsTotalOrder}, List.{AllByRecursion}, Map.{keys_of, lookup}}
+use Rattle.std.specs.{List.Sorted.{IsStrictlySortedBy}, declared.cmp.Ordering.TheVariants.{Equal, Greater, Less}}
+use Rattle.std.specs.{Ordering.{is_eq, match_ordering, ordering_reverse}, declared.cmp.Ordering.{Ordering}}
+use Rattle.std.proofs.Common.{[], ◌∙◌, ◌∷◌, ◌≡◌, Bool, List, None, Option, Some, ap, cond, false, refl, sym, true}
 
 reverse_less : (r s : Ordering) → r ≡ ordering_reverse s → r ≡ Greater → s ≡ Less
 reverse_less r Less e g = refl

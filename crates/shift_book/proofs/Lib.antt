@@ -1,11 +1,11 @@
 -- the line of a mark is read as that mark
 pub mod Again
--- the text of a report is put together from its lines
-pub mod Assembling
 -- what is read of a text is what the text says
 pub mod BookAnswers
 -- which words are drivers
 mod DriverLaw
+-- the drivers' sums grow by one shift after the other
+pub mod DriverSums
 -- which words are drivers
 pub mod DriverWords
 -- characters of drivers at the front of a text
@@ -14,21 +14,21 @@ pub mod Drivers
 pub mod Fewer
 -- the number that digits make, and the greatest
 pub mod Figures
--- a book that has one mark more
-pub mod Growing
+-- what grew between the points of a book adds up, column by column
+pub mod GrowthSums
 -- entries in the order of their keys, with one more
 pub mod Inserted
 -- the laws that the crates above may cite
 pub mod Laws
 -- the line of a mark says the mark, and no other text does
 pub mod Lines
+-- a book that has one mark more
+pub mod LongerBooks
 -- the mark at the front of a text is the one that is read there
 pub mod Nexts
 -- a text is read one way
 pub mod Once
+-- the text of a report is put together from its lines
+pub mod ReportLines
 -- a report has the drivers' sums, and its parts add up
 pub mod Reported
--- what grew between the points of a book adds up, column by column
-pub mod Rising
--- the drivers' sums grow by one shift after the other
-pub mod Sharing

@@ -1,12 +1,9 @@
 -- The line of a mark says the mark.
-use Rattle.std.proofs.Common.{◌≡◌, ℕ, ◌↔◌, List, [], ◌∷◌, ◌++◌, length, ◌<◌, ◌≤◌, ◌^◌, refl, ap, sym, ◌∙◌, arith}
-use Rattle.std.proofs.Common.{append_assoc}
-use Rattle.std.specs.Fmt.{decimal}
+use Rattle.{std.{specs.Fmt.{decimal}, proofs.Common.{refl, sym}}, shift_book.specs.Marks.{six_fields}}
+use Rattle.std.proofs.Common.{[], ℕ, ◌++◌, ◌<◌, ◌^◌, ◌↔◌, ◌∙◌, ◌∷◌, ◌≡◌, ◌≤◌, List, ap, append_assoc, arith, length}
 use Rattle.taxi_units.proofs.Laws.{numbers_are_short, numbers_are_written_by_their_digits}
-use Rattle.shift_book.specs.declared.numbers.Numbers.{Numbers}
-use Rattle.shift_book.specs.Following.{Fit}
-use Rattle.shift_book.specs.Marks.{Signing, HasDriver, IsTextOfNumbers, IsMarkLine, head_text, numbers_text, mark_text}
-use Rattle.shift_book.specs.Marks.{six_fields}
+use Rattle.shift_book.specs.{Common.{Numbers}, MarkOrder.{Fit}}
+use Rattle.shift_book.specs.Marks.{HasDriver, IsMarkLine, IsTextOfNumbers, Signing, head_text, mark_text, numbers_text}
 
 -- a number below 2^64 has at most 20 digits
 pub counts_are_short : (value : ℕ) → value < 2 ^ 64 → length (decimal value) ≤ 20

@@ -1,14 +1,8 @@
 -- The mark at the front of a text is the one that is read there.
-use Rattle.std.proofs.Common.{◌≡◌, ℕ, List, Option, Some, None, ap, ◌∙◌, arith}
-use Rattle.totals_record.specs.declared.durable_state.Durable.{Durable}
-use Rattle.taxi_units.specs.Reading.{word_at}
-use Rattle.taxi_units.proofs.Laws.{words_are_read_by_their_text}
-use Rattle.shift_book.specs.declared.numbers.Numbers.{Numbers}
-use Rattle.shift_book.specs.Books.{IsNext}
-use Rattle.shift_book.specs.Following.{Fit, IsNowhereLess, numbers_in}
-use Rattle.shift_book.specs.Marks.{Signing, mark_text}
-use Rattle.shift_book.specs.Reading.{mark_at}
-use Rattle.shift_book.proofs.Again.{mark_back}
+use Rattle.std.proofs.Common.{ℕ, ◌∙◌, ◌≡◌, List, None, Option, Some, ap, arith}
+use Rattle.taxi_units.{specs.Reading.{word_at}, proofs.Laws.{words_are_read_by_their_text}}
+use Rattle.shift_book.{specs.{Books.{IsNext}, Common.{Durable, Numbers}}, proofs.Again.{mark_back}}
+use Rattle.shift_book.specs.{MarkOrder.{Fit, IsNowhereLess, numbers_in}, Marks.{Signing, mark_text}, Reading.{mark_at}}
 
 -- smaller numbers fit too
 smaller_fit : (a b : Numbers) → IsNowhereLess a b → Fit b → Fit a

@@ -1,15 +1,10 @@
 -- A text is read one way.
-use Rattle.std.proofs.Common.{◌≡◌, ℕ, ◌+◌, List, [], ◌∷◌, ◌++◌, length, Option, Some, None, refl, ap, sym, ◌∙◌, subst}
-use Rattle.std.proofs.Common.{arith, append_assoc}
-use Rattle.std.proofs.lemmas.List.Concat.{flat_map-cons}
-use Rattle.totals_record.specs.declared.durable_state.Durable.{Durable}
-use Rattle.taxi_units.specs.Reading.{word_at}
-use Rattle.taxi_units.proofs.Laws.{words_are_read_by_their_text}
-use Rattle.shift_book.specs.Books.{IsNext, IsBook, IsFirstBad}
-use Rattle.shift_book.specs.Following.{Fit, FollowOn, numbers_in}
-use Rattle.shift_book.specs.Marks.{Signing, mark_text, book_text}
-use Rattle.shift_book.proofs.Growing.{behind, last_behind, rest_shrinks}
-use Rattle.shift_book.proofs.Nexts.{next_is}
+use Rattle.std.proofs.Common.{[], ℕ, ◌++◌, ◌+◌, ◌∙◌, ◌∷◌, ◌≡◌, List, None, Option, Some, ap, append_assoc, arith}
+use Rattle.std.proofs.{Common.{length, refl, subst, sym}, lemmas.List.Concat.{flat_map-cons}}
+use Rattle.taxi_units.{specs.Reading.{word_at}, proofs.Laws.{words_are_read_by_their_text}}
+use Rattle.shift_book.{specs.Books.{IsBook, IsFirstBad, IsNext}, proofs.LongerBooks.{behind, last_behind, rest_shrinks}}
+use Rattle.shift_book.{specs.Common.{Durable}, proofs.Nexts.{next_is}}
+use Rattle.shift_book.specs.{MarkOrder.{Fit, FollowOn, numbers_in}, Marks.{Signing, book_text, mark_text}}
 
 -- no mark that may follow stands first
 abbrev Ends : Durable → Option Signing → List ℕ → Type 0

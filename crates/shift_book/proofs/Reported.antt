@@ -1,17 +1,10 @@
 -- The drivers' sums that a report has, and the report.
-use Rattle.std.proofs.Common.{◌≡◌, ℕ, List, [], ◌∷◌, None, refl, ap}
-use Rattle.totals_record.specs.declared.durable_state.Durable.{Durable}
-use Rattle.shift_book.specs.declared.numbers.Numbers.{Numbers}
-use Rattle.shift_book.specs.declared.shift.Shift.{Shift}
-use Rattle.shift_book.specs.Following.{FollowOn, numbers_in}
-use Rattle.shift_book.specs.Marks.{Signing}
-use Rattle.shift_book.specs.Report.{IsReport, report_text}
-use Rattle.shift_book.specs.ShareStages.{sum_so_far, with_shift, with_shifts}
-use Rattle.shift_book.specs.Shares.{Driver, driver_cmp, grown, growth_in, plus, shifts_in, AreSums, AreOrdered}
-use Rattle.shift_book.proofs.Assembling.{report_is}
-use Rattle.shift_book.proofs.Inserted.{insert_found, insert_ordered, none_ordered}
-use Rattle.shift_book.proofs.Rising.{rises}
-use Rattle.shift_book.proofs.Sharing.{SoFar, driver_total, none_left, none_yet, one_more}
+use Rattle.std.proofs.Common.{[], ℕ, ◌∷◌, ◌≡◌, List, None, ap, refl}
+use Rattle.shift_book.specs.{Common.{Durable, Numbers, Shift}, ShareStages.{sum_so_far, with_shift, with_shifts}}
+use Rattle.shift_book.specs.{MarkOrder.{FollowOn, numbers_in}, Marks.{Signing}, Report.{IsReport, report_text}}
+use Rattle.shift_book.specs.Shares.{AreOrdered, AreSums, Driver, driver_cmp, grown, growth_in, plus, shifts_in}
+use Rattle.shift_book.proofs.{DriverSums.{SoFar, driver_total, none_left, none_yet, one_more}, ReportLines.{report_is}}
+use Rattle.shift_book.proofs.{GrowthSums.{rises}, Inserted.{insert_found, insert_ordered, none_ordered}}
 
 -- the sums stay in order
 one_ordered : (sums : List (Driver × Numbers)) (s : Shift) → AreOrdered sums → AreOrdered (with_shift sums s)

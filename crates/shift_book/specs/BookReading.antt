@@ -1,14 +1,9 @@
 -- By law: how a book is read, line by line. The law `texts_are_read_as_they_say` says what `book_read` answers.
-use Rattle.std.specs.Prelude.{ℕ, zero, suc, ◌+◌, ◌&&◌, nat_le, nat_lt, Bool, true, not, if◌then◌else◌, List, [], ◌∷◌, ◌++◌, length, Option, Some, None, Result, Ok, Err}
-use Rattle.taxi_units.specs.Reading.{◌>>=◌, word_at}
-use Rattle.totals_record.specs.declared.durable_state.Durable.{Durable}
-use Rattle.shift_book.specs.declared.book.BookFault.{BookFault}
-use Rattle.shift_book.specs.declared.book.BookFault.TheVariants.{TooLong, BadLine}
-use Rattle.shift_book.specs.declared.numbers.Numbers.{Numbers}
-use Rattle.shift_book.specs.Books.{longest}
-use Rattle.shift_book.specs.Following.{is_on, last_of, numbers_in}
-use Rattle.shift_book.specs.Marks.{Signing, mark_text}
-use Rattle.shift_book.specs.Reading.{mark_at}
+use Rattle.std.specs.Prelude.{[], ℕ, ◌&&◌, ◌++◌, ◌+◌, ◌∷◌, Bool, Err, List, None, Ok, Option, Result, Some}
+use Rattle.std.specs.Prelude.{if◌then◌else◌, length, nat_le, nat_lt, not, suc, true, zero}
+use Rattle.{taxi_units.specs.Reading.{word_at}, shift_book.specs.MarkOrder.{is_on, last_of, numbers_in}}
+use Rattle.shift_book.specs.{Books.{longest}, Reading.{mark_at}}
+use Rattle.shift_book.specs.{Common.{◌>>=◌, BadLine, BookFault, Durable, Numbers, TooLong}, Marks.{Signing, mark_text}}
 
 -- six numbers are nowhere less than six before if none of them is smaller than before
 abbrev pub is_nowhere_less : (before after : Numbers) → Bool

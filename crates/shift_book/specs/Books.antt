@@ -1,10 +1,7 @@
 -- Rules: which texts are books, and what is wrong with a text that is none.
-use Rattle.std.specs.Prelude.{◌≡◌, ◌≢◌, ℕ, ◌+◌, ◌<◌, ◌≤◌, List, [], ◌++◌, length, Option, None}
-use Rattle.totals_record.specs.declared.durable_state.Durable.{Durable}
-use Rattle.shift_book.specs.declared.book.BookFault.{BookFault}
-use Rattle.shift_book.specs.declared.book.BookFault.TheVariants.{TooLong, BadLine, NoMemory}
-use Rattle.shift_book.specs.Following.{MayFollow, FollowOn, last_of}
-use Rattle.shift_book.specs.Marks.{Signing, mark_text, book_text}
+use Rattle.std.specs.Prelude.{[], ℕ, ◌++◌, ◌+◌, ◌<◌, ◌≡◌, ◌≢◌, ◌≤◌, List, None, Option, length}
+use Rattle.shift_book.specs.{Common.{BadLine, BookFault, Durable, TooLong}, Marks.{Signing, book_text, mark_text}}
+use Rattle.shift_book.specs.{MarkOrder.{FollowOn, MayFollow, last_of}, declared.book.BookFault.TheVariants.{NoMemory}}
 
 -- a book has at most 1,048,576 bytes
 abbrev pub longest : ℕ

@@ -1,8 +1,9 @@
 pub mod BookReading
 pub mod Books
-pub mod Following
+pub mod MarkOrder
 pub mod Marks
 pub mod Reading
 pub mod Report
 pub mod ShareStages
 pub mod Shares
+pub mod Common

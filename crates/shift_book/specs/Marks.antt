@@ -1,9 +1,7 @@
 -- Rules: what marks say, and their lines.
-use Rattle.std.specs.Prelude.{◌≡◌, ℕ, ◌≤◌, Bool, true, false, List, [], ◌∷◌, ◌++◌, length, codes, decimal}
-use Rattle.std.specs.List.{AllByRecursion, flat_map}
-use Rattle.taxi_units.specs.Written.{IsNumberText}
-use Rattle.shift_book.specs.declared.numbers.Numbers.{Numbers}
-use Rattle.taxi_units.specs.Identifier.{is_identifier_character}
+use Rattle.{std.specs.List.{AllByRecursion, flat_map}, taxi_units.specs.Written.{IsNumberText}}
+use Rattle.std.specs.Prelude.{[], ℕ, ◌++◌, ◌∷◌, ◌≡◌, ◌≤◌, Bool, List, codes, decimal, false, length, true}
+use Rattle.shift_book.specs.Common.{Numbers, is_identifier_character}
 
 -- the numbers of a mark are the number of the store, the distance, the distance when hired, the hirings, the
 -- supplements and the fare

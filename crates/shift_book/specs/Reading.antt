@@ -1,13 +1,9 @@
 -- By law: the mark that a line says, if it is one, as the code reads it from the front of a text. The law
 -- `drivers_are_their_words` says which words are drivers; which lines are marks says the law that BookReading names.
-use Rattle.std.specs.Prelude.{ℕ, ◌-◌, ◌^◌, nat_lt, nat_le, ◌==◌, ◌||◌, true, false, if◌then◌else◌, List, [], ◌∷◌, take, drop, codes, Option, Some, None}
-use Rattle.std.specs.List.{prefix_len}
-use Rattle.std.specs.Str.Parse.{digits_value}
-use Rattle.taxi_units.specs.Number.{digits_at_front}
-use Rattle.taxi_units.specs.Reading.{◌>>=◌, word_at}
-use Rattle.shift_book.specs.declared.numbers.Numbers.{Numbers}
-use Rattle.shift_book.specs.Marks.{Signing, numbers_of}
-use Rattle.taxi_units.specs.Identifier.{is_identifier_character}
+use Rattle.std.specs.{List.{prefix_len}, Prelude.{if◌then◌else◌, nat_le, nat_lt, take, true}, Str.Parse.{digits_value}}
+use Rattle.std.specs.Prelude.{[], ℕ, ◌-◌, ◌==◌, ◌^◌, ◌||◌, ◌∷◌, List, None, Option, Some, codes, drop, false}
+use Rattle.{taxi_units.specs.Reading.{word_at}, shift_book.specs.Marks.{Signing, numbers_of}}
+use Rattle.shift_book.specs.Common.{◌>>=◌, Numbers, digits_at_front, is_identifier_character}
 
 -- the value of digits is the number that they make, if it is below 2^128
 abbrev pub value_below : List ℕ → Option ℕ

@@ -1,13 +1,8 @@
 -- Rules: the report of a book, its lines, and what they share out.
-use Rattle.std.specs.Prelude.{◌≡◌, ℕ, ◌+◌, List, [], ◌∷◌, ◌++◌, codes, decimal}
-use Rattle.std.specs.List.{sum_by}
-use Rattle.std.specs.Map.{values_of}
-use Rattle.taxi_units.specs.Number.{money_text}
-use Rattle.shift_book.specs.declared.numbers.Numbers.{Numbers}
-use Rattle.shift_book.specs.declared.shift.Shift.{Shift}
-use Rattle.shift_book.specs.Marks.{Signing, number_text}
-use Rattle.shift_book.specs.ShareStages.{with_shifts}
-use Rattle.shift_book.specs.Shares.{Column, at, Driver, shifts_in, unsigned_in, growth_in, AreSums, AreOrdered}
+use Rattle.std.specs.{List.{sum_by}, Map.{values_of}, Prelude.{[], ℕ, ◌++◌, ◌+◌, ◌∷◌, ◌≡◌, List, codes, decimal}}
+use Rattle.{taxi_units.specs.Number.{money_text}, shift_book.specs.Marks.{Signing, number_text}}
+use Rattle.shift_book.specs.{Common.{Numbers, Shift}, ShareStages.{with_shifts}}
+use Rattle.shift_book.specs.Shares.{AreOrdered, AreSums, Column, Driver, at, growth_in, shifts_in, unsigned_in}
 
 -- an amount in a line is written behind a blank
 abbrev pub amount_text : (decimals units : ℕ) → List ℕ

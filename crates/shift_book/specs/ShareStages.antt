@@ -1,15 +1,9 @@
 -- Rules: the drivers' sums, shift by shift as the code adds them, and what keeps the sums in their fields. AreSums, in
 -- Shares, says what the sums are.
-use Rattle.std.specs.Prelude.{List, [], ◌∷◌, unwrap_or, ⊤}
-use Rattle.std.specs.BTreeMap.{insert_entry, is_at}
-use Rattle.std.specs.List.{sum_by}
-use Rattle.std.specs.Map.{lookup}
-use Rattle.shift_book.specs.declared.numbers.Numbers.{Numbers}
-use Rattle.shift_book.specs.declared.shift.Shift.{Shift}
-use Rattle.shift_book.specs.Following.{IsNowhereLess}
-use Rattle.shift_book.specs.Marks.{Signing, numbers_of}
-use Rattle.shift_book.specs.Shares.{Number, Distance, HiredDistance, Hirings, Supplements, Fare, at}
-use Rattle.shift_book.specs.Shares.{Driver, driver_cmp, next_point, nothing, plus}
+use Rattle.std.specs.{BTreeMap.{insert_entry, is_at}, List.{sum_by}, Prelude.{[], ⊤, ◌∷◌, List, unwrap_or}}
+use Rattle.{std.specs.Map.{lookup}, shift_book.specs.{Marks.{Signing, numbers_of}, Shares.{next_point, nothing, plus}}}
+use Rattle.shift_book.specs.{Common.{Numbers, Shift}, MarkOrder.{IsNowhereLess}}
+use Rattle.shift_book.specs.Shares.{Distance, Driver, Fare, HiredDistance, Hirings, Number, Supplements, at, driver_cmp}
 
 -- points rise if no number falls from one point of a book to the next
 abbrev pub Rise : (now : Numbers) → List Signing → Type 0

@@ -1,17 +1,9 @@
 -- Rules: what grew between the points of a book, and whose it is.
-use Rattle.std.specs.Prelude.{◌≡◌, ℕ, ◌+◌, ◌-◌, Bool, if◌then◌else◌, List, [], ◌∷◌, ◌++◌, is_some, unwrap_or}
-use Rattle.std.specs.BTreeMap.{is_at}
-use Rattle.std.specs.List.{list_any, sum_by}
-use Rattle.std.specs.List.Sorted.{IsStrictlySortedBy}
-use Rattle.std.specs.Map.{keys_of, values_of, lookup}
-use Rattle.std.specs.Option.{option_map}
-use Rattle.std.specs.Cmp.Lexicographic.{slice_cmp}
-use Rattle.std.specs.Ordering.{is_eq, nat_cmp}
-use Rattle.std.specs.declared.cmp.Ordering.{Ordering}
-use Rattle.arrayvec.specs.ArrayVec.{ArrayVec}
-use Rattle.shift_book.specs.declared.numbers.Numbers.{Numbers}
-use Rattle.shift_book.specs.declared.shift.Shift.{Shift}
-use Rattle.shift_book.specs.Marks.{Signing, numbers_of}
+use Rattle.{std.specs.{BTreeMap.{is_at}, Option.{option_map}}, arrayvec.specs.ArrayVec.{ArrayVec}}
+use Rattle.std.specs.{Cmp.Lexicographic.{slice_cmp}, List.Sorted.{IsStrictlySortedBy}, Map.{keys_of, lookup, values_of}}
+use Rattle.std.specs.{List.{list_any, sum_by}, Ordering.{is_eq, nat_cmp}, declared.cmp.Ordering.{Ordering}}
+use Rattle.std.specs.Prelude.{[], ℕ, ◌++◌, ◌+◌, ◌-◌, ◌∷◌, ◌≡◌, Bool, List, if◌then◌else◌, is_some, unwrap_or}
+use Rattle.shift_book.specs.{Common.{Numbers, Shift}, Marks.{Signing, numbers_of}}
 
 -- a column tells apart the six numbers of a point, or of growth
 pub data Column : Type 0 where

@@ -1,7 +1,6 @@
 //! Books: the marks that a keeper put behind one another.
-ghost use Rattle.std.specs.Prelude.{◌≡◌, ◌≢◌, ◌≤◌, length, Ok, Err, IfOk, MatchResult};
-ghost use Rattle.shift_book.specs.BookReading.{book_read};
-ghost use Rattle.shift_book.specs.Books.{IsBook, IsFault};
+ghost use Rattle.std.specs.Prelude.{◌≡◌, ◌≢◌, ◌≤◌, Err, IfOk, MatchResult, Ok, length};
+ghost use Rattle.shift_book.specs.{BookReading.{book_read}, Books.{IsBook, IsFault}};
 
 use crate::following::next_mark;
 use crate::mark::Mark;

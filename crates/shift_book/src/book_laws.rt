@@ -1,11 +1,8 @@
 //! What the answer to the text of a book means; a text has one answer at most.
-ghost use Rattle.std.specs.Prelude.{◌≡◌, ◌↔◌, ℕ, ◌<◌, List, length, Ok, Err};
-ghost use Rattle.shift_book.specs.BookReading.{book_read};
-ghost use Rattle.shift_book.specs.Books.{IsBook, IsFirstBad, longest};
+ghost use Rattle.std.specs.Prelude.{ℕ, ◌<◌, ◌↔◌, ◌≡◌, Err, List, Ok, length};
+ghost use Rattle.shift_book.specs.{BookReading.{book_read}, Marks.{Signing}};
+ghost use Rattle.shift_book.specs.{Books.{IsBook, IsFirstBad, longest}, Common.{Durable}, MarkOrder.{Fit, numbers_in}};
 ghost use Rattle.shift_book.specs.declared.book.BookFault.TheVariants as BookFault;
-ghost use Rattle.shift_book.specs.Following.{Fit, numbers_in};
-ghost use Rattle.shift_book.specs.Marks.{Signing};
-ghost use Rattle.totals_record.specs.declared.durable_state.Durable.{Durable};
 
 /// A law: beside one state of the store a text is a book of one list of marks at most, has one first bad line at most,
 /// and never both.

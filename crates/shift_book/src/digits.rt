@@ -1,7 +1,6 @@
 //! Digits at the front of a text.
 ghost use Rattle.std.specs.Prelude.{◌≡◌, length};
-ghost use Rattle.taxi_units.specs.Number.{digits_at_front};
-ghost use Rattle.taxi_units.specs.Reading.{Gives, GivesSame};
+ghost use Rattle.shift_book.specs.Common.{Gives, GivesSame, digits_at_front};
 ghost use Rattle.shift_book.specs.Reading as spec;
 
 use taxi_units::count_digits;

@@ -1,9 +1,7 @@
 //! Which mark may follow in a book.
-ghost use Rattle.std.specs.Prelude.{◌≡◌, ◌↔◌, ℕ, List, IsTrue, IfSome, IfNone};
-ghost use Rattle.shift_book.specs.Books.{IsNext};
-ghost use Rattle.totals_record.specs.declared.durable_state.Durable.{Durable};
-ghost use Rattle.shift_book.specs.Following.{Fit, MayFollow, last_of, numbers_in};
-ghost use Rattle.shift_book.specs.Marks.{HasDriver, Signing};
+ghost use Rattle.std.specs.Prelude.{ℕ, ◌↔◌, ◌≡◌, IfNone, IfSome, IsTrue, List};
+ghost use Rattle.shift_book.specs.{Books.{IsNext}, Common.{Durable}};
+ghost use Rattle.shift_book.specs.{MarkOrder.{Fit, MayFollow, last_of, numbers_in}, Marks.{HasDriver, Signing}};
 
 use crate::mark::{Mark, spelled};
 use crate::numbers::{Numbers, is_nowhere_less};

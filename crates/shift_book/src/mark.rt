@@ -1,9 +1,7 @@
 //! Marks: what a driver signs on and off by.
-ghost use Rattle.std.specs.Prelude.{◌≡◌, ◌+◌, ◌<◌, ◌≤◌, ◌++◌, ◌↔◌, length, IsOk, OnOk, OnErr};
-ghost use Rattle.arrayvec.specs.ArrayVec.{array_vec_len};
-ghost use Rattle.taxi_units.specs.Line.{line_size};
-ghost use Rattle.shift_book.specs.Following.{Fit};
-ghost use Rattle.shift_book.specs.Marks.{HasDriver, IsMarkLine, head_text, mark_text};
+ghost use Rattle.std.specs.Prelude.{◌++◌, ◌+◌, ◌<◌, ◌↔◌, ◌≡◌, ◌≤◌, IsOk, OnErr, OnOk, length};
+ghost use Rattle.{arrayvec.specs.ArrayVec.{array_vec_len}, shift_book.specs.MarkOrder.{Fit}};
+ghost use Rattle.shift_book.specs.{Common.{line_size}, Marks.{HasDriver, IsMarkLine, head_text, mark_text}};
 
 use crate::numbers::{Numbers, numbers_of, push_numbers};
 use arrayvec::ArrayVec;

@@ -1,8 +1,7 @@
 //! What the lines of marks mean, in words that share nothing with how they are written and read.
-ghost use Rattle.std.specs.Prelude.{◌≡◌, ℕ, ◌↔◌, List, Some};
-ghost use Rattle.shift_book.specs.Following.{Fit};
-ghost use Rattle.shift_book.specs.Marks.{HasDriver, IsDriver, IsMarkLine, Signing, mark_text};
-ghost use Rattle.shift_book.specs.Reading.{driver_of};
+ghost use Rattle.std.specs.Prelude.{ℕ, ◌↔◌, ◌≡◌, List, Some};
+ghost use Rattle.shift_book.specs.MarkOrder.{Fit};
+ghost use Rattle.shift_book.specs.{Marks.{HasDriver, IsDriver, IsMarkLine, Signing, mark_text}, Reading.{driver_of}};
 
 /// A law: the line of a mark whose driver is as said is the one that is written of it.
 pub fn marks_are_their_lines()

@@ -1,10 +1,7 @@
 //! The six numbers of a mark.
-ghost use Rattle.std.specs.Prelude.{◌≡◌, ◌+◌, ◌≤◌, ◌++◌, ◌↔◌, IsTrue};
-ghost use Rattle.arrayvec.specs.ArrayVec.{array_vec_len};
-ghost use Rattle.taxi_units.specs.Line.{line_size};
-ghost use Rattle.taxi_units.specs.Reading.{Gives, GivesSame};
-ghost use Rattle.shift_book.specs.Marks.{number_text, numbers_of, numbers_text};
-ghost use Rattle.shift_book.specs.Following.{Fit, IsNowhereLess, numbers_in};
+ghost use Rattle.std.specs.Prelude.{◌++◌, ◌+◌, ◌↔◌, ◌≡◌, ◌≤◌, IsTrue};
+ghost use Rattle.{arrayvec.specs.ArrayVec.{array_vec_len}, shift_book.specs.MarkOrder.{Fit, IsNowhereLess, numbers_in}};
+ghost use Rattle.shift_book.specs.{Common.{Gives, GivesSame, line_size}, Marks.{number_text, numbers_of, numbers_text}};
 ghost use Rattle.shift_book.specs.Reading as spec;
 
 use crate::digits::digits_at;

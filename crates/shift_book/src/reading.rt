@@ -1,11 +1,8 @@
 //! The mark that a line says, if it is one.
-ghost use Rattle.std.specs.Prelude.{◌≡◌, ◌≤◌, length, IfNone, IfSome};
-ghost use Rattle.std.specs.List.{prefix_len};
-ghost use Rattle.taxi_units.specs.Reading.{Gives, GivesSame};
-ghost use Rattle.shift_book.specs.Marks.{HasDriver, IsDriver};
+ghost use Rattle.std.specs.{List.{prefix_len}, Prelude.{◌≡◌, ◌≤◌, IfNone, IfSome, length}};
+ghost use Rattle.shift_book.specs.{Common.{Gives, GivesSame, is_identifier_character}, Marks.{HasDriver, IsDriver}};
 ghost use Rattle.shift_book.specs.Reading.{driver_of};
 ghost use Rattle.shift_book.specs.Reading as spec;
-ghost use Rattle.taxi_units.specs.Identifier.{is_identifier_character};
 
 use crate::mark::Mark;
 use crate::numbers::numbers_at;

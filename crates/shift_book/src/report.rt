@@ -1,10 +1,8 @@
 //! The report of a book.
-ghost use Rattle.std.specs.Prelude.{◌≡◌, ◌+◌, ◌*◌, ◌≤◌, ◌++◌, None, length, vec_len, IfOk, OnOk};
-ghost use Rattle.arrayvec.specs.ArrayVec.{array_vec_len};
-ghost use Rattle.taxi_units.specs.Line.{line_size};
-ghost use Rattle.shift_book.specs.Following.{FollowOn, numbers_in};
-ghost use Rattle.shift_book.specs.Report.{IsReport, amount_text, driver_line, driver_lines, growth_text};
-ghost use Rattle.shift_book.specs.Report.{report_text, shift_line, shift_lines};
+ghost use Rattle.std.specs.Prelude.{◌*◌, ◌++◌, ◌+◌, ◌≡◌, ◌≤◌, IfOk, None, OnOk, length, vec_len};
+ghost use Rattle.{arrayvec.specs.ArrayVec.{array_vec_len}, shift_book.specs.Report.{shift_line, shift_lines}};
+ghost use Rattle.shift_book.specs.{Common.{line_size}, MarkOrder.{FollowOn, numbers_in}};
+ghost use Rattle.shift_book.specs.Report.{IsReport, amount_text, driver_line, driver_lines, growth_text, report_text};
 
 use crate::mark::Mark;
 use crate::numbers::{Numbers, numbers_in, push_field};

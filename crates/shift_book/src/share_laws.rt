@@ -1,11 +1,7 @@
 //! What the growth of a book goes by.
-ghost use Rattle.std.specs.Prelude.{◌≡◌, ℕ, List, ◌∷◌, None};
-ghost use Rattle.shift_book.specs.Following.{FollowOn, numbers_in};
-ghost use Rattle.shift_book.specs.Marks.{Signing};
-ghost use Rattle.shift_book.specs.Report.{IsReport, report_text};
-ghost use Rattle.shift_book.specs.Shares.{growth_in};
-ghost use Rattle.shift_book.specs.declared.numbers.Numbers.{Numbers};
-ghost use Rattle.totals_record.specs.declared.durable_state.Durable.{Durable};
+ghost use Rattle.std.specs.Prelude.{ℕ, ◌∷◌, ◌≡◌, List, None};
+ghost use Rattle.shift_book.specs.{Common.{Durable, Numbers}, Shares.{growth_in}};
+ghost use Rattle.shift_book.specs.{MarkOrder.{FollowOn, numbers_in}, Marks.{Signing}, Report.{IsReport, report_text}};
 
 /// A law: two books whose first marks have the same numbers have the same growth beside the same store, whatever marks
 /// are behind the first, and by whomever.

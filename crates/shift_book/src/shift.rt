@@ -1,9 +1,7 @@
 //! Shifts, and the growth between the points of a book.
-ghost use Rattle.std.specs.Prelude.{◌≡◌, ◌++◌, IfOk, OnOk};
-ghost use Rattle.shift_book.specs.Following.{Fit, IsNowhereLess};
-ghost use Rattle.shift_book.specs.ShareStages.{Rise};
-ghost use Rattle.shift_book.specs.Shares.{begun_by, free_behind, growth_in, grown, next_point};
-ghost use Rattle.shift_book.specs.Shares.{plus, shifts_in, unsigned_in};
+ghost use Rattle.std.specs.Prelude.{◌++◌, ◌≡◌, IfOk, OnOk};
+ghost use Rattle.shift_book.specs.{MarkOrder.{Fit, IsNowhereLess}, ShareStages.{Rise}, Shares.{unsigned_in}};
+ghost use Rattle.shift_book.specs.Shares.{begun_by, free_behind, grown, growth_in, next_point, plus, shifts_in};
 
 use crate::mark::Mark;
 use crate::numbers::Numbers;

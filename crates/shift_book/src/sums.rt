@@ -1,10 +1,7 @@
 //! The sums of the drivers over their shifts.
-ghost use Rattle.std.specs.Prelude.{◌≡◌, Some, [], if◌then◌else◌, IfOk, OnOk};
-ghost use Rattle.std.specs.BTreeMap.{insert_entry, is_at};
-ghost use Rattle.std.specs.Map.{lookup};
-ghost use Rattle.shift_book.specs.Following.{Fit};
-ghost use Rattle.shift_book.specs.ShareStages.{sum_so_far, total_of, with_shifts};
-ghost use Rattle.shift_book.specs.Shares.{AreOrdered, AreSums, Driver, driver_cmp, is_of, plus};
+ghost use Rattle.std.specs.{BTreeMap.{insert_entry, is_at}, Prelude.{[], ◌≡◌, IfOk, OnOk, Some, if◌then◌else◌}};
+ghost use Rattle.{std.specs.Map.{lookup}, shift_book.specs.ShareStages.{sum_so_far, total_of, with_shifts}};
+ghost use Rattle.shift_book.specs.{MarkOrder.{Fit}, Shares.{AreOrdered, AreSums, Driver, driver_cmp, is_of, plus}};
 
 use crate::numbers::Numbers;
 use crate::shift::{NOTHING, Shift, plus};

@@ -1,11 +1,7 @@
 -- What bytes are read as: the value that is in its ranges and spells them.
-use Rattle.std.proofs.Common.{◌≡◌, ◌↔◌, ℕ, Bool, true, false, ◌&&◌, if◌then◌else◌, List, length, Option, Some, None}
-use Rattle.std.proofs.Common.{refl, sym, ap, subst, ◌∙◌}
-use Rattle.std.specs.Str.{bytes_eq}
-use Rattle.std.proofs.lemmas.Slice.Eq.{bytes_eq-Decides}
-use Rattle.taxi_units.specs.Test.{Test}
-use Rattle.slot_bodies.specs.Bodies.{AreBodies, body_size}
-use Rattle.slot_bodies.specs.ReadBack.{read_back}
+use Rattle.std.{specs.Str.{bytes_eq}, proofs.{Common.{refl, subst, sym, true}, lemmas.Slice.Eq.{bytes_eq-Decides}}}
+use Rattle.std.proofs.Common.{ℕ, ◌&&◌, ◌↔◌, ◌∙◌, ◌≡◌, Bool, List, None, Option, Some, ap, false, if◌then◌else◌, length}
+use Rattle.{taxi_units.specs.Test.{Test}, slot_bodies.specs.{Bodies.{AreBodies, body_size}, ReadBack.{read_back}}}
 
 -- a value behind two tests that both passed is given
 both_passed : {T : Type 0} (one two : Bool) (x : T) → one ≡ true → two ≡ true

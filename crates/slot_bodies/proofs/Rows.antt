@@ -1,5 +1,5 @@
 -- Rows of values, one after another.
-use Rattle.std.proofs.Common.{◌≡◌, ℕ, zero, suc, ◌+◌, ◌*◌, List, [], ◌∷◌, ◌++◌, length, refl, ap, ◌∙◌, arith, mul-suc}
+use Rattle.std.proofs.Common.{[], ℕ, ◌*◌, ◌++◌, ◌+◌, ◌∙◌, ◌∷◌, ◌≡◌, List, ap, arith, length, mul-suc, refl, suc, zero}
 use Rattle.slot_bodies.specs.Codec.{Codec, read_row}
 
 -- a row that is read has as many values as were asked for

@@ -1,5 +1,5 @@
 -- Rules: how large a body is, how bytes are padded, and what makes values the bodies of slots.
-use Rattle.std.specs.Prelude.{◌≡◌, ℕ, ◌-◌, List, ◌++◌, length, replicate, Option, Some}
+use Rattle.std.specs.Prelude.{ℕ, ◌++◌, ◌-◌, ◌≡◌, List, Option, Some, length, replicate}
 use Rattle.taxi_units.specs.Bytes.{AreBytes}
 
 -- a body has 511 bytes

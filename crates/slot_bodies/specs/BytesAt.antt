@@ -1,6 +1,5 @@
 -- For proofs: numbers that are read at places of a body's bytes, the greatest byte first. A place counts from 0.
-use Rattle.std.specs.Prelude.{ℕ, ◌+◌, ◌*◌, ◌^◌, List, take, drop, get_or}
-use Rattle.std.specs.Int.{w16, w32, w64, from_be_bytes}
+use Rattle.std.specs.{Int.{from_be_bytes, w16, w32, w64}, Prelude.{ℕ, ◌*◌, ◌+◌, ◌^◌, List, drop, get_or, take}}
 
 -- the byte at a place
 abbrev pub byte_at : List ℕ → ℕ → ℕ

@@ -1,17 +1,14 @@
 -- For proofs: tables of bytes as values that are made of parts. What is spelled is read again, and the laws of a table
 -- follow from those of its parts. A place counts from 0, and numbers have their greatest byte first.
-use Rattle.std.specs.Prelude.{◌≡◌, ℕ, zero, suc, ◌+◌, ◌-◌, ◌*◌, ◌/◌, ◌%◌, ◌^◌, ◌<◌, ◌≤◌, ◌==◌, if◌then◌else◌, ⊤}
-use Rattle.std.specs.Prelude.{List, [], ◌∷◌, ◌++◌, length, get_or, take, drop, replicate, flat_map, All}
-use Rattle.std.specs.Prelude.{Option, Some, None, IfSome}
-use Rattle.std.specs.Int.{w16, w32, w64, from_be_bytes, to_be_bytes}
-use Rattle.std.proofs.Common.{refl, sym, ap, subst, ◌∙◌, append_assoc, length-append, add-sub_of_le, pow_pos}
-use Rattle.std.proofs.Math.Seq.{take-append_seam, drop-append_seam, get_or-append_seam}
-use Rattle.std.proofs.lemmas.List.{length-replicate}
-use Rattle.std.proofs.lemmas.List.Elements.{All-head, All-tail}
-use Rattle.std.proofs.lemmas.Nat.{from_be_bytes-to_be_bytes_2, from_be_bytes-to_be_bytes_4, from_be_bytes-to_be_bytes_8}
-use Rattle.std.proofs.lemmas.Nat.{div_below, mod_below, shr_split}
+use Rattle.std.{specs.Int.{from_be_bytes, to_be_bytes, w16, w32, w64}, proofs.lemmas.List.Elements.{All-head, All-tail}}
+use Rattle.std.specs.Prelude.{[], ℕ, ⊤, ◌%◌, ◌*◌, ◌++◌, ◌+◌, ◌-◌, ◌/◌, ◌<◌, ◌==◌, ◌^◌, ◌∷◌, ◌≡◌, ◌≤◌, All, IfSome, List}
+use Rattle.std.specs.Prelude.{None, Option, Some, drop, flat_map, get_or, if◌then◌else◌, length, replicate, suc, take}
+use Rattle.std.{specs.Prelude.{zero}, proofs.lemmas.Nat.{from_be_bytes-to_be_bytes_8, mod_below, shr_split}}
+use Rattle.std.proofs.Common.{◌∙◌, add-sub_of_le, ap, append_assoc, length-append, pow_pos, refl, subst, sym}
+use Rattle.std.proofs.Math.Seq.{drop-append_seam, get_or-append_seam, take-append_seam}
+use Rattle.{std.proofs.lemmas.List.{length-replicate}, slot_bodies.specs.BytesAt.{byte_at, eight_at, four_at, two_at}}
+use Rattle.std.proofs.lemmas.Nat.{div_below, from_be_bytes-to_be_bytes_2, from_be_bytes-to_be_bytes_4}
 use Rattle.slot_bodies.specs.Bodies.{padded}
-use Rattle.slot_bodies.specs.BytesAt.{byte_at, two_at, four_at, eight_at}
 
 -- a codec has the size of a value in bytes, the bytes of each value, the value that is read from a place on, and which
 -- values fit; a value that fits has that size, and is read again wherever its bytes stand

@@ -1,6 +1,5 @@
 -- For proofs: bytes that are read as a value if it is in its ranges and they are its own.
-use Rattle.std.specs.Prelude.{ℕ, ◌&&◌, if◌then◌else◌, List, Option, Some, None}
-use Rattle.std.specs.Str.{bytes_eq}
+use Rattle.std.specs.{Prelude.{ℕ, ◌&&◌, List, None, Option, Some, if◌then◌else◌}, Str.{bytes_eq}}
 use Rattle.taxi_units.specs.Test.{Test}
 
 -- bytes are read as the value that stands in them if it passes the test of its ranges and spells the same bytes

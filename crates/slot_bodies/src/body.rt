@@ -1,5 +1,5 @@
 //! What a slot holds.
-ghost use Rattle.std.specs.Prelude.{◌≡◌, ℕ, List, Option};
+ghost use Rattle.std.specs.Prelude.{ℕ, ◌≡◌, List, Option};
 ghost use Rattle.slot_bodies.specs.Bodies.{AreBodies};
 
 /// How many bytes a body has.

@@ -1,7 +1,6 @@
 //! The bytes of a body, one field after another. Numbers have their greatest byte first.
-ghost use Rattle.std.specs.Prelude.{◌≡◌, ◌++◌, ◌+◌, ◌≤◌, length, replicate};
-ghost use Rattle.arrayvec.specs.ArrayVec.{array_vec_len};
-ghost use Rattle.slot_bodies.specs.BytesAt.{two_at, four_at, eight_at};
+ghost use Rattle.std.specs.Prelude.{◌++◌, ◌+◌, ◌≡◌, ◌≤◌, length, replicate};
+ghost use Rattle.{arrayvec.specs.ArrayVec.{array_vec_len}, slot_bodies.specs.BytesAt.{eight_at, four_at, two_at}};
 ghost use Rattle.slot_bodies.specs.Bodies.{body_size};
 
 use crate::body::BODY_SIZE;

@@ -1,25 +1,18 @@
 -- The laws that the public empty functions state.
-use Rattle.std.proofs.Common.{◌≡◌, inl, inr, ◌↔◌, ℕ, ◌+◌, ◌*◌, ◌≤◌, List, Option, Some, None, Result, Ok, length, take}
-use Rattle.std.proofs.Common.{drop, zero, suc, refl, arith, get_or, replicate, length-take, length-drop}
-use Rattle.outside.specs.declared.board.Board.{Ghosts}
-use Rattle.taxi_units.specs.Bytes.{AreBytes}
-use Rattle.outside.specs.Disk.{SameBut}
-use Rattle.outside.proofs.Laws.{slice_bytes}
-use Rattle.slot_store.specs.declared.pair.Pair.{Pair}
-use Rattle.slot_store.specs.declared.pair.Place.{Place}
-use Rattle.slot_store.specs.declared.found.Found.{Found}
-use Rattle.slot_store.specs.declared.found.Found.TheVariants.{Latest}
-use Rattle.slot_store.specs.declared.found.SlotFault.{SlotFault}
-use Rattle.slot_store.specs.Slots.{IsQuiet, IsSamePair, IsBlank, IsOpen, IsAt, IsSettled, FliesNoMore, StandsFor, Shows}
-use Rattle.slot_store.specs.Scan.{found_at, IsAnswer}
-use Rattle.slot_store.specs.Stages.{spare_at, IsPair, IsReady, IsReadyAt}
-use Rattle.slot_store.specs.Writes.{IsApart, OrWithin, LeavesThroughout, WritesIn}
-pub use Rattle.slot_store.proofs.Causes.{fewer_steps, steps_then}
-use Rattle.slot_store.proofs.Findings as findings
+use Rattle.std.proofs.Common.{ℕ, ◌*◌, ◌+◌, ◌↔◌, ◌≡◌, ◌≤◌, List, None, Ok, Option, Result, Some, arith, drop, get_or}
+use Rattle.std.proofs.Common.{inl, inr, length, length-drop, length-take, refl, replicate, suc, take, zero}
+use Rattle.{taxi_units.specs.Bytes.{AreBytes}, outside.proofs.Laws.{slice_bytes}}
+use Rattle.slot_store.specs.{Common.{Ghosts, Pair, Place, SameBut}, declared.found.SlotFault.{SlotFault}}
+use Rattle.slot_store.specs.Scan.{IsAnswer, found_at}
+use Rattle.slot_store.specs.Slots.{FliesNoMore, IsAt, IsBlank, IsOpen, IsQuiet, IsSamePair, IsSettled, Shows, StandsFor}
+use Rattle.slot_store.specs.{Stages.{IsPair, IsReady, IsReadyAt, spare_at}, declared.found.Found.TheVariants.{Latest}}
+use Rattle.slot_store.specs.{Writes.{IsApart, LeavesThroughout, OrWithin, WritesIn}, declared.found.Found.{Found}}
+use Rattle.slot_store.proofs.ScanAnswers as findings
 use Rattle.slot_store.proofs.Moments as moments
+use Rattle.slot_store.proofs.Untouched as untouched
+pub use Rattle.slot_store.proofs.Causes.{fewer_steps, steps_then}
 pub use Rattle.slot_store.proofs.Moments.{in_part_as, run_on, writes_in_part, writes_on}
 pub use Rattle.slot_store.proofs.Synced.{from_sync_as, goes_on, held_on, settled_already}
-use Rattle.slot_store.proofs.Untouched as untouched
 
 module _ {T : Type 0} (reads : List ℕ → Option T) (number_of : T → ℕ) where
   -- the answer is the one that the image calls for

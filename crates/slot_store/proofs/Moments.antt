@@ -1,12 +1,8 @@
 -- What calls leave at each moment.
-use Rattle.std.proofs.Common.{◌≡◌, ℕ, ◌+◌, ◌≤◌, List, inl, inr, ⊎_elim, ◌∙◌, refl, subst, arith}
-use Rattle.outside.specs.declared.board.Board.{Ghosts}
-use Rattle.outside.specs.Disk.{Elapses, IsWithin, SameBut, MayLeave}
-use Rattle.outside.specs.Runs.{LeavesNow, LeavesOnly}
-use Rattle.outside.proofs.Laws.{leaves_none, leaves_then, leaves_wider}
-use Rattle.slot_store.specs.declared.pair.Pair.{Pair}
-use Rattle.slot_store.specs.Stages.{spare_at, WritesOfSpare}
-use Rattle.slot_store.specs.Writes.{OrWithin, LeavesThroughout, WritesIn}
+use Rattle.std.proofs.Common.{ℕ, ◌+◌, ◌∙◌, ◌≡◌, ◌≤◌, List, arith, inl, inr, refl, subst, ⊎_elim}
+use Rattle.outside.{specs.{Disk.{Elapses}, Runs.{LeavesNow}}, proofs.Laws.{leaves_none, leaves_then, leaves_wider}}
+use Rattle.slot_store.specs.Common.{Ghosts, IsWithin, LeavesOnly, MayLeave, Pair, SameBut}
+use Rattle.slot_store.specs.{Stages.{WritesOfSpare, spare_at}, Writes.{LeavesThroughout, OrWithin, WritesIn}}
 
 -- what lies in a part lies in the whole
 pub in_whole : (in_flight : ℕ → Type 0) (part count start size : ℕ) (old new : List ℕ) → start ≤ part → part + count

@@ -1,10 +1,8 @@
 -- What a call leaves from its opening sync on.
-use Rattle.std.proofs.Common.{◌≡◌, inl, inr, ⊎_elim, ℕ, List, length, get_or, ap, ◌∙◌, arith}
-use Rattle.std.proofs.lemmas.List.{ext_get_or}
-use Rattle.outside.specs.declared.board.Board.{Ghosts}
-use Rattle.outside.specs.Disk.{Elapses, MayLeave, SameBut}
-use Rattle.outside.specs.Runs.{IsAtRest, LeavesNow, LeavesOnly}
-use Rattle.outside.proofs.Laws.{leaves_then, leaves_wider}
+use Rattle.std.proofs.Common.{ℕ, ◌∙◌, ◌≡◌, List, ap, arith, get_or, inl, inr, length, ⊎_elim}
+use Rattle.{std.proofs.lemmas.List.{ext_get_or}, outside.proofs.Laws.{leaves_then, leaves_wider}}
+use Rattle.outside.specs.{Disk.{Elapses}, Runs.{LeavesNow}}
+use Rattle.slot_store.specs.Common.{Ghosts, IsAtRest, LeavesOnly, MayLeave, SameBut}
 use Rattle.slot_store.specs.Syncs.{IsAsHeld, IsSynced, LeavesFromSync, ReadsOnly, SyncsFirst}
 
 -- images that are the same but at the places in flight are the same if there are none

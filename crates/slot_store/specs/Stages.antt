@@ -1,12 +1,8 @@
 -- Rules: the three stages in which a pair of slots gets a new body.
-use Rattle.std.specs.Prelude.{◌≡◌, ℕ, ◌-◌, ◌<◌, ◌≤◌, Bool, false, List, Option, Some, None, is_some}
-use Rattle.outside.specs.declared.board.Board.{Ghosts}
-use Rattle.slot_bodies.specs.declared.body.Body.{Ghosts as BodyGhosts}
-use Rattle.slot_store.specs.declared.pair.Pair.{Pair}
-use Rattle.slot_store.specs.declared.pair.Place.{Place}
-use Rattle.slot_store.specs.Sizes.{slot_size, last_pair}
-use Rattle.slot_store.specs.Slots.{slot_at, HasBody, IsBlank, IsClosed, IsOpen, IsQuiet, IsSettled, Shows, ShowsEither}
-use Rattle.slot_store.specs.Writes.{LeavesThroughout, WritesIn}
+use Rattle.std.specs.Prelude.{ℕ, ◌-◌, ◌<◌, ◌≡◌, ◌≤◌, Bool, List, None, Option, Some, false, is_some}
+use Rattle.{slot_bodies.specs.declared.body.Body.{Ghosts as BodyGhosts}, slot_store.specs.Common.{Ghosts, Pair, Place}}
+use Rattle.slot_store.specs.{Sizes.{last_pair, slot_size}, Writes.{LeavesThroughout, WritesIn}}
+use Rattle.slot_store.specs.Slots.{HasBody, IsBlank, IsClosed, IsOpen, IsQuiet, IsSettled, Shows, ShowsEither, slot_at}
 
 -- the kept slot is the one with the latest body, or slot 1 of a blank pair
 abbrev pub kept_slot : Option Place → ℕ

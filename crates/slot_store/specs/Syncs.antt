@@ -1,8 +1,6 @@
 -- Rules: what a call leaves of a board that it syncs before anything else.
-use Rattle.std.specs.Prelude.{◌≡◌, ◌⊎◌, ℕ, List}
-use Rattle.outside.specs.declared.board.Board.{Ghosts}
-use Rattle.outside.specs.Disk.{MayLeave, SameBut}
-use Rattle.outside.specs.Runs.{IsAtRest, LeavesOnly}
+use Rattle.std.specs.Prelude.{ℕ, ◌≡◌, ◌⊎◌, List}
+use Rattle.slot_store.specs.Common.{Ghosts, IsAtRest, LeavesOnly, MayLeave, SameBut}
 
 module _ {D L : Type 0} {N : ℕ} (B : Ghosts D N L) where
   -- a run only reads if bytes changed at most where some were in flight, no more is in flight, nothing was printed,

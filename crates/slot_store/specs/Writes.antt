@@ -1,9 +1,6 @@
 -- Rules: what writes of a part of the store leave of a board. A part is `count` places from `start` on.
-use Rattle.std.specs.Prelude.{◌≡◌, ◌⊎◌, ℕ, ◌+◌, ◌≤◌, List}
-use Rattle.outside.specs.declared.board.Board.{Ghosts}
-use Rattle.outside.specs.Disk.{IsWithin, SameBut, MayLeave}
-use Rattle.outside.specs.Runs.{LeavesOnly}
-use Rattle.slot_store.specs.Sizes.{pair_size}
+use Rattle.std.specs.Prelude.{ℕ, ◌+◌, ◌≡◌, ◌≤◌, ◌⊎◌, List}
+use Rattle.slot_store.specs.{Common.{Ghosts, IsWithin, LeavesOnly, MayLeave, SameBut}, Sizes.{pair_size}}
 
 -- a place is among some places or within a piece if it is one of those places, or one of the `count` places from
 -- `at` on

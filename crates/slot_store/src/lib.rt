@@ -2,7 +2,6 @@
 //! for, and a new body is written in three stages, each one write and its sync. All of it is this project's own.
 #![tactic(auto)]
 
-mod durable;
 mod found;
 mod pair;
 mod pair_laws;
@@ -12,9 +11,9 @@ mod scanning;
 mod shut;
 mod storing;
 mod sync_laws;
+mod synced_write;
 mod written;
 
-pub use durable::write_and_sync;
 pub use found::{Found, SlotFault};
 pub use pair::{Pair, Place};
 pub use pair_laws::{
@@ -30,4 +29,5 @@ pub use sync_laws::{
     Failing, a_call_goes_on_behind_its_sync, a_settled_board_is_synced_already,
     a_synced_board_is_left_as_held,
 };
+pub use synced_write::write_and_sync;
 pub use written::Written;

@@ -1,18 +1,11 @@
 //! What the answers of a scan mean, and what stays of a pair, in words that share nothing with how the code finds it.
-ghost use Rattle.std.specs.Prelude.{◌≡◌, ◌↔◌, ℕ, ◌+◌, ◌≤◌, List, length, Option, Some, Result, Ok};
-ghost use Rattle.taxi_units.specs.Bytes.{AreBytes};
-ghost use Rattle.outside.specs.Disk.{SameBut};
-ghost use Rattle.slot_store.specs.declared.pair.Pair.{Pair};
-ghost use Rattle.slot_store.specs.declared.pair.Place.{Place};
-ghost use Rattle.slot_store.specs.declared.found.Found.{Found};
-ghost use Rattle.slot_store.specs.declared.found.Found.TheVariants.{Latest};
-ghost use Rattle.slot_store.specs.declared.found.SlotFault.{SlotFault};
-ghost use Rattle.slot_store.specs.Sizes.{slot_size, pair_size};
-ghost use Rattle.slot_store.specs.Slots.{bytes_behind, FliesNoMore, IsAt, IsBlank, IsOpen, IsQuiet, IsSamePair};
-ghost use Rattle.slot_store.specs.Slots.{Shows, ShowsEither, StandsFor};
-ghost use Rattle.slot_store.specs.Scan.{found_at, IsAnswer};
-ghost use Rattle.slot_store.specs.Stages.{spare_at, IsPair, IsReadyOn, IsSettledOn};
-ghost use Rattle.slot_store.specs.Writes.{IsApart, OrWithin, LeavesThroughout, WritesIn};
+ghost use Rattle.std.specs.Prelude.{ℕ, ◌+◌, ◌↔◌, ◌≡◌, ◌≤◌, List, Ok, Option, Result, Some, length};
+ghost use Rattle.{taxi_units.specs.Bytes.{AreBytes}, slot_store.specs.Slots.{StandsFor, bytes_behind}};
+ghost use Rattle.slot_store.specs.{Common.{Pair, Place, SameBut}, Stages.{IsPair, IsReadyOn, IsSettledOn, spare_at}};
+ghost use Rattle.slot_store.specs.{Scan.{IsAnswer, found_at}, Writes.{IsApart, LeavesThroughout, OrWithin, WritesIn}};
+ghost use Rattle.slot_store.specs.Sizes.{pair_size, slot_size};
+ghost use Rattle.slot_store.specs.Slots.{FliesNoMore, IsAt, IsBlank, IsOpen, IsQuiet, IsSamePair, Shows, ShowsEither};
+ghost use Rattle.slot_store.specs.declared.found.{Found.{Found, TheVariants.{Latest}}, SlotFault.{SlotFault}};
 
 use outside::Board;
 use slot_bodies::Body;

@@ -1,7 +1,6 @@
 //! Laws of runs that write a part of the store.
 ghost use Rattle.std.specs.Prelude.{ℕ, ◌+◌, ◌≤◌, List};
-ghost use Rattle.outside.specs.Disk.{SameBut};
-ghost use Rattle.slot_store.specs.Writes.{OrWithin, LeavesThroughout, WritesIn};
+ghost use Rattle.slot_store.specs.{Common.{SameBut}, Writes.{LeavesThroughout, OrWithin, WritesIn}};
 
 use outside::Board;
 use std::sync::ledger::Ledger;

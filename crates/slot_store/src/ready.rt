@@ -1,13 +1,10 @@
 //! The first stage: the slot that is written next is shut.
-ghost use Rattle.std.specs.Prelude.{◌≡◌, ◌+◌, ◌≤◌, true, false, get_or, Option, Some, None, IfOk, OnOk, IsOk};
-ghost use Rattle.outside.specs.Faults.{HasCause};
-ghost use Rattle.slot_store.specs.declared.pair.Pair.{Pair};
-ghost use Rattle.slot_store.specs.Sizes.{last_pair};
-ghost use Rattle.slot_store.specs.Stages.{is_spare_open, spare_at, IsPair, IsReadyOn};
-ghost use Rattle.slot_store.specs.Stages.{LeavesLatest, Shuts, WritesOfSpare};
+ghost use Rattle.std.specs.Prelude.{◌+◌, ◌≡◌, ◌≤◌, IfOk, IsOk, None, OnOk, Option, Some, false, get_or, true};
+ghost use Rattle.slot_store.specs.{Common.{HasCause, Pair}, Sizes.{last_pair}, Stages.{spare_at}};
+ghost use Rattle.slot_store.specs.Stages.{IsPair, IsReadyOn, LeavesLatest, Shuts, WritesOfSpare, is_spare_open};
 
-use crate::durable::write_and_sync;
 use crate::pair::CLOSED;
+use crate::synced_write::write_and_sync;
 use crate::{Pair, Place, Shut};
 use outside::{Board, Failed, STORE_SIZE};
 use slot_bodies::Body;

@@ -1,10 +1,8 @@
 //! What a pair of slots stands for.
-ghost use Rattle.std.specs.Prelude.{◌≡◌, ◌+◌, ◌≤◌, IfOk, OnOk, IsErr, IsErrOf};
-ghost use Rattle.outside.specs.Faults.{HasCause, RisesOnlyIf};
-ghost use Rattle.slot_store.specs.Scan.{found_at, IsAsFound, IsValidFinding};
-ghost use Rattle.slot_store.specs.Sizes.{last_pair};
-ghost use Rattle.slot_store.specs.Syncs.{ReadsOnly, SyncsFirst};
-ghost use Rattle.slot_store.specs.Verdicts.{content_of, verdict_on, AreOfSlots};
+ghost use Rattle.std.specs.Prelude.{◌+◌, ◌≡◌, ◌≤◌, IfOk, IsErr, IsErrOf, OnOk};
+ghost use Rattle.{outside.specs.Faults.{RisesOnlyIf}, slot_store.specs.Verdicts.{AreOfSlots, content_of, verdict_on}};
+ghost use Rattle.slot_store.specs.{Common.{HasCause}, Sizes.{last_pair}};
+ghost use Rattle.slot_store.specs.{Scan.{IsAsFound, IsValidFinding, found_at}, Syncs.{ReadsOnly, SyncsFirst}};
 
 use crate::found::SlotContent;
 use crate::pair::{OPEN, SLOT_SIZE};

@@ -1,13 +1,10 @@
 //! The second stage: the body is written behind the shut gate.
-ghost use Rattle.std.specs.Prelude.{◌≡◌, ◌+◌, ◌≤◌, Option, IfOk, OnOk};
-ghost use Rattle.outside.specs.Faults.{HasCause};
-ghost use Rattle.slot_store.specs.declared.pair.Pair.{Pair};
-ghost use Rattle.slot_bodies.specs.Bodies.{body_size};
+ghost use Rattle.std.specs.Prelude.{◌+◌, ◌≡◌, ◌≤◌, IfOk, OnOk, Option};
+ghost use Rattle.{slot_bodies.specs.Bodies.{body_size}, slot_store.specs.{Common.{HasCause, Pair}, Stages.{spare_at}}};
 ghost use Rattle.slot_store.specs.Slots.{bytes_behind};
-ghost use Rattle.slot_store.specs.Stages.{spare_at, IsPair, IsShutOn};
-ghost use Rattle.slot_store.specs.Stages.{LeavesLatest, MayWrite, WritesBody, WritesOfSpare};
+ghost use Rattle.slot_store.specs.Stages.{IsPair, IsShutOn, LeavesLatest, MayWrite, WritesBody, WritesOfSpare};
 
-use crate::durable::write_and_sync;
+use crate::synced_write::write_and_sync;
 use crate::{Pair, Written};
 use outside::{Board, Failed, STORE_SIZE};
 use slot_bodies::{BODY_SIZE, Body};

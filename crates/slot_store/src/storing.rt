@@ -1,9 +1,7 @@
 //! The three stages in a row.
-ghost use Rattle.std.specs.Prelude.{◌≡◌, ◌+◌, ◌≤◌, false, Option, IfOk};
-ghost use Rattle.outside.specs.Faults.{HasCause};
-ghost use Rattle.slot_store.specs.Sizes.{slot_size};
-ghost use Rattle.slot_store.specs.Stages.{spare_at, is_spare_open, new_place, IsSettledOn, LeavesLatestOrNew, MayGet};
-ghost use Rattle.slot_store.specs.Writes.{WritesIn};
+ghost use Rattle.std.specs.Prelude.{◌+◌, ◌≡◌, ◌≤◌, IfOk, Option, false};
+ghost use Rattle.slot_store.specs.{Common.{HasCause}, Sizes.{slot_size}, Writes.{WritesIn}};
+ghost use Rattle.slot_store.specs.Stages.{IsSettledOn, LeavesLatestOrNew, MayGet, is_spare_open, new_place, spare_at};
 
 use crate::{Place, Ready};
 use outside::{Board, Failed, STORE_SIZE};

@@ -1,8 +1,6 @@
 //! Laws of a call that syncs before anything else.
-ghost use Rattle.std.specs.Prelude.{List, ℕ};
-ghost use Rattle.outside.specs.Disk.{MayLeave};
-ghost use Rattle.outside.specs.Runs.{IsAtRest, LeavesOnly};
-ghost use Rattle.slot_store.specs.Syncs.{IsAsHeld, IsSynced, LeavesFromSync};
+ghost use Rattle.{std.specs.Prelude.{ℕ, List}, slot_store.specs.Syncs.{IsAsHeld, IsSynced, LeavesFromSync}};
+ghost use Rattle.slot_store.specs.Common.{IsAtRest, LeavesOnly, MayLeave};
 
 use outside::{Board, Kind};
 use std::sync::ledger::Ledger;

@@ -1,12 +1,10 @@
 //! The third stage: the gate is opened.
-ghost use Rattle.std.specs.Prelude.{◌≡◌, ◌+◌, ◌≤◌, Option, IfOk, OnOk};
-ghost use Rattle.outside.specs.Faults.{HasCause};
-ghost use Rattle.slot_store.specs.declared.pair.Pair.{Pair};
-ghost use Rattle.slot_store.specs.Stages.{spare_at, new_place, IsPair, IsWrittenOn};
-ghost use Rattle.slot_store.specs.Stages.{LeavesLatestOrNew, OpensAt, WritesOfSpare};
+ghost use Rattle.std.specs.Prelude.{◌+◌, ◌≡◌, ◌≤◌, IfOk, OnOk, Option};
+ghost use Rattle.slot_store.specs.{Common.{HasCause, Pair}, Stages.{spare_at}};
+ghost use Rattle.slot_store.specs.Stages.{IsPair, IsWrittenOn, LeavesLatestOrNew, OpensAt, WritesOfSpare, new_place};
 
-use crate::durable::write_and_sync;
 use crate::pair::OPEN;
+use crate::synced_write::write_and_sync;
 use crate::{Pair, Place};
 use outside::{Board, Failed, STORE_SIZE};
 use slot_bodies::Body;

@@ -1,50 +1,28 @@
 -- The command `seal`: what it leaves of the store.
-use Rattle.std.proofs.Common.{◌≡◌, ◌≢◌, ◌⊎◌, ⊎_elim, inl, inr, ℕ, ◌<◌, ◌≤◌, List, [], Option, None, Some, Result, Ok}
-use Rattle.std.proofs.Common.{Err, refl, sym, ap, subst, ◌∙◌, get_or, arith}
-use Rattle.std.specs.Prelude.{◌==◌, if◌then◌else◌, is_some, Bool, true, false}
-use Rattle.std.proofs.lemmas.Bool.{cases_lt}
-use Rattle.std.proofs.lemmas.List.{ext_get_or}
-use Rattle.outside.specs.declared.board.Board.{Ghosts}
-use Rattle.outside.specs.Disk.{IsWithin, MayLeaveAmid, SameBut}
-use Rattle.outside.specs.Printing.{Begins}
-use Rattle.outside.specs.Runs.{IsAtRest as NothingFlies, KeepsStore, LeavesOnly, MayHold}
-use Rattle.outside.proofs.Laws.{leaves_wider}
-use Rattle.slot_store.specs.declared.found.Found.{Found}
-use Rattle.slot_store.specs.declared.found.Found.TheVariants.{Blank, Latest}
-use Rattle.slot_store.specs.declared.found.SlotFault.{SlotFault}
-use Rattle.slot_store.specs.declared.pair.Place.{Place}
-use Rattle.slot_store.specs.Scan.{IsAnswer, found_at}
-use Rattle.slot_store.specs.Slots.{IsSettled, StandsFor}
-use Rattle.slot_store.specs.Syncs.{IsAsHeld, LeavesFromSync}
-use Rattle.slot_store.specs.Writes.{LeavesBeside, WritesIn}
+use Rattle.std.{specs.Prelude.{◌==◌, Bool, false, if◌then◌else◌, is_some, true}, proofs.lemmas.List.{ext_get_or}}
+use Rattle.std.proofs.Common.{[], ℕ, ◌<◌, ◌∙◌, ◌≡◌, ◌≢◌, ◌≤◌, ◌⊎◌, Err, List, None, Ok, Option, Result, Some, ap, arith}
+use Rattle.std.proofs.{Common.{get_or, inl, inr, refl, subst, sym, ⊎_elim}, lemmas.Bool.{cases_lt}}
+use Rattle.outside.specs.{Disk.{IsWithin, MayLeaveAmid, SameBut}, Runs.{IsAtRest as NothingFlies}}
+use Rattle.{outside.proofs.Laws.{leaves_wider}, slot_store.specs.{Sizes.{pair_size}, Writes.{LeavesBeside, WritesIn}}}
+use Rattle.{slot_store.specs.{Scan.{IsAnswer}, Slots.{IsSettled, StandsFor}}, meter_store.specs.Sealing.{totals_found}}
 use Rattle.slot_store.proofs.Laws.{answer_is, at_stands, from_sync_as, goes_on, same_at, settled_already}
-use Rattle.totals_record.specs.declared.durable_state.Durable.{Durable}
+use Rattle.meter_store.specs.Sealing.{FoundSeal, HoldsSealing, IsAmid, IsSealed, LeavesSealing, ScannedSeal, ShowsSeal}
+use Rattle.meter_store.specs.Sealing.{StillHas, first_written, places_written, seal_found, sealed_totals, seals_at}
+use Rattle.{meter_store.proofs.Laws.{seal_is_found}, call_ends.proofs.Laws.{board_or_not, no_fault}}
+use Rattle.{call_ends.specs.Call.{IsEnd}, store_commands.specs.Common.{next_number, old_seal, sealed_line, status_of}}
+use Rattle.store_commands.specs.Common.{Base, Begins, Blank, Durable, Ended, Found, Ghosts, IsAsHeld, KeepsStore}
+use Rattle.store_commands.specs.Common.{Latest, LeavesFromSync, LeavesOnly, MayHold, Opening, Place, Seal, Sealing}
+use Rattle.store_commands.specs.Common.{SlotFault, StoreFault, found_at, found_number, last_seal_number, line_of}
+use Rattle.store_commands.{specs.Opening.{opening_by, opening_in}, proofs.Sealings.{sealing-made, sealing-over}}
+use Rattle.store_commands.specs.Seal.{HasSealed, MayLeaveSealing, Seals, ShowsByteOf, TotalsStay, over_seal}
+use Rattle.store_commands.specs.Seal.{over_totals, seal_read, sealing_of, sealing_over, sealing_with}
+use Rattle.store_commands.specs.SealSteps.{IsNoSeal, RestsAmid}
+use Rattle.store_commands.proofs.SealLines.{no_memory_other, not_shown, other_line, read_fault_other}
 use Rattle.totals_record.specs.Reading as totals
 use Rattle.meter_store.specs.Stored as states
-use Rattle.seal_record.specs.declared.seal.Seal.{Seal}
 use Rattle.seal_record.specs.Decoding as seals
-use Rattle.seal_record.specs.Limits.{last_seal_number}
-use Rattle.meter_store.specs.Sealing.{FoundSeal, IsAmid, IsSealed, HoldsSealing, StillHas, LeavesSealing, ScannedSeal}
-use Rattle.meter_store.specs.Sealing.{Sealing, ShowsSeal, first_written, found_number, next_number, old_seal}
-use Rattle.meter_store.specs.Sealing.{places_written, seal_found, seals_at, sealed_totals, totals_found}
-use Rattle.slot_store.specs.Sizes.{pair_size}
-use Rattle.meter_store.proofs.Laws.{seal_is_found}
-use Rattle.call_ends.specs.declared.ending.Ended.{Ended}
 use Rattle.call_ends.specs.declared.ending.Ended.TheVariants as ended
-use Rattle.store_commands.specs.declared.opening.Opening.{Opening}
-use Rattle.store_commands.specs.declared.opening.StoreFault.{StoreFault}
 use Rattle.store_commands.specs.declared.opening.StoreFault.TheVariants as stores
-use Rattle.store_commands.specs.declared.seal.Base.{Base}
-use Rattle.call_ends.specs.Call.{IsEnd}
-use Rattle.call_ends.specs.LastLine.{line_of, sealed_line, status_of}
-use Rattle.store_commands.specs.Opening.{opening_by, opening_in}
-use Rattle.store_commands.specs.Seal.{HasSealed, MayLeaveSealing, Seals, ShowsByteOf, TotalsStay, over_seal}
-use Rattle.store_commands.specs.Seal.{over_totals, seal_read}
-use Rattle.store_commands.specs.Seal.{sealing_of, sealing_over, sealing_with}
-use Rattle.store_commands.specs.SealSteps.{IsNoSeal, RestsAmid}
-use Rattle.call_ends.proofs.Laws.{no_fault, board_or_not}
-use Rattle.store_commands.proofs.SealLines.{no_memory_other, not_shown, other_line, read_fault_other}
-use Rattle.store_commands.proofs.Sealings.{sealing-made, sealing-over}
 
 -- ---- a cut may leave the opening image
 

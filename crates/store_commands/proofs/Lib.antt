@@ -1,17 +1,17 @@
 -- what the command `seal` leaves of the store, in the end and after a cut
 mod Amid
--- commands that end by the store, with a refusal or with a fault of the board before their answer
-mod Answering
 -- the ends by which a store bars a command, case by case
-mod Barring
+mod BarredEnds
+-- commands that end by the store, with a refusal or with a fault of the board before their answer
+mod EndsByStore
 -- the lemmas that the crates above cite
 pub mod Laws
 -- the lines of a list of offsets, printed one after the other, and the answers of the command `offsets`
-mod Listing
+mod OffsetLines
 -- the opening of the store, from its two scans, and what is known of it behind its answer
 mod Openings
 -- the replies to requests over a sealed store, and what is left of the store
-mod Porting
+mod PortReplies
 -- which faults of parameters, rules and books are those of a read
 mod ReadFaults
 -- what a cut leaves of calls that only look at the store
@@ -24,11 +24,11 @@ mod SealedLaws
 mod SealedTexts
 -- what the command `seal` answers
 mod Sealings
+-- the seal of a sealing is of its two texts, and what was sealed is sealed the same again
+mod SealsOfTexts
 -- the report of a book beside a sealed store
-mod Shifting
+mod ShiftReports
 -- commands that show a text of a sealed store, or end because the store bars them
 mod StoreTexts
 -- the files of two words that are read one behind the other
 mod Turns
--- the seal of a sealing is of its two texts, and what was sealed is sealed the same again
-mod SealsOfTexts

@@ -1,29 +1,17 @@
 -- The opening of the store, from its two scans.
-use Rattle.std.proofs.Common.{◌≡◌, ℕ, List, Option, Result, Ok, Err, refl, sym, ap, subst, ◌∙◌, Some}
-use Rattle.outside.specs.declared.board.Board.{Ghosts}
-use Rattle.outside.specs.Disk.{MayLeave}
-use Rattle.outside.specs.Runs.{IsAtRest, LeavesOnly}
-use Rattle.slot_store.specs.declared.found.Found.{Found}
-use Rattle.slot_store.specs.declared.found.Found.TheVariants.{Blank, Latest}
-use Rattle.slot_store.specs.declared.found.SlotFault.{SlotFault}
-use Rattle.slot_store.specs.declared.found.SlotFault.TheVariants as slots
-use Rattle.slot_store.specs.Scan.{found_at, IsAsFound}
-use Rattle.slot_store.specs.Slots.{IsAt, IsBlank}
-use Rattle.slot_store.specs.Syncs.{IsAsHeld, LeavesFromSync, ReadsOnly}
-use Rattle.slot_store.proofs.Laws.{from_sync_as, goes_on, held_on}
-use Rattle.totals_record.specs.declared.durable_state.Durable.{Durable}
-use Rattle.totals_record.specs.Reading as totals
-use Rattle.meter_store.specs.Stored as states
-use Rattle.seal_record.specs.declared.seal.Seal.{Seal}
-use Rattle.seal_record.specs.Decoding as seals
-use Rattle.call_ends.specs.declared.ending.Ended.{Ended}
-use Rattle.call_ends.specs.declared.ending.Ended.TheVariants as ended
-use Rattle.store_commands.specs.declared.opening.Opening.{Opening}
-use Rattle.store_commands.specs.declared.opening.StoreFault.TheVariants.{BoardFault}
+use Rattle.std.proofs.Common.{ℕ, ◌∙◌, ◌≡◌, Err, List, Ok, Option, Result, Some, ap, refl, subst, sym}
+use Rattle.{outside.specs.Disk.{MayLeave}, slot_store.proofs.Laws.{from_sync_as, goes_on, held_on}}
+use Rattle.{slot_store.specs.Slots.{IsAt, IsBlank}, call_ends.proofs.Laws.{no_fault, same_fault}}
+use Rattle.store_commands.specs.Common.{Blank, Durable, Ended, Found, Ghosts, IsAsFound, IsAsHeld, IsAtRest, Latest}
+use Rattle.store_commands.specs.Common.{LeavesFromSync, LeavesOnly, Opening, Place, ReadsOnly, Seal, SlotFault}
+use Rattle.store_commands.specs.{Common.{found_at}, declared.opening.StoreFault.TheVariants.{BoardFault}}
 use Rattle.store_commands.specs.Opened.{OnlyOpens}
 use Rattle.store_commands.specs.Opening.{fault_from, opening_by, opening_in, sealed_or, sealed_store, store_of}
-use Rattle.call_ends.proofs.Laws.{same_fault, no_fault}
-use Rattle.slot_store.specs.declared.pair.Place.{Place}
+use Rattle.slot_store.specs.declared.found.SlotFault.TheVariants as slots
+use Rattle.totals_record.specs.Reading as totals
+use Rattle.meter_store.specs.Stored as states
+use Rattle.seal_record.specs.Decoding as seals
+use Rattle.call_ends.specs.declared.ending.Ended.TheVariants as ended
 
 -- only the board's fault in a scan is one of the opening
 pub failed_from : (first : ℕ) (fault : SlotFault) → fault_from first fault ≡ BoardFault → fault ≡ slots.DeviceFailed

@@ -1,16 +1,12 @@
 -- Which faults of parameters, rules and books are those of a read.
-use Rattle.std.proofs.Common.{◌≡◌, refl, ◌≢◌}
-use Rattle.store_commands.specs.StoreEnds.{ended_for_report, ended_for_rules, ended_for_params}
-use Rattle.store_commands.specs.Shifts.{ended_for_book}
-use Rattle.store_commands.specs.declared.offsets.RulesFault.{RulesFault}
-use Rattle.store_commands.specs.declared.offsets.RulesFault.TheVariants as rules
-use Rattle.store_commands.specs.declared.shifts.ReportFault.{ReportFault}
-use Rattle.store_commands.specs.declared.shifts.ReportFault.TheVariants as reports
-use Rattle.shift_book.specs.declared.book.BookFault.{BookFault}
-use Rattle.shift_book.specs.declared.book.BookFault.TheVariants as books
-use Rattle.call_ends.specs.declared.ending.Ended.TheVariants.{ReadFault}
-use Rattle.call_ends.specs.declared.ending.Ended.TheVariants as ended
+use Rattle.std.proofs.Common.{◌≡◌, ◌≢◌, refl}
+use Rattle.store_commands.specs.{Common.{BookFault, ReadFault, ReportFault, RulesFault}, Shifts.{ended_for_book}}
+use Rattle.store_commands.specs.StoreEnds.{ended_for_params, ended_for_report, ended_for_rules}
 use Rattle.store_commands.specs.declared.params.ParamsFault.{ParamsFault}
+use Rattle.store_commands.specs.declared.offsets.RulesFault.TheVariants as rules
+use Rattle.store_commands.specs.declared.shifts.ReportFault.TheVariants as reports
+use Rattle.shift_book.specs.declared.book.BookFault.TheVariants as books
+use Rattle.call_ends.specs.declared.ending.Ended.TheVariants as ended
 use Rattle.store_commands.specs.declared.params.ParamsFault.TheVariants as params
 
 pub read_fault-rules : (fault : RulesFault) → ended_for_rules fault ≡ ReadFault → fault ≡ rules.ReadFault

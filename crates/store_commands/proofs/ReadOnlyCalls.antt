@@ -1,19 +1,11 @@
 -- Calls that only look at the store: what a cut leaves from their opening sync on.
-use Rattle.std.proofs.Common.{◌≡◌, ◌≢◌, ◌⊎◌, inl, inr, ℕ, List, [], sym, ap, subst, ◌∙◌}
-use Rattle.std.proofs.lemmas.List.{ext_get_or}
-use Rattle.outside.specs.declared.board.Board.{Ghosts}
-use Rattle.outside.specs.Runs.{IsAtRest, KeepsStore, LeavesNow, LeavesOnly, MayHold}
-use Rattle.outside.proofs.Laws.{leaves_kept, leaves_wider}
-use Rattle.slot_store.specs.Syncs.{IsAsHeld, LeavesFromSync}
-use Rattle.slot_store.proofs.Laws.{from_sync_as, goes_on}
-use Rattle.call_ends.specs.declared.ending.Ended.{Ended}
+use Rattle.std.proofs.{Common.{[], ℕ, ◌∙◌, ◌≡◌, ◌≢◌, ◌⊎◌, List, ap, inl, inr, subst, sym}, lemmas.List.{ext_get_or}}
+use Rattle.{outside.{specs.Runs.{LeavesNow}, proofs.Laws.{leaves_kept, leaves_wider}}, call_ends.specs.Call.{IsEnd}}
+use Rattle.{slot_store.proofs.Laws.{from_sync_as, goes_on}, store_commands.specs.Common.{MayHold, line_of, status_of}}
+use Rattle.{call_ends.specs.Ending.{LeavesImageSettled, LeavesStoreUnwritten}, store_commands.specs.Opened.{OnlyOpens}}
+use Rattle.call_ends.{specs.Unwritten.{LeavesImage}, proofs.Laws.{board_or_not, bytes-kept, bytes-read, bytes-then}}
+use Rattle.store_commands.specs.Common.{Ended, Ghosts, IsAsHeld, IsAtRest, KeepsStore, LeavesFromSync, LeavesOnly}
 use Rattle.call_ends.specs.declared.ending.Ended.TheVariants as ended
-use Rattle.call_ends.specs.Call.{IsEnd}
-use Rattle.call_ends.specs.Ending.{LeavesImageSettled, LeavesStoreUnwritten}
-use Rattle.store_commands.specs.Opened.{OnlyOpens}
-use Rattle.call_ends.specs.LastLine.{line_of, status_of}
-use Rattle.call_ends.specs.Unwritten.{LeavesImage}
-use Rattle.call_ends.proofs.Laws.{board_or_not, bytes-kept, bytes-read, bytes-then}
 
 module _ {D L : Type 0} {N : ℕ} (B : Ghosts D N L) where
   -- an image as it was, whatever the text is

@@ -1,10 +1,8 @@
 -- The line `SEALED n`: in which texts no byte of it stands.
-use Rattle.std.proofs.Common.{◌≡◌, ◌≢◌, ℕ, zero, suc, ◌<◌, List, [], ◌∷◌, take, get_or, refl, sym, ap, ◌∙◌, arith}
-use Rattle.std.proofs.lemmas.List.{append_cancel_left}
-use Rattle.outside.specs.Printing.{Begins}
-use Rattle.outside.proofs.Laws.{begins_not}
-use Rattle.call_ends.specs.LastLine.{no_memory_line, read_fault_line, sealed_line}
-use Rattle.store_commands.specs.Seal.{ShowsByteOf}
+use Rattle.std.proofs.Common.{[], ℕ, ◌<◌, ◌∙◌, ◌∷◌, ◌≡◌, ◌≢◌, List, ap, arith, get_or, refl, suc, sym, take, zero}
+use Rattle.{std.proofs.lemmas.List.{append_cancel_left}, outside.proofs.Laws.{begins_not}}
+use Rattle.{call_ends.specs.LastLine.{no_memory_line, read_fault_line}, store_commands.specs.Seal.{ShowsByteOf}}
+use Rattle.store_commands.specs.Common.{Begins, sealed_line}
 
 -- the line begins with an S
 first_byte : (count number : ℕ) → 0 < count → get_or (take count (sealed_line number)) 0 0 ≡ 83

@@ -1,22 +1,12 @@
 -- The text of what a store was sealed with is read as the parameters of its seal.
-use Rattle.std.proofs.Common.{◌≡◌, ℕ, ◌+◌, ◌*◌, ◌/◌, ◌%◌, ◌^◌, ◌<◌, ◌≤◌, List, [], ◌∷◌, ◌++◌, length, map, All, Ok, leb}
-use Rattle.std.proofs.Common.{refl, arith, length-append}
-use Rattle.std.specs.Prelude.{Bool, true, false, codes, if◌then◌else◌, nat_lt}
-use Rattle.std.specs.List.{list_all}
-use Rattle.std.specs.Fmt.{decimal}
-use Rattle.std.specs.Str.Parse.{AllDigits}
-use Rattle.std.proofs.lemmas.Fmt.{decimal_is_IsNumeral_wide}
-use Rattle.std.proofs.lemmas.List.Elements.{All-append, All-cons, All-nil}
-use Rattle.std.proofs.lemmas.Str.Parse.{digit_from_value}
-use Rattle.taxi_units.proofs.Laws.{numbers_are_short}
-use Rattle.receipt_text.specs.Receipts.{hex_digit, hex_text}
-use Rattle.seal_record.specs.declared.seal.Seal.{Seal}
-use Rattle.seal_record.specs.PlainText.{AreShown, comment_line, ended_text}
-use Rattle.seal_record.specs.Ranges.{IsSeal}
-use Rattle.seal_record.specs.Reading.{params_read}
-use Rattle.taxi_units.specs.Test.{at_most, each}
-use Rattle.seal_record.proofs.Laws.{comments_are_passed_over, comments_make_it_longer}
-use Rattle.call_ends.specs.LastLine.{numbered}
+use Rattle.std.{specs.Fmt.{decimal}, proofs.lemmas.{Fmt.{decimal_is_IsNumeral_wide}, Str.Parse.{digit_from_value}}}
+use Rattle.std.specs.{List.{list_all}, Prelude.{Bool, codes, false, if◌then◌else◌, nat_lt, true}, Str.Parse.{AllDigits}}
+use Rattle.std.proofs.Common.{[], ℕ, ◌%◌, ◌*◌, ◌++◌, ◌+◌, ◌/◌, ◌<◌, ◌^◌, ◌∷◌, ◌≡◌, ◌≤◌, All, List, Ok, arith, leb}
+use Rattle.std.proofs.{Common.{length, length-append, map, refl}, lemmas.List.Elements.{All-append, All-cons, All-nil}}
+use Rattle.taxi_units.{specs.Test.{at_most, each}, proofs.Laws.{numbers_are_short}}
+use Rattle.{seal_record.specs.PlainText.{AreShown}, receipt_text.specs.Receipts.{hex_digit, hex_text}}
+use Rattle.seal_record.{specs.Reading.{params_read}, proofs.Laws.{comments_are_passed_over, comments_make_it_longer}}
+use Rattle.{call_ends.specs.LastLine.{numbered}, store_commands.specs.Common.{IsSeal, Seal, comment_line, ended_text}}
 use Rattle.store_commands.specs.SealedText.{seal_comments, sealed_text}
 
 abbrev IsShown : ℕ → Type 0

@@ -1,19 +1,12 @@
 -- The text of what a store was sealed with, part by part.
-use Rattle.std.proofs.Common.{◌≡◌, ℕ, ℤ, pos, negsuc, List, [], ◌∷◌, ◌++◌, map, refl, sym, ap, subst, ◌∙◌, append_assoc}
-use Rattle.std.proofs.lemmas.Grind.{flat_map-append}
-use Rattle.std.proofs.lemmas.List.{append-nil}
-use Rattle.std.specs.Prelude.{codes}
-use Rattle.std.specs.Fmt.{decimal}
-use Rattle.outside.specs.Printing.{Begins}
-use Rattle.outside.proofs.Laws.{begins_after, begins_more}
-use Rattle.offset_rules.specs.Texts as rules
-use Rattle.offset_rules.specs.Texts.{offset_lines}
-use Rattle.seal_record.specs.declared.seal.Seal.{Seal}
-use Rattle.seal_record.specs.PlainText.{comment_line, ended_text, offset_line, offset_text, secured_line}
-use Rattle.seal_record.specs.PlainText.{settings_lines}
-use Rattle.receipt_text.specs.Receipts.{day_text, hex_text}
-use Rattle.call_ends.specs.NumberLine.{number_line}
+use Rattle.std.{specs.{Fmt.{decimal}, Prelude.{codes}}, proofs.lemmas.{Grind.{flat_map-append}, List.{append-nil}}}
+use Rattle.std.proofs.Common.{[], ℕ, ℤ, ◌++◌, ◌∙◌, ◌∷◌, ◌≡◌, List, ap, append_assoc, map, negsuc, pos, refl, subst, sym}
+use Rattle.{outside.proofs.Laws.{begins_after, begins_more}, offset_rules.specs.Texts.{offset_lines}}
+use Rattle.seal_record.specs.PlainText.{offset_line, offset_text, secured_line, settings_lines}
+use Rattle.{receipt_text.specs.Receipts.{day_text, hex_text}, call_ends.specs.NumberLine.{number_line}}
+use Rattle.store_commands.specs.Common.{Begins, Seal, comment_line, ended_text}
 use Rattle.store_commands.specs.SealedText.{seal_comments, sealed_text}
+use Rattle.offset_rules.specs.Texts as rules
 
 abbrev end : List ℕ → List ℕ
 end line = line ++ 10 ∷ []

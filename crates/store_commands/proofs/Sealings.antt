@@ -1,33 +1,17 @@
 -- The command `seal`: what it answers.
-use Rattle.std.proofs.Common.{◌≡◌, ◌≢◌, ◌⊎◌, ⊎_elim, inl, inr, ℕ, List, [], ◌++◌, Option, Some, None, Bool, true, false}
-use Rattle.std.proofs.Common.{if◌then◌else◌, Result, Ok, Err, refl, sym, ap, subst, ◌∙◌}
-use Rattle.std.specs.Prelude.{◌==◌}
-use Rattle.sha2.specs.Sha256.{sha256}
-use Rattle.outside.specs.Printing.{Begins}
-use Rattle.tariff_syntax.specs.Tree.{Tree}
-use Rattle.seal_record.specs.declared.seal.Seal.{Seal}
-use Rattle.seal_record.specs.Reading.{params_read}
-use Rattle.meter_store.specs.Sealing.{Sealing, found_number, next_number, old_seal}
-use Rattle.call_ends.specs.declared.ending.Ended.{Ended}
-use Rattle.call_ends.specs.declared.ending.Ended.TheVariants as ended
-use Rattle.store_commands.specs.declared.opening.Opening.{Opening}
-use Rattle.store_commands.specs.declared.opening.StoreFault.{StoreFault}
-use Rattle.store_commands.specs.declared.opening.StoreFault.TheVariants as stores
-use Rattle.store_commands.specs.declared.seal.Base.{Base}
-use Rattle.call_ends.specs.declared.tariff.Refusal.{Refusal}
-use Rattle.call_ends.specs.Answer.{Answer}
-use Rattle.call_ends.specs.Call.{LeavesUnread}
-use Rattle.call_ends.specs.Course.{Answered, NoMemory, ReadFailed}
-use Rattle.call_ends.specs.Ending.{EndsByCourse}
-use Rattle.call_ends.specs.LastLine.{sealed_line, status_of}
-use Rattle.store_commands.specs.Opening.{opening_in, store_ended}
-use Rattle.store_commands.specs.Seal.{HasDecimals, are_decimals, IsSealable, base_in, over_totals, seal_answer}
-use Rattle.store_commands.specs.Seal.{seal_command, seal_read, sealing_of, sealing_over, sealing_with, where_decimals}
-use Rattle.store_commands.specs.Seal.{with_params, seal_with_tariff}
+use Rattle.std.{specs.Prelude.{◌==◌}, proofs.Common.{false, if◌then◌else◌, inl, inr, refl, subst, sym, true, ⊎_elim}}
+use Rattle.std.proofs.Common.{[], ℕ, ◌++◌, ◌∙◌, ◌≡◌, ◌≢◌, ◌⊎◌, Bool, Err, List, None, Ok, Option, Result, Some, ap}
+use Rattle.{sha2.specs.Sha256.{sha256}, seal_record.specs.Reading.{params_read}, call_ends.specs.Call.{LeavesUnread}}
+use Rattle.call_ends.{specs.Course.{NoMemory}, proofs.Laws.{as_found, not_status, same_fault}}
+use Rattle.store_commands.specs.Common.{Answer, Answered, Base, Begins, Ended, EndsByCourse, Opening, ReadFailed}
+use Rattle.store_commands.specs.Common.{Refusal, Seal, Sealing, StoreFault, Tree, found_number, next_number, old_seal}
+use Rattle.store_commands.specs.{Common.{sealed_line, status_of, tariff_in}, Seal.{where_decimals, with_params}}
+use Rattle.store_commands.{specs.Opening.{opening_in, store_ended}, proofs.EndsByStore.{course-refusal, none}}
+use Rattle.store_commands.specs.Seal.{HasDecimals, IsSealable, are_decimals, base_in, over_totals, seal_answer}
+use Rattle.store_commands.specs.Seal.{seal_command, seal_read, seal_with_tariff, sealing_of, sealing_over, sealing_with}
 use Rattle.store_commands.specs.SealSteps.{IsNoSeal, IsNoTariff}
-use Rattle.store_commands.proofs.Answering.{course-refusal, none}
-use Rattle.call_ends.specs.Tariffs.{tariff_in}
-use Rattle.call_ends.proofs.Laws.{not_status, as_found, same_fault}
+use Rattle.call_ends.specs.declared.ending.Ended.TheVariants as ended
+use Rattle.store_commands.specs.declared.opening.StoreFault.TheVariants as stores
 
 -- ---- the texts
 

@@ -1,43 +1,20 @@
 -- The seal of a sealing is of its two texts, and what `sealed` prints seals the same again.
-use Rattle.std.proofs.Common.{◌≡◌, ◌∙◌, ℕ, Bool, true, false, List, Option, Some, None, Result, Ok, Err, refl, ap, sym}
-use Rattle.std.proofs.Common.{◌+◌, subst, drop, take, if◌then◌else◌}
-use Rattle.std.specs.Prelude.{◌==◌, is_some}
-use Rattle.std.proofs.lemmas.Bool.{eqb-true}
-use Rattle.sha2.specs.Sha256.{sha256}
-use Rattle.slot_bodies.specs.Bodies.{body_size}
-use Rattle.slot_store.specs.declared.found.Found.{Found}
-use Rattle.slot_store.specs.declared.found.Found.TheVariants.{Blank, Latest}
-use Rattle.slot_store.specs.declared.found.SlotFault.{SlotFault}
-use Rattle.slot_store.specs.declared.pair.Place.{Place}
-use Rattle.slot_store.specs.Scan.{IsAnswer, found_at}
-use Rattle.slot_store.specs.Slots.{slot_at}
-use Rattle.slot_store.proofs.Laws.{answer_is}
-use Rattle.meter_store.specs.Sealing.{Sealing, found_number, next_number, old_seal}
+use Rattle.std.{specs.Prelude.{◌==◌, is_some}, proofs.Common.{if◌then◌else◌, refl, subst, sym, take, true}}
+use Rattle.std.proofs.Common.{ℕ, ◌+◌, ◌∙◌, ◌≡◌, Bool, Err, List, None, Ok, Option, Result, Some, ap, drop, false}
+use Rattle.{std.proofs.lemmas.Bool.{eqb-true}, sha2.specs.Sha256.{sha256}, slot_bodies.specs.Bodies.{body_size}}
+use Rattle.slot_store.{specs.{Scan.{IsAnswer}, Slots.{slot_at}}, proofs.Laws.{answer_is}}
+use Rattle.seal_record.{specs.Reading.{params_read}, proofs.Laws.{seals_are_read_by_their_table}}
+use Rattle.call_ends.specs.declared.ending.Ended.TheVariants.{SealEnded, TripHeld}
+use Rattle.store_commands.specs.Common.{Base, Blank, Durable, Ended, Found, IsSeal, Latest, Opening, OtherDecimals}
+use Rattle.store_commands.specs.Common.{ParamFault, Params, Place, Refusal, Seal, Sealing, SlotFault, StoreFault, Tree}
+use Rattle.store_commands.specs.Common.{found_at, found_number, last_seal_number, next_number, old_seal, tariff_in}
+use Rattle.store_commands.specs.{Opening.{opening_by, opening_in, store_of}, SealOfTexts.{IsSealOfTexts, SecureTheSame}}
+use Rattle.store_commands.specs.Seal.{are_decimals, over_seal, over_totals, seal_read, seal_with_tariff, sealing_of}
+use Rattle.store_commands.specs.Seal.{sealing_over, sealing_with, where_decimals, with_params}
+use Rattle.store_commands.{specs.SealedText.{sealed_text}, proofs.SealedLaws.{sealed_again}}
 use Rattle.meter_store.specs.Stored as states
 use Rattle.totals_record.specs.Reading as totals
-use Rattle.totals_record.specs.declared.durable_state.Durable.{Durable}
-use Rattle.seal_record.proofs.Laws.{seals_are_read_by_their_table}
 use Rattle.seal_record.specs.Decoding as seals
-use Rattle.seal_record.specs.Limits.{last_seal_number}
-use Rattle.seal_record.specs.Ranges.{IsSeal}
-use Rattle.seal_record.specs.Reading.{params_read}
-use Rattle.seal_record.specs.declared.params.ParamFault.{ParamFault}
-use Rattle.seal_record.specs.declared.params.Params.{Params}
-use Rattle.seal_record.specs.declared.seal.Seal.{Seal}
-use Rattle.tariff_syntax.specs.Tree.{Tree}
-use Rattle.call_ends.specs.Tariffs.{tariff_in}
-use Rattle.call_ends.specs.declared.ending.Ended.{Ended}
-use Rattle.call_ends.specs.declared.ending.Ended.TheVariants.{OtherDecimals, SealEnded, TripHeld}
-use Rattle.call_ends.specs.declared.tariff.Refusal.{Refusal}
-use Rattle.store_commands.specs.Opening.{opening_by, opening_in, store_of}
-use Rattle.store_commands.specs.Seal.{are_decimals, over_seal, over_totals, seal_read, sealing_of, sealing_over}
-use Rattle.store_commands.specs.Seal.{sealing_with, where_decimals, with_params, seal_with_tariff}
-use Rattle.store_commands.specs.SealOfTexts.{IsSealOfTexts, SecureTheSame}
-use Rattle.store_commands.specs.SealedText.{sealed_text}
-use Rattle.store_commands.specs.declared.opening.Opening.{Opening}
-use Rattle.store_commands.specs.declared.opening.StoreFault.{StoreFault}
-use Rattle.store_commands.specs.declared.seal.Base.{Base}
-use Rattle.store_commands.proofs.SealedLaws.{sealed_again}
 
 -- ---- the seal of two texts
 

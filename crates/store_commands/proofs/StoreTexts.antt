@@ -1,21 +1,11 @@
 -- Commands that show a text of a sealed store, or end because the store bars them.
-use Rattle.std.proofs.Common.{◌≡◌, ℕ, List, [], ◌++◌, Result, Ok, Err, ap, subst, ◌∙◌, arith}
-use Rattle.outside.specs.declared.board.Board.{Ghosts}
-use Rattle.outside.specs.Faults.{Rose}
-use Rattle.outside.specs.Printing.{Begins}
-use Rattle.totals_record.specs.declared.durable_state.Durable.{Durable}
-use Rattle.seal_record.specs.declared.seal.Seal.{Seal}
-use Rattle.call_ends.specs.declared.ending.Ended.{Ended}
+use Rattle.std.proofs.Common.{[], ℕ, ◌++◌, ◌∙◌, ◌≡◌, Err, List, Ok, Result, ap, arith, subst}
+use Rattle.call_ends.specs.{Ending.{EndsOnBoard}, Stream.{TakesBytes}}
+use Rattle.call_ends.proofs.Laws.{as_found, as_refused, course-begun, course-shown, no_fault}
+use Rattle.store_commands.specs.Common.{Answer, Begins, Command, Durable, Ended, Ghosts, Rose, Seal, refused_as, shows}
+use Rattle.store_commands.specs.{Opened.{IsBarred, OnlyOpens}, Opening.{opening_in, store_of}}
+use Rattle.store_commands.proofs.EndsByStore.{course-barred}
 use Rattle.call_ends.specs.declared.ending.Ended.TheVariants as ended
-use Rattle.call_ends.specs.Answer.{Answer, shows}
-use Rattle.call_ends.specs.Course.{Command}
-use Rattle.call_ends.specs.Ending.{EndsOnBoard}
-use Rattle.call_ends.specs.LastLine.{refused_as}
-use Rattle.store_commands.specs.Opened.{IsBarred, OnlyOpens}
-use Rattle.store_commands.specs.Opening.{opening_in, store_of}
-use Rattle.call_ends.specs.Stream.{TakesBytes}
-use Rattle.store_commands.proofs.Answering.{course-barred}
-use Rattle.call_ends.proofs.Laws.{as_found, as_refused, no_fault, course-begun, course-shown}
 
 -- a command whose answer is one to the store that it opened, over the boards before and behind the opening
 module _ {D L : Type 0} {N : ℕ} (B : Ghosts D N L) (c : Command) (contents left : ℕ → List ℕ)

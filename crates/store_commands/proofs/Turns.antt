@@ -1,8 +1,6 @@
 -- What is left of the files of two words that are read one behind the other.
-use Rattle.std.proofs.Common.{◌≡◌, ◌∙◌, ℕ, inl, inr, subst}
-use Rattle.outside.specs.Reading.{LeavesOthers}
-use Rattle.outside.specs.Faults.{Rose}
-use Rattle.outside.specs.declared.files.Files.{Ghosts as FileGhosts}
+use Rattle.std.proofs.Common.{ℕ, ◌∙◌, ◌≡◌, inl, inr, subst}
+use Rattle.{outside.specs.declared.files.Files.{Ghosts as FileGhosts}, store_commands.specs.Common.{LeavesOthers, Rose}}
 use Rattle.store_commands.specs.ReadInTurn.{HasFailed, ReadsInTurn}
 
 module _ {E : Type 0} (F : FileGhosts E) where

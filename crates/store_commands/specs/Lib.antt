@@ -16,3 +16,4 @@ pub mod Opened
 pub mod ReadInTurn
 pub mod SealSteps
 pub mod StoreEnds
+pub mod Common

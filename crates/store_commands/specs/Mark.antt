@@ -1,15 +1,8 @@
 -- Rules: the commands `mark on DRIVER` and `mark off`.
-use Rattle.std.specs.Prelude.{true, false, [], Option, None, Some, Result, Ok, Err}
-use Rattle.totals_record.specs.declared.durable_state.Durable.{Durable}
-use Rattle.seal_record.specs.declared.seal.Seal.{Seal}
-use Rattle.shift_book.specs.Following.{numbers_in}
-use Rattle.shift_book.specs.Marks.{Signing, mark_text}
-use Rattle.shift_book.specs.Shares.{Driver}
-use Rattle.call_ends.specs.Answer.{Answer, shows}
-use Rattle.call_ends.specs.Course.{Command, store_command}
-use Rattle.call_ends.specs.LastLine.{refused_as}
+use Rattle.{std.specs.Prelude.{[], Err, None, Ok, Option, Result, Some, false, true}, shift_book.specs.Marks.{Signing}}
+use Rattle.{shift_book.specs.Shares.{Driver}, store_commands.specs.Common.{store_command}}
+use Rattle.store_commands.specs.Common.{Answer, Command, Durable, Ended, Seal, mark_text, numbers_in, refused_as, shows}
 use Rattle.store_commands.specs.Opening.{opening_in, store_of}
-use Rattle.call_ends.specs.declared.ending.Ended.{Ended}
 
 -- the mark of a state of the store signs a driver on, or, without a driver, signs whoever is on off
 abbrev pub mark_of : Option Driver → Durable → Signing

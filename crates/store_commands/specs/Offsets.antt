@@ -1,13 +1,8 @@
 -- Rules: the command `offsets RULES FROM TO`.
-use Rattle.std.specs.Prelude.{◌≡◌, ℕ, ◌+◌, ◌≤◌, [], None, Result, Ok, Err}
-use Rattle.offset_rules.specs.Pairs.{pairs_of}
-use Rattle.offset_rules.specs.Reading.{rules_read}
-use Rattle.offset_rules.specs.Rule.{Rule}
-use Rattle.offset_rules.specs.Texts.{offset_lines}
-use Rattle.offset_rules.specs.declared.fault.RuleFault.{RuleFault}
-use Rattle.call_ends.specs.Answer.{Answer, refuses, shows}
-use Rattle.call_ends.specs.Course.{Command}
-use Rattle.call_ends.specs.LastLine.{bad_rules_line}
+use Rattle.std.specs.Prelude.{[], ℕ, ◌+◌, ◌≡◌, ◌≤◌, Err, None, Ok, Result}
+use Rattle.offset_rules.specs.{Pairs.{pairs_of}, Reading.{rules_read}, Texts.{offset_lines}}
+use Rattle.call_ends.specs.{Answer.{refuses}, LastLine.{bad_rules_line}}
+use Rattle.store_commands.specs.Common.{Answer, Command, Rule, RuleFault, shows}
 
 -- the answer to a first and a last year shows the list of offsets that the rules give for these years, or says why the
 -- rules aren't accepted

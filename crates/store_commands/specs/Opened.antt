@@ -1,22 +1,12 @@
 -- For proofs: what an opening of the store leaves. Opening says what an image stands for.
-use Rattle.std.specs.Prelude.{◌≡◌, ◌⊎◌, ℕ}
-use Rattle.outside.specs.Faults.{Rose}
-use Rattle.outside.specs.Runs.{IsAtRest}
-use Rattle.outside.specs.declared.board.Board.{Ghosts}
-use Rattle.slot_store.specs.declared.pair.Place.{Place}
-use Rattle.slot_store.specs.Scan.{IsAsFound, IsValidFinding}
-use Rattle.slot_store.specs.Syncs.{IsAsHeld, LeavesFromSync, ReadsOnly}
-use Rattle.totals_record.specs.declared.durable_state.Durable.{Durable}
-use Rattle.totals_record.specs.Ranges.{IsDurable}
+use Rattle.std.specs.Prelude.{ℕ, ◌≡◌, ◌⊎◌}
+use Rattle.{slot_store.specs.Scan.{IsValidFinding}, call_ends.specs.declared.ending.Ended.TheVariants.{NotSealed}}
+use Rattle.store_commands.specs.Common.{Durable, Ended, Ghosts, IsAsFound, IsAsHeld, IsAtRest, IsDurable, IsSeal}
+use Rattle.store_commands.specs.Common.{LeavesFromSync, Opening, Place, ReadsOnly, Rose, StoreFault}
+use Rattle.store_commands.specs.Opening.{store_ended}
 use Rattle.totals_record.specs.Reading as totals
 use Rattle.meter_store.specs.Stored as states
 use Rattle.seal_record.specs.Decoding as seals
-use Rattle.seal_record.specs.Ranges.{IsSeal}
-use Rattle.store_commands.specs.Opening.{store_ended}
-use Rattle.call_ends.specs.declared.ending.Ended.{Ended}
-use Rattle.call_ends.specs.declared.ending.Ended.TheVariants.{NotSealed}
-use Rattle.store_commands.specs.declared.opening.Opening.{Opening}
-use Rattle.store_commands.specs.declared.opening.StoreFault.{StoreFault}
 
 -- an opening is sound if its durable state and its seal are in their ranges, if it has them
 pub record IsOpeningInRange (opening : Opening) : Type 0 where

@@ -1,20 +1,13 @@
 -- Rules: the opening of the store, with its pair of totals at 0 and its pair of seals at 1,024.
-use Rattle.std.specs.Prelude.{◌≡◌, ℕ, ◌+◌, ◌==◌, if◌then◌else◌, List, Option, Some, None, Result, Ok, Err}
-use Rattle.slot_store.specs.declared.found.Found.{Found}
-use Rattle.slot_store.specs.declared.found.Found.TheVariants.{Blank, Latest}
-use Rattle.slot_store.specs.declared.found.SlotFault.{SlotFault}
+use Rattle.std.specs.Prelude.{ℕ, ◌+◌, ◌==◌, ◌≡◌, Err, List, None, Ok, Option, Result, Some, if◌then◌else◌}
+use Rattle.store_commands.specs.Common.{Blank, Durable, Ended, Found, Latest, Opening, Seal, SlotFault, StoreFault}
+use Rattle.store_commands.specs.Common.{found_at}
+use Rattle.store_commands.specs.declared.opening.StoreFault.TheVariants.{BadSlot, BoardFault, SameNumber}
 use Rattle.slot_store.specs.declared.found.SlotFault.TheVariants as slots
-use Rattle.slot_store.specs.Scan.{found_at}
-use Rattle.totals_record.specs.declared.durable_state.Durable.{Durable}
 use Rattle.totals_record.specs.Reading as totals
 use Rattle.meter_store.specs.Stored as states
-use Rattle.seal_record.specs.declared.seal.Seal.{Seal}
 use Rattle.seal_record.specs.Decoding as seals
-use Rattle.call_ends.specs.declared.ending.Ended.{Ended}
 use Rattle.call_ends.specs.declared.ending.Ended.TheVariants as ended
-use Rattle.store_commands.specs.declared.opening.Opening.{Opening}
-use Rattle.store_commands.specs.declared.opening.StoreFault.{StoreFault}
-use Rattle.store_commands.specs.declared.opening.StoreFault.TheVariants.{BadSlot, SameNumber, BoardFault}
 
 -- the fault of a pair whose first slot has a number in the store
 abbrev pub fault_from : (first : ℕ) → SlotFault → StoreFault
@@ -32,7 +25,7 @@ opening_by (Ok durable) (Ok seal) = Ok (record { totals = durable; seal = seal }
 abbrev pub opening_in : (image : List ℕ) → Result Opening StoreFault
 opening_in image =
     opening_by (found_at totals.reads states.state_number_of 0 image)
-        (found_at seals.reads seals.seal_number_of 1024 image)
+    (found_at seals.reads seals.seal_number_of 1024 image)
 
 -- a store is sealed if both pairs stand for something, a durable state and a seal
 abbrev pub sealed_store : Found Durable → Found Seal → Option (Durable × Seal)

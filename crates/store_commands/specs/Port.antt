@@ -1,16 +1,10 @@
 -- Rules: the command `port REQUESTS`.
-use Rattle.std.specs.Prelude.{◌≡◌, ℕ, ◌+◌, List, [], Some, Result, Ok, Err}
-use Rattle.totals_record.specs.declared.durable_state.Durable.{Durable}
-use Rattle.seal_record.specs.declared.seal.Seal.{Seal}
-use Rattle.data_port.specs.Reading.{requests_in}
-use Rattle.data_port.specs.Serving.{StreamEnd, Whole, BadAt, Endless, IsBoundedByRequests, IsGoing, replies, requests_of}
-use Rattle.data_port.specs.Serving.{stream_end}
-use Rattle.call_ends.specs.Answer.{Answer, shows}
-use Rattle.call_ends.specs.Course.{Command}
-use Rattle.call_ends.specs.LastLine.{bad_frame_line, endless_requests_line, refused_as}
+use Rattle.std.specs.Prelude.{[], ℕ, ◌+◌, ◌≡◌, Err, List, Ok, Result, Some}
+use Rattle.data_port.specs.{Reading.{requests_in}, ServedStream.{requests_of, stream_end}}
+use Rattle.data_port.specs.ServedStream.{BadAt, Endless, IsBoundedByRequests, IsGoing, StreamEnd, Whole, replies}
+use Rattle.call_ends.specs.{LastLine.{bad_frame_line, endless_requests_line}, Stream.{Requests}}
+use Rattle.store_commands.specs.Common.{Answer, Command, Durable, Ended, Seal, refused_as, shows}
 use Rattle.store_commands.specs.Opening.{IsSealedIn, opening_in, store_of}
-use Rattle.call_ends.specs.Stream.{Requests}
-use Rattle.call_ends.specs.declared.ending.Ended.{Ended}
 
 -- the answer to requests shows their replies. It has the status 16 and a last line if a byte of the requests is bad or
 -- they have no end.

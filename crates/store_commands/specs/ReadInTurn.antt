@@ -1,8 +1,6 @@
 -- For proofs: what is left of files by a part of a command that reads those of two words, the first before the second.
-use Rattle.std.specs.Prelude.{◌≡◌, ◌≢◌, ◌⊎◌, ℕ}
-use Rattle.outside.specs.Reading.{LeavesOthers}
-use Rattle.outside.specs.Faults.{Rose}
-use Rattle.outside.specs.declared.files.Files.{Ghosts as FileGhosts}
+use Rattle.std.specs.Prelude.{ℕ, ◌≡◌, ◌≢◌, ◌⊎◌}
+use Rattle.{outside.specs.declared.files.Files.{Ghosts as FileGhosts}, store_commands.specs.Common.{LeavesOthers, Rose}}
 
 -- a read of a word's file failed if the count of that file's faults rose
 abbrev pub HasFailed : {E : Type 0} → FileGhosts E → (files files' : E) → (word : ℕ) → Type 0

@@ -1,32 +1,14 @@
 -- Rules: the command `seal TARIFF PARAMS`.
-use Rattle.std.specs.Prelude.{◌≡◌, ◌⊎◌, ℕ, ◌+◌, ◌<◌, ◌≤◌, ◌==◌, if◌then◌else◌, is_some, List, [], ◌++◌, take, Option}
-use Rattle.std.specs.Prelude.{None, Some, Result, Ok, Err}
-use Rattle.sha2.specs.Sha256.{sha256}
-use Rattle.slot_store.specs.declared.found.Found.{Found}
-use Rattle.slot_store.specs.declared.found.Found.TheVariants.{Blank, Latest}
-use Rattle.tariff_syntax.specs.Tree.{Tree}
-use Rattle.totals_record.specs.declared.durable_state.Durable.{Durable}
-use Rattle.seal_record.specs.declared.params.Params.{Params}
-use Rattle.seal_record.specs.declared.params.ParamFault.{ParamFault}
-use Rattle.seal_record.specs.declared.seal.Seal.{Seal}
-use Rattle.seal_record.specs.Limits.{last_seal_number}
-use Rattle.seal_record.specs.Reading.{params_read}
-use Rattle.meter_store.specs.Sealing.{IsAmid, IsSealed, Sealing, found_number, next_number, old_seal, seals_at}
-use Rattle.outside.specs.Disk.{IsWithin, SameBut}
-use Rattle.outside.specs.declared.board.Board.{Ghosts}
-use Rattle.slot_store.specs.Sizes.{pair_size}
-use Rattle.slot_store.specs.Syncs.{LeavesFromSync}
-use Rattle.call_ends.specs.Answer.{Answer, shows_line}
-use Rattle.call_ends.specs.Course.{Command}
-use Rattle.call_ends.specs.LastLine.{refused_as, sealed_line}
+use Rattle.std.specs.Prelude.{[], ℕ, ◌++◌, ◌+◌, ◌<◌, ◌==◌, ◌≡◌, ◌≤◌, ◌⊎◌, Err, List, None, Ok, Option, Result, Some}
+use Rattle.std.specs.Prelude.{if◌then◌else◌, is_some, take}
+use Rattle.{sha2.specs.Sha256.{sha256}, outside.specs.Disk.{IsWithin, SameBut}, slot_store.specs.Sizes.{pair_size}}
+use Rattle.{seal_record.specs.Reading.{params_read}, meter_store.specs.Sealing.{IsAmid, IsSealed, seals_at}}
+use Rattle.call_ends.specs.{Answer.{shows_line}, declared.ending.Ended.TheVariants.{BadTariff, SealEnded, TripHeld}}
+use Rattle.store_commands.specs.Common.{Answer, BadParams, Base, Blank, Command, Durable, Ended, Found, Ghosts, Latest}
+use Rattle.store_commands.specs.Common.{LeavesFromSync, Opening, OtherDecimals, ParamFault, Params, Refusal, Seal}
+use Rattle.store_commands.specs.Common.{Sealing, StoreFault, Tree, found_number, last_seal_number, next_number}
+use Rattle.store_commands.specs.Common.{old_seal, refused_as, sealed_line, tariff_in}
 use Rattle.store_commands.specs.Opening.{opening_in, store_ended}
-use Rattle.call_ends.specs.Tariffs.{tariff_in}
-use Rattle.call_ends.specs.declared.ending.Ended.{Ended}
-use Rattle.call_ends.specs.declared.ending.Ended.TheVariants.{BadParams, BadTariff, OtherDecimals, SealEnded, TripHeld}
-use Rattle.store_commands.specs.declared.opening.Opening.{Opening}
-use Rattle.store_commands.specs.declared.opening.StoreFault.{StoreFault}
-use Rattle.store_commands.specs.declared.seal.Base.{Base}
-use Rattle.call_ends.specs.declared.tariff.Refusal.{Refusal}
 
 -- ---- what is sealed over
 

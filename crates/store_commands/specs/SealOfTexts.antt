@@ -1,10 +1,7 @@
 -- Rules: what a seal secures of the two texts with which a store is sealed, and seals that secure the same.
-use Rattle.std.specs.Prelude.{◌≡◌, ℕ, List, Ok}
-use Rattle.sha2.specs.Sha256.{sha256}
-use Rattle.seal_record.specs.Reading.{params_read}
-use Rattle.seal_record.specs.declared.seal.Seal.{Seal}
-use Rattle.tariff_syntax.specs.Tree.{Tree}
-use Rattle.call_ends.specs.Tariffs.{tariff_in}
+use Rattle.std.specs.Prelude.{ℕ, ◌≡◌, List, Ok}
+use Rattle.{sha2.specs.Sha256.{sha256}, seal_record.specs.Reading.{params_read}}
+use Rattle.store_commands.specs.Common.{Seal, Tree, tariff_in}
 
 -- a seal is of a tariff's text and a parameter text if it secures the parameters that are read, the digest of the first
 -- text and the decimals of its sound tariff

@@ -1,18 +1,10 @@
 -- For proofs: what the command `seal` has before its last line is printed. Seal says what a sealing is.
-use Rattle.std.specs.Prelude.{◌≡◌, ◌⊎◌, ℕ, List, Option, Result, Ok, Err, ◌≢◌}
-use Rattle.outside.specs.Printing.{Begins}
-use Rattle.outside.specs.Runs.{MayHold}
-use Rattle.outside.specs.declared.board.Board.{Ghosts}
-use Rattle.meter_store.specs.Sealing.{Sealing}
-use Rattle.tariff_syntax.specs.Tree.{Tree}
-use Rattle.store_commands.specs.Seal.{HasDecimals, MayLeaveSealing, are_decimals, seal_read, Seals, sealing_of}
-use Rattle.call_ends.specs.Tariffs.{tariff_in}
-use Rattle.call_ends.specs.declared.ending.Ended.{Ended}
-use Rattle.call_ends.specs.declared.ending.Ended.TheVariants.{BadParams, BadTariff, NoMemory, OtherDecimals, ReadFault}
-use Rattle.call_ends.specs.declared.ending.Ended.TheVariants.{BoardFault}
+use Rattle.std.specs.Prelude.{ℕ, ◌≡◌, ◌≢◌, ◌⊎◌, Err, List, Ok, Option, Result}
 use Rattle.outside.specs.declared.files.Files.{Ghosts as FileGhosts}
-use Rattle.call_ends.specs.LastLine.{line_of, status_of}
-use Rattle.store_commands.specs.Opening.{opening_in}
+use Rattle.call_ends.specs.declared.ending.Ended.TheVariants.{BadTariff, BoardFault, NoMemory}
+use Rattle.store_commands.specs.Common.{BadParams, Begins, Ended, Ghosts, MayHold, OtherDecimals, ReadFault, Sealing}
+use Rattle.store_commands.specs.{Common.{Tree, line_of, status_of, tariff_in}, Opening.{opening_in}}
+use Rattle.store_commands.specs.Seal.{HasDecimals, MayLeaveSealing, Seals, are_decimals, seal_read, sealing_of}
 
 -- a text has a tariff with decimals if its tariff is sound and has them, and they are those that were found, if any
 pub record IsTariffWith (found : Option ℕ) (decimals : ℕ) (tariff : List ℕ) : Type 0 where

@@ -1,9 +1,7 @@
 -- Rules: the text of what a store was sealed with.
-use Rattle.std.specs.Prelude.{ℕ, List, [], ◌∷◌, ◌++◌, codes}
-use Rattle.receipt_text.specs.Receipts.{hex_text}
-use Rattle.seal_record.specs.declared.seal.Seal.{Seal}
-use Rattle.seal_record.specs.PlainText.{commented_text}
-use Rattle.call_ends.specs.LastLine.{numbered}
+use Rattle.std.specs.Prelude.{[], ℕ, ◌++◌, ◌∷◌, List, codes}
+use Rattle.{seal_record.specs.PlainText.{commented_text}, receipt_text.specs.Receipts.{hex_text}}
+use Rattle.{call_ends.specs.LastLine.{numbered}, store_commands.specs.Common.{Seal}}
 
 -- the comments of a seal say its number, the decimals of its tariff's money, and its digest in hexadecimal digits
 abbrev pub seal_comments : Seal → List (List ℕ)

@@ -1,19 +1,9 @@
 -- Rules: the command `shifts BOOK`.
-use Rattle.std.specs.Prelude.{◌≡◌, ℕ, ◌+◌, ◌*◌, ◌≤◌, List, [], length, None, Result, Ok, Err}
-use Rattle.totals_record.specs.declared.durable_state.Durable.{Durable}
-use Rattle.seal_record.specs.declared.seal.Seal.{Seal}
-use Rattle.shift_book.specs.BookReading.{book_read}
-use Rattle.shift_book.specs.Following.{numbers_in}
-use Rattle.shift_book.specs.Marks.{Signing}
-use Rattle.shift_book.specs.Report.{report_text}
-use Rattle.shift_book.specs.declared.book.BookFault.{BookFault}
+use Rattle.std.specs.Prelude.{[], ℕ, ◌*◌, ◌+◌, ◌≡◌, ◌≤◌, Err, List, None, Ok, Result, length}
+use Rattle.{shift_book.specs.{Marks.{Signing}, Report.{report_text}}, call_ends.specs.Pieces.{pieces_of}}
+use Rattle.store_commands.specs.Common.{Answer, BookFault, Command, Durable, Ended, Seal, book_read, numbers_in}
+use Rattle.store_commands.specs.{Common.{refused_as, shows}, Opening.{IsSealedIn, opening_in, store_of}}
 use Rattle.shift_book.specs.declared.book.BookFault.TheVariants as books
-use Rattle.call_ends.specs.Answer.{Answer, shows}
-use Rattle.call_ends.specs.Course.{Command}
-use Rattle.call_ends.specs.LastLine.{refused_as}
-use Rattle.store_commands.specs.Opening.{IsSealedIn, opening_in, store_of}
-use Rattle.call_ends.specs.Pieces.{pieces_of}
-use Rattle.call_ends.specs.declared.ending.Ended.{Ended}
 use Rattle.call_ends.specs.declared.ending.Ended.TheVariants as ended
 
 -- how a command ended by the fault of its book; no text has the fault `NoMemory`, which says that memory ran out

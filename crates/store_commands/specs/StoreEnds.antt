@@ -1,16 +1,12 @@
 -- For proofs: how a command ends by requests, parameters, rules or books that it couldn't read.
-use Rattle.std.specs.Prelude.{Result, Ok, Err}
-use Rattle.store_commands.specs.Shifts.{ended_for_book}
-use Rattle.call_ends.specs.declared.ending.Ended.{Ended}
-use Rattle.call_ends.specs.declared.ending.Ended.TheVariants.{Done, BadRules, BadParams, ReadFault, BoardFault}
-use Rattle.call_ends.specs.declared.ending.Ended.TheVariants.{NoMemory, BadFrame, EndlessRequests}
-use Rattle.store_commands.specs.declared.offsets.RulesFault.{RulesFault}
-use Rattle.store_commands.specs.declared.offsets.RulesFault.TheVariants as rules
+use Rattle.{std.specs.Prelude.{Err, Ok, Result}, data_port.specs.declared.serving.PortFault.{PortFault}}
+use Rattle.call_ends.specs.declared.ending.Ended.TheVariants.{BadFrame, BadRules, BoardFault, Done, EndlessRequests}
+use Rattle.call_ends.specs.declared.ending.Ended.TheVariants.{NoMemory}
+use Rattle.store_commands.specs.{Common.{BadParams, Ended, ReadFault, ReportFault, RulesFault}, Shifts.{ended_for_book}}
 use Rattle.store_commands.specs.declared.params.ParamsFault.{ParamsFault}
+use Rattle.store_commands.specs.declared.offsets.RulesFault.TheVariants as rules
 use Rattle.store_commands.specs.declared.params.ParamsFault.TheVariants as params
-use Rattle.store_commands.specs.declared.shifts.ReportFault.{ReportFault}
 use Rattle.store_commands.specs.declared.shifts.ReportFault.TheVariants as reports
-use Rattle.data_port.specs.declared.serving.PortFault.{PortFault}
 use Rattle.data_port.specs.declared.serving.PortFault.TheVariants as ports
 
 -- how a command ended that served its requests

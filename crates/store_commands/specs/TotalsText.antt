@@ -1,13 +1,9 @@
 -- Rules: the text of totals.
-use Rattle.std.specs.Prelude.{ℕ, ◌+◌, List, [], ◌++◌, get_or, nat_lt, if◌then◌else◌, Option, Some, None, codes, decimal}
-use Rattle.std.specs.List.{flat_map, range_with_len}
-use Rattle.taxi_units.specs.Number.{money_text}
-use Rattle.totals_record.specs.declared.durable_state.Durable.{Durable}
-use Rattle.totals_record.specs.declared.totals.Share.{Share}
-use Rattle.totals_record.specs.declared.totals.Totals.{Totals}
-use Rattle.totals_record.specs.declared.trip.Trip.{Trip}
-use Rattle.totals_record.specs.Entries.{no_share}
-use Rattle.call_ends.specs.NumberLine.{number_line}
+use Rattle.{std.specs.List.{flat_map, range_with_len}, taxi_units.specs.Number.{money_text}}
+use Rattle.std.specs.Prelude.{[], ℕ, ◌++◌, ◌+◌, List, None, Option, Some, codes, decimal, get_or, if◌then◌else◌, nat_lt}
+use Rattle.{totals_record.specs.Entries.{no_share}, call_ends.specs.NumberLine.{number_line}}
+use Rattle.totals_record.specs.declared.{totals.{Share.{Share}, Totals.{Totals}}, trip.Trip.{Trip}}
+use Rattle.store_commands.specs.Common.{Durable}
 
 -- a line of an amount is its name, the amount, in units of its last decimal, and the end
 abbrev pub amount_line : (name : List ℕ) → (decimals amount : ℕ) → (end : List ℕ) → List ℕ

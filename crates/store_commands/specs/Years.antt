@@ -1,5 +1,5 @@
 -- Rules: the years of which offsets are asked.
-use Rattle.std.specs.Prelude.{ℕ, ◌+◌, List, Option, Some, None, if◌then◌else◌, nat_le, ◌&&◌}
+use Rattle.std.specs.Prelude.{ℕ, ◌&&◌, ◌+◌, List, None, Option, Some, if◌then◌else◌, nat_le}
 use Rattle.taxi_units.specs.Number.{figure_in}
 
 -- a word is a year if it is four digits, of 2000 to 2199. `figure_in` gives the number of digits in a width and a

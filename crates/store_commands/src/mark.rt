@@ -1,9 +1,6 @@
 //! The commands `mark on DRIVER` and `mark off`.
-ghost use Rattle.std.specs.Prelude.{◌≡◌, ◌<◌, ◌≤◌, ℕ, List, length};
-ghost use Rattle.taxi_units.specs.Line.{line_size};
-ghost use Rattle.shift_book.specs.Following.{numbers_in};
-ghost use Rattle.shift_book.specs.Marks.{mark_text};
-ghost use Rattle.call_ends.specs.Carried.{Carries, no_files};
+ghost use Rattle.std.specs.Prelude.{ℕ, ◌<◌, ◌≡◌, ◌≤◌, List, length};
+ghost use Rattle.store_commands.specs.Common.{Carries, line_size, mark_text, no_files, numbers_in};
 ghost use Rattle.store_commands.specs.Mark.{mark_command};
 ghost use Rattle.store_commands.specs.Mark as spec;
 

@@ -1,17 +1,10 @@
 //! The command `offsets`.
 #![tactic(auto, using(call_ends::proofs::Laws::board_runs))]
 
-ghost use Rattle.std.specs.Prelude.{◌≡◌, ◌≢◌, ℕ, ◌+◌, ◌<◌, ◌≤◌, ◌++◌, [], length, IfOk, OnOk, Err};
-ghost use Rattle.outside.specs.Reading.{LeavesOthers};
-ghost use Rattle.taxi_units.specs.Line.{line_size};
-ghost use Rattle.outside.specs.Faults.{HasCause, Rose};
-ghost use Rattle.outside.specs.Printing.{Begins};
-ghost use Rattle.outside.specs.Runs.{KeepsStore};
-ghost use Rattle.offset_rules.specs.Reading.{rules_read};
-ghost use Rattle.offset_rules.specs.Texts.{offset_line, offset_lines};
-ghost use Rattle.call_ends.specs.Carried.{Carries};
-ghost use Rattle.store_commands.specs.StoreEnds.{ended_for_rules};
-ghost use Rattle.store_commands.specs.Offsets.{offsets_command};
+ghost use Rattle.std.specs.Prelude.{[], ℕ, ◌++◌, ◌+◌, ◌<◌, ◌≡◌, ◌≢◌, ◌≤◌, Err, IfOk, OnOk, length};
+ghost use Rattle.offset_rules.specs.{Reading.{rules_read}, Texts.{offset_line, offset_lines}};
+ghost use Rattle.store_commands.specs.Common.{Begins, Carries, HasCause, KeepsStore, LeavesOthers, Rose, line_size};
+ghost use Rattle.store_commands.specs.{Offsets.{offsets_command}, StoreEnds.{ended_for_rules}};
 
 use crate::years::Years;
 use call_ends::Ended;

@@ -1,13 +1,9 @@
 //! The opening of the store, with which some commands begin.
-ghost use Rattle.std.specs.Prelude.{◌≡◌, ◌+◌, ◌≤◌, IfOk, IfSome, IsErrOf};
-ghost use Rattle.outside.specs.Faults.{Rose};
-ghost use Rattle.outside.specs.Runs.{IsAtRest};
-ghost use Rattle.slot_store.specs.Syncs.{IsAsHeld, LeavesFromSync, ReadsOnly};
-ghost use Rattle.seal_record.specs.Ranges.{IsSeal};
-ghost use Rattle.totals_record.specs.Ranges.{IsDurable};
-ghost use Rattle.store_commands.specs.Opening as spec;
-ghost use Rattle.store_commands.specs.Opening.{fault_from, opening_in, store_ended};
+ghost use Rattle.std.specs.Prelude.{◌+◌, ◌≡◌, ◌≤◌, IfOk, IfSome, IsErrOf};
+ghost use Rattle.store_commands.specs.Common.{IsAsHeld, IsAtRest, IsDurable, IsSeal, LeavesFromSync, ReadsOnly, Rose};
 ghost use Rattle.store_commands.specs.Opened.{IsOpened, IsOpeningInRange};
+ghost use Rattle.store_commands.specs.Opening.{fault_from, opening_in, store_ended};
+ghost use Rattle.store_commands.specs.Opening as spec;
 
 use call_ends::Ended;
 use outside::{Board, STORE_SIZE};

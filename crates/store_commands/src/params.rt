@@ -1,10 +1,7 @@
 //! Reads the parameters of a word.
-ghost use Rattle.std.specs.Prelude.{◌≡◌, ◌≢◌, ℕ, [], IfOk, OnOk, Err};
-ghost use Rattle.outside.specs.Reading.{LeavesOthers};
-ghost use Rattle.outside.specs.Faults.{Rose};
-ghost use Rattle.seal_record.specs.Ranges.{IsParams};
-ghost use Rattle.seal_record.specs.Reading.{params_read};
-ghost use Rattle.store_commands.specs.StoreEnds.{ended_for_params};
+ghost use Rattle.std.specs.Prelude.{[], ℕ, ◌≡◌, ◌≢◌, Err, IfOk, OnOk};
+ghost use Rattle.seal_record.specs.{Ranges.{IsParams}, Reading.{params_read}};
+ghost use Rattle.store_commands.specs.{Common.{LeavesOthers, Rose}, StoreEnds.{ended_for_params}};
 
 use call_ends::Ended;
 use outside::{Files, read_text};

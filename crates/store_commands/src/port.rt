@@ -1,8 +1,6 @@
 //! The command `port`.
-ghost use Rattle.call_ends.specs.Carried.{Carries};
-ghost use Rattle.store_commands.specs.Port.{port_command};
 ghost use Rattle.std.specs.Prelude.{◌≡◌};
-ghost use Rattle.store_commands.specs.StoreEnds.{ended_serving};
+ghost use Rattle.store_commands.specs.{Common.{Carries}, Port.{port_command}, StoreEnds.{ended_serving}};
 
 use crate::sealed::open_sealed;
 use call_ends::Ended;

@@ -1,15 +1,10 @@
 //! The command `seal`.
-ghost use Rattle.std.specs.Prelude.{◌≡◌, ◌≢◌, ◌⊎◌, ◌<◌, ◌≤◌, [], IfOk, OnOk, Ok, Err};
-ghost use Rattle.std.specs.Option.{ForSome};
-ghost use Rattle.slot_store.specs.Scan.{IsValidFinding};
-ghost use Rattle.seal_record.specs.Limits.{last_seal_number};
-ghost use Rattle.seal_record.specs.Ranges.{IsSeal};
-ghost use Rattle.meter_store.specs.Sealing.{found_number, next_number, seal_found, totals_found};
-ghost use Rattle.call_ends.specs.Carried.{Carries};
-ghost use Rattle.store_commands.specs.SealSteps.{SealReachesLine, IsNoSeal, IsNoTariff, IsTariffWith};
-ghost use Rattle.store_commands.specs.Opened.{IsOpeningInRange};
+ghost use Rattle.std.specs.{Option.{ForSome}, Prelude.{[], ◌<◌, ◌≡◌, ◌≢◌, ◌≤◌, ◌⊎◌, Err, IfOk, Ok, OnOk}};
+ghost use Rattle.{slot_store.specs.Scan.{IsValidFinding}, meter_store.specs.Sealing.{seal_found, totals_found}};
+ghost use Rattle.store_commands.specs.Common.{Carries, IsSeal, found_number, last_seal_number, next_number};
+ghost use Rattle.store_commands.specs.{Opened.{IsOpeningInRange}, Seal.{HasDecimals, seal_command, seal_read}};
 ghost use Rattle.store_commands.specs.ReadInTurn.{HasFailed, ReadsInTurn};
-ghost use Rattle.store_commands.specs.Seal.{HasDecimals, seal_command, seal_read};
+ghost use Rattle.store_commands.specs.SealSteps.{IsNoSeal, IsNoTariff, IsTariffWith, SealReachesLine};
 ghost use Rattle.store_commands.specs.Seal as spec;
 
 use crate::opening::{Opening, open_store, refused_store};

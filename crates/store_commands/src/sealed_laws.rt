@@ -1,16 +1,8 @@
 //! What the text of what a store was sealed with is read as, and what it seals again.
-ghost use Rattle.std.specs.Prelude.{◌≡◌, ℕ, List, Ok};
-ghost use Rattle.sha2.specs.Sha256.{sha256};
-ghost use Rattle.tariff_syntax.specs.Tree.{Tree};
-ghost use Rattle.totals_record.specs.declared.durable_state.Durable.{Durable};
-ghost use Rattle.meter_store.specs.Sealing.{Sealing};
-ghost use Rattle.call_ends.specs.Tariffs.{tariff_in};
-ghost use Rattle.store_commands.specs.Opening.{opening_in, store_of};
-ghost use Rattle.store_commands.specs.Seal.{sealing_of};
-ghost use Rattle.store_commands.specs.SealOfTexts.{IsSealOfTexts, SecureTheSame};
-ghost use Rattle.seal_record.specs.declared.seal.Seal.{Seal};
-ghost use Rattle.seal_record.specs.Ranges.{IsSeal};
-ghost use Rattle.seal_record.specs.Reading.{params_read};
+ghost use Rattle.std.specs.Prelude.{ℕ, ◌≡◌, List, Ok};
+ghost use Rattle.{sha2.specs.Sha256.{sha256}, seal_record.specs.Reading.{params_read}};
+ghost use Rattle.store_commands.specs.{Common.{Durable, IsSeal, Seal, Sealing, Tree, tariff_in}, Seal.{sealing_of}};
+ghost use Rattle.store_commands.specs.{Opening.{opening_in, store_of}, SealOfTexts.{IsSealOfTexts, SecureTheSame}};
 ghost use Rattle.store_commands.specs.SealedText.{sealed_text};
 
 /// A law: what `sealed` prints of a seal is read as the seal's parameters, for any seal in its ranges.

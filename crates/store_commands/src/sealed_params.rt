@@ -1,14 +1,9 @@
 //! The command `sealed`.
 #![tactic(auto, using(call_ends::proofs::Laws::board_runs))]
 
-ghost use Rattle.std.specs.Prelude.{◌≡◌, ◌+◌, ◌≤◌, ◌++◌, ℕ, List, OnOk};
-ghost use Rattle.outside.specs.Faults.{HasCause};
-ghost use Rattle.outside.specs.Printing.{Begins};
-ghost use Rattle.outside.specs.Runs.{KeepsStore};
-ghost use Rattle.seal_record.specs.Ranges.{IsSeal};
-ghost use Rattle.call_ends.specs.Carried.{Carries, no_files};
-ghost use Rattle.store_commands.specs.Sealed.{sealed_command};
-ghost use Rattle.store_commands.specs.SealedText.{sealed_text};
+ghost use Rattle.std.specs.Prelude.{ℕ, ◌++◌, ◌+◌, ◌≡◌, ◌≤◌, List, OnOk};
+ghost use Rattle.store_commands.specs.Common.{Begins, Carries, HasCause, IsSeal, KeepsStore, no_files};
+ghost use Rattle.store_commands.specs.{Sealed.{sealed_command}, SealedText.{sealed_text}};
 
 use crate::offsets::print_pairs;
 use crate::sealed::open_sealed;

@@ -1,11 +1,9 @@
 //! The text of what a store was sealed with.
-ghost use Rattle.std.specs.Prelude.{◌≡◌, ◌+◌, ◌<◌, ◌≤◌, ◌++◌, ◌∷◌, [], codes, map};
+ghost use Rattle.std.specs.Prelude.{[], ◌++◌, ◌+◌, ◌<◌, ◌∷◌, ◌≡◌, ◌≤◌, codes, map};
 ghost use Rattle.arrayvec.specs.ArrayVec.{array_vec_len};
-ghost use Rattle.taxi_units.specs.Line.{line_size};
+ghost use Rattle.seal_record.specs.{PlainText.{line_of, mode_text, settings_lines}, Ranges.{IsDay}};
+ghost use Rattle.store_commands.specs.{Common.{comment_line, ended_text, line_size}, SealedText.{seal_comments}};
 ghost use Rattle.seal_record.specs.PlainText as spec;
-ghost use Rattle.seal_record.specs.PlainText.{comment_line, ended_text, line_of, mode_text, settings_lines};
-ghost use Rattle.seal_record.specs.Ranges.{IsDay};
-ghost use Rattle.store_commands.specs.SealedText.{seal_comments};
 
 use call_ends::push_number_line;
 use drive_modes::Mode;

@@ -1,12 +1,7 @@
 //! The command `shifts`.
-ghost use Rattle.std.specs.Prelude.{◌≡◌, ◌≢◌, ℕ, ◌+◌, ◌*◌, ◌≤◌, [], length, vec_len, IfOk, OnOk, Err};
-ghost use Rattle.outside.specs.Reading.{LeavesOthers};
-ghost use Rattle.outside.specs.Faults.{Rose};
-ghost use Rattle.shift_book.specs.BookReading.{book_read};
-ghost use Rattle.call_ends.specs.Answer.{shows};
-ghost use Rattle.call_ends.specs.Carried.{Carries};
-ghost use Rattle.store_commands.specs.StoreEnds.{ended_for_report};
-ghost use Rattle.store_commands.specs.Shifts.{ended_for_book, reported, shifts_command};
+ghost use Rattle.std.specs.Prelude.{[], ℕ, ◌*◌, ◌+◌, ◌≡◌, ◌≢◌, ◌≤◌, Err, IfOk, OnOk, length, vec_len};
+ghost use Rattle.store_commands.specs.Common.{Carries, LeavesOthers, Rose, book_read, shows};
+ghost use Rattle.store_commands.specs.{Shifts.{ended_for_book, reported, shifts_command}, StoreEnds.{ended_for_report}};
 
 use crate::sealed::open_sealed;
 use call_ends::{Ended, print_text};

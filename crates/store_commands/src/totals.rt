@@ -1,13 +1,9 @@
 //! The command `totals`.
 #![tactic(auto, using(call_ends::proofs::Laws::board_runs))]
 
-ghost use Rattle.std.specs.Prelude.{◌≡◌, ◌+◌, ◌<◌, ◌≤◌, ◌++◌, ℕ, List, OnOk};
-ghost use Rattle.outside.specs.Faults.{HasCause};
-ghost use Rattle.outside.specs.Printing.{Begins};
-ghost use Rattle.outside.specs.Runs.{KeepsStore};
-ghost use Rattle.call_ends.specs.Carried.{Carries, no_files};
-ghost use Rattle.store_commands.specs.Totals.{totals_command};
-ghost use Rattle.store_commands.specs.TotalsText.{position_at, totals_text};
+ghost use Rattle.std.specs.Prelude.{ℕ, ◌++◌, ◌+◌, ◌<◌, ◌≡◌, ◌≤◌, List, OnOk};
+ghost use Rattle.store_commands.specs.Common.{Begins, Carries, HasCause, KeepsStore, no_files};
+ghost use Rattle.store_commands.specs.{Totals.{totals_command}, TotalsText.{position_at, totals_text}};
 
 use crate::sealed::open_sealed;
 use crate::totals_text::{heading, position_line};

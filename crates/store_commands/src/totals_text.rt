@@ -1,9 +1,8 @@
 //! The text of totals.
-ghost use Rattle.std.specs.Prelude.{◌≡◌, ◌+◌, ◌<◌, ◌≤◌, ◌++◌, length};
+ghost use Rattle.std.specs.Prelude.{◌++◌, ◌+◌, ◌<◌, ◌≡◌, ◌≤◌, length};
 ghost use Rattle.arrayvec.specs.ArrayVec.{array_vec_len};
-ghost use Rattle.taxi_units.specs.Line.{line_size};
-ghost use Rattle.store_commands.specs.TotalsText.{amount_line, distances_text, totals_heading, held_line, money_lines};
-ghost use Rattle.store_commands.specs.TotalsText.{position_text, share_text, summary_text};
+ghost use Rattle.store_commands.specs.{Common.{line_size}, TotalsText.{share_text, summary_text, totals_heading}};
+ghost use Rattle.store_commands.specs.TotalsText.{amount_line, distances_text, held_line, money_lines, position_text};
 
 use call_ends::push_number_line;
 use taxi_units::{Line, push_bytes, push_money, push_number};

@@ -1,7 +1,6 @@
 //! The years of which offsets are asked.
 ghost use Rattle.std.specs.Prelude.{◌≡◌, ◌≤◌, IfSome};
-ghost use Rattle.offset_rules.specs.Pairs.{AreYears};
-ghost use Rattle.taxi_units.specs.Reading.{GivesSame};
+ghost use Rattle.{taxi_units.specs.Reading.{GivesSame}, offset_rules.specs.Pairs.{AreYears}};
 ghost use Rattle.store_commands.specs.Years.{year_of, years_of};
 
 use std::marker::Model;
@@ -15,8 +14,7 @@ pub struct Years {
 }
 
 impl Model for Years {
-    ghost use Rattle.std.specs.Prelude.{ℕ};
-    ghost use Rattle.offset_rules.specs.Pairs.{AreYears};
+    ghost use Rattle.{std.specs.Prelude.{ℕ}, offset_rules.specs.Pairs.{AreYears}};
 
     ghost Value = { ℕ × ℕ };
 

@@ -1,22 +1,13 @@
 -- Two contexts that compare alike with the cuts of a condition's atoms: the condition holds in both or in neither.
-use Rattle.std.proofs.Common.{◌≡◌, ◌↔◌, ◌∙◌, sym, ℕ, ◌+◌, ◌*◌, ◌/◌, ◌≤◌, not, leb, ltb, List, [], ◌∷◌, ◌++◌, inl, inr}
-use Rattle.std.proofs.Common.{arith, refl, ap, subst}
-use Rattle.std.proofs.lemmas.Bool.{cases_lt, cases_eq, le-leb, lt-leb, lt-ltb, le-ltb, ne_eqb}
-use Rattle.std.proofs.lemmas.List.Concat.{flat_map-append}
-use Rattle.std.proofs.lemmas.List.Elements.{All-head, All-tail, All-cons, All-nil}
-use Rattle.std.specs.List.{All, flat_map}
-use Rattle.taxi_units.specs.Calendar.{date_place}
-use Rattle.taxi_units.specs.DateTest.{date_test}
-use Rattle.tariff_calendar.proofs.Dates.{on_places}
-use Rattle.tariff_calendar.specs.Lists.{pulses_for}
-use Rattle.tariff_check.specs.Cuts.{atom_cuts, day_cut, minute_cut}
-use Rattle.tariff_check.specs.Lines.{atoms_of}
-use Rattle.tariff_check.specs.Sound.{IsGoodAtom}
-use Rattle.tariff_check.specs.declared.fault.Dimension.TheVariants.{MonthDay, Minute, Distance, Time}
+use Rattle.std.{specs.List.{All, flat_map}, proofs.lemmas.List.Concat.{flat_map-append}}
+use Rattle.std.proofs.Common.{[], ℕ, ◌*◌, ◌++◌, ◌+◌, ◌/◌, ◌↔◌, ◌∙◌, ◌∷◌, ◌≡◌, ◌≤◌, List, ap, arith, inl, inr, leb, ltb}
+use Rattle.std.proofs.{Common.{not, refl, subst, sym}, lemmas.List.Elements.{All-cons, All-head, All-nil, All-tail}}
+use Rattle.std.proofs.lemmas.Bool.{cases_eq, cases_lt, le-leb, le-ltb, lt-leb, lt-ltb, ne_eqb}
+use Rattle.{taxi_units.specs.{Calendar.{date_place}, DateTest.{date_test}}, tariff_check.specs.Lines.{atoms_of}}
+use Rattle.{tariff_syntax.specs.Meaning.{is_in_time, is_within}, tariff_check.specs.Cuts.{day_cut, minute_cut}}
+use Rattle.tariff_calendar.specs.Common.{Condition, Context, Distance, IsGoodAtom, Minute, MonthDay, Time, atom_cuts}
+use Rattle.tariff_calendar.{specs.{Common.{holds}, Lists.{pulses_for}}, proofs.Dates.{on_places}}
 use Rattle.tariff_syntax.specs.Condition as tree
-use Rattle.tariff_syntax.specs.Condition.{Condition}
-use Rattle.tariff_syntax.specs.Meaning.{holds, is_within, is_in_time}
-use Rattle.tariff_syntax.specs.declared.context.Context.{Context}
 
 -- a cut compares alike with two values
 abbrev pub IsAlike : (v w cut : ℕ) → Type 0

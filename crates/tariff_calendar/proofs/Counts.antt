@@ -1,8 +1,7 @@
 -- How many numbers of a list are at most a value.
-use Rattle.std.proofs.Common.{◌≡◌, ◌∙◌, sym, ℕ, zero, suc, ◌<◌, ◌≤◌, cond, leb, List, [], ◌∷◌, length, get_or, inl, inr}
-use Rattle.std.proofs.Common.{arith, refl}
+use Rattle.std.proofs.Common.{[], ℕ, ◌<◌, ◌∙◌, ◌∷◌, ◌≡◌, ◌≤◌, List, arith, cond, get_or, inl, inr, leb, length, refl}
+use Rattle.std.proofs.{Common.{suc, sym, zero}, lemmas.List.Sums.{count_by-le-length, sum_by-cons}}
 use Rattle.std.proofs.lemmas.Bool.{cases_lt, le-leb, lt-leb}
-use Rattle.std.proofs.lemmas.List.Sums.{count_by-le-length, sum_by-cons}
 use Rattle.tariff_calendar.specs.Lists.{IsNotFalling, count_at_most}
 
 -- they are no more than the numbers

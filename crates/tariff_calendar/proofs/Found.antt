@@ -1,16 +1,11 @@
 -- What a look-up finds in numbers that don't fall.
-use Rattle.std.proofs.Common.{◌≡◌, ◌∙◌, sym, ℕ, zero, suc, ◌+◌, ◌-◌, min, ◌<◌, ◌≤◌, ◌^◌, false, eqb, List, length}
-use Rattle.std.proofs.Common.{get_or, inl, inr, arith}
-use Rattle.std.proofs.lemmas.Bool.{cases_lt, cases_eq, eq-eqb, ne_eqb}
-use Rattle.std.proofs.lemmas.List.Elements.{All-from_get_or}
-use Rattle.std.proofs.lemmas.List.Folds.{list_any_at, list_any_none}
-use Rattle.std.specs.List.{list_any}
-use Rattle.tariff_calendar.specs.Lists.{IsNotFalling, count_at_most, most_reads}
+use Rattle.{std.specs.List.{list_any}, tariff_check.specs.Cuts.{most_cuts}}
+use Rattle.std.proofs.Common.{ℕ, ◌+◌, ◌-◌, ◌<◌, ◌^◌, ◌∙◌, ◌≡◌, ◌≤◌, List, arith, eqb, false, get_or, inl, inr, length}
+use Rattle.std.proofs.{Common.{min, suc, sym, zero}, lemmas.Bool.{cases_eq, cases_lt, eq-eqb, ne_eqb}}
+use Rattle.std.proofs.lemmas.List.{Elements.{All-from_get_or}, Folds.{list_any_at, list_any_none}}
+use Rattle.tariff_calendar.specs.{Common.{Dimension, MonthDay}, Lists.{IsNotFalling, count_at_most, most_reads}}
 use Rattle.tariff_calendar.proofs.Counts.{IsNotFalling-le, count_at_most-above, count_at_most-below}
 use Rattle.tariff_calendar.proofs.Counts.{count_at_most-le-length}
-use Rattle.tariff_check.specs.Cuts.{most_cuts}
-use Rattle.tariff_check.specs.declared.fault.Dimension.{Dimension}
-use Rattle.tariff_check.specs.declared.fault.Dimension.TheVariants.{MonthDay}
 
 -- if none is at most the value, it isn't among them
 pub none_found : (v : ℕ) (xs : List ℕ) → IsNotFalling xs → count_at_most v xs ≡ 0 → list_any (λ x. eqb x v) xs ≡ false

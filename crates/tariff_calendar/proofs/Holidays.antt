@@ -1,26 +1,15 @@
 -- Holidays by their day numbers.
-use Rattle.std.proofs.Common.{ltb, length, ◌≡◌, ◌∙◌, ℕ, Bool, true, false, List, [], ◌∷◌, map}
-use Rattle.std.proofs.Common.{ℤ, pos, ◌<ℤ◌, arith, refl, ap, subst}
-use Rattle.std.proofs.lemmas.Bool.{lt-ltb, false_from_ne_true}
-use Rattle.std.proofs.lemmas.Bool.Decides.{Decides-int_eq, same_from_decides}
-use Rattle.std.proofs.lemmas.Int.{ints}
-use Rattle.std.proofs.lemmas.List.Elements.{All-head, All-tail}
-use Rattle.std.specs.List.{All, list_any}
-use Rattle.std.specs.Ordering.{int_eq}
-use Rattle.interval_clock.proofs.Laws.{IsDateOf-only, is_date_of_number}
+use Rattle.{std.specs.{List.{All, list_any}, Ordering.{int_eq}}, taxi_units.specs.DateTest.{date_test}}
+use Rattle.std.proofs.Common.{[], ℕ, ℤ, ◌<ℤ◌, ◌∙◌, ◌∷◌, ◌≡◌, Bool, List, ap, arith, false, length, ltb, map, pos, refl}
+use Rattle.std.proofs.{Common.{subst, true}, lemmas.{Bool.Decides.{Decides-int_eq, same_from_decides}, Int.{ints}}}
+use Rattle.std.proofs.lemmas.{Bool.{false_from_ne_true, lt-ltb}, List.Elements.{All-head, All-tail}}
+use Rattle.taxi_units.specs.Test.{◌&◌, Test, same}
 use Rattle.interval_clock.specs.declared.day_numbers.CalendarDate.{CalendarDate}
-use Rattle.interval_clock.specs.Calendar.{IsDateOf}
+use Rattle.{interval_clock.proofs.Laws.{IsDateOf-only, is_date_of_number}, tariff_check.specs.Parts.{DateNumbers}}
+use Rattle.tariff_check.{specs.Sound.{IsSoundHoliday}, proofs.Laws.{sound_tariffs_have_sound_parts-parts}}
+use Rattle.tariff_calendar.specs.Common.{HasSoundParts, IsDateOf, IsSound, IsWritable, Tree, has_holidays, holidays_of}
+use Rattle.tariff_calendar.specs.{Common.{with_each}, Lists.{day_of, has_day, has_days, is_holiday, lists_of}}
 use Rattle.tariff_calendar.proofs.Insertions.{list_any-with_each, with_each-some}
-use Rattle.tariff_calendar.specs.Lists.{day_of, has_day, has_days, is_holiday, lists_of}
-use Rattle.tariff_check.proofs.Laws.{sound_tariffs_have_sound_parts-parts}
-use Rattle.tariff_check.specs.Cuts.{with_each}
-use Rattle.tariff_check.specs.Faults.{IsSound}
-use Rattle.tariff_check.specs.Parts.{DateNumbers, has_holidays, holidays_of}
-use Rattle.tariff_check.specs.Sound.{HasSoundParts, IsSoundHoliday}
-use Rattle.taxi_units.specs.DateTest.{date_test}
-use Rattle.taxi_units.specs.Test.{Test, same, ◌&◌}
-use Rattle.tariff_syntax.specs.Tree.{Tree}
-use Rattle.tariff_syntax.specs.Writable.{IsWritable}
 
 -- no day before 1970 is one of day numbers
 pub has_day-before : (holidays : List ℕ) (day : ℤ) → day <ℤ pos 0 → has_day holidays day ≡ false

@@ -1,13 +1,9 @@
 -- Numbers put into order one by one: which they are, and that they rise.
-use Rattle.std.proofs.Common.{◌≡◌, ◌∙◌, sym, ℕ, zero, suc, ◌+◌, ◌<◌, ◌≤◌, Bool, true, false, ◌||◌, List, [], ◌∷◌}
-use Rattle.std.proofs.Common.{length, inl, inr, arith, refl, ap, subst}
-use Rattle.std.proofs.lemmas.Bool.{cases_order, lt-ltb, le-ltb, eq-eqb, ne_eqb}
-use Rattle.std.proofs.lemmas.List.Elements.{All-cons, All-head, All-tail, All-nil, All-weaker, All-from_get_or}
-use Rattle.std.proofs.lemmas.Map.Views.{All-insert_key}
-use Rattle.std.specs.BTreeSet.{insert_key}
-use Rattle.std.specs.List.{All, list_any}
-use Rattle.std.specs.Ordering.{nat_cmp}
-use Rattle.tariff_check.specs.Cuts.{IsRising, with_each}
+use Rattle.std.{specs.{BTreeSet.{insert_key}, List.{All, list_any}}, proofs.Common.{refl, subst, suc, sym, true, zero}}
+use Rattle.{std.specs.Ordering.{nat_cmp}, tariff_check.specs.Cuts.{IsRising}, tariff_calendar.specs.Common.{with_each}}
+use Rattle.std.proofs.Common.{[], ℕ, ◌+◌, ◌<◌, ◌||◌, ◌∙◌, ◌∷◌, ◌≡◌, ◌≤◌, Bool, List, ap, arith, false, inl, inr, length}
+use Rattle.std.proofs.lemmas.{Bool.{cases_order, eq-eqb, le-ltb, lt-ltb, ne_eqb}, Map.Views.{All-insert_key}}
+use Rattle.std.proofs.lemmas.List.Elements.{All-cons, All-from_get_or, All-head, All-nil, All-tail, All-weaker}
 
 -- a number below the first goes before it
 pub insert_key-before : (x n : ℕ) (xs : List ℕ) → n < x → insert_key nat_cmp (x ∷ xs) n ≡ n ∷ x ∷ xs

@@ -1,27 +1,15 @@
 -- The laws of the public empty functions.
-use Rattle.std.proofs.Common.{◌≡◌, ℕ, ◌+◌, ◌*◌, ◌<◌, ◌≤◌, ◌↔◌, ℤ, List, Some, length, get_or}
-use Rattle.std.specs.List.{Contains}
-use Rattle.interval_clock.specs.Calendar.{IsDateOf}
-use Rattle.tariff_calendar.specs.Lists.{AreOrdered, IsNotFalling, count_at_most, has_day, has_days, is_holiday}
-use Rattle.tariff_calendar.specs.Lists.{lists_of, pulses_for}
-use Rattle.tariff_calendar.specs.Range.{IsInRangeOf, IsSameCell}
-use Rattle.tariff_calendar.proofs.Comparisons.{fewest_pulses}
-use Rattle.tariff_calendar.proofs.Counts as Counts
-use Rattle.tariff_calendar.proofs.Holidays.{days_are_dates, some_days}
-use Rattle.tariff_calendar.proofs.Insertions.{length-with_each}
-use Rattle.tariff_calendar.proofs.Lists.{lists_ordered, no_distance_at_hiring, no_time_at_hiring}
-use Rattle.tariff_calendar.proofs.SameCell.{same_cell_first, same_cell_holds}
-use Rattle.tariff_check.proofs.Laws.{sound_tariffs_have_sound_parts-parts}
-use Rattle.tariff_check.specs.Cuts.{with_each}
-use Rattle.tariff_check.specs.Faults.{IsSound}
-use Rattle.tariff_check.specs.Kinds.{part_of}
-use Rattle.tariff_check.specs.Parts.{has_holidays}
+use Rattle.std.{specs.List.{Contains}, proofs.Common.{ℕ, ℤ, ◌*◌, ◌+◌, ◌<◌, ◌↔◌, ◌≡◌, ◌≤◌, List, Some, get_or, length}}
+use Rattle.tariff_check.{specs.Kinds.{part_of}, proofs.Laws.{sound_tariffs_have_sound_parts-parts}}
 use Rattle.tariff_check.specs.declared.choice.ChoiceKind.{ChoiceKind}
-use Rattle.tariff_syntax.specs.Condition.{Condition}
-use Rattle.tariff_syntax.specs.Meaning.{at_hiring, choice_place, holds}
-use Rattle.tariff_syntax.specs.Tree.{Tree, Line, when_part}
-use Rattle.tariff_syntax.specs.Writable.{IsWritable}
-use Rattle.tariff_syntax.specs.declared.context.Context.{Context}
+use Rattle.tariff_calendar.specs.Common.{Condition, Context, IsDateOf, IsSound, IsWritable, Line, Tree, at_hiring}
+use Rattle.tariff_calendar.specs.Common.{choice_place, has_holidays, holds, when_part, with_each}
+use Rattle.tariff_calendar.specs.Lists.{AreOrdered, IsNotFalling, count_at_most, has_day, has_days, is_holiday}
+use Rattle.tariff_calendar.{specs.Lists.{lists_of, pulses_for}, proofs.SameCell.{same_cell_first, same_cell_holds}}
+use Rattle.tariff_calendar.{specs.Range.{IsInRangeOf, IsSameCell}, proofs.Holidays.{days_are_dates, some_days}}
+use Rattle.tariff_calendar.proofs.{Comparisons.{fewest_pulses}, Insertions.{length-with_each}}
+use Rattle.tariff_calendar.proofs.Lists.{lists_ordered, no_distance_at_hiring, no_time_at_hiring}
+use Rattle.tariff_calendar.proofs.Counts as Counts
 
 pub cuts_decide_conditions-condition : (t : Tree) (k : ℕ) (x y : Context) → IsWritable t → IsSound t → IsInRangeOf t k x
     → IsInRangeOf t k y → IsSameCell (lists_of t k) x y

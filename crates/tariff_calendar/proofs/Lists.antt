@@ -1,24 +1,15 @@
 -- The lists of a tariff: they don't fall, are short, and have nothing at 0.
-use Rattle.std.proofs.Common.{◌≡◌, ℕ, ◌*◌, ◌<◌, ◌≤◌, List, [], ◌∷◌, length, get_or, map, arith, refl}
-use Rattle.std.proofs.lemmas.List.{get_or-map, length-map}
-use Rattle.std.proofs.lemmas.List.Elements.{All-head, All-tail, All-cons, All-nil, All-append, All-weaker}
-use Rattle.std.proofs.Math.Nat.{mul-le-mul_left}
-use Rattle.std.specs.List.{All, flat_map}
+use Rattle.std.{specs.List.{All, flat_map}, proofs.{Math.Nat.{mul-le-mul_left}, lemmas.List.{get_or-map, length-map}}}
+use Rattle.std.proofs.Common.{[], ℕ, ◌*◌, ◌<◌, ◌∷◌, ◌≡◌, ◌≤◌, List, arith, get_or, length, map, refl}
+use Rattle.std.proofs.lemmas.List.Elements.{All-append, All-cons, All-head, All-nil, All-tail, All-weaker}
+use Rattle.tariff_check.{specs.Cuts.{IsRising, all_cuts}, proofs.Laws.{sound_tariffs_have_sound_parts-parts}}
+use Rattle.{tariff_check.specs.Lines.{atoms_in}, tariff_calendar.specs.Common.{holidays_of}}
+use Rattle.tariff_calendar.specs.Common.{Condition, Dimension, Distance, HasSoundParts, IsFromTo, IsGoodAtom, IsSound}
+use Rattle.tariff_calendar.specs.Common.{IsWritable, Line, Minute, MonthDay, Time, Tree, atom_cuts, cuts_of, greatest}
 use Rattle.tariff_calendar.specs.Lists.{AreOrdered, IsNotFalling, count_at_most, day_of, list_in, lists_of, pulses_for}
 use Rattle.tariff_calendar.proofs.Counts.{count_at_most-zero}
 use Rattle.tariff_calendar.proofs.Insertions.{All-with_each, IsRising-none, IsRising-with_each, length-with_each}
-use Rattle.tariff_check.proofs.Laws.{sound_tariffs_have_sound_parts-parts}
-use Rattle.tariff_check.specs.Faults.{IsSound}
-use Rattle.tariff_check.specs.Cuts.{IsRising, all_cuts, atom_cuts, cuts_of}
-use Rattle.tariff_check.specs.Lines.{atoms_in}
-use Rattle.tariff_check.specs.Parts.{holidays_of}
-use Rattle.tariff_check.specs.Sound.{HasSoundParts, IsGoodAtom}
-use Rattle.tariff_check.specs.declared.fault.Dimension.{Dimension}
-use Rattle.tariff_check.specs.declared.fault.Dimension.TheVariants.{MonthDay, Minute, Distance, Time}
 use Rattle.tariff_syntax.specs.Condition as tree
-use Rattle.tariff_syntax.specs.Condition.{Condition}
-use Rattle.tariff_syntax.specs.Tree.{Tree, Line}
-use Rattle.tariff_syntax.specs.Writable.{IsFromTo, IsWritable, greatest}
 
 -- numbers that rise don't fall
 IsNotFalling-rising : (xs : List ℕ) → IsRising xs → IsNotFalling xs

@@ -1,5 +1,5 @@
 -- How far a value may grow while as many numbers are at most it.
-use Rattle.std.proofs.Common.{◌≡◌, ℕ, ◌+◌, ◌<◌, ◌≤◌, List, length, get_or, arith}
+use Rattle.std.proofs.Common.{ℕ, ◌+◌, ◌<◌, ◌≡◌, ◌≤◌, List, arith, get_or, length}
 use Rattle.tariff_calendar.specs.Lists.{IsNotFalling, count_at_most}
 use Rattle.tariff_calendar.proofs.Counts.{IsNotFalling-le, count_at_most-at}
 

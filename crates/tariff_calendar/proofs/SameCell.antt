@@ -1,28 +1,16 @@
 -- Two contexts of one cell: the conditions of the tariff hold in both or in neither, and the same lines hold first.
-use Rattle.std.proofs.Common.{◌≡◌, ℕ, ◌+◌, List, [], ◌∷◌, get_or, map, Option, Some, None, refl, subst}
-use Rattle.std.proofs.lemmas.List.Elements.{All-head, All-tail, All-cons, All-nil, All-contains, All-from_get_or}
-use Rattle.std.proofs.lemmas.List.Elements.{Contains-get_or}
-use Rattle.std.specs.List.{All, Contains, cons_option, flat_map, position_from}
-use Rattle.std.specs.Option.{option_map}
-use Rattle.tariff_calendar.specs.Lists.{CutLists, count_at_most, lists_of, pulses_for}
-use Rattle.tariff_calendar.specs.Range.{IsInRangeOf, IsSameCell}
-use Rattle.tariff_calendar.proofs.Comparisons.{IsAlike, IsAlikeInPulses, CompareAlike, HaveAlike, All-parts}
-use Rattle.tariff_calendar.proofs.Comparisons.{holds_alike}
-use Rattle.tariff_calendar.proofs.Counts.{decides_at}
-use Rattle.tariff_calendar.proofs.Insertions.{All-from_with_each}
-use Rattle.tariff_check.specs.Cuts.{all_cuts, atom_cuts, cuts_of}
-use Rattle.tariff_check.specs.Faults.{IsSound}
-use Rattle.tariff_check.specs.Lines.{atoms_in, atoms_if}
-use Rattle.tariff_check.specs.Sound.{HasSoundParts, IsGoodAtom}
-use Rattle.tariff_check.proofs.Laws.{sound_tariffs_have_sound_parts-parts}
-use Rattle.tariff_check.specs.declared.fault.Dimension.{Dimension}
-use Rattle.tariff_check.specs.declared.fault.Dimension.TheVariants.{MonthDay, Minute, Distance, Time}
-use Rattle.tariff_syntax.specs.Condition.{Condition}
-use Rattle.tariff_syntax.specs.Choices.{choices, conditions_of}
-use Rattle.tariff_syntax.specs.Meaning.{at_hiring, choice_place, holds, holds_if}
-use Rattle.tariff_syntax.specs.Tree.{Tree, Line, Entry, when_part}
-use Rattle.tariff_syntax.specs.Writable.{IsWritable}
-use Rattle.tariff_syntax.specs.declared.context.Context.{Context}
+use Rattle.std.specs.{List.{All, Contains, cons_option, flat_map, position_from}, Option.{option_map}}
+use Rattle.std.proofs.Common.{[], ℕ, ◌+◌, ◌∷◌, ◌≡◌, List, None, Option, Some, get_or, map, refl, subst}
+use Rattle.std.proofs.lemmas.List.Elements.{All-cons, All-contains, All-from_get_or, All-head, All-nil, All-tail}
+use Rattle.{std.proofs.lemmas.List.Elements.{Contains-get_or}, tariff_syntax.specs.Choices.{choices, conditions_of}}
+use Rattle.{tariff_syntax.specs.{Meaning.{holds_if}, Tree.{Entry}}, tariff_check.specs.Cuts.{all_cuts}}
+use Rattle.tariff_check.{specs.Lines.{atoms_if, atoms_in}, proofs.Laws.{sound_tariffs_have_sound_parts-parts}}
+use Rattle.tariff_calendar.specs.Common.{Condition, Context, Dimension, Distance, HasSoundParts, IsGoodAtom, IsSound}
+use Rattle.tariff_calendar.specs.Common.{IsWritable, Line, Minute, MonthDay, Time, Tree, at_hiring, atom_cuts}
+use Rattle.tariff_calendar.{specs.Common.{choice_place, cuts_of, holds, when_part}, proofs.Comparisons.{holds_alike}}
+use Rattle.tariff_calendar.{specs.Lists.{CutLists, count_at_most, lists_of, pulses_for}, proofs.Counts.{decides_at}}
+use Rattle.tariff_calendar.{specs.Range.{IsInRangeOf, IsSameCell}, proofs.Insertions.{All-from_with_each}}
+use Rattle.tariff_calendar.proofs.Comparisons.{All-parts, CompareAlike, HaveAlike, IsAlike, IsAlikeInPulses}
 
 -- what holds of all that is made of the elements of a list holds of all that is made of each
 All-from_flat_map : {X : Type 0} (P : ℕ → Type 0) (f : X → List ℕ) (xs : List X) → All P (flat_map f xs)

@@ -1,14 +1,8 @@
 -- Rules: the cuts and the holidays of a tariff under a constant.
-use Rattle.std.specs.Prelude.{ℕ, ◌+◌, ◌*◌, ◌/◌, ◌<◌, ◌≤◌, Bool, nat_le, nat_lt, List, [], map, length, get_or, ℤ, pos}
-use Rattle.std.specs.List.{list_any, count_by}
-use Rattle.std.specs.Ordering.{int_eq}
-use Rattle.interval_clock.specs.Calendar.{day_number_of}
-use Rattle.tariff_syntax.specs.Tree.{Tree, Line}
-use Rattle.tariff_check.specs.Cuts.{cuts_of, with_each}
-use Rattle.tariff_check.specs.Parts.{DateNumbers, holidays_of}
-use Rattle.tariff_check.specs.SoundLookups.{has_date}
-use Rattle.tariff_check.specs.declared.fault.Dimension.{Dimension}
-use Rattle.tariff_check.specs.declared.fault.Dimension.TheVariants.{MonthDay, Minute, Distance, Time}
+use Rattle.{std.specs.{List.{count_by, list_any}, Ordering.{int_eq}}, interval_clock.specs.Calendar.{day_number_of}}
+use Rattle.std.specs.Prelude.{[], ℕ, ℤ, ◌*◌, ◌+◌, ◌/◌, ◌<◌, ◌≤◌, Bool, List, get_or, length, map, nat_le, nat_lt, pos}
+use Rattle.{tariff_check.specs.{Parts.{DateNumbers}, SoundLookups.{has_date}}, tariff_calendar.specs.Common.{with_each}}
+use Rattle.tariff_calendar.specs.Common.{Dimension, Distance, Line, Minute, MonthDay, Time, Tree, cuts_of, holidays_of}
 
 -- the lists of a tariff are numbers in order: the cuts of each dimension (places in a leap year, minutes, pulses,
 -- ticks), and the day numbers of the holidays; if two distances are the same number of pulses, that number stands twice

@@ -1,11 +1,7 @@
 -- Rules: contexts that a trip may have, and those between the same cuts.
-use Rattle.std.specs.Prelude.{◌≡◌, ℕ, ◌*◌, ◌^◌, ◌≤◌, Bool, true}
-use Rattle.taxi_units.specs.Time.{longest_trip}
-use Rattle.tariff_syntax.specs.Tree.{Tree}
-use Rattle.tariff_syntax.specs.Writable.{IsFromTo}
-use Rattle.tariff_syntax.specs.declared.context.Context.{Context}
-use Rattle.tariff_check.specs.Parts.{positions_of, zones_of, has_holidays}
-use Rattle.tariff_calendar.specs.Lists.{CutLists, count_at_most}
+use Rattle.std.specs.Prelude.{ℕ, ◌*◌, ◌^◌, ◌≡◌, ◌≤◌, Bool, true}
+use Rattle.{taxi_units.specs.Time.{longest_trip}, tariff_check.specs.Parts.{positions_of, zones_of}}
+use Rattle.tariff_calendar.specs.{Common.{Context, IsFromTo, Tree, has_holidays}, Lists.{CutLists, count_at_most}}
 
 -- a trip may have a context if its constant is k, its position and zone are there, and its other numbers are in their
 -- ranges; it is a holiday only if there are holidays

@@ -1,11 +1,7 @@
 //! How the lists are collected.
-ghost use Rattle.std.specs.BTreeSet.{insert_key};
-ghost use Rattle.std.specs.Ordering.{nat_cmp};
-ghost use Rattle.std.specs.Prelude.{◌≡◌, ◌≤◌, [], map, All, IfOk, OnOk};
+ghost use Rattle.std.specs.{BTreeSet.{insert_key}, Ordering.{nat_cmp}, Prelude.{[], ◌≡◌, ◌≤◌, All, IfOk, OnOk, map}};
+ghost use Rattle.{tariff_check.specs.Sound.{IsSoundHoliday}, tariff_calendar.specs.Common.{greatest, with_each}};
 ghost use Rattle.tariff_calendar.specs.Lists.{day_of, pulses_for};
-ghost use Rattle.tariff_check.specs.Cuts.{with_each};
-ghost use Rattle.tariff_check.specs.Sound.{IsSoundHoliday};
-ghost use Rattle.tariff_syntax.specs.Writable.{greatest};
 
 use drive_modes::Constant;
 use interval_clock::day_number;

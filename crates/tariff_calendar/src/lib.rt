@@ -2,13 +2,13 @@
 #![tactic(auto)]
 
 mod collecting;
+mod cut_laws;
 mod cuts;
 mod lookups;
-mod theorems;
 
-pub use cuts::Cuts;
-pub use lookups::count_at_most;
-pub use theorems::{
+pub use cut_laws::{
     counts_are_places, cuts_are_the_fewest_pulses, cuts_decide_conditions, holidays_are_dates,
     lists_are_ordered,
 };
+pub use cuts::Cuts;
+pub use lookups::count_at_most;

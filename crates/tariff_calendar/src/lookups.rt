@@ -1,8 +1,6 @@
 //! Look-ups in numbers that don't fall.
-ghost use Rattle.std.specs.List.{list_any};
-ghost use Rattle.std.specs.Prelude.{◌≡◌, ◌==◌, ℕ, ◌+◌, ◌≤◌, ◌<◌, ◌^◌, length};
-ghost use Rattle.tariff_calendar.specs.Lists.{IsNotFalling, count_at_most};
-ghost use Rattle.taxi_units.specs.Counted.{HalvesIn};
+ghost use Rattle.std.specs.{List.{list_any}, Prelude.{ℕ, ◌+◌, ◌<◌, ◌==◌, ◌^◌, ◌≡◌, ◌≤◌, length}};
+ghost use Rattle.{taxi_units.specs.Counted.{HalvesIn}, tariff_calendar.specs.Lists.{IsNotFalling, count_at_most}};
 
 use std::sync::ledger::Ledger;
 use taxi_units::{Counted, Steps};

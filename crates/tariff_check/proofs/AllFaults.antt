@@ -1,21 +1,15 @@
 -- All faults of a tariff: the first of them is the one that is answered, and each that is there is named.
-use Rattle.std.proofs.Common.{◌≡◌, ◌↔◌, ℕ, zero, suc, ◌<◌, Bool, true, false, ◌||◌, ◌==◌, List, [], ◌∷◌, ◌++◌}
-use Rattle.std.proofs.Common.{Option, Some, None, All, length, refl, sym, ap, ◌∙◌, subst, arith}
-use Rattle.std.proofs.lemmas.Bool.{eqb-true}
-use Rattle.std.specs.List.{Contains, list_any, slice_get, slice_index_or}
-use Rattle.std.specs.Prelude.{◌^◌, nat_lt, not}
-use Rattle.std.specs.Option.{option_or}
-use Rattle.std.proofs.lemmas.List.Elements.{All-nil, All-cons, All-weaker, All-head, All-tail}
-use Rattle.std.proofs.lemmas.List.Elements.{Contains-append_left, Contains-append_right}
-use Rattle.std.proofs.Math.Nat.{mul-zero, zero-div, zero-mul}
-use Rattle.tariff_syntax.specs.Tree.{Entry, Line, Tree, rate}
+use Rattle.std.specs.{List.{Contains, list_any, slice_get, slice_index_or}, Prelude.{◌^◌, nat_lt, not}}
+use Rattle.{std.specs.Option.{option_or}, tariff_check.specs.Faults.{first_some}}
+use Rattle.std.proofs.Common.{[], ℕ, ◌++◌, ◌<◌, ◌==◌, ◌||◌, ◌↔◌, ◌∙◌, ◌∷◌, ◌≡◌, All, Bool, List, None, Option, Some, ap}
+use Rattle.std.proofs.{Common.{arith, false, length, refl, subst, suc, sym, true, zero}, lemmas.Bool.{eqb-true}}
+use Rattle.std.proofs.{Math.Nat.{mul-zero, zero-div, zero-mul}, lemmas.List.Elements.{Contains-append_right}}
+use Rattle.std.proofs.lemmas.List.Elements.{All-cons, All-head, All-nil, All-tail, All-weaker, Contains-append_left}
 use Rattle.tariff_check.specs.AllFaults.{all_faults, or_others, those_there}
+use Rattle.tariff_check.specs.Common.{CheckFault, Entry, Line, Tree, rate}
 use Rattle.tariff_check.specs.Faults.{HasNone, IsSound, fault_of, faults_before_cuts, faults_from_cuts, faults_of}
-use Rattle.tariff_check.specs.Faults.{first_some}
-use Rattle.tariff_check.specs.Lines.{is_for_nothing}
-use Rattle.tariff_check.specs.Measure.{common_with, gcd_of, lcm_of, measure_of, measures_of}
-use Rattle.tariff_check.specs.declared.fault.CheckFault.{CheckFault}
-use Rattle.tariff_check.proofs.Staging.{none_if_sound, or_assoc, sound_if_none}
+use Rattle.tariff_check.specs.{Lines.{is_for_nothing}, Measure.{common_with, gcd_of, lcm_of, measure_of, measures_of}}
+use Rattle.tariff_check.proofs.FaultStages.{none_if_sound, or_assoc, sound_if_none}
 
 -- ---- the first of them
 

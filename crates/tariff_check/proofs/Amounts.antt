@@ -1,20 +1,11 @@
 -- What a hiring begins with is what the lines that hold first say.
-use Rattle.std.proofs.Common.{◌≡◌, ℕ, ◌<◌, ◌≤◌, List, ◌∷◌, get_or, length, refl, add-one, All, arith}
-use Rattle.std.proofs.Common.{Option, Some, None, MatchOption}
-use Rattle.std.specs.List.{slice_get}
-use Rattle.std.proofs.lemmas.Option.{slice_get-get_or}
-use Rattle.taxi_units.specs.Money.{largest_amount}
-use Rattle.tariff_syntax.specs.Meaning.{at_hiring, minimum_place}
-use Rattle.tariff_syntax.specs.Tree.{Tree}
-use Rattle.tariff_syntax.specs.Writable.{IsWritable}
-use Rattle.tariff_syntax.specs.declared.context.Context.{Context}
-use Rattle.tariff_check.specs.Amounts.{HasAmountsOf, IsFitInitial, initial_by, place_number}
-use Rattle.tariff_check.specs.Faults.{IsSound}
+use Rattle.std.{specs.List.{slice_get}, proofs.{Common.{length, refl}, lemmas.Option.{slice_get-get_or}}}
+use Rattle.std.proofs.Common.{ℕ, ◌<◌, ◌∷◌, ◌≡◌, ◌≤◌, All, List, MatchOption, None, Option, Some, add-one, arith, get_or}
+use Rattle.tariff_check.specs.{Amounts.{HasAmountsOf, IsFitInitial, initial_by, place_number}, Common.{minimum_place}}
+use Rattle.tariff_check.specs.Common.{Context, Initial, IsWritable, Minimum, Tree, at_hiring, largest_amount}
+use Rattle.tariff_check.specs.{Faults.{IsSound}, Sound.{IsSoundInitial}}
 use Rattle.tariff_check.specs.Parts.{InitialNumbers, initial_part, initials_of, minimum_part, minimums_of}
-use Rattle.tariff_check.specs.Sound.{IsSoundInitial}
-use Rattle.tariff_check.specs.declared.choice.ChoiceKind.TheVariants.{Initial, Minimum}
-use Rattle.tariff_check.proofs.DefaultLines.{choice_always, choice_there, default_initial}
-use Rattle.tariff_check.proofs.SoundParts.{sound_parts}
+use Rattle.tariff_check.proofs.{DefaultLines.{choice_always, choice_there, default_initial}, SoundParts.{sound_parts}}
 
 no_fee : InitialNumbers
 no_fee = record { amount = 0; covers = 0 }

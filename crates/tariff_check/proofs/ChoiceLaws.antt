@@ -1,26 +1,16 @@
 -- The parts of the program are those of the tariff.
-use Rattle.std.proofs.Common.{◌≡◌, ℕ, zero, suc, ◌+◌, cond, List, [], ◌∷◌, ◌++◌, Option, Some, None, length, map, refl}
-use Rattle.std.proofs.Common.{ap, append_assoc, subst, sym}
-use Rattle.std.proofs.lemmas.List.{length-append}
-use Rattle.std.specs.List.{cons_option, filter, slice_get}
-use Rattle.std.specs.Option.{is_some, option_and_then, option_map}
-use Rattle.tariff_syntax.specs.Choices.{Choice, choices, conditions_of, values_of}
-use Rattle.tariff_syntax.specs.Condition.{Condition}
-use Rattle.tariff_syntax.specs.Meaning.{place_of}
-use Rattle.tariff_syntax.specs.Tree.{Tree, Line, Entry, holiday, supplement, when_part}
-use Rattle.tariff_syntax.specs.declared.context.Context.{Context}
+use Rattle.std.{specs.List.{cons_option, filter, slice_get}, proofs.lemmas.List.{length-append}}
+use Rattle.std.{specs.Option.{is_some, option_and_then, option_map}, proofs.Common.{refl, subst, suc, sym, zero}}
+use Rattle.std.proofs.Common.{[], ℕ, ◌++◌, ◌+◌, ◌∷◌, ◌≡◌, List, None, Option, Some, ap, append_assoc, cond, length, map}
+use Rattle.{tariff_syntax.specs.{Choices.{Choice}, Meaning.{place_of}}, tariff_check.specs.SoundTariff.{when_of_line}}
+use Rattle.tariff_check.specs.Common.{ChoiceKind, Condition, Context, Entry, Line, Parts, Supplement, Tree, choices}
+use Rattle.tariff_check.specs.Common.{conditions_of, holiday, supplement, values_of, when_part}
 use Rattle.tariff_check.specs.FoundLines.{line_in_force}
-use Rattle.tariff_check.specs.Kinds.{Said, entry_with, kept_of, part_of}
-use Rattle.tariff_check.specs.Parts.{DateNumbers, holiday_part, parts}
-use Rattle.tariff_check.specs.Resolved.{HasParts, line_of_own, placed_from}
+use Rattle.tariff_check.{specs.Kinds.{Said, entry_with, kept_of, part_of}, proofs.KindLaws.{choices_are, entry_again}}
+use Rattle.tariff_check.specs.{Parts.{DateNumbers, holiday_part, parts}, Resolved.{HasParts, line_of_own, placed_from}}
 use Rattle.tariff_check.specs.SoundTariff.{AreChoices, HasAllLines, entries_told, holiday_entry, is_told, line_with}
 use Rattle.tariff_check.specs.SoundTariff.{numbered_supplement, own_conditions, sound_of, supplement_entry, when_at}
-use Rattle.tariff_check.specs.SoundTariff.{when_of_line}
-use Rattle.tariff_check.specs.declared.values.Supplement.{Supplement}
 use Rattle.tariff_check.specs.declared.choice.Choice as program
-use Rattle.tariff_check.specs.declared.choice.ChoiceKind.{ChoiceKind}
-use Rattle.tariff_check.specs.declared.resolving.Parts.{Parts}
-use Rattle.tariff_check.proofs.KindLaws.{choices_are, entry_again}
 
 -- the line behind others is at the place that their number says
 pub at_end : (before : List Line) (l : Line) (ls : List Line) → slice_get (before ++ l ∷ ls) (length before) ≡ Some l

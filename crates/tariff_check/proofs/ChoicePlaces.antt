@@ -1,17 +1,11 @@
 -- Each choice of a tariff's lines stands at its line: at its place among the lines of its kind.
-use Rattle.std.proofs.Common.{◌≡◌, ◌∙◌, ap, refl, subst, suc, ◌+◌, Bool, true, false, cond, List, [], ◌∷◌, ◌++◌}
-use Rattle.std.proofs.Common.{All, append_assoc, Option, Some, None, arith}
-use Rattle.std.proofs.lemmas.List.Elements.{All-cons}
-use Rattle.std.proofs.lemmas.List.Sums.{sum_by-cons}
-use Rattle.std.specs.List.{cons_option, slice_get}
-use Rattle.std.specs.Option.{is_some, option_map}
-use Rattle.tariff_syntax.specs.Tree.{Line, Entry, initial, minimum, rate}
-use Rattle.tariff_check.specs.ChoiceLines.{choice_lines, choices_behind, place_behind}
-use Rattle.tariff_check.specs.FoundLines.{StandsAtItsLine, lines_of_kind}
+use Rattle.std.{specs.List.{cons_option, slice_get}, proofs.lemmas.List.Sums.{sum_by-cons}}
+use Rattle.{std.specs.Option.{is_some, option_map}, tariff_check.specs.FoundLines.{StandsAtItsLine, lines_of_kind}}
+use Rattle.std.proofs.Common.{[], ◌++◌, ◌+◌, ◌∙◌, ◌∷◌, ◌≡◌, All, Bool, List, None, Option, Some, ap, append_assoc}
+use Rattle.std.proofs.{Common.{arith, cond, false, refl, subst, suc, true}, lemmas.List.Elements.{All-cons}}
+use Rattle.tariff_check.{specs.ChoiceLines.{choice_lines, choices_behind, place_behind}, proofs.KindLaws.{part_is}}
+use Rattle.tariff_check.specs.Common.{ChoiceKind, ChoiceLine, Entry, Line, initial, minimum, rate}
 use Rattle.tariff_check.specs.Kinds.{is_of, kind_of, part_of}
-use Rattle.tariff_check.specs.declared.choice.ChoiceKind.{ChoiceKind}
-use Rattle.tariff_check.specs.declared.choice.ChoiceLine.{ChoiceLine}
-use Rattle.tariff_check.proofs.KindLaws.{part_is}
 
 -- an entry is of the kind that it is told to be
 kind_is : (x : Entry) (kind : ChoiceKind) → kind_of x ≡ Some kind → is_of kind x ≡ true

@@ -1,17 +1,13 @@
 -- The common measure is the least common multiple of all measures.
-use Rattle.std.proofs.Common.{◌≡◌, ℕ, ◌<◌, List, [], ◌∷◌, Some, None, All, subst, arith}
-use Prim.Native.Nat.{◌∣◌}
-use Rattle.std.proofs.lemmas.Nat.Gcd.{le_of_dvd}
-use Rattle.std.proofs.lemmas.List.Elements.{All-nil, All-cons, All-head, All-tail}
-use Rattle.std.proofs.Math.Nat.{div-mul_cancel, dvd_trans, dvd_refl, one-dvd}
-use Rattle.tariff_check.proofs.LeastMultiples.{divides, lcm_divides, lcm_is_least}
-use Rattle.tariff_syntax.specs.Tree.{Tree, Line}
-use Rattle.tariff_check.specs.Faults.{IsSound, fault_of}
-use Rattle.tariff_check.specs.Measure.{IsLeastCommonMultiple, lcm_of, measures_of, common_with}
+use Rattle.std.proofs.{Common.{[], ℕ, ◌<◌, ◌∷◌, ◌≡◌, All, List, None, Some, arith, subst}, lemmas.Nat.Gcd.{le_of_dvd}}
+use Rattle.std.proofs.Math.Nat.{div-mul_cancel, dvd_refl, dvd_trans, one-dvd}
+use Rattle.std.proofs.lemmas.List.Elements.{All-cons, All-head, All-nil, All-tail}
+use Rattle.tariff_check.specs.{Common.{Line, NoCommonMeasure, Tree}, Stages.{early_fault, late_fault}}
+use Rattle.tariff_check.{specs.Faults.{IsSound, fault_of}, proofs.LeastMultiples.{divides, lcm_divides, lcm_is_least}}
+use Rattle.tariff_check.specs.Measure.{IsLeastCommonMultiple, common_with, lcm_of, measures_of}
+use Rattle.tariff_check.proofs.FaultStages.{measured_if, no_early_fault, none_if_sound, or_parts, staged}
 use Rattle.tariff_check.proofs.MeasureLaws.{IsSome, common_grows, lcm_some, measures_some}
-use Rattle.tariff_check.proofs.Staging.{no_early_fault, none_if_sound, or_parts, staged, measured_if}
-use Rattle.tariff_check.specs.Stages.{early_fault, late_fault}
-use Rattle.tariff_check.specs.declared.fault.CheckFault.TheVariants.{NoCommonMeasure}
+use Prim.Native.Nat.{◌∣◌}
 
 -- the first number, and each further one, divides it
 first_divides : (first : ℕ) (ns : List ℕ) → 0 < first → All IsSome ns → first ∣ common_with first ns

@@ -1,22 +1,13 @@
 -- The choices that lines give, line after line.
-use Rattle.std.proofs.Common.{◌≡◌, ◌∙◌, ap, sym, refl, subst, ℕ, suc, ◌+◌, ◌<◌, cond, List, [], ◌∷◌, ◌++◌, length, map}
-use Rattle.std.proofs.Common.{get_or, take, drop, drop-cons, append_assoc, Option, Some, None, arith}
-use Rattle.std.proofs.lemmas.List.{length-append, map-append, map_more, take-append-drop}
-use Rattle.std.proofs.lemmas.Grind.{common_steps}
-use Rattle.std.proofs.lemmas.List.Sums.{sum_by-append, sum_by-cons}
-use Rattle.std.specs.List.{cons_option}
+use Rattle.std.{specs.List.{cons_option}, proofs.lemmas.List.Sums.{sum_by-append, sum_by-cons}}
 use Rattle.std.specs.Option.{is_some, option_map, option_to_list}
-use Rattle.tariff_syntax.specs.Tree.{Line, line_of}
-use Rattle.tariff_syntax.specs.declared.tariff.TariffLine.{TariffLine}
+use Rattle.std.proofs.Common.{[], ℕ, ◌++◌, ◌+◌, ◌<◌, ◌∙◌, ◌∷◌, ◌≡◌, List, None, Option, Some, ap, append_assoc, arith}
+use Rattle.std.proofs.Common.{cond, drop, drop-cons, get_or, length, map, refl, subst, suc, sym, take}
+use Rattle.std.proofs.lemmas.{Grind.{common_steps}, List.{length-append, map-append, map_more, take-append-drop}}
 use Rattle.tariff_check.specs.ChoiceLines.{choice_behind, choice_lines, choices_behind, place_behind}
-use Rattle.tariff_check.specs.Kinds.{EachKind, Said, is_of, kept_of, part_of}
+use Rattle.tariff_check.specs.Common.{Choice, ChoiceKind, ChoiceLine, Choices, Line, Parts, TariffLine, line_of}
+use Rattle.tariff_check.{specs.Kinds.{EachKind, Said, is_of, kept_of, part_of}, proofs.KindLaws.{of_kind, part_is}}
 use Rattle.tariff_check.specs.Resolved.{count_in, counted_choice, placed, placed_from}
-use Rattle.tariff_check.specs.declared.choice.Choice.{Choice}
-use Rattle.tariff_check.specs.declared.choice.ChoiceKind.{ChoiceKind}
-use Rattle.tariff_check.specs.declared.choice.ChoiceLine.{ChoiceLine}
-use Rattle.tariff_check.specs.declared.choice.Choices.{Choices}
-use Rattle.tariff_check.specs.declared.resolving.Parts.{Parts}
-use Rattle.tariff_check.proofs.KindLaws.{of_kind, part_is}
 
 module _ (kind : ChoiceKind) where
   -- as many choices are placed as there are lines of the kind

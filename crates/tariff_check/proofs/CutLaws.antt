@@ -1,16 +1,8 @@
 -- How cuts are put among others.
-use Rattle.std.proofs.Common.{◌≡◌, ℕ, List, [], ◌∷◌, ◌++◌, suc, ◌+◌, ◌<◌, length, map, get_or, drop, drop-cons, refl}
-use Rattle.std.proofs.Common.{ap, ◌∙◌, sym, arith}
-use Rattle.std.proofs.lemmas.Grind.{flat_map-append}
-use Rattle.std.specs.List.{flat_map}
-use Rattle.std.specs.BTreeSet.{insert_key}
-use Rattle.std.specs.Ordering.{nat_cmp}
-use Rattle.tariff_syntax.specs.Condition.{Condition}
-use Rattle.tariff_syntax.specs.Tree.{entry_of, line_of}
-use Rattle.tariff_syntax.specs.declared.tariff.TariffLine.{TariffLine}
-use Rattle.tariff_check.specs.Cuts.{all_cuts, atom_cuts, with_each}
-use Rattle.tariff_check.specs.Lines.{atoms_in}
-use Rattle.tariff_check.specs.declared.fault.Dimension.{Dimension}
+use Rattle.std.{specs.BTreeSet.{insert_key}, proofs.{Common.{map, refl, suc, sym}, lemmas.Grind.{flat_map-append}}}
+use Rattle.{std.specs.{List.{flat_map}, Ordering.{nat_cmp}}, tariff_check.specs.Cuts.{all_cuts, atom_cuts, with_each}}
+use Rattle.std.proofs.Common.{[], ℕ, ◌++◌, ◌+◌, ◌<◌, ◌∙◌, ◌∷◌, ◌≡◌, List, ap, arith, drop, drop-cons, get_or, length}
+use Rattle.tariff_check.specs.{Common.{Condition, Dimension, TariffLine, entry_of, line_of}, Lines.{atoms_in}}
 
 -- numbers that are put among others in two parts
 pub with_each-append : (numbers more last : List ℕ)

@@ -1,15 +1,8 @@
 -- Cuts are in order, each once.
-use Rattle.std.proofs.Common.{◌≡◌, ◌⊎◌, inl, inr, ℕ, zero, suc, ◌<◌, List, [], ◌∷◌, length, get_or, refl, sym, subst}
-use Rattle.std.proofs.Common.{arith}
-use Rattle.std.specs.BTreeSet.{insert_key}
-use Rattle.std.specs.List.{Contains}
-use Rattle.std.specs.Ordering.{nat_cmp}
-use Rattle.std.proofs.Common.{Less, Equal, Greater}
-use Rattle.std.proofs.lemmas.Bool.{cases_lt}
-use Rattle.std.proofs.lemmas.Bool.Decides.{nat_tests}
-use Rattle.tariff_syntax.specs.Tree.{Line}
-use Rattle.tariff_check.specs.Cuts.{IsInOrder, all_cuts, cuts_of, with_each}
-use Rattle.tariff_check.specs.declared.fault.Dimension.{Dimension}
+use Rattle.std.specs.{BTreeSet.{insert_key}, List.{Contains}, Ordering.{nat_cmp}}
+use Rattle.std.proofs.Common.{[], ℕ, ◌<◌, ◌∷◌, ◌≡◌, ◌⊎◌, Equal, Greater, Less, List, arith, get_or, inl, inr, length}
+use Rattle.std.proofs.{Common.{refl, subst, suc, sym, zero}, lemmas.Bool.{cases_lt, Decides.{nat_tests}}}
+use Rattle.tariff_check.specs.{Common.{Dimension, Line}, Cuts.{IsInOrder, all_cuts, cuts_of, with_each}}
 
 -- a number is among others
 abbrev IsIn : ℕ → List ℕ → Type 0

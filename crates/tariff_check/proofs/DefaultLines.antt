@@ -1,21 +1,12 @@
 -- Some line always holds.
-use Rattle.std.proofs.Common.{◌≡◌, ℕ, ◌<◌, not, Bool, true, false, All, List, [], ◌∷◌, Option, Some, None, length, refl}
-use Rattle.std.proofs.Common.{arith}
-use Rattle.std.proofs.lemmas.List.{length-map}
-use Rattle.std.proofs.lemmas.List.Elements.{All-head, All-tail}
-use Rattle.std.proofs.lemmas.Option.{slice_get_within}
-use Rattle.std.specs.List.{list_any}
-use Rattle.std.specs.Option.{is_none}
-use Rattle.tariff_syntax.specs.Choices.{Choice, choices, conditions_of, values_of}
-use Rattle.tariff_syntax.specs.Condition.{Condition}
-use Rattle.tariff_syntax.specs.Meaning.{choice_place, holds_if}
-use Rattle.tariff_syntax.specs.Tree.{Tree, Entry}
-use Rattle.tariff_syntax.specs.declared.context.Context.{Context}
-use Rattle.tariff_syntax.proofs.Laws.{first_lines_hold-conditions}
-use Rattle.tariff_check.specs.Faults.{IsSound, has_default}
-use Rattle.tariff_check.specs.Parts.{initial_part, rate_part}
+use Rattle.std.{specs.{List.{list_any}, Option.{is_none}}, proofs.lemmas.List.{length-map}}
+use Rattle.std.proofs.Common.{[], ℕ, ◌<◌, ◌∷◌, ◌≡◌, All, Bool, List, None, Option, Some, arith, false, length, not}
+use Rattle.std.proofs.{Common.{refl, true}, lemmas.{List.Elements.{All-head, All-tail}, Option.{slice_get_within}}}
+use Rattle.tariff_syntax.{specs.Choices.{Choice}, proofs.Laws.{first_lines_hold-conditions}}
+use Rattle.tariff_check.specs.Common.{Condition, Context, Entry, Tree, choice_place, choices, conditions_of, holds_if}
+use Rattle.tariff_check.{specs.Common.{values_of}, proofs.FaultStages.{faults_none, not_if}}
+use Rattle.tariff_check.specs.{Faults.{IsSound, has_default}, Parts.{initial_part, rate_part}}
 use Rattle.tariff_check.specs.declared.fault.CheckFault.TheVariants.{NoDefaultInitial, NoDefaultRate}
-use Rattle.tariff_check.proofs.Staging.{faults_none, not_if}
 
 -- if one of some lines is without a condition, not all fail to hold
 default_holds : (x : Context) (conditions : List (Option Condition)) → list_any is_none conditions ≡ true

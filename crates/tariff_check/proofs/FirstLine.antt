@@ -1,12 +1,9 @@
 -- The first line that meets a test.
-use Rattle.std.proofs.Common.{◌≡◌, ◌⊎◌, inl, inr, ◌↔◌, ℕ, suc, ◌<◌, ◌≤◌, Bool, true, false, cond, List, [], ◌∷◌, ◌++◌}
-use Rattle.std.proofs.Common.{Option, Some, None, All, refl, ap, sym, ◌∙◌, subst, append_assoc, length, length-append}
-use Rattle.std.proofs.Common.{get_or, arith}
-use Rattle.std.proofs.lemmas.List.{append-nil}
-use Rattle.std.proofs.lemmas.List.Elements.{All-nil, All-cons}
-use Rattle.tariff_syntax.specs.Reads.{RiseInNumber}
-use Rattle.tariff_syntax.specs.Tree.{Line, Entry}
-use Rattle.tariff_check.specs.Lines.{LineTest, IsFirstLine, IsNowhere, first_line, first_after}
+use Rattle.std.proofs.Common.{[], ℕ, ◌++◌, ◌<◌, ◌↔◌, ◌∙◌, ◌∷◌, ◌≡◌, ◌≤◌, ◌⊎◌, All, Bool, List, None, Option, Some, ap}
+use Rattle.std.proofs.Common.{append_assoc, arith, cond, false, get_or, inl, inr, length, length-append, refl, subst}
+use Rattle.std.proofs.{Common.{suc, sym, true}, lemmas.List.{append-nil, Elements.{All-cons, All-nil}}}
+use Rattle.tariff_check.specs.Common.{Entry, Line, RiseInNumber}
+use Rattle.tariff_check.specs.Lines.{IsFirstLine, IsNowhere, LineTest, first_after, first_line}
 
 -- the test of a line decides how the search goes on
 found : (b : Bool) (line number : ℕ) (rest : Option ℕ) → cond b (Some line) rest ≡ Some number

@@ -1,18 +1,11 @@
 -- What is looked for among lines one by one is found among their parts.
-use Rattle.std.proofs.Common.{◌≡◌, ◌∙◌, ℕ, Bool, true, false, ◌&&◌, ◌||◌, cond, List, [], ◌∷◌, Option, Some, None, refl}
-use Rattle.std.proofs.Common.{ap, sym}
-use Rattle.std.specs.List.{cons_option, list_any, slice_get}
-use Rattle.std.specs.Option.{is_none, is_some, option_and_then, option_map, unwrap_or}
-use Rattle.tariff_syntax.specs.Choices.{choices, conditions_of}
-use Rattle.tariff_syntax.specs.Tree.{Line, Entry, positions, step, when_part, zones}
-use Rattle.tariff_check.specs.Faults.{has_default}
-use Rattle.tariff_check.specs.FoundLines.{frame_line, says}
-use Rattle.tariff_check.specs.Kinds.{Said, is_of, part_of}
+use Rattle.{std.specs.List.{cons_option, list_any, slice_get}, tariff_check.specs.{Common.{zones}, Parts.{zones_part}}}
+use Rattle.std.{specs.Option.{is_none, is_some, option_and_then, option_map, unwrap_or}, proofs.Common.{sym, true}}
+use Rattle.std.proofs.Common.{[], ℕ, ◌&&◌, ◌||◌, ◌∙◌, ◌∷◌, ◌≡◌, Bool, List, None, Option, Some, ap, cond, false, refl}
+use Rattle.tariff_check.specs.Common.{ChoiceKind, Entry, Line, choices, conditions_of, positions, step, when_part}
+use Rattle.tariff_check.specs.{Faults.{has_default}, FoundLines.{frame_line, says}, Kinds.{Said, is_of, part_of}}
 use Rattle.tariff_check.specs.Parts.{first_part, parts, positions_of, positions_part, step_of, step_part, zones_of}
-use Rattle.tariff_check.specs.Parts.{zones_part}
-use Rattle.tariff_check.specs.declared.choice.ChoiceKind.{ChoiceKind}
-use Rattle.tariff_check.specs.declared.found_lines.FramePart.{FramePart}
-use Rattle.tariff_check.specs.declared.found_lines.FramePart.TheVariants.{Positions, Step, Zones}
+use Rattle.tariff_check.specs.declared.found_lines.FramePart.{FramePart, TheVariants.{Positions, Step, Zones}}
 use Rattle.tariff_check.proofs.KindLaws.{part_is}
 
 -- if a part of the frame is what such entries say, the first part is that of the first line that says it

@@ -1,21 +1,13 @@
 -- A sound tariff tells its frame once.
-use Rattle.std.proofs.Common.{◌≡◌, ℕ, ◌≤◌, true, false, List, [], ◌∷◌, ◌++◌, Option, Some, None, length, map}
-use Rattle.std.proofs.Common.{refl, ap, sym, append_assoc, inl, inr, arith}
-use Rattle.std.proofs.lemmas.List.{append-nil}
-use Rattle.std.proofs.lemmas.List.Elements.{filter_map-append}
-use Rattle.std.specs.List.{cons_option, list_any, slice_get}
-use Rattle.std.specs.Option.{is_none, is_some, unwrap_or}
-use Rattle.drive_modes.specs.declared.meterage.Rounding.{Rounding}
-use Rattle.drive_modes.specs.declared.meterage.Rounding.TheVariants.{Behind}
-use Rattle.tariff_syntax.specs.Tree.{Tree, Line, Entry, positions, step, zones}
-use Rattle.tariff_check.specs.Faults.{IsSound}
+use Rattle.std.specs.{List.{cons_option, list_any, slice_get}, Option.{is_none, is_some, unwrap_or}}
+use Rattle.std.proofs.Common.{[], ℕ, ◌++◌, ◌∷◌, ◌≡◌, ◌≤◌, List, None, Option, Some, ap, append_assoc, arith, false, inl}
+use Rattle.std.proofs.{Common.{inr, length, map, refl, sym, true}, lemmas.List.Elements.{filter_map-append}}
+use Rattle.{std.proofs.lemmas.List.{append-nil}, drive_modes.specs.declared.meterage.Rounding.TheVariants.{Behind}}
+use Rattle.tariff_check.specs.Common.{Duplicate, Entry, Line, NoStep, Rounding, Tree, positions, step, zones}
+use Rattle.tariff_check.specs.{Faults.{IsSound}, Parts.{parts, positions_part, step_of, step_part, zones_part}}
 use Rattle.tariff_check.specs.Lines.{excludes, first_after, first_line, is_duplicate}
-use Rattle.tariff_check.specs.Parts.{parts, positions_part, step_of, step_part, zones_part}
-use Rattle.tariff_check.specs.SoundTariff.{HasFrame, IsToldOnce, entries_told, sound_of}
-use Rattle.tariff_check.specs.declared.fault.CheckFault.TheVariants.{Duplicate, NoStep}
-use Rattle.tariff_check.proofs.FirstLine.{passed_by}
-use Rattle.tariff_check.proofs.ChoiceLaws.{entries_again}
-use Rattle.tariff_check.proofs.Staging.{faults_none, not_if, nowhere, or_false}
+use Rattle.tariff_check.{specs.SoundTariff.{HasFrame, IsToldOnce, entries_told, sound_of}, proofs.FirstLine.{passed_by}}
+use Rattle.tariff_check.proofs.{ChoiceLaws.{entries_again}, FaultStages.{faults_none, not_if, nowhere, or_false}}
 
 module _ {A : Type 0} (part : Entry → Option A) where
   -- two entries with the part exclude each other

@@ -1,20 +1,13 @@
 -- What is proved of each kind of line.
-use Rattle.std.proofs.Common.{◌≡◌, ℕ, ◌^◌, true, false, Some, refl, ap, subst, arith}
-use Rattle.std.proofs.lemmas.Bool.{ltb-false}
-use Rattle.std.specs.Option.{is_some}
-use Rattle.taxi_units.specs.Money.{largest_amount}
-use Rattle.tariff_syntax.specs.Choices.{choices}
-use Rattle.tariff_syntax.specs.Part as part
-use Rattle.tariff_syntax.specs.Tree.{Tree, Entry, step, initial, rate, minimum, when_part}
-use Rattle.tariff_syntax.specs.Writable.{IsWritableEntry, IsWritableIf}
+use Rattle.{std.specs.Option.{is_some}, tariff_syntax.specs.Writable.{IsWritableIf}}
+use Rattle.std.proofs.{Common.{ℕ, ◌^◌, ◌≡◌, Some, ap, arith, false, refl, subst, true}, lemmas.Bool.{ltb-false}}
+use Rattle.tariff_check.specs.Common.{ChoiceKind, Entry, Initial, IsWritableEntry, Minimum, Rate, Tree, choices}
+use Rattle.tariff_check.specs.Common.{initial, largest_amount, minimum, rate, step, when_part}
 use Rattle.tariff_check.specs.Kinds.{EachKind, InitialNumbers, IsSoundInitial, IsSoundRate, IsSoundSaid, RateNumbers}
-use Rattle.tariff_check.specs.Kinds.{Said, entry_with, is_great, is_of, part_of}
+use Rattle.tariff_check.{specs.Kinds.{Said, entry_with, is_great, is_of, part_of}, proofs.MeasureLaws.{both_some}}
 use Rattle.tariff_check.specs.Lines.{is_alike, is_for_nothing, most_alike}
-use Rattle.tariff_check.specs.SoundTariff.{IsInOnePart, choices_in, sound_of}
-use Rattle.tariff_check.specs.declared.choice.ChoiceKind.{ChoiceKind}
-use Rattle.tariff_check.specs.declared.choice.ChoiceKind.TheVariants.{Rate, Initial, Minimum}
-use Rattle.tariff_check.proofs.MeasureLaws.{both_some}
-use Rattle.tariff_check.proofs.Staging.{or_false}
+use Rattle.tariff_check.{specs.SoundTariff.{IsInOnePart, choices_in, sound_of}, proofs.FaultStages.{or_false}}
+use Rattle.tariff_syntax.specs.Part as part
 
 -- what holds of each kind holds of one
 pub of_kind : (P : ChoiceKind → Type 0) → EachKind P → (kind : ChoiceKind) → P kind

@@ -1,41 +1,23 @@
 -- The laws of the public empty functions.
-use Rattle.std.proofs.Common.{◌≡◌, ◌↔◌, ℕ, ◌<◌, ◌≤◌, ◌∷◌, ◌++◌, true, List, [], Some, None, All, length, refl}
-use Rattle.tariff_syntax.specs.Meaning.{at_hiring, choice_place, initial_place, rate_place}
-use Rattle.tariff_syntax.specs.Reads.{RiseInNumber}
-use Rattle.tariff_syntax.specs.Tree.{Tree, Line, Entry}
-use Rattle.tariff_syntax.specs.Writable.{IsFromTo, IsWritable}
-use Rattle.tariff_syntax.specs.declared.context.Context.{Context}
-use Rattle.std.specs.List.{Contains, slice_get}
-use Rattle.tariff_check.specs.AllFaults.{all_faults}
-use Rattle.tariff_check.specs.Amounts.{HasAmountsOf, IsFitInitial, initial_by}
-use Rattle.tariff_check.specs.ChoiceLines.{choice_lines}
-use Rattle.tariff_check.specs.Cuts.{IsInOrder, all_cuts, cuts_of, with_each}
+use Rattle.{std.specs.List.{Contains, slice_get}, tariff_check.specs.{ChoiceLines.{choice_lines}, Common.{rate_place}}}
+use Rattle.std.proofs.Common.{[], ℕ, ◌++◌, ◌<◌, ◌↔◌, ◌∷◌, ◌≡◌, ◌≤◌, All, List, None, Some, length, refl, true}
+use Rattle.tariff_check.{specs.AllFaults.{all_faults}, proofs.Amounts.{fit_initial, has_amounts}}
+use Rattle.tariff_check.{specs.Amounts.{HasAmountsOf, IsFitInitial, initial_by}, proofs.FrameLines.{frame_told}}
+use Rattle.tariff_check.specs.Common.{CheckFault, ChoiceKind, Context, Dimension, Entry, IsFromTo, IsWritable, Line}
+use Rattle.tariff_check.specs.Common.{NoCommonMeasure, RiseInNumber, Tree, at_hiring, choice_place, initial_place}
+use Rattle.tariff_check.{specs.Cuts.{IsInOrder, all_cuts, cuts_of, with_each}, proofs.KindLaws.{in_one_part}}
 use Rattle.tariff_check.specs.Faults.{HasNone, IsSound, fault_of, faults_before_cuts, faults_from_cuts, faults_of}
-use Rattle.tariff_check.specs.FoundLines.{StandsAtItsLine}
-use Rattle.tariff_check.specs.Lines.{LineTest, IsFirstLine, IsNowhere, first_line}
-use Rattle.tariff_check.specs.Measure.{IsLeastCommonMultiple, measures_of, measure_of}
+use Rattle.tariff_check.specs.{FoundLines.{StandsAtItsLine}, Measure.{IsLeastCommonMultiple, measure_of, measures_of}}
 use Rattle.tariff_check.specs.Kinds.{initial_part, initials_of, part_of, rate_part, rates_of, said_by}
-use Rattle.tariff_check.specs.Parts.{supplement_of}
-use Rattle.tariff_check.specs.Sound.{HasSoundParts}
+use Rattle.tariff_check.{specs.Lines.{IsFirstLine, IsNowhere, LineTest, first_line}, proofs.SoundParts.{sound_parts}}
+use Rattle.tariff_check.specs.{Parts.{supplement_of}, Sound.{HasSoundParts}}
 use Rattle.tariff_check.specs.SoundTariff.{HasAllLines, HasFrame, IsInOnePart, sound_of, supplement_numbered}
-use Rattle.tariff_check.specs.declared.choice.ChoiceKind.{ChoiceKind}
-use Rattle.tariff_check.specs.declared.fault.CheckFault.{CheckFault}
-use Rattle.tariff_check.specs.declared.fault.CheckFault.TheVariants.{NoCommonMeasure}
-use Rattle.tariff_check.specs.declared.fault.Dimension.{Dimension}
 use Rattle.tariff_check.proofs.AllFaults.{each_before_cuts_is_named, each_named_is_there, each_of_cuts_is_named}
-use Rattle.tariff_check.proofs.AllFaults.{first_named, none_named, zero_measure}
-use Rattle.tariff_check.proofs.Amounts.{fit_initial, has_amounts}
-use Rattle.tariff_check.proofs.ChoicePlaces.{choices_there}
-use Rattle.tariff_check.proofs.CommonMeasure.{least_of_some, refused_measures, sound_measures}
-use Rattle.tariff_check.proofs.CutOrder.{cuts_in_order, each_in_order}
+use Rattle.tariff_check.proofs.{AllFaults.{first_named, none_named, zero_measure}, Supplements.{none_of_other_numbers}}
+use Rattle.tariff_check.proofs.{ChoiceLaws.{all_lines}, CommonMeasure.{least_of_some, refused_measures, sound_measures}}
+use Rattle.tariff_check.proofs.{ChoicePlaces.{choices_there}, FirstLine.{first_line_is, nowhere_is, smallest_line}}
+use Rattle.tariff_check.proofs.{CutOrder.{cuts_in_order, each_in_order}, FaultStages.{none_if_sound, sound_if_none}}
 use Rattle.tariff_check.proofs.DefaultLines.{choice_always, choice_there, default_initial, default_rate}
-use Rattle.tariff_check.proofs.FirstLine.{first_line_is, nowhere_is, smallest_line}
-use Rattle.tariff_check.proofs.FrameLines.{frame_told}
-use Rattle.tariff_check.proofs.KindLaws.{in_one_part}
-use Rattle.tariff_check.proofs.ChoiceLaws.{all_lines}
-use Rattle.tariff_check.proofs.SoundParts.{sound_parts}
-use Rattle.tariff_check.proofs.Staging.{none_if_sound, sound_if_none}
-use Rattle.tariff_check.proofs.Supplements.{none_of_other_numbers}
 
 pub faults_name_the_first_line-named : (test : LineTest) (lines : List Line) (number : ℕ)
     → (first_line test lines ≡ Some number) ↔ IsFirstLine test lines number

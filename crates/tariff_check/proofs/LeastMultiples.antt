@@ -1,12 +1,11 @@
 -- The least common multiple of two numbers is what its name says.
-use Rattle.std.proofs.Common.{◌≡◌, ℕ, zero, suc, ◌+◌, ◌*◌, ◌/◌, ◌%◌, ◌<◌, ◌≤◌, refl, ap, sym, subst, ◌∙◌, arith}
-use Prim.Native.Nat.{◌∣◌}
-use Rattle.std.specs.Int.{IsGcd}
-use Rattle.std.proofs.lemmas.Nat.Gcd.{IsGcd-from_zero, IsGcd-from_mod, same_from_IsGcd, le_of_dvd}
-use Rattle.std.proofs.Math.Nat.{div-mul_cancel, mul-zero, zero-mul, mul-pos, mul_right_comm, mul_comm, mul_assoc}
-use Rattle.std.proofs.Math.Nat.{dvd-mul_left, dvd_of_mul-dvd-mul_right, mul-dvd-mul_right, dvd-add_iff_right}
-use Rattle.std.proofs.Math.Nat.{dvd-mul_right_of_dvd, div-add-mod, mul_left_comm, mul-add}
+use Rattle.std.{specs.Int.{IsGcd}, proofs.lemmas.Nat.Gcd.{IsGcd-from_mod, IsGcd-from_zero, le_of_dvd, same_from_IsGcd}}
+use Rattle.std.proofs.Common.{ℕ, ◌%◌, ◌*◌, ◌+◌, ◌/◌, ◌<◌, ◌∙◌, ◌≡◌, ◌≤◌, ap, arith, refl, subst, suc, sym, zero}
+use Rattle.std.proofs.Math.Nat.{div-add-mod, div-mul_cancel, dvd-add_iff_right, dvd-mul_left, dvd-mul_right_of_dvd}
+use Rattle.std.proofs.Math.Nat.{dvd_of_mul-dvd-mul_right, mul-add, mul-dvd-mul_right, mul-pos, mul-zero, mul_assoc}
+use Rattle.std.proofs.Math.Nat.{mul_comm, mul_left_comm, mul_right_comm, zero-mul}
 use Rattle.tariff_check.specs.Measure.{gcd_in, gcd_of, lcm_of}
+use Prim.Native.Nat.{◌∣◌}
 
 -- a divisor of a number above 0 is above 0
 pub divisor_positive : (a b g : ℕ) → 0 < a → IsGcd a b g → 0 < g

@@ -16,6 +16,8 @@ mod CutLaws
 mod CutOrder
 -- some line always holds
 mod DefaultLines
+-- the first fault, stage by stage
+mod FaultStages
 -- the first line that meets a test
 mod FirstLine
 -- what is looked for among lines one by one is found among their parts
@@ -26,17 +28,15 @@ mod FrameLines
 mod KindLaws
 -- the laws that the crates above may cite
 pub mod Laws
+-- the least common multiple of two numbers is what its name says
+mod LeastMultiples
 -- what holds of each line of a sound tariff whose numbers a text can have
 mod LineFacts
 -- the common measure of more than two measures
 mod MeasureLaws
--- the least common multiple of two numbers is what its name says
-mod LeastMultiples
 -- what holds of the lines of a tariff holds of its parts
 mod PartLaws
 -- a sound tariff has its parts in their ranges
 mod SoundParts
--- the first fault, stage by stage
-mod Staging
 -- supplements outside the numbers that a text can have
 mod Supplements

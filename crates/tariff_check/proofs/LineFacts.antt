@@ -1,26 +1,17 @@
 -- What holds of each line of a sound tariff whose numbers a text can have.
-use Rattle.std.proofs.Common.{◌≡◌, ℕ, ◌^◌, ◌≤◌, ◌&&◌, ◌==◌, not, Bool, true, false, List, [], ◌∷◌, Option, Some}
-use Rattle.std.proofs.Common.{None, All, refl, subst, arith}
-use Rattle.std.proofs.lemmas.Bool.{leb-true, ltb-false, eqb-false}
-use Rattle.std.proofs.lemmas.List.Elements.{All-nil, All-cons, All-append}
-use Rattle.std.specs.List.{list_any}
-use Rattle.drive_modes.specs.declared.meterage.Rounding.{Rounding}
-use Rattle.taxi_units.specs.Money.{largest_display_step}
-use Rattle.tariff_syntax.specs.Condition as tree
-use Rattle.tariff_syntax.specs.Condition.{Condition}
-use Rattle.tariff_syntax.specs.Part as part
-use Rattle.tariff_syntax.specs.Tree.{Entry, step, positions, zones, holiday, supplement, when_part}
-use Rattle.tariff_syntax.specs.Writable.{IsFromTo, IsWritableCondition, IsWritableIf, IsWritableEntry}
-use Rattle.tariff_check.specs.Kinds.{IsSoundSaid, Said, is_great, part_of}
+use Rattle.std.{specs.List.{list_any}, proofs.lemmas.Bool.{eqb-false, leb-true, ltb-false}}
+use Rattle.std.proofs.Common.{[], ℕ, ◌&&◌, ◌==◌, ◌^◌, ◌∷◌, ◌≡◌, ◌≤◌, All, Bool, List, None, Option, Some, arith, false}
+use Rattle.std.proofs.{Common.{not, refl, subst, true}, lemmas.List.Elements.{All-append, All-cons, All-nil}}
+use Rattle.{tariff_syntax.specs.Writable.{IsWritableCondition, IsWritableIf}, tariff_check.specs.Lines.{is_undated}}
+use Rattle.tariff_check.specs.Common.{ChoiceKind, Condition, Entry, IsFromTo, IsWritableEntry, Rounding, Supplement}
+use Rattle.tariff_check.specs.Common.{holiday, largest_display_step, positions, step, supplement, when_part, zones}
+use Rattle.tariff_check.{specs.Kinds.{IsSoundSaid, Said, is_great, part_of}, proofs.FaultStages.{or_false}}
 use Rattle.tariff_check.specs.Lines.{atoms_if, atoms_in, atoms_of, is_after_nothing, is_for_nothing, is_no_holiday}
-use Rattle.tariff_check.specs.Lines.{is_undated}
-use Rattle.tariff_check.specs.Parts.{DateNumbers, holiday_part}
-use Rattle.tariff_check.specs.declared.values.Supplement.{Supplement}
-use Rattle.tariff_check.specs.Parts.{numbered_supplement, positions_part, step_part, zones_part}
-use Rattle.tariff_check.specs.declared.choice.ChoiceKind.{ChoiceKind}
-use Rattle.tariff_check.specs.Sound.{IsGoodAtom, IsSoundAtom, IsSoundHoliday, IsSoundSupplement}
+use Rattle.tariff_check.specs.Parts.{DateNumbers, holiday_part, numbered_supplement, positions_part, step_part}
+use Rattle.tariff_check.specs.{Parts.{zones_part}, Sound.{IsGoodAtom, IsSoundAtom, IsSoundHoliday, IsSoundSupplement}}
 use Rattle.tariff_check.proofs.KindLaws.{said_sound, when_writable}
-use Rattle.tariff_check.proofs.Staging.{or_false}
+use Rattle.tariff_syntax.specs.Condition as tree
+use Rattle.tariff_syntax.specs.Part as part
 
 -- an entry breaks none of the rules for numbers
 pub record IsGoodEntry (x : Entry) : Type 0 where

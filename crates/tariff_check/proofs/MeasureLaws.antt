@@ -1,17 +1,12 @@
 -- The common measure of more than two measures.
-use Rattle.std.proofs.Common.{◌≡◌, ℕ, suc, ◌<◌, ◌≤◌, ◌||◌, ◌==◌, false, List, [], ◌∷◌, All, length, map, get_or, drop}
-use Rattle.std.proofs.Common.{drop-cons, refl, ap, sym, ◌∙◌, subst, arith}
-use Rattle.std.proofs.lemmas.Nat.Gcd.{le_of_dvd}
-use Rattle.std.proofs.lemmas.Bool.Decides.{nat_tests}
-use Rattle.std.proofs.lemmas.List.{get_or-map, length-map, drop-map}
-use Rattle.std.proofs.lemmas.List.Elements.{All-nil, All-cons, All-head, All-tail, All-drop, All-same}
+use Rattle.std.proofs.Common.{[], ℕ, ◌<◌, ◌==◌, ◌||◌, ◌∙◌, ◌∷◌, ◌≡◌, ◌≤◌, All, List, ap, arith, drop, drop-cons, false}
+use Rattle.std.proofs.{Common.{get_or, length, map, refl, subst, suc, sym}, lemmas.Bool.Decides.{nat_tests}}
+use Rattle.std.proofs.lemmas.{List.{drop-map, get_or-map, length-map}, Nat.Gcd.{le_of_dvd}}
+use Rattle.std.proofs.lemmas.List.Elements.{All-cons, All-drop, All-head, All-nil, All-same, All-tail}
+use Rattle.tariff_syntax.specs.declared.tariff.{Item.TheVariants.{Rate}, RateLine.{RateLine}}
+use Rattle.tariff_check.specs.{Common.{Entry, Line, TariffLine, entry_of, line_of, rate}, Lines.{is_for_nothing}}
+use Rattle.tariff_check.specs.Measure.{common_with, lcm_of, measures_of}
 use Rattle.tariff_check.proofs.LeastMultiples.{divides, lcm_is_least}
-use Rattle.tariff_syntax.specs.Tree.{Line, Entry, rate, entry_of, line_of}
-use Rattle.tariff_syntax.specs.declared.tariff.Item.TheVariants.{Rate}
-use Rattle.tariff_syntax.specs.declared.tariff.RateLine.{RateLine}
-use Rattle.tariff_syntax.specs.declared.tariff.TariffLine.{TariffLine}
-use Rattle.tariff_check.specs.Lines.{is_for_nothing}
-use Rattle.tariff_check.specs.Measure.{lcm_of, measures_of, common_with}
 
 -- a line is no rate with a measure of 0
 abbrev pub IsMeasured : Line → Type 0

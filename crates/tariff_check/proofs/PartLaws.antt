@@ -1,19 +1,12 @@
 -- What holds of the lines of a tariff holds of its parts.
-use Rattle.std.proofs.Common.{◌≡◌, ℕ, ◌+◌, ◌≤◌, Bool, true, false, cond, List, [], ◌∷◌, ◌++◌, Option, Some, None, All}
-use Rattle.std.proofs.Common.{length, refl, ◌∙◌, ap, sym, subst, append_assoc, arith}
-use Rattle.std.proofs.lemmas.Bool.{leb-false}
-use Rattle.std.proofs.lemmas.List.{append-nil, length-append}
-use Rattle.std.proofs.lemmas.List.Elements.{All-nil, All-cons, All-head, All-tail, filter_map-append}
-use Rattle.std.proofs.lemmas.List.Sums.{sum_by-cons}
-use Rattle.std.specs.List.{cons_option, count_by, slice_get}
-use Rattle.std.specs.Option.{is_some}
-use Rattle.tariff_syntax.specs.Tree.{Line, Entry, holiday}
-use Rattle.tariff_check.specs.Kinds.{part_of}
-use Rattle.tariff_check.specs.Lines.{first_after, is_alike, is_one_too_many, most_alike}
-use Rattle.tariff_check.specs.Parts.{first_part, holiday_part, parts}
-use Rattle.tariff_check.specs.declared.choice.ChoiceKind.{ChoiceKind}
-use Rattle.tariff_check.proofs.FirstLine.{passed_by}
-use Rattle.tariff_check.proofs.KindLaws.{kind_alike, part_is}
+use Rattle.std.{specs.List.{cons_option, count_by, slice_get}, proofs.lemmas.List.{append-nil, length-append}}
+use Rattle.std.{specs.Option.{is_some}, proofs.lemmas.{Bool.{leb-false}, List.Sums.{sum_by-cons}}}
+use Rattle.std.proofs.Common.{[], ℕ, ◌++◌, ◌+◌, ◌∙◌, ◌∷◌, ◌≡◌, ◌≤◌, All, Bool, List, None, Option, Some, ap}
+use Rattle.std.proofs.Common.{append_assoc, arith, cond, false, length, refl, subst, sym, true}
+use Rattle.std.proofs.lemmas.List.Elements.{All-cons, All-head, All-nil, All-tail, filter_map-append}
+use Rattle.tariff_check.specs.{Common.{ChoiceKind, Entry, Line, holiday}, Parts.{first_part, holiday_part, parts}}
+use Rattle.tariff_check.{specs.Kinds.{part_of}, proofs.KindLaws.{kind_alike, part_is}}
+use Rattle.tariff_check.{specs.Lines.{first_after, is_alike, is_one_too_many, most_alike}, proofs.FirstLine.{passed_by}}
 
 parts_by : {A : Type 0} (P : A → Type 0) (o : Option A) (rest : List A) → ((y : A) → o ≡ Some y → P y) → All P rest
     → All P (cons_option o rest)

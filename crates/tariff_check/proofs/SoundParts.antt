@@ -1,48 +1,25 @@
 -- A sound tariff has its parts in their ranges.
-use Rattle.std.proofs.Common.{◌≡◌, ℕ, ◌^◌, ◌<◌, ◌≤◌, Bool, true, false, cond, List, [], Option, Some, None, All, refl}
-use Rattle.std.proofs.Common.{length, ap, subst, arith}
-use Rattle.std.proofs.lemmas.Bool.{ltb-false, eqb-false}
-use Rattle.std.proofs.lemmas.List.{length-map}
-use Rattle.std.proofs.Math.Nat.{mul-pos}
-use Rattle.std.specs.List.{list_any}
-use Rattle.std.specs.Option.{is_none, unwrap_or}
-use Rattle.drive_modes.specs.declared.meterage.Rounding.{Rounding}
-use Rattle.taxi_units.specs.Money.{largest_display_step}
-use Rattle.tariff_syntax.specs.Choices.{choices}
-use Rattle.tariff_syntax.specs.Tree.{Tree, Line, Entry}
-use Rattle.tariff_syntax.specs.Writable.{IsFromTo, IsWritable}
-use Rattle.tariff_check.specs.Cells.{bands_between, cells_of}
-use Rattle.tariff_check.specs.Counted.{HasNumbers}
-use Rattle.tariff_check.specs.Cuts.{count_of, most_cuts}
-use Rattle.tariff_check.specs.Faults.{IsSound, cuts_fault, faults_of, is_step_zero}
+use Rattle.std.{specs.{List.{list_any}, Option.{is_none, unwrap_or}}, proofs.Math.Nat.{mul-pos}}
+use Rattle.std.proofs.Common.{[], ℕ, ◌<◌, ◌^◌, ◌≡◌, ◌≤◌, All, Bool, List, None, Option, Some, ap, arith, cond, false}
+use Rattle.std.proofs.{Common.{length, refl, subst, true}, lemmas.{Bool.{eqb-false, ltb-false}, List.{length-map}}}
+use Rattle.tariff_check.specs.{Cells.{bands_between, cells_of}, Kinds.{IsSoundSaid, Said, is_great, part_of, said_by}}
+use Rattle.tariff_check.specs.Common.{AmountTooBig, BadDate, Choice, ChoiceKind, Dimension, Distance, Entry, IsFromTo}
+use Rattle.tariff_check.specs.Common.{IsWritable, Line, MeasureZero, Minute, MonthDay, NoCommonMeasure, NoStep}
+use Rattle.tariff_check.specs.Common.{Rounding, Supplement, Time, TooManyCells, TooManyLines, Tree, choices}
+use Rattle.tariff_check.{specs.Common.{largest_display_step}, proofs.LineFacts.{supplement_fact, zones_fact}}
+use Rattle.tariff_check.specs.{Counted.{HasNumbers}, Parts.{positions_part, step_of, step_part, zones_of, zones_part}}
+use Rattle.tariff_check.specs.{Cuts.{count_of, most_cuts}, Sound.{HasSoundParts, IsSoundHoliday, IsSoundSupplement}}
+use Rattle.tariff_check.specs.{Faults.{IsSound, cuts_fault, faults_of, is_step_zero}, Measure.{measure_of, measures_of}}
 use Rattle.tariff_check.specs.Lines.{atoms_in, first_line, has_bad_date, has_great_amount, has_measure_zero}
-use Rattle.tariff_check.specs.Lines.{is_after_nothing, is_for_nothing, is_no_holiday, is_one_too_many}
-use Rattle.tariff_check.specs.Lines.{is_undated}
-use Rattle.tariff_check.specs.Measure.{measure_of, measures_of}
-use Rattle.tariff_check.specs.Kinds.{IsSoundSaid, Said, is_great, part_of, said_by}
-use Rattle.tariff_check.specs.Parts.{first_part, has_holidays, holiday_part}
-use Rattle.tariff_check.specs.declared.values.Supplement.{Supplement}
-use Rattle.tariff_check.specs.Parts.{numbered_supplement, parts, positions_of, positions_part, step_of, step_part}
-use Rattle.tariff_check.specs.Parts.{zones_of, zones_part}
-use Rattle.tariff_check.specs.Sound.{HasSoundParts, IsSoundHoliday, IsSoundSupplement}
+use Rattle.tariff_check.specs.Lines.{is_after_nothing, is_for_nothing, is_no_holiday, is_one_too_many, is_undated}
+use Rattle.tariff_check.specs.Parts.{first_part, has_holidays, holiday_part, numbered_supplement, parts, positions_of}
 use Rattle.tariff_check.specs.SoundTariff.{AreChoices}
-use Rattle.tariff_check.specs.declared.choice.Choice.{Choice}
-use Rattle.tariff_check.specs.declared.choice.ChoiceKind.{ChoiceKind}
-use Rattle.tariff_check.specs.declared.fault.CheckFault.TheVariants.{AmountTooBig, BadDate, MeasureZero, TooManyLines}
-use Rattle.tariff_check.specs.declared.fault.CheckFault.TheVariants.{NoCommonMeasure, NoStep, StepZero, TooManyCells}
-use Rattle.tariff_check.specs.declared.fault.Dimension.{Dimension}
-use Rattle.tariff_check.specs.declared.fault.Dimension.TheVariants.{MonthDay, Minute, Distance, Time}
-use Rattle.tariff_check.specs.declared.numbers.Numbers.{Numbers}
-use Rattle.tariff_check.proofs.ChoiceLaws.{values_are}
-use Rattle.tariff_check.proofs.CommonMeasure.{sound_measures}
-use Rattle.tariff_check.proofs.DefaultLines.{default_initial, default_rate}
-use Rattle.tariff_check.proofs.FirstLine.{never}
+use Rattle.tariff_check.specs.declared.{fault.CheckFault.TheVariants.{StepZero}, numbers.Numbers.{Numbers}}
+use Rattle.tariff_check.proofs.{ChoiceLaws.{values_are}, FaultStages.{AreNone, faults_none, not_if, nowhere, or_false}}
+use Rattle.tariff_check.proofs.{CommonMeasure.{sound_measures}, DefaultLines.{default_initial, default_rate}}
+use Rattle.tariff_check.proofs.{FirstLine.{never}, MeasureLaws.{common_grows}, Supplements.{numbered_has}}
 use Rattle.tariff_check.proofs.LineFacts.{IsGoodEntry, choice_fact, good_atoms, holiday_fact, positions_fact, step_fact}
-use Rattle.tariff_check.proofs.LineFacts.{supplement_fact, zones_fact}
-use Rattle.tariff_check.proofs.MeasureLaws.{common_grows}
 use Rattle.tariff_check.proofs.PartLaws.{Gives, choices_alike, few, first_part_has, holidays_alike, parts_all}
-use Rattle.tariff_check.proofs.Staging.{AreNone, faults_none, not_if, nowhere, or_false}
-use Rattle.tariff_check.proofs.Supplements.{numbered_has}
 
 -- each line is good
 abbrev IsGoodLine : Line → Type 0

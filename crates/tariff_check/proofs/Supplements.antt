@@ -1,15 +1,10 @@
 -- Supplements outside the numbers that a text can have, and what holds of each holds of the one of a number.
-use Rattle.std.proofs.Common.{◌≡◌, ℕ, ◌==◌, Bool, List, [], ◌∷◌, Option, Some, None, true, false, cond, All, refl}
-use Rattle.std.proofs.Common.{subst, arith}
-use Rattle.std.proofs.lemmas.Bool.{ne_eqb}
-use Rattle.std.proofs.lemmas.List.Elements.{All-head, All-tail}
-use Rattle.std.specs.List.{cons_option, find}
-use Rattle.std.specs.Option.{option_map}
+use Rattle.std.specs.{List.{cons_option, find}, Option.{option_map}}
+use Rattle.std.proofs.Common.{[], ℕ, ◌==◌, ◌∷◌, ◌≡◌, All, Bool, List, None, Option, Some, arith, cond, false, refl}
+use Rattle.std.proofs.{Common.{subst, true}, lemmas.{Bool.{ne_eqb}, List.Elements.{All-head, All-tail}}}
+use Rattle.tariff_check.specs.Common.{Entry, IsFromTo, IsWritable, IsWritableEntry, Line, Supplement, Tree, supplement}
 use Rattle.tariff_check.specs.Parts.{numbered_supplement, parts, supplement_numbered, supplement_of}
-use Rattle.tariff_check.specs.declared.values.Supplement.{Supplement}
 use Rattle.tariff_syntax.specs.Part as part
-use Rattle.tariff_syntax.specs.Tree.{Tree, Line, Entry, supplement}
-use Rattle.tariff_syntax.specs.Writable.{IsFromTo, IsWritable, IsWritableEntry}
 
 none_more : (n : ℕ) (entry : Entry) (rest : List (ℕ × Supplement)) → (IsFromTo 1 16 n → ⊥) → IsWritableEntry entry
     → supplement_numbered rest n ≡ None

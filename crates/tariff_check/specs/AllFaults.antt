@@ -1,9 +1,6 @@
 -- Rules: all faults of a tariff. Faults has each of them.
-use Rattle.std.specs.Prelude.{List, [], ◌∷◌, Option}
-use Rattle.std.specs.List.{filter_map}
-use Rattle.tariff_syntax.specs.Tree.{Line}
-use Rattle.tariff_check.specs.Faults.{faults_before_cuts, faults_from_cuts}
-use Rattle.tariff_check.specs.declared.fault.CheckFault.{CheckFault}
+use Rattle.std.specs.{List.{filter_map}, Prelude.{[], ◌∷◌, List, Option}}
+use Rattle.tariff_check.specs.{Common.{CheckFault, Line}, Faults.{faults_before_cuts, faults_from_cuts}}
 
 -- of values that are each there or not, those that are there, in order
 abbrev pub those_there : {A : Type 0} → List (Option A) → List A

@@ -1,15 +1,9 @@
 -- Rules: what a hiring begins with.
-use Rattle.std.specs.Prelude.{◌≡◌, ℕ, ◌+◌, ◌≤◌, ◌∷◌, get_or, Option, Some, None, MatchOption}
-use Rattle.std.specs.List.{slice_get}
-use Rattle.std.specs.Option.{unwrap_or}
-use Rattle.taxi_units.specs.Money.{largest_amount}
-use Rattle.tariff_syntax.specs.Meaning.{at_hiring, initial_place, minimum_place}
-use Rattle.tariff_syntax.specs.Tree.{Tree}
-use Rattle.tariff_syntax.specs.declared.context.Context.{Context}
-use Rattle.tariff_check.specs.Parts.{InitialNumbers, initials_of, minimums_of}
+use Rattle.{std.specs.List.{slice_get}, tariff_check.specs.Parts.{InitialNumbers, initials_of, minimums_of}}
+use Rattle.std.specs.{Option.{unwrap_or}, Prelude.{ℕ, ◌+◌, ◌∷◌, ◌≡◌, ◌≤◌, MatchOption, None, Option, Some, get_or}}
+use Rattle.tariff_check.specs.Common.{Context, Tree, at_hiring, initial_place, largest_amount, minimum_place}
 use Rattle.tariff_check.specs.SoundLookups.{place_in_force}
-use Rattle.tariff_check.specs.SoundTariff.{SoundTariff, sound_of, values_of}
-use Rattle.tariff_check.specs.declared.values.Initial.{Initial}
+use Rattle.tariff_check.specs.{SoundTariff.{SoundTariff, sound_of, values_of}, declared.values.Initial.{Initial}}
 
 -- the number of a place that may be none is one more than the place, and 0 for none
 abbrev pub place_number : Option ℕ → ℕ

@@ -1,9 +1,7 @@
 -- Rules: how many cells a tariff has. Contexts in one cell mean the same to each of its conditions.
-use Rattle.std.specs.Prelude.{ℕ, ◌+◌, ◌*◌, if◌then◌else◌, List}
-use Rattle.tariff_syntax.specs.Tree.{Line}
-use Rattle.tariff_check.specs.Cuts.{count_of}
-use Rattle.tariff_check.specs.Parts.{positions_of, zones_of, has_holidays}
-use Rattle.tariff_check.specs.declared.fault.Dimension.TheVariants.{MonthDay, Minute, Distance, Time}
+use Rattle.std.specs.Prelude.{ℕ, ◌*◌, ◌+◌, List, if◌then◌else◌}
+use Rattle.tariff_check.specs.{Common.{Distance, Line, Minute, MonthDay, Time}, Cuts.{count_of}}
+use Rattle.tariff_check.specs.Parts.{has_holidays, positions_of, zones_of}
 
 -- a tariff has two kinds of days if it has a holiday, holidays and others, and one kind if it has none
 abbrev pub day_kinds : List Line → ℕ

@@ -1,10 +1,6 @@
 -- Rules: which choices the lines of a tariff give, over all kinds.
-use Rattle.std.specs.Prelude.{ℕ, ◌++◌, List, [], ◌∷◌, Option, count_by, option_map}
-use Rattle.std.specs.List.{cons_option}
-use Rattle.tariff_syntax.specs.Tree.{Line}
-use Rattle.tariff_check.specs.Kinds.{is_of, kind_of}
-use Rattle.tariff_check.specs.declared.choice.ChoiceKind.{ChoiceKind}
-use Rattle.tariff_check.specs.declared.choice.ChoiceLine.{ChoiceLine}
+use Rattle.std.specs.{List.{cons_option}, Prelude.{[], ℕ, ◌++◌, ◌∷◌, List, Option, count_by, option_map}}
+use Rattle.tariff_check.specs.{Common.{ChoiceKind, ChoiceLine, Line}, Kinds.{is_of, kind_of}}
 
 -- the place of a line among those of a kind is how many of them stand before it
 abbrev pub place_behind : ChoiceKind → (before : List Line) → ℕ

@@ -1,14 +1,8 @@
 -- For proofs: the numbers of a tariff, as the code has them. Cuts, Cells, Measure and Parts say what they are.
-use Rattle.std.specs.Prelude.{◌≡◌, ◌≤◌, List, Some, None}
-use Rattle.tariff_syntax.specs.Tree.{Line}
-use Rattle.tariff_check.specs.Cells.{cells_of}
-use Rattle.tariff_check.specs.Cuts.{count_of}
-use Rattle.tariff_check.specs.Faults.{faults_of, first_some}
-use Rattle.tariff_check.specs.Measure.{measure_of}
-use Rattle.tariff_check.specs.Parts.{positions_of, step_of, zones_of}
-use Rattle.tariff_check.specs.declared.cells.Counts.{Counts}
-use Rattle.tariff_check.specs.declared.numbers.Numbers.{Numbers}
-use Rattle.tariff_check.specs.declared.fault.Dimension.TheVariants.{MonthDay, Minute, Distance, Time}
+use Rattle.std.specs.Prelude.{◌≡◌, ◌≤◌, List, None, Some}
+use Rattle.tariff_check.specs.{Cells.{cells_of}, Cuts.{count_of}, declared.cells.Counts.{Counts}}
+use Rattle.tariff_check.specs.{Common.{Distance, Line, Minute, MonthDay, Time}, Parts.{positions_of, step_of, zones_of}}
+use Rattle.tariff_check.specs.{Faults.{faults_of, first_some}, Measure.{measure_of}, declared.numbers.Numbers.{Numbers}}
 
 -- counts are those of the cuts of lines, in each dimension, and none is above its limit
 pub record HasCounts (lines : List Line) (counts : Counts) : Type 0 where

@@ -1,16 +1,9 @@
 -- Rules: the cuts of a tariff, which are the numbers with which its conditions compare.
-use Rattle.std.specs.Prelude.{ℕ, ◌+◌, ◌<◌, ◌||◌, ◌==◌, if◌then◌else◌, List, [], ◌∷◌, ◌++◌, length, get_or, Contains}
-use Rattle.std.specs.Prelude.{◌↔◌}
-use Rattle.std.specs.BTreeSet.{insert_key}
-use Rattle.std.specs.List.{flat_map}
-use Rattle.std.specs.Ordering.{nat_cmp}
+use Rattle.std.specs.{BTreeSet.{insert_key}, List.{flat_map}, Ordering.{nat_cmp}, Prelude.{length}}
+use Rattle.std.specs.Prelude.{[], ℕ, ◌++◌, ◌+◌, ◌<◌, ◌==◌, ◌||◌, ◌↔◌, ◌∷◌, Contains, List, get_or, if◌then◌else◌}
 use Rattle.taxi_units.specs.Calendar.{date_place}
+use Rattle.tariff_check.specs.{Common.{Condition, Dimension, Distance, Line, Minute, MonthDay, Time}, Lines.{atoms_in}}
 use Rattle.tariff_syntax.specs.Condition as tree
-use Rattle.tariff_syntax.specs.Condition.{Condition}
-use Rattle.tariff_syntax.specs.Tree.{Line}
-use Rattle.tariff_check.specs.Lines.{atoms_in}
-use Rattle.tariff_check.specs.declared.fault.Dimension.{Dimension}
-use Rattle.tariff_check.specs.declared.fault.Dimension.TheVariants.{MonthDay, Minute, Distance, Time}
 
 -- a range of days cuts where it begins in the year, and behind its end, but not at the year's begin and end
 abbrev pub day_cut : ℕ → List ℕ

@@ -1,8 +1,5 @@
 -- Rules: the display step of a tariff.
-use Rattle.std.specs.Prelude.{ℕ}
-use Rattle.drive_modes.specs.declared.meterage.Rounding.{Rounding}
-use Rattle.tariff_check.specs.SoundTariff.{sound_of}
-use Rattle.tariff_syntax.specs.Tree.{Tree}
+use Rattle.{std.specs.Prelude.{ℕ}, tariff_check.specs.{Common.{Rounding, Tree}, SoundTariff.{sound_of}}}
 
 -- the display step of a tariff, in the smallest units of money, with its rounding, is that of its first `step` line;
 -- without such a line, which a sound tariff has, it is 0

@@ -1,25 +1,14 @@
 -- Rules: the faults of a tariff, in their order.
-use Rattle.std.specs.Prelude.{◌≡◌, ℕ, ◌^◌, Bool, true, false, not, ◌==◌, nat_lt, List, [], ◌∷◌, ◌++◌, Option, Some}
-use Rattle.std.specs.Prelude.{None, is_none, All}
-use Rattle.std.specs.List.{list_any}
-use Rattle.std.specs.Option.{option_or}
-use Rattle.drive_modes.specs.declared.meterage.Rounding.{Rounding}
-use Rattle.tariff_syntax.specs.Choices.{choices, conditions_of}
-use Rattle.tariff_syntax.specs.Tree.{Tree, Line, Entry}
-use Rattle.tariff_check.specs.Cells.{cells_of}
-use Rattle.tariff_check.specs.Cuts.{count_of, most_cuts}
-use Rattle.tariff_check.specs.Lines.{first_line, is_duplicate, is_one_too_many, names_unknown, is_after_default}
-use Rattle.tariff_check.specs.Lines.{has_bad_date, has_great_amount, has_measure_zero}
-use Rattle.tariff_check.specs.Measure.{measure_of}
-use Rattle.tariff_check.specs.Parts.{initial_part, rate_part, step_of, positions_of, zones_of}
-use Rattle.tariff_check.specs.declared.fault.Dimension.{Dimension}
-use Rattle.tariff_check.specs.declared.fault.Dimension.TheVariants.{MonthDay, Minute, Distance, Time}
-use Rattle.tariff_check.specs.declared.fault.CheckFault.{CheckFault}
-use Rattle.tariff_check.specs.declared.fault.CheckFault.TheVariants.{NoStep, StepZero, Duplicate, TooManyLines}
-use Rattle.tariff_check.specs.declared.fault.CheckFault.TheVariants.{UnknownNumber, NoDefaultRate, NoDefaultInitial}
-use Rattle.tariff_check.specs.declared.fault.CheckFault.TheVariants.{LineAfterDefault, BadDate, AmountTooBig}
-use Rattle.tariff_check.specs.declared.fault.CheckFault.TheVariants.{MeasureZero, NoCommonMeasure, TooManyCuts}
-use Rattle.tariff_check.specs.declared.fault.CheckFault.TheVariants.{TooManyCells}
+use Rattle.std.specs.{List.{list_any}, Option.{option_or}, Prelude.{nat_lt, not, true}}
+use Rattle.std.specs.Prelude.{[], ℕ, ◌++◌, ◌==◌, ◌^◌, ◌∷◌, ◌≡◌, All, Bool, List, None, Option, Some, false, is_none}
+use Rattle.tariff_check.specs.{Cells.{cells_of}, Parts.{initial_part, positions_of, rate_part, step_of, zones_of}}
+use Rattle.tariff_check.specs.Common.{AmountTooBig, BadDate, CheckFault, Dimension, Distance, Duplicate, Entry, Line}
+use Rattle.tariff_check.specs.Common.{MeasureZero, Minute, MonthDay, NoCommonMeasure, NoStep, Rounding, Time}
+use Rattle.tariff_check.specs.{Common.{TooManyCells, TooManyLines, Tree, choices, conditions_of}, Measure.{measure_of}}
+use Rattle.tariff_check.specs.{Cuts.{count_of, most_cuts}, Lines.{is_duplicate, is_one_too_many, names_unknown}}
+use Rattle.tariff_check.specs.Lines.{first_line, has_bad_date, has_great_amount, has_measure_zero, is_after_default}
+use Rattle.tariff_check.specs.declared.fault.CheckFault.TheVariants.{LineAfterDefault, NoDefaultInitial, NoDefaultRate}
+use Rattle.tariff_check.specs.declared.fault.CheckFault.TheVariants.{StepZero, TooManyCuts, UnknownNumber}
 
 -- a fault is there if its test is true
 abbrev pub fault_if : Bool → CheckFault → Option CheckFault

@@ -1,15 +1,9 @@
 -- Rules: the line of a tariff that says a part of its frame, or that counts in a context.
-use Rattle.std.specs.Prelude.{◌≡◌, Bool, true, false, ◌==◌, List, filter, find, Option, Some, option_and_then, option_map}
-use Rattle.std.specs.List.{slice_get}
-use Rattle.tariff_syntax.specs.Tree.{Line, Entry, step, positions, zones, supplement}
-use Rattle.tariff_syntax.specs.declared.context.Context.{Context}
-use Rattle.tariff_check.specs.Kinds.{part_of}
-use Rattle.tariff_check.specs.SoundLookups.{place_in_force}
-use Rattle.tariff_check.specs.SoundTariff.{choices, is_told}
-use Rattle.tariff_check.specs.declared.choice.ChoiceKind.{ChoiceKind}
-use Rattle.tariff_check.specs.declared.choice.ChoiceLine.{ChoiceLine}
-use Rattle.tariff_check.specs.declared.found_lines.FramePart.{FramePart}
-use Rattle.tariff_check.specs.declared.found_lines.FramePart.TheVariants.{Step, Positions, Zones, Supplement}
+use Rattle.{std.specs.{List.{slice_get}, Prelude.{true}}, tariff_check.specs.declared.found_lines.FramePart.{FramePart}}
+use Rattle.std.specs.Prelude.{◌==◌, ◌≡◌, Bool, List, Option, Some, false, filter, find, option_and_then, option_map}
+use Rattle.tariff_check.specs.Common.{ChoiceKind, ChoiceLine, Context, Entry, Line, positions, step, supplement, zones}
+use Rattle.tariff_check.specs.{Kinds.{part_of}, SoundLookups.{place_in_force}, SoundTariff.{choices, is_told}}
+use Rattle.tariff_check.specs.declared.found_lines.FramePart.TheVariants.{Positions, Step, Supplement, Zones}
 
 -- the test `says` is true if an entry says a part of the frame: the display step, the positions, the zones, or the
 -- supplement of a number

@@ -1,16 +1,10 @@
 -- Rules: what is said of each kind of line.
-use Rattle.std.specs.Prelude.{ℕ, ◌^◌, ◌≤◌, Bool, true, false, ◌||◌, nat_lt, List, [], ◌∷◌, Option, Some, None}
-use Rattle.std.specs.Option.{is_some}
-use Rattle.taxi_units.specs.Money.{largest_amount, largest_display_step}
-pub use Rattle.tariff_syntax.specs.Choices.{InitialNumbers, RateNumbers, initial_part, minimum_part, rate_part}
-use Rattle.tariff_syntax.specs.Choices.{choices, values_of}
-use Rattle.tariff_syntax.specs.Condition.{Condition}
-use Rattle.tariff_syntax.specs.Tree.{Line, Entry, step, supplement, initial, rate, minimum}
-use Rattle.tariff_syntax.specs.Writable.{IsFromTo}
+use Rattle.{std.specs.Option.{is_some}, tariff_check.specs.Common.{supplement, values_of}}
+use Rattle.std.specs.Prelude.{[], ℕ, ◌^◌, ◌||◌, ◌∷◌, ◌≤◌, Bool, List, None, Option, Some, false, nat_lt, true}
+use Rattle.tariff_check.specs.Common.{ChoiceKind, Choices, Condition, Entry, Initial, IsFromTo, Line, Minimum, Rate}
+use Rattle.tariff_check.specs.Common.{choices, initial, largest_amount, largest_display_step, minimum, rate, step}
 use Rattle.tariff_check.specs.declared.choice.Choice as program
-use Rattle.tariff_check.specs.declared.choice.ChoiceKind.{ChoiceKind}
-use Rattle.tariff_check.specs.declared.choice.ChoiceKind.TheVariants.{Rate, Initial, Minimum}
-use Rattle.tariff_check.specs.declared.choice.Choices.{Choices}
+pub use Rattle.tariff_syntax.specs.Choices.{InitialNumbers, RateNumbers, initial_part, minimum_part, rate_part}
 
 -- what a line of a kind says is the amounts and the measures of a rate, the amount and the cover of an initial hire
 -- fee, or the amount of a minimum fare

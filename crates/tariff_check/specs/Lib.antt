@@ -17,3 +17,4 @@ pub mod Sound
 pub mod SoundLookups
 pub mod SoundTariff
 pub mod Stages
+pub mod Common

@@ -1,14 +1,9 @@
 -- Rules: what may be wrong with a line, by the lines before it.
-use Rattle.std.specs.Prelude.{◌≡◌, ℕ, Bool, true, false, not, ◌&&◌, ◌||◌, ◌==◌, if◌then◌else◌, nat_le, nat_lt}
-use Rattle.std.specs.Prelude.{List, [], ◌∷◌, ◌++◌, Option, Some, None, is_none}
-use Rattle.std.specs.List.{list_any, count_by}
-use Rattle.taxi_units.specs.Calendar.{is_date}
+use Rattle.std.specs.{List.{count_by, list_any}, Prelude.{if◌then◌else◌, is_none, nat_le, nat_lt, not, true}}
+use Rattle.std.specs.Prelude.{[], ℕ, ◌&&◌, ◌++◌, ◌==◌, ◌||◌, ◌∷◌, ◌≡◌, Bool, List, None, Option, Some, false}
+use Rattle.tariff_check.specs.Common.{ChoiceKind, Condition, Entry, Line, holiday, is_date, positions, rate, step}
+use Rattle.tariff_check.specs.{Common.{supplement, zones}, Kinds.{is_great, is_of, kind_of}, Parts.{when_part}}
 use Rattle.tariff_syntax.specs.Condition as tree
-use Rattle.tariff_syntax.specs.Condition.{Condition}
-use Rattle.tariff_syntax.specs.Tree.{Line, Entry, step, positions, zones, holiday, supplement, rate}
-use Rattle.tariff_check.specs.Kinds.{is_great, is_of, kind_of}
-use Rattle.tariff_check.specs.Parts.{when_part}
-use Rattle.tariff_check.specs.declared.choice.ChoiceKind.{ChoiceKind}
 
 -- the atoms of a condition are its parts without `not`, `and` and `or`, in order
 abbrev pub atoms_of : Condition → List Condition

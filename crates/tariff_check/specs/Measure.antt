@@ -1,8 +1,6 @@
 -- Rules: the common measure of a tariff.
-use Rattle.std.specs.Prelude.{◌≡◌, ℕ, zero, suc, ◌+◌, ◌*◌, ◌/◌, ◌%◌, ◌<◌, ◌≤◌, List, [], ◌∷◌, All}
-use Rattle.std.specs.List.{flat_map}
-use Rattle.tariff_syntax.specs.Tree.{Line}
-use Rattle.tariff_check.specs.Parts.{RateNumbers, rates_of}
+use Rattle.std.specs.{List.{flat_map}, Prelude.{[], ℕ, ◌%◌, ◌*◌, ◌+◌, ◌/◌, ◌<◌, ◌∷◌, ◌≡◌, ◌≤◌, All, List, suc, zero}}
+use Rattle.tariff_check.specs.{Common.{Line}, Parts.{RateNumbers, rates_of}}
 
 -- the measures of lines are the decimetres and the tenths of a second of each of their rates
 abbrev pub measures_of : List Line → List ℕ

@@ -1,14 +1,10 @@
 -- Rules: the parts of a tariff, from its lines.
-use Rattle.std.specs.Prelude.{ℕ, Bool, true, ◌==◌, List, find, Option, Some, None}
-use Rattle.std.specs.List.{filter_map, slice_get, list_any}
-use Rattle.std.specs.Option.{option_map, unwrap_or}
-use Rattle.drive_modes.specs.declared.meterage.Rounding.{Rounding}
-use Rattle.tariff_syntax.specs.Tree.{Line, Entry, step, positions, zones, holiday, supplement}
-pub use Rattle.tariff_syntax.specs.Tree.{when_part}
-pub use Rattle.tariff_check.specs.Kinds.{InitialNumbers, RateNumbers, initial_part, initials_of, minimum_part}
-pub use Rattle.tariff_check.specs.Kinds.{minimums_of, rate_part, rates_of}
+use Rattle.std.specs.List.{filter_map, list_any, slice_get}
+use Rattle.std.specs.{Option.{option_map, unwrap_or}, Prelude.{ℕ, ◌==◌, Bool, List, None, Option, Some, find, true}}
+use Rattle.tariff_check.specs.Common.{Entry, Line, Rounding, Supplement, holiday, positions, step, supplement, zones}
 use Rattle.tariff_check.specs.declared.values.DateNumbers as dates
-use Rattle.tariff_check.specs.declared.values.Supplement.{Supplement}
+pub use Rattle.{tariff_syntax.specs.Tree.{when_part}, tariff_check.specs.Kinds.{minimums_of, rate_part, rates_of}}
+pub use Rattle.tariff_check.specs.Kinds.{InitialNumbers, RateNumbers, initial_part, initials_of, minimum_part}
 
 -- a date has a year, a month and a date of the month
 abbrev pub DateNumbers : Type 0

@@ -1,17 +1,9 @@
 -- For proofs: the parts of a tariff as the program keeps them. SoundTariff says what they are.
-use Rattle.std.specs.Prelude.{◌≡◌, ℕ, ◌+◌, List, [], ◌∷◌, Option, length}
-use Rattle.std.specs.List.{cons_option, slice_get}
-use Rattle.std.specs.Option.{option_and_then, option_map}
-use Rattle.tariff_syntax.specs.Tree.{Line, Entry}
-use Rattle.tariff_check.specs.ChoiceLines.{choice_lines}
-use Rattle.tariff_check.specs.Kinds.{kept_of, kind_of, part_of}
+use Rattle.{std.specs.List.{cons_option, slice_get}, tariff_check.specs.Kinds.{kept_of, kind_of, part_of}}
+use Rattle.std.specs.{Option.{option_and_then, option_map}, Prelude.{[], ℕ, ◌+◌, ◌∷◌, ◌≡◌, List, Option, length}}
+use Rattle.tariff_check.specs.{ChoiceLines.{choice_lines}, SoundTariff.{numbered_supplement}}
+use Rattle.tariff_check.specs.Common.{Choice, ChoiceKind, ChoiceLine, Choices, Entry, Line, Parts}
 use Rattle.tariff_check.specs.Parts.{holidays_of, parts}
-use Rattle.tariff_check.specs.SoundTariff.{numbered_supplement}
-use Rattle.tariff_check.specs.declared.choice.Choice.{Choice}
-use Rattle.tariff_check.specs.declared.choice.ChoiceKind.{ChoiceKind}
-use Rattle.tariff_check.specs.declared.choice.ChoiceLine.{ChoiceLine}
-use Rattle.tariff_check.specs.declared.choice.Choices.{Choices}
-use Rattle.tariff_check.specs.declared.resolving.Parts.{Parts}
 
 -- the choice of the program that a line at a place gives
 abbrev pub placed : {V : Type 0} → (Entry → Option V) → (place : ℕ) → Line → Option (Choice V)

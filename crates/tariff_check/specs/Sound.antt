@@ -1,23 +1,12 @@
 -- Rules: what a sound tariff is made of.
-use Rattle.std.specs.Prelude.{◌≡◌, ℕ, ◌^◌, ◌≤◌, true, Some, length, All, IsTrue}
-use Rattle.drive_modes.specs.declared.meterage.Rounding.{Rounding}
-use Rattle.taxi_units.specs.Calendar.{is_date}
-use Rattle.taxi_units.specs.Money.{largest_display_step}
+use Rattle.std.specs.Prelude.{ℕ, ◌^◌, ◌≡◌, ◌≤◌, All, IsTrue, Some, length, true}
+use Rattle.{tariff_syntax.specs.Writable.{IsWritableCondition}, tariff_check.specs.{Cells.{cells_of}, Lines.{atoms_in}}}
+use Rattle.tariff_check.specs.Common.{ChoiceKind, Condition, Dimension, IsFromTo, Line, Rounding, Supplement, Tree}
+use Rattle.tariff_check.specs.{Common.{is_date, largest_display_step}, Faults.{has_default}, Measure.{measure_of}}
+use Rattle.tariff_check.specs.{Cuts.{count_of, most_cuts}, Kinds.{IsSoundSaid, initial_part, rate_part, said_by}}
+use Rattle.tariff_check.specs.Parts.{DateNumbers, holidays_of, positions_of, step_of, supplement_of, zones_of}
 use Rattle.tariff_syntax.specs.Condition as tree
-use Rattle.tariff_syntax.specs.Condition.{Condition}
-use Rattle.tariff_syntax.specs.Tree.{Tree, Line}
-use Rattle.tariff_syntax.specs.Writable.{IsFromTo, IsWritableCondition}
-use Rattle.tariff_check.specs.Cells.{cells_of}
-use Rattle.tariff_check.specs.Cuts.{count_of, most_cuts}
-use Rattle.tariff_check.specs.Faults.{has_default}
 pub use Rattle.tariff_check.specs.Kinds.{IsSoundInitial, IsSoundRate}
-use Rattle.tariff_check.specs.Kinds.{IsSoundSaid, initial_part, rate_part, said_by}
-use Rattle.tariff_check.specs.Lines.{atoms_in}
-use Rattle.tariff_check.specs.Measure.{measure_of}
-use Rattle.tariff_check.specs.Parts.{DateNumbers, step_of, positions_of, zones_of, holidays_of, supplement_of}
-use Rattle.tariff_check.specs.declared.choice.ChoiceKind.{ChoiceKind}
-use Rattle.tariff_check.specs.declared.values.Supplement.{Supplement}
-use Rattle.tariff_check.specs.declared.fault.Dimension.{Dimension}
 
 -- a supplement is sound if its amount is at most 1,000,000 and it may be added 1 to 99 times
 pub record IsSoundSupplement (s : Supplement) : Type 0 where

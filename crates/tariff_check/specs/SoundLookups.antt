@@ -1,10 +1,7 @@
 -- Rules: what is looked up in a sound tariff.
-use Rattle.std.specs.Prelude.{ℕ, Bool, ◌&&◌, ◌==◌, List, get_or, Option}
-use Rattle.std.specs.List.{list_any}
-use Rattle.std.specs.Option.{unwrap_or}
-use Rattle.tariff_syntax.specs.declared.context.Context.{Context}
+use Rattle.std.specs.{List.{list_any}, Option.{unwrap_or}, Prelude.{ℕ, ◌&&◌, ◌==◌, Bool, List, Option, get_or}}
+use Rattle.tariff_check.specs.{Common.{Context}, SoundTariff.{Choice, SoundTariff, conditions_of, place_of, values_of}}
 use Rattle.tariff_check.specs.Parts.{DateNumbers, RateNumbers}
-use Rattle.tariff_check.specs.SoundTariff.{Choice, SoundTariff, conditions_of, place_of, values_of}
 
 -- the place in force in a context among choices is that of the first that holds in it, counted from 0, if one does
 abbrev pub place_in_force : {V : Type 0} → List (Choice V) → Context → Option ℕ

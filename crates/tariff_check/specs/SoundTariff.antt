@@ -1,24 +1,15 @@
 -- Rules: a sound tariff as its parts.
-use Rattle.std.specs.Prelude.{◌≡◌, ◌⊎◌, ℕ, Bool, true, List, [], ◌∷◌, filter, map, is_some, Option, Some, None}
-use Rattle.std.specs.List.{slice_get}
-use Rattle.std.specs.Option.{unwrap_or}
-use Rattle.drive_modes.specs.declared.meterage.Rounding.{Rounding}
-use Rattle.drive_modes.specs.declared.meterage.Rounding.TheVariants.{Behind}
-pub use Rattle.tariff_syntax.specs.Choices.{Choice, choices, conditions_of, values_of}
-use Rattle.tariff_syntax.specs.Condition.{Condition}
-pub use Rattle.tariff_syntax.specs.Meaning.{place_of}
-use Rattle.tariff_syntax.specs.Tree.{Tree, Line, Entry, step, positions, zones, holiday, supplement, when_part}
-use Rattle.tariff_check.specs.Cells.{cells_of}
+use Rattle.std.specs.{List.{slice_get}, Option.{unwrap_or}}
+use Rattle.std.specs.Prelude.{[], ℕ, ◌∷◌, ◌≡◌, ◌⊎◌, Bool, List, None, Option, Some, filter, is_some, map, true}
+use Rattle.{drive_modes.specs.declared.meterage.Rounding.TheVariants.{Behind}, tariff_check.specs.Measure.{measure_of}}
+use Rattle.tariff_check.specs.{Cells.{cells_of}, Common.{Tree, holiday, positions, step, supplement, when_part, zones}}
+use Rattle.tariff_check.specs.Common.{ChoiceKind, Condition, Entry, Initial, Line, Minimum, Rate, Rounding, Supplement}
 use Rattle.tariff_check.specs.Kinds.{InitialNumbers, RateNumbers, Said, entry_with, initial_part, minimum_part, part_of}
-use Rattle.tariff_check.specs.Kinds.{rate_part, tests_of_kinds}
-use Rattle.tariff_check.specs.Measure.{measure_of}
-pub use Rattle.tariff_check.specs.Parts.{numbered_supplement, supplement_numbered}
-use Rattle.tariff_check.specs.Parts.{DateNumbers, parts, step_of, positions_of, zones_of, holidays_of, holiday_part}
-use Rattle.tariff_check.specs.Parts.{positions_part, step_part, zones_part}
-use Rattle.tariff_check.specs.declared.values.Supplement.{Supplement}
+use Rattle.tariff_check.specs.{Kinds.{rate_part, tests_of_kinds}, Parts.{step_of, step_part, zones_of, zones_part}}
+use Rattle.tariff_check.specs.Parts.{DateNumbers, holiday_part, holidays_of, parts, positions_of, positions_part}
 use Rattle.tariff_check.specs.declared.choice.Choice as program
-use Rattle.tariff_check.specs.declared.choice.ChoiceKind.{ChoiceKind}
-use Rattle.tariff_check.specs.declared.choice.ChoiceKind.TheVariants.{Rate, Initial, Minimum}
+pub use Rattle.tariff_syntax.specs.{Choices.{Choice, choices, conditions_of, values_of}, Meaning.{place_of}}
+pub use Rattle.tariff_check.specs.Parts.{numbered_supplement, supplement_numbered}
 
 -- the line numbers of choices are that of each, in order
 abbrev pub lines_of : {V : Type 0} → List (Choice V) → List ℕ

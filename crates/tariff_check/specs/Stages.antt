@@ -1,15 +1,9 @@
 -- For proofs: the faults of a tariff in the stages of the code: those of its lines, and those of their numbers
 -- together. Faults has them all in their order.
-use Rattle.std.specs.Prelude.{◌^◌, nat_lt, List, Option}
-use Rattle.std.specs.Option.{option_or}
-use Rattle.tariff_syntax.specs.Tree.{Line}
-use Rattle.tariff_check.specs.Cells.{cells_of}
+use Rattle.std.specs.{Option.{option_or}, Prelude.{◌^◌, List, Option, nat_lt}}
+use Rattle.tariff_check.specs.{Cells.{cells_of}, Faults.{step_faults}, Measure.{measure_of}}
+use Rattle.tariff_check.specs.Common.{CheckFault, Distance, Line, Minute, MonthDay, NoCommonMeasure, Time, TooManyCells}
 use Rattle.tariff_check.specs.Faults.{cuts_fault, default_faults, fault_if, first_some, line_faults, number_faults}
-use Rattle.tariff_check.specs.Faults.{step_faults}
-use Rattle.tariff_check.specs.Measure.{measure_of}
-use Rattle.tariff_check.specs.declared.fault.Dimension.TheVariants.{MonthDay, Minute, Distance, Time}
-use Rattle.tariff_check.specs.declared.fault.CheckFault.{CheckFault}
-use Rattle.tariff_check.specs.declared.fault.CheckFault.TheVariants.{NoCommonMeasure, TooManyCells}
 
 -- the fault of the display step, if it has one
 abbrev pub step_fault : List Line → Option CheckFault

@@ -1,11 +1,8 @@
 //! All faults of a tariff.
-ghost use Rattle.std.specs.Prelude.{◌≡◌, ◌++◌, IfOk, IfSome, OnOk, map, nat_lt};
-ghost use Rattle.tariff_check.specs.AllFaults.{all_faults, those_there};
-ghost use Rattle.tariff_check.specs.Cells.{cells_of};
-ghost use Rattle.tariff_check.specs.Cuts.{count_of};
+ghost use Rattle.std.specs.Prelude.{◌++◌, ◌≡◌, IfOk, IfSome, OnOk, map, nat_lt};
+ghost use Rattle.tariff_check.specs.{AllFaults.{all_faults, those_there}, Cells.{cells_of}, Common.{line_of, tree_of}};
+ghost use Rattle.tariff_check.specs.{Cuts.{count_of}, Parts.{step_of}};
 ghost use Rattle.tariff_check.specs.Faults.{fault_if, faults_before_cuts, faults_from_cuts, is_step_zero};
-ghost use Rattle.tariff_check.specs.Parts.{step_of};
-ghost use Rattle.tariff_syntax.specs.Tree.{line_of, tree_of};
 
 use crate::cells::{Counts, MOST_CELLS, any_cells};
 use crate::choice::ChoiceKind;

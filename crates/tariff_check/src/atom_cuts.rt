@@ -1,9 +1,7 @@
 //! The cuts of an atom.
 ghost use Rattle.std.specs.Prelude.{◌≡◌, None};
+ghost use Rattle.tariff_check.specs.{Common.{Distance, Minute, MonthDay, Time, condition_of}, Rules.{cut_list}};
 ghost use Rattle.tariff_check.specs.Cuts.{atom_cuts, day_cut, minute_cut};
-ghost use Rattle.tariff_check.specs.Rules.{cut_list};
-ghost use Rattle.tariff_check.specs.declared.fault.Dimension.TheVariants.{Distance, Minute, MonthDay, Time};
-ghost use Rattle.tariff_syntax.specs.Condition.{condition_of};
 
 use crate::fault::Dimension;
 use tariff_syntax::Cond;

@@ -1,10 +1,7 @@
 //! The rules for the atoms of conditions.
-ghost use Rattle.std.specs.List.{list_any};
-ghost use Rattle.std.specs.Prelude.{◌≡◌};
-ghost use Rattle.tariff_check.specs.Lines.{atoms_of, atoms_in, is_unknown, is_undated, is_after_nothing};
-ghost use Rattle.tariff_check.specs.Rules.{breaks_atom_rule};
-ghost use Rattle.tariff_syntax.specs.Condition.{condition_of};
-ghost use Rattle.tariff_syntax.specs.Tree.{entry_of};
+ghost use Rattle.std.specs.{List.{list_any}, Prelude.{◌≡◌}};
+ghost use Rattle.tariff_check.specs.{Common.{condition_of, entry_of}, Rules.{breaks_atom_rule}};
+ghost use Rattle.tariff_check.specs.Lines.{atoms_in, atoms_of, is_after_nothing, is_undated, is_unknown};
 
 use crate::choice::condition;
 use tariff_syntax::{Cond, Item};

@@ -1,5 +1,5 @@
 //! How many cells a tariff has.
-ghost use Rattle.std.specs.Prelude.{◌≡◌, ◌+◌, ◌*◌, ◌≤◌, IfSome, if◌then◌else◌};
+ghost use Rattle.std.specs.Prelude.{◌*◌, ◌+◌, ◌≡◌, ◌≤◌, IfSome, if◌then◌else◌};
 
 /// The most cells that a tariff may have.
 pub(crate) const MOST_CELLS: u64 = 64_512;

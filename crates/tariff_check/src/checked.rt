@@ -1,19 +1,10 @@
 //! A tariff that was found to be sound.
-ghost use Rattle.std.specs.Prelude.{◌≡◌, ◌≤◌, ◌^◌, Some, length};
-ghost use Rattle.tariff_check.specs.Cells.{cells_of};
-ghost use Rattle.tariff_check.specs.ChoiceLines.{choice_lines};
-ghost use Rattle.tariff_check.specs.Faults.{IsSound};
-ghost use Rattle.tariff_check.specs.Kinds.{EachKind, kept_of, part_of};
-ghost use Rattle.tariff_check.specs.Measure.{measure_of};
-ghost use Rattle.tariff_check.specs.Parts.{positions_of, step_of, supplement_of, zones_of};
-ghost use Rattle.tariff_check.specs.Resolved.{HasParts};
+ghost use Rattle.std.specs.Prelude.{◌^◌, ◌≡◌, ◌≤◌, Some, length};
+ghost use Rattle.tariff_check.specs.{Cells.{cells_of}, ChoiceLines.{choice_lines}, Kinds.{EachKind, kept_of, part_of}};
+ghost use Rattle.tariff_check.specs.Common.{Gives, IsFromTo, IsWritable, condition_of, holds_if, largest_display_step};
+ghost use Rattle.tariff_check.specs.{Common.{tree_of}, Parts.{positions_of, step_of, supplement_of, zones_of}};
+ghost use Rattle.tariff_check.specs.{Faults.{IsSound}, Measure.{measure_of}, Resolved.{HasParts}};
 ghost use Rattle.tariff_check.specs.SoundTariff.{AreChoices, choices, own_conditions, place_of, sound_of, when_at};
-ghost use Rattle.tariff_syntax.specs.Condition.{condition_of};
-ghost use Rattle.tariff_syntax.specs.Meaning.{holds_if};
-ghost use Rattle.tariff_syntax.specs.Tree.{tree_of};
-ghost use Rattle.tariff_syntax.specs.Writable.{IsFromTo, IsWritable};
-ghost use Rattle.taxi_units.specs.Money.{largest_display_step};
-ghost use Rattle.taxi_units.specs.Reading.{Gives};
 
 use crate::choice::{Choice, ChoiceLine, condition};
 use crate::numbers::Numbers;
@@ -32,14 +23,9 @@ pub struct Checked {
 }
 
 impl Model for Checked {
-    ghost use Rattle.std.specs.Coded.{codes};
-    ghost use Rattle.tariff_check.specs.Counted.{HasNumbers};
-    ghost use Rattle.tariff_check.specs.Resolved.{HasParts};
-    ghost use Rattle.tariff_check.specs.Sound.{HasSoundParts};
-    ghost use Rattle.tariff_syntax.specs.Tree.{tree_of};
-    ghost use Rattle.tariff_syntax.specs.Writable.{IsWritable};
+    ghost use Rattle.{std.specs.Coded.{codes}, tariff_check.specs.Common.{IsWritable, Tariff, tree_of}};
+    ghost use Rattle.tariff_check.specs.{Counted.{HasNumbers}, Resolved.{HasParts}, Sound.{HasSoundParts}};
     ghost use Rattle.tariff_syntax.specs.contracts.condition.Cond as condition;
-    ghost use Rattle.tariff_syntax.specs.declared.tariff.Tariff.{Tariff};
 
     ghost Value = { Tariff };
 

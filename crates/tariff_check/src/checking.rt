@@ -1,11 +1,8 @@
 //! Whether a tariff is sound.
-ghost use Rattle.std.specs.Prelude.{◌≡◌, ◌⊎◌, Some, None, IfOk, IfErr, OnErr, map};
-ghost use Rattle.tariff_check.specs.Counted.{HasNumbers};
-ghost use Rattle.tariff_check.specs.Faults.{HasNone, IsSound, faults_before_cuts, faults_of, fault_of, first_some};
+ghost use Rattle.std.specs.Prelude.{◌≡◌, ◌⊎◌, IfErr, IfOk, None, OnErr, Some, map};
+ghost use Rattle.tariff_check.specs.{Common.{IsWritable, NoMemory, line_of, tree_of}, Counted.{HasNumbers}};
+ghost use Rattle.tariff_check.specs.Faults.{HasNone, IsSound, fault_of, faults_before_cuts, faults_of, first_some};
 ghost use Rattle.tariff_check.specs.Resolved.{HasParts};
-ghost use Rattle.tariff_check.specs.declared.fault.CheckFault.TheVariants.{NoMemory};
-ghost use Rattle.tariff_syntax.specs.Tree.{line_of, tree_of};
-ghost use Rattle.tariff_syntax.specs.Writable.{IsWritable};
 
 use crate::cells::{MOST_CELLS, cells};
 use crate::checked::Checked;

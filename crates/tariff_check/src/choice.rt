@@ -1,16 +1,9 @@
 //! The choices of a tariff: what its lines say of each kind of which the first line that holds counts.
-ghost use Rattle.std.specs.Option.{option_to_list};
-ghost use Rattle.std.specs.Prelude.{◌≡◌, ◌≤◌, ◌++◌, ◌∷◌, [], OnOk, length};
-ghost use Rattle.taxi_units.specs.Reading.{Gives};
-ghost use Rattle.tariff_check.specs.Faults.{IsSound};
-ghost use Rattle.tariff_check.specs.Kinds.{EachKind, is_great, is_of, kept_of, kind_of, part_of};
-ghost use Rattle.tariff_check.specs.Parts.{when_part};
-ghost use Rattle.tariff_check.specs.Resolved.{counted_choice, count_in, placed};
-ghost use Rattle.tariff_check.specs.SoundTariff.{AreChoices, sound_of};
-ghost use Rattle.tariff_syntax.specs.Condition.{condition_of};
-ghost use Rattle.tariff_syntax.specs.Meaning.{at_hiring, initial_place, minimum_place, rate_place};
-ghost use Rattle.tariff_syntax.specs.Tree.{entry_of, line_of, tree_of};
-ghost use Rattle.tariff_syntax.specs.Writable.{IsWritable};
+ghost use Rattle.std.specs.{Option.{option_to_list}, Prelude.{[], ◌++◌, ◌∷◌, ◌≡◌, ◌≤◌, OnOk, length}};
+ghost use Rattle.tariff_check.specs.Common.{Gives, IsWritable, at_hiring, condition_of, entry_of, initial_place};
+ghost use Rattle.tariff_check.specs.{Common.{line_of, minimum_place, rate_place, tree_of}, Faults.{IsSound}};
+ghost use Rattle.tariff_check.specs.{Kinds.{EachKind, is_great, is_of, kept_of, kind_of, part_of}, Parts.{when_part}};
+ghost use Rattle.tariff_check.specs.{Resolved.{count_in, counted_choice, placed}, SoundTariff.{AreChoices, sound_of}};
 
 use crate::checked::Checked;
 use std::alloc::Global;

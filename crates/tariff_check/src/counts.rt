@@ -1,11 +1,8 @@
 //! How many cuts there are.
-ghost use Rattle.std.specs.Prelude.{◌≡◌, ◌≤◌, ◌⊎◌, Some, None, IfOk, IfErr, OnOk, map, nat_lt};
-ghost use Rattle.tariff_check.specs.Counted.{HasCounts};
-ghost use Rattle.tariff_check.specs.Cuts.{count_of, most_cuts};
-ghost use Rattle.tariff_check.specs.Faults.{cuts_fault, fault_if};
+ghost use Rattle.std.specs.Prelude.{◌≡◌, ◌≤◌, ◌⊎◌, IfErr, IfOk, None, OnOk, Some, map, nat_lt};
+ghost use Rattle.tariff_check.specs.{Common.{NoMemory, line_of}, declared.fault.CheckFault.TheVariants.{TooManyCuts}};
+ghost use Rattle.tariff_check.specs.{Counted.{HasCounts}, Cuts.{count_of, most_cuts}, Faults.{cuts_fault, fault_if}};
 ghost use Rattle.tariff_check.specs.Stages.{cut_fault};
-ghost use Rattle.tariff_check.specs.declared.fault.CheckFault.TheVariants.{NoMemory, TooManyCuts};
-ghost use Rattle.tariff_syntax.specs.Tree.{line_of};
 
 use crate::cells::Counts;
 use crate::cuts::cut_count;

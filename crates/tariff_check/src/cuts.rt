@@ -1,12 +1,7 @@
 //! The cuts of a tariff.
-ghost use Rattle.std.specs.BTreeSet.{insert_key};
-ghost use Rattle.std.specs.List.{flat_map};
-ghost use Rattle.std.specs.Ordering.{nat_cmp};
-ghost use Rattle.std.specs.Prelude.{◌≡◌, IfOk, OnOk, map};
+ghost use Rattle.std.specs.{BTreeSet.{insert_key}, List.{flat_map}, Ordering.{nat_cmp}, Prelude.{◌≡◌, IfOk, OnOk, map}};
+ghost use Rattle.tariff_check.specs.{Common.{condition_of, entry_of, line_of, tree_of}, Lines.{atoms_in, atoms_of}};
 ghost use Rattle.tariff_check.specs.Cuts.{atom_cuts, count_of, cuts_of, with_each};
-ghost use Rattle.tariff_check.specs.Lines.{atoms_in, atoms_of};
-ghost use Rattle.tariff_syntax.specs.Condition.{condition_of};
-ghost use Rattle.tariff_syntax.specs.Tree.{entry_of, line_of, tree_of};
 
 use crate::atom_cuts::atom_cuts;
 use crate::checked::Checked;

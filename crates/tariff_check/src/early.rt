@@ -1,11 +1,8 @@
 //! The faults of the lines of a tariff.
 ghost use Rattle.std.specs.Prelude.{◌≡◌, None, map};
-ghost use Rattle.tariff_check.specs.Faults.{fault_at};
-ghost use Rattle.tariff_check.specs.Lines.{first_line};
-ghost use Rattle.tariff_check.specs.Parts.{positions_of, zones_of};
-ghost use Rattle.tariff_check.specs.Rules.{breaks_rule, fault_of_rule};
+ghost use Rattle.tariff_check.specs.{Common.{line_of}, Faults.{fault_at}, Lines.{first_line}};
+ghost use Rattle.tariff_check.specs.{Parts.{positions_of, zones_of}, Rules.{breaks_rule, fault_of_rule}};
 ghost use Rattle.tariff_check.specs.Stages.{default_fault, early_fault, line_fault, number_fault, step_fault};
-ghost use Rattle.tariff_syntax.specs.Tree.{line_of};
 
 use crate::choice::ChoiceKind;
 use crate::fault::CheckFault;
@@ -30,7 +27,7 @@ pub(crate) fn early_fault(lines: &[TariffLine], positions: u8, zones: u8) -> Opt
 }
 
 /// A line that is there too often, or that names what the tariff doesn't have.
-#[tactic(auto, using(crate::proofs::Staging::or_none))]
+#[tactic(auto, using(crate::proofs::FaultStages::or_none))]
 fn line_fault(lines: &[TariffLine], positions: u8, zones: u8) -> Option<CheckFault>
     requires positions { positions ≡ positions_of (map line_of lines.now) }
     requires zones { zones ≡ zones_of (map line_of lines.now) }
@@ -46,7 +43,7 @@ fn line_fault(lines: &[TariffLine], positions: u8, zones: u8) -> Option<CheckFau
 }
 
 /// A default that is missing, or a line after it.
-#[tactic(auto, using(crate::proofs::Staging::or_none))]
+#[tactic(auto, using(crate::proofs::FaultStages::or_none))]
 fn default_fault(lines: &[TariffLine]) -> Option<CheckFault>
     ensures { result ≡ default_fault (map line_of lines.now) }
 {
@@ -60,7 +57,7 @@ fn default_fault(lines: &[TariffLine]) -> Option<CheckFault>
 }
 
 /// A line with a number that it may not have.
-#[tactic(auto, using(crate::proofs::Staging::or_none))]
+#[tactic(auto, using(crate::proofs::FaultStages::or_none))]
 fn number_fault(lines: &[TariffLine]) -> Option<CheckFault>
     ensures { result ≡ number_fault (map line_of lines.now) }
 {

@@ -1,10 +1,8 @@
 //! The line of a tariff that says a part of its frame, or that counts in a context.
 ghost use Rattle.std.specs.Prelude.{◌≡◌, map, option_and_then};
-ghost use Rattle.taxi_units.specs.Reading.{Gives};
-ghost use Rattle.tariff_check.specs.FoundLines.{frame_line, line_in_force, says};
-ghost use Rattle.tariff_check.specs.Resolved.{line_of_own};
+ghost use Rattle.tariff_check.specs.Common.{Gives, entry_of, line_of, tree_of};
+ghost use Rattle.tariff_check.specs.{FoundLines.{frame_line, line_in_force, says}, Resolved.{line_of_own}};
 ghost use Rattle.tariff_check.specs.SoundTariff.{own_conditions, place_of};
-ghost use Rattle.tariff_syntax.specs.Tree.{entry_of, line_of, tree_of};
 
 use crate::checked::Checked;
 use crate::choice::{Choice, ChoiceKind};

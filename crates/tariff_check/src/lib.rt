@@ -20,7 +20,7 @@ mod pairs;
 mod parts;
 mod resolving;
 mod rules;
-mod theorems;
+mod soundness_laws;
 mod values;
 
 pub use all_faults::faults;
@@ -30,11 +30,11 @@ pub use choice::{Choice, ChoiceKind, ChoiceLine};
 pub use cuts::cut_values;
 pub use fault::{CheckFault, Dimension};
 pub use found_lines::FramePart;
-pub use tariff_syntax::{InitialNumbers, RateNumbers};
-pub use theorems::{
+pub use soundness_laws::{
     all_faults_begin_with_the_first, choices_stand_at_their_lines, cuts_are_in_order,
     faults_name_the_first_line, hirings_begin_with_first_lines, lines_that_hold_are_there,
     measures_are_least, sound_tariffs_are_their_parts, sound_tariffs_have_sound_parts,
     supplements_are_numbered_to_16,
 };
+pub use tariff_syntax::{InitialNumbers, RateNumbers};
 pub use values::{DateNumbers, Initial, Supplement};

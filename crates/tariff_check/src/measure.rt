@@ -1,9 +1,6 @@
 //! The common measure of a tariff.
-ghost use Rattle.std.specs.Prelude.{◌≡◌, ◌^◌, ◌<◌, ◌≤◌, All, MatchOption, false, map, nat_lt};
-ghost use Rattle.std.specs.List.{list_any};
-ghost use Rattle.tariff_check.specs.Lines.{is_for_nothing};
-ghost use Rattle.tariff_check.specs.Measure.{lcm_of, measure_of};
-ghost use Rattle.tariff_syntax.specs.Tree.{Line, line_of};
+ghost use Rattle.std.specs.{List.{list_any}, Prelude.{◌<◌, ◌^◌, ◌≡◌, ◌≤◌, All, MatchOption, false, map, nat_lt}};
+ghost use Rattle.tariff_check.specs.{Common.{Line, line_of}, Lines.{is_for_nothing}, Measure.{lcm_of, measure_of}};
 
 use crate::multiples::common_measure;
 use crate::rules::is_for_nothing;

@@ -1,6 +1,5 @@
 //! The least common multiple of two measures.
-ghost use Rattle.std.specs.Int.{IsGcd};
-ghost use Rattle.std.specs.Prelude.{◌≡◌, ◌<◌};
+ghost use Rattle.std.specs.{Int.{IsGcd}, Prelude.{◌<◌, ◌≡◌}};
 ghost use Rattle.tariff_check.specs.Measure.{lcm_of};
 
 /// The greatest number that divides both.

@@ -1,9 +1,8 @@
 //! What a line has in common with the lines before it.
-ghost use Rattle.std.specs.List.{list_any, count_by};
-ghost use Rattle.std.specs.Prelude.{◌≡◌, map};
+ghost use Rattle.std.specs.{List.{count_by, list_any}, Prelude.{◌≡◌, map}};
+ghost use Rattle.tariff_check.specs.Common.{Line, entry_of, line_of};
 ghost use Rattle.tariff_check.specs.Lines.{excludes, is_alike, is_default_for, is_of_same, most_alike};
 ghost use Rattle.tariff_syntax.specs.Tree as Tree;
-ghost use Rattle.tariff_syntax.specs.Tree.{Line, entry_of, line_of};
 
 use crate::choice::{ChoiceKind, condition, is_of, kind_of};
 use tariff_syntax::{Item, TariffLine};

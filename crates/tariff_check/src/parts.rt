@@ -1,11 +1,8 @@
 //! The parts of a tariff on which faults depend, from its lines.
-ghost use Rattle.std.specs.Prelude.{◌≡◌, ◌&&◌, Some, None, IfOk, IfErr, OnOk, is_none, map, unwrap_or};
-ghost use Rattle.tariff_check.specs.Faults.{has_default};
-ghost use Rattle.tariff_check.specs.Kinds.{is_of, part_of};
-ghost use Rattle.tariff_check.specs.Parts.{has_holidays, positions_of, positions_part, step_of, step_part, zones_of};
-ghost use Rattle.tariff_check.specs.Parts.{when_part, zones_part};
-ghost use Rattle.tariff_check.specs.Stages.{step_fault};
-ghost use Rattle.tariff_syntax.specs.Tree.{entry_of, line_of};
+ghost use Rattle.std.specs.Prelude.{◌&&◌, ◌≡◌, IfErr, IfOk, None, OnOk, Some, is_none, map, unwrap_or};
+ghost use Rattle.tariff_check.specs.{Common.{entry_of, line_of}, Kinds.{is_of, part_of}, Parts.{zones_of, zones_part}};
+ghost use Rattle.tariff_check.specs.{Faults.{has_default}, Stages.{step_fault}};
+ghost use Rattle.tariff_check.specs.Parts.{has_holidays, positions_of, positions_part, step_of, step_part, when_part};
 
 use crate::choice::{ChoiceKind, condition, is_of};
 use crate::fault::CheckFault;

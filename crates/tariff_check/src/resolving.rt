@@ -1,11 +1,8 @@
 //! The parts of a tariff, from its lines.
-ghost use Rattle.std.specs.Option.{option_to_list};
-ghost use Rattle.std.specs.Prelude.{◌≡◌, ◌++◌, IfOk, OnOk, map};
+ghost use Rattle.std.specs.{Option.{option_to_list}, Prelude.{◌++◌, ◌≡◌, IfOk, OnOk, map}};
+ghost use Rattle.tariff_check.specs.{Common.{line_of}, Resolved.{HasParts, count_in, counted_choice, placed}};
 ghost use Rattle.tariff_check.specs.Kinds.{EachKind, kept_of, part_of};
-ghost use Rattle.tariff_check.specs.Parts.{holiday_part};
-ghost use Rattle.tariff_check.specs.Resolved.{HasParts, counted_choice, count_in, placed};
-ghost use Rattle.tariff_check.specs.SoundTariff.{numbered_supplement, supplement_numbered};
-ghost use Rattle.tariff_syntax.specs.Tree.{line_of};
+ghost use Rattle.tariff_check.specs.{Parts.{holiday_part}, SoundTariff.{numbered_supplement, supplement_numbered}};
 
 use crate::choice::{ChoiceLine, Choices, put};
 use crate::values::{DateNumbers, Supplement};

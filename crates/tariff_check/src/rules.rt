@@ -1,9 +1,7 @@
 //! The rules for lines, and the first line that breaks one.
-ghost use Rattle.std.specs.Prelude.{◌≡◌, ◌&&◌, nat_le, map};
-ghost use Rattle.taxi_units.specs.Calendar.{is_date};
-ghost use Rattle.tariff_check.specs.Lines.{first_line, is_for_nothing, is_no_holiday};
-ghost use Rattle.tariff_check.specs.Rules.{breaks_rule};
-ghost use Rattle.tariff_syntax.specs.Tree.{entry_of, line_of};
+ghost use Rattle.std.specs.Prelude.{◌&&◌, ◌≡◌, map, nat_le};
+ghost use Rattle.tariff_check.specs.Common.{entry_of, is_date, line_of};
+ghost use Rattle.tariff_check.specs.{Lines.{first_line, is_for_nothing, is_no_holiday}, Rules.{breaks_rule}};
 
 use crate::atoms::{AtomRule, item_breaks};
 use crate::choice::is_great;

@@ -1,31 +1,17 @@
 -- What the command `faults` answers begins with the answer of `check`.
-use Rattle.std.proofs.Common.{◌≡◌, ◌↔◌, ℕ, zero, suc, ◌<◌, ◌≤◌, Bool, true, false, List, [], ◌∷◌, ◌++◌, Option, Some}
-use Rattle.std.proofs.Common.{None, Result}
-use Rattle.std.proofs.Common.{Ok, Err, length, map, refl, sym, ap, ◌∙◌, arith}
-use Rattle.std.specs.Prelude.{nat_lt}
-use Rattle.std.specs.List.{Contains, slice_get, slice_index_or}
-use Rattle.std.proofs.lemmas.Bool.{ltb-false, ltb-true}
-use Rattle.std.proofs.lemmas.List.{append-nil, get_or-map, length-map}
-use Rattle.std.proofs.lemmas.List.Elements.{All-contains}
-use Rattle.tariff_syntax.specs.BadLines.{bad_lines}
-use Rattle.tariff_syntax.specs.Formless.{HasNoForm}
-use Rattle.tariff_syntax.specs.Parsed.{tree_parsed}
-use Rattle.tariff_syntax.specs.Tree.{Tree}
+use Rattle.std.{specs.List.{Contains, slice_get, slice_index_or}, proofs.lemmas.Bool.{ltb-false, ltb-true}}
+use Rattle.std.{specs.Prelude.{nat_lt}, proofs.Common.{Some, ap, arith, false, length, map, refl, suc, sym, true, zero}}
+use Rattle.std.proofs.Common.{[], ℕ, ◌++◌, ◌<◌, ◌↔◌, ◌∙◌, ◌∷◌, ◌≡◌, ◌≤◌, Bool, Err, List, None, Ok, Option, Result}
+use Rattle.std.proofs.lemmas.List.{append-nil, get_or-map, length-map, Elements.{All-contains}}
+use Rattle.tariff_syntax.specs.{BadLines.{bad_lines}, Formless.{HasNoForm}, Parsed.{tree_parsed}}
 use Rattle.tariff_syntax.proofs.Laws.{bad_lines_have_no_form-each, bad_lines_have_no_form-first}
 use Rattle.tariff_syntax.proofs.Laws.{bad_lines_have_no_form-named, bad_lines_have_no_form-none}
 use Rattle.tariff_syntax.proofs.Laws.{texts_are_parsed_as_they_read-bad_line, texts_are_parsed_as_they_read-tariff}
-use Rattle.tariff_check.specs.AllFaults.{all_faults}
-use Rattle.tariff_check.specs.Faults.{fault_of}
-use Rattle.tariff_check.specs.declared.fault.CheckFault.{CheckFault}
-use Rattle.tariff_check.proofs.Laws.{all_faults_begin_with_the_first-first}
-use Rattle.call_ends.specs.Answer.{Answer}
-use Rattle.tariff_commands.specs.Check.{check_answer}
-use Rattle.tariff_commands.specs.Faults.{faults_answer, faults_in, refusal_lines, refusals_in}
-use Rattle.call_ends.specs.LastLine.{bad_tariff_line}
-use Rattle.call_ends.specs.Tariffs.{HasTariff, sound_in, tariff_in}
-use Rattle.call_ends.specs.declared.tariff.Refusal.{Refusal}
-use Rattle.call_ends.specs.declared.tariff.Refusal.TheVariants.{TooLong, Syntax, Unsound}
-use Rattle.tariff_commands.proofs.Finding.{refused_bad, refused_long, refused_tree, tariff_long}
+use Rattle.{tariff_check.proofs.Laws.{all_faults_begin_with_the_first-first}, call_ends.specs.Tariffs.{sound_in}}
+use Rattle.tariff_commands.specs.{Check.{check_answer}, Faults.{faults_answer, faults_in, refusal_lines, refusals_in}}
+use Rattle.tariff_commands.specs.Common.{Answer, CheckFault, HasTariff, Refusal, Syntax, TooLong, Tree, Unsound}
+use Rattle.tariff_commands.specs.Common.{all_faults, bad_tariff_line, fault_of, tariff_in}
+use Rattle.tariff_commands.proofs.FoundFaults.{refused_bad, refused_long, refused_tree, tariff_long}
 
 -- ---- the first refusal is that of `check`
 

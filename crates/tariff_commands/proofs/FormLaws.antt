@@ -1,16 +1,11 @@
 -- A form is its own form.
-use Rattle.std.proofs.Common.{◌≡◌, ℕ, ◌+◌, ◌≤◌, List, [], ◌∷◌, length, Ok, Err, Result, refl, ap, subst, ◌∙◌}
-use Rattle.std.proofs.lemmas.Bool.{le-ltb}
-use Rattle.std.specs.Prelude.{Bool, true, false, codes, if◌then◌else◌, nat_lt}
-use Rattle.tariff_syntax.specs.Parsed.{tree_parsed}
-use Rattle.tariff_syntax.specs.Printed.{entry_line, lines_text, number_line, printed_form}
-use Rattle.tariff_syntax.specs.Renumbered.{renumbered, renumbered_from}
-use Rattle.tariff_syntax.specs.Tree.{Line, Tree}
+use Rattle.std.{specs.Prelude.{Bool, codes, false, if◌then◌else◌, nat_lt, true}, proofs.lemmas.Bool.{le-ltb}}
+use Rattle.std.proofs.Common.{[], ℕ, ◌+◌, ◌∙◌, ◌∷◌, ◌≡◌, ◌≤◌, Err, List, Ok, Result, ap, length, refl, subst}
+use Rattle.tariff_syntax.specs.{Parsed.{tree_parsed}, Tree.{Line}}
+use Rattle.tariff_syntax.specs.{Printed.{entry_line, lines_text, number_line}, Renumbered.{renumbered, renumbered_from}}
 use Rattle.tariff_syntax.proofs.Laws.{printed_forms_read_back, texts_are_parsed_as_they_read-tariff}
-use Rattle.call_ends.specs.Answer.{Answer, shows}
+use Rattle.tariff_commands.specs.Common.{Answer, Refusal, TooLong, Tree, printed_form, shows}
 use Rattle.tariff_commands.specs.Form.{form_answer, or_syntax, tree_in}
-use Rattle.call_ends.specs.declared.tariff.Refusal.{Refusal}
-use Rattle.call_ends.specs.declared.tariff.Refusal.TheVariants.{TooLong}
 
 -- the numbers of lines aren't printed
 lines_anew : (decimals number : ℕ) (lines : List Line)

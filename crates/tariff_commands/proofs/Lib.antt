@@ -1,14 +1,12 @@
 -- two tariffs, compared, or the one of them that wasn't read
-mod Comparing
+mod ComparedTariffs
 -- what the command `faults` answers begins with the answer of `check`
 mod FaultsLaws
--- what the command `faults` found of a text is what it answers
-mod Finding
 -- a form is its own form
 mod FormLaws
 -- the printed form of a text's tariff
 mod Forms
--- the list of a text's lines
-mod Lists
--- the commands that say something of a tariff alone
-mod Tabling
+-- what the command `faults` found of a text is what it answers
+mod FoundFaults
+-- the commands `check` and `tables`
+mod TariffAnswers

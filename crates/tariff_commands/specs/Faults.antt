@@ -1,19 +1,8 @@
 -- Rules: the command `faults TARIFF`.
-use Rattle.std.specs.Prelude.{◌≡◌, ℕ, ◌+◌, ◌≤◌, List, [], ◌∷◌, length, map, None, Result, Ok, Err, if◌then◌else◌}
-use Rattle.std.specs.Prelude.{nat_lt}
-use Rattle.std.specs.List.{flat_map}
-use Rattle.tariff_syntax.specs.BadLines.{bad_lines}
-use Rattle.tariff_syntax.specs.Parsed.{tree_parsed}
-use Rattle.tariff_syntax.specs.Tree.{Tree}
-use Rattle.tariff_check.specs.AllFaults.{all_faults}
-use Rattle.call_ends.specs.Answer.{Answer}
-use Rattle.tariff_commands.specs.Check.{check_answer}
-use Rattle.call_ends.specs.Course.{Command}
-use Rattle.call_ends.specs.LastLine.{bad_tariff_line}
-use Rattle.call_ends.specs.Pieces.{pieces_of}
-use Rattle.call_ends.specs.Tariffs.{tariff_in}
-use Rattle.call_ends.specs.declared.tariff.Refusal.{Refusal}
-use Rattle.call_ends.specs.declared.tariff.Refusal.TheVariants.{TooLong, Syntax, Unsound}
+use Rattle.std.specs.{List.{flat_map}, Prelude.{[], ℕ, ◌∷◌, Err, List, Ok, Result, if◌then◌else◌, length, map, nat_lt}}
+use Rattle.tariff_syntax.specs.{BadLines.{bad_lines}, Parsed.{tree_parsed}}
+use Rattle.tariff_commands.specs.{Check.{check_answer}, Common.{bad_tariff_line, tariff_in, word_command}}
+use Rattle.tariff_commands.specs.Common.{Answer, Command, Refusal, Syntax, TooLong, Tree, Unsound, all_faults}
 
 -- a tariff that was read is refused for each of its faults, and else a text for each of its bad lines
 abbrev pub refusals_of : (bad : List ℕ) → Result Tree ℕ → List Refusal
@@ -43,18 +32,4 @@ faults_in text = faults_answer (refusals_in text) (tariff_in text)
 -- the command `faults` reads its tariff and prints the lines of its faults in as few pieces as it can be. It takes a
 -- step for each piece, and one for the last line.
 abbrev pub faults_command : Command
-faults_command = record {
-  answer = λ contents image. faults_in (contents 1);
-  drive = None;
-  shown = λ contents image taken. [];
-  reads = λ word. word ≡ 1;
-  turn = λ word. word;
-  reads_all = λ status. status ≡ 0;
-  comes_to = λ contents image word taken. word ≡ 1;
-  may_lack = λ contents image taken. Unit {0};
-  told = λ files_tell image_told. files_tell;
-  opens = ⊥;
-  writes = λ ended. ⊥;
-  steps = λ files_tell image_told contents left image before now.
-      files_tell → now ≤ before + 1 + pieces_of (length (faults_in (contents 1)).shown);
-}
+faults_command = word_command faults_in

@@ -1,20 +1,9 @@
 -- For proofs: what the command `faults` found of a text. Faults says what it answers.
-use Rattle.std.specs.Prelude.{◌≡◌, ℕ, List, [], map, None, Some, Ok, Err}
-use Rattle.tariff_syntax.specs.Tree.{Tree}
-use Rattle.tariff_check.specs.AllFaults.{all_faults}
-use Rattle.tariff_check.specs.Faults.{fault_of}
-use Rattle.tariff_check.specs.SoundTariff.{sound_of}
-use Rattle.tariff_check.specs.declared.fault.CheckFault.{CheckFault}
+use Rattle.std.specs.Prelude.{[], ℕ, ◌≡◌, Err, List, None, Ok, Some, map}
+use Rattle.tariff_commands.specs.Common.{CheckFault, Ended, Refusal, Tree, Unsound, all_faults, fault_of, sound_of}
+use Rattle.tariff_commands.specs.{Common.{tariff_in}, declared.faults.Found.{Found, TheVariants.{Faults, Sound}}}
 use Rattle.tariff_commands.specs.Faults.{refusal_lines, refusals_in}
-use Rattle.call_ends.specs.Tariffs.{tariff_in}
-use Rattle.call_ends.specs.declared.ending.Ended.{Ended}
-use Rattle.call_ends.specs.declared.ending.Ended.TheVariants.{NoMemory, ReadFault}
-use Rattle.tariff_commands.specs.declared.faults.FindFault.{FindFault}
-use Rattle.tariff_commands.specs.declared.faults.FindFault.TheVariants as finds
-use Rattle.tariff_commands.specs.declared.faults.Found.{Found}
-use Rattle.tariff_commands.specs.declared.faults.Found.TheVariants.{Faults, Sound}
-use Rattle.call_ends.specs.declared.tariff.Refusal.{Refusal}
-use Rattle.call_ends.specs.declared.tariff.Refusal.TheVariants.{Unsound}
+use Rattle.call_ends.specs.declared.ending.Ended.TheVariants as ended
 
 -- numbers are those of a tariff if they are its cells and its common measure
 pub record AreNumbersOf (t : Tree) (cells measure : ℕ) : Type 0 where
@@ -54,12 +43,11 @@ abbrev pub IsFoundIn : (text : List ℕ) → Found → Type 0
 IsFoundIn text (Sound cells measure) = IsSoundText text cells measure
 IsFoundIn text (Faults lines) = IsRefusedText text lines.items
 
--- a file was read to its end if its tariff was found sound
-abbrev pub EndsFile : Found → (left : List ℕ) → Type 0
-EndsFile (Sound cells measure) left = left ≡ []
-EndsFile (Faults lines) left = Unit {0}
+-- what is printed of what was found, and how the command ends behind it
+abbrev pub found_text : Found → List ℕ
+found_text (Sound cells measure) = []
+found_text (Faults lines) = lines.items
 
--- how a command ended that found nothing
-abbrev pub ended_for_find : FindFault → Ended
-ended_for_find finds.ReadFault = ReadFault
-ended_for_find finds.NoMemory = NoMemory
+abbrev pub found_end : Found → Ended
+found_end (Sound cells measure) = ended.Sound cells measure
+found_end (Faults lines) = ended.Faulty

@@ -1,11 +1,11 @@
--- For proofs: the printed form that was made of a text. Form says which one a text has.
-use Rattle.std.specs.Prelude.{◌≡◌, ℕ, List, Ok}
-use Rattle.tariff_syntax.specs.Printed.{printed_form}
-use Rattle.tariff_syntax.specs.Tree.{Tree}
-use Rattle.tariff_commands.specs.Form.{tree_in}
+-- For proofs: how the command `form` ends if its text has no tariff.
+use Rattle.tariff_syntax.specs.declared.parsing.ParseFault.{ParseFault}
+use Rattle.call_ends.specs.declared.ending.Ended.TheVariants.{BadTariff}
+use Rattle.tariff_commands.specs.Common.{Ended, NoMemory, Syntax, TooLong}
+use Rattle.tariff_syntax.specs.declared.parsing.ParseFault.TheVariants as faults
 
--- a form is that of a text if the text reads as a tariff, and the form is the tariff's printed form
-pub record IsFormOf (text form : List ℕ) : Type 0 where
-  pub tree : Tree
-  pub reads : tree_in text ≡ Ok tree
-  pub is : form ≡ printed_form tree
+-- how a command ended whose text has no tariff
+abbrev pub ended_unparsed : ParseFault → Ended
+ended_unparsed faults.TooLong = BadTariff TooLong
+ended_unparsed (faults.Syntax line) = BadTariff (Syntax line)
+ended_unparsed faults.NoMemory = NoMemory

@@ -9,5 +9,5 @@ pub mod Tables
 pub mod CompareSteps
 pub mod FaultsSteps
 pub mod FormSteps
-pub mod LinesSteps
 pub mod TableSteps
+pub mod Common

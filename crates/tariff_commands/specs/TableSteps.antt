@@ -1,8 +1,7 @@
 -- For proofs: the tables that were made of a text.
-use Rattle.std.specs.Prelude.{◌≡◌, ℕ, List, Ok}
-use Rattle.tariff_compile.specs.Tables.{IsTablesOf, TableParts, tables_of}
-use Rattle.tariff_syntax.specs.Tree.{Tree}
-use Rattle.call_ends.specs.Tariffs.{tariff_in}
+use Rattle.std.specs.Prelude.{ℕ, ◌≡◌, List, Ok}
+use Rattle.tariff_compile.specs.Tables.{IsTablesOf, tables_of}
+use Rattle.tariff_commands.specs.Common.{TableParts, Tree, tariff_in}
 
 -- tables are those of a text under a constant if the text has a tariff, and they are the tariff's tables
 pub record AreTablesIn (constant : ℕ) (text : List ℕ) (tables : TableParts) : Type 0 where

@@ -1,7 +1,6 @@
 //! The command `check`.
-ghost use Rattle.std.specs.Prelude.{ℕ, List};
-ghost use Rattle.tariff_commands.specs.Check.{check_command};
-ghost use Rattle.call_ends.specs.Carried.{Carries, no_board};
+ghost use Rattle.{std.specs.Prelude.{ℕ, List}, call_ends.specs.Carried.{no_board}};
+ghost use Rattle.tariff_commands.specs.{Check.{check_command}, Common.{Carries}};
 
 use call_ends::{Ended, read_tariff, refused_by};
 use outside::Files;

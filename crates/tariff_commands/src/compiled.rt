@@ -1,9 +1,7 @@
 //! The tables of the tariff of a word.
-ghost use Rattle.std.specs.Prelude.{◌≡◌, ◌≢◌, ℕ, ◌<◌, [], IfOk, OnOk, Ok, Err};
-ghost use Rattle.outside.specs.Reading.{LeavesOthers};
-ghost use Rattle.outside.specs.Faults.{Rose};
+ghost use Rattle.std.specs.Prelude.{[], ℕ, ◌<◌, ◌≡◌, ◌≢◌, Err, IfOk, Ok, OnOk};
+ghost use Rattle.{outside.specs.{Faults.{Rose}, Reading.{LeavesOthers}}, tariff_commands.specs.Common.{tariff_in}};
 ghost use Rattle.tariff_commands.specs.TableSteps.{AreTablesIn};
-ghost use Rattle.call_ends.specs.Tariffs.{tariff_in};
 
 use call_ends::{Refusal, TextFault, tariff_of_text, text_of_word};
 use drive_modes::Constant;

@@ -1,21 +1,13 @@
 //! The command `faults`.
-ghost use Rattle.std.specs.List.{Contains, slice_get};
-ghost use Rattle.std.specs.Prelude.{◌≡◌, ◌≢◌, ◌↔◌, ℕ, ◌<◌, ◌≤◌, ◌++◌, List, [], Some, Err, IfOk, OnOk};
-ghost use Rattle.std.specs.Prelude.{length, map};
-ghost use Rattle.outside.specs.Faults.{Rose};
-ghost use Rattle.outside.specs.Reading.{LeavesOthers};
+ghost use Rattle.{std.specs.List.{Contains, slice_get}, tariff_syntax.specs.Writable.{IsWritable}};
+ghost use Rattle.std.specs.Prelude.{[], ℕ, ◌++◌, ◌<◌, ◌↔◌, ◌≡◌, ◌≤◌, Err, IfOk, List, OnOk, Some, length, map};
 ghost use Rattle.tariff_syntax.specs.Formless.{HasNoForm};
-ghost use Rattle.tariff_syntax.specs.Tree.{tree_of};
-ghost use Rattle.tariff_syntax.specs.Writable.{IsWritable};
-ghost use Rattle.call_ends.specs.Carried.{Carries};
-ghost use Rattle.tariff_commands.specs.Check.{check_answer};
+ghost use Rattle.tariff_commands.specs.{Check.{check_answer}, Common.{end_made, tariff_in, text_made, tree_of}};
+ghost use Rattle.tariff_commands.specs.Common.{Carries, HasTariff, Makes, Syntax, TooLong, Unsound, bad_tariff_line};
 ghost use Rattle.tariff_commands.specs.Faults.{faults_command, faults_in, refusal_lines, refusals_in};
-ghost use Rattle.tariff_commands.specs.FaultsSteps.{EndsFile, IsFoundIn, IsFoundOf, ended_for_find};
-ghost use Rattle.call_ends.specs.LastLine.{bad_tariff_line};
-ghost use Rattle.call_ends.specs.Tariffs.{HasTariff, tariff_in};
-ghost use Rattle.call_ends.specs.declared.tariff.Refusal.TheVariants.{Syntax, TooLong, Unsound};
+ghost use Rattle.tariff_commands.specs.FaultsSteps.{IsFoundIn, IsFoundOf, found_end, found_text};
 
-use call_ends::{Ended, Refusal, TextFault, bad_tariff_line, print_text, text_of_word};
+use call_ends::{Ended, Made, Refusal, TextFault, bad_tariff_line, print_made, text_of_word};
 use outside::{Board, Files, STORE_SIZE};
 use std::alloc::{AllocError, Global};
 use std::sync::ledger::Ledger;
@@ -32,15 +24,6 @@ pub enum Found {
     Faults(Vec<u8>),
 }
 
-/// Why nothing was found of a tariff.
-#[derive(Clone, Copy)]
-pub enum FindFault {
-    /// A read failed.
-    ReadFault,
-    /// Memory ran out.
-    NoMemory,
-}
-
 /// Prints a line for each fault of the tariff of word 1, or that it is sound. It takes no memory after a line is
 /// printed.
 pub fn print_faults<F: Files, B: Board<STORE_SIZE, L>, L: Ledger>(
@@ -52,49 +35,45 @@ pub fn print_faults<F: Files, B: Board<STORE_SIZE, L>, L: Ledger>(
     ensures { Carries F.Files B.Board faults_command files.old files.new board.old board.new
         steps.old steps.new result }
 {
-    let found = match found_in_word(alloc, files, 1) {
-        Ok(found) => found,
-        Err(fault) => return not_found(fault),
-    };
-    match found {
-        Found::Sound(cells, measure) => Ended::Sound(cells, measure),
-        Found::Faults(lines) => match print_text(lines.as_slice(), board, steps) {
-            Ok(()) => Ended::Faulty,
-            Err(_) => Ended::BoardFault,
-        },
-    }
+    print_made(found_in_word(alloc, files), board, steps)
 }
 
-/// How the command ended that found nothing.
-fn not_found(fault: FindFault) -> Ended
-    ensures { result ≡ ended_for_find fault }
+/// Reads the tariff of word 1, and gives what is printed of it. Nothing is left of the text, nor of the tree.
+fn found_in_word<F: Files>(alloc: Global, files: &mut F) -> Result<Made, Ended>
+    ensures { (image : List ℕ) → Makes F.Files faults_command image files.old files.new
+        (text_made result) (end_made result) }
 {
-    match fault {
-        FindFault::ReadFault => Ended::ReadFault,
-        FindFault::NoMemory => Ended::NoMemory,
-    }
-}
-
-/// Reads the tariff of a word, and gives what is found of it. It reads the file to its end if the tariff is sound.
-fn found_in_word<F: Files>(alloc: Global, files: &mut F, word: usize) -> Result<Found, FindFault>
-    ensures found { F.tells → IfOk result (λ found. IsFoundIn (F.rest files.old word) found) }
-    ensures ended { F.tells → IfOk result (λ found. EndsFile found (F.rest files.new word)) }
-    ensures read_fault { result ≡ Err FindFault.ReadFault → Rose (F.faults files.old word) (F.faults files.new word) }
-    ensures others { LeavesOthers F.rest word files.old files.new }
-    ensures counts { result ≢ Err FindFault.ReadFault
-        → (other : ℕ) → F.faults files.new other ≡ F.faults files.old other }
-{
-    match text_of_word(alloc, files, word) {
+    match text_of_word(alloc, files, 1) {
         Ok(text) => match found_in_text(alloc, text.as_slice()) {
-            Ok(found) => Ok(found),
-            Err(_) => Err(FindFault::NoMemory),
+            Ok(found) => Ok(made_of(alloc, found)),
+            Err(_) => Err(Ended::NoMemory),
         },
-        Err(TextFault::ReadFault) => Err(FindFault::ReadFault),
+        Err(TextFault::ReadFault) => Err(Ended::ReadFault),
         Err(TextFault::Refused(_)) => match long_line(alloc) {
-            Ok(line) => Ok(Found::Faults(line)),
-            Err(_) => Err(FindFault::NoMemory),
+            Ok(text) => Ok(Made {
+                text,
+                ended: Ended::Faulty,
+            }),
+            Err(_) => Err(Ended::NoMemory),
         },
-        Err(TextFault::NoMemory) => Err(FindFault::NoMemory),
+        Err(TextFault::NoMemory) => Err(Ended::NoMemory),
+    }
+}
+
+/// What is printed of what was found.
+fn made_of(alloc: Global, found: Found) -> Made
+    ensures text { result.text.items ≡ found_text found }
+    ensures ended { result.ended ≡ found_end found }
+{
+    match found {
+        Found::Sound(cells, measure) => Made {
+            text: Vec::new(alloc),
+            ended: Ended::Sound(cells, measure),
+        },
+        Found::Faults(text) => Made {
+            text,
+            ended: Ended::Faulty,
+        },
     }
 }
 

@@ -1,10 +1,7 @@
 //! What the printed form of a tariff is read as.
-ghost use Rattle.std.specs.Prelude.{◌≡◌, ℕ, ◌≤◌, List, length, Ok};
-ghost use Rattle.tariff_syntax.specs.Printed.{printed_form};
+ghost use Rattle.std.specs.Prelude.{ℕ, ◌≡◌, ◌≤◌, List, Ok, length};
 ghost use Rattle.tariff_syntax.specs.Renumbered.{renumbered};
-ghost use Rattle.tariff_syntax.specs.Tree.{Tree};
-ghost use Rattle.call_ends.specs.Answer.{shows};
-ghost use Rattle.tariff_commands.specs.Form.{form_answer, tree_in};
+ghost use Rattle.tariff_commands.specs.{Common.{Tree, printed_form, shows}, Form.{form_answer, tree_in}};
 
 /// A law: the printed form of a tariff reads as the same tariff, but for the numbers of its lines, if it has at most
 /// 65,536 bytes. Its own printed form is then the same to the byte.

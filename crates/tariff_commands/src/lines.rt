@@ -1,13 +1,8 @@
 //! The command `lines`.
-ghost use Rattle.std.specs.Prelude.{◌≡◌, ◌≢◌, ℕ, [], IfOk, OnOk, Err};
-ghost use Rattle.outside.specs.Reading.{LeavesOthers};
-ghost use Rattle.outside.specs.Faults.{Rose};
-ghost use Rattle.call_ends.specs.Carried.{Carries};
-ghost use Rattle.tariff_commands.specs.Lines.{lines_command};
-ghost use Rattle.tariff_commands.specs.LinesSteps.{IsListOf};
-ghost use Rattle.call_ends.specs.Tariffs.{tariff_in};
+ghost use Rattle.{std.specs.Prelude.{ℕ, List}, tariff_commands.specs.Lines.{lines_answer, lines_command}};
+ghost use Rattle.tariff_commands.specs.Common.{Carries, IsMade, Makes, end_made, tariff_in, text_made};
 
-use call_ends::{Ended, Refusal, TextFault, print_text, refused_by, tariff_of_text, text_of_word};
+use call_ends::{Ended, Made, print_made, refused_by, tariff_of_text, text_of_word};
 use drive_modes::Constant;
 use outside::{Board, Files, STORE_SIZE};
 use std::alloc::Global;
@@ -26,53 +21,37 @@ pub fn print_lines<F: Files, B: Board<STORE_SIZE, L>, L: Ledger>(
     ensures { Carries F.Files B.Board (lines_command constant) files.old files.new board.old board.new
         steps.old steps.new result }
 {
-    let list = match list_of_word(alloc, files, 1, constant) {
-        Ok(list) => list,
-        Err(fault) => return refused_by(fault),
-    };
-    match print_text(list.as_slice(), board, steps) {
-        Ok(()) => Ended::Done,
-        Err(_) => Ended::BoardFault,
-    }
+    print_made(list_of_word(alloc, files, constant), board, steps)
 }
 
 /// The text of the lines of a text's tariff.
-#[tactic(auto, using(crate::proofs::Lists::list_made))]
-fn list_of_text(alloc: Global, text: &[u8], constant: Constant) -> Result<Vec<u8>, TextFault>
-    ensures found { IfOk result (λ list. IsListOf constant text.now list.items) }
-    ensures refused { (why : Refusal) → result ≡ Err (TextFault.Refused why) → tariff_in text.now ≡ Err why }
-    ensures read { result ≢ Err TextFault.ReadFault }
+fn list_of_text(alloc: Global, text: &[u8], constant: Constant) -> Result<Made, Ended>
+    ensures { IsMade (lines_answer constant (tariff_in text.now)) result }
 {
     let checked = match tariff_of_text(alloc, text) {
         Ok(checked) => checked,
-        Err(fault) => return Err(fault),
+        Err(fault) => return Err(refused_by(fault)),
     };
     let uses = match line_uses(alloc, &checked, constant) {
         Ok(uses) => uses,
-        Err(_) => return Err(TextFault::NoMemory),
+        Err(_) => return Err(Ended::NoMemory),
     };
     match print_uses(alloc, uses.as_slice()) {
-        Ok(list) => Ok(list),
-        Err(_) => Err(TextFault::NoMemory),
+        Ok(text) => Ok(Made {
+            text,
+            ended: Ended::Done,
+        }),
+        Err(_) => Err(Ended::NoMemory),
     }
 }
 
-/// Reads the tariff of a word, and gives the text of its lines. It reads the file to its end if the tariff is accepted.
-fn list_of_word<F: Files>(
-    alloc: Global,
-    files: &mut F,
-    word: usize,
-    constant: Constant,
-) -> Result<Vec<u8>, TextFault>
-    ensures found { F.tells → IfOk result (λ list. IsListOf constant (F.rest files.old word) list.items) }
-    ensures ended { F.tells → OnOk result (F.rest files.new word ≡ []) }
-    ensures refused { (why : Refusal) → F.tells → result ≡ Err (TextFault.Refused why)
-        → tariff_in (F.rest files.old word) ≡ Err why }
-    ensures read_fault { result ≡ Err TextFault.ReadFault → Rose (F.faults files.old word) (F.faults files.new word) }
-    ensures others { LeavesOthers F.rest word files.old files.new }
-    ensures counts { result ≢ Err TextFault.ReadFault
-        → (other : ℕ) → F.faults files.new other ≡ F.faults files.old other }
+/// Reads the tariff of word 1, and gives the text of its lines. Nothing is left of the text, nor of the tree.
+fn list_of_word<F: Files>(alloc: Global, files: &mut F, constant: Constant) -> Result<Made, Ended>
+    ensures { (image : List ℕ) → Makes F.Files (lines_command constant) image files.old files.new
+        (text_made result) (end_made result) }
 {
-    let text = text_of_word(alloc, files, word)?;
-    list_of_text(alloc, text.as_slice(), constant)
+    match text_of_word(alloc, files, 1) {
+        Ok(text) => list_of_text(alloc, text.as_slice(), constant),
+        Err(fault) => Err(refused_by(fault)),
+    }
 }

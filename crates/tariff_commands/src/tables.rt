@@ -1,17 +1,13 @@
 //! The command `tables`.
 #![tactic(auto, using(call_ends::proofs::Laws::board_runs))]
 
-ghost use Rattle.std.specs.Prelude.{◌≡◌, ◌+◌, ◌<◌, ◌≤◌, ◌++◌, length, OnOk};
-ghost use Rattle.taxi_units.specs.Line.{line_size};
-ghost use Rattle.outside.specs.Faults.{HasCause};
-ghost use Rattle.outside.specs.Printing.{Begins};
+ghost use Rattle.std.specs.Prelude.{◌++◌, ◌+◌, ◌<◌, ◌≡◌, ◌≤◌, OnOk, length};
+ghost use Rattle.{taxi_units.specs.Line.{line_size}, outside.specs.{Faults.{HasCause}, PrintedText.{Begins}}};
 ghost use Rattle.outside.specs.Runs.{KeepsStore};
-ghost use Rattle.tariff_compile.specs.Rows.{row_count, row_text, rows_text};
-ghost use Rattle.call_ends.specs.Carried.{Carries};
-ghost use Rattle.tariff_commands.specs.Tables.{tables_command};
+ghost use Rattle.tariff_commands.specs.{Common.{Carries, row_count, row_text, rows_text}, Tables.{tables_command}};
 
 use crate::compiled::tables_of_word;
-use call_ends::{Ended, refused_by};
+use call_ends::{Ended, ended_behind, refused_by};
 use drive_modes::Constant;
 use outside::{Board, Failed, Files, STORE_SIZE};
 use std::alloc::Global;
@@ -34,10 +30,7 @@ pub fn print_tables<F: Files, B: Board<STORE_SIZE, L>, L: Ledger>(
         Ok(tables) => tables,
         Err(fault) => return refused_by(fault),
     };
-    match print_rows(&tables, board, steps) {
-        Ok(()) => Ended::Done,
-        Err(_) => Ended::BoardFault,
-    }
+    ended_behind(print_rows(&tables, board, steps), Ended::Done)
 }
 
 /// Prints the rows of tables, one after the other.

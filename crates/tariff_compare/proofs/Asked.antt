@@ -1,14 +1,9 @@
 -- What is asked of tables in a context of a meter.
-use Rattle.std.proofs.Common.{◌≡◌, ap, sym, subst, refl, ℕ, Bool, true, ◌&&◌, ltb, List, [], ◌∷◌, length, pos}
-use Rattle.std.proofs.Common.{arith}
-use Rattle.std.proofs.lemmas.Bool.{false≢true, lt-ltb}
-use Rattle.interval_clock.specs.Calendar.{date_after, date_place, weekday_of}
-use Rattle.tariff_compile.specs.Tables.{IsInRangeFor, TableParts, lines_in}
-use Rattle.tariff_syntax.specs.declared.context.Context.{Context}
-use Rattle.tariff_compare.specs.Grids.{CanBeAsked}
-use Rattle.tariff_compare.specs.Sides.{context_by, is_holiday_among, lines_by}
-use Rattle.tariff_compare.specs.declared.meter_context.MeterContext.{MeterContext}
-use Rattle.tariff_compare.proofs.Times.{date_place_most, weekday_is}
+use Rattle.std.proofs.Common.{[], ℕ, ◌&&◌, ◌∷◌, ◌≡◌, Bool, List, ap, arith, length, ltb, pos, refl, subst, sym, true}
+use Rattle.{std.proofs.lemmas.Bool.{false≢true, lt-ltb}, interval_clock.specs.Calendar.{date_after}}
+use Rattle.tariff_compare.specs.Common.{Context, IsInRangeFor, MeterContext, TableParts, date_place, lines_in}
+use Rattle.tariff_compare.specs.{Common.{weekday_of}, Sides.{context_by, is_holiday_among, lines_by}}
+use Rattle.tariff_compare.{specs.Grids.{CanBeAsked}, proofs.Times.{date_place_most, weekday_is}}
 
 -- a test that passes leaves the answer to the other
 pub also : (a b c : Bool) → a ≡ true → c ≡ b → c ≡ (a && b)

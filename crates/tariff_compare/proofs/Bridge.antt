@@ -1,36 +1,19 @@
 -- What the tables of a sound tariff answer is what the tariff says.
-use Rattle.std.proofs.Common.{◌≡◌, ◌∙◌, ap, sym, subst, refl, ℕ, Bool, ◌&&◌, eqb, is_some, List, [], ◌∷◌, Option, inl}
-use Rattle.std.proofs.Common.{inr}
-use Rattle.std.proofs.Common.{pos, arith}
-use Rattle.std.proofs.lemmas.Bool.{cases_eq, eq-eqb, false_from_ne_true, ne_eqb}
-use Rattle.std.proofs.lemmas.Bool.Decides.{Decides-int_eq}
-use Rattle.std.proofs.lemmas.Int.{ints}
-use Rattle.std.specs.Ordering.{int_eq}
-use Rattle.interval_clock.proofs.Laws.{IsDateOf-date_after}
-use Rattle.interval_clock.specs.Calendar.{date_after, date_place, weekday_of}
+use Rattle.std.{specs.Ordering.{int_eq}, proofs.lemmas.{Bool.Decides.{Decides-int_eq}, Int.{ints}}}
+use Rattle.std.proofs.Common.{[], ℕ, ◌&&◌, ◌∙◌, ◌∷◌, ◌≡◌, Bool, List, Option, ap, arith, eqb, inl, inr, is_some, pos}
+use Rattle.std.proofs.{Common.{refl, subst, sym}, lemmas.Bool.{cases_eq, eq-eqb, false_from_ne_true, ne_eqb}}
+use Rattle.interval_clock.{specs.Calendar.{date_after}, proofs.Laws.{IsDateOf-date_after}}
+use Rattle.tariff_calendar.specs.{Lists.{has_day, is_holiday}, Range.{IsInRange, IsInRangeOf}}
 use Rattle.tariff_calendar.proofs.Laws.{holidays_are_dates-dates, holidays_are_dates-some}
-use Rattle.tariff_calendar.specs.Lists.{has_day, is_holiday, lists_of}
-use Rattle.tariff_calendar.specs.Range.{IsInRange, IsInRangeOf}
-use Rattle.tariff_check.specs.Parts.{positions_of, zones_of}
+use Rattle.{tariff_compile.specs.Tables.{IsTablesOf, lines_at}, tariff_compare.specs.Common.{zones_of}}
 use Rattle.tariff_compile.proofs.Laws.{tables_equal_the_tree-fees, tables_equal_the_tree-lines}
-use Rattle.tariff_compile.specs.Tables.{IsInRangeFor, IsTablesOf, lines_at, lines_in}
-use Rattle.tariff_compile.specs.Tables.{tables_of}
-use Rattle.tariff_syntax.specs.Tree.{Tree}
-use Rattle.tariff_syntax.specs.declared.context.Context.{Context}
-use Rattle.tariff_check.specs.declared.choice.ChoiceKind.{ChoiceKind}
-use Rattle.tariff_compare.specs.Contexts.{HasTables, IsMeterContext, context_at}
-use Rattle.tariff_compare.specs.Counting.{counts, is_at}
-use Rattle.tariff_compare.specs.Grids.{CanBeAsked}
+use Rattle.tariff_compare.specs.Common.{ChoiceKind, Context, Counts, Differs, IsInRangeFor, MeterContext, Question}
+use Rattle.tariff_compare.specs.Common.{Tree, date_place, lines_in, lists_of, positions_of, tables_of, weekday_of}
+use Rattle.tariff_compare.specs.{Contexts.{HasTables, IsMeterContext, context_at}, Sides.{is_met_by, lines_by, side_of}}
+use Rattle.tariff_compare.{specs.{CountedLine.{counts, is_at}, Grids.{CanBeAsked}}, proofs.Asked.{context_in_range}}
 use Rattle.tariff_compare.specs.Kinds.{InForce, difference_at, differing_kind, in_force, is_asked, place_in}
 use Rattle.tariff_compare.specs.Sides.{context_by, counts_by, difference_by, in_force_by, is_holiday_among, is_met}
-use Rattle.tariff_compare.specs.Sides.{is_met_by}
-use Rattle.tariff_compare.specs.Sides.{lines_by, side_of}
-use Rattle.tariff_compare.specs.declared.meter_context.MeterContext.{MeterContext}
-use Rattle.tariff_compare.specs.declared.question.Question.{Question}
-use Rattle.tariff_compare.specs.declared.question.Question.TheVariants.{Counts, Differs}
-use Rattle.tariff_compare.proofs.Asked.{context_in_range}
-use Rattle.tariff_compare.proofs.EachKind.{in_force_is, places_are}
-use Rattle.tariff_compare.proofs.MeterTimes.{days_within, minutes_within}
+use Rattle.tariff_compare.proofs.{EachKind.{in_force_is, places_are}, MeterTimes.{days_within, minutes_within}}
 
 -- a day is among holidays by their numbers
 equal_days : (holiday day : ℕ) → int_eq (pos holiday) (pos day) ≡ eqb holiday day

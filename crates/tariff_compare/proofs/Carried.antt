@@ -1,27 +1,13 @@
 -- What is so in a context is so in the one of the grid that stands for it.
-use Rattle.std.proofs.Common.{◌≡◌, ◌∙◌, ap, sym, refl, ℕ, ◌≤◌, Bool, true, false, ◌||◌, eqb, if◌then◌else◌, is_some}
-use Rattle.std.proofs.Common.{Option, arith}
-use Rattle.std.proofs.lemmas.Bool.{eq-eqb, eqb-true}
-use Rattle.std.specs.Cmp.Derive.{both_true}
-use Rattle.tariff_calendar.proofs.Laws.{cuts_decide_conditions-first}
-use Rattle.tariff_calendar.specs.Lists.{lists_of}
-use Rattle.tariff_calendar.specs.Range.{IsSameCell}
-use Rattle.tariff_check.specs.Kinds.{part_of}
-use Rattle.tariff_check.specs.declared.choice.ChoiceKind.{ChoiceKind}
-use Rattle.tariff_syntax.specs.Meaning.{at_hiring, choice_place}
-use Rattle.tariff_syntax.specs.Tree.{Tree}
-use Rattle.tariff_syntax.specs.declared.context.Context.{Context}
-use Rattle.tariff_compare.specs.Contexts.{HasTables, IsMeterContext, context_at}
-use Rattle.tariff_compare.specs.Counting.{counts, is_at}
+use Rattle.std.{specs.Cmp.Derive.{both_true}, proofs.{Common.{sym, true}, lemmas.Bool.{eq-eqb, eqb-true}}}
+use Rattle.std.proofs.Common.{ℕ, ◌||◌, ◌∙◌, ◌≡◌, ◌≤◌, Bool, Option, ap, arith, eqb, false, if◌then◌else◌, is_some, refl}
+use Rattle.{tariff_syntax.specs.Meaning.{at_hiring, choice_place}, tariff_check.specs.Kinds.{part_of}}
+use Rattle.tariff_calendar.{specs.Range.{IsSameCell}, proofs.Laws.{cuts_decide_conditions-first}}
+use Rattle.tariff_compare.specs.Common.{ChoiceKind, Context, Counts, Differs, MeterContext, Question, Tree, lists_of}
+use Rattle.tariff_compare.specs.{Contexts.{HasTables, IsMeterContext, context_at}, Kinds.{is_hiring, place_at}}
+use Rattle.tariff_compare.{specs.{CountedLine.{counts, is_at}, Sides.{is_met}}, proofs.Frames.{both_parts}}
 use Rattle.tariff_compare.specs.Kinds.{InForce, difference_at, differing_kind, in_force, is_asked, is_asked_amid}
-use Rattle.tariff_compare.specs.Kinds.{is_hiring, place_at}
-use Rattle.tariff_compare.specs.Sides.{is_met}
-use Rattle.tariff_compare.specs.declared.meter_context.MeterContext.{MeterContext}
-use Rattle.tariff_compare.specs.declared.question.Question.{Question}
-use Rattle.tariff_compare.specs.declared.question.Question.TheVariants.{Counts, Differs}
-use Rattle.tariff_compare.proofs.Bridge.{in_range_of}
-use Rattle.tariff_compare.proofs.EachKind.{HasSameLines, difference_carried, in_force_same}
-use Rattle.tariff_compare.proofs.Frames.{both_parts}
+use Rattle.tariff_compare.proofs.{Bridge.{in_range_of}, EachKind.{HasSameLines, difference_carried, in_force_same}}
 
 -- two contexts in one cell of a tariff, the second at the hiring if the first is
 pub record StandsFor (t : Tree) (k : ℕ) (n c : MeterContext) : Type 0 where

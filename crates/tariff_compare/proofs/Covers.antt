@@ -1,28 +1,16 @@
 -- For each context of a meter the grid has one in the same cell of both tariffs, which isn't later.
-use Rattle.std.proofs.Common.{◌≡◌, ◌≢◌, ◌∙◌, ◌⊎◌, ap, sym, subst, refl, ℕ, ◌≤◌, Bool, true, false, not, ◌||◌, eqb, List}
-use Rattle.std.proofs.Common.{[], ◌∷◌, map, inl, inr, pos, arith}
-use Rattle.std.proofs.lemmas.Bool.{eq-eqb, eqb-true, false≢true, not-true}
-use Rattle.interval_clock.specs.Calendar.{date_after, date_place, weekday_of}
-use Rattle.tariff_calendar.specs.Lists.{count_at_most, lists_of}
-use Rattle.tariff_calendar.specs.Range.{IsSameCell}
-use Rattle.tariff_compile.specs.Tables.{TableParts, tables_of}
-use Rattle.tariff_syntax.specs.Tree.{Tree}
-use Rattle.tariff_syntax.specs.Writable.{IsFromTo}
-use Rattle.taxi_units.specs.Time.{last_tick}
+use Rattle.std.proofs.Common.{[], ℕ, ◌||◌, ◌∙◌, ◌∷◌, ◌≡◌, ◌≢◌, ◌≤◌, ◌⊎◌, Bool, List, ap, arith, eqb, false, inl, inr}
+use Rattle.{std.proofs.Common.{map, not, pos, refl, subst, sym, true}, tariff_calendar.specs.Range.{IsSameCell}}
+use Rattle.{std.proofs.lemmas.Bool.{eq-eqb, eqb-true, false≢true, not-true}, interval_clock.specs.Calendar.{date_after}}
+use Rattle.tariff_compare.specs.Common.{Day, IsFromTo, MeterContext, TableParts, Tree, count_at_most, date_place}
+use Rattle.tariff_compare.specs.{Common.{last_tick, lists_of, tables_of, weekday_of}, Grids.{listed}}
 use Rattle.tariff_compare.specs.Contexts.{HasTables, IsMeterContext, context_at, day_place, most_pulses, order_of}
 use Rattle.tariff_compare.specs.Grids.{day_at, day_in, days_until, grid_of, is_alike, is_edge, is_meter_time, is_same}
-use Rattle.tariff_compare.specs.Grids.{listed}
-use Rattle.tariff_compare.specs.Sides.{is_holiday_among}
-use Rattle.tariff_compare.specs.declared.day.Day.{Day}
-use Rattle.tariff_compare.specs.declared.meter_context.MeterContext.{MeterContext}
-use Rattle.tariff_compare.proofs.Bridge.{among}
-use Rattle.tariff_compare.proofs.Found.{IsOfGrid}
-use Rattle.tariff_compare.proofs.Frames.{both_parts}
-use Rattle.tariff_compare.proofs.GridDays.{IsOneOfDays, IsLike, day_at_place, kept_like, kept_place, place_of_day}
+use Rattle.tariff_compare.{specs.Sides.{is_holiday_among}, proofs.{MeterTimes.{time_tested, time_there}, Order.{AllLe}}}
+use Rattle.tariff_compare.proofs.{Bridge.{among}, Found.{IsOfGrid}}
+use Rattle.tariff_compare.proofs.{Frames.{both_parts}, Numbers.{IsIn, count_same, in_listed, range_within, reached}}
+use Rattle.tariff_compare.proofs.GridDays.{IsLike, IsOneOfDays, day_at_place, kept_like, kept_place, place_of_day}
 use Rattle.tariff_compare.proofs.MeterTimes.{days_within, minutes_within, tested_first, tested_last, time_test}
-use Rattle.tariff_compare.proofs.MeterTimes.{time_tested, time_there}
-use Rattle.tariff_compare.proofs.Numbers.{IsIn, count_same, in_listed, range_within, reached}
-use Rattle.tariff_compare.proofs.Order.{AllLe}
 
 -- ---- days that are like another
 

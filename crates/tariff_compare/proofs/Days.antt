@@ -1,7 +1,6 @@
 -- The days that are kept.
-use Rattle.std.proofs.Common.{◌≡◌, refl, ℕ, suc, ◌+◌, [], arith}
-use Rattle.tariff_compile.specs.Tables.{TableParts}
-use Rattle.tariff_compare.specs.Grids.{day_at, day_in, days_until, with_day}
+use Rattle.std.proofs.Common.{[], ℕ, ◌+◌, ◌≡◌, arith, refl, suc}
+use Rattle.tariff_compare.specs.{Common.{TableParts}, Grids.{day_at, day_in, days_until, with_day}}
 
 pub days_none : (one other : TableParts) → days_until one other 0 ≡ []
 unfolding days_until

@@ -1,22 +1,13 @@
 -- What differs first between two tariffs.
-use Rattle.std.proofs.Common.{◌≡◌, ◌∙◌, ap, sym, subst, refl, ℕ, true, is_some, Option, Some, None, option_map}
-use Rattle.std.proofs.lemmas.Bool.{false≢true}
-use Rattle.std.specs.Option.{option_or}
-use Rattle.tariff_syntax.specs.Tree.{Tree}
-use Rattle.tariff_check.specs.declared.choice.ChoiceKind.{ChoiceKind}
-use Rattle.tariff_compare.specs.Contexts.{IsFirst, IsFirstOrNone, IsMeterContext}
+use Rattle.std.{specs.Option.{option_or}, proofs.lemmas.Bool.{false≢true}}
+use Rattle.std.proofs.Common.{ℕ, ◌∙◌, ◌≡◌, None, Option, Some, ap, is_some, option_map, refl, subst, sym, true}
+use Rattle.tariff_compare.specs.{Common.{ChoiceKind, Difference, Differs, In, MeterContext, Tree}, Searches.{first_met}}
+use Rattle.tariff_compare.specs.Contexts.{HasTables, IsFirst, IsFirstOrNone, IsMeterContext}
 use Rattle.tariff_compare.specs.Differences.{context_difference, difference_of, frame_difference, part_in}
 use Rattle.tariff_compare.specs.Same.{AreSame, DiffersFirst, HasSameFrame, difference_at}
-use Rattle.tariff_compare.specs.Searches.{first_met}
 use Rattle.tariff_compare.specs.Sides.{difference_by, is_met, side_of}
-use Rattle.tariff_compare.specs.declared.difference.Difference.{Difference}
-use Rattle.tariff_compare.specs.declared.difference.Difference.TheVariants.{In}
-use Rattle.tariff_compare.specs.declared.meter_context.MeterContext.{MeterContext}
-use Rattle.tariff_compare.specs.declared.question.Question.TheVariants.{Differs}
-use Rattle.tariff_compare.proofs.Bridge.{difference_is}
-use Rattle.tariff_compare.specs.Contexts.{HasTables}
+use Rattle.tariff_compare.proofs.{Bridge.{difference_is}, Frames.{frame_positions, frame_same, frame_zones, same_frame}}
 use Rattle.tariff_compare.proofs.Firsts.{AreCompared, first_is_first, other_context}
-use Rattle.tariff_compare.proofs.Frames.{frame_positions, frame_same, frame_zones, same_frame}
 
 some_none : {A : Type 0} {a : A} → Some a ≡ None → ⊥
 some_none h = cc

@@ -1,28 +1,18 @@
 -- What is so of each kind of line: the tables name the line that holds first, contexts of one cell have the same lines,
 -- what differs in one differs in the other, and if nothing differs all is the same.
-use Rattle.std.proofs.Common.{◌≡◌, ◌∙◌, ap, refl, ℕ, ◌+◌, ◌-◌, Bool, true, false, not, ◌&&◌, eqb, if◌then◌else◌, List}
-use Rattle.std.proofs.Common.{[], ◌∷◌, find, is_some, get_or, Option, Some, None, inl, inr, arith}
-use Rattle.std.proofs.lemmas.Bool.{eqb-true, false≢true, ne_eqb}
+use Rattle.std.proofs.Common.{[], ℕ, ◌&&◌, ◌+◌, ◌-◌, ◌∙◌, ◌∷◌, ◌≡◌, Bool, List, None, Option, Some, ap, arith, eqb}
+use Rattle.std.proofs.Common.{false, find, get_or, if◌then◌else◌, inl, inr, is_some, not, refl, true}
+use Rattle.{std.proofs.lemmas.Bool.{eqb-true, false≢true, ne_eqb}, tariff_compile.specs.Tables.{lines_at}}
+use Rattle.{tariff_syntax.specs.Meaning.{initial_place, minimum_place, rate_place}, tariff_check.specs.Faults.{IsSound}}
+use Rattle.{tariff_check.specs.Amounts.{initial_by, place_number}, tariff_compare.specs.Sides.{in_force_by, side_of}}
 use Rattle.tariff_check.proofs.Laws.{lines_that_hold_are_there-initial, lines_that_hold_are_there-rate}
-use Rattle.tariff_check.specs.Amounts.{initial_by, place_number}
-use Rattle.tariff_check.specs.Faults.{IsSound}
-use Rattle.tariff_check.specs.Parts.{RateNumbers, rates_of}
-use Rattle.tariff_check.specs.declared.choice.ChoiceKind.{ChoiceKind}
-use Rattle.tariff_check.specs.declared.choice.ChoiceKind.TheVariants.{Rate, Initial, Minimum}
-use Rattle.tariff_check.specs.declared.values.Initial as fees
-use Rattle.tariff_compile.specs.Tables.{fees_in, lines_at, lines_in, tables_of}
-use Rattle.tariff_compile.specs.declared.cells.CellLines.{CellLines}
-use Rattle.tariff_syntax.specs.Meaning.{initial_place, minimum_place, rate_place}
-use Rattle.tariff_syntax.specs.Tree.{Tree}
-use Rattle.tariff_syntax.specs.declared.context.Context.{Context}
-use Rattle.tariff_compare.specs.Contexts.{context_at}
+use Rattle.tariff_compare.specs.Common.{CellLines, ChoiceKind, Context, Initial, MeterContext, Minimum, Rate}
+use Rattle.tariff_compare.specs.Common.{RateNumbers, Tree, fees_in, lines_in, rates_of, tables_of}
+use Rattle.tariff_compare.{specs.Contexts.{context_at}, proofs.Numbers.{IsIn}}
 use Rattle.tariff_compare.specs.Kinds.{InForce, compared_kinds, cost_same, difference_at, differing_kind, have_same_fee}
 use Rattle.tariff_compare.specs.Kinds.{have_same_minimum, in_force, is_asked, is_hiring, is_other, is_same_of, place_at}
-use Rattle.tariff_compare.specs.Kinds.{place_before, place_in, rate_in}
-use Rattle.tariff_compare.specs.Sides.{in_force_by, side_of}
-use Rattle.tariff_compare.specs.declared.meter_context.MeterContext.{MeterContext}
-use Rattle.tariff_compare.proofs.Frames.{both_parts, none_found}
-use Rattle.tariff_compare.proofs.Numbers.{IsIn}
+use Rattle.tariff_compare.{specs.Kinds.{place_before, place_in, rate_in}, proofs.Frames.{both_parts, none_found}}
+use Rattle.tariff_check.specs.declared.values.Initial as fees
 
 number_back : (o : Option ℕ) → place_before (place_number o) ≡ o
 number_back None = refl

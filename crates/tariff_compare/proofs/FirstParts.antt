@@ -1,27 +1,15 @@
 -- The part that is found is the first one that differs: of frames, and of what is in force in a context.
-use Rattle.std.proofs.Common.{◌≡◌, ◌∙◌, ◌⊎◌, ap, sym, subst, refl, ℕ, zero, suc, ◌+◌, ◌<◌, ◌≤◌, Bool, true, false, not}
-use Rattle.std.proofs.Common.{◌&&◌, ◌||◌, eqb, if◌then◌else◌, List, [], ◌∷◌, find, Option, Some, None, option_map}
-use Rattle.std.proofs.Common.{inl, inr, arith}
-use Rattle.std.proofs.lemmas.Bool.{cases_lt, eq-eqb, eqb-true, false≢true, not-false, not-true}
-use Rattle.std.specs.List.{range_with_len}
-use Rattle.tariff_check.proofs.Laws.{supplements_are_numbered_to_16}
-use Rattle.tariff_check.specs.DisplayStep.{display_step}
-use Rattle.tariff_check.specs.Parts.{positions_of, supplement_of, zones_of}
-use Rattle.tariff_check.specs.declared.choice.ChoiceKind.{ChoiceKind}
-use Rattle.tariff_check.specs.declared.choice.ChoiceKind.TheVariants.{Rate, Initial, Minimum}
-use Rattle.tariff_syntax.specs.Tree.{Tree}
-use Rattle.tariff_syntax.specs.Writable.{IsWritable}
-use Rattle.tariff_compare.specs.Contexts.{context_at}
+use Rattle.{std.specs.List.{range_with_len}, tariff_check.proofs.Laws.{supplements_are_numbered_to_16}}
+use Rattle.std.proofs.Common.{[], ℕ, ◌&&◌, ◌+◌, ◌<◌, ◌||◌, ◌∙◌, ◌∷◌, ◌≡◌, ◌≤◌, ◌⊎◌, Bool, List, None, Option, Some, ap}
+use Rattle.std.proofs.Common.{arith, eqb, false, find, if◌then◌else◌, inl, inr, not, option_map, refl, subst, suc, sym}
+use Rattle.std.proofs.{Common.{true, zero}, lemmas.Bool.{cases_lt, eq-eqb, eqb-true, false≢true, not-false, not-true}}
+use Rattle.tariff_compare.specs.Common.{ChoiceKind, Decimals, Difference, In, Initial, IsWritable, MeterContext}
+use Rattle.tariff_compare.specs.Common.{Minimum, Positions, Rate, Rounded, Step, Supplement, Tree, Zones, display_step}
+use Rattle.tariff_compare.specs.{Common.{positions_of, supplement_of, zones_of}, Differences.{supplement_numbers}}
+use Rattle.tariff_compare.specs.{Contexts.{context_at}, FirstParts.{kind_place}, Kinds.{is_other, is_same_of}}
 use Rattle.tariff_compare.specs.Differences.{frame_difference, is_same_rounding, is_same_supplement, other_supplement}
-use Rattle.tariff_compare.specs.Differences.{supplement_numbers}
 use Rattle.tariff_compare.specs.FirstParts.{IsAskedFor, IsFirstKind, IsFirstOfFrame, IsSameBy, IsSameIn, frame_place}
-use Rattle.tariff_compare.specs.FirstParts.{kind_place}
 use Rattle.tariff_compare.specs.Kinds.{InForce, compared_kinds, difference_at, differing_kind, in_force, is_asked}
-use Rattle.tariff_compare.specs.Kinds.{is_other, is_same_of}
-use Rattle.tariff_compare.specs.declared.difference.Difference.{Difference}
-use Rattle.tariff_compare.specs.declared.difference.Difference.TheVariants.{Decimals, Step, Rounded, Positions, Zones}
-use Rattle.tariff_compare.specs.declared.difference.Difference.TheVariants.{Supplement, In}
-use Rattle.tariff_compare.specs.declared.meter_context.MeterContext.{MeterContext}
 use Rattle.tariff_compare.proofs.Frames.{both_parts, rounding_self, same_roundings, same_supplements, supplement_self}
 use Rattle.tariff_compare.proofs.Numbers.{IsIn}
 

@@ -1,21 +1,10 @@
 -- The first context that the grid has is the first of the meter.
-use Rattle.std.proofs.Common.{◌≡◌, ◌∙◌, sym, ℕ, Bool, true, false, Option, Some, None}
-use Rattle.std.proofs.lemmas.Bool.{false≢true}
-use Rattle.tariff_compile.specs.Tables.{tables_of}
-use Rattle.tariff_check.specs.Parts.{positions_of, zones_of}
-use Rattle.tariff_syntax.specs.Tree.{Tree}
-use Rattle.tariff_compare.specs.Contexts.{HasTables, IsFirstOrNone, IsMeterContext, order_of}
-use Rattle.tariff_compare.specs.Grids.{grid_of}
-use Rattle.tariff_compare.specs.Searches.{first_met}
-use Rattle.tariff_compare.specs.Sides.{is_met, is_met_by, side_of}
-use Rattle.tariff_compare.specs.declared.meter_context.MeterContext.{MeterContext}
-use Rattle.tariff_compare.specs.declared.question.Question.{Question}
-use Rattle.tariff_compare.proofs.Bridge.{met_is}
-use Rattle.tariff_compare.proofs.Carried.{StandsFor, met_carried}
-use Rattle.tariff_compare.proofs.Covers.{IsCover, cover}
-use Rattle.tariff_compare.proofs.Found.{IsFirstOf, IsOfGrid, grid_first}
-use Rattle.tariff_compare.proofs.GridIs.{is_ordered, of_grid}
-use Rattle.tariff_compare.proofs.Order.{le_before}
+use Rattle.std.proofs.{Common.{ℕ, ◌∙◌, ◌≡◌, Bool, None, Option, Some, false, sym, true}, lemmas.Bool.{false≢true}}
+use Rattle.tariff_compare.specs.Common.{MeterContext, Question, Tree, positions_of, tables_of, zones_of}
+use Rattle.tariff_compare.specs.{Contexts.{HasTables, IsFirstOrNone, IsMeterContext, order_of}, Searches.{first_met}}
+use Rattle.tariff_compare.{specs.Grids.{grid_of}, proofs.{Bridge.{met_is}, Covers.{IsCover, cover}}}
+use Rattle.tariff_compare.{specs.Sides.{is_met, is_met_by, side_of}, proofs.Found.{IsFirstOf, IsOfGrid, grid_first}}
+use Rattle.tariff_compare.proofs.{Carried.{StandsFor, met_carried}, GridIs.{is_ordered, of_grid}, Order.{le_before}}
 
 -- two tariffs that are compared
 pub record AreCompared (t u : Tree) (k : ℕ) : Type 0 where

@@ -1,25 +1,16 @@
 -- What is found in a grid is the first of its contexts that meets the test.
-use Rattle.std.proofs.Common.{◌≡◌, ◌∙◌, ◌⊎◌, ap, sym, subst, refl, ℕ, suc, ◌+◌, ◌-◌, ◌*◌, ◌/◌, ◌%◌, ◌<◌, ◌≤◌}
-use Rattle.std.proofs.Common.{Bool, true, false, ◌&&◌, if◌then◌else◌, find, get_or, length, Option, Some, None}
-use Rattle.std.proofs.Common.{option_map, div-one, mul-one, inl, inr, arith}
-use Rattle.std.proofs.lemmas.List.{length-map}
-use Rattle.std.proofs.lemmas.Bool.{cases_lt, false≢true}
-use Rattle.std.specs.List.{range_with_len}
-use Rattle.tariff_check.specs.Cuts.{IsRising}
+use Rattle.{std.specs.List.{range_with_len}, tariff_check.specs.Cuts.{IsRising}}
+use Rattle.std.proofs.Common.{ℕ, ◌%◌, ◌&&◌, ◌*◌, ◌+◌, ◌-◌, ◌/◌, ◌<◌, ◌∙◌, ◌≡◌, ◌≤◌, ◌⊎◌, Bool, None, Option, Some, ap}
+use Rattle.std.proofs.Common.{arith, div-one, false, find, get_or, if◌then◌else◌, inl, inr, length, mul-one, option_map}
+use Rattle.std.proofs.{Common.{refl, subst, suc, sym, true}, lemmas.{Bool.{cases_lt, false≢true}, List.{length-map}}}
+use Rattle.tariff_compile.specs.Cells.{IsBelow, bands_of, cell_count, cell_number, places_of}
+use Rattle.tariff_compile.{specs.declared.parts.Bands.{Bands}, proofs.Laws.{cells_are_numbered_in_order-place}}
 use Rattle.tariff_compile.proofs.Laws.{cells_are_numbered_in_order-number, cells_are_numbered_in_order-order}
-use Rattle.tariff_compile.proofs.Laws.{cells_are_numbered_in_order-place}
-use Rattle.tariff_compile.specs.Cells.{IsBefore, IsBelow, bands_of, cell_count, cell_number, places_of}
-use Rattle.tariff_compile.specs.declared.parts.Bands.{Bands}
-use Rattle.tariff_compare.specs.Contexts.{IsEarlier, day_place}
-use Rattle.tariff_compare.specs.Grids.{GridLists, is_meter_time}
+use Rattle.tariff_compare.specs.{Common.{Day, IsBefore, MeterContext}, Grids.{GridLists, is_meter_time}}
+use Rattle.tariff_compare.{specs.Contexts.{IsEarlier, day_place}, proofs.Frames.{both_parts, none_found}}
 use Rattle.tariff_compare.specs.Searches.{IsNumbered, context_count, context_of, context_with, day_numbers, day_part}
-use Rattle.tariff_compare.specs.Searches.{in_grid, is_found}
-use Rattle.tariff_compare.specs.declared.day.Day.{Day}
-use Rattle.tariff_compare.specs.declared.meter_context.MeterContext.{MeterContext}
-use Rattle.tariff_compare.proofs.FirstParts.{earlier_fail, found_passes}
-use Rattle.tariff_compare.proofs.Frames.{both_parts, none_found}
-use Rattle.tariff_compare.proofs.GridDays.{AreRisingDays}
-use Rattle.tariff_compare.proofs.Numbers.{IsIn, at_place, place_in, range_in, range_within}
+use Rattle.tariff_compare.{specs.Searches.{in_grid, is_found}, proofs.FirstParts.{earlier_fail, found_passes}}
+use Rattle.tariff_compare.proofs.{GridDays.{AreRisingDays}, Numbers.{IsIn, at_place, place_in, range_in, range_within}}
 
 -- ---- contexts by their parts
 

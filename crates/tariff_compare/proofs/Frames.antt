@@ -1,22 +1,14 @@
 -- The frame of two tariffs: nothing differs exactly if it is the same.
-use Rattle.std.proofs.Common.{◌≡◌, ◌∙◌, ◌⊎◌, ap, sym, refl, ℕ, Bool, true, false, not, ◌&&◌, eqb, if◌then◌else◌, List}
-use Rattle.std.proofs.Common.{[], ◌∷◌, find, Option, Some, None, option_map, inl, inr, arith}
+use Rattle.std.proofs.Common.{[], ℕ, ◌&&◌, ◌∙◌, ◌∷◌, ◌≡◌, ◌⊎◌, Bool, List, None, Option, Some, ap, arith, eqb, false}
+use Rattle.std.proofs.Common.{find, if◌then◌else◌, inl, inr, not, option_map, refl, sym, true}
 use Rattle.std.proofs.lemmas.Bool.{cases_lt, eq-eqb, eqb-true, false≢true, not-false}
-use Rattle.drive_modes.specs.declared.meterage.Rounding.{Rounding}
-use Rattle.drive_modes.specs.declared.meterage.Rounding.TheVariants.{Behind, Ahead}
-use Rattle.tariff_check.proofs.Laws.{supplements_are_numbered_to_16}
-use Rattle.tariff_check.specs.Parts.{positions_of, supplement_of, zones_of}
-use Rattle.tariff_check.specs.DisplayStep.{display_step}
-use Rattle.tariff_check.specs.declared.values.Supplement as supplements
-use Rattle.tariff_syntax.specs.Tree.{Tree}
-use Rattle.tariff_syntax.specs.Writable.{IsFromTo, IsWritable}
+use Rattle.drive_modes.specs.declared.meterage.Rounding.{Rounding, TheVariants.{Ahead, Behind}}
+use Rattle.{tariff_check.proofs.Laws.{supplements_are_numbered_to_16}, tariff_compare.specs.Same.{HasSameFrame}}
+use Rattle.tariff_compare.specs.Common.{Decimals, Difference, IsFromTo, IsWritable, Positions, Rounded, Step}
+use Rattle.tariff_compare.specs.Common.{Supplement, Tree, Zones, display_step, positions_of, supplement_of, zones_of}
 use Rattle.tariff_compare.specs.Differences.{frame_difference, is_same_rounding, is_same_supplement, other_supplement}
-use Rattle.tariff_compare.specs.Differences.{supplement_numbers}
-use Rattle.tariff_compare.specs.Same.{HasSameFrame}
-use Rattle.tariff_compare.specs.declared.difference.Difference.{Difference}
-use Rattle.tariff_compare.specs.declared.difference.Difference.TheVariants.{Decimals, Step, Rounded, Positions, Zones}
-use Rattle.tariff_compare.specs.declared.difference.Difference.TheVariants.{Supplement}
-use Rattle.tariff_compare.proofs.Numbers.{IsIn, range_within}
+use Rattle.tariff_compare.{specs.Differences.{supplement_numbers}, proofs.Numbers.{IsIn, range_within}}
+use Rattle.tariff_check.specs.declared.values.Supplement as supplements
 
 some_none : {A : Type 0} {a : A} → Some a ≡ None → ⊥
 some_none h = cc

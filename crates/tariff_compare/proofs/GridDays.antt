@@ -1,17 +1,10 @@
 -- The days of the grid: they are in order, and for each day there is one that is like it and no later.
-use Rattle.std.proofs.Common.{◌≡◌, ◌⊎◌, ap, sym, subst, refl, ℕ, zero, suc, ◌+◌, ◌-◌, ◌<◌, ◌≤◌, Bool, true, false, ◌||◌}
-use Rattle.std.proofs.Common.{if◌then◌else◌, List, [], ◌∷◌, ◌++◌, length, length-append, map, get_or, inl}
-use Rattle.std.proofs.Common.{inr, arith}
-use Rattle.std.proofs.lemmas.List.{length-map}
-use Rattle.std.proofs.lemmas.Bool.{cases_lt, false≢true}
-use Rattle.std.proofs.lemmas.Bool.Decides.{nat_tests}
-use Rattle.std.specs.List.{list_any}
-use Rattle.tariff_compile.specs.Tables.{TableParts}
-use Rattle.tariff_syntax.specs.Writable.{IsFromTo}
+use Rattle.{std.specs.List.{list_any}, tariff_compare.specs.Grids.{day_at, day_in, days_until, is_alike}}
+use Rattle.std.proofs.Common.{[], ℕ, ◌++◌, ◌+◌, ◌-◌, ◌<◌, ◌||◌, ◌∷◌, ◌≡◌, ◌≤◌, ◌⊎◌, Bool, List, ap, arith, false}
+use Rattle.std.proofs.Common.{get_or, if◌then◌else◌, inl, inr, length, length-append, map, refl, subst, suc, sym, true}
+use Rattle.std.proofs.{Common.{zero}, lemmas.{Bool.{cases_lt, false≢true, Decides.{nat_tests}}, List.{length-map}}}
+use Rattle.tariff_compare.{specs.Common.{Day, IsFromTo, TableParts}, proofs.Days.{days_none, next_day}}
 use Rattle.tariff_compare.specs.Contexts.{day_place}
-use Rattle.tariff_compare.specs.Grids.{day_at, day_in, days_until, is_alike}
-use Rattle.tariff_compare.specs.declared.day.Day.{Day}
-use Rattle.tariff_compare.proofs.Days.{days_none, next_day}
 
 -- ---- places of days
 

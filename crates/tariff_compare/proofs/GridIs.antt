@@ -1,29 +1,17 @@
 -- The grid of two tariffs: its numbers are ones that a meter can have, it is in order, and its contexts are a meter's.
-use Rattle.std.proofs.Common.{◌≡◌, ◌∙◌, ap, sym, subst, refl, ℕ, ◌≤◌, ◌%◌, List, [], ◌∷◌, length, map, get_or, inl, inr}
-use Rattle.std.proofs.Common.{arith}
-use Rattle.std.specs.List.{All, range_with_len}
-use Rattle.std.proofs.lemmas.List.{get_or-map}
-use Rattle.std.proofs.lemmas.List.Elements.{All-cons, All-get_or, All-nil}
-use Rattle.std.proofs.lemmas.List.FromFn.{length-range_with_len}
-use Rattle.tariff_calendar.proofs.Laws.{lists_are_ordered-ordered}
-use Rattle.tariff_calendar.specs.Lists.{AreOrdered}
-use Rattle.tariff_compile.proofs.Laws.{tables_are_fit}
-use Rattle.tariff_compile.specs.Tables.{IsCompiled, TableParts, tables_of}
-use Rattle.tariff_check.specs.Parts.{positions_of, zones_of}
-use Rattle.tariff_syntax.specs.Tree.{Tree}
-use Rattle.tariff_syntax.specs.Writable.{IsFromTo}
-use Rattle.taxi_units.specs.Counted.{IsElement}
-use Rattle.taxi_units.specs.Time.{last_tick}
-use Rattle.tariff_compare.specs.Contexts.{IsMeterContext, most_pulses}
+use Rattle.std.{specs.List.{All, range_with_len}, proofs.lemmas.List.{get_or-map, FromFn.{length-range_with_len}}}
+use Rattle.std.proofs.Common.{[], ℕ, ◌%◌, ◌∙◌, ◌∷◌, ◌≡◌, ◌≤◌, List, ap, arith, get_or, inl, inr, length, map, refl}
+use Rattle.std.proofs.{Common.{subst, sym}, lemmas.List.Elements.{All-cons, All-get_or, All-nil}}
+use Rattle.{taxi_units.specs.Counted.{IsElement}, tariff_calendar.proofs.Laws.{lists_are_ordered-ordered}}
+use Rattle.{tariff_calendar.specs.Lists.{AreOrdered}, tariff_compile.proofs.Laws.{tables_are_fit}}
+use Rattle.{tariff_compile.specs.Tables.{IsCompiled}, tariff_compare.specs.Common.{tables_of, zones_of}}
+use Rattle.tariff_compare.specs.Common.{Day, IsFromTo, MeterContext, TableParts, Tree, last_tick, positions_of}
+use Rattle.tariff_compare.{specs.Contexts.{IsMeterContext, most_pulses}, proofs.Found.{IsOfGrid, IsOrderedGrid}}
 use Rattle.tariff_compare.specs.Grids.{CanAskBoth, GridLists, IsDayIn, IsGridOf, day_at, day_in, days_until, grid_of}
-use Rattle.tariff_compare.specs.Searches.{IsNumbered, context_of, day_part}
-use Rattle.tariff_compare.specs.declared.day.Day.{Day}
-use Rattle.tariff_compare.specs.declared.meter_context.MeterContext.{MeterContext}
-use Rattle.tariff_compare.proofs.Found.{IsOfGrid, IsOrderedGrid}
+use Rattle.tariff_compare.{specs.Searches.{IsNumbered, context_of, day_part}, proofs.Numbers.{range_rises}}
 use Rattle.tariff_compare.proofs.GridDays.{IsOneOfDays, day_at_place, days_few, days_rising, kept_place}
 use Rattle.tariff_compare.proofs.MeterTimes.{time_there}
 use Rattle.tariff_compare.proofs.Numbers.{IsIn, all_in, in_all, listed_few, listed_most, listed_rises, range_in}
-use Rattle.tariff_compare.proofs.Numbers.{range_rises}
 
 -- what holds of each day that is kept holds of all
 all_kept : (P : Day → Type 0) (ds : List Day) → ((d : Day) → IsOneOfDays d ds → P d) → All P ds

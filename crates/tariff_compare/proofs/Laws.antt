@@ -1,28 +1,14 @@
 -- The laws of the public empty functions.
-use Rattle.std.proofs.Common.{◌≡◌, ◌↔◌, ap, ℕ, true, None, Some}
-use Rattle.std.specs.Option.{option_or}
-use Rattle.tariff_compare.specs.Contexts.{HasTables, IsFirstOrNone, IsMeterTime, IsTimeOf}
-use Rattle.tariff_compare.specs.Counting.{counts}
-use Rattle.tariff_compare.specs.Differences.{context_difference, difference_of, frame_difference}
-use Rattle.tariff_compare.specs.FirstParts.{IsFirstKind, IsFirstOfFrame}
-use Rattle.tariff_compare.specs.Kinds.{InForce, differing_kind}
-use Rattle.tariff_compare.specs.Same.{AreSame, DiffersFirst, HasSameFrame}
-use Rattle.tariff_compare.specs.Sides.{side_of}
-use Rattle.tariff_compare.specs.Uses.{first_counting}
-use Rattle.tariff_compare.specs.declared.difference.Difference.{Difference}
-use Rattle.tariff_compare.specs.declared.difference.Difference.TheVariants.{In}
-use Rattle.tariff_compare.specs.declared.meter_context.MeterContext.{MeterContext}
-use Rattle.tariff_compare.specs.declared.question.Question.TheVariants.{Counts}
-use Rattle.tariff_compare.proofs.DifferenceLaws.{in_is_first, none_is_same, same_is_none}
-pub use Rattle.tariff_compare.proofs.EachKind.{no_difference-hiring, no_difference-rate}
-use Rattle.tariff_compare.proofs.FirstParts.{frame_is_first, kind_is_first}
-use Rattle.tariff_compare.proofs.Firsts.{first_is_first}
-use Rattle.tariff_compare.proofs.Frames.{frame_same, same_frame}
+use Rattle.std.{specs.Option.{option_or}, proofs.Common.{ℕ, ◌↔◌, ◌≡◌, None, Some, ap, refl, true}}
+use Rattle.tariff_compare.specs.{Common.{ChoiceKind, Counts, Difference, In, MeterContext, Tree}, Uses.{first_counting}}
+use Rattle.tariff_compare.specs.{Contexts.{HasTables, IsFirstOrNone, IsMeterTime, IsTimeOf}, CountedLine.{counts}}
+use Rattle.tariff_compare.specs.{Differences.{context_difference, difference_of, frame_difference}, Sides.{side_of}}
+use Rattle.tariff_compare.specs.{FirstParts.{IsFirstKind, IsFirstOfFrame}, Same.{AreSame, DiffersFirst, HasSameFrame}}
+use Rattle.tariff_compare.{specs.Kinds.{InForce, differing_kind}, proofs.Frames.{frame_same, same_frame}}
+use Rattle.tariff_compare.proofs.{DifferenceLaws.{in_is_first, none_is_same, same_is_none}, Firsts.{first_is_first}}
+use Rattle.tariff_compare.proofs.{FirstParts.{frame_is_first, kind_is_first}, MeterTimes.{time_tested, time_there}}
 use Rattle.tariff_compare.proofs.MeterTimes.{days_within, minutes_within, tested_first, tested_last, time_test}
-use Rattle.tariff_compare.proofs.MeterTimes.{time_tested, time_there}
-use Rattle.tariff_syntax.specs.Tree.{Tree}
-use Rattle.tariff_check.specs.declared.choice.ChoiceKind.{ChoiceKind}
-use Rattle.std.proofs.Common.{refl}
+pub use Rattle.tariff_compare.proofs.EachKind.{no_difference-hiring, no_difference-rate}
 
 pub first_contexts_are_first : (t : Tree) (k : ℕ) (kind : ChoiceKind) (place : ℕ) → HasTables t k
     → IsFirstOrNone t (λ m. counts t k kind place m ≡ true) (first_counting (side_of t k) kind place)

@@ -1,14 +1,9 @@
 -- The days and minutes that a meter has.
-use Rattle.std.proofs.Common.{◌≡◌, ◌≢◌, ◌∙◌, ap, sym, refl, ℕ, suc, ◌+◌, ◌-◌, ◌*◌, ◌/◌, ◌%◌, ◌<◌, ◌≤◌, true, ℤ, pos}
-use Rattle.std.proofs.Common.{negsuc, neg_ℤ, ◌+ℤ◌, inl, inr, arith}
-use Rattle.std.proofs.lemmas.Bool.{cases_eq, eq-eqb, le-leb, leb-true, lt-ltb, ltb-true, ne_eqb}
-use Rattle.std.proofs.lemmas.Int.{ints}
-use Rattle.interval_clock.specs.LocalTime.{day_of, minute_of_day}
-use Rattle.interval_clock.specs.Offsets.{IsOffset}
-use Rattle.tariff_syntax.specs.Writable.{IsFromTo}
-use Rattle.taxi_units.specs.Time.{IsSecond}
-use Rattle.tariff_compare.specs.Contexts.{IsMeterTime}
-use Rattle.tariff_compare.specs.Grids.{is_meter_time}
+use Rattle.std.proofs.Common.{ℕ, ℤ, ◌%◌, ◌*◌, ◌+ℤ◌, ◌+◌, ◌-◌, ◌/◌, ◌<◌, ◌∙◌, ◌≡◌, ◌≢◌, ◌≤◌, ap, arith, inl, inr, neg_ℤ}
+use Rattle.{std.proofs.Common.{negsuc, pos, refl, suc, sym, true}, taxi_units.specs.Time.{IsSecond}}
+use Rattle.std.proofs.lemmas.{Bool.{cases_eq, eq-eqb, le-leb, leb-true, lt-ltb, ltb-true, ne_eqb}, Int.{ints}}
+use Rattle.interval_clock.specs.{LocalTime.{day_of, minute_of_day}, Offsets.{IsOffset}}
+use Rattle.tariff_compare.specs.{Common.{IsFromTo}, Contexts.{IsMeterTime}, Grids.{is_meter_time}}
 
 -- the local second of a second under an offset
 local_of : (second : ℕ) (offset : ℤ) → IsSecond second → IsOffset offset

@@ -1,17 +1,11 @@
 -- Numbers of the grid: which they are, that they rise, and the greatest that a value has reached.
-use Rattle.std.proofs.Common.{◌≡◌, ◌∙◌, ◌⊎◌, ap, sym, subst, refl, ℕ, zero, suc, ◌+◌, ◌<◌, ◌≤◌, Bool, true, false, cond}
-use Rattle.std.proofs.Common.{leb, List, [], ◌∷◌, ◌++◌, length, get_or, inl, inr, arith}
-use Rattle.std.proofs.lemmas.Bool.{cases_lt, le-leb, leb-true, lt-leb}
-use Rattle.std.proofs.lemmas.List.Elements.{All-from_get_or, All-get_or}
-use Rattle.std.proofs.lemmas.List.FromFn.{get_or-range_with_len, length-range_with_len}
-use Rattle.std.proofs.lemmas.List.Sums.{sum_by-cons}
-use Rattle.std.specs.List.{All, Contains, range_with_len}
-use Rattle.std.specs.BTreeSet.{insert_key}
-use Rattle.std.specs.Ordering.{nat_cmp}
-use Rattle.tariff_calendar.specs.Lists.{count_at_most}
-use Rattle.tariff_calendar.proofs.Laws.{lists_are_ordered-few}
-use Rattle.tariff_check.proofs.Laws.{cuts_are_in_order-numbers}
-use Rattle.tariff_check.specs.Cuts.{IsRising, with_each}
+use Rattle.std.specs.{BTreeSet.{insert_key}, List.{All, Contains, range_with_len}, Ordering.{nat_cmp}}
+use Rattle.std.proofs.Common.{[], ℕ, ◌++◌, ◌+◌, ◌<◌, ◌∙◌, ◌∷◌, ◌≡◌, ◌≤◌, ◌⊎◌, Bool, List, ap, arith, cond, false}
+use Rattle.std.proofs.Common.{get_or, inl, inr, leb, length, refl, subst, suc, sym, true, zero}
+use Rattle.std.proofs.lemmas.{Bool.{cases_lt, le-leb, leb-true, lt-leb}, List.Elements.{All-from_get_or, All-get_or}}
+use Rattle.std.proofs.lemmas.List.{FromFn.{get_or-range_with_len, length-range_with_len}, Sums.{sum_by-cons}}
+use Rattle.tariff_check.{specs.Cuts.{IsRising}, proofs.Laws.{cuts_are_in_order-numbers}}
+use Rattle.{tariff_calendar.proofs.Laws.{lists_are_ordered-few}, tariff_compare.specs.Common.{count_at_most, with_each}}
 use Rattle.tariff_compare.specs.Grids.{listed, up_to}
 
 -- ---- being among numbers

@@ -1,7 +1,6 @@
 -- The order of contexts.
-use Rattle.std.proofs.Common.{◌≡◌, ℕ, ◌<◌, ◌≤◌, List, [], ◌∷◌, inl, inr, arith}
-use Rattle.std.proofs.lemmas.Bool.{cases_lt}
-use Rattle.tariff_compile.specs.Cells.{IsBefore}
+use Rattle.std.proofs.{Common.{[], ℕ, ◌<◌, ◌∷◌, ◌≡◌, ◌≤◌, List, arith, inl, inr}, lemmas.Bool.{cases_lt}}
+use Rattle.tariff_compare.specs.Common.{IsBefore}
 
 -- if two numbers are the same, what follows decides
 pub strip : (a b : ℕ) (xs ys : List ℕ) → a ≡ b → IsBefore (a ∷ xs) (b ∷ ys) → IsBefore xs ys

@@ -1,12 +1,10 @@
 -- Days and minutes of a meter.
-use Rattle.std.proofs.Common.{◌≡◌, ◌∙◌, sym, refl, ℕ, zero, suc, ◌+◌, ◌-◌, ◌%◌, ◌≤◌, Bool, true, false, get_or, Some}
-use Rattle.std.proofs.Common.{None, inl, inr, pos, arith}
-use Rattle.std.proofs.lemmas.Bool.{cases_lt}
-use Rattle.interval_clock.proofs.Laws.{IsDateOf-date_after}
-use Rattle.interval_clock.specs.Calendar.{date_after, date_place, days_of_month, is_leap_year, month_lengths}
-use Rattle.interval_clock.specs.Calendar.{weekday_of}
+use Rattle.std.proofs.Common.{ℕ, ◌%◌, ◌+◌, ◌-◌, ◌∙◌, ◌≡◌, ◌≤◌, Bool, None, Some, arith, false, get_or, inl, inr, pos}
+use Rattle.std.proofs.{Common.{refl, suc, sym, true, zero}, lemmas.Bool.{cases_lt}}
+use Rattle.{taxi_units.specs.Calendar.{IsLeapYearDate, date_of_place}, interval_clock.proofs.Laws.{IsDateOf-date_after}}
 use Rattle.taxi_units.proofs.Laws.{dates_have_places, places_have_dates}
-use Rattle.taxi_units.specs.Calendar.{IsLeapYearDate, date_of_place}
+use Rattle.interval_clock.specs.Calendar.{date_after, days_of_month, is_leap_year, month_lengths}
+use Rattle.tariff_compare.specs.Common.{date_place, weekday_of}
 
 -- the weekday of a day number
 pub weekday_is : (number : ℕ) → weekday_of (pos number) ≡ (number + 3) % 7 + 1

@@ -1,18 +1,11 @@
 -- Rules: the contexts that a meter under a tariff can have, and their order.
-use Rattle.std.specs.Prelude.{◌≡◌, ℕ, ◌+◌, ◌<◌, ◌≤◌, if◌then◌else◌, nat_le, List, [], ◌∷◌, Option, Some, None, ℤ, pos, ◌+ℤ◌}
-use Rattle.interval_clock.specs.Calendar.{date_after, date_place, weekday_of}
-use Rattle.interval_clock.specs.LocalTime.{day_of, minute_of_day}
-use Rattle.interval_clock.specs.Offsets.{IsOffset}
-use Rattle.drive_modes.specs.Constant.{least_constant, greatest_constant}
+use Rattle.std.specs.Prelude.{[], ℕ, ℤ, ◌+ℤ◌, ◌+◌, ◌<◌, ◌∷◌, ◌≡◌, ◌≤◌, List, None, Option, Some, if◌then◌else◌, nat_le}
+use Rattle.{std.specs.Prelude.{pos}, taxi_units.specs.Time.{IsSecond}, interval_clock.specs.Offsets.{IsOffset}}
+use Rattle.{drive_modes.specs.Constant.{greatest_constant, least_constant}, interval_clock.specs.Calendar.{date_after}}
+use Rattle.{interval_clock.specs.LocalTime.{day_of, minute_of_day}, tariff_check.specs.Faults.{IsSound}}
 use Rattle.tariff_calendar.specs.Lists.{is_holiday}
-use Rattle.tariff_check.specs.Faults.{IsSound}
-use Rattle.tariff_check.specs.Parts.{positions_of, zones_of}
-use Rattle.tariff_compile.specs.Cells.{IsBefore}
-use Rattle.tariff_syntax.specs.Tree.{Tree}
-use Rattle.tariff_syntax.specs.Writable.{IsFromTo, IsWritable}
-use Rattle.tariff_syntax.specs.declared.context.Context.{Context}
-use Rattle.taxi_units.specs.Time.{IsSecond, last_tick}
-use Rattle.tariff_compare.specs.declared.meter_context.MeterContext.{MeterContext}
+use Rattle.tariff_compare.specs.Common.{Context, IsBefore, IsFromTo, IsWritable, MeterContext, Tree, date_place}
+use Rattle.tariff_compare.specs.Common.{last_tick, positions_of, weekday_of, zones_of}
 
 -- a tariff has tables under a constant if a text can have its numbers, it is sound, and the constant is 500 to 200,000
 pub record HasTables (t : Tree) (k : ℕ) : Type 0 where

@@ -1,15 +1,10 @@
 -- Rules: the text of what differs first between two tariffs.
-use Rattle.std.specs.Prelude.{ℕ, List, [], ◌++◌, Option, Some, None, codes, decimal}
-use Rattle.tariff_check.specs.FoundLines.{frame_line, line_in_force}
+use Rattle.std.specs.Prelude.{[], ℕ, ◌++◌, List, None, Option, Some, codes, decimal}
+use Rattle.tariff_syntax.specs.{Printed.{entry_line, number_line}, Tree.{Line, without_when}}
+use Rattle.{tariff_check.specs.FoundLines.{frame_line, line_in_force}, tariff_compare.specs.Common.{Zones}}
+use Rattle.tariff_compare.specs.Common.{Decimals, Difference, In, IsFromTo, Positions, Rounded, Step, Supplement, Tree}
+use Rattle.tariff_compare.specs.{Contexts.{context_at}, Kinds.{part_word}, Texts.{context_text}}
 use Rattle.tariff_check.specs.declared.found_lines.FramePart.TheVariants as frame
-use Rattle.tariff_syntax.specs.Printed.{entry_line, number_line}
-use Rattle.tariff_syntax.specs.Tree.{Tree, Line, without_when}
-use Rattle.tariff_syntax.specs.Writable.{IsFromTo}
-use Rattle.tariff_compare.specs.Contexts.{context_at}
-use Rattle.tariff_compare.specs.Kinds.{part_word}
-use Rattle.tariff_compare.specs.Texts.{context_text}
-use Rattle.tariff_compare.specs.declared.difference.Difference.{Difference}
-use Rattle.tariff_compare.specs.declared.difference.Difference.TheVariants.{Decimals, Step, Rounded, Positions, Zones, Supplement, In}
 
 -- what differs is told by a word, for a supplement with its number, and in a context with the context
 abbrev pub part_text : Difference → List ℕ

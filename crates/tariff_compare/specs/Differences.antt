@@ -1,20 +1,11 @@
 -- Rules: what differs first between two tariffs.
-use Rattle.std.specs.Prelude.{ℕ, Bool, true, false, not, ◌==◌, if◌then◌else◌, List, [], ◌∷◌, find, Option, Some, None, option_map}
-use Rattle.std.specs.Option.{option_or}
-use Rattle.drive_modes.specs.declared.meterage.Rounding.{Rounding}
-use Rattle.drive_modes.specs.declared.meterage.Rounding.TheVariants.{Behind, Ahead}
-use Rattle.tariff_check.specs.Parts.{positions_of, zones_of}
-use Rattle.tariff_check.specs.DisplayStep.{display_step}
-use Rattle.tariff_check.specs.Parts.{supplement_of}
+use Rattle.{std.specs.{Option.{option_or}, Prelude.{option_map, true}}, tariff_compare.specs.Common.{zones_of}}
+use Rattle.std.specs.Prelude.{[], ℕ, ◌==◌, ◌∷◌, Bool, List, None, Option, Some, false, find, if◌then◌else◌, not}
+use Rattle.drive_modes.specs.declared.meterage.Rounding.{Rounding, TheVariants.{Ahead, Behind}}
+use Rattle.tariff_compare.specs.Common.{ChoiceKind, Decimals, Difference, Differs, In, MeterContext, Positions, Rounded}
+use Rattle.tariff_compare.specs.Common.{Step, Supplement, Tree, Zones, display_step, positions_of, supplement_of}
+use Rattle.tariff_compare.specs.{Searches.{first_met_by}, Sides.{SideParts, difference_by, side_of}}
 use Rattle.tariff_check.specs.declared.values.Supplement as supplements
-use Rattle.tariff_syntax.specs.Tree.{Tree}
-use Rattle.tariff_check.specs.declared.choice.ChoiceKind.{ChoiceKind}
-use Rattle.tariff_compare.specs.Searches.{first_met_by}
-use Rattle.tariff_compare.specs.Sides.{SideParts, difference_by, side_of}
-use Rattle.tariff_compare.specs.declared.difference.Difference.{Difference}
-use Rattle.tariff_compare.specs.declared.difference.Difference.TheVariants.{Decimals, Step, Rounded, Positions, Zones, Supplement, In}
-use Rattle.tariff_compare.specs.declared.meter_context.MeterContext.{MeterContext}
-use Rattle.tariff_compare.specs.declared.question.Question.TheVariants.{Differs}
 
 -- two roundings are the same if both are behind or both ahead
 abbrev pub is_same_rounding : Rounding → Rounding → Bool

@@ -1,14 +1,8 @@
 -- Rules: which part differs first between two tariffs: of their frames, and of what is in force in a context.
-use Rattle.std.specs.Prelude.{◌≡◌, ⊤, ℕ, ◌+◌, ◌*◌, ◌<◌}
-use Rattle.tariff_check.specs.DisplayStep.{display_step}
-use Rattle.tariff_check.specs.Parts.{positions_of, supplement_of, zones_of}
-use Rattle.tariff_check.specs.declared.choice.ChoiceKind.{ChoiceKind}
-use Rattle.tariff_check.specs.declared.choice.ChoiceKind.TheVariants.{Rate, Initial, Minimum}
-use Rattle.tariff_syntax.specs.Tree.{Tree}
-use Rattle.tariff_compare.specs.Kinds.{InForce}
-use Rattle.tariff_compare.specs.declared.difference.Difference.{Difference}
-use Rattle.tariff_compare.specs.declared.difference.Difference.TheVariants.{Decimals, Step, Rounded, Positions, Zones, Supplement, In}
-use Rattle.tariff_compare.specs.declared.meter_context.MeterContext.{MeterContext}
+use Rattle.std.specs.Prelude.{ℕ, ⊤, ◌*◌, ◌+◌, ◌<◌, ◌≡◌}
+use Rattle.tariff_compare.specs.Common.{ChoiceKind, Decimals, Difference, In, Initial, MeterContext, Minimum, Positions}
+use Rattle.tariff_compare.specs.Common.{Rate, Rounded, Step, Supplement, Tree, Zones, display_step, positions_of}
+use Rattle.tariff_compare.specs.{Common.{supplement_of, zones_of}, Kinds.{InForce}}
 
 -- the parts of a frame in their order: decimals, display step, rounding, positions, zones, and the supplements by
 -- number; what is of a context is no part of it

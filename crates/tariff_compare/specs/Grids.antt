@@ -1,16 +1,9 @@
 -- For proofs: the contexts that are looked at, at least one of each common cell of two tariffs.
-use Rattle.std.specs.Prelude.{◌≡◌, ℕ, zero, suc, ◌+◌, ◌-◌, ◌<◌, ◌≤◌, Bool, true, false, not, ◌&&◌, ◌||◌, ◌==◌, if◌then◌else◌, nat_le, nat_lt, List, [], ◌∷◌, ◌++◌, length, All, filter, pos}
-use Rattle.std.specs.List.{list_any, range_with_len}
-use Rattle.interval_clock.specs.Calendar.{date_after, date_place, weekday_of}
-use Rattle.tariff_calendar.specs.Lists.{count_at_most}
-use Rattle.tariff_check.specs.Cuts.{with_each}
-use Rattle.tariff_compile.specs.Tables.{TableParts}
-use Rattle.tariff_syntax.specs.Writable.{IsFromTo}
-use Rattle.taxi_units.specs.Time.{last_tick}
-use Rattle.tariff_compare.specs.Contexts.{most_pulses}
-use Rattle.tariff_compare.specs.Sides.{is_holiday_among}
-use Rattle.tariff_compare.specs.declared.day.Day.{Day}
-use Rattle.tariff_compare.specs.declared.meter_context.MeterContext.{MeterContext}
+use Rattle.{std.specs.List.{list_any, range_with_len}, interval_clock.specs.Calendar.{date_after}}
+use Rattle.std.specs.Prelude.{[], ℕ, ◌&&◌, ◌++◌, ◌+◌, ◌-◌, ◌<◌, ◌==◌, ◌||◌, ◌∷◌, ◌≡◌, ◌≤◌, All, Bool, List, false}
+use Rattle.std.specs.Prelude.{filter, if◌then◌else◌, length, nat_le, nat_lt, not, pos, suc, true, zero}
+use Rattle.tariff_compare.specs.Common.{Day, IsFromTo, MeterContext, TableParts, count_at_most, date_place, last_tick}
+use Rattle.tariff_compare.specs.{Common.{weekday_of, with_each}, Contexts.{most_pulses}, Sides.{is_holiday_among}}
 
 -- ---- days
 

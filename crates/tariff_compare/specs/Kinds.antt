@@ -1,21 +1,12 @@
 -- Rules: the kinds of lines of which the first that holds counts: which one counts in a context, which one a cell
 -- names, what two tariffs differ in there, and the words of a kind.
-use Rattle.std.specs.Prelude.{ℕ, ◌-◌, ◌*◌, Bool, not, ◌&&◌, ◌||◌, ◌==◌, if◌then◌else◌, List, [], ◌∷◌, find}
-use Rattle.std.specs.Prelude.{get_or, Option, Some, None, codes}
-use Rattle.std.specs.Option.{unwrap_or}
-use Rattle.tariff_check.specs.Amounts.{initial_by}
-pub use Rattle.tariff_check.specs.Kinds.{is_asked_amid}
-use Rattle.tariff_check.specs.Parts.{RateNumbers, rates_of}
-use Rattle.tariff_check.specs.declared.choice.ChoiceKind.{ChoiceKind}
-use Rattle.tariff_check.specs.declared.choice.ChoiceKind.TheVariants.{Rate, Initial, Minimum}
+use Rattle.std.specs.{Option.{unwrap_or}, Prelude.{get_or, if◌then◌else◌, not}}
+use Rattle.std.specs.Prelude.{[], ℕ, ◌&&◌, ◌*◌, ◌-◌, ◌==◌, ◌||◌, ◌∷◌, Bool, List, None, Option, Some, codes, find}
+use Rattle.{tariff_syntax.specs.Meaning.{rate_place}, tariff_check.specs.Amounts.{initial_by}}
+use Rattle.tariff_compare.specs.Common.{CellLines, ChoiceKind, Context, Initial, MeterContext, Minimum, Rate}
+use Rattle.tariff_compare.specs.{Common.{RateNumbers, Tree, rates_of}, Contexts.{context_at}}
 use Rattle.tariff_check.specs.declared.values.Initial as fees
-pub use Rattle.tariff_compile.specs.Tables.{place_at}
-use Rattle.tariff_compile.specs.declared.cells.CellLines.{CellLines}
-use Rattle.tariff_syntax.specs.Meaning.{rate_place}
-use Rattle.tariff_syntax.specs.Tree.{Tree}
-use Rattle.tariff_syntax.specs.declared.context.Context.{Context}
-use Rattle.tariff_compare.specs.Contexts.{context_at}
-use Rattle.tariff_compare.specs.declared.meter_context.MeterContext.{MeterContext}
+pub use Rattle.{tariff_check.specs.Kinds.{is_asked_amid}, tariff_compile.specs.Tables.{place_at}}
 
 -- a context of a meter is one at a hiring if no tick and no pulse of the trip has passed
 abbrev pub is_hiring : MeterContext → Bool

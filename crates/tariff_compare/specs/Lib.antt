@@ -1,5 +1,5 @@
 pub mod Contexts
-pub mod Counting
+pub mod CountedLine
 pub mod DifferenceTexts
 pub mod Differences
 pub mod FirstParts
@@ -10,3 +10,4 @@ pub mod Searches
 pub mod Sides
 pub mod Texts
 pub mod Uses
+pub mod Common

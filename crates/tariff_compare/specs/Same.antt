@@ -1,12 +1,8 @@
 -- Rules: when two tariffs are the same under a constant.
-use Rattle.std.specs.Prelude.{◌≡◌, ℕ, true, is_some, Some, None}
-use Rattle.tariff_check.specs.Parts.{positions_of, supplement_of, zones_of}
-use Rattle.tariff_check.specs.DisplayStep.{display_step}
-use Rattle.tariff_syntax.specs.Tree.{Tree}
-use Rattle.tariff_check.specs.declared.choice.ChoiceKind.{ChoiceKind}
-use Rattle.tariff_compare.specs.Contexts.{IsFirst, IsMeterContext}
+use Rattle.std.specs.Prelude.{ℕ, ◌≡◌, None, Some, is_some, true}
+use Rattle.tariff_compare.specs.Common.{ChoiceKind, MeterContext, Tree, display_step, positions_of, supplement_of}
+use Rattle.tariff_compare.specs.{Common.{zones_of}, Contexts.{IsFirst, IsMeterContext}}
 pub use Rattle.tariff_compare.specs.Kinds.{cost_same, difference_at, rate_in}
-use Rattle.tariff_compare.specs.declared.meter_context.MeterContext.{MeterContext}
 
 -- two tariffs have the same frame if their decimals, display steps, roundings, positions, zones and supplements are
 -- the same

@@ -1,13 +1,8 @@
 -- By law: the first context of a grid that meets a test, in the order of their numbers. The laws
 -- first_contexts_are_first and differences_are_first say what the answers mean.
-use Rattle.std.specs.Prelude.{ℕ, ◌*◌, ◌/◌, ◌%◌, ◌<◌, Bool, ◌&&◌, List, map, length, get_or, find, Option, option_map}
-use Rattle.std.specs.List.{range_with_len}
-use Rattle.tariff_syntax.specs.Tree.{Tree}
-use Rattle.tariff_compare.specs.Grids.{GridLists, grid_of, is_meter_time}
-use Rattle.tariff_compare.specs.Sides.{SideParts, is_met_by, side_of}
-use Rattle.tariff_compare.specs.declared.day.Day.{Day}
-use Rattle.tariff_compare.specs.declared.meter_context.MeterContext.{MeterContext}
-use Rattle.tariff_compare.specs.declared.question.Question.{Question}
+use Rattle.{std.specs.List.{range_with_len}, tariff_compare.specs.Common.{Day, MeterContext, Question, Tree}}
+use Rattle.std.specs.Prelude.{ℕ, ◌%◌, ◌&&◌, ◌*◌, ◌/◌, ◌<◌, Bool, List, Option, find, get_or, length, map, option_map}
+use Rattle.tariff_compare.specs.{Grids.{GridLists, grid_of, is_meter_time}, Sides.{SideParts, is_met_by, side_of}}
 
 -- the days of a grid by their numbers
 abbrev pub day_numbers : GridLists → List ℕ

@@ -1,19 +1,11 @@
--- By law: what is asked of a tariff in a context of a meter, answered by its tables. Counting and Kinds say it of the
--- tariff; the laws first_contexts_are_first and differences_are_first say that both are the same.
-use Rattle.std.specs.Prelude.{ℕ, Bool, ◌&&◌, ◌==◌, List, get_or, Option, is_some, pos}
-use Rattle.std.specs.List.{list_any}
-use Rattle.interval_clock.specs.Calendar.{date_after, date_place, weekday_of}
-use Rattle.tariff_check.specs.Parts.{RateNumbers, rates_of}
-use Rattle.tariff_compile.specs.Tables.{TableParts, fees_in, lines_in, tables_of}
-use Rattle.tariff_compile.specs.declared.cells.CellLines.{CellLines}
-use Rattle.tariff_syntax.specs.Tree.{Tree}
-use Rattle.tariff_syntax.specs.declared.context.Context.{Context}
-use Rattle.tariff_check.specs.declared.choice.ChoiceKind.{ChoiceKind}
-use Rattle.tariff_compare.specs.Counting.{counts, is_at}
+-- By law: what is asked of a tariff in a context of a meter, answered by its tables. CountedLine and Kinds say it of
+-- the tariff; the laws first_contexts_are_first and differences_are_first say that both are the same.
+use Rattle.std.specs.{List.{list_any}, Prelude.{ℕ, ◌&&◌, ◌==◌, Bool, List, Option, get_or, is_some, pos}}
+use Rattle.{interval_clock.specs.Calendar.{date_after}, tariff_compare.specs.Common.{tables_of, weekday_of}}
+use Rattle.tariff_compare.specs.Common.{CellLines, ChoiceKind, Context, Counts, Differs, MeterContext, Question}
+use Rattle.tariff_compare.specs.Common.{RateNumbers, TableParts, Tree, date_place, fees_in, lines_in, rates_of}
+use Rattle.tariff_compare.specs.CountedLine.{counts, is_at}
 use Rattle.tariff_compare.specs.Kinds.{InForce, difference_at, differing_kind, is_asked, place_in}
-use Rattle.tariff_compare.specs.declared.meter_context.MeterContext.{MeterContext}
-use Rattle.tariff_compare.specs.declared.question.Question.{Question}
-use Rattle.tariff_compare.specs.declared.question.Question.TheVariants.{Counts, Differs}
 
 -- one side of a comparison has the tables of a tariff, and its rates
 pub record SideParts : Type 0 where

@@ -1,13 +1,8 @@
 -- Rules: the texts of contexts of a meter, and of the uses of lines.
-use Rattle.std.specs.Prelude.{ℕ, ◌/◌, ◌%◌, if◌then◌else◌, List, ◌++◌, Option, Some, None, codes, decimal, pos}
-use Rattle.std.specs.List.{flat_map}
-use Rattle.interval_clock.specs.Calendar.{date_after, weekday_of}
-use Rattle.interval_clock.specs.declared.day_numbers.CalendarDate.{CalendarDate}
-use Rattle.taxi_units.specs.Number.{padded_text}
-use Rattle.taxi_units.specs.Weekdays.{day_name}
-use Rattle.tariff_check.specs.declared.choice.ChoiceKind.{ChoiceKind}
-use Rattle.tariff_compare.specs.Kinds.{is_asked_amid, kind_word}
-use Rattle.tariff_compare.specs.declared.meter_context.MeterContext.{MeterContext}
+use Rattle.{std.specs.List.{flat_map}, taxi_units.specs.{Number.{padded_text}, Weekdays.{day_name}}}
+use Rattle.std.specs.Prelude.{ℕ, ◌%◌, ◌++◌, ◌/◌, List, None, Option, Some, codes, decimal, if◌then◌else◌, pos}
+use Rattle.interval_clock.specs.{Calendar.{date_after}, declared.day_numbers.CalendarDate.{CalendarDate}}
+use Rattle.tariff_compare.specs.{Common.{ChoiceKind, MeterContext, weekday_of}, Kinds.{is_asked_amid, kind_word}}
 use Rattle.tariff_compare.specs.declared.uses.LineUse.{LineUse}
 
 -- a date is written as YYYY-MM-DD

@@ -1,15 +1,8 @@
 -- Rules: the lines of a tariff, and the first context of a meter in which each counts.
-use Rattle.std.specs.Prelude.{ℕ, List, map, Option, Some, None}
-use Rattle.tariff_check.specs.ChoiceLines.{choice_lines}
-use Rattle.tariff_check.specs.declared.choice.ChoiceKind.{ChoiceKind}
-use Rattle.tariff_check.specs.declared.choice.ChoiceLine.{ChoiceLine}
-use Rattle.tariff_syntax.specs.Writable.{IsFromTo}
-use Rattle.tariff_syntax.specs.Tree.{Tree}
+use Rattle.{std.specs.Prelude.{ℕ, List, None, Option, Some, map}, tariff_compare.specs.declared.uses.LineUse.{LineUse}}
+use Rattle.tariff_check.specs.{ChoiceLines.{choice_lines}, declared.choice.ChoiceLine.{ChoiceLine}}
+use Rattle.tariff_compare.specs.{Common.{ChoiceKind, Counts, IsFromTo, MeterContext, Tree}, Sides.{SideParts, side_of}}
 use Rattle.tariff_compare.specs.Searches.{first_met_by}
-use Rattle.tariff_compare.specs.Sides.{SideParts, side_of}
-use Rattle.tariff_compare.specs.declared.meter_context.MeterContext.{MeterContext}
-use Rattle.tariff_compare.specs.declared.question.Question.TheVariants.{Counts}
-use Rattle.tariff_compare.specs.declared.uses.LineUse.{LineUse}
 
 -- the first context of a meter in which the line of a kind at a place counts, by the tables of the tariff, or none; the
 -- law `first_contexts_are_first` says that it is the first one of the meter

@@ -1,8 +1,6 @@
 //! A question, answered in one context by the tables of both sides.
 ghost use Rattle.std.specs.Prelude.{◌≡◌};
-ghost use Rattle.tariff_compile.specs.Tables.{IsInRangeFor};
-ghost use Rattle.tariff_compare.specs.Counting.{is_at};
-ghost use Rattle.tariff_compare.specs.Grids.{CanBeAsked, HasDate, day_in};
+ghost use Rattle.tariff_compare.specs.{Common.{IsInRangeFor}, CountedLine.{is_at}, Grids.{CanBeAsked, HasDate, day_in}};
 ghost use Rattle.tariff_compare.specs.Sides.{context_by, counts_by, difference_by, is_holiday_among, is_met_by};
 
 use crate::day::{Day, day_in};

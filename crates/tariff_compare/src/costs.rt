@@ -1,7 +1,6 @@
 //! What the rates of a tariff cost.
-ghost use Rattle.std.specs.Prelude.{◌≡◌, ◌*◌, IfOk, get_or};
-ghost use Rattle.tariff_check.specs.SoundTariff.{own_values};
-ghost use Rattle.tariff_compare.specs.Kinds.{cost_same};
+ghost use Rattle.std.specs.Prelude.{◌*◌, ◌≡◌, IfOk, get_or};
+ghost use Rattle.{tariff_check.specs.SoundTariff.{own_values}, tariff_compare.specs.Kinds.{cost_same}};
 
 use std::alloc::Global;
 use tariff_check::{Choice, RateNumbers};

@@ -1,10 +1,7 @@
 //! The days of a meter, and what two tariffs ask of each.
-ghost use Rattle.std.specs.Prelude.{◌≡◌, ◌<◌, ◌≤◌, pos, IfOk, OnOk};
-ghost use Rattle.std.specs.List.{list_any};
-ghost use Rattle.interval_clock.specs.Calendar.{weekday_of};
-ghost use Rattle.tariff_calendar.specs.Lists.{count_at_most};
-ghost use Rattle.tariff_syntax.specs.Writable.{IsFromTo};
-ghost use Rattle.tariff_compare.specs.Grids.{day_at, day_count, day_in, days_until, is_alike, is_edge, is_same, with_day};
+ghost use Rattle.std.specs.{List.{list_any}, Prelude.{◌<◌, ◌≡◌, ◌≤◌, IfOk, OnOk, pos}};
+ghost use Rattle.tariff_compare.specs.{Common.{IsFromTo, count_at_most, weekday_of}, Grids.{with_day}};
+ghost use Rattle.tariff_compare.specs.Grids.{day_at, day_count, day_in, days_until, is_alike, is_edge, is_same};
 ghost use Rattle.tariff_compare.specs.Sides.{is_holiday_among};
 
 use interval_clock::date_of_day;

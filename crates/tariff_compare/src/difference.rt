@@ -1,12 +1,9 @@
 //! What differs first between two tariffs.
 ghost use Rattle.std.specs.Prelude.{◌≡◌, IfOk, find, not};
-ghost use Rattle.tariff_check.specs.Parts.{positions_of, zones_of};
-ghost use Rattle.tariff_compare.specs.DifferenceTexts.{IsDatedOrNone};
-ghost use Rattle.tariff_compare.specs.Differences.{context_difference, difference_of, frame_difference, is_same_rounding, is_same_supplement, other_supplement};
-ghost use Rattle.tariff_compare.specs.Grids.{IsGridOf, grid_of};
-ghost use Rattle.tariff_compare.specs.Sides.{side_of};
-ghost use Rattle.tariff_check.specs.Parts.{supplement_of};
-ghost use Rattle.tariff_syntax.specs.Tree.{tree_of};
+ghost use Rattle.tariff_compare.specs.Common.{positions_of, supplement_of, tree_of, zones_of};
+ghost use Rattle.tariff_compare.specs.{DifferenceTexts.{IsDatedOrNone}, Grids.{IsGridOf, grid_of}, Sides.{side_of}};
+ghost use Rattle.tariff_compare.specs.Differences.{context_difference, difference_of, frame_difference};
+ghost use Rattle.tariff_compare.specs.Differences.{is_same_rounding, is_same_supplement, other_supplement};
 
 use crate::asking::part_at;
 use crate::grid::Grid;

@@ -1,12 +1,8 @@
 //! The line of a tariff that says what differs.
-ghost use Rattle.std.specs.List.{list_any};
-ghost use Rattle.std.specs.Prelude.{◌≡◌, ◌==◌, ◌&&◌};
-ghost use Rattle.taxi_units.specs.Reading.{Gives};
-ghost use Rattle.tariff_check.specs.Parts.{DateNumbers};
-ghost use Rattle.tariff_syntax.specs.Tree.{line_of, tree_of};
-ghost use Rattle.tariff_syntax.specs.Writable.{IsFromTo};
-ghost use Rattle.tariff_compare.specs.Contexts.{context_at};
-ghost use Rattle.tariff_compare.specs.DifferenceTexts.{IsDatedDifference, line_of_difference};
+ghost use Rattle.std.specs.{List.{list_any}, Prelude.{◌&&◌, ◌==◌, ◌≡◌}};
+ghost use Rattle.{taxi_units.specs.Reading.{Gives}, tariff_syntax.specs.Tree.{line_of}};
+ghost use Rattle.{tariff_check.specs.Parts.{DateNumbers}, tariff_compare.specs.Common.{IsFromTo, tree_of}};
+ghost use Rattle.tariff_compare.specs.{Contexts.{context_at}, DifferenceTexts.{IsDatedDifference, line_of_difference}};
 
 use crate::day::weekday_of;
 use crate::difference::Difference;

@@ -1,7 +1,8 @@
 //! The text of what differs first between two tariffs.
-ghost use Rattle.std.specs.Prelude.{◌≡◌, ◌≤◌, ◌++◌, [], IfOk, OnOk, Some, decimal};
-ghost use Rattle.tariff_syntax.specs.Tree.{line_of, tree_of};
-ghost use Rattle.tariff_compare.specs.DifferenceTexts.{IsDatedDifference, IsDatedOrNone, comparison_text, default_text, line_text, part_text, side_text};
+ghost use Rattle.std.specs.Prelude.{[], ◌++◌, ◌≡◌, ◌≤◌, IfOk, OnOk, Some, decimal};
+ghost use Rattle.tariff_syntax.specs.Tree.{line_of};
+ghost use Rattle.tariff_compare.specs.{Common.{tree_of}, DifferenceTexts.{line_text, part_text, side_text}};
+ghost use Rattle.tariff_compare.specs.DifferenceTexts.{IsDatedDifference, IsDatedOrNone, comparison_text, default_text};
 
 use crate::difference::Difference;
 use crate::difference_lines::line_of_difference;

@@ -1,11 +1,8 @@
 //! The contexts that are looked at: at least one of each common cell of two tariffs.
-ghost use Rattle.std.specs.Prelude.{◌≡◌, ◌≤◌, ◌*◌, ◌%◌, All, length, IfOk, OnOk};
-ghost use Rattle.std.specs.List.{range_with_len};
-ghost use Rattle.tariff_check.specs.Cuts.{with_each};
+ghost use Rattle.std.specs.{List.{range_with_len}, Prelude.{◌%◌, ◌*◌, ◌≡◌, ◌≤◌, All, IfOk, OnOk, length}};
+ghost use Rattle.{taxi_units.specs.Counted.{IsElement}, tariff_compare.specs.Common.{last_tick, with_each}};
 ghost use Rattle.tariff_compare.specs.Grids.{AreShort, IsGridOf, day_count, grid_of, listed, up_to};
 ghost use Rattle.tariff_compare.specs.Searches.{IsNumbered, context_count, context_of, day_part};
-ghost use Rattle.taxi_units.specs.Counted.{IsElement};
-ghost use Rattle.taxi_units.specs.Time.{last_tick};
 
 use crate::day::{Day, different_days};
 use crate::meter_context::MeterContext;

@@ -1,8 +1,8 @@
 //! The kinds of lines of which the first that holds counts: which line counts by the tables, what differs, and words.
-ghost use Rattle.std.specs.Prelude.{◌≡◌, ◌++◌, OnOk, find};
-ghost use Rattle.tariff_compile.specs.Tables.{IsInRangeFor};
-ghost use Rattle.tariff_compare.specs.Kinds.{differing_kind, have_same_fee, have_same_minimum, is_asked, is_asked_amid, is_hiring, is_other, is_same_of, kind_word, part_word, place_before, place_in};
-ghost use Rattle.tariff_compare.specs.Sides.{in_force_by};
+ghost use Rattle.std.specs.Prelude.{◌++◌, ◌≡◌, OnOk, find};
+ghost use Rattle.tariff_compare.specs.{Common.{IsInRangeFor}, Kinds.{place_in}, Sides.{in_force_by}};
+ghost use Rattle.tariff_compare.specs.Kinds.{differing_kind, have_same_fee, have_same_minimum, is_asked, is_asked_amid};
+ghost use Rattle.tariff_compare.specs.Kinds.{is_hiring, is_other, is_same_of, kind_word, part_word, place_before};
 
 use crate::costs::cost_same;
 use crate::meter_context::MeterContext;

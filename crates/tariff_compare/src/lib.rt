@@ -6,6 +6,7 @@ mod asking;
 mod costs;
 mod day;
 mod difference;
+mod difference_laws;
 mod difference_lines;
 mod difference_texts;
 mod grid;
@@ -15,14 +16,13 @@ mod question;
 mod search;
 mod side;
 mod texts;
-mod theorems;
 mod uses;
 
 pub use difference::{Difference, first_difference};
+pub use difference_laws::{
+    differences_are_first, first_contexts_are_first, first_parts_differ, meters_have_their_times,
+};
 pub use difference_texts::print_difference;
 pub use meter_context::MeterContext;
 pub use texts::print_uses;
-pub use theorems::{
-    differences_are_first, first_contexts_are_first, first_parts_differ, meters_have_their_times,
-};
 pub use uses::{LineUse, line_uses};

@@ -1,8 +1,7 @@
 //! The first context of a grid in which the answer to a question is yes, in the order of contexts.
 ghost use Rattle.std.specs.Prelude.{◌≡◌, IfSome};
-ghost use Rattle.tariff_compare.specs.Grids.{CanAskBoth, IsGridOf, day_in, grid_of, is_meter_time};
+ghost use Rattle.tariff_compare.specs.{Grids.{CanAskBoth, IsGridOf, day_in, grid_of, is_meter_time}, Sides.{is_met_by}};
 ghost use Rattle.tariff_compare.specs.Searches.{first_met_by, in_grid, is_found};
-ghost use Rattle.tariff_compare.specs.Sides.{is_met_by};
 
 use crate::asking::is_met;
 use crate::day::Day;

@@ -1,8 +1,7 @@
 //! One side of a comparison.
-ghost use Rattle.std.specs.Prelude.{◌≡◌, get_or, IfOk};
-ghost use Rattle.tariff_compile.specs.Tables.{IsCompiled, IsInRangeFor, fees_in, lines_in};
-ghost use Rattle.tariff_compare.specs.Sides.{side_of};
-ghost use Rattle.tariff_syntax.specs.Tree.{tree_of};
+ghost use Rattle.std.specs.Prelude.{◌≡◌, IfOk, get_or};
+ghost use Rattle.tariff_compile.specs.Tables.{IsCompiled};
+ghost use Rattle.tariff_compare.specs.{Common.{IsInRangeFor, fees_in, lines_in, tree_of}, Sides.{side_of}};
 
 use crate::costs::{all_rates, rate_at};
 use drive_modes::Constant;

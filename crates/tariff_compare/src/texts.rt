@@ -1,10 +1,9 @@
 //! The texts of contexts of a meter, and of the uses of lines.
-ghost use Rattle.std.specs.Prelude.{◌≡◌, ◌++◌, All, IfOk, OnOk, decimal};
-ghost use Rattle.tariff_compare.specs.Texts.{context_text, date_text, first_text, hiring_text, minute_text, moment_text, place_text, trip_text, use_text, uses_text};
+ghost use Rattle.std.specs.Prelude.{◌++◌, ◌≡◌, All, IfOk, OnOk, decimal};
+ghost use Rattle.{taxi_units.specs.{Number.{padded_text}, Weekdays.{day_name}}, tariff_compare.specs.Common.{IsFromTo}};
+ghost use Rattle.tariff_compare.specs.Texts.{context_text, date_text, first_text, hiring_text, minute_text};
+ghost use Rattle.tariff_compare.specs.Texts.{moment_text, place_text, trip_text, use_text, uses_text};
 ghost use Rattle.tariff_compare.specs.Uses.{IsDated, IsDatedUse};
-ghost use Rattle.taxi_units.specs.Weekdays.{day_name};
-ghost use Rattle.tariff_syntax.specs.Writable.{IsFromTo};
-ghost use Rattle.taxi_units.specs.Number.{padded_text};
 
 use crate::day::weekday_of;
 use crate::kinds::{is_asked_amid, push_kind};

@@ -1,8 +1,6 @@
 //! Which lines of a tariff are ever the ones that count.
 ghost use Rattle.std.specs.Prelude.{◌≡◌, All, IfOk, map};
-ghost use Rattle.tariff_compare.specs.Grids.{IsGridOf, grid_of};
-ghost use Rattle.tariff_compare.specs.Uses.{IsDatedUse, use_of, uses_of};
-ghost use Rattle.tariff_syntax.specs.Tree.{tree_of};
+ghost use Rattle.tariff_compare.specs.{Common.{tree_of}, Grids.{IsGridOf, grid_of}, Uses.{IsDatedUse, use_of, uses_of}};
 
 use crate::grid::Grid;
 use crate::meter_context::MeterContext;

@@ -1,9 +1,8 @@
 -- Where a band begins: at the last cut that is at most the value, or at 0.
-use Rattle.std.proofs.Common.{◌≡◌, ℕ, zero, suc, ◌<◌, ◌≤◌, List, length, get_or, inl, inr, arith, refl}
-use Rattle.std.proofs.lemmas.Bool.{cases_lt}
+use Rattle.std.proofs.Common.{ℕ, ◌<◌, ◌≡◌, ◌≤◌, List, arith, get_or, inl, inr, length, refl, suc, zero}
+use Rattle.{std.proofs.lemmas.Bool.{cases_lt}, tariff_calendar.specs.Lists.{IsNotFalling}}
 use Rattle.tariff_calendar.proofs.Laws.{counts_are_places-after, counts_are_places-before, counts_are_places-few}
-use Rattle.tariff_calendar.specs.Lists.{IsNotFalling, count_at_most}
-use Rattle.tariff_compile.specs.Cells.{beginning}
+use Rattle.tariff_compile.specs.{Cells.{beginning}, Common.{count_at_most}}
 
 -- if the first n cuts are at most a value and no later one is, they are n
 count_at_most-at : (v n : ℕ) (xs : List ℕ) → IsNotFalling xs → n ≤ length xs → ((i : ℕ) → i < n → get_or xs i 0 ≤ v)

@@ -1,9 +1,7 @@
 -- The cells block by block, and the contexts of a block.
-use Rattle.std.proofs.Common.{◌≡◌, ◌∙◌, ap, sym, ℕ, zero, suc, ◌+◌, ◌<◌, List, [], ◌∷◌, ◌++◌, length, get_or, take, map}
-use Rattle.std.proofs.Common.{Some, refl, arith}
-use Rattle.std.proofs.lemmas.List.{map-append, take_more}
-use Rattle.std.proofs.lemmas.Option.{slice_get-get_or}
 use Rattle.std.specs.List.{range_with_len, slice_get}
+use Rattle.std.proofs.Common.{[], ℕ, ◌++◌, ◌+◌, ◌<◌, ◌∙◌, ◌∷◌, ◌≡◌, List, Some, ap, arith, get_or, length, map, refl}
+use Rattle.std.proofs.{Common.{suc, sym, take, zero}, lemmas.{List.{map-append, take_more}, Option.{slice_get-get_or}}}
 
 -- the element at a place
 pub at_place : {X : Type 0} (xs : List X) (place : ℕ) → place < length xs

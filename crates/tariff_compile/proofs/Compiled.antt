@@ -1,48 +1,26 @@
 -- What compiled tables have: the ranges of their numbers, and what is looked up in them.
-use Rattle.std.proofs.Common.{◌≡◌, ◌∙◌, ap, sym, subst, ltb, ℕ, ◌+◌, ◌-◌, ◌*◌, ◌^◌, ◌<◌, ◌≤◌, ℤ}
-use Rattle.std.proofs.Common.{Bool, true, false, if◌then◌else◌, length, get_or, List, [], ◌∷◌, Option, None}
-use Rattle.std.proofs.Common.{All, arith}
-use Rattle.std.proofs.Math.Nat.{mul-pos, mul_assoc}
-use Rattle.std.proofs.lemmas.Bool.{lt-ltb}
-use Rattle.std.proofs.lemmas.List.{get_or-map, get_or_default, length-map}
-use Rattle.std.proofs.lemmas.List.Elements.{All-map, All-weaker}
-use Rattle.std.proofs.lemmas.List.FromFn.{get_or-map-range_with_len, length-map-range_with_len}
-use Rattle.std.proofs.lemmas.Nat.{mul-le}
-use Rattle.std.proofs.lemmas.Option.{slice_get-get_or}
-use Rattle.drive_modes.specs.declared.charges.Weights.{Weights}
-use Rattle.interval_clock.specs.Calendar.{IsDateOf}
-use Rattle.tariff_calendar.specs.Lists.{CutLists, count_at_most, has_day, has_days, is_holiday, lists_of, pulses_for}
-use Rattle.tariff_calendar.specs.Range.{IsInRange, IsInRangeOf}
-use Rattle.tariff_calendar.proofs.Laws.{holidays_are_dates-dates, holidays_are_dates-some, lists_are_ordered-hiring}
-use Rattle.tariff_check.specs.Cells.{cells_of, day_kinds}
-use Rattle.tariff_check.specs.Cuts.{count_of, cuts_of}
-use Rattle.tariff_check.specs.Faults.{IsSound}
-use Rattle.tariff_check.specs.Measure.{measure_of}
-use Rattle.tariff_check.specs.Parts.{RateNumbers, has_holidays, initials_of, positions_of}
-use Rattle.tariff_check.specs.Parts.{rates_of, zones_of}
-use Rattle.tariff_check.specs.Sound.{HasSoundParts, IsSoundRate}
-use Rattle.tariff_check.specs.declared.choice.ChoiceKind.TheVariants.{Rate}
-use Rattle.tariff_check.specs.declared.fault.Dimension.TheVariants.{MonthDay, Minute, Distance, Time}
-use Rattle.tariff_syntax.specs.Meaning.{at_hiring}
-use Rattle.tariff_syntax.specs.Tree.{Tree}
-use Rattle.tariff_syntax.specs.Writable.{IsFromTo, IsWritable}
-use Rattle.tariff_syntax.specs.declared.context.Context.{Context}
-use Rattle.taxi_units.specs.Counted.{IsElement}
-use Rattle.tariff_compile.specs.Cells.{IsBelow, IsNarrow, bands_at, bands_of, cell_count, cell_number, sizes_of}
-use Rattle.tariff_compile.specs.Tables.{AreFit, HasWeightsOf, IsCompiled, IsFit, IsInRangeFor, IsTablesOf}
-use Rattle.tariff_compile.specs.Tables.{TableParts, all_cells, all_weights, context_of_cell}
-use Rattle.tariff_compile.specs.Tables.{lines_at, lines_in, no_lines, rate_by, sizes_for}
-use Rattle.tariff_compile.specs.Tables.{sizes_in, tables_of, weights_of}
-use Rattle.tariff_check.specs.Parts.{supplement_of}
-use Rattle.tariff_compile.specs.declared.parts.Bands.{Bands}
-use Rattle.tariff_compile.specs.declared.cells.CellLines.{CellLines}
-use Rattle.tariff_check.specs.declared.values.Supplement.{Supplement}
+use Rattle.std.proofs.Common.{[], ℕ, ℤ, ◌*◌, ◌+◌, ◌-◌, ◌<◌, ◌^◌, ◌∙◌, ◌∷◌, ◌≡◌, ◌≤◌, All, Bool, List, None, Option, ap}
+use Rattle.std.proofs.{Common.{arith, false, get_or, if◌then◌else◌, length, ltb, subst, sym, true}, lemmas.Nat.{mul-le}}
+use Rattle.std.proofs.{Math.Nat.{mul-pos, mul_assoc}, lemmas.Option.{slice_get-get_or}}
+use Rattle.std.proofs.lemmas.{Bool.{lt-ltb}, List.FromFn.{get_or-map-range_with_len, length-map-range_with_len}}
+use Rattle.std.proofs.lemmas.List.{get_or-map, get_or_default, length-map, Elements.{All-map, All-weaker}}
+use Rattle.{taxi_units.specs.Counted.{IsElement}, interval_clock.specs.Calendar.{IsDateOf}}
+use Rattle.{tariff_syntax.specs.Writable.{IsFromTo}, tariff_check.specs.Parts.{has_holidays, initials_of, rates_of}}
+use Rattle.tariff_check.specs.{Cells.{day_kinds}, Cuts.{count_of, cuts_of}, Measure.{measure_of}}
+use Rattle.tariff_check.specs.declared.fault.Dimension.TheVariants.{Distance, Minute, MonthDay, Time}
 use Rattle.tariff_check.proofs.Laws.{lines_that_hold_are_there-initial, lines_that_hold_are_there-rate}
-use Rattle.tariff_check.proofs.Laws.{sound_tariffs_have_sound_parts-parts}
-use Rattle.tariff_compile.proofs.Fits.{weights_of-fit}
+use Rattle.tariff_check.proofs.Laws.{sound_tariffs_have_sound_parts-parts, supplements_are_numbered_to_16}
+use Rattle.{tariff_calendar.specs.Lists.{is_holiday, pulses_for}, tariff_compile.specs.Common.{supplement_of, zones_of}}
+use Rattle.tariff_calendar.proofs.Laws.{holidays_are_dates-dates, holidays_are_dates-some, lists_are_ordered-hiring}
+use Rattle.tariff_compile.specs.Cells.{IsBelow, IsNarrow, bands_at, bands_of, cell_count, cell_number, sizes_of}
+use Rattle.tariff_compile.specs.Common.{Bands, CellLines, Context, CutLists, HasSoundParts, IsInRange, IsInRangeOf}
+use Rattle.tariff_compile.specs.Common.{IsSound, IsSoundRate, IsWritable, Rate, RateNumbers, Supplement, Tree, Weights}
+use Rattle.tariff_compile.specs.Common.{at_hiring, cells_of, count_at_most, has_day, has_days, lists_of, positions_of}
+use Rattle.tariff_compile.specs.Tables.{AreFit, HasWeightsOf, IsCompiled, IsFit, IsInRangeFor, IsTablesOf, TableParts}
+use Rattle.tariff_compile.specs.Tables.{all_cells, all_weights, context_of_cell, lines_at, lines_in, no_lines, rate_by}
+use Rattle.tariff_compile.{specs.Tables.{sizes_for, sizes_in, tables_of, weights_of}, proofs.Fits.{weights_of-fit}}
+use Rattle.tariff_compile.proofs.CellNumbers.{bands_of-below, cell_number_below}
 use Rattle.tariff_compile.proofs.ContextLines.{bands_at-below, cell_has_lines}
-use Rattle.tariff_compile.proofs.Numbering.{bands_of-below, cell_number_below}
-use Rattle.tariff_check.proofs.Laws.{supplements_are_numbered_to_16}
 
 -- the parts of the tariff of which these are the tables
 pub parts_of_tree : (t : Tree) (tables : TableParts) → IsTablesOf t tables → HasSoundParts t

@@ -1,26 +1,17 @@
 -- What is looked up for a context: the lines that its cell has are those that the tree names.
-use Rattle.std.proofs.Common.{◌≡◌, ◌∙◌, sym, ap, ℕ, ◌<◌, ◌≤◌, ◌==◌, Bool, true, false, if◌then◌else◌, min, get_or}
-use Rattle.std.proofs.Common.{Option, refl, arith}
-use Rattle.std.proofs.Math.Nat.{min-eq_right}
-use Rattle.std.proofs.Math.Path.{fun_ext}
-use Rattle.std.proofs.lemmas.List.FromFn.{get_or-map-range_with_len}
-use Rattle.tariff_calendar.specs.Lists.{AreOrdered, CutLists, count_at_most, lists_of}
-use Rattle.tariff_calendar.specs.Range.{IsInRange, IsInRangeOf, IsSameCell}
-use Rattle.taxi_units.specs.Time.{longest_trip}
+use Rattle.std.proofs.Common.{ℕ, ◌<◌, ◌==◌, ◌∙◌, ◌≡◌, ◌≤◌, Bool, Option, ap, arith, false, get_or, if◌then◌else◌, min}
+use Rattle.std.proofs.{Common.{refl, sym, true}, Math.Path.{fun_ext}, lemmas.List.FromFn.{get_or-map-range_with_len}}
+use Rattle.{std.proofs.Math.Nat.{min-eq_right}, taxi_units.specs.Time.{longest_trip}}
+use Rattle.{tariff_syntax.specs.Meaning.{choice_place}, tariff_check.specs.declared.choice.ChoiceKind.{ChoiceKind}}
+use Rattle.tariff_check.specs.{Kinds.{is_asked_amid, part_of}, Parts.{has_holidays}}
+use Rattle.tariff_calendar.specs.{Lists.{AreOrdered}, Range.{IsSameCell}}
 use Rattle.tariff_calendar.proofs.Laws.{counts_are_places-few, cuts_decide_conditions-first, lists_are_ordered-ordered}
-use Rattle.tariff_check.specs.Faults.{IsSound}
-use Rattle.tariff_check.specs.Kinds.{is_asked_amid, part_of}
-use Rattle.tariff_check.specs.Parts.{has_holidays, positions_of, zones_of}
-use Rattle.tariff_check.specs.declared.choice.ChoiceKind.{ChoiceKind}
-use Rattle.tariff_syntax.specs.Meaning.{at_hiring, choice_place}
-use Rattle.tariff_syntax.specs.Tree.{Tree}
-use Rattle.tariff_syntax.specs.Writable.{IsWritable}
-use Rattle.tariff_syntax.specs.declared.context.Context.{Context}
 use Rattle.tariff_compile.specs.Cells.{IsBelow, bands_at, beginning, cell_count, context_in, sizes_of}
+use Rattle.tariff_compile.specs.Common.{CellLines, Context, CutLists, IsInRange, IsInRangeOf, IsSound, IsWritable, Tree}
+use Rattle.tariff_compile.specs.Common.{at_hiring, count_at_most, lists_of, positions_of, zones_of}
 use Rattle.tariff_compile.specs.Tables.{all_cells, cell_of, context_of_cell, lines_at, lines_with, place_at, sizes_in}
-use Rattle.tariff_compile.specs.declared.cells.CellLines.{CellLines}
 use Rattle.tariff_compile.proofs.Beginnings.{beginning-le, count_at_most-beginning}
-use Rattle.tariff_compile.proofs.Numbering.{bands_of-cell_number, cell_number_below}
+use Rattle.tariff_compile.proofs.CellNumbers.{bands_of-cell_number, cell_number_below}
 
 -- a holiday is told from another day if there is a holiday
 holiday_below : (holidays holiday : Bool) → (holiday ≡ true → holidays ≡ true)

@@ -1,36 +1,24 @@
 -- What is so of each kind of line in tables: a context has the line that holds first, its numbers are in their ranges,
 -- and its rows are short.
-use Rattle.std.proofs.Common.{◌≡◌, ◌∙◌, ap, sym, subst, ℕ, zero, suc, ◌+◌, ◌^◌, ◌<◌, ◌≤◌, Bool, true, false, length}
-use Rattle.std.proofs.Common.{get_or, List, [], ◌∷◌, codes, decimal, Option, Some, None, All, refl, arith}
-use Rattle.std.proofs.lemmas.List.Elements.{All-get_or, All-head, All-tail}
+use Rattle.{std.specs.List.{AllByRecursion, slice_get}, taxi_units.specs.Money.{largest_amount}}
+use Rattle.std.proofs.Common.{[], ℕ, ◌+◌, ◌<◌, ◌^◌, ◌∙◌, ◌∷◌, ◌≡◌, ◌≤◌, All, Bool, List, None, Option, Some, ap, arith}
+use Rattle.std.proofs.Common.{codes, decimal, false, get_or, length, refl, subst, suc, sym, true, zero}
+use Rattle.std.proofs.lemmas.{List.Elements.{All-get_or, All-head, All-tail}, Option.{slice_get-get_or}}
 use Rattle.std.proofs.lemmas.List.FromFn.{get_or-map-range_with_len, length-map-range_with_len}
-use Rattle.std.proofs.lemmas.Option.{slice_get-get_or}
-use Rattle.std.specs.List.{AllByRecursion, slice_get}
-use Rattle.drive_modes.specs.declared.charges.Weights.{Weights}
-use Rattle.tariff_calendar.specs.Range.{IsInRangeOf}
+use Rattle.{tariff_syntax.specs.Meaning.{minimum_place}, tariff_check.proofs.Laws.{lines_that_hold_are_there-there}}
+use Rattle.tariff_check.specs.{Kinds.{IsSoundInitial}, declared.choice.ChoiceKind.TheVariants.{Initial, Minimum}}
+use Rattle.{tariff_check.specs.Parts.{minimums_of}, tariff_compile.proofs.ShortRows.{joined_short, row_in-short}}
 use Rattle.tariff_check.proofs.Laws.{lines_that_hold_are_there-initial, lines_that_hold_are_there-rate}
-use Rattle.tariff_check.proofs.Laws.{lines_that_hold_are_there-there}
-use Rattle.tariff_check.specs.Amounts.{initial_by, place_number}
-use Rattle.tariff_check.specs.Faults.{IsSound}
-use Rattle.tariff_check.specs.Parts.{InitialNumbers, minimums_of}
-use Rattle.tariff_check.specs.Kinds.{IsSoundInitial}
-use Rattle.tariff_check.specs.declared.choice.ChoiceKind.TheVariants.{Rate, Initial, Minimum}
-use Rattle.tariff_compile.specs.Cells.{cell_count}
-use Rattle.tariff_compile.specs.Rows.{cell_row, has_minimums, initial_row, measure_row, minimum_field, minimum_row}
-use Rattle.tariff_compile.specs.Rows.{cell_section, rate_row, row_count, row_text, sections}
+use Rattle.tariff_compile.specs.{Cells.{cell_count}, Rows.{minimum_row, rate_row, row_count, row_text, sections}}
+use Rattle.tariff_compile.specs.Common.{CellLines, Context, InitialNumbers, IsInRangeOf, IsSound, IsWritable, Rate}
+use Rattle.tariff_compile.specs.Common.{Tree, Weights, at_hiring, initial_by, place_number}
+use Rattle.tariff_compile.specs.Rows.{cell_row, cell_section, has_minimums, initial_row, measure_row, minimum_field}
 use Rattle.tariff_compile.specs.Tables.{AreFit, HasLinesOf, IsCompiled, IsInRangeFor, IsTablesOf, TableParts, all_cells}
 use Rattle.tariff_compile.specs.Tables.{cell_of, context_of_cell, fees_in, fees_named, lines_at, no_lines, sizes_in}
-use Rattle.tariff_compile.specs.declared.cells.CellLines.{CellLines}
-use Rattle.tariff_syntax.specs.Meaning.{at_hiring, minimum_place}
-use Rattle.tariff_syntax.specs.Tree.{Tree}
-use Rattle.tariff_syntax.specs.Writable.{IsWritable}
-use Rattle.tariff_syntax.specs.declared.context.Context.{Context}
-use Rattle.taxi_units.specs.Money.{largest_amount}
 use Rattle.tariff_compile.proofs.Compiled.{cell_count-most, initial_place-below, length-all_cells, lines_in_is}
 use Rattle.tariff_compile.proofs.Compiled.{measure_range, parts_of_tree, rate_place-below, weights-fit}
 use Rattle.tariff_compile.proofs.ContextLines.{cell_has_lines, cell_of-below}
 use Rattle.tariff_compile.proofs.ShortRows.{HasShortRows, IsShort, blank_money, blank_number, decimal_short, joined}
-use Rattle.tariff_compile.proofs.ShortRows.{joined_short, row_in-short}
 
 -- ---- lines and fees
 

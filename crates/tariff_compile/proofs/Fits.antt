@@ -1,9 +1,6 @@
 -- How large the weights of a sound rate are.
-use Rattle.std.proofs.Common.{◌≡◌, ℕ, ◌*◌, ◌/◌, ◌^◌, ◌≤◌, arith}
-use Rattle.std.proofs.Math.Nat.{div-le_self, mul_assoc}
-use Rattle.std.proofs.lemmas.Nat.{mul-le}
-use Rattle.tariff_check.specs.Parts.{RateNumbers}
-use Rattle.tariff_check.specs.Sound.{IsSoundRate}
+use Rattle.std.proofs.{Common.{ℕ, ◌*◌, ◌/◌, ◌^◌, ◌≡◌, ◌≤◌, arith}, Math.Nat.{div-le_self, mul_assoc}}
+use Rattle.{std.proofs.lemmas.Nat.{mul-le}, tariff_compile.specs.Common.{IsSoundRate, RateNumbers}}
 use Rattle.tariff_compile.specs.Tables.{AreFit, weights_of}
 
 -- with a constant of 500 to 200,000 and a common measure of at most 10^18

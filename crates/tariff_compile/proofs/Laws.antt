@@ -1,28 +1,15 @@
 -- The laws of the public empty functions.
-use Rattle.std.proofs.Common.{◌≡◌, ◌∙◌, ℕ, ◌<◌, Some, length}
-use Rattle.std.specs.List.{slice_get}
-use Rattle.tariff_calendar.specs.Range.{IsInRangeOf}
-use Rattle.tariff_check.specs.Cells.{cells_of}
-use Rattle.tariff_check.specs.Faults.{IsSound}
-use Rattle.tariff_check.proofs.Laws.{hirings_begin_with_first_lines-amounts}
+use Rattle.std.{specs.List.{slice_get}, proofs.Common.{ℕ, ◌<◌, ◌∙◌, ◌≡◌, Some, length}}
+use Rattle.tariff_check.{specs.Amounts.{HasAmountsOf}, proofs.Laws.{hirings_begin_with_first_lines-amounts}}
 use Rattle.tariff_compile.specs.Cells.{IsBefore, IsBelow, bands_of, cell_count, cell_number, places_of}
+use Rattle.tariff_compile.specs.Common.{Bands, CellLines, Context, IsInRangeOf, IsSound, IsWritable, Tree, cells_of}
+use Rattle.tariff_compile.{specs.Common.{initial_by}, proofs.CellNumbers.{cell_number-order, cell_number_below}}
 use Rattle.tariff_compile.specs.Rows.{all_rows, row_count, row_text}
-use Rattle.tariff_compile.specs.Tables.{HasLinesOf, HasWeightsOf, IsCompiled, IsFit, IsInRangeFor}
-use Rattle.tariff_check.specs.Amounts.{HasAmountsOf}
-use Rattle.tariff_compile.specs.Tables.{IsTablesOf, TableParts, cell_of, fees_in, lines_at, lines_in}
-use Rattle.tariff_check.specs.Amounts.{initial_by}
-use Rattle.tariff_compile.specs.Tables.{rate_by, tables_of}
-use Rattle.tariff_compile.specs.declared.parts.Bands.{Bands}
-use Rattle.tariff_compile.specs.declared.cells.CellLines.{CellLines}
-use Rattle.tariff_compile.proofs.Compiled.{cell_count-cells_of, has_weights, length-all_cells}
-use Rattle.tariff_compile.proofs.Compiled.{lines_in_is, tables_fit}
-use Rattle.tariff_compile.proofs.EachKind.{cell_names_lines, fees_in_is}
-use Rattle.tariff_compile.proofs.Numbering.{bands_of-cell_number, bands_of-place, cell_number-bands_of}
-use Rattle.tariff_compile.proofs.Numbering.{cell_number-order, cell_number_below}
-use Rattle.tariff_compile.proofs.RowOrder.{length-all_rows, row_text-at}
-use Rattle.tariff_syntax.specs.Tree.{Tree}
-use Rattle.tariff_syntax.specs.Writable.{IsWritable}
-use Rattle.tariff_syntax.specs.declared.context.Context.{Context}
+use Rattle.tariff_compile.specs.Tables.{HasLinesOf, HasWeightsOf, IsCompiled, IsFit, IsInRangeFor, IsTablesOf}
+use Rattle.tariff_compile.specs.Tables.{TableParts, cell_of, fees_in, lines_at, lines_in, rate_by, tables_of}
+use Rattle.tariff_compile.proofs.CellNumbers.{bands_of-cell_number, bands_of-place, cell_number-bands_of}
+use Rattle.tariff_compile.proofs.Compiled.{cell_count-cells_of, has_weights, length-all_cells, lines_in_is, tables_fit}
+use Rattle.tariff_compile.proofs.{EachKind.{cell_names_lines, fees_in_is}, RowOrder.{length-all_rows, row_text-at}}
 
 pub tables_equal_the_tree-cell : (t : Tree) (k : ℕ) (x : Context) → IsWritable t → IsSound t → IsInRangeOf t k x
     → (lines : CellLines) × (slice_get (tables_of t k).cells (cell_of t k x) ≡ Some lines) × HasLinesOf t x lines

@@ -1,23 +1,13 @@
 -- The cuts of days and of minutes are low enough for a context.
-use Rattle.std.proofs.Common.{ℕ, ◌+◌, ◌-◌, ◌^◌, ◌<◌, ◌≤◌, Bool, true, false, ◌||◌, ◌==◌, if◌then◌else◌, List, [], ◌∷◌}
-use Rattle.std.proofs.Common.{All, arith}
+use Rattle.std.specs.{BTreeSet.{insert_key}, List.{flat_map}, Ordering.{nat_cmp}}
+use Rattle.std.proofs.Common.{[], ℕ, ◌+◌, ◌-◌, ◌<◌, ◌==◌, ◌^◌, ◌||◌, ◌∷◌, ◌≤◌, All, Bool, List, arith, false}
+use Rattle.std.proofs.{Common.{if◌then◌else◌, true}, lemmas.{List.Sums.{sum_by-take-le}, Map.Views.{All-insert_key}}}
 use Rattle.std.proofs.lemmas.List.Elements.{All-append, All-cons, All-head, All-nil, All-tail, All-weaker}
-use Rattle.std.proofs.lemmas.List.Sums.{sum_by-take-le}
-use Rattle.std.proofs.lemmas.Map.Views.{All-insert_key}
-use Rattle.std.specs.BTreeSet.{insert_key}
-use Rattle.std.specs.List.{flat_map}
-use Rattle.std.specs.Ordering.{nat_cmp}
-use Rattle.tariff_calendar.specs.Lists.{lists_of}
-use Rattle.tariff_check.specs.Cuts.{all_cuts, atom_cuts, cuts_of, day_cut, minute_cut, with_each}
-use Rattle.tariff_check.specs.Lines.{atoms_in}
-use Rattle.tariff_check.specs.Sound.{HasSoundParts, IsGoodAtom}
-use Rattle.tariff_check.specs.declared.fault.Dimension.{Dimension}
-use Rattle.tariff_check.specs.declared.fault.Dimension.TheVariants.{MonthDay, Minute}
-use Rattle.tariff_syntax.specs.Condition as tree
-use Rattle.tariff_syntax.specs.Condition.{Condition}
 use Rattle.taxi_units.specs.Calendar.{date_place, month_lengths}
-use Rattle.tariff_syntax.specs.Tree.{Tree, Line}
-use Rattle.tariff_compile.specs.Cells.{HasLowCuts}
+use Rattle.tariff_check.specs.{Cuts.{all_cuts, atom_cuts, cuts_of, day_cut, minute_cut, with_each}, Lines.{atoms_in}}
+use Rattle.tariff_check.specs.{Sound.{IsGoodAtom}, declared.fault.Dimension.{Dimension, TheVariants.{Minute, MonthDay}}}
+use Rattle.tariff_compile.specs.{Cells.{HasLowCuts}, Common.{Condition, HasSoundParts, Line, Tree, lists_of}}
+use Rattle.tariff_syntax.specs.Condition as tree
 
 abbrev IsLow : ℕ → Type 0
 IsLow cut = cut < 2 ^ 16

@@ -1,17 +1,9 @@
 -- How marks are made: one context after another, and the first mark that a place has.
-use Rattle.std.proofs.Common.{◌≡◌, ◌∙◌, ap, sym, drop-cons, ℕ, zero, suc, ◌+◌, ◌<◌, ◌≤◌, Bool, false, List, [], ◌∷◌}
-use Rattle.std.proofs.Common.{◌++◌, length, get_or, drop, map, Option, Some, refl, arith}
-use Rattle.std.proofs.lemmas.Grind.{common_steps}
-use Rattle.std.proofs.lemmas.List.{append-nil}
-use Rattle.std.specs.List.{position_from, slice_get}
-use Rattle.tariff_check.specs.SoundTariff.{own_conditions, when_at}
-use Rattle.tariff_check.specs.declared.choice.Choice.{Choice}
-use Rattle.tariff_syntax.specs.Condition.{Condition}
-use Rattle.tariff_syntax.specs.Meaning.{holds_if, place_of}
-use Rattle.tariff_syntax.specs.Tree.{Line}
-use Rattle.tariff_syntax.specs.declared.context.Context.{Context}
-use Rattle.tariff_compile.specs.Marks.{MarkEach, MarksThose, is_marked}
-use Rattle.tariff_compile.specs.declared.marks.Marks.{Marks}
+use Rattle.std.{specs.List.{position_from, slice_get}, proofs.lemmas.Grind.{common_steps}}
+use Rattle.std.proofs.Common.{[], ℕ, ◌++◌, ◌+◌, ◌<◌, ◌∙◌, ◌∷◌, ◌≡◌, ◌≤◌, Bool, List, Option, Some, ap, arith, drop}
+use Rattle.std.proofs.{Common.{drop-cons, false, get_or, length, map, refl, suc, sym, zero}, lemmas.List.{append-nil}}
+use Rattle.{tariff_syntax.specs.Meaning.{place_of}, tariff_compile.specs.Marks.{MarkEach, MarksThose, is_marked}}
+use Rattle.tariff_compile.specs.Common.{Choice, Condition, Context, Line, Marks, holds_if, own_conditions, when_at}
 
 -- those of the first contexts are marked that pass a test, and no later place is
 pub record MarksFirst (passes : Context → Bool) (xs : List Context) (n : ℕ) (marks : Marks) : Type 0 where

@@ -1,12 +1,10 @@
 -- The rows of sections, one after another.
-use Rattle.std.proofs.Common.{◌≡◌, ◌∙◌, ap, ℕ, zero, suc, ◌-◌, ◌<◌, ◌≤◌, Bool, true, false, if◌then◌else◌, ltb}
-use Rattle.std.proofs.Common.{Some, List, [], ◌∷◌, ◌++◌, length, length-append, map, get_or, refl, arith}
-use Rattle.std.proofs.lemmas.Bool.{ltb-false, ltb-true}
+use Rattle.{std.specs.List.{range_with_len, slice_get}, tariff_compile.specs.Tables.{TableParts}}
+use Rattle.std.proofs.Common.{[], ℕ, ◌++◌, ◌-◌, ◌<◌, ◌∙◌, ◌∷◌, ◌≡◌, ◌≤◌, Bool, List, Some, ap, arith, false, get_or}
+use Rattle.std.proofs.Common.{if◌then◌else◌, length, length-append, ltb, map, refl, suc, true, zero}
+use Rattle.std.proofs.lemmas.{Bool.{ltb-false, ltb-true}, Option.{slice_get-get_or}}
 use Rattle.std.proofs.lemmas.List.FromFn.{get_or-map-range_with_len, length-map-range_with_len}
-use Rattle.std.proofs.lemmas.Option.{slice_get-get_or}
-use Rattle.std.specs.List.{range_with_len, slice_get}
 use Rattle.tariff_compile.specs.Rows.{Section, all_rows, count_of, row_count, row_in, row_text, rows_of, sections}
-use Rattle.tariff_compile.specs.Tables.{TableParts}
 
 -- a row among some, or among those after them
 at_front : (xs ys : List (List ℕ)) (i : ℕ) → i < length xs → get_or (xs ++ ys) i [] ≡ get_or xs i []

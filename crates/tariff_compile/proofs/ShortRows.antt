@@ -1,14 +1,10 @@
 -- Texts that fit into an empty line: numbers, amounts, and the rows of sections.
-use Rattle.std.proofs.Common.{◌≡◌, ℕ, zero, suc, ◌+◌, ◌-◌, ◌/◌, ◌%◌, ◌^◌, ◌<◌, ◌≤◌, Bool, true, false, if◌then◌else◌}
-use Rattle.std.proofs.Common.{length, List, [], ◌++◌, ◌∷◌, codes, decimal, length-append, max, replicate, refl, arith}
-use Rattle.std.proofs.Common.{ltb}
-use Rattle.std.proofs.Math.Nat.{div-le_self, mod-le}
-use Rattle.std.proofs.lemmas.Bool.{ltb-true, ltb-false}
-use Rattle.std.proofs.lemmas.Fmt.{length-decimal-le_wide}
-use Rattle.std.proofs.lemmas.List.{length-replicate}
-use Rattle.std.specs.List.{AllByRecursion}
-use Rattle.taxi_units.specs.Number.{money_text, padded_text}
-use Rattle.tariff_compile.specs.Rows.{Section, count_of, row_in}
+use Rattle.std.{specs.List.{AllByRecursion}, proofs.{Math.Nat.{div-le_self, mod-le}, lemmas.List.{length-replicate}}}
+use Rattle.std.proofs.Common.{[], ℕ, ◌%◌, ◌++◌, ◌+◌, ◌-◌, ◌/◌, ◌<◌, ◌^◌, ◌∷◌, ◌≡◌, ◌≤◌, Bool, List, arith, codes}
+use Rattle.std.proofs.Common.{decimal, false, if◌then◌else◌, length, length-append, ltb, max, refl, replicate, suc}
+use Rattle.std.proofs.{Common.{true, zero}, lemmas.{Bool.{ltb-false, ltb-true}, Fmt.{length-decimal-le_wide}}}
+use Rattle.{taxi_units.specs.Number.{padded_text}, tariff_compile.specs.Rows.{Section, count_of, row_in}}
+use Rattle.tariff_compile.specs.Common.{money_text}
 
 -- some text, of at most 512 bytes
 pub record IsShort (text : List ℕ) : Type 0 where

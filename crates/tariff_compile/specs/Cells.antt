@@ -1,9 +1,7 @@
 -- Rules: the cells of a tariff, how they are numbered, and a context of each.
-use Rattle.std.specs.Prelude.{◌≡◌, ◌⊎◌, ℕ, ◌+◌, ◌-◌, ◌*◌, ◌/◌, ◌%◌, ◌^◌, ◌<◌, ◌==◌, if◌then◌else◌, List, [], ◌∷◌, length, get_or, min, All}
-use Rattle.tariff_syntax.specs.declared.context.Context.{Context}
-use Rattle.tariff_calendar.specs.Lists.{CutLists, count_at_most}
-use Rattle.taxi_units.specs.Time.{longest_trip}
-use Rattle.tariff_compile.specs.declared.parts.Bands.{Bands}
+use Rattle.std.specs.Prelude.{[], ℕ, ◌%◌, ◌*◌, ◌+◌, ◌-◌, ◌/◌, ◌<◌, ◌==◌, ◌^◌, ◌∷◌, ◌≡◌, ◌⊎◌, All, List, get_or}
+use Rattle.std.specs.Prelude.{if◌then◌else◌, length, min}
+use Rattle.{taxi_units.specs.Time.{longest_trip}, tariff_compile.specs.Common.{Bands, Context, CutLists, count_at_most}}
 
 -- the size of a dimension is how many numbers it has: one for each position, zone, weekday or kind of day, and in the
 -- others one more than there are cuts

@@ -4,3 +4,4 @@ pub mod Marks
 pub mod Near
 pub mod Rows
 pub mod Tables
+pub mod Common

@@ -1,11 +1,6 @@
 -- For proofs: marks of contexts, for those in which a condition holds.
-use Rattle.std.specs.Prelude.{◌≡◌, ℕ, ◌==◌, Bool, List, map, Option, Some}
-use Rattle.std.specs.Int.{bit_at}
-use Rattle.std.specs.List.{slice_get}
-use Rattle.tariff_syntax.specs.Condition.{Condition}
-use Rattle.tariff_syntax.specs.Meaning.{holds_if}
-use Rattle.tariff_syntax.specs.declared.context.Context.{Context}
-use Rattle.tariff_compile.specs.declared.marks.Marks.{Marks}
+use Rattle.std.specs.{Int.{bit_at}, List.{slice_get}, Prelude.{ℕ, ◌==◌, ◌≡◌, Bool, List, Option, Some, map}}
+use Rattle.tariff_compile.specs.Common.{Condition, Context, Marks, holds_if}
 
 -- the test `is_marked` is true if a place is marked
 abbrev pub is_marked : Marks → (place : ℕ) → Bool

@@ -1,6 +1,6 @@
 -- Rules: contexts of one trip that follow each other shortly.
-use Rattle.std.specs.Prelude.{◌≡◌, ℕ, ◌+◌, ◌≤◌}
-use Rattle.tariff_syntax.specs.declared.context.Context.{Context}
+use Rattle.std.specs.Prelude.{ℕ, ◌+◌, ◌≡◌, ◌≤◌}
+use Rattle.tariff_compile.specs.Common.{Context}
 
 -- the second context is near the first if it has at most `further` more pulses and at most `longer` more ticks, and
 -- is the same otherwise

@@ -1,12 +1,7 @@
 -- Rules: the rows of the tables, as texts.
-use Rattle.std.specs.Prelude.{ℕ, ◌+◌, ◌-◌, Bool, if◌then◌else◌, nat_lt, List, [], ◌∷◌, ◌++◌, length, map, get_or}
-use Rattle.std.specs.Prelude.{codes, decimal}
-use Rattle.std.specs.List.{flat_map, range_with_len}
-use Rattle.taxi_units.specs.Number.{money_text}
-use Rattle.drive_modes.specs.declared.charges.Weights.{Weights}
-use Rattle.tariff_compile.specs.Tables.{TableParts, no_lines}
-use Rattle.tariff_compile.specs.declared.cells.CellLines.{CellLines}
-use Rattle.tariff_check.specs.Parts.{InitialNumbers}
+use Rattle.std.specs.{List.{flat_map, range_with_len}, Prelude.{map, nat_lt}}
+use Rattle.std.specs.Prelude.{[], ℕ, ◌++◌, ◌+◌, ◌-◌, ◌∷◌, Bool, List, codes, decimal, get_or, if◌then◌else◌, length}
+use Rattle.tariff_compile.specs.{Common.{CellLines, InitialNumbers, Weights, money_text}, Tables.{TableParts, no_lines}}
 
 -- the row `MEASURE` says how many units of charge make the smallest unit of money
 abbrev pub measure_row : (measure : ℕ) → List ℕ

@@ -1,36 +1,19 @@
 -- Rules: the tables of a tariff under a constant, and what they are looked up for.
-use Rattle.std.specs.Prelude.{◌≡◌, ℕ, ◌+◌, ◌*◌, ◌/◌, ◌^◌, ◌<◌, ◌≤◌, if◌then◌else◌, List, ◌∷◌, map, get_or, Option}
-use Rattle.std.specs.Prelude.{Some}
-use Rattle.std.specs.List.{range_with_len, slice_get}
-use Rattle.std.specs.Option.{unwrap_or}
-use Rattle.drive_modes.specs.declared.charges.Weights.{Weights}
-use Rattle.drive_modes.specs.declared.meterage.Rounding.{Rounding}
-use Rattle.drive_modes.specs.Constant.{least_constant, greatest_constant}
-use Rattle.taxi_units.specs.Money.{largest_display_step}
-use Rattle.tariff_syntax.specs.Meaning.{at_hiring, choice_place, rate_place, initial_place, minimum_place}
-use Rattle.tariff_syntax.specs.Tree.{Tree}
-use Rattle.tariff_syntax.specs.Writable.{IsFromTo, IsWritable}
-use Rattle.tariff_syntax.specs.declared.context.Context.{Context}
-use Rattle.tariff_check.specs.Amounts.{initial_with, place_number}
-use Rattle.tariff_check.specs.Cells.{day_kinds}
-use Rattle.tariff_check.specs.Faults.{IsSound}
-use Rattle.tariff_check.specs.Kinds.{is_asked_amid, part_of}
-use Rattle.tariff_check.specs.Measure.{measure_of}
-use Rattle.tariff_check.specs.DisplayStep.{display_step}
-use Rattle.tariff_check.specs.SoundLookups.{place_in_force}
-use Rattle.tariff_check.specs.SoundTariff.{SoundTariff, sound_of, values_of}
-use Rattle.tariff_check.specs.Parts.{RateNumbers, InitialNumbers, positions_of, zones_of}
-use Rattle.tariff_check.specs.Parts.{supplement_of, initials_of, minimums_of, rates_of}
-use Rattle.tariff_calendar.specs.Lists.{CutLists, has_days, lists_of}
-use Rattle.tariff_calendar.specs.Range.{IsInRange}
-use Rattle.tariff_compile.specs.Cells.{sizes_of, cell_count, cell_number, bands_of, bands_at, context_in}
-use Rattle.tariff_compile.specs.declared.parts.Bands.{Bands}
-use Rattle.tariff_compile.specs.declared.cells.CellLines.{CellLines}
+use Rattle.{std.specs.{List.{range_with_len, slice_get}, Option.{unwrap_or}}, tariff_check.specs.Amounts.{initial_with}}
+use Rattle.std.specs.Prelude.{ℕ, ◌*◌, ◌+◌, ◌/◌, ◌<◌, ◌^◌, ◌∷◌, ◌≡◌, ◌≤◌, List, Option, Some, get_or, if◌then◌else◌, map}
+use Rattle.{taxi_units.specs.Money.{largest_display_step}, tariff_check.specs.DisplayStep.{display_step}}
+use Rattle.drive_modes.specs.{Constant.{greatest_constant, least_constant}, declared.meterage.Rounding.{Rounding}}
+use Rattle.tariff_syntax.specs.{Meaning.{choice_place, initial_place, minimum_place, rate_place}, Writable.{IsFromTo}}
+use Rattle.tariff_check.specs.{Cells.{day_kinds}, Measure.{measure_of}}
+use Rattle.tariff_check.specs.{Kinds.{is_asked_amid, part_of}, SoundTariff.{SoundTariff, sound_of, values_of}}
+use Rattle.tariff_check.specs.{Parts.{initials_of, minimums_of, rates_of}, SoundLookups.{place_in_force}}
+use Rattle.tariff_check.specs.declared.choice.ChoiceKind.{ChoiceKind, TheVariants.{Initial, Minimum}}
+use Rattle.tariff_compile.specs.Cells.{bands_at, bands_of, cell_count, cell_number, context_in, sizes_of}
+use Rattle.tariff_compile.specs.Common.{Bands, CellLines, Context, CutLists, InitialNumbers, IsInRange, IsSound}
+use Rattle.tariff_compile.specs.Common.{IsWritable, Rate, RateNumbers, Supplement, Tree, Weights, at_hiring, has_days}
+use Rattle.tariff_compile.specs.Common.{lists_of, place_number, positions_of, supplement_of, zones_of}
 use Rattle.tariff_compile.specs.declared.tables.Tables.TheInside.{Inside}
-use Rattle.tariff_check.specs.declared.choice.ChoiceKind.{ChoiceKind}
-use Rattle.tariff_check.specs.declared.choice.ChoiceKind.TheVariants.{Rate, Initial, Minimum}
 use Rattle.tariff_check.specs.declared.values.Initial as fees
-use Rattle.tariff_check.specs.declared.values.Supplement.{Supplement}
 
 -- tables have a tariff's cuts, the weights of its rates, its initial hire fees, minimum fares, lines of cells and
 -- supplements; and the constant, M, the display step, its rounding, the decimals, and how many positions and zones

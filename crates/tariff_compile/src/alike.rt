@@ -1,8 +1,6 @@
 //! What contexts have in common.
-ghost use Rattle.std.specs.Prelude.{◌≡◌, ◌&&◌};
-ghost use Rattle.tariff_compile.specs.Alike.{Agree, AllAgree, asks_alike};
-ghost use Rattle.tariff_syntax.specs.Condition.{condition_of};
-ghost use Rattle.tariff_syntax.specs.declared.context.Context.{Context};
+ghost use Rattle.std.specs.Prelude.{◌&&◌, ◌≡◌};
+ghost use Rattle.tariff_compile.specs.{Alike.{Agree, AllAgree, asks_alike}, Common.{Context, condition_of}};
 
 use tariff_syntax::{Cond, Context};
 

@@ -1,7 +1,6 @@
 //! How cells are numbered over the dimensions.
-ghost use Rattle.std.specs.Prelude.{◌≡◌, ◌+◌, ◌*◌, ◌^◌, ◌<◌, ◌≤◌, if◌then◌else◌};
-ghost use Rattle.tariff_calendar.specs.Lists.{has_days};
-ghost use Rattle.tariff_compile.specs.Cells.{IsBelow, bands_of, cell_count, cell_number, sizes_of};
+ghost use Rattle.std.specs.Prelude.{◌*◌, ◌+◌, ◌<◌, ◌^◌, ◌≡◌, ◌≤◌, if◌then◌else◌};
+ghost use Rattle.tariff_compile.specs.{Cells.{IsBelow, bands_of, cell_count, cell_number, sizes_of}, Common.{has_days}};
 
 use crate::parts::Bands;
 use tariff_calendar::Cuts;

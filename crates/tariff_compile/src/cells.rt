@@ -1,15 +1,9 @@
 //! The lines of each cell, by asking the tariff's conditions in contexts of 64 cells at a time.
-ghost use Rattle.std.specs.List.{range_with_len};
-ghost use Rattle.std.specs.Option.{ForSome};
-ghost use Rattle.std.specs.Prelude.{◌≡◌, ℕ, ◌-◌, ◌<◌, ◌≤◌, ◌++◌, IfOk, OnOk, length, map};
-ghost use Rattle.tariff_calendar.specs.Lists.{lists_of};
-ghost use Rattle.tariff_check.specs.Sound.{HasSoundParts};
-ghost use Rattle.tariff_check.specs.SoundTariff.{own_conditions, place_of};
+ghost use Rattle.std.specs.{List.{range_with_len}, Prelude.{ℕ, ◌++◌, ◌-◌, ◌<◌, ◌≡◌, ◌≤◌, IfOk, OnOk, length, map}};
+ghost use Rattle.{std.specs.Option.{ForSome}, tariff_compile.specs.Common.{place_of, tree_of}};
 ghost use Rattle.tariff_compile.specs.Cells.{HasLowCuts, IsBelow, IsNarrow, bands_of, context_in};
+ghost use Rattle.tariff_compile.specs.Common.{HasSoundParts, at_hiring, lists_of, own_conditions, place_number};
 ghost use Rattle.tariff_compile.specs.Tables.{all_cells, lines_at};
-ghost use Rattle.tariff_check.specs.Amounts.{place_number};
-ghost use Rattle.tariff_syntax.specs.Meaning.{at_hiring};
-ghost use Rattle.tariff_syntax.specs.Tree.{tree_of};
 
 use crate::bands::{bands_of, sizes_of};
 use crate::contexts::context_in;

@@ -1,11 +1,6 @@
 //! What the choices and the supplements of a tariff say to its tables.
-ghost use Rattle.std.specs.List.{range_with_len};
-ghost use Rattle.std.specs.Prelude.{◌≡◌, ◌+◌, ◌^◌, ◌≤◌, All, IfOk, map};
-ghost use Rattle.tariff_check.specs.Parts.{supplement_of};
-ghost use Rattle.tariff_check.specs.Sound.{IsSoundRate};
-ghost use Rattle.tariff_check.specs.SoundTariff.{own_values};
-ghost use Rattle.tariff_compile.specs.Tables.{weights_of};
-ghost use Rattle.tariff_syntax.specs.Tree.{tree_of};
+ghost use Rattle.std.specs.{List.{range_with_len}, Prelude.{◌+◌, ◌^◌, ◌≡◌, ◌≤◌, All, IfOk, map}};
+ghost use Rattle.tariff_compile.specs.{Common.{IsSoundRate, own_values, supplement_of, tree_of}, Tables.{weights_of}};
 
 use drive_modes::{Constant, Weights};
 use std::alloc::Global;

@@ -1,10 +1,7 @@
 //! A context of each cell.
-ghost use Rattle.std.specs.Prelude.{◌≡◌, ◌+◌, ◌≤◌};
-ghost use Rattle.tariff_calendar.specs.Lists.{count_at_most};
-ghost use Rattle.tariff_compile.specs.Cells.{HasLowCuts, IsNarrow, bands_at, beginning, context_in};
-ghost use Rattle.tariff_compile.specs.Near.{IsNear};
-ghost use Rattle.tariff_syntax.specs.Meaning.{at_hiring};
-ghost use Rattle.tariff_syntax.specs.declared.context.Context.{Context};
+ghost use Rattle.std.specs.Prelude.{◌+◌, ◌≡◌, ◌≤◌};
+ghost use Rattle.tariff_compile.specs.{Cells.{HasLowCuts, IsNarrow, bands_at, beginning, context_in}, Near.{IsNear}};
+ghost use Rattle.tariff_compile.specs.Common.{Context, at_hiring, count_at_most};
 
 use crate::parts::Bands;
 use drive_modes::Constant;

@@ -10,12 +10,12 @@ mod marking;
 mod marks;
 mod parts;
 mod rows;
+mod table_laws;
 mod tables;
-mod theorems;
 
 pub use cells::CellLines;
 pub use parts::{Bands, Lasting};
-pub use tables::{Tables, compile};
-pub use theorems::{
+pub use table_laws::{
     cells_are_numbered_in_order, rows_are_in_order, tables_are_fit, tables_equal_the_tree,
 };
+pub use tables::{Tables, compile};

@@ -1,13 +1,8 @@
 //! In which of up to 64 contexts the conditions of a tariff hold: a condition is asked in all of them at
 //! once.
-ghost use Rattle.std.specs.List.{position_from};
-ghost use Rattle.std.specs.Prelude.{◌≡◌, ◌<◌, ◌≤◌, IfOk, length};
-ghost use Rattle.tariff_check.specs.SoundTariff.{own_conditions, when_at};
-ghost use Rattle.tariff_compile.specs.Alike.{AllAgree};
-ghost use Rattle.tariff_compile.specs.Marks.{MarkEach, MarksThose, is_marked};
-ghost use Rattle.tariff_syntax.specs.Condition.{condition_of};
-ghost use Rattle.tariff_syntax.specs.Meaning.{holds, holds_if};
-ghost use Rattle.tariff_syntax.specs.Tree.{tree_of};
+ghost use Rattle.std.specs.{List.{position_from}, Prelude.{◌<◌, ◌≡◌, ◌≤◌, IfOk, length}};
+ghost use Rattle.tariff_compile.specs.{Alike.{AllAgree}, Marks.{MarkEach, MarksThose, is_marked}};
+ghost use Rattle.tariff_compile.specs.Common.{condition_of, holds, holds_if, own_conditions, tree_of, when_at};
 
 use crate::alike::Alike;
 use crate::marks::Marks;

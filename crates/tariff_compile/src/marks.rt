@@ -1,5 +1,5 @@
 //! Marks of up to 64 contexts, one bit for each.
-ghost use Rattle.std.specs.Prelude.{◌≡◌, ◌≢◌, ◌<◌, ◌&&◌, ◌||◌, ℕ, false, not};
+ghost use Rattle.std.specs.Prelude.{ℕ, ◌&&◌, ◌<◌, ◌||◌, ◌≡◌, ◌≢◌, false, not};
 ghost use Rattle.tariff_compile.specs.Marks.{is_marked};
 
 /// Which of the places 0 to 63 are marked.

@@ -1,10 +1,8 @@
 //! The rows of the tables, each made in an empty line.
-ghost use Rattle.std.specs.Prelude.{◌≡◌, [], ◌+◌, ◌<◌, ◌≤◌, ◌++◌, ◌↔◌, length, codes, decimal, IsOk, OnOk, OnErr};
-ghost use Rattle.arrayvec.specs.ArrayVec.{array_vec_len};
-ghost use Rattle.taxi_units.specs.Line.{line_size};
-ghost use Rattle.taxi_units.specs.Number.{money_text};
-ghost use Rattle.tariff_compile.specs.Rows.{cell_row, initial_row, measure_row, minimum_field, minimum_row, rate_row, row_count, row_text};
-ghost use Rattle.tariff_compile.specs.Tables.{IsCompiled};
+ghost use Rattle.std.specs.Prelude.{[], ◌++◌, ◌+◌, ◌<◌, ◌↔◌, ◌≡◌, ◌≤◌, IsOk, OnErr, OnOk, codes, decimal, length};
+ghost use Rattle.{arrayvec.specs.ArrayVec.{array_vec_len}, taxi_units.specs.Line.{line_size}};
+ghost use Rattle.tariff_compile.specs.{Common.{money_text}, Rows.{row_count, row_text}, Tables.{IsCompiled}};
+ghost use Rattle.tariff_compile.specs.Rows.{cell_row, initial_row, measure_row, minimum_field, minimum_row, rate_row};
 
 use crate::cells::CellLines;
 use crate::tables::Tables;

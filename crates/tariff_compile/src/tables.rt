@@ -1,18 +1,12 @@
 //! The tables: how they are made, and their look-ups.
-ghost use Rattle.std.specs.Prelude.{◌≡◌, ℕ, ◌∷◌, ◌+◌, ◌*◌, ◌^◌, ◌<◌, ◌≤◌, ◌≤ℤ◌, true, pos, length, min, get_or, IfOk};
-ghost use Rattle.interval_clock.specs.Calendar.{IsDateOf};
-ghost use Rattle.drive_modes.specs.Constant.{least_constant, greatest_constant};
-ghost use Rattle.tariff_calendar.specs.Lists.{has_day, has_days, is_holiday};
-ghost use Rattle.tariff_compile.specs.Cells.{IsBelow, cell_number};
-ghost use Rattle.tariff_compile.specs.Near.{IsNear};
-ghost use Rattle.tariff_compile.specs.Tables.{AreFit, IsCompiled, IsFit, IsInRangeFor, IsTablesOf, fees_in};
-ghost use Rattle.tariff_compile.specs.Tables.{fees_named, lines_in, rate_by, sizes_for, tables_of};
-ghost use Rattle.tariff_check.specs.Amounts.{IsFitInitial, initial_by};
-ghost use Rattle.tariff_check.specs.Parts.{supplement_of};
-ghost use Rattle.tariff_syntax.specs.Tree.{Tree, tree_of};
-ghost use Rattle.tariff_syntax.specs.declared.context.Context.{Context};
-ghost use Rattle.taxi_units.specs.Counted.{IsElement};
-ghost use Rattle.taxi_units.specs.Money.{largest_display_step};
+ghost use Rattle.std.specs.Prelude.{ℕ, ◌*◌, ◌+◌, ◌<◌, ◌^◌, ◌∷◌, ◌≡◌, ◌≤ℤ◌, ◌≤◌, IfOk, get_or, length, min, pos, true};
+ghost use Rattle.taxi_units.specs.{Counted.{IsElement}, Money.{largest_display_step}};
+ghost use Rattle.{drive_modes.specs.Constant.{greatest_constant, least_constant}, tariff_compile.specs.Near.{IsNear}};
+ghost use Rattle.{interval_clock.specs.Calendar.{IsDateOf}, tariff_check.specs.Amounts.{IsFitInitial}};
+ghost use Rattle.tariff_calendar.specs.Lists.{is_holiday};
+ghost use Rattle.tariff_compile.specs.{Cells.{IsBelow, cell_number}, Tables.{lines_in, rate_by, sizes_for, tables_of}};
+ghost use Rattle.tariff_compile.specs.Common.{Context, Tree, has_day, has_days, initial_by, supplement_of, tree_of};
+ghost use Rattle.tariff_compile.specs.Tables.{AreFit, IsCompiled, IsFit, IsInRangeFor, IsTablesOf, fees_in, fees_named};
 
 use crate::bands::{cell_number, sizes_of};
 use crate::cells::{CellLines, all_cells};

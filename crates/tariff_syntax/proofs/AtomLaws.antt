@@ -1,24 +1,17 @@
 -- Atoms are read from their forms.
-use Rattle.std.proofs.Common.{◌≡◌, inl, inr, ℕ, zero, suc, ◌≤◌, List, [], ◌∷◌, ◌++◌, Option, Some, None, refl, ap, ◌∙◌}
-use Rattle.std.proofs.Common.{subst, arith, codes}
-use Rattle.tariff_syntax.specs.Atom.{weekday_read, weekday_first, numbered_first, time_first, until_weekday, days_first}
-use Rattle.tariff_syntax.specs.Atom.{dates_first, by_unit, after_first, atom_named}
-use Rattle.tariff_syntax.specs.Condition.{Condition, and, or, not, position, zone, time, day, date, holiday}
-use Rattle.tariff_syntax.specs.Condition.{after_distance, after_time}
-use Rattle.tariff_syntax.specs.Figure.{amount_read, minute_read, date_read, number_first, amount_first, minute_first}
-use Rattle.tariff_syntax.specs.Figure.{date_first}
-use Rattle.tariff_syntax.specs.Forms.{IsNumber, IsDate, IsMinute, IsAmount, IsWeekday, AreWeekdays, IsAtom}
-use Rattle.tariff_syntax.specs.Grammar.{Reader, factor_by}
-use Rattle.tariff_syntax.specs.Weight.{weight}
-use Rattle.tariff_syntax.specs.Token.{Token, word, figure, sign}
-use Rattle.tariff_syntax.specs.Words.{after_word, after_sign, word_first}
-use Rattle.tariff_syntax.proofs.FigureLaws.{pair_is, date_again, minute_is, minute_again, amount_is, amount_again}
-use Rattle.tariff_syntax.proofs.FigureLaws.{figure_as_is, figure_as_here}
-use Rattle.tariff_syntax.proofs.Tools.{bind_some, by_word, after_word_is, after_word_here, after_sign_is}
-use Rattle.tariff_syntax.proofs.Tools.{after_sign_here, word_first_is, word_first_here, some_same}
-use Rattle.taxi_units.specs.Number.{figure_in}
-use Rattle.taxi_units.specs.Weekdays.{day_name}
-use Rattle.taxi_units.proofs.Laws.{figures_are_read_by_their_digits}
+use Rattle.std.proofs.Common.{[], ℕ, ◌++◌, ◌∙◌, ◌∷◌, ◌≡◌, ◌≤◌, List, None, Option, Some, ap, arith, codes, inl, inr}
+use Rattle.{std.proofs.Common.{refl, subst, suc, zero}, taxi_units.proofs.Laws.{figures_are_read_by_their_digits}}
+use Rattle.{taxi_units.specs.Number.{figure_in}, tariff_syntax.proofs.FigureLaws.{minute_again, minute_is, pair_is}}
+use Rattle.tariff_syntax.specs.Atom.{after_first, atom_named, by_unit, dates_first, days_first, numbered_first}
+use Rattle.tariff_syntax.specs.{Atom.{time_first, until_weekday, weekday_first, weekday_read}, Figure.{number_first}}
+use Rattle.tariff_syntax.specs.{Common.{day_name}, Grammar.{Reader, factor_by}, Token.{Token, figure, sign, word}}
+use Rattle.tariff_syntax.specs.Condition.{Condition, after_distance, after_time, and, date, day, holiday, not, or}
+use Rattle.tariff_syntax.specs.{Condition.{position, time, zone}, Words.{after_sign, after_word, word_first}}
+use Rattle.tariff_syntax.specs.Figure.{amount_first, amount_read, date_first, date_read, minute_first, minute_read}
+use Rattle.tariff_syntax.specs.Forms.{AreWeekdays, IsAmount, IsAtom, IsDate, IsMinute, IsNumber, IsWeekday}
+use Rattle.tariff_syntax.{specs.Weight.{weight}, proofs.Tools.{by_word, some_same, word_first_here, word_first_is}}
+use Rattle.tariff_syntax.proofs.FigureLaws.{amount_again, amount_is, date_again, figure_as_here, figure_as_is}
+use Rattle.tariff_syntax.proofs.Tools.{after_sign_here, after_sign_is, after_word_here, after_word_is, bind_some}
 
 pub number_is : (least most : ℕ) (ts : List Token) (x : ℕ × List Token) → number_first least most ts ≡ Some x
     → (f : List ℕ) × (ts ≡ figure f ∷ x.1) × IsNumber least most f x.0

@@ -1,20 +1,13 @@
 -- What figures say is read from their forms.
-use Rattle.std.proofs.Common.{◌≡◌, ℕ, ◌+◌, ◌*◌, ◌≤◌, List, [], ◌∷◌, ◌++◌, Option, Some, Result, Ok, Err, refl}
-use Rattle.std.proofs.Common.{ap, sym, ◌∙◌, subst, arith, codes}
-use Rattle.std.proofs.lemmas.List.{append-nil}
-use Rattle.std.proofs.lemmas.Bool.{and_parts, leb-true, le-leb}
-use Rattle.taxi_units.specs.Digits.{AreDigitsOf}
-use Rattle.taxi_units.specs.Number.{number_of_width, decimal_read, NoDigitFirst}
-use Rattle.taxi_units.specs.Reading.{word_at}
-use Rattle.taxi_units.specs.declared.decimal.NumberFault.{NumberFault}
+use Rattle.std.proofs.Common.{[], ℕ, ◌*◌, ◌++◌, ◌+◌, ◌∙◌, ◌∷◌, ◌≡◌, ◌≤◌, Err, List, Ok, Option, Result, Some, ap, arith}
+use Rattle.std.proofs.{Common.{codes, refl, subst, sym}, lemmas.{Bool.{and_parts, le-leb, leb-true}, List.{append-nil}}}
+use Rattle.taxi_units.specs.{Number.{NoDigitFirst, decimal_read, number_of_width}, Reading.{word_at}}
+use Rattle.taxi_units.{specs.declared.decimal.NumberFault.{NumberFault}, proofs.Laws.{words_are_read_by_their_text}}
 use Rattle.taxi_units.proofs.Laws.{decimals_are_read_by_their_form, wide_numbers_are_read_by_their_digits}
-use Rattle.taxi_units.proofs.Laws.{words_are_read_by_their_text}
-use Rattle.tariff_syntax.specs.Figure.{pair_read, date_read, year_date_read, where_of_a_day, minute_read}
-use Rattle.tariff_syntax.specs.Figure.{amount_or_none, amount_read, figure_as}
-use Rattle.tariff_syntax.specs.Forms.{IsPair, IsDate, IsYearDate, IsMinute, IsAmount}
-use Rattle.tariff_syntax.specs.Token.{Token, figure}
-use Rattle.tariff_syntax.specs.Words.{figure_first}
-use Rattle.tariff_syntax.proofs.Tools.{bind_some, passed, ended_is, figure_first_is, figure_first_here, some_same}
+use Rattle.tariff_syntax.specs.{Common.{AreDigitsOf}, Figure.{where_of_a_day, year_date_read}, Words.{figure_first}}
+use Rattle.tariff_syntax.specs.Figure.{amount_or_none, amount_read, date_read, figure_as, minute_read, pair_read}
+use Rattle.tariff_syntax.specs.{Forms.{IsAmount, IsDate, IsMinute, IsPair, IsYearDate}, Token.{Token, figure}}
+use Rattle.tariff_syntax.proofs.Tools.{bind_some, ended_is, figure_first_here, figure_first_is, passed, some_same}
 
 word_again : (word rest : List ℕ) → word_at word (word ++ rest) ≡ Some rest
 word_again word rest = (words_are_read_by_their_text word (word ++ rest) rest).1 refl

@@ -1,11 +1,7 @@
 -- The first choice of a kind that holds, looked for line by line.
-use Rattle.std.proofs.Common.{◌≡◌, ◌≤◌, ℕ, List, Option, map, drop}
-use Rattle.std.specs.List.{position_from}
-use Rattle.tariff_syntax.specs.Choices.{choices, conditions_of}
-use Rattle.tariff_syntax.specs.Meaning.{holds_if, place_of}
-use Rattle.tariff_syntax.specs.Tree.{Entry, line_of}
-use Rattle.tariff_syntax.specs.declared.context.Context.{Context}
-use Rattle.tariff_syntax.specs.declared.tariff.TariffLine.{TariffLine}
+use Rattle.std.{specs.List.{position_from}, proofs.Common.{ℕ, ◌≡◌, ◌≤◌, List, Option, drop, map}}
+use Rattle.tariff_syntax.specs.{Choices.{choices, conditions_of}, declared.tariff.TariffLine.{TariffLine}}
+use Rattle.tariff_syntax.specs.{Common.{Context}, Meaning.{holds_if, place_of}, Tree.{Entry, line_of}}
 
 -- none of the choices among the first `index` lines holds, and there are `place` of them
 pub record IsPassed {V : Type 0} (part : Entry → Option V) (x : Context) (lines : List TariffLine)

@@ -1,35 +1,23 @@
 -- What a line says is read from its form.
-use Rattle.std.proofs.Common.{◌≡◌, inl, inr, ℕ, ◌≤◌, List, [], ◌∷◌, ◌++◌, Option, Some, None, refl, ap, sym, ◌∙◌, subst}
-use Rattle.std.proofs.Common.{arith, codes}
-use Rattle.std.proofs.lemmas.List.{append-nil}
-use Rattle.std.proofs.lemmas.Bool.{leb-true, le-leb}
-use Rattle.drive_modes.specs.declared.meterage.Rounding.{Rounding}
-use Rattle.drive_modes.specs.declared.meterage.Rounding.TheVariants.{Behind, Ahead}
+use Rattle.std.proofs.Common.{[], ℕ, ◌++◌, ◌∙◌, ◌∷◌, ◌≡◌, ◌≤◌, List, None, Option, Some, ap, arith, codes, inl, inr}
+use Rattle.std.proofs.{Common.{refl, subst, sym}, lemmas.{Bool.{le-leb, leb-true}, List.{append-nil}}}
+use Rattle.tariff_syntax.{specs.{Common.{Ahead, Behind, Rounding}, Part.{Part}}, proofs.ConditionLaws.{condition_found}}
 use Rattle.tariff_syntax.specs.Condition.{Condition}
-use Rattle.tariff_syntax.specs.Figure.{number_first, amount_first, year_date_read, year_date_first}
-use Rattle.tariff_syntax.specs.Forms.{IsNumber}
-use Rattle.tariff_syntax.specs.Grammar.{condition_by, factor_first, condition_alone, bounded_condition, when_read}
-use Rattle.tariff_syntax.specs.Weight.{weight}
-use Rattle.tariff_syntax.specs.IsCondition.{IsCondition}
-use Rattle.tariff_syntax.specs.IsItem.{IsRounding, IsCovers, IsWhen, IsPart, AreParts, IsItem, IsDecimals}
-use Rattle.tariff_syntax.specs.Items.{rounding_read, rounding_end, step_read, count_read, positions_read, zones_read}
-use Rattle.tariff_syntax.specs.Items.{holiday_read, supplement_read, covers_after, covers_first, initial_read}
-use Rattle.tariff_syntax.specs.Items.{per_first, rate_read, minimum_read, plain_named, item_named, item_read}
-use Rattle.tariff_syntax.specs.Items.{decimals_read}
+use Rattle.tariff_syntax.specs.{Figure.{amount_first, number_first, year_date_first, year_date_read}, Forms.{IsNumber}}
+use Rattle.tariff_syntax.specs.Grammar.{bounded_condition, condition_alone, condition_by, factor_first, when_read}
+use Rattle.tariff_syntax.specs.{IsCondition.{IsCondition}, Printed.{rounding_word}, PrintedCondition.{whole}}
+use Rattle.tariff_syntax.specs.IsItem.{AreParts, IsCovers, IsDecimals, IsItem, IsPart, IsRounding, IsWhen}
+use Rattle.tariff_syntax.specs.Items.{count_read, covers_after, covers_first, decimals_read, holiday_read, initial_read}
+use Rattle.tariff_syntax.specs.Items.{item_named, item_read, minimum_read, per_first, plain_named, positions_read}
+use Rattle.tariff_syntax.specs.Items.{rate_read, rounding_end, rounding_read, step_read, supplement_read, zones_read}
+use Rattle.tariff_syntax.{specs.Token.{Token, figure, sign, word}, proofs.ConditionAgain.{condition_again, size_is}}
+use Rattle.tariff_syntax.specs.Tree.{Entry, holiday, initial, minimum, parts_of, positions, rate, step, supplement}
+use Rattle.tariff_syntax.specs.{Tree.{word_of, zones}, Weight.{weight}, Words.{after_sign, after_word, word_first}}
+use Rattle.tariff_syntax.proofs.AtomLaws.{amount_here, amounts_are, number_here, number_is}
+use Rattle.tariff_syntax.proofs.FigureLaws.{figure_as_here, figure_as_is, year_date_again, year_date_is}
+use Rattle.tariff_syntax.proofs.Tools.{after_sign_here, after_sign_is, after_word_here, after_word_is, bind_some}
+use Rattle.tariff_syntax.proofs.Tools.{by_word, chosen, ended_is, some_same, word_first_here, word_first_is}
 use Rattle.tariff_syntax.specs.Part as part
-use Rattle.tariff_syntax.specs.Part.{Part}
-use Rattle.tariff_syntax.specs.Printed.{rounding_word}
-use Rattle.tariff_syntax.specs.PrintedCondition.{whole}
-use Rattle.tariff_syntax.specs.Token.{Token, word, figure, sign}
-use Rattle.tariff_syntax.specs.Tree.{Entry, step, positions, zones, holiday, supplement, initial, rate, minimum}
-use Rattle.tariff_syntax.specs.Tree.{parts_of, word_of}
-use Rattle.tariff_syntax.specs.Words.{after_word, after_sign, word_first}
-use Rattle.tariff_syntax.proofs.AtomLaws.{number_is, number_here, amounts_are, amount_here}
-use Rattle.tariff_syntax.proofs.ConditionAgain.{condition_again, size_is}
-use Rattle.tariff_syntax.proofs.ConditionLaws.{condition_found}
-use Rattle.tariff_syntax.proofs.FigureLaws.{year_date_is, year_date_again, figure_as_is, figure_as_here}
-use Rattle.tariff_syntax.proofs.Tools.{bind_some, by_word, chosen, ended_is, after_word_is, after_word_here}
-use Rattle.tariff_syntax.proofs.Tools.{after_sign_is, after_sign_here, word_first_is, word_first_here, some_same}
 
 nothing_behind : (w : List ℕ) → (after_sign w [] ≡ None) × (after_word w [] ≡ None)
 unfolding after_sign after_word

@@ -1,17 +1,9 @@
 -- Lines below one that memory ran out for.
-use Rattle.std.proofs.Common.{◌≡◌, ℕ, ◌+◌, List, [], ◌∷◌, ◌++◌, Option, Some, None, Result, Ok, Err, refl, sym, ap, ◌∙◌}
-use Rattle.std.proofs.Common.{subst}
-use Rattle.std.specs.Bool.{⊤}
-use Rattle.tariff_syntax.specs.Faults.{ReadsAs}
-use Rattle.tariff_syntax.specs.Items.{item_read}
-use Rattle.tariff_syntax.specs.Parsed.{before, put_entry, line_read, entries_read}
-use Rattle.tariff_syntax.specs.Parses.{HasEntry, HasLines, IsBadLine, IsFaultBelow, bad_in}
-use Rattle.tariff_syntax.specs.Token.{Token}
-use Rattle.tariff_syntax.specs.TokenReading.{tokens_of}
-use Rattle.tariff_syntax.specs.Tree.{Line, Entry}
-use Rattle.tariff_syntax.specs.Words.{word_first}
-use Rattle.tariff_syntax.specs.declared.parsing.ParseFault.{ParseFault}
-use Rattle.tariff_syntax.specs.declared.parsing.ParseFault.TheVariants.{TooLong, Syntax, NoMemory}
+use Rattle.{std.{specs.Bool.{⊤}, proofs.Common.{subst, sym}}, tariff_syntax.specs.Faults.{ReadsAs}}
+use Rattle.std.proofs.Common.{[], ℕ, ◌++◌, ◌+◌, ◌∙◌, ◌∷◌, ◌≡◌, Err, List, None, Ok, Option, Result, Some, ap, refl}
+use Rattle.tariff_syntax.specs.{Common.{NoMemory, ParseFault, Syntax, TooLong}, Items.{item_read}, Words.{word_first}}
+use Rattle.tariff_syntax.specs.{Parsed.{before, entries_read, line_read, put_entry}, Token.{Token}, Tree.{Entry, Line}}
+use Rattle.tariff_syntax.specs.{Parses.{HasEntry, HasLines, IsBadLine, IsFaultBelow, bad_in}, TokenReading.{tokens_of}}
 
 -- lines that end with others have what is bad in these, or are lines
 abbrev pub EndsWith : (below whole : Result (List Line) ℕ) → Type 0

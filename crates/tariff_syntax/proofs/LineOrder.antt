@@ -1,7 +1,6 @@
 -- The lines of a text, one after another.
-use Rattle.std.proofs.Common.{◌≡◌, ℕ, suc, ◌+◌, ◌<◌, Bool, true, false, List, [], ◌∷◌, length, take, drop, refl, arith}
-use Rattle.std.proofs.Common.{◌==◌, length-drop}
-use Rattle.tariff_syntax.specs.TextLines.{in_front, lines_of, is_inner}
+use Rattle.std.proofs.Common.{[], ℕ, ◌+◌, ◌<◌, ◌==◌, ◌∷◌, ◌≡◌, Bool, List, arith, drop, false, length, length-drop}
+use Rattle.{std.proofs.Common.{refl, suc, take, true}, tariff_syntax.specs.TextLines.{in_front, is_inner, lines_of}}
 use Rattle.tariff_syntax.specs.TokenReading.{run_end}
 
 joined_by : (c n : ℕ) (cs : List ℕ) → lines_of cs ≡ take n cs ∷ lines_of (drop 1 (drop n cs))

@@ -1,10 +1,8 @@
 -- The lines of a text rise in number.
-use Rattle.std.proofs.Common.{inl, inr, ℕ, zero, suc, ◌+◌, ◌<◌, ◌≤◌, List, [], ◌∷◌, All, subst, sym, arith}
-use Rattle.std.specs.List.{AllPairs}
-use Rattle.std.proofs.lemmas.List.Elements.{All-nil, All-cons, All-weaker}
-use Rattle.tariff_syntax.specs.Reads.{AreTextsOfLines, AreTextsOfTariff, Reads, RiseInNumber}
-use Rattle.tariff_syntax.specs.TextLines.{lines_of}
-use Rattle.tariff_syntax.specs.Tree.{Tree, Line}
+use Rattle.std.{specs.List.{AllPairs}, proofs.lemmas.List.Elements.{All-cons, All-nil, All-weaker}}
+use Rattle.std.proofs.Common.{[], ℕ, ◌+◌, ◌<◌, ◌∷◌, ◌≤◌, All, List, arith, inl, inr, subst, suc, sym, zero}
+use Rattle.tariff_syntax.specs.{Reads.{AreTextsOfLines, AreTextsOfTariff, Reads, RiseInNumber}, TextLines.{lines_of}}
+use Rattle.tariff_syntax.specs.Tree.{Line, Tree}
 
 pub pairs_cons : {X : Type 0} (R : X → X → Type 0) (x : X) (xs : List X) → All (R x) xs → AllPairs R xs
     → AllPairs R (x ∷ xs)

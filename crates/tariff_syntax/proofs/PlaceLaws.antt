@@ -1,8 +1,7 @@
 -- The place of the first element that passes a test.
-use Rattle.std.proofs.Common.{◌≡◌, ◌↔◌, ℕ, zero, suc, ◌+◌, Bool, true, false, cond, List, [], ◌∷◌, Option, Some, None}
-use Rattle.std.proofs.Common.{All, take, refl, ap, ◌∙◌, subst, arith}
-use Rattle.std.specs.List.{position_from, slice_get}
-use Rattle.std.proofs.lemmas.List.Elements.{All-nil, All-cons, All-head, All-tail}
+use Rattle.std.{specs.List.{position_from, slice_get}, proofs.Common.{false, refl, subst, suc, take, true, zero}}
+use Rattle.std.proofs.Common.{[], ℕ, ◌+◌, ◌↔◌, ◌∙◌, ◌∷◌, ◌≡◌, All, Bool, List, None, Option, Some, ap, arith, cond}
+use Rattle.std.proofs.lemmas.List.Elements.{All-cons, All-head, All-nil, All-tail}
 use Rattle.tariff_syntax.specs.Meaning.{IsFirstPlace}
 
 module _ {A : Type 0} (p : A → Bool) where

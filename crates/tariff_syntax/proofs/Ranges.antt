@@ -1,24 +1,15 @@
 -- The numbers of a text are in their ranges.
-use Rattle.std.proofs.Common.{inl, inr, ℕ, ◌+◌, ◌^◌, ◌≤◌, List, [], ◌∷◌, Option, Some, None, All, subst, sym}
-use Rattle.std.proofs.Common.{arith}
-use Rattle.std.proofs.lemmas.List.Elements.{All-nil, All-cons}
-use Rattle.taxi_units.specs.Digits.{AreDigitsOf}
-use Rattle.tariff_syntax.specs.Condition.{Condition, position, zone, time, day, date, holiday, after_distance}
-use Rattle.tariff_syntax.specs.Condition.{after_time}
-use Rattle.tariff_syntax.specs.Forms.{IsAtom, IsMinute, AreWeekdays}
-use Rattle.tariff_syntax.specs.IsCondition.{IsCondition, atom, negation, parentheses, one_factor, conjunction, one_term}
-use Rattle.tariff_syntax.specs.IsCondition.{disjunction}
-use Rattle.tariff_syntax.specs.IsItem.{AreParts, IsCovers, IsPart, IsWhen}
-use Rattle.tariff_syntax.specs.Part as part
-use Rattle.tariff_syntax.specs.Part.{Part}
-use Rattle.tariff_syntax.specs.PrintedCondition.{Level, whole, term, factor}
-use Rattle.tariff_syntax.specs.Reads.{AreTextsOfLines, AreTextsOfTariff, Reads}
-use Rattle.tariff_syntax.specs.TextLines.{lines_of}
-use Rattle.tariff_syntax.specs.Token.{Token}
-use Rattle.tariff_syntax.specs.Tree.{Tree, Line, parts_of}
-use Rattle.tariff_syntax.specs.Writable.{IsFromTo, IsWritableCondition, IsWritableIf, IsWritablePart, IsWritableEntry}
-use Rattle.tariff_syntax.specs.Writable.{IsWritable}
+use Rattle.std.proofs.Common.{[], ℕ, ◌+◌, ◌^◌, ◌∷◌, ◌≤◌, All, List, None, Option, Some, arith, inl, inr, subst, sym}
+use Rattle.{std.proofs.lemmas.List.Elements.{All-cons, All-nil}, tariff_syntax.specs.IsCondition.{parentheses}}
+use Rattle.tariff_syntax.specs.{Common.{AreDigitsOf}, Part.{Part}, PrintedCondition.{Level, factor, term, whole}}
+use Rattle.tariff_syntax.specs.Condition.{Condition, after_distance, after_time, date, day, holiday, position, time}
+use Rattle.tariff_syntax.specs.{Condition.{zone}, Token.{Token}, Tree.{Line, Tree, parts_of}, Writable.{IsWritablePart}}
+use Rattle.tariff_syntax.specs.{Forms.{AreWeekdays, IsAtom, IsMinute}, Reads.{AreTextsOfLines, AreTextsOfTariff, Reads}}
+use Rattle.tariff_syntax.specs.IsCondition.{IsCondition, atom, conjunction, disjunction, negation, one_factor, one_term}
+use Rattle.tariff_syntax.specs.{IsItem.{AreParts, IsCovers, IsPart, IsWhen}, TextLines.{lines_of}}
+use Rattle.tariff_syntax.specs.Writable.{IsFromTo, IsWritable, IsWritableCondition, IsWritableEntry, IsWritableIf}
 use Rattle.tariff_syntax.proofs.ShownFigures.{amount_small, digits_small}
+use Rattle.tariff_syntax.specs.Part as part
 
 two_digits : (text : List ℕ) (n : ℕ) → AreDigitsOf 2 2 text n → n ≤ 99
 two_digits text n h = omega (arith, digits_small 2 text n h)

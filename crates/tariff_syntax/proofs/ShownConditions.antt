@@ -1,25 +1,18 @@
 -- The printed form of a condition shows a condition.
-use Rattle.std.proofs.Common.{◌≡◌, inl, inr, ℕ, ◌+◌, ◌/◌, ◌%◌, ◌^◌, ◌≤◌, Bool, true, false, cond, List, [], ◌∷◌, ◌++◌}
-use Rattle.std.proofs.Common.{refl, sym, subst, arith, codes, append_assoc, ◌==◌}
-use Rattle.std.specs.Fmt.{decimal}
-use Rattle.std.proofs.lemmas.Bool.{eqb-true}
-use Rattle.taxi_units.specs.Number.{money_text, padded_text}
-use Rattle.tariff_syntax.specs.Condition as tree
-use Rattle.tariff_syntax.specs.Condition.{Condition, position, zone, time, day, date, holiday, after_distance}
-use Rattle.tariff_syntax.specs.Condition.{after_time}
-use Rattle.tariff_syntax.specs.Forms.{IsNumber, IsDate, IsMinute, IsAmount, AreWeekdays, IsAtom}
+use Rattle.{std.specs.Fmt.{decimal}, tariff_syntax.proofs.ShownFigures.{money_is_text, number_again, pair_figure}}
+use Rattle.std.proofs.Common.{[], ℕ, ◌%◌, ◌++◌, ◌+◌, ◌/◌, ◌==◌, ◌^◌, ◌∷◌, ◌≡◌, ◌≤◌, Bool, List, append_assoc, arith}
+use Rattle.std.proofs.{Common.{codes, cond, false, inl, inr, refl, subst, sym, true}, lemmas.Bool.{eqb-true}}
+use Rattle.tariff_syntax.{specs.Common.{day_name, money_text, padded_text}, proofs.ConditionAgain.{weight-append}}
+use Rattle.tariff_syntax.specs.Condition.{Condition, after_distance, after_time, date, day, holiday, position, time}
+use Rattle.tariff_syntax.specs.{Condition.{zone}, Forms.{AreWeekdays, IsAmount, IsAtom, IsDate, IsMinute, IsNumber}}
+use Rattle.tariff_syntax.specs.IsCondition.{IsCondition, atom, conjunction, disjunction, negation, one_factor, one_term}
+use Rattle.tariff_syntax.specs.{IsCondition.{parentheses}, PrintedCondition.{minute_text, or_is_closed, term, whole}}
+use Rattle.tariff_syntax.specs.PrintedCondition.{Level, and_is_closed, condition_at, date_text, days_text, factor}
+use Rattle.tariff_syntax.{specs.Token.{Token, figure, sign, word}, proofs.AtomLaws.{atom_weighs, day_light, each_day}}
 use Rattle.tariff_syntax.specs.Weight.{weight}
-use Rattle.tariff_syntax.specs.IsCondition.{IsCondition, atom, negation, parentheses, one_factor, conjunction, one_term}
-use Rattle.tariff_syntax.specs.IsCondition.{disjunction}
-use Rattle.tariff_syntax.specs.PrintedCondition.{Level, whole, term, factor, and_is_closed, or_is_closed, condition_at}
-use Rattle.tariff_syntax.specs.PrintedCondition.{days_text, minute_text, date_text}
-use Rattle.tariff_syntax.specs.Token.{Token, word, figure, sign}
-use Rattle.tariff_syntax.proofs.AtomLaws.{atom_weighs, day_light, each_day}
-use Rattle.tariff_syntax.proofs.ConditionAgain.{weight-append}
-use Rattle.tariff_syntax.proofs.ShownFigures.{decimal_text, money_is_text, amount_small, amount_again, number_again}
-use Rattle.tariff_syntax.proofs.ShownFigures.{pair_figure, date_shown, minute_shown}
-use Rattle.tariff_syntax.proofs.Shows.{Shows, Ready, blank, shown_word, letters_test, figure_shows, IsFigureText, dots}
-use Rattle.taxi_units.specs.Weekdays.{day_name}
+use Rattle.tariff_syntax.proofs.ShownFigures.{amount_again, amount_small, date_shown, decimal_text, minute_shown}
+use Rattle.tariff_syntax.proofs.Shows.{IsFigureText, Ready, Shows, blank, dots, figure_shows, letters_test, shown_word}
+use Rattle.tariff_syntax.specs.Condition as tree
 
 -- parentheses add one
 abbrev pub extra : Bool → ℕ

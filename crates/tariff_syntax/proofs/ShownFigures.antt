@@ -1,22 +1,13 @@
 -- The figures that are printed, and what they say.
-use Rattle.std.proofs.Common.{◌≡◌, ℕ, zero, suc, ◌+◌, ◌*◌, ◌/◌, ◌%◌, ◌^◌, ◌<◌, ◌≤◌, true, List, [], ◌∷◌, ◌++◌}
-use Rattle.std.proofs.Common.{length, refl, ap, subst, arith, codes, append_assoc, Ok}
-use Rattle.std.specs.Char.{is_ascii_digit}
-use Rattle.std.specs.Fmt.{decimal}
-use Rattle.std.specs.Str.Parse.{AllDigits, IsNumeral, digits_value}
-use Rattle.std.proofs.Math.Nat.{div-le_self, mod-le}
-use Rattle.std.proofs.lemmas.Bool.Decides.{nat_tests}
-use Rattle.std.proofs.lemmas.Fmt.{decimal_is_IsNumeral_wide}
-use Rattle.std.proofs.lemmas.Int.Digits.{digits_value-lt}
-use Rattle.std.proofs.lemmas.Str.Parse.{digit_from_value}
-use Rattle.taxi_units.specs.Digits.{AreDigitsOf}
-use Rattle.taxi_units.specs.Number.{money_text, padded_text}
-use Rattle.taxi_units.proofs.Laws.{amounts_read_back, decimals_are_read_by_their_form}
-use Rattle.taxi_units.proofs.Laws.{numbers_are_written_as_figures, padded_numbers_are_written_as_figures}
-use Rattle.taxi_units.proofs.Laws.{padded_numbers_are_written_by_their_digits}
-use Rattle.tariff_syntax.specs.Forms.{IsNumber, IsPair, IsDate, IsYearDate, IsMinute, IsAmount}
-use Rattle.tariff_syntax.specs.Token.{begins_with_digit, goes_on}
-use Rattle.tariff_syntax.proofs.Shows.{Goes, IsFigureText}
+use Rattle.{std.specs.{Char.{is_ascii_digit}, Fmt.{decimal}}, tariff_syntax.proofs.Shows.{Goes, IsFigureText}}
+use Rattle.std.{specs.Str.Parse.{AllDigits, IsNumeral, digits_value}, proofs.lemmas.Fmt.{decimal_is_IsNumeral_wide}}
+use Rattle.std.proofs.Common.{[], ℕ, ◌%◌, ◌*◌, ◌++◌, ◌+◌, ◌/◌, ◌<◌, ◌^◌, ◌∷◌, ◌≡◌, ◌≤◌, List, Ok, ap, append_assoc}
+use Rattle.std.proofs.{Common.{arith, codes, length, refl, subst, suc, true, zero}, lemmas.Int.Digits.{digits_value-lt}}
+use Rattle.std.proofs.{Math.Nat.{div-le_self, mod-le}, lemmas.{Bool.Decides.{nat_tests}, Str.Parse.{digit_from_value}}}
+use Rattle.taxi_units.proofs.Laws.{amounts_read_back, decimals_are_read_by_their_form, numbers_are_written_as_figures}
+use Rattle.taxi_units.proofs.Laws.{padded_numbers_are_written_as_figures, padded_numbers_are_written_by_their_digits}
+use Rattle.tariff_syntax.specs.{Common.{AreDigitsOf, money_text, padded_text}, Token.{begins_with_digit, goes_on}}
+use Rattle.tariff_syntax.specs.Forms.{IsAmount, IsDate, IsMinute, IsNumber, IsPair, IsYearDate}
 
 digit_is : (c : ℕ) → 48 ≤ c → c ≤ 57 → is_ascii_digit c ≡ true
 digit_is c a b = grind (arith, nat_tests)

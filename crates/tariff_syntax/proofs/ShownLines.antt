@@ -1,33 +1,20 @@
 -- The printed form of a tariff reads as that tariff.
-use Rattle.std.proofs.Common.{◌≡◌, inl, inr, ℕ, ◌+◌, ◌<◌, ◌≤◌, true, List, [], ◌∷◌, ◌++◌, length, Option, Some, None}
-use Rattle.std.proofs.Common.{refl, ap, sym, ◌∙◌, subst, arith, codes, append_assoc}
-use Rattle.std.specs.Prelude.{⊤}
-use Rattle.std.specs.Fmt.{decimal}
-use Rattle.drive_modes.specs.declared.meterage.Rounding.{Rounding}
-use Rattle.drive_modes.specs.declared.meterage.Rounding.TheVariants.{Behind, Ahead}
-use Rattle.taxi_units.specs.Number.{money_text, padded_text}
-use Rattle.tariff_syntax.specs.Condition.{Condition}
+use Rattle.std.{specs.Fmt.{decimal}, proofs.Common.{arith, codes, inl, inr, length, refl, subst, sym, true}}
+use Rattle.{std.specs.Prelude.{⊤}, tariff_syntax.proofs.Shows.{line_feed, shown_word, word_shows}}
+use Rattle.std.proofs.Common.{[], ℕ, ◌++◌, ◌+◌, ◌<◌, ◌∙◌, ◌∷◌, ◌≡◌, ◌≤◌, List, None, Option, Some, ap, append_assoc}
+use Rattle.tariff_syntax.specs.{Common.{Ahead, Behind, Rounding, money_text, padded_text}, Printed.{rounding_word}}
+use Rattle.tariff_syntax.{specs.{Condition.{Condition}, Part.{Part}, TextLines.{lines_of}}, proofs.ShownGrammar.{shown}}
+use Rattle.tariff_syntax.{specs.IsItem.{AreParts, IsDecimals, IsItem, IsPart, IsWhen}, proofs.ShownConditions.{fits}}
+use Rattle.tariff_syntax.specs.Printed.{entry_line, lines_text, number_line, part_text, parts_text, printed_form}
+use Rattle.tariff_syntax.{specs.PrintedCondition.{condition_at, condition_text, whole}, proofs.ConditionAgain.{size_is}}
+use Rattle.tariff_syntax.specs.{Reads.{AreTextsOfLines, AreTextsOfTariff, Reads}, Spelled.{IsRun, IsSpelled, IsToken}}
+use Rattle.tariff_syntax.specs.{Renumbered.{renumbered, renumbered_from}, Token.{Token, figure, is_letter, sign, word}}
+use Rattle.tariff_syntax.{specs.Tree.{Entry, Line, Tree, parts_of, word_of}, proofs.Ranges.{covers_small}}
 use Rattle.tariff_syntax.specs.Weight.{weight}
-use Rattle.tariff_syntax.specs.IsItem.{IsWhen, IsPart, AreParts, IsItem, IsDecimals}
-use Rattle.tariff_syntax.specs.Part as part
-use Rattle.tariff_syntax.specs.Part.{Part}
-use Rattle.tariff_syntax.specs.TextLines.{lines_of}
-use Rattle.tariff_syntax.specs.Printed.{rounding_word, number_line, part_text, parts_text, entry_line}
-use Rattle.tariff_syntax.specs.Printed.{lines_text, printed_form}
-use Rattle.tariff_syntax.specs.PrintedCondition.{whole, condition_at, condition_text}
-use Rattle.tariff_syntax.specs.Reads.{AreTextsOfLines, AreTextsOfTariff, Reads}
-use Rattle.tariff_syntax.specs.Renumbered.{renumbered_from, renumbered}
-use Rattle.tariff_syntax.specs.Spelled.{IsRun, IsSpelled, IsToken}
-use Rattle.tariff_syntax.specs.Token.{Token, word, figure, sign, is_letter}
-use Rattle.tariff_syntax.specs.Tree.{Tree, Line, Entry, parts_of, word_of}
-use Rattle.tariff_syntax.proofs.ConditionAgain.{size_is}
-use Rattle.tariff_syntax.proofs.Ranges.{covers_small}
-use Rattle.tariff_syntax.proofs.ShownConditions.{fits}
-use Rattle.tariff_syntax.proofs.ShownFigures.{decimal_text, money_is_text, amount_small, amount_again, number_again}
+use Rattle.tariff_syntax.proofs.ShownFigures.{amount_again, amount_small, decimal_text, money_is_text, number_again}
 use Rattle.tariff_syntax.proofs.ShownFigures.{number_says, number_small, pair_figure, year_figure, year_shown}
-use Rattle.tariff_syntax.proofs.ShownGrammar.{shown}
-use Rattle.tariff_syntax.proofs.Shows.{AllLetters, IsFigureText, Shows, Ready, line_feed, blank, word_shows, shown_word}
-use Rattle.tariff_syntax.proofs.Shows.{letters_test, figure_shows, comma}
+use Rattle.tariff_syntax.proofs.Shows.{AllLetters, IsFigureText, Ready, Shows, blank, comma, figure_shows, letters_test}
+use Rattle.tariff_syntax.specs.Part as part
 
 -- a word and a blank before it
 worded : (w more : List ℕ) (ts : List Token) (texts : List (List ℕ)) → letters_test w ≡ true → Ready more ts texts

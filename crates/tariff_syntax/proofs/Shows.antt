@@ -1,11 +1,8 @@
 -- A printed line shows its tokens, from its end to its front.
-use Rattle.std.proofs.Common.{◌≡◌, ℕ, Bool, true, false, List, [], ◌∷◌, ◌++◌, refl, ap, arith, ◌==◌, ◌||◌, ◌&&◌, codes}
-use Rattle.std.specs.Char.{is_ascii_digit}
-use Rattle.std.proofs.lemmas.Bool.{and_parts}
-use Rattle.std.proofs.lemmas.Bool.Decides.{nat_tests}
-use Rattle.tariff_syntax.specs.TextLines.{lines_of}
-use Rattle.tariff_syntax.specs.Spelled.{IsRun, NoDots, IsSign, IsSpelled}
-use Rattle.tariff_syntax.specs.Token.{Token, word, figure, sign, is_blank, is_letter, begins_with_digit, goes_on}
+use Rattle.std.{specs.Char.{is_ascii_digit}, proofs.lemmas.Bool.{and_parts, Decides.{nat_tests}}}
+use Rattle.std.proofs.Common.{[], ℕ, ◌&&◌, ◌++◌, ◌==◌, ◌||◌, ◌∷◌, ◌≡◌, Bool, List, ap, arith, codes, false, refl, true}
+use Rattle.tariff_syntax.specs.{Spelled.{IsRun, IsSign, IsSpelled, NoDots}, TextLines.{lines_of}}
+use Rattle.tariff_syntax.specs.Token.{Token, begins_with_digit, figure, goes_on, is_blank, is_letter, sign, word}
 
 -- the test fails at the front
 abbrev Stops : (ℕ → List ℕ → Bool) → List ℕ → Type 0

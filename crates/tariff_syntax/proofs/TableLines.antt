@@ -1,16 +1,11 @@
 -- The parts of an entry come to the table of lines.
-use Rattle.std.proofs.Common.{◌≡◌, ◌∙◌, ap, sym, subst, refl, ℕ, List, [], ◌∷◌, ◌++◌, All, codes}
-use Rattle.std.proofs.lemmas.List.{append-nil}
-use Rattle.std.proofs.lemmas.List.Elements.{All-nil, All-cons, All-head, All-tail}
-use Rattle.tariff_syntax.specs.Forms.{IsNumber, IsAmount}
-use Rattle.tariff_syntax.specs.IsItem.{AreParts, IsItem, IsPart}
-use Rattle.tariff_syntax.specs.LineTable.{HasTableRanges, IsTableLine}
+use Rattle.std.proofs.Common.{[], ℕ, ◌++◌, ◌∙◌, ◌∷◌, ◌≡◌, All, List, ap, codes, refl, subst, sym}
+use Rattle.std.proofs.lemmas.List.{append-nil, Elements.{All-cons, All-head, All-nil, All-tail}}
+use Rattle.tariff_syntax.specs.Forms.{IsAmount, IsNumber}
+use Rattle.tariff_syntax.specs.{IsItem.{AreParts, IsItem, IsPart}, Part.{Part}, Token.{Token, figure, sign, word}}
+use Rattle.tariff_syntax.specs.{LineTable.{HasTableRanges, IsTableLine}, Writable.{IsWritableEntry, IsWritablePart}}
+use Rattle.tariff_syntax.specs.Tree.{Entry, holiday, initial, minimum, positions, rate, step, supplement, zones}
 use Rattle.tariff_syntax.specs.Part as part
-use Rattle.tariff_syntax.specs.Part.{Part}
-use Rattle.tariff_syntax.specs.Token.{Token, word, figure, sign}
-use Rattle.tariff_syntax.specs.Tree.{Entry, step, positions, zones, holiday, supplement, initial, rate}
-use Rattle.tariff_syntax.specs.Tree.{minimum}
-use Rattle.tariff_syntax.specs.Writable.{IsWritableEntry, IsWritablePart}
 
 -- ---- a part that is one token, and those behind it
 

@@ -1,11 +1,8 @@
 -- The lines of a text are cut at its line feeds.
-use Rattle.std.proofs.Common.{◌≡◌, ◌≢◌, inl, inr, ℕ, Bool, true, false, List, [], ◌∷◌, ◌++◌, refl, ap, ◌∙◌, subst}
-use Rattle.std.proofs.Common.{arith, ◌==◌, ◌↔◌}
-use Rattle.std.proofs.lemmas.Bool.{eqb-true}
-use Rattle.std.proofs.lemmas.Bool.Decides.{nat_tests}
-use Rattle.std.proofs.lemmas.List.Elements.{All-nil, All-cons, All-head, All-tail}
-use Rattle.tariff_syntax.specs.TextLines.{in_front, lines_of, IsLine, AreLines}
-use Rattle.tariff_syntax.proofs.Shows.{cut_front}
+use Rattle.std.proofs.Common.{[], ℕ, ◌++◌, ◌==◌, ◌↔◌, ◌∙◌, ◌∷◌, ◌≡◌, ◌≢◌, Bool, List, ap, arith, false, inl, inr, refl}
+use Rattle.std.proofs.{Common.{subst, true}, lemmas.List.Elements.{All-cons, All-head, All-nil, All-tail}}
+use Rattle.std.proofs.lemmas.Bool.{eqb-true, Decides.{nat_tests}}
+use Rattle.tariff_syntax.{specs.TextLines.{AreLines, IsLine, in_front, lines_of}, proofs.Shows.{cut_front}}
 
 abbrev IsOther : ℕ → Type 0
 IsOther c = c ≢ 10

@@ -1,16 +1,12 @@
 -- The tokens of a line are those that stand in it.
-use Rattle.std.proofs.Common.{◌≡◌, ℕ, zero, suc, ◌+◌, ◌<◌, ◌≤◌, Bool, true, false, cond, ◌&&◌, List, [], ◌∷◌, ◌++◌}
-use Rattle.std.proofs.Common.{length, take, drop, Option, Some, None, refl, ap, sym, ◌∙◌, subst, arith, ◌==◌}
-use Rattle.std.specs.Prelude.{⊤}
-use Rattle.std.specs.Char.{is_ascii_digit}
-use Rattle.std.proofs.Math.Seq.{take-append_seam, drop-append_seam}
-use Rattle.std.proofs.lemmas.Bool.{eqb-true, and_parts}
-use Rattle.std.proofs.lemmas.Bool.Decides.{nat_tests}
-use Rattle.std.proofs.lemmas.List.{take-append-drop}
-use Rattle.tariff_syntax.specs.Token.{Token, word, figure, sign, is_blank, is_letter, begins_with_digit, goes_on}
-use Rattle.tariff_syntax.specs.TokenReading.{run_end, sign_end, cut_token, token_here, token_at, tokens_of}
-use Rattle.tariff_syntax.specs.Spelled.{IsRun, NoDots, IsSign, text_of, IsToken, IsEnd, IsSpelled}
-use Rattle.tariff_syntax.proofs.TokenOrder.{tokens_of-none, tokens_of-some, token_shorter}
+use Rattle.std.{specs.Char.{is_ascii_digit}, proofs.lemmas.{Bool.Decides.{nat_tests}, List.{take-append-drop}}}
+use Rattle.{std.specs.Prelude.{⊤}, tariff_syntax.proofs.TokenOrder.{token_shorter, tokens_of-none, tokens_of-some}}
+use Rattle.std.proofs.Common.{[], ℕ, ◌&&◌, ◌++◌, ◌+◌, ◌<◌, ◌==◌, ◌∙◌, ◌∷◌, ◌≡◌, ◌≤◌, Bool, List, None, Option, Some, ap}
+use Rattle.std.proofs.Common.{arith, cond, drop, false, length, refl, subst, suc, sym, take, true, zero}
+use Rattle.std.proofs.{Math.Seq.{drop-append_seam, take-append_seam}, lemmas.Bool.{and_parts, eqb-true}}
+use Rattle.tariff_syntax.specs.Spelled.{IsEnd, IsRun, IsSign, IsSpelled, IsToken, NoDots, text_of}
+use Rattle.tariff_syntax.specs.Token.{Token, begins_with_digit, figure, goes_on, is_blank, is_letter, sign, word}
+use Rattle.tariff_syntax.specs.TokenReading.{cut_token, run_end, sign_end, token_at, token_here, tokens_of}
 
 -- a run is as long as it goes on
 pub run_of : (test : ℕ → List ℕ → Bool) (text rest : List ℕ) → IsRun test text rest

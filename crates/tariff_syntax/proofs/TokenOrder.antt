@@ -1,11 +1,9 @@
 -- The tokens of a line, one after another.
-use Rattle.std.proofs.Common.{◌≡◌, ℕ, zero, suc, ◌<◌, ◌≤◌, ◌&&◌, Bool, true, false, cond, List, [], ◌∷◌, length, drop}
-use Rattle.std.proofs.Common.{Option, Some, None, refl, ap, sym, arith, length-drop, ◌==◌, MatchOption}
-use Rattle.std.specs.Char.{is_ascii_digit}
-use Rattle.taxi_units.specs.Reading.{Gives}
-use Rattle.tariff_syntax.specs.Token.{Token, word, figure, sign, is_letter, goes_on, is_blank}
-use Rattle.tariff_syntax.specs.TokenReading.{run_end, sign_end, cut_token, token_here, token_at, token_before}
-use Rattle.tariff_syntax.specs.TokenReading.{tokens_within, tokens_of}
+use Rattle.{std.specs.Char.{is_ascii_digit}, tariff_syntax.specs.TokenReading.{tokens_of, tokens_within}}
+use Rattle.std.proofs.Common.{[], ℕ, ◌&&◌, ◌<◌, ◌==◌, ◌∷◌, ◌≡◌, ◌≤◌, Bool, List, MatchOption, None, Option, Some, ap}
+use Rattle.std.proofs.Common.{arith, cond, drop, false, length, length-drop, refl, suc, sym, true, zero}
+use Rattle.tariff_syntax.specs.{Common.{Gives}, Token.{Token, figure, goes_on, is_blank, is_letter, sign, word}}
+use Rattle.tariff_syntax.specs.TokenReading.{cut_token, run_end, sign_end, token_at, token_before, token_here}
 
 two_or_one : (b : Bool) → 0 < cond b 2 1
 two_or_one true = omega arith

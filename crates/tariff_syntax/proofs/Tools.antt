@@ -1,11 +1,8 @@
 -- Tools for reading that may fail.
-use Rattle.std.proofs.Common.{◌≡◌, ◌⊎◌, inl, inr, ℕ, Bool, true, false, cond, List, [], ◌∷◌, Option, Some, None}
-use Rattle.std.proofs.Common.{refl, sym, subst}
-use Rattle.std.specs.Str.{bytes_eq}
-use Rattle.std.proofs.lemmas.Slice.Eq.{bytes_eq-Decides}
-use Rattle.taxi_units.specs.Reading.{◌>>=◌}
-use Rattle.tariff_syntax.specs.Token.{Token, word, figure, sign}
-use Rattle.tariff_syntax.specs.Words.{after_word, after_sign, word_first, figure_first, ended}
+use Rattle.std.{specs.Str.{bytes_eq}, proofs.{Common.{sym, true}, lemmas.Slice.Eq.{bytes_eq-Decides}}}
+use Rattle.std.proofs.Common.{[], ℕ, ◌∷◌, ◌≡◌, ◌⊎◌, Bool, List, None, Option, Some, cond, false, inl, inr, refl, subst}
+use Rattle.tariff_syntax.specs.{Common.{◌>>=◌}, Words.{after_sign, after_word, ended, figure_first, word_first}}
+use Rattle.tariff_syntax.specs.Token.{Token, figure, sign, word}
 
 -- something that was read on from something that was read
 pub bind_some : {A B : Type 0} (o : Option A) (f : A → Option B) (y : B) → (o >>= f) ≡ Some y

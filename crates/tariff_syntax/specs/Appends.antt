@@ -1,5 +1,5 @@
 -- For proofs: what a writer does to a text; each part is spelled in front of its rest.
-use Rattle.std.specs.Prelude.{◌≡◌, ℕ, List, ◌++◌}
+use Rattle.std.specs.Prelude.{ℕ, ◌++◌, ◌≡◌, List}
 
 -- a text went from `old` to `new` by appending what `spelled` puts in front of whatever follows
 abbrev pub Appends : (old new : List ℕ) → (spelled : List ℕ → List ℕ) → Type 0

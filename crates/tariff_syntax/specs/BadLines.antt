@@ -1,11 +1,8 @@
 -- By law: the lines of a text that have no form, read line after line. The law bad_lines_have_no_form says which
 -- they are.
-use Rattle.std.specs.Prelude.{ℕ, ◌+◌, Bool, false, if◌then◌else◌, List, [], ◌∷◌, is_none}
+use Rattle.std.specs.Prelude.{[], ℕ, ◌+◌, ◌∷◌, Bool, List, false, if◌then◌else◌, is_none}
 use Rattle.tariff_syntax.specs.Items.{item_read}
-use Rattle.tariff_syntax.specs.Parsed.{heading_read}
-use Rattle.tariff_syntax.specs.TextLines.{lines_of}
-use Rattle.tariff_syntax.specs.Token.{Token}
-use Rattle.tariff_syntax.specs.TokenReading.{tokens_of}
+use Rattle.tariff_syntax.specs.{Parsed.{heading_read}, TextLines.{lines_of}, Token.{Token}, TokenReading.{tokens_of}}
 
 -- the tokens of a line are bad if there are some and they say no entry
 abbrev pub is_bad : (decimals : ℕ) → List Token → Bool

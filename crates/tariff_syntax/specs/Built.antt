@@ -1,10 +1,7 @@
 -- For proofs: what is built of a condition that is read, even if memory runs out.
-use Rattle.std.specs.Prelude.{◌≡◌, List, Option, Some, None, Result, Ok, Err, ⊤}
-use Rattle.tariff_syntax.specs.Condition.{Condition, condition_of, and, or, not}
-use Rattle.tariff_syntax.specs.Token.{Token}
-use Rattle.tariff_syntax.specs.Tree.{Entry, when_part}
-use Rattle.tariff_syntax.specs.declared.condition.Cond.{Cond}
-use Rattle.taxi_units.specs.declared.NoMemory.{NoMemory}
+use Rattle.std.specs.Prelude.{⊤, ◌≡◌, Err, List, None, Ok, Option, Result, Some}
+use Rattle.{taxi_units.specs.declared.NoMemory.{NoMemory}, tariff_syntax.specs.{Token.{Token}, Tree.{Entry, when_part}}}
+use Rattle.tariff_syntax.specs.{Condition.{Condition, and, condition_of, not, or}, declared.condition.Cond.{Cond}}
 
 -- a condition has parts, which take memory of their own, if it is no atom
 abbrev pub HasParts : Condition → Type 0

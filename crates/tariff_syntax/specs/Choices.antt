@@ -1,9 +1,6 @@
 -- Rules: the choices of a kind among lines, such as rates.
-use Rattle.std.specs.Prelude.{ℕ, List, map, Option, Some, None}
-use Rattle.std.specs.List.{filter_map}
-use Rattle.std.specs.Option.{option_map}
-use Rattle.tariff_syntax.specs.Condition.{Condition}
-use Rattle.tariff_syntax.specs.Tree.{Line, Entry, initial, rate, minimum, when_part}
+use Rattle.std.specs.{List.{filter_map}, Option.{option_map}, Prelude.{ℕ, List, None, Option, Some, map}}
+use Rattle.tariff_syntax.specs.{Condition.{Condition}, Tree.{Entry, Line, initial, minimum, rate, when_part}}
 use Rattle.tariff_syntax.specs.declared.tariff.InitialNumbers as initials
 use Rattle.tariff_syntax.specs.declared.tariff.RateNumbers as rates
 

@@ -1,7 +1,7 @@
 -- Rules: the condition of a line, without where it lies in memory.
-use Rattle.std.specs.Prelude.{ℕ, Option, Some, None}
-use Rattle.tariff_syntax.specs.declared.condition.Cond.{Cond, And', Or', Not', Position, Zone, Time, Day, Date, Holiday}
-use Rattle.tariff_syntax.specs.declared.condition.Cond.{AfterDistance, AfterTime}
+use Rattle.std.specs.Prelude.{ℕ, None, Option, Some}
+use Rattle.tariff_syntax.specs.declared.condition.Cond.{AfterDistance, AfterTime, And', Cond, Date, Day, Holiday, Not'}
+use Rattle.tariff_syntax.specs.declared.condition.Cond.{Or', Position, Time, Zone}
 
 -- a condition joins others by `and`, `or` and `not`, or is an atom: a position or a zone, a range of minutes of the
 -- day, of weekdays from 1 for Monday or of dates of a year, a holiday, or a distance in decimetres or a time in tenths

@@ -1,7 +1,6 @@
 -- For proofs: the answer of a reader that may run out of memory.
-use Rattle.std.specs.Prelude.{◌≡◌, Option, Some, None, Result, Ok, Err}
-use Rattle.tariff_syntax.specs.declared.conditions.LineFault.{LineFault}
-use Rattle.tariff_syntax.specs.declared.conditions.LineFault.TheVariants.{Bad, NoMemory}
+use Rattle.std.specs.Prelude.{◌≡◌, Err, None, Ok, Option, Result, Some}
+use Rattle.tariff_syntax.specs.declared.conditions.LineFault.{LineFault, TheVariants.{Bad, NoMemory}}
 
 -- reading gives something, and that needs memory
 abbrev pub ReadsAs : {Y : Type 0} → (needs : Y → Type 0) → Option Y → Type 0

@@ -1,12 +1,9 @@
 -- For proofs: what figures say, read byte by byte: numbers of one or two digits, dates and minutes, amounts. The law
 -- texts_are_parsed_as_they_read says what the answers mean.
-use Rattle.std.specs.Prelude.{ℕ, ◌+◌, ◌*◌, List, Option, Some, None, Result, Ok, Err, if◌then◌else◌, ◌&&◌}
-use Rattle.std.specs.Prelude.{nat_le, codes}
-use Rattle.taxi_units.specs.Number.{figure_in, number_of_width, decimal_read}
-use Rattle.taxi_units.specs.Reading.{◌>>=◌, word_at}
-use Rattle.taxi_units.specs.declared.decimal.NumberFault.{NumberFault}
-use Rattle.tariff_syntax.specs.Token.{Token}
-use Rattle.tariff_syntax.specs.Words.{figure_first, ended}
+use Rattle.std.specs.Prelude.{ℕ, ◌&&◌, ◌*◌, ◌+◌, Err, List, None, Ok, Option, Result, Some, codes, if◌then◌else◌}
+use Rattle.{std.specs.Prelude.{nat_le}, taxi_units.specs.Number.{decimal_read, figure_in, number_of_width}}
+use Rattle.taxi_units.specs.{Reading.{word_at}, declared.decimal.NumberFault.{NumberFault}}
+use Rattle.tariff_syntax.specs.{Common.{◌>>=◌}, Token.{Token}, Words.{ended, figure_first}}
 
 -- the two numbers of a text of two digits, `between`, and two digits
 unfoldable pub pair_read : (between : List ℕ) → List ℕ → Option (ℕ × ℕ)

@@ -1,14 +1,10 @@
 -- For proofs: conditions, read at the front of a list of tokens. The law texts_are_parsed_as_they_read says what the
 -- answers mean.
-use Rattle.std.specs.Prelude.{ℕ, zero, suc, List, [], ◌∷◌, Option, Some, None, if◌then◌else◌, nat_le, codes}
-use Rattle.std.specs.Str.{bytes_eq}
-use Rattle.taxi_units.specs.Reading.{◌>>=◌}
-use Rattle.tariff_syntax.specs.Atom.{atom_named}
+use Rattle.std.specs.Prelude.{[], ℕ, ◌∷◌, List, None, Option, Some, codes, if◌then◌else◌, nat_le, suc, zero}
+use Rattle.{std.specs.Str.{bytes_eq}, tariff_syntax.specs.{Atom.{atom_named}, Words.{after_sign, after_word, ended}}}
+use Rattle.tariff_syntax.specs.Common.{◌>>=◌}
+use Rattle.tariff_syntax.specs.{Condition.{Condition}, Token.{Token, figure, sign, word}, Weight.{weight}}
 use Rattle.tariff_syntax.specs.Condition as tree
-use Rattle.tariff_syntax.specs.Condition.{Condition}
-use Rattle.tariff_syntax.specs.Token.{Token, word, figure, sign}
-use Rattle.tariff_syntax.specs.Words.{after_word, after_sign, ended}
-use Rattle.tariff_syntax.specs.Weight.{weight}
 
 -- a reader gives the condition at the front of tokens, and the tokens after it
 abbrev pub Reader : Type 0

@@ -1,14 +1,9 @@
 -- For proofs: what a line says, read from its tokens. The law texts_are_parsed_as_they_read says what the answers mean.
-use Rattle.std.specs.Prelude.{ℕ, List, [], ◌∷◌, Option, Some, None, if◌then◌else◌, codes}
-use Rattle.std.specs.Str.{bytes_eq}
-use Rattle.drive_modes.specs.declared.meterage.Rounding.{Rounding}
-use Rattle.drive_modes.specs.declared.meterage.Rounding.TheVariants.{Behind, Ahead}
-use Rattle.taxi_units.specs.Reading.{◌>>=◌}
-use Rattle.tariff_syntax.specs.Figure.{number_first, amount_first, year_date_first}
-use Rattle.tariff_syntax.specs.Grammar.{when_read}
-use Rattle.tariff_syntax.specs.Token.{Token}
-use Rattle.tariff_syntax.specs.Tree.{Entry, step, positions, zones, holiday, supplement, initial, rate, minimum}
-use Rattle.tariff_syntax.specs.Words.{after_word, after_sign, word_first, ended}
+use Rattle.std.specs.{Prelude.{[], ℕ, ◌∷◌, List, None, Option, Some, codes, if◌then◌else◌}, Str.{bytes_eq}}
+use Rattle.tariff_syntax.specs.Common.{◌>>=◌, Ahead, Behind, Rounding}
+use Rattle.tariff_syntax.specs.{Figure.{amount_first, number_first, year_date_first}, Grammar.{when_read}}
+use Rattle.tariff_syntax.specs.{Token.{Token}, Words.{after_sign, after_word, ended, word_first}}
+use Rattle.tariff_syntax.specs.Tree.{Entry, holiday, initial, minimum, positions, rate, step, supplement, zones}
 
 -- the rounding that a word names, `behind` or `ahead`
 abbrev pub rounding_read : List ℕ → Option Rounding

@@ -31,3 +31,4 @@ pub mod Tree
 pub mod Weight
 pub mod Words
 pub mod Writable
+pub mod Common

@@ -1,13 +1,10 @@
 -- Rules: when a condition holds, and which line of a tariff holds first.
-use Rattle.std.specs.Prelude.{◌≡◌, ℕ, ◌*◌, Bool, true, false, not, ◌&&◌, ◌||◌, ◌==◌, if◌then◌else◌, nat_le, nat_lt}
-use Rattle.std.specs.Prelude.{List, All, Option, Some, None, take}
-use Rattle.std.specs.List.{position_from, slice_get}
-use Rattle.taxi_units.specs.Calendar.{date_of_place}
-use Rattle.tariff_syntax.specs.Condition as tree
-use Rattle.tariff_syntax.specs.Condition.{Condition}
+use Rattle.std.specs.{List.{position_from, slice_get}, Prelude.{nat_le, nat_lt, not, take, true}}
+use Rattle.std.specs.Prelude.{ℕ, ◌&&◌, ◌*◌, ◌==◌, ◌||◌, ◌≡◌, All, Bool, List, None, Option, Some, false, if◌then◌else◌}
+use Rattle.{taxi_units.specs.Calendar.{date_of_place}, tariff_syntax.specs.{Condition.{Condition}, Tree.{Entry, Tree}}}
 use Rattle.tariff_syntax.specs.Choices.{choices, conditions_of, initial_part, minimum_part, rate_part}
-use Rattle.tariff_syntax.specs.Tree.{Tree, Entry}
-use Rattle.tariff_syntax.specs.declared.context.Context.{Context}
+use Rattle.tariff_syntax.specs.Common.{Context}
+use Rattle.tariff_syntax.specs.Condition as tree
 
 -- a number is within a range if it is from the first end to the second, both included; if the first is the greater one,
 -- if it is from the first end on or up to the second

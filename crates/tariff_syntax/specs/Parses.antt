@@ -1,15 +1,9 @@
 -- For proofs: what the parser of a whole text answers, by the stages of the code. The law texts_are_parsed_as_they_read
 -- says what the answers mean.
-use Rattle.std.specs.Prelude.{◌≡◌, ℕ, ◌<◌, ◌≤◌, List, [], ◌∷◌, length, map, Option, Some, None, Result, Ok, Err, ⊤}
-use Rattle.tariff_syntax.specs.Faults.{ReadsAs}
-use Rattle.tariff_syntax.specs.Items.{item_read}
-use Rattle.tariff_syntax.specs.Parsed.{tree_parsed}
-use Rattle.tariff_syntax.specs.Token.{Token}
-use Rattle.tariff_syntax.specs.Tree.{Tree, tree_of, line_of, Line}
-use Rattle.tariff_syntax.specs.declared.parsing.ParseFault.{ParseFault}
-use Rattle.tariff_syntax.specs.declared.parsing.ParseFault.TheVariants.{TooLong, Syntax, NoMemory}
-use Rattle.tariff_syntax.specs.declared.tariff.Tariff.{Tariff}
-use Rattle.tariff_syntax.specs.declared.tariff.TariffLine.{TariffLine}
+use Rattle.std.specs.Prelude.{[], ℕ, ⊤, ◌<◌, ◌∷◌, ◌≡◌, ◌≤◌, Err, List, None, Ok, Option, Result, Some, length, map}
+use Rattle.tariff_syntax.specs.{Common.{NoMemory, ParseFault, Syntax, TooLong}, declared.tariff.TariffLine.{TariffLine}}
+use Rattle.tariff_syntax.specs.{Faults.{ReadsAs}, Parsed.{tree_parsed}, Token.{Token}}
+use Rattle.tariff_syntax.specs.{Items.{item_read}, Tree.{Line, Tree, line_of, tree_of}, declared.tariff.Tariff.{Tariff}}
 
 -- the tokens of a line say an entry
 abbrev pub HasEntry : (decimals : ℕ) → List Token → Type 0

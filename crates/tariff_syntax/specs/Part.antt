@@ -1,7 +1,5 @@
 -- Rules: what the lines of a tariff are made of.
-use Rattle.std.specs.Prelude.{ℕ, List, Option}
-use Rattle.drive_modes.specs.declared.meterage.Rounding.{Rounding}
-use Rattle.tariff_syntax.specs.Condition.{Condition}
+use Rattle.{std.specs.Prelude.{ℕ, List, Option}, tariff_syntax.specs.{Common.{Rounding}, Condition.{Condition}}}
 
 -- these parts of a line always stand: a word, a comma, an amount of money, a distance or a time, a number of a range, a
 -- date of a year; these may be left out: a rounding, a covered amount, a condition

@@ -1,14 +1,9 @@
 -- Rules: the printed form of a tariff. Each part is spelled in front of what follows it, its rest.
-use Rattle.std.specs.Prelude.{ℕ, List, [], ◌∷◌, ◌++◌, Option, Some, None, codes}
-use Rattle.std.specs.Fmt.{decimal}
-use Rattle.taxi_units.specs.Number.{money_text, padded_text}
-use Rattle.drive_modes.specs.declared.meterage.Rounding.{Rounding}
-use Rattle.drive_modes.specs.declared.meterage.Rounding.TheVariants.{Behind, Ahead}
-use Rattle.tariff_syntax.specs.Condition.{Condition}
-use Rattle.tariff_syntax.specs.Part as part
+use Rattle.std.specs.{Fmt.{decimal}, Prelude.{[], ℕ, ◌++◌, ◌∷◌, List, None, Option, Some, codes}}
+use Rattle.tariff_syntax.specs.{Common.{Ahead, Behind, Rounding, money_text, padded_text}, Condition.{Condition}}
 use Rattle.tariff_syntax.specs.Part.{Part}
-use Rattle.tariff_syntax.specs.PrintedCondition.{condition_text}
-use Rattle.tariff_syntax.specs.Tree.{Tree, Line, Entry, parts_of, word_of}
+use Rattle.tariff_syntax.specs.{PrintedCondition.{condition_text}, Tree.{Entry, Line, Tree, parts_of, word_of}}
+use Rattle.tariff_syntax.specs.Part as part
 
 -- the word of a rounding to the display step is `behind` or `ahead`
 abbrev pub rounding_word : Rounding → List ℕ

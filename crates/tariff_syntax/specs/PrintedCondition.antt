@@ -1,10 +1,7 @@
 -- Rules: the printed form of a condition. Each part is spelled in front of what follows it, its rest.
-use Rattle.std.specs.Prelude.{ℕ, ◌/◌, ◌%◌, List, ◌++◌, Bool, true, false, if◌then◌else◌, ◌==◌, codes}
-use Rattle.std.specs.Fmt.{decimal}
-use Rattle.taxi_units.specs.Number.{money_text, padded_text}
-use Rattle.tariff_syntax.specs.Condition.{Condition, and, or, not, position, zone, time, day, date, holiday}
-use Rattle.tariff_syntax.specs.Condition.{after_distance, after_time}
-use Rattle.taxi_units.specs.Weekdays.{day_name}
+use Rattle.std.specs.{Fmt.{decimal}, Prelude.{ℕ, ◌%◌, ◌++◌, ◌/◌, ◌==◌, Bool, List, codes, false, if◌then◌else◌, true}}
+use Rattle.tariff_syntax.specs.{Common.{day_name, money_text, padded_text}, Condition.{position, time, zone}}
+use Rattle.tariff_syntax.specs.Condition.{Condition, after_distance, after_time, and, date, day, holiday, not, or}
 
 -- weekdays are printed as the first one's short name, and if the last one is another, `..` and its short name
 abbrev pub days_text : (from to : ℕ) → List ℕ → List ℕ
@@ -47,10 +44,10 @@ in_parentheses true text rest = codes "(" ++ text (codes ")" ++ rest)
 abbrev pub condition_at : Level → Condition → List ℕ → List ℕ
 condition_at level (or left right) rest =
     in_parentheses (or_is_closed level) (λ end. condition_at whole left
-        (codes " or " ++ condition_at term right end)) rest
+    (codes " or " ++ condition_at term right end)) rest
 condition_at level (and left right) rest =
     in_parentheses (and_is_closed level) (λ end. condition_at term left
-        (codes " and " ++ condition_at factor right end)) rest
+    (codes " and " ++ condition_at factor right end)) rest
 condition_at level (not inner) rest = codes "not " ++ condition_at factor inner rest
 condition_at level (position n) rest = codes "position " ++ (decimal n ++ rest)
 condition_at level (zone n) rest = codes "zone " ++ (decimal n ++ rest)

@@ -1,15 +1,9 @@
 -- Rules: what a text says. It is cut into lines; the first line that has tokens may say the decimals; each further one
 -- says an entry.
-use Rattle.std.specs.Prelude.{◌≡◌, ℕ, ◌+◌, ◌<◌, ◌≤◌, ◌⊎◌, List, [], ◌∷◌, length, Result, Ok, Err}
-use Rattle.std.specs.List.{AllPairs}
-use Rattle.tariff_syntax.specs.IsItem.{IsItem, IsDecimals}
-use Rattle.tariff_syntax.specs.TextLines.{lines_of}
-use Rattle.tariff_syntax.specs.Spelled.{IsSpelled}
-use Rattle.tariff_syntax.specs.Token.{Token}
-use Rattle.tariff_syntax.specs.Tree.{Tree, Line, Entry, tree_of}
-use Rattle.tariff_syntax.specs.declared.parsing.ParseFault.{ParseFault}
-use Rattle.tariff_syntax.specs.declared.parsing.ParseFault.TheVariants.{TooLong, Syntax, NoMemory}
-use Rattle.tariff_syntax.specs.declared.tariff.Tariff.{Tariff}
+use Rattle.std.specs.{List.{AllPairs}, Prelude.{[], ℕ, ◌+◌, ◌<◌, ◌∷◌, ◌≡◌, ◌≤◌, ◌⊎◌, Err, List, Ok, Result, length}}
+use Rattle.tariff_syntax.specs.{Common.{NoMemory, ParseFault, Syntax, TooLong}, Tree.{Entry, Line, Tree, tree_of}}
+use Rattle.tariff_syntax.specs.{IsItem.{IsDecimals, IsItem}, TextLines.{lines_of}, declared.tariff.Tariff.{Tariff}}
+use Rattle.tariff_syntax.specs.{Spelled.{IsSpelled}, Token.{Token}}
 
 -- a line is empty if it has nothing but blanks and perhaps a comment
 abbrev pub IsEmpty : List ℕ → Type 0

@@ -1,7 +1,7 @@
 -- Rules: how tokens stand in a line.
-use Rattle.std.specs.Prelude.{◌≡◌, ℕ, ◌<◌, List, [], ◌∷◌, ◌++◌, length, Bool, true, false, ◌==◌, ◌&&◌, ⊤}
 use Rattle.std.specs.Char.{is_ascii_digit}
-use Rattle.tariff_syntax.specs.Token.{Token, word, figure, sign, is_blank, is_letter, begins_with_digit, goes_on}
+use Rattle.std.specs.Prelude.{[], ℕ, ⊤, ◌&&◌, ◌++◌, ◌<◌, ◌==◌, ◌∷◌, ◌≡◌, Bool, List, false, length, true}
+use Rattle.tariff_syntax.specs.Token.{Token, begins_with_digit, figure, goes_on, is_blank, is_letter, sign, word}
 
 -- a text before a rest is a run of a test if each of its bytes passes the test, which also sees what follows the byte,
 -- and the first byte of the rest doesn't pass

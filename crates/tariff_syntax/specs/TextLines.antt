@@ -1,5 +1,5 @@
 -- Rules: the lines of a text of a tariff.
-use Rattle.std.specs.Prelude.{◌≡◌, ◌≢◌, ℕ, ◌⊎◌, List, [], ◌∷◌, ◌++◌, All, Bool, not, if◌then◌else◌, ◌==◌}
+use Rattle.std.specs.Prelude.{[], ℕ, ◌++◌, ◌==◌, ◌∷◌, ◌≡◌, ◌≢◌, ◌⊎◌, All, Bool, List, if◌then◌else◌, not}
 
 -- a byte in front of lines begins the first of them, or is a line if there is none
 abbrev pub in_front : ℕ → List (List ℕ) → List (List ℕ)

@@ -1,8 +1,7 @@
 -- Rules: the tokens of a line.
-use Rattle.std.specs.Prelude.{ℕ, List, [], ◌∷◌, Bool, false, ◌||◌, ◌&&◌, ◌==◌}
 use Rattle.std.specs.Char.{is_ascii_digit, is_ascii_lowercase}
-use Rattle.tariff_syntax.specs.declared.tokens.Token.{Token as Piece}
-use Rattle.tariff_syntax.specs.declared.tokens.Token.TheVariants.{Word, Figure, Sign}
+use Rattle.std.specs.Prelude.{[], ℕ, ◌&&◌, ◌==◌, ◌||◌, ◌∷◌, Bool, List, false}
+use Rattle.tariff_syntax.specs.declared.tokens.Token.{Token as Piece, TheVariants.{Figure, Sign, Word}}
 
 -- a token is a word, which is letters, a figure, which begins with a digit, or a sign, which is any other text
 pub data Token : Type 0 where

@@ -1,9 +1,8 @@
 -- For proofs: the tokens of a line, read one after another. The law texts_are_parsed_as_they_read says what the answers
 -- mean.
-use Rattle.std.specs.Prelude.{ℕ, zero, suc, ◌+◌, List, [], ◌∷◌, length, take, drop, Option, Some, None, Bool}
-use Rattle.std.specs.Prelude.{if◌then◌else◌, ◌&&◌, ◌==◌}
-use Rattle.std.specs.Char.{is_ascii_digit, is_ascii_lowercase}
-use Rattle.tariff_syntax.specs.Token.{Token, word, figure, sign, is_blank, is_letter, goes_on}
+use Rattle.std.specs.{Char.{is_ascii_digit, is_ascii_lowercase}, Prelude.{suc, take, zero}}
+use Rattle.std.specs.Prelude.{[], ℕ, ◌&&◌, ◌+◌, ◌==◌, ◌∷◌, Bool, List, None, Option, Some, drop, if◌then◌else◌, length}
+use Rattle.tariff_syntax.specs.Token.{Token, figure, goes_on, is_blank, is_letter, sign, word}
 
 -- the number of bytes at the front of a text that pass a test, which also sees what stands after the byte
 abbrev pub run_end : (ℕ → List ℕ → Bool) → List ℕ → ℕ

@@ -1,14 +1,10 @@
 -- Rules: a tariff, without where it lies in memory.
-use Rattle.std.specs.Prelude.{ℕ, List, [], ◌∷◌, map, Option, None, codes}
-use Rattle.drive_modes.specs.declared.meterage.Rounding.{Rounding}
-use Rattle.tariff_syntax.specs.Condition.{Condition, condition_if}
-use Rattle.tariff_syntax.specs.Part as part
+use Rattle.std.specs.Prelude.{[], ℕ, ◌∷◌, List, None, Option, codes, map}
+use Rattle.tariff_syntax.specs.{Common.{Rounding}, Condition.{Condition, condition_if}, declared.tariff.Tariff.{Tariff}}
 use Rattle.tariff_syntax.specs.Part.{Part}
-use Rattle.tariff_syntax.specs.declared.tariff.Item.{Item}
-use Rattle.tariff_syntax.specs.declared.tariff.Item.TheVariants.{Step, Positions, Zones, Holiday, Supplement, Initial}
-use Rattle.tariff_syntax.specs.declared.tariff.Item.TheVariants.{Rate, Minimum}
-use Rattle.tariff_syntax.specs.declared.tariff.Tariff.{Tariff}
-use Rattle.tariff_syntax.specs.declared.tariff.TariffLine.{TariffLine}
+use Rattle.tariff_syntax.specs.declared.tariff.{Item.{Item, TheVariants.{Supplement, Zones}}, TariffLine.{TariffLine}}
+use Rattle.tariff_syntax.specs.declared.tariff.Item.TheVariants.{Holiday, Initial, Minimum, Positions, Rate, Step}
+use Rattle.tariff_syntax.specs.Part as part
 
 -- an entry is what a line says: money in units of the last decimal, distances in decimetres, times in tenths of a
 -- second

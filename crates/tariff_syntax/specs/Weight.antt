@@ -1,7 +1,6 @@
 -- For proofs: how the reader counts a condition, before it reads it, by the words and signs with which its parts begin.
-use Rattle.std.specs.Prelude.{ℕ, ◌+◌, List, [], ◌∷◌, Bool, if◌then◌else◌, ◌||◌, codes}
-use Rattle.std.specs.Str.{bytes_eq}
-use Rattle.tariff_syntax.specs.Token.{Token, word, figure, sign}
+use Rattle.std.specs.{Prelude.{[], ℕ, ◌+◌, ◌||◌, ◌∷◌, Bool, List, codes, if◌then◌else◌}, Str.{bytes_eq}}
+use Rattle.tariff_syntax.specs.Token.{Token, figure, sign, word}
 
 -- a test whether an atom or a `not` begins with the word
 abbrev pub is_counted : List ℕ → Bool

@@ -1,8 +1,7 @@
 -- For proofs: the word, the sign or the figure that stands first in a list of tokens. The law
 -- texts_are_parsed_as_they_read says what the answers mean.
-use Rattle.std.specs.Prelude.{ℕ, List, [], ◌∷◌, Option, Some, None, if◌then◌else◌}
-use Rattle.std.specs.Str.{bytes_eq}
-use Rattle.tariff_syntax.specs.Token.{Token, word, figure, sign}
+use Rattle.std.specs.{Prelude.{[], ℕ, ◌∷◌, List, None, Option, Some, if◌then◌else◌}, Str.{bytes_eq}}
+use Rattle.tariff_syntax.specs.Token.{Token, figure, sign, word}
 
 -- the tokens after the word, if it stands first
 unfoldable pub after_word : (text : List ℕ) → List Token → Option (List Token)

@@ -1,10 +1,8 @@
 -- Rules: the tariffs whose numbers a text can have.
-use Rattle.std.specs.Prelude.{ℕ, ◌^◌, ◌≤◌, Option, Some, None, All}
+use Rattle.std.specs.Prelude.{ℕ, ◌^◌, ◌≤◌, All, None, Option, Some}
+use Rattle.tariff_syntax.specs.{Condition.{Condition}, Part.{Part}, Tree.{Entry, Line, Tree, parts_of}}
 use Rattle.tariff_syntax.specs.Condition as tree
-use Rattle.tariff_syntax.specs.Condition.{Condition}
 use Rattle.tariff_syntax.specs.Part as part
-use Rattle.tariff_syntax.specs.Part.{Part}
-use Rattle.tariff_syntax.specs.Tree.{Tree, Line, Entry, parts_of}
 
 -- a number is from one to another if it is neither below the least nor above the most
 abbrev pub IsFromTo : (least most n : ℕ) → Type 0

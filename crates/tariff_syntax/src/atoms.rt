@@ -1,11 +1,9 @@
 //! The atoms of a condition.
 #![tactic(auto, unfolding(crate::specs::Atom::numbered_first))]
 
-ghost use Rattle.taxi_units.specs.Reading.{Gives, GivesSame};
+ghost use Rattle.tariff_syntax.specs.{Common.{Gives, GivesSame}, Condition.{condition_of}, TokenReading.{tokens_of}};
 ghost use Rattle.tariff_syntax.specs.Atom as spec;
 ghost use Rattle.tariff_syntax.specs.Condition as tree;
-ghost use Rattle.tariff_syntax.specs.Condition.{condition_of};
-ghost use Rattle.tariff_syntax.specs.TokenReading.{tokens_of};
 
 use crate::condition::Cond;
 use crate::figures::{amount_first, date_first, minute_first, number_first};

@@ -1,7 +1,6 @@
 //! Builds a condition of its parts, any of which may be missing if memory ran out.
-ghost use Rattle.tariff_syntax.specs.Built.{IsBuilt};
+ghost use Rattle.tariff_syntax.specs.{Built.{IsBuilt}, Condition.{Condition}};
 ghost use Rattle.tariff_syntax.specs.Condition as tree;
-ghost use Rattle.tariff_syntax.specs.Condition.{Condition};
 
 use crate::condition::Cond;
 use std::alloc::Global;

@@ -1,17 +1,13 @@
 //! Reads conditions.
-ghost use Rattle.std.specs.Prelude.{◌≡◌, ◌≤◌, length, if◌then◌else◌};
-ghost use Rattle.tariff_syntax.specs.Built.{Builds, HasParts, HasPartsIf, IsBuilt};
-ghost use Rattle.tariff_syntax.specs.Condition.{Condition, condition_of, condition_if};
-ghost use Rattle.tariff_syntax.specs.Faults.{GivesOrFails};
+ghost use Rattle.std.specs.Prelude.{◌≡◌, ◌≤◌, if◌then◌else◌, length};
+ghost use Rattle.tariff_syntax.specs.{Built.{Builds, HasParts, HasPartsIf, IsBuilt}, TokenReading.{tokens_of}};
+ghost use Rattle.tariff_syntax.specs.{Condition.{Condition, condition_if, condition_of}, Grammar.{term_by, when_read}};
+ghost use Rattle.tariff_syntax.specs.{Faults.{GivesOrFails}, Joints.{joined_by}, Weight.{token_weight}};
+ghost use Rattle.tariff_syntax.specs.Grammar.{chain_on, closed_after, condition_by, factor_by, factor_first, negated};
+ghost use Rattle.tariff_syntax.specs.Token.{token_of};
 ghost use Rattle.tariff_syntax.specs.Grammar as spec;
 ghost use Rattle.tariff_syntax.specs.Joints as joints;
-ghost use Rattle.tariff_syntax.specs.Joints.{joined_by};
 ghost use Rattle.tariff_syntax.specs.Weight as weights;
-ghost use Rattle.tariff_syntax.specs.Grammar.{condition_by, term_by, factor_by, factor_first, chain_on, negated};
-ghost use Rattle.tariff_syntax.specs.Grammar.{closed_after, when_read};
-ghost use Rattle.tariff_syntax.specs.Weight.{token_weight};
-ghost use Rattle.tariff_syntax.specs.Token.{token_of};
-ghost use Rattle.tariff_syntax.specs.TokenReading.{tokens_of};
 
 use crate::atoms::atom_named;
 use crate::building::{Built, and, not, or};

@@ -1,8 +1,7 @@
 //! Reads figures: numbers of one or two digits, amounts, dates and minutes.
 ghost use Rattle.std.specs.Prelude.{◌≤◌, IfSome};
-ghost use Rattle.taxi_units.specs.Reading.{Gives, GivesSame};
+ghost use Rattle.tariff_syntax.specs.{Common.{Gives, GivesSame}, TokenReading.{tokens_of}};
 ghost use Rattle.tariff_syntax.specs.Figure as spec;
-ghost use Rattle.tariff_syntax.specs.TokenReading.{tokens_of};
 
 use crate::words::figure_first;
 use taxi_units::{figure_in, number_of_width, read_decimal, word};

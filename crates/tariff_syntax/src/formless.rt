@@ -1,7 +1,6 @@
 //! The lines of a text that have none of the forms of a line.
-ghost use Rattle.std.specs.Prelude.{◌≡◌, ◌+◌, ◌<◌, ◌≤◌, ◌^◌, IfOk, length};
-ghost use Rattle.tariff_syntax.specs.BadLines.{bad_from, bad_lines};
-ghost use Rattle.tariff_syntax.specs.TextLines.{lines_of};
+ghost use Rattle.std.specs.Prelude.{◌+◌, ◌<◌, ◌^◌, ◌≡◌, ◌≤◌, IfOk, length};
+ghost use Rattle.tariff_syntax.specs.{BadLines.{bad_from, bad_lines}, TextLines.{lines_of}};
 
 use crate::parsing::{first_line, heading, is_bad};
 use std::alloc::Global;

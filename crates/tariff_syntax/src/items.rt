@@ -1,13 +1,9 @@
 //! Reads what a line says.
 ghost use Rattle.std.specs.Prelude.{◌≤◌, IfSome};
-ghost use Rattle.taxi_units.specs.Reading.{Gives, GivesSame};
-ghost use Rattle.tariff_syntax.specs.Built.{EntryHasParts};
-ghost use Rattle.tariff_syntax.specs.Faults.{GivesOrFails};
+ghost use Rattle.tariff_syntax.specs.{Built.{EntryHasParts}, Faults.{GivesOrFails}, TokenReading.{tokens_of}};
+ghost use Rattle.tariff_syntax.specs.{Common.{Gives, GivesSame}, Items.{supplement_read, zones_read}, Tree.{entry_of}};
+ghost use Rattle.tariff_syntax.specs.Items.{count_read, holiday_read, item_read, positions_read, step_read};
 ghost use Rattle.tariff_syntax.specs.Items as spec;
-ghost use Rattle.tariff_syntax.specs.Items.{step_read, count_read, positions_read, zones_read, holiday_read};
-ghost use Rattle.tariff_syntax.specs.Items.{supplement_read, item_read};
-ghost use Rattle.tariff_syntax.specs.TokenReading.{tokens_of};
-ghost use Rattle.tariff_syntax.specs.Tree.{entry_of};
 
 use crate::conditions::{LineFault, when};
 use crate::figures::{amount_first, number_first, year_date_first};

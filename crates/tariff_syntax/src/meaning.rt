@@ -1,9 +1,8 @@
 //! Whether a condition holds, and which rate, which initial hire fee and which minimum fare hold first.
 ghost use Rattle.std.specs.Prelude.{◌≡◌};
-ghost use Rattle.tariff_syntax.specs.Condition.{condition_of, condition_if};
-ghost use Rattle.tariff_syntax.specs.Meaning.{holds, holds_if, is_by, is_in_dates, is_in_time, is_on, is_within};
-ghost use Rattle.tariff_syntax.specs.Meaning.{rate_place, initial_place, minimum_place, at_hiring};
-ghost use Rattle.tariff_syntax.specs.Tree.{tree_of};
+ghost use Rattle.tariff_syntax.specs.{Condition.{condition_if, condition_of}, Tree.{tree_of}};
+ghost use Rattle.tariff_syntax.specs.Meaning.{at_hiring, holds, holds_if, initial_place, is_by, is_in_dates};
+ghost use Rattle.tariff_syntax.specs.Meaning.{is_in_time, is_on, is_within, minimum_place, rate_place};
 
 use crate::condition::Cond;
 use crate::context::Context;

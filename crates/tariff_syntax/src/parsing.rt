@@ -1,16 +1,12 @@
 //! Reads a whole tariff.
 #![tactic(auto, unfolding(crate::specs::Parsed::entries_read))]
 
-ghost use Rattle.std.specs.Prelude.{◌≡◌, ◌+◌, ◌<◌, ◌≤◌, ◌^◌, ◌∷◌, [], ℕ, List, Result, length, map, MatchOption, IfOk};
-ghost use Rattle.std.specs.Prelude.{OnOk, OnErr, Err, Some, drop, is_none, if◌then◌else◌};
-ghost use Rattle.tariff_syntax.specs.BadLines.{is_bad};
-ghost use Rattle.tariff_syntax.specs.Items.{item_read};
-ghost use Rattle.tariff_syntax.specs.Parsed.{before, line_read, entries_read, heading_read};
-ghost use Rattle.tariff_syntax.specs.TextLines.{lines_of, is_inner};
-ghost use Rattle.tariff_syntax.specs.Parses.{AreRead, HasEntry, IsAnswer, IsFaultBelow, bad_in};
-ghost use Rattle.tariff_syntax.specs.Reads.{IsParsed};
-ghost use Rattle.tariff_syntax.specs.TokenReading.{run_end, tokens_of};
-ghost use Rattle.tariff_syntax.specs.Tree.{Line, line_of};
+ghost use Rattle.std.specs.Prelude.{[], ℕ, ◌+◌, ◌<◌, ◌^◌, ◌∷◌, ◌≡◌, ◌≤◌, Err, IfOk, List, MatchOption, OnErr, OnOk};
+ghost use Rattle.std.specs.Prelude.{Result, Some, drop, if◌then◌else◌, is_none, length, map};
+ghost use Rattle.tariff_syntax.specs.{BadLines.{is_bad}, Parsed.{before, entries_read, heading_read, line_read}};
+ghost use Rattle.tariff_syntax.specs.{Items.{item_read}, Reads.{IsParsed}};
+ghost use Rattle.tariff_syntax.specs.{Parses.{AreRead, HasEntry, IsAnswer, IsFaultBelow, bad_in}, Tree.{Line, line_of}};
+ghost use Rattle.tariff_syntax.specs.{TextLines.{is_inner, lines_of}, TokenReading.{run_end, tokens_of}};
 
 use crate::conditions::LineFault;
 use crate::items::{decimals, item};

@@ -1,12 +1,8 @@
 //! Writes the printed form of a condition.
-ghost use Rattle.std.specs.Prelude.{◌≡◌, ◌++◌, OnOk, codes, true};
-ghost use Rattle.std.specs.Fmt.{decimal};
-ghost use Rattle.taxi_units.specs.Number.{padded_text, money_text};
-ghost use Rattle.tariff_syntax.specs.Appends.{Appends};
-ghost use Rattle.tariff_syntax.specs.Condition.{condition_of};
-ghost use Rattle.tariff_syntax.specs.PrintedCondition.{condition_at, in_parentheses, whole, term, factor, days_text};
-ghost use Rattle.tariff_syntax.specs.PrintedCondition.{minute_text, date_text};
-ghost use Rattle.taxi_units.specs.Weekdays.{day_name};
+ghost use Rattle.std.specs.{Fmt.{decimal}, Prelude.{◌++◌, ◌≡◌, OnOk, codes, true}};
+ghost use Rattle.tariff_syntax.specs.{Appends.{Appends}, Common.{day_name, money_text, padded_text}};
+ghost use Rattle.tariff_syntax.specs.{Condition.{condition_of}, PrintedCondition.{minute_text, term, whole}};
+ghost use Rattle.tariff_syntax.specs.PrintedCondition.{condition_at, date_text, days_text, factor, in_parentheses};
 
 use crate::condition::Cond;
 use crate::printing::push_money;

@@ -1,6 +1,6 @@
 //! A tariff, as the tree of its lines. Money is counted in the units of the tariff's last decimal,
 //! distances in decimetres, and times in tenths of a second.
-ghost use Rattle.std.specs.Prelude.{◌≡◌, [], ◌∷◌, ◌++◌, OnOk, OnErr};
+ghost use Rattle.std.specs.Prelude.{[], ◌++◌, ◌∷◌, ◌≡◌, OnErr, OnOk};
 
 use crate::condition::Cond;
 use drive_modes::Rounding;
@@ -95,10 +95,9 @@ pub struct Lines {
 }
 
 impl Model for Lines {
-    ghost use Rattle.std.specs.Coded.{codes};
-    ghost use Rattle.std.specs.Prelude.{List};
-    ghost use Rattle.tariff_syntax.specs.contracts.condition.Cond as condition;
+    ghost use Rattle.std.specs.{Coded.{codes}, Prelude.{List}};
     ghost use Rattle.tariff_syntax.specs.declared.tariff.TariffLine.{TariffLine};
+    ghost use Rattle.tariff_syntax.specs.contracts.condition.Cond as condition;
 
     ghost Value = { List TariffLine };
 

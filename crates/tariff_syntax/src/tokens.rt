@@ -1,10 +1,9 @@
 //! Reads a line from its front, a token at a time.
-ghost use Rattle.std.specs.Prelude.{◌≡◌, ◌+◌, ◌<◌, ◌≤◌, ◌∷◌, [], length, MatchOption};
-ghost use Rattle.taxi_units.specs.Reading.{Gives};
+ghost use Rattle.std.specs.Prelude.{[], ◌+◌, ◌<◌, ◌∷◌, ◌≡◌, ◌≤◌, MatchOption, length};
+ghost use Rattle.tariff_syntax.specs.{Common.{Gives}, Token.{is_blank, is_letter, token_of}};
+ghost use Rattle.tariff_syntax.specs.TokenReading.{run_end, sign_end, token_at, token_here, tokens_of};
 ghost use Rattle.tariff_syntax.specs.Token as spec;
 ghost use Rattle.tariff_syntax.specs.TokenReading as reading;
-ghost use Rattle.tariff_syntax.specs.Token.{token_of, is_blank, is_letter};
-ghost use Rattle.tariff_syntax.specs.TokenReading.{token_at, token_here, run_end, sign_end, tokens_of};
 
 /// A token. A sign is `..` or any byte that no other token begins with.
 #[derive(Clone, Copy)]

@@ -1,9 +1,7 @@
 //! Words, signs and figures at the front of a line.
-ghost use Rattle.std.specs.Str.{bytes_eq};
-ghost use Rattle.taxi_units.specs.Reading.{Gives};
-ghost use Rattle.tariff_syntax.specs.TokenReading.{tokens_of};
+ghost use Rattle.std.specs.{Prelude.{[], ◌↔◌, ◌≡◌, IsTrue}, Str.{bytes_eq}};
+ghost use Rattle.tariff_syntax.specs.{Common.{Gives}, TokenReading.{tokens_of}};
 ghost use Rattle.tariff_syntax.specs.Words as spec;
-ghost use Rattle.std.specs.Prelude.{◌≡◌, ◌↔◌, [], IsTrue};
 
 use crate::tokens::{Token, first_token};
 

@@ -1,13 +1,10 @@
 //! Writes the printed form of a tariff.
-ghost use Rattle.std.specs.Prelude.{◌≡◌, ◌≤◌, ◌++◌, [], IfOk, OnOk, codes, map};
-ghost use Rattle.std.specs.Fmt.{decimal};
-ghost use Rattle.taxi_units.specs.Number.{money_text};
+ghost use Rattle.std.specs.{Fmt.{decimal}, Prelude.{[], ◌++◌, ◌≡◌, ◌≤◌, IfOk, OnOk, codes, map}};
 ghost use Rattle.tariff_syntax.specs.Appends.{Appends};
-ghost use Rattle.tariff_syntax.specs.Condition.{condition_of, condition_if};
-ghost use Rattle.tariff_syntax.specs.PrintedCondition.{condition_text};
-ghost use Rattle.tariff_syntax.specs.Printed.{printed_form, number_line, entry_line, lines_text, when_text};
+ghost use Rattle.tariff_syntax.specs.{Common.{money_text}, Tree.{entry_of, line_of, tree_of, without_when}};
+ghost use Rattle.tariff_syntax.specs.{Condition.{condition_if, condition_of}, PrintedCondition.{condition_text}};
+ghost use Rattle.tariff_syntax.specs.Printed.{entry_line, lines_text, number_line, printed_form, when_text};
 ghost use Rattle.tariff_syntax.specs.Tree as tree;
-ghost use Rattle.tariff_syntax.specs.Tree.{tree_of, entry_of, line_of, without_when};
 
 use crate::condition::Cond;
 use crate::printing::{push_money, push_per, push_rounding};

@@ -1,7 +1,7 @@
 //! The taximeter: the program.
 #![tactic(auto)]
 
-ghost use Rattle.std.specs.Prelude.{◌≡◌, ◌<◌};
+ghost use Rattle.std.specs.Prelude.{◌<◌, ◌≡◌};
 
 use commands::{Row, row_in, taxi};
 use outside::{FileBoard, HostFiles, program_words};

@@ -1,16 +1,11 @@
 -- What is written as an amount is read as that amount.
-use Rattle.std.proofs.Common.{◌≡◌, ℕ, zero, suc, ◌+◌, ◌-◌, ◌*◌, ◌/◌, ◌%◌, ◌^◌, ◌<◌, ◌≤◌, List, [], ◌∷◌, ◌++◌, length}
-use Rattle.std.proofs.Common.{refl, ap, ◌∙◌, arith, Ok}
-use Rattle.std.specs.Fmt.{decimal}
-use Rattle.std.specs.Char.{digit_value}
-use Rattle.std.specs.Str.Parse.{IsNumeral, digits_value, digits_value_after}
-use Rattle.std.proofs.Math.Nat.{one-le-pow, pow-suc, add-mul, mul_assoc, mul_comm, div-le_self, mod-lt}
-use Rattle.std.proofs.lemmas.Nat.{div-add-mod'}
-use Rattle.std.proofs.lemmas.Fmt.{decimal_is_IsNumeral_wide}
-use Rattle.taxi_units.specs.Number.{padded_text, money_text, units_of, decimal_read}
+use Rattle.std.{specs.Char.{digit_value}, proofs.lemmas.{Fmt.{decimal_is_IsNumeral_wide}, Nat.{div-add-mod'}}}
+use Rattle.{std.specs.Fmt.{decimal}, taxi_units.specs.Number.{decimal_read, money_text, padded_text, units_of}}
+use Rattle.std.{specs.Str.Parse.{IsNumeral, digits_value, digits_value_after}, proofs.Common.{length, refl, suc, zero}}
+use Rattle.std.proofs.Common.{[], ℕ, ◌%◌, ◌*◌, ◌++◌, ◌+◌, ◌-◌, ◌/◌, ◌<◌, ◌^◌, ◌∙◌, ◌∷◌, ◌≡◌, ◌≤◌, List, Ok, ap, arith}
+use Rattle.std.proofs.Math.Nat.{add-mul, div-le_self, mod-lt, mul_assoc, mul_comm, one-le-pow, pow-suc}
 use Rattle.taxi_units.proofs.Digits.{value_append}
-use Rattle.taxi_units.proofs.Form.{with_point, read_form, units_good}
-use Rattle.taxi_units.proofs.Written.{digits_of_padded, padded_fills}
+use Rattle.taxi_units.proofs.{Form.{read_form, units_good, with_point}, Written.{digits_of_padded, padded_fills}}
 
 shifted : (n v p w : ℕ) → (n * 10 + v) * p + w ≡ n * (p * 10) + ((0 * 10 + v) * p + w)
 shifted n v p w =

@@ -1,5 +1,5 @@
 -- Lists that are appended one after the other.
-use Rattle.std.proofs.Common.{◌≡◌, List, ◌++◌, ◌∙◌, ap, append_assoc}
+use Rattle.std.proofs.Common.{◌++◌, ◌∙◌, ◌≡◌, List, ap, append_assoc}
 
 -- what was appended, and more behind it
 pub appended_behind : {X : Type 0} (start one two middle last : List X) → middle ≡ start ++ one → last ≡ middle ++ two

@@ -1,15 +1,10 @@
 -- Digits at the front of a text, and the numbers that they make.
-use Rattle.std.proofs.Common.{◌≡◌, ℕ, suc, ◌+◌, ◌-◌, ◌*◌, ◌^◌, ◌<◌, ◌≤◌, Bool, true, false, cond, List, [], ◌∷◌, ◌++◌}
-use Rattle.std.proofs.Common.{length, take, drop, get_or, refl, ap, sym, ◌∙◌, add-one, arith, drop-cons, Err, ltb}
-use Rattle.std.specs.Char.{is_ascii_digit, digit_value}
-use Rattle.std.specs.Str.Parse.{AllDigits, digits_value, digits_value_after}
-use Rattle.std.proofs.lemmas.Int.Digits.{digits_value-lt}
-use Rattle.std.proofs.Math.Nat.{one-le-pow, pow-suc, pow-le-pow_right, mul_assoc, mul-le-mul_left, le-mul_of_pos_right}
-use Rattle.std.proofs.lemmas.Bool.{le-ltb, lt-ltb}
-use Rattle.std.proofs.lemmas.Bool.Decides.{nat_tests}
-use Rattle.taxi_units.specs.declared.decimal.NumberFault.TheVariants.{TooBig}
-use Rattle.taxi_units.specs.Decimal.{units_of}
-use Rattle.taxi_units.specs.NumberStages.{digits_at_front, units_read}
+use Rattle.std.specs.{Char.{digit_value, is_ascii_digit}, Str.Parse.{AllDigits, digits_value, digits_value_after}}
+use Rattle.std.proofs.Common.{[], ℕ, ◌*◌, ◌++◌, ◌+◌, ◌-◌, ◌<◌, ◌^◌, ◌∙◌, ◌∷◌, ◌≡◌, ◌≤◌, Bool, Err, List, add-one, ap}
+use Rattle.std.proofs.Common.{arith, cond, drop, drop-cons, false, get_or, length, ltb, refl, suc, sym, take, true}
+use Rattle.std.proofs.Math.Nat.{le-mul_of_pos_right, mul-le-mul_left, mul_assoc, one-le-pow, pow-le-pow_right, pow-suc}
+use Rattle.std.proofs.lemmas.{Bool.{le-ltb, lt-ltb, Decides.{nat_tests}}, Int.Digits.{digits_value-lt}}
+use Rattle.taxi_units.specs.{Common.{TooBig}, Decimal.{units_of}, NumberStages.{digits_at_front, units_read}}
 
 one_more : (xs : List ℕ) (i : ℕ) → i < length xs → drop i xs ≡ get_or xs i 0 ∷ drop (i + 1) xs
 one_more xs i h = rw add-one (drop-cons xs i 0 h)

@@ -1,18 +1,11 @@
 -- Numbers of a width and a range are read by their digits.
-use Rattle.std.proofs.Common.{◌≡◌, ◌∙◌, ℕ, ◌+◌, ◌^◌, ◌<◌, ◌≤◌, ◌↔◌, true, List, [], ◌∷◌, ◌++◌, length, Option, Some}
-use Rattle.std.proofs.Common.{None, refl, sym, ap, subst, arith, length-append}
-use Rattle.std.specs.Fmt.{decimal}
-use Rattle.std.proofs.Math.Nat.{pow-le-pow_right}
-use Rattle.std.proofs.lemmas.Fmt.{decimal_is_IsNumeral_wide}
-use Rattle.std.proofs.lemmas.List.{append-nil}
-use Rattle.std.proofs.lemmas.Option.{cond_some}
-use Rattle.taxi_units.specs.Digits.{AreDigitsOf, IsFigure}
+use Rattle.{std.specs.Fmt.{decimal}, taxi_units.proofs.Lengths.{numbers_are_short, padded_numbers_fill_the_width}}
+use Rattle.std.proofs.Common.{[], ℕ, ◌++◌, ◌+◌, ◌<◌, ◌^◌, ◌↔◌, ◌∙◌, ◌∷◌, ◌≡◌, ◌≤◌, List, None, Option, Some, ap, arith}
+use Rattle.std.proofs.{Common.{length, length-append, refl, subst, sym, true}, lemmas.Fmt.{decimal_is_IsNumeral_wide}}
+use Rattle.std.proofs.{Math.Nat.{pow-le-pow_right}, lemmas.{List.{append-nil}, Option.{cond_some}}}
+use Rattle.taxi_units.{specs.{Digits.{AreDigitsOf, IsFigure}, Reading.{◌>>=◌}}, proofs.Written.{digits_of_padded}}
 use Rattle.taxi_units.specs.Number.{IsFigureAt, figure_at, figure_in, number_at, padded_text, where_alone, where_fits}
-use Rattle.taxi_units.specs.Reading.{◌>>=◌}
-use Rattle.taxi_units.specs.Test.{Test, at_most, same, within, ◌&◌}
-use Rattle.taxi_units.proofs.Lengths.{numbers_are_short, padded_numbers_fill_the_width}
-use Rattle.taxi_units.proofs.Numbers.{numbers_are_read_by_their_digits}
-use Rattle.taxi_units.proofs.Written.{digits_of_padded}
+use Rattle.taxi_units.{specs.Test.{◌&◌, Test, at_most, same, within}, proofs.Numbers.{numbers_are_read_by_their_digits}}
 
 -- if reading goes on to a value, something was found first
 read_on : {A B : Type 0} (found : Option A) (on : A → Option B) (y : B) → found >>= on ≡ Some y

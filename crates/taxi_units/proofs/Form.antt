@@ -1,19 +1,13 @@
 -- A decimal text is read by its form.
-use Rattle.std.proofs.Common.{◌≡◌, ◌≢◌, ◌⊎◌, inl, inr, ℕ, ◌+◌, ◌^◌, ◌<◌, ◌≤◌, ◌↔◌, true, false, List, [], ◌∷◌, ◌++◌}
-use Rattle.std.proofs.Common.{length, take, drop, refl, ap, sym, ◌∙◌, subst, arith, Result, Ok, Err, eqb, append_assoc}
-use Rattle.std.proofs.Common.{length-append}
-use Rattle.std.specs.Char.{digit_value}
-use Rattle.std.specs.Str.Parse.{AllDigits, IsNumeral}
-use Rattle.std.proofs.Math.Seq.{take-length}
-use Rattle.std.proofs.lemmas.List.{append-nil, take-append-drop, take-take, take_at}
-use Rattle.std.proofs.lemmas.Bool.Decides.{eqb_tells}
-use Rattle.std.proofs.lemmas.Bool.{le-ltb, lt-ltb, ne_eqb, cases_lt}
-use Rattle.taxi_units.specs.declared.decimal.NumberFault.{NumberFault}
-use Rattle.taxi_units.specs.declared.decimal.NumberFault.TheVariants.{Empty, BadDigit, TooManyDecimals, TooBig}
-use Rattle.taxi_units.specs.Number.{NoDigitFirst, units_of, units_read, parts_read, counted_parts_read, decimal_read}
-use Rattle.taxi_units.specs.Decimal.{IsDecimal, HasDecimalForm, IsBegun, EndsEarly, IsWrongAt, BreaksAt, IsReadAs}
-use Rattle.taxi_units.proofs.Digits.{too_big}
-use Rattle.taxi_units.proofs.Front.{Front, front, read_front, read_none, read_other, parts_front}
+use Rattle.std.{specs.Char.{digit_value}, proofs.{Math.Seq.{take-length}, lemmas.Bool.Decides.{eqb_tells}}}
+use Rattle.std.{specs.Str.Parse.{AllDigits, IsNumeral}, proofs.lemmas.Bool.{cases_lt, le-ltb, lt-ltb, ne_eqb}}
+use Rattle.std.proofs.Common.{[], ℕ, ◌++◌, ◌+◌, ◌<◌, ◌^◌, ◌↔◌, ◌∙◌, ◌∷◌, ◌≡◌, ◌≢◌, ◌≤◌, ◌⊎◌, Err, List, Ok, Result, ap}
+use Rattle.std.proofs.Common.{append_assoc, arith, drop, eqb, false, inl, inr, length, length-append, refl, subst, sym}
+use Rattle.std.proofs.{Common.{take, true}, lemmas.List.{append-nil, take-append-drop, take-take, take_at}}
+use Rattle.taxi_units.specs.Common.{BadDigit, Empty, NumberFault, TooBig, TooManyDecimals}
+use Rattle.taxi_units.specs.Decimal.{BreaksAt, EndsEarly, HasDecimalForm, IsBegun, IsDecimal, IsReadAs, IsWrongAt}
+use Rattle.taxi_units.specs.Number.{NoDigitFirst, counted_parts_read, decimal_read, parts_read, units_of, units_read}
+use Rattle.taxi_units.proofs.{Digits.{too_big}, Front.{Front, front, parts_front, read_front, read_none, read_other}}
 
 -- digits, and what stands where they end, are found in one way
 split_same : (xs ys us vs : List ℕ) (c d : ℕ) → AllDigits 10 xs → 10 ≤ digit_value c → AllDigits 10 us

@@ -1,15 +1,10 @@
 -- A text, parted where its first digits end.
-use Rattle.std.proofs.Common.{◌≡◌, ◌≢◌, ◌⊎◌, inl, inr, ℕ, ◌<◌, ◌≤◌, ◌↔◌, true, false, List, [], ◌∷◌, ◌++◌, length, take}
-use Rattle.std.proofs.Common.{drop, refl, ap, sym, ◌∙◌, subst, arith, Err, eqb, length-append}
-use Rattle.std.specs.Char.{is_ascii_digit, digit_value}
-use Rattle.std.specs.Str.Parse.{AllDigits}
-use Rattle.std.proofs.Math.Seq.{take-append_seam, drop-append_seam}
-use Rattle.std.proofs.lemmas.Bool.{ne_eqb, cases_lt}
-use Rattle.std.proofs.lemmas.List.{take-append-drop, length-take-le}
-use Rattle.std.proofs.lemmas.Bool.Decides.{nat_tests}
-use Rattle.taxi_units.specs.declared.decimal.NumberFault.TheVariants.{BadDigit}
-use Rattle.taxi_units.specs.Number.{NoDigitFirst, HasDigitsInFront, digits_at_front, parts_read, counted_parts_read}
-use Rattle.taxi_units.specs.Number.{whole_read, decimal_read}
+use Rattle.std.{specs.Char.{digit_value, is_ascii_digit}, proofs.lemmas.Bool.{cases_lt, ne_eqb, Decides.{nat_tests}}}
+use Rattle.{std.specs.Str.Parse.{AllDigits}, taxi_units.specs.{Common.{BadDigit}, Number.{parts_read, whole_read}}}
+use Rattle.std.proofs.Common.{[], ℕ, ◌++◌, ◌<◌, ◌↔◌, ◌∙◌, ◌∷◌, ◌≡◌, ◌≢◌, ◌≤◌, ◌⊎◌, Err, List, ap, arith, drop, eqb}
+use Rattle.std.proofs.Common.{false, inl, inr, length, length-append, refl, subst, sym, take, true}
+use Rattle.std.proofs.{Math.Seq.{drop-append_seam, take-append_seam}, lemmas.List.{length-take-le, take-append-drop}}
+use Rattle.taxi_units.specs.Number.{HasDigitsInFront, NoDigitFirst, counted_parts_read, decimal_read, digits_at_front}
 
 pub record Front (text : List ℕ) : Type 0 where
   pub digits : List ℕ

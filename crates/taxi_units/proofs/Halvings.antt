@@ -1,11 +1,8 @@
 -- Look-ups by halving: how many elements they count, and in how many steps.
-use Rattle.std.proofs.Common.{◌≡◌, ◌∙◌, ℕ, zero, suc, ◌+◌, ◌*◌, ◌/◌, ◌^◌, ◌<◌, ◌≤◌, Bool, true, false, cond, List, []}
-use Rattle.std.proofs.Common.{◌∷◌, length, get_or, count_by, refl, ap, sym, arith}
-use Rattle.std.proofs.Math.Nat.{pow-suc}
-use Rattle.std.proofs.lemmas.List.Sums.{sum_by-cons}
-use Rattle.std.specs.List.Sorted.{IsPartitionedBy}
+use Rattle.{std.{specs.List.Sorted.{IsPartitionedBy}, proofs.Math.Nat.{pow-suc}}, taxi_units.specs.Halving.{EndsWithin}}
+use Rattle.std.proofs.Common.{[], ℕ, ◌*◌, ◌+◌, ◌/◌, ◌<◌, ◌^◌, ◌∙◌, ◌∷◌, ◌≡◌, ◌≤◌, Bool, List, ap, arith, cond, count_by}
+use Rattle.std.proofs.{Common.{false, get_or, length, refl, suc, sym, true, zero}, lemmas.List.Sums.{sum_by-cons}}
 use Rattle.taxi_units.specs.Counted.{IsElement}
-use Rattle.taxi_units.specs.Halving.{EndsWithin}
 
 -- a halving is one step, and leaves at most half
 halved : (spent bound width half rounds : ℕ) → spent + rounds ≤ bound → width < 2 ^ rounds → 0 < width

@@ -1,11 +1,8 @@
 -- How long texts of numbers and amounts are.
-use Rattle.std.proofs.Common.{◌≡◌, ◌∙◌, ℕ, zero, suc, ◌+◌, ◌-◌, ◌*◌, ◌/◌, ◌%◌, ◌^◌, ◌<◌, ◌≤◌, ◌∷◌, length, max, ap, sym}
-use Rattle.std.proofs.Common.{arith, length-append}
-use Rattle.std.specs.Fmt.{decimal}
-use Rattle.std.proofs.Math.Nat.{one-le-pow, pow-le-pow_right, div-lt_iff_lt-mul, mod-lt}
-use Rattle.std.proofs.lemmas.Nat.{pow-add}
-use Rattle.std.proofs.lemmas.Fmt.{decimal_is_IsNumeral_wide, length-decimal-le_wide}
-use Rattle.taxi_units.specs.Number.{padded_text, money_text}
+use Rattle.std.{specs.Fmt.{decimal}, proofs.lemmas.Fmt.{decimal_is_IsNumeral_wide, length-decimal-le_wide}}
+use Rattle.std.proofs.Common.{ℕ, ◌%◌, ◌*◌, ◌+◌, ◌-◌, ◌/◌, ◌<◌, ◌^◌, ◌∙◌, ◌∷◌, ◌≡◌, ◌≤◌, ap, arith, length}
+use Rattle.{std.proofs.Common.{length-append, max, suc, sym, zero}, taxi_units.specs.Number.{money_text, padded_text}}
+use Rattle.std.proofs.{Math.Nat.{div-lt_iff_lt-mul, mod-lt, one-le-pow, pow-le-pow_right}, lemmas.Nat.{pow-add}}
 use Rattle.taxi_units.proofs.Written.{length_of_padded}
 
 -- a number below a power of ten has no more digits than that has zeros

@@ -1,18 +1,12 @@
 -- Numbers at the front of a text are read by their digits.
-use Rattle.std.proofs.Common.{◌≡◌, ◌⊎◌, inl, inr, ℕ, Bool, true, false, cond, ◌+◌, ◌^◌, ◌<◌, ◌≤◌, ◌↔◌, List, [], ◌∷◌}
-use Rattle.std.proofs.Common.{◌++◌, length, refl, ap, sym, ◌∙◌, subst, arith, Option, Some, None, eqb, length-append}
-use Rattle.std.specs.Fmt.{decimal}
-use Rattle.std.specs.Str.Parse.{AllDigits, digits_value}
-use Rattle.std.proofs.Math.Seq.{take-append_seam, drop-append_seam}
-use Rattle.std.proofs.lemmas.Bool.{le-ltb, lt-ltb, ne_eqb, eq-eqb, eqb-true, cases_lt}
-use Rattle.std.proofs.lemmas.Int.Digits.{digits_value-lt}
-use Rattle.std.proofs.lemmas.Fmt.{decimal_is_IsNumeral_wide, length-decimal-le_wide}
-use Rattle.taxi_units.specs.Digits.{AreDigitsOf}
-use Rattle.taxi_units.specs.Number.{NoDigitFirst, IsNumberAt, IsNumberOfWidth, padded_text, digits_number, number_at}
-use Rattle.taxi_units.specs.Number.{number_of_width, where_wide}
-use Rattle.taxi_units.specs.Reading.{◌>>=◌}
-use Rattle.taxi_units.proofs.Front.{front, count_front}
-use Rattle.taxi_units.proofs.Written.{digits_of_padded, padded_within}
+use Rattle.std.{specs.Fmt.{decimal}, proofs.lemmas.Fmt.{decimal_is_IsNumeral_wide, length-decimal-le_wide}}
+use Rattle.std.{specs.Str.Parse.{AllDigits, digits_value}, proofs.Math.Seq.{drop-append_seam, take-append_seam}}
+use Rattle.std.proofs.Common.{[], ℕ, ◌++◌, ◌+◌, ◌<◌, ◌^◌, ◌↔◌, ◌∙◌, ◌∷◌, ◌≡◌, ◌≤◌, ◌⊎◌, Bool, List, None, Option, Some}
+use Rattle.std.proofs.Common.{ap, arith, cond, eqb, false, inl, inr, length, length-append, refl, subst, sym, true}
+use Rattle.std.proofs.lemmas.{Bool.{cases_lt, eq-eqb, eqb-true, le-ltb, lt-ltb, ne_eqb}, Int.Digits.{digits_value-lt}}
+use Rattle.taxi_units.{specs.{Digits.{AreDigitsOf}, Reading.{◌>>=◌}}, proofs.Written.{digits_of_padded, padded_within}}
+use Rattle.taxi_units.specs.Number.{IsNumberAt, IsNumberOfWidth, NoDigitFirst, digits_number, number_at}
+use Rattle.taxi_units.{specs.Number.{number_of_width, padded_text, where_wide}, proofs.Front.{count_front, front}}
 
 number_front : (digits rest : List ℕ) → AllDigits 10 digits → NoDigitFirst rest
     → number_at (digits ++ rest) ≡ digits_number digits rest

@@ -1,8 +1,7 @@
 -- The dates of a leap year and their places.
-use Rattle.std.proofs.Common.{◌≡◌, ◌∙◌, ◌⊎◌, inl, inr, ℕ, zero, suc, ◌+◌, ◌-◌, ◌<◌, ◌≤◌, ◌↔◌, List, [], ◌∷◌, length}
-use Rattle.std.proofs.Common.{sum, take, get_or, refl, ap, sym, subst, arith, Some, None, true}
-use Rattle.std.proofs.lemmas.Bool.{cases_lt, le-ltb, lt-ltb}
-use Rattle.std.proofs.lemmas.List.Sums.{sum_by-cons}
+use Rattle.std.proofs.Common.{[], ℕ, ◌+◌, ◌-◌, ◌<◌, ◌↔◌, ◌∙◌, ◌∷◌, ◌≡◌, ◌≤◌, ◌⊎◌, List, None, Some, ap, arith, get_or}
+use Rattle.std.proofs.Common.{inl, inr, length, refl, subst, suc, sum, sym, take, true, zero}
+use Rattle.std.proofs.lemmas.{Bool.{cases_lt, le-ltb, lt-ltb}, List.Sums.{sum_by-cons}}
 use Rattle.taxi_units.specs.Calendar.{IsLeapYearDate, date_from, date_of_place, date_place, month_lengths}
 
 -- the months from `month` on, which have these lengths, have this date, `days` days after the first of `month`

@@ -1,23 +1,14 @@
 -- The texts of numbers and amounts are the only ones with their digits.
-use Rattle.std.proofs.Common.{◌≡◌, ◌≢◌, ◌∙◌, ℕ, zero, suc, ◌+◌, ◌*◌, ◌/◌, ◌%◌, ◌^◌, ◌<◌, ◌≤◌, ◌↔◌, inl, inr, List, []}
-use Rattle.std.proofs.Common.{◌∷◌, ◌++◌, length, get_or, refl, ap, sym, subst, arith}
-use Rattle.std.specs.Fmt.{decimal}
-use Rattle.std.specs.Char.{digit_value}
-use Rattle.std.specs.Str.Parse.{AllDigits, digits_value}
-use Rattle.std.proofs.Math.Nat.{one-le-pow, pow-le-pow_right, mul-le-mul_right, div-le_self, mod-lt}
-use Rattle.std.proofs.lemmas.Bool.{cases_lt}
-use Rattle.std.proofs.lemmas.Bool.Decides.{nat_tests}
-use Rattle.std.proofs.lemmas.Nat.{div-add-mod', div-mul-add, mod-mul-add}
-use Rattle.std.proofs.lemmas.Fmt.{decimal_by_steps_wide, decimal_digit, decimal_is_IsNumeral_wide}
-use Rattle.std.proofs.lemmas.Int.Digits.{digits_value-lt}
-use Rattle.taxi_units.specs.Decimal.{IsDecimal}
-use Rattle.taxi_units.specs.Number.{padded_text, money_text, units_of}
-use Rattle.taxi_units.specs.Written.{HasNoZeroInFront, IsNumberText, IsPaddedText, IsAmountText}
-use Rattle.taxi_units.proofs.Amounts.{value_after, units_of_parts}
-use Rattle.taxi_units.proofs.Digits.{digit_value_is}
-use Rattle.taxi_units.proofs.Form.{with_point}
-use Rattle.taxi_units.proofs.Front.{test_of_digit}
-use Rattle.taxi_units.proofs.Written.{digits_of_padded, length_of_padded, padded_fills}
+use Rattle.std.specs.{Char.{digit_value}, Fmt.{decimal}, Str.Parse.{AllDigits, digits_value}}
+use Rattle.std.proofs.Common.{[], ℕ, ◌%◌, ◌*◌, ◌++◌, ◌+◌, ◌/◌, ◌<◌, ◌^◌, ◌↔◌, ◌∙◌, ◌∷◌, ◌≡◌, ◌≢◌, ◌≤◌, List, ap, arith}
+use Rattle.std.proofs.{Common.{get_or, inl, inr, length, refl, subst, suc, sym, zero}, lemmas.Bool.Decides.{nat_tests}}
+use Rattle.std.proofs.Math.Nat.{div-le_self, mod-lt, mul-le-mul_right, one-le-pow, pow-le-pow_right}
+use Rattle.std.proofs.lemmas.{Bool.{cases_lt}, Fmt.{decimal_by_steps_wide, decimal_digit, decimal_is_IsNumeral_wide}}
+use Rattle.std.proofs.lemmas.{Int.Digits.{digits_value-lt}, Nat.{div-add-mod', div-mul-add, mod-mul-add}}
+use Rattle.taxi_units.specs.{Decimal.{IsDecimal}, Written.{HasNoZeroInFront, IsAmountText, IsNumberText, IsPaddedText}}
+use Rattle.taxi_units.{specs.Number.{money_text, padded_text, units_of}, proofs.Amounts.{units_of_parts, value_after}}
+use Rattle.taxi_units.proofs.{Digits.{digit_value_is}, Written.{digits_of_padded, length_of_padded, padded_fills}}
+use Rattle.taxi_units.proofs.{Form.{with_point}, Front.{test_of_digit}}
 
 -- digits and a digit before them
 value_cons : (c : ℕ) (cs : List ℕ) → digits_value 10 (c ∷ cs) ≡ digit_value c * 10 ^ length cs + digits_value 10 cs

@@ -1,9 +1,7 @@
 -- How streams end, from the bytes that were taken.
-use Rattle.std.proofs.Common.{inl, inr, ◌≡◌, ◌⊎◌, ℕ, ◌+◌, ◌-◌, ◌≤◌, ◌<◌, List, [], ◌++◌, length, take, sym, ap, subst}
-use Rattle.std.proofs.Common.{◌∙◌, arith, Some, None, Option, nat_lt, length-append}
-use Rattle.std.proofs.lemmas.Bool.{cases_lt, cond-false, cond-true, le-ltb, lt-ltb}
-use Rattle.std.proofs.lemmas.List.{append-nil, take_all}
-use Rattle.std.proofs.Math.Seq.{take-append-add}
+use Rattle.std.proofs.Common.{[], ℕ, ◌++◌, ◌+◌, ◌-◌, ◌<◌, ◌∙◌, ◌≡◌, ◌≤◌, ◌⊎◌, List, None, Option, Some, ap, arith, inl}
+use Rattle.std.proofs.{Common.{inr, length, length-append, nat_lt, subst, sym, take}, Math.Seq.{take-append-add}}
+use Rattle.std.proofs.lemmas.{Bool.{cases_lt, cond-false, cond-true, le-ltb, lt-ltb}, List.{append-nil, take_all}}
 use Rattle.taxi_units.specs.Streams.{BadAt, Endless, IsSplit, IsTakenTo, KeepsBad, ReachesEnd, ShowsEnd, StreamEnd}
 use Rattle.taxi_units.specs.Streams.{StreamKind, Whole, end_by, end_of, stream_limit}
 

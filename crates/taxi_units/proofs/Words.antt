@@ -1,10 +1,7 @@
 -- A word is read where it stands at the front of a text.
-use Rattle.std.proofs.Common.{◌≡◌, ℕ, ◌↔◌, Bool, true, false, cond, List, ◌++◌, length, take, drop, refl, ap, sym, ◌∙◌}
-use Rattle.std.proofs.Common.{Some, None}
-use Rattle.std.specs.Str.{bytes_eq}
-use Rattle.std.proofs.Math.Seq.{take-append_seam, drop-append_seam}
-use Rattle.std.proofs.lemmas.List.{take-append-drop}
-use Rattle.std.proofs.lemmas.Slice.Eq.{bytes_eq-Decides}
+use Rattle.std.{specs.Str.{bytes_eq}, proofs.{Common.{take, true}, Math.Seq.{drop-append_seam, take-append_seam}}}
+use Rattle.std.proofs.Common.{ℕ, ◌++◌, ◌↔◌, ◌∙◌, ◌≡◌, Bool, List, None, Some, ap, cond, drop, false, length, refl, sym}
+use Rattle.std.proofs.lemmas.{List.{take-append-drop}, Slice.Eq.{bytes_eq-Decides}}
 use Rattle.taxi_units.specs.Reading.{word_at}
 
 word_found : (b : Bool) (word text rest : List ℕ) → (b ≡ true → take (length word) text ≡ word)

@@ -1,13 +1,9 @@
 -- Numbers that are written digit by digit.
-use Rattle.std.proofs.Common.{◌≡◌, ℕ, ◌+◌, ◌-◌, ◌/◌, ◌%◌, ◌^◌, ◌<◌, ◌≤◌, ◌⊎◌, inl, inr, List, [], ◌∷◌, ◌++◌, length}
-use Rattle.std.proofs.Common.{replicate, max, zero, suc, refl, ap, ◌∙◌, arith, append_assoc, length-append}
-use Rattle.std.specs.Fmt.{decimal}
-use Rattle.std.specs.Str.Parse.{AllDigits, IsNumeral, digits_value}
-use Rattle.std.proofs.Math.Nat.{one-le-pow, pow-le-pow_right}
-use Rattle.std.proofs.lemmas.Bool.{cases_lt}
-use Rattle.std.proofs.lemmas.List.{length-replicate}
-use Rattle.std.proofs.lemmas.Fmt.{decimal_digit, decimal_step_wide, length-decimal-le_wide, decimal_is_IsNumeral_wide}
-use Rattle.std.proofs.lemmas.Grind.{replicate_next}
+use Rattle.std.{specs.Fmt.{decimal}, proofs.lemmas.{Bool.{cases_lt}, Grind.{replicate_next}, List.{length-replicate}}}
+use Rattle.std.{specs.Str.Parse.{AllDigits, IsNumeral, digits_value}, proofs.Math.Nat.{one-le-pow, pow-le-pow_right}}
+use Rattle.std.proofs.Common.{[], ℕ, ◌%◌, ◌++◌, ◌+◌, ◌-◌, ◌/◌, ◌<◌, ◌^◌, ◌∙◌, ◌∷◌, ◌≡◌, ◌≤◌, ◌⊎◌, List, ap}
+use Rattle.std.proofs.Common.{append_assoc, arith, inl, inr, length, length-append, max, refl, replicate, suc, zero}
+use Rattle.std.proofs.lemmas.Fmt.{decimal_digit, decimal_is_IsNumeral_wide, decimal_step_wide, length-decimal-le_wide}
 use Rattle.taxi_units.specs.Number.{padded_text}
 
 pub decimal_of_one : (n : ℕ) → n < 10 → decimal n ≡ (48 + n) ∷ []

@@ -1,6 +1,7 @@
 -- Rules: the proleptic Gregorian calendar, from the year 0 on: leap years, months, and the places of dates in a leap
 -- year.
-use Rattle.std.specs.Prelude.{ℕ, ◌+◌, ◌-◌, ◌%◌, ◌≤◌, Bool, true, not, ◌&&◌, ◌||◌, ◌==◌, nat_le, nat_lt, if◌then◌else◌, List, [], ◌∷◌, sum, take, slice_index, Option, Some, None}
+use Rattle.std.specs.Prelude.{[], ℕ, ◌%◌, ◌&&◌, ◌+◌, ◌-◌, ◌==◌, ◌||◌, ◌∷◌, ◌≤◌, Bool, List, None, Option, Some}
+use Rattle.std.specs.Prelude.{if◌then◌else◌, nat_le, nat_lt, not, slice_index, sum, take, true}
 
 -- a year is a leap year if 4 divides it, except if 100 divides it and 400 doesn't
 abbrev pub is_leap_year : ℕ → Bool

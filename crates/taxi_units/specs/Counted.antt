@@ -1,5 +1,5 @@
 -- Rules: what look-ups in a list find, and in how many steps.
-use Rattle.std.specs.Prelude.{◌≡◌, ℕ, ◌+◌, ◌-◌, ◌<◌, ◌≤◌, ◌^◌, List, slice_index_or}
+use Rattle.std.specs.Prelude.{ℕ, ◌+◌, ◌-◌, ◌<◌, ◌^◌, ◌≡◌, ◌≤◌, List, slice_index_or}
 
 -- an element stands at a place of a list, counted from 0, if the list is longer than that and has the element there
 abbrev pub IsElement : {T : Type 0} → List T → (place : ℕ) → T → Type 0

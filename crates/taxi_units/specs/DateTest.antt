@@ -1,7 +1,6 @@
 -- For proofs: the test whether the calendar has a date, as `is_date` makes it, with the fact that it decides.
 use Rattle.std.specs.Prelude.{ℕ}
-use Rattle.taxi_units.specs.Calendar.{IsDate, days_of_month}
-use Rattle.taxi_units.specs.Test.{Test, at_most, stated, within, ◌&◌}
+use Rattle.taxi_units.specs.{Calendar.{IsDate, days_of_month}, Test.{◌&◌, Test, at_most, stated, within}}
 
 -- the test passes if the calendar has a date
 abbrev pub date_test : (year month date : ℕ) → Test

@@ -1,8 +1,7 @@
 -- Rules: what a decimal text is, where a text breaks that form, and what is read from it.
-use Rattle.std.specs.Prelude.{◌≡◌, ◌≢◌, ℕ, ◌+◌, ◌-◌, ◌*◌, ◌<◌, ◌≤◌, ◌^◌, ◌⊎◌, List, [], ◌∷◌, ◌++◌, length, take, Result, Ok, Err}
-use Rattle.std.specs.Str.Parse.{AllDigits, IsNumeral, digits_value}
-use Rattle.taxi_units.specs.declared.decimal.NumberFault.{NumberFault}
-use Rattle.taxi_units.specs.declared.decimal.NumberFault.TheVariants.{Empty, BadDigit, TooManyDecimals, TooBig}
+use Rattle.std.specs.Prelude.{[], ℕ, ◌*◌, ◌++◌, ◌+◌, ◌-◌, ◌<◌, ◌^◌, ◌∷◌, ◌≡◌, ◌≢◌, ◌≤◌, ◌⊎◌, Err, List, Ok, Result}
+use Rattle.std.specs.{Prelude.{length, take}, Str.Parse.{AllDigits, IsNumeral, digits_value}}
+use Rattle.taxi_units.specs.Common.{BadDigit, Empty, NumberFault, TooBig, TooManyDecimals}
 
 -- the units of digits before the point and after it are counted in the last of `decimals` decimals
 abbrev pub units_of : (decimals : ℕ) → (whole parts : List ℕ) → ℕ

@@ -1,6 +1,5 @@
 -- Rules: which digits write which number, in a width and a range.
-use Rattle.std.specs.Prelude.{◌≡◌, ℕ, ◌≤◌, List, length}
-use Rattle.std.specs.Str.Parse.{IsNumeral, digits_value}
+use Rattle.std.specs.{Prelude.{ℕ, ◌≡◌, ◌≤◌, List, length}, Str.Parse.{IsNumeral, digits_value}}
 
 -- digits are those of a number if they are `fewest` to `most` decimal digits that have its value
 pub record AreDigitsOf (fewest most : ℕ) (digits : List ℕ) (number : ℕ) : Type 0 where

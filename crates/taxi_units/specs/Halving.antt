@@ -1,6 +1,6 @@
 -- For proofs: how many steps are left to a look-up that halves what it looks through. The law each_step_halves says how
 -- it goes on.
-use Rattle.std.specs.Prelude.{ℕ, ◌+◌, ◌<◌, ◌≤◌, ◌^◌}
+use Rattle.std.specs.Prelude.{ℕ, ◌+◌, ◌<◌, ◌^◌, ◌≤◌}
 
 -- a look-up with `spent` steps taken ends by `bound` steps if those left are enough to halve a stretch of that width
 -- down to nothing

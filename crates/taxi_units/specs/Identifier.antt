@@ -1,5 +1,5 @@
 -- Rules: the characters of which the names of taxis and of drivers consist.
-use Rattle.std.specs.Prelude.{◌≡◌, ◌⊎◌, ℕ, ◌≤◌, ◌&&◌, ◌||◌, ◌==◌, nat_le, Bool}
+use Rattle.std.specs.Prelude.{ℕ, ◌&&◌, ◌==◌, ◌||◌, ◌≡◌, ◌≤◌, ◌⊎◌, Bool, nat_le}
 
 -- a byte is a character of identifiers, of taxis and of drivers, if it is one of A to Z, of 0 to 9, or -
 abbrev pub IsIdentifierCharacter : ℕ → Type 0

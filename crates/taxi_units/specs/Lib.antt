@@ -11,7 +11,7 @@ pub mod Line
 pub mod Money
 pub mod Number
 pub mod NumberStages
-pub mod Parting
+pub mod PartedBytes
 pub mod Reading
 pub mod Shown
 pub mod Streams
@@ -20,3 +20,4 @@ pub mod Time
 pub mod Weekdays
 pub mod Words
 pub mod Written
+pub mod Common

@@ -1,5 +1,5 @@
 -- Rules: how far a store counts.
-use Rattle.std.specs.Prelude.{ℕ, ◌+◌, ◌*◌, ◌^◌}
+use Rattle.std.specs.Prelude.{ℕ, ◌*◌, ◌+◌, ◌^◌}
 
 -- the store takes no hiring and no roaming from the number 10^15 on
 abbrev pub hirings_end : ℕ

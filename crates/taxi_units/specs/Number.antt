@@ -1,14 +1,11 @@
 -- Rules: the texts of numbers and amounts, and which number stands at the front of a text. NumberStages has how the
 -- code reads them.
-use Rattle.std.specs.Prelude.{◌≡◌, ℕ, zero, suc, ◌≤◌, ◌+◌, ◌-◌, ◌/◌, ◌%◌, ◌^◌, List, [], ◌∷◌, ◌++◌, length, take, drop}
-use Rattle.std.specs.Prelude.{replicate, if◌then◌else◌, nat_le, nat_lt, ◌==◌, ◌&&◌, ◌||◌, Option, Some, None, ⊤}
-use Rattle.std.specs.Fmt.{decimal}
-use Rattle.std.specs.Char.{digit_value}
-use Rattle.std.specs.Str.Parse.{AllDigits, digits_value}
-pub use Rattle.taxi_units.specs.Decimal.{units_of}
-pub use Rattle.taxi_units.specs.NumberStages.{digits_at_front, units_read, counted_parts_read, parts_read, whole_read, decimal_read}
-use Rattle.taxi_units.specs.Digits.{AreDigitsOf, IsFigure}
-use Rattle.taxi_units.specs.Reading.{◌>>=◌}
+use Rattle.std.specs.{Char.{digit_value}, Fmt.{decimal}, Str.Parse.{AllDigits, digits_value}}
+use Rattle.std.specs.Prelude.{[], ℕ, ⊤, ◌%◌, ◌&&◌, ◌++◌, ◌+◌, ◌-◌, ◌/◌, ◌==◌, ◌^◌, ◌||◌, ◌∷◌, ◌≡◌, ◌≤◌, List, None}
+use Rattle.std.specs.Prelude.{Option, Some, drop, if◌then◌else◌, length, nat_le, nat_lt, replicate, suc, take, zero}
+use Rattle.taxi_units.specs.{Digits.{AreDigitsOf, IsFigure}, Reading.{◌>>=◌}}
+pub use Rattle.taxi_units.specs.{Decimal.{units_of}, NumberStages.{whole_read}}
+pub use Rattle.taxi_units.specs.NumberStages.{counted_parts_read, decimal_read, digits_at_front, parts_read, units_read}
 
 -- a number is padded with zeros in front up to a width, and is written whole if it is longer
 abbrev pub padded_text : ℕ → ℕ → List ℕ

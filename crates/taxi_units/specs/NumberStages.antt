@@ -1,11 +1,8 @@
 -- By law: a decimal, read in the stages of the code. The laws decimals_are_read_by_their_form and
 -- numbers_are_read_by_their_digits say what the answers mean.
-use Rattle.std.specs.Prelude.{ℕ, ◌+◌, ◌^◌, List, [], ◌∷◌, length, take, drop, if◌then◌else◌, nat_lt, ◌==◌, ◌||◌, Result, Ok, Err}
-use Rattle.std.specs.Char.{is_ascii_digit}
-use Rattle.std.specs.List.{prefix_len}
-use Rattle.taxi_units.specs.declared.decimal.NumberFault.{NumberFault}
-use Rattle.taxi_units.specs.declared.decimal.NumberFault.TheVariants.{Empty, BadDigit, TooManyDecimals, TooBig}
-use Rattle.taxi_units.specs.Decimal.{units_of}
+use Rattle.std.specs.{Char.{is_ascii_digit}, List.{prefix_len}, Prelude.{nat_lt, take}}
+use Rattle.std.specs.Prelude.{[], ℕ, ◌+◌, ◌==◌, ◌^◌, ◌||◌, ◌∷◌, Err, List, Ok, Result, drop, if◌then◌else◌, length}
+use Rattle.taxi_units.specs.{Common.{BadDigit, Empty, NumberFault, TooBig, TooManyDecimals}, Decimal.{units_of}}
 
 -- the number of digits at the front of a text
 abbrev pub digits_at_front : List ℕ → ℕ

@@ -1,7 +1,6 @@
 -- Rules: reading from the front of a text, which gives what is found there and what stands after it. The law
 -- words_are_read_by_their_text says what `word_at` gives.
-use Rattle.std.specs.Prelude.{◌≡◌, ℕ, List, length, take, drop, Option, Some, None, if◌then◌else◌}
-use Rattle.std.specs.Str.{bytes_eq}
+use Rattle.std.specs.{Prelude.{ℕ, ◌≡◌, List, None, Option, Some, drop, if◌then◌else◌, length, take}, Str.{bytes_eq}}
 
 -- reading goes on with what was found, and finds nothing if nothing was found before
 infixl 10 ◌>>=◌

@@ -1,13 +1,8 @@
 -- Rules: what displays and receipts may say, so that their texts tell all of them.
-use Rattle.std.specs.Prelude.{◌≡◌, ◌≢◌, ℕ, ◌+◌, ◌*◌, ◌^◌, ◌<◌, ◌≤◌, min, max}
-use Rattle.taxi_units.specs.declared.event.Operating.TheVariants.{Off}
-use Rattle.taxi_units.specs.declared.receipt.Kind.TheVariants.{Roam}
-use Rattle.taxi_units.specs.declared.receipt.Display.{Display}
-use Rattle.taxi_units.specs.declared.receipt.Receipt.{Receipt}
-use Rattle.taxi_units.specs.declared.receipt.Stamp.{Stamp}
-use Rattle.taxi_units.specs.Calendar.{IsDate}
-use Rattle.taxi_units.specs.Limits.{largest_supplements, number_most}
-use Rattle.taxi_units.specs.Money.{largest_amount, largest_display_step}
+use Rattle.std.specs.Prelude.{ℕ, ◌*◌, ◌+◌, ◌<◌, ◌^◌, ◌≡◌, ◌≢◌, ◌≤◌, max, min}
+use Rattle.taxi_units.specs.{Calendar.{IsDate}, declared.receipt.{Display.{Display}, Receipt.{Receipt}, Stamp.{Stamp}}}
+use Rattle.taxi_units.specs.{Limits.{largest_supplements, number_most}, declared.receipt.Kind.TheVariants.{Roam}}
+use Rattle.taxi_units.specs.{Money.{largest_amount, largest_display_step}, declared.event.Operating.TheVariants.{Off}}
 
 -- decimals are those of an amount of money if they are 0 to 3
 abbrev pub AreDecimals : ℕ → Type 0

@@ -1,5 +1,5 @@
 -- Rules: a stream of bytes that is taken from its front, how it ends, and what the bytes that were taken tell of that.
-use Rattle.std.specs.Prelude.{◌≡◌, ◌⊎◌, ℕ, ◌<◌, List, [], ◌++◌, length, take, Option, Some, None, if◌then◌else◌, nat_lt}
+use Rattle.std.specs.Prelude.{[], ℕ, ◌++◌, ◌<◌, ◌≡◌, ◌⊎◌, List, None, Option, Some, if◌then◌else◌, length, nat_lt, take}
 
 -- at most 2^40 bytes of a stream are taken
 abbrev pub stream_limit : ℕ

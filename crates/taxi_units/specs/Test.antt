@@ -1,13 +1,10 @@
 -- Rules: tests, each with the fact that it decides, and how longer tests are made of shorter ones. So a list of
 -- comparisons passes exactly if each of them holds.
-use Rattle.std.specs.Prelude.{◌≡◌, ◌⊎◌, ℕ, zero, suc, ◌≤◌, ◌<◌, Bool, true, false, ◌&&◌, ◌||◌, ◌==◌, nat_le, nat_lt, T}
-use Rattle.std.specs.Prelude.{⊤, ℤ, ◌≤ℤ◌, int_le, if◌then◌else◌, List, Option, Some, None, IfSome, Decides}
-use Rattle.std.specs.Int.Signed.{le_z_yes}
-use Rattle.std.specs.List.{All, list_all}
-use Rattle.std.proofs.Common.{refl, subst, sym}
-use Rattle.std.proofs.lemmas.Bool.{leb-true, le-leb, false≢true}
+use Rattle.std.{specs.{Int.Signed.{le_z_yes}, List.{All, list_all}}, proofs.Common.{refl, subst, sym}}
+use Rattle.std.specs.Prelude.{ℕ, ℤ, ⊤, ◌&&◌, ◌<◌, ◌==◌, ◌||◌, ◌≡◌, ◌≤ℤ◌, ◌≤◌, ◌⊎◌, Bool, Decides, IfSome, List, None}
+use Rattle.std.specs.Prelude.{Option, Some, T, false, if◌then◌else◌, int_le, nat_le, nat_lt, suc, true, zero}
+use Rattle.std.proofs.lemmas.Bool.{false≢true, le-leb, leb-true, Decides.{Decides-ltb, Decides-or}}
 use Rattle.std.proofs.lemmas.Bool.Decides.{Decides-and, Decides-below_and, Decides-by_and, Decides-eqb, Decides-like}
-use Rattle.std.proofs.lemmas.Bool.Decides.{Decides-ltb, Decides-or}
 
 -- a test passes exactly if its fact holds
 pub record Test : Type 1 where

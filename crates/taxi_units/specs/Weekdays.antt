@@ -1,6 +1,5 @@
 -- Rules: the short names of the weekdays.
-use Rattle.std.specs.Prelude.{ℕ, ◌-◌, List, [], ◌∷◌, codes}
-use Rattle.std.specs.List.{slice_index_or}
+use Rattle.std.specs.{List.{slice_index_or}, Prelude.{[], ℕ, ◌-◌, ◌∷◌, List, codes}}
 
 -- the short names of the weekdays, from Monday to Sunday, are `mon`, `tue`, `wed`, `thu`, `fri`, `sat` and `sun`
 abbrev pub day_names : List (List ℕ)

@@ -1,6 +1,5 @@
 -- Rules: which words are the same.
-use Rattle.std.specs.Prelude.{ℕ, Bool, List, nat_eq}
-use Rattle.std.specs.Cmp.Lexicographic.{pointwise}
+use Rattle.std.specs.{Cmp.Lexicographic.{pointwise}, Prelude.{ℕ, Bool, List, nat_eq}}
 
 -- the test `is_word` is true if a word has the same bytes as a name
 abbrev pub is_word : List ℕ → List ℕ → Bool

@@ -1,9 +1,6 @@
 -- Rules: which texts are those of a number and of an amount, told by their digits.
-use Rattle.std.specs.Prelude.{◌≡◌, ℕ, List, length, slice_index, max}
-use Rattle.std.specs.Fmt.{decimal}
-use Rattle.std.specs.Str.Parse.{IsNumeral, digits_value}
-use Rattle.taxi_units.specs.Decimal.{IsDecimal}
-use Rattle.taxi_units.specs.Number.{units_of}
+use Rattle.{std.specs.Fmt.{decimal}, taxi_units.specs.{Decimal.{IsDecimal}, Number.{units_of}}}
+use Rattle.std.specs.{Prelude.{ℕ, ◌≡◌, List, length, max, slice_index}, Str.Parse.{IsNumeral, digits_value}}
 
 -- digits have no zero in front, unless that zero is the only digit
 abbrev pub HasNoZeroInFront : List ℕ → Type 0

@@ -1,6 +1,7 @@
 //! The calendar: leap years, the lengths of months, and the places of dates in a leap year.
-ghost use Rattle.std.specs.Prelude.{◌≡◌, ◌⊎◌, ℕ, ◌≤◌, ◌↔◌, ◌<◌, ◌^◌, IsTrue, Some, None, sum};
-ghost use Rattle.taxi_units.specs.Calendar.{IsDate, IsLeapYearDate, IsMonth, date_of_place, date_place, days_of_month, is_date, is_leap_year, month_lengths};
+ghost use Rattle.std.specs.Prelude.{ℕ, ◌<◌, ◌^◌, ◌↔◌, ◌≡◌, ◌≤◌, ◌⊎◌, IsTrue, None, Some, sum};
+ghost use Rattle.taxi_units.specs.Calendar.{IsDate, IsLeapYearDate, IsMonth, date_of_place, date_place, days_of_month};
+ghost use Rattle.taxi_units.specs.Calendar.{is_date, is_leap_year, month_lengths};
 
 /// Whether a year is a leap year of the proleptic Gregorian calendar.
 pub fn is_leap_year(year: u16) -> bool

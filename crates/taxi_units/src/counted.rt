@@ -1,8 +1,7 @@
 //! Lists whose reads are counted.
-ghost use Rattle.std.specs.Prelude.{◌≡◌, ℕ, ◌+◌, ◌/◌, ◌<◌, ◌≤◌, Bool, true, false, ◌↔◌, IsTrue, length, count_by, MatchOption};
-ghost use Rattle.std.specs.List.Sorted.{IsPartitionPoint, IsPartitionedBy};
-ghost use Rattle.taxi_units.specs.Counted.{HalvesIn, IsElement, IsLastOf};
-ghost use Rattle.taxi_units.specs.Halving.{EndsWithin};
+ghost use Rattle.std.specs.{List.Sorted.{IsPartitionPoint, IsPartitionedBy}, Prelude.{length, true}};
+ghost use Rattle.std.specs.Prelude.{ℕ, ◌+◌, ◌/◌, ◌<◌, ◌↔◌, ◌≡◌, ◌≤◌, Bool, IsTrue, MatchOption, count_by, false};
+ghost use Rattle.taxi_units.specs.{Counted.{HalvesIn, IsElement, IsLastOf}, Halving.{EndsWithin}};
 
 use crate::steps::Steps;
 use std::marker::Model;

@@ -1,9 +1,8 @@
 //! Numbers that are read: whole texts of decimals, and numbers at the front of a text.
-ghost use Rattle.std.specs.Prelude.{◌≡◌, ◌+◌, ◌*◌, ◌^◌, ◌<◌, ◌≤◌, length, IfSome, MatchOption};
-ghost use Rattle.std.specs.Str.Parse.{digits_value_after};
+ghost use Rattle.std.specs.Prelude.{◌*◌, ◌+◌, ◌<◌, ◌^◌, ◌≡◌, ◌≤◌, IfSome, MatchOption, length};
+ghost use Rattle.{std.specs.Str.Parse.{digits_value_after}, taxi_units.specs.Reading.{Gives, GivesSame}};
+ghost use Rattle.taxi_units.specs.NumberStages.{decimal_read, digits_at_front, parts_read, units_read, whole_read};
 ghost use Rattle.taxi_units.specs.Number as spec;
-ghost use Rattle.taxi_units.specs.NumberStages.{digits_at_front, decimal_read, whole_read, parts_read, units_read};
-ghost use Rattle.taxi_units.specs.Reading.{Gives, GivesSame};
 
 /// Why a text is no amount. A place is a byte's, from 0.
 #[derive(Clone, Copy)]

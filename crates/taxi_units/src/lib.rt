@@ -16,7 +16,7 @@ mod reading;
 mod receipt;
 mod steps;
 mod streams;
-mod texts;
+mod text_laws;
 mod time;
 mod weekdays;
 
@@ -39,7 +39,7 @@ pub use reading::{is_word, word};
 pub use receipt::{Display, Kind, Receipt, Stamp};
 pub use steps::Steps;
 pub use streams::{STREAM_LIMIT, bytes_tell_how_a_stream_ends, limits_fall_behind_what_was_taken};
-pub use texts::{
+pub use text_laws::{
     amounts_are_written_by_their_digits, amounts_read_back, decimals_are_read_by_their_form,
     digits_are_counted, figures_are_read_by_their_digits, numbers_are_read_by_their_digits,
     numbers_are_written_as_figures, numbers_are_written_by_their_digits,

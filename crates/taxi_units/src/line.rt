@@ -1,11 +1,9 @@
 //! Lines of text, and what is put into them: bytes, numbers and amounts of money.
 //!
 //! Each call appends its text whole, or leaves the line as it was.
-ghost use Rattle.std.specs.Prelude.{◌≡◌, ◌+◌, ◌≤◌, ◌++◌, ◌↔◌, length, IsOk, OnOk, OnErr};
-ghost use Rattle.std.specs.Fmt.{decimal};
-ghost use Rattle.arrayvec.specs.ArrayVec.{array_vec_len};
+ghost use Rattle.std.specs.{Fmt.{decimal}, Prelude.{◌++◌, ◌+◌, ◌↔◌, ◌≡◌, ◌≤◌, IsOk, OnErr, OnOk, length}};
+ghost use Rattle.{arrayvec.specs.ArrayVec.{array_vec_len}, taxi_units.specs.Number.{money_text, padded_text}};
 ghost use Rattle.taxi_units.specs.Line.{line_size};
-ghost use Rattle.taxi_units.specs.Number.{money_text, padded_text};
 
 use arrayvec::ArrayVec;
 

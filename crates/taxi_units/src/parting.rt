@@ -1,6 +1,6 @@
 //! Bytes that are parted at a byte.
-ghost use Rattle.std.specs.Prelude.{◌≡◌, ◌∷◌, ◌++◌, MatchOption};
-ghost use Rattle.taxi_units.specs.Parting.{HasNone};
+ghost use Rattle.std.specs.Prelude.{◌++◌, ◌∷◌, ◌≡◌, MatchOption};
+ghost use Rattle.taxi_units.specs.PartedBytes.{HasNone};
 
 /// The bytes before the first one that is this byte, and those after it. All bytes and `None` if none is.
 pub fn split_at_byte(bytes: &[u8], byte: u8) -> (&[u8], Option<&[u8]>)

@@ -1,9 +1,6 @@
 //! Texts that are appended to a line with room for them.
-ghost use Rattle.std.specs.Prelude.{◌≡◌, ◌+◌, ◌≤◌, ◌++◌, length};
-ghost use Rattle.std.specs.Fmt.{decimal};
-ghost use Rattle.arrayvec.specs.ArrayVec.{array_vec_len};
-ghost use Rattle.taxi_units.specs.Line.{line_size};
-ghost use Rattle.taxi_units.specs.Number.{money_text};
+ghost use Rattle.std.specs.{Fmt.{decimal}, Prelude.{◌++◌, ◌+◌, ◌≡◌, ◌≤◌, length}};
+ghost use Rattle.{arrayvec.specs.ArrayVec.{array_vec_len}, taxi_units.specs.{Line.{line_size}, Number.{money_text}}};
 
 use crate::line::{Line, put_bytes, put_money, put_number};
 

@@ -1,6 +1,6 @@
 //! Streams of bytes that are taken from their front, and how they end.
-ghost use Rattle.std.specs.Prelude.{◌≡◌, ◌⊎◌, ℕ, ◌-◌, ◌<◌, ◌≤◌, ◌++◌, [], List, length, take, None, Some};
-ghost use Rattle.taxi_units.specs.Streams.{StreamKind, IsSplit, IsTakenTo, KeepsBad, Whole, BadAt, Endless};
+ghost use Rattle.std.specs.Prelude.{[], ℕ, ◌++◌, ◌-◌, ◌<◌, ◌≡◌, ◌≤◌, ◌⊎◌, List, None, Some, length, take};
+ghost use Rattle.taxi_units.specs.Streams.{BadAt, Endless, IsSplit, IsTakenTo, KeepsBad, StreamKind, Whole};
 ghost use Rattle.taxi_units.specs.Streams.{stream_limit};
 
 /// The most bytes that are taken of a stream: a drive, the requests of a data port or a roll. The limit is this

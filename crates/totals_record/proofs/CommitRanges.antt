@@ -1,19 +1,10 @@
 -- The ranges hold after what the meter commits.
-use Rattle.std.proofs.Common.{◌≡◌, ◌≤◌, ℕ, ◌+◌, ◌-◌, ◌<◌, Bool, true, false, if◌then◌else◌, List, length, get_or, set}
-use Rattle.std.proofs.Common.{Option, Some, None, IfSome, is_some, rules, refl, ◌∙◌, ap, arith}
-use Rattle.std.specs.List.{sum_by}
-use Rattle.std.proofs.lemmas.List.Sums.{sum_by-set}
-use Rattle.taxi_units.specs.Limits.{last_number}
-use Rattle.totals_record.specs.declared.change.Change.TheVariants.{Enter, Hold}
-use Rattle.totals_record.specs.declared.durable_state.Durable.{Durable}
-use Rattle.totals_record.specs.declared.entry.Entry.{Entry}
-use Rattle.totals_record.specs.declared.totals.Share.{Share}
-use Rattle.totals_record.specs.declared.totals.Totals.{Totals}
-use Rattle.totals_record.specs.declared.trip.Trip.{Trip}
-use Rattle.totals_record.specs.Entries.{closes, no_share, totals_with}
-use Rattle.totals_record.specs.Ranges.{IsTripInItsRanges, IsHeld, AreShares, IsDurable, IsEntry, HasRoom, newest_layout}
-use Rattle.totals_record.specs.States.{after}
-use Rattle.totals_record.proofs.Shares.{roams, shares_apart, shares_set, length_same}
+use Rattle.std.{specs.List.{sum_by}, proofs.Common.{get_or, if◌then◌else◌, is_some, length, refl, rules, set, true}}
+use Rattle.std.proofs.Common.{ℕ, ◌+◌, ◌-◌, ◌<◌, ◌∙◌, ◌≡◌, ◌≤◌, Bool, IfSome, List, None, Option, Some, ap, arith, false}
+use Rattle.{std.proofs.lemmas.List.Sums.{sum_by-set}, totals_record.specs.Entries.{closes, no_share, totals_with}}
+use Rattle.totals_record.specs.{Common.{Durable, Enter, Entry, Hold, Share, Totals, Trip, last_number}, States.{after}}
+use Rattle.totals_record.specs.Ranges.{AreShares, HasRoom, IsDurable, IsEntry, IsHeld, IsTripInItsRanges, newest_layout}
+use Rattle.totals_record.proofs.Shares.{length_same, roams, shares_apart, shares_set}
 
 -- a sum over shares of which one grows, grows by as much
 sum_grown : (field : Share → ℕ) (shares : List Share) (place : ℕ) (share : Share) (more : ℕ) → place < length shares

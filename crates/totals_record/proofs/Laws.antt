@@ -1,22 +1,11 @@
 -- Laws that the crates above cite.
-use Rattle.std.proofs.Common.{◌≡◌, ◌≤◌, ◌+◌, ◌↔◌, ℕ, List, ◌++◌, Some}
-use Rattle.slot_bodies.proofs.Laws.{reads_exactly}
-use Rattle.taxi_units.specs.Limits.{last_number}
-use Rattle.totals_record.specs.declared.change.Change.TheVariants.{Enter, Hold}
-use Rattle.totals_record.specs.declared.trip.Trip.{Trip}
-use Rattle.totals_record.specs.declared.durable_state.Durable.{Durable}
-use Rattle.totals_record.specs.declared.change.Change.{Change}
-use Rattle.totals_record.specs.declared.entry.Entry.{Entry}
-use Rattle.totals_record.specs.declared.totals.Totals.{Totals}
-use Rattle.totals_record.specs.Ranges.{HasRoom, IsDurable, IsEntry, IsTripInItsRanges}
-use Rattle.totals_record.specs.Reading.{again, decoded, reads}
+use Rattle.std.proofs.Common.{ℕ, ◌++◌, ◌+◌, ◌↔◌, ◌≡◌, ◌≤◌, List, Some}
+use Rattle.{slot_bodies.proofs.Laws.{reads_exactly}, totals_record.proofs.CommittedStates.{follows, follows_then}}
+use Rattle.totals_record.specs.Common.{Change, Durable, Enter, Entry, Hold, Totals, Trip, last_number}
+use Rattle.totals_record.specs.{Ranges.{HasRoom, IsDurable, IsEntry, IsTripInItsRanges}, States.{after, after_all}}
+use Rattle.totals_record.{specs.{Reading.{again, decoded, reads}, Table.{durable_test}}, proofs.EntrySums.{adds_up}}
 use Rattle.totals_record.specs.Spelling.{spelling}
-use Rattle.totals_record.specs.States.{after, after_all}
-use Rattle.totals_record.specs.Sums.{totals_of, AddsUp, GrowsBy}
-use Rattle.totals_record.specs.Table.{durable_test}
-use Rattle.totals_record.proofs.Adding.{adds_up}
-use Rattle.totals_record.proofs.CommitRanges.{entry_keeps, trip_keeps}
-use Rattle.totals_record.proofs.Changing.{follows, follows_then}
+use Rattle.totals_record.{specs.Sums.{AddsUp, GrowsBy, totals_of}, proofs.CommitRanges.{entry_keeps, trip_keeps}}
 
 -- bytes are read as a state exactly if it is in its ranges and they are its own
 pub states_are_read_by_their_table : (bytes : List ℕ) (durable : Durable) → (reads bytes ≡ Some durable)

@@ -1,13 +1,8 @@
 -- Shares with an entry more.
-use Rattle.std.proofs.Common.{◌≡◌, ℕ, ◌+◌, ◌<◌, suc, zero, Bool, true, false, ◌&&◌, if◌then◌else◌, List, [], ◌∷◌}
-use Rattle.std.proofs.Common.{length, get_or, set, refl, ◌∙◌, ap, subst, arith}
-use Rattle.std.specs.List.{All}
-use Rattle.std.proofs.lemmas.Bool.{eq-eqb, ne_eqb}
-use Rattle.std.proofs.lemmas.List.{get_or-set_same}
-use Rattle.std.proofs.lemmas.List.Elements.{All-get_or}
-use Rattle.totals_record.specs.declared.entry.Entry.{Entry}
-use Rattle.totals_record.specs.declared.totals.Share.{Share}
-use Rattle.totals_record.specs.Entries.{closes, closes_at, no_share, share_with, shares_with}
+use Rattle.std.{specs.List.{All}, proofs.lemmas.{Bool.{eq-eqb, ne_eqb}, List.{get_or-set_same}}}
+use Rattle.std.proofs.Common.{[], ℕ, ◌&&◌, ◌+◌, ◌<◌, ◌∙◌, ◌∷◌, ◌≡◌, Bool, List, ap, arith, false, get_or, if◌then◌else◌}
+use Rattle.std.proofs.{Common.{length, refl, set, subst, suc, true, zero}, lemmas.List.Elements.{All-get_or}}
+use Rattle.totals_record.specs.{Common.{Entry, Share}, Entries.{closes, closes_at, no_share, share_with, shares_with}}
 use Rattle.totals_record.specs.Table.{share_in}
 
 same_share : (hirings hirings' fare fare' : ℕ) → hirings ≡ hirings' → fare ≡ fare'

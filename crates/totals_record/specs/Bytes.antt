@@ -1,6 +1,5 @@
 -- Rules: numbers in bytes, the greatest byte first.
-use Rattle.std.specs.Prelude.{ℕ, ◌/◌, ◌%◌, ◌^◌, Bool, if◌then◌else◌, List, ◌++◌}
-use Rattle.std.specs.Int.{w32, w64, to_be_bytes}
+use Rattle.std.specs.{Int.{to_be_bytes, w32, w64}, Prelude.{ℕ, ◌%◌, ◌++◌, ◌/◌, ◌^◌, Bool, List, if◌then◌else◌}}
 
 -- a number is written in four bytes
 abbrev pub four : ℕ → List ℕ

@@ -1,12 +1,8 @@
 -- Rules: the totals: what an entry adds to each of them, and totals as sums over the list of entries.
-use Rattle.std.specs.Prelude.{◌≡◌, ℕ, ◌+◌, ◌-◌, ◌≤◌, Bool, true, false, ◌&&◌, ◌==◌, if◌then◌else◌, List, [], ◌∷◌}
-use Rattle.std.specs.Prelude.{length, replicate, get_or}
-use Rattle.std.specs.List.{fold, sum_by, count_by}
-use Rattle.taxi_units.specs.declared.receipt.Kind.{Kind}
-use Rattle.taxi_units.specs.declared.receipt.Kind.TheVariants.{Closed, Aborted, Expired, Roam}
-use Rattle.totals_record.specs.declared.entry.Entry.{Entry}
-use Rattle.totals_record.specs.declared.totals.Share.{Share}
-use Rattle.totals_record.specs.declared.totals.Totals.{Totals}
+use Rattle.std.specs.{List.{count_by, fold, sum_by}, Prelude.{length, replicate, true}}
+use Rattle.std.specs.Prelude.{[], ℕ, ◌&&◌, ◌+◌, ◌-◌, ◌==◌, ◌∷◌, ◌≡◌, ◌≤◌, Bool, List, false, get_or, if◌then◌else◌}
+use Rattle.taxi_units.specs.declared.receipt.Kind.{Kind, TheVariants.{Aborted, Closed, Expired, Roam}}
+use Rattle.totals_record.specs.Common.{Entry, Share, Totals}
 
 -- the test `is_of_hiring` is true if a kind of entry is one of a closed hiring, which all are but roaming
 abbrev pub is_of_hiring : Kind → Bool

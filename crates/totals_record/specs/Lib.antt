@@ -6,3 +6,4 @@ pub mod Spelling
 pub mod States
 pub mod Sums
 pub mod Table
+pub mod Common

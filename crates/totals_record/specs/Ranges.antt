@@ -1,14 +1,8 @@
 -- Rules: the ranges of what a totals' slot holds, in the order of its table, and the number of a state.
-use Rattle.std.specs.Prelude.{◌≡◌, ◌⊎◌, ℕ, ◌+◌, ◌*◌, ◌^◌, ◌<◌, ◌≤◌, true, false, length, replicate, is_some, IfSome}
-use Rattle.std.specs.List.{All, sum_by}
-use Rattle.totals_record.specs.declared.durable_state.Durable.{Durable}
-use Rattle.totals_record.specs.declared.entry.Entry.{Entry}
-use Rattle.totals_record.specs.declared.totals.Totals.{Totals}
-use Rattle.totals_record.specs.declared.trip.Trip.{Trip}
-use Rattle.taxi_units.specs.Money.{largest_amount}
-use Rattle.taxi_units.specs.Time.{IsSecond, last_second, last_tick}
-use Rattle.totals_record.specs.Entries.{closes, distance_of, no_share}
-use Rattle.taxi_units.specs.Limits.{largest_supplements, last_number, roaming_amid}
+use Rattle.{std.specs.List.{All, sum_by}, taxi_units.specs.Limits.{largest_supplements, roaming_amid}}
+use Rattle.std.specs.Prelude.{ℕ, ◌*◌, ◌+◌, ◌<◌, ◌^◌, ◌≡◌, ◌≤◌, ◌⊎◌, IfSome, false, is_some, length, replicate, true}
+use Rattle.{taxi_units.specs.Time.{IsSecond, last_second}, totals_record.specs.Entries.{closes, distance_of, no_share}}
+use Rattle.totals_record.specs.Common.{Durable, Entry, Totals, Trip, largest_amount, last_number, last_tick}
 
 -- the number of a state is the one by which the later of two is known
 abbrev pub state_number_of : Durable → ℕ

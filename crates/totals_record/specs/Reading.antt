@@ -1,14 +1,9 @@
 -- By law: the state that bytes are read as. States in their ranges are bodies of slots. The law
 -- states_are_read_by_their_table says which state bytes are read as.
-use Rattle.std.specs.Prelude.{◌≡◌, List, ℕ, length, Option}
-use Rattle.std.proofs.Common.{ap, ◌∙◌}
-use Rattle.slot_bodies.specs.Bodies.{AreBodies, body_size}
-use Rattle.slot_bodies.specs.ReadBack.{read_back}
-use Rattle.slot_bodies.proofs.Laws.{alone_again, bodies_of}
-use Rattle.totals_record.specs.declared.durable_state.Durable.{Durable}
-use Rattle.totals_record.specs.Ranges.{IsDurable}
-use Rattle.totals_record.specs.Spelling.{spelling}
-use Rattle.totals_record.specs.Table.{durable_test, fits, spelled, table}
+use Rattle.std.{specs.Prelude.{ℕ, ◌≡◌, List, Option, length}, proofs.Common.{◌∙◌, ap}}
+use Rattle.slot_bodies.{specs.{Bodies.{AreBodies}, ReadBack.{read_back}}, proofs.Laws.{alone_again, bodies_of}}
+use Rattle.totals_record.specs.{Common.{Durable, body_size}, Table.{durable_test, fits, spelled, table}}
+use Rattle.totals_record.specs.{Ranges.{IsDurable}, Spelling.{spelling}}
 
 -- the state whose fields stand in the bytes at their places, whatever they are
 abbrev pub decoded : List ℕ → Durable

@@ -1,12 +1,7 @@
 -- Rules: the bytes of a durable state, which are those of a totals' slot behind its gate, in the order of its table.
-use Rattle.std.specs.Prelude.{ℕ, ◌==◌, if◌then◌else◌, List, [], ◌∷◌, ◌++◌, replicate, Option, Some, None}
-use Rattle.std.specs.List.{flat_map}
-use Rattle.drive_modes.specs.declared.meterage.Meterage.{Meterage}
-use Rattle.totals_record.specs.declared.durable_state.Durable.{Durable}
-use Rattle.totals_record.specs.declared.totals.Share.{Share}
-use Rattle.totals_record.specs.declared.totals.Totals.{Totals}
-use Rattle.totals_record.specs.declared.trip.Trip.{Trip}
-use Rattle.totals_record.specs.Bytes.{four, eight, sixteen, bit}
+use Rattle.{std.specs.List.{flat_map}, drive_modes.specs.declared.meterage.Meterage.{Meterage}}
+use Rattle.std.specs.Prelude.{[], ℕ, ◌++◌, ◌==◌, ◌∷◌, List, None, Option, Some, if◌then◌else◌, replicate}
+use Rattle.totals_record.specs.{Bytes.{bit, eight, four, sixteen}, Common.{Durable, Share, Totals, Trip}}
 
 -- bytes 1 to 80 of the slot have the number and the five totals
 abbrev pub head_bytes : ℕ → Totals → List ℕ

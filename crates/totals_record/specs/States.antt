@@ -1,15 +1,7 @@
 -- Rules: the durable state, and what a commit makes of it.
-use Rattle.std.specs.Prelude.{◌≡◌, ℕ, ◌+◌, ◌⊎◌, true, false, if◌then◌else◌, List, [], ◌∷◌, ◌++◌, Option, Some}
-use Rattle.std.specs.Prelude.{None}
-use Rattle.std.specs.List.{All, fold}
-use Rattle.totals_record.specs.declared.change.Change.{Change}
-use Rattle.totals_record.specs.declared.change.Change.TheVariants.{Enter, Hold}
-use Rattle.totals_record.specs.declared.durable_state.Durable.{Durable}
-use Rattle.totals_record.specs.declared.entry.Entry.{Entry}
-use Rattle.totals_record.specs.declared.totals.Totals.{Totals}
-use Rattle.totals_record.specs.declared.trip.Trip.{Trip}
-use Rattle.totals_record.specs.Entries.{closes, no_totals, totals_with}
-use Rattle.totals_record.specs.Ranges.{newest_layout}
+use Rattle.{std.specs.List.{All, fold}, totals_record.specs.Common.{Change, Durable, Enter, Entry, Hold, Totals, Trip}}
+use Rattle.std.specs.Prelude.{[], ℕ, ◌++◌, ◌+◌, ◌∷◌, ◌≡◌, ◌⊎◌, List, None, Option, Some, false, if◌then◌else◌, true}
+use Rattle.totals_record.specs.{Entries.{closes, no_totals, totals_with}, Ranges.{newest_layout}}
 
 -- the first state, with which sealing begins, has number 1, the totals of no entry, no held trip, and the newest layout
 abbrev pub first_state : Durable

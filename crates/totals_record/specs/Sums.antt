@@ -1,9 +1,7 @@
 -- Rules: a state that follows another by a list of commits. Entries has the sums over their entries.
-use Rattle.std.specs.Prelude.{◌≡◌, ◌+◌, List, length}
-use Rattle.totals_record.specs.declared.change.Change.{Change}
-use Rattle.totals_record.specs.declared.durable_state.Durable.{Durable}
+use Rattle.std.specs.Prelude.{◌+◌, ◌≡◌, List, length}
+use Rattle.totals_record.specs.{Common.{Change, Durable}, States.{IsHeldAfter, entries_of, layout_after}}
 pub use Rattle.totals_record.specs.Entries.{AddsUp, totals_of}
-use Rattle.totals_record.specs.States.{entries_of, layout_after, IsHeldAfter}
 
 -- a state follows another by a list of commits if its number grew by how many they are, its totals by their entries,
 -- and its layout and its held trip are what they leave

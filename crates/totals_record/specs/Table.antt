@@ -1,28 +1,18 @@
 -- For proofs: the bytes of a durable state as a table that is made of parts, and the tests of its ranges as the code
 -- makes them. A state in its ranges fits the table and is spelled by it. Spelling and Ranges have what both mean.
-use Rattle.std.specs.Prelude.{◌≡◌, ℕ, ◌+◌, ◌*◌, ◌^◌, ◌<◌, ◌≤◌, ◌==◌, ⊤, Bool, true, false, if◌then◌else◌, List, []}
-use Rattle.std.specs.Prelude.{◌∷◌, ◌++◌, length, replicate, Option, Some, None, IfSome}
-use Rattle.std.specs.List.{All, flat_map, sum_by}
-use Rattle.std.proofs.Common.{refl, sym, ap, subst, ◌∙◌, add-le-add, append_assoc, le_of_lt, le_trans, lit<, zero-add}
-use Rattle.std.proofs.lemmas.List.Elements.{All-head, All-replicate, All-tail}
-use Rattle.drive_modes.specs.declared.meterage.Meterage.{Meterage}
-use Rattle.slot_bodies.specs.Codec.{Codec, byte, bytes, eight_bytes, fitting, four_bytes, made, optional, row}
-use Rattle.slot_bodies.specs.Codec.{sixteen_bytes, spell_optional, zeros, ◌⊗◌, ◌⊙◌}
+use Rattle.std.specs.{List.{All, flat_map, sum_by}, Prelude.{Some, false, if◌then◌else◌, length, replicate, true}}
+use Rattle.std.specs.Prelude.{[], ℕ, ⊤, ◌*◌, ◌++◌, ◌+◌, ◌<◌, ◌==◌, ◌^◌, ◌∷◌, ◌≡◌, ◌≤◌, Bool, IfSome, List, None, Option}
+use Rattle.std.proofs.Common.{◌∙◌, add-le-add, ap, append_assoc, le_of_lt, le_trans, lit<, refl, subst, sym, zero-add}
+use Rattle.{std.proofs.lemmas.List.Elements.{All-head, All-replicate, All-tail}, totals_record.specs.Entries.{no_share}}
+use Rattle.taxi_units.specs.{Limits.{largest_supplements, roaming_amid}, Time.{first_second, last_second}}
+use Rattle.taxi_units.specs.Test.{◌&◌, ◌⊕◌, Test, at_most, each, either, if_passes, if_some, less, same, stated}
+use Rattle.slot_bodies.specs.Codec.{◌⊗◌, ◌⊙◌, Codec, byte, bytes, eight_bytes, fitting, four_bytes, made, optional, row}
+use Rattle.{slot_bodies.specs.Codec.{sixteen_bytes, spell_optional, zeros}, totals_record.specs.Spelling.{trip_bytes}}
 use Rattle.slot_bodies.proofs.Laws.{below_of_most, below_of_times, parts_below}
-use Rattle.taxi_units.specs.Limits.{largest_supplements, last_number, roaming_amid}
-use Rattle.taxi_units.specs.Money.{largest_amount}
-use Rattle.taxi_units.specs.Test.{Test, at_most, each, either, if_passes, if_some, less, same, stated, within, ◌&◌}
-use Rattle.taxi_units.specs.Test.{◌⊕◌}
-use Rattle.taxi_units.specs.Time.{first_second, last_second, last_tick}
-use Rattle.totals_record.specs.declared.durable_state.Durable.{Durable}
-use Rattle.totals_record.specs.declared.totals.Share.{Share}
-use Rattle.totals_record.specs.declared.totals.Totals.{Totals}
-use Rattle.totals_record.specs.declared.trip.Trip.{Trip}
-use Rattle.totals_record.specs.Bytes.{bit, four, eight}
-use Rattle.totals_record.specs.Entries.{no_share}
+use Rattle.{drive_modes.specs.declared.meterage.Meterage.{Meterage}, totals_record.specs.Bytes.{bit, eight, four}}
+use Rattle.totals_record.specs.Common.{Durable, Share, Totals, Trip, largest_amount, last_number, last_tick, within}
 use Rattle.totals_record.specs.Ranges.{AreShares, IsDurable, IsHeld, IsTripInItsRanges, newest_layout}
 use Rattle.totals_record.specs.Spelling.{course_bytes, head_bytes, held_bytes, meterage_bytes, share_bytes, spelling}
-use Rattle.totals_record.specs.Spelling.{trip_bytes}
 
 -- ---- the table
 

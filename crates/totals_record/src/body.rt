@@ -1,7 +1,5 @@
 //! A durable state as the body of a slot.
-ghost use Rattle.totals_record.specs.Ranges.{IsDurable, state_number_of};
-ghost use Rattle.totals_record.specs.Reading.{reads};
-ghost use Rattle.totals_record.specs.Spelling.{spelling};
+ghost use Rattle.totals_record.specs.{Ranges.{IsDurable, state_number_of}, Reading.{reads}, Spelling.{spelling}};
 
 use crate::Durable;
 use crate::ranges::is_durable;

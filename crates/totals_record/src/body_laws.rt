@@ -1,9 +1,6 @@
 //! What a slot's bytes are read as.
-ghost use Rattle.std.specs.Prelude.{◌≡◌, ◌↔◌, ℕ, List, Some};
-ghost use Rattle.totals_record.specs.declared.durable_state.Durable.{Durable};
-ghost use Rattle.totals_record.specs.Ranges.{IsDurable};
-ghost use Rattle.totals_record.specs.Reading.{reads};
-ghost use Rattle.totals_record.specs.Spelling.{spelling};
+ghost use Rattle.std.specs.Prelude.{ℕ, ◌↔◌, ◌≡◌, List, Some};
+ghost use Rattle.totals_record.specs.{Common.{Durable}, Ranges.{IsDurable}, Reading.{reads}, Spelling.{spelling}};
 
 /// A law: bytes are read as a state exactly if each field of the state is in its range and the bytes are those of the
 /// state, in the layout that it names.

@@ -1,9 +1,7 @@
 //! Numbers in bytes, the greatest byte first.
-ghost use Rattle.std.specs.Prelude.{◌≡◌, ◌++◌, ◌+◌, ◌≤◌, length};
-ghost use Rattle.arrayvec.specs.ArrayVec.{array_vec_len};
-ghost use Rattle.slot_bodies.specs.Bodies.{body_size};
-ghost use Rattle.totals_record.specs.Bytes.{four, eight, sixteen, bit};
-ghost use Rattle.slot_bodies.specs.BytesAt.{sixteen_at};
+ghost use Rattle.std.specs.Prelude.{◌++◌, ◌+◌, ◌≡◌, ◌≤◌, length};
+ghost use Rattle.{arrayvec.specs.ArrayVec.{array_vec_len}, slot_bodies.specs.BytesAt.{sixteen_at}};
+ghost use Rattle.totals_record.specs.{Bytes.{bit, eight, four, sixteen}, Common.{body_size}};
 
 use slot_bodies::{Spelled, eight_at, put_bytes};
 

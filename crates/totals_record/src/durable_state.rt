@@ -1,8 +1,7 @@
 //! The durable state: what the meter keeps over any cut of the power.
-ghost use Rattle.std.specs.Prelude.{◌≡◌, ◌+◌, ◌≤◌};
-ghost use Rattle.totals_record.specs.Ranges.{IsDurable, newest_layout};
-ghost use Rattle.totals_record.specs.States.{after, first_state};
-ghost use Rattle.taxi_units.specs.Limits.{last_number};
+ghost use Rattle.std.specs.Prelude.{◌+◌, ◌≡◌, ◌≤◌};
+ghost use Rattle.totals_record.specs.Common.{last_number};
+ghost use Rattle.totals_record.specs.{Ranges.{IsDurable, newest_layout}, States.{after, first_state}};
 
 use crate::ranges::NEWEST_LAYOUT;
 use crate::{Change, Entry, Totals, Trip};

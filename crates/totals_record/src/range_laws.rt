@@ -1,12 +1,7 @@
 //! Commits of the meter keep the ranges.
 ghost use Rattle.std.specs.Prelude.{◌+◌, ◌≤◌};
-ghost use Rattle.totals_record.specs.declared.change.Change.TheVariants.{Enter, Hold};
-ghost use Rattle.totals_record.specs.declared.durable_state.Durable.{Durable};
-ghost use Rattle.totals_record.specs.declared.entry.Entry.{Entry};
-ghost use Rattle.totals_record.specs.declared.trip.Trip.{Trip};
+ghost use Rattle.totals_record.specs.{Common.{Durable, Enter, Entry, Hold, Trip, last_number}, States.{after}};
 ghost use Rattle.totals_record.specs.Ranges.{HasRoom, IsDurable, IsEntry, IsTripInItsRanges};
-ghost use Rattle.totals_record.specs.States.{after};
-ghost use Rattle.taxi_units.specs.Limits.{last_number};
 
 /// A law: the commits of the meter keep the ranges of a state with a number of at most 2 * 10^15. An entry keeps them
 /// if it has at most 10^22 mm in all, a fare of at most 99,999,999 and supplements of at most 1,584,000,000. It has a

@@ -1,12 +1,9 @@
 //! The ranges of what a totals' slot holds, in the order of its table.
-ghost use Rattle.std.specs.Prelude.{◌≡◌, ◌+◌, ◌≤◌, nat_le};
-ghost use Rattle.std.specs.List.{list_all};
-ghost use Rattle.taxi_units.specs.Limits.{last_number};
-ghost use Rattle.taxi_units.specs.Test.{each, if_passes, if_some, same, within};
-ghost use Rattle.taxi_units.specs.Time.{last_tick};
+ghost use Rattle.std.specs.{List.{list_all}, Prelude.{◌+◌, ◌≡◌, ◌≤◌, nat_le}};
+ghost use Rattle.taxi_units.specs.Test.{each, if_passes, if_some, same};
+ghost use Rattle.totals_record.specs.Common.{last_number, last_tick, within};
 ghost use Rattle.totals_record.specs.Table.{counts_test, course_test, durable_test, extras_test, held_test};
-ghost use Rattle.totals_record.specs.Table.{layout_test, meterage_test, none_test, sums_test};
-ghost use Rattle.totals_record.specs.Table.{totals_test, trip_test};
+ghost use Rattle.totals_record.specs.Table.{layout_test, meterage_test, none_test, sums_test, totals_test, trip_test};
 
 use crate::{Durable, Share, Totals, Trip};
 use drive_modes::Meterage;

@@ -1,8 +1,5 @@
 //! The state after a list of commits, told apart from how the code finds it.
-ghost use Rattle.std.specs.Prelude.{List};
-ghost use Rattle.totals_record.specs.declared.change.Change.{Change};
-ghost use Rattle.totals_record.specs.declared.durable_state.Durable.{Durable};
-ghost use Rattle.totals_record.specs.States.{after_all};
+ghost use Rattle.{std.specs.Prelude.{List}, totals_record.specs.{Common.{Change, Durable}, States.{after_all}}};
 ghost use Rattle.totals_record.specs.Sums.{GrowsBy};
 
 /// A law: after a list of commits the number has grown by the list's length, and the totals by the sums over its

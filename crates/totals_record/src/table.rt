@@ -1,16 +1,12 @@
 //! The table of a durable state: its bytes, one field behind the other, and the fields at their places in
 //! bytes, each place one less than in the slot.
-ghost use Rattle.std.specs.Prelude.{◌≡◌, ◌++◌, ◌+◌, ◌≤◌, drop, length, take};
-ghost use Rattle.arrayvec.specs.ArrayVec.{array_vec_len};
-ghost use Rattle.slot_bodies.specs.Bodies.{body_size};
-ghost use Rattle.slot_bodies.specs.BytesAt.{byte_at, eight_at, sixteen_at};
+ghost use Rattle.std.specs.Prelude.{◌++◌, ◌+◌, ◌≡◌, ◌≤◌, drop, length, take};
+ghost use Rattle.{arrayvec.specs.ArrayVec.{array_vec_len}, slot_bodies.specs.BytesAt.{eight_at, sixteen_at}};
 ghost use Rattle.slot_bodies.specs.Codec.{optional, row};
-ghost use Rattle.taxi_units.specs.Money.{largest_amount};
-ghost use Rattle.totals_record.specs.Ranges.{IsDurable};
-ghost use Rattle.totals_record.specs.Reading.{decoded};
-ghost use Rattle.totals_record.specs.Spelling.{head_bytes, course_bytes, meterage_bytes, trip_bytes};
-ghost use Rattle.totals_record.specs.Spelling.{held_bytes, share_bytes, shared_bytes, spelling};
-ghost use Rattle.totals_record.specs.Table.{found_before, meterage_table, share_table, trip_table};
+ghost use Rattle.totals_record.specs.Common.{body_size, byte_at, largest_amount};
+ghost use Rattle.totals_record.specs.{Ranges.{IsDurable}, Spelling.{shared_bytes, spelling, trip_bytes}};
+ghost use Rattle.totals_record.specs.{Reading.{decoded}, Table.{found_before, meterage_table, share_table, trip_table}};
+ghost use Rattle.totals_record.specs.Spelling.{course_bytes, head_bytes, held_bytes, meterage_bytes, share_bytes};
 
 use crate::bytes::{bit_of, put_eight, put_four, put_sixteen, sixteen_at};
 use crate::{Durable, Share, Totals, Trip};

@@ -1,8 +1,6 @@
 //! The totals.
-ghost use Rattle.std.specs.Prelude.{◌≡◌, ◌<◌, ◌^◌};
-ghost use Rattle.std.specs.List.{All};
-ghost use Rattle.totals_record.specs.Entries.{shares_with, totals_with};
-ghost use Rattle.totals_record.specs.Table.{Fit};
+ghost use Rattle.std.specs.{List.{All}, Prelude.{◌<◌, ◌^◌, ◌≡◌}};
+ghost use Rattle.totals_record.specs.{Entries.{shares_with, totals_with}, Table.{Fit}};
 
 use crate::Entry;
 use crate::ranges::is_digit;

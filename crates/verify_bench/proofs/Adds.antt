@@ -1,20 +1,11 @@
 -- Parts of a drive, written one after another.
-use Rattle.std.proofs.Common.{◌≡◌, ℕ, ◌+◌, ◌*◌, ◌≤◌, List, [], ◌∷◌, ◌++◌, ◌∙◌, ap, sym, refl, length, flat_map}
-use Rattle.std.proofs.Common.{append_assoc, arith, length-append}
-use Rattle.std.specs.Prelude.{replicate}
-use Rattle.std.proofs.lemmas.List.{append-nil, replicate-append-replicate}
-use Rattle.std.proofs.lemmas.Grind.{flat_map-append}
-use Rattle.drive_text.proofs.Laws.{written_line_is_short}
-use Rattle.drive_text.specs.Ranges.{IsInRange}
-use Rattle.drive_text.specs.Runs.{run_events}
-use Rattle.drive_text.specs.Written.{event_text}
-use Rattle.drive_text.specs.declared.run.Run.{Run}
-use Rattle.drive_text.specs.declared.run.Run.TheVariants.{One, Many}
-use Rattle.taxi_units.specs.declared.event.Event.{Event}
-use Rattle.verify_bench.specs.Adding.{Adds, place_of, lines_events}
+use Rattle.std.{specs.Prelude.{replicate}, proofs.lemmas.Grind.{flat_map-append}}
+use Rattle.std.proofs.Common.{[], ℕ, ◌*◌, ◌++◌, ◌+◌, ◌∙◌, ◌∷◌, ◌≡◌, ◌≤◌, List, ap, append_assoc, arith, flat_map}
+use Rattle.std.proofs.{Common.{length, length-append, refl, sym}, lemmas.List.{append-nil, replicate-append-replicate}}
+use Rattle.{drive_text.proofs.Laws.{written_line_is_short}, verify_bench.specs.declared.writing.Writing.{Writing}}
+use Rattle.verify_bench.specs.{AddedText.{Adds, lines_events, place_of}, Generated.{lines_text, next_state, nothing}}
+use Rattle.verify_bench.specs.Common.{Event, IsInRange, Many, One, Run, event_text, run_events}
 use Rattle.verify_bench.specs.Generated.{Place, Written, and_then, drawn, in_turn, intervals, line, line_text}
-use Rattle.verify_bench.specs.Generated.{lines_text, next_state, nothing}
-use Rattle.verify_bench.specs.declared.writing.Writing.{Writing}
 use Rattle.verify_bench.proofs.Lines.{event_line, intervals_are_short, intervals_line}
 
 -- the texts and the events of lines behind others

@@ -1,15 +1,9 @@
 -- The amounts of supplements, number by number.
-use Rattle.std.proofs.Common.{◌≡◌, ℕ, zero, suc, ◌+◌, ◌*◌, ◌-◌, ◌<◌, ◌≤◌, ◌∙◌, List, [], ◌∷◌, ◌++◌, refl, ap, sym, map}
-use Rattle.std.proofs.Common.{sum, All, inl, inr, arith}
-use Rattle.std.specs.Prelude.{cond, nat_eq}
-use Rattle.std.proofs.Math.Nat.{add-mul}
-use Rattle.std.proofs.lemmas.List.Elements.{All-head, All-push, All-tail}
-use Rattle.std.proofs.lemmas.List.Sums.{sum_by-append, sum_by-cons}
-use Rattle.std.proofs.lemmas.Bool.Decides.{eqb_tells}
-use Rattle.meter_model.specs.KeptTrip.{IsSupplementNumber}
-use Rattle.meter_model.specs.Supplements.{times}
-use Rattle.verify_bench.specs.Amounts.{amounts_among}
-use Rattle.verify_bench.proofs.Gathering.{zero_plus}
+use Rattle.{std.specs.Prelude.{cond, nat_eq}, verify_bench.specs.Common.{IsSupplementNumber, times}}
+use Rattle.std.proofs.Common.{[], ℕ, ◌*◌, ◌++◌, ◌+◌, ◌-◌, ◌<◌, ◌∙◌, ◌∷◌, ◌≡◌, ◌≤◌, All, List, ap, arith, inl, inr, map}
+use Rattle.std.proofs.{Common.{refl, suc, sum, sym, zero}, lemmas.List.Elements.{All-head, All-push, All-tail}}
+use Rattle.std.proofs.{Math.Nat.{add-mul}, lemmas.{Bool.Decides.{eqb_tells}, List.Sums.{sum_by-append, sum_by-cons}}}
+use Rattle.verify_bench.{specs.Amounts.{amounts_among}, proofs.GatheredSums.{zero_plus}}
 
 -- a number at the head of a list
 times_head : (number x : ℕ) (xs : List ℕ) → times number (x ∷ xs) ≡ cond (nat_eq x number) 1 0 + times number xs

@@ -1,28 +1,12 @@
 -- The supply of the bench's meter.
-use Rattle.std.proofs.Common.{◌≡◌, ◌≢◌, ◌<◌, ℕ, refl, sum, true, false, ◌≤◌, Option, Some, None, arith}
-use Rattle.std.specs.Prelude.{nat_lt, option_map}
-use Rattle.std.proofs.lemmas.Bool.{le-ltb, lt-ltb}
-use Rattle.meter_model.specs.Closing.{roaming_entered}
-use Rattle.meter_model.specs.Meter.{Meter}
-use Rattle.meter_model.specs.Run.{ended_in}
-use Rattle.meter_model.specs.Setting.{Setting}
-use Rattle.meter_model.specs.Step.{powered_step, step_in}
-use Rattle.meter_model.specs.Supply.{held_or_closed, supply_dropped}
-use Rattle.meter_model.specs.Trip.{MeterTrip}
-use Rattle.tariff_syntax.specs.declared.context.Context.{Context}
-use Rattle.taxi_units.specs.Limits.{last_number}
-use Rattle.taxi_units.specs.declared.event.Event.{Event}
-use Rattle.taxi_units.specs.declared.event.Key.{Key}
+use Rattle.std.{specs.Prelude.{nat_lt, option_map}, proofs.lemmas.Bool.{le-ltb, lt-ltb}}
+use Rattle.std.proofs.Common.{ℕ, ◌<◌, ◌≡◌, ◌≢◌, ◌≤◌, None, Option, Some, arith, false, refl, sum, true}
+use Rattle.verify_bench.specs.{Bench.{AreTrips, BenchStands, HasTicks, IsHeldInRange, held_of}, Common.{supply_dropped}}
+use Rattle.verify_bench.specs.Common.{BenchMeter, Context, Event, ForHire, Hired, Hiring, IsSecond, Key, Meter}
+use Rattle.verify_bench.specs.Common.{MeterTrip, Off, Operating, SavedState, Setting, Stopped, Trip, ended_in}
+use Rattle.verify_bench.specs.Common.{held_or_closed, last_number, powered_step, roaming_entered, step_in}
+use Rattle.verify_bench.specs.TripExplanations.{hired_by}
 use Rattle.taxi_units.specs.declared.event.Key.TheVariants as keys
-use Rattle.taxi_units.specs.declared.event.Operating.{Operating}
-use Rattle.taxi_units.specs.declared.event.Operating.TheVariants.{Off, ForHire, Hired, Stopped}
-use Rattle.totals_record.specs.declared.trip.Trip.{Trip}
-use Rattle.taxi_units.specs.Time.{IsSecond}
-use Rattle.verify_bench.specs.Bench.{AreTrips, HasTicks, IsHeldInRange, BenchStands, held_of}
-use Rattle.verify_bench.specs.Explaining.{hired_by}
-use Rattle.verify_bench.specs.declared.hiring.Hiring.{Hiring}
-use Rattle.verify_bench.specs.declared.bench_meter.SavedState.{SavedState}
-use Rattle.verify_bench.specs.declared.bench_meter.BenchMeter.{BenchMeter}
 
 -- no trip stands beside no hiring
 pub none_beside : (s : Setting) (hired : Context) (hiring : Option Hiring) (trip : Option MeterTrip) → hiring ≡ None

@@ -1,47 +1,24 @@
 -- What the meter of the bench stands for.
-use Rattle.std.proofs.Common.{◌≡◌, ℕ, ◌+◌, ◌-◌, ◌^◌, ◌<◌, ◌≤◌, ◌∙◌, ◌⊎◌, inl, inr, List, [], ◌∷◌, ◌++◌, refl, ap, sym}
-use Rattle.std.proofs.Common.{subst, map, sum, true, false, Bool, Option, Some, None, arith, append_assoc}
-use Rattle.std.specs.Prelude.{min, nat_le, if◌then◌else◌}
-use Rattle.std.proofs.lemmas.Bool.{le-leb, lt-leb}
-use Rattle.std.proofs.lemmas.List.{append-nil, map-append}
-use Rattle.std.proofs.lemmas.List.Elements.{filter_map-append}
-use Rattle.meter_model.specs.Closing.{closed, receipt_of, roaming_checked, roaming_entered}
-use Rattle.meter_model.specs.Display.{shown, display_of, is_shown}
-use Rattle.taxi_units.specs.declared.event.Key.{Key}
-use Rattle.taxi_units.specs.declared.event.Key.TheVariants as keys
-use Rattle.meter_model.specs.Interval.{context_now, context_of, counted_in, interval_begun, interval_counted}
-use Rattle.meter_model.specs.Interval.{pulses_so_far, ticks_so_far, with_interval}
-use Rattle.meter_model.specs.Meter.{Meter, Outcome, ◌>>=◌}
-use Rattle.meter_model.specs.Setting.{Setting}
-use Rattle.meter_model.specs.Step.{latch_refused}
-use Rattle.meter_model.specs.Trip.{InHired, MeterTrip, pulses_in, pulses_of, ticks_in, ticks_of, with_part}
-use Rattle.meter_model.specs.Trip as model
-use Rattle.meter_model.specs.declared.act.Act.{Act}
-use Rattle.meter_model.specs.declared.act.Act.TheVariants.{Show}
-use Rattle.taxi_units.specs.declared.event.Operating.TheVariants.{Off, ForHire, Hired, Stopped}
-use Rattle.tariff_syntax.specs.declared.context.Context.{Context}
-use Rattle.meter_model.specs.Keys.{extra_added, key_in}
-use Rattle.meter_model.specs.Supplements.{times}
-use Rattle.tariff_check.specs.declared.values.Supplement.{Supplement}
-use Rattle.taxi_units.specs.Limits.{hirings_end, last_number}
-use Rattle.taxi_units.specs.declared.event.Operating.{Operating}
-use Rattle.taxi_units.specs.declared.receipt.Display.{Display}
-use Rattle.verify_bench.specs.Bench.{AreTrips, HasTicks, IsMeterInRange, IsHiringInRange, Moves, BenchStands}
-use Rattle.verify_bench.specs.Explaining.{Explanation, explanation, explanation_of, explanations_in, hired_by, taken_of}
-use Rattle.verify_bench.specs.Explaining.{whole_of}
-use Rattle.taxi_units.specs.declared.receipt.Receipt as receipts
-use Rattle.verify_bench.specs.Groups.{groups_of, sums_of}
-use Rattle.verify_bench.specs.declared.explained.Group.{Group}
-use Rattle.verify_bench.specs.declared.explained.Taken.{Taken}
-use Rattle.verify_bench.proofs.Gathering.{zero_plus}
-use Rattle.totals_record.specs.Entries.{is_of_hiring}
-use Rattle.taxi_units.specs.declared.receipt.Kind.{Kind}
+use Rattle.std.specs.Prelude.{if◌then◌else◌, min, nat_le}
+use Rattle.std.proofs.Common.{[], ℕ, ◌++◌, ◌+◌, ◌-◌, ◌<◌, ◌^◌, ◌∙◌, ◌∷◌, ◌≡◌, ◌≤◌, ◌⊎◌, Bool, List, None, Option, Some}
+use Rattle.std.proofs.Common.{ap, append_assoc, arith, false, inl, inr, map, refl, subst, sum, sym, true}
+use Rattle.std.proofs.lemmas.{Bool.{le-leb, lt-leb}, List.{append-nil, map-append, Elements.{filter_map-append}}}
+use Rattle.{taxi_units.specs.declared.receipt.Display.{Display}, totals_record.specs.Entries.{is_of_hiring}}
+use Rattle.{meter_model.specs.Display.{display_of, is_shown}, verify_bench.specs.TripExplanations.{taken_of, whole_of}}
+use Rattle.meter_model.specs.{Trip.{pulses_of, ticks_of, with_part}, declared.act.Act.TheVariants.{Show}}
+use Rattle.verify_bench.specs.Bench.{AreTrips, BenchStands, HasTicks, IsHiringInRange, IsMeterInRange, Moves}
+use Rattle.verify_bench.specs.Common.{◌>>=◌, Act, BenchMeter, Context, Explained, ForHire, Group, Hired, Hiring}
+use Rattle.verify_bench.specs.Common.{InHired, Key, Kind, Meter, MeterTrip, Off, Operating, Outcome, Setting, Stopped}
+use Rattle.verify_bench.specs.Common.{Sums, Supplement, Taken, closed, context_now, context_of, counted_in, extra_added}
+use Rattle.verify_bench.specs.Common.{hirings_end, interval_begun, interval_counted, key_in, last_number, latch_refused}
+use Rattle.verify_bench.specs.Common.{pulses_in, pulses_so_far, receipt_of, roaming_checked, roaming_entered, shown}
+use Rattle.verify_bench.specs.{Common.{ticks_in, ticks_so_far, times, with_interval}, Groups.{groups_of, sums_of}}
 use Rattle.verify_bench.specs.Hirings.{IsHiringOf}
-use Rattle.verify_bench.specs.Receipts.{receipt_in, receipts_in}
-use Rattle.verify_bench.specs.declared.explained.Explained.{Explained}
-use Rattle.verify_bench.specs.declared.explained.Sums.{Sums}
-use Rattle.verify_bench.specs.declared.hiring.Hiring.{Hiring}
-use Rattle.verify_bench.specs.declared.bench_meter.BenchMeter.{BenchMeter}
+use Rattle.verify_bench.{specs.Receipts.{receipt_in, receipts_in}, proofs.GatheredSums.{zero_plus}}
+use Rattle.verify_bench.specs.TripExplanations.{Explanation, explanation, explanation_of, explanations_in, hired_by}
+use Rattle.taxi_units.specs.declared.event.Key.TheVariants as keys
+use Rattle.meter_model.specs.Trip as model
+use Rattle.taxi_units.specs.declared.receipt.Receipt as receipts
 
 -- the sums of a hiring are those of its trip
 pub whole_ticks : (s : Setting) (hired : Context) (hiring : Hiring) (trip : MeterTrip) → IsHiringOf s hired hiring trip

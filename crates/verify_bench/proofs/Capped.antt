@@ -1,9 +1,7 @@
 -- Fares of many steps.
-use Rattle.std.proofs.Common.{◌≡◌, ℕ, ◌+◌, ◌*◌, ◌≤◌, max, min, inl, inr, arith}
-use Rattle.std.proofs.Math.Nat.{mul-le-mul_left}
-use Rattle.std.proofs.lemmas.Bool.{cases_lt}
-use Rattle.drive_modes.specs.Fare.{shown_fare}
-use Rattle.taxi_units.specs.Money.{largest_amount}
+use Rattle.std.proofs.{Common.{ℕ, ◌*◌, ◌+◌, ◌≡◌, ◌≤◌, arith, inl, inr, max, min}, Math.Nat.{mul-le-mul_left}}
+use Rattle.{std.proofs.lemmas.Bool.{cases_lt}, taxi_units.specs.Money.{largest_amount}}
+use Rattle.verify_bench.specs.Common.{shown_fare}
 
 -- no more than eight digits of the steps count
 pub capped_fare : (initial minimum step steps : ℕ) → 1 ≤ step → min

@@ -1,26 +1,14 @@
 -- Events that the bench carries out, one after another.
-use Rattle.std.proofs.Common.{◌≡◌, ◌≢◌, ℕ, zero, suc, ◌+◌, ◌<◌, ◌∙◌, List, length, drop, get_or, [], ◌∷◌, ◌++◌, ap, sym}
-use Rattle.std.proofs.Common.{refl, append_assoc, add-one, flat_map, map}
-use Rattle.std.proofs.lemmas.Bool.{ne_eqb}
-use Rattle.std.proofs.lemmas.List.{append-nil}
-use Rattle.std.proofs.Math.Seq.{drop-cons}
-use Rattle.drive_text.specs.Runs.{interval_events, intervals_events, run_events}
-use Rattle.drive_text.specs.declared.run.Run.{Run}
-use Rattle.meter_model.specs.Interval.{context_now}
-use Rattle.meter_model.specs.Run.{ended, opened}
-use Rattle.meter_model.specs.Setting.{Setting}
-use Rattle.meter_model.specs.Step.{step}
-use Rattle.taxi_units.specs.declared.event.Event.{Event}
-use Rattle.taxi_units.specs.declared.event.Event.TheVariants.{Down, Pulses, Tick}
-use Rattle.tariff_syntax.specs.declared.context.Context.{Context}
-use Rattle.totals_record.specs.States.{first_state}
-use Rattle.verify_bench.specs.Bench.{GoesThroughEvent, BenchStands}
-use Rattle.verify_bench.specs.Carrying.{Carries, IsAmidDrive, IsAmidExpected}
-use Rattle.verify_bench.specs.Expecting.{expected_of}
-use Rattle.verify_bench.specs.Explaining.{Explanation, explanation_of, explanations_from, explanations_of}
-use Rattle.verify_bench.specs.Explaining.{explanations_in, hired_at, trip_at}
-use Rattle.verify_bench.specs.declared.explained.Explained.{Explained}
-use Rattle.verify_bench.specs.declared.bench_meter.BenchMeter.{BenchMeter}
+use Rattle.std.proofs.Common.{[], ℕ, ◌++◌, ◌+◌, ◌<◌, ◌∙◌, ◌∷◌, ◌≡◌, ◌≢◌, List, add-one, ap, append_assoc, drop}
+use Rattle.std.proofs.{Common.{flat_map, get_or, length, map, refl, suc, sym, zero}, lemmas.List.{append-nil}}
+use Rattle.std.proofs.{Math.Seq.{drop-cons}, lemmas.Bool.{ne_eqb}}
+use Rattle.taxi_units.specs.declared.event.Event.TheVariants.{Pulses}
+use Rattle.verify_bench.specs.Bench.{BenchStands, GoesThroughEvent}
+use Rattle.verify_bench.specs.BenchProgress.{Carries, IsAmidDrive, IsAmidExpected}
+use Rattle.verify_bench.specs.Common.{BenchMeter, Context, Down, Event, Explained, Run, Setting, Tick, context_now}
+use Rattle.verify_bench.specs.Common.{ended, first_state, interval_events, intervals_events, opened, run_events, step}
+use Rattle.verify_bench.specs.{ExpectedReceipts.{expected_of}, TripExplanations.{explanations_of, hired_at, trip_at}}
+use Rattle.verify_bench.specs.TripExplanations.{Explanation, explanation_of, explanations_from, explanations_in}
 
 -- an event
 pub carries_event : (s : Setting) (event : Event) (old new : BenchMeter) (a b : List Explained)

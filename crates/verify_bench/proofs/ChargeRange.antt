@@ -1,14 +1,8 @@
 -- How large the charge of an interval is, and which of its parts it is.
-use Rattle.std.proofs.Common.{◌≡◌, ℕ, ◌+◌, ◌*◌, ◌/◌, ◌^◌, ◌≤◌, Bool, true, false, nat_lt, refl, sym, ◌∙◌, arith, Fits}
-use Rattle.std.specs.Int.{w128}
-use Rattle.std.proofs.lemmas.Nat.{mul-le}
-use Rattle.std.proofs.Math.Nat.{div-le_self, mul-le-mul_right, mul_assoc}
-use Rattle.drive_modes.specs.declared.charges.Mode.{Mode}
-use Rattle.drive_modes.specs.declared.charges.Mode.TheVariants.{Single, Double}
-use Rattle.meter_model.specs.Charge.{charge_by}
-use Rattle.tariff_check.specs.Parts.{RateNumbers}
+use Rattle.std.{specs.Int.{w128}, proofs.{Math.Nat.{div-le_self, mul-le-mul_right, mul_assoc}, lemmas.Nat.{mul-le}}}
+use Rattle.std.proofs.Common.{ℕ, ◌*◌, ◌+◌, ◌/◌, ◌^◌, ◌∙◌, ◌≡◌, ◌≤◌, Bool, Fits, arith, false, nat_lt, refl, sym, true}
+use Rattle.verify_bench.specs.Common.{Both, Distance, Double, Mode, RateNumbers, Single, Time, charge_by}
 use Rattle.verify_bench.specs.Groups.{way_by}
-use Rattle.verify_bench.specs.declared.explained.Way.TheVariants.{Distance, Time, Both}
 
 -- a part of the measure
 share_range : (common over : ℕ) → common ≤ 10 ^ 18 → common / over ≤ 10 ^ 18

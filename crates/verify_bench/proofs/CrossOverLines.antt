@@ -1,14 +1,9 @@
 -- The cross-over lines, rate by rate.
-use Rattle.std.proofs.Common.{◌≡◌, ◌∙◌, ℕ, zero, suc, ◌+◌, ◌<◌, ◌≤◌, List, [], ◌∷◌, ◌++◌, All, length, drop, get_or}
-use Rattle.std.proofs.Common.{drop-cons, ap, sym, subst, append_assoc, arith}
-use Rattle.std.proofs.lemmas.List.{append-nil}
-use Rattle.std.proofs.lemmas.List.Elements.{All-head, All-tail}
-use Rattle.tariff_check.specs.Parts.{RateNumbers}
-use Rattle.tariff_check.specs.Sound.{IsSoundRate}
-use Rattle.tariff_check.specs.SoundTariff.{own_values}
-use Rattle.tariff_check.specs.declared.choice.Choice.{Choice}
-use Rattle.verify_bench.specs.CrossOvers.{cross_over_line, cross_over_lines}
-use Rattle.verify_bench.proofs.GroupLists.{drop_past}
+use Rattle.std.proofs.Common.{[], ℕ, ◌++◌, ◌+◌, ◌<◌, ◌∙◌, ◌∷◌, ◌≡◌, ◌≤◌, All, List, ap, append_assoc, arith, drop}
+use Rattle.std.proofs.{Common.{drop-cons, get_or, length, subst, suc, sym, zero}, lemmas.List.{append-nil}}
+use Rattle.{std.proofs.lemmas.List.Elements.{All-head, All-tail}, tariff_check.specs.declared.choice.Choice.{Choice}}
+use Rattle.verify_bench.specs.Common.{IsSoundRate, RateNumbers, own_values}
+use Rattle.verify_bench.{specs.CrossOvers.{cross_over_line, cross_over_lines}, proofs.GroupLists.{drop_past}}
 
 -- the values of choices from a place on, if one is there
 pub values_at : {V : Type 0} (choices : List (Choice V)) (i : ℕ) (d : Choice V) → i < length choices

@@ -1,17 +1,12 @@
 -- The rows of a text, by the relation of csv and by its function.
-use Rattle.std.proofs.Common.{◌≡◌, ℕ, zero, suc, ◌+◌, ◌-◌, ◌<◌, ◌≤◌, Bool, true, false, List, [], ◌∷◌, ◌++◌, length}
-use Rattle.std.proofs.Common.{Option, Some, None, refl, ap, subst, ◌∙◌, arith}
-use Rattle.std.proofs.lemmas.List.{append-nil}
-use Rattle.std.specs.Prelude.{if◌then◌else◌, ◌==◌, ◌&&◌}
+use Rattle.std.{specs.Prelude.{◌&&◌, ◌==◌, if◌then◌else◌}, proofs.Common.{false, length, refl, subst, suc, true, zero}}
+use Rattle.std.proofs.Common.{[], ℕ, ◌++◌, ◌+◌, ◌-◌, ◌<◌, ◌∙◌, ◌∷◌, ◌≡◌, ◌≤◌, Bool, List, None, Option, Some, ap, arith}
+use Rattle.{std.proofs.lemmas.List.{append-nil}, csv.specs.declared.parser.{Action.{Action}, Terminator.{Terminator}}}
 use Rattle.csv.specs.Machine.{Read, after_end, ends_at_end, ends_with, field_after, fields_after, in_field, is_byte}
-use Rattle.csv.specs.Machine.{is_end, next_record, start_field, start_record, step}
-use Rattle.csv.specs.Reading.{AreRecords, Reached, records, records_from, records_next}
-use Rattle.csv.specs.declared.parser.Action.{Action}
+use Rattle.csv.specs.{Machine.{is_end, next_record, start_field, start_record, step}, declared.parser.Config.{Config}}
+use Rattle.csv.specs.{Reading.{AreRecords, Reached, records, records_from, records_next}, declared.parser.State.{State}}
 use Rattle.csv.specs.declared.parser.Action.TheVariants as act
-use Rattle.csv.specs.declared.parser.Config.{Config}
-use Rattle.csv.specs.declared.parser.State.{State}
 use Rattle.csv.specs.declared.parser.State.TheVariants as st
-use Rattle.csv.specs.declared.parser.Terminator.{Terminator}
 use Rattle.csv.specs.declared.parser.Terminator.TheVariants as term
 
 -- ---- a byte that ends a row leaves a state between two rows

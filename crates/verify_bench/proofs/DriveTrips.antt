@@ -1,36 +1,23 @@
 -- Each explanation is of a trip of its drive: by the tick that hired it, the parts that events added, and the event
 -- that
 -- closed it.
-use Rattle.std.proofs.Common.{◌≡◌, ℕ, ◌∙◌, List, [], ◌∷◌, ◌++◌, All, refl, ap, sym, subst, map, sum, Option, Some, None}
-use Rattle.std.proofs.Common.{append_assoc, option_map}
-use Rattle.std.proofs.lemmas.List.{append-nil}
-use Rattle.std.proofs.lemmas.List.Elements.{All-append, All-cons, All-nil}
-use Rattle.meter_model.proofs.Laws as states
-use Rattle.meter_model.specs.Interval.{context_now, context_of, counted_in, interval_counted, left_in, with_interval}
-use Rattle.meter_model.specs.KeptTrip.{IsSupplementNumber, IsTripKept, with_parts}
-use Rattle.meter_model.specs.Meter.{Meter}
-use Rattle.meter_model.specs.Run.{ended, ended_in, opened, run}
-use Rattle.meter_model.specs.Setting.{Setting}
-use Rattle.meter_model.specs.Step.{step, step_in}
-use Rattle.meter_model.specs.Trip.{InHired, InStopped, Part, Rest, MeterTrip, with_extra}
-use Rattle.tariff_syntax.specs.declared.context.Context.{Context}
-use Rattle.taxi_units.specs.declared.event.Event.{Event}
-use Rattle.taxi_units.specs.declared.event.Event.TheVariants as events
-use Rattle.taxi_units.specs.declared.event.Key.{Key}
-use Rattle.taxi_units.specs.declared.event.Key.TheVariants as keys
-use Rattle.taxi_units.specs.declared.event.Operating.{Operating}
-use Rattle.taxi_units.specs.declared.event.Operating.TheVariants.{Off, ForHire, Hired, Stopped}
-use Rattle.taxi_units.specs.declared.receipt.Receipt.{Receipt}
-use Rattle.totals_record.specs.States.{first_state}
-use Rattle.verify_bench.proofs.AmountSums.{all_numbers}
+use Rattle.std.proofs.Common.{[], ℕ, ◌++◌, ◌∙◌, ◌∷◌, ◌≡◌, All, List, None, Option, Some, ap, append_assoc, map}
+use Rattle.std.proofs.{Common.{option_map, refl, subst, sum, sym}, lemmas.List.Elements.{All-append, All-cons, All-nil}}
+use Rattle.{std.proofs.lemmas.List.{append-nil}, meter_model.specs.KeptTrip.{IsTripKept, with_parts}}
+use Rattle.{meter_model.specs.Trip.{with_extra}, verify_bench.specs.ClosedTrips.{parts_by, parts_over, rest_in}}
+use Rattle.verify_bench.specs.ClosedTrips.{HasTrip, Hires, IsClosedTrip, Lasts, TripOf, interval_in, meter_after}
+use Rattle.verify_bench.specs.Common.{Context, Event, ForHire, Hired, InHired, InStopped, IsSupplementNumber, Key}
+use Rattle.verify_bench.specs.Common.{Meter, MeterTrip, Off, Operating, Part, Receipt, Rest, Setting, Stopped}
+use Rattle.verify_bench.specs.Common.{context_now, context_of, counted_in, ended, ended_in, first_state}
+use Rattle.verify_bench.specs.Common.{interval_counted, left_in, opened, run, step, step_in, with_interval}
+use Rattle.verify_bench.specs.{Receipts.{receipts_in}, TripExplanations.{explanations_of, hired_at, hired_by, trip_at}}
+use Rattle.verify_bench.specs.TripExplanations.{Explanation, explanation, explanations_from, explanations_in}
+use Rattle.verify_bench.{specs.Wholes.{BeganIn, IsOfText, IsOfTrip, IsReceiptAmong}, proofs.AmountSums.{all_numbers}}
 use Rattle.verify_bench.proofs.Benches.{same_latch, same_operating}
 use Rattle.verify_bench.proofs.Explanations.{AreOf, Goes, IsReceiptOf, begun_at, none_counted, none_kept, step_goes}
-use Rattle.verify_bench.specs.ClosedTrips.{HasTrip, Hires, IsClosedTrip, Lasts, TripOf, interval_in, meter_after}
-use Rattle.verify_bench.specs.ClosedTrips.{parts_by, parts_over, rest_in}
-use Rattle.verify_bench.specs.Explaining.{Explanation, explanation, explanations_from, explanations_in, explanations_of}
-use Rattle.verify_bench.specs.Explaining.{hired_at, hired_by, trip_at}
-use Rattle.verify_bench.specs.Receipts.{receipts_in}
-use Rattle.verify_bench.specs.Wholes.{BeganIn, IsOfText, IsOfTrip, IsReceiptAmong}
+use Rattle.meter_model.proofs.Laws as states
+use Rattle.taxi_units.specs.declared.event.Event.TheVariants as events
+use Rattle.taxi_units.specs.declared.event.Key.TheVariants as keys
 
 -- ---- a trip that may be none began in a context
 

@@ -1,17 +1,11 @@
 -- Readings pass if each row of the report does.
-use Rattle.std.proofs.Common.{◌≡◌, ◌≢◌, ◌↔◌, ◌∙◌, ℕ, suc, ◌+◌, Bool, true, List, [], get_or, length, max, Option, Some}
-use Rattle.std.proofs.Common.{None, refl, sym, ap, arith}
-use Rattle.std.specs.Bool.{Decides}
-use Rattle.std.specs.Prelude.{codes, slice_get, ◌&&◌}
-use Rattle.std.proofs.lemmas.Bool.Decides.{Decides-below_and}
-use Rattle.verify_bench.specs.Passing.{EachRowPasses, do_all_pass}
-use Rattle.verify_bench.specs.PassingStages.{do_places_pass, does_place_pass, is_pass}
-use Rattle.verify_bench.specs.Report.{finding, verdict_word}
+use Rattle.std.specs.{Bool.{Decides}, Prelude.{◌&&◌, codes, slice_get}}
+use Rattle.std.proofs.Common.{[], ℕ, ◌+◌, ◌↔◌, ◌∙◌, ◌≡◌, ◌≢◌, Bool, List, None, Option, Some, ap, arith, get_or, length}
+use Rattle.std.proofs.{Common.{max, refl, suc, sym, true}, lemmas.Bool.Decides.{Decides-below_and}}
+use Rattle.verify_bench.specs.{Common.{Expected, Reading, Verdict}, PassedReports.{EachRowPasses, do_all_pass}}
+use Rattle.verify_bench.specs.{PassingStages.{do_places_pass, does_place_pass, is_pass}, Report.{finding, verdict_word}}
 use Rattle.verify_bench.specs.Verdicts.{verdict_of}
-use Rattle.verify_bench.specs.declared.expected.Expected.{Expected}
-use Rattle.verify_bench.specs.declared.judging.Verdict.{Verdict}
 use Rattle.verify_bench.specs.declared.judging.Verdict.TheVariants as verdicts
-use Rattle.verify_bench.specs.declared.reading.Reading.{Reading}
 
 -- a word that begins with another letter isn't the word of a pass
 other_word : (word : List ℕ) (letter : ℕ) → get_or word 0 0 ≡ letter → letter ≢ 80 → word ≢ codes "PASS"

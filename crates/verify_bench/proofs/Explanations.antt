@@ -1,52 +1,30 @@
 -- Explanations have the receipts of the meter's run, and what an event makes of a trip and its receipts.
-use Rattle.std.proofs.Common.{◌≡◌, ℕ, ◌+◌, ◌-◌, ◌∙◌, List, [], ◌∷◌, ◌++◌, refl, ap, sym, subst, map, sum, true}
-use Rattle.std.proofs.Common.{false, Bool, Option, Some, None, append_assoc}
-use Rattle.std.specs.Prelude.{nat_le, nat_lt, if◌then◌else◌}
-use Rattle.std.proofs.lemmas.List.{map-append}
+use Rattle.std.{specs.Prelude.{if◌then◌else◌, nat_le, nat_lt}, proofs.Common.{false, map, refl, subst, sum, sym, true}}
+use Rattle.std.proofs.Common.{[], ℕ, ◌++◌, ◌+◌, ◌-◌, ◌∙◌, ◌∷◌, ◌≡◌, Bool, List, None, Option, Some, ap, append_assoc}
+use Rattle.std.proofs.lemmas.List.{map-append, Elements.{All-append, All-cons, All-nil, filter_map-append}}
+use Rattle.taxi_units.specs.{Limits.{roaming_most}, declared.event.Why.TheVariants.{TooFast}}
+use Rattle.meter_model.specs.{ClosedTrip.{roaming_checked_in, trip_closed}, Keys.{position_set, zone_set}}
+use Rattle.meter_model.specs.{Display.{display_of, is_shown}, Trip.{begun, with_extra}}
+use Rattle.meter_model.specs.{Interval.{pulses_taken, room_of}, KeptTrip.{IsTripKept, IsTripKeptIn}, Meter.{quiet}}
+use Rattle.meter_model.specs.Keys.{extra_added_to, hired, hiring, is_among, key_pressed, latch_pressed, latched}
+use Rattle.meter_model.specs.{Step.{clock_read, expired, off_step, ticked}, declared.act.Act.TheVariants.{Refuse, Show}}
+use Rattle.meter_model.specs.Supply.{aborted, is_within_hold, resumed, supply_came, turned_off}
+use Rattle.verify_bench.specs.Common.{◌>>=◌, Context, Event, ForHire, Hired, InHired, InStopped, IsSupplementNumber}
+use Rattle.verify_bench.specs.Common.{Key, Kind, Meter, MeterTrip, Off, Operating, Outcome, Part, Receipt, Rest}
+use Rattle.verify_bench.specs.Common.{Setting, Stopped, Supplement, Trip, actions_of, closed, context_now, context_of}
+use Rattle.verify_bench.specs.Common.{counted_in, ended, ended_in, expired_or_pressed, extra_added, fees_in_force}
+use Rattle.verify_bench.specs.Common.{first_state, held_or_closed, hirings_end, hold_taken, interval_begun}
+use Rattle.verify_bench.specs.Common.{interval_counted, interval_left, key_in, last_number, latch_refused, left_in}
+use Rattle.verify_bench.specs.Common.{longest_trip, opened, powered, powered_step, receipt_of, roaming_checked}
+use Rattle.verify_bench.specs.Common.{roaming_entered, run, shown, step, step_in, supplement_numbered, supply_dropped}
+use Rattle.verify_bench.specs.{Common.{ticks_so_far, times, with_interval}, Receipts.{receipt_in, receipts_in}}
+use Rattle.verify_bench.specs.TripExplanations.{Explanation, explanation, explanations_from, explanations_in}
+use Rattle.verify_bench.specs.{TripExplanations.{explanations_of, hired_at, hired_by, trip_at}, Wholes.{IsOfText}}
+use Rattle.verify_bench.proofs.{Benches.{hired_after}, TreeParts.{supplement_of_text}}
 use Rattle.meter_model.proofs.Laws as states
-use Rattle.meter_model.specs.Closing.{closed, receipt_of, roaming_checked, roaming_checked_in, roaming_entered}
-use Rattle.meter_model.specs.Closing.{trip_closed}
-use Rattle.meter_model.specs.Display.{display_of, is_shown, shown}
-use Rattle.meter_model.specs.Interval.{context_now, counted_in, interval_begun, interval_counted, interval_left}
-use Rattle.meter_model.specs.Interval.{left_in, pulses_taken, room_of, ticks_so_far, context_of, with_interval}
-use Rattle.meter_model.specs.KeptTrip.{IsTripKept, IsTripKeptIn, IsSupplementNumber}
-use Rattle.meter_model.specs.Keys.{extra_added, extra_added_to, hired, hiring, is_among, key_in, key_pressed}
-use Rattle.meter_model.specs.Keys.{latch_pressed, latched, position_set, zone_set}
-use Rattle.meter_model.specs.Meter.{Meter, Outcome, ◌>>=◌, quiet}
-use Rattle.meter_model.specs.Run.{actions_of, ended, opened, run, ended_in}
-use Rattle.meter_model.specs.Setting.{Setting}
-use Rattle.meter_model.specs.Step.{clock_read, expired, expired_or_pressed, latch_refused, off_step, powered_step}
-use Rattle.meter_model.specs.Step.{step, step_in, ticked}
-use Rattle.meter_model.specs.Supplements.{times}
-use Rattle.meter_model.specs.Supply.{aborted, hold_taken, is_within_hold, held_or_closed, powered, resumed}
-use Rattle.meter_model.specs.Supply.{supply_came, supply_dropped, turned_off}
-use Rattle.meter_model.specs.Trip.{MeterTrip, begun, with_extra, InHired, InStopped, Part, Rest}
-use Rattle.meter_model.specs.declared.act.Act.TheVariants.{Show, Refuse}
-use Rattle.std.proofs.lemmas.List.Elements.{filter_map-append, All-append, All-cons, All-nil}
-use Rattle.tariff_check.specs.Amounts.{fees_in_force}
-use Rattle.tariff_check.specs.SoundTariff.{supplement_numbered}
-use Rattle.tariff_check.specs.declared.values.Supplement.{Supplement}
-use Rattle.tariff_syntax.specs.declared.context.Context.{Context}
-use Rattle.taxi_units.specs.Limits.{hirings_end, last_number, roaming_most}
-use Rattle.taxi_units.specs.Time.{longest_trip}
-use Rattle.taxi_units.specs.declared.event.Event.{Event}
 use Rattle.taxi_units.specs.declared.event.Event.TheVariants as events
-use Rattle.taxi_units.specs.declared.event.Key.{Key}
 use Rattle.taxi_units.specs.declared.event.Key.TheVariants as keys
-use Rattle.taxi_units.specs.declared.event.Operating.{Operating}
-use Rattle.taxi_units.specs.declared.event.Operating.TheVariants.{Off, ForHire, Hired, Stopped}
-use Rattle.taxi_units.specs.declared.event.Why.TheVariants.{TooFast}
-use Rattle.taxi_units.specs.declared.receipt.Kind.{Kind}
 use Rattle.taxi_units.specs.declared.receipt.Kind.TheVariants as kinds
-use Rattle.taxi_units.specs.declared.receipt.Receipt.{Receipt}
-use Rattle.totals_record.specs.States.{first_state}
-use Rattle.totals_record.specs.declared.trip.Trip.{Trip}
-use Rattle.verify_bench.proofs.Benches.{hired_after}
-use Rattle.verify_bench.proofs.TreeParts.{supplement_of_text}
-use Rattle.verify_bench.specs.Explaining.{Explanation, explanation, explanations_from, explanations_in, explanations_of}
-use Rattle.verify_bench.specs.Explaining.{hired_at, hired_by, trip_at}
-use Rattle.verify_bench.specs.Receipts.{receipt_in, receipts_in}
-use Rattle.verify_bench.specs.Wholes.{IsOfText}
 
 -- the receipts of explanations
 receipts_told : (s : Setting) (hired : Context) (trip : Option MeterTrip) (list : List Receipt)

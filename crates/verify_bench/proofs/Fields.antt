@@ -1,5 +1,5 @@
 -- The fields of a row.
-use Rattle.std.proofs.Common.{◌≡◌, ℕ, zero, suc, ◌≤◌, List, [], ◌∷◌, length, Some, None, arith}
+use Rattle.std.proofs.Common.{[], ℕ, ◌∷◌, ◌≡◌, ◌≤◌, List, None, Some, arith, length, suc, zero}
 use Rattle.csv.specs.Records.{field_at}
 
 -- a row of three fields has what stands at its places

@@ -1,13 +1,8 @@
 -- A verdict is the first fault.
-use Rattle.std.proofs.Common.{◌≡◌, ◌↔◌, ℕ, Bool, true, false, refl}
-use Rattle.std.specs.Bool.{Decides}
-use Rattle.std.proofs.lemmas.Bool.{false≢true}
+use Rattle.std.{specs.Bool.{Decides}, proofs.{Common.{ℕ, ◌↔◌, ◌≡◌, Bool, false, refl, true}, lemmas.Bool.{false≢true}}}
+use Rattle.verify_bench.specs.{Common.{Expected, Reading, Verdict}, VerdictStages.{verdict_by, within_test}}
 use Rattle.verify_bench.specs.Verdicts.{DistancePasses, FarePasses, IsVerdict, TimePasses, verdict_of}
-use Rattle.verify_bench.specs.VerdictStages.{verdict_by, within_test}
-use Rattle.verify_bench.specs.declared.expected.Expected.{Expected}
-use Rattle.verify_bench.specs.declared.judging.Verdict.{Verdict}
 use Rattle.verify_bench.specs.declared.judging.Verdict.TheVariants as verdicts
-use Rattle.verify_bench.specs.declared.reading.Reading.{Reading}
 
 -- the verdict that three facts give
 abbrev Gives : (fare distance time : Type 0) → Verdict → Type 0

@@ -1,16 +1,10 @@
 -- A generated drive means its lines.
-use Rattle.std.proofs.Common.{◌≡◌, ℕ, ◌<◌, ◌≤◌, [], ap, length, All, None, arith, length-append}
-use Rattle.std.proofs.lemmas.List.Elements.{All-cons}
-use Rattle.drive_text.specs.Drive.{bad_at_end, events_in, runs_in}
-use Rattle.drive_text.specs.Ending.{stream_limit}
-use Rattle.drive_text.specs.Ranges.{IsRunInRange}
-use Rattle.drive_text.specs.declared.run.Run.TheVariants.{One}
-use Rattle.taxi_units.specs.declared.event.Event.TheVariants.{Up}
+use Rattle.std.proofs.Common.{[], ℕ, ◌<◌, ◌≡◌, ◌≤◌, All, None, ap, arith, length, length-append}
+use Rattle.{std.proofs.lemmas.List.Elements.{All-cons}, drive_text.specs.Drive.{events_in}}
+use Rattle.verify_bench.{specs.AddedText.{lines_events}, proofs.LinesRead.{lines_read, nothing_reads}}
+use Rattle.verify_bench.specs.Common.{IsRunInRange, One, Up, bad_at_end, runs_in, stream_limit}
 use Rattle.verify_bench.specs.Generated.{beginning, generated, generated_lines, line_text, lines_text, trips_from}
-use Rattle.verify_bench.specs.Adding.{lines_events}
-use Rattle.verify_bench.proofs.LinesRead.{lines_read, nothing_reads}
-use Rattle.verify_bench.proofs.Lines.{first_is_short}
-use Rattle.verify_bench.proofs.Ranged.{trips_in_range}
+use Rattle.verify_bench.proofs.{Lines.{first_is_short}, Ranged.{trips_in_range}}
 
 lines_in_range : (seed trips : ℕ) → trips ≤ 1000 → All IsRunInRange (generated_lines seed trips)
 lines_in_range seed trips few = All-cons IsRunInRange (One (Up 1772406000)) (trips_from trips (beginning seed)).lines

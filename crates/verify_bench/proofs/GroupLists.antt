@@ -1,13 +1,8 @@
 -- The groups of rates, one after another.
-use Rattle.std.proofs.Common.{◌≡◌, ◌∙◌, ℕ, zero, suc, ◌+◌, ◌<◌, ◌≤◌, List, [], ◌∷◌, ◌++◌, length, drop, drop-cons}
-use Rattle.std.proofs.Common.{get_or, refl, ap, sym, subst, append_assoc, arith}
-use Rattle.std.proofs.lemmas.List.{append-nil}
-use Rattle.meter_model.specs.Setting.{Setting}
-use Rattle.meter_model.specs.Trip.{Part}
-use Rattle.tariff_check.specs.SoundTariff.{own_lines}
+use Rattle.std.proofs.Common.{[], ℕ, ◌++◌, ◌+◌, ◌<◌, ◌∙◌, ◌∷◌, ◌≡◌, ◌≤◌, List, ap, append_assoc, arith, drop, drop-cons}
+use Rattle.std.proofs.{Common.{get_or, length, refl, subst, suc, sym, zero}, lemmas.List.{append-nil}}
 use Rattle.tariff_check.specs.declared.choice.Choice.{Choice}
-use Rattle.verify_bench.specs.Groups.{groups_at, groups_from}
-use Rattle.verify_bench.specs.declared.explained.Group.{Group}
+use Rattle.verify_bench.specs.{Common.{Group, Part, Setting, own_lines}, Groups.{groups_at, groups_from}}
 
 -- the numbers of choices from a place on, if one is there
 pub numbers_at : {V : Type 0} (choices : List (Choice V)) (i : ℕ) (d : Choice V) → i < length choices

@@ -1,41 +1,17 @@
 -- The laws of this crate, as its public empty functions state them.
-use Rattle.std.proofs.Common.{◌≡◌, ◌≢◌, ◌↔◌, ℕ, ◌<◌, ◌≤◌, true, All, List, None, Result, Err, length, map}
-use Rattle.drive_text.specs.Drive.{bad_at_end, runs_in}
-use Rattle.drive_text.specs.Ending.{stream_limit}
-use Rattle.drive_modes.specs.declared.charges.Mode.{Mode}
-use Rattle.meter_model.specs.Charge.{charge_by}
-use Rattle.meter_model.specs.Run.{actions_of}
-use Rattle.meter_model.specs.Setting.{Setting}
-use Rattle.tariff_check.specs.Faults.{IsSound}
-use Rattle.tariff_check.specs.Parts.{RateNumbers}
-use Rattle.tariff_check.specs.SoundTariff.{sound_of}
-use Rattle.tariff_syntax.specs.Tree.{Tree}
-use Rattle.taxi_units.specs.declared.event.Event.{Event}
-use Rattle.totals_record.specs.States.{first_state}
-use Rattle.verify_bench.specs.Expecting.{expected_of, hirings_in, untimed}
-use Rattle.verify_bench.specs.Explaining.{Explanation, explanations_of}
-use Rattle.verify_bench.specs.Generated.{generated, generated_lines}
-use Rattle.verify_bench.specs.Groups.{way_by}
-use Rattle.verify_bench.specs.Passing.{EachRowPasses, do_all_pass}
-use Rattle.verify_bench.specs.Readings.{IsReadAs, readings_in}
-use Rattle.verify_bench.specs.Verdicts.{IsVerdict, verdict_of}
-use Rattle.verify_bench.specs.Receipts.{receipts_in}
+use Rattle.std.proofs.Common.{ℕ, ◌<◌, ◌↔◌, ◌≡◌, ◌≢◌, ◌≤◌, All, Err, List, None, Result, length, map, true}
+use Rattle.verify_bench.specs.Common.{Event, Expected, IsSound, Mode, NoMemory, RateNumbers, Reading, ReadingsFault}
+use Rattle.verify_bench.specs.Common.{Setting, Tree, Verdict, actions_of, bad_at_end, charge_by, first_state, runs_in}
+use Rattle.verify_bench.specs.{Common.{sound_of, stream_limit}, ExpectedReceipts.{expected_of, hirings_in, untimed}}
+use Rattle.verify_bench.specs.{Generated.{generated, generated_lines}, TripExplanations.{Explanation, explanations_of}}
+use Rattle.verify_bench.{specs.{Groups.{way_by}, Verdicts.{IsVerdict, verdict_of}}, proofs.TripGroups.{all_have_groups}}
+use Rattle.verify_bench.{specs.PassedReports.{EachRowPasses, do_all_pass}, proofs.ReceiptList.{expected_are_receipts}}
+use Rattle.verify_bench.{specs.Readings.{IsReadAs, readings_in}, proofs.Explanations.{receipts_explained}}
+use Rattle.verify_bench.{specs.Receipts.{receipts_in}, proofs.TripFees.{all_have_fees}}
 use Rattle.verify_bench.specs.Wholes.{ArePartsTheWhole, HasFees, HasGroups, IsOfTrip, MakesReceipt, charge_in_way}
-use Rattle.verify_bench.specs.declared.expected.Expected.{Expected}
-use Rattle.verify_bench.specs.declared.judging.Verdict.{Verdict}
-use Rattle.verify_bench.specs.declared.reading.Reading.{Reading}
-use Rattle.verify_bench.specs.declared.reading.ReadingsFault.{ReadingsFault}
-use Rattle.verify_bench.specs.declared.reading.ReadingsFault.TheVariants.{NoMemory}
-use Rattle.verify_bench.proofs.EachPasses.{each_passes}
-use Rattle.verify_bench.proofs.DriveTrips.{explained_are_of_trips}
-use Rattle.verify_bench.proofs.Explanations.{receipts_explained}
-use Rattle.verify_bench.proofs.FirstFaults.{first_fault}
+use Rattle.verify_bench.proofs.{DriveTrips.{explained_are_of_trips}, Partition.{all_add_up, all_make, ways_charge}}
+use Rattle.verify_bench.proofs.{EachPasses.{each_passes}, FirstFaults.{first_fault}, OneReading.{one_reading}}
 use Rattle.verify_bench.proofs.GeneratedLaws.{generated_is_good, generated_is_short, generated_means_its_lines}
-use Rattle.verify_bench.proofs.OneReading.{one_reading}
-use Rattle.verify_bench.proofs.Partition.{all_add_up, all_make, ways_charge}
-use Rattle.verify_bench.proofs.ReceiptList.{expected_are_receipts}
-use Rattle.verify_bench.proofs.TripFees.{all_have_fees}
-use Rattle.verify_bench.proofs.TripGroups.{all_have_groups}
 
 pub generated_drives_mean_their_lines-good : (seed trips : ℕ) → trips ≤ 1000 → bad_at_end (generated seed trips) ≡ None
 generated_drives_mean_their_lines-good = generated_is_good

@@ -16,10 +16,10 @@ mod ChargeRange
 mod CrossOverLines
 -- the rows of a text by the relation of csv are those by its function
 mod CsvRows
--- readings pass exactly if each row of the report does
-mod EachPasses
 -- each explanation is of a trip of its drive
 mod DriveTrips
+-- readings pass exactly if each row of the report does
+mod EachPasses
 -- explanations have the receipts of the run of the meter, and what an event makes of a trip
 mod Explanations
 -- the fields of a row of csv, if it has three
@@ -27,7 +27,7 @@ mod Fields
 -- a verdict is the first fault, and one only
 mod FirstFaults
 -- the sums of intervals, gathered one by one, are those of the whole list
-mod Gathering
+mod GatheredSums
 -- a generated drive is good, means its lines, and is short
 mod GeneratedLaws
 -- the groups of rate lines, line by line
@@ -53,7 +53,7 @@ mod ReportRows
 -- rows of readings, taken one by one
 mod Rows
 -- what a drive should come to is its explanations cut short
-mod Shortening
+mod ShortExplanations
 -- how many display steps a trip can show
 mod StepCounts
 -- the supplements that were taken, number by number

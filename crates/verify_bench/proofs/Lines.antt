@@ -1,18 +1,10 @@
 -- The lines of a generated drive: their lengths, their events, and their texts.
-use Rattle.std.proofs.Common.{◌≡◌, ◌≢◌, ℕ, zero, suc, ◌+◌, ◌*◌, ◌<◌, ◌≤◌, ◌^◌, [], ◌∷◌, ◌++◌, ◌∙◌, ap, sym, refl}
-use Rattle.std.proofs.Common.{length, arith, length-append}
-use Rattle.std.specs.Prelude.{decimal}
-use Rattle.std.proofs.lemmas.Bool.{ne_eqb}
-use Rattle.std.proofs.lemmas.List.{append-nil}
-use Rattle.drive_text.proofs.Laws.{written_line_is_short}
-use Rattle.drive_text.specs.Runs.{interval_events, intervals_events}
-use Rattle.drive_text.specs.Written.{event_text}
-use Rattle.drive_text.specs.declared.run.Run.TheVariants.{One, Many}
-use Rattle.taxi_units.specs.declared.event.Event.{Event}
-use Rattle.taxi_units.specs.declared.event.Event.TheVariants.{Up}
+use Rattle.{std.specs.Prelude.{decimal}, drive_text.proofs.Laws.{written_line_is_short}}
+use Rattle.std.proofs.Common.{[], ℕ, ◌*◌, ◌++◌, ◌+◌, ◌<◌, ◌^◌, ◌∙◌, ◌∷◌, ◌≡◌, ◌≢◌, ◌≤◌, ap, arith, length}
+use Rattle.std.proofs.{Common.{length-append, refl, suc, sym, zero}, lemmas.{Bool.{ne_eqb}, List.{append-nil}}}
+use Rattle.verify_bench.specs.{AddedText.{lines_events}, Generated.{line_text, lines_text}}
+use Rattle.verify_bench.specs.Common.{Event, Many, One, Up, event_text, interval_events, intervals_events}
 use Rattle.taxi_units.proofs.Laws as units
-use Rattle.verify_bench.specs.Generated.{line_text, lines_text}
-use Rattle.verify_bench.specs.Adding.{lines_events}
 
 -- a number below a power of ten, and one byte behind it
 number_line : (places value : ℕ) (byte : ℕ) → 0 < places → places ≤ 64 → value < 10 ^ places

@@ -1,27 +1,14 @@
 -- The lines of a generated drive are read as they are meant.
-use Rattle.std.proofs.Common.{◌≡◌, ℕ, ◌-◌, ◌^◌, ◌<◌, ◌≤◌, List, [], ◌∷◌, ◌++◌, length, get_or, refl, ap, sym, ◌∙◌}
-use Rattle.std.proofs.Common.{subst, arith, false, eqb, None, All, flat_map, codes, decimal, append_assoc}
-use Rattle.std.specs.Str.Lines.{strip_carriage_return}
-use Rattle.std.specs.Str.Parse.{AllDigits}
-use Rattle.std.proofs.lemmas.Bool.{ne_eqb}
-use Rattle.std.proofs.lemmas.Fmt.{decimal_is_IsNumeral_wide}
-use Rattle.std.proofs.lemmas.Grind.{flat_map-append}
-use Rattle.std.proofs.lemmas.List.{append-nil}
-use Rattle.std.proofs.lemmas.List.Elements.{All-nil, All-cons, All-append, All-head, All-tail}
-use Rattle.std.proofs.lemmas.Str.Parse.{digit_from_value}
+use Rattle.std.{specs.Str.{Lines.{strip_carriage_return}, Parse.{AllDigits}}, proofs.lemmas.Bool.{ne_eqb}}
+use Rattle.std.proofs.Common.{[], ℕ, ◌++◌, ◌-◌, ◌<◌, ◌^◌, ◌∙◌, ◌∷◌, ◌≡◌, ◌≤◌, All, List, None, ap, append_assoc, arith}
+use Rattle.std.proofs.Common.{codes, decimal, eqb, false, flat_map, get_or, length, refl, subst, sym}
+use Rattle.std.proofs.lemmas.{Fmt.{decimal_is_IsNumeral_wide}, Grind.{flat_map-append}, Str.Parse.{digit_from_value}}
+use Rattle.std.proofs.lemmas.List.{append-nil, Elements.{All-append, All-cons, All-head, All-nil, All-tail}}
+use Rattle.taxi_units.{specs.Digits.{IsNumberIn}, proofs.Laws.{numbers_are_written_as_figures}}
+use Rattle.drive_text.specs.{Lines.{IsOneLine, text_of}, Whole.{EndsWhole, GiveAll, GiveAll.{no_line, one_more}}}
+use Rattle.{drive_text.specs.Table.{Means, Means.{intervals}}, verify_bench.specs.Generated.{line_text, lines_text}}
+use Rattle.verify_bench.specs.Common.{IsRunInRange, Many, One, Run, bad_at_end, runs_in}
 use Rattle.drive_text.proofs.Laws as laws
-use Rattle.drive_text.specs.Drive.{bad_at_end, runs_in}
-use Rattle.drive_text.specs.Lines.{IsOneLine, text_of}
-use Rattle.drive_text.specs.Ranges.{IsRunInRange}
-use Rattle.drive_text.specs.Table.{Means}
-use Rattle.drive_text.specs.Table.Means.{intervals}
-use Rattle.drive_text.specs.Whole.{EndsWhole, GiveAll}
-use Rattle.drive_text.specs.Whole.GiveAll.{no_line, one_more}
-use Rattle.drive_text.specs.declared.run.Run.{Run}
-use Rattle.drive_text.specs.declared.run.Run.TheVariants.{One, Many}
-use Rattle.taxi_units.specs.Digits.{IsNumberIn}
-use Rattle.taxi_units.proofs.Laws.{numbers_are_written_as_figures}
-use Rattle.verify_bench.specs.Generated.{line_text, lines_text}
 
 -- no line end and no CR stands in it
 abbrev HasNoEnd : List ℕ → Type 0

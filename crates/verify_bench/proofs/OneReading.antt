@@ -1,25 +1,17 @@
 -- A text of readings has one answer.
-use Rattle.std.proofs.Common.{◌≡◌, ◌≢◌, ◌↔◌, ℕ, ◌+◌, ◌<◌, ◌≤◌, Bool, true, false, List, [], ◌∷◌, ◌++◌, length, Option}
-use Rattle.std.proofs.Common.{Some, None, Result, Ok, Err, refl, sym, ap, subst, ◌∙◌, arith, append_assoc}
-use Rattle.std.proofs.Common.{length-append, inl, inr}
-use Rattle.std.specs.Cmp.Lexicographic.{pointwise}
-use Rattle.std.specs.Prelude.{nat_eq, if◌then◌else◌}
-use Rattle.std.proofs.lemmas.Bool.{le-ltb, lt-ltb}
-use Rattle.std.proofs.lemmas.Bool.Decides.{Decides-eqb, leb_tells}
-use Rattle.std.proofs.lemmas.List.{append-nil}
-use Rattle.std.proofs.lemmas.Slice.Eq.{slice_eq-Decides}
-use Rattle.std.specs.Bool.{Decides}
+use Rattle.std.specs.{Bool.{Decides}, Cmp.Lexicographic.{pointwise}}
+use Rattle.std.{specs.Prelude.{if◌then◌else◌, nat_eq}, proofs.lemmas.{List.{append-nil}, Slice.Eq.{slice_eq-Decides}}}
+use Rattle.std.proofs.Common.{[], ℕ, ◌++◌, ◌+◌, ◌<◌, ◌↔◌, ◌∙◌, ◌∷◌, ◌≡◌, ◌≢◌, ◌≤◌, Bool, Err, List, None, Ok, Option}
+use Rattle.std.proofs.Common.{Result, Some, ap, append_assoc, arith, false, inl, inr, length, length-append, refl}
+use Rattle.std.proofs.{Common.{subst, sym, true}, lemmas.Bool.{le-ltb, lt-ltb, Decides.{Decides-eqb, leb_tells}}}
 use Rattle.csv.specs.Reading.{default_config, records, strip_bom}
-use Rattle.verify_bench.specs.Readings.{AreFirstRows, AreGood, AreRows, IsBadBehind, IsFirstBad, IsReadAs, Row}
-use Rattle.verify_bench.specs.Readings.{AreRowsOfReadings, IsRowOfReading, bad, empty, header, readings_in}
-use Rattle.verify_bench.specs.Readings.{readings_limit}
+use Rattle.verify_bench.specs.Common.{BadRow, NoMemory, Reading, ReadingsFault, TooLong}
 use Rattle.verify_bench.specs.ReadingStages.{reading_before, reading_of_row, readings_from, readings_of_rows}
-use Rattle.verify_bench.specs.declared.reading.Reading.{Reading}
-use Rattle.verify_bench.specs.declared.reading.ReadingsFault.{ReadingsFault}
-use Rattle.verify_bench.specs.declared.reading.ReadingsFault.TheVariants.{TooLong, BadRow, NoMemory}
+use Rattle.verify_bench.specs.Readings.{AreFirstRows, AreGood, AreRows, AreRowsOfReadings, IsBadBehind, IsFirstBad}
+use Rattle.verify_bench.specs.Readings.{IsReadAs, IsRowOfReading, Row, bad, empty, header, readings_in, readings_limit}
 use Rattle.verify_bench.proofs.CsvRows.{reached_first, records_are_rows, records_begin, rows_are_records}
-use Rattle.csv.specs.declared.parser.State.TheVariants as states
 use Rattle.verify_bench.proofs.Rows.{bad_behind, good_more, said_says, says_said}
+use Rattle.csv.specs.declared.parser.State.TheVariants as states
 
 -- ---- the answer of the function
 

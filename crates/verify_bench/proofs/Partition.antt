@@ -1,43 +1,22 @@
 -- The groups of a trip's parts, those in Stopped and those that were left unfinished are all its parts.
-use Rattle.std.proofs.Common.{◌≡◌, ℕ, zero, suc, ◌+◌, ◌*◌, ◌<◌, ◌≤◌, ◌∙◌, List, [], ◌∷◌, ◌++◌, length, refl, ap, sym}
-use Rattle.std.proofs.Common.{map, sum, filter, All, Bool, true, false, inl, inr, subst, arith}
-use Rattle.std.specs.Prelude.{◌&&◌, cond, nat_eq, nat_lt, if◌then◌else◌, flat_map}
-use Rattle.std.proofs.lemmas.Bool.Decides.{eqb_tells}
-use Rattle.std.proofs.lemmas.List.{length-map}
-use Rattle.std.proofs.lemmas.List.Elements.{All-weaker}
-use Rattle.drive_modes.specs.declared.charges.Mode.{Mode}
-use Rattle.drive_modes.specs.declared.charges.Mode.TheVariants.{Single, Double}
-use Rattle.meter_model.specs.Charge.{charge_by, distance_charge, time_charge}
-use Rattle.meter_model.specs.Setting.{Setting}
-use Rattle.meter_model.specs.Trip.{Part, InHired, InStopped, Rest, charge_in, pulses_in, ticks_in}
-use Rattle.meter_model.specs.Trip as model
-use Rattle.tariff_check.proofs.Laws as check
-use Rattle.tariff_check.specs.Faults.{IsSound}
-use Rattle.tariff_check.specs.Parts.{RateNumbers, rates_of}
-use Rattle.tariff_check.specs.SoundLookups.{place_in_force}
-use Rattle.tariff_check.specs.SoundTariff.{Choice, SoundTariff, lines_of, sound_of, supplement_numbered}
-use Rattle.tariff_syntax.specs.Meaning.{rate_place}
-use Rattle.tariff_syntax.specs.Tree.{Tree}
-use Rattle.tariff_syntax.specs.declared.context.Context.{Context}
-use Rattle.taxi_units.specs.declared.event.Event.{Event}
-use Rattle.verify_bench.specs.Explaining.{Explanation, explanations_of, taken_if, taken_of}
+use Rattle.{std.specs.{List.{range_with_len}, Option.{unwrap_or}}, tariff_syntax.specs.Meaning.{rate_place}}
+use Rattle.std.{specs.Prelude.{◌&&◌, cond, flat_map, if◌then◌else◌, nat_eq, nat_lt}, proofs.lemmas.Bool.{eqb-true}}
+use Rattle.std.proofs.Common.{[], ℕ, ◌*◌, ◌++◌, ◌+◌, ◌<◌, ◌∙◌, ◌∷◌, ◌≡◌, ◌≤◌, All, Bool, List, ap, arith, false, filter}
+use Rattle.std.proofs.{Common.{inl, inr, length, map, refl, subst, suc, sum, sym, true, zero}, lemmas.List.{length-map}}
+use Rattle.std.proofs.lemmas.{Bool.Decides.{eqb_tells}, List.{Elements.{All-weaker}, Sums.{sum-map, sum_by-append}}}
+use Rattle.{tariff_check.specs.Parts.{rates_of}, meter_model.specs.Charge.{distance_charge, time_charge}}
+use Rattle.verify_bench.{specs.Amounts.{amounts_among}, proofs.AmountSums.{all_among, sum_head}}
+use Rattle.verify_bench.specs.Common.{Both, Choice, Context, Distance, Double, Event, Group, InHired, InStopped}
+use Rattle.verify_bench.specs.Common.{IsSound, IsSupplementNumber, Mode, Part, RateNumbers, Rest, Setting, Single}
+use Rattle.verify_bench.specs.Common.{SoundTariff, Sums, Taken, Time, Tree, Way, amount_in, amounts_of, charge_by}
+use Rattle.verify_bench.specs.Common.{charge_in, lines_of, place_in_force, pulses_in, sound_of, supplement_numbered}
+use Rattle.verify_bench.{specs.Common.{ticks_in, times}, proofs.DriveTrips.{explained_are_of_trips}}
 use Rattle.verify_bench.specs.Groups.{group_if, groups_at, groups_from, is_charged_by, is_in_stopped, is_rest}
 use Rattle.verify_bench.specs.Groups.{is_same_way, rate_place_of, rate_sums, sums_of, way_by, way_of}
+use Rattle.verify_bench.specs.TripExplanations.{Explanation, explanations_of, taken_if, taken_of}
 use Rattle.verify_bench.specs.Wholes.{ArePartsTheWhole, IsOfTrip, MakesReceipt, charge_in_way}
-use Rattle.verify_bench.specs.declared.explained.Group.{Group}
-use Rattle.verify_bench.specs.declared.explained.Sums.{Sums}
-use Rattle.verify_bench.specs.declared.explained.Way.{Way}
-use Rattle.verify_bench.specs.declared.explained.Way.TheVariants.{Distance, Time, Both}
-use Rattle.std.specs.List.{range_with_len}
-use Rattle.meter_model.specs.KeptTrip.{IsSupplementNumber}
-use Rattle.meter_model.specs.Supplements.{amount_in, amounts_of, times}
-use Rattle.std.specs.Option.{unwrap_or}
-use Rattle.verify_bench.specs.Amounts.{amounts_among}
-use Rattle.verify_bench.specs.declared.explained.Taken.{Taken}
-use Rattle.verify_bench.proofs.AmountSums.{all_among, sum_head}
-use Rattle.verify_bench.proofs.DriveTrips.{explained_are_of_trips}
-use Rattle.std.proofs.lemmas.Bool.{eqb-true}
-use Rattle.std.proofs.lemmas.List.Sums.{sum-map, sum_by-append}
+use Rattle.meter_model.specs.Trip as model
+use Rattle.tariff_check.proofs.Laws as check
 
 sum_both : {X : Type 0} (f : X → ℕ) (xs ys : List X) → sum (map f (xs ++ ys)) ≡ sum (map f xs) + sum (map f ys)
 sum_both f xs ys = rw (sum-map f (xs ++ ys), sum-map f xs, sum-map f ys) (sum_by-append f xs ys)

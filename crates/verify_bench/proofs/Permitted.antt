@@ -1,12 +1,7 @@
 -- Permissible errors by division.
-use Rattle.std.proofs.Common.{◌≡◌, ℕ, ◌<◌, ◌≤◌, ◌*◌, ◌/◌, ◌∙◌, sym, arith, false, refl}
-use Rattle.std.specs.Prelude.{nat_le}
-use Rattle.std.specs.Int.{abs_diff}
-use Rattle.std.proofs.Math.Nat.{le-div_iff_mul-le}
-use Rattle.std.proofs.lemmas.Bool.{lt-leb}
-use Rattle.std.proofs.lemmas.Bool.Decides.{same_from_decides}
-use Rattle.taxi_units.specs.Test.{at_most, stated}
-use Rattle.verify_bench.specs.VerdictStages.{within_test}
+use Rattle.std.{specs.{Int.{abs_diff}, Prelude.{nat_le}}, proofs.lemmas.Bool.{lt-leb, Decides.{same_from_decides}}}
+use Rattle.std.proofs.{Common.{ℕ, ◌*◌, ◌/◌, ◌<◌, ◌∙◌, ◌≡◌, ◌≤◌, arith, false, refl, sym}, Math.Nat.{le-div_iff_mul-le}}
+use Rattle.{taxi_units.specs.Test.{at_most, stated}, verify_bench.specs.VerdictStages.{within_test}}
 
 -- an error is at most a whole divided by a number, rounded down, if the number times the error is at most the whole
 pub parts_are_divided : (parts error expected : ℕ) → 0 < parts

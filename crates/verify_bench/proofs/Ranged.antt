@@ -1,24 +1,16 @@
 -- The numbers of a generated drive are those that a line of a drive may have, and its bytes are few.
-use Rattle.std.proofs.Common.{ℕ, zero, suc, ◌+◌, ◌*◌, ◌/◌, ◌^◌, ◌<◌, ◌≤◌, Bool, true, false, List, [], ◌∷◌, ap, length}
-use Rattle.std.proofs.Common.{All, arith, length-append, eqb}
-use Rattle.std.specs.Prelude.{if◌then◌else◌, replicate}
-use Rattle.std.proofs.Math.Nat.{mod-lt}
-use Rattle.std.proofs.lemmas.List.{append-nil}
-use Rattle.std.proofs.lemmas.List.Elements.{All-nil, All-cons, All-append}
-use Rattle.drive_text.proofs.Laws.{written_line_is_short}
-use Rattle.drive_text.specs.Ranges.{IsKeyInRange, IsRunInRange}
-use Rattle.drive_text.specs.declared.run.Run.{Run}
-use Rattle.drive_text.specs.declared.run.Run.TheVariants.{One, Many}
-use Rattle.taxi_units.specs.declared.event.Event.TheVariants.{Up, Down, Clock}
-use Rattle.taxi_units.specs.declared.event.Event.TheVariants as events
-use Rattle.taxi_units.specs.declared.event.Key.{Key}
-use Rattle.taxi_units.specs.declared.event.Key.TheVariants.{Hire, Stop, Clear, Position, Zone, Extra}
+use Rattle.std.{specs.Prelude.{if◌then◌else◌, replicate}, proofs.{Math.Nat.{mod-lt}, lemmas.List.{append-nil}}}
+use Rattle.std.proofs.Common.{[], ℕ, ◌*◌, ◌+◌, ◌/◌, ◌<◌, ◌^◌, ◌∷◌, ◌≤◌, All, Bool, List, ap, arith, eqb, false, length}
+use Rattle.std.proofs.{Common.{length-append, suc, true, zero}, lemmas.List.Elements.{All-append, All-cons, All-nil}}
+use Rattle.{taxi_units.specs.declared.event.Event.TheVariants.{Clock}, drive_text.proofs.Laws.{written_line_is_short}}
+use Rattle.{drive_text.specs.Ranges.{IsKeyInRange}, verify_bench.{specs.Common.{Zone}, proofs.Adds.{lines_text-append}}}
+use Rattle.verify_bench.specs.Common.{Clear, Down, Extra, Hire, IsRunInRange, Key, Many, One, Position, Run, Stop, Up}
 use Rattle.verify_bench.specs.Generated.{Place, Written, away, beginning, came_back, clock_read, drawn, driven}
 use Rattle.verify_bench.specs.Generated.{drop_perhaps, extra_chosen, extra_perhaps, in_turn, intervals, key_pressed}
 use Rattle.verify_bench.specs.Generated.{leg, line, line_text, lines_text, nothing, position_chosen, road, roamed}
 use Rattle.verify_bench.specs.Generated.{second_of, supply_away, trip, trips_from, value, way, zone_chosen}
-use Rattle.verify_bench.proofs.Adds.{lines_text-append}
 use Rattle.verify_bench.proofs.Lines.{intervals_are_short, intervals_line}
+use Rattle.taxi_units.specs.declared.event.Event.TheVariants as events
 
 -- the lines are in range, and they take no more than the given tenths of a second and bytes
 record IsRanged (start : ℕ) (written : Written) (tenths bytes : ℕ) : Type 0 where

@@ -1,18 +1,8 @@
 -- The expected list, by the actions of the meter.
-use Rattle.std.proofs.Common.{◌≡◌, ℕ, ◌∙◌, List, [], ◌∷◌, ◌++◌, ap, sym, map, append_assoc}
-use Rattle.std.proofs.lemmas.List.{map-append}
-use Rattle.std.proofs.lemmas.Simd.{map-map}
-use Rattle.meter_model.specs.Interval.{ticks_so_far}
-use Rattle.meter_model.specs.Meter.{Meter}
-use Rattle.meter_model.specs.Run.{actions_of, ended, opened, run}
-use Rattle.meter_model.specs.Setting.{Setting}
-use Rattle.meter_model.specs.Step.{step}
-use Rattle.meter_model.specs.declared.act.Act.{Act}
-use Rattle.taxi_units.specs.declared.event.Event.{Event}
-use Rattle.totals_record.specs.States.{first_state}
-use Rattle.verify_bench.specs.Expecting.{expected_of, hiring_of, hirings_from, hirings_in, ticks_at, untimed}
-use Rattle.verify_bench.specs.declared.expected.Expected.{Expected}
-use Rattle.verify_bench.specs.Receipts.{receipts_in}
+use Rattle.std.proofs.{Common.{[], ℕ, ◌++◌, ◌∙◌, ◌∷◌, ◌≡◌, List, ap, append_assoc, map, sym}, lemmas.List.{map-append}}
+use Rattle.{std.proofs.lemmas.Simd.{map-map}, verify_bench.specs.{Common.{step, ticks_so_far}, Receipts.{receipts_in}}}
+use Rattle.verify_bench.specs.Common.{Act, Event, Expected, Meter, Setting, actions_of, ended, first_state, opened, run}
+use Rattle.verify_bench.specs.ExpectedReceipts.{expected_of, hiring_of, hirings_from, hirings_in, ticks_at, untimed}
 use Rattle.verify_bench.proofs.Benches.{of_receipts-append}
 
 untimed_in : (ticks : ℕ) (acts : List Act) → map untimed (hirings_in ticks acts) ≡ hirings_in 0 acts

@@ -1,12 +1,8 @@
 -- The rows of a report, one after another.
-use Rattle.std.proofs.Common.{◌≡◌, ℕ, ◌+◌, List, [], ◌∷◌, ◌++◌, ◌∙◌, ap, sym, add-one, flat_map}
-use Rattle.std.specs.Prelude.{slice_get}
-use Rattle.std.proofs.lemmas.List.{append-nil}
-use Rattle.std.proofs.lemmas.Grind.{flat_map-append}
+use Rattle.std.{specs.Prelude.{slice_get}, proofs.lemmas.{Grind.{flat_map-append}, List.{append-nil}}}
+use Rattle.std.proofs.Common.{[], ℕ, ◌++◌, ◌+◌, ◌∙◌, ◌∷◌, ◌≡◌, List, add-one, ap, flat_map, sym}
 use Rattle.csv.specs.Writing.{default_writer, row_text}
-use Rattle.verify_bench.specs.Report.{report_header, row_at, rows_text, rows_to}
-use Rattle.verify_bench.specs.declared.expected.Expected.{Expected}
-use Rattle.verify_bench.specs.declared.reading.Reading.{Reading}
+use Rattle.verify_bench.specs.{Common.{Expected, Reading}, Report.{report_header, row_at, rows_text, rows_to}}
 
 -- what comes of one element more
 flat_map-snoc : (f : List (List ℕ) → List ℕ) (rows : List (List (List ℕ))) (row : List (List ℕ))

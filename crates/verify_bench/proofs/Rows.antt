@@ -1,17 +1,10 @@
 -- Rows of readings, taken one by one.
-use Rattle.std.proofs.Common.{◌≡◌, ℕ, ◌+◌, ◌≤◌, List, [], ◌∷◌, ◌++◌, length, refl, ap, Result, Ok, Err, Option, Some}
-use Rattle.std.proofs.Common.{None, arith}
-use Rattle.std.specs.Result.{result_ok}
-use Rattle.taxi_units.specs.Number.{decimal_read}
-use Rattle.taxi_units.specs.Reading.{◌>>=◌}
-use Rattle.taxi_units.specs.declared.decimal.NumberFault.{NumberFault}
-use Rattle.verify_bench.specs.Readings.{Row, header, IsRowOfReading, AreRowsOfReadings, AreGood, AreFirstRows}
-use Rattle.verify_bench.specs.Readings.{IsBadBehind, bad, IsReadAs, readings_limit}
-use Rattle.verify_bench.specs.RowsTaken.{IsRowFault}
-use Rattle.verify_bench.specs.ReadingStages.{reading_of_row}
-use Rattle.verify_bench.specs.declared.reading.ReadingsFault.{ReadingsFault}
-use Rattle.verify_bench.specs.declared.reading.ReadingsFault.TheVariants.{TooLong, BadRow, NoMemory}
-use Rattle.verify_bench.specs.declared.reading.Reading.{Reading}
+use Rattle.{std.{specs.Result.{result_ok}, proofs.Common.{length, refl}}, verify_bench.specs.RowsTaken.{IsRowFault}}
+use Rattle.std.proofs.Common.{[], ℕ, ◌++◌, ◌+◌, ◌∷◌, ◌≡◌, ◌≤◌, Err, List, None, Ok, Option, Result, Some, ap, arith}
+use Rattle.taxi_units.specs.{Reading.{◌>>=◌}, declared.decimal.NumberFault.{NumberFault}}
+use Rattle.verify_bench.specs.Common.{BadRow, NoMemory, Reading, ReadingsFault, TooLong, decimal_read}
+use Rattle.verify_bench.specs.{ReadingStages.{reading_of_row}, Readings.{Row, bad, header, readings_limit}}
+use Rattle.verify_bench.specs.Readings.{AreFirstRows, AreGood, AreRowsOfReadings, IsBadBehind, IsReadAs, IsRowOfReading}
 
 -- three numbers that were read, or not, as one reading
 three_said : Result ℕ NumberFault → Result ℕ NumberFault → Result ℕ NumberFault → Option Reading

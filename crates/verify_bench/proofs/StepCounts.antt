@@ -1,10 +1,7 @@
 -- How many display steps a trip can show.
-use Rattle.std.proofs.Common.{◌≡◌, ℕ, ◌+◌, ◌-◌, ◌*◌, ◌/◌, ◌^◌, ◌<◌, ◌≤◌, inl, inr, arith}
-use Rattle.std.proofs.lemmas.Bool.{cases_lt}
-use Rattle.std.proofs.Math.Nat.{mul-le-mul_left, mul-le-mul_right, mul-add, mul_assoc, mul_comm}
-use Rattle.drive_modes.specs.Fare.{quotient}
-use Rattle.drive_modes.specs.declared.meterage.Rounding.{Rounding}
-use Rattle.drive_modes.specs.declared.meterage.Rounding.TheVariants.{Behind, Ahead}
+use Rattle.std.proofs.{Common.{ℕ, ◌*◌, ◌+◌, ◌-◌, ◌/◌, ◌<◌, ◌^◌, ◌≡◌, ◌≤◌, arith, inl, inr}, lemmas.Bool.{cases_lt}}
+use Rattle.std.proofs.Math.Nat.{mul-add, mul-le-mul_left, mul-le-mul_right, mul_assoc, mul_comm}
+use Rattle.drive_modes.specs.{Fare.{quotient}, declared.meterage.Rounding.{Rounding, TheVariants.{Ahead, Behind}}}
 
 quotient_below : (z y n : ℕ) → z < y * n + y → z / y ≤ n
 quotient_below z y n below = elim (cases_lt n (z / y)) [

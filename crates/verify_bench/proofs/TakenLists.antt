@@ -1,8 +1,6 @@
 -- The supplements that were taken, number by number.
-use Rattle.std.proofs.Common.{◌≡◌, ℕ, suc, ◌+◌, ◌-◌, ◌≤◌, ◌∙◌, List, ◌++◌, sym, flat_map, append_assoc, arith}
-use Rattle.std.proofs.lemmas.List.{append-nil}
-use Rattle.std.specs.List.{range_with_len}
-use Rattle.verify_bench.specs.declared.explained.Taken.{Taken}
+use Rattle.{std.{specs.List.{range_with_len}, proofs.lemmas.List.{append-nil}}, verify_bench.specs.Common.{Taken}}
+use Rattle.std.proofs.Common.{ℕ, ◌++◌, ◌+◌, ◌-◌, ◌∙◌, ◌≡◌, ◌≤◌, List, append_assoc, arith, flat_map, suc, sym}
 
 module _ (taken : ℕ → List Taken) where
   pub one_more_taken : (number : ℕ) (so_far all : List Taken) → number ≤ 16

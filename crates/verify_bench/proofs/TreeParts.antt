@@ -1,22 +1,11 @@
 -- The parts of a sound tariff that hold in a context are sound.
-use Rattle.std.proofs.Common.{◌≡◌, ℕ, ◌<◌, ◌≤◌, ◌∙◌, ap, sym, Some, inl, inr, arith}
-use Rattle.std.proofs.lemmas.Bool.{cases_lt}
-use Rattle.std.specs.Option.{unwrap_or}
-use Rattle.meter_model.specs.Setting.{Setting}
-use Rattle.tariff_check.proofs.Laws as check
-use Rattle.tariff_check.specs.Faults.{IsSound}
-use Rattle.meter_model.specs.KeptTrip.{IsSupplementNumber}
-use Rattle.tariff_check.specs.Parts.{supplement_of}
-use Rattle.tariff_check.specs.Sound.{IsSoundRate}
-use Rattle.tariff_check.specs.SoundLookups.{rate_in_force}
-use Rattle.tariff_check.specs.SoundTariff.{SoundTariff, sound_of, supplement_numbered}
-use Rattle.tariff_check.specs.declared.choice.ChoiceKind.TheVariants.{Rate}
-use Rattle.tariff_check.specs.declared.values.Supplement.{Supplement}
-use Rattle.tariff_syntax.specs.Meaning.{rate_place}
-use Rattle.tariff_syntax.specs.Tree.{Tree}
-use Rattle.tariff_syntax.specs.Writable.{IsWritable}
-use Rattle.tariff_syntax.specs.declared.context.Context.{Context}
+use Rattle.{std.specs.Option.{unwrap_or}, tariff_syntax.specs.Meaning.{rate_place}}
+use Rattle.std.proofs.{Common.{ℕ, ◌<◌, ◌∙◌, ◌≡◌, ◌≤◌, Some, ap, arith, inl, inr, sym}, lemmas.Bool.{cases_lt}}
+use Rattle.{tariff_check.specs.declared.choice.ChoiceKind.TheVariants.{Rate}, verify_bench.specs.Common.{supplement_of}}
+use Rattle.verify_bench.specs.Common.{Context, IsSound, IsSoundRate, IsSupplementNumber, IsWritable, Setting}
+use Rattle.verify_bench.specs.Common.{SoundTariff, Supplement, Tree, rate_in_force, sound_of, supplement_numbered}
 use Rattle.verify_bench.specs.Wholes.{IsOfText}
+use Rattle.tariff_check.proofs.Laws as check
 
 pub sound_rate : (t : Tree) (x : Context) → IsWritable t → IsSound t → IsSoundRate (rate_in_force (sound_of t) x)
 sound_rate t x writable sound =

@@ -1,28 +1,15 @@
 -- Each explanation has the fees that were in force as its trip was hired, with their lines.
-use Rattle.std.proofs.Common.{◌≡◌, ◌⊎◌, ℕ, zero, suc, ◌+◌, ◌<◌, ◌∙◌, List, [], ◌∷◌, All, inl, inr, refl, ap, sym, subst}
-use Rattle.std.proofs.Common.{map, get_or, length, Option, Some, None, arith, slice_get}
-use Rattle.std.specs.Option.{unwrap_or}
-use Rattle.std.proofs.lemmas.List.{length-map}
-use Rattle.std.proofs.lemmas.List.Elements.{All-weaker}
-use Rattle.meter_model.specs.Interval.{context_now}
-use Rattle.meter_model.specs.Setting.{Setting}
-use Rattle.meter_model.specs.declared.core_trip.Fees.{Fees}
-use Rattle.tariff_check.proofs.Laws as check
-use Rattle.tariff_check.specs.Amounts.{fees_in_force, place_number}
-use Rattle.tariff_check.specs.Faults.{IsSound}
-use Rattle.tariff_check.specs.Parts.{InitialNumbers, initials_of, minimums_of}
-use Rattle.tariff_check.specs.SoundLookups.{place_in_force}
-use Rattle.tariff_check.specs.SoundTariff.{Choice, SoundTariff, lines_of, sound_of, values_of}
+use Rattle.std.{specs.Option.{unwrap_or}, proofs.lemmas.List.Elements.{All-weaker}}
+use Rattle.std.proofs.Common.{[], ℕ, ◌+◌, ◌<◌, ◌∙◌, ◌∷◌, ◌≡◌, ◌⊎◌, All, List, None, Option, Some, ap, arith, get_or}
+use Rattle.std.proofs.{Common.{inl, inr, length, map, refl, slice_get, subst, suc, sym, zero}, lemmas.List.{length-map}}
+use Rattle.tariff_check.specs.{Amounts.{place_number}, Parts.{InitialNumbers, initials_of, minimums_of}}
 use Rattle.tariff_check.specs.declared.choice.ChoiceKind.TheVariants.{Minimum}
-use Rattle.tariff_syntax.specs.Meaning.{at_hiring}
-use Rattle.tariff_syntax.specs.Tree.{Tree}
-use Rattle.tariff_syntax.specs.declared.context.Context.{Context}
-use Rattle.taxi_units.specs.declared.event.Event.{Event}
-use Rattle.verify_bench.specs.ClosedTrips.{hiring_meter}
-use Rattle.verify_bench.specs.Explaining.{Explanation, explanations_of}
-use Rattle.verify_bench.specs.Fees.{fees_of_hiring, line_at_place}
-use Rattle.verify_bench.specs.Wholes.{HasFees, HasMinimum, IsInForce, IsOfTrip}
-use Rattle.verify_bench.proofs.DriveTrips.{explained_are_of_trips}
+use Rattle.{meter_model.specs.declared.core_trip.Fees.{Fees}, verify_bench.proofs.DriveTrips.{explained_are_of_trips}}
+use Rattle.verify_bench.specs.{ClosedTrips.{hiring_meter}, TripExplanations.{Explanation, explanations_of}}
+use Rattle.verify_bench.specs.Common.{Choice, Context, Event, IsSound, Setting, SoundTariff, Tree, at_hiring}
+use Rattle.verify_bench.specs.Common.{context_now, fees_in_force, lines_of, place_in_force, sound_of, values_of}
+use Rattle.verify_bench.specs.{Fees.{fees_of_hiring, line_at_place}, Wholes.{HasFees, HasMinimum, IsInForce, IsOfTrip}}
+use Rattle.tariff_check.proofs.Laws as check
 
 -- what is made of the element at a place
 pub mapped_there : {A B : Type 0} (f : A → B) (all : List A) (place : ℕ) (c : A) (d : B)

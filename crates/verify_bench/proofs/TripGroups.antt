@@ -1,32 +1,17 @@
 -- Each group has the line and the way that charged its intervals, and their sums.
-use Rattle.std.proofs.Common.{◌≡◌, ◌↔◌, ℕ, zero, suc, ◌+◌, ◌<◌, ◌∙◌, List, [], ◌∷◌, ◌++◌, All, Bool, true, false, refl}
-use Rattle.std.proofs.Common.{ap, sym, subst, map, sum, filter, get_or, length, length-append, Option, Some, arith}
-use Rattle.std.proofs.Common.{append_assoc, slice_get}
-use Rattle.std.specs.Prelude.{◌&&◌, cond, nat_eq, if◌then◌else◌}
-use Rattle.std.specs.Option.{unwrap_or}
-use Rattle.std.proofs.lemmas.Bool.{eq-eqb, eqb-true}
-use Rattle.std.proofs.lemmas.List.Elements.{All-append, All-cons, All-nil, All-weaker}
-use Rattle.meter_model.specs.Setting.{Setting}
-use Rattle.meter_model.specs.Trip.{Part, InHired, InStopped, Rest, charge_in, pulses_in, ticks_in}
-use Rattle.tariff_check.proofs.Laws as check
-use Rattle.tariff_check.specs.Faults.{IsSound}
-use Rattle.tariff_check.specs.Parts.{RateNumbers}
-use Rattle.tariff_check.specs.SoundLookups.{place_in_force, rate_in_force}
-use Rattle.tariff_check.specs.SoundTariff.{Choice, SoundTariff, lines_of, sound_of, values_of}
-use Rattle.tariff_syntax.specs.Tree.{Tree}
-use Rattle.tariff_syntax.specs.declared.context.Context.{Context}
-use Rattle.taxi_units.specs.declared.event.Event.{Event}
-use Rattle.verify_bench.specs.Explaining.{Explanation, explanations_of}
+use Rattle.{std.specs.Option.{unwrap_or}, verify_bench.specs.Groups.{rate_sums, way_by, way_of}}
+use Rattle.std.{specs.Prelude.{◌&&◌, cond, if◌then◌else◌, nat_eq}, proofs.Common.{subst, suc, sum, sym, true, zero}}
+use Rattle.std.proofs.Common.{[], ℕ, ◌++◌, ◌+◌, ◌<◌, ◌↔◌, ◌∙◌, ◌∷◌, ◌≡◌, All, Bool, List, Option, Some, ap}
+use Rattle.std.proofs.Common.{append_assoc, arith, false, filter, get_or, length, length-append, map, refl, slice_get}
+use Rattle.std.proofs.lemmas.{Bool.{eq-eqb, eqb-true}, List.Elements.{All-append, All-cons, All-nil, All-weaker}}
+use Rattle.verify_bench.specs.Common.{Both, Choice, Context, Distance, Event, Group, InHired, InStopped, IsSound, Part}
+use Rattle.verify_bench.specs.Common.{RateNumbers, Rest, Setting, SoundTariff, Time, Tree, Way, charge_in, lines_of}
+use Rattle.verify_bench.specs.Common.{place_in_force, pulses_in, rate_in_force, sound_of, ticks_in, values_of}
 use Rattle.verify_bench.specs.Groups.{group_if, groups_at, groups_from, is_charged_by, is_same_way, rate_place_of}
-use Rattle.verify_bench.specs.Groups.{rate_sums, way_by, way_of}
+use Rattle.verify_bench.{specs.TripExplanations.{Explanation, explanations_of}, proofs.Partition.{ways_charge}}
 use Rattle.verify_bench.specs.Wholes.{HasGroups, IsGroupOf, IsOfTrip, WasCharged, charge_in_way}
-use Rattle.verify_bench.specs.declared.explained.Group.{Group}
-use Rattle.verify_bench.specs.declared.explained.Way.{Way}
-use Rattle.verify_bench.specs.declared.explained.Way.TheVariants.{Distance, Time, Both}
-use Rattle.verify_bench.proofs.AmountSums.{sum_head}
-use Rattle.verify_bench.proofs.DriveTrips.{explained_are_of_trips}
-use Rattle.verify_bench.proofs.Partition.{ways_charge}
-use Rattle.verify_bench.proofs.TripFees.{mapped_there}
+use Rattle.verify_bench.proofs.{AmountSums.{sum_head}, DriveTrips.{explained_are_of_trips}, TripFees.{mapped_there}}
+use Rattle.tariff_check.proofs.Laws as check
 
 behind_front : {V : Type 0} (front : List (Choice V)) (c : Choice V) (more : List (Choice V))
     → slice_get (front ++ c ∷ more) (length front) ≡ Some c

@@ -1,14 +1,10 @@
 -- The trips of a generated drive, one after another.
-use Rattle.std.proofs.Common.{◌≡◌, ℕ, zero, suc, ◌+◌, ◌-◌, ◌<◌, [], refl, length, drop, arith}
-use Rattle.std.proofs.Math.Seq.{drop-length}
-use Rattle.arrayvec.specs.ArrayVec.{array_vec_len}
-use Rattle.drive_text.specs.Written.{event_fields}
-use Rattle.verify_bench.specs.Adding.{place_of, lines_events}
+use Rattle.std.proofs.{Common.{[], ℕ, ◌+◌, ◌-◌, ◌<◌, ◌≡◌, arith, drop, length, refl, suc, zero}, Math.Seq.{drop-length}}
+use Rattle.{arrayvec.specs.ArrayVec.{array_vec_len}, drive_text.specs.Written.{event_fields}}
+use Rattle.verify_bench.specs.{AddedText.{lines_events, place_of}, declared.remaining.Remaining.{Remaining}}
 use Rattle.verify_bench.specs.Generated.{Place, and_then, beginning, generated_lines, in_turn, line_text, lines_text}
-use Rattle.verify_bench.specs.Generated.{trip, trips_from}
+use Rattle.verify_bench.{specs.Generated.{trip, trips_from}, proofs.Adds.{lines_events-append, lines_text-append}}
 use Rattle.verify_bench.specs.Left.{bytes_left}
-use Rattle.verify_bench.specs.declared.remaining.Remaining.{Remaining}
-use Rattle.verify_bench.proofs.Adds.{lines_events-append, lines_text-append}
 
 -- the first of some trips, and the others
 pub trips_split : (count : ℕ) (place : Place) → 0 < count

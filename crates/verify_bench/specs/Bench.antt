@@ -1,27 +1,11 @@
 -- For proofs: the meter of the bench, and which state of the meter it stands for. Meter, of meter_model, says what a
 -- state is.
-use Rattle.std.specs.Prelude.{◌≡◌, ℕ, ◌+◌, ◌*◌, ◌-◌, ◌^◌, ◌≤◌, ◌++◌, min, sum, map, List, Option, Some, None}
-use Rattle.std.specs.Prelude.{option_map}
-use Rattle.drive_text.specs.Ranges.{IsInRange}
-use Rattle.meter_model.specs.Interval.{context_now}
-use Rattle.meter_model.specs.Keys.{hiring, key_in}
-use Rattle.meter_model.specs.Meter.{Meter, Outcome}
-use Rattle.meter_model.specs.Setting.{Setting}
-use Rattle.meter_model.specs.Step.{expired_or_pressed}
-use Rattle.meter_model.specs.Trip.{MeterTrip}
-use Rattle.tariff_syntax.specs.declared.context.Context.{Context}
-use Rattle.taxi_units.specs.Limits.{last_number}
-use Rattle.taxi_units.specs.Time.{IsSecond, last_tick}
-use Rattle.taxi_units.specs.declared.event.Event.{Event}
-use Rattle.taxi_units.specs.declared.event.Key.{Key}
-use Rattle.taxi_units.specs.declared.event.Operating.TheVariants.{ForHire}
-use Rattle.totals_record.specs.declared.trip.Trip.{Trip}
-use Rattle.verify_bench.specs.Explaining.{explanation_of, explanations_in, hired_at, hired_by, trip_at}
-use Rattle.verify_bench.specs.Hirings.{IsHiringOf, IsWhole}
-use Rattle.verify_bench.specs.declared.explained.Explained.{Explained}
-use Rattle.verify_bench.specs.declared.hiring.Hiring.{Hiring}
-use Rattle.verify_bench.specs.declared.bench_meter.SavedState.{SavedState}
-use Rattle.verify_bench.specs.declared.bench_meter.BenchMeter.{BenchMeter}
+use Rattle.std.specs.Prelude.{ℕ, ◌*◌, ◌++◌, ◌+◌, ◌-◌, ◌^◌, ◌≡◌, ◌≤◌, List, None, Option, Some, map, min, option_map}
+use Rattle.{std.specs.Prelude.{sum}, meter_model.specs.Keys.{hiring}, verify_bench.specs.Hirings.{IsHiringOf, IsWhole}}
+use Rattle.verify_bench.specs.Common.{BenchMeter, Context, Event, Explained, ForHire, Hiring, IsInRange, IsSecond, Key}
+use Rattle.verify_bench.specs.Common.{Meter, MeterTrip, Outcome, SavedState, Setting, Trip, context_now}
+use Rattle.verify_bench.specs.Common.{expired_or_pressed, key_in, last_number, last_tick}
+use Rattle.verify_bench.specs.TripExplanations.{explanation_of, explanations_in, hired_at, hired_by, trip_at}
 
 -- a count of 64 bits stands still at its last value, 2^64 - 1
 abbrev pub limited : ℕ → ℕ

@@ -1,18 +1,9 @@
 -- Rules: the trips of a drive that were closed, each with the tick that hired it, the event that closed it, and the
 -- parts that the events between them added.
-use Rattle.std.specs.Prelude.{◌≡◌, ℕ, List, [], ◌∷◌, ◌++◌, Some, sum}
-use Rattle.meter_model.specs.Interval.{context_of}
-use Rattle.meter_model.specs.Meter.{Meter}
-use Rattle.meter_model.specs.Run.{opened, run}
-use Rattle.meter_model.specs.Setting.{Setting}
-use Rattle.meter_model.specs.Step.{step}
-use Rattle.meter_model.specs.Trip.{InHired, InStopped, MeterTrip, Part, Rest}
-use Rattle.taxi_units.specs.declared.event.Event.{Event}
-use Rattle.taxi_units.specs.declared.event.Event.TheVariants.{Down, Tick}
-use Rattle.taxi_units.specs.declared.event.Key.TheVariants.{Hire}
-use Rattle.taxi_units.specs.declared.event.Operating.{Operating}
-use Rattle.taxi_units.specs.declared.event.Operating.TheVariants.{ForHire, Hired, Stopped}
-use Rattle.totals_record.specs.States.{first_state}
+use Rattle.std.specs.Prelude.{[], ℕ, ◌++◌, ◌∷◌, ◌≡◌, List, Some, sum}
+use Rattle.verify_bench.specs.Common.{Down, Event, ForHire, Hire, Hired, InHired, InStopped, Meter, MeterTrip}
+use Rattle.verify_bench.specs.Common.{Operating, Part, Rest, Setting, Stopped, Tick, context_of, first_state, opened}
+use Rattle.verify_bench.specs.Common.{run, step}
 
 -- the meter after events is the one that they lead to from a new store
 abbrev pub meter_after : Setting → List Event → Meter

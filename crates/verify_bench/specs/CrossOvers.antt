@@ -1,7 +1,7 @@
 -- Rules: the cross-over speeds of a tariff's rates, a line each.
-use Rattle.std.specs.Prelude.{ℕ, ◌+◌, ◌*◌, ◌/◌, ◌==◌, List, [], ◌∷◌, ◌++◌, Option, Some, None, codes, decimal, if◌then◌else◌}
-use Rattle.tariff_check.specs.Parts.{RateNumbers}
-use Rattle.tariff_check.specs.SoundTariff.{SoundTariff, values_of}
+use Rattle.std.specs.Prelude.{[], ℕ, ◌*◌, ◌++◌, ◌+◌, ◌/◌, ◌==◌, ◌∷◌, List, None, Option, Some, codes, decimal}
+use Rattle.std.specs.Prelude.{if◌then◌else◌}
+use Rattle.verify_bench.specs.Common.{RateNumbers, SoundTariff, values_of}
 
 -- the cross-over speed of a rate is the speed at which its distance and its time cost the same, in whole metres an
 -- hour; a rate whose distance costs nothing has none

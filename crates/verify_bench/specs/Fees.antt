@@ -1,12 +1,7 @@
 -- Rules: the fees of a hiring, with the numbers of their lines in the text.
-use Rattle.std.specs.Prelude.{ℕ, List, get_or, Option, Some, None}
-use Rattle.std.specs.Option.{unwrap_or}
-use Rattle.tariff_check.specs.Amounts.{fees_in_force}
-use Rattle.tariff_check.specs.SoundLookups.{place_in_force}
-use Rattle.tariff_check.specs.SoundTariff.{SoundTariff, lines_of}
-use Rattle.tariff_syntax.specs.Meaning.{at_hiring}
-use Rattle.tariff_syntax.specs.declared.context.Context.{Context}
-use Rattle.verify_bench.specs.declared.fees.HiringFees.{HiringFees}
+use Rattle.std.specs.{Option.{unwrap_or}, Prelude.{ℕ, List, None, Option, Some, get_or}}
+use Rattle.verify_bench.specs.Common.{Context, HiringFees, SoundTariff, at_hiring, fees_in_force, lines_of}
+use Rattle.verify_bench.specs.Common.{place_in_force}
 
 -- the line in a list of line numbers at a place, counted from 0, is the number there, and there is none without a place
 abbrev pub line_at_place : (lines : List ℕ) → (place : Option ℕ) → Option ℕ

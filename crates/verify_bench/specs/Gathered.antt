@@ -1,13 +1,7 @@
 -- For proofs: the sums of a hiring that the bench gathers interval by interval, a table of them by rates. Groups says
 -- what they come to.
-use Rattle.std.specs.Prelude.{◌≡◌, ℕ, ◌+◌, ◌<◌, ◌≤◌, ◌^◌, List, get_or}
-use Rattle.meter_model.specs.Setting.{Setting}
-use Rattle.meter_model.specs.Trip.{Part}
-use Rattle.verify_bench.specs.Groups.{rate_sums}
-use Rattle.verify_bench.specs.declared.explained.Sums.{Sums}
-use Rattle.verify_bench.specs.declared.explained.Way.{Way}
-use Rattle.verify_bench.specs.declared.explained.Way.TheVariants.{Distance, Time, Both}
-use Rattle.verify_bench.specs.declared.sums.RateSums.{RateSums}
+use Rattle.std.specs.Prelude.{ℕ, ◌+◌, ◌<◌, ◌^◌, ◌≡◌, ◌≤◌, List, get_or}
+use Rattle.verify_bench.specs.{Common.{Both, Distance, Part, RateSums, Setting, Sums, Time, Way}, Groups.{rate_sums}}
 
 -- no intervals come to sums of 0
 abbrev pub no_sums : Sums

@@ -1,12 +1,9 @@
 -- Rules: the generated drive, as the lines that it has, with its draws, its time, and its trips.
-use Rattle.std.specs.Prelude.{ℕ, ◌+◌, ◌*◌, ◌/◌, ◌%◌, ◌^◌, ◌==◌, List, [], ◌∷◌, ◌++◌, flat_map, replicate, codes, decimal, if◌then◌else◌}
-use Rattle.drive_text.specs.Written.{event_text}
-use Rattle.drive_text.specs.declared.run.Run.{Run}
-use Rattle.drive_text.specs.declared.run.Run.TheVariants.{One, Many}
-use Rattle.taxi_units.specs.declared.event.Event.TheVariants.{Up, Down, Clock}
+use Rattle.std.specs.Prelude.{[], ℕ, ◌%◌, ◌*◌, ◌++◌, ◌+◌, ◌/◌, ◌==◌, ◌^◌, ◌∷◌, List, codes, decimal, flat_map}
+use Rattle.std.specs.Prelude.{if◌then◌else◌, replicate}
+use Rattle.{taxi_units.specs.declared.event.Event.TheVariants.{Clock}, verify_bench.specs.Common.{event_text}}
+use Rattle.verify_bench.specs.Common.{Clear, Down, Extra, Hire, Key, Many, One, Position, Run, Stop, Up, Zone}
 use Rattle.taxi_units.specs.declared.event.Event.TheVariants as events
-use Rattle.taxi_units.specs.declared.event.Key.{Key}
-use Rattle.taxi_units.specs.declared.event.Key.TheVariants.{Hire, Stop, Clear, Position, Zone, Extra}
 
 -- the place of the generator is the state of its draws, and the time since its beginning, in tenths of a second
 pub record Place : Type 0 where

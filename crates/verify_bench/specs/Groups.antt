@@ -1,19 +1,9 @@
 -- Rules: the intervals of a trip in groups, by the rate and the way by which they were charged.
-use Rattle.std.specs.Prelude.{ℕ, ◌+◌, ◌*◌, ◌==◌, ◌&&◌, Bool, true, false, List, [], ◌∷◌, ◌++◌, map, sum, filter}
-use Rattle.std.specs.Prelude.{if◌then◌else◌, nat_lt}
-use Rattle.std.specs.Option.{unwrap_or}
-use Rattle.drive_modes.specs.declared.charges.Mode.{Mode}
-use Rattle.drive_modes.specs.declared.charges.Mode.TheVariants.{Single, Double}
-use Rattle.meter_model.specs.Setting.{Setting}
-use Rattle.meter_model.specs.Trip.{Part, InHired, InStopped, Rest, charge_in, pulses_in, ticks_in}
-use Rattle.tariff_check.specs.Parts.{RateNumbers}
-use Rattle.tariff_check.specs.SoundLookups.{place_in_force, rate_in_force}
-use Rattle.tariff_check.specs.SoundTariff.{lines_of}
-use Rattle.tariff_syntax.specs.declared.context.Context.{Context}
-use Rattle.verify_bench.specs.declared.explained.Group.{Group}
-use Rattle.verify_bench.specs.declared.explained.Sums.{Sums}
-use Rattle.verify_bench.specs.declared.explained.Way.{Way}
-use Rattle.verify_bench.specs.declared.explained.Way.TheVariants.{Distance, Time, Both}
+use Rattle.std.specs.{Option.{unwrap_or}, Prelude.{nat_lt, sum, true}}
+use Rattle.std.specs.Prelude.{[], ℕ, ◌&&◌, ◌*◌, ◌++◌, ◌+◌, ◌==◌, ◌∷◌, Bool, List, false, filter, if◌then◌else◌, map}
+use Rattle.verify_bench.specs.Common.{Both, Context, Distance, Double, Group, InHired, InStopped, Mode, Part}
+use Rattle.verify_bench.specs.Common.{RateNumbers, Rest, Setting, Single, Sums, Time, Way, charge_in, lines_of}
+use Rattle.verify_bench.specs.Common.{place_in_force, pulses_in, rate_in_force, ticks_in}
 
 -- in mode S an interval of p pulses is charged by a rate in the way of its time below the cross-over speed, and else in
 -- the way of its distance, whatever the two cost; in mode D it is charged in the way of both

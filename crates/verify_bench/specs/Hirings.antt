@@ -1,18 +1,10 @@
 -- For proofs: a hiring of the bench with the sums of its intervals, and which trip of the meter it is. Trip, of
 -- meter_model, says what a trip is.
-use Rattle.std.specs.Prelude.{◌≡◌, ℕ, ◌*◌, ◌≤◌, All, filter}
-use Rattle.meter_model.specs.KeptTrip.{IsSupplementNumber}
-use Rattle.meter_model.specs.Setting.{Setting, unit_of}
-use Rattle.meter_model.specs.Supplements.{times}
-use Rattle.meter_model.specs.Trip.{MeterTrip, fees_of}
-use Rattle.tariff_check.specs.Amounts.{IsFitInitial}
-use Rattle.tariff_syntax.specs.declared.context.Context.{Context}
-use Rattle.taxi_units.specs.Time.{IsSecond}
-use Rattle.verify_bench.specs.Fees.{fees_of_hiring}
+use Rattle.std.specs.Prelude.{ℕ, ◌*◌, ◌≡◌, ◌≤◌, All, filter}
+use Rattle.{meter_model.specs.Trip.{fees_of}, verify_bench.specs.{Common.{times, unit_of}, Fees.{fees_of_hiring}}}
+use Rattle.verify_bench.specs.Common.{Context, Hiring, IsFitInitial, IsSecond, IsSupplementNumber, MeterTrip, Setting}
 use Rattle.verify_bench.specs.Gathered.{AreRateWithin, AreWithin, IsTableOf, rate_at}
-use Rattle.verify_bench.specs.Groups.{is_in_stopped, is_rest, sums_of}
-use Rattle.verify_bench.specs.Limits.{most_charge, most_money}
-use Rattle.verify_bench.specs.declared.hiring.Hiring.{Hiring}
+use Rattle.verify_bench.specs.{Groups.{is_in_stopped, is_rest, sums_of}, Limits.{most_charge, most_money}}
 
 -- a hiring of the bench is a trip of the meter that began with it in a context if both have the same start, fees and
 -- supplements, and the hiring has the sums of the trip's parts; its charges are at most 41 * 10^9 of the smallest units

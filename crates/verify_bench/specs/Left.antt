@@ -1,9 +1,7 @@
 -- For proofs: what is left of a generated drive. Generated says what the whole drive is.
-use Rattle.std.specs.Prelude.{ℕ, ◌+◌, ◌*◌, ◌≤◌, List, ◌++◌, drop}
-use Rattle.arrayvec.specs.ArrayVec.{array_vec_len}
-use Rattle.verify_bench.specs.Adding.{place_of}
-use Rattle.verify_bench.specs.Generated.{lines_text, trips_from}
-use Rattle.verify_bench.specs.declared.remaining.Remaining.{Remaining}
+use Rattle.std.specs.Prelude.{ℕ, ◌*◌, ◌++◌, ◌+◌, ◌≤◌, List, drop}
+use Rattle.{arrayvec.specs.ArrayVec.{array_vec_len}, verify_bench.specs.declared.remaining.Remaining.{Remaining}}
+use Rattle.verify_bench.specs.{AddedText.{place_of}, Generated.{lines_text, trips_from}}
 
 -- a generated drive has left what was written of it and not yet given, and the lines of its trips to come
 abbrev pub bytes_left : Remaining → List ℕ

@@ -1,11 +1,8 @@
--- By law: whether every row of a report passes, as a test of place after place. Passing says in which reports it
+-- By law: whether every row of a report passes, as a test of place after place. PassedReports says in which reports it
 -- does, by the law `readings_pass_where_each_row_does`.
-use Rattle.std.specs.Prelude.{ℕ, zero, suc, Bool, true, false, ◌&&◌, List, length, max, Option, Some, None, slice_get}
-use Rattle.verify_bench.specs.VerdictStages.{verdict_of}
-use Rattle.verify_bench.specs.declared.expected.Expected.{Expected}
-use Rattle.verify_bench.specs.declared.judging.Verdict.{Verdict}
+use Rattle.std.specs.Prelude.{ℕ, ◌&&◌, Bool, List, None, Option, Some, false, length, max, slice_get, suc, true, zero}
+use Rattle.verify_bench.specs.{Common.{Expected, Reading, Verdict}, VerdictStages.{verdict_of}}
 use Rattle.verify_bench.specs.declared.judging.Verdict.TheVariants as verdicts
-use Rattle.verify_bench.specs.declared.reading.Reading.{Reading}
 
 -- a verdict is a pass if it is none of the three faults
 abbrev pub is_pass : Verdict → Bool

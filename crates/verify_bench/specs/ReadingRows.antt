@@ -1,7 +1,6 @@
 -- Rules: the rows of a text of readings, as csv reads them.
-use Rattle.std.specs.Prelude.{ℕ, List, [], ◌∷◌, codes}
-use Rattle.csv.specs.Reading.{AreRecords, Reached, default_config, strip_bom}
-use Rattle.csv.specs.declared.parser.State.{State}
+use Rattle.std.specs.Prelude.{[], ℕ, ◌∷◌, List, codes}
+use Rattle.csv.specs.{Reading.{AreRecords, Reached, default_config, strip_bom}, declared.parser.State.{State}}
 use Rattle.csv.specs.declared.parser.State.TheVariants as states
 
 -- a row is the list of its fields

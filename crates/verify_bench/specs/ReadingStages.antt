@@ -1,15 +1,11 @@
 -- By law: what a text of readings says, as a function of the text, row after row. Readings says what it means, by
 -- the law `texts_have_one_reading`.
-use Rattle.std.specs.Cmp.Lexicographic.{pointwise}
-use Rattle.std.specs.Prelude.{ℕ, ◌+◌, nat_eq, nat_lt, if◌then◌else◌, List, [], ◌∷◌, length, Option, Some, None, Result, Ok, Err}
-use Rattle.std.specs.Result.{result_ok}
+use Rattle.std.specs.{Cmp.Lexicographic.{pointwise}, Prelude.{nat_lt}, Result.{result_ok}}
+use Rattle.std.specs.Prelude.{[], ℕ, ◌+◌, ◌∷◌, Err, List, None, Ok, Option, Result, Some, if◌then◌else◌, length, nat_eq}
 use Rattle.csv.specs.Reading.{default_config, records, strip_bom}
-use Rattle.taxi_units.specs.Number.{decimal_read}
 use Rattle.taxi_units.specs.Reading.{◌>>=◌}
+use Rattle.verify_bench.specs.Common.{BadRow, Reading, ReadingsFault, TooLong, decimal_read}
 use Rattle.verify_bench.specs.ReadingRows.{Row, header, readings_limit}
-use Rattle.verify_bench.specs.declared.reading.Reading.{Reading}
-use Rattle.verify_bench.specs.declared.reading.ReadingsFault.{ReadingsFault}
-use Rattle.verify_bench.specs.declared.reading.ReadingsFault.TheVariants.{TooLong, BadRow}
 
 -- a row with three fields that are read says their reading, and any other row none
 abbrev pub reading_of_row : (decimals : ℕ) → Row → Option Reading

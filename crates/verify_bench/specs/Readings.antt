@@ -1,11 +1,8 @@
 -- Rules: texts of readings, which are the header and a row for each reading. The law texts_have_one_reading says that
 -- `readings_in`, of ReadingStages, gives what a text is read as.
-use Rattle.std.specs.Prelude.{◌≡◌, ◌≢◌, ℕ, ◌+◌, ◌<◌, ◌≤◌, List, [], ◌∷◌, ◌++◌, length, Result, Ok, Err}
-use Rattle.taxi_units.specs.Number.{decimal_read}
-use Rattle.verify_bench.specs.declared.reading.Reading.{Reading}
-use Rattle.verify_bench.specs.declared.reading.ReadingsFault.{ReadingsFault}
-use Rattle.verify_bench.specs.declared.reading.ReadingsFault.TheVariants.{TooLong, BadRow, NoMemory}
-pub use Rattle.verify_bench.specs.ReadingRows.{Row, AreRows, AreFirstRows, header, readings_limit}
+use Rattle.std.specs.Prelude.{[], ℕ, ◌++◌, ◌+◌, ◌<◌, ◌∷◌, ◌≡◌, ◌≢◌, ◌≤◌, Err, List, Ok, Result, length}
+use Rattle.verify_bench.specs.Common.{BadRow, NoMemory, Reading, ReadingsFault, TooLong, decimal_read}
+pub use Rattle.verify_bench.specs.ReadingRows.{AreFirstRows, AreRows, Row, header, readings_limit}
 pub use Rattle.verify_bench.specs.ReadingStages.{readings_in}
 
 -- a row says a reading if its three fields are read as the reading's fare, with the tariff's decimals, its distance

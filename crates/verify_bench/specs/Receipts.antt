@@ -1,9 +1,6 @@
 -- Rules: the receipts that acts print.
-use Rattle.std.specs.Prelude.{List, Option, Some, None}
-use Rattle.std.specs.List.{filter_map}
-use Rattle.meter_model.specs.declared.act.Act.{Act}
+use Rattle.{std.specs.{List.{filter_map}, Prelude.{List, None, Option, Some}}, verify_bench.specs.Common.{Act, Receipt}}
 use Rattle.meter_model.specs.declared.act.Act.TheVariants as acts
-use Rattle.taxi_units.specs.declared.receipt.Receipt.{Receipt}
 
 -- the receipt of an act is the one that it prints, and none if it is of another kind
 abbrev pub receipt_in : Act → Option Receipt

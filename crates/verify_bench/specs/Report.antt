@@ -1,14 +1,9 @@
 -- Rules: the report, which is a header and a row for each place of what is expected and of what was read.
-use Rattle.std.specs.Prelude.{ℕ, zero, suc, ◌+◌, List, [], ◌∷◌, ◌++◌, length, max, flat_map, codes, decimal, Option, Some, None, option_map, slice_get}
-use Rattle.csv.specs.Writing.{default_writer, row_text}
-use Rattle.taxi_units.specs.Number.{money_text}
-use Rattle.taxi_units.specs.declared.receipt.Kind.{Kind}
-use Rattle.taxi_units.specs.declared.receipt.Kind.TheVariants.{Closed, Aborted, Expired, Roam}
-use Rattle.verify_bench.specs.Verdicts.{verdict_of}
-use Rattle.verify_bench.specs.declared.expected.Expected.{Expected}
-use Rattle.verify_bench.specs.declared.judging.Verdict.{Verdict}
+use Rattle.std.specs.Prelude.{[], ℕ, ◌++◌, ◌+◌, ◌∷◌, List, None, Option, Some, codes, decimal, flat_map, length, max}
+use Rattle.{std.specs.Prelude.{option_map, slice_get, suc, zero}, csv.specs.Writing.{default_writer, row_text}}
+use Rattle.taxi_units.specs.{Number.{money_text}, declared.receipt.Kind.TheVariants.{Aborted, Closed, Expired, Roam}}
+use Rattle.verify_bench.specs.{Common.{Expected, Kind, Reading, Verdict}, Verdicts.{verdict_of}}
 use Rattle.verify_bench.specs.declared.judging.Verdict.TheVariants as verdicts
-use Rattle.verify_bench.specs.declared.reading.Reading.{Reading}
 
 -- the header of a report names its nine columns
 abbrev pub report_header : List (List ℕ)

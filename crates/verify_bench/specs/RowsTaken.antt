@@ -1,9 +1,7 @@
 -- For proofs: rows of readings that are taken one by one. Readings says what all rows of a text come to.
-use Rattle.std.specs.Prelude.{◌≡◌, ℕ, ◌+◌, Bool, true, false, List, [], length}
-use Rattle.verify_bench.specs.Readings.{Row, AreGood, IsBadBehind, IsRowOfReading}
-use Rattle.verify_bench.specs.declared.reading.Reading.{Reading}
-use Rattle.verify_bench.specs.declared.reading.ReadingsFault.{ReadingsFault}
-use Rattle.verify_bench.specs.declared.reading.ReadingsFault.TheVariants.{TooLong, BadRow, NoMemory}
+use Rattle.std.specs.Prelude.{[], ℕ, ◌+◌, ◌≡◌, Bool, List, false, length, true}
+use Rattle.verify_bench.specs.Common.{BadRow, NoMemory, Reading, ReadingsFault, TooLong}
+use Rattle.verify_bench.specs.Readings.{AreGood, IsBadBehind, IsRowOfReading, Row}
 
 -- rows that were taken have given readings if none were taken yet, or if they are good and say these readings
 abbrev pub HaveGiven : (decimals : ℕ) → List Row → (headed : Bool) → List Reading → Type 0

@@ -1,6 +1,5 @@
 -- Rules: what should come of a hiring, from its explanation.
-use Rattle.verify_bench.specs.Explaining.{Explanation}
-use Rattle.verify_bench.specs.declared.expected.Expected.{Expected}
+use Rattle.verify_bench.specs.{Common.{Expected}, TripExplanations.{Explanation}}
 
 -- an explanation is cut short to its receipt's kind, fare and distance, and the ticks of the trip
 abbrev pub short_of : Explanation → Expected

@@ -1,12 +1,8 @@
 -- By law: the verdict on a reading, as three tests give it. Verdicts says what it means, by the law
 -- `verdicts_name_the_first_fault`.
-use Rattle.std.specs.Prelude.{ℕ, ◌*◌, Bool, true, false}
-use Rattle.std.specs.Int.{abs_diff}
-use Rattle.taxi_units.specs.Test.{Test, at_most, either}
-use Rattle.verify_bench.specs.declared.expected.Expected.{Expected}
-use Rattle.verify_bench.specs.declared.judging.Verdict.{Verdict}
+use Rattle.std.specs.{Int.{abs_diff}, Prelude.{ℕ, ◌*◌, Bool, false, true}}
+use Rattle.{taxi_units.specs.Test.{Test, at_most, either}, verify_bench.specs.Common.{Expected, Reading, Verdict}}
 use Rattle.verify_bench.specs.declared.judging.Verdict.TheVariants as verdicts
-use Rattle.verify_bench.specs.declared.reading.Reading.{Reading}
 
 -- a reading is found within its permissible error by comparing its error with the two limits
 abbrev pub within_test : (parts least expected read : ℕ) → Test

@@ -1,11 +1,8 @@
 -- Rules: the permissible errors, and the verdict on a reading. The law verdicts_name_the_first_fault says that
 -- `verdict_of`, of VerdictStages, gives it.
-use Rattle.std.specs.Prelude.{ℕ, ◌*◌, ◌≤◌, ◌⊎◌}
-use Rattle.std.specs.Int.{abs_diff}
-use Rattle.verify_bench.specs.declared.expected.Expected.{Expected}
-use Rattle.verify_bench.specs.declared.judging.Verdict.{Verdict}
+use Rattle.std.specs.{Int.{abs_diff}, Prelude.{ℕ, ◌*◌, ◌≤◌, ◌⊎◌}}
+use Rattle.verify_bench.specs.Common.{Expected, Reading, Verdict}
 use Rattle.verify_bench.specs.declared.judging.Verdict.TheVariants as verdicts
-use Rattle.verify_bench.specs.declared.reading.Reading.{Reading}
 pub use Rattle.verify_bench.specs.VerdictStages.{verdict_of}
 
 -- a reading is within its permissible error if it is off by at most one part in `parts` of what is expected, or by

@@ -1,36 +1,14 @@
 -- Rules: which trip and which receipt an explanation is of, and what its parts come to together.
-use Rattle.std.specs.Prelude.{◌≡◌, ◌↔◌, ◌⊎◌, ℕ, ◌+◌, ◌*◌, ◌<◌, ◌++◌, ◌∷◌, All, Bool, List, None, Some, filter, map, sum, true}
-use Rattle.std.specs.List.{slice_get}
-use Rattle.drive_modes.specs.Fare.{shown_fare, steps_above}
-use Rattle.meter_model.specs.Charge.{distance_charge, time_charge}
-use Rattle.meter_model.specs.Closing.{receipt_of}
-use Rattle.meter_model.specs.Interval.{context_now}
-use Rattle.meter_model.specs.KeptTrip.{IsSupplementNumber}
-use Rattle.meter_model.specs.Setting.{Setting, rounding_of, unit_of}
-use Rattle.meter_model.specs.Step.{step}
-use Rattle.meter_model.specs.Trip.{InHired, MeterTrip, Part, fees_of, pulses_in, ticks_in}
-use Rattle.meter_model.specs.declared.act.Act.{Act}
-use Rattle.drive_modes.specs.Distance.{millimetres_of}
-use Rattle.tariff_check.specs.Parts.{InitialNumbers, RateNumbers}
-use Rattle.tariff_check.specs.Amounts.{fees_in_force}
-use Rattle.tariff_check.specs.SoundLookups.{place_in_force}
-use Rattle.tariff_check.specs.SoundTariff.{Choice, sound_of}
-use Rattle.tariff_syntax.specs.Meaning.{at_hiring}
-use Rattle.tariff_syntax.specs.Tree.{Tree}
-use Rattle.tariff_syntax.specs.Writable.{IsWritable}
-use Rattle.tariff_syntax.specs.declared.context.Context.{Context}
-use Rattle.taxi_units.specs.declared.event.Event.{Event}
-use Rattle.taxi_units.specs.declared.receipt.Kind.{Kind}
-use Rattle.taxi_units.specs.declared.receipt.Receipt.{Receipt}
-use Rattle.verify_bench.specs.ClosedTrips.{IsClosedTrip, TripOf, closing_meter, hiring_meter}
-use Rattle.verify_bench.specs.Explaining.{Explanation, explanation}
-use Rattle.verify_bench.specs.Groups.{way_by}
-use Rattle.verify_bench.specs.Receipts.{receipts_in}
-use Rattle.verify_bench.specs.declared.explained.Group.{Group}
-use Rattle.verify_bench.specs.declared.explained.Taken.{Taken}
-use Rattle.verify_bench.specs.declared.explained.Way.{Way}
-use Rattle.verify_bench.specs.declared.explained.Way.TheVariants.{Distance, Time, Both}
-use Rattle.verify_bench.specs.declared.fees.HiringFees.{HiringFees}
+use Rattle.{std.specs.{List.{slice_get}, Prelude.{true}}, drive_modes.specs.Distance.{millimetres_of}}
+use Rattle.std.specs.Prelude.{ℕ, ◌*◌, ◌++◌, ◌+◌, ◌<◌, ◌↔◌, ◌∷◌, ◌≡◌, ◌⊎◌, All, Bool, List, None, Some, filter, map, sum}
+use Rattle.{drive_modes.specs.Fare.{steps_above}, tariff_check.specs.Parts.{InitialNumbers}}
+use Rattle.meter_model.specs.{Charge.{distance_charge, time_charge}, Setting.{rounding_of}, Trip.{fees_of}}
+use Rattle.verify_bench.specs.{ClosedTrips.{IsClosedTrip, TripOf, closing_meter, hiring_meter}, Common.{unit_of}}
+use Rattle.verify_bench.specs.Common.{Act, Both, Choice, Context, Distance, Event, Group, HiringFees, InHired}
+use Rattle.verify_bench.specs.Common.{IsSupplementNumber, IsWritable, Kind, MeterTrip, Part, RateNumbers, Receipt}
+use Rattle.verify_bench.specs.Common.{Setting, Taken, Time, Tree, Way, at_hiring, context_now, fees_in_force}
+use Rattle.verify_bench.specs.Common.{place_in_force, pulses_in, receipt_of, shown_fare, sound_of, step, ticks_in}
+use Rattle.verify_bench.specs.{Groups.{way_by}, Receipts.{receipts_in}, TripExplanations.{Explanation, explanation}}
 
 -- an interval of p pulses is charged in a way by a rate what its distance costs, what its time costs, or both
 abbrev pub charge_in_way : (k common : ℕ) → RateNumbers → (p : ℕ) → Way → ℕ

@@ -2,16 +2,12 @@
 #![tactic(auto, using(crate::proofs::Benches::looser))]
 
 ghost use Rattle.std.specs.Prelude.{◌≡◌, None, OnOk, true};
-ghost use Rattle.meter_model.specs.Closing.{closed, roaming_checked, roaming_entered};
-ghost use Rattle.meter_model.specs.Interval.{context_on, interval_counted, interval_left, pulses_so_far, ticks_so_far};
-ghost use Rattle.meter_model.specs.Interval.{with_interval, with_roaming};
-ghost use Rattle.meter_model.specs.Meter.{Meter};
-ghost use Rattle.meter_model.specs.Setting.{Setting, local_at};
-ghost use Rattle.meter_model.specs.Trip.{InHired, InStopped, Rest};
+ghost use Rattle.{totals_record.specs.Entries.{is_of_hiring}, meter_model.specs.Interval.{with_roaming}};
+ghost use Rattle.verify_bench.specs.Common.{InHired, InStopped, IsSecond, Meter, Rest, Setting, closed, context_on};
+ghost use Rattle.verify_bench.specs.Common.{interval_counted, interval_left, last_tick, local_at, longest_trip};
+ghost use Rattle.verify_bench.specs.Common.{pulses_so_far, roaming_checked, roaming_entered, ticks_so_far};
+ghost use Rattle.verify_bench.specs.{Common.{with_interval}, Settings.{setting_under}};
 ghost use Rattle.tariff_syntax.specs.declared.context.Context as contexts;
-ghost use Rattle.taxi_units.specs.Time.{IsSecond, last_tick, longest_trip};
-ghost use Rattle.totals_record.specs.Entries.{is_of_hiring};
-ghost use Rattle.verify_bench.specs.Settings.{setting_under};
 
 use crate::explained::Explained;
 use crate::hiring::Hiring;
@@ -52,7 +48,7 @@ pub(crate) struct BenchMeter {
 }
 
 impl BenchMeter {
-    ghost use Rattle.verify_bench.specs.Bench.{GoesThrough, GoesThroughQuietly, HasTicks, IsMeterInRange, BenchStands};
+    ghost use Rattle.verify_bench.specs.Bench.{BenchStands, GoesThrough, GoesThroughQuietly, HasTicks, IsMeterInRange};
 
     /// How many ticks the trip has, 0 without one.
     pub(crate) fn ticks(&self) -> u32

@@ -1,9 +1,6 @@
 //! What the events of a drive do to the meter of the bench.
-ghost use Rattle.std.specs.Prelude.{OnOk};
-ghost use Rattle.meter_model.specs.Interval.{pulses_taken};
-ghost use Rattle.meter_model.specs.Setting.{Setting};
-ghost use Rattle.meter_model.specs.Step.{clock_read, powered_step, step};
-ghost use Rattle.taxi_units.specs.Time.{IsSecond, last_tick};
+ghost use Rattle.{std.specs.Prelude.{OnOk}, meter_model.specs.{Interval.{pulses_taken}, Step.{clock_read}}};
+ghost use Rattle.verify_bench.specs.Common.{IsSecond, Setting, last_tick, powered_step, step};
 ghost use Rattle.verify_bench.specs.Settings.{setting_under};
 
 use crate::bench_meter::BenchMeter;

@@ -1,17 +1,9 @@
 //! What a drive comes to, hiring by hiring.
-ghost use Rattle.std.specs.Prelude.{◌≡◌, ◌<◌, ◌≤◌, ◌∷◌, ◌++◌, [], All, flat_map, map, IfOk, OnOk};
-ghost use Rattle.drive_text.specs.Ranges.{IsRunInRange};
-ghost use Rattle.drive_text.specs.Runs.{interval_events, intervals_events, run_events};
-ghost use Rattle.meter_model.specs.Run.{opened};
-ghost use Rattle.meter_model.specs.Setting.{Setting};
-ghost use Rattle.tariff_syntax.specs.declared.context.Context.{Context};
-ghost use Rattle.taxi_units.specs.Time.{last_tick};
-ghost use Rattle.totals_record.specs.States.{first_state};
-ghost use Rattle.verify_bench.specs.Carrying.{Carries};
-ghost use Rattle.verify_bench.specs.Expecting.{expected_of};
-ghost use Rattle.verify_bench.specs.Explaining.{explanation_of, explanations_of};
-ghost use Rattle.verify_bench.specs.Settings.{setting_under};
-ghost use Rattle.verify_bench.specs.Shortened.{short_of};
+ghost use Rattle.std.specs.Prelude.{[], ◌++◌, ◌<◌, ◌∷◌, ◌≡◌, ◌≤◌, All, IfOk, OnOk, flat_map, map};
+ghost use Rattle.verify_bench.specs.{BenchProgress.{Carries}, Common.{intervals_events, last_tick, opened, run_events}};
+ghost use Rattle.verify_bench.specs.Common.{Context, IsRunInRange, Setting, first_state, interval_events};
+ghost use Rattle.verify_bench.specs.{ExpectedReceipts.{expected_of}, Shortened.{short_of}};
+ghost use Rattle.verify_bench.specs.{Settings.{setting_under}, TripExplanations.{explanation_of, explanations_of}};
 
 use crate::bench_meter::BenchMeter;
 use crate::expected::Expected;
@@ -132,7 +124,7 @@ fn put_expected(found: &mut Vec<Expected>, explained: &[Explained]) -> Result<()
 }
 
 impl BenchMeter {
-    ghost use Rattle.verify_bench.specs.Bench.{IsMeterInRange, MayTake, BenchStands};
+    ghost use Rattle.verify_bench.specs.Bench.{BenchStands, IsMeterInRange, MayTake};
 
     /// The meter before the supply first comes, over an empty store.
     fn new() -> BenchMeter

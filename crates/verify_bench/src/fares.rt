@@ -1,12 +1,9 @@
 //! The fare of a hiring.
-ghost use Rattle.std.specs.Prelude.{◌≡◌, ℕ, ◌+◌, ◌*◌, ◌^◌, ◌<◌, ◌≤◌};
-ghost use Rattle.drive_modes.specs.Fare.{quotient, shown_fare, steps_above};
-ghost use Rattle.meter_model.specs.Setting.{modulus_of, rounding_of, unit_of};
-ghost use Rattle.tariff_check.specs.Amounts.{IsFitInitial};
-ghost use Rattle.taxi_units.specs.Money.{largest_display_step};
-ghost use Rattle.taxi_units.specs.Time.{longest_trip};
+ghost use Rattle.std.specs.Prelude.{ℕ, ◌*◌, ◌+◌, ◌<◌, ◌^◌, ◌≡◌, ◌≤◌};
+ghost use Rattle.{taxi_units.specs.Money.{largest_display_step}, drive_modes.specs.Fare.{quotient, steps_above}};
+ghost use Rattle.{meter_model.specs.Setting.{modulus_of, rounding_of}, verify_bench.specs.Settings.{setting_under}};
+ghost use Rattle.verify_bench.specs.Common.{IsFitInitial, longest_trip, shown_fare, unit_of};
 ghost use Rattle.verify_bench.specs.Limits.{most_charge, most_money};
-ghost use Rattle.verify_bench.specs.Settings.{setting_under};
 
 use drive_modes::Rounding;
 use seal_record::Params;

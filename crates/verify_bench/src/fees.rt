@@ -1,9 +1,7 @@
 //! The fees of a hiring, over the parts of a tariff.
-ghost use Rattle.std.specs.Prelude.{◌≡◌, ◌∷◌, get_or};
-ghost use Rattle.tariff_check.specs.Amounts.{IsFitInitial, place_number};
-ghost use Rattle.tariff_check.specs.SoundTariff.{own_lines, own_values, sound_of};
-ghost use Rattle.tariff_syntax.specs.Tree.{tree_of};
-ghost use Rattle.verify_bench.specs.Fees.{fees_of_hiring, line_at_place};
+ghost use Rattle.std.specs.Prelude.{◌∷◌, ◌≡◌, get_or};
+ghost use Rattle.{tariff_check.specs.Amounts.{place_number}, verify_bench.specs.Fees.{fees_of_hiring, line_at_place}};
+ghost use Rattle.verify_bench.specs.Common.{IsFitInitial, own_lines, own_values, sound_of, tree_of};
 
 use crate::lookups::value_at;
 use tariff_check::{Checked, Choice, Initial, InitialNumbers};

@@ -1,7 +1,6 @@
 //! The generated drive as a file.
-ghost use Rattle.std.specs.Prelude.{◌≡◌, ℕ, ◌<◌, ◌≤◌, ◌++◌, [], length, take, IfOk, IsErr, IsOk, OnErr};
-ghost use Rattle.outside.specs.Reading.{LeavesOthers};
-ghost use Rattle.outside.specs.Faults.{HasCause, MayRise};
+ghost use Rattle.std.specs.Prelude.{[], ℕ, ◌++◌, ◌<◌, ◌≡◌, ◌≤◌, IfOk, IsErr, IsOk, OnErr, length, take};
+ghost use Rattle.outside.specs.{Faults.{HasCause, MayRise}, Reading.{LeavesOthers}};
 ghost use Rattle.verify_bench.specs.Generated.{generated, rest_of};
 
 use crate::remaining::Remaining;
@@ -22,8 +21,7 @@ pub struct Generator {
 }
 
 impl Model for Generator {
-    ghost use Rattle.std.specs.Prelude.{List, ℕ};
-    ghost use Rattle.verify_bench.specs.Left.{HasRoomForTrips, bytes_left};
+    ghost use Rattle.{std.specs.Prelude.{ℕ, List}, verify_bench.specs.Left.{HasRoomForTrips, bytes_left}};
 
     ghost Value = { List ℕ };
 

@@ -1,16 +1,9 @@
 //! A hiring, with the sums of its intervals.
-ghost use Rattle.std.specs.Prelude.{◌≡◌, ◌+◌, ◌^◌, ◌<◌, ◌≤◌, ◌++◌, ◌∷◌, [], OnOk};
-ghost use Rattle.meter_model.specs.KeptTrip.{IsSupplementNumber};
-ghost use Rattle.meter_model.specs.Setting.{Setting};
-ghost use Rattle.meter_model.specs.Supplements.{times};
-ghost use Rattle.meter_model.specs.Trip.{InHired, InStopped, Rest, MeterTrip, with_part};
-ghost use Rattle.tariff_check.specs.Amounts.{IsFitInitial};
-ghost use Rattle.tariff_syntax.specs.declared.context.Context.{Context};
-ghost use Rattle.taxi_units.specs.Time.{IsSecond};
+ghost use Rattle.std.specs.Prelude.{[], ◌++◌, ◌+◌, ◌<◌, ◌^◌, ◌∷◌, ◌≡◌, ◌≤◌, OnOk};
+ghost use Rattle.{meter_model.specs.Trip.{with_part}, verify_bench.specs.Common.{MeterTrip, Rest, Setting, times}};
+ghost use Rattle.verify_bench.specs.Common.{Context, InHired, InStopped, IsFitInitial, IsSecond, IsSupplementNumber};
 ghost use Rattle.verify_bench.specs.Gathered.{no_sums};
-ghost use Rattle.verify_bench.specs.Hirings.{IsHiringOf};
-ghost use Rattle.verify_bench.specs.Limits.{most_charge};
-ghost use Rattle.verify_bench.specs.Pricing.{IsPriceOf};
+ghost use Rattle.verify_bench.specs.{Hirings.{IsHiringOf}, IntervalPrice.{IsPriceOf}, Limits.{most_charge}};
 
 use crate::explained::Sums;
 use crate::fees::HiringFees;

@@ -1,9 +1,6 @@
 //! Judges readings. The permissible errors are this project's own.
-ghost use Rattle.std.specs.Prelude.{◌≡◌, ℕ, ◌<◌, ◌↔◌};
-ghost use Rattle.verify_bench.specs.declared.expected.Expected.{Expected};
-ghost use Rattle.verify_bench.specs.declared.judging.Verdict.{Verdict};
-ghost use Rattle.verify_bench.specs.declared.reading.Reading.{Reading};
-ghost use Rattle.verify_bench.specs.Verdicts.{verdict_of, IsVerdict};
+ghost use Rattle.std.specs.Prelude.{ℕ, ◌<◌, ◌↔◌, ◌≡◌};
+ghost use Rattle.verify_bench.specs.{Common.{Expected, Reading, Verdict}, Verdicts.{IsVerdict, verdict_of}};
 ghost use Rattle.verify_bench.specs.VerdictStages.{within_test};
 
 use crate::expected::Expected;

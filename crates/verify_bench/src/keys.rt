@@ -1,14 +1,10 @@
 //! What keys do to the meter of the bench.
 #![tactic(auto, using(crate::proofs::Benches::looser))]
 
-ghost use Rattle.std.specs.Prelude.{◌≡◌, ◌≤◌, Some, OnOk};
-ghost use Rattle.meter_model.specs.KeptTrip.{IsSupplementNumber};
-ghost use Rattle.meter_model.specs.Keys.{extra_added, latched, position_set, zone_set};
-ghost use Rattle.meter_model.specs.Setting.{Setting};
-ghost use Rattle.seal_record.specs.declared.params.Params.{Params};
-ghost use Rattle.tariff_check.specs.SoundTariff.{supplement_numbered};
-ghost use Rattle.taxi_units.specs.Time.{last_tick};
-ghost use Rattle.taxi_units.specs.declared.event.Operating.TheVariants.{ForHire};
+ghost use Rattle.std.specs.Prelude.{◌≡◌, ◌≤◌, OnOk, Some};
+ghost use Rattle.{seal_record.specs.declared.params.Params.{Params}, verify_bench.specs.Common.{supplement_numbered}};
+ghost use Rattle.meter_model.specs.Keys.{latched, position_set, zone_set};
+ghost use Rattle.verify_bench.specs.Common.{ForHire, IsSupplementNumber, Setting, extra_added, last_tick};
 ghost use Rattle.verify_bench.specs.Settings.{setting_under};
 
 use crate::bench_meter::BenchMeter;
@@ -22,7 +18,7 @@ use tariff_check::{Checked, Supplement};
 use taxi_units::{HIRINGS_END, Key, Kind, NoMemory, Operating, Steps};
 
 impl BenchMeter {
-    ghost use Rattle.verify_bench.specs.Bench.{GoesThroughKey, GoesThroughQuietly, GoesThroughHiring, IsMeterInRange};
+    ghost use Rattle.verify_bench.specs.Bench.{GoesThroughHiring, GoesThroughKey, GoesThroughQuietly, IsMeterInRange};
 
     /// Lets a key wait, if none does.
     pub(crate) fn latch_key(&mut self, key: Key)

@@ -1,11 +1,7 @@
 //! What the parts of a tariff say.
 ghost use Rattle.std.specs.Prelude.{◌≡◌, get_or};
-ghost use Rattle.tariff_calendar.specs.Lists.{is_holiday};
-ghost use Rattle.tariff_check.specs.Faults.{IsSound};
-ghost use Rattle.tariff_check.specs.Parts.{rates_of};
-ghost use Rattle.tariff_check.specs.SoundTariff.{own_values};
-ghost use Rattle.tariff_syntax.specs.Tree.{tree_of};
-ghost use Rattle.tariff_syntax.specs.Writable.{IsWritable};
+ghost use Rattle.{tariff_check.specs.Parts.{rates_of}, tariff_calendar.specs.Lists.{is_holiday}};
+ghost use Rattle.verify_bench.specs.Common.{IsSound, IsWritable, own_values, tree_of};
 
 use tariff_check::{Checked, Choice, RateNumbers};
 

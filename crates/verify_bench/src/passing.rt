@@ -1,8 +1,6 @@
 //! Whether readings pass.
-ghost use Rattle.std.specs.Prelude.{◌≡◌, ℕ, ◌↔◌, List, true};
-ghost use Rattle.verify_bench.specs.declared.expected.Expected.{Expected};
-ghost use Rattle.verify_bench.specs.declared.reading.Reading.{Reading};
-ghost use Rattle.verify_bench.specs.Passing.{EachRowPasses};
+ghost use Rattle.std.specs.Prelude.{ℕ, ◌↔◌, ◌≡◌, List, true};
+ghost use Rattle.verify_bench.specs.{Common.{Expected, Reading}, PassedReports.{EachRowPasses}};
 ghost use Rattle.verify_bench.specs.PassingStages as stages;
 
 use crate::expected::Expected;

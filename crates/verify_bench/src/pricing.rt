@@ -1,9 +1,7 @@
 //! The price of an interval, over the parts of a tariff.
-ghost use Rattle.std.specs.Prelude.{◌≡◌, ◌*◌, ◌^◌, ◌<◌, ◌≤◌, nat_lt};
-ghost use Rattle.tariff_check.specs.Sound.{IsSoundRate};
-ghost use Rattle.verify_bench.specs.Limits.{most_charge};
-ghost use Rattle.verify_bench.specs.Pricing.{IsPriceBy, IsPriceOf};
-ghost use Rattle.verify_bench.specs.Settings.{setting_under};
+ghost use Rattle.std.specs.Prelude.{◌*◌, ◌<◌, ◌^◌, ◌≡◌, ◌≤◌, nat_lt};
+ghost use Rattle.verify_bench.specs.{Common.{IsSoundRate}, Limits.{most_charge}};
+ghost use Rattle.verify_bench.specs.{IntervalPrice.{IsPriceBy, IsPriceOf}, Settings.{setting_under}};
 
 use crate::explained::Way;
 use crate::lookups::rate_at;

@@ -1,10 +1,7 @@
 //! Reads texts of readings.
-ghost use Rattle.std.specs.Prelude.{◌≡◌, ◌≢◌, ◌↔◌, ℕ, ◌++◌, ◌∷◌, [], List, Result, Ok, Err, IfOk, IfErr, OnOk, true};
-ghost use Rattle.csv.specs.Records.{fields_of};
-ghost use Rattle.verify_bench.specs.Readings.{Row, IsReadAs, readings_in};
-ghost use Rattle.verify_bench.specs.RowsTaken.{HaveGiven, IsRowFault};
-ghost use Rattle.verify_bench.specs.declared.reading.Reading.{Reading};
-ghost use Rattle.verify_bench.specs.declared.reading.ReadingsFault.{ReadingsFault};
+ghost use Rattle.std.specs.Prelude.{[], ℕ, ◌++◌, ◌↔◌, ◌∷◌, ◌≡◌, ◌≢◌, Err, IfErr, IfOk, List, Ok, OnOk, Result, true};
+ghost use Rattle.{csv.specs.Records.{fields_of}, verify_bench.specs.Readings.{IsReadAs, Row, readings_in}};
+ghost use Rattle.verify_bench.specs.{Common.{Reading, ReadingsFault}, RowsTaken.{HaveGiven, IsRowFault}};
 
 use crate::reading::{Reading, ReadingsFault};
 use crate::row::{is_header, reading_of};

@@ -1,7 +1,6 @@
 //! What is left of a generated drive.
-ghost use Rattle.std.specs.Prelude.{◌≡◌, ◌<◌, ◌≤◌, ◌-◌, ◌++◌, [], length, take, min};
-ghost use Rattle.arrayvec.specs.ArrayVec.{array_vec_len};
-ghost use Rattle.verify_bench.specs.Generated.{generated};
+ghost use Rattle.std.specs.Prelude.{[], ◌++◌, ◌-◌, ◌<◌, ◌≡◌, ◌≤◌, length, min, take};
+ghost use Rattle.{arrayvec.specs.ArrayVec.{array_vec_len}, verify_bench.specs.Generated.{generated}};
 
 use crate::writing::Writing;
 

@@ -1,11 +1,9 @@
 //! Writes the report.
-ghost use Rattle.std.specs.Prelude.{◌≡◌, ℕ, ◌+◌, ◌≤◌, ◌++◌, ◌∷◌, [], List, map, option_map, slice_get, Some, IfOk, OnOk};
-ghost use Rattle.std.specs.Fmt.{decimal};
-ghost use Rattle.taxi_units.specs.Number.{money_text};
-ghost use Rattle.csv.specs.Records.{fields_of};
-ghost use Rattle.csv.specs.Writing.{default_writer, row_text};
-ghost use Rattle.verify_bench.specs.Report.{kind_word, kind_or_none, amount_or_none, finding, report_header, report_text, row_at};
-ghost use Rattle.verify_bench.specs.Writing.{HasRows, IsRow};
+ghost use Rattle.{std.specs.{Fmt.{decimal}, Prelude.{slice_get}}, csv.specs.Writing.{default_writer, row_text}};
+ghost use Rattle.std.specs.Prelude.{[], ℕ, ◌++◌, ◌+◌, ◌∷◌, ◌≡◌, ◌≤◌, IfOk, List, OnOk, Some, map, option_map};
+ghost use Rattle.{csv.specs.Records.{fields_of}, taxi_units.specs.Number.{money_text}};
+ghost use Rattle.verify_bench.specs.{CsvWriter.{HasRows, IsRow}, Report.{report_text, row_at}};
+ghost use Rattle.verify_bench.specs.Report.{amount_or_none, finding, kind_or_none, kind_word, report_header};
 
 use crate::expected::Expected;
 use crate::judging::{Verdict, judge};

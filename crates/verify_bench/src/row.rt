@@ -1,8 +1,7 @@
 //! Rows of readings.
-ghost use Rattle.std.specs.Prelude.{◌≡◌, ◌≢◌, ◌↔◌, ◌∷◌, [], length, IsTrue, MatchOption};
-ghost use Rattle.csv.specs.Records.{fields_of};
+ghost use Rattle.std.specs.Prelude.{[], ◌↔◌, ◌∷◌, ◌≡◌, ◌≢◌, IsTrue, MatchOption, length};
+ghost use Rattle.{csv.specs.Records.{fields_of}, verify_bench.specs.ReadingStages.{reading_of_row}};
 ghost use Rattle.verify_bench.specs.Readings.{header};
-ghost use Rattle.verify_bench.specs.ReadingStages.{reading_of_row};
 
 use crate::reading::Reading;
 use csv::ByteRecord;

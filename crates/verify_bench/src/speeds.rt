@@ -1,11 +1,8 @@
 //! Writes the cross-over speeds of a tariff.
-ghost use Rattle.std.specs.Prelude.{◌≡◌, ◌+◌, ◌≤◌, ◌++◌, All, IfOk};
-ghost use Rattle.arrayvec.specs.ArrayVec.{array_vec_len};
-ghost use Rattle.taxi_units.specs.Line.{line_size};
-ghost use Rattle.tariff_check.specs.Sound.{IsSoundRate};
-ghost use Rattle.tariff_check.specs.SoundTariff.{own_values, sound_of};
-ghost use Rattle.tariff_syntax.specs.Tree.{tree_of};
-ghost use Rattle.verify_bench.specs.CrossOvers.{cross_over_line, cross_over_lines, cross_over_of, cross_overs_text, speed_text};
+ghost use Rattle.std.specs.Prelude.{◌++◌, ◌+◌, ◌≡◌, ◌≤◌, All, IfOk};
+ghost use Rattle.{arrayvec.specs.ArrayVec.{array_vec_len}, taxi_units.specs.Line.{line_size}};
+ghost use Rattle.verify_bench.specs.{Common.{IsSoundRate, own_values, sound_of, tree_of}, CrossOvers.{speed_text}};
+ghost use Rattle.verify_bench.specs.CrossOvers.{cross_over_line, cross_over_lines, cross_over_of, cross_overs_text};
 
 use drive_modes::cross_over;
 use std::alloc::Global;

@@ -1,5 +1,5 @@
 //! Sums of intervals, and the sums of the intervals that a rate charged.
-ghost use Rattle.std.specs.Prelude.{◌≡◌, ◌+◌, ◌<◌, ◌^◌};
+ghost use Rattle.std.specs.Prelude.{◌+◌, ◌<◌, ◌^◌, ◌≡◌};
 ghost use Rattle.verify_bench.specs.Gathered.{no_rate_sums, no_sums, rate_sums_with, sums_with};
 
 use crate::explained::{Sums, Way};

@@ -1,19 +1,10 @@
 //! What the supply does to the meter of the bench.
-ghost use Rattle.std.specs.Prelude.{◌≡◌, ◌+◌, ◌<◌, ◌&&◌, nat_le, None, OnOk};
-ghost use Rattle.meter_model.specs.Meter.{Meter, held};
-ghost use Rattle.meter_model.specs.Trip.{MeterTrip, held_trip};
-ghost use Rattle.meter_model.specs.Run.{ended};
-ghost use Rattle.meter_model.specs.Setting.{Setting};
-ghost use Rattle.meter_model.specs.Supply.{aborted, hold_taken, is_stopped, held_or_closed, powered, resumed};
-ghost use Rattle.meter_model.specs.Supply.{supply_came, supply_dropped};
-ghost use Rattle.tariff_syntax.specs.declared.context.Context.{Context};
-ghost use Rattle.taxi_units.specs.Limits.{last_number};
-ghost use Rattle.taxi_units.specs.Time.{IsSecond, last_tick};
-ghost use Rattle.taxi_units.specs.declared.event.Event.TheVariants.{Down};
-ghost use Rattle.totals_record.specs.declared.trip.Trip.{Trip};
+ghost use Rattle.std.specs.Prelude.{◌&&◌, ◌+◌, ◌<◌, ◌≡◌, None, OnOk, nat_le};
+ghost use Rattle.meter_model.specs.{Meter.{held}, Supply.{aborted, is_stopped, resumed, supply_came}, Trip.{held_trip}};
 ghost use Rattle.verify_bench.specs.Bench.{held_of};
-ghost use Rattle.verify_bench.specs.Settings.{setting_under};
-ghost use Rattle.verify_bench.specs.Supplied.{waking};
+ghost use Rattle.verify_bench.specs.Common.{Context, Down, IsSecond, Meter, MeterTrip, Setting, Trip, ended};
+ghost use Rattle.verify_bench.specs.Common.{held_or_closed, hold_taken, last_number, last_tick, powered};
+ghost use Rattle.verify_bench.specs.{Common.{supply_dropped}, Settings.{setting_under}, Supplied.{waking}};
 
 use crate::bench_meter::{BenchMeter, SavedState};
 use crate::explained::Explained;
@@ -24,7 +15,8 @@ use tariff_check::Checked;
 use taxi_units::{Kind, LAST_NUMBER, NoMemory, Operating, Steps};
 
 impl BenchMeter {
-    ghost use Rattle.verify_bench.specs.Bench.{GoesThrough, GoesThroughEvent, GoesThroughQuietly, IsMeterInRange, Moves, BenchStands};
+    ghost use Rattle.verify_bench.specs.Bench.{BenchStands, GoesThrough, GoesThroughEvent, GoesThroughQuietly};
+    ghost use Rattle.verify_bench.specs.Bench.{IsMeterInRange, Moves};
 
     /// Lets the supply come.
     pub(crate) fn come_up<L: Ledger>(

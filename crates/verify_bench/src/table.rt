@@ -1,6 +1,5 @@
 //! The table of what the rates of a tariff charged.
-ghost use Rattle.std.specs.Prelude.{◌≡◌, ◌≢◌, ℕ, ◌<◌, OnOk};
-ghost use Rattle.std.specs.Vec.{vec_len};
+ghost use Rattle.std.specs.{Prelude.{ℕ, ◌<◌, ◌≡◌, ◌≢◌, OnOk}, Vec.{vec_len}};
 ghost use Rattle.verify_bench.specs.Gathered.{HaveRoom, rate_at, rate_sums_with};
 
 use crate::explained::{Sums, Way};

@@ -1,19 +1,11 @@
 //! What a hiring that is closed comes to: its receipt, and why its fare is what it is.
-ghost use Rattle.std.specs.Prelude.{◌≡◌, ℕ, ◌≤◌, ◌++◌, List, Some, IfOk, OnOk};
-ghost use Rattle.meter_model.specs.Closing.{receipt_of};
-ghost use Rattle.meter_model.specs.Setting.{Setting, stamp_at};
-ghost use Rattle.meter_model.specs.Supplements.{amount_in, amounts_of};
-ghost use Rattle.meter_model.specs.Trip.{Part, MeterTrip};
-ghost use Rattle.tariff_check.specs.SoundTariff.{own_lines, sound_of};
-ghost use Rattle.tariff_check.specs.Parts.{supplement_of};
-ghost use Rattle.tariff_syntax.specs.Tree.{tree_of};
-ghost use Rattle.tariff_syntax.specs.declared.context.Context.{Context};
-ghost use Rattle.taxi_units.specs.Time.{IsSecond, longest_trip};
-ghost use Rattle.verify_bench.specs.Explaining.{explanation, explanation_of, taken_if, taken_of};
-ghost use Rattle.verify_bench.specs.Gathered.{IsTableOf, all_ways};
-ghost use Rattle.verify_bench.specs.Groups.{group_if, groups_at, groups_from};
-ghost use Rattle.verify_bench.specs.Hirings.{IsHiringOf, IsWhole};
+ghost use Rattle.std.specs.Prelude.{ℕ, ◌++◌, ◌≡◌, ◌≤◌, IfOk, List, OnOk, Some};
+ghost use Rattle.{meter_model.specs.Setting.{stamp_at}, verify_bench.specs.Groups.{group_if, groups_at, groups_from}};
+ghost use Rattle.verify_bench.specs.Common.{Context, IsSecond, MeterTrip, Part, Setting, amount_in, amounts_of};
+ghost use Rattle.verify_bench.specs.Common.{longest_trip, own_lines, receipt_of, sound_of, supplement_of, tree_of};
+ghost use Rattle.verify_bench.specs.{Gathered.{IsTableOf, all_ways}, Hirings.{IsHiringOf, IsWhole}};
 ghost use Rattle.verify_bench.specs.Settings.{setting_under};
+ghost use Rattle.verify_bench.specs.TripExplanations.{explanation, explanation_of, taken_if, taken_of};
 
 use crate::explained::{Explained, Group, Sums, Taken, Way};
 use crate::fares::{fare_shown, steps_shown};

@@ -1,8 +1,6 @@
 //! What a tick does to the meter of the bench.
 ghost use Rattle.std.specs.Prelude.{◌≡◌, None, OnOk};
-ghost use Rattle.meter_model.specs.Step.{expired, ticked};
-ghost use Rattle.taxi_units.specs.Time.{last_tick, longest_trip};
-ghost use Rattle.taxi_units.specs.declared.event.Event.TheVariants.{Tick};
+ghost use Rattle.{meter_model.specs.Step.{expired, ticked}, verify_bench.specs.Common.{Tick, last_tick, longest_trip}};
 ghost use Rattle.verify_bench.specs.Settings.{setting_under};
 
 use crate::bench_meter::BenchMeter;

@@ -1,11 +1,12 @@
 //! Writes the trips of a generated drive.
-ghost use Rattle.verify_bench.specs.Generated.{driven, drop_perhaps, extra_chosen, extra_perhaps, leg, position_chosen, roamed, supply_away, trip, zone_chosen};
+ghost use Rattle.verify_bench.specs.Generated.{driven, drop_perhaps, extra_chosen, extra_perhaps, leg, position_chosen};
+ghost use Rattle.verify_bench.specs.Generated.{roamed, supply_away, trip, zone_chosen};
 
 use crate::writing::Writing;
 use taxi_units::{Event, Key};
 
 impl Writing {
-    ghost use Rattle.verify_bench.specs.Adding.{Adds, HasRoom, place_of};
+    ghost use Rattle.verify_bench.specs.AddedText.{Adds, HasRoom, place_of};
 
     /// Writes a trip.
     pub(crate) fn put_trip(&mut self)

@@ -1,11 +1,8 @@
 //! Writes the lines of a generated drive.
-ghost use Rattle.std.specs.Prelude.{◌≡◌, ◌<◌, ◌≤◌, ◌*◌, ◌∷◌, []};
-ghost use Rattle.arrayvec.specs.ArrayVec.{array_vec_len};
-ghost use Rattle.drive_text.specs.Ranges.{IsInRange};
-ghost use Rattle.drive_text.specs.declared.run.Run.TheVariants.{One, Many};
-ghost use Rattle.taxi_units.specs.declared.event.Event.TheVariants.{Up};
-ghost use Rattle.verify_bench.specs.Generated.{beginning, clock_read, intervals, key_pressed, line, line_text, next_state, second_of, value};
-ghost use Rattle.verify_bench.specs.Adding.{lines_events};
+ghost use Rattle.std.specs.Prelude.{[], ◌*◌, ◌<◌, ◌∷◌, ◌≡◌, ◌≤◌};
+ghost use Rattle.{arrayvec.specs.ArrayVec.{array_vec_len}, verify_bench.specs.Generated.{next_state, second_of, value}};
+ghost use Rattle.verify_bench.specs.{AddedText.{lines_events}, Common.{IsInRange, Many, One, Up}};
+ghost use Rattle.verify_bench.specs.Generated.{beginning, clock_read, intervals, key_pressed, line, line_text};
 
 use drive_text::put_event;
 use taxi_units::{Event, Key, Line, push_bytes, push_number};
@@ -24,8 +21,7 @@ pub(crate) struct Writing {
 }
 
 impl Writing {
-    ghost use Rattle.verify_bench.specs.Adding.{Adds, HasRoom, place_of};
-    ghost use Rattle.drive_text.specs.Ranges.{IsKeyInRange};
+    ghost use Rattle.{drive_text.specs.Ranges.{IsKeyInRange}, verify_bench.specs.AddedText.{Adds, HasRoom, place_of}};
 
     /// The writing at the beginning of the drive, with nothing written.
     pub(crate) fn new(seed: u64) -> Writing

@@ -1,6 +1,5 @@
-use Rattle.std.proofs.Common.{◌∙◌, ℕ, Err, ap, subst, sym}
-use Rattle.c_meter.specs.Shown.{IsStatus}
-use Rattle.c_meter.proofs.Stops.{no_room_is, status_is}
+use Rattle.std.proofs.Common.{ℕ, ◌∙◌, Err, ap, subst, sym}
+use Rattle.c_meter.{specs.Shown.{IsStatus}, proofs.Stops.{no_room_is, status_is}}
 use Rattle.c_meter.proofs.c_meter_fare.Goals as goal
 
 pub returns-in-Err-clause-no_room : goal.returns-in-Err-clause-no_room

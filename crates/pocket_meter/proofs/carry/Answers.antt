@@ -1,5 +1,4 @@
-use Rattle.std.proofs.Common.{All, subst, sym}
-use Rattle.meter_states.specs.Lawful.{IsTimely}
+use Rattle.{std.proofs.Common.{All, subst, sym}, pocket_meter.specs.Common.{IsTimely}}
 use Rattle.pocket_meter.proofs.carry.Goals as goal
 
 pub carry_all-requires-clause-timely : goal.carry_all-requires-clause-timely

@@ -1,11 +1,7 @@
-use Rattle.std.proofs.Common.{ap, sym, ◌∙◌, ◌++◌, List, arith, refl, subst}
-use Rattle.std.proofs.lemmas.List.{append-nil, take_all}
-use Rattle.taxi_units.specs.declared.event.Event.{Event}
-use Rattle.meter_model.specs.Run.{opened, run}
-use Rattle.totals_record.specs.States.{first_state}
-use Rattle.meter_run.specs.Texts.{shown_texts}
+use Rattle.std.proofs.{Common.{◌++◌, ◌∙◌, List, ap, arith, refl, subst, sym}, lemmas.List.{append-nil, take_all}}
 use Rattle.meter_run.proofs.Laws.{begins, ready_first}
-use Rattle.pocket_meter.proofs.Carrying.{fails_behind, printed_more, stands_more}
+use Rattle.pocket_meter.specs.Common.{Event, first_state, opened, run, shown_texts}
+use Rattle.pocket_meter.proofs.CarriedEvents.{fails_behind, printed_more, stands_more}
 use Rattle.pocket_meter.proofs.carry_all.Goals as goal
 
 pub loop-event-init : goal.loop-event-init

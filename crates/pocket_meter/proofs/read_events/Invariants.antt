@@ -1,5 +1,4 @@
-use Rattle.std.proofs.Common.{All}
-use Rattle.meter_states.specs.Lawful.{IsTimely}
+use Rattle.{std.proofs.Common.{All}, pocket_meter.specs.Common.{IsTimely}}
 use Rattle.pocket_meter.proofs.read_events.Given as goal
 
 abbrev pub invariant-loop-line : goal.invariant-loop-line

@@ -1,5 +1,5 @@
 //! The board in memory, call by call, and cuts in its calls.
-ghost use Rattle.std.specs.Prelude.{◌≡◌, ◌<◌, ◌≤◌, ◌↔◌, IsTrue, length};
+ghost use Rattle.std.specs.Prelude.{◌<◌, ◌↔◌, ◌≡◌, ◌≤◌, IsTrue, length};
 
 use crate::meter::tests::{must_at, must_behind};
 use memory_devices::{Fill, MemoryBoard};

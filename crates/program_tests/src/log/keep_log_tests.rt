@@ -1,6 +1,6 @@
 //! Calls of the program over rolls and logs in memory, for the tests of this crate. The texts are those of
 //! docs/FORMATS.md.
-ghost use Rattle.std.specs.Prelude.{◌≡◌, ◌<◌};
+ghost use Rattle.std.specs.Prelude.{◌<◌, ◌≡◌};
 
 use crate::log::memory_log::memory_log;
 use crate::log::receipt_tests::put_receipt;

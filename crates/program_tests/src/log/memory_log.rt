@@ -1,8 +1,7 @@
 //! The board of the log in memory, from bytes and back to bytes that stand on no stack.
-ghost use Rattle.std.specs.Prelude.{◌≡◌, ◌≤◌, [], length, IfOk};
-ghost use Rattle.memory_devices.specs.Calls.{IsInSome};
-ghost use Rattle.outside.specs.Disk.{SameBut, log_size};
-ghost use Rattle.memory_devices.specs.MemoryBoard.{IsNew, new_board, contents_inside, left_since_of};
+ghost use Rattle.std.specs.Prelude.{[], ◌≡◌, ◌≤◌, IfOk, length};
+ghost use Rattle.{outside.specs.Disk.{SameBut, log_size}, memory_devices.specs.Calls.{IsInSome}};
+ghost use Rattle.memory_devices.specs.MemoryBoard.{IsNew, contents_inside, left_since_of, new_board};
 
 use memory_devices::{Fill, MemoryLog};
 use outside::LOG_SIZE;

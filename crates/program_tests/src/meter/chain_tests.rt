@@ -1,5 +1,5 @@
 //! Chains of runs and cuts of the power.
-ghost use Rattle.std.specs.Prelude.{◌≡◌, ◌<◌};
+ghost use Rattle.std.specs.Prelude.{◌<◌, ◌≡◌};
 
 use crate::meter::run_tests::{HELD, HIRING, RUN, sealed};
 use crate::meter::store_tests::filled_or;

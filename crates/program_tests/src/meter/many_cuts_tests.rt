@@ -1,5 +1,5 @@
 //! A hundred cuts of the power from a fixed seed, each in a run over what the one before it left.
-ghost use Rattle.std.specs.Prelude.{◌≡◌, ◌<◌};
+ghost use Rattle.std.specs.Prelude.{◌<◌, ◌≡◌};
 
 use crate::meter::run_tests::{CITY, RUN, sealed};
 use crate::meter::tests::{Ended, FILLS, P, called, cut_in, must};

@@ -1,5 +1,5 @@
 //! Calls of the program, over files and a board in memory.
-ghost use Rattle.std.specs.Prelude.{◌≡◌, ◌<◌};
+ghost use Rattle.std.specs.Prelude.{◌<◌, ◌≡◌};
 
 use commands::taxi;
 use memory_devices::{Fill, MemoryBoard, MemoryFiles};

@@ -1,8 +1,5 @@
-use Rattle.std.proofs.Common.{Err, ap, sym}
-use Rattle.tariff_syntax.specs.Tree.{tree_of}
-use Rattle.c_meter.specs.declared.making.Stop.TheVariants.{NoMemory}
-use Rattle.c_meter.proofs.Stops.{stop_or}
-use Rattle.meter_states.proofs.Laws.{made_by}
+use Rattle.{std.proofs.Common.{Err, ap, sym}, meter_states.proofs.Laws.{made_by}, c_meter.proofs.Stops.{stop_or}}
+use Rattle.c_meter.specs.Common.{NoMemory, tree_of}
 use Rattle.c_meter.proofs.making.made_of.Goals as goal
 
 pub returns-clause-made : goal.returns-clause-made

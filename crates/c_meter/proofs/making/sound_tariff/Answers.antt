@@ -1,8 +1,5 @@
-use Rattle.std.proofs.Common.{sym, subst}
-use Rattle.tariff_check.specs.Faults.{IsSound}
-use Rattle.tariff_syntax.specs.Reads.{Reads}
-use Rattle.tariff_syntax.specs.Tree.{tree_of}
-use Rattle.tariff_syntax.specs.declared.tariff.Tariff.{Tariff}
+use Rattle.{std.proofs.Common.{subst, sym}, tariff_syntax.specs.declared.tariff.Tariff.{Tariff}}
+use Rattle.c_meter.specs.Common.{IsSound, Reads, tree_of}
 use Rattle.c_meter.proofs.making.sound_tariff.Goals as goal
 
 pub returns-in-Ok-check-clause-read : goal.returns-in-Ok-check-clause-read

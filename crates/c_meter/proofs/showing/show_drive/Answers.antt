@@ -1,9 +1,6 @@
-use Rattle.std.proofs.Common.{◌∙◌, ℕ, List, Result, Err, IsErr, ap, refl, subst, sym}
+use Rattle.std.proofs.Common.{ℕ, ◌∙◌, Err, IsErr, List, Result, ap, refl, subst, sym}
+use Rattle.c_meter.{specs.Common.{NoMemory, Stop}, proofs.{Stops.{if_ok, stop_or}, TariffTexts.{shows_by}}}
 use Rattle.c_meter.specs.Shown.{ShowsDrive}
-use Rattle.c_meter.specs.declared.making.Stop.{Stop}
-use Rattle.c_meter.specs.declared.making.Stop.TheVariants.{NoMemory}
-use Rattle.c_meter.proofs.Stops.{if_ok, stop_or}
-use Rattle.c_meter.proofs.TariffTexts.{shows_by}
 use Rattle.c_meter.proofs.showing.show_drive.Goals as goal
 
 pub returns-in-Err-clause-no_tariff : goal.returns-in-Err-clause-no_tariff

@@ -1,9 +1,7 @@
-use Rattle.std.proofs.Common.{◌≡◌, ◌∙◌, ℕ, List, subst}
-use Rattle.outside.specs.Disk.{MayLeaveAmid}
-use Rattle.outside.specs.Runs.{LeavesOnly}
-use Rattle.outside.specs.declared.board.Board.{Ghosts}
+use Rattle.std.proofs.Common.{ℕ, ◌∙◌, ◌≡◌, List, subst}
+use Rattle.{outside.specs.{Disk.{MayLeaveAmid}, Runs.{LeavesOnly}}, call_ends.specs.LastLine.{line_of}}
 use Rattle.outside.proofs.Laws.{begins_not, keeps_none, keeps_print, leaves_none, leaves_print}
-use Rattle.call_ends.specs.LastLine.{line_of}
+use Rattle.call_ends.specs.Common.{Ghosts}
 use Rattle.call_ends.proofs.ending.finish.Goals as goal
 
 -- a cut leaves a beginning of a line if it leaves one of the text that is the line

@@ -1,6 +1,5 @@
-use Rattle.std.proofs.Common.{◌≡◌, ◌∙◌, ◌++◌, ℕ, List, append_assoc, sym, ap, codes}
-use Rattle.tariff_check.specs.declared.fault.CheckFault.{CheckFault}
-use Rattle.call_ends.specs.LastLine.{fault_text, numbered}
+use Rattle.std.proofs.Common.{ℕ, ◌++◌, ◌∙◌, ◌≡◌, List, ap, append_assoc, codes, sym}
+use Rattle.call_ends.specs.{Common.{CheckFault}, LastLine.{fault_text, numbered}}
 use Rattle.call_ends.proofs.last_line.push_fault.Goals as goal
 
 pub returns-in-TooManyCuts-clause-text : goal.returns-in-TooManyCuts-clause-text

@@ -1,8 +1,6 @@
-use Rattle.std.proofs.Common.{rules, ◌≡◌, ◌∙◌, ◌+◌, ◌≤◌, ◌<◌, ◌++◌, ℕ, List, length, min, take, drop, sym, ap, subst}
-use Rattle.std.proofs.Common.{arith, append_assoc, refl, true}
-use Rattle.std.proofs.lemmas.List.{take-append-drop}
-use Rattle.outside.specs.Printing.{Begins}
-use Rattle.outside.proofs.Laws.{begins_after, begins_more, keeps_print, keeps_then}
+use Rattle.std.proofs.Common.{ℕ, ◌++◌, ◌+◌, ◌<◌, ◌∙◌, ◌≡◌, ◌≤◌, List, ap, append_assoc, arith, drop, length, min, refl}
+use Rattle.std.proofs.{Common.{rules, subst, sym, take, true}, lemmas.List.{take-append-drop}}
+use Rattle.{outside.proofs.Laws.{begins_after, begins_more, keeps_print, keeps_then}, call_ends.specs.Common.{Begins}}
 use Rattle.call_ends.specs.Pieces.{pieces_of}
 use Rattle.call_ends.proofs.pieces.print_text.Goals as goal
 

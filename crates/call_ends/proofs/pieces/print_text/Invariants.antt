@@ -1,6 +1,5 @@
-use Rattle.std.proofs.Common.{◌≡◌, ◌+◌, ◌≤◌, ◌++◌, List, ℕ, length}
-use Rattle.outside.specs.Runs.{KeepsStore}
-use Rattle.call_ends.specs.Pieces.{pieces_of}
+use Rattle.std.proofs.Common.{ℕ, ◌++◌, ◌+◌, ◌≡◌, ◌≤◌, List, length}
+use Rattle.call_ends.specs.{Common.{KeepsStore}, Pieces.{pieces_of}}
 use Rattle.call_ends.proofs.pieces.print_text.Given as goal
 
 -- a part of the text was printed, and the rest is left

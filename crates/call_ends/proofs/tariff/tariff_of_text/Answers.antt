@@ -1,10 +1,8 @@
-use Rattle.std.proofs.Common.{◌≡◌, ◌∙◌, None, Ok, ap, sym}
-use Rattle.tariff_syntax.specs.Tree.{tree_of}
-use Rattle.tariff_syntax.specs.declared.tariff.Tariff.{Tariff}
-use Rattle.tariff_check.proofs.Laws.{sound_tariffs_have_sound_parts-none}
+use Rattle.std.proofs.Common.{◌∙◌, ◌≡◌, None, Ok, ap, sym}
+use Rattle.{tariff_syntax.specs.declared.tariff.Tariff.{Tariff}, call_ends.specs.Common.{tree_of}}
+use Rattle.{tariff_check.proofs.Laws.{sound_tariffs_have_sound_parts-none}, call_ends.specs.Ending.{unsound_for}}
+use Rattle.call_ends.proofs.Tariffs.{lines_of_starved, lines_of_tariff, sound_of, unsound-read, unsound_of}
 use Rattle.call_ends.specs.declared.tariff.TextFault.TheVariants as TextFault
-use Rattle.call_ends.specs.Ending.{unsound_for}
-use Rattle.call_ends.proofs.Tariffs.{lines_of_starved, lines_of_tariff, sound_of, unsound_of, unsound-read}
 use Rattle.call_ends.proofs.tariff.tariff_of_text.Goals as goal
 
 pub returns-in-Ok-check-clause-found : goal.returns-in-Ok-check-clause-found

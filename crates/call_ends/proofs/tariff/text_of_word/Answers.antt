@@ -1,10 +1,6 @@
-use Rattle.std.proofs.Common.{◌≡◌, ℕ, ◌<◌, List, length, Err, refl}
-use Rattle.std.proofs.lemmas.Bool.{lt-ltb}
-use Rattle.call_ends.specs.Tariffs.{tariff_in}
-use Rattle.call_ends.specs.declared.tariff.Refusal.{Refusal}
-use Rattle.call_ends.specs.declared.tariff.Refusal.TheVariants.{TooLong}
+use Rattle.std.proofs.{Common.{ℕ, ◌<◌, ◌≡◌, Err, List, length, refl}, lemmas.Bool.{lt-ltb}}
+use Rattle.call_ends.{specs.{Common.{Refusal, TooLong}, Tariffs.{tariff_in}}, proofs.OneAnswer.{same_fault}}
 use Rattle.call_ends.specs.declared.tariff.TextFault.TheVariants as texts
-use Rattle.call_ends.proofs.OneAnswer.{same_fault}
 use Rattle.call_ends.proofs.tariff.text_of_word.Goals as goal
 
 -- a text that is longer than a tariff may be is refused for that

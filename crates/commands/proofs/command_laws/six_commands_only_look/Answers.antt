@@ -1,5 +1,4 @@
-use Rattle.std.proofs.Common.{Option, Some, inl, refl}
-use Rattle.commands.specs.Command.{IsStoreQuery, IsReadOnlyRow}
+use Rattle.{std.proofs.Common.{Option, Some, inl, refl}, commands.specs.Command.{IsReadOnlyRow, IsStoreQuery}}
 use Rattle.commands.specs.declared.words.Row.{Row}
 use Rattle.commands.specs.declared.words.Row.TheVariants as rows
 use Rattle.commands.proofs.command_laws.six_commands_only_look.Goals as goal

@@ -1,10 +1,7 @@
-use Rattle.std.proofs.Common.{arith}
-use Rattle.tariff_commands.specs.Check.{check_command}
-use Rattle.store_commands.specs.Totals.{totals_command}
+use Rattle.{std.proofs.Common.{arith}, call_ends.proofs.Laws.{carries-shut, carries-unread}}
+use Rattle.{tariff_commands.specs.Check.{check_command}, store_commands.specs.Sealed.{sealed_command}}
+use Rattle.store_commands.specs.{Mark.{mark_command}, Totals.{totals_command}}
 use Rattle.drive_commands.specs.Generate.{gen_command}
-use Rattle.store_commands.specs.Mark.{mark_command}
-use Rattle.store_commands.specs.Sealed.{sealed_command}
-use Rattle.call_ends.proofs.Laws.{carries-shut, carries-unread}
 use Rattle.commands.proofs.top.carry_out.Goals as goal
 
 -- ---- commands that are given files and a board

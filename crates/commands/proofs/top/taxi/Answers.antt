@@ -1,23 +1,15 @@
-use Rattle.std.proofs.Common.{◌≡◌, ◌≢◌, ℕ, ◌∙◌, map, string_bytes, refl, sym, subst, Some}
-use Rattle.std.specs.Prelude.{Option}
-use Rattle.outside.specs.Runs.{IsAtRest, KeepsStore}
-use Rattle.outside.proofs.Laws.{keeps_then}
-use Rattle.outside.specs.declared.board.Board.{Ghosts}
-use Rattle.outside.specs.declared.files.Files.{Ghosts as FileGhosts}
-use Rattle.call_ends.proofs.Laws.{board_counts, cause_carried, files_left, not_some, not_status, bytes-kept, bytes-then}
-use Rattle.call_ends.specs.declared.ending.Ended.{Ended}
-use Rattle.call_ends.specs.declared.ending.Ended.TheVariants as ended
-use Rattle.commands.specs.declared.words.Row.{Row}
-use Rattle.commands.specs.declared.words.Row.TheVariants as rows
-use Rattle.call_ends.specs.Call.{IsCall, LeavesUnread}
-use Rattle.commands.specs.Carried.{RowReachesLine}
-use Rattle.commands.specs.Command.{IsReadOnlyRow, called, command_of}
-use Rattle.call_ends.specs.Course.{Answered}
-use Rattle.drive_commands.specs.Run.{run_command}
-use Rattle.call_ends.specs.Unwritten.{LeavesImage, WritesNothing}
+use Rattle.std.{specs.Prelude.{Option}, proofs.Common.{ℕ, ◌∙◌, ◌≡◌, ◌≢◌, Some, map, refl, string_bytes, subst, sym}}
+use Rattle.outside.{specs.declared.files.Files.{Ghosts as FileGhosts}, proofs.Laws.{keeps_then}}
+use Rattle.call_ends.specs.{Call.{LeavesUnread}, Course.{Answered}, Unwritten.{LeavesImage}}
+use Rattle.call_ends.proofs.Laws.{board_counts, bytes-kept, bytes-then, cause_carried, files_left, not_some, not_status}
 use Rattle.store_commands.proofs.Laws.{seals-finished, seals-settled, unwritten-finished}
+use Rattle.drive_commands.{specs.Run.{run_command}, proofs.Laws.{run-finished}}
+use Rattle.commands.specs.{Carried.{RowReachesLine}, Command.{IsReadOnlyRow, called, command_of}}
+use Rattle.commands.specs.Common.{Ended, Ghosts, IsAtRest, IsCall, KeepsStore, WritesNothing}
+use Rattle.commands.specs.declared.words.Row.{Row}
 use Rattle.commands.proofs.Calls.{call_course, call_from, completes, nothing_written, rests_after}
-use Rattle.drive_commands.proofs.Laws.{run-finished}
+use Rattle.call_ends.specs.declared.ending.Ended.TheVariants as ended
+use Rattle.commands.specs.declared.words.Row.TheVariants as rows
 use Rattle.commands.proofs.top.taxi.Goals as goal
 
 is_seal : (row : Row) → Some row ≡ Some rows.Seal → row ≡ rows.Seal

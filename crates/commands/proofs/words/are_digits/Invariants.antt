@@ -1,5 +1,5 @@
-use Rattle.std.proofs.Common.{◌≡◌, ◌+◌, drop}
-use Rattle.taxi_units.specs.Number.{digits_at_front}
+use Rattle.std.proofs.Common.{◌+◌, ◌≡◌, drop}
+use Rattle.commands.specs.Common.{digits_at_front}
 use Rattle.commands.proofs.words.are_digits.Given as goal
 
 abbrev pub invariant-loop-byte : goal.invariant-loop-byte

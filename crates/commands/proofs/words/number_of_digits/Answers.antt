@@ -1,7 +1,5 @@
-use Rattle.std.proofs.Common.{◌≡◌, ℕ, ◌≤◌, ◌^◌, false, refl, subst, arith}
-use Rattle.std.proofs.lemmas.Bool.{le-ltb}
-use Rattle.std.specs.Prelude.{None, nat_lt}
-use Rattle.taxi_units.proofs.Laws.{numbers_grow_by_their_digits}
+use Rattle.std.{specs.Prelude.{None, nat_lt}, proofs.Common.{ℕ, ◌^◌, ◌≡◌, ◌≤◌, arith, false, refl, subst}}
+use Rattle.{std.proofs.lemmas.Bool.{le-ltb}, taxi_units.proofs.Laws.{numbers_grow_by_their_digits}}
 use Rattle.commands.specs.Words.{fitting}
 use Rattle.commands.proofs.words.number_of_digits.Goals as goal
 

@@ -1,6 +1,5 @@
-use Rattle.std.proofs.Common.{◌≡◌, drop, length}
-use Rattle.std.specs.Str.Parse.{digits_value, digits_value_after}
-use Rattle.taxi_units.specs.Number.{digits_at_front}
+use Rattle.std.{specs.Str.Parse.{digits_value, digits_value_after}, proofs.Common.{◌≡◌, drop, length}}
+use Rattle.commands.specs.Common.{digits_at_front}
 use Rattle.commands.proofs.words.number_of_digits.Given as goal
 
 abbrev pub invariant-loop-byte : goal.invariant-loop-byte

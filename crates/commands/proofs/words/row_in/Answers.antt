@@ -1,5 +1,5 @@
 use Rattle.std.proofs.Common.{◌∙◌, string_bytes}
-use Rattle.commands.proofs.Wording.{row-four, row-two}
+use Rattle.commands.proofs.WordCounts.{row-four, row-two}
 use Rattle.commands.proofs.words.row_in.Goals as goal
 
 pub returns-in-len4 : goal.returns-in-len4

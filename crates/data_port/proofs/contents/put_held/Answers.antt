@@ -1,6 +1,5 @@
 use Rattle.std.proofs.Common.{[], ◌∷◌}
-use Rattle.data_port.specs.Items.{held_trip, trip_content}
-use Rattle.taxi_units.proofs.Laws.{appended_behind}
+use Rattle.{taxi_units.proofs.Laws.{appended_behind}, data_port.specs.Items.{held_trip, trip_content}}
 use Rattle.data_port.proofs.contents.put_held.Goals as goal
 
 pub returns-in-Some-clause-items : goal.returns-in-Some-clause-items

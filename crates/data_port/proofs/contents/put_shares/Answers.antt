@@ -1,5 +1,4 @@
-use Rattle.std.proofs.Common.{arith}
-use Rattle.data_port.proofs.Parts.{shares_all, shares_more}
+use Rattle.{std.proofs.Common.{arith}, data_port.proofs.Parts.{shares_all, shares_more}}
 use Rattle.data_port.proofs.contents.put_shares.Goals as goal
 
 pub loop-share-preserved : goal.loop-share-preserved

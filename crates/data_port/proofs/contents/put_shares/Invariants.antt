@@ -1,7 +1,5 @@
-use Rattle.std.proofs.Common.{◌≡◌, ◌+◌, ◌*◌, ◌++◌, take}
-use Rattle.std.specs.List.{flat_map}
-use Rattle.arrayvec.specs.ArrayVec.{array_vec_len}
-use Rattle.totals_record.specs.Spelling.{share_bytes}
+use Rattle.std.{specs.List.{flat_map}, proofs.Common.{◌*◌, ◌++◌, ◌+◌, ◌≡◌, take}}
+use Rattle.{arrayvec.specs.ArrayVec.{array_vec_len}, data_port.specs.Common.{share_bytes}}
 use Rattle.data_port.proofs.contents.put_shares.Given as goal
 
 -- the shares so far were appended

@@ -1,7 +1,6 @@
-use Rattle.std.proofs.Common.{◌≡◌, ℕ, List, ◌++◌, ◌∙◌, ap}
-use Rattle.drive_modes.specs.Distance.{millimetres_of}
-use Rattle.totals_record.specs.Bytes.{eight, four, sixteen}
-use Rattle.taxi_units.proofs.Laws.{appended_behind}
+use Rattle.std.proofs.Common.{ℕ, ◌++◌, ◌∙◌, ◌≡◌, List, ap}
+use Rattle.{taxi_units.proofs.Laws.{appended_behind}, drive_modes.specs.Distance.{millimetres_of}}
+use Rattle.data_port.specs.Common.{eight, four, sixteen}
 use Rattle.data_port.proofs.contents.put_trip.Goals as goal
 
 -- seven parts, one after the other

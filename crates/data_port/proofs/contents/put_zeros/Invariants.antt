@@ -1,4 +1,4 @@
-use Rattle.std.proofs.Common.{◌≡◌, ◌+◌, ◌++◌, replicate}
+use Rattle.std.proofs.Common.{◌++◌, ◌+◌, ◌≡◌, replicate}
 use Rattle.arrayvec.specs.ArrayVec.{array_vec_len}
 use Rattle.data_port.proofs.contents.put_zeros.Given as goal
 

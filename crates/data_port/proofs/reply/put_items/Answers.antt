@@ -1,5 +1,4 @@
-use Rattle.std.proofs.Common.{arith}
-use Rattle.data_port.proofs.Bodies.{most_of_all, rise_high, rise_low, room_before}
+use Rattle.{std.proofs.Common.{arith}, data_port.proofs.Bodies.{most_of_all, rise_high, rise_low, room_before}}
 use Rattle.data_port.proofs.reply.put_items.Goals as goal
 
 pub put_item-requires-clause-code : goal.put_item-requires-clause-code

@@ -1,12 +1,7 @@
-use Rattle.std.proofs.Common.{◌≡◌, ◌∙◌, true, ◌++◌, ◌≤◌, ℕ, List, length, take, ap, refl, arith}
-use Rattle.std.proofs.lemmas.List.{take_all}
-use Rattle.outside.proofs.Laws.{begins_whole, keeps_then, on_failed}
-use Rattle.seal_record.specs.declared.seal.Seal.{Seal}
-use Rattle.totals_record.specs.declared.durable_state.Durable.{Durable}
-use Rattle.data_port.specs.declared.request.Request.{Request}
-use Rattle.data_port.specs.Serving.{replies}
-use Rattle.data_port.proofs.Causes.{steps_within}
-use Rattle.data_port.proofs.Pieces.{begun_one, printed_one}
+use Rattle.std.proofs.Common.{ℕ, ◌++◌, ◌∙◌, ◌≡◌, ◌≤◌, List, ap, arith, length, refl, take, true}
+use Rattle.{std.proofs.lemmas.List.{take_all}, outside.proofs.Laws.{begins_whole, keeps_then, on_failed}}
+use Rattle.data_port.{specs.{Common.{Durable, Seal}, ServedStream.{replies}}, proofs.Causes.{steps_within}}
+use Rattle.data_port.{specs.declared.request.Request.{Request}, proofs.Pieces.{begun_one, printed_one}}
 use Rattle.data_port.proofs.serving.print_replies.Goals as goal
 
 pub loop-request-preserved : goal.loop-request-preserved

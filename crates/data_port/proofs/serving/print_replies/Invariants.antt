@@ -1,6 +1,5 @@
-use Rattle.std.proofs.Common.{◌≡◌, ◌+◌, ◌≤◌, ◌++◌, take}
-use Rattle.outside.specs.Runs.{KeepsStore}
-use Rattle.data_port.specs.Serving.{replies}
+use Rattle.std.proofs.Common.{◌++◌, ◌+◌, ◌≡◌, ◌≤◌, take}
+use Rattle.data_port.specs.{Common.{KeepsStore}, ServedStream.{replies}}
 use Rattle.data_port.proofs.serving.print_replies.Given as goal
 
 -- the replies to the requests so far were printed

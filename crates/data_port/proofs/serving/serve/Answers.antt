@@ -1,12 +1,8 @@
-use Rattle.std.proofs.Common.{◌≡◌, is_err, ◌+◌, ◌-◌, ◌≤◌, ◌++◌, ◌∙◌, ℕ, List, [], Ok, min, length, take, refl, sym, ap}
-use Rattle.std.proofs.Common.{arith, length-take}
-use Rattle.std.proofs.lemmas.List.{append-nil}
-use Rattle.std.proofs.lemmas.Result.{err_from_is_err_and}
+use Rattle.std.proofs.Common.{[], ℕ, ◌++◌, ◌+◌, ◌-◌, ◌∙◌, ◌≡◌, ◌≤◌, List, Ok, ap, arith, is_err, length, length-take}
+use Rattle.std.proofs.{Common.{min, refl, sym, take}, lemmas.{List.{append-nil}, Result.{err_from_is_err_and}}}
 use Rattle.outside.proofs.Laws.{keeps_none, keeps_then, left_by_ok, may_rise_behind, may_rise_more, may_rise_not}
-use Rattle.outside.proofs.Laws.{rises_behind, rises_not, rose_behind}
-use Rattle.data_port.specs.Reading.{Standing}
-use Rattle.data_port.specs.declared.serving.PortFault.TheVariants.{BoardFault, TooLong}
-use Rattle.data_port.proofs.Causes.{end_is_not}
+use Rattle.{outside.proofs.Laws.{rises_behind, rises_not, rose_behind}, data_port.specs.Common.{BoardFault, TooLong}}
+use Rattle.data_port.{specs.Reading.{Standing}, proofs.Causes.{end_is_not}}
 use Rattle.data_port.proofs.Pieces.{more_steps, read_is_no_fault, served_end, served_err, served_long, served_more}
 use Rattle.data_port.proofs.serving.serve.Goals as goal
 

@@ -1,6 +1,5 @@
-use Rattle.std.proofs.Common.{◌≡◌, ◌≢◌, ℕ}
-use Rattle.outside.specs.Runs.{KeepsStore}
-use Rattle.data_port.proofs.Pieces.{ServedSoFar}
+use Rattle.std.proofs.Common.{ℕ, ◌≡◌, ◌≢◌}
+use Rattle.data_port.{specs.Common.{KeepsStore}, proofs.Pieces.{ServedSoFar}}
 use Rattle.data_port.proofs.serving.serve.Given as goal
 
 -- the replies to the requests of the bytes that were taken were printed

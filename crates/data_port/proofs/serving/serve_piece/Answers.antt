@@ -1,9 +1,8 @@
-use Rattle.std.proofs.Common.{◌≡◌, ◌∙◌, refl, length, sym, rules}
+use Rattle.std.proofs.Common.{◌∙◌, ◌≡◌, length, refl, rules, sym}
 use Rattle.outside.proofs.Laws.{keeps_none, keeps_then, rises_by, rises_not, rose_behind}
-use Rattle.data_port.proofs.Causes.{left_if_not}
+use Rattle.data_port.proofs.{Causes.{left_if_not}, Pieces.{piece_whole_steps}}
 use Rattle.data_port.proofs.Pieces.{bad_is_no_fault, end_is_no_fault, ok_of, piece_bad, piece_begun, piece_few}
 use Rattle.data_port.proofs.Pieces.{piece_more, piece_opens, piece_requests, piece_starts, piece_steps, piece_whole}
-use Rattle.data_port.proofs.Pieces.{piece_whole_steps}
 use Rattle.data_port.proofs.serving.serve_piece.Goals as goal
 
 pub returns-then-is_err-clause-serves : goal.returns-then-is_err-clause-serves

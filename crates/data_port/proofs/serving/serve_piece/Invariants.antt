@@ -1,6 +1,5 @@
-use Rattle.std.proofs.Common.{length, ◌≡◌}
-use Rattle.outside.specs.Runs.{KeepsStore}
-use Rattle.data_port.proofs.Pieces.{PieceSoFar}
+use Rattle.std.proofs.Common.{◌≡◌, length}
+use Rattle.data_port.{specs.Common.{KeepsStore}, proofs.Pieces.{PieceSoFar}}
 use Rattle.data_port.proofs.serving.serve_piece.Given as goal
 
 -- the replies to the requests of the front of the piece were printed

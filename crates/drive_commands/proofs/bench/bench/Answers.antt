@@ -1,18 +1,12 @@
-use Rattle.std.proofs.Common.{◌≡◌, ◌≢◌, ◌∙◌, [], ◌++◌, ℕ, List, Err, refl, sym, ap, subst, arith, inl, inr, ⊎_elim}
-use Rattle.std.specs.Prelude.{is_err}
-use Rattle.outside.specs.Faults.{Rose}
-use Rattle.outside.specs.Printing.{Begins}
-use Rattle.drive_commands.specs.Bench.{bench_command}
-use Rattle.drive_commands.specs.BenchSteps.{terms_in}
-use Rattle.call_ends.specs.Ending.{EndsOnDevices}
-use Rattle.call_ends.specs.declared.ending.Ended.{Ended}
-use Rattle.call_ends.specs.declared.ending.Ended.TheVariants as ended
-use Rattle.call_ends.proofs.Laws.{board_not_read, carries-looked, cause_board, stops_at, no_fault, same_fault}
-use Rattle.call_ends.proofs.Laws.{bytes-kept, bytes-read, bytes-then}
-use Rattle.drive_commands.proofs.Benching.{course-begun, course-judged, course-no_terms, course-not_judged, has_judged}
-use Rattle.drive_commands.proofs.Benching.{not_fault-passing, steps-judged, unread-terms}
-use Rattle.drive_commands.proofs.Judging.{not_judged-as, not_judged-over}
+use Rattle.{std.specs.Prelude.{is_err}, call_ends.proofs.Laws.{no_fault, same_fault, stops_at}}
+use Rattle.std.proofs.Common.{[], ℕ, ◌++◌, ◌∙◌, ◌≡◌, ◌≢◌, Err, List, ap, arith, inl, inr, refl, subst, sym, ⊎_elim}
+use Rattle.call_ends.proofs.Laws.{board_not_read, bytes-kept, bytes-read, bytes-then, carries-looked, cause_board}
 use Rattle.store_commands.proofs.Laws.{unwritten-kept, unwritten-only}
+use Rattle.drive_commands.{specs.Bench.{bench_command}, proofs.JudgedReadings.{not_judged-as, not_judged-over}}
+use Rattle.drive_commands.specs.{BenchSteps.{terms_in}, Common.{Begins, Ended, EndsOnDevices, Rose}}
+use Rattle.drive_commands.proofs.BenchEnds.{course-begun, course-judged, course-no_terms, course-not_judged, has_judged}
+use Rattle.drive_commands.proofs.BenchEnds.{not_fault-passing, steps-judged, unread-terms}
+use Rattle.call_ends.specs.declared.ending.Ended.TheVariants as ended
 use Rattle.drive_commands.proofs.bench.bench.Goals as goal
 
 two-one : ◌≢◌ {A = ℕ} 2 1

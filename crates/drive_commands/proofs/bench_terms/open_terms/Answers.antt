@@ -1,11 +1,8 @@
-use Rattle.std.proofs.Common.{◌∙◌, Ok, Err, refl, ap}
-use Rattle.std.proofs.lemmas.Result.{err_from_is_err_and}
-use Rattle.outside.specs.Faults.{Rose}
-use Rattle.tariff_syntax.specs.Tree.{tree_of}
-use Rattle.call_ends.specs.declared.ending.Ended.TheVariants as ended
-use Rattle.drive_commands.proofs.BenchTerms.{no_terms-barred, no_terms-tariff, terms_from}
+use Rattle.std.proofs.{Common.{◌∙◌, Err, Ok, ap, refl}, lemmas.Result.{err_from_is_err_and}}
 use Rattle.call_ends.proofs.Laws.{as_found, as_refused, no_fault, same_fault}
-use Rattle.store_commands.proofs.Laws.{opens-barred, opens-behind}
+use Rattle.{store_commands.proofs.Laws.{opens-barred, opens-behind}, drive_commands.specs.Common.{Rose, tree_of}}
+use Rattle.drive_commands.proofs.BenchTerms.{no_terms-barred, no_terms-tariff, terms_from}
+use Rattle.call_ends.specs.declared.ending.Ended.TheVariants as ended
 use Rattle.drive_commands.proofs.bench_terms.open_terms.Goals as goal
 
 -- ---- there is no sealed store

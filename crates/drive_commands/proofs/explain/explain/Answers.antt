@@ -1,12 +1,9 @@
-use Rattle.std.proofs.Common.{◌∙◌, ℕ, List, Err, refl, sym, ap, subst, arith}
-use Rattle.std.specs.Prelude.{is_err}
-use Rattle.outside.proofs.Laws.{keeps_none}
+use Rattle.std.{specs.Prelude.{is_err}, proofs.Common.{ℕ, ◌∙◌, Err, List, ap, arith, refl, subst, sym}}
+use Rattle.{outside.proofs.Laws.{keeps_none}, drive_commands.proofs.ExplainAnswers.{explained_pieces, explained_shown}}
+use Rattle.call_ends.proofs.Laws.{board_not_read, carries-kept, cause_board, cause_done, course-begun, course-shown}
+use Rattle.call_ends.proofs.Laws.{course-unprinted, done_not_read, no_fault, same_fault}
+use Rattle.drive_commands.specs.{Explain.{explain_command}, ExplainSteps.{HasExplained}}
 use Rattle.call_ends.specs.declared.ending.Ended.TheVariants as ended
-use Rattle.drive_commands.specs.Explain.{explain_command}
-use Rattle.drive_commands.specs.ExplainSteps.{HasExplained}
-use Rattle.call_ends.proofs.Laws.{board_not_read, done_not_read, cause_board, cause_done, carries-kept}
-use Rattle.call_ends.proofs.Laws.{course-unprinted, no_fault, same_fault, course-begun, course-shown}
-use Rattle.drive_commands.proofs.Explaining.{explained_pieces, explained_shown}
 use Rattle.drive_commands.proofs.explain.explain.Goals as goal
 
 -- there is nothing to explain

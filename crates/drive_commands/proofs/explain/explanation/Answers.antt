@@ -1,32 +1,19 @@
-use Rattle.std.proofs.Common.{◌≢◌, ◌∙◌, ℕ, List, [], ◌++◌, Ok, Err, refl, sym, ap, subst, arith, inl, inr, All}
-use Rattle.std.proofs.Common.{flat_map}
-use Rattle.std.proofs.lemmas.List.{append-nil}
-use Rattle.drive_text.specs.Ranges.{IsRunInRange}
-use Rattle.drive_text.specs.Runs.{run_events}
-use Rattle.drive_text.specs.declared.run.Run.{Run}
-use Rattle.meter_model.specs.Setting.{setting_by}
-use Rattle.outside.specs.Faults.{Rose}
-use Rattle.seal_record.specs.Reading.{params_read}
-use Rattle.tariff_syntax.specs.Tree.{tree_of}
-use Rattle.taxi_units.specs.declared.event.Event.{Event}
-use Rattle.verify_bench.specs.Explaining.{explanations_of}
-use Rattle.drive_commands.specs.BenchSteps.{IsNoDrive, IsWholeDrive, ended_for_drive}
-use Rattle.call_ends.specs.Ending.{EndsUnprinted, ended_for}
+use Rattle.std.proofs.Common.{[], ℕ, ◌++◌, ◌∙◌, ◌≢◌, All, Err, List, Ok, ap, arith, flat_map, inl, inr, refl, subst}
+use Rattle.{std.proofs.{Common.{sym}, lemmas.List.{append-nil}}, seal_record.specs.Reading.{params_read}}
+use Rattle.{call_ends.specs.Tariffs.{HasTariff}, store_commands.proofs.Laws.{not_board-params, read_fault-params}}
+use Rattle.call_ends.proofs.Laws.{ends_apart, no_fault, read_fault-text, same_fault, stops_by}
 use Rattle.store_commands.specs.StoreEnds.{ended_for_params}
-use Rattle.drive_commands.specs.Explain.{HasSetting, explain_command}
-use Rattle.drive_commands.specs.ExplainedText.{explanations_text}
-use Rattle.call_ends.specs.Tariffs.{HasTariff}
-use Rattle.call_ends.specs.declared.ending.Ended.{Ended}
+use Rattle.drive_commands.specs.BenchSteps.{IsNoDrive, IsWholeDrive, ended_for_drive}
+use Rattle.drive_commands.specs.Common.{Ended, EndsUnprinted, Event, IsRunInRange, Rose, Run, ended_for}
+use Rattle.drive_commands.specs.Common.{explanations_of, run_events, setting_by, tree_of}
+use Rattle.drive_commands.specs.{Explain.{HasSetting, explain_command}, ExplainedText.{explanations_text}}
+use Rattle.drive_commands.proofs.ExplainAnswers.{behind_drive, behind_params, course-lacking, course-no_drive}
+use Rattle.drive_commands.proofs.ExplainAnswers.{course-no_params, course-no_tariff, each_read, setting_is}
+use Rattle.drive_commands.proofs.{JudgedReadings.{not_board-drive, read_fault-drive}, TariffDrives.{begins_going}}
 use Rattle.call_ends.specs.declared.ending.Ended.TheVariants as ended
 use Rattle.store_commands.specs.declared.params.ParamsFault.TheVariants as params
 use Rattle.call_ends.specs.declared.tariff.TextFault.TheVariants as texts
 use Rattle.drive_commands.specs.declared.whole_drive.DriveFault.TheVariants as drives
-use Rattle.call_ends.proofs.Laws.{ends_apart, read_fault-text, stops_by, no_fault, same_fault}
-use Rattle.drive_commands.proofs.Explaining.{behind_drive, behind_params, course-lacking, course-no_drive}
-use Rattle.drive_commands.proofs.Explaining.{course-no_params, course-no_tariff, each_read, setting_is}
-use Rattle.store_commands.proofs.Laws.{not_board-params, read_fault-params}
-use Rattle.drive_commands.proofs.Faring.{begins_going}
-use Rattle.drive_commands.proofs.Judging.{not_board-drive, read_fault-drive}
 use Rattle.drive_commands.proofs.explain.explanation.Goals as goal
 
 two-one : ◌≢◌ {A = ℕ} 2 1

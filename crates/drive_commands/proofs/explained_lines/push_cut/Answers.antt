@@ -1,4 +1,4 @@
-use Rattle.std.proofs.Common.{◌∙◌, ◌++◌, ℕ, List, ap}
+use Rattle.std.proofs.Common.{ℕ, ◌++◌, ◌∙◌, List, ap}
 use Rattle.drive_commands.proofs.ExplainedLines.{cut_by}
 use Rattle.drive_commands.proofs.explained_lines.push_cut.Goals as goal
 

@@ -1,8 +1,7 @@
-use Rattle.std.proofs.Common.{◌∙◌, ◌+◌, ◌++◌, ap, map, arith}
-use Rattle.verify_bench.specs.Explaining.{explanation_of}
+use Rattle.std.proofs.Common.{◌++◌, ◌+◌, ◌∙◌, ap, arith, map}
 use Rattle.verify_bench.specs.declared.explained.Explained.{Explained}
+use Rattle.drive_commands.{specs.Common.{explanation_of}, proofs.ExplainedHirings.{hiring_more, hirings_all}}
 use Rattle.drive_commands.specs.ExplainedText.{hiring_text, hirings_text}
-use Rattle.drive_commands.proofs.ExplainedHirings.{hiring_more, hirings_all}
 use Rattle.drive_commands.proofs.explained_text.push_hirings.Goals as goal
 
 pub loop-hiring-preserved : goal.loop-hiring-preserved

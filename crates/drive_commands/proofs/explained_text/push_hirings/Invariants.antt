@@ -1,6 +1,5 @@
-use Rattle.std.proofs.Common.{◌≡◌, ◌+◌, ◌≤◌, ◌++◌, drop, map}
-use Rattle.verify_bench.specs.Explaining.{explanation_of}
-use Rattle.drive_commands.specs.ExplainedText.{hirings_text}
+use Rattle.std.proofs.Common.{◌++◌, ◌+◌, ◌≡◌, ◌≤◌, drop, map}
+use Rattle.drive_commands.specs.{Common.{explanation_of}, ExplainedText.{hirings_text}}
 use Rattle.drive_commands.proofs.explained_text.push_hirings.Given as goal
 
 -- the hirings so far, and those that are left

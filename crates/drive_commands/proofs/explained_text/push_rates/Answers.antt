@@ -1,6 +1,5 @@
-use Rattle.std.proofs.Common.{◌∙◌, ◌++◌, ℕ, List, ap, flat_map, arith}
-use Rattle.drive_commands.specs.ExplainedText.{rate_text}
-use Rattle.drive_commands.proofs.ExplainedHirings.{line_more, lines_all}
+use Rattle.std.proofs.Common.{ℕ, ◌++◌, ◌∙◌, List, ap, arith, flat_map}
+use Rattle.drive_commands.{specs.ExplainedText.{rate_text}, proofs.ExplainedHirings.{line_more, lines_all}}
 use Rattle.drive_commands.proofs.explained_text.push_rates.Goals as goal
 
 pub loop-group-preserved : goal.loop-group-preserved

@@ -1,4 +1,4 @@
-use Rattle.std.proofs.Common.{◌≡◌, ◌++◌, drop, flat_map}
+use Rattle.std.proofs.Common.{◌++◌, ◌≡◌, drop, flat_map}
 use Rattle.drive_commands.specs.ExplainedText.{rate_text}
 use Rattle.drive_commands.proofs.explained_text.push_rates.Given as goal
 

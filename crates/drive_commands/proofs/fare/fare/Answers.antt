@@ -1,18 +1,11 @@
-use Rattle.std.proofs.Common.{◌≡◌, ◌≢◌, ◌∙◌, ℕ, List, [], Err, refl, sym, ap, arith, rules, inl, inr, ⊎_elim}
-use Rattle.tariff_compile.specs.Tables.{TableParts}
-use Rattle.meter_model.specs.Setting.{IsSealOf}
-use Rattle.meter_states.specs.Setting.{IsSettingOf, IsTariffOf}
-use Rattle.drive_text.specs.Ending.{IsSplit}
-use Rattle.outside.proofs.Laws.{keeps_none}
-use Rattle.call_ends.specs.declared.tariff.TextFault.TheVariants as texts
-use Rattle.drive_commands.specs.DriveEnds.{ended_by}
-use Rattle.call_ends.specs.Ending.{ended_for}
-use Rattle.call_ends.proofs.Laws.{read_fault-text, stops_by, unless_read, no_fault, carries-kept, course-unprinted}
-use Rattle.call_ends.proofs.Laws.{course-refused}
+use Rattle.std.proofs.Common.{[], ℕ, ◌∙◌, ◌≡◌, ◌≢◌, Err, List, ap, arith, inl, inr, refl, rules, sym, ⊎_elim}
+use Rattle.{outside.proofs.Laws.{keeps_none}, meter_model.specs.Setting.{IsSealOf}, call_ends.proofs.Laws.{unless_read}}
+use Rattle.{meter_states.specs.Setting.{IsTariffOf}, drive_commands.proofs.TariffDrives.{shows_nothing}}
+use Rattle.call_ends.proofs.Laws.{carries-kept, course-refused, course-unprinted, no_fault, read_fault-text, stops_by}
+use Rattle.drive_commands.specs.{Common.{IsSettingOf, IsSplit, TableParts, ended_for, tariff_in}, DriveEnds.{ended_by}}
 use Rattle.drive_commands.specs.Fare.{fare_command, setting_of}
-use Rattle.call_ends.specs.Tariffs.{tariff_in}
-use Rattle.drive_commands.proofs.Faring.{begins_going, course-ran, shows_nothing, board_fault-ran, refused-fare}
-use Rattle.drive_commands.proofs.Faring.{read_fault-ran}
+use Rattle.drive_commands.proofs.TariffDrives.{begins_going, board_fault-ran, course-ran, read_fault-ran, refused-fare}
+use Rattle.call_ends.specs.declared.tariff.TextFault.TheVariants as texts
 use Rattle.drive_commands.proofs.fare.fare.Goals as goal
 
 two-one : (n : ℕ) → n ≡ 2 → n ≢ 1

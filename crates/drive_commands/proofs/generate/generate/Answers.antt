@@ -1,15 +1,11 @@
-use Rattle.std.proofs.Common.{◌≡◌, ◌∙◌, ◌<◌, ℕ, List, ◌++◌, length, Ok, Err, refl, sym, ap, subst, arith, rules}
-use Rattle.std.specs.Prelude.{is_err}
-use Rattle.outside.specs.Printing.{Begins}
-use Rattle.tariff_compile.specs.Tables.{tables_of}
-use Rattle.outside.proofs.Laws.{keeps_none, keeps_print}
-use Rattle.call_ends.specs.Carried.{no_files}
-use Rattle.call_ends.specs.declared.ending.Ended.TheVariants as ended
+use Rattle.{std.specs.Prelude.{is_err}, outside.proofs.Laws.{keeps_none, keeps_print}}
+use Rattle.std.proofs.Common.{ℕ, ◌++◌, ◌<◌, ◌∙◌, ◌≡◌, Err, List, Ok, ap, arith, length, refl, rules, subst, sym}
+use Rattle.call_ends.{specs.Carried.{no_files}, proofs.Laws.{done_not_read}}
+use Rattle.call_ends.proofs.Laws.{board_not_read, carries-kept, cause_board, cause_done, course-unprinted}
+use Rattle.drive_commands.specs.Common.{Begins, tables_of, tariff_in}
 use Rattle.drive_commands.specs.Generate.{gen_command, generated_setting, generated_text}
-use Rattle.call_ends.specs.Tariffs.{tariff_in}
-use Rattle.call_ends.proofs.Laws.{board_not_read, done_not_read, cause_board, cause_done, carries-kept}
-use Rattle.call_ends.proofs.Laws.{course-unprinted}
-use Rattle.drive_commands.proofs.Generating.{course-gen, course-gen_begun, course-gen_refused, setting_is, text_is}
+use Rattle.drive_commands.proofs.GenDrive.{course-gen, course-gen_begun, course-gen_refused, setting_is, text_is}
+use Rattle.call_ends.specs.declared.ending.Ended.TheVariants as ended
 use Rattle.drive_commands.proofs.generate.generate.Goals as goal
 
 pub returns-in-Err : goal.returns-in-Err

@@ -1,6 +1,5 @@
-use Rattle.std.proofs.Common.{◌∙◌, ap}
-use Rattle.std.specs.Prelude.{is_err}
-use Rattle.drive_commands.proofs.Generating.{state_found-err, state_found-ok}
+use Rattle.std.{specs.Prelude.{is_err}, proofs.Common.{◌∙◌, ap}}
+use Rattle.drive_commands.proofs.GenDrive.{state_found-err, state_found-ok}
 use Rattle.drive_commands.proofs.generate.state_in.Goals as goal
 
 pub returns-in-Ok-clause-has : goal.returns-in-Ok-clause-has

@@ -1,13 +1,8 @@
-use Rattle.std.proofs.Common.{◌≡◌, ◌∙◌, ℕ, ◌+◌, ◌*◌, ◌≤◌, List, length, Some, sym, ap, subst}
-use Rattle.std.specs.Prelude.{is_some}
-use Rattle.drive_text.specs.Drive.{events_in}
-use Rattle.drive_text.specs.Ending.{Whole, drive_end}
-use Rattle.slot_store.specs.Slots.{IsBlank}
-use Rattle.verify_bench.specs.Generated.{generated}
-use Rattle.drive_commands.specs.Generate.{state_after}
-use Rattle.slot_store.proofs.Laws.{zeros_are_blank}
+use Rattle.std.{specs.Prelude.{is_some}, proofs.Common.{ℕ, ◌*◌, ◌+◌, ◌∙◌, ◌≡◌, ◌≤◌, List, Some, ap, length, subst, sym}}
+use Rattle.slot_store.{specs.Slots.{IsBlank}, proofs.Laws.{zeros_are_blank}}
 use Rattle.verify_bench.proofs.Laws.{generated_drives_mean_their_lines-good, generated_drives_mean_their_lines-short}
-use Rattle.drive_commands.proofs.Generating.{never_rose, same_some, whole_drive}
+use Rattle.drive_commands.specs.{Common.{Whole, drive_end, events_in, generated}, Generate.{state_after}}
+use Rattle.drive_commands.proofs.GenDrive.{never_rose, same_some, whole_drive}
 use Rattle.drive_commands.proofs.generate.state_of_drive.Goals as goal
 
 pub run_afresh-requires-clause-blank : goal.run_afresh-requires-clause-blank

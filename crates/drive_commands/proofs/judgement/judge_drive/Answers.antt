@@ -1,15 +1,12 @@
-use Rattle.std.proofs.Common.{◌≡◌, ◌≢◌, ◌∙◌, ℕ, List, All, Err, refl, sym, ap, subst, arith}
-use Rattle.std.proofs.lemmas.Result.{err_from_is_err_and}
-use Rattle.drive_text.specs.Ranges.{IsRunInRange}
-use Rattle.outside.specs.Faults.{Rose}
+use Rattle.std.proofs.Common.{ℕ, ◌∙◌, ◌≡◌, ◌≢◌, All, Err, List, ap, arith, refl, subst, sym}
+use Rattle.{std.proofs.lemmas.Result.{err_from_is_err_and}, call_ends.proofs.Laws.{ends_apart, no_fault, same_fault}}
+use Rattle.store_commands.proofs.Laws.{first_alone, first_then}
 use Rattle.drive_commands.specs.BenchSteps.{IsNoReadings, IsNotJudged, IsWholeDrive, ended_for_drive, terms_in}
-use Rattle.call_ends.specs.declared.ending.Ended.{Ended}
+use Rattle.drive_commands.specs.Common.{Ended, IsRunInRange, Rose}
+use Rattle.drive_commands.proofs.JudgedReadings.{no_readings-as, not_board-drive, not_judged-drive, not_judged-memory}
+use Rattle.drive_commands.proofs.JudgedReadings.{not_judged-readings, read_fault-drive}
 use Rattle.call_ends.specs.declared.ending.Ended.TheVariants as ended
 use Rattle.drive_commands.specs.declared.whole_drive.DriveFault.TheVariants as drives
-use Rattle.call_ends.proofs.Laws.{ends_apart, same_fault, no_fault}
-use Rattle.drive_commands.proofs.Judging.{no_readings-as, not_board-drive, not_judged-drive, not_judged-memory}
-use Rattle.drive_commands.proofs.Judging.{not_judged-readings, read_fault-drive}
-use Rattle.store_commands.proofs.Laws.{first_alone, first_then}
 use Rattle.drive_commands.proofs.judgement.judge_drive.Goals as goal
 
 two-three : (n : ℕ) → n ≡ 2 → n ≢ 3

@@ -1,13 +1,7 @@
-use Rattle.std.proofs.Common.{◌≡◌, ◌∙◌, ◌<◌, List, length, ℕ, Ok, Err, refl, sym, subst}
-use Rattle.std.proofs.lemmas.Bool.{lt-ltb}
-use Rattle.outside.specs.Faults.{Rose}
-use Rattle.verify_bench.specs.Readings.{readings_in}
-use Rattle.verify_bench.specs.declared.reading.ReadingsFault.TheVariants.{TooLong}
-use Rattle.drive_commands.specs.Bench.{ended_for_readings}
-use Rattle.drive_commands.specs.BenchSteps.{IsNoReadings}
-use Rattle.call_ends.specs.declared.ending.Ended.{Ended}
-use Rattle.drive_commands.proofs.Judging.{no_readings, readings_found}
-use Rattle.call_ends.proofs.Laws.{same_fault}
+use Rattle.std.proofs.{Common.{ℕ, ◌<◌, ◌∙◌, ◌≡◌, Err, List, Ok, length, refl, subst, sym}, lemmas.Bool.{lt-ltb}}
+use Rattle.{verify_bench.specs.declared.reading.ReadingsFault.TheVariants.{TooLong}, call_ends.proofs.Laws.{same_fault}}
+use Rattle.drive_commands.specs.{Bench.{ended_for_readings}, BenchSteps.{IsNoReadings}}
+use Rattle.drive_commands.{specs.Common.{Ended, Rose, readings_in}, proofs.JudgedReadings.{no_readings, readings_found}}
 use Rattle.drive_commands.proofs.judgement.readings_of_word.Goals as goal
 
 pub returns-in-Ok-read_readings-clause-found : goal.returns-in-Ok-read_readings-clause-found

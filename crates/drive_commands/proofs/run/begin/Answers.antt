@@ -1,14 +1,9 @@
-use Rattle.std.proofs.Common.{◌≡◌, ◌∙◌, true, false, Err, refl, sym, ap}
-use Rattle.std.proofs.lemmas.Result.{err_from_is_err_and}
-use Rattle.outside.specs.Faults.{Rose}
-use Rattle.tariff_compile.specs.Tables.{TableParts}
-use Rattle.totals_record.specs.declared.durable_state.Durable.{Durable}
-use Rattle.seal_record.specs.declared.seal.Seal.{Seal}
-use Rattle.call_ends.specs.declared.ending.Ended.TheVariants as ended
-use Rattle.drive_commands.specs.Run.{does_hold_fit}
-use Rattle.call_ends.proofs.Laws.{ends_apart, as_found, as_refused, no_fault, same_fault}
+use Rattle.std.proofs.{Common.{◌∙◌, ◌≡◌, Err, ap, false, refl, sym, true}, lemmas.Result.{err_from_is_err_and}}
+use Rattle.call_ends.proofs.Laws.{as_found, as_refused, ends_apart, no_fault, same_fault}
 use Rattle.store_commands.proofs.Laws.{opens-barred, opens-behind}
-use Rattle.drive_commands.proofs.Starting.{has_begun, not_begun-barred, not_begun-tables, not_begun-trip}
+use Rattle.drive_commands.specs.{Common.{Durable, Rose, Seal, TableParts}, Run.{does_hold_fit}}
+use Rattle.drive_commands.proofs.RunStarts.{has_begun, not_begun-barred, not_begun-tables, not_begun-trip}
+use Rattle.call_ends.specs.declared.ending.Ended.TheVariants as ended
 use Rattle.drive_commands.proofs.run.begin.Goals as goal
 
 -- ---- there is no sealed store

@@ -1,8 +1,5 @@
-use Rattle.std.proofs.Common.{◌≡◌, ◌∙◌, true, sym, ap}
-use Rattle.std.proofs.lemmas.Bool.Decides.{Decides-at, same_from_decides}
-use Rattle.meter_states.specs.Fits.{fits_test}
-use Rattle.drive_commands.specs.Run.{does_hold_fit}
-use Rattle.drive_commands.proofs.Fitting.{Decides-hold}
+use Rattle.std.proofs.{Common.{◌∙◌, ◌≡◌, ap, sym, true}, lemmas.Bool.Decides.{Decides-at, same_from_decides}}
+use Rattle.drive_commands.{specs.{Common.{fits_test}, Run.{does_hold_fit}}, proofs.HeldTripFits.{Decides-hold}}
 use Rattle.drive_commands.proofs.run.hold_fits.Goals as goal
 
 pub returns-in-Some-clause-value : goal.returns-in-Some-clause-value

@@ -1,8 +1,6 @@
-use Rattle.std.proofs.Common.{refl, ap}
-use Rattle.tariff_compile.specs.Tables.{TableParts}
-use Rattle.tariff_syntax.specs.Tree.{tree_of}
+use Rattle.{std.proofs.Common.{ap, refl}, call_ends.proofs.Laws.{ends_apart, no_fault, same_fault}}
+use Rattle.drive_commands.specs.Common.{TableParts, tree_of}
 use Rattle.call_ends.specs.declared.ending.Ended.TheVariants as ended
-use Rattle.call_ends.proofs.Laws.{ends_apart, no_fault, same_fault}
 use Rattle.drive_commands.proofs.run.read_tables.Goals as goal
 
 pub returns-in-Ok-clause-found : goal.returns-in-Ok-clause-found

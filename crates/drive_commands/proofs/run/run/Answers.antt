@@ -1,19 +1,11 @@
-use Rattle.std.proofs.Common.{◌≡◌, ◌≢◌, ◌∙◌, ℕ, List, [], Err, refl, sym, ap, subst, arith, inl, inr, ⊎_elim}
-use Rattle.std.specs.Prelude.{IsErrOf}
-use Rattle.meter_run.specs.Runs.{EndsRun, OpensWith}
-use Rattle.meter_states.specs.Setting.{IsSettingOf}
-use Rattle.seal_record.specs.declared.seal.Seal.{Seal}
-use Rattle.tariff_compile.specs.Tables.{IsTablesOf, TableParts}
-use Rattle.drive_commands.specs.DriveEnds.{ended_by}
-use Rattle.call_ends.specs.declared.ending.Ended.{Ended}
+use Rattle.{std.specs.Prelude.{IsErrOf}, meter_run.specs.Runs.{EndsRun}, drive_commands.specs.RunSteps.{RunReachesLine}}
+use Rattle.std.proofs.Common.{[], ℕ, ◌∙◌, ◌≡◌, ◌≢◌, Err, List, ap, arith, inl, inr, refl, subst, sym, ⊎_elim}
+use Rattle.call_ends.proofs.Laws.{bytes-read, no_fault, same_fault, stops_at}
+use Rattle.drive_commands.specs.Common.{Ended, IsSettingOf, IsTablesOf, OpensWith, Seal, TableParts, status_of}
+use Rattle.drive_commands.{specs.DriveEnds.{ended_by}, proofs.RunAnswers.{course-not_begun}}
+use Rattle.drive_commands.{specs.Run.{run_command, setting_in, tables_in}, proofs.RunEnds.{ran-comes, ran-writes}}
+use Rattle.drive_commands.proofs.TariffDrives.{begins_going, board_fault-ran, read_fault-ran}
 use Rattle.call_ends.specs.declared.ending.Ended.TheVariants as ended
-use Rattle.call_ends.specs.LastLine.{status_of}
-use Rattle.drive_commands.specs.Run.{run_command, setting_in, tables_in}
-use Rattle.drive_commands.specs.RunSteps.{RunReachesLine}
-use Rattle.drive_commands.proofs.Faring.{begins_going, board_fault-ran, read_fault-ran}
-use Rattle.call_ends.proofs.Laws.{stops_at, no_fault, same_fault, bytes-read}
-use Rattle.drive_commands.proofs.RunEnds.{ran-comes, ran-writes}
-use Rattle.drive_commands.proofs.Running.{course-not_begun}
 use Rattle.drive_commands.proofs.run.run.Goals as goal
 
 two-one : (n : ℕ) → n ≡ 2 → n ≢ 1

@@ -1,13 +1,8 @@
-use Rattle.std.proofs.Common.{◌≡◌, ◌∙◌, ℕ, List, Ok, Err, refl, sym, ap, subst}
-use Rattle.std.specs.Prelude.{IfOk}
-use Rattle.outside.specs.Faults.{Rose}
-use Rattle.call_ends.specs.declared.ending.Ended.{Ended}
+use Rattle.std.{specs.Prelude.{IfOk}, proofs.Common.{ℕ, ◌∙◌, ◌≡◌, Err, List, Ok, ap, refl, subst, sym}}
+use Rattle.{call_ends.proofs.Laws.{same_fault}, drive_commands.specs.Common.{Ended, Rose, tree_of}}
+use Rattle.drive_commands.specs.{Run.{sealed_tariff}, RunSteps.{AreNoTables}}
+use Rattle.drive_commands.proofs.RunStarts.{no_tables-as, no_tables-read, text-not_board, text-read_fault}
 use Rattle.call_ends.specs.declared.ending.Ended.TheVariants as ended
-use Rattle.tariff_syntax.specs.Tree.{tree_of}
-use Rattle.drive_commands.specs.Run.{sealed_tariff}
-use Rattle.drive_commands.specs.RunSteps.{AreNoTables}
-use Rattle.call_ends.proofs.Laws.{same_fault}
-use Rattle.drive_commands.proofs.Starting.{no_tables-as, no_tables-read, text-not_board, text-read_fault}
 use Rattle.drive_commands.proofs.sealed_tariff.read_sealed.Goals as goal
 
 pub returns-in-Err-clause-refused : goal.returns-in-Err-clause-refused

@@ -1,15 +1,8 @@
-use Rattle.std.proofs.Common.{◌≡◌, ◌∙◌, true, false, Ok, refl, sym, ap, subst}
-use Rattle.std.specs.Cmp.Lexicographic.{pointwise}
-use Rattle.std.specs.Prelude.{nat_eq}
-use Rattle.std.proofs.lemmas.Result.{IfOk-weaker}
-use Rattle.sha2.specs.Sha256.{sha256}
-use Rattle.call_ends.specs.declared.ending.Ended.{Ended}
-use Rattle.tariff_syntax.specs.Tree.{tree_of}
-use Rattle.drive_commands.specs.Run.{accepted, sealed_tariff}
-use Rattle.drive_commands.specs.RunSteps.{AreNoTables}
-use Rattle.call_ends.specs.Tariffs.{tariff_in}
-use Rattle.call_ends.proofs.Laws.{same_fault}
-use Rattle.drive_commands.proofs.Starting.{no_tables-made, tariff-accepted, tariff-wrong}
+use Rattle.std.{specs.Cmp.Lexicographic.{pointwise}, proofs.Common.{◌∙◌, ◌≡◌, Ok, ap, false, refl, subst, sym, true}}
+use Rattle.{std.{specs.Prelude.{nat_eq}, proofs.lemmas.Result.{IfOk-weaker}}, sha2.specs.Sha256.{sha256}}
+use Rattle.{call_ends.proofs.Laws.{same_fault}, drive_commands.specs.Common.{Ended, tariff_in, tree_of}}
+use Rattle.drive_commands.specs.{Run.{accepted, sealed_tariff}, RunSteps.{AreNoTables}}
+use Rattle.drive_commands.proofs.RunStarts.{no_tables-made, tariff-accepted, tariff-wrong}
 use Rattle.drive_commands.proofs.sealed_tariff.sealed_of_text.Goals as goal
 
 pub returns-then-is_sealed-clause-found : goal.returns-then-is_sealed-clause-found

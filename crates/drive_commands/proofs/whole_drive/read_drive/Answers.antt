@@ -1,14 +1,10 @@
-use Rattle.std.proofs.Common.{◌≡◌, ◌∙◌, ◌++◌, List, All, sym, ap, subst, refl, Some}
-use Rattle.std.proofs.lemmas.List.Elements.{All-append}
-use Rattle.drive_text.specs.Ranges.{IsRunInRange}
-use Rattle.drive_text.specs.declared.run.Run.{Run}
-use Rattle.outside.proofs.Laws.{rose_behind}
-use Rattle.meter_run.specs.declared.source.Stop.{Stop}
+use Rattle.std.proofs.Common.{◌++◌, ◌∙◌, ◌≡◌, All, List, Some, ap, refl, subst, sym}
+use Rattle.{std.proofs.lemmas.List.Elements.{All-append}, outside.proofs.Laws.{rose_behind}}
+use Rattle.{call_ends.proofs.Laws.{not_true, same_fault}, drive_commands.specs.BenchSteps.{IsWholeDrive, fault_by}}
+use Rattle.drive_commands.specs.Common.{IsRunInRange, Run, Stop}
+use Rattle.drive_commands.proofs.WholeDrives.{IsSoFar, no_drive, no_room, smaller, so_far_more, stop_at, whole_drive}
 use Rattle.meter_run.specs.declared.source.Stop.TheVariants as stops
 use Rattle.drive_commands.specs.declared.whole_drive.DriveFault.TheVariants as drives
-use Rattle.call_ends.proofs.Laws.{same_fault, not_true}
-use Rattle.drive_commands.specs.BenchSteps.{IsWholeDrive, fault_by}
-use Rattle.drive_commands.proofs.WholeDrives.{IsSoFar, no_drive, no_room, smaller, so_far_more, stop_at, whole_drive}
 use Rattle.drive_commands.proofs.whole_drive.read_drive.Goals as goal
 
 -- the runs that were there, and those of a part of the drive

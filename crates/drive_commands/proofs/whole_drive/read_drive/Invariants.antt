@@ -1,6 +1,5 @@
-use Rattle.std.proofs.Common.{◌≡◌, ◌≢◌, ◌+◌, ℕ, All, length}
-use Rattle.drive_text.specs.Ranges.{IsRunInRange}
-use Rattle.drive_commands.proofs.WholeDrives.{IsSoFar}
+use Rattle.std.proofs.Common.{ℕ, ◌+◌, ◌≡◌, ◌≢◌, All, length}
+use Rattle.drive_commands.{specs.Common.{IsRunInRange}, proofs.WholeDrives.{IsSoFar}}
 use Rattle.drive_commands.proofs.whole_drive.read_drive.Given as goal
 
 -- so far the runs of bytes of the drive were kept

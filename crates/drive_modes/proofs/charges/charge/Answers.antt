@@ -1,5 +1,4 @@
-use Rattle.std.proofs.Common.{◌*◌, refl}
-use Rattle.std.proofs.lemmas.Bool.{le-ltb, lt-ltb}
+use Rattle.std.proofs.{Common.{◌*◌, refl}, lemmas.Bool.{le-ltb, lt-ltb}}
 use Rattle.drive_modes.proofs.charges.charge.Goals as goal
 
 pub returns-then-distance-weights-clause-charge : goal.returns-then-distance-weights-clause-charge

@@ -1,4 +1,4 @@
-use Rattle.drive_modes.proofs.Sums.{saved-sum, saved-any, shown-sum}
+use Rattle.drive_modes.proofs.Sums.{saved-any, saved-sum, shown-sum}
 use Rattle.drive_modes.proofs.meterage.fares_add_up.Goals as goal
 
 pub returns-clause-sum : goal.returns-clause-sum

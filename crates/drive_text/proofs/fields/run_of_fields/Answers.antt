@@ -1,5 +1,4 @@
-use Rattle.std.proofs.Common.{sym}
-use Rattle.drive_text.proofs.Blanks.{too_many}
+use Rattle.{std.proofs.Common.{sym}, drive_text.proofs.Blanks.{too_many}}
 use Rattle.drive_text.proofs.fields.run_of_fields.Goals as goal
 
 pub returns-in-Some-rest-2 : goal.returns-in-Some-rest-2

@@ -1,6 +1,5 @@
-use Rattle.std.proofs.Common.{◌≡◌, slice_index_or, arith, sym, ◌∙◌, true}
-use Rattle.std.specs.Char.{is_ascii_digit}
-use Rattle.drive_text.proofs.PlainLines.{room_for_a_digit, digit_more, begins_with_number}
+use Rattle.std.{specs.Char.{is_ascii_digit}, proofs.Common.{◌∙◌, ◌≡◌, arith, slice_index_or, sym, true}}
+use Rattle.drive_text.proofs.PlainLines.{begins_with_number, digit_more, room_for_a_digit}
 use Rattle.drive_text.proofs.plain.short_number.Goals as goal
 
 pub overflow_mul-number : goal.overflow_mul-number

@@ -1,5 +1,4 @@
-use Rattle.std.proofs.Common.{◌≡◌, ◌-◌, ◌≤◌, length, take}
-use Rattle.std.specs.Str.Parse.{AllDigits, digits_value}
+use Rattle.std.{specs.Str.Parse.{AllDigits, digits_value}, proofs.Common.{◌-◌, ◌≡◌, ◌≤◌, length, take}}
 use Rattle.drive_text.proofs.plain.short_number.Given as goal
 
 abbrev pub invariant-loop-count : goal.invariant-loop-count

@@ -1,6 +1,5 @@
-use Rattle.std.proofs.Common.{◌≡◌, ◌+◌, ◌++◌, length, length-append, append_assoc, decimal, IsOk, ap, ◌∙◌, List, ℕ}
-use Rattle.std.proofs.Common.{arith}
-use Rattle.drive_text.proofs.Decimals.{decimal_short, where_ok}
+use Rattle.std.proofs.Common.{ℕ, ◌++◌, ◌+◌, ◌∙◌, ◌≡◌, IsOk, List, ap, append_assoc, arith, decimal, length}
+use Rattle.{std.proofs.Common.{length-append}, drive_text.proofs.Decimals.{decimal_short, where_ok}}
 use Rattle.drive_text.proofs.written.put_numbered.Goals as goal
 
 pub returns : goal.returns

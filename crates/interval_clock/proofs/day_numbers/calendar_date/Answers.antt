@@ -1,6 +1,6 @@
-use Rattle.std.proofs.Common.{arith, ◌≡◌, rules, unsigned_abs, to_z, of_z, w8}
+use Rattle.std.proofs.Common.{◌≡◌, arith, of_z, rules, to_z, unsigned_abs, w8}
 use Rattle.jiff.proofs.SpanFacts.{signed_arith}
-use Rattle.interval_clock.proofs.Dates.{epoch_day_is_date, year_of_day, month_bound, pos-unsigned_abs}
+use Rattle.interval_clock.proofs.Dates.{epoch_day_is_date, month_bound, pos-unsigned_abs, year_of_day}
 use mir.Syntax.{w16}
 use Rattle.interval_clock.proofs.day_numbers.calendar_date.Goals as goal
 

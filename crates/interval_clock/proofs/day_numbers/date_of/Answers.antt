@@ -1,7 +1,5 @@
-use Rattle.std.proofs.Common.{arith, FitsSigned, w32, w64, ◌∙◌, ◌≡◌, pos}
-use Rattle.std.proofs.lemmas.Int.{to_z-of_z}
-use Rattle.jiff.proofs.SpanFacts.{signed_arith, date_add-days, can_add-days}
-use Rattle.jiff.specs.Words.{epoch_day}
+use Rattle.std.proofs.{Common.{◌∙◌, ◌≡◌, FitsSigned, arith, pos, w32, w64}, lemmas.Int.{to_z-of_z}}
+use Rattle.jiff.{specs.Words.{epoch_day}, proofs.SpanFacts.{can_add-days, date_add-days, signed_arith}}
 use Rattle.interval_clock.proofs.Dates.{epoch_day-start}
 use Rattle.interval_clock.proofs.day_numbers.date_of.Goals as goal
 

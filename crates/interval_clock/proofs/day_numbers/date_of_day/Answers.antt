@@ -1,8 +1,6 @@
-use Rattle.std.proofs.Common.{◌≡◌, ◌∙◌, pos, w32, arith}
-use Rattle.std.proofs.lemmas.Int.{to_z_pos}
-use Rattle.jiff.specs.Words.{epoch_day}
+use Rattle.std.proofs.{Common.{◌∙◌, ◌≡◌, arith, pos, w32}, lemmas.Int.{to_z_pos}}
+use Rattle.{jiff.specs.Words.{epoch_day}, interval_clock.proofs.CalendarDays.{IsDateOf-date_after, IsDateOf-only}}
 use Rattle.interval_clock.specs.Calendar.{date_after}
-use Rattle.interval_clock.proofs.CalendarDays.{IsDateOf-only, IsDateOf-date_after}
 use Rattle.interval_clock.proofs.day_numbers.date_of_day.Goals as goal
 
 pub returns-clause-value : goal.returns-clause-value

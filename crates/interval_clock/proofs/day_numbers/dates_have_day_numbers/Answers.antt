@@ -1,5 +1,4 @@
-use Rattle.interval_clock.proofs.CalendarDays.{IsDateOf-only}
-use Rattle.interval_clock.proofs.DayNumbers.{is_date_of_number, one_day_number}
+use Rattle.interval_clock.proofs.{CalendarDays.{IsDateOf-only}, DayNumbers.{is_date_of_number, one_day_number}}
 use Rattle.interval_clock.proofs.day_numbers.dates_have_day_numbers.Goals as goal
 
 pub returns : goal.returns

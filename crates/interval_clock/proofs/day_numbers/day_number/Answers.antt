@@ -1,8 +1,6 @@
-use Rattle.std.proofs.Common.{◌≡◌, ◌∙◌, pos, refl, arith, w8}
-use Rattle.std.proofs.lemmas.Int.{to_z_pos}
+use Rattle.std.proofs.{Common.{◌∙◌, ◌≡◌, arith, pos, refl, w8}, lemmas.Int.{to_z_pos}}
 use Rattle.jiff.proofs.SpanFacts.{signed_arith}
-use Rattle.interval_clock.specs.Calendar.{day_number_of}
-use Rattle.interval_clock.proofs.DayNumbers.{is_date_there, number_there, date_there}
+use Rattle.interval_clock.{specs.Calendar.{day_number_of}, proofs.DayNumbers.{date_there, is_date_there, number_there}}
 use mir.Syntax.{w16}
 use Rattle.interval_clock.proofs.day_numbers.day_number.Goals as goal
 

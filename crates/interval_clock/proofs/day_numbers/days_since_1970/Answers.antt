@@ -1,9 +1,6 @@
-use Rattle.std.proofs.Common.{◌≡◌, pos, unsigned_abs, sym, arith}
-use Rattle.jiff_core.proofs.DateLemmas.{epoch_day_range}
-use Rattle.jiff_core.proofs.SignedLemmas.{signed_arith}
-use Rattle.jiff.specs.Words.{epoch_day}
-use Rattle.interval_clock.proofs.Dates.{epoch_day-start, pos-unsigned_abs}
-use Rattle.interval_clock.proofs.DayNumbers.{whole_hours, days_of_hours}
+use Rattle.std.proofs.Common.{◌≡◌, arith, pos, sym, unsigned_abs}
+use Rattle.{jiff.specs.Words.{epoch_day}, jiff_core.proofs.{DateLemmas.{epoch_day_range}, SignedLemmas.{signed_arith}}}
+use Rattle.interval_clock.proofs.{Dates.{epoch_day-start, pos-unsigned_abs}, DayNumbers.{days_of_hours, whole_hours}}
 use Rattle.interval_clock.proofs.day_numbers.days_since_1970.Goals as goal
 
 pub overflow_cast-result : goal.overflow_cast-result

@@ -1,5 +1,4 @@
-use Rattle.std.proofs.Common.{◌≡◌, ◌∙◌, w32, ◌/◌, ◌%◌, pos, arith}
-use Rattle.std.proofs.lemmas.Int.{to_z_pos}
+use Rattle.std.proofs.{Common.{◌%◌, ◌/◌, ◌∙◌, ◌≡◌, arith, pos, w32}, lemmas.Int.{to_z_pos}}
 use Rattle.interval_clock.proofs.LocalTimes.{is_local_time_of}
 use Rattle.interval_clock.proofs.local_time.local_time.Goals as goal
 

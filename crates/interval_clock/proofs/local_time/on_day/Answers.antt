@@ -1,8 +1,6 @@
-use Rattle.std.proofs.Common.{arith, ◌≡◌}
-use Rattle.jiff.specs.Words.{epoch_day}
-use Rattle.jiff.proofs.SpanFacts.{signed_arith}
-use Rattle.interval_clock.proofs.CalendarDays.{date_place-most}
-use Rattle.interval_clock.proofs.Dates.{weekday_number-weekday_of}
+use Rattle.std.proofs.Common.{◌≡◌, arith}
+use Rattle.jiff.{specs.Words.{epoch_day}, proofs.SpanFacts.{signed_arith}}
+use Rattle.interval_clock.proofs.{CalendarDays.{date_place-most}, Dates.{weekday_number-weekday_of}}
 use Rattle.interval_clock.proofs.local_time.on_day.Goals as goal
 
 pub returns-clause-weekday : goal.returns-clause-weekday

@@ -1,5 +1,4 @@
-use Rattle.std.proofs.Common.{pos}
-use Rattle.interval_clock.proofs.OffsetLists.{offset_from-in_force, offset_from-none}
+use Rattle.{std.proofs.Common.{pos}, interval_clock.proofs.OffsetLists.{offset_from-in_force, offset_from-none}}
 use Rattle.interval_clock.proofs.offsets.the_last_pair_begun_is_in_force.Goals as goal
 
 pub returns : goal.returns

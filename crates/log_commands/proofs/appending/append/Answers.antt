@@ -1,12 +1,8 @@
-use Rattle.std.proofs.Common.{inl, inr, ⊎_elim, ℕ, ◌+◌, List, refl, sym, ◌∙◌, subst, nat_lt}
-use Rattle.std.proofs.lemmas.Result.{on_ok_weaker}
-use Rattle.outside.proofs.Laws.{leaves_then, leaves_wider}
+use Rattle.std.proofs.Common.{ℕ, ◌+◌, ◌∙◌, List, inl, inr, nat_lt, refl, subst, sym, ⊎_elim}
+use Rattle.{std.proofs.lemmas.Result.{on_ok_weaker}, outside.proofs.Laws.{leaves_then, leaves_wider}}
+use Rattle.log_commands.{specs.Appends.{IsReady, IsStep}, proofs.{OtherSlots.{kept_and_new}, Staged.{kept_rise}}}
+use Rattle.log_commands.{specs.LogList.{StandsFor, last_ones}, proofs.Causes.{cause_later, err_later}}
 use Rattle.log_commands.specs.Record.{Record}
-use Rattle.log_commands.specs.Appends.{IsReady, IsStep}
-use Rattle.log_commands.specs.LogList.{StandsFor, last_ones}
-use Rattle.log_commands.proofs.Causes.{cause_later, err_later}
-use Rattle.log_commands.proofs.OtherSlots.{kept_and_new}
-use Rattle.log_commands.proofs.Staged.{kept_rise}
 use Rattle.log_commands.proofs.appending.append.Goals as goal
 
 pub returns-in_err-shut_gate-clause-any_moment : goal.returns-in_err-shut_gate-clause-any_moment

@@ -1,8 +1,5 @@
-use Rattle.std.proofs.Common.{sym}
-use Rattle.outside.proofs.Laws.{leaves_wider}
-use Rattle.std.proofs.lemmas.Result.{on_ok_weaker}
-use Rattle.log_commands.proofs.Results.{both}
-use Rattle.log_commands.proofs.Staged.{open_leaves, open_ready, same_place}
+use Rattle.{std.proofs.{Common.{sym}, lemmas.Result.{on_ok_weaker}}, outside.proofs.Laws.{leaves_wider}}
+use Rattle.log_commands.proofs.{Results.{both}, Staged.{open_leaves, open_ready, same_place}}
 use Rattle.log_commands.proofs.appending.open_gate.Goals as goal
 
 pub returns-clause-any_moment : goal.returns-clause-any_moment

@@ -1,11 +1,7 @@
-use Rattle.std.proofs.Common.{◌≡◌, Bool, true, false, sym, subst, refl}
-use Rattle.outside.proofs.Laws.{leaves_none, leaves_wider}
-use Rattle.outside.specs.Disk.{MayLeave}
-use Rattle.slot_store.specs.Writes.{OrWithin}
+use Rattle.std.proofs.{Common.{◌≡◌, Bool, false, refl, subst, sym, true}, lemmas.Result.{on_ok_weaker}}
+use Rattle.{outside.proofs.Laws.{leaves_none, leaves_wider}, log_commands.specs.Common.{MayLeave, OrWithin}}
 use Rattle.log_commands.specs.Appends.{IsReady}
-use Rattle.log_commands.proofs.Staged.{same_place, shut_already, shut_ends, shut_leaves, still_leaves}
-use Rattle.std.proofs.lemmas.Result.{on_ok_weaker}
-use Rattle.log_commands.proofs.Results.{both}
+use Rattle.log_commands.proofs.{Results.{both}, Staged.{same_place, shut_already, shut_ends, shut_leaves, still_leaves}}
 use Rattle.log_commands.proofs.appending.shut_gate.Goals as goal
 
 pub returns-then-not-is_open-clause-any_moment : goal.returns-then-not-is_open-clause-any_moment

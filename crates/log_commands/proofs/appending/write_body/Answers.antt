@@ -1,12 +1,7 @@
-use Rattle.std.proofs.Common.{◌≡◌, ℕ, ◌+◌, ◌∙◌, ap, length, rules}
-use Rattle.outside.proofs.Laws.{leaves_wider}
-use Rattle.outside.specs.Disk.{MayLeave}
-use Rattle.slot_store.specs.Writes.{OrWithin}
-use Rattle.log_commands.specs.Record.{Record}
-use Rattle.log_commands.specs.Slots.{slot_at, slot_of, spelling}
-use Rattle.std.proofs.lemmas.Result.{on_ok_weaker}
-use Rattle.log_commands.proofs.Results.{both}
-use Rattle.log_commands.proofs.Staged.{same_piece, write_ends, write_leaves, written_spells}
+use Rattle.std.proofs.{Common.{ℕ, ◌+◌, ◌∙◌, ◌≡◌, ap, length, rules}, lemmas.Result.{on_ok_weaker}}
+use Rattle.{outside.proofs.Laws.{leaves_wider}, log_commands.specs.Slots.{slot_at, slot_of, spelling}}
+use Rattle.log_commands.{specs.Common.{MayLeave, OrWithin}, proofs.Results.{both}}
+use Rattle.log_commands.{specs.Record.{Record}, proofs.Staged.{same_piece, write_ends, write_leaves, written_spells}}
 use Rattle.log_commands.proofs.appending.write_body.Given as given
 use Rattle.log_commands.proofs.appending.write_body.Goals as goal
 

@@ -1,11 +1,7 @@
-use Rattle.std.proofs.Common.{ℕ, List, ◌∙◌, subst, arith, refl}
-use Rattle.std.proofs.lemmas.List.{length-set}
-use Rattle.std.proofs.lemmas.Result.{err_from_is_err_and}
-use Rattle.log_commands.proofs.Readings.{reads_none, reads_then}
-use Rattle.log_commands.proofs.Scans.{entries_more, err_same, lowest_told}
-use Rattle.log_commands.specs.LogScan.{IsEntry}
-use Rattle.log_commands.specs.declared.scanning.ScanFault.TheVariants.{BadSlot, DeviceFailed}
-use Rattle.log_commands.proofs.Causes.{rises_later, rises_ok, rises_passed}
+use Rattle.std.proofs.{Common.{ℕ, ◌∙◌, List, arith, refl, subst}, lemmas.Result.{err_from_is_err_and}}
+use Rattle.{std.proofs.lemmas.List.{length-set}, log_commands.proofs.Causes.{rises_later, rises_ok, rises_passed}}
+use Rattle.log_commands.specs.{LogScan.{IsEntry}, declared.scanning.ScanFault.TheVariants.{BadSlot, DeviceFailed}}
+use Rattle.log_commands.proofs.{ReadOnlyCalls.{reads_none, reads_then}, Scans.{entries_more, err_same, lowest_told}}
 use Rattle.log_commands.proofs.entries.read_entries.Goals as goal
 
 pub loop-slot-init : goal.loop-slot-init

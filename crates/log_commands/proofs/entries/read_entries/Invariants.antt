@@ -1,6 +1,5 @@
-use Rattle.std.proofs.Common.{◌≡◌, ℕ, ◌+◌, ◌<◌, ◌≤◌, get_or, length, None}
-use Rattle.slot_store.specs.Syncs.{ReadsOnly}
-use Rattle.log_commands.specs.LogScan.{IsEntry}
+use Rattle.std.proofs.Common.{ℕ, ◌+◌, ◌<◌, ◌≡◌, ◌≤◌, None, get_or, length}
+use Rattle.log_commands.specs.{Common.{ReadsOnly}, LogScan.{IsEntry}}
 use Rattle.log_commands.proofs.entries.read_entries.Given as goal
 
 -- the slots so far are known, and nothing was written

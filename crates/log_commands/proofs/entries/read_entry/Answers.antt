@@ -1,5 +1,4 @@
-use Rattle.std.proofs.Common.{refl}
-use Rattle.log_commands.proofs.Scans.{bad_is, entry_told, not_failed}
+use Rattle.{std.proofs.Common.{refl}, log_commands.proofs.Scans.{bad_is, entry_told, not_failed}}
 use Rattle.log_commands.proofs.entries.read_entry.Goals as goal
 
 pub returns-clause-entry : goal.returns-clause-entry

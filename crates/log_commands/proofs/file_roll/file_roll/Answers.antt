@@ -1,9 +1,8 @@
-use Rattle.std.proofs.Common.{[], Ok, refl, ap, ◌∙◌, arith}
+use Rattle.std.proofs.Common.{[], ◌∙◌, Ok, ap, arith, refl}
 use Rattle.log_commands.specs.declared.roll.RollEnd.TheVariants.{ReadFault}
-use Rattle.log_commands.proofs.Causes.{cause_ok, err_later, may_none, may_rise_for, rises_none}
+use Rattle.log_commands.proofs.{Causes.{cause_ok, err_later, may_none, may_rise_for, rises_none}, Tails.{files_none}}
 use Rattle.log_commands.proofs.RollFilings.{counts_over, err_says, failed_err, fault_over, filing_by, filing_fails}
 use Rattle.log_commands.proofs.RollFilings.{filing_on, filing_other_now, filing_over, may_since, rises_since, same_end}
-use Rattle.log_commands.proofs.Tails.{files_none}
 use Rattle.log_commands.proofs.file_roll.file_roll.Goals as goal
 
 pub loop-end-init : goal.loop-end-init

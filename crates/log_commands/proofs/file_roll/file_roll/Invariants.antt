@@ -1,8 +1,6 @@
-use Rattle.std.proofs.Common.{◌≡◌, ◌≢◌, ℕ, ◌+◌, ◌≤◌, length, Some}
-use Rattle.outside.specs.Faults.{MayRise, RisesOnlyIf}
-use Rattle.log_commands.specs.Filings.{IsFiling, IsLast}
-use Rattle.taxi_units.specs.Streams.{stream_limit}
-use Rattle.log_commands.specs.declared.roll.RollEnd.TheVariants.{ReadFault}
+use Rattle.std.proofs.Common.{ℕ, ◌+◌, ◌≡◌, ◌≢◌, ◌≤◌, Some, length}
+use Rattle.log_commands.specs.Common.{MayRise, RisesOnlyIf, stream_limit}
+use Rattle.log_commands.specs.{Filings.{IsFiling, IsLast}, declared.roll.RollEnd.TheVariants.{ReadFault}}
 use Rattle.log_commands.proofs.file_roll.file_roll.Given as goal
 
 abbrev pub invariant-loop-end : goal.invariant-loop-end

@@ -1,5 +1,4 @@
-use Rattle.std.proofs.Common.{[]}
-use Rattle.log_commands.proofs.Overlaps.{none_within}
+use Rattle.{std.proofs.Common.{[]}, log_commands.proofs.Overlaps.{none_within}}
 use Rattle.log_commands.proofs.filing_laws.receipts_stand_apart.Goals as goal
 
 pub returns-clause-beginning : goal.returns-clause-beginning

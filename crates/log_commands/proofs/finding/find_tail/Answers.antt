@@ -1,13 +1,8 @@
-use Rattle.std.proofs.Common.{inl, inr, ℕ, List, sym, ◌∙◌, subst, IfOk, rules}
-use Rattle.slot_store.proofs.Laws.{held_on}
-use Rattle.log_commands.specs.Filings.{IsTailOf}
-use Rattle.log_commands.specs.LogList.{StandsFor}
-use Rattle.log_commands.specs.LogRow.{AreEntries}
-use Rattle.log_commands.specs.LogScan.{IsBroken, IsLowestBad}
-use Rattle.log_commands.specs.Record.{Record}
-use Rattle.log_commands.specs.declared.scanning.ScanFault.TheVariants.{BadSlot}
-use Rattle.log_commands.proofs.NewestFound.{fault_known, same_fault}
-use Rattle.log_commands.proofs.Readings.{reads_sync, reads_then, synced_by}
+use Rattle.std.proofs.Common.{ℕ, ◌∙◌, IfOk, List, inl, inr, rules, subst, sym}
+use Rattle.{slot_store.proofs.Laws.{held_on}, log_commands.proofs.ReadOnlyCalls.{reads_sync, reads_then, synced_by}}
+use Rattle.log_commands.specs.{Filings.{IsTailOf}, Record.{Record}}
+use Rattle.log_commands.{specs.{LogList.{StandsFor}, LogRow.{AreEntries}}, proofs.NewestFound.{fault_known, same_fault}}
+use Rattle.log_commands.specs.{LogScan.{IsBroken, IsLowestBad}, declared.scanning.ScanFault.TheVariants.{BadSlot}}
 use Rattle.log_commands.proofs.finding.find_tail.Goals as goal
 
 pub returns-in_err-sync-clause-synced : goal.returns-in_err-sync-clause-synced

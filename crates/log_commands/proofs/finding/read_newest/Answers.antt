@@ -1,6 +1,5 @@
-use Rattle.std.proofs.Common.{◌≡◌, refl, sym, ◌∙◌, arith, Option, Some, None}
-use Rattle.log_commands.specs.Record.{Record}
-use Rattle.log_commands.proofs.NewestFound.{newest_told, none_newest}
+use Rattle.std.proofs.Common.{◌∙◌, ◌≡◌, None, Option, Some, arith, refl, sym}
+use Rattle.log_commands.{specs.Record.{Record}, proofs.NewestFound.{newest_told, none_newest}}
 use Rattle.log_commands.proofs.finding.read_newest.Goals as goal
 
 pub returns-then-last-eq0-clause-newest : goal.returns-then-last-eq0-clause-newest

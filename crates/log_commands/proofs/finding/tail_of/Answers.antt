@@ -1,10 +1,6 @@
-use Rattle.std.proofs.Common.{◌≡◌, ℕ, ◌+◌, ◌%◌, subst, sym, Bool, is_some, get_or, None, refl, arith, rules}
-use Rattle.log_commands.specs.Filings.{IsTailOf}
-use Rattle.log_commands.specs.LogList.{StandsAt}
-use Rattle.log_commands.specs.LogScan.{IsEntry}
-use Rattle.log_commands.specs.Slots.{slot_of}
-use Rattle.log_commands.proofs.NewestFound.{tail_found}
-use Rattle.log_commands.proofs.Scans.{not_bad}
+use Rattle.std.proofs.Common.{ℕ, ◌%◌, ◌+◌, ◌≡◌, Bool, None, arith, get_or, is_some, refl, rules, subst, sym}
+use Rattle.log_commands.{specs.{Filings.{IsTailOf}, LogList.{StandsAt}}, proofs.NewestFound.{tail_found}}
+use Rattle.log_commands.{specs.{LogScan.{IsEntry}, Slots.{slot_of}}, proofs.Scans.{not_bad}}
 use Rattle.log_commands.proofs.finding.tail_of.Goals as goal
 
 pub returns-then-not-is_row-clause-broken : goal.returns-then-not-is_row-clause-broken

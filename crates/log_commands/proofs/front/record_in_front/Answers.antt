@@ -1,6 +1,6 @@
-use Rattle.std.proofs.Common.{◌≡◌, ℕ, List, [], ◌++◌, length, take, refl, ap, ◌∙◌, arith, rules, None}
-use Rattle.receipt_text.specs.Part.{Part}
-use Rattle.log_commands.proofs.Fronting.{few_in_front, in_front_of, record_of_front, succeeded}
+use Rattle.std.proofs.Common.{[], ℕ, ◌++◌, ◌∙◌, ◌≡◌, List, None, ap, arith, length, refl, rules, take}
+use Rattle.log_commands.specs.Common.{Part}
+use Rattle.log_commands.proofs.FrontReceipts.{few_in_front, in_front_of, record_of_front, succeeded}
 use Rattle.log_commands.proofs.front.record_in_front.Goals as goal
 
 pub returns-in_err-receipt-clause-none : goal.returns-in_err-receipt-clause-none

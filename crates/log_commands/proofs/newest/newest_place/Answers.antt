@@ -1,6 +1,5 @@
-use Rattle.std.proofs.Common.{◌≡◌, ℕ, ◌<◌, get_or, None, subst, arith}
-use Rattle.log_commands.specs.LogRow.{IsAtMost}
-use Rattle.log_commands.proofs.NewestPlace.{newest_is}
+use Rattle.std.proofs.Common.{ℕ, ◌<◌, ◌≡◌, None, arith, get_or, subst}
+use Rattle.log_commands.{specs.LogRow.{IsAtMost}, proofs.NewestPlace.{newest_is}}
 use Rattle.log_commands.proofs.newest.newest_place.Goals as goal
 
 pub returns : goal.returns

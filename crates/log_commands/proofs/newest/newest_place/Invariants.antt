@@ -1,4 +1,4 @@
-use Rattle.std.proofs.Common.{◌≡◌, ◌⊎◌, ℕ, ◌<◌, get_or, None}
+use Rattle.std.proofs.Common.{ℕ, ◌<◌, ◌≡◌, ◌⊎◌, None, get_or}
 use Rattle.log_commands.specs.LogRow.{IsAtMost, IsPlaceOf}
 use Rattle.log_commands.proofs.newest.newest_place.Given as goal
 

@@ -1,7 +1,6 @@
-use Rattle.std.proofs.Common.{◌≡◌, ℕ, ◌+◌, length, [], ◌∷◌, ap, sym, ◌∙◌, subst}
-use Rattle.log_commands.specs.ReceiptSearch.{IsReceiptSearch}
-use Rattle.log_commands.specs.Record.{Record}
-use Rattle.log_commands.proofs.SearchSteps.{search_at, search_behind, search_found, search_passed, rest_of}
+use Rattle.std.proofs.Common.{[], ℕ, ◌+◌, ◌∙◌, ◌∷◌, ◌≡◌, ap, length, subst, sym}
+use Rattle.log_commands.specs.{ReceiptSearch.{IsReceiptSearch}, Record.{Record}}
+use Rattle.log_commands.proofs.SearchSteps.{rest_of, search_at, search_behind, search_found, search_passed}
 use Rattle.log_commands.proofs.receipt_search.find_receipt.Goals as goal
 
 pub loop-record-init : goal.loop-record-init

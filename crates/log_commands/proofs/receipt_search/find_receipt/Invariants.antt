@@ -1,4 +1,4 @@
-use Rattle.std.proofs.Common.{◌-◌, length, []}
+use Rattle.std.proofs.Common.{[], ◌-◌, length}
 use Rattle.log_commands.specs.ReceiptSearch.{IsReceiptSearch}
 use Rattle.log_commands.proofs.receipt_search.find_receipt.Given as goal
 

@@ -1,6 +1,5 @@
-use Rattle.std.proofs.Common.{◌≡◌, ℕ, subst, arith}
-use Rattle.log_commands.specs.LogRow.{IsRow}
-use Rattle.log_commands.proofs.Rows.{row_stands}
+use Rattle.std.proofs.Common.{ℕ, ◌≡◌, arith, subst}
+use Rattle.log_commands.{specs.LogRow.{IsRow}, proofs.Rows.{row_stands}}
 use Rattle.log_commands.proofs.row.is_row.Goals as goal
 
 pub returns-clause-row : goal.returns-clause-row

@@ -1,7 +1,5 @@
-use Rattle.std.proofs.Common.{ℕ, List}
+use Rattle.{std.proofs.Common.{ℕ, List}, log_commands.specs.{LogList.{EndsWith}, LogRow.{AreEntries, IsBound, IsRow}}}
 use Rattle.log_commands.specs.Record.{Record}
-use Rattle.log_commands.specs.LogList.{EndsWith}
-use Rattle.log_commands.specs.LogRow.{AreEntries, IsBound, IsRow}
 use Rattle.log_commands.proofs.row.is_row.Given as goal
 
 -- the slots so far are in a row, and those of a list have numbers that are below this one further back

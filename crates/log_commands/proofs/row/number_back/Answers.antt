@@ -1,14 +1,9 @@
-use Rattle.std.proofs.Common.{◌≡◌, ◌-◌, ⊎_elim, subst, arith, Option}
-use Rattle.log_commands.specs.LogRow.{slot_back}
-use Rattle.log_commands.specs.LogScan.{IsEntry}
-use Rattle.log_commands.specs.declared.scanning.Entry.{Entry}
-use Rattle.log_commands.proofs.Bounds.{bound_closed, bound_entry}
-use Rattle.log_commands.proofs.Rows.{row_record}
-use Rattle.log_commands.proofs.row.number_back.Goals.{
-  else-back-last-via-then-back-last+then-entry-last+else-entry-newer,
-}
+use Rattle.std.proofs.Common.{◌-◌, ◌≡◌, Option, arith, subst, ⊎_elim}
+use Rattle.log_commands.{specs.LogRow.{slot_back}, proofs.row.number_back.Goals.{else-back-last-via-else-back-last}}
+use Rattle.log_commands.{specs.LogScan.{IsEntry}, proofs.Rows.{row_record}}
+use Rattle.log_commands.{specs.declared.scanning.Entry.{Entry}, proofs.Bounds.{bound_closed, bound_entry}}
 use Rattle.log_commands.proofs.row.number_back.Goals.{else-back-last-via-then-back-last+else-entry-last}
-use Rattle.log_commands.proofs.row.number_back.Goals.{else-back-last-via-else-back-last}
+use Rattle.log_commands.proofs.row.number_back.Goals.{else-back-last-via-then-back-last+then-entry-last+else-entry-newer}
 use Rattle.log_commands.proofs.row.number_back.Goals as goal
 
 pub returns-then-entry-newer-clause-row : goal.returns-then-entry-newer-clause-row

@@ -1,7 +1,5 @@
-use Rattle.std.proofs.Common.{◌≡◌, ℕ, List, length, drop, subst, sym, arith, Option, Some, None, length-drop, take}
-use Rattle.std.proofs.lemmas.List.{take_all}
-use Rattle.log_commands.specs.Record.{Record}
-use Rattle.log_commands.specs.Slots.{Spells}
+use Rattle.std.proofs.Common.{ℕ, ◌≡◌, List, None, Option, Some, arith, drop, length, length-drop, subst, sym, take}
+use Rattle.{std.proofs.lemmas.List.{take_all}, log_commands.specs.{Record.{Record}, Slots.{Spells}}}
 use Rattle.log_commands.proofs.scanning.content_in.Goals as goal
 
 -- what stands behind the gate is as long as a body

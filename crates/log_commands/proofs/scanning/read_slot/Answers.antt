@@ -1,5 +1,4 @@
-use Rattle.log_commands.proofs.Readings.{reads_once}
-use Rattle.log_commands.proofs.Scans.{content_read}
+use Rattle.log_commands.proofs.{ReadOnlyCalls.{reads_once}, Scans.{content_read}}
 use Rattle.log_commands.proofs.scanning.read_slot.Goals as goal
 
 pub returns-clause-content : goal.returns-clause-content

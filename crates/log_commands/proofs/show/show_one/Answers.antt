@@ -1,11 +1,6 @@
-use Rattle.std.proofs.Common.{◌≡◌, ℕ, List, ◌++◌, length, ap, ◌∙◌, subst, arith}
-use Rattle.std.proofs.lemmas.Result.{on_ok_weaker}
-use Rattle.outside.specs.Printing.{Begins}
-use Rattle.outside.proofs.Laws.{begins_not, keeps_print, keeps_then}
-use Rattle.log_commands.specs.LogScan.{IsContentInRange}
-use Rattle.log_commands.specs.Record.{Record}
-use Rattle.log_commands.specs.Slots.{HasRecord, slot_of}
-use Rattle.log_commands.proofs.Readings.{reads_keep}
+use Rattle.std.proofs.{Common.{ℕ, ◌++◌, ◌∙◌, ◌≡◌, List, ap, arith, length, subst}, lemmas.Result.{on_ok_weaker}}
+use Rattle.{outside.proofs.Laws.{begins_not, keeps_print, keeps_then}, log_commands.proofs.ReadOnlyCalls.{reads_keep}}
+use Rattle.log_commands.specs.{Common.{Begins}, LogScan.{IsContentInRange}, Record.{Record}, Slots.{HasRecord, slot_of}}
 use Rattle.log_commands.proofs.Shown.{few_text, some_text, told_closed, told_record, told_unread}
 use Rattle.log_commands.proofs.show.show_one.Given as given
 use Rattle.log_commands.proofs.show.show_one.Goals as goal

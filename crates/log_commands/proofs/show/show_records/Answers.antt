@@ -1,7 +1,6 @@
-use Rattle.std.proofs.Common.{ℕ, ◌+◌, List, refl, sym, ◌∙◌, subst, arith}
-use Rattle.outside.proofs.Laws.{keeps_then}
+use Rattle.std.proofs.Common.{ℕ, ◌+◌, ◌∙◌, List, arith, refl, subst, sym}
+use Rattle.{outside.proofs.Laws.{keeps_then}, log_commands.proofs.Shown.{begun_more, held_next, shown_more}}
 use Rattle.log_commands.specs.Slots.{HasRecord, slot_of}
-use Rattle.log_commands.proofs.Shown.{begun_more, held_next, shown_more}
 use Rattle.log_commands.proofs.show.show_records.Goals as goal
 
 pub returns-in_err-show_one-clause-begun : goal.returns-in_err-show_one-clause-begun

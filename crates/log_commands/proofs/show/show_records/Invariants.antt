@@ -1,8 +1,5 @@
-use Rattle.std.proofs.Common.{◌≡◌, ◌+◌, ◌*◌, ◌≤◌, ◌++◌, List, length, take}
-use Rattle.outside.specs.Runs.{KeepsStore}
-use Rattle.log_commands.specs.LogList.{AreInSlots}
-use Rattle.log_commands.specs.Record.{Record}
-use Rattle.log_commands.specs.Showing.{texts_of}
+use Rattle.std.proofs.Common.{◌*◌, ◌++◌, ◌+◌, ◌≡◌, ◌≤◌, List, length, take}
+use Rattle.log_commands.specs.{Common.{KeepsStore}, LogList.{AreInSlots}, Record.{Record}, ShownLog.{texts_of}}
 use Rattle.log_commands.proofs.show.show_records.Given as goal
 
 abbrev pub invariant-loop-more : goal.invariant-loop-more

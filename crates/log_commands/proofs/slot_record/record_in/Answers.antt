@@ -1,7 +1,6 @@
-use Rattle.std.proofs.Common.{◌≡◌, ◌↔◌, ℕ, List, refl, subst, rules, Option, Some, None}
-use Rattle.log_commands.specs.Record.{Record}
+use Rattle.std.proofs.Common.{ℕ, ◌↔◌, ◌≡◌, List, None, Option, Some, refl, rules, subst}
+use Rattle.log_commands.{specs.Record.{Record}, proofs.Spelled.{none_longer, none_other, none_spelled, some_spelled}}
 use Rattle.log_commands.specs.Slots.{IsRecordOf, Spells}
-use Rattle.log_commands.proofs.Spelled.{none_longer, none_other, none_spelled, some_spelled}
 use Rattle.log_commands.proofs.slot_record.record_in.Goals as goal
 
 pub returns-then-count-gt-LONGEST : goal.returns-then-count-gt-LONGEST

@@ -1,8 +1,6 @@
-use Rattle.std.proofs.Common.{◌≡◌, ℕ, List, [], length, refl, ap, subst, arith, rules, None}
-use Rattle.receipt_text.specs.Grammar.{IsReceiptText}
-use Rattle.receipt_text.specs.Part.{Part}
-use Rattle.receipt_text.proofs.Laws.{short_texts}
-use Rattle.log_commands.proofs.Spelled.{read_record, record_exact}
+use Rattle.std.proofs.Common.{[], ℕ, ◌≡◌, List, None, ap, arith, length, refl, rules, subst}
+use Rattle.{receipt_text.proofs.Laws.{short_texts}, log_commands.proofs.Spelled.{read_record, record_exact}}
+use Rattle.log_commands.specs.Common.{IsReceiptText, Part}
 use Rattle.log_commands.proofs.slot_record.record_of.Goals as goal
 
 pub returns-in_err-receipt : goal.returns-in_err-receipt

@@ -1,8 +1,6 @@
-use Rattle.std.proofs.Common.{◌≡◌, ◌↔◌, ap, ◌∙◌, IsTrue, inl, inr, arith, rules}
-use Rattle.log_commands.specs.Record.{Record}
-use Rattle.log_commands.specs.Slots.{spelling}
-use Rattle.log_commands.proofs.Spelled.{none_spells, spells_exact}
-use Rattle.log_commands.proofs.slot_record.spells.Goals.{then-place-eq0-via-then-place-eq0}
+use Rattle.std.proofs.Common.{◌↔◌, ◌∙◌, ◌≡◌, IsTrue, ap, arith, inl, inr, rules}
+use Rattle.log_commands.{specs.Record.{Record}, proofs.Spelled.{none_spells, spells_exact}}
+use Rattle.log_commands.{specs.Slots.{spelling}, proofs.slot_record.spells.Goals.{then-place-eq0-via-then-place-eq0}}
 use Rattle.log_commands.proofs.slot_record.spells.Goals.{then-place-eq0-via-else-place-eq0+then-place-it}
 use Rattle.log_commands.proofs.slot_record.spells.Goals as goal
 

@@ -1,5 +1,4 @@
-use Rattle.std.proofs.Common.{refl, arith}
-use Rattle.log_commands.proofs.Tails.{files_appended, moments_one, place_below}
+use Rattle.{std.proofs.Common.{arith, refl}, log_commands.proofs.Tails.{files_appended, moments_one, place_below}}
 use Rattle.log_commands.proofs.tail.append_one.Goals as goal
 
 pub append-requires-clause-place : goal.append-requires-clause-place

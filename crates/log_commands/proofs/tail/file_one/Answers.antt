@@ -1,6 +1,4 @@
-use Rattle.std.proofs.Common.{refl}
-use Rattle.log_commands.proofs.Causes.{err_later}
-use Rattle.log_commands.proofs.Tails.{files_passed}
+use Rattle.{std.proofs.Common.{refl}, log_commands.proofs.{Causes.{err_later}, Tails.{files_passed}}}
 use Rattle.log_commands.proofs.tail.file_one.Goals as goal
 
 pub returns-in_err-append_one-in-Appended-clause-cause : goal.returns-in_err-append_one-in-Appended-clause-cause

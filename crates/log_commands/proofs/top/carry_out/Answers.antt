@@ -1,5 +1,4 @@
-use Rattle.std.proofs.Common.{inl, refl, arith}
-use Rattle.log_commands.proofs.CallEnds.{reaches_refused}
+use Rattle.{std.proofs.Common.{arith, inl, refl}, log_commands.proofs.CallEnds.{reaches_refused}}
 use Rattle.log_commands.proofs.top.carry_out.Goals as goal
 
 pub returns-in-None-clause-comes : goal.returns-in-None-clause-comes

@@ -1,5 +1,4 @@
-use Rattle.std.proofs.Common.{arith}
-use Rattle.log_commands.proofs.Counted.{spare_count}
+use Rattle.{std.proofs.Common.{arith}, log_commands.proofs.Counted.{spare_count}}
 use Rattle.log_commands.proofs.top.count_of.Goals as goal
 
 pub returns-else-tail-2-clause-count : goal.returns-else-tail-2-clause-count

@@ -1,19 +1,11 @@
-use Rattle.std.proofs.Common.{◌∙◌, inr, Some, Ok, Err, refl, sym, ap, subst}
-use Rattle.std.specs.Prelude.{is_err}
-use Rattle.outside.specs.Faults.{Rose}
-use Rattle.slot_store.specs.Syncs.{IsAsHeld}
-use Rattle.log_commands.specs.BeforeLastLine.{CallReachesLine}
-use Rattle.log_commands.specs.Endings.{status_of, unread_end}
-use Rattle.log_commands.specs.declared.ending.Ended.{Ended}
-use Rattle.log_commands.specs.declared.finding.FindFault.TheVariants.{LogFault}
-use Rattle.log_commands.specs.declared.words.Call.TheVariants.{File}
+use Rattle.std.{specs.Prelude.{is_err}, proofs.Common.{◌∙◌, Err, Ok, Some, ap, inr, refl, subst, sym}}
+use Rattle.log_commands.{specs.BeforeLastLine.{CallReachesLine}, proofs.EndCases.{unread_no_read, unread_sync}}
+use Rattle.log_commands.specs.{Common.{Ended, File, IsAsHeld, Rose}, declared.finding.FindFault.TheVariants.{LogFault}}
+use Rattle.log_commands.{specs.Endings.{status_of, unread_end}, proofs.LastLines.{search_read}}
+use Rattle.log_commands.proofs.{CallEnds.{reaches_end, reaches_failed, reaches_unread}, NewestFound.{same_fault}}
 use Rattle.log_commands.proofs.Causes.{may_none, may_rise_for, rises_for, rises_ok, rose_later}
-use Rattle.log_commands.proofs.CallEnds.{reaches_end, reaches_failed, reaches_unread}
 use Rattle.log_commands.proofs.EndCases.{fault_has, fault_writes, filing_files, filing_no_board, filing_read}
 use Rattle.log_commands.proofs.EndCases.{filing_reads, filing_writes, found_sync, unread_board, unread_files}
-use Rattle.log_commands.proofs.EndCases.{unread_no_read, unread_sync}
-use Rattle.log_commands.proofs.Finishing.{search_read}
-use Rattle.log_commands.proofs.NewestFound.{same_fault}
 use Rattle.log_commands.proofs.top.file.Given as given
 use Rattle.log_commands.proofs.top.file.Goals as goal
 

@@ -1,13 +1,8 @@
-use Rattle.std.proofs.Common.{◌≡◌, ◌+◌, Option, map, string_bytes, subst}
-use Rattle.outside.specs.Faults.{RisesOnlyIf}
-use Rattle.log_commands.specs.Calls.{IsCall, WritesNothing, known_of}
-use Rattle.log_commands.specs.Endings.{status_of}
-use Rattle.log_commands.specs.Words.{call_of}
-use Rattle.log_commands.specs.declared.words.Call.{Call}
-use Rattle.log_commands.proofs.Causes.{may_rise_for}
-use Rattle.log_commands.proofs.EndCases.{few_are_fewer}
-use Rattle.log_commands.proofs.Finishing.{call_again, call_told, call_whole, fault_finished, has_finished, search_told}
-use Rattle.log_commands.proofs.Finishing.{reads_finished, writes_before}
+use Rattle.std.proofs.Common.{◌+◌, ◌≡◌, Option, map, string_bytes, subst}
+use Rattle.log_commands.specs.{Calls.{IsCall, WritesNothing, known_of}, Common.{Call, RisesOnlyIf}, Endings.{status_of}}
+use Rattle.log_commands.{specs.Words.{call_of}, proofs.Causes.{may_rise_for}}
+use Rattle.log_commands.proofs.{EndCases.{few_are_fewer}, LastLines.{reads_finished, search_told, writes_before}}
+use Rattle.log_commands.proofs.LastLines.{call_again, call_told, call_whole, fault_finished, has_finished}
 use Rattle.log_commands.proofs.top.keep_log.Given as given
 use Rattle.log_commands.proofs.top.keep_log.Goals as goal
 

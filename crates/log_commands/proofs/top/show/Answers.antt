@@ -1,18 +1,10 @@
-use Rattle.std.proofs.Common.{◌∙◌, Some, Err, refl, sym, ap, subst}
-use Rattle.std.specs.Prelude.{is_err}
-use Rattle.outside.specs.Faults.{Rose}
-use Rattle.slot_store.specs.Syncs.{IsAsHeld}
-use Rattle.log_commands.specs.BeforeLastLine.{CallReachesLine}
-use Rattle.log_commands.specs.Endings.{status_of, unread_end}
-use Rattle.log_commands.specs.declared.ending.Ended.{Ended}
-use Rattle.log_commands.specs.declared.finding.FindFault.TheVariants.{LogFault}
-use Rattle.log_commands.specs.declared.words.Call.TheVariants.{Show}
-use Rattle.log_commands.proofs.Causes.{rises_for, rises_ok, rose_later}
-use Rattle.log_commands.proofs.CallEnds.{reaches_cut, reaches_shown, reaches_unread}
+use Rattle.std.{specs.Prelude.{is_err}, proofs.Common.{◌∙◌, Err, Some, ap, refl, subst, sym}}
+use Rattle.log_commands.specs.{BeforeLastLine.{CallReachesLine}, Endings.{status_of, unread_end}}
+use Rattle.log_commands.specs.{Common.{Ended, IsAsHeld, Rose, Show}, declared.finding.FindFault.TheVariants.{LogFault}}
+use Rattle.log_commands.proofs.{CallEnds.{reaches_cut, reaches_shown, reaches_unread}, NewestFound.{same_fault}}
+use Rattle.log_commands.proofs.{Causes.{rises_for, rises_ok, rose_later}, LastLines.{search_keeps, search_read}}
 use Rattle.log_commands.proofs.Counted.{found_shown}
 use Rattle.log_commands.proofs.EndCases.{found_same, unread_board, unread_no_read, unread_shows, unread_sync}
-use Rattle.log_commands.proofs.Finishing.{search_keeps, search_read}
-use Rattle.log_commands.proofs.NewestFound.{same_fault}
 use Rattle.log_commands.proofs.top.show.Given as given
 use Rattle.log_commands.proofs.top.show.Goals as goal
 

@@ -1,5 +1,5 @@
 use Rattle.std.proofs.Common.{◌∙◌, string_bytes}
-use Rattle.log_commands.proofs.Wording.{call-two}
+use Rattle.log_commands.proofs.WordPairs.{call-two}
 use Rattle.log_commands.proofs.words.call_in.Goals as goal
 
 pub returns-in-len2 : goal.returns-in-len2

@@ -1,7 +1,6 @@
-use Rattle.std.proofs.Common.{ap, ◌∙◌, List}
-use Rattle.memory_devices.specs.Calls.{CallOutcome, after_all}
+use Rattle.std.proofs.Common.{◌∙◌, List, ap}
+use Rattle.memory_devices.{specs.Calls.{CallOutcome, after_all}, proofs.OneMoreCall.{after_pushed}}
 use Rattle.memory_devices.specs.Requests.{call_of}
-use Rattle.memory_devices.proofs.OneMoreCall.{after_pushed}
 use Rattle.memory_devices.proofs.memory_state.add_call.Goals as goal
 
 pub returns-clause-leaves : goal.returns-clause-leaves

@@ -1,7 +1,5 @@
-use Rattle.std.proofs.Common.{◌≡◌, ◌∙◌, List, ℕ, false, get_or, length, ap, sym}
-use Rattle.memory_devices.specs.Calls.{CallOutcome, Contents, Sync, after}
-use Rattle.memory_devices.specs.Replays.{AreLeftOf}
-use Rattle.memory_devices.specs.Requests.{call_of}
+use Rattle.std.proofs.Common.{ℕ, ◌∙◌, ◌≡◌, List, ap, false, get_or, length, sym}
+use Rattle.memory_devices.specs.{Calls.{CallOutcome, Contents, Sync, after}, Replays.{AreLeftOf}, Requests.{call_of}}
 use Rattle.memory_devices.proofs.replay.pass.Goals as goal
 
 -- after a good sync nothing is in flight

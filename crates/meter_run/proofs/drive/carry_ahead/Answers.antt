@@ -1,12 +1,8 @@
-use Rattle.std.proofs.Common.{◌∙◌, All, List, [], ◌++◌, Some, ap, flat_map, subst, sym}
-use Rattle.drive_text.specs.Ranges.{IsRunInRange}
-use Rattle.drive_text.specs.Runs.{run_events}
-use Rattle.drive_text.specs.declared.run.Run.{Run}
-use Rattle.meter_run.specs.Drives.{IsBounded}
-use Rattle.meter_run.proofs.Driving.{answer_of_call, none_not_some, smaller, some_ahead, some_not_none, way_breaks}
-use Rattle.meter_run.proofs.Driving.{way_more, way_none, way_stops, way_through}
-use Rattle.meter_run.proofs.Ended.{not_told}
-use Rattle.meter_run.proofs.Going.{counts_more, no_more, not_ok, not_this, on_err, went_well, went_wrong, true_is}
+use Rattle.std.proofs.Common.{[], ◌++◌, ◌∙◌, All, List, Some, ap, flat_map, subst, sym}
+use Rattle.meter_run.specs.{Common.{IsRunInRange, Run, run_events}, Drives.{IsBounded}}
+use Rattle.meter_run.proofs.EventLists.{counts_more, no_more, not_ok, not_this, on_err, true_is, went_well, went_wrong}
+use Rattle.meter_run.proofs.{RunEnds.{not_told}, WholeDrive.{way_more, way_none, way_stops, way_through}}
+use Rattle.meter_run.proofs.WholeDrive.{answer_of_call, none_not_some, smaller, some_ahead, some_not_none, way_breaks}
 use Rattle.meter_run.proofs.drive.carry_ahead.Goals as goal
 
 pub ahead-init : goal.ahead-init

@@ -1,9 +1,7 @@
-use Rattle.std.proofs.Common.{◌∙◌, ◌++◌, inr, Ok, List, ap, refl, sym}
-use Rattle.outside.proofs.Laws.{may_rise_behind, may_rise_more}
-use Rattle.taxi_units.specs.declared.event.Event.{Event}
-use Rattle.meter_run.proofs.Driving.{breaks_told, fewer, none_not_some, takes_told, up_to_more, up_to_none}
-use Rattle.meter_run.proofs.Going.{counts_more, no_more, not_ok, not_this, on_err, went_wrong}
-use Rattle.meter_run.proofs.Going.{true_is}
+use Rattle.std.proofs.Common.{◌++◌, ◌∙◌, List, Ok, ap, inr, refl, sym}
+use Rattle.{outside.proofs.Laws.{may_rise_behind, may_rise_more}, meter_run.specs.Common.{Event}}
+use Rattle.meter_run.proofs.EventLists.{counts_more, no_more, not_ok, not_this, on_err, true_is, went_wrong}
+use Rattle.meter_run.proofs.WholeDrive.{breaks_told, fewer, none_not_some, takes_told, up_to_more, up_to_none}
 use Rattle.meter_run.proofs.drive.carry_drive.Goals as goal
 
 pub loop-stop-init : goal.loop-stop-init

@@ -1,5 +1,5 @@
-use Rattle.std.proofs.Common.{◌≡◌, ◌≢◌, ℕ}
-use Rattle.meter_run.proofs.Driving.{IsUpTo}
+use Rattle.std.proofs.Common.{ℕ, ◌≡◌, ◌≢◌}
+use Rattle.meter_run.proofs.WholeDrive.{IsUpTo}
 use Rattle.meter_run.proofs.drive.carry_drive.Given as goal
 
 -- so far all bytes that were taken of the drive were given, and their events were carried out

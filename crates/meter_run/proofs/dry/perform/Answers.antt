@@ -1,9 +1,7 @@
-use Rattle.std.proofs.Common.{◌∙◌, sym, ap, subst}
-use Rattle.outside.proofs.Laws.{keeps_none}
-use Rattle.meter_run.specs.Commits.{IsFor, after_act}
+use Rattle.std.proofs.Common.{◌∙◌, ap, subst, sym}
+use Rattle.{outside.proofs.Laws.{keeps_none}, meter_run.proofs.CarriedActs.{begins_as, silent, silent_begins, whole_as}}
+use Rattle.meter_run.{specs.Commits.{IsFor, after_act}, proofs.EventLists.{no_more, one_more, went_well}}
 use Rattle.meter_run.specs.Texts.{shown_text}
-use Rattle.meter_run.proofs.Going.{no_more, one_more, went_well}
-use Rattle.meter_run.proofs.Performing.{begins_as, silent, silent_begins, whole_as}
 use Rattle.meter_run.proofs.dry.perform.Goals as goal
 
 pub print_display-requires : goal.print_display-requires

@@ -1,11 +1,7 @@
-use Rattle.std.proofs.Common.{◌++◌, List, ap, arith, refl, sym, ◌∙◌}
-use Rattle.std.proofs.lemmas.List.{append-nil, take_all}
-use Rattle.outside.proofs.Laws.{keeps_none, keeps_then}
-use Rattle.meter_model.specs.declared.act.Act.{Act}
-use Rattle.meter_run.specs.Commits.{after_acts}
-use Rattle.meter_run.specs.Texts.{shown_texts}
-use Rattle.meter_run.proofs.Going.{not_ok, went_well, went_wrong, true_is}
-use Rattle.meter_run.proofs.Performing.{are_after, are_at, after_more, begins_at, begins_end, printed_more}
+use Rattle.std.proofs.{Common.{◌++◌, ◌∙◌, List, ap, arith, refl, sym}, lemmas.List.{append-nil, take_all}}
+use Rattle.{outside.proofs.Laws.{keeps_none, keeps_then}, meter_run.specs.{Common.{Act}, Texts.{shown_texts}}}
+use Rattle.meter_run.{specs.Commits.{after_acts}, proofs.EventLists.{not_ok, true_is, went_well, went_wrong}}
+use Rattle.meter_run.proofs.CarriedActs.{after_more, are_after, are_at, begins_at, begins_end, printed_more}
 use Rattle.meter_run.proofs.dry.perform_all.Goals as goal
 
 pub perform-requires : goal.perform-requires

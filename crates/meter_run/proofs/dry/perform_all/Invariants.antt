@@ -1,7 +1,5 @@
-use Rattle.std.proofs.Common.{◌≡◌, ◌≤◌, ◌+◌, ◌++◌, take, drop}
-use Rattle.outside.specs.Runs.{KeepsStore}
-use Rattle.meter_run.specs.Commits.{AreFor, after_acts}
-use Rattle.meter_run.specs.Texts.{shown_texts}
+use Rattle.std.proofs.Common.{◌++◌, ◌+◌, ◌≡◌, ◌≤◌, drop, take}
+use Rattle.meter_run.specs.{Commits.{AreFor, after_acts}, Common.{KeepsStore}, Texts.{shown_texts}}
 use Rattle.meter_run.proofs.dry.perform_all.Given as goal
 
 abbrev pub invariant-loop-act : goal.invariant-loop-act

@@ -1,10 +1,6 @@
-use Rattle.std.proofs.Common.{◌∙◌, sym, subst}
-use Rattle.taxi_units.specs.declared.event.Event.{Event}
-use Rattle.meter_states.specs.Core.{Meets}
-use Rattle.meter_states.specs.Lawful.{IsTimely}
-use Rattle.meter_model.specs.Step.{step}
-use Rattle.meter_run.proofs.Dropping.{came}
-use Rattle.meter_run.proofs.Happening.{lawful_beside}
+use Rattle.std.proofs.Common.{◌∙◌, subst, sym}
+use Rattle.meter_run.{specs.Common.{Event, IsTimely, Meets, step}, proofs.EventOnStore.{lawful_beside}}
+use Rattle.meter_run.proofs.SupplyDrop.{came}
 use Rattle.meter_run.proofs.dry.step_or_resume.Goals as goal
 
 pub resume-powered-requires : goal.resume-powered-requires
@@ -25,7 +21,7 @@ pub returns-in-Some-clause-meets : goal.returns-in-Some-clause-meets
 returns-in-Some-clause-meets g c = λ s m is stands.
     let core = c.resume-powered.result.0 in
     let acts = c.resume-powered.result.1.items in
-    subst (λ (event : Event). Meets s core.plain acts (step s event m)) (sym c.in-Some.ensures.comes.0)
+    subst (λ (event : Event). Meets s core.state acts (step s event m)) (sym c.in-Some.ensures.comes.0)
     (came s c.in-Some.second c.args.core.now core c.args.durable.now acts c.in-Some.ensures.comes.1
     (λ n at saved. c.resume-powered.ensures.meets s n is at saved) m stands)
 

@@ -1,10 +1,6 @@
-use Rattle.std.proofs.Common.{◌∷◌, [], arith, refl}
-use Rattle.std.proofs.lemmas.Result.{on_ok_weaker}
-use Rattle.outside.proofs.Laws.{keeps_none}
-use Rattle.taxi_units.specs.declared.event.Event.TheVariants.{Down}
-use Rattle.meter_run.proofs.Dropping.{ends_off, ends_on, ends_some, event_store, off_some}
-use Rattle.meter_run.proofs.Ended.{not_told}
-use Rattle.meter_run.proofs.Going.{no_more, went_well}
+use Rattle.std.proofs.{Common.{[], ◌∷◌, arith, refl}, lemmas.Result.{on_ok_weaker}}
+use Rattle.{outside.proofs.Laws.{keeps_none}, meter_run.proofs.{EventLists.{no_more, went_well}, RunEnds.{not_told}}}
+use Rattle.meter_run.{specs.Common.{Down}, proofs.SupplyDrop.{ends_off, ends_on, ends_some, event_store, off_some}}
 use Rattle.meter_run.proofs.dry_drive.drop_at_end.Goals as goal
 
 pub returns-clause-whole : goal.returns-clause-whole

@@ -1,9 +1,7 @@
-use Rattle.std.proofs.Common.{◌∙◌, inr, arith, refl, length}
-use Rattle.outside.proofs.Laws.{may_rise_more, rises_by, rises_not, rose_behind, keeps_then}
-use Rattle.drive_text.specs.Drive.{events_in}
-use Rattle.meter_run.proofs.Going.{true_is}
-use Rattle.meter_run.proofs.Dropping.{end_begun, ready_first, run_begun, whole_printed}
-use Rattle.meter_run.proofs.Ended.{board_only, no_board_fault, read_failed, breaks, ends}
+use Rattle.std.proofs.Common.{◌∙◌, arith, inr, length, refl}
+use Rattle.outside.proofs.Laws.{keeps_then, may_rise_more, rises_by, rises_not, rose_behind}
+use Rattle.meter_run.{specs.Common.{events_in}, proofs.SupplyDrop.{end_begun, ready_first, run_begun, whole_printed}}
+use Rattle.meter_run.proofs.{EventLists.{true_is}, RunEnds.{board_only, breaks, ends, no_board_fault, read_failed}}
 use Rattle.meter_run.proofs.Supplies.{drop_bounded, dry_off}
 use Rattle.meter_run.proofs.dry_drive.dry_run.Goals as goal
 

@@ -1,6 +1,6 @@
 use Rattle.meter_run.specs.StoreLaws.{has_settled}
-use Rattle.meter_run.proofs.Going.{no_more, not_ok, went_well, went_wrong, true_is}
-use Rattle.meter_run.proofs.Happening.{amid_scan, blank_attempted, found_attempted, found_same, never_found}
+use Rattle.meter_run.proofs.EventLists.{no_more, not_ok, true_is, went_well, went_wrong}
+use Rattle.meter_run.proofs.EventOnStore.{amid_scan, blank_attempted, found_attempted, found_same, never_found}
 use Rattle.meter_run.proofs.on_store.power_up.Goals as goal
 
 pub returns-in_err-read_store-clause-attempts : goal.returns-in_err-read_store-clause-attempts

@@ -1,7 +1,5 @@
-use Rattle.std.proofs.Common.{◌≤◌, ◌<◌, List, ℕ, ap, arith, length, subst, sym}
-use Rattle.receipt_text.specs.Texts.{display_text}
-use Rattle.meter_run.specs.Printing.{PrintsText}
-use Rattle.meter_run.proofs.Lines.{display_some, has_text}
+use Rattle.std.proofs.Common.{ℕ, ◌<◌, ◌≤◌, List, ap, arith, length, subst, sym}
+use Rattle.meter_run.{specs.{Common.{display_text}, PrintedText.{PrintsText}}, proofs.Lines.{display_some, has_text}}
 use Rattle.meter_run.proofs.printing.print_display.Goals as goal
 
 pub unwrap-requires : goal.unwrap-requires

@@ -1,8 +1,6 @@
-use Rattle.std.proofs.Common.{◌≤◌, ◌<◌, List, ℕ, ap, arith, length, subst, sym}
-use Rattle.receipt_text.specs.Receipts.{receipt_text}
-use Rattle.receipt_text.specs.SealParts.{part_of_seal}
-use Rattle.meter_run.specs.Printing.{PrintsText}
-use Rattle.meter_run.proofs.Lines.{has_text, receipt_few, receipt_some}
+use Rattle.std.proofs.Common.{ℕ, ◌<◌, ◌≤◌, List, ap, arith, length, subst, sym}
+use Rattle.{receipt_text.specs.Receipts.{receipt_text}, meter_run.proofs.Lines.{has_text, receipt_few, receipt_some}}
+use Rattle.meter_run.specs.{Common.{part_of_seal}, PrintedText.{PrintsText}}
 use Rattle.meter_run.proofs.printing.print_receipt.Goals as goal
 
 pub put_receipt-requires-clause-receipt : goal.put_receipt-requires-clause-receipt

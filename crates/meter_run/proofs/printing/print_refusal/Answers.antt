@@ -1,7 +1,5 @@
-use Rattle.std.proofs.Common.{◌≤◌, ◌<◌, List, ℕ, ap, arith, length, subst, sym}
-use Rattle.receipt_text.specs.Texts.{refusal_text}
-use Rattle.meter_run.specs.Printing.{PrintsText}
-use Rattle.meter_run.proofs.Lines.{has_text, refusal_some}
+use Rattle.std.proofs.Common.{ℕ, ◌<◌, ◌≤◌, List, ap, arith, length, subst, sym}
+use Rattle.meter_run.{specs.{Common.{refusal_text}, PrintedText.{PrintsText}}, proofs.Lines.{has_text, refusal_some}}
 use Rattle.meter_run.proofs.printing.print_refusal.Goals as goal
 
 pub unwrap-requires : goal.unwrap-requires

@@ -1,16 +1,9 @@
-use Rattle.std.proofs.Common.{ℕ, ◌+◌, ◌≤◌, Err, None, ap, arith, subst, sym, true, false, ◌≡◌}
-use Rattle.std.specs.Option.{ForSome}
-use Rattle.meter_states.specs.Fits.{Fits}
-use Rattle.slot_store.specs.Scan.{IsAsFound, IsValidFinding}
-use Rattle.slot_store.specs.declared.found.Found.{Found}
-use Rattle.totals_record.specs.Ranges.{IsDurable}
-use Rattle.totals_record.specs.Reading.{reads}
-use Rattle.meter_store.specs.Stored.{HoldsState, state_number_of}
-use Rattle.totals_record.specs.declared.durable_state.Durable.{Durable}
-use Rattle.meter_run.specs.declared.stored.Known.{Known}
-use Rattle.meter_run.proofs.Finding.{answers, bad_body, found_is, no_fault, not_blank, same_number}
-use Rattle.meter_run.proofs.Going.{went_well}
-use Rattle.meter_run.proofs.Leaves.{beside_scan, scan_point}
+use Rattle.std.{specs.Option.{ForSome}, proofs.Common.{ℕ, ◌+◌, ◌≡◌, ◌≤◌, Err, None, ap, arith, false, subst, sym, true}}
+use Rattle.slot_store.specs.{Scan.{IsAsFound, IsValidFinding}, declared.found.Found.{Found}}
+use Rattle.{totals_record.specs.Reading.{reads}, meter_run.proofs.BoardDeeds.{beside_scan, scan_point}}
+use Rattle.meter_run.specs.Common.{Durable, Fits, HoldsState, IsDurable, Known, state_number_of}
+use Rattle.meter_run.proofs.EventLists.{went_well}
+use Rattle.meter_run.proofs.SettledScans.{answers, bad_body, found_is, no_fault, not_blank, same_number}
 use Rattle.meter_run.proofs.reading.read_store.Goals as goal
 
 nothing_found : (P : Known → Type 0) → ForSome None P

@@ -1,5 +1,5 @@
-use Rattle.std.proofs.lemmas.Result.{on_ok_weaker, on_err_weaker}
-use Rattle.meter_run.proofs.Going.{interval_carried, interval_broken, pulses_broken, on_err}
+use Rattle.std.proofs.lemmas.Result.{on_err_weaker, on_ok_weaker}
+use Rattle.meter_run.proofs.EventLists.{interval_broken, interval_carried, on_err, pulses_broken}
 use Rattle.meter_run.proofs.runs.carry_interval.Goals as goal
 
 pub returns-clause-carried : goal.returns-clause-carried

@@ -1,9 +1,7 @@
-use Rattle.std.proofs.Common.{◌≡◌, ℕ, ◌+◌, subst, arith}
-use Rattle.drive_text.specs.Runs.{intervals_events}
-use Rattle.meter_run.specs.Drives.{IsBounded}
-use Rattle.meter_run.proofs.Going.{intervals_carried, intervals_broken, intervals_further, bounded_at_interval}
-use Rattle.meter_run.proofs.Going.{bounded_further, counts_more, no_more, not_ok, on_err, went_well, went_wrong}
-use Rattle.meter_run.proofs.Going.{true_is}
+use Rattle.std.proofs.Common.{ℕ, ◌+◌, ◌≡◌, arith, subst}
+use Rattle.meter_run.{specs.{Common.{intervals_events}, Drives.{IsBounded}}, proofs.EventLists.{went_well, went_wrong}}
+use Rattle.meter_run.proofs.EventLists.{bounded_at_interval, bounded_further, counts_more, intervals_broken}
+use Rattle.meter_run.proofs.EventLists.{intervals_carried, intervals_further, no_more, not_ok, on_err, true_is}
 use Rattle.meter_run.proofs.runs.carry_intervals.Goals as goal
 
 pub carry_equal-done-requires : goal.carry_equal-done-requires

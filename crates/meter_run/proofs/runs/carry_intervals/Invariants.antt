@@ -1,6 +1,5 @@
-use Rattle.std.proofs.Common.{◌-◌, ◌≤◌, ◌≡◌}
-use Rattle.drive_text.specs.Runs.{intervals_events}
-use Rattle.meter_run.specs.Drives.{IsBounded}
+use Rattle.std.proofs.Common.{◌-◌, ◌≡◌, ◌≤◌}
+use Rattle.meter_run.specs.{Common.{intervals_events}, Drives.{IsBounded}}
 use Rattle.meter_run.proofs.runs.carry_intervals.Given as goal
 
 abbrev pub invariant-loop-done : goal.invariant-loop-done

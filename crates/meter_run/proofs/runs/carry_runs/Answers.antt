@@ -1,10 +1,7 @@
-use Rattle.std.proofs.Common.{List, arith, flat_map, subst}
-use Rattle.std.proofs.lemmas.List.{take_all}
-use Rattle.drive_text.specs.Runs.{run_events}
-use Rattle.drive_text.specs.declared.run.Run.{Run}
+use Rattle.std.proofs.{Common.{List, arith, flat_map, subst}, lemmas.List.{take_all}}
+use Rattle.meter_run.{specs.Common.{Run, run_events}, proofs.EventLists.{runs_carried, true_is, went_well, went_wrong}}
 use Rattle.meter_run.specs.Drives.{IsBounded}
-use Rattle.meter_run.proofs.Going.{runs_carried, runs_broken, bounded_run, bounded_at_run, counts_more, no_more, not_ok}
-use Rattle.meter_run.proofs.Going.{on_err, went_well, went_wrong, true_is}
+use Rattle.meter_run.proofs.EventLists.{bounded_at_run, bounded_run, counts_more, no_more, not_ok, on_err, runs_broken}
 use Rattle.meter_run.proofs.runs.carry_runs.Goals as goal
 
 pub loop-run-preserved : goal.loop-run-preserved

@@ -1,7 +1,5 @@
-use Rattle.std.proofs.Common.{take, ◌≡◌}
-use Rattle.std.specs.List.{flat_map}
-use Rattle.drive_text.specs.Runs.{run_events}
-use Rattle.meter_run.specs.Drives.{IsBounded}
+use Rattle.std.{specs.List.{flat_map}, proofs.Common.{◌≡◌, take}}
+use Rattle.meter_run.specs.{Common.{run_events}, Drives.{IsBounded}}
 use Rattle.meter_run.proofs.runs.carry_runs.Given as goal
 
 abbrev pub invariant-loop-run : goal.invariant-loop-run

@@ -1,10 +1,6 @@
-use Rattle.std.proofs.Common.{◌∷◌, [], refl}
-use Rattle.std.proofs.lemmas.Result.{on_ok_weaker}
-use Rattle.taxi_units.specs.declared.event.Event.TheVariants.{Down}
-use Rattle.meter_model.specs.Run.{ended}
-use Rattle.meter_run.proofs.Ended.{not_told}
-use Rattle.meter_run.proofs.Happening.{carried_one, stopped_one}
-use Rattle.meter_run.proofs.Whole.{amid_either, amid_of, ends_amid, ends_off, ends_on}
+use Rattle.std.proofs.{Common.{[], ◌∷◌, refl}, lemmas.Result.{on_ok_weaker}}
+use Rattle.meter_run.{specs.Common.{Down, ended}, proofs.WholeRun.{amid_either, amid_of, ends_amid, ends_off, ends_on}}
+use Rattle.meter_run.proofs.{EventOnStore.{carried_one, stopped_one}, RunEnds.{not_told}}
 use Rattle.meter_run.proofs.store_drive.drop_at_end.Goals as goal
 
 pub returns-then-is_off-clause-carried : goal.returns-then-is_off-clause-carried

@@ -1,11 +1,8 @@
-use Rattle.std.proofs.Common.{◌∙◌, inr, Ok, ap, arith, refl, false, length}
+use Rattle.std.proofs.Common.{◌∙◌, Ok, ap, arith, false, inr, length, refl}
 use Rattle.outside.proofs.Laws.{may_rise_more, rises_by, rises_not, rose_behind}
-use Rattle.meter_run.specs.StoreLaws.{beside_then}
-use Rattle.meter_run.proofs.Going.{true_is}
-use Rattle.meter_run.proofs.Ended.{board_only, no_board_fault, read_failed}
-use Rattle.drive_text.specs.Drive.{events_in}
-use Rattle.meter_run.proofs.Supplies.{drop_bounded}
-use Rattle.meter_run.proofs.Whole.{done_whole, ran_amid, ran_to_end, ran_whole, ready_new, secured_of}
+use Rattle.meter_run.{specs.{Common.{events_in}, StoreLaws.{beside_then}}, proofs.EventLists.{true_is}}
+use Rattle.meter_run.proofs.{RunEnds.{board_only, no_board_fault, read_failed}, Supplies.{drop_bounded}}
+use Rattle.meter_run.proofs.WholeRun.{done_whole, ran_amid, ran_to_end, ran_whole, ready_new, secured_of}
 use Rattle.meter_run.proofs.store_drive.run_events.Goals as goal
 
 pub carry_drive-requires : goal.carry_drive-requires

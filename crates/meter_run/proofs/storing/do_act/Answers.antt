@@ -1,17 +1,9 @@
-use Rattle.std.proofs.Common.{[], ◌∷◌, All, ap, subst, sym, refl}
-use Rattle.std.proofs.lemmas.List.Elements.{All-head}
-use Rattle.receipt_text.specs.Receipts.{receipt_text}
-use Rattle.receipt_text.specs.SealParts.{part_of_seal}
-use Rattle.receipt_text.specs.Texts.{display_text, refusal_text}
-use Rattle.meter_states.specs.Acts.{IsLawfulAct}
-use Rattle.meter_model.specs.declared.act.Act.{Act}
-use Rattle.meter_model.specs.declared.act.Act.TheVariants.{Enter, Hold}
-use Rattle.meter_run.specs.Commits.{after_act, IsFor}
-use Rattle.meter_run.specs.Deeds.{Does, act_text}
-use Rattle.meter_run.proofs.Committing.{fits_after}
-use Rattle.meter_run.proofs.Going.{on_ok}
-use Rattle.meter_run.proofs.Leaves.{agrees_kept, beside_kept, print_point}
-use Rattle.meter_run.proofs.Doing.{commit_steps, leaves_as, print_steps, prints_as, prints_none}
+use Rattle.std.proofs.{Common.{[], ◌∷◌, All, ap, refl, subst, sym}, lemmas.List.Elements.{All-head}}
+use Rattle.{receipt_text.specs.Receipts.{receipt_text}, meter_run.specs.Commits.{IsFor, after_act}}
+use Rattle.meter_run.specs.Common.{Act, Enter, Hold, IsLawfulAct, display_text, part_of_seal, refusal_text}
+use Rattle.meter_run.{specs.Deeds.{Does, act_text}, proofs.EventLists.{on_ok}}
+use Rattle.meter_run.proofs.ActsOnStore.{commit_steps, leaves_as, print_steps, prints_as, prints_none}
+use Rattle.meter_run.proofs.{BoardDeeds.{agrees_kept, beside_kept, print_point}, CommittedStates.{fits_after}}
 use Rattle.meter_run.proofs.storing.do_act.Goals as goal
 
 pub returns-in-Show-clause-agrees : goal.returns-in-Show-clause-agrees

@@ -1,13 +1,8 @@
-use Rattle.std.proofs.Common.{◌+◌, ◌++◌, ◌∙◌, List, ap, arith, refl, sym}
-use Rattle.std.proofs.lemmas.List.{append-nil, take_all}
-use Rattle.meter_model.specs.declared.act.Act.{Act}
-use Rattle.meter_run.specs.Commits.{after_acts}
-use Rattle.meter_run.specs.Deeds.{deeds_of, texts}
-use Rattle.meter_run.specs.StoreLaws.{beside_none, beside_then}
-use Rattle.meter_run.specs.PointLaws.{keeps_still}
-use Rattle.meter_run.proofs.Doing.{may_at, points_more, points_whole, steps_more, steps_whole, text_more}
-use Rattle.meter_run.proofs.Going.{counts_more, not_ok, went_well, went_wrong, true_is}
-use Rattle.meter_run.proofs.Performing.{are_after, are_at, after_more}
+use Rattle.std.proofs.{Common.{◌++◌, ◌+◌, ◌∙◌, List, ap, arith, refl, sym}, lemmas.List.{append-nil, take_all}}
+use Rattle.meter_run.specs.{Commits.{after_acts}, Common.{Act}, Deeds.{deeds_of, texts}, PointLaws.{keeps_still}}
+use Rattle.meter_run.{specs.StoreLaws.{beside_none, beside_then}, proofs.CarriedActs.{after_more, are_after, are_at}}
+use Rattle.meter_run.proofs.ActsOnStore.{may_at, points_more, points_whole, steps_more, steps_whole, text_more}
+use Rattle.meter_run.proofs.EventLists.{counts_more, not_ok, true_is, went_well, went_wrong}
 use Rattle.meter_run.proofs.storing.do_acts.Goals as goal
 
 pub do_act-requires-clause-act : goal.do_act-requires-clause-act

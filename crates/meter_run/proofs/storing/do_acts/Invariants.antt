@@ -1,9 +1,6 @@
-use Rattle.std.proofs.Common.{◌≡◌, ◌≤◌, ◌+◌, ◌*◌, ◌++◌, take, drop}
-use Rattle.tariff_compile.specs.Tables.{TableParts}
-use Rattle.meter_run.specs.Commits.{AreFor, after_acts, commits_in}
-use Rattle.meter_run.specs.Deeds.{deeds_of, texts}
-use Rattle.meter_run.specs.OnStore.{Agrees, MayDo, WritesTotals}
-use Rattle.meter_run.specs.Points.{GoesBy}
+use Rattle.std.proofs.Common.{◌*◌, ◌++◌, ◌+◌, ◌≡◌, ◌≤◌, drop, take}
+use Rattle.meter_run.specs.{Commits.{AreFor, after_acts, commits_in}, OnStore.{Agrees, MayDo, WritesTotals}}
+use Rattle.meter_run.specs.{Common.{TableParts}, Deeds.{deeds_of, texts}, Points.{GoesBy}}
 use Rattle.meter_run.proofs.storing.do_acts.Given as goal
 
 -- so far the first acts were carried out

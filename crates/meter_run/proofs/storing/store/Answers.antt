@@ -1,9 +1,5 @@
-use Rattle.std.proofs.Common.{subst, sym}
-use Rattle.std.specs.Option.{ForSome}
-use Rattle.meter_states.specs.Fits.{Fits}
-use Rattle.totals_record.specs.States.{after}
-use Rattle.totals_record.specs.declared.durable_state.Durable.{Durable}
-use Rattle.meter_run.proofs.Leaves.{beside_commit, commit_point}
+use Rattle.std.{specs.Option.{ForSome}, proofs.Common.{subst, sym}}
+use Rattle.meter_run.{specs.Common.{Durable, Fits, after}, proofs.BoardDeeds.{beside_commit, commit_point}}
 use Rattle.meter_run.proofs.storing.store.Goals as goal
 
 pub returns-in-Ok-clause-agrees : goal.returns-in-Ok-clause-agrees

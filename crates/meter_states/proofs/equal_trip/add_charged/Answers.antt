@@ -1,6 +1,5 @@
-use Rattle.std.proofs.Common.{◌+◌, ◌*◌, ◌<◌, ◌≤◌, arith, rules}
-use Rattle.taxi_units.specs.Money.{largest_amount}
-use Rattle.meter_states.proofs.EqualIntervals.{unfilled-below}
+use Rattle.std.proofs.Common.{◌*◌, ◌+◌, ◌<◌, ◌≤◌, arith, rules}
+use Rattle.meter_states.{specs.Common.{largest_amount}, proofs.EqualIntervals.{unfilled-below}}
 use Rattle.meter_states.proofs.equal_trip.add_charged.Goals as goal
 
 pub returns-clause-range : goal.returns-clause-range

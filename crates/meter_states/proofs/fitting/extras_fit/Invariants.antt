@@ -1,6 +1,5 @@
-use Rattle.std.proofs.Common.{◌↔◌, ◌≤◌, ◌+◌, drop}
-use Rattle.meter_states.specs.Supplements.{supplement_in}
-use Rattle.meter_states.proofs.Amounts.{AddUp}
+use Rattle.std.proofs.Common.{◌+◌, ◌↔◌, ◌≤◌, drop}
+use Rattle.meter_states.{specs.Supplements.{supplement_in}, proofs.Amounts.{AddUp}}
 use Rattle.meter_states.proofs.fitting.extras_fit.Given as goal
 
 abbrev pub invariant-loop-place : goal.invariant-loop-place

@@ -1,5 +1,4 @@
-use Rattle.std.proofs.Common.{arith}
-use Rattle.std.proofs.lemmas.Grind.{common_steps}
+use Rattle.std.proofs.{Common.{arith}, lemmas.Grind.{common_steps}}
 use Rattle.meter_states.proofs.fitting.fits.Goals as goal
 
 pub returns-then-trip-measure-clause-value : goal.returns-then-trip-measure-clause-value

@@ -1,7 +1,5 @@
-use Rattle.std.proofs.Common.{ℕ, ◌*◌, ◌≤◌, arith}
-use Rattle.std.proofs.Math.Nat.{mul-le-mul_left}
-use Rattle.drive_modes.proofs.Laws.{millimetres-most}
-use Rattle.drive_modes.specs.Distance.{millimetres_of}
+use Rattle.std.proofs.{Common.{ℕ, ◌*◌, ◌≤◌, arith}, Math.Nat.{mul-le-mul_left}}
+use Rattle.drive_modes.{specs.Distance.{millimetres_of}, proofs.Laws.{millimetres-most}}
 use Rattle.meter_states.proofs.lookups.distance.Goals as goal
 
 at-most : (k p : ℕ) → 500 ≤ k → millimetres_of k p ≤ 2000 * p

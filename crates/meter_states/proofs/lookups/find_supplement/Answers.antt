@@ -1,7 +1,5 @@
-use Rattle.std.proofs.Common.{◌≤◌, ◌∙◌, Option, ap, sym, subst}
-use Rattle.tariff_check.specs.SoundTariff.{SoundTariff, supplement_numbered}
-use Rattle.tariff_check.specs.declared.values.Supplement.{Supplement}
-use Rattle.meter_model.specs.Supplements.{amount_in, most_in}
+use Rattle.std.proofs.Common.{◌∙◌, ◌≤◌, Option, ap, subst, sym}
+use Rattle.meter_states.specs.Common.{SoundTariff, Supplement, amount_in, most_in, supplement_numbered}
 use Rattle.meter_states.proofs.TableSupplements.{bounded, supplement-in, supplement-number}
 use Rattle.meter_states.proofs.lookups.find_supplement.Goals as goal
 

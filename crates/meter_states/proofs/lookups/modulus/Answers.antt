@@ -1,5 +1,4 @@
-use Rattle.std.proofs.Common.{ℕ, ◌*◌, ◌^◌, ap, ◌∙◌, arith}
-use Rattle.std.proofs.lemmas.Nat.{mul-le}
+use Rattle.std.proofs.{Common.{ℕ, ◌*◌, ◌^◌, ◌∙◌, ap, arith}, lemmas.Nat.{mul-le}}
 use Rattle.meter_states.proofs.Settings.{modulus-is, product-some}
 use Rattle.meter_states.proofs.lookups.modulus.Goals as goal
 

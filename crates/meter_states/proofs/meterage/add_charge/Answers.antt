@@ -1,7 +1,5 @@
-use Rattle.std.proofs.Common.{ℕ, ap, ◌∙◌, arith, ◌+◌, ◌-◌}
-use Rattle.drive_modes.specs.declared.meterage.Meterage.{Meterage}
-use Rattle.drive_modes.specs.Fare.{added}
-use Rattle.meter_states.proofs.Meterages.{added-less, sum-added}
+use Rattle.std.proofs.Common.{ℕ, ◌+◌, ◌-◌, ◌∙◌, ap, arith}
+use Rattle.meter_states.{specs.Common.{Meterage, added}, proofs.Meterages.{added-less, sum-added}}
 use Rattle.meter_states.proofs.meterage.add_charge.Goals as goal
 
 pub returns-then-above-modulus-clause-exact : goal.returns-then-above-modulus-clause-exact

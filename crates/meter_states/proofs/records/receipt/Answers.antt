@@ -1,9 +1,7 @@
-use Rattle.std.proofs.Common.{◌≡◌, ◌+◌, ◌*◌, ◌^◌, ◌<◌, refl, ◌∙◌, max, min, arith, rules}
-use Rattle.std.proofs.Math.Nat.{mul_comm}
-use Rattle.meter_states.proofs.Settings.{decimals-is, step-is}
-use Rattle.meter_states.proofs.TableSupplements.{extras-few}
+use Rattle.std.proofs.{Common.{◌*◌, ◌+◌, ◌<◌, ◌^◌, ◌∙◌, ◌≡◌, arith, max, min, refl, rules}, Math.Nat.{mul_comm}}
+use Rattle.meter_states.specs.Common.{largest_amount}
+use Rattle.meter_states.proofs.{Settings.{decimals-is, step-is}, TableSupplements.{extras-few}}
 use Rattle.meter_states.proofs.records.receipt.Goals as goal
-use Rattle.taxi_units.specs.Money.{largest_amount}
 
 pub returns-clause-range : goal.returns-clause-range
 returns-clause-range g c =

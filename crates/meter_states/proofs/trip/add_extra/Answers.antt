@@ -1,13 +1,7 @@
-use Rattle.std.proofs.Common.{◌≡◌, ◌<◌, ℕ, ◌+◌, ◌-◌, get_or, set, length, rules, ap, sym, subst, ◌∙◌, Option, Some}
-use Rattle.std.proofs.Common.{arith}
-use Rattle.std.proofs.Math.ListN.{length-set}
-use Rattle.tariff_check.specs.SoundTariff.{supplement_numbered}
-use Rattle.tariff_check.specs.declared.values.Supplement.{Supplement}
-use Rattle.meter_states.specs.Lawful.{AreExtrasInRange}
-use Rattle.meter_model.specs.Supplements.{amount_in, most_in}
-use Rattle.meter_states.specs.Supplements.{supplement_in}
-use Rattle.meter_states.proofs.Amounts.{allowed-more, amounts-more}
-use Rattle.meter_states.proofs.TableSupplements.{supplement-of-setting}
+use Rattle.std.proofs.Common.{ℕ, ◌+◌, ◌-◌, ◌<◌, ◌∙◌, ◌≡◌, Option, Some, ap, arith, get_or, length, rules, set, subst}
+use Rattle.{std.proofs.{Common.{sym}, Math.ListN.{length-set}}, meter_states.specs.Supplements.{supplement_in}}
+use Rattle.meter_states.specs.{Common.{Supplement, amount_in, most_in, supplement_numbered}, Lawful.{AreExtrasInRange}}
+use Rattle.meter_states.proofs.{Amounts.{allowed-more, amounts-more}, TableSupplements.{supplement-of-setting}}
 use Rattle.meter_states.proofs.Trips.{extra-saved}
 use Rattle.meter_states.proofs.trip.add_extra.Goals as goal
 

@@ -1,17 +1,7 @@
-use Rattle.std.proofs.Common.{◌≡◌, ap, sym, ◌∙◌, ◌+◌, ◌*◌, ◌≤◌, ℕ, arith, rules}
-use Rattle.taxi_units.specs.Money.{largest_amount}
-use Rattle.drive_modes.specs.Charge.{charge_of}
-use Rattle.drive_modes.specs.Fare.{saved}
-use Rattle.drive_modes.specs.declared.charges.Mode.{Mode}
-use Rattle.drive_modes.specs.declared.charges.Weights.{Weights}
-use Rattle.drive_modes.specs.declared.meterage.Meterage.{Meterage}
-use Rattle.tariff_compile.specs.Tables.{weights_in_force}
-use Rattle.meter_model.specs.declared.core_trip.CoreTrip.{CoreTrip}
-use Rattle.meter_model.specs.Charge.{charge_at}
-use Rattle.meter_model.specs.Setting.{modulus_of}
-use Rattle.meter_model.specs.Trip.{charges_of, opening_of}
-use Rattle.meter_states.proofs.Charges.{charge-at, charge-most, steps-most}
-use Rattle.meter_states.proofs.Trips.{hired-saved}
+use Rattle.std.proofs.Common.{ℕ, ◌*◌, ◌+◌, ◌∙◌, ◌≡◌, ◌≤◌, ap, arith, rules, sym}
+use Rattle.meter_states.specs.Common.{CoreTrip, Meterage, Mode, Weights, charge_at, charge_of, charges_of}
+use Rattle.meter_states.specs.Common.{largest_amount, modulus_of, opening_of, saved, weights_in_force}
+use Rattle.meter_states.proofs.{Charges.{charge-at, charge-most, steps-most}, Trips.{hired-saved}}
 use Rattle.meter_states.proofs.trip.add_hired.Goals as goal
 
 pub returns-clause-saved : goal.returns-clause-saved

@@ -1,12 +1,7 @@
-use Rattle.std.proofs.Common.{◌*◌, ◌<◌, ◌≤◌, ℕ, ap, rules, subst, arith}
-use Rattle.std.proofs.Math.Nat.{mul-le-mul_right}
-use Rattle.drive_modes.specs.declared.meterage.Meterage.{Meterage}
-use Rattle.meter_states.proofs.Settings.{modulus-some, product-some}
-use Rattle.meter_states.proofs.TableSupplements.{begun-allowed, begun-amounts}
-use Rattle.meter_states.proofs.Trips.{begun-saved}
-use Rattle.meter_model.specs.Setting.{modulus_of}
+use Rattle.std.proofs.{Common.{ℕ, ◌*◌, ◌<◌, ◌≤◌, ap, arith, rules, subst}, Math.Nat.{mul-le-mul_right}}
+use Rattle.meter_states.{specs.Common.{Meterage, largest_amount, modulus_of}, proofs.Trips.{begun-saved}}
+use Rattle.meter_states.proofs.{Settings.{modulus-some, product-some}, TableSupplements.{begun-allowed, begun-amounts}}
 use Rattle.meter_states.proofs.trip.begun.Goals as goal
-use Rattle.taxi_units.specs.Money.{largest_amount}
 
 pub returns-clause-saved : goal.returns-clause-saved
 returns-clause-saved c = λ s is.

@@ -1,11 +1,6 @@
-use Rattle.std.proofs.Common.{ap, ◌∙◌}
-use Rattle.drive_modes.specs.Fare.{steps_above, steps_of}
-use Rattle.drive_modes.specs.declared.meterage.Rounding.{Rounding}
-use Rattle.meter_model.specs.declared.core_trip.CoreTrip.{CoreTrip}
-use Rattle.meter_model.specs.Setting.{modulus_of}
-use Rattle.meter_model.specs.Trip.{charges_of, opening_of}
-use Rattle.meter_states.proofs.Meterages.{steps-below, steps-few}
-use Rattle.meter_states.proofs.Settings.{modulus-above, rounding-is}
+use Rattle.std.proofs.Common.{◌∙◌, ap}
+use Rattle.meter_states.specs.Common.{CoreTrip, Rounding, charges_of, modulus_of, opening_of, steps_above, steps_of}
+use Rattle.meter_states.proofs.{Meterages.{steps-below, steps-few}, Settings.{modulus-above, rounding-is}}
 use Rattle.meter_states.proofs.trip.display_steps.Goals as goal
 
 pub steps-requires : goal.steps-requires

@@ -1,11 +1,7 @@
-use Rattle.std.proofs.Common.{ℕ, ap, ◌∙◌}
-use Rattle.drive_modes.specs.Fare.{steps_above, steps_of}
-use Rattle.drive_modes.specs.declared.meterage.Rounding.{Rounding}
-use Rattle.meter_model.specs.declared.core_trip.CoreTrip.{CoreTrip}
-use Rattle.meter_model.specs.Setting.{modulus_of}
-use Rattle.meter_model.specs.Trip.{charges_of, fare_by_fees, opening_of}
+use Rattle.std.proofs.Common.{ℕ, ◌∙◌, ap}
+use Rattle.meter_states.specs.Common.{CoreTrip, Rounding, charges_of, fare_by_fees, modulus_of, opening_of, steps_above}
+use Rattle.meter_states.{specs.Common.{steps_of}, proofs.Settings.{modulus-above, rounding-is, step-is}}
 use Rattle.meter_states.proofs.Meterages.{steps-few}
-use Rattle.meter_states.proofs.Settings.{modulus-above, rounding-is, step-is}
 use Rattle.meter_states.proofs.trip.fare.Goals as goal
 
 pub shown-requires-clause-steps : goal.shown-requires-clause-steps

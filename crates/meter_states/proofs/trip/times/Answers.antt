@@ -1,7 +1,5 @@
-use Rattle.std.proofs.Common.{◌≡◌, ℕ, ◌+◌, ◌-◌, get_or, ap, ◌∙◌, arith}
-use Rattle.meter_model.specs.declared.core_trip.CoreTrip.{CoreTrip}
-use Rattle.meter_model.specs.Supplements.{times}
-use Rattle.meter_states.proofs.Counts.{counts-at}
+use Rattle.std.proofs.Common.{ℕ, ◌+◌, ◌-◌, ◌∙◌, ◌≡◌, ap, arith, get_or}
+use Rattle.meter_states.{specs.Common.{CoreTrip, times}, proofs.Counts.{counts-at}}
 use Rattle.meter_states.proofs.trip.times.Goals as goal
 
 pub returns-clause-times : goal.returns-clause-times

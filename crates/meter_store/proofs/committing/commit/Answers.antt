@@ -1,5 +1,4 @@
-use Rattle.std.proofs.Common.{Some, arith}
-use Rattle.meter_store.proofs.Commits.{leaves_either, keeps_state, writes_other}
+use Rattle.{std.proofs.Common.{Some, arith}, meter_store.proofs.Commits.{keeps_state, leaves_either, writes_other}}
 use Rattle.meter_store.proofs.committing.commit.Goals as goal
 
 pub store-requires-clause-ready : goal.store-requires-clause-ready

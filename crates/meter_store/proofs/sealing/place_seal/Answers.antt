@@ -1,5 +1,4 @@
-use Rattle.outside.proofs.Laws.{on_failed}
-use Rattle.slot_store.proofs.Laws.{fewer_steps, steps_then}
+use Rattle.{outside.proofs.Laws.{on_failed}, slot_store.proofs.Laws.{fewer_steps, steps_then}}
 use Rattle.meter_store.proofs.Sealings.{found_after, keeps_both, keeps_found, leaves_both, leaves_first, leaves_found}
 use Rattle.meter_store.proofs.Sealings.{writes_both, writes_first}
 use Rattle.meter_store.proofs.sealing.place_seal.Goals as goal

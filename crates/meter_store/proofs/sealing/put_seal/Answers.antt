@@ -1,9 +1,5 @@
-use Rattle.std.proofs.Common.{sym, subst}
-use Rattle.slot_store.specs.declared.pair.Pair.{Pair}
-use Rattle.slot_store.specs.Slots.{IsSettled}
-use Rattle.slot_store.specs.Stages.{IsReady}
-use Rattle.seal_record.specs.Decoding.{reads, seal_number_of}
-use Rattle.outside.proofs.Laws.{on_failed}
+use Rattle.{std.proofs.Common.{subst, sym}, outside.proofs.Laws.{on_failed}}
+use Rattle.{seal_record.specs.Decoding.{reads, seal_number_of}, meter_store.specs.Common.{IsReady, IsSettled, Pair}}
 use Rattle.meter_store.proofs.Sealings.{newer_found, next_beside, put_next, ready_found}
 use Rattle.meter_store.proofs.sealing.put_seal.Goals as goal
 

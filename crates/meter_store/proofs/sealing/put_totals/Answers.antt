@@ -1,12 +1,7 @@
-use Rattle.std.proofs.Common.{None, sym, subst, ap}
-use Rattle.slot_store.specs.declared.pair.Pair.{Pair}
-use Rattle.slot_store.specs.Slots.{IsSettled}
-use Rattle.slot_store.specs.Stages.{IsReady, is_spare_open}
-use Rattle.totals_record.specs.declared.durable_state.Durable.{Durable}
-use Rattle.totals_record.specs.Reading.{reads}
+use Rattle.{std.proofs.Common.{None, ap, subst, sym}, outside.proofs.Laws.{on_failed}}
+use Rattle.{slot_store.specs.Stages.{is_spare_open}, totals_record.specs.Reading.{reads}}
+use Rattle.meter_store.{specs.Common.{Durable, IsReady, IsSettled, Pair}, proofs.Sealings.{first_beside, put_first}}
 use Rattle.meter_store.specs.Stored.{state_number_of}
-use Rattle.outside.proofs.Laws.{on_failed}
-use Rattle.meter_store.proofs.Sealings.{first_beside, put_first}
 use Rattle.meter_store.proofs.sealing.put_totals.Goals as goal
 
 pub returns-in_err-place-clause-any_moment : goal.returns-in_err-place-clause-any_moment

@@ -1,5 +1,4 @@
-use Rattle.std.proofs.Common.{sym, arith}
-use Rattle.offset_rules.proofs.Named.{early_date, found, last_date}
+use Rattle.{std.proofs.Common.{arith, sym}, offset_rules.proofs.Named.{early_date, found, last_date}}
 use Rattle.offset_rules.proofs.changes.date_of_change.Goals as goal
 
 pub returns-then-change-lt5 : goal.returns-then-change-lt5

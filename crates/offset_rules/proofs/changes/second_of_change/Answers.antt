@@ -1,5 +1,4 @@
-use Rattle.std.proofs.Common.{refl}
-use Rattle.offset_rules.specs.Changes.{second_of_change}
+use Rattle.{std.proofs.Common.{refl}, offset_rules.specs.Changes.{second_of_change}}
 use Rattle.offset_rules.proofs.changes.second_of_change.Goals as goal
 
 pub returns : goal.returns

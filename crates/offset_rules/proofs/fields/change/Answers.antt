@@ -1,6 +1,5 @@
-use Rattle.std.proofs.Common.{refl}
+use Rattle.{std.proofs.Common.{refl}, offset_rules.proofs.ReadOn.{found_then, gives_none, none_in_range, not_found}}
 use Rattle.offset_rules.specs.Reading.{change_at}
-use Rattle.offset_rules.proofs.ReadOn.{found_then, gives_none, none_in_range, not_found}
 use Rattle.offset_rules.proofs.fields.change.Goals as goal
 
 pub returns-in_err-number-clause-value : goal.returns-in_err-number-clause-value

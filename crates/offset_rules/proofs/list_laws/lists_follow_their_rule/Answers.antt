@@ -1,5 +1,4 @@
-use Rattle.offset_rules.proofs.Follows.{lists_follow}
-use Rattle.offset_rules.proofs.Lawful.{lists_are_lawful}
+use Rattle.offset_rules.proofs.{Follows.{lists_follow}, Lawful.{lists_are_lawful}}
 use Rattle.offset_rules.proofs.list_laws.lists_follow_their_rule.Goals as goal
 
 pub returns : goal.returns

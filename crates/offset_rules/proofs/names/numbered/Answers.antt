@@ -1,9 +1,6 @@
-use Rattle.std.proofs.Common.{◌≡◌, ◌∙◌, ◌+◌, ◌<◌, ℕ, List, [], ◌∷◌, Bor, Option, drop, map, get_or, length, refl, sym}
-use Rattle.std.proofs.Common.{ap, arith}
-use Rattle.std.proofs.lemmas.List.{at_drop_more}
-use Rattle.std.proofs.Math.ListN.{drop_of_length-le}
-use Rattle.offset_rules.specs.Reading.{numbered_at}
-use Rattle.offset_rules.proofs.NamesRead.{name_here, name_later}
+use Rattle.std.proofs.Common.{[], ℕ, ◌+◌, ◌<◌, ◌∙◌, ◌∷◌, ◌≡◌, Bor, List, Option, ap, arith, drop, get_or, length, map}
+use Rattle.std.proofs.{Common.{refl, sym}, Math.ListN.{drop_of_length-le}, lemmas.List.{at_drop_more}}
+use Rattle.offset_rules.{specs.Reading.{numbered_at}, proofs.NamesRead.{name_here, name_later}}
 use Rattle.offset_rules.proofs.names.numbered.Goals as goal
 
 -- what the names from a place on find at the front of a text

@@ -1,4 +1,4 @@
-use Rattle.std.proofs.Common.{◌≡◌, drop, map, ◌+◌}
+use Rattle.std.proofs.Common.{◌+◌, ◌≡◌, drop, map}
 use Rattle.offset_rules.specs.Reading.{numbered_at}
 use Rattle.offset_rules.proofs.names.numbered.Given as goal
 

@@ -1,6 +1,4 @@
-use Rattle.std.proofs.Common.{subst, sym}
-use Rattle.offset_rules.specs.RulesText.{IsReadAs}
-use Rattle.offset_rules.proofs.TextsRead.{rules_are}
+use Rattle.{std.proofs.Common.{subst, sym}, offset_rules.{specs.RulesText.{IsReadAs}, proofs.TextsRead.{rules_are}}}
 use Rattle.offset_rules.proofs.reading.read_rules.Goals as goal
 
 pub returns : goal.returns

@@ -1,5 +1,4 @@
-use Rattle.offset_rules.proofs.PlainTexts.{one_answer, rules_are_lawful}
-use Rattle.offset_rules.proofs.TextsRead.{texts_say_rules}
+use Rattle.offset_rules.proofs.{PlainTexts.{one_answer, rules_are_lawful}, TextsRead.{texts_say_rules}}
 use Rattle.offset_rules.proofs.text_laws.texts_say_rules_line_by_line.Goals as goal
 
 pub returns : goal.returns

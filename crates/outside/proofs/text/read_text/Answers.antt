@@ -1,5 +1,4 @@
-use Rattle.std.proofs.Common.{arith}
-use Rattle.std.proofs.lemmas.Grind.{common_steps}
+use Rattle.std.proofs.{Common.{arith}, lemmas.Grind.{common_steps}}
 use Rattle.outside.proofs.text.read_text.Goals as goal
 
 pub returns-in-Ok-read_whole-clause-whole : goal.returns-in-Ok-read_whole-clause-whole

@@ -1,5 +1,4 @@
-use Rattle.std.proofs.Common.{arith}
-use Rattle.std.proofs.lemmas.Grind.{common_steps, elements}
+use Rattle.std.proofs.{Common.{arith}, lemmas.Grind.{common_steps, elements}}
 use Rattle.outside.proofs.text.read_whole.Goals as goal
 
 pub returns-in_err-count-clause-failed : goal.returns-in_err-count-clause-failed

@@ -1,10 +1,7 @@
 //! A meter over a store with number 1 and no held trip.
-ghost use Rattle.std.specs.Prelude.{◌≡◌, IsTrue};
-ghost use Rattle.std.specs.Option.{ForSome};
-ghost use Rattle.tariff_compile.specs.Tables.{TableParts};
-ghost use Rattle.totals_record.specs.Ranges.{IsDurable};
-ghost use Rattle.meter_states.specs.Fits.{Fits};
-ghost use Rattle.meter_states.specs.Lawful.{IsLawful, IsTimely};
+ghost use Rattle.std.specs.{Option.{ForSome}, Prelude.{◌≡◌, IsTrue}};
+ghost use Rattle.{totals_record.specs.Ranges.{IsDurable}, tariff_compile.specs.Tables.{TableParts}};
+ghost use Rattle.meter_states.specs.{Fits.{Fits}, Lawful.{IsLawful, IsTimely}};
 
 use crate::below::tariff_texts::compiled;
 use arrayvec::ArrayVec;

@@ -1,6 +1,6 @@
 //! How many equal intervals go at once. That they are those intervals, one after the other, is a clause of
 //! `Core::equal_intervals`.
-ghost use Rattle.std.specs.Prelude.{◌≡◌, ◌<◌, ◌≤◌};
+ghost use Rattle.std.specs.Prelude.{◌<◌, ◌≡◌, ◌≤◌};
 ghost use Rattle.meter_states.specs.Lawful.{IsLawful};
 
 use super::drives::{acts_at_first, have_constant_of, is_timely, setting};

@@ -1,6 +1,5 @@
 use Rattle.std.proofs.Common.{◌≤◌, subst}
-use Rattle.taxi_units.proofs.Laws.{numbers_grow_by_their_digits}
-use Rattle.receipt_text.proofs.Laws.{none_below}
+use Rattle.{taxi_units.proofs.Laws.{numbers_grow_by_their_digits}, receipt_text.proofs.Laws.{none_below}}
 use Rattle.receipt_reading.proofs.figures.value_below.Goals as goal
 
 pub returns-then-limit-value-clause-value : goal.returns-then-limit-value-clause-value

@@ -1,5 +1,4 @@
-use Rattle.std.proofs.Common.{◌≡◌, ◌<◌, drop, length}
-use Rattle.std.specs.Str.Parse.{digits_value_after}
+use Rattle.std.{specs.Str.Parse.{digits_value_after}, proofs.Common.{◌<◌, ◌≡◌, drop, length}}
 use Rattle.taxi_units.specs.Number.{digits_at_front}
 use Rattle.receipt_reading.proofs.figures.value_below.Given as goal
 

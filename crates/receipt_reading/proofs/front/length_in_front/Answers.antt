@@ -1,4 +1,4 @@
-use Rattle.std.proofs.Common.{◌≡◌, ℕ, List, [], ◌++◌, ap, sym, ◌∙◌, rules}
+use Rattle.std.proofs.Common.{[], ℕ, ◌++◌, ◌∙◌, ◌≡◌, List, ap, rules, sym}
 use Rattle.receipt_text.specs.Receipts.{receipt_text}
 use Rattle.receipt_reading.proofs.front.length_in_front.Goals as goal
 

@@ -1,6 +1,4 @@
-use Rattle.std.proofs.Common.{arith}
-use Rattle.std.proofs.lemmas.Bool.Decides.{nat_tests}
-use Rattle.receipt_text.proofs.Laws.{all_bytes}
+use Rattle.{std.proofs.{Common.{arith}, lemmas.Bool.Decides.{nat_tests}}, receipt_text.proofs.Laws.{all_bytes}}
 use Rattle.receipt_reading.proofs.ranges.is_digest.Goals as goal
 
 pub returns : goal.returns

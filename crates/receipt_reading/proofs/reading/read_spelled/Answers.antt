@@ -1,6 +1,5 @@
 use Rattle.std.proofs.Common.{◌≡◌, true}
-use Rattle.receipt_text.specs.Spelling.{IsSpelled}
-use Rattle.receipt_text.proofs.Laws.{exactly_other}
+use Rattle.{receipt_text.proofs.Laws.{exactly_other}, receipt_reading.specs.Common.{IsSpelled}}
 use Rattle.receipt_reading.proofs.reading.read_spelled.Goals as goal
 
 pub returns-else-is_spelled : goal.returns-else-is_spelled

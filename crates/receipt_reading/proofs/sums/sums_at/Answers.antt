@@ -1,5 +1,4 @@
-use Rattle.std.proofs.Common.{refl}
-use Rattle.receipt_text.specs.Lines.{sums_at}
+use Rattle.{std.proofs.Common.{refl}, receipt_text.specs.Lines.{sums_at}}
 use Rattle.receipt_reading.proofs.sums.sums_at.Goals as goal
 
 pub returns : goal.returns

@@ -1,10 +1,6 @@
-use Rattle.std.proofs.Common.{◌++◌, ap, decimal, length}
-use Rattle.std.specs.Prelude.{codes}
-use Rattle.std.proofs.lemmas.Result.{on_ok_weaker}
-use Rattle.taxi_units.specs.Number.{money_text}
-use Rattle.receipt_text.specs.Receipts.{calculation_text}
-use Rattle.receipt_text.proofs.Appending.{fits_alike, lengths, too_long}
-use Rattle.taxi_units.proofs.Laws.{appended_behind}
+use Rattle.std.{specs.Prelude.{codes}, proofs.{Common.{◌++◌, ap, decimal, length}, lemmas.Result.{on_ok_weaker}}}
+use Rattle.{taxi_units.proofs.Laws.{appended_behind}, receipt_text.specs.Common.{money_text}}
+use Rattle.receipt_text.{specs.Receipts.{calculation_text}, proofs.AppendedPieces.{fits_alike, lengths, too_long}}
 use Rattle.receipt_text.proofs.calculations.put_calculation.Goals as goal
 
 pub returns-in_err-put_amount-2-clause-variant : goal.returns-in_err-put_amount-2-clause-variant

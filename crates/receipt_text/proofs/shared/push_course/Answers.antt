@@ -1,5 +1,4 @@
-use Rattle.std.proofs.Common.{rules, arith}
-use Rattle.receipt_text.proofs.Widths.{course_fits}
+use Rattle.{std.proofs.Common.{arith, rules}, receipt_text.proofs.Widths.{course_fits}}
 use Rattle.receipt_text.proofs.shared.push_course.Goals as goal
 
 pub returns-clause-most : goal.returns-clause-most

@@ -1,8 +1,5 @@
-use Rattle.std.proofs.Common.{ap, length}
-use Rattle.std.proofs.lemmas.Result.{on_ok_weaker}
-use Rattle.receipt_text.specs.Receipts.{fare_text}
-use Rattle.receipt_text.proofs.Appending.{fits_alike, lengths, too_long}
-use Rattle.taxi_units.proofs.Laws.{appended_behind}
+use Rattle.{std.proofs.{Common.{ap, length}, lemmas.Result.{on_ok_weaker}}, taxi_units.proofs.Laws.{appended_behind}}
+use Rattle.receipt_text.{specs.Receipts.{fare_text}, proofs.AppendedPieces.{fits_alike, lengths, too_long}}
 use Rattle.receipt_text.proofs.sums.put_fare.Goals as goal
 
 pub returns-in_err-put_amount-clause-variant : goal.returns-in_err-put_amount-clause-variant

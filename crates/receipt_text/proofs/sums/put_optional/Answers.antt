@@ -1,5 +1,4 @@
-use Rattle.std.proofs.Common.{sym, refl, arith}
-use Rattle.std.proofs.lemmas.List.{append-nil}
+use Rattle.std.proofs.{Common.{arith, refl, sym}, lemmas.List.{append-nil}}
 use Rattle.receipt_text.specs.Receipts.{optional_text}
 use Rattle.receipt_text.proofs.sums.put_optional.Goals as goal
 

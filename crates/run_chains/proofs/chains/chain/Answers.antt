@@ -1,7 +1,5 @@
-use Rattle.std.proofs.Common.{arith, refl}
-use Rattle.run_chains.specs.Chain.{last_state}
-use Rattle.run_chains.proofs.ChainLoop.{all_run, next_run, none_yet, rest_more}
-use Rattle.run_chains.proofs.ChainSums.{chain-last, chain-seal}
+use Rattle.{std.proofs.Common.{arith, refl}, run_chains.proofs.ChainLoop.{all_run, next_run, none_yet, rest_more}}
+use Rattle.run_chains.{specs.Chain.{last_state}, proofs.ChainSums.{chain-last, chain-seal}}
 use Rattle.run_chains.proofs.chains.chain.Goals as goal
 
 pub loop-i-init : goal.loop-i-init

@@ -1,7 +1,5 @@
-use Rattle.std.proofs.Common.{◌≡◌, take, drop}
-use Rattle.meter_store.specs.Stored.{HasState}
-use Rattle.totals_record.specs.declared.durable_state.Durable.{Durable}
-use Rattle.run_chains.specs.Chain.{HasChain}
+use Rattle.std.proofs.Common.{◌≡◌, drop, take}
+use Rattle.run_chains.specs.{Chain.{HasChain}, Common.{Durable, HasState}}
 use Rattle.run_chains.proofs.chains.chain.Given as goal
 
 -- the chain of the runs so far; the other files are as they were

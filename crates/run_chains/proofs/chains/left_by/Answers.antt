@@ -1,9 +1,6 @@
-use Rattle.std.proofs.Common.{◌≡◌, ◌⊎◌, inl, refl, sym, subst, List, [], ℕ, Option, arith}
-use Rattle.memory_devices.specs.Calls.{opened}
-use Rattle.memory_devices.specs.MemoryBoard.{image_of, left_since_of, text_of}
-use Rattle.memory_devices.specs.declared.replay.Fill.{Fill}
-use Rattle.memory_devices.proofs.Laws.{counts_now}
-use Rattle.run_chains.specs.Link.{text_before}
+use Rattle.std.proofs.Common.{[], ℕ, ◌≡◌, ◌⊎◌, List, Option, arith, inl, refl, subst, sym}
+use Rattle.memory_devices.{specs.Calls.{opened}, proofs.Laws.{counts_now}}
+use Rattle.run_chains.specs.{Common.{Fill, image_of, left_since_of, text_of}, Link.{text_before}}
 use Rattle.run_chains.proofs.chains.left_by.Goals as goal
 
 pub returns-in-None-clause-left : goal.returns-in-None-clause-left

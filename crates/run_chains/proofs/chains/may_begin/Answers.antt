@@ -1,8 +1,5 @@
-use Rattle.std.proofs.Common.{◌≡◌, ◌∙◌, ap, sym, arith, Ok}
-use Rattle.std.specs.Prelude.{is_some}
-use Rattle.std.proofs.lemmas.Bool.{false≢true}
-use Rattle.store_commands.specs.Opening.{opening_in}
-use Rattle.run_chains.proofs.ChainScan.{sealed_if, sealed_not, sealed_then}
+use Rattle.std.{specs.Prelude.{is_some}, proofs.{Common.{◌∙◌, ◌≡◌, Ok, ap, arith, sym}, lemmas.Bool.{false≢true}}}
+use Rattle.run_chains.{specs.Common.{opening_in}, proofs.ChainScan.{sealed_if, sealed_not, sealed_then}}
 use Rattle.run_chains.proofs.chains.may_begin.Goals as goal
 
 pub returns-in-Ok : goal.returns-in-Ok

@@ -1,9 +1,7 @@
-use Rattle.std.proofs.Common.{◌∙◌, refl, sym, subst, inl, inr, ⊎_elim, List, [], ℕ}
-use Rattle.memory_devices.specs.MemoryBoard.{BoardState, image_of, left_since_of, moment_of, new_board}
-use Rattle.meter_store.specs.Stored.{HasState}
-use Rattle.run_chains.specs.ChainSteps.{HasLink}
+use Rattle.std.proofs.Common.{[], ℕ, ◌∙◌, List, inl, inr, refl, subst, sym, ⊎_elim}
+use Rattle.{memory_devices.specs.MemoryBoard.{moment_of}, run_chains.proofs.ChainLinks.{linked, since_first}}
+use Rattle.run_chains.specs.{ChainSteps.{HasLink}, Common.{BoardState, HasState, image_of, left_since_of, new_board}}
 use Rattle.run_chains.specs.Link.{text_before}
-use Rattle.run_chains.proofs.ChainLinks.{linked, since_first}
 use Rattle.run_chains.proofs.chains.run_over.Goals as goal
 
 pub returns-clause-link : goal.returns-clause-link

@@ -1,8 +1,6 @@
-use Rattle.std.proofs.Common.{◌∙◌, ap, arith, Ok}
-use Rattle.slot_store.specs.Scan.{found_at}
-use Rattle.totals_record.specs.Reading.{reads}
-use Rattle.meter_store.specs.Stored.{state_number_of}
-use Rattle.run_chains.proofs.ChainScan.{number_at, number_fails, number_not}
+use Rattle.std.proofs.Common.{◌∙◌, Ok, ap, arith}
+use Rattle.{totals_record.specs.Reading.{reads}, meter_store.specs.Stored.{state_number_of}}
+use Rattle.run_chains.{specs.Common.{found_at}, proofs.ChainScan.{number_at, number_fails, number_not}}
 use Rattle.run_chains.proofs.chains.stored_number.Goals as goal
 
 pub returns-in-Latest : goal.returns-in-Latest

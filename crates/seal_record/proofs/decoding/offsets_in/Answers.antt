@@ -1,9 +1,6 @@
-use Rattle.std.proofs.Common.{arith, ◌∙◌}
-use Rattle.slot_bodies.specs.BytesAt.{byte_at}
-use Rattle.slot_bodies.specs.Codec.{read_row}
-use Rattle.slot_bodies.proofs.Laws.{length-read_row}
-use Rattle.seal_record.specs.Decoding.{pair_table}
-use Rattle.seal_record.proofs.Ranged.{offsets_by}
+use Rattle.std.proofs.Common.{◌∙◌, arith}
+use Rattle.slot_bodies.{specs.BytesAt.{byte_at}, proofs.Laws.{length-read_row}}
+use Rattle.seal_record.{specs.{Common.{read_row}, Decoding.{pair_table}}, proofs.Ranged.{offsets_by}}
 use Rattle.seal_record.proofs.decoding.offsets_in.Goals as goal
 
 pub returns-then-count-gt-MOST_OFFSETS : goal.returns-then-count-gt-MOST_OFFSETS

@@ -1,8 +1,5 @@
-use Rattle.std.proofs.Common.{[], ◌∷◌, ◌++◌, sym, ◌∙◌, arith}
-use Rattle.std.proofs.lemmas.Int.{to_z-of_z}
-use Rattle.std.specs.Int.{w32}
-use Rattle.slot_bodies.proofs.Laws.{one_more}
-use Rattle.seal_record.specs.Decoding.{pair_table}
+use Rattle.std.{specs.Int.{w32}, proofs.{Common.{[], ◌++◌, ◌∙◌, ◌∷◌, arith, sym}, lemmas.Int.{to_z-of_z}}}
+use Rattle.{slot_bodies.proofs.Laws.{one_more}, seal_record.specs.Decoding.{pair_table}}
 use Rattle.seal_record.proofs.decoding.pairs_in.Goals as goal
 
 pub loop-i-preserved : goal.loop-i-preserved

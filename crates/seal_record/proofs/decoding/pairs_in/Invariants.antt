@@ -1,7 +1,5 @@
 use Rattle.std.proofs.Common.{◌≡◌}
-use Rattle.arrayvec.specs.ArrayVec.{array_vec_len}
-use Rattle.slot_bodies.specs.Codec.{read_row}
-use Rattle.seal_record.specs.Decoding.{pair_table}
+use Rattle.{arrayvec.specs.ArrayVec.{array_vec_len}, seal_record.specs.{Common.{read_row}, Decoding.{pair_table}}}
 use Rattle.seal_record.proofs.decoding.pairs_in.Given as goal
 
 -- the first `i` pairs were read

@@ -1,8 +1,5 @@
-use Rattle.std.proofs.Common.{refl, subst, sym, ◌∙◌, arith}
-use Rattle.std.proofs.lemmas.Int.{ints, to_z-of_z}
-use Rattle.std.specs.Int.{w32}
-use Rattle.seal_record.specs.Ranges.{IsDay}
-use Rattle.seal_record.proofs.Ranged.{same_params}
+use Rattle.std.{specs.Int.{w32}, proofs.{Common.{◌∙◌, arith, refl, subst, sym}, lemmas.Int.{ints, to_z-of_z}}}
+use Rattle.seal_record.{specs.Ranges.{IsDay}, proofs.Ranged.{same_params}}
 use Rattle.seal_record.proofs.decoding.params_in.Goals as goal
 
 pub returns : goal.returns

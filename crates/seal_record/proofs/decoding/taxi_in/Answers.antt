@@ -1,7 +1,5 @@
-use Rattle.std.proofs.Common.{ℕ, List, subst}
-use Rattle.taxi_units.specs.Reading.{Gives}
-use Rattle.seal_record.specs.Values.{taxi_read}
-use Rattle.seal_record.proofs.Ranged.{taxi_by}
+use Rattle.{std.proofs.Common.{ℕ, List, subst}, seal_record.{specs.Values.{taxi_read}, proofs.Ranged.{taxi_by}}}
+use Rattle.seal_record.specs.Common.{Gives}
 use Rattle.seal_record.proofs.decoding.taxi_in.Goals as goal
 
 pub returns : goal.returns

@@ -1,5 +1,4 @@
-use Rattle.std.proofs.Common.{false, refl}
-use Rattle.std.proofs.lemmas.Bool.Decides.{same_from_decides}
+use Rattle.std.proofs.{Common.{false, refl}, lemmas.Bool.Decides.{same_from_decides}}
 use Rattle.seal_record.specs.OffsetList.{is_offset_list, offsets_test}
 use Rattle.seal_record.proofs.offset_list.offsets_of.Goals as goal
 

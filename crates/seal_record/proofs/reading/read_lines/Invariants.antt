@@ -1,7 +1,5 @@
-use Rattle.std.proofs.Common.{◌≡◌, ◌+◌, ◌≤◌, length}
-use Rattle.seal_record.specs.Lines.{lines_of}
-use Rattle.seal_record.specs.Reading.{lines_read}
-use Rattle.seal_record.specs.ParamsSoFar.{no_params_yet}
+use Rattle.std.proofs.Common.{◌+◌, ◌≡◌, ◌≤◌, length}
+use Rattle.seal_record.specs.{Lines.{lines_of}, ParamsSoFar.{no_params_yet}, Reading.{lines_read}}
 use Rattle.seal_record.proofs.reading.read_lines.Given as goal
 
 -- the lines that were read and those that are left say what all say, and there are no more lines than bytes

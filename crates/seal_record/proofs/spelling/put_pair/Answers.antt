@@ -1,7 +1,5 @@
-use Rattle.std.proofs.Common.{ℕ, List, ◌++◌, ap, ◌∙◌, append_assoc}
-use Rattle.std.proofs.lemmas.Int.{to_z-of_z}
-use Rattle.std.specs.Int.{w32, w64, to_be_bytes}
-use Rattle.slot_bodies.proofs.Laws.{fits_of_range}
+use Rattle.std.{specs.Int.{to_be_bytes, w32, w64}, proofs.Common.{ℕ, ◌++◌, ◌∙◌, List, ap, append_assoc}}
+use Rattle.{std.proofs.lemmas.Int.{to_z-of_z}, slot_bodies.proofs.Laws.{fits_of_range}}
 use Rattle.seal_record.specs.Spelling.{signed_bytes}
 use Rattle.seal_record.proofs.spelling.put_pair.Goals as goal
 

@@ -1,6 +1,5 @@
-use Rattle.std.proofs.Common.{◌≡◌, ◌+◌, ◌*◌, ◌++◌, take, flat_map}
-use Rattle.arrayvec.specs.ArrayVec.{array_vec_len}
-use Rattle.seal_record.specs.Spelling.{pair_bytes}
+use Rattle.std.proofs.Common.{◌*◌, ◌++◌, ◌+◌, ◌≡◌, flat_map, take}
+use Rattle.{arrayvec.specs.ArrayVec.{array_vec_len}, seal_record.specs.Spelling.{pair_bytes}}
 use Rattle.seal_record.proofs.spelling.put_pairs.Given as goal
 
 -- the pairs so far were appended

@@ -1,10 +1,7 @@
-use Rattle.std.proofs.Common.{rules, ◌≡◌, ◌+◌, ◌++◌, [], ◌∷◌, List, arith, sym, subst}
-use Rattle.std.proofs.lemmas.Grind.{common_steps}
-use Rattle.shift_book.specs.Books.{Begins, IsNext}
-use Rattle.shift_book.specs.Following.{Fit, last_of}
+use Rattle.std.proofs.{Common.{[], ◌++◌, ◌+◌, ◌∷◌, ◌≡◌, List, arith, rules, subst, sym}, lemmas.Grind.{common_steps}}
+use Rattle.shift_book.{specs.Books.{Begins, IsNext}, proofs.BookAnswers.{break_is_read, end_is_read, marks_have_bytes}}
+use Rattle.shift_book.{specs.MarkOrder.{Fit, last_of}, proofs.LongerBooks.{begins_more, rest_shrinks}}
 use Rattle.shift_book.specs.Marks.{Signing}
-use Rattle.shift_book.proofs.BookAnswers.{break_is_read, end_is_read, marks_have_bytes}
-use Rattle.shift_book.proofs.Growing.{begins_more, rest_shrinks}
 use Rattle.shift_book.proofs.book.read_book.Goals as goal
 
 pub loop-rest-preserved : goal.loop-rest-preserved

@@ -1,5 +1,4 @@
-use Rattle.std.proofs.Common.{length}
-use Rattle.shift_book.specs.Books.{Begins}
+use Rattle.{std.proofs.Common.{length}, shift_book.specs.Books.{Begins}}
 use Rattle.shift_book.proofs.book.read_book.Given as goal
 
 abbrev pub invariant-loop-rest : goal.invariant-loop-rest

@@ -1,4 +1,4 @@
-use Rattle.shift_book.proofs.Once.{books_have_one_list, books_have_no_fault, faults_have_one_line}
+use Rattle.shift_book.proofs.Once.{books_have_no_fault, books_have_one_list, faults_have_one_line}
 use Rattle.shift_book.proofs.book_laws.books_are_read_one_way.Goals as goal
 
 pub returns-clause-marks : goal.returns-clause-marks

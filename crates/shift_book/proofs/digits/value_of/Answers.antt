@@ -1,6 +1,5 @@
-use Rattle.std.proofs.Common.{◌≤◌, ◌^◌, subst, arith}
-use Rattle.taxi_units.proofs.Laws.{numbers_grow_by_their_digits}
-use Rattle.shift_book.proofs.Figures.{none_below}
+use Rattle.std.proofs.Common.{◌^◌, ◌≤◌, arith, subst}
+use Rattle.{taxi_units.proofs.Laws.{numbers_grow_by_their_digits}, shift_book.proofs.Figures.{none_below}}
 use Rattle.shift_book.proofs.digits.value_of.Goals as goal
 
 pub returns-then-value-digit : goal.returns-then-value-digit

@@ -1,6 +1,5 @@
-use Rattle.std.proofs.Common.{◌≡◌, drop, length}
-use Rattle.std.specs.Str.Parse.{digits_value, digits_value_after}
-use Rattle.taxi_units.specs.Number.{digits_at_front}
+use Rattle.std.{specs.Str.Parse.{digits_value, digits_value_after}, proofs.Common.{◌≡◌, drop, length}}
+use Rattle.shift_book.specs.Common.{digits_at_front}
 use Rattle.shift_book.proofs.digits.value_of.Given as goal
 
 abbrev pub invariant-loop-byte : goal.invariant-loop-byte

@@ -1,9 +1,7 @@
-use Rattle.std.proofs.Common.{◌≡◌, ◌∙◌, subst, List, ℕ, Some, None, rules}
-use Rattle.taxi_units.specs.Reading.{word_at}
-use Rattle.taxi_units.proofs.Laws.{words_are_read_by_their_text}
-use Rattle.shift_book.specs.Following.{Fit, MayFollow, last_of}
-use Rattle.shift_book.specs.Marks.{Signing, mark_text}
-use Rattle.shift_book.proofs.Nexts.{none_is_next, other_is_next, unspelled_is_next}
+use Rattle.std.proofs.Common.{ℕ, ◌∙◌, ◌≡◌, List, None, Some, rules, subst}
+use Rattle.taxi_units.{specs.Reading.{word_at}, proofs.Laws.{words_are_read_by_their_text}}
+use Rattle.shift_book.specs.MarkOrder.{Fit, MayFollow, last_of}
+use Rattle.shift_book.{specs.Marks.{Signing, mark_text}, proofs.Nexts.{none_is_next, other_is_next, unspelled_is_next}}
 use Rattle.shift_book.proofs.following.next_mark.Goals as goal
 
 pub returns-in_err-mark-clause-none : goal.returns-in_err-mark-clause-none

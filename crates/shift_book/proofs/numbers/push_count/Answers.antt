@@ -1,7 +1,5 @@
-use Rattle.std.proofs.Common.{◌≡◌, ℕ, ◌+◌, ◌<◌, ◌≤◌, ◌^◌, List, ◌∷◌, ◌++◌, length, ap, ◌∙◌, arith, rules, length-append}
-use Rattle.std.specs.Fmt.{decimal}
-use Rattle.shift_book.specs.Marks.{number_text}
-use Rattle.shift_book.proofs.Lines.{counts_are_short}
+use Rattle.{std.specs.Fmt.{decimal}, shift_book.{specs.Marks.{number_text}, proofs.Lines.{counts_are_short}}}
+use Rattle.std.proofs.Common.{ℕ, ◌++◌, ◌+◌, ◌<◌, ◌^◌, ◌∙◌, ◌∷◌, ◌≡◌, ◌≤◌, List, ap, arith, length, length-append, rules}
 use Rattle.shift_book.proofs.numbers.push_count.Goals as goal
 
 short : (old new : List ℕ) (wide value : ℕ) → value < 2 ^ 64 → wide ≡ value → new ≡ old ++ number_text wide

@@ -1,7 +1,6 @@
-use Rattle.std.proofs.Common.{◌≡◌, ◌+◌, drop}
-use Rattle.std.specs.List.{prefix_len}
+use Rattle.std.{specs.List.{prefix_len}, proofs.Common.{◌+◌, ◌≡◌, drop}}
+use Rattle.shift_book.specs.Common.{is_identifier_character}
 use Rattle.shift_book.proofs.reading.count_characters.Given as goal
-use Rattle.taxi_units.specs.Identifier.{is_identifier_character}
 
 abbrev pub invariant-loop-byte : goal.invariant-loop-byte
 invariant-loop-byte l = record {

@@ -1,5 +1,4 @@
-use Rattle.std.proofs.Common.{◌≡◌, None, arith, rules}
-use Rattle.std.proofs.lemmas.Grind.{common_steps}
+use Rattle.std.proofs.{Common.{◌≡◌, None, arith, rules}, lemmas.Grind.{common_steps}}
 use Rattle.shift_book.proofs.DriverWords.{driver_is, driver_is_not, driver_not_read}
 use Rattle.shift_book.proofs.reading.read_driver.Goals as goal
 

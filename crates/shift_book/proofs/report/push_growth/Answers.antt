@@ -1,7 +1,5 @@
-use Rattle.std.proofs.Common.{◌≡◌, ℕ, List, [], ◌∷◌, ◌++◌, ◌∙◌, ap}
-use Rattle.shift_book.specs.Marks.{number_text}
-use Rattle.shift_book.specs.Report.{amount_text}
-use Rattle.taxi_units.proofs.Laws.{appended_behind}
+use Rattle.std.proofs.Common.{[], ℕ, ◌++◌, ◌∙◌, ◌∷◌, ◌≡◌, List, ap}
+use Rattle.{taxi_units.proofs.Laws.{appended_behind}, shift_book.specs.{Marks.{number_text}, Report.{amount_text}}}
 use Rattle.shift_book.proofs.report.push_growth.Goals as goal
 
 -- six parts, one after the other

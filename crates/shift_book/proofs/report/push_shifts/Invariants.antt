@@ -1,5 +1,4 @@
-use Rattle.std.proofs.Common.{◌≡◌, ◌+◌, ◌*◌, ◌≤◌, ◌++◌, length}
-use Rattle.std.specs.Prelude.{vec_len}
+use Rattle.std.{specs.Prelude.{vec_len}, proofs.Common.{◌*◌, ◌++◌, ◌+◌, ◌≡◌, ◌≤◌, length}}
 use Rattle.shift_book.specs.Report.{shift_lines}
 use Rattle.shift_book.proofs.report.push_shifts.Given as goal
 

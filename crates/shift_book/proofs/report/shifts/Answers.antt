@@ -1,14 +1,8 @@
-use Rattle.std.proofs.Common.{◌≡◌, ◌∙◌, ◌+◌, ◌*◌, ◌≤◌, ◌++◌, ℕ, List, [], length, None, rules, ap, subst, sym}
-use Rattle.std.specs.Prelude.{vec_len}
-use Rattle.shift_book.specs.declared.numbers.Numbers.{Numbers}
-use Rattle.shift_book.specs.declared.shift.Shift.{Shift}
-use Rattle.shift_book.specs.Following.{Fit, numbers_in}
-use Rattle.shift_book.specs.Report.{IsReport, report_text, shift_lines}
-use Rattle.shift_book.specs.ShareStages.{Rise, total_of, with_shifts}
-use Rattle.shift_book.proofs.Assembling.{text_is}
-use Rattle.shift_book.proofs.Fewer.{short_together}
-use Rattle.shift_book.proofs.Reported.{reports_share_the_growth}
-use Rattle.shift_book.proofs.Rising.{rises, total_fit, unsigned_fit}
+use Rattle.{std.specs.Prelude.{vec_len}, shift_book.proofs.GrowthSums.{rises, total_fit, unsigned_fit}}
+use Rattle.std.proofs.Common.{[], ℕ, ◌*◌, ◌++◌, ◌+◌, ◌∙◌, ◌≡◌, ◌≤◌, List, None, ap, length, rules, subst, sym}
+use Rattle.shift_book.{specs.Common.{Numbers, Shift}, proofs.{Fewer.{short_together}, ReportLines.{text_is}}}
+use Rattle.shift_book.{specs.MarkOrder.{Fit, numbers_in}, proofs.Reported.{reports_share_the_growth}}
+use Rattle.shift_book.specs.{Report.{IsReport, report_text, shift_lines}, ShareStages.{Rise, total_of, with_shifts}}
 use Rattle.shift_book.proofs.report.shifts.Goals as goal
 
 pub unsigned_of-unsigned-requires-clause-rise : goal.unsigned_of-unsigned-requires-clause-rise

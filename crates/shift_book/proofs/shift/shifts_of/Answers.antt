@@ -1,10 +1,6 @@
-use Rattle.std.proofs.Common.{◌≡◌, ◌++◌, ◌∷◌, ◌∙◌, List, ap, sym, subst}
-use Rattle.std.proofs.lemmas.List.{append_assoc}
-use Rattle.shift_book.specs.declared.numbers.Numbers.{Numbers}
-use Rattle.shift_book.specs.declared.shift.Shift.{Shift}
+use Rattle.std.proofs.{Common.{◌++◌, ◌∙◌, ◌∷◌, ◌≡◌, List, ap, subst, sym}, lemmas.List.{append_assoc}}
+use Rattle.shift_book.specs.{Common.{Numbers, Shift}, ShareStages.{Rise}, Shares.{begun_by, next_point, shifts_in}}
 use Rattle.shift_book.specs.Marks.{Signing}
-use Rattle.shift_book.specs.ShareStages.{Rise}
-use Rattle.shift_book.specs.Shares.{begun_by, next_point, shifts_in}
 use Rattle.shift_book.proofs.shift.shifts_of.Goals as goal
 
 -- the shifts of the marks that are passed go on by those that one mark more begins

@@ -1,7 +1,5 @@
 use Rattle.std.proofs.Common.{◌∙◌, ap}
-use Rattle.shift_book.specs.declared.numbers.Numbers.{Numbers}
-use Rattle.shift_book.specs.Shares.{free_behind}
-use Rattle.shift_book.proofs.Rising.{unsigned_done, unsigned_fits}
+use Rattle.shift_book.{specs.{Common.{Numbers}, Shares.{free_behind}}, proofs.GrowthSums.{unsigned_done, unsigned_fits}}
 use Rattle.shift_book.proofs.shift.unsigned_of.Goals as goal
 
 pub plus-unsigned-requires : goal.plus-unsigned-requires

@@ -1,6 +1,5 @@
-use Rattle.std.proofs.Common.{◌≡◌, ◌+◌, length}
-use Rattle.shift_book.specs.ShareStages.{Rise}
-use Rattle.shift_book.specs.Shares.{Column, at, unsigned_in}
+use Rattle.std.proofs.Common.{◌+◌, ◌≡◌, length}
+use Rattle.shift_book.specs.{ShareStages.{Rise}, Shares.{Column, at, unsigned_in}}
 use Rattle.shift_book.proofs.shift.unsigned_of.Given as goal
 
 abbrev pub invariant-loop-mark : goal.invariant-loop-mark

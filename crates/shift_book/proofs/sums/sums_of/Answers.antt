@@ -1,7 +1,5 @@
 use Rattle.std.proofs.Common.{◌∙◌, List, ap, subst, sym}
-use Rattle.shift_book.specs.declared.shift.Shift.{Shift}
-use Rattle.shift_book.specs.ShareStages.{with_shifts}
-use Rattle.shift_book.proofs.Sharing.{SoFar, one_more, sum_fits}
+use Rattle.shift_book.{specs.{Common.{Shift}, ShareStages.{with_shifts}}, proofs.DriverSums.{SoFar, one_more, sum_fits}}
 use Rattle.shift_book.proofs.sums.sums_of.Goals as goal
 
 pub add_shift-requires : goal.add_shift-requires

@@ -1,7 +1,5 @@
-use Rattle.std.proofs.Common.{◌≡◌, [], length}
-use Rattle.shift_book.specs.ShareStages.{with_shifts}
-use Rattle.shift_book.specs.Shares.{AreOrdered}
-use Rattle.shift_book.proofs.Sharing.{SoFar}
+use Rattle.std.proofs.Common.{[], ◌≡◌, length}
+use Rattle.shift_book.{specs.{ShareStages.{with_shifts}, Shares.{AreOrdered}}, proofs.DriverSums.{SoFar}}
 use Rattle.shift_book.proofs.sums.sums_of.Given as goal
 
 abbrev pub invariant-loop-shift : goal.invariant-loop-shift

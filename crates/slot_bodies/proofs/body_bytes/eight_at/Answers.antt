@@ -1,5 +1,4 @@
-use Rattle.std.proofs.Common.{◌≡◌, ℕ, ◌+◌, ◌-◌, ◌∙◌, ap, arith, take, drop}
-use Rattle.std.specs.Int.{w64, from_be_bytes}
+use Rattle.std.{specs.Int.{from_be_bytes, w64}, proofs.Common.{ℕ, ◌+◌, ◌-◌, ◌∙◌, ◌≡◌, ap, arith, drop, take}}
 use Rattle.slot_bodies.proofs.body_bytes.eight_at.Goals as goal
 
 pub returns : goal.returns

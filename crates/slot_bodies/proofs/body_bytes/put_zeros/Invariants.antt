@@ -1,4 +1,4 @@
-use Rattle.std.proofs.Common.{◌≡◌, ◌+◌, ◌++◌, replicate}
+use Rattle.std.proofs.Common.{◌++◌, ◌+◌, ◌≡◌, replicate}
 use Rattle.arrayvec.specs.ArrayVec.{array_vec_len}
 use Rattle.slot_bodies.proofs.body_bytes.put_zeros.Given as goal
 

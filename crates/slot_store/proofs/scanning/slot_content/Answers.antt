@@ -1,6 +1,5 @@
-use Rattle.std.proofs.Common.{ap, ◌∙◌}
-use Rattle.slot_store.specs.Verdicts.{content_of_open}
-use Rattle.slot_store.proofs.Findings.{open_held}
+use Rattle.std.proofs.Common.{◌∙◌, ap}
+use Rattle.slot_store.{specs.Verdicts.{content_of_open}, proofs.ScanAnswers.{open_held}}
 use Rattle.slot_store.proofs.scanning.slot_content.Goals as goal
 
 pub returns-in-Some : goal.returns-in-Some

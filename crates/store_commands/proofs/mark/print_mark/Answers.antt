@@ -1,13 +1,9 @@
-use Rattle.std.proofs.Common.{◌∙◌, refl, ap, arith, rules}
-use Rattle.std.specs.Prelude.{is_err}
-use Rattle.outside.proofs.Laws.{keeps_print}
-use Rattle.shift_book.specs.Marks.{mark_text}
-use Rattle.call_ends.specs.Carried.{no_files}
+use Rattle.std.{specs.Prelude.{is_err}, proofs.Common.{◌∙◌, ap, arith, refl, rules}}
+use Rattle.{outside.proofs.Laws.{keeps_print}, store_commands.proofs.StoreTexts.{ends-barred, ends-begun, ends-shown}}
+use Rattle.call_ends.proofs.Laws.{board_not_read, carries-looked, cause_board, cause_done, done_not_read, no_fault}
+use Rattle.store_commands.specs.Common.{mark_text, no_files}
+use Rattle.store_commands.{specs.Mark.{mark_answer, mark_command, mark_of}, proofs.ReadOnlyCalls.{unwritten-behind}}
 use Rattle.call_ends.specs.declared.ending.Ended.TheVariants as ended
-use Rattle.store_commands.specs.Mark.{mark_answer, mark_command, mark_of}
-use Rattle.call_ends.proofs.Laws.{board_not_read, done_not_read, cause_board, cause_done, carries-looked, no_fault}
-use Rattle.store_commands.proofs.ReadOnlyCalls.{unwritten-behind}
-use Rattle.store_commands.proofs.StoreTexts.{ends-barred, ends-begun, ends-shown}
 use Rattle.store_commands.proofs.mark.print_mark.Goals as goal
 
 -- there is no sealed store

@@ -1,16 +1,11 @@
-use Rattle.std.proofs.Common.{◌≡◌, ◌∙◌, ℕ, ℤ, List, [], Err, refl, ap, arith, rules}
-use Rattle.std.specs.Prelude.{is_err}
-use Rattle.outside.proofs.Laws.{keeps_none}
-use Rattle.offset_rules.specs.Pairs.{pairs_of}
-use Rattle.offset_rules.specs.Rule.{Rule}
-use Rattle.call_ends.proofs.Laws.{board_not_read, done_not_read, no_fault, cause_board, cause_done, stops_by}
-use Rattle.call_ends.proofs.Laws.{unless_read, carries-kept}
-use Rattle.store_commands.proofs.ReadFaults.{read_fault-rules}
-use Rattle.store_commands.specs.StoreEnds.{ended_for_rules}
+use Rattle.std.{specs.Prelude.{is_err}, proofs.Common.{[], ℕ, ℤ, ◌∙◌, ◌≡◌, Err, List, ap, arith, refl, rules}}
+use Rattle.{outside.proofs.Laws.{keeps_none}, offset_rules.specs.Pairs.{pairs_of}}
+use Rattle.call_ends.proofs.Laws.{board_not_read, carries-kept, cause_board, cause_done, done_not_read, no_fault}
+use Rattle.{call_ends.proofs.Laws.{stops_by, unless_read}, store_commands.proofs.ReadFaults.{read_fault-rules}}
+use Rattle.store_commands.{specs.Common.{Rule}, proofs.OffsetLines.{course-lines, course-lines_begun, course-refused}}
+use Rattle.store_commands.specs.{Offsets.{offsets_command}, StoreEnds.{ended_for_rules}}
 use Rattle.call_ends.specs.declared.ending.Ended.TheVariants as ended
 use Rattle.store_commands.specs.declared.offsets.RulesFault.TheVariants as rules
-use Rattle.store_commands.specs.Offsets.{offsets_command}
-use Rattle.store_commands.proofs.Listing.{course-lines, course-lines_begun, course-refused}
 use Rattle.store_commands.proofs.offsets.print_offsets.Goals as goal
 
 -- the pairs that were made for bounds are those for the years that the bounds are

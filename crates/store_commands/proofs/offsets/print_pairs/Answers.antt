@@ -1,6 +1,6 @@
 use Rattle.std.proofs.Common.{◌∙◌, arith, refl, true}
 use Rattle.outside.proofs.Laws.{keeps_none, keeps_print, keeps_then}
-use Rattle.store_commands.proofs.Listing.{begins_at, begins_end, printed_all, printed_more, printed_none}
+use Rattle.store_commands.proofs.OffsetLines.{begins_at, begins_end, printed_all, printed_more, printed_none}
 use Rattle.store_commands.proofs.offsets.print_pairs.Goals as goal
 
 pub loop-pair-init : goal.loop-pair-init

@@ -1,6 +1,5 @@
-use Rattle.std.proofs.Common.{◌≡◌, ◌+◌, ◌≤◌, ◌++◌, take}
-use Rattle.outside.specs.Runs.{KeepsStore}
-use Rattle.offset_rules.specs.Texts.{offset_lines}
+use Rattle.std.proofs.Common.{◌++◌, ◌+◌, ◌≡◌, ◌≤◌, take}
+use Rattle.{offset_rules.specs.Texts.{offset_lines}, store_commands.specs.Common.{KeepsStore}}
 use Rattle.store_commands.proofs.offsets.print_pairs.Given as goal
 
 -- the lines of the pairs so far were printed

@@ -1,10 +1,7 @@
-use Rattle.std.proofs.Common.{◌≡◌, ℕ, ◌<◌, List, length, Err, refl, arith}
-use Rattle.std.proofs.lemmas.Bool.{lt-ltb}
-use Rattle.offset_rules.specs.Reading.{rules_read}
-use Rattle.offset_rules.specs.declared.fault.RuleFault.{RuleFault}
-use Rattle.offset_rules.specs.declared.fault.RuleFault.TheVariants.{TooLong}
+use Rattle.std.proofs.{Common.{ℕ, ◌<◌, ◌≡◌, Err, List, arith, length, refl}, lemmas.Bool.{lt-ltb}}
+use Rattle.offset_rules.specs.{Reading.{rules_read}, declared.fault.RuleFault.TheVariants.{TooLong}}
+use Rattle.{call_ends.proofs.Laws.{same_fault}, store_commands.specs.Common.{RuleFault}}
 use Rattle.store_commands.specs.declared.offsets.RulesFault.TheVariants as rules
-use Rattle.call_ends.proofs.Laws.{same_fault}
 use Rattle.store_commands.proofs.offsets.rules_of_word.Goals as goal
 
 -- a text that is longer than rules may be is refused for that

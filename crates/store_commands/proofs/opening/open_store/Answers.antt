@@ -1,14 +1,11 @@
-use Rattle.std.proofs.Common.{◌≡◌, ◌∙◌, Ok, Err, refl, sym, ap, arith}
+use Rattle.std.proofs.Common.{◌∙◌, ◌≡◌, Err, Ok, ap, arith, refl, sym}
+use Rattle.{slot_store.proofs.Laws.{from_sync_as}, call_ends.proofs.Laws.{no_fault, reads-then, same_fault}}
+use Rattle.store_commands.specs.{Common.{IsAsHeld, found_at}, Opening.{fault_from}}
+use Rattle.store_commands.proofs.Openings.{failed_from, opened_bad, opened_by, stays_found, synced-on}
 use Rattle.slot_store.specs.declared.found.SlotFault.TheVariants as slots
-use Rattle.slot_store.specs.Scan.{found_at}
-use Rattle.slot_store.specs.Syncs.{IsAsHeld}
-use Rattle.slot_store.proofs.Laws.{from_sync_as}
 use Rattle.totals_record.specs.Reading as totals
 use Rattle.meter_store.specs.Stored as states
 use Rattle.seal_record.specs.Decoding as seals
-use Rattle.store_commands.specs.Opening.{fault_from}
-use Rattle.store_commands.proofs.Openings.{failed_from, opened_bad, opened_by, stays_found, synced-on}
-use Rattle.call_ends.proofs.Laws.{no_fault, same_fault, reads-then}
 use Rattle.store_commands.proofs.opening.open_store.Goals as goal
 
 pub returns-in-Err-clause-exact : goal.returns-in-Err-clause-exact

@@ -1,10 +1,7 @@
-use Rattle.std.proofs.Common.{◌≡◌, ℕ, ◌<◌, List, length, Err, refl}
-use Rattle.std.proofs.lemmas.Bool.{lt-ltb}
-use Rattle.seal_record.specs.Reading.{params_read}
-use Rattle.seal_record.specs.declared.params.ParamFault.{ParamFault}
-use Rattle.seal_record.specs.declared.params.ParamFault.TheVariants.{TooLong}
+use Rattle.std.proofs.{Common.{ℕ, ◌<◌, ◌≡◌, Err, List, length, refl}, lemmas.Bool.{lt-ltb}}
+use Rattle.seal_record.specs.{Reading.{params_read}, declared.params.ParamFault.TheVariants.{TooLong}}
+use Rattle.{call_ends.proofs.Laws.{same_fault}, store_commands.specs.Common.{ParamFault}}
 use Rattle.store_commands.specs.declared.params.ParamsFault.TheVariants as params
-use Rattle.call_ends.proofs.Laws.{same_fault}
 use Rattle.store_commands.proofs.params.read_parameters.Goals as goal
 
 -- a text that is longer than parameters may be is refused for that

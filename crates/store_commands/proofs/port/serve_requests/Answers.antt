@@ -1,16 +1,10 @@
-use Rattle.std.proofs.Common.{◌∙◌, ℕ, List, [], Result, refl, sym, subst, arith, rules, ap}
-use Rattle.data_port.specs.Serving.{Serves}
-use Rattle.totals_record.specs.declared.durable_state.Durable.{Durable}
-use Rattle.seal_record.specs.declared.seal.Seal.{Seal}
-use Rattle.call_ends.specs.declared.ending.Ended.{Ended}
+use Rattle.std.proofs.Common.{[], ℕ, ◌∙◌, List, Result, ap, arith, refl, rules, subst, sym}
+use Rattle.{data_port.specs.ServedStream.{Serves}, call_ends.proofs.Laws.{as_found, carries-looked, no_fault}}
+use Rattle.{call_ends.specs.Ending.{EndsOnDevices}, store_commands.proofs.ReadOnlyCalls.{unwritten-behind}}
+use Rattle.store_commands.specs.{Common.{Durable, Ended, Seal}, Port.{port_answer, port_command}}
+use Rattle.store_commands.{specs.StoreEnds.{ended_serving}, proofs.StoreTexts.{ends-barred}}
+use Rattle.store_commands.proofs.PortReplies.{board_fault-served, course-served, read_fault-served}
 use Rattle.call_ends.specs.declared.ending.Ended.TheVariants as ended
-use Rattle.call_ends.specs.Ending.{EndsOnDevices}
-use Rattle.store_commands.specs.StoreEnds.{ended_serving}
-use Rattle.store_commands.specs.Port.{port_answer, port_command}
-use Rattle.call_ends.proofs.Laws.{carries-looked, as_found, no_fault}
-use Rattle.store_commands.proofs.ReadOnlyCalls.{unwritten-behind}
-use Rattle.store_commands.proofs.Porting.{board_fault-served, course-served, read_fault-served}
-use Rattle.store_commands.proofs.StoreTexts.{ends-barred}
 use Rattle.store_commands.proofs.port.serve_requests.Goals as goal
 
 -- there is no sealed store

@@ -1,22 +1,13 @@
-use Rattle.std.proofs.Common.{◌≡◌, ◌∙◌, ℕ, List, Option, Result, Ok, Err, refl, sym, ap, subst, arith}
-use Rattle.std.proofs.lemmas.Result.{err_from_is_err_and}
-use Rattle.outside.specs.Faults.{Rose}
-use Rattle.seal_record.specs.Reading.{params_read}
-use Rattle.seal_record.specs.declared.params.Params.{Params}
-use Rattle.sha2.specs.Sha256.{sha256}
-use Rattle.tariff_syntax.specs.Tree.{Tree}
-use Rattle.call_ends.specs.Ending.{ended_for}
-use Rattle.store_commands.specs.StoreEnds.{ended_for_params}
-use Rattle.store_commands.specs.Seal.{HasDecimals, seal_read, where_decimals, with_params, seal_with_tariff}
+use Rattle.std.proofs.Common.{ℕ, ◌∙◌, ◌≡◌, Err, List, Ok, Option, Result, ap, arith, refl, subst, sym}
+use Rattle.{std.proofs.lemmas.Result.{err_from_is_err_and}, sha2.specs.Sha256.{sha256}}
+use Rattle.{seal_record.specs.Reading.{params_read}, call_ends.proofs.Laws.{no_fault, read_fault-text, same_fault}}
+use Rattle.{call_ends.specs.Ending.{ended_for}, store_commands.proofs.ReadFaults.{not_board-params, read_fault-params}}
+use Rattle.store_commands.{specs.Common.{Ended, Params, Refusal, Rose, Tree}, proofs.Turns.{first_alone, first_then}}
+use Rattle.store_commands.specs.Seal.{HasDecimals, seal_read, seal_with_tariff, where_decimals, with_params}
 use Rattle.store_commands.specs.SealSteps.{IsNoSeal}
-use Rattle.call_ends.specs.declared.ending.Ended.{Ended}
-use Rattle.call_ends.specs.declared.tariff.Refusal.{Refusal}
-use Rattle.call_ends.proofs.Laws.{read_fault-text, no_fault, same_fault}
+use Rattle.store_commands.{specs.StoreEnds.{ended_for_params}, proofs.Sealings.{no_seal-tariff, no_tariff-fault}}
 use Rattle.store_commands.specs.declared.params.ParamsFault.TheVariants as params
 use Rattle.call_ends.specs.declared.tariff.TextFault.TheVariants as texts
-use Rattle.store_commands.proofs.ReadFaults.{not_board-params, read_fault-params}
-use Rattle.store_commands.proofs.Sealings.{no_seal-tariff, no_tariff-fault}
-use Rattle.store_commands.proofs.Turns.{first_alone, first_then}
 use Rattle.store_commands.proofs.seal.read_seal.Goals as goal
 
 -- the seal of a number that texts make has the digest of the tariff

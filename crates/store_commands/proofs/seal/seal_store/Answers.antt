@@ -1,25 +1,17 @@
-use Rattle.std.proofs.Common.{◌≡◌, ⊎_elim, inl, inr, ◌∙◌, ℕ, Option, Err, refl, sym, ap, subst, arith, rules}
-use Rattle.std.specs.Prelude.{is_err}
-use Rattle.outside.specs.Faults.{Rose}
-use Rattle.totals_record.specs.declared.durable_state.Durable.{Durable}
-use Rattle.meter_store.specs.Sealing.{FoundTotals, old_seal}
-use Rattle.meter_store.proofs.Laws.{totals_are_found}
-use Rattle.call_ends.specs.declared.ending.Ended.{Ended}
-use Rattle.call_ends.specs.declared.ending.Ended.TheVariants as ended
-use Rattle.store_commands.specs.declared.opening.StoreFault.TheVariants as stores
-use Rattle.call_ends.specs.Ending.{EndsOnDevices}
-use Rattle.call_ends.specs.LastLine.{line_of, status_of}
-use Rattle.store_commands.specs.Opening.{opening_in, store_ended}
-use Rattle.store_commands.specs.Seal.{seal_answer, seal_command, sealing_of}
-use Rattle.store_commands.specs.SealSteps.{IsNoSeal}
-use Rattle.call_ends.proofs.Laws.{ends_apart, not_status, stops_at, as_found, as_refused, no_fault, same_fault}
-use Rattle.call_ends.proofs.Laws.{bytes-read}
+use Rattle.{std.specs.Prelude.{is_err}, meter_store.{specs.Sealing.{FoundTotals}, proofs.Laws.{totals_are_found}}}
+use Rattle.std.proofs.Common.{ℕ, ◌∙◌, ◌≡◌, Err, Option, ap, arith, inl, inr, refl, rules, subst, sym, ⊎_elim}
+use Rattle.call_ends.{specs.Ending.{EndsOnDevices}, proofs.Laws.{stops_at}}
+use Rattle.call_ends.proofs.Laws.{as_found, as_refused, bytes-read, ends_apart, no_fault, not_status, same_fault}
+use Rattle.store_commands.specs.{Common.{Durable, Ended, Rose, line_of, old_seal, status_of}, SealSteps.{IsNoSeal}}
+use Rattle.store_commands.specs.{Opening.{opening_in, store_ended}, Seal.{seal_answer, seal_command, sealing_of}}
 use Rattle.store_commands.proofs.Amid.{found-as, is_sealed, rests-no_seal, rests-placed, rests-refused, seals-over}
 use Rattle.store_commands.proofs.Amid.{seals-read, settled-sealed, stays_beside}
-use Rattle.store_commands.proofs.Answering.{course-barred as comes-barred_by_store, course-board}
-use Rattle.store_commands.proofs.Barring.{board_fault-store, not_read-store}
+use Rattle.store_commands.proofs.BarredEnds.{board_fault-store, not_read-store}
+use Rattle.store_commands.proofs.EndsByStore.{course-barred as comes-barred_by_store, course-board}
 use Rattle.store_commands.proofs.Sealings.{barred-fault, course-barred, course-no_seal, course-sealed, not_0-barred}
 use Rattle.store_commands.proofs.Sealings.{not_0-no_seal, not_0-store, sealing-barred, sealing-made, unread-sealing}
+use Rattle.call_ends.specs.declared.ending.Ended.TheVariants as ended
+use Rattle.store_commands.specs.declared.opening.StoreFault.TheVariants as stores
 use Rattle.store_commands.proofs.seal.seal_store.Goals as goal
 
 -- ---- the store can't be told

@@ -1,16 +1,12 @@
-use Rattle.std.proofs.Common.{◌≡◌, ◌∙◌, Some, None, Err, inl, inr, refl, sym, ap, subst}
-use Rattle.slot_store.specs.declared.found.Found.{Found}
-use Rattle.slot_store.specs.Scan.{IsAsFound}
-use Rattle.totals_record.specs.declared.durable_state.Durable.{Durable}
+use Rattle.std.proofs.Common.{◌∙◌, ◌≡◌, Err, None, Some, ap, inl, inr, refl, subst, sym}
+use Rattle.call_ends.proofs.Laws.{ends_apart, no_fault, same_fault}
+use Rattle.store_commands.specs.Common.{Durable, Found, IsAsFound}
+use Rattle.store_commands.{specs.Opening.{store_ended, store_of}, proofs.BarredEnds.{board_fault-store, not_read-store}}
+use Rattle.store_commands.proofs.{Openings.{opens-as, sealed_found, store_opened}, ReadOnlyCalls.{unwritten-opened}}
 use Rattle.totals_record.specs.Reading as totals
 use Rattle.meter_store.specs.Stored as states
 use Rattle.call_ends.specs.declared.ending.Ended.TheVariants as ended
 use Rattle.store_commands.specs.declared.opening.StoreFault.TheVariants as stores
-use Rattle.store_commands.specs.Opening.{store_ended, store_of}
-use Rattle.call_ends.proofs.Laws.{ends_apart, no_fault, same_fault}
-use Rattle.store_commands.proofs.Barring.{board_fault-store, not_read-store}
-use Rattle.store_commands.proofs.ReadOnlyCalls.{unwritten-opened}
-use Rattle.store_commands.proofs.Openings.{opens-as, store_opened, sealed_found}
 use Rattle.store_commands.proofs.sealed.open_sealed.Goals as goal
 
 -- ---- it can't be told what the store stands for

@@ -1,15 +1,9 @@
-use Rattle.std.proofs.Common.{◌≡◌, ◌∙◌, ◌++◌, ◌∷◌, ◌<◌, ℕ, ℤ, List, [], length, true, ap, refl, sym, subst, FitsSigned}
-use Rattle.std.proofs.Common.{w32, arith, rules}
-use Rattle.std.proofs.lemmas.Int.{to_z-of_z}
-use Rattle.std.proofs.lemmas.Result.{on_ok_weaker}
-use Rattle.outside.specs.Faults.{HasCause}
-use Rattle.outside.specs.Printing.{Begins}
-use Rattle.outside.proofs.Laws.{keeps_print, keeps_then}
-use Rattle.offset_rules.specs.Texts.{offset_lines}
-use Rattle.seal_record.specs.PlainText.{ended_text, secured_line}
-use Rattle.store_commands.specs.SealedText.{sealed_text}
+use Rattle.std.proofs.Common.{[], ℕ, ℤ, ◌++◌, ◌<◌, ◌∙◌, ◌∷◌, ◌≡◌, FitsSigned, List, ap, arith, length, refl, rules}
+use Rattle.std.proofs.{Common.{subst, sym, true, w32}, lemmas.{Int.{to_z-of_z}, Result.{on_ok_weaker}}}
+use Rattle.{outside.proofs.Laws.{keeps_print, keeps_then}, offset_rules.specs.Texts.{offset_lines}}
+use Rattle.{seal_record.specs.PlainText.{secured_line}, store_commands.proofs.SealedTexts.{printed_whole, text_parts}}
+use Rattle.store_commands.specs.{Common.{Begins, HasCause, ended_text}, SealedText.{sealed_text}}
 use Rattle.store_commands.proofs.SealedTexts.{begun_first, begun_second, begun_third, heading_of, printed_as}
-use Rattle.store_commands.proofs.SealedTexts.{printed_whole, text_parts}
 use Rattle.store_commands.proofs.sealed_params.print_seal.Goals as goal
 
 -- ---- the first print

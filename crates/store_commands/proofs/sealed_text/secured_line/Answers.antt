@@ -1,7 +1,5 @@
-use Rattle.std.proofs.Common.{◌≡◌, ◌++◌, rules}
-use Rattle.std.specs.Prelude.{codes}
-use Rattle.receipt_text.specs.Receipts.{day_text}
-use Rattle.store_commands.proofs.SealedTexts.{secured_joined}
+use Rattle.std.{specs.Prelude.{codes}, proofs.Common.{◌++◌, ◌≡◌, rules}}
+use Rattle.{receipt_text.specs.Receipts.{day_text}, store_commands.proofs.SealedTexts.{secured_joined}}
 use Rattle.store_commands.proofs.sealed_text.secured_line.Goals as goal
 
 pub returns-clause-text : goal.returns-clause-text

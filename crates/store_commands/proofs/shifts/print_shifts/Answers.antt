@@ -1,17 +1,11 @@
-use Rattle.std.proofs.Common.{◌∙◌, [], Result, Err, refl, sym, ap, arith, rules, length}
-use Rattle.std.specs.Prelude.{is_err}
-use Rattle.totals_record.specs.declared.durable_state.Durable.{Durable}
-use Rattle.seal_record.specs.declared.seal.Seal.{Seal}
-use Rattle.call_ends.proofs.Laws.{done_not_read, cause_done, stops_by, unless_read, carries-looked, as_found, no_fault}
-use Rattle.store_commands.proofs.ReadFaults.{read_fault-report}
-use Rattle.store_commands.specs.StoreEnds.{ended_for_report}
-use Rattle.call_ends.specs.declared.ending.Ended.{Ended}
+use Rattle.std.{specs.Prelude.{is_err}, proofs.Common.{[], ◌∙◌, Err, Result, ap, arith, length, refl, rules, sym}}
+use Rattle.call_ends.proofs.Laws.{as_found, carries-looked, cause_done, done_not_read, no_fault, stops_by, unless_read}
+use Rattle.store_commands.{specs.Common.{Durable, Ended, Seal}, proofs.StoreTexts.{ends-barred, ends-begun, ends-shown}}
+use Rattle.store_commands.specs.{Shifts.{shifts_answer, shifts_command}, StoreEnds.{ended_for_report}}
+use Rattle.store_commands.proofs.{ReadFaults.{read_fault-report}, ReadOnlyCalls.{unwritten-behind, unwritten-opened}}
+use Rattle.store_commands.proofs.ShiftReports.{course-no_report, not_board-report, shown-steps}
 use Rattle.call_ends.specs.declared.ending.Ended.TheVariants as ended
 use Rattle.store_commands.specs.declared.shifts.ReportFault.TheVariants as reports
-use Rattle.store_commands.specs.Shifts.{shifts_answer, shifts_command}
-use Rattle.store_commands.proofs.ReadOnlyCalls.{unwritten-behind, unwritten-opened}
-use Rattle.store_commands.proofs.Shifting.{course-no_report, not_board-report, shown-steps}
-use Rattle.store_commands.proofs.StoreTexts.{ends-barred, ends-begun, ends-shown}
 use Rattle.store_commands.proofs.shifts.print_shifts.Goals as goal
 
 -- there is no sealed store

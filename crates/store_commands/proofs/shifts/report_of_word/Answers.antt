@@ -1,11 +1,7 @@
-use Rattle.std.proofs.Common.{◌≡◌, ℕ, ◌<◌, List, length, Err, refl}
-use Rattle.std.proofs.lemmas.Bool.{lt-ltb}
-use Rattle.totals_record.specs.declared.durable_state.Durable.{Durable}
-use Rattle.shift_book.specs.BookReading.{book_read}
-use Rattle.shift_book.specs.declared.book.BookFault.{BookFault}
-use Rattle.shift_book.specs.declared.book.BookFault.TheVariants.{TooLong}
+use Rattle.std.proofs.{Common.{ℕ, ◌<◌, ◌≡◌, Err, List, length, refl}, lemmas.Bool.{lt-ltb}}
+use Rattle.{shift_book.specs.declared.book.BookFault.TheVariants.{TooLong}, call_ends.proofs.Laws.{same_fault}}
+use Rattle.store_commands.specs.Common.{BookFault, Durable, book_read}
 use Rattle.store_commands.specs.declared.shifts.ReportFault.TheVariants as reports
-use Rattle.call_ends.proofs.Laws.{same_fault}
 use Rattle.store_commands.proofs.shifts.report_of_word.Goals as goal
 
 -- a text that is longer than a book may be is refused for that

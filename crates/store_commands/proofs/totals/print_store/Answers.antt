@@ -1,12 +1,8 @@
-use Rattle.std.proofs.Common.{refl, ap, arith, rules, ◌∙◌}
-use Rattle.std.specs.Prelude.{is_err}
-use Rattle.call_ends.specs.Carried.{no_files}
+use Rattle.std.{specs.Prelude.{is_err}, proofs.Common.{◌∙◌, ap, arith, refl, rules}}
+use Rattle.call_ends.proofs.Laws.{board_not_read, carries-looked, cause_board, cause_done, done_not_read, no_fault}
+use Rattle.store_commands.specs.{Common.{no_files}, Totals.{totals_answer, totals_command}, TotalsText.{totals_text}}
+use Rattle.store_commands.proofs.{ReadOnlyCalls.{unwritten-behind}, StoreTexts.{ends-barred, ends-begun, ends-shown}}
 use Rattle.call_ends.specs.declared.ending.Ended.TheVariants as ended
-use Rattle.store_commands.specs.Totals.{totals_answer, totals_command}
-use Rattle.store_commands.specs.TotalsText.{totals_text}
-use Rattle.call_ends.proofs.Laws.{board_not_read, done_not_read, cause_board, cause_done, carries-looked, no_fault}
-use Rattle.store_commands.proofs.ReadOnlyCalls.{unwritten-behind}
-use Rattle.store_commands.proofs.StoreTexts.{ends-barred, ends-begun, ends-shown}
 use Rattle.store_commands.proofs.totals.print_store.Goals as goal
 
 -- there is no sealed store

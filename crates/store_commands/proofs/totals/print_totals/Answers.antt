@@ -1,10 +1,8 @@
-use Rattle.std.proofs.Common.{◌≡◌, ◌∙◌, ◌++◌, ℕ, List, append_assoc, refl, sym, ap, subst, arith, true}
-use Rattle.std.proofs.lemmas.List.{append-nil}
-use Rattle.std.specs.List.{flat_map, range_with_len}
-use Rattle.outside.specs.Printing.{Begins}
+use Rattle.std.{specs.List.{flat_map, range_with_len}, proofs.lemmas.List.{append-nil}}
+use Rattle.std.proofs.Common.{ℕ, ◌++◌, ◌∙◌, ◌≡◌, List, ap, append_assoc, arith, refl, subst, sym, true}
 use Rattle.outside.proofs.Laws.{begins_after, begins_more, begins_whole, keeps_print, keeps_then}
-use Rattle.store_commands.specs.TotalsText.{totals_heading, position_at, positions_text, totals_text}
 use Rattle.call_ends.proofs.Laws.{begins-row, printed-row}
+use Rattle.store_commands.specs.{Common.{Begins}, TotalsText.{position_at, positions_text, totals_heading, totals_text}}
 use Rattle.store_commands.proofs.totals.print_totals.Goals as goal
 
 -- ---- the heading

@@ -1,7 +1,5 @@
-use Rattle.std.proofs.Common.{◌≡◌, ◌+◌, ◌≤◌, ◌++◌}
-use Rattle.std.specs.List.{flat_map, range_with_len}
-use Rattle.outside.specs.Runs.{KeepsStore}
-use Rattle.store_commands.specs.TotalsText.{totals_heading, position_at}
+use Rattle.std.{specs.List.{flat_map, range_with_len}, proofs.Common.{◌++◌, ◌+◌, ◌≡◌, ◌≤◌}}
+use Rattle.store_commands.specs.{Common.{KeepsStore}, TotalsText.{position_at, totals_heading}}
 use Rattle.store_commands.proofs.totals.print_totals.Given as goal
 
 -- the heading and the lines of the positions so far were printed

@@ -1,10 +1,6 @@
-use Rattle.std.proofs.Common.{◌≡◌, ◌∙◌, ap, rules, ℕ, Bool, true, false, if◌then◌else◌, Option, Some, None}
-use Rattle.std.specs.BTreeSet.{insert_key}
-use Rattle.std.specs.Ordering.{nat_cmp}
-use Rattle.std.specs.Prelude.{OnOk, Result, Ok, Err}
-use Rattle.std.specs.Result.{is_err}
-use Rattle.taxi_units.specs.Calendar.{is_date}
-use Rattle.tariff_calendar.specs.Lists.{day_of}
+use Rattle.std.specs.{BTreeSet.{insert_key}, Ordering.{nat_cmp}, Prelude.{Err, Ok, OnOk, Result}, Result.{is_err}}
+use Rattle.std.proofs.Common.{ℕ, ◌∙◌, ◌≡◌, Bool, None, Option, Some, ap, false, if◌then◌else◌, rules, true}
+use Rattle.{taxi_units.specs.Calendar.{is_date}, tariff_calendar.specs.Lists.{day_of}}
 use Rattle.tariff_calendar.proofs.collecting.add.Goals as goal
 
 -- what holds on success holds if there is no error

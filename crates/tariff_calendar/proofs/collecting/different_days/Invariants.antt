@@ -1,6 +1,5 @@
-use Rattle.std.proofs.Common.{◌≡◌, [], map, drop}
-use Rattle.tariff_calendar.specs.Lists.{day_of}
-use Rattle.tariff_check.specs.Cuts.{with_each}
+use Rattle.std.proofs.Common.{[], ◌≡◌, drop, map}
+use Rattle.tariff_calendar.specs.{Common.{with_each}, Lists.{day_of}}
 use Rattle.tariff_calendar.proofs.collecting.different_days.Given as goal
 
 -- the days of the holidays so far, with those that are left

@@ -1,5 +1,4 @@
-use Rattle.std.proofs.Common.{arith}
-use Rattle.std.proofs.lemmas.Grind.{common_steps}
+use Rattle.std.proofs.{Common.{arith}, lemmas.Grind.{common_steps}}
 use Rattle.tariff_calendar.proofs.collecting.in_pulses.Goals as goal
 
 pub loop-decimetres-preserved : goal.loop-decimetres-preserved

@@ -1,5 +1,4 @@
-use Rattle.std.proofs.Common.{ℕ, refl}
-use Rattle.std.proofs.lemmas.List.Sorted.{IsNonDecreasingBy-from_default, IsPartitionedBy-leb}
+use Rattle.std.proofs.{Common.{ℕ, refl}, lemmas.List.Sorted.{IsNonDecreasingBy-from_default, IsPartitionedBy-leb}}
 use Rattle.tariff_calendar.proofs.Counts.{IsNotFalling-le}
 use Rattle.tariff_calendar.proofs.lookups.count.Goals as goal
 

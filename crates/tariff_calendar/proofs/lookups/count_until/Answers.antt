@@ -1,6 +1,5 @@
-use Rattle.std.proofs.Common.{◌≡◌, ◌∙◌, ℕ, ◌+◌, ◌-◌, ◌/◌, ◌<◌, List, get_or, ap, subst, sym, arith}
-use Rattle.taxi_units.proofs.Laws.{ends_after}
-use Rattle.tariff_calendar.proofs.Reaches.{count-before, counted-before}
+use Rattle.std.proofs.Common.{ℕ, ◌+◌, ◌-◌, ◌/◌, ◌<◌, ◌∙◌, ◌≡◌, List, ap, arith, get_or, subst, sym}
+use Rattle.{taxi_units.proofs.Laws.{ends_after}, tariff_calendar.proofs.Reaches.{count-before, counted-before}}
 use Rattle.tariff_calendar.proofs.lookups.count_until.Goals as goal
 
 pub loop-count-preserved-then-number-value : goal.loop-count-preserved-then-number-value

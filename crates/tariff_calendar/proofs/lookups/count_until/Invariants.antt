@@ -1,4 +1,4 @@
-use Rattle.std.proofs.Common.{ℕ, ◌+◌, ◌-◌, ◌<◌, ◌≤◌, ◌^◌, length, get_or}
+use Rattle.std.proofs.Common.{ℕ, ◌+◌, ◌-◌, ◌<◌, ◌^◌, ◌≤◌, get_or, length}
 use Rattle.taxi_units.specs.Halving.{EndsWithin}
 use Rattle.tariff_calendar.proofs.lookups.count_until.Given as goal
 

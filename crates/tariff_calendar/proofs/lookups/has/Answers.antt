@@ -1,7 +1,5 @@
-use Rattle.std.proofs.Common.{ℕ, sym}
-use Rattle.std.proofs.lemmas.List.Sorted.{IsNonDecreasingBy-from_default, IsPartitionedBy-leb}
-use Rattle.tariff_calendar.proofs.Counts.{IsNotFalling-le}
-use Rattle.tariff_calendar.proofs.Found.{last_found, none_found}
+use Rattle.std.proofs.{Common.{ℕ, sym}, lemmas.List.Sorted.{IsNonDecreasingBy-from_default, IsPartitionedBy-leb}}
+use Rattle.tariff_calendar.proofs.{Counts.{IsNotFalling-le}, Found.{last_found, none_found}}
 use Rattle.tariff_calendar.proofs.lookups.has.Goals as goal
 
 pub returns-in-Some-clause-value : goal.returns-in-Some-clause-value

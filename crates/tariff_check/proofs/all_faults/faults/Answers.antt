@@ -1,6 +1,5 @@
 use Rattle.std.proofs.Common.{◌∙◌, map, sym}
-use Rattle.tariff_syntax.specs.Tree.{line_of}
-use Rattle.tariff_check.proofs.AllFaults.{all_before}
+use Rattle.tariff_check.{specs.Common.{line_of}, proofs.AllFaults.{all_before}}
 use Rattle.tariff_check.proofs.all_faults.faults.Goals as goal
 
 pub returns-then-not-is_empty : goal.returns-then-not-is_empty

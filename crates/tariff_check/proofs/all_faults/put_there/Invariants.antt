@@ -1,4 +1,4 @@
-use Rattle.std.proofs.Common.{◌≡◌, ◌++◌, drop}
+use Rattle.std.proofs.Common.{◌++◌, ◌≡◌, drop}
 use Rattle.tariff_check.specs.AllFaults.{those_there}
 use Rattle.tariff_check.proofs.all_faults.put_there.Given as goal
 

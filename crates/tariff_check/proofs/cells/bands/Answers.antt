@@ -1,5 +1,4 @@
-use Rattle.std.proofs.Common.{◌+◌, ◌≤◌, arith}
-use Rattle.std.proofs.Math.Nat.{mul-le-mul}
+use Rattle.std.proofs.{Common.{◌+◌, ◌≤◌, arith}, Math.Nat.{mul-le-mul}}
 use Rattle.tariff_check.proofs.cells.bands.Goals as goal
 
 pub returns-clause-most : goal.returns-clause-most

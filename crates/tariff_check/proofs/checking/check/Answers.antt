@@ -1,11 +1,6 @@
-use Rattle.std.proofs.Common.{◌≡◌, List, map, refl, subst}
-use Rattle.std.proofs.lemmas.Result.{err_from_is_err_and}
-use Rattle.tariff_check.proofs.SoundParts.{sound_parts}
-use Rattle.tariff_check.proofs.Staging.{sound_if_none}
-use Rattle.tariff_check.specs.Faults.{HasNone, faults_before_cuts}
-use Rattle.tariff_check.specs.declared.fault.CheckFault.TheVariants.{NoMemory}
-use Rattle.tariff_syntax.specs.Tree.{line_of, tree_of}
-use Rattle.tariff_syntax.specs.declared.tariff.TariffLine.{TariffLine}
+use Rattle.std.proofs.{Common.{◌≡◌, List, map, refl, subst}, lemmas.Result.{err_from_is_err_and}}
+use Rattle.tariff_check.specs.{Common.{NoMemory, TariffLine, line_of, tree_of}, Faults.{HasNone, faults_before_cuts}}
+use Rattle.tariff_check.proofs.{FaultStages.{sound_if_none}, SoundParts.{sound_parts}}
 use Rattle.tariff_check.proofs.checking.check.Goals as goal
 
 pub invariant_of-result : goal.invariant_of-result

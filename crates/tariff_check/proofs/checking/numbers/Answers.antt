@@ -1,17 +1,10 @@
-use Rattle.std.proofs.Common.{◌≡◌, ℕ, ◌<◌, ◌≤◌, ◌^◌, ◌∙◌, List, Option, Some, None, inl, inr, map, refl, sym, ap}
-use Rattle.std.proofs.Common.{arith, subst}
-use Rattle.std.specs.Option.{option_or}
-use Rattle.std.proofs.lemmas.Bool.{le-ltb, lt-ltb}
-use Rattle.std.proofs.lemmas.Result.{err_from_is_err_and}
-use Rattle.tariff_syntax.specs.Tree.{Line, line_of}
-use Rattle.tariff_check.specs.Cells.{cells_of}
-use Rattle.tariff_check.specs.Faults.{faults_of, first_some}
-use Rattle.tariff_check.specs.Measure.{measure_of}
-use Rattle.tariff_check.specs.Stages.{cut_fault, early_fault, late_fault}
-use Rattle.tariff_check.specs.declared.fault.CheckFault.{CheckFault}
-use Rattle.tariff_check.specs.declared.fault.CheckFault.TheVariants.{TooManyCells}
-use Rattle.tariff_check.proofs.Staging.{cuts_are_first, early_is_first, early_no_memory, measured_if, none_before_cuts}
-use Rattle.tariff_check.proofs.Staging.{staged, step_is_first, step_no_memory}
+use Rattle.{std.specs.Option.{option_or}, tariff_check.specs.Common.{CheckFault, Line, TooManyCells, line_of}}
+use Rattle.std.proofs.Common.{ℕ, ◌<◌, ◌^◌, ◌∙◌, ◌≡◌, ◌≤◌, List, None, Option, Some, ap, arith, inl, inr, map, refl}
+use Rattle.std.proofs.{Common.{subst, sym}, lemmas.{Bool.{le-ltb, lt-ltb}, Result.{err_from_is_err_and}}}
+use Rattle.tariff_check.specs.{Cells.{cells_of}, Measure.{measure_of}}
+use Rattle.tariff_check.specs.{Faults.{faults_of, first_some}, Stages.{cut_fault, early_fault, late_fault}}
+use Rattle.tariff_check.proofs.FaultStages.{cuts_are_first, early_is_first, early_no_memory, measured_if}
+use Rattle.tariff_check.proofs.FaultStages.{none_before_cuts, staged, step_is_first, step_no_memory}
 use Rattle.tariff_check.proofs.checking.numbers.Goals as goal
 
 -- if no other fault is there, too many cells are

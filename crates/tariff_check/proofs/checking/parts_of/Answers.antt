@@ -1,7 +1,5 @@
-use Rattle.std.proofs.Common.{map}
-use Rattle.std.specs.Prelude.{OnErr, Result, Ok, Err}
-use Rattle.tariff_syntax.specs.Tree.{line_of}
-use Rattle.tariff_check.proofs.Staging.{none_before}
+use Rattle.{std.{specs.Prelude.{Err, Ok, OnErr, Result}, proofs.Common.{map}}, tariff_check.specs.Common.{line_of}}
+use Rattle.tariff_check.proofs.FaultStages.{none_before}
 use Rattle.tariff_check.proofs.checking.parts_of.Goals as goal
 
 -- what holds anyway holds on an error

@@ -1,6 +1,4 @@
-use Rattle.std.proofs.lemmas.Result.{on_ok_weaker}
-use Rattle.tariff_syntax.specs.Condition.{condition_of}
-use Rattle.tariff_check.specs.Lines.{atoms_of}
+use Rattle.{std.proofs.lemmas.Result.{on_ok_weaker}, tariff_check.specs.{Common.{condition_of}, Lines.{atoms_of}}}
 use Rattle.tariff_check.proofs.CutLaws.{with_both}
 use Rattle.tariff_check.proofs.cuts.+add_condition.Goals as goal
 

@@ -1,6 +1,5 @@
-use Rattle.std.proofs.Common.{◌≡◌, map, drop}
-use Rattle.tariff_check.specs.Cuts.{all_cuts, cuts_of, with_each}
-use Rattle.tariff_syntax.specs.Tree.{line_of}
+use Rattle.std.proofs.Common.{◌≡◌, drop, map}
+use Rattle.tariff_check.specs.{Common.{line_of}, Cuts.{all_cuts, cuts_of, with_each}}
 use Rattle.tariff_check.proofs.cuts.cuts.Given as goal
 
 abbrev pub invariant-loop-line : goal.invariant-loop-line

@@ -1,6 +1,5 @@
 use Rattle.std.proofs.Common.{◌≡◌, drop, map}
-use Rattle.tariff_syntax.specs.Tree.{line_of}
-use Rattle.tariff_check.specs.FoundLines.{frame_line}
+use Rattle.tariff_check.specs.{Common.{line_of}, FoundLines.{frame_line}}
 use Rattle.tariff_check.proofs.found_lines.first_saying.Given as goal
 
 abbrev pub invariant-loop-line : goal.invariant-loop-line

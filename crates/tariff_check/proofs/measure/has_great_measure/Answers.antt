@@ -1,6 +1,4 @@
-use Rattle.std.proofs.Common.{map}
-use Rattle.tariff_syntax.specs.Tree.{line_of}
-use Rattle.tariff_check.proofs.AllFaults.{not_great}
+use Rattle.{std.proofs.Common.{map}, tariff_check.{specs.Common.{line_of}, proofs.AllFaults.{not_great}}}
 use Rattle.tariff_check.proofs.measure.has_great_measure.Goals as goal
 
 pub returns-else-not-some_is_for_nothing : goal.returns-else-not-some_is_for_nothing

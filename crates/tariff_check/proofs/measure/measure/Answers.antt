@@ -1,5 +1,4 @@
-use Rattle.std.proofs.Common.{arith}
-use Rattle.tariff_check.proofs.MeasureLaws.{rate_some, no_smaller}
+use Rattle.{std.proofs.Common.{arith}, tariff_check.proofs.MeasureLaws.{no_smaller, rate_some}}
 use Rattle.tariff_check.proofs.measure.measure.Goals as goal
 
 pub with_both-requires-clause-distance : goal.with_both-requires-clause-distance

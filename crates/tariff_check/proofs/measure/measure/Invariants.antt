@@ -1,6 +1,5 @@
-use Rattle.std.proofs.Common.{◌≡◌, ◌<◌, ◌≤◌, ◌^◌, map, drop}
-use Rattle.tariff_check.specs.Measure.{common_with, measures_of, measure_of}
-use Rattle.tariff_syntax.specs.Tree.{line_of}
+use Rattle.std.proofs.Common.{◌<◌, ◌^◌, ◌≡◌, ◌≤◌, drop, map}
+use Rattle.tariff_check.specs.{Common.{line_of}, Measure.{common_with, measure_of, measures_of}}
 use Rattle.tariff_check.proofs.measure.measure.Given as goal
 
 abbrev pub invariant-loop-line : goal.invariant-loop-line

@@ -1,7 +1,5 @@
-use Rattle.std.proofs.Common.{◌≡◌, map, drop}
-use Rattle.std.specs.List.{list_any}
-use Rattle.tariff_check.specs.Lines.{is_for_nothing}
-use Rattle.tariff_syntax.specs.Tree.{Line, line_of}
+use Rattle.std.{specs.List.{list_any}, proofs.Common.{◌≡◌, drop, map}}
+use Rattle.tariff_check.specs.{Common.{Line, line_of}, Lines.{is_for_nothing}}
 use Rattle.tariff_check.proofs.measure.some_is_for_nothing.Given as goal
 
 abbrev pub invariant-loop-line : goal.invariant-loop-line

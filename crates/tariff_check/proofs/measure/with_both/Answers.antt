@@ -1,6 +1,4 @@
-use Rattle.std.proofs.Common.{arith}
-use Rattle.tariff_check.specs.Measure.{lcm_of}
-use Rattle.tariff_check.proofs.MeasureLaws.{lcm_grows, lcm_some}
+use Rattle.{std.proofs.Common.{arith}, tariff_check.{specs.Measure.{lcm_of}, proofs.MeasureLaws.{lcm_grows, lcm_some}}}
 use Rattle.tariff_check.proofs.measure.with_both.Goals as goal
 
 pub returns-in_err-with_one : goal.returns-in_err-with_one

@@ -1,5 +1,4 @@
-use Rattle.std.proofs.Common.{ℕ}
-use Rattle.std.specs.Int.{IsGcd}
+use Rattle.std.{specs.Int.{IsGcd}, proofs.Common.{ℕ}}
 use Rattle.tariff_check.proofs.multiples.greatest_divisor.Given as goal
 
 abbrev pub invariant-loop-y : goal.invariant-loop-y

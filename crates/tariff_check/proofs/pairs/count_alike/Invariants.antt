@@ -1,7 +1,5 @@
-use Rattle.std.proofs.Common.{◌≡◌, ◌+◌, ◌≤◌, map, drop}
-use Rattle.std.specs.List.{count_by}
-use Rattle.tariff_check.specs.Lines.{is_alike}
-use Rattle.tariff_syntax.specs.Tree.{Line, entry_of, line_of}
+use Rattle.std.{specs.List.{count_by}, proofs.Common.{◌+◌, ◌≡◌, ◌≤◌, drop, map}}
+use Rattle.tariff_check.specs.{Common.{Line, entry_of, line_of}, Lines.{is_alike}}
 use Rattle.tariff_check.proofs.pairs.count_alike.Given as goal
 
 abbrev pub invariant-loop-line : goal.invariant-loop-line

@@ -1,7 +1,5 @@
-use Rattle.std.proofs.Common.{◌≡◌, map, drop}
-use Rattle.std.specs.List.{list_any}
-use Rattle.tariff_check.specs.Lines.{excludes}
-use Rattle.tariff_syntax.specs.Tree.{Line, entry_of, line_of}
+use Rattle.std.{specs.List.{list_any}, proofs.Common.{◌≡◌, drop, map}}
+use Rattle.tariff_check.specs.{Common.{Line, entry_of, line_of}, Lines.{excludes}}
 use Rattle.tariff_check.proofs.pairs.some_excludes.Given as goal
 
 abbrev pub invariant-loop-line : goal.invariant-loop-line

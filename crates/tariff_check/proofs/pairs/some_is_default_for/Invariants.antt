@@ -1,7 +1,5 @@
-use Rattle.std.proofs.Common.{◌≡◌, map, drop}
-use Rattle.std.specs.List.{list_any}
-use Rattle.tariff_check.specs.Lines.{is_default_for}
-use Rattle.tariff_syntax.specs.Tree.{Line, entry_of, line_of}
+use Rattle.std.{specs.List.{list_any}, proofs.Common.{◌≡◌, drop, map}}
+use Rattle.tariff_check.specs.{Common.{Line, entry_of, line_of}, Lines.{is_default_for}}
 use Rattle.tariff_check.proofs.pairs.some_is_default_for.Given as goal
 
 abbrev pub invariant-loop-line : goal.invariant-loop-line

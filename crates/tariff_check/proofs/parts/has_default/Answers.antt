@@ -1,6 +1,4 @@
-use Rattle.std.proofs.Common.{map}
-use Rattle.tariff_syntax.specs.Tree.{line_of}
-use Rattle.tariff_check.proofs.FirstParts.{default_is}
+use Rattle.{std.proofs.Common.{map}, tariff_check.{specs.Common.{line_of}, proofs.FirstParts.{default_is}}}
 use Rattle.tariff_check.proofs.parts.has_default.Goals as goal
 
 pub loop-line-init : goal.loop-line-init

@@ -1,9 +1,6 @@
-use Rattle.std.proofs.Common.{◌≡◌, map, drop}
-use Rattle.std.specs.List.{list_any}
-use Rattle.tariff_check.specs.Faults.{has_default}
+use Rattle.std.{specs.List.{list_any}, proofs.Common.{◌≡◌, drop, map}}
+use Rattle.tariff_check.{specs.{Common.{line_of}, Faults.{has_default}}, proofs.FirstParts.{is_default}}
 use Rattle.tariff_check.specs.Kinds.{part_of}
-use Rattle.tariff_syntax.specs.Tree.{line_of}
-use Rattle.tariff_check.proofs.FirstParts.{is_default}
 use Rattle.tariff_check.proofs.parts.has_default.Given as goal
 
 abbrev pub invariant-loop-line : goal.invariant-loop-line

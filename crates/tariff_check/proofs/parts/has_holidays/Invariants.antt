@@ -1,6 +1,5 @@
-use Rattle.std.proofs.Common.{◌≡◌, map, drop}
-use Rattle.tariff_check.specs.Parts.{has_holidays}
-use Rattle.tariff_syntax.specs.Tree.{line_of}
+use Rattle.std.proofs.Common.{◌≡◌, drop, map}
+use Rattle.tariff_check.specs.{Common.{line_of}, Parts.{has_holidays}}
 use Rattle.tariff_check.proofs.parts.has_holidays.Given as goal
 
 abbrev pub invariant-loop-line : goal.invariant-loop-line

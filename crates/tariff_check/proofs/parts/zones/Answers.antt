@@ -1,6 +1,5 @@
-use Rattle.std.proofs.Common.{◌∙◌, Some, None, map, sym}
-use Rattle.tariff_syntax.specs.Tree.{line_of}
-use Rattle.tariff_check.proofs.FirstParts.{zones_said}
+use Rattle.std.proofs.Common.{◌∙◌, None, Some, map, sym}
+use Rattle.tariff_check.{specs.Common.{line_of}, proofs.FirstParts.{zones_said}}
 use Rattle.tariff_check.proofs.parts.zones.Goals as goal
 
 pub returns-in-Some : goal.returns-in-Some

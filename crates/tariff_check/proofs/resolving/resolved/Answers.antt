@@ -1,5 +1,4 @@
-use Rattle.std.proofs.Common.{arith}
-use Rattle.std.proofs.lemmas.Grind.{common_steps}
+use Rattle.std.proofs.{Common.{arith}, lemmas.Grind.{common_steps}}
 use Rattle.tariff_check.proofs.CountedChoices.{choice_line_put, kept_put, none_kept}
 use Rattle.tariff_check.proofs.resolving.resolved.Goals as goal
 

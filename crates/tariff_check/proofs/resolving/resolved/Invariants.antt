@@ -1,11 +1,7 @@
-use Rattle.std.proofs.Common.{◌≡◌, ◌++◌, map, drop, take}
-use Rattle.tariff_syntax.specs.Tree.{line_of}
-use Rattle.tariff_check.specs.ChoiceLines.{choice_lines, choices_behind}
-use Rattle.tariff_check.specs.Kinds.{kept_of, part_of}
-use Rattle.tariff_check.specs.Parts.{holidays_of, parts}
+use Rattle.std.proofs.Common.{◌++◌, ◌≡◌, drop, map, take}
+use Rattle.tariff_check.specs.{ChoiceLines.{choice_lines, choices_behind}, SoundTariff.{numbered_supplement}}
+use Rattle.tariff_check.specs.{Common.{ChoiceKind, line_of}, Kinds.{kept_of, part_of}, Parts.{holidays_of, parts}}
 use Rattle.tariff_check.specs.Resolved.{placed_from}
-use Rattle.tariff_check.specs.SoundTariff.{numbered_supplement}
-use Rattle.tariff_check.specs.declared.choice.ChoiceKind.{ChoiceKind}
 use Rattle.tariff_check.proofs.resolving.resolved.Given as goal
 
 abbrev pub invariant-loop-place : goal.invariant-loop-place

@@ -1,7 +1,5 @@
-use Rattle.std.proofs.Common.{◌≡◌, map, take, drop}
-use Rattle.tariff_check.specs.Lines.{first_after, first_line}
-use Rattle.tariff_check.specs.Rules.{breaks_rule}
-use Rattle.tariff_syntax.specs.Tree.{line_of}
+use Rattle.std.proofs.Common.{◌≡◌, drop, map, take}
+use Rattle.tariff_check.specs.{Common.{line_of}, Lines.{first_after, first_line}, Rules.{breaks_rule}}
 use Rattle.tariff_check.proofs.rules.first_line.Given as goal
 
 abbrev pub invariant-loop-place : goal.invariant-loop-place

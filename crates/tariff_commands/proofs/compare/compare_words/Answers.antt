@@ -1,179 +1,88 @@
-use Rattle.std.proofs.Common.{◌≡◌, ◌≢◌, ◌∙◌, ℕ, List, Err, refl, sym, ap, subst, arith}
-use Rattle.tariff_syntax.specs.Tree.{tree_of}
-use Rattle.outside.specs.Faults.{Rose}
-use Rattle.outside.proofs.Laws.{rose_behind}
-use Rattle.tariff_commands.specs.CompareSteps.{IsNotCompared, IsNoTariff}
-use Rattle.call_ends.specs.Tariffs.{tariff_in}
-use Rattle.tariff_commands.specs.declared.compare.CompareFault.{CompareFault}
-use Rattle.tariff_commands.specs.declared.compare.CompareFault.TheVariants as compares
-use Rattle.call_ends.specs.declared.tariff.Refusal.{Refusal}
-use Rattle.call_ends.specs.declared.tariff.TextFault.{TextFault}
-use Rattle.call_ends.specs.declared.tariff.TextFault.TheVariants as texts
-use Rattle.call_ends.proofs.Laws.{no_fault, same_fault}
+use Rattle.std.proofs.Common.{[], ◌∙◌, ◌≡◌, Err, Result, ap, ap₂, arith, inl, inr, refl, sym, ⊎_elim}
+use Rattle.{call_ends.specs.Reads.{GoesTo}, tariff_commands.proofs.ComparedTariffs.{read_other}}
+use Rattle.call_ends.proofs.Laws.{ends-plain, fails-text, goes-none, goes-on, makes-answer, makes-failing, makes-none}
+use Rattle.call_ends.proofs.Laws.{no_fault, not_board-text, read_fault-text, reads-bad, reads-ok, refuses-bad}
+use Rattle.tariff_commands.specs.{Common.{Refusal, Tree, ended_for, tariff_in, tree_of}, CompareSteps.{ended_for_other}}
+use Rattle.tariff_commands.specs.Compare.{compare_answer, compare_command}
+use Rattle.tariff_commands.proofs.ComparedTariffs.{board_other, compared_answer, compares, fails_other, plain_comparing}
 use Rattle.tariff_commands.proofs.compare.compare_words.Goals as goal
 
-two-one : ◌≢◌ {A = ℕ} 2 1
-two-one e = absurd (omega (arith, e))
+-- the first tariff wasn't read
+pub returns-in-Err : goal.returns-in-Err
+returns-in-Err g c = λ image. let f = c.read_tariff.ensures in let fault = c.in-Err.fault in
+    let k = c.args.constant in
+    let other = tariff_in (g.F.Files.rest c.args.files.now 2) in
+    rw c.refused_by.ensures (makes-failing (compares k) 1 [] (goes-none c.args.files.now)
+    (reads-bad f.read_fault f.others f.counts ended_for c.in-Err.is (read_fault-text fault) refl
+    (not_board-text fault)) refl (omega arith)
+    (inl refl) (λ tells. inl (refl, tt)) (λ tells. refl) (λ tells. tt)
+    (λ tells. fails-text fault (λ why e. ends-plain (compares k) (refuses-bad
+    (ap (λ (r : Result Tree Refusal). compare_answer k r other) (f.refused why tells (c.in-Err.is ∙ ap Err e)))))))
 
-one-two : ◌≢◌ {A = ℕ} 1 2
-one-two e = absurd (omega (arith, e))
-
--- a text has no tariff, by the fault with which it was read
-no_tariff : (text : List ℕ) (failed : Type 0) (fault : TextFault) → (fault ≡ texts.ReadFault → failed)
-    → ((why : Refusal) → fault ≡ texts.Refused why → tariff_in text ≡ Err why) → IsNoTariff text failed fault
-no_tariff text failed texts.ReadFault read refused = read refl
-no_tariff text failed (texts.Refused why) read refused = refused why refl
-no_tariff text failed texts.NoMemory read refused = tt
-
--- two faults are of one tariff if they are the same, and the faults of the two tariffs are none of one another
-first_is : (fault other : TextFault) → compares.Tariff fault ≡ compares.Tariff other → fault ≡ other
-first_is fault other e = cc
-
-other_is : (fault other : TextFault) → compares.Other fault ≡ compares.Other other → fault ≡ other
-other_is fault other e = cc
-
-not_first : (fault other : TextFault) → compares.Other fault ≢ compares.Tariff other
-not_first fault other = λ e. absurd cc
-
-memory_not_first : (fault : TextFault) → compares.NoMemory ≢ compares.Tariff fault
-memory_not_first fault = λ e. absurd cc
-
-memory_not_other : (fault : TextFault) → compares.NoMemory ≢ compares.Other fault
-memory_not_other fault = λ e. absurd cc
-
--- ---- the first tariff wasn't read
-
-pub returns-in-Err-clause-refused : goal.returns-in-Err-clause-refused
-returns-in-Err-clause-refused g c = λ fault tells e.
-    let rest = g.F.Files.rest in
-    let faults = g.F.Files.faults in
+-- the other one wasn't read
+pub returns-in-Err-read_tariff : goal.returns-in-Err-read_tariff
+returns-in-Err-read_tariff g c = λ image.
+    let k = c.args.constant in
     let files = c.args.files.now in
-    let new = c.read_tariff.new.files in
-    let why = c.in-Err.fault in
-    subst (λ (f : CompareFault). IsNotCompared (rest files 1) (rest files 2) (Rose (faults files 1) (faults new 1))
-    (Rose (faults files 2) (faults new 2)) f) (same_fault _ _ _ refl e)
-    (no_tariff (rest files 1) (Rose (faults files 1) (faults new 1)) why
-    (λ f. c.read_tariff.ensures.read_fault (c.in-Err.is ∙ ap Err f))
-    (λ r f. c.read_tariff.ensures.refused r tells (c.in-Err.is ∙ ap Err f)))
+    let f = c.read_tariff.ensures in
+    let s = c.read_tariff-2.ensures in
+    let t = tree_of c.in-Ok.one in
+    let fault = c.in-Err-read_tariff.fault in
+    let goes : GoesTo g.F.Files (compare_command k) image g.F.Files.tells 0 files c.read_tariff.new.files =
+    goes-on 1 [] (goes-none files) (reads-ok f.read_fault f.others f.counts c.in-Ok.ensures.ended c.in-Ok.is) (omega
+    arith) (inl refl)
+    (λ tells. inl (refl, tt)) (no_fault _ _ _ refl) in
+    rw c.refused_other.ensures
+    (makes-failing (compares k) 2 [] goes
+    (reads-bad s.read_fault s.others s.counts ended_for_other c.in-Err-read_tariff.is (read_other fault) refl
+    (board_other fault)) refl (omega arith) (inr refl)
+    (λ tells. inr (refl, record { tree = t; reads = c.in-Ok.ensures.found tells })) (λ tells. refl) (λ tells. tt)
+    (λ tells. fails_other fault (λ why e. ends-plain (compares k) (record {
+      is = ap₂ (compare_answer k) (c.in-Ok.ensures.found tells)
+          (ap tariff_in (sym (f.others 2 (λ e. absurd (omega (arith, e)))))
+          ∙ s.refused why tells (c.in-Err-read_tariff.is ∙ ap Err e));
+      final = refl;
+    }))))
 
-pub returns-in-Err-clause-read_fault : goal.returns-in-Err-clause-read_fault
-returns-in-Err-clause-read_fault g c = λ e.
-    c.read_tariff.ensures.read_fault (c.in-Err.is ∙ ap Err (first_is _ _ (same_fault _ _ _ refl e)))
-
-pub returns-in-Err-clause-first : goal.returns-in-Err-clause-first
-returns-in-Err-clause-first g c = λ fault e other differs. c.read_tariff.ensures.others other differs
-
-pub returns-in-Err-clause-others : goal.returns-in-Err-clause-others
-returns-in-Err-clause-others g c = λ other not_1 not_2. c.read_tariff.ensures.others other not_1
-
-pub returns-in-Err-clause-unread : goal.returns-in-Err-clause-unread
-returns-in-Err-clause-unread g c = λ tells other not_1 never. c.read_tariff.ensures.others other not_1
-
-pub returns-in-Err-clause-counts : goal.returns-in-Err-clause-counts
-returns-in-Err-clause-counts g c = λ first second.
-    c.read_tariff.ensures.counts
-    (λ e. first (ap (λ (f : TextFault). Err (compares.Tariff f)) (same_fault _ _ _ c.in-Err.is e)))
-
--- ---- the other one wasn't read
-
-pub returns-in-Err-read_tariff-clause-refused : goal.returns-in-Err-read_tariff-clause-refused
-returns-in-Err-read_tariff-clause-refused g c = λ fault tells e.
-    let rest = g.F.Files.rest in
-    let faults = g.F.Files.faults in
+-- there was no memory for a comparison
+pub returns : goal.returns
+returns g c = λ image.
     let files = c.args.files.now in
-    let mid = c.read_tariff.new.files in
+    let f = c.read_tariff.ensures in
+    let s = c.read_tariff-2.ensures in
+    let goes : GoesTo g.F.Files (compare_command c.args.constant) image g.F.Files.tells 1 files
+    c.read_tariff-2.new.files =
+    goes-on 2 [] (goes-on 1 [] (goes-none files) (reads-ok f.read_fault f.others f.counts c.in-Ok.ensures.ended
+    c.in-Ok.is)
+    (omega arith) (inl refl) (λ tells. inl (refl, tt)) (no_fault _ _ _ refl))
+    (reads-ok s.read_fault s.others s.counts c.in-Ok-read_tariff.ensures.ended c.in-Ok-read_tariff.is) (omega arith)
+    (inr refl)
+    (λ tells. inr (refl, record { tree = tree_of c.in-Ok.one; reads = c.in-Ok.ensures.found tells }))
+    (no_fault _ _ _ refl) in
+    makes-none (compares c.args.constant) [] goes (λ tells. refl) (λ tells. tt)
+
+-- both were read
+pub returns-in-Ok-compare : goal.returns-in-Ok-compare
+returns-in-Ok-compare g c = λ image.
+    let k = c.args.constant in
+    let files = c.args.files.now in
     let new = c.read_tariff-2.new.files in
-    let why = c.in-Err-read_tariff.fault in
-    subst (λ (f : CompareFault). IsNotCompared (rest files 1) (rest files 2) (Rose (faults files 1) (faults new 1))
-    (Rose (faults files 2) (faults new 2)) f) (same_fault _ _ _ refl e) (
-      record { tree = tree_of c.in-Ok.one; reads = c.in-Ok.ensures.found tells },
-      no_tariff (rest files 2) (Rose (faults files 2) (faults new 2)) why
-          (λ f. rose_behind (faults files 2) (faults mid 2) (faults new 2)
-          (c.read_tariff.ensures.counts (no_fault c.read_tariff.result c.in-Ok.one texts.ReadFault c.in-Ok.is) 2)
-          (c.read_tariff-2.ensures.read_fault (c.in-Err-read_tariff.is ∙ ap Err f)))
-          (λ r f. ap tariff_in (sym (c.read_tariff.ensures.others 2 two-one))
-          ∙ c.read_tariff-2.ensures.refused r tells (c.in-Err-read_tariff.is ∙ ap Err f)),
-    )
-
-pub returns-in-Err-read_tariff-clause-read_fault : goal.returns-in-Err-read_tariff-clause-read_fault
-returns-in-Err-read_tariff-clause-read_fault g c = λ e. absurd (not_first _ _ (same_fault _ _ _ refl e))
-
-pub returns-in-Err-read_tariff-clause-other_fault : goal.returns-in-Err-read_tariff-clause-other_fault
-returns-in-Err-read_tariff-clause-other_fault g c = λ e.
-    let faults = g.F.Files.faults in
-    rose_behind (faults c.args.files.now 2) (faults c.read_tariff.new.files 2) (faults c.read_tariff-2.new.files 2)
-    (c.read_tariff.ensures.counts (no_fault c.read_tariff.result c.in-Ok.one texts.ReadFault c.in-Ok.is) 2)
-    (c.read_tariff-2.ensures.read_fault
-    (c.in-Err-read_tariff.is ∙ ap Err (other_is _ _ (same_fault _ _ _ refl e))))
-
-pub returns-in-Err-read_tariff-clause-others : goal.returns-in-Err-read_tariff-clause-others
-returns-in-Err-read_tariff-clause-others g c = λ other not_1 not_2.
-    c.read_tariff-2.ensures.others other not_2 ∙ c.read_tariff.ensures.others other not_1
-
-pub returns-in-Err-read_tariff-clause-unread : goal.returns-in-Err-read_tariff-clause-unread
-returns-in-Err-read_tariff-clause-unread g c = λ tells other not_1 never.
-    c.read_tariff-2.ensures.others other
-    (λ e. never (e, record { tree = tree_of c.in-Ok.one; reads = c.in-Ok.ensures.found tells }))
-    ∙ c.read_tariff.ensures.others other not_1
-
-pub returns-in-Err-read_tariff-clause-counts : goal.returns-in-Err-read_tariff-clause-counts
-returns-in-Err-read_tariff-clause-counts g c = λ first second other.
-    c.read_tariff-2.ensures.counts
-    (λ e. second (ap (λ (f : TextFault). Err (compares.Other f)) (same_fault _ _ _ c.in-Err-read_tariff.is e))) other
-    ∙ c.read_tariff.ensures.counts (no_fault c.read_tariff.result c.in-Ok.one texts.ReadFault c.in-Ok.is) other
-
--- ---- both were read
-
-pub returns-in-Ok-compare-clause-compared : goal.returns-in-Ok-compare-clause-compared
-returns-in-Ok-compare-clause-compared g c = λ tells. record {
-  tree = tree_of c.in-Ok.one;
-  second = tree_of c.in-Ok-read_tariff.other;
-  reads = c.in-Ok.ensures.found tells;
-  other_reads = ap tariff_in (sym (c.read_tariff.ensures.others 2 two-one)) ∙ c.in-Ok-read_tariff.ensures.found tells;
-  printed_is = c.in-Ok-compare.ensures.text;
-  differ_is = c.in-Ok-compare.ensures.differ;
-}
-
-pub returns-in-Ok-compare-clause-ended : goal.returns-in-Ok-compare-clause-ended
-returns-in-Ok-compare-clause-ended g c = λ tells.
-    c.read_tariff-2.ensures.others 1 one-two ∙ c.in-Ok.ensures.ended tells
-
-pub returns-in-Ok-compare-clause-others : goal.returns-in-Ok-compare-clause-others
-returns-in-Ok-compare-clause-others g c = λ other not_1 not_2.
-    c.read_tariff-2.ensures.others other not_2 ∙ c.read_tariff.ensures.others other not_1
-
-pub returns-in-Ok-compare-clause-unread : goal.returns-in-Ok-compare-clause-unread
-returns-in-Ok-compare-clause-unread g c = λ tells other not_1 never.
-    c.read_tariff-2.ensures.others other
-    (λ e. never (e, record { tree = tree_of c.in-Ok.one; reads = c.in-Ok.ensures.found tells }))
-    ∙ c.read_tariff.ensures.others other not_1
-
-pub returns-in-Ok-compare-clause-counts : goal.returns-in-Ok-compare-clause-counts
-returns-in-Ok-compare-clause-counts g c = λ first second other.
-    c.read_tariff-2.ensures.counts
-    (no_fault c.read_tariff-2.result c.in-Ok-read_tariff.other texts.ReadFault c.in-Ok-read_tariff.is) other
-    ∙ c.read_tariff.ensures.counts (no_fault c.read_tariff.result c.in-Ok.one texts.ReadFault c.in-Ok.is) other
-
--- ---- there was no memory for a comparison
-
-pub returns-clause-read_fault : goal.returns-clause-read_fault
-returns-clause-read_fault g c = λ e. absurd (memory_not_first _ (same_fault _ _ _ refl e))
-
-pub returns-clause-other_fault : goal.returns-clause-other_fault
-returns-clause-other_fault g c = λ e. absurd (memory_not_other _ (same_fault _ _ _ refl e))
-
-pub returns-clause-others : goal.returns-clause-others
-returns-clause-others g c = λ other not_1 not_2.
-    c.read_tariff-2.ensures.others other not_2 ∙ c.read_tariff.ensures.others other not_1
-
-pub returns-clause-unread : goal.returns-clause-unread
-returns-clause-unread g c = λ tells other not_1 never.
-    c.read_tariff-2.ensures.others other
-    (λ e. never (e, record { tree = tree_of c.in-Ok.one; reads = c.in-Ok.ensures.found tells }))
-    ∙ c.read_tariff.ensures.others other not_1
-
-pub returns-clause-counts : goal.returns-clause-counts
-returns-clause-counts g c = λ first second other.
-    c.read_tariff-2.ensures.counts
-    (no_fault c.read_tariff-2.result c.in-Ok-read_tariff.other texts.ReadFault c.in-Ok-read_tariff.is) other
-    ∙ c.read_tariff.ensures.counts (no_fault c.read_tariff.result c.in-Ok.one texts.ReadFault c.in-Ok.is) other
+    let f = c.read_tariff.ensures in
+    let s = c.read_tariff-2.ensures in
+    let made = c.in-Ok-compare.made in
+    let goes : GoesTo g.F.Files (compare_command k) image g.F.Files.tells 1 files new =
+    goes-on 2 [] (goes-on 1 [] (goes-none files) (reads-ok f.read_fault f.others f.counts c.in-Ok.ensures.ended
+    c.in-Ok.is)
+    (omega arith) (inl refl) (λ tells. inl (refl, tt)) (no_fault _ _ _ refl))
+    (reads-ok s.read_fault s.others s.counts c.in-Ok-read_tariff.ensures.ended c.in-Ok-read_tariff.is) (omega arith)
+    (inr refl)
+    (λ tells. inr (refl, record { tree = tree_of c.in-Ok.one; reads = c.in-Ok.ensures.found tells }))
+    (no_fault _ _ _ refl) in
+    makes-answer (compares k) made.text.items made.ended goes (plain_comparing _ c.in-Ok-compare.ensures.ended)
+    (λ tells. ap₂ (compare_answer k) (c.in-Ok.ensures.found tells)
+    (ap tariff_in (sym (f.others 2 (λ e. absurd (omega (arith, e))))) ∙ c.in-Ok-read_tariff.ensures.found tells)
+    ∙ compared_answer _ c.in-Ok-compare.ensures.ended c.in-Ok-compare.ensures.text)
+    (λ tells final word reads. ⊎_elim
+    (λ (e : word ≡ 1). ap (g.F.Files.rest new) e
+    ∙ (s.others 1 (λ f. absurd (omega (arith, f))) ∙ c.in-Ok.ensures.ended tells))
+    (λ (e : word ≡ 2). ap (g.F.Files.rest new) e ∙ c.in-Ok-read_tariff.ensures.ended tells) reads)

@@ -1,7 +1,5 @@
-use Rattle.std.proofs.Common.{ap, refl}
-use Rattle.tariff_compile.specs.Tables.{TableParts}
-use Rattle.tariff_syntax.specs.Tree.{tree_of}
-use Rattle.call_ends.proofs.Laws.{not_read-memory, no_fault, same_fault}
+use Rattle.{std.proofs.Common.{ap, refl}, call_ends.proofs.Laws.{no_fault, not_read-memory, same_fault}}
+use Rattle.tariff_commands.specs.Common.{TableParts, tree_of}
 use Rattle.tariff_commands.proofs.compiled.tables_of_text.Goals as goal
 
 pub returns-in-Ok-clause-found : goal.returns-in-Ok-clause-found

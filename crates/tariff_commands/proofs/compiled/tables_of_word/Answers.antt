@@ -1,5 +1,4 @@
-use Rattle.std.proofs.Common.{◌∙◌, ℕ, List, subst}
-use Rattle.std.specs.Prelude.{IfOk}
+use Rattle.std.{specs.Prelude.{IfOk}, proofs.Common.{ℕ, ◌∙◌, List, subst}}
 use Rattle.tariff_commands.specs.TableSteps.{AreTablesIn}
 use Rattle.tariff_commands.proofs.compiled.tables_of_word.Goals as goal
 

@@ -1,6 +1,5 @@
-use Rattle.std.proofs.Common.{◌≡◌, ◌++◌, map, drop}
-use Rattle.call_ends.specs.declared.tariff.Refusal.TheVariants.{Unsound}
-use Rattle.tariff_commands.specs.Faults.{refusal_lines}
+use Rattle.std.proofs.Common.{◌++◌, ◌≡◌, drop, map}
+use Rattle.tariff_commands.specs.{Common.{Unsound}, Faults.{refusal_lines}}
 use Rattle.tariff_commands.proofs.faults.fault_lines.Given as goal
 
 abbrev pub invariant-loop-fault : goal.invariant-loop-fault

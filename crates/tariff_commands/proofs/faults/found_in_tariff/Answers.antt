@@ -1,6 +1,5 @@
 use Rattle.std.proofs.Common.{◌∙◌, sym}
-use Rattle.tariff_syntax.specs.Tree.{tree_of}
-use Rattle.tariff_commands.proofs.Finding.{faults_found, not_none}
+use Rattle.tariff_commands.{specs.Common.{tree_of}, proofs.FoundFaults.{faults_found, not_none}}
 use Rattle.tariff_commands.proofs.faults.found_in_tariff.Goals as goal
 
 pub returns-in-Ok-fault_lines : goal.returns-in-Ok-fault_lines

@@ -1,6 +1,5 @@
-use Rattle.tariff_syntax.specs.Tree.{tree_of}
 use Rattle.tariff_syntax.proofs.Laws.{texts_have_their_numbers}
-use Rattle.tariff_commands.proofs.Finding.{bad_found, bad_parsed, tree_found_in}
+use Rattle.tariff_commands.{specs.Common.{tree_of}, proofs.FoundFaults.{bad_found, bad_parsed, tree_found_in}}
 use Rattle.tariff_commands.proofs.faults.found_in_text.Goals as goal
 
 pub found_in_tariff-requires : goal.found_in_tariff-requires

@@ -1,6 +1,5 @@
-use Rattle.std.proofs.Common.{◌≡◌, ◌++◌, map, drop}
-use Rattle.call_ends.specs.declared.tariff.Refusal.TheVariants.{Syntax}
-use Rattle.tariff_commands.specs.Faults.{refusal_lines}
+use Rattle.std.proofs.Common.{◌++◌, ◌≡◌, drop, map}
+use Rattle.tariff_commands.specs.{Common.{Syntax}, Faults.{refusal_lines}}
 use Rattle.tariff_commands.proofs.faults.syntax_lines.Given as goal
 
 abbrev pub invariant-loop-number : goal.invariant-loop-number

@@ -1,9 +1,19 @@
-use Rattle.std.proofs.Common.{◌∙◌, ℕ, List, subst}
-use Rattle.std.specs.Prelude.{IfOk}
-use Rattle.tariff_commands.specs.LinesSteps.{IsListOf}
+use Rattle.std.proofs.Common.{◌∙◌, Err, ap, refl}
+use Rattle.call_ends.proofs.Laws.{fails-text, makes-of, makes-unread, not_board-text, read_fault-text, reads-bad}
+use Rattle.{call_ends.proofs.Laws.{reads-ok, refuses-bad, word_is}, tariff_commands.specs.Common.{ended_for, tariff_in}}
+use Rattle.tariff_commands.specs.Lines.{lines_answer}
 use Rattle.tariff_commands.proofs.lines.list_of_word.Goals as goal
 
-pub returns-clause-found : goal.returns-clause-found
-returns-clause-found g c = λ tells.
-    subst (λ (text : List ℕ). IfOk c.list_of_text.result (λ list. IsListOf c.args.constant text list.items))
-    (c.as_slice.ensures.value ∙ c.in_ok-text.ensures.text tells) c.list_of_text.ensures.found
+pub returns-in-Ok : goal.returns-in-Ok
+returns-in-Ok g c = λ image. let f = c.text_of_word.ensures in
+    makes-of (word_is (λ text. lines_answer c.args.constant (tariff_in text)))
+    (reads-ok f.read_fault f.others f.counts c.in-Ok.ensures.ended c.in-Ok.is) c.list_of_text.result refl
+    (λ tells. c.as_slice.ensures.value ∙ c.in-Ok.ensures.text tells) c.list_of_text.ensures
+
+pub returns-in-Err : goal.returns-in-Err
+returns-in-Err g c = λ image. let f = c.text_of_word.ensures in let fault = c.in-Err.fault in
+    rw c.refused_by.ensures (makes-unread (word_is (λ text. lines_answer c.args.constant (tariff_in text)))
+    (reads-bad f.read_fault f.others f.counts ended_for c.in-Err.is (read_fault-text fault) refl
+    (not_board-text fault)) refl
+    (λ tells. fails-text fault (λ why e.
+    refuses-bad (ap (lines_answer c.args.constant) (f.refused why tells (c.in-Err.is ∙ ap Err e))))))

@@ -1,8 +1,7 @@
-use Rattle.std.proofs.Common.{◌≡◌, ◌∙◌, ◌++◌, ℕ, List, ap, arith, refl, true}
-use Rattle.std.specs.List.{flat_map, range_with_len}
+use Rattle.std.{specs.List.{flat_map, range_with_len}, proofs.Common.{ℕ, ◌++◌, ◌∙◌, ◌≡◌, List, ap, arith, refl, true}}
 use Rattle.outside.proofs.Laws.{begins_whole, keeps_print, keeps_then}
-use Rattle.tariff_compile.specs.Rows.{row_count, row_text, rows_text}
 use Rattle.call_ends.proofs.Laws.{begins-row, printed-row}
+use Rattle.tariff_commands.specs.Common.{row_count, row_text, rows_text}
 use Rattle.tariff_commands.proofs.tables.print_rows.Goals as goal
 
 pub returns-in_err-print-clause-begun : goal.returns-in_err-print-clause-begun

@@ -1,7 +1,5 @@
-use Rattle.std.proofs.Common.{◌≡◌, ◌+◌, ◌≤◌, ◌++◌}
-use Rattle.std.specs.List.{flat_map, range_with_len}
-use Rattle.tariff_compile.specs.Rows.{row_text}
-use Rattle.outside.specs.Runs.{KeepsStore}
+use Rattle.std.{specs.List.{flat_map, range_with_len}, proofs.Common.{◌++◌, ◌+◌, ◌≡◌, ◌≤◌}}
+use Rattle.{outside.specs.Runs.{KeepsStore}, tariff_commands.specs.Common.{row_text}}
 use Rattle.tariff_commands.proofs.tables.print_rows.Given as goal
 
 -- the rows so far were printed

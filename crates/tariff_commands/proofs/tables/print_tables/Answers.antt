@@ -1,86 +1,35 @@
-use Rattle.std.proofs.Common.{◌∙◌, [], Err, refl, ap, arith, rules}
-use Rattle.std.specs.Prelude.{is_err}
-use Rattle.outside.proofs.Laws.{keeps_none}
-use Rattle.call_ends.proofs.Laws.{board_not_read, done_not_read, no_fault, cause_board, cause_done, read_fault-text}
-use Rattle.call_ends.proofs.Laws.{stops_by, unless_read, carries-kept, course-unprinted, course-refused}
-use Rattle.call_ends.specs.Ending.{ended_for}
-use Rattle.call_ends.specs.declared.ending.Ended.TheVariants as ended
-use Rattle.call_ends.specs.declared.tariff.TextFault.TheVariants as texts
-use Rattle.tariff_commands.specs.Tables.{tables_command}
-use Rattle.call_ends.specs.Tariffs.{tariff_in}
-use Rattle.tariff_commands.proofs.Tabling.{course-rows, course-rows_begun, refused-tables}
+use Rattle.std.proofs.Common.{◌∙◌, Err, ap, arith, refl, sym}
+use Rattle.{call_ends.specs.declared.ending.Ended.TheVariants.{Done}, tariff_commands.specs.Tables.{tables_answer}}
+use Rattle.call_ends.proofs.Laws.{carries-printed, done_not_board, fails-text, makes-read, makes-unread, not_board-text}
+use Rattle.call_ends.proofs.Laws.{prints-by, prints-none, read_fault-text, reads-bad, reads-ok, refuses-bad}
+use Rattle.tariff_commands.{specs.Common.{TableParts, ended_for, rows_text, shows}, proofs.TariffAnswers.{tabulates}}
 use Rattle.tariff_commands.proofs.tables.print_tables.Goals as goal
 
 pub returns-in-Err : goal.returns-in-Err
-returns-in-Err g c =
-    carries-kept g.F.Files g.B.Board (tables_command c.args.constant) c.args.files.now c.tables_of_word.new.files
-    c.args.board.now c.args.board.now c.args.steps.now c.args.steps.now _ (λ none. none) (λ status w. w)
-    (λ tells.
-    let rest = g.F.Files.rest in
-    let k = c.args.constant in
-    let image = g.B.Board.image c.args.board.now in
-    rw c.refused_by.ensures
-    (course-unprinted (tables_command k) (rest c.args.files.now) (rest c.tables_of_word.new.files) image _ _ _
-    (g.B.Board.printed c.args.board.now) _
-    (course-refused (tables_command k) (rest c.args.files.now) (rest c.tables_of_word.new.files) image _ refl tt
-    (λ e. absurd cc) c.in-Err.fault refl refl refl
-    (λ e. c.tables_of_word.ensures.read_fault (c.in-Err.is ∙ ap Err e))
-    (λ why e. refused-tables k (tariff_in (rest c.args.files.now 1)) why
-    (c.tables_of_word.ensures.refused why tells (c.in-Err.is ∙ ap Err e))))))
-    (λ later le tells. omega (arith, le))
-    (stops_by 1 c.tables_of_word.result c.in-Err.fault texts.ReadFault ended_for c.in-Err.is c.refused_by.ensures
-    (read_fault-text c.in-Err.fault) refl c.tables_of_word.ensures.read_fault c.tables_of_word.ensures.others)
-    (search rules)
-    c.tables_of_word.ensures.others
-    (λ tells word never. c.tables_of_word.ensures.others word (never []))
-    (unless_read c.tables_of_word.result c.in-Err.fault texts.ReadFault ended_for
-    c.in-Err.is c.refused_by.ensures refl c.tables_of_word.ensures.counts) (keeps_none g.B.Board c.args.board.now)
-
-pub returns-in-Ok-print_rows : goal.returns-in-Ok-print_rows
-returns-in-Ok-print_rows g c =
-    carries-kept g.F.Files g.B.Board (tables_command c.args.constant) c.args.files.now c.tables_of_word.new.files
-    c.args.board.now c.print_rows.new.board c.args.steps.now c.print_rows.new.steps ended.Done (λ none. none)
-    (λ status w. w)
-    (λ tells.
-    let rest = g.F.Files.rest in
-    course-rows c.args.constant (rest c.args.files.now) (rest c.tables_of_word.new.files)
-    (g.B.Board.image c.args.board.now) _ _ _
-    (g.B.Board.printed c.args.board.now) (g.B.Board.printed c.print_rows.new.board) c.in-Ok.tables
-    (c.in-Ok.ensures.found tells).tree
-    (c.in-Ok.ensures.found tells).sound (c.in-Ok.ensures.found tells).value
-    (c.in-Ok.ensures.ended tells) c.in-Ok-print_rows.ensures.whole)
-    (λ later le tells.
-    let made = c.in-Ok.ensures.found tells in
-    rw made.sound (grind (arith, le, made.value, c.print_rows.ensures.steps)))
-    (λ e. absurd (done_not_read e))
-    (cause_done (c.in-Ok-print_rows.ensures.cause.kept refl))
-    c.tables_of_word.ensures.others
-    (λ tells word never. c.tables_of_word.ensures.others word (never []))
-    (λ read good.
-    c.tables_of_word.ensures.counts (no_fault c.tables_of_word.result c.in-Ok.tables texts.ReadFault c.in-Ok.is))
-    (c.print_rows.ensures.store)
+returns-in-Err g c = let f = c.tables_of_word.ensures in let fault = c.in-Err.fault in let k = c.args.constant in
+    rw c.refused_by.ensures (carries-printed g.F.Files g.B.Board (tabulates k).makes c.args.files.now
+    c.tables_of_word.new.files c.args.board.now c.args.board.now c.args.steps.now c.args.steps.now (ended_for fault)
+    (λ image. makes-unread (tabulates k) (reads-bad f.read_fault f.others f.counts ended_for c.in-Err.is
+    (read_fault-text fault) refl (not_board-text fault)) refl
+    (λ tells. fails-text fault (λ why e.
+    refuses-bad (ap (tables_answer k) (f.refused why tells (c.in-Err.is ∙ ap Err e))))))
+    (prints-none c.args.board.now c.args.steps.now (not_board-text fault))
+    (λ quiet later le tells. omega (arith, le)))
 
 pub returns : goal.returns
 returns g c =
-    carries-kept g.F.Files g.B.Board (tables_command c.args.constant) c.args.files.now c.tables_of_word.new.files
-    c.args.board.now c.print_rows.new.board c.args.steps.now c.print_rows.new.steps ended.BoardFault (λ none. none)
-    (λ status w. w)
-    (λ tells.
-    let rest = g.F.Files.rest in
-    course-rows_begun c.args.constant (rest c.args.files.now) (rest c.tables_of_word.new.files)
-    (g.B.Board.image c.args.board.now) _ _ _
-    (g.B.Board.printed c.args.board.now) (g.B.Board.printed c.print_rows.new.board) c.in-Ok.tables
-    (c.in-Ok.ensures.found tells).tree
-    (c.in-Ok.ensures.found tells).sound (c.in-Ok.ensures.found tells).value
-    (c.in-Ok.ensures.ended tells) c.print_rows.ensures.begun
-    (c.print_rows.ensures.cause.failed (ap is_err c.in-Err-print_rows.is)))
-    (λ later le tells.
-    let made = c.in-Ok.ensures.found tells in
-    rw made.sound (grind (arith, le, made.value, c.print_rows.ensures.steps)))
-    (λ e. absurd (board_not_read e))
-    (cause_board (c.print_rows.ensures.cause.failed (ap is_err c.in-Err-print_rows.is)))
-    c.tables_of_word.ensures.others
-    (λ tells word never. c.tables_of_word.ensures.others word (never []))
-    (λ read good.
-    c.tables_of_word.ensures.counts (no_fault c.tables_of_word.result c.in-Ok.tables texts.ReadFault c.in-Ok.is))
-    (c.print_rows.ensures.store)
+    let f = c.tables_of_word.ensures in
+    let p = c.print_rows.ensures in
+    let k = c.args.constant in
+    let tables = c.in-Ok.tables in
+    let made = c.in-Ok.ensures.found in
+    rw c.ended_behind.ensures (carries-printed g.F.Files g.B.Board (tabulates k).makes c.args.files.now
+    c.tables_of_word.new.files c.args.board.now c.print_rows.new.board c.args.steps.now c.print_rows.new.steps _
+    (λ image. makes-read (tabulates k) (reads-ok f.read_fault f.others f.counts c.in-Ok.ensures.ended c.in-Ok.is)
+    (rows_text tables)
+    Done refl refl
+    (λ tells. ap (tables_answer k) (made tells).sound
+    ∙ ap (λ (p : TableParts). shows (rows_text p)) (sym (made tells).value)))
+    (prints-by c.print_rows.result p.whole p.begun p.cause p.steps p.store done_not_board)
+    (λ quiet later le tells.
+    rw (made tells).sound (grind (arith, le, (made tells).value, c.print_rows.ensures.steps))))

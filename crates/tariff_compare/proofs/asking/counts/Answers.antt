@@ -1,7 +1,5 @@
 use Rattle.std.proofs.Common.{◌∙◌, ap, sym}
-use Rattle.tariff_compare.specs.Counting.{is_at}
-use Rattle.tariff_compare.specs.Kinds.{is_asked, place_in}
-use Rattle.tariff_compare.proofs.Asked.{also, lines_by_is}
+use Rattle.tariff_compare.{specs.{CountedLine.{is_at}, Kinds.{is_asked, place_in}}, proofs.Asked.{also, lines_by_is}}
 use Rattle.tariff_compare.proofs.asking.counts.Goals as goal
 
 pub returns-then-is_asked : goal.returns-then-is_asked

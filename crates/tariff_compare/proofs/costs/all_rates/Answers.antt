@@ -1,5 +1,4 @@
-use Rattle.std.proofs.Common.{arith}
-use Rattle.std.proofs.lemmas.Grind.{common_steps}
+use Rattle.std.proofs.{Common.{arith}, lemmas.Grind.{common_steps}}
 use Rattle.tariff_compare.proofs.costs.all_rates.Goals as goal
 
 pub loop-rate-preserved : goal.loop-rate-preserved

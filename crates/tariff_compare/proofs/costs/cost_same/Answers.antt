@@ -1,5 +1,4 @@
-use Rattle.std.proofs.Common.{◌≡◌, ◌*◌, ◌∙◌, refl, sym}
-use Rattle.std.proofs.lemmas.Bool.{eq-eqb}
+use Rattle.std.proofs.{Common.{◌*◌, ◌∙◌, ◌≡◌, refl, sym}, lemmas.Bool.{eq-eqb}}
 use Rattle.tariff_compare.proofs.costs.cost_same.Goals as goal
 
 pub returns-then-times : goal.returns-then-times

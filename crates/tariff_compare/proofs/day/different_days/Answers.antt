@@ -1,7 +1,5 @@
-use Rattle.std.proofs.Common.{◌∙◌, ap, sym, List}
-use Rattle.tariff_compare.specs.Grids.{day_in, days_until, with_day}
-use Rattle.tariff_compare.specs.declared.day.Day.{Day}
-use Rattle.tariff_compare.proofs.Days.{days_more}
+use Rattle.std.proofs.Common.{◌∙◌, List, ap, sym}
+use Rattle.tariff_compare.{specs.{Common.{Day}, Grids.{day_in, days_until, with_day}}, proofs.Days.{days_more}}
 use Rattle.tariff_compare.proofs.day.different_days.Goals as goal
 
 pub loop-place-preserved : goal.loop-place-preserved

@@ -1,5 +1,4 @@
-use Rattle.std.proofs.Common.{◌≡◌, drop}
-use Rattle.std.specs.List.{list_any}
+use Rattle.std.{specs.List.{list_any}, proofs.Common.{◌≡◌, drop}}
 use Rattle.tariff_compare.specs.Grids.{is_alike}
 use Rattle.tariff_compare.proofs.day.has_alike.Given as goal
 

@@ -1,5 +1,4 @@
-use Rattle.std.proofs.Common.{◌≡◌, ◌==◌, drop}
-use Rattle.std.specs.List.{list_any}
+use Rattle.std.{specs.List.{list_any}, proofs.Common.{◌==◌, ◌≡◌, drop}}
 use Rattle.tariff_compare.proofs.day.is_among.Given as goal
 
 abbrev pub invariant-loop-holiday : goal.invariant-loop-holiday

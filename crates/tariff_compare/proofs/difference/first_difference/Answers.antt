@@ -1,6 +1,5 @@
 use Rattle.std.proofs.Common.{◌∙◌, sym}
-use Rattle.tariff_syntax.specs.Tree.{tree_of}
-use Rattle.tariff_compare.proofs.Frames.{frame_positions, frame_zones}
+use Rattle.tariff_compare.{specs.Common.{tree_of}, proofs.Frames.{frame_positions, frame_zones}}
 use Rattle.tariff_compare.proofs.difference.first_difference.Goals as goal
 
 pub context_difference-requires-clause-positions : goal.context_difference-requires-clause-positions

@@ -1,7 +1,5 @@
 use Rattle.std.proofs.Common.{◌≡◌, drop, find, not}
-use Rattle.tariff_check.specs.Parts.{supplement_of}
-use Rattle.tariff_syntax.specs.Tree.{tree_of}
-use Rattle.tariff_compare.specs.Differences.{is_same_supplement}
+use Rattle.tariff_compare.specs.{Common.{supplement_of, tree_of}, Differences.{is_same_supplement}}
 use Rattle.tariff_compare.proofs.difference.first_other.Given as goal
 
 abbrev pub invariant-loop-number : goal.invariant-loop-number

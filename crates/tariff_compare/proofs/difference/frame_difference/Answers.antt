@@ -1,5 +1,4 @@
-use Rattle.std.proofs.Common.{arith}
-use Rattle.std.proofs.lemmas.Grind.{common_steps}
+use Rattle.std.proofs.{Common.{arith}, lemmas.Grind.{common_steps}}
 use Rattle.tariff_compare.proofs.difference.frame_difference.Goals as goal
 
 pub returns-in-None-clause-value : goal.returns-in-None-clause-value

@@ -1,5 +1,4 @@
-use Rattle.std.proofs.Common.{◌≡◌, ◌==◌, ◌&&◌, drop}
-use Rattle.std.specs.List.{list_any}
+use Rattle.std.{specs.List.{list_any}, proofs.Common.{◌&&◌, ◌==◌, ◌≡◌, drop}}
 use Rattle.tariff_check.specs.Parts.{DateNumbers}
 use Rattle.tariff_compare.proofs.difference_lines.is_among.Given as goal
 

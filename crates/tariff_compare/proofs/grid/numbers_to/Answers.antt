@@ -1,6 +1,4 @@
-use Rattle.std.proofs.Common.{arith}
-use Rattle.std.proofs.lemmas.Grind.{common_steps}
-use Rattle.tariff_compare.proofs.Ranges.{range_more}
+use Rattle.{std.proofs.{Common.{arith}, lemmas.Grind.{common_steps}}, tariff_compare.proofs.Ranges.{range_more}}
 use Rattle.tariff_compare.proofs.grid.numbers_to.Goals as goal
 
 pub loop-before-preserved : goal.loop-before-preserved

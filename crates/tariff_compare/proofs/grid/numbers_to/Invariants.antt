@@ -1,5 +1,4 @@
-use Rattle.std.proofs.Common.{◌≡◌}
-use Rattle.std.specs.List.{range_with_len}
+use Rattle.std.{specs.List.{range_with_len}, proofs.Common.{◌≡◌}}
 use Rattle.tariff_compare.proofs.grid.numbers_to.Given as goal
 
 abbrev pub invariant-loop-before : goal.invariant-loop-before

@@ -1,6 +1,5 @@
 use Rattle.std.proofs.Common.{◌≡◌, drop}
-use Rattle.tariff_check.specs.Cuts.{with_each}
-use Rattle.tariff_compare.specs.Grids.{up_to}
+use Rattle.tariff_compare.specs.{Common.{with_each}, Grids.{up_to}}
 use Rattle.tariff_compare.proofs.grid.put_each.Given as goal
 
 abbrev pub invariant-loop-number : goal.invariant-loop-number

@@ -1,6 +1,5 @@
 use Rattle.std.proofs.Common.{◌≡◌, drop, find}
-use Rattle.tariff_compare.specs.Kinds.{is_other}
-use Rattle.tariff_compare.specs.Sides.{in_force_by}
+use Rattle.tariff_compare.specs.{Kinds.{is_other}, Sides.{in_force_by}}
 use Rattle.tariff_compare.proofs.kinds.first_other.Given as goal
 
 abbrev pub invariant-loop-kind : goal.invariant-loop-kind

@@ -1,7 +1,5 @@
-use Rattle.std.proofs.Common.{ap, ◌∙◌}
-use Rattle.tariff_compare.specs.Grids.{GridLists}
-use Rattle.tariff_compare.specs.Searches.{in_grid}
-use Rattle.tariff_compare.specs.Sides.{is_met_by}
+use Rattle.std.proofs.Common.{◌∙◌, ap}
+use Rattle.tariff_compare.specs.{Grids.{GridLists}, Searches.{in_grid}, Sides.{is_met_by}}
 use Rattle.tariff_compare.proofs.search.first_met.Goals as goal
 
 pub returns-clause-value : goal.returns-clause-value

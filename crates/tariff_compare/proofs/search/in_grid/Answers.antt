@@ -1,10 +1,7 @@
-use Rattle.std.proofs.Common.{◌∙◌, ℕ, Option, Some, ap, option_map, sym, arith}
-use Rattle.tariff_compare.specs.Grids.{day_in}
-use Rattle.tariff_compare.specs.Searches.{context_count, context_of, is_found}
+use Rattle.std.proofs.Common.{ℕ, ◌∙◌, Option, Some, ap, arith, option_map, sym}
+use Rattle.tariff_compare.specs.{Common.{MeterContext}, Grids.{day_in}, Searches.{context_count, context_of, is_found}}
 use Rattle.tariff_compare.specs.Sides.{is_met_by}
-use Rattle.tariff_compare.specs.declared.meter_context.MeterContext.{MeterContext}
-use Rattle.tariff_compare.proofs.Found.{found_here, found_later, found_none, numbered}
-use Rattle.tariff_compare.proofs.GridIs.{asked_at, day_of}
+use Rattle.tariff_compare.proofs.{Found.{found_here, found_later, found_none, numbered}, GridIs.{asked_at, day_of}}
 use Rattle.tariff_compare.proofs.search.in_grid.Goals as goal
 
 pub count-number-end-requires : goal.count-number-end-requires

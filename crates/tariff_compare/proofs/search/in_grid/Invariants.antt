@@ -1,7 +1,5 @@
-use Rattle.std.proofs.Common.{◌≡◌, ◌-◌, find}
-use Rattle.std.specs.List.{range_with_len}
-use Rattle.tariff_compare.specs.Searches.{context_count, context_of, is_found}
-use Rattle.tariff_compare.specs.Sides.{is_met_by}
+use Rattle.std.{specs.List.{range_with_len}, proofs.Common.{◌-◌, ◌≡◌, find}}
+use Rattle.tariff_compare.specs.{Searches.{context_count, context_of, is_found}, Sides.{is_met_by}}
 use Rattle.tariff_compare.proofs.search.in_grid.Given as goal
 
 abbrev pub invariant-loop-number : goal.invariant-loop-number

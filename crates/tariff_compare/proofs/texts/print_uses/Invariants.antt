@@ -1,4 +1,4 @@
-use Rattle.std.proofs.Common.{◌≡◌, ◌++◌, drop}
+use Rattle.std.proofs.Common.{◌++◌, ◌≡◌, drop}
 use Rattle.tariff_compare.specs.Texts.{uses_text}
 use Rattle.tariff_compare.proofs.texts.print_uses.Given as goal
 

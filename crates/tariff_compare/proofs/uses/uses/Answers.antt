@@ -1,5 +1,4 @@
-use Rattle.std.proofs.Common.{arith}
-use Rattle.std.proofs.lemmas.Grind.{common_steps}
+use Rattle.std.proofs.{Common.{arith}, lemmas.Grind.{common_steps}}
 use Rattle.tariff_compare.proofs.uses.uses.Goals as goal
 
 pub loop-choice-preserved : goal.loop-choice-preserved

@@ -1,5 +1,5 @@
 use Rattle.std.proofs.Common.{◌^◌}
-use Rattle.tariff_compile.proofs.Numbering.{cell_number_below, fits_on_the_way}
+use Rattle.tariff_compile.proofs.CellNumbers.{cell_number_below, fits_on_the_way}
 use Rattle.tariff_compile.proofs.bands.cell_number.Goals as goal
 
 pub and_digit-zones-requires : goal.and_digit-zones-requires

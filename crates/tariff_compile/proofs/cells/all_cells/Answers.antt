@@ -1,14 +1,9 @@
-use Rattle.std.proofs.Common.{◌≡◌, ◌∙◌, ◌++◌, ◌+◌, ◌-◌, ℕ, ap, List, map, arith, refl, subst, sym}
-use Rattle.std.proofs.lemmas.List.FromFn.{length-map-range_with_len}
-use Rattle.tariff_syntax.specs.Tree.{tree_of}
-use Rattle.std.specs.List.{range_with_len}
-use Rattle.tariff_syntax.specs.declared.context.Context.{Context}
-use Rattle.tariff_compile.specs.Cells.{IsBelow, IsNarrow, bands_of, cell_count, context_in}
-use Rattle.tariff_compile.specs.Tables.{context_of_cell, lines_at, sizes_in}
-use Rattle.tariff_compile.specs.declared.parts.Bands.{Bands}
+use Rattle.std.{specs.List.{range_with_len}, proofs.lemmas.List.FromFn.{length-map-range_with_len}}
+use Rattle.std.proofs.Common.{ℕ, ◌++◌, ◌+◌, ◌-◌, ◌∙◌, ◌≡◌, List, ap, arith, map, refl, subst, sym}
+use Rattle.tariff_compile.{specs.Cells.{IsBelow, IsNarrow, bands_of, cell_count, context_in}, proofs.LowCuts.{low_cuts}}
+use Rattle.tariff_compile.specs.{Common.{Bands, Context, tree_of}, Tables.{context_of_cell, lines_at, sizes_in}}
 use Rattle.tariff_compile.proofs.Blocks.{block_more}
 use Rattle.tariff_compile.proofs.Compiled.{bands_in-below, bands_in-narrow, cell_count-cells_of, sizes_checked}
-use Rattle.tariff_compile.proofs.LowCuts.{low_cuts}
 use Rattle.tariff_compile.proofs.cells.all_cells.Goals as goal
 
 pub contexts_of-requires-clause-low : goal.contexts_of-requires-clause-low

@@ -1,7 +1,5 @@
-use Rattle.std.proofs.Common.{◌≡◌, ◌≤◌, ◌-◌, map}
-use Rattle.std.specs.List.{range_with_len}
-use Rattle.tariff_syntax.specs.Tree.{tree_of}
-use Rattle.tariff_compile.specs.Tables.{context_of_cell, lines_at}
+use Rattle.std.{specs.List.{range_with_len}, proofs.Common.{◌-◌, ◌≡◌, ◌≤◌, map}}
+use Rattle.tariff_compile.specs.{Common.{tree_of}, Tables.{context_of_cell, lines_at}}
 use Rattle.tariff_compile.proofs.cells.all_cells.Given as goal
 
 abbrev pub invariant-loop-first : goal.invariant-loop-first

@@ -1,7 +1,5 @@
-use Rattle.std.proofs.Common.{◌≡◌, ◌+◌, ◌-◌, ℕ, ap, map, arith}
-use Rattle.std.proofs.lemmas.Grind.{common_steps}
-use Rattle.std.proofs.lemmas.List.FromFn.{map-range_with_len_more}
-use Rattle.std.specs.List.{range_with_len}
+use Rattle.std.{specs.List.{range_with_len}, proofs.lemmas.Grind.{common_steps}}
+use Rattle.std.proofs.{Common.{ℕ, ◌+◌, ◌-◌, ◌≡◌, ap, arith, map}, lemmas.List.FromFn.{map-range_with_len_more}}
 use Rattle.tariff_compile.specs.Cells.{bands_of, context_in}
 use Rattle.tariff_compile.proofs.cells.contexts_of.Goals as goal
 

@@ -1,5 +1,4 @@
-use Rattle.std.proofs.Common.{◌≡◌, ◌-◌, map}
-use Rattle.std.specs.List.{range_with_len}
+use Rattle.std.{specs.List.{range_with_len}, proofs.Common.{◌-◌, ◌≡◌, map}}
 use Rattle.tariff_compile.specs.Cells.{bands_of, context_in}
 use Rattle.tariff_compile.proofs.cells.contexts_of.Given as goal
 

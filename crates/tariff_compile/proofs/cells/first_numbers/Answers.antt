@@ -1,16 +1,8 @@
-use Rattle.std.proofs.Common.{◌≡◌, ◌∙◌, ap, sym, ℕ, ◌+◌, ◌<◌, ◌≤◌, List, [], ◌∷◌, ◌++◌, length, map, take, Option, Some}
-use Rattle.std.proofs.Common.{arith}
-use Rattle.std.proofs.lemmas.Grind.{common_steps}
-use Rattle.std.proofs.lemmas.List.{length-map, map-append}
-use Rattle.std.proofs.lemmas.Option.{slice_get_within}
-use Rattle.tariff_check.specs.Amounts.{place_number}
-use Rattle.tariff_check.specs.SoundTariff.{own_conditions, place_of, when_at}
-use Rattle.tariff_check.specs.declared.choice.Choice.{Choice}
-use Rattle.tariff_syntax.proofs.Laws.{first_lines_hold-conditions}
-use Rattle.tariff_syntax.specs.Tree.{Line, tree_of}
-use Rattle.tariff_syntax.specs.declared.context.Context.{Context}
-use Rattle.tariff_compile.proofs.Blocks.{at_place}
-use Rattle.tariff_compile.proofs.Marked.{first_holds}
+use Rattle.std.proofs.Common.{[], ℕ, ◌++◌, ◌+◌, ◌<◌, ◌∙◌, ◌∷◌, ◌≡◌, ◌≤◌, List, Option, Some, ap, arith, length, map}
+use Rattle.std.proofs.{Common.{sym, take}, lemmas.{List.{length-map, map-append}, Option.{slice_get_within}}}
+use Rattle.{std.proofs.lemmas.Grind.{common_steps}, tariff_syntax.proofs.Laws.{first_lines_hold-conditions}}
+use Rattle.tariff_compile.specs.Common.{Choice, Context, Line, own_conditions, place_number, place_of, tree_of, when_at}
+use Rattle.tariff_compile.proofs.{Blocks.{at_place}, Marked.{first_holds}}
 use Rattle.tariff_compile.proofs.cells.first_numbers.Goals as goal
 
 -- places of choices are small

@@ -1,7 +1,5 @@
 use Rattle.std.proofs.Common.{◌≡◌, map, take}
-use Rattle.tariff_check.specs.Amounts.{place_number}
-use Rattle.tariff_check.specs.SoundTariff.{own_conditions, place_of}
-use Rattle.tariff_syntax.specs.Tree.{tree_of}
+use Rattle.tariff_compile.specs.Common.{own_conditions, place_number, place_of, tree_of}
 use Rattle.tariff_compile.proofs.cells.first_numbers.Given as goal
 
 abbrev pub invariant-loop-place : goal.invariant-loop-place

@@ -1,5 +1,5 @@
 use Rattle.std.proofs.Common.{◌≡◌, map, take}
-use Rattle.tariff_syntax.specs.Meaning.{at_hiring}
+use Rattle.tariff_compile.specs.Common.{at_hiring}
 use Rattle.tariff_compile.proofs.cells.hirings.Given as goal
 
 abbrev pub invariant-loop-x : goal.invariant-loop-x

@@ -1,16 +1,8 @@
-use Rattle.std.proofs.Common.{◌≡◌, ◌∙◌, ap, refl, ℕ, zero, suc, ◌+◌, ◌-◌, List, [], ◌∷◌, ◌++◌, get_or, map, take, arith}
-use Rattle.std.proofs.Common.{Option, Some, None}
-use Rattle.std.proofs.lemmas.Grind.{common_steps}
-use Rattle.std.proofs.lemmas.List.{map-append}
-use Rattle.std.proofs.lemmas.Option.{slice_get-map}
-use Rattle.std.specs.List.{slice_get}
-use Rattle.std.specs.Option.{option_map, unwrap_or}
-use Rattle.tariff_check.specs.Amounts.{place_number}
-use Rattle.tariff_syntax.specs.Meaning.{at_hiring}
-use Rattle.tariff_syntax.specs.Tree.{tree_of}
-use Rattle.tariff_syntax.specs.declared.context.Context.{Context}
+use Rattle.std.{specs.List.{slice_get}, proofs.lemmas.{Grind.{common_steps}, Option.{slice_get-map}}}
+use Rattle.std.{specs.Option.{option_map, unwrap_or}, proofs.{Common.{refl, suc, take, zero}, lemmas.List.{map-append}}}
+use Rattle.std.proofs.Common.{[], ℕ, ◌++◌, ◌+◌, ◌-◌, ◌∙◌, ◌∷◌, ◌≡◌, List, None, Option, Some, ap, arith, get_or, map}
+use Rattle.tariff_compile.{specs.Common.{Context, at_hiring, place_number, tree_of}, proofs.Blocks.{at_place}}
 use Rattle.tariff_compile.specs.Tables.{lines_at}
-use Rattle.tariff_compile.proofs.Blocks.{at_place}
 use Rattle.tariff_compile.proofs.cells.push_lines.Goals as goal
 
 -- what is read at a place of a list that is made of contexts is made of the context there

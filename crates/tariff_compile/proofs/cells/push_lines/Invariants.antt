@@ -1,6 +1,5 @@
-use Rattle.std.proofs.Common.{◌≡◌, ◌++◌, map, take}
-use Rattle.tariff_syntax.specs.Tree.{tree_of}
-use Rattle.tariff_compile.specs.Tables.{lines_at}
+use Rattle.std.proofs.Common.{◌++◌, ◌≡◌, map, take}
+use Rattle.tariff_compile.specs.{Common.{tree_of}, Tables.{lines_at}}
 use Rattle.tariff_compile.proofs.cells.push_lines.Given as goal
 
 abbrev pub invariant-loop-place : goal.invariant-loop-place

@@ -1,8 +1,5 @@
-use Rattle.std.proofs.Common.{ℕ, ◌+◌, arith}
-use Rattle.std.proofs.lemmas.Grind.{common_steps}
-use Rattle.std.proofs.lemmas.List.FromFn.{map-range_with_len_more}
-use Rattle.tariff_check.specs.Parts.{supplement_of}
-use Rattle.tariff_syntax.specs.Tree.{tree_of}
+use Rattle.std.proofs.{Common.{ℕ, ◌+◌, arith}, lemmas.{Grind.{common_steps}, List.FromFn.{map-range_with_len_more}}}
+use Rattle.tariff_compile.specs.Common.{supplement_of, tree_of}
 use Rattle.tariff_compile.proofs.choices.all_supplements.Goals as goal
 
 pub loop-place-preserved : goal.loop-place-preserved

@@ -1,7 +1,5 @@
-use Rattle.std.proofs.Common.{◌≡◌, ◌+◌, map}
-use Rattle.std.specs.List.{range_with_len}
-use Rattle.tariff_check.specs.Parts.{supplement_of}
-use Rattle.tariff_syntax.specs.Tree.{tree_of}
+use Rattle.std.{specs.List.{range_with_len}, proofs.Common.{◌+◌, ◌≡◌, map}}
+use Rattle.tariff_compile.specs.Common.{supplement_of, tree_of}
 use Rattle.tariff_compile.proofs.choices.all_supplements.Given as goal
 
 abbrev pub invariant-loop-place : goal.invariant-loop-place

@@ -1,5 +1,4 @@
-use Rattle.std.proofs.Common.{arith}
-use Rattle.std.proofs.lemmas.Grind.{common_steps}
+use Rattle.std.proofs.{Common.{arith}, lemmas.Grind.{common_steps}}
 use Rattle.tariff_compile.proofs.choices.all_values.Goals as goal
 
 pub loop-choice-preserved : goal.loop-choice-preserved

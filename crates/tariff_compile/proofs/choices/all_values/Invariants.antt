@@ -1,5 +1,5 @@
 use Rattle.std.proofs.Common.{◌≡◌, take}
-use Rattle.tariff_check.specs.SoundTariff.{own_values}
+use Rattle.tariff_compile.specs.Common.{own_values}
 use Rattle.tariff_compile.proofs.choices.all_values.Given as goal
 
 abbrev pub invariant-loop-choice : goal.invariant-loop-choice

@@ -1,10 +1,6 @@
-use Rattle.std.proofs.Common.{ℕ, zero, suc, ◌<◌, List, [], ◌∷◌, length, get_or, All, arith}
-use Rattle.std.proofs.lemmas.Grind.{common_steps}
-use Rattle.std.proofs.lemmas.List.Elements.{All-head, All-tail}
-use Rattle.tariff_check.specs.Parts.{RateNumbers}
-use Rattle.tariff_check.specs.Sound.{IsSoundRate}
-use Rattle.tariff_check.specs.SoundTariff.{own_values}
-use Rattle.tariff_check.specs.declared.choice.Choice.{Choice}
+use Rattle.std.proofs.Common.{[], ℕ, ◌<◌, ◌∷◌, All, List, arith, get_or, length, suc, zero}
+use Rattle.std.proofs.lemmas.{Grind.{common_steps}, List.Elements.{All-head, All-tail}}
+use Rattle.tariff_compile.specs.Common.{Choice, IsSoundRate, RateNumbers, own_values}
 use Rattle.tariff_compile.proofs.choices.all_weights.Goals as goal
 
 -- if all rates are sound, so is the one at a place

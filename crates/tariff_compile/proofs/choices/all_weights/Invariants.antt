@@ -1,6 +1,5 @@
 use Rattle.std.proofs.Common.{◌≡◌, map, take}
-use Rattle.tariff_check.specs.SoundTariff.{own_values}
-use Rattle.tariff_compile.specs.Tables.{weights_of}
+use Rattle.tariff_compile.specs.{Common.{own_values}, Tables.{weights_of}}
 use Rattle.tariff_compile.proofs.choices.all_weights.Given as goal
 
 abbrev pub invariant-loop-choice : goal.invariant-loop-choice

@@ -1,7 +1,5 @@
-use Rattle.std.proofs.Common.{ℕ, ◌∙◌, ap, sym, refl}
-use Rattle.tariff_calendar.specs.Lists.{count_at_most}
-use Rattle.tariff_compile.specs.Cells.{bands_at}
-use Rattle.tariff_compile.specs.declared.parts.Bands.{Bands}
+use Rattle.std.proofs.Common.{ℕ, ◌∙◌, ap, refl, sym}
+use Rattle.tariff_compile.specs.{Cells.{bands_at}, Common.{Bands, count_at_most}}
 use Rattle.tariff_compile.proofs.contexts.bands_until.Goals as goal
 
 pub returns-clause-near : goal.returns-clause-near

@@ -1,8 +1,6 @@
-use Rattle.std.proofs.Common.{◌≡◌, ℕ, ◌<◌, true, List, Some, length, get_or, drop, refl, sym, ◌∙◌}
-use Rattle.std.specs.List.{position_from}
-use Rattle.std.proofs.lemmas.List.{at_drop_more}
-use Rattle.tariff_compile.specs.Marks.{is_marked}
-use Rattle.tariff_compile.specs.declared.marks.Marks.{Marks}
+use Rattle.{std.{specs.List.{position_from}, proofs.lemmas.List.{at_drop_more}}, tariff_compile.specs.Marks.{is_marked}}
+use Rattle.std.proofs.Common.{ℕ, ◌<◌, ◌∙◌, ◌≡◌, List, Some, drop, get_or, length, refl, sym, true}
+use Rattle.tariff_compile.specs.Common.{Marks}
 use Rattle.tariff_compile.proofs.marking.first_marked.Goals as goal
 
 -- marks at a place from which on is looked are the first that have it

@@ -1,5 +1,4 @@
-use Rattle.std.proofs.Common.{◌≡◌, drop}
-use Rattle.std.specs.List.{position_from}
+use Rattle.std.{specs.List.{position_from}, proofs.Common.{◌≡◌, drop}}
 use Rattle.tariff_compile.specs.Marks.{is_marked}
 use Rattle.tariff_compile.proofs.marking.first_marked.Given as goal
 

@@ -1,7 +1,5 @@
-use Rattle.std.proofs.Common.{◌∙◌, sym, arith}
-use Rattle.std.proofs.lemmas.Option.{slice_get_within}
-use Rattle.tariff_syntax.specs.Condition.{condition_of}
-use Rattle.tariff_compile.proofs.Agreeing.{one_answer}
+use Rattle.std.proofs.{Common.{◌∙◌, arith, sym}, lemmas.Option.{slice_get_within}}
+use Rattle.tariff_compile.{specs.Common.{condition_of}, proofs.SameInContexts.{one_answer}}
 use Rattle.tariff_compile.proofs.marking.marks_of_atom.Goals as goal
 
 pub returns-in-Some : goal.returns-in-Some

@@ -1,7 +1,5 @@
-use Rattle.std.proofs.Common.{arith}
-use Rattle.std.proofs.lemmas.Grind.{common_steps}
-use Rattle.tariff_syntax.specs.Tree.{tree_of}
-use Rattle.tariff_compile.proofs.Marked.{all_marked, marks_of_choice}
+use Rattle.std.proofs.{Common.{arith}, lemmas.Grind.{common_steps}}
+use Rattle.tariff_compile.{specs.Common.{tree_of}, proofs.Marked.{all_marked, marks_of_choice}}
 use Rattle.tariff_compile.proofs.marking.marks_of_each.Goals as goal
 
 pub loop-choice-preserved : goal.loop-choice-preserved

@@ -1,5 +1,4 @@
-use Rattle.tariff_syntax.specs.Tree.{tree_of}
-use Rattle.tariff_compile.proofs.Marked.{HasMarks}
+use Rattle.tariff_compile.{specs.Common.{tree_of}, proofs.Marked.{HasMarks}}
 use Rattle.tariff_compile.proofs.marking.marks_of_each.Given as goal
 
 abbrev pub invariant-loop-choice : goal.invariant-loop-choice

@@ -1,6 +1,4 @@
-use Rattle.tariff_syntax.specs.Condition.{condition_of}
-use Rattle.tariff_syntax.specs.Meaning.{holds}
-use Rattle.tariff_compile.proofs.Marked.{MarksFirst}
+use Rattle.tariff_compile.{specs.Common.{condition_of, holds}, proofs.Marked.{MarksFirst}}
 use Rattle.tariff_compile.proofs.marking.marks_one_by_one.Given as goal
 
 abbrev pub invariant-loop-place : goal.invariant-loop-place

@@ -1,10 +1,6 @@
-use Rattle.std.proofs.Common.{arith}
-use Rattle.std.proofs.lemmas.Grind.{common_steps}
+use Rattle.{std.proofs.{Common.{arith}, lemmas.Grind.{common_steps}}, tariff_compile.proofs.Compiled.{tables_fit}}
 use Rattle.tariff_check.proofs.Laws.{sound_tariffs_have_sound_parts-parts}
-use Rattle.tariff_check.specs.declared.choice.ChoiceKind.TheVariants.{Rate}
-use Rattle.tariff_syntax.specs.Tree.{tree_of}
-use Rattle.tariff_compile.specs.Tables.{IsCompiled, IsFit, TableParts}
-use Rattle.tariff_compile.proofs.Compiled.{tables_fit}
+use Rattle.tariff_compile.specs.{Common.{Rate, tree_of}, Tables.{IsCompiled, IsFit, TableParts}}
 use Rattle.tariff_compile.proofs.tables.compile.Goals as goal
 
 pub all_weights-requires-clause-rates : goal.all_weights-requires-clause-rates

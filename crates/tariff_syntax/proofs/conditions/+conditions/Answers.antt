@@ -1,9 +1,6 @@
-use Rattle.std.proofs.Common.{◌-◌, arith, refl}
-use Rattle.std.proofs.lemmas.Grind.{common_steps}
-use Rattle.tariff_syntax.specs.Grammar.{factor_first, chain_on}
-use Rattle.tariff_syntax.specs.Joints.{word_of, joined_by}
-use Rattle.tariff_syntax.specs.TokenReading.{tokens_of}
-use Rattle.tariff_syntax.proofs.GrammarSteps.{none_deep, factor_step, chain_none, chain_ends, chain_goes, then_builds}
+use Rattle.std.proofs.{Common.{◌-◌, arith, refl}, lemmas.Grind.{common_steps}}
+use Rattle.tariff_syntax.specs.{Grammar.{chain_on, factor_first}, Joints.{joined_by, word_of}, TokenReading.{tokens_of}}
+use Rattle.tariff_syntax.proofs.GrammarSteps.{chain_ends, chain_goes, chain_none, factor_step, none_deep, then_builds}
 use Rattle.tariff_syntax.proofs.conditions.+conditions.Goals as goal
 
 pub factor-returns-then-depth-eq0 : goal.factor-returns-then-depth-eq0

@@ -1,6 +1,5 @@
-use Rattle.std.proofs.Common.{ℕ, ◌+◌, ◌*◌}
-use Rattle.tariff_syntax.specs.declared.conditions.Joint.{Joint}
-use Rattle.tariff_syntax.specs.declared.conditions.Joint.TheVariants.{Or, And}
+use Rattle.std.proofs.Common.{ℕ, ◌*◌, ◌+◌}
+use Rattle.tariff_syntax.specs.declared.conditions.Joint.{Joint, TheVariants.{And, Or}}
 use Rattle.tariff_syntax.proofs.conditions.+conditions.Given as goal
 
 abbrev pub decreases-condition : goal.decreases-condition

@@ -1,6 +1,5 @@
-use Rattle.std.proofs.Common.{◌≡◌, ◌+◌, ◌≤◌, length}
-use Rattle.tariff_syntax.specs.Weight.{weight}
-use Rattle.tariff_syntax.specs.TokenReading.{tokens_of}
+use Rattle.std.proofs.Common.{◌+◌, ◌≡◌, ◌≤◌, length}
+use Rattle.tariff_syntax.specs.{TokenReading.{tokens_of}, Weight.{weight}}
 use Rattle.tariff_syntax.proofs.conditions.weight.Given as goal
 
 abbrev pub invariant-loop-token : goal.invariant-loop-token

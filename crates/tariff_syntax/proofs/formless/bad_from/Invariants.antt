@@ -1,6 +1,5 @@
-use Rattle.std.proofs.Common.{◌≡◌, ◌+◌, ◌≤◌, ◌++◌, length}
-use Rattle.tariff_syntax.specs.BadLines.{bad_from}
-use Rattle.tariff_syntax.specs.TextLines.{lines_of}
+use Rattle.std.proofs.Common.{◌++◌, ◌+◌, ◌≡◌, ◌≤◌, length}
+use Rattle.tariff_syntax.specs.{BadLines.{bad_from}, TextLines.{lines_of}}
 use Rattle.tariff_syntax.proofs.formless.bad_from.Given as goal
 
 abbrev pub invariant-loop-line : goal.invariant-loop-line

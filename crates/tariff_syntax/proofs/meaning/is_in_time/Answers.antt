@@ -1,5 +1,4 @@
-use Rattle.std.proofs.Common.{refl}
-use Rattle.std.proofs.lemmas.Bool.{le-leb, lt-leb}
+use Rattle.std.proofs.{Common.{refl}, lemmas.Bool.{le-leb, lt-leb}}
 use Rattle.tariff_syntax.proofs.meaning.is_in_time.Goals as goal
 
 pub returns-then-from-minute-2 : goal.returns-then-from-minute-2

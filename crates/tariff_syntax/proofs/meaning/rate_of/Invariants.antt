@@ -1,5 +1,4 @@
-use Rattle.tariff_syntax.specs.Choices.{rate_part}
-use Rattle.tariff_syntax.proofs.FirstChoices.{IsPassed}
+use Rattle.tariff_syntax.{specs.Choices.{rate_part}, proofs.FirstChoices.{IsPassed}}
 use Rattle.tariff_syntax.proofs.meaning.rate_of.Given as goal
 
 abbrev pub invariant-loop-line : goal.invariant-loop-line

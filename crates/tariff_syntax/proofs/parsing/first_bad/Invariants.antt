@@ -1,7 +1,5 @@
-use Rattle.std.proofs.Common.{◌≡◌, ◌+◌, ◌≤◌, length}
-use Rattle.tariff_syntax.specs.Parsed.{entries_read}
-use Rattle.tariff_syntax.specs.Parses.{bad_in}
-use Rattle.tariff_syntax.specs.TextLines.{lines_of}
+use Rattle.std.proofs.Common.{◌+◌, ◌≡◌, ◌≤◌, length}
+use Rattle.tariff_syntax.specs.{Parsed.{entries_read}, Parses.{bad_in}, TextLines.{lines_of}}
 use Rattle.tariff_syntax.proofs.parsing.first_bad.Given as goal
 
 abbrev pub invariant-loop-line : goal.invariant-loop-line

@@ -1,5 +1,5 @@
+use Rattle.std.proofs.Common.{◌<◌, arith, length}
 use Rattle.tariff_syntax.proofs.LineOrder.{first_line_is}
-use Rattle.std.proofs.Common.{◌<◌, length, arith}
 use Rattle.tariff_syntax.proofs.parsing.first_line.Goals as goal
 
 pub returns : goal.returns

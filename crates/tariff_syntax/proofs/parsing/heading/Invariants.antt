@@ -1,6 +1,5 @@
-use Rattle.std.proofs.Common.{◌≡◌, ◌+◌, ◌≤◌, length}
-use Rattle.tariff_syntax.specs.Parsed.{heading_read}
-use Rattle.tariff_syntax.specs.TextLines.{lines_of}
+use Rattle.std.proofs.Common.{◌+◌, ◌≡◌, ◌≤◌, length}
+use Rattle.tariff_syntax.specs.{Parsed.{heading_read}, TextLines.{lines_of}}
 use Rattle.tariff_syntax.proofs.parsing.heading.Given as goal
 
 abbrev pub invariant-loop-line : goal.invariant-loop-line

@@ -1,7 +1,5 @@
-use Rattle.std.proofs.Common.{◌≡◌, ◌+◌, ◌≤◌, length, map}
-use Rattle.tariff_syntax.specs.Parsed.{before, entries_read}
-use Rattle.tariff_syntax.specs.TextLines.{lines_of}
-use Rattle.tariff_syntax.specs.Tree.{line_of}
+use Rattle.std.proofs.Common.{◌+◌, ◌≡◌, ◌≤◌, length, map}
+use Rattle.tariff_syntax.specs.{Parsed.{before, entries_read}, TextLines.{lines_of}, Tree.{line_of}}
 use Rattle.tariff_syntax.proofs.parsing.lines.Given as goal
 
 abbrev pub invariant-loop-line : goal.invariant-loop-line

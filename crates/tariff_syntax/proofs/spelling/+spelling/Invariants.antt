@@ -1,4 +1,4 @@
-use Rattle.std.proofs.Common.{◌+◌, ◌*◌}
+use Rattle.std.proofs.Common.{◌*◌, ◌+◌}
 use Rattle.tariff_syntax.proofs.spelling.+spelling.Given as goal
 
 abbrev pub decreases-push_condition : goal.decreases-push_condition

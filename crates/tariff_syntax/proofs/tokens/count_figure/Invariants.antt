@@ -1,6 +1,5 @@
-use Rattle.std.proofs.Common.{◌≡◌, ◌+◌, length}
-use Rattle.tariff_syntax.specs.Token.{goes_on}
-use Rattle.tariff_syntax.specs.TokenReading.{run_end}
+use Rattle.std.proofs.Common.{◌+◌, ◌≡◌, length}
+use Rattle.tariff_syntax.specs.{Token.{goes_on}, TokenReading.{run_end}}
 use Rattle.tariff_syntax.proofs.tokens.count_figure.Given as goal
 
 abbrev pub invariant-loop-first : goal.invariant-loop-first

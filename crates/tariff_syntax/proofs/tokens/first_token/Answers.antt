@@ -1,5 +1,4 @@
-use Rattle.tariff_syntax.specs.Token.{token_of}
-use Rattle.tariff_syntax.proofs.TokenOrder.{first_is}
+use Rattle.tariff_syntax.{specs.Token.{token_of}, proofs.TokenOrder.{first_is}}
 use Rattle.tariff_syntax.proofs.tokens.first_token.Goals as goal
 
 pub returns : goal.returns

@@ -1,6 +1,5 @@
-use Rattle.std.proofs.Common.{◌≡◌, ◌∙◌, ℕ, ◌+◌, ◌-◌, ◌<◌, ◌≤◌, Some, List, length, get_or, drop, sym, refl, arith}
-use Rattle.std.proofs.Common.{add-one, drop-cons}
-use Rattle.std.proofs.lemmas.Bool.{lt-ltb, le-ltb}
+use Rattle.std.proofs.Common.{ℕ, ◌+◌, ◌-◌, ◌<◌, ◌∙◌, ◌≡◌, ◌≤◌, List, Some, add-one, arith, drop, drop-cons, get_or}
+use Rattle.std.proofs.{Common.{length, refl, sym}, lemmas.Bool.{le-ltb, lt-ltb}}
 use Rattle.taxi_units.specs.Calendar.{date_from}
 use Rattle.taxi_units.proofs.calendar.date_of_place.Goals as goal
 

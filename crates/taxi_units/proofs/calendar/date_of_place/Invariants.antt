@@ -1,4 +1,4 @@
-use Rattle.std.proofs.Common.{◌≡◌, ◌+◌, drop, true}
+use Rattle.std.proofs.Common.{◌+◌, ◌≡◌, drop, true}
 use Rattle.taxi_units.specs.Calendar.{date_from, date_of_place, month_lengths}
 use Rattle.taxi_units.proofs.calendar.date_of_place.Given as goal
 

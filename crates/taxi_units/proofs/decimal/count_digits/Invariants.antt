@@ -1,4 +1,4 @@
-use Rattle.std.proofs.Common.{◌≡◌, ◌+◌, drop}
+use Rattle.std.proofs.Common.{◌+◌, ◌≡◌, drop}
 use Rattle.taxi_units.specs.Number.{digits_at_front}
 use Rattle.taxi_units.proofs.decimal.count_digits.Given as goal
 

@@ -1,4 +1,4 @@
-use Rattle.std.proofs.Common.{◌<◌, ◌+◌, ◌^◌, arith, subst}
+use Rattle.std.proofs.Common.{◌+◌, ◌<◌, ◌^◌, arith, subst}
 use Rattle.taxi_units.proofs.Digits.{numbers_grow_by_their_digits}
 use Rattle.taxi_units.proofs.decimal.number_from.Goals as goal
 

@@ -1,4 +1,4 @@
-use Rattle.std.proofs.Common.{◌≡◌, ◌*◌, ◌^◌, ◌≤◌}
+use Rattle.std.proofs.Common.{◌*◌, ◌^◌, ◌≡◌, ◌≤◌}
 use Rattle.taxi_units.proofs.decimal.scaled.Given as goal
 
 abbrev pub invariant-loop : goal.invariant-loop

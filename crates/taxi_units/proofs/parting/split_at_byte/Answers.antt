@@ -1,9 +1,7 @@
-use Rattle.std.proofs.Common.{◌≡◌, ◌≢◌, ◌∙◌, ℕ, ◌+◌, ◌-◌, ◌<◌, List, ◌∷◌, ◌++◌, length, take, drop, refl, sym, rules}
-use Rattle.std.proofs.Common.{tests, arith, add-one, drop-cons, length-drop}
-use Rattle.std.proofs.lemmas.List.{take-append-drop, take_all, length-take, get_or-take}
-use Rattle.std.proofs.lemmas.Iterator.{IsFirst-from_position, YieldsList-from_slice}
-use Rattle.std.specs.List.{AllWithin, HoldsAt}
-use Rattle.taxi_units.specs.Parting.{HasNone}
+use Rattle.std.{specs.List.{AllWithin, HoldsAt}, proofs.lemmas.Iterator.{IsFirst-from_position, YieldsList-from_slice}}
+use Rattle.std.proofs.Common.{ℕ, ◌++◌, ◌+◌, ◌-◌, ◌<◌, ◌∙◌, ◌∷◌, ◌≡◌, ◌≢◌, List, add-one, arith, drop, drop-cons, length}
+use Rattle.{std.proofs.Common.{length-drop, refl, rules, sym, take, tests}, taxi_units.specs.PartedBytes.{HasNone}}
+use Rattle.std.proofs.lemmas.List.{get_or-take, length-take, take-append-drop, take_all}
 use Rattle.taxi_units.proofs.parting.split_at_byte.Goals as goal
 
 -- the place that was found is the first one with this byte

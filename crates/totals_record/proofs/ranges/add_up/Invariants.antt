@@ -1,5 +1,4 @@
-use Rattle.std.proofs.Common.{◌≡◌, ◌+◌, take}
-use Rattle.std.specs.List.{sum_by}
+use Rattle.std.{specs.List.{sum_by}, proofs.Common.{◌+◌, ◌≡◌, take}}
 use Rattle.totals_record.proofs.ranges.add_up.Given as goal
 
 abbrev pub invariant-loop-share : goal.invariant-loop-share

@@ -1,6 +1,5 @@
-use Rattle.std.proofs.Common.{ℕ, Bool, ◌&&◌, length, nat_le, sym, ap, ◌∙◌}
-use Rattle.std.proofs.lemmas.Bool.{eq-eqb}
 use Rattle.std.specs.List.{list_all}
+use Rattle.std.proofs.{Common.{ℕ, ◌&&◌, ◌∙◌, Bool, ap, length, nat_le, sym}, lemmas.Bool.{eq-eqb}}
 use Rattle.totals_record.proofs.ranges.are_counts.Goals as goal
 
 pub returns : goal.returns

@@ -1,6 +1,4 @@
-use Rattle.std.proofs.lemmas.Bool.{ne_eqb}
-use Rattle.slot_bodies.specs.BytesAt.{byte_at}
-use Rattle.totals_record.specs.Table.{share_in}
+use Rattle.{std.proofs.lemmas.Bool.{ne_eqb}, totals_record.specs.{Common.{byte_at}, Table.{share_in}}}
 use Rattle.totals_record.proofs.table.before_in.Goals as goal
 
 pub returns-then-bytes-eq1 : goal.returns-then-bytes-eq1

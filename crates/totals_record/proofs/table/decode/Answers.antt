@@ -1,4 +1,4 @@
-use Rattle.slot_bodies.specs.BytesAt.{byte_at}
+use Rattle.totals_record.specs.Common.{byte_at}
 use Rattle.totals_record.proofs.table.decode.Goals as goal
 
 pub returns : goal.returns

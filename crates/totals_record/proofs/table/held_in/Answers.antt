@@ -1,6 +1,4 @@
-use Rattle.std.proofs.Common.{Some, ap}
-use Rattle.std.proofs.lemmas.Bool.{ne_eqb}
-use Rattle.slot_bodies.specs.BytesAt.{byte_at}
+use Rattle.{std.proofs.{Common.{Some, ap}, lemmas.Bool.{ne_eqb}}, totals_record.specs.Common.{byte_at}}
 use Rattle.totals_record.proofs.table.held_in.Goals as goal
 
 pub returns-then-bytes-eq1 : goal.returns-then-bytes-eq1

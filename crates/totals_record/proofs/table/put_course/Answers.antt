@@ -1,6 +1,5 @@
-use Rattle.std.proofs.Common.{ℕ, [], ◌∷◌, ◌++◌, ◌∙◌, ap}
-use Rattle.totals_record.specs.Bytes.{four, eight, bit}
-use Rattle.taxi_units.proofs.Laws.{appended_behind}
+use Rattle.std.proofs.Common.{[], ℕ, ◌++◌, ◌∙◌, ◌∷◌, ap}
+use Rattle.{taxi_units.proofs.Laws.{appended_behind}, totals_record.specs.Bytes.{bit, eight, four}}
 use Rattle.totals_record.proofs.table.put_course.Goals as goal
 
 pub returns-clause-items : goal.returns-clause-items

@@ -1,6 +1,5 @@
 use Rattle.std.proofs.Common.{◌++◌}
-use Rattle.totals_record.specs.Bytes.{eight, sixteen}
-use Rattle.taxi_units.proofs.Laws.{appended_behind}
+use Rattle.{taxi_units.proofs.Laws.{appended_behind}, totals_record.specs.Bytes.{eight, sixteen}}
 use Rattle.totals_record.proofs.table.put_head.Goals as goal
 
 pub returns-clause-items : goal.returns-clause-items

@@ -1,6 +1,5 @@
 use Rattle.std.proofs.Common.{[], ◌∷◌}
-use Rattle.totals_record.specs.Spelling.{trip_bytes}
-use Rattle.taxi_units.proofs.Laws.{appended_behind}
+use Rattle.{taxi_units.proofs.Laws.{appended_behind}, totals_record.specs.Spelling.{trip_bytes}}
 use Rattle.totals_record.proofs.table.put_held.Goals as goal
 
 pub returns-in-Some-clause-items : goal.returns-in-Some-clause-items

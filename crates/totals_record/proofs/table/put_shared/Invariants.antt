@@ -1,7 +1,5 @@
-use Rattle.std.proofs.Common.{◌≡◌, ◌+◌, ◌*◌, ◌++◌, take}
-use Rattle.std.specs.List.{flat_map}
-use Rattle.arrayvec.specs.ArrayVec.{array_vec_len}
-use Rattle.totals_record.specs.Spelling.{share_bytes}
+use Rattle.std.{specs.List.{flat_map}, proofs.Common.{◌*◌, ◌++◌, ◌+◌, ◌≡◌, take}}
+use Rattle.{arrayvec.specs.ArrayVec.{array_vec_len}, totals_record.specs.Spelling.{share_bytes}}
 use Rattle.totals_record.proofs.table.put_shared.Given as goal
 
 abbrev pub invariant-loop-share : goal.invariant-loop-share

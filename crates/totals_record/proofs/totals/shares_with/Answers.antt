@@ -1,7 +1,5 @@
-use Rattle.std.proofs.Common.{◌+◌, ◌<◌, ◌^◌, arith, sym, ◌∙◌}
-use Rattle.std.proofs.lemmas.Bool.{false≢true}
-use Rattle.taxi_units.specs.Test.{within}
-use Rattle.totals_record.proofs.Shares.{shares_apart, shares_set, elsewhere, grown_fits, roams}
+use Rattle.std.proofs.{Common.{◌+◌, ◌<◌, ◌^◌, ◌∙◌, arith, sym}, lemmas.Bool.{false≢true}}
+use Rattle.totals_record.{specs.Common.{within}, proofs.Shares.{elsewhere, grown_fits, roams, shares_apart, shares_set}}
 use Rattle.totals_record.proofs.totals.shares_with.Goals as goal
 
 pub returns-then-not-closes : goal.returns-then-not-closes

@@ -1,10 +1,6 @@
-use Rattle.std.proofs.Common.{◌≡◌, [], ◌+◌, flat_map, drop, length, arith}
-use Rattle.std.proofs.Math.Seq.{drop-length}
-use Rattle.drive_text.specs.Runs.{run_events}
-use Rattle.verify_bench.specs.Expecting.{expected_of}
-use Rattle.verify_bench.specs.Settings.{setting_under}
-use Rattle.verify_bench.proofs.Carried.{events_next, expected_first}
-use Rattle.verify_bench.proofs.Shortening.{carried_short, ended_short}
+use Rattle.std.proofs.{Common.{[], ◌+◌, ◌≡◌, arith, drop, flat_map, length}, Math.Seq.{drop-length}}
+use Rattle.verify_bench.specs.{Common.{run_events}, ExpectedReceipts.{expected_of}, Settings.{setting_under}}
+use Rattle.verify_bench.proofs.{Carried.{events_next, expected_first}, ShortExplanations.{carried_short, ended_short}}
 use Rattle.verify_bench.proofs.expecting.expect_counted.Goals as goal
 
 pub loop-run-init : goal.loop-run-init

@@ -1,9 +1,6 @@
-use Rattle.std.proofs.Common.{drop, flat_map}
-use Rattle.drive_text.specs.Runs.{run_events}
-use Rattle.verify_bench.specs.Bench.{IsMeterInRange}
-use Rattle.verify_bench.specs.Carrying.{IsAmidExpected}
-use Rattle.verify_bench.specs.Expecting.{expected_of}
-use Rattle.verify_bench.specs.Settings.{setting_under}
+use Rattle.{std.proofs.Common.{drop, flat_map}, verify_bench.specs.BenchProgress.{IsAmidExpected}}
+use Rattle.verify_bench.specs.{Bench.{IsMeterInRange}, ExpectedReceipts.{expected_of}, Settings.{setting_under}}
+use Rattle.verify_bench.specs.Common.{run_events}
 use Rattle.verify_bench.proofs.expecting.expect_counted.Given as goal
 
 abbrev pub invariant-loop-run : goal.invariant-loop-run

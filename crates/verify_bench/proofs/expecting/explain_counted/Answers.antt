@@ -1,9 +1,6 @@
-use Rattle.std.proofs.Common.{◌≡◌, [], ◌+◌, flat_map, drop, length, arith}
-use Rattle.std.proofs.Math.Seq.{drop-length}
-use Rattle.drive_text.specs.Runs.{run_events}
-use Rattle.verify_bench.specs.Explaining.{explanations_of}
-use Rattle.verify_bench.specs.Settings.{setting_under}
-use Rattle.verify_bench.proofs.Carried.{amid_first, amid_next, carried_to_the_end}
+use Rattle.std.proofs.{Common.{[], ◌+◌, ◌≡◌, arith, drop, flat_map, length}, Math.Seq.{drop-length}}
+use Rattle.verify_bench.specs.{Common.{run_events}, TripExplanations.{explanations_of}}
+use Rattle.verify_bench.{specs.Settings.{setting_under}, proofs.Carried.{amid_first, amid_next, carried_to_the_end}}
 use Rattle.verify_bench.proofs.expecting.explain_counted.Goals as goal
 
 pub loop-run-init : goal.loop-run-init

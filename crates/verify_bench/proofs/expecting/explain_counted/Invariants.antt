@@ -1,9 +1,6 @@
-use Rattle.std.proofs.Common.{drop, flat_map}
-use Rattle.drive_text.specs.Runs.{run_events}
-use Rattle.verify_bench.specs.Bench.{IsMeterInRange}
-use Rattle.verify_bench.specs.Carrying.{IsAmidDrive}
-use Rattle.verify_bench.specs.Explaining.{explanations_of}
-use Rattle.verify_bench.specs.Settings.{setting_under}
+use Rattle.{std.proofs.Common.{drop, flat_map}, verify_bench.specs.TripExplanations.{explanations_of}}
+use Rattle.verify_bench.specs.{Bench.{IsMeterInRange}, BenchProgress.{IsAmidDrive}, Settings.{setting_under}}
+use Rattle.verify_bench.specs.Common.{run_events}
 use Rattle.verify_bench.proofs.expecting.explain_counted.Given as goal
 
 abbrev pub invariant-loop-run : goal.invariant-loop-run

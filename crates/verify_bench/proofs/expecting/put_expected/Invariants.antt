@@ -1,6 +1,5 @@
-use Rattle.std.proofs.Common.{◌≡◌, ◌++◌, drop, map}
-use Rattle.verify_bench.specs.Explaining.{explanation_of}
-use Rattle.verify_bench.specs.Shortened.{short_of}
+use Rattle.std.proofs.Common.{◌++◌, ◌≡◌, drop, map}
+use Rattle.verify_bench.specs.{Shortened.{short_of}, TripExplanations.{explanation_of}}
 use Rattle.verify_bench.proofs.expecting.put_expected.Given as goal
 
 abbrev pub invariant-loop-hiring : goal.invariant-loop-hiring

@@ -1,8 +1,5 @@
-use Rattle.std.proofs.Common.{◌≡◌, ◌*◌, ◌≤◌, refl, arith}
-use Rattle.std.proofs.lemmas.Grind.{common_steps}
-use Rattle.meter_model.specs.Setting.{unit_of}
-use Rattle.verify_bench.specs.Settings.{setting_under}
-use Rattle.verify_bench.proofs.StepCounts.{few_steps, some_unit}
+use Rattle.std.proofs.{Common.{◌*◌, ◌≡◌, ◌≤◌, arith, refl}, lemmas.Grind.{common_steps}}
+use Rattle.verify_bench.{specs.{Common.{unit_of}, Settings.{setting_under}}, proofs.StepCounts.{few_steps, some_unit}}
 use Rattle.verify_bench.proofs.fares.steps_shown.Goals as goal
 
 pub returns-clause-few : goal.returns-clause-few

@@ -1,10 +1,5 @@
-use Rattle.std.proofs.Common.{refl, sym, subst}
-use Rattle.tariff_check.proofs.Laws.{hirings_begin_with_first_lines-fit}
-use Rattle.tariff_check.specs.Amounts.{IsFitInitial}
-use Rattle.tariff_check.specs.SoundTariff.{sound_of}
-use Rattle.tariff_syntax.specs.Tree.{tree_of}
-use Rattle.verify_bench.specs.Fees.{fees_of_hiring}
-use Rattle.verify_bench.specs.declared.fees.HiringFees.{HiringFees}
+use Rattle.{std.proofs.Common.{refl, subst, sym}, tariff_check.proofs.Laws.{hirings_begin_with_first_lines-fit}}
+use Rattle.verify_bench.specs.{Common.{HiringFees, IsFitInitial, sound_of, tree_of}, Fees.{fees_of_hiring}}
 use Rattle.verify_bench.proofs.fees.fees_of_hiring.Goals as goal
 
 pub returns-clause-fees : goal.returns-clause-fees

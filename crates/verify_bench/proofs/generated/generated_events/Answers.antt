@@ -1,8 +1,6 @@
-use Rattle.std.proofs.Common.{◌≡◌, ◌∙◌, ◌+◌, ◌-◌, sym, ap, arith}
-use Rattle.verify_bench.specs.Adding.{place_of, lines_events}
-use Rattle.verify_bench.specs.Generated.{Place, beginning, generated_lines, trip}
-use Rattle.verify_bench.proofs.GeneratedLaws.{events_of_lines}
-use Rattle.verify_bench.proofs.Trips.{events_before, events_behind, events_of_all}
+use Rattle.std.proofs.Common.{◌+◌, ◌-◌, ◌∙◌, ◌≡◌, ap, arith, sym}
+use Rattle.verify_bench.specs.{AddedText.{lines_events, place_of}, Generated.{Place, beginning, generated_lines, trip}}
+use Rattle.verify_bench.proofs.{GeneratedLaws.{events_of_lines}, Trips.{events_before, events_behind, events_of_all}}
 use Rattle.verify_bench.proofs.generated.generated_events.Goals as goal
 
 pub loop-trip-init : goal.loop-trip-init

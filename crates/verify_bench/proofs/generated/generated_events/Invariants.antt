@@ -1,6 +1,5 @@
-use Rattle.std.proofs.Common.{◌≡◌, ◌+◌, ◌-◌, ◌*◌, ◌≤◌}
-use Rattle.verify_bench.specs.Adding.{place_of, lines_events}
-use Rattle.verify_bench.specs.Generated.{generated_lines, trips_from}
+use Rattle.std.proofs.Common.{◌*◌, ◌+◌, ◌-◌, ◌≡◌, ◌≤◌}
+use Rattle.verify_bench.specs.{AddedText.{lines_events, place_of}, Generated.{generated_lines, trips_from}}
 use Rattle.verify_bench.proofs.generated.generated_events.Given as goal
 
 abbrev pub invariant-loop-trip : goal.invariant-loop-trip

@@ -1,8 +1,6 @@
-use Rattle.std.proofs.Common.{◌≡◌, ◌&&◌, ◌==◌, drop}
-use Rattle.std.specs.List.{list_any}
-use Rattle.tariff_check.specs.Parts.{DateNumbers}
-use Rattle.tariff_syntax.specs.Tree.{tree_of}
-use Rattle.tariff_calendar.specs.Lists.{is_holiday}
+use Rattle.std.{specs.List.{list_any}, proofs.Common.{◌&&◌, ◌==◌, ◌≡◌, drop}}
+use Rattle.{tariff_check.specs.Parts.{DateNumbers}, tariff_calendar.specs.Lists.{is_holiday}}
+use Rattle.verify_bench.specs.Common.{tree_of}
 use Rattle.verify_bench.proofs.lookups.is_holiday.Given as goal
 
 abbrev pub invariant-loop-holiday : goal.invariant-loop-holiday

@@ -1,5 +1,5 @@
 use Rattle.std.proofs.Common.{◌∙◌, List, ap, get_or}
-use Rattle.tariff_check.specs.Parts.{RateNumbers}
+use Rattle.verify_bench.specs.Common.{RateNumbers}
 use Rattle.verify_bench.proofs.lookups.rate_at.Goals as goal
 
 pub returns-clause-value : goal.returns-clause-value

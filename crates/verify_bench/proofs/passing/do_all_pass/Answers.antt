@@ -1,8 +1,6 @@
-use Rattle.std.proofs.Common.{◌≡◌, ◌∙◌, Bool, refl, sym, ap}
-use Rattle.std.specs.Prelude.{◌&&◌, slice_get}
+use Rattle.std.{specs.Prelude.{◌&&◌, slice_get}, proofs.Common.{◌∙◌, ◌≡◌, Bool, ap, refl, sym}}
 use Rattle.verify_bench.specs.PassingStages.{does_place_pass}
-use Rattle.verify_bench.proofs.EachPasses.{no_place, one_more}
-use Rattle.verify_bench.proofs.passing.do_all_pass.Goals.{then-here, else-here}
+use Rattle.verify_bench.proofs.{EachPasses.{no_place, one_more}, passing.do_all_pass.Goals.{else-here, then-here}}
 use Rattle.verify_bench.proofs.passing.do_all_pass.Goals as goal
 
 pub loop-place-init : goal.loop-place-init

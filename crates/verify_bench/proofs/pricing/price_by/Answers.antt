@@ -1,8 +1,8 @@
 use Rattle.std.proofs.Common.{◌∙◌, sym}
-use Rattle.verify_bench.proofs.ChargeRange.{share_fits, pulse_fits, distance_bound, distance_fits, rise_fits}
-use Rattle.verify_bench.proofs.ChargeRange.{time_bound, time_fits, both_bound, both_fits, slow_charge, fast_charge}
-use Rattle.verify_bench.proofs.ChargeRange.{double_charge, slow_way, fast_way, double_way, distance_few, time_few}
-use Rattle.verify_bench.proofs.ChargeRange.{both_few}
+use Rattle.verify_bench.proofs.ChargeRange.{both_bound, both_few, both_fits, distance_bound, distance_few}
+use Rattle.verify_bench.proofs.ChargeRange.{distance_fits, double_charge, double_way, fast_charge, fast_way, pulse_fits}
+use Rattle.verify_bench.proofs.ChargeRange.{rise_fits, share_fits, slow_charge, slow_way, time_bound, time_few}
+use Rattle.verify_bench.proofs.ChargeRange.{time_fits}
 use Rattle.verify_bench.proofs.pricing.price_by.Goals as goal
 
 pub nonzero_div-pulse : goal.nonzero_div-pulse

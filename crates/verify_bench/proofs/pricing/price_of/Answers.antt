@@ -1,5 +1,4 @@
-use Rattle.tariff_syntax.specs.Tree.{tree_of}
-use Rattle.verify_bench.proofs.TreeParts.{few_rates, sound_rate}
+use Rattle.verify_bench.{specs.Common.{tree_of}, proofs.TreeParts.{few_rates, sound_rate}}
 use Rattle.verify_bench.proofs.pricing.price_of.Goals as goal
 
 pub price_by-price-requires-clause-rate : goal.price_by-price-requires-clause-rate

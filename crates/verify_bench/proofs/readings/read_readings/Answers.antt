@@ -1,11 +1,8 @@
-use Rattle.std.proofs.Common.{Bor, ◌∙◌, sym, refl, ℕ, List, [], ◌∷◌, ◌++◌, inl, inr, Some, length, ◌≤◌, arith}
-use Rattle.std.proofs.lemmas.Result.{err_from_is_err_and}
-use Rattle.csv.specs.Reading.{Reached, default_config, strip_bom}
-use Rattle.csv.specs.Records.{fields_of}
+use Rattle.std.proofs.Common.{[], ℕ, ◌++◌, ◌∙◌, ◌∷◌, ◌≤◌, Bor, List, Some, arith, inl, inr, length, refl, sym}
+use Rattle.{std.proofs.lemmas.Result.{err_from_is_err_and}, csv.specs.Reading.{Reached, default_config, strip_bom}}
+use Rattle.csv.{specs.Records.{fields_of}, proofs.ReadFacts.{rows-end, rows-more}}
+use Rattle.verify_bench.{specs.Readings.{empty, readings_limit}, proofs.Rows.{fault_of_row}}
 use Rattle.csv.specs.declared.parser.State.TheVariants as states
-use Rattle.csv.proofs.ReadFacts.{rows-end, rows-more}
-use Rattle.verify_bench.specs.Readings.{empty, readings_limit}
-use Rattle.verify_bench.proofs.Rows.{fault_of_row}
 use Rattle.verify_bench.proofs.readings.read_readings.Goals as goal
 
 pub loop-row-init : goal.loop-row-init

@@ -1,9 +1,8 @@
-use Rattle.std.proofs.Common.{◌≡◌, ◌<◌, ℕ, List, Some}
-use Rattle.csv.specs.Reading.{Reached, Ready, default_config, source_of, strip_bom}
+use Rattle.std.proofs.Common.{ℕ, ◌<◌, ◌≡◌, List, Some}
+use Rattle.{csv.specs.Reading.{Reached, Ready, default_config, source_of, strip_bom}, verify_bench.specs.Readings.{Row}}
+use Rattle.verify_bench.specs.RowsTaken.{HaveGiven}
 use Rattle.csv.specs.declared.parser.State.TheVariants as states
 use Rattle.csv.specs.declared.reader.Trim.TheVariants as trims
-use Rattle.verify_bench.specs.Readings.{Row}
-use Rattle.verify_bench.specs.RowsTaken.{HaveGiven}
 use Rattle.verify_bench.proofs.readings.read_readings.Given as goal
 
 abbrev pub invariant-loop-row : goal.invariant-loop-row

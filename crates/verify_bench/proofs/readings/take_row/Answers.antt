@@ -1,9 +1,7 @@
-use Rattle.std.proofs.Common.{◌≡◌, ◌++◌, ◌∷◌, [], arith, rules, ◌∙◌, sym, Some, None, OnOk}
-use Rattle.std.proofs.lemmas.Result.{on_ok_weaker}
-use Rattle.csv.specs.Records.{fields_of}
+use Rattle.std.proofs.Common.{[], ◌++◌, ◌∙◌, ◌∷◌, ◌≡◌, None, OnOk, Some, arith, rules, sym}
+use Rattle.{std.proofs.lemmas.Result.{on_ok_weaker}, csv.specs.Records.{fields_of}}
+use Rattle.verify_bench.{specs.ReadingStages.{reading_of_row}, proofs.Rows.{bad_behind, good_length, good_more}}
 use Rattle.verify_bench.specs.Readings.{AreGood}
-use Rattle.verify_bench.specs.ReadingStages.{reading_of_row}
-use Rattle.verify_bench.proofs.Rows.{good_more, good_length, bad_behind}
 use Rattle.verify_bench.proofs.readings.take_row.Goals as goal
 
 pub returns-in_default-clause-err : goal.returns-in_default-clause-err

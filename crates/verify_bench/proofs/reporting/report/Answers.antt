@@ -1,7 +1,6 @@
-use Rattle.std.proofs.Common.{◌∙◌, [], Some, refl}
-use Rattle.verify_bench.specs.Report.{rows_text, rows_to}
-use Rattle.verify_bench.specs.Writing.{HasRows}
-use Rattle.verify_bench.proofs.ReportRows.{text_of_none, text_of_more}
+use Rattle.std.proofs.Common.{[], ◌∙◌, Some, refl}
+use Rattle.verify_bench.specs.CsvWriter.{HasRows}
+use Rattle.verify_bench.{specs.Report.{rows_text, rows_to}, proofs.ReportRows.{text_of_more, text_of_none}}
 use Rattle.verify_bench.proofs.reporting.report.Goals as goal
 
 pub loop-place-init : goal.loop-place-init

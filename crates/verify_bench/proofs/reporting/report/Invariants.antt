@@ -1,6 +1,4 @@
-use Rattle.std.proofs.Common.{Some}
-use Rattle.verify_bench.specs.Report.{rows_text, rows_to}
-use Rattle.verify_bench.specs.Writing.{HasRows}
+use Rattle.{std.proofs.Common.{Some}, verify_bench.specs.{CsvWriter.{HasRows}, Report.{rows_text, rows_to}}}
 use Rattle.verify_bench.proofs.reporting.report.Given as goal
 
 abbrev pub invariant-loop-place : goal.invariant-loop-place

@@ -1,6 +1,5 @@
-use Rattle.std.proofs.Common.{Bor, List, [], ℕ, map, subst, arith}
-use Rattle.std.proofs.lemmas.List.{map_more, take_all}
-use Rattle.verify_bench.specs.Writing.{IsRow}
+use Rattle.std.proofs.{Common.{[], ℕ, Bor, List, arith, map, subst}, lemmas.List.{map_more, take_all}}
+use Rattle.verify_bench.specs.CsvWriter.{IsRow}
 use Rattle.verify_bench.proofs.reporting.row_with.Goals as goal
 
 pub loop-field-preserved : goal.loop-field-preserved

@@ -1,5 +1,4 @@
-use Rattle.std.proofs.Common.{map, take}
-use Rattle.verify_bench.specs.Writing.{IsRow}
+use Rattle.{std.proofs.Common.{map, take}, verify_bench.specs.CsvWriter.{IsRow}}
 use Rattle.verify_bench.proofs.reporting.row_with.Given as goal
 
 abbrev pub invariant-loop-field : goal.invariant-loop-field

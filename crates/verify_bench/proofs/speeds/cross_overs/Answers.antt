@@ -1,10 +1,7 @@
-use Rattle.std.proofs.Common.{◌≡◌, List, subst}
-use Rattle.std.specs.Prelude.{IfOk}
-use Rattle.tariff_check.proofs.Laws.{sound_tariffs_have_sound_parts-parts}
-use Rattle.tariff_check.specs.Parts.{RateNumbers}
+use Rattle.std.{specs.Prelude.{IfOk}, proofs.Common.{◌≡◌, List, subst}}
 use Rattle.tariff_check.specs.declared.choice.ChoiceKind.TheVariants.{Rate}
-use Rattle.tariff_syntax.specs.Tree.{tree_of}
-use Rattle.verify_bench.specs.CrossOvers.{cross_over_lines}
+use Rattle.tariff_check.proofs.Laws.{sound_tariffs_have_sound_parts-parts}
+use Rattle.verify_bench.specs.{Common.{RateNumbers, tree_of}, CrossOvers.{cross_over_lines}}
 use Rattle.verify_bench.proofs.speeds.cross_overs.Goals as goal
 
 pub lines_of_rates-requires : goal.lines_of_rates-requires

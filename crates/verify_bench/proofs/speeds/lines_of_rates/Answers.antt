@@ -1,4 +1,4 @@
-use Rattle.std.proofs.Common.{◌≡◌, ◌+◌, ◌++◌, refl, rules}
+use Rattle.std.proofs.Common.{◌++◌, ◌+◌, ◌≡◌, refl, rules}
 use Rattle.verify_bench.proofs.CrossOverLines.{line_more, no_more, sound_at}
 use Rattle.verify_bench.proofs.speeds.lines_of_rates.Goals as goal
 

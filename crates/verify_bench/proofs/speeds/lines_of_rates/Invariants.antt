@@ -1,6 +1,5 @@
-use Rattle.std.proofs.Common.{◌≡◌, ◌+◌, ◌++◌, drop}
-use Rattle.tariff_check.specs.SoundTariff.{own_values}
-use Rattle.verify_bench.specs.CrossOvers.{cross_over_lines}
+use Rattle.std.proofs.Common.{◌++◌, ◌+◌, ◌≡◌, drop}
+use Rattle.verify_bench.specs.{Common.{own_values}, CrossOvers.{cross_over_lines}}
 use Rattle.verify_bench.proofs.speeds.lines_of_rates.Given as goal
 
 abbrev pub invariant-loop-place : goal.invariant-loop-place

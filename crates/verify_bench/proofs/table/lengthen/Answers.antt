@@ -1,7 +1,5 @@
-use Rattle.std.proofs.Common.{rules, ◌≡◌, ◌∙◌, ◌++◌, ◌∷◌, [], List, ap}
-use Rattle.verify_bench.specs.Gathered.{no_rate_sums, rate_at}
-use Rattle.verify_bench.specs.declared.sums.RateSums.{RateSums}
-use Rattle.verify_bench.proofs.Gathering.{pushed_none}
+use Rattle.std.proofs.Common.{[], ◌++◌, ◌∙◌, ◌∷◌, ◌≡◌, List, ap, rules}
+use Rattle.verify_bench.{specs.{Common.{RateSums}, Gathered.{no_rate_sums, rate_at}}, proofs.GatheredSums.{pushed_none}}
 use Rattle.verify_bench.proofs.table.lengthen.Goals as goal
 
 pub loop-length-preserved : goal.loop-length-preserved

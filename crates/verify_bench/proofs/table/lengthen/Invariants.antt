@@ -1,5 +1,4 @@
-use Rattle.std.proofs.Common.{◌≡◌, ℕ}
-use Rattle.std.specs.Vec.{vec_len}
+use Rattle.std.{specs.Vec.{vec_len}, proofs.Common.{ℕ, ◌≡◌}}
 use Rattle.verify_bench.specs.Gathered.{rate_at}
 use Rattle.verify_bench.proofs.table.lengthen.Given as goal
 

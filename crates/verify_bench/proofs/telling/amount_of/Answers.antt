@@ -1,7 +1,5 @@
-use Rattle.std.proofs.Common.{◌≡◌, ◌∙◌, sym, Some}
-use Rattle.tariff_check.specs.Parts.{supplement_of}
-use Rattle.tariff_syntax.specs.Tree.{tree_of}
-use Rattle.verify_bench.proofs.TreeParts.{sound_supplement}
+use Rattle.std.proofs.Common.{◌∙◌, ◌≡◌, Some, sym}
+use Rattle.verify_bench.{specs.Common.{supplement_of, tree_of}, proofs.TreeParts.{sound_supplement}}
 use Rattle.verify_bench.proofs.telling.amount_of.Goals as goal
 
 pub returns-in-Some-clause-most : goal.returns-in-Some-clause-most

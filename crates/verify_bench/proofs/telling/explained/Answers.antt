@@ -1,6 +1,4 @@
-use Rattle.meter_model.specs.Closing.{receipt_of}
-use Rattle.verify_bench.specs.Settings.{setting_under}
-use Rattle.verify_bench.proofs.Benches.{taken_apart}
+use Rattle.verify_bench.{specs.{Common.{receipt_of}, Settings.{setting_under}}, proofs.Benches.{taken_apart}}
 use Rattle.verify_bench.proofs.telling.explained.Goals as goal
 
 pub returns : goal.returns

@@ -1,9 +1,5 @@
-use Rattle.std.proofs.Common.{◌≡◌, ◌++◌, List, drop}
-use Rattle.meter_model.specs.Setting.{Setting}
-use Rattle.meter_model.specs.Trip.{Part}
-use Rattle.tariff_check.specs.SoundTariff.{own_lines}
-use Rattle.verify_bench.specs.Gathered.{IsTableOf}
-use Rattle.verify_bench.specs.Groups.{groups_from}
+use Rattle.std.proofs.Common.{◌++◌, ◌≡◌, List, drop}
+use Rattle.verify_bench.specs.{Common.{Part, Setting, own_lines}, Gathered.{IsTableOf}, Groups.{groups_from}}
 use Rattle.verify_bench.proofs.telling.groups.Given as goal
 
 abbrev pub invariant-loop-place : goal.invariant-loop-place

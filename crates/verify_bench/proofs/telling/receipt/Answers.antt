@@ -1,14 +1,7 @@
-use Rattle.std.proofs.Common.{◌≡◌, ℕ, ap, sym, refl, Option, arith}
-use Rattle.std.specs.Option.{unwrap_or}
-use Rattle.drive_modes.specs.declared.meterage.Rounding.{Rounding}
-use Rattle.drive_modes.specs.declared.meterage.Rounding.TheVariants.{Behind}
-use Rattle.meter_model.specs.Setting.{stamp_at}
-use Rattle.meter_model.specs.Supplements.{amounts_of}
-use Rattle.meter_model.specs.Trip.{charges_of, fare_of, pulses_of, steps_shown}
-use Rattle.drive_modes.specs.Distance.{millimetres_of}
-use Rattle.verify_bench.specs.Settings.{setting_under}
-use Rattle.verify_bench.specs.declared.explained.Sums.{Sums}
-use Rattle.verify_bench.proofs.Benches.{whole_pulses}
+use Rattle.std.{specs.Option.{unwrap_or}, proofs.Common.{ℕ, ◌≡◌, Option, ap, arith, refl, sym}}
+use Rattle.drive_modes.specs.{Distance.{millimetres_of}, declared.meterage.Rounding.{Rounding, TheVariants.{Behind}}}
+use Rattle.meter_model.specs.{Setting.{stamp_at}, Trip.{charges_of, fare_of, pulses_of, steps_shown}}
+use Rattle.verify_bench.{specs.{Common.{Sums, amounts_of}, Settings.{setting_under}}, proofs.Benches.{whole_pulses}}
 use Rattle.verify_bench.proofs.telling.receipt.Goals as goal
 
 pub returns : goal.returns

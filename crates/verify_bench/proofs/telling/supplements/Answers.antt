@@ -1,10 +1,6 @@
-use Rattle.std.proofs.Common.{◌∙◌, arith}
-use Rattle.std.proofs.lemmas.Nat.{mul-le}
-use Rattle.meter_model.specs.Supplements.{amount_in}
-use Rattle.tariff_check.specs.Parts.{supplement_of}
-use Rattle.tariff_syntax.specs.Tree.{tree_of}
-use Rattle.verify_bench.proofs.AmountSums.{all_among, among_here, among_nothing}
-use Rattle.verify_bench.proofs.Gathering.{zero_plus}
+use Rattle.std.proofs.{Common.{◌∙◌, arith}, lemmas.Nat.{mul-le}}
+use Rattle.verify_bench.specs.Common.{amount_in, supplement_of, tree_of}
+use Rattle.verify_bench.proofs.{AmountSums.{all_among, among_here, among_nothing}, GatheredSums.{zero_plus}}
 use Rattle.verify_bench.proofs.telling.supplements.Goals as goal
 
 pub loop-number-init : goal.loop-number-init

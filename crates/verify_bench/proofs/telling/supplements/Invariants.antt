@@ -1,9 +1,6 @@
-use Rattle.std.proofs.Common.{◌≡◌, ◌+◌, ◌*◌, ◌-◌, ◌≤◌}
-use Rattle.meter_model.specs.Supplements.{amount_in, amounts_of}
-use Rattle.tariff_check.specs.Parts.{supplement_of}
-use Rattle.tariff_check.specs.SoundTariff.{sound_of}
-use Rattle.tariff_syntax.specs.Tree.{tree_of}
+use Rattle.std.proofs.Common.{◌*◌, ◌+◌, ◌-◌, ◌≡◌, ◌≤◌}
 use Rattle.verify_bench.specs.Amounts.{amounts_among}
+use Rattle.verify_bench.specs.Common.{amount_in, amounts_of, sound_of, supplement_of, tree_of}
 use Rattle.verify_bench.proofs.telling.supplements.Given as goal
 
 abbrev pub invariant-loop-number : goal.invariant-loop-number

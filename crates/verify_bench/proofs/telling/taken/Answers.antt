@@ -1,8 +1,5 @@
-use Rattle.std.proofs.Common.{refl, arith}
-use Rattle.tariff_check.specs.SoundTariff.{sound_of}
-use Rattle.tariff_syntax.specs.Tree.{tree_of}
-use Rattle.verify_bench.specs.Explaining.{taken_if}
-use Rattle.verify_bench.proofs.TakenLists.{no_more_taken, one_more_taken}
+use Rattle.{std.proofs.Common.{arith, refl}, verify_bench.proofs.TakenLists.{no_more_taken, one_more_taken}}
+use Rattle.verify_bench.specs.{Common.{sound_of, tree_of}, TripExplanations.{taken_if}}
 use Rattle.verify_bench.proofs.telling.taken.Goals as goal
 
 pub loop-number-init : goal.loop-number-init

@@ -1,8 +1,5 @@
-use Rattle.std.proofs.Common.{◌≡◌, ◌-◌, ◌++◌, flat_map}
-use Rattle.std.specs.List.{range_with_len}
-use Rattle.tariff_check.specs.SoundTariff.{sound_of}
-use Rattle.tariff_syntax.specs.Tree.{tree_of}
-use Rattle.verify_bench.specs.Explaining.{taken_if, taken_of}
+use Rattle.std.{specs.List.{range_with_len}, proofs.Common.{◌++◌, ◌-◌, ◌≡◌, flat_map}}
+use Rattle.verify_bench.specs.{Common.{sound_of, tree_of}, TripExplanations.{taken_if, taken_of}}
 use Rattle.verify_bench.proofs.telling.taken.Given as goal
 
 abbrev pub invariant-loop-number : goal.invariant-loop-number

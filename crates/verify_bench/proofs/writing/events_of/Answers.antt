@@ -1,4 +1,4 @@
-use Rattle.verify_bench.proofs.Lines.{quiet_events, loud_events}
+use Rattle.verify_bench.proofs.Lines.{loud_events, quiet_events}
 use Rattle.verify_bench.proofs.writing.events_of.Goals as goal
 
 pub returns-then-pulses-eq0-clause-count : goal.returns-then-pulses-eq0-clause-count

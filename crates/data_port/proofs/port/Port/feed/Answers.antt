@@ -1,11 +1,8 @@
-use Rattle.std.proofs.Common.{rules, ◌≡◌, inl, inr, ◌<◌, ◌≤◌, ◌++◌, ℕ, false, eqb, length, take, ap, sym, subst}
-use Rattle.std.proofs.Common.{◌∙◌, arith}
-use Rattle.std.proofs.lemmas.Bool.{eqb-false}
-use Rattle.std.proofs.lemmas.Result.{err_from_is_err_and}
+use Rattle.std.proofs.Common.{ℕ, ◌++◌, ◌<◌, ◌∙◌, ◌≡◌, ◌≤◌, ap, arith, eqb, false, inl, inr, length, rules, subst, sym}
+use Rattle.std.proofs.{Common.{take}, lemmas.{Bool.{eqb-false}, Result.{err_from_is_err_and}}}
 use Rattle.data_port.specs.Reading.{HasSense, HasTaken, Standing, TakesTo}
-use Rattle.data_port.specs.State.{standing_of}
-use Rattle.data_port.proofs.Feeding.{breaks_count, breaks_in, breaks_taken, failed_stays, feeds_more, feeds_range}
-use Rattle.data_port.proofs.Feeding.{feeds_sense, feeds_taken, feeds_to, next_range}
+use Rattle.data_port.{specs.State.{standing_of}, proofs.PieceBytes.{feeds_sense, feeds_taken, feeds_to, next_range}}
+use Rattle.data_port.proofs.PieceBytes.{breaks_count, breaks_in, breaks_taken, failed_stays, feeds_more, feeds_range}
 use Rattle.data_port.proofs.port.Port.feed.Goals as goal
 
 -- what is known of the fields is known of the port

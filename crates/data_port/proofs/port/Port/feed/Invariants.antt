@@ -1,5 +1,4 @@
-use Rattle.data_port.specs.State.{standing_of}
-use Rattle.data_port.proofs.Feeding.{Feeds}
+use Rattle.data_port.{specs.State.{standing_of}, proofs.PieceBytes.{Feeds}}
 use Rattle.data_port.proofs.port.Port.feed.Given as goal
 
 abbrev pub invariant-loop-place : goal.invariant-loop-place

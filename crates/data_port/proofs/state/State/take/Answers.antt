@@ -1,8 +1,6 @@
-use Rattle.std.proofs.Common.{◌≡◌, ◌+◌, ◌<◌, ℕ, List, true, false, length, ap, refl, sym, ◌∙◌, arith}
-use Rattle.data_port.specs.ReadingStages.{follows, has_all}
+use Rattle.std.proofs.Common.{ℕ, ◌+◌, ◌<◌, ◌∙◌, ◌≡◌, List, ap, arith, false, length, refl, sym, true}
 use Rattle.data_port.specs.Items.{item_count}
-use Rattle.data_port.specs.State.{standing_of}
-use Rattle.data_port.proofs.Streams.{room_for}
+use Rattle.data_port.{specs.{ReadingStages.{follows, has_all}, State.{standing_of}}, proofs.Streams.{room_for}}
 use Rattle.data_port.proofs.state.State.take.Goals as goal
 
 pub push-requires-else-is_whole : goal.push-requires-else-is_whole

@@ -1,7 +1,5 @@
-use Rattle.std.proofs.Common.{ap, refl, ◌∙◌, arith}
-use Rattle.drive_modes.specs.declared.meterage.Meterage.{Meterage}
-use Rattle.drive_modes.specs.Fare.{Opening, added}
-use Rattle.drive_modes.proofs.Sums.{added-saved}
+use Rattle.std.proofs.Common.{◌∙◌, ap, arith, refl}
+use Rattle.drive_modes.{specs.{Common.{Meterage}, Fare.{Opening, added}}, proofs.Sums.{added-saved}}
 use Rattle.drive_modes.proofs.meterage.Meterage.add.Goals as goal
 
 pub returns-clause-sum : goal.returns-clause-sum

@@ -1,11 +1,8 @@
-use Rattle.std.proofs.Common.{rules, ◌≡◌, inl, inr, ◌+◌, ◌-◌, ◌<◌, ◌++◌, List, ℕ, length, ap, sym, ◌∙◌, subst, arith}
-use Rattle.std.proofs.Common.{length-append, false, eqb, ◌≤◌}
-use Rattle.std.proofs.lemmas.Bool.{eqb-false}
-use Rattle.std.proofs.lemmas.Result.{err_from_is_err_and}
-use Rattle.drive_text.specs.Reading.{Reading, HasTaken}
-use Rattle.drive_text.proofs.Feeding.{Feeds, feeds_none, feeds_more, feeds_range, takes_to, feeds_reader}
-use Rattle.drive_text.proofs.Feeding.{breaks_in, breaks_reader, some_taken, shorter}
-use Rattle.drive_text.proofs.Standing.{failed_stays}
+use Rattle.std.proofs.Common.{ℕ, ◌++◌, ◌+◌, ◌-◌, ◌<◌, ◌∙◌, ◌≡◌, ◌≤◌, List, ap, arith, eqb, false, inl, inr, length}
+use Rattle.std.proofs.{Common.{length-append, rules, subst, sym}, lemmas.Result.{err_from_is_err_and}}
+use Rattle.{std.proofs.lemmas.Bool.{eqb-false}, drive_text.specs.Reading.{HasTaken, Reading}}
+use Rattle.drive_text.proofs.ReaderPieces.{Feeds, breaks_in, breaks_reader, feeds_more, feeds_none, feeds_range}
+use Rattle.drive_text.proofs.{ReaderPieces.{feeds_reader, shorter, some_taken, takes_to}, ReaderPlaces.{failed_stays}}
 use Rattle.drive_text.proofs.reader.Reader.feed.Goals as goal
 
 not_full : (n : ℕ) → eqb n 64 ≡ false → n ≤ 64 → n < 64

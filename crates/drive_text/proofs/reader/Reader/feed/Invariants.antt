@@ -1,6 +1,4 @@
-use Rattle.std.proofs.Common.{length}
-use Rattle.drive_text.specs.Part.{reading_of}
-use Rattle.drive_text.proofs.Feeding.{Feeds}
+use Rattle.{std.proofs.Common.{length}, drive_text.{specs.Part.{reading_of}, proofs.ReaderPieces.{Feeds}}}
 use Rattle.drive_text.proofs.reader.Reader.feed.Given as goal
 
 abbrev pub invariant-loop-rest : goal.invariant-loop-rest

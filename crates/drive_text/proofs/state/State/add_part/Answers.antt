@@ -1,10 +1,8 @@
-use Rattle.std.proofs.Common.{◌≡◌, ◌++◌, ◌+◌, ◌∙◌, sym, refl, arith, length, length-append, true, false, ltb}
 use Rattle.std.specs.Str.Lines.{strip_carriage_return}
-use Rattle.drive_text.specs.Lines.{is_comment}
-use Rattle.drive_text.specs.Part.{reading_of}
-use Rattle.drive_text.proofs.Endings.{many_fail, long_by_test, short_by_test}
-use Rattle.drive_text.proofs.Feeding.{takes_bytes, fails_bytes, refused_many}
-use Rattle.drive_text.proofs.Standing.{comment_goes_on, comment_begins, line_goes_on, kept_plain, number_small}
+use Rattle.std.proofs.Common.{◌++◌, ◌+◌, ◌∙◌, ◌≡◌, arith, false, length, length-append, ltb, refl, sym, true}
+use Rattle.drive_text.{specs.Lines.{is_comment}, proofs.ReaderPieces.{fails_bytes, refused_many, takes_bytes}}
+use Rattle.drive_text.{specs.Part.{reading_of}, proofs.Endings.{long_by_test, many_fail, short_by_test}}
+use Rattle.drive_text.proofs.ReaderPlaces.{comment_begins, comment_goes_on, kept_plain, line_goes_on, number_small}
 use Rattle.drive_text.proofs.state.State.add_part.Goals as goal
 
 pub begins_comment-requires : goal.begins_comment-requires

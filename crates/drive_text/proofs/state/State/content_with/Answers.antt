@@ -1,6 +1,5 @@
-use Rattle.std.proofs.Common.{rules, ◌++◌, ◌+◌, ◌∙◌, arith, length, length-append}
-use Rattle.drive_text.proofs.Endings.{many_fail, comment-append, line_runs-long}
-use Rattle.drive_text.proofs.Feeding.{refused_many}
+use Rattle.std.proofs.Common.{◌++◌, ◌+◌, ◌∙◌, arith, length, length-append, rules}
+use Rattle.drive_text.proofs.{Endings.{comment-append, line_runs-long, many_fail}, ReaderPieces.{refused_many}}
 use Rattle.drive_text.proofs.state.State.content_with.Goals as goal
 
 pub returns-in-Err-clause-content : goal.returns-in-Err-clause-content

@@ -1,14 +1,8 @@
-use Rattle.std.proofs.Common.{◌≡◌, ◌++◌, [], ◌∙◌, sym, ap, refl, arith}
-use Rattle.std.proofs.lemmas.List.{append-nil}
-use Rattle.std.proofs.lemmas.List.Elements.{All-nil}
-use Rattle.drive_text.specs.Content.{runs_of}
-use Rattle.drive_text.specs.declared.fields.Content.{Content}
-use Rattle.drive_text.specs.Part.{reading_of}
-use Rattle.drive_text.specs.Ranges.{IsRunInRange}
-use Rattle.drive_text.specs.Reading.{Reading}
-use Rattle.drive_text.proofs.Feeding.{takes_line, fails_line}
-use Rattle.drive_text.proofs.Ranges.{runs_in_range}
-use Rattle.drive_text.proofs.Standing.{comment_ends, comment_runs, line_is_good, line_gives, kept_plain, number_small}
+use Rattle.std.proofs.{Common.{[], ◌++◌, ◌∙◌, ◌≡◌, ap, arith, refl, sym}, lemmas.List.{append-nil, Elements.{All-nil}}}
+use Rattle.drive_text.specs.{Content.{runs_of}, Part.{reading_of}, Reading.{Reading}}
+use Rattle.drive_text.{specs.{Ranges.{IsRunInRange}, declared.fields.Content.{Content}}, proofs.Ranges.{runs_in_range}}
+use Rattle.drive_text.proofs.{ReaderPieces.{fails_line, takes_line}, ReaderPlaces.{number_small}}
+use Rattle.drive_text.proofs.ReaderPlaces.{comment_ends, comment_runs, kept_plain, line_gives, line_is_good}
 use Rattle.drive_text.proofs.state.State.end_line.Goals as goal
 
 pub content_with-requires : goal.content_with-requires

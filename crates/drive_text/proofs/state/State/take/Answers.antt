@@ -1,8 +1,6 @@
-use Rattle.std.proofs.Common.{rules, ◌≡◌, length, ◌++◌, ◌∷◌, [], ◌∙◌, sym, append_assoc}
-use Rattle.std.proofs.lemmas.Result.{err_from_is_err_and}
-use Rattle.drive_text.specs.Part.{reading_of}
-use Rattle.drive_text.proofs.Feeding.{fails_before, split_of}
-use Rattle.drive_text.proofs.PlainLines.{takes_plain, takes_before, takes_whole}
+use Rattle.std.proofs.Common.{[], ◌++◌, ◌∙◌, ◌∷◌, ◌≡◌, append_assoc, length, rules, sym}
+use Rattle.{std.proofs.lemmas.Result.{err_from_is_err_and}, drive_text.proofs.ReaderPieces.{fails_before, split_of}}
+use Rattle.drive_text.{specs.Part.{reading_of}, proofs.PlainLines.{takes_before, takes_plain, takes_whole}}
 use Rattle.drive_text.proofs.state.State.take.Goals as goal
 
 pub returns-clause-ok : goal.returns-clause-ok

@@ -1,4 +1,4 @@
-use Rattle.std.proofs.Common.{refl, arith}
+use Rattle.std.proofs.Common.{arith, refl}
 use Rattle.interval_clock.proofs.clock.Clock.set.Goals as goal
 
 pub returns-then-second-self-clause-refused : goal.returns-then-second-self-clause-refused

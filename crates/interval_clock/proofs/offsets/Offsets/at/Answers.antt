@@ -1,6 +1,5 @@
-use Rattle.std.proofs.Common.{◌≡◌, ◌∙◌, ◌-◌, sym, subst, pos, ℕ, ℤ, List, FitsSigned, w32, arith}
-use Rattle.std.proofs.lemmas.Int.{to_z-of_z}
-use Rattle.jiff_core.proofs.SignedLemmas.{signed_arith}
+use Rattle.std.proofs.Common.{ℕ, ℤ, ◌-◌, ◌∙◌, ◌≡◌, FitsSigned, List, arith, pos, subst, sym, w32}
+use Rattle.{std.proofs.lemmas.Int.{to_z-of_z}, jiff_core.proofs.SignedLemmas.{signed_arith}}
 use Rattle.interval_clock.specs.Offsets.{IsInForce, IsOffsetList, offset_at, offset_of}
 use Rattle.interval_clock.proofs.OffsetLists.{found_in_force, offset_from-in_force, parted}
 use Rattle.interval_clock.proofs.offsets.Offsets.at.Goals as goal

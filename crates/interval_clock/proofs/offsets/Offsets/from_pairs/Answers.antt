@@ -1,5 +1,4 @@
-use Rattle.std.proofs.Common.{◌≡◌, ◌∙◌, sym, subst, pos}
-use Rattle.std.proofs.lemmas.List.{take_all, take_more}
+use Rattle.std.proofs.{Common.{◌∙◌, ◌≡◌, pos, subst, sym}, lemmas.List.{take_all, take_more}}
 use Rattle.interval_clock.specs.Offsets.{IsOffsetList}
 use Rattle.interval_clock.proofs.offsets.Offsets.from_pairs.Goals as goal
 

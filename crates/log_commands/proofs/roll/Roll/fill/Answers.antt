@@ -1,8 +1,6 @@
-use Rattle.std.proofs.Common.{◌≡◌, ℕ, ◌+◌, ◌-◌, ◌≤◌, List, ◌++◌, length, take, drop, ap, ◌∙◌, arith, length-take}
-use Rattle.std.proofs.Common.{length-drop}
-use Rattle.std.proofs.Math.Seq.{take-add}
+use Rattle.std.proofs.Common.{ℕ, ◌++◌, ◌+◌, ◌-◌, ◌∙◌, ◌≡◌, ◌≤◌, List, ap, arith, drop, length, length-drop, length-take}
+use Rattle.{std.proofs.{Common.{take}, Math.Seq.{take-add}}, log_commands.proofs.Rolls.{goes_filled}}
 use Rattle.log_commands.specs.Reading.{Place}
-use Rattle.log_commands.proofs.Rolls.{goes_filled}
 use Rattle.log_commands.proofs.roll.Roll.fill.Goals as goal
 
 pub returns-in-Ok-clause-goes : goal.returns-in-Ok-clause-goes

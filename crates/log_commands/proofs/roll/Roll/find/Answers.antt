@@ -1,8 +1,6 @@
-use Rattle.std.proofs.Common.{◌≡◌, ◌+◌, ◌-◌, ◌≤◌, Bool, List, ℕ, length, take, drop, is_some, option_to_list, ap, ◌∙◌}
-use Rattle.std.proofs.Common.{subst, arith, length-take}
-use Rattle.log_commands.specs.ReceiptSearch.{IsReceiptSearch}
-use Rattle.log_commands.specs.Reading.{Place}
-use Rattle.log_commands.proofs.Rolls.{ahead_after, fewer_looked, goes_looked, nothing_looked}
+use Rattle.std.proofs.Common.{ℕ, ◌+◌, ◌-◌, ◌∙◌, ◌≡◌, ◌≤◌, Bool, List, ap, arith, drop, is_some, length, length-take}
+use Rattle.{std.proofs.Common.{option_to_list, subst, take}, log_commands.specs.ReceiptSearch.{IsReceiptSearch}}
+use Rattle.log_commands.{specs.Reading.{Place}, proofs.Rolls.{ahead_after, fewer_looked, goes_looked, nothing_looked}}
 use Rattle.log_commands.proofs.roll.Roll.find.Goals as goal
 
 pub returns-clause-goes : goal.returns-clause-goes

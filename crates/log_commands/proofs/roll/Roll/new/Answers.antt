@@ -1,5 +1,4 @@
-use Rattle.std.proofs.Common.{refl}
-use Rattle.log_commands.proofs.Rolls.{starts}
+use Rattle.{std.proofs.Common.{refl}, log_commands.proofs.Rolls.{starts}}
 use Rattle.log_commands.proofs.roll.Roll.new.Goals as goal
 
 pub returns-clause-start : goal.returns-clause-start

@@ -1,8 +1,6 @@
-use Rattle.std.proofs.Common.{◌≡◌, [], ◌∷◌, Option, Some, None, ap, sym, ◌∙◌}
-use Rattle.log_commands.specs.Reading.{Place}
+use Rattle.std.proofs.Common.{[], ◌∙◌, ◌∷◌, ◌≡◌, None, Option, Some, ap, sym}
+use Rattle.log_commands.{specs.Reading.{Place}, proofs.{Causes.{may_rise_for, rises_for}, Rolls.{goes_further}}}
 use Rattle.log_commands.specs.Record.{Record}
-use Rattle.log_commands.proofs.Causes.{may_rise_for, rises_for}
-use Rattle.log_commands.proofs.Rolls.{goes_further}
 use Rattle.log_commands.proofs.roll.Roll.next.Goals as goal
 
 no_record : (record_found : Record) → ◌≡◌ {A = Option Record} (Some record_found) None → ⊥

@@ -1,8 +1,6 @@
-use Rattle.std.proofs.Common.{◌≡◌, ◌≢◌, ℕ, ◌+◌, ◌≤◌, [], length, Some}
-use Rattle.outside.specs.Faults.{MayRise, RisesOnlyIf}
-use Rattle.log_commands.specs.Reading.{FailsNow, GoesOn, IsOver}
-use Rattle.log_commands.specs.declared.roll.RollEnd.{RollEnd}
-use Rattle.log_commands.proofs.Rolls.{rounds}
+use Rattle.std.proofs.Common.{[], ℕ, ◌+◌, ◌≡◌, ◌≢◌, ◌≤◌, Some, length}
+use Rattle.log_commands.{specs.Common.{MayRise, RisesOnlyIf}, proofs.Rolls.{rounds}}
+use Rattle.log_commands.specs.{Reading.{FailsNow, GoesOn, IsOver}, declared.roll.RollEnd.{RollEnd}}
 use Rattle.log_commands.proofs.roll.Roll.next.Given as goal
 
 abbrev pub invariant-loop-record : goal.invariant-loop-record

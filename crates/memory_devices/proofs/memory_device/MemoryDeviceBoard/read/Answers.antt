@@ -1,7 +1,5 @@
-use Rattle.std.proofs.Common.{ap, subst, sym}
-use Rattle.memory_devices.specs.Calls.{Read, Contents, IsInSome}
-use Rattle.outside.specs.Disk.{IsImage}
-use Rattle.memory_devices.specs.MemoryBoard.{contents_of}
+use Rattle.{std.proofs.Common.{ap, subst, sym}, memory_devices.specs.Calls.{Contents, IsInSome, Read}}
+use Rattle.memory_devices.specs.{Common.{IsImage}, MemoryBoard.{contents_of}}
 use Rattle.memory_devices.proofs.CallEffects.{became, cause_is, read_same, time_is, time_of_call}
 use Rattle.memory_devices.proofs.memory_device.MemoryDeviceBoard.read.Goals as goal
 

@@ -1,9 +1,7 @@
-use Rattle.std.proofs.Common.{subst, sym}
-use Rattle.memory_devices.specs.Calls.{Sync, IsInSome}
-use Rattle.outside.specs.Disk.{IsImage}
-use Rattle.memory_devices.specs.MemoryBoard.{contents_of, image_of}
-use Rattle.memory_devices.proofs.CallEffects.{on_ok, same_but, became_done, became, cause_is, sync_image, sync_flight}
-use Rattle.memory_devices.proofs.CallEffects.{sync_text, sync_durable, time_is, time_of_call}
+use Rattle.{std.proofs.Common.{subst, sym}, memory_devices.specs.MemoryBoard.{contents_of, image_of}}
+use Rattle.memory_devices.specs.Calls.{IsInSome, Sync}
+use Rattle.memory_devices.{specs.Common.{IsImage}, proofs.CallEffects.{sync_image, sync_text, time_is, time_of_call}}
+use Rattle.memory_devices.proofs.CallEffects.{became, became_done, cause_is, on_ok, same_but, sync_durable, sync_flight}
 use Rattle.memory_devices.proofs.memory_device.MemoryDeviceBoard.sync.Goals as goal
 
 pub returns-clause-syncs : goal.returns-clause-syncs

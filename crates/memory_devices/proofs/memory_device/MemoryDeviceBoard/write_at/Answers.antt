@@ -1,9 +1,7 @@
-use Rattle.std.proofs.Common.{arith, rules, sym}
+use Rattle.{std.proofs.Common.{arith, rules, sym}, memory_devices.specs.{Common.{AreBytes}, MemoryBoard.{contents_of}}}
 use Rattle.memory_devices.specs.Calls.{Write}
-use Rattle.taxi_units.specs.Bytes.{AreBytes}
-use Rattle.memory_devices.specs.MemoryBoard.{contents_of}
-use Rattle.memory_devices.proofs.CallEffects.{write_written, became_done, became, cause_is, write_image, write_is_image}
-use Rattle.memory_devices.proofs.CallEffects.{write_flight, write_text, time_is, time_of_call}
+use Rattle.memory_devices.proofs.CallEffects.{became, became_done, cause_is, time_is, time_of_call, write_flight}
+use Rattle.memory_devices.proofs.CallEffects.{write_image, write_is_image, write_text, write_written}
 use Rattle.memory_devices.proofs.memory_device.MemoryDeviceBoard.write_at.Goals as goal
 
 pub returns-clause-writes : goal.returns-clause-writes

@@ -1,5 +1,4 @@
-use Rattle.std.proofs.Common.{arith}
-use Rattle.std.proofs.lemmas.Grind.{common_steps}
+use Rattle.std.proofs.{Common.{arith}, lemmas.Grind.{common_steps}}
 use Rattle.memory_devices.proofs.memory_files.MemoryFilesFiles.read.Goals as goal
 
 pub returns-clause-taken : goal.returns-clause-taken

@@ -1,15 +1,9 @@
-use Rattle.std.proofs.Common.{◌≡◌, ◌∙◌, ◌+◌, ◌-◌, ◌<◌, ℕ, suc, List, [], ap, arith, get_or, length, length-take, refl}
-use Rattle.std.proofs.Common.{rules, subst, sym, take, get_or-take}
-use Rattle.std.proofs.lemmas.List.{take_more}
-use Rattle.std.specs.List.{All}
-use Rattle.memory_devices.specs.Calls.{Contents, IsInSome, CallOutcome, after, after_all, begun, opened}
-use Rattle.outside.specs.Disk.{SameBut}
-use Rattle.memory_devices.specs.MemoryBoard.{BoardState, contents_inside}
-use Rattle.memory_devices.specs.Moments.{LeftBy}
-use Rattle.memory_devices.specs.Replays.{AreLeftOf, IsInStore}
-use Rattle.memory_devices.proofs.Cutting.{inside_is, left_first, left_inside, settled_is}
-use Rattle.memory_devices.proofs.Bytes.{are_bytes}
-use Rattle.memory_devices.proofs.OneMoreCall.{after_pushed}
+use Rattle.std.{specs.List.{All}, proofs.{Common.{refl, rules, subst, suc, sym, take}, lemmas.List.{take_more}}}
+use Rattle.std.proofs.Common.{[], ℕ, ◌+◌, ◌-◌, ◌<◌, ◌∙◌, ◌≡◌, List, ap, arith, get_or, get_or-take, length, length-take}
+use Rattle.memory_devices.specs.Calls.{CallOutcome, Contents, IsInSome, after, after_all, begun, opened}
+use Rattle.memory_devices.{specs.{Common.{SameBut}, Moments.{LeftBy}}, proofs.Bytes.{are_bytes}}
+use Rattle.memory_devices.specs.{MemoryBoard.{BoardState, contents_inside}, Replays.{AreLeftOf, IsInStore}}
+use Rattle.memory_devices.proofs.{Cutting.{inside_is, left_first, left_inside, settled_is}, OneMoreCall.{after_pushed}}
 use Rattle.memory_devices.proofs.memory_state.MemoryState.cut_into.Given as given
 use Rattle.memory_devices.proofs.memory_state.MemoryState.cut_into.Goals as goal
 

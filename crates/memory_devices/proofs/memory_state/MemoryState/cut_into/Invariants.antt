@@ -1,6 +1,5 @@
 use Rattle.std.proofs.Common.{◌≡◌, length, take}
-use Rattle.memory_devices.specs.Calls.{after_all, opened}
-use Rattle.memory_devices.specs.Replays.{AreLeftOf}
+use Rattle.memory_devices.specs.{Calls.{after_all, opened}, Replays.{AreLeftOf}}
 use Rattle.memory_devices.proofs.memory_state.MemoryState.cut_into.Given as goal
 
 abbrev pub invariant-loop-kept : goal.invariant-loop-kept

@@ -1,5 +1,4 @@
-use Rattle.std.proofs.Common.{arith}
-use Rattle.std.proofs.lemmas.Grind.{common_steps}
+use Rattle.std.proofs.{Common.{arith}, lemmas.Grind.{common_steps}}
 use Rattle.memory_devices.proofs.memory_state.MemoryState.keep_print.Goals as goal
 
 pub invariant_of-self-in_default-add_call : goal.invariant_of-self-in_default-add_call

@@ -1,7 +1,5 @@
-use Rattle.std.proofs.Common.{◌≡◌, List, [], rules, subst, sym}
-use Rattle.memory_devices.specs.Calls.{CallOutcome, after_all, opened}
-use Rattle.outside.specs.Disk.{IsImage}
-use Rattle.memory_devices.proofs.Bytes.{is_image}
+use Rattle.std.proofs.Common.{[], ◌≡◌, List, rules, subst, sym}
+use Rattle.memory_devices.{specs.{Calls.{CallOutcome, after_all, opened}, Common.{IsImage}}, proofs.Bytes.{is_image}}
 use Rattle.memory_devices.proofs.memory_state.MemoryState.new.Goals as goal
 
 pub returns-clause-is_image : goal.returns-clause-is_image

@@ -1,11 +1,7 @@
-use Rattle.std.proofs.Common.{ap, subst, sym, ◌∙◌, ◌++◌, List}
-use Rattle.outside.specs.Printing.{Begins}
-use Rattle.std.proofs.lemmas.Result.{on_ok_weaker}
-use Rattle.meter_model.specs.declared.act.Act.{Act}
-use Rattle.meter_run.specs.Commits.{AreFor, after_acts}
-use Rattle.meter_run.specs.Texts.{shown_texts}
-use Rattle.meter_run.proofs.Dropping.{acts_for, breaks_event, carries_event, ready_after}
-use Rattle.meter_run.proofs.Going.{on_err, on_ok_both, on_ok_under}
+use Rattle.std.proofs.{Common.{◌++◌, ◌∙◌, List, ap, subst, sym}, lemmas.Result.{on_ok_weaker}}
+use Rattle.meter_run.{specs.Commits.{AreFor, after_acts}, proofs.EventLists.{on_err, on_ok_both, on_ok_under}}
+use Rattle.meter_run.specs.Common.{Act, Begins}
+use Rattle.meter_run.{specs.Texts.{shown_texts}, proofs.SupplyDrop.{acts_for, breaks_event, carries_event, ready_after}}
 use Rattle.meter_run.proofs.dry.DryMeter.carry_event.Goals as goal
 
 pub perform_all-requires : goal.perform_all-requires

@@ -1,8 +1,6 @@
-use Rattle.std.proofs.Common.{List, subst, sym, ◌∙◌}
-use Rattle.taxi_units.specs.declared.event.Event.{Event}
-use Rattle.meter_states.specs.Equals.{intervals_of}
+use Rattle.std.proofs.Common.{◌∙◌, List, subst, sym}
+use Rattle.meter_run.{specs.Common.{Event, intervals_of}, proofs.Equal.{carries_still, intervals_are, ready_still}}
 use Rattle.meter_run.specs.Dry.{CarriesEvents}
-use Rattle.meter_run.proofs.Equal.{carries_still, intervals_are, ready_still}
 use Rattle.meter_run.proofs.dry.DryMeterCarrier.carry_equal.Goals as goal
 
 pub equal_intervals-requires : goal.equal_intervals-requires

@@ -1,10 +1,6 @@
-use Rattle.std.proofs.Common.{List, subst, sym, ◌∙◌}
-use Rattle.taxi_units.specs.declared.event.Event.{Event}
-use Rattle.meter_states.specs.Equals.{intervals_of}
-use Rattle.meter_model.specs.Run.{run}
-use Rattle.meter_run.specs.OnStore.{CarriesOut}
-use Rattle.meter_run.proofs.Equal.{intervals_are, knows_still, out_still}
-use Rattle.meter_run.proofs.Supplies.{equal_keep_off}
+use Rattle.std.proofs.Common.{◌∙◌, List, subst, sym}
+use Rattle.meter_run.{specs.Common.{Event, intervals_of, run}, proofs.Equal.{intervals_are, knows_still, out_still}}
+use Rattle.meter_run.{specs.OnStore.{CarriesOut}, proofs.Supplies.{equal_keep_off}}
 use Rattle.meter_run.proofs.on_store.StoreMeterCarrier.carry_equal.Goals as goal
 
 pub equal_intervals-requires : goal.equal_intervals-requires
@@ -33,5 +29,5 @@ returns-clause-carried g c = λ board ready.
           (out_still g.B.Board c.args.by.now.tables.now c.args.by.now.seal.now (intervals_of c.args.pulses n) x
           c.equal_intervals.new.self board (g.met.B.Board.only_now board) c.equal_intervals.ensures.meets);
       supply =
-          equal_keep_off x.core.plain c.equal_intervals.new.self.plain c.args.pulses n c.equal_intervals.ensures.same.0;
+          equal_keep_off x.core.state c.equal_intervals.new.self.state c.args.pulses n c.equal_intervals.ensures.same.0;
     }

@@ -1,4 +1,4 @@
-use Rattle.meter_run.proofs.Happening.{carried_one, stopped_one}
+use Rattle.meter_run.proofs.EventOnStore.{carried_one, stopped_one}
 use Rattle.meter_run.proofs.on_store.StoreMeterCarrier.carry_event.Goals as goal
 
 pub returns-clause-carried : goal.returns-clause-carried

@@ -1,6 +1,5 @@
-use Rattle.std.proofs.Common.{◌-◌, length, drop, sym, ap, ◌∙◌, arith, length-take}
-use Rattle.meter_run.specs.Source.{Progress}
-use Rattle.meter_run.proofs.Sourcing.{ahead_after, fed_last, fed_more, few_fed}
+use Rattle.std.proofs.Common.{◌-◌, ◌∙◌, ap, arith, drop, length, length-take, sym}
+use Rattle.meter_run.{specs.Source.{Progress}, proofs.SourceSteps.{ahead_after, fed_last, fed_more, few_fed}}
 use Rattle.meter_run.proofs.source.Source.feed.Goals as goal
 
 pub feed-requires : goal.feed-requires

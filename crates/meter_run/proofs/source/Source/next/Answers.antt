@@ -1,10 +1,6 @@
-use Rattle.std.proofs.Common.{List, sym, subst}
-use Rattle.std.proofs.lemmas.Option.{IfSome_then}
-use Rattle.drive_text.specs.declared.run.Run.{Run}
-use Rattle.outside.proofs.Laws.{may_rise_not}
-use Rattle.meter_run.specs.Source.{StopsBy}
-use Rattle.meter_run.proofs.Going.{not_some}
-use Rattle.meter_run.proofs.Sourcing.{gives_filled, stops_filled}
+use Rattle.{std.proofs.{Common.{List, subst, sym}, lemmas.Option.{IfSome_then}}, outside.proofs.Laws.{may_rise_not}}
+use Rattle.meter_run.specs.Common.{Run}
+use Rattle.meter_run.{specs.Source.{StopsBy}, proofs.{EventLists.{not_some}, SourceSteps.{gives_filled, stops_filled}}}
 use Rattle.meter_run.proofs.source.Source.next.Goals as goal
 
 pub feed-requires-clause-given : goal.feed-requires-clause-given

@@ -1,7 +1,6 @@
-use Rattle.std.proofs.Common.{◌≡◌, ◌≢◌, ℕ, ◌<◌, ◌++◌, [], List, take, subst, sym, ap, ◌∙◌, Ok, arith}
-use Rattle.drive_text.specs.Reading.{HasTaken, Reading}
+use Rattle.std.proofs.Common.{[], ℕ, ◌++◌, ◌<◌, ◌∙◌, ◌≡◌, ◌≢◌, List, Ok, ap, arith, subst, sym, take}
+use Rattle.meter_run.{specs.Common.{HasTaken, Reading}, proofs.SourceSteps.{stops_end, stops_fault, stops_long}}
 use Rattle.meter_run.specs.Source.{Progress}
-use Rattle.meter_run.proofs.Sourcing.{stops_long, stops_fault, stops_end}
 use Rattle.meter_run.proofs.source.Source.read_piece.Goals as goal
 
 -- after a read of no bytes the same is left

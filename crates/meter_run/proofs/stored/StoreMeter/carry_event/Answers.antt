@@ -1,15 +1,8 @@
-use Rattle.std.proofs.Common.{◌∙◌, List, [], ◌∷◌, All, arith, subst, sym}
-use Rattle.taxi_units.specs.declared.event.Event.{Event}
-use Rattle.meter_states.specs.Acts.{IsLawfulAct}
-use Rattle.meter_states.specs.Lawful.{IsTimely}
-use Rattle.meter_model.specs.Step.{step}
-use Rattle.meter_model.specs.declared.act.Act.{Act}
-use Rattle.meter_run.specs.Commits.{AreFor}
-use Rattle.meter_run.specs.OnStore.{Attempts}
-use Rattle.meter_run.proofs.Dropping.{acts_for, few_commits}
-use Rattle.meter_run.proofs.Happening.{event_attempted, known_ready, lawful_beside, may_known, meets_as, meets_with}
-use Rattle.meter_run.proofs.Happening.{refusal_attempted}
-use Rattle.meter_run.proofs.Supplies.{event_keeps_off, supply_keeps, unknown_keeps_off}
+use Rattle.std.proofs.Common.{[], ◌∙◌, ◌∷◌, All, List, arith, subst, sym}
+use Rattle.meter_run.{specs.Commits.{AreFor}, proofs.SupplyDrop.{acts_for, few_commits}}
+use Rattle.meter_run.{specs.Common.{Act, Event, IsLawfulAct, IsTimely, step}, proofs.EventOnStore.{refusal_attempted}}
+use Rattle.meter_run.{specs.OnStore.{Attempts}, proofs.Supplies.{event_keeps_off, supply_keeps, unknown_keeps_off}}
+use Rattle.meter_run.proofs.EventOnStore.{event_attempted, known_ready, lawful_beside, may_known, meets_as, meets_with}
 use Rattle.meter_run.proofs.stored.StoreMeter.carry_event.Goals as goal
 
 -- ---- the supply comes
@@ -31,7 +24,7 @@ returns-in-Some-clause-attempts g c =
 
 pub returns-in-Some-clause-supply : goal.returns-in-Some-clause-supply
 returns-in-Some-clause-supply g c =
-    supply_keeps c.args.self.now.core.plain c.power_up.new.meter.core.plain c.args.event c.in-Some.second
+    supply_keeps c.args.self.now.core.state c.power_up.new.meter.core.state c.args.event c.in-Some.second
     c.in-Some.ensures.comes.0
 
 -- ---- a meter that is off refuses

@@ -1,6 +1,5 @@
 use Rattle.std.proofs.Common.{◌≡◌, subst}
-use Rattle.meter_states.specs.Cache.{IsCachedRateOf}
-use Rattle.meter_states.specs.declared.cache.CachedRate.{CachedRate}
+use Rattle.meter_states.specs.{Cache.{IsCachedRateOf}, Common.{CachedRate}}
 use Rattle.meter_states.proofs.cache.Cache.look_up_rate.Goals as goal
 
 pub returns-clause-lasting : goal.returns-clause-lasting

@@ -1,12 +1,8 @@
-use Rattle.std.proofs.Common.{◌≡◌, ◌⊎◌, [], refl, inr, ap, sym, subst, ◌∙◌}
-use Rattle.meter_states.specs.Core.{CoreData}
+use Rattle.std.proofs.Common.{[], ◌∙◌, ◌≡◌, ◌⊎◌, ap, inr, refl, subst, sym}
+use Rattle.meter_states.specs.{Cache.{CachedCore, IsCacheOf}, Common.{roaming_between, run}, Core.{CoreData}}
 use Rattle.meter_states.specs.Equals.{MayGo, intervals_of}
-use Rattle.meter_states.specs.Cache.{IsCacheOf, CachedCore}
-use Rattle.meter_model.specs.Run.{run}
-use Rattle.meter_states.proofs.Outcomes.{follows-meets, not_off}
-use Rattle.meter_states.proofs.Powered.{powered-on, stands-on}
+use Rattle.meter_states.proofs.{Outcomes.{follows-meets, not_off}, Powered.{powered-on, stands-on}}
 use Rattle.meter_states.proofs.core_state.Core.equal_intervals.Goals as goal
-use Rattle.taxi_units.specs.Limits.{roaming_between}
 
 pub returns-then-count-eq0-clause-lawful : goal.returns-then-count-eq0-clause-lawful
 returns-then-count-eq0-clause-lawful c = c.requires.lawful
@@ -19,7 +15,7 @@ returns-then-count-eq0-clause-meets c = λ s m is stands. record { state = stand
 
 pub take_equal-requires-clause-lawful : goal.take_equal-requires-clause-lawful
 take_equal-requires-clause-lawful c = powered-on c.is_off.result
-    (ap (λ (w : CachedCore). w.plain) c.self.view_is) c.requires.lawful.powered c.is_off.ensures c.if-is_off.false
+    (ap (λ (w : CachedCore). w.state) c.self.view_is) c.requires.lawful.powered c.is_off.ensures c.if-is_off.false
 
 pub take_equal-requires-clause-cache : goal.take_equal-requires-clause-cache
 take_equal-requires-clause-cache c = subst (λ (w : CachedCore). IsCacheOf c.args.tables.now c.args.seal.now w.cache)
@@ -42,15 +38,15 @@ returns-clause-full c = subst (λ (w : CachedCore). (c.take_equal.result ≡ c.a
 
 pub returns-clause-same : goal.returns-clause-same
 returns-clause-same c = (
-  c.take_equal.ensures.taken.same.0 ∙ ap (λ (w : CachedCore). w.plain.operating) c.self.view_is,
-  c.take_equal.ensures.taken.same.1 ∙ ap (λ (w : CachedCore). w.plain.number) c.self.view_is,
+  c.take_equal.ensures.taken.same.0 ∙ ap (λ (w : CachedCore). w.state.operating) c.self.view_is,
+  c.take_equal.ensures.taken.same.1 ∙ ap (λ (w : CachedCore). w.state.number) c.self.view_is,
 )
 
 pub returns-clause-meets : goal.returns-clause-meets
 returns-clause-meets c = λ s m is stands.
-    let view = ap (λ (w : CachedCore). w.plain) c.self.view_is in
+    let view = ap (λ (w : CachedCore). w.state) c.self.view_is in
     let on = powered-on c.is_off.result view c.requires.lawful.powered c.is_off.ensures c.if-is_off.false in
-    let e = stands-on s c.args.self.now.plain m stands (λ off. not_off c.self.inside.state.operating
+    let e = stands-on s c.args.self.now.state m stands (λ off. not_off c.self.inside.state.operating
     c.self.inside.state.trip on.on (ap (λ (p : CoreData). p.operating) view ∙ off)) in
     follows-meets s c.args.tables.now 8639999 roaming_between 0 c.take_equal.new.self []
     (run s (intervals_of c.args.pulses c.take_equal.result) m) c.take_equal.ensures.taken.lawful

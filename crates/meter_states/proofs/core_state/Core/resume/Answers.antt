@@ -1,17 +1,8 @@
-use Rattle.std.proofs.Common.{◌≡◌, ℕ, All, List, [], IfSome, None, Option, rules, refl, sym, subst, inr, arith}
-use Rattle.totals_record.specs.Ranges.{IsHeld}
-use Rattle.totals_record.specs.declared.durable_state.Durable.{Durable}
-use Rattle.totals_record.specs.declared.trip.Trip.{Trip}
-use Rattle.meter_states.specs.Acts.{IsLawfulAct}
-use Rattle.meter_states.specs.Core.{ComesToOutcome, core_of}
-use Rattle.meter_model.specs.Display.{shown}
-use Rattle.meter_model.specs.Meter.{Meter}
-use Rattle.meter_model.specs.Supply.{hold_taken, powered, supply_came}
-use Rattle.meter_model.specs.declared.act.Act.{Act}
-use Rattle.meter_states.proofs.ActRanges.{acts-keep}
-use Rattle.meter_states.proofs.Outcomes.{follows-meets, follows-then}
+use Rattle.std.proofs.Common.{[], ℕ, ◌≡◌, All, IfSome, List, None, Option, arith, inr, refl, rules, subst, sym}
+use Rattle.{meter_model.specs.Supply.{powered, supply_came}, meter_states.proofs.Outcomes.{follows-meets, follows-then}}
+use Rattle.meter_states.{specs.{Acts.{IsLawfulAct}, Core.{ComesToOutcome, core_of}}, proofs.ActRanges.{acts-keep}}
+use Rattle.meter_states.specs.Common.{Act, Durable, IsHeld, Meter, Trip, hold_taken, roaming_between, shown}
 use Rattle.meter_states.proofs.core_state.Core.resume.Goals as goal
-use Rattle.taxi_units.specs.Limits.{roaming_between}
 
 pub returns-clause-ranges : goal.returns-clause-ranges
 returns-clause-ranges g c =

@@ -1,14 +1,9 @@
-use Rattle.std.proofs.Common.{◌≡◌, ℕ, Option, None, ap, sym, subst, ◌∙◌}
-use Rattle.taxi_units.specs.declared.event.Operating.{Operating}
-use Rattle.taxi_units.specs.declared.event.Operating.TheVariants.{ForHire}
-use Rattle.taxi_units.specs.declared.receipt.Kind.TheVariants.{Aborted}
-use Rattle.meter_states.specs.Acts.{StayLawful}
-use Rattle.meter_model.specs.Closing.{closed, trip_closed}
-use Rattle.meter_states.specs.Core.{CoreData, ComesToOutcome, core_of}
-use Rattle.meter_model.specs.Meter.{Meter, quiet}
-use Rattle.meter_model.specs.Trip as model
-use Rattle.meter_states.proofs.Outcomes.{follows-then, quiet-follows, trip-saved}
+use Rattle.std.proofs.Common.{ℕ, ◌∙◌, ◌≡◌, None, Option, ap, subst, sym}
+use Rattle.meter_states.{specs.Acts.{StayLawful}, proofs.Outcomes.{follows-then, quiet-follows, trip-saved}}
+use Rattle.meter_states.specs.Common.{Aborted, ForHire, Meter, Operating, closed, quiet, trip_closed}
+use Rattle.meter_states.specs.Core.{ComesToOutcome, CoreData, core_of}
 use Rattle.meter_states.proofs.SupplyStages.{aborted-closes, held-second}
+use Rattle.meter_model.specs.Trip as model
 use Rattle.meter_states.proofs.meter_state.State.abort.Goals as goal
 
 pub returns-clause-stage : goal.returns-clause-stage

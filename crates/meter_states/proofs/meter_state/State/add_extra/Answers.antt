@@ -1,14 +1,8 @@
-use Rattle.std.proofs.Common.{◌≤◌, Option, sym, subst, ap, ◌∙◌}
-use Rattle.tariff_check.specs.SoundTariff.{supplement_numbered}
-use Rattle.tariff_check.specs.declared.values.Supplement.{Supplement}
-use Rattle.taxi_units.specs.declared.event.Why.TheVariants.{NoSuch}
-use Rattle.meter_model.specs.Keys.{extra_added, extra_added_to}
-use Rattle.meter_model.specs.Meter.{Meter}
-use Rattle.meter_model.specs.Setting.{Setting}
-use Rattle.meter_model.specs.Supplements.{amount_in, most_in}
-use Rattle.meter_states.proofs.KeyStages.{commits-as, refuses-stage, steps-same}
-use Rattle.meter_states.proofs.Powered.{some-there}
-use Rattle.meter_states.proofs.Pushes.{room-none}
+use Rattle.std.proofs.Common.{◌∙◌, ◌≤◌, Option, ap, subst, sym}
+use Rattle.{taxi_units.specs.declared.event.Why.TheVariants.{NoSuch}, meter_model.specs.Keys.{extra_added}}
+use Rattle.meter_states.specs.Common.{Meter, Setting, Supplement, amount_in, extra_added_to, most_in}
+use Rattle.meter_states.{specs.Common.{supplement_numbered}, proofs.KeyStages.{commits-as, refuses-stage, steps-same}}
+use Rattle.meter_states.proofs.{Powered.{some-there}, Pushes.{room-none}}
 use Rattle.meter_states.proofs.meter_state.State.add_extra.Goals as goal
 
 pub refuse-requires : goal.refuse-requires

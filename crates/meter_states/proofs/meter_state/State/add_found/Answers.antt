@@ -1,17 +1,8 @@
-use Rattle.std.proofs.lemmas.Grind.{common_steps}
-use Rattle.std.proofs.Common.{◌≡◌, ◌<◌, Some, ap, sym, subst, ◌∙◌, arith}
-use Rattle.meter_model.specs.declared.core_trip.CoreTrip.{CoreTrip}
-use Rattle.meter_states.specs.Core.{CoreData, ComesToOutcome, core_of}
-use Rattle.meter_model.specs.Keys.{extra_added_to}
-use Rattle.meter_states.specs.Lawful.{IsAmidEvent}
-use Rattle.meter_model.specs.Meter.{Outcome}
-use Rattle.meter_model.specs.Supplements.{times}
-use Rattle.meter_model.specs.Trip.{with_extra}
-use Rattle.meter_states.proofs.KeyStages.{extra-more}
-use Rattle.meter_states.proofs.Outcomes.{quiet-follows, trip-saved}
-use Rattle.meter_states.proofs.Powered.{powered-trip}
+use Rattle.std.proofs.{Common.{◌<◌, ◌∙◌, ◌≡◌, Some, ap, arith, subst, sym}, lemmas.Grind.{common_steps}}
+use Rattle.meter_states.specs.{Common.{CoreTrip, Outcome, extra_added_to, times, with_extra}, Lawful.{IsAmidEvent}}
+use Rattle.meter_states.{specs.Core.{ComesToOutcome, CoreData, core_of}, proofs.Outcomes.{quiet-follows, trip-saved}}
+use Rattle.meter_states.proofs.{KeyStages.{extra-more}, Powered.{powered-trip}, TableSupplements.{extras-few}}
 use Rattle.meter_states.proofs.Pushes.{few-none}
-use Rattle.meter_states.proofs.TableSupplements.{extras-few}
 use Rattle.meter_states.proofs.meter_state.State.add_found.Goals as goal
 
 pub add_extra-requires-clause-sum : goal.add_extra-requires-clause-sum

@@ -1,13 +1,6 @@
-use Rattle.std.proofs.lemmas.Grind.{common_steps, elements}
-use Rattle.std.proofs.Common.{◌≡◌, ℕ, ap, sym, subst, ◌∙◌, arith}
-use Rattle.std.proofs.lemmas.Option.{IfSome_then}
-use Rattle.tariff_compile.specs.Near.{IsNear}
-use Rattle.tariff_check.specs.SoundTariff.{SoundTariff}
-use Rattle.tariff_compile.specs.Tables.{IsInRangeFor, weights_in_force}
-use Rattle.tariff_syntax.specs.declared.context.Context.{Context}
-use Rattle.meter_states.specs.Core.{CoreData}
-use Rattle.meter_model.specs.Interval.{context_of, context_on}
-use Rattle.meter_model.specs.Setting.{local_at}
+use Rattle.std.proofs.{Common.{ℕ, ◌∙◌, ◌≡◌, ap, arith, subst, sym}, lemmas.Grind.{common_steps, elements}}
+use Rattle.{std.proofs.lemmas.Option.{IfSome_then}, meter_states.specs.{Common.{weights_in_force}, Core.{CoreData}}}
+use Rattle.meter_states.specs.Common.{Context, IsInRangeFor, IsNear, SoundTariff, context_of, context_on, local_at}
 use Rattle.meter_states.proofs.meter_state.State.cached_rate.Goals as goal
 
 pub returns-clause-near : goal.returns-clause-near

@@ -1,24 +1,12 @@
-use Rattle.std.proofs.Common.{◌≡◌, ℕ, ◌+◌, ◌*◌, ◌^◌, ◌<◌, ◌≤◌, ◌⊎◌, inr, [], Some, refl, ap, sym, subst, ◌∙◌, arith}
-use Rattle.std.proofs.Math.Nat.{mul-le-mul_left, mul-le-mul_right}
-use Rattle.std.proofs.lemmas.Nat.{mul-le}
-use Rattle.tariff_compile.proofs.Laws.{tables_are_fit}
-use Rattle.tariff_syntax.specs.declared.context.Context.{Context}
-use Rattle.meter_model.specs.declared.core_trip.CoreTrip.{CoreTrip}
-use Rattle.meter_model.specs.Charge.{charge_at}
-use Rattle.meter_states.specs.Core.{CoreData, ComesToOutcome, core_of}
+use Rattle.std.proofs.Common.{[], ℕ, ◌*◌, ◌+◌, ◌<◌, ◌^◌, ◌∙◌, ◌≡◌, ◌≤◌, ◌⊎◌, Some, ap, arith, inr, refl, subst, sym}
+use Rattle.std.proofs.{Math.Nat.{mul-le-mul_left, mul-le-mul_right}, lemmas.Nat.{mul-le}}
+use Rattle.{tariff_compile.proofs.Laws.{tables_are_fit}, meter_states.specs.Core.{ComesToOutcome, CoreData, core_of}}
+use Rattle.meter_states.specs.Common.{Context, CoreTrip, Meter, charge_at, context_of, longest_trip, modulus_of, quiet}
+use Rattle.meter_states.{specs.Common.{run}, proofs.EqualIntervals.{pulses-few, range-later, taken-none}}
 use Rattle.meter_states.specs.EqualStages.{charged}
-use Rattle.meter_states.specs.Equals.{intervals_of, spare_of}
-use Rattle.meter_model.specs.Interval.{context_of}
-use Rattle.meter_states.specs.Lawful.{IsBetweenEvents}
-use Rattle.meter_model.specs.Meter.{Meter, quiet}
-use Rattle.meter_model.specs.Run.{run}
-use Rattle.meter_model.specs.Setting.{modulus_of}
-use Rattle.taxi_units.specs.Time.{longest_trip}
+use Rattle.meter_states.{specs.Equals.{intervals_of, spare_of}, proofs.Settings.{modulus-is, modulus-some}}
+use Rattle.meter_states.{specs.Lawful.{IsBetweenEvents}, proofs.{Outcomes.{quiet-follows}, Powered.{powered-trip}}}
 use Rattle.meter_states.proofs.EqualIntervals.{charge-by-weights, charged-full, context-later, hired-equal, near-later}
-use Rattle.meter_states.proofs.EqualIntervals.{pulses-few, range-later, taken-none}
-use Rattle.meter_states.proofs.Outcomes.{quiet-follows}
-use Rattle.meter_states.proofs.Powered.{powered-trip}
-use Rattle.meter_states.proofs.Settings.{modulus-is, modulus-some}
 use Rattle.meter_states.proofs.meter_state.State.charge_equal.Goals as goal
 
 pub returns-clause-follows : goal.returns-clause-follows

@@ -1,7 +1,5 @@
-use Rattle.std.proofs.lemmas.Grind.{common_steps}
-use Rattle.std.proofs.Common.{ap, sym, ◌∙◌, arith}
-use Rattle.meter_states.specs.Core.{CoreData}
-use Rattle.meter_states.proofs.Powered.{amid-closes, between-amid, pulses-below}
+use Rattle.std.proofs.{Common.{◌∙◌, ap, arith, sym}, lemmas.Grind.{common_steps}}
+use Rattle.meter_states.{specs.Core.{CoreData}, proofs.Powered.{amid-closes, between-amid, pulses-below}}
 use Rattle.meter_states.proofs.meter_state.State.charge_interval.Goals as goal
 
 pub weights-weights-requires-clause-lawful : goal.weights-weights-requires-clause-lawful

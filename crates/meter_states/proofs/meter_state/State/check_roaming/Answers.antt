@@ -1,12 +1,9 @@
-use Rattle.std.proofs.lemmas.Grind.{common_steps}
-use Rattle.std.proofs.Common.{◌≡◌, ◌<◌, ◌≤◌, length, ap, sym, subst, ◌∙◌, arith}
-use Rattle.taxi_units.specs.declared.event.Operating.TheVariants.{ForHire}
-use Rattle.meter_states.specs.Core.{ComesToOutcome, CoreData}
-use Rattle.meter_model.specs.Meter.{Outcome}
+use Rattle.std.proofs.{Common.{◌<◌, ◌∙◌, ◌≡◌, ◌≤◌, ap, arith, length, subst, sym}, lemmas.Grind.{common_steps}}
+use Rattle.meter_states.specs.Common.{ForHire, Outcome}
+use Rattle.meter_states.{specs.Core.{ComesToOutcome, CoreData}, proofs.RoamingStages.{room-three}}
 use Rattle.meter_states.proofs.RoamingStages.{amid-enters, checked-many, few-entered, lawful-entered, many-some}
-use Rattle.meter_states.proofs.RoamingStages.{room-three}
-use Rattle.meter_states.proofs.meter_state.State.check_roaming.Goals as goal
 use Rattle.meter_states.proofs.meter_state.State.check_roaming.Goals.{in-ForHire, in_default}
+use Rattle.meter_states.proofs.meter_state.State.check_roaming.Goals as goal
 
 pub enter_roaming-requires-clause-lawful : goal.enter_roaming-requires-clause-lawful
 enter_roaming-requires-clause-lawful c = amid-enters c.requires.lawful

@@ -1,10 +1,6 @@
-use Rattle.std.proofs.Common.{ℕ, ap, sym, subst, ◌∙◌}
-use Rattle.taxi_units.specs.Time.{IsSecond}
-use Rattle.taxi_units.specs.declared.receipt.Kind.TheVariants.{Closed}
-use Rattle.meter_model.specs.Closing.{closed}
-use Rattle.meter_states.specs.Core.{ComesToOutcome, CoreData}
-use Rattle.meter_model.specs.Meter.{Outcome}
-use Rattle.meter_states.proofs.Powered.{amid-closes}
+use Rattle.std.proofs.Common.{ℕ, ◌∙◌, ap, subst, sym}
+use Rattle.{taxi_units.specs.declared.receipt.Kind.TheVariants.{Closed}, meter_states.proofs.Powered.{amid-closes}}
+use Rattle.meter_states.specs.{Common.{IsSecond, Outcome, closed}, Core.{ComesToOutcome, CoreData}}
 use Rattle.meter_states.proofs.Pushes.{few-none}
 use Rattle.meter_states.proofs.meter_state.State.clear.Goals as goal
 

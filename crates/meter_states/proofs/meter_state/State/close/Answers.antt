@@ -1,15 +1,7 @@
-use Rattle.std.proofs.Common.{◌≡◌, ℕ, ◌+◌, Option, None, Some, ap, sym, subst, ◌∙◌, arith}
-use Rattle.tariff_compile.proofs.Laws.{tables_are_fit}
-use Rattle.taxi_units.specs.declared.event.Operating.TheVariants.{ForHire}
-use Rattle.meter_states.specs.Acts.{StayLawful}
-use Rattle.meter_states.specs.Core.{CoreData, ComesToOutcome}
-use Rattle.meter_model.specs.Closing.{trip_closed}
-use Rattle.meter_states.specs.Lawful.{IsTripInRange}
-use Rattle.meter_states.specs.Stages.{MayEnter}
-use Rattle.meter_model.specs.Trip.{MeterTrip}
-use Rattle.taxi_units.specs.Time.{longest_trip}
-use Rattle.meter_states.proofs.Outcomes.{trip-saved}
-use Rattle.meter_states.proofs.Powered.{some-there}
+use Rattle.std.proofs.Common.{ℕ, ◌+◌, ◌∙◌, ◌≡◌, None, Option, Some, ap, arith, subst, sym}
+use Rattle.{tariff_compile.proofs.Laws.{tables_are_fit}, meter_states.specs.{Acts.{StayLawful}, Lawful.{IsTripInRange}}}
+use Rattle.meter_states.specs.{Common.{ForHire, MeterTrip, longest_trip, trip_closed}, Core.{ComesToOutcome, CoreData}}
+use Rattle.meter_states.{specs.Stages.{MayEnter}, proofs.{Outcomes.{trip-saved}, Powered.{some-there}}}
 use Rattle.meter_states.proofs.meter_state.State.close.Goals as goal
 
 pub returns-in-Some-clause-stage : goal.returns-in-Some-clause-stage

@@ -1,5 +1,4 @@
-use Rattle.meter_model.specs.Closing.{entry_of_trip, receipt_of}
-use Rattle.meter_model.specs.Meter.{Meter, entered, printed}
+use Rattle.{meter_model.specs.Meter.{entered, printed}, meter_states.specs.Common.{Meter, entry_of_trip, receipt_of}}
 use Rattle.meter_states.proofs.Outcomes.{follows-then}
 use Rattle.meter_states.proofs.meter_state.State.close_trip.Goals as goal
 

@@ -1,6 +1,5 @@
-use Rattle.std.proofs.Common.{ℕ, ap, ◌∙◌}
-use Rattle.meter_model.specs.Interval.{context_on}
-use Rattle.meter_model.specs.Setting.{local_at}
+use Rattle.std.proofs.Common.{ℕ, ◌∙◌, ap}
+use Rattle.meter_states.specs.Common.{context_on, local_at}
 use Rattle.meter_states.proofs.meter_state.State.context_at.Goals as goal
 
 pub returns-clause-value : goal.returns-clause-value

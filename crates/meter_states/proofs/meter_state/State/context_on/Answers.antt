@@ -1,7 +1,5 @@
-use Rattle.std.proofs.Common.{◌≤◌, refl, ap, subst, sym, ◌∙◌, arith}
-use Rattle.tariff_check.specs.SoundLookups.{has_date}
-use Rattle.tariff_check.specs.SoundTariff.{SoundTariff}
-use Rattle.meter_states.specs.Cache.{sealed_time}
+use Rattle.std.proofs.Common.{◌∙◌, ◌≤◌, ap, arith, refl, subst, sym}
+use Rattle.{tariff_check.specs.SoundLookups.{has_date}, meter_states.specs.{Cache.{sealed_time}, Common.{SoundTariff}}}
 use Rattle.meter_states.specs.Core.{CoreData}
 use Rattle.meter_states.proofs.meter_state.State.context_on.Goals as goal
 

@@ -1,10 +1,6 @@
-use Rattle.std.proofs.Common.{◌+◌, ◌≤◌, ap, sym, subst, sum, ◌∙◌}
-use Rattle.taxi_units.specs.declared.event.Operating.{Operating}
-use Rattle.meter_states.specs.Core.{CoreData, core_of}
-use Rattle.meter_model.specs.Interval.{counted_in}
-use Rattle.meter_states.specs.Lawful.{counting_steps}
-use Rattle.meter_states.proofs.Outcomes.{not_off}
-use Rattle.meter_states.proofs.Powered.{powered-longer, powered-wider}
+use Rattle.std.proofs.Common.{◌+◌, ◌∙◌, ◌≤◌, ap, subst, sum, sym}
+use Rattle.meter_states.{specs.Common.{Operating, counted_in}, proofs.Powered.{powered-longer, powered-wider}}
+use Rattle.meter_states.{specs.{Core.{CoreData, core_of}, Lawful.{counting_steps}}, proofs.Outcomes.{not_off}}
 use Rattle.meter_states.proofs.meter_state.State.count_interval.Goals as goal
 
 pub roam_interval-requires-clause-roam : goal.roam_interval-requires-clause-roam

@@ -1,7 +1,5 @@
-use Rattle.std.proofs.Common.{◌≡◌, ℕ, ◌∙◌}
-use Rattle.taxi_units.specs.declared.receipt.Display.{Display}
-use Rattle.meter_states.specs.Core.{CoreData}
-use Rattle.meter_states.proofs.Settings.{decimals-is}
+use Rattle.std.proofs.Common.{ℕ, ◌∙◌, ◌≡◌}
+use Rattle.meter_states.{specs.{Common.{Display}, Core.{CoreData}}, proofs.Settings.{decimals-is}}
 use Rattle.meter_states.proofs.meter_state.State.display.Goals as goal
 
 -- displays whose parts are equal are equal

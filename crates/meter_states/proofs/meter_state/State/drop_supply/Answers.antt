@@ -1,6 +1,4 @@
-use Rattle.std.proofs.Common.{ℕ, subst, arith}
-use Rattle.std.proofs.lemmas.Grind.{common_steps}
-use Rattle.meter_states.specs.Acts.{StayLawful}
+use Rattle.{std.proofs.{Common.{ℕ, arith, subst}, lemmas.Grind.{common_steps}}, meter_states.specs.Acts.{StayLawful}}
 use Rattle.meter_states.proofs.meter_state.State.drop_supply.Goals as goal
 
 pub leave_interval-requires : goal.leave_interval-requires

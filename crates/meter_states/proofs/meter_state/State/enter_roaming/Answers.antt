@@ -1,13 +1,9 @@
-use Rattle.std.proofs.Common.{◌+◌, ◌≤◌, [], ◌∷◌, ◌++◌, ap, sym, subst, ◌∙◌}
+use Rattle.std.proofs.Common.{[], ◌++◌, ◌+◌, ◌∙◌, ◌∷◌, ◌≤◌, ap, subst, sym}
+use Rattle.{meter_model.specs.ClosedTrip.{roaming_entry}, meter_states.specs.Common.{Enter, roaming_amid}}
+use Rattle.meter_states.specs.{Core.{CoreData}, Lawful.{IsBetweenEvents}}
+use Rattle.meter_states.proofs.{Powered.{powered-entered, roaming-beside, roaming-room}, Pushes.{few-more, lawful-more}}
 use Rattle.totals_record.specs.declared.entry.Entry as store
-use Rattle.meter_model.specs.Closing.{roaming_entry}
-use Rattle.meter_states.specs.Core.{CoreData}
-use Rattle.meter_states.specs.Lawful.{IsBetweenEvents}
-use Rattle.meter_model.specs.declared.act.Act.TheVariants.{Enter}
-use Rattle.meter_states.proofs.Powered.{powered-entered, roaming-beside, roaming-room}
-use Rattle.meter_states.proofs.Pushes.{few-more, lawful-more}
 use Rattle.meter_states.proofs.meter_state.State.enter_roaming.Goals as goal
-use Rattle.taxi_units.specs.Limits.{roaming_amid}
 
 pub roaming_entry-requires : goal.roaming_entry-requires
 roaming_entry-requires c = subst (λ (p : CoreData). p.roam ≤ roaming_amid) (sym c.self.view_is) c.requires.lawful.roam

@@ -1,11 +1,8 @@
-use Rattle.std.proofs.Common.{◌+◌, ◌≤◌, [], ◌∷◌, ◌++◌, ap, sym, subst, ◌∙◌, arith}
+use Rattle.std.proofs.Common.{[], ◌++◌, ◌+◌, ◌∙◌, ◌∷◌, ◌≤◌, ap, arith, subst, sym}
+use Rattle.meter_states.specs.Common.{Enter, entry_of_trip, last_number}
+use Rattle.meter_states.{specs.Core.{CoreData}, proofs.Pushes.{closing-room, few-more, lawful-more}}
 use Rattle.totals_record.specs.declared.entry.Entry as store
-use Rattle.meter_model.specs.Closing.{entry_of_trip}
-use Rattle.meter_states.specs.Core.{CoreData}
-use Rattle.meter_model.specs.declared.act.Act.TheVariants.{Enter}
-use Rattle.meter_states.proofs.Pushes.{closing-room, few-more, lawful-more}
 use Rattle.meter_states.proofs.meter_state.State.enter_trip.Goals as goal
-use Rattle.taxi_units.specs.Limits.{last_number}
 
 pub entry-requires-clause-range : goal.entry-requires-clause-range
 entry-requires-clause-range c = record {

@@ -1,7 +1,5 @@
-use Rattle.std.proofs.Common.{ap, sym, subst, ◌∙◌, arith}
-use Rattle.std.proofs.lemmas.Grind.{common_steps}
-use Rattle.taxi_units.specs.Time.{IsSecond}
-use Rattle.meter_states.specs.Core.{CoreData}
+use Rattle.std.proofs.{Common.{◌∙◌, ap, arith, subst, sym}, lemmas.Grind.{common_steps}}
+use Rattle.meter_states.specs.{Common.{IsSecond}, Core.{CoreData}}
 use Rattle.meter_states.proofs.meter_state.State.expire.Goals as goal
 
 pub returns-in-Some-clause-stage : goal.returns-in-Some-clause-stage

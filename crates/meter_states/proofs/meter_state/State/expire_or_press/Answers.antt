@@ -1,11 +1,6 @@
-use Rattle.std.proofs.Common.{Bool, if◌then◌else◌, ap, sym, subst, inr, ◌∙◌}
-use Rattle.meter_states.specs.Core.{ComesToOutcome}
-use Rattle.meter_model.specs.Keys.{key_pressed}
-use Rattle.meter_model.specs.Meter.{Outcome}
-use Rattle.meter_model.specs.Step.{expired}
-use Rattle.meter_states.proofs.KeyStages.{steps-twelve}
-use Rattle.meter_states.proofs.Powered.{between-amid}
-use Rattle.meter_states.proofs.Pushes.{few-longer}
+use Rattle.std.proofs.Common.{◌∙◌, Bool, ap, if◌then◌else◌, inr, subst, sym}
+use Rattle.meter_states.{specs.Common.{Outcome, expired, key_pressed}, proofs.KeyStages.{steps-twelve}}
+use Rattle.meter_states.{specs.Core.{ComesToOutcome}, proofs.{Powered.{between-amid}, Pushes.{few-longer}}}
 use Rattle.meter_states.proofs.meter_state.State.expire_or_press.Goals as goal
 
 pub expire-requires-clause-lawful : goal.expire-requires-clause-lawful

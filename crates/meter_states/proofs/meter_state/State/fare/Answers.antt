@@ -1,9 +1,6 @@
-use Rattle.std.proofs.Common.{ap, sym, ◌∙◌}
-use Rattle.meter_states.specs.Core.{CoreData}
-use Rattle.meter_model.specs.Display.{fare_shown}
-use Rattle.meter_states.specs.Equals.{fare_by}
-use Rattle.meter_states.proofs.Outcomes.{fare-none, trip-saved}
-use Rattle.meter_states.proofs.Powered.{powered-longer}
+use Rattle.std.proofs.Common.{◌∙◌, ap, sym}
+use Rattle.meter_states.{specs.Common.{fare_shown}, proofs.{Outcomes.{fare-none, trip-saved}, Powered.{powered-longer}}}
+use Rattle.meter_states.specs.{Core.{CoreData}, Equals.{fare_by}}
 use Rattle.meter_states.proofs.meter_state.State.fare.Goals as goal
 
 pub fare-requires : goal.fare-requires

@@ -1,9 +1,6 @@
-use Rattle.std.proofs.Common.{◌≡◌, ℕ, ap, sym, ◌∙◌}
-use Rattle.tariff_check.specs.Amounts.{fees_in_force}
-use Rattle.tariff_check.specs.SoundTariff.{SoundTariff}
+use Rattle.std.proofs.Common.{ℕ, ◌∙◌, ◌≡◌, ap, sym}
+use Rattle.{tariff_check.specs.Amounts.{fees_in_force}, meter_states.specs.Common.{SoundTariff, context_on, local_at}}
 use Rattle.meter_states.specs.Core.{CoreData}
-use Rattle.meter_model.specs.Interval.{context_on}
-use Rattle.meter_model.specs.Setting.{local_at}
 use Rattle.meter_states.proofs.meter_state.State.fee.Goals as goal
 
 pub returns-clause-value : goal.returns-clause-value

@@ -1,5 +1,4 @@
-use Rattle.std.proofs.Common.{arith}
-use Rattle.std.proofs.lemmas.Grind.{common_steps}
+use Rattle.std.proofs.{Common.{arith}, lemmas.Grind.{common_steps}}
 use Rattle.meter_states.proofs.meter_state.State.hire.Goals as goal
 
 pub returns-clause-stage : goal.returns-clause-stage

@@ -1,15 +1,9 @@
-use Rattle.std.proofs.Common.{ℕ, ◌<◌, ◌≤◌, ap, sym, subst, ◌∙◌}
-use Rattle.taxi_units.specs.Time.{IsSecond}
-use Rattle.taxi_units.specs.declared.receipt.Kind.TheVariants.{Aborted}
-use Rattle.meter_model.specs.Closing.{closed}
+use Rattle.std.proofs.Common.{ℕ, ◌<◌, ◌∙◌, ◌≤◌, ap, subst, sym}
+use Rattle.meter_states.{specs.Common.{Aborted, IsSecond, Outcome, closed, last_number}, proofs.Pushes.{few-none}}
 use Rattle.meter_states.specs.Core.{ComesToOutcome, CoreData}
-use Rattle.meter_model.specs.Meter.{Outcome}
-use Rattle.meter_states.proofs.Outcomes.{quiet-follows, trip-saved}
-use Rattle.meter_states.proofs.Powered.{none-hires, powered-longer, some-there}
-use Rattle.meter_states.proofs.Pushes.{few-none}
+use Rattle.meter_states.proofs.{Outcomes.{quiet-follows, trip-saved}, Powered.{none-hires, powered-longer, some-there}}
 use Rattle.meter_states.proofs.SupplyStages.{aborted-closes, kept-closed, kept-held, kept-quiet, kept-roams}
 use Rattle.meter_states.proofs.meter_state.State.hold_or_close.Goals as goal
-use Rattle.taxi_units.specs.Limits.{last_number}
 
 pub enter_roaming-requires-clause-lawful : goal.enter_roaming-requires-clause-lawful
 enter_roaming-requires-clause-lawful g c = c.requires.lawful

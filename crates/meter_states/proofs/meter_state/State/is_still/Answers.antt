@@ -1,11 +1,9 @@
-use Rattle.std.proofs.Common.{◌≡◌, Bool, true, false, sym, ◌∙◌, ap}
-use Rattle.std.proofs.lemmas.Bool.{eq-eqb, eqb-true}
-use Rattle.meter_states.specs.Core.{CoreData}
-use Rattle.meter_model.specs.Display.{is_shown}
-use Rattle.meter_states.proofs.Displays.{shown_last}
-use Rattle.meter_states.proofs.meter_state.State.is_still.Goals as goal
-use Rattle.meter_states.proofs.meter_state.State.is_still.Goals.{else-self-second, else-take-eq0, then-take-eq0}
+use Rattle.std.proofs.{Common.{◌∙◌, ◌≡◌, Bool, ap, false, sym, true}, lemmas.Bool.{eq-eqb, eqb-true}}
+use Rattle.meter_states.specs.{Common.{is_shown}, Core.{CoreData}}
+use Rattle.meter_states.proofs.{Displays.{shown_last}, meter_state.State.is_still.Goals.{then-take-eq0}}
+use Rattle.meter_states.proofs.meter_state.State.is_still.Goals.{else-self-second, else-take-eq0}
 use Rattle.meter_states.proofs.meter_state.State.is_still.Goals.{then-self-second+in-None, then-self-second+in_default}
+use Rattle.meter_states.proofs.meter_state.State.is_still.Goals as goal
 
 never : (b : Bool) → b ≡ true → b ≡ false → ⊥
 never b holds fails = cc

@@ -1,9 +1,6 @@
-use Rattle.std.proofs.Common.{ap, sym, sum, ◌∙◌}
-use Rattle.taxi_units.specs.declared.event.Operating.{Operating}
-use Rattle.meter_states.specs.Core.{CoreData, core_of}
-use Rattle.meter_model.specs.Interval.{left_in}
-use Rattle.meter_states.proofs.Powered.{powered-wider}
-use Rattle.meter_states.proofs.RoamingStages.{amid-enters}
+use Rattle.std.proofs.Common.{◌∙◌, ap, sum, sym}
+use Rattle.{meter_model.specs.Interval.{left_in}, meter_states.proofs.RoamingStages.{amid-enters}}
+use Rattle.meter_states.{specs.{Common.{Operating}, Core.{CoreData, core_of}}, proofs.Powered.{powered-wider}}
 use Rattle.meter_states.proofs.meter_state.State.leave_interval.Goals as goal
 
 pub returns-in-ForHire-clause-lawful : goal.returns-in-ForHire-clause-lawful

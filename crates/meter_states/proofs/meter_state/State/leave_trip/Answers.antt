@@ -1,11 +1,8 @@
-use Rattle.std.proofs.Common.{◌≡◌, Some, ap, sym, subst, ◌∙◌, arith}
+use Rattle.std.proofs.Common.{◌∙◌, ◌≡◌, Some, ap, arith, subst, sym}
+use Rattle.{meter_model.specs.Trip.{Rest}, meter_states.proofs.Powered.{powered-gated, powered-trip, pulses-below}}
+use Rattle.meter_states.{specs.{Common.{roaming_between}, Lawful.{IsPowered}}, proofs.Trips.{interval-taken}}
 use Rattle.meter_states.specs.Core.{CoreData}
-use Rattle.meter_states.specs.Lawful.{IsPowered}
-use Rattle.meter_model.specs.Trip.{Rest}
-use Rattle.meter_states.proofs.Powered.{powered-gated, powered-trip, pulses-below}
-use Rattle.meter_states.proofs.Trips.{interval-taken}
 use Rattle.meter_states.proofs.meter_state.State.leave_trip.Goals as goal
-use Rattle.taxi_units.specs.Limits.{roaming_between}
 
 pub add_rest-requires-clause-pulses : goal.add_rest-requires-clause-pulses
 add_rest-requires-clause-pulses c = c.take-pulses.ensures.most

@@ -1,18 +1,9 @@
-use Rattle.std.proofs.Common.{◌≡◌, ◌+◌, ◌*◌, ◌≤◌, [], Some, ap, sym, subst, ◌∙◌, inl, inr, arith}
-use Rattle.std.proofs.lemmas.Bool.{cases_lt}
-use Rattle.std.proofs.Math.Nat.{mul-le-mul_left}
-use Rattle.meter_model.specs.declared.core_trip.CoreTrip.{CoreTrip}
-use Rattle.tariff_compile.proofs.Laws.{tables_are_fit}
-use Rattle.meter_states.specs.Core.{CoreData, ComesToOutcome}
+use Rattle.std.proofs.Common.{[], ◌*◌, ◌+◌, ◌∙◌, ◌≡◌, ◌≤◌, Some, ap, arith, inl, inr, subst, sym}
+use Rattle.{std.proofs.{Math.Nat.{mul-le-mul_left}, lemmas.Bool.{cases_lt}}, meter_states.specs.Equals.{intervals_of}}
+use Rattle.{tariff_compile.proofs.Laws.{tables_are_fit}, meter_states.proofs.EqualIntervals.{stopped-equal, taken-none}}
+use Rattle.meter_states.specs.{Common.{CoreTrip, quiet, run}, Core.{ComesToOutcome, CoreData}, Lawful.{IsBetweenEvents}}
 use Rattle.meter_states.specs.EqualStages.{passed}
-use Rattle.meter_states.specs.Equals.{intervals_of}
-use Rattle.meter_states.specs.Lawful.{IsBetweenEvents}
-use Rattle.meter_model.specs.Meter.{quiet}
-use Rattle.meter_model.specs.Run.{run}
-use Rattle.meter_states.proofs.EqualIntervals.{stopped-equal, taken-none}
-use Rattle.meter_states.proofs.Outcomes.{quiet-follows}
-use Rattle.meter_states.proofs.Powered.{powered-trip}
-use Rattle.meter_states.proofs.Settings.{modulus-some}
+use Rattle.meter_states.proofs.{Outcomes.{quiet-follows}, Powered.{powered-trip}, Settings.{modulus-some}}
 use Rattle.meter_states.proofs.meter_state.State.pass_equal.Goals as goal
 
 pub returns-clause-follows : goal.returns-clause-follows

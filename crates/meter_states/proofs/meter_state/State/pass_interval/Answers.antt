@@ -1,12 +1,8 @@
-use Rattle.std.proofs.Common.{◌≡◌, Some, ap, sym, subst, ◌∙◌, arith}
-use Rattle.taxi_units.specs.declared.event.Operating.{Operating}
-use Rattle.meter_states.specs.Core.{CoreData}
-use Rattle.meter_states.specs.Lawful.{HasTrip, IsPowered}
-use Rattle.meter_model.specs.Trip.{InStopped}
-use Rattle.meter_states.proofs.Powered.{powered-gated, powered-trip, pulses-below}
+use Rattle.std.proofs.Common.{◌∙◌, ◌≡◌, Some, ap, arith, subst, sym}
+use Rattle.{meter_model.specs.Trip.{InStopped}, meter_states.proofs.Powered.{powered-gated, powered-trip, pulses-below}}
+use Rattle.meter_states.specs.{Common.{Operating, roaming_between}, Core.{CoreData}, Lawful.{HasTrip, IsPowered}}
 use Rattle.meter_states.proofs.Trips.{interval-taken}
 use Rattle.meter_states.proofs.meter_state.State.pass_interval.Goals as goal
-use Rattle.taxi_units.specs.Limits.{roaming_between}
 
 pub add_stopped-requires-clause-pulses : goal.add_stopped-requires-clause-pulses
 add_stopped-requires-clause-pulses c = c.take-pulses.ensures.most

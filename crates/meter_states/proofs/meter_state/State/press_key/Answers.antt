@@ -1,14 +1,9 @@
-use Rattle.std.proofs.Common.{◌≡◌, ap, refl, subst, sym, true, ◌∙◌}
-use Rattle.taxi_units.specs.declared.event.Operating.TheVariants.{ForHire}
-use Rattle.taxi_units.specs.declared.event.Why.TheVariants.{NotNow}
+use Rattle.std.proofs.Common.{◌∙◌, ◌≡◌, ap, refl, subst, sym, true}
+use Rattle.{meter_model.specs.Meter.{refused}, meter_states.proofs.KeyStages.{steps-one, steps-twelve, trip-there}}
+use Rattle.meter_states.{specs.{Common.{ForHire, Meter, NotNow, Setting}, Lawful.{is_busy}}, proofs.Pushes.{room-none}}
 use Rattle.meter_states.specs.Core.{CoreData}
-use Rattle.meter_states.specs.Lawful.{is_busy}
-use Rattle.meter_model.specs.Meter.{Meter, refused}
-use Rattle.meter_model.specs.Setting.{Setting}
-use Rattle.meter_model.specs.declared.key_act.KeyAct.TheVariants as key_acts
 use Rattle.meter_states.proofs.KeyStages.{closes-act, commits-act, moves-stage, refuses-stage, steps-at, steps-none}
-use Rattle.meter_states.proofs.KeyStages.{steps-one, steps-twelve, trip-there}
-use Rattle.meter_states.proofs.Pushes.{room-none}
+use Rattle.meter_model.specs.declared.key_act.KeyAct.TheVariants as key_acts
 use Rattle.meter_states.proofs.meter_state.State.press_key.Goals as goal
 
 pub hire-requires-clause-ready : goal.hire-requires-clause-ready

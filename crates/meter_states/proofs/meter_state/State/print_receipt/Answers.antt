@@ -1,10 +1,7 @@
-use Rattle.std.proofs.Common.{◌≤◌, [], ◌∷◌, ◌++◌, ap, sym, subst, ◌∙◌}
-use Rattle.taxi_units.specs.declared.receipt.Receipt as receipts
-use Rattle.meter_model.specs.Closing.{receipt_of}
-use Rattle.meter_states.specs.Core.{CoreData}
+use Rattle.std.proofs.Common.{[], ◌++◌, ◌∙◌, ◌∷◌, ◌≤◌, ap, subst, sym}
+use Rattle.meter_states.{specs.{Common.{Receipt, receipt_of}, Core.{CoreData}}, proofs.Pushes.{few-more, lawful-more}}
 use Rattle.meter_states.specs.Lawful.{IsTripBeside}
-use Rattle.meter_model.specs.declared.act.Act.TheVariants.{Receipt}
-use Rattle.meter_states.proofs.Pushes.{few-more, lawful-more}
+use Rattle.taxi_units.specs.declared.receipt.Receipt as receipts
 use Rattle.meter_states.proofs.meter_state.State.print_receipt.Goals as goal
 
 pub receipt-requires-clause-range : goal.receipt-requires-clause-range

@@ -1,12 +1,8 @@
-use Rattle.std.proofs.Common.{◌≡◌, ◌+◌, ◌*◌, ◌≤◌, [], None, sym, subst, arith}
-use Rattle.tariff_compile.proofs.Laws.{tables_are_fit}
-use Rattle.meter_states.specs.Core.{CoreData, ComesToOutcome}
-use Rattle.meter_states.specs.Equals.{intervals_of, roams}
-use Rattle.meter_model.specs.Run.{run}
-use Rattle.meter_states.proofs.EqualIntervals.{hire-equal}
-use Rattle.meter_states.proofs.Settings.{modulus-some}
+use Rattle.std.proofs.Common.{[], ◌*◌, ◌+◌, ◌≡◌, ◌≤◌, None, arith, subst, sym}
+use Rattle.{tariff_compile.proofs.Laws.{tables_are_fit}, meter_states.specs.Core.{ComesToOutcome, CoreData}}
+use Rattle.meter_states.specs.{Common.{roaming_between, run}, Equals.{intervals_of, roams}}
+use Rattle.meter_states.proofs.{EqualIntervals.{hire-equal}, Settings.{modulus-some}}
 use Rattle.meter_states.proofs.meter_state.State.roam_equal.Goals as goal
-use Rattle.taxi_units.specs.Limits.{roaming_between}
 
 pub returns-clause-follows : goal.returns-clause-follows
 returns-clause-follows c = λ tables seal on still s m is e.

@@ -1,17 +1,10 @@
-use Rattle.std.proofs.Common.{◌≡◌, ℕ, ◌+◌, ◌*◌, ◌^◌, Bool, Some, ap, sym, subst, ◌∙◌, arith}
-use Rattle.std.proofs.lemmas.Grind.{common_steps}
-use Rattle.std.proofs.lemmas.Nat.{mul-le}
-use Rattle.taxi_units.specs.Limits.{roaming_amid}
-use Rattle.tariff_compile.specs.Tables.{TableParts}
-use Rattle.tariff_compile.proofs.Laws.{tables_are_fit}
-use Rattle.totals_record.specs.Ranges as store
-use Rattle.meter_states.specs.Core.{CoreData}
-use Rattle.meter_states.specs.Fits.{Fits}
-use Rattle.meter_states.specs.Lawful.{HasBegunBy, IsPowered, IsTripInRange}
-use Rattle.meter_model.specs.Supply.{is_stopped}
-use Rattle.meter_model.specs.Trip.{saved_at}
-use Rattle.meter_model.specs.declared.core_trip.CoreTrip.{CoreTrip}
+use Rattle.std.proofs.{Common.{ℕ, ◌*◌, ◌+◌, ◌^◌, ◌∙◌, ◌≡◌, Bool, Some, ap, arith, subst, sym}, lemmas.Nat.{mul-le}}
+use Rattle.{std.proofs.lemmas.Grind.{common_steps}, tariff_compile.proofs.Laws.{tables_are_fit}}
+use Rattle.meter_model.specs.{Supply.{is_stopped}, Trip.{saved_at}}
+use Rattle.meter_states.specs.Common.{CoreTrip, TableParts, roaming_amid}
+use Rattle.meter_states.specs.{Core.{CoreData}, Fits.{Fits}, Lawful.{HasBegunBy, IsPowered, IsTripInRange}}
 use Rattle.meter_states.proofs.TableSupplements.{counts-few, extras-few}
+use Rattle.totals_record.specs.Ranges as store
 use Rattle.meter_states.proofs.meter_state.State.saved_trip.Goals as goal
 
 -- a trip of a powered core, as it is held, is in the ranges of the store

@@ -1,5 +1,4 @@
-use Rattle.std.proofs.Common.{arith}
-use Rattle.std.proofs.lemmas.Grind.{common_steps}
+use Rattle.std.proofs.{Common.{arith}, lemmas.Grind.{common_steps}}
 use Rattle.meter_states.proofs.meter_state.State.set_zone.Goals as goal
 
 pub returns-then-n-zones : goal.returns-then-n-zones

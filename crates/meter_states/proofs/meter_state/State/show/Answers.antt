@@ -1,8 +1,5 @@
-use Rattle.std.proofs.Common.{sym, ◌∙◌, ap}
-use Rattle.meter_states.specs.Core.{CoreData}
-use Rattle.meter_model.specs.Display.{is_shown}
-use Rattle.meter_model.specs.declared.act.Act.TheVariants.{Show}
-use Rattle.meter_states.proofs.Displays.{shown_anew, shown_still}
+use Rattle.std.proofs.Common.{◌∙◌, ap, sym}
+use Rattle.meter_states.{specs.{Common.{Show, is_shown}, Core.{CoreData}}, proofs.Displays.{shown_anew, shown_still}}
 use Rattle.meter_states.proofs.Pushes.{lawful-more}
 use Rattle.meter_states.proofs.meter_state.State.show.Goals as goal
 

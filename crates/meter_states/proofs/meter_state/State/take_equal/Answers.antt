@@ -1,10 +1,7 @@
-use Rattle.std.proofs.Common.{◌+◌, ◌<◌, ◌≤◌, ap, refl, sym, ◌∙◌, arith}
-use Rattle.taxi_units.specs.declared.event.Operating.TheVariants.{ForHire, Hired, Stopped}
-use Rattle.meter_states.specs.Core.{CoreData}
-use Rattle.meter_states.specs.Equals.{roams}
-use Rattle.meter_states.proofs.EqualIntervals.{full-in}
+use Rattle.std.proofs.Common.{◌+◌, ◌<◌, ◌∙◌, ◌≤◌, ap, arith, refl, sym}
+use Rattle.meter_states.{specs.Common.{ForHire, Hired, Stopped, roaming_most}, proofs.EqualIntervals.{full-in}}
+use Rattle.meter_states.specs.{Core.{CoreData}, Equals.{roams}}
 use Rattle.meter_states.proofs.meter_state.State.take_equal.Goals as goal
-use Rattle.taxi_units.specs.Limits.{roaming_most}
 
 pub returns-in-Hired-clause-full : goal.returns-in-Hired-clause-full
 returns-in-Hired-clause-full c =

@@ -1,9 +1,7 @@
-use Rattle.std.proofs.Common.{inl, inr}
+use Rattle.{std.proofs.Common.{inl, inr}, taxi_units.specs.declared.event.Why.TheVariants.{Powered}}
+use Rattle.meter_states.specs.Common.{Refuse}
+use Rattle.meter_states.proofs.{Outcomes.{dropped-meets, follows-event}, Pushes.{lawful-more, room-none}}
 use Rattle.taxi_units.specs.declared.event.Event.TheVariants as events
-use Rattle.taxi_units.specs.declared.event.Why.TheVariants.{Powered}
-use Rattle.meter_model.specs.declared.act.Act.TheVariants.{Refuse}
-use Rattle.meter_states.proofs.Outcomes.{dropped-meets, follows-event}
-use Rattle.meter_states.proofs.Pushes.{lawful-more, room-none}
 use Rattle.meter_states.proofs.meter_state.State.take_event.Goals as goal
 
 pub refuse-requires : goal.refuse-requires

@@ -1,11 +1,7 @@
-use Rattle.std.proofs.Common.{sym, subst, ◌∙◌}
-use Rattle.meter_states.specs.Core.{ComesToOutcome}
-use Rattle.meter_model.specs.Meter.{Outcome}
-use Rattle.meter_model.specs.Supply.{resumed}
-use Rattle.meter_states.proofs.Outcomes.{quiet-follows}
-use Rattle.meter_states.proofs.Powered.{none-hires}
-use Rattle.meter_states.proofs.Pushes.{few-none}
-use Rattle.meter_states.proofs.SupplyStages.{begun-by, held-second, hold-aborted, hold-resumed}
+use Rattle.std.proofs.Common.{◌∙◌, subst, sym}
+use Rattle.{meter_model.specs.Supply.{resumed}, meter_states.proofs.{Outcomes.{quiet-follows}, Pushes.{few-none}}}
+use Rattle.meter_states.specs.{Common.{Outcome}, Core.{ComesToOutcome}}
+use Rattle.meter_states.proofs.{Powered.{none-hires}, SupplyStages.{begun-by, held-second, hold-aborted, hold-resumed}}
 use Rattle.meter_states.proofs.meter_state.State.take_held.Goals as goal
 
 pub is_within_hold-requires : goal.is_within_hold-requires

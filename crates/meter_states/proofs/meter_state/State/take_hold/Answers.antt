@@ -1,10 +1,6 @@
-use Rattle.std.proofs.Common.{Option, None, option_map, sym, subst, ap, ◌∙◌}
-use Rattle.totals_record.specs.declared.trip.Trip.{Trip}
-use Rattle.meter_states.specs.Core.{ComesToOutcome}
-use Rattle.meter_model.specs.Trip.{core_trip_in}
-use Rattle.meter_model.specs.Supply.{hold_taken}
-use Rattle.meter_states.proofs.Outcomes.{quiet-follows}
-use Rattle.meter_states.proofs.Pushes.{few-none}
+use Rattle.std.proofs.Common.{◌∙◌, None, Option, ap, option_map, subst, sym}
+use Rattle.{meter_model.specs.Trip.{core_trip_in}, meter_states.specs.Common.{Trip, hold_taken}}
+use Rattle.meter_states.{specs.Core.{ComesToOutcome}, proofs.{Outcomes.{quiet-follows}, Pushes.{few-none}}}
 use Rattle.meter_states.proofs.meter_state.State.take_hold.Goals as goal
 
 pub take_held-requires-clause-ready : goal.take_held-requires-clause-ready

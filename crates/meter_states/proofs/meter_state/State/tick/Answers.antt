@@ -1,15 +1,8 @@
-use Rattle.std.proofs.Common.{ℕ, ◌+◌, ◌≤◌, All, ap, sym, subst, ◌∙◌, arith}
-use Rattle.taxi_units.specs.declared.event.Operating.{Operating}
-use Rattle.taxi_units.specs.declared.event.Operating.TheVariants.{Off, ForHire, Hired, Stopped}
-use Rattle.meter_states.specs.Acts.{IsLawfulAct}
-use Rattle.meter_model.specs.Closing.{roaming_checked}
-use Rattle.meter_states.specs.Core.{CoreData, core_of}
-use Rattle.meter_model.specs.Display.{shown}
-use Rattle.meter_model.specs.Interval.{interval_begun, interval_counted}
+use Rattle.std.proofs.Common.{ℕ, ◌+◌, ◌∙◌, ◌≤◌, All, ap, arith, subst, sym}
+use Rattle.meter_states.specs.{Acts.{IsLawfulAct}, Common.{interval_begun, interval_counted, roaming_checked, shown}}
+use Rattle.meter_states.specs.Common.{◌>>=◌, ForHire, Hired, Meter, Off, Operating, Stopped, expired_or_pressed}
+use Rattle.meter_states.{specs.Core.{CoreData, core_of}, proofs.Outcomes.{follows-then, quiet-follows, same-or}}
 use Rattle.meter_states.specs.Lawful.{counting_steps, pressing_steps}
-use Rattle.meter_model.specs.Meter.{Meter, ◌>>=◌}
-use Rattle.meter_model.specs.Step.{expired_or_pressed}
-use Rattle.meter_states.proofs.Outcomes.{follows-then, quiet-follows, same-or}
 use Rattle.meter_states.proofs.meter_state.State.tick.Goals as goal
 
 pub returns-clause-stage : goal.returns-clause-stage

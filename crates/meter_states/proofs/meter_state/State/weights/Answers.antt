@@ -1,12 +1,6 @@
-use Rattle.std.proofs.Common.{◌≡◌, ℕ, Option, ap, sym, subst, ◌∙◌}
-use Rattle.std.specs.Option.{ForSome}
-use Rattle.tariff_check.specs.SoundTariff.{SoundTariff}
-use Rattle.tariff_compile.specs.Tables.{weights_in_force}
-use Rattle.meter_states.specs.Core.{CoreData}
-use Rattle.meter_states.specs.Cache.{IsCachedTimeOf}
-use Rattle.meter_model.specs.Interval.{context_on}
-use Rattle.meter_model.specs.Setting.{local_at}
-use Rattle.meter_states.specs.declared.cache.CachedTime.{CachedTime}
+use Rattle.std.{specs.Option.{ForSome}, proofs.Common.{ℕ, ◌∙◌, ◌≡◌, Option, ap, subst, sym}}
+use Rattle.meter_states.specs.{Cache.{IsCachedTimeOf}, Core.{CoreData}}
+use Rattle.meter_states.specs.Common.{CachedTime, SoundTariff, context_on, local_at, weights_in_force}
 use Rattle.meter_states.proofs.meter_state.State.weights.Goals as goal
 
 pub returns-clause-rate : goal.returns-clause-rate

@@ -1,11 +1,7 @@
-use Rattle.std.proofs.Common.{◌≡◌, ◌∙◌, Bool, true, false, ℕ, ℤ, pos, negsuc, FitsSigned, if◌then◌else◌, w32, ap, sym}
-use Rattle.std.proofs.Common.{arith}
-use Rattle.std.proofs.lemmas.Int.{fits_signed_from_abs, ints, to_z-of_z}
-use Rattle.interval_clock.specs.Offsets.{IsOffset}
-use Rattle.interval_clock.specs.declared.day_numbers.CalendarDate.{CalendarDate}
+use Rattle.std.proofs.Common.{ℕ, ℤ, ◌∙◌, ◌≡◌, Bool, FitsSigned, ap, arith, false, if◌then◌else◌, negsuc, pos, sym, true}
+use Rattle.std.proofs.{Common.{w32}, lemmas.Int.{fits_signed_from_abs, ints, to_z-of_z}}
 use Rattle.offset_rules.specs.Changes.{second_of_change}
-use Rattle.offset_rules.specs.Rule.{Rule}
-use Rattle.offset_rules.specs.Summer.{is_summer, offset_by, year_of}
+use Rattle.offset_rules.specs.{Common.{CalendarDate, IsOffset}, Rule.{Rule}, Summer.{is_summer, offset_by, year_of}}
 use Rattle.offset_rules.proofs.rules.Rules.at.Goals as goal
 
 fits : (offset : ℤ) → IsOffset offset → FitsSigned w32 offset

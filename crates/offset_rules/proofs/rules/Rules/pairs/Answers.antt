@@ -1,11 +1,7 @@
-use Rattle.std.proofs.Common.{◌∙◌, ◌+◌, ◌-◌, ℕ, ℤ, List, ap, refl, subst, sym, arith}
-use Rattle.interval_clock.specs.Offsets.{IsOffsetList, offset_at}
-use Rattle.offset_rules.proofs.Bounds.{from_the_first, to_the_last, year_after}
-use Rattle.offset_rules.proofs.Listed.{all_years, grown}
-use Rattle.offset_rules.proofs.Follows.{lists_follow}
-use Rattle.offset_rules.proofs.Lawful.{lists_are_lawful}
-use Rattle.offset_rules.specs.Pairs.{IsListOf}
-use Rattle.offset_rules.proofs.Members.{lists_have_each_change}
+use Rattle.std.proofs.Common.{ℕ, ℤ, ◌+◌, ◌-◌, ◌∙◌, List, ap, arith, refl, subst, sym}
+use Rattle.offset_rules.{specs.{Common.{IsOffsetList, offset_at}, Pairs.{IsListOf}}, proofs.Lawful.{lists_are_lawful}}
+use Rattle.offset_rules.proofs.{Bounds.{from_the_first, to_the_last, year_after}, Members.{lists_have_each_change}}
+use Rattle.offset_rules.proofs.{Follows.{lists_follow}, Listed.{all_years, grown}}
 use Rattle.offset_rules.proofs.rules.Rules.pairs.Goals as goal
 
 pub at-requires : goal.at-requires

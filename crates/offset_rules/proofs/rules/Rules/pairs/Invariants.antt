@@ -1,6 +1,5 @@
-use Rattle.std.proofs.Common.{◌≡◌, ◌+◌, ◌-◌, ◌*◌, ◌≤◌}
-use Rattle.arrayvec.specs.ArrayVec.{array_vec_len}
-use Rattle.offset_rules.proofs.Listed.{so_far}
+use Rattle.std.proofs.Common.{◌*◌, ◌+◌, ◌-◌, ◌≡◌, ◌≤◌}
+use Rattle.{arrayvec.specs.ArrayVec.{array_vec_len}, offset_rules.proofs.Listed.{so_far}}
 use Rattle.offset_rules.proofs.rules.Rules.pairs.Given as goal
 
 abbrev pub invariant-loop-year : goal.invariant-loop-year

@@ -1,7 +1,5 @@
-use Rattle.std.proofs.Common.{◌≡◌, ◌∙◌, Bool, true, IsTrue, IsErr, Result, Ok, Err, ap, rules}
-use Rattle.std.specs.Result.{is_ok}
-use Rattle.std.proofs.lemmas.Bool.{false≢true}
-use Rattle.outside.specs.FileState.{DeviceState, StaysLost}
+use Rattle.std.{specs.Result.{is_ok}, proofs.Common.{◌∙◌, ◌≡◌, Bool, Err, IsErr, IsTrue, Ok, Result, ap, rules, true}}
+use Rattle.{std.proofs.lemmas.Bool.{false≢true}, outside.specs.FileState.{DeviceState, StaysLost}}
 use Rattle.outside.proofs.file_device.FileDevice.attempt_print.Goals as goal
 
 -- what is Ok is no Err

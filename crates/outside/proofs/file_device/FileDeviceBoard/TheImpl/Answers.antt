@@ -1,6 +1,5 @@
 -- A board that tells nothing has nothing in flight, prints nothing and leaves nothing, by its meanings.
-use Rattle.std.proofs.Common.{ℕ, List, Result, Ok, Err, OnOk, refl, arith}
-use Rattle.outside.specs.Disk.{Elapses}
+use Rattle.{std.proofs.Common.{ℕ, Err, List, Ok, OnOk, Result, arith, refl}, outside.specs.Disk.{Elapses}}
 use Rattle.outside.proofs.file_device.FileDeviceBoard.TheImpl.Goals as goal
 
 -- what is so is so where a call succeeded

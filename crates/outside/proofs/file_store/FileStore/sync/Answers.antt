@@ -1,5 +1,4 @@
-use Rattle.std.proofs.Common.{ap, Result, Ok, Err, OnErr}
-use Rattle.outside.specs.FileState.{is_lost}
+use Rattle.{std.proofs.Common.{Err, Ok, OnErr, Result, ap}, outside.specs.FileState.{is_lost}}
 use Rattle.outside.proofs.file_store.FileStore.sync.Goals as goal
 
 -- what is so is so if a call failed

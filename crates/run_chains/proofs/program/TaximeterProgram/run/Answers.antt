@@ -1,7 +1,5 @@
-use Rattle.std.proofs.Common.{refl}
-use Rattle.std.specs.Prelude.{map, string_bytes}
-use Rattle.commands.specs.Words.{row_of}
-use Rattle.run_chains.proofs.ChainLinks.{not_read}
+use Rattle.{std.{specs.Prelude.{map, string_bytes}, proofs.Common.{refl}}, run_chains.proofs.ChainLinks.{not_read}}
+use Rattle.run_chains.specs.Common.{row_of}
 use Rattle.run_chains.proofs.program.TaximeterProgram.run.Goals as goal
 
 pub returns-clause-ran : goal.returns-clause-ran

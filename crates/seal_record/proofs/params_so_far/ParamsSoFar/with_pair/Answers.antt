@@ -1,4 +1,4 @@
-use Rattle.std.proofs.Common.{[], ◌∷◌, ◌++◌, sym}
+use Rattle.std.proofs.Common.{[], ◌++◌, ◌∷◌, sym}
 use Rattle.seal_record.specs.contracts.params_so_far.ParamsSoFar.{the_view}
 use Rattle.seal_record.proofs.OffsetsSoFar.{lawful_so_far, said_with, said_without}
 use Rattle.seal_record.proofs.params_so_far.ParamsSoFar.with_pair.Goals as goal

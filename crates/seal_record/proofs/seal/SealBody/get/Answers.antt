@@ -1,4 +1,4 @@
-use Rattle.std.proofs.Common.{sym, ◌∙◌}
+use Rattle.std.proofs.Common.{◌∙◌, sym}
 use Rattle.seal_record.proofs.Ranged.{read_none, read_other, read_own}
 use Rattle.seal_record.proofs.seal.SealBody.get.Goals as goal
 

@@ -1,11 +1,6 @@
-use Rattle.std.proofs.Common.{◌≡◌, ◌∙◌, ◌≤◌, map, ap}
-use Rattle.std.proofs.lemmas.List.Elements.{All-weaker}
-use Rattle.tariff_check.proofs.Laws.{sound_tariffs_have_sound_parts-parts}
-use Rattle.tariff_check.specs.Cuts.{cuts_of}
-use Rattle.tariff_check.specs.declared.fault.Dimension.TheVariants.{Distance}
-use Rattle.tariff_syntax.specs.Tree.{tree_of}
-use Rattle.tariff_syntax.specs.Writable.{IsFromTo, greatest}
-use Rattle.tariff_calendar.specs.Lists.{lists_of, pulses_for}
+use Rattle.std.proofs.{Common.{◌∙◌, ◌≡◌, ◌≤◌, ap, map}, lemmas.List.Elements.{All-weaker}}
+use Rattle.{tariff_syntax.specs.Tree.{tree_of}, tariff_check.proofs.Laws.{sound_tariffs_have_sound_parts-parts}}
+use Rattle.tariff_calendar.specs.{Common.{Distance, IsFromTo, cuts_of, greatest}, Lists.{lists_of, pulses_for}}
 use Rattle.tariff_calendar.proofs.Lists.{AreOrdered-same, distances_fit}
 use Rattle.tariff_calendar.proofs.cuts.Cuts.collect.Goals as goal
 

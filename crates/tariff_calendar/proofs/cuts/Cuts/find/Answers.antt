@@ -1,6 +1,5 @@
-use Rattle.std.proofs.Common.{◌≡◌, ◌+◌, ◌≤◌, ap, subst, length, min}
-use Rattle.tariff_calendar.specs.Lists.{list_in, most_reads}
-use Rattle.tariff_calendar.proofs.Found.{at_least, enough_reads}
+use Rattle.std.proofs.Common.{◌+◌, ◌≡◌, ◌≤◌, ap, length, min, subst}
+use Rattle.tariff_calendar.{specs.Lists.{list_in, most_reads}, proofs.Found.{at_least, enough_reads}}
 use Rattle.tariff_calendar.proofs.cuts.Cuts.find.Goals as goal
 
 pub returns-clause-most : goal.returns-clause-most

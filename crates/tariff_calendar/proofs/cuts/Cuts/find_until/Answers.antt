@@ -1,6 +1,5 @@
-use Rattle.std.proofs.Common.{◌≡◌, ℕ, List, length, subst}
-use Rattle.tariff_calendar.specs.Lists.{count_at_most, most_reads}
-use Rattle.tariff_calendar.proofs.Found.{enough_reads}
+use Rattle.std.proofs.Common.{ℕ, ◌≡◌, List, length, subst}
+use Rattle.tariff_calendar.{specs.Lists.{count_at_most, most_reads}, proofs.Found.{enough_reads}}
 use Rattle.tariff_calendar.proofs.cuts.Cuts.find_until.Goals as goal
 
 pub returns-clause-same : goal.returns-clause-same

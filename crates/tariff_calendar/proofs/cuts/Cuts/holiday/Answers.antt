@@ -1,8 +1,5 @@
-use Rattle.std.proofs.Common.{◌≡◌, ◌∙◌, ◌+◌, ◌≤◌, sym, ap, subst, length, min, arith}
-use Rattle.std.proofs.lemmas.Int.{ints}
-use Rattle.tariff_calendar.proofs.Found.{at_least}
-use Rattle.tariff_calendar.proofs.Holidays.{has_day-before}
-use Rattle.tariff_calendar.specs.Lists.{CutLists}
+use Rattle.std.proofs.{Common.{◌+◌, ◌∙◌, ◌≡◌, ◌≤◌, ap, arith, length, min, subst, sym}, lemmas.Int.{ints}}
+use Rattle.tariff_calendar.{specs.Lists.{CutLists}, proofs.{Found.{at_least}, Holidays.{has_day-before}}}
 use Rattle.tariff_calendar.proofs.cuts.Cuts.holiday.Goals as goal
 
 pub returns-then-day-lt0-clause-value : goal.returns-then-day-lt0-clause-value

@@ -1,15 +1,8 @@
 use Rattle.std.proofs.Common.{◌≤◌, length, subst}
-use Rattle.tariff_check.proofs.ChoiceLaws.{kept_are}
-use Rattle.tariff_check.proofs.KindLaws.{each_kind}
-use Rattle.tariff_check.proofs.SoundParts.{own_few}
-use Rattle.tariff_check.proofs.Staging.{sound_if_none}
+use Rattle.tariff_check.specs.{Common.{ChoiceKind, Tariff, tree_of}, SoundTariff.{AreChoices, choices}}
 use Rattle.tariff_check.specs.Faults.{IsSound}
-use Rattle.tariff_check.specs.Kinds.{kept_of, part_of}
-use Rattle.tariff_check.specs.Resolved.{HasParts}
-use Rattle.tariff_check.specs.SoundTariff.{AreChoices, choices}
-use Rattle.tariff_check.specs.declared.choice.ChoiceKind.{ChoiceKind}
-use Rattle.tariff_syntax.specs.Tree.{tree_of}
-use Rattle.tariff_syntax.specs.declared.tariff.Tariff.{Tariff}
+use Rattle.tariff_check.{specs.Kinds.{kept_of, part_of}, proofs.{ChoiceLaws.{kept_are}, FaultStages.{sound_if_none}}}
+use Rattle.tariff_check.{specs.Resolved.{HasParts}, proofs.{KindLaws.{each_kind}, SoundParts.{own_few}}}
 use Rattle.tariff_check.proofs.checked.Checked.parts.Goals as goal
 
 pub returns-clause-parts : goal.returns-clause-parts

@@ -1,8 +1,5 @@
-use Rattle.std.proofs.Common.{◌≡◌, drop}
-use Rattle.std.specs.List.{position_from}
-use Rattle.tariff_check.specs.SoundTariff.{own_conditions}
-use Rattle.tariff_syntax.specs.Meaning.{holds_if}
-use Rattle.tariff_syntax.specs.Tree.{tree_of}
+use Rattle.std.{specs.List.{position_from}, proofs.Common.{◌≡◌, drop}}
+use Rattle.tariff_check.specs.{Common.{holds_if, tree_of}, SoundTariff.{own_conditions}}
 use Rattle.tariff_check.proofs.checked.Checked.place_of.Given as goal
 
 abbrev pub invariant-loop-place : goal.invariant-loop-place

@@ -1,5 +1,4 @@
-use Rattle.tariff_syntax.specs.Tree.{tree_of}
-use Rattle.tariff_check.proofs.SoundParts.{step_range}
+use Rattle.tariff_check.{specs.Common.{tree_of}, proofs.SoundParts.{step_range}}
 use Rattle.tariff_check.proofs.checked.Checked.step.Goals as goal
 
 pub returns-clause-range : goal.returns-clause-range

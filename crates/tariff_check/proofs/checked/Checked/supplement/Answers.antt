@@ -1,6 +1,5 @@
-use Rattle.std.proofs.Common.{◌∙◌, ℕ, List, ap}
-use Rattle.tariff_check.specs.SoundTariff.{supplement_numbered}
-use Rattle.tariff_check.specs.declared.values.Supplement.{Supplement}
+use Rattle.std.proofs.Common.{ℕ, ◌∙◌, List, ap}
+use Rattle.tariff_check.specs.{Common.{Supplement}, SoundTariff.{supplement_numbered}}
 use Rattle.tariff_check.proofs.checked.Checked.supplement.Goals as goal
 
 pub returns-clause-value : goal.returns-clause-value

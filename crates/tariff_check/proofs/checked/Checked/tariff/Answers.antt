@@ -1,8 +1,5 @@
-use Rattle.std.proofs.Common.{subst}
-use Rattle.tariff_check.proofs.Staging.{sound_if_none}
-use Rattle.tariff_check.specs.Faults.{IsSound}
-use Rattle.tariff_syntax.specs.Tree.{tree_of}
-use Rattle.tariff_syntax.specs.declared.tariff.Tariff.{Tariff}
+use Rattle.{std.proofs.Common.{subst}, tariff_check.{specs.Faults.{IsSound}, proofs.FaultStages.{sound_if_none}}}
+use Rattle.tariff_check.specs.Common.{Tariff, tree_of}
 use Rattle.tariff_check.proofs.checked.Checked.tariff.Goals as goal
 
 pub returns-clause-sound : goal.returns-clause-sound

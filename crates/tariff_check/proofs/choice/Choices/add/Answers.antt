@@ -1,8 +1,5 @@
-use Rattle.std.proofs.Common.{◌∙◌, ◌++◌, ◌∷◌, [], ap, sym}
-use Rattle.std.proofs.lemmas.List.{append-nil}
-use Rattle.std.proofs.lemmas.Result.{on_ok_weaker}
-use Rattle.tariff_check.specs.Kinds.{RateNumbers}
-use Rattle.tariff_check.specs.declared.choice.Choice.{Choice}
+use Rattle.std.proofs.{Common.{[], ◌++◌, ◌∙◌, ◌∷◌, ap, sym}, lemmas.{List.{append-nil}, Result.{on_ok_weaker}}}
+use Rattle.tariff_check.specs.{Common.{Choice}, Kinds.{RateNumbers}}
 use Rattle.tariff_check.proofs.choice.Choices.add.Goals as goal
 
 pub returns-in-Rate : goal.returns-in-Rate

@@ -1,6 +1,4 @@
-use Rattle.std.proofs.Common.{subst, sym}
-use Rattle.tariff_compare.specs.Grids.{IsGridOf}
-use Rattle.tariff_compare.proofs.GridIs.{is_grid}
+use Rattle.{std.proofs.Common.{subst, sym}, tariff_compare.{specs.Grids.{IsGridOf}, proofs.GridIs.{is_grid}}}
 use Rattle.tariff_compare.proofs.grid.Grid.of.Goals as goal
 
 pub returns-in-Ok-clause-both : goal.returns-in-Ok-clause-both

@@ -1,7 +1,4 @@
-use Rattle.std.proofs.Common.{List, ap}
-use Rattle.tariff_check.specs.Parts.{RateNumbers}
-use Rattle.tariff_compile.specs.Tables.{tables_of}
-use Rattle.tariff_syntax.specs.Tree.{tree_of}
+use Rattle.{std.proofs.Common.{List, ap}, tariff_compare.specs.Common.{RateNumbers, tables_of, tree_of}}
 use Rattle.tariff_compare.specs.Sides.{SideParts}
 use Rattle.tariff_compare.proofs.side.Side.of.Goals as goal
 

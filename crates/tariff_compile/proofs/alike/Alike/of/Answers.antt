@@ -1,6 +1,5 @@
-use Rattle.std.proofs.Common.{refl, arith}
-use Rattle.std.proofs.lemmas.Option.{slice_get_read, slice_get_within}
-use Rattle.tariff_compile.proofs.Agreeing.{agree_more}
+use Rattle.std.proofs.{Common.{arith, refl}, lemmas.Option.{slice_get_read, slice_get_within}}
+use Rattle.tariff_compile.proofs.SameInContexts.{agree_more}
 use Rattle.tariff_compile.proofs.alike.Alike.of.Goals as goal
 
 pub loop-place-preserved : goal.loop-place-preserved

@@ -1,4 +1,4 @@
-use Rattle.tariff_compile.proofs.Agreeing.{AgreeBefore}
+use Rattle.tariff_compile.proofs.SameInContexts.{AgreeBefore}
 use Rattle.tariff_compile.proofs.alike.Alike.of.Given as goal
 
 abbrev pub invariant-loop-place : goal.invariant-loop-place

@@ -1,7 +1,5 @@
-use Rattle.std.proofs.Common.{◌∙◌, ◌==◌, ap, w64}
-use Rattle.std.proofs.lemmas.Nat.Bits.{bit_at_set_other, bit_at_set_same}
-use Rattle.tariff_compile.specs.Marks.{is_marked}
-use Rattle.tariff_compile.proofs.Bits.{or_true}
+use Rattle.std.proofs.{Common.{◌==◌, ◌∙◌, ap, w64}, lemmas.Nat.Bits.{bit_at_set_other, bit_at_set_same}}
+use Rattle.tariff_compile.{specs.Marks.{is_marked}, proofs.Bits.{or_true}}
 use Rattle.tariff_compile.proofs.marks.Marks.and_at.Goals as goal
 
 pub returns-then-marked-clause-here : goal.returns-then-marked-clause-here

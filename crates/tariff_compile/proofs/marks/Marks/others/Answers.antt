@@ -1,5 +1,4 @@
-use Rattle.std.proofs.Common.{arith}
-use Rattle.tariff_compile.proofs.Bits.{bit_other}
+use Rattle.{std.proofs.Common.{arith}, tariff_compile.proofs.Bits.{bit_other}}
 use Rattle.tariff_compile.proofs.marks.Marks.others.Goals as goal
 
 pub returns : goal.returns

@@ -1,7 +1,5 @@
 use Rattle.std.proofs.Common.{◌∙◌, ap}
-use Rattle.tariff_compile.specs.Tables.{TableParts}
-use Rattle.tariff_compile.proofs.Compiled.{lines_in_is}
-use Rattle.tariff_compile.proofs.EachKind.{initial-below}
+use Rattle.tariff_compile.{specs.Tables.{TableParts}, proofs.{Compiled.{lines_in_is}, EachKind.{initial-below}}}
 use Rattle.tariff_compile.proofs.tables.Tables.fees_at.Goals as goal
 
 pub bounds-as_slice-lines : goal.bounds-as_slice-lines

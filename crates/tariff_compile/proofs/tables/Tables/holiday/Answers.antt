@@ -1,8 +1,5 @@
-use Rattle.std.proofs.Common.{◌∙◌, ap, sym, w32, FitsSigned, rules}
-use Rattle.std.proofs.lemmas.Int.{to_z-of_z}
-use Rattle.tariff_calendar.specs.Lists.{has_day}
-use Rattle.tariff_compile.specs.Tables.{TableParts}
-use Rattle.tariff_compile.proofs.Compiled.{holiday-dates, holiday-some}
+use Rattle.std.proofs.{Common.{◌∙◌, FitsSigned, ap, rules, sym, w32}, lemmas.Int.{to_z-of_z}}
+use Rattle.tariff_compile.{specs.{Common.{has_day}, Tables.{TableParts}}, proofs.Compiled.{holiday-dates, holiday-some}}
 use Rattle.tariff_compile.proofs.tables.Tables.holiday.Goals as goal
 
 pub returns-clause-value : goal.returns-clause-value

@@ -1,11 +1,8 @@
-use Rattle.std.proofs.Common.{◌∙◌, ap, sym, subst}
-use Rattle.tariff_check.proofs.Laws.{hirings_begin_with_first_lines-fit}
-use Rattle.tariff_compile.specs.Cells.{bands_at}
-use Rattle.tariff_compile.specs.Tables.{TableParts, fees_named, parts_of}
-use Rattle.tariff_check.specs.Amounts.{IsFitInitial}
+use Rattle.std.proofs.Common.{◌∙◌, ap, subst, sym}
+use Rattle.tariff_check.{specs.Amounts.{IsFitInitial}, proofs.Laws.{hirings_begin_with_first_lines-fit}}
+use Rattle.tariff_compile.specs.{Cells.{bands_at}, Common.{at_hiring}, Tables.{TableParts, fees_named, parts_of}}
 use Rattle.tariff_compile.proofs.Compiled.{bands-below, in_range-hiring, lines-found_at, nothing_at_hiring}
 use Rattle.tariff_compile.proofs.EachKind.{fees_of_lines, initial-below}
-use Rattle.tariff_syntax.specs.Meaning.{at_hiring}
 use Rattle.tariff_compile.proofs.tables.Tables.initial_at.Goals as goal
 
 pub bands_at_hiring-bands-requires-clause-distance : goal.bands_at_hiring-bands-requires-clause-distance

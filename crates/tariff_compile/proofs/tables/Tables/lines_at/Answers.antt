@@ -1,6 +1,5 @@
-use Rattle.std.proofs.Common.{◌∙◌, ◌<◌, ap, subst, arith}
-use Rattle.tariff_compile.specs.Cells.{bands_at, cell_count}
-use Rattle.tariff_compile.specs.Tables.{IsCompiled, TableParts, sizes_for}
+use Rattle.std.proofs.Common.{◌<◌, ◌∙◌, ap, arith, subst}
+use Rattle.tariff_compile.specs.{Cells.{bands_at, cell_count}, Tables.{IsCompiled, TableParts, sizes_for}}
 use Rattle.tariff_compile.proofs.Compiled.{bands-below, length-cells, sizes_for-most}
 use Rattle.tariff_compile.proofs.tables.Tables.lines_at.Goals as goal
 

@@ -1,9 +1,6 @@
-use Rattle.std.proofs.Common.{◌∙◌, ap, subst, List, get_or, arith}
-use Rattle.tariff_compile.specs.Cells.{cell_number}
-use Rattle.tariff_compile.specs.Tables.{IsCompiled, TableParts, sizes_for}
-use Rattle.tariff_compile.specs.declared.parts.Bands.{Bands}
-use Rattle.tariff_compile.specs.declared.cells.CellLines.{CellLines}
-use Rattle.tariff_compile.proofs.Compiled.{length-cells, sizes_for-most}
+use Rattle.std.proofs.Common.{◌∙◌, List, ap, arith, get_or, subst}
+use Rattle.tariff_compile.{specs.Cells.{cell_number}, proofs.Compiled.{length-cells, sizes_for-most}}
+use Rattle.tariff_compile.specs.{Common.{Bands, CellLines}, Tables.{IsCompiled, TableParts, sizes_for}}
 use Rattle.tariff_compile.proofs.tables.Tables.lines_of.Goals as goal
 
 pub cell_number-requires-clause-below : goal.cell_number-requires-clause-below

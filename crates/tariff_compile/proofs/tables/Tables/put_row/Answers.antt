@@ -1,5 +1,4 @@
-use Rattle.std.proofs.Common.{Fits, w64, arith}
-use Rattle.tariff_compile.proofs.EachKind.{row_short}
+use Rattle.{std.proofs.Common.{Fits, arith, w64}, tariff_compile.proofs.EachKind.{row_short}}
 use Rattle.tariff_compile.proofs.tables.Tables.put_row.Goals as goal
 
 pub returns-clause-short : goal.returns-clause-short

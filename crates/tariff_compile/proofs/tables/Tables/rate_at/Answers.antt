@@ -1,8 +1,5 @@
-use Rattle.std.proofs.Common.{◌∙◌, ap, sym, subst, List, get_or, length, ◌<◌}
-use Rattle.std.proofs.lemmas.List.Elements.{All-get_or}
-use Rattle.drive_modes.specs.declared.charges.Weights.{Weights}
-use Rattle.tariff_compile.specs.Cells.{bands_at}
-use Rattle.tariff_compile.specs.Tables.{AreFit, TableParts}
+use Rattle.std.proofs.{Common.{◌<◌, ◌∙◌, List, ap, get_or, length, subst, sym}, lemmas.List.Elements.{All-get_or}}
+use Rattle.tariff_compile.specs.{Cells.{bands_at}, Common.{Weights}, Tables.{AreFit, TableParts}}
 use Rattle.tariff_compile.proofs.Compiled.{bands-below, lines-found_at, rate-below, rate-weights, weights-fit}
 use Rattle.tariff_compile.proofs.tables.Tables.rate_at.Goals as goal
 

@@ -1,5 +1,4 @@
-use Rattle.std.proofs.Common.{subst}
-use Rattle.tariff_compile.specs.Tables.{IsFit}
+use Rattle.{std.proofs.Common.{subst}, tariff_compile.specs.Tables.{IsFit}}
 use Rattle.tariff_compile.proofs.tables.Tables.recall.Goals as goal
 
 pub returns-clause-fit : goal.returns-clause-fit

@@ -1,10 +1,9 @@
-use Rattle.std.proofs.Common.{List, Option, ◌∙◌, ap, get_or, ◌-◌, arith}
-use Rattle.tariff_check.specs.declared.values.Supplement.{Supplement}
+use Rattle.std.proofs.Common.{◌-◌, ◌∙◌, List, Option, ap, arith, get_or}
+use Rattle.tariff_compile.{specs.Common.{Supplement}, proofs.Compiled.{supplement-none, supplement-there}}
 use Rattle.tariff_compile.specs.Tables.{TableParts}
-use Rattle.tariff_compile.proofs.Compiled.{supplement-none, supplement-there}
-use Rattle.tariff_compile.proofs.tables.Tables.supplement.Goals as goal
-use Rattle.tariff_compile.proofs.tables.Tables.supplement.Goals.{then-number-lt1-via-then-number-lt1}
 use Rattle.tariff_compile.proofs.tables.Tables.supplement.Goals.{then-number-lt1-via-else-number-lt1+then-number-gt16}
+use Rattle.tariff_compile.proofs.tables.Tables.supplement.Goals.{then-number-lt1-via-then-number-lt1}
+use Rattle.tariff_compile.proofs.tables.Tables.supplement.Goals as goal
 
 pub returns-then-number-lt1-clause-tree : goal.returns-then-number-lt1-clause-tree
 returns-then-number-lt1-clause-tree g c = λ t is. supplement-none t c.args.self.now c.args.number is (λ range.

@@ -1,4 +1,4 @@
-use Rattle.std.proofs.Common.{◌+◌, ◌-◌, ◌/◌, arith, sym, inr, ◌≡◌}
+use Rattle.std.proofs.Common.{◌+◌, ◌-◌, ◌/◌, ◌≡◌, arith, inr, sym}
 use Rattle.taxi_units.proofs.Halvings.{count_by-at, ends_after, fails_after, passes_before}
 use Rattle.taxi_units.proofs.counted.Counted.at_most.Goals as goal
 

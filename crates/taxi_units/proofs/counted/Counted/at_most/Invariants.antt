@@ -1,6 +1,5 @@
-use Rattle.std.proofs.Common.{◌≡◌, ℕ, ◌+◌, ◌-◌, ◌<◌, ◌≤◌, ◌^◌, ◌⊎◌, true, false, length, get_or, MatchOption}
-use Rattle.taxi_units.specs.Counted.{IsLastOf}
-use Rattle.taxi_units.specs.Halving.{EndsWithin}
+use Rattle.std.proofs.Common.{ℕ, ◌+◌, ◌-◌, ◌<◌, ◌^◌, ◌≡◌, ◌≤◌, ◌⊎◌, MatchOption, false, get_or, length, true}
+use Rattle.taxi_units.specs.{Counted.{IsLastOf}, Halving.{EndsWithin}}
 use Rattle.taxi_units.proofs.counted.Counted.at_most.Given as goal
 
 -- the elements before `count` are at most the key, those from `end` on aren't

@@ -1,11 +1,6 @@
-use Rattle.std.proofs.Common.{ℕ, List, sym, ◌∙◌, ap, Some}
-use Rattle.std.proofs.lemmas.Bool.{not-false, not-true}
-use Rattle.std.specs.Str.{bytes_eq}
-use Rattle.slot_bodies.proofs.Laws.{not_in_range, other_bytes, own_bytes}
-use Rattle.totals_record.specs.declared.durable_state.Durable.{Durable}
-use Rattle.totals_record.specs.Reading.{decoded, reads}
-use Rattle.totals_record.specs.Spelling.{spelling}
-use Rattle.totals_record.specs.Table.{durable_test}
+use Rattle.std.{specs.Str.{bytes_eq}, proofs.{Common.{ℕ, ◌∙◌, List, Some, ap, sym}, lemmas.Bool.{not-false, not-true}}}
+use Rattle.{slot_bodies.proofs.Laws.{not_in_range, other_bytes, own_bytes}, totals_record.specs.Table.{durable_test}}
+use Rattle.totals_record.specs.{Common.{Durable}, Reading.{decoded, reads}, Spelling.{spelling}}
 use Rattle.totals_record.proofs.body.DurableBody.get.Goals as goal
 
 pub returns-then-not-is_durable : goal.returns-then-not-is_durable

@@ -1,8 +1,7 @@
-use Rattle.std.proofs.Common.{◌≡◌, ◌+◌, ◌∙◌, if◌then◌else◌, None, sym}
-use Rattle.totals_record.specs.Entries.{closes}
-use Rattle.totals_record.specs.Ranges.{newest_layout}
+use Rattle.std.proofs.Common.{◌+◌, ◌∙◌, ◌≡◌, None, if◌then◌else◌, sym}
+use Rattle.totals_record.specs.{Entries.{closes}, Ranges.{newest_layout}}
+use Rattle.totals_record.proofs.durable_state.Durable.after_entry.Goals.{else-closes, then-closes}
 use Rattle.totals_record.proofs.durable_state.Durable.after_entry.Goals as goal
-use Rattle.totals_record.proofs.durable_state.Durable.after_entry.Goals.{then-closes, else-closes}
 
 pub returns : goal.returns
 returns c =

@@ -1,11 +1,7 @@
-use Rattle.std.proofs.Common.{◌≡◌, ◌⊎◌, ◌∙◌, sym, arith, rules}
-use Rattle.std.proofs.lemmas.Grind.{common_steps}
-use Rattle.std.proofs.lemmas.Result.{on_ok_weaker}
-use Rattle.meter_model.specs.Interval.{context_now}
-use Rattle.taxi_units.specs.declared.event.Key.TheVariants as keys
-use Rattle.taxi_units.specs.declared.event.Operating.TheVariants.{ForHire, Hired, Stopped}
+use Rattle.std.proofs.{Common.{◌∙◌, ◌≡◌, ◌⊎◌, arith, rules, sym}, lemmas.{Grind.{common_steps}, Result.{on_ok_weaker}}}
+use Rattle.verify_bench.{specs.Common.{ForHire, Hired, Stopped, context_now}, proofs.Benches.{acts_by, acts_by_either}}
 use Rattle.verify_bench.specs.Settings.{setting_under}
-use Rattle.verify_bench.proofs.Benches.{acts_by, acts_by_either}
+use Rattle.taxi_units.specs.declared.event.Key.TheVariants as keys
 use Rattle.verify_bench.proofs.bench_meter.BenchMeter.act.Goals as goal
 
 pub returns-in-Hire-ForHire-clause-moves : goal.returns-in-Hire-ForHire-clause-moves

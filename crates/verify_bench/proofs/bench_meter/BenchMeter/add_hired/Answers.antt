@@ -1,6 +1,4 @@
-use Rattle.std.proofs.lemmas.Result.{on_ok_weaker}
-use Rattle.meter_model.specs.Trip.{InHired}
-use Rattle.verify_bench.specs.Settings.{setting_under}
+use Rattle.{std.proofs.lemmas.Result.{on_ok_weaker}, verify_bench.specs.{Common.{InHired}, Settings.{setting_under}}}
 use Rattle.verify_bench.proofs.Benches.{stands_with}
 use Rattle.verify_bench.proofs.bench_meter.BenchMeter.add_hired.Goals as goal
 

@@ -1,5 +1,4 @@
-use Rattle.meter_model.specs.Trip.{Rest}
-use Rattle.verify_bench.proofs.Benches.{stands_with}
+use Rattle.verify_bench.{specs.Common.{Rest}, proofs.Benches.{stands_with}}
 use Rattle.verify_bench.proofs.bench_meter.BenchMeter.add_rest.Goals as goal
 
 pub returns-in-Some-clause-stands : goal.returns-in-Some-clause-stands

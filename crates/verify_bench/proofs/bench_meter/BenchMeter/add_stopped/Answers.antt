@@ -1,5 +1,4 @@
-use Rattle.meter_model.specs.Trip.{InStopped}
-use Rattle.verify_bench.proofs.Benches.{stands_with}
+use Rattle.verify_bench.{specs.Common.{InStopped}, proofs.Benches.{stands_with}}
 use Rattle.verify_bench.proofs.bench_meter.BenchMeter.add_stopped.Goals as goal
 
 pub returns-in-Some-clause-stands : goal.returns-in-Some-clause-stands

@@ -1,9 +1,6 @@
-use Rattle.std.proofs.Common.{◌≡◌, ◌∙◌, sym, Some}
-use Rattle.std.proofs.lemmas.Result.{on_ok_weaker}
-use Rattle.tariff_check.specs.Parts.{supplement_of}
-use Rattle.tariff_syntax.specs.Tree.{tree_of}
+use Rattle.std.proofs.{Common.{◌∙◌, ◌≡◌, Some, sym}, lemmas.Result.{on_ok_weaker}}
+use Rattle.verify_bench.{specs.Common.{supplement_of, tree_of}, proofs.TreeParts.{sound_supplement}}
 use Rattle.verify_bench.specs.Settings.{setting_under}
-use Rattle.verify_bench.proofs.TreeParts.{sound_supplement}
 use Rattle.verify_bench.proofs.bench_meter.BenchMeter.add_supplement.Goals as goal
 
 pub add_up_to-requires-clause-number : goal.add_up_to-requires-clause-number

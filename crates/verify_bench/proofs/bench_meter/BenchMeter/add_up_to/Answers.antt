@@ -1,4 +1,4 @@
-use Rattle.std.proofs.Common.{ℕ, ◌<◌, subst, Result, Ok, Err, OnOk}
+use Rattle.std.proofs.Common.{ℕ, ◌<◌, Err, Ok, OnOk, Result, subst}
 use Rattle.verify_bench.proofs.Benches.{moves_extra}
 use Rattle.verify_bench.proofs.bench_meter.BenchMeter.add_up_to.Goals as goal
 

@@ -1,5 +1,4 @@
-use Rattle.verify_bench.specs.Settings.{setting_under}
-use Rattle.verify_bench.proofs.Carried.{carries_event}
+use Rattle.verify_bench.{specs.Settings.{setting_under}, proofs.Carried.{carries_event}}
 use Rattle.verify_bench.proofs.bench_meter.BenchMeter.carry.Goals as goal
 
 pub returns-clause-carries : goal.returns-clause-carries

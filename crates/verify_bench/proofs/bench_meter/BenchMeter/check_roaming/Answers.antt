@@ -1,8 +1,7 @@
 use Rattle.std.proofs.Common.{◌≡◌}
-use Rattle.taxi_units.specs.declared.event.Operating.TheVariants.{ForHire}
-use Rattle.verify_bench.proofs.Benches.{roams}
+use Rattle.verify_bench.specs.Common.{ForHire}
+use Rattle.verify_bench.proofs.{Benches.{roams}, bench_meter.BenchMeter.check_roaming.Goals.{in-ForHire, in_default}}
 use Rattle.verify_bench.proofs.bench_meter.BenchMeter.check_roaming.Goals as goal
-use Rattle.verify_bench.proofs.bench_meter.BenchMeter.check_roaming.Goals.{in-ForHire, in_default}
 
 pub enter_roaming-requires-clause-none : goal.enter_roaming-requires-clause-none
 enter_roaming-requires-clause-none c =

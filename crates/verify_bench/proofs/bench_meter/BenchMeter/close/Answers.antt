@@ -1,7 +1,5 @@
-use Rattle.std.proofs.Common.{rules, ◌≡◌, ◌∙◌, ◌++◌, ◌∷◌, [], OnOk, sym}
-use Rattle.std.proofs.lemmas.Result.{on_ok_weaker}
-use Rattle.verify_bench.specs.Settings.{setting_under}
-use Rattle.verify_bench.proofs.Benches.{closes_trip, few_numbers}
+use Rattle.std.proofs.{Common.{[], ◌++◌, ◌∙◌, ◌∷◌, ◌≡◌, OnOk, rules, sym}, lemmas.Result.{on_ok_weaker}}
+use Rattle.verify_bench.{specs.Settings.{setting_under}, proofs.Benches.{closes_trip, few_numbers}}
 use Rattle.verify_bench.proofs.bench_meter.BenchMeter.close.Goals as goal
 
 pub returns-in_ok-explained-in-Some-clause-moves : goal.returns-in_ok-explained-in-Some-clause-moves

@@ -1,8 +1,5 @@
-use Rattle.std.proofs.lemmas.Result.{on_ok_weaker}
-use Rattle.meter_model.specs.Display.{shown}
-use Rattle.meter_model.specs.Supply.{hold_taken, powered}
-use Rattle.verify_bench.specs.Settings.{setting_under}
-use Rattle.verify_bench.proofs.Benches.{moves_shown, moves_then}
+use Rattle.{std.proofs.lemmas.Result.{on_ok_weaker}, verify_bench.specs.Common.{hold_taken, powered, shown}}
+use Rattle.verify_bench.{specs.Settings.{setting_under}, proofs.Benches.{moves_shown, moves_then}}
 use Rattle.verify_bench.proofs.bench_meter.BenchMeter.come_up.Goals as goal
 
 pub returns-clause-moves : goal.returns-clause-moves

@@ -1,7 +1,5 @@
-use Rattle.std.proofs.Common.{◌≡◌, ◌∙◌, ℕ, ap}
-use Rattle.meter_model.specs.Interval.{context_of, context_on}
-use Rattle.meter_model.specs.Setting.{local_at}
-use Rattle.verify_bench.specs.Settings.{setting_under}
+use Rattle.std.proofs.Common.{ℕ, ◌∙◌, ◌≡◌, ap}
+use Rattle.verify_bench.specs.{Common.{context_of, context_on, local_at}, Settings.{setting_under}}
 use Rattle.verify_bench.proofs.Benches.{counted_hired}
 use Rattle.verify_bench.proofs.bench_meter.BenchMeter.count_interval.Goals as goal
 

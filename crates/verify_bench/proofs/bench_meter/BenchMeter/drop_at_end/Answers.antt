@@ -1,8 +1,5 @@
-use Rattle.std.proofs.Common.{◌≢◌, ◌∙◌, rules}
-use Rattle.std.proofs.lemmas.Result.{on_ok_weaker}
-use Rattle.taxi_units.specs.declared.event.Operating.TheVariants.{Off}
-use Rattle.verify_bench.specs.Settings.{setting_under}
-use Rattle.verify_bench.proofs.BenchSupply.{ended_on}
+use Rattle.std.proofs.{Common.{◌∙◌, ◌≢◌, rules}, lemmas.Result.{on_ok_weaker}}
+use Rattle.verify_bench.{specs.{Common.{Off}, Settings.{setting_under}}, proofs.BenchSupply.{ended_on}}
 use Rattle.verify_bench.proofs.bench_meter.BenchMeter.drop_at_end.Goals as goal
 
 pub returns-in-ForHire : goal.returns-in-ForHire

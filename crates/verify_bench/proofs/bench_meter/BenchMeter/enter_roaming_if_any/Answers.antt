@@ -1,5 +1,4 @@
-use Rattle.std.proofs.Common.{arith}
-use Rattle.verify_bench.proofs.BenchSupply.{keeps_roaming}
+use Rattle.{std.proofs.Common.{arith}, verify_bench.proofs.BenchSupply.{keeps_roaming}}
 use Rattle.verify_bench.proofs.bench_meter.BenchMeter.enter_roaming_if_any.Goals as goal
 
 pub returns-clause-moves : goal.returns-clause-moves

@@ -1,14 +1,6 @@
-use Rattle.std.proofs.Common.{◌≡◌, ◌≢◌, ◌∙◌, rules, subst, sym}
-use Rattle.std.proofs.lemmas.Result.{on_ok_weaker}
-use Rattle.meter_model.specs.Step.{step, step_in}
-use Rattle.taxi_units.specs.declared.event.Event.{Event}
-use Rattle.taxi_units.specs.declared.event.Event.TheVariants.{Up}
-use Rattle.taxi_units.specs.declared.event.Operating.{Operating}
-use Rattle.taxi_units.specs.declared.event.Operating.TheVariants.{Off}
-use Rattle.verify_bench.specs.Bench.{Moves}
-use Rattle.verify_bench.specs.Explaining.{hired_at, trip_at}
-use Rattle.verify_bench.specs.Settings.{setting_under}
-use Rattle.verify_bench.proofs.BenchSupply.{step_on}
+use Rattle.std.proofs.{Common.{◌∙◌, ◌≡◌, ◌≢◌, rules, subst, sym}, lemmas.Result.{on_ok_weaker}}
+use Rattle.verify_bench.{specs.{Bench.{Moves}, Settings.{setting_under}}, proofs.BenchSupply.{step_on}}
+use Rattle.verify_bench.specs.{Common.{Event, Off, Operating, Up, step, step_in}, TripExplanations.{hired_at, trip_at}}
 use Rattle.verify_bench.proofs.bench_meter.BenchMeter.event.Goals as goal
 
 pub returns-in-Up-clause-moves : goal.returns-in-Up-clause-moves

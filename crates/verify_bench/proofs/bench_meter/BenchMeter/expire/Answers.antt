@@ -1,10 +1,6 @@
-use Rattle.std.proofs.Common.{None, refl}
-use Rattle.meter_model.specs.Closing.{closed}
-use Rattle.meter_model.specs.Meter.{Meter}
-use Rattle.meter_model.specs.Step.{latch_refused}
-use Rattle.taxi_units.specs.declared.receipt.Kind.TheVariants.{Expired}
+use Rattle.{std.proofs.Common.{None, refl}, taxi_units.specs.declared.receipt.Kind.TheVariants.{Expired}}
+use Rattle.verify_bench.{specs.Common.{Meter, closed, latch_refused}, proofs.Benches.{latch_lost, moves_then}}
 use Rattle.verify_bench.specs.Settings.{setting_under}
-use Rattle.verify_bench.proofs.Benches.{latch_lost, moves_then}
 use Rattle.verify_bench.proofs.bench_meter.BenchMeter.expire.Goals as goal
 
 pub returns-clause-moves : goal.returns-clause-moves

@@ -1,13 +1,7 @@
-use Rattle.std.proofs.Common.{◌≡◌, ◌≢◌, ◌∙◌, sym, refl, arith, true, false, None, Some}
-use Rattle.std.specs.Prelude.{nat_le}
-use Rattle.std.proofs.lemmas.Bool.{le-leb, lt-leb}
-use Rattle.std.proofs.lemmas.Result.{on_ok_weaker}
-use Rattle.meter_model.specs.Interval.{context_now, ticks_so_far}
-use Rattle.taxi_units.specs.Time.{longest_trip}
-use Rattle.taxi_units.specs.declared.event.Operating.TheVariants.{ForHire}
-use Rattle.verify_bench.specs.Settings.{setting_under}
-use Rattle.verify_bench.proofs.BenchSupply.{no_ticks, still_hired}
-use Rattle.verify_bench.proofs.Benches.{stands_anew}
+use Rattle.std.{specs.Prelude.{nat_le}, proofs.lemmas.Result.{on_ok_weaker}}
+use Rattle.std.proofs.{Common.{◌∙◌, ◌≡◌, ◌≢◌, None, Some, arith, false, refl, sym, true}, lemmas.Bool.{le-leb, lt-leb}}
+use Rattle.verify_bench.specs.{Common.{ForHire, context_now, longest_trip, ticks_so_far}, Settings.{setting_under}}
+use Rattle.verify_bench.proofs.{BenchSupply.{no_ticks, still_hired}, Benches.{stands_anew}}
 use Rattle.verify_bench.proofs.bench_meter.BenchMeter.expire_or_press.Goals as goal
 
 pub returns-then-ticks-ge-LONGEST_TRIP-clause-moves : goal.returns-then-ticks-ge-LONGEST_TRIP-clause-moves

@@ -1,5 +1,4 @@
-use Rattle.std.proofs.Common.{arith}
-use Rattle.std.proofs.lemmas.Grind.{common_steps}
+use Rattle.std.proofs.{Common.{arith}, lemmas.Grind.{common_steps}}
 use Rattle.verify_bench.proofs.bench_meter.BenchMeter.go_down.Goals as goal
 
 pub returns-clause-moves : goal.returns-clause-moves

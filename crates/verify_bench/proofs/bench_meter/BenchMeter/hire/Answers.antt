@@ -1,12 +1,7 @@
-use Rattle.std.proofs.Common.{◌≡◌, ◌∙◌, ℕ, ap, sym, refl, false, arith}
-use Rattle.std.specs.Prelude.{nat_le}
-use Rattle.meter_model.specs.Interval.{context_now, context_on}
-use Rattle.meter_model.specs.Keys.{hired}
-use Rattle.meter_model.specs.Setting.{local_at}
-use Rattle.taxi_units.specs.Limits.{hirings_end}
+use Rattle.std.{specs.Prelude.{nat_le}, proofs.Common.{ℕ, ◌∙◌, ◌≡◌, ap, arith, false, refl, sym}}
+use Rattle.{meter_model.specs.Keys.{hired}, verify_bench.specs.Common.{context_now, context_on, hirings_end, local_at}}
 use Rattle.verify_bench.specs.Fees.{fees_of_hiring}
-use Rattle.verify_bench.specs.Settings.{setting_under}
-use Rattle.verify_bench.proofs.Benches.{hires_yet, moves_quietly}
+use Rattle.verify_bench.{specs.Settings.{setting_under}, proofs.Benches.{hires_yet, moves_quietly}}
 use Rattle.verify_bench.proofs.bench_meter.BenchMeter.hire.Goals as goal
 
 pub returns-clause-moves : goal.returns-clause-moves

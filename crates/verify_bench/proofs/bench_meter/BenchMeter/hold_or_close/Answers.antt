@@ -1,11 +1,6 @@
-use Rattle.std.proofs.Common.{Option, subst, sym}
-use Rattle.std.proofs.lemmas.Result.{on_ok_weaker}
-use Rattle.meter_model.specs.Supply.{held_or_closed}
-use Rattle.meter_model.specs.Trip.{MeterTrip}
-use Rattle.verify_bench.specs.Bench.{Moves}
-use Rattle.verify_bench.specs.Settings.{setting_under}
-use Rattle.verify_bench.proofs.BenchSupply.{holds_no_more, holds_yet}
-use Rattle.verify_bench.proofs.Benches.{trip_beside}
+use Rattle.std.proofs.{Common.{Option, subst, sym}, lemmas.Result.{on_ok_weaker}}
+use Rattle.verify_bench.{specs.{Bench.{Moves}, Settings.{setting_under}}, proofs.Benches.{trip_beside}}
+use Rattle.verify_bench.{specs.Common.{MeterTrip, held_or_closed}, proofs.BenchSupply.{holds_no_more, holds_yet}}
 use Rattle.verify_bench.proofs.bench_meter.BenchMeter.hold_or_close.Goals as goal
 
 pub returns-then-self-lt-LAST_NUMBER-clause-moves : goal.returns-then-self-lt-LAST_NUMBER-clause-moves

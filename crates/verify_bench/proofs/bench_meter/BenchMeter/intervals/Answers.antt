@@ -1,7 +1,6 @@
 use Rattle.std.proofs.Common.{◌≡◌, arith}
-use Rattle.drive_text.specs.Runs.{interval_events, intervals_events}
-use Rattle.verify_bench.specs.Settings.{setting_under}
-use Rattle.verify_bench.proofs.Carried.{carries_none, carries_then, intervals_more}
+use Rattle.verify_bench.specs.Common.{interval_events, intervals_events}
+use Rattle.verify_bench.{specs.Settings.{setting_under}, proofs.Carried.{carries_none, carries_then, intervals_more}}
 use Rattle.verify_bench.proofs.bench_meter.BenchMeter.intervals.Goals as goal
 
 pub loop-place-init : goal.loop-place-init

@@ -1,7 +1,5 @@
-use Rattle.drive_text.specs.Runs.{intervals_events}
 use Rattle.verify_bench.specs.Bench.{IsMeterInRange}
-use Rattle.verify_bench.specs.Carrying.{Carries}
-use Rattle.verify_bench.specs.Settings.{setting_under}
+use Rattle.verify_bench.specs.{BenchProgress.{Carries}, Common.{intervals_events}, Settings.{setting_under}}
 use Rattle.verify_bench.proofs.bench_meter.BenchMeter.intervals.Given as goal
 
 abbrev pub invariant-loop-place : goal.invariant-loop-place

@@ -1,10 +1,5 @@
-use Rattle.std.proofs.Common.{subst, sym}
-use Rattle.std.proofs.lemmas.Result.{on_ok_weaker}
-use Rattle.meter_model.specs.Step.{powered_step}
-use Rattle.taxi_units.specs.declared.event.Event.{Event}
-use Rattle.verify_bench.specs.Bench.{Moves}
-use Rattle.verify_bench.specs.Explaining.{hired_at, trip_at}
-use Rattle.verify_bench.specs.Settings.{setting_under}
+use Rattle.{std.proofs.{Common.{subst, sym}, lemmas.Result.{on_ok_weaker}}, verify_bench.specs.Settings.{setting_under}}
+use Rattle.verify_bench.specs.{Bench.{Moves}, Common.{Event, powered_step}, TripExplanations.{hired_at, trip_at}}
 use Rattle.verify_bench.proofs.bench_meter.BenchMeter.powered_event.Goals as goal
 
 pub returns-in-Down-clause-moves : goal.returns-in-Down-clause-moves

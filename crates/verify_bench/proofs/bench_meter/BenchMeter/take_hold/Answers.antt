@@ -1,13 +1,7 @@
-use Rattle.std.proofs.Common.{◌≡◌, ◌∙◌, ap, Option, subst, sym, true, false, None, refl}
-use Rattle.meter_model.specs.Supply.{hold_taken, is_within_hold, powered}
-use Rattle.taxi_units.specs.declared.event.Operating.TheVariants.{ForHire}
-use Rattle.totals_record.specs.declared.trip.Trip.{Trip}
-use Rattle.verify_bench.specs.Bench.{Moves}
-use Rattle.verify_bench.specs.Settings.{setting_under}
-use Rattle.verify_bench.specs.Supplied.{waking}
-use Rattle.verify_bench.specs.declared.bench_meter.SavedState.{SavedState}
-use Rattle.verify_bench.proofs.BenchSupply.{hold_beside, none_held, saved_is_a_second}
-use Rattle.verify_bench.proofs.Benches.{moves_quietly}
+use Rattle.std.proofs.Common.{◌∙◌, ◌≡◌, None, Option, ap, false, refl, subst, sym, true}
+use Rattle.{meter_model.specs.Supply.{is_within_hold}, verify_bench.specs.{Bench.{Moves}, Supplied.{waking}}}
+use Rattle.verify_bench.{specs.Common.{ForHire, SavedState, Trip, hold_taken, powered}, proofs.Benches.{moves_quietly}}
+use Rattle.verify_bench.{specs.Settings.{setting_under}, proofs.BenchSupply.{hold_beside, none_held, saved_is_a_second}}
 use Rattle.verify_bench.proofs.bench_meter.BenchMeter.take_hold.Goals as goal
 
 pub abort-requires-clause-saved : goal.abort-requires-clause-saved

@@ -1,13 +1,6 @@
-use Rattle.std.proofs.Common.{subst}
-use Rattle.meter_model.specs.Closing.{roaming_checked}
-use Rattle.meter_model.specs.Display.{shown}
-use Rattle.meter_model.specs.Interval.{context_now, interval_begun, interval_counted}
-use Rattle.meter_model.specs.Meter.{Meter, ◌>>=◌}
-use Rattle.meter_model.specs.Step.{expired_or_pressed}
-use Rattle.tariff_syntax.specs.declared.context.Context.{Context}
-use Rattle.verify_bench.specs.Bench.{Moves}
-use Rattle.verify_bench.specs.Explaining.{hired_by}
-use Rattle.verify_bench.specs.Settings.{setting_under}
+use Rattle.{std.proofs.Common.{subst}, verify_bench.specs.Common.{interval_counted, roaming_checked, shown}}
+use Rattle.verify_bench.specs.{Bench.{Moves}, Settings.{setting_under}, TripExplanations.{hired_by}}
+use Rattle.verify_bench.specs.Common.{◌>>=◌, Context, Meter, context_now, expired_or_pressed, interval_begun}
 use Rattle.verify_bench.proofs.Benches.{hired_after, moves_begun, moves_quietly, moves_shown, moves_then}
 use Rattle.verify_bench.proofs.bench_meter.BenchMeter.tick.Goals as goal
 

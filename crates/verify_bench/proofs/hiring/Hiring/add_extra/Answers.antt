@@ -1,5 +1,4 @@
-use Rattle.std.proofs.Common.{rules, ◌≡◌, ◌++◌, ◌∷◌, [], OnOk}
-use Rattle.std.proofs.lemmas.Result.{on_ok_weaker}
+use Rattle.std.proofs.{Common.{[], ◌++◌, ◌∷◌, ◌≡◌, OnOk, rules}, lemmas.Result.{on_ok_weaker}}
 use Rattle.verify_bench.proofs.AmountSums.{all_numbers, few_times}
 use Rattle.verify_bench.proofs.hiring.Hiring.add_extra.Goals as goal
 

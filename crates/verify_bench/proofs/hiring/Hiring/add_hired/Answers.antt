@@ -1,11 +1,6 @@
-use Rattle.std.proofs.Common.{◌≡◌, ℕ, ◌∙◌, ap, sym, refl}
-use Rattle.meter_model.specs.Charge.{charge_at}
-use Rattle.meter_model.specs.Setting.{unit_of}
-use Rattle.meter_model.specs.Trip.{InHired}
-use Rattle.verify_bench.specs.Gathered.{sums_with}
-use Rattle.verify_bench.specs.Groups.{is_in_stopped, is_rest}
-use Rattle.verify_bench.specs.declared.explained.Sums.{Sums}
-use Rattle.verify_bench.proofs.Gathering.{few_more, left_out, part_more, table_more}
+use Rattle.std.proofs.Common.{ℕ, ◌∙◌, ◌≡◌, ap, refl, sym}
+use Rattle.verify_bench.specs.{Common.{InHired, Sums, charge_at, unit_of}, Groups.{is_in_stopped, is_rest}}
+use Rattle.verify_bench.{specs.Gathered.{sums_with}, proofs.GatheredSums.{few_more, left_out, part_more, table_more}}
 use Rattle.verify_bench.proofs.hiring.Hiring.add_hired.Goals as goal
 
 pub returns-clause-trip : goal.returns-clause-trip

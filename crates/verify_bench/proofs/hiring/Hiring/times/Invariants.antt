@@ -1,5 +1,5 @@
-use Rattle.std.proofs.Common.{◌≡◌, ◌+◌, ◌≤◌, drop}
-use Rattle.meter_model.specs.Supplements.{times}
+use Rattle.std.proofs.Common.{◌+◌, ◌≡◌, ◌≤◌, drop}
+use Rattle.verify_bench.specs.Common.{times}
 use Rattle.verify_bench.proofs.hiring.Hiring.times.Given as goal
 
 abbrev pub invariant-loop-extra : goal.invariant-loop-extra

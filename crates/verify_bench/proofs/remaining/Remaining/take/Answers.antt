@@ -1,6 +1,5 @@
-use Rattle.std.proofs.Common.{◌≡◌, ◌∙◌, sym, arith}
-use Rattle.arrayvec.specs.ArrayVec.{array_vec_len}
-use Rattle.verify_bench.proofs.Trips.{none_left}
+use Rattle.std.proofs.Common.{◌∙◌, ◌≡◌, arith, sym}
+use Rattle.{arrayvec.specs.ArrayVec.{array_vec_len}, verify_bench.proofs.Trips.{none_left}}
 use Rattle.verify_bench.proofs.remaining.Remaining.take.Goals as goal
 
 pub returns-clause-over : goal.returns-clause-over

@@ -1,7 +1,6 @@
-use Rattle.std.proofs.Common.{refl, ◌≡◌, ◌-◌}
-use Rattle.verify_bench.specs.Adding.{place_of}
-use Rattle.verify_bench.specs.Generated.{lines_text, trip}
-use Rattle.verify_bench.proofs.Trips.{left_after_trip, trip_has_text}
+use Rattle.std.proofs.Common.{◌-◌, ◌≡◌, refl}
+use Rattle.verify_bench.specs.AddedText.{place_of}
+use Rattle.verify_bench.{specs.Generated.{lines_text, trip}, proofs.Trips.{left_after_trip, trip_has_text}}
 use Rattle.verify_bench.proofs.remaining.Remaining.write_trip.Goals as goal
 
 pub returns-clause-left : goal.returns-clause-left

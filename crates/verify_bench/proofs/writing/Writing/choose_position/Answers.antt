@@ -1,7 +1,5 @@
 use Rattle.std.proofs.Common.{◌+◌}
-use Rattle.taxi_units.specs.declared.event.Key.TheVariants.{Position}
-use Rattle.verify_bench.specs.Generated.{Place, key_pressed, value}
-use Rattle.verify_bench.proofs.Adds.{adds_drawn}
+use Rattle.verify_bench.{specs.{Common.{Position}, Generated.{Place, key_pressed, value}}, proofs.Adds.{adds_drawn}}
 use Rattle.verify_bench.proofs.writing.Writing.choose_position.Goals as goal
 
 pub returns : goal.returns

@@ -1,7 +1,5 @@
-use Rattle.std.proofs.Common.{◌+◌, ◌*◌, ◌≡◌, ◌∷◌, ◌++◌, [], arith, sym}
-use Rattle.std.specs.Prelude.{replicate}
-use Rattle.verify_bench.specs.Adding.{place_of}
-use Rattle.verify_bench.specs.Generated.{Place, in_turn, leg, value}
+use Rattle.std.{specs.Prelude.{replicate}, proofs.Common.{[], ◌*◌, ◌++◌, ◌+◌, ◌∷◌, ◌≡◌, arith, sym}}
+use Rattle.verify_bench.specs.{AddedText.{place_of}, Generated.{Place, in_turn, leg, value}}
 use Rattle.verify_bench.proofs.Adds.{adds_drawn, adds_more, adds_none, adds_within, replicate-snoc}
 use Rattle.verify_bench.proofs.writing.Writing.drive.Goals as goal
 

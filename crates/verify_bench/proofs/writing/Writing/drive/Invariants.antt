@@ -1,7 +1,5 @@
-use Rattle.std.proofs.Common.{◌*◌}
-use Rattle.std.specs.Prelude.{replicate}
-use Rattle.verify_bench.specs.Adding.{Adds, place_of}
-use Rattle.verify_bench.specs.Generated.{in_turn, leg}
+use Rattle.std.{specs.Prelude.{replicate}, proofs.Common.{◌*◌}}
+use Rattle.verify_bench.specs.{AddedText.{Adds, place_of}, Generated.{in_turn, leg}}
 use Rattle.verify_bench.proofs.writing.Writing.drive.Given as goal
 
 abbrev pub invariant-loop-leg : goal.invariant-loop-leg

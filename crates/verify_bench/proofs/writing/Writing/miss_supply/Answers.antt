@@ -1,9 +1,6 @@
-use Rattle.std.proofs.Common.{◌*◌, ◌∷◌, [], arith, refl}
-use Rattle.drive_text.specs.declared.run.Run.TheVariants.{One}
-use Rattle.taxi_units.specs.declared.event.Event.TheVariants.{Down, Up}
-use Rattle.verify_bench.specs.Adding.{place_of}
-use Rattle.verify_bench.specs.Generated.{Place, came_back, later, line, second_of, value}
-use Rattle.verify_bench.proofs.Adds.{adds_drawn, adds_first, adds_more, adds_moved}
+use Rattle.std.proofs.Common.{[], ◌*◌, ◌∷◌, arith, refl}
+use Rattle.verify_bench.{specs.AddedText.{place_of}, proofs.Adds.{adds_drawn, adds_first, adds_more, adds_moved}}
+use Rattle.verify_bench.specs.{Common.{Down, One, Up}, Generated.{Place, came_back, later, line, second_of, value}}
 use Rattle.verify_bench.proofs.writing.Writing.miss_supply.Goals as goal
 
 pub returns : goal.returns

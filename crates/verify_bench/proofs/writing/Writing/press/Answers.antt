@@ -1,8 +1,6 @@
-use Rattle.std.proofs.Common.{◌∷◌, []}
-use Rattle.drive_text.specs.declared.run.Run.TheVariants.{One}
-use Rattle.taxi_units.specs.declared.event.Event.TheVariants.{Key}
-use Rattle.verify_bench.specs.Generated.{intervals, line}
-use Rattle.verify_bench.proofs.Adds.{adds_first, adds_more}
+use Rattle.std.proofs.Common.{[], ◌∷◌}
+use Rattle.{taxi_units.specs.declared.event.Event.TheVariants.{Key}, verify_bench.proofs.Adds.{adds_first, adds_more}}
+use Rattle.verify_bench.specs.{Common.{One}, Generated.{intervals, line}}
 use Rattle.verify_bench.proofs.writing.Writing.press.Goals as goal
 
 pub returns : goal.returns

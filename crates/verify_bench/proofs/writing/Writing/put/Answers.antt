@@ -1,5 +1,4 @@
-use Rattle.std.proofs.Common.{arith, refl}
-use Rattle.drive_text.proofs.Laws.{written_line_is_short}
+use Rattle.{std.proofs.Common.{arith, refl}, drive_text.proofs.Laws.{written_line_is_short}}
 use Rattle.verify_bench.proofs.Adds.{adds_event}
 use Rattle.verify_bench.proofs.writing.Writing.put.Goals as goal
 

@@ -1,7 +1,5 @@
 use Rattle.std.proofs.Common.{◌+◌}
-use Rattle.taxi_units.specs.declared.event.Key.TheVariants.{Extra}
-use Rattle.verify_bench.specs.Generated.{Place, key_pressed, value}
-use Rattle.verify_bench.proofs.Adds.{adds_drawn}
+use Rattle.verify_bench.{specs.{Common.{Extra}, Generated.{Place, key_pressed, value}}, proofs.Adds.{adds_drawn}}
 use Rattle.verify_bench.proofs.writing.Writing.put_extra.Goals as goal
 
 pub returns : goal.returns

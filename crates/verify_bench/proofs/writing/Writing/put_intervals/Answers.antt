@@ -1,8 +1,6 @@
-use Rattle.std.proofs.Common.{arith, refl, ◌≤◌, ◌*◌, ◌∷◌, [], ◌∙◌, length}
-use Rattle.drive_text.specs.declared.run.Run.TheVariants.{Many}
-use Rattle.verify_bench.specs.Adding.{lines_events}
-use Rattle.verify_bench.proofs.Adds.{adds_intervals}
-use Rattle.verify_bench.proofs.Lines.{intervals_are_short}
+use Rattle.std.proofs.Common.{[], ◌*◌, ◌∙◌, ◌∷◌, ◌≤◌, arith, length, refl}
+use Rattle.verify_bench.{specs.AddedText.{lines_events}, proofs.{Adds.{adds_intervals}, Lines.{intervals_are_short}}}
+use Rattle.verify_bench.specs.Common.{Many}
 use Rattle.verify_bench.proofs.writing.Writing.put_intervals.Goals as goal
 
 pub push_bytes-requires : goal.push_bytes-requires

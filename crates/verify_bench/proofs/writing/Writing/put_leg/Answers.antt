@@ -1,6 +1,5 @@
-use Rattle.std.proofs.Common.{◌+◌, ◌*◌, ◌∷◌, [], arith}
-use Rattle.verify_bench.specs.Adding.{place_of}
-use Rattle.verify_bench.specs.Generated.{Place, clock_read, drawn, intervals, road, value}
+use Rattle.std.proofs.Common.{[], ◌*◌, ◌+◌, ◌∷◌, arith}
+use Rattle.verify_bench.specs.{AddedText.{place_of}, Generated.{Place, clock_read, drawn, intervals, road, value}}
 use Rattle.verify_bench.proofs.Adds.{adds_drawn, adds_first, adds_more, adds_within}
 use Rattle.verify_bench.proofs.writing.Writing.put_leg.Goals as goal
 

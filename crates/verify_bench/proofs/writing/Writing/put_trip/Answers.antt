@@ -1,8 +1,7 @@
-use Rattle.std.proofs.Common.{◌∷◌, [], arith}
-use Rattle.taxi_units.specs.declared.event.Key.TheVariants.{Hire, Stop, Clear}
+use Rattle.std.proofs.Common.{[], ◌∷◌, arith}
+use Rattle.verify_bench.specs.Common.{Clear, Hire, Stop}
 use Rattle.verify_bench.specs.Generated.{driven, drop_perhaps, extra_perhaps, key_pressed, position_chosen, roamed}
-use Rattle.verify_bench.specs.Generated.{zone_chosen}
-use Rattle.verify_bench.proofs.Adds.{adds_first, adds_more, adds_within}
+use Rattle.verify_bench.{specs.Generated.{zone_chosen}, proofs.Adds.{adds_first, adds_more, adds_within}}
 use Rattle.verify_bench.proofs.writing.Writing.put_trip.Goals as goal
 
 pub returns : goal.returns

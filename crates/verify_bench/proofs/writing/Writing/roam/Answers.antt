@@ -1,7 +1,6 @@
-use Rattle.std.proofs.Common.{◌+◌, ◌*◌, ◌∷◌, [], arith}
-use Rattle.verify_bench.specs.Adding.{place_of}
+use Rattle.std.proofs.Common.{[], ◌*◌, ◌+◌, ◌∷◌, arith}
+use Rattle.verify_bench.{specs.AddedText.{place_of}, proofs.Adds.{adds_drawn, adds_first, adds_more, adds_within}}
 use Rattle.verify_bench.specs.Generated.{Place, clock_read, intervals, value, way}
-use Rattle.verify_bench.proofs.Adds.{adds_drawn, adds_first, adds_more, adds_within}
 use Rattle.verify_bench.proofs.writing.Writing.roam.Goals as goal
 
 pub returns : goal.returns

@@ -1,0 +1,213 @@
+-- The command `run`: how it begins.
+use Rattle.{std.specs.{Cmp.Lexicographic.{pointwise}, Option.{ForSome}, Prelude.{nat_eq}}, sha2.specs.Sha256.{sha256}}
+use Rattle.std.proofs.Common.{ℕ, ◌<◌, ◌∙◌, ◌≡◌, ◌≢◌, ◌≤◌, Bool, Err, List, Ok, Result, ap, arith, drop, false}
+use Rattle.std.proofs.{Common.{if◌then◌else◌, length, refl, subst, sym, take, true}, lemmas.Bool.{le-ltb, lt-ltb}}
+use Rattle.{outside.proofs.Laws.{same_slice}, slot_store.specs.declared.found.Found.TheVariants.{Blank, Latest}}
+use Rattle.slot_store.{specs.Scan.{IsAnswer, verdict_on}, proofs.Laws.{answer_is, at_stands}}
+use Rattle.{slot_store.specs.declared.pair.Place.{Place}, call_ends.proofs.Laws.{refusal_by}}
+use Rattle.store_commands.{specs.{Opened.{IsBarred}, Opening.{opening_by}}, proofs.Laws.{owed-refused}}
+use Rattle.drive_commands.specs.Common.{Durable, Ended, Fits, Found, IsSealedIn, Opening, Refusal, SameBut, Seal}
+use Rattle.drive_commands.specs.Common.{SlotFault, StoreFault, TextFault, TooLong, Tree, ended_for, found_at}
+use Rattle.drive_commands.specs.{Common.{opening_in, store_of, tables_of, tariff_in}, Run.{start_with, tables_in}}
+use Rattle.drive_commands.specs.Run.{IsOfTotals, Start, accepted, does_hold_fit, sealed_tariff, start_of, start_over}
+use Rattle.drive_commands.{specs.RunSteps.{AreNoTables, HasNotBegun, IsNoTables}, proofs.HeldTripFits.{Decides-hold}}
+use Rattle.totals_record.specs.Reading as totals
+use Rattle.meter_store.specs.Stored as states
+use Rattle.seal_record.specs.Decoding as seals
+use Rattle.call_ends.specs.declared.ending.Ended.TheVariants as ended
+use Rattle.call_ends.specs.declared.tariff.TextFault.TheVariants as texts
+
+-- ---- the sealed tariff
+
+-- a text of at most 65,536 bytes with the sealed digest
+pub tariff-accepted : (digest text : List ℕ) → length text ≤ 65536 → pointwise nat_eq digest (sha256 text) ≡ true
+    → sealed_tariff digest text ≡ accepted (tariff_in text)
+tariff-accepted digest text few same = rw (le-ltb 65536 (length text) few, same) refl
+
+pub tariff-wrong : (digest text : List ℕ) → length text ≤ 65536 → pointwise nat_eq digest (sha256 text) ≡ false
+    → sealed_tariff digest text ≡ Err (ended.WrongTariff digest (sha256 text))
+tariff-wrong digest text few other = rw (le-ltb 65536 (length text) few, other) refl
+
+pub tariff-long : (digest text : List ℕ) → 65536 < length text
+    → sealed_tariff digest text ≡ Err (ended.BadTariff TooLong)
+tariff-long digest text long = rw (lt-ltb 65536 (length text) long) refl
+
+pub no_tables-read : (digest text : List ℕ) (read_failed : Type 0) (fault : TextFault)
+    → (fault ≡ texts.ReadFault → read_failed)
+    → ((why : Refusal) → fault ≡ texts.Refused why → (why ≡ TooLong) × (65536 < length text))
+    → AreNoTables digest text read_failed (ended_for fault)
+no_tables-read digest text read_failed texts.ReadFault failed long = failed refl
+no_tables-read digest text read_failed (texts.Refused why) failed long =
+    let both = long why refl in
+    tariff-long digest text both.1 ∙ ap (λ (w : Refusal). Err (ended.BadTariff w)) (sym both.0)
+no_tables-read digest text read_failed texts.NoMemory failed long = tt
+
+pub no_tables-made : (digest text : List ℕ) (read_failed : Type 0) (why : Ended) → sealed_tariff digest text
+    ≡ accepted (tariff_in text) → IsNoTables text why → AreNoTables digest text read_failed why
+no_tables-made digest text read_failed ended.NoMemory e h = tt
+no_tables-made digest text read_failed (ended.BadTariff why) e h = e ∙ ap accepted h
+no_tables-made digest text read_failed why e h = absurd h
+
+-- more may be known of a read that failed
+pub no_tables-as : (digest text : List ℕ) (read_failed more : Type 0) (why : Ended) → (read_failed → more)
+    → AreNoTables digest text read_failed why → AreNoTables digest text more why
+no_tables-as digest text read_failed more ended.ReadFault is h = is h
+no_tables-as digest text read_failed more ended.NoMemory is h = tt
+no_tables-as digest text read_failed more (ended.BadTariff why) is h = h
+no_tables-as digest text read_failed more (ended.WrongTariff sealed own) is h = h
+no_tables-as digest text read_failed more why is h = absurd h
+
+pub text-not_board : (fault : TextFault) → ended_for fault ≢ ended.BoardFault
+text-not_board texts.ReadFault = λ e. absurd cc
+text-not_board (texts.Refused why) = λ e. absurd cc
+text-not_board texts.NoMemory = λ e. absurd cc
+
+pub text-read_fault : (fault : TextFault) → ended_for fault ≡ ended.ReadFault → fault ≡ texts.ReadFault
+text-read_fault texts.ReadFault e = refl
+text-read_fault (texts.Refused why) e = absurd cc
+text-read_fault texts.NoMemory e = absurd cc
+
+-- ---- the start
+
+-- what a start has
+record HasStart (d : Durable) (l : Seal) (r : Result Tree Ended) (s : Start) : Type 0 where
+  pub durable : d ≡ s.durable
+  pub seal : l ≡ s.seal
+  pub tree : r ≡ Ok s.tree
+  pub fits : does_hold_fit (tables_in s) s.durable.hold ≡ true
+
+has_start : (d : Durable) (l : Seal) (r : Result Tree Ended) (s : Start) → start_with d l r ≡ Ok s → HasStart d l r s
+has_start d l (Err why) s e = absurd cc
+has_start d l (Ok t) s e = by (does_hold_fit (tables_of t l.params.constant) d.hold) refl e
+  where
+    by : (fit : Bool) → does_hold_fit (tables_of t l.params.constant) d.hold ≡ fit
+        → (if fit then Ok (record { durable = d; seal = l; tree = t }) else Err ended.BadTrip) ≡ Ok s
+        → HasStart d l (Ok t) s
+    by true is f =
+        let same : record { durable = d; seal = l; tree = t } ≡ s = cc in
+        record {
+          durable = ap (λ (x : Start). x.durable) same;
+          seal = ap (λ (x : Start). x.seal) same;
+          tree = ap (λ (x : Start). Ok x.tree) same;
+          fits = subst (λ (x : Start). does_hold_fit (tables_in x) x.durable.hold ≡ true) same is;
+        }
+    by false is f = absurd cc
+
+-- and what was found if a run begins with it
+pub record HasFound (t : Result (Found Durable) SlotFault) (l : Result (Found Seal) SlotFault) (tariff : List ℕ)
+    (s : Start) : Type 0 where
+  pub totals : (place : Place) × (t ≡ Ok (Latest place s.durable))
+  pub seal : (place : Place) × (l ≡ Ok (Latest place s.seal))
+  pub tariff_is : sealed_tariff s.seal.digest tariff ≡ Ok s.tree
+  pub fits : does_hold_fit (tables_in s) s.durable.hold ≡ true
+
+has_found : (t : Result (Found Durable) SlotFault) (l : Result (Found Seal) SlotFault) (tariff : List ℕ) (s : Start)
+    → start_of (opening_by t l) tariff ≡ Ok s → HasFound t l tariff s
+has_found (Err fault) l tariff s e = absurd cc
+has_found (Ok found) (Err fault) tariff s e = absurd cc
+has_found (Ok Blank) (Ok seal) tariff s e = absurd cc
+has_found (Ok (Latest place durable)) (Ok Blank) tariff s e = absurd cc
+has_found (Ok (Latest place durable)) (Ok (Latest other l)) tariff s e =
+    let h = has_start durable l (sealed_tariff l.digest tariff) s e in
+    record {
+      totals = (place, ap (λ (d : Durable). Ok (Latest place d)) h.durable);
+      seal = (other, ap (λ (x : Seal). Ok (Latest other x)) h.seal);
+      tariff_is = subst (λ (x : Seal). sealed_tariff x.digest tariff ≡ Ok s.tree) h.seal h.tree;
+      fits = h.fits;
+    }
+
+pub found_in : (image tariff : List ℕ) (s : Start) → start_of (opening_in image) tariff ≡ Ok s
+    → HasFound (found_at totals.reads states.state_number_of 0 image)
+    (found_at seals.reads seals.seal_number_of 1024 image) tariff s
+found_in image tariff s e = has_found (found_at totals.reads states.state_number_of 0 image)
+    (found_at seals.reads seals.seal_number_of 1024 image) tariff s e
+
+-- the opening image has the state that the run begins with, whose held trip fits
+pub start_stands : (image tariff : List ℕ) (s : Start) → start_of (opening_in image) tariff ≡ Ok s
+    → states.HasState image s.durable × ForSome s.durable.hold (Fits (tables_in s))
+start_stands image tariff s e =
+    let h = found_in image tariff s e in
+    let at =
+    subst (λ (r : Result (Found Durable) SlotFault). IsAnswer totals.reads states.state_number_of 0 image r) h.totals.1
+    ((answer_is totals.reads states.state_number_of 0 image
+    (found_at totals.reads states.state_number_of 0 image)).0 refl) in (
+      at_stands totals.reads states.state_number_of 0 h.totals.0 image s.durable at,
+      (Decides-hold (tables_in s) s.durable.hold).0 h.fits,
+    )
+
+-- an image with other totals, whose held trip fits, beside the same seal: a run begins with it too
+pub starts_again : (image tariff left : List ℕ) (s : Start) (place : Place) (d : Durable)
+    → start_of (opening_in image) tariff ≡ Ok s → SameBut IsOfTotals image left
+    → found_at totals.reads states.state_number_of 0 left ≡ Ok (Latest place d) → ForSome d.hold (Fits (tables_in s))
+    → start_of (opening_in left) tariff ≡ Ok (record s { durable = d })
+starts_again image tariff left s place d e same found fits =
+    let h = found_in image tariff s e in
+    let first : take 512 (drop 1024 left) ≡ take 512 (drop 1024 image) =
+    same_slice IsOfTotals image left 1024 512 same (λ byte within touched. omega (arith, within.low, touched.high)) in
+    let second : take 512 (drop 1536 left) ≡ take 512 (drop 1536 image) =
+    same_slice IsOfTotals image left 1536 512 same (λ byte within touched. omega (arith, within.low, touched.high)) in
+    let seal : found_at seals.reads seals.seal_number_of 1024 left ≡ Ok (Latest h.seal.0 s.seal) =
+    ap (λ (x : List ℕ). verdict_on seals.reads seals.seal_number_of x (take 512 (drop 1536 left))) first
+    ∙ ap (λ (x : List ℕ). verdict_on seals.reads seals.seal_number_of (take 512 (drop 1024 image)) x)
+    second ∙ h.seal.1 in
+    let opening : opening_in left ≡ Ok (record { totals = Latest place d; seal = Latest h.seal.0 s.seal }) =
+    ap (λ (r : Result (Found Durable) SlotFault). opening_by r
+    (found_at seals.reads seals.seal_number_of 1024 left)) found
+    ∙ ap (opening_by (Ok (Latest place d))) seal in
+    ap (λ (r : Result Opening StoreFault). start_of r tariff) opening ∙ ap (start_with d s.seal) h.tariff_is
+    ∙ rw ((Decides-hold (tables_in s) d.hold).1 fits) refl
+
+-- ---- the run doesn't begin
+
+module _ (image tariff : List ℕ) (read_failed board_failed : Type 0) where
+  -- the store bars the run
+  pub not_begun-barred : (why : Ended) → IsBarred why → (why ≢ ended.BoardFault → store_of (opening_in image) ≡ Err why)
+      → (why ≡ ended.BoardFault → board_failed)
+      → HasNotBegun image tariff read_failed board_failed why
+  not_begun-barred why barred store cause =
+      owed-refused (λ (w : Ended). start_of (opening_in image) tariff ≡ Err w)
+      (λ (w : Ended). HasNotBegun image tariff read_failed board_failed w) board_failed
+      (λ h. h) (λ slot h. h) (λ first second h. h) (λ f. f) why barred
+      (λ good. ap (λ (r : Result (Durable × Seal) Ended). start_over r tariff) (store good)) cause
+
+  module _ (store : Durable × Seal) (e : store_of (opening_in image) ≡ Ok store) where
+    sealed_in : IsSealedIn image
+    sealed_in = record { store = store; is = e }
+
+    pub start_from : (r : Result Tree Ended) → sealed_tariff store.1.digest tariff ≡ r
+        → start_of (opening_in image) tariff ≡ start_with store.0 store.1 r
+    start_from r f =
+        ap (λ (r : Result (Durable × Seal) Ended). start_over r tariff) e ∙ ap (start_with store.0 store.1) f
+
+    pub not_begun-tables : (why : Ended) → AreNoTables store.1.digest tariff read_failed why
+        → HasNotBegun image tariff read_failed board_failed why
+    not_begun-tables ended.ReadFault h = (h, sealed_in)
+    not_begun-tables ended.NoMemory h = sealed_in
+    not_begun-tables (ended.BadTariff why) h = (
+      start_from (Err (ended.BadTariff why)) h,
+      refusal_by (ended.BadTariff why) refl refl refl,
+    )
+    not_begun-tables (ended.WrongTariff digest own) h = (
+      start_from (Err (ended.WrongTariff digest own)) h,
+      refusal_by (ended.WrongTariff digest own) refl refl refl,
+    )
+    not_begun-tables why h = absurd h
+
+    -- by whether the held trip fits
+    fitted : (t : Tree) (fit : Bool) → does_hold_fit (tables_of t store.1.params.constant) store.0.hold ≡ fit
+        → start_with store.0 store.1 (Ok t)
+        ≡ (if fit then Ok (record { durable = store.0; seal = store.1; tree = t }) else Err ended.BadTrip)
+    fitted t fit is = rw is refl
+
+    pub not_begun-trip : (t : Tree) → sealed_tariff store.1.digest tariff ≡ Ok t
+        → does_hold_fit (tables_of t store.1.params.constant) store.0.hold ≡ false
+        → HasNotBegun image tariff read_failed board_failed ended.BadTrip
+    not_begun-trip t f none = (
+      start_from (Ok t) f ∙ fitted t false none,
+      refusal_by ended.BadTrip refl refl refl,
+    )
+
+    pub has_begun : (t : Tree) → sealed_tariff store.1.digest tariff ≡ Ok t
+        → does_hold_fit (tables_of t store.1.params.constant) store.0.hold ≡ true
+        → start_of (opening_in image) tariff ≡ Ok (record { durable = store.0; seal = store.1; tree = t })
+    has_begun t f fits = start_from (Ok t) f ∙ fitted t true fits

@@ -1,0 +1,27 @@
+-- Made by tools/make/imports: what several files of this crate bring in of its types and of crates below.
+pub use Rattle.taxi_units.specs.{Number.{money_text}, Time.{first_second}, declared.event.Event.{Event}}
+pub use Rattle.{outside.specs.{Disk.{SameBut}, Faults.{Rose}}, slot_store.specs.declared.found.SlotFault.{SlotFault}}
+pub use Rattle.outside.specs.{PrintedText.{Begins}, Reading.{LeavesOthers}, declared.board.Board.{Ghosts}}
+pub use Rattle.slot_store.specs.{Scan.{found_at}, Syncs.{LeavesFromSync}, declared.found.Found.{Found}}
+pub use Rattle.{drive_modes.specs.declared.charges.Mode.TheVariants.{Single}, drive_text.specs.Ending.{events_of}}
+pub use Rattle.drive_text.specs.{Drive.{events_in}, Ranges.{IsRunInRange}, Runs.{run_events}, declared.run.Run.{Run}}
+pub use Rattle.drive_text.specs.Ending.{BadAt, Endless, IsGoing, IsSplit, StreamEnd, TellsEnd, Whole, drive_end}
+pub use Rattle.totals_record.specs.{States.{first_state}, declared.durable_state.Durable.{Durable}}
+pub use Rattle.seal_record.specs.declared.{params.{ParamFault.{ParamFault}, Params.{Params}}, seal.Seal.{Seal}}
+pub use Rattle.{meter_store.specs.Stored.{HasState}, tariff_syntax.specs.Tree.{Tree, tree_of}}
+pub use Rattle.{tariff_compile.specs.Tables.{IsTablesOf, TableParts, tables_of}, meter_run.specs.Points.{IsCutOfDeeds}}
+pub use Rattle.{meter_model.specs.Setting.{Setting, setting_by}, meter_states.specs.Fits.{Fits, fits_test}}
+pub use Rattle.{meter_states.specs.Setting.{IsSettingOf}, meter_run.specs.Deeds.{Deed, Prints, after_deeds, texts}}
+pub use Rattle.meter_run.specs.{Drives.{IsBoundedByDrive}, declared.{fault.RunFault.{RunFault}, source.Stop.{Stop}}}
+pub use Rattle.{meter_run.specs.Runs.{OpensWith}, verify_bench.specs.declared.reading.ReadingsFault.{ReadingsFault}}
+pub use Rattle.verify_bench.specs.{Generated.{generated}, Readings.{readings_in}, declared.reading.Reading.{Reading}}
+pub use Rattle.verify_bench.specs.TripExplanations.{Explanation, explanation_of, explanations_of}
+pub use Rattle.call_ends.specs.{Answer.{Answer, shows}, Carried.{Carries}, Pieces.{pieces_of}}
+pub use Rattle.call_ends.specs.{Course.{Answered, BoardFailed, Command, NoMemory, ReadFailed, line_in}, Stream.{Drive}}
+pub use Rattle.call_ends.specs.Ending.{EndsByCourse, EndsOnDevices, EndsUnprinted, IsRefusal, ended_for}
+pub use Rattle.call_ends.specs.{LastLine.{line_of, refused_as, status_of}, Tariffs.{bad_tariff, tariff_in}}
+pub use Rattle.call_ends.specs.declared.{ending.Ended.{Ended}, tariff.Refusal.{Refusal, TheVariants.{TooLong}}}
+pub use Rattle.call_ends.specs.declared.{ending.Ended.TheVariants.{BoardFault, ReadFault}, tariff.TextFault.{TextFault}}
+pub use Rattle.store_commands.specs.{Opening.{IsSealedIn, opening_in, store_of}, declared.opening.Opening.{Opening}}
+pub use Rattle.store_commands.specs.declared.opening.StoreFault.{StoreFault}
+pub use Rattle.drive_commands.specs.declared.{explained_lines.Scale.{Scale}, whole_drive.DriveFault.{DriveFault}}

@@ -1,5 +1,0 @@
-use Rattle.meter_model.proofs.Fares.{fare-by}
-use Rattle.meter_model.proofs.resuming.fares_depend_on_the_intervals_in_hired.Goals as goal
-
-pub returns : goal.returns
-returns c = fare-by

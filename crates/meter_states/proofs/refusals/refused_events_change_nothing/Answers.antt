@@ -1,5 +1,0 @@
-use Rattle.meter_states.proofs.Refused.{refused-event, refused-key}
-use Rattle.meter_states.proofs.refusals.refused_events_change_nothing.Goals as goal
-
-pub returns : goal.returns
-returns c = record { event = refused-event; key = refused-key }

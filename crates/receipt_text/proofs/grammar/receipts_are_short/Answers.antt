@@ -1,5 +1,0 @@
-use Rattle.receipt_text.proofs.Unique.{short_texts}
-use Rattle.receipt_text.proofs.grammar.receipts_are_short.Goals as goal
-
-pub returns : goal.returns
-returns c = short_texts

@@ -1,5 +1,0 @@
-use Rattle.receipt_text.proofs.Unique.{first_word}
-use Rattle.receipt_text.proofs.grammar.receipts_begin_with_their_word.Goals as goal
-
-pub returns : goal.returns
-returns c = first_word

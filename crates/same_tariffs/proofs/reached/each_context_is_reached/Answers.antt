@@ -1,5 +1,0 @@
-use Rattle.same_tariffs.proofs.Laws.{each_context_is_reached}
-use Rattle.same_tariffs.proofs.reached.each_context_is_reached.Goals as goal
-
-pub returns : goal.returns
-returns c = each_context_is_reached

@@ -1,5 +1,0 @@
-use Rattle.tariff_calendar.proofs.Laws.{cuts_are_the_fewest_pulses}
-use Rattle.tariff_calendar.proofs.theorems.cuts_are_the_fewest_pulses.Goals as goal
-
-pub returns : goal.returns
-returns c = cuts_are_the_fewest_pulses

@@ -1,5 +1,0 @@
-use Rattle.tariff_check.proofs.Laws.{choices_stand_at_their_lines}
-use Rattle.tariff_check.proofs.theorems.choices_stand_at_their_lines.Goals as goal
-
-pub returns : goal.returns
-returns c = choices_stand_at_their_lines

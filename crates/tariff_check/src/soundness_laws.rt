@@ -1,0 +1,105 @@
+//! What the definitions of faults and cuts mean.
+ghost use Rattle.{std.specs.List.{Contains, slice_get}, tariff_check.specs.{Common.{rate_place}, Faults.{faults_of}}};
+ghost use Rattle.std.specs.Prelude.{[], ℕ, ◌++◌, ◌<◌, ◌↔◌, ◌∷◌, ◌≡◌, ◌≤◌, All, List, None, Some, length, true};
+ghost use Rattle.tariff_check.specs.{AllFaults.{all_faults}, Measure.{IsLeastCommonMultiple, measure_of, measures_of}};
+ghost use Rattle.tariff_check.specs.{Amounts.{HasAmountsOf, IsFitInitial, initial_by}, FoundLines.{StandsAtItsLine}};
+ghost use Rattle.tariff_check.specs.{ChoiceLines.{choice_lines}, Lines.{IsFirstLine, IsNowhere, LineTest, first_line}};
+ghost use Rattle.tariff_check.specs.Common.{CheckFault, ChoiceKind, Context, Dimension, Entry, IsFromTo, IsWritable};
+ghost use Rattle.tariff_check.specs.Common.{Line, NoCommonMeasure, RiseInNumber, Tree, choice_place, initial_place};
+ghost use Rattle.tariff_check.specs.{Cuts.{IsInOrder, all_cuts, cuts_of, with_each}, Sound.{HasSoundParts}};
+ghost use Rattle.tariff_check.specs.Faults.{HasNone, IsSound, fault_of, faults_before_cuts, faults_from_cuts};
+ghost use Rattle.tariff_check.specs.{Kinds.{initials_of, part_of, rates_of, said_by}, Parts.{supplement_of}};
+ghost use Rattle.tariff_check.specs.SoundTariff.{HasAllLines, HasFrame, IsInOnePart, sound_of, supplement_numbered};
+
+/// The law of the faults of lines: the number that is named is that of the first line that meets the test, and none is
+/// named exactly if no line meets it. If numbers rise, as those of a text do, no line that meets it has a smaller one.
+pub fn faults_name_the_first_line()
+    ensures named { (test : LineTest) (lines : List Line) (number : ℕ)
+        → (first_line test lines ≡ Some number) ↔ IsFirstLine test lines number }
+    ensures smallest { (test : LineTest) (lines : List Line) (number : ℕ) → RiseInNumber lines
+        → first_line test lines ≡ Some number
+        → (before after : List Line) (line : Line) → lines ≡ before ++ line ∷ after
+        → test before line.entry ≡ true → number ≤ line.line }
+    ensures none { (test : LineTest) (lines : List Line) → (first_line test lines ≡ None) ↔ IsNowhere test lines }
+{}
+
+/// The law of cuts: they are the numbers with which conditions compare, in order and each once. This holds of any
+/// numbers that are put among none.
+pub fn cuts_are_in_order()
+    ensures cuts { (dimension : Dimension) (lines : List Line)
+        → IsInOrder (all_cuts dimension lines) (cuts_of dimension lines) }
+    ensures numbers { (numbers : List ℕ) → IsInOrder numbers (with_each [] numbers) }
+{}
+
+/// The law of all faults: the first of them is the one that `check` answers, and there is none exactly if the tariff is
+/// sound. Each that is named is there. Each fault before those of cuts that is there is named. If there is none of
+/// them, each fault of cuts and of cells that is there is named, too. If a measure of a rate is 0, the common measure
+/// is 0, and so isn't too great.
+pub fn all_faults_begin_with_the_first()
+    ensures first { (t : Tree) → slice_get (all_faults t.lines) 0 ≡ fault_of t }
+    ensures none { (t : Tree) → (all_faults t.lines ≡ []) ↔ IsSound t }
+    ensures there { (lines : List Line)
+        → All (λ (fault : CheckFault). Contains (faults_of lines) (Some fault)) (all_faults lines) }
+    ensures before_cuts { (lines : List Line) (fault : CheckFault) → Contains (faults_before_cuts lines) (Some fault)
+        → Contains (all_faults lines) fault }
+    ensures from_cuts { (lines : List Line) (fault : CheckFault) → HasNone (faults_before_cuts lines)
+        → Contains (faults_from_cuts lines) (Some fault) → Contains (all_faults lines) fault }
+    ensures measure { (lines : List Line) → Contains (measures_of lines) 0 → measure_of lines ≡ 0 }
+{}
+
+/// The law of sound tariffs: a tariff without a first fault is sound, and a sound one has its parts in
+/// their ranges.
+pub fn sound_tariffs_have_sound_parts()
+    ensures none { (t : Tree) → (fault_of t ≡ None) ↔ IsSound t }
+    ensures parts { (t : Tree) → IsWritable t → IsSound t → HasSoundParts t }
+{}
+
+/// The law of the common measure: it is the least common multiple of the measures of the rates if these are above 0.
+/// They are in a sound tariff, and if the common measure is refused.
+pub fn measures_are_least()
+    ensures least { (lines : List Line) → All (λ n. 0 < n) (measures_of lines)
+        → IsLeastCommonMultiple (measures_of lines) (measure_of lines) }
+    ensures sound { (t : Tree) → IsSound t → All (λ n. 0 < n) (measures_of t.lines) }
+    ensures refused { (t : Tree) → fault_of t ≡ Some NoCommonMeasure → All (λ n. 0 < n) (measures_of t.lines) }
+{}
+
+/// The law of supplements: a tariff whose numbers a text can have has supplements only of the numbers 1 to 16.
+pub fn supplements_are_numbered_to_16()
+    ensures { (t : Tree) (number : ℕ) → IsWritable t → ¬ (IsFromTo 1 16 number) → supplement_of t.lines number ≡ None }
+{}
+
+/// The law of lines that hold: in a sound tariff a rate and an initial hire fee hold in each context, and
+/// the line of a kind that holds first is one of the tariff's.
+pub fn lines_that_hold_are_there()
+    ensures rate { (t : Tree) (x : Context) → IsSound t
+        → (place : ℕ) × (rate_place t x ≡ Some place) × (place < length (rates_of t.lines)) }
+    ensures initial { (t : Tree) (x : Context) → IsSound t
+        → (place : ℕ) × (initial_place t x ≡ Some place) × (place < length (initials_of t.lines)) }
+    ensures there { (kind : ChoiceKind) (t : Tree) (x : Context) (place : ℕ)
+        → choice_place (part_of kind) t x ≡ Some place → place < length (said_by kind t.lines) }
+{}
+
+/// The law of hirings: each amount with which a hiring begins is that of the line of its kind that holds first at it,
+/// or 0 if none does; and each is within its limits.
+pub fn hirings_begin_with_first_lines()
+    ensures amounts { (t : Tree) (x : Context) → IsSound t → HasAmountsOf t x (initial_by t x) }
+    ensures fit { (t : Tree) (x : Context) → IsWritable t → IsSound t → IsFitInitial (initial_by t x) }
+{}
+
+/// The law of parts: a tariff as its parts has what its lines say. Each line that may have a condition is in it once,
+/// with its number, in the order of the lines of its kind; so are holidays and supplements. The display step, the
+/// positions and the zones of a sound tariff are told by at most one line each. Each line is told by exactly one of
+/// these parts, so none is left out.
+pub fn sound_tariffs_are_their_parts()
+    ensures one_part { (entry : Entry) → IsInOnePart entry }
+    ensures lines { (t : Tree) → HasAllLines t (sound_of t) }
+    ensures frame { (t : Tree) → IsSound t → HasFrame t (sound_of t) }
+    ensures supplements { (t : Tree) (number : ℕ)
+        → supplement_numbered (sound_of t).supplements number ≡ supplement_of t.lines number }
+{}
+
+/// The law of choices: each choice that the lines of a tariff give stands at its line. The line at the choice's place
+/// among the lines of its kind has the number that the choice names.
+pub fn choices_stand_at_their_lines()
+    ensures { (lines : List Line) → All (StandsAtItsLine lines) (choice_lines lines) }
+{}

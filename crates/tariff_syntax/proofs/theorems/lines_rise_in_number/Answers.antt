@@ -1,5 +1,0 @@
-use Rattle.tariff_syntax.proofs.Laws.{lines_rise_in_number}
-use Rattle.tariff_syntax.proofs.theorems.lines_rise_in_number.Goals as goal
-
-pub returns : goal.returns
-returns c = lines_rise_in_number

@@ -1,5 +1,0 @@
-use Rattle.tariff_syntax.proofs.Laws.{texts_are_cut_at_their_line_feeds}
-use Rattle.tariff_syntax.proofs.theorems.texts_are_cut_at_their_line_feeds.Goals as goal
-
-pub returns : goal.returns
-returns c = texts_are_cut_at_their_line_feeds
