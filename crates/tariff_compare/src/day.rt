@@ -79,8 +79,8 @@ pub(crate) fn day_in(one: &Tables, other: &Tables, number: u32) -> Day
         number,
         weekday: weekday_of(number),
         month_day,
-        holiday: is_holiday_among(one.cuts().holidays(), number),
-        other_holiday: is_holiday_among(other.cuts().holidays(), number),
+        holiday: is_among(one.cuts().holidays(), number),
+        other_holiday: is_among(other.cuts().holidays(), number),
         band: band(one.cuts(), month_day),
         other_band: band(other.cuts(), month_day),
     }
@@ -104,7 +104,7 @@ fn band(cuts: &Cuts, month_day: u16) -> usize
 }
 
 /// Whether a day is among holidays.
-fn is_holiday_among(holidays: &[u64], number: u32) -> bool
+fn is_among(holidays: &[u64], number: u32) -> bool
     ensures { result ≡ is_holiday_among holidays.now number }
 {
     for holiday in holidays {

@@ -175,7 +175,7 @@ impl Tables {
     }
 
     /// The fees that lines name. Each read of one is a step: 1 or 2.
-    fn fees_named<L: Ledger>(&self, lines: CellLines, steps: &mut Steps<L>) -> Initial
+    fn fees_of<L: Ledger>(&self, lines: CellLines, steps: &mut Steps<L>) -> Initial
         requires { lines.initial < length self.now.initials }
         ensures value { result ≡ fees_named self.now lines }
         ensures steps { (steps.old + 1 ≤ steps.new) × (steps.new ≤ steps.old + 2) }

@@ -37,7 +37,7 @@ pub(crate) fn fees_of_hiring(checked: &Checked, x: &Context) -> HiringFees
             minimum: amount_in(minimums, minimum),
         },
         initial_line: line_at(initials, initial),
-        minimum_line: line_at_place(minimums, minimum),
+        minimum_line: line_in(minimums, minimum),
     }
 }
 
@@ -62,7 +62,7 @@ fn line_at<V>(choices: &[Choice<V>], place: usize) -> u32
 }
 
 /// The number of the line of the choice at a place, from 0; none without a place.
-fn line_at_place<V>(choices: &[Choice<V>], place: Option<usize>) -> Option<u32>
+fn line_in<V>(choices: &[Choice<V>], place: Option<usize>) -> Option<u32>
     ensures { result ≡ line_at_place (own_lines choices.now) place }
 {
     match place {
