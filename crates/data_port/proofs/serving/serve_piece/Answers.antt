@@ -72,7 +72,7 @@ behind-left-requires g c = c.in-Ok.ensures.within
 
 pub returns-then-is_err-clause-store : goal.returns-then-is_err-clause-store
 returns-then-is_err-clause-store g c = keeps_then g.B.Printer c.args.board.now c.loop-rest.board
-c.print_replies.new.board
+    c.print_replies.new.board
     c.loop-rest.invariant.store c.print_replies.ensures.store
 
 pub returns-in-Err-clause-store : goal.returns-in-Err-clause-store

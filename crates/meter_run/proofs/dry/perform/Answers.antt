@@ -70,7 +70,7 @@ returns-in-Enter-clause-begun g c =
 
 pub returns-in-Enter-clause-cause : goal.returns-in-Enter-clause-cause
 returns-in-Enter-clause-cause g c = went_well (g.B.Printer.faults c.args.board.now)
-(g.B.Printer.faults c.args.board.now) tt
+    (g.B.Printer.faults c.args.board.now) tt
     (no_more (g.B.Printer.faults c.args.board.now))
 
 pub returns-in-Enter-clause-steps : goal.returns-in-Enter-clause-steps
@@ -93,7 +93,7 @@ returns-in-Hold-clause-begun g c =
 
 pub returns-in-Hold-clause-cause : goal.returns-in-Hold-clause-cause
 returns-in-Hold-clause-cause g c = went_well (g.B.Printer.faults c.args.board.now)
-(g.B.Printer.faults c.args.board.now) tt
+    (g.B.Printer.faults c.args.board.now) tt
     (no_more (g.B.Printer.faults c.args.board.now))
 
 pub returns-in-Hold-clause-steps : goal.returns-in-Hold-clause-steps

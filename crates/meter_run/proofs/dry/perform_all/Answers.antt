@@ -81,5 +81,5 @@ returns-clause-store g c = c.loop-act.invariant.store
 
 pub returns-clause-begun : goal.returns-clause-begun
 returns-clause-begun g c = λ told. begins_end (g.B.Printer.printed c.args.board.now)
-(g.B.Printer.printed c.loop-act.board)
+    (g.B.Printer.printed c.loop-act.board)
     c.args.acts.now c.loop-act.act-index c.loop-act-test.false (c.loop-act.invariant.printed told)
