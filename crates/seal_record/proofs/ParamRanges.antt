@@ -21,19 +21,24 @@ pub record IsSaid (said : ParamsSoFar) : Type 0 where
   pub offsets : 0 < length said.offsets → IsOffsetList said.offsets
   pub secured : IfSome said.secured IsDay
 
--- so it is if each part is
+-- what has been said, by its parts
+abbrev pub said_as : (taxi : Option (List ℕ)) (constant : Option ℕ) (mode : Option Mode) (hold_time : Option ℕ)
+    (offsets : List (ℕ × ℤ)) (secured : Option ℤ) → ParamsSoFar
+said_as taxi constant mode hold_time offsets secured = record {
+  taxi = taxi;
+  constant = constant;
+  mode = mode;
+  hold_time = hold_time;
+  offsets = offsets;
+  secured = secured;
+}
+
+-- it is in its ranges if each part is
 all_said : {taxi : Option (List ℕ)} {constant : Option ℕ} {mode : Option Mode} {hold_time : Option ℕ}
     {offsets : List (ℕ × ℤ)} {secured : Option ℤ}
     → IfSome taxi IsTaxi → IfSome constant (λ n. (500 ≤ n) × (n ≤ 200000)) → IfSome hold_time (λ n. n ≤ 600)
     → (0 < length offsets → IsOffsetList offsets) → IfSome secured IsDay
-    → IsSaid (record {
-      taxi = taxi;
-      constant = constant;
-      mode = mode;
-      hold_time = hold_time;
-      offsets = offsets;
-      secured = secured;
-    })
+    → IsSaid (said_as taxi constant mode hold_time offsets secured)
 all_said t k h o s = record { taxi = t; constant = k; hold_time = h; offsets = o; secured = s }
 
 -- what was read on gave something
@@ -147,14 +152,7 @@ lines_kept said more number (line ∷ lines) is e =
 pub whole_is : (taxi : Option (List ℕ)) (constant : Option ℕ) (mode : Option Mode) (hold_time : Option ℕ)
     (offsets : List (ℕ × ℤ)) (secured : Option ℤ) (params : Params)
     → whole_of taxi constant mode hold_time offsets secured ≡ Ok params
-    → AreAllParams (record {
-      taxi = taxi;
-      constant = constant;
-      mode = mode;
-      hold_time = hold_time;
-      offsets = offsets;
-      secured = secured;
-    }) params
+    → AreAllParams (said_as taxi constant mode hold_time offsets secured) params
 whole_is None constant mode hold_time offsets secured params e = absurd cc
 whole_is (Some taxi) None mode hold_time offsets secured params e = absurd cc
 whole_is (Some taxi) (Some constant) None hold_time offsets secured params e = absurd cc
@@ -170,14 +168,8 @@ whole_is (Some taxi) (Some constant) (Some mode) (Some hold_time) (pair ∷ pair
       offsets = pair ∷ pairs;
       secured = secured;
     } in
-    let said : ParamsSoFar = record {
-      taxi = Some taxi;
-      constant = Some constant;
-      mode = Some mode;
-      hold_time = Some hold_time;
-      offsets = pair ∷ pairs;
-      secured = Some secured;
-    } in
+    let said =
+    said_as (Some taxi) (Some constant) (Some mode) (Some hold_time) (pair ∷ pairs) (Some secured) in
     let same : made ≡ params = cc in
     subst (AreAllParams said) same (record {
       taxi = refl;

@@ -1,12 +1,11 @@
 -- A text that is read says its parameters.
-use Rattle.std.proofs.Common.{[], ℕ, ℤ, ◌+◌, ◌↔◌, ◌∙◌, ◌∷◌, ◌≡◌, Bool, Err, List, None, Ok, Option, Some, arith, false}
-use Rattle.std.proofs.Common.{if◌then◌else◌, inl, inr, length, ltb, refl, subst, sym, true}
-use Rattle.{std.proofs.lemmas.Bool.{cases_lt, le-ltb, lt-ltb}, seal_record.proofs.LineLaws.{lines_say_their_parameter}}
-use Rattle.seal_record.specs.{Common.{Mode, Params, TooLong}, ParamText.{AreAllParams, IsTextOfParams, LinesAddParams}}
-use Rattle.seal_record.{specs.Lines.{lines_of}, proofs.PlainTexts.{whole_again}}
-use Rattle.seal_record.specs.{ParamLineStages.{line_read}, Reading.{and_then, lines_read, params_read, whole, whole_of}}
+use Rattle.std.proofs.Common.{[], ℕ, ◌+◌, ◌↔◌, ◌∷◌, ◌≡◌, Bool, Err, List, Ok, arith, false, if◌then◌else◌, length, ltb}
+use Rattle.std.proofs.{Common.{refl, subst, true}, lemmas.Bool.{le-ltb, ltb-false}}
+use Rattle.seal_record.{specs.{Common.{Params, TooLong}, Lines.{lines_of}}, proofs.PlainTexts.{whole_again}}
+use Rattle.seal_record.specs.{ParamLineStages.{line_read}, ParamText.{AreAllParams, IsTextOfParams, LinesAddParams}}
 use Rattle.seal_record.specs.{ParamText.LinesAddParams.{no_line, one_line}, ParamsSoFar.{ParamsSoFar, no_params_yet}}
-use Rattle.seal_record.proofs.{FaultLaws.{true_false}, ParamRanges.{went_on, whole_is}, TextLaws.{lines_make_the_text}}
+use Rattle.seal_record.{specs.Reading.{and_then, lines_read, params_read, whole}, proofs.TextLaws.{lines_make_the_text}}
+use Rattle.seal_record.proofs.{LineLaws.{lines_say_their_parameter}, ParamRanges.{went_on, whole_is}}
 
 pub say_on : (said after : ParamsSoFar) (number : ℕ) (lines : List (List ℕ)) → lines_read said number lines ≡ Ok after
     → LinesAddParams said lines after
@@ -38,8 +37,7 @@ text_by false text params is e =
     let on = went_on (lines_read no_params_yet 1 (lines_of text)) whole params e in
     let said = on.0 in
     record {
-      few = elim (cases_lt 65536 (length text))
-          [ inl lt ↦ absurd (true_false (sym (lt-ltb 65536 (length text) lt) ∙ is)) | inr le ↦ le ];
+      few = ltb-false 65536 (length text) is;
       lines = lines_of text;
       said = said;
       are_lines = (lines_make_the_text text (lines_of text)).0 refl;
