@@ -3,10 +3,10 @@ use Rattle.std.proofs.Common.{[], ℕ, ◌%◌, ◌*◌, ◌+◌, ◌-◌, ◌/�
 use Rattle.std.proofs.Common.{le_of_mul-le-mul_right, lt_of_mul-lt-mul_right, mul-le-mul_right, mul-lt-mul_of_pos_right}
 use Rattle.std.proofs.{Common.{mul_assoc, mul_comm, mul_right_comm, nat_lt, sym}, lemmas.Nat.{div-mul-add, mod-mul-add}}
 use Rattle.std.proofs.{Math.Nat.{div-add-mod, mul-sub}, lemmas.Grind.{common_steps}}
-use Rattle.drive_modes.specs.Fare.{above_cover, opening_of, quotient, steps_of}
-use Rattle.drive_modes.{specs.declared.meterage.Rounding.TheVariants.{Ahead, Behind}, proofs.Laws.{shown-sum}}
+use Rattle.drive_modes.{specs.Fare.{above_cover, opening_of, quotient, saved, steps_of}, proofs.Laws.{shown-sum}}
+use Rattle.drive_modes.specs.declared.meterage.Rounding.TheVariants.{Ahead, Behind}
 use Rattle.same_tariffs.specs.Alike.{AreMeteragesAlike, AreOpeningsAlike, IsSameMoney}
-use Rattle.same_tariffs.specs.Common.{Meterage, Opening, Rounding, saved, steps_above}
+use Rattle.same_tariffs.specs.Common.{Meterage, Opening, Rounding, steps_above}
 
 pub none-same : (u v : ℕ) → IsSameMoney u v 0 0
 none-same u v = record { scaled = omega arith }

@@ -2,7 +2,7 @@
 pub use Rattle.taxi_units.specs.{Time.{IsSecond, last_tick}, declared.event.Event.TheVariants.{Down, Pulses, Tick, Up}}
 pub use Rattle.taxi_units.specs.declared.event.{Event.{Event}, Operating.{Operating, TheVariants.{ForHire, Hired, Off}}}
 pub use Rattle.taxi_units.specs.declared.event.Key.{Key, TheVariants.{Hire, Position, Zone}}
-pub use Rattle.{drive_modes.specs.Fare.{Opening, saved, steps_above}, drive_text.specs.Ending.{events_of}}
+pub use Rattle.{drive_modes.specs.Fare.{Opening, steps_above}, drive_text.specs.Ending.{events_of}}
 pub use Rattle.drive_modes.specs.declared.{charges.Mode.{Mode}, meterage.{Meterage.{Meterage}, Rounding.{Rounding}}}
 pub use Rattle.interval_clock.specs.{LocalTime.{day_of, local_second, minute_of_day}, Offsets.{IsOffsetList}}
 pub use Rattle.{drive_text.specs.Written.{drive_of}, totals_record.specs.declared.durable_state.Durable.{Durable}}

@@ -1,9 +1,9 @@
 //! Runs under tariffs that are the same.
 ghost use Rattle.std.specs.Prelude.{ℕ, ◌<◌, ◌≡◌, All, List};
+ghost use Rattle.{drive_modes.specs.Fare.{saved}, same_tariffs.specs.{Alike.{IsSameMoney}, Common.{whole_run}}};
 ghost use Rattle.same_tariffs.specs.Alike.{AreMeteragesAlike, AreOpeningsAlike, AreOutcomesAlike, AreStoresAlike};
-ghost use Rattle.same_tariffs.specs.{Alike.{IsSameMoney}, Common.{steps_above, whole_run}, Same.{AreSameSettings}};
-ghost use Rattle.same_tariffs.specs.Common.{Durable, Event, IsTimely, Opening, Rounding, Setting, Tree, saved};
-ghost use Rattle.same_tariffs.specs.Reached.{HoldGoesOn};
+ghost use Rattle.same_tariffs.specs.Common.{Durable, Event, IsTimely, Opening, Rounding, Setting, Tree, steps_above};
+ghost use Rattle.same_tariffs.specs.{Reached.{HoldGoesOn}, Same.{AreSameSettings}};
 
 /// Charges that are the same money in two units, above covers that are the same money, leave meterages that are alike
 /// and show the same display steps.

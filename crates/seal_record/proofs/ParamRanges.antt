@@ -8,7 +8,7 @@ use Rattle.seal_record.specs.Common.{Secured, Taxi, Test, TooLong, Twice, date_t
 use Rattle.seal_record.specs.{Lines.{is_passed, key_in, lines_of, value_in}, ParamsSoFar.{ParamsSoFar, no_params_yet}}
 use Rattle.seal_record.specs.{OffsetList.{offsets_test}, Reading.{and_then, lines_read, params_read, whole, whole_of}}
 use Rattle.seal_record.specs.ParamLineStages.{is_twice, keyed_line, line_read, name_of, or_bad, with_pair, with_value}
-use Rattle.seal_record.specs.RangeTests.{taxi_test}
+use Rattle.seal_record.specs.{ParamText.{AreAllParams}, RangeTests.{taxi_test}}
 use Rattle.seal_record.{specs.Ranges.{IsDay, IsParams, IsTaxi}, proofs.DayBounds.{days_in_range}}
 use Rattle.seal_record.specs.Values.{mode_read, pair_read, secured_read, secured_test, taxi_read, where_date}
 use Rattle.seal_record.specs.declared.params.Name.TheVariants as name
@@ -20,6 +20,26 @@ pub record IsSaid (said : ParamsSoFar) : Type 0 where
   pub hold_time : IfSome said.hold_time (λ n. n ≤ 600)
   pub offsets : 0 < length said.offsets → IsOffsetList said.offsets
   pub secured : IfSome said.secured IsDay
+
+-- what has been said, by its parts
+abbrev pub said_as : (taxi : Option (List ℕ)) (constant : Option ℕ) (mode : Option Mode) (hold_time : Option ℕ)
+    (offsets : List (ℕ × ℤ)) (secured : Option ℤ) → ParamsSoFar
+said_as taxi constant mode hold_time offsets secured = record {
+  taxi = taxi;
+  constant = constant;
+  mode = mode;
+  hold_time = hold_time;
+  offsets = offsets;
+  secured = secured;
+}
+
+-- it is in its ranges if each part is
+all_said : {taxi : Option (List ℕ)} {constant : Option ℕ} {mode : Option Mode} {hold_time : Option ℕ}
+    {offsets : List (ℕ × ℤ)} {secured : Option ℤ}
+    → IfSome taxi IsTaxi → IfSome constant (λ n. (500 ≤ n) × (n ≤ 200000)) → IfSome hold_time (λ n. n ≤ 600)
+    → (0 < length offsets → IsOffsetList offsets) → IfSome secured IsDay
+    → IsSaid (said_as taxi constant mode hold_time offsets secured)
+all_said t k h o s = record { taxi = t; constant = k; hold_time = h; offsets = o; secured = s }
 
 -- what was read on gave something
 pub read_on : {A B : Type 0} (found : Option A) (f : A → Option B) (y : B) → (found >>= f) ≡ Some y
@@ -60,68 +80,32 @@ pair_kept : (said more : ParamsSoFar) (pair : ℕ × ℤ) → IsSaid said → wi
 pair_kept said more pair is e =
     let list = said.offsets ++ pair ∷ [] in
     let through = let_through (offsets_test list) (record said { offsets = list }) more e in
-    subst IsSaid through.1 (record {
-      taxi = is.taxi;
-      constant = is.constant;
-      hold_time = is.hold_time;
-      offsets = λ some. through.0;
-      secured = is.secured;
-    })
+    subst IsSaid through.1 (all_said is.taxi is.constant is.hold_time (λ some. through.0) is.secured)
 
 value_kept : (said more : ParamsSoFar) (key : Name) (value : List ℕ) → IsSaid said
     → with_value said key value ≡ Some more → IsSaid more
 value_kept said more Taxi value is e =
     let read = read_on (taxi_read value) _ more e in
     let same : record said { taxi = Some read.0 } ≡ more = cc in
-    subst IsSaid same (record {
-      taxi = taxi_said value read.0 read.1;
-      constant = is.constant;
-      hold_time = is.hold_time;
-      offsets = is.offsets;
-      secured = is.secured;
-    })
+    subst IsSaid same (all_said (taxi_said value read.0 read.1) is.constant is.hold_time is.offsets is.secured)
 value_kept said more Constant value is e =
     let read = read_on (number_in 500 200000 value) _ more e in
     let same : record said { constant = Some read.0 } ≡ more = cc in
-    subst IsSaid same (record {
-      taxi = is.taxi;
-      constant = number_said 500 200000 value read.0 read.1;
-      hold_time = is.hold_time;
-      offsets = is.offsets;
-      secured = is.secured;
-    })
+    subst IsSaid same (all_said is.taxi (number_said 500 200000 value read.0 read.1) is.hold_time is.offsets is.secured)
 value_kept said more name.Mode value is e =
     let read = read_on (mode_read value) _ more e in
     let same : record said { mode = Some read.0 } ≡ more = cc in
-    subst IsSaid same (record {
-      taxi = is.taxi;
-      constant = is.constant;
-      hold_time = is.hold_time;
-      offsets = is.offsets;
-      secured = is.secured;
-    })
+    subst IsSaid same (all_said is.taxi is.constant is.hold_time is.offsets is.secured)
 value_kept said more Hold value is e =
     let read = read_on (number_in 0 600 value) _ more e in
     let same : record said { hold_time = Some read.0 } ≡ more = cc in
-    subst IsSaid same (record {
-      taxi = is.taxi;
-      constant = is.constant;
-      hold_time = (number_said 0 600 value read.0 read.1).1;
-      offsets = is.offsets;
-      secured = is.secured;
-    })
+    subst IsSaid same (all_said is.taxi is.constant ((number_said 0 600 value read.0 read.1).1) is.offsets is.secured)
 value_kept said more Offset value is e = let read = read_on (pair_read value) (with_pair said) more e in
     pair_kept said more read.0 is read.2
 value_kept said more Secured value is e =
     let read = read_on (secured_read value) _ more e in
     let same : record said { secured = Some read.0 } ≡ more = cc in
-    subst IsSaid same (record {
-      taxi = is.taxi;
-      constant = is.constant;
-      hold_time = is.hold_time;
-      offsets = is.offsets;
-      secured = secured_said value read.0 read.1;
-    })
+    subst IsSaid same (all_said is.taxi is.constant is.hold_time is.offsets (secured_said value read.0 read.1))
 
 bad_kept : (said more : ParamsSoFar) (number : ℕ) (key : Name) (value : List ℕ) (found : Option ParamsSoFar)
     → with_value said key value ≡ found → IsSaid said → or_bad number found ≡ Ok more → IsSaid more
@@ -165,18 +149,17 @@ lines_kept said more number (line ∷ lines) is e =
     went_on (line_read said number line) (λ (after : ParamsSoFar). lines_read after (number + 1) lines) more e in
     lines_kept on.0 more (number + 1) lines (line_kept said on.0 number line is on.1) on.2
 
-whole_kept : (taxi : Option (List ℕ)) (constant : Option ℕ) (mode : Option Mode) (hold_time : Option ℕ)
+pub whole_is : (taxi : Option (List ℕ)) (constant : Option ℕ) (mode : Option Mode) (hold_time : Option ℕ)
     (offsets : List (ℕ × ℤ)) (secured : Option ℤ) (params : Params)
-    → IfSome taxi IsTaxi → IfSome constant (λ n. (500 ≤ n) × (n ≤ 200000)) → IfSome hold_time (λ n. n ≤ 600)
-    → (0 < length offsets → IsOffsetList offsets) → IfSome secured IsDay
-    → whole_of taxi constant mode hold_time offsets secured ≡ Ok params → IsParams params
-whole_kept None constant mode hold_time offsets secured params t k h o s e = absurd cc
-whole_kept (Some taxi) None mode hold_time offsets secured params t k h o s e = absurd cc
-whole_kept (Some taxi) (Some constant) None hold_time offsets secured params t k h o s e = absurd cc
-whole_kept (Some taxi) (Some constant) (Some mode) None offsets secured params t k h o s e = absurd cc
-whole_kept (Some taxi) (Some constant) (Some mode) (Some hold_time) [] secured params t k h o s e = absurd cc
-whole_kept (Some taxi) (Some constant) (Some mode) (Some hold_time) (pair ∷ pairs) None params t k h o s e = absurd cc
-whole_kept (Some taxi) (Some constant) (Some mode) (Some hold_time) (pair ∷ pairs) (Some secured) params t k h o s e =
+    → whole_of taxi constant mode hold_time offsets secured ≡ Ok params
+    → AreAllParams (said_as taxi constant mode hold_time offsets secured) params
+whole_is None constant mode hold_time offsets secured params e = absurd cc
+whole_is (Some taxi) None mode hold_time offsets secured params e = absurd cc
+whole_is (Some taxi) (Some constant) None hold_time offsets secured params e = absurd cc
+whole_is (Some taxi) (Some constant) (Some mode) None offsets secured params e = absurd cc
+whole_is (Some taxi) (Some constant) (Some mode) (Some hold_time) [] secured params e = absurd cc
+whole_is (Some taxi) (Some constant) (Some mode) (Some hold_time) (pair ∷ pairs) None params e = absurd cc
+whole_is (Some taxi) (Some constant) (Some mode) (Some hold_time) (pair ∷ pairs) (Some secured) params e =
     let made : Params = record {
       taxi = record { items = taxi };
       constant = constant;
@@ -185,8 +168,27 @@ whole_kept (Some taxi) (Some constant) (Some mode) (Some hold_time) (pair ∷ pa
       offsets = pair ∷ pairs;
       secured = secured;
     } in
+    let said =
+    said_as (Some taxi) (Some constant) (Some mode) (Some hold_time) (pair ∷ pairs) (Some secured) in
     let same : made ≡ params = cc in
-    subst IsParams same (record { taxi = t; constant = k; hold_time = h; secured = s; offsets = o (omega arith) })
+    subst (AreAllParams said) same (record {
+      taxi = refl;
+      constant = refl;
+      mode = refl;
+      hold_time = refl;
+      some = omega arith;
+      offsets = refl;
+      secured = refl;
+    })
+
+whole_kept : (said : ParamsSoFar) (params : Params) → IsSaid said → AreAllParams said params → IsParams params
+whole_kept said params is all = record {
+  taxi = rw all.taxi at is.taxi;
+  constant = rw all.constant at is.constant;
+  hold_time = rw all.hold_time at is.hold_time;
+  offsets = (rw all.offsets at is.offsets) (omega (arith, all.some));
+  secured = rw all.secured at is.secured;
+}
 
 short_kept : (long : Bool) (text : List ℕ) (params : Params) → (if long then Err TooLong
     else and_then (lines_read no_params_yet 1 (lines_of text)) whole) ≡ Ok params → IsParams params
@@ -197,8 +199,8 @@ short_kept false text params e =
     let is = lines_kept no_params_yet said 1 (lines_of text)
     (record { taxi = tt; constant = tt; hold_time = tt; offsets = λ some. absurd (omega (arith, some)); secured = tt })
     on.1 in
-    whole_kept said.taxi said.constant said.mode said.hold_time said.offsets said.secured params is.taxi is.constant
-    is.hold_time is.offsets is.secured on.2
+    whole_kept said params is
+    (whole_is said.taxi said.constant said.mode said.hold_time said.offsets said.secured params on.2)
 
 -- parameters that a text says are in their ranges
 pub said_in_ranges : (text : List ℕ) (params : Params) → params_read text ≡ Ok params → IsParams params

@@ -12,11 +12,12 @@ use Rattle.interval_clock.{specs.Offsets.{IsInRangeAt, IsSecond, second_at}, pro
 use Rattle.seal_record.specs.Common.{Constant, Double, Hold, IsIdentifierCharacter, IsOffset, IsOffsetList, Mode, Name}
 use Rattle.seal_record.specs.Common.{Offset, Params, Secured, Single, Taxi, at_most, each, padded_text}
 use Rattle.seal_record.specs.{Lines.{is_passed, lines_of}, ParamLineStages.{line_read, name_of, named_line}}
-use Rattle.seal_record.specs.{OffsetList.{offsets_test}, Ranges.{IsParams}, TextParts.{HasNone}}
+use Rattle.seal_record.{specs.{OffsetList.{offsets_test}, TextParts.{HasNone}}, proofs.LineLaws.{name_from}}
 use Rattle.seal_record.{specs.ParamsSoFar.{ParamsSoFar, no_params_yet}, proofs.DayBounds.{date_bound, year_in_range}}
 use Rattle.seal_record.specs.PlainText.{AreShown, comment_line, commented_text, date_text, ended_text, line_of}
 use Rattle.seal_record.specs.PlainText.{mode_text, offset_line, offset_text, plain_lines, plain_text}
 use Rattle.seal_record.{specs.RangeTests.{taxi_test}, proofs.LineParts.{ended_line, key_before, last_line, value_after}}
+use Rattle.seal_record.specs.Ranges.{IsParams}
 use Rattle.seal_record.proofs.PlainValues.{date_again, length-padded_text, mode_again, number_again, pair_again}
 use Rattle.seal_record.specs.declared.params.Name.TheVariants as name
 
@@ -193,30 +194,6 @@ empty_read : (said : ParamsSoFar) (number : ℕ) → line_read said number [] �
 unfolding line_read
 empty_read said number = refl
 
-named_taxi : name_of (codes "taxi") ≡ Some Taxi
-unfolding name_of
-named_taxi = refl
-
-named_constant : name_of (codes "constant") ≡ Some Constant
-unfolding name_of
-named_constant = refl
-
-named_mode : name_of (codes "mode") ≡ Some name.Mode
-unfolding name_of
-named_mode = refl
-
-named_hold : name_of (codes "hold") ≡ Some Hold
-unfolding name_of
-named_hold = refl
-
-named_offset : name_of (codes "offset") ≡ Some Offset
-unfolding name_of
-named_offset = refl
-
-named_secured : name_of (codes "secured") ≡ Some Secured
-unfolding name_of
-named_secured = refl
-
 -- what has been said before the offsets, and with some of them
 abbrev four_said : Params → List (ℕ × ℤ) → ParamsSoFar
 four_said params offsets = record {
@@ -243,17 +220,19 @@ four_read params number rest is =
     let three : ParamsSoFar = record two { mode = Some params.mode } in
     let four : ParamsSoFar = record three { hold_time = Some params.hold_time } in
     step no_params_yet one number taxi_line (constant_line ∷ mode_line ∷ hold_line ∷ rest)
-    (keyed_read no_params_yet number (codes "taxi") params.taxi.items Taxi (is_word (codes "taxi") refl) refl named_taxi
+    (keyed_read no_params_yet number (codes "taxi") params.taxi.items Taxi (is_word (codes "taxi") refl) refl
+    (name_from Taxi)
     ∙ rw ((taxi_test params.taxi.items).decides.1 is.taxi) refl)
     ∙ (step one two (number + 1) constant_line (mode_line ∷ hold_line ∷ rest)
     (keyed_read one (number + 1) (codes "constant") (decimal params.constant) Constant (is_word (codes "constant") refl)
-    refl named_constant ∙ rw (number_again 500 200000 params.constant is.constant.0 is.constant.1 (omega arith)) refl)
+    refl (name_from Constant)
+    ∙ rw (number_again 500 200000 params.constant is.constant.0 is.constant.1 (omega arith)) refl)
     ∙ (step two three (number + 1 + 1) mode_line (hold_line ∷ rest)
     (keyed_read two (number + 1 + 1) (codes "mode") (mode_text params.mode) name.Mode
-    (is_word (codes "mode") refl) refl named_mode ∙ rw (mode_again params.mode) refl)
+    (is_word (codes "mode") refl) refl (name_from name.Mode) ∙ rw (mode_again params.mode) refl)
     ∙ step three four (number + 1 + 1 + 1) hold_line rest
     (keyed_read three (number + 1 + 1 + 1) (codes "hold") (decimal params.hold_time) Hold (is_word (codes "hold") refl)
-    refl named_hold ∙ rw (number_again 0 600 params.hold_time (omega arith) is.hold_time (omega arith)) refl)))
+    refl (name_from Hold) ∙ rw (number_again 0 600 params.hold_time (omega arith) is.hold_time (omega arith)) refl)))
 
 -- the beginning of a lawful list is lawful
 lawful_front : (front rest : List (ℕ × ℤ)) → 0 < length front → IsOffsetList (front ++ rest) → IsOffsetList front
@@ -282,7 +261,7 @@ pair_read_on : (params : Params) (number : ℕ) (done : List (ℕ × ℤ)) (pair
     → line_read (four_said params done) number (offset_line pair) ≡ Ok (four_said params (done ++ pair ∷ []))
 pair_read_on params number done pair is to from offset =
     keyed_read (four_said params done) number (codes "offset") (decimal pair.0 ++ 32 ∷ offset_text pair.1) Offset
-    (is_word (codes "offset") refl) refl named_offset
+    (is_word (codes "offset") refl) refl (name_from Offset)
     ∙ rw (pair_again pair (from, to) offset, (offsets_test (done ++ pair ∷ [])).decides.1 is) refl
 
 pairs_read : (params : Params) (number : ℕ) (done left : List (ℕ × ℤ)) (rest : List (List ℕ))
@@ -323,7 +302,7 @@ last_read params number n from to =
     let text = date_text (date_after n) in
     step (four_said params params.offsets) (all_said params (pos n)) number (line_of (codes "secured") text) ([] ∷ [])
     (keyed_read (four_said params params.offsets) number (codes "secured") text Secured
-    (is_word (codes "secured") refl) refl named_secured ∙ rw (date_again n from to) refl)
+    (is_word (codes "secured") refl) refl (name_from Secured) ∙ rw (date_again n from to) refl)
     ∙ (step (all_said params (pos n)) (all_said params (pos n)) (number + 1) [] []
     (empty_read (all_said params (pos n)) (number + 1)) ∙ refl)
 

@@ -1,13 +1,13 @@
 -- A text is too long, or lacks a parameter.
-use Rattle.std.proofs.Common.{[], ℕ, ℤ, ◌+◌, ◌<◌, ◌↔◌, ◌∙◌, ◌∷◌, ◌≡◌, Bool, Err, List, None, Ok, Option, Result, Some}
-use Rattle.std.proofs.Common.{arith, false, if◌then◌else◌, inl, inr, length, ltb, refl, subst, sym, true}
-use Rattle.std.proofs.lemmas.Bool.{cases_lt, le-ltb, lt-ltb}
+use Rattle.std.proofs.Common.{[], ℕ, ℤ, ◌+◌, ◌<◌, ◌↔◌, ◌∷◌, ◌≡◌, Bool, Err, List, None, Ok, Option, Result, Some, arith}
+use Rattle.std.proofs.Common.{false, if◌then◌else◌, length, ltb, refl, subst, true}
+use Rattle.std.proofs.lemmas.Bool.{le-ltb, lt-ltb, ltb-false, ltb-true}
 use Rattle.seal_record.specs.Common.{Constant, Hold, Mode, Name, Offset, ParamFault, Params, Secured, Taxi}
-use Rattle.seal_record.{specs.Faults.{IsBad}, proofs.TextLaws.{lines_make_the_text, the_first_bad_line}}
-use Rattle.seal_record.specs.Faults.IsBad.{bad_value, said_twice, unknown_key}
+use Rattle.seal_record.{specs.Faults.{IsBad, IsBad.{bad_value, said_twice, unknown_key}}, proofs.ParamRanges.{said_as}}
 use Rattle.seal_record.specs.{Lines.{lines_of}, Reading.{and_then, lines_read, params_read, whole, whole_of}}
 use Rattle.seal_record.specs.{ParamText.{IsParamMissing, LacksFirst, row_of}, ParamsSoFar.{ParamsSoFar, no_params_yet}}
-use Rattle.seal_record.proofs.{FaultLaws.{bad_lines_have_their_fault, true_false}, WholeLaws.{say_from, say_on}}
+use Rattle.seal_record.proofs.FaultLaws.{bad_lines_have_their_fault}
+use Rattle.seal_record.proofs.{TextLaws.{lines_make_the_text, the_first_bad_line}, WholeLaws.{say_from, say_on}}
 use Rattle.seal_record.specs.declared.params.Name.TheVariants as name
 use Rattle.seal_record.specs.declared.params.ParamFault.TheVariants as faults
 
@@ -54,8 +54,7 @@ never_long (Some taxi) (Some constant) (Some mode) (Some hold_time) (pair ∷ pa
 long_by : (long : Bool) (text : List ℕ) → ltb 65536 (length text) ≡ long
     → (if long then Err faults.TooLong else and_then (lines_read no_params_yet 1 (lines_of text)) whole)
     ≡ Err faults.TooLong → 65536 < length text
-long_by true text is e = elim (cases_lt 65536 (length text))
-    [ inl lt ↦ lt | inr le ↦ absurd (true_false (sym is ∙ le-ltb 65536 (length text) le)) ]
+long_by true text is e = ltb-true 65536 (length text) is
 long_by false text is e =
     let there =
     not_whole (lines_read no_params_yet 1 (lines_of text)) faults.TooLong (λ none. none) (of_lines (lines_of text)) e in
@@ -83,16 +82,6 @@ Lacks said which = IsParamMissing said which × Earlier said which
 
 some_said : {A : Type 0} (x : A) → ¬ (Some x ≡ None)
 some_said x e = cc
-
-abbrev said_as : Option (List ℕ) → Option ℕ → Option Mode → Option ℕ → List (ℕ × ℤ) → Option ℤ → ParamsSoFar
-said_as taxi constant mode hold_time offsets secured = record {
-  taxi = taxi;
-  constant = constant;
-  mode = mode;
-  hold_time = hold_time;
-  offsets = offsets;
-  secured = secured;
-}
 
 lacks : (taxi : Option (List ℕ)) (constant : Option ℕ) (mode : Option Mode) (hold_time : Option ℕ)
     (offsets : List (ℕ × ℤ)) (secured : Option ℤ) (which : Name)
@@ -184,8 +173,7 @@ missing_by false text which is e =
     let said = there.0 in
     let lack = lacks said.taxi said.constant said.mode said.hold_time said.offsets said.secured which there.2 in
     record {
-      few = elim (cases_lt 65536 (length text))
-          [ inl lt ↦ absurd (true_false (sym (lt-ltb 65536 (length text) lt) ∙ is)) | inr le ↦ le ];
+      few = ltb-false 65536 (length text) is;
       lines = lines_of text;
       said = said;
       are_lines = (lines_make_the_text text (lines_of text)).0 refl;

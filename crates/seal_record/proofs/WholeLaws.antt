@@ -1,12 +1,11 @@
 -- A text that is read says its parameters.
-use Rattle.std.proofs.Common.{[], ℕ, ℤ, ◌+◌, ◌↔◌, ◌∙◌, ◌∷◌, ◌≡◌, Bool, Err, List, None, Ok, Option, Some, arith, false}
-use Rattle.std.proofs.Common.{if◌then◌else◌, inl, inr, length, ltb, refl, subst, sym, true}
-use Rattle.{std.proofs.lemmas.Bool.{cases_lt, le-ltb, lt-ltb}, seal_record.proofs.LineLaws.{lines_say_their_parameter}}
-use Rattle.seal_record.specs.{Common.{Mode, Params, TooLong}, ParamText.{AreAllParams, IsTextOfParams, LinesAddParams}}
-use Rattle.seal_record.{specs.Lines.{lines_of}, proofs.ParamRanges.{went_on}}
-use Rattle.seal_record.specs.{ParamLineStages.{line_read}, Reading.{and_then, lines_read, params_read, whole, whole_of}}
+use Rattle.std.proofs.Common.{[], ℕ, ◌+◌, ◌↔◌, ◌∷◌, ◌≡◌, Bool, Err, List, Ok, arith, false, if◌then◌else◌, length, ltb}
+use Rattle.std.proofs.{Common.{refl, subst, true}, lemmas.Bool.{le-ltb, ltb-false}}
+use Rattle.seal_record.{specs.{Common.{Params, TooLong}, Lines.{lines_of}}, proofs.PlainTexts.{whole_again}}
+use Rattle.seal_record.specs.{ParamLineStages.{line_read}, ParamText.{AreAllParams, IsTextOfParams, LinesAddParams}}
 use Rattle.seal_record.specs.{ParamText.LinesAddParams.{no_line, one_line}, ParamsSoFar.{ParamsSoFar, no_params_yet}}
-use Rattle.seal_record.proofs.{FaultLaws.{true_false}, PlainTexts.{whole_again}, TextLaws.{lines_make_the_text}}
+use Rattle.seal_record.{specs.Reading.{and_then, lines_read, params_read, whole}, proofs.TextLaws.{lines_make_the_text}}
+use Rattle.seal_record.proofs.{LineLaws.{lines_say_their_parameter}, ParamRanges.{went_on, whole_is}}
 
 pub say_on : (said after : ParamsSoFar) (number : ℕ) (lines : List (List ℕ)) → lines_read said number lines ≡ Ok after
     → LinesAddParams said lines after
@@ -25,51 +24,6 @@ say_from said after number lines (no_line s) = refl
 say_from said after number lines (one_line s more a line ls says on) =
     rw ((lines_say_their_parameter s more number line).1 says) (say_from more a (number + 1) ls on)
 
-whole_is : (taxi : Option (List ℕ)) (constant : Option ℕ) (mode : Option Mode) (hold_time : Option ℕ)
-    (offsets : List (ℕ × ℤ)) (secured : Option ℤ) (params : Params)
-    → whole_of taxi constant mode hold_time offsets secured ≡ Ok params
-    → AreAllParams (record {
-      taxi = taxi;
-      constant = constant;
-      mode = mode;
-      hold_time = hold_time;
-      offsets = offsets;
-      secured = secured;
-    }) params
-whole_is None constant mode hold_time offsets secured params e = absurd cc
-whole_is (Some taxi) None mode hold_time offsets secured params e = absurd cc
-whole_is (Some taxi) (Some constant) None hold_time offsets secured params e = absurd cc
-whole_is (Some taxi) (Some constant) (Some mode) None offsets secured params e = absurd cc
-whole_is (Some taxi) (Some constant) (Some mode) (Some hold_time) [] secured params e = absurd cc
-whole_is (Some taxi) (Some constant) (Some mode) (Some hold_time) (pair ∷ pairs) None params e = absurd cc
-whole_is (Some taxi) (Some constant) (Some mode) (Some hold_time) (pair ∷ pairs) (Some secured) params e =
-    let made : Params = record {
-      taxi = record { items = taxi };
-      constant = constant;
-      mode = mode;
-      hold_time = hold_time;
-      offsets = pair ∷ pairs;
-      secured = secured;
-    } in
-    let said : ParamsSoFar = record {
-      taxi = Some taxi;
-      constant = Some constant;
-      mode = Some mode;
-      hold_time = Some hold_time;
-      offsets = pair ∷ pairs;
-      secured = Some secured;
-    } in
-    let same : made ≡ params = cc in
-    subst (AreAllParams said) same (record {
-      taxi = refl;
-      constant = refl;
-      mode = refl;
-      hold_time = refl;
-      some = omega arith;
-      offsets = refl;
-      secured = refl;
-    })
-
 whole_from : (said : ParamsSoFar) (params : Params) → AreAllParams said params → whole said ≡ Ok params
 whole_from said params all =
     rw (all.taxi, all.constant, all.mode, all.hold_time, all.offsets, all.secured)
@@ -83,8 +37,7 @@ text_by false text params is e =
     let on = went_on (lines_read no_params_yet 1 (lines_of text)) whole params e in
     let said = on.0 in
     record {
-      few = elim (cases_lt 65536 (length text))
-          [ inl lt ↦ absurd (true_false (sym (lt-ltb 65536 (length text) lt) ∙ is)) | inr le ↦ le ];
+      few = ltb-false 65536 (length text) is;
       lines = lines_of text;
       said = said;
       are_lines = (lines_make_the_text text (lines_of text)).0 refl;

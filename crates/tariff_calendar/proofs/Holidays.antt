@@ -4,11 +4,11 @@ use Rattle.std.proofs.Common.{[], ℕ, ℤ, ◌<ℤ◌, ◌∙◌, ◌∷◌, �
 use Rattle.std.proofs.{Common.{subst, true}, lemmas.{Bool.Decides.{Decides-int_eq, same_from_decides}, Int.{ints}}}
 use Rattle.std.proofs.lemmas.{Bool.{false_from_ne_true, lt-ltb}, List.Elements.{All-head, All-tail}}
 use Rattle.taxi_units.specs.Test.{◌&◌, Test, same}
-use Rattle.interval_clock.specs.declared.day_numbers.CalendarDate.{CalendarDate}
+use Rattle.interval_clock.specs.{Calendar.{IsDateOf}, declared.day_numbers.CalendarDate.{CalendarDate}}
 use Rattle.{interval_clock.proofs.Laws.{IsDateOf-only, is_date_of_number}, tariff_check.specs.Parts.{DateNumbers}}
 use Rattle.tariff_check.{specs.Sound.{IsSoundHoliday}, proofs.Laws.{sound_tariffs_have_sound_parts-parts}}
-use Rattle.tariff_calendar.specs.Common.{HasSoundParts, IsDateOf, IsSound, IsWritable, Tree, has_holidays, holidays_of}
-use Rattle.tariff_calendar.specs.{Common.{with_each}, Lists.{day_of, has_day, has_days, is_holiday, lists_of}}
+use Rattle.tariff_calendar.specs.Common.{HasSoundParts, IsSound, IsWritable, Tree, has_holidays, holidays_of, with_each}
+use Rattle.tariff_calendar.specs.Lists.{day_of, has_day, has_days, is_holiday, lists_of}
 use Rattle.tariff_calendar.proofs.Insertions.{list_any-with_each, with_each-some}
 
 -- no day before 1970 is one of day numbers

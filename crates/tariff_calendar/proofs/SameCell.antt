@@ -3,11 +3,11 @@ use Rattle.std.specs.{List.{All, Contains, cons_option, flat_map, position_from}
 use Rattle.std.proofs.Common.{[], ℕ, ◌+◌, ◌∷◌, ◌≡◌, List, None, Option, Some, get_or, map, refl, subst}
 use Rattle.std.proofs.lemmas.List.Elements.{All-cons, All-contains, All-from_get_or, All-head, All-nil, All-tail}
 use Rattle.{std.proofs.lemmas.List.Elements.{Contains-get_or}, tariff_syntax.specs.Choices.{choices, conditions_of}}
-use Rattle.{tariff_syntax.specs.{Meaning.{holds_if}, Tree.{Entry}}, tariff_check.specs.Cuts.{all_cuts}}
+use Rattle.{tariff_syntax.specs.{Meaning.{holds_if}, Tree.{Entry, when_part}}, tariff_check.specs.Cuts.{all_cuts}}
 use Rattle.tariff_check.{specs.Lines.{atoms_if, atoms_in}, proofs.Laws.{sound_tariffs_have_sound_parts-parts}}
 use Rattle.tariff_calendar.specs.Common.{Condition, Context, Dimension, Distance, HasSoundParts, IsGoodAtom, IsSound}
 use Rattle.tariff_calendar.specs.Common.{IsWritable, Line, Minute, MonthDay, Time, Tree, at_hiring, atom_cuts}
-use Rattle.tariff_calendar.{specs.Common.{choice_place, cuts_of, holds, when_part}, proofs.Comparisons.{holds_alike}}
+use Rattle.tariff_calendar.{specs.Common.{choice_place, cuts_of, holds}, proofs.Comparisons.{holds_alike}}
 use Rattle.tariff_calendar.{specs.Lists.{CutLists, count_at_most, lists_of, pulses_for}, proofs.Counts.{decides_at}}
 use Rattle.tariff_calendar.{specs.Range.{IsInRangeOf, IsSameCell}, proofs.Insertions.{All-from_with_each}}
 use Rattle.tariff_calendar.proofs.Comparisons.{All-parts, CompareAlike, HaveAlike, IsAlike, IsAlikeInPulses}

@@ -1,8 +1,9 @@
 //! Why cuts are enough: contexts between the same cuts mean the same.
 ghost use Rattle.std.specs.Prelude.{ℕ, ℤ, ◌*◌, ◌+◌, ◌<◌, ◌↔◌, ◌≡◌, ◌≤◌, Contains, List, Some, length, slice_index};
+ghost use Rattle.{interval_clock.specs.Calendar.{IsDateOf}, tariff_syntax.specs.Tree.{when_part}};
 ghost use Rattle.tariff_check.specs.{Kinds.{part_of}, declared.choice.ChoiceKind.{ChoiceKind}};
-ghost use Rattle.tariff_calendar.specs.Common.{Condition, Context, IsDateOf, IsSound, IsWritable, Line, Tree};
-ghost use Rattle.tariff_calendar.specs.Common.{at_hiring, choice_place, has_holidays, holds, when_part, with_each};
+ghost use Rattle.tariff_calendar.specs.Common.{Condition, Context, IsSound, IsWritable, Line, Tree, at_hiring};
+ghost use Rattle.tariff_calendar.specs.Common.{choice_place, has_holidays, holds, with_each};
 ghost use Rattle.tariff_calendar.specs.Lists.{AreOrdered, IsNotFalling, count_at_most, has_day, has_days, is_holiday};
 ghost use Rattle.tariff_calendar.specs.{Lists.{lists_of, pulses_for}, Range.{IsInRangeOf, IsSameCell}};
 

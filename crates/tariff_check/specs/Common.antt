@@ -3,8 +3,8 @@ pub use Rattle.taxi_units.specs.{Calendar.{is_date}, Money.{largest_amount, larg
 pub use Rattle.drive_modes.specs.declared.meterage.Rounding.{Rounding}
 pub use Rattle.tariff_syntax.specs.{Choices.{choices, conditions_of, values_of}, Condition.{Condition, condition_of}}
 pub use Rattle.tariff_syntax.specs.Meaning.{at_hiring, choice_place, holds_if, initial_place, minimum_place, rate_place}
-pub use Rattle.tariff_syntax.specs.{Reads.{RiseInNumber}, Tree.{rate, step, supplement, tree_of, when_part, zones}}
 pub use Rattle.tariff_syntax.specs.Tree.{Entry, Line, Tree, entry_of, holiday, initial, line_of, minimum, positions}
+pub use Rattle.tariff_syntax.specs.Tree.{rate, step, supplement, tree_of, when_part, zones}
 pub use Rattle.tariff_syntax.specs.{Writable.{IsFromTo, IsWritable, IsWritableEntry}, declared.tariff.Tariff.{Tariff}}
 pub use Rattle.tariff_syntax.specs.declared.{context.Context.{Context}, tariff.TariffLine.{TariffLine}}
 pub use Rattle.tariff_check.specs.declared.{choice.{Choice.{Choice}, Choices.{Choices}}, resolving.Parts.{Parts}}

@@ -1,14 +1,15 @@
 //! What the definitions of faults and cuts mean.
-ghost use Rattle.{std.specs.List.{Contains, slice_get}, tariff_check.specs.{Common.{rate_place}, Faults.{faults_of}}};
+ghost use Rattle.{std.specs.List.{Contains, slice_get}, tariff_syntax.specs.Reads.{RiseInNumber}};
 ghost use Rattle.std.specs.Prelude.{[], ℕ, ◌++◌, ◌<◌, ◌↔◌, ◌∷◌, ◌≡◌, ◌≤◌, All, List, None, Some, length, true};
-ghost use Rattle.tariff_check.specs.{AllFaults.{all_faults}, Measure.{IsLeastCommonMultiple, measure_of, measures_of}};
+ghost use Rattle.tariff_check.specs.{AllFaults.{all_faults}, Kinds.{initials_of, part_of, rates_of, said_by}};
 ghost use Rattle.tariff_check.specs.{Amounts.{HasAmountsOf, IsFitInitial, initial_by}, FoundLines.{StandsAtItsLine}};
 ghost use Rattle.tariff_check.specs.{ChoiceLines.{choice_lines}, Lines.{IsFirstLine, IsNowhere, LineTest, first_line}};
 ghost use Rattle.tariff_check.specs.Common.{CheckFault, ChoiceKind, Context, Dimension, Entry, IsFromTo, IsWritable};
-ghost use Rattle.tariff_check.specs.Common.{Line, NoCommonMeasure, RiseInNumber, Tree, choice_place, initial_place};
-ghost use Rattle.tariff_check.specs.{Cuts.{IsInOrder, all_cuts, cuts_of, with_each}, Sound.{HasSoundParts}};
+ghost use Rattle.tariff_check.specs.Common.{Line, NoCommonMeasure, Tree, choice_place, initial_place, rate_place};
+ghost use Rattle.tariff_check.specs.{Cuts.{IsInOrder, all_cuts, cuts_of, with_each}, Parts.{supplement_of}};
 ghost use Rattle.tariff_check.specs.Faults.{HasNone, IsSound, fault_of, faults_before_cuts, faults_from_cuts};
-ghost use Rattle.tariff_check.specs.{Kinds.{initials_of, part_of, rates_of, said_by}, Parts.{supplement_of}};
+ghost use Rattle.tariff_check.specs.{Faults.{faults_of}, Measure.{IsLeastCommonMultiple, measure_of, measures_of}};
+ghost use Rattle.tariff_check.specs.Sound.{HasSoundParts};
 ghost use Rattle.tariff_check.specs.SoundTariff.{HasAllLines, HasFrame, IsInOnePart, sound_of, supplement_numbered};
 
 /// The law of the faults of lines: the number that is named is that of the first line that meets the test, and none is

@@ -1,8 +1,8 @@
 -- Texts that fit into an empty line: numbers, amounts, and the rows of sections.
-use Rattle.std.{specs.List.{AllByRecursion}, proofs.{Math.Nat.{div-le_self, mod-le}, lemmas.List.{length-replicate}}}
+use Rattle.std.{specs.List.{AllByRecursion}, proofs.lemmas.{Bool.{ltb-false, ltb-true}, Fmt.{length-decimal-le_wide}}}
 use Rattle.std.proofs.Common.{[], ℕ, ◌%◌, ◌++◌, ◌+◌, ◌-◌, ◌/◌, ◌<◌, ◌^◌, ◌∷◌, ◌≡◌, ◌≤◌, Bool, List, arith, codes}
-use Rattle.std.proofs.Common.{decimal, false, if◌then◌else◌, length, length-append, ltb, max, refl, replicate, suc}
-use Rattle.std.proofs.{Common.{true, zero}, lemmas.{Bool.{ltb-false, ltb-true}, Fmt.{length-decimal-le_wide}}}
+use Rattle.std.proofs.Common.{decimal, false, if◌then◌else◌, length, length-append, ltb, max, refl, suc, true, zero}
+use Rattle.{std.proofs.Math.Nat.{div-le_self, mod-le}, taxi_units.proofs.Laws.{padded_numbers_fill_the_width}}
 use Rattle.{taxi_units.specs.Number.{padded_text}, tariff_compile.specs.Rows.{Section, count_of, row_in}}
 use Rattle.tariff_compile.specs.Common.{money_text}
 
@@ -17,11 +17,7 @@ decimal_short n h = length-decimal-le_wide 39 n (omega arith) (omega arith) (ome
 padded_short : (width n : ℕ) → n < 2 ^ 64 → length (padded_text width n) ≤ max width 20
 padded_short width n h =
     let digits : length (decimal n) ≤ 20 = length-decimal-le_wide 20 n (omega arith) (omega arith) (omega arith) in
-    omega (
-      arith,
-      length-append (replicate (width - length (decimal n)) 48) (decimal n),
-      length-replicate {A = ℕ} (width - length (decimal n)) 48,
-    )
+    omega (arith, padded_numbers_fill_the_width width n)
 
 -- the text of an amount of money
 pub money_short : (decimals n : ℕ) → decimals ≤ 3 → n < 2 ^ 64 → length (money_text decimals n) ≤ 60

@@ -3,10 +3,10 @@ pub use Rattle.{taxi_units.specs.Number.{money_text}, drive_modes.specs.declared
 pub use Rattle.tariff_syntax.specs.{Condition.{Condition, condition_of}, Meaning.{at_hiring, holds, holds_if}}
 pub use Rattle.tariff_syntax.specs.{Tree.{Line, Tree, tree_of}, declared.context.Context.{Context}}
 pub use Rattle.{tariff_syntax.specs.Writable.{IsWritable}, tariff_check.specs.Amounts.{initial_by, place_number}}
-pub use Rattle.tariff_check.specs.{Cells.{cells_of}, SoundTariff.{own_conditions, own_values, place_of, when_at}}
-pub use Rattle.{tariff_check.specs.Faults.{IsSound}, tariff_calendar.specs.Range.{IsInRange, IsInRangeOf}}
+pub use Rattle.tariff_check.specs.{Faults.{IsSound}, SoundTariff.{own_conditions, own_values, place_of, when_at}}
 pub use Rattle.tariff_check.specs.Parts.{InitialNumbers, RateNumbers, positions_of, supplement_of, zones_of}
 pub use Rattle.tariff_check.specs.{Sound.{HasSoundParts, IsSoundRate}, declared.choice.Choice.{Choice}}
 pub use Rattle.tariff_check.specs.declared.{choice.ChoiceKind.TheVariants.{Rate}, values.Supplement.{Supplement}}
 pub use Rattle.tariff_calendar.specs.Lists.{CutLists, count_at_most, has_day, has_days, lists_of}
+pub use Rattle.tariff_calendar.specs.Range.{IsInRange, IsInRangeOf}
 pub use Rattle.tariff_compile.specs.declared.{cells.CellLines.{CellLines}, marks.Marks.{Marks}, parts.Bands.{Bands}}

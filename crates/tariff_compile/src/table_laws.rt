@@ -1,9 +1,9 @@
 //! Why a look-up in the tables is enough.
 ghost use Rattle.std.specs.{List.{slice_get}, Prelude.{ℕ, ◌<◌, ◌≡◌, Some, length}};
-ghost use Rattle.{tariff_check.specs.Amounts.{HasAmountsOf}, tariff_compile.specs.Common.{cells_of, initial_by}};
+ghost use Rattle.tariff_check.specs.{Amounts.{HasAmountsOf}, Cells.{cells_of}};
 ghost use Rattle.tariff_compile.specs.Cells.{IsBefore, IsBelow, bands_of, cell_count, cell_number, places_of};
 ghost use Rattle.tariff_compile.specs.Common.{Bands, CellLines, Context, IsInRangeOf, IsSound, IsWritable, Tree};
-ghost use Rattle.tariff_compile.specs.Rows.{all_rows, row_count, row_text};
+ghost use Rattle.tariff_compile.specs.{Common.{initial_by}, Rows.{all_rows, row_count, row_text}};
 ghost use Rattle.tariff_compile.specs.Tables.{HasLinesOf, HasWeightsOf, IsCompiled, IsFit, IsInRangeFor, IsTablesOf};
 ghost use Rattle.tariff_compile.specs.Tables.{TableParts, cell_of, fees_in, lines_at, lines_in, rate_by, tables_of};
 

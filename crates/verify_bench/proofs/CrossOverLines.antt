@@ -1,6 +1,6 @@
 -- The cross-over lines, rate by rate.
-use Rattle.std.proofs.Common.{[], ℕ, ◌++◌, ◌+◌, ◌<◌, ◌∙◌, ◌∷◌, ◌≡◌, ◌≤◌, All, List, ap, append_assoc, arith, drop}
-use Rattle.std.proofs.{Common.{drop-cons, get_or, length, subst, suc, sym, zero}, lemmas.List.{append-nil}}
+use Rattle.std.proofs.Common.{[], ℕ, ◌++◌, ◌+◌, ◌<◌, ◌∙◌, ◌∷◌, ◌≡◌, ◌≤◌, All, List, add-one, ap, append_assoc, arith}
+use Rattle.std.proofs.{Common.{drop, drop-cons, get_or, length, subst, suc, sym, zero}, lemmas.List.{append-nil}}
 use Rattle.{std.proofs.lemmas.List.Elements.{All-head, All-tail}, tariff_check.specs.declared.choice.Choice.{Choice}}
 use Rattle.verify_bench.specs.Common.{IsSoundRate, RateNumbers, own_values}
 use Rattle.verify_bench.{specs.CrossOvers.{cross_over_line, cross_over_lines}, proofs.GroupLists.{drop_past}}
@@ -8,9 +8,7 @@ use Rattle.verify_bench.{specs.CrossOvers.{cross_over_line, cross_over_lines}, p
 -- the values of choices from a place on, if one is there
 pub values_at : {V : Type 0} (choices : List (Choice V)) (i : ℕ) (d : Choice V) → i < length choices
     → own_values (drop i choices) ≡ (get_or choices i d).value ∷ own_values (drop (i + 1) choices)
-values_at {V} choices i d within =
-    let next : suc i ≡ i + 1 = omega arith in
-    ap own_values (drop-cons choices i d within ∙ ap (λ (n : ℕ). get_or choices i d ∷ drop n choices) next)
+values_at choices i d within = rw add-one (ap own_values (drop-cons choices i d within))
 
 -- if all rates are sound, so is the one at a place
 pub sound_at : (choices : List (Choice RateNumbers)) (i : ℕ) (d : Choice RateNumbers) → i < length choices

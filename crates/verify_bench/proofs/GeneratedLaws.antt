@@ -1,10 +1,9 @@
 -- A generated drive means its lines.
 use Rattle.std.proofs.Common.{[], ℕ, ◌<◌, ◌≡◌, ◌≤◌, All, None, ap, arith, length, length-append}
-use Rattle.{std.proofs.lemmas.List.Elements.{All-cons}, drive_text.specs.Drive.{events_in}}
-use Rattle.verify_bench.{specs.AddedText.{lines_events}, proofs.LinesRead.{lines_read, nothing_reads}}
-use Rattle.verify_bench.specs.Common.{IsRunInRange, One, Up, bad_at_end, runs_in, stream_limit}
+use Rattle.{std.proofs.lemmas.List.Elements.{All-cons}, drive_text.specs.{Drive.{events_in}, Ending.{stream_limit}}}
+use Rattle.verify_bench.specs.{AddedText.{lines_events}, Common.{IsRunInRange, One, Up, bad_at_end, runs_in}}
 use Rattle.verify_bench.specs.Generated.{beginning, generated, generated_lines, line_text, lines_text, trips_from}
-use Rattle.verify_bench.proofs.{Lines.{first_is_short}, Ranged.{trips_in_range}}
+use Rattle.verify_bench.proofs.{Lines.{first_is_short}, LinesRead.{lines_read, nothing_reads}, Ranged.{trips_in_range}}
 
 lines_in_range : (seed trips : ℕ) → trips ≤ 1000 → All IsRunInRange (generated_lines seed trips)
 lines_in_range seed trips few = All-cons IsRunInRange (One (Up 1772406000)) (trips_from trips (beginning seed)).lines

@@ -1,15 +1,13 @@
 -- The groups of rates, one after another.
-use Rattle.std.proofs.Common.{[], ℕ, ◌++◌, ◌+◌, ◌<◌, ◌∙◌, ◌∷◌, ◌≡◌, ◌≤◌, List, ap, append_assoc, arith, drop, drop-cons}
-use Rattle.std.proofs.{Common.{get_or, length, refl, subst, suc, sym, zero}, lemmas.List.{append-nil}}
+use Rattle.std.proofs.Common.{[], ℕ, ◌++◌, ◌+◌, ◌<◌, ◌∙◌, ◌∷◌, ◌≡◌, ◌≤◌, List, add-one, ap, append_assoc, arith, drop}
+use Rattle.std.proofs.{Common.{drop-cons, get_or, length, refl, subst, suc, sym, zero}, lemmas.List.{append-nil}}
 use Rattle.tariff_check.specs.declared.choice.Choice.{Choice}
 use Rattle.verify_bench.specs.{Common.{Group, Part, Setting, own_lines}, Groups.{groups_at, groups_from}}
 
 -- the numbers of choices from a place on, if one is there
 pub numbers_at : {V : Type 0} (choices : List (Choice V)) (i : ℕ) (d : Choice V) → i < length choices
     → own_lines (drop i choices) ≡ (get_or choices i d).line ∷ own_lines (drop (i + 1) choices)
-numbers_at {V} choices i d within =
-    let next : suc i ≡ i + 1 = omega arith in
-    ap own_lines (drop-cons choices i d within ∙ ap (λ (n : ℕ). get_or choices i d ∷ drop n choices) next)
+numbers_at choices i d within = rw add-one (ap own_lines (drop-cons choices i d within))
 
 -- the groups of a rate line more
 pub groups_more : (s : Setting) (parts : List Part) (place line : ℕ) (so_far all : List Group) (numbers rest : List ℕ)

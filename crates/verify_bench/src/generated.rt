@@ -1,7 +1,7 @@
 //! What a generated drive means.
 ghost use Rattle.std.specs.Prelude.{ℕ, ◌<◌, ◌≡◌, ◌≤◌, None, length};
-ghost use Rattle.{drive_text.specs.Drive.{events_in}, verify_bench.specs.Common.{bad_at_end, runs_in, stream_limit}};
-ghost use Rattle.verify_bench.specs.Generated.{generated, generated_lines};
+ghost use Rattle.drive_text.specs.{Drive.{events_in}, Ending.{stream_limit}};
+ghost use Rattle.verify_bench.specs.{Common.{bad_at_end, runs_in}, Generated.{generated, generated_lines}};
 
 use crate::writing::Writing;
 

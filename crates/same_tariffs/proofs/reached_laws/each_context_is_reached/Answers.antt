@@ -1,5 +1,5 @@
-use Rattle.same_tariffs.proofs.Laws.{each_context_is_reached}
+use Rattle.same_tariffs.proofs.DrivesToContexts.{each-reached}
 use Rattle.same_tariffs.proofs.reached_laws.each_context_is_reached.Goals as goal
 
 pub returns : goal.returns
-returns c = each_context_is_reached
+returns c = each-reached

@@ -1,5 +1,5 @@
-use Rattle.tariff_calendar.proofs.Laws.{cuts_are_the_fewest_pulses}
+use Rattle.tariff_calendar.proofs.Comparisons.{fewest_pulses}
 use Rattle.tariff_calendar.proofs.cut_laws.cuts_are_the_fewest_pulses.Goals as goal
 
 pub returns : goal.returns
-returns c = cuts_are_the_fewest_pulses
+returns c = fewest_pulses

@@ -1,8 +1,5 @@
-use Rattle.tariff_calendar.proofs.Laws.{holidays_are_dates-dates, holidays_are_dates-some}
+use Rattle.tariff_calendar.proofs.Holidays.{days_are_dates, some_days}
 use Rattle.tariff_calendar.proofs.cut_laws.holidays_are_dates.Goals as goal
 
-pub returns-clause-some : goal.returns-clause-some
-returns-clause-some c = holidays_are_dates-some
-
-pub returns-clause-dates : goal.returns-clause-dates
-returns-clause-dates c = holidays_are_dates-dates
+pub returns : goal.returns
+returns c = record { some = some_days; dates = days_are_dates }

@@ -1,11 +1,6 @@
-use Rattle.tariff_calendar.proofs.Laws.{lists_are_ordered-few, lists_are_ordered-hiring, lists_are_ordered-ordered}
+use Rattle.tariff_calendar.proofs.{Insertions.{length-with_each}, Laws.{lists_are_ordered-hiring}}
+use Rattle.tariff_calendar.proofs.Lists.{lists_ordered}
 use Rattle.tariff_calendar.proofs.cut_laws.lists_are_ordered.Goals as goal
 
-pub returns-clause-hiring : goal.returns-clause-hiring
-returns-clause-hiring c = lists_are_ordered-hiring
-
-pub returns-clause-ordered : goal.returns-clause-ordered
-returns-clause-ordered c = lists_are_ordered-ordered
-
-pub returns-clause-few : goal.returns-clause-few
-returns-clause-few c = lists_are_ordered-few
+pub returns : goal.returns
+returns c = record { hiring = lists_are_ordered-hiring; ordered = lists_ordered; few = length-with_each }

@@ -1,15 +1,6 @@
-use Rattle.tariff_check.proofs.Laws.{sound_tariffs_are_their_parts-frame, sound_tariffs_are_their_parts-lines}
-use Rattle.tariff_check.proofs.Laws.{sound_tariffs_are_their_parts-one_part, sound_tariffs_are_their_parts-supplements}
+use Rattle.{std.proofs.Common.{refl}, tariff_check.proofs.{ChoiceLaws.{all_lines}, FrameLines.{frame_told}}}
+use Rattle.tariff_check.proofs.KindLaws.{in_one_part}
 use Rattle.tariff_check.proofs.soundness_laws.sound_tariffs_are_their_parts.Goals as goal
 
-pub returns-clause-one_part : goal.returns-clause-one_part
-returns-clause-one_part c = sound_tariffs_are_their_parts-one_part
-
-pub returns-clause-lines : goal.returns-clause-lines
-returns-clause-lines c = sound_tariffs_are_their_parts-lines
-
-pub returns-clause-supplements : goal.returns-clause-supplements
-returns-clause-supplements c = sound_tariffs_are_their_parts-supplements
-
-pub returns-clause-frame : goal.returns-clause-frame
-returns-clause-frame c = sound_tariffs_are_their_parts-frame
+pub returns : goal.returns
+returns c = record { one_part = in_one_part; lines = all_lines; supplements = λ t number. refl; frame = frame_told }

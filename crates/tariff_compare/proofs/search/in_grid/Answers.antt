@@ -7,49 +7,43 @@ use Rattle.tariff_compare.proofs.search.in_grid.Goals as goal
 pub count-number-end-requires : goal.count-number-end-requires
 count-number-end-requires c = c.requires.short
 
-pub context-requires-clause-number : goal.context-requires-clause-number
-context-requires-clause-number c =
-    numbered c.args.grid.now c.loop-number.number (omega (arith, c.loop-number-test.true, c.count-number-end.ensures))
+pub context-requires : goal.context-requires
+context-requires c = record {
+  number = numbered c.args.grid.now c.loop-number.number
+      (omega (arith, c.loop-number-test.true, c.count-number-end.ensures));
+  minutes = c.requires.minutes;
+  ticks = c.requires.ticks;
+}
 
-pub context-requires-clause-minutes : goal.context-requires-clause-minutes
-context-requires-clause-minutes c = c.requires.minutes
-
-pub context-requires-clause-ticks : goal.context-requires-clause-ticks
-context-requires-clause-ticks c = c.requires.ticks
-
-pub is_found-requires-clause-day : goal.is_found-requires-clause-day
-is_found-requires-clause-day c =
+pub is_found-requires : goal.is_found-requires
+is_found-requires c =
     let one = c.args.one.now.tables in
     let other = c.args.other.now.tables in
-    let number = numbered c.args.grid.now c.loop-number.number (omega (
-      arith,
-      c.loop-number-test.true,
-      c.count-number-end.ensures,
-    )) in
-    let day = day_of one other c.args.grid.now c.loop-number.number c.context.result.0 c.requires number
-    c.context.ensures.day in
-    day.1.is ∙ ap (day_in one other)
-    (day.0 ∙ sym (ap (λ (m : MeterContext). m.day) c.context.ensures.value))
+    let grid = c.args.grid.now in
+    let number = numbered grid c.loop-number.number
+    (omega (arith, c.loop-number-test.true, c.count-number-end.ensures)) in
+    let day = day_of one other grid c.loop-number.number c.context.result.0 c.requires number c.context.ensures.day in
+    record {
+      day = day.1.is ∙ ap (day_in one other) (day.0 ∙ sym (ap (λ (m : MeterContext). m.day) c.context.ensures.value));
+      asked = rw c.context.ensures.value (asked_at one other grid c.loop-number.number c.context.result.0 c.requires
+          number c.context.ensures.day);
+    }
 
-pub is_found-requires-clause-asked : goal.is_found-requires-clause-asked
-is_found-requires-clause-asked c =
-    let number = numbered c.args.grid.now c.loop-number.number (omega (
-      arith,
-      c.loop-number-test.true,
-      c.count-number-end.ensures,
-    )) in
-    rw c.context.ensures.value (asked_at c.args.one.now.tables c.args.other.now.tables c.args.grid.now
-    c.loop-number.number c.context.result.0 c.requires number c.context.ensures.day)
-
-pub returns-then-is_found-clause-value : goal.returns-then-is_found-clause-value
-returns-then-is_found-clause-value c =
+pub returns-then-is_found : goal.returns-then-is_found
+returns-then-is_found c =
     let grid = c.args.grid.now in
     let met = is_met_by c.args.one.now c.args.other.now c.args.question in
+    let number = numbered grid c.loop-number.number
+    (omega (arith, c.loop-number-test.true, c.count-number-end.ensures)) in
     let here = found_here (λ number. is_found met (context_of grid number)) c.loop-number.number (context_count grid)
     (omega (arith, c.loop-number-test.true, c.count-number-end.ensures))
     (ap (is_found met) (sym c.context.ensures.value) ∙ sym c.is_found.ensures ∙ c.if-is_found.true) in
-    ap Some c.context.ensures.value
-    ∙ ap (λ (r : Option ℕ). option_map (context_of grid) r) (sym here ∙ c.loop-number.invariant)
+    record {
+      value = ap Some c.context.ensures.value
+          ∙ ap (λ (r : Option ℕ). option_map (context_of grid) r) (sym here ∙ c.loop-number.invariant);
+      there = rw c.context.ensures.value (asked_at c.args.one.now.tables c.args.other.now.tables grid
+          c.loop-number.number c.context.result.0 c.requires number c.context.ensures.day);
+    }
 
 pub loop-number-preserved : goal.loop-number-preserved
 loop-number-preserved c =
@@ -67,13 +61,3 @@ returns-clause-value c =
     ap (λ (r : Option ℕ). option_map (context_of grid) r)
     (sym (found_none (λ number. is_found met (context_of grid number)) c.loop-number.number (context_count grid)
     (omega (arith, c.loop-number-test.false, c.count-number-end.ensures))) ∙ c.loop-number.invariant)
-
-pub returns-then-is_found-clause-there : goal.returns-then-is_found-clause-there
-returns-then-is_found-clause-there c =
-    let number = numbered c.args.grid.now c.loop-number.number (omega (
-      arith,
-      c.loop-number-test.true,
-      c.count-number-end.ensures,
-    )) in
-    rw c.context.ensures.value (asked_at c.args.one.now.tables c.args.other.now.tables c.args.grid.now
-    c.loop-number.number c.context.result.0 c.requires number c.context.ensures.day)

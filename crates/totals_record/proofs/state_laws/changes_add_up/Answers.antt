@@ -1,5 +1,5 @@
-use Rattle.totals_record.proofs.Laws.{changes_add_up}
+use Rattle.totals_record.proofs.CommittedStates.{follows}
 use Rattle.totals_record.proofs.state_laws.changes_add_up.Goals as goal
 
 pub returns : goal.returns
-returns c = changes_add_up
+returns c = follows

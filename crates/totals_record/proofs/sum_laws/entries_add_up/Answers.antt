@@ -1,5 +1,5 @@
-use Rattle.totals_record.proofs.Laws.{entries_add_up}
+use Rattle.totals_record.proofs.EntrySums.{adds_up}
 use Rattle.totals_record.proofs.sum_laws.entries_add_up.Goals as goal
 
 pub returns : goal.returns
-returns c = entries_add_up
+returns c = adds_up

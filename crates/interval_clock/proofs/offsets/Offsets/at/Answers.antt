@@ -10,50 +10,27 @@ at_most-found-requires g c =
     let list : IsOffsetList c.of.result = rw same c.pairs.ensures.lawful in
     parted c.of.result c.args.second list
 
-pub returns-in-Some-clause-value : goal.returns-in-Some-clause-value
-returns-in-Some-clause-value g c =
+pub returns-in-Some : goal.returns-in-Some
+returns-in-Some g c =
     let same : c.of.result ≡ c.args.self.now = c.of.ensures ∙ c.pairs.ensures.value in
     let list : IsOffsetList c.of.result = rw same c.pairs.ensures.lawful in
+    let place = c.at_most-found.result.count - 1 in
     let found = found_in_force c.of.result c.args.second c.at_most-found.result.count c.at_most-found.result.last
     c.in-Some.pair list c.requires c.at_most-found.ensures.count c.at_most-found.ensures.point
     c.at_most-found.ensures.last c.in-Some.is in
-    let range = (list.in_range (c.at_most-found.result.count - 1) found.0.within).1 in
+    let range = (list.in_range place found.0.within).1 in
     let fits : FitsSigned w32 c.in-Some.pair.1 = omega (arith, signed_arith, found.1, range) in
     let kept = to_z-of_z w32 c.in-Some.pair.1 fits in
     let value : c.in-Some.pair.1 ≡ offset_at c.of.result c.args.second =
-    found.1 ∙ sym (offset_from-in_force c.of.result (pos 0) c.args.second (c.at_most-found.result.count - 1) found.0) in
-    kept ∙ subst (λ (pairs : List (ℕ × ℤ)). c.in-Some.pair.1 ≡ offset_at pairs c.args.second) same value
-
-pub returns-in-Some-clause-in_force : goal.returns-in-Some-clause-in_force
-returns-in-Some-clause-in_force g c =
-    let same : c.of.result ≡ c.args.self.now = c.of.ensures ∙ c.pairs.ensures.value in
-    let list : IsOffsetList c.of.result = rw same c.pairs.ensures.lawful in
-    let found = found_in_force c.of.result c.args.second c.at_most-found.result.count c.at_most-found.result.last
-    c.in-Some.pair list c.requires c.at_most-found.ensures.count c.at_most-found.ensures.point
-    c.at_most-found.ensures.last c.in-Some.is in
-    let range = (list.in_range (c.at_most-found.result.count - 1) found.0.within).1 in
-    let fits : FitsSigned w32 c.in-Some.pair.1 = omega (arith, signed_arith, found.1, range) in
-    let kept = to_z-of_z w32 c.in-Some.pair.1 fits in (
-      c.at_most-found.result.count - 1,
-      subst (λ (pairs : List (ℕ × ℤ)). IsInForce pairs c.args.second (c.at_most-found.result.count - 1)) same found.0,
-      kept ∙ subst (λ (pairs : List (ℕ × ℤ)). c.in-Some.pair.1
-          ≡ offset_of pairs (c.at_most-found.result.count - 1)) same found.1,
-    )
-
-pub returns-in-Some-clause-in_range : goal.returns-in-Some-clause-in_range
-returns-in-Some-clause-in_range g c =
-    let same : c.of.result ≡ c.args.self.now = c.of.ensures ∙ c.pairs.ensures.value in
-    let list : IsOffsetList c.of.result = rw same c.pairs.ensures.lawful in
-    let found = found_in_force c.of.result c.args.second c.at_most-found.result.count c.at_most-found.result.last
-    c.in-Some.pair list c.requires c.at_most-found.ensures.count c.at_most-found.ensures.point
-    c.at_most-found.ensures.last c.in-Some.is in
-    let range = (list.in_range (c.at_most-found.result.count - 1) found.0.within).1 in
-    let fits : FitsSigned w32 c.in-Some.pair.1 = omega (arith, signed_arith, found.1, range) in
-    let kept = to_z-of_z w32 c.in-Some.pair.1 fits in
-    omega (arith, signed_arith, kept, found.1, range)
-
-pub returns-in-Some-clause-steps : goal.returns-in-Some-clause-steps
-returns-in-Some-clause-steps g c =
-    let same : c.of.result ≡ c.args.self.now = c.of.ensures ∙ c.pairs.ensures.value in
-    let list : IsOffsetList c.of.result = rw same c.pairs.ensures.lawful in
-    c.at_most-found.ensures.steps.most 6 (omega (arith, list.few))
+    found.1 ∙ sym (offset_from-in_force c.of.result (pos 0) c.args.second place found.0) in
+    record {
+      value = kept ∙ subst (λ (pairs : List (ℕ × ℤ)). c.in-Some.pair.1 ≡ offset_at pairs c.args.second) same value;
+      in_force = (
+        place,
+        subst (λ (pairs : List (ℕ × ℤ)). IsInForce pairs c.args.second place) same found.0,
+        kept ∙ subst (λ (pairs : List (ℕ × ℤ)). c.in-Some.pair.1 ≡ offset_of pairs place) same found.1,
+      );
+      in_range = omega (arith, signed_arith, kept, found.1, range);
+      steps = c.at_most-found.ensures.steps.most 6 (omega (arith, list.few));
+      read = c.at_most-found.ensures.steps.least (omega (arith, list.some));
+    }
