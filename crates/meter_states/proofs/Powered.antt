@@ -117,3 +117,19 @@ powered-trip {core = core} t u has started beside on =
     let some = some-there t has in
     let begun = subst (λ (n : ℕ). n ≤ core.clock) (sym started) (subst (HasBegunBy core.clock) has on.begun) in
     search rules
+
+-- the trip of a core that is seen by its fields, its range, and the core with another trip in its place
+pub trip-in : {inside core : CoreData} {trip : Option CoreTrip} → inside ≡ core → inside.trip ≡ trip → core.trip ≡ trip
+trip-in view is = sym (ap (λ (p : CoreData). p.trip) view) ∙ is
+
+pub trip-beside : {p : TableParts} {ticks most spare : ℕ} {inside core : CoreData} {t : CoreTrip} → inside ≡ core
+    → inside.trip ≡ Some t → IsPowered p ticks most spare core → IsTripBeside p (core.number + spare) ticks t
+trip-beside {p} {ticks} {spare = spare} {core = core} view is on =
+    subst (IsTripInRange p (core.number + spare) ticks) (trip-in view is) on.trip
+
+pub trip-taken : {p : TableParts} {ticks ticks' most spare spare' : ℕ} {inside core : CoreData} {t u : CoreTrip}
+    → inside ≡ core → inside.trip ≡ Some t → u.started ≡ t.started → IsTripBeside p (core.number + spare') ticks' u
+    → IsPowered p ticks most spare core → IsPowered p ticks' most spare' (record inside { trip = Some u })
+trip-taken {p} {ticks' = ticks'} {most = most} {spare' = spare'} {t = t} {u = u} view is started beside on =
+    subst (λ (q : CoreData). IsPowered p ticks' most spare' (record q { trip = Some u })) (sym view)
+    (powered-trip t u (trip-in view is) started beside on)

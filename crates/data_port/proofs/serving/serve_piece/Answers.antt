@@ -5,29 +5,37 @@ use Rattle.data_port.proofs.Pieces.{bad_is_no_fault, end_is_no_fault, ok_of, pie
 use Rattle.data_port.proofs.Pieces.{piece_more, piece_opens, piece_requests, piece_starts, piece_steps, piece_whole}
 use Rattle.data_port.proofs.serving.serve_piece.Goals as goal
 
-pub returns-then-is_err-clause-serves : goal.returns-then-is_err-clause-serves
-returns-then-is_err-clause-serves g c =
-    piece_begun c.loop-rest.invariant.so_far (g.B.Printer.printed c.print_replies.new.board)
-    (piece_starts c.loop-rest.invariant.so_far c.new-requests.ensures c.as_slice.ensures.value c.requires.sense
-    c.feed-fed.result c.feed-fed.ensures.requests c.feed-fed.ensures.bad) c.print_replies.ensures.begun
+pub returns-then-is_err : goal.returns-then-is_err
+returns-then-is_err g c = record {
+  serves = piece_begun c.loop-rest.invariant.so_far (g.B.Printer.printed c.print_replies.new.board)
+      (piece_starts c.loop-rest.invariant.so_far c.new-requests.ensures c.as_slice.ensures.value c.requires.sense
+      c.feed-fed.result c.feed-fed.ensures.requests c.feed-fed.ensures.bad) c.print_replies.ensures.begun;
+  steps = piece_steps c.loop-rest.invariant.so_far c.print_replies.new.steps
+      (piece_starts c.loop-rest.invariant.so_far c.new-requests.ensures c.as_slice.ensures.value c.requires.sense
+      c.feed-fed.result c.feed-fed.ensures.requests c.feed-fed.ensures.bad) c.print_replies.ensures.steps;
+  board_fault = rises_by refl
+      (rose_behind _ _ _ c.loop-rest.invariant.faults (c.print_replies.ensures.cause.failed
+      (sym c.is_err.ensures.value ∙ c.if-is_err.true)));
+  store = keeps_then g.B.Printer c.args.board.now c.loop-rest.board
+      c.print_replies.new.board
+      c.loop-rest.invariant.store c.print_replies.ensures.store;
+}
 
-pub returns-then-is_err-clause-steps : goal.returns-then-is_err-clause-steps
-returns-then-is_err-clause-steps g c =
-    piece_steps c.loop-rest.invariant.so_far c.print_replies.new.steps
-    (piece_starts c.loop-rest.invariant.so_far c.new-requests.ensures c.as_slice.ensures.value c.requires.sense
-    c.feed-fed.result c.feed-fed.ensures.requests c.feed-fed.ensures.bad) c.print_replies.ensures.steps
-
-pub returns-in-Err-clause-serves : goal.returns-in-Err-clause-serves
-returns-in-Err-clause-serves g c =
-    piece_bad c.loop-rest.invariant.so_far (g.B.Printer.printed c.print_replies.new.board) c.new-requests.ensures
-    c.as_slice.ensures.value c.requires.sense c.in-Err.bad.place c.in-Err.ensures.bad (λ t. ok_of c.print_replies.result
-    _ (sym c.is_err.ensures.value ∙ c.if-is_err.false) (c.print_replies.ensures.whole t))
-
-pub returns-in-Err-clause-steps : goal.returns-in-Err-clause-steps
-returns-in-Err-clause-steps g c =
-    piece_steps c.loop-rest.invariant.so_far c.print_replies.new.steps
-    (piece_starts c.loop-rest.invariant.so_far c.new-requests.ensures c.as_slice.ensures.value c.requires.sense
-    c.feed-fed.result c.feed-fed.ensures.requests c.feed-fed.ensures.bad) c.print_replies.ensures.steps
+pub returns-in-Err : goal.returns-in-Err
+returns-in-Err g c = record {
+  serves = piece_bad c.loop-rest.invariant.so_far (g.B.Printer.printed c.print_replies.new.board) c.new-requests.ensures
+      c.as_slice.ensures.value c.requires.sense c.in-Err.bad.place c.in-Err.ensures.bad
+      (λ t. ok_of c.print_replies.result
+      _ (sym c.is_err.ensures.value ∙ c.if-is_err.false) (c.print_replies.ensures.whole t));
+  steps = piece_steps c.loop-rest.invariant.so_far c.print_replies.new.steps
+      (piece_starts c.loop-rest.invariant.so_far c.new-requests.ensures c.as_slice.ensures.value c.requires.sense
+      c.feed-fed.result c.feed-fed.ensures.requests c.feed-fed.ensures.bad) c.print_replies.ensures.steps;
+  board_fault = rises_not (bad_is_no_fault c.in-Err.bad.place ⊥)
+      (left_if_not c.print_replies.result (sym c.is_err.ensures.value ∙ c.if-is_err.false) c.print_replies.ensures.cause
+      ∙ c.loop-rest.invariant.faults);
+  store = keeps_then g.B.Printer c.args.board.now c.loop-rest.board c.print_replies.new.board
+      c.loop-rest.invariant.store c.print_replies.ensures.store;
+}
 
 pub loop-rest-preserved : goal.loop-rest-preserved
 loop-rest-preserved g c = record {
@@ -57,50 +65,23 @@ feed-fed-requires g c = record {
   few = piece_few c.loop-rest.invariant.so_far c.requires.few;
 }
 
-pub print_replies-requires-clause-requests : goal.print_replies-requires-clause-requests
-print_replies-requires-clause-requests g c = piece_requests c.new-requests.result.items c.feed-fed.new.out.items
-    c.as_slice.result.now c.new-requests.ensures c.as_slice.ensures.value c.feed-fed.ensures.range
-
-pub print_replies-requires-clause-durable : goal.print_replies-requires-clause-durable
-print_replies-requires-clause-durable g c = c.requires.durable
-
-pub print_replies-requires-clause-seal : goal.print_replies-requires-clause-seal
-print_replies-requires-clause-seal g c = c.requires.seal
+pub print_replies-requires : goal.print_replies-requires
+print_replies-requires g c = record {
+  requests = piece_requests c.new-requests.result.items c.feed-fed.new.out.items
+      c.as_slice.result.now c.new-requests.ensures c.as_slice.ensures.value c.feed-fed.ensures.range;
+  durable = c.requires.durable;
+  seal = c.requires.seal;
+}
 
 pub behind-left-requires : goal.behind-left-requires
 behind-left-requires g c = c.in-Ok.ensures.within
 
-pub returns-then-is_err-clause-store : goal.returns-then-is_err-clause-store
-returns-then-is_err-clause-store g c = keeps_then g.B.Printer c.args.board.now c.loop-rest.board
-    c.print_replies.new.board
-    c.loop-rest.invariant.store c.print_replies.ensures.store
-
-pub returns-in-Err-clause-store : goal.returns-in-Err-clause-store
-returns-in-Err-clause-store g c = keeps_then g.B.Printer c.args.board.now c.loop-rest.board c.print_replies.new.board
-    c.loop-rest.invariant.store c.print_replies.ensures.store
-
-pub returns-clause-store : goal.returns-clause-store
-returns-clause-store g c = c.loop-rest.invariant.store
-
-pub returns-clause-serves : goal.returns-clause-serves
-returns-clause-serves g c =
+pub returns : goal.returns
+returns g c =
     let none : length c.loop-rest.rest.now ≡ 0 = search rules in
-    piece_whole c.loop-rest.invariant.so_far none
-
-pub returns-clause-steps : goal.returns-clause-steps
-returns-clause-steps g c =
-    let none : length c.loop-rest.rest.now ≡ 0 = search rules in
-    piece_whole_steps c.loop-rest.invariant.so_far none
-
-pub returns-then-is_err-clause-board_fault : goal.returns-then-is_err-clause-board_fault
-returns-then-is_err-clause-board_fault g c = rises_by refl
-    (rose_behind _ _ _ c.loop-rest.invariant.faults (c.print_replies.ensures.cause.failed
-    (sym c.is_err.ensures.value ∙ c.if-is_err.true)))
-
-pub returns-in-Err-clause-board_fault : goal.returns-in-Err-clause-board_fault
-returns-in-Err-clause-board_fault g c = rises_not (bad_is_no_fault c.in-Err.bad.place ⊥)
-    (left_if_not c.print_replies.result (sym c.is_err.ensures.value ∙ c.if-is_err.false) c.print_replies.ensures.cause
-    ∙ c.loop-rest.invariant.faults)
-
-pub returns-clause-board_fault : goal.returns-clause-board_fault
-returns-clause-board_fault g c = rises_not (end_is_no_fault ⊥) c.loop-rest.invariant.faults
+    record {
+      serves = piece_whole c.loop-rest.invariant.so_far none;
+      steps = piece_whole_steps c.loop-rest.invariant.so_far none;
+      board_fault = rises_not (end_is_no_fault ⊥) c.loop-rest.invariant.faults;
+      store = c.loop-rest.invariant.store;
+    }

@@ -6,18 +6,15 @@ use Rattle.meter_states.proofs.trip.display_steps.Goals as goal
 pub steps-requires : goal.steps-requires
 steps-requires c = record { steps = steps-few c.requires.range.ticks c.requires.range.meterage.steps }
 
-pub returns-clause-value : goal.returns-clause-value
-returns-clause-value c = λ s t is saved.
-    let some = modulus-above s c.args.tables.now c.args.trip.now.meterage.rest is c.requires.range.meterage.rest in
-    c.steps.ensures.sum t.opening.cover t.opening.above (modulus_of s) (charges_of s t) some
-    (ap (λ (x : CoreTrip). x.meterage) saved)
-    ∙ ap (λ (r : Rounding). steps_above r (opening_of s t) (charges_of s t))
-    (c.rounding.ensures ∙ rounding-is s c.args.tables.now is)
-
-pub returns-clause-exact : goal.returns-clause-exact
-returns-clause-exact c =
-    c.steps.ensures.exact ∙ ap (λ (r : Rounding). steps_of r c.args.trip.now.meterage) c.rounding.ensures
-
-pub returns-clause-most : goal.returns-clause-most
-returns-clause-most c = steps-below c.steps.result c.rounding.result c.args.trip.now.meterage c.steps.ensures.exact
-    (steps-few c.requires.range.ticks c.requires.range.meterage.steps)
+pub returns : goal.returns
+returns c = record {
+  value = λ s t is saved.
+      let some = modulus-above s c.args.tables.now c.args.trip.now.meterage.rest is c.requires.range.meterage.rest in
+      c.steps.ensures.sum t.opening.cover t.opening.above (modulus_of s) (charges_of s t) some
+      (ap (λ (x : CoreTrip). x.meterage) saved)
+      ∙ ap (λ (r : Rounding). steps_above r (opening_of s t) (charges_of s t))
+      (c.rounding.ensures ∙ rounding-is s c.args.tables.now is);
+  exact = c.steps.ensures.exact ∙ ap (λ (r : Rounding). steps_of r c.args.trip.now.meterage) c.rounding.ensures;
+  most = steps-below c.steps.result c.rounding.result c.args.trip.now.meterage c.steps.ensures.exact
+      (steps-few c.requires.range.ticks c.requires.range.meterage.steps);
+}

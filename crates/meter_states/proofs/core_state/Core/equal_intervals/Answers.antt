@@ -21,33 +21,28 @@ pub take_equal-requires-clause-cache : goal.take_equal-requires-clause-cache
 take_equal-requires-clause-cache c = subst (λ (w : CachedCore). IsCacheOf c.args.tables.now c.args.seal.now w.cache)
     (sym c.self.view_is) c.requires.lawful.cache
 
-pub returns-clause-lawful : goal.returns-clause-lawful
-returns-clause-lawful c = record {
-  powered = inr c.take_equal.ensures.taken.lawful;
-  cache = subst (λ (w : CachedCore). IsCacheOf c.args.tables.now c.args.seal.now w.cache)
-      (sym c.self.view_is) c.requires.lawful.cache;
+pub returns : goal.returns
+returns c = record {
+  lawful = record {
+    powered = inr c.take_equal.ensures.taken.lawful;
+    cache = subst (λ (w : CachedCore). IsCacheOf c.args.tables.now c.args.seal.now w.cache)
+        (sym c.self.view_is) c.requires.lawful.cache;
+  };
+  most = c.take_equal.ensures.taken.most;
+  full = subst (λ (w : CachedCore). (c.take_equal.result ≡ c.args.count)
+      ⊎ (MayGo c.args.tables.now c.args.seal.now w.cache c.args.pulses c.take_equal.new.self → ⊥))
+      c.self.view_is c.take_equal.ensures.full;
+  same = (
+    c.take_equal.ensures.taken.same.0 ∙ ap (λ (w : CachedCore). w.state.operating) c.self.view_is,
+    c.take_equal.ensures.taken.same.1 ∙ ap (λ (w : CachedCore). w.state.number) c.self.view_is,
+  );
+  cache = ap (λ (w : CachedCore). w.cache) c.self.view_is;
+  meets = λ s m is stands.
+      let view = ap (λ (w : CachedCore). w.state) c.self.view_is in
+      let on = powered-on c.is_off.result view c.requires.lawful.powered c.is_off.ensures c.if-is_off.false in
+      let e = stands-on s c.args.self.now.state m stands (λ off. not_off c.self.inside.state.operating
+      c.self.inside.state.trip on.on (ap (λ (p : CoreData). p.operating) view ∙ off)) in
+      follows-meets s c.args.tables.now 8639999 roaming_between 0 c.take_equal.new.self []
+      (run s (intervals_of c.args.pulses c.take_equal.result) m) c.take_equal.ensures.taken.lawful
+      (c.take_equal.ensures.follows s m is (view ∙ e));
 }
-
-pub returns-clause-most : goal.returns-clause-most
-returns-clause-most c = c.take_equal.ensures.taken.most
-
-pub returns-clause-full : goal.returns-clause-full
-returns-clause-full c = subst (λ (w : CachedCore). (c.take_equal.result ≡ c.args.count)
-    ⊎ (MayGo c.args.tables.now c.args.seal.now w.cache c.args.pulses c.take_equal.new.self → ⊥))
-    c.self.view_is c.take_equal.ensures.full
-
-pub returns-clause-same : goal.returns-clause-same
-returns-clause-same c = (
-  c.take_equal.ensures.taken.same.0 ∙ ap (λ (w : CachedCore). w.state.operating) c.self.view_is,
-  c.take_equal.ensures.taken.same.1 ∙ ap (λ (w : CachedCore). w.state.number) c.self.view_is,
-)
-
-pub returns-clause-meets : goal.returns-clause-meets
-returns-clause-meets c = λ s m is stands.
-    let view = ap (λ (w : CachedCore). w.state) c.self.view_is in
-    let on = powered-on c.is_off.result view c.requires.lawful.powered c.is_off.ensures c.if-is_off.false in
-    let e = stands-on s c.args.self.now.state m stands (λ off. not_off c.self.inside.state.operating
-    c.self.inside.state.trip on.on (ap (λ (p : CoreData). p.operating) view ∙ off)) in
-    follows-meets s c.args.tables.now 8639999 roaming_between 0 c.take_equal.new.self []
-    (run s (intervals_of c.args.pulses c.take_equal.result) m) c.take_equal.ensures.taken.lawful
-    (c.take_equal.ensures.follows s m is (view ∙ e))

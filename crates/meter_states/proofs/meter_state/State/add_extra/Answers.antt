@@ -8,31 +8,25 @@ use Rattle.meter_states.proofs.meter_state.State.add_extra.Goals as goal
 pub refuse-requires : goal.refuse-requires
 refuse-requires g c = room-none c.args.acts.now.items c.requires.ready.room
 
-pub returns-in_default-clause-stage : goal.returns-in_default-clause-stage
-returns-in_default-clause-stage g c = λ seal.
-    refuses-stage NoSuch
-    (λ (s : Setting) (m : Meter). extra_added c.args.n (supplement_numbered s.tariff.supplements c.args.n) m)
-    c.requires.ready c.refuse.ensures
-    (λ s m is. ap (λ (o : Option Supplement). extra_added c.args.n o m)
-    (sym (c.find_supplement.ensures.setting s is.tariff) ∙ c.in_default.is))
+pub returns-in_default : goal.returns-in_default
+returns-in_default g c = record {
+  stage = λ seal.
+      refuses-stage NoSuch
+      (λ (s : Setting) (m : Meter). extra_added c.args.n (supplement_numbered s.tariff.supplements c.args.n) m)
+      c.requires.ready c.refuse.ensures
+      (λ s m is. ap (λ (o : Option Supplement). extra_added c.args.n o m)
+      (sym (c.find_supplement.ensures.setting s is.tariff) ∙ c.in_default.is));
+  steps = steps-same c.find_supplement.new.steps c.args.steps.now c.find_supplement.ensures.steps;
+}
 
-pub returns-in_default-clause-steps : goal.returns-in_default-clause-steps
-returns-in_default-clause-steps g c =
-    steps-same c.find_supplement.new.steps c.args.steps.now c.find_supplement.ensures.steps
-
-pub add_found-requires-clause-ready : goal.add_found-requires-clause-ready
-add_found-requires-clause-ready g c = (c.args.tables.now, c.requires.ready)
-
-pub add_found-requires-clause-number : goal.add_found-requires-clause-number
-add_found-requires-clause-number g c = c.find_supplement.ensures.number (some-there c.in-Some.supplement c.in-Some.is)
-
-pub add_found-requires-clause-amount : goal.add_found-requires-clause-amount
-add_found-requires-clause-amount g c =
-    subst (λ (o : Option Supplement). amount_in o ≤ 1000000) c.in-Some.is c.find_supplement.ensures.amount
-
-pub add_found-requires-clause-most : goal.add_found-requires-clause-most
-add_found-requires-clause-most g c = subst (λ
-    (o : Option Supplement). most_in o ≤ 99) c.in-Some.is c.find_supplement.ensures.most
+pub add_found-requires : goal.add_found-requires
+add_found-requires g c = record {
+  ready = (c.args.tables.now, c.requires.ready);
+  number = c.find_supplement.ensures.number (some-there c.in-Some.supplement c.in-Some.is);
+  amount = subst (λ (o : Option Supplement). amount_in o ≤ 1000000) c.in-Some.is c.find_supplement.ensures.amount;
+  most = subst (λ
+      (o : Option Supplement). most_in o ≤ 99) c.in-Some.is c.find_supplement.ensures.most;
+}
 
 pub returns-clause-stage : goal.returns-clause-stage
 returns-clause-stage g c = λ seal.

@@ -1,15 +1,13 @@
-use Rattle.std.proofs.{Common.{◌<◌, ◌∙◌, ◌≡◌, Some, ap, arith, subst, sym}, lemmas.Grind.{common_steps}}
-use Rattle.meter_states.specs.{Common.{CoreTrip, Outcome, extra_added_to, times, with_extra}, Lawful.{IsAmidEvent}}
+use Rattle.std.proofs.{Common.{◌<◌, ◌∙◌, Some, ap, arith, subst, sym}, lemmas.Grind.{common_steps}}
+use Rattle.meter_states.specs.Common.{CoreTrip, Outcome, extra_added_to, times, with_extra}
 use Rattle.meter_states.{specs.Core.{ComesToOutcome, CoreData, core_of}, proofs.Outcomes.{quiet-follows, trip-saved}}
-use Rattle.meter_states.proofs.{KeyStages.{extra-more}, Powered.{powered-trip}, TableSupplements.{extras-few}}
-use Rattle.meter_states.proofs.Pushes.{few-none}
+use Rattle.meter_states.proofs.KeyStages.{extra-more}
+use Rattle.meter_states.proofs.{Powered.{trip-beside, trip-taken}, Pushes.{few-none}, TableSupplements.{extras-few}}
 use Rattle.meter_states.proofs.meter_state.State.add_found.Goals as goal
 
 pub add_extra-requires-clause-sum : goal.add_extra-requires-clause-sum
 add_extra-requires-clause-sum c =
-    let has : c.args.self.now.trip ≡ Some c.in-Some.trip = sym (ap (λ (p : CoreData). p.trip) c.self.view_is)
-    ∙ c.in-Some.is in
-    let beside = rw has at c.requires.ready.1.lawful.trip in
+    let beside = trip-beside c.self.view_is c.in-Some.is c.requires.ready.1.lawful in
     extras-few c.requires.ready.0 8639999 c.in-Some.trip beside.range
 
 pub returns : goal.returns
@@ -19,17 +17,14 @@ returns c = record {
       let u = c.add_extra.new.trip in
       let view = c.self.view_is in
       let acts = c.args.acts.now.items in
-      let has : c.args.self.now.trip ≡ Some t = sym (ap (λ (p : CoreData). p.trip) view) ∙ c.in-Some.is in
-      let beside = rw has at ready.lawful.trip in
+      let beside = trip-beside view c.in-Some.is ready.lawful in
       let counts = c.add_extra.ensures.counts in
       record {
-        lawful = subst (λ (q : CoreData). IsAmidEvent tables (record q { trip = Some u })) (sym view)
-            (powered-trip t u has c.add_extra.ensures.started
+        lawful = trip-taken view c.in-Some.is c.add_extra.ensures.started
             (record {
               range = c.add_extra.ensures.range tables found beside.range;
-              pulses = omega
-                  (arith, beside.pulses, counts.0, counts.1);
-            }) ready.lawful);
+              pulses = omega (arith, beside.pulses, counts.0, counts.1);
+            }) ready.lawful;
         few = few-none 1 acts ready.room;
         number = ap (λ (q : CoreData). q.number) view;
         ranges = λ before. before;

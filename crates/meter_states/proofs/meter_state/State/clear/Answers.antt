@@ -4,21 +4,17 @@ use Rattle.meter_states.specs.{Common.{IsSecond, Outcome, closed}, Core.{ComesTo
 use Rattle.meter_states.proofs.Pushes.{few-none}
 use Rattle.meter_states.proofs.meter_state.State.clear.Goals as goal
 
-pub close-requires-clause-lawful : goal.close-requires-clause-lawful
-close-requires-clause-lawful g c = amid-closes c.requires.ready.lawful
-
-pub close-requires-clause-trip : goal.close-requires-clause-trip
-close-requires-clause-trip g c = c.requires.trip
-
-pub close-requires-clause-closing : goal.close-requires-clause-closing
-close-requires-clause-closing g c = record {
-  kind = λ is. cc;
-  finish = subst IsSecond (sym (c.second.ensures ∙ ap (λ (p : CoreData). p.clock) c.self.view_is))
-      c.requires.ready.lawful.clock;
+pub close-requires : goal.close-requires
+close-requires g c = record {
+  lawful = amid-closes c.requires.ready.lawful;
+  trip = c.requires.trip;
+  closing = record {
+    kind = λ is. cc;
+    finish = subst IsSecond (sym (c.second.ensures ∙ ap (λ (p : CoreData). p.clock) c.self.view_is))
+        c.requires.ready.lawful.clock;
+  };
+  room = few-none 1 c.args.acts.now.items c.requires.ready.room;
 }
-
-pub close-requires-clause-room : goal.close-requires-clause-room
-close-requires-clause-room g c = few-none 1 c.args.acts.now.items c.requires.ready.room
 
 pub returns-clause-stage : goal.returns-clause-stage
 returns-clause-stage g c = record {

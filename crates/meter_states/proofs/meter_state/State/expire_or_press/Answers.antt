@@ -3,14 +3,12 @@ use Rattle.meter_states.{specs.Common.{Outcome, expired, key_pressed}, proofs.Ke
 use Rattle.meter_states.{specs.Core.{ComesToOutcome}, proofs.{Powered.{between-amid}, Pushes.{few-longer}}}
 use Rattle.meter_states.proofs.meter_state.State.expire_or_press.Goals as goal
 
-pub expire-requires-clause-lawful : goal.expire-requires-clause-lawful
-expire-requires-clause-lawful g c = c.requires.lawful
-
-pub expire-requires-clause-trip : goal.expire-requires-clause-trip
-expire-requires-clause-trip g c = c.is_long.ensures.long c.if-is_long.true
-
-pub expire-requires-clause-room : goal.expire-requires-clause-room
-expire-requires-clause-room g c = c.requires.room
+pub expire-requires : goal.expire-requires
+expire-requires g c = record {
+  lawful = c.requires.lawful;
+  trip = c.is_long.ensures.long c.if-is_long.true;
+  room = c.requires.room;
+}
 
 pub press-requires : goal.press-requires
 press-requires g c = record {
@@ -20,23 +18,22 @@ press-requires g c = record {
   };
 }
 
-pub returns-then-is_long-clause-stage : goal.returns-then-is_long-clause-stage
-returns-then-is_long-clause-stage g c =
-    let stage = c.expire.ensures.stage in
-    record {
-      lawful = between-amid stage.lawful;
-      few = stage.few;
-      roam = inr stage.roam;
-      ranges = stage.ranges;
-      follows = λ s m is e.
-          let long = sym (c.is_long.ensures.state s m e) ∙ c.if-is_long.true in
-          subst (λ (o : Outcome). ComesToOutcome s c.expire.new.self c.args.acts.now.items c.expire.new.acts.items o)
-          (ap (λ (b : Bool). if b then expired s m else key_pressed s m) (sym long)) (stage.follows s m is e);
-    }
-
-pub returns-then-is_long-clause-steps : goal.returns-then-is_long-clause-steps
-returns-then-is_long-clause-steps g c =
-    steps-twelve c.expire.new.steps c.args.steps.now c.args.self.now.operating c.expire.ensures.steps
+pub returns-then-is_long : goal.returns-then-is_long
+returns-then-is_long g c = record {
+  stage =
+      let stage = c.expire.ensures.stage in
+      record {
+        lawful = between-amid stage.lawful;
+        few = stage.few;
+        roam = inr stage.roam;
+        ranges = stage.ranges;
+        follows = λ s m is e.
+            let long = sym (c.is_long.ensures.state s m e) ∙ c.if-is_long.true in
+            subst (λ (o : Outcome). ComesToOutcome s c.expire.new.self c.args.acts.now.items c.expire.new.acts.items o)
+            (ap (λ (b : Bool). if b then expired s m else key_pressed s m) (sym long)) (stage.follows s m is e);
+      };
+  steps = steps-twelve c.expire.new.steps c.args.steps.now c.args.self.now.operating c.expire.ensures.steps;
+}
 
 pub returns-else-is_long-clause-stage : goal.returns-else-is_long-clause-stage
 returns-else-is_long-clause-stage g c =

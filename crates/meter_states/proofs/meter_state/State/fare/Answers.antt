@@ -1,14 +1,12 @@
 use Rattle.std.proofs.Common.{◌∙◌, ap, sym}
-use Rattle.meter_states.{specs.Common.{fare_shown}, proofs.{Outcomes.{fare-none, trip-saved}, Powered.{powered-longer}}}
-use Rattle.meter_states.specs.{Core.{CoreData}, Equals.{fare_by}}
+use Rattle.meter_states.specs.{Common.{fare_shown}, Core.{CoreData}, Equals.{fare_by}}
+use Rattle.meter_states.proofs.{Outcomes.{fare-none, trip-saved}, Powered.{powered-longer, trip-beside}}
 use Rattle.meter_states.proofs.meter_state.State.fare.Goals as goal
 
 pub fare-requires : goal.fare-requires
 fare-requires c =
-    let has = sym (ap (λ (p : CoreData). p.trip) c.self.view_is) ∙ c.in-Some.is in
-    let long = powered-longer c.requires.lawful in
-    let range = rw has at long.trip in
-    record { range = range.range }
+    let beside = trip-beside c.self.view_is c.in-Some.is (powered-longer c.requires.lawful) in
+    record { range = beside.range }
 
 pub returns-in-None-clause-value : goal.returns-in-None-clause-value
 returns-in-None-clause-value c =

@@ -5,48 +5,34 @@ use Rattle.meter_states.proofs.{Outcomes.{quiet-follows, trip-saved}, Powered.{n
 use Rattle.meter_states.proofs.SupplyStages.{aborted-closes, kept-closed, kept-held, kept-quiet, kept-roams}
 use Rattle.meter_states.proofs.meter_state.State.hold_or_close.Goals as goal
 
-pub enter_roaming-requires-clause-lawful : goal.enter_roaming-requires-clause-lawful
-enter_roaming-requires-clause-lawful g c = c.requires.lawful
-
-pub enter_roaming-requires-clause-hire : goal.enter_roaming-requires-clause-hire
-enter_roaming-requires-clause-hire g c = none-hires c.args.self.now.operating c.args.self.now.trip c.requires.lawful.on
-    (sym (ap (λ (p : CoreData). p.trip) c.self.view_is) ∙ c.in-None.is)
-
-pub enter_roaming-requires-clause-some : goal.enter_roaming-requires-clause-some
-enter_roaming-requires-clause-some g c = subst (λ (p : CoreData). 0 < p.roam) c.self.view_is c.if-self-gt0.true
-
-pub enter_roaming-requires-clause-room : goal.enter_roaming-requires-clause-room
-enter_roaming-requires-clause-room g c = few-none 3 c.args.acts.now.items c.requires.room
-
-pub hold-requires-clause-lawful : goal.hold-requires-clause-lawful
-hold-requires-clause-lawful g c = (c.args.tables.now, c.requires.lawful)
-
-pub hold-requires-clause-trip : goal.hold-requires-clause-trip
-hold-requires-clause-trip g c = sym (ap (λ (p : CoreData). p.trip) c.self.view_is) ∙ c.in-Some.is
-
-pub hold-requires-clause-number : goal.hold-requires-clause-number
-hold-requires-clause-number g c =
-    subst (λ (p : CoreData). p.number < last_number) c.self.view_is c.if-self-lt-LAST_NUMBER.true
-
-pub hold-requires-clause-room : goal.hold-requires-clause-room
-hold-requires-clause-room g c = c.requires.room
-
-pub close-requires-clause-lawful : goal.close-requires-clause-lawful
-close-requires-clause-lawful g c = powered-longer c.requires.lawful
-
-pub close-requires-clause-trip : goal.close-requires-clause-trip
-close-requires-clause-trip g c =
-    some-there c.in-Some.trip (sym (ap (λ (p : CoreData). p.trip) c.self.view_is) ∙ c.in-Some.is)
-
-pub close-requires-clause-closing : goal.close-requires-clause-closing
-close-requires-clause-closing g c = record {
-  kind = aborted-closes;
-  finish = subst IsSecond (sym (c.second.ensures ∙ ap (λ (p : CoreData). p.clock) c.self.view_is))
-      c.requires.lawful.clock;
+pub enter_roaming-requires : goal.enter_roaming-requires
+enter_roaming-requires g c = record {
+  lawful = c.requires.lawful;
+  hire = none-hires c.args.self.now.operating c.args.self.now.trip c.requires.lawful.on
+      (sym (ap (λ (p : CoreData). p.trip) c.self.view_is) ∙ c.in-None.is);
+  some = subst (λ (p : CoreData). 0 < p.roam) c.self.view_is c.if-self-gt0.true;
+  room = few-none 3 c.args.acts.now.items c.requires.room;
 }
 
-pub close-requires-clause-room : goal.close-requires-clause-room
-close-requires-clause-room g c = few-none 1 c.args.acts.now.items c.requires.room
+pub hold-requires : goal.hold-requires
+hold-requires g c = record {
+  lawful = (c.args.tables.now, c.requires.lawful);
+  trip = sym (ap (λ (p : CoreData). p.trip) c.self.view_is) ∙ c.in-Some.is;
+  number = subst (λ (p : CoreData). p.number < last_number) c.self.view_is c.if-self-lt-LAST_NUMBER.true;
+  room = c.requires.room;
+}
+
+pub close-requires : goal.close-requires
+close-requires g c = record {
+  lawful = powered-longer c.requires.lawful;
+  trip = some-there c.in-Some.trip (sym (ap (λ (p : CoreData). p.trip) c.self.view_is) ∙ c.in-Some.is);
+  closing = record {
+    kind = aborted-closes;
+    finish = subst IsSecond (sym (c.second.ensures ∙ ap (λ (p : CoreData). p.clock) c.self.view_is))
+        c.requires.lawful.clock;
+  };
+  room = few-none 1 c.args.acts.now.items c.requires.room;
+}
 
 pub returns-then-self-gt0-clause-stage : goal.returns-then-self-gt0-clause-stage
 returns-then-self-gt0-clause-stage g c = record {

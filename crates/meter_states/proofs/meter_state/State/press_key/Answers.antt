@@ -32,29 +32,24 @@ add_extra-requires g c = record { ready = c.requires.ready }
 pub refuse-requires : goal.refuse-requires
 refuse-requires g c = room-none c.args.acts.now.items c.requires.ready.room
 
-pub returns-in-Hire-clause-stage : goal.returns-in-Hire-clause-stage
-returns-in-Hire-clause-stage g c =
-    commits-act c.args.key key_acts.Hire c.self.view_is c.in-Hire.ensures.value c.hire.ensures.stage
+pub returns-in-Hire : goal.returns-in-Hire
+returns-in-Hire g c = record {
+  stage = commits-act c.args.key key_acts.Hire c.self.view_is c.in-Hire.ensures.value c.hire.ensures.stage;
+  steps = steps-at c.hire.new.steps c.args.steps.now ForHire c.self.view_is c.in-Hire.ensures.done c.hire.ensures.steps;
+}
 
-pub returns-in-Hire-clause-steps : goal.returns-in-Hire-clause-steps
-returns-in-Hire-clause-steps g c =
-    steps-at c.hire.new.steps c.args.steps.now ForHire c.self.view_is c.in-Hire.ensures.done c.hire.ensures.steps
+pub returns-in-Move : goal.returns-in-Move
+returns-in-Move g c = record {
+  stage = commits-act c.args.key (key_acts.Move c.in-Move.operating) c.self.view_is c.in-Move.ensures.value
+      (moves-stage c.in-Move.operating c.self.view_is c.requires.ready c.in-Move.ensures.done);
+  steps = steps-none c.args.steps.now c.args.self.now.operating;
+}
 
-pub returns-in-Move-clause-stage : goal.returns-in-Move-clause-stage
-returns-in-Move-clause-stage g c =
-    commits-act c.args.key (key_acts.Move c.in-Move.operating) c.self.view_is c.in-Move.ensures.value
-    (moves-stage c.in-Move.operating c.self.view_is c.requires.ready c.in-Move.ensures.done)
-
-pub returns-in-Move-clause-steps : goal.returns-in-Move-clause-steps
-returns-in-Move-clause-steps g c = steps-none c.args.steps.now c.args.self.now.operating
-
-pub returns-in-Clear-clause-stage : goal.returns-in-Clear-clause-stage
-returns-in-Clear-clause-stage g c =
-    closes-act c.args.key key_acts.Clear c.self.view_is c.in-Clear.ensures.value c.clear.ensures.stage
-
-pub returns-in-Clear-clause-steps : goal.returns-in-Clear-clause-steps
-returns-in-Clear-clause-steps g c =
-    steps-twelve c.clear.new.steps c.args.steps.now c.args.self.now.operating c.clear.ensures.steps
+pub returns-in-Clear : goal.returns-in-Clear
+returns-in-Clear g c = record {
+  stage = closes-act c.args.key key_acts.Clear c.self.view_is c.in-Clear.ensures.value c.clear.ensures.stage;
+  steps = steps-twelve c.clear.new.steps c.args.steps.now c.args.self.now.operating c.clear.ensures.steps;
+}
 
 pub returns-in-Position-clause-stage : goal.returns-in-Position-clause-stage
 returns-in-Position-clause-stage g c = commits-act c.args.key (key_acts.Position c.in-Position.n) c.self.view_is
@@ -70,13 +65,12 @@ returns-in-Zone-clause-stage g c = commits-act c.args.key (key_acts.Zone c.in-Zo
 pub returns-in-Zone-clause-steps : goal.returns-in-Zone-clause-steps
 returns-in-Zone-clause-steps g c = steps-none c.args.steps.now c.args.self.now.operating
 
-pub returns-in-Extra-clause-stage : goal.returns-in-Extra-clause-stage
-returns-in-Extra-clause-stage g c = commits-act c.args.key (key_acts.Extra c.in-Extra.n) c.self.view_is
-    c.in-Extra.ensures.value (c.add_extra.ensures.stage c.args.seal.now)
-
-pub returns-in-Extra-clause-steps : goal.returns-in-Extra-clause-steps
-returns-in-Extra-clause-steps g c =
-    steps-one c.add_extra.new.steps c.args.steps.now c.args.self.now.operating c.add_extra.ensures.steps
+pub returns-in-Extra : goal.returns-in-Extra
+returns-in-Extra g c = record {
+  stage = commits-act c.args.key (key_acts.Extra c.in-Extra.n) c.self.view_is
+      c.in-Extra.ensures.value (c.add_extra.ensures.stage c.args.seal.now);
+  steps = steps-one c.add_extra.new.steps c.args.steps.now c.args.self.now.operating c.add_extra.ensures.steps;
+}
 
 pub returns-in-Refuse-clause-stage : goal.returns-in-Refuse-clause-stage
 returns-in-Refuse-clause-stage g c = commits-act c.args.key key_acts.Refuse c.self.view_is c.in-Refuse.ensures.value
