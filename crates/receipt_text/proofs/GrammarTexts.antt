@@ -227,20 +227,22 @@ line_only word spelled after Value Rest value rest text = (
   },
 )
 
-abbrev amount_lines : Receipt → List ℕ
-amount_lines r =
-    codes "FARE " ++ (money_text r.decimals r.fare ++ 10 ∷ (codes "SUPPLEMENTS " ++ (money_text r.decimals r.supplements
-    ++ 10 ∷ (codes "TOTAL " ++ (money_text r.decimals (total_of r) ++ 10 ∷ codes "END\n")))))
+-- the same of an equal text
+retold : (Value : List ℕ → Type 0) (spelled text : List ℕ) → Only Value spelled → spelled ≡ text → Only Value text
+retold Value spelled text only same = subst (Only Value) same only
 
-amounts_only : (r : Receipt) → IsReceipt r → Only (AreAmounts r) (amount_lines r)
+amounts_only : (r : Receipt) → IsReceipt r
+    → Only (AreAmounts r) (fare_text r ++ (supplements_text r ++ total_text r))
+unfolding fare_text supplements_text total_text
 amounts_only r is =
     let total = line_only (codes "TOTAL ") (money_text r.decimals (total_of r)) (codes "END\n")
     (IsMoney r (total_of r)) (IsExactly (codes "END\n"))
     (amount_only r.decimals (total_of r) (omega (arith, total_small r is))) (exactly_only (codes "END\n")) in
     let second = line_only (codes "SUPPLEMENTS ") (money_text r.decimals r.supplements) _ (IsMoney r r.supplements) _
     (amount_only r.decimals r.supplements (omega (arith, is.supplements))) total in
-    line_only (codes "FARE ") (money_text r.decimals r.fare) _ (IsMoney r r.fare) _
-    (amount_only r.decimals r.fare (omega (arith, is.fare))) second
+    let first = line_only (codes "FARE ") (money_text r.decimals r.fare) _ (IsMoney r r.fare) _
+    (amount_only r.decimals r.fare (omega (arith, is.fare))) second in
+    retold (AreAmounts r) _ _ first (simp append_assoc)
 
 -- optional lines have one text if the text behind them has one
 optional_only : (r : Receipt) (lines : List (List ℕ × ℕ)) (after : List ℕ) (Rest : List ℕ → Type 0)
@@ -269,18 +271,13 @@ optional_only r ((word, amount) ∷ more) after Rest short rest text =
           )
     ]
 
-last_only : (r : Receipt) → IsReceipt r
-    → Only (AreLastLines r) (in_front r.decimals (optional_lines r) (amount_lines r))
-last_only r is =
-    optional_only r (optional_lines r) (amount_lines r) (AreAmounts r) (optional_short r is) (amounts_only r is)
+last_only : (r : Receipt) → IsReceipt r → Only (AreLastLines r) (last_text r)
+unfolding last_text
+last_only r is = optional_only r (optional_lines r) (fare_text r ++ (supplements_text r ++ total_text r)) (AreAmounts r)
+    (optional_short r is) (amounts_only r is)
 
-abbrev trip_lines : Receipt → List ℕ
-trip_lines r =
-    codes "START " ++ (stamp_text r.start ++ 10 ∷ (codes "FINISH " ++ (stamp_text r.finish ++ 10
-    ∷ (codes "POSITION " ++ (decimal r.position ++ 10 ∷ (codes "DISTANCE " ++ ((money_text 3 r.hired_mm ++ codes " m")
-    ++ 10 ∷ (codes "CALC " ++ (calculated r ++ 10 ∷ in_front r.decimals (optional_lines r) (amount_lines r))))))))))
-
-trip_only : (r : Receipt) → IsReceipt r → Only (AreTripLines r) (trip_lines r)
+trip_only : (r : Receipt) → IsReceipt r → Only (AreTripLines r) (body_text r)
+unfolding body_text trip_text course_text calculation_text
 trip_only r is =
     let fifth = line_only (codes "CALC ") (calculated r) _ (IsCalculation r) (AreLastLines r) (calculation_only r is)
     (last_only r is) in
@@ -289,15 +286,11 @@ trip_only r is =
     let third = line_only (codes "POSITION ") _ _ (IsNumberText r.position) _
     (number_only r.position (omega (arith, is.position))) fourth in
     let second = line_only (codes "FINISH ") _ _ (IsStampText r.finish) _ (stamp_only r.finish is.finish) third in
-    line_only (codes "START ") _ _ (IsStampText r.start) _ (stamp_only r.start is.start) second
+    let first = line_only (codes "START ") _ _ (IsStampText r.start) _ (stamp_only r.start is.start) second in
+    retold (AreTripLines r) _ _ first (simp append_assoc)
 
-abbrev all_lines : Receipt → Part → List ℕ
-all_lines r p =
-    codes "RECEIPT " ++ (decimal r.number ++ 10 ∷ (codes "KIND " ++ (kind_text r.kind ++ 10
-    ∷ (codes "TAXI " ++ (p.taxi ++ 10 ∷ (codes "CONSTANT " ++ (decimal p.constant ++ 10 ∷ (codes "SECURED "
-    ++ (day_text p.secured ++ 10 ∷ (codes "TARIFF " ++ (hex_text p.digest ++ 10 ∷ trip_lines r)))))))))))
-
-lines_only : (r : Receipt) (p : Part) → IsReceipt r → IsPart p → Only (AreReceiptLines r p) (all_lines r p)
+lines_only : (r : Receipt) (p : Part) → IsReceipt r → IsPart p → Only (AreReceiptLines r p) (receipt_text r p)
+unfolding receipt_text heading_text part_text
 lines_only r p is part_is =
     let sixth = line_only (codes "TARIFF ") _ _ (IsHexText p.digest) (AreTripLines r)
     (hex_only p.digest part_is.digest.bytes) (trip_only r is) in
@@ -307,31 +300,9 @@ lines_only r p is part_is =
     (number_only p.constant (omega (arith, part_is.constant))) fifth in
     let third = line_only (codes "TAXI ") _ _ (IsExactly p.taxi) _ (exactly_only p.taxi) fourth in
     let second = line_only (codes "KIND ") _ _ (IsKind r.kind) _ (kind_only r.kind is.kind) third in
-    line_only (codes "RECEIPT ") _ _ (IsNumberText r.number) _ (number_only r.number (omega (arith, is.number))) second
-
--- the written text, line by line
-heading_lines : (number : ℕ) (kind : Kind) (rest : List ℕ) → heading_text number kind ++ rest
-    ≡ codes "RECEIPT " ++ (decimal number ++ 10 ∷ (codes "KIND " ++ (kind_text kind ++ 10 ∷ rest)))
-unfolding heading_text
-heading_lines number kind rest = simp append_assoc
-
-part_lines : (p : Part) (rest : List ℕ)
-    → part_text p ++ rest ≡ codes "TAXI " ++ (p.taxi ++ 10 ∷ (codes "CONSTANT " ++ (decimal p.constant ++ 10
-    ∷ (codes "SECURED " ++ (day_text p.secured ++ 10 ∷ (codes "TARIFF " ++ (hex_text p.digest ++ 10 ∷ rest)))))))
-unfolding part_text
-part_lines p rest = simp append_assoc
-
-body_lines : (r : Receipt) → body_text r ≡ trip_lines r
-unfolding body_text trip_text course_text calculation_text last_text fare_text supplements_text total_text
-body_lines r = simp append_assoc
-
-spelled_lines : (r : Receipt) (p : Part) → receipt_text r p ≡ all_lines r p
-unfolding receipt_text
-spelled_lines r p =
-    let a = heading_lines r.number r.kind (part_text p ++ body_text r) in
-    let b = part_lines p (body_text r) in
-    let d = body_lines r in
-    rw (a, b, d) refl
+    let first = line_only (codes "RECEIPT ") _ _ (IsNumberText r.number) _
+    (number_only r.number (omega (arith, is.number))) second in
+    retold (AreReceiptLines r p) _ _ first (simp append_assoc)
 
 -- the grammar has exactly the texts that are written
 pub receipts_are_their_texts : (text : List ℕ) (receipt : Receipt) (part : Part) → IsReceiptText text receipt part
@@ -340,11 +311,11 @@ receipts_are_their_texts text r p = (
   λ h. record {
     receipt_is = h.receipt_is;
     part_is = h.part_is;
-    text_is = (lines_only r p h.receipt_is h.part_is text).0 h.lines ∙ sym (spelled_lines r p);
+    text_is = (lines_only r p h.receipt_is h.part_is text).0 h.lines;
   },
   λ h. record {
     receipt_is = h.receipt_is;
     part_is = h.part_is;
-    lines = (lines_only r p h.receipt_is h.part_is text).1 (h.text_is ∙ spelled_lines r p);
+    lines = (lines_only r p h.receipt_is h.part_is text).1 h.text_is;
   },
 )

@@ -74,11 +74,9 @@ optional_again decimals word amount rest few small other =
           let not_none : eqb amount 0 ≡ false = ne_eqb amount 0 (λ e. omega arith) in
           let text : (word ++ (money_text decimals amount ++ codes "\n")) ++ rest
           ≡ word ++ (money_text decimals amount ++ 10 ∷ rest) = simp append_assoc in
-          let a = word_again word (money_text decimals amount ++ 10 ∷ rest) in
           let m =
           amount_again (10 ^ 18) decimals amount rest 10 few small (omega arith) (omega arith) (λ e. omega arith) in
-          let f = word_again (codes "\n") rest in
-          rw (not_none, text, a, m, f) refl
+          rw (not_none, text, word_again word _, m, word_again (codes "\n") rest) refl
       | inr none ↦
           let zero_is : amount ≡ 0 = omega arith in
           rw (zero_is, other) refl

@@ -68,15 +68,15 @@ calculation_fits r few hi hn hs =
     omega (lengths, initial, steps, step)
 
 -- the lines of amounts
-pub fare_fits : (r : Receipt) → r.decimals ≤ 3 → r.fare < 2 ^ 64 → length (fare_text r) ≤ 40
+pub fare_fits : (r : Receipt) → r.decimals ≤ 3 → r.fare < 2 ^ 64 → length (fare_text r) ≤ 27
 unfolding fare_text
 fare_fits r few small = omega (lengths, amount_most r.decimals 20 r.fare (omega arith) (omega arith) (omega arith))
 
-pub supplements_fit : (r : Receipt) → r.decimals ≤ 3 → r.supplements < 2 ^ 64 → length (supplements_text r) ≤ 40
+pub supplements_fit : (r : Receipt) → r.decimals ≤ 3 → r.supplements < 2 ^ 64 → length (supplements_text r) ≤ 34
 unfolding supplements_text
 supplements_fit r few small =
     omega (lengths, amount_most r.decimals 20 r.supplements (omega arith) (omega arith) (omega arith))
 
-pub total_fits : (r : Receipt) → r.decimals ≤ 3 → total_of r < 10 ^ 20 → length (total_text r) ≤ 40
+pub total_fits : (r : Receipt) → r.decimals ≤ 3 → total_of r < 10 ^ 20 → length (total_text r) ≤ 32
 unfolding total_text
 total_fits r few small = omega (lengths, amount_most r.decimals 20 (total_of r) (omega arith) (omega arith) small)
