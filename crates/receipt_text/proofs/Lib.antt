@@ -18,7 +18,7 @@ pub mod Laws
 mod Lengths
 -- the optional lines of a receipt and its total: they are short, and what is written of the lines is read again
 mod OptionalLines
--- a receipt that was written is read again, and no other text is read as one
+-- a receipt that was written is read again
 mod ReadAgain
 -- what a receipt says of a seal is in its ranges
 mod Sealed
