@@ -3,13 +3,13 @@ use Rattle.std.proofs.Common.{[], ℕ, ℤ, ◌%◌, ◌*◌, ◌++◌, ◌+◌,
 use Rattle.std.proofs.{Common.{pos, refl, unsigned_abs}, lemmas.Int.{ints}}
 use Rattle.{taxi_units.proofs.Laws.{padded_numbers_fill_the_width}, interval_clock.proofs.Laws.{IsDateOf-date_after}}
 use Rattle.{interval_clock.specs.Calendar.{date_after}, receipt_text.specs.Receipts.{total_text, trip_text}}
-use Rattle.receipt_text.{specs.AmountLines.{optional_lines}, proofs.Dates.{month_small, year_below}}
+use Rattle.receipt_text.specs.AmountLines.{optional_lines}
 use Rattle.receipt_text.specs.{Common.{IsReceipt, IsStamp, Kind, Receipt, Stamp, padded_text}, Part.{IsPart, Part}}
 use Rattle.receipt_text.specs.Receipts.{body_text, course_text, date_text, day_text, fare_text, heading_text, hex_text}
 use Rattle.receipt_text.specs.Receipts.{last_text, part_text, receipt_text, stamp_text, supplements_text, time_text}
-use Rattle.receipt_text.proofs.{AppendedPieces.{length-joined, lengths}, Widths.{supplements_fit, total_fits}}
+use Rattle.receipt_text.proofs.{Dates.{month_small, year_below}, Widths.{number_most, supplements_fit, total_fits}}
 use Rattle.receipt_text.proofs.OptionalLines.{optional_len, optional_short, total_small}
-use Rattle.receipt_text.proofs.Widths.{amount_most, calculation_fits, fare_fits, kind_fits, number_most}
+use Rattle.receipt_text.proofs.Widths.{amount_most, calculation_fits, fare_fits, kind_fits, length-joined, lengths}
 
 padded_len : (width value : ℕ) → 0 < width → width ≤ 64 → value < 10 ^ width → length (padded_text width value) ≡ width
 padded_len width value some few small =

@@ -1,7 +1,5 @@
 -- what is written of a number, an amount or a word is read again
 mod Again
--- texts that are appended in pieces
-mod AppendedPieces
 -- all elements of a list are bytes if each is
 mod Bytes
 -- what is written of a date, a day or a local time is read again

@@ -6,7 +6,7 @@ use Rattle.std.proofs.{Common.{eqb, false, inl, inr, length, refl}, lemmas.Bool.
 use Rattle.{taxi_units.specs.Reading.{word_at}, receipt_text.specs.Common.{IsReceipt, Receipt, money_text}}
 use Rattle.receipt_text.specs.{AmountLines.{optional_lines, total_of}, Lines.{optional_at, optional_lines_at}}
 use Rattle.receipt_text.{specs.Receipts.{in_front, optional_text}, proofs.Again.{amount_again, word_again}}
-use Rattle.receipt_text.proofs.{AppendedPieces.{lengths}, Widths.{amount_most}}
+use Rattle.receipt_text.proofs.Widths.{amount_most, lengths}
 
 -- a line is short if its word and its amount are
 pub record IsShort (line : List ℕ × ℕ) : Type 0 where
