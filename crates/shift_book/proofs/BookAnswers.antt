@@ -1,8 +1,8 @@
 -- What is read of a text is what the text says.
-use Rattle.std.{specs.Prelude.{◌&&◌, IfSome, nat_le, nat_lt, not}, proofs.lemmas.List.Concat.{flat_map-cons}}
+use Rattle.std.{specs.Prelude.{◌&&◌, IfSome, nat_lt, not}, proofs.lemmas.Bool.Decides.{nat_tests}}
 use Rattle.std.proofs.Common.{[], ℕ, ◌++◌, ◌+◌, ◌<◌, ◌↔◌, ◌∷◌, ◌≡◌, ◌≤◌, Bool, Err, List, None, Ok, Option, Result}
 use Rattle.std.proofs.Common.{Some, ap, arith, codes, cond, false, length, length-append, refl, subst, suc, sym, true}
-use Rattle.std.proofs.{Common.{zero}, lemmas.Bool.{le-leb, leb-true, lt-ltb, ltb-false, ltb-true}}
+use Rattle.std.proofs.{Common.{zero}, lemmas.{Bool.{lt-ltb, ltb-false, ltb-true}, List.Concat.{flat_map-cons}}}
 use Rattle.taxi_units.{specs.Reading.{word_at}, proofs.Laws.{words_are_read_by_their_text}}
 use Rattle.shift_book.specs.BookReading.{book_read, following, is_grown, is_nowhere_less, is_turn, lines_read}
 use Rattle.shift_book.specs.{BookReading.{may_follow, next_at, or_bad}, declared.book.BookFault.TheVariants.{NoMemory}}
@@ -60,31 +60,17 @@ both true b e = (refl, e)
 both false b e = absurd cc
 
 less_told : (a b : Numbers) → is_nowhere_less a b ≡ true → IsNowhereLess a b
-less_told a b e =
-    let one = both (nat_le a.number b.number) _ e in
-    let two = both (nat_le a.distance_mm b.distance_mm) _ one.1 in
-    let three = both (nat_le a.hired_mm b.hired_mm) _ two.1 in
-    let four = both (nat_le a.hirings b.hirings) _ three.1 in
-    let five = both (nat_le a.supplements b.supplements) (nat_le a.fare b.fare) four.1 in
-    record {
-      number = leb-true a.number b.number one.0;
-      distance = leb-true a.distance_mm b.distance_mm two.0;
-      hired = leb-true a.hired_mm b.hired_mm three.0;
-      hirings = leb-true a.hirings b.hirings four.0;
-      supplements = leb-true a.supplements b.supplements five.0;
-      fare = leb-true a.fare b.fare five.1;
-    }
+less_told a b e = record {
+  number = grind (arith, nat_tests);
+  distance = grind (arith, nat_tests);
+  hired = grind (arith, nat_tests);
+  hirings = grind (arith, nat_tests);
+  supplements = grind (arith, nat_tests);
+  fare = grind (arith, nat_tests);
+}
 
 less_tested : (a b : Numbers) → IsNowhereLess a b → is_nowhere_less a b ≡ true
-less_tested a b h =
-    rw (
-      le-leb a.number b.number h.number,
-      le-leb a.distance_mm b.distance_mm h.distance,
-      le-leb a.hired_mm b.hired_mm h.hired,
-      le-leb a.hirings b.hirings h.hirings,
-      le-leb a.supplements b.supplements h.supplements,
-      le-leb a.fare b.fare h.fare,
-    ) refl
+less_tested a b h = grind (arith, nat_tests)
 
 turn_told : (a b : Bool) → cond a (not b) b ≡ true → a ≡ not b
 turn_told true true e = absurd cc
