@@ -1,3 +1,2 @@
 pub mod Front
-pub mod SpelledFront
 pub mod Common

@@ -6,7 +6,6 @@ mod amounts;
 mod calculations;
 mod digest;
 mod figures;
-mod front;
 mod headings;
 mod parts;
 mod ranges;
@@ -15,5 +14,4 @@ mod stamps;
 mod sums;
 mod trips;
 
-pub use front::receipt_in_front;
-pub use reading::read_receipt;
+pub use reading::{read_receipt, receipt_in_front};

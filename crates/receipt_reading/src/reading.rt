@@ -1,7 +1,7 @@
 //! Receipts that are read back.
-ghost use Rattle.std.specs.Prelude.{◌↔◌, ◌≡◌, IsTrue, Some};
-ghost use Rattle.receipt_text.specs.{Grammar.{IsReceiptText}, Lines.{receipt_of}, Receipts.{receipt_text}};
-ghost use Rattle.receipt_reading.specs.Common.{Gives, IsPart, IsReceipt, IsSpelled, Part, Receipt};
+ghost use Rattle.std.specs.Prelude.{ℕ, ◌↔◌, ◌≡◌, ◌≤◌, Some, length, take};
+ghost use Rattle.{taxi_units.specs.Shown.{IsReceipt}, receipt_text.specs.{Lines.{receipt_of}, Part.{IsPart}}};
+ghost use Rattle.receipt_reading.specs.{Common.{Gives, IsReceiptText, Part, Receipt}, Front.{IsInFront}};
 ghost use Rattle.receipt_text.specs.Lines as spec;
 
 use crate::calculations::calculation_at;
@@ -22,40 +22,63 @@ pub fn read_receipt(text: &[u8]) -> Option<(Receipt, SealPart)>
     ensures { (receipt : Receipt) (part : Part)
         → (result ≡ Some (receipt, part)) ↔ IsReceiptText text.now receipt part }
 {
-    read_spelled(text)
-}
-
-/// The receipt and the part whose text this is.
-#[tactic(auto, using(receipt_text::proofs::Laws::exactly_none, receipt_text::proofs::Laws::exactly_some))]
-fn read_spelled(text: &[u8]) -> Option<(Receipt, SealPart)>
-    ensures { (receipt : Receipt) (part : Part) → (result ≡ Some (receipt, part)) ↔ IsSpelled text.now receipt part }
-{
-    let (receipt, part) = receipt_at(text)?;
-    if is_spelled(text, &receipt, &part) {
+    let (receipt, part, count) = receipt_in_front(text)?;
+    if count == text.len() {
         Some((receipt, part))
     } else {
         None
     }
 }
 
-/// Whether a text is that of this receipt and this part, both in their ranges.
-fn is_spelled(text: &[u8], receipt: &Receipt, part: &SealPart) -> bool
-    ensures { IsTrue result ↔ IsSpelled text.now receipt.now part.now }
+/// Reads the receipt at the front of a text, whatever follows it: what it says of the hiring, what of the seal of the
+/// meter, and how many bytes it has, at most 480. `None` exactly if no beginning of the text is a receipt, byte for
+/// byte, with each number in its range. At most one beginning is. No memory is taken. The form is this project's own.
+pub fn receipt_in_front(text: &[u8]) -> Option<(Receipt, SealPart, usize)>
+    ensures { (receipt : Receipt) (part : Part) (count : ℕ)
+        → (result ≡ Some (receipt, part, count)) ↔ IsInFront text.now receipt part count }
 {
-    is_receipt(receipt) && is_part(part) && spells(text, receipt, part)
+    let (receipt, part) = receipt_at(text)?;
+    let count = spelled_in_front(text, &receipt, &part)?;
+    Some((receipt, part, count))
 }
 
-/// Whether a text is that of this receipt and this part.
+/// How many bytes the text of this receipt and this part has, if both are in their ranges and it is at the front.
+fn spelled_in_front(text: &[u8], receipt: &Receipt, part: &SealPart) -> Option<usize>
+    ensures { (count : ℕ) → (result ≡ Some count) ↔ IsInFront text.now receipt.now part.now count }
+{
+    if is_receipt(receipt) && is_part(part) {
+        length_in_front(text, receipt, part)
+    } else {
+        None
+    }
+}
+
+/// How many bytes the text of this receipt and this part has, if it is at the front.
 #[tactic(auto, using(receipt_text::proofs::Laws::receipts_fit))]
-fn spells(text: &[u8], receipt: &Receipt, part: &SealPart) -> bool
+fn length_in_front(text: &[u8], receipt: &Receipt, part: &SealPart) -> Option<usize>
     requires receipt { IsReceipt receipt.now }
     requires part { IsPart part.now }
-    ensures { IsTrue result ↔ (text.now ≡ receipt_text receipt.now part.now) }
+    ensures { (count : ℕ) → (result ≡ Some count) ↔ IsInFront text.now receipt.now part.now count }
 {
     let mut spelled = Line::new();
     match put_part_receipt(&mut spelled, receipt, part) {
-        Ok(()) => spelled.as_slice() == text,
-        Err(_) => false,
+        Ok(()) => length_of_front(text, spelled.as_slice()),
+        Err(_) => None,
+    }
+}
+
+/// The length of a part of a text, if the text begins with it.
+fn length_of_front(text: &[u8], part: &[u8]) -> Option<usize>
+    ensures { (count : ℕ) → (result ≡ Some count) ↔ ((count ≤ length text.now) × (take count text.now ≡ part.now)) }
+{
+    if part.len() > text.len() {
+        return None;
+    }
+    let (front, _) = text.split_at(part.len());
+    if front == part {
+        Some(part.len())
+    } else {
+        None
     }
 }
 

@@ -1,16 +1,15 @@
 -- What is written of a date, a day or a local time is read again.
-use Rattle.std.{specs.Char.{digit_value}, proofs.lemmas.Bool.{cases_lt, le-leb, le-ltb, lt-ltb}}
-use Rattle.std.proofs.Common.{[], ℕ, ℤ, ◌%◌, ◌*◌, ◌++◌, ◌+◌, ◌-◌, ◌/◌, ◌<◌, ◌∙◌, ◌∷◌, ◌≡◌, ◌≤ℤ◌, ◌≤◌, All, Bool, List}
-use Rattle.std.proofs.Common.{Some, ap, append_assoc, arith, false, get_or, if◌then◌else◌, inl, inr, length, pos, refl}
-use Rattle.std.proofs.{Common.{subst, suc, sym, true, unsigned_abs, zero}, lemmas.{Int.{ints}, List.{get_or_past}}}
-use Rattle.taxi_units.specs.{DateTest.{date_test}, Test.{at_most, each}}
+use Rattle.std.{specs.Char.{digit_value}, proofs.lemmas.{Int.{ints}, List.{get_or_past}}}
+use Rattle.std.proofs.Common.{ℕ, ℤ, ◌%◌, ◌*◌, ◌++◌, ◌+◌, ◌-◌, ◌/◌, ◌<◌, ◌∙◌, ◌∷◌, ◌≡◌, ◌≤ℤ◌, ◌≤◌, All, Bool, List, Some}
+use Rattle.std.proofs.Common.{ap, append_assoc, arith, false, if◌then◌else◌, inl, inr, length, pos, refl, subst, suc}
+use Rattle.std.proofs.{Common.{sym, true, unsigned_abs, zero}, lemmas.Bool.{cases_lt, le-leb, le-ltb, lt-ltb}}
+use Rattle.taxi_units.specs.{DateTest.{date_test}, Reading.{word_at}, Test.{at_most, each}}
 use Rattle.interval_clock.specs.Calendar.{date_after, day_number_of, days_of_month, days_of_year, days_of_years}
 use Rattle.interval_clock.specs.Calendar.{is_leap_year, month_lengths, next_date}
 use Rattle.interval_clock.proofs.Laws.{IsDateOf-date_after, one_day_number}
 use Rattle.receipt_text.specs.Common.{CalendarDate, IsStamp, Stamp, padded_text}
 use Rattle.receipt_text.specs.Dates.{date_at, day_at, day_of, stamp_at, time_at}
-use Rattle.receipt_text.specs.Receipts.{date_text, day_text, stamp_text, time_text}
-use Rattle.receipt_text.proofs.Again.{padded_again, word_again}
+use Rattle.receipt_text.{specs.Receipts.{date_text, day_text, stamp_text, time_text}, proofs.Again.{padded_again}}
 
 lengths_small : (leap : Bool) → All (λ d. d ≤ 31) (month_lengths leap)
 lengths_small true = (each (λ d. at_most d 31) (month_lengths true)).decides.0 refl
@@ -29,53 +28,46 @@ month_small year month =
 pub date_again : (year month date c : ℕ) (rest : List ℕ) → year < 10000 → month < 100 → date < 100 → 10 ≤ digit_value c
     → date_at (date_text year month date ++ c ∷ rest)
     ≡ Some (record { year = year; month = month; date = date }, c ∷ rest)
-unfolding date_at
+unfolding date_at word_at
 date_again year month date c rest hy hm hd stops =
     let text : date_text year month date ++ c ∷ rest
     ≡ padded_text 4 year ++ 45 ∷ (padded_text 2 month ++ 45 ∷ (padded_text 2 date ++ c ∷ rest)) = simp append_assoc in
-    let y = padded_again 10000 4 year (padded_text 2 month ++ 45 ∷ (padded_text 2 date ++ c ∷ rest)) 45 hy (omega arith)
-    (omega arith) in
-    let a = word_again (45 ∷ []) (padded_text 2 month ++ 45 ∷ (padded_text 2 date ++ c ∷ rest)) in
-    let m = padded_again 100 2 month (padded_text 2 date ++ c ∷ rest) 45 hm (omega arith) (omega arith) in
-    let b = word_again (45 ∷ []) (padded_text 2 date ++ c ∷ rest) in
-    let d = padded_again 100 2 date rest c hd (omega arith) stops in
-    ap date_at text ∙ rw (y, a, m, b, d) refl
+    ap date_at text ∙ rw (
+      padded_again 10000 4 year _ 45 hy (omega arith) (omega arith),
+      padded_again 100 2 month _ 45 hm (omega arith) (omega arith),
+      padded_again 100 2 date rest c hd (omega arith) stops,
+    ) refl
 
 -- a second of the day
 time_again : (second c : ℕ) (rest : List ℕ) → second ≤ 86399 → 10 ≤ digit_value c
     → time_at (time_text second ++ c ∷ rest) ≡ Some (second, c ∷ rest)
-unfolding time_at
+unfolding time_at word_at
 time_again second c rest small stops =
     let hours = second / 3600 in
     let minutes = second / 60 % 60 in
     let seconds = second % 60 in
     let text : time_text second ++ c ∷ rest ≡ padded_text 2 hours ++ 58
     ∷ (padded_text 2 minutes ++ 58 ∷ (padded_text 2 seconds ++ c ∷ rest)) = simp append_assoc in
-    let h = padded_again 100 2 hours (padded_text 2 minutes ++ 58 ∷ (padded_text 2 seconds ++ c ∷ rest)) 58
-    (omega arith) (omega arith) (omega arith) in
-    let a = word_again (58 ∷ []) (padded_text 2 minutes ++ 58 ∷ (padded_text 2 seconds ++ c ∷ rest)) in
-    let m =
-    padded_again 100 2 minutes (padded_text 2 seconds ++ c ∷ rest) 58 (omega arith) (omega arith) (omega arith) in
-    let b = word_again (58 ∷ []) (padded_text 2 seconds ++ c ∷ rest) in
-    let s = padded_again 100 2 seconds rest c (omega arith) (omega arith) stops in
     let sum : hours * 3600 + minutes * 60 + seconds ≡ second = omega arith in
-    ap time_at text ∙ rw (h, a, m, b, s, sum) refl
+    ap time_at text ∙ rw (
+      padded_again 100 2 hours _ 58 (omega arith) (omega arith) (omega arith),
+      padded_again 100 2 minutes _ 58 (omega arith) (omega arith) (omega arith),
+      padded_again 100 2 seconds rest c (omega arith) (omega arith) stops,
+      sum,
+    ) refl
 
 -- a local date and time
 pub stamp_again : (stamp : Stamp) (c : ℕ) (rest : List ℕ) → IsStamp stamp → 10 ≤ digit_value c
     → stamp_at (stamp_text stamp ++ c ∷ rest) ≡ Some (stamp, c ∷ rest)
-unfolding stamp_at stamp_text
+unfolding stamp_at stamp_text word_at
 stamp_again stamp c rest is stops =
-    let time = time_text stamp.second ++ c ∷ rest in
-    let text : (date_text stamp.year stamp.month stamp.date ++ 32 ∷ time_text stamp.second) ++ c ∷ rest
-    ≡ date_text stamp.year stamp.month stamp.date ++ 32 ∷ time =
-    append_assoc (date_text stamp.year stamp.month stamp.date) (32 ∷ time_text stamp.second) (c ∷ rest) in
     let small = month_small stamp.year stamp.month in
-    let d = date_again stamp.year stamp.month stamp.date 32 time (omega (arith, is.year)) (omega (arith, is.date))
-    (omega (arith, is.date)) (omega arith) in
-    let a = word_again (32 ∷ []) time in
-    let s = time_again stamp.second c rest is.second stops in
-    ap stamp_at text ∙ rw (d, a, s) refl
+    ap stamp_at (append_assoc (date_text stamp.year stamp.month stamp.date) (32 ∷ time_text stamp.second) (c ∷ rest))
+    ∙ rw (
+      date_again stamp.year stamp.month stamp.date 32 _ (omega (arith, is.year)) (omega (arith, is.date))
+          (omega (arith, is.date, small)) (omega arith),
+      time_again stamp.second c rest is.second stops,
+    ) refl
 
 long : (leap : Bool) → 365 ≤ (if leap then 366 else 365)
 long true = omega arith

@@ -2,14 +2,14 @@
 use Rattle.std.proofs.Common.{[], ℕ, ℤ, ◌%◌, ◌*◌, ◌++◌, ◌+◌, ◌/◌, ◌<◌, ◌^◌, ◌∷◌, ◌≡◌, ◌≤ℤ◌, ◌≤◌, List, arith, length}
 use Rattle.std.proofs.{Common.{pos, refl, unsigned_abs}, lemmas.Int.{ints}}
 use Rattle.{taxi_units.proofs.Laws.{padded_numbers_fill_the_width}, interval_clock.proofs.Laws.{IsDateOf-date_after}}
-use Rattle.{interval_clock.specs.Calendar.{date_after}, receipt_text.specs.AmountLines.{optional_lines, total_of}}
+use Rattle.{interval_clock.specs.Calendar.{date_after}, receipt_text.specs.Receipts.{total_text, trip_text}}
+use Rattle.receipt_text.specs.AmountLines.{optional_lines}
 use Rattle.receipt_text.specs.{Common.{IsReceipt, IsStamp, Kind, Receipt, Stamp, padded_text}, Part.{IsPart, Part}}
-use Rattle.receipt_text.specs.Receipts.{body_text, calculation_text, course_text, date_text, day_text, fare_text}
-use Rattle.receipt_text.specs.Receipts.{heading_text, hex_text, last_text, part_text, receipt_text, stamp_text}
-use Rattle.receipt_text.specs.Receipts.{supplements_text, time_text, total_text, trip_text}
-use Rattle.receipt_text.proofs.{AppendedPieces.{length-joined, lengths}, Widths.{amount_most, kind_fits, number_most}}
-use Rattle.receipt_text.proofs.Dates.{month_small, year_below}
+use Rattle.receipt_text.specs.Receipts.{body_text, course_text, date_text, day_text, fare_text, heading_text, hex_text}
+use Rattle.receipt_text.specs.Receipts.{last_text, part_text, receipt_text, stamp_text, supplements_text, time_text}
+use Rattle.receipt_text.proofs.{Dates.{month_small, year_below}, Widths.{number_most, supplements_fit, total_fits}}
 use Rattle.receipt_text.proofs.OptionalLines.{optional_len, optional_short, total_small}
+use Rattle.receipt_text.proofs.Widths.{amount_most, calculation_fits, fare_fits, kind_fits, length-joined, lengths}
 
 padded_len : (width value : ℕ) → 0 < width → width ≤ 64 → value < 10 ^ width → length (padded_text width value) ≡ width
 padded_len width value some few small =
@@ -77,38 +77,8 @@ trip_len : (r : Receipt) → IsReceipt r → length (trip_text r) ≤ 101
 unfolding trip_text
 trip_len r is = omega (lengths, course_len r is)
 
-calculation_len : (r : Receipt) → IsReceipt r → length (calculation_text r) ≤ 47
-unfolding calculation_text
-calculation_len r is =
-    let initial =
-    amount_most r.decimals 8 r.initial (omega (arith, is.decimals)) (omega arith) (omega (arith, is.initial)) in
-    let steps = number_most 18 r.steps (omega arith) (omega arith) is.steps in
-    let step = amount_most r.decimals 7 r.step (omega (arith, is.decimals)) (omega arith) (omega (arith, is.step)) in
-    omega (lengths, initial, steps, step)
-
-fare_len : (r : Receipt) → IsReceipt r → length (fare_text r) ≤ 15
-unfolding fare_text
-fare_len r is = omega (
-  lengths,
-  amount_most r.decimals 8 r.fare (omega (arith, is.decimals)) (omega arith) (omega (arith, is.fare)),
-)
-
-supplements_len : (r : Receipt) → IsReceipt r → length (supplements_text r) ≤ 24
-unfolding supplements_text
-supplements_len r is = omega (
-  lengths,
-  amount_most r.decimals 10 r.supplements (omega (arith, is.decimals)) (omega arith) (omega (arith, is.supplements)),
-)
-
-total_len : (r : Receipt) → IsReceipt r → length (total_text r) ≤ 22
-unfolding total_text
-total_len r is = omega (
-  lengths,
-  amount_most r.decimals 10 (total_of r) (omega (arith, is.decimals)) (omega arith) (total_small r is),
-)
-
 -- the lines behind the calculation
-last_len : (r : Receipt) → IsReceipt r → length (last_text r) ≤ 20 * length (optional_lines r) + 61
+last_len : (r : Receipt) → IsReceipt r → length (last_text r) ≤ 20 * length (optional_lines r) + 93
 unfolding last_text
 last_len r is =
     let sums = supplements_text r ++ total_text r in
@@ -117,9 +87,9 @@ last_len r is =
       optional_len r.decimals (optional_lines r) (fare_text r ++ sums) is.decimals (optional_short r is),
       length-joined (fare_text r) sums,
       length-joined (supplements_text r) (total_text r),
-      fare_len r is,
-      supplements_len r is,
-      total_len r is,
+      fare_fits r is.decimals (omega (arith, is.fare)),
+      supplements_fit r is.decimals (omega (arith, is.supplements)),
+      total_fits r is.decimals (omega (arith, total_small r is)),
     )
 
 -- a receipt has at most 480 bytes
@@ -131,7 +101,7 @@ receipts_are_short r p is part_is =
       heading_len r.number r.kind (omega (arith, is.number)),
       part_len p part_is,
       trip_len r is,
-      calculation_len r is,
+      calculation_fits r is.decimals (omega (arith, is.initial)) (omega (arith, is.steps)) (omega (arith, is.step)),
       last_len r is,
     )
 

@@ -1,7 +1,5 @@
 -- what is written of a number, an amount or a word is read again
 mod Again
--- texts that are appended in pieces
-mod AppendedPieces
 -- all elements of a list are bytes if each is
 mod Bytes
 -- what is written of a date, a day or a local time is read again
@@ -18,7 +16,7 @@ pub mod Laws
 mod Lengths
 -- the optional lines of a receipt and its total: they are short, and what is written of the lines is read again
 mod OptionalLines
--- a receipt that was written is read again, and no other text is read as one
+-- a receipt that was written is read again
 mod ReadAgain
 -- what a receipt says of a seal is in its ranges
 mod Sealed

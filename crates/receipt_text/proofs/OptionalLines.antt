@@ -6,7 +6,7 @@ use Rattle.std.proofs.{Common.{eqb, false, inl, inr, length, refl}, lemmas.Bool.
 use Rattle.{taxi_units.specs.Reading.{word_at}, receipt_text.specs.Common.{IsReceipt, Receipt, money_text}}
 use Rattle.receipt_text.specs.{AmountLines.{optional_lines, total_of}, Lines.{optional_at, optional_lines_at}}
 use Rattle.receipt_text.{specs.Receipts.{in_front, optional_text}, proofs.Again.{amount_again, word_again}}
-use Rattle.receipt_text.proofs.{AppendedPieces.{lengths}, Widths.{amount_most}}
+use Rattle.receipt_text.proofs.Widths.{amount_most, lengths}
 
 -- a line is short if its word and its amount are
 pub record IsShort (line : List ℕ × ℕ) : Type 0 where
@@ -74,11 +74,9 @@ optional_again decimals word amount rest few small other =
           let not_none : eqb amount 0 ≡ false = ne_eqb amount 0 (λ e. omega arith) in
           let text : (word ++ (money_text decimals amount ++ codes "\n")) ++ rest
           ≡ word ++ (money_text decimals amount ++ 10 ∷ rest) = simp append_assoc in
-          let a = word_again word (money_text decimals amount ++ 10 ∷ rest) in
           let m =
           amount_again (10 ^ 18) decimals amount rest 10 few small (omega arith) (omega arith) (λ e. omega arith) in
-          let f = word_again (codes "\n") rest in
-          rw (not_none, text, a, m, f) refl
+          rw (not_none, text, word_again word _, m, word_again (codes "\n") rest) refl
       | inr none ↦
           let zero_is : amount ≡ 0 = omega arith in
           rw (zero_is, other) refl

@@ -1,8 +1,8 @@
--- A receipt that was written is read again, and an answer says exactly which.
-use Rattle.std.proofs.Common.{[], ℕ, ◌++◌, ◌↔◌, ◌∙◌, ◌∷◌, ◌≡◌, List, None, Option, Some, ap, append_assoc, arith, drop}
-use Rattle.{std.proofs.{Common.{refl, subst, sym}, lemmas.List.{append-nil}}, receipt_text.specs.Spelling.{IsSpelled}}
-use Rattle.receipt_text.{specs.AmountLines.{optional_lines}, proofs.OptionalLines.{optional_lines_again}}
-use Rattle.receipt_text.specs.{Common.{IsReceipt, Receipt}, Lines.{receipt_at}, Part.{IsPart, Part}}
+-- A receipt that was written is read again.
+use Rattle.std.proofs.Common.{[], ℕ, ◌++◌, ◌∙◌, ◌∷◌, ◌≡◌, List, Some, ap, append_assoc, arith, drop, refl, sym}
+use Rattle.{std.proofs.lemmas.List.{append-nil}, receipt_text.proofs.OptionalLines.{optional_lines_again}}
+use Rattle.receipt_text.specs.{AmountLines.{optional_lines}, Common.{IsReceipt, Receipt}, Spelling.{IsSpelled}}
+use Rattle.receipt_text.specs.{Lines.{receipt_at}, Part.{IsPart, Part}}
 use Rattle.receipt_text.specs.Receipts.{body_text, calculation_text, fare_text, heading_text, in_front, last_text}
 use Rattle.receipt_text.specs.Receipts.{part_text, receipt_text, supplements_text, total_text, trip_text}
 use Rattle.receipt_text.proofs.Groups.{calculation_again, heading_again, part_again, sums_again, trip_again}
@@ -37,32 +37,3 @@ receipt_again r p more is part_is =
 pub spelled_again : (text : List ℕ) (r : Receipt) (p : Part) → IsSpelled text r p → receipt_at text ≡ Some (r, p)
 spelled_again text r p h =
     ap receipt_at (h.text_is ∙ sym (append-nil (receipt_text r p))) ∙ receipt_again r p [] h.receipt_is h.part_is
-
--- if nothing is read, no receipt is spelled
-pub none_read : (text : List ℕ) → receipt_at text ≡ None → (r : Receipt) (p : Part) → IsSpelled text r p → ⊥
-none_read text e r p h = let found = spelled_again text r p h in absurd cc
-
--- what is spelled is what was read
-pub same_read : (text : List ℕ) (r₀ : Receipt) (p₀ : Part) → receipt_at text ≡ Some (r₀, p₀) → (r : Receipt) (p : Part)
-    → IsSpelled text r p → ◌≡◌ {A = Receipt × Part} (r₀, p₀) (r, p)
-same_read text r₀ p₀ e r p h = let found = spelled_again text r p h in cc
-
-pub exactly_none : (text : List ℕ) → receipt_at text ≡ None → (r : Receipt) (p : Part)
-    → (◌≡◌ {A = Option (Receipt × Part)} None (Some (r, p))) ↔ IsSpelled text r p
-exactly_none text e r p = (λ n. absurd cc, λ h. absurd (none_read text e r p h))
-
-pub exactly_some : (text : List ℕ) (r₀ : Receipt) (p₀ : Part) → receipt_at text ≡ Some (r₀, p₀) → IsSpelled text r₀ p₀
-    → (r : Receipt) (p : Part) → (◌≡◌ {A = Option (Receipt × Part)} (Some (r₀, p₀)) (Some (r, p))) ↔ IsSpelled text r p
-exactly_some text r₀ p₀ e is r p = (
-  λ same.
-      let pair : ◌≡◌ {A = Receipt × Part} (r₀, p₀) (r, p) = cc in
-      subst (λ (x : Receipt × Part). IsSpelled text x.0 x.1) pair is,
-  λ h. ap Some (same_read text r₀ p₀ e r p h),
-)
-
-pub exactly_other : (text : List ℕ) (r₀ : Receipt) (p₀ : Part) → receipt_at text ≡ Some (r₀, p₀) → (IsSpelled text r₀ p₀
-    → ⊥) → (r : Receipt) (p : Part) → (◌≡◌ {A = Option (Receipt × Part)} None (Some (r, p))) ↔ IsSpelled text r p
-exactly_other text r₀ p₀ e not r p = (
-  λ n. absurd cc,
-  λ h. absurd (not (subst (λ (x : Receipt × Part). IsSpelled text x.0 x.1) (sym (same_read text r₀ p₀ e r p h)) h)),
-)

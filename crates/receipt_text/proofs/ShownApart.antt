@@ -2,38 +2,32 @@
 use Rattle.std.{specs.{Char.{digit_value}, Prelude.{codes}}, proofs.Common.{arith, drop, get_or, refl, subst, sym}}
 use Rattle.{std.specs.Fmt.{decimal}, taxi_units.specs.declared.event.Operating.TheVariants.{Hired, Off, Stopped}}
 use Rattle.std.proofs.Common.{[], ℕ, ◌++◌, ◌<◌, ◌^◌, ◌↔◌, ◌∙◌, ◌∷◌, ◌≡◌, ◌≢◌, ◌≤◌, List, Option, Some, ap, append_assoc}
-use Rattle.{taxi_units.specs.declared.event.Operating.{Operating}, receipt_text.specs.Shows.{HasFields, ShowsSame}}
+use Rattle.taxi_units.specs.declared.event.Operating.{Operating}
 use Rattle.receipt_text.specs.{Common.{Display, ForHire, IsShown, money_text}, Figures.{amount_below, number_below}}
+use Rattle.receipt_text.{specs.Shows.{HasFields, ShowsSame}, proofs.Again.{amount_again, number_again}}
 use Rattle.receipt_text.specs.Texts.{amounts_text, display_line, display_text, place_text}
-use Rattle.receipt_text.{specs.declared.amounts.Amount.{Amount}, proofs.Again.{amount_again, number_again}}
 
-same_found : (v w : ℕ) (xs ys : List ℕ) → ◌≡◌ {A = Option (ℕ × List ℕ)} (Some (v, xs)) (Some (w, ys))
-    → (v ≡ w) × (xs ≡ ys)
-same_found v w xs ys e =
-    let same : ◌≡◌ {A = ℕ × List ℕ} (v, xs) (w, ys) = cc in
-    (ap (λ (x : ℕ × List ℕ). x.0) same, ap (λ (x : ℕ × List ℕ). x.1) same)
+value_of : {A : Type 0} (x y : A) → Some x ≡ Some y → x ≡ y
+value_of x y e = cc
 
-abbrev amount_of : (units decimals : ℕ) → Amount
-amount_of units decimals = record { units = units; decimals = decimals }
-
-same_amount_found : (v w d : ℕ) (xs ys : List ℕ)
-    → ◌≡◌ {A = Option (Amount × List ℕ)} (Some (amount_of v d, xs)) (Some (amount_of w d, ys)) → (v ≡ w) × (xs ≡ ys)
-same_amount_found v w d xs ys e =
-    let same : ◌≡◌ {A = Amount × List ℕ} (amount_of v d, xs) (amount_of w d, ys) = cc in
-    (ap (λ (x : Amount × List ℕ). x.0.units) same, ap (λ (x : Amount × List ℕ). x.1) same)
+-- what is read of equal texts is equal
+same_read : {A : Type 0} (f : List ℕ → Option A) (s t : List ℕ) (x y : A) → f s ≡ Some x → f t ≡ Some y → s ≡ t → x ≡ y
+same_read f s t x y one two e = value_of x y (sym one ∙ (ap f e ∙ two))
 
 -- two numbers before one byte that is no digit
 same_number : (v w c : ℕ) (xs ys : List ℕ) → v < 2 ^ 64 → w < 2 ^ 64 → 10 ≤ digit_value c
     → decimal v ++ c ∷ xs ≡ decimal w ++ c ∷ ys → (v ≡ w) × (c ∷ xs ≡ c ∷ ys)
 same_number v w c xs ys hv hw stops e =
-    same_found v w (c ∷ xs) (c ∷ ys) (sym (number_again (2 ^ 64) v xs c hv (omega arith) stops)
-    ∙ (ap (number_below (2 ^ 64)) e ∙ number_again (2 ^ 64) w ys c hw (omega arith) stops))
+    let both : ◌≡◌ {A = ℕ × List ℕ} (v, c ∷ xs) (w, c ∷ ys) = same_read (number_below (2 ^ 64)) _ _ _ _
+    (number_again (2 ^ 64) v xs c hv (omega arith) stops) (number_again (2 ^ 64) w ys c hw (omega arith) stops) e in
+    (λ i. (both i).0, λ i. (both i).1)
 
 same_amount : (d v w c : ℕ) (xs ys : List ℕ) → d ≤ 3 → v < 2 ^ 64 → w < 2 ^ 64 → 10 ≤ digit_value c → c ≢ 46
     → money_text d v ++ c ∷ xs ≡ money_text d w ++ c ∷ ys → (v ≡ w) × (c ∷ xs ≡ c ∷ ys)
 same_amount d v w c xs ys few hv hw stops no_point e =
-    same_amount_found v w d (c ∷ xs) (c ∷ ys) (sym (amount_again (2 ^ 64) d v xs c few hv (omega arith) stops no_point)
-    ∙ (ap (amount_below (2 ^ 64)) e ∙ amount_again (2 ^ 64) d w ys c few hw (omega arith) stops no_point))
+    let both = same_read (amount_below (2 ^ 64)) _ _ _ _ (amount_again (2 ^ 64) d v xs c few hv (omega arith) stops
+    no_point) (amount_again (2 ^ 64) d w ys c few hw (omega arith) stops no_point) e in
+    (λ i. (both i).0.units, λ i. (both i).1)
 
 -- the tariff position and the zone, before one byte that is no digit
 same_place : (a b : Display) (c : ℕ) (xs ys : List ℕ) → HasFields a → HasFields b → 10 ≤ digit_value c → place_text a

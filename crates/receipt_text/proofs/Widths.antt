@@ -1,10 +1,17 @@
 -- How long the lines of a receipt are at most, whatever it says.
-use Rattle.std.{specs.Fmt.{decimal}, proofs.Common.{ℕ, ◌%◌, ◌+◌, ◌/◌, ◌<◌, ◌^◌, ◌≤◌, arith, length}}
+use Rattle.{std.specs.Fmt.{decimal}, receipt_text.specs.Receipts.{supplements_text, time_text, total_text}}
+use Rattle.std.proofs.Common.{ℕ, ◌%◌, ◌++◌, ◌+◌, ◌/◌, ◌<◌, ◌^◌, ◌≡◌, ◌≤◌, List, arith, length, length-append}
 use Rattle.taxi_units.proofs.Laws.{amounts_are_short, numbers_are_short, padded_numbers_fill_the_width}
 use Rattle.receipt_text.specs.AmountLines.{total_of}
 use Rattle.receipt_text.specs.Common.{Aborted, Closed, Expired, Kind, Receipt, Roam, Stamp, money_text, padded_text}
 use Rattle.receipt_text.specs.Receipts.{calculation_text, course_text, date_text, fare_text, kind_text, stamp_text}
-use Rattle.receipt_text.{specs.Receipts.{supplements_text, time_text, total_text}, proofs.AppendedPieces.{lengths}}
+
+-- two pieces together are as long as both
+pub length-joined : (a b : List ℕ) → length (a ++ b) ≡ length a + length b
+length-joined = length-append
+
+-- for `omega`: how long texts in pieces are
+pub ruleset lengths = (arith, length-joined)
 
 padded_most : (width places value : ℕ) → 0 < places → places ≤ 64 → width ≤ places → value < 10 ^ places
     → length (padded_text width value) ≤ places
@@ -68,15 +75,15 @@ calculation_fits r few hi hn hs =
     omega (lengths, initial, steps, step)
 
 -- the lines of amounts
-pub fare_fits : (r : Receipt) → r.decimals ≤ 3 → r.fare < 2 ^ 64 → length (fare_text r) ≤ 40
+pub fare_fits : (r : Receipt) → r.decimals ≤ 3 → r.fare < 2 ^ 64 → length (fare_text r) ≤ 27
 unfolding fare_text
 fare_fits r few small = omega (lengths, amount_most r.decimals 20 r.fare (omega arith) (omega arith) (omega arith))
 
-pub supplements_fit : (r : Receipt) → r.decimals ≤ 3 → r.supplements < 2 ^ 64 → length (supplements_text r) ≤ 40
+pub supplements_fit : (r : Receipt) → r.decimals ≤ 3 → r.supplements < 2 ^ 64 → length (supplements_text r) ≤ 34
 unfolding supplements_text
 supplements_fit r few small =
     omega (lengths, amount_most r.decimals 20 r.supplements (omega arith) (omega arith) (omega arith))
 
-pub total_fits : (r : Receipt) → r.decimals ≤ 3 → total_of r < 10 ^ 20 → length (total_text r) ≤ 40
+pub total_fits : (r : Receipt) → r.decimals ≤ 3 → total_of r < 10 ^ 20 → length (total_text r) ≤ 32
 unfolding total_text
 total_fits r few small = omega (lengths, amount_most r.decimals 20 (total_of r) (omega arith) (omega arith) small)

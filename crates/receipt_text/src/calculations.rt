@@ -22,8 +22,10 @@ pub(crate) fn put_calculation(line: &mut Line, receipt: &Receipt) -> Result<(), 
     ensures variant { IsOk result ↔ (array_vec_len line.old + length (calculation_text receipt.now) ≤ line_size) }
     ensures ok { OnOk result (line.new.items ≡ line.old.items ++ calculation_text receipt.now) }
 {
-    put_amount(line, b"CALC ", receipt.initial as u128, receipt.decimals)?;
+    let initial = receipt.initial as u128;
+    put_amount(line, b"CALC ", initial, receipt.decimals)?;
     put_figure(line, b" + ", receipt.steps as u128)?;
-    put_amount(line, b" x ", receipt.step as u128, receipt.decimals)?;
+    let step = receipt.step as u128;
+    put_amount(line, b" x ", step, receipt.decimals)?;
     put_bytes(line, b"\n")
 }

@@ -69,7 +69,8 @@ pub(crate) fn put_fare(line: &mut Line, receipt: &Receipt) -> Result<(), LineFul
     ensures variant { IsOk result ↔ (array_vec_len line.old + length (fare_text receipt.now) ≤ line_size) }
     ensures ok { OnOk result (line.new.items ≡ line.old.items ++ fare_text receipt.now) }
 {
-    put_amount(line, b"FARE ", receipt.fare as u128, receipt.decimals)?;
+    let fare = receipt.fare as u128;
+    put_amount(line, b"FARE ", fare, receipt.decimals)?;
     put_bytes(line, b"\n")
 }
 

@@ -1,11 +1,11 @@
 -- The line of a mark is read as that mark.
 use Rattle.std.{specs.{Char.{digit_value, is_ascii_digit}, List.{prefix_len}}, proofs.lemmas.Bool.Decides.{nat_tests}}
-use Rattle.{std.specs.{Fmt.{decimal}, Str.Parse.{AllDigits}}, taxi_units.proofs.Laws.{words_are_read_by_their_text}}
-use Rattle.std.proofs.Common.{[], ℕ, ◌++◌, ◌-◌, ◌<◌, ◌^◌, ◌∙◌, ◌∷◌, ◌≡◌, Bool, List, None, Some, ap, append_assoc}
-use Rattle.std.proofs.{Common.{arith, codes, eqb, false, length, refl, true}, lemmas.Fmt.{decimal_is_IsNumeral_wide}}
-use Rattle.std.proofs.{Math.Seq.{drop-append_seam, take-append_seam}, lemmas.Bool.{le-leb, le-ltb, lt-ltb, ne_eqb}}
-use Rattle.{taxi_units.specs.Reading.{word_at}, shift_book.{specs.Marks.{numbers_text}, proofs.Drivers.{whole_front}}}
-use Rattle.shift_book.specs.{Common.{Numbers, digits_at_front, is_identifier_character}, MarkOrder.{Fit}}
+use Rattle.{std.specs.{Fmt.{decimal}, Str.Parse.{AllDigits}}, taxi_units.specs.Reading.{word_at}}
+use Rattle.std.proofs.Common.{[], ℕ, ◌++◌, ◌-◌, ◌<◌, ◌^◌, ◌∙◌, ◌∷◌, ◌≡◌, Bool, List, Some, ap, append_assoc, arith}
+use Rattle.std.proofs.{Common.{codes, eqb, false, length, refl, true}, Math.Seq.{drop-append_seam, take-append_seam}}
+use Rattle.std.proofs.lemmas.{Bool.{le-leb, le-ltb, lt-ltb, ne_eqb}, Fmt.{decimal_is_IsNumeral_wide}}
+use Rattle.shift_book.specs.{Common.{Numbers, digits_at_front, is_identifier_character}, Marks.{numbers_text}}
+use Rattle.shift_book.{specs.MarkOrder.{Fit}, proofs.Drivers.{whole_front}}
 use Rattle.shift_book.specs.Marks.{HasDriver, IsDriver, PassAll, Signing, head_text, mark_text, number_text}
 use Rattle.shift_book.specs.Reading.{amount_at, count_at, digits_at, driver_at, mark_at, numbers_at, off_at, on_at}
 
@@ -27,41 +27,24 @@ digits_back n rest small stops =
 
 amount_back : (n : ℕ) (rest : List ℕ) → n < 2 ^ 128 → prefix_len is_ascii_digit rest ≡ 0
     → amount_at (number_text n ++ rest) ≡ Some (n, rest)
-unfolding amount_at
-amount_back n rest small stops =
-    let behind : word_at (codes " ") (number_text n ++ rest) ≡ Some (decimal n ++ rest) =
-    (words_are_read_by_their_text (codes " ") (number_text n ++ rest) (decimal n ++ rest)).1 refl in
-    rw behind (digits_back n rest small stops)
+unfolding amount_at word_at
+amount_back n rest small stops = digits_back n rest small stops
 
 count_back : (n : ℕ) (rest : List ℕ) → n < 2 ^ 64 → prefix_len is_ascii_digit rest ≡ 0
     → count_at (number_text n ++ rest) ≡ Some (n, rest)
 unfolding count_at
 count_back n rest small stops = rw (amount_back n rest (omega arith) stops, le-leb n (2 ^ 64 - 1) (omega arith)) refl
 
--- the six numbers, with what stands behind them
-numbers_line : Numbers → List ℕ → List ℕ
-numbers_line n rest =
-    number_text n.number ++ (number_text n.distance_mm ++ (number_text n.hired_mm
-    ++ (number_text n.hirings ++ (number_text n.supplements ++ (number_text n.fare ++ 10 ∷ rest)))))
-
-line_back : (n : Numbers) (rest : List ℕ) → Fit n → numbers_at (numbers_line n rest) ≡ Some n
-unfolding numbers_at numbers_line
-line_back n rest fit =
-    rw (
-      count_back n.number _ fit.number refl,
-      amount_back n.distance_mm _ fit.distance refl,
-      amount_back n.hired_mm _ fit.hired refl,
-      count_back n.hirings _ fit.hirings refl,
-      amount_back n.supplements _ fit.supplements refl,
-      amount_back n.fare _ fit.fare refl,
-    ) refl
-
-regrouped : (n : Numbers) (rest : List ℕ) → numbers_text n ++ rest ≡ numbers_line n rest
-unfolding numbers_line
-regrouped n rest = simp append_assoc
-
 numbers_back : (n : Numbers) (rest : List ℕ) → Fit n → numbers_at (numbers_text n ++ rest) ≡ Some n
-numbers_back n rest fit = ap numbers_at (regrouped n rest) ∙ line_back n rest fit
+unfolding numbers_at
+numbers_back n rest fit = simp append_assoc (rw (
+  count_back n.number _ fit.number refl,
+  amount_back n.distance_mm _ fit.distance refl,
+  amount_back n.hired_mm _ fit.hired refl,
+  count_back n.hirings _ fit.hirings refl,
+  amount_back n.supplements _ fit.supplements refl,
+  amount_back n.fare _ fit.fare refl,
+) refl)
 
 pub driver_back : (driver rest : List ℕ) → IsDriver driver → prefix_len is_identifier_character rest ≡ 0
     → driver_at (driver ++ rest) ≡ Some (driver, rest)
@@ -81,27 +64,15 @@ on_back driver rest n valid fit =
 
 off_back : (rest : List ℕ) (n : Numbers) → Fit n
     → off_at (codes "OFF" ++ (numbers_text n ++ rest)) ≡ Some (record { driver = []; on = false; numbers = n })
-unfolding off_at
-off_back rest n fit =
-    let behind : word_at (codes "OFF") (codes "OFF" ++ (numbers_text n ++ rest)) ≡ Some (numbers_text n ++ rest) =
-    (words_are_read_by_their_text (codes "OFF") _ (numbers_text n ++ rest)).1 refl in
-    rw (behind, numbers_back n rest fit) refl
-
-not_on : (text : List ℕ) → word_at (codes "ON ") (codes "OFF" ++ text) ≡ None
-unfolding word_at
-not_on text = refl
+unfolding off_at word_at
+off_back rest n fit = rw (numbers_back n rest fit) refl
 
 signing_back : (on : Bool) (driver rest : List ℕ) (n : Numbers) → HasDriver on driver → Fit n
     → mark_at (head_text on driver ++ (numbers_text n ++ rest))
     ≡ Some (record { driver = driver; on = on; numbers = n })
-unfolding mark_at
-signing_back true driver rest n valid fit =
-    let behind : word_at (codes "ON ") (codes "ON " ++ (driver ++ (numbers_text n ++ rest)))
-    ≡ Some (driver ++ (numbers_text n ++ rest)) =
-    (words_are_read_by_their_text (codes "ON ") _ (driver ++ (numbers_text n ++ rest))).1 refl in
-    rw behind (on_back driver rest n valid fit)
-signing_back false driver rest n valid fit =
-    rw (not_on (numbers_text n ++ rest), valid) (off_back rest n fit)
+unfolding mark_at word_at
+signing_back true driver rest n valid fit = on_back driver rest n valid fit
+signing_back false driver rest n valid fit = rw valid (off_back rest n fit)
 
 pub mark_back : (mark : Signing) (rest : List ℕ) → HasDriver mark.on mark.driver → Fit mark.numbers
     → mark_at (mark_text mark ++ rest) ≡ Some mark

@@ -1,61 +1,25 @@
 -- What is read of a text is what the text says.
-use Rattle.std.specs.{List.{prefix_len}, Prelude.{◌&&◌, ◌==◌, ◌||◌, IfSome, nat_le, nat_lt, not}}
-use Rattle.std.proofs.Common.{[], ℕ, ◌++◌, ◌+◌, ◌<◌, ◌↔◌, ◌∙◌, ◌∷◌, ◌≡◌, ◌≢◌, ◌≤◌, Bool, Err, List, None, Ok, Option}
-use Rattle.std.proofs.Common.{Result, Some, ap, arith, codes, cond, drop, false, length, length-append, length-take}
-use Rattle.{std.proofs.Common.{refl, subst, suc, sym, take, true, zero}, taxi_units.specs.Reading.{word_at}}
-use Rattle.std.proofs.lemmas.{Bool.{le-leb, leb-true, lt-ltb, ltb-false, ltb-true}, List.Concat.{flat_map-cons}}
-use Rattle.taxi_units.proofs.Laws.{words_are_read_by_their_text}
+use Rattle.std.{specs.Prelude.{◌&&◌, IfSome, nat_lt, not}, proofs.lemmas.Bool.Decides.{nat_tests}}
+use Rattle.std.proofs.Common.{[], ℕ, ◌++◌, ◌+◌, ◌<◌, ◌↔◌, ◌∷◌, ◌≡◌, ◌≤◌, Bool, Err, List, None, Ok, Option, Result}
+use Rattle.std.proofs.Common.{Some, ap, arith, codes, cond, false, length, length-append, refl, subst, suc, sym, true}
+use Rattle.std.proofs.{Common.{zero}, lemmas.{Bool.{lt-ltb, ltb-false, ltb-true}, List.Concat.{flat_map-cons}}}
+use Rattle.taxi_units.{specs.Reading.{word_at}, proofs.Laws.{words_are_read_by_their_text}}
 use Rattle.shift_book.specs.BookReading.{book_read, following, is_grown, is_nowhere_less, is_turn, lines_read}
 use Rattle.shift_book.specs.{BookReading.{may_follow, next_at, or_bad}, declared.book.BookFault.TheVariants.{NoMemory}}
-use Rattle.shift_book.{specs.Books.{Begins, IsBook, IsFirstBad, IsNext, longest}, proofs.Drivers.{characters_in_front}}
-use Rattle.shift_book.specs.Common.{◌>>=◌, BadLine, BookFault, Durable, Numbers, TooLong, is_identifier_character}
+use Rattle.shift_book.specs.Books.{Begins, IsBook, IsFirstBad, IsNext, longest}
+use Rattle.shift_book.specs.Common.{◌>>=◌, BadLine, BookFault, Durable, Numbers, TooLong}
 use Rattle.shift_book.specs.MarkOrder.{Fit, IsNowhereLess, MayFollow, is_on, last_of, numbers_in}
-use Rattle.shift_book.specs.Marks.{HasDriver, IsDriver, PassAll, Signing, book_text, head_text, mark_text, numbers_text}
-use Rattle.shift_book.specs.Reading.{counted_driver, driver_at, mark_at, mark_behind, numbers_at, off_at, on_at}
-use Rattle.shift_book.proofs.LongerBooks.{begins_more, rest_shrinks}
+use Rattle.shift_book.specs.Marks.{HasDriver, Signing, book_text, head_text, mark_text, numbers_text}
+use Rattle.shift_book.specs.Reading.{driver_at, mark_at, mark_behind, numbers_at, off_at, on_at}
+use Rattle.shift_book.proofs.{DriverWords.{driver_read, value_of}, LongerBooks.{begins_more, rest_shrinks}}
 use Rattle.shift_book.proofs.{Nexts.{next_is}, Once.{books_have_no_fault, books_have_one_list, faults_have_one_line}}
 
 -- ---- the driver of a mark that is read is as said
-
-value_of : {X : Type 0} (a b : X) → Some a ≡ Some b → a ≡ b
-value_of a b e = cc
 
 read_on : {A B : Type 0} (o : Option A) (f : A → Option B) (b : B) → (o >>= f) ≡ Some b
     → (a : A) × (o ≡ Some a) × (f a ≡ Some b)
 read_on None f b e = absurd cc
 read_on (Some a) f b e = (a, refl, e)
-
-front_short : (test : ℕ → Bool) (text : List ℕ) → prefix_len test text ≤ length text
-front_short test [] = omega arith
-front_short test (c ∷ cs) = by (test c) (front_short test cs)
-  where
-    by : (b : Bool) → prefix_len test cs ≤ length cs → cond b (1 + prefix_len test cs) 0 ≤ length (c ∷ cs)
-    by true within = omega (arith, within)
-    by false within = omega arith
-
-counted : (count : ℕ) (text : List ℕ) (found : List ℕ × List ℕ) → count ≤ length text
-    → PassAll is_identifier_character (take count text)
-    → counted_driver count text ≡ Some found → IsDriver found.0
-counted count text found within pass e = by (count == 0) (nat_lt 16 count) refl refl e
-  where
-    by : (a b : Bool) → (count == 0) ≡ a → nat_lt 16 count ≡ b
-        → cond (a || b) None (Some (take count text, drop count text)) ≡ Some found → IsDriver found.0
-    by true b zeros large none = absurd cc
-    by false true zeros large none = absurd cc
-    by false false zeros large some =
-        let is = value_of (take count text, drop count text) found some in
-        let few : count ≤ 16 = ltb-false 16 count large in
-        let more : 1 ≤ count = grind arith in
-        subst (λ (x : List ℕ × List ℕ). IsDriver x.0) is (record {
-          some = omega (arith, length-take count text);
-          few = omega (arith, length-take count text);
-          characters = pass;
-        })
-
-pub driver_read : (text : List ℕ) (found : List ℕ × List ℕ) → driver_at text ≡ Some found → IsDriver found.0
-unfolding driver_at
-driver_read text found e = counted (prefix_len is_identifier_character text) text found
-    (front_short is_identifier_character text) (characters_in_front text) e
 
 signed_on : List ℕ → Numbers → Signing
 signed_on driver numbers = record { driver = driver; on = true; numbers = numbers }
@@ -67,7 +31,7 @@ on_driver text mark e =
     (λ driver. numbers_at driver.1 >>= (λ numbers. Some (signed_on driver.0 numbers))) mark e in
     let two = read_on (numbers_at one.0.1) (λ numbers. Some (signed_on one.0.0 numbers)) mark one.2 in
     subst (λ (x : Signing). HasDriver x.on x.driver) (value_of (signed_on one.0.0 two.0) mark two.2)
-    (driver_read text one.0 one.1)
+    (driver_read text one.0 one.1).0
 
 signed_off : Numbers → Signing
 signed_off numbers = record { driver = []; on = false; numbers = numbers }
@@ -96,31 +60,17 @@ both true b e = (refl, e)
 both false b e = absurd cc
 
 less_told : (a b : Numbers) → is_nowhere_less a b ≡ true → IsNowhereLess a b
-less_told a b e =
-    let one = both (nat_le a.number b.number) _ e in
-    let two = both (nat_le a.distance_mm b.distance_mm) _ one.1 in
-    let three = both (nat_le a.hired_mm b.hired_mm) _ two.1 in
-    let four = both (nat_le a.hirings b.hirings) _ three.1 in
-    let five = both (nat_le a.supplements b.supplements) (nat_le a.fare b.fare) four.1 in
-    record {
-      number = leb-true a.number b.number one.0;
-      distance = leb-true a.distance_mm b.distance_mm two.0;
-      hired = leb-true a.hired_mm b.hired_mm three.0;
-      hirings = leb-true a.hirings b.hirings four.0;
-      supplements = leb-true a.supplements b.supplements five.0;
-      fare = leb-true a.fare b.fare five.1;
-    }
+less_told a b e = record {
+  number = grind (arith, nat_tests);
+  distance = grind (arith, nat_tests);
+  hired = grind (arith, nat_tests);
+  hirings = grind (arith, nat_tests);
+  supplements = grind (arith, nat_tests);
+  fare = grind (arith, nat_tests);
+}
 
 less_tested : (a b : Numbers) → IsNowhereLess a b → is_nowhere_less a b ≡ true
-less_tested a b h =
-    rw (
-      le-leb a.number b.number h.number,
-      le-leb a.distance_mm b.distance_mm h.distance,
-      le-leb a.hired_mm b.hired_mm h.hired,
-      le-leb a.hirings b.hirings h.hirings,
-      le-leb a.supplements b.supplements h.supplements,
-      le-leb a.fare b.fare h.fare,
-    ) refl
+less_tested a b h = grind (arith, nat_tests)
 
 turn_told : (a b : Bool) → cond a (not b) b ≡ true → a ≡ not b
 turn_told true true e = absurd cc
@@ -179,7 +129,7 @@ next_found now before text mark rest fit next =
       follow_tested now before mark next.follows,
     ) refl
 
-none_next : (now : Durable) (before : Option Signing) (text : List ℕ) → Fit (numbers_in now)
+pub none_next : (now : Durable) (before : Option Signing) (text : List ℕ) → Fit (numbers_in now)
     → next_at now before text ≡ None
     → (mark : Signing) (rest : List ℕ) → ¬ (IsNext now before text mark rest)
 none_next now before text fit none mark rest next =
@@ -197,7 +147,7 @@ followed now before mark rest found e = by (may_follow now before mark) refl e
     by false is none = absurd cc
 
 -- a mark that is found is next
-found_next : (now : Durable) (before : Option Signing) (text : List ℕ) (found : Signing × List ℕ)
+pub found_next : (now : Durable) (before : Option Signing) (text : List ℕ) (found : Signing × List ℕ)
     → next_at now before text ≡ Some found
     → IsNext now before text found.0 found.1
 unfolding next_at
@@ -214,7 +164,7 @@ found_next now before text found e =
 -- ---- the whole text
 
 -- what an answer says of a text
-Means : Durable → (text : List ℕ) → Result (List Signing) BookFault → Type 0
+abbrev Means : Durable → (text : List ℕ) → Result (List Signing) BookFault → Type 0
 Means now text (Ok marks) = IsBook now text marks
 Means now text (Err TooLong) = longest < length text
 Means now text (Err (BadLine line)) = IsFirstBad now text line
@@ -223,7 +173,6 @@ Means now text (Err NoMemory) = ⊥
 lines_mean : (now : Durable) (text : List ℕ) (most : ℕ) (marks : List Signing) (rest : List ℕ) → Fit (numbers_in now)
     → length text ≤ longest → length rest ≤ most
     → Begins now text marks rest → Means now text (lines_read now most marks rest)
-unfolding Means
 lines_mean now text most marks [] fit few fewer begun = record { few = few; begins = begun }
 lines_mean now text zero marks (c ∷ cs) fit few fewer begun = absurd (omega (arith, fewer))
 lines_mean now text (suc most) marks (c ∷ cs) fit few fewer begun =
@@ -249,7 +198,6 @@ lines_mean now text (suc most) marks (c ∷ cs) fit few fewer begun =
         (begins_more now text marks (c ∷ cs) next.0 next.1 begun is)
 
 book_means : (now : Durable) (text : List ℕ) → Fit (numbers_in now) → Means now text (book_read now text)
-unfolding Means
 book_means now text fit = by (nat_lt longest (length text)) refl
   where
     by : (b : Bool) → nat_lt longest (length text) ≡ b
@@ -261,7 +209,6 @@ book_means now text fit = by (nat_lt longest (length text)) refl
 -- the answer is the only one that says what the text says
 pub book_is_read : (now : Durable) (text : List ℕ) (marks : List Signing) → Fit (numbers_in now) → IsBook now text marks
     → book_read now text ≡ Ok marks
-unfolding Means
 book_is_read now text marks fit book = by (book_read now text) (book_means now text fit)
   where
     by : (r : Result (List Signing) BookFault) → Means now text r → r ≡ Ok marks
@@ -272,7 +219,6 @@ book_is_read now text marks fit book = by (book_read now text) (book_means now t
 
 pub bad_line_is_read : (now : Durable) (text : List ℕ) (line : ℕ) → Fit (numbers_in now) → IsFirstBad now text line
     → book_read now text ≡ Err (BadLine line)
-unfolding Means
 bad_line_is_read now text line fit bad = by (book_read now text) (book_means now text fit)
   where
     by : (r : Result (List Signing) BookFault) → Means now text r → r ≡ Err (BadLine line)
@@ -283,34 +229,6 @@ bad_line_is_read now text line fit bad = by (book_read now text) (book_means now
 
 pub long_is_read : (now : Durable) (text : List ℕ) → longest < length text → book_read now text ≡ Err TooLong
 long_is_read now text long = rw (lt-ltb longest (length text) long) refl
-
--- the same if reading has come to a text's end, or to a bad line
-pub end_is_read : (now : Durable) (text : List ℕ) (marks : List Signing) (rest : List ℕ) → Fit (numbers_in now)
-    → length text ≤ longest → length rest ≡ 0
-    → Begins now text marks rest → book_read now text ≡ Ok marks
-end_is_read now text marks [] fit few none begun =
-    book_is_read now text marks fit (record { few = few; begins = begun })
-end_is_read now text marks (c ∷ cs) fit few none begun = absurd (omega (arith, none))
-
-pub break_is_read : {T : Type 0} (now : Durable) (text : List ℕ) (marks : List Signing) (rest : List ℕ) (line : ℕ)
-    (fault : BookFault) → Fit (numbers_in now)
-    → length text ≤ longest → length rest ≢ 0 → Begins now text marks rest
-    → ((mark : Signing) (after : List ℕ) → ¬ (IsNext now (last_of marks) rest mark after))
-    → line ≡ length marks + 1 → ◌≡◌ {A = Result T BookFault} (Err (BadLine line)) (Err fault)
-    → book_read now text ≡ Err fault
-break_is_read now text marks rest line fault fit few more begun bad place e =
-    bad_line_is_read now text line fit (record {
-      few = few;
-      marks = marks;
-      rest = rest;
-      begins = begun;
-      breaks = record { more = λ none. more (ap length none); bad = bad };
-      place = place;
-    }) ∙ same (BadLine line) fault e
-  where
-    same : {S T : Type 0} (a b : BookFault) → ◌≡◌ {A = Result T BookFault} (Err a) (Err b)
-        → ◌≡◌ {A = Result S BookFault} (Err a) (Err b)
-    same a b e = cc
 
 -- a text has a byte for each of its marks
 pub marks_have_bytes : (now : Durable) (text : List ℕ) (marks : List Signing) (rest : List ℕ)
@@ -332,33 +250,21 @@ marks_have_bytes now text marks rest begun =
 
 pub texts_are_books : (now : Durable) (text : List ℕ) (marks : List Signing) → Fit (numbers_in now)
     → (book_read now text ≡ Ok marks) ↔ IsBook now text marks
-unfolding Means
 texts_are_books now text marks fit = (
-  (λ (e : book_read now text ≡ Ok marks). said (subst (Means now text) e (book_means now text fit))),
+  λ (e : book_read now text ≡ Ok marks). subst (Means now text) e (book_means now text fit),
   book_is_read now text marks fit,
 )
-  where
-    said : Means now text (Ok marks) → IsBook now text marks
-    said h = h
 
 pub texts_have_bad_lines : (now : Durable) (text : List ℕ) (line : ℕ) → Fit (numbers_in now)
     → (book_read now text ≡ Err (BadLine line)) ↔ IsFirstBad now text line
-unfolding Means
 texts_have_bad_lines now text line fit = (
-  (λ (e : book_read now text ≡ Err (BadLine line)). said (subst (Means now text) e (book_means now text fit))),
+  λ (e : book_read now text ≡ Err (BadLine line)). subst (Means now text) e (book_means now text fit),
   bad_line_is_read now text line fit,
 )
-  where
-    said : Means now text (Err (BadLine line)) → IsFirstBad now text line
-    said h = h
 
 pub texts_are_too_long : (now : Durable) (text : List ℕ) → Fit (numbers_in now) → (book_read now text ≡ Err TooLong)
     ↔ (longest < length text)
-unfolding Means
 texts_are_too_long now text fit = (
-  (λ (e : book_read now text ≡ Err TooLong). said (subst (Means now text) e (book_means now text fit))),
+  λ (e : book_read now text ≡ Err TooLong). subst (Means now text) e (book_means now text fit),
   long_is_read now text,
 )
-  where
-    said : Means now text (Err TooLong) → longest < length text
-    said h = h

@@ -1,5 +1,5 @@
 -- Characters of drivers at the front of a text.
-use Rattle.{std.specs.List.{prefix_len}, shift_book.specs.{Common.{is_identifier_character}, Marks.{PassAll}}}
+use Rattle.{std.specs.List.{prefix_len}, shift_book.specs.Marks.{PassAll}}
 use Rattle.std.proofs.Common.{[], ℕ, ◌++◌, ◌+◌, ◌∷◌, ◌≡◌, Bool, List, arith, cond, false, length, refl, suc, take, true}
 
 passed : (test : ℕ → Bool) (b : Bool) (x : ℕ) (xs : List ℕ) → test x ≡ b → PassAll test (take (prefix_len test xs) xs)
@@ -10,13 +10,9 @@ passed test true x xs e h =
 passed test false x xs e h = tt
 
 -- what is taken from the front passes the test
-front_passes : (test : ℕ → Bool) (xs : List ℕ) → PassAll test (take (prefix_len test xs) xs)
+pub front_passes : (test : ℕ → Bool) (xs : List ℕ) → PassAll test (take (prefix_len test xs) xs)
 front_passes test [] = tt
 front_passes test (x ∷ xs) = passed test (test x) x xs refl (front_passes test xs)
-
-pub characters_in_front : (xs : List ℕ)
-    → PassAll is_identifier_character (take (prefix_len is_identifier_character xs) xs)
-characters_in_front xs = front_passes is_identifier_character xs
 
 -- and all of it is taken if what follows doesn't pass
 pub whole_front : (test : ℕ → Bool) (xs rest : List ℕ) → PassAll test xs → prefix_len test rest ≡ 0

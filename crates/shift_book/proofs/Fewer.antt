@@ -1,8 +1,8 @@
 -- A report has no more shifts than marks, and no more drivers than shifts.
-use Rattle.std.specs.{BTreeMap.{insert_entry}, Ordering.{match_ordering}}
-use Rattle.std.{specs.declared.cmp.Ordering.{Ordering, TheVariants.{Equal, Greater, Less}}, proofs.Common.{true}}
-use Rattle.std.proofs.Common.{[], ℕ, ◌*◌, ◌+◌, ◌∷◌, ◌≡◌, ◌≤◌, Bool, List, ap, arith, cond, false, length, length-append}
-use Rattle.shift_book.specs.{Common.{Numbers, Shift}, ShareStages.{sum_so_far, with_shift, with_shifts}}
+use Rattle.{std.specs.BTreeMap.{insert_entry}, shift_book.specs.ShareStages.{sum_so_far, with_shift, with_shifts}}
+use Rattle.std.specs.{Ordering.{match_ordering}, declared.cmp.Ordering.{Ordering, TheVariants.{Equal, Greater, Less}}}
+use Rattle.std.proofs.Common.{[], ◌+◌, ◌∷◌, ◌≤◌, Bool, List, arith, cond, false, length, length-append, true}
+use Rattle.shift_book.specs.Common.{Numbers, Shift}
 use Rattle.shift_book.specs.{Marks.{Signing}, Shares.{Driver, begun_by, driver_cmp, grown, next_point, plus, shifts_in}}
 
 one_more : {K X : Type 0} (R : K → K → Ordering) (k : K) (v : X) (es : List (K × X))
@@ -43,12 +43,3 @@ fewer_shifts now (mark ∷ marks) =
       begun_one mark (next_point now marks),
       length-append (begun_by mark (next_point now marks)) (shifts_in now marks),
     )
-
--- the lengths of a report's parts together
-pub short_together : (now : Numbers) (marks : List Signing) (listed : List Shift) (sums : List (Driver × Numbers))
-    (r0 r1 r2 r3 r4 : ℕ) → listed ≡ shifts_in now marks
-    → sums ≡ with_shifts [] listed → r0 ≡ 0 → r1 ≤ r0 + 512 * length listed → r2 ≤ r1 + 512 * length sums
-    → r3 ≤ r2 + 512 → r4 ≤ r3 + 512
-    → r4 ≤ 1024 * (length marks + 1)
-short_together now marks listed sums r0 r1 r2 r3 r4 l t e0 h1 h2 h3 h4 =
-    omega (arith, ap length l, ap length t, fewer_drivers [] listed, fewer_shifts now marks, e0, h1, h2, h3, h4)

@@ -1,9 +1,8 @@
 -- Growth between the points of a book, column by column.
-use Rattle.{std.specs.List.{sum_by}, shift_book.specs.MarkOrder.{Fit, FollowOn, IsNowhereLess, numbers_in}}
-use Rattle.std.proofs.Common.{[], ℕ, ◌+◌, ◌-◌, ◌∙◌, ◌∷◌, ◌≡◌, ◌≤◌, Bool, List, Option, Some, ap, arith, false}
-use Rattle.std.proofs.{Common.{if◌then◌else◌, length, refl, true}, lemmas.List.Sums.{sum_by-append}}
-use Rattle.shift_book.specs.{Common.{Durable, Numbers, Shift}, ShareStages.{Rise, total_of}}
-use Rattle.shift_book.specs.Marks.{Signing, numbers_of}
+use Rattle.std.{specs.List.{sum_by}, proofs.{Common.{length, refl, true}, lemmas.List.Sums.{sum_by-append}}}
+use Rattle.std.proofs.Common.{[], ℕ, ◌+◌, ◌-◌, ◌∷◌, ◌≡◌, ◌≤◌, Bool, List, Option, Some, ap, arith, false, if◌then◌else◌}
+use Rattle.shift_book.specs.{Common.{Durable, Numbers, Shift}, MarkOrder.{Fit, FollowOn, IsNowhereLess, numbers_in}}
+use Rattle.shift_book.specs.{Marks.{Signing, numbers_of}, ShareStages.{Rise, total_of}}
 use Rattle.shift_book.specs.Shares.{Column, Distance, Fare, HiredDistance, Hirings, Number, Supplements, at, begun_by}
 use Rattle.shift_book.specs.Shares.{free_behind, grown, growth_in, next_point, nothing, plus, shifts_in, unsigned_in}
 
@@ -50,28 +49,17 @@ at-total Fare shifts = refl
 -- numbers that are equal in each column
 pub same_numbers : (a b : Numbers) → ((c : Column) → at c a ≡ at c b) → a ≡ b
 same_numbers a b h =
-    ap (λ (n : ℕ). numbers_of n a.distance_mm a.hired_mm a.hirings a.supplements a.fare) (h Number)
-    ∙ ap (λ (n : ℕ). numbers_of b.number n a.hired_mm a.hirings a.supplements a.fare) (h Distance)
-    ∙ ap (λ (n : ℕ). numbers_of b.number b.distance_mm n a.hirings a.supplements a.fare) (h HiredDistance)
-    ∙ ap (λ (n : ℕ). numbers_of b.number b.distance_mm b.hired_mm n a.supplements a.fare) (h Hirings)
-    ∙ ap (λ (n : ℕ). numbers_of b.number b.distance_mm b.hired_mm b.hirings n a.fare) (h Supplements)
-    ∙ ap (λ (n : ℕ). numbers_of b.number b.distance_mm b.hired_mm b.hirings b.supplements n) (h Fare)
+    λ i. numbers_of (h Number i) (h Distance i) (h HiredDistance i) (h Hirings i) (h Supplements i) (h Fare i)
 
 pub fit_under : (a b : Numbers) → ((c : Column) → at c a ≤ at c b) → Fit b → Fit a
 fit_under a b h fit =
-    let one : a.number ≤ b.number = h Number in
-    let two : a.distance_mm ≤ b.distance_mm = h Distance in
-    let three : a.hired_mm ≤ b.hired_mm = h HiredDistance in
-    let four : a.hirings ≤ b.hirings = h Hirings in
-    let five : a.supplements ≤ b.supplements = h Supplements in
-    let six : a.fare ≤ b.fare = h Fare in
     record {
-      number = omega (arith, one, fit.number);
-      distance = omega (arith, two, fit.distance);
-      hired = omega (arith, three, fit.hired);
-      hirings = omega (arith, four, fit.hirings);
-      supplements = omega (arith, five, fit.supplements);
-      fare = omega (arith, six, fit.fare);
+      number = omega (arith, h Number, fit.number);
+      distance = omega (arith, h Distance, fit.distance);
+      hired = omega (arith, h HiredDistance, fit.hired);
+      hirings = omega (arith, h Hirings, fit.hirings);
+      supplements = omega (arith, h Supplements, fit.supplements);
+      fare = omega (arith, h Fare, fit.fare);
     }
 
 -- marks that follow on rise

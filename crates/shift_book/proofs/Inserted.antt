@@ -3,6 +3,7 @@ use Rattle.std.specs.{BTreeMap.{insert_entry, is_at}, Cmp.{IsTotalOrder}, List.{
 use Rattle.std.specs.{List.Sorted.{IsStrictlySortedBy}, declared.cmp.Ordering.TheVariants.{Equal, Greater, Less}}
 use Rattle.std.specs.{Ordering.{is_eq, match_ordering, ordering_reverse}, declared.cmp.Ordering.{Ordering}}
 use Rattle.std.proofs.Common.{[], ◌∙◌, ◌∷◌, ◌≡◌, Bool, List, None, Option, Some, ap, cond, false, refl, sym, true}
+use Rattle.std.proofs.lemmas.{List.Elements.{All-from_recursion, recursion_from_All}, Map.Views.{All-keys-insert_entry}}
 
 reverse_less : (r s : Ordering) → r ≡ ordering_reverse s → r ≡ Greater → s ≡ Less
 reverse_less r Less e g = refl
@@ -32,15 +33,9 @@ module _ {K X : Type 0} {R : K → K → Ordering} (o : IsTotalOrder R) (k : K) 
 
   above_head : (a : K) (es : List (K × X)) → R a k ≡ Less → AllByRecursion (λ y. R a y ≡ Less) (keys_of es)
       → AllByRecursion (λ y. R a y ≡ Less) (keys_of (insert_entry R es k v))
-  above_head a [] less all = (less, tt)
-  above_head a (e ∷ es) less all = by (R k e.0) (above_head a es less all.1)
-    where
-      by : (r : Ordering) → AllByRecursion (λ y. R a y ≡ Less) (keys_of (insert_entry R es k v))
-          → AllByRecursion (λ y. R a y ≡ Less)
-          (keys_of (match_ordering r ((k, v) ∷ e ∷ es) ((e.0, v) ∷ es) (e ∷ insert_entry R es k v)))
-      by Less more = (less, all)
-      by Equal more = all
-      by Greater more = (all.0, more)
+  above_head a es less all = recursion_from_All (λ y. R a y ≡ Less) (keys_of (insert_entry R es k v))
+      (All-keys-insert_entry R k v (λ y. R a y ≡ Less) es
+      (All-from_recursion (λ y. R a y ≡ Less) (keys_of es) all) less)
 
   -- the keys stay in order
   pub insert_ordered : (es : List (K × X)) → IsStrictlySortedBy R (keys_of es)

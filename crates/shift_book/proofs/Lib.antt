@@ -2,8 +2,6 @@
 pub mod Again
 -- what is read of a text is what the text says
 pub mod BookAnswers
--- which words are drivers
-mod DriverLaw
 -- the drivers' sums grow by one shift after the other
 pub mod DriverSums
 -- which words are drivers

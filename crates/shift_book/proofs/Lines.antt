@@ -37,23 +37,15 @@ pub said : (mark : Signing) → Fit mark.numbers → HasDriver mark.on mark.driv
 said mark fit valid =
     record { numbers = numbers_text mark.numbers; text_is = refl; driver = valid; says = says mark.numbers fit }
 
-fields_same : (n : Numbers) (a b c d e f : List ℕ) → decimal n.number ≡ a → decimal n.distance_mm ≡ b
-    → decimal n.hired_mm ≡ c → decimal n.hirings ≡ d
-    → decimal n.supplements ≡ e → decimal n.fare ≡ f → six_fields a b c d e f ≡ numbers_text n
-fields_same n a b c d e f one two three four five six =
-    rw (← one, ← two, ← three, ← four, ← five, ← six)
-    (sym (fields_are (decimal n.number) (decimal n.distance_mm) (decimal n.hired_mm) (decimal n.hirings)
-    (decimal n.supplements) (decimal n.fare)))
-
 written : (text : List ℕ) (n : Numbers) → Fit n → IsTextOfNumbers text n → text ≡ numbers_text n
 written text n fit s =
-    s.text_is ∙ fields_same n s.one s.two s.three s.four s.five s.six
-    ((numbers_are_written_by_their_digits n.number s.one (omega (arith, fit.number))).1 s.number)
-    ((numbers_are_written_by_their_digits n.distance_mm s.two fit.distance).1 s.distance)
-    ((numbers_are_written_by_their_digits n.hired_mm s.three fit.hired).1 s.hired)
-    ((numbers_are_written_by_their_digits n.hirings s.four (omega (arith, fit.hirings))).1 s.hirings)
-    ((numbers_are_written_by_their_digits n.supplements s.five fit.supplements).1 s.supplements)
-    ((numbers_are_written_by_their_digits n.fare s.six fit.fare).1 s.fare)
+    let one = (numbers_are_written_by_their_digits n.number s.one (omega (arith, fit.number))).1 s.number in
+    let two = (numbers_are_written_by_their_digits n.distance_mm s.two fit.distance).1 s.distance in
+    let three = (numbers_are_written_by_their_digits n.hired_mm s.three fit.hired).1 s.hired in
+    let four = (numbers_are_written_by_their_digits n.hirings s.four (omega (arith, fit.hirings))).1 s.hirings in
+    let five = (numbers_are_written_by_their_digits n.supplements s.five fit.supplements).1 s.supplements in
+    let six = (numbers_are_written_by_their_digits n.fare s.six fit.fare).1 s.fare in
+    s.text_is ∙ rw (← one, ← two, ← three, ← four, ← five, ← six) (sym (fields_are _ _ _ _ _ _))
 
 pub marks_are_their_lines : (line : List ℕ) (mark : Signing) → Fit mark.numbers
     → IsMarkLine line mark ↔ (HasDriver mark.on mark.driver × (line ≡ mark_text mark))

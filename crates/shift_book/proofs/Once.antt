@@ -1,9 +1,8 @@
 -- A text is read one way.
 use Rattle.std.proofs.Common.{[], ℕ, ◌++◌, ◌+◌, ◌∙◌, ◌∷◌, ◌≡◌, List, None, Option, Some, ap, append_assoc, arith}
-use Rattle.std.proofs.{Common.{length, refl, subst, sym}, lemmas.List.Concat.{flat_map-cons}}
-use Rattle.taxi_units.{specs.Reading.{word_at}, proofs.Laws.{words_are_read_by_their_text}}
+use Rattle.std.proofs.{Common.{length, refl, subst, sym}, lemmas.List.{append_cancel_left, Concat.{flat_map-cons}}}
 use Rattle.shift_book.{specs.Books.{IsBook, IsFirstBad, IsNext}, proofs.LongerBooks.{behind, last_behind, rest_shrinks}}
-use Rattle.shift_book.{specs.Common.{Durable}, proofs.Nexts.{next_is}}
+use Rattle.shift_book.{specs.Common.{Durable}, proofs.{DriverWords.{value_of}, Nexts.{next_is}}}
 use Rattle.shift_book.specs.{MarkOrder.{Fit, FollowOn, numbers_in}, Marks.{Signing, book_text, mark_text}}
 
 -- no mark that may follow stands first
@@ -12,15 +11,6 @@ Ends now before rest = (mark : Signing) (after : List ℕ) → IsNext now before
 
 end_ends : (now : Durable) (before : Option Signing) → Ends now before []
 end_ends now before mark after next = omega (arith, rest_shrinks now before [] mark after next)
-
-same_value : {X : Type 0} (a b : X) → Some a ≡ Some b → a ≡ b
-same_value a b e = cc
-
-same_rest : (word a b : List ℕ) → word ++ a ≡ word ++ b → a ≡ b
-same_rest word a b e =
-    let one : word_at word (word ++ a) ≡ Some a = (words_are_read_by_their_text word (word ++ a) a).1 refl in
-    let two : word_at word (word ++ b) ≡ Some b = (words_are_read_by_their_text word (word ++ b) b).1 refl in
-    same_value a b (sym one ∙ ap (λ (t : List ℕ). word_at word t) e ∙ two)
 
 first_line : (mark : Signing) (marks : List Signing) (rest : List ℕ)
     → book_text (mark ∷ marks) ++ rest ≡ mark_text mark ++ (book_text marks ++ rest)
@@ -43,8 +33,8 @@ one_way now before (x ∷ xs) (y ∷ ys) ra rb fit e fa fb ea eb =
     (record { line = refl; follows = fa.0 }) in
     let two = next_is now before (mark_text x ++ (book_text xs ++ ra)) y (book_text ys ++ rb) fit
     (record { line = here; follows = fb.0 }) in
-    let same = same_value x y (sym one ∙ two) in
-    let left = same_rest (mark_text x) (book_text xs ++ ra) (book_text ys ++ rb)
+    let same = value_of x y (sym one ∙ two) in
+    let left = append_cancel_left (mark_text x) (book_text xs ++ ra) (book_text ys ++ rb)
     (here ∙ ap (λ (m : Signing). mark_text m ++ (book_text ys ++ rb)) (sym same)) in
     let more = one_way now (Some x) xs ys ra rb fit left fa.1
     (subst (λ (m : Signing). FollowOn now (Some m) ys) (sym same) fb.1) ea
@@ -74,4 +64,4 @@ books_have_no_fault now text marks line fit h k =
     let same = one_way now None marks k.marks [] k.rest fit (sym h.begins.lines ∙ k.begins.lines) h.begins.follow
     k.begins.follow (end_ends now (behind None marks)) (stops now text line k) in
     let there = ap (λ (l : List Signing). book_text l ++ []) (sym same) ∙ (sym h.begins.lines ∙ k.begins.lines) in
-    k.breaks.more (sym (same_rest (book_text k.marks) [] k.rest there))
+    k.breaks.more (sym (append_cancel_left (book_text k.marks) [] k.rest there))

@@ -1,5 +1,5 @@
 -- The report from its lines.
-use Rattle.std.proofs.Common.{[], ℕ, ◌++◌, ◌∙◌, ◌≡◌, List, ap, append_assoc, arith, codes, refl}
+use Rattle.std.proofs.Common.{[], ℕ, ◌++◌, ◌∙◌, ◌≡◌, List, append_assoc, arith, codes, refl}
 use Rattle.shift_book.specs.Common.{Numbers, Shift}
 use Rattle.shift_book.specs.{Marks.{Signing}, Shares.{AreOrdered, AreSums, Driver, growth_in, shifts_in, unsigned_in}}
 use Rattle.shift_book.specs.Report.{IsReport, driver_lines, growth_text, report_text, shift_lines}
@@ -8,13 +8,7 @@ use Rattle.shift_book.{specs.ShareStages.{Rise, with_shifts}, proofs.GrowthSums.
 -- texts behind one another
 assembled : (s d u g r0 r1 r2 r3 r4 : List ℕ) → r0 ≡ [] → r1 ≡ r0 ++ s → r2 ≡ r1 ++ d → r3 ≡ r2 ++ u → r4 ≡ r3 ++ g
     → r4 ≡ s ++ (d ++ (u ++ g))
-assembled s d u g r0 r1 r2 r3 r4 e0 e1 e2 e3 e4 =
-    let one : r1 ≡ s = e1 ∙ ap (λ (l : List ℕ). l ++ s) e0 in
-    let two : r2 ≡ s ++ d = e2 ∙ ap (λ (l : List ℕ). l ++ d) one in
-    let three : r3 ≡ (s ++ d) ++ u = e3 ∙ ap (λ (l : List ℕ). l ++ u) two in
-    let four : r4 ≡ ((s ++ d) ++ u) ++ g = e4 ∙ ap (λ (l : List ℕ). l ++ g) three in
-    let right : ((s ++ d) ++ u) ++ g ≡ s ++ (d ++ (u ++ g)) = simp append_assoc in
-    four ∙ right
+assembled s d u g r0 r1 r2 r3 r4 e0 e1 e2 e3 e4 = rw (e4, e3, e2, e1, e0) (simp append_assoc)
 
 pub text_is : (decimals : ℕ) (now : Numbers) (marks : List Signing) (listed : List Shift)
     (sums : List (Driver × Numbers)) (unsigned growth : Numbers)
@@ -24,14 +18,7 @@ pub text_is : (decimals : ℕ) (now : Numbers) (marks : List Signing) (listed : 
     → r3 ≡ r2 ++ (codes "UNSIGNED" ++ growth_text decimals unsigned)
     → r4 ≡ r3 ++ (codes "GROWTH" ++ growth_text decimals growth) → r4 ≡ report_text decimals now marks
 text_is decimals now marks listed sums unsigned growth r0 r1 r2 r3 r4 l t u g e0 e1 e2 e3 e4 =
-    assembled (shift_lines decimals 1 (shifts_in now marks))
-    (driver_lines decimals (with_shifts [] (shifts_in now marks)))
-    (codes "UNSIGNED" ++ growth_text decimals (unsigned_in now marks))
-    (codes "GROWTH" ++ growth_text decimals (growth_in now marks)) r0 r1 r2 r3 r4 e0
-    (e1 ∙ ap (λ (x : List Shift). r0 ++ shift_lines decimals 1 x) l)
-    (e2 ∙ ap (λ (x : List (Driver × Numbers)). r1 ++ driver_lines decimals x) (t ∙ ap (with_shifts []) l))
-    (e3 ∙ ap (λ (n : Numbers). r2 ++ (codes "UNSIGNED" ++ growth_text decimals n)) u)
-    (e4 ∙ ap (λ (n : Numbers). r3 ++ (codes "GROWTH" ++ growth_text decimals n)) g)
+    assembled _ _ _ _ r0 r1 r2 r3 r4 e0 e1 e2 e3 e4 ∙ rw (t, u, g, l) refl
 
 -- what the report says if the drivers' sums are in order and share the shifts
 pub report_is : (decimals : ℕ) (now : Numbers) (marks : List Signing)

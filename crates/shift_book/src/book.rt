@@ -45,7 +45,7 @@ pub fn read_book(alloc: Global, text: &[u8], now: &Durable) -> Result<Vec<Mark>,
     let mut marks = Vec::new(alloc);
     let mut rest = text;
     while !rest.is_empty() {
-        match next_mark(rest, marks.as_slice(), &limit) {
+        match next_mark(rest, marks.as_slice(), now) {
             Some((mark, after)) => {
                 if marks.push(mark).is_err() {
                     return Err(BookFault::NoMemory);

@@ -1,43 +1,39 @@
 //! Which mark may follow in a book.
-ghost use Rattle.std.specs.Prelude.{ℕ, ◌↔◌, ◌≡◌, IfNone, IfSome, IsTrue, List};
-ghost use Rattle.shift_book.specs.{Books.{IsNext}, Common.{Durable}};
-ghost use Rattle.shift_book.specs.{MarkOrder.{Fit, MayFollow, last_of, numbers_in}, Marks.{HasDriver, Signing}};
+ghost use Rattle.std.specs.Prelude.{◌≡◌};
+ghost use Rattle.shift_book.specs.{BookReading.{may_follow, next_at}, Common.{Gives}, MarkOrder.{last_of}};
 
 use crate::mark::{Mark, spelled};
-use crate::numbers::{Numbers, is_nowhere_less};
+use crate::numbers::{is_nowhere_less, numbers_in};
 use crate::reading::mark_at;
 use taxi_units::word;
+use totals_record::Durable;
 
-/// The mark whose line is at the front of a text and that may follow these marks beside a store with these numbers, and
-/// what is behind the line.
+/// The mark whose line is at the front of a text and that may follow these marks beside a state of the store, and what
+/// is behind the line.
+#[tactic(auto, unfolding(crate::specs::BookReading::next_at))]
 pub(crate) fn next_mark<'a>(
     text: &'a [u8],
     marks: &[Mark],
-    limit: &Numbers,
+    now: &Durable,
 ) -> Option<(Mark, &'a [u8])>
-    requires fit { Fit limit.now }
-    ensures some { IfSome result (λ x. (now : Durable) → limit.now ≡ numbers_in now
-        → IsNext now (last_of marks.now) text.now x.0 x.1.now) }
-    ensures none { IfNone result ((now : Durable) (mark : Signing) (rest : List ℕ) → limit.now ≡ numbers_in now
-        → ¬ IsNext now (last_of marks.now) text.now mark rest) }
+    ensures { Gives (λ x. (x.0, x.1.now)) result (next_at now.now (last_of marks.now) text.now) }
 {
     let mark = mark_at(text)?;
     let line = spelled(&mark);
     let rest = word(text, line.as_slice())?;
-    if may_follow(marks, &mark, limit) {
+    if may_follow(marks, &mark, now) {
         Some((mark, rest))
     } else {
         None
     }
 }
 
-/// Whether a mark may follow these marks beside a store with these numbers. Its driver is as said.
-fn may_follow(marks: &[Mark], mark: &Mark, limit: &Numbers) -> bool
-    requires { HasDriver mark.now.on mark.now.driver }
-    ensures { (now : Durable) → limit.now ≡ numbers_in now
-        → IsTrue result ↔ MayFollow now (last_of marks.now) mark.now }
+/// Whether a mark may follow these marks beside a state of the store.
+fn may_follow(marks: &[Mark], mark: &Mark, now: &Durable) -> bool
+    ensures { result ≡ may_follow now.now (last_of marks.now) mark.now }
 {
     let numbers = mark.numbers();
+    let limit = &numbers_in(now);
     if !is_nowhere_less(&numbers, limit) {
         return false;
     }

@@ -1,7 +1,8 @@
 //! The six numbers of a mark.
-ghost use Rattle.std.specs.Prelude.{◌++◌, ◌+◌, ◌↔◌, ◌≡◌, ◌≤◌, IsTrue};
-ghost use Rattle.{arrayvec.specs.ArrayVec.{array_vec_len}, shift_book.specs.MarkOrder.{Fit, IsNowhereLess, numbers_in}};
+ghost use Rattle.std.specs.Prelude.{◌++◌, ◌+◌, ◌≡◌, ◌≤◌};
+ghost use Rattle.{arrayvec.specs.ArrayVec.{array_vec_len}, shift_book.specs.BookReading.{is_nowhere_less}};
 ghost use Rattle.shift_book.specs.{Common.{Gives, GivesSame, line_size}, Marks.{number_text, numbers_of, numbers_text}};
+ghost use Rattle.shift_book.specs.MarkOrder.{Fit, numbers_in};
 ghost use Rattle.shift_book.specs.Reading as spec;
 
 use crate::digits::digits_at;
@@ -58,7 +59,7 @@ pub(crate) fn numbers_of(
 
 /// Whether none of the numbers is smaller than before.
 pub(crate) fn is_nowhere_less(before: &Numbers, after: &Numbers) -> bool
-    ensures { IsTrue result ↔ IsNowhereLess before.now after.now }
+    ensures { result ≡ is_nowhere_less before.now after.now }
 {
     before.number <= after.number
         && before.distance_mm <= after.distance_mm
@@ -95,13 +96,12 @@ pub(crate) fn push_field(line: &mut Line, value: u128)
 }
 
 /// Appends a number below 2^64 behind a blank.
-#[tactic(auto, using(crate::proofs::Lines::counts_are_short))]
 fn push_count(line: &mut Line, value: u64)
     requires room { array_vec_len line.old + 40 ≤ line_size }
     ensures text { line.new.items ≡ line.old.items ++ number_text value }
     ensures most { array_vec_len line.new ≤ array_vec_len line.old + 21 }
 {
-    push_field(line, u128::from(value));
+    push_field(line, value as u128);
 }
 
 /// The six numbers at the front of a text, each behind a blank.

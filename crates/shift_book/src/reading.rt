@@ -1,7 +1,7 @@
 //! The mark that a line says, if it is one.
 ghost use Rattle.std.specs.{List.{prefix_len}, Prelude.{◌≡◌, ◌≤◌, IfNone, IfSome, length}};
-ghost use Rattle.shift_book.specs.{Common.{Gives, GivesSame, is_identifier_character}, Marks.{HasDriver, IsDriver}};
-ghost use Rattle.shift_book.specs.Reading.{driver_of};
+ghost use Rattle.shift_book.specs.{Common.{Gives, GivesSame, is_identifier_character}, Reading.{driver_of}};
+ghost use Rattle.shift_book.specs.Marks.{IsDriver};
 ghost use Rattle.shift_book.specs.Reading as spec;
 
 use crate::mark::Mark;
@@ -12,8 +12,7 @@ use taxi_units::{is_identifier_character, word};
 /// The only mark whose line may be at the front of a text. Whether it is there, its own line says.
 #[tactic(auto, unfolding(crate::specs::Reading::mark_at))]
 pub(crate) fn mark_at(text: &[u8]) -> Option<Mark>
-    ensures mark { GivesSame result (spec.mark_at text.now) }
-    ensures driver { IfSome result (λ x. HasDriver x.on x.driver) }
+    ensures { GivesSame result (spec.mark_at text.now) }
 {
     match word(text, b"ON ") {
         Some(rest) => on_at(rest),
@@ -24,8 +23,7 @@ pub(crate) fn mark_at(text: &[u8]) -> Option<Mark>
 /// A mark that signs on, behind its word.
 #[tactic(auto, unfolding(crate::specs::Reading::on_at))]
 fn on_at(text: &[u8]) -> Option<Mark>
-    ensures mark { GivesSame result (spec.on_at text.now) }
-    ensures driver { IfSome result (λ x. HasDriver x.on x.driver) }
+    ensures { GivesSame result (spec.on_at text.now) }
 {
     let (driver, rest) = driver_at(text)?;
     let numbers = numbers_at(rest)?;
@@ -35,8 +33,7 @@ fn on_at(text: &[u8]) -> Option<Mark>
 /// A mark that signs off.
 #[tactic(auto, unfolding(crate::specs::Reading::off_at))]
 fn off_at(text: &[u8]) -> Option<Mark>
-    ensures mark { GivesSame result (spec.off_at text.now) }
-    ensures driver { IfSome result (λ x. HasDriver x.on x.driver) }
+    ensures { GivesSame result (spec.off_at text.now) }
 {
     let rest = word(text, b"OFF")?;
     let numbers = numbers_at(rest)?;
@@ -45,21 +42,27 @@ fn off_at(text: &[u8]) -> Option<Mark>
 
 /// The driver that a word is: 1 to 16 characters of A to Z, 0 to 9 and `-`. `None` if it is none. The form is this
 /// project's own.
-#[tactic(auto, unfolding(crate::specs::Reading::driver_of))]
 pub fn read_driver(word: &[u8]) -> Option<ArrayVec<u8, 16>>
     ensures answer { Gives (λ driver. driver.items) result (driver_of word.now) }
     ensures some { IfSome result (λ driver. (driver.items ≡ word.now) × IsDriver word.now) }
     ensures none { IfNone result (¬ IsDriver word.now) }
+{
+    driver_of(word)
+}
+
+/// The driver that is the whole word.
+#[tactic(auto, unfolding(crate::specs::Reading::driver_of))]
+fn driver_of(word: &[u8]) -> Option<ArrayVec<u8, 16>>
+    ensures { Gives (λ driver. driver.items) result (driver_of word.now) }
 {
     let (driver, rest) = driver_at(word)?;
     if rest.is_empty() { Some(driver) } else { None }
 }
 
 /// A driver at the front of a text, and what is behind it.
-#[tactic(auto, unfolding(crate::specs::Reading::driver_at), using(crate::proofs::Drivers::characters_in_front))]
+#[tactic(auto, unfolding(crate::specs::Reading::driver_at))]
 fn driver_at(text: &[u8]) -> Option<(ArrayVec<u8, 16>, &[u8])>
-    ensures text { Gives (λ x. (x.0.items, x.1.now)) result (spec.driver_at text.now) }
-    ensures driver { IfSome result (λ x. IsDriver x.0.items) }
+    ensures { Gives (λ x. (x.0.items, x.1.now)) result (spec.driver_at text.now) }
 {
     let count = count_characters(text);
     if count == 0 || count > 16 {

@@ -137,7 +137,7 @@ fn push_growth(line: &mut Line, growth: &Numbers, decimals: u8)
     requires decimals { decimals ≤ 3 }
     ensures { line.new.items ≡ line.old.items ++ growth_text decimals growth.now }
 {
-    push_field(line, u128::from(growth.hirings));
+    push_field(line, growth.hirings as u128);
     push_amount(line, growth.distance_mm, 3);
     push_amount(line, growth.hired_mm, 3);
     push_amount(line, growth.fare, decimals);

@@ -1,4 +1,4 @@
-use Rattle.shift_book.proofs.DriverLaw.{drivers_are_their_words}
+use Rattle.shift_book.proofs.DriverWords.{drivers_are_their_words}
 use Rattle.shift_book.proofs.mark_laws.drivers_are_their_words.Goals as goal
 
 pub returns : goal.returns

@@ -1,8 +1,8 @@
-use Rattle.{std.specs.Prelude.{vec_len}, shift_book.proofs.GrowthSums.{rises, total_fit, unsigned_fit}}
-use Rattle.std.proofs.Common.{[], ℕ, ◌*◌, ◌++◌, ◌+◌, ◌∙◌, ◌≡◌, ◌≤◌, List, None, ap, length, rules, subst, sym}
-use Rattle.shift_book.{specs.Common.{Numbers, Shift}, proofs.{Fewer.{short_together}, ReportLines.{text_is}}}
+use Rattle.std.proofs.Common.{[], ℕ, ◌++◌, ◌∙◌, ◌≡◌, List, None, ap, arith, length, subst, sym}
+use Rattle.shift_book.{specs.Common.{Numbers, Shift}, proofs.ReportLines.{text_is}}
 use Rattle.shift_book.{specs.MarkOrder.{Fit, numbers_in}, proofs.Reported.{reports_share_the_growth}}
 use Rattle.shift_book.specs.{Report.{IsReport, report_text, shift_lines}, ShareStages.{Rise, total_of, with_shifts}}
+use Rattle.shift_book.proofs.{Fewer.{fewer_drivers, fewer_shifts}, GrowthSums.{rises, total_fit, unsigned_fit}}
 use Rattle.shift_book.proofs.report.shifts.Goals as goal
 
 pub unsigned_of-unsigned-requires-clause-rise : goal.unsigned_of-unsigned-requires-clause-rise
@@ -50,12 +50,17 @@ returns-clause-meaning c =
     (reports_share_the_growth c.args.decimals c.args.now.now c.args.marks.now c.requires.book)
 
 pub returns-clause-short : goal.returns-clause-short
-returns-clause-short c =
-    short_together c.numbers_in-now.result c.args.marks.now c.in_ok-shifts.shifts.items c.in_ok-sums.sums.entries
-    (vec_len c.new-report.result) (vec_len c.push_shifts.new.report) (vec_len c.push_drivers.new.report)
-    (vec_len c.push_line.new.report) (vec_len c.push_line-2.new.report)
-    c.in_ok-shifts.ensures (c.in_ok-sums.ensures.entries ∙ ap (with_shifts []) c.as_slice.ensures.value)
-    c.new-report.ensures.len
-    (subst (λ (l : List Shift). vec_len c.push_shifts.new.report ≤ vec_len c.new-report.result + 512 * length l)
-    c.as_slice-2.ensures.value (search rules))
-    (search rules) (search rules) (search rules)
+returns-clause-short c = omega (
+  arith,
+  ap length c.in_ok-shifts.ensures,
+  ap length c.in_ok-sums.ensures.entries,
+  ap length c.as_slice.ensures.value,
+  ap length c.as_slice-2.ensures.value,
+  fewer_drivers [] c.as_slice.result.now,
+  fewer_shifts c.numbers_in-now.result c.args.marks.now,
+  c.new-report.ensures.len,
+  c.in_ok-push_shifts.ensures.most,
+  c.in_ok-push_drivers.ensures.most,
+  c.in_ok-push_line.ensures.most,
+  c.in_ok-push_line-2.ensures.most,
+)

@@ -1,6 +1,6 @@
 use Rattle.std.proofs.Common.{◌≡◌, None, rules}
 use Rattle.receipt_reading.proofs.Fronts.{front_none, front_other, front_some}
-use Rattle.receipt_reading.proofs.front.receipt_in_front.Goals as goal
+use Rattle.receipt_reading.proofs.reading.receipt_in_front.Goals as goal
 
 pub returns-in_err-receipt : goal.returns-in_err-receipt
 returns-in_err-receipt c =
