@@ -45,6 +45,19 @@ trip_beside s hired hiring (Some other) (Some t) is are =
     let same : other ≡ hiring = cc in
     (t, refl, rw same at are)
 
+-- a meter is sound in other bounds if its hiring is
+sound_as : (most more most' more' : ℕ) (meter : BenchMeter)
+    → (IsHiringInRange meter.number most more meter.hiring → IsHiringInRange meter.number most' more' meter.hiring)
+    → IsMeterInRange most more meter → IsMeterInRange most' more' meter
+sound_as most more most' more' meter hiring sound = record {
+  clock = sound.clock;
+  began = sound.began;
+  taken = sound.taken;
+  for_hire = sound.for_hire;
+  held = sound.held;
+  hiring = hiring sound.hiring;
+}
+
 -- wider bounds
 looser_hiring : (number most more most' more' : ℕ) (hiring : Option Hiring) → most ≤ most' → more ≤ more'
     → IsHiringInRange number most more hiring → IsHiringInRange number most' more' hiring
@@ -54,14 +67,8 @@ looser_hiring number most more most' more' (Some hiring) m n sound =
 
 pub looser : (most more most' more' : ℕ) (meter : BenchMeter) → most ≤ most' → more ≤ more'
     → IsMeterInRange most more meter → IsMeterInRange most' more' meter
-looser most more most' more' meter m n sound = record {
-  clock = sound.clock;
-  began = sound.began;
-  taken = sound.taken;
-  for_hire = sound.for_hire;
-  held = sound.held;
-  hiring = looser_hiring meter.number most more most' more' meter.hiring m n sound.hiring;
-}
+looser most more most' more' meter m n =
+    sound_as most more most' more' meter (looser_hiring meter.number most more most' more' meter.hiring m n)
 
 -- a trip that hasn't reached its longest time
 timely_hiring : (number ticks : ℕ) (hiring : Option Hiring) → HasTicks hiring ticks → ticks < 8640000
@@ -71,26 +78,13 @@ timely_hiring number ticks (Some hiring) has few sound = (sound.0, sound.1, soun
 
 pub timely : (meter : BenchMeter) (ticks : ℕ) → HasTicks meter.hiring ticks → ticks < 8640000
     → IsMeterInRange 8640000 0 meter → IsMeterInRange 8639999 0 meter
-timely meter ticks has few sound = record {
-  clock = sound.clock;
-  began = sound.began;
-  taken = sound.taken;
-  for_hire = sound.for_hire;
-  held = sound.held;
-  hiring = timely_hiring meter.number ticks meter.hiring has few sound.hiring;
-}
+timely meter ticks has few =
+    sound_as 8640000 0 8639999 0 meter (timely_hiring meter.number ticks meter.hiring has few)
 
 -- without a hiring no bound says anything
 pub sound_without : (most more most' more' : ℕ) (meter : BenchMeter) → meter.hiring ≡ None
     → IsMeterInRange most more meter → IsMeterInRange most' more' meter
-sound_without most more most' more' meter none sound = record {
-  clock = sound.clock;
-  began = sound.began;
-  taken = sound.taken;
-  for_hire = sound.for_hire;
-  held = sound.held;
-  hiring = rw none tt;
-}
+sound_without most more most' more' meter none = sound_as most more most' more' meter (λ sound. rw none tt)
 
 pub ticks_beside : (s : Setting) (hired : Context) (meter : BenchMeter) (m : Meter) (hiring : Hiring)
     → meter.hiring ≡ Some hiring → BenchStands s hired meter m → hiring.whole.ticks ≡ ticks_so_far m.trip
